@@ -1,0 +1,27 @@
+//! The words that every crate of Stasis shares: numbers of pages, bands, transactions and log
+//! bytes, names, the three areas of a disk, the ends of a run (where a script comes from and where
+//! its replies go) with implementations in memory and over std, and fields of fixed width.
+//!
+//! It stands on `byteorder` alone. It promises that a call of a trait here fails only where that
+//! object's count of faults rose, that a source and a sink that tell their contents give and take
+//! exactly these, and that a number and its bytes are told from each other both ways.
+#![tactic(auto)]
+
+mod area;
+mod ends;
+mod fields;
+mod memory;
+mod name;
+mod numbers;
+mod real;
+
+pub use area::Area;
+pub use ends::{Failed, OutOfMemory, Sink, Source};
+pub use fields::{read_u16, read_u32, read_u64, write_u16, write_u32, write_u64};
+pub use memory::{MemSink, MemSource};
+pub use name::Name;
+pub use numbers::{BandNo, Lsn, PageNo, TxnId};
+pub use real::{ReadSource, WriteSink};
+
+#[cfg(test)]
+mod tests;

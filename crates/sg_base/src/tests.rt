@@ -1,0 +1,64 @@
+use super::*;
+use std::test::Fail;
+
+#[test]
+fn fields_are_little_endian(rt: HostRuntime) -> Result<(), Fail> {
+    let mut bytes = [7u8; 9];
+    write_u64(&mut bytes, 0x0102_0304_0506_0708);
+    assert_eq!(rt; bytes, [8, 7, 6, 5, 4, 3, 2, 1, 7]);
+    write_u32(&mut bytes, 140);
+    write_u16(&mut bytes[4..], 4072);
+    assert_eq!(rt; bytes, [0x8c, 0, 0, 0, 0xe8, 0x0f, 2, 1, 7]);
+    assert_eq!(rt; read_u16(&bytes[4..]), 4072);
+    assert_eq!(rt; read_u32(&bytes), 140);
+    assert_eq!(rt; read_u64(&[8, 7, 6, 5, 4, 3, 2, 1]), 0x0102_0304_0506_0708);
+    Ok(())
+}
+
+#[test]
+fn a_name_has_1_to_32_bytes(rt: HostRuntime) -> Result<(), Fail> {
+    let longest = [b'a'; 32];
+    let longer = [b'a'; 33];
+    assert!(rt; Name::new(&longest).is_some());
+    assert!(rt; Name::new(&longer).is_none());
+    assert!(rt; Name::new(b"").is_none());
+    assert!(rt; Name::new(b"a_9").is_some());
+    assert!(rt; Name::new(b"9a").is_none());
+    assert!(rt; Name::new(b"_a").is_none());
+    assert!(rt; Name::new(b"aB").is_none());
+    assert!(rt; Name::new(b"a-b").is_none());
+    Ok(())
+}
+
+#[test]
+fn a_source_gives_pieces_and_fails_from_a_call_on(rt: HostRuntime) -> Result<(), Fail> {
+    let alloc = rt.alloc();
+    let mut source = MemSource::new(Vec::from_slice(alloc, b"abcde")?, 3, Some(3));
+    let mut into = [0u8; 8];
+    assert_eq!(rt; source.read(&mut into), Ok(3));
+    assert_eq!(rt; into, *b"abc\0\0\0\0\0");
+    assert_eq!(rt; source.read(&mut into), Ok(2));
+    assert_eq!(rt; source.read(&mut into), Err(Failed));
+    assert_eq!(rt; source.read(&mut into), Err(Failed));
+    Ok(())
+}
+
+#[test]
+fn a_source_ends_with_0(rt: HostRuntime) -> Result<(), Fail> {
+    let alloc = rt.alloc();
+    let mut source = MemSource::new(Vec::from_slice(alloc, b"ab")?, 9, None);
+    let mut into = [0u8; 4];
+    assert_eq!(rt; source.read(&mut into), Ok(2));
+    assert_eq!(rt; source.read(&mut into), Ok(0));
+    Ok(())
+}
+
+#[test]
+fn a_sink_takes_and_fails_from_a_call_on(rt: HostRuntime) -> Result<(), Fail> {
+    let mut sink = MemSink::new(rt.alloc(), Some(3));
+    assert_eq!(rt; sink.write(b"ok\n"), Ok(()));
+    assert_eq!(rt; sink.write(b"none\n"), Ok(()));
+    assert_eq!(rt; sink.write(b"ok\n"), Err(Failed));
+    assert_eq!(rt; sink.text(), b"ok\nnone\n".as_slice());
+    Ok(())
+}
