@@ -1,6 +1,6 @@
 -- What stands at the front of some bytes, read as a record.
-use Rattle.std.specs.Prelude.{◌≡◌, ℕ, ◌-◌, ◌==◌, ◌||◌, ◌&&◌, nat_lt, nat_le, not, Bool, if◌then◌else◌, List, length, take, drop, slice_index, Option, Some, None}
-use Rattle.byteorder.specs.Endian.{little_number}
+use Rattle.std.specs.Prelude.{◌≡◌, ℕ, ◌-◌, ◌^◌, ◌<◌, ◌==◌, ◌||◌, ◌&&◌, nat_lt, nat_le, not, Bool, if◌then◌else◌, List, length, take, drop, slice_index, Option, Some, None}
+use Rattle.byteorder.specs.Endian.{little_number, little_bytes}
 use Rattle.sg_record.specs.Records.{Record, HEADER, GREATEST}
 use Rattle.sg_record.specs.Records.Record.{Begin, Commit, Line}
 use Rattle.sg_record.specs.declared.record.RecError.{RecError}
@@ -48,3 +48,10 @@ record_with kind transaction previous body =
 -- the record that stands there, where one does
 unfoldable pub record_at : List ℕ → Record
 record_at bytes = record_with (kind_at bytes) (transaction_at bytes) (previous_at bytes) (body_at bytes)
+
+-- the two numbers of 8 bytes fit, and the bytes there are their spelling
+pub record AreSpelled (bytes : List ℕ) : Type 0 where
+  pub transaction : transaction_at bytes < 2 ^ 64
+  pub previous : previous_at bytes < 2 ^ 64
+  pub transaction_bytes : little_bytes 8 (transaction_at bytes) ≡ take 8 (drop 5 bytes)
+  pub previous_bytes : little_bytes 8 (previous_at bytes) ≡ take 8 (drop 13 bytes)

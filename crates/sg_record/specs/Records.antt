@@ -61,3 +61,8 @@ pub record IsRecord (r : Record) : Type 0 where
   pub transaction : transaction_of r < 2 ^ 64
   pub previous : previous_of r < 2 ^ 64
   pub body : length (body_of r) ≤ MOST_WORDS
+
+-- those of each of these records are
+abbrev pub AreRecords : List Record → Type 0
+AreRecords [] = Unit {0}
+AreRecords (r ∷ rs) = IsRecord r × AreRecords rs

@@ -1,6 +1,7 @@
 ghost use Rattle.std.specs.Prelude.{◌≡◌, ◌+◌, ◌-◌, ◌≤◌, ◌++◌, length, take, drop, List, ℕ, Some, None, IfOk, IfErr, OnOk, if◌then◌else◌};
+ghost use Rattle.byteorder.specs.Endian.{little_bytes};
 ghost use Rattle.sg_record.specs.Records.{Record, spelled, HEADER, IsRecord};
-ghost use Rattle.sg_record.specs.Reading.{is_kind, has_size, fault_of, record_at, size_at};
+ghost use Rattle.sg_record.specs.Reading.{is_kind, has_size, fault_of, record_at, size_at, AreSpelled};
 ghost use Rattle.sg_record.specs.Shown.{shown, shown_read};
 
 use crate::{Rec, RecError};
@@ -24,16 +25,18 @@ fn has_size(kind: u8, size: usize) -> bool
     }
 }
 
-// The record of a header's and a body's bytes.
+// The record of a header's and a body's bytes, and that these bytes are the fields' spelling.
 #[tactic(auto, unfolding(crate::specs::Reading::record_at))]
 fn record(bytes: &[u8], size: usize) -> Rec<'_>
     requires header { HEADER ≤ size }
     requires within { size ≤ length bytes.now }
     requires stated { size ≡ size_at bytes.now }
-    ensures { shown result ≡ record_at bytes.now }
+    ensures record { shown result ≡ record_at bytes.now }
+    ensures fields { AreSpelled bytes.now }
 {
-    let txn = TxnId(read_u64(&bytes[5..]));
+    let txn = read_u64(&bytes[5..]);
     let prev = read_u64(&bytes[13..]);
+    let txn = TxnId(txn);
     match bytes[0] {
         1 => Rec::Begin { txn, prev },
         10 => Rec::Commit { txn, prev },
@@ -52,6 +55,8 @@ fn read(bytes: &[u8]) -> Result<(Rec<'_>, usize), RecError>
     ensures accepted { OnOk result (fault_of bytes.now ≡ None) }
     ensures read { IfOk result (λ p. shown p.0 ≡ record_at bytes.now) }
     ensures size { IfOk result (λ p. p.1 ≡ size_at bytes.now) }
+    ensures stated { OnOk result (little_bytes 4 (size_at bytes.now) ≡ take 4 (drop 1 bytes.now)) }
+    ensures fields { OnOk result (AreSpelled bytes.now) }
 {
     if bytes.len() < HEADER_SIZE {
         return Err(RecError::Short);
