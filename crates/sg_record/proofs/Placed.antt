@@ -1,11 +1,11 @@
 -- Writes at a place of a list.
-use Rattle.std.proofs.Common.{◌≡◌, ℕ, ◌+◌, ◌-◌, ◌<◌, ◌≤◌, List, [], ◌∷◌, ◌++◌, length, take, drop, set, refl, sym, ap, ◌∙◌, subst, arith, append_assoc, append-nil, length-append, length-drop, drop-drop}
-use Rattle.std.proofs.Math.Seq.{take-append_seam, drop-append_seam, drop-append-add}
+use Rattle.std.proofs.Common.{◌≡◌, ℕ, ◌+◌, ◌-◌, ◌≤◌, List, [], ◌∷◌, ◌++◌, length, take, drop, set, refl, sym, ap, ◌∙◌, arith, append_assoc, append-nil, length-append, drop-drop}
+use Rattle.std.proofs.Math.Seq.{take-append_seam, drop-append-add}
 use Rattle.std.proofs.Math.ListN.{drop_of_length-le}
 use Rattle.std.proofs.lemmas.List.{take_rest}
 use borrow.Rule.Slice.PartMut.{put_mid}
 use Rattle.byteorder.specs.Endian.{little_bytes}
-use Rattle.sg_record.specs.Records.{Record, kind_of, transaction_of, previous_of, body_of, header, HEADER, spelled}
+use Rattle.sg_record.specs.Records.{header, HEADER, spelled}
 use Rattle.sg_record.specs.Records.Record.{Begin, Commit, Line}
 
 -- a write through the part from a place on
@@ -20,7 +20,7 @@ pub grown : (old s front more : List ℕ) (at : ℕ) → length front ≡ at →
 grown old s front more at long e =
     let taken : take at s ≡ front = ap (take at) e ∙ (ap (λ (n : ℕ). take n (front ++ drop at old)) (sym long) ∙ take-append_seam front (drop at old)) in
     let dropped : drop (at + length more) s ≡ drop (at + length more) old =
-      ap (drop (at + length more)) e ∙ (ap (λ (n : ℕ). drop (n + length more) (front ++ drop at old)) (sym long) ∙ (drop-append-add front (drop at old) (length more) ∙ drop-drop (length more) at old)) in
+    ap (drop (at + length more)) e ∙ (ap (λ (n : ℕ). drop (n + length more) (front ++ drop at old)) (sym long) ∙ (drop-append-add front (drop at old) (length more) ∙ drop-drop (length more) at old)) in
     ap (λ (t : List ℕ). t ++ (more ++ drop (at + length more) s)) taken ∙ (ap (λ (d : List ℕ). front ++ (more ++ d)) dropped ∙ sym (append_assoc front more (drop (at + length more) old)))
 
 -- the first byte written
@@ -57,6 +57,6 @@ spelled_line old s ys words transaction previous e is =
     let size : 21 + length words - 21 ≡ length words = omega arith in
     let all : length (front ++ words) ≡ 21 + length words = length-append front words in
     let post : drop (21 + length words - 21) (drop 21 s) ≡ drop (length (front ++ words)) old =
-      ap (λ (n : ℕ). drop n (drop 21 s)) size ∙ (ap (drop (length words)) behind ∙ (drop-drop (length words) 21 old ∙ ap (λ (n : ℕ). drop n old) (sym all))) in
+    ap (λ (n : ℕ). drop n (drop 21 s)) size ∙ (ap (drop (length words)) behind ∙ (drop-drop (length words) 21 old ∙ ap (λ (n : ℕ). drop n old) (sym all))) in
     ap (λ (t : List ℕ). t ++ (ys ++ drop (21 + length words - 21) (drop 21 s))) taken ∙ (ap (λ (y : List ℕ). front ++ (y ++ drop (21 + length words - 21) (drop 21 s))) is
     ∙ (ap (λ (d : List ℕ). front ++ (words ++ d)) post ∙ sym (append_assoc front words (drop (length (front ++ words)) old))))

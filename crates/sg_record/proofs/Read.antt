@@ -1,5 +1,5 @@
 -- The clauses of what was read, from its fields.
-use Rattle.std.proofs.Common.{◌≡◌, ℕ, List, ◌++◌, take, drop, length, Option, Some, None, Result, Ok, Err, IfOk, IfErr, OnOk, refl, sym, ap, ◌∙◌, subst}
+use Rattle.std.proofs.Common.{◌≡◌, ℕ, List, ◌++◌, take, drop, length, Option, Some, None, Result, Ok, Err, IfOk, IfErr, OnOk, sym, ap, ◌∙◌, subst}
 use Rattle.std.proofs.lemmas.Result.{IfOk-weaker}
 use Rattle.byteorder.specs.Endian.{little_bytes}
 use Rattle.sg_record.specs.Records.{Record, spelled, IsRecord}

@@ -5,9 +5,15 @@ use sg_base::{Lsn, TxnId};
 #[derive(Clone, Copy)]
 pub enum Rec<'a> {
     /// A transaction begins. Its number is this record's own [`Lsn`].
-    Begin { txn: TxnId, prev: Lsn },
+    Begin {
+        txn: TxnId,
+        prev: Lsn,
+    },
     /// It is committed.
-    Commit { txn: TxnId, prev: Lsn },
+    Commit {
+        txn: TxnId,
+        prev: Lsn,
+    },
     /// A changing line of a script: the words after the transaction's name, joined by single
     /// spaces, at most 32,768 bytes.
     Line {

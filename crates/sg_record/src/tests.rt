@@ -11,7 +11,12 @@ fn a_begin_has_21_bytes(rt: HostRuntime) -> Result<(), Fail> {
     };
     assert_eq!(rt; size(&r), 21);
     assert_eq!(rt; encode(&r, &mut into), 21);
-    assert_eq!(rt; into, [1, 21, 0, 0, 0, 5, 0, 0, 0, 0, 0, 0, 0, 0, 0, 0, 0, 0, 0, 0, 0, 7]);
+    assert_eq!(rt;
+        into,
+        [
+            1, 21, 0, 0, 0, 5, 0, 0, 0, 0, 0, 0, 0, 0, 0, 0, 0, 0, 0, 0, 0, 7
+        ]
+    );
     Ok(())
 }
 
@@ -25,7 +30,9 @@ fn a_line_has_its_words_behind_the_header(rt: HostRuntime) -> Result<(), Fail> {
     };
     assert_eq!(rt; size(&r), 33);
     assert_eq!(rt; encode(&r, &mut into), 33);
-    let header = [13, 33, 0, 0, 0, 8, 7, 6, 5, 4, 3, 2, 1, 0, 1, 0, 0, 0, 0, 0, 0];
+    let header = [
+        13, 33, 0, 0, 0, 8, 7, 6, 5, 4, 3, 2, 1, 0, 1, 0, 0, 0, 0, 0, 0,
+    ];
     assert_eq!(rt; &into[..21], header.as_slice());
     assert_eq!(rt; &into[21..], b"push a xyzzy\x09".as_slice());
     Ok(())
@@ -81,7 +88,9 @@ fn each_fault_is_told(rt: HostRuntime) -> Result<(), Fail> {
 #[test]
 fn a_line_has_at_most_32768_bytes_of_words(rt: HostRuntime) -> Result<(), Fail> {
     let mut bytes = [b' '; 32800];
-    let head = [13, 0x15, 0x80, 0, 0, 5, 0, 0, 0, 0, 0, 0, 0, 5, 0, 0, 0, 0, 0, 0, 0];
+    let head = [
+        13, 0x15, 0x80, 0, 0, 5, 0, 0, 0, 0, 0, 0, 0, 5, 0, 0, 0, 0, 0, 0, 0,
+    ];
     bytes[..21].copy_from_slice(&head);
     assert_eq!(rt; fault(&bytes), None);
     bytes[1] = 0x16;

@@ -1,4 +1,4 @@
-use Rattle.sg_record.proofs.Read.{IsRead, spelling, size, range, back}
+use Rattle.sg_record.proofs.Read.{spelling, size, range, back}
 use Rattle.sg_record.proofs.reader.decode.Goals as goal
 
 pub returns-clause-spelling : goal.returns-clause-spelling
