@@ -14,7 +14,7 @@ use Rattle.sg_model.specs.Objects.Object.{Array}
 use Rattle.sg_model.specs.declared.reason.Reason.TheVariants.{OutOfRange}
 use Rattle.sg_model.specs.declared.reason.Reason.{Reason}
 use Rattle.sg_model.specs.Objects.Reply.{Done}
-use Rattle.std.proofs.Common.{Result, Ok, Err}
+use Rattle.std.proofs.Common.{Result, Ok, Err, IsOk}
 use Rattle.sg_model.specs.Shown.{shown, shown_entry, objects_of}
 
 abbrev pub at : List ℕ → List ℕ → Bool
@@ -57,3 +57,9 @@ made s es fs name size row fits is none put new =
     let P : Objects → Outcome = λ m. (Ok Done, m) in
     let Q : Bool → Outcome = λ b. cond b (Ok Done, insert s name (Array record { size = size; items = [] })) (Err OutOfRange, s) in
     ap (make_array s name size) none ∙ (ap Q fits ∙ sym (ap P (put ∙ row_is)))
+
+pub made_ok : (s : Objects) (name : List ℕ) (size : ℕ) → is_item_size size ≡ true → get s name ≡ None → IsOk (make_array s name size (get s name)).0
+made_ok s name size fits none =
+    let P : Option Object → Type 0 = λ o. IsOk (make_array s name size o).0 in
+    let Q : Bool → Outcome = λ b. cond b (Ok Done, insert s name (Array record { size = size; items = [] })) (Err OutOfRange, s) in
+    subst P (sym none) (subst (λ (b : Bool). IsOk (Q b).0) (sym fits) refl)

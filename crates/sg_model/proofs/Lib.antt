@@ -1,3 +1,4 @@
 pub mod Found
+pub mod Rows
 pub mod Changed
 pub mod Laws
