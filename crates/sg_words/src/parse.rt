@@ -120,8 +120,9 @@ fn get(rest: &[u8]) -> Option<Verb<'_>>
     Some(Verb::Do(Op::Get { name, index }))
 }
 
+/// What a verb and its arguments say, if anything.
 #[tactic(auto, unfolding(crate::specs::Parse::verb_with))]
-fn read_verb<'a>(word: &[u8], rest: &'a [u8], scratch: &'a mut [u8]) -> Option<Verb<'a>>
+pub fn read_verb<'a>(word: &[u8], rest: &'a [u8], scratch: &'a mut [u8]) -> Option<Verb<'a>>
     requires { length rest.now ≤ length scratch.old }
     ensures built { IfBuilt (shown_option result) }
     ensures verb { shown_option result ≡ verb_with word.now (words_of rest.now) }
