@@ -1,20 +1,19 @@
 -- The code's map and the objects that it shows.
-use Rattle.std.proofs.Common.{◌≡◌, ℕ, Bool, true, false, cond, List, [], ◌∷◌, ◌++◌, length, take, map, Option, Some, None, refl, sym, ap, ◌∙◌, subst, arith}
+use Rattle.std.proofs.Common.{◌≡◌, ℕ, Bool, true, false, cond, List, [], ◌∷◌, ◌++◌, length, take, map, Option, Some, None, refl, sym, ap, ◌∙◌, subst}
 use Rattle.std.specs.Option.{option_map, is_some}
 use Rattle.std.proofs.Math.Seq.{take-append_seam}
 use Rattle.std.specs.Ordering.{nat_cmp, eq_by_cmp}
 use Rattle.std.specs.Cmp.{eq_by_cmp_equiv}
 use Rattle.std.specs.Cmp.Lexicographic.{slice_cmp, nat_list_cmp_total}
-use Rattle.std.specs.FinMap.{FinMap, get, insert, find, from_entries, get-from_entries, get-insert, same_map, slice_cmp-IsAntisymmetric, nat_cmp-IsAntisymmetric, IsAntisymmetric}
+use Rattle.std.specs.FinMap.{get, insert, find, get-from_entries, get-insert, same_map, slice_cmp-IsAntisymmetric, nat_cmp-IsAntisymmetric, IsAntisymmetric}
 use Rattle.std.specs.BTreeMap.{is_at}
 use Rattle.std.specs.Map.{lookup}
 use Rattle.sg_model.specs.declared.objects.Object as code
-use Rattle.sg_model.specs.Objects.{Object, Objects, Row, Reply, make_array, is_item_size, Outcome}
+use Rattle.sg_model.specs.Objects.{Object, Objects, Row, make_array, is_item_size, Outcome}
 use Rattle.sg_model.specs.Objects.Object.{Array}
 use Rattle.sg_model.specs.declared.reason.Reason.TheVariants.{OutOfRange}
-use Rattle.sg_model.specs.declared.reason.Reason.{Reason}
 use Rattle.sg_model.specs.Objects.Reply.{Done}
-use Rattle.std.proofs.Common.{Result, Ok, Err, IsOk}
+use Rattle.std.proofs.Common.{Ok, Err, IsOk}
 use Rattle.sg_model.specs.Shown.{shown, shown_entry, objects_of}
 
 abbrev pub at : List ℕ → List ℕ → Bool

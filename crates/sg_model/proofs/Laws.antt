@@ -1,5 +1,5 @@
 -- Which operations leave the objects as they are.
-use Rattle.std.proofs.Common.{◌≡◌, ℕ, Bool, true, false, cond, ◌==◌, nat_lt, List, [], ◌∷◌, length, Option, Some, None, Result, Ok, Err, IsErr, refl}
+use Rattle.std.proofs.Common.{◌≡◌, ℕ, Bool, true, false, cond, List, length, Option, Some, None, Result, Ok, Err, IsErr, refl}
 use Rattle.std.specs.FinMap.{get}
 use Rattle.sg_model.specs.declared.reason.Reason.{Reason}
 use Rattle.sg_model.specs.Objects.{Object, Objects, Op, Reply, Outcome, Change, step, make_array, put_back, change_at, is_changing, is_item_size}

@@ -1,5 +1,5 @@
 -- Rows of items.
-use Rattle.std.proofs.Common.{◌≡◌, ℕ, List, map, sym, ap, ◌∙◌}
+use Rattle.std.proofs.Common.{◌≡◌, ℕ, List, map, ap, ◌∙◌}
 use Rattle.std.specs.Prelude.{slice_set, Vec}
 use Rattle.std.proofs.lemmas.List.{map-set}
 use Rattle.std.specs.declared.alloc.Global.{Global}

@@ -1,5 +1,5 @@
 -- What the fields of an array stand for.
-use Rattle.std.specs.Prelude.{◌≡◌, ◌≤◌, ℕ, List, length, map, All}
+use Rattle.std.specs.Prelude.{◌≡◌, ◌≤◌, length, map, All}
 use Rattle.sg_model.specs.declared.array.Array.TheInside.{Inside}
 use Rattle.sg_model.specs.Objects.{Row}
 

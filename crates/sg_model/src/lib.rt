@@ -16,3 +16,6 @@ pub use array::Array;
 pub use objects::{Object, Objects};
 pub use op::{Op, Reply};
 pub use reason::Reason;
+
+#[cfg(test)]
+mod tests;

@@ -1,12 +1,12 @@
 -- The words that a log keeps of a line say what the line said.
-use Rattle.std.proofs.Common.{◌≡◌, ℕ, Bool, true, false, cond, ◌==◌, nat_lt, List, [], ◌∷◌, ◌++◌, length, filter, Option, Some, None, refl, sym, ap, ◌∙◌, append_assoc, append-nil}
+use Rattle.std.proofs.Common.{◌≡◌, ℕ, Bool, true, false, cond, ◌==◌, nat_lt, List, [], ◌∷◌, ◌++◌, length, filter, Option, Some, None, refl, sym, ap, ◌∙◌, append-nil}
 use Rattle.std.specs.Prelude.{slice_index}
 use Rattle.std.specs.List.{slice_split, onto_first, join_with_byte}
 use Rattle.std.specs.Str.Lines.{strip_carriage_return}
 use Rattle.sg_model.specs.Objects.{Op}
 use Rattle.sg_words.specs.Order.{Order, Verb, op_of}
 use Rattle.sg_words.specs.Order.Order.{Blank, Syntax, Txn}
-use Rattle.sg_words.specs.Order.Verb.{Begin, Commit, Do}
+use Rattle.sg_words.specs.Order.Verb.{Do}
 use Rattle.sg_words.specs.Parse.{words_of, is_word, verb_of, order_of, order_of_words, order_with, is_transaction, most_line_bytes}
 use Rattle.sg_words.specs.Spoken.{later_words, spoken, op_said}
 

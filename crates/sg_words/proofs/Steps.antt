@@ -2,7 +2,6 @@
 use Rattle.std.proofs.Common.{◌≡◌, ℕ, ◌+◌, ◌≤◌, ◌==◌, Bool, true, false, cond, List, [], ◌∷◌, ◌++◌, length, map, take, Option, Some, None, Bor, IfNone, IfSome, refl, sym, ap, ◌∙◌, subst, append_assoc, append-nil, arith, length-append}
 use Rattle.std.proofs.Math.Seq.{take-append-add}
 use Rattle.sg_base.specs.Ends.{Takes, TakesFront}
-use Rattle.sg_model.specs.declared.reason.Reason.{Reason}
 use Rattle.sg_model.specs.Objects.{Objects, Op, step}
 use Rattle.sg_model.specs.Objects.Reply.{Done}
 use Rattle.sg_model.specs.History.{Entry, Live, State, after_all, live_objects}
@@ -13,7 +12,7 @@ use Rattle.sg_words.specs.Parse.{order_of, lines_of}
 use Rattle.sg_words.specs.Pieces.{behind}
 use Rattle.sg_words.specs.Text.{Answer, text_of, text_of_all}
 use Rattle.sg_words.specs.Text.Answer.{Silent, BadSyntax, NoTransaction, IsLive, TooManyLive, Memory, Said, Refused}
-use Rattle.sg_words.specs.Run.{turn, turn_begin, turn_commit, turn_op, live_named, answer_of, began, committed, did, IsSaid, RunsOut, LineBy, Line, Lines}
+use Rattle.sg_words.specs.Run.{turn, turn_begin, turn_commit, turn_op, live_named, answer_of, began, did, IsSaid, RunsOut, LineBy, Line, Lines}
 use Rattle.sg_words.specs.View.{View, shown_of, Shows, view_turn, view_begin, view_commit, view_op, ViewRunsOut, Answers}
 use Rattle.sg_words.proofs.Seams.{behind_behind}
 

@@ -5,9 +5,8 @@ use Rattle.std.specs.Str.{bytes_eq}
 use Rattle.std.specs.Str.Lines.{strip_carriage_return}
 use Rattle.hex.specs.Hex.{decode_of}
 use Rattle.hex.specs.declared.error.FromHexError.{FromHexError}
-use Rattle.sg_words.specs.Order.{Verb, Order, op_of}
+use Rattle.sg_words.specs.Order.{Verb, Order}
 use Rattle.sg_words.specs.Order.Verb.{Begin, Commit, Do}
-use Rattle.sg_model.specs.Objects.{Op}
 use Rattle.sg_model.specs.Objects.Op.{MakeArray, Push, Set, Get}
 use Rattle.sg_base.specs.Spelling.{is_digit, is_name}
 use Rattle.sg_words.specs.Order.Order.{Blank, Syntax, Txn}

@@ -1,11 +1,11 @@
 -- The run of a script, over the history of its operations.
-use Rattle.std.specs.Prelude.{◌≡◌, ℕ, ◌+◌, Bool, not, ◌==◌, if◌then◌else◌, List, [], ◌∷◌, ◌++◌, length, filter, find, Option, Some, None, Result, Ok, Err}
+use Rattle.std.specs.Prelude.{◌≡◌, ℕ, ◌+◌, not, ◌==◌, if◌then◌else◌, List, [], ◌∷◌, ◌++◌, length, filter, find, Option, Some, None, Result, Ok, Err}
 use Rattle.std.specs.Str.{bytes_eq}
 use Rattle.sg_model.specs.declared.reason.Reason.{Reason}
 use Rattle.sg_model.specs.Objects.{Op, Reply, Grows, step}
 use Rattle.sg_model.specs.Objects.Reply.{Done}
-use Rattle.sg_model.specs.History.{Entry, Live, State, ops_of, live_objects}
-use Rattle.sg_words.specs.Order.{Order, Verb}
+use Rattle.sg_model.specs.History.{Live, State, ops_of, live_objects}
+use Rattle.sg_words.specs.Order.{Order}
 use Rattle.sg_words.specs.Order.Order.{Blank, Syntax, Txn}
 use Rattle.sg_words.specs.Order.Verb.{Begin, Commit, Do}
 use Rattle.sg_words.specs.Parse.{order_of}
