@@ -1,0 +1,4 @@
+pub mod Found
+pub mod Rows
+pub mod Changed
+pub mod Laws

@@ -1,0 +1,136 @@
+-- What is shown goes on with each order, and lines follow one another.
+use Rattle.std.proofs.Common.{◌≡◌, ℕ, ◌+◌, ◌≤◌, ◌==◌, Bool, true, false, cond, List, [], ◌∷◌, ◌++◌, length, map, take, Option, Some, None, Bor, IfNone, IfSome, refl, sym, ap, ◌∙◌, subst, append_assoc, append-nil, arith, length-append}
+use Rattle.std.proofs.Math.Seq.{take-append-add}
+use Rattle.sg_base.specs.Ends.{Takes, TakesFront}
+use Rattle.sg_model.specs.Objects.{Objects, Op, step}
+use Rattle.sg_model.specs.Objects.Reply.{Done}
+use Rattle.sg_model.specs.History.{Entry, Live, State, after_all, live_objects}
+use Rattle.sg_words.specs.Order.{Order}
+use Rattle.sg_words.specs.Order.Order.{Blank, Syntax, Txn}
+use Rattle.sg_words.specs.Order.Verb.{Begin, Commit, Do}
+use Rattle.sg_words.specs.Parse.{order_of, lines_of}
+use Rattle.sg_words.specs.Pieces.{behind}
+use Rattle.sg_words.specs.Text.{Answer, text_of, text_of_all}
+use Rattle.sg_words.specs.Text.Answer.{Silent, BadSyntax, NoTransaction, IsLive, TooManyLive, Memory, Said, Refused}
+use Rattle.sg_words.specs.Run.{turn, turn_begin, turn_commit, turn_op, live_named, answer_of, began, did, IsSaid, RunsOut, LineBy, Line, Lines}
+use Rattle.sg_words.specs.View.{View, shown_of, Shows, view_turn, view_begin, view_commit, view_op, ViewRunsOut, Answers}
+use Rattle.sg_words.proofs.Seams.{behind_behind}
+
+pub after_all-more : (s : Objects) (ops : List Op) (op : Op) → after_all s (ops ++ op ∷ []) ≡ (step (after_all s ops) op).1
+after_all-more s [] op = refl
+after_all-more s (o ∷ ops) op = after_all-more (step s o).1 ops op
+
+ops-more : (h : List Entry) (e : Entry) → map (λ e. e.op) (h ++ e ∷ []) ≡ map (λ e. e.op) h ++ e.op ∷ []
+ops-more [] e = refl
+ops-more (d ∷ h) e = ap (λ (ops : List Op). d.op ∷ ops) (ops-more h e)
+
+-- the objects after one more operation of a transaction
+pub live_objects-did : (x : State) (transaction : ℕ) (op : Op) → live_objects (did x transaction op) ≡ (step (live_objects x) op).1
+live_objects-did x transaction op = ap (after_all x.first) (ops-more x.history record { transaction = transaction; op = op }) ∙ after_all-more x.first (map (λ e. e.op) x.history) op
+
+-- an answer, and what is seen of the state after it
+abbrev pub on_shown : Answer × State → Answer × View
+on_shown p = (p.0, shown_of p.1)
+
+chosen : (b : Bool) (p q : Answer × State) → cond b (on_shown p) (on_shown q) ≡ on_shown (cond b p q)
+chosen true p q = refl
+chosen false p q = refl
+
+follow_begin : (x : State) (name : List ℕ) (l : Option Live) → view_begin (shown_of x) name l ≡ on_shown (turn_begin x name l)
+follow_begin x name None = chosen (length x.live == 0) (Said Done, began x name) (TooManyLive, x)
+follow_begin x name (Some live) = refl
+
+follow_commit : (x : State) (l : Option Live) → view_commit (shown_of x) l ≡ on_shown (turn_commit x l)
+follow_commit x None = refl
+follow_commit x (Some live) = refl
+
+follow_op : (x : State) (op : Op) (l : Option Live) → view_op (shown_of x) op l ≡ on_shown (turn_op x op l)
+follow_op x op None = refl
+follow_op x op (Some live) =
+    let P : Objects → Answer × View = λ m. (answer_of (step (live_objects x) op).0, record { objects = m; live = x.live; begun = x.begun }) in
+    ap P (sym (live_objects-did x live.transaction op))
+
+-- one order on what is shown is what is shown of the order
+pub follow : (x : State) (o : Order) → view_turn (shown_of x) o ≡ on_shown (turn x o)
+follow x Blank = refl
+follow x Syntax = refl
+follow x (Txn name Begin) = follow_begin x name (live_named x.live name)
+follow x (Txn name Commit) = follow_commit x (live_named x.live name)
+follow x (Txn name (Do op)) = follow_op x op (live_named x.live name)
+
+-- where what is shown turns, so does the state
+turned : (x : State) (o : Order) (a : Answer) (w : View) → view_turn (shown_of x) o ≡ (a, w) → (y : State) × (turn x o ≡ (a, y)) × Shows w y
+turned x o a w h =
+    let e : on_shown (turn x o) ≡ (a, w) = sym (follow x o) ∙ h in
+    let P : Answer → Answer × State = λ z. (z, (turn x o).1) in
+    ((turn x o).1, ap P (ap (λ (p : Answer × View). p.0) e), sym (ap (λ (p : Answer × View). p.1) e))
+
+ran_out : (x : State) (o : Order) (w : View) → ViewRunsOut (shown_of x) o w → (y : State) × RunsOut x o y × Shows w y
+ran_out x o w h = (x, record { same = refl; growing = h.growing; said = subst IsSaid (ap (λ (p : Answer × View). p.0) (follow x o)) h.said }, h.same)
+
+by_answer : (x : State) (o : Order) (a : Answer) (w : View) → Answers (shown_of x) o a w → (y : State) × LineBy x o a y × Shows w y
+by_answer x o Memory w h = ran_out x o w h
+by_answer x o Silent w h = turned x o Silent w h
+by_answer x o BadSyntax w h = turned x o BadSyntax w h
+by_answer x o NoTransaction w h = turned x o NoTransaction w h
+by_answer x o IsLive w h = turned x o IsLive w h
+by_answer x o TooManyLive w h = turned x o TooManyLive w h
+by_answer x o (Said reply) w h = turned x o (Said reply) w h
+by_answer x o (Refused reason) w h = turned x o (Refused reason) w h
+
+-- where a store that shows x answers, so does x, and the store goes on showing it
+pub simulate : (v : View) (x : State) (text : List ℕ) (o : Order) (a : Answer) (w : View) → Shows v x → o ≡ order_of text → Answers v o a w → (y : State) × Line x text a y × Shows w y
+simulate v x text o a w s e h = by_answer x (order_of text) a w (subst (λ (u : View). Answers u (order_of text) a w) s (subst (λ (p : Order). Answers v p a w) e h))
+
+-- lines follow one another
+pub Lines-more : (x : State) (lines : List (List ℕ)) (answers : List Answer) (y : State) (line : List ℕ) (answer : Answer) (z : State) → Lines x lines answers y → Line y line answer z → Lines x (lines ++ line ∷ []) (answers ++ answer ∷ []) z
+Lines-more x [] [] y line answer z ls l = (z, subst (λ w. Line w line answer z) ls l, refl)
+Lines-more x [] (a ∷ answers) y line answer z ls l = absurd ls
+Lines-more x (l1 ∷ lines) [] y line answer z ls l = absurd ls
+Lines-more x (l1 ∷ lines) (a ∷ answers) y line answer z ls l = (ls.0, ls.1, Lines-more ls.0 lines answers y line answer z ls.2 l)
+
+pub text-more : (answers : List Answer) (answer : Answer) → text_of_all (answers ++ answer ∷ []) ≡ text_of_all answers ++ text_of answer
+text-more [] answer = append-nil (text_of answer)
+text-more (a ∷ answers) answer = ap (λ (t : List ℕ). text_of a ++ t) (text-more answers answer) ∙ sym (append_assoc (text_of a) (text_of_all answers) (text_of answer))
+
+pub Takes-more : (a : Option (List ℕ)) (xs : List ℕ) (b : Option (List ℕ)) (ys : List ℕ) (c : Option (List ℕ)) → Takes a xs b → Takes b ys c → Takes a (xs ++ ys) c
+Takes-more None xs b ys c h k = subst (λ o. Takes o ys c) h k
+Takes-more (Some had) xs b ys c h k = subst (λ o. Takes o ys c) h k ∙ ap Some (append_assoc had xs ys)
+
+pub Takes-nothing : (a : Option (List ℕ)) → Takes a [] a
+Takes-nothing None = refl
+Takes-nothing (Some had) = ap Some (sym (append-nil had))
+
+pub told-more : (a : Option (List ℕ)) (answers : List Answer) (b : Option (List ℕ)) (answer : Answer) (c : Option (List ℕ)) → Takes a (text_of_all answers) b → Takes b (text_of answer) c → Takes a (text_of_all (answers ++ answer ∷ [])) c
+told-more a answers b answer c h k = subst (λ (t : List ℕ). Takes a t c) (sym (text-more answers answer)) (Takes-more a (text_of_all answers) b (text_of answer) c h k)
+
+pub told-cut : (a : Option (List ℕ)) (answers : List Answer) (b : Option (List ℕ)) (answer : Answer) (c : Option (List ℕ)) → Takes a (text_of_all answers) b → TakesFront b (text_of answer) c → TakesFront a (text_of_all (answers ++ answer ∷ [])) c
+told-cut None answers b answer c h k = subst (λ (o : Option (List ℕ)). TakesFront o (text_of answer) c) h k
+told-cut (Some had) answers b answer c h k =
+    let m : TakesFront (Some (had ++ text_of_all answers)) (text_of answer) c = subst (λ (o : Option (List ℕ)). TakesFront o (text_of answer) c) h k in
+    let both = text_of_all answers ++ text_of answer in
+    let len : length (text_of_all answers) + m.0 ≤ length both = omega (arith, length-append (text_of_all answers) (text_of answer), m.1) in
+    let P : List ℕ → Type 0 = λ t. TakesFront (Some had) t c in
+    subst P (sym (text-more answers answer)) (length (text_of_all answers) + m.0, len, m.2 ∙ ap Some (append_assoc had (text_of_all answers) (take m.0 (text_of answer)) ∙ ap (λ (t : List ℕ). had ++ t) (sym (take-append-add (text_of_all answers) (text_of answer) m.0))))
+
+pub shifted : (done : List (List ℕ)) (line : List ℕ) (after rest all : List (List ℕ)) → rest ≡ line ∷ after → done ++ rest ≡ all → (done ++ line ∷ []) ++ after ≡ all
+shifted done line after rest all cut h = append_assoc done (line ∷ []) after ∙ (ap (λ (ls : List (List ℕ)). done ++ ls) (sym cut) ∙ h)
+
+pub ended : (done : List (List ℕ)) (line : List ℕ) (rest all : List (List ℕ)) → rest ≡ line ∷ [] → done ++ rest ≡ all → done ++ line ∷ [] ≡ all
+ended done line rest all cut h = ap (λ (ls : List (List ℕ)). done ++ ls) (sym cut) ∙ h
+
+-- whatever follows it, the line that was cut off is the first
+pub first_cut : (line : List ℕ) (lines : List (List ℕ)) (more : Option (Bor (List ℕ))) → IfNone more (lines ≡ line ∷ []) → IfSome more (λ r. lines ≡ line ∷ lines_of r.now) → (left : List (List ℕ)) × (lines ≡ line ∷ left)
+first_cut line lines None h k = ([], h)
+first_cut line lines (Some r) h k = (lines_of r.now, k)
+
+-- a line that ends in a piece is executed, and what follows it is left
+pub seam : (done : List (List ℕ)) (pending part line cleared : List ℕ) (next rest all : List (List ℕ)) → behind [] next ≡ next → cleared ≡ [] → line ≡ pending ++ part → rest ≡ part ∷ next → done ++ behind pending rest ≡ all → (done ++ line ∷ []) ++ behind cleared next ≡ all
+seam done pending part line cleared next rest all nothing is_cleared is_line cut h =
+    append_assoc done (line ∷ []) (behind cleared next) ∙ (ap (λ (c : List ℕ). done ++ line ∷ behind c next) is_cleared ∙ (ap (λ (ns : List (List ℕ)). done ++ line ∷ ns) nothing
+    ∙ (ap (λ (l : List ℕ). done ++ l ∷ next) is_line ∙ (ap (λ (r : List (List ℕ)). done ++ behind pending r) (sym cut) ∙ h))))
+
+-- a piece without an end of a line is kept
+pub kept : (done : List (List ℕ)) (pending part new : List ℕ) (next rest all : List (List ℕ)) → new ≡ pending ++ part → rest ≡ behind part next → done ++ behind pending rest ≡ all → done ++ behind new next ≡ all
+kept done pending part new next rest all is_new cut h =
+    ap (λ (t : List ℕ). done ++ behind t next) is_new ∙ (ap (λ (ls : List (List ℕ)). done ++ ls) (sym (behind_behind pending part next)) ∙ (ap (λ (r : List (List ℕ)). done ++ behind pending r) (sym cut) ∙ h))

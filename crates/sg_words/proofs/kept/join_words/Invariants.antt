@@ -1,0 +1,16 @@
+use Rattle.std.proofs.Common.{◌≡◌, ◌+◌, ◌<◌, ◌≤◌, ◌++◌, length, take}
+use Rattle.sg_words.specs.Parse.{words_of}
+use Rattle.sg_words.specs.Spoken.{spoken}
+use Rattle.sg_words.proofs.Said.{spaced}
+use Rattle.sg_words.proofs.kept.join_words.Given as goal
+
+-- what is joined so far, with the words that are left, each behind a space
+abbrev pub invariant-words : goal.invariant-words
+invariant-words l = record {
+  joined : take l.end l.into ++ spaced (words_of l.rest) ≡ spoken l.line;
+  within : l.end ≤ length l.line;
+  room : 0 < length l.rest → l.end + length l.rest + 1 ≤ length l.line;
+}
+
+abbrev pub decreases-words : goal.decreases-words
+decreases-words l = length l.rest

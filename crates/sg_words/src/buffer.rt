@@ -1,0 +1,28 @@
+ghost use Rattle.std.specs.Prelude.{◌≡◌, ◌+◌, ◌*◌, ◌≤◌, ◌++◌, length, take};
+ghost use Rattle.hex.specs.Hex.{encode_lower};
+
+/// Puts a text at `at` of a buffer, behind what stands before that place, and gives its end.
+#[tactic(auto, using(crate::proofs::Fronts::appended))]
+pub fn append(into: &mut [u8], at: usize, text: &[u8]) -> usize
+    requires { at + length text.now ≤ length into.old }
+    ensures end { result ≡ at + length text.now }
+    ensures front { take result into.new ≡ take at into.old ++ text.now }
+{
+    let end = at + text.len();
+    into[at..end].copy_from_slice(text);
+    end
+}
+
+/// Puts the lower-case hexadecimal digits of some bytes at `at` of a buffer, and gives their end.
+#[tactic(auto, using(crate::proofs::Fronts::appended))]
+pub fn append_hex(into: &mut [u8], at: usize, bytes: &[u8]) -> usize
+    requires { at + 2 * length bytes.now ≤ length into.old }
+    ensures end { result ≡ at + 2 * length bytes.now }
+    ensures front { take result into.new ≡ take at into.old ++ encode_lower bytes.now }
+{
+    let end = at + 2 * bytes.len();
+    match hex::encode_to_slice(bytes, &mut into[at..end]) {
+        Ok(()) => end,
+        Err(_) => unreachable!(),
+    }
+}

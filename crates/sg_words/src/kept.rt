@@ -1,0 +1,46 @@
+ghost use Rattle.std.specs.Prelude.{◌≡◌, ◌≤◌, length, take, Option, Some, None};
+ghost use Rattle.sg_words.specs.Shown.{shown_op_option};
+ghost use Rattle.sg_words.specs.Order.{IfBuiltOp};
+ghost use Rattle.sg_words.specs.Spoken.{spoken, op_said};
+
+use crate::buffer::append;
+use crate::parse::{Verb, read_verb, without_return};
+use crate::split::next_word;
+use sg_model::Op;
+
+/// Puts the words of a line but for the first, with one space between each two, at the front of a
+/// buffer, and gives how many bytes these are. A CR at the line's end is no part of its words.
+pub fn join_words(line: &[u8], into: &mut [u8]) -> usize
+    requires { length line.now ≤ length into.old }
+    ensures within { result ≤ length line.now }
+    ensures words { take result into.new ≡ spoken line.now }
+{
+    let Some((_, rest)) = next_word(without_return(line)) else {
+        return 0;
+    };
+    let Some((word, after)) = next_word(rest) else {
+        return 0;
+    };
+    let mut end = append(into, 0, word);
+    let mut rest = after;
+    'words: while let Some((word, after)) = next_word(rest) {
+        let at = append(into, end, b" ");
+        end = append(into, at, word);
+        rest = after;
+    }
+    end
+}
+
+/// The operation that the words kept of a line say, if they say one. `scratch` takes the bytes of a
+/// value in hexadecimal digits.
+pub fn parse_said<'a>(said: &'a [u8], scratch: &'a mut [u8]) -> Option<Op<'a>>
+    requires { length said.now ≤ length scratch.old }
+    ensures built { IfBuiltOp (shown_op_option result) }
+    ensures op { shown_op_option result ≡ op_said said.now }
+{
+    let (word, rest) = next_word(said)?;
+    match read_verb(word, rest, scratch) {
+        Some(Verb::Do(op)) => Some(op),
+        _ => None,
+    }
+}

@@ -1,0 +1,159 @@
+ghost use Rattle.std.specs.Prelude.{◌≡◌, ◌+◌, ◌*◌, ◌≤◌, ◌<◌, [], ◌++◌, List, ℕ, length, take, OnOk, OnErr, codes, decimal};
+ghost use Rattle.sg_base.specs.Ends.{HasRisen, Takes, TakesFront};
+ghost use Rattle.sg_model.specs.Replies.{shown_reply};
+ghost use Rattle.sg_words.specs.Text.{prints_plain, printed, text_of_reason, text_of_reply};
+
+use crate::buffer::{append, append_hex};
+use crate::value::are_plain;
+use itoa::Buffer;
+use sg_base::{Failed, Sink};
+use sg_model::{Reason, Reply};
+
+/// The most bytes of a value.
+const MOST_BYTES: usize = 8192;
+
+/// The most bytes of a value that the small buffer takes.
+const FEW_BYTES: usize = 256;
+
+// Whether bytes are printed as themselves.
+fn prints_plain(bytes: &[u8]) -> bool
+    ensures { result ≡ prints_plain bytes.now }
+{
+    if let [b'x', b':', ..] = bytes {
+        return false;
+    }
+    !bytes.is_empty() && are_plain(bytes)
+}
+
+// Puts bytes as they are printed at `at` of a buffer, and gives their end.
+fn print(into: &mut [u8], at: usize, bytes: &[u8]) -> usize
+    requires { at + 2 + 2 * length bytes.now ≤ length into.old }
+    ensures end { result ≤ at + 2 + 2 * length bytes.now }
+    ensures front { take result into.new ≡ take at into.old ++ printed bytes.now }
+{
+    if prints_plain(bytes) {
+        return append(into, at, bytes);
+    }
+    let digits = append(into, at, b"x:");
+    append_hex(into, digits, bytes)
+}
+
+// The bytes of an answer, at the front of those that were handed in.
+fn value_of_reply<'a>(reply: &Reply, bytes: &'a [u8]) -> &'a [u8]
+    ensures same { shown_reply result.now reply.now ≡ shown_reply bytes.now reply.now }
+    ensures within { length result.now ≤ length bytes.now }
+{
+    match reply {
+        Reply::Bytes(n) => &bytes[..(*n).min(bytes.len())],
+        _ => &[],
+    }
+}
+
+// Puts a reply's line at the front of a buffer, and gives its end.
+fn put_reply(into: &mut [u8], reply: &Reply, value: &[u8]) -> usize
+    requires room { 64 + 2 * length value.now ≤ length into.old }
+    ensures end { result ≤ length into.new }
+    ensures line { take result into.new ≡ text_of_reply (shown_reply value.now reply.now) }
+{
+    match reply {
+        Reply::Done => append(into, 0, b"ok\n"),
+        Reply::New => append(into, 0, b"ok new\n"),
+        Reply::Replaced => append(into, 0, b"ok replaced\n"),
+        Reply::Absent => append(into, 0, b"none\n"),
+        Reply::Number(n) => put_number(into, *n),
+        Reply::Bytes(n) => put_value(into, &value[..(*n).min(value.len())]),
+    }
+}
+
+fn put_number(into: &mut [u8], n: u64) -> usize
+    requires { 64 ≤ length into.old }
+    ensures end { result ≤ length into.new }
+    ensures line { take result into.new ≡ codes "ok " ++ decimal n ++ codes "\n" }
+{
+    let mut digits = Buffer::new();
+    let at = append(into, 0, b"ok ");
+    let end = append(into, at, digits.format(n).as_bytes());
+    append(into, end, b"\n")
+}
+
+fn put_value(into: &mut [u8], value: &[u8]) -> usize
+    requires { 64 + 2 * length value.now ≤ length into.old }
+    ensures end { result ≤ length into.new }
+    ensures line { take result into.new ≡ codes "ok " ++ printed value.now ++ codes "\n" }
+{
+    let at = append(into, 0, b"ok ");
+    let end = print(into, at, value);
+    append(into, end, b"\n")
+}
+
+fn write_short<K: Sink>(reply: &Reply, value: &[u8], out: &mut K) -> Result<(), Failed>
+    requires { length value.now ≤ 256 }
+    ensures took { OnOk result (Takes (K.taken out.old) (text_of_reply (shown_reply value.now reply.now)) (K.taken out.new)) }
+    ensures cut { OnErr result (TakesFront (K.taken out.old) (text_of_reply (shown_reply value.now reply.now)) (K.taken out.new)) }
+    ensures later { K.faults out.old ≤ K.faults out.new }
+    ensures failed { OnErr result (HasRisen (K.faults out.old) (K.faults out.new)) }
+{
+    let mut line = [0u8; 576];
+    let end = put_reply(&mut line, reply, value);
+    out.write(&line[..end])
+}
+
+fn write_long<K: Sink>(reply: &Reply, value: &[u8], out: &mut K) -> Result<(), Failed>
+    requires { length value.now ≤ 8192 }
+    ensures took { OnOk result (Takes (K.taken out.old) (text_of_reply (shown_reply value.now reply.now)) (K.taken out.new)) }
+    ensures cut { OnErr result (TakesFront (K.taken out.old) (text_of_reply (shown_reply value.now reply.now)) (K.taken out.new)) }
+    ensures later { K.faults out.old ≤ K.faults out.new }
+    ensures failed { OnErr result (HasRisen (K.faults out.old) (K.faults out.new)) }
+{
+    let mut line = [0u8; 16448];
+    let end = put_reply(&mut line, reply, value);
+    out.write(&line[..end])
+}
+
+/// Writes a reply's line with its LF, in one call of the sink. `bytes` has the bytes of an answer
+/// at its front. Where the sink fails, it took a front of the line.
+pub fn write_reply<K: Sink>(reply: &Reply, bytes: &[u8], out: &mut K) -> Result<(), Failed>
+    requires { length bytes.now ≤ 8192 }
+    ensures took { OnOk result (Takes (K.taken out.old) (text_of_reply (shown_reply bytes.now reply.now)) (K.taken out.new)) }
+    ensures cut { OnErr result (TakesFront (K.taken out.old) (text_of_reply (shown_reply bytes.now reply.now)) (K.taken out.new)) }
+    ensures later { K.faults out.old ≤ K.faults out.new }
+    ensures failed { OnErr result (HasRisen (K.faults out.old) (K.faults out.new)) }
+{
+    let value = value_of_reply(reply, bytes);
+    if value.len() <= FEW_BYTES {
+        write_short(reply, value, out)
+    } else {
+        write_long(reply, value, out)
+    }
+}
+
+/// Writes bytes as they are printed, in one call of the sink: as themselves where there is at least
+/// one, all are from 0x21 to 0x7E and they don't begin with `x:`, and else as `x:` and lower-case
+/// hexadecimal digits. Where the sink fails, it took a front of that.
+pub fn write_value<K: Sink>(bytes: &[u8], out: &mut K) -> Result<(), Failed>
+    requires { length bytes.now ≤ 8192 }
+    ensures took { OnOk result (Takes (K.taken out.old) (printed bytes.now) (K.taken out.new)) }
+    ensures cut { OnErr result (TakesFront (K.taken out.old) (printed bytes.now) (K.taken out.new)) }
+    ensures later { K.faults out.old ≤ K.faults out.new }
+    ensures failed { OnErr result (HasRisen (K.faults out.old) (K.faults out.new)) }
+{
+    let mut text = [0u8; 16448];
+    let end = print(&mut text, 0, bytes);
+    out.write(&text[..end])
+}
+
+/// The line of a reason, with its LF.
+pub fn reason_text(reason: Reason) -> &'static [u8]
+    ensures { result.now ≡ text_of_reason reason }
+{
+    match reason {
+        Reason::NoObject => b"error no-object\n",
+        Reason::WrongKind => b"error wrong-kind\n",
+        Reason::Exists => b"error exists\n",
+        Reason::OutOfRange => b"error out-of-range\n",
+        Reason::NoOperation => b"error no-operation\n",
+        Reason::Declined => b"error declined\n",
+        Reason::TooLong => b"error too-long\n",
+        Reason::TooMany => b"error too-many\n",
+    }
+}

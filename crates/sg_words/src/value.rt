@@ -1,0 +1,41 @@
+ghost use Rattle.std.specs.Prelude.{◌≡◌, ◌*◌, ◌≤◌, ◌<◌, length, option_copied};
+ghost use Rattle.std.specs.List.{list_all};
+ghost use Rattle.hex.specs.Hex.{decode_of};
+ghost use Rattle.sg_words.specs.Parse.{is_plain, if_decoded, value_of};
+
+fn is_plain(b: u8) -> bool
+    ensures { result ≡ is_plain b }
+{
+    b >= 0x21 && b <= 0x7e
+}
+
+/// Whether all of the bytes stand for themselves.
+pub fn are_plain(word: &[u8]) -> bool
+    ensures { result ≡ list_all is_plain word.now }
+{
+    word.iter().all(|b| is_plain(*b))
+}
+
+// The bytes of hexadecimal digits, put at the front of the scratch.
+#[tactic(auto, using(crate::proofs::Digits::decoded))]
+fn decode<'a>(digits: &[u8], scratch: &'a mut [u8]) -> Option<&'a [u8]>
+    requires { length digits.now ≤ length scratch.old }
+    ensures { option_copied result ≡ if_decoded (decode_of digits.now) }
+{
+    let into = &mut scratch[..digits.len() / 2];
+    match hex::decode_to_slice(digits, into) {
+        Ok(()) => Some(into),
+        Err(_) => None,
+    }
+}
+
+/// The bytes that a value word stands for.
+pub fn value<'a>(word: &'a [u8], scratch: &'a mut [u8]) -> Option<&'a [u8]>
+    requires { length word.now ≤ length scratch.old }
+    ensures { option_copied result ≡ value_of word.now }
+{
+    if let [b'x', b':', digits @ ..] = word {
+        return decode(digits, scratch);
+    }
+    if are_plain(word) { Some(word) } else { None }
+}
