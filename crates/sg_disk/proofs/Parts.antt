@@ -1,8 +1,9 @@
 -- What a client knows of an area after its calls.
 use Rattle.std.proofs.Common.{◌≡◌, ◌⊎◌, inl, inr, ⊎_elim, ℕ, zero, suc, ◌+◌, ◌-◌, ◌<◌, ◌≤◌, List, [], ◌∷◌, Some, length, get_or, refl, sym, ◌∙◌, ap, subst, arith, add-zero}
 use Rattle.std.proofs.lemmas.Bool.Decides.{nat_tests}
-use Rattle.sg_disk.specs.Disk.{Bytes, Image, Range, Touches, Spoils, Part, State, LeavesPart, Leaves, put, window, written_part, synced_part, written, synced}
+use Rattle.sg_disk.specs.Disk.{Bytes, Image, Range, Touches, Spoils, Part, State, LeavesPart, Leaves, at_area, put, window, written_part, synced_part, written, synced}
 use Rattle.sg_base.specs.declared.area.Area.{Area}
+use Rattle.sg_base.specs.declared.area.Area.TheVariants.{Home, Log0, Log1}
 use Rattle.sg_disk.proofs.Images.{at_area_same, put_outside}
 
 -- a byte before or behind a write is not touched
@@ -55,3 +56,25 @@ window_is f at (b ∷ bytes) is =
     let head : f at ≡ b = ap f (sym (add-zero at)) ∙ is 0 (omega arith) in
     let tail = window_is f (suc at) bytes (λ k lt. ap f (moved at k) ∙ is (suc k) (omega arith)) in
     λ i. head i ∷ tail i
+
+-- the other areas
+pub at_area_other : {X : Type 0} (a b : Area) (x : X) (f : Area → X) → (b ≡ a → ⊥) → at_area a x f b ≡ f b
+at_area_other Home Home x f other = absurd (other refl)
+at_area_other Log0 Log0 x f other = absurd (other refl)
+at_area_other Log1 Log1 x f other = absurd (other refl)
+at_area_other Home Log0 x f other = refl
+at_area_other Home Log1 x f other = refl
+at_area_other Log0 Home x f other = refl
+at_area_other Log0 Log1 x f other = refl
+at_area_other Log1 Home x f other = refl
+at_area_other Log1 Log0 x f other = refl
+
+pub other_written : {t : State} (s : State) (a b : Area) (at : ℕ) (bytes : List ℕ) → (b ≡ a → ⊥) → t ≡ written a at bytes s → t b ≡ s b
+other_written s a b at bytes other is = ap (λ (u : State). u b) is ∙ at_area_other a b (written_part at bytes (s a)) s other
+
+pub other_synced : {t : State} (s : State) (a b : Area) → (b ≡ a → ⊥) → t ≡ synced a s → t b ≡ s b
+other_synced s a b other is = ap (λ (u : State). u b) is ∙ at_area_other a b (synced_part (s a)) s other
+
+-- what a crash leaves of another area than the one that is written
+pub leaves_other : (s : State) (a b : Area) (at : ℕ) (bytes : List ℕ) (c : Image) → (b ≡ a → ⊥) → Leaves (written a at bytes s) c → LeavesPart (s b) (c b)
+leaves_other s a b at bytes c other leaves = subst (λ (p : Part). LeavesPart p (c b)) (at_area_other a b (written_part at bytes (s a)) s other) (leaves b)
