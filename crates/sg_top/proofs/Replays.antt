@@ -98,9 +98,9 @@ committed_lines-commit t p rs ps own h =
     ∙ (ap (λ (ls : List (List ℕ)). ls ++ (lines_by t all ++ [])) (kept (commits_in rs) all (rs ++ ps) keep ∙ others t (commits_in rs) rs ps own h)
     ∙ ap (λ (ls : List (List ℕ)). committed_lines rs ++ ls) (append-nil (lines_by t all) ∙ keep t)))
   where
-    kept : (us : List ℕ) (as bs : List Record) → ((u : ℕ) → lines_by u as ≡ lines_by u bs) → flat_map (λ u. lines_by u as) us ≡ flat_map (λ u. lines_by u bs) us
-    kept [] as bs e = refl
-    kept (u ∷ us) as bs e = ap (λ (ls : List (List ℕ)). ls ++ flat_map (λ v. lines_by v as) us) (e u) ∙ ap (λ (ls : List (List ℕ)). lines_by u bs ++ ls) (kept us as bs e)
+    kept : (us : List ℕ) (xs ys : List Record) → ((u : ℕ) → lines_by u xs ≡ lines_by u ys) → flat_map (λ u. lines_by u xs) us ≡ flat_map (λ u. lines_by u ys) us
+    kept [] xs ys e = refl
+    kept (u ∷ us) xs ys e = ap (λ (ls : List (List ℕ)). ls ++ flat_map (λ v. lines_by v xs) us) (e u) ∙ ap (λ (ls : List (List ℕ)). lines_by u ys ++ ls) (kept us xs ys e)
 
 -- one more line of a transaction
 pub lines_by-line : (t p : ℕ) (words : List ℕ) (rs : List Record) → lines_by t (rs ++ Line t p words ∷ []) ≡ lines_by t rs ++ words ∷ []

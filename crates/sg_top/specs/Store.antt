@@ -69,7 +69,7 @@ IsOpenOrNone x ds ps (Some l) = IsOpen x l.transaction ds ps
 pub record Logs (x : State) (live : Option Live) (bound : ℕ) (ds ps : List Record) : Type 0 where
   pub durable : replay (committed_lines ds) (Some empty) ≡ Some (committed_objects x)
   pub below : AreBelow bound (ds ++ ps)
-  pub live : IsOpenOrNone x ds ps live
+  pub open_one : IsOpenOrNone x ds ps live
 
 -- the log holds such records
 pub record Keeps (v : disk.View) (k : Core) (x : State) : Type 0 where
