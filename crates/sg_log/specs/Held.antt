@@ -2,7 +2,7 @@
 use Rattle.std.specs.Prelude.{◌≡◌, ◌+◌, ◌≤◌, ◌<◌, ◌==◌, nat_le, if◌then◌else◌, ℕ, Bool, List, [], ◌∷◌, ◌++◌, length}
 use Rattle.sg_base.specs.declared.area.Area.{Area}
 use Rattle.sg_disk.specs.Disk.{View}
-use Rattle.sg_record.specs.Records.{Record, spelled_all, AreRecords}
+use Rattle.sg_record.specs.Records.{Record, spelled, spelled_all, AreRecords}
 use Rattle.sg_log.specs.Frames.{GREATEST_BODY, LOG_END, Frames, gate_after, records_of}
 
 -- A log as its callers see it: where it stands, the number of its area's first byte, the number of the closed gate
@@ -24,26 +24,30 @@ pub record IsTail (base gate used : ℕ) : Type 0 where
 abbrev pub tail_of : Tail → ℕ
 tail_of log = if length log.buffer == 0 then log.gate else log.gate + 5 + length log.buffer
 
--- a record of so many bytes still fits the buffer
-abbrev pub has_room : Tail → ℕ → Bool
-has_room log size = nat_le (length log.buffer + size) GREATEST_BODY
+-- the record still fits the buffer
+abbrev pub has_room : Tail → Record → Bool
+has_room log r = nat_le (length log.buffer + length (spelled r)) GREATEST_BODY
 
--- The number of the first byte of a record of so many bytes, if it is appended now: it comes after the buffered
--- records and the gate and the length of their frame. Where it doesn't fit, that frame ends first, and another begins.
-abbrev pub place_of : Tail → ℕ → ℕ
-place_of log size = if has_room log size then log.gate + 5 + length log.buffer else log.gate + 5 + length log.buffer + 5
+-- The number of a record's first byte, if it is appended now: it comes after the buffered records, and the gate and the
+-- length of their frame. Where it doesn't fit, that frame ends first, and the gate and the length of another follow.
+abbrev pub place_of : Tail → Record → ℕ
+place_of log r = if has_room log r then log.gate + 5 + length log.buffer else log.gate + 5 + length log.buffer + 5
+
+-- the number of the byte behind it
+abbrev pub end_of : Tail → Record → ℕ
+end_of log r = place_of log r + length (spelled r)
 
 -- the log once its buffer is a frame
 abbrev pub forced : Tail → Tail
 forced log = if length log.buffer == 0 then log else record log { gate = log.gate + 5 + length log.buffer; buffer = [] }
 
--- the log with some more bytes in its buffer
-abbrev pub buffered : Tail → List ℕ → Tail
-buffered log bytes = record log { buffer = log.buffer ++ bytes }
+-- the log with one record more in its buffer
+abbrev pub buffered : Tail → Record → Tail
+buffered log r = record log { buffer = log.buffer ++ spelled r }
 
--- the log after an append of these bytes
-abbrev pub appended : Tail → List ℕ → Tail
-appended log bytes = if has_room log (length bytes) then buffered log bytes else buffered (forced log) bytes
+-- the log after an append
+abbrev pub appended : Tail → Record → Tail
+appended log r = if has_room log r then buffered log r else buffered (forced log) r
 
 -- The log holds the records ds on the disk, and ps in its buffer: its area has frames of ds from its first byte on,
 -- then a closed gate, and nothing in it is pending.
@@ -57,9 +61,10 @@ pub record Holds (v : View) (log : Tail) (ds ps : List Record) : Type 0 where
   pub fields : AreRecords ps
   pub within : tail_of log ≤ LOG_END
 
--- the durable records and the waiting ones after an append
-abbrev pub durable_after : Tail → ℕ → List Record → List Record → List Record
-durable_after log size ds ps = if has_room log size then ds else ds ++ ps
+-- the durable records after an append: those that waited come to them where it had to force
+abbrev pub durable_after : Tail → Record → List Record → List Record → List Record
+durable_after log r ds ps = if has_room log r then ds else ds ++ ps
 
-abbrev pub waiting_after : Tail → ℕ → List Record → Record → List Record
-waiting_after log size ps r = if has_room log size then ps ++ r ∷ [] else r ∷ []
+-- and the waiting ones
+abbrev pub waiting_after : Tail → Record → List Record → List Record
+waiting_after log r ps = if has_room log r then ps ++ r ∷ [] else r ∷ []

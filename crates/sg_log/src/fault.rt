@@ -1,3 +1,8 @@
+ghost use Rattle.std.specs.Prelude.{◌≡◌};
+ghost use Rattle.sg_log.specs.declared.fault.LogFault.TheVariants.{Disk};
+
+use sg_disk::Failed;
+
 /// Why a call of a log fails.
 #[derive(Clone, Copy, Debug, PartialEq, Eq)]
 pub enum LogFault {
@@ -9,4 +14,12 @@ pub enum LogFault {
     Damaged { at: u64 },
     /// There was not enough memory.
     Memory,
+}
+
+impl From<Failed> for LogFault {
+    ghost from_gives = { λ _ e. e ≡ Disk };
+
+    fn from(_failed: Failed) -> LogFault {
+        LogFault::Disk
+    }
 }

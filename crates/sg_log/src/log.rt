@@ -6,14 +6,14 @@ ghost use Rattle.sg_record.specs.Records.{Record, spelled, spelled_all, IsRecord
 ghost use Rattle.sg_record.specs.Shown.{shown};
 ghost use Rattle.sg_log.specs.Faults.{ForceFails, AppendFails, AttachFails};
 ghost use Rattle.sg_log.specs.Frames.{HasRecords, IsBeforeOrAfter, LOG_END, GREATEST_BODY};
-ghost use Rattle.sg_log.specs.Held.{Tail, IsTail, Holds, tail_of, place_of, has_room, forced, buffered, appended, durable_after, waiting_after};
+ghost use Rattle.sg_log.specs.Held.{Tail, IsTail, Holds, tail_of, place_of, end_of, has_room, forced, buffered, appended, durable_after, waiting_after};
 
 use crate::LogFault;
 use crate::frame::{seal, write_frame};
 use sg_base::{Area, Lsn};
 use sg_disk::Disk;
 use sg_record::{Rec, encode, size};
-use std::alloc::Global;
+use std::alloc::{AllocError, Global};
 use std::marker::Model;
 
 // The bytes of the greatest frame behind its gate, and a closed gate: 4 of length, the body, 1.
@@ -45,6 +45,20 @@ impl Model for Log {
     ghost invariant = { λ l. IsTail l.base l.gate l.used × (length l.frame.items ≡ 65541) };
 }
 
+// Room for the greatest frame.
+fn room(alloc: Global) -> Result<Vec<u8>, LogFault>
+    ensures room { IfOk result (λ v. length v.items ≡ 65541) }
+    ensures memory { IfErr result (λ e. e ≡ LogFault.Memory) }
+{
+    zeros(alloc, FRAME_BYTES).map_err(|_| LogFault::Memory)
+}
+
+fn zeros(alloc: Global, count: usize) -> Result<Vec<u8>, AllocError>
+    ensures { IfOk result (λ v. length v.items ≡ count) }
+{
+    vec![in alloc; 0; count]
+}
+
 impl Log {
     /// The log in this area, whose first byte has the number `base`. For now the log has to be empty:
     /// where its first gate is open it answers `Damaged { at: 0 }`. The caller has synced the area.
@@ -64,22 +78,18 @@ impl Log {
         ensures later { (D.view disk.old).faults ≤ (D.view disk.new).faults }
     {
         let mut gate = [0];
-        if disk.read_at(area, 0, &mut gate).is_err() {
-            return Err(LogFault::Disk);
-        }
+        disk.read_at(area, 0, &mut gate)?;
         if gate[0] == 1 {
             return Err(LogFault::Damaged { at: 0 });
         }
-        match vec![in alloc; 0; FRAME_BYTES] {
-            Ok(frame) => Ok(Log {
-                area,
-                base,
-                gate: base,
-                used: 0,
-                frame,
-            }),
-            Err(_) => Err(LogFault::Memory),
-        }
+        let frame = room(alloc)?;
+        Ok(Log {
+            area,
+            base,
+            gate: base,
+            used: 0,
+            frame,
+        })
     }
 
     /// The number of the log's next byte, with the buffered records counted. Where there are none, it
@@ -94,25 +104,24 @@ impl Log {
         }
     }
 
-    // Where a record of so many bytes would begin.
-    fn place(&self, size: usize) -> Lsn
-        requires { size ≤ GREATEST_BODY }
-        ensures place { result ≡ place_of self.now size }
+    // Where the record would begin.
+    #[tactic(auto, using(crate::proofs::Holding::spelled_most))]
+    fn place(&self, r: &Rec<'_>) -> Lsn
+        requires { IsRecord (shown r.now) }
+        ensures place { result ≡ place_of self.now (shown r.now) }
         ensures low { result ≤ 2 ^ 63 + 2 ^ 17 }
     {
         let behind = self.gate + 5 + self.used as u64;
-        if self.has_room(size) {
-            behind
-        } else {
-            behind + 5
-        }
+        if self.has_room(r) { behind } else { behind + 5 }
     }
 
-    fn has_room(&self, size: usize) -> bool
-        requires { size ≤ GREATEST_BODY }
-        ensures { result ≡ has_room self.now size }
+    // Whether it fits the buffer.
+    #[tactic(auto, using(crate::proofs::Holding::spelled_most))]
+    fn has_room(&self, r: &Rec<'_>) -> bool
+        requires { IsRecord (shown r.now) }
+        ensures { result ≡ has_room self.now (shown r.now) }
     {
-        self.used + size <= 65_536
+        self.used + size(r) <= 65_536
     }
 
     // Puts a record into the buffer.
@@ -120,7 +129,7 @@ impl Log {
         requires room { length self.old.buffer + length (spelled (shown r.now)) ≤ GREATEST_BODY }
         requires within { self.old.gate + 5 + length self.old.buffer + length (spelled (shown r.now)) ≤ LOG_END }
         requires range { IsRecord (shown r.now) }
-        ensures log { self.new ≡ buffered self.old (spelled (shown r.now)) }
+        ensures log { self.new ≡ buffered self.old (shown r.now) }
         ensures lsn { result ≡ self.old.gate + 5 + length self.old.buffer }
     {
         let lsn = self.gate + 5 + self.used as u64;
@@ -138,15 +147,15 @@ impl Log {
     /// changed then. After `Disk` nothing more is known of the log.
     pub fn append<D: Disk>(&mut self, disk: &mut D, r: &Rec<'_>) -> Result<Lsn, LogFault>
         requires { IsRecord (shown r.now) }
-        ensures lsn { IfOk result (λ lsn. lsn ≡ place_of self.old (length (spelled (shown r.now)))) }
-        ensures log { OnOk result (self.new ≡ appended self.old (spelled (shown r.now))) }
-        ensures tail { OnOk result (tail_of self.new ≡ place_of self.old (length (spelled (shown r.now))) + length (spelled (shown r.now))) }
-        ensures full { LOG_END < place_of self.old (length (spelled (shown r.now))) + length (spelled (shown r.now)) → result ≡ Err LogFault.LogEnd }
-        ensures faults { IfErr result (λ e. AppendFails (place_of self.old (length (spelled (shown r.now))) + length (spelled (shown r.now))) (D.view disk.old) (D.view disk.new) e) }
+        ensures lsn { IfOk result (λ lsn. lsn ≡ place_of self.old (shown r.now)) }
+        ensures log { OnOk result (self.new ≡ appended self.old (shown r.now)) }
+        ensures tail { OnOk result (tail_of self.new ≡ end_of self.old (shown r.now)) }
+        ensures full { LOG_END < end_of self.old (shown r.now) → result ≡ Err LogFault.LogEnd }
+        ensures faults { IfErr result (λ e. AppendFails (end_of self.old (shown r.now)) (D.view disk.old) (D.view disk.new) e) }
         ensures unchanged { result ≡ Err LogFault.LogEnd → (self.new ≡ self.old) × (disk.new ≡ disk.old) }
-        ensures no_call { IsTrue (has_room self.old (length (spelled (shown r.now)))) → disk.new ≡ disk.old }
+        ensures no_call { IsTrue (has_room self.old (shown r.now)) → disk.new ≡ disk.old }
         ensures holds { (ds ps : List Record) → IsTrue D.told → Holds (D.view disk.old) self.old ds ps →
-            OnOk result (Holds (D.view disk.new) self.new (durable_after self.old (length (spelled (shown r.now))) ds ps) (waiting_after self.old (length (spelled (shown r.now))) ps (shown r.now))) }
+            OnOk result (Holds (D.view disk.new) self.new (durable_after self.old (shown r.now) ds ps) (waiting_after self.old (shown r.now) ps)) }
         // A crash at any moment of the call leaves the records that were durable, or the buffered ones too.
         ensures any_moment { (ds ps : List Record) → IsTrue D.told → Holds (D.view disk.old) self.old ds ps →
             LeavesOnly (D.view disk.old) (D.view disk.new) (IsBeforeOrAfter (D.view disk.old).now self.old.area self.old.base ds ps) }
@@ -154,12 +163,11 @@ impl Log {
         ensures kept { (D.view disk.old).handed ≤ (D.view disk.new).handed }
         ensures later { (D.view disk.old).faults ≤ (D.view disk.new).faults }
     {
-        let size = size(r);
-        let lsn = self.place(size);
-        if lsn + size as u64 > 1 << 63 {
+        let lsn = self.place(r);
+        if lsn + size(r) as u64 > 1 << 63 {
             return Err(LogFault::LogEnd);
         }
-        if self.has_room(size) {
+        if self.has_room(r) {
             return Ok(self.buffer(r));
         }
         self.force(disk)?;
@@ -191,9 +199,7 @@ impl Log {
         let used = self.used;
         let at = self.gate - self.base;
         seal(&mut self.frame, used);
-        if write_frame(disk, self.area, at, &self.frame[..used + 5]).is_err() {
-            return Err(LogFault::Disk);
-        }
+        write_frame(disk, self.area, at, &self.frame[..used + 5])?;
         self.gate += used as u64 + 5;
         self.used = 0;
         Ok(())
