@@ -1,2 +1,3 @@
 pub mod Stands
 pub mod Store
+pub mod Goes
