@@ -10,7 +10,7 @@ use Rattle.sg_disk.proofs.Moments as moments
 use Rattle.sg_model.specs.declared.reason.Reason.{Reason}
 use Rattle.sg_model.specs.Objects.{Objects, Op, Reply, is_changing, Grows, step}
 use Rattle.sg_model.specs.Objects.Reply.{Done}
-use Rattle.sg_model.specs.History.{Live, State, ops_of, live_objects, committed_objects}
+use Rattle.sg_model.specs.History.{Live, State, ops_of, live_objects, committed_objects, objects_after}
 use Rattle.sg_model.proofs.Laws.{step-reads, step-refused}
 use Rattle.sg_words.specs.Order.{Order, Verb}
 use Rattle.sg_words.specs.Order.Order.{Blank, Syntax, Txn}
@@ -29,8 +29,8 @@ use Rattle.sg_top.specs.Stands.{lines_by, commits_in, committed_lines, replay, a
 use Rattle.sg_top.specs.Store.{Core, IsSerial, AreSerial, AreBelow, AreOwn, IsNotAmong, IsOpen, IsOpenOrNone, Logs, Keeps, Runs, Shows}
 use Rattle.sg_top.specs.Goes.{Goes, NEW_WORK_END, IsWork}
 use Rattle.sg_top.proofs.Replays.{replay-append, lines_by-above, commits_in-above, commits_in-append, commits_in-own, lines_by-append, lines_by-line, below-append, below-weaker, own-append}
-use Rattle.sg_top.proofs.Serial.{serial_began, serial_did, serial_committed, committed_live, without_one}
-use Rattle.sg_top.proofs.Steps.{going_turn, never_said, named_none, named_one, tail-place, appended_place, forced_place, running_shows, stopped_shows, line_said, caused_said, own_after, uncommitted_after, durable_lines, one_after, HoldsAfter, MomentsOf}
+use Rattle.sg_top.proofs.Serial.{serial_began, serial_did, serial_committed, committed_live, without_one, after_commits}
+use Rattle.sg_top.proofs.Steps.{going_turn, never_said, named_none, named_one, tail-place, appended_place, forced_place, running_shows, stopped_shows, line_said, caused_said, own_after, uncommitted_after, durable_lines, one_after, begin-length, HoldsAfter, MomentsOf}
 use Rattle.sg_top.proofs.Standing.{forced_lines, stands_either, of_log, replay_commit, first_same, first_others, first_all, stands}
 
 -- The store isn't stopped
@@ -148,4 +148,243 @@ module _ (told : Bool) (v : disk.View) (k : Core) (x : State) (shows : Shows tol
         moments = λ is_told.
           let h = runs.keeps is_told in
           moments.weaker (call h.durable h.waiting is_told h.holds) (λ c here. first_same x y x.answered c refl refl (omega (arith, runs.answered)) (stands_either x k.live (tail_of k.log) h.durable h.waiting c h.logs (of_log k.log runs.area runs.base here)));
+      }
+
+  -- the turn of a begin where none is live
+  begin_turn : (name : List ℕ) → k.live ≡ None → (n : ℕ) → turn x n (Txn name Begin) ≡ (Said Done, began x n name)
+  begin_turn name none n =
+      let few : (length x.live == 0) ≡ true = ap (λ (ls : List Live). length ls == 0) (none_live none) in
+      going_turn x n name Begin going ∙ (ap (turn_begin x n name) (named_none x name (none_live none)) ∙ ap (λ b. cond b (Said Done, began x n name) (TooManyLive, x)) few)
+
+  -- a transaction begins
+  pub begun : (name : List ℕ) (n previous : ℕ) (w : disk.View) (new : Tail) → k.live ≡ None → tail_of k.log ≤ NEW_WORK_END → n ≡ place_of k.log (BeginRecord n previous)
+      → new ≡ appended k.log (BeginRecord n previous) → tail_of new ≡ end_of k.log (BeginRecord n previous)
+      → HoldsAfter told v w k.log new (BeginRecord n previous) → MomentsOf told v w k.log
+      → Goes told v k x (Txn name Begin) (Said Done) w (record k { live = Some (record { name = name; transaction = n }); log = new })
+  begun name n previous w new none low place is_new tail holds call =
+      let y : State = began x n name in
+      let r : Record = BeginRecord n previous in
+      let l : Live = record { name = name; transaction = n } in
+      let m : Core = record k { live = Some l; log = new } in
+      let at : tail_of k.log ≤ n = omega (arith, tail-place k.log r, place) in
+      let rises : n + 21 ≤ tail_of new = omega (arith, tail, place, begin-length n previous) in
+      let settled : live_objects x ≡ committed_objects x = subst (AreSerial x) (none_live none) runs.serial.live in
+      let after : Shows told w m y = running_shows told w m y running going (record {
+        serial = serial_began x n name runs.serial (none_live none) (omega (arith, runs.next, at));
+        objects = runs.objects;
+        live = ap (λ (ls : List Live). ls ++ l ∷ []) (none_live none);
+        next = omega (arith, rises);
+        answered = runs.answered;
+        area = ap (λ (z : Tail). z.area) is_new ∙ ((appended_place k.log r).0 ∙ runs.area);
+        base = ap (λ (z : Tail). z.base) is_new ∙ ((appended_place k.log r).1 ∙ runs.base);
+        keeps = λ is_told.
+          let h = runs.keeps is_told in
+          let empty_buffer : h.waiting ≡ [] = subst (IsOpenOrNone x h.durable h.waiting) none h.logs.open_one in
+          let all = all_appended k.log r h.durable h.waiting in
+          let one = one_after (has_room k.log r) h.waiting r empty_buffer in
+          let was_below : AreBelow (tail_of k.log) (h.durable ++ h.waiting) = h.logs.below in
+          let no_lines : lines_by n ((h.durable ++ h.waiting) ++ r ∷ []) ≡ [] = lines_by-append n (h.durable ++ h.waiting) (r ∷ []) ∙ (append-nil (lines_by n (h.durable ++ h.waiting)) ∙ lines_by-above n (tail_of k.log) (h.durable ++ h.waiting) was_below at) in
+          let before : IsNotAmong n (commits_in h.durable) = subst (λ (rs : List Record). IsNotAmong n (commits_in rs)) (ap (λ (rs : List Record). h.durable ++ rs) empty_buffer ∙ append-nil h.durable) (commits_in-above n (tail_of k.log) (h.durable ++ h.waiting) was_below at) in
+          record {
+            durable = durable_after k.log r h.durable h.waiting;
+            waiting = waiting_after k.log r h.waiting;
+            holds = holds h.durable h.waiting is_told h.holds;
+            logs = record {
+              durable = ap (λ (ls : List (List ℕ)). replay ls (Some empty)) (durable_lines (has_room k.log r) h.durable h.waiting (forced_lines x h.durable h.waiting k.live h.logs.open_one)) ∙ h.logs.durable;
+              below = subst (AreBelow (tail_of new)) (sym all) (below-append (tail_of new) (h.durable ++ h.waiting) (r ∷ []) (below-weaker (tail_of k.log) (tail_of new) (h.durable ++ h.waiting) (omega (arith, at, rises)) was_below) (omega (arith, rises), tt));
+              open_one = record {
+                own = subst (AreOwn n) (sym one) (refl, tt);
+                uncommitted = uncommitted_after (has_room k.log r) n h.durable h.waiting (subst (AreOwn n) (sym empty_buffer) tt) before;
+                lines = ap (λ (rs : List Record). replay (lines_by n rs) (Some (committed_objects x))) all ∙ (ap (λ (ls : List (List ℕ)). replay ls (Some (committed_objects x))) no_lines ∙ ap Some (sym settled));
+              };
+            };
+          };
+      }) in
+      record {
+        after = y;
+        line = record { number = n; above = omega (arith, runs.next, at); turned = begin_turn name none n };
+        caused = tt;
+        full = λ high work said. absurd (omega arith);
+        shows = after;
+        moments = λ is_told.
+          let h = runs.keeps is_told in
+          moments.weaker (call h.durable h.waiting is_told h.holds) (λ c here. first_same x y x.answered c refl refl (omega (arith, runs.answered)) (stands_either x k.live (tail_of k.log) h.durable h.waiting c h.logs (of_log k.log runs.area runs.base here)));
+      }
+
+  -- the turn of a commit
+  commit_turn : (name : List ℕ) (l : Live) → k.live ≡ Some l → l.name ≡ name → (n : ℕ) → turn x n (Txn name Commit) ≡ (Said Done, committed x l.transaction)
+  commit_turn name l one is n = going_turn x n name Commit going ∙ ap (turn_commit x) (named_one x l name (one_live l one) is)
+
+  -- the live transaction is committed: its commit record was appended, and then the log was forced
+  pub commits : (name : List ℕ) (l : Live) (w1 w : disk.View) (mid new : Tail) (previous : ℕ) → k.live ≡ Some l → l.name ≡ name
+      → mid ≡ appended k.log (CommitRecord l.transaction previous) → tail_of mid ≡ end_of k.log (CommitRecord l.transaction previous) → new ≡ forced mid → tail_of mid ≤ tail_of new
+      → HoldsAfter told v w1 k.log mid (CommitRecord l.transaction previous) → MomentsOf told v w1 k.log
+      → ((ds ps : List Record) → IsTrue told → Holds w1 mid ds ps → Holds w new (ds ++ ps) []) → MomentsOf told w1 w mid
+      → Goes told v k x (Txn name Commit) (Said Done) w (record k { live = None; log = new })
+  commits name l w1 w mid new previous one is is_mid tail is_new grows holds1 call1 holds2 call2 =
+      let t : ℕ = l.transaction in
+      let y : State = committed x t in
+      let r : Record = CommitRecord t previous in
+      let m : Core = record k { live = None; log = new } in
+      let rises : tail_of k.log ≤ tail_of mid = omega (arith, tail-place k.log r, tail) in
+      let numbered : t < x.next = (subst (AreSerial x) (one_live l one) runs.serial.live).1 in
+      let objects : committed_objects y ≡ live_objects x = committed_live x l runs.serial (one_live l one) in
+      let mid_area : mid.area ≡ Log0 = ap (λ (z : Tail). z.area) is_mid ∙ ((appended_place k.log r).0 ∙ runs.area) in
+      let mid_base : mid.base ≡ 0 = ap (λ (z : Tail). z.base) is_mid ∙ ((appended_place k.log r).1 ∙ runs.base) in
+      let more : length y.commits ≡ length x.commits + 1 = length-append x.commits (ops_of t x.history ∷ []) in
+      let kept : (is_told : IsTrue told) → Keeps w m y = λ is_told.
+          let h = runs.keeps is_told in
+          let all = all_appended k.log r h.durable h.waiting in
+          let ds1 : List Record = durable_after k.log r h.durable h.waiting in
+          let ps1 : List Record = waiting_after k.log r h.waiting in
+          record {
+            durable = ds1 ++ ps1;
+            waiting = [];
+            holds = holds2 ds1 ps1 is_told (holds1 h.durable h.waiting is_told h.holds);
+            logs = record {
+              durable = ap (λ (rs : List Record). replay (committed_lines rs) (Some empty)) all ∙ (replay_commit x l (tail_of k.log) previous h.durable h.waiting (subst (λ (o : Option Live). Logs x o (tail_of k.log) h.durable h.waiting) one h.logs) ∙ ap Some (sym objects));
+              below = subst (AreBelow (tail_of new)) (sym (append-nil (ds1 ++ ps1) ∙ all)) (below-append (tail_of new) (h.durable ++ h.waiting) (r ∷ []) (below-weaker (tail_of k.log) (tail_of new) (h.durable ++ h.waiting) (omega (arith, rises, grows)) h.logs.below) (omega (arith, numbered, runs.next, rises, grows), tt));
+              open_one = refl;
+            };
+          } in
+      let after : Shows told w m y = running_shows told w m y running going (record {
+        serial = serial_committed x l runs.serial (one_live l one);
+        objects = runs.objects;
+        live = ap (without t) (one_live l one) ∙ without_one l;
+        next = omega (arith, runs.next, rises, grows);
+        answered = sym more;
+        area = ap (λ (z : Tail). z.area) is_new ∙ ((forced_place mid).0 ∙ mid_area);
+        base = ap (λ (z : Tail). z.base) is_new ∙ ((forced_place mid).1 ∙ mid_base);
+        keeps = kept;
+      }) in
+      record {
+        after = y;
+        line = record { number = x.next; above = omega arith; turned = commit_turn name l one is x.next };
+        caused = tt;
+        full = λ high work said. absurd work;
+        shows = after;
+        moments = λ is_told.
+          let h = runs.keeps is_told in
+          let ds1 : List Record = durable_after k.log r h.durable h.waiting in
+          let ps1 : List Record = waiting_after k.log r h.waiting in
+          moments.joined
+          (moments.weaker (call1 h.durable h.waiting is_told h.holds) (λ c here. first_others x y (ops_of t x.history) x.answered c refl refl (omega (arith, runs.answered)) (stands_either x k.live (tail_of k.log) h.durable h.waiting c h.logs (of_log k.log runs.area runs.base here))))
+          (moments.weaker (call2 ds1 ps1 is_told (holds1 h.durable h.waiting is_told h.holds)) (λ c here. commit_moment l previous one h.durable h.waiting c h.logs (of_log mid mid_area mid_base here)));
+      }
+    where
+      commit_image : (l : Live) (previous : ℕ) → k.live ≡ Some l → (ds ps : List Record) (c : disk.Image) → Logs x k.live (tail_of k.log) ds ps
+          → HasRecords (c Log0) 0 ((ds ++ ps) ++ CommitRecord l.transaction previous ∷ []) → StandsForFirst x.answered (committed x l.transaction) c
+      commit_image l previous one ds ps c logs has =
+          let y : State = committed x l.transaction in
+          first_all y x.answered c (omega (arith, runs.answered, length-append x.commits (ops_of l.transaction x.history ∷ []))) (stands c (committed_objects y) ((ds ++ ps) ++ CommitRecord l.transaction previous ∷ []) has
+            (replay_commit x l (tail_of k.log) previous ds ps (subst (λ (o : Option Live). Logs x o (tail_of k.log) ds ps) one logs) ∙ ap Some (sym (committed_live x l runs.serial (one_live l one)))))
+
+      commit_moment : (l : Live) (previous : ℕ) → k.live ≡ Some l → (ds ps : List Record) (c : disk.Image) → Logs x k.live (tail_of k.log) ds ps
+          → HasRecords (c Log0) 0 (durable_after k.log (CommitRecord l.transaction previous) ds ps) ⊎ HasRecords (c Log0) 0 (durable_after k.log (CommitRecord l.transaction previous) ds ps ++ waiting_after k.log (CommitRecord l.transaction previous) ps)
+          → StandsForFirst x.answered (committed x l.transaction) c
+      commit_moment l previous one ds ps c logs (inl before) =
+          first_others x (committed x l.transaction) (ops_of l.transaction x.history) x.answered c refl refl (omega (arith, runs.answered)) (stands_either x k.live (tail_of k.log) ds ps c logs
+            (elim (durable_either k.log (CommitRecord l.transaction previous) ds ps) [ inl e ↦ inl (subst (HasRecords (c Log0) 0) e before) | inr e ↦ inr (subst (HasRecords (c Log0) 0) e before) ]))
+      commit_moment l previous one ds ps c logs (inr after) =
+          commit_image l previous one ds ps c logs (subst (HasRecords (c Log0) 0) (all_appended k.log (CommitRecord l.transaction previous) ds ps) after)
+
+  -- what the images of a call on the log stand for, as a prefix of the commits as they were
+  still : (w : disk.View) → MomentsOf told v w k.log → IsTrue told → disk.LeavesOnly v w (StandsForFirst x.answered (stop x))
+  still w call is_told =
+      let h = runs.keeps is_told in
+      moments.weaker (call h.durable h.waiting is_told h.holds) (λ c here. first_same x (stop x) x.answered c refl refl (omega (arith, runs.answered)) (stands_either x k.live (tail_of k.log) h.durable h.waiting c h.logs (of_log k.log runs.area runs.base here)))
+
+  -- the disk has failed in an order that is no commit
+  breaks : (order : Order) (w : disk.View) (m : Core) → m.stopped ≡ true → broken x order ≡ stop x → IsLogged order → WouldReply x order → HasRisen v.faults w.faults
+      → (NEW_WORK_END < tail_of k.log → IsWork order → ⊥) → MomentsOf told v w k.log → Goes told v k x order Disk w m
+  breaks order w m halted is logged said risen low call = record {
+    after = stop x;
+    line = record { after = sym is; logged = logged; said = said };
+    caused = risen;
+    full = λ high work would. absurd (low high work);
+    shows = stopped_shows told w m (stop x) halted refl (omega (arith, runs.answered)) (omega (arith, runs.answered)) (λ is_told c leaves. (still w call is_told).each c (inl leaves));
+    moments = still w call;
+  }
+
+  pub begin_breaks : (name : List ℕ) (w : disk.View) (m : Core) → m.stopped ≡ true → k.live ≡ None → tail_of k.log ≤ NEW_WORK_END → HasRisen v.faults w.faults → MomentsOf told v w k.log → Goes told v k x (Txn name Begin) Disk w m
+  begin_breaks name w m halted none low risen call = breaks (Txn name Begin) w m halted refl tt (subst IsSaid (sym (ap (λ (p : Answer × State). p.0) (begin_turn name none x.next))) tt) risen (λ high work. absurd (omega arith)) call
+
+  pub op_breaks : (name : List ℕ) (op : Op) (l : Live) (w : disk.View) (m : Core) → m.stopped ≡ true → k.live ≡ Some l → l.name ≡ name → is_changing op ≡ true → IsSaid (answer_of (step k.objects op).0) → tail_of k.log ≤ NEW_WORK_END
+      → HasRisen v.faults w.faults → MomentsOf told v w k.log → Goes told v k x (Txn name (Do op)) Disk w m
+  op_breaks name op l w m halted one is changing said low risen call =
+      breaks (Txn name (Do op)) w m halted refl changing (subst IsSaid (sym (ap (λ (p : Answer × State). p.0) (op_turn name op l one is x.next))) said) risen (λ high work. absurd (omega arith)) call
+
+  -- a commit that ends the store's work
+  stopped_commit : (name : List ℕ) (l : Live) → k.live ≡ Some l → l.name ≡ name → stop_at x (live_named x.live name) ≡ stop_at_commit x l.transaction
+  stopped_commit name l one is = ap (stop_at x) (named_one x l name (one_live l one) is)
+
+  would_commit : (name : List ℕ) (l : Live) → k.live ≡ Some l → l.name ≡ name → WouldReply x (Txn name Commit)
+  would_commit name l one is = subst IsSaid (sym (ap (λ (p : Answer × State). p.0) (commit_turn name l one is x.next))) tt
+
+  commit_stops : (w : disk.View) (m : Core) (t : ℕ) → m.stopped ≡ true → (IsTrue told → (c : disk.Image) → disk.Leaves w.now c → StandsForFirst x.answered (stop_at_commit x t) c) → Shows told w m (stop_at_commit x t)
+  commit_stops w m t halted images =
+      let more = length-append x.commits (ops_of t x.history ∷ []) in
+      stopped_shows told w m (stop_at_commit x t) halted refl (omega (arith, runs.answered, more)) (omega (arith, runs.answered, more)) images
+
+  -- the commits as they were, before one that wasn't answered
+  pub commit_before : (t : ℕ) (w : disk.View) → MomentsOf told v w k.log → IsTrue told → disk.LeavesOnly v w (StandsForFirst x.answered (stop_at_commit x t))
+  commit_before t w call is_told =
+      let h = runs.keeps is_told in
+      moments.weaker (call h.durable h.waiting is_told h.holds) (λ c here. first_others x (stop_at_commit x t) (ops_of t x.history) x.answered c refl refl (omega (arith, runs.answered)) (stands_either x k.live (tail_of k.log) h.durable h.waiting c h.logs (of_log k.log runs.area runs.base here)))
+
+  commit_fails : (name : List ℕ) (l : Live) (w : disk.View) (m : Core) → k.live ≡ Some l → l.name ≡ name → m.stopped ≡ true → HasRisen v.faults w.faults
+      → (IsTrue told → disk.LeavesOnly v w (StandsForFirst x.answered (stop_at_commit x l.transaction))) → Goes told v k x (Txn name Commit) Disk w m
+  commit_fails name l w m one is halted risen call = record {
+    after = stop_at_commit x l.transaction;
+    line = record { after = sym (stopped_commit name l one is); logged = tt; said = would_commit name l one is };
+    caused = risen;
+    full = λ high work would. absurd work;
+    shows = commit_stops w m l.transaction halted (λ is_told c leaves. (call is_told).each c (inl leaves));
+    moments = call;
+  }
+
+  -- the disk has failed as a commit's record was appended
+  pub commit_breaks : (name : List ℕ) (l : Live) (w : disk.View) (m : Core) → k.live ≡ Some l → l.name ≡ name → m.stopped ≡ true → HasRisen v.faults w.faults → MomentsOf told v w k.log → Goes told v k x (Txn name Commit) Disk w m
+  commit_breaks name l w m one is halted risen call = commit_fails name l w m one is halted risen (commit_before l.transaction w call)
+
+  -- the disk has failed as it was forced
+  pub force_breaks : (name : List ℕ) (l : Live) (w1 w : disk.View) (mid : Tail) (m : Core) (previous : ℕ) → k.live ≡ Some l → l.name ≡ name → m.stopped ≡ true → HasRisen v.faults w.faults
+      → mid ≡ appended k.log (CommitRecord l.transaction previous) → HoldsAfter told v w1 k.log mid (CommitRecord l.transaction previous) → MomentsOf told v w1 k.log → MomentsOf told w1 w mid
+      → Goes told v k x (Txn name Commit) Disk w m
+  force_breaks name l w1 w mid m previous one is halted risen is_mid holds1 call1 call2 =
+      let r : Record = CommitRecord l.transaction previous in
+      let mid_area : mid.area ≡ Log0 = ap (λ (z : Tail). z.area) is_mid ∙ ((appended_place k.log r).0 ∙ runs.area) in
+      let mid_base : mid.base ≡ 0 = ap (λ (z : Tail). z.base) is_mid ∙ ((appended_place k.log r).1 ∙ runs.base) in
+      commit_fails name l w m one is halted risen (λ is_told.
+        let h = runs.keeps is_told in
+        moments.joined (commit_before l.transaction w1 call1 is_told)
+        (moments.weaker (call2 (durable_after k.log r h.durable h.waiting) (waiting_after k.log r h.waiting) is_told (holds1 h.durable h.waiting is_told h.holds)) (λ c here. forced_moment h.durable h.waiting c h.logs (of_log mid mid_area mid_base here))))
+    where
+      forced_moment : (ds ps : List Record) (c : disk.Image) → Logs x k.live (tail_of k.log) ds ps
+          → HasRecords (c Log0) 0 (durable_after k.log (CommitRecord l.transaction previous) ds ps) ⊎ HasRecords (c Log0) 0 (durable_after k.log (CommitRecord l.transaction previous) ds ps ++ waiting_after k.log (CommitRecord l.transaction previous) ps)
+          → StandsForFirst x.answered (stop_at_commit x l.transaction) c
+      forced_moment ds ps c logs (inl before) =
+          first_others x (stop_at_commit x l.transaction) (ops_of l.transaction x.history) x.answered c refl refl (omega (arith, runs.answered)) (stands_either x k.live (tail_of k.log) ds ps c logs
+            (elim (durable_either k.log (CommitRecord l.transaction previous) ds ps) [ inl e ↦ inl (subst (HasRecords (c Log0) 0) e before) | inr e ↦ inr (subst (HasRecords (c Log0) 0) e before) ]))
+      forced_moment ds ps c logs (inr after) =
+          let y : State = stop_at_commit x l.transaction in
+          first_all y x.answered c (omega (arith, runs.answered, length-append x.commits (ops_of l.transaction x.history ∷ []))) (stands c (committed_objects y) ((ds ++ ps) ++ CommitRecord l.transaction previous ∷ []) (subst (HasRecords (c Log0) 0) (all_appended k.log (CommitRecord l.transaction previous) ds ps) after)
+            (replay_commit x l (tail_of k.log) previous ds ps (subst (λ (o : Option Live). Logs x o (tail_of k.log) ds ps) one logs) ∙ ap Some (sym (committed_live x l runs.serial (one_live l one)))))
+
+  -- the log has no room for a commit
+  pub commit_end : (name : List ℕ) (l : Live) (m : Core) → k.live ≡ Some l → l.name ≡ name → m.stopped ≡ true → NEW_WORK_END < tail_of k.log → Goes told v k x (Txn name Commit) LogEnd v m
+  commit_end name l m one is halted high =
+      let t : ℕ = l.transaction in
+      let y : State = stop_at_commit x t in
+      let images : IsTrue told → (c : disk.Image) → disk.Leaves v.now c → StandsForFirst x.answered y c = λ is_told c leaves.
+          let h = shows.images is_told c leaves in
+          let all : h.commits ≡ length x.commits = omega (arith, h.enough, h.most, runs.answered) in
+          first_others x y (ops_of t x.history) x.answered c refl refl (omega (arith, runs.answered)) (subst (StandsFor c) (ap (λ n. objects_after n x) all ∙ after_commits x) h.stands) in
+      record {
+        after = y;
+        line = record { after = sym (stopped_commit name l one is); logged = tt; said = would_commit name l one is };
+        caused = high;
+        full = λ above work would. refl;
+        shows = commit_stops v m t halted images;
+        moments = λ is_told. moments.started v (StandsForFirst x.answered y) (images is_told);
       }

@@ -239,3 +239,12 @@ HoldsAfter told v w log new r = (ds ps : List Record) → IsTrue told → Holds 
 
 abbrev pub MomentsOf : Bool → disk.View → disk.View → Tail → Type 0
 MomentsOf told v w log = (ds ps : List Record) → IsTrue told → Holds v log ds ps → disk.LeavesOnly v w (IsBeforeOrAfter v.now log.area log.base ds ps)
+
+-- a begin's record is a header
+pub begin-length : (transaction previous : ℕ) → length (spelled (BeginRecord transaction previous)) ≡ 21
+unfolding spelled
+begin-length transaction previous = refl
+
+pub commit-length : (transaction previous : ℕ) → length (spelled (CommitRecord transaction previous)) ≡ 21
+unfolding spelled
+commit-length transaction previous = refl
