@@ -1,5 +1,5 @@
 -- The run of transactions, as lists of operations.
-use Rattle.std.specs.Prelude.{ℕ, ◌==◌, List, [], ◌∷◌, map, filter}
+use Rattle.std.specs.Prelude.{ℕ, Bool, false, ◌==◌, List, [], ◌∷◌, map, filter, take}
 use Rattle.std.specs.List.{flat_map}
 use Rattle.sg_model.specs.Objects.{Objects, Op, step}
 
@@ -14,18 +14,20 @@ pub record Live : Type 0 where
   pub transaction : ℕ
 
 -- What has happened since a run began with its first objects: the operations that got a reply or a reason,
--- the committed transactions in order, the live ones in order of begin, and how many have begun,
--- which is the next one's number
+-- the committed transactions in order and how many of these were answered, the live ones in order of begin,
+-- a number above those of all transactions so far, and whether the store has stopped
 pub record State : Type 0 where
   pub first : Objects
   pub history : List Entry
   pub commits : List (List Op)
+  pub answered : ℕ
   pub live : List Live
-  pub begun : ℕ
+  pub next : ℕ
+  pub stopped : Bool
 
 -- a run that begins with these objects
 abbrev pub start : Objects → State
-start first = record { first = first; history = []; commits = []; live = []; begun = 0 }
+start first = record { first = first; history = []; commits = []; answered = 0; live = []; next = 0; stopped = false }
 
 -- the objects after these operations, one after another
 abbrev pub after_all : Objects → List Op → Objects
@@ -40,6 +42,14 @@ ops_of transaction history = map (λ e. e.op) (filter (λ e. e.transaction == tr
 abbrev pub live_objects : State → Objects
 live_objects x = after_all x.first (map (λ e. e.op) x.history)
 
--- the objects after the committed transactions alone, one whole transaction after another
+-- the operations of some transactions, one whole transaction after another
+abbrev pub in_order : List (List Op) → List Op
+in_order commits = flat_map (λ ops. ops) commits
+
+-- the objects after the first so many committed transactions alone, one after another
+abbrev pub objects_after : ℕ → State → Objects
+objects_after n x = after_all x.first (in_order (take n x.commits))
+
+-- the objects after all committed transactions
 abbrev pub committed_objects : State → Objects
-committed_objects x = after_all x.first (flat_map (λ ops. ops) x.commits)
+committed_objects x = after_all x.first (in_order x.commits)

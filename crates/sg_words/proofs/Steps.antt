@@ -1,4 +1,4 @@
--- What is shown goes on with each order, and lines follow one another.
+-- Lines follow one another.
 use Rattle.std.proofs.Common.{◌≡◌, ℕ, ◌+◌, ◌≤◌, ◌==◌, Bool, true, false, cond, List, [], ◌∷◌, ◌++◌, length, map, take, Option, Some, None, Bor, IfNone, IfSome, refl, sym, ap, ◌∙◌, subst, append_assoc, append-nil, arith, length-append}
 use Rattle.std.proofs.Math.Seq.{take-append-add}
 use Rattle.sg_base.specs.Ends.{Takes, TakesFront}
@@ -11,9 +11,8 @@ use Rattle.sg_words.specs.Order.Verb.{Begin, Commit, Do}
 use Rattle.sg_words.specs.Parse.{order_of, lines_of}
 use Rattle.sg_words.specs.Pieces.{behind}
 use Rattle.sg_words.specs.Text.{Answer, text_of, text_of_all}
-use Rattle.sg_words.specs.Text.Answer.{Silent, BadSyntax, NoTransaction, IsLive, TooManyLive, Memory, Said, Refused}
-use Rattle.sg_words.specs.Run.{turn, turn_begin, turn_commit, turn_op, live_named, answer_of, began, did, IsSaid, RunsOut, LineBy, Line, Lines}
-use Rattle.sg_words.specs.View.{View, shown_of, Shows, view_turn, view_begin, view_commit, view_op, ViewRunsOut, Answers}
+use Rattle.sg_words.specs.Text.Answer.{Silent, BadSyntax, NoTransaction, IsLive, TooManyLive, Memory, Stopped, LogEnd, Disk, Said, Refused}
+use Rattle.sg_words.specs.Run.{did, Line, Lines, IsCaused, AreCaused}
 use Rattle.sg_words.proofs.Seams.{behind_behind}
 
 pub after_all-more : (s : Objects) (ops : List Op) (op : Op) → after_all s (ops ++ op ∷ []) ≡ (step (after_all s ops) op).1
@@ -27,60 +26,6 @@ ops-more (d ∷ h) e = ap (λ (ops : List Op). d.op ∷ ops) (ops-more h e)
 -- the objects after one more operation of a transaction
 pub live_objects-did : (x : State) (transaction : ℕ) (op : Op) → live_objects (did x transaction op) ≡ (step (live_objects x) op).1
 live_objects-did x transaction op = ap (after_all x.first) (ops-more x.history record { transaction = transaction; op = op }) ∙ after_all-more x.first (map (λ e. e.op) x.history) op
-
--- an answer, and what is seen of the state after it
-abbrev pub on_shown : Answer × State → Answer × View
-on_shown p = (p.0, shown_of p.1)
-
-chosen : (b : Bool) (p q : Answer × State) → cond b (on_shown p) (on_shown q) ≡ on_shown (cond b p q)
-chosen true p q = refl
-chosen false p q = refl
-
-follow_begin : (x : State) (name : List ℕ) (l : Option Live) → view_begin (shown_of x) name l ≡ on_shown (turn_begin x name l)
-follow_begin x name None = chosen (length x.live == 0) (Said Done, began x name) (TooManyLive, x)
-follow_begin x name (Some live) = refl
-
-follow_commit : (x : State) (l : Option Live) → view_commit (shown_of x) l ≡ on_shown (turn_commit x l)
-follow_commit x None = refl
-follow_commit x (Some live) = refl
-
-follow_op : (x : State) (op : Op) (l : Option Live) → view_op (shown_of x) op l ≡ on_shown (turn_op x op l)
-follow_op x op None = refl
-follow_op x op (Some live) =
-    let P : Objects → Answer × View = λ m. (answer_of (step (live_objects x) op).0, record { objects = m; live = x.live; begun = x.begun }) in
-    ap P (sym (live_objects-did x live.transaction op))
-
--- one order on what is shown is what is shown of the order
-pub follow : (x : State) (o : Order) → view_turn (shown_of x) o ≡ on_shown (turn x o)
-follow x Blank = refl
-follow x Syntax = refl
-follow x (Txn name Begin) = follow_begin x name (live_named x.live name)
-follow x (Txn name Commit) = follow_commit x (live_named x.live name)
-follow x (Txn name (Do op)) = follow_op x op (live_named x.live name)
-
--- where what is shown turns, so does the state
-turned : (x : State) (o : Order) (a : Answer) (w : View) → view_turn (shown_of x) o ≡ (a, w) → (y : State) × (turn x o ≡ (a, y)) × Shows w y
-turned x o a w h =
-    let e : on_shown (turn x o) ≡ (a, w) = sym (follow x o) ∙ h in
-    let P : Answer → Answer × State = λ z. (z, (turn x o).1) in
-    ((turn x o).1, ap P (ap (λ (p : Answer × View). p.0) e), sym (ap (λ (p : Answer × View). p.1) e))
-
-ran_out : (x : State) (o : Order) (w : View) → ViewRunsOut (shown_of x) o w → (y : State) × RunsOut x o y × Shows w y
-ran_out x o w h = (x, record { same = refl; growing = h.growing; said = subst IsSaid (ap (λ (p : Answer × View). p.0) (follow x o)) h.said }, h.same)
-
-by_answer : (x : State) (o : Order) (a : Answer) (w : View) → Answers (shown_of x) o a w → (y : State) × LineBy x o a y × Shows w y
-by_answer x o Memory w h = ran_out x o w h
-by_answer x o Silent w h = turned x o Silent w h
-by_answer x o BadSyntax w h = turned x o BadSyntax w h
-by_answer x o NoTransaction w h = turned x o NoTransaction w h
-by_answer x o IsLive w h = turned x o IsLive w h
-by_answer x o TooManyLive w h = turned x o TooManyLive w h
-by_answer x o (Said reply) w h = turned x o (Said reply) w h
-by_answer x o (Refused reason) w h = turned x o (Refused reason) w h
-
--- where a store that shows x answers, so does x, and the store goes on showing it
-pub simulate : (v : View) (x : State) (text : List ℕ) (o : Order) (a : Answer) (w : View) → Shows v x → o ≡ order_of text → Answers v o a w → (y : State) × Line x text a y × Shows w y
-simulate v x text o a w s e h = by_answer x (order_of text) a w (subst (λ (u : View). Answers u (order_of text) a w) s (subst (λ (p : Order). Answers v p a w) e h))
 
 -- lines follow one another
 pub Lines-more : (x : State) (lines : List (List ℕ)) (answers : List Answer) (y : State) (line : List ℕ) (answer : Answer) (z : State) → Lines x lines answers y → Line y line answer z → Lines x (lines ++ line ∷ []) (answers ++ answer ∷ []) z
@@ -134,3 +79,25 @@ seam done pending part line cleared next rest all nothing is_cleared is_line cut
 pub kept : (done : List (List ℕ)) (pending part new : List ℕ) (next rest all : List (List ℕ)) → new ≡ pending ++ part → rest ≡ behind part next → done ++ behind pending rest ≡ all → done ++ behind new next ≡ all
 kept done pending part new next rest all is_new cut h =
     ap (λ (t : List ℕ). done ++ behind t next) is_new ∙ (ap (λ (ls : List (List ℕ)). done ++ ls) (sym (behind_behind pending part next)) ∙ (ap (λ (r : List (List ℕ)). done ++ behind pending r) (sym cut) ∙ h))
+
+-- a cause goes on, where what it says goes on
+pub caused-weaker : (R F S G : Type 0) (answer : Answer) → (R → S) → (F → G) → IsCaused R F answer → IsCaused S G answer
+caused-weaker R F S G Disk r f h = r h
+caused-weaker R F S G LogEnd r f h = f h
+caused-weaker R F S G Silent r f h = tt
+caused-weaker R F S G BadSyntax r f h = tt
+caused-weaker R F S G NoTransaction r f h = tt
+caused-weaker R F S G IsLive r f h = tt
+caused-weaker R F S G TooManyLive r f h = tt
+caused-weaker R F S G Memory r f h = tt
+caused-weaker R F S G Stopped r f h = tt
+caused-weaker R F S G (Said reply) r f h = tt
+caused-weaker R F S G (Refused reason) r f h = tt
+
+pub all_caused-weaker : (R F S G : Type 0) (answers : List Answer) → (R → S) → (F → G) → AreCaused R F answers → AreCaused S G answers
+all_caused-weaker R F S G [] r f h = tt
+all_caused-weaker R F S G (a ∷ answers) r f h = (caused-weaker R F S G a r f h.0, all_caused-weaker R F S G answers r f h.1)
+
+pub all_caused-more : (R F : Type 0) (answers : List Answer) (answer : Answer) → AreCaused R F answers → IsCaused R F answer → AreCaused R F (answers ++ answer ∷ [])
+all_caused-more R F [] answer h k = (k, tt)
+all_caused-more R F (a ∷ answers) answer h k = (h.0, all_caused-more R F answers answer h.1 k)

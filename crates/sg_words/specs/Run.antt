@@ -1,16 +1,16 @@
--- The run of a script, over the history of its operations.
-use Rattle.std.specs.Prelude.{◌≡◌, ℕ, ◌+◌, not, ◌==◌, if◌then◌else◌, List, [], ◌∷◌, ◌++◌, length, filter, find, Option, Some, None, Result, Ok, Err}
+-- The run of a script: what each line may be answered, and what has happened after it.
+use Rattle.std.specs.Prelude.{◌≡◌, ℕ, ◌+◌, ◌≤◌, Bool, true, false, IsTrue, not, ◌==◌, if◌then◌else◌, List, [], ◌∷◌, ◌++◌, length, filter, find, Option, Some, None, Result, Ok, Err}
 use Rattle.std.specs.Str.{bytes_eq}
 use Rattle.sg_model.specs.declared.reason.Reason.{Reason}
-use Rattle.sg_model.specs.Objects.{Op, Reply, Grows, step}
+use Rattle.sg_model.specs.Objects.{Op, Reply, Grows, is_changing, step}
 use Rattle.sg_model.specs.Objects.Reply.{Done}
-use Rattle.sg_model.specs.History.{Live, State, ops_of, live_objects}
-use Rattle.sg_words.specs.Order.{Order}
+use Rattle.sg_model.specs.History.{Entry, Live, State, ops_of, live_objects}
+use Rattle.sg_words.specs.Order.{Order, Verb}
 use Rattle.sg_words.specs.Order.Order.{Blank, Syntax, Txn}
 use Rattle.sg_words.specs.Order.Verb.{Begin, Commit, Do}
 use Rattle.sg_words.specs.Parse.{order_of}
 use Rattle.sg_words.specs.Text.{Answer}
-use Rattle.sg_words.specs.Text.Answer.{Silent, BadSyntax, NoTransaction, IsLive, TooManyLive, Memory, Said, Refused}
+use Rattle.sg_words.specs.Text.Answer.{Silent, BadSyntax, NoTransaction, IsLive, TooManyLive, Memory, Stopped, LogEnd, Disk, Said, Refused}
 
 -- the live transaction with this name
 abbrev pub live_named : List Live → List ℕ → Option Live
@@ -24,21 +24,29 @@ abbrev pub answer_of : Result Reply Reason → Answer
 answer_of (Ok reply) = Said reply
 answer_of (Err reason) = Refused reason
 
--- a transaction of this name has begun
-abbrev pub began : State → List ℕ → State
-began x name = record { first = x.first; history = x.history; commits = x.commits; live = x.live ++ (record { name = name; transaction = x.begun }) ∷ []; begun = x.begun + 1 }
+-- a transaction of this name and number has begun
+abbrev pub began : State → ℕ → List ℕ → State
+began x number name = record x { live = x.live ++ (record { name = name; transaction = number }) ∷ []; next = number + 1 }
 
--- a transaction has committed: its operations are the last of the commits
+-- a transaction has committed, and its commit was answered
 abbrev pub committed : State → ℕ → State
-committed x transaction = record { first = x.first; history = x.history; commits = x.commits ++ ops_of transaction x.history ∷ []; live = without transaction x.live; begun = x.begun }
+committed x transaction = record x { commits = x.commits ++ ops_of transaction x.history ∷ []; answered = length x.commits + 1; live = without transaction x.live }
 
 -- a transaction has done an operation
 abbrev pub did : State → ℕ → Op → State
-did x transaction op = record { first = x.first; history = x.history ++ (record { transaction = transaction; op = op }) ∷ []; commits = x.commits; live = x.live; begun = x.begun }
+did x transaction op = record x { history = x.history ++ (record { transaction = transaction; op = op }) ∷ [] }
 
-abbrev pub turn_begin : State → List ℕ → Option Live → Answer × State
-turn_begin x name (Some live) = (IsLive, x)
-turn_begin x name None = if length x.live == 0 then (Said Done, began x name) else (TooManyLive, x)
+-- the store has stopped
+abbrev pub stop : State → State
+stop x = record x { stopped = true }
+
+-- the store has stopped at a commit, which counts whether or not it is on the disk
+abbrev pub stop_at_commit : State → ℕ → State
+stop_at_commit x transaction = record x { commits = x.commits ++ ops_of transaction x.history ∷ []; stopped = true }
+
+abbrev pub turn_begin : State → ℕ → List ℕ → Option Live → Answer × State
+turn_begin x number name (Some live) = (IsLive, x)
+turn_begin x number name None = if length x.live == 0 then (Said Done, began x number name) else (TooManyLive, x)
 
 abbrev pub turn_commit : State → Option Live → Answer × State
 turn_commit x None = (NoTransaction, x)
@@ -48,34 +56,84 @@ abbrev pub turn_op : State → Op → Option Live → Answer × State
 turn_op x op None = (NoTransaction, x)
 turn_op x op (Some live) = (answer_of (step (live_objects x) op).0, did x live.transaction op)
 
--- what an order answers, and the state after it, where memory doesn't run out
-abbrev pub turn : State → Order → Answer × State
-turn x Blank = (Silent, x)
-turn x Syntax = (BadSyntax, x)
-turn x (Txn name Begin) = turn_begin x name (live_named x.live name)
-turn x (Txn name Commit) = turn_commit x (live_named x.live name)
-turn x (Txn name (Do op)) = turn_op x op (live_named x.live name)
+abbrev pub turn_verb : State → ℕ → List ℕ → Verb → Answer × State
+turn_verb x number name Begin = turn_begin x number name (live_named x.live name)
+turn_verb x number name Commit = turn_commit x (live_named x.live name)
+turn_verb x number name (Do op) = turn_op x op (live_named x.live name)
+
+-- What an order answers, and the state after it, where nothing runs out and the disk doesn't fail.
+-- A transaction that begins gets the number.
+abbrev pub turn : State → ℕ → Order → Answer × State
+turn x number Blank = (Silent, x)
+turn x number Syntax = (BadSyntax, x)
+turn x number (Txn name verb) = if x.stopped then (Stopped, x) else turn_verb x number name verb
 
 -- an operation that takes memory
 abbrev pub IsGrowing : Order → Type 0
 IsGrowing (Txn name (Do op)) = Grows op
 IsGrowing other = ⊥
 
+-- an order of which the log keeps a record: a begin, a commit, or an operation that isn't a reading one
+abbrev pub IsLogged : Order → Type 0
+IsLogged Blank = ⊥
+IsLogged Syntax = ⊥
+IsLogged (Txn name Begin) = Unit {0}
+IsLogged (Txn name Commit) = Unit {0}
+IsLogged (Txn name (Do op)) = IsTrue (is_changing op)
+
 abbrev pub IsSaid : Answer → Type 0
 IsSaid (Said reply) = Unit {0}
 IsSaid other = ⊥
 
--- The state is as it was, for want of memory. That comes only at an operation that takes memory,
--- and that would have got a reply
+-- the order would have got a reply
+abbrev pub WouldReply : State → Order → Type 0
+WouldReply x order = IsSaid (turn x x.next order).0
+
+-- the transaction of a commit that ends a store's work, if it is one
+abbrev pub stop_at : State → Option Live → State
+stop_at x None = stop x
+stop_at x (Some live) = stop_at_commit x live.transaction
+
+-- the store has stopped in this order
+abbrev pub broken : State → Order → State
+broken x (Txn name Commit) = stop_at x (live_named x.live name)
+broken x other = stop x
+
+-- the state after an order for which the log has no room: a commit stops the store, and all else changes nothing
+abbrev pub full : State → Order → State
+full x (Txn name Commit) = stop_at x (live_named x.live name)
+full x other = x
+
+-- memory runs out, only at an operation that takes memory and would have got a reply, and nothing has changed
 pub record RunsOut (x : State) (order : Order) (y : State) : Type 0 where
   pub same : y ≡ x
   pub growing : IsGrowing order
-  pub said : IsSaid (turn x order).0
+  pub said : WouldReply x order
 
--- how a line may go: as its turn says, or memory runs out
+-- the log is at its end, only at an order that the log keeps and that would have got a reply
+pub record Ends (x : State) (order : Order) (y : State) : Type 0 where
+  pub after : y ≡ full x order
+  pub logged : IsLogged order
+  pub said : WouldReply x order
+
+-- the disk fails, only at such an order, and the store stops
+pub record Breaks (x : State) (order : Order) (y : State) : Type 0 where
+  pub after : y ≡ broken x order
+  pub logged : IsLogged order
+  pub said : WouldReply x order
+
+-- the order goes as its turn says, and a transaction that begins gets a number above all before it
+pub record Turns (x : State) (order : Order) (answer : Answer) (y : State) : Type 0 where
+  pub number : ℕ
+  pub above : x.next ≤ number
+  pub turned : turn x number order ≡ (answer, y)
+
+-- how an order may go
 abbrev pub LineBy : State → Order → Answer → State → Type 0
 LineBy x order Memory y = RunsOut x order y
-LineBy x order answer y = turn x order ≡ (answer, y)
+LineBy x order LogEnd y = Ends x order y
+LineBy x order Disk y = Breaks x order y
+LineBy x order answer y = Turns x order answer y
 
 -- from x, this line may get this answer, and the run goes on from y
 abbrev pub Line : State → List ℕ → Answer → State → Type 0
@@ -87,3 +145,15 @@ Lines x [] [] y = y ≡ x
 Lines x (line ∷ lines) (answer ∷ answers) y = (mid : State) × Line x line answer mid × Lines mid lines answers y
 Lines x [] (answer ∷ answers) y = ⊥
 Lines x (line ∷ lines) [] y = ⊥
+
+-- an answer has its cause: that a disk failed comes only where its count of faults has risen,
+-- and that the log is at its end only where it is full
+abbrev pub IsCaused : Type 0 → Type 0 → Answer → Type 0
+IsCaused Risen Full Disk = Risen
+IsCaused Risen Full LogEnd = Full
+IsCaused Risen Full other = Unit {0}
+
+-- each of the answers has
+abbrev pub AreCaused : Type 0 → Type 0 → List Answer → Type 0
+AreCaused Risen Full [] = Unit {0}
+AreCaused Risen Full (answer ∷ answers) = IsCaused Risen Full answer × AreCaused Risen Full answers

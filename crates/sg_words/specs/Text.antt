@@ -15,6 +15,9 @@ pub data Answer : Type 0 where
   IsLive : Answer
   TooManyLive : Answer
   Memory : Answer
+  Stopped : Answer
+  LogEnd : Answer
+  Disk : Answer
   Said : (reply : Reply) → Answer
   Refused : (reason : Reason) → Answer
 
@@ -52,6 +55,9 @@ text_of NoTransaction = codes "error no-transaction\n"
 text_of IsLive = codes "error live\n"
 text_of TooManyLive = codes "error too-many-live\n"
 text_of Memory = codes "error memory\n"
+text_of Stopped = codes "error stopped\n"
+text_of LogEnd = codes "error log-end\n"
+text_of Disk = codes "error disk\n"
 text_of (Said reply) = text_of_reply reply
 text_of (Refused reason) = text_of_reason reason
 

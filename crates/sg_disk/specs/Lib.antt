@@ -1,0 +1,4 @@
+pub mod Areas
+pub mod Disk
+pub mod Due
+pub mod Memory

@@ -1,0 +1,262 @@
+-- What a log holds, before and after its calls.
+use Rattle.std.proofs.Common.{add-zero, ◌≡◌, ◌⊎◌, inl, inr, ⊎_elim, ℕ, zero, suc, ◌+◌, ◌-◌, ◌<◌, ◌≤◌, ◌==◌, nat_le, Bool, true, false, IsTrue, if◌then◌else◌, List, [], ◌∷◌, ◌++◌, Result, Ok, Err, length, take, drop, refl, sym, ◌∙◌, ap, subst, arith, length-append, length-take, length-drop, append_assoc, append-nil}
+use Rattle.std.proofs.lemmas.List.{length-take-le, drop-append-le, drop-take}
+use Rattle.std.proofs.Math.Seq.{take-append-add, take-append_seam}
+use Rattle.std.proofs.lemmas.Bool.Decides.{nat_tests}
+use Rattle.std.proofs.lemmas.Bool.{cases_eq}
+use Rattle.sg_base.specs.declared.area.Area.{Area}
+use Rattle.sg_disk.specs.Disk.{Bytes, Image, Part, State, LeavesPart, Leaves, View, LeavesOnly, ReadBytes}
+use Rattle.sg_disk.proofs.Moments.{started, goes_on, weaker}
+use Rattle.sg_record.specs.Records.{Record, spelled, spelled_all, HEADER, GREATEST, header, kind_of, transaction_of, previous_of, body_of, IsRecord, AreRecords}
+use borrow.Rule.Slice.PartMut.{put_mid}
+use Rattle.sg_record.proofs.Placed.{placed}
+use Rattle.sg_record.proofs.Spelling.{spelled-long}
+use Rattle.sg_log.specs.Frames.{GREATEST_BODY, LOG_END, text_of, IsFrame, Frames, gate_after, records_of, IsAtRest, IsWithOrWithout, HasRecords, IsBeforeOrAfter}
+use Rattle.sg_log.specs.Held.{Tail, Holds, tail_of, has_room, place_of, end_of, forced, buffered, appended, durable_after, waiting_after}
+use Rattle.sg_log.proofs.Steps.{frame_text, gate_more, rest_image}
+
+-- a record has at most these bytes
+pub spelled_most : (r : Record) → IsRecord r → length (spelled r) ≤ GREATEST
+unfolding spelled
+spelled_most r h = let size = length-append (header (kind_of r) (HEADER + length (body_of r)) (transaction_of r) (previous_of r)) (body_of r) in omega (arith, h.body)
+
+pub records_of-more : (frames : List (List Record)) (rs : List Record) → records_of (frames ++ rs ∷ []) ≡ records_of frames ++ rs
+records_of-more [] rs = append-nil rs
+records_of-more (r ∷ frames) rs = ap (λ (xs : List Record). r ++ xs) (records_of-more frames rs) ∙ sym (append_assoc r (records_of frames) rs)
+
+pub spelled_all-more : (ps : List Record) (r : Record) → spelled_all (ps ++ r ∷ []) ≡ spelled_all ps ++ spelled r
+spelled_all-more [] r = append-nil (spelled r)
+spelled_all-more (p ∷ ps) r = ap (λ (xs : List ℕ). spelled p ++ xs) (spelled_all-more ps r) ∙ sym (append_assoc (spelled p) (spelled_all ps) (spelled r))
+
+pub AreRecords-more : (ps : List Record) (r : Record) → AreRecords ps → IsRecord r → AreRecords (ps ++ r ∷ [])
+AreRecords-more [] r h k = (k, tt)
+AreRecords-more (p ∷ ps) r h k = (h.0, AreRecords-more ps r h.1 k)
+
+-- where no bytes wait, no record does
+pub none_waiting : (ps : List Record) → length (spelled_all ps) ≡ 0 → ps ≡ []
+none_waiting [] none = refl
+none_waiting (p ∷ ps) none = absurd (omega (arith, length-append (spelled p) (spelled_all ps), spelled-long p))
+
+pub text-length : (body : List ℕ) → length (text_of body) ≡ length body + 4
+text-length body = omega arith
+
+tail_at_gate : (log : Tail) → log.gate ≤ tail_of log
+tail_at_gate log = grind (arith, nat_tests)
+
+tail_behind : (log : Tail) → 0 < length log.buffer → tail_of log ≡ log.gate + 5 + length log.buffer
+tail_behind log some = grind (arith, nat_tests)
+
+-- where a log holds records, each image that a crash may leave has its durable ones
+pub holds_image : {v : View} {log : Tail} {ds ps : List Record} → Holds v log ds ps → (c : Image) → Leaves v.now c → HasRecords (c log.area) log.base ds
+holds_image {v = v} {log = log} h c leaves = record {
+  frames = h.frames;
+  stand = rest_image v.now log.area h.frames c h.stand h.settled leaves;
+  all = h.all;
+  within = omega (arith, h.at_gate, h.within, tail_at_gate log);
+}
+
+-- and so has what reads give
+pub holds_seen : {v : View} {log : Tail} {ds ps : List Record} → Holds v log ds ps → HasRecords (v.now log.area).seen log.base ds
+holds_seen {v = v} {log = log} h = record { frames = h.frames; stand = h.stand; all = h.all; within = omega (arith, h.at_gate, h.within, tail_at_gate log) }
+
+-- a disk in the same state
+pub holds_along : {v w : View} {log : Tail} {ds ps : List Record} → w.now ≡ v.now → Holds v log ds ps → Holds w log ds ps
+holds_along {v = v} {w = w} {log = log} same h = record {
+  frames = h.frames;
+  stand = subst (λ (s : State). Frames (s log.area).seen 0 h.frames) (sym same) h.stand;
+  all = h.all;
+  settled = subst (λ (s : State). (s log.area).pending ≡ []) (sym same) h.settled;
+  at_gate = h.at_gate;
+  waiting = h.waiting;
+  fields = h.fields;
+  within = h.within;
+}
+
+-- before any call, a crash leaves the durable records
+pub image_now : {v : View} {log : Tail} {ds ps : List Record} → Holds v log ds ps → (c : Image) → Leaves v.now c → IsBeforeOrAfter v.now log.area log.base ds ps c
+image_now h c leaves = record { log = inl (holds_image h c leaves); others = λ b other. leaves b }
+
+pub no_call_moments : {v : View} {log : Tail} {ds ps : List Record} → Holds v log ds ps → LeavesOnly v v (IsBeforeOrAfter v.now log.area log.base ds ps)
+no_call_moments {v = v} {log = log} {ds = ds} {ps = ps} h = started v (IsBeforeOrAfter v.now log.area log.base ds ps) (image_now h)
+
+-- an empty log
+pub empty_holds : (v : View) (area : Area) (base : ℕ) → base ≤ LOG_END → (v.now area).pending ≡ [] → ((v.now area).seen 0 ≡ 1 → ⊥) → Holds v (record { area = area; base = base; gate = base; buffer = [] }) [] []
+empty_holds v area base within settled shut = record {
+  frames = [];
+  stand = shut;
+  all = refl;
+  settled = settled;
+  at_gate = omega arith;
+  waiting = refl;
+  fields = tt;
+  within = within;
+}
+
+-- the waiting records are a frame
+pub waiting_frame : {v : View} {log : Tail} {ds ps : List Record} → Holds v log ds ps → 0 < length log.buffer → length log.buffer ≤ GREATEST_BODY → IsFrame ps
+waiting_frame {log = log} {ps = ps} h some most = record {
+  some = λ none. let e : length log.buffer ≡ 0 = ap length (h.waiting ∙ ap spelled_all none) in absurd (omega arith);
+  most = omega (arith, ap length h.waiting);
+  fields = h.fields;
+}
+
+-- the area as its next frame finds it
+pub waiting_rest : {v : View} {log : Tail} {ds ps : List Record} (h : Holds v log ds ps) → IsAtRest v.now log.area (log.gate - log.base) h.frames
+waiting_rest {log = log} h = record { stand = h.stand; at_gate = omega (arith, h.at_gate); settled = h.settled }
+
+-- a moment of a force
+pub force_moment : {v : View} {log : Tail} {ds ps : List Record} (h : Holds v log ds ps) → 0 < length log.buffer → (c : Image) → IsWithOrWithout v.now log.area h.frames ps c → IsBeforeOrAfter v.now log.area log.base ds ps c
+force_moment {log = log} {ds = ds} {ps = ps} h some c m = record {
+  log = ⊎_elim
+      (λ without. inl (record { frames = h.frames; stand = without; all = h.all; within = omega (arith, h.at_gate, h.within, tail_at_gate log) }))
+      (λ with. inr (record {
+        frames = h.frames ++ ps ∷ [];
+        stand = with;
+        all = records_of-more h.frames ps ∙ ap (λ (xs : List Record). xs ++ ps) h.all;
+        within = omega (arith, gate_more 0 h.frames ps, h.at_gate, h.within, tail_behind log some, ap length h.waiting, text-length (spelled_all ps));
+      }))
+      m.log;
+  others = m.others;
+}
+
+-- after a force that wrote this text
+pub force_done : {v : View} {log : Tail} {ds ps : List Record} (h : Holds v log ds ps) → 0 < length log.buffer → (w : View) (text : List ℕ) (gate : ℕ) → text ≡ frame_text ps ++ 0 ∷ [] → gate ≡ log.gate + 5 + length log.buffer → IsAtRest w.now log.area (log.gate - log.base + length text) (h.frames ++ ps ∷ [])
+    → Holds w (record { area = log.area; base = log.base; gate = gate; buffer = [] }) (ds ++ ps) []
+force_done {log = log} {ds = ds} {ps = ps} h some w text gate is next rest = record {
+  frames = h.frames ++ ps ∷ [];
+  stand = rest.stand;
+  all = records_of-more h.frames ps ∙ ap (λ (xs : List Record). xs ++ ps) h.all;
+  settled = rest.settled;
+  at_gate = omega (arith, rest.at_gate, h.at_gate, ap length is, ap length h.waiting, length-append (frame_text ps) (0 ∷ []), text-length (spelled_all ps));
+  waiting = refl;
+  fields = tt;
+  within = omega (arith, h.within, tail_behind log some);
+}
+
+-- the buffer, among the bytes of a log
+pub buffer_size : (used : ℕ) (items : List ℕ) → used ≤ GREATEST_BODY → length items ≡ 65541 → length (take used (drop 4 items)) ≡ used
+buffer_size used items short full = length-take-le used (drop 4 items) (omega (arith, length-drop 4 items))
+
+pub buffer_none : (used : ℕ) (items : List ℕ) → used ≡ 0 → length (take used (drop 4 items)) ≡ 0
+buffer_none used items none = omega (arith, length-take used (drop 4 items))
+
+-- what is written for a frame
+pub force_text : (used : ℕ) (items got sealed whole : List ℕ) (ps : List Record) → take (4 + used + 1) sealed ≡ text_of (take used (drop 4 got)) ++ 0 ∷ [] → got ≡ items → whole ≡ sealed → take used (drop 4 items) ≡ spelled_all ps
+    → take (used + 5) whole ≡ frame_text ps ++ 0 ∷ []
+force_text used items got sealed whole ps text same is waiting =
+    let n : used + 5 ≡ 4 + used + 1 = omega arith in
+    ap (take (used + 5)) is ∙ ap (λ (k : ℕ). take k sealed) n ∙ text ∙ ap (λ (xs : List ℕ). text_of (take used (drop 4 xs)) ++ 0 ∷ []) same ∙ ap (λ (xs : List ℕ). text_of xs ++ 0 ∷ []) waiting
+
+-- a force that finds no record
+pub force_nothing : {v : View} {log : Tail} {ds ps : List Record} → Holds v log ds ps → length log.buffer ≡ 0 → Holds v log (ds ++ ps) []
+force_nothing {log = log} {ds = ds} {ps = ps} h none = record {
+  frames = h.frames;
+  stand = h.stand;
+  all = h.all ∙ sym (append-nil ds) ∙ ap (λ (xs : List Record). ds ++ xs) (sym (none_waiting ps (sym (ap length h.waiting) ∙ none)));
+  settled = h.settled;
+  at_gate = h.at_gate;
+  waiting = h.waiting ∙ ap spelled_all (none_waiting ps (sym (ap length h.waiting) ∙ none));
+  fields = tt;
+  within = h.within;
+}
+
+-- a record more in the buffer
+pub buffer_holds : {v : View} {log : Tail} {ds ps : List Record} (r : Record) → Holds v log ds ps → IsRecord r → log.gate + 5 + length log.buffer + length (spelled r) ≤ LOG_END → Holds v (buffered log r) ds (ps ++ r ∷ [])
+buffer_holds {log = log} {ps = ps} r h good within = record {
+  frames = h.frames;
+  stand = h.stand;
+  all = h.all;
+  settled = h.settled;
+  at_gate = h.at_gate;
+  waiting = ap (λ (xs : List ℕ). xs ++ spelled r) h.waiting ∙ sym (spelled_all-more ps r);
+  fields = AreRecords-more ps r h.fields good;
+  within = let some : 0 < length (log.buffer ++ spelled r) = omega (arith, length-append log.buffer (spelled r), spelled-long r) in
+      omega (arith, tail_behind (buffered log r) some, length-append log.buffer (spelled r));
+}
+
+-- a forced log's buffer is empty
+pub forced_empty : (log : Tail) → length (forced log).buffer ≡ 0
+forced_empty log = grind (arith, nat_tests)
+
+forced_next : (log : Tail) → 0 < length log.buffer → (forced log).gate ≡ log.gate + 5 + length log.buffer
+forced_next log some = grind (arith, nat_tests)
+
+-- what doesn't fit finds a buffer that isn't empty
+no_room : (log : Tail) (r : Record) → IsRecord r → has_room log r ≡ false → 0 < length log.buffer
+no_room log r good none = let most = spelled_most r good in grind (arith, nat_tests)
+
+-- where a record goes once the buffer is forced
+pub place_forced : (log : Tail) (r : Record) → IsRecord r → has_room log r ≡ false → (forced log).gate + 5 + length (forced log).buffer ≡ place_of log r
+place_forced log r good none = by_room (has_room log r) none where
+  by_room : (b : Bool) → b ≡ false → (forced log).gate + 5 + length (forced log).buffer ≡ (if b then log.gate + 5 + length log.buffer else log.gate + 5 + length log.buffer + 5)
+  by_room true is = absurd (cc)
+  by_room false is = omega (arith, forced_empty log, forced_next log (no_room log r good none))
+
+pub tail_buffered : (log : Tail) (r : Record) → tail_of (buffered log r) ≡ log.gate + 5 + length log.buffer + length (spelled r)
+tail_buffered log r =
+    let size = length-append log.buffer (spelled r) in
+    let some : 0 < length (log.buffer ++ spelled r) = omega (arith, size, spelled-long r) in
+    omega (arith, tail_behind (buffered log r) some, size)
+
+-- an append's last byte is the log's
+pub tail_room : (log : Tail) (r : Record) → has_room log r ≡ true → tail_of (buffered log r) ≡ end_of log r
+tail_room log r is = subst (λ (b : Bool). tail_of (buffered log r) ≡ (if b then log.gate + 5 + length log.buffer else log.gate + 5 + length log.buffer + 5) + length (spelled r)) (sym is) (tail_buffered log r)
+
+pub tail_no_room : (log : Tail) (r : Record) → IsRecord r → has_room log r ≡ false → tail_of (buffered (forced log) r) ≡ end_of log r
+tail_no_room log r good is = omega (arith, tail_buffered (forced log) r, place_forced log r good is)
+
+-- what is held after an append
+pub holds_room : {v : View} {log : Tail} {ds ps : List Record} (r : Record) → Holds v log ds ps → IsRecord r → has_room log r ≡ true → end_of log r ≤ LOG_END → Holds v (buffered log r) (durable_after log r ds ps) (waiting_after log r ps)
+holds_room {v = v} {log = log} {ds = ds} {ps = ps} r h good is within =
+    let there : log.gate + 5 + length log.buffer + length (spelled r) ≤ LOG_END = omega (arith, tail_room log r is, tail_buffered log r) in
+    subst (λ (b : Bool). Holds v (buffered log r) (if b then ds else ds ++ ps) (if b then ps ++ r ∷ [] else r ∷ [])) (sym is) (buffer_holds r h good there)
+
+pub holds_no_room : (v : View) (log : Tail) (ds ps : List Record) (r : Record) → Holds v (forced log) (ds ++ ps) [] → IsRecord r → has_room log r ≡ false → end_of log r ≤ LOG_END → Holds v (buffered (forced log) r) (durable_after log r ds ps) (waiting_after log r ps)
+holds_no_room v log ds ps r h good is within =
+    let there : (forced log).gate + 5 + length (forced log).buffer + length (spelled r) ≤ LOG_END = omega (arith, place_forced log r good is) in
+    subst (λ (b : Bool). Holds v (buffered (forced log) r) (if b then ds else ds ++ ps) (if b then ps ++ r ∷ [] else r ∷ [])) (sym is) (buffer_holds {log = forced log} {ds = ds ++ ps} {ps = []} r h good there)
+
+-- a record written behind a buffer
+module _ (used : ℕ) (s ys text : List ℕ) (fits : 4 + used + length text ≤ length s) (e : ys ≡ text ++ drop (length text) (take (length s - (4 + used)) (drop (4 + used) s))) where
+  rest : List ℕ
+  rest = drop (4 + used + length text) s
+
+  pub size_stays : length (put_mid (4 + used) (length s - (4 + used)) s ys) ≡ length s
+  unfolding rest
+  size_stays =
+      ap length (placed (4 + used) s ys text fits e)
+      ∙ omega (arith, length-append (take (4 + used) s) (text ++ rest), length-append text rest, length-take-le (4 + used) s (omega arith), length-drop (4 + used + length text) s)
+
+  pub buffer_grows : take (used + length text) (drop 4 (put_mid (4 + used) (length s - (4 + used)) s ys)) ≡ take used (drop 4 s) ++ text
+  unfolding rest
+  buffer_grows =
+      let long : 4 ≤ length (take (4 + used) s) = omega (arith, length-take-le (4 + used) s (omega arith)) in
+      let short : length (take used (drop 4 s)) ≡ used = length-take-le used (drop 4 s) (omega (arith, length-drop 4 s)) in
+      let front : drop 4 (put_mid (4 + used) (length s - (4 + used)) s ys) ≡ take used (drop 4 s) ++ (text ++ rest) =
+      ap (drop 4) (placed (4 + used) s ys text fits e) ∙ drop-append-le 4 (take (4 + used) s) (text ++ rest) long ∙ ap (λ (xs : List ℕ). xs ++ (text ++ rest)) (drop-take 4 used s) in
+      ap (take (used + length text)) front
+      ∙ ap (λ (n : ℕ). take (n + length text) (take used (drop 4 s) ++ (text ++ rest))) (sym short)
+      ∙ take-append-add (take used (drop 4 s)) (text ++ rest) (length text)
+      ∙ ap (λ (xs : List ℕ). take used (drop 4 s) ++ xs) (take-append_seam text rest)
+
+-- an append loses and adds nothing, in either case
+pub all_appended : (log : Tail) (r : Record) (ds ps : List Record) → durable_after log r ds ps ++ waiting_after log r ps ≡ (ds ++ ps) ++ r ∷ []
+all_appended log r ds ps = by_room (has_room log r) where
+  by_room : (b : Bool) → (if b then ds else ds ++ ps) ++ (if b then ps ++ r ∷ [] else r ∷ []) ≡ (ds ++ ps) ++ r ∷ []
+  by_room true = sym (append_assoc ds ps (r ∷ []))
+  by_room false = refl
+
+-- it makes durable what waited, or nothing
+pub durable_either : (log : Tail) (r : Record) (ds ps : List Record) → (durable_after log r ds ps ≡ ds) ⊎ (durable_after log r ds ps ≡ ds ++ ps)
+durable_either log r ds ps = by_room (has_room log r) where
+  by_room : (b : Bool) → ((if b then ds else ds ++ ps) ≡ ds) ⊎ ((if b then ds else ds ++ ps) ≡ ds ++ ps)
+  by_room true = inl refl
+  by_room false = inr refl
+
+-- a read changes no image
+pub moments_read : {T E : Type 0} {v w : View} {r : Result T E} → ReadBytes v w r → LeavesOnly v w (Leaves v.now)
+moments_read {v = v} read = goes_on (started v (Leaves v.now) (λ c leaves. leaves)) read (λ c leaves. leaves)
+
+-- an area whose first gate is closed holds no records
+pub no_records : (f : Bytes) (base : ℕ) → base ≤ LOG_END → (f 0 ≡ 1 → ⊥) → HasRecords f base []
+no_records f base within shut = record { frames = []; stand = shut; all = refl; within = omega arith }

@@ -1,0 +1,64 @@
+-- The frames of a log, and the records that an area's bytes hold.
+use Rattle.std.specs.Prelude.{◌≡◌, ◌⊎◌, ◌+◌, ◌^◌, ◌≤◌, ℕ, List, [], ◌∷◌, ◌++◌, length}
+use Rattle.byteorder.specs.Endian.{little_bytes}
+use Rattle.sg_base.specs.declared.area.Area.{Area}
+use Rattle.sg_disk.specs.Disk.{Bytes, Image, State, LeavesPart, window}
+use Rattle.sg_record.specs.Records.{Record, spelled_all, AreRecords}
+
+-- the most bytes of a frame's body
+abbrev pub GREATEST_BODY : ℕ
+GREATEST_BODY = 65536
+
+-- no record ends after this byte of the log
+abbrev pub LOG_END : ℕ
+LOG_END = 2 ^ 63
+
+-- a frame's records: some, with at most so many bytes, and each with its fields in range
+pub record IsFrame (rs : List Record) : Type 0 where
+  pub some : rs ≡ [] → ⊥
+  pub most : length (spelled_all rs) ≤ GREATEST_BODY
+  pub fields : AreRecords rs
+
+-- a frame's bytes behind its gate: the length of the body in 4 bytes, and the body
+abbrev pub text_of : List ℕ → List ℕ
+text_of body = little_bytes 4 (length body) ++ body
+
+-- From this offset on there stand, each behind an open gate, frames of these records, and then a gate that is closed.
+-- A gate is one byte, which is open where it is 1.
+abbrev pub Frames : Bytes → ℕ → List (List Record) → Type 0
+Frames f at [] = f at ≡ 1 → ⊥
+Frames f at (rs ∷ frames) = (f at ≡ 1) × IsFrame rs × (window f (at + 1) (length (text_of (spelled_all rs))) ≡ text_of (spelled_all rs)) × Frames f (at + 1 + length (text_of (spelled_all rs))) frames
+
+-- the offset of the closed gate
+abbrev pub gate_after : ℕ → List (List Record) → ℕ
+gate_after at [] = at
+gate_after at (rs ∷ frames) = gate_after (at + 1 + length (text_of (spelled_all rs))) frames
+
+-- the records of the frames, in order
+abbrev pub records_of : List (List Record) → List Record
+records_of [] = []
+records_of (rs ∷ frames) = rs ++ records_of frames
+
+-- these frames stand in the area from its first byte on, with the closed gate at this offset, all of it on the disk
+pub record IsAtRest (s : State) (area : Area) (gate : ℕ) (frames : List (List Record)) : Type 0 where
+  pub stand : Frames (s area).seen 0 frames
+  pub at_gate : gate ≡ gate_after 0 frames
+  pub settled : (s area).pending ≡ []
+
+-- these frames, or with one more, and the other areas as a crash could have left them in that state
+pub record IsWithOrWithout (s : State) (area : Area) (frames : List (List Record)) (rs : List Record) (c : Image) : Type 0 where
+  pub log : Frames (c area) 0 frames ⊎ Frames (c area) 0 (frames ++ rs ∷ [])
+  pub others : (b : Area) → (b ≡ area → ⊥) → LeavesPart (s b) (c b)
+
+-- an area whose first byte has this number in the log holds exactly these records
+pub record HasRecords (f : Bytes) (base : ℕ) (rs : List Record) : Type 0 where
+  pub frames : List (List Record)
+  pub stand : Frames f 0 frames
+  pub all : records_of frames ≡ rs
+  pub within : base + gate_after 0 frames ≤ LOG_END
+
+-- An image of a moment at which records are made durable: the log's area holds those from before, or these too.
+-- The other areas are as a crash could have left them in that state.
+pub record IsBeforeOrAfter (s : State) (area : Area) (base : ℕ) (before more : List Record) (c : Image) : Type 0 where
+  pub log : HasRecords (c area) base before ⊎ HasRecords (c area) base (before ++ more)
+  pub others : (b : Area) → (b ≡ area → ⊥) → LeavesPart (s b) (c b)

@@ -1,0 +1,18 @@
+//! The log: records are appended to a buffer in memory, and a force makes them durable as a frame
+//! behind a gate.
+//!
+//! It stands on `sg_disk` for the area that the frames stand in, and on `sg_record` for the records'
+//! bytes. It promises that the durable records are those appended, in order: a force that succeeds
+//! makes all of them durable, and a crash at any moment leaves those that were durable before the
+//! call or all, with no record torn and no other area touched.
+#![tactic(auto)]
+
+mod fault;
+mod frame;
+mod log;
+
+pub use fault::LogFault;
+pub use log::Log;
+
+#[cfg(test)]
+mod tests;

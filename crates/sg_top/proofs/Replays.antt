@@ -1,0 +1,119 @@
+-- What the records of a log replay to, as the log grows.
+use Rattle.std.proofs.Common.{◌≡◌, ℕ, ◌+◌, ◌<◌, ◌≤◌, ◌==◌, Bool, true, false, cond, IsTrue, List, [], ◌∷◌, ◌++◌, length, map, filter, take, Option, Some, None, Result, Ok, Err, refl, sym, ap, ◌∙◌, subst, arith, append_assoc, append-nil, length-append}
+use Rattle.std.specs.List.{flat_map}
+use Rattle.std.specs.FinMap.{empty}
+use Rattle.std.proofs.lemmas.Grind.{flat_map-append}
+use Rattle.std.proofs.lemmas.Bool.Decides.{nat_tests}
+use Rattle.std.proofs.Math.Seq.{take-append_seam, take-length}
+use Rattle.sg_model.specs.Objects.{Objects, Op, step}
+use Rattle.sg_model.specs.History.{Entry, Live, State, after_all, in_order, ops_of, live_objects, committed_objects, objects_after}
+use Rattle.sg_words.specs.Spoken.{op_said}
+use Rattle.sg_record.specs.Records.{Record, transaction_of}
+use Rattle.sg_record.specs.Records.Record.{Begin, Commit, Line}
+use Rattle.sg_top.specs.Stands.{lines_by, commits_in, committed_lines, after_op, after_line, if_replied, replay}
+use Rattle.sg_top.specs.Store.{AreBelow, IsOwn, AreOwn, IsNotAmong}
+
+pub replay-none : (lines : List (List ℕ)) → replay lines None ≡ None
+replay-none [] = refl
+replay-none (w ∷ ws) = refl
+
+pub replay-append : (a b : List (List ℕ)) (s : Option Objects) → replay (a ++ b) s ≡ replay b (replay a s)
+replay-append [] b s = refl
+replay-append (w ∷ ws) b None = sym (replay-none b)
+replay-append (w ∷ ws) b (Some s) = replay-append ws b (after_line s w)
+
+pub commits_in-append : (rs ss : List Record) → commits_in (rs ++ ss) ≡ commits_in rs ++ commits_in ss
+commits_in-append [] ss = refl
+commits_in-append (Begin t p ∷ rs) ss = commits_in-append rs ss
+commits_in-append (Commit t p ∷ rs) ss = ap (λ (ts : List ℕ). t ∷ ts) (commits_in-append rs ss)
+commits_in-append (Line t p w ∷ rs) ss = commits_in-append rs ss
+
+chosen-append : (b : Bool) (w : List ℕ) (xs ys zs : List (List ℕ)) → zs ≡ xs ++ ys → cond b (w ∷ zs) zs ≡ cond b (w ∷ xs) xs ++ ys
+chosen-append true w xs ys zs e = ap (λ (l : List (List ℕ)). w ∷ l) e
+chosen-append false w xs ys zs e = e
+
+pub lines_by-append : (t : ℕ) (rs ss : List Record) → lines_by t (rs ++ ss) ≡ lines_by t rs ++ lines_by t ss
+lines_by-append t [] ss = refl
+lines_by-append t (Begin u p ∷ rs) ss = lines_by-append t rs ss
+lines_by-append t (Commit u p ∷ rs) ss = lines_by-append t rs ss
+lines_by-append t (Line u p w ∷ rs) ss = chosen-append (u == t) w (lines_by t rs) (lines_by t ss) (lines_by t (rs ++ ss)) (lines_by-append t rs ss)
+
+different : (u t : ℕ) → (u ≡ t → ⊥) → (u == t) ≡ false
+different u t ne = grind (arith, nat_tests)
+
+same : (t : ℕ) → (t == t) ≡ true
+same t = grind (arith, nat_tests)
+
+-- a transaction above all records has no lines
+pub lines_by-above : (t bound : ℕ) (rs : List Record) → AreBelow bound rs → bound ≤ t → lines_by t rs ≡ []
+lines_by-above t bound [] h le = refl
+lines_by-above t bound (Begin u p ∷ rs) h le = lines_by-above t bound rs h.1 le
+lines_by-above t bound (Commit u p ∷ rs) h le = lines_by-above t bound rs h.1 le
+lines_by-above t bound (Line u p w ∷ rs) h le =
+    let ne : u ≡ t → ⊥ = λ e. absurd (omega (arith, h.0)) in
+    ap (λ b. cond b (w ∷ lines_by t rs) (lines_by t rs)) (different u t ne) ∙ lines_by-above t bound rs h.1 le
+
+-- and no commit
+pub commits_in-above : (t bound : ℕ) (rs : List Record) → AreBelow bound rs → bound ≤ t → IsNotAmong t (commits_in rs)
+commits_in-above t bound [] h le = tt
+commits_in-above t bound (Begin u p ∷ rs) h le = commits_in-above t bound rs h.1 le
+commits_in-above t bound (Commit u p ∷ rs) h le = (λ e. absurd (omega (arith, h.0)), commits_in-above t bound rs h.1 le)
+commits_in-above t bound (Line u p w ∷ rs) h le = commits_in-above t bound rs h.1 le
+
+-- a transaction's own records have no commit
+pub commits_in-own : (t : ℕ) (rs : List Record) → AreOwn t rs → commits_in rs ≡ []
+commits_in-own t [] h = refl
+commits_in-own t (Begin u p ∷ rs) h = commits_in-own t rs h.1
+commits_in-own t (Commit u p ∷ rs) h = absurd h.0
+commits_in-own t (Line u p w ∷ rs) h = commits_in-own t rs h.1
+
+-- and no lines of another
+pub lines_by-own : (t u : ℕ) (rs : List Record) → AreOwn t rs → (u ≡ t → ⊥) → lines_by u rs ≡ []
+lines_by-own t u [] h ne = refl
+lines_by-own t u (Begin v p ∷ rs) h ne = lines_by-own t u rs h.1 ne
+lines_by-own t u (Commit v p ∷ rs) h ne = absurd h.0
+lines_by-own t u (Line v p w ∷ rs) h ne =
+    ap (λ b. cond b (w ∷ lines_by u rs) (lines_by u rs)) (different v u (λ e. ne (sym e ∙ h.0))) ∙ lines_by-own t u rs h.1 ne
+
+-- the lines of other transactions stay as a transaction's own records follow
+others : (t : ℕ) (us : List ℕ) (rs ps : List Record) → AreOwn t ps → IsNotAmong t us → flat_map (λ u. lines_by u (rs ++ ps)) us ≡ flat_map (λ u. lines_by u rs) us
+others t [] rs ps own h = refl
+others t (u ∷ us) rs ps own h =
+    let one : lines_by u (rs ++ ps) ≡ lines_by u rs = lines_by-append u rs ps ∙ (ap (λ (ls : List (List ℕ)). lines_by u rs ++ ls) (lines_by-own t u ps own h.0) ∙ append-nil (lines_by u rs)) in
+    ap (λ (ls : List (List ℕ)). ls ++ flat_map (λ v. lines_by v (rs ++ ps)) us) one ∙ ap (λ (ls : List (List ℕ)). lines_by u rs ++ ls) (others t us rs ps own h.1)
+
+-- an uncommitted transaction's own records commit nothing
+pub committed_lines-own : (t : ℕ) (rs ps : List Record) → AreOwn t ps → IsNotAmong t (commits_in rs) → committed_lines (rs ++ ps) ≡ committed_lines rs
+committed_lines-own t rs ps own h =
+    ap (λ (ts : List ℕ). flat_map (λ u. lines_by u (rs ++ ps)) ts) (commits_in-append rs ps ∙ (ap (λ (ts : List ℕ). commits_in rs ++ ts) (commits_in-own t ps own) ∙ append-nil (commits_in rs)))
+    ∙ others t (commits_in rs) rs ps own h
+
+-- a commit adds its transaction's lines
+pub committed_lines-commit : (t p : ℕ) (rs ps : List Record) → AreOwn t ps → IsNotAmong t (commits_in rs) → committed_lines ((rs ++ ps) ++ Commit t p ∷ []) ≡ committed_lines rs ++ lines_by t (rs ++ ps)
+committed_lines-commit t p rs ps own h =
+    let all : List Record = (rs ++ ps) ++ Commit t p ∷ [] in
+    let keep : (u : ℕ) → lines_by u all ≡ lines_by u (rs ++ ps) = λ u. lines_by-append u (rs ++ ps) (Commit t p ∷ []) ∙ append-nil (lines_by u (rs ++ ps)) in
+    let ts : commits_in all ≡ commits_in rs ++ t ∷ [] = commits_in-append (rs ++ ps) (Commit t p ∷ []) ∙ ap (λ (us : List ℕ). us ++ t ∷ []) (commits_in-append rs ps ∙ (ap (λ (us : List ℕ). commits_in rs ++ us) (commits_in-own t ps own) ∙ append-nil (commits_in rs))) in
+    ap (λ (us : List ℕ). flat_map (λ u. lines_by u all) us) ts ∙ (flat_map-append (λ u. lines_by u all) (commits_in rs) (t ∷ [])
+    ∙ (ap (λ (ls : List (List ℕ)). ls ++ (lines_by t all ++ [])) (kept (commits_in rs) all (rs ++ ps) keep ∙ others t (commits_in rs) rs ps own h)
+    ∙ ap (λ (ls : List (List ℕ)). committed_lines rs ++ ls) (append-nil (lines_by t all) ∙ keep t)))
+  where
+    kept : (us : List ℕ) (xs ys : List Record) → ((u : ℕ) → lines_by u xs ≡ lines_by u ys) → flat_map (λ u. lines_by u xs) us ≡ flat_map (λ u. lines_by u ys) us
+    kept [] xs ys e = refl
+    kept (u ∷ us) xs ys e = ap (λ (ls : List (List ℕ)). ls ++ flat_map (λ v. lines_by v xs) us) (e u) ∙ ap (λ (ls : List (List ℕ)). lines_by u ys ++ ls) (kept us xs ys e)
+
+-- one more line of a transaction
+pub lines_by-line : (t p : ℕ) (words : List ℕ) (rs : List Record) → lines_by t (rs ++ Line t p words ∷ []) ≡ lines_by t rs ++ words ∷ []
+lines_by-line t p words rs = lines_by-append t rs (Line t p words ∷ []) ∙ ap (λ b. lines_by t rs ++ cond b (words ∷ []) []) (same t)
+
+pub below-append : (bound : ℕ) (rs ss : List Record) → AreBelow bound rs → AreBelow bound ss → AreBelow bound (rs ++ ss)
+below-append bound [] ss h k = k
+below-append bound (r ∷ rs) ss h k = (h.0, below-append bound rs ss h.1 k)
+
+pub below-weaker : (low high : ℕ) (rs : List Record) → low ≤ high → AreBelow low rs → AreBelow high rs
+below-weaker low high [] le h = tt
+below-weaker low high (r ∷ rs) le h = (omega (arith, h.0), below-weaker low high rs le h.1)
+
+pub own-append : (t : ℕ) (rs ss : List Record) → AreOwn t rs → AreOwn t ss → AreOwn t (rs ++ ss)
+own-append t [] ss h k = k
+own-append t (r ∷ rs) ss h k = (h.0, own-append t rs ss h.1 k)

@@ -1,0 +1,2 @@
+//! Runs a script over a disk.
+#![tactic(auto)]
