@@ -22,7 +22,7 @@ chosen false x y f = refl
 pub insert_same : (s : Objects) (q : List ℕ) (o : Object) → get s q ≡ Some o → insert s q o ≡ s
 insert_same s q o there = same_map nat_list_cmp_total (slice_cmp-IsAntisymmetric nat_cmp-IsAntisymmetric) _ _ (λ k.
     get-insert nat_list_cmp_total s q o k ∙ chosen (eq_by_cmp (slice_cmp nat_cmp) k q) (Some o) (get s k) (λ e.
-      sym there ∙ get_tied nat_list_cmp_total s k q (equal_of (slice_cmp nat_cmp k q) e)))
+    sym there ∙ get_tied nat_list_cmp_total s k q (equal_of (slice_cmp nat_cmp k q) e)))
 
 put : (s : Objects) (name : List ℕ) (o : Object) (r : Result Reply Reason) (m : Objects) → m ≡ insert s name o → OnErr r (m ≡ s) → put_back s name o r ≡ (r, m)
 put s name o (Ok reply) m is same = let P : Objects → Outcome = λ x. (Ok reply, x) in ap P (sym is)

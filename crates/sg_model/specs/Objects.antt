@@ -1,5 +1,5 @@
 -- Objects under names, and what an operation does to them.
-use Rattle.std.specs.Prelude.{ℕ, Bool, true, false, ◌==◌, ◌&&◌, nat_lt, nat_le, if◌then◌else◌, IsTrue, List, [], ◌∷◌, ◌++◌, length, Option, Some, None, Result, Ok, Err, slice_get, slice_set}
+use Rattle.std.specs.Prelude.{ℕ, Bool, true, false, ◌==◌, ◌&&◌, nat_lt, nat_le, not, if◌then◌else◌, IsTrue, List, [], ◌∷◌, ◌++◌, length, Option, Some, None, Result, Ok, Err, slice_get, slice_set}
 use Rattle.std.specs.Ordering.{nat_cmp}
 use Rattle.std.specs.Cmp.Lexicographic.{slice_cmp}
 use Rattle.std.specs.FinMap.{FinMap, get, insert}
@@ -71,28 +71,22 @@ is_item_size size = nat_le 1 size && nat_le size 256
 -- a new array under a name, where there is no object yet
 abbrev pub make_array : Objects → List ℕ → ℕ → Option Object → Outcome
 make_array s name size None =
-    if is_item_size size
-    then (Ok Done, insert s name (Array record { size = size; items = [] }))
-    else (Err OutOfRange, s)
+    if is_item_size size then (Ok Done, insert s name (Array record { size = size; items = [] })) else (Err OutOfRange, s)
 make_array s name size (Some object) = (Err Exists, s)
 
 -- an item at the end of an array
 abbrev pub push_item : Row → List ℕ → Change
 push_item row value =
-    if length value == row.size
-    then (if nat_lt (length row.items) most_items
-      then (Ok (Number (length row.items)), Array record { size = row.size; items = row.items ++ value ∷ [] })
-      else (Err TooMany, Array row))
-    else (Err Declined, Array row)
+    if not (length value == row.size) then (Err Declined, Array row)
+    else (if not (nat_lt (length row.items) most_items) then (Err TooMany, Array row)
+    else (Ok (Number (length row.items)), Array record { size = row.size; items = row.items ++ value ∷ [] }))
 
 -- an item of an array replaced
 abbrev pub set_item : Row → ℕ → List ℕ → Change
 set_item row index value =
-    if nat_lt index (length row.items)
-    then (if length value == row.size
-      then (Ok Done, Array record { size = row.size; items = slice_set row.items index value })
-      else (Err Declined, Array row))
-    else (Err OutOfRange, Array row)
+    if not (nat_lt index (length row.items)) then (Err OutOfRange, Array row)
+    else (if not (length value == row.size) then (Err Declined, Array row)
+    else (Ok Done, Array record { size = row.size; items = slice_set row.items index value }))
 
 -- a change of an array, which other objects refuse
 abbrev pub on_array : (Row → Change) → Object → Change

@@ -78,7 +78,11 @@ impl Array {
 
     /// Adds an item at the end, if it has the size and there is room. After `OutOfMemory`, which
     /// comes only for an item that would have been added, the array is unchanged.
-    pub fn push(&mut self, alloc: Global, value: &[u8]) -> Result<Result<Reply, Reason>, OutOfMemory>
+    pub fn push(
+        &mut self,
+        alloc: Global,
+        value: &[u8],
+    ) -> Result<Result<Reply, Reason>, OutOfMemory>
         ensures done { IfOk result (λ r. push_item self.old value.now ≡ (shown_result [] r, as_object self.new)) }
         ensures refused { IfOk result (λ r. OnErr r (self.new ≡ self.old)) }
         ensures err { OnErr result (self.new ≡ self.old) }

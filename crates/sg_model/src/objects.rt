@@ -138,7 +138,10 @@ impl Objects {
         if size < 1 || size > 256 {
             return Ok(Err(Reason::OutOfRange));
         }
-        match self.map.insert(name, Object::Array(Array::new(alloc, size))) {
+        match self
+            .map
+            .insert(name, Object::Array(Array::new(alloc, size)))
+        {
             Ok(_) => Ok(Ok(Reply::Done)),
             Err(_) => Err(OutOfMemory),
         }

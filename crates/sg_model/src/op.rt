@@ -6,39 +6,94 @@ use sg_base::Name;
 #[derive(Clone, Copy)]
 pub enum Op<'a> {
     /// Makes an array without items, for items of this many bytes.
-    MakeArray { name: Name, size: u64 },
+    MakeArray {
+        name: Name,
+        size: u64,
+    },
     /// Makes a table without entries.
-    MakeTable { name: Name },
+    MakeTable {
+        name: Name,
+    },
     /// Makes a blob without bytes.
-    MakeBlob { name: Name },
+    MakeBlob {
+        name: Name,
+    },
     /// Takes an object away.
-    Discard { name: Name },
+    Discard {
+        name: Name,
+    },
     /// Adds an item at an array's end.
-    Push { name: Name, value: &'a [u8] },
+    Push {
+        name: Name,
+        value: &'a [u8],
+    },
     /// Takes an array's last item.
-    Pop { name: Name },
+    Pop {
+        name: Name,
+    },
     /// Replaces an array's item.
-    Set { name: Name, index: u64, value: &'a [u8] },
+    Set {
+        name: Name,
+        index: u64,
+        value: &'a [u8],
+    },
     /// Reads an array's item.
-    Get { name: Name, index: u64 },
+    Get {
+        name: Name,
+        index: u64,
+    },
     /// Reads the length of an array, in items, or of a blob, in bytes.
-    Len { name: Name },
+    Len {
+        name: Name,
+    },
     /// Changes an array's item by a registered operation.
-    Apply { name: Name, index: u64, code: u64, arg: &'a [u8] },
+    Apply {
+        name: Name,
+        index: u64,
+        code: u64,
+        arg: &'a [u8],
+    },
     /// Puts a value under a table's key.
-    Put { name: Name, key: &'a [u8], value: &'a [u8] },
+    Put {
+        name: Name,
+        key: &'a [u8],
+        value: &'a [u8],
+    },
     /// Takes a key out of a table.
-    Del { name: Name, key: &'a [u8] },
+    Del {
+        name: Name,
+        key: &'a [u8],
+    },
     /// Reads the value under a table's key.
-    Find { name: Name, key: &'a [u8] },
+    Find {
+        name: Name,
+        key: &'a [u8],
+    },
     /// Writes bytes of a blob from an offset on.
-    Write { name: Name, at: u64, bytes: &'a [u8] },
+    Write {
+        name: Name,
+        at: u64,
+        bytes: &'a [u8],
+    },
     /// Reads so many bytes of a blob from an offset on.
-    Read { name: Name, at: u64, count: u64 },
+    Read {
+        name: Name,
+        at: u64,
+        count: u64,
+    },
     /// Sets a blob's length in bytes.
-    Size { name: Name, length: u64 },
+    Size {
+        name: Name,
+        length: u64,
+    },
     /// Writes a range of a blob by a registered operation.
-    Paint { name: Name, at: u64, count: u64, code: u64, arg: &'a [u8] },
+    Paint {
+        name: Name,
+        at: u64,
+        count: u64,
+        code: u64,
+        arg: &'a [u8],
+    },
 }
 
 /// What an operation answers where it isn't refused.

@@ -10,7 +10,9 @@ fn named(text: &[u8]) -> Result<Name, Fail> {
 fn with_array(alloc: Global, name: Name) -> Result<Objects, Fail> {
     let mut objects = Objects::empty(alloc);
     let mut into = [0u8; 8192];
-    let _made = objects.apply(alloc, &Op::MakeArray { name, size: 2 }, &mut into).map_err(|_| "memory")?;
+    let _made = objects
+        .apply(alloc, &Op::MakeArray { name, size: 2 }, &mut into)
+        .map_err(|_| "memory")?;
     Ok(objects)
 }
 
@@ -20,12 +22,35 @@ fn an_item_is_pushed_set_and_read(rt: HostRuntime) -> Result<(), Fail> {
     let name = named(b"a")?;
     let mut objects = with_array(alloc, name)?;
     let mut into = [0u8; 8192];
-    assert_eq!(rt; objects.apply(alloc, &Op::Push { name, value: b"ab" }, &mut into), Ok(Ok(Reply::Number(0))));
-    assert_eq!(rt; objects.apply(alloc, &Op::Push { name, value: b"cd" }, &mut into), Ok(Ok(Reply::Number(1))));
-    assert_eq!(rt; objects.apply(alloc, &Op::Set { name, index: 0, value: b"ef" }, &mut into), Ok(Ok(Reply::Done)));
-    assert_eq!(rt; objects.apply(alloc, &Op::Get { name, index: 0 }, &mut into), Ok(Ok(Reply::Bytes(2))));
+    assert_eq!(rt;
+        objects.apply(alloc, &Op::Push { name, value: b"ab" }, &mut into),
+        Ok(Ok(Reply::Number(0)))
+    );
+    assert_eq!(rt;
+        objects.apply(alloc, &Op::Push { name, value: b"cd" }, &mut into),
+        Ok(Ok(Reply::Number(1)))
+    );
+    assert_eq!(rt;
+        objects.apply(
+            alloc,
+            &Op::Set {
+                name,
+                index: 0,
+                value: b"ef"
+            },
+            &mut into
+        ),
+        Ok(Ok(Reply::Done))
+    );
+    assert_eq!(rt;
+        objects.apply(alloc, &Op::Get { name, index: 0 }, &mut into),
+        Ok(Ok(Reply::Bytes(2)))
+    );
     assert_eq!(rt; &into[..2], b"ef".as_slice());
-    assert_eq!(rt; objects.apply(alloc, &Op::Get { name, index: 1 }, &mut into), Ok(Ok(Reply::Bytes(2))));
+    assert_eq!(rt;
+        objects.apply(alloc, &Op::Get { name, index: 1 }, &mut into),
+        Ok(Ok(Reply::Bytes(2)))
+    );
     assert_eq!(rt; &into[..2], b"cd".as_slice());
     Ok(())
 }
@@ -37,17 +62,102 @@ fn each_reason_comes_in_its_order(rt: HostRuntime) -> Result<(), Fail> {
     let other = named(b"b")?;
     let mut objects = with_array(alloc, name)?;
     let mut into = [0u8; 8192];
-    assert_eq!(rt; objects.apply(alloc, &Op::MakeArray { name, size: 0 }, &mut into), Ok(Err(Reason::Exists)));
-    assert_eq!(rt; objects.apply(alloc, &Op::MakeArray { name: other, size: 0 }, &mut into), Ok(Err(Reason::OutOfRange)));
-    assert_eq!(rt; objects.apply(alloc, &Op::MakeArray { name: other, size: 257 }, &mut into), Ok(Err(Reason::OutOfRange)));
-    assert_eq!(rt; objects.apply(alloc, &Op::Push { name: other, value: b"x" }, &mut into), Ok(Err(Reason::NoObject)));
-    assert_eq!(rt; objects.apply(alloc, &Op::Push { name, value: b"x" }, &mut into), Ok(Err(Reason::Declined)));
-    assert_eq!(rt; objects.apply(alloc, &Op::Set { name: other, index: 0, value: b"x" }, &mut into), Ok(Err(Reason::NoObject)));
-    assert_eq!(rt; objects.apply(alloc, &Op::Set { name, index: 0, value: b"x" }, &mut into), Ok(Err(Reason::OutOfRange)));
-    assert_eq!(rt; objects.apply(alloc, &Op::Push { name, value: b"xy" }, &mut into), Ok(Ok(Reply::Number(0))));
-    assert_eq!(rt; objects.apply(alloc, &Op::Set { name, index: 0, value: b"x" }, &mut into), Ok(Err(Reason::Declined)));
-    assert_eq!(rt; objects.apply(alloc, &Op::Get { name: other, index: 0 }, &mut into), Ok(Err(Reason::NoObject)));
-    assert_eq!(rt; objects.apply(alloc, &Op::Get { name, index: 1 }, &mut into), Ok(Err(Reason::OutOfRange)));
+    assert_eq!(rt;
+        objects.apply(alloc, &Op::MakeArray { name, size: 0 }, &mut into),
+        Ok(Err(Reason::Exists))
+    );
+    assert_eq!(rt;
+        objects.apply(
+            alloc,
+            &Op::MakeArray {
+                name: other,
+                size: 0
+            },
+            &mut into
+        ),
+        Ok(Err(Reason::OutOfRange))
+    );
+    assert_eq!(rt;
+        objects.apply(
+            alloc,
+            &Op::MakeArray {
+                name: other,
+                size: 257
+            },
+            &mut into
+        ),
+        Ok(Err(Reason::OutOfRange))
+    );
+    assert_eq!(rt;
+        objects.apply(
+            alloc,
+            &Op::Push {
+                name: other,
+                value: b"x"
+            },
+            &mut into
+        ),
+        Ok(Err(Reason::NoObject))
+    );
+    assert_eq!(rt;
+        objects.apply(alloc, &Op::Push { name, value: b"x" }, &mut into),
+        Ok(Err(Reason::Declined))
+    );
+    assert_eq!(rt;
+        objects.apply(
+            alloc,
+            &Op::Set {
+                name: other,
+                index: 0,
+                value: b"x"
+            },
+            &mut into
+        ),
+        Ok(Err(Reason::NoObject))
+    );
+    assert_eq!(rt;
+        objects.apply(
+            alloc,
+            &Op::Set {
+                name,
+                index: 0,
+                value: b"x"
+            },
+            &mut into
+        ),
+        Ok(Err(Reason::OutOfRange))
+    );
+    assert_eq!(rt;
+        objects.apply(alloc, &Op::Push { name, value: b"xy" }, &mut into),
+        Ok(Ok(Reply::Number(0)))
+    );
+    assert_eq!(rt;
+        objects.apply(
+            alloc,
+            &Op::Set {
+                name,
+                index: 0,
+                value: b"x"
+            },
+            &mut into
+        ),
+        Ok(Err(Reason::Declined))
+    );
+    assert_eq!(rt;
+        objects.apply(
+            alloc,
+            &Op::Get {
+                name: other,
+                index: 0
+            },
+            &mut into
+        ),
+        Ok(Err(Reason::NoObject))
+    );
+    assert_eq!(rt;
+        objects.apply(alloc, &Op::Get { name, index: 1 }, &mut into),
+        Ok(Err(Reason::OutOfRange))
+    );
     Ok(())
 }
 
@@ -59,10 +169,50 @@ fn an_item_has_1_to_256_bytes(rt: HostRuntime) -> Result<(), Fail> {
     let mut objects = Objects::empty(alloc);
     let mut into = [0u8; 8192];
     let value = [7u8; 256];
-    assert_eq!(rt; objects.apply(alloc, &Op::MakeArray { name: small, size: 1 }, &mut into), Ok(Ok(Reply::Done)));
-    assert_eq!(rt; objects.apply(alloc, &Op::MakeArray { name: great, size: 256 }, &mut into), Ok(Ok(Reply::Done)));
-    assert_eq!(rt; objects.apply(alloc, &Op::Push { name: great, value: &value }, &mut into), Ok(Ok(Reply::Number(0))));
-    assert_eq!(rt; objects.apply(alloc, &Op::Get { name: great, index: 0 }, &mut into), Ok(Ok(Reply::Bytes(256))));
+    assert_eq!(rt;
+        objects.apply(
+            alloc,
+            &Op::MakeArray {
+                name: small,
+                size: 1
+            },
+            &mut into
+        ),
+        Ok(Ok(Reply::Done))
+    );
+    assert_eq!(rt;
+        objects.apply(
+            alloc,
+            &Op::MakeArray {
+                name: great,
+                size: 256
+            },
+            &mut into
+        ),
+        Ok(Ok(Reply::Done))
+    );
+    assert_eq!(rt;
+        objects.apply(
+            alloc,
+            &Op::Push {
+                name: great,
+                value: &value
+            },
+            &mut into
+        ),
+        Ok(Ok(Reply::Number(0)))
+    );
+    assert_eq!(rt;
+        objects.apply(
+            alloc,
+            &Op::Get {
+                name: great,
+                index: 0
+            },
+            &mut into
+        ),
+        Ok(Ok(Reply::Bytes(256)))
+    );
     assert_eq!(rt; &into[..256], value.as_slice());
     Ok(())
 }
@@ -73,7 +223,14 @@ fn four_operations_only_read(rt: HostRuntime) -> Result<(), Fail> {
     assert!(rt; !Op::Get { name, index: 0 }.is_changing());
     assert!(rt; !Op::Len { name }.is_changing());
     assert!(rt; !Op::Find { name, key: b"k" }.is_changing());
-    assert!(rt; !Op::Read { name, at: 0, count: 1 }.is_changing());
+    assert!(rt;
+        !Op::Read {
+            name,
+            at: 0,
+            count: 1
+        }
+        .is_changing()
+    );
     assert!(rt; Op::Push { name, value: b"v" }.is_changing());
     assert!(rt; Op::Pop { name }.is_changing());
     Ok(())

@@ -147,7 +147,9 @@ pub fn read_verb<'a>(word: &[u8], rest: &'a [u8], scratch: &'a mut [u8]) -> Opti
 fn is_reserved(word: &[u8]) -> bool
     ensures { result ≡ is_reserved word.now }
 {
-    word == b"flush".as_slice() || word == b"checkpoint".as_slice() || word == b"truncate".as_slice()
+    word == b"flush".as_slice()
+        || word == b"checkpoint".as_slice()
+        || word == b"truncate".as_slice()
 }
 
 // The name of a transaction.

@@ -24,7 +24,11 @@ fn kind_of_op(op: Op<'_>) -> Kind {
     match op {
         Op::MakeArray { name: _, size } => Kind::Make(size),
         Op::Push { name: _, value } => Kind::Push(value.len()),
-        Op::Set { name: _, index, value } => Kind::Set(index, value.len()),
+        Op::Set {
+            name: _,
+            index,
+            value,
+        } => Kind::Set(index, value.len()),
         Op::Get { name: _, index } => Kind::Get(index),
         _ => Kind::Other,
     }
@@ -49,7 +53,10 @@ fn pushes(text: &[u8], value: &[u8]) -> bool {
     match parse_line(text, &mut scratch) {
         Line::Txn { name: _, verb } => match verb {
             Verb::Do(op) => match op {
-                Op::Push { name: _, value: said } => said == value,
+                Op::Push {
+                    name: _,
+                    value: said,
+                } => said == value,
                 _ => false,
             },
             _ => false,
@@ -110,7 +117,10 @@ fn words_stand_in_one_order(rt: HostRuntime) {
 #[test]
 fn a_number_has_1_to_20_digits_and_64_bits(rt: HostRuntime) {
     assert_eq!(rt; said(b"t get a 0"), Kind::Get(0));
-    assert_eq!(rt; said(b"t get a 18446744073709551615"), Kind::Get(18446744073709551615));
+    assert_eq!(rt;
+        said(b"t get a 18446744073709551615"),
+        Kind::Get(18446744073709551615)
+    );
     assert_eq!(rt; said(b"t get a 18446744073709551616"), Kind::Syntax);
     assert_eq!(rt; said(b"t get a 99999999999999999999"), Kind::Syntax);
     assert_eq!(rt; said(b"t get a 00000000000000000001"), Kind::Get(1));
@@ -146,8 +156,14 @@ fn a_value_is_its_bytes_or_digits(rt: HostRuntime) {
 
 #[test]
 fn names_have_their_lengths(rt: HostRuntime) {
-    assert_eq!(rt; said(b"t get abcdefghijklmnopqrstuvwxyz_01234 0"), Kind::Get(0));
-    assert_eq!(rt; said(b"t get abcdefghijklmnopqrstuvwxyz_012345 0"), Kind::Syntax);
+    assert_eq!(rt;
+        said(b"t get abcdefghijklmnopqrstuvwxyz_01234 0"),
+        Kind::Get(0)
+    );
+    assert_eq!(rt;
+        said(b"t get abcdefghijklmnopqrstuvwxyz_012345 0"),
+        Kind::Syntax
+    );
     assert_eq!(rt; said(b"abcdefghijkl_123 begin"), Kind::Begin);
     assert_eq!(rt; said(b"abcdefghijkl_1234 begin"), Kind::Syntax);
     assert_eq!(rt; said(b"1 begin"), Kind::Syntax);
@@ -192,18 +208,90 @@ fn replies(rt: &impl Abort, mut sink: MemSink, reply: Reply, bytes: &[u8], text:
 fn a_reply_is_one_line(rt: HostRuntime) {
     let alloc = rt.alloc();
     replies(&rt, MemSink::new(alloc, Some(2)), Reply::Done, b"", b"ok\n");
-    replies(&rt, MemSink::new(alloc, Some(2)), Reply::New, b"", b"ok new\n");
-    replies(&rt, MemSink::new(alloc, Some(2)), Reply::Replaced, b"", b"ok replaced\n");
-    replies(&rt, MemSink::new(alloc, Some(2)), Reply::Absent, b"", b"none\n");
-    replies(&rt, MemSink::new(alloc, Some(2)), Reply::Number(0), b"", b"ok 0\n");
-    replies(&rt, MemSink::new(alloc, Some(2)), Reply::Number(18446744073709551615), b"", b"ok 18446744073709551615\n");
-    replies(&rt, MemSink::new(alloc, Some(2)), Reply::Bytes(3), b"abcdef", b"ok abc\n");
-    replies(&rt, MemSink::new(alloc, Some(2)), Reply::Bytes(0), b"abcdef", b"ok x:\n");
-    replies(&rt, MemSink::new(alloc, Some(2)), Reply::Bytes(2), b"x:", b"ok x:783a\n");
-    replies(&rt, MemSink::new(alloc, Some(2)), Reply::Bytes(1), b"x:", b"ok x\n");
-    replies(&rt, MemSink::new(alloc, Some(2)), Reply::Bytes(2), b"!~", b"ok !~\n");
-    replies(&rt, MemSink::new(alloc, Some(2)), Reply::Bytes(2), b"a ", b"ok x:6120\n");
-    replies(&rt, MemSink::new(alloc, Some(2)), Reply::Bytes(2), b"\xab\x7f", b"ok x:ab7f\n");
+    replies(
+        &rt,
+        MemSink::new(alloc, Some(2)),
+        Reply::New,
+        b"",
+        b"ok new\n",
+    );
+    replies(
+        &rt,
+        MemSink::new(alloc, Some(2)),
+        Reply::Replaced,
+        b"",
+        b"ok replaced\n",
+    );
+    replies(
+        &rt,
+        MemSink::new(alloc, Some(2)),
+        Reply::Absent,
+        b"",
+        b"none\n",
+    );
+    replies(
+        &rt,
+        MemSink::new(alloc, Some(2)),
+        Reply::Number(0),
+        b"",
+        b"ok 0\n",
+    );
+    replies(
+        &rt,
+        MemSink::new(alloc, Some(2)),
+        Reply::Number(18446744073709551615),
+        b"",
+        b"ok 18446744073709551615\n",
+    );
+    replies(
+        &rt,
+        MemSink::new(alloc, Some(2)),
+        Reply::Bytes(3),
+        b"abcdef",
+        b"ok abc\n",
+    );
+    replies(
+        &rt,
+        MemSink::new(alloc, Some(2)),
+        Reply::Bytes(0),
+        b"abcdef",
+        b"ok x:\n",
+    );
+    replies(
+        &rt,
+        MemSink::new(alloc, Some(2)),
+        Reply::Bytes(2),
+        b"x:",
+        b"ok x:783a\n",
+    );
+    replies(
+        &rt,
+        MemSink::new(alloc, Some(2)),
+        Reply::Bytes(1),
+        b"x:",
+        b"ok x\n",
+    );
+    replies(
+        &rt,
+        MemSink::new(alloc, Some(2)),
+        Reply::Bytes(2),
+        b"!~",
+        b"ok !~\n",
+    );
+    replies(
+        &rt,
+        MemSink::new(alloc, Some(2)),
+        Reply::Bytes(2),
+        b"a ",
+        b"ok x:6120\n",
+    );
+    replies(
+        &rt,
+        MemSink::new(alloc, Some(2)),
+        Reply::Bytes(2),
+        b"\xab\x7f",
+        b"ok x:ab7f\n",
+    );
 }
 
 #[test]
@@ -215,7 +303,13 @@ fn the_longest_value_is_one_line(rt: HostRuntime) -> Result<(), Fail> {
         text.extend_from_slice(b"a5")?;
     }
     text.push(b'\n')?;
-    replies(&rt, MemSink::new(alloc, Some(2)), Reply::Bytes(8192), &bytes, &text);
+    replies(
+        &rt,
+        MemSink::new(alloc, Some(2)),
+        Reply::Bytes(8192),
+        &bytes,
+        &text,
+    );
     let mut sink = MemSink::new(alloc, Some(2));
     assert_eq!(rt; write_value(&bytes[..257], &mut sink), Ok(()));
     assert_eq!(rt; sink.text().len(), 516);
@@ -225,14 +319,35 @@ fn the_longest_value_is_one_line(rt: HostRuntime) -> Result<(), Fail> {
 
 #[test]
 fn each_reason_has_its_line(rt: HostRuntime) {
-    assert_eq!(rt; reason_text(Reason::NoObject), b"error no-object\n".as_slice());
-    assert_eq!(rt; reason_text(Reason::WrongKind), b"error wrong-kind\n".as_slice());
+    assert_eq!(rt;
+        reason_text(Reason::NoObject),
+        b"error no-object\n".as_slice()
+    );
+    assert_eq!(rt;
+        reason_text(Reason::WrongKind),
+        b"error wrong-kind\n".as_slice()
+    );
     assert_eq!(rt; reason_text(Reason::Exists), b"error exists\n".as_slice());
-    assert_eq!(rt; reason_text(Reason::OutOfRange), b"error out-of-range\n".as_slice());
-    assert_eq!(rt; reason_text(Reason::NoOperation), b"error no-operation\n".as_slice());
-    assert_eq!(rt; reason_text(Reason::Declined), b"error declined\n".as_slice());
-    assert_eq!(rt; reason_text(Reason::TooLong), b"error too-long\n".as_slice());
-    assert_eq!(rt; reason_text(Reason::TooMany), b"error too-many\n".as_slice());
+    assert_eq!(rt;
+        reason_text(Reason::OutOfRange),
+        b"error out-of-range\n".as_slice()
+    );
+    assert_eq!(rt;
+        reason_text(Reason::NoOperation),
+        b"error no-operation\n".as_slice()
+    );
+    assert_eq!(rt;
+        reason_text(Reason::Declined),
+        b"error declined\n".as_slice()
+    );
+    assert_eq!(rt;
+        reason_text(Reason::TooLong),
+        b"error too-long\n".as_slice()
+    );
+    assert_eq!(rt;
+        reason_text(Reason::TooMany),
+        b"error too-many\n".as_slice()
+    );
 }
 
 #[test]
