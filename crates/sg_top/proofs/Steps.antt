@@ -1,5 +1,5 @@
 -- How the orders go, on what a store shows.
-use Rattle.std.proofs.Common.{◌≡◌, ◌⊎◌, inl, inr, ⊎_elim, ℕ, ◌+◌, ◌-◌, ◌<◌, ◌≤◌, ◌^◌, ◌==◌, nat_le, ◌&&◌, eq-eqb, Bool, true, false, cond, not, IsTrue, List, [], ◌∷◌, ◌++◌, length, find, Option, Some, None, Result, Ok, Err, refl, sym, ap, ◌∙◌, subst, arith, append_assoc, append-nil, length-append}
+use Rattle.std.proofs.Common.{◌≡◌, ◌⊎◌, inl, inr, ⊎_elim, ℕ, ◌+◌, ◌-◌, ◌<◌, ◌≤◌, ◌^◌, ◌==◌, nat_le, ◌&&◌, eq-eqb, eqb-true, Bool, true, false, cond, not, IsTrue, List, [], ◌∷◌, ◌++◌, length, find, Option, Some, None, Result, Ok, Err, refl, sym, ap, ◌∙◌, subst, arith, append_assoc, append-nil, length-append}
 use Rattle.std.specs.Option.{option_to_list}
 use Rattle.std.specs.FinMap.{empty}
 use Rattle.std.specs.Str.{bytes_eq}
@@ -20,11 +20,14 @@ use Rattle.sg_words.specs.Text.Answer.{Silent, BadSyntax, NoTransaction, IsLive,
 use Rattle.sg_words.specs.Run.{live_named, without, answer_of, began, committed, did, stop, stop_at_commit, stop_at, broken, full, turn, turn_verb, turn_begin, turn_commit, turn_op, IsSaid, IsLogged, WouldReply, Turns, Ends, Breaks, RunsOut, LineBy, IsCaused}
 use Rattle.sg_words.specs.Spoken.{op_said}
 use Rattle.sg_words.proofs.Steps.{live_objects-did}
-use Rattle.sg_record.specs.Records.{Record, spelled, transaction_of}
+use Rattle.sg_record.specs.Records.{Record, spelled, transaction_of, IsRecord}
 use Rattle.sg_record.specs.Records.Record.{Begin as BeginRecord, Commit as CommitRecord, Line as LineRecord}
 use Rattle.sg_log.specs.Frames.{LOG_END, HasRecords, IsBeforeOrAfter}
+use Rattle.sg_log.specs.Faults.{AppendFails, ForceFails}
+use Rattle.sg_log.specs.declared.fault.LogFault.{LogFault}
+use Rattle.sg_log.specs.declared.fault.LogFault.TheVariants as faults
 use Rattle.sg_log.specs.Held.{Tail, tail_of, place_of, end_of, appended, forced, Holds, durable_after, waiting_after}
-use Rattle.sg_log.proofs.Holding.{holds_image, all_appended, durable_either}
+use Rattle.sg_log.proofs.Holding.{holds_image, all_appended, durable_either, spelled_most}
 use Rattle.sg_top.specs.Stands.{lines_by, commits_in, committed_lines, replay, after_line, after_op, if_replied, StandsFor, StandsForFirst}
 use Rattle.sg_top.specs.Store.{Core, IsSerial, AreSerial, AreBelow, AreOwn, IsNotAmong, IsOpen, IsOpenOrNone, Logs, Keeps, Runs, Shows}
 use Rattle.sg_top.specs.Goes.{Goes, NEW_WORK_END, IsWork}
@@ -156,11 +159,15 @@ tail_by false false gate used = omega arith
 pub tail-place : (log : Tail) (r : Record) → tail_of log ≤ place_of log r
 tail-place log r = tail_by (length log.buffer == 0) (nat_le (length log.buffer + length (spelled r)) 65536) log.gate (length log.buffer)
 
-place_by : (b c : Bool) (gate used : ℕ) → cond c (gate + 5 + used) (gate + 5 + used + 5) ≤ cond b gate (gate + 5 + used) + 10 + cond b used 0
-place_by true true gate used = omega arith
-place_by true false gate used = omega arith
-place_by false true gate used = omega arith
-place_by false false gate used = omega arith
+place_by : (b c : Bool) (gate used : ℕ) → (b ≡ true → used ≡ 0) → cond c (gate + 5 + used) (gate + 5 + used + 5) ≤ cond b gate (gate + 5 + used) + 10
+place_by true true gate used none = let z : used ≡ 0 = none refl in omega arith
+place_by true false gate used none = let z : used ≡ 0 = none refl in omega arith
+place_by false true gate used none = omega arith
+place_by false false gate used none = omega arith
+
+-- and not much later
+pub place-tail : (log : Tail) (r : Record) → place_of log r ≤ tail_of log + 10
+place-tail log r = place_by (length log.buffer == 0) (nat_le (length log.buffer + length (spelled r)) 65536) log.gate (length log.buffer) (eqb-true (length log.buffer) 0)
 
 -- where the log stands stays
 area_by : (b : Bool) (log : Tail) (r : Record) → ((cond b (record log { buffer = log.buffer ++ spelled r }) (record (forced log) { buffer = (forced log).buffer ++ spelled r })).area ≡ log.area) × ((cond b (record log { buffer = log.buffer ++ spelled r }) (record (forced log) { buffer = (forced log).buffer ++ spelled r })).base ≡ log.base)
@@ -248,3 +255,42 @@ begin-length transaction previous = refl
 pub commit-length : (transaction previous : ℕ) → length (spelled (CommitRecord transaction previous)) ≡ 21
 unfolding spelled
 commit-length transaction previous = refl
+
+-- a begin's place doesn't depend on its numbers
+pub begin-place : (log : Tail) (t p u q : ℕ) → place_of log (BeginRecord t p) ≡ place_of log (BeginRecord u q)
+begin-place log t p u q = ap (λ (n : ℕ). cond (nat_le (length log.buffer + n) 65536) (log.gate + 5 + length log.buffer) (log.gate + 5 + length log.buffer + 5)) (begin-length t p ∙ sym (begin-length u q))
+
+-- a record of at most the greatest length ends within the log, while the tail is low
+pub ends_within : (log : Tail) (r : Record) → IsRecord r → tail_of log ≤ NEW_WORK_END → end_of log r ≤ LOG_END
+ends_within log r h low = omega (arith, place-tail log r, spelled_most r h)
+
+-- and then an append fails only where the disk does
+pub append_risen : (end : ℕ) (v w : disk.View) (e : LogFault) → AppendFails end v w e → end ≤ LOG_END → HasRisen v.faults w.faults
+append_risen end v w faults.Disk h within = h
+append_risen end v w faults.LogEnd h within = absurd (omega arith)
+append_risen end v w (faults.Damaged at) h within = absurd h
+append_risen end v w faults.Memory h within = absurd h
+
+pub force_risen : (v w : disk.View) (e : LogFault) → ForceFails v w e → HasRisen v.faults w.faults
+force_risen v w faults.Disk h = h
+force_risen v w faults.LogEnd h = absurd h
+force_risen v w (faults.Damaged at) h = absurd h
+force_risen v w faults.Memory h = absurd h
+
+-- equal texts
+pub same_text : (xs ys : List ℕ) → bytes_eq xs ys ≡ true → ys ≡ xs
+same_text [] [] h = refl
+same_text [] (y ∷ ys) h = absurd (cc)
+same_text (x ∷ xs) [] h = absurd (cc)
+same_text (x ∷ xs) (y ∷ ys) h =
+    let first : x ≡ y = eqb-true x y (and_left (x == y) (bytes_eq xs ys) h) in
+    let P : ℕ → List ℕ → List ℕ = λ z zs. z ∷ zs in
+    ap (λ z. P z ys) (sym first) ∙ ap (P x) (same_text xs ys (and_right (x == y) (bytes_eq xs ys) h))
+  where
+    and_left : (a b : Bool) → (a && b) ≡ true → a ≡ true
+    and_left true b h = refl
+    and_left false b h = h
+
+    and_right : (a b : Bool) → (a && b) ≡ true → b ≡ true
+    and_right true b h = h
+    and_right false b h = absurd (cc)

@@ -1,3 +1,4 @@
 pub mod Stands
 pub mod Store
 pub mod Goes
+pub mod Shown

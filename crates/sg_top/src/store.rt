@@ -1,0 +1,106 @@
+ghost use Rattle.std.specs.Prelude.{◌≡◌, ◌≤◌, ◌<◌, [], List, ℕ, length, Option, Some, None, IsSome, MatchOption, true, false, is_some};
+ghost use Rattle.std.specs.Option.{option_to_list};
+ghost use Rattle.std.specs.Str.{bytes_eq};
+ghost use Rattle.sg_base.specs.Ends.{HasRisen};
+ghost use Rattle.sg_model.specs.History.{State};
+ghost use Rattle.sg_model.specs.Objects.{IsBuilt};
+ghost use Rattle.sg_model.specs.Shown.{shown_op};
+ghost use Rattle.sg_words.specs.Order.{OrdersBuilt};
+ghost use Rattle.sg_words.specs.Order.Order.{Txn};
+ghost use Rattle.sg_words.specs.Order.Verb.{Begin, Commit, Do};
+ghost use Rattle.sg_words.specs.Parse.{order_of};
+ghost use Rattle.sg_words.specs.Run.{live_named};
+ghost use Rattle.sg_words.specs.Shown.{shown_line};
+ghost use Rattle.sg_top.specs.Store.{Shows};
+ghost use Rattle.sg_top.specs.Goes.{Goes};
+ghost use Rattle.sg_top.specs.Shown.{shown_answer, live_of, core_of};
+
+use crate::answer::Answer;
+use sg_base::{Lsn, Name, OutOfMemory, TxnId};
+use sg_disk::Disk;
+use sg_log::{Log, LogFault};
+use sg_model::{Objects, Op, Reply};
+use sg_record::Rec;
+use sg_words::{Line, Verb, join_words};
+use std::alloc::Global;
+
+/// No new work begins once the log's tail is above this byte: 2^62.
+const NEW_WORK_END: u64 = 1 << 62;
+
+/// Why a store has stopped.
+#[derive(Clone, Copy, Debug, PartialEq, Eq)]
+pub enum Stop {
+    /// A call of the disk failed.
+    Disk,
+    /// The log had no room for a commit.
+    LogEnd,
+}
+
+/// A live transaction: its name, its number, and its last record.
+#[derive(Clone, Copy)]
+pub struct Running {
+    name: Name,
+    txn: TxnId,
+    last: Lsn,
+}
+
+/// Objects in memory and the log of the lines that made them. One transaction is live at a time.
+/// Once it has stopped it makes no further call of the disk.
+pub struct Store<D: Disk> {
+    disk: D,
+    log: Log,
+    objects: Objects,
+    live: Option<Running>,
+    stop: Option<Stop>,
+}
+
+// Whether the transaction has this name.
+fn is_named(live: &Running, name: Name) -> bool
+    ensures { result ≡ bytes_eq name live.now.name }
+{
+    name == live.name
+}
+
+impl<D: Disk> Store<D> {
+    // The live transaction, if it has this name.
+    fn named(&self, name: Name) -> Option<Running>
+        ensures { MatchOption result (live_named (option_to_list (core_of self.now).live) name ≡ None) (λ r. (self.now.live ≡ Some r) × (bytes_eq name r.name ≡ true)) }
+    {
+        let live = self.live?;
+        if is_named(&live, name) { Some(live) } else { None }
+    }
+
+    // Begins a transaction, where none is live.
+    fn begin(&mut self, name: Name) -> Answer
+        requires { (core_of self.old).stopped ≡ false }
+        ensures goes { (x : State) → Shows D.told (D.view self.old.disk) (core_of self.old) x
+            → Goes D.told (D.view self.old.disk) (core_of self.old) x (Txn name Begin) (shown_answer [] result) (D.view self.new.disk) (core_of self.new) }
+        ensures later { (D.view self.old.disk).faults ≤ (D.view self.new.disk).faults }
+    {
+        if let Some(live) = self.live {
+            return if is_named(&live, name) {
+                Answer::IsLive
+            } else {
+                Answer::TooManyLive
+            };
+        }
+        if self.log.tail() > NEW_WORK_END {
+            return Answer::LogEnd;
+        }
+        let header = Rec::Begin {
+            txn: TxnId(0),
+            prev: 0,
+        };
+        let txn = TxnId(self.log.place(&header));
+        match self.log.append(&mut self.disk, &Rec::Begin { txn, prev: 0 }) {
+            Ok(last) => {
+                self.live = Some(Running { name, txn, last });
+                Answer::Said(Reply::Done)
+            }
+            Err(_) => {
+                self.stop = Some(Stop::Disk);
+                Answer::Disk
+            }
+        }
+    }
+}
