@@ -23,14 +23,18 @@ use Rattle.sg_words.proofs.Steps.{live_objects-did}
 use Rattle.sg_record.specs.Records.{Record, spelled, transaction_of}
 use Rattle.sg_record.specs.Records.Record.{Begin as BeginRecord, Commit as CommitRecord, Line as LineRecord}
 use Rattle.sg_log.specs.Frames.{LOG_END, HasRecords, IsBeforeOrAfter}
+use Rattle.sg_log.specs.Faults.{AppendFails, ForceFails}
+use Rattle.sg_log.specs.declared.fault.LogFault.{LogFault}
+use Rattle.sg_log.specs.declared.fault.LogFault.TheVariants as faults
 use Rattle.sg_log.specs.Held.{Tail, tail_of, has_room, place_of, end_of, appended, forced, Holds, durable_after, waiting_after}
 use Rattle.sg_log.proofs.Holding.{holds_image, all_appended, durable_either}
 use Rattle.sg_top.specs.Stands.{lines_by, commits_in, committed_lines, replay, after_line, after_op, if_replied, StandsFor, StandsForFirst}
 use Rattle.sg_top.specs.Store.{Core, IsSerial, AreSerial, AreBelow, AreOwn, IsNotAmong, IsOpen, IsOpenOrNone, Logs, Keeps, Runs, Shows}
+use Rattle.sg_top.specs.Shown.{shown_answer, answer_at}
 use Rattle.sg_top.specs.Goes.{Goes, NEW_WORK_END, IsWork}
 use Rattle.sg_top.proofs.Replays.{replay-append, lines_by-above, commits_in-above, commits_in-append, commits_in-own, lines_by-append, lines_by-line, below-append, below-weaker, own-append}
 use Rattle.sg_top.proofs.Serial.{serial_began, serial_did, serial_committed, committed_live, without_one, after_commits}
-use Rattle.sg_top.proofs.Steps.{going_turn, never_said, named_none, named_one, tail-place, appended_place, forced_place, running_shows, stopped_shows, line_said, caused_said, own_after, uncommitted_after, durable_lines, one_after, begin-length, HoldsAfter, MomentsOf}
+use Rattle.sg_top.proofs.Steps.{going_turn, never_said, named_none, named_one, tail-place, appended_place, forced_place, running_shows, stopped_shows, line_said, caused_said, own_after, uncommitted_after, durable_lines, one_after, begin-length, commit-length, place-tail, HoldsAfter, MomentsOf}
 use Rattle.sg_top.proofs.Standing.{forced_lines, stands_either, of_log, replay_commit, first_same, first_others, first_all, stands}
 
 -- The store isn't stopped
@@ -388,3 +392,27 @@ module _ (told : Bool) (v : disk.View) (k : Core) (x : State) (shows : Shows tol
         shows = commit_stops v m t halted images;
         moments = λ is_told. moments.started v (StandsForFirst x.answered y) (images is_told);
       }
+
+  -- the log has failed as a commit's record was appended
+  pub commit_fault : (name : List ℕ) (l : Live) (e : LogFault) (w : disk.View) (m : Core) (previous : ℕ) → k.live ≡ Some l → l.name ≡ name → m.stopped ≡ true
+      → AppendFails (end_of k.log (CommitRecord l.transaction previous)) v w e → (e ≡ faults.LogEnd → w ≡ v) → MomentsOf told v w k.log → Goes told v k x (Txn name Commit) (shown_answer [] (answer_at e)) w m
+  commit_fault name l faults.LogEnd w m previous one is halted h same call =
+      let high : NEW_WORK_END < tail_of k.log = omega (arith, h, place-tail k.log (CommitRecord l.transaction previous), commit-length l.transaction previous) in
+      subst (λ (u : disk.View). Goes told v k x (Txn name Commit) LogEnd u m) (sym (same refl)) (commit_end name l m one is halted high)
+  commit_fault name l faults.Disk w m previous one is halted h same call = commit_breaks name l w m one is halted h call
+  commit_fault name l (faults.Damaged at) w m previous one is halted h same call = absurd h
+  commit_fault name l faults.Memory w m previous one is halted h same call = absurd h
+
+  -- and as it was forced
+  pub force_fault : (name : List ℕ) (l : Live) (e : LogFault) (w1 w : disk.View) (mid : Tail) (m : Core) (previous : ℕ) → k.live ≡ Some l → l.name ≡ name → m.stopped ≡ true → ForceFails w1 w e → v.faults ≤ w1.faults
+      → mid ≡ appended k.log (CommitRecord l.transaction previous) → HoldsAfter told v w1 k.log mid (CommitRecord l.transaction previous) → MomentsOf told v w1 k.log → MomentsOf told w1 w mid
+      → Goes told v k x (Txn name Commit) (shown_answer [] (answer_at e)) w m
+  force_fault name l faults.Disk w1 w mid m previous one is halted h later is_mid holds1 call1 call2 = force_breaks name l w1 w mid m previous one is halted (λ room. omega (arith, h room)) is_mid holds1 call1 call2
+  force_fault name l faults.LogEnd w1 w mid m previous one is halted h later is_mid holds1 call1 call2 = absurd h
+  force_fault name l (faults.Damaged at) w1 w mid m previous one is halted h later is_mid holds1 call1 call2 = absurd h
+  force_fault name l faults.Memory w1 w mid m previous one is halted h later is_mid holds1 call1 call2 = absurd h
+
+-- the same of an answer, a disk and a store that are known by equations
+pub goes_along : {told : Bool} {v : disk.View} {k : Core} {x : State} {order : Order} (a b : Answer) (u w : disk.View) (m n : Core) → a ≡ b → u ≡ w → m ≡ n → Goes told v k x order b w n → Goes told v k x order a u m
+goes_along {told = told} {v = v} {k = k} {x = x} {order = order} a b u w m n same_answer same_disk same_core h =
+    subst (λ (p : Answer). Goes told v k x order p u m) (sym same_answer) (subst (λ (z : disk.View). Goes told v k x order b z m) (sym same_disk) (subst (λ (c : Core). Goes told v k x order b w c) (sym same_core) h))

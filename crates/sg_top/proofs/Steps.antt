@@ -123,11 +123,14 @@ module _ (told : Bool) (v : disk.View) (k : Core) (x : State) (shows : Shows tol
   unnamed : (name : List ℕ) (verb : Verb) → live_named x.live name ≡ None → ((n : ℕ) → turn_verb x n name verb ≡ (NoTransaction, x)) → Goes told v k x (Txn name verb) NoTransaction v k
   unnamed name verb none e = refused_state name verb NoTransaction (e x.next) (λ n. n) refl (λ d f. tt)
 
-  pub commit_none : (name : List ℕ) → live_named x.live name ≡ None → Goes told v k x (Txn name Commit) NoTransaction v k
-  commit_none name none = unnamed name Commit none (λ n. ap (turn_commit x) none)
+  named_here : (name : List ℕ) → live_named (option_to_list k.live) name ≡ None → live_named x.live name ≡ None
+  named_here name none = ap (λ (ls : List Live). live_named ls name) runs.live ∙ none
 
-  pub op_none : (name : List ℕ) (op : Op) → live_named x.live name ≡ None → Goes told v k x (Txn name (Do op)) NoTransaction v k
-  op_none name op none = unnamed name (Do op) none (λ n. ap (turn_op x op) none)
+  pub commit_none : (name : List ℕ) → live_named (option_to_list k.live) name ≡ None → Goes told v k x (Txn name Commit) NoTransaction v k
+  commit_none name none = unnamed name Commit (named_here name none) (λ n. ap (turn_commit x) (named_here name none))
+
+  pub op_none : (name : List ℕ) (op : Op) → live_named (option_to_list k.live) name ≡ None → Goes told v k x (Txn name (Do op)) NoTransaction v k
+  op_none name op none = unnamed name (Do op) (named_here name none) (λ n. ap (turn_op x op) (named_here name none))
 
   -- memory runs out
   pub op_memory : (name : List ℕ) (op : Op) (l : Live) → k.live ≡ Some l → l.name ≡ name → Grows op → IsSaid (answer_of (step k.objects op).0) → tail_of k.log ≤ NEW_WORK_END → Goes told v k x (Txn name (Do op)) Memory v k
@@ -294,3 +297,11 @@ same_text (x ∷ xs) (y ∷ ys) h =
     and_right : (a b : Bool) → (a && b) ≡ true → b ≡ true
     and_right true b h = h
     and_right false b h = absurd (cc)
+
+-- a force doesn't lower the tail
+pub tail_forced : (log : Tail) → tail_of log ≤ tail_of (forced log)
+tail_forced log = by_length (length log.buffer == 0) refl
+  where
+    by_length : (b : Bool) → (length log.buffer == 0) ≡ b → cond b log.gate (log.gate + 5 + length log.buffer) ≤ tail_of (cond b log (record log { gate = log.gate + 5 + length log.buffer; buffer = [] }))
+    by_length true e = rw e (omega arith)
+    by_length false e = omega arith

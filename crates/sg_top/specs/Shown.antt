@@ -7,6 +7,10 @@ use Rattle.sg_words.specs.Text.{Answer}
 use Rattle.sg_words.specs.Text.Answer.{Silent, BadSyntax, NoTransaction, IsLive, TooManyLive, Memory, Stopped, LogEnd, Disk, Said, Refused}
 use Rattle.sg_top.specs.declared.answer.Answer as code_answer
 use Rattle.sg_top.specs.declared.answer.Answer.TheVariants as answers
+use Rattle.sg_log.specs.declared.fault.LogFault.{LogFault}
+use Rattle.sg_log.specs.declared.fault.LogFault.TheVariants as faults
+use Rattle.sg_top.specs.declared.store.Stop as code_stop
+use Rattle.sg_top.specs.declared.store.Stop.TheVariants as stops
 use Rattle.sg_top.specs.declared.store.Running as code_running
 use Rattle.sg_top.specs.declared.store.Store as code_store
 use Rattle.sg_top.specs.Store.{Core}
@@ -31,3 +35,16 @@ live_of r = record { name = r.name; transaction = r.txn.0 }
 -- a store without its disk
 abbrev pub core_of : {D : Type 0} → code_store.Store D → Core
 core_of s = record { objects = s.objects; live = option_map live_of s.live; stopped = is_some s.stop; log = s.log }
+
+-- what is answered where the log fails, and why the store stops then
+abbrev pub answer_at : LogFault → code_answer.Answer
+answer_at faults.LogEnd = answers.LogEnd
+answer_at faults.Disk = answers.Disk
+answer_at (faults.Damaged at) = answers.Disk
+answer_at faults.Memory = answers.Disk
+
+abbrev pub stop_at : LogFault → code_stop.Stop
+stop_at faults.LogEnd = stops.LogEnd
+stop_at faults.Disk = stops.Disk
+stop_at (faults.Damaged at) = stops.Disk
+stop_at faults.Memory = stops.Disk

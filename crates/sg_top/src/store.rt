@@ -13,7 +13,7 @@ ghost use Rattle.sg_words.specs.Run.{live_named};
 ghost use Rattle.sg_words.specs.Shown.{shown_line};
 ghost use Rattle.sg_top.specs.Store.{Shows};
 ghost use Rattle.sg_top.specs.Goes.{Goes};
-ghost use Rattle.sg_top.specs.Shown.{shown_answer, live_of, core_of};
+ghost use Rattle.sg_top.specs.Shown.{shown_answer, live_of, core_of, answer_at, stop_at};
 
 use crate::answer::Answer;
 use sg_base::{Lsn, Name, OutOfMemory, TxnId};
@@ -101,6 +101,49 @@ impl<D: Disk> Store<D> {
                 self.stop = Some(Stop::Disk);
                 Answer::Disk
             }
+        }
+    }
+
+    // Stops the store at a fault of the log.
+    fn halt(&mut self, fault: LogFault) -> Answer
+        ensures stopped { core_of self.new ≡ record (core_of self.old) { stopped = true } }
+        ensures disk { self.new.disk ≡ self.old.disk }
+        ensures answer { result ≡ answer_at fault }
+        ensures why { self.new.stop ≡ Some (stop_at fault) }
+    {
+        if fault == LogFault::LogEnd {
+            self.stop = Some(Stop::LogEnd);
+            Answer::LogEnd
+        } else {
+            self.stop = Some(Stop::Disk);
+            Answer::Disk
+        }
+    }
+
+    // Commits the live transaction, if it has this name.
+    fn commit(&mut self, name: Name) -> Answer
+        requires { (core_of self.old).stopped ≡ false }
+        ensures goes { (x : State) → Shows D.told (D.view self.old.disk) (core_of self.old) x
+            → Goes D.told (D.view self.old.disk) (core_of self.old) x (Txn name Commit) (shown_answer [] result) (D.view self.new.disk) (core_of self.new) }
+        ensures later { (D.view self.old.disk).faults ≤ (D.view self.new.disk).faults }
+    {
+        let Some(live) = self.named(name) else {
+            return Answer::NoTransaction;
+        };
+        let record = Rec::Commit {
+            txn: live.txn,
+            prev: live.last,
+        };
+        match self.log.append(&mut self.disk, &record) {
+            Ok(_) => {}
+            Err(fault) => return self.halt(fault),
+        }
+        match self.log.force(&mut self.disk) {
+            Ok(()) => {
+                self.live = None;
+                Answer::Said(Reply::Done)
+            }
+            Err(fault) => self.halt(fault),
         }
     }
 }
