@@ -1,5 +1,5 @@
 -- How the orders that change something go, on what a store shows.
-use Rattle.std.proofs.Common.{◌≡◌, ◌⊎◌, inl, inr, ⊎_elim, ℕ, ◌+◌, ◌-◌, ◌<◌, ◌≤◌, ◌^◌, ◌==◌, nat_le, ◌&&◌, eq-eqb, Bool, true, false, cond, not, IsTrue, List, [], ◌∷◌, ◌++◌, length, find, Option, Some, None, Result, Ok, Err, refl, sym, ap, ◌∙◌, subst, arith, append_assoc, append-nil, length-append}
+use Rattle.std.proofs.Common.{◌≡◌, ◌⊎◌, inl, inr, ⊎_elim, ℕ, ◌+◌, ◌-◌, ◌<◌, ◌≤◌, ◌^◌, ◌==◌, nat_le, ◌&&◌, eq-eqb, Bool, true, false, cond, not, IsTrue, List, [], ◌∷◌, ◌++◌, length, find, Option, Some, None, Result, Ok, Err, IsOk, IsErr, refl, sym, ap, ◌∙◌, subst, arith, append_assoc, append-nil, length-append}
 use Rattle.std.specs.Option.{option_to_list}
 use Rattle.std.specs.FinMap.{empty}
 use Rattle.std.specs.Str.{bytes_eq}
@@ -20,7 +20,7 @@ use Rattle.sg_words.specs.Text.Answer.{Silent, BadSyntax, NoTransaction, IsLive,
 use Rattle.sg_words.specs.Run.{live_named, without, answer_of, began, committed, did, stop, stop_at_commit, stop_at, broken, full, turn, turn_verb, turn_begin, turn_commit, turn_op, IsSaid, IsLogged, WouldReply, Turns, Ends, Breaks, RunsOut, LineBy, IsCaused}
 use Rattle.sg_words.specs.Spoken.{op_said}
 use Rattle.sg_words.proofs.Steps.{live_objects-did}
-use Rattle.sg_record.specs.Records.{Record, spelled, transaction_of}
+use Rattle.sg_record.specs.Records.{Record, spelled, transaction_of, IsRecord}
 use Rattle.sg_record.specs.Records.Record.{Begin as BeginRecord, Commit as CommitRecord, Line as LineRecord}
 use Rattle.sg_log.specs.Frames.{LOG_END, HasRecords, IsBeforeOrAfter}
 use Rattle.sg_log.specs.Faults.{AppendFails, ForceFails}
@@ -30,11 +30,12 @@ use Rattle.sg_log.specs.Held.{Tail, tail_of, has_room, place_of, end_of, appende
 use Rattle.sg_log.proofs.Holding.{holds_image, all_appended, durable_either}
 use Rattle.sg_top.specs.Stands.{lines_by, commits_in, committed_lines, replay, after_line, after_op, if_replied, StandsFor, StandsForFirst}
 use Rattle.sg_top.specs.Store.{Core, IsSerial, AreSerial, AreBelow, AreOwn, IsNotAmong, IsOpen, IsOpenOrNone, Logs, Keeps, Runs, Shows}
-use Rattle.sg_top.specs.Shown.{shown_answer, answer_at}
+use Rattle.sg_top.specs.Shown.{shown_answer, answer_at, IsFullAnswer}
+use Rattle.sg_top.specs.declared.answer.Answer as code_answer
 use Rattle.sg_top.specs.Goes.{Goes, NEW_WORK_END, IsWork}
 use Rattle.sg_top.proofs.Replays.{replay-append, lines_by-above, commits_in-above, commits_in-append, commits_in-own, lines_by-append, lines_by-line, below-append, below-weaker, own-append}
 use Rattle.sg_top.proofs.Serial.{serial_began, serial_did, serial_committed, committed_live, without_one, after_commits}
-use Rattle.sg_top.proofs.Steps.{going_turn, never_said, named_none, named_one, tail-place, appended_place, forced_place, running_shows, stopped_shows, line_said, caused_said, own_after, uncommitted_after, durable_lines, one_after, begin-length, commit-length, place-tail, HoldsAfter, MomentsOf}
+use Rattle.sg_top.proofs.Steps.{op_end, op_memory, ends_within, grows_changing, going_turn, never_said, named_none, named_one, tail-place, appended_place, forced_place, running_shows, stopped_shows, line_said, caused_said, own_after, uncommitted_after, durable_lines, one_after, begin-length, commit-length, place-tail, HoldsAfter, MomentsOf}
 use Rattle.sg_top.proofs.Standing.{forced_lines, stands_either, of_log, replay_commit, first_same, first_others, first_all, stands}
 
 -- The store isn't stopped
@@ -411,6 +412,52 @@ module _ (told : Bool) (v : disk.View) (k : Core) (x : State) (shows : Shows tol
   force_fault name l faults.LogEnd w1 w mid m previous one is halted h later is_mid holds1 call1 call2 = absurd h
   force_fault name l (faults.Damaged at) w1 w mid m previous one is halted h later is_mid holds1 call1 call2 = absurd h
   force_fault name l faults.Memory w1 w mid m previous one is halted h later is_mid holds1 call1 call2 = absurd h
+
+  -- an operation that was refused, or only reads
+  pub op_unchanged : (name : List ℕ) (op : Op) (l : Live) (r : Result Reply Reason) (o : Objects) → k.live ≡ Some l → l.name ≡ name → step k.objects op ≡ (r, o) → (IsErr r) ⊎ (is_changing op ≡ false)
+      → Goes told v k x (Txn name (Do op)) (answer_of r) v (record k { objects = o })
+  op_unchanged name op l r o one is e why =
+      let first : (step k.objects op).0 ≡ r = ap (λ (p : Result Reply Reason × Objects). p.0) e in
+      let kept : (step k.objects op).1 ≡ k.objects = elim why [ inl refused ↦ step-refused k.objects op (subst (λ (a : Result Reply Reason). IsErr a) (sym first) refused) | inr reads ↦ step-reads k.objects op reads ] in
+      subst (λ (a : Result Reply Reason). Goes told v k x (Txn name (Do op)) (answer_of a) v (record k { objects = o })) first
+      (op_same name op l o one is (sym (ap (λ (p : Result Reply Reason × Objects). p.1) e)) kept (λ high work said. absurd (never_full r why (subst (λ (a : Result Reply Reason). IsSaid (answer_of a)) first said) work)))
+    where
+      never_full : (r : Result Reply Reason) → (IsErr r) ⊎ (is_changing op ≡ false) → IsSaid (answer_of r) → is_changing op ≡ true → ⊥
+      never_full (Ok reply) (inl refused) said work = absurd (cc)
+      never_full (Err reason) (inl refused) said work = said
+      never_full r (inr reads) said work = absurd (cc (reads, work))
+
+  -- an operation that the log has no room for
+  pub op_full : (name : List ℕ) (op : Op) (l : Live) (a : code_answer.Answer) (into : List ℕ) → k.live ≡ Some l → l.name ≡ name → is_changing op ≡ true → NEW_WORK_END < tail_of k.log → IsFullAnswer (step k.objects op).0 a
+      → Goes told v k x (Txn name (Do op)) (shown_answer into a) v k
+  op_full name op l a into one is changing high full_answer = by_outcome (step k.objects op).0 refl full_answer
+    where
+      by_outcome : (r : Result Reply Reason) → (step k.objects op).0 ≡ r → IsFullAnswer r a → Goes told v k x (Txn name (Do op)) (shown_answer into a) v k
+      by_outcome (Ok reply) e h =
+          subst (λ (b : code_answer.Answer). Goes told v k x (Txn name (Do op)) (shown_answer into b) v k) (sym h) (op_end told v k x shows running name op l one is changing (subst (λ (r : Result Reply Reason). IsSaid (answer_of r)) (sym e) tt) high)
+      by_outcome (Err reason) e h =
+          let kept : (step k.objects op).1 ≡ k.objects = step-refused k.objects op (subst (λ (r : Result Reply Reason). IsErr r) (sym e) refl) in
+          let P : Result Reply Reason → Objects → Result Reply Reason × Objects = λ r m. (r, m) in
+          subst (λ (b : code_answer.Answer). Goes told v k x (Txn name (Do op)) (shown_answer into b) v k) (sym h)
+          (op_unchanged name op l (Err reason) k.objects one is (ap (λ (r : Result Reply Reason). P r (step k.objects op).1) e ∙ ap (P (Err reason)) kept) (inl refl))
+
+  -- memory has run out in an operation that takes some
+  pub op_starved : (name : List ℕ) (op : Op) (l : Live) (o : Objects) → k.live ≡ Some l → l.name ≡ name → Grows op → IsOk (step k.objects op).0 → (is_changing op ≡ true → tail_of k.log ≤ NEW_WORK_END) → o ≡ k.objects
+      → Goes told v k x (Txn name (Do op)) Memory v (record k { objects = o })
+  op_starved name op l o one is grows fine low same =
+      subst (λ (m : Objects). Goes told v k x (Txn name (Do op)) Memory v (record k { objects = m })) (sym same) (op_memory told v k x shows running name op l one is grows (said_ok (step k.objects op).0 fine) (low (grows_changing op grows)))
+    where
+      said_ok : (r : Result Reply Reason) → IsOk r → IsSaid (answer_of r)
+      said_ok (Ok reply) h = tt
+      said_ok (Err reason) h = absurd (cc)
+
+  -- the log has failed as an operation's line was appended
+  pub op_fault : (name : List ℕ) (op : Op) (l : Live) (reply : Reply) (e : LogFault) (w : disk.View) (m : Core) (r : Record) (into : List ℕ) → m.stopped ≡ true → k.live ≡ Some l → l.name ≡ name → is_changing op ≡ true
+      → (step k.objects op).0 ≡ Ok reply → tail_of k.log ≤ NEW_WORK_END → IsRecord r → AppendFails (end_of k.log r) v w e → MomentsOf told v w k.log → Goes told v k x (Txn name (Do op)) (shown_answer into (answer_at e)) w m
+  op_fault name op l reply faults.Disk w m r into halted one is changing e low fields h call = op_breaks name op l w m halted one is changing (subst (λ (a : Result Reply Reason). IsSaid (answer_of a)) (sym e) tt) low h call
+  op_fault name op l reply faults.LogEnd w m r into halted one is changing e low fields h call = let within = ends_within k.log r fields low in absurd (omega arith)
+  op_fault name op l reply (faults.Damaged at) w m r into halted one is changing e low fields h call = absurd h
+  op_fault name op l reply faults.Memory w m r into halted one is changing e low fields h call = absurd h
 
 -- the same of an answer, a disk and a store that are known by equations
 pub goes_along : {told : Bool} {v : disk.View} {k : Core} {x : State} {order : Order} (a b : Answer) (u w : disk.View) (m n : Core) → a ≡ b → u ≡ w → m ≡ n → Goes told v k x order b w n → Goes told v k x order a u m

@@ -9,6 +9,7 @@ use Rattle.sg_disk.specs.Disk as disk
 use Rattle.sg_disk.proofs.Moments as moments
 use Rattle.sg_model.specs.declared.reason.Reason.{Reason}
 use Rattle.sg_model.specs.Objects.{Objects, Op, Reply, is_changing, Grows, step}
+use Rattle.sg_model.specs.Objects.Op.{MakeArray, MakeTable, MakeBlob, Discard, Push, Pop, Set, Get, Len, Apply, Put, Del, Find, Write, Read, Size, Paint}
 use Rattle.sg_model.specs.Objects.Reply.{Done}
 use Rattle.sg_model.specs.History.{Live, State, ops_of, live_objects, committed_objects}
 use Rattle.sg_model.proofs.Laws.{step-reads, step-refused}
@@ -305,3 +306,23 @@ tail_forced log = by_length (length log.buffer == 0) refl
     by_length : (b : Bool) → (length log.buffer == 0) ≡ b → cond b log.gate (log.gate + 5 + length log.buffer) ≤ tail_of (cond b log (record log { gate = log.gate + 5 + length log.buffer; buffer = [] }))
     by_length true e = rw e (omega arith)
     by_length false e = omega arith
+
+-- an operation that takes memory is a changing one
+pub grows_changing : (op : Op) → Grows op → is_changing op ≡ true
+grows_changing (MakeArray name size) h = refl
+grows_changing (Push name value) h = refl
+grows_changing (MakeTable name) h = refl
+grows_changing (MakeBlob name) h = refl
+grows_changing (Discard name) h = refl
+grows_changing (Pop name) h = refl
+grows_changing (Set name index value) h = refl
+grows_changing (Get name index) h = absurd h
+grows_changing (Len name) h = absurd h
+grows_changing (Apply name index code arg) h = refl
+grows_changing (Put name key value) h = refl
+grows_changing (Del name key) h = refl
+grows_changing (Find name key) h = absurd h
+grows_changing (Write name at bytes) h = refl
+grows_changing (Read name at count) h = absurd h
+grows_changing (Size name length) h = refl
+grows_changing (Paint name at count code arg) h = refl

@@ -1,7 +1,9 @@
 -- The code's answers and stores, as definitions speak of them.
-use Rattle.std.specs.Prelude.{ℕ, List, Option, is_some}
+use Rattle.std.specs.Prelude.{◌≡◌, ℕ, List, Option, is_some, Result, Ok, Err}
 use Rattle.std.specs.Option.{option_map}
 use Rattle.sg_model.specs.History.{Live}
+use Rattle.sg_model.specs.declared.reason.Reason.{Reason}
+use Rattle.sg_model.specs.Objects.{Reply}
 use Rattle.sg_model.specs.Replies.{shown_reply}
 use Rattle.sg_words.specs.Text.{Answer}
 use Rattle.sg_words.specs.Text.Answer.{Silent, BadSyntax, NoTransaction, IsLive, TooManyLive, Memory, Stopped, LogEnd, Disk, Said, Refused}
@@ -48,3 +50,8 @@ stop_at faults.LogEnd = stops.LogEnd
 stop_at faults.Disk = stops.Disk
 stop_at (faults.Damaged at) = stops.Disk
 stop_at faults.Memory = stops.Disk
+
+-- what an operation is answered where the log is full, by what it would have got
+abbrev pub IsFullAnswer : Result Reply Reason → code_answer.Answer → Type 0
+IsFullAnswer (Ok reply) answer = answer ≡ answers.LogEnd
+IsFullAnswer (Err reason) answer = answer ≡ answers.Refused reason

@@ -1,9 +1,9 @@
-ghost use Rattle.std.specs.Prelude.{◌≡◌, ◌≤◌, ◌<◌, [], List, ℕ, length, Option, Some, None, IsSome, MatchOption, true, false, is_some};
+ghost use Rattle.std.specs.Prelude.{◌≡◌, ◌≤◌, ◌<◌, [], List, ℕ, length, Option, Some, None, IsSome, IsTrue, IfErr, OnOk, MatchOption, true, false, is_some};
 ghost use Rattle.std.specs.Option.{option_to_list};
 ghost use Rattle.std.specs.Str.{bytes_eq};
 ghost use Rattle.sg_base.specs.Ends.{HasRisen};
 ghost use Rattle.sg_model.specs.History.{State};
-ghost use Rattle.sg_model.specs.Objects.{IsBuilt};
+ghost use Rattle.sg_model.specs.Objects.{IsBuilt, step};
 ghost use Rattle.sg_model.specs.Shown.{shown_op};
 ghost use Rattle.sg_words.specs.Order.{OrdersBuilt};
 ghost use Rattle.sg_words.specs.Order.Order.{Txn};
@@ -11,9 +11,16 @@ ghost use Rattle.sg_words.specs.Order.Verb.{Begin, Commit, Do};
 ghost use Rattle.sg_words.specs.Parse.{order_of};
 ghost use Rattle.sg_words.specs.Run.{live_named};
 ghost use Rattle.sg_words.specs.Shown.{shown_line};
+ghost use Rattle.sg_words.specs.Spoken.{spoken};
+ghost use Rattle.sg_disk.specs.Disk.{LeavesOnly};
+ghost use Rattle.sg_record.specs.Records.{Record, IsRecord};
+ghost use Rattle.sg_record.specs.Records.Record.{Line as LineRecord};
+ghost use Rattle.sg_log.specs.Faults.{AppendFails};
+ghost use Rattle.sg_log.specs.Frames.{IsBeforeOrAfter};
+ghost use Rattle.sg_log.specs.Held.{Holds, tail_of, end_of, appended, durable_after, waiting_after};
 ghost use Rattle.sg_top.specs.Store.{Shows};
-ghost use Rattle.sg_top.specs.Goes.{Goes};
-ghost use Rattle.sg_top.specs.Shown.{shown_answer, live_of, core_of, answer_at, stop_at};
+ghost use Rattle.sg_top.specs.Goes.{Goes, NEW_WORK_END};
+ghost use Rattle.sg_top.specs.Shown.{shown_answer, live_of, core_of, answer_at, stop_at, IsFullAnswer};
 
 use crate::answer::Answer;
 use sg_base::{Lsn, Name, OutOfMemory, TxnId};
@@ -143,6 +150,99 @@ impl<D: Disk> Store<D> {
                 self.live = None;
                 Answer::Said(Reply::Done)
             }
+            Err(fault) => self.halt(fault),
+        }
+    }
+
+    // Appends the line of an operation that was done to the log.
+    fn keep(&mut self, live: Running, text: &[u8], kept: &mut [u8]) -> Result<(), LogFault>
+        requires line { length text.now ≤ 32768 }
+        requires room { length text.now ≤ length kept.old }
+        requires live { self.old.live ≡ Some live }
+        ensures log { OnOk result (self.new.log ≡ appended self.old.log (LineRecord live.txn.0 live.last (spoken text.now))) }
+        ensures tail { OnOk result (tail_of self.new.log ≡ end_of self.old.log (LineRecord live.txn.0 live.last (spoken text.now))) }
+        ensures core { OnOk result (core_of self.new ≡ record (core_of self.old) { log = self.new.log }) }
+        ensures range { IsRecord (LineRecord live.txn.0 live.last (spoken text.now)) }
+        ensures same { (self.new.objects ≡ self.old.objects) × (self.new.stop ≡ self.old.stop) }
+        ensures faults { IfErr result (λ e. AppendFails (end_of self.old.log (LineRecord live.txn.0 live.last (spoken text.now))) (D.view self.old.disk) (D.view self.new.disk) e) }
+        ensures holds { (ds ps : List Record) → IsTrue D.told → Holds (D.view self.old.disk) self.old.log ds ps →
+            OnOk result (Holds (D.view self.new.disk) self.new.log (durable_after self.old.log (LineRecord live.txn.0 live.last (spoken text.now)) ds ps)
+                (waiting_after self.old.log (LineRecord live.txn.0 live.last (spoken text.now)) ps)) }
+        ensures any_moment { (ds ps : List Record) → IsTrue D.told → Holds (D.view self.old.disk) self.old.log ds ps →
+            LeavesOnly (D.view self.old.disk) (D.view self.new.disk) (IsBeforeOrAfter (D.view self.old.disk).now self.old.log.area self.old.log.base ds ps) }
+        ensures later { (D.view self.old.disk).faults ≤ (D.view self.new.disk).faults }
+    {
+        let size = join_words(text, kept);
+        let record = Rec::Line {
+            txn: live.txn,
+            prev: live.last,
+            words: &kept[..size],
+        };
+        match self.log.append(&mut self.disk, &record) {
+            Ok(last) => {
+                self.live = Some(Running { last, ..live });
+                Ok(())
+            }
+            Err(fault) => Err(fault),
+        }
+    }
+
+    // Whether the log's tail is too high for new work.
+    fn is_full(&self, changing: bool) -> bool
+        ensures full { IsTrue result → (changing ≡ true) × (NEW_WORK_END < tail_of self.now.log) }
+        ensures low { result ≡ false → changing ≡ true → tail_of self.now.log ≤ NEW_WORK_END }
+    {
+        changing && self.log.tail() > NEW_WORK_END
+    }
+
+    // What an operation is answered where the log is full: the reason that it has anyway comes first.
+    fn refuse(&self, op: &Op<'_>) -> Answer
+        requires { IsBuilt (shown_op op.now) }
+        ensures { IsFullAnswer (step self.now.objects (shown_op op.now)).0 result }
+    {
+        match self.objects.refusal(op) {
+            Some(reason) => Answer::Refused(reason),
+            None => Answer::LogEnd,
+        }
+    }
+
+    // Does an operation of the live transaction, if it has this name. `text` is the line that says it.
+    fn perform(
+        &mut self,
+        alloc: Global,
+        name: Name,
+        op: &Op<'_>,
+        text: &[u8],
+        kept: &mut [u8],
+        into: &mut [u8],
+    ) -> Answer
+        requires running { (core_of self.old).stopped ≡ false }
+        requires built { IsBuilt (shown_op op.now) }
+        requires said { order_of text.now ≡ Txn name (Do (shown_op op.now)) }
+        requires line { length text.now ≤ 32768 }
+        requires kept { 32768 ≤ length kept.old }
+        requires into { 8192 ≤ length into.old }
+        ensures goes { (x : State) → Shows D.told (D.view self.old.disk) (core_of self.old) x
+            → Goes D.told (D.view self.old.disk) (core_of self.old) x (Txn name (Do (shown_op op.now))) (shown_answer into.new result) (D.view self.new.disk) (core_of self.new) }
+        ensures later { (D.view self.old.disk).faults ≤ (D.view self.new.disk).faults }
+    {
+        let Some(live) = self.named(name) else {
+            return Answer::NoTransaction;
+        };
+        let changing = op.is_changing();
+        if self.is_full(changing) {
+            return self.refuse(op);
+        }
+        let reply = match self.objects.apply(alloc, op, into) {
+            Ok(Ok(reply)) => reply,
+            Ok(Err(reason)) => return Answer::Refused(reason),
+            Err(OutOfMemory) => return Answer::Memory,
+        };
+        if !changing {
+            return Answer::Said(reply);
+        }
+        match self.keep(live, text, kept) {
+            Ok(()) => Answer::Said(reply),
             Err(fault) => self.halt(fault),
         }
     }
