@@ -395,23 +395,23 @@ module _ (told : Bool) (v : disk.View) (k : Core) (x : State) (shows : Shows tol
       }
 
   -- the log has failed as a commit's record was appended
-  pub commit_fault : (name : List ℕ) (l : Live) (e : LogFault) (w : disk.View) (m : Core) (previous : ℕ) → k.live ≡ Some l → l.name ≡ name → m.stopped ≡ true
-      → AppendFails (end_of k.log (CommitRecord l.transaction previous)) v w e → (e ≡ faults.LogEnd → w ≡ v) → MomentsOf told v w k.log → Goes told v k x (Txn name Commit) (shown_answer [] (answer_at e)) w m
-  commit_fault name l faults.LogEnd w m previous one is halted h same call =
+  pub commit_fault : (name : List ℕ) (l : Live) (e : LogFault) (w : disk.View) (m : Core) (previous : ℕ) (into : List ℕ) → k.live ≡ Some l → l.name ≡ name → m.stopped ≡ true
+      → AppendFails (end_of k.log (CommitRecord l.transaction previous)) v w e → (e ≡ faults.LogEnd → w ≡ v) → MomentsOf told v w k.log → Goes told v k x (Txn name Commit) (shown_answer into (answer_at e)) w m
+  commit_fault name l faults.LogEnd w m previous into one is halted h same call =
       let high : NEW_WORK_END < tail_of k.log = omega (arith, h, place-tail k.log (CommitRecord l.transaction previous), commit-length l.transaction previous) in
       subst (λ (u : disk.View). Goes told v k x (Txn name Commit) LogEnd u m) (sym (same refl)) (commit_end name l m one is halted high)
-  commit_fault name l faults.Disk w m previous one is halted h same call = commit_breaks name l w m one is halted h call
-  commit_fault name l (faults.Damaged at) w m previous one is halted h same call = absurd h
-  commit_fault name l faults.Memory w m previous one is halted h same call = absurd h
+  commit_fault name l faults.Disk w m previous into one is halted h same call = commit_breaks name l w m one is halted h call
+  commit_fault name l (faults.Damaged at) w m previous into one is halted h same call = absurd h
+  commit_fault name l faults.Memory w m previous into one is halted h same call = absurd h
 
   -- and as it was forced
-  pub force_fault : (name : List ℕ) (l : Live) (e : LogFault) (w1 w : disk.View) (mid : Tail) (m : Core) (previous : ℕ) → k.live ≡ Some l → l.name ≡ name → m.stopped ≡ true → ForceFails w1 w e → v.faults ≤ w1.faults
+  pub force_fault : (name : List ℕ) (l : Live) (e : LogFault) (w1 w : disk.View) (mid : Tail) (m : Core) (previous : ℕ) (into : List ℕ) → k.live ≡ Some l → l.name ≡ name → m.stopped ≡ true → ForceFails w1 w e → v.faults ≤ w1.faults
       → mid ≡ appended k.log (CommitRecord l.transaction previous) → HoldsAfter told v w1 k.log mid (CommitRecord l.transaction previous) → MomentsOf told v w1 k.log → MomentsOf told w1 w mid
-      → Goes told v k x (Txn name Commit) (shown_answer [] (answer_at e)) w m
-  force_fault name l faults.Disk w1 w mid m previous one is halted h later is_mid holds1 call1 call2 = force_breaks name l w1 w mid m previous one is halted (λ room. omega (arith, h room)) is_mid holds1 call1 call2
-  force_fault name l faults.LogEnd w1 w mid m previous one is halted h later is_mid holds1 call1 call2 = absurd h
-  force_fault name l (faults.Damaged at) w1 w mid m previous one is halted h later is_mid holds1 call1 call2 = absurd h
-  force_fault name l faults.Memory w1 w mid m previous one is halted h later is_mid holds1 call1 call2 = absurd h
+      → Goes told v k x (Txn name Commit) (shown_answer into (answer_at e)) w m
+  force_fault name l faults.Disk w1 w mid m previous into one is halted h later is_mid holds1 call1 call2 = force_breaks name l w1 w mid m previous one is halted (λ room. omega (arith, h room)) is_mid holds1 call1 call2
+  force_fault name l faults.LogEnd w1 w mid m previous into one is halted h later is_mid holds1 call1 call2 = absurd h
+  force_fault name l (faults.Damaged at) w1 w mid m previous into one is halted h later is_mid holds1 call1 call2 = absurd h
+  force_fault name l faults.Memory w1 w mid m previous into one is halted h later is_mid holds1 call1 call2 = absurd h
 
   -- an operation that was refused, or only reads
   pub op_unchanged : (name : List ℕ) (op : Op) (l : Live) (r : Result Reply Reason) (o : Objects) → k.live ≡ Some l → l.name ≡ name → step k.objects op ≡ (r, o) → (IsErr r) ⊎ (is_changing op ≡ false)
@@ -463,3 +463,6 @@ module _ (told : Bool) (v : disk.View) (k : Core) (x : State) (shows : Shows tol
 pub goes_along : {told : Bool} {v : disk.View} {k : Core} {x : State} {order : Order} (a b : Answer) (u w : disk.View) (m n : Core) → a ≡ b → u ≡ w → m ≡ n → Goes told v k x order b w n → Goes told v k x order a u m
 goes_along {told = told} {v = v} {k = k} {x = x} {order = order} a b u w m n same_answer same_disk same_core h =
     subst (λ (p : Answer). Goes told v k x order p u m) (sym same_answer) (subst (λ (z : disk.View). Goes told v k x order b z m) (sym same_disk) (subst (λ (c : Core). Goes told v k x order b w c) (sym same_core) h))
+
+pub goes_order : {told : Bool} {v w : disk.View} {k m : Core} {x : State} {answer : Answer} (o p : Order) → o ≡ p → Goes told v k x p answer w m → Goes told v k x o answer w m
+goes_order {told = told} {v = v} {w = w} {k = k} {m = m} {x = x} {answer = answer} o p same h = subst (λ (q : Order). Goes told v k x q answer w m) (sym same) h

@@ -2,3 +2,4 @@ pub mod Stands
 pub mod Store
 pub mod Goes
 pub mod Shown
+pub mod Sessions

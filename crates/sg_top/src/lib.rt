@@ -2,6 +2,9 @@
 #![tactic(auto)]
 
 mod answer;
+mod session;
 mod store;
 
 pub use answer::Answer;
+pub use session::Session;
+pub use store::Stop;

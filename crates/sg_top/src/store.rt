@@ -1,4 +1,4 @@
-ghost use Rattle.std.specs.Prelude.{◌≡◌, ◌≤◌, ◌<◌, [], List, ℕ, length, Option, Some, None, IsSome, IsTrue, IfErr, OnOk, MatchOption, true, false, is_some};
+ghost use Rattle.std.specs.Prelude.{◌≡◌, ◌≤◌, ◌<◌, List, ℕ, length, Option, Some, None, IsSome, IsTrue, IfErr, OnOk, MatchOption, true, false, is_some};
 ghost use Rattle.std.specs.Option.{option_to_list};
 ghost use Rattle.std.specs.Str.{bytes_eq};
 ghost use Rattle.sg_base.specs.Ends.{HasRisen};
@@ -80,8 +80,8 @@ impl<D: Disk> Store<D> {
     // Begins a transaction, where none is live.
     fn begin(&mut self, name: Name) -> Answer
         requires { (core_of self.old).stopped ≡ false }
-        ensures goes { (x : State) → Shows D.told (D.view self.old.disk) (core_of self.old) x
-            → Goes D.told (D.view self.old.disk) (core_of self.old) x (Txn name Begin) (shown_answer [] result) (D.view self.new.disk) (core_of self.new) }
+        ensures goes { (into : List ℕ) (x : State) → Shows D.told (D.view self.old.disk) (core_of self.old) x
+            → Goes D.told (D.view self.old.disk) (core_of self.old) x (Txn name Begin) (shown_answer into result) (D.view self.new.disk) (core_of self.new) }
         ensures later { (D.view self.old.disk).faults ≤ (D.view self.new.disk).faults }
     {
         if let Some(live) = self.live {
@@ -130,8 +130,8 @@ impl<D: Disk> Store<D> {
     // Commits the live transaction, if it has this name.
     fn commit(&mut self, name: Name) -> Answer
         requires { (core_of self.old).stopped ≡ false }
-        ensures goes { (x : State) → Shows D.told (D.view self.old.disk) (core_of self.old) x
-            → Goes D.told (D.view self.old.disk) (core_of self.old) x (Txn name Commit) (shown_answer [] result) (D.view self.new.disk) (core_of self.new) }
+        ensures goes { (into : List ℕ) (x : State) → Shows D.told (D.view self.old.disk) (core_of self.old) x
+            → Goes D.told (D.view self.old.disk) (core_of self.old) x (Txn name Commit) (shown_answer into result) (D.view self.new.disk) (core_of self.new) }
         ensures later { (D.view self.old.disk).faults ≤ (D.view self.new.disk).faults }
     {
         let Some(live) = self.named(name) else {
@@ -244,6 +244,40 @@ impl<D: Disk> Store<D> {
         match self.keep(live, text, kept) {
             Ok(()) => Answer::Said(reply),
             Err(fault) => self.halt(fault),
+        }
+    }
+
+    /// Answers what a line says. `text` is the line; `kept` takes the words that the log keeps of it,
+    /// and `into` the bytes of a reply.
+    pub fn answer(
+        &mut self,
+        alloc: Global,
+        line: &Line<'_>,
+        text: &[u8],
+        kept: &mut [u8],
+        into: &mut [u8],
+    ) -> Answer
+        requires built { OrdersBuilt (shown_line line.now) }
+        requires said { order_of text.now ≡ shown_line line.now }
+        requires kept { 32768 ≤ length kept.old }
+        requires into { 8192 ≤ length into.old }
+        ensures goes { (x : State) → Shows D.told (D.view self.old.disk) (core_of self.old) x
+            → Goes D.told (D.view self.old.disk) (core_of self.old) x (order_of text.now) (shown_answer into.new result) (D.view self.new.disk) (core_of self.new) }
+        ensures later { (D.view self.old.disk).faults ≤ (D.view self.new.disk).faults }
+    {
+        match line {
+            Line::Blank => Answer::Silent,
+            Line::Syntax => Answer::BadSyntax,
+            Line::Txn { name, verb } => {
+                if self.stop.is_some() {
+                    return Answer::Stopped;
+                }
+                match verb {
+                    Verb::Begin => self.begin(*name),
+                    Verb::Commit => self.commit(*name),
+                    Verb::Do(op) => self.perform(alloc, *name, op, text, kept, into),
+                }
+            }
         }
     }
 }

@@ -1,5 +1,6 @@
 -- The words that a log keeps of a line say what the line said.
-use Rattle.std.proofs.Common.{◌≡◌, ℕ, Bool, true, false, cond, ◌==◌, nat_lt, List, [], ◌∷◌, ◌++◌, length, filter, Option, Some, None, refl, sym, ap, ◌∙◌, append-nil}
+use Rattle.std.proofs.Common.{◌≡◌, ℕ, Bool, true, false, cond, ◌==◌, nat_lt, List, [], ◌∷◌, ◌++◌, length, filter, Option, Some, None, refl, sym, ap, ◌∙◌, append-nil, ◌<◌, ◌≤◌, arith}
+use Rattle.std.proofs.lemmas.Bool.Decides.{nat_tests}
 use Rattle.std.specs.Prelude.{slice_index}
 use Rattle.std.specs.List.{slice_split, onto_first, join_with_byte}
 use Rattle.std.specs.Str.Lines.{strip_carriage_return}
@@ -115,3 +116,19 @@ join-spaced word (next ∷ words) = ap (λ (t : List ℕ). word ++ 32 ∷ t) (jo
 pub spoken-joined : (line name word front : List ℕ) (rest after : List (List ℕ)) → words_of (strip_carriage_return line) ≡ name ∷ rest → rest ≡ word ∷ after → front ≡ word → front ++ spaced after ≡ spoken line
 spoken-joined line name word front rest after is_line is_rest is_front =
     ap (λ (t : List ℕ). t ++ spaced after) is_front ∙ (sym (join-spaced word after) ∙ (sym (ap (join_with_byte 32) is_rest) ∙ sym (ap (λ (ws : List (List ℕ)). join_with_byte 32 (later_words ws)) is_line)))
+
+-- a line that names a transaction isn't too long
+pub order_of-short : (line name : List ℕ) (verb : Verb) → order_of line ≡ Txn name verb → length line ≤ most_line_bytes
+unfolding order_of
+order_of-short line name verb e = by_length (nat_lt most_line_bytes (length line)) refl e
+  where
+    by_length : (b : Bool) → nat_lt most_line_bytes (length line) ≡ b → cond b Syntax (cond (slice_index line 0 == 35) Blank (order_of_words (words_of (strip_carriage_return line)))) ≡ Txn name verb → length line ≤ most_line_bytes
+    by_length true is h = absurd (cc)
+    by_length false is h = grind (arith, nat_tests, is)
+
+-- one that is too long says nothing
+pub order_of-long : (line : List ℕ) → most_line_bytes < length line → order_of line ≡ Syntax
+unfolding order_of
+order_of-long line long =
+    let is : nat_lt most_line_bytes (length line) ≡ true = grind (arith, nat_tests, long) in
+    ap (λ b. cond b Syntax (cond (slice_index line 0 == 35) Blank (order_of_words (words_of (strip_carriage_return line))))) is
