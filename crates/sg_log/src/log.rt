@@ -104,9 +104,9 @@ impl Log {
         }
     }
 
-    // Where the record would begin.
+    /// The number that the record's first byte would have, if it were appended now.
     #[tactic(auto, using(crate::proofs::Holding::spelled_most))]
-    fn place(&self, r: &Rec<'_>) -> Lsn
+    pub fn place(&self, r: &Rec<'_>) -> Lsn
         requires { IsRecord (shown r.now) }
         ensures place { result ≡ place_of self.now (shown r.now) }
         ensures low { result ≤ 2 ^ 63 + 2 ^ 17 }

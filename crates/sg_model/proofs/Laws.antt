@@ -1,5 +1,5 @@
 -- Which operations leave the objects as they are.
-use Rattle.std.proofs.Common.{◌≡◌, ℕ, Bool, true, false, cond, List, length, Option, Some, None, Result, Ok, Err, IsErr, refl}
+use Rattle.std.proofs.Common.{◌≡◌, ℕ, Bool, true, false, cond, List, length, Option, Some, None, Result, Ok, Err, IsErr, IsOk, MatchOption, refl, sym, ap, ◌∙◌, subst}
 use Rattle.std.specs.FinMap.{get}
 use Rattle.sg_model.specs.declared.reason.Reason.{Reason}
 use Rattle.sg_model.specs.Objects.{Object, Objects, Op, Reply, Outcome, Change, step, make_array, put_back, change_at, is_changing, is_item_size}
@@ -62,3 +62,16 @@ step-refused s (Write name at bytes) h = refl
 step-refused s (Read name at count) h = refl
 step-refused s (Size name length) h = refl
 step-refused s (Paint name at count code arg) h = refl
+
+put_back-answer : (s : Objects) (name : List ℕ) (o : Object) (r : Result Reply Reason) → (put_back s name o r).0 ≡ r
+put_back-answer s name o (Ok reply) = refl
+put_back-answer s name o (Err reason) = refl
+
+-- an object that is there answers a change
+pub refusal_there : (s : Objects) (name : List ℕ) (change : Object → Change) (o : Object) (refusal : Option Reason) → get s name ≡ Some o
+    → MatchOption refusal (IsOk (change o).0) (λ reason. (change o).0 ≡ Err reason)
+    → MatchOption refusal (IsOk (change_at s name change (get s name)).0) (λ reason. (change_at s name change (get s name)).0 ≡ Err reason)
+refusal_there s name change o refusal there h =
+    let is : (change_at s name change (get s name)).0 ≡ (change o).0 = ap (λ (x : Option Object). (change_at s name change x).0) there ∙ put_back-answer s name (change o).1 (change o).0 in
+    let P : Result Reply Reason → Type 0 = λ r. MatchOption refusal (IsOk r) (λ reason. r ≡ Err reason) in
+    subst P (sym is) h

@@ -1,4 +1,4 @@
-ghost use Rattle.std.specs.Prelude.{◌≡◌, ◌<◌, ◌≤◌, [], ◌∷◌, ◌++◌, List, ℕ, length, IfSome, OnOk, OnErr, IsOk, slice_get, slice_set, option_copied, IfOk};
+ghost use Rattle.std.specs.Prelude.{◌≡◌, ◌<◌, ◌≤◌, [], ◌∷◌, ◌++◌, List, ℕ, length, IfSome, OnOk, OnErr, IsOk, slice_get, slice_set, option_copied, IfOk, MatchOption, Err};
 ghost use Rattle.sg_model.specs.Replies.{shown_result};
 ghost use Rattle.sg_model.specs.Objects.{push_item, set_item};
 ghost use Rattle.sg_model.specs.Objects.Object.{Array as as_object};
@@ -114,6 +114,32 @@ impl Array {
         }
         self.replace(index as usize, value);
         Ok(Reply::Done)
+    }
+
+    /// Why an item would not be added, if it would not.
+    pub fn push_refusal(&self, value: &[u8]) -> Option<Reason>
+        ensures { MatchOption result (IsOk (push_item self.now value.now).0) (λ reason. (push_item self.now value.now).0 ≡ Err reason) }
+    {
+        if value.len() as u64 != self.size() {
+            return Some(Reason::Declined);
+        }
+        if self.len() >= MOST_ITEMS {
+            return Some(Reason::TooMany);
+        }
+        None
+    }
+
+    /// Why the item at an index would not be replaced, if it would not.
+    pub fn set_refusal(&self, index: u64, value: &[u8]) -> Option<Reason>
+        ensures { MatchOption result (IsOk (set_item self.now index value.now).0) (λ reason. (set_item self.now index value.now).0 ≡ Err reason) }
+    {
+        if index >= self.len() as u64 {
+            return Some(Reason::OutOfRange);
+        }
+        if value.len() as u64 != self.size() {
+            return Some(Reason::Declined);
+        }
+        None
     }
 
     /// The item at an index, if it is there.

@@ -1,4 +1,4 @@
-ghost use Rattle.std.specs.Prelude.{◌≡◌, ◌<◌, ◌≤◌, [], ◌∷◌, ◌++◌, List, ℕ, length, take, IfOk, OnErr, IsOk, slice_get, Some, None};
+ghost use Rattle.std.specs.Prelude.{◌≡◌, ◌<◌, ◌≤◌, [], ◌∷◌, ◌++◌, List, ℕ, length, take, IfOk, OnErr, IsOk, MatchOption, slice_get, Some, None, Err};
 ghost use Rattle.std.specs.FinMap as finmap;
 ghost use Rattle.sg_model.specs.Objects.{step, make_array, push_item, push_at, set_item, set_at, read_item, on_array, IsBuilt, Grows};
 ghost use Rattle.sg_model.specs.Replies.{shown_result};
@@ -181,6 +181,83 @@ impl Objects {
                     Ok(Reply::Bytes(item.len()))
                 }
             },
+        }
+    }
+
+    #[tactic(auto, using(crate::proofs::Found::look))]
+    fn make_array_refusal(&self, name: Name, size: u64) -> Option<Reason>
+        ensures { MatchOption result (IsOk (make_array self.now name size (finmap.get self.now name)).0)
+            (λ reason. (make_array self.now name size (finmap.get self.now name)).0 ≡ Err reason) }
+    {
+        if self.map.contains_key(&name) {
+            return Some(Reason::Exists);
+        }
+        if size < 1 || size > 256 {
+            return Some(Reason::OutOfRange);
+        }
+        None
+    }
+
+    #[tactic(auto, using(crate::proofs::Found::look))]
+    fn push_refusal(&self, name: Name, value: &[u8]) -> Option<Reason>
+        ensures { MatchOption result (IsOk (push_at self.now name value.now).0) (λ reason. (push_at self.now name value.now).0 ≡ Err reason) }
+    {
+        match self.map.get(&name) {
+            None => Some(Reason::NoObject),
+            Some(Object::Blob(_)) => Some(Reason::WrongKind),
+            Some(Object::Array(array)) => array.push_refusal(value),
+        }
+    }
+
+    #[tactic(auto, using(crate::proofs::Found::look))]
+    fn set_refusal(&self, name: Name, index: u64, value: &[u8]) -> Option<Reason>
+        ensures { MatchOption result (IsOk (set_at self.now name index value.now).0) (λ reason. (set_at self.now name index value.now).0 ≡ Err reason) }
+    {
+        match self.map.get(&name) {
+            None => Some(Reason::NoObject),
+            Some(Object::Blob(_)) => Some(Reason::WrongKind),
+            Some(Object::Array(array)) => array.set_refusal(index, value),
+        }
+    }
+
+    #[tactic(auto, using(crate::proofs::Found::look))]
+    fn get_refusal(&self, name: Name, index: u64) -> Option<Reason>
+        ensures { MatchOption result (IsOk (read_item index (finmap.get self.now name))) (λ reason. read_item index (finmap.get self.now name) ≡ Err reason) }
+    {
+        match self.map.get(&name) {
+            None => Some(Reason::NoObject),
+            Some(Object::Blob(_)) => Some(Reason::WrongKind),
+            Some(Object::Array(array)) => match array.get(index) {
+                None => Some(Reason::OutOfRange),
+                Some(_) => None,
+            },
+        }
+    }
+
+    /// Why an operation would be refused, if it would. It changes nothing and takes no memory.
+    #[tactic(auto, unfolding(crate::specs::Objects::step))]
+    pub fn refusal(&self, op: &Op<'_>) -> Option<Reason>
+        requires { IsBuilt (shown_op op.now) }
+        ensures { MatchOption result (IsOk (step self.now (shown_op op.now)).0) (λ reason. (step self.now (shown_op op.now)).0 ≡ Err reason) }
+    {
+        match *op {
+            Op::MakeArray { name, size } => self.make_array_refusal(name, size),
+            Op::Push { name, value } => self.push_refusal(name, value),
+            Op::Set { name, index, value } => self.set_refusal(name, index, value),
+            Op::Get { name, index } => self.get_refusal(name, index),
+            Op::MakeTable { .. }
+            | Op::MakeBlob { .. }
+            | Op::Discard { .. }
+            | Op::Pop { .. }
+            | Op::Len { .. }
+            | Op::Apply { .. }
+            | Op::Put { .. }
+            | Op::Del { .. }
+            | Op::Find { .. }
+            | Op::Write { .. }
+            | Op::Read { .. }
+            | Op::Size { .. }
+            | Op::Paint { .. } => unreachable!(),
         }
     }
 

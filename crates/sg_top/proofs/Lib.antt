@@ -1,1 +1,5 @@
 pub mod Replays
+pub mod Serial
+pub mod Standing
+pub mod Steps
+pub mod Changes

@@ -1,2 +1,4 @@
 pub mod Stands
 pub mod Store
+pub mod Goes
+pub mod Shown

@@ -1,0 +1,465 @@
+-- How the orders that change something go, on what a store shows.
+use Rattle.std.proofs.Common.{◌≡◌, ◌⊎◌, inl, inr, ⊎_elim, ℕ, ◌+◌, ◌-◌, ◌<◌, ◌≤◌, ◌^◌, ◌==◌, nat_le, ◌&&◌, eq-eqb, Bool, true, false, cond, not, IsTrue, List, [], ◌∷◌, ◌++◌, length, find, Option, Some, None, Result, Ok, Err, IsOk, IsErr, refl, sym, ap, ◌∙◌, subst, arith, append_assoc, append-nil, length-append}
+use Rattle.std.specs.Option.{option_to_list}
+use Rattle.std.specs.FinMap.{empty}
+use Rattle.std.specs.Str.{bytes_eq}
+use Rattle.sg_base.specs.Ends.{HasRisen}
+use Rattle.sg_base.specs.declared.area.Area.TheVariants.{Log0}
+use Rattle.sg_disk.specs.Disk as disk
+use Rattle.sg_disk.proofs.Moments as moments
+use Rattle.sg_model.specs.declared.reason.Reason.{Reason}
+use Rattle.sg_model.specs.Objects.{Objects, Op, Reply, is_changing, Grows, step}
+use Rattle.sg_model.specs.Objects.Reply.{Done}
+use Rattle.sg_model.specs.History.{Live, State, ops_of, live_objects, committed_objects, objects_after}
+use Rattle.sg_model.proofs.Laws.{step-reads, step-refused}
+use Rattle.sg_words.specs.Order.{Order, Verb}
+use Rattle.sg_words.specs.Order.Order.{Blank, Syntax, Txn}
+use Rattle.sg_words.specs.Order.Verb.{Begin, Commit, Do}
+use Rattle.sg_words.specs.Text.{Answer}
+use Rattle.sg_words.specs.Text.Answer.{Silent, BadSyntax, NoTransaction, IsLive, TooManyLive, Memory, Stopped, LogEnd, Disk, Said, Refused}
+use Rattle.sg_words.specs.Run.{live_named, without, answer_of, began, committed, did, stop, stop_at_commit, stop_at, broken, full, turn, turn_verb, turn_begin, turn_commit, turn_op, IsSaid, IsLogged, WouldReply, Turns, Ends, Breaks, RunsOut, LineBy, IsCaused}
+use Rattle.sg_words.specs.Spoken.{op_said}
+use Rattle.sg_words.proofs.Steps.{live_objects-did}
+use Rattle.sg_record.specs.Records.{Record, spelled, transaction_of, IsRecord}
+use Rattle.sg_record.specs.Records.Record.{Begin as BeginRecord, Commit as CommitRecord, Line as LineRecord}
+use Rattle.sg_log.specs.Frames.{LOG_END, HasRecords, IsBeforeOrAfter}
+use Rattle.sg_log.specs.Faults.{AppendFails, ForceFails}
+use Rattle.sg_log.specs.declared.fault.LogFault.{LogFault}
+use Rattle.sg_log.specs.declared.fault.LogFault.TheVariants as faults
+use Rattle.sg_log.specs.Held.{Tail, tail_of, has_room, place_of, end_of, appended, forced, Holds, durable_after, waiting_after}
+use Rattle.sg_log.proofs.Holding.{holds_image, all_appended, durable_either}
+use Rattle.sg_top.specs.Stands.{lines_by, commits_in, committed_lines, replay, after_line, after_op, if_replied, StandsFor, StandsForFirst}
+use Rattle.sg_top.specs.Store.{Core, IsSerial, AreSerial, AreBelow, AreOwn, IsNotAmong, IsOpen, IsOpenOrNone, Logs, Keeps, Runs, Shows}
+use Rattle.sg_top.specs.Shown.{shown_answer, answer_at, IsFullAnswer}
+use Rattle.sg_top.specs.declared.answer.Answer as code_answer
+use Rattle.sg_top.specs.Goes.{Goes, NEW_WORK_END, IsWork}
+use Rattle.sg_top.proofs.Replays.{replay-append, lines_by-above, commits_in-above, commits_in-append, commits_in-own, lines_by-append, lines_by-line, below-append, below-weaker, own-append}
+use Rattle.sg_top.proofs.Serial.{serial_began, serial_did, serial_committed, committed_live, without_one, after_commits}
+use Rattle.sg_top.proofs.Steps.{op_end, op_memory, ends_within, grows_changing, going_turn, never_said, named_none, named_one, tail-place, appended_place, forced_place, running_shows, stopped_shows, line_said, caused_said, own_after, uncommitted_after, durable_lines, one_after, begin-length, commit-length, place-tail, HoldsAfter, MomentsOf}
+use Rattle.sg_top.proofs.Standing.{forced_lines, stands_either, of_log, replay_commit, first_same, first_others, first_all, stands}
+
+-- The store isn't stopped
+module _ (told : Bool) (v : disk.View) (k : Core) (x : State) (shows : Shows told v k x) (running : k.stopped ≡ false) where
+  going : x.stopped ≡ false
+  going = sym shows.stopped ∙ running
+
+  runs : Runs told v k x
+  runs = shows.runs going
+
+  none_live : k.live ≡ None → x.live ≡ []
+  none_live none = runs.live ∙ ap option_to_list none
+
+  one_live : (l : Live) → k.live ≡ Some l → x.live ≡ l ∷ []
+  one_live l one = runs.live ∙ ap option_to_list one
+
+  -- what an operation is answered
+  op_turn : (name : List ℕ) (op : Op) (l : Live) → k.live ≡ Some l → l.name ≡ name → (n : ℕ) → turn x n (Txn name (Do op)) ≡ (answer_of (step k.objects op).0, did x l.transaction op)
+  op_turn name op l one is n =
+      let P : Objects → Answer × State = λ m. (answer_of (step m op).0, did x l.transaction op) in
+      going_turn x n name (Do op) going ∙ (ap (turn_op x op) (named_one x l name (one_live l one) is) ∙ ap P (sym runs.objects))
+
+  -- an operation that leaves the objects as they were
+  pub op_same : (name : List ℕ) (op : Op) (l : Live) (o : Objects) → k.live ≡ Some l → l.name ≡ name → o ≡ (step k.objects op).1 → (step k.objects op).1 ≡ k.objects
+      → (NEW_WORK_END < tail_of k.log → IsWork (Txn name (Do op)) → IsSaid (answer_of (step k.objects op).0) → answer_of (step k.objects op).0 ≡ LogEnd)
+      → Goes told v k x (Txn name (Do op)) (answer_of (step k.objects op).0) v (record k { objects = o })
+  op_same name op l o one is answered kept is_full =
+      let y : State = did x l.transaction op in
+      let e = op_turn name op l one is in
+      let live : live_objects y ≡ live_objects x = live_objects-did x l.transaction op ∙ (ap (λ (m : Objects). (step m op).1) (sym runs.objects) ∙ (kept ∙ runs.objects)) in
+      let after : Shows told v (record k { objects = o }) y = running_shows told v (record k { objects = o }) y running going (record {
+        serial = serial_did x l op runs.serial (one_live l one);
+        objects = answered ∙ (ap (λ (m : Objects). (step m op).1) runs.objects ∙ sym (live_objects-did x l.transaction op));
+        live = runs.live;
+        next = runs.next;
+        answered = runs.answered;
+        area = runs.area;
+        base = runs.base;
+        keeps = λ is_told.
+          let kept_logs = runs.keeps is_told in
+          record {
+            durable = kept_logs.durable;
+            waiting = kept_logs.waiting;
+            holds = kept_logs.holds;
+            logs = record {
+              durable = kept_logs.logs.durable;
+              below = kept_logs.logs.below;
+              open_one = still_open k.live kept_logs.durable kept_logs.waiting live kept_logs.logs.open_one;
+            };
+          };
+      }) in
+      record {
+        after = y;
+        line = line_said x (Txn name (Do op)) (step k.objects op).0 y (record { number = x.next; above = omega arith; turned = e x.next });
+        caused = caused_said (HasRisen v.faults v.faults) (NEW_WORK_END < tail_of k.log) (step k.objects op).0;
+        full = λ high work said. is_full high work (subst IsSaid (ap (λ (p : Answer × State). p.0) (e x.next)) said);
+        shows = after;
+        moments = λ is_told. moments.started v (StandsForFirst x.answered y) (after.images is_told);
+      }
+    where
+      still_open : (live : Option Live) (ds ps : List Record) → live_objects (did x l.transaction op) ≡ live_objects x → IsOpenOrNone x ds ps live → IsOpenOrNone (did x l.transaction op) ds ps live
+      still_open None ds ps same h = h
+      still_open (Some j) ds ps same h = record { own = h.own; uncommitted = h.uncommitted; lines = h.lines ∙ ap Some (sym same) }
+
+  -- an operation whose line the log keeps
+  pub op_logged : (name : List ℕ) (op : Op) (l : Live) (reply : Reply) (o : Objects) (w : disk.View) (new : Tail) (previous : ℕ) (words : List ℕ) → k.live ≡ Some l → l.name ≡ name
+      → o ≡ (step k.objects op).1 → (step k.objects op).0 ≡ Ok reply → op_said words ≡ Some op → tail_of k.log ≤ NEW_WORK_END
+      → new ≡ appended k.log (LineRecord l.transaction previous words) → tail_of new ≡ end_of k.log (LineRecord l.transaction previous words)
+      → HoldsAfter told v w k.log new (LineRecord l.transaction previous words) → MomentsOf told v w k.log
+      → Goes told v k x (Txn name (Do op)) (Said reply) w (record k { objects = o; log = new })
+  op_logged name op l reply o w new previous words one is answered replied says low is_new tail holds call =
+      let y : State = did x l.transaction op in
+      let r : Record = LineRecord l.transaction previous words in
+      let t : ℕ = l.transaction in
+      let e : (n : ℕ) → turn x n (Txn name (Do op)) ≡ (Said reply, y) = λ n. op_turn name op l one is n ∙ (let P : Result Reply Reason → Answer × State = λ a. (answer_of a, y) in ap P replied) in
+      let live : live_objects y ≡ (step k.objects op).1 = live_objects-did x t op ∙ ap (λ (m : Objects). (step m op).1) (sym runs.objects) in
+      let on : after_line (live_objects x) words ≡ Some (live_objects y) =
+        ap (after_op (live_objects x)) says ∙ (ap (λ (m : Objects). if_replied (step m op).0 (step m op).1) (sym runs.objects) ∙ (ap (λ a. if_replied a (step k.objects op).1) replied ∙ ap Some (sym live))) in
+      let rises : tail_of k.log ≤ tail_of new = omega (arith, tail-place k.log r, tail) in
+      let numbered : t < x.next = (subst (AreSerial x) (one_live l one) runs.serial.live).1 in
+      let after : Shows told w (record k { objects = o; log = new }) y = running_shows told w (record k { objects = o; log = new }) y running going (record {
+        serial = serial_did x l op runs.serial (one_live l one);
+        objects = answered ∙ sym live;
+        live = runs.live;
+        next = omega (arith, runs.next, rises);
+        answered = runs.answered;
+        area = ap (λ (z : Tail). z.area) is_new ∙ ((appended_place k.log r).0 ∙ runs.area);
+        base = ap (λ (z : Tail). z.base) is_new ∙ ((appended_place k.log r).1 ∙ runs.base);
+        keeps = λ is_told.
+          let h = runs.keeps is_told in
+          let was : IsOpen x t h.durable h.waiting = subst (IsOpenOrNone x h.durable h.waiting) one h.logs.open_one in
+          let all = all_appended k.log r h.durable h.waiting in
+          record {
+            durable = durable_after k.log r h.durable h.waiting;
+            waiting = waiting_after k.log r h.waiting;
+            holds = holds h.durable h.waiting is_told h.holds;
+            logs = record {
+              durable = ap (λ (ls : List (List ℕ)). replay ls (Some empty)) (durable_lines (has_room k.log r) h.durable h.waiting (forced_lines x h.durable h.waiting k.live h.logs.open_one)) ∙ h.logs.durable;
+              below = subst (AreBelow (tail_of new)) (sym all) (below-append (tail_of new) (h.durable ++ h.waiting) (r ∷ []) (below-weaker (tail_of k.log) (tail_of new) (h.durable ++ h.waiting) rises h.logs.below) (omega (arith, numbered, runs.next, rises), tt));
+              open_one = subst (IsOpenOrNone y (durable_after k.log r h.durable h.waiting) (waiting_after k.log r h.waiting)) (sym one) (record {
+                own = own_after (has_room k.log r) t h.waiting r was.own (refl, tt);
+                uncommitted = uncommitted_after (has_room k.log r) t h.durable h.waiting was.own was.uncommitted;
+                lines = ap (λ (rs : List Record). replay (lines_by t rs) (Some (committed_objects x))) all ∙ (ap (λ (ls : List (List ℕ)). replay ls (Some (committed_objects x))) (lines_by-line t previous words (h.durable ++ h.waiting))
+                  ∙ (replay-append (lines_by t (h.durable ++ h.waiting)) (words ∷ []) (Some (committed_objects x)) ∙ (ap (replay (words ∷ [])) was.lines ∙ on)));
+              });
+            };
+          };
+      }) in
+      record {
+        after = y;
+        line = record { number = x.next; above = omega arith; turned = e x.next };
+        caused = tt;
+        full = λ high work said. absurd (omega arith);
+        shows = after;
+        moments = λ is_told.
+          let h = runs.keeps is_told in
+          moments.weaker (call h.durable h.waiting is_told h.holds) (λ c here. first_same x y x.answered c refl refl (omega (arith, runs.answered)) (stands_either x k.live (tail_of k.log) h.durable h.waiting c h.logs (of_log k.log runs.area runs.base here)));
+      }
+
+  -- the turn of a begin where none is live
+  begin_turn : (name : List ℕ) → k.live ≡ None → (n : ℕ) → turn x n (Txn name Begin) ≡ (Said Done, began x n name)
+  begin_turn name none n =
+      let few : (length x.live == 0) ≡ true = ap (λ (ls : List Live). length ls == 0) (none_live none) in
+      going_turn x n name Begin going ∙ (ap (turn_begin x n name) (named_none x name (none_live none)) ∙ ap (λ b. cond b (Said Done, began x n name) (TooManyLive, x)) few)
+
+  -- a transaction begins
+  pub begun : (name : List ℕ) (n previous : ℕ) (w : disk.View) (new : Tail) → k.live ≡ None → tail_of k.log ≤ NEW_WORK_END → n ≡ place_of k.log (BeginRecord n previous)
+      → new ≡ appended k.log (BeginRecord n previous) → tail_of new ≡ end_of k.log (BeginRecord n previous)
+      → HoldsAfter told v w k.log new (BeginRecord n previous) → MomentsOf told v w k.log
+      → Goes told v k x (Txn name Begin) (Said Done) w (record k { live = Some (record { name = name; transaction = n }); log = new })
+  begun name n previous w new none low place is_new tail holds call =
+      let y : State = began x n name in
+      let r : Record = BeginRecord n previous in
+      let l : Live = record { name = name; transaction = n } in
+      let m : Core = record k { live = Some l; log = new } in
+      let at : tail_of k.log ≤ n = omega (arith, tail-place k.log r, place) in
+      let rises : n + 21 ≤ tail_of new = omega (arith, tail, place, begin-length n previous) in
+      let settled : live_objects x ≡ committed_objects x = subst (AreSerial x) (none_live none) runs.serial.live in
+      let after : Shows told w m y = running_shows told w m y running going (record {
+        serial = serial_began x n name runs.serial (none_live none) (omega (arith, runs.next, at));
+        objects = runs.objects;
+        live = ap (λ (ls : List Live). ls ++ l ∷ []) (none_live none);
+        next = omega (arith, rises);
+        answered = runs.answered;
+        area = ap (λ (z : Tail). z.area) is_new ∙ ((appended_place k.log r).0 ∙ runs.area);
+        base = ap (λ (z : Tail). z.base) is_new ∙ ((appended_place k.log r).1 ∙ runs.base);
+        keeps = λ is_told.
+          let h = runs.keeps is_told in
+          let empty_buffer : h.waiting ≡ [] = subst (IsOpenOrNone x h.durable h.waiting) none h.logs.open_one in
+          let all = all_appended k.log r h.durable h.waiting in
+          let one = one_after (has_room k.log r) h.waiting r empty_buffer in
+          let was_below : AreBelow (tail_of k.log) (h.durable ++ h.waiting) = h.logs.below in
+          let no_lines : lines_by n ((h.durable ++ h.waiting) ++ r ∷ []) ≡ [] = lines_by-append n (h.durable ++ h.waiting) (r ∷ []) ∙ (append-nil (lines_by n (h.durable ++ h.waiting)) ∙ lines_by-above n (tail_of k.log) (h.durable ++ h.waiting) was_below at) in
+          let before : IsNotAmong n (commits_in h.durable) = subst (λ (rs : List Record). IsNotAmong n (commits_in rs)) (ap (λ (rs : List Record). h.durable ++ rs) empty_buffer ∙ append-nil h.durable) (commits_in-above n (tail_of k.log) (h.durable ++ h.waiting) was_below at) in
+          record {
+            durable = durable_after k.log r h.durable h.waiting;
+            waiting = waiting_after k.log r h.waiting;
+            holds = holds h.durable h.waiting is_told h.holds;
+            logs = record {
+              durable = ap (λ (ls : List (List ℕ)). replay ls (Some empty)) (durable_lines (has_room k.log r) h.durable h.waiting (forced_lines x h.durable h.waiting k.live h.logs.open_one)) ∙ h.logs.durable;
+              below = subst (AreBelow (tail_of new)) (sym all) (below-append (tail_of new) (h.durable ++ h.waiting) (r ∷ []) (below-weaker (tail_of k.log) (tail_of new) (h.durable ++ h.waiting) (omega (arith, at, rises)) was_below) (omega (arith, rises), tt));
+              open_one = record {
+                own = subst (AreOwn n) (sym one) (refl, tt);
+                uncommitted = uncommitted_after (has_room k.log r) n h.durable h.waiting (subst (AreOwn n) (sym empty_buffer) tt) before;
+                lines = ap (λ (rs : List Record). replay (lines_by n rs) (Some (committed_objects x))) all ∙ (ap (λ (ls : List (List ℕ)). replay ls (Some (committed_objects x))) no_lines ∙ ap Some (sym settled));
+              };
+            };
+          };
+      }) in
+      record {
+        after = y;
+        line = record { number = n; above = omega (arith, runs.next, at); turned = begin_turn name none n };
+        caused = tt;
+        full = λ high work said. absurd (omega arith);
+        shows = after;
+        moments = λ is_told.
+          let h = runs.keeps is_told in
+          moments.weaker (call h.durable h.waiting is_told h.holds) (λ c here. first_same x y x.answered c refl refl (omega (arith, runs.answered)) (stands_either x k.live (tail_of k.log) h.durable h.waiting c h.logs (of_log k.log runs.area runs.base here)));
+      }
+
+  -- the turn of a commit
+  commit_turn : (name : List ℕ) (l : Live) → k.live ≡ Some l → l.name ≡ name → (n : ℕ) → turn x n (Txn name Commit) ≡ (Said Done, committed x l.transaction)
+  commit_turn name l one is n = going_turn x n name Commit going ∙ ap (turn_commit x) (named_one x l name (one_live l one) is)
+
+  -- the live transaction is committed: its commit record was appended, and then the log was forced
+  pub commits : (name : List ℕ) (l : Live) (w1 w : disk.View) (mid new : Tail) (previous : ℕ) → k.live ≡ Some l → l.name ≡ name
+      → mid ≡ appended k.log (CommitRecord l.transaction previous) → tail_of mid ≡ end_of k.log (CommitRecord l.transaction previous) → new ≡ forced mid → tail_of mid ≤ tail_of new
+      → HoldsAfter told v w1 k.log mid (CommitRecord l.transaction previous) → MomentsOf told v w1 k.log
+      → ((ds ps : List Record) → IsTrue told → Holds w1 mid ds ps → Holds w new (ds ++ ps) []) → MomentsOf told w1 w mid
+      → Goes told v k x (Txn name Commit) (Said Done) w (record k { live = None; log = new })
+  commits name l w1 w mid new previous one is is_mid tail is_new grows holds1 call1 holds2 call2 =
+      let t : ℕ = l.transaction in
+      let y : State = committed x t in
+      let r : Record = CommitRecord t previous in
+      let m : Core = record k { live = None; log = new } in
+      let rises : tail_of k.log ≤ tail_of mid = omega (arith, tail-place k.log r, tail) in
+      let numbered : t < x.next = (subst (AreSerial x) (one_live l one) runs.serial.live).1 in
+      let objects : committed_objects y ≡ live_objects x = committed_live x l runs.serial (one_live l one) in
+      let mid_area : mid.area ≡ Log0 = ap (λ (z : Tail). z.area) is_mid ∙ ((appended_place k.log r).0 ∙ runs.area) in
+      let mid_base : mid.base ≡ 0 = ap (λ (z : Tail). z.base) is_mid ∙ ((appended_place k.log r).1 ∙ runs.base) in
+      let more : length y.commits ≡ length x.commits + 1 = length-append x.commits (ops_of t x.history ∷ []) in
+      let kept : (is_told : IsTrue told) → Keeps w m y = λ is_told.
+          let h = runs.keeps is_told in
+          let all = all_appended k.log r h.durable h.waiting in
+          let ds1 : List Record = durable_after k.log r h.durable h.waiting in
+          let ps1 : List Record = waiting_after k.log r h.waiting in
+          record {
+            durable = ds1 ++ ps1;
+            waiting = [];
+            holds = holds2 ds1 ps1 is_told (holds1 h.durable h.waiting is_told h.holds);
+            logs = record {
+              durable = ap (λ (rs : List Record). replay (committed_lines rs) (Some empty)) all ∙ (replay_commit x l (tail_of k.log) previous h.durable h.waiting (subst (λ (o : Option Live). Logs x o (tail_of k.log) h.durable h.waiting) one h.logs) ∙ ap Some (sym objects));
+              below = subst (AreBelow (tail_of new)) (sym (append-nil (ds1 ++ ps1) ∙ all)) (below-append (tail_of new) (h.durable ++ h.waiting) (r ∷ []) (below-weaker (tail_of k.log) (tail_of new) (h.durable ++ h.waiting) (omega (arith, rises, grows)) h.logs.below) (omega (arith, numbered, runs.next, rises, grows), tt));
+              open_one = refl;
+            };
+          } in
+      let after : Shows told w m y = running_shows told w m y running going (record {
+        serial = serial_committed x l runs.serial (one_live l one);
+        objects = runs.objects;
+        live = ap (without t) (one_live l one) ∙ without_one l;
+        next = omega (arith, runs.next, rises, grows);
+        answered = sym more;
+        area = ap (λ (z : Tail). z.area) is_new ∙ ((forced_place mid).0 ∙ mid_area);
+        base = ap (λ (z : Tail). z.base) is_new ∙ ((forced_place mid).1 ∙ mid_base);
+        keeps = kept;
+      }) in
+      record {
+        after = y;
+        line = record { number = x.next; above = omega arith; turned = commit_turn name l one is x.next };
+        caused = tt;
+        full = λ high work said. absurd work;
+        shows = after;
+        moments = λ is_told.
+          let h = runs.keeps is_told in
+          let ds1 : List Record = durable_after k.log r h.durable h.waiting in
+          let ps1 : List Record = waiting_after k.log r h.waiting in
+          moments.joined
+          (moments.weaker (call1 h.durable h.waiting is_told h.holds) (λ c here. first_others x y (ops_of t x.history) x.answered c refl refl (omega (arith, runs.answered)) (stands_either x k.live (tail_of k.log) h.durable h.waiting c h.logs (of_log k.log runs.area runs.base here))))
+          (moments.weaker (call2 ds1 ps1 is_told (holds1 h.durable h.waiting is_told h.holds)) (λ c here. commit_moment l previous one h.durable h.waiting c h.logs (of_log mid mid_area mid_base here)));
+      }
+    where
+      commit_image : (l : Live) (previous : ℕ) → k.live ≡ Some l → (ds ps : List Record) (c : disk.Image) → Logs x k.live (tail_of k.log) ds ps
+          → HasRecords (c Log0) 0 ((ds ++ ps) ++ CommitRecord l.transaction previous ∷ []) → StandsForFirst x.answered (committed x l.transaction) c
+      commit_image l previous one ds ps c logs has =
+          let y : State = committed x l.transaction in
+          first_all y x.answered c (omega (arith, runs.answered, length-append x.commits (ops_of l.transaction x.history ∷ []))) (stands c (committed_objects y) ((ds ++ ps) ++ CommitRecord l.transaction previous ∷ []) has
+            (replay_commit x l (tail_of k.log) previous ds ps (subst (λ (o : Option Live). Logs x o (tail_of k.log) ds ps) one logs) ∙ ap Some (sym (committed_live x l runs.serial (one_live l one)))))
+
+      commit_moment : (l : Live) (previous : ℕ) → k.live ≡ Some l → (ds ps : List Record) (c : disk.Image) → Logs x k.live (tail_of k.log) ds ps
+          → HasRecords (c Log0) 0 (durable_after k.log (CommitRecord l.transaction previous) ds ps) ⊎ HasRecords (c Log0) 0 (durable_after k.log (CommitRecord l.transaction previous) ds ps ++ waiting_after k.log (CommitRecord l.transaction previous) ps)
+          → StandsForFirst x.answered (committed x l.transaction) c
+      commit_moment l previous one ds ps c logs (inl before) =
+          first_others x (committed x l.transaction) (ops_of l.transaction x.history) x.answered c refl refl (omega (arith, runs.answered)) (stands_either x k.live (tail_of k.log) ds ps c logs
+            (elim (durable_either k.log (CommitRecord l.transaction previous) ds ps) [ inl e ↦ inl (subst (HasRecords (c Log0) 0) e before) | inr e ↦ inr (subst (HasRecords (c Log0) 0) e before) ]))
+      commit_moment l previous one ds ps c logs (inr after) =
+          commit_image l previous one ds ps c logs (subst (HasRecords (c Log0) 0) (all_appended k.log (CommitRecord l.transaction previous) ds ps) after)
+
+  -- what the images of a call on the log stand for, as a prefix of the commits as they were
+  still : (w : disk.View) → MomentsOf told v w k.log → IsTrue told → disk.LeavesOnly v w (StandsForFirst x.answered (stop x))
+  still w call is_told =
+      let h = runs.keeps is_told in
+      moments.weaker (call h.durable h.waiting is_told h.holds) (λ c here. first_same x (stop x) x.answered c refl refl (omega (arith, runs.answered)) (stands_either x k.live (tail_of k.log) h.durable h.waiting c h.logs (of_log k.log runs.area runs.base here)))
+
+  -- the disk has failed in an order that is no commit
+  breaks : (order : Order) (w : disk.View) (m : Core) → m.stopped ≡ true → broken x order ≡ stop x → IsLogged order → WouldReply x order → HasRisen v.faults w.faults
+      → (NEW_WORK_END < tail_of k.log → IsWork order → ⊥) → MomentsOf told v w k.log → Goes told v k x order Disk w m
+  breaks order w m halted is logged said risen low call = record {
+    after = stop x;
+    line = record { after = sym is; logged = logged; said = said };
+    caused = risen;
+    full = λ high work would. absurd (low high work);
+    shows = stopped_shows told w m (stop x) halted refl (omega (arith, runs.answered)) (omega (arith, runs.answered)) (λ is_told c leaves. (still w call is_told).each c (inl leaves));
+    moments = still w call;
+  }
+
+  pub begin_breaks : (name : List ℕ) (w : disk.View) (m : Core) → m.stopped ≡ true → k.live ≡ None → tail_of k.log ≤ NEW_WORK_END → HasRisen v.faults w.faults → MomentsOf told v w k.log → Goes told v k x (Txn name Begin) Disk w m
+  begin_breaks name w m halted none low risen call = breaks (Txn name Begin) w m halted refl tt (subst IsSaid (sym (ap (λ (p : Answer × State). p.0) (begin_turn name none x.next))) tt) risen (λ high work. absurd (omega arith)) call
+
+  pub op_breaks : (name : List ℕ) (op : Op) (l : Live) (w : disk.View) (m : Core) → m.stopped ≡ true → k.live ≡ Some l → l.name ≡ name → is_changing op ≡ true → IsSaid (answer_of (step k.objects op).0) → tail_of k.log ≤ NEW_WORK_END
+      → HasRisen v.faults w.faults → MomentsOf told v w k.log → Goes told v k x (Txn name (Do op)) Disk w m
+  op_breaks name op l w m halted one is changing said low risen call =
+      breaks (Txn name (Do op)) w m halted refl changing (subst IsSaid (sym (ap (λ (p : Answer × State). p.0) (op_turn name op l one is x.next))) said) risen (λ high work. absurd (omega arith)) call
+
+  -- a commit that ends the store's work
+  stopped_commit : (name : List ℕ) (l : Live) → k.live ≡ Some l → l.name ≡ name → stop_at x (live_named x.live name) ≡ stop_at_commit x l.transaction
+  stopped_commit name l one is = ap (stop_at x) (named_one x l name (one_live l one) is)
+
+  would_commit : (name : List ℕ) (l : Live) → k.live ≡ Some l → l.name ≡ name → WouldReply x (Txn name Commit)
+  would_commit name l one is = subst IsSaid (sym (ap (λ (p : Answer × State). p.0) (commit_turn name l one is x.next))) tt
+
+  commit_stops : (w : disk.View) (m : Core) (t : ℕ) → m.stopped ≡ true → (IsTrue told → (c : disk.Image) → disk.Leaves w.now c → StandsForFirst x.answered (stop_at_commit x t) c) → Shows told w m (stop_at_commit x t)
+  commit_stops w m t halted images =
+      let more = length-append x.commits (ops_of t x.history ∷ []) in
+      stopped_shows told w m (stop_at_commit x t) halted refl (omega (arith, runs.answered, more)) (omega (arith, runs.answered, more)) images
+
+  -- the commits as they were, before one that wasn't answered
+  pub commit_before : (t : ℕ) (w : disk.View) → MomentsOf told v w k.log → IsTrue told → disk.LeavesOnly v w (StandsForFirst x.answered (stop_at_commit x t))
+  commit_before t w call is_told =
+      let h = runs.keeps is_told in
+      moments.weaker (call h.durable h.waiting is_told h.holds) (λ c here. first_others x (stop_at_commit x t) (ops_of t x.history) x.answered c refl refl (omega (arith, runs.answered)) (stands_either x k.live (tail_of k.log) h.durable h.waiting c h.logs (of_log k.log runs.area runs.base here)))
+
+  commit_fails : (name : List ℕ) (l : Live) (w : disk.View) (m : Core) → k.live ≡ Some l → l.name ≡ name → m.stopped ≡ true → HasRisen v.faults w.faults
+      → (IsTrue told → disk.LeavesOnly v w (StandsForFirst x.answered (stop_at_commit x l.transaction))) → Goes told v k x (Txn name Commit) Disk w m
+  commit_fails name l w m one is halted risen call = record {
+    after = stop_at_commit x l.transaction;
+    line = record { after = sym (stopped_commit name l one is); logged = tt; said = would_commit name l one is };
+    caused = risen;
+    full = λ high work would. absurd work;
+    shows = commit_stops w m l.transaction halted (λ is_told c leaves. (call is_told).each c (inl leaves));
+    moments = call;
+  }
+
+  -- the disk has failed as a commit's record was appended
+  pub commit_breaks : (name : List ℕ) (l : Live) (w : disk.View) (m : Core) → k.live ≡ Some l → l.name ≡ name → m.stopped ≡ true → HasRisen v.faults w.faults → MomentsOf told v w k.log → Goes told v k x (Txn name Commit) Disk w m
+  commit_breaks name l w m one is halted risen call = commit_fails name l w m one is halted risen (commit_before l.transaction w call)
+
+  -- the disk has failed as it was forced
+  pub force_breaks : (name : List ℕ) (l : Live) (w1 w : disk.View) (mid : Tail) (m : Core) (previous : ℕ) → k.live ≡ Some l → l.name ≡ name → m.stopped ≡ true → HasRisen v.faults w.faults
+      → mid ≡ appended k.log (CommitRecord l.transaction previous) → HoldsAfter told v w1 k.log mid (CommitRecord l.transaction previous) → MomentsOf told v w1 k.log → MomentsOf told w1 w mid
+      → Goes told v k x (Txn name Commit) Disk w m
+  force_breaks name l w1 w mid m previous one is halted risen is_mid holds1 call1 call2 =
+      let r : Record = CommitRecord l.transaction previous in
+      let mid_area : mid.area ≡ Log0 = ap (λ (z : Tail). z.area) is_mid ∙ ((appended_place k.log r).0 ∙ runs.area) in
+      let mid_base : mid.base ≡ 0 = ap (λ (z : Tail). z.base) is_mid ∙ ((appended_place k.log r).1 ∙ runs.base) in
+      commit_fails name l w m one is halted risen (λ is_told.
+        let h = runs.keeps is_told in
+        moments.joined (commit_before l.transaction w1 call1 is_told)
+        (moments.weaker (call2 (durable_after k.log r h.durable h.waiting) (waiting_after k.log r h.waiting) is_told (holds1 h.durable h.waiting is_told h.holds)) (λ c here. forced_moment h.durable h.waiting c h.logs (of_log mid mid_area mid_base here))))
+    where
+      forced_moment : (ds ps : List Record) (c : disk.Image) → Logs x k.live (tail_of k.log) ds ps
+          → HasRecords (c Log0) 0 (durable_after k.log (CommitRecord l.transaction previous) ds ps) ⊎ HasRecords (c Log0) 0 (durable_after k.log (CommitRecord l.transaction previous) ds ps ++ waiting_after k.log (CommitRecord l.transaction previous) ps)
+          → StandsForFirst x.answered (stop_at_commit x l.transaction) c
+      forced_moment ds ps c logs (inl before) =
+          first_others x (stop_at_commit x l.transaction) (ops_of l.transaction x.history) x.answered c refl refl (omega (arith, runs.answered)) (stands_either x k.live (tail_of k.log) ds ps c logs
+            (elim (durable_either k.log (CommitRecord l.transaction previous) ds ps) [ inl e ↦ inl (subst (HasRecords (c Log0) 0) e before) | inr e ↦ inr (subst (HasRecords (c Log0) 0) e before) ]))
+      forced_moment ds ps c logs (inr after) =
+          let y : State = stop_at_commit x l.transaction in
+          first_all y x.answered c (omega (arith, runs.answered, length-append x.commits (ops_of l.transaction x.history ∷ []))) (stands c (committed_objects y) ((ds ++ ps) ++ CommitRecord l.transaction previous ∷ []) (subst (HasRecords (c Log0) 0) (all_appended k.log (CommitRecord l.transaction previous) ds ps) after)
+            (replay_commit x l (tail_of k.log) previous ds ps (subst (λ (o : Option Live). Logs x o (tail_of k.log) ds ps) one logs) ∙ ap Some (sym (committed_live x l runs.serial (one_live l one)))))
+
+  -- the log has no room for a commit
+  pub commit_end : (name : List ℕ) (l : Live) (m : Core) → k.live ≡ Some l → l.name ≡ name → m.stopped ≡ true → NEW_WORK_END < tail_of k.log → Goes told v k x (Txn name Commit) LogEnd v m
+  commit_end name l m one is halted high =
+      let t : ℕ = l.transaction in
+      let y : State = stop_at_commit x t in
+      let images : IsTrue told → (c : disk.Image) → disk.Leaves v.now c → StandsForFirst x.answered y c = λ is_told c leaves.
+          let h = shows.images is_told c leaves in
+          let all : h.commits ≡ length x.commits = omega (arith, h.enough, h.most, runs.answered) in
+          first_others x y (ops_of t x.history) x.answered c refl refl (omega (arith, runs.answered)) (subst (StandsFor c) (ap (λ n. objects_after n x) all ∙ after_commits x) h.stands) in
+      record {
+        after = y;
+        line = record { after = sym (stopped_commit name l one is); logged = tt; said = would_commit name l one is };
+        caused = high;
+        full = λ above work would. refl;
+        shows = commit_stops v m t halted images;
+        moments = λ is_told. moments.started v (StandsForFirst x.answered y) (images is_told);
+      }
+
+  -- the log has failed as a commit's record was appended
+  pub commit_fault : (name : List ℕ) (l : Live) (e : LogFault) (w : disk.View) (m : Core) (previous : ℕ) → k.live ≡ Some l → l.name ≡ name → m.stopped ≡ true
+      → AppendFails (end_of k.log (CommitRecord l.transaction previous)) v w e → (e ≡ faults.LogEnd → w ≡ v) → MomentsOf told v w k.log → Goes told v k x (Txn name Commit) (shown_answer [] (answer_at e)) w m
+  commit_fault name l faults.LogEnd w m previous one is halted h same call =
+      let high : NEW_WORK_END < tail_of k.log = omega (arith, h, place-tail k.log (CommitRecord l.transaction previous), commit-length l.transaction previous) in
+      subst (λ (u : disk.View). Goes told v k x (Txn name Commit) LogEnd u m) (sym (same refl)) (commit_end name l m one is halted high)
+  commit_fault name l faults.Disk w m previous one is halted h same call = commit_breaks name l w m one is halted h call
+  commit_fault name l (faults.Damaged at) w m previous one is halted h same call = absurd h
+  commit_fault name l faults.Memory w m previous one is halted h same call = absurd h
+
+  -- and as it was forced
+  pub force_fault : (name : List ℕ) (l : Live) (e : LogFault) (w1 w : disk.View) (mid : Tail) (m : Core) (previous : ℕ) → k.live ≡ Some l → l.name ≡ name → m.stopped ≡ true → ForceFails w1 w e → v.faults ≤ w1.faults
+      → mid ≡ appended k.log (CommitRecord l.transaction previous) → HoldsAfter told v w1 k.log mid (CommitRecord l.transaction previous) → MomentsOf told v w1 k.log → MomentsOf told w1 w mid
+      → Goes told v k x (Txn name Commit) (shown_answer [] (answer_at e)) w m
+  force_fault name l faults.Disk w1 w mid m previous one is halted h later is_mid holds1 call1 call2 = force_breaks name l w1 w mid m previous one is halted (λ room. omega (arith, h room)) is_mid holds1 call1 call2
+  force_fault name l faults.LogEnd w1 w mid m previous one is halted h later is_mid holds1 call1 call2 = absurd h
+  force_fault name l (faults.Damaged at) w1 w mid m previous one is halted h later is_mid holds1 call1 call2 = absurd h
+  force_fault name l faults.Memory w1 w mid m previous one is halted h later is_mid holds1 call1 call2 = absurd h
+
+  -- an operation that was refused, or only reads
+  pub op_unchanged : (name : List ℕ) (op : Op) (l : Live) (r : Result Reply Reason) (o : Objects) → k.live ≡ Some l → l.name ≡ name → step k.objects op ≡ (r, o) → (IsErr r) ⊎ (is_changing op ≡ false)
+      → Goes told v k x (Txn name (Do op)) (answer_of r) v (record k { objects = o })
+  op_unchanged name op l r o one is e why =
+      let first : (step k.objects op).0 ≡ r = ap (λ (p : Result Reply Reason × Objects). p.0) e in
+      let kept : (step k.objects op).1 ≡ k.objects = elim why [ inl refused ↦ step-refused k.objects op (subst (λ (a : Result Reply Reason). IsErr a) (sym first) refused) | inr reads ↦ step-reads k.objects op reads ] in
+      subst (λ (a : Result Reply Reason). Goes told v k x (Txn name (Do op)) (answer_of a) v (record k { objects = o })) first
+      (op_same name op l o one is (sym (ap (λ (p : Result Reply Reason × Objects). p.1) e)) kept (λ high work said. absurd (never_full r why (subst (λ (a : Result Reply Reason). IsSaid (answer_of a)) first said) work)))
+    where
+      never_full : (r : Result Reply Reason) → (IsErr r) ⊎ (is_changing op ≡ false) → IsSaid (answer_of r) → is_changing op ≡ true → ⊥
+      never_full (Ok reply) (inl refused) said work = absurd (cc)
+      never_full (Err reason) (inl refused) said work = said
+      never_full r (inr reads) said work = absurd (cc (reads, work))
+
+  -- an operation that the log has no room for
+  pub op_full : (name : List ℕ) (op : Op) (l : Live) (a : code_answer.Answer) (into : List ℕ) → k.live ≡ Some l → l.name ≡ name → is_changing op ≡ true → NEW_WORK_END < tail_of k.log → IsFullAnswer (step k.objects op).0 a
+      → Goes told v k x (Txn name (Do op)) (shown_answer into a) v k
+  op_full name op l a into one is changing high full_answer = by_outcome (step k.objects op).0 refl full_answer
+    where
+      by_outcome : (r : Result Reply Reason) → (step k.objects op).0 ≡ r → IsFullAnswer r a → Goes told v k x (Txn name (Do op)) (shown_answer into a) v k
+      by_outcome (Ok reply) e h =
+          subst (λ (b : code_answer.Answer). Goes told v k x (Txn name (Do op)) (shown_answer into b) v k) (sym h) (op_end told v k x shows running name op l one is changing (subst (λ (r : Result Reply Reason). IsSaid (answer_of r)) (sym e) tt) high)
+      by_outcome (Err reason) e h =
+          let kept : (step k.objects op).1 ≡ k.objects = step-refused k.objects op (subst (λ (r : Result Reply Reason). IsErr r) (sym e) refl) in
+          let P : Result Reply Reason → Objects → Result Reply Reason × Objects = λ r m. (r, m) in
+          subst (λ (b : code_answer.Answer). Goes told v k x (Txn name (Do op)) (shown_answer into b) v k) (sym h)
+          (op_unchanged name op l (Err reason) k.objects one is (ap (λ (r : Result Reply Reason). P r (step k.objects op).1) e ∙ ap (P (Err reason)) kept) (inl refl))
+
+  -- memory has run out in an operation that takes some
+  pub op_starved : (name : List ℕ) (op : Op) (l : Live) (o : Objects) → k.live ≡ Some l → l.name ≡ name → Grows op → IsOk (step k.objects op).0 → (is_changing op ≡ true → tail_of k.log ≤ NEW_WORK_END) → o ≡ k.objects
+      → Goes told v k x (Txn name (Do op)) Memory v (record k { objects = o })
+  op_starved name op l o one is grows fine low same =
+      subst (λ (m : Objects). Goes told v k x (Txn name (Do op)) Memory v (record k { objects = m })) (sym same) (op_memory told v k x shows running name op l one is grows (said_ok (step k.objects op).0 fine) (low (grows_changing op grows)))
+    where
+      said_ok : (r : Result Reply Reason) → IsOk r → IsSaid (answer_of r)
+      said_ok (Ok reply) h = tt
+      said_ok (Err reason) h = absurd (cc)
+
+  -- the log has failed as an operation's line was appended
+  pub op_fault : (name : List ℕ) (op : Op) (l : Live) (reply : Reply) (e : LogFault) (w : disk.View) (m : Core) (r : Record) (into : List ℕ) → m.stopped ≡ true → k.live ≡ Some l → l.name ≡ name → is_changing op ≡ true
+      → (step k.objects op).0 ≡ Ok reply → tail_of k.log ≤ NEW_WORK_END → IsRecord r → AppendFails (end_of k.log r) v w e → MomentsOf told v w k.log → Goes told v k x (Txn name (Do op)) (shown_answer into (answer_at e)) w m
+  op_fault name op l reply faults.Disk w m r into halted one is changing e low fields h call = op_breaks name op l w m halted one is changing (subst (λ (a : Result Reply Reason). IsSaid (answer_of a)) (sym e) tt) low h call
+  op_fault name op l reply faults.LogEnd w m r into halted one is changing e low fields h call = let within = ends_within k.log r fields low in absurd (omega arith)
+  op_fault name op l reply (faults.Damaged at) w m r into halted one is changing e low fields h call = absurd h
+  op_fault name op l reply faults.Memory w m r into halted one is changing e low fields h call = absurd h
+
+-- the same of an answer, a disk and a store that are known by equations
+pub goes_along : {told : Bool} {v : disk.View} {k : Core} {x : State} {order : Order} (a b : Answer) (u w : disk.View) (m n : Core) → a ≡ b → u ≡ w → m ≡ n → Goes told v k x order b w n → Goes told v k x order a u m
+goes_along {told = told} {v = v} {k = k} {x = x} {order = order} a b u w m n same_answer same_disk same_core h =
+    subst (λ (p : Answer). Goes told v k x order p u m) (sym same_answer) (subst (λ (z : disk.View). Goes told v k x order b z m) (sym same_disk) (subst (λ (c : Core). Goes told v k x order b w c) (sym same_core) h))

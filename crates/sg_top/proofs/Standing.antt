@@ -1,0 +1,64 @@
+-- What the images of a call on the log stand for.
+use Rattle.std.proofs.Common.{◌≡◌, ◌⊎◌, inl, inr, ⊎_elim, ℕ, ◌+◌, ◌<◌, ◌≤◌, Bool, true, false, List, [], ◌∷◌, ◌++◌, length, Option, Some, None, refl, sym, ap, ◌∙◌, subst, arith, append_assoc, append-nil, length-append}
+use Rattle.std.specs.FinMap.{empty}
+use Rattle.sg_base.specs.declared.area.Area.{Area}
+use Rattle.sg_base.specs.declared.area.Area.TheVariants.{Log0}
+use Rattle.sg_disk.specs.Disk as disk
+use Rattle.sg_model.specs.Objects.{Objects, Op}
+use Rattle.sg_model.specs.History.{Live, State, objects_after, committed_objects, live_objects}
+use Rattle.sg_record.specs.Records.{Record}
+use Rattle.sg_record.specs.Records.Record.{Begin, Commit, Line}
+use Rattle.sg_log.specs.Frames.{HasRecords, IsBeforeOrAfter}
+use Rattle.sg_log.specs.Held.{Tail}
+use Rattle.sg_top.specs.Stands.{lines_by, commits_in, committed_lines, replay, StandsFor, StandsForFirst}
+use Rattle.sg_top.specs.Store.{Logs, IsOpen, IsOpenOrNone}
+use Rattle.sg_top.proofs.Replays.{replay-append, committed_lines-own, committed_lines-commit}
+use Rattle.sg_top.proofs.Serial.{after_commits, after_others}
+
+-- what waits in the buffer commits nothing
+pub forced_lines : (x : State) (ds ps : List Record) (live : Option Live) → IsOpenOrNone x ds ps live → committed_lines (ds ++ ps) ≡ committed_lines ds
+forced_lines x ds ps None none = ap committed_lines (ap (λ (rs : List Record). ds ++ rs) none ∙ append-nil ds)
+forced_lines x ds ps (Some l) open_one = committed_lines-own l.transaction ds ps open_one.own open_one.uncommitted
+
+-- the objects that the records commit
+pub stands : (c : disk.Image) (s : Objects) (rs : List Record) → HasRecords (c Log0) 0 rs → replay (committed_lines rs) (Some empty) ≡ Some s → StandsFor c s
+stands c s rs h e = record { records = rs; hold = h; replayed = e }
+
+-- either way an image of a moment of a call that makes what waits durable stands for the committed objects
+pub stands_either : (x : State) (live : Option Live) (bound : ℕ) (ds ps : List Record) (c : disk.Image) → Logs x live bound ds ps → HasRecords (c Log0) 0 ds ⊎ HasRecords (c Log0) 0 (ds ++ ps) → StandsFor c (committed_objects x)
+stands_either x live bound ds ps c logs (inl before) = stands c (committed_objects x) ds before logs.durable
+stands_either x live bound ds ps c logs (inr after) = stands c (committed_objects x) (ds ++ ps) after (ap (λ (ls : List (List ℕ)). replay ls (Some empty)) (forced_lines x ds ps live logs.open_one) ∙ logs.durable)
+
+-- the records of such an image, by where the log stands
+pub of_log : (log : Tail) {s : disk.State} {ds ps : List Record} {c : disk.Image} → log.area ≡ Log0 → log.base ≡ 0 → IsBeforeOrAfter s log.area log.base ds ps c → HasRecords (c Log0) 0 ds ⊎ HasRecords (c Log0) 0 (ds ++ ps)
+of_log log {ds = ds} {ps = ps} {c = c} area base h =
+    let P : Area → Type 0 = λ a. HasRecords (c a) log.base ds ⊎ HasRecords (c a) log.base (ds ++ ps) in
+    let Q : ℕ → Type 0 = λ b. HasRecords (c Log0) b ds ⊎ HasRecords (c Log0) b (ds ++ ps) in
+    subst Q base (subst P area h.log)
+
+-- the replay of a committed transaction's lines
+pub replay_commit : (x : State) (l : Live) (bound p : ℕ) (ds ps : List Record) → Logs x (Some l) bound ds ps → replay (committed_lines ((ds ++ ps) ++ Commit l.transaction p ∷ [])) (Some empty) ≡ Some (live_objects x)
+replay_commit x l bound p ds ps logs =
+    ap (λ (ls : List (List ℕ)). replay ls (Some empty)) (committed_lines-commit l.transaction p ds ps logs.open_one.own logs.open_one.uncommitted)
+    ∙ (replay-append (committed_lines ds) (lines_by l.transaction (ds ++ ps)) (Some empty) ∙ (ap (replay (lines_by l.transaction (ds ++ ps))) logs.durable ∙ logs.open_one.lines))
+
+-- an image that stands for all commits of x, as a prefix of those of y
+pub first_same : (x y : State) (least : ℕ) (c : disk.Image) → y.first ≡ x.first → y.commits ≡ x.commits → least ≤ length x.commits → StandsFor c (committed_objects x) → StandsForFirst least y c
+first_same x y least c first same le h = record {
+  commits = length y.commits;
+  enough = omega (arith, ap length same);
+  most = omega arith;
+  stands = subst (StandsFor c) (ap (λ (cs : List (List Op)). committed_objects (record x { commits = cs })) (sym same) ∙ ap (λ (s : Objects). committed_objects (record y { first = s })) (sym first) ∙ sym (after_commits y)) h;
+}
+
+pub first_others : (x y : State) (ops : List Op) (least : ℕ) (c : disk.Image) → y.first ≡ x.first → y.commits ≡ x.commits ++ ops ∷ [] → least ≤ length x.commits → StandsFor c (committed_objects x) → StandsForFirst least y c
+first_others x y ops least c first more le h = record {
+  commits = length x.commits;
+  enough = le;
+  most = omega (arith, ap length more, length-append x.commits (ops ∷ []));
+  stands = subst (StandsFor c) (sym (after_others x y ops first more)) h;
+}
+
+-- an image that stands for all commits
+pub first_all : (y : State) (least : ℕ) (c : disk.Image) → least ≤ length y.commits → StandsFor c (committed_objects y) → StandsForFirst least y c
+first_all y least c le h = record { commits = length y.commits; enough = le; most = omega arith; stands = subst (StandsFor c) (sym (after_commits y)) h }

@@ -1,0 +1,328 @@
+-- How the orders go, on what a store shows.
+use Rattle.std.proofs.Common.{◌≡◌, ◌⊎◌, inl, inr, ⊎_elim, ℕ, ◌+◌, ◌-◌, ◌<◌, ◌≤◌, ◌^◌, ◌==◌, nat_le, ◌&&◌, eq-eqb, eqb-true, Bool, true, false, cond, not, IsTrue, List, [], ◌∷◌, ◌++◌, length, find, Option, Some, None, Result, Ok, Err, refl, sym, ap, ◌∙◌, subst, arith, append_assoc, append-nil, length-append}
+use Rattle.std.specs.Option.{option_to_list}
+use Rattle.std.specs.FinMap.{empty}
+use Rattle.std.specs.Str.{bytes_eq}
+use Rattle.sg_base.specs.Ends.{HasRisen}
+use Rattle.sg_base.specs.declared.area.Area.TheVariants.{Log0}
+use Rattle.sg_disk.specs.Disk as disk
+use Rattle.sg_disk.proofs.Moments as moments
+use Rattle.sg_model.specs.declared.reason.Reason.{Reason}
+use Rattle.sg_model.specs.Objects.{Objects, Op, Reply, is_changing, Grows, step}
+use Rattle.sg_model.specs.Objects.Op.{MakeArray, MakeTable, MakeBlob, Discard, Push, Pop, Set, Get, Len, Apply, Put, Del, Find, Write, Read, Size, Paint}
+use Rattle.sg_model.specs.Objects.Reply.{Done}
+use Rattle.sg_model.specs.History.{Live, State, ops_of, live_objects, committed_objects}
+use Rattle.sg_model.proofs.Laws.{step-reads, step-refused}
+use Rattle.sg_words.specs.Order.{Order, Verb}
+use Rattle.sg_words.specs.Order.Order.{Blank, Syntax, Txn}
+use Rattle.sg_words.specs.Order.Verb.{Begin, Commit, Do}
+use Rattle.sg_words.specs.Text.{Answer}
+use Rattle.sg_words.specs.Text.Answer.{Silent, BadSyntax, NoTransaction, IsLive, TooManyLive, Memory, Stopped, LogEnd, Disk, Said, Refused}
+use Rattle.sg_words.specs.Run.{live_named, without, answer_of, began, committed, did, stop, stop_at_commit, stop_at, broken, full, turn, turn_verb, turn_begin, turn_commit, turn_op, IsSaid, IsLogged, WouldReply, Turns, Ends, Breaks, RunsOut, LineBy, IsCaused}
+use Rattle.sg_words.specs.Spoken.{op_said}
+use Rattle.sg_words.proofs.Steps.{live_objects-did}
+use Rattle.sg_record.specs.Records.{Record, spelled, transaction_of, IsRecord}
+use Rattle.sg_record.specs.Records.Record.{Begin as BeginRecord, Commit as CommitRecord, Line as LineRecord}
+use Rattle.sg_log.specs.Frames.{LOG_END, HasRecords, IsBeforeOrAfter}
+use Rattle.sg_log.specs.Faults.{AppendFails, ForceFails}
+use Rattle.sg_log.specs.declared.fault.LogFault.{LogFault}
+use Rattle.sg_log.specs.declared.fault.LogFault.TheVariants as faults
+use Rattle.sg_log.specs.Held.{Tail, tail_of, place_of, end_of, appended, forced, Holds, durable_after, waiting_after}
+use Rattle.sg_log.proofs.Holding.{holds_image, all_appended, durable_either, spelled_most}
+use Rattle.sg_top.specs.Stands.{lines_by, commits_in, committed_lines, replay, after_line, after_op, if_replied, StandsFor, StandsForFirst}
+use Rattle.sg_top.specs.Store.{Core, IsSerial, AreSerial, AreBelow, AreOwn, IsNotAmong, IsOpen, IsOpenOrNone, Logs, Keeps, Runs, Shows}
+use Rattle.sg_top.specs.Goes.{Goes, NEW_WORK_END, IsWork}
+use Rattle.sg_top.proofs.Replays.{replay-append, lines_by-above, commits_in-above, commits_in-append, commits_in-own, lines_by-append, lines_by-line, below-append, below-weaker, own-append}
+use Rattle.sg_top.proofs.Serial.{serial_began, serial_did, serial_committed, committed_live, without_one}
+use Rattle.sg_top.proofs.Standing.{forced_lines, stands_either, of_log, replay_commit, first_same, first_others, first_all, stands}
+
+-- a bytes' text is itself
+bytes_eq-same : (xs : List ℕ) → bytes_eq xs xs ≡ true
+bytes_eq-same [] = refl
+bytes_eq-same (x ∷ xs) = ap (λ b. b && bytes_eq xs xs) (eq-eqb x x refl) ∙ bytes_eq-same xs
+
+-- the turn of a store that isn't stopped
+pub going_turn : (x : State) (number : ℕ) (name : List ℕ) (verb : Verb) → x.stopped ≡ false → turn x number (Txn name verb) ≡ turn_verb x number name verb
+going_turn x number name verb going = ap (λ b. cond b (Stopped, x) (turn_verb x number name verb)) going
+
+-- the images that a crash now leaves, in an equal state
+seen_first : (told : Bool) (v : disk.View) (k : Core) (x : State) → Shows told v k x → IsTrue told → disk.LeavesOnly v v (StandsForFirst x.answered x)
+seen_first told v k x shows is_told = moments.started v (StandsForFirst x.answered x) (shows.images is_told)
+
+-- an answer that changes nothing
+pub stays : (told : Bool) (v : disk.View) (k : Core) (x : State) (order : Order) (answer : Answer) → Shows told v k x → LineBy x order answer x → IsCaused (HasRisen v.faults v.faults) (NEW_WORK_END < tail_of k.log) answer
+    → (NEW_WORK_END < tail_of k.log → IsWork order → WouldReply x order → answer ≡ LogEnd) → Goes told v k x order answer v k
+stays told v k x order answer shows line caused is_full = record {
+  after = x;
+  line = line;
+  caused = caused;
+  full = is_full;
+  shows = shows;
+  moments = seen_first told v k x shows;
+}
+
+pub silent : (told : Bool) (v : disk.View) (k : Core) (x : State) → Shows told v k x → Goes told v k x Blank Silent v k
+silent told v k x shows = stays told v k x Blank Silent shows (record { number = x.next; above = omega arith; turned = refl }) tt (λ full work said. absurd work)
+
+pub bad_syntax : (told : Bool) (v : disk.View) (k : Core) (x : State) → Shows told v k x → Goes told v k x Syntax BadSyntax v k
+bad_syntax told v k x shows = stays told v k x Syntax BadSyntax shows (record { number = x.next; above = omega arith; turned = refl }) tt (λ full work said. absurd work)
+
+-- the turn of a stopped store
+stopped_turn : (x : State) (number : ℕ) (name : List ℕ) (verb : Verb) → x.stopped ≡ true → turn x number (Txn name verb) ≡ (Stopped, x)
+stopped_turn x number name verb is = ap (λ b. cond b (Stopped, x) (turn_verb x number name verb)) is
+
+pub never_said : (x : State) (order : Order) (answer : Answer) (y : State) → turn x x.next order ≡ (answer, y) → (IsSaid answer → ⊥) → WouldReply x order → ⊥
+never_said x order answer y e not_said said = not_said (subst IsSaid (ap (λ (p : Answer × State). p.0) e) said)
+
+pub is_stopped : (told : Bool) (v : disk.View) (k : Core) (x : State) (name : List ℕ) (verb : Verb) → Shows told v k x → k.stopped ≡ true → Goes told v k x (Txn name verb) Stopped v k
+is_stopped told v k x name verb shows stopped =
+    let is : x.stopped ≡ true = sym shows.stopped ∙ stopped in
+    let e = stopped_turn x x.next name verb is in
+    stays told v k x (Txn name verb) Stopped shows (record { number = x.next; above = omega arith; turned = e }) tt (λ full work said. absurd (never_said x (Txn name verb) Stopped x e (λ n. n) said))
+
+-- the live transaction by its name
+pub named_none : (x : State) (name : List ℕ) → x.live ≡ [] → live_named x.live name ≡ None
+named_none x name none = ap (λ (ls : List Live). live_named ls name) none
+
+pub named_one : (x : State) (l : Live) (name : List ℕ) → x.live ≡ l ∷ [] → l.name ≡ name → live_named x.live name ≡ Some l
+named_one x l name one is =
+    ap (λ (ls : List Live). live_named ls name) one ∙ ap (λ b. cond b (Some l) None) (ap (bytes_eq name) is ∙ bytes_eq-same name)
+
+pub named_other : (x : State) (l : Live) (name : List ℕ) → x.live ≡ l ∷ [] → bytes_eq name l.name ≡ false → live_named x.live name ≡ None
+named_other x l name one differs = ap (λ (ls : List Live). live_named ls name) one ∙ ap (λ b. cond b (Some l) None) differs
+
+-- The store isn't stopped
+module _ (told : Bool) (v : disk.View) (k : Core) (x : State) (shows : Shows told v k x) (running : k.stopped ≡ false) where
+  going : x.stopped ≡ false
+  going = sym shows.stopped ∙ running
+
+  runs : Runs told v k x
+  runs = shows.runs going
+
+  none_live : k.live ≡ None → x.live ≡ []
+  none_live none = runs.live ∙ ap option_to_list none
+
+  one_live : (l : Live) → k.live ≡ Some l → x.live ≡ l ∷ []
+  one_live l one = runs.live ∙ ap option_to_list one
+
+  -- an order that is refused for the state of the transaction
+  refused_state : (name : List ℕ) (verb : Verb) (answer : Answer) → turn_verb x x.next name verb ≡ (answer, x) → (IsSaid answer → ⊥) → LineBy x (Txn name verb) answer x ≡ Turns x (Txn name verb) answer x
+      → ((d f : Type 0) → IsCaused d f answer) → Goes told v k x (Txn name verb) answer v k
+  refused_state name verb answer e not_said by caused =
+      let all : turn x x.next (Txn name verb) ≡ (answer, x) = going_turn x x.next name verb going ∙ e in
+      stays told v k x (Txn name verb) answer shows (subst (λ (T : Type 0). T) (sym by) (record { number = x.next; above = omega arith; turned = all })) (caused _ _)
+      (λ is_full work said. absurd (never_said x (Txn name verb) answer x all not_said said))
+
+  pub begin_live : (name : List ℕ) (l : Live) → k.live ≡ Some l → l.name ≡ name → Goes told v k x (Txn name Begin) IsLive v k
+  begin_live name l one is = refused_state name Begin IsLive (ap (turn_begin x x.next name) (named_one x l name (one_live l one) is)) (λ n. n) refl (λ d f. tt)
+
+  pub begin_other : (name : List ℕ) (l : Live) → k.live ≡ Some l → bytes_eq name l.name ≡ false → Goes told v k x (Txn name Begin) TooManyLive v k
+  begin_other name l one differs =
+      let many : (length x.live == 0) ≡ false = ap (λ (ls : List Live). length ls == 0) (one_live l one) in
+      refused_state name Begin TooManyLive (ap (turn_begin x x.next name) (named_other x l name (one_live l one) differs) ∙ ap (λ b. cond b (Said Done, began x x.next name) (TooManyLive, x)) many) (λ n. n) refl (λ d f. tt)
+
+  unnamed : (name : List ℕ) (verb : Verb) → live_named x.live name ≡ None → ((n : ℕ) → turn_verb x n name verb ≡ (NoTransaction, x)) → Goes told v k x (Txn name verb) NoTransaction v k
+  unnamed name verb none e = refused_state name verb NoTransaction (e x.next) (λ n. n) refl (λ d f. tt)
+
+  named_here : (name : List ℕ) → live_named (option_to_list k.live) name ≡ None → live_named x.live name ≡ None
+  named_here name none = ap (λ (ls : List Live). live_named ls name) runs.live ∙ none
+
+  pub commit_none : (name : List ℕ) → live_named (option_to_list k.live) name ≡ None → Goes told v k x (Txn name Commit) NoTransaction v k
+  commit_none name none = unnamed name Commit (named_here name none) (λ n. ap (turn_commit x) (named_here name none))
+
+  pub op_none : (name : List ℕ) (op : Op) → live_named (option_to_list k.live) name ≡ None → Goes told v k x (Txn name (Do op)) NoTransaction v k
+  op_none name op none = unnamed name (Do op) (named_here name none) (λ n. ap (turn_op x op) (named_here name none))
+
+  -- memory runs out
+  pub op_memory : (name : List ℕ) (op : Op) (l : Live) → k.live ≡ Some l → l.name ≡ name → Grows op → IsSaid (answer_of (step k.objects op).0) → tail_of k.log ≤ NEW_WORK_END → Goes told v k x (Txn name (Do op)) Memory v k
+  op_memory name op l one is grows said below =
+      let e = going_turn x x.next name (Do op) going ∙ ap (turn_op x op) (named_one x l name (one_live l one) is) in
+      let here : IsSaid (answer_of (step (live_objects x) op).0) = subst (λ (m : Objects). IsSaid (answer_of (step m op).0)) runs.objects said in
+      stays told v k x (Txn name (Do op)) Memory shows (record { same = refl; growing = grows; said = subst IsSaid (sym (ap (λ (p : Answer × State). p.0) e)) here }) tt (λ is_full work s. absurd (omega arith))
+
+  -- the log is at its end, and nothing has changed
+  pub begin_end : (name : List ℕ) → k.live ≡ None → NEW_WORK_END < tail_of k.log → Goes told v k x (Txn name Begin) LogEnd v k
+  begin_end name none above =
+      let few : (length x.live == 0) ≡ true = ap (λ (ls : List Live). length ls == 0) (none_live none) in
+      let e = going_turn x x.next name Begin going ∙ (ap (turn_begin x x.next name) (named_none x name (none_live none)) ∙ ap (λ b. cond b (Said Done, began x x.next name) (TooManyLive, x)) few) in
+      stays told v k x (Txn name Begin) LogEnd shows (record { after = refl; logged = tt; said = subst IsSaid (sym (ap (λ (p : Answer × State). p.0) e)) tt }) above (λ is_full work s. refl)
+
+  pub op_end : (name : List ℕ) (op : Op) (l : Live) → k.live ≡ Some l → l.name ≡ name → is_changing op ≡ true → IsSaid (answer_of (step k.objects op).0) → NEW_WORK_END < tail_of k.log → Goes told v k x (Txn name (Do op)) LogEnd v k
+  op_end name op l one is changing said above =
+      let e = going_turn x x.next name (Do op) going ∙ ap (turn_op x op) (named_one x l name (one_live l one) is) in
+      let here : IsSaid (answer_of (step (live_objects x) op).0) = subst (λ (m : Objects). IsSaid (answer_of (step m op).0)) runs.objects said in
+      stays told v k x (Txn name (Do op)) LogEnd shows (record { after = refl; logged = changing; said = subst IsSaid (sym (ap (λ (p : Answer × State). p.0) e)) here }) above (λ is_full work s. refl)
+
+-- the tail comes no later than the next record
+tail_by : (b c : Bool) (gate used : ℕ) → cond b gate (gate + 5 + used) ≤ cond c (gate + 5 + used) (gate + 5 + used + 5)
+tail_by true true gate used = omega arith
+tail_by true false gate used = omega arith
+tail_by false true gate used = omega arith
+tail_by false false gate used = omega arith
+
+pub tail-place : (log : Tail) (r : Record) → tail_of log ≤ place_of log r
+tail-place log r = tail_by (length log.buffer == 0) (nat_le (length log.buffer + length (spelled r)) 65536) log.gate (length log.buffer)
+
+place_by : (b c : Bool) (gate used : ℕ) → (b ≡ true → used ≡ 0) → cond c (gate + 5 + used) (gate + 5 + used + 5) ≤ cond b gate (gate + 5 + used) + 10
+place_by true true gate used none = let z : used ≡ 0 = none refl in omega arith
+place_by true false gate used none = let z : used ≡ 0 = none refl in omega arith
+place_by false true gate used none = omega arith
+place_by false false gate used none = omega arith
+
+-- and not much later
+pub place-tail : (log : Tail) (r : Record) → place_of log r ≤ tail_of log + 10
+place-tail log r = place_by (length log.buffer == 0) (nat_le (length log.buffer + length (spelled r)) 65536) log.gate (length log.buffer) (eqb-true (length log.buffer) 0)
+
+-- where the log stands stays
+area_by : (b : Bool) (log : Tail) (r : Record) → ((cond b (record log { buffer = log.buffer ++ spelled r }) (record (forced log) { buffer = (forced log).buffer ++ spelled r })).area ≡ log.area) × ((cond b (record log { buffer = log.buffer ++ spelled r }) (record (forced log) { buffer = (forced log).buffer ++ spelled r })).base ≡ log.base)
+area_by true log r = (refl, refl)
+area_by false log r = forced_area (length log.buffer == 0) log
+  where
+    forced_area : (c : Bool) (log : Tail) → ((cond c log (record log { gate = log.gate + 5 + length log.buffer; buffer = [] })).area ≡ log.area) × ((cond c log (record log { gate = log.gate + 5 + length log.buffer; buffer = [] })).base ≡ log.base)
+    forced_area true log = (refl, refl)
+    forced_area false log = (refl, refl)
+
+pub appended_place : (log : Tail) (r : Record) → ((appended log r).area ≡ log.area) × ((appended log r).base ≡ log.base)
+appended_place log r = area_by (nat_le (length log.buffer + length (spelled r)) 65536) log r
+
+pub forced_place : (log : Tail) → ((forced log).area ≡ log.area) × ((forced log).base ≡ log.base)
+forced_place log = by_length (length log.buffer == 0)
+  where
+    by_length : (c : Bool) → ((cond c log (record log { gate = log.gate + 5 + length log.buffer; buffer = [] })).area ≡ log.area) × ((cond c log (record log { gate = log.gate + 5 + length log.buffer; buffer = [] })).base ≡ log.base)
+    by_length true = (refl, refl)
+    by_length false = (refl, refl)
+
+-- a run that isn't stopped is shown
+pub running_shows : (told : Bool) (w : disk.View) (m : Core) (y : State) → m.stopped ≡ false → y.stopped ≡ false → Runs told w m y → Shows told w m y
+running_shows told w m y running going runs = record {
+  stopped = running ∙ sym going;
+  runs = λ is. runs;
+  answered = omega (arith, runs.answered);
+  one_more = omega (arith, runs.answered);
+  images = λ is_told c leaves.
+    let kept = runs.keeps is_told in
+    let here : HasRecords (c Log0) 0 kept.durable = held_at c m.log kept.durable runs.area runs.base (holds_image kept.holds c leaves) in
+    first_all y y.answered c (omega (arith, runs.answered)) (stands c (committed_objects y) kept.durable here kept.logs.durable);
+}
+  where
+    held_at : (c : disk.Image) (log : Tail) (ds : List Record) → log.area ≡ Log0 → log.base ≡ 0 → HasRecords (c log.area) log.base ds → HasRecords (c Log0) 0 ds
+    held_at c log ds area base h = subst (λ b. HasRecords (c Log0) b ds) base (subst (λ a. HasRecords (c a) log.base ds) area h)
+
+-- and so is one that is, by what the images stand for
+pub stopped_shows : (told : Bool) (w : disk.View) (m : Core) (y : State) → m.stopped ≡ true → y.stopped ≡ true → y.answered ≤ length y.commits → length y.commits ≤ y.answered + 1
+    → (IsTrue told → (c : disk.Image) → disk.Leaves w.now c → StandsForFirst y.answered y c) → Shows told w m y
+stopped_shows told w m y halted stopped least most images = record {
+  stopped = halted ∙ sym stopped;
+  runs = λ going. absurd (cc (stopped, going));
+  answered = least;
+  one_more = most;
+  images = images;
+}
+
+pub line_said : (x : State) (order : Order) (r : Result Reply Reason) (y : State) → Turns x order (answer_of r) y → LineBy x order (answer_of r) y
+line_said x order (Ok reply) y h = h
+line_said x order (Err reason) y h = h
+
+pub caused_said : (d f : Type 0) (r : Result Reply Reason) → IsCaused d f (answer_of r)
+caused_said d f (Ok reply) = tt
+caused_said d f (Err reason) = tt
+
+-- what was durable and what waited, by whether the record had room
+pub own_after : (b : Bool) (t : ℕ) (ps : List Record) (r : Record) → AreOwn t ps → AreOwn t (r ∷ []) → AreOwn t (cond b (ps ++ r ∷ []) (r ∷ []))
+own_after true t ps r own one = own-append t ps (r ∷ []) own one
+own_after false t ps r own one = one
+
+pub uncommitted_after : (b : Bool) (t : ℕ) (ds ps : List Record) → AreOwn t ps → IsNotAmong t (commits_in ds) → IsNotAmong t (commits_in (cond b ds (ds ++ ps)))
+uncommitted_after true t ds ps own h = h
+uncommitted_after false t ds ps own h = subst (IsNotAmong t) (sym (commits_in-append ds ps ∙ (ap (λ (ts : List ℕ). commits_in ds ++ ts) (commits_in-own t ps own) ∙ append-nil (commits_in ds)))) h
+
+pub durable_lines : (b : Bool) (ds ps : List Record) → committed_lines (ds ++ ps) ≡ committed_lines ds → committed_lines (cond b ds (ds ++ ps)) ≡ committed_lines ds
+durable_lines true ds ps e = refl
+durable_lines false ds ps e = e
+
+pub one_after : (b : Bool) (ps : List Record) (r : Record) → ps ≡ [] → cond b (ps ++ r ∷ []) (r ∷ []) ≡ r ∷ []
+one_after true ps r none = ap (λ (rs : List Record). rs ++ r ∷ []) none
+one_after false ps r none = refl
+
+-- a call on the log that made what waited durable, or nothing
+abbrev pub HoldsAfter : Bool → disk.View → disk.View → Tail → Tail → Record → Type 0
+HoldsAfter told v w log new r = (ds ps : List Record) → IsTrue told → Holds v log ds ps → Holds w new (durable_after log r ds ps) (waiting_after log r ps)
+
+abbrev pub MomentsOf : Bool → disk.View → disk.View → Tail → Type 0
+MomentsOf told v w log = (ds ps : List Record) → IsTrue told → Holds v log ds ps → disk.LeavesOnly v w (IsBeforeOrAfter v.now log.area log.base ds ps)
+
+-- a begin's record is a header
+pub begin-length : (transaction previous : ℕ) → length (spelled (BeginRecord transaction previous)) ≡ 21
+unfolding spelled
+begin-length transaction previous = refl
+
+pub commit-length : (transaction previous : ℕ) → length (spelled (CommitRecord transaction previous)) ≡ 21
+unfolding spelled
+commit-length transaction previous = refl
+
+-- a begin's place doesn't depend on its numbers
+pub begin-place : (log : Tail) (t p u q : ℕ) → place_of log (BeginRecord t p) ≡ place_of log (BeginRecord u q)
+begin-place log t p u q = ap (λ (n : ℕ). cond (nat_le (length log.buffer + n) 65536) (log.gate + 5 + length log.buffer) (log.gate + 5 + length log.buffer + 5)) (begin-length t p ∙ sym (begin-length u q))
+
+-- a record of at most the greatest length ends within the log, while the tail is low
+pub ends_within : (log : Tail) (r : Record) → IsRecord r → tail_of log ≤ NEW_WORK_END → end_of log r ≤ LOG_END
+ends_within log r h low = omega (arith, place-tail log r, spelled_most r h)
+
+-- and then an append fails only where the disk does
+pub append_risen : (end : ℕ) (v w : disk.View) (e : LogFault) → AppendFails end v w e → end ≤ LOG_END → HasRisen v.faults w.faults
+append_risen end v w faults.Disk h within = h
+append_risen end v w faults.LogEnd h within = absurd (omega arith)
+append_risen end v w (faults.Damaged at) h within = absurd h
+append_risen end v w faults.Memory h within = absurd h
+
+pub force_risen : (v w : disk.View) (e : LogFault) → ForceFails v w e → HasRisen v.faults w.faults
+force_risen v w faults.Disk h = h
+force_risen v w faults.LogEnd h = absurd h
+force_risen v w (faults.Damaged at) h = absurd h
+force_risen v w faults.Memory h = absurd h
+
+-- equal texts
+pub same_text : (xs ys : List ℕ) → bytes_eq xs ys ≡ true → ys ≡ xs
+same_text [] [] h = refl
+same_text [] (y ∷ ys) h = absurd (cc)
+same_text (x ∷ xs) [] h = absurd (cc)
+same_text (x ∷ xs) (y ∷ ys) h =
+    let first : x ≡ y = eqb-true x y (and_left (x == y) (bytes_eq xs ys) h) in
+    let P : ℕ → List ℕ → List ℕ = λ z zs. z ∷ zs in
+    ap (λ z. P z ys) (sym first) ∙ ap (P x) (same_text xs ys (and_right (x == y) (bytes_eq xs ys) h))
+  where
+    and_left : (a b : Bool) → (a && b) ≡ true → a ≡ true
+    and_left true b h = refl
+    and_left false b h = h
+
+    and_right : (a b : Bool) → (a && b) ≡ true → b ≡ true
+    and_right true b h = h
+    and_right false b h = absurd (cc)
+
+-- a force doesn't lower the tail
+pub tail_forced : (log : Tail) → tail_of log ≤ tail_of (forced log)
+tail_forced log = by_length (length log.buffer == 0) refl
+  where
+    by_length : (b : Bool) → (length log.buffer == 0) ≡ b → cond b log.gate (log.gate + 5 + length log.buffer) ≤ tail_of (cond b log (record log { gate = log.gate + 5 + length log.buffer; buffer = [] }))
+    by_length true e = rw e (omega arith)
+    by_length false e = omega arith
+
+-- an operation that takes memory is a changing one
+pub grows_changing : (op : Op) → Grows op → is_changing op ≡ true
+grows_changing (MakeArray name size) h = refl
+grows_changing (Push name value) h = refl
+grows_changing (MakeTable name) h = refl
+grows_changing (MakeBlob name) h = refl
+grows_changing (Discard name) h = refl
+grows_changing (Pop name) h = refl
+grows_changing (Set name index value) h = refl
+grows_changing (Get name index) h = absurd h
+grows_changing (Len name) h = absurd h
+grows_changing (Apply name index code arg) h = refl
+grows_changing (Put name key value) h = refl
+grows_changing (Del name key) h = refl
+grows_changing (Find name key) h = absurd h
+grows_changing (Write name at bytes) h = refl
+grows_changing (Read name at count) h = absurd h
+grows_changing (Size name length) h = refl
+grows_changing (Paint name at count code arg) h = refl

@@ -1,0 +1,249 @@
+ghost use Rattle.std.specs.Prelude.{◌≡◌, ◌≤◌, ◌<◌, [], List, ℕ, length, Option, Some, None, IsSome, IsTrue, IfErr, OnOk, MatchOption, true, false, is_some};
+ghost use Rattle.std.specs.Option.{option_to_list};
+ghost use Rattle.std.specs.Str.{bytes_eq};
+ghost use Rattle.sg_base.specs.Ends.{HasRisen};
+ghost use Rattle.sg_model.specs.History.{State};
+ghost use Rattle.sg_model.specs.Objects.{IsBuilt, step};
+ghost use Rattle.sg_model.specs.Shown.{shown_op};
+ghost use Rattle.sg_words.specs.Order.{OrdersBuilt};
+ghost use Rattle.sg_words.specs.Order.Order.{Txn};
+ghost use Rattle.sg_words.specs.Order.Verb.{Begin, Commit, Do};
+ghost use Rattle.sg_words.specs.Parse.{order_of};
+ghost use Rattle.sg_words.specs.Run.{live_named};
+ghost use Rattle.sg_words.specs.Shown.{shown_line};
+ghost use Rattle.sg_words.specs.Spoken.{spoken};
+ghost use Rattle.sg_disk.specs.Disk.{LeavesOnly};
+ghost use Rattle.sg_record.specs.Records.{Record, IsRecord};
+ghost use Rattle.sg_record.specs.Records.Record.{Line as LineRecord};
+ghost use Rattle.sg_log.specs.Faults.{AppendFails};
+ghost use Rattle.sg_log.specs.Frames.{IsBeforeOrAfter};
+ghost use Rattle.sg_log.specs.Held.{Holds, tail_of, end_of, appended, durable_after, waiting_after};
+ghost use Rattle.sg_top.specs.Store.{Shows};
+ghost use Rattle.sg_top.specs.Goes.{Goes, NEW_WORK_END};
+ghost use Rattle.sg_top.specs.Shown.{shown_answer, live_of, core_of, answer_at, stop_at, IsFullAnswer};
+
+use crate::answer::Answer;
+use sg_base::{Lsn, Name, OutOfMemory, TxnId};
+use sg_disk::Disk;
+use sg_log::{Log, LogFault};
+use sg_model::{Objects, Op, Reply};
+use sg_record::Rec;
+use sg_words::{Line, Verb, join_words};
+use std::alloc::Global;
+
+/// No new work begins once the log's tail is above this byte: 2^62.
+const NEW_WORK_END: u64 = 1 << 62;
+
+/// Why a store has stopped.
+#[derive(Clone, Copy, Debug, PartialEq, Eq)]
+pub enum Stop {
+    /// A call of the disk failed.
+    Disk,
+    /// The log had no room for a commit.
+    LogEnd,
+}
+
+/// A live transaction: its name, its number, and its last record.
+#[derive(Clone, Copy)]
+pub struct Running {
+    name: Name,
+    txn: TxnId,
+    last: Lsn,
+}
+
+/// Objects in memory and the log of the lines that made them. One transaction is live at a time.
+/// Once it has stopped it makes no further call of the disk.
+pub struct Store<D: Disk> {
+    disk: D,
+    log: Log,
+    objects: Objects,
+    live: Option<Running>,
+    stop: Option<Stop>,
+}
+
+// Whether the transaction has this name.
+fn is_named(live: &Running, name: Name) -> bool
+    ensures { result ≡ bytes_eq name live.now.name }
+{
+    name == live.name
+}
+
+impl<D: Disk> Store<D> {
+    // The live transaction, if it has this name.
+    fn named(&self, name: Name) -> Option<Running>
+        ensures { MatchOption result (live_named (option_to_list (core_of self.now).live) name ≡ None) (λ r. (self.now.live ≡ Some r) × (bytes_eq name r.name ≡ true)) }
+    {
+        let live = self.live?;
+        if is_named(&live, name) { Some(live) } else { None }
+    }
+
+    // Begins a transaction, where none is live.
+    fn begin(&mut self, name: Name) -> Answer
+        requires { (core_of self.old).stopped ≡ false }
+        ensures goes { (x : State) → Shows D.told (D.view self.old.disk) (core_of self.old) x
+            → Goes D.told (D.view self.old.disk) (core_of self.old) x (Txn name Begin) (shown_answer [] result) (D.view self.new.disk) (core_of self.new) }
+        ensures later { (D.view self.old.disk).faults ≤ (D.view self.new.disk).faults }
+    {
+        if let Some(live) = self.live {
+            return if is_named(&live, name) {
+                Answer::IsLive
+            } else {
+                Answer::TooManyLive
+            };
+        }
+        if self.log.tail() > NEW_WORK_END {
+            return Answer::LogEnd;
+        }
+        let header = Rec::Begin {
+            txn: TxnId(0),
+            prev: 0,
+        };
+        let txn = TxnId(self.log.place(&header));
+        match self.log.append(&mut self.disk, &Rec::Begin { txn, prev: 0 }) {
+            Ok(last) => {
+                self.live = Some(Running { name, txn, last });
+                Answer::Said(Reply::Done)
+            }
+            Err(_) => {
+                self.stop = Some(Stop::Disk);
+                Answer::Disk
+            }
+        }
+    }
+
+    // Stops the store at a fault of the log.
+    fn halt(&mut self, fault: LogFault) -> Answer
+        ensures stopped { core_of self.new ≡ record (core_of self.old) { stopped = true } }
+        ensures disk { self.new.disk ≡ self.old.disk }
+        ensures answer { result ≡ answer_at fault }
+        ensures why { self.new.stop ≡ Some (stop_at fault) }
+    {
+        if fault == LogFault::LogEnd {
+            self.stop = Some(Stop::LogEnd);
+            Answer::LogEnd
+        } else {
+            self.stop = Some(Stop::Disk);
+            Answer::Disk
+        }
+    }
+
+    // Commits the live transaction, if it has this name.
+    fn commit(&mut self, name: Name) -> Answer
+        requires { (core_of self.old).stopped ≡ false }
+        ensures goes { (x : State) → Shows D.told (D.view self.old.disk) (core_of self.old) x
+            → Goes D.told (D.view self.old.disk) (core_of self.old) x (Txn name Commit) (shown_answer [] result) (D.view self.new.disk) (core_of self.new) }
+        ensures later { (D.view self.old.disk).faults ≤ (D.view self.new.disk).faults }
+    {
+        let Some(live) = self.named(name) else {
+            return Answer::NoTransaction;
+        };
+        let record = Rec::Commit {
+            txn: live.txn,
+            prev: live.last,
+        };
+        match self.log.append(&mut self.disk, &record) {
+            Ok(_) => {}
+            Err(fault) => return self.halt(fault),
+        }
+        match self.log.force(&mut self.disk) {
+            Ok(()) => {
+                self.live = None;
+                Answer::Said(Reply::Done)
+            }
+            Err(fault) => self.halt(fault),
+        }
+    }
+
+    // Appends the line of an operation that was done to the log.
+    fn keep(&mut self, live: Running, text: &[u8], kept: &mut [u8]) -> Result<(), LogFault>
+        requires line { length text.now ≤ 32768 }
+        requires room { length text.now ≤ length kept.old }
+        requires live { self.old.live ≡ Some live }
+        ensures log { OnOk result (self.new.log ≡ appended self.old.log (LineRecord live.txn.0 live.last (spoken text.now))) }
+        ensures tail { OnOk result (tail_of self.new.log ≡ end_of self.old.log (LineRecord live.txn.0 live.last (spoken text.now))) }
+        ensures core { OnOk result (core_of self.new ≡ record (core_of self.old) { log = self.new.log }) }
+        ensures range { IsRecord (LineRecord live.txn.0 live.last (spoken text.now)) }
+        ensures same { (self.new.objects ≡ self.old.objects) × (self.new.stop ≡ self.old.stop) }
+        ensures faults { IfErr result (λ e. AppendFails (end_of self.old.log (LineRecord live.txn.0 live.last (spoken text.now))) (D.view self.old.disk) (D.view self.new.disk) e) }
+        ensures holds { (ds ps : List Record) → IsTrue D.told → Holds (D.view self.old.disk) self.old.log ds ps →
+            OnOk result (Holds (D.view self.new.disk) self.new.log (durable_after self.old.log (LineRecord live.txn.0 live.last (spoken text.now)) ds ps)
+                (waiting_after self.old.log (LineRecord live.txn.0 live.last (spoken text.now)) ps)) }
+        ensures any_moment { (ds ps : List Record) → IsTrue D.told → Holds (D.view self.old.disk) self.old.log ds ps →
+            LeavesOnly (D.view self.old.disk) (D.view self.new.disk) (IsBeforeOrAfter (D.view self.old.disk).now self.old.log.area self.old.log.base ds ps) }
+        ensures later { (D.view self.old.disk).faults ≤ (D.view self.new.disk).faults }
+    {
+        let size = join_words(text, kept);
+        let record = Rec::Line {
+            txn: live.txn,
+            prev: live.last,
+            words: &kept[..size],
+        };
+        match self.log.append(&mut self.disk, &record) {
+            Ok(last) => {
+                self.live = Some(Running { last, ..live });
+                Ok(())
+            }
+            Err(fault) => Err(fault),
+        }
+    }
+
+    // Whether the log's tail is too high for new work.
+    fn is_full(&self, changing: bool) -> bool
+        ensures full { IsTrue result → (changing ≡ true) × (NEW_WORK_END < tail_of self.now.log) }
+        ensures low { result ≡ false → changing ≡ true → tail_of self.now.log ≤ NEW_WORK_END }
+    {
+        changing && self.log.tail() > NEW_WORK_END
+    }
+
+    // What an operation is answered where the log is full: the reason that it has anyway comes first.
+    fn refuse(&self, op: &Op<'_>) -> Answer
+        requires { IsBuilt (shown_op op.now) }
+        ensures { IsFullAnswer (step self.now.objects (shown_op op.now)).0 result }
+    {
+        match self.objects.refusal(op) {
+            Some(reason) => Answer::Refused(reason),
+            None => Answer::LogEnd,
+        }
+    }
+
+    // Does an operation of the live transaction, if it has this name. `text` is the line that says it.
+    fn perform(
+        &mut self,
+        alloc: Global,
+        name: Name,
+        op: &Op<'_>,
+        text: &[u8],
+        kept: &mut [u8],
+        into: &mut [u8],
+    ) -> Answer
+        requires running { (core_of self.old).stopped ≡ false }
+        requires built { IsBuilt (shown_op op.now) }
+        requires said { order_of text.now ≡ Txn name (Do (shown_op op.now)) }
+        requires line { length text.now ≤ 32768 }
+        requires kept { 32768 ≤ length kept.old }
+        requires into { 8192 ≤ length into.old }
+        ensures goes { (x : State) → Shows D.told (D.view self.old.disk) (core_of self.old) x
+            → Goes D.told (D.view self.old.disk) (core_of self.old) x (Txn name (Do (shown_op op.now))) (shown_answer into.new result) (D.view self.new.disk) (core_of self.new) }
+        ensures later { (D.view self.old.disk).faults ≤ (D.view self.new.disk).faults }
+    {
+        let Some(live) = self.named(name) else {
+            return Answer::NoTransaction;
+        };
+        let changing = op.is_changing();
+        if self.is_full(changing) {
+            return self.refuse(op);
+        }
+        let reply = match self.objects.apply(alloc, op, into) {
+            Ok(Ok(reply)) => reply,
+            Ok(Err(reason)) => return Answer::Refused(reason),
+            Err(OutOfMemory) => return Answer::Memory,
+        };
+        if !changing {
+            return Answer::Said(reply);
+        }
+        match self.keep(live, text, kept) {
+            Ok(()) => Answer::Said(reply),
+            Err(fault) => self.halt(fault),
+        }
+    }
+}
