@@ -10,7 +10,7 @@ use std::alloc::Global;
 use std::collections::BTreeMap;
 use std::marker::Model;
 
-/// An object, of one of the kinds that can be made.
+/// An object. No operation makes a blob yet.
 #[derive(Drop)]
 pub enum Object {
     /// Items of one size.

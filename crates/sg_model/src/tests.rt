@@ -248,3 +248,24 @@ fn an_array_stands_alone_too(rt: HostRuntime) -> Result<(), Fail> {
     assert!(rt; array.get(1).is_none());
     Ok(())
 }
+
+#[test]
+fn a_refusal_is_known_before(rt: HostRuntime) -> Result<(), Fail> {
+    let alloc = rt.alloc();
+    let name = named(b"a")?;
+    let objects = with_array(alloc, name)?;
+    assert_eq!(rt;
+        objects.refusal(&Op::MakeArray { name, size: 1 }),
+        Some(Reason::Exists)
+    );
+    assert_eq!(rt;
+        objects.refusal(&Op::Push { name, value: b"x" }),
+        Some(Reason::Declined)
+    );
+    assert_eq!(rt; objects.refusal(&Op::Push { name, value: b"xy" }), None);
+    assert_eq!(rt;
+        objects.refusal(&Op::Get { name, index: 0 }),
+        Some(Reason::OutOfRange)
+    );
+    Ok(())
+}
