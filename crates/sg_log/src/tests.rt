@@ -1,8 +1,10 @@
+ghost use Rattle.std.specs.Prelude.{◌≡◌, IfOk, length};
+
 use crate::{Log, LogFault};
 use sg_base::{Lsn, TxnId};
 use sg_disk::{Area, CallKind, Disk, Fuse, MemDisk};
 use sg_record::Rec;
-use std::alloc::Global;
+use std::alloc::{AllocError, Global};
 use std::test::Fail;
 
 const BEGIN: Rec<'static> = Rec::Begin {
@@ -93,11 +95,17 @@ fn a_stopped_force_leaves_the_frame_or_none(rt: HostRuntime) -> Result<(), Fail>
     Ok(())
 }
 
+fn letters(alloc: Global, count: usize) -> Result<Vec<u8>, AllocError>
+    ensures { IfOk result (λ v. length v.items ≡ count) }
+{
+    vec![in alloc; b'a'; count]
+}
+
 #[test]
 fn a_record_that_does_not_fit_begins_another_frame(rt: HostRuntime) -> Result<(), Fail> {
     let mut disk = MemDisk::new(rt.alloc());
     let mut log = attached(rt.alloc(), &mut disk)?;
-    let words = vec![in rt.alloc(); b'a'; 32_700]?;
+    let words = letters(rt.alloc(), 32_700)?;
     let line = Rec::Line {
         txn: TxnId(5),
         prev: 5,
