@@ -63,7 +63,12 @@ impl Log {
     /// The log in this area, whose first byte has the number `base`. For now the log has to be empty:
     /// where its first gate is open it answers `Damaged { at: 0 }`. The caller has synced the area.
     /// It writes nothing.
-    pub fn attach<D: Disk>(alloc: Global, disk: &mut D, area: Area, base: Lsn) -> Result<Log, LogFault>
+    pub fn attach<D: Disk>(
+        alloc: Global,
+        disk: &mut D,
+        area: Area,
+        base: Lsn,
+    ) -> Result<Log, LogFault>
         requires log_area { (area ≡ Log0) ⊎ (area ≡ Log1) }
         requires base { base ≤ LOG_END }
         ensures log { IfOk result (λ log. log ≡ record { area = area; base = base; gate = base; buffer = [] }) }

@@ -1,9 +1,7 @@
-use Rattle.std.proofs.Common.{rules, ◌≡◌, ◌⊎◌, ◌≤◌, ◌<◌, ◌+◌, ◌^◌, ◌++◌, ◌==◌, ◌∷◌, [], ℕ, List, length, take, drop, min, IsTrue, subst, sym, ap, ◌∙◌, arith}
-use Rattle.sg_disk.specs.Disk.{FULL, Image, Leaves, LeavesOnly, View}
+use Rattle.std.proofs.Common.{◌≤◌, ◌+◌, ◌^◌, length, subst, sym, ap, ◌∙◌, arith}
 use Rattle.sg_record.specs.Shown.{shown}
-use Rattle.sg_log.specs.Frames.{IsBeforeOrAfter, HasRecords}
-use Rattle.sg_log.specs.Held.{Tail, Holds, tail_of, end_of, place_of, has_room, forced, buffered, durable_after, waiting_after}
-use Rattle.sg_log.proofs.Holding.{spelled_most, no_call_moments, tail_room, tail_no_room, place_forced, forced_empty, holds_room, holds_no_room}
+use Rattle.sg_log.specs.Held.{Tail, Holds, tail_of, end_of, buffered, durable_after, waiting_after}
+use Rattle.sg_log.proofs.Holding.{spelled_most, no_call_moments, tail_room, tail_no_room, place_forced, forced_empty, holds_room}
 use Rattle.sg_log.proofs.log.Log.append.Goals as goal
 
 pub overflow_add-lsn : goal.overflow_add-lsn

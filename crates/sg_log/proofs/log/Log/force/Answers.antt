@@ -1,9 +1,9 @@
-use Rattle.std.proofs.Common.{rules, ◌≡◌, ◌⊎◌, ◌≤◌, ◌<◌, ◌+◌, ◌^◌, ◌++◌, ◌==◌, ◌∷◌, [], ℕ, List, length, take, drop, min, IsTrue, subst, sym, ap, ◌∙◌, arith}
-use Rattle.sg_disk.specs.Disk.{FULL, Image, Leaves, LeavesOnly, View}
+use Rattle.std.proofs.Common.{◌≡◌, ◌≤◌, ◌<◌, ◌+◌, ◌++◌, length, take, drop, subst, sym, ap, ◌∙◌, arith}
+use Rattle.sg_disk.specs.Disk.{Image, Leaves, LeavesOnly}
 use Rattle.std.proofs.lemmas.List.{with_items_is}
 use Rattle.sg_disk.proofs.Moments.{weaker}
 use Rattle.sg_log.specs.Frames.{IsBeforeOrAfter, HasRecords}
-use Rattle.sg_log.specs.Held.{Tail, IsTail, Holds}
+use Rattle.sg_log.specs.Held.{Tail, Holds}
 use Rattle.sg_log.proofs.Holding.{holds_image, no_call_moments, force_nothing, buffer_none, buffer_size, waiting_rest, waiting_frame, force_moment, force_done, force_text}
 use Rattle.sg_log.proofs.log.Log.force.Goals as goal
 
