@@ -181,7 +181,7 @@ forced_next : (log : Tail) → 0 < length log.buffer → (forced log).gate ≡ l
 forced_next log some = grind (arith, nat_tests)
 
 -- what doesn't fit finds a buffer that isn't empty
-no_room : (log : Tail) (r : Record) → IsRecord r → has_room log r ≡ false → 0 < length log.buffer
+pub no_room : (log : Tail) (r : Record) → IsRecord r → has_room log r ≡ false → 0 < length log.buffer
 no_room log r good none = let most = spelled_most r good in grind (arith, nat_tests)
 
 -- where a record goes once the buffer is forced
@@ -259,3 +259,11 @@ moments_read {v = v} read = goes_on (started v (Leaves v.now) (λ c leaves. leav
 -- an area whose first gate is closed holds no records
 pub no_records : (f : Bytes) (base : ℕ) → base ≤ LOG_END → (f 0 ≡ 1 → ⊥) → HasRecords f base []
 no_records f base within shut = record { frames = []; stand = shut; all = refl; within = omega arith }
+
+-- a force moves no number
+pub tail_forced : (log : Tail) → tail_of (forced log) ≡ tail_of log
+tail_forced log = grind (arith, nat_tests)
+
+-- an append ends near the tail before it
+pub end_near : (log : Tail) (r : Record) → IsRecord r → end_of log r ≤ tail_of log + 10 + GREATEST
+end_near log r good = let most = spelled_most r good in grind (arith, nat_tests)
