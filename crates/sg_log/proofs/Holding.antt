@@ -1,18 +1,17 @@
 -- What a log holds, before and after its calls.
-use Rattle.std.proofs.Common.{add-zero, ◌≡◌, ◌⊎◌, inl, inr, ⊎_elim, ℕ, zero, suc, ◌+◌, ◌-◌, ◌<◌, ◌≤◌, ◌==◌, nat_le, Bool, true, false, IsTrue, if◌then◌else◌, List, [], ◌∷◌, ◌++◌, Result, Ok, Err, length, take, drop, refl, sym, ◌∙◌, ap, subst, arith, length-append, length-take, length-drop, append_assoc, append-nil}
+use Rattle.std.proofs.Common.{◌≡◌, ◌⊎◌, inl, inr, ⊎_elim, ℕ, ◌+◌, ◌-◌, ◌<◌, ◌≤◌, Bool, true, false, if◌then◌else◌, List, [], ◌∷◌, ◌++◌, Result, length, take, drop, refl, sym, ◌∙◌, ap, subst, arith, length-append, length-take, length-drop, append_assoc, append-nil}
 use Rattle.std.proofs.lemmas.List.{length-take-le, drop-append-le, drop-take}
 use Rattle.std.proofs.Math.Seq.{take-append-add, take-append_seam}
 use Rattle.std.proofs.lemmas.Bool.Decides.{nat_tests}
-use Rattle.std.proofs.lemmas.Bool.{cases_eq}
 use Rattle.sg_base.specs.declared.area.Area.{Area}
-use Rattle.sg_disk.specs.Disk.{Bytes, Image, Part, State, LeavesPart, Leaves, View, LeavesOnly, ReadBytes}
-use Rattle.sg_disk.proofs.Moments.{started, goes_on, weaker}
+use Rattle.sg_disk.specs.Disk.{Bytes, Image, State, Leaves, View, LeavesOnly, ReadBytes}
+use Rattle.sg_disk.proofs.Moments.{started, goes_on}
 use Rattle.sg_record.specs.Records.{Record, spelled, spelled_all, HEADER, GREATEST, header, kind_of, transaction_of, previous_of, body_of, IsRecord, AreRecords}
 use borrow.Rule.Slice.PartMut.{put_mid}
 use Rattle.sg_record.proofs.Placed.{placed}
 use Rattle.sg_record.proofs.Spelling.{spelled-long}
-use Rattle.sg_log.specs.Frames.{GREATEST_BODY, LOG_END, text_of, IsFrame, Frames, gate_after, records_of, IsAtRest, IsWithOrWithout, HasRecords, IsBeforeOrAfter}
-use Rattle.sg_log.specs.Held.{Tail, Holds, tail_of, has_room, place_of, end_of, forced, buffered, appended, durable_after, waiting_after}
+use Rattle.sg_log.specs.Frames.{GREATEST_BODY, LOG_END, text_of, IsFrame, Frames, records_of, IsAtRest, IsWithOrWithout, HasRecords, IsBeforeOrAfter}
+use Rattle.sg_log.specs.Held.{Tail, Holds, tail_of, has_room, place_of, end_of, forced, buffered, durable_after, waiting_after}
 use Rattle.sg_log.proofs.Steps.{frame_text, gate_more, rest_image}
 
 -- a record has at most these bytes
@@ -182,7 +181,7 @@ forced_next : (log : Tail) → 0 < length log.buffer → (forced log).gate ≡ l
 forced_next log some = grind (arith, nat_tests)
 
 -- what doesn't fit finds a buffer that isn't empty
-no_room : (log : Tail) (r : Record) → IsRecord r → has_room log r ≡ false → 0 < length log.buffer
+pub no_room : (log : Tail) (r : Record) → IsRecord r → has_room log r ≡ false → 0 < length log.buffer
 no_room log r good none = let most = spelled_most r good in grind (arith, nat_tests)
 
 -- where a record goes once the buffer is forced
@@ -260,3 +259,11 @@ moments_read {v = v} read = goes_on (started v (Leaves v.now) (λ c leaves. leav
 -- an area whose first gate is closed holds no records
 pub no_records : (f : Bytes) (base : ℕ) → base ≤ LOG_END → (f 0 ≡ 1 → ⊥) → HasRecords f base []
 no_records f base within shut = record { frames = []; stand = shut; all = refl; within = omega arith }
+
+-- a force moves no number
+pub tail_forced : (log : Tail) → tail_of (forced log) ≡ tail_of log
+tail_forced log = grind (arith, nat_tests)
+
+-- an append ends near the tail before it
+pub end_near : (log : Tail) (r : Record) → IsRecord r → end_of log r ≤ tail_of log + 10 + GREATEST
+end_near log r good = let most = spelled_most r good in grind (arith, nat_tests)

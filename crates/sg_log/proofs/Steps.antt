@@ -1,15 +1,15 @@
 -- The frames that a crash leaves in each step of a force.
-use Rattle.std.proofs.Common.{add-zero, ◌≡◌, ◌⊎◌, inl, inr, ⊎_elim, ℕ, zero, suc, ◌+◌, ◌-◌, ◌<◌, ◌≤◌, List, [], ◌∷◌, ◌++◌, Result, Ok, Err, length, get_or, refl, sym, ◌∙◌, ap, subst, arith, length-append}
+use Rattle.std.proofs.Common.{add-zero, ◌≡◌, ◌⊎◌, inl, inr, ⊎_elim, ℕ, ◌+◌, ◌<◌, ◌≤◌, List, [], ◌∷◌, ◌++◌, Result, Ok, length, refl, sym, ◌∙◌, ap, subst, arith, length-append}
 use Rattle.std.proofs.Math.ListN.{get_or-append}
 use Rattle.std.proofs.Math.Seq.{get_or-append_seam}
 use Rattle.std.proofs.lemmas.Bool.{cases_eq}
 use Rattle.sg_base.specs.declared.area.Area.{Area}
-use Rattle.sg_disk.specs.Disk.{Bytes, Image, Part, State, LeavesPart, Leaves, View, Wrote, Synced, LeavesOnly, put, window, written_part, synced_part, written, synced}
+use Rattle.sg_disk.specs.Disk.{Bytes, Image, Part, State, LeavesPart, Leaves, View, Wrote, Synced, LeavesOnly, window, written_part, synced_part, written}
 use Rattle.sg_disk.proofs.Parts.{part_written, part_synced, leaves_written, settled_byte, other_byte, put_inside, window_agree, window_is, other_written, other_synced, leaves_other}
 use Rattle.sg_disk.proofs.Images.{put_outside}
 use Rattle.sg_disk.proofs.Moments.{started, goes_on}
 use Rattle.sg_record.specs.Records.{Record, spelled_all}
-use Rattle.sg_log.specs.Frames.{text_of, IsFrame, Frames, gate_after, IsAtRest, IsWithOrWithout}
+use Rattle.sg_log.specs.Frames.{text_of, IsFrame, Frames, gate_after, IsAtRest, IsWithOrWithout, SameElsewhere}
 
 -- a frame's bytes behind its gate
 abbrev pub frame_text : List Record → List ℕ
@@ -154,3 +154,9 @@ module _ (area : Area) (at : ℕ) (frames : List (List Record)) (rs : List Recor
         at_gate = omega (arith, gate_more 0 frames rs, rest.at_gate, ap length is, length-append (frame_text rs) (0 ∷ []));
         settled = rw part refl;
       }
+
+-- what a frame's calls leave of the other areas
+pub others_done : {T E : Type 0} {v v1 v2 v3 v4 : View} {u w x y : T} (area : Area) (at : ℕ) (text : List ℕ) → Wrote {E = E} area (at + 1) text v v1 (Ok u) → Synced {E = E} area v1 v2 (Ok w) → Wrote {E = E} area at (1 ∷ []) v2 v3 (Ok x) → Synced {E = E} area v3 v4 (Ok y)
+    → SameElsewhere area v.now v4.now
+others_done {v = v} {v1 = v1} {v2 = v2} {v3 = v3} area at text w s w2 s2 b other =
+    other_synced v3.now area b other s2.ok ∙ other_written v2.now area b at (1 ∷ []) other w2.ok ∙ other_synced v1.now area b other s.ok ∙ other_written v.now area b (at + 1) text other w.ok

@@ -1,11 +1,10 @@
 -- The records that an area holds are one list at most.
-use Rattle.std.proofs.Common.{◌≡◌, ◌⊎◌, inl, inr, ℕ, zero, suc, ◌+◌, ◌<◌, ◌≤◌, ◌^◌, List, [], ◌∷◌, ◌++◌, length, take, drop, get_or, refl, sym, ◌∙◌, ap, subst, arith, length-append, add-zero}
-use Rattle.byteorder.specs.Endian.{little_bytes, little_number}
-use Rattle.byteorder.specs.Numbers.{little_number-reads_back}
+use Rattle.std.proofs.Common.{◌≡◌, ℕ, zero, suc, ◌+◌, ◌<◌, ◌≤◌, List, [], ◌∷◌, ◌++◌, length, drop, get_or, refl, sym, ◌∙◌, ap, subst, arith, add-zero}
+use Rattle.byteorder.specs.Endian.{little_bytes}
 use Rattle.sg_disk.specs.Disk.{Bytes, window}
-use Rattle.sg_record.specs.Records.{Record, spelled_all, AreRecords}
+use Rattle.sg_record.specs.Records.{Record, spelled_all}
 use Rattle.sg_record.proofs.Spelling.{spelled_all-one}
-use Rattle.sg_log.specs.Frames.{GREATEST_BODY, IsFrame, text_of, Frames, records_of, HasRecords}
+use Rattle.sg_log.specs.Frames.{GREATEST_BODY, text_of, Frames, records_of, HasRecords}
 
 -- the bytes of a window, one by one
 read_window : (f : Bytes) (at n k : ℕ) → k < n → get_or (window f at n) k 0 ≡ f (at + k)

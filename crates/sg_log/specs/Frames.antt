@@ -39,6 +39,10 @@ abbrev pub records_of : List (List Record) → List Record
 records_of [] = []
 records_of (rs ∷ frames) = rs ++ records_of frames
 
+-- each other area is in the same state
+abbrev pub SameElsewhere : Area → State → State → Type 0
+SameElsewhere area s t = (b : Area) → (b ≡ area → ⊥) → t b ≡ s b
+
 -- these frames stand in the area from its first byte on, with the closed gate at this offset, all of it on the disk
 pub record IsAtRest (s : State) (area : Area) (gate : ℕ) (frames : List (List Record)) : Type 0 where
   pub stand : Frames (s area).seen 0 frames

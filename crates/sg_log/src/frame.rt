@@ -3,7 +3,7 @@ ghost use Rattle.std.specs.Prelude.{◌≡◌, ◌≤◌, ◌+◌, ◌++◌, ◌
 ghost use Rattle.byteorder.specs.Endian.{little_bytes};
 ghost use Rattle.sg_base.specs.Ends.{HasRisen};
 ghost use Rattle.sg_disk.specs.Disk.{END, FULL, LeavesOnly};
-ghost use Rattle.sg_log.specs.Frames.{text_of, IsFrame, IsAtRest, IsWithOrWithout};
+ghost use Rattle.sg_log.specs.Frames.{text_of, IsFrame, IsAtRest, IsWithOrWithout, SameElsewhere};
 ghost use Rattle.sg_record.specs.Records.{Record, spelled_all};
 
 use sg_base::write_u32;
@@ -32,6 +32,7 @@ pub fn write_frame<D: Disk>(disk: &mut D, area: Area, at: u64, text: &[u8]) -> R
     ensures any_moment { (frames : List (List Record)) (rs : List Record) →
         IsTrue D.told → IsAtRest (D.view disk.old).now area at frames → IsFrame rs → text.now ≡ text_of (spelled_all rs) ++ 0 ∷ [] →
         LeavesOnly (D.view disk.old) (D.view disk.new) (IsWithOrWithout (D.view disk.old).now area frames rs) }
+    ensures elsewhere { IsTrue D.told → OnOk result (SameElsewhere area (D.view disk.old).now (D.view disk.new).now) }
     ensures failed { OnErr result (HasRisen (D.view disk.old).faults (D.view disk.new).faults) }
     ensures handed { (D.view disk.new).handed ≤ (D.view disk.old).handed + length text.now + 1 }
     ensures kept { (D.view disk.old).handed ≤ (D.view disk.new).handed }

@@ -1,11 +1,11 @@
-ghost use Rattle.std.specs.Prelude.{◌≡◌, ◌⊎◌, ◌≤◌, ◌<◌, ◌+◌, ◌^◌, ◌++◌, ◌==◌, ◌∷◌, [], ℕ, List, length, take, drop, min, IsTrue, IsErr, IfOk, IfErr, OnOk, OnErr, if◌then◌else◌};
+ghost use Rattle.std.specs.Prelude.{false, ◌≡◌, ◌⊎◌, ◌≤◌, ◌<◌, ◌+◌, ◌^◌, ◌++◌, ◌==◌, ◌∷◌, [], ℕ, List, length, take, drop, min, IsTrue, IsErr, IfOk, IfErr, OnOk, OnErr, if◌then◌else◌};
 ghost use Rattle.sg_base.specs.declared.area.Area.TheVariants.{Home, Log0, Log1};
 ghost use Rattle.sg_base.specs.Ends.{HasRisen};
 ghost use Rattle.sg_disk.specs.Disk.{FULL, Image, Leaves, LeavesOnly, window};
 ghost use Rattle.sg_record.specs.Records.{Record, spelled, spelled_all, IsRecord};
 ghost use Rattle.sg_record.specs.Shown.{shown};
 ghost use Rattle.sg_log.specs.Faults.{ForceFails, AppendFails, AttachFails};
-ghost use Rattle.sg_log.specs.Frames.{HasRecords, IsBeforeOrAfter, LOG_END, GREATEST_BODY};
+ghost use Rattle.sg_log.specs.Frames.{HasRecords, IsBeforeOrAfter, SameElsewhere, LOG_END, GREATEST_BODY};
 ghost use Rattle.sg_log.specs.Held.{Tail, IsTail, Holds, tail_of, place_of, end_of, has_room, forced, buffered, appended, durable_after, waiting_after};
 
 use crate::LogFault;
@@ -63,7 +63,12 @@ impl Log {
     /// The log in this area, whose first byte has the number `base`. For now the log has to be empty:
     /// where its first gate is open it answers `Damaged { at: 0 }`. The caller has synced the area.
     /// It writes nothing.
-    pub fn attach<D: Disk>(alloc: Global, disk: &mut D, area: Area, base: Lsn) -> Result<Log, LogFault>
+    pub fn attach<D: Disk>(
+        alloc: Global,
+        disk: &mut D,
+        area: Area,
+        base: Lsn,
+    ) -> Result<Log, LogFault>
         requires log_area { (area ≡ Log0) ⊎ (area ≡ Log1) }
         requires base { base ≤ LOG_END }
         ensures log { IfOk result (λ log. log ≡ record { area = area; base = base; gate = base; buffer = [] }) }
@@ -159,8 +164,10 @@ impl Log {
         // A crash at any moment of the call leaves the records that were durable, or the buffered ones too.
         ensures any_moment { (ds ps : List Record) → IsTrue D.told → Holds (D.view disk.old) self.old ds ps →
             LeavesOnly (D.view disk.old) (D.view disk.new) (IsBeforeOrAfter (D.view disk.old).now self.old.area self.old.base ds ps) }
+        ensures elsewhere { IsTrue D.told → OnOk result (SameElsewhere self.old.area (D.view disk.old).now (D.view disk.new).now) }
         ensures handed { (D.view disk.new).handed ≤ (D.view disk.old).handed + length self.old.buffer + 6 }
         ensures kept { (D.view disk.old).handed ≤ (D.view disk.new).handed }
+        ensures calls { has_room self.old (shown r.now) ≡ false → OnOk result ((D.view disk.new).calls ≡ min ((D.view disk.old).calls + 4) FULL) }
         ensures later { (D.view disk.old).faults ≤ (D.view disk.new).faults }
     {
         let lsn = self.place(r);
@@ -187,6 +194,7 @@ impl Log {
             OnOk result ((c : Image) → Leaves (D.view disk.new).now c → HasRecords (c self.old.area) self.old.base (ds ++ ps)) }
         ensures any_moment { (ds ps : List Record) → IsTrue D.told → Holds (D.view disk.old) self.old ds ps →
             LeavesOnly (D.view disk.old) (D.view disk.new) (IsBeforeOrAfter (D.view disk.old).now self.old.area self.old.base ds ps) }
+        ensures elsewhere { IsTrue D.told → OnOk result (SameElsewhere self.old.area (D.view disk.old).now (D.view disk.new).now) }
         ensures handed { (D.view disk.new).handed ≤ (D.view disk.old).handed + length self.old.buffer + 6 }
         ensures kept { (D.view disk.old).handed ≤ (D.view disk.new).handed }
         ensures all_handed { 0 < length self.old.buffer → OnOk result ((D.view disk.new).handed ≡ min ((D.view disk.old).handed + length self.old.buffer + 6) FULL) }

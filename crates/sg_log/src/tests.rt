@@ -1,8 +1,10 @@
+ghost use Rattle.std.specs.Prelude.{◌≡◌, IfOk, length};
+
 use crate::{Log, LogFault};
 use sg_base::{Lsn, TxnId};
 use sg_disk::{Area, CallKind, Disk, Fuse, MemDisk};
 use sg_record::Rec;
-use std::alloc::Global;
+use std::alloc::{AllocError, Global};
 use std::test::Fail;
 
 const BEGIN: Rec<'static> = Rec::Begin {
@@ -17,8 +19,8 @@ const COMMIT: Rec<'static> = Rec::Commit {
 
 // A gate, the length 42, a begin and a commit of transaction 5, and a closed gate.
 const FRAME: [u8; 48] = [
-    1, 42, 0, 0, 0, 1, 21, 0, 0, 0, 5, 0, 0, 0, 0, 0, 0, 0, 0, 0, 0, 0, 0, 0, 0, 0, 10, 21, 0, 0, 0,
-    5, 0, 0, 0, 0, 0, 0, 0, 5, 0, 0, 0, 0, 0, 0, 0, 0,
+    1, 42, 0, 0, 0, 1, 21, 0, 0, 0, 5, 0, 0, 0, 0, 0, 0, 0, 0, 0, 0, 0, 0, 0, 0, 0, 10, 21, 0, 0,
+    0, 5, 0, 0, 0, 0, 0, 0, 0, 5, 0, 0, 0, 0, 0, 0, 0, 0,
 ];
 
 fn attached<D: Disk>(alloc: Global, disk: &mut D) -> Result<Log, Fail> {
@@ -72,7 +74,10 @@ fn stopped(alloc: Global, passes: u64, pick: u64) -> Result<(MemDisk, bool), Fai
 
 // Whether a log can be attached there, or the first frame's gate is open.
 fn is_there(alloc: Global, disk: &mut MemDisk) -> bool {
-    matches!(Log::attach(alloc, disk, Area::Log0, 0), Err(LogFault::Damaged { at: 0 }))
+    matches!(
+        Log::attach(alloc, disk, Area::Log0, 0),
+        Err(LogFault::Damaged { at: 0 })
+    )
 }
 
 // With each crash the frame is there whole or its gate is closed; it is there from the fourth call on.
@@ -93,11 +98,17 @@ fn a_stopped_force_leaves_the_frame_or_none(rt: HostRuntime) -> Result<(), Fail>
     Ok(())
 }
 
+fn letters(alloc: Global, count: usize) -> Result<Vec<u8>, AllocError>
+    ensures { IfOk result (λ v. length v.items ≡ count) }
+{
+    vec![in alloc; b'a'; count]
+}
+
 #[test]
 fn a_record_that_does_not_fit_begins_another_frame(rt: HostRuntime) -> Result<(), Fail> {
     let mut disk = MemDisk::new(rt.alloc());
     let mut log = attached(rt.alloc(), &mut disk)?;
-    let words = vec![in rt.alloc(); b'a'; 32_700]?;
+    let words = letters(rt.alloc(), 32_700)?;
     let line = Rec::Line {
         txn: TxnId(5),
         prev: 5,
@@ -110,8 +121,9 @@ fn a_record_that_does_not_fit_begins_another_frame(rt: HostRuntime) -> Result<()
     assert_eq!(rt; log.tail(), 65_468);
     assert_eq!(rt; log.append(&mut disk, &line)?, 65_473);
     assert_eq!(rt; disk.call_count(), 5);
-    assert_eq!(rt; disk.log0().len(), 65_469);
-    assert_eq!(rt; &disk.log0()[..5], [1, 0xb7, 0xff, 0, 0].as_slice());
+    let bytes = disk.log0();
+    assert_eq!(rt; bytes.len(), 65_469);
+    assert_eq!(rt; &bytes[..5], [1, 0xb7, 0xff, 0, 0].as_slice());
     assert_eq!(rt; log.tail(), 98_194);
     Ok(())
 }
@@ -128,7 +140,10 @@ fn a_fault_of_the_disk_is_handed_on(rt: HostRuntime) -> Result<(), Fail> {
     }
     let mut disk = MemDisk::new(rt.alloc());
     disk.fail(CallKind::Read, 1);
-    let refused = matches!(Log::attach(rt.alloc(), &mut disk, Area::Log0, 0), Err(LogFault::Disk));
+    let refused = matches!(
+        Log::attach(rt.alloc(), &mut disk, Area::Log0, 0),
+        Err(LogFault::Disk)
+    );
     assert!(rt; refused);
     Ok(())
 }

@@ -1,9 +1,7 @@
-use Rattle.std.proofs.Common.{rules, ◌≡◌, ◌⊎◌, ◌≤◌, ◌<◌, ◌+◌, ◌^◌, ◌++◌, ◌==◌, ◌∷◌, [], ℕ, List, length, take, drop, min, IsTrue, subst, sym, ap, ◌∙◌, arith}
-use Rattle.sg_disk.specs.Disk.{FULL, Image, Leaves, LeavesOnly, View}
+use Rattle.std.proofs.Common.{◌≤◌, ◌+◌, ◌^◌, length, subst, sym, ap, ◌∙◌, arith}
 use Rattle.sg_record.specs.Shown.{shown}
-use Rattle.sg_log.specs.Frames.{IsBeforeOrAfter, HasRecords}
-use Rattle.sg_log.specs.Held.{Tail, Holds, tail_of, end_of, place_of, has_room, forced, buffered, durable_after, waiting_after}
-use Rattle.sg_log.proofs.Holding.{spelled_most, no_call_moments, tail_room, tail_no_room, place_forced, forced_empty, holds_room, holds_no_room}
+use Rattle.sg_log.specs.Held.{Tail, Holds, tail_of, end_of, buffered, durable_after, waiting_after}
+use Rattle.sg_log.proofs.Holding.{spelled_most, no_room, no_call_moments, tail_room, tail_no_room, place_forced, forced_empty, holds_room}
 use Rattle.sg_log.proofs.log.Log.append.Goals as goal
 
 pub overflow_add-lsn : goal.overflow_add-lsn
@@ -39,3 +37,6 @@ pub returns-clause-tail : goal.returns-clause-tail
 returns-clause-tail g c =
     ap tail_of c.buffer-2.ensures.log ∙ ap (λ (t : Tail). tail_of (buffered t (shown c.args.r.now))) c.in_ok-force.ensures.log
     ∙ tail_no_room c.args.self.now (shown c.args.r.now) c.requires (sym c.has_room.ensures ∙ c.if-has_room.false)
+
+pub returns-clause-calls : goal.returns-clause-calls
+returns-clause-calls g c full = c.in_ok-force.ensures.calls (no_room c.args.self.now (shown c.args.r.now) c.requires full)

@@ -1,6 +1,4 @@
-use Rattle.std.proofs.Common.{rules, ◌≡◌, ◌⊎◌, ◌≤◌, ◌<◌, ◌+◌, [], ℕ, List, length, take, drop, IsTrue, sym, ap, ◌∙◌, get_or, slice_index_or}
-use Rattle.sg_disk.specs.Disk.{FULL, Image, Leaves, LeavesOnly, window}
-use Rattle.sg_log.specs.Held.{Tail, IsTail, Holds}
+use Rattle.std.proofs.Common.{ℕ, List, ap, ◌∙◌, get_or}
 use Rattle.sg_log.proofs.Holding.{empty_holds, holds_along, moments_read}
 use Rattle.sg_log.proofs.log.Log.attach.Goals as goal
 

@@ -1,9 +1,9 @@
-use Rattle.std.proofs.Common.{rules, ◌≡◌, ◌⊎◌, ◌≤◌, ◌<◌, ◌+◌, ◌^◌, ◌++◌, ◌==◌, ◌∷◌, [], ℕ, List, length, take, drop, min, IsTrue, subst, sym, ap, ◌∙◌, arith}
-use Rattle.sg_disk.specs.Disk.{FULL, Image, Leaves, LeavesOnly, View}
+use Rattle.std.proofs.Common.{◌≡◌, ◌≤◌, ◌<◌, ◌+◌, ◌++◌, length, take, drop, subst, sym, ap, ◌∙◌, arith}
+use Rattle.sg_disk.specs.Disk.{Image, Leaves, LeavesOnly}
 use Rattle.std.proofs.lemmas.List.{with_items_is}
 use Rattle.sg_disk.proofs.Moments.{weaker}
-use Rattle.sg_log.specs.Frames.{IsBeforeOrAfter, HasRecords}
-use Rattle.sg_log.specs.Held.{Tail, IsTail, Holds}
+use Rattle.sg_log.specs.Frames.{IsBeforeOrAfter, HasRecords, SameElsewhere}
+use Rattle.sg_log.specs.Held.{Tail, Holds}
 use Rattle.sg_log.proofs.Holding.{holds_image, no_call_moments, force_nothing, buffer_none, buffer_size, waiting_rest, waiting_frame, force_moment, force_done, force_text}
 use Rattle.sg_log.proofs.log.Log.force.Goals as goal
 
@@ -66,3 +66,7 @@ returns-clause-after g c ds ps told h0 =
     let done = c.in_ok-write_frame.ensures.done h.frames ps told (waiting_rest h) (waiting_frame h some most) text in
     let held = force_done h some (g.D.Disk.view c.write_frame.new.disk) (take (i.used + 5) c.deref.result.now) (i.gate + (i.used + 5)) text (omega arith) done in
     subst (λ (t : Tail). (image : Image) → Leaves (g.D.Disk.view c.write_frame.new.disk).now image → HasRecords (image t.area) t.base (ds ++ ps)) c.self.view_is (holds_image held)
+
+pub returns-clause-elsewhere : goal.returns-clause-elsewhere
+returns-clause-elsewhere g c told =
+    subst (λ (t : Tail). SameElsewhere t.area (g.D.Disk.view c.args.disk.now).now (g.D.Disk.view c.write_frame.new.disk).now) c.self.view_is (c.in_ok-write_frame.ensures.elsewhere told)
