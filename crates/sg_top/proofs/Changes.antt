@@ -30,7 +30,8 @@ use Rattle.sg_log.specs.Held.{Tail, tail_of, has_room, place_of, end_of, appende
 use Rattle.sg_log.proofs.Holding.{holds_image, all_appended, durable_either}
 use Rattle.sg_top.specs.Stands.{lines_by, commits_in, committed_lines, replay, after_line, after_op, if_replied, StandsFor, StandsForFirst}
 use Rattle.sg_top.specs.Store.{Core, IsSerial, AreSerial, AreBelow, AreOwn, IsNotAmong, IsOpen, IsOpenOrNone, Logs, Keeps, Runs, Shows}
-use Rattle.sg_top.specs.Shown.{shown_answer, answer_at, IsFullAnswer}
+use Rattle.sg_top.specs.Shown.{shown_answer, answer_at, IsFullAnswer, StopIsCaused, stop_at as stop_code}
+use Rattle.sg_top.specs.declared.store.Stop as code_stop
 use Rattle.sg_top.specs.declared.answer.Answer as code_answer
 use Rattle.sg_top.specs.Goes.{Goes, NEW_WORK_END, IsWork}
 use Rattle.sg_top.proofs.Replays.{replay-append, lines_by-above, commits_in-above, commits_in-append, commits_in-own, lines_by-append, lines_by-line, below-append, below-weaker, own-append}
@@ -466,3 +467,17 @@ goes_along {told = told} {v = v} {k = k} {x = x} {order = order} a b u w m n sam
 
 pub goes_order : {told : Bool} {v w : disk.View} {k m : Core} {x : State} {answer : Answer} (o p : Order) → o ≡ p → Goes told v k x p answer w m → Goes told v k x o answer w m
 goes_order {told = told} {v = v} {w = w} {k = k} {m = m} {x = x} {answer = answer} o p same h = subst (λ (q : Order). Goes told v k x q answer w m) (sym same) h
+
+-- the cause of a stop as a record was appended
+pub stop_append : (e : LogFault) (end : ℕ) (v w : disk.View) (F : Type 0) (old : Option code_stop.Stop) → AppendFails end v w e → (LOG_END < end → F) → StopIsCaused (HasRisen v.faults w.faults) F old (Some (stop_code e))
+stop_append faults.Disk end v w F old h full = inr h
+stop_append faults.LogEnd end v w F old h full = inr (full h)
+stop_append (faults.Damaged at) end v w F old h full = absurd h
+stop_append faults.Memory end v w F old h full = absurd h
+
+pub stop_along : (R F : Type 0) (old a b : Option code_stop.Stop) → a ≡ b → StopIsCaused R F old b → StopIsCaused R F old a
+stop_along R F old a b e h = subst (λ (s : Option code_stop.Stop). StopIsCaused R F old s) (sym e) h
+
+-- a commit's record ends soon after the tail
+pub commit_high : (log : Tail) (t p : ℕ) → LOG_END < end_of log (CommitRecord t p) → LOG_END < tail_of log + 31
+commit_high log t p h = omega (arith, h, place-tail log (CommitRecord t p), commit-length t p)
