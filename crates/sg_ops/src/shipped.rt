@@ -1,7 +1,7 @@
 // The operations that come with the crate.
 ghost use Rattle.std.proofs.Common.{rules};
 ghost use Rattle.std.specs.Prelude.{◌≡◌, ℕ, ◌<◌, ◌≤◌, ◌+◌, ◌%◌, ◌^◌, IsTrue, length, slice_index};
-ghost use Rattle.sg_ops.specs.Shipped.{add_meaning, after_add, before_add, value_of, xor_meaning, xored, rotate_meaning, after_rotate, before_rotate, ramp_meaning, ramp_byte, fill_byte};
+ghost use Rattle.sg_ops.specs.Shipped.{add_meaning, after_add, before_add, value_of, xor_meaning, xored, rotate_meaning, ramp_meaning, fill_byte};
 ghost use Rattle.sg_ops.specs.AddLaw.{add_is_undoable};
 ghost use Rattle.sg_ops.specs.XorLaw.{xor_is_undoable};
 ghost use Rattle.sg_ops.specs.RotateLaw.{rotate_is_undoable};

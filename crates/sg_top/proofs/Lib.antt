@@ -3,3 +3,4 @@ pub mod Serial
 pub mod Standing
 pub mod Steps
 pub mod Changes
+pub mod Executing

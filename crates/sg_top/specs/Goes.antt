@@ -39,5 +39,6 @@ pub record Goes (told : Bool) (v : disk.View) (k : Core) (x : State) (order : Or
   pub moments : IsTrue told → disk.LeavesOnly v w (StandsForFirst x.answered after)
 
 -- a log grows by no more than is handed to the disk, as far as that is counted
-abbrev pub Grows : Tail → Tail → disk.View → disk.View → Type 0
-Grows old new v w = (disk.FULL ≤ w.handed) ⊎ (new.gate + v.handed ≤ old.gate + w.handed)
+pub record Grows (old new : Tail) (v w : disk.View) : Type 0 where
+  pub kept : v.handed ≤ w.handed
+  pub grown : (disk.FULL ≤ w.handed) ⊎ (new.gate + v.handed ≤ old.gate + w.handed)

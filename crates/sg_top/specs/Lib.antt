@@ -3,3 +3,4 @@ pub mod Store
 pub mod Goes
 pub mod Shown
 pub mod Sessions
+pub mod Script
