@@ -13,7 +13,7 @@ use Rattle.sg_words.specs.Parse.{order_of}
 use Rattle.sg_words.specs.Text.{Answer, text_of, text_of_all}
 use Rattle.sg_words.specs.Text.Answer.{Silent, BadSyntax, NoTransaction, IsLive, TooManyLive, Memory, Stopped, LogEnd, Disk, Said, Refused}
 use Rattle.sg_words.specs.Run.{live_named, began, committed, did, stop, stop_at_commit, stop_at, broken, full, turn, turn_verb, turn_begin, turn_commit, turn_op, IsSaid, IsLogged, WouldReply, Turns, Ends, Breaks, RunsOut, LineBy, Line, Lines, IsCaused, AreCaused}
-use Rattle.sg_words.proofs.Steps.{Lines-more, told-more, Takes-nothing, caused-weaker, all_caused-weaker, all_caused-more}
+use Rattle.sg_words.proofs.Steps.{Lines-more, told-more, told-cut, caused-weaker, all_caused-weaker, all_caused-more}
 use Rattle.sg_log.specs.Held.{Tail, tail_of}
 use Rattle.sg_top.specs.Stands.{StandsFor, StandsForFirst}
 use Rattle.sg_top.specs.Store.{Core, Runs, Shows}
@@ -133,23 +133,23 @@ near_full told v k x y order (Said reply) R shows line h = tt
 near_full told v k x y order (Refused reason) R shows line h = tt
 
 -- before the first line
-pub executed-none : (told : Bool) (v : disk.View) (k : Core) (x : State) (before : Option (List ℕ)) → Shows told v k x → Executed told v k x [] before before v k
-executed-none told v k x before shows = record {
+pub executed-none : (told : Bool) (v : disk.View) (k : Core) (x : State) (Took : List ℕ → Type 0) → Took [] → Shows told v k x → Executed told v k x [] Took v k
+executed-none told v k x Took nothing shows = record {
   answers = [];
   after = x;
   goes = refl;
   answered = omega arith;
   caused = tt;
   shows = shows;
-  took = Takes-nothing before;
+  took = nothing;
   moments = λ is_told. moments.started v (StandsForFirst x.answered x) (shows.images is_told);
 }
 
 -- one line more
-pub executed-more : (told : Bool) (v : disk.View) (k : Core) (x : State) (lines : List (List ℕ)) (before mid now : Option (List ℕ)) (w u : disk.View) (m n : Core) (line : List ℕ) (answer : Answer)
+pub executed-more : (told : Bool) (v : disk.View) (k : Core) (x : State) (lines : List (List ℕ)) (Before After : List ℕ → Type 0) (w u : disk.View) (m n : Core) (line : List ℕ) (answer : Answer)
     → v.faults ≤ w.faults → w.faults ≤ u.faults → Grows k.log m.log v w → w.handed ≤ u.handed
-    → (e : Executed told v k x lines before mid w m) → Goes told w m e.after (order_of line) answer u n → Takes mid (text_of answer) now → Executed told v k x (lines ++ line ∷ []) before now u n
-executed-more told v k x lines before mid now w u m n line answer later more_later grows kept e h takes =
+    → (e : Executed told v k x lines Before w m) → Goes told w m e.after (order_of line) answer u n → ((answers : List Answer) → Before (text_of_all answers) → After (text_of_all (answers ++ answer ∷ []))) → Executed told v k x (lines ++ line ∷ []) After u n
+executed-more told v k x lines Before After w u m n line answer later more_later grows kept e h takes =
     let ext : Extends e.after h.after = extends_line e.after h.after (order_of line) answer e.shows.answered h.line in
     let near = near_full told w m e.after h.after (order_of line) answer (HasRisen w.faults u.faults) e.shows h.line h.caused in
     record {
@@ -160,7 +160,7 @@ executed-more told v k x lines before mid now w u m n line answer later more_lat
       caused = all_caused-more _ _ e.answers answer (all_caused-weaker _ _ _ _ e.answers (λ risen room. omega (arith, risen (omega (arith, room, more_later)), more_later)) (λ full. fuller full) e.caused)
         (caused-weaker _ _ _ _ answer (λ risen room. omega (arith, risen room, later)) (λ high. full_here high) near);
       shows = h.shows;
-      took = told-more before e.answers mid answer now e.took takes;
+      took = takes e.answers e.took;
       moments = λ is_told. moments.joined
         (moments.weaker (e.moments is_told) (λ c. first_along e.after h.after x.answered c ext))
         (moments.weaker (h.moments is_told) (λ c. fewer h.after x.answered e.after.answered c e.answered));
@@ -172,3 +172,10 @@ executed-more told v k x lines before mid now w u m n line answer later more_lat
 
     full_here : NEW_WORK_END < m.log.gate + 65541 → MayBeFull k.log.gate v u
     full_here high = ⊎_elim (λ counted. inl (omega (arith, counted, kept))) (λ grown. inr (omega (arith, high, grown, kept))) grows.grown
+
+-- what the sink took so far, and of the next reply
+pub takes_more : (before mid now : Option (List ℕ)) (answer : Answer) → Takes mid (text_of answer) now → (answers : List Answer) → Takes before (text_of_all answers) mid → Takes before (text_of_all (answers ++ answer ∷ [])) now
+takes_more before mid now answer takes answers took = told-more before answers mid answer now took takes
+
+pub takes_cut : (before mid now : Option (List ℕ)) (answer : Answer) → TakesFront mid (text_of answer) now → (answers : List Answer) → Takes before (text_of_all answers) mid → TakesFront before (text_of_all (answers ++ answer ∷ [])) now
+takes_cut before mid now answer takes answers took = told-cut before answers mid answer now took takes

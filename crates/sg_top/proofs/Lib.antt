@@ -4,3 +4,5 @@ pub mod Standing
 pub mod Steps
 pub mod Changes
 pub mod Executing
+pub mod Fronts
+pub mod Feeds

@@ -4,3 +4,6 @@ pub mod Goes
 pub mod Shown
 pub mod Sessions
 pub mod Script
+pub mod Kept
+pub mod Buffers
+pub mod Feeding

@@ -2,6 +2,8 @@
 #![tactic(auto)]
 
 mod answer;
+mod buffer;
+mod feed;
 mod session;
 mod store;
 
