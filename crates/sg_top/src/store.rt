@@ -83,7 +83,7 @@ impl<D: Disk> Store<D> {
         ensures goes { (into : List ℕ) (x : State) → Shows D.told (D.view self.old.disk) (core_of self.old) x
             → Goes D.told (D.view self.old.disk) (core_of self.old) x (Txn name Begin) (shown_answer into result) (D.view self.new.disk) (core_of self.new) }
         ensures grown { Grows self.old.log self.new.log (D.view self.old.disk) (D.view self.new.disk) }
-        ensures cause { StopIsCaused (HasRisen (D.view self.old.disk).faults (D.view self.new.disk).faults) (LOG_END < tail_of self.old.log + 31) self.old.stop self.new.stop }
+        ensures cause { StopIsCaused (HasRisen (D.view self.old.disk).faults (D.view self.new.disk).faults) (LOG_END < self.old.log.gate + 65572) self.old.stop self.new.stop }
         ensures later { (D.view self.old.disk).faults ≤ (D.view self.new.disk).faults }
     {
         if let Some(live) = self.live {
@@ -136,7 +136,7 @@ impl<D: Disk> Store<D> {
         ensures goes { (into : List ℕ) (x : State) → Shows D.told (D.view self.old.disk) (core_of self.old) x
             → Goes D.told (D.view self.old.disk) (core_of self.old) x (Txn name Commit) (shown_answer into result) (D.view self.new.disk) (core_of self.new) }
         ensures grown { Grows self.old.log self.new.log (D.view self.old.disk) (D.view self.new.disk) }
-        ensures cause { StopIsCaused (HasRisen (D.view self.old.disk).faults (D.view self.new.disk).faults) (LOG_END < tail_of self.old.log + 31) self.old.stop self.new.stop }
+        ensures cause { StopIsCaused (HasRisen (D.view self.old.disk).faults (D.view self.new.disk).faults) (LOG_END < self.old.log.gate + 65572) self.old.stop self.new.stop }
         ensures later { (D.view self.old.disk).faults ≤ (D.view self.new.disk).faults }
     {
         let Some(live) = self.named(name) else {
@@ -231,7 +231,7 @@ impl<D: Disk> Store<D> {
         ensures goes { (x : State) → Shows D.told (D.view self.old.disk) (core_of self.old) x
             → Goes D.told (D.view self.old.disk) (core_of self.old) x (Txn name (Do (shown_op op.now))) (shown_answer into.new result) (D.view self.new.disk) (core_of self.new) }
         ensures grown { Grows self.old.log self.new.log (D.view self.old.disk) (D.view self.new.disk) }
-        ensures cause { StopIsCaused (HasRisen (D.view self.old.disk).faults (D.view self.new.disk).faults) (LOG_END < tail_of self.old.log + 31) self.old.stop self.new.stop }
+        ensures cause { StopIsCaused (HasRisen (D.view self.old.disk).faults (D.view self.new.disk).faults) (LOG_END < self.old.log.gate + 65572) self.old.stop self.new.stop }
         ensures later { (D.view self.old.disk).faults ≤ (D.view self.new.disk).faults }
     {
         let Some(live) = self.named(name) else {
@@ -272,7 +272,7 @@ impl<D: Disk> Store<D> {
         ensures goes { (x : State) → Shows D.told (D.view self.old.disk) (core_of self.old) x
             → Goes D.told (D.view self.old.disk) (core_of self.old) x (order_of text.now) (shown_answer into.new result) (D.view self.new.disk) (core_of self.new) }
         ensures grown { Grows self.old.log self.new.log (D.view self.old.disk) (D.view self.new.disk) }
-        ensures cause { StopIsCaused (HasRisen (D.view self.old.disk).faults (D.view self.new.disk).faults) (LOG_END < tail_of self.old.log + 31) self.old.stop self.new.stop }
+        ensures cause { StopIsCaused (HasRisen (D.view self.old.disk).faults (D.view self.new.disk).faults) (LOG_END < self.old.log.gate + 65572) self.old.stop self.new.stop }
         ensures later { (D.view self.old.disk).faults ≤ (D.view self.new.disk).faults }
     {
         match line {

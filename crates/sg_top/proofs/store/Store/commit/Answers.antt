@@ -38,7 +38,7 @@ returns-in-Err-force-clause-goes g c into x shows =
 pub returns-in-Err-clause-cause : goal.returns-in-Err-clause-cause
 returns-in-Err-clause-cause g c =
     let log : Tail = c.args.self.now.log in
-    subst (λ (d : _). StopIsCaused (HasRisen (g.D.Disk.view c.args.self.now.disk).faults (g.D.Disk.view d).faults) (LOG_END < tail_of log + 31) c.args.self.now.stop c.halt.new.self.stop) (sym c.halt.ensures.disk)
+    subst (λ (d : _). StopIsCaused (HasRisen (g.D.Disk.view c.args.self.now.disk).faults (g.D.Disk.view d).faults) (LOG_END < log.gate + 65572) c.args.self.now.stop c.halt.new.self.stop) (sym c.halt.ensures.disk)
     (stop_along _ _ c.args.self.now.stop _ _ c.halt.ensures.why
-      (stop_append c.in-Err.fault (end_of log (CommitRecord c.in-Some.live.txn.0 c.in-Some.live.last)) (g.D.Disk.view c.args.self.now.disk) (g.D.Disk.view c.append.new.disk) (LOG_END < tail_of log + 31) c.args.self.now.stop c.in-Err.ensures.faults
-        (commit_high log c.in-Some.live.txn.0 c.in-Some.live.last)))
+      (stop_append c.in-Err.fault (end_of log (CommitRecord c.in-Some.live.txn.0 c.in-Some.live.last)) (g.D.Disk.view c.args.self.now.disk) (g.D.Disk.view c.append.new.disk) (LOG_END < log.gate + 65572) c.args.self.now.stop c.in-Err.ensures.faults
+        (λ past. omega (arith, commit_high log c.in-Some.live.txn.0 c.in-Some.live.last past, c.append.ensures.near))))

@@ -73,7 +73,7 @@ returns-in-Err-keep-clause-cause g c =
     let r : Record = LineRecord l.txn.0 l.last (spoken c.args.text.now) in
     let low : tail_of log ≤ NEW_WORK_END = c.is_full.ensures.low c.if-is_full.false c.if-not-changing.false in
     let within = ends_within log r c.keep.ensures.range low in
-    subst (λ (d : _). StopIsCaused (HasRisen (g.D.Disk.view c.args.self.now.disk).faults (g.D.Disk.view d).faults) (LOG_END < tail_of log + 31) c.args.self.now.stop c.halt.new.self.stop) (sym c.halt.ensures.disk)
+    subst (λ (d : _). StopIsCaused (HasRisen (g.D.Disk.view c.args.self.now.disk).faults (g.D.Disk.view d).faults) (LOG_END < log.gate + 65572) c.args.self.now.stop c.halt.new.self.stop) (sym c.halt.ensures.disk)
     (stop_along _ _ c.args.self.now.stop _ _ c.halt.ensures.why
-      (stop_append c.in-Err-keep.fault (end_of log r) (g.D.Disk.view c.args.self.now.disk) (g.D.Disk.view c.keep.new.self.disk) (LOG_END < tail_of log + 31) c.args.self.now.stop c.in-Err-keep.ensures.faults
+      (stop_append c.in-Err-keep.fault (end_of log r) (g.D.Disk.view c.args.self.now.disk) (g.D.Disk.view c.keep.new.self.disk) (LOG_END < log.gate + 65572) c.args.self.now.stop c.in-Err-keep.ensures.faults
         (λ past. absurd (omega (arith, past, within)))))
