@@ -1,9 +1,9 @@
 -- How a piece of a script is executed.
-use Rattle.std.proofs.Common.{◌≡◌, ◌==◌, inl, inr, ⊎_elim, ℕ, ◌+◌, ◌-◌, ◌<◌, ◌≤◌, Bool, true, false, nat_le, leb-true, IsTrue, List, [], ◌∷◌, ◌++◌, length, take, Option, Some, None, refl, sym, ap, ◌∙◌, subst, arith, append_assoc, append-nil}
+use Rattle.std.proofs.Common.{◌≡◌, ◌==◌, inl, inr, ⊎_elim, ◌⊎◌, ℕ, ◌+◌, ◌-◌, ◌<◌, ◌≤◌, Bool, true, false, nat_le, leb-true, IsTrue, List, [], ◌∷◌, ◌++◌, length, take, Option, Some, None, refl, sym, ap, ◌∙◌, subst, arith, append_assoc, append-nil}
 use Rattle.std.proofs.Math.Seq.{take_all}
 use Rattle.std.proofs.lemmas.List.{length-take-le}
 use Rattle.std.proofs.lemmas.Bool.Decides.{nat_tests}
-use Rattle.sg_base.specs.Ends.{Takes, TakesFront}
+use Rattle.sg_base.specs.Ends.{HasRisen, Takes, TakesFront}
 use Rattle.sg_disk.specs.Disk as disk
 use Rattle.sg_model.specs.History.{State}
 use Rattle.sg_words.specs.Order.{Order}
@@ -17,7 +17,11 @@ use Rattle.sg_log.specs.Held.{Tail}
 use Rattle.sg_top.specs.Kept.{MOST_KEPT}
 use Rattle.sg_top.specs.Store.{Core, Shows}
 use Rattle.sg_top.specs.Goes.{Goes, Grows}
-use Rattle.sg_top.specs.Script.{Executed}
+use Rattle.sg_top.specs.Script.{Executed, MayEnd}
+use Rattle.sg_top.specs.Shown.{StopIsCaused}
+use Rattle.sg_top.specs.declared.store.Stop as code_stop
+use Rattle.sg_top.specs.declared.store.Stop.TheVariants as stops
+use Rattle.sg_log.specs.Frames.{LOG_END}
 use Rattle.sg_top.specs.Feeding.{Before, After, Broken}
 use Rattle.sg_top.proofs.Fronts.{kept_again}
 use Rattle.sg_top.proofs.Executing.{executed-more, takes_more, takes_cut}
@@ -97,3 +101,34 @@ module _ (told : Bool) (v : disk.View) (k : Core) (x : State) (lines : List (Lis
         executed = subst (λ (ls : List (List ℕ)). Executed told v k x ls (λ text. TakesFront first text now) u n) (append_assoc lines a.over (line ∷ [])) done;
         front = λ behind_it. (behind [] (lines_of (after ++ behind_it)), seam a.over a.rest part line [] (lines_of (after ++ behind_it)) (lines_of (left ++ behind_it)) (behind held (lines_of (piece ++ behind_it))) (behind_nothing (λ b. b == 10) (after ++ behind_it)) refl refl (cut behind_it) (a.goes_on behind_it));
       }
+
+-- the causes of a stop, one after another
+pub stop_on : (gate high : ℕ) (a b c : disk.View) (s t u : Option code_stop.Stop) → b.faults ≤ c.faults → a.faults ≤ b.faults → b.handed ≤ c.handed → (disk.FULL ≤ b.handed) ⊎ (high + a.handed ≤ gate + b.handed)
+    → StopIsCaused (HasRisen a.faults b.faults) (MayEnd gate a b) s t → StopIsCaused (HasRisen b.faults c.faults) (MayEnd high b c) t u → StopIsCaused (HasRisen a.faults c.faults) (MayEnd gate a c) s u
+stop_on gate high a b c s t None more later kept grown h k = tt
+stop_on gate high a b c s t (Some stops.Disk) more later kept grown h (inl was) = before (subst (λ (o : Option code_stop.Stop). StopIsCaused (HasRisen a.faults b.faults) (MayEnd gate a b) s o) was h)
+  where
+    before : (s ≡ Some stops.Disk) ⊎ HasRisen a.faults b.faults → (s ≡ Some stops.Disk) ⊎ HasRisen a.faults c.faults
+    before (inl same) = inl same
+    before (inr risen) = inr (λ room. omega (arith, risen (omega (arith, room, more)), more))
+stop_on gate high a b c s t (Some stops.Disk) more later kept grown h (inr risen) = inr (λ room. omega (arith, risen room, later))
+stop_on gate high a b c s t (Some stops.LogEnd) more later kept grown h (inl was) = before (subst (λ (o : Option code_stop.Stop). StopIsCaused (HasRisen a.faults b.faults) (MayEnd gate a b) s o) was h)
+  where
+    before : (s ≡ Some stops.LogEnd) ⊎ MayEnd gate a b → (s ≡ Some stops.LogEnd) ⊎ MayEnd gate a c
+    before (inl same) = inl same
+    before (inr (inl full)) = inr (inl (omega (arith, full, kept)))
+    before (inr (inr past)) = inr (inr (omega (arith, past, kept)))
+stop_on gate high a b c s t (Some stops.LogEnd) more later kept grown h (inr (inl full)) = inr (inl full)
+stop_on gate high a b c s t (Some stops.LogEnd) more later kept grown h (inr (inr past)) = inr (⊎_elim (λ full. inl (omega (arith, full, kept))) (λ more_gate. inr (omega (arith, past, more_gate, kept))) grown)
+
+-- at its own line a log that is at its end may be so
+pub stop_here : (gate : ℕ) (b c : disk.View) (t u : Option code_stop.Stop) → b.handed ≤ c.handed → StopIsCaused (HasRisen b.faults c.faults) (LOG_END < gate + 65572) t u → StopIsCaused (HasRisen b.faults c.faults) (MayEnd gate b c) t u
+stop_here gate b c t None kept h = tt
+stop_here gate b c t (Some stops.Disk) kept h = h
+stop_here gate b c t (Some stops.LogEnd) kept (inl same) = inl same
+stop_here gate b c t (Some stops.LogEnd) kept (inr past) = inr (inr (omega (arith, past, kept)))
+
+pub stop_same : (R F : Type 0) (s : Option code_stop.Stop) → StopIsCaused R F s s
+stop_same R F None = tt
+stop_same R F (Some stops.Disk) = inl refl
+stop_same R F (Some stops.LogEnd) = inl refl

@@ -7,6 +7,7 @@ use Rattle.sg_words.specs.Parse.{lines_of}
 use Rattle.sg_words.specs.Pieces.{behind}
 use Rattle.sg_words.specs.Text.{Answer, text_of_all}
 use Rattle.sg_words.specs.Run.{Lines, AreCaused}
+use Rattle.sg_log.specs.Frames.{LOG_END}
 use Rattle.sg_top.specs.Stands.{StandsForFirst}
 use Rattle.sg_top.specs.Store.{Core, Shows}
 use Rattle.sg_top.specs.Goes.{NEW_WORK_END, Grows}
@@ -35,3 +36,7 @@ Ends text over rest = (after : List ℕ) → over ++ behind rest (lines_of after
 abbrev pub HasRead : Option (List ℕ) → List ℕ → Option (List ℕ) → Type 0
 HasRead None got left = left ≡ None
 HasRead (Some all) got left = (rest : List ℕ) × (left ≡ Some rest) × (all ≡ got ++ rest)
+
+-- So many bytes were handed to the disk since v that a record may end past the log's last byte
+abbrev pub MayEnd : ℕ → disk.View → disk.View → Type 0
+MayEnd gate v w = (disk.FULL ≤ w.handed) ⊎ (LOG_END + v.handed < gate + w.handed + 65572)

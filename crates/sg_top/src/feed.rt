@@ -6,8 +6,9 @@ ghost use Rattle.sg_words.specs.Parse.{lines_of};
 ghost use Rattle.sg_words.specs.Pieces.{behind};
 ghost use Rattle.sg_top.specs.Kept.{MOST_KEPT};
 ghost use Rattle.sg_top.specs.Store.{Core};
-ghost use Rattle.sg_top.specs.Script.{Executed};
+ghost use Rattle.sg_top.specs.Script.{MayEnd};
 ghost use Rattle.sg_top.specs.Goes.{Grows};
+ghost use Rattle.sg_top.specs.Shown.{StopIsCaused};
 ghost use Rattle.sg_top.specs.Sessions.{session_core, session_disk, session_stop};
 ghost use Rattle.sg_top.specs.Feeding.{Feeds, Breaks};
 
@@ -31,6 +32,8 @@ pub fn feed<D: Disk, K: Sink>(
     ensures broken { OnErr result (Breaks D.told (D.view (session_disk session.old)) (session_core session.old) (D.view (session_disk session.new)) (session_core session.new)
         (K.taken out.old) (K.taken out.new) pending.old piece.now) }
     ensures grown { Grows (session_core session.old).log (session_core session.new).log (D.view (session_disk session.old)) (D.view (session_disk session.new)) }
+    ensures cause { StopIsCaused (HasRisen (D.view (session_disk session.old)).faults (D.view (session_disk session.new)).faults)
+        (MayEnd (session_core session.old).log.gate (D.view (session_disk session.old)) (D.view (session_disk session.new))) (session_stop session.old) (session_stop session.new) }
     ensures disk { (D.view (session_disk session.old)).faults ≤ (D.view (session_disk session.new)).faults }
     ensures later { K.faults out.old ≤ K.faults out.new }
     ensures failed { OnErr result (HasRisen (K.faults out.old) (K.faults out.new)) }
