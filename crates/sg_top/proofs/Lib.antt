@@ -6,3 +6,4 @@ pub mod Changes
 pub mod Executing
 pub mod Fronts
 pub mod Feeds
+pub mod Scripts

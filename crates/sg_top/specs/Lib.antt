@@ -7,3 +7,4 @@ pub mod Script
 pub mod Kept
 pub mod Buffers
 pub mod Feeding
+pub mod Ending

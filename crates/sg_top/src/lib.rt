@@ -4,6 +4,7 @@
 mod answer;
 mod buffer;
 mod feed;
+mod script;
 mod session;
 mod store;
 
