@@ -7,3 +7,4 @@ pub mod Executing
 pub mod Fronts
 pub mod Feeds
 pub mod Scripts
+pub mod Opened

@@ -8,3 +8,5 @@ pub mod Kept
 pub mod Buffers
 pub mod Feeding
 pub mod Ending
+pub mod Opening
+pub mod Top

@@ -11,6 +11,9 @@ use Rattle.sg_top.specs.declared.answer.Answer as code_answer
 use Rattle.sg_top.specs.declared.answer.Answer.TheVariants as answers
 use Rattle.sg_log.specs.declared.fault.LogFault.{LogFault}
 use Rattle.sg_log.specs.declared.fault.LogFault.TheVariants as faults
+use Rattle.sg_base.specs.declared.area.Area.TheVariants.{Log0}
+use Rattle.sg_top.specs.declared.opening.OpenRefused as code_refused
+use Rattle.sg_top.specs.declared.opening.OpenRefused.TheVariants as refusals
 use Rattle.sg_top.specs.declared.store.Stop as code_stop
 use Rattle.sg_top.specs.declared.store.Stop.TheVariants as stops
 use Rattle.sg_top.specs.declared.store.Running as code_running
@@ -61,3 +64,10 @@ abbrev pub StopIsCaused : Type 0 → Type 0 → Option code_stop.Stop → Option
 StopIsCaused Risen Full old None = Unit {0}
 StopIsCaused Risen Full old (Some stops.Disk) = (old ≡ Some stops.Disk) ⊎ Risen
 StopIsCaused Risen Full old (Some stops.LogEnd) = (old ≡ Some stops.LogEnd) ⊎ Full
+
+-- why a store doesn't open where its log fails
+abbrev pub refusal_at : LogFault → code_refused.OpenRefused
+refusal_at faults.LogEnd = refusals.DiskFault
+refusal_at faults.Disk = refusals.DiskFault
+refusal_at (faults.Damaged at) = refusals.Damaged Log0 at
+refusal_at faults.Memory = refusals.Memory

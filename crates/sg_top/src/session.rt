@@ -1,4 +1,4 @@
-ghost use Rattle.std.specs.Prelude.{◌≡◌, ◌≤◌, ◌<◌, ◌+◌, List, ℕ, length, vec_len, OnOk, OnErr};
+ghost use Rattle.std.specs.Prelude.{◌≡◌, ◌≤◌, ◌<◌, ◌+◌, List, ℕ, length, OnOk, OnErr, IfOk, IfErr, None};
 ghost use Rattle.sg_base.specs.Ends.{HasRisen, Takes, TakesFront};
 ghost use Rattle.sg_model.specs.History.{State};
 ghost use Rattle.sg_log.specs.Frames.{LOG_END};
@@ -7,7 +7,8 @@ ghost use Rattle.sg_words.specs.Parse.{order_of};
 ghost use Rattle.sg_words.specs.Text.{Answer as Said, text_of};
 
 use crate::answer::write_answer;
-use crate::store::Store;
+use crate::opening::Unopened;
+use crate::store::{Stop, Store};
 use sg_base::{Failed, Sink};
 use sg_disk::Disk;
 use sg_words::parse_line;
@@ -28,7 +29,41 @@ impl<D: Disk> Session<D> {
     ghost use Rattle.sg_top.specs.Store.{Shows};
     ghost use Rattle.sg_top.specs.Goes.{Goes, Grows};
     ghost use Rattle.sg_top.specs.Shown.{StopIsCaused};
+    ghost use Rattle.sg_top.specs.Opening.{Opens, StaysShut};
     ghost use Rattle.sg_top.specs.Sessions.{session_core, session_disk, session_stop};
+
+    /// Opens the store on a disk. Where that is refused nothing was written, and the disk is handed
+    /// back.
+    pub fn start(alloc: Global, disk: D) -> Result<Session<D>, Unopened<D>>
+        ensures opens { IfOk result (λ s. Opens D.told (D.view disk) (D.view (session_disk s)) (session_core s)) }
+        ensures running { IfOk result (λ s. session_stop s ≡ None) }
+        ensures refused { IfErr result (λ u. StaysShut D.told (D.view disk) (D.view u.disk) u.why) }
+    {
+        match Store::open(alloc, disk) {
+            Ok(store) => Ok(Session {
+                store,
+                scratch: [0; 32768],
+                kept: [0; 32768],
+                into: [0; 8192],
+            }),
+            Err(unopened) => Err(unopened),
+        }
+    }
+
+    /// The disk, at the end, and why the store has stopped, if it has. A live transaction is left
+    /// without its commit. Nothing is written.
+    pub fn finish(self) -> (Option<Stop>, D)
+        ensures stop { result.0 ≡ session_stop self }
+        ensures disk { result.1 ≡ session_disk self }
+    {
+        let Session {
+            store,
+            scratch: _,
+            kept: _,
+            into: _,
+        } = self;
+        store.close()
+    }
 
     /// Answers one line, without its LF and of any length, and writes the reply line in one call of
     /// the sink. Where the sink fails, the line was executed, and a front of its reply was taken.

@@ -1,4 +1,4 @@
-ghost use Rattle.std.specs.Prelude.{◌≡◌, ◌≤◌, ◌<◌, ◌+◌, List, ℕ, length, Option, Some, None, IsSome, IsTrue, IfErr, OnOk, MatchOption, true, false, is_some};
+ghost use Rattle.std.specs.Prelude.{◌≡◌, ◌≤◌, ◌<◌, ◌+◌, List, ℕ, length, Option, Some, None, IsSome, IsTrue, IfOk, IfErr, OnOk, MatchOption, true, false, is_some};
 ghost use Rattle.std.specs.Option.{option_to_list};
 ghost use Rattle.std.specs.Str.{bytes_eq};
 ghost use Rattle.sg_base.specs.Ends.{HasRisen};
@@ -20,10 +20,12 @@ ghost use Rattle.sg_log.specs.Frames.{IsBeforeOrAfter, LOG_END};
 ghost use Rattle.sg_log.specs.Held.{Holds, tail_of, end_of, appended, durable_after, waiting_after};
 ghost use Rattle.sg_top.specs.Store.{Shows};
 ghost use Rattle.sg_top.specs.Goes.{Goes, Grows, NEW_WORK_END};
-ghost use Rattle.sg_top.specs.Shown.{shown_answer, live_of, core_of, answer_at, stop_at, IsFullAnswer, StopIsCaused};
+ghost use Rattle.sg_top.specs.Shown.{shown_answer, live_of, core_of, answer_at, stop_at, IsFullAnswer, StopIsCaused, refusal_at};
+ghost use Rattle.sg_top.specs.Opening.{Opens, StaysShut};
 
 use crate::answer::Answer;
-use sg_base::{Lsn, Name, OutOfMemory, TxnId};
+use crate::opening::{OpenRefused, Unopened};
+use sg_base::{Area, Lsn, Name, OutOfMemory, TxnId};
 use sg_disk::Disk;
 use sg_log::{Log, LogFault};
 use sg_model::{Objects, Op, Reply};
@@ -68,7 +70,67 @@ fn is_named(live: &Running, name: Name) -> bool
     name == live.name
 }
 
+// Why a store doesn't open where its log fails.
+fn refusal(fault: LogFault) -> OpenRefused
+    ensures { result ≡ refusal_at fault }
+{
+    match fault {
+        LogFault::Memory => OpenRefused::Memory,
+        LogFault::Damaged { at } => OpenRefused::Damaged {
+            area: Area::Log0,
+            at,
+        },
+        LogFault::Disk | LogFault::LogEnd => OpenRefused::DiskFault,
+    }
+}
+
 impl<D: Disk> Store<D> {
+    /// Opens the store on the disk: it syncs the log's area and reads the log. It writes nothing.
+    pub fn open(alloc: Global, disk: D) -> Result<Store<D>, Unopened<D>>
+        ensures opens { IfOk result (λ s. Opens D.told (D.view disk) (D.view s.disk) (core_of s)) }
+        ensures running { IfOk result (λ s. s.stop ≡ None) }
+        ensures refused { IfErr result (λ u. StaysShut D.told (D.view disk) (D.view u.disk) u.why) }
+    {
+        let mut disk = disk;
+        match disk.sync(Area::Log0) {
+            Ok(()) => {}
+            Err(_) => {
+                let why = OpenRefused::DiskFault;
+                return Err(Unopened { why, disk });
+            }
+        }
+        match Log::attach(alloc, &mut disk, Area::Log0, 0) {
+            Ok(log) => Ok(Store {
+                disk,
+                log,
+                objects: Objects::empty(alloc),
+                live: None,
+                stop: None,
+            }),
+            Err(fault) => {
+                let why = refusal(fault);
+                Err(Unopened { why, disk })
+            }
+        }
+    }
+
+    /// The disk, at the end, and why the store has stopped, if it has. It writes nothing.
+    pub fn close(self) -> (Option<Stop>, D)
+        ensures stop { result.0 ≡ self.stop }
+        ensures disk { result.1 ≡ self.disk }
+    {
+        let Store {
+            disk,
+            log,
+            objects,
+            live: _,
+            stop,
+        } = self;
+        drop(log);
+        drop(objects);
+        (stop, disk)
+    }
+
     // The live transaction, if it has this name.
     fn named(&self, name: Name) -> Option<Running>
         ensures { MatchOption result (live_named (option_to_list (core_of self.now).live) name ≡ None) (λ r. (self.now.live ≡ Some r) × (bytes_eq name r.name ≡ true)) }
