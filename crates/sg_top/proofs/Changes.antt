@@ -1,8 +1,7 @@
 -- How the orders that change something go, on what a store shows.
-use Rattle.std.proofs.Common.{◌≡◌, ◌⊎◌, inl, inr, ⊎_elim, ℕ, ◌+◌, ◌-◌, ◌<◌, ◌≤◌, ◌^◌, ◌==◌, nat_le, ◌&&◌, eq-eqb, Bool, true, false, cond, not, IsTrue, List, [], ◌∷◌, ◌++◌, length, find, Option, Some, None, Result, Ok, Err, IsOk, IsErr, refl, sym, ap, ◌∙◌, subst, arith, append_assoc, append-nil, length-append}
+use Rattle.std.proofs.Common.{◌≡◌, ◌⊎◌, inl, inr, ℕ, ◌+◌, ◌<◌, ◌≤◌, ◌==◌, Bool, true, false, cond, IsTrue, List, [], ◌∷◌, ◌++◌, length, Option, Some, None, Result, Ok, Err, IsOk, IsErr, refl, sym, ap, ◌∙◌, subst, arith, append-nil, length-append}
 use Rattle.std.specs.Option.{option_to_list}
 use Rattle.std.specs.FinMap.{empty}
-use Rattle.std.specs.Str.{bytes_eq}
 use Rattle.sg_base.specs.Ends.{HasRisen}
 use Rattle.sg_base.specs.declared.area.Area.TheVariants.{Log0}
 use Rattle.sg_disk.specs.Disk as disk
@@ -12,31 +11,31 @@ use Rattle.sg_model.specs.Objects.{Objects, Op, Reply, is_changing, Grows, step}
 use Rattle.sg_model.specs.Objects.Reply.{Done}
 use Rattle.sg_model.specs.History.{Live, State, ops_of, live_objects, committed_objects, objects_after}
 use Rattle.sg_model.proofs.Laws.{step-reads, step-refused}
-use Rattle.sg_words.specs.Order.{Order, Verb}
-use Rattle.sg_words.specs.Order.Order.{Blank, Syntax, Txn}
+use Rattle.sg_words.specs.Order.{Order}
+use Rattle.sg_words.specs.Order.Order.{Txn}
 use Rattle.sg_words.specs.Order.Verb.{Begin, Commit, Do}
 use Rattle.sg_words.specs.Text.{Answer}
-use Rattle.sg_words.specs.Text.Answer.{Silent, BadSyntax, NoTransaction, IsLive, TooManyLive, Memory, Stopped, LogEnd, Disk, Said, Refused}
-use Rattle.sg_words.specs.Run.{live_named, without, answer_of, began, committed, did, stop, stop_at_commit, stop_at, broken, full, turn, turn_verb, turn_begin, turn_commit, turn_op, IsSaid, IsLogged, WouldReply, Turns, Ends, Breaks, RunsOut, LineBy, IsCaused}
+use Rattle.sg_words.specs.Text.Answer.{TooManyLive, Memory, LogEnd, Disk, Said}
+use Rattle.sg_words.specs.Run.{live_named, without, answer_of, began, committed, did, stop, stop_at_commit, stop_at, broken, full, turn, turn_begin, turn_commit, turn_op, IsSaid, IsLogged, WouldReply}
 use Rattle.sg_words.specs.Spoken.{op_said}
 use Rattle.sg_words.proofs.Steps.{live_objects-did}
-use Rattle.sg_record.specs.Records.{Record, spelled, transaction_of, IsRecord}
+use Rattle.sg_record.specs.Records.{Record, IsRecord}
 use Rattle.sg_record.specs.Records.Record.{Begin as BeginRecord, Commit as CommitRecord, Line as LineRecord}
-use Rattle.sg_log.specs.Frames.{LOG_END, HasRecords, IsBeforeOrAfter}
+use Rattle.sg_log.specs.Frames.{LOG_END, HasRecords}
 use Rattle.sg_log.specs.Faults.{AppendFails, ForceFails}
 use Rattle.sg_log.specs.declared.fault.LogFault.{LogFault}
 use Rattle.sg_log.specs.declared.fault.LogFault.TheVariants as faults
 use Rattle.sg_log.specs.Held.{Tail, tail_of, has_room, place_of, end_of, appended, forced, Holds, durable_after, waiting_after}
-use Rattle.sg_log.proofs.Holding.{holds_image, all_appended, durable_either, spelled_most, forced_empty}
+use Rattle.sg_log.proofs.Holding.{all_appended, durable_either, spelled_most, forced_empty}
 use Rattle.sg_top.specs.Stands.{lines_by, commits_in, committed_lines, replay, after_line, after_op, if_replied, StandsFor, StandsForFirst}
-use Rattle.sg_top.specs.Store.{Core, IsSerial, AreSerial, AreBelow, AreOwn, IsNotAmong, IsOpen, IsOpenOrNone, Logs, Keeps, Runs, Shows}
+use Rattle.sg_top.specs.Store.{Core, AreSerial, AreBelow, AreOwn, IsNotAmong, IsOpen, IsOpenOrNone, Logs, Keeps, Runs, Shows}
 use Rattle.sg_top.specs.Shown.{shown_answer, answer_at, IsFullAnswer, StopIsCaused, stop_at as stop_code}
 use Rattle.sg_top.specs.declared.store.Stop as code_stop
 use Rattle.sg_top.specs.declared.answer.Answer as code_answer
 use Rattle.sg_top.specs.Goes.{Goes, NEW_WORK_END, IsWork}
-use Rattle.sg_top.proofs.Replays.{replay-append, lines_by-above, commits_in-above, commits_in-append, commits_in-own, lines_by-append, lines_by-line, below-append, below-weaker, own-append}
+use Rattle.sg_top.proofs.Replays.{replay-append, lines_by-above, commits_in-above, lines_by-append, lines_by-line, below-append, below-weaker}
 use Rattle.sg_top.proofs.Serial.{serial_began, serial_did, serial_committed, committed_live, without_one, after_commits}
-use Rattle.sg_top.proofs.Steps.{op_end, op_memory, ends_within, grows_changing, going_turn, never_said, named_none, named_one, tail-place, appended_place, forced_place, running_shows, stopped_shows, line_said, caused_said, own_after, uncommitted_after, durable_lines, one_after, begin-length, commit-length, place-tail, appended_short, HoldsAfter, MomentsOf}
+use Rattle.sg_top.proofs.Steps.{op_end, op_memory, ends_within, grows_changing, going_turn, named_none, named_one, tail-place, appended_place, forced_place, running_shows, stopped_shows, line_said, caused_said, own_after, uncommitted_after, durable_lines, one_after, begin-length, commit-length, place-tail, appended_short, HoldsAfter, MomentsOf}
 use Rattle.sg_top.proofs.Standing.{forced_lines, stands_either, of_log, replay_commit, first_same, first_others, first_all, stands}
 
 -- The store isn't stopped

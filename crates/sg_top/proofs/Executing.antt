@@ -1,10 +1,10 @@
 -- Lines are executed one after another.
-use Rattle.std.proofs.Common.{◌≡◌, ◌⊎◌, inl, inr, ⊎_elim, ℕ, ◌+◌, ◌-◌, ◌<◌, ◌≤◌, ◌^◌, ◌==◌, Bool, true, false, cond, IsTrue, List, [], ◌∷◌, ◌++◌, length, take, Option, Some, None, Result, Ok, Err, refl, sym, ap, ◌∙◌, subst, arith, append_assoc, append-nil, length-append}
+use Rattle.std.proofs.Common.{◌≡◌, inl, inr, ⊎_elim, ℕ, ◌+◌, ◌<◌, ◌≤◌, ◌==◌, Bool, true, false, cond, List, [], ◌∷◌, ◌++◌, length, take, Option, Some, None, refl, sym, ap, ◌∙◌, subst, arith, append-nil, length-append}
 use Rattle.std.proofs.lemmas.List.{take-append-le}
 use Rattle.sg_base.specs.Ends.{HasRisen, Takes, TakesFront}
 use Rattle.sg_disk.specs.Disk as disk
 use Rattle.sg_disk.proofs.Moments as moments
-use Rattle.sg_model.specs.Objects.{Objects, Op, Reply, step}
+use Rattle.sg_model.specs.Objects.{Objects, Op}
 use Rattle.sg_model.specs.History.{Live, State, after_all, in_order, ops_of, objects_after}
 use Rattle.sg_words.specs.Order.{Order, Verb}
 use Rattle.sg_words.specs.Order.Order.{Blank, Syntax, Txn}
@@ -12,11 +12,11 @@ use Rattle.sg_words.specs.Order.Verb.{Begin, Commit, Do}
 use Rattle.sg_words.specs.Parse.{order_of}
 use Rattle.sg_words.specs.Text.{Answer, text_of, text_of_all}
 use Rattle.sg_words.specs.Text.Answer.{Silent, BadSyntax, NoTransaction, IsLive, TooManyLive, Memory, Stopped, LogEnd, Disk, Said, Refused}
-use Rattle.sg_words.specs.Run.{live_named, began, committed, did, stop, stop_at_commit, stop_at, broken, full, turn, turn_verb, turn_begin, turn_commit, turn_op, IsSaid, IsLogged, WouldReply, Turns, Ends, Breaks, RunsOut, LineBy, Line, Lines, IsCaused, AreCaused}
+use Rattle.sg_words.specs.Run.{live_named, began, did, stop, stop_at, broken, full, turn, turn_verb, turn_begin, turn_commit, turn_op, IsSaid, IsLogged, WouldReply, Turns, LineBy, IsCaused}
 use Rattle.sg_words.proofs.Steps.{Lines-more, told-more, told-cut, caused-weaker, all_caused-weaker, all_caused-more}
-use Rattle.sg_log.specs.Held.{Tail, tail_of}
+use Rattle.sg_log.specs.Held.{tail_of}
 use Rattle.sg_top.specs.Stands.{StandsFor, StandsForFirst}
-use Rattle.sg_top.specs.Store.{Core, Runs, Shows}
+use Rattle.sg_top.specs.Store.{Core, Shows}
 use Rattle.sg_top.specs.Goes.{Goes, Grows, NEW_WORK_END}
 use Rattle.sg_top.specs.Script.{Executed, MayBeFull}
 use Rattle.sg_top.proofs.Steps.{tail_near}

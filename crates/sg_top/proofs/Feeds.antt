@@ -1,5 +1,5 @@
 -- How a piece of a script is executed.
-use Rattle.std.proofs.Common.{◌≡◌, ◌==◌, inl, inr, ⊎_elim, ◌⊎◌, ℕ, ◌+◌, ◌-◌, ◌<◌, ◌≤◌, Bool, true, false, nat_le, leb-true, IsTrue, List, [], ◌∷◌, ◌++◌, length, take, Option, Some, None, refl, sym, ap, ◌∙◌, subst, arith, append_assoc, append-nil}
+use Rattle.std.proofs.Common.{◌≡◌, ◌==◌, inl, inr, ⊎_elim, ◌⊎◌, ℕ, ◌+◌, ◌<◌, ◌≤◌, Bool, true, false, nat_le, leb-true, List, [], ◌∷◌, ◌++◌, length, take, Option, Some, None, refl, sym, ap, ◌∙◌, subst, arith, append_assoc, append-nil}
 use Rattle.std.proofs.Math.Seq.{take_all}
 use Rattle.std.proofs.lemmas.List.{length-take-le}
 use Rattle.std.proofs.lemmas.Bool.Decides.{nat_tests}
@@ -15,7 +15,7 @@ use Rattle.sg_words.proofs.Seams.{behind_nothing}
 use Rattle.sg_words.proofs.Said.{order_of-long}
 use Rattle.sg_log.specs.Held.{Tail}
 use Rattle.sg_top.specs.Kept.{MOST_KEPT}
-use Rattle.sg_top.specs.Store.{Core, Shows}
+use Rattle.sg_top.specs.Store.{Core}
 use Rattle.sg_top.specs.Goes.{Goes, Grows}
 use Rattle.sg_top.specs.Script.{Executed, MayEnd}
 use Rattle.sg_top.specs.Shown.{StopIsCaused}

@@ -3,6 +3,7 @@ pub mod Serial
 pub mod Standing
 pub mod Steps
 pub mod Changes
+pub mod Endings
 pub mod Executing
 pub mod Fronts
 pub mod Feeds

@@ -1,5 +1,5 @@
 -- A store that has opened shows the objects that were read.
-use Rattle.std.proofs.Common.{◌≡◌, ℕ, ◌+◌, ◌<◌, ◌≤◌, Bool, true, false, IsTrue, List, [], ◌∷◌, ◌++◌, length, Option, Some, None, Result, Ok, Err, refl, sym, ap, ◌∙◌, subst, arith}
+use Rattle.std.proofs.Common.{◌≡◌, ℕ, ◌≤◌, Bool, false, IsTrue, List, [], length, None, Ok, refl, sym, ap, ◌∙◌, subst, arith}
 use Rattle.std.specs.FinMap.{empty}
 use Rattle.sg_base.specs.declared.area.Area.{Area}
 use Rattle.sg_base.specs.declared.area.Area.TheVariants.{Log0}
@@ -17,9 +17,7 @@ use Rattle.sg_log.specs.declared.fault.LogFault.{LogFault}
 use Rattle.sg_log.specs.declared.fault.LogFault.TheVariants as faults
 use Rattle.sg_top.specs.declared.opening.OpenRefused as code_refused
 use Rattle.sg_log.proofs.Holding.{holds_seen}
-use Rattle.sg_top.specs.Stands.{StandsFor}
-use Rattle.sg_top.specs.Store.{Core, Runs, Shows}
-use Rattle.sg_top.specs.Opening.{Opens, StaysShut, reads_of, IsRefusedFor}
+use Rattle.sg_top.specs.Opening.{Opens, StaysShut, IsRefusedFor}
 use Rattle.sg_top.specs.Shown.{refusal_at}
 use Rattle.sg_top.proofs.Steps.{running_shows}
 

@@ -1,17 +1,13 @@
 -- What the records of a log replay to, as the log grows.
-use Rattle.std.proofs.Common.{◌≡◌, ℕ, ◌+◌, ◌<◌, ◌≤◌, ◌==◌, Bool, true, false, cond, IsTrue, List, [], ◌∷◌, ◌++◌, length, map, filter, take, Option, Some, None, Result, Ok, Err, refl, sym, ap, ◌∙◌, subst, arith, append_assoc, append-nil, length-append}
+use Rattle.std.proofs.Common.{◌≡◌, ℕ, ◌≤◌, ◌==◌, Bool, true, false, cond, List, [], ◌∷◌, ◌++◌, Option, Some, None, refl, sym, ap, ◌∙◌, arith, append-nil}
 use Rattle.std.specs.List.{flat_map}
-use Rattle.std.specs.FinMap.{empty}
 use Rattle.std.proofs.lemmas.Grind.{flat_map-append}
 use Rattle.std.proofs.lemmas.Bool.Decides.{nat_tests}
-use Rattle.std.proofs.Math.Seq.{take-append_seam, take-length}
-use Rattle.sg_model.specs.Objects.{Objects, Op, step}
-use Rattle.sg_model.specs.History.{Entry, Live, State, after_all, in_order, ops_of, live_objects, committed_objects, objects_after}
-use Rattle.sg_words.specs.Spoken.{op_said}
-use Rattle.sg_record.specs.Records.{Record, transaction_of}
+use Rattle.sg_model.specs.Objects.{Objects}
+use Rattle.sg_record.specs.Records.{Record}
 use Rattle.sg_record.specs.Records.Record.{Begin, Commit, Line}
-use Rattle.sg_top.specs.Stands.{lines_by, commits_in, committed_lines, after_op, after_line, if_replied, replay}
-use Rattle.sg_top.specs.Store.{AreBelow, IsOwn, AreOwn, IsNotAmong}
+use Rattle.sg_top.specs.Stands.{lines_by, commits_in, committed_lines, after_line, replay}
+use Rattle.sg_top.specs.Store.{AreBelow, AreOwn, IsNotAmong}
 
 pub replay-none : (lines : List (List ℕ)) → replay lines None ≡ None
 replay-none [] = refl

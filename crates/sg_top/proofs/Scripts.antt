@@ -7,7 +7,7 @@ use Rattle.sg_model.specs.History.{State}
 use Rattle.sg_words.specs.Order.{Order}
 use Rattle.sg_words.specs.Parse.{lines_of, order_of}
 use Rattle.sg_words.specs.Pieces.{behind}
-use Rattle.sg_words.specs.Text.{Answer, text_of, text_of_all}
+use Rattle.sg_words.specs.Text.{Answer, text_of}
 use Rattle.sg_words.proofs.Steps.{Takes-nothing}
 use Rattle.sg_words.proofs.Seams.{behind_nothing}
 use Rattle.sg_top.specs.Kept.{MOST_KEPT}

@@ -1,13 +1,11 @@
 -- A run of one transaction at a time goes on so.
-use Rattle.std.proofs.Common.{◌≡◌, ℕ, ◌+◌, ◌<◌, ◌≤◌, ◌==◌, Bool, true, false, not, cond, List, [], ◌∷◌, ◌++◌, length, map, filter, take, Option, Some, None, refl, sym, ap, ◌∙◌, subst, arith, append_assoc, append-nil, length-append}
-use Rattle.std.specs.List.{flat_map}
-use Rattle.std.specs.Str.{bytes_eq}
+use Rattle.std.proofs.Common.{◌≡◌, ℕ, ◌+◌, ◌<◌, ◌≤◌, ◌==◌, Bool, true, false, not, cond, List, [], ◌∷◌, ◌++◌, length, map, filter, take, refl, sym, ap, ◌∙◌, subst, arith, append-nil}
 use Rattle.std.proofs.lemmas.Grind.{flat_map-append}
 use Rattle.std.proofs.lemmas.Bool.Decides.{nat_tests}
 use Rattle.std.proofs.Math.Seq.{take-append_seam, take-length}
 use Rattle.sg_model.specs.Objects.{Objects, Op, step}
 use Rattle.sg_model.specs.History.{Entry, Live, State, after_all, in_order, ops_of, live_objects, committed_objects, objects_after}
-use Rattle.sg_words.specs.Run.{began, committed, did, stop, stop_at_commit, without}
+use Rattle.sg_words.specs.Run.{began, committed, did, without}
 use Rattle.sg_words.proofs.Steps.{after_all-more, live_objects-did}
 use Rattle.sg_top.specs.Store.{AreEntriesBelow, AreSerial, IsSerial}
 

@@ -1,17 +1,17 @@
 -- What the images of a call on the log stand for.
-use Rattle.std.proofs.Common.{◌≡◌, ◌⊎◌, inl, inr, ⊎_elim, ℕ, ◌+◌, ◌<◌, ◌≤◌, Bool, true, false, List, [], ◌∷◌, ◌++◌, length, Option, Some, None, refl, sym, ap, ◌∙◌, subst, arith, append_assoc, append-nil, length-append}
+use Rattle.std.proofs.Common.{◌≡◌, ◌⊎◌, inl, inr, ℕ, ◌≤◌, List, [], ◌∷◌, ◌++◌, length, Option, Some, None, sym, ap, ◌∙◌, subst, arith, append-nil, length-append}
 use Rattle.std.specs.FinMap.{empty}
 use Rattle.sg_base.specs.declared.area.Area.{Area}
 use Rattle.sg_base.specs.declared.area.Area.TheVariants.{Log0}
 use Rattle.sg_disk.specs.Disk as disk
 use Rattle.sg_model.specs.Objects.{Objects, Op}
-use Rattle.sg_model.specs.History.{Live, State, objects_after, committed_objects, live_objects}
+use Rattle.sg_model.specs.History.{Live, State, committed_objects, live_objects}
 use Rattle.sg_record.specs.Records.{Record}
-use Rattle.sg_record.specs.Records.Record.{Begin, Commit, Line}
+use Rattle.sg_record.specs.Records.Record.{Commit}
 use Rattle.sg_log.specs.Frames.{HasRecords, IsBeforeOrAfter}
 use Rattle.sg_log.specs.Held.{Tail}
-use Rattle.sg_top.specs.Stands.{lines_by, commits_in, committed_lines, replay, StandsFor, StandsForFirst}
-use Rattle.sg_top.specs.Store.{Logs, IsOpen, IsOpenOrNone}
+use Rattle.sg_top.specs.Stands.{lines_by, committed_lines, replay, StandsFor, StandsForFirst}
+use Rattle.sg_top.specs.Store.{Logs, IsOpenOrNone}
 use Rattle.sg_top.proofs.Replays.{replay-append, committed_lines-own, committed_lines-commit}
 use Rattle.sg_top.proofs.Serial.{after_commits, after_others}
 

@@ -1,7 +1,6 @@
 -- How the orders go, on what a store shows.
-use Rattle.std.proofs.Common.{◌≡◌, ◌⊎◌, inl, inr, ⊎_elim, ℕ, ◌+◌, ◌-◌, ◌<◌, ◌≤◌, ◌^◌, ◌==◌, nat_le, ◌&&◌, eq-eqb, eqb-true, leb-true, Bool, true, false, cond, not, IsTrue, List, [], ◌∷◌, ◌++◌, length, find, Option, Some, None, Result, Ok, Err, refl, sym, ap, ◌∙◌, subst, arith, append_assoc, append-nil, length-append}
+use Rattle.std.proofs.Common.{◌≡◌, ℕ, ◌+◌, ◌<◌, ◌≤◌, ◌==◌, nat_le, ◌&&◌, eq-eqb, eqb-true, leb-true, Bool, true, false, cond, IsTrue, List, [], ◌∷◌, ◌++◌, length, Some, None, Result, Ok, Err, refl, sym, ap, ◌∙◌, subst, arith, append-nil, length-append}
 use Rattle.std.specs.Option.{option_to_list}
-use Rattle.std.specs.FinMap.{empty}
 use Rattle.std.specs.Str.{bytes_eq}
 use Rattle.sg_base.specs.Ends.{HasRisen}
 use Rattle.sg_base.specs.declared.area.Area.TheVariants.{Log0}
@@ -11,30 +10,26 @@ use Rattle.sg_model.specs.declared.reason.Reason.{Reason}
 use Rattle.sg_model.specs.Objects.{Objects, Op, Reply, is_changing, Grows, step}
 use Rattle.sg_model.specs.Objects.Op.{MakeArray, MakeTable, MakeBlob, Discard, Push, Pop, Set, Get, Len, Apply, Put, Del, Find, Write, Read, Size, Paint}
 use Rattle.sg_model.specs.Objects.Reply.{Done}
-use Rattle.sg_model.specs.History.{Live, State, ops_of, live_objects, committed_objects}
-use Rattle.sg_model.proofs.Laws.{step-reads, step-refused}
+use Rattle.sg_model.specs.History.{Live, State, live_objects, committed_objects}
 use Rattle.sg_words.specs.Order.{Order, Verb}
 use Rattle.sg_words.specs.Order.Order.{Blank, Syntax, Txn}
 use Rattle.sg_words.specs.Order.Verb.{Begin, Commit, Do}
 use Rattle.sg_words.specs.Text.{Answer}
-use Rattle.sg_words.specs.Text.Answer.{Silent, BadSyntax, NoTransaction, IsLive, TooManyLive, Memory, Stopped, LogEnd, Disk, Said, Refused}
-use Rattle.sg_words.specs.Run.{live_named, without, answer_of, began, committed, did, stop, stop_at_commit, stop_at, broken, full, turn, turn_verb, turn_begin, turn_commit, turn_op, IsSaid, IsLogged, WouldReply, Turns, Ends, Breaks, RunsOut, LineBy, IsCaused}
-use Rattle.sg_words.specs.Spoken.{op_said}
-use Rattle.sg_words.proofs.Steps.{live_objects-did}
-use Rattle.sg_record.specs.Records.{Record, spelled, transaction_of, IsRecord}
-use Rattle.sg_record.specs.Records.Record.{Begin as BeginRecord, Commit as CommitRecord, Line as LineRecord}
+use Rattle.sg_words.specs.Text.Answer.{Silent, BadSyntax, NoTransaction, IsLive, TooManyLive, Memory, Stopped, LogEnd, Said}
+use Rattle.sg_words.specs.Run.{live_named, answer_of, began, turn, turn_verb, turn_begin, turn_commit, turn_op, IsSaid, WouldReply, Turns, LineBy, IsCaused}
+use Rattle.sg_record.specs.Records.{Record, spelled, IsRecord}
+use Rattle.sg_record.specs.Records.Record.{Begin as BeginRecord, Commit as CommitRecord}
 use Rattle.sg_log.specs.Frames.{LOG_END, HasRecords, IsBeforeOrAfter}
 use Rattle.sg_log.specs.Faults.{AppendFails, ForceFails}
 use Rattle.sg_log.specs.declared.fault.LogFault.{LogFault}
 use Rattle.sg_log.specs.declared.fault.LogFault.TheVariants as faults
 use Rattle.sg_log.specs.Held.{Tail, tail_of, place_of, end_of, appended, forced, Holds, durable_after, waiting_after}
-use Rattle.sg_log.proofs.Holding.{holds_image, all_appended, durable_either, spelled_most, forced_empty}
-use Rattle.sg_top.specs.Stands.{lines_by, commits_in, committed_lines, replay, after_line, after_op, if_replied, StandsFor, StandsForFirst}
-use Rattle.sg_top.specs.Store.{Core, IsSerial, AreSerial, AreBelow, AreOwn, IsNotAmong, IsOpen, IsOpenOrNone, Logs, Keeps, Runs, Shows}
+use Rattle.sg_log.proofs.Holding.{holds_image, spelled_most, forced_empty}
+use Rattle.sg_top.specs.Stands.{commits_in, committed_lines, StandsForFirst}
+use Rattle.sg_top.specs.Store.{Core, AreOwn, IsNotAmong, Runs, Shows}
 use Rattle.sg_top.specs.Goes.{Goes, NEW_WORK_END, IsWork}
-use Rattle.sg_top.proofs.Replays.{replay-append, lines_by-above, commits_in-above, commits_in-append, commits_in-own, lines_by-append, lines_by-line, below-append, below-weaker, own-append}
-use Rattle.sg_top.proofs.Serial.{serial_began, serial_did, serial_committed, committed_live, without_one}
-use Rattle.sg_top.proofs.Standing.{forced_lines, stands_either, of_log, replay_commit, first_same, first_others, first_all, stands}
+use Rattle.sg_top.proofs.Replays.{commits_in-append, commits_in-own, own-append}
+use Rattle.sg_top.proofs.Standing.{first_all, stands}
 
 -- a bytes' text is itself
 bytes_eq-same : (xs : List ℕ) → bytes_eq xs xs ≡ true

@@ -1,5 +1,5 @@
 -- How a line goes in a store.
-use Rattle.std.specs.Prelude.{◌≡◌, ◌⊎◌, ◌+◌, ◌^◌, ◌<◌, ◌≤◌, ℕ, Bool, true, false, IsTrue}
+use Rattle.std.specs.Prelude.{◌≡◌, ◌⊎◌, ◌+◌, ◌^◌, ◌<◌, ◌≤◌, ℕ, Bool, IsTrue}
 use Rattle.sg_base.specs.Ends.{HasRisen}
 use Rattle.sg_disk.specs.Disk as disk
 use Rattle.sg_model.specs.Objects.{is_changing}

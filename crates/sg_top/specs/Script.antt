@@ -10,7 +10,7 @@ use Rattle.sg_words.specs.Run.{Lines, AreCaused}
 use Rattle.sg_log.specs.Frames.{LOG_END}
 use Rattle.sg_top.specs.Stands.{StandsForFirst}
 use Rattle.sg_top.specs.Store.{Core, Shows}
-use Rattle.sg_top.specs.Goes.{NEW_WORK_END, Grows}
+use Rattle.sg_top.specs.Goes.{NEW_WORK_END}
 
 -- So many bytes were handed to the disk since v that the tail of a log with this gate then may be above the end of
 -- new work now. A buffer, and a gate and a length, may come to what was handed

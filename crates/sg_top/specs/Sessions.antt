@@ -1,5 +1,5 @@
 -- What a session is seen as.
-use Rattle.std.specs.Prelude.{ℕ, Option, Some, None}
+use Rattle.std.specs.Prelude.{Option}
 use Rattle.sg_top.specs.declared.session.Session as code_session
 use Rattle.sg_top.specs.declared.store.Stop as code_stop
 use Rattle.sg_top.specs.Store.{Core}

@@ -1,10 +1,10 @@
 -- The program's words, and how a run of it ends.
-use Rattle.std.specs.Prelude.{◌≡◌, ◌⊎◌, ◌≤◌, ℕ, Bool, true, false, IsTrue, List, [], ◌∷◌, codes, string_bytes, String, Option, Some, None}
+use Rattle.std.specs.Prelude.{◌≡◌, ◌≤◌, ℕ, Bool, false, IsTrue, List, [], ◌∷◌, codes, string_bytes, String, Option, Some, None}
 use Rattle.std.specs.Str.{bytes_eq}
 use Rattle.std.specs.declared.alloc.Global.{Global}
 use Rattle.sg_disk.specs.Disk as disk
 use Rattle.sg_model.specs.Objects.{Objects}
-use Rattle.sg_model.specs.History.{State, start}
+use Rattle.sg_model.specs.History.{start}
 use Rattle.sg_top.specs.declared.opening.OpenRefused as code_refused
 use Rattle.sg_top.specs.declared.opening.OpenRefused.TheVariants as refusals
 use Rattle.sg_top.specs.declared.script.RunEnd as code_end
@@ -14,8 +14,11 @@ use Rattle.sg_top.specs.declared.status.Status.TheVariants as statuses
 use Rattle.sg_top.specs.declared.store.Stop as code_stop
 use Rattle.sg_top.specs.declared.store.Stop.TheVariants as stops
 use Rattle.sg_top.specs.Stands.{StandsFor}
-use Rattle.sg_top.specs.Store.{Core, Shows}
+use Rattle.sg_top.specs.Store.{Core}
 use Rattle.sg_top.specs.Ending.{RunsTo}
+use Rattle.sg_top.specs.Script.{MayEnd}
+use Rattle.sg_top.specs.Shown.{StopIsCaused}
+use Rattle.sg_base.specs.Ends.{HasRisen}
 use Rattle.sg_top.specs.Opening.{StaysShut, reads_of}
 
 -- `run` and a folder
@@ -52,7 +55,7 @@ pub record NeverRan (told : Bool) (v w : disk.View) (source left first now : Opt
   pub status_is : status ≡ status_of_refusal why
 
 -- A run: it began with the objects that the image read stands for, and ended so. Until it had opened the store a
--- crash left what it could have left at first
+-- crash left what it could have left at first. The log's end is met only where so much was handed to the disk
 pub record Ran (told : Bool) (v w : disk.View) (source left first now : Option (List ℕ)) (status : code_status.Status) : Type 0 where
   pub objects : Objects
   pub stands : IsTrue told → StandsFor (reads_of v) objects
@@ -64,5 +67,6 @@ pub record Ran (told : Bool) (v w : disk.View) (source left first now : Option (
   pub end : code_end.RunEnd
   pub last : Core
   pub stop : Option code_stop.Stop
+  pub caused : StopIsCaused (HasRisen opened.faults w.faults) (MayEnd core.log.gate opened w) None stop
   pub runs : RunsTo end told opened core (start objects) source left first now w last
   pub status_is : status ≡ status_of end stop

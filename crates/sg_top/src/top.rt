@@ -66,9 +66,13 @@ pub fn stasis<D: Disk, S: Source, K: Sink>(
     out: &mut K,
 ) -> Finish<D>
     ensures usage { (result.status ≡ Status.Usage → are_run words.now ≡ false) }
+    ensures unused { are_run words.now ≡ false → (result.status ≡ Status.Usage) × (result.disk ≡ disk) × (script.new ≡ script.old) × (out.new ≡ out.old) }
     ensures run { are_run words.now ≡ true →
         NeverRan D.told (D.view disk) (D.view result.disk) (S.left script.old) (S.left script.new) (K.taken out.old) (K.taken out.new) result.status
         ⊎ Ran D.told (D.view disk) (D.view result.disk) (S.left script.old) (S.left script.new) (K.taken out.old) (K.taken out.new) result.status }
+    ensures read { result.status ≡ Status.Read → HasRisen (S.faults script.old) (S.faults script.new) }
+    ensures write { result.status ≡ Status.Write → HasRisen (K.faults out.old) (K.faults out.new) }
+    ensures disk { result.status ≡ Status.Disk → HasRisen (D.view disk).faults (D.view result.disk).faults }
 {
     if !is_run(words) {
         return Finish {

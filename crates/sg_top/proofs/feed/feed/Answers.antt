@@ -1,4 +1,4 @@
-use Rattle.std.proofs.Common.{◌≡◌, ◌≤◌, inr, List, ℕ, arith, subst}
+use Rattle.std.proofs.Common.{inr, List, ℕ, arith, subst}
 use Rattle.sg_words.specs.Parse.{order_of}
 use Rattle.sg_top.specs.Goes.{Goes}
 use Rattle.sg_top.specs.Sessions.{session_core, session_disk, session_stop}

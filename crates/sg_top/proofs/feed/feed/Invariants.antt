@@ -1,4 +1,4 @@
-use Rattle.std.proofs.Common.{◌≡◌, ◌≤◌, List, ℕ, Option, length}
+use Rattle.std.proofs.Common.{◌≤◌, List, ℕ, Option, length}
 use Rattle.sg_disk.specs.Disk as disk
 use Rattle.sg_model.specs.History.{State}
 use Rattle.sg_top.specs.Store.{Core}

@@ -1,8 +1,8 @@
-use Rattle.std.proofs.Common.{◌≡◌, ◌≤◌, inr, List, ℕ, arith, subst, refl}
+use Rattle.std.proofs.Common.{inr, List, ℕ, arith, subst, refl}
 use Rattle.sg_words.specs.Parse.{order_of}
 use Rattle.sg_top.specs.Goes.{Goes}
 use Rattle.sg_top.specs.Sessions.{session_core, session_disk, session_stop}
-use Rattle.sg_top.proofs.Feeds.{grows_on, stop_on, stop_here, stop_same}
+use Rattle.sg_top.proofs.Feeds.{grows_on, stop_on, stop_same}
 use Rattle.sg_top.proofs.Scripts.{way_begins, way_goes_on, way_ends, way_unwritten, way_broken, way_unread, way_too_long}
 use Rattle.sg_top.proofs.script.run_script.Goals as goal
 

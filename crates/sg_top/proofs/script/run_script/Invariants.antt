@@ -1,4 +1,4 @@
-use Rattle.std.proofs.Common.{◌≡◌, ◌≤◌, ◌-◌, length}
+use Rattle.std.proofs.Common.{◌≤◌, ◌-◌}
 use Rattle.sg_base.specs.Ends.{HasRisen}
 use Rattle.sg_model.specs.History.{State}
 use Rattle.sg_top.specs.Store.{Shows}

@@ -1,4 +1,4 @@
-use Rattle.std.proofs.Common.{◌≡◌, length, take, ◌∙◌, ap, sym, arith}
+use Rattle.std.proofs.Common.{◌≡◌, length, ◌∙◌, ap, sym, arith}
 use Rattle.std.proofs.lemmas.List.{length-take-le}
 use Rattle.sg_top.proofs.Fronts.{kept_front}
 use Rattle.sg_top.proofs.buffer.LineBuffer.push.Goals as goal

@@ -1,8 +1,6 @@
-use Rattle.std.proofs.Common.{◌≡◌, refl, sym, ap, ◌∙◌}
-use Rattle.sg_words.specs.Order.{Verb}
+use Rattle.std.proofs.Common.{sym, ap, ◌∙◌}
 use Rattle.sg_words.specs.Order.Order.{Blank, Syntax, Txn}
 use Rattle.sg_words.specs.Order.Verb.{Begin, Commit, Do}
-use Rattle.sg_words.specs.Parse.{order_of}
 use Rattle.sg_words.specs.Shown.{shown_line, shown}
 use Rattle.sg_words.specs.declared.parse.Verb as code_verb
 use Rattle.sg_words.proofs.Said.{order_of-short}

@@ -1,4 +1,4 @@
-use Rattle.std.proofs.Common.{◌≡◌, ◌≤◌, ◌<◌, inr, Some, None, option_map, refl, sym, ap, ◌∙◌, arith}
+use Rattle.std.proofs.Common.{◌≤◌, inr, option_map, refl, sym, ap, ◌∙◌, arith}
 use Rattle.sg_record.specs.Records.{IsRecord}
 use Rattle.sg_record.specs.Records.Record.{Begin as BeginRecord}
 use Rattle.sg_log.specs.Held.{Tail, tail_of, end_of}

@@ -1,11 +1,8 @@
-use Rattle.std.proofs.Common.{◌≡◌, ◌≤◌, ◌<◌, [], Ok, Err, Some, None, option_map, refl, sym, ap, ◌∙◌, arith, subst, ◌+◌}
+use Rattle.std.proofs.Common.{◌<◌, Err, option_map, refl, sym, ap, ◌∙◌, arith, subst, ◌+◌}
 use Rattle.sg_base.specs.Ends.{HasRisen}
 use Rattle.sg_log.specs.Frames.{LOG_END}
 use Rattle.sg_record.specs.Records.Record.{Commit as CommitRecord}
-use Rattle.sg_disk.specs.Disk as disk
 use Rattle.sg_log.specs.Held.{Tail, tail_of, end_of}
-use Rattle.sg_log.specs.declared.fault.LogFault.{LogFault}
-use Rattle.sg_log.specs.declared.fault.LogFault.TheVariants as faults
 use Rattle.sg_top.specs.Shown.{core_of, live_of, shown_answer, answer_at, StopIsCaused}
 use Rattle.sg_top.specs.declared.answer.Answer as code_answer
 use Rattle.sg_top.proofs.Steps.{commit_none, same_text, tail_forced}

@@ -1,4 +1,4 @@
-use Rattle.std.proofs.Common.{◌≡◌, arith}
+use Rattle.std.proofs.Common.{arith}
 use Rattle.sg_top.proofs.Opened.{opened_empty, shut}
 use Rattle.sg_top.proofs.store.Store.open.Goals as goal
 

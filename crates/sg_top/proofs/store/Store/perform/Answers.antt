@@ -1,9 +1,8 @@
-use Rattle.std.proofs.Common.{◌≡◌, ◌≤◌, ◌<◌, inl, inr, [], List, Ok, Err, Result, Some, None, option_map, refl, sym, ap, ◌∙◌, arith, length, subst, ◌+◌}
+use Rattle.std.proofs.Common.{◌≡◌, ◌≤◌, ◌<◌, inl, inr, Ok, Err, Result, option_map, refl, sym, ap, ◌∙◌, arith, subst, ◌+◌}
 use Rattle.sg_base.specs.Ends.{HasRisen}
 use Rattle.sg_log.specs.Frames.{LOG_END}
-use Rattle.sg_disk.specs.Disk as disk
 use Rattle.sg_model.specs.Objects.{Objects, Op, Reply, step}
-use Rattle.sg_model.specs.Replies.{shown_reply, shown_result}
+use Rattle.sg_model.specs.Replies.{shown_reply}
 use Rattle.sg_model.specs.declared.reason.Reason.{Reason}
 use Rattle.sg_model.specs.Shown.{shown_op}
 use Rattle.sg_words.specs.Spoken.{spoken}
