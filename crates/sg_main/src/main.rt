@@ -16,6 +16,7 @@ use crate::folder::FolderDisk;
 use crate::status::{Shown, exit_number};
 use crate::stub::{Finish, Status, stasis};
 use sg_base::{ReadSource, WriteSink};
+use sg_disk::Disk;
 use std::alloc::Global;
 use std::env;
 use std::io;
@@ -40,12 +41,8 @@ fn folder_of(words: &[String]) -> Option<&str> {
     }
 }
 
-// Does what the words say.
-fn perform<'a>(rt: &'a HostRuntime, alloc: Global, words: &'a [String]) -> Status {
-    let disk = match folder_of(words) {
-        Some(path) => FolderDisk::new(rt, path),
-        None => FolderDisk::none(),
-    };
+// Does what the words say over this disk.
+fn perform<D: Disk + Drop>(rt: &HostRuntime, alloc: Global, words: &[String], disk: D) -> Status {
     // Neither end keeps bytes back, so nothing is left to be flushed.
     let mut script = ReadSource::new(rt.stdin());
     let mut out = WriteSink::new(rt.stdout());
@@ -57,10 +54,18 @@ fn perform<'a>(rt: &'a HostRuntime, alloc: Global, words: &'a [String]) -> Statu
     status
 }
 
+// Does what the words say over the folder that they name, or over none.
+fn perform_over_folder(rt: &HostRuntime, alloc: Global, words: &[String]) -> Status {
+    match folder_of(words) {
+        Some(path) => perform(rt, alloc, words, FolderDisk::new(rt, path)),
+        None => perform(rt, alloc, words, FolderDisk::<HostRuntime>::none()),
+    }
+}
+
 // The status of the program.
 fn run(rt: &HostRuntime) -> Status {
     match given_words(rt) {
-        Ok(words) => perform(rt, rt.alloc(), words.as_slice()),
+        Ok(words) => perform_over_folder(rt, rt.alloc(), words.as_slice()),
         Err(e) if e.kind() == ErrorKind::OutOfMemory => Status::Memory,
         Err(_) => Status::Usage,
     }
