@@ -223,6 +223,14 @@ impl<'a, R: Files<File = File> + Alloc> FolderDisk<'a, R> {
         }
     }
 
+    /// How many calls have failed.
+    #[cfg(test)]
+    pub fn faults(&self) -> u64
+        ensures { result ≡ self.now.faults }
+    {
+        self.faults
+    }
+
     /// A disk without a folder.
     pub fn none() -> Self
         ensures handed { result.handed ≡ 0 }

@@ -80,3 +80,6 @@ fn main(rt: HostRuntime) -> ExitCode {
     }
     ExitCode::from(exit_number(status))
 }
+
+#[cfg(test)]
+mod tests;
