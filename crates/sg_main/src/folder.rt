@@ -4,13 +4,12 @@ ghost use Rattle.sg_base.specs.Ends.{HasRisen};
 
 use sg_base::{Area, Failed};
 use sg_disk::Disk;
-use std::fs;
 use std::fs::{File, OpenOptions};
-use std::io;
 use std::io::ErrorKind;
 use std::os::unix::fs::FileExt;
 use std::path::{Path, PathBuf};
 use std::rt::Files;
+use std::{fs, io};
 
 // The folder's three files, each from when it was first found or made. The runtime is kept since
 // that may be at any call: a file is made by the first write to its area, and not before.

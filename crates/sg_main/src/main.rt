@@ -18,10 +18,9 @@ use crate::stub::{Finish, Status, stasis};
 use sg_base::{ReadSource, WriteSink};
 use sg_disk::Disk;
 use std::alloc::Global;
-use std::env;
-use std::io;
 use std::io::ErrorKind;
 use std::process::ExitCode;
+use std::{env, io};
 
 // The words after the program's name.
 fn given_words(rt: &HostRuntime) -> io::Result<Vec<String>> {
@@ -33,10 +32,7 @@ fn given_words(rt: &HostRuntime) -> io::Result<Vec<String>> {
 fn folder_of(words: &[String]) -> Option<&str> {
     match words {
         [command, folder] | [command, folder, _, _]
-            if command.as_str() == "run" && !folder.as_str().is_empty() =>
-        {
-            Some(folder.as_str())
-        }
+            if command.as_str() == "run" && !folder.as_str().is_empty() => { Some(folder.as_str()) }
         _ => None,
     }
 }

@@ -1,11 +1,9 @@
 use crate::folder::FolderDisk;
 use sg_base::Area;
 use sg_disk::Disk;
-use std::env;
-use std::fs;
 use std::path::PathBuf;
-use std::process;
 use std::test::Fail;
+use std::{env, fs, process};
 
 // A path below the system's folder for files of the moment that no other process uses.
 fn own_folder(rt: &HostRuntime) -> Result<PathBuf, Fail> {
