@@ -8,6 +8,9 @@
 //! sink, and which number and text stand for each status.
 #![tactic(auto)]
 
+ghost use Rattle.std.specs.Prelude.{◌≡◌, map, string_bytes, option_copied};
+ghost use Rattle.sg_main.specs.Words.{folder_in};
+
 mod folder;
 mod status;
 mod stub;
@@ -29,7 +32,9 @@ fn given_words(rt: &HostRuntime) -> io::Result<Vec<String>> {
 }
 
 // The word for the folder, where the words are those of a run. An empty word names none.
-fn folder_of(words: &[String]) -> Option<&str> {
+fn folder_of(words: &[String]) -> Option<&str>
+    ensures { option_copied result ≡ folder_in (map string_bytes words.now) }
+{
     match words {
         [command, folder] | [command, folder, _, _]
             if command.as_str() == "run" && !folder.as_str().is_empty() => { Some(folder.as_str()) }
