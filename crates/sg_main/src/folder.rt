@@ -1,5 +1,5 @@
 // The trusted edge to the files of the system.
-ghost use Rattle.std.specs.Prelude.{◌≡◌, ◌≤◌, ◌+◌, ◌^◌, ◌-◌, length, min, false, [], OnErr};
+ghost use Rattle.std.specs.Prelude.{◌≡◌, ◌↔◌, IsErr, ◌≤◌, ◌+◌, ◌^◌, ◌-◌, length, min, false, [], OnErr};
 ghost use Rattle.sg_base.specs.Ends.{HasRisen};
 
 use sg_base::{Area, Failed};
@@ -254,6 +254,7 @@ fn count(calls: &mut u64)
 
 // Counts a failure.
 fn note(answer: io::Result<()>, faults: &mut u64) -> Result<(), Failed>
+    ensures told { IsErr result ↔ IsErr answer }
     ensures failed { OnErr result (HasRisen faults.old faults.new) }
     ensures later { faults.old ≤ faults.new }
 {
