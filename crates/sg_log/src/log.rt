@@ -114,6 +114,7 @@ impl Log {
     pub fn place(&self, r: &Rec<'_>) -> Lsn
         requires { IsRecord (shown r.now) }
         ensures place { result ≡ place_of self.now (shown r.now) }
+        ensures near { tail_of self.now ≤ self.now.gate + 65541 }
         ensures low { result ≤ 2 ^ 63 + 2 ^ 17 }
     {
         let behind = self.gate + 5 + self.used as u64;
@@ -165,6 +166,9 @@ impl Log {
         ensures any_moment { (ds ps : List Record) → IsTrue D.told → Holds (D.view disk.old) self.old ds ps →
             LeavesOnly (D.view disk.old) (D.view disk.new) (IsBeforeOrAfter (D.view disk.old).now self.old.area self.old.base ds ps) }
         ensures elsewhere { IsTrue D.told → OnOk result (SameElsewhere self.old.area (D.view disk.old).now (D.view disk.new).now) }
+        ensures near { tail_of self.old ≤ self.old.gate + 65541 }
+        // The log grows by no more than is handed to the disk, as far as that is counted.
+        ensures grown { (FULL ≤ (D.view disk.new).handed) ⊎ (self.new.gate + (D.view disk.old).handed ≤ self.old.gate + (D.view disk.new).handed) }
         ensures handed { (D.view disk.new).handed ≤ (D.view disk.old).handed + length self.old.buffer + 6 }
         ensures kept { (D.view disk.old).handed ≤ (D.view disk.new).handed }
         ensures calls { has_room self.old (shown r.now) ≡ false → OnOk result ((D.view disk.new).calls ≡ min ((D.view disk.old).calls + 4) FULL) }
@@ -195,6 +199,8 @@ impl Log {
         ensures any_moment { (ds ps : List Record) → IsTrue D.told → Holds (D.view disk.old) self.old ds ps →
             LeavesOnly (D.view disk.old) (D.view disk.new) (IsBeforeOrAfter (D.view disk.old).now self.old.area self.old.base ds ps) }
         ensures elsewhere { IsTrue D.told → OnOk result (SameElsewhere self.old.area (D.view disk.old).now (D.view disk.new).now) }
+        // The log grows by no more than is handed to the disk, as far as that is counted.
+        ensures grown { (FULL ≤ (D.view disk.new).handed) ⊎ (self.new.gate + (D.view disk.old).handed ≤ self.old.gate + (D.view disk.new).handed) }
         ensures handed { (D.view disk.new).handed ≤ (D.view disk.old).handed + length self.old.buffer + 6 }
         ensures kept { (D.view disk.old).handed ≤ (D.view disk.new).handed }
         ensures all_handed { 0 < length self.old.buffer → OnOk result ((D.view disk.new).handed ≡ min ((D.view disk.old).handed + length self.old.buffer + 6) FULL) }

@@ -27,15 +27,16 @@ use Rattle.sg_log.specs.Faults.{AppendFails, ForceFails}
 use Rattle.sg_log.specs.declared.fault.LogFault.{LogFault}
 use Rattle.sg_log.specs.declared.fault.LogFault.TheVariants as faults
 use Rattle.sg_log.specs.Held.{Tail, tail_of, has_room, place_of, end_of, appended, forced, Holds, durable_after, waiting_after}
-use Rattle.sg_log.proofs.Holding.{holds_image, all_appended, durable_either}
+use Rattle.sg_log.proofs.Holding.{holds_image, all_appended, durable_either, spelled_most, forced_empty}
 use Rattle.sg_top.specs.Stands.{lines_by, commits_in, committed_lines, replay, after_line, after_op, if_replied, StandsFor, StandsForFirst}
 use Rattle.sg_top.specs.Store.{Core, IsSerial, AreSerial, AreBelow, AreOwn, IsNotAmong, IsOpen, IsOpenOrNone, Logs, Keeps, Runs, Shows}
-use Rattle.sg_top.specs.Shown.{shown_answer, answer_at, IsFullAnswer}
+use Rattle.sg_top.specs.Shown.{shown_answer, answer_at, IsFullAnswer, StopIsCaused, stop_at as stop_code}
+use Rattle.sg_top.specs.declared.store.Stop as code_stop
 use Rattle.sg_top.specs.declared.answer.Answer as code_answer
 use Rattle.sg_top.specs.Goes.{Goes, NEW_WORK_END, IsWork}
 use Rattle.sg_top.proofs.Replays.{replay-append, lines_by-above, commits_in-above, commits_in-append, commits_in-own, lines_by-append, lines_by-line, below-append, below-weaker, own-append}
 use Rattle.sg_top.proofs.Serial.{serial_began, serial_did, serial_committed, committed_live, without_one, after_commits}
-use Rattle.sg_top.proofs.Steps.{op_end, op_memory, ends_within, grows_changing, going_turn, never_said, named_none, named_one, tail-place, appended_place, forced_place, running_shows, stopped_shows, line_said, caused_said, own_after, uncommitted_after, durable_lines, one_after, begin-length, commit-length, place-tail, HoldsAfter, MomentsOf}
+use Rattle.sg_top.proofs.Steps.{op_end, op_memory, ends_within, grows_changing, going_turn, never_said, named_none, named_one, tail-place, appended_place, forced_place, running_shows, stopped_shows, line_said, caused_said, own_after, uncommitted_after, durable_lines, one_after, begin-length, commit-length, place-tail, appended_short, HoldsAfter, MomentsOf}
 use Rattle.sg_top.proofs.Standing.{forced_lines, stands_either, of_log, replay_commit, first_same, first_others, first_all, stands}
 
 -- The store isn't stopped
@@ -74,6 +75,7 @@ module _ (told : Bool) (v : disk.View) (k : Core) (x : State) (shows : Shows tol
         answered = runs.answered;
         area = runs.area;
         base = runs.base;
+        short = runs.short;
         keeps = λ is_told.
           let kept_logs = runs.keeps is_told in
           record {
@@ -102,11 +104,11 @@ module _ (told : Bool) (v : disk.View) (k : Core) (x : State) (shows : Shows tol
 
   -- an operation whose line the log keeps
   pub op_logged : (name : List ℕ) (op : Op) (l : Live) (reply : Reply) (o : Objects) (w : disk.View) (new : Tail) (previous : ℕ) (words : List ℕ) → k.live ≡ Some l → l.name ≡ name
-      → o ≡ (step k.objects op).1 → (step k.objects op).0 ≡ Ok reply → op_said words ≡ Some op → tail_of k.log ≤ NEW_WORK_END
+      → o ≡ (step k.objects op).1 → (step k.objects op).0 ≡ Ok reply → op_said words ≡ Some op → IsRecord (LineRecord l.transaction previous words) → tail_of k.log ≤ NEW_WORK_END
       → new ≡ appended k.log (LineRecord l.transaction previous words) → tail_of new ≡ end_of k.log (LineRecord l.transaction previous words)
       → HoldsAfter told v w k.log new (LineRecord l.transaction previous words) → MomentsOf told v w k.log
       → Goes told v k x (Txn name (Do op)) (Said reply) w (record k { objects = o; log = new })
-  op_logged name op l reply o w new previous words one is answered replied says low is_new tail holds call =
+  op_logged name op l reply o w new previous words one is answered replied says fields low is_new tail holds call =
       let y : State = did x l.transaction op in
       let r : Record = LineRecord l.transaction previous words in
       let t : ℕ = l.transaction in
@@ -124,6 +126,7 @@ module _ (told : Bool) (v : disk.View) (k : Core) (x : State) (shows : Shows tol
         answered = runs.answered;
         area = ap (λ (z : Tail). z.area) is_new ∙ ((appended_place k.log r).0 ∙ runs.area);
         base = ap (λ (z : Tail). z.base) is_new ∙ ((appended_place k.log r).1 ∙ runs.base);
+        short = subst (λ (z : Tail). length z.buffer ≤ 65536) (sym is_new) (appended_short k.log r (omega (arith, spelled_most r fields)) runs.short);
         keeps = λ is_told.
           let h = runs.keeps is_told in
           let was : IsOpen x t h.durable h.waiting = subst (IsOpenOrNone x h.durable h.waiting) one h.logs.open_one in
@@ -182,6 +185,7 @@ module _ (told : Bool) (v : disk.View) (k : Core) (x : State) (shows : Shows tol
         answered = runs.answered;
         area = ap (λ (z : Tail). z.area) is_new ∙ ((appended_place k.log r).0 ∙ runs.area);
         base = ap (λ (z : Tail). z.base) is_new ∙ ((appended_place k.log r).1 ∙ runs.base);
+        short = subst (λ (z : Tail). length z.buffer ≤ 65536) (sym is_new) (appended_short k.log r (omega (arith, begin-length n previous)) runs.short);
         keeps = λ is_told.
           let h = runs.keeps is_told in
           let empty_buffer : h.waiting ≡ [] = subst (IsOpenOrNone x h.durable h.waiting) none h.logs.open_one in
@@ -260,6 +264,7 @@ module _ (told : Bool) (v : disk.View) (k : Core) (x : State) (shows : Shows tol
         answered = sym more;
         area = ap (λ (z : Tail). z.area) is_new ∙ ((forced_place mid).0 ∙ mid_area);
         base = ap (λ (z : Tail). z.base) is_new ∙ ((forced_place mid).1 ∙ mid_base);
+        short = subst (λ (z : Tail). length z.buffer ≤ 65536) (sym is_new) (omega (arith, forced_empty mid));
         keeps = kept;
       }) in
       record {
@@ -466,3 +471,17 @@ goes_along {told = told} {v = v} {k = k} {x = x} {order = order} a b u w m n sam
 
 pub goes_order : {told : Bool} {v w : disk.View} {k m : Core} {x : State} {answer : Answer} (o p : Order) → o ≡ p → Goes told v k x p answer w m → Goes told v k x o answer w m
 goes_order {told = told} {v = v} {w = w} {k = k} {m = m} {x = x} {answer = answer} o p same h = subst (λ (q : Order). Goes told v k x q answer w m) (sym same) h
+
+-- the cause of a stop as a record was appended
+pub stop_append : (e : LogFault) (end : ℕ) (v w : disk.View) (F : Type 0) (old : Option code_stop.Stop) → AppendFails end v w e → (LOG_END < end → F) → StopIsCaused (HasRisen v.faults w.faults) F old (Some (stop_code e))
+stop_append faults.Disk end v w F old h full = inr h
+stop_append faults.LogEnd end v w F old h full = inr (full h)
+stop_append (faults.Damaged at) end v w F old h full = absurd h
+stop_append faults.Memory end v w F old h full = absurd h
+
+pub stop_along : (R F : Type 0) (old a b : Option code_stop.Stop) → a ≡ b → StopIsCaused R F old b → StopIsCaused R F old a
+stop_along R F old a b e h = subst (λ (s : Option code_stop.Stop). StopIsCaused R F old s) (sym e) h
+
+-- a commit's record ends soon after the tail
+pub commit_high : (log : Tail) (t p : ℕ) → LOG_END < end_of log (CommitRecord t p) → LOG_END < tail_of log + 31
+commit_high log t p h = omega (arith, h, place-tail log (CommitRecord t p), commit-length t p)

@@ -3,3 +3,7 @@ pub mod Serial
 pub mod Standing
 pub mod Steps
 pub mod Changes
+pub mod Executing
+pub mod Fronts
+pub mod Feeds
+pub mod Scripts

@@ -1,5 +1,5 @@
 -- How the orders go, on what a store shows.
-use Rattle.std.proofs.Common.{◌≡◌, ◌⊎◌, inl, inr, ⊎_elim, ℕ, ◌+◌, ◌-◌, ◌<◌, ◌≤◌, ◌^◌, ◌==◌, nat_le, ◌&&◌, eq-eqb, eqb-true, Bool, true, false, cond, not, IsTrue, List, [], ◌∷◌, ◌++◌, length, find, Option, Some, None, Result, Ok, Err, refl, sym, ap, ◌∙◌, subst, arith, append_assoc, append-nil, length-append}
+use Rattle.std.proofs.Common.{◌≡◌, ◌⊎◌, inl, inr, ⊎_elim, ℕ, ◌+◌, ◌-◌, ◌<◌, ◌≤◌, ◌^◌, ◌==◌, nat_le, ◌&&◌, eq-eqb, eqb-true, leb-true, Bool, true, false, cond, not, IsTrue, List, [], ◌∷◌, ◌++◌, length, find, Option, Some, None, Result, Ok, Err, refl, sym, ap, ◌∙◌, subst, arith, append_assoc, append-nil, length-append}
 use Rattle.std.specs.Option.{option_to_list}
 use Rattle.std.specs.FinMap.{empty}
 use Rattle.std.specs.Str.{bytes_eq}
@@ -28,7 +28,7 @@ use Rattle.sg_log.specs.Faults.{AppendFails, ForceFails}
 use Rattle.sg_log.specs.declared.fault.LogFault.{LogFault}
 use Rattle.sg_log.specs.declared.fault.LogFault.TheVariants as faults
 use Rattle.sg_log.specs.Held.{Tail, tail_of, place_of, end_of, appended, forced, Holds, durable_after, waiting_after}
-use Rattle.sg_log.proofs.Holding.{holds_image, all_appended, durable_either, spelled_most}
+use Rattle.sg_log.proofs.Holding.{holds_image, all_appended, durable_either, spelled_most, forced_empty}
 use Rattle.sg_top.specs.Stands.{lines_by, commits_in, committed_lines, replay, after_line, after_op, if_replied, StandsFor, StandsForFirst}
 use Rattle.sg_top.specs.Store.{Core, IsSerial, AreSerial, AreBelow, AreOwn, IsNotAmong, IsOpen, IsOpenOrNone, Logs, Keeps, Runs, Shows}
 use Rattle.sg_top.specs.Goes.{Goes, NEW_WORK_END, IsWork}
@@ -326,3 +326,19 @@ grows_changing (Write name at bytes) h = refl
 grows_changing (Read name at count) h = absurd h
 grows_changing (Size name length) h = refl
 grows_changing (Paint name at count code arg) h = refl
+
+-- the buffer stays within a frame's body
+pub appended_short : (log : Tail) (r : Record) → length (spelled r) ≤ 65536 → length log.buffer ≤ 65536 → length (appended log r).buffer ≤ 65536
+appended_short log r small short = by_room (nat_le (length log.buffer + length (spelled r)) 65536) refl
+  where
+    by_room : (b : Bool) → nat_le (length log.buffer + length (spelled r)) 65536 ≡ b → length (cond b (record log { buffer = log.buffer ++ spelled r }) (record (forced log) { buffer = (forced log).buffer ++ spelled r })).buffer ≤ 65536
+    by_room true e = omega (arith, leb-true (length log.buffer + length (spelled r)) 65536 e, length-append log.buffer (spelled r))
+    by_room false e = omega (arith, forced_empty log, length-append (forced log).buffer (spelled r))
+
+-- the tail is near the gate
+pub tail_near : (log : Tail) → length log.buffer ≤ 65536 → tail_of log ≤ log.gate + 65541
+tail_near log short = by_length (length log.buffer == 0)
+  where
+    by_length : (b : Bool) → cond b log.gate (log.gate + 5 + length log.buffer) ≤ log.gate + 65541
+    by_length true = omega arith
+    by_length false = omega arith

@@ -1,5 +1,5 @@
 -- How a line goes in a store.
-use Rattle.std.specs.Prelude.{◌≡◌, ◌^◌, ◌<◌, ◌≤◌, ℕ, Bool, true, false, IsTrue}
+use Rattle.std.specs.Prelude.{◌≡◌, ◌⊎◌, ◌+◌, ◌^◌, ◌<◌, ◌≤◌, ℕ, Bool, true, false, IsTrue}
 use Rattle.sg_base.specs.Ends.{HasRisen}
 use Rattle.sg_disk.specs.Disk as disk
 use Rattle.sg_model.specs.Objects.{is_changing}
@@ -10,7 +10,7 @@ use Rattle.sg_words.specs.Order.Verb.{Begin, Commit, Do}
 use Rattle.sg_words.specs.Text.{Answer}
 use Rattle.sg_words.specs.Text.Answer.{LogEnd}
 use Rattle.sg_words.specs.Run.{LineBy, WouldReply, IsCaused}
-use Rattle.sg_log.specs.Held.{tail_of}
+use Rattle.sg_log.specs.Held.{Tail, tail_of}
 use Rattle.sg_top.specs.Stands.{StandsForFirst}
 use Rattle.sg_top.specs.Store.{Core, Shows}
 
@@ -37,3 +37,8 @@ pub record Goes (told : Bool) (v : disk.View) (k : Core) (x : State) (order : Or
   pub full : NEW_WORK_END < tail_of k.log → IsWork order → WouldReply x order → answer ≡ LogEnd
   pub shows : Shows told w m after
   pub moments : IsTrue told → disk.LeavesOnly v w (StandsForFirst x.answered after)
+
+-- a log grows by no more than is handed to the disk, as far as that is counted
+pub record Grows (old new : Tail) (v w : disk.View) : Type 0 where
+  pub kept : v.handed ≤ w.handed
+  pub grown : (disk.FULL ≤ w.handed) ⊎ (new.gate + v.handed ≤ old.gate + w.handed)

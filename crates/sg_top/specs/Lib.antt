@@ -3,3 +3,8 @@ pub mod Store
 pub mod Goes
 pub mod Shown
 pub mod Sessions
+pub mod Script
+pub mod Kept
+pub mod Buffers
+pub mod Feeding
+pub mod Ending

@@ -1,5 +1,5 @@
 -- The code's answers and stores, as definitions speak of them.
-use Rattle.std.specs.Prelude.{◌≡◌, ℕ, List, Option, is_some, Result, Ok, Err}
+use Rattle.std.specs.Prelude.{◌≡◌, ◌⊎◌, ℕ, List, Option, Some, None, is_some, Result, Ok, Err}
 use Rattle.std.specs.Option.{option_map}
 use Rattle.sg_model.specs.History.{Live}
 use Rattle.sg_model.specs.declared.reason.Reason.{Reason}
@@ -55,3 +55,9 @@ stop_at faults.Memory = stops.Disk
 abbrev pub IsFullAnswer : Result Reply Reason → code_answer.Answer → Type 0
 IsFullAnswer (Ok reply) answer = answer ≡ answers.LogEnd
 IsFullAnswer (Err reason) answer = answer ≡ answers.Refused reason
+
+-- a store stops at a fault of the disk, or where its log is full, only where there is one
+abbrev pub StopIsCaused : Type 0 → Type 0 → Option code_stop.Stop → Option code_stop.Stop → Type 0
+StopIsCaused Risen Full old None = Unit {0}
+StopIsCaused Risen Full old (Some stops.Disk) = (old ≡ Some stops.Disk) ⊎ Risen
+StopIsCaused Risen Full old (Some stops.LogEnd) = (old ≡ Some stops.LogEnd) ⊎ Full

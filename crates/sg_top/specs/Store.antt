@@ -8,6 +8,7 @@ use Rattle.sg_model.specs.Objects.{Objects}
 use Rattle.sg_model.specs.History.{Entry, Live, State, after_all, ops_of, live_objects, committed_objects}
 use Rattle.sg_record.specs.Records.{Record, transaction_of}
 use Rattle.sg_record.specs.Records.Record.{Begin, Commit, Line}
+use Rattle.sg_log.specs.Frames.{GREATEST_BODY}
 use Rattle.sg_log.specs.Held.{Tail, tail_of, Holds}
 use Rattle.sg_top.specs.Stands.{lines_by, commits_in, committed_lines, replay, StandsForFirst}
 
@@ -87,6 +88,7 @@ pub record Runs (told : Bool) (v : disk.View) (k : Core) (x : State) : Type 0 wh
   pub answered : x.answered ≡ length x.commits
   pub area : k.log.area ≡ Log0
   pub base : k.log.base ≡ 0
+  pub short : length k.log.buffer ≤ GREATEST_BODY
   pub keeps : IsTrue told → Keeps v k x
 
 -- A store shows a run. Each image that a crash now leaves stands for a prefix of its commits that has all

@@ -2,6 +2,9 @@
 #![tactic(auto)]
 
 mod answer;
+mod buffer;
+mod feed;
+mod script;
 mod session;
 mod store;
 

@@ -1,6 +1,8 @@
-ghost use Rattle.std.specs.Prelude.{◌≡◌, ◌≤◌, ◌<◌, List, ℕ, length, vec_len, OnOk, OnErr};
+ghost use Rattle.std.specs.Prelude.{◌≡◌, ◌≤◌, ◌<◌, ◌+◌, List, ℕ, length, vec_len, OnOk, OnErr};
 ghost use Rattle.sg_base.specs.Ends.{HasRisen, Takes, TakesFront};
 ghost use Rattle.sg_model.specs.History.{State};
+ghost use Rattle.sg_log.specs.Frames.{LOG_END};
+ghost use Rattle.sg_log.specs.Held.{tail_of};
 ghost use Rattle.sg_words.specs.Parse.{order_of};
 ghost use Rattle.sg_words.specs.Text.{Answer as Said, text_of};
 
@@ -24,8 +26,9 @@ pub struct Session<D: Disk> {
 
 impl<D: Disk> Session<D> {
     ghost use Rattle.sg_top.specs.Store.{Shows};
-    ghost use Rattle.sg_top.specs.Goes.{Goes};
-    ghost use Rattle.sg_top.specs.Sessions.{session_core, session_disk};
+    ghost use Rattle.sg_top.specs.Goes.{Goes, Grows};
+    ghost use Rattle.sg_top.specs.Shown.{StopIsCaused};
+    ghost use Rattle.sg_top.specs.Sessions.{session_core, session_disk, session_stop};
 
     /// Answers one line, without its LF and of any length, and writes the reply line in one call of
     /// the sink. Where the sink fails, the line was executed, and a front of its reply was taken.
@@ -36,6 +39,9 @@ impl<D: Disk> Session<D> {
         ensures cut { OnErr result ((x : State) → Shows D.told (D.view (session_disk self.old)) (session_core self.old) x →
             (answer : Said) × Goes D.told (D.view (session_disk self.old)) (session_core self.old) x (order_of text.now) answer (D.view (session_disk self.new)) (session_core self.new)
                 × TakesFront (K.taken out.old) (text_of answer) (K.taken out.new)) }
+        ensures grown { Grows (session_core self.old).log (session_core self.new).log (D.view (session_disk self.old)) (D.view (session_disk self.new)) }
+        ensures cause { StopIsCaused (HasRisen (D.view (session_disk self.old)).faults (D.view (session_disk self.new)).faults) (LOG_END < (session_core self.old).log.gate + 65572)
+            (session_stop self.old) (session_stop self.new) }
         ensures disk { (D.view (session_disk self.old)).faults ≤ (D.view (session_disk self.new)).faults }
         ensures later { K.faults out.old ≤ K.faults out.new }
         ensures failed { OnErr result (HasRisen (K.faults out.old) (K.faults out.new)) }

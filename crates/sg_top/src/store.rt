@@ -1,4 +1,4 @@
-ghost use Rattle.std.specs.Prelude.{◌≡◌, ◌≤◌, ◌<◌, List, ℕ, length, Option, Some, None, IsSome, IsTrue, IfErr, OnOk, MatchOption, true, false, is_some};
+ghost use Rattle.std.specs.Prelude.{◌≡◌, ◌≤◌, ◌<◌, ◌+◌, List, ℕ, length, Option, Some, None, IsSome, IsTrue, IfErr, OnOk, MatchOption, true, false, is_some};
 ghost use Rattle.std.specs.Option.{option_to_list};
 ghost use Rattle.std.specs.Str.{bytes_eq};
 ghost use Rattle.sg_base.specs.Ends.{HasRisen};
@@ -16,11 +16,11 @@ ghost use Rattle.sg_disk.specs.Disk.{LeavesOnly};
 ghost use Rattle.sg_record.specs.Records.{Record, IsRecord};
 ghost use Rattle.sg_record.specs.Records.Record.{Line as LineRecord};
 ghost use Rattle.sg_log.specs.Faults.{AppendFails};
-ghost use Rattle.sg_log.specs.Frames.{IsBeforeOrAfter};
+ghost use Rattle.sg_log.specs.Frames.{IsBeforeOrAfter, LOG_END};
 ghost use Rattle.sg_log.specs.Held.{Holds, tail_of, end_of, appended, durable_after, waiting_after};
 ghost use Rattle.sg_top.specs.Store.{Shows};
-ghost use Rattle.sg_top.specs.Goes.{Goes, NEW_WORK_END};
-ghost use Rattle.sg_top.specs.Shown.{shown_answer, live_of, core_of, answer_at, stop_at, IsFullAnswer};
+ghost use Rattle.sg_top.specs.Goes.{Goes, Grows, NEW_WORK_END};
+ghost use Rattle.sg_top.specs.Shown.{shown_answer, live_of, core_of, answer_at, stop_at, IsFullAnswer, StopIsCaused};
 
 use crate::answer::Answer;
 use sg_base::{Lsn, Name, OutOfMemory, TxnId};
@@ -82,6 +82,8 @@ impl<D: Disk> Store<D> {
         requires { (core_of self.old).stopped ≡ false }
         ensures goes { (into : List ℕ) (x : State) → Shows D.told (D.view self.old.disk) (core_of self.old) x
             → Goes D.told (D.view self.old.disk) (core_of self.old) x (Txn name Begin) (shown_answer into result) (D.view self.new.disk) (core_of self.new) }
+        ensures grown { Grows self.old.log self.new.log (D.view self.old.disk) (D.view self.new.disk) }
+        ensures cause { StopIsCaused (HasRisen (D.view self.old.disk).faults (D.view self.new.disk).faults) (LOG_END < self.old.log.gate + 65572) self.old.stop self.new.stop }
         ensures later { (D.view self.old.disk).faults ≤ (D.view self.new.disk).faults }
     {
         if let Some(live) = self.live {
@@ -116,6 +118,7 @@ impl<D: Disk> Store<D> {
         ensures stopped { core_of self.new ≡ record (core_of self.old) { stopped = true } }
         ensures disk { self.new.disk ≡ self.old.disk }
         ensures answer { result ≡ answer_at fault }
+        ensures log { self.new.log ≡ self.old.log }
         ensures why { self.new.stop ≡ Some (stop_at fault) }
     {
         if fault == LogFault::LogEnd {
@@ -132,6 +135,8 @@ impl<D: Disk> Store<D> {
         requires { (core_of self.old).stopped ≡ false }
         ensures goes { (into : List ℕ) (x : State) → Shows D.told (D.view self.old.disk) (core_of self.old) x
             → Goes D.told (D.view self.old.disk) (core_of self.old) x (Txn name Commit) (shown_answer into result) (D.view self.new.disk) (core_of self.new) }
+        ensures grown { Grows self.old.log self.new.log (D.view self.old.disk) (D.view self.new.disk) }
+        ensures cause { StopIsCaused (HasRisen (D.view self.old.disk).faults (D.view self.new.disk).faults) (LOG_END < self.old.log.gate + 65572) self.old.stop self.new.stop }
         ensures later { (D.view self.old.disk).faults ≤ (D.view self.new.disk).faults }
     {
         let Some(live) = self.named(name) else {
@@ -170,6 +175,7 @@ impl<D: Disk> Store<D> {
                 (waiting_after self.old.log (LineRecord live.txn.0 live.last (spoken text.now)) ps)) }
         ensures any_moment { (ds ps : List Record) → IsTrue D.told → Holds (D.view self.old.disk) self.old.log ds ps →
             LeavesOnly (D.view self.old.disk) (D.view self.new.disk) (IsBeforeOrAfter (D.view self.old.disk).now self.old.log.area self.old.log.base ds ps) }
+        ensures grown { Grows self.old.log self.new.log (D.view self.old.disk) (D.view self.new.disk) }
         ensures later { (D.view self.old.disk).faults ≤ (D.view self.new.disk).faults }
     {
         let size = join_words(text, kept);
@@ -224,6 +230,8 @@ impl<D: Disk> Store<D> {
         requires into { 8192 ≤ length into.old }
         ensures goes { (x : State) → Shows D.told (D.view self.old.disk) (core_of self.old) x
             → Goes D.told (D.view self.old.disk) (core_of self.old) x (Txn name (Do (shown_op op.now))) (shown_answer into.new result) (D.view self.new.disk) (core_of self.new) }
+        ensures grown { Grows self.old.log self.new.log (D.view self.old.disk) (D.view self.new.disk) }
+        ensures cause { StopIsCaused (HasRisen (D.view self.old.disk).faults (D.view self.new.disk).faults) (LOG_END < self.old.log.gate + 65572) self.old.stop self.new.stop }
         ensures later { (D.view self.old.disk).faults ≤ (D.view self.new.disk).faults }
     {
         let Some(live) = self.named(name) else {
@@ -263,6 +271,8 @@ impl<D: Disk> Store<D> {
         requires into { 8192 ≤ length into.old }
         ensures goes { (x : State) → Shows D.told (D.view self.old.disk) (core_of self.old) x
             → Goes D.told (D.view self.old.disk) (core_of self.old) x (order_of text.now) (shown_answer into.new result) (D.view self.new.disk) (core_of self.new) }
+        ensures grown { Grows self.old.log self.new.log (D.view self.old.disk) (D.view self.new.disk) }
+        ensures cause { StopIsCaused (HasRisen (D.view self.old.disk).faults (D.view self.new.disk).faults) (LOG_END < self.old.log.gate + 65572) self.old.stop self.new.stop }
         ensures later { (D.view self.old.disk).faults ≤ (D.view self.new.disk).faults }
     {
         match line {

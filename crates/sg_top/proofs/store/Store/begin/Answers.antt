@@ -1,4 +1,4 @@
-use Rattle.std.proofs.Common.{◌≡◌, ◌≤◌, ◌<◌, ◌^◌, Some, None, option_map, refl, sym, ap, ◌∙◌, arith, lit<}
+use Rattle.std.proofs.Common.{◌≡◌, ◌≤◌, ◌<◌, inr, Some, None, option_map, refl, sym, ap, ◌∙◌, arith}
 use Rattle.sg_record.specs.Records.{IsRecord}
 use Rattle.sg_record.specs.Records.Record.{Begin as BeginRecord}
 use Rattle.sg_log.specs.Held.{Tail, tail_of, end_of}
@@ -36,3 +36,11 @@ returns-in-Err-clause-goes g c into x shows =
     let fields : IsRecord (BeginRecord n 0) = record { transaction = omega (arith, c.place.ensures.low); previous = omega arith; body = omega arith } in
     let risen = append_risen (end_of log (BeginRecord n 0)) (g.D.Disk.view c.args.self.now.disk) (g.D.Disk.view c.append.new.disk) c.in-Err.field-0 c.in-Err.ensures.faults (ends_within log (BeginRecord n 0) fields low) in
     begin_breaks g.D.Disk.told (g.D.Disk.view c.args.self.now.disk) (core_of c.args.self.now) x shows c.requires c.args.name _ _ refl (ap (option_map live_of) c.in_default.is) low risen c.append.ensures.any_moment
+
+pub returns-in-Err-clause-cause : goal.returns-in-Err-clause-cause
+returns-in-Err-clause-cause g c =
+    let n = c.place.result in
+    let log : Tail = c.args.self.now.log in
+    let low : tail_of log ≤ NEW_WORK_END = omega (arith, c.tail.ensures, c.if-tail-gt-NEW_WORK_END.false) in
+    let fields : IsRecord (BeginRecord n 0) = record { transaction = omega (arith, c.place.ensures.low); previous = omega arith; body = omega arith } in
+    inr (append_risen (end_of log (BeginRecord n 0)) (g.D.Disk.view c.args.self.now.disk) (g.D.Disk.view c.append.new.disk) c.in-Err.field-0 c.in-Err.ensures.faults (ends_within log (BeginRecord n 0) fields low))

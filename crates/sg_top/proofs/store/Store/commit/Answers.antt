@@ -1,12 +1,15 @@
-use Rattle.std.proofs.Common.{◌≡◌, ◌≤◌, ◌<◌, [], Ok, Err, Some, None, option_map, refl, sym, ap, ◌∙◌, arith}
+use Rattle.std.proofs.Common.{◌≡◌, ◌≤◌, ◌<◌, [], Ok, Err, Some, None, option_map, refl, sym, ap, ◌∙◌, arith, subst, ◌+◌}
+use Rattle.sg_base.specs.Ends.{HasRisen}
+use Rattle.sg_log.specs.Frames.{LOG_END}
+use Rattle.sg_record.specs.Records.Record.{Commit as CommitRecord}
 use Rattle.sg_disk.specs.Disk as disk
-use Rattle.sg_log.specs.Held.{Tail, tail_of}
+use Rattle.sg_log.specs.Held.{Tail, tail_of, end_of}
 use Rattle.sg_log.specs.declared.fault.LogFault.{LogFault}
 use Rattle.sg_log.specs.declared.fault.LogFault.TheVariants as faults
-use Rattle.sg_top.specs.Shown.{core_of, live_of, shown_answer, answer_at}
+use Rattle.sg_top.specs.Shown.{core_of, live_of, shown_answer, answer_at, StopIsCaused}
 use Rattle.sg_top.specs.declared.answer.Answer as code_answer
 use Rattle.sg_top.proofs.Steps.{commit_none, same_text, tail_forced}
-use Rattle.sg_top.proofs.Changes.{commits, commit_fault, force_fault, goes_along}
+use Rattle.sg_top.proofs.Changes.{commits, commit_fault, force_fault, goes_along, stop_append, stop_along, commit_high}
 use Rattle.sg_top.proofs.store.Store.commit.Goals as goal
 
 pub returns-in_default-clause-goes : goal.returns-in_default-clause-goes
@@ -31,3 +34,11 @@ returns-in-Err-force-clause-goes g c into x shows =
     (force_fault g.D.Disk.told (g.D.Disk.view c.args.self.now.disk) (core_of c.args.self.now) x shows c.requires c.args.name (live_of c.in-Some.live) c.in-Err-force.fault (g.D.Disk.view c.append.new.disk) (g.D.Disk.view c.force.new.disk) c.append.new.self _ c.in-Some.live.last into
       (ap (option_map live_of) c.in-Some.ensures.0) (same_text c.args.name c.in-Some.live.name c.in-Some.ensures.1) refl c.in-Err-force.ensures.faults c.append.ensures.later
       c.in-Ok.ensures.log c.in-Ok.ensures.holds c.append.ensures.any_moment c.force.ensures.any_moment)
+
+pub returns-in-Err-clause-cause : goal.returns-in-Err-clause-cause
+returns-in-Err-clause-cause g c =
+    let log : Tail = c.args.self.now.log in
+    subst (λ (d : _). StopIsCaused (HasRisen (g.D.Disk.view c.args.self.now.disk).faults (g.D.Disk.view d).faults) (LOG_END < log.gate + 65572) c.args.self.now.stop c.halt.new.self.stop) (sym c.halt.ensures.disk)
+    (stop_along _ _ c.args.self.now.stop _ _ c.halt.ensures.why
+      (stop_append c.in-Err.fault (end_of log (CommitRecord c.in-Some.live.txn.0 c.in-Some.live.last)) (g.D.Disk.view c.args.self.now.disk) (g.D.Disk.view c.append.new.disk) (LOG_END < log.gate + 65572) c.args.self.now.stop c.in-Err.ensures.faults
+        (λ past. omega (arith, commit_high log c.in-Some.live.txn.0 c.in-Some.live.last past, c.append.ensures.near))))

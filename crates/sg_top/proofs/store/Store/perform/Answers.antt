@@ -1,4 +1,6 @@
-use Rattle.std.proofs.Common.{◌≡◌, ◌≤◌, ◌<◌, inl, inr, [], List, Ok, Err, Result, Some, None, option_map, refl, sym, ap, ◌∙◌, arith, length, subst}
+use Rattle.std.proofs.Common.{◌≡◌, ◌≤◌, ◌<◌, inl, inr, [], List, Ok, Err, Result, Some, None, option_map, refl, sym, ap, ◌∙◌, arith, length, subst, ◌+◌}
+use Rattle.sg_base.specs.Ends.{HasRisen}
+use Rattle.sg_log.specs.Frames.{LOG_END}
 use Rattle.sg_disk.specs.Disk as disk
 use Rattle.sg_model.specs.Objects.{Objects, Op, Reply, step}
 use Rattle.sg_model.specs.Replies.{shown_reply, shown_result}
@@ -6,13 +8,14 @@ use Rattle.sg_model.specs.declared.reason.Reason.{Reason}
 use Rattle.sg_model.specs.Shown.{shown_op}
 use Rattle.sg_words.specs.Spoken.{spoken}
 use Rattle.sg_words.proofs.Said.{op_said-spoken}
-use Rattle.sg_record.specs.Records.{IsRecord}
+use Rattle.sg_record.specs.Records.{Record, IsRecord}
 use Rattle.sg_record.specs.Records.Record.{Line as LineRecord}
-use Rattle.sg_log.specs.Held.{Tail, tail_of}
-use Rattle.sg_top.specs.Shown.{core_of, live_of, shown_answer, answer_at}
+use Rattle.sg_log.specs.Held.{Tail, tail_of, end_of}
+use Rattle.sg_top.specs.Shown.{core_of, live_of, shown_answer, answer_at, StopIsCaused}
+use Rattle.sg_top.specs.Goes.{NEW_WORK_END}
 use Rattle.sg_top.specs.declared.answer.Answer as code_answer
-use Rattle.sg_top.proofs.Steps.{op_none, same_text}
-use Rattle.sg_top.proofs.Changes.{op_unchanged, op_full, op_starved, op_logged, op_fault, goes_along}
+use Rattle.sg_top.proofs.Steps.{op_none, same_text, ends_within}
+use Rattle.sg_top.proofs.Changes.{op_unchanged, op_full, op_starved, op_logged, op_fault, goes_along, stop_append, stop_along}
 use Rattle.sg_top.proofs.store.Store.perform.Goals as goal
 
 pub returns-in_default-clause-goes : goal.returns-in_default-clause-goes
@@ -48,7 +51,7 @@ returns-in-Ok-clause-goes g c x shows =
     let e : step c.args.self.now.objects op ≡ (Ok (shown_reply c.apply.new.into c.in-Ok-Ok.reply), c.apply.new.self) = rw c.in-Ok-Ok.field-0-is at c.in-Ok-Ok.ensures.done in
     goes_along _ _ _ _ _ _ refl refl c.in-Ok.ensures.core
     (op_logged g.D.Disk.told (g.D.Disk.view c.args.self.now.disk) (core_of c.args.self.now) x shows c.requires.running c.args.name op (live_of l) (shown_reply c.apply.new.into c.in-Ok-Ok.reply) c.apply.new.self (g.D.Disk.view c.keep.new.self.disk) c.keep.new.self.log l.last (spoken c.args.text.now)
-      (ap (option_map live_of) c.in-Some.ensures.0) (same_text c.args.name l.name c.in-Some.ensures.1) (sym (ap (λ (p : Result Reply Reason × Objects). p.1) e)) (ap (λ (p : Result Reply Reason × Objects). p.0) e) (op_said-spoken c.args.text.now c.args.name op c.requires.said)
+      (ap (option_map live_of) c.in-Some.ensures.0) (same_text c.args.name l.name c.in-Some.ensures.1) (sym (ap (λ (p : Result Reply Reason × Objects). p.1) e)) (ap (λ (p : Result Reply Reason × Objects). p.0) e) (op_said-spoken c.args.text.now c.args.name op c.requires.said) c.keep.ensures.range
       (c.is_full.ensures.low c.if-is_full.false c.if-not-changing.false) c.in-Ok.ensures.log c.in-Ok.ensures.tail c.in-Ok.ensures.holds c.keep.ensures.any_moment)
 
 pub returns-in-Err-keep-clause-goes : goal.returns-in-Err-keep-clause-goes
@@ -62,3 +65,15 @@ returns-in-Err-keep-clause-goes g c x shows =
     (op_fault g.D.Disk.told (g.D.Disk.view c.args.self.now.disk) (core_of c.args.self.now) x shows c.requires.running c.args.name op (live_of l) (shown_reply c.apply.new.into c.in-Ok-Ok.reply) c.in-Err-keep.fault (g.D.Disk.view c.keep.new.self.disk) _ (LineRecord l.txn.0 l.last (spoken c.args.text.now)) c.apply.new.into refl
       (ap (option_map live_of) c.in-Some.ensures.0) (same_text c.args.name l.name c.in-Some.ensures.1) changing (ap (λ (p : Result Reply Reason × Objects). p.0) e)
       (c.is_full.ensures.low c.if-is_full.false c.if-not-changing.false) fields c.in-Err-keep.ensures.faults c.keep.ensures.any_moment)
+
+pub returns-in-Err-keep-clause-cause : goal.returns-in-Err-keep-clause-cause
+returns-in-Err-keep-clause-cause g c =
+    let l = c.in-Some.live in
+    let log : Tail = c.args.self.now.log in
+    let r : Record = LineRecord l.txn.0 l.last (spoken c.args.text.now) in
+    let low : tail_of log ≤ NEW_WORK_END = c.is_full.ensures.low c.if-is_full.false c.if-not-changing.false in
+    let within = ends_within log r c.keep.ensures.range low in
+    subst (λ (d : _). StopIsCaused (HasRisen (g.D.Disk.view c.args.self.now.disk).faults (g.D.Disk.view d).faults) (LOG_END < log.gate + 65572) c.args.self.now.stop c.halt.new.self.stop) (sym c.halt.ensures.disk)
+    (stop_along _ _ c.args.self.now.stop _ _ c.halt.ensures.why
+      (stop_append c.in-Err-keep.fault (end_of log r) (g.D.Disk.view c.args.self.now.disk) (g.D.Disk.view c.keep.new.self.disk) (LOG_END < log.gate + 65572) c.args.self.now.stop c.in-Err-keep.ensures.faults
+        (λ past. absurd (omega (arith, past, within)))))

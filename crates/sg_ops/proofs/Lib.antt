@@ -1,0 +1,4 @@
+pub mod FillLaw
+pub mod Finds
+pub mod Parts
+pub mod Ripple

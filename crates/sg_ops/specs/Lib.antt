@@ -1,0 +1,9 @@
+pub mod AddLaw
+pub mod Bytes
+pub mod Elements
+pub mod Laws
+pub mod Meaning
+pub mod RotateLaw
+pub mod Shipped
+pub mod Table
+pub mod XorLaw

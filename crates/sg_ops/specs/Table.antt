@@ -1,0 +1,69 @@
+-- The table of registered operations.
+use Rattle.std.specs.Prelude.{◌≡◌, ◌≢◌, ◌==◌, ℕ, List, [], ◌∷◌, ◌++◌, Bool, false, Option, Some, None, map, find}
+use Rattle.std.specs.declared.alloc.Global.{Global}
+use Rattle.std.specs.declared.dyn_box.DynBox.{DynBox}
+use Rattle.sg_ops.specs.declared.ops.Ops.{Ops}
+use Rattle.sg_ops.specs.Meaning.{RecordMeaning, RangeMeaning}
+use Rattle.sg_ops.specs.Shipped.{fill_meaning}
+
+-- what is registered, in the order of registration
+pub record Table : Type 0 where
+  pub records : List RecordMeaning
+  pub ranges : List RangeMeaning
+
+-- The table of an `Ops`, with `fill` first among the range operations. A clause of a crate above
+-- writes `table_of record_meaning range_meaning ops.now`.
+abbrev pub table_of : {X Y : Type 0} {F : X → Type 0} {G : Y → Type 0} → (((v : X) × F v) → RecordMeaning) → (((v : Y) × G v) → RangeMeaning) → Ops X Y F G → Table
+table_of r s ops = record {
+  records = map (λ b. r (b.vtable, b.value)) ops.records.items;
+  ranges = fill_meaning ∷ map (λ b. s (b.vtable, b.value)) ops.ranges.items;
+}
+
+-- the same, where the two words are read at boxes, as in this crate's own clauses
+abbrev pub table_of_boxes : {X Y : Type 0} {F : X → Type 0} {G : Y → Type 0} → (DynBox X Global F → RecordMeaning) → (DynBox Y Global G → RangeMeaning) → Ops X Y F G → Table
+table_of_boxes r s ops = record { records = map r ops.records.items; ranges = fill_meaning ∷ map s ops.ranges.items }
+
+-- the operation with this code, if one is registered
+abbrev pub record_at : Table → ℕ → Option RecordMeaning
+record_at t code = find (λ m. m.code == code) t.records
+
+-- the same among the range operations
+abbrev pub range_at : Table → ℕ → Option RangeMeaning
+range_at t code = find (λ m. m.code == code) t.ranges
+
+-- what an operation does, if there is one: with none, nothing is accepted and nothing changes
+abbrev pub accepts_of : Option RecordMeaning → List ℕ → List ℕ → Bool
+accepts_of None item arg = false
+accepts_of (Some m) item arg = m.accepts item arg
+
+abbrev pub after_of : Option RecordMeaning → List ℕ → List ℕ → List ℕ
+after_of None item arg = item
+after_of (Some m) item arg = m.after item arg
+
+abbrev pub before_of : Option RecordMeaning → List ℕ → List ℕ → List ℕ
+before_of None item arg = item
+before_of (Some m) item arg = m.before item arg
+
+abbrev pub byte_of : Option RangeMeaning → List ℕ → ℕ → ℕ
+byte_of None arg position = 0
+byte_of (Some m) arg position = m.byte arg position
+
+-- the table that has `fill` alone
+abbrev pub fresh_table : Table
+fresh_table = record { records = []; ranges = fill_meaning ∷ [] }
+
+-- one operation more, under a code that was free, and every other as it was
+pub record AddsRecord (old new : Table) (op : RecordMeaning) : Type 0 where
+  pub was_free : record_at old op.code ≡ None
+  pub is_there : record_at new op.code ≡ Some op
+  pub others : (code : ℕ) → code ≢ op.code → record_at new code ≡ record_at old code
+  pub records : new.records ≡ old.records ++ op ∷ []
+  pub ranges : new.ranges ≡ old.ranges
+
+-- the same among the range operations
+pub record AddsRange (old new : Table) (op : RangeMeaning) : Type 0 where
+  pub was_free : range_at old op.code ≡ None
+  pub is_there : range_at new op.code ≡ Some op
+  pub others : (code : ℕ) → code ≢ op.code → range_at new code ≡ range_at old code
+  pub ranges : new.ranges ≡ old.ranges ++ op ∷ []
+  pub records : new.records ≡ old.records

@@ -1,0 +1,210 @@
+ghost use Rattle.std.specs.Prelude.{◌≤◌, ◌<◌, vec_len};
+ghost use Rattle.sg_ops.specs.declared.TheConstants.{OPS_LIMIT};
+
+use crate::boxes::{
+    box_accepts, box_redo, box_render, box_undo, find_range, find_record, range_code, record_code,
+};
+use crate::range::RangeBox;
+use crate::record::RecordBox;
+use crate::shipped::fill;
+use crate::{OPS_LIMIT, RANGE_LIMIT};
+use std::alloc::Global;
+
+// The code of `fill`, for which there is no box.
+const FILL_CODE: u16 = 1;
+
+/// Why an operation was not registered, or an `Ops` not made.
+#[derive(Debug, Clone, Copy, PartialEq, Eq)]
+pub enum OpsError {
+    /// An operation of this sort has the code already.
+    CodeTaken,
+    /// As many operations of this sort are registered as an `Ops` holds.
+    TableFull,
+    /// Memory ran out.
+    Memory,
+}
+
+/// The registered operations: at most `OPS_LIMIT` record operations and as many range operations,
+/// each under a code of its own in its sort. The range operation `fill` is always there, under
+/// code 1: byte `position mod length` of the argument, and 0 for an empty one.
+#[derive(Drop)]
+pub struct Ops {
+    records: Vec<RecordBox>,
+    // All but `fill`.
+    ranges: Vec<RangeBox>,
+    ghost few_records: { vec_len records ≤ OPS_LIMIT },
+    ghost few_ranges: { vec_len ranges < OPS_LIMIT },
+}
+
+impl Ops {
+    ghost use Rattle.std.specs.Prelude.{◌≡◌, ◌≢◌, ◌↔◌, ◌+◌, ℕ, false, None, Some, length, IsTrue, is_some, MatchOption, IfOk, OnOk, OnErr, IsErrOf, IfErr, slice_index};
+    ghost use Rattle.sg_ops.specs.Laws.{IsLawful};
+    ghost use Rattle.sg_ops.specs.Table.{table_of_boxes, record_at, range_at, accepts_of, after_of, before_of, byte_of, fresh_table, AddsRecord, AddsRange};
+
+    /// An `Ops` that has `fill` alone. It answers no error but `Memory`.
+    pub fn new(alloc: Global) -> Result<Ops, OpsError>
+        ensures ok { IfOk result (λ ops. table_of_boxes record_meaning range_meaning ops ≡ fresh_table) }
+        ensures err { IfErr result (λ e. e ≡ OpsError.Memory) }
+    {
+        Ok(Ops {
+            records: Vec::new(alloc),
+            ranges: Vec::new(alloc),
+        })
+    }
+
+    /// Registers a record operation. Where it cannot, the table is unchanged and `op` is dropped:
+    /// `CodeTaken` where a record operation has its code, else `TableFull` where `OPS_LIMIT` are
+    /// registered, else `Memory`.
+    pub fn register_record(&mut self, op: RecordBox) -> Result<(), OpsError>
+        ensures ok { OnOk result (AddsRecord
+            (table_of_boxes record_meaning range_meaning self.old)
+            (table_of_boxes record_meaning range_meaning self.new)
+            (record_meaning op)) }
+        ensures err { OnErr result
+            (table_of_boxes record_meaning range_meaning self.new
+            ≡ table_of_boxes record_meaning range_meaning self.old) }
+        ensures taken { IsErrOf result OpsError.CodeTaken
+            ↔ IsTrue (is_some (record_at
+            (table_of_boxes record_meaning range_meaning self.old) (record_meaning op).code)) }
+        ensures full { let t = table_of_boxes record_meaning range_meaning self.old in
+            IsErrOf result OpsError.TableFull
+            ↔ ((record_at t (record_meaning op).code ≡ None) × (length t.records ≡ OPS_LIMIT)) }
+    {
+        if self.has_record(record_code(&op)) {
+            return Err(OpsError::CodeTaken);
+        }
+        if self.records.len() == OPS_LIMIT {
+            return Err(OpsError::TableFull);
+        }
+        match self.records.push(op) {
+            Ok(()) => Ok(()),
+            Err(_) => Err(OpsError::Memory),
+        }
+    }
+
+    /// Registers a range operation. Where it cannot, the table is unchanged and `op` is dropped:
+    /// `CodeTaken` where a range operation has its code, as `fill` has 1, else `TableFull` where
+    /// `OPS_LIMIT` are registered, `fill` among them, else `Memory`.
+    pub fn register_range(&mut self, op: RangeBox) -> Result<(), OpsError>
+        ensures ok { OnOk result (AddsRange
+            (table_of_boxes record_meaning range_meaning self.old)
+            (table_of_boxes record_meaning range_meaning self.new)
+            (range_meaning op)) }
+        ensures err { OnErr result
+            (table_of_boxes record_meaning range_meaning self.new
+            ≡ table_of_boxes record_meaning range_meaning self.old) }
+        ensures taken { IsErrOf result OpsError.CodeTaken
+            ↔ IsTrue (is_some (range_at
+            (table_of_boxes record_meaning range_meaning self.old) (range_meaning op).code)) }
+        ensures full { let t = table_of_boxes record_meaning range_meaning self.old in
+            IsErrOf result OpsError.TableFull
+            ↔ ((range_at t (range_meaning op).code ≡ None) × (length t.ranges ≡ OPS_LIMIT)) }
+    {
+        if self.has_range(range_code(&op)) {
+            return Err(OpsError::CodeTaken);
+        }
+        if self.ranges.len() == OPS_LIMIT - 1 {
+            return Err(OpsError::TableFull);
+        }
+        match self.ranges.push(op) {
+            Ok(()) => Ok(()),
+            Err(_) => Err(OpsError::Memory),
+        }
+    }
+
+    /// Whether a record operation has this code.
+    pub fn has_record(&self, code: u16) -> bool
+        ensures { result ≡ is_some (record_at (table_of_boxes record_meaning range_meaning self.now) code) }
+    {
+        self.record(code).is_some()
+    }
+
+    /// Whether a range operation has this code; one has 1.
+    pub fn has_range(&self, code: u16) -> bool
+        ensures { result ≡ is_some (range_at (table_of_boxes record_meaning range_meaning self.now) code) }
+    {
+        code == FILL_CODE || self.range(code).is_some()
+    }
+
+    /// Whether the record operation with this code accepts the item and the argument.
+    pub fn accepts(&self, code: u16, item: &[u8], arg: &[u8]) -> bool
+        requires { IsTrue (is_some (record_at (table_of_boxes record_meaning range_meaning self.now) code)) }
+        ensures { result ≡ accepts_of
+            (record_at (table_of_boxes record_meaning range_meaning self.now) code)
+            item.now arg.now }
+    {
+        match self.record(code) {
+            Some(op) => box_accepts(op, item, arg),
+            None => false,
+        }
+    }
+
+    /// Does the record operation with this code to an item that it accepts with this argument. The
+    /// item keeps its length.
+    pub fn redo(&self, code: u16, item: &mut [u8], arg: &[u8])
+        requires { IsTrue (accepts_of
+            (record_at (table_of_boxes record_meaning range_meaning self.now) code)
+            item.old arg.now) }
+        ensures { item.new ≡ after_of
+            (record_at (table_of_boxes record_meaning range_meaning self.now) code)
+            item.old arg.now }
+    {
+        match self.record(code) {
+            Some(op) => box_redo(op, item, arg),
+            None => {}
+        }
+    }
+
+    /// Undoes the record operation with this code, on any item with any argument. The item keeps
+    /// its length.
+    pub fn undo(&self, code: u16, item: &mut [u8], arg: &[u8])
+        requires { IsTrue (is_some (record_at (table_of_boxes record_meaning range_meaning self.now) code)) }
+        ensures { item.new ≡ before_of
+            (record_at (table_of_boxes record_meaning range_meaning self.now) code)
+            item.old arg.now }
+    {
+        match self.record(code) {
+            Some(op) => box_undo(op, item, arg),
+            None => {}
+        }
+    }
+
+    /// Sets byte k of `into` to the byte that the range operation with this code gives for `arg` at
+    /// the position `pos + k`, whatever stood there. The positions stay below `RANGE_LIMIT`.
+    pub fn render(&self, code: u16, pos: u32, arg: &[u8], into: &mut [u8])
+        requires registered { IsTrue (is_some (range_at (table_of_boxes record_meaning range_meaning self.now) code)) }
+        requires within { pos + length into.old ≤ RANGE_LIMIT }
+        ensures { (k : ℕ) → k < length into.old →
+            slice_index into.new k
+            ≡ byte_of (range_at (table_of_boxes record_meaning range_meaning self.now) code)
+            arg.now (pos + k) }
+    {
+        if code == FILL_CODE {
+            fill(pos, arg, into);
+        } else if let Some(op) = self.range(code) {
+            box_render(op, pos, arg, into);
+        }
+    }
+
+    /// Tells a proof that every registered operation keeps its law. It runs no code.
+    pub fn laws(&self)
+        ensures { IsLawful (table_of_boxes record_meaning range_meaning self.now) }
+    {}
+
+    // The box that is registered under this code.
+    fn record(&self, code: u16) -> Option<&RecordBox>
+        ensures { let found = record_at (table_of_boxes record_meaning range_meaning self.now) code in
+            MatchOption result (found ≡ None) (λ b. found ≡ Some (record_meaning b.now)) }
+    {
+        find_record(&self.records, code)
+    }
+
+    // The box that is registered under this code, which is not that of `fill`.
+    fn range(&self, code: u16) -> Option<&RangeBox>
+        requires { code ≢ FILL_CODE }
+        ensures { let found = range_at (table_of_boxes record_meaning range_meaning self.now) code in
+            MatchOption result (found ≡ None) (λ b. found ≡ Some (range_meaning b.now)) }
+    {
+        find_range(&self.ranges, code)
+    }
+}

@@ -1,0 +1,32 @@
+ghost use Rattle.std.specs.Prelude.{◌≡◌, IsTrue};
+ghost use Rattle.sg_ops.specs.Meaning.{RecordMeaning, IsUndoable};
+
+/// A record operation on its way into an `Ops`.
+pub type RecordBox = Box<dyn RecordOp + Send + Sync + Drop>;
+
+/// An operation on one item, with its undo. An item and an argument are byte strings of any length.
+///
+/// `record_meaning` says what it does, and `record_law` is the proof that its undo undoes it: with
+/// no such proof there is no operation.
+pub trait RecordOp {
+    ghost record_meaning: { Self → RecordMeaning };
+
+    /// The code under which it is registered.
+    fn code(&self) -> u16
+        ensures { result ≡ (record_meaning self.now).code };
+
+    /// Whether it may be done to this item with this argument; any item and argument may be asked.
+    fn accepts(&self, item: &[u8], arg: &[u8]) -> bool
+        ensures { result ≡ (record_meaning self.now).accepts item.now arg.now };
+
+    /// Does it, where it accepts the item and the argument. The item keeps its length.
+    fn redo(&self, item: &mut [u8], arg: &[u8])
+        requires { IsTrue ((record_meaning self.now).accepts item.old arg.now) }
+        ensures { item.new ≡ (record_meaning self.now).after item.old arg.now };
+
+    /// Undoes it, for any item and argument. The item keeps its length.
+    fn undo(&self, item: &mut [u8], arg: &[u8])
+        ensures { item.new ≡ (record_meaning self.now).before item.old arg.now };
+
+    ghost record_law: { (op : Self) → IsUndoable (record_meaning op) };
+}

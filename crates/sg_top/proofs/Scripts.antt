@@ -1,0 +1,149 @@
+-- How a script is read and run, piece by piece.
+use Rattle.std.proofs.Common.{◌≡◌, ◌==◌, inr, ℕ, ◌+◌, ◌<◌, ◌≤◌, Bool, List, [], ◌∷◌, ◌++◌, length, take, drop, Option, Some, None, IfSome, refl, sym, ap, ◌∙◌, subst, arith, append_assoc, append-nil, length-append}
+use Rattle.std.proofs.lemmas.List.{take-append-drop, length-take-le}
+use Rattle.sg_base.specs.Ends.{Gives, Takes, TakesFront}
+use Rattle.sg_disk.specs.Disk as disk
+use Rattle.sg_model.specs.History.{State}
+use Rattle.sg_words.specs.Order.{Order}
+use Rattle.sg_words.specs.Parse.{lines_of, order_of}
+use Rattle.sg_words.specs.Pieces.{behind}
+use Rattle.sg_words.specs.Text.{Answer, text_of, text_of_all}
+use Rattle.sg_words.proofs.Steps.{Takes-nothing}
+use Rattle.sg_words.proofs.Seams.{behind_nothing}
+use Rattle.sg_top.specs.Kept.{MOST_KEPT}
+use Rattle.sg_top.specs.Store.{Core, Shows}
+use Rattle.sg_top.specs.Goes.{Goes, Grows}
+use Rattle.sg_top.specs.Script.{Executed, HasRead}
+use Rattle.sg_top.specs.Feeding.{Feeds, Breaks}
+use Rattle.sg_top.specs.Ending.{MOST_BYTES, IsWhole, IsCutShort, IsTooLong, IsUnwritten, IsUnderWay}
+use Rattle.sg_top.proofs.Executing.{executed-none, executed-more, takes_more, takes_cut}
+use Rattle.sg_top.proofs.Feeds.{order_of-kept}
+
+pub HasRead-none : (source : Option (List ℕ)) → HasRead source [] source
+HasRead-none None = refl
+HasRead-none (Some all) = (all, refl, refl)
+
+-- one read more
+pub HasRead-more : (source : Option (List ℕ)) (text : List ℕ) (mid : Option (List ℕ)) (into : List ℕ) (n : ℕ) (left : Option (List ℕ)) → HasRead source text mid → Gives mid into n left → HasRead source (text ++ take n into) left
+HasRead-more None text mid into n left h given = subst (λ (m : Option (List ℕ)). Gives m into n left) h given
+HasRead-more (Some all) text mid into n left h given =
+    let g = subst (λ (m : Option (List ℕ)). Gives m into n left) h.1 given in
+    (drop n h.0, g.2, h.2 ∙ (ap (λ (r : List ℕ). text ++ r) (sym (take-append-drop n h.0)) ∙ (ap (λ (t : List ℕ). text ++ (t ++ drop n h.0)) (sym g.1) ∙ sym (append_assoc text (take n into) (drop n h.0)))))
+
+-- the read that finds the end
+pub HasRead-end : (source : Option (List ℕ)) (text : List ℕ) (mid : Option (List ℕ)) (into : List ℕ) (left : Option (List ℕ)) → 0 < length into → HasRead source text mid → Gives mid into 0 left → HasRead source text left × IfSome source (λ all. text ≡ all)
+HasRead-end None text mid into left some h given = (subst (λ (m : Option (List ℕ)). Gives m into 0 left) h given, tt)
+HasRead-end (Some all) text mid into left some h given =
+    let g = subst (λ (m : Option (List ℕ)). Gives m into 0 left) h.1 given in
+    ((h.0, g.2, h.2), sym (h.2 ∙ (ap (λ (r : List ℕ). text ++ r) (g.3 refl some) ∙ append-nil text)))
+
+module _ (told : Bool) (v : disk.View) (k : Core) (x : State) (source first : Option (List ℕ)) where
+  pub way_begins : (kept : List ℕ) → kept ≡ [] → Shows told v k x → IsUnderWay told v k x source source first first v k kept 0
+  way_begins kept nothing shows = record {
+    text = [];
+    read = HasRead-none source;
+    size = refl;
+    lines = [];
+    rest = [];
+    over = λ after. behind_nothing (λ b. b == 10) after;
+    before = record {
+      executed = executed-none told v k x (λ replies. Takes first replies first) (Takes-nothing first) shows;
+      later = omega arith;
+      grown = record { kept = omega arith; grown = inr (omega arith) };
+      pending = nothing;
+    };
+  }
+
+  -- a piece more
+  pub way_goes_on : (mid left now next : Option (List ℕ)) (w u : disk.View) (m n : Core) (had kept into piece : List ℕ) (total count : ℕ) → (h : IsUnderWay told v k x source mid first now w m had total) → Gives mid into count left → count ≤ length into → piece ≡ take count into
+      → Feeds told w m u n now next had piece kept → IsUnderWay told v k x source left first next u n kept (total + count)
+  way_goes_on mid left now next w u m n had kept into piece total count h given within is fed =
+      let a = fed v k x h.lines first h.rest h.before in
+      record {
+        text = h.text ++ piece;
+        read = subst (λ (p : List ℕ). HasRead source (h.text ++ p) left) (sym is) (HasRead-more source h.text mid into count left h.read given);
+        size = omega (arith, h.size, length-append h.text piece, ap length is, length-take-le count into within);
+        lines = h.lines ++ a.over;
+        rest = a.rest;
+        over = λ after. append_assoc h.lines a.over (behind a.rest (lines_of after)) ∙ (ap (λ (ls : List (List ℕ)). h.lines ++ ls) (a.goes_on after) ∙ (h.over (piece ++ after) ∙ ap lines_of (sym (append_assoc h.text piece after))));
+        before = a.so_far;
+      }
+
+  -- the last line, which no LF ends
+  last_lines : (lines : List (List ℕ)) (rest text : List ℕ) → ((after : List ℕ) → lines ++ behind rest (lines_of after) ≡ lines_of (text ++ after)) → lines ++ (rest ++ []) ∷ [] ≡ lines_of text
+  last_lines lines rest text over = over [] ∙ ap lines_of (append-nil text)
+
+  last_said : (rest had : List ℕ) → had ≡ take MOST_KEPT rest → order_of (rest ++ []) ≡ order_of had
+  last_said rest had pending = ap order_of (append-nil rest) ∙ (sym (order_of-kept rest) ∙ ap order_of (sym pending))
+
+  pub way_ends : (mid left now next : Option (List ℕ)) (w u : disk.View) (m n : Core) (had into : List ℕ) (total : ℕ) (answer : Answer) → (h : IsUnderWay told v k x source mid first now w m had total) → total ≤ MOST_BYTES → 0 < length into → Gives mid into 0 left
+      → w.faults ≤ u.faults → Grows m.log n.log w u → Goes told w m h.before.executed.after (order_of had) answer u n → Takes now (text_of answer) next → IsWhole told v k x source left first next u n
+  way_ends mid left now next w u m n had into total answer h short some given later grown goes takes =
+      let ended = HasRead-end source h.text mid into left some h.read given in
+      record {
+        text = h.text;
+        read = ended.0;
+        whole = ended.1;
+        short = omega (arith, h.size);
+        executed = subst (λ (ls : List (List ℕ)). Executed told v k x ls (λ replies. Takes first replies next) u n) (last_lines h.lines h.rest h.text h.over)
+          (executed-more told v k x h.lines _ (λ replies. Takes first replies next) w u m n (h.rest ++ []) answer h.before.later later h.before.grown grown.kept h.before.executed
+            (subst (λ (o : Order). Goes told w m h.before.executed.after o answer u n) (sym (last_said h.rest had h.before.pending)) goes) (takes_more first now next answer takes));
+      }
+
+  -- the sink fails at it
+  pub way_unwritten : (mid left now next : Option (List ℕ)) (w u : disk.View) (m n : Core) (had into : List ℕ) (total : ℕ) (answer : Answer) → (h : IsUnderWay told v k x source mid first now w m had total) → total ≤ MOST_BYTES → 0 < length into → Gives mid into 0 left
+      → w.faults ≤ u.faults → Grows m.log n.log w u → Goes told w m h.before.executed.after (order_of had) answer u n → TakesFront now (text_of answer) next → IsUnwritten told v k x source left first next u n
+  way_unwritten mid left now next w u m n had into total answer h short some given later grown goes takes =
+      let ended = HasRead-end source h.text mid into left some h.read given in
+      record {
+        text = h.text;
+        read = ended.0;
+        short = omega (arith, h.size);
+        lines = h.lines ++ (h.rest ++ []) ∷ [];
+        more = [];
+        front = append-nil (h.lines ++ (h.rest ++ []) ∷ []) ∙ last_lines h.lines h.rest h.text h.over;
+        executed = executed-more told v k x h.lines _ (λ replies. TakesFront first replies next) w u m n (h.rest ++ []) answer h.before.later later h.before.grown grown.kept h.before.executed
+            (subst (λ (o : Order). Goes told w m h.before.executed.after o answer u n) (sym (last_said h.rest had h.before.pending)) goes) (takes_cut first now next answer takes);
+      }
+
+  -- the sink fails within a piece
+  pub way_broken : (mid left now next : Option (List ℕ)) (w u : disk.View) (m n : Core) (had into piece : List ℕ) (total count : ℕ) → (h : IsUnderWay told v k x source mid first now w m had total) → total + count ≤ MOST_BYTES → Gives mid into count left → count ≤ length into → piece ≡ take count into
+      → Breaks told w m u n now next had piece → IsUnwritten told v k x source left first next u n
+  way_broken mid left now next w u m n had into piece total count h short given within is breaks =
+      let b = breaks v k x h.lines first h.rest h.before in
+      let f = b.front [] in
+      record {
+        text = h.text ++ piece;
+        read = subst (λ (p : List ℕ). HasRead source (h.text ++ p) left) (sym is) (HasRead-more source h.text mid into count left h.read given);
+        short = omega (arith, h.size, length-append h.text piece, ap length is, length-take-le count into within);
+        lines = h.lines ++ b.over;
+        more = f.0;
+        front = append_assoc h.lines b.over f.0 ∙ (ap (λ (ls : List (List ℕ)). h.lines ++ ls) f.1 ∙ (h.over (piece ++ []) ∙ ap (λ (p : List ℕ). lines_of (h.text ++ p)) (append-nil piece)));
+        executed = b.executed;
+      }
+
+  -- the source fails
+  pub way_unread : (mid left now : Option (List ℕ)) (w : disk.View) (m : Core) (had : List ℕ) (total : ℕ) → IsUnderWay told v k x source mid first now w m had total → total ≤ MOST_BYTES → left ≡ mid → IsCutShort told v k x source left first now w m
+  way_unread mid left now w m had total h short same = record {
+    text = h.text;
+    read = subst (HasRead source h.text) (sym same) h.read;
+    short = omega (arith, h.size);
+    lines = h.lines;
+    rest = h.rest;
+    over = h.over;
+    executed = h.before.executed;
+  }
+
+  -- the source gives too much
+  pub way_too_long : (mid left now : Option (List ℕ)) (w : disk.View) (m : Core) (had into : List ℕ) (total count : ℕ) → IsUnderWay told v k x source mid first now w m had total → total ≤ MOST_BYTES → MOST_BYTES < total + count → Gives mid into count left → count ≤ length into → IsTooLong told v k x source left first now w m
+  way_too_long mid left now w m had into total count h short long given within = record {
+    text = h.text;
+    piece = take count into;
+    read = HasRead-more source h.text mid into count left h.read given;
+    short = omega (arith, h.size);
+    long = omega (arith, h.size, long, length-append h.text (take count into), length-take-le count into within);
+    lines = h.lines;
+    rest = h.rest;
+    over = h.over;
+    executed = h.before.executed;
+  }

@@ -1,0 +1,39 @@
+-- A script that comes in pieces.
+use Rattle.std.specs.Prelude.{◌≡◌, ◌≤◌, ℕ, Bool, List, [], ◌∷◌, ◌++◌, Option, take}
+use Rattle.sg_base.specs.Ends.{Takes, TakesFront}
+use Rattle.sg_disk.specs.Disk as disk
+use Rattle.sg_model.specs.History.{State}
+use Rattle.sg_words.specs.Parse.{lines_of}
+use Rattle.sg_words.specs.Pieces.{behind}
+use Rattle.sg_top.specs.Kept.{MOST_KEPT}
+use Rattle.sg_top.specs.Store.{Core}
+use Rattle.sg_top.specs.Goes.{Grows}
+use Rattle.sg_top.specs.Script.{Executed}
+
+-- what was executed before a piece came, from a view v of the disk and a core k on
+pub record Before (told : Bool) (v : disk.View) (k : Core) (x : State) (lines : List (List ℕ)) (first now : Option (List ℕ)) (w : disk.View) (m : Core) (held kept : List ℕ) : Type 0 where
+  pub executed : Executed told v k x lines (λ text. Takes first text now) w m
+  pub later : v.faults ≤ w.faults
+  pub grown : Grows k.log m.log v w
+  -- what is kept of the line that hasn't ended yet
+  pub pending : kept ≡ take MOST_KEPT held
+
+-- Some lines were over in the piece, of which this is left, and were executed. Whatever comes after, the lines of all
+-- that was held and the piece are these, and then what is held now with what is left
+pub record After (told : Bool) (v : disk.View) (k : Core) (x : State) (lines : List (List ℕ)) (first now : Option (List ℕ)) (w : disk.View) (m : Core) (held piece left kept : List ℕ) : Type 0 where
+  pub over : List (List ℕ)
+  pub rest : List ℕ
+  pub so_far : Before told v k x (lines ++ over) first now w m rest kept
+  pub goes_on : (after : List ℕ) → over ++ behind rest (lines_of (left ++ after)) ≡ behind held (lines_of (piece ++ after))
+
+abbrev pub Feeds : Bool → disk.View → Core → disk.View → Core → Option (List ℕ) → Option (List ℕ) → List ℕ → List ℕ → List ℕ → Type 0
+Feeds told w m u n was now had piece kept = (v : disk.View) (k : Core) (x : State) (lines : List (List ℕ)) (first : Option (List ℕ)) (held : List ℕ) → Before told v k x lines first was w m held had → After told v k x lines first now u n held piece [] kept
+
+-- The sink failed at the last of these lines
+pub record Broken (told : Bool) (v : disk.View) (k : Core) (x : State) (lines : List (List ℕ)) (first now : Option (List ℕ)) (w : disk.View) (m : Core) (held piece : List ℕ) : Type 0 where
+  pub over : List (List ℕ)
+  pub executed : Executed told v k x (lines ++ over) (λ text. TakesFront first text now) w m
+  pub front : (after : List ℕ) → (more : List (List ℕ)) × (over ++ more ≡ behind held (lines_of (piece ++ after)))
+
+abbrev pub Breaks : Bool → disk.View → Core → disk.View → Core → Option (List ℕ) → Option (List ℕ) → List ℕ → List ℕ → Type 0
+Breaks told w m u n was now had piece = (v : disk.View) (k : Core) (x : State) (lines : List (List ℕ)) (first : Option (List ℕ)) (held : List ℕ) → Before told v k x lines first was w m held had → Broken told v k x lines first now u n held piece

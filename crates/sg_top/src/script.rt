@@ -1,0 +1,76 @@
+ghost use Rattle.std.specs.Prelude.{◌≡◌, ◌⊎◌, ◌≤◌, ◌<◌, ◌+◌, List, ℕ, Option, length};
+ghost use Rattle.sg_base.specs.Ends.{HasRisen};
+ghost use Rattle.sg_model.specs.History.{State};
+ghost use Rattle.sg_top.specs.Store.{Shows};
+ghost use Rattle.sg_top.specs.Goes.{Grows};
+ghost use Rattle.sg_top.specs.Script.{MayEnd};
+ghost use Rattle.sg_top.specs.Shown.{StopIsCaused};
+ghost use Rattle.sg_top.specs.Ending.{RunsTo};
+ghost use Rattle.sg_top.specs.Sessions.{session_core, session_disk, session_stop};
+
+use crate::buffer::LineBuffer;
+use crate::feed::feed;
+use crate::session::Session;
+use sg_base::{Sink, Source};
+use sg_disk::Disk;
+use std::alloc::Global;
+
+/// The most bytes of a script.
+const MOST_BYTES: u64 = 268_435_456;
+
+/// How the run of a script ends.
+#[derive(Clone, Copy, Debug, PartialEq, Eq)]
+pub enum RunEnd {
+    /// The script was read to its end.
+    Done,
+    /// The source failed.
+    Read,
+    /// The sink failed.
+    Write,
+    /// The source gave more than a script may have.
+    TooLong,
+}
+
+/// Executes the lines of a script as the source gives them.
+pub fn run_script<D: Disk, S: Source, K: Sink>(
+    alloc: Global,
+    session: &mut Session<D>,
+    script: &mut S,
+    out: &mut K,
+    piece: &mut [u8],
+) -> RunEnd
+    requires { 0 < length piece.old }
+    ensures ran { (x : State) → Shows D.told (D.view (session_disk session.old)) (session_core session.old) x
+        → RunsTo result D.told (D.view (session_disk session.old)) (session_core session.old) x (S.left script.old) (S.left script.new) (K.taken out.old) (K.taken out.new)
+            (D.view (session_disk session.new)) (session_core session.new) }
+    ensures cause { StopIsCaused (HasRisen (D.view (session_disk session.old)).faults (D.view (session_disk session.new)).faults)
+        (MayEnd (session_core session.old).log.gate (D.view (session_disk session.old)) (D.view (session_disk session.new))) (session_stop session.old) (session_stop session.new) }
+    ensures grown { Grows (session_core session.old).log (session_core session.new).log (D.view (session_disk session.old)) (D.view (session_disk session.new)) }
+    ensures disk { (D.view (session_disk session.old)).faults ≤ (D.view (session_disk session.new)).faults }
+    ensures source { S.faults script.old ≤ S.faults script.new }
+    ensures sink { K.faults out.old ≤ K.faults out.new }
+    ensures read { result ≡ RunEnd.Read → HasRisen (S.faults script.old) (S.faults script.new) }
+    ensures write { result ≡ RunEnd.Write → HasRisen (K.faults out.old) (K.faults out.new) }
+{
+    let mut line = LineBuffer::new();
+    let mut total: u64 = 0;
+    'pieces: loop {
+        let Ok(count) = script.read(piece) else {
+            return RunEnd::Read;
+        };
+        if count == 0 {
+            return match session.line(alloc, line.bytes(), out) {
+                Ok(()) => RunEnd::Done,
+                Err(_) => RunEnd::Write,
+            };
+        }
+        if count as u64 > MOST_BYTES - total {
+            return RunEnd::TooLong;
+        }
+        total += count as u64;
+        match feed(alloc, session, &mut line, &piece[..count], out) {
+            Ok(()) => {}
+            Err(_) => return RunEnd::Write,
+        }
+    }
+}
