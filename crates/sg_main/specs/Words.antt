@@ -1,5 +1,5 @@
 -- Which folder the words of the process name.
-use Rattle.std.specs.Prelude.{ℕ, List, [], ◌∷◌, Bool, ◌&&◌, Option, Some, None, if◌then◌else◌, codes, nat_lt, length}
+use Rattle.std.specs.Prelude.{ℕ, List, [], ◌∷◌, ◌&&◌, Option, Some, None, if◌then◌else◌, codes, nat_lt, length}
 use Rattle.std.specs.Str.{bytes_eq}
 
 abbrev pub folder_of_run : List ℕ → List ℕ → Option (List ℕ)
