@@ -1,0 +1,59 @@
+ghost use Rattle.std.specs.Prelude.{◌≡◌, Some};
+ghost use Rattle.sg_main.specs.Texts.{number_of, text_of, name_of};
+
+use crate::stub::Status;
+use sg_base::Area;
+use std::fmt;
+
+/// A status as it is printed.
+#[derive(Clone, Copy, Drop)]
+pub struct Shown(pub Status);
+
+// The name of the area as it is printed.
+fn area_name(area: Area) -> &'static str
+    ensures { result.now ≡ name_of area }
+{
+    match area {
+        Area::Home => "home",
+        Area::Log0 => "log0",
+        Area::Log1 => "log1",
+    }
+}
+
+/// The exit status of the process.
+pub fn exit_number(status: Status) -> u8
+    ensures { result ≡ number_of status }
+{
+    match status {
+        Status::Done => 0,
+        Status::Usage => 2,
+        Status::Memory => 3,
+        Status::Disk => 4,
+        Status::Read => 5,
+        Status::Write => 6,
+        Status::TooLong => 7,
+        Status::Damaged(_, _) => 9,
+        Status::LogEnd => 12,
+    }
+}
+
+impl fmt::Display for Shown {
+    ghost output = { λ shown. Some (text_of shown.0) };
+
+    fn fmt<W: fmt::Write>(&self, f: &mut fmt::Formatter<W>) -> fmt::Result {
+        match self.0 {
+            Status::Done => f.write_str(""),
+            Status::Usage => f.write_str("usage"),
+            Status::Memory => f.write_str("out of memory"),
+            Status::Disk => f.write_str("disk fault"),
+            Status::Read => f.write_str("read fault"),
+            Status::Write => f.write_str("write fault"),
+            Status::TooLong => f.write_str("script too long"),
+            Status::Damaged(area, at) => {
+                let name = area_name(area);
+                write!(f, "damaged {name} {at}")
+            }
+            Status::LogEnd => f.write_str("log end"),
+        }
+    }
+}
