@@ -1,5 +1,5 @@
-ghost use Rattle.std.specs.Prelude.{◌≡◌, ℕ, ◌+◌, ◌<◌, ◌≤◌, ◌↔◌, ◌⊎◌, MatchOption};
-ghost use Rattle.sg_segment.specs.Runs.{IsMarked, IsWithin, IsFirstRun, NoneFrom};
+ghost use Rattle.std.specs.Prelude.{◌≡◌, ℕ, ◌+◌, ◌<◌, ◌≤◌, ◌↔◌, ◌⊎◌, List, length, MatchOption};
+ghost use Rattle.sg_segment.specs.Runs.{IsMarked, IsWithin, IsFirstRun, NoneFrom, RunsFrom, InSomeRun};
 
 use crate::bits::{next_clear, next_set, set};
 use crate::window::WINDOW;
@@ -55,6 +55,21 @@ impl Dirty {
             return None;
         }
         Some((start, next_clear(words, start) - start))
+    }
+
+    /// How many maximal runs of marked bytes there are: going from run to run meets so many, and
+    /// they hold exactly the marked bytes.
+    pub fn run_count(&self) -> u32
+        ensures counted { (runs : List (ℕ × ℕ)) × (RunsFrom self.now 0 runs × (length runs ≡ result)) }
+        ensures all_marked { (runs : List (ℕ × ℕ)) → RunsFrom self.now 0 runs → (k : ℕ) → IsMarked self.now k ↔ InSomeRun runs k }
+    {
+        let mut from = 0;
+        let mut runs = 0;
+        'runs: while let Some((start, count)) = self.next_run(from) {
+            from = start + count;
+            runs += 1;
+        }
+        runs
     }
 
     /// No byte is marked from then on.
