@@ -6,9 +6,10 @@
 //! gives exactly the marked bytes, and a blind write leaves its range as given, marks it, and
 //! changes nothing else. No call takes memory, and each goes by words of 64 bits, not by bits.
 //!
-//! Which bytes a bit stands for is said in `dirty.rt` alone, and in the definition `marks_of` of
-//! `specs/Marks.antt` that goes with it: bit k for byte k. A unit of several bytes, as a sector of
-//! 512, is put in there. `word.rt` and `bits.rt` know only numbers of bits.
+//! The unit, one byte to a bit, is in `dirty.rt` alone, with `marks_of` of `specs/Marks.antt`: bit k
+//! stands for byte k. Sectors of 512 bytes are put in there: a bit for each, 64 bits in all, and a
+//! condition that a range is of whole sectors. `word.rt` and `bits.rt` know only numbers of bits,
+//! and `blind_write` only marks a range.
 #![tactic(auto)]
 
 mod bits;
