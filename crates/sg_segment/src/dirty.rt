@@ -60,7 +60,8 @@ impl Dirty {
     /// How many maximal runs of marked bytes there are: going from run to run meets so many, and
     /// they hold exactly the marked bytes.
     pub fn run_count(&self) -> u32
-        ensures counted { (runs : List (ℕ × ℕ)) × (RunsFrom self.now 0 runs × (length runs ≡ result)) }
+        ensures some { (runs : List (ℕ × ℕ)) × RunsFrom self.now 0 runs }
+        ensures counted { (runs : List (ℕ × ℕ)) → RunsFrom self.now 0 runs → length runs ≡ result }
         ensures all_marked { (runs : List (ℕ × ℕ)) → RunsFrom self.now 0 runs → (k : ℕ) → IsMarked self.now k ↔ InSomeRun runs k }
     {
         let mut from = 0;
