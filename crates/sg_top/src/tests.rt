@@ -79,7 +79,7 @@ const HOSTILE: [(&str, &str); 16] = [
     ("", ""),
     ("\n\n", ""),
     ("# t begin\n", ""),
-    ("t begin\r\n", "error syntax\n"),
+    ("t begin\r\nt commit\r", "ok\nok\n"),
     ("t", "error syntax\n"),
     ("t end", "error syntax\n"),
     ("begin t", "error syntax\n"),
