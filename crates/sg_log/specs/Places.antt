@@ -1,7 +1,8 @@
 -- Where the records of a log stand.
-use Rattle.std.specs.Prelude.{◌≡◌, ◌⊎◌, ◌≤◌, ◌+◌, ◌-◌, ℕ, List, [], ◌∷◌, ◌++◌, length, Option, Some, None}
+use Rattle.std.specs.Prelude.{◌≡◌, ◌⊎◌, ◌<◌, ◌≤◌, ◌+◌, ◌-◌, ℕ, List, [], ◌∷◌, ◌++◌, length, Option, Some, None}
 use Rattle.sg_disk.specs.Disk.{View, window}
 use Rattle.sg_record.specs.Records.{Record, spelled, spelled_all, IsRecord}
+use Rattle.sg_log.specs.Formed.{IsFormed}
 use Rattle.sg_log.specs.Frames.{text_of, Frames, gate_after}
 use Rattle.sg_log.specs.Held.{Tail, Holds}
 use Rattle.sg_log.specs.declared.place.Place.{Place}
@@ -62,6 +63,18 @@ pub record IsWaiting (log : Tail) (lsn : ℕ) (r : Record) : Type 0 where
 -- in one of the two
 abbrev pub IsThere : View → Tail → ℕ → Record → Type 0
 IsThere v log lsn r = IsDurable v log lsn r ⊎ IsWaiting log lsn r
+
+-- behind the gate of this number, a frame is formed whose body has so many bytes
+pub record IsFormedBehind (v : View) (log : Tail) (gate size : ℕ) : Type 0 where
+  pub rs : List Record
+  pub front : log.base ≤ gate
+  pub before : gate < log.gate
+  pub formed : IsFormed (v.now log.area).seen (gate - log.base) rs
+  pub long : size ≡ length (spelled_all rs)
+
+-- so many bytes of records stand behind the gate of this number: a frame's, or the buffer's
+abbrev pub IsSizeBehind : View → Tail → (gate size : ℕ) → Type 0
+IsSizeBehind v log gate size = ((gate ≡ log.gate) × (size ≡ length log.buffer)) ⊎ IsFormedBehind v log gate size
 
 -- these are the records behind the gate of this number, up to the last one in the buffer
 pub record StandBehind (v : View) (log : Tail) (gate : ℕ) (rest : List Placed) : Type 0 where

@@ -8,7 +8,7 @@ ghost use Rattle.sg_log.specs.Faults.{ForceFails, AppendFails, AttachFails};
 ghost use Rattle.sg_log.specs.Formed.{IsFormed, IsDamagedAt};
 ghost use Rattle.sg_log.specs.Frames.{Frames, HasRecords, IsBeforeOrAfter, SameElsewhere, LOG_END, GREATEST_BODY};
 ghost use Rattle.sg_log.specs.Held.{Tail, IsTail, Holds, tail_of, place_of, end_of, has_room, forced, buffered, appended, durable_after, waiting_after};
-ghost use Rattle.sg_log.specs.Places.{Placed, HoldsAt, StandsAt, first_of, IsRecordText, IsDurable, IsWaiting, IsThere, StandBehind};
+ghost use Rattle.sg_log.specs.Places.{Placed, HoldsAt, StandsAt, first_of, IsRecordText, IsDurable, IsWaiting, IsThere, IsSizeBehind, StandBehind};
 ghost use Rattle.sg_log.specs.Reads.{OnlyReads};
 
 use crate::frame::{seal, write_frame};
@@ -98,14 +98,16 @@ impl Log {
         ensures later { (D.view disk.old).faults ≤ (D.view disk.new).faults }
     {
         let mut frame = room(alloc)?;
-        let gate = find_gate(disk, area, base, &mut frame)?;
-        Ok(Log {
-            area,
-            base,
-            gate: base + gate,
-            used: 0,
-            frame,
-        })
+        match find_gate(disk, area, base, &mut frame) {
+            Ok(gate) => Ok(Log {
+                area,
+                base,
+                gate: base + gate,
+                used: 0,
+                frame,
+            }),
+            Err(fault) => Err(fault),
+        }
     }
 
     /// Its area.
@@ -186,12 +188,16 @@ impl Log {
         ensures reads { OnlyReads D.told (D.view disk.old) (D.view disk.new) }
         ensures calls { (D.view disk.new).calls ≤ (D.view disk.old).calls + 2 }
     {
-        let size = self.size_at(disk, place.lsn)?;
+        let tail = self.tail();
+        let size = match self.size_at(disk, place.lsn) {
+            Ok(size) => size,
+            Err(fault) => return Err(fault),
+        };
         let lsn = place.lsn + size;
         if lsn == place.frame_end {
             return self.first_behind(disk, lsn);
         }
-        if lsn > place.frame_end || place.frame_end > self.tail() {
+        if lsn > place.frame_end || place.frame_end > tail {
             return Err(LogFault::Disk);
         }
         let frame_end = place.frame_end;
@@ -222,7 +228,8 @@ impl Log {
     // Copies the buffered record there to the front of `into`, and answers its length.
     fn copy_waiting(&self, at: Lsn, into: &mut [u8]) -> Result<usize, LogFault>
         requires { GREATEST ≤ length into.old }
-        ensures record { (r : Record) → IsWaiting self.now at r → IfOk result (λ n. n ≡ length (spelled r)) }
+        ensures size { (r : Record) → IsWaiting self.now at r → IfOk result (λ n. n ≡ length (spelled r)) }
+        ensures text { (r : Record) → IsWaiting self.now at r → IfOk result (λ n. take n into.new ≡ spelled r) }
         ensures found { (r : Record) → IsWaiting self.now at r → IsOk result }
         ensures is_record { IfOk result (λ n. IsRecordText (take n into.new) n) }
         ensures fault { IfErr result (λ e. e ≡ LogFault.Disk) }
@@ -247,7 +254,8 @@ impl Log {
         requires room { GREATEST ≤ length into.old }
         requires front { self.now.base ≤ at }
         requires before { at < self.now.gate }
-        ensures record { (r : Record) → IsTrue D.told → IsDurable (D.view disk.old) self.now at r → IfOk result (λ n. n ≡ length (spelled r)) }
+        ensures size { (r : Record) → IsTrue D.told → IsDurable (D.view disk.old) self.now at r → IfOk result (λ n. n ≡ length (spelled r)) }
+        ensures text { (r : Record) → IsTrue D.told → IsDurable (D.view disk.old) self.now at r → IfOk result (λ n. take n into.new ≡ spelled r) }
         ensures failed { (r : Record) → IsTrue D.told → IsDurable (D.view disk.old) self.now at r → OnErr result (HasRisen (D.view disk.old).faults (D.view disk.new).faults) }
         ensures is_record { IfOk result (λ n. IsRecordText (take n into.new) n) }
         ensures fault { IfErr result (λ e. e ≡ LogFault.Disk) }
@@ -312,11 +320,9 @@ impl Log {
 
     // The length of the frame's body behind this gate, where the buffered records count as one.
     fn size_behind<D: Disk>(&self, disk: &mut D, gate: Lsn) -> Result<u64, LogFault>
-        ensures waiting { gate ≡ self.now.gate → result ≡ Ok (length self.now.buffer) }
-        ensures formed { (rs : List Record) → IsTrue D.told → self.now.base ≤ gate → gate < self.now.gate → IsFormed ((D.view disk.old).now self.now.area).seen (gate - self.now.base) rs →
-            IfOk result (λ n. n ≡ length (spelled_all rs)) }
-        ensures failed { (self.now.base ≤ gate) × (gate < self.now.gate) → OnErr result (HasRisen (D.view disk.old).faults (D.view disk.new).faults) }
-        ensures within { IfOk result (λ n. (gate ≤ self.now.gate) × (n < 2 ^ 32)) }
+        ensures size { (n : ℕ) → IsTrue D.told → IsSizeBehind (D.view disk.old) self.now gate n → IfOk result (λ k. k ≡ n) }
+        ensures failed { (n : ℕ) → IsTrue D.told → IsSizeBehind (D.view disk.old) self.now gate n → OnErr result (HasRisen (D.view disk.old).faults (D.view disk.new).faults) }
+        ensures within { IfOk result (λ n. (gate ≤ LOG_END) × (n < 2 ^ 32)) }
         ensures fault { IfErr result (λ e. e ≡ LogFault.Disk) }
         ensures reads { OnlyReads D.told (D.view disk.old) (D.view disk.new) }
         ensures calls { (D.view disk.new).calls ≤ (D.view disk.old).calls + 1 }
@@ -341,12 +347,16 @@ impl Log {
         ensures reads { OnlyReads D.told (D.view disk.old) (D.view disk.new) }
         ensures calls { (D.view disk.new).calls ≤ (D.view disk.old).calls + 1 }
     {
-        if gate == self.tail() {
+        let tail = self.tail();
+        if gate == tail {
             return Ok(None);
         }
-        let size = self.size_behind(disk, gate)?;
+        let size = match self.size_behind(disk, gate) {
+            Ok(size) => size,
+            Err(fault) => return Err(fault),
+        };
         let frame_end = gate + 5 + size;
-        if size == 0 || frame_end > self.tail() {
+        if size == 0 || frame_end > tail {
             return Err(LogFault::Disk);
         }
         let lsn = gate + 5;

@@ -82,10 +82,13 @@ pub fn find_gate<D: Disk>(
         OnOk result ((D.view disk.new).calls ≡ min ((D.view disk.old).calls + 1 + 2 * length frames) FULL) }
 {
     let mut at = 0;
-    'frames: while let Some(end) = read_frame(disk, area, base, at, space)? {
-        at = end;
+    'frames: loop {
+        match read_frame(disk, area, base, at, space) {
+            Ok(Some(end)) => at = end,
+            Ok(None) => return Ok(at),
+            Err(fault) => return Err(fault),
+        }
     }
-    Ok(at)
 }
 
 /// The length of the body of the frame whose gate is at this offset.
@@ -134,11 +137,13 @@ pub fn read_record<D: Disk>(
     count: usize,
     into: &mut [u8],
 ) -> Result<Option<usize>, Failed>
-    requires at { at ≤ LOG_END }
+    requires at { at + count ≤ LOG_END }
     requires short { count ≤ GREATEST }
     requires room { GREATEST ≤ length into.old }
     ensures found { (r : Record) → IsTrue D.told → IsRecord r → length (spelled r) ≤ count → window ((D.view disk.old).now area).seen at (length (spelled r)) ≡ spelled r →
         IfOk result (λ n. n ≡ Some (length (spelled r))) }
+    ensures text { (r : Record) → IsTrue D.told → length (spelled r) ≤ count → window ((D.view disk.old).now area).seen at (length (spelled r)) ≡ spelled r →
+        OnOk result (take (length (spelled r)) into.new ≡ spelled r) }
     ensures is_record { IfOk result (λ n. IfSome n (λ n. IsRecordText (take n into.new) n)) }
     ensures reads { OnlyReads D.told (D.view disk.old) (D.view disk.new) }
     ensures failed { OnErr result (HasRisen (D.view disk.old).faults (D.view disk.new).faults) }
