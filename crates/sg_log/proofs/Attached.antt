@@ -1,5 +1,5 @@
 -- What an attached log holds, and why an attach fails.
-use Rattle.std.proofs.Common.{◌≡◌, ◌⊎◌, inl, inr, ℕ, ◌+◌, ◌≤◌, Bool, IsTrue, List, [], ◌∷◌, Result, Ok, Err, refl, sym, ◌∙◌, ap, subst, arith}
+use Rattle.std.proofs.Common.{◌≡◌, ◌⊎◌, inl, inr, ℕ, ◌+◌, ◌≤◌, Bool, IsTrue, List, [], Result, Err, refl, ap, subst, arith}
 use Rattle.sg_base.specs.declared.area.Area.{Area}
 use Rattle.sg_disk.specs.Disk.{View}
 use Rattle.sg_record.specs.Records.{Record}
@@ -10,7 +10,7 @@ use Rattle.sg_log.specs.Formed.{IsDamagedAt}
 use Rattle.sg_log.specs.Frames.{LOG_END, Frames, gate_after, records_of, HasRecords}
 use Rattle.sg_log.specs.Held.{Tail, Holds}
 use Rattle.sg_log.specs.Reads.{OnlyReads}
-use Rattle.sg_log.proofs.Chain.{undamaged, damaged_once}
+use Rattle.sg_log.proofs.Chain.{damaged_once}
 use Rattle.sg_log.proofs.Holding.{holds_along}
 use Rattle.sg_log.proofs.Unique.{HasRecords-one}
 

@@ -1,5 +1,5 @@
 -- Formed frames one after another, up to a closed gate or a damage.
-use Rattle.std.proofs.Common.{◌≡◌, ◌⊎◌, inl, inr, ℕ, suc, min, ◌+◌, ◌*◌, ◌<◌, ◌≤◌, Bool, IsTrue, List, [], ◌∷◌, ◌++◌, length, refl, sym, ◌∙◌, ap, subst, arith, length-append}
+use Rattle.std.proofs.Common.{◌≡◌, ℕ, min, ◌+◌, ◌*◌, ◌≤◌, Bool, IsTrue, List, [], ◌∷◌, ◌++◌, length, refl, sym, ◌∙◌, ap, subst, arith, length-append}
 use Rattle.byteorder.specs.Endian.{little_number}
 use Rattle.sg_base.specs.declared.area.Area.{Area}
 use Rattle.sg_disk.specs.Disk.{Bytes, State, View, FULL, window}
@@ -126,8 +126,8 @@ pub walk_ends : {told : Bool} {area : Area} {base at : ℕ} {old mid new : View}
 walk_ends {told = told} {area = area} {base = base} {at = at} {old = old} {mid = mid} {new = new} h shut calls =
     let f = (old.now area).seen in
     let stand : (sure : IsTrue told) → Frames f 0 (h.lead sure).frames = λ sure.
-        let l = h.lead sure in
-        formed_closed f 0 l.frames l.lead (subst (λ (n : ℕ). f n ≡ 1 → ⊥) l.there (subst (λ (x : Bytes). x at ≡ 1 → ⊥) (seen_same h.reads sure area) (shut sure))) in
+    let l = h.lead sure in
+    formed_closed f 0 l.frames l.lead (subst (λ (n : ℕ). f n ≡ 1 → ⊥) l.there (subst (λ (x : Bytes). x at ≡ 1 → ⊥) (seen_same h.reads sure area) (shut sure))) in
     record {
       gate = λ sure. ((h.lead sure).frames, stand sure, (h.lead sure).there);
       calls = λ frames sure k.

@@ -6,7 +6,7 @@ use Rattle.sg_disk.specs.Disk.{Bytes, window}
 use Rattle.sg_record.specs.Records.{Record, spelled, spelled_all}
 use Rattle.sg_record.proofs.Spelling.{spelled-long}
 use Rattle.sg_log.specs.Formed.{IsWhole, IsFormed, IsUnformed}
-use Rattle.sg_log.specs.Frames.{GREATEST_BODY, LOG_END, text_of, gate_after}
+use Rattle.sg_log.specs.Frames.{GREATEST_BODY, LOG_END, gate_after}
 use Rattle.sg_log.proofs.Holding.{text-length}
 use Rattle.sg_log.proofs.Windows.{window-add, window_front, window_back}
 

@@ -1,7 +1,7 @@
 -- Runs of calls that only read.
-use Rattle.std.proofs.Common.{◌≡◌, ◌≤◌, ◌+◌, ℕ, ◌<◌, Bool, IsTrue, Result, Ok, Err, OnErr, refl, sym, ◌∙◌, ap, subst, arith}
+use Rattle.std.proofs.Common.{◌≡◌, ◌≤◌, ℕ, Bool, IsTrue, Result, Ok, Err, OnErr, refl, ◌∙◌, subst, arith}
 use Rattle.sg_base.specs.Ends.{HasRisen}
-use Rattle.sg_disk.specs.Disk.{Image, State, View, Leaves, LeavesOnly, Counts, ReadBytes}
+use Rattle.sg_disk.specs.Disk.{State, View, Leaves, LeavesOnly, Counts, ReadBytes}
 use Rattle.sg_disk.proofs.Moments.{started, joined}
 use Rattle.sg_log.specs.Reads.{OnlyReads}
 use Rattle.sg_log.proofs.Holding.{moments_read}

@@ -1,5 +1,5 @@
 -- Where the records stand that a log holds.
-use Rattle.std.proofs.Common.{◌≡◌, ◌⊎◌, inl, inr, ⊎_elim, ℕ, ◌+◌, ◌-◌, ◌<◌, ◌≤◌, List, [], ◌∷◌, ◌++◌, length, Option, Some, None, refl, sym, ◌∙◌, ap, subst, arith, length-append, append_assoc}
+use Rattle.std.proofs.Common.{◌≡◌, ◌⊎◌, inl, inr, ⊎_elim, ℕ, ◌+◌, ◌-◌, ◌<◌, ◌≤◌, List, [], ◌∷◌, ◌++◌, length, Option, Some, refl, sym, ◌∙◌, ap, subst, arith, length-append, append_assoc}
 use Rattle.sg_disk.specs.Disk.{Bytes, State, View, window}
 use Rattle.sg_record.specs.Records.{Record, spelled, spelled_all, IsRecord, AreRecords}
 use Rattle.sg_record.proofs.Spelling.{spelled-long}
@@ -7,8 +7,8 @@ use Rattle.sg_log.specs.Formed.{IsFormed}
 use Rattle.sg_log.specs.Frames.{text_of, Frames, gate_after}
 use Rattle.sg_log.specs.Held.{Tail, Holds, tail_of}
 use Rattle.sg_log.specs.declared.place.Place.{Place}
-use Rattle.sg_log.specs.Places.{Placed, places_from, places_in, HoldsAt, first_of, StandsAt, IsDurable, IsWaiting, IsThere, IsFormedBehind, IsSizeBehind, StandBehind}
-use Rattle.sg_log.proofs.Formed.{formed_body, formed_some, formed_end}
+use Rattle.sg_log.specs.Places.{Placed, places_from, places_in, HoldsAt, first_of, StandsAt, IsDurable, IsWaiting, IsThere, IsSizeBehind, StandBehind}
+use Rattle.sg_log.proofs.Formed.{formed_body}
 use Rattle.sg_log.proofs.Holding.{text-length, tail_at_gate, tail_behind, tail_empty}
 use Rattle.sg_log.proofs.Steps.{gate_later}
 use Rattle.sg_log.proofs.Windows.{window_front, window_back}
@@ -110,8 +110,8 @@ in_frames base at (rs ∷ frames) front p rest e =
     ⊎_elim
     (λ a. record { before = []; rs = rs; after = frames; split = refl; more = a.more; frame = in_frame base end (at + 5) rs front p a.more a.split; are = a.are })
     (λ b.
-      let h = in_frames base end frames b.left p rest b.split in
-      record { before = rs ∷ h.before; rs = h.rs; after = h.after; split = ap (λ (xs : List (List Record)). rs ∷ xs) h.split; more = h.more; frame = h.frame; are = h.are })
+    let h = in_frames base end frames b.left p rest b.split in
+    record { before = rs ∷ h.before; rs = h.rs; after = h.after; split = ap (λ (xs : List (List Record)). rs ∷ xs) h.split; more = h.more; frame = h.frame; are = h.are })
     (in_either (places_from base end (at + 5) rs) (places_in base end frames) front p rest e)
 
 -- one of a list and a last one more
@@ -217,32 +217,32 @@ stands {v = v} {log = log} {ds = ds} {ps = ps} h front p rest e =
     let end = gate + 1 + length (text_of (spelled_all w.rs)) in
     ⊎_elim
     (λ a.
-      let k = Frames-behind f 0 w.before (w.rs ∷ a.more) (subst (Frames f 0) a.split h.holds.stand) in
-      let formed : IsFormed f gate w.rs = record { gate = k.0; frame = k.1; text = k.2 } in
-      let last : log.gate ≡ log.base + gate_after end a.more = h.holds.at_gate ∙ ap (λ (n : ℕ). log.base + n) (ap (gate_after 0) a.split ∙ gate_behind 0 w.before (w.rs ∷ a.more)) in
-      let within : log.base + end ≤ log.gate = omega (arith, gate_later end a.more) in
-      record {
-        there = inl (there_durable v log gate w.rs w.frame.before p.1 w.frame.after p.0.lsn formed w.frame.split w.frame.lsn within);
-        goes_on = ⊎_elim
-            (λ i. inl i)
-            (λ l. inr (record {
-              ends = l.0;
-              behind = inl (record { at = end; gate_is = w.frame.frame_end; frames = a.more; stand = k.3; last_gate = last; ps = ps; waiting = h.holds.waiting; are = l.1 ∙ ap (places_in log.base end) a.are });
-            }))
-            (inside_or_last log p rest w.more (places_in log.base end w.after) end (gate + 5) w.rs w.frame (frame_long gate w.rs) w.are (omega (arith, tail_at_gate log)));
-      })
+    let k = Frames-behind f 0 w.before (w.rs ∷ a.more) (subst (Frames f 0) a.split h.holds.stand) in
+    let formed : IsFormed f gate w.rs = record { gate = k.0; frame = k.1; text = k.2 } in
+    let last : log.gate ≡ log.base + gate_after end a.more = h.holds.at_gate ∙ ap (λ (n : ℕ). log.base + n) (ap (gate_after 0) a.split ∙ gate_behind 0 w.before (w.rs ∷ a.more)) in
+    let within : log.base + end ≤ log.gate = omega (arith, gate_later end a.more) in
+    record {
+      there = inl (there_durable v log gate w.rs w.frame.before p.1 w.frame.after p.0.lsn formed w.frame.split w.frame.lsn within);
+      goes_on = ⊎_elim
+          (λ i. inl i)
+          (λ l. inr (record {
+            ends = l.0;
+            behind = inl (record { at = end; gate_is = w.frame.frame_end; frames = a.more; stand = k.3; last_gate = last; ps = ps; waiting = h.holds.waiting; are = l.1 ∙ ap (places_in log.base end) a.are });
+          }))
+          (inside_or_last log p rest w.more (places_in log.base end w.after) end (gate + 5) w.rs w.frame (frame_long gate w.rs) w.are (omega (arith, tail_at_gate log)));
+    })
     (λ b.
-      let at_gate : log.gate ≡ log.base + gate = h.holds.at_gate ∙ ap (λ (xs : List (List Record)). log.base + gate_after 0 xs) b.split in
-      let size : length log.buffer ≡ length (spelled_all w.rs) = ap length h.holds.waiting ∙ ap (λ (xs : List Record). length (spelled_all xs)) b.same in
-      let some : 0 < length log.buffer = omega (arith, split_length w.rs w.frame.before p.1 w.frame.after w.frame.split, spelled-long p.1) in
-      let whole : log.base + end ≡ tail_of log = omega (arith, frame_long gate w.rs, tail_behind log some) in
-      record {
-        there = inr (there_waiting h.holds gate w.frame.before p.1 w.frame.after p.0.lsn (b.same ∙ w.frame.split) w.frame.lsn at_gate);
-        goes_on = ⊎_elim
-            (λ i. inl i)
-            (λ l. inr (record { ends = l.0; behind = inr (w.frame.frame_end ∙ whole, l.1 ∙ ap (places_in log.base end) b.none) }))
-            (inside_or_last log p rest w.more (places_in log.base end w.after) end (gate + 5) w.rs w.frame (frame_long gate w.rs) w.are (omega arith));
-      })
+    let at_gate : log.gate ≡ log.base + gate = h.holds.at_gate ∙ ap (λ (xs : List (List Record)). log.base + gate_after 0 xs) b.split in
+    let size : length log.buffer ≡ length (spelled_all w.rs) = ap length h.holds.waiting ∙ ap (λ (xs : List Record). length (spelled_all xs)) b.same in
+    let some : 0 < length log.buffer = omega (arith, split_length w.rs w.frame.before p.1 w.frame.after w.frame.split, spelled-long p.1) in
+    let whole : log.base + end ≡ tail_of log = omega (arith, frame_long gate w.rs, tail_behind log some) in
+    record {
+      there = inr (there_waiting h.holds gate w.frame.before p.1 w.frame.after p.0.lsn (b.same ∙ w.frame.split) w.frame.lsn at_gate);
+      goes_on = ⊎_elim
+          (λ i. inl i)
+          (λ l. inr (record { ends = l.0; behind = inr (w.frame.frame_end ∙ whole, l.1 ∙ ap (places_in log.base end) b.none) }))
+          (inside_or_last log p rest w.more (places_in log.base end w.after) end (gate + 5) w.rs w.frame (frame_long gate w.rs) w.are (omega arith));
+    })
     (last_or_not h.holds.frames ps w.before w.rs w.after w.split)
 
 -- an entry with this number and record

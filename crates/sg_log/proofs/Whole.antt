@@ -1,5 +1,5 @@
 -- Which bytes are whole records.
-use Rattle.std.proofs.Common.{◌≡◌, ℕ, ◌+◌, ◌-◌, ◌<◌, ◌≤◌, List, [], ◌∷◌, ◌++◌, length, take, drop, refl, sym, ◌∙◌, ap, subst, arith, length-append, length-drop, length-take}
+use Rattle.std.proofs.Common.{◌≡◌, ℕ, ◌+◌, ◌-◌, ◌<◌, ◌≤◌, List, [], ◌∷◌, ◌++◌, length, take, drop, refl, sym, ◌∙◌, ap, subst, arith, length-drop, length-take}
 use Rattle.std.proofs.lemmas.List.{take-append-drop, drop-drop, nil_from_length}
 use Rattle.std.proofs.Math.Seq.{take-length}
 use Rattle.sg_record.specs.Records.{Record, spelled, spelled_all, IsRecord, AreRecords}

@@ -90,6 +90,8 @@ impl Log {
         ensures damaged { (at : ℕ) → IsTrue D.told → IsDamagedAt ((D.view disk.old).now area).seen base at →
             (result ≡ Err (LogFault.Damaged at)) ⊎ ((result ≡ Err LogFault.Disk) ⊎ (result ≡ Err LogFault.Memory)) }
         ensures faults { IfErr result (λ e. AttachFails D.told area base (D.view disk.old) (D.view disk.new) e) }
+        // For want of memory no call is made.
+        ensures memory { result ≡ Err LogFault.Memory → disk.new ≡ disk.old }
         ensures unchanged { IsTrue D.told → (D.view disk.new).now ≡ (D.view disk.old).now }
         ensures any_moment { IsTrue D.told → LeavesOnly (D.view disk.old) (D.view disk.new) (Leaves (D.view disk.old).now) }
         ensures handed { (D.view disk.new).handed ≡ (D.view disk.old).handed }

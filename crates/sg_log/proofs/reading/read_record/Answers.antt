@@ -1,4 +1,4 @@
-use Rattle.std.proofs.Common.{◌≡◌, ◌≤◌, ◌+◌, ◌-◌, ◌++◌, ◌∙◌, length, take, drop, ap, refl, arith, length-take}
+use Rattle.std.proofs.Common.{◌≡◌, ◌≤◌, ◌+◌, ◌-◌, ◌++◌, ◌∙◌, length, drop, refl, arith, length-take}
 use Rattle.sg_disk.specs.Disk.{window}
 use Rattle.sg_record.specs.Records.{spelled}
 use Rattle.sg_log.proofs.Runs.{reads_one}

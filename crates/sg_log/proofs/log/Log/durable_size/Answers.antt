@@ -1,4 +1,4 @@
-use Rattle.std.proofs.Common.{◌≡◌, ◌≤◌, ◌+◌, ◌-◌, length, sym, subst, arith}
+use Rattle.std.proofs.Common.{◌≡◌, ◌≤◌, ◌+◌, length, sym, subst, arith}
 use Rattle.sg_record.specs.Records.{spelled}
 use Rattle.sg_record.proofs.Spelling.{spelled-long}
 use Rattle.sg_log.specs.Held.{Tail}

@@ -20,10 +20,10 @@ returns-in-Err-clause-failed g c rest told behind = ⊎_elim
 pub returns-then-size-eq0-clause-failed : goal.returns-then-size-eq0-clause-failed
 returns-then-size-eq0-clause-failed g c rest told behind = ⊎_elim
     (λ n.
-      let within : c.args.gate + 5 + n.size ≤ tail_of c.args.self.now = n.within in
-      let some : 0 < n.size = n.some in
-      let size : c.in-Ok.size ≡ n.size = c.in-Ok.ensures.size n.size told n.is in
-      elim c.then-size-eq0.branch [ then-size-eq0-via-then-size-eq0 w ↦ absurd (omega arith) | then-size-eq0-via-else-size-eq0+then-frame_end-tail w ↦ absurd (omega arith) ])
+    let within : c.args.gate + 5 + n.size ≤ tail_of c.args.self.now = n.within in
+    let some : 0 < n.size = n.some in
+    let size : c.in-Ok.size ≡ n.size = c.in-Ok.ensures.size n.size told n.is in
+    elim c.then-size-eq0.branch [ then-size-eq0-via-then-size-eq0 w ↦ absurd (omega arith) | then-size-eq0-via-else-size-eq0+then-frame_end-tail w ↦ absurd (omega arith) ])
     (λ end. let at_tail : c.args.gate ≡ tail_of c.args.self.now = end.tail in absurd (c.if-gate-tail.false (at_tail ∙ sym c.tail-tail.ensures)))
     (next_frame behind)
 

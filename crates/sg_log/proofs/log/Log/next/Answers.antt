@@ -23,9 +23,9 @@ returns-then-lsn-place-clause-next g c ds ps front rest r told h =
     ⊎_elim
     (λ i. let before : c.args.place.lsn + length (spelled r) < c.args.place.frame_end = i.before in absurd (omega arith))
     (λ l. ⊎_elim
-      (λ b. c.first_behind.ensures.first rest told (subst (λ (n : ℕ). StandBehind (g.D.Disk.view c.size_at.new.disk) c.args.self.now n rest) (sym end) (behind_along (c.size_at.ensures.reads.unchanged told) b)))
-      (λ (e : (c.args.place.frame_end ≡ tail_of c.args.self.now) × (rest ≡ [])). let none = c.first_behind.ensures.end (end ∙ e.0) in rw none (ap first_of (sym e.1)))
-      l.behind)
+    (λ b. c.first_behind.ensures.first rest told (subst (λ (n : ℕ). StandBehind (g.D.Disk.view c.size_at.new.disk) c.args.self.now n rest) (sym end) (behind_along (c.size_at.ensures.reads.unchanged told) b)))
+    (λ (e : (c.args.place.frame_end ≡ tail_of c.args.self.now) × (rest ≡ [])). let none = c.first_behind.ensures.end (end ∙ e.0) in rw none (ap first_of (sym e.1)))
+    l.behind)
     s.goes_on
 
 pub returns-then-lsn-place-clause-failed : goal.returns-then-lsn-place-clause-failed
@@ -36,10 +36,10 @@ returns-then-lsn-place-clause-failed g c ds ps front rest r told h =
     ⊎_elim
     (λ i. let before : c.args.place.lsn + length (spelled r) < c.args.place.frame_end = i.before in absurd (omega arith))
     (λ l. ⊎_elim
-      (λ b. failed_later (g.D.Disk.view c.args.disk.now).faults (g.D.Disk.view c.size_at.new.disk).faults (g.D.Disk.view c.first_behind.new.disk).faults c.first_behind.result c.size_at.ensures.reads.later
-        (c.first_behind.ensures.failed rest told (subst (λ (n : ℕ). StandBehind (g.D.Disk.view c.size_at.new.disk) c.args.self.now n rest) (sym end) (behind_along (c.size_at.ensures.reads.unchanged told) b))))
-      (λ e. let none = c.first_behind.ensures.end (end ∙ e.0) in rw none tt)
-      l.behind)
+    (λ b. failed_later (g.D.Disk.view c.args.disk.now).faults (g.D.Disk.view c.size_at.new.disk).faults (g.D.Disk.view c.first_behind.new.disk).faults c.first_behind.result c.size_at.ensures.reads.later
+    (c.first_behind.ensures.failed rest told (subst (λ (n : ℕ). StandBehind (g.D.Disk.view c.size_at.new.disk) c.args.self.now n rest) (sym end) (behind_along (c.size_at.ensures.reads.unchanged told) b))))
+    (λ e. let none = c.first_behind.ensures.end (end ∙ e.0) in rw none tt)
+    l.behind)
     s.goes_on
 
 pub returns-then-lsn-place-2-clause-failed : goal.returns-then-lsn-place-2-clause-failed
@@ -48,9 +48,9 @@ returns-then-lsn-place-2-clause-failed g c ds ps front rest r told h =
     let size : c.in-Ok.size ≡ length (spelled r) = c.in-Ok.ensures.size r told s.there in
     ⊎_elim
     (λ i.
-      let before : c.args.place.lsn + length (spelled r) < c.args.place.frame_end = i.before in
-      let within : c.args.place.frame_end ≤ tail_of c.args.self.now = i.within in
-      elim c.then-lsn-place-2.branch [ then-lsn-place-2-via-then-lsn-place-2 w ↦ absurd (omega arith) | then-lsn-place-2-via-else-lsn-place-2+then-place-tail w ↦ absurd (omega arith) ])
+    let before : c.args.place.lsn + length (spelled r) < c.args.place.frame_end = i.before in
+    let within : c.args.place.frame_end ≤ tail_of c.args.self.now = i.within in
+    elim c.then-lsn-place-2.branch [ then-lsn-place-2-via-then-lsn-place-2 w ↦ absurd (omega arith) | then-lsn-place-2-via-else-lsn-place-2+then-place-tail w ↦ absurd (omega arith) ])
     (λ l. let ends : c.args.place.lsn + length (spelled r) ≡ c.args.place.frame_end = l.ends in let other = c.if-lsn-place.false in absurd (omega arith))
     s.goes_on
 
