@@ -1,5 +1,5 @@
 -- The program's words, and how a run of it ends.
-use Rattle.std.specs.Prelude.{◌≡◌, ◌≤◌, ℕ, Bool, false, IsTrue, List, [], ◌∷◌, codes, string_bytes, String, Option, Some, None}
+use Rattle.std.specs.Prelude.{◌≡◌, ◌≤◌, ℕ, Bool, false, IsTrue, List, [], ◌∷◌, codes, string_bytes, String, Option, Some, None, is_some}
 use Rattle.std.specs.Str.{bytes_eq}
 use Rattle.std.specs.declared.alloc.Global.{Global}
 use Rattle.sg_disk.specs.Disk as disk
@@ -68,5 +68,6 @@ pub record Ran (told : Bool) (v w : disk.View) (source left first now : Option (
   pub last : Core
   pub stop : Option code_stop.Stop
   pub caused : StopIsCaused (HasRisen opened.faults w.faults) (MayEnd core.log.gate opened w) None stop
+  pub stopped : last.stopped ≡ is_some stop
   pub runs : RunsTo end told opened core (start objects) source left first now w last
   pub status_is : status ≡ status_of end stop

@@ -1,4 +1,4 @@
-ghost use Rattle.std.specs.Prelude.{◌≡◌, ◌≤◌, ◌<◌, ◌+◌, List, ℕ, length, Option, Some, None, IsSome, IsTrue, IfOk, IfErr, OnOk, MatchOption, true, false, is_some};
+ghost use Rattle.std.specs.Prelude.{[], ◌≡◌, ◌≤◌, ◌<◌, ◌+◌, List, ℕ, length, Option, Some, None, IsSome, IsTrue, IfOk, IfErr, OnOk, MatchOption, true, false, is_some};
 ghost use Rattle.std.specs.Option.{option_to_list};
 ghost use Rattle.std.specs.Str.{bytes_eq};
 ghost use Rattle.sg_base.specs.Ends.{HasRisen};
@@ -21,7 +21,9 @@ ghost use Rattle.sg_log.specs.Held.{Holds, tail_of, end_of, appended, durable_af
 ghost use Rattle.sg_top.specs.Store.{Shows};
 ghost use Rattle.sg_top.specs.Goes.{Goes, Grows, NEW_WORK_END};
 ghost use Rattle.sg_top.specs.Shown.{shown_answer, live_of, core_of, answer_at, stop_at, IsFullAnswer, StopIsCaused, refusal_at};
-ghost use Rattle.sg_top.specs.Opening.{Opens, StaysShut};
+ghost use Rattle.sg_top.specs.Opening.{Opens, StaysShut, IsRefusedFor};
+ghost use Rattle.sg_base.specs.declared.area.Area.TheVariants.{Log0};
+ghost use Rattle.sg_log.specs.Reads.{OnlyReads};
 
 use crate::answer::Answer;
 use crate::opening::{OpenRefused, Unopened};
@@ -76,11 +78,33 @@ fn refusal(fault: LogFault) -> OpenRefused
 {
     match fault {
         LogFault::Memory => OpenRefused::Memory,
-        LogFault::Damaged { at } => OpenRefused::Damaged {
-            area: Area::Log0,
-            at,
-        },
+        LogFault::Damaged { at: _ } => NOT_EMPTY,
         LogFault::Disk | LogFault::LogEnd => OpenRefused::DiskFault,
+    }
+}
+
+// A log that has frames can't be opened yet.
+const NOT_EMPTY: OpenRefused = OpenRefused::Damaged {
+    area: Area::Log0,
+    at: 0,
+};
+
+// The log of a store, where it is empty.
+fn attach_empty<D: Disk>(alloc: Global, disk: &mut D) -> Result<Log, OpenRefused>
+    ensures log { IfOk result (λ log. log ≡ record { area = Log0; base = 0; gate = 0; buffer = [] }) }
+    ensures holds { IsTrue D.told → ((D.view disk.old).now Log0).pending ≡ [] → IfOk result (λ log. Holds (D.view disk.new) log [] []) }
+    ensures refused { (IsTrue D.told → ((D.view disk.old).now Log0).pending ≡ []) → IfErr result (λ why. IsRefusedFor why D.told (D.view disk.old) (D.view disk.new)) }
+    ensures reads { OnlyReads D.told (D.view disk.old) (D.view disk.new) }
+{
+    match Log::attach(alloc, disk, Area::Log0, 0) {
+        Ok(log) => {
+            if log.durable() > 0 {
+                drop(log);
+                return Err(NOT_EMPTY);
+            }
+            Ok(log)
+        }
+        Err(fault) => Err(refusal(fault)),
     }
 }
 
@@ -99,7 +123,7 @@ impl<D: Disk> Store<D> {
                 return Err(Unopened { why, disk });
             }
         }
-        match Log::attach(alloc, &mut disk, Area::Log0, 0) {
+        match attach_empty(alloc, &mut disk) {
             Ok(log) => Ok(Store {
                 disk,
                 log,
@@ -107,10 +131,7 @@ impl<D: Disk> Store<D> {
                 live: None,
                 stop: None,
             }),
-            Err(fault) => {
-                let why = refusal(fault);
-                Err(Unopened { why, disk })
-            }
+            Err(why) => Err(Unopened { why, disk }),
         }
     }
 

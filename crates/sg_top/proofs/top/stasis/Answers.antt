@@ -1,4 +1,4 @@
-use Rattle.std.proofs.Common.{◌≡◌, inr, sym, ap, subst, arith, ℕ}
+use Rattle.std.proofs.Common.{◌≡◌, inr, is_some, sym, ap, subst, arith, ℕ}
 use Rattle.sg_base.specs.Ends.{HasRisen}
 use Rattle.sg_disk.specs.Disk as disk
 use Rattle.sg_model.specs.History.{start}
@@ -54,6 +54,7 @@ returns-clause-run g c is_run =
         last = session_core n;
         stop = c.finish-stop.result.0;
         caused = was_running (HasRisen (g.D.Disk.view (session_disk o)).faults (g.D.Disk.view (session_disk n)).faults) _ (session_stop o) (session_stop n) c.finish-stop.result.0 c.in-Ok-start.ensures.running c.finish-stop.ensures.stop c.run_script-end.ensures.cause;
+        stopped = ap is_some (sym c.finish-stop.ensures.stop);
         runs = c.run_script-end.ensures.ran (start c.in-Ok-start.ensures.opens.first) c.in-Ok-start.ensures.opens.shows;
         status_is = c.status_of-status.ensures;
       }))
