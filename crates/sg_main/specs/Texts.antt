@@ -2,8 +2,8 @@
 use Rattle.std.specs.Prelude.{ℕ, List, [], ◌++◌, codes, decimal}
 use Rattle.sg_base.specs.declared.area.Area.{Area}
 use Rattle.sg_base.specs.declared.area.Area.TheVariants.{Home, Log0, Log1}
-use Rattle.sg_main.specs.declared.stub.Status.{Status}
-use Rattle.sg_main.specs.declared.stub.Status.TheVariants.{Done, Usage, Memory, Disk, Read, Write, TooLong, Damaged, LogEnd}
+use Rattle.sg_top.specs.declared.status.Status.{Status}
+use Rattle.sg_top.specs.declared.status.Status.TheVariants.{Done, Usage, Memory, Disk, Read, Write, TooLong, Damaged, LogEnd}
 
 -- the exit status of the process
 abbrev pub number_of : Status → ℕ

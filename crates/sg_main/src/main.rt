@@ -13,11 +13,10 @@ ghost use Rattle.sg_main.specs.Words.{folder_in};
 
 mod folder;
 mod status;
-mod stub;
 
 use crate::folder::FolderDisk;
 use crate::status::{Shown, exit_number};
-use crate::stub::{Finish, Status, stasis};
+use sg_top::{Finish, Status, stasis};
 use sg_base::{ReadSource, WriteSink};
 use sg_disk::Disk;
 use std::alloc::Global;
@@ -36,7 +35,7 @@ fn folder_of(words: &[String]) -> Option<&str>
     ensures { option_copied result ≡ folder_in (map string_bytes words.now) }
 {
     match words {
-        [command, folder] | [command, folder, _, _]
+        [command, folder]
             if command.as_str() == "run" && !folder.as_str().is_empty() => { Some(folder.as_str()) }
         _ => None,
     }
@@ -47,11 +46,7 @@ fn perform<D: Disk + Drop>(rt: &HostRuntime, alloc: Global, words: &[String], di
     // Neither end keeps bytes back, so nothing is left to be flushed.
     let mut script = ReadSource::new(rt.stdin());
     let mut out = WriteSink::new(rt.stdout());
-    let Finish {
-        status,
-        disk: _,
-        refused: _,
-    } = stasis(alloc, words, disk, &mut script, &mut out);
+    let Finish { status, disk: _ } = stasis(alloc, words, disk, &mut script, &mut out);
     status
 }
 

@@ -1,7 +1,7 @@
 ghost use Rattle.std.specs.Prelude.{◌≡◌, Some};
 ghost use Rattle.sg_main.specs.Texts.{number_of, text_of, name_of};
 
-use crate::stub::Status;
+use sg_top::Status;
 use sg_base::Area;
 use std::fmt;
 
