@@ -39,10 +39,10 @@ none_waiting (p ∷ ps) none = absurd (omega (arith, length-append (spelled p) (
 pub text-length : (body : List ℕ) → length (text_of body) ≡ length body + 4
 text-length body = omega arith
 
-tail_at_gate : (log : Tail) → log.gate ≤ tail_of log
+pub tail_at_gate : (log : Tail) → log.gate ≤ tail_of log
 tail_at_gate log = grind (arith, nat_tests)
 
-tail_behind : (log : Tail) → 0 < length log.buffer → tail_of log ≡ log.gate + 5 + length log.buffer
+pub tail_behind : (log : Tail) → 0 < length log.buffer → tail_of log ≡ log.gate + 5 + length log.buffer
 tail_behind log some = grind (arith, nat_tests)
 
 -- where a log holds records, each image that a crash may leave has its durable ones
@@ -267,3 +267,6 @@ tail_forced log = grind (arith, nat_tests)
 -- an append ends near the tail before it
 pub end_near : (log : Tail) (r : Record) → IsRecord r → end_of log r ≤ tail_of log + 10 + GREATEST
 end_near log r good = let most = spelled_most r good in grind (arith, nat_tests)
+
+pub tail_empty : (log : Tail) → length log.buffer ≡ 0 → tail_of log ≡ log.gate
+tail_empty log none = grind (arith, nat_tests)

@@ -3,6 +3,7 @@ use Rattle.std.specs.Prelude.{◌≡◌, ◌<◌, ℕ, Bool, IsTrue}
 use Rattle.sg_base.specs.Ends.{HasRisen}
 use Rattle.sg_base.specs.declared.area.Area.{Area}
 use Rattle.sg_disk.specs.Disk.{View}
+use Rattle.sg_log.specs.Formed.{IsUnformed, IsDamagedAt}
 use Rattle.sg_log.specs.Frames.{LOG_END}
 use Rattle.sg_log.specs.declared.fault.LogFault.{LogFault}
 use Rattle.sg_log.specs.declared.fault.LogFault.TheVariants.{Disk, LogEnd, Damaged, Memory}
@@ -21,9 +22,23 @@ AppendFails end old new LogEnd = LOG_END < end
 AppendFails end old new (Damaged at) = ⊥
 AppendFails end old new Memory = ⊥
 
--- an attach fails only where the disk does, where the log isn't empty, or for want of memory
-abbrev pub AttachFails : Bool → Area → View → View → LogFault → Type 0
-AttachFails told area old new Disk = HasRisen old.faults new.faults
-AttachFails told area old new LogEnd = ⊥
-AttachFails told area old new (Damaged at) = (at ≡ 0) × (IsTrue told → (old.now area).seen 0 ≡ 1)
-AttachFails told area old new Memory = Unit {0}
+-- the reading of a frame fails only where the disk does, or where no frame is formed at this offset
+abbrev pub FrameFails : Bool → Area → (base at : ℕ) → View → View → LogFault → Type 0
+FrameFails told area base at old new Disk = HasRisen old.faults new.faults
+FrameFails told area base at old new LogEnd = ⊥
+FrameFails told area base at old new (Damaged there) = (there ≡ at) × (IsTrue told → IsUnformed (old.now area).seen base at)
+FrameFails told area base at old new Memory = ⊥
+
+-- the search for the closed gate fails only where the disk does, or where the log is damaged
+abbrev pub WalkFails : Bool → Area → ℕ → View → View → LogFault → Type 0
+WalkFails told area base old new Disk = HasRisen old.faults new.faults
+WalkFails told area base old new LogEnd = ⊥
+WalkFails told area base old new (Damaged at) = IsTrue told → IsDamagedAt (old.now area).seen base at
+WalkFails told area base old new Memory = ⊥
+
+-- an attach fails only where the disk does, where the log is damaged, or for want of memory
+abbrev pub AttachFails : Bool → Area → ℕ → View → View → LogFault → Type 0
+AttachFails told area base old new Disk = HasRisen old.faults new.faults
+AttachFails told area base old new LogEnd = ⊥
+AttachFails told area base old new (Damaged at) = IsTrue told → IsDamagedAt (old.now area).seen base at
+AttachFails told area base old new Memory = Unit {0}

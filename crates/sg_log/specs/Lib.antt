@@ -1,3 +1,6 @@
 pub mod Faults
+pub mod Formed
 pub mod Frames
 pub mod Held
+pub mod Places
+pub mod Reads

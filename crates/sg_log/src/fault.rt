@@ -10,7 +10,8 @@ pub enum LogFault {
     Disk,
     /// The record would end after byte 2^63 of the log.
     LogEnd,
-    /// No log can be read from this offset of the area on.
+    /// The log can't be read on from this offset of the area: the gate there is open, and the frame
+    /// behind it isn't formed.
     Damaged { at: u64 },
     /// There was not enough memory.
     Memory,

@@ -10,9 +10,12 @@
 mod fault;
 mod frame;
 mod log;
+mod place;
+mod reading;
 
 pub use fault::LogFault;
 pub use log::Log;
+pub use place::Place;
 
 #[cfg(test)]
 mod tests;

@@ -1,15 +1,19 @@
-ghost use Rattle.std.specs.Prelude.{false, ◌≡◌, ◌⊎◌, ◌≤◌, ◌<◌, ◌+◌, ◌^◌, ◌++◌, ◌==◌, ◌∷◌, [], ℕ, List, length, take, drop, min, IsTrue, IsErr, IfOk, IfErr, OnOk, OnErr, if◌then◌else◌};
+ghost use Rattle.std.specs.Prelude.{false, ◌≡◌, ◌⊎◌, ◌≤◌, ◌<◌, ◌+◌, ◌-◌, ◌*◌, ◌^◌, ◌++◌, ◌==◌, ◌∷◌, [], ℕ, List, length, take, drop, min, None, IsTrue, IsErr, IsOk, IsSome, IfOk, IfErr, IfSome, OnOk, OnErr, OnSome, if◌then◌else◌, ◌↔◌};
 ghost use Rattle.sg_base.specs.declared.area.Area.TheVariants.{Home, Log0, Log1};
 ghost use Rattle.sg_base.specs.Ends.{HasRisen};
 ghost use Rattle.sg_disk.specs.Disk.{FULL, Image, Leaves, LeavesOnly, window};
-ghost use Rattle.sg_record.specs.Records.{Record, spelled, spelled_all, IsRecord};
+ghost use Rattle.sg_record.specs.Records.{Record, GREATEST, spelled, spelled_all, IsRecord};
 ghost use Rattle.sg_record.specs.Shown.{shown};
 ghost use Rattle.sg_log.specs.Faults.{ForceFails, AppendFails, AttachFails};
-ghost use Rattle.sg_log.specs.Frames.{HasRecords, IsBeforeOrAfter, SameElsewhere, LOG_END, GREATEST_BODY};
+ghost use Rattle.sg_log.specs.Formed.{IsFormed, IsDamagedAt};
+ghost use Rattle.sg_log.specs.Frames.{Frames, HasRecords, IsBeforeOrAfter, SameElsewhere, LOG_END, GREATEST_BODY};
 ghost use Rattle.sg_log.specs.Held.{Tail, IsTail, Holds, tail_of, place_of, end_of, has_room, forced, buffered, appended, durable_after, waiting_after};
+ghost use Rattle.sg_log.specs.Places.{Placed, HoldsAt, StandsAt, first_of, IsRecordText, IsDurable, IsWaiting, IsThere, IsSizeBehind, StandBehind};
+ghost use Rattle.sg_log.specs.Reads.{OnlyReads};
 
-use crate::LogFault;
 use crate::frame::{seal, write_frame};
+use crate::reading::{body_size, find_gate, read_record, record_size, size_of_first};
+use crate::{LogFault, Place};
 use sg_base::{Area, Lsn};
 use sg_disk::Disk;
 use sg_record::{Rec, encode, size};
@@ -60,9 +64,12 @@ fn zeros(alloc: Global, count: usize) -> Result<Vec<u8>, AllocError>
 }
 
 impl Log {
-    /// The log in this area, whose first byte has the number `base`. For now the log has to be empty:
-    /// where its first gate is open it answers `Damaged { at: 0 }`. The caller has synced the area.
-    /// It writes nothing.
+    /// The log in this area, whose first byte has the number `base`. It reads the log frame by frame,
+    /// up to the first closed gate, behind which the next force writes. The caller has synced the
+    /// area. It takes its memory before it reads, and writes nothing.
+    ///
+    /// It answers `Damaged` exactly where a frame with an open gate isn't formed: its length isn't 1
+    /// to 65,536, its body isn't whole records, or it ends behind byte 2^63 of the log.
     pub fn attach<D: Disk>(
         alloc: Global,
         disk: &mut D,
@@ -71,30 +78,291 @@ impl Log {
     ) -> Result<Log, LogFault>
         requires log_area { (area ≡ Log0) ⊎ (area ≡ Log1) }
         requires base { base ≤ LOG_END }
-        ensures log { IfOk result (λ log. log ≡ record { area = area; base = base; gate = base; buffer = [] }) }
-        ensures holds { IsTrue D.told → ((D.view disk.old).now area).pending ≡ [] → IfOk result (λ log. Holds (D.view disk.new) log [] []) }
-        ensures faults { IfErr result (λ e. AttachFails D.told area (D.view disk.old) (D.view disk.new) e) }
-        // Where the gate is open it is found so, if the disk reads it.
-        ensures damaged { IsTrue D.told → ((D.view disk.old).now area).seen 0 ≡ 1 → (result ≡ Err (LogFault.Damaged 0)) ⊎ (result ≡ Err LogFault.Disk) }
+        ensures log { IfOk result (λ log. log ≡ record { area = area; base = base; gate = log.gate; buffer = [] }) }
+        // The log holds what the area has, where nothing in it is pending,
+        ensures holds { IsTrue D.told → ((D.view disk.old).now area).pending ≡ [] →
+            IfOk result (λ log. (ds : List Record) × HasRecords ((D.view disk.old).now area).seen base ds × Holds (D.view disk.new) log ds []) }
+        // that is, the area's records where it has records at all.
+        ensures records { (ds : List Record) → IsTrue D.told → ((D.view disk.old).now area).pending ≡ [] → HasRecords ((D.view disk.old).now area).seen base ds →
+            IfOk result (λ log. Holds (D.view disk.new) log ds []) }
+        ensures undamaged { (ds : List Record) (at : ℕ) → IsTrue D.told → HasRecords ((D.view disk.old).now area).seen base ds → result ≡ Err (LogFault.Damaged at) → ⊥ }
+        // A damage is found, if the disk reads it and there is memory.
+        ensures damaged { (at : ℕ) → IsTrue D.told → IsDamagedAt ((D.view disk.old).now area).seen base at →
+            (result ≡ Err (LogFault.Damaged at)) ⊎ ((result ≡ Err LogFault.Disk) ⊎ (result ≡ Err LogFault.Memory)) }
+        ensures faults { IfErr result (λ e. AttachFails D.told area base (D.view disk.old) (D.view disk.new) e) }
+        // For want of memory no call is made.
+        ensures memory { result ≡ Err LogFault.Memory → disk.new ≡ disk.old }
         ensures unchanged { IsTrue D.told → (D.view disk.new).now ≡ (D.view disk.old).now }
         ensures any_moment { IsTrue D.told → LeavesOnly (D.view disk.old) (D.view disk.new) (Leaves (D.view disk.old).now) }
         ensures handed { (D.view disk.new).handed ≡ (D.view disk.old).handed }
-        ensures calls { (D.view disk.new).calls ≡ min ((D.view disk.old).calls + 1) FULL }
+        ensures calls { (frames : List (List Record)) → IsTrue D.told → Frames ((D.view disk.old).now area).seen 0 frames →
+            OnOk result ((D.view disk.new).calls ≡ min ((D.view disk.old).calls + 1 + 2 * length frames) FULL) }
         ensures later { (D.view disk.old).faults ≤ (D.view disk.new).faults }
     {
-        let mut gate = [0];
-        disk.read_at(area, 0, &mut gate)?;
-        if gate[0] == 1 {
-            return Err(LogFault::Damaged { at: 0 });
+        let mut frame = room(alloc)?;
+        match find_gate(disk, area, base, &mut frame) {
+            Ok(gate) => Ok(Log {
+                area,
+                base,
+                gate: base + gate,
+                used: 0,
+                frame,
+            }),
+            Err(fault) => Err(fault),
         }
-        let frame = room(alloc)?;
-        Ok(Log {
-            area,
-            base,
-            gate: base,
-            used: 0,
-            frame,
-        })
+    }
+
+    /// Its area.
+    pub fn area(&self) -> Area
+        ensures { result ≡ self.now.area }
+    {
+        self.area
+    }
+
+    /// The number of the first byte of its area.
+    pub fn base(&self) -> Lsn
+        ensures { result ≡ self.now.base }
+    {
+        self.base
+    }
+
+    /// The number of the closed gate behind the last frame: the durable records end before it.
+    pub fn durable(&self) -> Lsn
+        ensures { result ≡ self.now.gate }
+    {
+        self.gate
+    }
+
+    /// Reads the record whose first byte has the number `at` into the front of `into`, and answers how
+    /// many bytes it has: at most 32,789. It reads buffered records too.
+    ///
+    /// It answers `Disk` only where the disk fails, or where no record stands there: that is so where
+    /// `at` isn't the number of a record of this log, or the disk isn't the log's.
+    pub fn read<D: Disk>(&self, disk: &mut D, at: Lsn, into: &mut [u8]) -> Result<usize, LogFault>
+        requires { GREATEST ≤ length into.old }
+        ensures record { (ds ps : List Record) (held : List Placed) (r : Record) → IsTrue D.told → HoldsAt (D.view disk.old) self.now ds ps held → StandsAt held at r →
+            IfOk result (λ n. take n into.new ≡ spelled r) }
+        ensures size { (ds ps : List Record) (held : List Placed) (r : Record) → IsTrue D.told → HoldsAt (D.view disk.old) self.now ds ps held → StandsAt held at r →
+            IfOk result (λ n. n ≡ length (spelled r)) }
+        ensures failed { (ds ps : List Record) (held : List Placed) (r : Record) → IsTrue D.told → HoldsAt (D.view disk.old) self.now ds ps held → StandsAt held at r →
+            OnErr result (HasRisen (D.view disk.old).faults (D.view disk.new).faults) }
+        // On any disk, what it answers is a record.
+        ensures is_record { IfOk result (λ n. IsRecordText (take n into.new) n) }
+        ensures fault { IfErr result (λ e. e ≡ LogFault.Disk) }
+        ensures reads { OnlyReads D.told (D.view disk.old) (D.view disk.new) }
+        ensures calls { (D.view disk.new).calls ≤ (D.view disk.old).calls + 1 }
+    {
+        if self.is_before_gate(at) {
+            self.read_durable(disk, at, into)
+        } else {
+            self.copy_waiting(at, into)
+        }
+    }
+
+    /// Where the first record stands, if there is one. Its number is the base and 5.
+    ///
+    /// It answers `Disk` only where the disk fails, or isn't the log's.
+    pub fn first<D: Disk>(&self, disk: &mut D) -> Result<Option<Place>, LogFault>
+        ensures first { (ds ps : List Record) (held : List Placed) → IsTrue D.told → HoldsAt (D.view disk.old) self.now ds ps held → IfOk result (λ first. first ≡ first_of held) }
+        ensures failed { (ds ps : List Record) (held : List Placed) → IsTrue D.told → HoldsAt (D.view disk.old) self.now ds ps held →
+            OnErr result (HasRisen (D.view disk.old).faults (D.view disk.new).faults) }
+        ensures within { IfOk result (λ first. IfSome first (λ p. p.lsn < tail_of self.now)) }
+        ensures fault { IfErr result (λ e. e ≡ LogFault.Disk) }
+        ensures reads { OnlyReads D.told (D.view disk.old) (D.view disk.new) }
+        ensures calls { (D.view disk.new).calls ≤ (D.view disk.old).calls + 1 }
+    {
+        self.first_behind(disk, self.base)
+    }
+
+    /// Where the record behind the one at this place stands, or none behind the last one. The buffered
+    /// records come behind the durable ones.
+    ///
+    /// It answers `Disk` only where the disk fails, or where no record stands at this place: that is so
+    /// where `first` or `next` didn't answer it, since the last append or force.
+    pub fn next<D: Disk>(&self, disk: &mut D, place: Place) -> Result<Option<Place>, LogFault>
+        ensures next { (ds ps : List Record) (front rest : List Placed) (r : Record) → IsTrue D.told → HoldsAt (D.view disk.old) self.now ds ps (front ++ (place, r) ∷ rest) →
+            IfOk result (λ next. next ≡ first_of rest) }
+        ensures failed { (ds ps : List Record) (front rest : List Placed) (r : Record) → IsTrue D.told → HoldsAt (D.view disk.old) self.now ds ps (front ++ (place, r) ∷ rest) →
+            OnErr result (HasRisen (D.view disk.old).faults (D.view disk.new).faults) }
+        // On any disk, a walk ends.
+        ensures onward { IfOk result (λ next. IfSome next (λ p. (place.lsn < p.lsn) × (p.lsn < tail_of self.now))) }
+        ensures fault { IfErr result (λ e. e ≡ LogFault.Disk) }
+        ensures reads { OnlyReads D.told (D.view disk.old) (D.view disk.new) }
+        ensures calls { (D.view disk.new).calls ≤ (D.view disk.old).calls + 2 }
+    {
+        let tail = self.tail();
+        let size = match self.size_at(disk, place.lsn) {
+            Ok(size) => size,
+            Err(fault) => return Err(fault),
+        };
+        let lsn = place.lsn + size;
+        if lsn == place.frame_end {
+            return self.first_behind(disk, lsn);
+        }
+        if lsn > place.frame_end || place.frame_end > tail {
+            return Err(LogFault::Disk);
+        }
+        let frame_end = place.frame_end;
+        Ok(Some(Place { lsn, frame_end }))
+    }
+
+    // The buffered bytes from this number on, or none where it is no buffered byte's.
+    fn waiting_from(&self, at: Lsn) -> Option<&[u8]>
+        ensures bytes { IfSome result (λ b. b.now ≡ drop (at - (self.now.gate + 5)) self.now.buffer) }
+        ensures within { OnSome result ((self.now.gate + 5 ≤ at) × (at < self.now.gate + 5 + length self.now.buffer)) }
+        ensures found { self.now.gate + 5 ≤ at → at < self.now.gate + 5 + length self.now.buffer → IsSome result }
+    {
+        let start = self.gate + 5;
+        if at < start || at >= start + self.used as u64 {
+            return None;
+        }
+        let from = (at - start) as usize;
+        Some(&self.frame[4 + from..4 + self.used])
+    }
+
+    // Whether this number is of a byte of the area, before the last gate.
+    fn is_before_gate(&self, at: Lsn) -> bool
+        ensures { IsTrue result ↔ (self.now.base ≤ at) × (at < self.now.gate) }
+    {
+        self.base <= at && at < self.gate
+    }
+
+    // Copies the buffered record there to the front of `into`, and answers its length.
+    fn copy_waiting(&self, at: Lsn, into: &mut [u8]) -> Result<usize, LogFault>
+        requires { GREATEST ≤ length into.old }
+        ensures size { (r : Record) → IsWaiting self.now at r → IfOk result (λ n. n ≡ length (spelled r)) }
+        ensures text { (r : Record) → IsWaiting self.now at r → IfOk result (λ n. take n into.new ≡ spelled r) }
+        ensures found { (r : Record) → IsWaiting self.now at r → IsOk result }
+        ensures is_record { IfOk result (λ n. IsRecordText (take n into.new) n) }
+        ensures fault { IfErr result (λ e. e ≡ LogFault.Disk) }
+    {
+        let Some(bytes) = self.waiting_from(at) else {
+            return Err(LogFault::Disk);
+        };
+        let Some(size) = size_of_first(bytes) else {
+            return Err(LogFault::Disk);
+        };
+        into[..size].copy_from_slice(&bytes[..size]);
+        Ok(size)
+    }
+
+    // Reads the durable record there to the front of `into`, and answers its length.
+    fn read_durable<D: Disk>(
+        &self,
+        disk: &mut D,
+        at: Lsn,
+        into: &mut [u8],
+    ) -> Result<usize, LogFault>
+        requires room { GREATEST ≤ length into.old }
+        requires front { self.now.base ≤ at }
+        requires before { at < self.now.gate }
+        ensures size { (r : Record) → IsTrue D.told → IsDurable (D.view disk.old) self.now at r → IfOk result (λ n. n ≡ length (spelled r)) }
+        ensures text { (r : Record) → IsTrue D.told → IsDurable (D.view disk.old) self.now at r → IfOk result (λ n. take n into.new ≡ spelled r) }
+        ensures failed { (r : Record) → IsTrue D.told → IsDurable (D.view disk.old) self.now at r → OnErr result (HasRisen (D.view disk.old).faults (D.view disk.new).faults) }
+        ensures is_record { IfOk result (λ n. IsRecordText (take n into.new) n) }
+        ensures fault { IfErr result (λ e. e ≡ LogFault.Disk) }
+        ensures reads { OnlyReads D.told (D.view disk.old) (D.view disk.new) }
+        ensures calls { (D.view disk.new).calls ≤ (D.view disk.old).calls + 1 }
+    {
+        let left = self.gate - at;
+        let most = if left < 32_789 { left as usize } else { 32_789 };
+        let size = read_record(disk, self.area, at - self.base, most, into)?;
+        size.ok_or(LogFault::Disk)
+    }
+
+    // The length of the buffered record there.
+    fn waiting_size(&self, at: Lsn) -> Result<u64, LogFault>
+        ensures size { (r : Record) → IsWaiting self.now at r → IfOk result (λ n. n ≡ length (spelled r)) }
+        ensures found { (r : Record) → IsWaiting self.now at r → IsOk result }
+        ensures within { IfOk result (λ n. (0 < n) × (at + n ≤ tail_of self.now)) }
+        ensures fault { IfErr result (λ e. e ≡ LogFault.Disk) }
+    {
+        let Some(bytes) = self.waiting_from(at) else {
+            return Err(LogFault::Disk);
+        };
+        let Some(size) = size_of_first(bytes) else {
+            return Err(LogFault::Disk);
+        };
+        Ok(size as u64)
+    }
+
+    // The length of the durable record there.
+    fn durable_size<D: Disk>(&self, disk: &mut D, at: Lsn) -> Result<u64, LogFault>
+        requires front { self.now.base ≤ at }
+        requires before { at < self.now.gate }
+        ensures size { (r : Record) → IsTrue D.told → IsDurable (D.view disk.old) self.now at r → IfOk result (λ n. n ≡ length (spelled r)) }
+        ensures failed { (r : Record) → IsTrue D.told → IsDurable (D.view disk.old) self.now at r → OnErr result (HasRisen (D.view disk.old).faults (D.view disk.new).faults) }
+        ensures within { IfOk result (λ n. (0 < n) × (at + n ≤ self.now.gate)) }
+        ensures fault { IfErr result (λ e. e ≡ LogFault.Disk) }
+        ensures reads { OnlyReads D.told (D.view disk.old) (D.view disk.new) }
+        ensures calls { (D.view disk.new).calls ≤ (D.view disk.old).calls + 1 }
+    {
+        let size = record_size(disk, self.area, at - self.base)? as u64;
+        if size == 0 || size > self.gate - at {
+            return Err(LogFault::Disk);
+        }
+        Ok(size)
+    }
+
+    // The length of the record there.
+    fn size_at<D: Disk>(&self, disk: &mut D, at: Lsn) -> Result<u64, LogFault>
+        ensures size { (r : Record) → IsTrue D.told → IsThere (D.view disk.old) self.now at r → IfOk result (λ n. n ≡ length (spelled r)) }
+        ensures failed { (r : Record) → IsTrue D.told → IsThere (D.view disk.old) self.now at r → OnErr result (HasRisen (D.view disk.old).faults (D.view disk.new).faults) }
+        ensures within { IfOk result (λ n. (0 < n) × (at + n ≤ tail_of self.now)) }
+        ensures fault { IfErr result (λ e. e ≡ LogFault.Disk) }
+        ensures reads { OnlyReads D.told (D.view disk.old) (D.view disk.new) }
+        ensures calls { (D.view disk.new).calls ≤ (D.view disk.old).calls + 1 }
+    {
+        if self.is_before_gate(at) {
+            self.durable_size(disk, at)
+        } else {
+            self.waiting_size(at)
+        }
+    }
+
+    // The length of the frame's body behind this gate, where the buffered records count as one.
+    fn size_behind<D: Disk>(&self, disk: &mut D, gate: Lsn) -> Result<u64, LogFault>
+        ensures size { (n : ℕ) → IsTrue D.told → IsSizeBehind (D.view disk.old) self.now gate n → IfOk result (λ k. k ≡ n) }
+        ensures failed { (n : ℕ) → IsTrue D.told → IsSizeBehind (D.view disk.old) self.now gate n → OnErr result (HasRisen (D.view disk.old).faults (D.view disk.new).faults) }
+        ensures within { IfOk result (λ n. (gate ≤ LOG_END) × (n < 2 ^ 32)) }
+        ensures fault { IfErr result (λ e. e ≡ LogFault.Disk) }
+        ensures reads { OnlyReads D.told (D.view disk.old) (D.view disk.new) }
+        ensures calls { (D.view disk.new).calls ≤ (D.view disk.old).calls + 1 }
+    {
+        if gate == self.gate {
+            return Ok(self.used as u64);
+        }
+        if !self.is_before_gate(gate) {
+            return Err(LogFault::Disk);
+        }
+        let size = body_size(disk, self.area, gate - self.base)?;
+        Ok(size as u64)
+    }
+
+    // Where the first record behind this gate stands, or none behind the log's tail.
+    fn first_behind<D: Disk>(&self, disk: &mut D, gate: Lsn) -> Result<Option<Place>, LogFault>
+        ensures end { gate ≡ tail_of self.now → result ≡ Ok None }
+        ensures first { (rest : List Placed) → IsTrue D.told → StandBehind (D.view disk.old) self.now gate rest → IfOk result (λ first. first ≡ first_of rest) }
+        ensures failed { (rest : List Placed) → IsTrue D.told → StandBehind (D.view disk.old) self.now gate rest → OnErr result (HasRisen (D.view disk.old).faults (D.view disk.new).faults) }
+        ensures onward { IfOk result (λ first. IfSome first (λ p. (gate < p.lsn) × (p.lsn < tail_of self.now))) }
+        ensures fault { IfErr result (λ e. e ≡ LogFault.Disk) }
+        ensures reads { OnlyReads D.told (D.view disk.old) (D.view disk.new) }
+        ensures calls { (D.view disk.new).calls ≤ (D.view disk.old).calls + 1 }
+    {
+        let tail = self.tail();
+        if gate == tail {
+            return Ok(None);
+        }
+        let size = match self.size_behind(disk, gate) {
+            Ok(size) => size,
+            Err(fault) => return Err(fault),
+        };
+        let frame_end = gate + 5 + size;
+        if size == 0 || frame_end > tail {
+            return Err(LogFault::Disk);
+        }
+        let lsn = gate + 5;
+        Ok(Some(Place { lsn, frame_end }))
     }
 
     /// The number of the log's next byte, with the buffered records counted. Where there are none, it

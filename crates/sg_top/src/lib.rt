@@ -1,4 +1,13 @@
-//! Runs a script over a disk.
+//! The store and its program: a session answers the lines of a script one at a time, and a run of
+//! the words takes a script from a source, executes it line by line over a disk and hands the
+//! replies to a sink.
+//!
+//! It stands on `sg_words`, which says what a line says and what a run of lines answers, on
+//! `sg_model`, which says what its operations do to the objects, and on `sg_log` over `sg_disk`,
+//! which keeps the lines of transactions. It promises that each reply follows from the lines so
+//! far, that each fault which is answered was there, and that at every moment each image a crash
+//! could leave stands for the objects after the first transactions in order of commit, all of those
+//! that were answered among them.
 #![tactic(auto)]
 
 mod answer;
@@ -17,3 +26,6 @@ pub use session::Session;
 pub use status::Status;
 pub use store::Stop;
 pub use top::{Finish, stasis};
+
+#[cfg(test)]
+mod tests;

@@ -1,18 +1,39 @@
-use Rattle.std.proofs.Common.{ℕ, List, ap, ◌∙◌, get_or}
-use Rattle.sg_log.proofs.Holding.{empty_holds, holds_along, moments_read}
+use Rattle.std.proofs.Common.{◌≡◌}
+use Rattle.sg_log.specs.declared.fault.LogFault.TheVariants.{Damaged}
+use Rattle.sg_log.specs.Frames.{records_of}
+use Rattle.sg_log.specs.Held.{Tail}
+use Rattle.sg_log.proofs.Attached.{found_records, found_holds, found_these, fails_damaged, damage_found}
+use Rattle.sg_log.proofs.Chain.{undamaged}
 use Rattle.sg_log.proofs.log.Log.attach.Goals as goal
 
-pub returns-clause-holds : goal.returns-clause-holds
-returns-clause-holds g c told settled =
-    let bytes = c.in_ok-read_at.ensures.bytes told in
-    holds_along (c.in_ok-read_at.ensures.unchanged told)
-    (empty_holds (g.D.Disk.view c.args.disk.now) c.args.area c.args.base c.requires.base settled
-    (λ is. c.if-gate-eq1.false (ap (λ (xs : List ℕ). get_or xs 0 0) bytes ∙ is)))
+pub returns-in-Ok-clause-holds : goal.returns-in-Ok-clause-holds
+returns-in-Ok-clause-holds g c told settled =
+    let found = c.in-Ok.ensures.gate told in
+    let old = g.D.Disk.view c.args.disk.now in
+    let new = g.D.Disk.view c.find_gate.new.disk in (
+      records_of found.0,
+      found_records g.D.Disk.told c.args.area c.args.base c.in-Ok.gate old new told c.find_gate.ensures.reads c.in-Ok.ensures.within found.0 found.1 found.2,
+      found_holds g.D.Disk.told c.args.area c.args.base c.in-Ok.gate old new told c.find_gate.ensures.reads c.in-Ok.ensures.within found.0 found.1 found.2 settled,
+    )
 
-pub returns-clause-damaged : goal.returns-clause-damaged
-returns-clause-damaged g c told is =
-    let bytes = c.in_ok-read_at.ensures.bytes told in
-    absurd (c.if-gate-eq1.false (ap (λ (xs : List ℕ). get_or xs 0 0) bytes ∙ is))
+pub returns-in-Ok-clause-records : goal.returns-in-Ok-clause-records
+returns-in-Ok-clause-records g c ds told settled has =
+    let found = c.in-Ok.ensures.gate told in
+    let old = g.D.Disk.view c.args.disk.now in
+    let new = g.D.Disk.view c.find_gate.new.disk in
+    found_these g.D.Disk.told c.args.area c.args.base c.in-Ok.gate old new told c.find_gate.ensures.reads c.in-Ok.ensures.within found.0 found.1 found.2 settled ds has
 
-pub returns-clause-any_moment : goal.returns-clause-any_moment
-returns-clause-any_moment g c told = moments_read (c.read_at.ensures.does told)
+pub returns-in-Ok-clause-damaged : goal.returns-in-Ok-clause-damaged
+returns-in-Ok-clause-damaged g c at told damage =
+    let found = c.in-Ok.ensures.gate told in
+    let old = g.D.Disk.view c.args.disk.now in
+    let new = g.D.Disk.view c.find_gate.new.disk in
+    absurd (undamaged (found_records g.D.Disk.told c.args.area c.args.base c.in-Ok.gate old new told c.find_gate.ensures.reads c.in-Ok.ensures.within found.0 found.1 found.2) damage)
+
+pub returns-in-Err-clause-undamaged : goal.returns-in-Err-clause-undamaged
+returns-in-Err-clause-undamaged g c ds at told has is =
+    let same : c.in-Err.fault ≡ Damaged at = cc in
+    undamaged has (fails_damaged g.D.Disk.told c.args.area c.args.base (g.D.Disk.view c.args.disk.now) (g.D.Disk.view c.find_gate.new.disk) c.in-Err.fault at c.in-Err.ensures.faults same told)
+
+pub returns-in-Err-clause-damaged : goal.returns-in-Err-clause-damaged
+returns-in-Err-clause-damaged g c at told damage = damage_found g.D.Disk.told c.args.area c.args.base (g.D.Disk.view c.args.disk.now) (g.D.Disk.view c.find_gate.new.disk) Tail c.in-Err.fault at c.in-Err.ensures.faults damage told

@@ -1,0 +1,5 @@
+pub mod WordBits
+pub mod RowBits
+pub mod MarkBits
+pub mod RunLists
+pub mod Blind
