@@ -1,3 +1,4 @@
 pub mod Ends
 pub mod Spelling
 pub mod Padded
+pub mod Page

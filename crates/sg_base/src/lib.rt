@@ -13,6 +13,7 @@ mod fields;
 mod memory;
 mod name;
 mod numbers;
+mod page;
 mod real;
 
 pub use area::Area;
@@ -21,6 +22,7 @@ pub use fields::{read_u16, read_u32, read_u64, write_u16, write_u32, write_u64};
 pub use memory::{MemSink, MemSource};
 pub use name::Name;
 pub use numbers::{BandNo, Lsn, PageNo, TxnId};
+pub use page::{PAGE_SIZE, SlotView};
 pub use real::{ReadSource, WriteSink};
 
 #[cfg(test)]
