@@ -7,7 +7,9 @@
 //! changes no byte.
 #![tactic(auto)]
 
-pub mod calls;
-pub mod writes;
+mod calls;
+mod compaction;
+mod steps;
+mod writes;
 
-
+pub use calls::{SlotError, format, put, remove, set, set_links, set_lsn};

@@ -3,7 +3,16 @@ ghost use Rattle.std.specs.Prelude.{◌≡◌, ◌+◌, ◌*◌, ◌<◌, ◌≤
 ghost use Rattle.sg_base.specs.Page.{bytes_at, number_at, offset_at, length_at};
 ghost use Rattle.sg_slotted.specs.Writes.{KeepsOutside};
 
-use sg_base::{write_u16, write_u32, write_u64};
+use sg_base::{read_u16, write_u16, write_u32, write_u64};
+
+// The number in the 2 bytes there.
+#[tactic(auto, unfolding(sg_base::specs::Page::number_at, sg_base::specs::Page::bytes_at))]
+pub fn number_u16(page: &[u8], at: usize) -> u16
+    requires { at + 2 ≤ length page.now }
+    ensures { result ≡ number_at page.now at 2 }
+{
+    read_u16(&page[at..at + 2])
+}
 
 pub fn put_u8(page: &mut [u8], at: usize, byte: u8)
     requires { at < length page.old }
