@@ -7,10 +7,10 @@ use crate::writes::number_u16;
 use sg_base::{PAGE_SIZE, SlotView};
 
 // The slots and cells of another page, one after the other.
-fn rebuild(page: &mut [u8], view: SlotView<'_>)
+fn rebuild(page: &mut [u8], view: &SlotView<'_>)
     requires size { length page.old ≡ 4096 }
     ensures slotted { IsSlotted page.new }
-    ensures slots { slots_of page.new ≡ slots_of view.page.now }
+    ensures slots { slots_of page.new ≡ slots_of view.now.page.now }
     ensures header { header_of page.new ≡ header_of page.old }
     ensures lost { lost_of page.new ≡ 0 }
 {
@@ -34,7 +34,7 @@ fn compact(page: &mut [u8])
 {
     let mut old = [0; PAGE_SIZE];
     old.copy_from_slice(page);
-    rebuild(page, SlotView::new(&old));
+    rebuild(page, &SlotView::new(&old));
 }
 
 // So many free bytes behind the directory.
