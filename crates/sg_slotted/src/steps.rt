@@ -5,7 +5,6 @@ ghost use Rattle.sg_base.specs.Page.{number_at, count_of, start_of, lost_of, dir
 use crate::writes::{number_u16, put_bytes, put_entry, put_u8, put_u16};
 use sg_base::PAGE_SIZE;
 
-
 // One more slot, an empty one.
 pub fn grow(page: &mut [u8])
     requires slotted { IsSlotted page.old }

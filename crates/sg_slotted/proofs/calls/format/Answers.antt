@@ -1,6 +1,6 @@
-use Rattle.std.proofs.Common.{◌≡◌, ℕ, List, ◌∙◌, ap, inl, inr, arith}
-use Rattle.sg_base.specs.Page.{kind_of, lsn_of, number_at, header_of, Header, IsSlotted}
-use Rattle.sg_slotted.proofs.Outside.{same_number, same_byte}
+use Rattle.std.proofs.Common.{◌≡◌, ℕ, List, ◌∙◌, ap, inl, arith}
+use Rattle.sg_base.specs.Page.{kind_of, lsn_of, header_of, Header}
+use Rattle.sg_slotted.proofs.Outside.{same_number}
 use Rattle.sg_slotted.proofs.Kept.{IsApart, slotted_kept, slots_kept}
 use Rattle.sg_slotted.proofs.calls.format.Goals as goal
 
@@ -21,4 +21,5 @@ returns c =
     record {
       slotted = c.set_links.ensures.slotted;
       slots = c.set_links.ensures.slots ∙ (slots_kept p1 p2 8 9 c.reset.ensures.slotted k apart ∙ c.reset.ensures.slots);
-      header = header c.args.page.now p1 p2 c.set_links.new.page c.args.kind c.reset.ensures.header c.put_u8.ensures.written (same_number p1 p2 8 9 0 8 k (inl (omega arith))) c.set_links.ensures.header }
+      header = header c.args.page.now p1 p2 c.set_links.new.page c.args.kind c.reset.ensures.header c.put_u8.ensures.written (same_number p1 p2 8 9 0 8 k (inl (omega arith))) c.set_links.ensures.header;
+    }

@@ -1,4 +1,4 @@
-use Rattle.std.proofs.Common.{◌≡◌, ◌≤◌, ◌+◌, ◌++◌, ◌∷◌, [], ℕ, List, Option, None, Some, length, set, sym, ap, ◌∙◌, arith}
+use Rattle.std.proofs.Common.{◌≡◌, ◌++◌, ◌∷◌, [], ℕ, List, Option, None, Some, length, set, sym, ap, ◌∙◌, arith}
 use Rattle.std.proofs.lemmas.List.{set_at}
 use Rattle.sg_base.specs.Page.{slots_of}
 use Rattle.sg_slotted.proofs.Room.{grown_room}

@@ -20,4 +20,5 @@ returns c =
     record {
       slotted = slotted_kept p1 p2 20 24 slotted k2 apart2;
       slots = slots_kept p1 p2 20 24 slotted k2 apart2 ∙ slots_kept p0 p1 16 20 c.requires k1 apart1;
-      header = header p0 p2 c.args.a c.args.b (same_byte p1 p2 20 24 8 k2 (inl (omega arith)) ∙ same_byte p0 p1 16 20 8 k1 (inl (omega arith))) (same_number p1 p2 20 24 0 8 k2 (inl (omega arith)) ∙ same_number p0 p1 16 20 0 8 k1 (inl (omega arith))) (same_number p1 p2 20 24 16 4 k2 (inl (omega arith)) ∙ c.put_u32.ensures.written) c.put_u32-2.ensures.written }
+      header = header p0 p2 c.args.a c.args.b (same_byte p1 p2 20 24 8 k2 (inl (omega arith)) ∙ same_byte p0 p1 16 20 8 k1 (inl (omega arith))) (same_number p1 p2 20 24 0 8 k2 (inl (omega arith)) ∙ same_number p0 p1 16 20 0 8 k1 (inl (omega arith))) (same_number p1 p2 20 24 16 4 k2 (inl (omega arith)) ∙ c.put_u32.ensures.written) c.put_u32-2.ensures.written;
+    }

@@ -1,4 +1,4 @@
-use Rattle.std.proofs.Common.{◌≡◌, ℕ, List, ◌∙◌, inl, inr, arith}
+use Rattle.std.proofs.Common.{◌≡◌, ℕ, List, inl, inr, arith}
 use Rattle.sg_base.specs.Page.{kind_of, lsn_of, number_at, header_of}
 use Rattle.sg_slotted.proofs.Outside.{same_number, same_byte}
 use Rattle.sg_slotted.proofs.Kept.{IsApart, slotted_kept, slots_kept}
@@ -16,4 +16,5 @@ returns c =
     record {
       slotted = slotted_kept old new 0 8 c.requires k apart;
       slots = slots_kept old new 0 8 c.requires k apart;
-      header = header old new c.args.lsn (same_byte old new 0 8 8 k (inr (omega arith))) c.put_u64.ensures.written (same_number old new 0 8 16 4 k (inr (omega arith))) (same_number old new 0 8 20 4 k (inr (omega arith))) }
+      header = header old new c.args.lsn (same_byte old new 0 8 8 k (inr (omega arith))) c.put_u64.ensures.written (same_number old new 0 8 16 4 k (inr (omega arith))) (same_number old new 0 8 20 4 k (inr (omega arith)));
+    }

@@ -1,4 +1,4 @@
-use Rattle.std.proofs.Common.{◌≡◌, ◌≤◌, ◌+◌, ap, ◌∙◌, arith}
+use Rattle.std.proofs.Common.{◌≡◌, ap, arith}
 use Rattle.sg_base.specs.Page.{slots_of, bytes_of}
 use Rattle.sg_slotted.proofs.Room.{room_in_one_place}
 use Rattle.sg_slotted.proofs.compaction.make_room.Goals as goal

@@ -1,4 +1,4 @@
-use Rattle.std.proofs.Common.{◌≡◌, ◌<◌, ◌+◌, ◌++◌, ◌∷◌, [], ℕ, List, Option, None, Some, length, take, set, subst, arith, sym, ap, ◌∙◌}
+use Rattle.std.proofs.Common.{◌≡◌, ◌<◌, ◌+◌, ◌++◌, ◌∷◌, [], ℕ, List, Option, None, Some, length, set, subst, arith, sym, ap, ◌∙◌}
 use Rattle.sg_base.specs.Page.{slots_of, cell_in, header_of, lost_of, IsSlotted}
 use Rattle.sg_slotted.proofs.Room.{IsBegun, IsGrown, grow_room, fill_room, next_full, next_empty}
 use Rattle.sg_slotted.proofs.compaction.rebuild.Goals as goal
@@ -38,10 +38,13 @@ slots-preserved c =
     let below : c.slots.s < length (slots_of other) = omega arith in
     let e = c.grow.ensures in
     let g : IsGrown c.grow.new.page other c.slots.s = grown c.slots.page other c.grow.new.page c.slots.s c.slots.invariant.begun e.slotted e.slots e.lost in
-    elim c.match-slot.branch [ 
-      in-Some w ↦ record {
+    elim c.match-slot.branch [
+      | in-Some w ↦ record {
         begun = further_full c.grow.new.page other w.fill.new.page c.match-slot.page c.slots.s w.in-Some.cell.now g below w.in-Some.ensures w.fill.ensures.slotted w.fill.ensures.slots w.fill.ensures.lost w.page-is;
-        header = ap header_of w.page-is ∙ (w.fill.ensures.header ∙ (e.header ∙ c.slots.invariant.header)) }
+        header = ap header_of w.page-is ∙ (w.fill.ensures.header ∙ (e.header ∙ c.slots.invariant.header));
+      }
       | in_default w ↦ record {
         begun = further_empty c.grow.new.page other c.match-slot.page c.slots.s g below w.in_default.ensures w.page-is;
-        header = ap header_of w.page-is ∙ (e.header ∙ c.slots.invariant.header) } ]
+        header = ap header_of w.page-is ∙ (e.header ∙ c.slots.invariant.header);
+      }
+    ]

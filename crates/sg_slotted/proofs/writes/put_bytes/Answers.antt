@@ -1,4 +1,4 @@
-use Rattle.std.proofs.Common.{arith, length, ap, ◌∙◌}
+use Rattle.std.proofs.Common.{length, ◌∙◌}
 use Rattle.sg_slotted.proofs.Outside.{others_kept, bytes_are}
 use Rattle.sg_slotted.proofs.writes.put_bytes.Goals as goal
 

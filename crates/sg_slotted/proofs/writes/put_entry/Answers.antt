@@ -1,4 +1,4 @@
-use Rattle.std.proofs.Common.{arith, ◌+◌, ◌*◌, ◌≤◌, inl, ◌∙◌}
+use Rattle.std.proofs.Common.{arith, ◌+◌, ◌*◌, inl, ◌∙◌}
 use Rattle.sg_slotted.proofs.Outside.{same_number}
 use Rattle.sg_slotted.proofs.writes.put_entry.Goals as goal
 

@@ -1,4 +1,3 @@
-use Rattle.std.proofs.Common.{arith}
 use Rattle.sg_slotted.proofs.Outside.{others_kept, number_is}
 use Rattle.sg_slotted.proofs.writes.put_u64.Goals as goal
 
