@@ -2,3 +2,4 @@ pub mod Ends
 pub mod Spelling
 pub mod Padded
 pub mod Page
+pub mod Taken

@@ -8,6 +8,7 @@
 #![tactic(auto)]
 
 mod area;
+mod check;
 mod ends;
 mod fields;
 mod memory;
@@ -17,6 +18,7 @@ mod page;
 mod real;
 
 pub use area::Area;
+pub use check::view;
 pub use ends::{Failed, OutOfMemory, Sink, Source};
 pub use fields::{read_u16, read_u32, read_u64, write_u16, write_u32, write_u64};
 pub use memory::{MemSink, MemSource};

@@ -9,7 +9,7 @@ pub const PAGE_SIZE: usize = 4096;
 
 // The number in the 2 bytes there.
 #[tactic(auto, unfolding(crate::specs::Page::number_at, crate::specs::Page::bytes_at))]
-fn u16_at(page: &[u8], at: usize) -> u16
+pub fn u16_at(page: &[u8], at: usize) -> u16
     requires { at + 2 ≤ length page.now }
     ensures { result ≡ number_at page.now at 2 }
 {
