@@ -28,4 +28,6 @@ pub use page::{PAGE_SIZE, SlotView};
 pub use real::{ReadSource, WriteSink};
 
 #[cfg(test)]
+mod page_tests;
+#[cfg(test)]
 mod tests;
