@@ -14,36 +14,48 @@ const FIELDS: [(usize, u16); 8] = [
     (34, 2),
 ];
 
-fn put(page: &mut [u8; 4096], at: usize, number: u16) {
-    if at <= 4094 {
+fn put(page: &mut [u8], at: usize, number: u16) {
+    if at < page.len() && 2 <= page.len() - at {
         write_u16(&mut page[at..], number);
     }
 }
 
+fn write_fields(page: &mut [u8]) {
+    for (at, number) in FIELDS {
+        put(page, at, number);
+    }
+    put(page, 4090, 0x6564);
+    put(page, 4093, 0x6261);
+    put(page, 4094, 0x6362);
+}
+
 fn page_of_three() -> [u8; 4096] {
     let mut page = [0; 4096];
-    for (at, number) in FIELDS {
-        put(&mut page, at, number);
-    }
-    page[4090] = b'd';
-    page[4091] = b'e';
-    page[4093] = b'a';
-    page[4094] = b'b';
-    page[4095] = b'c';
+    write_fields(&mut page);
     page
+}
+
+fn front(bytes: &[u8], size: usize) -> &[u8] {
+    if size <= bytes.len() {
+        &bytes[..size]
+    } else {
+        bytes
+    }
 }
 
 #[test]
 fn a_page_is_seen(rt: HostRuntime) -> Result<(), Fail> {
     let mut page = page_of_three();
-    write_u64(&mut page[0..], 0x0102_0304_0506_0708);
-    write_u32(&mut page[16..], 5);
-    write_u32(&mut page[20..], 0xffff_fffe);
+    put(&mut page, 0, 0x0708);
+    put(&mut page, 6, 0x0102);
+    put(&mut page, 16, 5);
+    put(&mut page, 20, 0xfffe);
+    put(&mut page, 22, 0xffff);
     let Some(view) = view(&page) else {
         assert!(rt; false);
         return Ok(());
     };
-    assert_eq!(rt; view.lsn(), 0x0102_0304_0506_0708);
+    assert_eq!(rt; view.lsn(), 0x0102_0000_0000_0708);
     assert_eq!(rt; view.kind(), 7);
     let (left, right) = view.links();
     assert_eq!(rt; left, 5);
@@ -133,13 +145,13 @@ fn hostile_pages_are_told(rt: HostRuntime) -> Result<(), Fail> {
 
 #[test]
 fn other_sizes_are_no_pages(rt: HostRuntime) -> Result<(), Fail> {
-    let page = page_of_three();
-    assert!(rt; view(&page).is_some());
-    assert!(rt; view(&page[..4095]).is_none());
+    let mut longer = [0; 4100];
+    write_fields(&mut longer);
+    assert!(rt; view(front(&longer, 4096)).is_some());
+    assert!(rt; view(front(&longer, 4095)).is_none());
+    assert!(rt; view(front(&longer, 4097)).is_none());
+    assert!(rt; view(front(&longer, 9)).is_none());
     assert!(rt; view(&[]).is_none());
-    let mut longer = [0; 4097];
-    longer[..4096].copy_from_slice(&page);
-    assert!(rt; view(&longer).is_none());
     assert!(rt; view(&[0; 4096]).is_none());
     Ok(())
 }
