@@ -16,7 +16,7 @@ pub enum SlotError {
     NoSlot,
 }
 
-/// Sets the number of the page's last change in the log.
+/// Sets the number of the page's last change in the log. All else stays.
 pub fn set_lsn(page: &mut [u8], lsn: Lsn)
     requires { IsSlotted page.old }
     ensures slotted { IsSlotted page.new }
@@ -26,7 +26,7 @@ pub fn set_lsn(page: &mut [u8], lsn: Lsn)
     put_u64(page, 0, lsn);
 }
 
-/// Sets the two numbers of other pages.
+/// Sets the two numbers of other pages. All else stays.
 pub fn set_links(page: &mut [u8], a: u32, b: u32)
     requires { IsSlotted page.old }
     ensures slotted { IsSlotted page.new }
@@ -78,7 +78,9 @@ fn push(page: &mut [u8], bytes: &[u8])
     fill(page, slot, bytes);
 }
 
-/// Puts a cell into an empty slot, or into a new one behind the last.
+/// Puts a cell into an empty slot, or into a new one behind the last, and leaves all others. It
+/// answers `NoSlot` where the slot is full or lies further behind, and else `NoRoom` where cells and
+/// directory would have more than 4,072 bytes; then no byte changes.
 pub fn put(page: &mut [u8], slot: u16, bytes: &[u8]) -> Result<(), SlotError>
     requires { IsSlotted page.old }
     ensures slotted { IsSlotted page.new }
@@ -109,7 +111,8 @@ pub fn put(page: &mut [u8], slot: u16, bytes: &[u8]) -> Result<(), SlotError>
     Ok(())
 }
 
-/// Takes the cell out of a full slot, which is then empty and stays in the page.
+/// Takes the cell out of a full slot, which is then empty and stays in the directory. It answers
+/// `NoSlot` where there is no full slot of this number; then no byte changes.
 pub fn remove(page: &mut [u8], slot: u16) -> Result<(), SlotError>
     requires { IsSlotted page.old }
     ensures slotted { IsSlotted page.new }
@@ -128,7 +131,9 @@ pub fn remove(page: &mut [u8], slot: u16) -> Result<(), SlotError>
     Ok(())
 }
 
-/// Puts another cell into a full slot.
+/// Puts another cell into a full slot, and leaves all others. It answers `NoSlot` where there is no
+/// full slot of this number, and else `NoRoom` where cells and directory would have more than 4,072
+/// bytes; then no byte changes.
 pub fn set(page: &mut [u8], slot: u16, bytes: &[u8]) -> Result<(), SlotError>
     requires { IsSlotted page.old }
     ensures slotted { IsSlotted page.new }

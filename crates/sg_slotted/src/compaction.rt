@@ -25,7 +25,7 @@ fn rebuild(page: &mut [u8], view: &SlotView<'_>)
 }
 
 // No byte of the cells' area belongs to no slot any more.
-fn compact(page: &mut [u8])
+pub fn compact(page: &mut [u8])
     requires { IsSlotted page.old }
     ensures slotted { IsSlotted page.new }
     ensures slots { slots_of page.new ≡ slots_of page.old }
