@@ -1,3 +1,5 @@
 pub mod Ends
 pub mod Spelling
 pub mod Padded
+pub mod Page
+pub mod Taken

@@ -8,20 +8,26 @@
 #![tactic(auto)]
 
 mod area;
+mod check;
 mod ends;
 mod fields;
 mod memory;
 mod name;
 mod numbers;
+mod page;
 mod real;
 
 pub use area::Area;
+pub use check::view;
 pub use ends::{Failed, OutOfMemory, Sink, Source};
 pub use fields::{read_u16, read_u32, read_u64, write_u16, write_u32, write_u64};
 pub use memory::{MemSink, MemSource};
 pub use name::Name;
 pub use numbers::{BandNo, Lsn, PageNo, TxnId};
+pub use page::{PAGE_SIZE, SlotView};
 pub use real::{ReadSource, WriteSink};
 
+#[cfg(test)]
+mod page_tests;
 #[cfg(test)]
 mod tests;

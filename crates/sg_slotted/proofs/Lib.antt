@@ -1,0 +1,5 @@
+pub mod Outside
+pub mod Step
+pub mod Changes
+pub mod Kept
+pub mod Room

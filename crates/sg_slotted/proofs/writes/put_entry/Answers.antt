@@ -1,0 +1,6 @@
+use Rattle.std.proofs.Common.{arith, ◌+◌, ◌*◌, inl, ◌∙◌}
+use Rattle.sg_slotted.proofs.Outside.{same_number}
+use Rattle.sg_slotted.proofs.writes.put_entry.Goals as goal
+
+pub returns-clause-offset : goal.returns-clause-offset
+returns-clause-offset c = same_number c.put_u16.new.page c.put_u16-2.new.page (24 + 4 * c.args.slot + 2) (24 + 4 * c.args.slot + 2 + 2) (24 + 4 * c.args.slot) 2 c.put_u16-2.ensures.others (inl (omega arith)) ∙ c.put_u16.ensures.written
