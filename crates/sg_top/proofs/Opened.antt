@@ -40,11 +40,26 @@ opening_moments v v1 w u s call =
 at_log0 : (v : disk.View) (log : Tail) (ds : List Record) → log.area ≡ Log0 → log.base ≡ 0 → HasRecords (v.now log.area).seen log.base ds → HasRecords (v.now Log0).seen 0 ds
 at_log0 v log ds area base h = subst (λ (b : ℕ). HasRecords (v.now Log0).seen b ds) base (subst (λ (a : Area). HasRecords (v.now a).seen log.base ds) area h)
 
+gate_least : (at : ℕ) (frames : List (List Record)) → at ≤ gate_after at frames
+gate_least at [] = omega arith
+gate_least at (rs ∷ frames) = omega (arith, gate_least (at + 1 + length (text_of (spelled_all rs))) frames)
+
+-- where the closed gate is the first byte, that byte isn't an open one
+first_closed : (f : disk.Bytes) (frames : List (List Record)) → Frames f 0 frames → gate_after 0 frames ≡ 0 → f 0 ≡ 1 → ⊥
+first_closed f [] stand none = stand
+first_closed f (rs ∷ frames) stand none = absurd (omega (arith, none, gate_least (0 + 1 + length (text_of (spelled_all rs))) frames))
+
+closed_held : (w : disk.View) (log : Tail) → log ≡ record { area = Log0; base = 0; gate = 0; buffer = [] } → Holds w log [] [] → (w.now Log0).seen 0 ≡ 1 → ⊥
+closed_held w log is_log h =
+    subst (λ (a : Area). (w.now a).seen 0 ≡ 1 → ⊥) (ap (λ (z : Tail). z.area) is_log) (first_closed (w.now log.area).seen h.frames h.stand (omega (arith, ap (λ (z : Tail). z.gate) is_log, ap (λ (z : Tail). z.base) is_log, h.at_gate)))
+
 -- over an empty log the store shows no objects
 pub opened_empty : {T E : Type 0} (told : Bool) (v v1 w : disk.View) (log : Tail) (objects : Objects) (u : T) → (IsTrue told → disk.Synced {E = E} Log0 v v1 (Ok u)) → v1.handed ≡ v.handed → v.faults ≤ v1.faults
     → log ≡ record { area = Log0; base = 0; gate = 0; buffer = [] } → (IsTrue told → (v1.now Log0).pending ≡ [] → Holds w log [] []) → OnlyReads told v1 w → objects ≡ empty → Opens told v w (record { objects = objects; live = None; stopped = false; log = log })
 opened_empty told v v1 w log objects u synced handed1 later1 is_log holds reads none = record {
   first = empty;
+  none = refl;
+  closed = λ is_told first. closed_held w log is_log (holds is_told (synced_settled v v1 u (synced is_told))) (ap (λ (s : disk.State). (s Log0).seen 0) (reads.unchanged is_told) ∙ ap (λ (f : disk.Bytes). f 0) (synced_seen v v1 u (synced is_told)) ∙ first);
   stands = λ is_told.
     let h = holds is_told (synced_settled v v1 u (synced is_told)) in
     let seen : (w.now Log0).seen ≡ (v.now Log0).seen = ap (λ (s : disk.State). (s Log0).seen) (reads.unchanged is_told) ∙ synced_seen v v1 u (synced is_told) in
@@ -74,10 +89,6 @@ opened_empty told v v1 w log objects u synced handed1 later1 is_log holds reads 
 first_open : (f : disk.Bytes) (frames : List (List Record)) → Frames f 0 frames → 0 < gate_after 0 frames → f 0 ≡ 1
 first_open f [] stand some = absurd (omega (arith, some))
 first_open f (rs ∷ frames) stand some = stand.0
-
-gate_least : (at : ℕ) (frames : List (List Record)) → at ≤ gate_after at frames
-gate_least at [] = omega arith
-gate_least at (rs ∷ frames) = omega (arith, gate_least (at + 1 + length (text_of (spelled_all rs))) frames)
 
 no_frames : (frames : List (List Record)) → gate_after 0 frames ≡ 0 → records_of frames ≡ []
 no_frames [] none = refl

@@ -1,5 +1,6 @@
 -- How a store opens.
 use Rattle.std.specs.Prelude.{◌≡◌, ◌≤◌, Bool, IsTrue}
+use Rattle.std.specs.FinMap.{empty}
 use Rattle.sg_base.specs.Ends.{HasRisen}
 use Rattle.sg_base.specs.declared.area.Area.TheVariants.{Log0}
 use Rattle.sg_disk.specs.Disk as disk
@@ -14,10 +15,12 @@ use Rattle.sg_top.specs.Store.{Core, Shows}
 abbrev pub reads_of : disk.View → disk.Image
 reads_of v a = (v.now a).seen
 
--- A store has opened: it shows a run that begins with the objects that the image read stands for. Nothing was
--- written, so until then a crash leaves what it could have left at first
+-- A store has opened, over an empty log, whose first gate is closed: it shows a run that begins with no objects, which
+-- the image read stands for. Nothing was written, so until then a crash leaves what it could have left at first
 pub record Opens (told : Bool) (v w : disk.View) (k : Core) : Type 0 where
   pub first : Objects
+  pub none : first ≡ empty
+  pub closed : IsTrue told → reads_of v Log0 0 ≡ 1 → ⊥
   pub stands : IsTrue told → StandsFor (reads_of v) first
   pub shows : Shows told w k (start first)
   pub moments : IsTrue told → disk.LeavesOnly v w (disk.Leaves v.now)

@@ -2,6 +2,8 @@
 use Rattle.std.specs.Prelude.{◌≡◌, ◌≤◌, ℕ, Bool, false, IsTrue, List, [], ◌∷◌, codes, string_bytes, String, Option, Some, None, is_some}
 use Rattle.std.specs.Str.{bytes_eq}
 use Rattle.std.specs.declared.alloc.Global.{Global}
+use Rattle.std.specs.FinMap.{empty}
+use Rattle.sg_base.specs.declared.area.Area.TheVariants.{Log0}
 use Rattle.sg_disk.specs.Disk as disk
 use Rattle.sg_model.specs.Objects.{Objects}
 use Rattle.sg_model.specs.History.{start}
@@ -54,10 +56,13 @@ pub record NeverRan (told : Bool) (v w : disk.View) (source left first now : Opt
   pub unwritten : now ≡ first
   pub status_is : status ≡ status_of_refusal why
 
--- A run: it began with the objects that the image read stands for, and ended so. Until it had opened the store a
+-- A run over an empty log, whose first gate is closed: it began with no objects, which the image read stands for, and
+-- ended so. Until it had opened the store a
 -- crash left what it could have left at first. The log's end is met only where so much was handed to the disk
 pub record Ran (told : Bool) (v w : disk.View) (source left first now : Option (List ℕ)) (status : code_status.Status) : Type 0 where
   pub objects : Objects
+  pub none : objects ≡ empty
+  pub closed : IsTrue told → reads_of v Log0 0 ≡ 1 → ⊥
   pub stands : IsTrue told → StandsFor (reads_of v) objects
   pub opened : disk.View
   pub core : Core

@@ -44,6 +44,8 @@ returns-clause-run g c is_run =
     inr (subst (λ (w : disk.View). Ran g.D.Disk.told (g.D.Disk.view c.args.disk) w (g.S.Source.left c.args.script.now) (g.S.Source.left c.run_script-end.new.script) (g.K.Sink.taken c.args.out.now) (g.K.Sink.taken c.run_script-end.new.out) c.status_of-status.result)
       (sym (ap g.D.Disk.view c.finish-stop.ensures.disk)) (record {
         objects = c.in-Ok-start.ensures.opens.first;
+        none = c.in-Ok-start.ensures.opens.none;
+        closed = c.in-Ok-start.ensures.opens.closed;
         stands = c.in-Ok-start.ensures.opens.stands;
         opened = g.D.Disk.view (session_disk o);
         core = session_core o;
