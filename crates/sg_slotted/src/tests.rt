@@ -187,7 +187,7 @@ fn random_calls_do_what_they_do_to_a_list(rt: HostRuntime) -> Result<(), Fail> {
     let mut refused = 0u32;
     format(&mut page, 9);
     set_lsn(&mut page, 1 << 40);
-    for call in 0..6000u32 {
+    for call in 0..10_000u32 {
         if !is_same(&page, &list) {
             assert!(rt; false, "before call {call}");
             return Ok(());
@@ -216,7 +216,7 @@ fn random_calls_do_what_they_do_to_a_list(rt: HostRuntime) -> Result<(), Fail> {
         }
     }
     assert!(rt;
-        1000 < refused && refused < 5000,
+        1000 < refused && refused < 9000,
         "{refused} calls were refused"
     );
     Ok(())
