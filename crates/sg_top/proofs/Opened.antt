@@ -37,7 +37,8 @@ opening_moments v v1 w u s call =
     moments.joined (moments.goes_on (moments.started v (disk.Leaves v.now) (λ c leaves. leaves)) s (λ c leaves. leaves))
     (moments.weaker call (λ c leaves. sync_keeps v.now Log0 c (subst (λ (z : disk.State). disk.Leaves z c) s.ok leaves)))
 
-at_log0 : (v : disk.View) (log : Tail) (ds : List Record) → log.area ≡ Log0 → log.base ≡ 0 → HasRecords (v.now log.area).seen log.base ds → HasRecords (v.now Log0).seen 0 ds
+-- the log's records are those from the first area's first byte on
+pub at_log0 : (v : disk.View) (log : Tail) (ds : List Record) → log.area ≡ Log0 → log.base ≡ 0 → HasRecords (v.now log.area).seen log.base ds → HasRecords (v.now Log0).seen 0 ds
 at_log0 v log ds area base h = subst (λ (b : ℕ). HasRecords (v.now Log0).seen b ds) base (subst (λ (a : Area). HasRecords (v.now a).seen log.base ds) area h)
 
 gate_least : (at : ℕ) (frames : List (List Record)) → at ≤ gate_after at frames

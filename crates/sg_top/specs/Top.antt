@@ -1,12 +1,15 @@
 -- The program's words, and how a run of it ends.
-use Rattle.std.specs.Prelude.{◌≡◌, ◌≤◌, ℕ, Bool, false, IsTrue, List, [], ◌∷◌, codes, string_bytes, String, Option, Some, None, is_some}
+use Rattle.std.specs.Prelude.{◌≡◌, ◌≤◌, ℕ, Bool, false, IsTrue, List, [], ◌∷◌, codes, string_bytes, String, Option, Some, None, is_some, IfSome, length}
 use Rattle.std.specs.Str.{bytes_eq}
 use Rattle.std.specs.declared.alloc.Global.{Global}
 use Rattle.std.specs.FinMap.{empty}
 use Rattle.sg_base.specs.declared.area.Area.TheVariants.{Log0}
 use Rattle.sg_disk.specs.Disk as disk
+use Rattle.sg_words.specs.Parse.{lines_of}
+use Rattle.sg_words.specs.Run.{Lines}
+use Rattle.sg_words.specs.Text.{Answer, text_of_all}
 use Rattle.sg_model.specs.Objects.{Objects}
-use Rattle.sg_model.specs.History.{start}
+use Rattle.sg_model.specs.History.{State, start, committed_objects}
 use Rattle.sg_top.specs.declared.opening.OpenRefused as code_refused
 use Rattle.sg_top.specs.declared.opening.OpenRefused.TheVariants as refusals
 use Rattle.sg_top.specs.declared.script.RunEnd as code_end
@@ -20,7 +23,7 @@ use Rattle.sg_top.specs.Store.{Core}
 use Rattle.sg_top.specs.Ending.{RunsTo}
 use Rattle.sg_top.specs.Script.{MayEnd}
 use Rattle.sg_top.specs.Shown.{StopIsCaused}
-use Rattle.sg_base.specs.Ends.{HasRisen}
+use Rattle.sg_base.specs.Ends.{HasRisen, Takes}
 use Rattle.sg_top.specs.Opening.{StaysShut, reads_of}
 
 -- `run` and a folder
@@ -76,3 +79,17 @@ pub record Ran (told : Bool) (v w : disk.View) (source left first now : Option (
   pub stopped : last.stopped ≡ is_some stop
   pub runs : RunsTo end told opened core (start objects) source left first now w last
   pub status_is : status ≡ status_of end stop
+
+-- A run with status Done: all lines of the whole script were executed from no objects on, and the sink has all replies.
+-- All commits were answered, and what reads give, and each image that a crash could leave, stands for the objects after
+-- all of them
+pub record IsDone (told : Bool) (w : disk.View) (source first now : Option (List ℕ)) : Type 0 where
+  pub text : List ℕ
+  pub whole : IfSome source (λ all. text ≡ all)
+  pub answers : List Answer
+  pub after : State
+  pub goes : Lines (start empty) (lines_of text) answers after
+  pub replies : Takes first (text_of_all answers) now
+  pub answered : after.answered ≡ length after.commits
+  pub read : IsTrue told → StandsFor (reads_of w) (committed_objects after)
+  pub images : IsTrue told → (c : disk.Image) → disk.Leaves w.now c → StandsFor c (committed_objects after)

@@ -1,7 +1,7 @@
 ghost use Rattle.std.specs.Prelude.{◌≡◌, ◌⊎◌, ◌≤◌, true, false, IsTrue, Option};
 ghost use Rattle.sg_base.specs.Ends.{HasRisen};
 ghost use Rattle.sg_disk.specs.Disk as disk_specs;
-ghost use Rattle.sg_top.specs.Top.{are_run, status_of, status_of_end, status_of_refusal, NeverRan, Ran};
+ghost use Rattle.sg_top.specs.Top.{are_run, status_of, status_of_end, status_of_refusal, NeverRan, Ran, IsDone};
 
 use crate::opening::{OpenRefused, Unopened};
 use crate::script::{RunEnd, run_script};
@@ -70,6 +70,7 @@ pub fn stasis<D: Disk, S: Source, K: Sink>(
     ensures run { are_run words.now ≡ true →
         NeverRan D.told (D.view disk) (D.view result.disk) (S.left script.old) (S.left script.new) (K.taken out.old) (K.taken out.new) result.status
         ⊎ Ran D.told (D.view disk) (D.view result.disk) (S.left script.old) (S.left script.new) (K.taken out.old) (K.taken out.new) result.status }
+    ensures done { are_run words.now ≡ true → result.status ≡ Status.Done → IsDone D.told (D.view result.disk) (S.left script.old) (K.taken out.old) (K.taken out.new) }
     ensures read { result.status ≡ Status.Read → HasRisen (S.faults script.old) (S.faults script.new) }
     ensures write { result.status ≡ Status.Write → HasRisen (K.faults out.old) (K.faults out.new) }
     ensures disk { result.status ≡ Status.Disk → HasRisen (D.view disk).faults (D.view result.disk).faults }

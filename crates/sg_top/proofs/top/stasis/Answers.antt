@@ -4,7 +4,7 @@ use Rattle.sg_disk.specs.Disk as disk
 use Rattle.sg_model.specs.History.{start}
 use Rattle.sg_top.specs.Top.{Ran}
 use Rattle.sg_top.specs.Sessions.{session_core, session_disk, session_stop}
-use Rattle.sg_top.proofs.Endings.{refused_use, refused_read, refused_write, refused_disk, ended_use, ended_read, ended_write, ended_disk, was_running}
+use Rattle.sg_top.proofs.Endings.{refused_use, refused_read, refused_write, refused_disk, ended_use, ended_read, ended_write, ended_disk, was_running, refused_done, done_either}
 use Rattle.sg_top.proofs.top.stasis.Goals as goal
 
 pub returns-in-Err-clause-usage : goal.returns-in-Err-clause-usage
@@ -60,3 +60,11 @@ returns-clause-run g c is_run =
         runs = c.run_script-end.ensures.ran (start c.in-Ok-start.ensures.opens.first) c.in-Ok-start.ensures.opens.shows;
         status_is = c.status_of-status.ensures;
       }))
+
+pub returns-in-Err-clause-done : goal.returns-in-Err-clause-done
+returns-in-Err-clause-done g c is_run h = absurd (refused_done c.in-Err.field-0.why _ c.status_of_refusal-status.ensures h)
+
+pub returns-clause-done : goal.returns-clause-done
+returns-clause-done g c is_run h =
+    done_either g.D.Disk.told (g.D.Disk.view c.args.disk) (g.D.Disk.view c.finish-stop.result.1) (g.S.Source.left c.args.script.now) (g.S.Source.left c.run_script-end.new.script) (g.K.Sink.taken c.args.out.now) (g.K.Sink.taken c.run_script-end.new.out)
+    c.status_of-status.result (returns-clause-run g c is_run) h
