@@ -16,9 +16,9 @@ mod status;
 
 use crate::folder::FolderDisk;
 use crate::status::{Shown, exit_number};
-use sg_top::{Finish, Status, stasis};
 use sg_base::{ReadSource, WriteSink};
 use sg_disk::Disk;
+use sg_top::{Finish, Status, stasis};
 use std::alloc::Global;
 use std::io::ErrorKind;
 use std::process::ExitCode;
@@ -35,8 +35,9 @@ fn folder_of(words: &[String]) -> Option<&str>
     ensures { option_copied result ≡ folder_in (map string_bytes words.now) }
 {
     match words {
-        [command, folder]
-            if command.as_str() == "run" && !folder.as_str().is_empty() => { Some(folder.as_str()) }
+        [command, folder] if command.as_str() == "run" && !folder.as_str().is_empty() => {
+            Some(folder.as_str())
+        }
         _ => None,
     }
 }

@@ -1,8 +1,8 @@
 ghost use Rattle.std.specs.Prelude.{◌≡◌, Some};
 ghost use Rattle.sg_main.specs.Texts.{number_of, text_of, name_of};
 
-use sg_top::Status;
 use sg_base::Area;
+use sg_top::Status;
 use std::fmt;
 
 /// A status as it is printed.

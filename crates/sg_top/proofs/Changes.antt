@@ -76,17 +76,17 @@ module _ (told : Bool) (v : disk.View) (k : Core) (x : State) (shows : Shows tol
         base = runs.base;
         short = runs.short;
         keeps = λ is_told.
-          let kept_logs = runs.keeps is_told in
-          record {
-            durable = kept_logs.durable;
-            waiting = kept_logs.waiting;
-            holds = kept_logs.holds;
-            logs = record {
-              durable = kept_logs.logs.durable;
-              below = kept_logs.logs.below;
-              open_one = still_open k.live kept_logs.durable kept_logs.waiting live kept_logs.logs.open_one;
+            let kept_logs = runs.keeps is_told in
+            record {
+              durable = kept_logs.durable;
+              waiting = kept_logs.waiting;
+              holds = kept_logs.holds;
+              logs = record {
+                durable = kept_logs.logs.durable;
+                below = kept_logs.logs.below;
+                open_one = still_open k.live kept_logs.durable kept_logs.waiting live kept_logs.logs.open_one;
+              };
             };
-          };
       }) in
       record {
         after = y;
@@ -114,7 +114,7 @@ module _ (told : Bool) (v : disk.View) (k : Core) (x : State) (shows : Shows tol
       let e : (n : ℕ) → turn x n (Txn name (Do op)) ≡ (Said reply, y) = λ n. op_turn name op l one is n ∙ (let P : Result Reply Reason → Answer × State = λ a. (answer_of a, y) in ap P replied) in
       let live : live_objects y ≡ (step k.objects op).1 = live_objects-did x t op ∙ ap (λ (m : Objects). (step m op).1) (sym runs.objects) in
       let on : after_line (live_objects x) words ≡ Some (live_objects y) =
-        ap (after_op (live_objects x)) says ∙ (ap (λ (m : Objects). if_replied (step m op).0 (step m op).1) (sym runs.objects) ∙ (ap (λ a. if_replied a (step k.objects op).1) replied ∙ ap Some (sym live))) in
+      ap (after_op (live_objects x)) says ∙ (ap (λ (m : Objects). if_replied (step m op).0 (step m op).1) (sym runs.objects) ∙ (ap (λ a. if_replied a (step k.objects op).1) replied ∙ ap Some (sym live))) in
       let rises : tail_of k.log ≤ tail_of new = omega (arith, tail-place k.log r, tail) in
       let numbered : t < x.next = (subst (AreSerial x) (one_live l one) runs.serial.live).1 in
       let after : Shows told w (record k { objects = o; log = new }) y = running_shows told w (record k { objects = o; log = new }) y running going (record {
@@ -127,24 +127,24 @@ module _ (told : Bool) (v : disk.View) (k : Core) (x : State) (shows : Shows tol
         base = ap (λ (z : Tail). z.base) is_new ∙ ((appended_place k.log r).1 ∙ runs.base);
         short = subst (λ (z : Tail). length z.buffer ≤ 65536) (sym is_new) (appended_short k.log r (omega (arith, spelled_most r fields)) runs.short);
         keeps = λ is_told.
-          let h = runs.keeps is_told in
-          let was : IsOpen x t h.durable h.waiting = subst (IsOpenOrNone x h.durable h.waiting) one h.logs.open_one in
-          let all = all_appended k.log r h.durable h.waiting in
-          record {
-            durable = durable_after k.log r h.durable h.waiting;
-            waiting = waiting_after k.log r h.waiting;
-            holds = holds h.durable h.waiting is_told h.holds;
-            logs = record {
-              durable = ap (λ (ls : List (List ℕ)). replay ls (Some empty)) (durable_lines (has_room k.log r) h.durable h.waiting (forced_lines x h.durable h.waiting k.live h.logs.open_one)) ∙ h.logs.durable;
-              below = subst (AreBelow (tail_of new)) (sym all) (below-append (tail_of new) (h.durable ++ h.waiting) (r ∷ []) (below-weaker (tail_of k.log) (tail_of new) (h.durable ++ h.waiting) rises h.logs.below) (omega (arith, numbered, runs.next, rises), tt));
-              open_one = subst (IsOpenOrNone y (durable_after k.log r h.durable h.waiting) (waiting_after k.log r h.waiting)) (sym one) (record {
-                own = own_after (has_room k.log r) t h.waiting r was.own (refl, tt);
-                uncommitted = uncommitted_after (has_room k.log r) t h.durable h.waiting was.own was.uncommitted;
-                lines = ap (λ (rs : List Record). replay (lines_by t rs) (Some (committed_objects x))) all ∙ (ap (λ (ls : List (List ℕ)). replay ls (Some (committed_objects x))) (lines_by-line t previous words (h.durable ++ h.waiting))
-                  ∙ (replay-append (lines_by t (h.durable ++ h.waiting)) (words ∷ []) (Some (committed_objects x)) ∙ (ap (replay (words ∷ [])) was.lines ∙ on)));
-              });
+            let h = runs.keeps is_told in
+            let was : IsOpen x t h.durable h.waiting = subst (IsOpenOrNone x h.durable h.waiting) one h.logs.open_one in
+            let all = all_appended k.log r h.durable h.waiting in
+            record {
+              durable = durable_after k.log r h.durable h.waiting;
+              waiting = waiting_after k.log r h.waiting;
+              holds = holds h.durable h.waiting is_told h.holds;
+              logs = record {
+                durable = ap (λ (ls : List (List ℕ)). replay ls (Some empty)) (durable_lines (has_room k.log r) h.durable h.waiting (forced_lines x h.durable h.waiting k.live h.logs.open_one)) ∙ h.logs.durable;
+                below = subst (AreBelow (tail_of new)) (sym all) (below-append (tail_of new) (h.durable ++ h.waiting) (r ∷ []) (below-weaker (tail_of k.log) (tail_of new) (h.durable ++ h.waiting) rises h.logs.below) (omega (arith, numbered, runs.next, rises), tt));
+                open_one = subst (IsOpenOrNone y (durable_after k.log r h.durable h.waiting) (waiting_after k.log r h.waiting)) (sym one) (record {
+                  own = own_after (has_room k.log r) t h.waiting r was.own (refl, tt);
+                  uncommitted = uncommitted_after (has_room k.log r) t h.durable h.waiting was.own was.uncommitted;
+                  lines = ap (λ (rs : List Record). replay (lines_by t rs) (Some (committed_objects x))) all ∙ (ap (λ (ls : List (List ℕ)). replay ls (Some (committed_objects x))) (lines_by-line t previous words (h.durable ++ h.waiting))
+                      ∙ (replay-append (lines_by t (h.durable ++ h.waiting)) (words ∷ []) (Some (committed_objects x)) ∙ (ap (replay (words ∷ [])) was.lines ∙ on)));
+                });
+              };
             };
-          };
       }) in
       record {
         after = y;
@@ -153,8 +153,8 @@ module _ (told : Bool) (v : disk.View) (k : Core) (x : State) (shows : Shows tol
         full = λ high work said. absurd (omega arith);
         shows = after;
         moments = λ is_told.
-          let h = runs.keeps is_told in
-          moments.weaker (call h.durable h.waiting is_told h.holds) (λ c here. first_same x y x.answered c refl refl (omega (arith, runs.answered)) (stands_either x k.live (tail_of k.log) h.durable h.waiting c h.logs (of_log k.log runs.area runs.base here)));
+            let h = runs.keeps is_told in
+            moments.weaker (call h.durable h.waiting is_told h.holds) (λ c here. first_same x y x.answered c refl refl (omega (arith, runs.answered)) (stands_either x k.live (tail_of k.log) h.durable h.waiting c h.logs (of_log k.log runs.area runs.base here)));
       }
 
   -- the turn of a begin where none is live
@@ -186,27 +186,27 @@ module _ (told : Bool) (v : disk.View) (k : Core) (x : State) (shows : Shows tol
         base = ap (λ (z : Tail). z.base) is_new ∙ ((appended_place k.log r).1 ∙ runs.base);
         short = subst (λ (z : Tail). length z.buffer ≤ 65536) (sym is_new) (appended_short k.log r (omega (arith, begin-length n previous)) runs.short);
         keeps = λ is_told.
-          let h = runs.keeps is_told in
-          let empty_buffer : h.waiting ≡ [] = subst (IsOpenOrNone x h.durable h.waiting) none h.logs.open_one in
-          let all = all_appended k.log r h.durable h.waiting in
-          let one = one_after (has_room k.log r) h.waiting r empty_buffer in
-          let was_below : AreBelow (tail_of k.log) (h.durable ++ h.waiting) = h.logs.below in
-          let no_lines : lines_by n ((h.durable ++ h.waiting) ++ r ∷ []) ≡ [] = lines_by-append n (h.durable ++ h.waiting) (r ∷ []) ∙ (append-nil (lines_by n (h.durable ++ h.waiting)) ∙ lines_by-above n (tail_of k.log) (h.durable ++ h.waiting) was_below at) in
-          let before : IsNotAmong n (commits_in h.durable) = subst (λ (rs : List Record). IsNotAmong n (commits_in rs)) (ap (λ (rs : List Record). h.durable ++ rs) empty_buffer ∙ append-nil h.durable) (commits_in-above n (tail_of k.log) (h.durable ++ h.waiting) was_below at) in
-          record {
-            durable = durable_after k.log r h.durable h.waiting;
-            waiting = waiting_after k.log r h.waiting;
-            holds = holds h.durable h.waiting is_told h.holds;
-            logs = record {
-              durable = ap (λ (ls : List (List ℕ)). replay ls (Some empty)) (durable_lines (has_room k.log r) h.durable h.waiting (forced_lines x h.durable h.waiting k.live h.logs.open_one)) ∙ h.logs.durable;
-              below = subst (AreBelow (tail_of new)) (sym all) (below-append (tail_of new) (h.durable ++ h.waiting) (r ∷ []) (below-weaker (tail_of k.log) (tail_of new) (h.durable ++ h.waiting) (omega (arith, at, rises)) was_below) (omega (arith, rises), tt));
-              open_one = record {
-                own = subst (AreOwn n) (sym one) (refl, tt);
-                uncommitted = uncommitted_after (has_room k.log r) n h.durable h.waiting (subst (AreOwn n) (sym empty_buffer) tt) before;
-                lines = ap (λ (rs : List Record). replay (lines_by n rs) (Some (committed_objects x))) all ∙ (ap (λ (ls : List (List ℕ)). replay ls (Some (committed_objects x))) no_lines ∙ ap Some (sym settled));
+            let h = runs.keeps is_told in
+            let empty_buffer : h.waiting ≡ [] = subst (IsOpenOrNone x h.durable h.waiting) none h.logs.open_one in
+            let all = all_appended k.log r h.durable h.waiting in
+            let one = one_after (has_room k.log r) h.waiting r empty_buffer in
+            let was_below : AreBelow (tail_of k.log) (h.durable ++ h.waiting) = h.logs.below in
+            let no_lines : lines_by n ((h.durable ++ h.waiting) ++ r ∷ []) ≡ [] = lines_by-append n (h.durable ++ h.waiting) (r ∷ []) ∙ (append-nil (lines_by n (h.durable ++ h.waiting)) ∙ lines_by-above n (tail_of k.log) (h.durable ++ h.waiting) was_below at) in
+            let before : IsNotAmong n (commits_in h.durable) = subst (λ (rs : List Record). IsNotAmong n (commits_in rs)) (ap (λ (rs : List Record). h.durable ++ rs) empty_buffer ∙ append-nil h.durable) (commits_in-above n (tail_of k.log) (h.durable ++ h.waiting) was_below at) in
+            record {
+              durable = durable_after k.log r h.durable h.waiting;
+              waiting = waiting_after k.log r h.waiting;
+              holds = holds h.durable h.waiting is_told h.holds;
+              logs = record {
+                durable = ap (λ (ls : List (List ℕ)). replay ls (Some empty)) (durable_lines (has_room k.log r) h.durable h.waiting (forced_lines x h.durable h.waiting k.live h.logs.open_one)) ∙ h.logs.durable;
+                below = subst (AreBelow (tail_of new)) (sym all) (below-append (tail_of new) (h.durable ++ h.waiting) (r ∷ []) (below-weaker (tail_of k.log) (tail_of new) (h.durable ++ h.waiting) (omega (arith, at, rises)) was_below) (omega (arith, rises), tt));
+                open_one = record {
+                  own = subst (AreOwn n) (sym one) (refl, tt);
+                  uncommitted = uncommitted_after (has_room k.log r) n h.durable h.waiting (subst (AreOwn n) (sym empty_buffer) tt) before;
+                  lines = ap (λ (rs : List Record). replay (lines_by n rs) (Some (committed_objects x))) all ∙ (ap (λ (ls : List (List ℕ)). replay ls (Some (committed_objects x))) no_lines ∙ ap Some (sym settled));
+                };
               };
             };
-          };
       }) in
       record {
         after = y;
@@ -215,8 +215,8 @@ module _ (told : Bool) (v : disk.View) (k : Core) (x : State) (shows : Shows tol
         full = λ high work said. absurd (omega arith);
         shows = after;
         moments = λ is_told.
-          let h = runs.keeps is_told in
-          moments.weaker (call h.durable h.waiting is_told h.holds) (λ c here. first_same x y x.answered c refl refl (omega (arith, runs.answered)) (stands_either x k.live (tail_of k.log) h.durable h.waiting c h.logs (of_log k.log runs.area runs.base here)));
+            let h = runs.keeps is_told in
+            moments.weaker (call h.durable h.waiting is_told h.holds) (λ c here. first_same x y x.answered c refl refl (omega (arith, runs.answered)) (stands_either x k.live (tail_of k.log) h.durable h.waiting c h.logs (of_log k.log runs.area runs.base here)));
       }
 
   -- the turn of a commit
@@ -241,20 +241,20 @@ module _ (told : Bool) (v : disk.View) (k : Core) (x : State) (shows : Shows tol
       let mid_base : mid.base ≡ 0 = ap (λ (z : Tail). z.base) is_mid ∙ ((appended_place k.log r).1 ∙ runs.base) in
       let more : length y.commits ≡ length x.commits + 1 = length-append x.commits (ops_of t x.history ∷ []) in
       let kept : (is_told : IsTrue told) → Keeps w m y = λ is_told.
-          let h = runs.keeps is_told in
-          let all = all_appended k.log r h.durable h.waiting in
-          let ds1 : List Record = durable_after k.log r h.durable h.waiting in
-          let ps1 : List Record = waiting_after k.log r h.waiting in
-          record {
-            durable = ds1 ++ ps1;
-            waiting = [];
-            holds = holds2 ds1 ps1 is_told (holds1 h.durable h.waiting is_told h.holds);
-            logs = record {
-              durable = ap (λ (rs : List Record). replay (committed_lines rs) (Some empty)) all ∙ (replay_commit x l (tail_of k.log) previous h.durable h.waiting (subst (λ (o : Option Live). Logs x o (tail_of k.log) h.durable h.waiting) one h.logs) ∙ ap Some (sym objects));
-              below = subst (AreBelow (tail_of new)) (sym (append-nil (ds1 ++ ps1) ∙ all)) (below-append (tail_of new) (h.durable ++ h.waiting) (r ∷ []) (below-weaker (tail_of k.log) (tail_of new) (h.durable ++ h.waiting) (omega (arith, rises, grows)) h.logs.below) (omega (arith, numbered, runs.next, rises, grows), tt));
-              open_one = refl;
-            };
-          } in
+      let h = runs.keeps is_told in
+      let all = all_appended k.log r h.durable h.waiting in
+      let ds1 : List Record = durable_after k.log r h.durable h.waiting in
+      let ps1 : List Record = waiting_after k.log r h.waiting in
+      record {
+        durable = ds1 ++ ps1;
+        waiting = [];
+        holds = holds2 ds1 ps1 is_told (holds1 h.durable h.waiting is_told h.holds);
+        logs = record {
+          durable = ap (λ (rs : List Record). replay (committed_lines rs) (Some empty)) all ∙ (replay_commit x l (tail_of k.log) previous h.durable h.waiting (subst (λ (o : Option Live). Logs x o (tail_of k.log) h.durable h.waiting) one h.logs) ∙ ap Some (sym objects));
+          below = subst (AreBelow (tail_of new)) (sym (append-nil (ds1 ++ ps1) ∙ all)) (below-append (tail_of new) (h.durable ++ h.waiting) (r ∷ []) (below-weaker (tail_of k.log) (tail_of new) (h.durable ++ h.waiting) (omega (arith, rises, grows)) h.logs.below) (omega (arith, numbered, runs.next, rises, grows), tt));
+          open_one = refl;
+        };
+      } in
       let after : Shows told w m y = running_shows told w m y running going (record {
         serial = serial_committed x l runs.serial (one_live l one);
         objects = runs.objects;
@@ -273,12 +273,12 @@ module _ (told : Bool) (v : disk.View) (k : Core) (x : State) (shows : Shows tol
         full = λ high work said. absurd work;
         shows = after;
         moments = λ is_told.
-          let h = runs.keeps is_told in
-          let ds1 : List Record = durable_after k.log r h.durable h.waiting in
-          let ps1 : List Record = waiting_after k.log r h.waiting in
-          moments.joined
-          (moments.weaker (call1 h.durable h.waiting is_told h.holds) (λ c here. first_others x y (ops_of t x.history) x.answered c refl refl (omega (arith, runs.answered)) (stands_either x k.live (tail_of k.log) h.durable h.waiting c h.logs (of_log k.log runs.area runs.base here))))
-          (moments.weaker (call2 ds1 ps1 is_told (holds1 h.durable h.waiting is_told h.holds)) (λ c here. commit_moment l previous one h.durable h.waiting c h.logs (of_log mid mid_area mid_base here)));
+            let h = runs.keeps is_told in
+            let ds1 : List Record = durable_after k.log r h.durable h.waiting in
+            let ps1 : List Record = waiting_after k.log r h.waiting in
+            moments.joined
+            (moments.weaker (call1 h.durable h.waiting is_told h.holds) (λ c here. first_others x y (ops_of t x.history) x.answered c refl refl (omega (arith, runs.answered)) (stands_either x k.live (tail_of k.log) h.durable h.waiting c h.logs (of_log k.log runs.area runs.base here))))
+            (moments.weaker (call2 ds1 ps1 is_told (holds1 h.durable h.waiting is_told h.holds)) (λ c here. commit_moment l previous one h.durable h.waiting c h.logs (of_log mid mid_area mid_base here)));
       }
     where
       commit_image : (l : Live) (previous : ℕ) → k.live ≡ Some l → (ds ps : List Record) (c : disk.Image) → Logs x k.live (tail_of k.log) ds ps
@@ -286,14 +286,14 @@ module _ (told : Bool) (v : disk.View) (k : Core) (x : State) (shows : Shows tol
       commit_image l previous one ds ps c logs has =
           let y : State = committed x l.transaction in
           first_all y x.answered c (omega (arith, runs.answered, length-append x.commits (ops_of l.transaction x.history ∷ []))) (stands c (committed_objects y) ((ds ++ ps) ++ CommitRecord l.transaction previous ∷ []) has
-            (replay_commit x l (tail_of k.log) previous ds ps (subst (λ (o : Option Live). Logs x o (tail_of k.log) ds ps) one logs) ∙ ap Some (sym (committed_live x l runs.serial (one_live l one)))))
+          (replay_commit x l (tail_of k.log) previous ds ps (subst (λ (o : Option Live). Logs x o (tail_of k.log) ds ps) one logs) ∙ ap Some (sym (committed_live x l runs.serial (one_live l one)))))
 
       commit_moment : (l : Live) (previous : ℕ) → k.live ≡ Some l → (ds ps : List Record) (c : disk.Image) → Logs x k.live (tail_of k.log) ds ps
           → HasRecords (c Log0) 0 (durable_after k.log (CommitRecord l.transaction previous) ds ps) ⊎ HasRecords (c Log0) 0 (durable_after k.log (CommitRecord l.transaction previous) ds ps ++ waiting_after k.log (CommitRecord l.transaction previous) ps)
           → StandsForFirst x.answered (committed x l.transaction) c
       commit_moment l previous one ds ps c logs (inl before) =
           first_others x (committed x l.transaction) (ops_of l.transaction x.history) x.answered c refl refl (omega (arith, runs.answered)) (stands_either x k.live (tail_of k.log) ds ps c logs
-            (elim (durable_either k.log (CommitRecord l.transaction previous) ds ps) [ inl e ↦ inl (subst (HasRecords (c Log0) 0) e before) | inr e ↦ inr (subst (HasRecords (c Log0) 0) e before) ]))
+          (elim (durable_either k.log (CommitRecord l.transaction previous) ds ps) [ inl e ↦ inl (subst (HasRecords (c Log0) 0) e before) | inr e ↦ inr (subst (HasRecords (c Log0) 0) e before) ]))
       commit_moment l previous one ds ps c logs (inr after) =
           commit_image l previous one ds ps c logs (subst (HasRecords (c Log0) 0) (all_appended k.log (CommitRecord l.transaction previous) ds ps) after)
 
@@ -365,20 +365,20 @@ module _ (told : Bool) (v : disk.View) (k : Core) (x : State) (shows : Shows tol
       let mid_area : mid.area ≡ Log0 = ap (λ (z : Tail). z.area) is_mid ∙ ((appended_place k.log r).0 ∙ runs.area) in
       let mid_base : mid.base ≡ 0 = ap (λ (z : Tail). z.base) is_mid ∙ ((appended_place k.log r).1 ∙ runs.base) in
       commit_fails name l w m one is halted risen (λ is_told.
-        let h = runs.keeps is_told in
-        moments.joined (commit_before l.transaction w1 call1 is_told)
-        (moments.weaker (call2 (durable_after k.log r h.durable h.waiting) (waiting_after k.log r h.waiting) is_told (holds1 h.durable h.waiting is_told h.holds)) (λ c here. forced_moment h.durable h.waiting c h.logs (of_log mid mid_area mid_base here))))
+      let h = runs.keeps is_told in
+      moments.joined (commit_before l.transaction w1 call1 is_told)
+      (moments.weaker (call2 (durable_after k.log r h.durable h.waiting) (waiting_after k.log r h.waiting) is_told (holds1 h.durable h.waiting is_told h.holds)) (λ c here. forced_moment h.durable h.waiting c h.logs (of_log mid mid_area mid_base here))))
     where
       forced_moment : (ds ps : List Record) (c : disk.Image) → Logs x k.live (tail_of k.log) ds ps
           → HasRecords (c Log0) 0 (durable_after k.log (CommitRecord l.transaction previous) ds ps) ⊎ HasRecords (c Log0) 0 (durable_after k.log (CommitRecord l.transaction previous) ds ps ++ waiting_after k.log (CommitRecord l.transaction previous) ps)
           → StandsForFirst x.answered (stop_at_commit x l.transaction) c
       forced_moment ds ps c logs (inl before) =
           first_others x (stop_at_commit x l.transaction) (ops_of l.transaction x.history) x.answered c refl refl (omega (arith, runs.answered)) (stands_either x k.live (tail_of k.log) ds ps c logs
-            (elim (durable_either k.log (CommitRecord l.transaction previous) ds ps) [ inl e ↦ inl (subst (HasRecords (c Log0) 0) e before) | inr e ↦ inr (subst (HasRecords (c Log0) 0) e before) ]))
+          (elim (durable_either k.log (CommitRecord l.transaction previous) ds ps) [ inl e ↦ inl (subst (HasRecords (c Log0) 0) e before) | inr e ↦ inr (subst (HasRecords (c Log0) 0) e before) ]))
       forced_moment ds ps c logs (inr after) =
           let y : State = stop_at_commit x l.transaction in
           first_all y x.answered c (omega (arith, runs.answered, length-append x.commits (ops_of l.transaction x.history ∷ []))) (stands c (committed_objects y) ((ds ++ ps) ++ CommitRecord l.transaction previous ∷ []) (subst (HasRecords (c Log0) 0) (all_appended k.log (CommitRecord l.transaction previous) ds ps) after)
-            (replay_commit x l (tail_of k.log) previous ds ps (subst (λ (o : Option Live). Logs x o (tail_of k.log) ds ps) one logs) ∙ ap Some (sym (committed_live x l runs.serial (one_live l one)))))
+          (replay_commit x l (tail_of k.log) previous ds ps (subst (λ (o : Option Live). Logs x o (tail_of k.log) ds ps) one logs) ∙ ap Some (sym (committed_live x l runs.serial (one_live l one)))))
 
   -- the log has no room for a commit
   pub commit_end : (name : List ℕ) (l : Live) (m : Core) → k.live ≡ Some l → l.name ≡ name → m.stopped ≡ true → NEW_WORK_END < tail_of k.log → Goes told v k x (Txn name Commit) LogEnd v m
@@ -386,9 +386,9 @@ module _ (told : Bool) (v : disk.View) (k : Core) (x : State) (shows : Shows tol
       let t : ℕ = l.transaction in
       let y : State = stop_at_commit x t in
       let images : IsTrue told → (c : disk.Image) → disk.Leaves v.now c → StandsForFirst x.answered y c = λ is_told c leaves.
-          let h = shows.images is_told c leaves in
-          let all : h.commits ≡ length x.commits = omega (arith, h.enough, h.most, runs.answered) in
-          first_others x y (ops_of t x.history) x.answered c refl refl (omega (arith, runs.answered)) (subst (StandsFor c) (ap (λ n. objects_after n x) all ∙ after_commits x) h.stands) in
+      let h = shows.images is_told c leaves in
+      let all : h.commits ≡ length x.commits = omega (arith, h.enough, h.most, runs.answered) in
+      first_others x y (ops_of t x.history) x.answered c refl refl (omega (arith, runs.answered)) (subst (StandsFor c) (ap (λ n. objects_after n x) all ∙ after_commits x) h.stands) in
       record {
         after = y;
         line = record { after = sym (stopped_commit name l one is); logged = tt; said = would_commit name l one is };

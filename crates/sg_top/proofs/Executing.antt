@@ -97,8 +97,8 @@ pub first_along : (x y : State) (least : ℕ) (c : disk.Image) → Extends x y �
 first_along x y least c h stands =
     let P : State → Objects = λ z. objects_after stands.commits z in
     let same : objects_after stands.commits y ≡ objects_after stands.commits x =
-      ap (λ (s : Objects). after_all s (in_order (take stands.commits y.commits))) h.first ∙ (ap (λ (cs : List (List Op)). after_all x.first (in_order (take stands.commits cs))) h.commits
-      ∙ ap (λ (cs : List (List Op)). after_all x.first (in_order cs)) (take-append-le stands.commits x.commits h.more stands.most)) in
+    ap (λ (s : Objects). after_all s (in_order (take stands.commits y.commits))) h.first ∙ (ap (λ (cs : List (List Op)). after_all x.first (in_order (take stands.commits cs))) h.commits
+    ∙ ap (λ (cs : List (List Op)). after_all x.first (in_order cs)) (take-append-le stands.commits x.commits h.more stands.most)) in
     record {
       commits = stands.commits;
       enough = stands.enough;
@@ -158,12 +158,12 @@ executed-more told v k x lines Before After w u m n line answer later more_later
       goes = Lines-more x lines e.answers e.after line answer h.after e.goes h.line;
       answered = omega (arith, e.answered, ext.answered);
       caused = all_caused-more _ _ e.answers answer (all_caused-weaker _ _ _ _ e.answers (λ risen room. omega (arith, risen (omega (arith, room, more_later)), more_later)) (λ full. fuller full) e.caused)
-        (caused-weaker _ _ _ _ answer (λ risen room. omega (arith, risen room, later)) (λ high. full_here high) near);
+          (caused-weaker _ _ _ _ answer (λ risen room. omega (arith, risen room, later)) (λ high. full_here high) near);
       shows = h.shows;
       took = takes e.answers e.took;
       moments = λ is_told. moments.joined
-        (moments.weaker (e.moments is_told) (λ c. first_along e.after h.after x.answered c ext))
-        (moments.weaker (h.moments is_told) (λ c. fewer h.after x.answered e.after.answered c e.answered));
+          (moments.weaker (e.moments is_told) (λ c. first_along e.after h.after x.answered c ext))
+          (moments.weaker (h.moments is_told) (λ c. fewer h.after x.answered e.after.answered c e.answered));
     }
   where
     fuller : MayBeFull k.log.gate v w → MayBeFull k.log.gate v u

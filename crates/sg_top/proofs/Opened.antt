@@ -62,9 +62,9 @@ opened_empty told v v1 w log objects u synced handed1 later1 is_log holds reads 
   none = refl;
   closed = λ is_told first. closed_held w log is_log (holds is_told (synced_settled v v1 u (synced is_told))) (ap (λ (s : disk.State). (s Log0).seen 0) (reads.unchanged is_told) ∙ ap (λ (f : disk.Bytes). f 0) (synced_seen v v1 u (synced is_told)) ∙ first);
   stands = λ is_told.
-    let h = holds is_told (synced_settled v v1 u (synced is_told)) in
-    let seen : (w.now Log0).seen ≡ (v.now Log0).seen = ap (λ (s : disk.State). (s Log0).seen) (reads.unchanged is_told) ∙ synced_seen v v1 u (synced is_told) in
-    record { records = []; hold = subst (λ (f : disk.Bytes). HasRecords f 0 []) seen (at_log0 w log [] (ap (λ (z : Tail). z.area) is_log) (ap (λ (z : Tail). z.base) is_log) (holds_seen h)); replayed = refl };
+      let h = holds is_told (synced_settled v v1 u (synced is_told)) in
+      let seen : (w.now Log0).seen ≡ (v.now Log0).seen = ap (λ (s : disk.State). (s Log0).seen) (reads.unchanged is_told) ∙ synced_seen v v1 u (synced is_told) in
+      record { records = []; hold = subst (λ (f : disk.Bytes). HasRecords f 0 []) seen (at_log0 w log [] (ap (λ (z : Tail). z.area) is_log) (ap (λ (z : Tail). z.base) is_log) (holds_seen h)); replayed = refl };
   shows = running_shows told w (record { objects = objects; live = None; stopped = false; log = log }) (start empty) refl refl (record {
     serial = record { live = refl; entries = tt };
     objects = none;

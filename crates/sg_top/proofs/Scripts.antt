@@ -86,7 +86,7 @@ module _ (told : Bool) (v : disk.View) (k : Core) (x : State) (source first : Op
         whole = ended.1;
         short = omega (arith, h.size);
         executed = subst (λ (ls : List (List ℕ)). Executed told v k x ls (λ replies. Takes first replies next) u n) (last_lines h.lines h.rest h.text h.over)
-          (executed-more told v k x h.lines _ (λ replies. Takes first replies next) w u m n (h.rest ++ []) answer h.before.later later h.before.grown grown.kept h.before.executed
+            (executed-more told v k x h.lines _ (λ replies. Takes first replies next) w u m n (h.rest ++ []) answer h.before.later later h.before.grown grown.kept h.before.executed
             (subst (λ (o : Order). Goes told w m h.before.executed.after o answer u n) (sym (last_said h.rest had h.before.pending)) goes) (takes_more first now next answer takes));
       }
 

@@ -73,7 +73,7 @@ serial_did x l op h one =
     let was = subst (AreSerial x) one h.live in
     let t : ℕ = l.transaction in
     let now : live_objects (did x t op) ≡ after_all (committed_objects x) (ops_of t (did x t op).history) =
-      live_objects-did x t op ∙ (ap (λ (m : Objects). (step m op).1) was.0 ∙ (sym (after_all-more (committed_objects x) (ops_of t x.history) op) ∙ sym (ap (after_all (committed_objects x)) (ops_of-more t op x.history)))) in
+    live_objects-did x t op ∙ (ap (λ (m : Objects). (step m op).1) was.0 ∙ (sym (after_all-more (committed_objects x) (ops_of t x.history) op) ∙ sym (ap (after_all (committed_objects x)) (ops_of-more t op x.history)))) in
     record {
       live = subst (AreSerial (did x t op)) (sym one) (now, was.1);
       entries = entries-more x.next x.history (record { transaction = t; op = op }) h.entries was.1;

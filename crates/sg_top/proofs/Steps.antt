@@ -195,9 +195,9 @@ running_shows told w m y running going runs = record {
   answered = omega (arith, runs.answered);
   one_more = omega (arith, runs.answered);
   images = λ is_told c leaves.
-    let kept = runs.keeps is_told in
-    let here : HasRecords (c Log0) 0 kept.durable = held_at c m.log kept.durable runs.area runs.base (holds_image kept.holds c leaves) in
-    first_all y y.answered c (omega (arith, runs.answered)) (stands c (committed_objects y) kept.durable here kept.logs.durable);
+      let kept = runs.keeps is_told in
+      let here : HasRecords (c Log0) 0 kept.durable = held_at c m.log kept.durable runs.area runs.base (holds_image kept.holds c leaves) in
+      first_all y y.answered c (omega (arith, runs.answered)) (stands c (committed_objects y) kept.durable here kept.logs.durable);
 }
   where
     held_at : (c : disk.Image) (log : Tail) (ds : List Record) → log.area ≡ Log0 → log.base ≡ 0 → HasRecords (c log.area) log.base ds → HasRecords (c Log0) 0 ds

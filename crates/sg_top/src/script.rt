@@ -42,7 +42,7 @@ pub fn run_script<D: Disk, S: Source, K: Sink>(
     requires { 0 < length piece.old }
     ensures ran { (x : State) → Shows D.told (D.view (session_disk session.old)) (session_core session.old) x
         → RunsTo result D.told (D.view (session_disk session.old)) (session_core session.old) x (S.left script.old) (S.left script.new) (K.taken out.old) (K.taken out.new)
-            (D.view (session_disk session.new)) (session_core session.new) }
+        (D.view (session_disk session.new)) (session_core session.new) }
     ensures cause { StopIsCaused (HasRisen (D.view (session_disk session.old)).faults (D.view (session_disk session.new)).faults)
         (MayEnd (session_core session.old).log.gate (D.view (session_disk session.old)) (D.view (session_disk session.new))) (session_stop session.old) (session_stop session.new) }
     ensures grown { Grows (session_core session.old).log (session_core session.new).log (D.view (session_disk session.old)) (D.view (session_disk session.new)) }

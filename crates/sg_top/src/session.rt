@@ -70,10 +70,10 @@ impl<D: Disk> Session<D> {
     pub fn line<K: Sink>(&mut self, alloc: Global, text: &[u8], out: &mut K) -> Result<(), Failed>
         ensures line { OnOk result ((x : State) → Shows D.told (D.view (session_disk self.old)) (session_core self.old) x →
             (answer : Said) × Goes D.told (D.view (session_disk self.old)) (session_core self.old) x (order_of text.now) answer (D.view (session_disk self.new)) (session_core self.new)
-                × Takes (K.taken out.old) (text_of answer) (K.taken out.new)) }
+            × Takes (K.taken out.old) (text_of answer) (K.taken out.new)) }
         ensures cut { OnErr result ((x : State) → Shows D.told (D.view (session_disk self.old)) (session_core self.old) x →
             (answer : Said) × Goes D.told (D.view (session_disk self.old)) (session_core self.old) x (order_of text.now) answer (D.view (session_disk self.new)) (session_core self.new)
-                × TakesFront (K.taken out.old) (text_of answer) (K.taken out.new)) }
+            × TakesFront (K.taken out.old) (text_of answer) (K.taken out.new)) }
         ensures grown { Grows (session_core self.old).log (session_core self.new).log (D.view (session_disk self.old)) (D.view (session_disk self.new)) }
         ensures cause { StopIsCaused (HasRisen (D.view (session_disk self.old)).faults (D.view (session_disk self.new)).faults) (LOG_END < (session_core self.old).log.gate + 65572)
             (session_stop self.old) (session_stop self.new) }

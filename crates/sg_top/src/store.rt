@@ -157,7 +157,11 @@ impl<D: Disk> Store<D> {
         ensures { MatchOption result (live_named (option_to_list (core_of self.now).live) name ≡ None) (λ r. (self.now.live ≡ Some r) × (bytes_eq name r.name ≡ true)) }
     {
         let live = self.live?;
-        if is_named(&live, name) { Some(live) } else { None }
+        if is_named(&live, name) {
+            Some(live)
+        } else {
+            None
+        }
     }
 
     // Begins a transaction, where none is live.
@@ -184,7 +188,10 @@ impl<D: Disk> Store<D> {
             prev: 0,
         };
         let txn = TxnId(self.log.place(&header));
-        match self.log.append(&mut self.disk, &Rec::Begin { txn, prev: 0 }) {
+        match self
+            .log
+            .append(&mut self.disk, &Rec::Begin { txn, prev: 0 })
+        {
             Ok(last) => {
                 self.live = Some(Running { name, txn, last });
                 Answer::Said(Reply::Done)
@@ -255,7 +262,7 @@ impl<D: Disk> Store<D> {
         ensures faults { IfErr result (λ e. AppendFails (end_of self.old.log (LineRecord live.txn.0 live.last (spoken text.now))) (D.view self.old.disk) (D.view self.new.disk) e) }
         ensures holds { (ds ps : List Record) → IsTrue D.told → Holds (D.view self.old.disk) self.old.log ds ps →
             OnOk result (Holds (D.view self.new.disk) self.new.log (durable_after self.old.log (LineRecord live.txn.0 live.last (spoken text.now)) ds ps)
-                (waiting_after self.old.log (LineRecord live.txn.0 live.last (spoken text.now)) ps)) }
+            (waiting_after self.old.log (LineRecord live.txn.0 live.last (spoken text.now)) ps)) }
         ensures any_moment { (ds ps : List Record) → IsTrue D.told → Holds (D.view self.old.disk) self.old.log ds ps →
             LeavesOnly (D.view self.old.disk) (D.view self.new.disk) (IsBeforeOrAfter (D.view self.old.disk).now self.old.log.area self.old.log.base ds ps) }
         ensures grown { Grows self.old.log self.new.log (D.view self.old.disk) (D.view self.new.disk) }

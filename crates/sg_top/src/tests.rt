@@ -6,8 +6,7 @@ use sg_disk::{CallKind, Disk, MemDisk};
 use std::alloc::{AllocError, Global};
 use std::test::Fail;
 
-const FIRST: &str =
-    "t begin\nt make array a 3\nt push a abc\nt set a 0 xyz\nt get a 0\nt commit";
+const FIRST: &str = "t begin\nt make array a 3\nt push a abc\nt set a 0 xyz\nt get a 0\nt commit";
 
 const FIRST_REPLIES: &str = "ok\nok\nok 0\nok\nok xyz\nok\n";
 
@@ -84,14 +83,38 @@ const HOSTILE: [(&str, &str); 16] = [
     ("t end", "error syntax\n"),
     ("begin t", "error syntax\n"),
     ("t commit", "error no-transaction\n"),
-    ("t begin\nt begin\nu begin\nu commit", "ok\nerror live\nerror too-many-live\nerror no-transaction\n"),
-    ("t begin\nt get a 99999999999999999999", "ok\nerror syntax\n"),
-    ("t begin\nt get a 000000000000000000000", "ok\nerror syntax\n"),
-    ("t begin\nt make array a 3\nt push a x:61zz\nt push a x:616", "ok\nok\nerror syntax\nerror syntax\n"),
-    ("t begin\nt make array abcdefghijklmnopqrstuvwxyzabcdef 3", "ok\nok\n"),
-    ("t begin\nt make array abcdefghijklmnopqrstuvwxyzabcdefg 3", "ok\nerror syntax\n"),
-    ("t begin\nt get a 0\nt push a x\nt make array a 3\nt make array a 3", "ok\nerror no-object\nerror no-object\nok\nerror exists\n"),
-    ("t begin\nt make array a 3\nt push a ab\nt get a 1\nt set a 0 wxyz", "ok\nok\nerror declined\nerror out-of-range\nerror out-of-range\n"),
+    (
+        "t begin\nt begin\nu begin\nu commit",
+        "ok\nerror live\nerror too-many-live\nerror no-transaction\n",
+    ),
+    (
+        "t begin\nt get a 99999999999999999999",
+        "ok\nerror syntax\n",
+    ),
+    (
+        "t begin\nt get a 000000000000000000000",
+        "ok\nerror syntax\n",
+    ),
+    (
+        "t begin\nt make array a 3\nt push a x:61zz\nt push a x:616",
+        "ok\nok\nerror syntax\nerror syntax\n",
+    ),
+    (
+        "t begin\nt make array abcdefghijklmnopqrstuvwxyzabcdef 3",
+        "ok\nok\n",
+    ),
+    (
+        "t begin\nt make array abcdefghijklmnopqrstuvwxyzabcdefg 3",
+        "ok\nerror syntax\n",
+    ),
+    (
+        "t begin\nt get a 0\nt push a x\nt make array a 3\nt make array a 3",
+        "ok\nerror no-object\nerror no-object\nok\nerror exists\n",
+    ),
+    (
+        "t begin\nt make array a 3\nt push a ab\nt get a 1\nt set a 0 wxyz",
+        "ok\nok\nerror declined\nerror out-of-range\nerror out-of-range\n",
+    ),
 ];
 
 #[test]
@@ -170,7 +193,10 @@ fn a_disk_that_fails(rt: HostRuntime) -> Result<(), Fail> {
     let mut out = MemSink::new(alloc, None);
     let finish = run_in_pieces(alloc, disk, script, 65_536, &mut out)?;
     assert_eq!(rt; finish.status, Status::Disk);
-    assert_eq!(rt; out.text(), b"ok\nok\nok\nerror disk\nerror stopped\n".as_slice());
+    assert_eq!(rt;
+        out.text(),
+        b"ok\nok\nok\nerror disk\nerror stopped\n".as_slice()
+    );
     assert_eq!(rt; finish.disk.fault_count(), 1);
 
     let mut disk = MemDisk::new(alloc);
@@ -185,7 +211,12 @@ fn a_disk_that_fails(rt: HostRuntime) -> Result<(), Fail> {
 #[test]
 fn a_log_that_is_not_empty(rt: HostRuntime) -> Result<(), Fail> {
     let alloc = rt.alloc();
-    let disk = MemDisk::of(alloc, Vec::new(alloc), FIRST_LOG.to_vec(alloc)?, Vec::new(alloc));
+    let disk = MemDisk::of(
+        alloc,
+        Vec::new(alloc),
+        FIRST_LOG.to_vec(alloc)?,
+        Vec::new(alloc),
+    );
     let mut out = MemSink::new(alloc, None);
     let finish = run_in_pieces(alloc, disk, FIRST.as_bytes(), 65_536, &mut out)?;
     assert_eq!(rt; finish.status, Status::Damaged(Area::Log0, 0));

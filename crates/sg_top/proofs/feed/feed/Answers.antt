@@ -21,13 +21,13 @@ returns-in_default-clause-fed g c = λ v k x lines first held h.
 pub lines-preserved : goal.lines-preserved
 lines-preserved g c = record {
   so_far = λ v k x lines first held h.
-    let a = c.lines.invariant.so_far v k x lines first held h in
-    let l = c.in-Ok.ensures.line a.so_far.executed.after a.so_far.executed.shows in
-    let w = g.D.Disk.view (session_disk c.lines.session) in
-    let u = g.D.Disk.view (session_disk c.line.new.self) in
-    feed_line g.D.Disk.told v k x lines first held c.args.piece.now (g.K.Sink.taken c.lines.out) (g.K.Sink.taken c.line.new.out) w u (session_core c.lines.session) (session_core c.line.new.self)
-    c.lines.pending c.push.new.self c.clear.new.self c.lines.rest.now c.cut.result.0.now c.in-Some.after.now l.0 a c.push.ensures c.clear.ensures (rw c.in-Some.is at c.cut.ensures.more_piece) c.line.ensures.disk c.line.ensures.grown
-    (subst (λ (t : List ℕ). Goes g.D.Disk.told w (session_core c.lines.session) a.so_far.executed.after (order_of t) l.0 u (session_core c.line.new.self)) c.bytes.ensures l.1) l.2;
+      let a = c.lines.invariant.so_far v k x lines first held h in
+      let l = c.in-Ok.ensures.line a.so_far.executed.after a.so_far.executed.shows in
+      let w = g.D.Disk.view (session_disk c.lines.session) in
+      let u = g.D.Disk.view (session_disk c.line.new.self) in
+      feed_line g.D.Disk.told v k x lines first held c.args.piece.now (g.K.Sink.taken c.lines.out) (g.K.Sink.taken c.line.new.out) w u (session_core c.lines.session) (session_core c.line.new.self)
+      c.lines.pending c.push.new.self c.clear.new.self c.lines.rest.now c.cut.result.0.now c.in-Some.after.now l.0 a c.push.ensures c.clear.ensures (rw c.in-Some.is at c.cut.ensures.more_piece) c.line.ensures.disk c.line.ensures.grown
+      (subst (λ (t : List ℕ). Goes g.D.Disk.told w (session_core c.lines.session) a.so_far.executed.after (order_of t) l.0 u (session_core c.line.new.self)) c.bytes.ensures l.1) l.2;
   grown = grows_on _ _ _ _ _ _ c.lines.invariant.grown c.line.ensures.grown;
   cause = stop_on (session_core c.args.session.now).log.gate (session_core c.lines.session).log.gate (g.D.Disk.view (session_disk c.args.session.now)) (g.D.Disk.view (session_disk c.lines.session)) (g.D.Disk.view (session_disk c.line.new.self))
       (session_stop c.args.session.now) (session_stop c.lines.session) (session_stop c.line.new.self) c.line.ensures.disk c.lines.invariant.disk c.line.ensures.grown.kept c.lines.invariant.grown.grown c.lines.invariant.cause
@@ -52,5 +52,5 @@ returns-in-Err-clause-grown g c = grows_on _ _ _ _ _ _ c.lines.invariant.grown c
 pub returns-in-Err-clause-cause : goal.returns-in-Err-clause-cause
 returns-in-Err-clause-cause g c =
     stop_on (session_core c.args.session.now).log.gate (session_core c.lines.session).log.gate (g.D.Disk.view (session_disk c.args.session.now)) (g.D.Disk.view (session_disk c.lines.session)) (g.D.Disk.view (session_disk c.line.new.self))
-      (session_stop c.args.session.now) (session_stop c.lines.session) (session_stop c.line.new.self) c.line.ensures.disk c.lines.invariant.disk c.line.ensures.grown.kept c.lines.invariant.grown.grown c.lines.invariant.cause
-      (stop_here (session_core c.lines.session).log.gate (g.D.Disk.view (session_disk c.lines.session)) (g.D.Disk.view (session_disk c.line.new.self)) (session_stop c.lines.session) (session_stop c.line.new.self) c.line.ensures.grown.kept c.line.ensures.cause)
+    (session_stop c.args.session.now) (session_stop c.lines.session) (session_stop c.line.new.self) c.line.ensures.disk c.lines.invariant.disk c.line.ensures.grown.kept c.lines.invariant.grown.grown c.lines.invariant.cause
+    (stop_here (session_core c.lines.session).log.gate (g.D.Disk.view (session_disk c.lines.session)) (g.D.Disk.view (session_disk c.line.new.self)) (session_stop c.lines.session) (session_stop c.line.new.self) c.line.ensures.grown.kept c.line.ensures.cause)

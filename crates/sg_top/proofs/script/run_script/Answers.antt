@@ -49,8 +49,8 @@ returns-then-count-total-clause-ran g c x shows =
 pub pieces-preserved : goal.pieces-preserved
 pieces-preserved g c = record {
   so_far = λ x shows.
-    way_goes_on g.D.Disk.told (g.D.Disk.view (session_disk c.args.session.now)) (session_core c.args.session.now) x (g.S.Source.left c.args.script.now) (g.K.Sink.taken c.args.out.now) (g.S.Source.left c.pieces.script) (g.S.Source.left c.read.new.self) _ _ _ _ _ _ c.pieces.line c.feed.new.pending c.read.new.into _ c.pieces.total c.in-Ok.count
-    (c.pieces.invariant.so_far x shows) c.in-Ok.ensures.given c.in-Ok.ensures.within refl c.in-Ok-feed.ensures.fed;
+      way_goes_on g.D.Disk.told (g.D.Disk.view (session_disk c.args.session.now)) (session_core c.args.session.now) x (g.S.Source.left c.args.script.now) (g.K.Sink.taken c.args.out.now) (g.S.Source.left c.pieces.script) (g.S.Source.left c.read.new.self) _ _ _ _ _ _ c.pieces.line c.feed.new.pending c.read.new.into _ c.pieces.total c.in-Ok.count
+      (c.pieces.invariant.so_far x shows) c.in-Ok.ensures.given c.in-Ok.ensures.within refl c.in-Ok-feed.ensures.fed;
   short = omega arith;
   cause = stop_on (session_core c.args.session.now).log.gate (session_core c.pieces.session).log.gate (g.D.Disk.view (session_disk c.args.session.now)) (g.D.Disk.view (session_disk c.pieces.session)) (g.D.Disk.view (session_disk c.feed.new.session))
       (session_stop c.args.session.now) (session_stop c.pieces.session) (session_stop c.feed.new.session) c.feed.ensures.disk c.pieces.invariant.disk c.feed.ensures.grown.kept c.pieces.invariant.grown.grown c.pieces.invariant.cause c.feed.ensures.cause;

@@ -13,7 +13,7 @@ abbrev pub invariant-pieces : goal.invariant-pieces
 invariant-pieces g l = record {
   so_far : (x : State) → Shows g.D.Disk.told (g.D.Disk.view (session_disk l.fn.session)) (session_core l.fn.session) x
       → IsUnderWay g.D.Disk.told (g.D.Disk.view (session_disk l.fn.session)) (session_core l.fn.session) x (g.S.Source.left l.fn.script) (g.S.Source.left l.script) (g.K.Sink.taken l.fn.out) (g.K.Sink.taken l.out)
-          (g.D.Disk.view (session_disk l.session)) (session_core l.session) l.line l.total;
+      (g.D.Disk.view (session_disk l.session)) (session_core l.session) l.line l.total;
   short : l.total ≤ 268435456;
   cause : StopIsCaused (HasRisen (g.D.Disk.view (session_disk l.fn.session)).faults (g.D.Disk.view (session_disk l.session)).faults)
       (MayEnd (session_core l.fn.session).log.gate (g.D.Disk.view (session_disk l.fn.session)) (g.D.Disk.view (session_disk l.session))) (session_stop l.fn.session) (session_stop l.session);

@@ -34,7 +34,7 @@ returns-clause-disk g c h =
     let n = c.run_script-end.new.session in
     let faults : (g.D.Disk.view c.finish-stop.result.1).faults ≡ (g.D.Disk.view (session_disk n)).faults = ap (λ d. (g.D.Disk.view d).faults) c.finish-stop.ensures.disk in
     let risen = ended_disk c.run_script-end.result c.finish-stop.result.0 _ _ _ c.status_of-status.ensures
-      (was_running (HasRisen (g.D.Disk.view (session_disk o)).faults (g.D.Disk.view (session_disk n)).faults) _ (session_stop o) (session_stop n) c.finish-stop.result.0 c.in-Ok-start.ensures.running c.finish-stop.ensures.stop c.run_script-end.ensures.cause) h in
+    (was_running (HasRisen (g.D.Disk.view (session_disk o)).faults (g.D.Disk.view (session_disk n)).faults) _ (session_stop o) (session_stop n) c.finish-stop.result.0 c.in-Ok-start.ensures.running c.finish-stop.ensures.stop c.run_script-end.ensures.cause) h in
     subst (λ (f : ℕ). HasRisen (g.D.Disk.view c.args.disk).faults f) (sym faults) (λ room. omega (arith, risen room, c.in-Ok-start.ensures.opens.later))
 
 pub returns-clause-run : goal.returns-clause-run
@@ -42,24 +42,24 @@ returns-clause-run g c is_run =
     let o = c.in-Ok-start.session in
     let n = c.run_script-end.new.session in
     inr (subst (λ (w : disk.View). Ran g.D.Disk.told (g.D.Disk.view c.args.disk) w (g.S.Source.left c.args.script.now) (g.S.Source.left c.run_script-end.new.script) (g.K.Sink.taken c.args.out.now) (g.K.Sink.taken c.run_script-end.new.out) c.status_of-status.result)
-      (sym (ap g.D.Disk.view c.finish-stop.ensures.disk)) (record {
-        objects = c.in-Ok-start.ensures.opens.first;
-        none = c.in-Ok-start.ensures.opens.none;
-        closed = c.in-Ok-start.ensures.opens.closed;
-        stands = c.in-Ok-start.ensures.opens.stands;
-        opened = g.D.Disk.view (session_disk o);
-        core = session_core o;
-        opening = c.in-Ok-start.ensures.opens.moments;
-        handed = c.in-Ok-start.ensures.opens.handed;
-        later = c.in-Ok-start.ensures.opens.later;
-        end = c.run_script-end.result;
-        last = session_core n;
-        stop = c.finish-stop.result.0;
-        caused = was_running (HasRisen (g.D.Disk.view (session_disk o)).faults (g.D.Disk.view (session_disk n)).faults) _ (session_stop o) (session_stop n) c.finish-stop.result.0 c.in-Ok-start.ensures.running c.finish-stop.ensures.stop c.run_script-end.ensures.cause;
-        stopped = ap is_some (sym c.finish-stop.ensures.stop);
-        runs = c.run_script-end.ensures.ran (start c.in-Ok-start.ensures.opens.first) c.in-Ok-start.ensures.opens.shows;
-        status_is = c.status_of-status.ensures;
-      }))
+    (sym (ap g.D.Disk.view c.finish-stop.ensures.disk)) (record {
+      objects = c.in-Ok-start.ensures.opens.first;
+      none = c.in-Ok-start.ensures.opens.none;
+      closed = c.in-Ok-start.ensures.opens.closed;
+      stands = c.in-Ok-start.ensures.opens.stands;
+      opened = g.D.Disk.view (session_disk o);
+      core = session_core o;
+      opening = c.in-Ok-start.ensures.opens.moments;
+      handed = c.in-Ok-start.ensures.opens.handed;
+      later = c.in-Ok-start.ensures.opens.later;
+      end = c.run_script-end.result;
+      last = session_core n;
+      stop = c.finish-stop.result.0;
+      caused = was_running (HasRisen (g.D.Disk.view (session_disk o)).faults (g.D.Disk.view (session_disk n)).faults) _ (session_stop o) (session_stop n) c.finish-stop.result.0 c.in-Ok-start.ensures.running c.finish-stop.ensures.stop c.run_script-end.ensures.cause;
+      stopped = ap is_some (sym c.finish-stop.ensures.stop);
+      runs = c.run_script-end.ensures.ran (start c.in-Ok-start.ensures.opens.first) c.in-Ok-start.ensures.opens.shows;
+      status_is = c.status_of-status.ensures;
+    }))
 
 pub returns-in-Err-clause-done : goal.returns-in-Err-clause-done
 returns-in-Err-clause-done g c is_run h = absurd (refused_done c.in-Err.field-0.why _ c.status_of_refusal-status.ensures h)

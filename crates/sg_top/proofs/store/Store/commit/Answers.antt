@@ -16,8 +16,8 @@ pub returns-in-Err-clause-goes : goal.returns-in-Err-clause-goes
 returns-in-Err-clause-goes g c into x shows =
     goes_along _ (shown_answer into (answer_at c.in-Err.fault)) _ (g.D.Disk.view c.append.new.disk) _ _ (ap (λ (a : code_answer.Answer). shown_answer into a) c.halt.ensures.answer) (ap g.D.Disk.view c.halt.ensures.disk) c.halt.ensures.stopped
     (commit_fault g.D.Disk.told (g.D.Disk.view c.args.self.now.disk) (core_of c.args.self.now) x shows c.requires c.args.name (live_of c.in-Some.live) c.in-Err.fault (g.D.Disk.view c.append.new.disk) _ c.in-Some.live.last into
-      (ap (option_map live_of) c.in-Some.ensures.0) (same_text c.args.name c.in-Some.live.name c.in-Some.ensures.1) refl c.in-Err.ensures.faults
-      (λ is. ap g.D.Disk.view (c.append.ensures.unchanged (c.in-Err.is ∙ ap Err is)).1) c.append.ensures.any_moment)
+    (ap (option_map live_of) c.in-Some.ensures.0) (same_text c.args.name c.in-Some.live.name c.in-Some.ensures.1) refl c.in-Err.ensures.faults
+    (λ is. ap g.D.Disk.view (c.append.ensures.unchanged (c.in-Err.is ∙ ap Err is)).1) c.append.ensures.any_moment)
 
 pub returns-in-Ok-force-clause-goes : goal.returns-in-Ok-force-clause-goes
 returns-in-Ok-force-clause-goes g c into x shows =
@@ -29,13 +29,13 @@ pub returns-in-Err-force-clause-goes : goal.returns-in-Err-force-clause-goes
 returns-in-Err-force-clause-goes g c into x shows =
     goes_along _ (shown_answer into (answer_at c.in-Err-force.fault)) _ (g.D.Disk.view c.force.new.disk) _ _ (ap (λ (a : code_answer.Answer). shown_answer into a) c.halt-in-Err-force.ensures.answer) (ap g.D.Disk.view c.halt-in-Err-force.ensures.disk) c.halt-in-Err-force.ensures.stopped
     (force_fault g.D.Disk.told (g.D.Disk.view c.args.self.now.disk) (core_of c.args.self.now) x shows c.requires c.args.name (live_of c.in-Some.live) c.in-Err-force.fault (g.D.Disk.view c.append.new.disk) (g.D.Disk.view c.force.new.disk) c.append.new.self _ c.in-Some.live.last into
-      (ap (option_map live_of) c.in-Some.ensures.0) (same_text c.args.name c.in-Some.live.name c.in-Some.ensures.1) refl c.in-Err-force.ensures.faults c.append.ensures.later
-      c.in-Ok.ensures.log c.in-Ok.ensures.holds c.append.ensures.any_moment c.force.ensures.any_moment)
+    (ap (option_map live_of) c.in-Some.ensures.0) (same_text c.args.name c.in-Some.live.name c.in-Some.ensures.1) refl c.in-Err-force.ensures.faults c.append.ensures.later
+    c.in-Ok.ensures.log c.in-Ok.ensures.holds c.append.ensures.any_moment c.force.ensures.any_moment)
 
 pub returns-in-Err-clause-cause : goal.returns-in-Err-clause-cause
 returns-in-Err-clause-cause g c =
     let log : Tail = c.args.self.now.log in
     subst (λ (d : _). StopIsCaused (HasRisen (g.D.Disk.view c.args.self.now.disk).faults (g.D.Disk.view d).faults) (LOG_END < log.gate + 65572) c.args.self.now.stop c.halt.new.self.stop) (sym c.halt.ensures.disk)
     (stop_along _ _ c.args.self.now.stop _ _ c.halt.ensures.why
-      (stop_append c.in-Err.fault (end_of log (CommitRecord c.in-Some.live.txn.0 c.in-Some.live.last)) (g.D.Disk.view c.args.self.now.disk) (g.D.Disk.view c.append.new.disk) (LOG_END < log.gate + 65572) c.args.self.now.stop c.in-Err.ensures.faults
-        (λ past. omega (arith, commit_high log c.in-Some.live.txn.0 c.in-Some.live.last past, c.append.ensures.near))))
+    (stop_append c.in-Err.fault (end_of log (CommitRecord c.in-Some.live.txn.0 c.in-Some.live.last)) (g.D.Disk.view c.args.self.now.disk) (g.D.Disk.view c.append.new.disk) (LOG_END < log.gate + 65572) c.args.self.now.stop c.in-Err.ensures.faults
+    (λ past. omega (arith, commit_high log c.in-Some.live.txn.0 c.in-Some.live.last past, c.append.ensures.near))))

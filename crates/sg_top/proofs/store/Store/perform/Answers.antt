@@ -50,8 +50,8 @@ returns-in-Ok-clause-goes g c x shows =
     let e : step c.args.self.now.objects op ≡ (Ok (shown_reply c.apply.new.into c.in-Ok-Ok.reply), c.apply.new.self) = rw c.in-Ok-Ok.field-0-is at c.in-Ok-Ok.ensures.done in
     goes_along _ _ _ _ _ _ refl refl c.in-Ok.ensures.core
     (op_logged g.D.Disk.told (g.D.Disk.view c.args.self.now.disk) (core_of c.args.self.now) x shows c.requires.running c.args.name op (live_of l) (shown_reply c.apply.new.into c.in-Ok-Ok.reply) c.apply.new.self (g.D.Disk.view c.keep.new.self.disk) c.keep.new.self.log l.last (spoken c.args.text.now)
-      (ap (option_map live_of) c.in-Some.ensures.0) (same_text c.args.name l.name c.in-Some.ensures.1) (sym (ap (λ (p : Result Reply Reason × Objects). p.1) e)) (ap (λ (p : Result Reply Reason × Objects). p.0) e) (op_said-spoken c.args.text.now c.args.name op c.requires.said) c.keep.ensures.range
-      (c.is_full.ensures.low c.if-is_full.false c.if-not-changing.false) c.in-Ok.ensures.log c.in-Ok.ensures.tail c.in-Ok.ensures.holds c.keep.ensures.any_moment)
+    (ap (option_map live_of) c.in-Some.ensures.0) (same_text c.args.name l.name c.in-Some.ensures.1) (sym (ap (λ (p : Result Reply Reason × Objects). p.1) e)) (ap (λ (p : Result Reply Reason × Objects). p.0) e) (op_said-spoken c.args.text.now c.args.name op c.requires.said) c.keep.ensures.range
+    (c.is_full.ensures.low c.if-is_full.false c.if-not-changing.false) c.in-Ok.ensures.log c.in-Ok.ensures.tail c.in-Ok.ensures.holds c.keep.ensures.any_moment)
 
 pub returns-in-Err-keep-clause-goes : goal.returns-in-Err-keep-clause-goes
 returns-in-Err-keep-clause-goes g c x shows =
@@ -62,8 +62,8 @@ returns-in-Err-keep-clause-goes g c x shows =
     let fields : IsRecord (LineRecord l.txn.0 l.last (spoken c.args.text.now)) = c.keep.ensures.range in
     goes_along _ (shown_answer c.apply.new.into (answer_at c.in-Err-keep.fault)) _ (g.D.Disk.view c.keep.new.self.disk) _ _ (ap (λ (a : code_answer.Answer). shown_answer c.apply.new.into a) c.halt.ensures.answer) (ap g.D.Disk.view c.halt.ensures.disk) c.halt.ensures.stopped
     (op_fault g.D.Disk.told (g.D.Disk.view c.args.self.now.disk) (core_of c.args.self.now) x shows c.requires.running c.args.name op (live_of l) (shown_reply c.apply.new.into c.in-Ok-Ok.reply) c.in-Err-keep.fault (g.D.Disk.view c.keep.new.self.disk) _ (LineRecord l.txn.0 l.last (spoken c.args.text.now)) c.apply.new.into refl
-      (ap (option_map live_of) c.in-Some.ensures.0) (same_text c.args.name l.name c.in-Some.ensures.1) changing (ap (λ (p : Result Reply Reason × Objects). p.0) e)
-      (c.is_full.ensures.low c.if-is_full.false c.if-not-changing.false) fields c.in-Err-keep.ensures.faults c.keep.ensures.any_moment)
+    (ap (option_map live_of) c.in-Some.ensures.0) (same_text c.args.name l.name c.in-Some.ensures.1) changing (ap (λ (p : Result Reply Reason × Objects). p.0) e)
+    (c.is_full.ensures.low c.if-is_full.false c.if-not-changing.false) fields c.in-Err-keep.ensures.faults c.keep.ensures.any_moment)
 
 pub returns-in-Err-keep-clause-cause : goal.returns-in-Err-keep-clause-cause
 returns-in-Err-keep-clause-cause g c =
@@ -74,5 +74,5 @@ returns-in-Err-keep-clause-cause g c =
     let within = ends_within log r c.keep.ensures.range low in
     subst (λ (d : _). StopIsCaused (HasRisen (g.D.Disk.view c.args.self.now.disk).faults (g.D.Disk.view d).faults) (LOG_END < log.gate + 65572) c.args.self.now.stop c.halt.new.self.stop) (sym c.halt.ensures.disk)
     (stop_along _ _ c.args.self.now.stop _ _ c.halt.ensures.why
-      (stop_append c.in-Err-keep.fault (end_of log r) (g.D.Disk.view c.args.self.now.disk) (g.D.Disk.view c.keep.new.self.disk) (LOG_END < log.gate + 65572) c.args.self.now.stop c.in-Err-keep.ensures.faults
-        (λ past. absurd (omega (arith, past, within)))))
+    (stop_append c.in-Err-keep.fault (end_of log r) (g.D.Disk.view c.args.self.now.disk) (g.D.Disk.view c.keep.new.self.disk) (LOG_END < log.gate + 65572) c.args.self.now.stop c.in-Err-keep.ensures.faults
+    (λ past. absurd (omega (arith, past, within)))))
