@@ -12,15 +12,15 @@ use Rattle.sg_log.specs.Held.{Tail, Holds}
 use Rattle.sg_log.specs.Reads.{OnlyReads}
 use Rattle.sg_log.proofs.Chain.{damaged_once}
 use Rattle.sg_log.proofs.Holding.{holds_along}
-use Rattle.sg_log.proofs.Unique.{HasRecords-one}
+use Rattle.sg_log.proofs.Unique.{HasRecords-one, HasRecords-gate}
 
 -- the log that is made, and what it holds
 abbrev pub attached : Area → (base gate : ℕ) → Tail
 attached area base gate = record { area = area; base = base; gate = base + gate; buffer = [] }
 
 module _ (told : Bool) (area : Area) (base gate : ℕ) (old new : View) (sure : IsTrue told) (reads : OnlyReads told old new) (within : base + gate ≤ LOG_END) (frames : List (List Record)) (stand : Frames (old.now area).seen 0 frames) (there : gate ≡ gate_after 0 frames) where
-  pub found_records : HasRecords (old.now area).seen base (records_of frames)
-  found_records = record { frames = frames; stand = stand; all = refl; within = omega arith }
+  pub found_records : HasRecords (old.now area).seen base (base + gate) (records_of frames)
+  found_records = record { frames = frames; stand = stand; all = refl; at_gate = ap (λ (n : ℕ). base + n) there; within = within }
 
   pub found_holds : (old.now area).pending ≡ [] → Holds new (attached area base gate) (records_of frames) []
   found_holds settled = holds_along {v = old} {w = new} {log = attached area base gate} (reads.unchanged sure) (record {
@@ -35,8 +35,8 @@ module _ (told : Bool) (area : Area) (base gate : ℕ) (old new : View) (sure : 
   })
 
   -- these are all that the area has
-  pub found_these : (old.now area).pending ≡ [] → (ds : List Record) → HasRecords (old.now area).seen base ds → Holds new (attached area base gate) ds []
-  found_these settled ds has = subst (λ (rs : List Record). Holds new (attached area base gate) rs []) (HasRecords-one found_records has) (found_holds settled)
+  pub found_these : (old.now area).pending ≡ [] → (ds : List Record) (to : ℕ) → HasRecords (old.now area).seen base to ds → (base + gate ≡ to) × Holds new (attached area base gate) ds []
+  found_these settled ds to has = (HasRecords-gate found_records has, subst (λ (rs : List Record). Holds new (attached area base gate) rs []) (HasRecords-one found_records has) (found_holds settled))
 
 module _ (told : Bool) (area : Area) (base : ℕ) (old new : View) where
   -- a walk answers a damage only where there is one

@@ -65,8 +65,8 @@ one_damage f base at (rs ∷ lead) (ss ∷ other) h u within k v among =
     (subst (λ (n : ℕ). base + gate_after (at + 1 + n) lead ≤ LOG_END) same within)
     k.1 v among
 
-pub undamaged : {f : Bytes} {base at : ℕ} {ds : List Record} → HasRecords f base ds → IsDamagedAt f base at → ⊥
-undamaged {f = f} {base = base} h d = no_damage f base 0 d.frames h.frames d.lead (subst (IsUnformed f base) d.there d.unformed) h.stand h.within
+pub undamaged : {f : Bytes} {base gate at : ℕ} {ds : List Record} → HasRecords f base gate ds → IsDamagedAt f base at → ⊥
+undamaged {f = f} {base = base} h d = no_damage f base 0 d.frames h.frames d.lead (subst (IsUnformed f base) d.there d.unformed) h.stand (omega (arith, h.at_gate, h.within))
 
 pub damaged_once : {f : Bytes} {base at to : ℕ} → IsDamagedAt f base at → IsDamagedAt f base to → at ≡ to
 damaged_once {f = f} {base = base} d e =

@@ -10,8 +10,8 @@ use Rattle.sg_record.specs.Records.{Record, spelled, spelled_all, HEADER, GREATE
 use borrow.Rule.Slice.PartMut.{put_mid}
 use Rattle.sg_record.proofs.Placed.{placed}
 use Rattle.sg_record.proofs.Spelling.{spelled-long}
-use Rattle.sg_log.specs.Frames.{GREATEST_BODY, LOG_END, text_of, IsFrame, Frames, records_of, IsAtRest, IsWithOrWithout, HasRecords, IsBeforeOrAfter}
-use Rattle.sg_log.specs.Held.{Tail, Holds, tail_of, has_room, place_of, end_of, forced, buffered, durable_after, waiting_after}
+use Rattle.sg_log.specs.Frames.{GREATEST_BODY, LOG_END, text_of, IsFrame, Frames, records_of, IsAtRest, IsWithOrWithout, HasRecords}
+use Rattle.sg_log.specs.Held.{Tail, Holds, tail_of, has_room, place_of, end_of, forced, buffered, durable_after, waiting_after, IsBeforeOrAfter}
 use Rattle.sg_log.proofs.Steps.{frame_text, gate_more, rest_image}
 
 -- a record has at most these bytes
@@ -46,17 +46,18 @@ pub tail_behind : (log : Tail) → 0 < length log.buffer → tail_of log ≡ log
 tail_behind log some = grind (arith, nat_tests)
 
 -- where a log holds records, each image that a crash may leave has its durable ones
-pub holds_image : {v : View} {log : Tail} {ds ps : List Record} → Holds v log ds ps → (c : Image) → Leaves v.now c → HasRecords (c log.area) log.base ds
+pub holds_image : {v : View} {log : Tail} {ds ps : List Record} → Holds v log ds ps → (c : Image) → Leaves v.now c → HasRecords (c log.area) log.base log.gate ds
 holds_image {v = v} {log = log} h c leaves = record {
   frames = h.frames;
   stand = rest_image v.now log.area h.frames c h.stand h.settled leaves;
   all = h.all;
-  within = omega (arith, h.at_gate, h.within, tail_at_gate log);
+  at_gate = h.at_gate;
+  within = omega (arith, h.within, tail_at_gate log);
 }
 
 -- and so has what reads give
-pub holds_seen : {v : View} {log : Tail} {ds ps : List Record} → Holds v log ds ps → HasRecords (v.now log.area).seen log.base ds
-holds_seen {v = v} {log = log} h = record { frames = h.frames; stand = h.stand; all = h.all; within = omega (arith, h.at_gate, h.within, tail_at_gate log) }
+pub holds_seen : {v : View} {log : Tail} {ds ps : List Record} → Holds v log ds ps → HasRecords (v.now log.area).seen log.base log.gate ds
+holds_seen {v = v} {log = log} h = record { frames = h.frames; stand = h.stand; all = h.all; at_gate = h.at_gate; within = omega (arith, h.within, tail_at_gate log) }
 
 -- a disk in the same state
 pub holds_along : {v w : View} {log : Tail} {ds ps : List Record} → w.now ≡ v.now → Holds v log ds ps → Holds w log ds ps
@@ -72,11 +73,11 @@ holds_along {v = v} {w = w} {log = log} same h = record {
 }
 
 -- before any call, a crash leaves the durable records
-pub image_now : {v : View} {log : Tail} {ds ps : List Record} → Holds v log ds ps → (c : Image) → Leaves v.now c → IsBeforeOrAfter v.now log.area log.base ds ps c
-image_now h c leaves = record { log = inl (holds_image h c leaves); others = λ b other. leaves b }
+pub image_now : {v : View} {log : Tail} {ds ps : List Record} → Holds v log ds ps → (c : Image) → Leaves v.now c → IsBeforeOrAfter v.now log ds ps c
+image_now h c leaves = record { held = inl (holds_image h c leaves); others = λ b other. leaves b }
 
-pub no_call_moments : {v : View} {log : Tail} {ds ps : List Record} → Holds v log ds ps → LeavesOnly v v (IsBeforeOrAfter v.now log.area log.base ds ps)
-no_call_moments {v = v} {log = log} {ds = ds} {ps = ps} h = started v (IsBeforeOrAfter v.now log.area log.base ds ps) (image_now h)
+pub no_call_moments : {v : View} {log : Tail} {ds ps : List Record} → Holds v log ds ps → LeavesOnly v v (IsBeforeOrAfter v.now log ds ps)
+no_call_moments {v = v} {log = log} {ds = ds} {ps = ps} h = started v (IsBeforeOrAfter v.now log ds ps) (image_now h)
 
 -- an empty log
 pub empty_holds : (v : View) (area : Area) (base : ℕ) → base ≤ LOG_END → (v.now area).pending ≡ [] → ((v.now area).seen 0 ≡ 1 → ⊥) → Holds v (record { area = area; base = base; gate = base; buffer = [] }) [] []
@@ -104,15 +105,16 @@ pub waiting_rest : {v : View} {log : Tail} {ds ps : List Record} (h : Holds v lo
 waiting_rest {log = log} h = record { stand = h.stand; at_gate = omega (arith, h.at_gate); settled = h.settled }
 
 -- a moment of a force
-pub force_moment : {v : View} {log : Tail} {ds ps : List Record} (h : Holds v log ds ps) → 0 < length log.buffer → (c : Image) → IsWithOrWithout v.now log.area h.frames ps c → IsBeforeOrAfter v.now log.area log.base ds ps c
+pub force_moment : {v : View} {log : Tail} {ds ps : List Record} (h : Holds v log ds ps) → 0 < length log.buffer → (c : Image) → IsWithOrWithout v.now log.area h.frames ps c → IsBeforeOrAfter v.now log ds ps c
 force_moment {log = log} {ds = ds} {ps = ps} h some c m = record {
-  log = ⊎_elim
-      (λ without. inl (record { frames = h.frames; stand = without; all = h.all; within = omega (arith, h.at_gate, h.within, tail_at_gate log) }))
+  held = ⊎_elim
+      (λ without. inl (record { frames = h.frames; stand = without; all = h.all; at_gate = h.at_gate; within = omega (arith, h.within, tail_at_gate log) }))
       (λ with. inr (record {
         frames = h.frames ++ ps ∷ [];
         stand = with;
         all = records_of-more h.frames ps ∙ ap (λ (xs : List Record). xs ++ ps) h.all;
-        within = omega (arith, gate_more 0 h.frames ps, h.at_gate, h.within, tail_behind log some, ap length h.waiting, text-length (spelled_all ps));
+        at_gate = omega (arith, gate_more 0 h.frames ps, h.at_gate, tail_behind log some, ap length h.waiting, text-length (spelled_all ps));
+        within = h.within;
       }))
       m.log;
   others = m.others;
@@ -257,8 +259,8 @@ pub moments_read : {T E : Type 0} {v w : View} {r : Result T E} → ReadBytes v 
 moments_read {v = v} read = goes_on (started v (Leaves v.now) (λ c leaves. leaves)) read (λ c leaves. leaves)
 
 -- an area whose first gate is closed holds no records
-pub no_records : (f : Bytes) (base : ℕ) → base ≤ LOG_END → (f 0 ≡ 1 → ⊥) → HasRecords f base []
-no_records f base within shut = record { frames = []; stand = shut; all = refl; within = omega arith }
+pub no_records : (f : Bytes) (base : ℕ) → base ≤ LOG_END → (f 0 ≡ 1 → ⊥) → HasRecords f base base []
+no_records f base within shut = record { frames = []; stand = shut; all = refl; at_gate = omega arith; within = within }
 
 -- a force moves no number
 pub tail_forced : (log : Tail) → tail_of (forced log) ≡ tail_of log

@@ -54,15 +54,11 @@ pub record IsWithOrWithout (s : State) (area : Area) (frames : List (List Record
   pub log : Frames (c area) 0 frames ⊎ Frames (c area) 0 (frames ++ rs ∷ [])
   pub others : (b : Area) → (b ≡ area → ⊥) → LeavesPart (s b) (c b)
 
--- an area whose first byte has this number in the log holds exactly these records
-pub record HasRecords (f : Bytes) (base : ℕ) (rs : List Record) : Type 0 where
+-- an area whose first byte has the number base in the log holds exactly these records, and the closed gate behind them
+-- has this number
+pub record HasRecords (f : Bytes) (base gate : ℕ) (rs : List Record) : Type 0 where
   pub frames : List (List Record)
   pub stand : Frames f 0 frames
   pub all : records_of frames ≡ rs
-  pub within : base + gate_after 0 frames ≤ LOG_END
-
--- An image of a moment at which records are made durable: the log's area holds those from before, or these too.
--- The other areas are as a crash could have left them in that state.
-pub record IsBeforeOrAfter (s : State) (area : Area) (base : ℕ) (before more : List Record) (c : Image) : Type 0 where
-  pub log : HasRecords (c area) base before ⊎ HasRecords (c area) base (before ++ more)
-  pub others : (b : Area) → (b ≡ area → ⊥) → LeavesPart (s b) (c b)
+  pub at_gate : gate ≡ base + gate_after 0 frames
+  pub within : gate ≤ LOG_END

@@ -1,9 +1,9 @@
 -- What a log in memory knows, and which records it holds on a disk and in its buffer.
-use Rattle.std.specs.Prelude.{◌≡◌, ◌+◌, ◌≤◌, ◌<◌, ◌==◌, nat_le, if◌then◌else◌, ℕ, Bool, List, [], ◌∷◌, ◌++◌, length}
+use Rattle.std.specs.Prelude.{◌≡◌, ◌⊎◌, ◌+◌, ◌≤◌, ◌<◌, ◌==◌, nat_le, if◌then◌else◌, ℕ, Bool, List, [], ◌∷◌, ◌++◌, length}
 use Rattle.sg_base.specs.declared.area.Area.{Area}
-use Rattle.sg_disk.specs.Disk.{View}
+use Rattle.sg_disk.specs.Disk.{Image, State, LeavesPart, View}
 use Rattle.sg_record.specs.Records.{Record, spelled, spelled_all, AreRecords}
-use Rattle.sg_log.specs.Frames.{GREATEST_BODY, LOG_END, Frames, gate_after, records_of}
+use Rattle.sg_log.specs.Frames.{GREATEST_BODY, LOG_END, Frames, gate_after, records_of, HasRecords}
 
 -- A log as its callers see it: where it stands, the number of its area's first byte, the number of the closed gate
 -- behind the last frame, and the bytes that are to be the next frame's body.
@@ -60,6 +60,12 @@ pub record Holds (v : View) (log : Tail) (ds ps : List Record) : Type 0 where
   pub waiting : log.buffer ≡ spelled_all ps
   pub fields : AreRecords ps
   pub within : tail_of log ≤ LOG_END
+
+-- An image of a moment at which the buffer is made a frame: the log's area holds the records from before, up to the
+-- gate, or those of the buffer too, up to the tail. The other areas are as a crash could have left them in that state.
+pub record IsBeforeOrAfter (s : State) (log : Tail) (before more : List Record) (c : Image) : Type 0 where
+  pub held : HasRecords (c log.area) log.base log.gate before ⊎ HasRecords (c log.area) log.base (tail_of log) (before ++ more)
+  pub others : (b : Area) → (b ≡ log.area → ⊥) → LeavesPart (s b) (c b)
 
 -- the durable records after an append: those that waited come to them where it had to force
 abbrev pub durable_after : Tail → Record → List Record → List Record → List Record

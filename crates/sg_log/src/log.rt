@@ -6,8 +6,8 @@ ghost use Rattle.sg_record.specs.Records.{Record, GREATEST, spelled, spelled_all
 ghost use Rattle.sg_record.specs.Shown.{shown};
 ghost use Rattle.sg_log.specs.Faults.{ForceFails, AppendFails, AttachFails};
 ghost use Rattle.sg_log.specs.Formed.{IsFormed, IsDamagedAt};
-ghost use Rattle.sg_log.specs.Frames.{Frames, HasRecords, IsBeforeOrAfter, SameElsewhere, LOG_END, GREATEST_BODY};
-ghost use Rattle.sg_log.specs.Held.{Tail, IsTail, Holds, tail_of, place_of, end_of, has_room, forced, buffered, appended, durable_after, waiting_after};
+ghost use Rattle.sg_log.specs.Frames.{Frames, HasRecords, SameElsewhere, LOG_END, GREATEST_BODY};
+ghost use Rattle.sg_log.specs.Held.{Tail, IsTail, Holds, tail_of, place_of, end_of, has_room, forced, buffered, appended, durable_after, waiting_after, IsBeforeOrAfter};
 ghost use Rattle.sg_log.specs.Places.{Placed, HoldsAt, StandsAt, first_of, IsRecordText, IsDurable, IsWaiting, IsThere, IsSizeBehind, StandBehind};
 ghost use Rattle.sg_log.specs.Reads.{OnlyReads};
 
@@ -81,11 +81,11 @@ impl Log {
         ensures log { IfOk result (λ log. log ≡ record { area = area; base = base; gate = log.gate; buffer = [] }) }
         // The log holds what the area has, where nothing in it is pending,
         ensures holds { IsTrue D.told → ((D.view disk.old).now area).pending ≡ [] →
-            IfOk result (λ log. (ds : List Record) × HasRecords ((D.view disk.old).now area).seen base ds × Holds (D.view disk.new) log ds []) }
+            IfOk result (λ log. (ds : List Record) × HasRecords ((D.view disk.old).now area).seen base log.gate ds × Holds (D.view disk.new) log ds []) }
         // that is, the area's records where it has records at all.
-        ensures records { (ds : List Record) → IsTrue D.told → ((D.view disk.old).now area).pending ≡ [] → HasRecords ((D.view disk.old).now area).seen base ds →
-            IfOk result (λ log. Holds (D.view disk.new) log ds []) }
-        ensures undamaged { (ds : List Record) (at : ℕ) → IsTrue D.told → HasRecords ((D.view disk.old).now area).seen base ds → result ≡ Err (LogFault.Damaged at) → ⊥ }
+        ensures records { (ds : List Record) (gate : ℕ) → IsTrue D.told → ((D.view disk.old).now area).pending ≡ [] → HasRecords ((D.view disk.old).now area).seen base gate ds →
+            IfOk result (λ log. (log.gate ≡ gate) × Holds (D.view disk.new) log ds []) }
+        ensures undamaged { (ds : List Record) (gate at : ℕ) → IsTrue D.told → HasRecords ((D.view disk.old).now area).seen base gate ds → result ≡ Err (LogFault.Damaged at) → ⊥ }
         // A damage is found, if the disk reads it and there is memory.
         ensures damaged { (at : ℕ) → IsTrue D.told → IsDamagedAt ((D.view disk.old).now area).seen base at →
             (result ≡ Err (LogFault.Damaged at)) ⊎ ((result ≡ Err LogFault.Disk) ⊎ (result ≡ Err LogFault.Memory)) }
@@ -432,7 +432,7 @@ impl Log {
             OnOk result (Holds (D.view disk.new) self.new (durable_after self.old (shown r.now) ds ps) (waiting_after self.old (shown r.now) ps)) }
         // A crash at any moment of the call leaves the records that were durable, or the buffered ones too.
         ensures any_moment { (ds ps : List Record) → IsTrue D.told → Holds (D.view disk.old) self.old ds ps →
-            LeavesOnly (D.view disk.old) (D.view disk.new) (IsBeforeOrAfter (D.view disk.old).now self.old.area self.old.base ds ps) }
+            LeavesOnly (D.view disk.old) (D.view disk.new) (IsBeforeOrAfter (D.view disk.old).now self.old ds ps) }
         ensures elsewhere { IsTrue D.told → OnOk result (SameElsewhere self.old.area (D.view disk.old).now (D.view disk.new).now) }
         ensures near { tail_of self.old ≤ self.old.gate + 65541 }
         // The log grows by no more than is handed to the disk, as far as that is counted.
@@ -463,9 +463,9 @@ impl Log {
         ensures holds { (ds ps : List Record) → IsTrue D.told → Holds (D.view disk.old) self.old ds ps → OnOk result (Holds (D.view disk.new) self.new (ds ++ ps) []) }
         // A crash after it leaves all the records, and one at any moment of the call all or those that were durable.
         ensures after { (ds ps : List Record) → IsTrue D.told → Holds (D.view disk.old) self.old ds ps →
-            OnOk result ((c : Image) → Leaves (D.view disk.new).now c → HasRecords (c self.old.area) self.old.base (ds ++ ps)) }
+            OnOk result ((c : Image) → Leaves (D.view disk.new).now c → HasRecords (c self.old.area) self.old.base (tail_of self.old) (ds ++ ps)) }
         ensures any_moment { (ds ps : List Record) → IsTrue D.told → Holds (D.view disk.old) self.old ds ps →
-            LeavesOnly (D.view disk.old) (D.view disk.new) (IsBeforeOrAfter (D.view disk.old).now self.old.area self.old.base ds ps) }
+            LeavesOnly (D.view disk.old) (D.view disk.new) (IsBeforeOrAfter (D.view disk.old).now self.old ds ps) }
         ensures elsewhere { IsTrue D.told → OnOk result (SameElsewhere self.old.area (D.view disk.old).now (D.view disk.new).now) }
         // The log grows by no more than is handed to the disk, as far as that is counted.
         ensures grown { (FULL ≤ (D.view disk.new).handed) ⊎ (self.new.gate + (D.view disk.old).handed ≤ self.old.gate + (D.view disk.new).handed) }

@@ -17,11 +17,11 @@ returns-in-Ok-clause-holds g c told settled =
     )
 
 pub returns-in-Ok-clause-records : goal.returns-in-Ok-clause-records
-returns-in-Ok-clause-records g c ds told settled has =
+returns-in-Ok-clause-records g c ds to told settled has =
     let found = c.in-Ok.ensures.gate told in
     let old = g.D.Disk.view c.args.disk.now in
     let new = g.D.Disk.view c.find_gate.new.disk in
-    found_these g.D.Disk.told c.args.area c.args.base c.in-Ok.gate old new told c.find_gate.ensures.reads c.in-Ok.ensures.within found.0 found.1 found.2 settled ds has
+    found_these g.D.Disk.told c.args.area c.args.base c.in-Ok.gate old new told c.find_gate.ensures.reads c.in-Ok.ensures.within found.0 found.1 found.2 settled ds to has
 
 pub returns-in-Ok-clause-damaged : goal.returns-in-Ok-clause-damaged
 returns-in-Ok-clause-damaged g c at told damage =
@@ -31,7 +31,7 @@ returns-in-Ok-clause-damaged g c at told damage =
     absurd (undamaged (found_records g.D.Disk.told c.args.area c.args.base c.in-Ok.gate old new told c.find_gate.ensures.reads c.in-Ok.ensures.within found.0 found.1 found.2) damage)
 
 pub returns-in-Err-clause-undamaged : goal.returns-in-Err-clause-undamaged
-returns-in-Err-clause-undamaged g c ds at told has is =
+returns-in-Err-clause-undamaged g c ds gate at told has is =
     let same : c.in-Err.fault ≡ Damaged at = cc in
     undamaged has (fails_damaged g.D.Disk.told c.args.area c.args.base (g.D.Disk.view c.args.disk.now) (g.D.Disk.view c.find_gate.new.disk) c.in-Err.fault at c.in-Err.ensures.faults same told)
 
