@@ -1,5 +1,6 @@
 -- What the bytes of a frame say of it.
-use Rattle.std.proofs.Common.{◌≡◌, ℕ, ◌+◌, ◌<◌, ◌≤◌, List, [], ◌∷◌, ◌++◌, length, take, drop, get_or, refl, sym, ◌∙◌, ap, subst, arith, add-one, length-append}
+use Rattle.std.proofs.Math.Seq.{take-append_seam}
+use Rattle.std.proofs.Common.{◌≡◌, ℕ, ◌+◌, ◌-◌, ◌<◌, ◌≤◌, List, [], ◌∷◌, ◌++◌, length, take, drop, get_or, refl, sym, ◌∙◌, ap, subst, arith, add-one, length-append}
 use Rattle.byteorder.specs.Endian.{little_bytes, little_number}
 use Rattle.byteorder.specs.Numbers.{little_number-reads_back}
 use Rattle.sg_disk.specs.Disk.{Bytes, window}
@@ -54,6 +55,12 @@ formed_by f at head body size is gate stated body_is some most long w =
 -- where they stand, the frame ends there
 pub formed_end : (at : ℕ) (rs : List Record) → gate_after at (rs ∷ []) ≡ at + 5 + length (spelled_all rs)
 formed_end at rs = omega (arith, text-length (spelled_all rs))
+
+-- the front of what a body is read to
+pub body_front : (at size : ℕ) (body rest : List ℕ) (w : IsWhole body) → length body ≡ size → take (at + 5 + size - (at + 5)) (body ++ rest) ≡ spelled_all w.records
+body_front at size body rest w long =
+    let n : at + 5 + size - (at + 5) ≡ length body = omega arith in
+    ap (λ (k : ℕ). take k (body ++ rest)) n ∙ (take-append_seam body rest ∙ sym w.spelling)
 
 -- a length that is none, or too great, or leads behind the log's end
 pub unformed_length : (f : Bytes) (base at : ℕ) (head : List ℕ) (size : ℕ) → head ≡ window f at 5 → get_or head 0 0 ≡ 1 → size ≡ little_number 4 (take 4 (drop 1 head)) → (0 < size → size ≤ GREATEST_BODY → base + (at + 5 + size) ≤ LOG_END → ⊥) → IsUnformed f base at

@@ -4,7 +4,7 @@ ghost use Rattle.sg_base.specs.Ends.{HasRisen};
 ghost use Rattle.sg_disk.specs.Disk.{FULL, Image, Leaves, LeavesOnly, window};
 ghost use Rattle.sg_record.specs.Records.{Record, GREATEST, spelled, spelled_all, IsRecord};
 ghost use Rattle.sg_record.specs.Shown.{shown};
-ghost use Rattle.sg_log.specs.Faults.{ForceFails, AppendFails, AttachFails};
+ghost use Rattle.sg_log.specs.Faults.{ForceFails, AppendFails, AttachFails, FrameFails};
 ghost use Rattle.sg_log.specs.Formed.{IsFormed, IsDamagedAt};
 ghost use Rattle.sg_log.specs.Frames.{Frames, HasRecords, SameElsewhere, LOG_END, GREATEST_BODY};
 ghost use Rattle.sg_log.specs.Held.{Tail, IsTail, Holds, tail_of, place_of, end_of, has_room, forced, buffered, appended, durable_after, waiting_after, IsBeforeOrAfter};
@@ -12,7 +12,7 @@ ghost use Rattle.sg_log.specs.Places.{Placed, HoldsAt, StandsAt, first_of, IsRec
 ghost use Rattle.sg_log.specs.Reads.{OnlyReads};
 
 use crate::frame::{seal, write_frame};
-use crate::reading::{body_size, find_gate, read_record, record_size, size_of_first};
+use crate::reading::{body_size, find_gate, read_frame, read_record, record_size, size_of_first};
 use crate::{LogFault, Place};
 use sg_base::{Area, Lsn};
 use sg_disk::Disk;
@@ -157,6 +157,34 @@ impl Log {
         } else {
             self.copy_waiting(at, into)
         }
+    }
+
+    /// Reads the frame whose gate has the number `gate`: the bytes of its records come to the front of
+    /// `into`, and it answers how many they are, or none where the gate is closed. The gate of the next
+    /// frame has a number greater by 5 and these. The first frame's gate has the number `base`.
+    ///
+    /// It answers `Disk` only where the disk fails, and `Damaged` with the gate's offset in the area
+    /// exactly where the gate is open and no frame is formed there, as `attach` says it.
+    pub fn frame<D: Disk>(
+        &self,
+        disk: &mut D,
+        gate: Lsn,
+        into: &mut [u8],
+    ) -> Result<Option<usize>, LogFault>
+        requires space { GREATEST_BODY ≤ length into.old }
+        requires front { self.now.base ≤ gate }
+        requires within { gate ≤ LOG_END }
+        ensures closed { IsTrue D.told → result ≡ Ok None → ((D.view disk.old).now self.now.area).seen (gate - self.now.base) ≡ 1 → ⊥ }
+        ensures formed { IsTrue D.told → IfOk result (λ r. IfSome r (λ n. (rs : List Record) × IsFormed ((D.view disk.old).now self.now.area).seen (gate - self.now.base) rs
+            × (n ≡ length (spelled_all rs)) × (take n into.new ≡ spelled_all rs))) }
+        ensures onward { IfOk result (λ r. IfSome r (λ n. (0 < n) × (n ≤ GREATEST_BODY) × (gate + 5 + n ≤ LOG_END))) }
+        ensures faults { IfErr result (λ e. FrameFails D.told self.now.area self.now.base (gate - self.now.base) (D.view disk.old) (D.view disk.new) e) }
+        ensures reads { OnlyReads D.told (D.view disk.old) (D.view disk.new) }
+        ensures calls { OnOk result ((D.view disk.new).calls ≤ (D.view disk.old).calls + 2) }
+    {
+        let at = gate - self.base;
+        let end = read_frame(disk, self.area, self.base, at, into)?;
+        Ok(end.map(|end| (end - (at + 5)) as usize))
     }
 
     /// Where the first record stands, if there is one. Its number is the base and 5.

@@ -1,5 +1,5 @@
 // How frames and records are read from the disk.
-ghost use Rattle.std.specs.Prelude.{◌≡◌, ◌⊎◌, ◌≤◌, ◌<◌, ◌+◌, ◌*◌, ℕ, List, [], ◌∷◌, ◌++◌, length, take, min, Some, None, IfOk, IfErr, IfSome, OnOk, OnErr, IsTrue, ◌↔◌, is_some, if◌then◌else◌};
+ghost use Rattle.std.specs.Prelude.{◌≡◌, ◌⊎◌, ◌≤◌, ◌<◌, ◌+◌, ◌-◌, ◌*◌, ℕ, List, [], ◌∷◌, ◌++◌, length, take, min, Some, None, IfOk, IfErr, IfSome, OnOk, OnErr, IsTrue, ◌↔◌, is_some, if◌then◌else◌};
 ghost use Rattle.sg_base.specs.Ends.{HasRisen};
 ghost use Rattle.sg_disk.specs.Disk.{FULL, window};
 ghost use Rattle.sg_log.specs.Faults.{FrameFails, WalkFails};
@@ -28,8 +28,9 @@ pub fn is_whole(bytes: &[u8]) -> bool
     true
 }
 
-/// The offset behind the frame whose gate is at this offset, or none where the gate is closed. Where
-/// the frame isn't formed, or ends behind the log's end, it answers `Damaged`.
+/// The offset behind the frame whose gate is at this offset, or none where the gate is closed. The
+/// frame's body is put at the front of `space`. Where the frame isn't formed, or ends behind the log's
+/// end, it answers `Damaged`.
 pub fn read_frame<D: Disk>(
     disk: &mut D,
     area: Area,
@@ -40,8 +41,8 @@ pub fn read_frame<D: Disk>(
     requires space { GREATEST_BODY ≤ length space.old }
     requires within { base + at ≤ LOG_END }
     ensures closed { IsTrue D.told → result ≡ Ok None → ((D.view disk.old).now area).seen at ≡ 1 → ⊥ }
-    ensures formed { IsTrue D.told → IfOk result (λ r. IfSome r (λ end. (rs : List Record) × IsFormed ((D.view disk.old).now area).seen at rs × (end ≡ gate_after at (rs ∷ [])))) }
-    ensures onward { IfOk result (λ r. IfSome r (λ end. (at < end) × (base + end ≤ LOG_END))) }
+    ensures formed { IsTrue D.told → IfOk result (λ r. IfSome r (λ end. (rs : List Record) × IsFormed ((D.view disk.old).now area).seen at rs × (end ≡ gate_after at (rs ∷ [])) × (take (end - (at + 5)) space.new ≡ spelled_all rs))) }
+    ensures onward { IfOk result (λ r. IfSome r (λ end. (at + 5 < end) × (end ≤ at + 5 + GREATEST_BODY) × (base + end ≤ LOG_END))) }
     ensures faults { IfErr result (λ e. FrameFails D.told area base at (D.view disk.old) (D.view disk.new) e) }
     ensures reads { OnlyReads D.told (D.view disk.old) (D.view disk.new) }
     ensures calls { IfOk result (λ r. (D.view disk.new).calls ≡ min ((D.view disk.old).calls + (if is_some r then 2 else 1)) FULL) }

@@ -1,7 +1,7 @@
-use Rattle.std.proofs.Common.{◌≡◌, ◌+◌, ◌≤◌, length, refl, ◌∙◌, ap, arith}
+use Rattle.std.proofs.Common.{◌≡◌, ◌+◌, ◌≤◌, length, drop, refl, ◌∙◌, ap, arith}
 use Rattle.std.proofs.lemmas.List.{length-take-le}
 use Rattle.sg_log.specs.Formed.{IsWhole}
-use Rattle.sg_log.proofs.Formed.{formed_by, unformed_length, unformed_body}
+use Rattle.sg_log.proofs.Formed.{formed_by, body_front, unformed_length, unformed_body}
 use Rattle.sg_log.proofs.Runs.{reads_one, reads_more}
 use Rattle.sg_log.proofs.Windows.{read_there}
 use Rattle.sg_log.proofs.reading.read_frame.Goals as goal
@@ -38,7 +38,7 @@ returns-then-is_whole-clause-formed g c told =
     let body = read_there c.args.area (c.args.at + 5) size c.args.space.now (c.in_ok-read_at-2.ensures.bytes told) (c.read_at.ensures.unchanged told) fits in
     let whole : IsWhole c.read_at-2.new.into = c.if-is_whole.ensures.0 refl in
     let long : length c.read_at-2.new.into ≡ size = c.read_at-2.auto.into ∙ length-take-le size c.args.space.now fits in
-    (whole.records, formed_by f c.args.at c.read_at.new.into c.read_at-2.new.into size (c.in_ok-read_at.ensures.bytes told) c.if-head-ne1.false c.read_u32-size.ensures.back body (omega arith) (omega arith) long whole, omega (arith, ap length whole.spelling))
+    (whole.records, formed_by f c.args.at c.read_at.new.into c.read_at-2.new.into size (c.in_ok-read_at.ensures.bytes told) c.if-head-ne1.false c.read_u32-size.ensures.back body (omega arith) (omega arith) long whole, omega (arith, ap length whole.spelling), body_front c.args.at size c.read_at-2.new.into (drop size c.args.space.now) whole long)
 
 pub returns-else-is_whole-clause-reads : goal.returns-else-is_whole-clause-reads
 returns-else-is_whole-clause-reads g c = reads_more (reads_one c.read_at.ensures.counts c.read_at.ensures.does c.read_at.ensures.unchanged) (reads_one c.read_at-2.ensures.counts c.read_at-2.ensures.does c.read_at-2.ensures.unchanged)
