@@ -10,7 +10,8 @@ use Rattle.sg_log.specs.declared.fault.LogFault.TheVariants.{Disk, LogEnd, Damag
 use Rattle.sg_log.specs.Formed.{IsFormed, AreFormed, IsUnformed, IsDamagedAt}
 use Rattle.sg_log.specs.Frames.{LOG_END, text_of, Frames, gate_after, HasRecords}
 use Rattle.sg_log.specs.Reads.{OnlyReads}
-use Rattle.sg_log.proofs.Formed.{formed_length}
+use Rattle.sg_record.proofs.Spelling.{spelled_all-one}
+use Rattle.sg_log.proofs.Formed.{formed_length, formed_body}
 use Rattle.sg_log.proofs.Holding.{text-length}
 use Rattle.sg_log.proofs.Runs.{reads_none, reads_more}
 use Rattle.sg_log.proofs.Steps.{gate_later, gate_more}
@@ -31,6 +32,12 @@ formed_same f at rs ss h k =
     let a : n ≡ length (spelled_all rs) = formed_length f at rs h (window f (at + 1) 4) n refl refl in
     let b : n ≡ length (spelled_all ss) = formed_length f at ss k (window f (at + 1) 4) n refl refl in
     omega (arith, text-length (spelled_all rs), text-length (spelled_all ss))
+
+-- and is one
+pub formed_one : (f : Bytes) (at : ℕ) (rs ss : List Record) → IsFormed f at rs → IsFormed f at ss → rs ≡ ss
+formed_one f at rs ss h k =
+    let size : length (spelled_all rs) ≡ length (spelled_all ss) = omega (arith, formed_same f at rs ss h k, text-length (spelled_all rs), text-length (spelled_all ss)) in
+    spelled_all-one rs ss h.frame.fields k.frame.fields (sym (formed_body f at rs h) ∙ (ap (window f (at + 5)) size ∙ formed_body f at ss k))
 
 -- a log that isn't damaged isn't
 no_damage : (f : Bytes) (base at : ℕ) (lead frames : List (List Record)) → AreFormed f at lead → IsUnformed f base (gate_after at lead) → Frames f at frames → base + gate_after at frames ≤ LOG_END → ⊥

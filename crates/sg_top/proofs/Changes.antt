@@ -26,17 +26,17 @@ use Rattle.sg_log.specs.Faults.{AppendFails, ForceFails}
 use Rattle.sg_log.specs.declared.fault.LogFault.{LogFault}
 use Rattle.sg_log.specs.declared.fault.LogFault.TheVariants as faults
 use Rattle.sg_log.specs.Held.{Tail, tail_of, has_room, place_of, end_of, appended, forced, Holds, durable_after, waiting_after}
-use Rattle.sg_log.proofs.Holding.{all_appended, durable_either, spelled_most, forced_empty}
-use Rattle.sg_top.specs.Stands.{lines_by, commits_in, committed_lines, replay, after_line, after_op, if_replied, StandsFor, StandsForFirst}
-use Rattle.sg_top.specs.Store.{Core, AreSerial, AreBelow, AreOwn, IsNotAmong, IsOpen, IsOpenOrNone, Logs, Keeps, Runs, Shows}
+use Rattle.sg_log.proofs.Holding.{all_appended, spelled_most, forced_empty}
+use Rattle.sg_top.specs.Stands.{AreBelow, lines_by, commits_in, committed_lines, replay, after_line, after_op, if_replied, StandsFor, StandsForFirst}
+use Rattle.sg_top.specs.Store.{Core, AreSerial, AreOwn, IsNotAmong, IsOpen, IsOpenOrNone, Logs, Keeps, Runs, Shows}
 use Rattle.sg_top.specs.Shown.{shown_answer, answer_at, IsFullAnswer, StopIsCaused, stop_at as stop_code}
 use Rattle.sg_top.specs.declared.store.Stop as code_stop
 use Rattle.sg_top.specs.declared.answer.Answer as code_answer
 use Rattle.sg_top.specs.Goes.{Goes, NEW_WORK_END, IsWork}
 use Rattle.sg_top.proofs.Replays.{replay-append, lines_by-above, commits_in-above, lines_by-append, lines_by-line, below-append, below-weaker}
 use Rattle.sg_top.proofs.Serial.{serial_began, serial_did, serial_committed, committed_live, without_one, after_commits}
-use Rattle.sg_top.proofs.Steps.{op_end, op_memory, ends_within, grows_changing, going_turn, named_none, named_one, tail-place, appended_place, forced_place, running_shows, stopped_shows, line_said, caused_said, own_after, uncommitted_after, durable_lines, one_after, begin-length, commit-length, place-tail, appended_short, HoldsAfter, MomentsOf}
-use Rattle.sg_top.proofs.Standing.{forced_lines, stands_either, of_log, replay_commit, first_same, first_others, first_all, stands}
+use Rattle.sg_top.proofs.Steps.{op_end, op_memory, ends_within, grows_changing, going_turn, named_none, named_one, tail-place, appended_place, forced_place, running_shows, stopped_shows, line_said, caused_said, own_after, uncommitted_after, durable_lines, durable_below, appended_either, forced_gate, one_after, begin-length, commit-length, place-tail, appended_short, HoldsAfter, MomentsOf}
+use Rattle.sg_top.proofs.Standing.{IsEither, forced_lines, stands_either, of_log, replay_commit, first_same, first_others, first_all, stands}
 
 -- The store isn't stopped
 module _ (told : Bool) (v : disk.View) (k : Core) (x : State) (shows : Shows told v k x) (running : k.stopped ≡ false) where
@@ -84,6 +84,7 @@ module _ (told : Bool) (v : disk.View) (k : Core) (x : State) (shows : Shows tol
               logs = record {
                 durable = kept_logs.logs.durable;
                 below = kept_logs.logs.below;
+                all_below = kept_logs.logs.all_below;
                 open_one = still_open k.live kept_logs.durable kept_logs.waiting live kept_logs.logs.open_one;
               };
             };
@@ -136,7 +137,8 @@ module _ (told : Bool) (v : disk.View) (k : Core) (x : State) (shows : Shows tol
               holds = holds h.durable h.waiting is_told h.holds;
               logs = record {
                 durable = ap (λ (ls : List (List ℕ)). replay ls (Some empty)) (durable_lines (has_room k.log r) h.durable h.waiting (forced_lines x h.durable h.waiting k.live h.logs.open_one)) ∙ h.logs.durable;
-                below = subst (AreBelow (tail_of new)) (sym all) (below-append (tail_of new) (h.durable ++ h.waiting) (r ∷ []) (below-weaker (tail_of k.log) (tail_of new) (h.durable ++ h.waiting) rises h.logs.below) (omega (arith, numbered, runs.next, rises), tt));
+                below = subst (λ (z : Tail). AreBelow z.gate (durable_after k.log r h.durable h.waiting)) (sym is_new) (durable_below k.log r h.durable h.waiting h.logs.below h.logs.all_below);
+                all_below = subst (AreBelow (tail_of new)) (sym all) (below-append (tail_of new) (h.durable ++ h.waiting) (r ∷ []) (below-weaker (tail_of k.log) (tail_of new) (h.durable ++ h.waiting) rises h.logs.all_below) (omega (arith, numbered, runs.next, rises), tt));
                 open_one = subst (IsOpenOrNone y (durable_after k.log r h.durable h.waiting) (waiting_after k.log r h.waiting)) (sym one) (record {
                   own = own_after (has_room k.log r) t h.waiting r was.own (refl, tt);
                   uncommitted = uncommitted_after (has_room k.log r) t h.durable h.waiting was.own was.uncommitted;
@@ -154,7 +156,7 @@ module _ (told : Bool) (v : disk.View) (k : Core) (x : State) (shows : Shows tol
         shows = after;
         moments = λ is_told.
             let h = runs.keeps is_told in
-            moments.weaker (call h.durable h.waiting is_told h.holds) (λ c here. first_same x y x.answered c refl refl (omega (arith, runs.answered)) (stands_either x k.live (tail_of k.log) h.durable h.waiting c h.logs (of_log k.log runs.area runs.base here)));
+            moments.weaker (call h.durable h.waiting is_told h.holds) (λ c here. first_same x y x.answered c refl refl (omega (arith, runs.answered)) (stands_either x k.live k.log h.durable h.waiting c h.logs (of_log k.log runs.area runs.base here)));
       }
 
   -- the turn of a begin where none is live
@@ -190,7 +192,7 @@ module _ (told : Bool) (v : disk.View) (k : Core) (x : State) (shows : Shows tol
             let empty_buffer : h.waiting ≡ [] = subst (IsOpenOrNone x h.durable h.waiting) none h.logs.open_one in
             let all = all_appended k.log r h.durable h.waiting in
             let one = one_after (has_room k.log r) h.waiting r empty_buffer in
-            let was_below : AreBelow (tail_of k.log) (h.durable ++ h.waiting) = h.logs.below in
+            let was_below : AreBelow (tail_of k.log) (h.durable ++ h.waiting) = h.logs.all_below in
             let no_lines : lines_by n ((h.durable ++ h.waiting) ++ r ∷ []) ≡ [] = lines_by-append n (h.durable ++ h.waiting) (r ∷ []) ∙ (append-nil (lines_by n (h.durable ++ h.waiting)) ∙ lines_by-above n (tail_of k.log) (h.durable ++ h.waiting) was_below at) in
             let before : IsNotAmong n (commits_in h.durable) = subst (λ (rs : List Record). IsNotAmong n (commits_in rs)) (ap (λ (rs : List Record). h.durable ++ rs) empty_buffer ∙ append-nil h.durable) (commits_in-above n (tail_of k.log) (h.durable ++ h.waiting) was_below at) in
             record {
@@ -199,7 +201,8 @@ module _ (told : Bool) (v : disk.View) (k : Core) (x : State) (shows : Shows tol
               holds = holds h.durable h.waiting is_told h.holds;
               logs = record {
                 durable = ap (λ (ls : List (List ℕ)). replay ls (Some empty)) (durable_lines (has_room k.log r) h.durable h.waiting (forced_lines x h.durable h.waiting k.live h.logs.open_one)) ∙ h.logs.durable;
-                below = subst (AreBelow (tail_of new)) (sym all) (below-append (tail_of new) (h.durable ++ h.waiting) (r ∷ []) (below-weaker (tail_of k.log) (tail_of new) (h.durable ++ h.waiting) (omega (arith, at, rises)) was_below) (omega (arith, rises), tt));
+                below = subst (λ (z : Tail). AreBelow z.gate (durable_after k.log r h.durable h.waiting)) (sym is_new) (durable_below k.log r h.durable h.waiting h.logs.below was_below);
+                all_below = subst (AreBelow (tail_of new)) (sym all) (below-append (tail_of new) (h.durable ++ h.waiting) (r ∷ []) (below-weaker (tail_of k.log) (tail_of new) (h.durable ++ h.waiting) (omega (arith, at, rises)) was_below) (omega (arith, rises), tt));
                 open_one = record {
                   own = subst (AreOwn n) (sym one) (refl, tt);
                   uncommitted = uncommitted_after (has_room k.log r) n h.durable h.waiting (subst (AreOwn n) (sym empty_buffer) tt) before;
@@ -216,12 +219,33 @@ module _ (told : Bool) (v : disk.View) (k : Core) (x : State) (shows : Shows tol
         shows = after;
         moments = λ is_told.
             let h = runs.keeps is_told in
-            moments.weaker (call h.durable h.waiting is_told h.holds) (λ c here. first_same x y x.answered c refl refl (omega (arith, runs.answered)) (stands_either x k.live (tail_of k.log) h.durable h.waiting c h.logs (of_log k.log runs.area runs.base here)));
+            moments.weaker (call h.durable h.waiting is_told h.holds) (λ c here. first_same x y x.answered c refl refl (omega (arith, runs.answered)) (stands_either x k.live k.log h.durable h.waiting c h.logs (of_log k.log runs.area runs.base here)));
       }
 
   -- the turn of a commit
   commit_turn : (name : List ℕ) (l : Live) → k.live ≡ Some l → l.name ≡ name → (n : ℕ) → turn x n (Txn name Commit) ≡ (Said Done, committed x l.transaction)
   commit_turn name l one is n = going_turn x n name Commit going ∙ ap (turn_commit x) (named_one x l name (one_live l one) is)
+
+  -- the records with a commit's are below the tail behind it
+  committed_below : (l : Live) (previous : ℕ) (mid : Tail) (ds ps : List Record) → k.live ≡ Some l → tail_of k.log ≤ tail_of mid → Logs x k.live k.log ds ps → AreBelow (tail_of mid) ((ds ++ ps) ++ CommitRecord l.transaction previous ∷ [])
+  committed_below l previous mid ds ps one rises logs =
+      let numbered : l.transaction < x.next = (subst (AreSerial x) (one_live l one) runs.serial.live).1 in
+      below-append (tail_of mid) (ds ++ ps) (CommitRecord l.transaction previous ∷ []) (below-weaker (tail_of k.log) (tail_of mid) (ds ++ ps) rises logs.all_below) (omega (arith, numbered, runs.next, rises), tt)
+
+  -- an image without a commit's record, once that was appended
+  commit_before_it : (l : Live) (previous : ℕ) (mid : Tail) → mid ≡ appended k.log (CommitRecord l.transaction previous) → (ds ps : List Record) (c : disk.Image) → Logs x k.live k.log ds ps
+      → HasRecords (c Log0) 0 mid.gate (durable_after k.log (CommitRecord l.transaction previous) ds ps) → StandsFor c (committed_objects x)
+  commit_before_it l previous mid is_mid ds ps c logs before =
+      let r : Record = CommitRecord l.transaction previous in
+      stands_either x k.live k.log ds ps c logs (appended_either k.log r ds ps c (subst (λ (z : Tail). HasRecords (c Log0) 0 z.gate (durable_after k.log r ds ps)) is_mid before))
+
+  -- and one with it
+  commit_with_it : (l : Live) (previous : ℕ) (mid : Tail) → k.live ≡ Some l → tail_of k.log ≤ tail_of mid → (ds ps : List Record) (c : disk.Image) → Logs x k.live k.log ds ps
+      → HasRecords (c Log0) 0 (tail_of mid) (durable_after k.log (CommitRecord l.transaction previous) ds ps ++ waiting_after k.log (CommitRecord l.transaction previous) ps) → StandsFor c (committed_objects (committed x l.transaction))
+  commit_with_it l previous mid one rises ds ps c logs after =
+      let r : Record = CommitRecord l.transaction previous in
+      stands c (committed_objects (committed x l.transaction)) (tail_of mid) ((ds ++ ps) ++ r ∷ []) (subst (HasRecords (c Log0) 0 (tail_of mid)) (all_appended k.log r ds ps) after) (committed_below l previous mid ds ps one rises logs)
+      (replay_commit x l k.log previous ds ps (subst (λ (o : Option Live). Logs x o k.log ds ps) one logs) ∙ ap Some (sym (committed_live x l runs.serial (one_live l one))))
 
   -- the live transaction is committed: its commit record was appended, and then the log was forced
   pub commits : (name : List ℕ) (l : Live) (w1 w : disk.View) (mid new : Tail) (previous : ℕ) → k.live ≡ Some l → l.name ≡ name
@@ -250,8 +274,9 @@ module _ (told : Bool) (v : disk.View) (k : Core) (x : State) (shows : Shows tol
         waiting = [];
         holds = holds2 ds1 ps1 is_told (holds1 h.durable h.waiting is_told h.holds);
         logs = record {
-          durable = ap (λ (rs : List Record). replay (committed_lines rs) (Some empty)) all ∙ (replay_commit x l (tail_of k.log) previous h.durable h.waiting (subst (λ (o : Option Live). Logs x o (tail_of k.log) h.durable h.waiting) one h.logs) ∙ ap Some (sym objects));
-          below = subst (AreBelow (tail_of new)) (sym (append-nil (ds1 ++ ps1) ∙ all)) (below-append (tail_of new) (h.durable ++ h.waiting) (r ∷ []) (below-weaker (tail_of k.log) (tail_of new) (h.durable ++ h.waiting) (omega (arith, rises, grows)) h.logs.below) (omega (arith, numbered, runs.next, rises, grows), tt));
+          durable = ap (λ (rs : List Record). replay (committed_lines rs) (Some empty)) all ∙ (replay_commit x l k.log previous h.durable h.waiting (subst (λ (o : Option Live). Logs x o k.log h.durable h.waiting) one h.logs) ∙ ap Some (sym objects));
+          below = subst (λ (z : Tail). AreBelow z.gate (ds1 ++ ps1)) (sym is_new) (subst (λ (n : ℕ). AreBelow n (ds1 ++ ps1)) (sym (forced_gate mid)) (subst (AreBelow (tail_of mid)) (sym all) (committed_below l previous mid h.durable h.waiting one rises h.logs)));
+          all_below = subst (AreBelow (tail_of new)) (sym (append-nil (ds1 ++ ps1) ∙ all)) (below-append (tail_of new) (h.durable ++ h.waiting) (r ∷ []) (below-weaker (tail_of k.log) (tail_of new) (h.durable ++ h.waiting) (omega (arith, rises, grows)) h.logs.all_below) (omega (arith, numbered, runs.next, rises, grows), tt));
           open_one = refl;
         };
       } in
@@ -277,31 +302,23 @@ module _ (told : Bool) (v : disk.View) (k : Core) (x : State) (shows : Shows tol
             let ds1 : List Record = durable_after k.log r h.durable h.waiting in
             let ps1 : List Record = waiting_after k.log r h.waiting in
             moments.joined
-            (moments.weaker (call1 h.durable h.waiting is_told h.holds) (λ c here. first_others x y (ops_of t x.history) x.answered c refl refl (omega (arith, runs.answered)) (stands_either x k.live (tail_of k.log) h.durable h.waiting c h.logs (of_log k.log runs.area runs.base here))))
-            (moments.weaker (call2 ds1 ps1 is_told (holds1 h.durable h.waiting is_told h.holds)) (λ c here. commit_moment l previous one h.durable h.waiting c h.logs (of_log mid mid_area mid_base here)));
+            (moments.weaker (call1 h.durable h.waiting is_told h.holds) (λ c here. first_others x y (ops_of t x.history) x.answered c refl refl (omega (arith, runs.answered)) (stands_either x k.live k.log h.durable h.waiting c h.logs (of_log k.log runs.area runs.base here))))
+            (moments.weaker (call2 ds1 ps1 is_told (holds1 h.durable h.waiting is_told h.holds)) (λ c here. commit_moment l previous mid one is_mid rises h.durable h.waiting c h.logs (of_log mid mid_area mid_base here)));
       }
     where
-      commit_image : (l : Live) (previous : ℕ) → k.live ≡ Some l → (ds ps : List Record) (c : disk.Image) → Logs x k.live (tail_of k.log) ds ps
-          → HasRecords (c Log0) 0 ((ds ++ ps) ++ CommitRecord l.transaction previous ∷ []) → StandsForFirst x.answered (committed x l.transaction) c
-      commit_image l previous one ds ps c logs has =
-          let y : State = committed x l.transaction in
-          first_all y x.answered c (omega (arith, runs.answered, length-append x.commits (ops_of l.transaction x.history ∷ []))) (stands c (committed_objects y) ((ds ++ ps) ++ CommitRecord l.transaction previous ∷ []) has
-          (replay_commit x l (tail_of k.log) previous ds ps (subst (λ (o : Option Live). Logs x o (tail_of k.log) ds ps) one logs) ∙ ap Some (sym (committed_live x l runs.serial (one_live l one)))))
-
-      commit_moment : (l : Live) (previous : ℕ) → k.live ≡ Some l → (ds ps : List Record) (c : disk.Image) → Logs x k.live (tail_of k.log) ds ps
-          → HasRecords (c Log0) 0 (durable_after k.log (CommitRecord l.transaction previous) ds ps) ⊎ HasRecords (c Log0) 0 (durable_after k.log (CommitRecord l.transaction previous) ds ps ++ waiting_after k.log (CommitRecord l.transaction previous) ps)
+      commit_moment : (l : Live) (previous : ℕ) (mid : Tail) → k.live ≡ Some l → mid ≡ appended k.log (CommitRecord l.transaction previous) → tail_of k.log ≤ tail_of mid → (ds ps : List Record) (c : disk.Image) → Logs x k.live k.log ds ps
+          → IsEither mid (durable_after k.log (CommitRecord l.transaction previous) ds ps) (waiting_after k.log (CommitRecord l.transaction previous) ps) c
           → StandsForFirst x.answered (committed x l.transaction) c
-      commit_moment l previous one ds ps c logs (inl before) =
-          first_others x (committed x l.transaction) (ops_of l.transaction x.history) x.answered c refl refl (omega (arith, runs.answered)) (stands_either x k.live (tail_of k.log) ds ps c logs
-          (elim (durable_either k.log (CommitRecord l.transaction previous) ds ps) [ inl e ↦ inl (subst (HasRecords (c Log0) 0) e before) | inr e ↦ inr (subst (HasRecords (c Log0) 0) e before) ]))
-      commit_moment l previous one ds ps c logs (inr after) =
-          commit_image l previous one ds ps c logs (subst (HasRecords (c Log0) 0) (all_appended k.log (CommitRecord l.transaction previous) ds ps) after)
+      commit_moment l previous mid one is_mid rises ds ps c logs (inl before) =
+          first_others x (committed x l.transaction) (ops_of l.transaction x.history) x.answered c refl refl (omega (arith, runs.answered)) (commit_before_it l previous mid is_mid ds ps c logs before)
+      commit_moment l previous mid one is_mid rises ds ps c logs (inr after) =
+          first_all (committed x l.transaction) x.answered c (omega (arith, runs.answered, length-append x.commits (ops_of l.transaction x.history ∷ []))) (commit_with_it l previous mid one rises ds ps c logs after)
 
   -- what the images of a call on the log stand for, as a prefix of the commits as they were
   still : (w : disk.View) → MomentsOf told v w k.log → IsTrue told → disk.LeavesOnly v w (StandsForFirst x.answered (stop x))
   still w call is_told =
       let h = runs.keeps is_told in
-      moments.weaker (call h.durable h.waiting is_told h.holds) (λ c here. first_same x (stop x) x.answered c refl refl (omega (arith, runs.answered)) (stands_either x k.live (tail_of k.log) h.durable h.waiting c h.logs (of_log k.log runs.area runs.base here)))
+      moments.weaker (call h.durable h.waiting is_told h.holds) (λ c here. first_same x (stop x) x.answered c refl refl (omega (arith, runs.answered)) (stands_either x k.live k.log h.durable h.waiting c h.logs (of_log k.log runs.area runs.base here)))
 
   -- the disk has failed in an order that is no commit
   breaks : (order : Order) (w : disk.View) (m : Core) → m.stopped ≡ true → broken x order ≡ stop x → IsLogged order → WouldReply x order → HasRisen v.faults w.faults
@@ -339,7 +356,7 @@ module _ (told : Bool) (v : disk.View) (k : Core) (x : State) (shows : Shows tol
   pub commit_before : (t : ℕ) (w : disk.View) → MomentsOf told v w k.log → IsTrue told → disk.LeavesOnly v w (StandsForFirst x.answered (stop_at_commit x t))
   commit_before t w call is_told =
       let h = runs.keeps is_told in
-      moments.weaker (call h.durable h.waiting is_told h.holds) (λ c here. first_others x (stop_at_commit x t) (ops_of t x.history) x.answered c refl refl (omega (arith, runs.answered)) (stands_either x k.live (tail_of k.log) h.durable h.waiting c h.logs (of_log k.log runs.area runs.base here)))
+      moments.weaker (call h.durable h.waiting is_told h.holds) (λ c here. first_others x (stop_at_commit x t) (ops_of t x.history) x.answered c refl refl (omega (arith, runs.answered)) (stands_either x k.live k.log h.durable h.waiting c h.logs (of_log k.log runs.area runs.base here)))
 
   commit_fails : (name : List ℕ) (l : Live) (w : disk.View) (m : Core) → k.live ≡ Some l → l.name ≡ name → m.stopped ≡ true → HasRisen v.faults w.faults
       → (IsTrue told → disk.LeavesOnly v w (StandsForFirst x.answered (stop_at_commit x l.transaction))) → Goes told v k x (Txn name Commit) Disk w m
@@ -358,9 +375,9 @@ module _ (told : Bool) (v : disk.View) (k : Core) (x : State) (shows : Shows tol
 
   -- the disk has failed as it was forced
   pub force_breaks : (name : List ℕ) (l : Live) (w1 w : disk.View) (mid : Tail) (m : Core) (previous : ℕ) → k.live ≡ Some l → l.name ≡ name → m.stopped ≡ true → HasRisen v.faults w.faults
-      → mid ≡ appended k.log (CommitRecord l.transaction previous) → HoldsAfter told v w1 k.log mid (CommitRecord l.transaction previous) → MomentsOf told v w1 k.log → MomentsOf told w1 w mid
+      → mid ≡ appended k.log (CommitRecord l.transaction previous) → tail_of k.log ≤ tail_of mid → HoldsAfter told v w1 k.log mid (CommitRecord l.transaction previous) → MomentsOf told v w1 k.log → MomentsOf told w1 w mid
       → Goes told v k x (Txn name Commit) Disk w m
-  force_breaks name l w1 w mid m previous one is halted risen is_mid holds1 call1 call2 =
+  force_breaks name l w1 w mid m previous one is halted risen is_mid rises holds1 call1 call2 =
       let r : Record = CommitRecord l.transaction previous in
       let mid_area : mid.area ≡ Log0 = ap (λ (z : Tail). z.area) is_mid ∙ ((appended_place k.log r).0 ∙ runs.area) in
       let mid_base : mid.base ≡ 0 = ap (λ (z : Tail). z.base) is_mid ∙ ((appended_place k.log r).1 ∙ runs.base) in
@@ -369,16 +386,13 @@ module _ (told : Bool) (v : disk.View) (k : Core) (x : State) (shows : Shows tol
       moments.joined (commit_before l.transaction w1 call1 is_told)
       (moments.weaker (call2 (durable_after k.log r h.durable h.waiting) (waiting_after k.log r h.waiting) is_told (holds1 h.durable h.waiting is_told h.holds)) (λ c here. forced_moment h.durable h.waiting c h.logs (of_log mid mid_area mid_base here))))
     where
-      forced_moment : (ds ps : List Record) (c : disk.Image) → Logs x k.live (tail_of k.log) ds ps
-          → HasRecords (c Log0) 0 (durable_after k.log (CommitRecord l.transaction previous) ds ps) ⊎ HasRecords (c Log0) 0 (durable_after k.log (CommitRecord l.transaction previous) ds ps ++ waiting_after k.log (CommitRecord l.transaction previous) ps)
+      forced_moment : (ds ps : List Record) (c : disk.Image) → Logs x k.live k.log ds ps
+          → IsEither mid (durable_after k.log (CommitRecord l.transaction previous) ds ps) (waiting_after k.log (CommitRecord l.transaction previous) ps) c
           → StandsForFirst x.answered (stop_at_commit x l.transaction) c
       forced_moment ds ps c logs (inl before) =
-          first_others x (stop_at_commit x l.transaction) (ops_of l.transaction x.history) x.answered c refl refl (omega (arith, runs.answered)) (stands_either x k.live (tail_of k.log) ds ps c logs
-          (elim (durable_either k.log (CommitRecord l.transaction previous) ds ps) [ inl e ↦ inl (subst (HasRecords (c Log0) 0) e before) | inr e ↦ inr (subst (HasRecords (c Log0) 0) e before) ]))
+          first_others x (stop_at_commit x l.transaction) (ops_of l.transaction x.history) x.answered c refl refl (omega (arith, runs.answered)) (commit_before_it l previous mid is_mid ds ps c logs before)
       forced_moment ds ps c logs (inr after) =
-          let y : State = stop_at_commit x l.transaction in
-          first_all y x.answered c (omega (arith, runs.answered, length-append x.commits (ops_of l.transaction x.history ∷ []))) (stands c (committed_objects y) ((ds ++ ps) ++ CommitRecord l.transaction previous ∷ []) (subst (HasRecords (c Log0) 0) (all_appended k.log (CommitRecord l.transaction previous) ds ps) after)
-          (replay_commit x l (tail_of k.log) previous ds ps (subst (λ (o : Option Live). Logs x o (tail_of k.log) ds ps) one logs) ∙ ap Some (sym (committed_live x l runs.serial (one_live l one)))))
+          first_all (stop_at_commit x l.transaction) x.answered c (omega (arith, runs.answered, length-append x.commits (ops_of l.transaction x.history ∷ []))) (commit_with_it l previous mid one rises ds ps c logs after)
 
   -- the log has no room for a commit
   pub commit_end : (name : List ℕ) (l : Live) (m : Core) → k.live ≡ Some l → l.name ≡ name → m.stopped ≡ true → NEW_WORK_END < tail_of k.log → Goes told v k x (Txn name Commit) LogEnd v m
@@ -410,12 +424,12 @@ module _ (told : Bool) (v : disk.View) (k : Core) (x : State) (shows : Shows tol
 
   -- and as it was forced
   pub force_fault : (name : List ℕ) (l : Live) (e : LogFault) (w1 w : disk.View) (mid : Tail) (m : Core) (previous : ℕ) (into : List ℕ) → k.live ≡ Some l → l.name ≡ name → m.stopped ≡ true → ForceFails w1 w e → v.faults ≤ w1.faults
-      → mid ≡ appended k.log (CommitRecord l.transaction previous) → HoldsAfter told v w1 k.log mid (CommitRecord l.transaction previous) → MomentsOf told v w1 k.log → MomentsOf told w1 w mid
+      → mid ≡ appended k.log (CommitRecord l.transaction previous) → tail_of k.log ≤ tail_of mid → HoldsAfter told v w1 k.log mid (CommitRecord l.transaction previous) → MomentsOf told v w1 k.log → MomentsOf told w1 w mid
       → Goes told v k x (Txn name Commit) (shown_answer into (answer_at e)) w m
-  force_fault name l faults.Disk w1 w mid m previous into one is halted h later is_mid holds1 call1 call2 = force_breaks name l w1 w mid m previous one is halted (λ room. omega (arith, h room)) is_mid holds1 call1 call2
-  force_fault name l faults.LogEnd w1 w mid m previous into one is halted h later is_mid holds1 call1 call2 = absurd h
-  force_fault name l (faults.Damaged at) w1 w mid m previous into one is halted h later is_mid holds1 call1 call2 = absurd h
-  force_fault name l faults.Memory w1 w mid m previous into one is halted h later is_mid holds1 call1 call2 = absurd h
+  force_fault name l faults.Disk w1 w mid m previous into one is halted h later is_mid rises holds1 call1 call2 = force_breaks name l w1 w mid m previous one is halted (λ room. omega (arith, h room)) is_mid rises holds1 call1 call2
+  force_fault name l faults.LogEnd w1 w mid m previous into one is halted h later is_mid rises holds1 call1 call2 = absurd h
+  force_fault name l (faults.Damaged at) w1 w mid m previous into one is halted h later is_mid rises holds1 call1 call2 = absurd h
+  force_fault name l faults.Memory w1 w mid m previous into one is halted h later is_mid rises holds1 call1 call2 = absurd h
 
   -- an operation that was refused, or only reads
   pub op_unchanged : (name : List ℕ) (op : Op) (l : Live) (r : Result Reply Reason) (o : Objects) → k.live ≡ Some l → l.name ≡ name → step k.objects op ≡ (r, o) → (IsErr r) ⊎ (is_changing op ≡ false)

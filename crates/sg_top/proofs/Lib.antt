@@ -9,3 +9,8 @@ pub mod Fronts
 pub mod Feeds
 pub mod Scripts
 pub mod Opened
+pub mod Finding
+pub mod Walking
+pub mod Replaying
+pub mod Nothing
+pub mod Reading

@@ -6,8 +6,8 @@ use Rattle.std.proofs.lemmas.Bool.Decides.{nat_tests}
 use Rattle.sg_model.specs.Objects.{Objects}
 use Rattle.sg_record.specs.Records.{Record}
 use Rattle.sg_record.specs.Records.Record.{Begin, Commit, Line}
-use Rattle.sg_top.specs.Stands.{lines_by, commits_in, committed_lines, after_line, replay}
-use Rattle.sg_top.specs.Store.{AreBelow, AreOwn, IsNotAmong}
+use Rattle.sg_top.specs.Stands.{AreBelow, lines_by, commits_in, committed_lines, after_line, replay}
+use Rattle.sg_top.specs.Store.{AreOwn, IsNotAmong}
 
 pub replay-none : (lines : List (List ℕ)) → replay lines None ≡ None
 replay-none [] = refl

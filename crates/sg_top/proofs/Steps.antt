@@ -1,5 +1,5 @@
 -- How the orders go, on what a store shows.
-use Rattle.std.proofs.Common.{◌≡◌, ℕ, ◌+◌, ◌<◌, ◌≤◌, ◌==◌, nat_le, ◌&&◌, eq-eqb, eqb-true, leb-true, Bool, true, false, cond, IsTrue, List, [], ◌∷◌, ◌++◌, length, Some, None, Result, Ok, Err, refl, sym, ap, ◌∙◌, subst, arith, append-nil, length-append}
+use Rattle.std.proofs.Common.{◌≡◌, ◌⊎◌, inl, inr, ℕ, ◌+◌, ◌<◌, ◌≤◌, ◌==◌, nat_le, ◌&&◌, eq-eqb, eqb-true, leb-true, Bool, true, false, cond, IsTrue, List, [], ◌∷◌, ◌++◌, length, Some, None, Result, Ok, Err, refl, sym, ap, ◌∙◌, subst, arith, append-nil, length-append}
 use Rattle.std.specs.Option.{option_to_list}
 use Rattle.std.specs.Str.{bytes_eq}
 use Rattle.sg_base.specs.Ends.{HasRisen}
@@ -19,17 +19,17 @@ use Rattle.sg_words.specs.Text.Answer.{Silent, BadSyntax, NoTransaction, IsLive,
 use Rattle.sg_words.specs.Run.{live_named, answer_of, began, turn, turn_verb, turn_begin, turn_commit, turn_op, IsSaid, WouldReply, Turns, LineBy, IsCaused}
 use Rattle.sg_record.specs.Records.{Record, spelled, IsRecord}
 use Rattle.sg_record.specs.Records.Record.{Begin as BeginRecord, Commit as CommitRecord}
-use Rattle.sg_log.specs.Frames.{LOG_END, HasRecords, IsBeforeOrAfter}
+use Rattle.sg_log.specs.Frames.{LOG_END, HasRecords}
 use Rattle.sg_log.specs.Faults.{AppendFails, ForceFails}
 use Rattle.sg_log.specs.declared.fault.LogFault.{LogFault}
 use Rattle.sg_log.specs.declared.fault.LogFault.TheVariants as faults
-use Rattle.sg_log.specs.Held.{Tail, tail_of, place_of, end_of, appended, forced, Holds, durable_after, waiting_after}
-use Rattle.sg_log.proofs.Holding.{holds_image, spelled_most, forced_empty}
-use Rattle.sg_top.specs.Stands.{commits_in, committed_lines, StandsForFirst}
+use Rattle.sg_log.specs.Held.{Tail, tail_of, has_room, place_of, end_of, buffered, appended, forced, Holds, durable_after, waiting_after, IsBeforeOrAfter}
+use Rattle.sg_log.proofs.Holding.{holds_image, spelled_most, forced_empty, tail_empty, tail_forced as tail_forced_same}
+use Rattle.sg_top.specs.Stands.{AreBelow, commits_in, committed_lines, StandsForFirst}
 use Rattle.sg_top.specs.Store.{Core, AreOwn, IsNotAmong, Runs, Shows}
 use Rattle.sg_top.specs.Goes.{Goes, NEW_WORK_END, IsWork}
 use Rattle.sg_top.proofs.Replays.{commits_in-append, commits_in-own, own-append}
-use Rattle.sg_top.proofs.Standing.{first_all, stands}
+use Rattle.sg_top.proofs.Standing.{IsEither, first_all, stands}
 
 -- a bytes' text is itself
 bytes_eq-same : (xs : List ℕ) → bytes_eq xs xs ≡ true
@@ -196,12 +196,12 @@ running_shows told w m y running going runs = record {
   one_more = omega (arith, runs.answered);
   images = λ is_told c leaves.
       let kept = runs.keeps is_told in
-      let here : HasRecords (c Log0) 0 kept.durable = held_at c m.log kept.durable runs.area runs.base (holds_image kept.holds c leaves) in
-      first_all y y.answered c (omega (arith, runs.answered)) (stands c (committed_objects y) kept.durable here kept.logs.durable);
+      let here : HasRecords (c Log0) 0 m.log.gate kept.durable = held_at c m.log kept.durable runs.area runs.base (holds_image kept.holds c leaves) in
+      first_all y y.answered c (omega (arith, runs.answered)) (stands c (committed_objects y) m.log.gate kept.durable here kept.logs.below kept.logs.durable);
 }
   where
-    held_at : (c : disk.Image) (log : Tail) (ds : List Record) → log.area ≡ Log0 → log.base ≡ 0 → HasRecords (c log.area) log.base ds → HasRecords (c Log0) 0 ds
-    held_at c log ds area base h = subst (λ b. HasRecords (c Log0) b ds) base (subst (λ a. HasRecords (c a) log.base ds) area h)
+    held_at : (c : disk.Image) (log : Tail) (ds : List Record) → log.area ≡ Log0 → log.base ≡ 0 → HasRecords (c log.area) log.base log.gate ds → HasRecords (c Log0) 0 log.gate ds
+    held_at c log ds area base h = subst (λ b. HasRecords (c Log0) b log.gate ds) base (subst (λ a. HasRecords (c a) log.base log.gate ds) area h)
 
 -- and so is one that is, by what the images stand for
 pub stopped_shows : (told : Bool) (w : disk.View) (m : Core) (y : State) → m.stopped ≡ true → y.stopped ≡ true → y.answered ≤ length y.commits → length y.commits ≤ y.answered + 1
@@ -235,6 +235,26 @@ pub durable_lines : (b : Bool) (ds ps : List Record) → committed_lines (ds ++ 
 durable_lines true ds ps e = refl
 durable_lines false ds ps e = e
 
+-- a forced log's gate is where its tail was
+pub forced_gate : (log : Tail) → (forced log).gate ≡ tail_of log
+forced_gate log = sym (tail_empty (forced log) (forced_empty log)) ∙ tail_forced_same log
+
+-- the durable records stay below the gate behind them
+pub durable_below : (log : Tail) (r : Record) (ds ps : List Record) → AreBelow log.gate ds → AreBelow (tail_of log) (ds ++ ps) → AreBelow (appended log r).gate (durable_after log r ds ps)
+durable_below log r ds ps below all = by_room (has_room log r)
+  where
+    by_room : (b : Bool) → AreBelow (cond b (buffered log r) (buffered (forced log) r)).gate (cond b ds (ds ++ ps))
+    by_room true = below
+    by_room false = subst (λ (n : ℕ). AreBelow n (ds ++ ps)) (sym (forced_gate log)) all
+
+-- what an append left durable is what was, or what waited too
+pub appended_either : (log : Tail) (r : Record) (ds ps : List Record) (c : disk.Image) → HasRecords (c Log0) 0 (appended log r).gate (durable_after log r ds ps) → IsEither log ds ps c
+appended_either log r ds ps c = by_room (has_room log r)
+  where
+    by_room : (b : Bool) → HasRecords (c Log0) 0 (cond b (buffered log r) (buffered (forced log) r)).gate (cond b ds (ds ++ ps)) → IsEither log ds ps c
+    by_room true h = inl h
+    by_room false h = inr (subst (λ (n : ℕ). HasRecords (c Log0) 0 n (ds ++ ps)) (forced_gate log) h)
+
 pub one_after : (b : Bool) (ps : List Record) (r : Record) → ps ≡ [] → cond b (ps ++ r ∷ []) (r ∷ []) ≡ r ∷ []
 one_after true ps r none = ap (λ (rs : List Record). rs ++ r ∷ []) none
 one_after false ps r none = refl
@@ -244,7 +264,7 @@ abbrev pub HoldsAfter : Bool → disk.View → disk.View → Tail → Tail → R
 HoldsAfter told v w log new r = (ds ps : List Record) → IsTrue told → Holds v log ds ps → Holds w new (durable_after log r ds ps) (waiting_after log r ps)
 
 abbrev pub MomentsOf : Bool → disk.View → disk.View → Tail → Type 0
-MomentsOf told v w log = (ds ps : List Record) → IsTrue told → Holds v log ds ps → disk.LeavesOnly v w (IsBeforeOrAfter v.now log.area log.base ds ps)
+MomentsOf told v w log = (ds ps : List Record) → IsTrue told → Holds v log ds ps → disk.LeavesOnly v w (IsBeforeOrAfter v.now log ds ps)
 
 -- a begin's record is a header
 pub begin-length : (transaction previous : ℕ) → length (spelled (BeginRecord transaction previous)) ≡ 21

@@ -10,3 +10,5 @@ pub mod Feeding
 pub mod Ending
 pub mod Opening
 pub mod Top
+pub mod Damage
+pub mod Found

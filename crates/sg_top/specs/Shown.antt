@@ -65,9 +65,9 @@ StopIsCaused Risen Full old None = Unit {0}
 StopIsCaused Risen Full old (Some stops.Disk) = (old ≡ Some stops.Disk) ⊎ Risen
 StopIsCaused Risen Full old (Some stops.LogEnd) = (old ≡ Some stops.LogEnd) ⊎ Full
 
--- why a store doesn't open where its log fails. One that has frames can't be opened yet, wherever its damage is
+-- why a store doesn't open where its log fails
 abbrev pub refusal_at : LogFault → code_refused.OpenRefused
 refusal_at faults.LogEnd = refusals.DiskFault
 refusal_at faults.Disk = refusals.DiskFault
-refusal_at (faults.Damaged at) = refusals.Damaged Log0 0
+refusal_at (faults.Damaged at) = refusals.Damaged Log0 at
 refusal_at faults.Memory = refusals.Memory

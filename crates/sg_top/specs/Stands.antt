@@ -1,5 +1,5 @@
 -- What the bytes of a disk stand for.
-use Rattle.std.specs.Prelude.{◌≡◌, ℕ, ◌==◌, ◌≤◌, if◌then◌else◌, List, [], ◌∷◌, length, Option, Some, None, Result, Ok, Err}
+use Rattle.std.specs.Prelude.{◌≡◌, ℕ, ◌==◌, ◌≤◌, ◌<◌, if◌then◌else◌, List, [], ◌∷◌, length, Option, Some, None, Result, Ok, Err}
 use Rattle.std.specs.List.{flat_map}
 use Rattle.std.specs.FinMap.{empty}
 use Rattle.sg_base.specs.declared.area.Area.TheVariants.{Log0}
@@ -8,7 +8,7 @@ use Rattle.sg_model.specs.declared.reason.Reason.{Reason}
 use Rattle.sg_model.specs.Objects.{Objects, Op, Reply, step}
 use Rattle.sg_model.specs.History.{State, objects_after}
 use Rattle.sg_words.specs.Spoken.{op_said}
-use Rattle.sg_record.specs.Records.{Record}
+use Rattle.sg_record.specs.Records.{Record, transaction_of}
 use Rattle.sg_record.specs.Records.Record.{Begin, Commit, Line}
 use Rattle.sg_log.specs.Frames.{HasRecords}
 
@@ -49,11 +49,19 @@ replay [] s = s
 replay (words ∷ lines) None = None
 replay (words ∷ lines) (Some s) = replay lines (after_line s words)
 
+-- each record is of a transaction with a smaller number
+abbrev pub AreBelow : ℕ → List Record → Type 0
+AreBelow bound [] = Unit {0}
+AreBelow bound (r ∷ rs) = (transaction_of r < bound) × AreBelow bound rs
+
 -- An image stands for the objects that the lines of the committed transactions leave, in order of their
--- commits. The records are those of the log in the first log area, from its first byte on.
+-- commits. The records are those of the log in the first log area, from its first byte on. The number of each one's
+-- transaction is that of a byte before the log's closed gate.
 pub record StandsFor (c : Image) (s : Objects) : Type 0 where
   pub records : List Record
-  pub hold : HasRecords (c Log0) 0 records
+  pub gate : ℕ
+  pub hold : HasRecords (c Log0) 0 gate records
+  pub below : AreBelow gate records
   pub replayed : replay (committed_lines records) (Some empty) ≡ Some s
 
 -- an image stands for the objects after the first transactions of a run in order of commit, so many or more

@@ -6,11 +6,11 @@ use Rattle.sg_base.specs.declared.area.Area.TheVariants.{Log0}
 use Rattle.sg_disk.specs.Disk as disk
 use Rattle.sg_model.specs.Objects.{Objects}
 use Rattle.sg_model.specs.History.{Entry, Live, State, after_all, ops_of, live_objects, committed_objects}
-use Rattle.sg_record.specs.Records.{Record, transaction_of}
+use Rattle.sg_record.specs.Records.{Record}
 use Rattle.sg_record.specs.Records.Record.{Begin, Commit, Line}
 use Rattle.sg_log.specs.Frames.{GREATEST_BODY}
 use Rattle.sg_log.specs.Held.{Tail, tail_of, Holds}
-use Rattle.sg_top.specs.Stands.{lines_by, commits_in, committed_lines, replay, StandsForFirst}
+use Rattle.sg_top.specs.Stands.{AreBelow, lines_by, commits_in, committed_lines, replay, StandsForFirst}
 
 -- a store without its disk: the objects as they are now, the live transaction, whether it has stopped, and its log
 pub record Core : Type 0 where
@@ -34,11 +34,6 @@ AreSerial x (l ∷ m ∷ more) = ⊥
 pub record IsSerial (x : State) : Type 0 where
   pub live : AreSerial x x.live
   pub entries : AreEntriesBelow x.next x.history
-
--- each record is of a transaction with a smaller number
-abbrev pub AreBelow : ℕ → List Record → Type 0
-AreBelow bound [] = Unit {0}
-AreBelow bound (r ∷ rs) = (transaction_of r < bound) × AreBelow bound rs
 
 -- a record of this transaction that isn't its commit
 abbrev pub IsOwn : ℕ → Record → Type 0
@@ -67,9 +62,10 @@ IsOpenOrNone x ds ps None = ps ≡ []
 IsOpenOrNone x ds ps (Some l) = IsOpen x l.transaction ds ps
 
 -- the log has the committed transactions on the disk, and the live one's lines
-pub record Logs (x : State) (live : Option Live) (bound : ℕ) (ds ps : List Record) : Type 0 where
+pub record Logs (x : State) (live : Option Live) (log : Tail) (ds ps : List Record) : Type 0 where
   pub durable : replay (committed_lines ds) (Some empty) ≡ Some (committed_objects x)
-  pub below : AreBelow bound (ds ++ ps)
+  pub below : AreBelow log.gate ds
+  pub all_below : AreBelow (tail_of log) (ds ++ ps)
   pub open_one : IsOpenOrNone x ds ps live
 
 -- the log holds such records
@@ -77,7 +73,7 @@ pub record Keeps (v : disk.View) (k : Core) (x : State) : Type 0 where
   pub durable : List Record
   pub waiting : List Record
   pub holds : Holds v k.log durable waiting
-  pub logs : Logs x k.live (tail_of k.log) durable waiting
+  pub logs : Logs x k.live k.log durable waiting
 
 -- a store that isn't stopped shows the run
 pub record Runs (told : Bool) (v : disk.View) (k : Core) (x : State) : Type 0 where

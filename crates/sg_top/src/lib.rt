@@ -13,7 +13,10 @@
 mod answer;
 mod buffer;
 mod feed;
+mod found;
+mod found_line;
 mod opening;
+mod replay;
 mod script;
 mod session;
 mod status;

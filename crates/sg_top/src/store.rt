@@ -16,8 +16,8 @@ ghost use Rattle.sg_disk.specs.Disk.{LeavesOnly};
 ghost use Rattle.sg_record.specs.Records.{Record, IsRecord};
 ghost use Rattle.sg_record.specs.Records.Record.{Line as LineRecord};
 ghost use Rattle.sg_log.specs.Faults.{AppendFails};
-ghost use Rattle.sg_log.specs.Frames.{IsBeforeOrAfter, LOG_END};
-ghost use Rattle.sg_log.specs.Held.{Holds, tail_of, end_of, appended, durable_after, waiting_after};
+ghost use Rattle.sg_log.specs.Frames.{LOG_END};
+ghost use Rattle.sg_log.specs.Held.{Holds, tail_of, end_of, appended, durable_after, waiting_after, IsBeforeOrAfter};
 ghost use Rattle.sg_top.specs.Store.{Shows};
 ghost use Rattle.sg_top.specs.Goes.{Goes, Grows, NEW_WORK_END};
 ghost use Rattle.sg_top.specs.Shown.{shown_answer, live_of, core_of, answer_at, stop_at, IsFullAnswer, StopIsCaused, refusal_at};
@@ -27,6 +27,7 @@ ghost use Rattle.sg_log.specs.Reads.{OnlyReads};
 
 use crate::answer::Answer;
 use crate::opening::{OpenRefused, Unopened};
+use crate::replay::read_back;
 use sg_base::{Area, Lsn, Name, OutOfMemory, TxnId};
 use sg_disk::Disk;
 use sg_log::{Log, LogFault};
@@ -72,44 +73,9 @@ fn is_named(live: &Running, name: Name) -> bool
     name == live.name
 }
 
-// Why a store doesn't open where its log fails.
-fn refusal(fault: LogFault) -> OpenRefused
-    ensures { result ≡ refusal_at fault }
-{
-    match fault {
-        LogFault::Memory => OpenRefused::Memory,
-        LogFault::Damaged { at: _ } => NOT_EMPTY,
-        LogFault::Disk | LogFault::LogEnd => OpenRefused::DiskFault,
-    }
-}
-
-// A log that has frames can't be opened yet.
-const NOT_EMPTY: OpenRefused = OpenRefused::Damaged {
-    area: Area::Log0,
-    at: 0,
-};
-
-// The log of a store, where it is empty.
-fn attach_empty<D: Disk>(alloc: Global, disk: &mut D) -> Result<Log, OpenRefused>
-    ensures log { IfOk result (λ log. log ≡ record { area = Log0; base = 0; gate = 0; buffer = [] }) }
-    ensures holds { IsTrue D.told → ((D.view disk.old).now Log0).pending ≡ [] → IfOk result (λ log. Holds (D.view disk.new) log [] []) }
-    ensures refused { (IsTrue D.told → ((D.view disk.old).now Log0).pending ≡ []) → IfErr result (λ why. IsRefusedFor why D.told (D.view disk.old) (D.view disk.new)) }
-    ensures reads { OnlyReads D.told (D.view disk.old) (D.view disk.new) }
-{
-    match Log::attach(alloc, disk, Area::Log0, 0) {
-        Ok(log) => {
-            if log.durable() > 0 {
-                drop(log);
-                return Err(NOT_EMPTY);
-            }
-            Ok(log)
-        }
-        Err(fault) => Err(refusal(fault)),
-    }
-}
-
 impl<D: Disk> Store<D> {
-    /// Opens the store on the disk: it syncs the log's area and reads the log. It writes nothing.
+    /// Opens the store on the disk: it syncs the log's area, reads the log and does its committed
+    /// transactions again. It writes nothing.
     pub fn open(alloc: Global, disk: D) -> Result<Store<D>, Unopened<D>>
         ensures opens { IfOk result (λ s. Opens D.told (D.view disk) (D.view s.disk) (core_of s)) }
         ensures running { IfOk result (λ s. s.stop ≡ None) }
@@ -123,11 +89,11 @@ impl<D: Disk> Store<D> {
                 return Err(Unopened { why, disk });
             }
         }
-        match attach_empty(alloc, &mut disk) {
-            Ok(log) => Ok(Store {
+        match read_back(alloc, &mut disk) {
+            Ok((log, objects)) => Ok(Store {
                 disk,
                 log,
-                objects: Objects::empty(alloc),
+                objects,
                 live: None,
                 stop: None,
             }),
@@ -264,7 +230,7 @@ impl<D: Disk> Store<D> {
             OnOk result (Holds (D.view self.new.disk) self.new.log (durable_after self.old.log (LineRecord live.txn.0 live.last (spoken text.now)) ds ps)
             (waiting_after self.old.log (LineRecord live.txn.0 live.last (spoken text.now)) ps)) }
         ensures any_moment { (ds ps : List Record) → IsTrue D.told → Holds (D.view self.old.disk) self.old.log ds ps →
-            LeavesOnly (D.view self.old.disk) (D.view self.new.disk) (IsBeforeOrAfter (D.view self.old.disk).now self.old.log.area self.old.log.base ds ps) }
+            LeavesOnly (D.view self.old.disk) (D.view self.new.disk) (IsBeforeOrAfter (D.view self.old.disk).now self.old.log ds ps) }
         ensures grown { Grows self.old.log self.new.log (D.view self.old.disk) (D.view self.new.disk) }
         ensures later { (D.view self.old.disk).faults ≤ (D.view self.new.disk).faults }
     {

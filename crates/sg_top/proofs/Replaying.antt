@@ -1,0 +1,96 @@
+-- How committed lines are replayed, one after another.
+use Rattle.std.proofs.Common.{◌≡◌, ℕ, ◌+◌, ◌<◌, suc, List, [], ◌∷◌, ◌++◌, length, map, take, drop, get_or, Option, Some, None, Result, Ok, Err, refl, sym, ap, ◌∙◌, subst, arith, append-nil, append_assoc}
+use Rattle.std.specs.List.{flat_map}
+use Rattle.std.proofs.lemmas.Grind.{flat_map-append}
+use Rattle.std.proofs.lemmas.List.{map-append, take-append-drop, take_more}
+use Rattle.std.proofs.Math.Seq.{drop-cons}
+use Rattle.sg_base.specs.declared.area.Area.TheVariants.{Log0}
+use Rattle.sg_model.specs.declared.reason.Reason.{Reason}
+use Rattle.sg_model.specs.Objects.{Objects, Op, Reply, step}
+use Rattle.sg_words.specs.Spoken.{op_said}
+use Rattle.sg_top.specs.Stands.{after_line, after_op, if_replied, replay}
+use Rattle.sg_top.specs.Damage.{LineAt, words_of_all, HasUnanswered}
+use Rattle.sg_top.specs.Found.{IsLineRefused, IsRefusedBy}
+use Rattle.sg_top.specs.declared.opening.OpenRefused as code_refused
+use Rattle.sg_top.specs.declared.opening.OpenRefused.TheVariants as refusals
+use Rattle.sg_top.proofs.Replays.{replay-append}
+
+pub words-append : (xs ys : List LineAt) → words_of_all (xs ++ ys) ≡ words_of_all xs ++ words_of_all ys
+words-append xs ys = map-append (λ (l : LineAt). l.words) xs ys
+
+-- what a line does, by what its words say and what that is answered
+pub line_done : (s t : Objects) (words : List ℕ) (op : Op) (r : Reply) → Some op ≡ op_said words → step s op ≡ (Ok r, t) → after_line s words ≡ Some t
+line_done s t words op r says done =
+    ap (after_op s) (sym says) ∙ (ap (λ (p : Result Reply Reason × Objects). if_replied p.0 p.1) done)
+
+pub line_refused : (s t : Objects) (words : List ℕ) (op : Op) (r : Reason) → Some op ≡ op_said words → step s op ≡ (Err r, t) → after_line s words ≡ None
+line_refused s t words op r says done =
+    ap (after_op s) (sym says) ∙ (ap (λ (p : Result Reply Reason × Objects). if_replied p.0 p.1) done)
+
+pub line_silent : (s : Objects) (words : List ℕ) → None ≡ op_said words → after_line s words ≡ None
+line_silent s words says = ap (after_op s) (sym says)
+
+-- lines that were replayed, and then more
+pub replay_more : (s m t : Objects) (xs ys : List LineAt) → replay (words_of_all xs) (Some s) ≡ Some m → replay (words_of_all ys) (Some m) ≡ Some t → replay (words_of_all (xs ++ ys)) (Some s) ≡ Some t
+replay_more s m t xs ys h k = ap (λ (ws : List (List ℕ)). replay ws (Some s)) (words-append xs ys) ∙ (replay-append (words_of_all xs) (words_of_all ys) (Some s) ∙ (ap (replay (words_of_all ys)) h ∙ k))
+
+-- one of the later lines isn't replayed
+pub refused_later : (s m : Objects) (why : code_refused.OpenRefused) (xs ys zs : List LineAt) → replay (words_of_all xs) (Some s) ≡ Some m → IsRefusedBy why m ys → IsRefusedBy why s (xs ++ (ys ++ zs))
+refused_later s m refusals.DiskFault xs ys zs done h = h
+refused_later s m refusals.Memory xs ys zs done h = h
+refused_later s m (refusals.Damaged area at) xs ys zs done h =
+    let k = h.1 in
+    let here : LineAt = record { offset = at; words = k.words } in
+    let P : LineAt → List LineAt → List LineAt = λ l ls. l ∷ ls in
+    (h.0, record {
+      front = xs ++ k.front;
+      words = k.words;
+      back = k.back ++ zs;
+      there = ap (λ (ls : List LineAt). xs ++ (ls ++ zs)) k.there ∙ (ap (λ (ls : List LineAt). xs ++ ls) (append_assoc k.front (P here k.back) zs) ∙ sym (append_assoc xs k.front (P here (k.back ++ zs))));
+      objects = k.objects;
+      replayed = replay_more s m k.objects xs k.front done k.replayed;
+      none = k.none;
+    })
+
+-- this line isn't
+pub refused_here : (m : Objects) (why : code_refused.OpenRefused) (line : LineAt) → IsLineRefused why m line → IsRefusedBy why m (line ∷ [])
+refused_here m refusals.DiskFault line h = h
+refused_here m refusals.Memory line h = h
+refused_here m (refusals.Damaged area at) line h = (h.0, record {
+  front = [];
+  words = line.words;
+  back = [];
+  there = let P : ℕ → List LineAt = λ n. record { offset = n; words = line.words } ∷ [] in ap P (sym h.1);
+  objects = m;
+  replayed = refl;
+  none = h.2;
+})
+
+-- a list at an index
+split_at : {X : Type 0} (xs : List X) (i : ℕ) (x : X) → i < length xs → x ≡ get_or xs i x → xs ≡ take i xs ++ (x ∷ [] ++ drop (suc i) xs)
+split_at xs i x lt is = sym (take-append-drop i xs) ∙ ap (λ ys. take i xs ++ ys) (drop-cons xs i x lt ∙ ap (λ y. y ∷ drop (suc i) xs) (sym is))
+
+front_more : {X : Type 0} (xs : List X) (i : ℕ) (x : X) → i < length xs → x ≡ get_or xs i x → take (i + 1) xs ≡ take i xs ++ x ∷ []
+front_more xs i x lt is = take_more xs i x lt ∙ ap (λ y. take i xs ++ y ∷ []) (sym is)
+
+-- the lines of a list, one by one
+module _ {X : Type 0} (f : X → LineAt) (xs : List X) (i : ℕ) (x : X) (lt : i < length xs) (is : x ≡ get_or xs i x) (s m : Objects) (done : replay (words_of_all (map f (take i xs))) (Some s) ≡ Some m) where
+  pub line_more : (t : Objects) → after_line m (f x).words ≡ Some t → replay (words_of_all (map f (take (i + 1) xs))) (Some s) ≡ Some t
+  line_more t one = ap (λ ys. replay (words_of_all (map f ys)) (Some s)) (front_more xs i x lt is) ∙ (ap (λ ls. replay (words_of_all ls) (Some s)) (map-append f (take i xs) (x ∷ [])) ∙ replay_more s m t (map f (take i xs)) (f x ∷ []) done one)
+
+  pub line_fails : (why : code_refused.OpenRefused) → IsLineRefused why m (f x) → IsRefusedBy why s (map f xs)
+  line_fails why h =
+      let all : map f xs ≡ map f (take i xs) ++ (f x ∷ [] ++ map f (drop (suc i) xs)) = ap (map f) (split_at xs i x lt is) ∙ map-append f (take i xs) (x ∷ drop (suc i) xs) in
+      subst (IsRefusedBy why s) (sym all) (refused_later s m why (map f (take i xs)) (f x ∷ []) (map f (drop (suc i) xs)) done (refused_here m why (f x) h))
+
+-- the lines of transactions, one transaction by one
+module _ (g : ℕ → List LineAt) (ts : List ℕ) (i : ℕ) (t : ℕ) (lt : i < length ts) (is : t ≡ get_or ts i t) (s m : Objects) (done : replay (words_of_all (flat_map g (take i ts))) (Some s) ≡ Some m) where
+  pub lines_more : (n : Objects) → replay (words_of_all (g t)) (Some m) ≡ Some n → replay (words_of_all (flat_map g (take (i + 1) ts))) (Some s) ≡ Some n
+  lines_more n one =
+      ap (λ us. replay (words_of_all (flat_map g us)) (Some s)) (front_more ts i t lt is)
+      ∙ (ap (λ ls. replay (words_of_all ls) (Some s)) (flat_map-append g (take i ts) (t ∷ []) ∙ ap (λ ls. flat_map g (take i ts) ++ ls) (append-nil (g t))) ∙ replay_more s m n (flat_map g (take i ts)) (g t) done one)
+
+  pub lines_fail : (why : code_refused.OpenRefused) → IsRefusedBy why m (g t) → IsRefusedBy why s (flat_map g ts)
+  lines_fail why h =
+      let all : flat_map g ts ≡ flat_map g (take i ts) ++ (g t ++ flat_map g (drop (suc i) ts)) = ap (flat_map g) (split_at ts i t lt is) ∙ flat_map-append g (take i ts) (t ∷ drop (suc i) ts) in
+      subst (IsRefusedBy why s) (sym all) (refused_later s m why (flat_map g (take i ts)) (g t) (flat_map g (drop (suc i) ts)) done h)

@@ -1,0 +1,58 @@
+use Rattle.std.proofs.Common.{◌≡◌, sym, ap, ◌∙◌, subst}
+use Rattle.sg_base.specs.declared.area.Area.{Area}
+use Rattle.sg_log.specs.Held.{Tail}
+use Rattle.sg_log.specs.Reads.{OnlyReads}
+use Rattle.sg_log.proofs.Runs.{reads_more}
+use Rattle.sg_top.specs.Opening.{IsRefusedFor}
+use Rattle.sg_top.specs.declared.opening.OpenRefused as code_refused
+use Rattle.sg_top.proofs.Reading.{attach_refused, read_found, not_found, not_replayed}
+use Rattle.sg_top.proofs.replay.read_back.Goals as goal
+
+pub returns-in-Err-clause-refused : goal.returns-in-Err-clause-refused
+returns-in-Err-clause-refused g c settled =
+    subst (λ (why : code_refused.OpenRefused). IsRefusedFor why g.D.Disk.told (g.D.Disk.view c.args.disk.now) (g.D.Disk.view c.attach.new.disk)) (sym c.refusal.ensures)
+    (attach_refused g.D.Disk.told (g.D.Disk.view c.args.disk.now) (g.D.Disk.view c.attach.new.disk) c.in-Err.fault c.in-Err.ensures.faults)
+
+pub returns-in-Err-find_all-clause-refused : goal.returns-in-Err-find_all-clause-refused
+returns-in-Err-find_all-clause-refused g c settled =
+    let v = g.D.Disk.view c.args.disk.now in
+    let u = g.D.Disk.view c.attach.new.disk in
+    let reads : OnlyReads g.D.Disk.told v u = record { unchanged = c.attach.ensures.unchanged; any_moment = c.attach.ensures.any_moment; handed = c.attach.ensures.handed; later = c.attach.ensures.later } in
+    not_found g.D.Disk.told v u (g.D.Disk.view c.find_all.new.disk) c.in-Ok.log c.in-Err-find_all.why (ap (λ (t : Tail). t.area) c.in-Ok.ensures.log) reads (λ told. c.in-Ok.ensures.holds told (settled told)) c.in-Err-find_all.ensures.refused
+
+pub returns-in-Err-find_all-clause-reads : goal.returns-in-Err-find_all-clause-reads
+returns-in-Err-find_all-clause-reads g c =
+    let v = g.D.Disk.view c.args.disk.now in
+    let u = g.D.Disk.view c.attach.new.disk in
+    let reads : OnlyReads g.D.Disk.told v u = record { unchanged = c.attach.ensures.unchanged; any_moment = c.attach.ensures.any_moment; handed = c.attach.ensures.handed; later = c.attach.ensures.later } in
+    reads_more reads c.find_all.ensures.reads
+
+pub returns-in-Ok-replay_all-clause-found : goal.returns-in-Ok-replay_all-clause-found
+returns-in-Ok-replay_all-clause-found g c told settled =
+    let v = g.D.Disk.view c.args.disk.now in
+    let u = g.D.Disk.view c.attach.new.disk in
+    let reads : OnlyReads g.D.Disk.told v u = record { unchanged = c.attach.ensures.unchanged; any_moment = c.attach.ensures.any_moment; handed = c.attach.ensures.handed; later = c.attach.ensures.later } in
+    read_found g.D.Disk.told v u c.in-Ok.log (ap (λ (t : Tail). t.area) c.in-Ok.ensures.log) reads told (c.in-Ok.ensures.holds told settled) (g.D.Disk.view c.find_all.new.disk) c.in-Ok-find_all.found c.in-Ok-replay_all.objects c.find_all.ensures.reads
+    c.in-Ok-find_all.ensures.found c.in-Ok-replay_all.ensures.done
+
+pub returns-in-Ok-replay_all-clause-reads : goal.returns-in-Ok-replay_all-clause-reads
+returns-in-Ok-replay_all-clause-reads g c =
+    let v = g.D.Disk.view c.args.disk.now in
+    let u = g.D.Disk.view c.attach.new.disk in
+    let reads : OnlyReads g.D.Disk.told v u = record { unchanged = c.attach.ensures.unchanged; any_moment = c.attach.ensures.any_moment; handed = c.attach.ensures.handed; later = c.attach.ensures.later } in
+    reads_more reads c.find_all.ensures.reads
+
+pub returns-clause-refused : goal.returns-clause-refused
+returns-clause-refused g c settled =
+    let v = g.D.Disk.view c.args.disk.now in
+    let u = g.D.Disk.view c.attach.new.disk in
+    let reads : OnlyReads g.D.Disk.told v u = record { unchanged = c.attach.ensures.unchanged; any_moment = c.attach.ensures.any_moment; handed = c.attach.ensures.handed; later = c.attach.ensures.later } in
+    not_replayed g.D.Disk.told v u (g.D.Disk.view c.find_all.new.disk) c.in-Ok.log c.in-Err-replay_all.why c.in-Ok-find_all.found (ap (λ (t : Tail). t.area) c.in-Ok.ensures.log) reads (λ told. c.in-Ok.ensures.holds told (settled told))
+    c.in-Ok-find_all.ensures.found c.in-Err-replay_all.ensures.refused
+
+pub returns-clause-reads : goal.returns-clause-reads
+returns-clause-reads g c =
+    let v = g.D.Disk.view c.args.disk.now in
+    let u = g.D.Disk.view c.attach.new.disk in
+    let reads : OnlyReads g.D.Disk.told v u = record { unchanged = c.attach.ensures.unchanged; any_moment = c.attach.ensures.any_moment; handed = c.attach.ensures.handed; later = c.attach.ensures.later } in
+    reads_more reads c.find_all.ensures.reads

@@ -1,0 +1,79 @@
+-- What was found in a log.
+use Rattle.std.specs.Prelude.{◌≡◌, ◌≤◌, ℕ, Bool, IsTrue, List, [], ◌++◌, map, Option, Some, None}
+use Rattle.sg_base.specs.Ends.{HasRisen}
+use Rattle.sg_disk.specs.Disk as disk
+use Rattle.sg_base.specs.declared.area.Area.TheVariants.{Log0}
+use Rattle.sg_model.specs.Objects.{Objects}
+use Rattle.sg_record.specs.Records.{Record, AreRecords, spelled_all}
+use Rattle.sg_log.specs.Frames.{LOG_END, Frames, gate_after, records_of}
+use Rattle.sg_log.specs.Held.{Tail, Holds}
+use Rattle.sg_top.specs.declared.opening.OpenRefused as code_refused
+use Rattle.sg_top.specs.declared.opening.OpenRefused.TheVariants as refusals
+use Rattle.std.specs.Ordering.{nat_cmp}
+use Rattle.std.specs.BTreeMap.{get}
+use Rattle.std.specs.FinMap.{empty}
+use Rattle.sg_top.specs.Stands.{AreBelow, commits_in, after_line, committed_lines, replay}
+use Rattle.sg_top.specs.Damage.{At, LineAt, lines_at, records_at, records_in, HasHigh, HasUnanswered}
+use Rattle.std.specs.declared.vec.Vec.{Vec}
+use Rattle.std.specs.declared.alloc.Global.{Global}
+use Rattle.sg_top.specs.declared.found_line.FoundLine as code_line
+use Rattle.sg_top.specs.declared.found.Found as code_found
+
+abbrev pub line_of : code_line.FoundLine → LineAt
+line_of l = record { offset = l.at; words = l.words.items }
+
+abbrev pub lines_or_none : Option (Vec code_line.FoundLine Global) → List LineAt
+lines_or_none None = []
+lines_or_none (Some lines) = map line_of lines.items
+
+-- the lines of a transaction that were found
+abbrev pub lines_found : code_found.Found → ℕ → List LineAt
+lines_found found t = lines_or_none (get nat_cmp found.lines t)
+
+-- these records were found too
+pub record Finds (old new : code_found.Found) (records : List At) : Type 0 where
+  pub lines : (t : ℕ) → lines_found new t ≡ lines_found old t ++ lines_at t records
+  pub commits : new.commits.items ≡ old.commits.items ++ commits_in (map (λ p. p.is) records)
+
+-- these frames stand in the log's area from its first byte on, and the closed gate behind them is the log's
+pub record EndsAt (v : disk.View) (log : Tail) (frames : List (List Record)) : Type 0 where
+  pub stand : Frames (v.now log.area).seen 0 frames
+  pub gate : log.gate ≡ gate_after 0 frames
+  pub within : log.gate ≤ LOG_END
+
+-- why a log isn't read on in a frame whose body has these bytes, and stands at this offset
+abbrev pub IsRefusedIn : code_refused.OpenRefused → (gate : ℕ) → (bytes : List ℕ) → (start : ℕ) → Type 0
+IsRefusedIn refusals.DiskFault gate bytes start = ⊥
+IsRefusedIn refusals.Memory gate bytes start = Unit {0}
+IsRefusedIn (refusals.Damaged area at) gate bytes start = (area ≡ Log0) × ((rs : List Record) → AreRecords rs → bytes ≡ spelled_all rs → HasHigh gate at (records_at start rs))
+
+-- why the records of a log weren't all found
+abbrev pub IsNotFound : code_refused.OpenRefused → Bool → disk.View → disk.View → Tail → Type 0
+IsNotFound refusals.DiskFault told v w log = HasRisen v.faults w.faults
+IsNotFound refusals.Memory told v w log = Unit {0}
+IsNotFound (refusals.Damaged area at) told v w log = (area ≡ Log0) × (IsTrue told → (frames : List (List Record)) → EndsAt v log frames → HasHigh log.gate at (records_in 0 frames))
+
+-- a log was read back: it holds these records, and its committed transactions leave these objects
+pub record IsReadBack (w : disk.View) (log : Tail) (objects : Objects) : Type 0 where
+  pub records : List Record
+  pub holds : Holds w log records []
+  pub below : AreBelow log.gate records
+  pub replayed : replay (committed_lines records) (Some empty) ≡ Some objects
+
+-- why a line isn't replayed
+abbrev pub IsLineRefused : code_refused.OpenRefused → Objects → LineAt → Type 0
+IsLineRefused refusals.DiskFault first line = ⊥
+IsLineRefused refusals.Memory first line = Unit {0}
+IsLineRefused (refusals.Damaged area at) first line = (area ≡ Log0) × (at ≡ line.offset) × (after_line first line.words ≡ None)
+
+-- why lines aren't replayed
+abbrev pub IsRefusedBy : code_refused.OpenRefused → Objects → List LineAt → Type 0
+IsRefusedBy refusals.DiskFault first lines = ⊥
+IsRefusedBy refusals.Memory first lines = Unit {0}
+IsRefusedBy (refusals.Damaged area at) first lines = (area ≡ Log0) × HasUnanswered first at lines
+
+-- all records of these frames were found, and each one's transaction has a number below this one
+pub record AreFound (found : code_found.Found) (gate : ℕ) (frames : List (List Record)) : Type 0 where
+  pub lines : (t : ℕ) → lines_found found t ≡ lines_at t (records_in 0 frames)
+  pub commits : found.commits.items ≡ commits_in (map (λ p. p.is) (records_in 0 frames))
+  pub below : AreBelow gate (records_of frames)

@@ -1,0 +1,216 @@
+// How the log of a store is read back when it opens.
+ghost use Rattle.std.specs.Prelude.{◌≡◌, ◌⊎◌, ◌≤◌, ◌<◌, ◌+◌, ◌^◌, ℕ, List, [], map, length, IsTrue, IfOk, IfErr, OnOk, Some};
+ghost use Rattle.std.specs.List.{flat_map};
+ghost use Rattle.std.specs.FinMap.{empty};
+ghost use Rattle.sg_base.specs.declared.area.Area.TheVariants.{Log0};
+ghost use Rattle.sg_record.specs.Records.{Record, spelled_all, AreRecords, transaction_of};
+ghost use Rattle.sg_record.specs.Shown.{shown};
+ghost use Rattle.sg_log.specs.Frames.{Frames, HasRecords, gate_after, GREATEST_BODY};
+ghost use Rattle.sg_log.specs.Held.{Holds};
+ghost use Rattle.sg_log.specs.Reads.{OnlyReads};
+ghost use Rattle.sg_top.specs.Stands.{AreBelow, after_line, committed_lines, replay};
+ghost use Rattle.sg_top.specs.Damage.{LineAt, records_at, words_of_all};
+ghost use Rattle.sg_top.specs.Found.{line_of, lines_found, Finds, AreFound, EndsAt, IsReadBack, IsRefusedIn, IsNotFound, IsLineRefused, IsRefusedBy};
+ghost use Rattle.sg_top.specs.Opening.{IsRefusedFor};
+ghost use Rattle.sg_top.specs.Shown.{refusal_at};
+
+use crate::found::Found;
+use crate::found_line::FoundLine;
+use crate::opening::OpenRefused;
+use sg_base::{Area, Lsn, OutOfMemory};
+use sg_disk::Disk;
+use sg_log::{Log, LogFault};
+use sg_model::Objects;
+use sg_record::{Rec, decode};
+use sg_words::parse_said;
+use std::alloc::Global;
+
+// The log's bytes stand for nothing, by what begins at this offset.
+fn damaged(at: u64) -> OpenRefused
+    ensures { result ≡ OpenRefused.Damaged Log0 at }
+{
+    OpenRefused::Damaged {
+        area: Area::Log0,
+        at,
+    }
+}
+
+// Why a store doesn't open where its log fails.
+fn refusal(fault: LogFault) -> OpenRefused
+    ensures { result ≡ refusal_at fault }
+{
+    match fault {
+        LogFault::Memory => OpenRefused::Memory,
+        LogFault::Damaged { at } => damaged(at),
+        LogFault::Disk | LogFault::LogEnd => OpenRefused::DiskFault,
+    }
+}
+
+// The number of a record's transaction.
+fn transaction(r: &Rec<'_>) -> u64
+    ensures { result ≡ transaction_of (shown r.now) }
+{
+    match r {
+        Rec::Begin { txn, prev: _ } | Rec::Commit { txn, prev: _ } => txn.0,
+        Rec::Line { txn, .. } => txn.0,
+    }
+}
+
+// Finds what the records of a frame say, of which the first begins at this offset. `gate` is the
+// number of the log's closed gate: a transaction with a number that isn't below it is refused.
+fn find_in_frame(
+    alloc: Global,
+    found: &mut Found,
+    bytes: &[u8],
+    at: u64,
+    gate: Lsn,
+) -> Result<(), OpenRefused>
+    requires { at + length bytes.now < 2 ^ 64 }
+    ensures found { (rs : List Record) → AreRecords rs → bytes.now ≡ spelled_all rs → OnOk result (Finds found.old found.new (records_at at rs)) }
+    ensures below { (rs : List Record) → AreRecords rs → bytes.now ≡ spelled_all rs → OnOk result (AreBelow gate rs) }
+    ensures refused { IfErr result (λ why. IsRefusedIn why gate bytes.now at) }
+{
+    let mut from = 0;
+    'records: while from < bytes.len() {
+        let offset = at + from as u64;
+        let Ok((record, size)) = decode(&bytes[from..]) else {
+            return Err(damaged(offset));
+        };
+        if transaction(&record) >= gate {
+            return Err(damaged(offset));
+        }
+        match found.note(alloc, offset, &record) {
+            Ok(()) => {}
+            Err(OutOfMemory) => return Err(OpenRefused::Memory),
+        }
+        from += size;
+    }
+    Ok(())
+}
+
+// Finds what the records of a log say, frame by frame. `body` takes a frame's bytes.
+fn find_all<D: Disk>(
+    alloc: Global,
+    log: &Log,
+    disk: &mut D,
+    body: &mut [u8],
+) -> Result<Found, OpenRefused>
+    requires room { GREATEST_BODY ≤ length body.old }
+    requires base { log.now.base ≡ 0 }
+    ensures found { (frames : List (List Record)) → IsTrue D.told → EndsAt (D.view disk.old) log.now frames → IfOk result (λ found. AreFound found log.now.gate frames) }
+    ensures refused { IfErr result (λ why. IsNotFound why D.told (D.view disk.old) (D.view disk.new) log.now) }
+    ensures reads { OnlyReads D.told (D.view disk.old) (D.view disk.new) }
+{
+    let mut found = Found::new(alloc);
+    let mut gate = 0;
+    'frames: loop {
+        match log.frame(disk, gate, body) {
+            Ok(Some(size)) => {
+                match find_in_frame(alloc, &mut found, &body[..size], gate + 5, log.durable()) {
+                    Ok(()) => gate += 5 + size as u64,
+                    Err(why) => return Err(why),
+                }
+            }
+            Ok(None) => return Ok(found),
+            Err(fault) => return Err(refusal(fault)),
+        }
+    }
+}
+
+// Does again what a committed line says. `scratch` takes the bytes of a value, and `into` those of a
+// reply.
+fn replay_line(
+    alloc: Global,
+    objects: &mut Objects,
+    line: &FoundLine,
+    scratch: &mut [u8],
+    into: &mut [u8],
+) -> Result<(), OpenRefused>
+    requires scratch { 32768 ≤ length scratch.old }
+    requires into { 8192 ≤ length into.old }
+    ensures done { OnOk result (after_line objects.old line.now.words.items ≡ Some objects.new) }
+    ensures refused { IfErr result (λ why. IsLineRefused why objects.old (line_of line.now)) }
+{
+    let Some(op) = parse_said(&line.words, scratch) else {
+        return Err(damaged(line.at));
+    };
+    match objects.apply(alloc, &op, into) {
+        Ok(Ok(_reply)) => Ok(()),
+        Ok(Err(_reason)) => Err(damaged(line.at)),
+        Err(OutOfMemory) => Err(OpenRefused::Memory),
+    }
+}
+
+// Does again what the lines of a committed transaction say.
+fn replay_lines(
+    alloc: Global,
+    objects: &mut Objects,
+    lines: &[FoundLine],
+    scratch: &mut [u8],
+    into: &mut [u8],
+) -> Result<(), OpenRefused>
+    requires scratch { 32768 ≤ length scratch.old }
+    requires into { 8192 ≤ length into.old }
+    ensures done { OnOk result (replay (words_of_all (map line_of lines.now)) (Some objects.old) ≡ Some objects.new) }
+    ensures refused { IfErr result (λ why. IsRefusedBy why objects.old (map line_of lines.now)) }
+{
+    for line in lines {
+        match replay_line(alloc, objects, line, scratch, into) {
+            Ok(()) => {}
+            Err(why) => return Err(why),
+        }
+    }
+    Ok(())
+}
+
+// The objects after the committed transactions, one after another.
+fn replay_all(
+    alloc: Global,
+    found: &Found,
+    scratch: &mut [u8],
+    into: &mut [u8],
+) -> Result<Objects, OpenRefused>
+    requires scratch { 32768 ≤ length scratch.old }
+    requires into { 8192 ≤ length into.old }
+    ensures done { IfOk result (λ objects. replay (words_of_all (flat_map (λ t. lines_found found.now t) found.now.commits.items)) (Some empty) ≡ Some objects) }
+    ensures refused { IfErr result (λ why. IsRefusedBy why empty (flat_map (λ t. lines_found found.now t) found.now.commits.items)) }
+{
+    let mut objects = Objects::empty(alloc);
+    for txn in found.commits() {
+        match replay_lines(alloc, &mut objects, found.lines(*txn), scratch, into) {
+            Ok(()) => {}
+            Err(why) => return Err(why),
+        }
+    }
+    Ok(objects)
+}
+
+/// The log in the first log area, which was synced, and the objects that its committed transactions
+/// leave, one after another in order of their commit records. Nothing is written.
+pub fn read_back<D: Disk>(alloc: Global, disk: &mut D) -> Result<(Log, Objects), OpenRefused>
+    ensures log { IfOk result (λ p. p.0 ≡ record { area = Log0; base = 0; gate = p.0.gate; buffer = [] }) }
+    ensures found { IsTrue D.told → ((D.view disk.old).now Log0).pending ≡ [] → IfOk result (λ p. IsReadBack (D.view disk.new) p.0 p.1) }
+    ensures refused { (IsTrue D.told → ((D.view disk.old).now Log0).pending ≡ []) → IfErr result (λ why. IsRefusedFor why D.told (D.view disk.old) (D.view disk.new)) }
+    ensures reads { OnlyReads D.told (D.view disk.old) (D.view disk.new) }
+{
+    let (Ok(body), Ok(scratch), Ok(into)) = (
+        vec![in alloc; 0; 65536],
+        vec![in alloc; 0; 32768],
+        vec![in alloc; 0; 8192],
+    ) else {
+        return Err(OpenRefused::Memory);
+    };
+    let (mut body, mut scratch, mut into) = (body, scratch, into);
+    let log = match Log::attach(alloc, disk, Area::Log0, 0) {
+        Ok(log) => log,
+        Err(fault) => return Err(refusal(fault)),
+    };
+    let found = match find_all(alloc, &log, disk, &mut body) {
+        Ok(found) => found,
+        Err(why) => return Err(why),
+    };
+    match replay_all(alloc, &found, &mut scratch, &mut into) {
+        Ok(objects) => Ok((log, objects)),
+        Err(why) => Err(why),
+    }
+}
