@@ -19,6 +19,7 @@ mod session;
 mod status;
 mod store;
 mod top;
+mod words;
 
 pub use answer::Answer;
 pub use opening::{OpenRefused, Unopened};
