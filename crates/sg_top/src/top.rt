@@ -84,9 +84,9 @@ fn run_behind_fuse<D: Disk, S: Source, K: Sink, O: Origin>(
         NeverRan D.told (refusing (D.view disk) 0) (refusing (D.view result.disk) result.refused) (S.left script.old) (S.left script.new) (K.taken out.old) (K.taken out.new) result.status
         ⊎ Ran D.told (refusing (D.view disk) 0) (refusing (D.view result.disk) result.refused) (S.left script.old) (S.left script.new) (K.taken out.old) (K.taken out.new) result.status }
     ensures crash { IsTrue D.told →
-        Unchanged (refusing (D.view disk) 0) (refusing (D.view result.disk) result.refused) (S.left script.old) (S.left script.new) (K.taken out.old) (K.taken out.new)
-        ⊎ Lasts (HasRisen (K.faults out.old) (K.faults out.new)) (refusing (D.view disk) 0) (refusing (D.view result.disk) result.refused) (S.left script.old) (S.left script.new) (K.taken out.old) (K.taken out.new) }
-    ensures done { result.status ≡ Status.Done → IsDone D.told (refusing (D.view disk) 0) (refusing (D.view result.disk) result.refused) (S.left script.old) (K.taken out.old) (K.taken out.new) }
+        Unchanged (D.view disk) (D.view result.disk) (S.left script.old) (S.left script.new) (K.taken out.old) (K.taken out.new)
+        ⊎ Lasts (HasRisen (K.faults out.old) (K.faults out.new)) (D.view disk) (D.view result.disk) (S.left script.old) (S.left script.new) (K.taken out.old) (K.taken out.new) }
+    ensures done { result.status ≡ Status.Done → IsDone D.told (D.view disk) (D.view result.disk) (S.left script.old) (K.taken out.old) (K.taken out.new) }
     ensures read { result.status ≡ Status.Read → HasRisen (S.faults script.old) (S.faults script.new) }
     ensures write { result.status ≡ Status.Write → HasRisen (K.faults out.old) (K.faults out.new) }
     ensures disk { result.status ≡ Status.Disk → HasRisen (D.view disk).faults (D.view result.disk).faults ⊎ (0 < result.refused) }
@@ -132,9 +132,9 @@ pub fn stasis<D: Disk, S: Source, K: Sink>(
         NeverRan D.told (refusing (D.view disk) 0) (refusing (D.view result.disk) result.refused) (S.left script.old) (S.left script.new) (K.taken out.old) (K.taken out.new) result.status
         ⊎ Ran D.told (refusing (D.view disk) 0) (refusing (D.view result.disk) result.refused) (S.left script.old) (S.left script.new) (K.taken out.old) (K.taken out.new) result.status }
     ensures crash { are_run words.now ≡ true → IsTrue D.told →
-        Unchanged (refusing (D.view disk) 0) (refusing (D.view result.disk) result.refused) (S.left script.old) (S.left script.new) (K.taken out.old) (K.taken out.new)
-        ⊎ Lasts (HasRisen (K.faults out.old) (K.faults out.new)) (refusing (D.view disk) 0) (refusing (D.view result.disk) result.refused) (S.left script.old) (S.left script.new) (K.taken out.old) (K.taken out.new) }
-    ensures done { are_run words.now ≡ true → result.status ≡ Status.Done → IsDone D.told (refusing (D.view disk) 0) (refusing (D.view result.disk) result.refused) (S.left script.old) (K.taken out.old) (K.taken out.new) }
+        Unchanged (D.view disk) (D.view result.disk) (S.left script.old) (S.left script.new) (K.taken out.old) (K.taken out.new)
+        ⊎ Lasts (HasRisen (K.faults out.old) (K.faults out.new)) (D.view disk) (D.view result.disk) (S.left script.old) (S.left script.new) (K.taken out.old) (K.taken out.new) }
+    ensures done { are_run words.now ≡ true → result.status ≡ Status.Done → IsDone D.told (D.view disk) (D.view result.disk) (S.left script.old) (K.taken out.old) (K.taken out.new) }
     ensures read { result.status ≡ Status.Read → HasRisen (S.faults script.old) (S.faults script.new) }
     ensures write { result.status ≡ Status.Write → HasRisen (K.faults out.old) (K.faults out.new) }
     ensures disk { result.status ≡ Status.Disk → HasRisen (D.view disk).faults (D.view result.disk).faults ⊎ (0 < result.refused) }
