@@ -29,4 +29,6 @@ pub use store::Stop;
 pub use top::{Finish, stasis};
 
 #[cfg(test)]
+mod stop_tests;
+#[cfg(test)]
 mod tests;

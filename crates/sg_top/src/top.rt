@@ -80,8 +80,7 @@ fn run_behind_fuse<D: Disk, S: Source, K: Sink, O: Origin>(
     requires passes { O.passes ≡ calls }
     requires began { O.calls ≡ (D.view disk).calls }
     ensures usage { result.status ≡ Status.Usage → ⊥ }
-    ensures run {
-        NeverRan D.told (refusing (D.view disk) 0) (refusing (D.view result.disk) result.refused) (S.left script.old) (S.left script.new) (K.taken out.old) (K.taken out.new) result.status
+    ensures run { NeverRan D.told (refusing (D.view disk) 0) (refusing (D.view result.disk) result.refused) (S.left script.old) (S.left script.new) (K.taken out.old) (K.taken out.new) result.status
         ⊎ Ran D.told (refusing (D.view disk) 0) (refusing (D.view result.disk) result.refused) (S.left script.old) (S.left script.new) (K.taken out.old) (K.taken out.new) result.status }
     ensures crash { IsTrue D.told →
         Unchanged (D.view disk) (D.view result.disk) (S.left script.old) (S.left script.new) (K.taken out.old) (K.taken out.new)

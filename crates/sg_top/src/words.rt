@@ -31,8 +31,7 @@ pub fn command_of(words: &[String]) -> Option<Command>
     match words {
         [command, _] if command.as_str() == "run" => Some(Command { stop_after: None }),
         [command, _, option, number]
-            if command.as_str() == "run" && option.as_str() == "--stop-after" =>
-        {
+            if command.as_str() == "run" && option.as_str() == "--stop-after" => {
             run_stopped_after(number.as_str())
         }
         _ => None,
