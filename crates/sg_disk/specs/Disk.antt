@@ -145,8 +145,14 @@ pub record LeavesOnly (old new : View) (P : Image → Type 0) : Type 0 where
 abbrev pub refusing : View → ℕ → View
 refusing v refused = record v { calls = min (v.calls + refused) FULL; faults = v.faults + refused }
 
--- a fuse that lets so many calls pass, or all
-abbrev pub PassesOne : Option ℕ → Option ℕ → Type 0
-PassesOne None new = new ≡ None
-PassesOne (Some zero) new = ⊥
-PassesOne (Some (suc n)) new = new ≡ Some n
+-- One more call has passed a fuse that lets so many pass, or all
+abbrev pub PassesOne : Option ℕ → ℕ → ℕ → Type 0
+PassesOne None before now = now ≡ min (before + 1) FULL
+PassesOne (Some n) before now = (now ≡ before + 1) × (now ≤ n)
+
+-- what a fuse that lets so many calls pass, or all, has let pass and has refused, by the count of calls inside
+pub record Spent (passes : Option ℕ) (before now refused : ℕ) : Type 0 where
+  -- no more calls than it lets pass
+  pub most : IfSome passes (λ n. now ≤ before + n)
+  -- and where it has refused one, exactly as many, as far as they are counted
+  pub all : 0 < refused → (n : ℕ) × (passes ≡ Some n) × (now < FULL → now ≡ before + n)

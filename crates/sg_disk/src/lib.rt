@@ -15,7 +15,7 @@ mod memory;
 mod record;
 
 pub use disk::Disk;
-pub use fuse::Fuse;
+pub use fuse::{Fuse, Origin, Unmarked};
 pub use memory::MemDisk;
 pub use record::{Call, CallKind};
 pub use sg_base::{Area, Failed};

@@ -9,7 +9,7 @@
 #![tactic(auto)]
 
 ghost use Rattle.std.specs.Prelude.{◌≡◌, map, string_bytes, option_copied};
-ghost use Rattle.sg_main.specs.Words.{folder_in};
+ghost use Rattle.sg_main.specs.Words.{folder_in, are_stop};
 
 mod folder;
 mod status;
@@ -30,12 +30,25 @@ fn given_words(rt: &HostRuntime) -> io::Result<Vec<String>> {
     Ok(words)
 }
 
-// The word for the folder, where the words are those of a run. An empty word names none.
+// Whether the words behind the folder are those of a stop, whatever the number is.
+fn are_stop(rest: &[String]) -> bool
+    ensures { result ≡ are_stop (map string_bytes rest.now) }
+{
+    match rest {
+        [] => true,
+        [option, _] => option.as_str() == "--stop-after",
+        _ => false,
+    }
+}
+
+// The word for the folder, where the words are those of a run, with a stop or without. An empty word
+// names none.
 fn folder_of(words: &[String]) -> Option<&str>
     ensures { option_copied result ≡ folder_in (map string_bytes words.now) }
 {
     match words {
-        [command, folder] if command.as_str() == "run" && !folder.as_str().is_empty() => {
+        [command, folder, rest @ ..]
+            if command.as_str() == "run" && !folder.as_str().is_empty() && are_stop(rest) => {
             Some(folder.as_str())
         }
         _ => None,
@@ -47,7 +60,11 @@ fn perform<D: Disk + Drop>(rt: &HostRuntime, alloc: Global, words: &[String], di
     // Neither end keeps bytes back, so nothing is left to be flushed.
     let mut script = ReadSource::new(rt.stdin());
     let mut out = WriteSink::new(rt.stdout());
-    let Finish { status, disk: _ } = stasis(alloc, words, disk, &mut script, &mut out);
+    let Finish {
+        status,
+        disk: _,
+        refused: _,
+    } = stasis(alloc, words, disk, &mut script, &mut out);
     status
 }
 

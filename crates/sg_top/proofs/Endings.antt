@@ -1,6 +1,6 @@
 -- What each status of a run tells.
-use Rattle.std.proofs.Common.{◌≡◌, ◌⊎◌, inl, inr, ℕ, Bool, IsTrue, List, Option, Some, None, is_some, length, refl, sym, ap, ◌∙◌, subst, arith}
-use Rattle.sg_base.specs.Ends.{HasRisen}
+use Rattle.std.proofs.Common.{◌≡◌, ◌⊎◌, inl, inr, ℕ, zero, suc, ◌+◌, ◌<◌, Bool, IsTrue, List, [], ◌++◌, Option, Some, None, is_some, length, refl, sym, ap, ◌∙◌, subst, arith, append-nil}
+use Rattle.sg_base.specs.Ends.{HasRisen, Takes, TakesFront}
 use Rattle.sg_disk.specs.Disk as disk
 use Rattle.sg_top.specs.declared.opening.OpenRefused as code_refused
 use Rattle.sg_top.specs.declared.opening.OpenRefused.TheVariants as refusals
@@ -12,16 +12,17 @@ use Rattle.sg_top.specs.declared.store.Stop as code_stop
 use Rattle.sg_top.specs.declared.store.Stop.TheVariants as stops
 use Rattle.sg_top.specs.Opening.{IsRefusedFor}
 use Rattle.sg_top.specs.Shown.{StopIsCaused}
-use Rattle.sg_model.specs.Objects.{Objects}
 use Rattle.sg_model.specs.History.{State, start, committed_objects, objects_after}
 use Rattle.sg_words.specs.Parse.{lines_of}
-use Rattle.sg_words.specs.Run.{Lines}
+use Rattle.sg_words.specs.Pieces.{behind}
+use Rattle.sg_words.specs.Text.{text_of_all}
 use Rattle.sg_log.proofs.Holding.{holds_seen}
 use Rattle.sg_top.specs.Stands.{StandsFor, StandsForFirst}
 use Rattle.sg_top.specs.Store.{Core, Runs}
+use Rattle.sg_top.specs.Script.{HasRead, Executed}
 use Rattle.sg_top.specs.Ending.{RunsTo, IsWhole}
 use Rattle.sg_top.specs.Opening.{reads_of}
-use Rattle.sg_top.specs.Top.{status_of, status_of_refusal, NeverRan, Ran, IsDone}
+use Rattle.sg_top.specs.Top.{status_of, status_of_refusal, NeverRan, Ran, IsDone, TookReplies, Lasts, Unchanged, IsFaultless}
 use Rattle.sg_top.proofs.Serial.{after_commits}
 use Rattle.sg_top.proofs.Standing.{stands}
 use Rattle.sg_top.proofs.Opened.{at_log0}
@@ -112,24 +113,151 @@ read_stands told w k x r is_told =
     stands (reads_of w) (committed_objects x) kept.durable (at_log0 w k.log kept.durable r.area r.base (holds_seen kept.holds)) kept.logs.durable
 
 -- what a run that is done has done
-pub done_of : (told : Bool) (v w : disk.View) (source left first now : Option (List ℕ)) (s : code_status.Status) → Ran told v w source left first now s → s ≡ statuses.Done → IsDone told w source first now
-done_of told v w source left first now s r is =
-    let e = ended_done r.end r.stop s r.status_is is in
-    let h : IsWhole told r.opened r.core (start r.objects) source left first now w r.last = subst (λ (z : code_end.RunEnd). RunsTo z told r.opened r.core (start r.objects) source left first now w r.last) e.0 r.runs in
+pub done_of : (told : Bool) (v w : disk.View) (r : ℕ) (source left first now : Option (List ℕ)) (s : code_status.Status) → Ran told (disk.refusing v 0) (disk.refusing w r) source left first now s → s ≡ statuses.Done → IsDone told v w source first now
+done_of told v w r source left first now s ran is =
+    let u : disk.View = disk.refusing w r in
+    let e = ended_done ran.end ran.stop s ran.status_is is in
+    let h : IsWhole told ran.opened ran.core (start ran.objects) source left first now u ran.last = subst (λ (z : code_end.RunEnd). RunsTo z told ran.opened ran.core (start ran.objects) source left first now u ran.last) e.0 ran.runs in
     let shows = h.executed.shows in
-    let runs = shows.runs (sym shows.stopped ∙ r.stopped ∙ ap is_some e.1) in
+    let runs = shows.runs (sym shows.stopped ∙ ran.stopped ∙ ap is_some e.1) in
     record {
+      objects = ran.objects;
+      stands = ran.stands;
       text = h.text;
       whole = h.whole;
       answers = h.executed.answers;
       after = h.executed.after;
-      goes = subst (λ (o : Objects). Lines (start o) (lines_of h.text) h.executed.answers h.executed.after) r.none h.executed.goes;
+      goes = h.executed.goes;
       replies = h.executed.took;
       answered = runs.answered;
-      read = read_stands told w r.last h.executed.after runs;
+      read = read_stands told u ran.last h.executed.after runs;
       images = λ is_told c leaves. all_stand h.executed.after c runs.answered (shows.images is_told c leaves);
     }
 
-pub done_either : (told : Bool) (v w : disk.View) (source left first now : Option (List ℕ)) (s : code_status.Status) → NeverRan told v w source left first now s ⊎ Ran told v w source left first now s → s ≡ statuses.Done → IsDone told w source first now
-done_either told v w source left first now s (inl shut) is = absurd (refused_done shut.why s shut.status_is is)
-done_either told v w source left first now s (inr ran) is = done_of told v w source left first now s ran is
+pub done_either : (told : Bool) (v w : disk.View) (r : ℕ) (source left first now : Option (List ℕ)) (s : code_status.Status) → NeverRan told (disk.refusing v 0) (disk.refusing w r) source left first now s ⊎ Ran told (disk.refusing v 0) (disk.refusing w r) source left first now s → s ≡ statuses.Done → IsDone told v w source first now
+done_either told v w r source left first now s (inl shut) is = absurd (refused_done shut.why s shut.status_is is)
+done_either told v w r source left first now s (inr ran) is = done_of told v w r source left first now s ran is
+
+-- the count of faults behind a fuse rises only where that of the disk inside does, or where a call is refused
+pub risen_or_refused : (before now r : ℕ) → HasRisen (before + 0) (now + r) → HasRisen before now ⊎ (0 < r)
+risen_or_refused before now zero h = inl (λ room. omega (arith, h (omega arith)))
+risen_or_refused before now (suc r) h = inr (omega arith)
+
+-- a status of which none of these causes is there
+pub faultless : (s : code_status.Status) → (s ≡ statuses.Usage → ⊥) → (s ≡ statuses.Disk → ⊥) → (s ≡ statuses.Read → ⊥) → (s ≡ statuses.Write → ⊥) → IsFaultless s
+faultless statuses.Done usage disk read write = tt
+faultless statuses.Usage usage disk read write = usage refl
+faultless statuses.Memory usage disk read write = tt
+faultless statuses.Disk usage disk read write = disk refl
+faultless statuses.Read usage disk read write = read refl
+faultless statuses.Write usage disk read write = write refl
+faultless statuses.TooLong usage disk read write = tt
+faultless (statuses.Damaged area at) usage disk read write = tt
+faultless statuses.LogEnd usage disk read write = tt
+
+-- what holds at two views holds at equal ones
+pub along : (P : disk.View → disk.View → Type 0) (v was w is : disk.View) → was ≡ v → is ≡ w → P was is → P v w
+along P v was w is e f h = subst (λ (u : disk.View). P u w) e (subst (λ (u : disk.View). P was u) f h)
+
+-- a run that didn't begin has left all as it was
+pub unchanged_of : (told : Bool) (v w : disk.View) (r : ℕ) (source left first now : Option (List ℕ)) (s : code_status.Status) → NeverRan told (disk.refusing v 0) (disk.refusing w r) source left first now s → IsTrue told → Unchanged v w source left first now
+unchanged_of told v w r source left first now s never is_told =
+    let m = never.shut.moments is_told in
+    record {
+      unread = never.unread;
+      unwritten = never.unwritten;
+      moments = record { added = m.added; past = m.past; first = m.first; each = m.each };
+    }
+
+-- some first lines of what the source gave were executed, whatever ended the run
+record Began (Failed : Type 0) (told : Bool) (v : disk.View) (k : Core) (x : State) (source left first now : Option (List ℕ)) (w : disk.View) (m : Core) : Type 0 where
+  text : List ℕ
+  read : HasRead source text left
+  lines : List (List ℕ)
+  more : List (List ℕ)
+  front : lines ++ more ≡ lines_of text
+  executed : Executed told v k x lines (λ replies. TookReplies Failed first replies now) w m
+
+retook : (told : Bool) (v : disk.View) (k : Core) (x : State) (lines : List (List ℕ)) (P Q : List ℕ → Type 0) (w : disk.View) (m : Core) → ((replies : List ℕ) → P replies → Q replies) → Executed told v k x lines P w m → Executed told v k x lines Q w m
+retook told v k x lines P Q w m weaker h = record { answers = h.answers; after = h.after; goes = h.goes; answered = h.answered; caused = h.caused; shows = h.shows; took = weaker (text_of_all h.answers) h.took; moments = h.moments }
+
+began : (Failed : Type 0) (end : code_end.RunEnd) (told : Bool) (v : disk.View) (k : Core) (x : State) (source left first now : Option (List ℕ)) (w : disk.View) (m : Core) → (end ≡ ends.Write → Failed) → RunsTo end told v k x source left first now w m → Began Failed told v k x source left first now w m
+began Failed ends.Done told v k x source left first now w m failed h = record {
+  text = h.text;
+  read = h.read;
+  lines = lines_of h.text;
+  more = [];
+  front = append-nil (lines_of h.text);
+  executed = retook told v k x (lines_of h.text) (λ replies. Takes first replies now) (λ replies. TookReplies Failed first replies now) w m (λ replies took. inl took) h.executed;
+}
+began Failed ends.Read told v k x source left first now w m failed h = record {
+  text = h.text;
+  read = h.read;
+  lines = h.lines;
+  more = behind h.rest (lines_of []);
+  front = h.over [] ∙ ap lines_of (append-nil h.text);
+  executed = retook told v k x h.lines (λ replies. Takes first replies now) (λ replies. TookReplies Failed first replies now) w m (λ replies took. inl took) h.executed;
+}
+began Failed ends.TooLong told v k x source left first now w m failed h = record {
+  text = h.text ++ h.piece;
+  read = h.read;
+  lines = h.lines;
+  more = behind h.rest (lines_of h.piece);
+  front = h.over h.piece;
+  executed = retook told v k x h.lines (λ replies. Takes first replies now) (λ replies. TookReplies Failed first replies now) w m (λ replies took. inl took) h.executed;
+}
+began Failed ends.Write told v k x source left first now w m failed h = record {
+  text = h.text;
+  read = h.read;
+  lines = h.lines;
+  more = h.more;
+  front = h.front;
+  executed = retook told v k x h.lines (λ replies. TakesFront first replies now) (λ replies. TookReplies Failed first replies now) w m (λ replies took. inr (failed refl, took)) h.executed;
+}
+
+-- what a crash leaves of a run that began
+pub lasts_of : (Failed : Type 0) (told : Bool) (v w : disk.View) (source left first now : Option (List ℕ)) (s : code_status.Status) → (ran : Ran told v w source left first now s) → (ran.end ≡ ends.Write → Failed) → IsTrue told → Lasts Failed v w source left first now
+lasts_of Failed told v w source left first now s ran failed is_told =
+    let h = began Failed ran.end told ran.opened ran.core (start ran.objects) source left first now w ran.last failed ran.runs in
+    record {
+      objects = ran.objects;
+      stands = ran.stands is_told;
+      text = h.text;
+      read = h.read;
+      lines = h.lines;
+      more = h.more;
+      front = h.front;
+      answers = h.executed.answers;
+      after = h.executed.after;
+      goes = h.executed.goes;
+      replies = h.executed.took;
+      opened = ran.opened;
+      opening = ran.opening is_told;
+      moments = h.executed.moments is_told;
+      exit = h.executed.shows.images is_told;
+      one_more = h.executed.shows.one_more;
+    }
+
+-- views that differ in their counts alone have the same images
+pub lasts_inside : (Failed : Type 0) (v w : disk.View) (r : ℕ) (source left first now : Option (List ℕ)) → Lasts Failed (disk.refusing v 0) (disk.refusing w r) source left first now → Lasts Failed v w source left first now
+lasts_inside Failed v w r source left first now h =
+    let opening = h.opening in
+    let moments = h.moments in
+    record {
+      objects = h.objects;
+      stands = h.stands;
+      text = h.text;
+      read = h.read;
+      lines = h.lines;
+      more = h.more;
+      front = h.front;
+      answers = h.answers;
+      after = h.after;
+      goes = h.goes;
+      replies = h.replies;
+      opened = h.opened;
+      opening = record { added = opening.added; past = opening.past; first = opening.first; each = opening.each };
+      moments = record { added = moments.added; past = moments.past; first = moments.first; each = moments.each };
+      exit = h.exit;
+      one_more = h.one_more;
+    }

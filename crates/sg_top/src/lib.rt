@@ -22,6 +22,7 @@ mod session;
 mod status;
 mod store;
 mod top;
+mod words;
 
 pub use answer::Answer;
 pub use opening::{OpenRefused, Unopened};
@@ -30,5 +31,7 @@ pub use status::Status;
 pub use store::Stop;
 pub use top::{Finish, stasis};
 
+#[cfg(test)]
+mod stop_tests;
 #[cfg(test)]
 mod tests;

@@ -1,28 +1,26 @@
-ghost use Rattle.std.specs.Prelude.{◌≡◌, ◌⊎◌, ◌≤◌, true, false, IsTrue, Option};
+ghost use Rattle.std.specs.Prelude.{◌≡◌, ◌⊎◌, ◌≤◌, ◌<◌, ◌+◌, ℕ, true, false, IsTrue, Option, Some, IfSome};
 ghost use Rattle.sg_base.specs.Ends.{HasRisen};
-ghost use Rattle.sg_disk.specs.Disk as disk_specs;
-ghost use Rattle.sg_top.specs.Top.{are_run, status_of, status_of_end, status_of_refusal, NeverRan, Ran, IsDone};
+ghost use Rattle.sg_disk.specs.Disk.{FULL, refusing, Spent};
+ghost use Rattle.sg_top.specs.Top.{are_run, stop_after, status_of, status_of_end, status_of_refusal, NeverRan, Ran, IsDone, Lasts, Unchanged, IsFaultless};
 
 use crate::opening::{OpenRefused, Unopened};
 use crate::script::{RunEnd, run_script};
 use crate::session::Session;
 use crate::status::Status;
 use crate::store::Stop;
+use crate::words::command_of;
 use sg_base::{Sink, Source};
-use sg_disk::Disk;
+use sg_disk::{Disk, Fuse, Origin};
 use std::alloc::Global;
+use std::marker::Brand;
 
-/// What a command leaves: its status and the disk.
+/// What a command leaves: its status, the disk, and how many of its calls the stop refused. A count
+/// of 2^64 - 1 stays.
 #[derive(Drop)]
 pub struct Finish<D> {
     pub status: Status,
     pub disk: D,
-}
-
-fn is_run(words: &[String]) -> bool
-    ensures { result ≡ are_run words.now }
-{
-    words.len() == 2 && words[0].as_str() == "run"
+    pub refused: u64,
 }
 
 fn status_of_refusal(why: OpenRefused) -> Status
@@ -56,8 +54,70 @@ fn status_of(end: RunEnd, stop: Option<Stop>) -> Status
     }
 }
 
+// The end of a command, with the disk out of its fuse.
+fn finished<D: Disk, O: Origin>(status: Status, fuse: Fuse<D, O>) -> Finish<D>
+    ensures status { result.status ≡ status }
+    ensures view { ⟦<Fuse<D, O> as Disk>⟧.view fuse ≡ refusing (D.view result.disk) result.refused }
+    ensures spent { IsTrue O.known → Spent O.passes O.calls (D.view result.disk).calls result.refused }
+{
+    let refused = fuse.refused();
+    Finish {
+        status,
+        disk: fuse.into_inner(),
+        refused,
+    }
+}
+
+// Runs the script over the disk, which makes so many calls at most where a number is given.
+fn run_behind_fuse<D: Disk, S: Source, K: Sink, O: Origin>(
+    alloc: Global,
+    disk: D,
+    calls: Option<u64>,
+    script: &mut S,
+    out: &mut K,
+) -> Finish<D>
+    requires known { IsTrue O.known }
+    requires passes { O.passes ≡ calls }
+    requires began { O.calls ≡ (D.view disk).calls }
+    ensures usage { result.status ≡ Status.Usage → ⊥ }
+    ensures run { NeverRan D.told (refusing (D.view disk) 0) (refusing (D.view result.disk) result.refused) (S.left script.old) (S.left script.new) (K.taken out.old) (K.taken out.new) result.status
+        ⊎ Ran D.told (refusing (D.view disk) 0) (refusing (D.view result.disk) result.refused) (S.left script.old) (S.left script.new) (K.taken out.old) (K.taken out.new) result.status }
+    ensures crash { IsTrue D.told →
+        Unchanged (D.view disk) (D.view result.disk) (S.left script.old) (S.left script.new) (K.taken out.old) (K.taken out.new)
+        ⊎ Lasts (HasRisen (K.faults out.old) (K.faults out.new)) (D.view disk) (D.view result.disk) (S.left script.old) (S.left script.new) (K.taken out.old) (K.taken out.new) }
+    ensures done { result.status ≡ Status.Done → IsDone D.told (D.view disk) (D.view result.disk) (S.left script.old) (K.taken out.old) (K.taken out.new) }
+    ensures read { result.status ≡ Status.Read → HasRisen (S.faults script.old) (S.faults script.new) }
+    ensures write { result.status ≡ Status.Write → HasRisen (K.faults out.old) (K.faults out.new) }
+    ensures disk { result.status ≡ Status.Disk → HasRisen (D.view disk).faults (D.view result.disk).faults ⊎ (0 < result.refused) }
+    ensures complete { (HasRisen (S.faults script.old) (S.faults script.new) → ⊥) → (HasRisen (K.faults out.old) (K.faults out.new) → ⊥)
+        → (HasRisen (D.view disk).faults (D.view result.disk).faults → ⊥) → result.refused ≡ 0 → IsFaultless result.status }
+    ensures spent { Spent calls (D.view disk).calls (D.view result.disk).calls result.refused }
+{
+    let Ok(piece) = vec![in alloc; 0; 65536] else {
+        return Finish {
+            status: Status::Memory,
+            disk,
+            refused: 0,
+        };
+    };
+    let mut piece = piece;
+    let fuse = Fuse::<D, O>::marked(disk, calls);
+    let mut session = match Session::start(alloc, fuse) {
+        Ok(session) => session,
+        Err(Unopened { why, disk }) => {
+            let status = status_of_refusal(why);
+            return finished(status, disk);
+        }
+    };
+    let end = run_script(alloc, &mut session, script, out, &mut piece);
+    let (stop, fuse) = session.finish();
+    let status = status_of(end, stop);
+    finished(status, fuse)
+}
+
 /// Does what the words say, with the script that the source gives, over the disk: `run` and a folder,
-/// which names the disk, runs the script. The replies go to the sink.
+/// which names the disk, runs the script. The replies go to the sink. With `--stop-after` and a number
+/// behind these the disk makes so many calls at most. Each later one fails and doesn't touch it.
 pub fn stasis<D: Disk, S: Source, K: Sink>(
     alloc: Global,
     words: &[String],
@@ -66,37 +126,28 @@ pub fn stasis<D: Disk, S: Source, K: Sink>(
     out: &mut K,
 ) -> Finish<D>
     ensures usage { (result.status ≡ Status.Usage → are_run words.now ≡ false) }
-    ensures unused { are_run words.now ≡ false → (result.status ≡ Status.Usage) × (result.disk ≡ disk) × (script.new ≡ script.old) × (out.new ≡ out.old) }
+    ensures unused { are_run words.now ≡ false → (result.status ≡ Status.Usage) × (result.disk ≡ disk) × (result.refused ≡ 0) × (script.new ≡ script.old) × (out.new ≡ out.old) }
     ensures run { are_run words.now ≡ true →
-        NeverRan D.told (D.view disk) (D.view result.disk) (S.left script.old) (S.left script.new) (K.taken out.old) (K.taken out.new) result.status
-        ⊎ Ran D.told (D.view disk) (D.view result.disk) (S.left script.old) (S.left script.new) (K.taken out.old) (K.taken out.new) result.status }
-    ensures done { are_run words.now ≡ true → result.status ≡ Status.Done → IsDone D.told (D.view result.disk) (S.left script.old) (K.taken out.old) (K.taken out.new) }
+        NeverRan D.told (refusing (D.view disk) 0) (refusing (D.view result.disk) result.refused) (S.left script.old) (S.left script.new) (K.taken out.old) (K.taken out.new) result.status
+        ⊎ Ran D.told (refusing (D.view disk) 0) (refusing (D.view result.disk) result.refused) (S.left script.old) (S.left script.new) (K.taken out.old) (K.taken out.new) result.status }
+    ensures crash { are_run words.now ≡ true → IsTrue D.told →
+        Unchanged (D.view disk) (D.view result.disk) (S.left script.old) (S.left script.new) (K.taken out.old) (K.taken out.new)
+        ⊎ Lasts (HasRisen (K.faults out.old) (K.faults out.new)) (D.view disk) (D.view result.disk) (S.left script.old) (S.left script.new) (K.taken out.old) (K.taken out.new) }
+    ensures done { are_run words.now ≡ true → result.status ≡ Status.Done → IsDone D.told (D.view disk) (D.view result.disk) (S.left script.old) (K.taken out.old) (K.taken out.new) }
     ensures read { result.status ≡ Status.Read → HasRisen (S.faults script.old) (S.faults script.new) }
     ensures write { result.status ≡ Status.Write → HasRisen (K.faults out.old) (K.faults out.new) }
-    ensures disk { result.status ≡ Status.Disk → HasRisen (D.view disk).faults (D.view result.disk).faults }
+    ensures disk { result.status ≡ Status.Disk → HasRisen (D.view disk).faults (D.view result.disk).faults ⊎ (0 < result.refused) }
+    ensures complete { are_run words.now ≡ true → (HasRisen (S.faults script.old) (S.faults script.new) → ⊥) → (HasRisen (K.faults out.old) (K.faults out.new) → ⊥)
+        → (HasRisen (D.view disk).faults (D.view result.disk).faults → ⊥) → result.refused ≡ 0 → IsFaultless result.status }
+    ensures refused { 0 < result.refused → (n : ℕ) × (stop_after words.now ≡ Some n) × ((D.view result.disk).calls < FULL → (D.view result.disk).calls ≡ (D.view disk).calls + n) }
+    ensures passed { IfSome (stop_after words.now) (λ n. (D.view result.disk).calls ≤ (D.view disk).calls + n) }
 {
-    if !is_run(words) {
+    let Some(command) = command_of(words) else {
         return Finish {
             status: Status::Usage,
             disk,
-        };
-    }
-    let Ok(piece) = vec![in alloc; 0; 65536] else {
-        return Finish {
-            status: Status::Memory,
-            disk,
+            refused: 0,
         };
     };
-    let mut piece = piece;
-    let mut session = match Session::start(alloc, disk) {
-        Ok(session) => session,
-        Err(Unopened { why, disk }) => {
-            let status = status_of_refusal(why);
-            return Finish { status, disk };
-        }
-    };
-    let end = run_script(alloc, &mut session, script, out, &mut piece);
-    let (stop, disk) = session.finish();
-    let status = status_of(end, stop);
-    Finish { status, disk }
+    run_behind_fuse::<D, S, K, Brand>(alloc, disk, command.stop_after, script, out)
 }

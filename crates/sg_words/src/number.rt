@@ -34,8 +34,8 @@ fn value(digits: &[u8]) -> Option<u64>
     Some(value)
 }
 
-/// The number that the word is.
-pub fn number(word: &[u8]) -> Option<u64>
+/// The number that the word is, if it is one: 1 to 20 digits with a value below 2^64.
+pub fn parse_number(word: &[u8]) -> Option<u64>
     ensures { result ≡ number_of word.now }
 {
     if word.is_empty() || word.len() > 20 || !has_digits(word) {

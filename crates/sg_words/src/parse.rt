@@ -4,7 +4,7 @@ ghost use Rattle.sg_words.specs.Parse.{words_of, begin_of, commit_of, make_of, p
 ghost use Rattle.sg_words.specs.Order.{IfBuilt, OrdersBuilt};
 ghost use Rattle.sg_words.specs.Shown.{shown_option, shown_line};
 
-use crate::number::number;
+use crate::number::parse_number;
 use crate::split::next_word;
 use crate::value::value;
 use sg_base::Name;
@@ -65,7 +65,7 @@ fn make(rest: &[u8]) -> Option<Verb<'_>>
     if next_word(rest).is_some() {
         return None;
     }
-    let size = number(size)?;
+    let size = parse_number(size)?;
     let name = Name::new(name)?;
     if kind == b"array".as_slice() {
         Some(Verb::Do(Op::MakeArray { name, size }))
@@ -100,7 +100,7 @@ fn set<'a>(rest: &'a [u8], scratch: &'a mut [u8]) -> Option<Verb<'a>>
     if next_word(rest).is_some() {
         return None;
     }
-    let index = number(index)?;
+    let index = parse_number(index)?;
     let value = value(word, scratch)?;
     let name = Name::new(name)?;
     Some(Verb::Do(Op::Set { name, index, value }))
@@ -115,7 +115,7 @@ fn get(rest: &[u8]) -> Option<Verb<'_>>
     if next_word(rest).is_some() {
         return None;
     }
-    let index = number(index)?;
+    let index = parse_number(index)?;
     let name = Name::new(name)?;
     Some(Verb::Do(Op::Get { name, index }))
 }

@@ -1,0 +1,39 @@
+ghost use Rattle.std.specs.Prelude.{◌≡◌};
+ghost use Rattle.sg_words.specs.Parse.{number_of};
+ghost use Rattle.sg_top.specs.Top.{command_of, run_with};
+
+use sg_words::parse_number;
+
+/// What the words of a command ask for: a run.
+#[derive(Clone, Copy, Debug, PartialEq, Eq)]
+pub struct Command {
+    /// How many calls the disk makes at most, if it is to stop.
+    pub stop_after: Option<u64>,
+}
+
+// A run whose disk makes so many calls at most.
+fn run_stopped_after(number: &str) -> Option<Command>
+    ensures { result ≡ run_with (number_of number.now) }
+{
+    match parse_number(number.as_bytes()) {
+        Some(calls) => Some(Command {
+            stop_after: Some(calls),
+        }),
+        None => None,
+    }
+}
+
+/// Reads the words: `run` and a folder, or behind these `--stop-after` and a number of 1 to 20
+/// digits below 2^64. Other words ask for nothing.
+pub fn command_of(words: &[String]) -> Option<Command>
+    ensures { result ≡ command_of words.now }
+{
+    match words {
+        [command, _] if command.as_str() == "run" => Some(Command { stop_after: None }),
+        [command, _, option, number]
+            if command.as_str() == "run" && option.as_str() == "--stop-after" => {
+            run_stopped_after(number.as_str())
+        }
+        _ => None,
+    }
+}
