@@ -85,14 +85,13 @@ pub record NeverRan (told : Bool) (v w : disk.View) (source left first now : Opt
   pub unwritten : now ≡ first
   pub status_is : status ≡ status_of_refusal why
 
--- A run over an empty log, whose first gate is closed: it began with no objects, which the image read stands for, and
--- ended so. Until it had opened the store a
--- crash left what it could have left at first. The log's end is met only where so much was handed to the disk
+-- A run that began with the objects for which the image read at entry stands, and those alone, and ended so. Until it
+-- had opened the store a crash left what it could have left at first. The log's end is met only where so much was
+-- handed to the disk
 pub record Ran (told : Bool) (v w : disk.View) (source left first now : Option (List ℕ)) (status : code_status.Status) : Type 0 where
   pub objects : Objects
-  pub none : objects ≡ empty
-  pub closed : IsTrue told → reads_of v Log0 0 ≡ 1 → ⊥
   pub stands : IsTrue told → StandsFor (reads_of v) objects
+  pub only : IsTrue told → (s : Objects) → StandsFor (reads_of v) s → s ≡ objects
   pub opened : disk.View
   pub core : Core
   pub opening : IsTrue told → disk.LeavesOnly v opened (disk.Leaves v.now)

@@ -70,9 +70,8 @@ begun g c =
     let n = c.run_script-end.new.session in
     record {
       objects = c.in-Ok-start.ensures.opens.first;
-      none = c.in-Ok-start.ensures.opens.none;
-      closed = c.in-Ok-start.ensures.opens.closed;
       stands = c.in-Ok-start.ensures.opens.stands;
+      only = c.in-Ok-start.ensures.opens.only;
       opened = disk.refusing (g.D.Disk.view (session_disk o).inner) (session_disk o).refused;
       core = session_core o;
       opening = c.in-Ok-start.ensures.opens.moments;
