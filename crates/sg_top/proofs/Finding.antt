@@ -44,7 +44,7 @@ pub finds_more : (old mid new : code_found.Found) (xs ys : List At) → Finds ol
 finds_more old mid new xs ys h k = record {
   lines = λ t. k.lines t ∙ (ap (λ l. l ++ lines_at t ys) (h.lines t) ∙ (append_assoc (lines_found old t) (lines_at t xs) (lines_at t ys) ∙ ap (λ l. lines_found old t ++ l) (sym (flat_map-append (λ (p : At). line_at t p.offset p.is) xs ys))));
   commits = k.commits ∙ (ap (λ (l : List ℕ). l ++ commits_in (map (λ p. p.is) ys)) h.commits ∙ (append_assoc old.commits.items (commits_in (map (λ p. p.is) xs)) (commits_in (map (λ p. p.is) ys))
-    ∙ ap (λ (l : List ℕ). old.commits.items ++ l) (sym (ap commits_in (map_is-append xs ys) ∙ commits_in-append (map (λ p. p.is) xs) (map (λ p. p.is) ys)))));
+      ∙ ap (λ (l : List ℕ). old.commits.items ++ l) (sym (ap commits_in (map_is-append xs ys) ∙ commits_in-append (map (λ p. p.is) xs) (map (λ p. p.is) ys)))));
 }
 
 pub finds_one : (old new : code_found.Found) (at : ℕ) (r : Record) → ((t : ℕ) → lines_found new t ≡ lines_found old t ++ line_at t at r) → new.commits.items ≡ old.commits.items ++ commits_in (r ∷ []) → Finds old new (record { offset = at; is = r } ∷ [])
@@ -133,7 +133,7 @@ module _ (old now : code_found.Found) (bytes : List ℕ) (at gate from : ℕ) (s
           front = records_at at h.front;
           back = records_at (at + from + length (spelled n.is)) n.more;
           there = ap (records_at at) (h.split ∙ ap (λ (b : List Record). h.front ++ b) n.split) ∙ (records_at-append at h.front (n.is ∷ n.more)
-            ∙ (ap (λ (k : ℕ). records_at at h.front ++ records_at (at + k) (n.is ∷ n.more)) (sym h.place) ∙ ap (λ (s : Record). records_at at h.front ++ record { offset = at + from; is = s } ∷ records_at (at + from + length (spelled n.is)) n.more) (sym same.0)));
+              ∙ (ap (λ (k : ℕ). records_at at h.front ++ records_at (at + k) (n.is ∷ n.more)) (sym h.place) ∙ ap (λ (s : Record). records_at at h.front ++ record { offset = at + from; is = s } ∷ records_at (at + from + length (spelled n.is)) n.more) (sym same.0)));
           high = high;
         }
 

@@ -100,9 +100,9 @@ pub shut : {T E : Type 0} (told : Bool) (v v1 w : disk.View) (why : code_refused
 shut told v v1 w why u synced handed1 later1 h reads =
     let reason = after_sync told v v1 w why later1 (λ is_told. synced_seen v v1 u (synced is_told)) h in
     record {
-  reason = reason;
-  nothing = nothing_stands told v w why reason;
-  moments = λ is_told. opening_moments v v1 w u (synced is_told) (reads.any_moment is_told);
-  handed = reads.handed ∙ handed1;
-  later = omega (arith, later1, reads.later);
-}
+      reason = reason;
+      nothing = nothing_stands told v w why reason;
+      moments = λ is_told. opening_moments v v1 w u (synced is_told) (reads.any_moment is_told);
+      handed = reads.handed ∙ handed1;
+      later = omega (arith, later1, reads.later);
+    }

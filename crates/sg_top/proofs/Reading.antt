@@ -62,25 +62,31 @@ module _ (told : Bool) (v u : disk.View) (log : Tail) (area : log.area ≡ Log0)
         holds = holds_along {v = u} {w = w} {log = log} (more.unchanged is_told) attached.2;
         below = subst (AreBelow log.gate) attached.1.all are.below;
         replayed = ap (λ (rs : List Record). replay (committed_lines rs) (Some empty)) (sym attached.1.all)
-          ∙ (ap (λ (ls : List (List ℕ)). replay ls (Some empty)) (sym (ap words_of_all (found_lines found log.gate frames are) ∙ committed-words frames)) ∙ done);
+            ∙ (ap (λ (ls : List (List ℕ)). replay ls (Some empty)) (sym (ap words_of_all (found_lines found log.gate frames are) ∙ committed-words frames)) ∙ done);
       }
 
   -- a transaction's number is too great
   pub read_high : (at : ℕ) → ((fs : List (List Record)) → EndsAt u log fs → HasHigh log.gate at (records_in 0 fs)) → IsRefusedFor (refusals.Damaged Log0 at) told v u
-  read_high at high = (refl, λ sure. inr (inl (record {
-    frames = frames;
-    stand = attached.1.stand;
-    has = subst (λ (n : ℕ). HasHigh n at (records_in 0 frames)) ends.gate (high frames ends);
-  })))
+  read_high at high = (
+    refl,
+    λ sure. inr (inl (record {
+      frames = frames;
+      stand = attached.1.stand;
+      has = subst (λ (n : ℕ). HasHigh n at (records_in 0 frames)) ends.gate (high frames ends);
+    })),
+  )
 
   -- a committed line gets no reply
   pub read_unanswered : (at : ℕ) (found : code_found.Found) → ((fs : List (List Record)) → IsTrue told → EndsAt u log fs → AreFound found log.gate fs)
       → HasUnanswered empty at (flat_map (λ t. lines_found found t) found.commits.items) → IsRefusedFor (refusals.Damaged Log0 at) told v u
-  read_unanswered at found all h = (refl, λ sure. inr (inr (record {
-    frames = frames;
-    stand = attached.1.stand;
-    has = subst (HasUnanswered empty at) (found_lines found log.gate frames (all frames is_told ends)) h;
-  })))
+  read_unanswered at found all h = (
+    refl,
+    λ sure. inr (inr (record {
+      frames = frames;
+      stand = attached.1.stand;
+      has = subst (HasUnanswered empty at) (found_lines found log.gate frames (all frames is_told ends)) h;
+    })),
+  )
 
 -- why what was found isn't all
 pub not_found : (told : Bool) (v u w : disk.View) (log : Tail) (why : code_refused.OpenRefused) → log.area ≡ Log0 → OnlyReads told v u → (IsTrue told → Attaches v u log) → IsNotFound why told u w log → IsRefusedFor why told v w

@@ -41,30 +41,35 @@ refused_later s m refusals.Memory xs ys zs done h = h
 refused_later s m (refusals.Damaged area at) xs ys zs done h =
     let k = h.1 in
     let here : LineAt = record { offset = at; words = k.words } in
-    let P : LineAt → List LineAt → List LineAt = λ l ls. l ∷ ls in
-    (h.0, record {
-      front = xs ++ k.front;
-      words = k.words;
-      back = k.back ++ zs;
-      there = ap (λ (ls : List LineAt). xs ++ (ls ++ zs)) k.there ∙ (ap (λ (ls : List LineAt). xs ++ ls) (append_assoc k.front (P here k.back) zs) ∙ sym (append_assoc xs k.front (P here (k.back ++ zs))));
-      objects = k.objects;
-      replayed = replay_more s m k.objects xs k.front done k.replayed;
-      none = k.none;
-    })
+    let P : LineAt → List LineAt → List LineAt = λ l ls. l ∷ ls in (
+      h.0,
+      record {
+        front = xs ++ k.front;
+        words = k.words;
+        back = k.back ++ zs;
+        there = ap (λ (ls : List LineAt). xs ++ (ls ++ zs)) k.there ∙ (ap (λ (ls : List LineAt). xs ++ ls) (append_assoc k.front (P here k.back) zs) ∙ sym (append_assoc xs k.front (P here (k.back ++ zs))));
+        objects = k.objects;
+        replayed = replay_more s m k.objects xs k.front done k.replayed;
+        none = k.none;
+      },
+    )
 
 -- this line isn't
 pub refused_here : (m : Objects) (why : code_refused.OpenRefused) (line : LineAt) → IsLineRefused why m line → IsRefusedBy why m (line ∷ [])
 refused_here m refusals.DiskFault line h = h
 refused_here m refusals.Memory line h = h
-refused_here m (refusals.Damaged area at) line h = (h.0, record {
-  front = [];
-  words = line.words;
-  back = [];
-  there = let P : ℕ → List LineAt = λ n. record { offset = n; words = line.words } ∷ [] in ap P (sym h.1);
-  objects = m;
-  replayed = refl;
-  none = h.2;
-})
+refused_here m (refusals.Damaged area at) line h = (
+  h.0,
+  record {
+    front = [];
+    words = line.words;
+    back = [];
+    there = let P : ℕ → List LineAt = λ n. record { offset = n; words = line.words } ∷ [] in ap P (sym h.1);
+    objects = m;
+    replayed = refl;
+    none = h.2;
+  },
+)
 
 -- a list at an index
 split_at : {X : Type 0} (xs : List X) (i : ℕ) (x : X) → i < length xs → x ≡ get_or xs i x → xs ≡ take i xs ++ (x ∷ [] ++ drop (suc i) xs)

@@ -108,7 +108,7 @@ found_more now new gate at front rs place are finds below =
     record {
       lines = λ t. finds.lines t ∙ (ap (λ l. l ++ lines_at t (records_at (at + 5) rs)) (are.lines t) ∙ (sym (flat_map-append (λ (p : At). line_at t p.offset p.is) (records_in 0 front) (records_at (at + 5) rs)) ∙ ap (lines_at t) (sym all)));
       commits = finds.commits ∙ (ap (λ (l : List ℕ). l ++ commits_in (map (λ p. p.is) (records_at (at + 5) rs))) are.commits
-        ∙ (sym (commits_in-append (map (λ p. p.is) (records_in 0 front)) (map (λ p. p.is) (records_at (at + 5) rs))) ∙ (ap commits_in (sym (map_is-append (records_in 0 front) (records_at (at + 5) rs))) ∙ ap (λ (xs : List At). commits_in (map (λ p. p.is) xs)) (sym all))));
+          ∙ (sym (commits_in-append (map (λ p. p.is) (records_in 0 front)) (map (λ p. p.is) (records_at (at + 5) rs))) ∙ (ap commits_in (sym (map_is-append (records_in 0 front) (records_at (at + 5) rs))) ∙ ap (λ (xs : List At). commits_in (map (λ p. p.is) xs)) (sym all))));
       below = subst (AreBelow gate) (sym (records_of-more front rs)) (below-append gate (records_of front) rs are.below below);
     }
 
@@ -155,36 +155,42 @@ module _ (told : Bool) (v u : disk.View) (log : Tail) (now : code_found.Found) (
   pub walking_fails : (w : disk.View) (base : ℕ) (e : LogFault) → base ≡ 0 → FrameFails told log.area base to u w e → IsNotFound (refusal_at e) told v w log
   walking_fails w base faults.Disk none h = λ room. omega (arith, h room, walking.reads.later)
   walking_fails w base faults.LogEnd none h = absurd h
-  walking_fails w base (faults.Damaged there) none h = (refl, λ is_told frames ends.
-      let k = walking.walked is_told frames ends in
-      let f = (v.now log.area).seen in
-      let bad : IsUnformed f base at = subst (IsUnformed f base) same (subst (λ (g : disk.Bytes). IsUnformed g base to) (seen_here is_told) (h.1 is_told)) in
-      let end : gate_after 0 frames ≡ gate_after at k.back = ap (gate_after 0) k.split ∙ (gate_split 0 k.front k.back ∙ ap (λ (n : ℕ). gate_after n k.back) (sym k.place)) in
-      absurd (not_unformed f base at k.back k.rest (omega (arith, none, end, ends.gate, ends.within)) bad))
+  walking_fails w base (faults.Damaged there) none h = (
+    refl,
+    λ is_told frames ends.
+        let k = walking.walked is_told frames ends in
+        let f = (v.now log.area).seen in
+        let bad : IsUnformed f base at = subst (IsUnformed f base) same (subst (λ (g : disk.Bytes). IsUnformed g base to) (seen_here is_told) (h.1 is_told)) in
+        let end : gate_after 0 frames ≡ gate_after at k.back = ap (gate_after 0) k.split ∙ (gate_split 0 k.front k.back ∙ ap (λ (n : ℕ). gate_after n k.back) (sym k.place)) in
+        absurd (not_unformed f base at k.back k.rest (omega (arith, none, end, ends.gate, ends.within)) bad),
+  )
   walking_fails w base faults.Memory none h = tt
 
   -- a frame's records can't all be found
   pub walking_refused : (w : disk.View) (n : ℕ) (bytes : List ℕ) (why : code_refused.OpenRefused) → ReadsFrame told u log to n bytes → IsRefusedIn why log.gate bytes (at + 5) → IsNotFound why told v w log
   walking_refused w n bytes refusals.DiskFault read h = absurd h
   walking_refused w n bytes refusals.Memory read h = tt
-  walking_refused w n bytes (refusals.Damaged area there) read h = (h.0, λ is_told frames ends.
-      let k = walking.walked is_told frames ends in
-      let r = read is_told in
-      let rs = r.0 in
-      let f = (v.now log.area).seen in
-      let formed : IsFormed f at rs = subst (λ (m : ℕ). IsFormed f m rs) same (subst (λ (g : disk.Bytes). IsFormed g to rs) (seen_here is_told) r.1) in
-      let next = next_frame f at k.back rs k.rest formed in
-      let high = h.1 rs formed.frame.fields r.3 in
-      let P : At → List At → List At = λ x xs. x ∷ xs in
-      record {
-        is = high.is;
-        front = records_in 0 k.front ++ high.front;
-        back = high.back ++ records_in (at + 5 + length (spelled_all rs)) next.more;
-        there = ap (records_in 0) (k.split ∙ ap (λ (xs : List (List Record)). k.front ++ xs) next.split)
-          ∙ (records_in-append 0 k.front (rs ∷ next.more)
-          ∙ (ap (λ (m : ℕ). records_in 0 k.front ++ records_in m (rs ∷ next.more)) (sym k.place)
-          ∙ (ap (λ (xs : List At). records_in 0 k.front ++ (xs ++ records_in (at + 5 + length (spelled_all rs)) next.more)) high.there
-          ∙ (ap (λ (xs : List At). records_in 0 k.front ++ xs) (append_assoc high.front (P (record { offset = there; is = high.is }) high.back) (records_in (at + 5 + length (spelled_all rs)) next.more))
-          ∙ sym (append_assoc (records_in 0 k.front) high.front (P (record { offset = there; is = high.is }) (high.back ++ records_in (at + 5 + length (spelled_all rs)) next.more)))))));
-        high = high.high;
-      })
+  walking_refused w n bytes (refusals.Damaged area there) read h = (
+    h.0,
+    λ is_told frames ends.
+        let k = walking.walked is_told frames ends in
+        let r = read is_told in
+        let rs = r.0 in
+        let f = (v.now log.area).seen in
+        let formed : IsFormed f at rs = subst (λ (m : ℕ). IsFormed f m rs) same (subst (λ (g : disk.Bytes). IsFormed g to rs) (seen_here is_told) r.1) in
+        let next = next_frame f at k.back rs k.rest formed in
+        let high = h.1 rs formed.frame.fields r.3 in
+        let P : At → List At → List At = λ x xs. x ∷ xs in
+        record {
+          is = high.is;
+          front = records_in 0 k.front ++ high.front;
+          back = high.back ++ records_in (at + 5 + length (spelled_all rs)) next.more;
+          there = ap (records_in 0) (k.split ∙ ap (λ (xs : List (List Record)). k.front ++ xs) next.split)
+              ∙ (records_in-append 0 k.front (rs ∷ next.more)
+              ∙ (ap (λ (m : ℕ). records_in 0 k.front ++ records_in m (rs ∷ next.more)) (sym k.place)
+              ∙ (ap (λ (xs : List At). records_in 0 k.front ++ (xs ++ records_in (at + 5 + length (spelled_all rs)) next.more)) high.there
+              ∙ (ap (λ (xs : List At). records_in 0 k.front ++ xs) (append_assoc high.front (P (record { offset = there; is = high.is }) high.back) (records_in (at + 5 + length (spelled_all rs)) next.more))
+              ∙ sym (append_assoc (records_in 0 k.front) high.front (P (record { offset = there; is = high.is }) (high.back ++ records_in (at + 5 + length (spelled_all rs)) next.more)))))));
+          high = high.high;
+        },
+  )

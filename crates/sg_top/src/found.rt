@@ -50,7 +50,13 @@ impl Found {
     }
 
     // Adds a line of a transaction.
-    fn add_line(&mut self, alloc: Global, txn: u64, at: u64, words: &[u8]) -> Result<(), OutOfMemory>
+    fn add_line(
+        &mut self,
+        alloc: Global,
+        txn: u64,
+        at: u64,
+        words: &[u8],
+    ) -> Result<(), OutOfMemory>
         requires { length words.now ≤ 32768 }
         ensures lines { OnOk result ((t : ℕ) → lines_found self.new t ≡ lines_found self.old t ++ (if txn == t then record { offset = at; words = words.now } ∷ [] else [])) }
         ensures commits { OnOk result (self.new.commits.items ≡ self.old.commits.items) }

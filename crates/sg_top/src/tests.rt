@@ -1,7 +1,7 @@
 ghost use Rattle.std.specs.Prelude.{◌≡◌, ◌<◌, None};
 
 use crate::{Finish, Session, Status, stasis};
-use sg_base::{Area, Failed, MemSink, MemSource, Source};
+use sg_base::{Failed, MemSink, MemSource, Source};
 use sg_disk::{CallKind, Disk, MemDisk};
 use std::alloc::{AllocError, Global};
 use std::test::Fail;
@@ -205,23 +205,6 @@ fn a_disk_that_fails(rt: HostRuntime) -> Result<(), Fail> {
     let finish = run_in_pieces(alloc, disk, script, 65_536, &mut out)?;
     assert_eq!(rt; finish.status, Status::Disk);
     assert_eq!(rt; out.text(), [].as_slice());
-    Ok(())
-}
-
-#[test]
-fn a_log_that_is_not_empty(rt: HostRuntime) -> Result<(), Fail> {
-    let alloc = rt.alloc();
-    let disk = MemDisk::of(
-        alloc,
-        Vec::new(alloc),
-        FIRST_LOG.to_vec(alloc)?,
-        Vec::new(alloc),
-    );
-    let mut out = MemSink::new(alloc, None);
-    let finish = run_in_pieces(alloc, disk, FIRST.as_bytes(), 65_536, &mut out)?;
-    assert_eq!(rt; finish.status, Status::Damaged(Area::Log0, 0));
-    assert_eq!(rt; out.text(), [].as_slice());
-    assert_eq!(rt; finish.disk.log0(), FIRST_LOG);
     Ok(())
 }
 

@@ -1,0 +1,220 @@
+ghost use Rattle.std.specs.Prelude.{◌<◌};
+
+use crate::{Finish, Status, stasis};
+use sg_base::{Area, MemSink, MemSource};
+use sg_disk::{CallKind, Disk, MemDisk};
+use std::alloc::Global;
+use std::test::Fail;
+
+// What the frame of one transaction stands as: the gate, the length 140, and five records, the first of them at byte 5.
+const FIRST_FRAME: &[u8] = b"\x01\x8c\0\0\0\
+    \x01\x15\0\0\0\x05\0\0\0\0\0\0\0\0\0\0\0\0\0\0\0\
+    \x0d\x23\0\0\0\x05\0\0\0\0\0\0\0\x05\0\0\0\0\0\0\0make array a 3\
+    \x0d\x1f\0\0\0\x05\0\0\0\0\0\0\0\x1a\0\0\0\0\0\0\0push a abc\
+    \x0d\x20\0\0\0\x05\0\0\0\0\0\0\0\x3d\0\0\0\0\0\0\0set a 0 xyz\
+    \x0a\x15\0\0\0\x05\0\0\0\0\0\0\0\x5c\0\0\0\0\0\0\0";
+
+// And that of the next one, which begins at byte 145: the length 74, and three records, the first of them at byte 150.
+const SECOND_FRAME: &[u8] = b"\x01\x4a\0\0\0\
+    \x01\x15\0\0\0\x96\0\0\0\0\0\0\0\0\0\0\0\0\0\0\0\
+    \x0d\x20\0\0\0\x96\0\0\0\0\0\0\0\x96\0\0\0\0\0\0\0set a 0 abc\
+    \x0a\x15\0\0\0\x96\0\0\0\0\0\0\0\xab\0\0\0\0\0\0\0";
+
+// Runs a script over a disk.
+fn run(
+    alloc: Global,
+    disk: MemDisk,
+    script: &[u8],
+    out: &mut MemSink,
+) -> Result<Finish<MemDisk>, Fail> {
+    let mut words = Vec::new(alloc);
+    for word in ["run", "store"] {
+        words.push(word.to_string(alloc)?)?;
+    }
+    let mut source = MemSource::new(script.to_vec(alloc)?, 65_536, None);
+    Ok(stasis(alloc, &words, disk, &mut source, out))
+}
+
+// A disk whose first log area has these bytes, all of them stable.
+fn disk_of(alloc: Global, log: &[u8]) -> Result<MemDisk, Fail> {
+    Ok(MemDisk::of(alloc, Vec::new(alloc), log.to_vec(alloc)?, Vec::new(alloc)))
+}
+
+const LOOK: &[u8] = b"u begin\nu get a 0\nu get a 1";
+
+#[test]
+fn a_second_run_reads_what_the_first_left(rt: HostRuntime) -> Result<(), Fail> {
+    let alloc = rt.alloc();
+    let script =
+        b"t begin\nt make array a 3\nt push a abc\nt set a 0 xyz\nt commit\nt begin\nt set a 0 old";
+    let mut out = MemSink::new(alloc, None);
+    let first = run(alloc, MemDisk::new(alloc), script, &mut out)?;
+    assert_eq!(rt; first.status, Status::Done);
+    let mut out = MemSink::new(alloc, None);
+    let second = run(alloc, first.disk, LOOK, &mut out)?;
+    assert_eq!(rt; second.status, Status::Done);
+    assert_eq!(rt; out.text(), b"ok\nok xyz\nerror out-of-range\n".as_slice());
+    Ok(())
+}
+
+#[test]
+fn commits_follow_the_frames_that_are_there(rt: HostRuntime) -> Result<(), Fail> {
+    let alloc = rt.alloc();
+    let mut out = MemSink::new(alloc, None);
+    let script = b"u begin\nu set a 0 abc\nu commit";
+    let finish = run(alloc, disk_of(alloc, FIRST_FRAME)?, script, &mut out)?;
+    assert_eq!(rt; finish.status, Status::Done);
+    let mut both = FIRST_FRAME.to_vec(alloc)?;
+    both.extend_from_slice(SECOND_FRAME)?;
+    both.push(0)?;
+    assert_eq!(rt; finish.disk.log0(), both.as_slice());
+    Ok(())
+}
+
+// What a script is answered over a log whose second frame is torn so that only so many of its bytes are there, with this
+// gate.
+fn answered(alloc: Global, kept: usize, gate: u8) -> Result<(Status, MemSink), Fail> {
+    let mut log = FIRST_FRAME.to_vec(alloc)?;
+    for (i, byte) in SECOND_FRAME.iter().enumerate() {
+        log.push(if i == 0 {
+            gate
+        } else if i < kept {
+            *byte
+        } else {
+            0
+        })?;
+    }
+    let mut out = MemSink::new(alloc, None);
+    let finish = run(alloc, disk_of(alloc, &log)?, LOOK, &mut out)?;
+    Ok((finish.status, out))
+}
+
+const OLD: &[u8] = b"ok\nok xyz\nerror out-of-range\n";
+
+const NEW: &[u8] = b"ok\nok abc\nerror out-of-range\n";
+
+#[test]
+fn a_torn_frame_behind_a_closed_gate_counts_for_nothing(rt: HostRuntime) -> Result<(), Fail> {
+    let alloc = rt.alloc();
+    for kept in 0..80usize {
+        let (status, out) = answered(alloc, kept, 0)?;
+        assert_eq!(rt; status, Status::Done);
+        assert_eq!(rt; out.text(), OLD);
+    }
+    Ok(())
+}
+
+// The last record begins 58 bytes behind the gate. Up to its length the frame isn't whole records. With its kind and
+// length alone it commits transaction 0, and with the first byte of its number this one. The bytes behind that are 0,
+// but for the number of the record before, which nothing here rests on.
+#[test]
+fn a_torn_frame_behind_an_open_gate_is_what_its_bytes_say(rt: HostRuntime) -> Result<(), Fail> {
+    let alloc = rt.alloc();
+    for kept in 1..80usize {
+        let (status, out) = answered(alloc, kept, 1)?;
+        let (expected, replies) = match kept {
+            0..60 => (Status::Damaged(Area::Log0, 145), b"".as_slice()),
+            60..64 => (Status::Done, OLD),
+            _ => (Status::Done, NEW),
+        };
+        assert_eq!(rt; status, expected);
+        assert_eq!(rt; out.text(), replies);
+    }
+    Ok(())
+}
+
+// A byte of the first frame's log, what stands there instead, and where the log is then damaged.
+const WRONG: [(usize, u8, u64); 9] = [
+    // lengths: none, one byte less, and more than a frame may have
+    (1, 0, 0),
+    (1, 0x8b, 0),
+    (3, 1, 0),
+    // a kind, and a begin's length
+    (5, 14, 0),
+    (6, 0x16, 0),
+    // a transaction's number: of the begin, and of the commit
+    (10, 0x91, 5),
+    (130, 1, 124),
+    // words: those of an operation that isn't there, and of an array that isn't
+    (82, b'w', 61),
+    (87, b'b', 61),
+];
+
+#[test]
+fn a_wrong_log_is_answered_with_its_place(rt: HostRuntime) -> Result<(), Fail> {
+    let alloc = rt.alloc();
+    for (at, byte, place) in WRONG {
+        let mut log = FIRST_FRAME.to_vec(alloc)?;
+        if at < log.len() {
+            log[at] = byte;
+        }
+        let mut out = MemSink::new(alloc, None);
+        let finish = run(alloc, disk_of(alloc, &log)?, LOOK, &mut out)?;
+        assert_eq!(rt; finish.status, Status::Damaged(Area::Log0, place));
+        assert_eq!(rt; out.text(), [].as_slice());
+        assert_eq!(rt; finish.disk.log0(), log.as_slice());
+    }
+    Ok(())
+}
+
+#[test]
+fn a_store_is_opened_ten_times(rt: HostRuntime) -> Result<(), Fail> {
+    let alloc = rt.alloc();
+    let mut out = MemSink::new(alloc, None);
+    let mut disk = run(
+        alloc,
+        MemDisk::new(alloc),
+        b"t begin\nt make array a 1\nt commit",
+        &mut out,
+    )?
+    .disk;
+    for index in 0..10u8 {
+        let script = format!(in alloc; "t begin\nt push a {index}\nt commit")?;
+        let mut out = MemSink::new(alloc, None);
+        let finish = run(alloc, disk, script.as_bytes(), &mut out)?;
+        assert_eq!(rt; finish.status, Status::Done);
+        let replies = format!(in alloc; "ok\nok {index}\nok\n")?;
+        assert_eq!(rt; out.text(), replies.as_bytes());
+        disk = finish.disk;
+    }
+    let mut out = MemSink::new(alloc, None);
+    let finish = run(
+        alloc,
+        disk,
+        b"t begin\nt get a 0\nt get a 9\nt get a 10",
+        &mut out,
+    )?;
+    assert_eq!(rt; finish.status, Status::Done);
+    assert_eq!(rt;
+        out.text(),
+        b"ok\nok 0\nok 9\nerror out-of-range\n".as_slice()
+    );
+    Ok(())
+}
+
+#[test]
+fn a_commit_that_failed_is_not_there(rt: HostRuntime) -> Result<(), Fail> {
+    let alloc = rt.alloc();
+    let script = b"t begin\nt make array a 1\nt commit\nu begin\nu push a x\nu commit\nv begin";
+    for pick in 0..4u64 {
+        let mut disk = MemDisk::new(alloc);
+        disk.fail(CallKind::Write, 3);
+        let mut out = MemSink::new(alloc, None);
+        let finish = run(alloc, disk, script, &mut out)?;
+        assert_eq!(rt; finish.status, Status::Disk);
+        assert_eq!(rt;
+            out.text(),
+            b"ok\nok\nok\nok\nok 0\nerror disk\nerror stopped\n".as_slice()
+        );
+        let mut out = MemSink::new(alloc, None);
+        let finish = run(
+            alloc,
+            finish.disk.crash(pick),
+            b"u begin\nu get a 0",
+            &mut out,
+        )?;
+        assert_eq!(rt; finish.status, Status::Done);
+        assert_eq!(rt; out.text(), b"ok\nerror out-of-range\n".as_slice());
+    }
+    Ok(())
+}
