@@ -1,6 +1,7 @@
 -- What each status of a run tells.
-use Rattle.std.proofs.Common.{◌≡◌, ◌⊎◌, inl, inr, ℕ, zero, suc, ◌+◌, ◌<◌, Bool, IsTrue, List, [], ◌++◌, Option, Some, None, is_some, length, refl, sym, ap, ◌∙◌, subst, arith, append-nil}
+use Rattle.std.proofs.Common.{◌≡◌, ◌⊎◌, inl, inr, ℕ, zero, suc, ◌+◌, ◌<◌, Bool, IsTrue, List, [], ◌++◌, Option, Some, None, is_some, length, refl, sym, ap, ◌∙◌, subst, arith, append-nil, length-append, IfSome}
 use Rattle.sg_base.specs.Ends.{HasRisen, Takes, TakesFront}
+use Rattle.sg_base.specs.declared.area.Area.{Area}
 use Rattle.sg_disk.specs.Disk as disk
 use Rattle.sg_top.specs.declared.opening.OpenRefused as code_refused
 use Rattle.sg_top.specs.declared.opening.OpenRefused.TheVariants as refusals
@@ -20,7 +21,7 @@ use Rattle.sg_log.proofs.Holding.{holds_seen}
 use Rattle.sg_top.specs.Stands.{StandsFor, StandsForFirst}
 use Rattle.sg_top.specs.Store.{Core, Runs}
 use Rattle.sg_top.specs.Script.{HasRead, Executed}
-use Rattle.sg_top.specs.Ending.{RunsTo, IsWhole}
+use Rattle.sg_top.specs.Ending.{RunsTo, IsWhole, IsTooLong, MOST_BYTES}
 use Rattle.sg_top.specs.Opening.{reads_of}
 use Rattle.sg_top.specs.Top.{status_of, status_of_refusal, NeverRan, Ran, IsDone, TookReplies, Lasts, Unchanged, IsFaultless}
 use Rattle.sg_top.proofs.Serial.{after_commits}
@@ -142,6 +143,50 @@ done_either told v w r source left first now s (inr ran) is = done_of told v w r
 pub risen_or_refused : (before now r : ℕ) → HasRisen (before + 0) (now + r) → HasRisen before now ⊎ (0 < r)
 risen_or_refused before now zero h = inl (λ room. omega (arith, h (omega arith)))
 risen_or_refused before now (suc r) h = inr (omega arith)
+
+-- a run that didn't begin had no script that was too long
+pub refused_long : (why : code_refused.OpenRefused) (s : code_status.Status) → s ≡ status_of_refusal why → s ≡ statuses.TooLong → ⊥
+refused_long refusals.DiskFault s e h = cc (e, h)
+refused_long refusals.Memory s e h = cc (e, h)
+refused_long (refusals.Damaged area at) s e h = cc (e, h)
+
+ended_long : (end : code_end.RunEnd) (stop : Option code_stop.Stop) (s : code_status.Status) → s ≡ status_of end stop → s ≡ statuses.TooLong → end ≡ ends.TooLong
+ended_long ends.Done None s e h = absurd (cc (e, h))
+ended_long ends.Read None s e h = absurd (cc (e, h))
+ended_long ends.Write None s e h = absurd (cc (e, h))
+ended_long ends.TooLong None s e h = refl
+ended_long end (Some stops.Disk) s e h = absurd (cc (e, h))
+ended_long end (Some stops.LogEnd) s e h = absurd (cc (e, h))
+
+-- what was read is no longer than the source's text
+long_text : (source left : Option (List ℕ)) (got : List ℕ) (n : ℕ) → HasRead source got left → n < length got → IfSome source (λ text. n < length text)
+long_text None left got n h long = tt
+long_text (Some text) left got n h long = let e = ap length h.2 ∙ length-append got h.0 in omega arith
+
+-- a script that ended a run by its length is so long
+pub long_of : (told : Bool) (v w : disk.View) (source left first now : Option (List ℕ)) (s : code_status.Status) → Ran told v w source left first now s → s ≡ statuses.TooLong → IfSome source (λ text. MOST_BYTES < length text)
+long_of told v w source left first now s ran is =
+    let e = ended_long ran.end ran.stop s ran.status_is is in
+    let h : IsTooLong told ran.opened ran.core (start ran.objects) source left first now w ran.last = subst (λ (z : code_end.RunEnd). RunsTo z told ran.opened ran.core (start ran.objects) source left first now w ran.last) e ran.runs in
+    long_text source left (h.text ++ h.piece) MOST_BYTES h.read h.long
+
+-- a run that didn't begin as damaged was so
+pub refused_damaged : (why : code_refused.OpenRefused) (s : code_status.Status) (told : Bool) (v w : disk.View) (area : Area) (at : ℕ) → s ≡ status_of_refusal why → IsRefusedFor why told v w → s ≡ statuses.Damaged area at → IsRefusedFor (refusals.Damaged area at) told v w
+refused_damaged refusals.DiskFault s told v w area at e h is = absurd (cc (e, is))
+refused_damaged refusals.Memory s told v w area at e h is = absurd (cc (e, is))
+refused_damaged (refusals.Damaged a n) s told v w area at e h is =
+    let same_area : a ≡ area = cc (e, is) in
+    let same_byte : n ≡ at = cc (e, is) in
+    subst (λ (z : Area). IsRefusedFor (refusals.Damaged z at) told v w) same_area (subst (λ (z : ℕ). IsRefusedFor (refusals.Damaged a z) told v w) same_byte h)
+
+-- and one that began wasn't
+pub ended_damaged : (end : code_end.RunEnd) (stop : Option code_stop.Stop) (s : code_status.Status) (area : Area) (at : ℕ) → s ≡ status_of end stop → s ≡ statuses.Damaged area at → ⊥
+ended_damaged ends.Done None s area at e h = cc (e, h)
+ended_damaged ends.Read None s area at e h = cc (e, h)
+ended_damaged ends.Write None s area at e h = cc (e, h)
+ended_damaged ends.TooLong None s area at e h = cc (e, h)
+ended_damaged end (Some stops.Disk) s area at e h = cc (e, h)
+ended_damaged end (Some stops.LogEnd) s area at e h = cc (e, h)
 
 -- a status of which none of these causes is there
 pub faultless : (s : code_status.Status) → (s ≡ statuses.Usage → ⊥) → (s ≡ statuses.Disk → ⊥) → (s ≡ statuses.Read → ⊥) → (s ≡ statuses.Write → ⊥) → IsFaultless s

@@ -1,6 +1,6 @@
 //! The store and its program: a session answers the lines of a script one at a time, and a run of
 //! the words takes a script from a source, executes it line by line over a disk and hands the
-//! replies to a sink.
+//! replies to a sink. Where the words say so, the disk stops after a number of calls.
 //!
 //! It stands on `sg_words`, which says what a line says and what a run of lines answers, on
 //! `sg_model`, which says what its operations do to the objects, and on `sg_log` over `sg_disk`,

@@ -1,6 +1,9 @@
-ghost use Rattle.std.specs.Prelude.{◌≡◌, ◌⊎◌, ◌≤◌, ◌<◌, ◌+◌, ℕ, true, false, IsTrue, Option, Some, IfSome};
+ghost use Rattle.std.specs.Prelude.{◌≡◌, ◌⊎◌, ◌≤◌, ◌<◌, ◌+◌, ℕ, true, false, IsTrue, List, length, Option, Some, IfSome};
 ghost use Rattle.sg_base.specs.Ends.{HasRisen};
 ghost use Rattle.sg_disk.specs.Disk.{FULL, refusing, Spent};
+ghost use Rattle.sg_base.specs.declared.area.Area.{Area};
+ghost use Rattle.sg_top.specs.Opening.{IsRefusedFor};
+ghost use Rattle.sg_top.specs.Ending.{MOST_BYTES};
 ghost use Rattle.sg_top.specs.Top.{are_run, stop_after, status_of, status_of_end, status_of_refusal, NeverRan, Ran, IsDone, Lasts, Unchanged, IsFaultless};
 
 use crate::opening::{OpenRefused, Unopened};
@@ -89,6 +92,8 @@ fn run_behind_fuse<D: Disk, S: Source, K: Sink, O: Origin>(
     ensures read { result.status ≡ Status.Read → HasRisen (S.faults script.old) (S.faults script.new) }
     ensures write { result.status ≡ Status.Write → HasRisen (K.faults out.old) (K.faults out.new) }
     ensures disk { result.status ≡ Status.Disk → HasRisen (D.view disk).faults (D.view result.disk).faults ⊎ (0 < result.refused) }
+    ensures too_long { result.status ≡ Status.TooLong → IfSome (S.left script.old) (λ text. MOST_BYTES < length text) }
+    ensures damaged { (area : Area) (at : ℕ) → result.status ≡ Status.Damaged area at → IsRefusedFor (OpenRefused.Damaged area at) D.told (refusing (D.view disk) 0) (refusing (D.view result.disk) result.refused) }
     ensures complete { (HasRisen (S.faults script.old) (S.faults script.new) → ⊥) → (HasRisen (K.faults out.old) (K.faults out.new) → ⊥)
         → (HasRisen (D.view disk).faults (D.view result.disk).faults → ⊥) → result.refused ≡ 0 → IsFaultless result.status }
     ensures spent { Spent calls (D.view disk).calls (D.view result.disk).calls result.refused }
@@ -117,7 +122,9 @@ fn run_behind_fuse<D: Disk, S: Source, K: Sink, O: Origin>(
 
 /// Does what the words say, with the script that the source gives, over the disk: `run` and a folder,
 /// which names the disk, runs the script. The replies go to the sink. With `--stop-after` and a number
-/// behind these the disk makes so many calls at most. Each later one fails and doesn't touch it.
+/// behind these the disk makes so many more calls at most: each later one fails, and doesn't touch
+/// it. Other words are `Status::Usage`, and touch nothing. A run ends with its first fault, but for
+/// one of the disk: behind that each line is still answered.
 pub fn stasis<D: Disk, S: Source, K: Sink>(
     alloc: Global,
     words: &[String],
@@ -137,6 +144,8 @@ pub fn stasis<D: Disk, S: Source, K: Sink>(
     ensures read { result.status ≡ Status.Read → HasRisen (S.faults script.old) (S.faults script.new) }
     ensures write { result.status ≡ Status.Write → HasRisen (K.faults out.old) (K.faults out.new) }
     ensures disk { result.status ≡ Status.Disk → HasRisen (D.view disk).faults (D.view result.disk).faults ⊎ (0 < result.refused) }
+    ensures too_long { result.status ≡ Status.TooLong → IfSome (S.left script.old) (λ text. MOST_BYTES < length text) }
+    ensures damaged { (area : Area) (at : ℕ) → result.status ≡ Status.Damaged area at → IsRefusedFor (OpenRefused.Damaged area at) D.told (refusing (D.view disk) 0) (refusing (D.view result.disk) result.refused) }
     ensures complete { are_run words.now ≡ true → (HasRisen (S.faults script.old) (S.faults script.new) → ⊥) → (HasRisen (K.faults out.old) (K.faults out.new) → ⊥)
         → (HasRisen (D.view disk).faults (D.view result.disk).faults → ⊥) → result.refused ≡ 0 → IsFaultless result.status }
     ensures refused { 0 < result.refused → (n : ℕ) × (stop_after words.now ≡ Some n) × ((D.view result.disk).calls < FULL → (D.view result.disk).calls ≡ (D.view disk).calls + n) }

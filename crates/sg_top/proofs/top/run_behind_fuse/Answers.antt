@@ -1,11 +1,11 @@
-use Rattle.std.proofs.Common.{◌≡◌, ◌⊎◌, inl, inr, ⊎_elim, is_some, refl, sym, ap, ◌∙◌, subst, arith, ℕ}
+use Rattle.std.proofs.Common.{◌≡◌, inl, inr, ⊎_elim, is_some, refl, sym, ap, ◌∙◌, arith}
 use Rattle.sg_base.specs.Ends.{HasRisen}
 use Rattle.sg_disk.specs.Disk as disk
 use Rattle.sg_model.specs.History.{start}
 use Rattle.sg_top.specs.Opening.{StaysShut}
 use Rattle.sg_top.specs.Top.{status_of, status_of_refusal, NeverRan, Ran, Lasts}
 use Rattle.sg_top.specs.Sessions.{session_core, session_disk, session_stop}
-use Rattle.sg_top.proofs.Endings.{refused_use, refused_read, refused_write, refused_disk, ended_use, ended_read, ended_write, ended_disk, was_running, refused_done, done_either, risen_or_refused, faultless, along, unchanged_of, lasts_of, lasts_inside}
+use Rattle.sg_top.proofs.Endings.{refused_use, refused_read, refused_write, refused_disk, ended_use, ended_read, ended_write, ended_disk, was_running, refused_done, done_either, risen_or_refused, faultless, along, unchanged_of, lasts_of, lasts_inside, refused_long, long_of, refused_damaged, ended_damaged}
 use Rattle.sg_top.proofs.top.run_behind_fuse.Goals as goal
 
 -- the store hasn't opened over the disk behind the fuse
@@ -41,6 +41,12 @@ pub returns-in-Err-clause-disk : goal.returns-in-Err-clause-disk
 returns-in-Err-clause-disk g c h =
     risen_or_refused (g.D.Disk.view c.args.disk).faults (g.D.Disk.view c.finished.result.disk).faults c.finished.result.refused
     (refused_disk c.in-Err.field-0.why c.finished.result.status g.D.Disk.told (disk.refusing (g.D.Disk.view c.args.disk) 0) (disk.refusing (g.D.Disk.view c.finished.result.disk) c.finished.result.refused) (refusal g c) (shut g c).reason h)
+
+pub returns-in-Err-clause-too_long : goal.returns-in-Err-clause-too_long
+returns-in-Err-clause-too_long g c h = absurd (refused_long c.in-Err.field-0.why _ (refusal g c) h)
+
+pub returns-in-Err-clause-damaged : goal.returns-in-Err-clause-damaged
+returns-in-Err-clause-damaged g c area at h = refused_damaged c.in-Err.field-0.why c.finished.result.status g.D.Disk.told (disk.refusing (g.D.Disk.view c.args.disk) 0) (disk.refusing (g.D.Disk.view c.finished.result.disk) c.finished.result.refused) area at (refusal g c) (shut g c).reason h
 
 pub returns-in-Err-clause-complete : goal.returns-in-Err-clause-complete
 returns-in-Err-clause-complete g c no_read no_write no_fault none = faultless c.finished.result.status
@@ -108,6 +114,12 @@ returns-clause-disk g c h =
     let risen = ended_disk c.run_script-end.result c.finish-stop.result.0 _ _ _ (ending g c) ran.caused h in
     risen_or_refused (g.D.Disk.view c.args.disk).faults (g.D.Disk.view c.finished-2.result.disk).faults c.finished-2.result.refused
     (along (λ v w. HasRisen v.faults w.faults) _ _ _ _ c.marked-fuse.ensures.view (last_view g c) (λ room. omega (arith, risen room, c.in-Ok-start.ensures.opens.later)))
+
+pub returns-clause-too_long : goal.returns-clause-too_long
+returns-clause-too_long g c h = long_of g.D.Disk.told _ _ (g.S.Source.left c.args.script.now) _ _ _ c.finished-2.result.status (begun g c) h
+
+pub returns-clause-damaged : goal.returns-clause-damaged
+returns-clause-damaged g c area at h = absurd (ended_damaged c.run_script-end.result c.finish-stop.result.0 c.finished-2.result.status area at (ending g c) h)
 
 pub returns-clause-complete : goal.returns-clause-complete
 returns-clause-complete g c no_read no_write no_fault none = faultless c.finished-2.result.status
