@@ -1,7 +1,10 @@
 -- What each status of a run tells.
-use Rattle.std.proofs.Common.{◌≡◌, ◌⊎◌, inl, inr, ℕ, zero, suc, ◌+◌, ◌<◌, Bool, IsTrue, List, [], ◌++◌, Option, Some, None, is_some, length, refl, sym, ap, ◌∙◌, subst, arith, append-nil, length-append, IfSome}
+use Rattle.std.proofs.Common.{◌≡◌, ◌⊎◌, inl, inr, ⊎_elim, ℕ, zero, suc, ◌+◌, ◌<◌, Bool, IsTrue, List, [], ◌++◌, Option, Some, None, is_some, length, refl, sym, ap, ◌∙◌, subst, arith, append-nil, length-append, IfSome}
 use Rattle.sg_base.specs.Ends.{HasRisen, Takes, TakesFront}
 use Rattle.sg_base.specs.declared.area.Area.{Area}
+use Rattle.sg_base.specs.declared.area.Area.TheVariants.{Log0}
+use Rattle.sg_record.specs.Records.{Record}
+use Rattle.sg_log.specs.Frames.{HasRecords}
 use Rattle.sg_disk.specs.Disk as disk
 use Rattle.sg_top.specs.declared.opening.OpenRefused as code_refused
 use Rattle.sg_top.specs.declared.opening.OpenRefused.TheVariants as refusals
@@ -20,7 +23,7 @@ use Rattle.sg_words.specs.Text.{text_of_all}
 use Rattle.sg_log.proofs.Holding.{holds_seen}
 use Rattle.sg_top.specs.Stands.{StandsFor, StandsForFirst}
 use Rattle.sg_top.specs.Store.{Core, Runs}
-use Rattle.sg_top.specs.Script.{HasRead, Executed}
+use Rattle.sg_top.specs.Script.{HasRead, Executed, MayEnd}
 use Rattle.sg_top.specs.Ending.{RunsTo, IsWhole, IsTooLong, MOST_BYTES}
 use Rattle.sg_top.specs.Opening.{reads_of}
 use Rattle.sg_top.specs.Top.{status_of, status_of_refusal, NeverRan, Ran, IsDone, TookReplies, Lasts, Unchanged, IsFaultless}
@@ -82,6 +85,29 @@ ended_disk ends.TooLong None s Risen Full e c h = absurd (cc (e, h))
 ended_disk end (Some stops.Disk) s Risen Full e (inl same) h = absurd (cc (same))
 ended_disk end (Some stops.Disk) s Risen Full e (inr risen) h = risen
 ended_disk end (Some stops.LogEnd) s Risen Full e c h = absurd (cc (e, h))
+
+-- a run whose store met the log's end was caused so
+ended_log : (end : code_end.RunEnd) (stop : Option code_stop.Stop) (s : code_status.Status) (Risen Full : Type 0) → s ≡ status_of end stop → StopIsCaused Risen Full None stop → s ≡ statuses.LogEnd → Full
+ended_log ends.Done None s Risen Full e c h = absurd (cc (e, h))
+ended_log ends.Read None s Risen Full e c h = absurd (cc (e, h))
+ended_log ends.Write None s Risen Full e c h = absurd (cc (e, h))
+ended_log ends.TooLong None s Risen Full e c h = absurd (cc (e, h))
+ended_log end (Some stops.Disk) s Risen Full e c h = absurd (cc (e, h))
+ended_log end (Some stops.LogEnd) s Risen Full e (inl same) h = absurd (cc (same))
+ended_log end (Some stops.LogEnd) s Risen Full e (inr full) h = full
+
+pub refused_log : (why : code_refused.OpenRefused) (s : code_status.Status) → s ≡ status_of_refusal why → s ≡ statuses.LogEnd → ⊥
+refused_log refusals.DiskFault s e h = cc (e, h)
+refused_log refusals.Memory s e h = cc (e, h)
+refused_log (refusals.Damaged area at) s e h = cc (e, h)
+
+-- then so much was handed to the disk since the log ended there
+pub log_of : (told : Bool) (v w : disk.View) (source left first now : Option (List ℕ)) (s : code_status.Status) → Ran told v w source left first now s → s ≡ statuses.LogEnd → IsTrue told → (ds : List Record) (gate : ℕ) → HasRecords (reads_of v Log0) 0 gate ds → MayEnd gate v w
+log_of told v w source left first now s ran is is_told ds gate has =
+    let full = ended_log ran.end ran.stop s _ _ ran.status_is ran.caused is in
+    let same : ran.core.log.gate ≡ gate = ran.gate is_told ds gate has in
+    let handed : ran.opened.handed ≡ v.handed = ran.handed in
+    ⊎_elim (λ counted. inl counted) (λ far. inr (omega (arith, far, same, handed))) full
 
 -- why a store stops that ran at first
 pub was_running : (Risen Full : Type 0) (old new stop : Option code_stop.Stop) → old ≡ None → stop ≡ new → StopIsCaused Risen Full old new → StopIsCaused Risen Full None stop

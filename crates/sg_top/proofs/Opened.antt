@@ -15,6 +15,7 @@ use Rattle.sg_log.specs.Held.{Tail, tail_of}
 use Rattle.sg_top.specs.declared.opening.OpenRefused as code_refused
 use Rattle.sg_top.specs.declared.opening.OpenRefused.TheVariants as refusals
 use Rattle.sg_log.proofs.Holding.{holds_seen, tail_empty}
+use Rattle.sg_log.proofs.Unique.{HasRecords-gate}
 use Rattle.sg_top.specs.Stands.{AreBelow, StandsFor}
 use Rattle.sg_top.specs.Damage.{StandsForNothing}
 use Rattle.sg_top.specs.Found.{IsReadBack}
@@ -49,13 +50,15 @@ opened told v v1 w log objects u synced handed1 later1 is_log found reads =
     let empty_buffer : log.buffer ≡ [] = ap (λ (z : Tail). z.buffer) is_log in
     let back : (is_told : IsTrue told) → IsReadBack w log objects = λ is_told. found is_told (synced_settled v v1 u (synced is_told)) in
     let seen : (is_told : IsTrue told) → (w.now Log0).seen ≡ (v.now Log0).seen = λ is_told. ap (λ (s : disk.State). (s Log0).seen) (reads.unchanged is_told) ∙ synced_seen v v1 u (synced is_told) in
-    let stand : (is_told : IsTrue told) → StandsFor (reads_of v) objects = λ is_told.
+    let has : (is_told : IsTrue told) → HasRecords (v.now Log0).seen 0 log.gate (back is_told).records = λ is_told.
     let b = back is_told in
-    stands (reads_of v) objects log.gate b.records (subst (λ (f : disk.Bytes). HasRecords f 0 log.gate b.records) (seen is_told) (at_log0 w log b.records area base (holds_seen b.holds))) b.below b.replayed in
+    subst (λ (f : disk.Bytes). HasRecords f 0 log.gate b.records) (seen is_told) (at_log0 w log b.records area base (holds_seen b.holds)) in
+    let stand : (is_told : IsTrue told) → StandsFor (reads_of v) objects = λ is_told. stands (reads_of v) objects log.gate (back is_told).records (has is_told) (back is_told).below (back is_told).replayed in
     record {
       first = objects;
       stands = stand;
       only = λ is_told s h. stands_one (reads_of v) s objects h (stand is_told);
+      gate = λ is_told ds gate there. HasRecords-gate (has is_told) there;
       shows = running_shows told w (record { objects = objects; live = None; stopped = false; log = log }) (start objects) refl refl (record {
         serial = record { live = refl; entries = tt };
         objects = refl;

@@ -2,7 +2,13 @@ ghost use Rattle.std.specs.Prelude.{◌≡◌, ◌⊎◌, ◌≤◌, ◌<◌, �
 ghost use Rattle.sg_base.specs.Ends.{HasRisen};
 ghost use Rattle.sg_disk.specs.Disk.{FULL, refusing, Spent};
 ghost use Rattle.sg_base.specs.declared.area.Area.{Area};
-ghost use Rattle.sg_top.specs.Opening.{IsRefusedFor};
+ghost use Rattle.sg_base.specs.declared.area.Area.TheVariants.{Log0};
+ghost use Rattle.sg_model.specs.Objects.{Objects};
+ghost use Rattle.sg_record.specs.Records.{Record};
+ghost use Rattle.sg_log.specs.Frames.{HasRecords};
+ghost use Rattle.sg_top.specs.Opening.{IsRefusedFor, reads_of};
+ghost use Rattle.sg_top.specs.Script.{MayEnd};
+ghost use Rattle.sg_top.specs.Stands.{StandsFor};
 ghost use Rattle.sg_top.specs.Ending.{MOST_BYTES};
 ghost use Rattle.sg_top.specs.Top.{are_run, stop_after, status_of, status_of_end, status_of_refusal, NeverRan, Ran, IsDone, Lasts, Unchanged, IsFaultless};
 
@@ -94,6 +100,8 @@ fn run_behind_fuse<D: Disk, S: Source, K: Sink, O: Origin>(
     ensures disk { result.status ≡ Status.Disk → HasRisen (D.view disk).faults (D.view result.disk).faults ⊎ (0 < result.refused) }
     ensures too_long { result.status ≡ Status.TooLong → IfSome (S.left script.old) (λ text. MOST_BYTES < length text) }
     ensures damaged { (area : Area) (at : ℕ) → result.status ≡ Status.Damaged area at → IsRefusedFor (OpenRefused.Damaged area at) D.told (refusing (D.view disk) 0) (refusing (D.view result.disk) result.refused) }
+    ensures nothing { (area : Area) (at : ℕ) (s : Objects) → result.status ≡ Status.Damaged area at → IsTrue D.told → StandsFor (reads_of (D.view disk)) s → ⊥ }
+    ensures log_end { (ds : List Record) (gate : ℕ) → result.status ≡ Status.LogEnd → IsTrue D.told → HasRecords (reads_of (D.view disk) Log0) 0 gate ds → MayEnd gate (D.view disk) (D.view result.disk) }
     ensures complete { (HasRisen (S.faults script.old) (S.faults script.new) → ⊥) → (HasRisen (K.faults out.old) (K.faults out.new) → ⊥)
         → (HasRisen (D.view disk).faults (D.view result.disk).faults → ⊥) → result.refused ≡ 0 → IsFaultless result.status }
     ensures spent { Spent calls (D.view disk).calls (D.view result.disk).calls result.refused }
@@ -146,6 +154,8 @@ pub fn stasis<D: Disk, S: Source, K: Sink>(
     ensures disk { result.status ≡ Status.Disk → HasRisen (D.view disk).faults (D.view result.disk).faults ⊎ (0 < result.refused) }
     ensures too_long { result.status ≡ Status.TooLong → IfSome (S.left script.old) (λ text. MOST_BYTES < length text) }
     ensures damaged { (area : Area) (at : ℕ) → result.status ≡ Status.Damaged area at → IsRefusedFor (OpenRefused.Damaged area at) D.told (refusing (D.view disk) 0) (refusing (D.view result.disk) result.refused) }
+    ensures nothing { (area : Area) (at : ℕ) (s : Objects) → result.status ≡ Status.Damaged area at → IsTrue D.told → StandsFor (reads_of (D.view disk)) s → ⊥ }
+    ensures log_end { (ds : List Record) (gate : ℕ) → result.status ≡ Status.LogEnd → IsTrue D.told → HasRecords (reads_of (D.view disk) Log0) 0 gate ds → MayEnd gate (D.view disk) (D.view result.disk) }
     ensures complete { are_run words.now ≡ true → (HasRisen (S.faults script.old) (S.faults script.new) → ⊥) → (HasRisen (K.faults out.old) (K.faults out.new) → ⊥)
         → (HasRisen (D.view disk).faults (D.view result.disk).faults → ⊥) → result.refused ≡ 0 → IsFaultless result.status }
     ensures refused { 0 < result.refused → (n : ℕ) × (stop_after words.now ≡ Some n) × ((D.view result.disk).calls < FULL → (D.view result.disk).calls ≡ (D.view disk).calls + n) }

@@ -2,10 +2,15 @@ use Rattle.std.proofs.Common.{◌≡◌, inl, inr, ⊎_elim, is_some, refl, sym,
 use Rattle.sg_base.specs.Ends.{HasRisen}
 use Rattle.sg_disk.specs.Disk as disk
 use Rattle.sg_model.specs.History.{start}
-use Rattle.sg_top.specs.Opening.{StaysShut}
+use Rattle.sg_top.specs.Opening.{StaysShut, reads_of}
 use Rattle.sg_top.specs.Top.{status_of, status_of_refusal, NeverRan, Ran, Lasts}
 use Rattle.sg_top.specs.Sessions.{session_core, session_disk, session_stop}
-use Rattle.sg_top.proofs.Endings.{refused_use, refused_read, refused_write, refused_disk, ended_use, ended_read, ended_write, ended_disk, was_running, refused_done, done_either, risen_or_refused, faultless, along, unchanged_of, lasts_of, lasts_inside, refused_long, long_of, refused_damaged, ended_damaged}
+use Rattle.sg_top.proofs.Endings.{refused_use, refused_read, refused_write, refused_disk, ended_use, ended_read, ended_write, ended_disk, was_running, refused_done, done_either, risen_or_refused, faultless, along, unchanged_of, lasts_of, lasts_inside, refused_long, long_of, refused_damaged, ended_damaged, refused_log, log_of}
+use Rattle.sg_base.specs.declared.area.Area.TheVariants.{Log0}
+use Rattle.sg_log.specs.Frames.{HasRecords}
+use Rattle.sg_top.specs.Script.{MayEnd}
+use Rattle.sg_top.specs.declared.opening.OpenRefused.TheVariants as refusals
+use Rattle.sg_top.proofs.Opened.{nothing_stands}
 use Rattle.sg_top.proofs.top.run_behind_fuse.Goals as goal
 
 -- the store hasn't opened over the disk behind the fuse
@@ -48,6 +53,12 @@ returns-in-Err-clause-too_long g c h = absurd (refused_long c.in-Err.field-0.why
 pub returns-in-Err-clause-damaged : goal.returns-in-Err-clause-damaged
 returns-in-Err-clause-damaged g c area at h = refused_damaged c.in-Err.field-0.why c.finished.result.status g.D.Disk.told (disk.refusing (g.D.Disk.view c.args.disk) 0) (disk.refusing (g.D.Disk.view c.finished.result.disk) c.finished.result.refused) area at (refusal g c) (shut g c).reason h
 
+pub returns-in-Err-clause-nothing : goal.returns-in-Err-clause-nothing
+returns-in-Err-clause-nothing g c area at s h told stand = nothing_stands g.D.Disk.told (disk.refusing (g.D.Disk.view c.args.disk) 0) (disk.refusing (g.D.Disk.view c.finished.result.disk) c.finished.result.refused) (refusals.Damaged area at) (returns-in-Err-clause-damaged g c area at h) area at refl told s stand
+
+pub returns-in-Err-clause-log_end : goal.returns-in-Err-clause-log_end
+returns-in-Err-clause-log_end g c ds gate h told has = absurd (refused_log c.in-Err.field-0.why _ (refusal g c) h)
+
 pub returns-in-Err-clause-complete : goal.returns-in-Err-clause-complete
 returns-in-Err-clause-complete g c no_read no_write no_fault none = faultless c.finished.result.status
     (returns-in-Err-clause-usage g c)
@@ -78,6 +89,7 @@ begun g c =
       objects = c.in-Ok-start.ensures.opens.first;
       stands = c.in-Ok-start.ensures.opens.stands;
       only = c.in-Ok-start.ensures.opens.only;
+      gate = c.in-Ok-start.ensures.opens.gate;
       opened = disk.refusing (g.D.Disk.view (session_disk o).inner) (session_disk o).refused;
       core = session_core o;
       opening = c.in-Ok-start.ensures.opens.moments;
@@ -120,6 +132,13 @@ returns-clause-too_long g c h = long_of g.D.Disk.told _ _ (g.S.Source.left c.arg
 
 pub returns-clause-damaged : goal.returns-clause-damaged
 returns-clause-damaged g c area at h = absurd (ended_damaged c.run_script-end.result c.finish-stop.result.0 c.finished-2.result.status area at (ending g c) h)
+
+pub returns-clause-nothing : goal.returns-clause-nothing
+returns-clause-nothing g c area at s h told stand = absurd (ended_damaged c.run_script-end.result c.finish-stop.result.0 c.finished-2.result.status area at (ending g c) h)
+
+pub returns-clause-log_end : goal.returns-clause-log_end
+returns-clause-log_end g c ds gate h told has =
+    along (λ v w. HasRecords (reads_of v Log0) 0 gate ds → MayEnd gate v w) _ _ _ _ c.marked-fuse.ensures.view (last_view g c) (λ there. log_of g.D.Disk.told _ _ _ _ _ _ c.finished-2.result.status (begun g c) h told ds gate there) has
 
 pub returns-clause-complete : goal.returns-clause-complete
 returns-clause-complete g c no_read no_write no_fault none = faultless c.finished-2.result.status
