@@ -1,8 +1,7 @@
 -- What an image stands for is one collection of objects at most, and none where its log is damaged.
-use Rattle.std.proofs.Common.{◌≡◌, ◌⊎◌, inl, inr, ℕ, ◌<◌, ◌≤◌, ◌==◌, Bool, true, false, cond, List, [], ◌∷◌, ◌++◌, map, Option, Some, None, refl, sym, ap, ◌∙◌, subst, arith, append-nil}
+use Rattle.std.proofs.Common.{◌≡◌, inl, inr, ℕ, ◌<◌, ◌≤◌, ◌==◌, Bool, true, false, cond, List, [], ◌∷◌, ◌++◌, map, Option, Some, None, refl, sym, ap, ◌∙◌, subst, arith}
 use Rattle.std.specs.List.{flat_map}
 use Rattle.std.specs.FinMap.{empty}
-use Rattle.std.proofs.lemmas.List.{map-append}
 use Rattle.sg_base.specs.declared.area.Area.TheVariants.{Log0}
 use Rattle.sg_disk.specs.Disk as disk
 use Rattle.sg_model.specs.Objects.{Objects}
@@ -11,8 +10,8 @@ use Rattle.sg_record.specs.Records.Record.{Begin, Commit, Line}
 use Rattle.sg_log.specs.Frames.{Frames, gate_after, records_of}
 use Rattle.sg_log.proofs.Chain.{undamaged}
 use Rattle.sg_log.proofs.Unique.{Frames-one, HasRecords-one}
-use Rattle.sg_top.specs.Stands.{AreBelow, lines_by, commits_in, committed_lines, after_line, replay, StandsFor}
-use Rattle.sg_top.specs.Damage.{At, LineAt, line_at, lines_at, lines_of_all, committed_at, words_of_all, records_in, HasHigh, HasUnanswered, IsMisnumberedAt, IsUnansweredAt, StandsForNothing}
+use Rattle.sg_top.specs.Stands.{AreBelow, lines_by, commits_in, committed_lines, replay, StandsFor}
+use Rattle.sg_top.specs.Damage.{At, LineAt, line_at, lines_at, committed_at, words_of_all, records_in, IsMisnumberedAt, IsUnansweredAt, StandsForNothing}
 use Rattle.sg_top.proofs.Replays.{replay-append, replay-none}
 use Rattle.sg_top.proofs.Replaying.{words-append}
 use Rattle.sg_top.proofs.Walking.{records_in-is}

@@ -1,5 +1,5 @@
 -- What is read back of a log, and why it isn't.
-use Rattle.std.proofs.Common.{◌≡◌, inl, inr, ℕ, ◌+◌, ◌≤◌, Bool, IsTrue, List, [], ◌∷◌, map, Some, refl, sym, ap, ◌∙◌, subst, arith}
+use Rattle.std.proofs.Common.{◌≡◌, inl, inr, ℕ, Bool, IsTrue, List, [], map, Some, refl, sym, ap, ◌∙◌, subst, arith}
 use Rattle.std.specs.List.{flat_map}
 use Rattle.std.specs.FinMap.{empty}
 use Rattle.sg_base.specs.declared.area.Area.{Area}
@@ -7,16 +7,15 @@ use Rattle.sg_base.specs.declared.area.Area.TheVariants.{Log0}
 use Rattle.sg_disk.specs.Disk as disk
 use Rattle.sg_model.specs.Objects.{Objects}
 use Rattle.sg_record.specs.Records.{Record}
-use Rattle.sg_log.specs.Frames.{LOG_END, Frames, gate_after, records_of, HasRecords}
+use Rattle.sg_log.specs.Frames.{Frames, HasRecords}
 use Rattle.sg_log.specs.Held.{Tail, Holds}
 use Rattle.sg_log.specs.Faults.{AttachFails}
 use Rattle.sg_log.specs.Reads.{OnlyReads}
 use Rattle.sg_log.specs.declared.fault.LogFault.{LogFault}
 use Rattle.sg_log.specs.declared.fault.LogFault.TheVariants as faults
 use Rattle.sg_log.proofs.Holding.{holds_along}
-use Rattle.sg_log.proofs.Runs.{reads_more}
 use Rattle.sg_top.specs.Stands.{AreBelow, commits_in, committed_lines, replay}
-use Rattle.sg_top.specs.Damage.{LineAt, lines_at, committed_at, words_of_all, records_in, HasHigh, HasUnanswered}
+use Rattle.sg_top.specs.Damage.{lines_at, committed_at, words_of_all, records_in, HasHigh, HasUnanswered}
 use Rattle.sg_top.specs.Found.{lines_found, AreFound, EndsAt, IsReadBack, IsNotFound, IsRefusedBy}
 use Rattle.sg_top.specs.Opening.{IsRefusedFor}
 use Rattle.sg_top.specs.Shown.{refusal_at}

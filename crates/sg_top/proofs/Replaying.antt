@@ -1,15 +1,14 @@
 -- How committed lines are replayed, one after another.
-use Rattle.std.proofs.Common.{◌≡◌, ℕ, ◌+◌, ◌<◌, suc, List, [], ◌∷◌, ◌++◌, length, map, take, drop, get_or, Option, Some, None, Result, Ok, Err, refl, sym, ap, ◌∙◌, subst, arith, append-nil, append_assoc}
+use Rattle.std.proofs.Common.{◌≡◌, ℕ, ◌+◌, ◌<◌, suc, List, [], ◌∷◌, ◌++◌, length, map, take, drop, get_or, Some, None, Result, Ok, Err, refl, sym, ap, ◌∙◌, subst, append-nil, append_assoc}
 use Rattle.std.specs.List.{flat_map}
 use Rattle.std.proofs.lemmas.Grind.{flat_map-append}
 use Rattle.std.proofs.lemmas.List.{map-append, take-append-drop, take_more}
 use Rattle.std.proofs.Math.Seq.{drop-cons}
-use Rattle.sg_base.specs.declared.area.Area.TheVariants.{Log0}
 use Rattle.sg_model.specs.declared.reason.Reason.{Reason}
 use Rattle.sg_model.specs.Objects.{Objects, Op, Reply, step}
 use Rattle.sg_words.specs.Spoken.{op_said}
 use Rattle.sg_top.specs.Stands.{after_line, after_op, if_replied, replay}
-use Rattle.sg_top.specs.Damage.{LineAt, words_of_all, HasUnanswered}
+use Rattle.sg_top.specs.Damage.{LineAt, words_of_all}
 use Rattle.sg_top.specs.Found.{IsLineRefused, IsRefusedBy}
 use Rattle.sg_top.specs.declared.opening.OpenRefused as code_refused
 use Rattle.sg_top.specs.declared.opening.OpenRefused.TheVariants as refusals

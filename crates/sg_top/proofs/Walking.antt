@@ -1,13 +1,11 @@
 -- How the frames of a log are walked over.
-use Rattle.std.proofs.Common.{◌≡◌, ℕ, ◌+◌, ◌-◌, ◌<◌, ◌≤◌, Bool, IsTrue, List, [], ◌∷◌, ◌++◌, length, map, take, Option, Some, None, refl, sym, ap, ◌∙◌, subst, arith, append-nil, append_assoc}
+use Rattle.std.proofs.Common.{◌≡◌, ℕ, ◌+◌, ◌≤◌, Bool, IsTrue, List, [], ◌∷◌, ◌++◌, length, map, refl, sym, ap, ◌∙◌, subst, arith, append-nil, append_assoc}
 use Rattle.std.proofs.lemmas.Grind.{flat_map-append}
-use Rattle.sg_base.specs.Ends.{HasRisen}
-use Rattle.sg_base.specs.declared.area.Area.TheVariants.{Log0}
 use Rattle.sg_disk.specs.Disk as disk
-use Rattle.sg_record.specs.Records.{Record, spelled, spelled_all, AreRecords}
+use Rattle.sg_record.specs.Records.{Record, spelled_all, AreRecords}
 use Rattle.sg_log.specs.Faults.{FrameFails}
 use Rattle.sg_log.specs.Formed.{IsFormed, IsUnformed}
-use Rattle.sg_log.specs.Frames.{LOG_END, text_of, IsFrame, Frames, gate_after, records_of}
+use Rattle.sg_log.specs.Frames.{LOG_END, text_of, Frames, gate_after, records_of}
 use Rattle.sg_log.specs.Held.{Tail}
 use Rattle.sg_log.specs.Reads.{OnlyReads}
 use Rattle.sg_log.specs.declared.fault.LogFault.{LogFault}
@@ -17,7 +15,7 @@ use Rattle.sg_log.proofs.Holding.{records_of-more, text-length}
 use Rattle.sg_log.proofs.Runs.{reads_none, reads_more}
 use Rattle.sg_log.proofs.Steps.{gate_later}
 use Rattle.sg_top.specs.Stands.{AreBelow, commits_in}
-use Rattle.sg_top.specs.Damage.{At, line_at, lines_at, records_at, records_in, HasHigh}
+use Rattle.sg_top.specs.Damage.{At, line_at, lines_at, records_at, records_in}
 use Rattle.sg_top.specs.Found.{lines_found, Finds, AreFound, EndsAt, IsRefusedIn, IsNotFound}
 use Rattle.sg_top.specs.Shown.{refusal_at}
 use Rattle.sg_top.specs.declared.found.Found as code_found

@@ -1,10 +1,9 @@
-use Rattle.std.proofs.Common.{◌≡◌, ℕ, ◌+◌, ◌-◌, ◌≤◌, List, take, refl, sym, ap, ◌∙◌, subst, arith}
-use Rattle.sg_record.specs.Records.{Record, spelled_all, AreRecords}
+use Rattle.std.proofs.Common.{◌≡◌, ℕ, ◌+◌, ◌-◌, take, refl, sym, subst, arith}
 use Rattle.sg_log.proofs.Runs.{reads_more}
 use Rattle.sg_top.specs.Stands.{AreBelow}
 use Rattle.sg_top.specs.Found.{IsRefusedIn, IsNotFound}
 use Rattle.sg_top.specs.declared.opening.OpenRefused as code_refused
-use Rattle.sg_top.proofs.Walking.{IsWalking, walking_none, walking_more, walking_done, walking_fails, walking_refused}
+use Rattle.sg_top.proofs.Walking.{walking_none, walking_more, walking_done, walking_fails, walking_refused}
 use Rattle.sg_top.proofs.replay.find_all.Goals as goal
 
 pub frames-init : goal.frames-init

@@ -1,5 +1,4 @@
-use Rattle.std.proofs.Common.{◌≡◌, ◌<◌, ◌≤◌, ◌+◌, length, None, Some, refl, sym, ap, ◌∙◌, subst, arith}
-use Rattle.sg_record.specs.Records.{Record}
+use Rattle.std.proofs.Common.{None, Some, refl, sym, subst, arith}
 use Rattle.sg_record.specs.Shown.{shown}
 use Rattle.sg_record.proofs.Spelling.{spelled-long}
 use Rattle.sg_top.specs.Found.{IsRefusedIn}

@@ -1,5 +1,4 @@
-use Rattle.std.proofs.Common.{◌≡◌, sym, ap, ◌∙◌, subst}
-use Rattle.sg_base.specs.declared.area.Area.{Area}
+use Rattle.std.proofs.Common.{sym, ap, subst}
 use Rattle.sg_log.specs.Held.{Tail}
 use Rattle.sg_log.specs.Reads.{OnlyReads}
 use Rattle.sg_log.proofs.Runs.{reads_more}

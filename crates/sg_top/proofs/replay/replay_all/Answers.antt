@@ -1,10 +1,9 @@
-use Rattle.std.proofs.Common.{◌≡◌, ℕ, List, get_or, length, ◌<◌, map, sym, ap, ◌∙◌, subst, arith, Some, refl}
+use Rattle.std.proofs.Common.{◌≡◌, ℕ, List, get_or, length, ◌<◌, sym, ap, ◌∙◌, subst, Some}
 use Rattle.std.proofs.lemmas.List.{get_or_default}
 use Rattle.std.specs.FinMap.{empty}
-use Rattle.sg_model.specs.Objects.{Objects}
 use Rattle.sg_top.specs.Stands.{replay}
 use Rattle.sg_top.specs.Damage.{LineAt, words_of_all}
-use Rattle.sg_top.specs.Found.{line_of, lines_found, IsRefusedBy}
+use Rattle.sg_top.specs.Found.{lines_found, IsRefusedBy}
 use Rattle.sg_top.proofs.Replaying.{lines_more, lines_fail}
 use Rattle.sg_top.proofs.replay.replay_all.Goals as goal
 
