@@ -134,6 +134,12 @@ force_done {log = log} {ds = ds} {ps = ps} h some w text gate is next rest = rec
   within = omega (arith, h.within, tail_behind log some);
 }
 
+-- the frames are those from before, and one more
+pub force_done-frames : {v : View} {log : Tail} {ds ps : List Record} (h : Holds v log ds ps) (some : 0 < length log.buffer) (w : View) (text : List ℕ) (gate : ℕ) (is : text ≡ frame_text ps ++ 0 ∷ []) (next : gate ≡ log.gate + 5 + length log.buffer) (rest : IsAtRest w.now log.area (log.gate - log.base + length text) (h.frames ++ ps ∷ []))
+    → (force_done h some w text gate is next rest).frames ≡ h.frames ++ ps ∷ []
+unfolding force_done
+force_done-frames h some w text gate is next rest = refl
+
 -- the buffer, among the bytes of a log
 pub buffer_size : (used : ℕ) (items : List ℕ) → used ≤ GREATEST_BODY → length items ≡ 65541 → length (take used (drop 4 items)) ≡ used
 buffer_size used items short full = length-take-le used (drop 4 items) (omega (arith, length-drop 4 items))
@@ -161,6 +167,10 @@ force_nothing {log = log} {ds = ds} {ps = ps} h none = record {
   within = h.within;
 }
 
+pub force_nothing-frames : {v : View} {log : Tail} {ds ps : List Record} (h : Holds v log ds ps) (none : length log.buffer ≡ 0) → (force_nothing h none).frames ≡ h.frames
+unfolding force_nothing
+force_nothing-frames h none = refl
+
 -- a record more in the buffer
 pub buffer_holds : {v : View} {log : Tail} {ds ps : List Record} (r : Record) → Holds v log ds ps → IsRecord r → log.gate + 5 + length log.buffer + length (spelled r) ≤ LOG_END → Holds v (buffered log r) ds (ps ++ r ∷ [])
 buffer_holds {log = log} {ps = ps} r h good within = record {
@@ -174,6 +184,11 @@ buffer_holds {log = log} {ps = ps} r h good within = record {
   within = let some : 0 < length (log.buffer ++ spelled r) = omega (arith, length-append log.buffer (spelled r), spelled-long r) in
       omega (arith, tail_behind (buffered log r) some, length-append log.buffer (spelled r));
 }
+
+-- the frames stay
+pub buffer_holds-frames : {v : View} {log : Tail} {ds ps : List Record} (r : Record) (h : Holds v log ds ps) (good : IsRecord r) (within : log.gate + 5 + length log.buffer + length (spelled r) ≤ LOG_END) → (buffer_holds r h good within).frames ≡ h.frames
+unfolding buffer_holds
+buffer_holds-frames r h good within = refl
 
 -- a forced log's buffer is empty
 pub forced_empty : (log : Tail) → length (forced log).buffer ≡ 0

@@ -38,6 +38,17 @@ abbrev pub StandsAt : List Placed → ℕ → Record → Type 0
 StandsAt [] lsn r = ⊥
 StandsAt (p ∷ held) lsn r = ((p.0.lsn ≡ lsn) × (p.1 ≡ r)) ⊎ StandsAt held lsn r
 
+-- the log holds these records, and each one that stood somewhere before still stands there
+pub record HoldsOn (v : View) (log : Tail) (ds ps : List Record) (before : List Placed) : Type 0 where
+  pub held : List Placed
+  pub at : HoldsAt v log ds ps held
+  pub stay : (lsn : ℕ) (r : Record) → StandsAt before lsn r → StandsAt held lsn r
+
+-- and this one stands at this number too
+pub record IsPlaced (v : View) (log : Tail) (ds ps : List Record) (before : List Placed) (lsn : ℕ) (r : Record) : Type 0 where
+  pub holds : HoldsOn v log ds ps before
+  pub there : StandsAt holds.held lsn r
+
 -- these bytes are one record, of so many bytes
 pub record IsRecordText (bytes : List ℕ) (size : ℕ) : Type 0 where
   pub is : Record

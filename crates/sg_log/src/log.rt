@@ -8,7 +8,7 @@ ghost use Rattle.sg_log.specs.Faults.{ForceFails, AppendFails, AttachFails, Fram
 ghost use Rattle.sg_log.specs.Formed.{IsFormed, IsDamagedAt};
 ghost use Rattle.sg_log.specs.Frames.{Frames, HasRecords, SameElsewhere, LOG_END, GREATEST_BODY};
 ghost use Rattle.sg_log.specs.Held.{Tail, IsTail, Holds, tail_of, place_of, end_of, has_room, forced, buffered, appended, durable_after, waiting_after, IsBeforeOrAfter};
-ghost use Rattle.sg_log.specs.Places.{Placed, HoldsAt, StandsAt, first_of, IsRecordText, IsDurable, IsWaiting, IsThere, IsSizeBehind, StandBehind};
+ghost use Rattle.sg_log.specs.Places.{Placed, HoldsAt, HoldsOn, IsPlaced, StandsAt, first_of, IsRecordText, IsDurable, IsWaiting, IsThere, IsSizeBehind, StandBehind};
 ghost use Rattle.sg_log.specs.Reads.{OnlyReads};
 
 use crate::frame::{seal, write_frame};
@@ -458,6 +458,9 @@ impl Log {
         ensures no_call { IsTrue (has_room self.old (shown r.now)) → disk.new ≡ disk.old }
         ensures holds { (ds ps : List Record) → IsTrue D.told → Holds (D.view disk.old) self.old ds ps →
             OnOk result (Holds (D.view disk.new) self.new (durable_after self.old (shown r.now) ds ps) (waiting_after self.old (shown r.now) ps)) }
+        // It stands at its number from then on, and each record before it stays where it stands.
+        ensures places { (ds ps : List Record) (before : List Placed) → IsTrue D.told → HoldsAt (D.view disk.old) self.old ds ps before →
+            IfOk result (λ lsn. IsPlaced (D.view disk.new) self.new (durable_after self.old (shown r.now) ds ps) (waiting_after self.old (shown r.now) ps) before lsn (shown r.now)) }
         // A crash at any moment of the call leaves the records that were durable, or the buffered ones too.
         ensures any_moment { (ds ps : List Record) → IsTrue D.told → Holds (D.view disk.old) self.old ds ps →
             LeavesOnly (D.view disk.old) (D.view disk.new) (IsBeforeOrAfter (D.view disk.old).now self.old ds ps) }
@@ -489,6 +492,8 @@ impl Log {
         ensures faults { IfErr result (λ e. ForceFails (D.view disk.old) (D.view disk.new) e) }
         ensures no_call { length self.old.buffer ≡ 0 → disk.new ≡ disk.old }
         ensures holds { (ds ps : List Record) → IsTrue D.told → Holds (D.view disk.old) self.old ds ps → OnOk result (Holds (D.view disk.new) self.new (ds ++ ps) []) }
+        // Each record stays where it stands.
+        ensures places { (ds ps : List Record) (before : List Placed) → IsTrue D.told → HoldsAt (D.view disk.old) self.old ds ps before → OnOk result (HoldsOn (D.view disk.new) self.new (ds ++ ps) [] before) }
         // A crash after it leaves all the records, and one at any moment of the call all or those that were durable.
         ensures after { (ds ps : List Record) → IsTrue D.told → Holds (D.view disk.old) self.old ds ps →
             OnOk result ((c : Image) → Leaves (D.view disk.new).now c → HasRecords (c self.old.area) self.old.base (tail_of self.old) (ds ++ ps)) }

@@ -5,6 +5,7 @@ use Rattle.std.proofs.lemmas.List.{drop-drop, map-append}
 use Rattle.std.proofs.Math.Seq.{drop-append_seam}
 use Rattle.sg_record.specs.Records.{Record, spelled, spelled_all, IsRecord, AreRecords, transaction_of}
 use Rattle.sg_record.proofs.Spelling.{spelled-long}
+use Rattle.sg_log.proofs.Standing.{spelled_all-append}
 use Rattle.sg_log.proofs.Whole.{rest_all}
 use Rattle.sg_top.specs.Stands.{AreBelow, commits_in}
 use Rattle.sg_top.specs.Damage.{At, line_at, lines_at, records_at, HasHigh}
@@ -25,9 +26,6 @@ records_at-append at [] ss = ap (λ (n : ℕ). records_at n ss) (zero_more at)
 records_at-append at (r ∷ rs) ss =
     ap (λ (xs : List At). record { offset = at; is = r } ∷ xs)
     (records_at-append (at + length (spelled r)) rs ss ∙ ap (λ (n : ℕ). records_at (at + length (spelled r)) rs ++ records_at n ss) (omega (arith, length-append (spelled r) (spelled_all rs))))
-
-pub spelled_all-append : (rs ss : List Record) → spelled_all (rs ++ ss) ≡ spelled_all rs ++ spelled_all ss
-spelled_all-append rs ss = flat_map-append spelled rs ss
 
 pub map_is-append : (xs ys : List At) → map {B = Record} (λ p. p.is) (xs ++ ys) ≡ map (λ p. p.is) xs ++ map (λ p. p.is) ys
 map_is-append xs ys = map-append (λ (p : At). p.is) xs ys

@@ -13,6 +13,7 @@ use Rattle.sg_log.specs.declared.fault.LogFault.TheVariants as faults
 use Rattle.sg_log.proofs.Chain.{formed_one}
 use Rattle.sg_log.proofs.Holding.{records_of-more, text-length}
 use Rattle.sg_log.proofs.Runs.{reads_none, reads_more}
+use Rattle.sg_log.proofs.Standing.{gate_behind}
 use Rattle.sg_log.proofs.Steps.{gate_later}
 use Rattle.sg_top.specs.Stands.{AreBelow, commits_in}
 use Rattle.sg_top.specs.Damage.{At, line_at, lines_at, records_at, records_in}
@@ -94,10 +95,6 @@ not_unformed : (f : disk.Bytes) (base at : ℕ) (back : List (List Record)) → 
 not_unformed f base at [] stand within u = stand u.gate
 not_unformed f base at (rs ∷ more) stand within u = u.none rs (record { gate = stand.0; frame = stand.1; text = stand.2 }) (omega (arith, gate_later (at + 1 + length (text_of (spelled_all rs))) more))
 
-gate_split : (at : ℕ) (front back : List (List Record)) → gate_after at (front ++ back) ≡ gate_after (gate_after at front) back
-gate_split at [] back = refl
-gate_split at (rs ∷ front) back = gate_split (at + 1 + length (text_of (spelled_all rs))) front back
-
 -- one frame more was found
 found_more : (now new : code_found.Found) (gate at : ℕ) (front : List (List Record)) (rs : List Record) → at ≡ gate_after 0 front → AreFound now gate front → Finds now new (records_at (at + 5) rs) → AreBelow gate rs → AreFound new gate (front ++ rs ∷ [])
 found_more now new gate at front rs place are finds below =
@@ -137,7 +134,7 @@ module _ (told : Bool) (v u : disk.View) (log : Tail) (now : code_found.Found) (
           back = next.more;
           split = h.split ∙ (ap (λ (xs : List (List Record)). h.front ++ xs) next.split ∙ sym (append_assoc h.front (rs ∷ []) next.more));
           rest = subst (λ (k : ℕ). Frames f k next.more) (omega (arith, r.2)) next.rest;
-          place = omega (arith, gate_split 0 h.front (rs ∷ []), h.place, gate_place (gate_after 0 h.front) rs, r.2);
+          place = omega (arith, gate_behind 0 h.front (rs ∷ []), h.place, gate_place (gate_after 0 h.front) rs, r.2);
           are = found_more now new log.gate at h.front rs h.place h.are (finds rs formed.frame.fields r.3) (below rs formed.frame.fields r.3);
         };
   }
@@ -159,7 +156,7 @@ module _ (told : Bool) (v u : disk.View) (log : Tail) (now : code_found.Found) (
         let k = walking.walked is_told frames ends in
         let f = (v.now log.area).seen in
         let bad : IsUnformed f base at = subst (IsUnformed f base) same (subst (λ (g : disk.Bytes). IsUnformed g base to) (seen_here is_told) (h.1 is_told)) in
-        let end : gate_after 0 frames ≡ gate_after at k.back = ap (gate_after 0) k.split ∙ (gate_split 0 k.front k.back ∙ ap (λ (n : ℕ). gate_after n k.back) (sym k.place)) in
+        let end : gate_after 0 frames ≡ gate_after at k.back = ap (gate_after 0) k.split ∙ (gate_behind 0 k.front k.back ∙ ap (λ (n : ℕ). gate_after n k.back) (sym k.place)) in
         absurd (not_unformed f base at k.back k.rest (omega (arith, none, end, ends.gate, ends.within)) bad),
   )
   walking_fails w base faults.Memory none h = tt
