@@ -1,4 +1,4 @@
-ghost use Rattle.std.specs.Prelude.{◌≡◌, ◌≤◌, ◌<◌, ◌+◌, List, ℕ, length, OnOk, OnErr, IfOk, IfErr, None};
+ghost use Rattle.std.specs.Prelude.{◌≡◌, ◌≤◌, ◌<◌, ◌+◌, List, ℕ, length, OnOk, OnErr, IfOk, IfErr, IsSome, None};
 ghost use Rattle.sg_base.specs.Ends.{HasRisen, Takes, TakesFront};
 ghost use Rattle.sg_model.specs.History.{State};
 ghost use Rattle.sg_log.specs.Frames.{LOG_END};
@@ -74,6 +74,8 @@ impl<D: Disk> Session<D> {
         ensures cut { OnErr result ((x : State) → Shows D.told (D.view (session_disk self.old)) (session_core self.old) x →
             (answer : Said) × Goes D.told (D.view (session_disk self.old)) (session_core self.old) x (order_of text.now) answer (D.view (session_disk self.new)) (session_core self.new)
             × TakesFront (K.taken out.old) (text_of answer) (K.taken out.new)) }
+        // A store that has stopped stays so, and makes no call of the disk.
+        ensures stopped { IsSome (session_stop self.old) → (session_disk self.new ≡ session_disk self.old) × (session_stop self.new ≡ session_stop self.old) }
         ensures grown { Grows (session_core self.old).log (session_core self.new).log (D.view (session_disk self.old)) (D.view (session_disk self.new)) }
         ensures cause { StopIsCaused (HasRisen (D.view (session_disk self.old)).faults (D.view (session_disk self.new)).faults) (LOG_END < (session_core self.old).log.gate + 65572)
             (session_stop self.old) (session_stop self.new) }

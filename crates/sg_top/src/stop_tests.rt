@@ -106,7 +106,7 @@ const AFTER: [&[u8]; 4] = [
     b"ok\nok x\nok y\nok z\n",
 ];
 
-// The lines of the commits among the replies, and how many of these were answered `ok`.
+// How many of the replies to the commits, which are the fourth, the seventh and the tenth line, are `ok`.
 fn acknowledged(replies: &[u8]) -> usize {
     let mut count = 0;
     for (i, reply) in replies.split(|b| *b == b'\n').enumerate() {
@@ -160,7 +160,7 @@ fn stopped_and_opened_twice(rt: HostRuntime) -> Result<(), Fail> {
                 let disk = stopped(alloc, disk, ITEMS, again, pick + 1, &mut unread)?;
                 let shown = commits_shown(alloc, disk)?.ok_or("no first commits")?;
                 let least = acknowledged(out.text());
-                assert!(rt; least <= shown && shown <= least + 1);
+                assert!(rt; least <= shown && shown - least <= 1);
                 assert!(rt; calls < THREE_CALLS || least == 3);
             }
         }

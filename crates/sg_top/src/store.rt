@@ -325,6 +325,8 @@ impl<D: Disk> Store<D> {
         requires said { order_of text.now ≡ shown_line line.now }
         requires kept { 32768 ≤ length kept.old }
         requires into { 8192 ≤ length into.old }
+        // a store that has stopped makes no call of the disk
+        ensures stopped { IsSome self.old.stop → self.new ≡ self.old }
         ensures goes { (x : State) → Shows D.told (D.view self.old.disk) (core_of self.old) x
             → Goes D.told (D.view self.old.disk) (core_of self.old) x (order_of text.now) (shown_answer into.new result) (D.view self.new.disk) (core_of self.new) }
         ensures grown { Grows self.old.log self.new.log (D.view self.old.disk) (D.view self.new.disk) }
