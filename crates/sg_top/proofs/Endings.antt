@@ -152,6 +152,7 @@ done_of told v w r source left first now s ran is =
       stands = ran.stands;
       text = h.text;
       whole = h.whole;
+      short = h.short;
       answers = h.executed.answers;
       after = h.executed.after;
       goes = h.executed.goes;

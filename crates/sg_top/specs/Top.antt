@@ -22,7 +22,7 @@ use Rattle.sg_record.specs.Records.{Record}
 use Rattle.sg_log.specs.Frames.{HasRecords}
 use Rattle.sg_top.specs.Stands.{StandsFor, StandsForFirst}
 use Rattle.sg_top.specs.Store.{Core}
-use Rattle.sg_top.specs.Ending.{RunsTo}
+use Rattle.sg_top.specs.Ending.{RunsTo, MOST_BYTES}
 use Rattle.sg_top.specs.Script.{HasRead, MayEnd}
 use Rattle.sg_top.specs.Shown.{StopIsCaused}
 use Rattle.sg_base.specs.Ends.{HasRisen, Takes, TakesFront}
@@ -107,7 +107,7 @@ pub record Ran (told : Bool) (v w : disk.View) (source left first now : Option (
   pub runs : RunsTo end told opened core (start objects) source left first now w last
   pub status_is : status ≡ status_of end stop
 
--- A run with status Done: all lines of the whole script were executed from these objects on, for which the image that
+-- A run with status Done: all lines of the whole script, which isn't too long, were executed from these objects on, for which the image that
 -- reads gave at entry stands, and the sink has all replies. All commits were answered, and what reads give, and each
 -- image that a crash could leave, stands for the objects after all of them
 pub record IsDone (told : Bool) (v w : disk.View) (source first now : Option (List ℕ)) : Type 0 where
@@ -115,6 +115,7 @@ pub record IsDone (told : Bool) (v w : disk.View) (source first now : Option (Li
   pub stands : IsTrue told → StandsFor (reads_of v) objects
   pub text : List ℕ
   pub whole : IfSome source (λ all. text ≡ all)
+  pub short : length text ≤ MOST_BYTES
   pub answers : List Answer
   pub after : State
   pub goes : Lines (start objects) (lines_of text) answers after
