@@ -1,0 +1,4 @@
+pub mod Zeros
+pub mod Held
+pub mod Slots
+pub mod Lending
