@@ -1,5 +1,5 @@
 -- What the frames and windows of one block hold, and what a loan of one holds.
-use Rattle.std.specs.Prelude.{◌≡◌, ◌<◌, ℕ, List, [], length, slice_set, slice_index_or}
+use Rattle.std.specs.Prelude.{◌≡◌, ◌<◌, ◌⊎◌, ℕ, List, [], length, slice_set, slice_index_or}
 use Rattle.std.specs.Ptr.{Ptr}
 use Rattle.sg_frames.specs.declared.place.Place.{Place}
 use Rattle.sg_frames.specs.declared.place.Place.TheVariants.{Page, Window}
@@ -41,11 +41,16 @@ abbrev pub IsHere : Held → Place → Type 0
 IsHere held place = length (bytes_at held place) ≡ size_of place
 
 -- no place is lent
-abbrev pub AllHere : Held → Type 0
-AllHere held = (place : Place) → HasPlace held place → IsHere held place
+pub record NoneLent (held : Held) : Type 0 where
+  pub pages : (i : ℕ) → i < length held.pages → IsHere held (Page i)
+  pub windows : (w : ℕ) → w < length held.windows → IsHere held (Window w)
 
 -- the loan is of this block, and its place is lent
 pub record IsFrom (held : Held) (loan : Lent) : Type 0 where
   pub same_block : loan.block ≡ held.block
   pub has_place : HasPlace held loan.place
   pub lent : bytes_at held loan.place ≡ []
+
+-- each place is this one, or holds what it held
+abbrev pub IsSameBut : Place → Held → Held → Type 0
+IsSameBut place old new = (other : Place) → (other ≡ place) ⊎ (bytes_at new other ≡ bytes_at old other)

@@ -1,4 +1,5 @@
 ghost use Rattle.std.specs.Prelude.{◌≡◌, ◌<◌, ◌≤◌, ◌≢◌, [], length, IfOk, All};
+ghost use Rattle.std.specs.Bool.{OnTrue};
 
 use crate::loan::Loan;
 use crate::place::{Place, WINDOW_SIZE};
@@ -27,7 +28,7 @@ impl Model for Frames {
 
 impl Frames {
     ghost use Rattle.std.specs.Borrow.{sem};
-    ghost use Rattle.sg_frames.specs.Held.{HasPlace, IsHere, AllHere, IsFrom, bytes_at, with_bytes};
+    ghost use Rattle.sg_frames.specs.Held.{IsHere, NoneLent, IsFrom, IsSameBut, bytes_at, with_bytes};
     ghost use Rattle.sg_frames.specs.Lending.{LendsPlace, LendsPages, LendsTwo};
 
     /// So many page frames, of 32 to 16,384, and windows, of 4 to 256. All their bytes are 0.
@@ -38,7 +39,7 @@ impl Frames {
         requires most_windows { windows ≤ 256 }
         ensures pages { IfOk result (λ f. length f.pages ≡ frames) }
         ensures windows { IfOk result (λ f. length f.windows ≡ windows) }
-        ensures here { IfOk result AllHere }
+        ensures here { IfOk result NoneLent }
         ensures zeros { IfOk result (λ f. (place : Place) → All (λ x. x ≡ 0) (bytes_at f place)) }
     {
         let Ok(pages) = Slot::many(alloc, frames, PAGE_SIZE) else {
@@ -108,8 +109,11 @@ impl Frames {
     /// Moves a page frame out, with its bytes.
     pub fn take(&mut self, i: u32) -> Loan
         requires { IsHere self.old (Place.Page i) }
-        ensures loan { result ≡ record { block = self.old.block; place = Place.Page i; bytes = bytes_at self.old (Place.Page i) } }
+        ensures block { result.block ≡ self.old.block }
+        ensures place { result.place ≡ Place.Page i }
+        ensures bytes { result.bytes ≡ bytes_at self.old (Place.Page i) }
         ensures left { self.new ≡ with_bytes self.old (Place.Page i) [] }
+        ensures others { IsSameBut (Place.Page i) self.old self.new }
     {
         let home = Snapshot::of(&self.pages.as_ptr());
         let slot = Slot::take(&mut self.pages, i as usize);
@@ -123,8 +127,11 @@ impl Frames {
     /// Moves a window out, with its bytes.
     pub fn take_window(&mut self, w: u32) -> Loan
         requires { IsHere self.old (Place.Window w) }
-        ensures loan { result ≡ record { block = self.old.block; place = Place.Window w; bytes = bytes_at self.old (Place.Window w) } }
+        ensures block { result.block ≡ self.old.block }
+        ensures place { result.place ≡ Place.Window w }
+        ensures bytes { result.bytes ≡ bytes_at self.old (Place.Window w) }
         ensures left { self.new ≡ with_bytes self.old (Place.Window w) [] }
+        ensures others { IsSameBut (Place.Window w) self.old self.new }
     {
         let home = Snapshot::of(&self.pages.as_ptr());
         let slot = Slot::take(&mut self.windows, w as usize);
@@ -138,7 +145,10 @@ impl Frames {
     /// Takes a loan back, with the bytes that it has.
     pub fn give(&mut self, loan: Loan)
         requires { IsFrom self.old loan }
-        ensures { self.new ≡ with_bytes self.old loan.place loan.bytes }
+        ensures held { self.new ≡ with_bytes self.old loan.place loan.bytes }
+        ensures back { bytes_at self.new loan.place ≡ loan.bytes }
+        ensures here { IsHere self.new loan.place }
+        ensures others { IsSameBut loan.place self.old self.new }
     {
         let Loan { place, slot, home: _ } = loan;
         match place {
@@ -149,10 +159,22 @@ impl Frames {
 
     /// Frees the block.
     pub fn end(self)
-        requires { AllHere self }
+        requires { NoneLent self }
     {
         let Frames { pages, windows } = self;
         drop(pages);
         drop(windows);
+    }
+
+    // Whether there are so many page frames and windows, and none is lent.
+    #[cfg(test)]
+    pub(crate) fn is_whole(&self, frames: usize, windows: usize) -> bool
+        ensures pages { OnTrue result (length self.now.pages ≡ frames) }
+        ensures windows { OnTrue result (length self.now.windows ≡ windows) }
+        ensures none_lent { OnTrue result (NoneLent self.now) }
+    {
+        let pages_are = self.pages.iter().all(|s| s.bytes().len() == PAGE_SIZE);
+        let windows_are = self.windows.iter().all(|s| s.bytes().len() == WINDOW_SIZE);
+        self.pages.len() == frames && self.windows.len() == windows && pages_are && windows_are
     }
 }

@@ -10,3 +10,6 @@ mod slot;
 pub use frames::Frames;
 pub use loan::Loan;
 pub use place::{Place, WINDOW_SIZE};
+
+#[cfg(test)]
+mod tests;
