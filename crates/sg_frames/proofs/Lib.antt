@@ -1,3 +1,7 @@
 mod Halves
+mod Lodging
 mod Pairs
+mod Runs
 mod Through
+mod Vecs
+mod Walks

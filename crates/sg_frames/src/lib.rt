@@ -2,6 +2,7 @@
 //! held in, and loans of it, which go to threads and come back.
 #![tactic(auto)]
 
+mod block;
 mod frames;
 mod loan;
 mod place;
