@@ -1,6 +1,7 @@
+mod Cutting
+mod Entries
 mod Halves
 mod Lodging
-mod Pairs
 mod Runs
 mod Through
 mod Vecs

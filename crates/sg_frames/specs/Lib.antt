@@ -1,5 +1,5 @@
 pub mod Zeros
-pub mod Held
+pub mod Pieces
 pub mod Slots
-pub mod Lending
+pub mod Tables
 pub mod Ownership

@@ -1,5 +1,6 @@
 use Rattle.std.proofs.Common.{◌≡◌, ◌≢◌, ◌<◌, [], refl, sym, arith, take, drop, set, get_or, ◌∙◌}
 use Rattle.std.proofs.lemmas.List.{set_comm}
+use Rattle.sg_frames.specs.Pieces.{no_piece}
 use Rattle.sg_frames.proofs.Halves.{set_halves, read_front, read_back}
 use Rattle.sg_frames.proofs.slot.Slot.two.Goals as goal
 
@@ -9,8 +10,8 @@ returns-then-i-j c =
     let halves = c.split_at_mut-front.ensures in
     (((refl, refl), λ x y. rw (halves.front, halves.back) (set_halves xs i j x y c.if-i-j.true)), record {
       writes_back = tt;
-      first = read_front xs i j _ [] c.if-i-j.true c.requires.second (rw halves.front at c.index-front-i.is);
-      second = read_back xs j _ [] c.requires.second (rw halves.back at c.index-back-0.is);
+      first = read_front xs i j _ no_piece c.if-i-j.true c.requires.second (rw halves.front at c.index-front-i.is);
+      second = read_back xs j _ no_piece c.requires.second (rw halves.back at c.index-back-0.is);
     })
 
 pub returns : goal.returns
@@ -20,6 +21,6 @@ returns c =
     let below : j < i = omega arith in
     (((refl, refl), λ x y. rw (halves.front, halves.back) (set_halves xs j i y x below ∙ set_comm xs j i y x (omega arith))), record {
       writes_back = tt;
-      first = read_back xs i _ [] c.requires.first (rw halves.back at c.index-back-0-2.is);
-      second = read_front xs j i _ [] below c.requires.first (rw halves.front at c.index-front-j.is);
+      first = read_back xs i _ no_piece c.requires.first (rw halves.back at c.index-back-0-2.is);
+      second = read_front xs j i _ no_piece below c.requires.first (rw halves.front at c.index-front-j.is);
     })
