@@ -2,6 +2,7 @@ mod Cutting
 mod Entries
 mod Halves
 mod Lodging
+mod Pairs
 mod Runs
 mod Through
 mod Vecs

@@ -3,3 +3,5 @@ pub mod Pieces
 pub mod Slots
 pub mod Tables
 pub mod Ownership
+pub mod Held
+pub mod Lending

@@ -70,7 +70,7 @@ impl Table {
         requires none_lent { (k : ℕ) → k < length self.bytes → length (slice_index_or self.bytes k []) ≡ size }
         requires spots { AreSideBySide size self.spots run.ptr }
         ensures start { result.ptr ≡ start_of self.spots run.ptr }
-        ensures size { length result.items ≡ length run.items + length self.bytes * size }
+        ensures size { length result.items ≡ length run.items + length self.spots * size }
     {
         let Table { mut slots } = self;
         let mut run = run;
