@@ -1,6 +1,7 @@
 mod Cutting
 mod Entries
 mod Halves
+pub mod Lent
 mod Lodging
 mod Pairs
 mod Runs

@@ -71,6 +71,10 @@ pub record IsFrom (held : Held) (loan : Lent) : Type 0 where
 abbrev pub IsSameBut : Place → Held → Held → Type 0
 IsSameBut place old new = (other : Place) → (other ≡ place) ⊎ (bytes_at new other ≡ bytes_at old other)
 
+-- each place of the block is one of `out`, or is here
+abbrev pub HereBut : (Place → Type 0) → Held → Type 0
+HereBut out held = (place : Place) → HasPlace held place → out place ⊎ IsHere held place
+
 -- page frames, windows and the rest lie side by side, and are the whole
 pub record IsWhole (block : Block) : Type 0 where
   pub pages : AreSideBySide 4096 block.pages (start_of block.windows block.rest.ptr)

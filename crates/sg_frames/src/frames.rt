@@ -1,5 +1,4 @@
 ghost use Rattle.std.specs.Prelude.{◌≡◌, ◌+◌, ◌*◌, ◌<◌, ◌≤◌, ◌≢◌, ℕ, [], length, IfOk, All, vec_len, vec_capacity};
-ghost use Rattle.std.specs.Bool.{OnTrue};
 
 use crate::block::{Run, Shell, attach, detach};
 use crate::loan::Loan;

@@ -12,3 +12,6 @@ mod table;
 pub use frames::Frames;
 pub use loan::Loan;
 pub use place::{Place, WINDOW_SIZE};
+
+#[cfg(test)]
+mod tests;
