@@ -30,7 +30,7 @@ pub sides-more : (size : ℕ) (spots : List Ptr) (end new : Ptr) → AreSideBySi
 sides-more size spots end new sides step k below =
     let long : length (spots ++ end ∷ []) ≡ length spots + 1 = length-append spots (end ∷ []) in
     elim (cases_lt k (length spots)) [
-      inl inside ↦ ap (λ (p : Ptr). p +ₚ size) (last_or spots end null_ptr k (omega arith) ∙ get_or_default spots k end null_ptr inside) ∙ sides k inside ∙ sym (last_or spots end new (k + 1) (omega arith))
+      | inl inside ↦ ap (λ (p : Ptr). p +ₚ size) (last_or spots end null_ptr k (omega arith) ∙ get_or_default spots k end null_ptr inside) ∙ sides k inside ∙ sym (last_or spots end new (k + 1) (omega arith))
       | inr past ↦ ap (λ (p : Ptr). p +ₚ size) (last_or spots end null_ptr k (omega arith) ∙ at_end spots end k past) ∙ step ∙ sym (at_end (spots ++ end ∷ []) new (k + 1) (omega arith))
     ]
 
@@ -58,7 +58,13 @@ pub record AreCut (start : Ptr) (at size : ℕ) (whole : Run) (k : ℕ) (slots :
 
 pub are_cut-none : (start : Ptr) (at size : ℕ) (whole : Run) (slots : List Piece) → length slots ≡ 0 → whole.ptr ≡ start +ₚ at → All (λ x. x ≡ 0) whole.items → AreCut start at size whole 0 slots whole
 are_cut-none start at size whole [] none spot zeros = record {
-  count = refl; spot = spot ∙ ap (λ n. start +ₚ n) (omega arith); long = omega arith; zeros = zeros; sides = λ k below. absurd (omega arith); begin = refl; made = λ j below. absurd (omega arith);
+  count = refl;
+  spot = spot ∙ ap (λ n. start +ₚ n) (omega arith);
+  long = omega arith;
+  zeros = zeros;
+  sides = λ k below. absurd (omega arith);
+  begin = refl;
+  made = λ j below. absurd (omega arith);
 }
 are_cut-none start at size whole (x ∷ xs) none spot zeros = absurd (omega arith)
 
@@ -81,7 +87,7 @@ are_cut-more start at size whole k slots rest others piece was enough spot bytes
       begin = ap (λ (ps : List Ptr). get_or ps 0 others.ptr) spots ∙ last_or (map spot_of slots) rest.ptr others.ptr 0 (omega arith) ∙ was.begin;
       made = λ j below. subst (λ (xs : List (List ℕ)). AreZeros size (get_or xs j [])) (sym contents) (subst (AreZeros size) (sym (last_or (map bytes_of slots) piece.bytes [] j (omega arith)))
           (elim (cases_lt j k) [
-            inl inside ↦ subst (AreZeros size) (get_or_default (map bytes_of slots) j [] piece.bytes (omega arith)) (was.made j inside)
+            | inl inside ↦ subst (AreZeros size) (get_or_default (map bytes_of slots) j [] piece.bytes (omega arith)) (was.made j inside)
             | inr past ↦ subst (AreZeros size) (sym (at_end (map bytes_of slots) piece.bytes j (omega arith))) new
           ]));
     }

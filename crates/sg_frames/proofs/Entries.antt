@@ -1,10 +1,10 @@
 -- A table of pieces, seen as the list of its spots and that of its bytes.
-use Rattle.std.proofs.Common.{◌≡◌, ◌<◌, ℕ, List, [], ◌++◌, length, map, take, drop, get_or, set, refl, sym, ap, ◌∙◌, subst}
+use Rattle.std.proofs.Common.{◌≡◌, ◌<◌, ℕ, List, [], ◌++◌, length, map, take, drop, get_or, set, sym, ap, ◌∙◌, subst}
 use Rattle.std.proofs.lemmas.List.{map-set, get_or-map, map-append, length-map, take-map, drop-map}
 use Rattle.std.proofs.Math.Seq.{map-set_same}
 use Rattle.std.specs.List.{refill}
-use Rattle.std.specs.Ptr.{Ptr, null_ptr}
-use Rattle.sg_frames.specs.Pieces.{Piece, Pieces, no_piece, spot_of, bytes_of, with_entry}
+use Rattle.std.specs.Ptr.{null_ptr}
+use Rattle.sg_frames.specs.Pieces.{Piece, Pieces, spot_of, bytes_of, with_entry}
 
 abbrev pub table_of : List Piece → Pieces
 table_of slots = record { spots = map spot_of slots; bytes = map bytes_of slots }

@@ -1,6 +1,6 @@
 -- A list that is cut before place j, with an element set in each half.
-use Rattle.std.proofs.Common.{◌≡◌, ◌≢◌, ◌<◌, ℕ, List, ◌++◌, length, take, drop, get_or, set, sym, ◌∙◌, arith, add-zero, length-drop}
-use Rattle.std.proofs.lemmas.List.{take-append-drop, take-set, drop-set-add, drop-set-lt, set_comm, get_or_default}
+use Rattle.std.proofs.Common.{◌≡◌, ◌<◌, ℕ, List, ◌++◌, length, take, drop, get_or, set, arith, add-zero}
+use Rattle.std.proofs.lemmas.List.{take-append-drop, take-set, drop-set-add, drop-set-lt}
 use Rattle.std.proofs.Math.Seq.{take-set-lt}
 use Rattle.std.proofs.lemmas.Grind.{common_steps}
 

@@ -1,5 +1,5 @@
 -- Frames of which some are lent: what callers of `take`, `give` and the calls that lend bytes carry from one to the next.
-use Rattle.std.proofs.Common.{◌≡◌, ◌<◌, ◌⊎◌, ℕ, List, [], length, get_or, set, refl, sym, ap, ◌∙◌, inl, inr, subst, arith, length-set}
+use Rattle.std.proofs.Common.{◌≡◌, ◌⊎◌, ℕ, List, [], length, get_or, set, refl, sym, ap, ◌∙◌, inl, inr, subst, arith, length-set}
 use Rattle.std.proofs.lemmas.Grind.{common_steps}
 use Rattle.std.specs.List.{length_refill}
 use Rattle.sg_frames.specs.declared.place.Place.{Place}
@@ -32,7 +32,7 @@ bytes_at-with_bytes held (Window w) bytes has = grind (arith, common_steps)
 pub here_but-taken : (out : Place → Type 0) (old new : Held) (place : Place) (bytes : List ℕ) → new ≡ with_bytes old place bytes → HereBut out old → HereBut (λ other. (other ≡ place) ⊎ out other) new
 here_but-taken out old new place bytes is here = rw is (λ other has.
     elim (same_but old place bytes other) [
-      inl same ↦ inl (inl same)
+      | inl same ↦ inl (inl same)
       | inr kept ↦ elim (here other (has_place-with_bytes old place bytes other has)) [ inl lent ↦ inl (inr lent) | inr stays ↦ inr (ap length kept ∙ stays) ]
     ])
 
@@ -43,7 +43,7 @@ here_but-given out old new place bytes is back here other has =
     let there : other ≡ place → IsHere new other = λ same. subst (λ (p : Place). IsHere new p) (sym same) back in
     let kept : bytes_at (with_bytes old place bytes) other ≡ bytes_at old other → IsHere old other → IsHere new other = λ same stays. ap (λ (h : Held). length (bytes_at h other)) is ∙ ap length same ∙ stays in
     elim (same_but old place bytes other) [
-      inl same ↦ inr (there same)
+      | inl same ↦ inr (there same)
       | inr same ↦ elim (here other had) [ inl lent ↦ elim lent [ inl is_it ↦ inr (there is_it) | inr still ↦ inl still ] | inr stays ↦ inr (kept same stays) ]
     ]
 

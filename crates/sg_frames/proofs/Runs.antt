@@ -7,9 +7,6 @@ use base.Logic.{ent, sep, via, fst∗, never_e, never}
 use base.Fml.{fsep, feq}
 use types.Logic.{Logic, sem}
 use types.Kit.{‵, ◌⊛◌, ◌$◌, ◌∵◌, !, qed, by, move, drop, use1, use2, split, fsplit, fjoin, feq_i, rewrite, done}
-use denote.Array.{Array}
-use denote.Builtin.{u8}
-use denote.Memory.{part_at}
 use denote.RawPtr.{Ptr, block_ptr, null_ptr, ◌+ₚ◌}
 use denote.RawPtr.Bytes.{bytes, bytes_cut, bytes_glue, bytes_apart, bytes_whole}
 use Rattle.sg_frames.specs.Ownership.{run_owns}

@@ -1,5 +1,5 @@
 -- What a lender of two parts follows, where the parts are lent on. Assumes `Logic`.
-use Rattle.std.proofs.Common.{List, [], ◌∷◌}
+use Rattle.std.proofs.Common.{[], ◌∷◌}
 use seplogic.Ra.Ura.{Ura}
 use base.Logic.{ent, sep, wand}
 use base.Fml.{GName, fres}

@@ -9,7 +9,8 @@ use sg_base::{OutOfMemory, PAGE_SIZE};
 use std::alloc::{AllocError, Global};
 use std::marker::Model;
 
-/// The page frames and windows of one block.
+/// The page frames, of 4,096 bytes each, and windows, of 32,768 bytes each, of one block of memory.
+/// Each kind is numbered from 0 on.
 ///
 /// It has to be ended with `end`, once no loan is out: it isn't `Drop`.
 pub struct Frames {
@@ -53,7 +54,10 @@ impl Frames {
     ghost use Rattle.sg_frames.specs.Lending.{LendsPlace, LendsPages, LendsTwo, pages_of};
     ghost use Rattle.sg_frames.specs.Tables.{ShowsSlots};
 
-    /// So many page frames, of 32 to 16,384, and windows, of 4 to 256. All their bytes are 0.
+    /// So many page frames, 32 to 16,384 of them, and windows, 4 to 256, all in one block. Their bytes
+    /// are 0.
+    ///
+    /// `OutOfMemory`, where there isn't enough memory, is the only refusal, and nothing is taken then.
     pub fn new(alloc: Global, frames: u32, windows: u32) -> Result<Frames, OutOfMemory>
         requires some_frames { 32 ≤ frames }
         requires most_frames { frames ≤ 16384 }
@@ -108,7 +112,7 @@ impl Frames {
         }
     }
 
-    /// The bytes of a page frame.
+    /// The 4,096 bytes of a page frame, which is there and isn't lent.
     pub fn page(&self, i: u32) -> &[u8]
         requires { IsHere self.now (Place.Page i) }
         ensures { result.now ≡ bytes_at self.now (Place.Page i) }
@@ -116,7 +120,7 @@ impl Frames {
         self.pages.bytes(i)
     }
 
-    /// The bytes of a page frame, to write to.
+    /// The 4,096 bytes of a page frame, to write to. What is written changes no other frame or window.
     pub fn page_mut(&mut self, i: u32) -> &mut [u8]
         requires { IsHere self.old (Place.Page i) }
         ensures* writes_back { sem 𝓛 (LendsPlace self.entry (Place.Page i) result) }
@@ -133,7 +137,11 @@ impl Frames {
         self.pages.slots_mut()
     }
 
-    /// The bytes of two different page frames at once, to write to.
+    /// The bytes of two different page frames at once, to write to. Each slice is written back to its
+    /// own frame.
+    ///
+    /// The kit's generated proofs of callers don't follow two slices that a struct lends. Where such a
+    /// proof has to go on, `take` one frame and write to the other.
     pub fn pair_mut(&mut self, i: u32, j: u32) -> (&mut [u8], &mut [u8])
         requires apart { i ≢ j }
         requires first { IsHere self.old (Place.Page i) }
@@ -146,7 +154,7 @@ impl Frames {
         (first.bytes_mut(), second.bytes_mut())
     }
 
-    /// The bytes of a window.
+    /// The 32,768 bytes of a window, which is there and isn't lent.
     pub fn window(&self, w: u32) -> &[u8]
         requires { IsHere self.now (Place.Window w) }
         ensures { result.now ≡ bytes_at self.now (Place.Window w) }
@@ -154,7 +162,7 @@ impl Frames {
         self.windows.bytes(w)
     }
 
-    /// The bytes of a window, to write to.
+    /// The 32,768 bytes of a window, to write to. What is written changes no other window or frame.
     pub fn window_mut(&mut self, w: u32) -> &mut [u8]
         requires { IsHere self.old (Place.Window w) }
         ensures* writes_back { sem 𝓛 (LendsPlace self.entry (Place.Window w) result) }
@@ -163,7 +171,7 @@ impl Frames {
         self.windows.bytes_mut(w)
     }
 
-    /// Moves a page frame out, with its bytes.
+    /// Moves a page frame out, with its bytes. It is lent until the loan comes back with `give`.
     pub fn take(&mut self, i: u32) -> Loan
         requires { IsHere self.old (Place.Page i) }
         ensures spot { result.spot ≡ spot_at self.old (Place.Page i) }
@@ -179,7 +187,7 @@ impl Frames {
         }
     }
 
-    /// Moves a window out, with its bytes.
+    /// Moves a window out, with its bytes. It is lent until the loan comes back with `give`.
     pub fn take_window(&mut self, w: u32) -> Loan
         requires { IsHere self.old (Place.Window w) }
         ensures spot { result.spot ≡ spot_at self.old (Place.Window w) }
@@ -195,7 +203,7 @@ impl Frames {
         }
     }
 
-    /// Takes a loan back, with the bytes that it has.
+    /// Takes a loan of this block back: its frame or window has the loan's bytes from then on.
     pub fn give(&mut self, loan: Loan)
         requires { IsFrom self.old loan }
         ensures held { self.new ≡ with_bytes self.old loan.place loan.bytes }
@@ -210,7 +218,7 @@ impl Frames {
         }
     }
 
-    /// Frees the block.
+    /// Puts the block together again and frees it. No frame or window is lent.
     pub fn end(self)
         requires none_lent { NoneLent self }
         requires whole { IsWhole self.block }

@@ -1,5 +1,6 @@
-ghost use Rattle.std.specs.Prelude.{◌≡◌, ◌<◌, length, slice_set};
+ghost use Rattle.std.specs.Prelude.{◌≡◌, ◌≢◌, ◌<◌, ℕ, List, All, length, slice_set};
 ghost use Rattle.sg_frames.specs.Held.{IsHere, NoneLent, bytes_at, size_of};
+ghost use Rattle.sg_frames.specs.Lending.{with_pair};
 
 use super::*;
 use std::test::Fail;
@@ -13,6 +14,9 @@ fn poke(loan: &mut Loan, at: usize, x: u8)
     loan.bytes_mut()[at] = x;
 }
 
+// Takes what may go to another thread, and be read by several.
+fn crosses<T: Send + Sync>(_value: &T) {}
+
 // Two loans are out at once, two threads write to them, and each comes back with what was written.
 fn poke_in_threads<R: Threads>(rt: &R, frames: &mut Frames, i: u32, w: u32)
     requires page { IsHere frames.old (Place.Page i) }
@@ -25,9 +29,12 @@ fn poke_in_threads<R: Threads>(rt: &R, frames: &mut Frames, i: u32, w: u32)
 {
     let mut page = frames.take(i);
     let mut window = frames.take_window(w);
-    join_mut(rt, &mut || poke(&mut page, 0, 5), &mut || {
-        poke(&mut window, 32_767, 6)
-    });
+    crosses(&page);
+    join_mut(
+        rt,
+        &mut || poke(&mut page, 0, 5),
+        &mut || { poke(&mut window, 32_767, 6) },
+    );
     frames.give(page);
     frames.give(window);
 }
@@ -81,6 +88,72 @@ fn two_threads_write_two_loans(rt: HostRuntime) -> Result<(), Fail> {
     assert_eq!(rt; frames.window(3).last(), Some(&6));
     assert!(rt; frames.window(3).iter().take(32_767).all(|x| *x == 0));
     assert!(rt; frames.page(3).iter().all(|x| *x == 0));
+    frames.end();
+    Ok(())
+}
+
+// Writes all bytes of two slices.
+fn write_both<'a>(pair: (&'a mut [u8], &'a mut [u8]))
+    ensures first { All (λ x. x ≡ 1) pair.exit.0.now }
+    ensures second { All (λ x. x ≡ 2) pair.exit.1.0.now }
+{
+    let (first, second) = pair;
+    first.fill(1);
+    second.fill(2);
+}
+
+// Writes all bytes of two frames at once.
+fn write_pair(frames: &mut Frames, i: u32, j: u32)
+    requires apart { i ≢ j }
+    requires first { IsHere frames.old (Place.Page i) }
+    requires second { IsHere frames.old (Place.Page j) }
+    ensures { (x : List ℕ) × (y : List ℕ) × (frames.new ≡ with_pair frames.old i j x y) × All (λ b. b ≡ 1) x × All (λ b. b ≡ 2) y }
+{
+    write_both(frames.pair_mut(i, j));
+}
+
+// The same, and what a caller needs to go on.
+fn write_two(frames: &mut Frames, i: u32, j: u32)
+    requires apart { i ≢ j }
+    requires first { IsHere frames.old (Place.Page i) }
+    requires second { IsHere frames.old (Place.Page j) }
+    ensures none_lent { NoneLent frames.old → NoneLent frames.new }
+    ensures count { length frames.new.pages ≡ length frames.old.pages }
+    ensures block { frames.new.block ≡ frames.old.block }
+{
+    write_pair(frames, i, j);
+}
+
+// Writes all bytes of a window.
+fn fill_window(frames: &mut Frames, w: u32)
+    requires { IsHere frames.old (Place.Window w) }
+    ensures none_lent { NoneLent frames.old → NoneLent frames.new }
+    ensures counts { (length frames.new.pages ≡ length frames.old.pages) × (length frames.new.windows ≡ length frames.old.windows) }
+    ensures block { frames.new.block ≡ frames.old.block }
+{
+    frames.window_mut(w).fill(3);
+}
+
+#[test]
+fn windows_beside_each_other(rt: HostRuntime) -> Result<(), Fail> {
+    let mut frames = Frames::new(rt.alloc(), 32, 4)?;
+    fill_window(&mut frames, 2);
+    assert!(rt; frames.window(2).iter().all(|x| *x == 3));
+    assert!(rt; frames.window(1).iter().all(|x| *x == 0));
+    assert!(rt; frames.window(3).iter().all(|x| *x == 0));
+    assert!(rt; frames.page(31).iter().all(|x| *x == 0));
+    frames.end();
+    Ok(())
+}
+
+#[test]
+fn two_frames_at_once(rt: HostRuntime) -> Result<(), Fail> {
+    let mut frames = Frames::new(rt.alloc(), 32, 4)?;
+    write_two(&mut frames, 31, 0);
+    write_two(&mut frames, 7, 8);
+    for (i, want) in [(31, 1u8), (0, 2), (7, 1), (8, 2), (30, 0), (9, 0)] {
+        assert!(rt; frames.page(i).iter().all(|x| *x == want), "frame {i}");
+    }
     frames.end();
     Ok(())
 }

@@ -25,7 +25,7 @@ use Rattle.std.specs.Vec.{with_items}
 use Rattle.sg_frames.specs.Ownership.{run_owns}
 use Rattle.sg_frames.specs.contracts.block.Run as Run
 use Rattle.sg_frames.specs.contracts.block.Shell as Shell
-use Rattle.sg_frames.proofs.Walks.{plainly, none, one, none_had, one_had}
+use Rattle.sg_frames.proofs.Walks.{plainly, none, none_had, one_had}
 use Rattle.sg_frames.proofs.Vecs.{Bytes, bytes-laws}
 use Rattle.sg_frames.specs.contracts.block.attach as f
 use Rattle.sg_frames.proofs.block.attach.Statement.{statement}

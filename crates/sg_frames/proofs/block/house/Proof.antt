@@ -24,7 +24,7 @@ use Rattle.std_alloc.specs.declared.vec.lodged.Lodged.{Lodged}
 use Rattle.std_alloc.proofs.vec.lodge.Met as callee
 use Rattle.sg_frames.specs.Ownership.{run_owns}
 use Rattle.sg_frames.specs.contracts.block.Run as Run
-use Rattle.sg_frames.proofs.Walks.{Good, none, tells, none_had}
+use Rattle.sg_frames.proofs.Walks.{Good, tells, none_had}
 use Rattle.sg_frames.proofs.Lodging.{byte_laws, Housed, housed-laws, Lodges, at_lodge, IsLodged, lodge_goes, lodge_gives}
 use Rattle.sg_frames.specs.contracts.block.house as f
 use Rattle.sg_frames.proofs.block.house.Statement.{statement}

@@ -12,5 +12,5 @@ end-requires-clause-none_lent g c =
     let written = here_but-written (λ _. ⊥) made.frames (Page 4) c.fill.new.self has (made.ensures.none_lent.pages 4 has) (here_but-none made.frames made.ensures.none_lent) in
     let taken = here_but-taken (λ _. ⊥) _ c.take-loan.new.self (Page 3) [] c.take-loan.ensures.left written in
     let given = here_but-given (λ _. ⊥) c.take-loan.new.self c.give.new.self c.take-loan.result.place _ c.give.ensures.held c.give.ensures.here
-        (subst (λ (p : Place). HereBut (λ other. (other ≡ p) ⊎ ⊥) c.take-loan.new.self) (sym c.take-loan.ensures.place) taken) in
+    (subst (λ (p : Place). HereBut (λ other. (other ≡ p) ⊎ ⊥) c.take-loan.new.self) (sym c.take-loan.ensures.place) taken) in
     none_lent-here_but c.give.new.self given

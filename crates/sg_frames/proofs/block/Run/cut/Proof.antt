@@ -1,8 +1,8 @@
 -- `cut` parts the bytes. Assumes `Logic`.
-use Rattle.std.proofs.Common.{◌≡◌, ℕ, ◌≤◌, List, [], ◌∷◌, ◌++◌, length, take, drop as drop_l, refl, w64}
+use Rattle.std.proofs.Common.{◌≤◌, List, [], ◌∷◌, ◌++◌, length, take, drop as drop_l, refl}
 use Rattle.std.proofs.raw_atomic.Walks.{proved_at}
 use Rattle.std.proofs.alloc.Calls.{Goes-blank}
-use mir.Val.{Val, vint}
+use mir.Val.{Val}
 use prog.Wp.{WpFn}
 use contract.Monad.{fact}
 use contract.Running.{tables}

@@ -1,5 +1,5 @@
 -- `pair_mut` lends the slots, two of them, and the bytes of each: what is lent last is followed by the frames. Assumes `Logic`.
-use Rattle.std.proofs.Common.{◌≡◌, ◌≢◌, ◌<◌, ℕ, List, [], ◌∷◌, ◌++◌, length, get_or, refl, sym, ap, ◌∙◌, subst, w32, MutBor}
+use Rattle.std.proofs.Common.{◌≡◌, ◌≢◌, ◌<◌, ℕ, List, [], ◌∷◌, ◌++◌, length, get_or, refl, ap, ◌∙◌, w32, MutBor}
 use Rattle.std.proofs.raw_atomic.Walks.{proved, leaves}
 use base.Logic.{id⊢, emp}
 use base.Fml.{Fml, ftrue, flft}

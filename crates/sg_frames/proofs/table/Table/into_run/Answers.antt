@@ -1,4 +1,4 @@
-use Rattle.std.proofs.Common.{◌+◌, ◌*◌, ◌≡◌, ℕ, List, ◌∷◌, [], ◌++◌, length, sym, ap, ◌∙◌, subst}
+use Rattle.std.proofs.Common.{◌+◌, ◌*◌, ◌≡◌, ℕ, List, ◌++◌, length, sym, ap, ◌∙◌, subst}
 use denote.RawPtr.{◌+ₚ◌}
 use Rattle.sg_frames.specs.Pieces.{Piece, start_of}
 use Rattle.sg_frames.proofs.Cutting.{MakeRun, last_full, last_beside, make_run-less}
