@@ -35,7 +35,9 @@ impl Owns for Shell {
 }
 
 impl Move for Shell {
-    ghost own_val = { λ e vs. fex Inside (λ v. fsep (feq ℕ v.vec.len e.len) (fall (List ℕ) (λ xs. fwand (fsep (feq ℕ (length xs) e.len) (run_owns e.ptr xs)) (Fields.own_val (record { vec = with_items v.vec xs }) vs)))) };
+    ghost own_val = { λ e vs. fex Inside (λ v. fsep (feq ℕ v.vec.len e.len)
+        (fall (List ℕ) (λ xs. fwand (fsep (feq ℕ (length xs) e.len) (run_owns e.ptr xs))
+        (Fields.own_val (record { vec = with_items v.vec xs }) vs)))) };
 }
 
 // Takes the bytes out.

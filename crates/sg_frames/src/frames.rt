@@ -25,7 +25,16 @@ impl Model for Frames {
 
     ghost Value = { Held };
 
-    ghost view = { λ f. record { block = record { pages = f.pages.spots; windows = f.windows.spots; rest = f.rest; whole = f.shell }; pages = f.pages.bytes; windows = f.windows.bytes } };
+    ghost view = { λ f. record {
+      block = record {
+        pages = f.pages.spots;
+        windows = f.windows.spots;
+        rest = f.rest;
+        whole = f.shell;
+      };
+      pages = f.pages.bytes;
+      windows = f.windows.bytes;
+    } };
 }
 
 // Zeros for all frames and windows, and room for their slots.

@@ -92,7 +92,8 @@ impl Slot {
         requires apart { i ≢ j }
         requires first { i < length slots.old }
         requires second { j < length slots.old }
-        ensures* writes_back { sem 𝓛 (LendsBoth (Array slot_row 0) slot_row slot_row slots.entry result (with_two slots.old i j)) }
+        ensures* writes_back { sem 𝓛 (LendsBoth (Array slot_row 0) slot_row slot_row
+            slots.entry result (with_two slots.old i j)) }
         ensures first { result.0.now ≡ slice_index_or slots.old i no_piece }
         ensures second { result.1.now ≡ slice_index_or slots.old j no_piece }
     {
