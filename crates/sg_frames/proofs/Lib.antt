@@ -1,0 +1,10 @@
+mod Cutting
+mod Entries
+mod Halves
+pub mod Lent
+mod Lodging
+mod Pairs
+mod Runs
+mod Through
+mod Vecs
+mod Walks
