@@ -3,6 +3,7 @@ mod Entries
 mod Halves
 pub mod Lent
 mod Lodging
+mod Lying
 mod Pairs
 mod Runs
 mod Through

@@ -1,44 +1,59 @@
 -- Two page frames that are lent at once.
-use Rattle.std.proofs.Common.{◌≡◌, ◌<◌, ℕ, List, [], length, map, get_or, set, sym, ap, ◌∙◌, subst, arith, length-set}
-use Rattle.std.proofs.lemmas.List.{take_at, length-map, get_or-map, get_or-set_other, map-set}
-use Rattle.std.proofs.Math.Seq.{map-set_same}
+use Rattle.std.proofs.Common.{◌≡◌, ◌<◌, ℕ, List, [], length, get_or, set, sym, ap, ◌∙◌, subst, arith, length-set}
+use Rattle.std.proofs.lemmas.List.{take_at}
 use Rattle.std.proofs.lemmas.Grind.{common_steps}
 use Rattle.std.specs.List.{refill}
+use Rattle.std.specs.Ptr.{Ptr, null_ptr}
 use Rattle.sg_frames.specs.declared.place.Place.TheVariants.{Page}
 use Rattle.sg_frames.specs.Held.{Held, IsHere}
-use Rattle.sg_frames.specs.Pieces.{Piece, no_piece, spot_of, bytes_of, rewritten}
+use Rattle.sg_frames.specs.Pieces.{Piece, no_piece, bytes_on, lying, rewritten}
 use Rattle.sg_frames.specs.Slots.{with_new, with_two}
 use Rattle.sg_frames.specs.Tables.{ShowsSlots, with_slots}
 use Rattle.sg_frames.specs.Lending.{with_pair, pages_of, with_pages}
+use Rattle.sg_frames.proofs.Lying.{on-same, on-some, lying-at, lying-set, length-lying}
 
 -- a page frame that is here is one of the list
 pub below_pages : (held : Held) (i : ℕ) → IsHere held (Page i) → i < length held.pages
 below_pages held i here = grind (arith, common_steps)
 
--- and one of the slots
-pub below_shown : (held : Held) (slots : List Piece) (i : ℕ) → ShowsSlots (pages_of held) slots → IsHere held (Page i) → i < length slots
-below_shown held slots i shown here = subst (λ n. i < n) (sym (ap length shown.bytes) ∙ length-map slots bytes_of) (below_pages held i here)
+module _ (held : Held) (slots : List Piece) (shown : ShowsSlots (pages_of held) slots) where
+  many : length held.pages ≡ length slots
+  many = sym (ap length shown.bytes) ∙ length-lying held.block.pages slots (sym shown.many)
 
--- what a slot's bytes are
-pub bytes_shown : (held : Held) (slots : List Piece) (i : ℕ) (piece : Piece) → ShowsSlots (pages_of held) slots → i < length slots → piece ≡ get_or slots i no_piece → piece.bytes ≡ get_or held.pages i []
-bytes_shown held slots i piece shown below is = ap bytes_of is ∙ sym (get_or-map bytes_of slots i no_piece [] below) ∙ ap (λ (xs : List (List ℕ)). get_or xs i []) shown.bytes
+  -- and one of the slots
+  pub below_shown : (i : ℕ) → IsHere held (Page i) → i < length slots
+  below_shown i here = subst (λ n. i < n) many (below_pages held i here)
 
--- the slots that were lent, written back with two of them rewritten, are the frames with that pair
-pub written_pair : (held : Held) (i j : ℕ) (slots : List Piece) (a b : Piece) (x y : List ℕ) → ShowsSlots (pages_of held) slots → i < length slots → j < length slots
-    → a ≡ get_or slots i no_piece → b ≡ get_or slots j no_piece → (i ≡ j → ⊥)
-    → with_pages held (with_slots (pages_of held) (with_two slots i j (with_new a x) (with_new b y))) ≡ with_pair held i j x y
-written_pair held i j slots a b x y shown below_i below_j a_is b_is apart =
-    let new : List Piece = with_two slots i j (with_new a x) (with_new b y) in
-    let many : length slots ≡ length held.pages = sym (length-map slots bytes_of) ∙ ap length shown.bytes in
-    let long : length new ≡ length held.pages = length-set (set slots i (with_new a x)) j (with_new b y) ∙ length-set slots i (with_new a x) ∙ many in
-    let b_there : b ≡ get_or (set slots i (with_new a x)) j no_piece = b_is ∙ sym (get_or-set_other slots i j (with_new a x) no_piece (λ same. apart (sym same))) in
-    let same_spots : map spot_of new ≡ held.block.pages =
-    map-set_same spot_of (set slots i (with_new a x)) j (with_new b y) no_piece (ap spot_of b_there) ∙ map-set_same spot_of slots i (with_new a x) no_piece (ap spot_of a_is) ∙ shown.spots in
-    let spots : refill (length held.pages) held.block.pages (map spot_of new) ≡ held.block.pages = take_at (map spot_of new) _ (length held.pages) (length-map new spot_of ∙ long) ∙ same_spots in
-    let a_bytes : a.bytes ≡ get_or held.pages i [] = bytes_shown held slots i a shown below_i a_is in
-    let b_bytes : b.bytes ≡ get_or held.pages j [] = bytes_shown held slots j b shown below_j b_is in
-    let new_bytes : map bytes_of new ≡ set (set (map bytes_of slots) i (rewritten a.bytes x)) j (rewritten b.bytes y) =
-    map-set bytes_of (set slots i (with_new a x)) j (with_new b y) ∙ ap (λ (xs : List (List ℕ)). set xs j (rewritten b.bytes y)) (map-set bytes_of slots i (with_new a x)) in
-    let bytes : refill (length held.pages) held.pages (map bytes_of new) ≡ set (set held.pages i (rewritten (get_or held.pages i []) x)) j (rewritten (get_or held.pages j []) y) =
-    take_at (map bytes_of new) _ (length held.pages) (length-map new bytes_of ∙ long) ∙ new_bytes ∙ λ k. set (set (shown.bytes k) i (rewritten (a_bytes k) x)) j (rewritten (b_bytes k) y) in
-    λ k. record held { block = record held.block { pages = spots k }; pages = bytes k }
+  piece_at : (i : ℕ) (piece : Piece) → piece ≡ get_or slots i no_piece → bytes_on (get_or held.block.pages i null_ptr) piece.spot piece.bytes ≡ get_or held.pages i []
+  piece_at i piece is =
+      (λ k. bytes_on (get_or held.block.pages i null_ptr) (is k).spot (is k).bytes) ∙ sym (lying-at held.block.pages slots i (sym shown.many)) ∙ ap (λ (xs : List (List ℕ)). get_or xs i []) shown.bytes
+
+  -- which lies at its place
+  pub spot_shown : (i : ℕ) (piece : Piece) → IsHere held (Page i) → piece ≡ get_or slots i no_piece → get_or held.block.pages i null_ptr ≡ piece.spot
+  spot_shown i piece here is =
+      let some : 0 < length (get_or held.pages i []) = omega (arith, here) in
+      on-some (get_or held.block.pages i null_ptr) piece.spot piece.bytes (subst (λ (xs : List ℕ). 0 < length xs) (sym (piece_at i piece is)) some)
+
+  -- what a slot's bytes are
+  pub bytes_shown : (i : ℕ) (piece : Piece) → IsHere held (Page i) → piece ≡ get_or slots i no_piece → piece.bytes ≡ get_or held.pages i []
+  bytes_shown i piece here is = sym (on-same piece.spot piece.bytes) ∙ ap (λ (p : Ptr). bytes_on p piece.spot piece.bytes) (sym (spot_shown i piece here is)) ∙ piece_at i piece is
+
+  -- the slots that were lent, written back with two of them rewritten, are the frames with that pair
+  pub written_pair : (i j : ℕ) (a b : Piece) (x y : List ℕ) → IsHere held (Page i) → IsHere held (Page j) → a ≡ get_or slots i no_piece → b ≡ get_or slots j no_piece
+      → with_pages held (with_slots (pages_of held) (with_two slots i j (with_new a x) (with_new b y))) ≡ with_pair held i j x y
+  written_pair i j a b x y here_i here_j a_is b_is =
+      let spots : List Ptr = held.block.pages in
+      let one : List Piece = set slots i (with_new a x) in
+      let new : List Piece = set one j (with_new b y) in
+      let one_long : length spots ≡ length one = sym shown.many ∙ sym (length-set slots i (with_new a x)) in
+      let new_long : length spots ≡ length new = one_long ∙ sym (length-set one j (with_new b y)) in
+      let a_new : bytes_on (get_or spots i null_ptr) a.spot (rewritten a.bytes x) ≡ rewritten (get_or held.pages i []) x =
+      ap (λ (p : Ptr). bytes_on p a.spot (rewritten a.bytes x)) (spot_shown i a here_i a_is) ∙ on-same a.spot (rewritten a.bytes x) ∙ ap (λ (xs : List ℕ). rewritten xs x) (bytes_shown i a here_i a_is) in
+      let b_new : bytes_on (get_or spots j null_ptr) b.spot (rewritten b.bytes y) ≡ rewritten (get_or held.pages j []) y =
+      ap (λ (p : Ptr). bytes_on p b.spot (rewritten b.bytes y)) (spot_shown j b here_j b_is) ∙ on-same b.spot (rewritten b.bytes y) ∙ ap (λ (xs : List ℕ). rewritten xs y) (bytes_shown j b here_j b_is) in
+      let lies : lying spots new ≡ set (set held.pages i (rewritten (get_or held.pages i []) x)) j (rewritten (get_or held.pages j []) y) =
+      lying-set spots one j (with_new b y) one_long ∙ ap (λ (xs : List (List ℕ)). set xs j (bytes_on (get_or spots j null_ptr) b.spot (rewritten b.bytes y))) (lying-set spots slots i (with_new a x) (sym shown.many))
+      ∙ λ k. set (set (shown.bytes k) i (a_new k)) j (b_new k) in
+      let long : length (lying spots new) ≡ length held.pages = length-lying spots new new_long ∙ sym new_long ∙ sym shown.many ∙ sym many in
+      let bytes : refill (length held.pages) held.pages (lying spots new) ≡ lying spots new = take_at (lying spots new) _ (length held.pages) long in
+      λ k. record held { pages = (bytes ∙ lies) k }

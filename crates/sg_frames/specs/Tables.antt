@@ -1,8 +1,8 @@
 -- How a table lends the bytes of one of its slots, and all slots.
-use Rattle.std.specs.Prelude.{◌≡◌, ℕ, List, [], length, map, slice_index_or}
+use Rattle.std.specs.Prelude.{◌≡◌, ℕ, List, [], length, slice_index_or}
 use Rattle.std.specs.Borrow.{Lends, MutBor, Fml, Array, u8}
 use Rattle.std.specs.List.{refill}
-use Rattle.sg_frames.specs.Pieces.{Piece, Pieces, spot_of, bytes_of, rewritten, with_entry}
+use Rattle.sg_frames.specs.Pieces.{Piece, Pieces, rewritten, with_entry, lying}
 use Rattle.sg_frames.specs.Slots.{slot_row}
 pub use Rattle.sg_frames.specs.contracts.table.Table.{the_row as table_row}
 
@@ -12,15 +12,12 @@ LendsEntry table i slice = Lends table_row (Array u8 0) table slice (λ bytes. w
 
 -- the table with the slots set, as far as there are so many
 abbrev pub with_slots : Pieces → List Piece → Pieces
-with_slots pieces slots = record {
-  spots = refill (length pieces.bytes) pieces.spots (map spot_of slots);
-  bytes = refill (length pieces.bytes) pieces.bytes (map bytes_of slots);
-}
+with_slots pieces slots = record pieces { bytes = refill (length pieces.bytes) pieces.bytes (lying pieces.spots slots) }
 
 abbrev pub LendsSlots : MutBor Pieces → MutBor (List Piece) → Fml
 LendsSlots table slots = Lends table_row (Array slot_row 0) table slots (with_slots table.now)
 
 -- these are the table's slots
 pub record ShowsSlots (pieces : Pieces) (slots : List Piece) : Type 0 where
-  pub spots : map spot_of slots ≡ pieces.spots
-  pub bytes : map bytes_of slots ≡ pieces.bytes
+  pub many : length slots ≡ length pieces.spots
+  pub bytes : lying pieces.spots slots ≡ pieces.bytes

@@ -21,7 +21,7 @@ pub struct Frames {
 }
 
 impl Model for Frames {
-    ghost use Rattle.sg_frames.specs.Held.{Held};
+    ghost use Rattle.sg_frames.specs.Held.{Held, IsWhole};
 
     ghost Value = { Held };
 
@@ -35,6 +35,13 @@ impl Model for Frames {
       pages = f.pages.bytes;
       windows = f.windows.bytes;
     } };
+
+    ghost invariant = { λ f. IsWhole (record {
+      pages = f.pages.spots;
+      windows = f.windows.spots;
+      rest = f.rest;
+      whole = f.shell;
+    }) };
 }
 
 // Zeros for all frames and windows, and room for their slots.
@@ -230,7 +237,6 @@ impl Frames {
     /// Puts the block together again and frees it. No frame or window is lent.
     pub fn end(self)
         requires none_lent { NoneLent self }
-        requires whole { IsWhole self.block }
     {
         let Frames {
             shell,

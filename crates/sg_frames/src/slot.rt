@@ -10,23 +10,19 @@ use std::marker::Model;
 use std::mem;
 use std_alloc::vec::Lodged;
 
-// Where it lies, and its memory, which is an empty `Vec` while it is lent.
+// Its memory, which is an empty `Vec` while it is lent.
 #[derive(Drop)]
 pub(crate) struct Slot {
-    pub(crate) spot: *const u8,
-    pub(crate) memory: Vec<u8, Lodged>,
+    memory: Vec<u8, Lodged>,
 }
 
 impl Model for Slot {
-    ghost use Rattle.std.specs.Prelude.{◌≡◌, ◌<◌, length};
     ghost use Rattle.std.specs.Vec.{vec_ptr};
     ghost use Rattle.sg_frames.specs.Pieces.{Piece};
 
     ghost Value = { Piece };
 
-    ghost view = { λ s. record { spot = s.spot; bytes = s.memory.items } };
-
-    ghost invariant = { λ s. 0 < length s.memory.items → vec_ptr s.memory ≡ s.spot };
+    ghost view = { λ s. record { spot = vec_ptr s.memory; bytes = s.memory.items } };
 }
 
 impl Slot {
@@ -43,8 +39,14 @@ impl Slot {
         ensures bytes { result.bytes ≡ run.items }
     {
         let memory = house(start, at, size, run);
-        let spot = memory.as_ptr();
-        Slot { spot, memory }
+        Slot { memory }
+    }
+
+    // Where its memory lies.
+    pub(crate) fn spot(&self) -> *const u8
+        ensures { result ≡ self.now.spot }
+    {
+        self.memory.as_ptr()
     }
 
     // The run again.
@@ -53,7 +55,7 @@ impl Slot {
         ensures spot { result.ptr ≡ self.spot }
         ensures bytes { result.items ≡ self.bytes }
     {
-        let Slot { spot: _, memory } = self;
+        let Slot { memory } = self;
         vacate(memory)
     }
 
@@ -72,17 +74,16 @@ impl Slot {
 
     // Moves the memory out.
     pub(crate) fn take(&mut self) -> Vec<u8, Lodged>
-        ensures spot { 0 < length self.old.bytes → vec_ptr result ≡ self.old.spot }
+        ensures spot { vec_ptr result ≡ self.old.spot }
         ensures bytes { result.items ≡ self.old.bytes }
-        ensures left { self.new ≡ record self.old { bytes = [] } }
+        ensures left { self.new.bytes ≡ [] }
     {
         mem::replace(&mut self.memory, Vec::new(Lodged))
     }
 
-    // Moves memory in, which lies where the slot says.
+    // Moves memory in.
     pub(crate) fn put(&mut self, memory: Vec<u8, Lodged>)
-        requires { vec_ptr memory ≡ self.old.spot }
-        ensures { self.new ≡ record self.old { bytes = memory.items } }
+        ensures { self.new ≡ record { spot = vec_ptr memory; bytes = memory.items } }
     {
         self.memory = memory;
     }

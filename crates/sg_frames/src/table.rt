@@ -11,17 +11,24 @@ use crate::slot::Slot;
 use std::marker::Model;
 use std_alloc::vec::Lodged;
 
+// The slots of the pieces that begin at `start`, `size` bytes each, side by side. A slot that holds no
+// memory of its own place counts as lent.
 pub(crate) struct Table {
+    start: *const u8,
+    size: usize,
     slots: Vec<Slot>,
 }
 
 impl Model for Table {
-    ghost use Rattle.std.specs.Prelude.{map};
-    ghost use Rattle.sg_frames.specs.Pieces.{Pieces, spot_of, bytes_of};
+    ghost use Rattle.std.specs.Prelude.{length};
+    ghost use Rattle.sg_frames.specs.Pieces.{Pieces, spots_from, lying};
 
     ghost Value = { Pieces };
 
-    ghost view = { λ t. record { spots = map spot_of t.slots.items; bytes = map bytes_of t.slots.items } };
+    ghost view = { λ t. record {
+      spots = spots_from t.start t.size (length t.slots.items);
+      bytes = lying (spots_from t.start t.size (length t.slots.items)) t.slots.items;
+    } };
 }
 
 impl Table {
@@ -42,6 +49,7 @@ impl Table {
         requires empty { vec_len slots ≡ 0 }
         requires room { count ≤ vec_capacity slots }
         requires some { 0 < size }
+        requires not_empty { 0 < count }
         requires small { at + count * size < 2 ^ 63 }
         requires spot { run.ptr ≡ start +ₚ at }
         requires size { count * size ≤ length run.items }
@@ -61,7 +69,8 @@ impl Table {
             slots.push_reserved(Slot::new(start, here, size, piece));
             rest = others;
         }
-        (Table { slots }, rest)
+        let start = slots[0].spot();
+        (Table { start, size, slots }, rest)
     }
 
     // Joins all pieces and the run behind them.
@@ -72,7 +81,11 @@ impl Table {
         ensures start { result.ptr ≡ start_of self.spots run.ptr }
         ensures size { length result.items ≡ length run.items + length self.spots * size }
     {
-        let Table { mut slots } = self;
+        let Table {
+            start: _,
+            size: _,
+            mut slots,
+        } = self;
         let mut run = run;
         'slots: while let Some(slot) = slots.pop() {
             prove!(slot.bytes().len() == size);
@@ -82,14 +95,14 @@ impl Table {
     }
 
     pub(crate) fn bytes(&self, i: u32) -> &[u8]
-        requires { i < length self.now.bytes }
+        requires { 0 < length (slice_index_or self.now.bytes i []) }
         ensures { result.now ≡ slice_index_or self.now.bytes i [] }
     {
         self.slots[i as usize].bytes()
     }
 
     pub(crate) fn bytes_mut(&mut self, i: u32) -> &mut [u8]
-        requires { i < length self.old.bytes }
+        requires { 0 < length (slice_index_or self.old.bytes i []) }
         ensures* writes_back { sem 𝓛 (LendsEntry self.entry i result) }
         ensures value { result.now ≡ slice_index_or self.old.bytes i [] }
     {

@@ -85,8 +85,8 @@ pair_mut_spec 𝓤 𝓛 𝓜 𝓡 wired =
     -- [the slots; lends₁; the token; nothing]
     let G₂ = triple_of 𝓛 g₂.signature (g₂.spec 𝓛 𝓜.mem 𝓡.returns) in
     let z₂ : G₂.Ghost = ((κs, qs, tt, (s, (i, (j, tt))), (mut_slice_vals s, (uint_vals w32 i, (uint_vals w32 j, tt)))), tt) in
-    let below_i : i < length s.now = below_shown held s.now i shown here_i in
-    let below_j : j < length s.now = below_shown held s.now j shown here_j in
+    let below_i : i < length s.now = below_shown held s.now shown i here_i in
+    let below_j : j < length s.now = below_shown held s.now shown j here_j in
     nothing ! $ owned ! u32 _ (uint_Makes 𝓛 w32) j _ (refl, are.1.1.0.1) $ join ! $ owned ! u32 _ (uint_Makes 𝓛 w32) i _ (refl, are.1.0.1) $ join ! $ move ! (1 ∷ 0 ∷ []) $ join ! $
     move ! (2 ∷ 3 ∷ 0 ∷ []) $ join ! $ join ! $
     use0 𝓛 (raw (fact 𝓤 (j < length s.now))) (fact_i 𝓤 _ (emp 𝓤) below_j) $ use0 𝓛 (raw (fact 𝓤 (i < length s.now))) (fact_i 𝓤 _ (emp 𝓤) below_i) $ join ! $ use0 𝓛 (raw (fact 𝓤 (i ≢ j))) (fact_i 𝓤 _ (emp 𝓤) apart) $ join ! $
@@ -134,9 +134,9 @@ pair_mut_spec 𝓤 𝓛 𝓜 𝓡 wired =
     move ! (6 ∷ 5 ∷ 4 ∷ 1 ∷ []) $ group ! 4 $
     use1 𝓛 (‵ (Both (λ x' w'. Pages (with_two s.now i j (with_new p.0.now x') (with_new p.1.now w')))))
     (both_through 𝓛 Fr (Array Sr 0) Sr Sr (Array u8 0) (Array u8 0) Pages (with_two s.now i j) (with_new p.0.now) (with_new p.1.now) r.ghost_name s.ghost_name p.0.ghost_name p.1.ghost_name x.ghost_name w.ghost_name) $
-    rewrite ! 0 (λ (F : List ℕ → List ℕ → Fr.Denot). ‵ (Both F)) (λ k x' w'. written_pair held i j s.now p.0.now p.1.now x' w' shown below_i below_j first_is second_is apart k) refl $
+    rewrite ! 0 (λ (F : List ℕ → List ℕ → Fr.Denot). ‵ (Both F)) (λ k x' w'. written_pair held s.now shown i j p.0.now p.1.now x' w' here_i here_j first_is second_is k) refl $
     -- [lends; the two slices; the token; nothing]
-    use0 𝓛 (raw (fact 𝓤 (w.now ≡ bytes_at held (Page j)))) (fact_i 𝓤 _ (emp 𝓤) (w_is ∙ bytes_shown held s.now j p.1.now shown below_j second_is)) $
-    use0 𝓛 (raw (fact 𝓤 (x.now ≡ bytes_at held (Page i)))) (fact_i 𝓤 _ (emp 𝓤) (x_is ∙ bytes_shown held s.now i p.0.now shown below_i first_is)) $ join ! $ move ! (1 ∷ 0 ∷ []) $ join ! $
+    use0 𝓛 (raw (fact 𝓤 (w.now ≡ bytes_at held (Page j)))) (fact_i 𝓤 _ (emp 𝓤) (w_is ∙ bytes_shown held s.now shown j p.1.now here_j second_is)) $
+    use0 𝓛 (raw (fact 𝓤 (x.now ≡ bytes_at held (Page i)))) (fact_i 𝓤 _ (emp 𝓤) (x_is ∙ bytes_shown held s.now shown i p.0.now here_i first_is)) $ join ! $ move ! (1 ∷ 0 ∷ []) $ join ! $
     nothing ! $ nothing ! $ fjoin ! $ nothing ! $ fjoin ! $ nothing ! $ fjoin ! $
     move ! (3 ∷ 4 ∷ 0 ∷ 2 ∷ 1 ∷ []) $ join ! $ by ! (leaves 𝓛 f.ended stayed c y v (x, w) (tt, (tt, (tt, tt))) (tt, (tt, (tt, tt)))))))))))))))))))))))))))))))))

@@ -2,6 +2,7 @@ use Rattle.std.proofs.Common.{◌+◌, ◌*◌, ◌≡◌, ℕ, List, ◌++◌, 
 use denote.RawPtr.{◌+ₚ◌}
 use Rattle.sg_frames.specs.Pieces.{Piece, start_of}
 use Rattle.sg_frames.proofs.Cutting.{MakeRun, last_full, last_beside, make_run-less}
+use Rattle.sg_frames.proofs.Entries.{make_run-all}
 use Rattle.sg_frames.proofs.table.Table.into_run.Goals as goal
 
 pub prove-unreachable-requires : goal.prove-unreachable-requires
@@ -23,3 +24,6 @@ slots-preserved c =
     let make = subst (λ (xs : List Piece). MakeRun c.args.size spot total xs c.slots.run) c.in-Some.ensures.items c.slots.invariant in
     make_run-less c.args.size spot total c.pop.new.self.items c.slots.run c.in-Some.slot make c.join-run.result
     (c.join-run.ensures.0 ∙ c.into_run.ensures.spot) (c.join-run.ensures.1 ∙ ap (λ (xs : List ℕ). xs ++ c.slots.run.items) c.into_run.ensures.bytes)
+
+pub slots-init : goal.slots-init
+slots-init c = make_run-all c.self.inside.start c.self.inside.size c.self.inside.slots.items c.args.self c.self.view_is c.args.size c.args.run c.requires.some c.requires.none_lent c.requires.spots

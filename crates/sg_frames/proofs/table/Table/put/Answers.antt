@@ -1,9 +1,19 @@
-use Rattle.std.proofs.Common.{ap, ◌∙◌}
-use Rattle.sg_frames.specs.Pieces.{spot_of, bytes_of, with_entry}
-use Rattle.sg_frames.proofs.Entries.{table_of-set}
+use Rattle.std.proofs.Common.{ap, sym, get_or, ◌∙◌, arith}
+use Rattle.std.specs.Ptr.{Ptr, null_ptr}
+use Rattle.std.specs.Vec.{vec_ptr}
+use Rattle.sg_frames.specs.Pieces.{with_entry, bytes_on}
+use Rattle.sg_frames.proofs.Lying.{on-same}
+use Rattle.sg_frames.proofs.Entries.{below_slots, table_of-set}
 use Rattle.sg_frames.proofs.table.Table.put.Goals as goal
+
+pub index_mut-slot-requires : goal.index_mut-slot-requires
+index_mut-slot-requires c =
+    let t = c.self.inside in let below = below_slots t.start t.size t.slots.items c.args.self.now c.self.view_is c.args.i c.requires.some in
+    omega (arith, below, t.slots.ok.0)
 
 pub returns : goal.returns
 returns c =
-    table_of-set c.self.inside.slots.items c.args.i c.index_mut-slot.result.now c.put.new.self c.index_mut-slot.ensures.value (ap spot_of c.put.ensures)
-    ∙ λ k. with_entry (c.self.view_is k) c.args.i (bytes_of (c.put.ensures k))
+    let t = c.self.inside in let i = c.args.i in let memory = c.args.memory in
+    table_of-set t.start t.size t.slots.items i c.put.new.self
+    ∙ λ k. with_entry (c.self.view_is k) i (((λ j. bytes_on (get_or (c.self.view_is j).spots i null_ptr) (c.put.ensures j).spot (c.put.ensures j).bytes)
+    ∙ ap (λ (p : Ptr). bytes_on p (vec_ptr memory) memory.items) (sym c.requires.spot) ∙ on-same (vec_ptr memory) memory.items) k)
