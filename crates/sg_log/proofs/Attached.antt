@@ -7,7 +7,7 @@ use Rattle.sg_log.specs.Faults.{WalkFails}
 use Rattle.sg_log.specs.declared.fault.LogFault.{LogFault}
 use Rattle.sg_log.specs.declared.fault.LogFault.TheVariants.{Disk, LogEnd, Damaged, Memory}
 use Rattle.sg_log.specs.Formed.{IsDamagedAt}
-use Rattle.sg_log.specs.Frames.{LOG_END, Frames, gate_after, records_of, HasRecords}
+use Rattle.sg_log.specs.Frames.{LOG_END, Frames, Numbered, numbered_in, gate_after, HasRecords}
 use Rattle.sg_log.specs.Held.{Tail, Holds}
 use Rattle.sg_log.specs.Reads.{OnlyReads}
 use Rattle.sg_log.proofs.Chain.{damaged_once}
@@ -19,24 +19,26 @@ abbrev pub attached : Area → (base gate : ℕ) → Tail
 attached area base gate = record { area = area; base = base; gate = base + gate; buffer = [] }
 
 module _ (told : Bool) (area : Area) (base gate : ℕ) (old new : View) (sure : IsTrue told) (reads : OnlyReads told old new) (within : base + gate ≤ LOG_END) (frames : List (List Record)) (stand : Frames (old.now area).seen 0 frames) (there : gate ≡ gate_after 0 frames) where
-  pub found_records : HasRecords (old.now area).seen base (base + gate) (records_of frames)
+  pub found_records : HasRecords (old.now area).seen base (base + gate) (numbered_in base frames)
   found_records = record { frames = frames; stand = stand; all = refl; at_gate = ap (λ (n : ℕ). base + n) there; within = within }
 
-  pub found_holds : (old.now area).pending ≡ [] → Holds new (attached area base gate) (records_of frames) []
+  pub found_holds : (old.now area).pending ≡ [] → Holds new (attached area base gate) (numbered_in base frames) []
   found_holds settled = holds_along {v = old} {w = new} {log = attached area base gate} (reads.unchanged sure) (record {
     frames = frames;
     stand = stand;
     all = refl;
     settled = settled;
     at_gate = ap (λ (n : ℕ). base + n) there;
+    body = [];
     waiting = refl;
     fields = tt;
+    numbers = refl;
     within = within;
   })
 
   -- these are all that the area has
-  pub found_these : (old.now area).pending ≡ [] → (ds : List Record) (to : ℕ) → HasRecords (old.now area).seen base to ds → (base + gate ≡ to) × Holds new (attached area base gate) ds []
-  found_these settled ds to has = (HasRecords-gate found_records has, subst (λ (rs : List Record). Holds new (attached area base gate) rs []) (HasRecords-one found_records has) (found_holds settled))
+  pub found_these : (old.now area).pending ≡ [] → (ds : List Numbered) (to : ℕ) → HasRecords (old.now area).seen base to ds → (base + gate ≡ to) × Holds new (attached area base gate) ds []
+  found_these settled ds to has = (HasRecords-gate found_records has, subst (λ (rs : List Numbered). Holds new (attached area base gate) rs []) (HasRecords-one found_records has) (found_holds settled))
 
 module _ (told : Bool) (area : Area) (base : ℕ) (old new : View) where
   -- a walk answers a damage only where there is one

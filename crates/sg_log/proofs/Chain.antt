@@ -8,7 +8,7 @@ use Rattle.sg_log.specs.Faults.{FrameFails, WalkFails}
 use Rattle.sg_log.specs.declared.fault.LogFault.{LogFault}
 use Rattle.sg_log.specs.declared.fault.LogFault.TheVariants.{Disk, LogEnd, Damaged, Memory}
 use Rattle.sg_log.specs.Formed.{IsFormed, AreFormed, IsUnformed, IsDamagedAt}
-use Rattle.sg_log.specs.Frames.{LOG_END, text_of, Frames, gate_after, HasRecords}
+use Rattle.sg_log.specs.Frames.{LOG_END, text_of, Frames, Numbered, gate_after, HasRecords}
 use Rattle.sg_log.specs.Reads.{OnlyReads}
 use Rattle.sg_record.proofs.Spelling.{spelled_all-one}
 use Rattle.sg_log.proofs.Formed.{formed_length, formed_body}
@@ -72,7 +72,7 @@ one_damage f base at (rs ∷ lead) (ss ∷ other) h u within k v among =
     (subst (λ (n : ℕ). base + gate_after (at + 1 + n) lead ≤ LOG_END) same within)
     k.1 v among
 
-pub undamaged : {f : Bytes} {base gate at : ℕ} {ds : List Record} → HasRecords f base gate ds → IsDamagedAt f base at → ⊥
+pub undamaged : {f : Bytes} {base gate at : ℕ} {ds : List Numbered} → HasRecords f base gate ds → IsDamagedAt f base at → ⊥
 undamaged {f = f} {base = base} h d = no_damage f base 0 d.frames h.frames d.lead (subst (IsUnformed f base) d.there d.unformed) h.stand (omega (arith, h.at_gate, h.within))
 
 pub damaged_once : {f : Bytes} {base at to : ℕ} → IsDamagedAt f base at → IsDamagedAt f base to → at ≡ to

@@ -1,15 +1,16 @@
 -- Where the records stand that a log holds.
-use Rattle.std.proofs.Common.{◌≡◌, ◌⊎◌, inl, inr, ⊎_elim, ℕ, ◌+◌, ◌-◌, ◌<◌, ◌≤◌, List, [], ◌∷◌, ◌++◌, length, Option, Some, refl, sym, ◌∙◌, ap, subst, arith, length-append, append_assoc}
+use Rattle.std.proofs.Common.{add-zero, map, ◌≡◌, ◌⊎◌, inl, inr, ⊎_elim, ℕ, ◌+◌, ◌-◌, ◌<◌, ◌≤◌, List, [], ◌∷◌, ◌++◌, length, Option, Some, refl, sym, ◌∙◌, ap, subst, arith, length-append, append_assoc}
+use Rattle.std.proofs.lemmas.List.{map-append}
 use Rattle.sg_disk.specs.Disk.{Bytes, State, View, window}
 use Rattle.sg_record.specs.Records.{Record, spelled, spelled_all, IsRecord, AreRecords}
 use Rattle.sg_record.proofs.Spelling.{spelled-long}
 use Rattle.sg_log.specs.Formed.{IsFormed}
-use Rattle.sg_log.specs.Frames.{text_of, Frames, gate_after}
+use Rattle.sg_log.specs.Frames.{Numbered, numbered_from, numbered_in, text_of, Frames, gate_after}
 use Rattle.sg_log.specs.Held.{Tail, Holds, tail_of}
 use Rattle.sg_log.specs.declared.place.Place.{Place}
 use Rattle.sg_log.specs.Places.{Placed, places_from, places_in, HoldsAt, first_of, StandsAt, IsDurable, IsWaiting, IsThere, IsSizeBehind, StandBehind}
 use Rattle.sg_log.proofs.Formed.{formed_body}
-use Rattle.sg_log.proofs.Holding.{text-length, tail_at_gate, tail_behind, tail_empty}
+use Rattle.sg_log.proofs.Holding.{text-length, tail_at_gate, tail_behind, tail_empty, forced_all}
 use Rattle.sg_log.proofs.Steps.{gate_later}
 use Rattle.sg_log.proofs.Windows.{window_front, window_back}
 
@@ -163,7 +164,7 @@ there_durable v log gate rs before r after lsn formed split place within =
     }
 
 -- and a waiting one in the buffer
-pub there_waiting : {v : View} {log : Tail} {ds ps : List Record} (h : Holds v log ds ps) (gate : ℕ) (before : List Record) (r : Record) (after : List Record) (lsn : ℕ) → ps ≡ before ++ r ∷ after → lsn ≡ log.base + (gate + 5 + length (spelled_all before))
+pub there_waiting : {v : View} {log : Tail} {ds ps : List Numbered} (h : Holds v log ds ps) (gate : ℕ) (before : List Record) (r : Record) (after : List Record) (lsn : ℕ) → h.body ≡ before ++ r ∷ after → lsn ≡ log.base + (gate + 5 + length (spelled_all before))
     → log.gate ≡ log.base + gate → IsWaiting log lsn r
 there_waiting h gate before r after lsn split place at_gate = record {
   fields = AreRecords-at before r after (subst AreRecords split h.fields);
@@ -209,9 +210,10 @@ pub record Stands (v : View) (log : Tail) (p : Placed) (rest : List Placed) : Ty
 frame_long : (gate : ℕ) (rs : List Record) → gate + 1 + length (text_of (spelled_all rs)) ≡ gate + 5 + length (spelled_all rs)
 frame_long gate rs = omega (arith, text-length (spelled_all rs))
 
-pub stands : {v : View} {log : Tail} {ds ps : List Record} {held : List Placed} (h : HoldsAt v log ds ps held) (front : List Placed) (p : Placed) (rest : List Placed) → held ≡ front ++ p ∷ rest → Stands v log p rest
-stands {v = v} {log = log} {ds = ds} {ps = ps} h front p rest e =
+pub stands : {v : View} {log : Tail} {ds ps : List Numbered} {held : List Placed} (h : HoldsAt v log ds ps held) (front : List Placed) (p : Placed) (rest : List Placed) → held ≡ front ++ p ∷ rest → Stands v log p rest
+stands {v = v} {log = log} h front p rest e =
     let f = (v.now log.area).seen in
+    let ps : List Record = h.holds.body in
     let w = in_frames log.base 0 (h.holds.frames ++ ps ∷ []) front p rest (sym h.places ∙ e) in
     let gate = gate_after 0 w.before in
     let end = gate + 1 + length (text_of (spelled_all w.rs)) in
@@ -245,6 +247,26 @@ stands {v = v} {log = log} {ds = ds} {ps = ps} h front p rest e =
     })
     (last_or_not h.holds.frames ps w.before w.rs w.after w.split)
 
+-- the records at these places, with their numbers
+abbrev pub numbers_of : List Placed → List Numbered
+numbers_of held = map (λ p. record { lsn = p.0.lsn; is = p.1 }) held
+
+numbers-from : (base end at : ℕ) (rs : List Record) → numbers_of (places_from base end at rs) ≡ numbered_from (base + at) rs
+numbers-from base end at [] = refl
+numbers-from base end at (r ∷ rs) =
+    let next : base + (at + length (spelled r)) ≡ base + at + length (spelled r) = omega arith in
+    ap (λ (xs : List Numbered). record { lsn = base + at; is = r } ∷ xs) (numbers-from base end (at + length (spelled r)) rs ∙ ap (λ (n : ℕ). numbered_from n rs) next)
+
+pub numbers-in : (base at : ℕ) (frames : List (List Record)) → numbers_of (places_in base at frames) ≡ numbered_in (base + at) frames
+numbers-in base at [] = refl
+numbers-in base at (rs ∷ frames) =
+    let end : ℕ = at + 1 + length (text_of (spelled_all rs)) in
+    let first : base + (at + 5) ≡ base + at + 5 = omega arith in
+    let next : base + end ≡ base + at + 1 + length (text_of (spelled_all rs)) = omega arith in
+    map-append (λ (p : Placed). record { lsn = p.0.lsn; is = p.1 }) (places_from base end (at + 5) rs) (places_in base end frames)
+    ∙ ap (λ (xs : List Numbered). xs ++ numbers_of (places_in base end frames)) (numbers-from base end (at + 5) rs ∙ ap (λ (n : ℕ). numbered_from n rs) first)
+    ∙ ap (λ (xs : List Numbered). numbered_from (base + at + 5) rs ++ xs) (numbers-in base end frames ∙ ap (λ (n : ℕ). numbered_in n frames) next)
+
 -- an entry with this number and record
 pub record IsEntry (held : List Placed) (lsn : ℕ) (r : Record) : Type 0 where
   pub front : List Placed
@@ -254,22 +276,23 @@ pub record IsEntry (held : List Placed) (lsn : ℕ) (r : Record) : Type 0 where
   pub number : entry.0.lsn ≡ lsn
   pub same : entry.1 ≡ r
 
-pub entry_of : (held : List Placed) (lsn : ℕ) (r : Record) → StandsAt held lsn r → IsEntry held lsn r
+pub entry_of : (held : List Placed) (lsn : ℕ) (r : Record) → StandsAt (numbers_of held) lsn r → IsEntry held lsn r
 entry_of [] lsn r h = absurd h
 entry_of (p ∷ held) lsn r (inl h) = record { front = []; entry = p; rest = held; split = refl; number = h.0; same = h.1 }
 entry_of (p ∷ held) lsn r (inr h) =
     let e = entry_of held lsn r h in
     record { front = p ∷ e.front; entry = e.entry; rest = e.rest; split = ap (λ (xs : List Placed). p ∷ xs) e.split; number = e.number; same = e.same }
 
--- an entry of a walk stands among all
-pub entry_stands : (front : List Placed) (p : Placed) (rest : List Placed) → StandsAt (front ++ p ∷ rest) p.0.lsn p.1
-entry_stands [] p rest = inl (refl, refl)
-entry_stands (q ∷ front) p rest = inr (entry_stands front p rest)
+-- where the records stand that a log holds
+pub held_places : {v : View} {log : Tail} {ds ps : List Numbered} (h : Holds v log ds ps) → numbers_of (places_in log.base 0 (h.frames ++ h.body ∷ [])) ≡ ds ++ ps
+held_places {log = log} h = numbers-in log.base 0 (h.frames ++ h.body ∷ []) ∙ ap (λ (n : ℕ). numbered_in n (h.frames ++ h.body ∷ [])) (add-zero log.base) ∙ forced_all h
 
-pub there : {v : View} {log : Tail} {ds ps : List Record} {held : List Placed} → HoldsAt v log ds ps held → (lsn : ℕ) (r : Record) → StandsAt held lsn r → IsThere v log lsn r
-there {v = v} {log = log} {held = held} h lsn r among =
-    let e = entry_of held lsn r among in
-    subst (λ (x : Record). IsThere v log lsn x) e.same (subst (λ (n : ℕ). IsThere v log n e.entry.1) e.number (stands h e.front e.entry e.rest e.split).there)
+pub there : {v : View} {log : Tail} {ds ps : List Numbered} → Holds v log ds ps → (lsn : ℕ) (r : Record) → StandsAt (ds ++ ps) lsn r → IsThere v log lsn r
+there {v = v} {log = log} {ds = ds} {ps = ps} h lsn r among =
+    let held : List Placed = places_in log.base 0 (h.frames ++ h.body ∷ []) in
+    let e = entry_of held lsn r (subst (λ (ns : List Numbered). StandsAt ns lsn r) (sym (held_places h)) among) in
+    let all : HoldsAt v log ds ps held = record { holds = h; places = refl } in
+    subst (λ (x : Record). IsThere v log lsn x) e.same (subst (λ (n : ℕ). IsThere v log n e.entry.1) e.number (stands {held = held} all e.front e.entry e.rest e.split).there)
 
 -- the first frame behind a gate, the buffer's included
 pub record IsNextFrame (v : View) (log : Tail) (gate : ℕ) (rest : List Placed) : Type 0 where
@@ -320,8 +343,8 @@ next_frame {v = v} {log = log} {gate = gate} {rest = rest} h = by_frames h.frame
         })
 
 -- all of them stand behind the first gate
-pub all_behind : {v : View} {log : Tail} {ds ps : List Record} {held : List Placed} → HoldsAt v log ds ps held → StandBehind v log log.base held
-all_behind {ps = ps} h = record { at = 0; gate_is = omega arith; frames = h.holds.frames; stand = h.holds.stand; last_gate = h.holds.at_gate; ps = ps; waiting = h.holds.waiting; are = h.places }
+pub all_behind : {v : View} {log : Tail} {ds ps : List Numbered} {held : List Placed} → HoldsAt v log ds ps held → StandBehind v log log.base held
+all_behind h = record { at = 0; gate_is = omega arith; frames = h.holds.frames; stand = h.holds.stand; last_gate = h.holds.at_gate; ps = h.holds.body; waiting = h.holds.waiting; are = h.places }
 
 -- a disk in the same state
 pub behind_along : {v w : View} {log : Tail} {gate : ℕ} {rest : List Placed} → w.now ≡ v.now → StandBehind v log gate rest → StandBehind w log gate rest
@@ -336,7 +359,7 @@ behind_along {log = log} same h = record {
   are = h.are;
 }
 
-pub held_along : {v w : View} {log : Tail} {ds ps : List Record} {held : List Placed} → w.now ≡ v.now → HoldsAt v log ds ps held → HoldsAt w log ds ps held
+pub held_along : {v w : View} {log : Tail} {ds ps : List Numbered} {held : List Placed} → w.now ≡ v.now → HoldsAt v log ds ps held → HoldsAt w log ds ps held
 held_along {v = v} {w = w} {log = log} same h = record {
   holds = record {
     frames = h.holds.frames;
@@ -344,8 +367,10 @@ held_along {v = v} {w = w} {log = log} same h = record {
     all = h.holds.all;
     settled = subst (λ (s : State). (s log.area).pending ≡ []) (sym same) h.holds.settled;
     at_gate = h.holds.at_gate;
+    body = h.holds.body;
     waiting = h.holds.waiting;
     fields = h.holds.fields;
+    numbers = h.holds.numbers;
     within = h.holds.within;
   };
   places = h.places;
@@ -363,7 +388,7 @@ next_is log p rest h lsn is =
     ap P is ∙ sym h.next
 
 -- the first record's number is the base and 5
-pub first_number : {v : View} {log : Tail} {ds ps : List Record} {held : List Placed} → HoldsAt v log ds ps held → (p : Placed) (rest : List Placed) → held ≡ p ∷ rest → p.0.lsn ≡ log.base + 5
+pub first_number : {v : View} {log : Tail} {ds ps : List Numbered} {held : List Placed} → HoldsAt v log ds ps held → (p : Placed) (rest : List Placed) → held ≡ p ∷ rest → p.0.lsn ≡ log.base + 5
 first_number {log = log} h p rest e =
     let some : (q : Place) → Some q ≡ Some p.0 → q.lsn ≡ p.0.lsn = λ q is. ap (λ (x : Place). x.lsn) (let s : q ≡ p.0 = cc in s) in
     ⊎_elim

@@ -4,7 +4,7 @@ use Rattle.byteorder.specs.Endian.{little_bytes}
 use Rattle.sg_disk.specs.Disk.{Bytes, window}
 use Rattle.sg_record.specs.Records.{Record, spelled_all}
 use Rattle.sg_record.proofs.Spelling.{spelled_all-one}
-use Rattle.sg_log.specs.Frames.{GREATEST_BODY, text_of, Frames, gate_after, records_of, HasRecords}
+use Rattle.sg_log.specs.Frames.{GREATEST_BODY, text_of, Frames, Numbered, numbered_in, gate_after, HasRecords}
 
 -- the bytes of a window, one by one
 read_window : (f : Bytes) (at n k : ℕ) → k < n → get_or (window f at n) k 0 ≡ f (at + k)
@@ -50,9 +50,9 @@ Frames-one f at (rs ∷ frames) (ss ∷ others) h k =
     ap (λ (x : List Record). P x frames) same ∙ ap (P ss) more
 
 -- the records that an area holds are determined
-pub HasRecords-one : {f : Bytes} {base gate to : ℕ} {rs ss : List Record} → HasRecords f base gate rs → HasRecords f base to ss → rs ≡ ss
-HasRecords-one {f = f} h k = sym h.all ∙ ap records_of (Frames-one f 0 h.frames k.frames h.stand k.stand) ∙ k.all
+pub HasRecords-one : {f : Bytes} {base gate to : ℕ} {rs ss : List Numbered} → HasRecords f base gate rs → HasRecords f base to ss → rs ≡ ss
+HasRecords-one {f = f} {base = base} h k = sym h.all ∙ ap (numbered_in base) (Frames-one f 0 h.frames k.frames h.stand k.stand) ∙ k.all
 
 -- and so is the gate behind them
-pub HasRecords-gate : {f : Bytes} {base gate to : ℕ} {rs ss : List Record} → HasRecords f base gate rs → HasRecords f base to ss → gate ≡ to
+pub HasRecords-gate : {f : Bytes} {base gate to : ℕ} {rs ss : List Numbered} → HasRecords f base gate rs → HasRecords f base to ss → gate ≡ to
 HasRecords-gate {f = f} {base = base} h k = h.at_gate ∙ ap (λ (frames : List (List Record)). base + gate_after 0 frames) (Frames-one f 0 h.frames k.frames h.stand k.stand) ∙ sym k.at_gate

@@ -1,9 +1,9 @@
 -- The frames of a log, and the records that an area's bytes hold.
-use Rattle.std.specs.Prelude.{◌≡◌, ◌⊎◌, ◌+◌, ◌^◌, ◌≤◌, ℕ, List, [], ◌∷◌, ◌++◌, length}
+use Rattle.std.specs.Prelude.{◌≡◌, ◌⊎◌, ◌+◌, ◌^◌, ◌≤◌, ℕ, List, [], ◌∷◌, ◌++◌, length, map}
 use Rattle.byteorder.specs.Endian.{little_bytes}
 use Rattle.sg_base.specs.declared.area.Area.{Area}
 use Rattle.sg_disk.specs.Disk.{Bytes, Image, State, LeavesPart, window}
-use Rattle.sg_record.specs.Records.{Record, spelled_all, AreRecords}
+use Rattle.sg_record.specs.Records.{Record, spelled, spelled_all, AreRecords}
 
 -- the most bytes of a frame's body
 abbrev pub GREATEST_BODY : ℕ
@@ -34,10 +34,20 @@ abbrev pub gate_after : ℕ → List (List Record) → ℕ
 gate_after at [] = at
 gate_after at (rs ∷ frames) = gate_after (at + 1 + length (text_of (spelled_all rs))) frames
 
--- the records of the frames, in order
-abbrev pub records_of : List (List Record) → List Record
-records_of [] = []
-records_of (rs ∷ frames) = rs ++ records_of frames
+-- a record of a log, and the number of its first byte
+pub record Numbered : Type 0 where
+  pub lsn : ℕ
+  pub is : Record
+
+-- these records one after another, the first of them with this number
+abbrev pub numbered_from : ℕ → List Record → List Numbered
+numbered_from lsn [] = []
+numbered_from lsn (r ∷ rs) = record { lsn = lsn; is = r } ∷ numbered_from (lsn + length (spelled r)) rs
+
+-- The records of frames, of which the first one's gate has this number. 5 bytes stand before a frame's records.
+abbrev pub numbered_in : ℕ → List (List Record) → List Numbered
+numbered_in gate [] = []
+numbered_in gate (rs ∷ frames) = numbered_from (gate + 5) rs ++ numbered_in (gate + 1 + length (text_of (spelled_all rs))) frames
 
 -- each other area is in the same state
 abbrev pub SameElsewhere : Area → State → State → Type 0
@@ -54,11 +64,15 @@ pub record IsWithOrWithout (s : State) (area : Area) (frames : List (List Record
   pub log : Frames (c area) 0 frames ⊎ Frames (c area) 0 (frames ++ rs ∷ [])
   pub others : (b : Area) → (b ≡ area → ⊥) → LeavesPart (s b) (c b)
 
+-- these records without their numbers
+abbrev pub records_of : List Numbered → List Record
+records_of ns = map (λ n. n.is) ns
+
 -- an area whose first byte has the number base in the log holds exactly these records, and the closed gate behind them
 -- has this number
-pub record HasRecords (f : Bytes) (base gate : ℕ) (rs : List Record) : Type 0 where
+pub record HasRecords (f : Bytes) (base gate : ℕ) (records : List Numbered) : Type 0 where
   pub frames : List (List Record)
   pub stand : Frames f 0 frames
-  pub all : records_of frames ≡ rs
+  pub all : numbered_in base frames ≡ records
   pub at_gate : gate ≡ base + gate_after 0 frames
   pub within : gate ≤ LOG_END

@@ -3,7 +3,7 @@ use Rattle.std.specs.Prelude.{◌≡◌, ◌⊎◌, ◌+◌, ◌≤◌, ◌<◌,
 use Rattle.sg_base.specs.declared.area.Area.{Area}
 use Rattle.sg_disk.specs.Disk.{Image, State, LeavesPart, View}
 use Rattle.sg_record.specs.Records.{Record, spelled, spelled_all, AreRecords}
-use Rattle.sg_log.specs.Frames.{GREATEST_BODY, LOG_END, Frames, gate_after, records_of, HasRecords}
+use Rattle.sg_log.specs.Frames.{GREATEST_BODY, LOG_END, Numbered, numbered_from, numbered_in, Frames, gate_after, HasRecords}
 
 -- A log as its callers see it: where it stands, the number of its area's first byte, the number of the closed gate
 -- behind the last frame, and the bytes that are to be the next frame's body.
@@ -50,27 +50,33 @@ abbrev pub appended : Tail → Record → Tail
 appended log r = if has_room log r then buffered log r else buffered (forced log) r
 
 -- The log holds the records ds on the disk, and ps in its buffer: its area has frames of ds from its first byte on,
--- then a closed gate, and nothing in it is pending.
-pub record Holds (v : View) (log : Tail) (ds ps : List Record) : Type 0 where
+-- then a closed gate, and nothing in it is pending. The buffered ones are numbered as they are to stand in their frame.
+pub record Holds (v : View) (log : Tail) (ds ps : List Numbered) : Type 0 where
   pub frames : List (List Record)
   pub stand : Frames (v.now log.area).seen 0 frames
-  pub all : records_of frames ≡ ds
+  pub all : numbered_in log.base frames ≡ ds
   pub settled : (v.now log.area).pending ≡ []
   pub at_gate : log.gate ≡ log.base + gate_after 0 frames
-  pub waiting : log.buffer ≡ spelled_all ps
-  pub fields : AreRecords ps
+  pub body : List Record
+  pub waiting : log.buffer ≡ spelled_all body
+  pub fields : AreRecords body
+  pub numbers : numbered_from (log.gate + 5) body ≡ ps
   pub within : tail_of log ≤ LOG_END
 
 -- An image of a moment at which the buffer is made a frame: the log's area holds the records from before, up to the
 -- gate, or those of the buffer too, up to the tail. The other areas are as a crash could have left them in that state.
-pub record IsBeforeOrAfter (s : State) (log : Tail) (before more : List Record) (c : Image) : Type 0 where
+pub record IsBeforeOrAfter (s : State) (log : Tail) (before more : List Numbered) (c : Image) : Type 0 where
   pub held : HasRecords (c log.area) log.base log.gate before ⊎ HasRecords (c log.area) log.base (tail_of log) (before ++ more)
   pub others : (b : Area) → (b ≡ log.area → ⊥) → LeavesPart (s b) (c b)
 
+-- a record with the number that it has, if it is appended now
+abbrev pub numbered : Tail → Record → Numbered
+numbered log r = record { lsn = place_of log r; is = r }
+
 -- the durable records after an append: those that waited come to them where it had to force
-abbrev pub durable_after : Tail → Record → List Record → List Record → List Record
+abbrev pub durable_after : Tail → Record → List Numbered → List Numbered → List Numbered
 durable_after log r ds ps = if has_room log r then ds else ds ++ ps
 
 -- and the waiting ones
-abbrev pub waiting_after : Tail → Record → List Record → List Record
-waiting_after log r ps = if has_room log r then ps ++ r ∷ [] else r ∷ []
+abbrev pub waiting_after : Tail → Record → List Numbered → List Numbered
+waiting_after log r ps = if has_room log r then ps ++ numbered log r ∷ [] else numbered log r ∷ []

@@ -1,4 +1,5 @@
 pub mod Faults
+pub mod Following
 pub mod Formed
 pub mod Frames
 pub mod Held

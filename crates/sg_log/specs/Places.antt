@@ -3,7 +3,7 @@ use Rattle.std.specs.Prelude.{◌≡◌, ◌⊎◌, ◌<◌, ◌≤◌, ◌+◌,
 use Rattle.sg_disk.specs.Disk.{View, window}
 use Rattle.sg_record.specs.Records.{Record, spelled, spelled_all, IsRecord}
 use Rattle.sg_log.specs.Formed.{IsFormed}
-use Rattle.sg_log.specs.Frames.{text_of, Frames, gate_after}
+use Rattle.sg_log.specs.Frames.{Numbered, text_of, Frames, gate_after}
 use Rattle.sg_log.specs.Held.{Tail, Holds}
 use Rattle.sg_log.specs.declared.place.Place.{Place}
 
@@ -24,9 +24,9 @@ places_in base at (rs ∷ frames) = places_from base (at + 1 + length (text_of (
 
 -- The log holds these records, the durable ones and then those in its buffer, at these places. The buffered ones stand
 -- where their frame is to stand.
-pub record HoldsAt (v : View) (log : Tail) (ds ps : List Record) (held : List Placed) : Type 0 where
+pub record HoldsAt (v : View) (log : Tail) (ds ps : List Numbered) (held : List Placed) : Type 0 where
   pub holds : Holds v log ds ps
-  pub places : held ≡ places_in log.base 0 (holds.frames ++ ps ∷ [])
+  pub places : held ≡ places_in log.base 0 (holds.frames ++ holds.body ∷ [])
 
 -- where the first of them stands, if there is one
 abbrev pub first_of : List Placed → Option Place
@@ -34,20 +34,9 @@ first_of [] = None
 first_of (p ∷ held) = Some p.0
 
 -- the record is among them, and its first byte has this number
-abbrev pub StandsAt : List Placed → ℕ → Record → Type 0
+abbrev pub StandsAt : List Numbered → ℕ → Record → Type 0
 StandsAt [] lsn r = ⊥
-StandsAt (p ∷ held) lsn r = ((p.0.lsn ≡ lsn) × (p.1 ≡ r)) ⊎ StandsAt held lsn r
-
--- the log holds these records, and each one that stood somewhere before still stands there
-pub record HoldsOn (v : View) (log : Tail) (ds ps : List Record) (before : List Placed) : Type 0 where
-  pub held : List Placed
-  pub at : HoldsAt v log ds ps held
-  pub stay : (lsn : ℕ) (r : Record) → StandsAt before lsn r → StandsAt held lsn r
-
--- and this one stands at this number too
-pub record IsPlaced (v : View) (log : Tail) (ds ps : List Record) (before : List Placed) (lsn : ℕ) (r : Record) : Type 0 where
-  pub holds : HoldsOn v log ds ps before
-  pub there : StandsAt holds.held lsn r
+StandsAt (n ∷ records) lsn r = ((n.lsn ≡ lsn) × (n.is ≡ r)) ⊎ StandsAt records lsn r
 
 -- these bytes are one record, of so many bytes
 pub record IsRecordText (bytes : List ℕ) (size : ℕ) : Type 0 where

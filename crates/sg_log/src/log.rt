@@ -6,9 +6,9 @@ ghost use Rattle.sg_record.specs.Records.{Record, GREATEST, spelled, spelled_all
 ghost use Rattle.sg_record.specs.Shown.{shown};
 ghost use Rattle.sg_log.specs.Faults.{ForceFails, AppendFails, AttachFails, FrameFails};
 ghost use Rattle.sg_log.specs.Formed.{IsFormed, IsDamagedAt};
-ghost use Rattle.sg_log.specs.Frames.{Frames, HasRecords, SameElsewhere, LOG_END, GREATEST_BODY};
+ghost use Rattle.sg_log.specs.Frames.{Frames, Numbered, HasRecords, SameElsewhere, LOG_END, GREATEST_BODY};
 ghost use Rattle.sg_log.specs.Held.{Tail, IsTail, Holds, tail_of, place_of, end_of, has_room, forced, buffered, appended, durable_after, waiting_after, IsBeforeOrAfter};
-ghost use Rattle.sg_log.specs.Places.{Placed, HoldsAt, HoldsOn, IsPlaced, StandsAt, first_of, IsRecordText, IsDurable, IsWaiting, IsThere, IsSizeBehind, StandBehind};
+ghost use Rattle.sg_log.specs.Places.{Placed, HoldsAt, StandsAt, first_of, IsRecordText, IsDurable, IsWaiting, IsThere, IsSizeBehind, StandBehind};
 ghost use Rattle.sg_log.specs.Reads.{OnlyReads};
 
 use crate::frame::{seal, write_frame};
@@ -81,11 +81,11 @@ impl Log {
         ensures log { IfOk result (λ log. log ≡ record { area = area; base = base; gate = log.gate; buffer = [] }) }
         // The log holds what the area has, where nothing in it is pending,
         ensures holds { IsTrue D.told → ((D.view disk.old).now area).pending ≡ [] →
-            IfOk result (λ log. (ds : List Record) × HasRecords ((D.view disk.old).now area).seen base log.gate ds × Holds (D.view disk.new) log ds []) }
+            IfOk result (λ log. (ds : List Numbered) × HasRecords ((D.view disk.old).now area).seen base log.gate ds × Holds (D.view disk.new) log ds []) }
         // that is, the area's records where it has records at all.
-        ensures records { (ds : List Record) (gate : ℕ) → IsTrue D.told → ((D.view disk.old).now area).pending ≡ [] → HasRecords ((D.view disk.old).now area).seen base gate ds →
+        ensures records { (ds : List Numbered) (gate : ℕ) → IsTrue D.told → ((D.view disk.old).now area).pending ≡ [] → HasRecords ((D.view disk.old).now area).seen base gate ds →
             IfOk result (λ log. (log.gate ≡ gate) × Holds (D.view disk.new) log ds []) }
-        ensures undamaged { (ds : List Record) (gate at : ℕ) → IsTrue D.told → HasRecords ((D.view disk.old).now area).seen base gate ds → result ≡ Err (LogFault.Damaged at) → ⊥ }
+        ensures undamaged { (ds : List Numbered) (gate at : ℕ) → IsTrue D.told → HasRecords ((D.view disk.old).now area).seen base gate ds → result ≡ Err (LogFault.Damaged at) → ⊥ }
         // A damage is found, if the disk reads it and there is memory.
         ensures damaged { (at : ℕ) → IsTrue D.told → IsDamagedAt ((D.view disk.old).now area).seen base at →
             (result ≡ Err (LogFault.Damaged at)) ⊎ ((result ≡ Err LogFault.Disk) ⊎ (result ≡ Err LogFault.Memory)) }
@@ -140,11 +140,11 @@ impl Log {
     /// `at` isn't the number of a record of this log, or the disk isn't the log's.
     pub fn read<D: Disk>(&self, disk: &mut D, at: Lsn, into: &mut [u8]) -> Result<usize, LogFault>
         requires { GREATEST ≤ length into.old }
-        ensures record { (ds ps : List Record) (held : List Placed) (r : Record) → IsTrue D.told → HoldsAt (D.view disk.old) self.now ds ps held → StandsAt held at r →
+        ensures record { (ds ps : List Numbered) (r : Record) → IsTrue D.told → Holds (D.view disk.old) self.now ds ps → StandsAt (ds ++ ps) at r →
             IfOk result (λ n. take n into.new ≡ spelled r) }
-        ensures size { (ds ps : List Record) (held : List Placed) (r : Record) → IsTrue D.told → HoldsAt (D.view disk.old) self.now ds ps held → StandsAt held at r →
+        ensures size { (ds ps : List Numbered) (r : Record) → IsTrue D.told → Holds (D.view disk.old) self.now ds ps → StandsAt (ds ++ ps) at r →
             IfOk result (λ n. n ≡ length (spelled r)) }
-        ensures failed { (ds ps : List Record) (held : List Placed) (r : Record) → IsTrue D.told → HoldsAt (D.view disk.old) self.now ds ps held → StandsAt held at r →
+        ensures failed { (ds ps : List Numbered) (r : Record) → IsTrue D.told → Holds (D.view disk.old) self.now ds ps → StandsAt (ds ++ ps) at r →
             OnErr result (HasRisen (D.view disk.old).faults (D.view disk.new).faults) }
         // On any disk, what it answers is a record.
         ensures is_record { IfOk result (λ n. IsRecordText (take n into.new) n) }
@@ -191,8 +191,8 @@ impl Log {
     ///
     /// It answers `Disk` only where the disk fails, or isn't the log's.
     pub fn first<D: Disk>(&self, disk: &mut D) -> Result<Option<Place>, LogFault>
-        ensures first { (ds ps : List Record) (held : List Placed) → IsTrue D.told → HoldsAt (D.view disk.old) self.now ds ps held → IfOk result (λ first. first ≡ first_of held) }
-        ensures failed { (ds ps : List Record) (held : List Placed) → IsTrue D.told → HoldsAt (D.view disk.old) self.now ds ps held →
+        ensures first { (ds ps : List Numbered) (held : List Placed) → IsTrue D.told → HoldsAt (D.view disk.old) self.now ds ps held → IfOk result (λ first. first ≡ first_of held) }
+        ensures failed { (ds ps : List Numbered) (held : List Placed) → IsTrue D.told → HoldsAt (D.view disk.old) self.now ds ps held →
             OnErr result (HasRisen (D.view disk.old).faults (D.view disk.new).faults) }
         ensures within { IfOk result (λ first. IfSome first (λ p. p.lsn < tail_of self.now)) }
         ensures fault { IfErr result (λ e. e ≡ LogFault.Disk) }
@@ -208,9 +208,9 @@ impl Log {
     /// It answers `Disk` only where the disk fails, or where no record stands at this place: that is so
     /// where `first` or `next` didn't answer it, since the last append or force.
     pub fn next<D: Disk>(&self, disk: &mut D, place: Place) -> Result<Option<Place>, LogFault>
-        ensures next { (ds ps : List Record) (front rest : List Placed) (r : Record) → IsTrue D.told → HoldsAt (D.view disk.old) self.now ds ps (front ++ (place, r) ∷ rest) →
+        ensures next { (ds ps : List Numbered) (front rest : List Placed) (r : Record) → IsTrue D.told → HoldsAt (D.view disk.old) self.now ds ps (front ++ (place, r) ∷ rest) →
             IfOk result (λ next. next ≡ first_of rest) }
-        ensures failed { (ds ps : List Record) (front rest : List Placed) (r : Record) → IsTrue D.told → HoldsAt (D.view disk.old) self.now ds ps (front ++ (place, r) ∷ rest) →
+        ensures failed { (ds ps : List Numbered) (front rest : List Placed) (r : Record) → IsTrue D.told → HoldsAt (D.view disk.old) self.now ds ps (front ++ (place, r) ∷ rest) →
             OnErr result (HasRisen (D.view disk.old).faults (D.view disk.new).faults) }
         // On any disk, a walk ends.
         ensures onward { IfOk result (λ next. IfSome next (λ p. (place.lsn < p.lsn) × (p.lsn < tail_of self.now))) }
@@ -456,13 +456,11 @@ impl Log {
         ensures faults { IfErr result (λ e. AppendFails (end_of self.old (shown r.now)) (D.view disk.old) (D.view disk.new) e) }
         ensures unchanged { result ≡ Err LogFault.LogEnd → (self.new ≡ self.old) × (disk.new ≡ disk.old) }
         ensures no_call { IsTrue (has_room self.old (shown r.now)) → disk.new ≡ disk.old }
-        ensures holds { (ds ps : List Record) → IsTrue D.told → Holds (D.view disk.old) self.old ds ps →
+        // It holds the record at its number from then on, and each record before it at the number that it had.
+        ensures holds { (ds ps : List Numbered) → IsTrue D.told → Holds (D.view disk.old) self.old ds ps →
             OnOk result (Holds (D.view disk.new) self.new (durable_after self.old (shown r.now) ds ps) (waiting_after self.old (shown r.now) ps)) }
-        // It stands at its number from then on, and each record before it stays where it stands.
-        ensures places { (ds ps : List Record) (before : List Placed) → IsTrue D.told → HoldsAt (D.view disk.old) self.old ds ps before →
-            IfOk result (λ lsn. IsPlaced (D.view disk.new) self.new (durable_after self.old (shown r.now) ds ps) (waiting_after self.old (shown r.now) ps) before lsn (shown r.now)) }
         // A crash at any moment of the call leaves the records that were durable, or the buffered ones too.
-        ensures any_moment { (ds ps : List Record) → IsTrue D.told → Holds (D.view disk.old) self.old ds ps →
+        ensures any_moment { (ds ps : List Numbered) → IsTrue D.told → Holds (D.view disk.old) self.old ds ps →
             LeavesOnly (D.view disk.old) (D.view disk.new) (IsBeforeOrAfter (D.view disk.old).now self.old ds ps) }
         ensures elsewhere { IsTrue D.told → OnOk result (SameElsewhere self.old.area (D.view disk.old).now (D.view disk.new).now) }
         ensures near { tail_of self.old ≤ self.old.gate + 65541 }
@@ -491,13 +489,11 @@ impl Log {
         ensures same { OnErr result (self.new ≡ self.old) }
         ensures faults { IfErr result (λ e. ForceFails (D.view disk.old) (D.view disk.new) e) }
         ensures no_call { length self.old.buffer ≡ 0 → disk.new ≡ disk.old }
-        ensures holds { (ds ps : List Record) → IsTrue D.told → Holds (D.view disk.old) self.old ds ps → OnOk result (Holds (D.view disk.new) self.new (ds ++ ps) []) }
-        // Each record stays where it stands.
-        ensures places { (ds ps : List Record) (before : List Placed) → IsTrue D.told → HoldsAt (D.view disk.old) self.old ds ps before → OnOk result (HoldsOn (D.view disk.new) self.new (ds ++ ps) [] before) }
+        ensures holds { (ds ps : List Numbered) → IsTrue D.told → Holds (D.view disk.old) self.old ds ps → OnOk result (Holds (D.view disk.new) self.new (ds ++ ps) []) }
         // A crash after it leaves all the records, and one at any moment of the call all or those that were durable.
-        ensures after { (ds ps : List Record) → IsTrue D.told → Holds (D.view disk.old) self.old ds ps →
+        ensures after { (ds ps : List Numbered) → IsTrue D.told → Holds (D.view disk.old) self.old ds ps →
             OnOk result ((c : Image) → Leaves (D.view disk.new).now c → HasRecords (c self.old.area) self.old.base (tail_of self.old) (ds ++ ps)) }
-        ensures any_moment { (ds ps : List Record) → IsTrue D.told → Holds (D.view disk.old) self.old ds ps →
+        ensures any_moment { (ds ps : List Numbered) → IsTrue D.told → Holds (D.view disk.old) self.old ds ps →
             LeavesOnly (D.view disk.old) (D.view disk.new) (IsBeforeOrAfter (D.view disk.old).now self.old ds ps) }
         ensures elsewhere { IsTrue D.told → OnOk result (SameElsewhere self.old.area (D.view disk.old).now (D.view disk.new).now) }
         // The log grows by no more than is handed to the disk, as far as that is counted.

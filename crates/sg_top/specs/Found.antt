@@ -5,35 +5,49 @@ use Rattle.sg_disk.specs.Disk as disk
 use Rattle.sg_base.specs.declared.area.Area.TheVariants.{Log0}
 use Rattle.sg_model.specs.Objects.{Objects}
 use Rattle.sg_record.specs.Records.{Record, AreRecords, spelled_all}
-use Rattle.sg_log.specs.Frames.{LOG_END, Frames, gate_after, records_of}
+use Rattle.sg_log.specs.Following.{last_or, last_of, AreChained}
+use Rattle.sg_log.specs.Frames.{LOG_END, Numbered, numbered_from, numbered_in, records_of, Frames, gate_after}
 use Rattle.sg_log.specs.Held.{Tail, Holds}
 use Rattle.sg_top.specs.declared.opening.OpenRefused as code_refused
 use Rattle.sg_top.specs.declared.opening.OpenRefused.TheVariants as refusals
 use Rattle.std.specs.Ordering.{nat_cmp}
 use Rattle.std.specs.BTreeMap.{get}
 use Rattle.std.specs.FinMap.{empty}
-use Rattle.sg_top.specs.Stands.{AreBelow, commits_in, after_line, committed_lines, replay}
-use Rattle.sg_top.specs.Damage.{At, LineAt, lines_at, records_at, records_in, HasHigh, HasUnanswered}
+use Rattle.sg_top.specs.Stands.{commits_in, after_line, committed_lines, replay}
+use Rattle.sg_top.specs.Damage.{LineAt, lines_at, HasStray, HasUnanswered}
 use Rattle.std.specs.declared.vec.Vec.{Vec}
 use Rattle.std.specs.declared.alloc.Global.{Global}
 use Rattle.sg_top.specs.declared.found_line.FoundLine as code_line
 use Rattle.sg_top.specs.declared.found.Found as code_found
 
 abbrev pub line_of : code_line.FoundLine → LineAt
-line_of l = record { offset = l.at; words = l.words.items }
+line_of l = record { lsn = l.at; words = l.words.items }
 
 abbrev pub lines_or_none : Option (Vec code_line.FoundLine Global) → List LineAt
 lines_or_none None = []
 lines_or_none (Some lines) = map line_of lines.items
 
+abbrev pub number_or_none : Option ℕ → ℕ
+number_or_none None = 0
+number_or_none (Some lsn) = lsn
+
 -- the lines of a transaction that were found
 abbrev pub lines_found : code_found.Found → ℕ → List LineAt
 lines_found found t = lines_or_none (get nat_cmp found.lines t)
 
+-- the number of a transaction's last record that was found, or 0 where none was
+abbrev pub last_found : code_found.Found → ℕ → ℕ
+last_found found t = number_or_none (get nat_cmp found.lasts t)
+
 -- these records were found too
-pub record Finds (old new : code_found.Found) (records : List At) : Type 0 where
+pub record Finds (old new : code_found.Found) (records : List Numbered) : Type 0 where
   pub lines : (t : ℕ) → lines_found new t ≡ lines_found old t ++ lines_at t records
-  pub commits : new.commits.items ≡ old.commits.items ++ commits_in (map (λ p. p.is) records)
+  pub commits : new.commits.items ≡ old.commits.items ++ commits_in (records_of records)
+  pub lasts : (t : ℕ) → last_found new t ≡ last_or (last_found old t) t records
+
+-- the last record of each transaction is known as these records have it
+abbrev pub KnowsLasts : code_found.Found → List Numbered → Type 0
+KnowsLasts found records = (t : ℕ) → last_found found t ≡ last_of t records
 
 -- these frames stand in the log's area from its first byte on, and the closed gate behind them is the log's
 pub record EndsAt (v : disk.View) (log : Tail) (frames : List (List Record)) : Type 0 where
@@ -41,30 +55,30 @@ pub record EndsAt (v : disk.View) (log : Tail) (frames : List (List Record)) : T
   pub gate : log.gate ≡ gate_after 0 frames
   pub within : log.gate ≤ LOG_END
 
--- why a log isn't read on in a frame whose body has these bytes, and stands at this offset
-abbrev pub IsRefusedIn : code_refused.OpenRefused → (gate : ℕ) → (bytes : List ℕ) → (start : ℕ) → Type 0
-IsRefusedIn refusals.DiskFault gate bytes start = ⊥
-IsRefusedIn refusals.Memory gate bytes start = Unit {0}
-IsRefusedIn (refusals.Damaged area at) gate bytes start = (area ≡ Log0) × ((rs : List Record) → AreRecords rs → bytes ≡ spelled_all rs → HasHigh gate at (records_at start rs))
+-- why a log isn't read on in a frame whose body has these bytes, and stands at this offset, behind these records
+abbrev pub IsRefusedIn : code_refused.OpenRefused → (before : List Numbered) → (bytes : List ℕ) → (start : ℕ) → Type 0
+IsRefusedIn refusals.DiskFault before bytes start = ⊥
+IsRefusedIn refusals.Memory before bytes start = Unit {0}
+IsRefusedIn (refusals.Damaged area at) before bytes start = (area ≡ Log0) × ((rs : List Record) → AreRecords rs → bytes ≡ spelled_all rs → HasStray before at (numbered_from start rs))
 
 -- why the records of a log weren't all found
 abbrev pub IsNotFound : code_refused.OpenRefused → Bool → disk.View → disk.View → Tail → Type 0
 IsNotFound refusals.DiskFault told v w log = HasRisen v.faults w.faults
 IsNotFound refusals.Memory told v w log = Unit {0}
-IsNotFound (refusals.Damaged area at) told v w log = (area ≡ Log0) × (IsTrue told → (frames : List (List Record)) → EndsAt v log frames → HasHigh log.gate at (records_in 0 frames))
+IsNotFound (refusals.Damaged area at) told v w log = (area ≡ Log0) × (IsTrue told → (frames : List (List Record)) → EndsAt v log frames → HasStray [] at (numbered_in 0 frames))
 
 -- a log was read back: it holds these records, and its committed transactions leave these objects
 pub record IsReadBack (w : disk.View) (log : Tail) (objects : Objects) : Type 0 where
-  pub records : List Record
+  pub records : List Numbered
   pub holds : Holds w log records []
-  pub below : AreBelow log.gate records
-  pub replayed : replay (committed_lines records) (Some empty) ≡ Some objects
+  pub chained : AreChained records
+  pub replayed : replay (committed_lines (records_of records)) (Some empty) ≡ Some objects
 
 -- why a line isn't replayed
 abbrev pub IsLineRefused : code_refused.OpenRefused → Objects → LineAt → Type 0
 IsLineRefused refusals.DiskFault first line = ⊥
 IsLineRefused refusals.Memory first line = Unit {0}
-IsLineRefused (refusals.Damaged area at) first line = (area ≡ Log0) × (at ≡ line.offset) × (after_line first line.words ≡ None)
+IsLineRefused (refusals.Damaged area at) first line = (area ≡ Log0) × (at ≡ line.lsn) × (after_line first line.words ≡ None)
 
 -- why lines aren't replayed
 abbrev pub IsRefusedBy : code_refused.OpenRefused → Objects → List LineAt → Type 0
@@ -72,8 +86,9 @@ IsRefusedBy refusals.DiskFault first lines = ⊥
 IsRefusedBy refusals.Memory first lines = Unit {0}
 IsRefusedBy (refusals.Damaged area at) first lines = (area ≡ Log0) × HasUnanswered first at lines
 
--- all records of these frames were found, and each one's transaction has a number below this one
-pub record AreFound (found : code_found.Found) (gate : ℕ) (frames : List (List Record)) : Type 0 where
-  pub lines : (t : ℕ) → lines_found found t ≡ lines_at t (records_in 0 frames)
-  pub commits : found.commits.items ≡ commits_in (map (λ p. p.is) (records_in 0 frames))
-  pub below : AreBelow gate (records_of frames)
+-- all records of these frames were found, and each follows those before it
+pub record AreFound (found : code_found.Found) (frames : List (List Record)) : Type 0 where
+  pub lines : (t : ℕ) → lines_found found t ≡ lines_at t (numbered_in 0 frames)
+  pub commits : found.commits.items ≡ commits_in (records_of (numbered_in 0 frames))
+  pub lasts : KnowsLasts found (numbered_in 0 frames)
+  pub chained : AreChained (numbered_in 0 frames)

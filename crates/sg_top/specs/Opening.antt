@@ -8,8 +8,7 @@ use Rattle.sg_model.specs.Objects.{Objects}
 use Rattle.sg_model.specs.History.{start}
 use Rattle.sg_top.specs.declared.opening.OpenRefused as code_refused
 use Rattle.sg_top.specs.declared.opening.OpenRefused.TheVariants as refusals
-use Rattle.sg_record.specs.Records.{Record}
-use Rattle.sg_log.specs.Frames.{HasRecords}
+use Rattle.sg_log.specs.Frames.{Numbered, HasRecords}
 use Rattle.sg_top.specs.Stands.{StandsFor}
 use Rattle.sg_top.specs.Damage.{StandsForNothing}
 use Rattle.sg_top.specs.Store.{Core, Shows}
@@ -25,7 +24,7 @@ pub record Opens (told : Bool) (v w : disk.View) (k : Core) : Type 0 where
   pub stands : IsTrue told → StandsFor (reads_of v) first
   pub only : IsTrue told → (s : Objects) → StandsFor (reads_of v) s → s ≡ first
   -- the log goes on where that image's ends
-  pub gate : IsTrue told → (ds : List Record) (gate : ℕ) → HasRecords (reads_of v Log0) 0 gate ds → k.log.gate ≡ gate
+  pub gate : IsTrue told → (ds : List Numbered) (gate : ℕ) → HasRecords (reads_of v Log0) 0 gate ds → k.log.gate ≡ gate
   pub shows : Shows told w k (start first)
   pub moments : IsTrue told → disk.LeavesOnly v w (disk.Leaves v.now)
   pub handed : w.handed ≡ v.handed

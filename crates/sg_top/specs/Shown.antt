@@ -37,9 +37,14 @@ shown_answer into (answers.Refused reason) = Refused reason
 abbrev pub live_of : code_running.Running → Live
 live_of r = record { name = r.name; transaction = r.txn.0 }
 
+-- the number of the last record of the live transaction
+abbrev pub last_in : Option code_running.Running → ℕ
+last_in None = 0
+last_in (Some r) = r.last
+
 -- a store without its disk
 abbrev pub core_of : {D : Type 0} → code_store.Store D → Core
-core_of s = record { objects = s.objects; live = option_map live_of s.live; stopped = is_some s.stop; log = s.log }
+core_of s = record { objects = s.objects; live = option_map live_of s.live; last = last_in s.live; stopped = is_some s.stop; log = s.log }
 
 -- what is answered where the log fails, and why the store stops then
 abbrev pub answer_at : LogFault → code_answer.Answer

@@ -8,9 +8,10 @@ use Rattle.sg_model.specs.declared.reason.Reason.{Reason}
 use Rattle.sg_model.specs.Objects.{Objects, Op, Reply, step}
 use Rattle.sg_model.specs.History.{State, objects_after}
 use Rattle.sg_words.specs.Spoken.{op_said}
-use Rattle.sg_record.specs.Records.{Record, transaction_of}
+use Rattle.sg_record.specs.Records.{Record}
 use Rattle.sg_record.specs.Records.Record.{Begin, Commit, Line}
-use Rattle.sg_log.specs.Frames.{HasRecords}
+use Rattle.sg_log.specs.Following.{AreChained}
+use Rattle.sg_log.specs.Frames.{Numbered, records_of, HasRecords}
 
 -- the words of a transaction's lines, in order
 abbrev pub lines_by : ℕ → List Record → List (List ℕ)
@@ -49,20 +50,15 @@ replay [] s = s
 replay (words ∷ lines) None = None
 replay (words ∷ lines) (Some s) = replay lines (after_line s words)
 
--- each record is of a transaction with a smaller number
-abbrev pub AreBelow : ℕ → List Record → Type 0
-AreBelow bound [] = Unit {0}
-AreBelow bound (r ∷ rs) = (transaction_of r < bound) × AreBelow bound rs
-
 -- An image stands for the objects that the lines of the committed transactions leave, in order of their
--- commits. The records are those of the log in the first log area, from its first byte on. The number of each one's
--- transaction is that of a byte before the log's closed gate.
+-- commits. The records are those of the log in the first log area, from its first byte on. Each one follows those before
+-- it: it names its transaction's previous record, and a transaction has the number of its begin.
 pub record StandsFor (c : Image) (s : Objects) : Type 0 where
-  pub records : List Record
+  pub records : List Numbered
   pub gate : ℕ
   pub hold : HasRecords (c Log0) 0 gate records
-  pub below : AreBelow gate records
-  pub replayed : replay (committed_lines records) (Some empty) ≡ Some s
+  pub chained : AreChained records
+  pub replayed : replay (committed_lines (records_of records)) (Some empty) ≡ Some s
 
 -- an image stands for the objects after the first transactions of a run in order of commit, so many or more
 pub record StandsForFirst (least : ℕ) (x : State) (c : Image) : Type 0 where

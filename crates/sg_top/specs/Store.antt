@@ -8,14 +8,17 @@ use Rattle.sg_model.specs.Objects.{Objects}
 use Rattle.sg_model.specs.History.{Entry, Live, State, after_all, ops_of, live_objects, committed_objects}
 use Rattle.sg_record.specs.Records.{Record}
 use Rattle.sg_record.specs.Records.Record.{Begin, Commit, Line}
-use Rattle.sg_log.specs.Frames.{GREATEST_BODY}
+use Rattle.sg_log.specs.Following.{last_of, AreChained}
+use Rattle.sg_log.specs.Frames.{GREATEST_BODY, Numbered, records_of}
 use Rattle.sg_log.specs.Held.{Tail, tail_of, Holds}
-use Rattle.sg_top.specs.Stands.{AreBelow, lines_by, commits_in, committed_lines, replay, StandsForFirst}
+use Rattle.sg_top.specs.Stands.{lines_by, commits_in, committed_lines, replay, StandsForFirst}
 
--- a store without its disk: the objects as they are now, the live transaction, whether it has stopped, and its log
+-- a store without its disk: the objects as they are now, the live transaction and the number of its last record (0
+-- where none is live), whether it has stopped, and its log
 pub record Core : Type 0 where
   pub objects : Objects
   pub live : Option Live
+  pub last : ℕ
   pub stopped : Bool
   pub log : Tail
 
@@ -62,18 +65,23 @@ IsOpenOrNone x ds ps None = ps ≡ []
 IsOpenOrNone x ds ps (Some l) = IsOpen x l.transaction ds ps
 
 -- the log has the committed transactions on the disk, and the live one's lines
-pub record Logs (x : State) (live : Option Live) (log : Tail) (ds ps : List Record) : Type 0 where
+pub record Logs (x : State) (live : Option Live) (ds ps : List Record) : Type 0 where
   pub durable : replay (committed_lines ds) (Some empty) ≡ Some (committed_objects x)
-  pub below : AreBelow log.gate ds
-  pub all_below : AreBelow (tail_of log) (ds ++ ps)
   pub open_one : IsOpenOrNone x ds ps live
 
--- the log holds such records
+-- the last record of the live transaction has this number
+abbrev pub IsLast : Option Live → ℕ → List Numbered → Type 0
+IsLast None last records = Unit {0}
+IsLast (Some l) last records = last ≡ last_of l.transaction records
+
+-- the log holds such records, each of which follows those before it
 pub record Keeps (v : disk.View) (k : Core) (x : State) : Type 0 where
-  pub durable : List Record
-  pub waiting : List Record
+  pub durable : List Numbered
+  pub waiting : List Numbered
   pub holds : Holds v k.log durable waiting
-  pub logs : Logs x k.live k.log durable waiting
+  pub chained : AreChained (durable ++ waiting)
+  pub last : IsLast k.live k.last (durable ++ waiting)
+  pub logs : Logs x k.live (records_of durable) (records_of waiting)
 
 -- a store that isn't stopped shows the run
 pub record Runs (told : Bool) (v : disk.View) (k : Core) (x : State) : Type 0 where

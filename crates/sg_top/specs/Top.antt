@@ -18,8 +18,7 @@ use Rattle.sg_top.specs.declared.status.Status.TheVariants as statuses
 use Rattle.sg_top.specs.declared.words.Command.{Command}
 use Rattle.sg_top.specs.declared.store.Stop as code_stop
 use Rattle.sg_top.specs.declared.store.Stop.TheVariants as stops
-use Rattle.sg_record.specs.Records.{Record}
-use Rattle.sg_log.specs.Frames.{HasRecords}
+use Rattle.sg_log.specs.Frames.{Numbered, HasRecords}
 use Rattle.sg_top.specs.Stands.{StandsFor, StandsForFirst}
 use Rattle.sg_top.specs.Store.{Core}
 use Rattle.sg_top.specs.Ending.{RunsTo, MOST_BYTES}
@@ -95,7 +94,7 @@ pub record Ran (told : Bool) (v w : disk.View) (source left first now : Option (
   pub only : IsTrue told → (s : Objects) → StandsFor (reads_of v) s → s ≡ objects
   pub opened : disk.View
   pub core : Core
-  pub gate : IsTrue told → (ds : List Record) (gate : ℕ) → HasRecords (reads_of v Log0) 0 gate ds → core.log.gate ≡ gate
+  pub gate : IsTrue told → (ds : List Numbered) (gate : ℕ) → HasRecords (reads_of v Log0) 0 gate ds → core.log.gate ≡ gate
   pub opening : IsTrue told → disk.LeavesOnly v opened (disk.Leaves v.now)
   pub handed : opened.handed ≡ v.handed
   pub later : v.faults ≤ opened.faults

@@ -3,25 +3,26 @@ ghost use Rattle.std.specs.Prelude.{◌≡◌, ◌⊎◌, ◌≤◌, ◌<◌, �
 ghost use Rattle.std.specs.List.{flat_map};
 ghost use Rattle.std.specs.FinMap.{empty};
 ghost use Rattle.sg_base.specs.declared.area.Area.TheVariants.{Log0};
-ghost use Rattle.sg_record.specs.Records.{Record, spelled_all, AreRecords, transaction_of};
+ghost use Rattle.sg_record.specs.Records.{Record, spelled_all, AreRecords};
 ghost use Rattle.sg_record.specs.Shown.{shown};
-ghost use Rattle.sg_log.specs.Frames.{Frames, HasRecords, gate_after, GREATEST_BODY};
+ghost use Rattle.sg_log.specs.Following.{AreChainedBehind};
+ghost use Rattle.sg_log.specs.Frames.{Frames, Numbered, numbered_from, HasRecords, gate_after, GREATEST_BODY};
 ghost use Rattle.sg_log.specs.Held.{Holds};
 ghost use Rattle.sg_log.specs.Reads.{OnlyReads};
-ghost use Rattle.sg_top.specs.Stands.{AreBelow, after_line, committed_lines, replay};
-ghost use Rattle.sg_top.specs.Damage.{LineAt, records_at, words_of_all};
-ghost use Rattle.sg_top.specs.Found.{line_of, lines_found, Finds, AreFound, EndsAt, IsReadBack, IsRefusedIn, IsNotFound, IsLineRefused, IsRefusedBy};
+ghost use Rattle.sg_top.specs.Stands.{after_line, committed_lines, replay};
+ghost use Rattle.sg_top.specs.Damage.{LineAt, words_of_all};
+ghost use Rattle.sg_top.specs.Found.{line_of, lines_found, Finds, KnowsLasts, AreFound, EndsAt, IsReadBack, IsRefusedIn, IsNotFound, IsLineRefused, IsRefusedBy};
 ghost use Rattle.sg_top.specs.Opening.{IsRefusedFor};
 ghost use Rattle.sg_top.specs.Shown.{refusal_at};
 
 use crate::found::Found;
 use crate::found_line::FoundLine;
 use crate::opening::OpenRefused;
-use sg_base::{Area, Lsn, OutOfMemory};
+use sg_base::{Area, OutOfMemory};
 use sg_disk::Disk;
 use sg_log::{Log, LogFault};
 use sg_model::Objects;
-use sg_record::{Rec, decode};
+use sg_record::decode;
 use sg_words::parse_said;
 use std::alloc::Global;
 
@@ -46,29 +47,18 @@ fn refusal(fault: LogFault) -> OpenRefused
     }
 }
 
-// The number of a record's transaction.
-fn transaction(r: &Rec<'_>) -> u64
-    ensures { result ≡ transaction_of (shown r.now) }
-{
-    match r {
-        Rec::Begin { txn, prev: _ } | Rec::Commit { txn, prev: _ } => txn.0,
-        Rec::Line { txn, .. } => txn.0,
-    }
-}
-
-// Finds what the records of a frame say, of which the first begins at this offset. `gate` is the
-// number of the log's closed gate: a transaction with a number that isn't below it is refused.
+// Finds what the records of a frame say, of which the first begins at this offset. One that doesn't
+// follow those that were found is refused.
 fn find_in_frame(
     alloc: Global,
     found: &mut Found,
     bytes: &[u8],
     at: u64,
-    gate: Lsn,
 ) -> Result<(), OpenRefused>
     requires { at + length bytes.now < 2 ^ 64 }
-    ensures found { (rs : List Record) → AreRecords rs → bytes.now ≡ spelled_all rs → OnOk result (Finds found.old found.new (records_at at rs)) }
-    ensures below { (rs : List Record) → AreRecords rs → bytes.now ≡ spelled_all rs → OnOk result (AreBelow gate rs) }
-    ensures refused { IfErr result (λ why. IsRefusedIn why gate bytes.now at) }
+    ensures found { (rs : List Record) → AreRecords rs → bytes.now ≡ spelled_all rs → OnOk result (Finds found.old found.new (numbered_from at rs)) }
+    ensures chained { (before : List Numbered) (rs : List Record) → KnowsLasts found.old before → AreRecords rs → bytes.now ≡ spelled_all rs → OnOk result (AreChainedBehind before (numbered_from at rs)) }
+    ensures refused { (before : List Numbered) → KnowsLasts found.old before → IfErr result (λ why. IsRefusedIn why before bytes.now at) }
 {
     let mut from = 0;
     'records: while from < bytes.len() {
@@ -76,7 +66,7 @@ fn find_in_frame(
         let Ok((record, size)) = decode(&bytes[from..]) else {
             return Err(damaged(offset));
         };
-        if transaction(&record) >= gate {
+        if !found.is_followed_by(offset, &record) {
             return Err(damaged(offset));
         }
         match found.note(alloc, offset, &record) {
@@ -97,7 +87,7 @@ fn find_all<D: Disk>(
 ) -> Result<Found, OpenRefused>
     requires room { GREATEST_BODY ≤ length body.old }
     requires base { log.now.base ≡ 0 }
-    ensures found { (frames : List (List Record)) → IsTrue D.told → EndsAt (D.view disk.old) log.now frames → IfOk result (λ found. AreFound found log.now.gate frames) }
+    ensures found { (frames : List (List Record)) → IsTrue D.told → EndsAt (D.view disk.old) log.now frames → IfOk result (λ found. AreFound found frames) }
     ensures refused { IfErr result (λ why. IsNotFound why D.told (D.view disk.old) (D.view disk.new) log.now) }
     ensures reads { OnlyReads D.told (D.view disk.old) (D.view disk.new) }
 {
@@ -106,7 +96,7 @@ fn find_all<D: Disk>(
     'frames: loop {
         match log.frame(disk, gate, body) {
             Ok(Some(size)) => {
-                match find_in_frame(alloc, &mut found, &body[..size], gate + 5, log.durable()) {
+                match find_in_frame(alloc, &mut found, &body[..size], gate + 5) {
                     Ok(()) => gate += 5 + size as u64,
                     Err(why) => return Err(why),
                 }

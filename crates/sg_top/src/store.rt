@@ -13,11 +13,11 @@ ghost use Rattle.sg_words.specs.Run.{live_named};
 ghost use Rattle.sg_words.specs.Shown.{shown_line};
 ghost use Rattle.sg_words.specs.Spoken.{spoken};
 ghost use Rattle.sg_disk.specs.Disk.{LeavesOnly};
-ghost use Rattle.sg_record.specs.Records.{Record, IsRecord};
+ghost use Rattle.sg_record.specs.Records.{IsRecord};
 ghost use Rattle.sg_record.specs.Records.Record.{Line as LineRecord};
 ghost use Rattle.sg_log.specs.Faults.{AppendFails};
-ghost use Rattle.sg_log.specs.Frames.{LOG_END};
-ghost use Rattle.sg_log.specs.Held.{Holds, tail_of, end_of, appended, durable_after, waiting_after, IsBeforeOrAfter};
+ghost use Rattle.sg_log.specs.Frames.{LOG_END, Numbered};
+ghost use Rattle.sg_log.specs.Held.{Holds, tail_of, place_of, end_of, appended, durable_after, waiting_after, IsBeforeOrAfter};
 ghost use Rattle.sg_top.specs.Store.{Shows};
 ghost use Rattle.sg_top.specs.Goes.{Goes, Grows, NEW_WORK_END};
 ghost use Rattle.sg_top.specs.Shown.{shown_answer, live_of, core_of, answer_at, stop_at, IsFullAnswer, StopIsCaused, refusal_at};
@@ -222,14 +222,14 @@ impl<D: Disk> Store<D> {
         requires live { self.old.live ≡ Some live }
         ensures log { OnOk result (self.new.log ≡ appended self.old.log (LineRecord live.txn.0 live.last (spoken text.now))) }
         ensures tail { OnOk result (tail_of self.new.log ≡ end_of self.old.log (LineRecord live.txn.0 live.last (spoken text.now))) }
-        ensures core { OnOk result (core_of self.new ≡ record (core_of self.old) { log = self.new.log }) }
+        ensures core { OnOk result (core_of self.new ≡ record (core_of self.old) { last = place_of self.old.log (LineRecord live.txn.0 live.last (spoken text.now)); log = self.new.log }) }
         ensures range { IsRecord (LineRecord live.txn.0 live.last (spoken text.now)) }
         ensures same { (self.new.objects ≡ self.old.objects) × (self.new.stop ≡ self.old.stop) }
         ensures faults { IfErr result (λ e. AppendFails (end_of self.old.log (LineRecord live.txn.0 live.last (spoken text.now))) (D.view self.old.disk) (D.view self.new.disk) e) }
-        ensures holds { (ds ps : List Record) → IsTrue D.told → Holds (D.view self.old.disk) self.old.log ds ps →
+        ensures holds { (ds ps : List Numbered) → IsTrue D.told → Holds (D.view self.old.disk) self.old.log ds ps →
             OnOk result (Holds (D.view self.new.disk) self.new.log (durable_after self.old.log (LineRecord live.txn.0 live.last (spoken text.now)) ds ps)
             (waiting_after self.old.log (LineRecord live.txn.0 live.last (spoken text.now)) ps)) }
-        ensures any_moment { (ds ps : List Record) → IsTrue D.told → Holds (D.view self.old.disk) self.old.log ds ps →
+        ensures any_moment { (ds ps : List Numbered) → IsTrue D.told → Holds (D.view self.old.disk) self.old.log ds ps →
             LeavesOnly (D.view self.old.disk) (D.view self.new.disk) (IsBeforeOrAfter (D.view self.old.disk).now self.old.log ds ps) }
         ensures grown { Grows self.old.log self.new.log (D.view self.old.disk) (D.view self.new.disk) }
         ensures later { (D.view self.old.disk).faults ≤ (D.view self.new.disk).faults }

@@ -4,8 +4,7 @@ ghost use Rattle.sg_disk.specs.Disk.{FULL, refusing, Spent};
 ghost use Rattle.sg_base.specs.declared.area.Area.{Area};
 ghost use Rattle.sg_base.specs.declared.area.Area.TheVariants.{Log0};
 ghost use Rattle.sg_model.specs.Objects.{Objects};
-ghost use Rattle.sg_record.specs.Records.{Record};
-ghost use Rattle.sg_log.specs.Frames.{HasRecords};
+ghost use Rattle.sg_log.specs.Frames.{Numbered, HasRecords};
 ghost use Rattle.sg_top.specs.Opening.{IsRefusedFor, reads_of};
 ghost use Rattle.sg_top.specs.Script.{MayEnd};
 ghost use Rattle.sg_top.specs.Stands.{StandsFor};
@@ -101,7 +100,7 @@ fn run_behind_fuse<D: Disk, S: Source, K: Sink, O: Origin>(
     ensures too_long { result.status ≡ Status.TooLong → IfSome (S.left script.old) (λ text. MOST_BYTES < length text) }
     ensures damaged { (area : Area) (at : ℕ) → result.status ≡ Status.Damaged area at → IsRefusedFor (OpenRefused.Damaged area at) D.told (refusing (D.view disk) 0) (refusing (D.view result.disk) result.refused) }
     ensures nothing { (area : Area) (at : ℕ) (s : Objects) → result.status ≡ Status.Damaged area at → IsTrue D.told → StandsFor (reads_of (D.view disk)) s → ⊥ }
-    ensures log_end { (ds : List Record) (gate : ℕ) → result.status ≡ Status.LogEnd → IsTrue D.told → HasRecords (reads_of (D.view disk) Log0) 0 gate ds → MayEnd gate (D.view disk) (D.view result.disk) }
+    ensures log_end { (ds : List Numbered) (gate : ℕ) → result.status ≡ Status.LogEnd → IsTrue D.told → HasRecords (reads_of (D.view disk) Log0) 0 gate ds → MayEnd gate (D.view disk) (D.view result.disk) }
     ensures complete { (HasRisen (S.faults script.old) (S.faults script.new) → ⊥) → (HasRisen (K.faults out.old) (K.faults out.new) → ⊥)
         → (HasRisen (D.view disk).faults (D.view result.disk).faults → ⊥) → result.refused ≡ 0 → IsFaultless result.status }
     ensures spent { Spent calls (D.view disk).calls (D.view result.disk).calls result.refused }
@@ -155,7 +154,7 @@ pub fn stasis<D: Disk, S: Source, K: Sink>(
     ensures too_long { result.status ≡ Status.TooLong → IfSome (S.left script.old) (λ text. MOST_BYTES < length text) }
     ensures damaged { (area : Area) (at : ℕ) → result.status ≡ Status.Damaged area at → IsRefusedFor (OpenRefused.Damaged area at) D.told (refusing (D.view disk) 0) (refusing (D.view result.disk) result.refused) }
     ensures nothing { (area : Area) (at : ℕ) (s : Objects) → result.status ≡ Status.Damaged area at → IsTrue D.told → StandsFor (reads_of (D.view disk)) s → ⊥ }
-    ensures log_end { (ds : List Record) (gate : ℕ) → result.status ≡ Status.LogEnd → IsTrue D.told → HasRecords (reads_of (D.view disk) Log0) 0 gate ds → MayEnd gate (D.view disk) (D.view result.disk) }
+    ensures log_end { (ds : List Numbered) (gate : ℕ) → result.status ≡ Status.LogEnd → IsTrue D.told → HasRecords (reads_of (D.view disk) Log0) 0 gate ds → MayEnd gate (D.view disk) (D.view result.disk) }
     ensures complete { are_run words.now ≡ true → (HasRisen (S.faults script.old) (S.faults script.new) → ⊥) → (HasRisen (K.faults out.old) (K.faults out.new) → ⊥)
         → (HasRisen (D.view disk).faults (D.view result.disk).faults → ⊥) → result.refused ≡ 0 → IsFaultless result.status }
     ensures refused { 0 < result.refused → (n : ℕ) × (stop_after words.now ≡ Some n) × ((D.view result.disk).calls < FULL → (D.view result.disk).calls ≡ (D.view disk).calls + n) }

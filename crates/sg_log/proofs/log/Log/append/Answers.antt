@@ -1,10 +1,7 @@
-use Rattle.std.proofs.Common.{◌≤◌, ◌+◌, ◌^◌, length, subst, sym, ap, ◌∙◌, arith}
-use Rattle.sg_record.specs.Records.{spelled}
+use Rattle.std.proofs.Common.{[], ◌++◌, ◌≤◌, ◌+◌, ◌^◌, length, subst, sym, ap, ◌∙◌, arith}
 use Rattle.sg_record.specs.Shown.{shown}
-use Rattle.sg_log.specs.Held.{Tail, Holds, tail_of, end_of, buffered, durable_after, waiting_after}
-use Rattle.sg_log.proofs.Holding.{spelled_most, no_room, no_call_moments, tail_room, tail_no_room, place_forced, forced_empty, holds_room}
-use Rattle.sg_log.specs.Places.{IsPlaced}
-use Rattle.sg_log.proofs.Placing.{placed_room, placed_no_room}
+use Rattle.sg_log.specs.Held.{Tail, Holds, tail_of, end_of, forced, buffered, durable_after, waiting_after}
+use Rattle.sg_log.proofs.Holding.{spelled_most, no_room, no_call_moments, tail_room, tail_no_room, place_forced, forced_empty, holds_room, holds_no_room}
 use Rattle.sg_log.proofs.log.Log.append.Goals as goal
 
 pub overflow_add-lsn : goal.overflow_add-lsn
@@ -44,20 +41,12 @@ returns-clause-tail g c =
 pub returns-clause-calls : goal.returns-clause-calls
 returns-clause-calls g c full = c.in_ok-force.ensures.calls (no_room c.args.self.now (shown c.args.r.now) c.requires full)
 
-pub returns-then-has_room-clause-places : goal.returns-then-has_room-clause-places
-returns-then-has_room-clause-places g c ds ps before told h =
+pub returns-clause-holds : goal.returns-clause-holds
+returns-clause-holds g c ds ps told h =
     let log = c.args.self.now in
     let r = shown c.args.r.now in
+    let is = sym c.has_room.ensures ∙ c.if-has_room.false in
     let within : end_of log r ≤ 2 ^ 63 = omega arith in
-    subst (λ (t : Tail). IsPlaced (g.D.Disk.view c.args.disk.now) t (durable_after log r ds ps) (waiting_after log r ps) before c.buffer.result r) (sym c.buffer.ensures.log)
-    (placed_room r c.buffer.result h c.requires (sym c.has_room.ensures ∙ c.if-has_room.true) within c.buffer.ensures.lsn)
-
-pub returns-clause-places : goal.returns-clause-places
-returns-clause-places g c ds ps before told h =
-    let log = c.args.self.now in
-    let r = shown c.args.r.now in
-    let mid = c.force.new.self in
-    let none = sym c.has_room.ensures ∙ c.if-has_room.false in
-    let there : mid.gate + 5 + length mid.buffer + length (spelled r) ≤ 2 ^ 63 = omega (arith, ap (λ (t : Tail). t.gate + 5 + length t.buffer) c.in_ok-force.ensures.log, place_forced log r c.requires none) in
-    subst (λ (t : Tail). IsPlaced (g.D.Disk.view c.force.new.disk) t (durable_after log r ds ps) (waiting_after log r ps) before c.buffer-2.result r) (sym c.buffer-2.ensures.log)
-    (placed_no_room log ds ps {mid = mid} r c.buffer-2.result (c.in_ok-force.ensures.places ds ps before told h) c.requires none there c.buffer-2.ensures.lsn)
+    let mid : Holds (g.D.Disk.view c.force.new.disk) (forced log) (ds ++ ps) [] = subst (λ (t : Tail). Holds (g.D.Disk.view c.force.new.disk) t (ds ++ ps) []) c.in_ok-force.ensures.log (c.in_ok-force.ensures.holds ds ps told h) in
+    subst (λ (t : Tail). Holds (g.D.Disk.view c.force.new.disk) t (durable_after log r ds ps) (waiting_after log r ps)) (sym (c.buffer-2.ensures.log ∙ ap (λ (t : Tail). buffered t r) c.in_ok-force.ensures.log))
+    (holds_no_room (g.D.Disk.view c.force.new.disk) log ds ps r mid c.requires is within)

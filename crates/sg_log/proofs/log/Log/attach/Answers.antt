@@ -1,6 +1,6 @@
 use Rattle.std.proofs.Common.{◌≡◌}
 use Rattle.sg_log.specs.declared.fault.LogFault.TheVariants.{Damaged}
-use Rattle.sg_log.specs.Frames.{records_of}
+use Rattle.sg_log.specs.Frames.{numbered_in}
 use Rattle.sg_log.specs.Held.{Tail}
 use Rattle.sg_log.proofs.Attached.{found_records, found_holds, found_these, fails_damaged, damage_found}
 use Rattle.sg_log.proofs.Chain.{undamaged}
@@ -11,7 +11,7 @@ returns-in-Ok-clause-holds g c told settled =
     let found = c.in-Ok.ensures.gate told in
     let old = g.D.Disk.view c.args.disk.now in
     let new = g.D.Disk.view c.find_gate.new.disk in (
-      records_of found.0,
+      numbered_in c.args.base found.0,
       found_records g.D.Disk.told c.args.area c.args.base c.in-Ok.gate old new told c.find_gate.ensures.reads c.in-Ok.ensures.within found.0 found.1 found.2,
       found_holds g.D.Disk.told c.args.area c.args.base c.in-Ok.gate old new told c.find_gate.ensures.reads c.in-Ok.ensures.within found.0 found.1 found.2 settled,
     )

@@ -5,8 +5,6 @@ use Rattle.sg_disk.proofs.Moments.{weaker}
 use Rattle.sg_log.specs.Frames.{HasRecords, SameElsewhere}
 use Rattle.sg_log.specs.Held.{Tail, Holds, tail_of, IsBeforeOrAfter}
 use Rattle.sg_log.proofs.Holding.{holds_image, no_call_moments, force_nothing, buffer_none, buffer_size, waiting_rest, waiting_frame, force_moment, force_done, force_text, tail_behind, tail_empty}
-use Rattle.sg_log.specs.Places.{HoldsAt}
-use Rattle.sg_log.proofs.Placing.{nothing_placed, force_placed}
 use Rattle.sg_log.proofs.log.Log.force.Goals as goal
 
 pub returns-then-self-eq0-clause-holds : goal.returns-then-self-eq0-clause-holds
@@ -30,8 +28,8 @@ returns-in_err-write_frame-clause-any_moment g c ds ps told h0 =
     let size : length log.buffer ≡ i.used = buffer_size i.used i.frame.items c.self.invariant.0.short c.self.invariant.1 in
     let some : 0 < length log.buffer = omega arith in
     let most : length log.buffer ≤ 65536 = omega (arith, c.self.invariant.0.short) in
-    let text = force_text i.used i.frame.items c.deref_mut.result.now c.seal.new.frame c.deref.result.now ps c.seal.ensures.text c.deref_mut.ensures.value (c.deref.ensures.value ∙ with_items_is i.frame c.seal.new.frame (omega (arith, c.seal.auto.frame, ap length c.deref_mut.ensures.value, i.frame.ok.0))) h.waiting in
-    let moments = c.write_frame.ensures.any_moment h.frames ps told (waiting_rest h) (waiting_frame h some most) text in
+    let text = force_text i.used i.frame.items c.deref_mut.result.now c.seal.new.frame c.deref.result.now h.body c.seal.ensures.text c.deref_mut.ensures.value (c.deref.ensures.value ∙ with_items_is i.frame c.seal.new.frame (omega (arith, c.seal.auto.frame, ap length c.deref_mut.ensures.value, i.frame.ok.0))) h.waiting in
+    let moments = c.write_frame.ensures.any_moment h.frames h.body told (waiting_rest h) (waiting_frame h some most) text in
     subst (λ (t : Tail). LeavesOnly (g.D.Disk.view c.args.disk.now) (g.D.Disk.view c.write_frame.new.disk) (IsBeforeOrAfter (g.D.Disk.view c.args.disk.now).now t ds ps)) c.self.view_is (weaker moments (force_moment h some))
 
 pub returns-clause-any_moment : goal.returns-clause-any_moment
@@ -42,8 +40,8 @@ returns-clause-any_moment g c ds ps told h0 =
     let size : length log.buffer ≡ i.used = buffer_size i.used i.frame.items c.self.invariant.0.short c.self.invariant.1 in
     let some : 0 < length log.buffer = omega arith in
     let most : length log.buffer ≤ 65536 = omega (arith, c.self.invariant.0.short) in
-    let text = force_text i.used i.frame.items c.deref_mut.result.now c.seal.new.frame c.deref.result.now ps c.seal.ensures.text c.deref_mut.ensures.value (c.deref.ensures.value ∙ with_items_is i.frame c.seal.new.frame (omega (arith, c.seal.auto.frame, ap length c.deref_mut.ensures.value, i.frame.ok.0))) h.waiting in
-    let moments = c.write_frame.ensures.any_moment h.frames ps told (waiting_rest h) (waiting_frame h some most) text in
+    let text = force_text i.used i.frame.items c.deref_mut.result.now c.seal.new.frame c.deref.result.now h.body c.seal.ensures.text c.deref_mut.ensures.value (c.deref.ensures.value ∙ with_items_is i.frame c.seal.new.frame (omega (arith, c.seal.auto.frame, ap length c.deref_mut.ensures.value, i.frame.ok.0))) h.waiting in
+    let moments = c.write_frame.ensures.any_moment h.frames h.body told (waiting_rest h) (waiting_frame h some most) text in
     subst (λ (t : Tail). LeavesOnly (g.D.Disk.view c.args.disk.now) (g.D.Disk.view c.write_frame.new.disk) (IsBeforeOrAfter (g.D.Disk.view c.args.disk.now).now t ds ps)) c.self.view_is (weaker moments (force_moment h some))
 
 pub returns-clause-holds : goal.returns-clause-holds
@@ -54,8 +52,8 @@ returns-clause-holds g c ds ps told h0 =
     let size : length log.buffer ≡ i.used = buffer_size i.used i.frame.items c.self.invariant.0.short c.self.invariant.1 in
     let some : 0 < length log.buffer = omega arith in
     let most : length log.buffer ≤ 65536 = omega (arith, c.self.invariant.0.short) in
-    let text = force_text i.used i.frame.items c.deref_mut.result.now c.seal.new.frame c.deref.result.now ps c.seal.ensures.text c.deref_mut.ensures.value (c.deref.ensures.value ∙ with_items_is i.frame c.seal.new.frame (omega (arith, c.seal.auto.frame, ap length c.deref_mut.ensures.value, i.frame.ok.0))) h.waiting in
-    let done = c.in_ok-write_frame.ensures.done h.frames ps told (waiting_rest h) (waiting_frame h some most) text in
+    let text = force_text i.used i.frame.items c.deref_mut.result.now c.seal.new.frame c.deref.result.now h.body c.seal.ensures.text c.deref_mut.ensures.value (c.deref.ensures.value ∙ with_items_is i.frame c.seal.new.frame (omega (arith, c.seal.auto.frame, ap length c.deref_mut.ensures.value, i.frame.ok.0))) h.waiting in
+    let done = c.in_ok-write_frame.ensures.done h.frames h.body told (waiting_rest h) (waiting_frame h some most) text in
     force_done h some (g.D.Disk.view c.write_frame.new.disk) (take (i.used + 5) c.deref.result.now) (i.gate + (i.used + 5)) text (omega arith) done
 
 pub returns-clause-after : goal.returns-clause-after
@@ -66,28 +64,11 @@ returns-clause-after g c ds ps told h0 =
     let size : length log.buffer ≡ i.used = buffer_size i.used i.frame.items c.self.invariant.0.short c.self.invariant.1 in
     let some : 0 < length log.buffer = omega arith in
     let most : length log.buffer ≤ 65536 = omega (arith, c.self.invariant.0.short) in
-    let text = force_text i.used i.frame.items c.deref_mut.result.now c.seal.new.frame c.deref.result.now ps c.seal.ensures.text c.deref_mut.ensures.value (c.deref.ensures.value ∙ with_items_is i.frame c.seal.new.frame (omega (arith, c.seal.auto.frame, ap length c.deref_mut.ensures.value, i.frame.ok.0))) h.waiting in
-    let done = c.in_ok-write_frame.ensures.done h.frames ps told (waiting_rest h) (waiting_frame h some most) text in
+    let text = force_text i.used i.frame.items c.deref_mut.result.now c.seal.new.frame c.deref.result.now h.body c.seal.ensures.text c.deref_mut.ensures.value (c.deref.ensures.value ∙ with_items_is i.frame c.seal.new.frame (omega (arith, c.seal.auto.frame, ap length c.deref_mut.ensures.value, i.frame.ok.0))) h.waiting in
+    let done = c.in_ok-write_frame.ensures.done h.frames h.body told (waiting_rest h) (waiting_frame h some most) text in
     let held = force_done h some (g.D.Disk.view c.write_frame.new.disk) (take (i.used + 5) c.deref.result.now) (i.gate + (i.used + 5)) text (omega arith) done in
     subst (λ (t : Tail). (image : Image) → Leaves (g.D.Disk.view c.write_frame.new.disk).now image → HasRecords (image t.area) t.base (tail_of t) (ds ++ ps)) c.self.view_is (subst (λ (n : ℕ). (image : Image) → Leaves (g.D.Disk.view c.write_frame.new.disk).now image → HasRecords (image log.area) log.base n (ds ++ ps)) (omega (arith, tail_behind log some)) (holds_image held))
 
 pub returns-clause-elsewhere : goal.returns-clause-elsewhere
 returns-clause-elsewhere g c told =
     subst (λ (t : Tail). SameElsewhere t.area (g.D.Disk.view c.args.disk.now).now (g.D.Disk.view c.write_frame.new.disk).now) c.self.view_is (c.in_ok-write_frame.ensures.elsewhere told)
-
-pub returns-then-self-eq0-clause-places : goal.returns-then-self-eq0-clause-places
-returns-then-self-eq0-clause-places g c ds ps before told h =
-    nothing_placed h (ap (λ (t : Tail). length t.buffer) (sym c.self.view_is) ∙ buffer_none c.self.inside.used c.self.inside.frame.items c.if-self-eq0.true)
-
-pub returns-clause-places : goal.returns-clause-places
-returns-clause-places g c ds ps before told h0 =
-    let i = c.self.inside in
-    let log : Tail = record { area = i.area; base = i.base; gate = i.gate; buffer = take i.used (drop 4 i.frame.items) } in
-    let k = subst (λ (t : Tail). HoldsAt (g.D.Disk.view c.args.disk.now) t ds ps before) (sym c.self.view_is) h0 in
-    let h = k.holds in
-    let size : length log.buffer ≡ i.used = buffer_size i.used i.frame.items c.self.invariant.0.short c.self.invariant.1 in
-    let some : 0 < length log.buffer = omega arith in
-    let most : length log.buffer ≤ 65536 = omega (arith, c.self.invariant.0.short) in
-    let text = force_text i.used i.frame.items c.deref_mut.result.now c.seal.new.frame c.deref.result.now ps c.seal.ensures.text c.deref_mut.ensures.value (c.deref.ensures.value ∙ with_items_is i.frame c.seal.new.frame (omega (arith, c.seal.auto.frame, ap length c.deref_mut.ensures.value, i.frame.ok.0))) h.waiting in
-    let done = c.in_ok-write_frame.ensures.done h.frames ps told (waiting_rest h) (waiting_frame h some most) text in
-    force_placed k some (g.D.Disk.view c.write_frame.new.disk) (take (i.used + 5) c.deref.result.now) (i.gate + (i.used + 5)) text (omega arith) done

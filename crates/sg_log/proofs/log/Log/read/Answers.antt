@@ -6,7 +6,7 @@ use Rattle.sg_log.proofs.Waiting.{ok_no_err, waiting_front}
 use Rattle.sg_log.proofs.log.Log.read.Goals as goal
 
 pub returns-then-is_before_gate-clause-record : goal.returns-then-is_before_gate-clause-record
-returns-then-is_before_gate-clause-record g c ds ps held r told h among = ⊎_elim
+returns-then-is_before_gate-clause-record g c ds ps r told h among = ⊎_elim
     (λ d. c.read_durable.ensures.text r told d)
     (λ w.
     let within : c.args.at < c.args.self.now.gate = (c.is_before_gate.ensures.0 c.if-is_before_gate.true).1 in
@@ -14,7 +14,7 @@ returns-then-is_before_gate-clause-record g c ds ps held r told h among = ⊎_el
     (there h c.args.at r among)
 
 pub returns-else-is_before_gate-clause-record : goal.returns-else-is_before_gate-clause-record
-returns-else-is_before_gate-clause-record g c ds ps held r told h among = ⊎_elim
+returns-else-is_before_gate-clause-record g c ds ps r told h among = ⊎_elim
     (λ d.
     let low : c.args.self.now.base ≤ c.args.at = d.front in
     let high : c.args.at + length (spelled r) ≤ c.args.self.now.gate = d.before in
@@ -25,7 +25,7 @@ returns-else-is_before_gate-clause-record g c ds ps held r told h among = ⊎_el
     (there h c.args.at r among)
 
 pub returns-then-is_before_gate-clause-size : goal.returns-then-is_before_gate-clause-size
-returns-then-is_before_gate-clause-size g c ds ps held r told h among = ⊎_elim
+returns-then-is_before_gate-clause-size g c ds ps r told h among = ⊎_elim
     (λ d. c.read_durable.ensures.size r told d)
     (λ w.
     let within : c.args.at < c.args.self.now.gate = (c.is_before_gate.ensures.0 c.if-is_before_gate.true).1 in
@@ -33,7 +33,7 @@ returns-then-is_before_gate-clause-size g c ds ps held r told h among = ⊎_elim
     (there h c.args.at r among)
 
 pub returns-else-is_before_gate-clause-size : goal.returns-else-is_before_gate-clause-size
-returns-else-is_before_gate-clause-size g c ds ps held r told h among = ⊎_elim
+returns-else-is_before_gate-clause-size g c ds ps r told h among = ⊎_elim
     (λ d.
     let low : c.args.self.now.base ≤ c.args.at = d.front in
     let high : c.args.at + length (spelled r) ≤ c.args.self.now.gate = d.before in
@@ -44,7 +44,7 @@ returns-else-is_before_gate-clause-size g c ds ps held r told h among = ⊎_elim
     (there h c.args.at r among)
 
 pub returns-then-is_before_gate-clause-failed : goal.returns-then-is_before_gate-clause-failed
-returns-then-is_before_gate-clause-failed g c ds ps held r told h among = ⊎_elim
+returns-then-is_before_gate-clause-failed g c ds ps r told h among = ⊎_elim
     (λ d. c.read_durable.ensures.failed r told d)
     (λ w.
     let within : c.args.at < c.args.self.now.gate = (c.is_before_gate.ensures.0 c.if-is_before_gate.true).1 in
@@ -52,7 +52,7 @@ returns-then-is_before_gate-clause-failed g c ds ps held r told h among = ⊎_el
     (there h c.args.at r among)
 
 pub returns-else-is_before_gate-clause-failed : goal.returns-else-is_before_gate-clause-failed
-returns-else-is_before_gate-clause-failed g c ds ps held r told h among = ⊎_elim
+returns-else-is_before_gate-clause-failed g c ds ps r told h among = ⊎_elim
     (λ d.
     let low : c.args.self.now.base ≤ c.args.at = d.front in
     let high : c.args.at + length (spelled r) ≤ c.args.self.now.gate = d.before in
