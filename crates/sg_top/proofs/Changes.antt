@@ -21,22 +21,24 @@ use Rattle.sg_words.specs.Spoken.{op_said}
 use Rattle.sg_words.proofs.Steps.{live_objects-did}
 use Rattle.sg_record.specs.Records.{Record, IsRecord}
 use Rattle.sg_record.specs.Records.Record.{Begin as BeginRecord, Commit as CommitRecord, Line as LineRecord}
-use Rattle.sg_log.specs.Frames.{LOG_END, HasRecords}
+use Rattle.sg_log.specs.Frames.{LOG_END, Numbered, records_of, HasRecords}
 use Rattle.sg_log.specs.Faults.{AppendFails, ForceFails}
 use Rattle.sg_log.specs.declared.fault.LogFault.{LogFault}
 use Rattle.sg_log.specs.declared.fault.LogFault.TheVariants as faults
-use Rattle.sg_log.specs.Held.{Tail, tail_of, has_room, place_of, end_of, appended, forced, Holds, durable_after, waiting_after}
+use Rattle.sg_log.specs.Held.{Tail, tail_of, has_room, place_of, end_of, numbered, appended, forced, Holds, durable_after, waiting_after}
 use Rattle.sg_log.proofs.Holding.{all_appended, spelled_most, forced_empty}
-use Rattle.sg_top.specs.Stands.{AreBelow, lines_by, commits_in, committed_lines, replay, after_line, after_op, if_replied, StandsFor, StandsForFirst}
-use Rattle.sg_top.specs.Store.{Core, AreSerial, AreOwn, IsNotAmong, IsOpen, IsOpenOrNone, Logs, Keeps, Runs, Shows}
+use Rattle.sg_log.specs.Following.{last_of, AreChained}
+use Rattle.sg_log.proofs.Following.{held_low}
+use Rattle.sg_top.specs.Stands.{lines_by, commits_in, committed_lines, replay, after_line, after_op, if_replied, StandsFor, StandsForFirst}
+use Rattle.sg_top.specs.Store.{Core, AreSerial, AreOwn, IsNotAmong, IsOpen, IsOpenOrNone, IsLast, Logs, Keeps, Runs, Shows}
 use Rattle.sg_top.specs.Shown.{shown_answer, answer_at, IsFullAnswer, StopIsCaused, stop_at as stop_code}
 use Rattle.sg_top.specs.declared.store.Stop as code_stop
 use Rattle.sg_top.specs.declared.answer.Answer as code_answer
 use Rattle.sg_top.specs.Goes.{Goes, NEW_WORK_END, IsWork}
-use Rattle.sg_top.proofs.Replays.{replay-append, lines_by-above, commits_in-above, lines_by-append, lines_by-line, below-append, below-weaker}
+use Rattle.sg_top.proofs.Replays.{AreBelow, chained_below, last_or-above, replay-append, lines_by-above, commits_in-above, lines_by-append, lines_by-line}
 use Rattle.sg_top.proofs.Serial.{serial_began, serial_did, serial_committed, committed_live, without_one, after_commits}
-use Rattle.sg_top.proofs.Steps.{op_end, op_memory, ends_within, grows_changing, going_turn, named_none, named_one, tail-place, appended_place, forced_place, running_shows, stopped_shows, line_said, caused_said, own_after, uncommitted_after, durable_lines, durable_below, appended_either, forced_gate, one_after, begin-length, commit-length, place-tail, appended_short, HoldsAfter, MomentsOf}
-use Rattle.sg_top.proofs.Standing.{IsEither, forced_lines, stands_either, of_log, replay_commit, first_same, first_others, first_all, stands}
+use Rattle.sg_top.proofs.Steps.{op_end, op_memory, ends_within, grows_changing, going_turn, named_none, named_one, tail-place, appended_place, forced_place, running_shows, stopped_shows, line_said, caused_said, own_after, uncommitted_after, durable_lines, logs_after, all_after, chained_after, last_after, appended_either, one_after, begin-length, commit-length, place-tail, appended_short, HoldsAfter, MomentsOf}
+use Rattle.sg_top.proofs.Standing.{IsEither, records_of-append, forced_lines, stands_either, of_log, replay_commit, first_same, first_others, first_all, stands}
 
 -- The store isn't stopped
 module _ (told : Bool) (v : disk.View) (k : Core) (x : State) (shows : Shows told v k x) (running : k.stopped ≡ false) where
@@ -51,6 +53,10 @@ module _ (told : Bool) (v : disk.View) (k : Core) (x : State) (shows : Shows tol
 
   one_live : (l : Live) → k.live ≡ Some l → x.live ≡ l ∷ []
   one_live l one = runs.live ∙ ap option_to_list one
+
+  -- the number of the live transaction's last record
+  last_is : (l : Live) (h : Keeps v k x) → k.live ≡ Some l → k.last ≡ last_of l.transaction (h.durable ++ h.waiting)
+  last_is l h one = subst (λ (o : Option Live). IsLast o k.last (h.durable ++ h.waiting)) one h.last
 
   -- what an operation is answered
   op_turn : (name : List ℕ) (op : Op) (l : Live) → k.live ≡ Some l → l.name ≡ name → (n : ℕ) → turn x n (Txn name (Do op)) ≡ (answer_of (step k.objects op).0, did x l.transaction op)
@@ -81,11 +87,11 @@ module _ (told : Bool) (v : disk.View) (k : Core) (x : State) (shows : Shows tol
               durable = kept_logs.durable;
               waiting = kept_logs.waiting;
               holds = kept_logs.holds;
+              chained = kept_logs.chained;
+              last = kept_logs.last;
               logs = record {
                 durable = kept_logs.logs.durable;
-                below = kept_logs.logs.below;
-                all_below = kept_logs.logs.all_below;
-                open_one = still_open k.live kept_logs.durable kept_logs.waiting live kept_logs.logs.open_one;
+                open_one = still_open k.live (records_of kept_logs.durable) (records_of kept_logs.waiting) live kept_logs.logs.open_one;
               };
             };
       }) in
@@ -104,11 +110,11 @@ module _ (told : Bool) (v : disk.View) (k : Core) (x : State) (shows : Shows tol
 
   -- an operation whose line the log keeps
   pub op_logged : (name : List ℕ) (op : Op) (l : Live) (reply : Reply) (o : Objects) (w : disk.View) (new : Tail) (previous : ℕ) (words : List ℕ) → k.live ≡ Some l → l.name ≡ name
-      → o ≡ (step k.objects op).1 → (step k.objects op).0 ≡ Ok reply → op_said words ≡ Some op → IsRecord (LineRecord l.transaction previous words) → tail_of k.log ≤ NEW_WORK_END
+      → o ≡ (step k.objects op).1 → (step k.objects op).0 ≡ Ok reply → op_said words ≡ Some op → IsRecord (LineRecord l.transaction previous words) → previous ≡ k.last → tail_of k.log ≤ NEW_WORK_END
       → new ≡ appended k.log (LineRecord l.transaction previous words) → tail_of new ≡ end_of k.log (LineRecord l.transaction previous words)
       → HoldsAfter told v w k.log new (LineRecord l.transaction previous words) → MomentsOf told v w k.log
-      → Goes told v k x (Txn name (Do op)) (Said reply) w (record k { objects = o; log = new })
-  op_logged name op l reply o w new previous words one is answered replied says fields low is_new tail holds call =
+      → Goes told v k x (Txn name (Do op)) (Said reply) w (record k { objects = o; last = place_of k.log (LineRecord l.transaction previous words); log = new })
+  op_logged name op l reply o w new previous words one is answered replied says fields follows low is_new tail holds call =
       let y : State = did x l.transaction op in
       let r : Record = LineRecord l.transaction previous words in
       let t : ℕ = l.transaction in
@@ -117,8 +123,9 @@ module _ (told : Bool) (v : disk.View) (k : Core) (x : State) (shows : Shows tol
       let on : after_line (live_objects x) words ≡ Some (live_objects y) =
       ap (after_op (live_objects x)) says ∙ (ap (λ (m : Objects). if_replied (step m op).0 (step m op).1) (sym runs.objects) ∙ (ap (λ a. if_replied a (step k.objects op).1) replied ∙ ap Some (sym live))) in
       let rises : tail_of k.log ≤ tail_of new = omega (arith, tail-place k.log r, tail) in
-      let numbered : t < x.next = (subst (AreSerial x) (one_live l one) runs.serial.live).1 in
-      let after : Shows told w (record k { objects = o; log = new }) y = running_shows told w (record k { objects = o; log = new }) y running going (record {
+      let low_number : t < x.next = (subst (AreSerial x) (one_live l one) runs.serial.live).1 in
+      let m : Core = record k { objects = o; last = place_of k.log r; log = new } in
+      let after : Shows told w m y = running_shows told w m y running going (record {
         serial = serial_did x l op runs.serial (one_live l one);
         objects = answered ∙ sym live;
         live = runs.live;
@@ -129,23 +136,26 @@ module _ (told : Bool) (v : disk.View) (k : Core) (x : State) (shows : Shows tol
         short = subst (λ (z : Tail). length z.buffer ≤ 65536) (sym is_new) (appended_short k.log r (omega (arith, spelled_most r fields)) runs.short);
         keeps = λ is_told.
             let h = runs.keeps is_told in
-            let was : IsOpen x t h.durable h.waiting = subst (IsOpenOrNone x h.durable h.waiting) one h.logs.open_one in
-            let all = all_appended k.log r h.durable h.waiting in
+            let ds : List Record = records_of h.durable in
+            let ps : List Record = records_of h.waiting in
+            let was : IsOpen x t ds ps = subst (IsOpenOrNone x ds ps) one h.logs.open_one in
+            let room : Bool = has_room k.log r in
+            let all = all_after room ds ps r in
             record {
               durable = durable_after k.log r h.durable h.waiting;
               waiting = waiting_after k.log r h.waiting;
               holds = holds h.durable h.waiting is_told h.holds;
-              logs = record {
-                durable = ap (λ (ls : List (List ℕ)). replay ls (Some empty)) (durable_lines (has_room k.log r) h.durable h.waiting (forced_lines x h.durable h.waiting k.live h.logs.open_one)) ∙ h.logs.durable;
-                below = subst (λ (z : Tail). AreBelow z.gate (durable_after k.log r h.durable h.waiting)) (sym is_new) (durable_below k.log r h.durable h.waiting h.logs.below h.logs.all_below);
-                all_below = subst (AreBelow (tail_of new)) (sym all) (below-append (tail_of new) (h.durable ++ h.waiting) (r ∷ []) (below-weaker (tail_of k.log) (tail_of new) (h.durable ++ h.waiting) rises h.logs.all_below) (omega (arith, numbered, runs.next, rises), tt));
-                open_one = subst (IsOpenOrNone y (durable_after k.log r h.durable h.waiting) (waiting_after k.log r h.waiting)) (sym one) (record {
-                  own = own_after (has_room k.log r) t h.waiting r was.own (refl, tt);
-                  uncommitted = uncommitted_after (has_room k.log r) t h.durable h.waiting was.own was.uncommitted;
-                  lines = ap (λ (rs : List Record). replay (lines_by t rs) (Some (committed_objects x))) all ∙ (ap (λ (ls : List (List ℕ)). replay ls (Some (committed_objects x))) (lines_by-line t previous words (h.durable ++ h.waiting))
-                      ∙ (replay-append (lines_by t (h.durable ++ h.waiting)) (words ∷ []) (Some (committed_objects x)) ∙ (ap (replay (words ∷ [])) was.lines ∙ on)));
+              chained = chained_after k.log r h.durable h.waiting h.chained (record { owned = omega (arith, low_number, runs.next, tail-place k.log r); previous = follows ∙ last_is l h one });
+              last = subst (λ (o : Option Live). IsLast o (place_of k.log r) (durable_after k.log r h.durable h.waiting ++ waiting_after k.log r h.waiting)) (sym one) (last_after k.log r h.durable h.waiting);
+              logs = logs_after room y k.live h.durable h.waiting (numbered k.log r) (record {
+                durable = ap (λ (ls : List (List ℕ)). replay ls (Some empty)) (durable_lines room ds ps (forced_lines x ds ps k.live h.logs.open_one)) ∙ h.logs.durable;
+                open_one = subst (IsOpenOrNone y (cond room ds (ds ++ ps)) (cond room (ps ++ r ∷ []) (r ∷ []))) (sym one) (record {
+                  own = own_after room t ps r was.own (refl, tt);
+                  uncommitted = uncommitted_after room t ds ps was.own was.uncommitted;
+                  lines = ap (λ (rs : List Record). replay (lines_by t rs) (Some (committed_objects x))) all ∙ (ap (λ (ls : List (List ℕ)). replay ls (Some (committed_objects x))) (lines_by-line t previous words (ds ++ ps))
+                      ∙ (replay-append (lines_by t (ds ++ ps)) (words ∷ []) (Some (committed_objects x)) ∙ (ap (replay (words ∷ [])) was.lines ∙ on)));
                 });
-              };
+              });
             };
       }) in
       record {
@@ -156,7 +166,7 @@ module _ (told : Bool) (v : disk.View) (k : Core) (x : State) (shows : Shows tol
         shows = after;
         moments = λ is_told.
             let h = runs.keeps is_told in
-            moments.weaker (call h.durable h.waiting is_told h.holds) (λ c here. first_same x y x.answered c refl refl (omega (arith, runs.answered)) (stands_either x k.live k.log h.durable h.waiting c h.logs (of_log k.log runs.area runs.base here)));
+            moments.weaker (call h.durable h.waiting is_told h.holds) (λ c here. first_same x y x.answered c refl refl (omega (arith, runs.answered)) (stands_either h c (of_log k.log runs.area runs.base here)));
       }
 
   -- the turn of a begin where none is live
@@ -166,15 +176,15 @@ module _ (told : Bool) (v : disk.View) (k : Core) (x : State) (shows : Shows tol
       going_turn x n name Begin going ∙ (ap (turn_begin x n name) (named_none x name (none_live none)) ∙ ap (λ b. cond b (Said Done, began x n name) (TooManyLive, x)) few)
 
   -- a transaction begins
-  pub begun : (name : List ℕ) (n previous : ℕ) (w : disk.View) (new : Tail) → k.live ≡ None → tail_of k.log ≤ NEW_WORK_END → n ≡ place_of k.log (BeginRecord n previous)
+  pub begun : (name : List ℕ) (n last previous : ℕ) (w : disk.View) (new : Tail) → k.live ≡ None → tail_of k.log ≤ NEW_WORK_END → n ≡ place_of k.log (BeginRecord n previous) → last ≡ place_of k.log (BeginRecord n previous) → previous ≡ 0
       → new ≡ appended k.log (BeginRecord n previous) → tail_of new ≡ end_of k.log (BeginRecord n previous)
       → HoldsAfter told v w k.log new (BeginRecord n previous) → MomentsOf told v w k.log
-      → Goes told v k x (Txn name Begin) (Said Done) w (record k { live = Some (record { name = name; transaction = n }); log = new })
-  begun name n previous w new none low place is_new tail holds call =
+      → Goes told v k x (Txn name Begin) (Said Done) w (record k { live = Some (record { name = name; transaction = n }); last = last; log = new })
+  begun name n last previous w new none low place is_last first is_new tail holds call =
       let y : State = began x n name in
       let r : Record = BeginRecord n previous in
       let l : Live = record { name = name; transaction = n } in
-      let m : Core = record k { live = Some l; log = new } in
+      let m : Core = record k { live = Some l; last = last; log = new } in
       let at : tail_of k.log ≤ n = omega (arith, tail-place k.log r, place) in
       let rises : n + 21 ≤ tail_of new = omega (arith, tail, place, begin-length n previous) in
       let settled : live_objects x ≡ committed_objects x = subst (AreSerial x) (none_live none) runs.serial.live in
@@ -189,26 +199,30 @@ module _ (told : Bool) (v : disk.View) (k : Core) (x : State) (shows : Shows tol
         short = subst (λ (z : Tail). length z.buffer ≤ 65536) (sym is_new) (appended_short k.log r (omega (arith, begin-length n previous)) runs.short);
         keeps = λ is_told.
             let h = runs.keeps is_told in
-            let empty_buffer : h.waiting ≡ [] = subst (IsOpenOrNone x h.durable h.waiting) none h.logs.open_one in
-            let all = all_appended k.log r h.durable h.waiting in
-            let one = one_after (has_room k.log r) h.waiting r empty_buffer in
-            let was_below : AreBelow (tail_of k.log) (h.durable ++ h.waiting) = h.logs.all_below in
-            let no_lines : lines_by n ((h.durable ++ h.waiting) ++ r ∷ []) ≡ [] = lines_by-append n (h.durable ++ h.waiting) (r ∷ []) ∙ (append-nil (lines_by n (h.durable ++ h.waiting)) ∙ lines_by-above n (tail_of k.log) (h.durable ++ h.waiting) was_below at) in
-            let before : IsNotAmong n (commits_in h.durable) = subst (λ (rs : List Record). IsNotAmong n (commits_in rs)) (ap (λ (rs : List Record). h.durable ++ rs) empty_buffer ∙ append-nil h.durable) (commits_in-above n (tail_of k.log) (h.durable ++ h.waiting) was_below at) in
+            let ds : List Record = records_of h.durable in
+            let ps : List Record = records_of h.waiting in
+            let room : Bool = has_room k.log r in
+            let empty_buffer : ps ≡ [] = subst (IsOpenOrNone x ds ps) none h.logs.open_one in
+            let all = all_after room ds ps r in
+            let one = one_after room ps r empty_buffer in
+            let below : AreBelow (tail_of k.log) (records_of (h.durable ++ h.waiting)) = chained_below (tail_of k.log) [] (h.durable ++ h.waiting) h.chained (held_low h.holds) in
+            let was_below : AreBelow (tail_of k.log) (ds ++ ps) = subst (AreBelow (tail_of k.log)) (records_of-append h.durable h.waiting) below in
+            let no_lines : lines_by n ((ds ++ ps) ++ r ∷ []) ≡ [] = lines_by-append n (ds ++ ps) (r ∷ []) ∙ (append-nil (lines_by n (ds ++ ps)) ∙ lines_by-above n (tail_of k.log) (ds ++ ps) was_below at) in
+            let before : IsNotAmong n (commits_in ds) = subst (λ (rs : List Record). IsNotAmong n (commits_in rs)) (ap (λ (rs : List Record). ds ++ rs) empty_buffer ∙ append-nil ds) (commits_in-above n (tail_of k.log) (ds ++ ps) was_below at) in
             record {
               durable = durable_after k.log r h.durable h.waiting;
               waiting = waiting_after k.log r h.waiting;
               holds = holds h.durable h.waiting is_told h.holds;
-              logs = record {
-                durable = ap (λ (ls : List (List ℕ)). replay ls (Some empty)) (durable_lines (has_room k.log r) h.durable h.waiting (forced_lines x h.durable h.waiting k.live h.logs.open_one)) ∙ h.logs.durable;
-                below = subst (λ (z : Tail). AreBelow z.gate (durable_after k.log r h.durable h.waiting)) (sym is_new) (durable_below k.log r h.durable h.waiting h.logs.below was_below);
-                all_below = subst (AreBelow (tail_of new)) (sym all) (below-append (tail_of new) (h.durable ++ h.waiting) (r ∷ []) (below-weaker (tail_of k.log) (tail_of new) (h.durable ++ h.waiting) (omega (arith, at, rises)) was_below) (omega (arith, rises), tt));
+              chained = chained_after k.log r h.durable h.waiting h.chained (record { owned = place; previous = first ∙ sym (last_or-above 0 n (tail_of k.log) (h.durable ++ h.waiting) below at) });
+              last = is_last ∙ last_after k.log r h.durable h.waiting;
+              logs = logs_after room y (Some l) h.durable h.waiting (numbered k.log r) (record {
+                durable = ap (λ (ls : List (List ℕ)). replay ls (Some empty)) (durable_lines room ds ps (forced_lines x ds ps k.live h.logs.open_one)) ∙ h.logs.durable;
                 open_one = record {
                   own = subst (AreOwn n) (sym one) (refl, tt);
-                  uncommitted = uncommitted_after (has_room k.log r) n h.durable h.waiting (subst (AreOwn n) (sym empty_buffer) tt) before;
+                  uncommitted = uncommitted_after room n ds ps (subst (AreOwn n) (sym empty_buffer) tt) before;
                   lines = ap (λ (rs : List Record). replay (lines_by n rs) (Some (committed_objects x))) all ∙ (ap (λ (ls : List (List ℕ)). replay ls (Some (committed_objects x))) no_lines ∙ ap Some (sym settled));
                 };
-              };
+              });
             };
       }) in
       record {
@@ -219,45 +233,56 @@ module _ (told : Bool) (v : disk.View) (k : Core) (x : State) (shows : Shows tol
         shows = after;
         moments = λ is_told.
             let h = runs.keeps is_told in
-            moments.weaker (call h.durable h.waiting is_told h.holds) (λ c here. first_same x y x.answered c refl refl (omega (arith, runs.answered)) (stands_either x k.live k.log h.durable h.waiting c h.logs (of_log k.log runs.area runs.base here)));
+            moments.weaker (call h.durable h.waiting is_told h.holds) (λ c here. first_same x y x.answered c refl refl (omega (arith, runs.answered)) (stands_either h c (of_log k.log runs.area runs.base here)));
       }
 
   -- the turn of a commit
   commit_turn : (name : List ℕ) (l : Live) → k.live ≡ Some l → l.name ≡ name → (n : ℕ) → turn x n (Txn name Commit) ≡ (Said Done, committed x l.transaction)
   commit_turn name l one is n = going_turn x n name Commit going ∙ ap (turn_commit x) (named_one x l name (one_live l one) is)
 
-  -- the records with a commit's are below the tail behind it
-  committed_below : (l : Live) (previous : ℕ) (mid : Tail) (ds ps : List Record) → k.live ≡ Some l → tail_of k.log ≤ tail_of mid → Logs x k.live k.log ds ps → AreBelow (tail_of mid) ((ds ++ ps) ++ CommitRecord l.transaction previous ∷ [])
-  committed_below l previous mid ds ps one rises logs =
-      let numbered : l.transaction < x.next = (subst (AreSerial x) (one_live l one) runs.serial.live).1 in
-      below-append (tail_of mid) (ds ++ ps) (CommitRecord l.transaction previous ∷ []) (below-weaker (tail_of k.log) (tail_of mid) (ds ++ ps) rises logs.all_below) (omega (arith, numbered, runs.next, rises), tt)
+  -- the records with a commit's follow one another
+  committed_chain : (l : Live) (previous : ℕ) (h : Keeps v k x) → k.live ≡ Some l → previous ≡ k.last
+      → AreChained (durable_after k.log (CommitRecord l.transaction previous) h.durable h.waiting ++ waiting_after k.log (CommitRecord l.transaction previous) h.waiting)
+  committed_chain l previous h one follows =
+      let r : Record = CommitRecord l.transaction previous in
+      let low_number : l.transaction < x.next = (subst (AreSerial x) (one_live l one) runs.serial.live).1 in
+      chained_after k.log r h.durable h.waiting h.chained (record { owned = omega (arith, low_number, runs.next, tail-place k.log r); previous = follows ∙ last_is l h one })
+
+  -- and their replay leaves the objects with the transaction's changes
+  committed_replay : (l : Live) (previous : ℕ) (h : Keeps v k x) → k.live ≡ Some l
+      → replay (committed_lines (records_of (durable_after k.log (CommitRecord l.transaction previous) h.durable h.waiting ++ waiting_after k.log (CommitRecord l.transaction previous) h.waiting))) (Some empty) ≡ Some (committed_objects (committed x l.transaction))
+  committed_replay l previous h one =
+      let r : Record = CommitRecord l.transaction previous in
+      let all : records_of (durable_after k.log r h.durable h.waiting ++ waiting_after k.log r h.waiting) ≡ (records_of h.durable ++ records_of h.waiting) ++ r ∷ [] =
+      ap records_of (all_appended k.log r h.durable h.waiting) ∙ records_of-append (h.durable ++ h.waiting) (numbered k.log r ∷ []) ∙ ap (λ (rs : List Record). rs ++ r ∷ []) (records_of-append h.durable h.waiting) in
+      ap (λ (rs : List Record). replay (committed_lines rs) (Some empty)) all
+      ∙ (replay_commit x l previous (records_of h.durable) (records_of h.waiting) (subst (λ (o : Option Live). Logs x o (records_of h.durable) (records_of h.waiting)) one h.logs) ∙ ap Some (sym (committed_live x l runs.serial (one_live l one))))
 
   -- an image without a commit's record, once that was appended
-  commit_before_it : (l : Live) (previous : ℕ) (mid : Tail) → mid ≡ appended k.log (CommitRecord l.transaction previous) → (ds ps : List Record) (c : disk.Image) → Logs x k.live k.log ds ps
-      → HasRecords (c Log0) 0 mid.gate (durable_after k.log (CommitRecord l.transaction previous) ds ps) → StandsFor c (committed_objects x)
-  commit_before_it l previous mid is_mid ds ps c logs before =
+  commit_before_it : (l : Live) (previous : ℕ) (mid : Tail) → mid ≡ appended k.log (CommitRecord l.transaction previous) → (h : Keeps v k x) (c : disk.Image)
+      → HasRecords (c Log0) 0 mid.gate (durable_after k.log (CommitRecord l.transaction previous) h.durable h.waiting) → StandsFor c (committed_objects x)
+  commit_before_it l previous mid is_mid h c before =
       let r : Record = CommitRecord l.transaction previous in
-      stands_either x k.live k.log ds ps c logs (appended_either k.log r ds ps c (subst (λ (z : Tail). HasRecords (c Log0) 0 z.gate (durable_after k.log r ds ps)) is_mid before))
+      stands_either h c (appended_either k.log r h.durable h.waiting c (subst (λ (z : Tail). HasRecords (c Log0) 0 z.gate (durable_after k.log r h.durable h.waiting)) is_mid before))
 
   -- and one with it
-  commit_with_it : (l : Live) (previous : ℕ) (mid : Tail) → k.live ≡ Some l → tail_of k.log ≤ tail_of mid → (ds ps : List Record) (c : disk.Image) → Logs x k.live k.log ds ps
-      → HasRecords (c Log0) 0 (tail_of mid) (durable_after k.log (CommitRecord l.transaction previous) ds ps ++ waiting_after k.log (CommitRecord l.transaction previous) ps) → StandsFor c (committed_objects (committed x l.transaction))
-  commit_with_it l previous mid one rises ds ps c logs after =
+  commit_with_it : (l : Live) (previous : ℕ) (mid : Tail) → k.live ≡ Some l → previous ≡ k.last → (h : Keeps v k x) (c : disk.Image)
+      → HasRecords (c Log0) 0 (tail_of mid) (durable_after k.log (CommitRecord l.transaction previous) h.durable h.waiting ++ waiting_after k.log (CommitRecord l.transaction previous) h.waiting) → StandsFor c (committed_objects (committed x l.transaction))
+  commit_with_it l previous mid one follows h c after =
       let r : Record = CommitRecord l.transaction previous in
-      stands c (committed_objects (committed x l.transaction)) (tail_of mid) ((ds ++ ps) ++ r ∷ []) (subst (HasRecords (c Log0) 0 (tail_of mid)) (all_appended k.log r ds ps) after) (committed_below l previous mid ds ps one rises logs)
-      (replay_commit x l k.log previous ds ps (subst (λ (o : Option Live). Logs x o k.log ds ps) one logs) ∙ ap Some (sym (committed_live x l runs.serial (one_live l one))))
+      stands c (committed_objects (committed x l.transaction)) (tail_of mid) (durable_after k.log r h.durable h.waiting ++ waiting_after k.log r h.waiting) after (committed_chain l previous h one follows) (committed_replay l previous h one)
 
   -- the live transaction is committed: its commit record was appended, and then the log was forced
-  pub commits : (name : List ℕ) (l : Live) (w1 w : disk.View) (mid new : Tail) (previous : ℕ) → k.live ≡ Some l → l.name ≡ name
+  pub commits : (name : List ℕ) (l : Live) (w1 w : disk.View) (mid new : Tail) (previous : ℕ) → k.live ≡ Some l → l.name ≡ name → previous ≡ k.last
       → mid ≡ appended k.log (CommitRecord l.transaction previous) → tail_of mid ≡ end_of k.log (CommitRecord l.transaction previous) → new ≡ forced mid → tail_of mid ≤ tail_of new
       → HoldsAfter told v w1 k.log mid (CommitRecord l.transaction previous) → MomentsOf told v w1 k.log
-      → ((ds ps : List Record) → IsTrue told → Holds w1 mid ds ps → Holds w new (ds ++ ps) []) → MomentsOf told w1 w mid
-      → Goes told v k x (Txn name Commit) (Said Done) w (record k { live = None; log = new })
-  commits name l w1 w mid new previous one is is_mid tail is_new grows holds1 call1 holds2 call2 =
+      → ((ds ps : List Numbered) → IsTrue told → Holds w1 mid ds ps → Holds w new (ds ++ ps) []) → MomentsOf told w1 w mid
+      → Goes told v k x (Txn name Commit) (Said Done) w (record k { live = None; last = 0; log = new })
+  commits name l w1 w mid new previous one is follows is_mid tail is_new grows holds1 call1 holds2 call2 =
       let t : ℕ = l.transaction in
       let y : State = committed x t in
       let r : Record = CommitRecord t previous in
-      let m : Core = record k { live = None; log = new } in
+      let m : Core = record k { live = None; last = 0; log = new } in
       let rises : tail_of k.log ≤ tail_of mid = omega (arith, tail-place k.log r, tail) in
       let numbered : t < x.next = (subst (AreSerial x) (one_live l one) runs.serial.live).1 in
       let objects : committed_objects y ≡ live_objects x = committed_live x l runs.serial (one_live l one) in
@@ -266,19 +291,15 @@ module _ (told : Bool) (v : disk.View) (k : Core) (x : State) (shows : Shows tol
       let more : length y.commits ≡ length x.commits + 1 = length-append x.commits (ops_of t x.history ∷ []) in
       let kept : (is_told : IsTrue told) → Keeps w m y = λ is_told.
       let h = runs.keeps is_told in
-      let all = all_appended k.log r h.durable h.waiting in
-      let ds1 : List Record = durable_after k.log r h.durable h.waiting in
-      let ps1 : List Record = waiting_after k.log r h.waiting in
+      let ds1 : List Numbered = durable_after k.log r h.durable h.waiting in
+      let ps1 : List Numbered = waiting_after k.log r h.waiting in
       record {
         durable = ds1 ++ ps1;
         waiting = [];
         holds = holds2 ds1 ps1 is_told (holds1 h.durable h.waiting is_told h.holds);
-        logs = record {
-          durable = ap (λ (rs : List Record). replay (committed_lines rs) (Some empty)) all ∙ (replay_commit x l k.log previous h.durable h.waiting (subst (λ (o : Option Live). Logs x o k.log h.durable h.waiting) one h.logs) ∙ ap Some (sym objects));
-          below = subst (λ (z : Tail). AreBelow z.gate (ds1 ++ ps1)) (sym is_new) (subst (λ (n : ℕ). AreBelow n (ds1 ++ ps1)) (sym (forced_gate mid)) (subst (AreBelow (tail_of mid)) (sym all) (committed_below l previous mid h.durable h.waiting one rises h.logs)));
-          all_below = subst (AreBelow (tail_of new)) (sym (append-nil (ds1 ++ ps1) ∙ all)) (below-append (tail_of new) (h.durable ++ h.waiting) (r ∷ []) (below-weaker (tail_of k.log) (tail_of new) (h.durable ++ h.waiting) (omega (arith, rises, grows)) h.logs.all_below) (omega (arith, numbered, runs.next, rises, grows), tt));
-          open_one = refl;
-        };
+        chained = subst AreChained (sym (append-nil (ds1 ++ ps1))) (committed_chain l previous h one follows);
+        last = tt;
+        logs = record { durable = committed_replay l previous h one; open_one = refl };
       } in
       let after : Shows told w m y = running_shows told w m y running going (record {
         serial = serial_committed x l runs.serial (one_live l one);
@@ -299,26 +320,26 @@ module _ (told : Bool) (v : disk.View) (k : Core) (x : State) (shows : Shows tol
         shows = after;
         moments = λ is_told.
             let h = runs.keeps is_told in
-            let ds1 : List Record = durable_after k.log r h.durable h.waiting in
-            let ps1 : List Record = waiting_after k.log r h.waiting in
+            let ds1 : List Numbered = durable_after k.log r h.durable h.waiting in
+            let ps1 : List Numbered = waiting_after k.log r h.waiting in
             moments.joined
-            (moments.weaker (call1 h.durable h.waiting is_told h.holds) (λ c here. first_others x y (ops_of t x.history) x.answered c refl refl (omega (arith, runs.answered)) (stands_either x k.live k.log h.durable h.waiting c h.logs (of_log k.log runs.area runs.base here))))
-            (moments.weaker (call2 ds1 ps1 is_told (holds1 h.durable h.waiting is_told h.holds)) (λ c here. commit_moment l previous mid one is_mid rises h.durable h.waiting c h.logs (of_log mid mid_area mid_base here)));
+            (moments.weaker (call1 h.durable h.waiting is_told h.holds) (λ c here. first_others x y (ops_of t x.history) x.answered c refl refl (omega (arith, runs.answered)) (stands_either h c (of_log k.log runs.area runs.base here))))
+            (moments.weaker (call2 ds1 ps1 is_told (holds1 h.durable h.waiting is_told h.holds)) (λ c here. commit_moment l previous mid one follows is_mid h c (of_log mid mid_area mid_base here)));
       }
     where
-      commit_moment : (l : Live) (previous : ℕ) (mid : Tail) → k.live ≡ Some l → mid ≡ appended k.log (CommitRecord l.transaction previous) → tail_of k.log ≤ tail_of mid → (ds ps : List Record) (c : disk.Image) → Logs x k.live k.log ds ps
-          → IsEither mid (durable_after k.log (CommitRecord l.transaction previous) ds ps) (waiting_after k.log (CommitRecord l.transaction previous) ps) c
+      commit_moment : (l : Live) (previous : ℕ) (mid : Tail) → k.live ≡ Some l → previous ≡ k.last → mid ≡ appended k.log (CommitRecord l.transaction previous) → (h : Keeps v k x) (c : disk.Image)
+          → IsEither mid (durable_after k.log (CommitRecord l.transaction previous) h.durable h.waiting) (waiting_after k.log (CommitRecord l.transaction previous) h.waiting) c
           → StandsForFirst x.answered (committed x l.transaction) c
-      commit_moment l previous mid one is_mid rises ds ps c logs (inl before) =
-          first_others x (committed x l.transaction) (ops_of l.transaction x.history) x.answered c refl refl (omega (arith, runs.answered)) (commit_before_it l previous mid is_mid ds ps c logs before)
-      commit_moment l previous mid one is_mid rises ds ps c logs (inr after) =
-          first_all (committed x l.transaction) x.answered c (omega (arith, runs.answered, length-append x.commits (ops_of l.transaction x.history ∷ []))) (commit_with_it l previous mid one rises ds ps c logs after)
+      commit_moment l previous mid one follows is_mid h c (inl before) =
+          first_others x (committed x l.transaction) (ops_of l.transaction x.history) x.answered c refl refl (omega (arith, runs.answered)) (commit_before_it l previous mid is_mid h c before)
+      commit_moment l previous mid one follows is_mid h c (inr after) =
+          first_all (committed x l.transaction) x.answered c (omega (arith, runs.answered, length-append x.commits (ops_of l.transaction x.history ∷ []))) (commit_with_it l previous mid one follows h c after)
 
   -- what the images of a call on the log stand for, as a prefix of the commits as they were
   still : (w : disk.View) → MomentsOf told v w k.log → IsTrue told → disk.LeavesOnly v w (StandsForFirst x.answered (stop x))
   still w call is_told =
       let h = runs.keeps is_told in
-      moments.weaker (call h.durable h.waiting is_told h.holds) (λ c here. first_same x (stop x) x.answered c refl refl (omega (arith, runs.answered)) (stands_either x k.live k.log h.durable h.waiting c h.logs (of_log k.log runs.area runs.base here)))
+      moments.weaker (call h.durable h.waiting is_told h.holds) (λ c here. first_same x (stop x) x.answered c refl refl (omega (arith, runs.answered)) (stands_either h c (of_log k.log runs.area runs.base here)))
 
   -- the disk has failed in an order that is no commit
   breaks : (order : Order) (w : disk.View) (m : Core) → m.stopped ≡ true → broken x order ≡ stop x → IsLogged order → WouldReply x order → HasRisen v.faults w.faults
@@ -356,7 +377,7 @@ module _ (told : Bool) (v : disk.View) (k : Core) (x : State) (shows : Shows tol
   pub commit_before : (t : ℕ) (w : disk.View) → MomentsOf told v w k.log → IsTrue told → disk.LeavesOnly v w (StandsForFirst x.answered (stop_at_commit x t))
   commit_before t w call is_told =
       let h = runs.keeps is_told in
-      moments.weaker (call h.durable h.waiting is_told h.holds) (λ c here. first_others x (stop_at_commit x t) (ops_of t x.history) x.answered c refl refl (omega (arith, runs.answered)) (stands_either x k.live k.log h.durable h.waiting c h.logs (of_log k.log runs.area runs.base here)))
+      moments.weaker (call h.durable h.waiting is_told h.holds) (λ c here. first_others x (stop_at_commit x t) (ops_of t x.history) x.answered c refl refl (omega (arith, runs.answered)) (stands_either h c (of_log k.log runs.area runs.base here)))
 
   commit_fails : (name : List ℕ) (l : Live) (w : disk.View) (m : Core) → k.live ≡ Some l → l.name ≡ name → m.stopped ≡ true → HasRisen v.faults w.faults
       → (IsTrue told → disk.LeavesOnly v w (StandsForFirst x.answered (stop_at_commit x l.transaction))) → Goes told v k x (Txn name Commit) Disk w m
@@ -374,25 +395,25 @@ module _ (told : Bool) (v : disk.View) (k : Core) (x : State) (shows : Shows tol
   commit_breaks name l w m one is halted risen call = commit_fails name l w m one is halted risen (commit_before l.transaction w call)
 
   -- the disk has failed as it was forced
-  pub force_breaks : (name : List ℕ) (l : Live) (w1 w : disk.View) (mid : Tail) (m : Core) (previous : ℕ) → k.live ≡ Some l → l.name ≡ name → m.stopped ≡ true → HasRisen v.faults w.faults
-      → mid ≡ appended k.log (CommitRecord l.transaction previous) → tail_of k.log ≤ tail_of mid → HoldsAfter told v w1 k.log mid (CommitRecord l.transaction previous) → MomentsOf told v w1 k.log → MomentsOf told w1 w mid
+  pub force_breaks : (name : List ℕ) (l : Live) (w1 w : disk.View) (mid : Tail) (m : Core) (previous : ℕ) → k.live ≡ Some l → l.name ≡ name → previous ≡ k.last → m.stopped ≡ true → HasRisen v.faults w.faults
+      → mid ≡ appended k.log (CommitRecord l.transaction previous) → HoldsAfter told v w1 k.log mid (CommitRecord l.transaction previous) → MomentsOf told v w1 k.log → MomentsOf told w1 w mid
       → Goes told v k x (Txn name Commit) Disk w m
-  force_breaks name l w1 w mid m previous one is halted risen is_mid rises holds1 call1 call2 =
+  force_breaks name l w1 w mid m previous one is follows halted risen is_mid holds1 call1 call2 =
       let r : Record = CommitRecord l.transaction previous in
       let mid_area : mid.area ≡ Log0 = ap (λ (z : Tail). z.area) is_mid ∙ ((appended_place k.log r).0 ∙ runs.area) in
       let mid_base : mid.base ≡ 0 = ap (λ (z : Tail). z.base) is_mid ∙ ((appended_place k.log r).1 ∙ runs.base) in
       commit_fails name l w m one is halted risen (λ is_told.
       let h = runs.keeps is_told in
       moments.joined (commit_before l.transaction w1 call1 is_told)
-      (moments.weaker (call2 (durable_after k.log r h.durable h.waiting) (waiting_after k.log r h.waiting) is_told (holds1 h.durable h.waiting is_told h.holds)) (λ c here. forced_moment h.durable h.waiting c h.logs (of_log mid mid_area mid_base here))))
+      (moments.weaker (call2 (durable_after k.log r h.durable h.waiting) (waiting_after k.log r h.waiting) is_told (holds1 h.durable h.waiting is_told h.holds)) (λ c here. forced_moment h c (of_log mid mid_area mid_base here))))
     where
-      forced_moment : (ds ps : List Record) (c : disk.Image) → Logs x k.live k.log ds ps
-          → IsEither mid (durable_after k.log (CommitRecord l.transaction previous) ds ps) (waiting_after k.log (CommitRecord l.transaction previous) ps) c
+      forced_moment : (h : Keeps v k x) (c : disk.Image)
+          → IsEither mid (durable_after k.log (CommitRecord l.transaction previous) h.durable h.waiting) (waiting_after k.log (CommitRecord l.transaction previous) h.waiting) c
           → StandsForFirst x.answered (stop_at_commit x l.transaction) c
-      forced_moment ds ps c logs (inl before) =
-          first_others x (stop_at_commit x l.transaction) (ops_of l.transaction x.history) x.answered c refl refl (omega (arith, runs.answered)) (commit_before_it l previous mid is_mid ds ps c logs before)
-      forced_moment ds ps c logs (inr after) =
-          first_all (stop_at_commit x l.transaction) x.answered c (omega (arith, runs.answered, length-append x.commits (ops_of l.transaction x.history ∷ []))) (commit_with_it l previous mid one rises ds ps c logs after)
+      forced_moment h c (inl before) =
+          first_others x (stop_at_commit x l.transaction) (ops_of l.transaction x.history) x.answered c refl refl (omega (arith, runs.answered)) (commit_before_it l previous mid is_mid h c before)
+      forced_moment h c (inr after) =
+          first_all (stop_at_commit x l.transaction) x.answered c (omega (arith, runs.answered, length-append x.commits (ops_of l.transaction x.history ∷ []))) (commit_with_it l previous mid one follows h c after)
 
   -- the log has no room for a commit
   pub commit_end : (name : List ℕ) (l : Live) (m : Core) → k.live ≡ Some l → l.name ≡ name → m.stopped ≡ true → NEW_WORK_END < tail_of k.log → Goes told v k x (Txn name Commit) LogEnd v m
@@ -423,13 +444,13 @@ module _ (told : Bool) (v : disk.View) (k : Core) (x : State) (shows : Shows tol
   commit_fault name l faults.Memory w m previous into one is halted h same call = absurd h
 
   -- and as it was forced
-  pub force_fault : (name : List ℕ) (l : Live) (e : LogFault) (w1 w : disk.View) (mid : Tail) (m : Core) (previous : ℕ) (into : List ℕ) → k.live ≡ Some l → l.name ≡ name → m.stopped ≡ true → ForceFails w1 w e → v.faults ≤ w1.faults
-      → mid ≡ appended k.log (CommitRecord l.transaction previous) → tail_of k.log ≤ tail_of mid → HoldsAfter told v w1 k.log mid (CommitRecord l.transaction previous) → MomentsOf told v w1 k.log → MomentsOf told w1 w mid
+  pub force_fault : (name : List ℕ) (l : Live) (e : LogFault) (w1 w : disk.View) (mid : Tail) (m : Core) (previous : ℕ) (into : List ℕ) → k.live ≡ Some l → l.name ≡ name → previous ≡ k.last → m.stopped ≡ true → ForceFails w1 w e → v.faults ≤ w1.faults
+      → mid ≡ appended k.log (CommitRecord l.transaction previous) → HoldsAfter told v w1 k.log mid (CommitRecord l.transaction previous) → MomentsOf told v w1 k.log → MomentsOf told w1 w mid
       → Goes told v k x (Txn name Commit) (shown_answer into (answer_at e)) w m
-  force_fault name l faults.Disk w1 w mid m previous into one is halted h later is_mid rises holds1 call1 call2 = force_breaks name l w1 w mid m previous one is halted (λ room. omega (arith, h room)) is_mid rises holds1 call1 call2
-  force_fault name l faults.LogEnd w1 w mid m previous into one is halted h later is_mid rises holds1 call1 call2 = absurd h
-  force_fault name l (faults.Damaged at) w1 w mid m previous into one is halted h later is_mid rises holds1 call1 call2 = absurd h
-  force_fault name l faults.Memory w1 w mid m previous into one is halted h later is_mid rises holds1 call1 call2 = absurd h
+  force_fault name l faults.Disk w1 w mid m previous into one is follows halted h later is_mid holds1 call1 call2 = force_breaks name l w1 w mid m previous one is follows halted (λ room. omega (arith, h room)) is_mid holds1 call1 call2
+  force_fault name l faults.LogEnd w1 w mid m previous into one is follows halted h later is_mid holds1 call1 call2 = absurd h
+  force_fault name l (faults.Damaged at) w1 w mid m previous into one is follows halted h later is_mid holds1 call1 call2 = absurd h
+  force_fault name l faults.Memory w1 w mid m previous into one is follows halted h later is_mid holds1 call1 call2 = absurd h
 
   -- an operation that was refused, or only reads
   pub op_unchanged : (name : List ℕ) (op : Op) (l : Live) (r : Result Reply Reason) (o : Objects) → k.live ≡ Some l → l.name ≡ name → step k.objects op ≡ (r, o) → (IsErr r) ⊎ (is_changing op ≡ false)

@@ -8,15 +8,15 @@ use Rattle.sg_disk.proofs.Images.{sync_keeps}
 use Rattle.sg_disk.proofs.Parts.{part_synced}
 use Rattle.sg_model.specs.Objects.{Objects}
 use Rattle.sg_model.specs.History.{start}
-use Rattle.sg_record.specs.Records.{Record}
-use Rattle.sg_log.specs.Frames.{HasRecords}
+use Rattle.sg_log.specs.Following.{AreChained}
+use Rattle.sg_log.specs.Frames.{Numbered, HasRecords}
 use Rattle.sg_log.specs.Reads.{OnlyReads}
 use Rattle.sg_log.specs.Held.{Tail, tail_of}
 use Rattle.sg_top.specs.declared.opening.OpenRefused as code_refused
 use Rattle.sg_top.specs.declared.opening.OpenRefused.TheVariants as refusals
 use Rattle.sg_log.proofs.Holding.{holds_seen, tail_empty}
 use Rattle.sg_log.proofs.Unique.{HasRecords-gate}
-use Rattle.sg_top.specs.Stands.{AreBelow, StandsFor}
+use Rattle.sg_top.specs.Stands.{StandsFor}
 use Rattle.sg_top.specs.Damage.{StandsForNothing}
 use Rattle.sg_top.specs.Found.{IsReadBack}
 use Rattle.sg_top.specs.Opening.{Opens, StaysShut, IsRefusedFor, reads_of}
@@ -38,12 +38,12 @@ opening_moments v v1 w u s call =
     (moments.weaker call (λ c leaves. sync_keeps v.now Log0 c (subst (λ (z : disk.State). disk.Leaves z c) s.ok leaves)))
 
 -- the log's records are those from the first area's first byte on
-pub at_log0 : (v : disk.View) (log : Tail) (ds : List Record) → log.area ≡ Log0 → log.base ≡ 0 → HasRecords (v.now log.area).seen log.base log.gate ds → HasRecords (v.now Log0).seen 0 log.gate ds
+pub at_log0 : (v : disk.View) (log : Tail) (ds : List Numbered) → log.area ≡ Log0 → log.base ≡ 0 → HasRecords (v.now log.area).seen log.base log.gate ds → HasRecords (v.now Log0).seen 0 log.gate ds
 at_log0 v log ds area base h = subst (λ (b : ℕ). HasRecords (v.now Log0).seen b log.gate ds) base (subst (λ (a : Area). HasRecords (v.now a).seen log.base log.gate ds) area h)
 
 -- a store that has read its log back shows its objects
 pub opened : {T E : Type 0} (told : Bool) (v v1 w : disk.View) (log : Tail) (objects : Objects) (u : T) → (IsTrue told → disk.Synced {E = E} Log0 v v1 (Ok u)) → v1.handed ≡ v.handed → v.faults ≤ v1.faults
-    → log ≡ record { area = Log0; base = 0; gate = log.gate; buffer = [] } → (IsTrue told → (v1.now Log0).pending ≡ [] → IsReadBack w log objects) → OnlyReads told v1 w → Opens told v w (record { objects = objects; live = None; stopped = false; log = log })
+    → log ≡ record { area = Log0; base = 0; gate = log.gate; buffer = [] } → (IsTrue told → (v1.now Log0).pending ≡ [] → IsReadBack w log objects) → OnlyReads told v1 w → Opens told v w (record { objects = objects; live = None; last = 0; stopped = false; log = log })
 opened told v v1 w log objects u synced handed1 later1 is_log found reads =
     let area : log.area ≡ Log0 = ap (λ (z : Tail). z.area) is_log in
     let base : log.base ≡ 0 = ap (λ (z : Tail). z.base) is_log in
@@ -53,13 +53,13 @@ opened told v v1 w log objects u synced handed1 later1 is_log found reads =
     let has : (is_told : IsTrue told) → HasRecords (v.now Log0).seen 0 log.gate (back is_told).records = λ is_told.
     let b = back is_told in
     subst (λ (f : disk.Bytes). HasRecords f 0 log.gate b.records) (seen is_told) (at_log0 w log b.records area base (holds_seen b.holds)) in
-    let stand : (is_told : IsTrue told) → StandsFor (reads_of v) objects = λ is_told. stands (reads_of v) objects log.gate (back is_told).records (has is_told) (back is_told).below (back is_told).replayed in
+    let stand : (is_told : IsTrue told) → StandsFor (reads_of v) objects = λ is_told. stands (reads_of v) objects log.gate (back is_told).records (has is_told) (back is_told).chained (back is_told).replayed in
     record {
       first = objects;
       stands = stand;
       only = λ is_told s h. stands_one (reads_of v) s objects h (stand is_told);
       gate = λ is_told ds gate there. HasRecords-gate (has is_told) there;
-      shows = running_shows told w (record { objects = objects; live = None; stopped = false; log = log }) (start objects) refl refl (record {
+      shows = running_shows told w (record { objects = objects; live = None; last = 0; stopped = false; log = log }) (start objects) refl refl (record {
         serial = record { live = refl; entries = tt };
         objects = refl;
         live = refl;
@@ -74,10 +74,10 @@ opened told v v1 w log objects u synced handed1 later1 is_log found reads =
               durable = b.records;
               waiting = [];
               holds = b.holds;
+              chained = subst AreChained (sym (append-nil b.records)) b.chained;
+              last = tt;
               logs = record {
                 durable = b.replayed;
-                below = b.below;
-                all_below = subst (AreBelow (tail_of log)) (sym (append-nil b.records)) (subst (λ (n : ℕ). AreBelow n b.records) (sym (tail_empty log (ap length empty_buffer))) b.below);
                 open_one = refl;
               };
             };

@@ -1,12 +1,15 @@
 -- What the records of a log replay to, as the log grows.
-use Rattle.std.proofs.Common.{◌≡◌, ℕ, ◌≤◌, ◌==◌, Bool, true, false, cond, List, [], ◌∷◌, ◌++◌, Option, Some, None, refl, sym, ap, ◌∙◌, arith, append-nil}
+use Rattle.std.proofs.Common.{◌≡◌, ℕ, ◌<◌, ◌≤◌, ◌==◌, Bool, true, false, cond, List, [], ◌∷◌, ◌++◌, Option, Some, None, refl, sym, ap, ◌∙◌, arith, append-nil}
 use Rattle.std.specs.List.{flat_map}
 use Rattle.std.proofs.lemmas.Grind.{flat_map-append}
 use Rattle.std.proofs.lemmas.Bool.Decides.{nat_tests}
 use Rattle.sg_model.specs.Objects.{Objects}
-use Rattle.sg_record.specs.Records.{Record}
+use Rattle.sg_record.specs.Records.{Record, transaction_of}
 use Rattle.sg_record.specs.Records.Record.{Begin, Commit, Line}
-use Rattle.sg_top.specs.Stands.{AreBelow, lines_by, commits_in, committed_lines, after_line, replay}
+use Rattle.sg_log.specs.Following.{last_or, AreChainedBehind}
+use Rattle.sg_log.specs.Frames.{Numbered, records_of}
+use Rattle.sg_log.proofs.Following.{AreLow, owned_low}
+use Rattle.sg_top.specs.Stands.{lines_by, commits_in, committed_lines, after_line, replay}
 use Rattle.sg_top.specs.Store.{AreOwn, IsNotAmong}
 
 pub replay-none : (lines : List (List ℕ)) → replay lines None ≡ None
@@ -39,6 +42,23 @@ different u t ne = grind (arith, nat_tests)
 
 same : (t : ℕ) → (t == t) ≡ true
 same t = grind (arith, nat_tests)
+
+-- each record is of a transaction with a smaller number
+abbrev pub AreBelow : ℕ → List Record → Type 0
+AreBelow bound [] = Unit {0}
+AreBelow bound (r ∷ rs) = (transaction_of r < bound) × AreBelow bound rs
+
+-- records that follow one another are of transactions with numbers below all of theirs
+pub chained_below : (bound : ℕ) (before ns : List Numbered) → AreChainedBehind before ns → AreLow bound ns → AreBelow bound (records_of ns)
+chained_below bound before [] h low = tt
+chained_below bound before (n ∷ ns) h low = (omega (arith, owned_low n.lsn n.is h.0.owned, low.0), chained_below bound (before ++ n ∷ []) ns h.1 low.1)
+
+-- a transaction above all records has no last one
+pub last_or-above : (none t bound : ℕ) (ns : List Numbered) → AreBelow bound (records_of ns) → bound ≤ t → last_or none t ns ≡ none
+last_or-above none t bound [] h le = refl
+last_or-above none t bound (n ∷ ns) h le =
+    let ne : transaction_of n.is ≡ t → ⊥ = λ e. absurd (omega (arith, h.0)) in
+    ap (λ b. last_or (cond b n.lsn none) t ns) (different (transaction_of n.is) t ne) ∙ last_or-above none t bound ns h.1 le
 
 -- a transaction above all records has no lines
 pub lines_by-above : (t bound : ℕ) (rs : List Record) → AreBelow bound rs → bound ≤ t → lines_by t rs ≡ []
@@ -101,14 +121,6 @@ committed_lines-commit t p rs ps own h =
 -- one more line of a transaction
 pub lines_by-line : (t p : ℕ) (words : List ℕ) (rs : List Record) → lines_by t (rs ++ Line t p words ∷ []) ≡ lines_by t rs ++ words ∷ []
 lines_by-line t p words rs = lines_by-append t rs (Line t p words ∷ []) ∙ ap (λ b. lines_by t rs ++ cond b (words ∷ []) []) (same t)
-
-pub below-append : (bound : ℕ) (rs ss : List Record) → AreBelow bound rs → AreBelow bound ss → AreBelow bound (rs ++ ss)
-below-append bound [] ss h k = k
-below-append bound (r ∷ rs) ss h k = (h.0, below-append bound rs ss h.1 k)
-
-pub below-weaker : (low high : ℕ) (rs : List Record) → low ≤ high → AreBelow low rs → AreBelow high rs
-below-weaker low high [] le h = tt
-below-weaker low high (r ∷ rs) le h = (omega (arith, h.0), below-weaker low high rs le h.1)
 
 pub own-append : (t : ℕ) (rs ss : List Record) → AreOwn t rs → AreOwn t ss → AreOwn t (rs ++ ss)
 own-append t [] ss h k = k

@@ -1,5 +1,6 @@
 -- What the images of a call on the log stand for.
 use Rattle.std.proofs.Common.{◌≡◌, ◌⊎◌, inl, inr, ℕ, ◌≤◌, List, [], ◌∷◌, ◌++◌, length, Option, Some, None, sym, ap, ◌∙◌, subst, arith, append-nil, length-append}
+use Rattle.std.proofs.lemmas.List.{map-append}
 use Rattle.std.specs.FinMap.{empty}
 use Rattle.sg_base.specs.declared.area.Area.{Area}
 use Rattle.sg_base.specs.declared.area.Area.TheVariants.{Log0}
@@ -8,10 +9,12 @@ use Rattle.sg_model.specs.Objects.{Objects, Op}
 use Rattle.sg_model.specs.History.{Live, State, committed_objects, live_objects}
 use Rattle.sg_record.specs.Records.{Record}
 use Rattle.sg_record.specs.Records.Record.{Commit}
-use Rattle.sg_log.specs.Frames.{HasRecords}
+use Rattle.sg_log.specs.Following.{AreChained}
+use Rattle.sg_log.specs.Frames.{Numbered, records_of, HasRecords}
 use Rattle.sg_log.specs.Held.{Tail, tail_of, IsBeforeOrAfter}
-use Rattle.sg_top.specs.Stands.{AreBelow, lines_by, committed_lines, replay, StandsFor, StandsForFirst}
-use Rattle.sg_top.specs.Store.{Logs, IsOpenOrNone}
+use Rattle.sg_log.proofs.Following.{chained-front}
+use Rattle.sg_top.specs.Stands.{lines_by, committed_lines, replay, StandsFor, StandsForFirst}
+use Rattle.sg_top.specs.Store.{Core, Logs, Keeps, IsOpenOrNone}
 use Rattle.sg_top.proofs.Replays.{replay-append, committed_lines-own, committed_lines-commit}
 use Rattle.sg_top.proofs.Serial.{after_commits, after_others}
 
@@ -20,29 +23,34 @@ pub forced_lines : (x : State) (ds ps : List Record) (live : Option Live) → Is
 forced_lines x ds ps None none = ap committed_lines (ap (λ (rs : List Record). ds ++ rs) none ∙ append-nil ds)
 forced_lines x ds ps (Some l) open_one = committed_lines-own l.transaction ds ps open_one.own open_one.uncommitted
 
+pub records_of-append : (xs ys : List Numbered) → records_of (xs ++ ys) ≡ records_of xs ++ records_of ys
+records_of-append xs ys = map-append (λ (n : Numbered). n.is) xs ys
+
 -- the objects that the records commit
-pub stands : (c : disk.Image) (s : Objects) (gate : ℕ) (rs : List Record) → HasRecords (c Log0) 0 gate rs → AreBelow gate rs → replay (committed_lines rs) (Some empty) ≡ Some s → StandsFor c s
-stands c s gate rs h below e = record { records = rs; gate = gate; hold = h; below = below; replayed = e }
+pub stands : (c : disk.Image) (s : Objects) (gate : ℕ) (ns : List Numbered) → HasRecords (c Log0) 0 gate ns → AreChained ns → replay (committed_lines (records_of ns)) (Some empty) ≡ Some s → StandsFor c s
+stands c s gate ns h chained e = record { records = ns; gate = gate; hold = h; chained = chained; replayed = e }
 
 -- the records of an image in the first log area: those that were durable, or those that waited too
-abbrev pub IsEither : Tail → List Record → List Record → disk.Image → Type 0
+abbrev pub IsEither : Tail → List Numbered → List Numbered → disk.Image → Type 0
 IsEither log ds ps c = HasRecords (c Log0) 0 log.gate ds ⊎ HasRecords (c Log0) 0 (tail_of log) (ds ++ ps)
 
 -- either way an image of a moment of a call that makes what waits durable stands for the committed objects
-pub stands_either : (x : State) (live : Option Live) (log : Tail) (ds ps : List Record) (c : disk.Image) → Logs x live log ds ps → IsEither log ds ps c → StandsFor c (committed_objects x)
-stands_either x live log ds ps c logs (inl before) = stands c (committed_objects x) log.gate ds before logs.below logs.durable
-stands_either x live log ds ps c logs (inr after) = stands c (committed_objects x) (tail_of log) (ds ++ ps) after logs.all_below (ap (λ (ls : List (List ℕ)). replay ls (Some empty)) (forced_lines x ds ps live logs.open_one) ∙ logs.durable)
+pub stands_either : {v : disk.View} {k : Core} {x : State} (h : Keeps v k x) (c : disk.Image) → IsEither k.log h.durable h.waiting c → StandsFor c (committed_objects x)
+stands_either {k = k} {x = x} h c (inl before) = stands c (committed_objects x) k.log.gate h.durable before (chained-front [] h.durable h.waiting h.chained) h.logs.durable
+stands_either {k = k} {x = x} h c (inr after) = stands c (committed_objects x) (tail_of k.log) (h.durable ++ h.waiting) after h.chained
+    (ap (λ (rs : List Record). replay (committed_lines rs) (Some empty)) (records_of-append h.durable h.waiting)
+    ∙ ap (λ (ls : List (List ℕ)). replay ls (Some empty)) (forced_lines x (records_of h.durable) (records_of h.waiting) k.live h.logs.open_one) ∙ h.logs.durable)
 
 -- the records of such an image, by where the log stands
-pub of_log : (log : Tail) {s : disk.State} {ds ps : List Record} {c : disk.Image} → log.area ≡ Log0 → log.base ≡ 0 → IsBeforeOrAfter s log ds ps c → IsEither log ds ps c
+pub of_log : (log : Tail) {s : disk.State} {ds ps : List Numbered} {c : disk.Image} → log.area ≡ Log0 → log.base ≡ 0 → IsBeforeOrAfter s log ds ps c → IsEither log ds ps c
 of_log log {ds = ds} {ps = ps} {c = c} area base h =
     let P : Area → Type 0 = λ a. HasRecords (c a) log.base log.gate ds ⊎ HasRecords (c a) log.base (tail_of log) (ds ++ ps) in
     let Q : ℕ → Type 0 = λ b. HasRecords (c Log0) b log.gate ds ⊎ HasRecords (c Log0) b (tail_of log) (ds ++ ps) in
     subst Q base (subst P area h.held)
 
 -- the replay of a committed transaction's lines
-pub replay_commit : (x : State) (l : Live) (log : Tail) (p : ℕ) (ds ps : List Record) → Logs x (Some l) log ds ps → replay (committed_lines ((ds ++ ps) ++ Commit l.transaction p ∷ [])) (Some empty) ≡ Some (live_objects x)
-replay_commit x l log p ds ps logs =
+pub replay_commit : (x : State) (l : Live) (p : ℕ) (ds ps : List Record) → Logs x (Some l) ds ps → replay (committed_lines ((ds ++ ps) ++ Commit l.transaction p ∷ [])) (Some empty) ≡ Some (live_objects x)
+replay_commit x l p ds ps logs =
     ap (λ (ls : List (List ℕ)). replay ls (Some empty)) (committed_lines-commit l.transaction p ds ps logs.open_one.own logs.open_one.uncommitted)
     ∙ (replay-append (committed_lines ds) (lines_by l.transaction (ds ++ ps)) (Some empty) ∙ (ap (replay (lines_by l.transaction (ds ++ ps))) logs.durable ∙ logs.open_one.lines))
 

@@ -1,5 +1,5 @@
 -- How the orders go, on what a store shows.
-use Rattle.std.proofs.Common.{◌≡◌, inl, inr, ℕ, ◌+◌, ◌<◌, ◌≤◌, ◌==◌, nat_le, ◌&&◌, eq-eqb, eqb-true, leb-true, Bool, true, false, cond, IsTrue, List, [], ◌∷◌, ◌++◌, length, Some, None, Result, Ok, Err, refl, sym, ap, ◌∙◌, subst, arith, append-nil, length-append}
+use Rattle.std.proofs.Common.{◌≡◌, inl, inr, ℕ, ◌+◌, ◌<◌, ◌≤◌, ◌==◌, nat_le, ◌&&◌, eq-eqb, eqb-true, leb-true, Bool, true, false, cond, IsTrue, List, [], ◌∷◌, ◌++◌, length, Option, append_assoc, Some, None, Result, Ok, Err, refl, sym, ap, ◌∙◌, subst, arith, append-nil, length-append}
 use Rattle.std.specs.Option.{option_to_list}
 use Rattle.std.specs.Str.{bytes_eq}
 use Rattle.sg_base.specs.Ends.{HasRisen}
@@ -17,19 +17,21 @@ use Rattle.sg_words.specs.Order.Verb.{Begin, Commit, Do}
 use Rattle.sg_words.specs.Text.{Answer}
 use Rattle.sg_words.specs.Text.Answer.{Silent, BadSyntax, NoTransaction, IsLive, TooManyLive, Memory, Stopped, LogEnd, Said}
 use Rattle.sg_words.specs.Run.{live_named, answer_of, began, turn, turn_verb, turn_begin, turn_commit, turn_op, IsSaid, WouldReply, Turns, LineBy, IsCaused}
-use Rattle.sg_record.specs.Records.{Record, spelled, IsRecord}
+use Rattle.sg_record.specs.Records.{Record, spelled, transaction_of, IsRecord}
 use Rattle.sg_record.specs.Records.Record.{Begin as BeginRecord, Commit as CommitRecord}
-use Rattle.sg_log.specs.Frames.{LOG_END, HasRecords}
+use Rattle.sg_log.specs.Frames.{LOG_END, Numbered, records_of, HasRecords}
 use Rattle.sg_log.specs.Faults.{AppendFails, ForceFails}
 use Rattle.sg_log.specs.declared.fault.LogFault.{LogFault}
 use Rattle.sg_log.specs.declared.fault.LogFault.TheVariants as faults
-use Rattle.sg_log.specs.Held.{Tail, tail_of, has_room, place_of, end_of, buffered, appended, forced, Holds, durable_after, waiting_after, IsBeforeOrAfter}
-use Rattle.sg_log.proofs.Holding.{holds_image, spelled_most, forced_empty, tail_empty, tail_forced as tail_forced_same}
-use Rattle.sg_top.specs.Stands.{AreBelow, commits_in, committed_lines, StandsForFirst}
-use Rattle.sg_top.specs.Store.{Core, AreOwn, IsNotAmong, Runs, Shows}
+use Rattle.sg_log.specs.Held.{Tail, tail_of, has_room, place_of, end_of, numbered, buffered, appended, forced, Holds, durable_after, waiting_after, IsBeforeOrAfter}
+use Rattle.sg_log.proofs.Holding.{all_appended, holds_image, spelled_most, forced_empty, tail_empty, tail_forced as tail_forced_same}
+use Rattle.sg_log.specs.Following.{last_of, Follows, AreChained}
+use Rattle.sg_log.proofs.Following.{chained-front, chained-more, last_of-own}
+use Rattle.sg_top.specs.Stands.{commits_in, committed_lines, StandsForFirst}
+use Rattle.sg_top.specs.Store.{Core, AreOwn, IsNotAmong, Logs, Runs, Shows}
 use Rattle.sg_top.specs.Goes.{Goes, NEW_WORK_END, IsWork}
 use Rattle.sg_top.proofs.Replays.{commits_in-append, commits_in-own, own-append}
-use Rattle.sg_top.proofs.Standing.{IsEither, first_all, stands}
+use Rattle.sg_top.proofs.Standing.{IsEither, records_of-append, first_all, stands}
 
 -- a bytes' text is itself
 bytes_eq-same : (xs : List ℕ) → bytes_eq xs xs ≡ true
@@ -197,10 +199,10 @@ running_shows told w m y running going runs = record {
   images = λ is_told c leaves.
       let kept = runs.keeps is_told in
       let here : HasRecords (c Log0) 0 m.log.gate kept.durable = held_at c m.log kept.durable runs.area runs.base (holds_image kept.holds c leaves) in
-      first_all y y.answered c (omega (arith, runs.answered)) (stands c (committed_objects y) m.log.gate kept.durable here kept.logs.below kept.logs.durable);
+      first_all y y.answered c (omega (arith, runs.answered)) (stands c (committed_objects y) m.log.gate kept.durable here (chained-front [] kept.durable kept.waiting kept.chained) kept.logs.durable);
 }
   where
-    held_at : (c : disk.Image) (log : Tail) (ds : List Record) → log.area ≡ Log0 → log.base ≡ 0 → HasRecords (c log.area) log.base log.gate ds → HasRecords (c Log0) 0 log.gate ds
+    held_at : (c : disk.Image) (log : Tail) (ds : List Numbered) → log.area ≡ Log0 → log.base ≡ 0 → HasRecords (c log.area) log.base log.gate ds → HasRecords (c Log0) 0 log.gate ds
     held_at c log ds area base h = subst (λ b. HasRecords (c Log0) b log.gate ds) base (subst (λ a. HasRecords (c a) log.base log.gate ds) area h)
 
 -- and so is one that is, by what the images stand for
@@ -239,16 +241,8 @@ durable_lines false ds ps e = e
 pub forced_gate : (log : Tail) → (forced log).gate ≡ tail_of log
 forced_gate log = sym (tail_empty (forced log) (forced_empty log)) ∙ tail_forced_same log
 
--- the durable records stay below the gate behind them
-pub durable_below : (log : Tail) (r : Record) (ds ps : List Record) → AreBelow log.gate ds → AreBelow (tail_of log) (ds ++ ps) → AreBelow (appended log r).gate (durable_after log r ds ps)
-durable_below log r ds ps below all = by_room (has_room log r)
-  where
-    by_room : (b : Bool) → AreBelow (cond b (buffered log r) (buffered (forced log) r)).gate (cond b ds (ds ++ ps))
-    by_room true = below
-    by_room false = subst (λ (n : ℕ). AreBelow n (ds ++ ps)) (sym (forced_gate log)) all
-
 -- what an append left durable is what was, or what waited too
-pub appended_either : (log : Tail) (r : Record) (ds ps : List Record) (c : disk.Image) → HasRecords (c Log0) 0 (appended log r).gate (durable_after log r ds ps) → IsEither log ds ps c
+pub appended_either : (log : Tail) (r : Record) (ds ps : List Numbered) (c : disk.Image) → HasRecords (c Log0) 0 (appended log r).gate (durable_after log r ds ps) → IsEither log ds ps c
 appended_either log r ds ps c = by_room (has_room log r)
   where
     by_room : (b : Bool) → HasRecords (c Log0) 0 (cond b (buffered log r) (buffered (forced log) r)).gate (cond b ds (ds ++ ps)) → IsEither log ds ps c
@@ -259,12 +253,40 @@ pub one_after : (b : Bool) (ps : List Record) (r : Record) → ps ≡ [] → con
 one_after true ps r none = ap (λ (rs : List Record). rs ++ r ∷ []) none
 one_after false ps r none = refl
 
+-- what is durable and what waits after an append, without the numbers
+durable_records : (b : Bool) (ds ps : List Numbered) → records_of (cond b ds (ds ++ ps)) ≡ cond b (records_of ds) (records_of ds ++ records_of ps)
+durable_records true ds ps = refl
+durable_records false ds ps = records_of-append ds ps
+
+waiting_records : (b : Bool) (ps : List Numbered) (n : Numbered) → records_of (cond b (ps ++ n ∷ []) (n ∷ [])) ≡ cond b (records_of ps ++ n.is ∷ []) (n.is ∷ [])
+waiting_records true ps n = records_of-append ps (n ∷ [])
+waiting_records false ps n = refl
+
+pub logs_after : (b : Bool) (x : State) (live : Option Live) (ds ps : List Numbered) (n : Numbered) → Logs x live (cond b (records_of ds) (records_of ds ++ records_of ps)) (cond b (records_of ps ++ n.is ∷ []) (n.is ∷ []))
+    → Logs x live (records_of (cond b ds (ds ++ ps))) (records_of (cond b (ps ++ n ∷ []) (n ∷ [])))
+logs_after b x live ds ps n h =
+    subst (Logs x live (records_of (cond b ds (ds ++ ps)))) (sym (waiting_records b ps n))
+    (subst (λ (rs : List Record). Logs x live rs (cond b (records_of ps ++ n.is ∷ []) (n.is ∷ []))) (sym (durable_records b ds ps)) h)
+
+-- all of them are those before and the new one
+pub all_after : (b : Bool) (ds ps : List Record) (r : Record) → cond b ds (ds ++ ps) ++ cond b (ps ++ r ∷ []) (r ∷ []) ≡ (ds ++ ps) ++ r ∷ []
+all_after true ds ps r = sym (append_assoc ds ps (r ∷ []))
+all_after false ds ps r = refl
+
+-- a record that follows all that the log holds is appended
+pub chained_after : (log : Tail) (r : Record) (ds ps : List Numbered) → AreChained (ds ++ ps) → Follows (ds ++ ps) (numbered log r) → AreChained (durable_after log r ds ps ++ waiting_after log r ps)
+chained_after log r ds ps h follows = subst AreChained (sym (all_appended log r ds ps)) (chained-more (ds ++ ps) (numbered log r) h follows)
+
+-- and is its transaction's last one
+pub last_after : (log : Tail) (r : Record) (ds ps : List Numbered) → place_of log r ≡ last_of (transaction_of r) (durable_after log r ds ps ++ waiting_after log r ps)
+last_after log r ds ps = sym (last_of-own (ds ++ ps) (numbered log r)) ∙ ap (last_of (transaction_of r)) (sym (all_appended log r ds ps))
+
 -- a call on the log that made what waited durable, or nothing
 abbrev pub HoldsAfter : Bool → disk.View → disk.View → Tail → Tail → Record → Type 0
-HoldsAfter told v w log new r = (ds ps : List Record) → IsTrue told → Holds v log ds ps → Holds w new (durable_after log r ds ps) (waiting_after log r ps)
+HoldsAfter told v w log new r = (ds ps : List Numbered) → IsTrue told → Holds v log ds ps → Holds w new (durable_after log r ds ps) (waiting_after log r ps)
 
 abbrev pub MomentsOf : Bool → disk.View → disk.View → Tail → Type 0
-MomentsOf told v w log = (ds ps : List Record) → IsTrue told → Holds v log ds ps → disk.LeavesOnly v w (IsBeforeOrAfter v.now log ds ps)
+MomentsOf told v w log = (ds ps : List Numbered) → IsTrue told → Holds v log ds ps → disk.LeavesOnly v w (IsBeforeOrAfter v.now log ds ps)
 
 -- a begin's record is a header
 pub begin-length : (transaction previous : ℕ) → length (spelled (BeginRecord transaction previous)) ≡ 21

@@ -25,8 +25,8 @@ returns-then-tail-gt-NEW_WORK_END-clause-goes g c into x shows =
 pub returns-in-Ok-clause-goes : goal.returns-in-Ok-clause-goes
 returns-in-Ok-clause-goes g c into x shows =
     let n = c.place.result in
-    begun g.D.Disk.told (g.D.Disk.view c.args.self.now.disk) (core_of c.args.self.now) x shows c.requires c.args.name n 0 (g.D.Disk.view c.append.new.disk) c.append.new.self (ap (option_map live_of) c.in_default.is)
-    (omega (arith, c.tail.ensures, c.if-tail-gt-NEW_WORK_END.false)) (c.place.ensures.place ∙ begin-place c.args.self.now.log 0 0 n 0) c.in-Ok.ensures.log c.in-Ok.ensures.tail c.in-Ok.ensures.holds c.append.ensures.any_moment
+    begun g.D.Disk.told (g.D.Disk.view c.args.self.now.disk) (core_of c.args.self.now) x shows c.requires c.args.name n c.in-Ok.last 0 (g.D.Disk.view c.append.new.disk) c.append.new.self (ap (option_map live_of) c.in_default.is)
+    (omega (arith, c.tail.ensures, c.if-tail-gt-NEW_WORK_END.false)) (c.place.ensures.place ∙ begin-place c.args.self.now.log 0 0 n 0) c.in-Ok.ensures.lsn refl c.in-Ok.ensures.log c.in-Ok.ensures.tail c.in-Ok.ensures.holds c.append.ensures.any_moment
 
 pub returns-in-Err-clause-goes : goal.returns-in-Err-clause-goes
 returns-in-Err-clause-goes g c into x shows =

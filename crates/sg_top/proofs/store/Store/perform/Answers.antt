@@ -10,7 +10,7 @@ use Rattle.sg_words.proofs.Said.{op_said-spoken}
 use Rattle.sg_record.specs.Records.{Record, IsRecord}
 use Rattle.sg_record.specs.Records.Record.{Line as LineRecord}
 use Rattle.sg_log.specs.Held.{Tail, tail_of, end_of}
-use Rattle.sg_top.specs.Shown.{core_of, live_of, shown_answer, answer_at, StopIsCaused}
+use Rattle.sg_top.specs.Shown.{core_of, live_of, last_in, shown_answer, answer_at, StopIsCaused}
 use Rattle.sg_top.specs.Goes.{NEW_WORK_END}
 use Rattle.sg_top.specs.declared.answer.Answer as code_answer
 use Rattle.sg_top.proofs.Steps.{op_none, same_text, ends_within}
@@ -50,7 +50,7 @@ returns-in-Ok-clause-goes g c x shows =
     let e : step c.args.self.now.objects op ≡ (Ok (shown_reply c.apply.new.into c.in-Ok-Ok.reply), c.apply.new.self) = rw c.in-Ok-Ok.field-0-is at c.in-Ok-Ok.ensures.done in
     goes_along _ _ _ _ _ _ refl refl c.in-Ok.ensures.core
     (op_logged g.D.Disk.told (g.D.Disk.view c.args.self.now.disk) (core_of c.args.self.now) x shows c.requires.running c.args.name op (live_of l) (shown_reply c.apply.new.into c.in-Ok-Ok.reply) c.apply.new.self (g.D.Disk.view c.keep.new.self.disk) c.keep.new.self.log l.last (spoken c.args.text.now)
-    (ap (option_map live_of) c.in-Some.ensures.0) (same_text c.args.name l.name c.in-Some.ensures.1) (sym (ap (λ (p : Result Reply Reason × Objects). p.1) e)) (ap (λ (p : Result Reply Reason × Objects). p.0) e) (op_said-spoken c.args.text.now c.args.name op c.requires.said) c.keep.ensures.range
+    (ap (option_map live_of) c.in-Some.ensures.0) (same_text c.args.name l.name c.in-Some.ensures.1) (sym (ap (λ (p : Result Reply Reason × Objects). p.1) e)) (ap (λ (p : Result Reply Reason × Objects). p.0) e) (op_said-spoken c.args.text.now c.args.name op c.requires.said) c.keep.ensures.range (ap last_in (sym c.in-Some.ensures.0))
     (c.is_full.ensures.low c.if-is_full.false c.if-not-changing.false) c.in-Ok.ensures.log c.in-Ok.ensures.tail c.in-Ok.ensures.holds c.keep.ensures.any_moment)
 
 pub returns-in-Err-keep-clause-goes : goal.returns-in-Err-keep-clause-goes
