@@ -2,7 +2,8 @@
 //! behind a gate.
 //!
 //! It stands on `sg_disk` for the area that the frames stand in, and on `sg_record` for the records'
-//! bytes. It promises that the durable records are those appended, in order: a force that succeeds
+//! bytes. It promises that the durable records are those appended, in order, and that each has the
+//! number that its append told: that of its first byte in the log. A force that succeeds
 //! makes all of them durable, and a crash at any moment leaves those that were durable before the
 //! call or all, with no record torn and no other area touched.
 #![tactic(auto)]
