@@ -3,8 +3,7 @@ use Rattle.std.proofs.Common.{◌≡◌, ◌⊎◌, inl, inr, ⊎_elim, ℕ, zer
 use Rattle.sg_base.specs.Ends.{HasRisen, Takes, TakesFront}
 use Rattle.sg_base.specs.declared.area.Area.{Area}
 use Rattle.sg_base.specs.declared.area.Area.TheVariants.{Log0}
-use Rattle.sg_record.specs.Records.{Record}
-use Rattle.sg_log.specs.Frames.{HasRecords}
+use Rattle.sg_log.specs.Frames.{Numbered, HasRecords}
 use Rattle.sg_disk.specs.Disk as disk
 use Rattle.sg_top.specs.declared.opening.OpenRefused as code_refused
 use Rattle.sg_top.specs.declared.opening.OpenRefused.TheVariants as refusals
@@ -102,7 +101,7 @@ refused_log refusals.Memory s e h = cc (e, h)
 refused_log (refusals.Damaged area at) s e h = cc (e, h)
 
 -- then so much was handed to the disk since the log ended there
-pub log_of : (told : Bool) (v w : disk.View) (source left first now : Option (List ℕ)) (s : code_status.Status) → Ran told v w source left first now s → s ≡ statuses.LogEnd → IsTrue told → (ds : List Record) (gate : ℕ) → HasRecords (reads_of v Log0) 0 gate ds → MayEnd gate v w
+pub log_of : (told : Bool) (v w : disk.View) (source left first now : Option (List ℕ)) (s : code_status.Status) → Ran told v w source left first now s → s ≡ statuses.LogEnd → IsTrue told → (ds : List Numbered) (gate : ℕ) → HasRecords (reads_of v Log0) 0 gate ds → MayEnd gate v w
 log_of told v w source left first now s ran is is_told ds gate has =
     let full = ended_log ran.end ran.stop s _ _ ran.status_is ran.caused is in
     let same : ran.core.log.gate ≡ gate = ran.gate is_told ds gate has in
