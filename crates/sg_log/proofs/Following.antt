@@ -1,15 +1,19 @@
 -- Records that follow one another.
 use Rattle.std.proofs.Common.{add-zero, true, ◌≡◌, ℕ, ◌+◌, ◌<◌, ◌≤◌, ◌==◌, if◌then◌else◌, List, [], ◌∷◌, ◌++◌, length, refl, sym, ◌∙◌, ap, subst, arith, length-append, append-nil, append_assoc}
 use Rattle.std.proofs.lemmas.Bool.Decides.{nat_tests}
+use Rattle.std.proofs.lemmas.List.{map-append}
 use Rattle.sg_disk.specs.Disk.{View}
 use Rattle.sg_record.specs.Records.{Record, spelled, spelled_all, transaction_of}
 use Rattle.sg_record.specs.Records.Record.{Begin, Commit, Line}
 use Rattle.sg_record.proofs.Spelling.{spelled-long}
 use Rattle.sg_log.specs.Following.{last_or, last_of, IsOwned, Follows, AreChainedBehind, AreChained}
-use Rattle.sg_log.specs.Frames.{Numbered, numbered_from, numbered_in, text_of, gate_after}
+use Rattle.sg_log.specs.Frames.{Numbered, records_of, numbered_from, numbered_in, text_of, gate_after}
 use Rattle.sg_log.specs.Held.{Tail, Holds, tail_of}
 use Rattle.sg_log.proofs.Holding.{tail_at_gate, tail_behind, gate_moved}
 use Rattle.sg_log.proofs.Steps.{gate_later}
+
+pub records_of-append : (xs ys : List Numbered) → records_of (xs ++ ys) ≡ records_of xs ++ records_of ys
+records_of-append xs ys = map-append (λ (n : Numbered). n.is) xs ys
 
 pub last_or-append : (none t : ℕ) (xs ys : List Numbered) → last_or none t (xs ++ ys) ≡ last_or (last_or none t xs) t ys
 last_or-append none t [] ys = refl

@@ -25,12 +25,12 @@ numbered_in-more gate (r ∷ frames) rs =
     let next : ℕ = gate + 1 + length (text_of (spelled_all r)) in
     ap (λ (xs : List Numbered). numbered_from (gate + 5) r ++ xs) (numbered_in-more next frames rs) ∙ sym (append_assoc (numbered_from (gate + 5) r) (numbered_in next frames) (numbered_from (gate_after next frames + 5) rs))
 
-pub numbered_from-more : (lsn : ℕ) (rs : List Record) (r : Record) → numbered_from lsn (rs ++ r ∷ []) ≡ numbered_from lsn rs ++ record { lsn = lsn + length (spelled_all rs); is = r } ∷ []
-numbered_from-more lsn [] r = let here : lsn ≡ lsn + 0 = omega arith in ap (λ (n : ℕ). numbered_from n (r ∷ [])) here
-numbered_from-more lsn (s ∷ rs) r =
-    let there : lsn + length (spelled s) + length (spelled_all rs) ≡ lsn + length (spelled s ++ spelled_all rs) = omega (arith, length-append (spelled s) (spelled_all rs)) in
-    ap (λ (xs : List Numbered). record { lsn = lsn; is = s } ∷ xs)
-    (numbered_from-more (lsn + length (spelled s)) rs r ∙ ap (λ (n : ℕ). numbered_from (lsn + length (spelled s)) rs ++ record { lsn = n; is = r } ∷ []) there)
+pub numbered_from-append : (lsn : ℕ) (rs ss : List Record) → numbered_from lsn (rs ++ ss) ≡ numbered_from lsn rs ++ numbered_from (lsn + length (spelled_all rs)) ss
+numbered_from-append lsn [] ss = ap (λ (n : ℕ). numbered_from n ss) (sym (add-zero lsn))
+numbered_from-append lsn (r ∷ rs) ss =
+    let there : lsn + length (spelled r) + length (spelled_all rs) ≡ lsn + length (spelled r ++ spelled_all rs) = omega (arith, length-append (spelled r) (spelled_all rs)) in
+    ap (λ (xs : List Numbered). record { lsn = lsn; is = r } ∷ xs)
+    (numbered_from-append (lsn + length (spelled r)) rs ss ∙ ap (λ (n : ℕ). numbered_from (lsn + length (spelled r)) rs ++ numbered_from n ss) there)
 
 -- the gate behind frames, counted from another number
 pub gate_moved : (base at : ℕ) (frames : List (List Record)) → gate_after (base + at) frames ≡ base + gate_after at frames
@@ -209,7 +209,7 @@ buffer_holds {log = log} {ps = ps} r lsn h good within place = record {
   fields = AreRecords-more h.body r h.fields good;
   numbers =
       let there : log.gate + 5 + length (spelled_all h.body) ≡ lsn = omega (arith, ap length h.waiting) in
-      numbered_from-more (log.gate + 5) h.body r
+      numbered_from-append (log.gate + 5) h.body (r ∷ [])
       ∙ ap (λ (xs : List Numbered). xs ++ record { lsn = log.gate + 5 + length (spelled_all h.body); is = r } ∷ []) h.numbers
       ∙ ap (λ (n : ℕ). ps ++ record { lsn = n; is = r } ∷ []) there;
   within = let some : 0 < length (log.buffer ++ spelled r) = omega (arith, length-append log.buffer (spelled r), spelled-long r) in

@@ -28,7 +28,7 @@ use Rattle.sg_log.specs.declared.fault.LogFault.TheVariants as faults
 use Rattle.sg_log.specs.Held.{Tail, tail_of, has_room, place_of, end_of, numbered, appended, forced, Holds, durable_after, waiting_after}
 use Rattle.sg_log.proofs.Holding.{all_appended, spelled_most, forced_empty}
 use Rattle.sg_log.specs.Following.{last_of, AreChained}
-use Rattle.sg_log.proofs.Following.{held_low}
+use Rattle.sg_log.proofs.Following.{records_of-append, held_low}
 use Rattle.sg_top.specs.Stands.{lines_by, commits_in, committed_lines, replay, after_line, after_op, if_replied, StandsFor, StandsForFirst}
 use Rattle.sg_top.specs.Store.{Core, AreSerial, AreOwn, IsNotAmong, IsOpen, IsOpenOrNone, IsLast, Logs, Keeps, Runs, Shows}
 use Rattle.sg_top.specs.Shown.{shown_answer, answer_at, IsFullAnswer, StopIsCaused, stop_at as stop_code}
@@ -38,7 +38,7 @@ use Rattle.sg_top.specs.Goes.{Goes, NEW_WORK_END, IsWork}
 use Rattle.sg_top.proofs.Replays.{AreBelow, chained_below, last_or-above, replay-append, lines_by-above, commits_in-above, lines_by-append, lines_by-line}
 use Rattle.sg_top.proofs.Serial.{serial_began, serial_did, serial_committed, committed_live, without_one, after_commits}
 use Rattle.sg_top.proofs.Steps.{op_end, op_memory, ends_within, grows_changing, going_turn, named_none, named_one, tail-place, appended_place, forced_place, running_shows, stopped_shows, line_said, caused_said, own_after, uncommitted_after, durable_lines, logs_after, all_after, chained_after, last_after, appended_either, one_after, begin-length, commit-length, place-tail, appended_short, HoldsAfter, MomentsOf}
-use Rattle.sg_top.proofs.Standing.{IsEither, records_of-append, forced_lines, stands_either, of_log, replay_commit, first_same, first_others, first_all, stands}
+use Rattle.sg_top.proofs.Standing.{IsEither, forced_lines, stands_either, of_log, replay_commit, first_same, first_others, first_all, stands}
 
 -- The store isn't stopped
 module _ (told : Bool) (v : disk.View) (k : Core) (x : State) (shows : Shows told v k x) (running : k.stopped ≡ false) where

@@ -1,6 +1,5 @@
 -- What the images of a call on the log stand for.
 use Rattle.std.proofs.Common.{◌≡◌, ◌⊎◌, inl, inr, ℕ, ◌≤◌, List, [], ◌∷◌, ◌++◌, length, Option, Some, None, sym, ap, ◌∙◌, subst, arith, append-nil, length-append}
-use Rattle.std.proofs.lemmas.List.{map-append}
 use Rattle.std.specs.FinMap.{empty}
 use Rattle.sg_base.specs.declared.area.Area.{Area}
 use Rattle.sg_base.specs.declared.area.Area.TheVariants.{Log0}
@@ -12,7 +11,7 @@ use Rattle.sg_record.specs.Records.Record.{Commit}
 use Rattle.sg_log.specs.Following.{AreChained}
 use Rattle.sg_log.specs.Frames.{Numbered, records_of, HasRecords}
 use Rattle.sg_log.specs.Held.{Tail, tail_of, IsBeforeOrAfter}
-use Rattle.sg_log.proofs.Following.{chained-front}
+use Rattle.sg_log.proofs.Following.{records_of-append, chained-front}
 use Rattle.sg_top.specs.Stands.{lines_by, committed_lines, replay, StandsFor, StandsForFirst}
 use Rattle.sg_top.specs.Store.{Core, Logs, Keeps, IsOpenOrNone}
 use Rattle.sg_top.proofs.Replays.{replay-append, committed_lines-own, committed_lines-commit}
@@ -22,9 +21,6 @@ use Rattle.sg_top.proofs.Serial.{after_commits, after_others}
 pub forced_lines : (x : State) (ds ps : List Record) (live : Option Live) → IsOpenOrNone x ds ps live → committed_lines (ds ++ ps) ≡ committed_lines ds
 forced_lines x ds ps None none = ap committed_lines (ap (λ (rs : List Record). ds ++ rs) none ∙ append-nil ds)
 forced_lines x ds ps (Some l) open_one = committed_lines-own l.transaction ds ps open_one.own open_one.uncommitted
-
-pub records_of-append : (xs ys : List Numbered) → records_of (xs ++ ys) ≡ records_of xs ++ records_of ys
-records_of-append xs ys = map-append (λ (n : Numbered). n.is) xs ys
 
 -- the objects that the records commit
 pub stands : (c : disk.Image) (s : Objects) (gate : ℕ) (ns : List Numbered) → HasRecords (c Log0) 0 gate ns → AreChained ns → replay (committed_lines (records_of ns)) (Some empty) ≡ Some s → StandsFor c s

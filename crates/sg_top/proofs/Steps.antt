@@ -26,12 +26,12 @@ use Rattle.sg_log.specs.declared.fault.LogFault.TheVariants as faults
 use Rattle.sg_log.specs.Held.{Tail, tail_of, has_room, place_of, end_of, numbered, buffered, appended, forced, Holds, durable_after, waiting_after, IsBeforeOrAfter}
 use Rattle.sg_log.proofs.Holding.{all_appended, holds_image, spelled_most, forced_empty, tail_empty, tail_forced as tail_forced_same}
 use Rattle.sg_log.specs.Following.{last_of, Follows, AreChained}
-use Rattle.sg_log.proofs.Following.{chained-front, chained-more, last_of-own}
+use Rattle.sg_log.proofs.Following.{records_of-append, chained-front, chained-more, last_of-own}
 use Rattle.sg_top.specs.Stands.{commits_in, committed_lines, StandsForFirst}
 use Rattle.sg_top.specs.Store.{Core, AreOwn, IsNotAmong, Logs, Runs, Shows}
 use Rattle.sg_top.specs.Goes.{Goes, NEW_WORK_END, IsWork}
 use Rattle.sg_top.proofs.Replays.{commits_in-append, commits_in-own, own-append}
-use Rattle.sg_top.proofs.Standing.{IsEither, records_of-append, first_all, stands}
+use Rattle.sg_top.proofs.Standing.{IsEither, first_all, stands}
 
 -- a bytes' text is itself
 bytes_eq-same : (xs : List ℕ) → bytes_eq xs xs ≡ true
