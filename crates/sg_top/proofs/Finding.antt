@@ -1,71 +1,85 @@
 -- How the records of a log are found, one after another.
-use Rattle.std.proofs.Common.{◌≡◌, ℕ, ◌+◌, ◌<◌, ◌≤◌, List, [], ◌∷◌, ◌++◌, length, length-drop, length-take, take, ◌-◌, drop, map, Option, Some, None, refl, sym, ap, ◌∙◌, subst, arith, append-nil, append_assoc, length-append}
+use Rattle.std.proofs.Common.{add-zero, ◌≡◌, ℕ, ◌+◌, ◌<◌, ◌≤◌, List, [], ◌∷◌, ◌++◌, length, length-drop, length-take, take, ◌-◌, drop, Option, Some, None, refl, sym, ap, ◌∙◌, subst, arith, append-nil, append_assoc, length-append}
 use Rattle.std.proofs.lemmas.Grind.{flat_map-append}
 use Rattle.std.proofs.lemmas.List.{drop-drop, map-append}
 use Rattle.std.proofs.Math.Seq.{drop-append_seam}
-use Rattle.sg_record.specs.Records.{Record, spelled, spelled_all, IsRecord, AreRecords, transaction_of}
+use Rattle.sg_record.specs.Records.{Record, spelled, spelled_all, IsRecord, AreRecords}
 use Rattle.sg_record.proofs.Spelling.{spelled-long}
+use Rattle.sg_log.specs.Following.{last_or, Follows, AreChainedBehind}
+use Rattle.sg_log.specs.Frames.{Numbered, numbered_from, records_of}
+use Rattle.sg_log.proofs.Following.{last_or-append, chained-append}
 use Rattle.sg_log.proofs.Standing.{spelled_all-append}
 use Rattle.sg_log.proofs.Whole.{rest_all}
-use Rattle.sg_top.specs.Stands.{AreBelow, commits_in}
-use Rattle.sg_top.specs.Damage.{At, line_at, lines_at, records_at, HasHigh}
-use Rattle.sg_top.specs.Found.{lines_found, Finds}
+use Rattle.sg_top.specs.Stands.{commits_in}
+use Rattle.sg_top.specs.Damage.{line_at, lines_at, HasStray}
+use Rattle.sg_top.specs.Found.{lines_found, last_found, Finds, KnowsLasts}
 use Rattle.sg_top.specs.declared.found.Found as code_found
-use Rattle.sg_top.proofs.Replays.{commits_in-append, below-append}
+use Rattle.sg_top.proofs.Replays.{commits_in-append}
 
--- the records, without where they stand
-pub records_at-is : (at : ℕ) (rs : List Record) → map (λ p. p.is) (records_at at rs) ≡ rs
-records_at-is at [] = refl
-records_at-is at (r ∷ rs) = ap (λ (xs : List Record). r ∷ xs) (records_at-is (at + length (spelled r)) rs)
+-- the records behind others, and their numbers
+pub numbered_from-append : (lsn : ℕ) (rs ss : List Record) → numbered_from lsn (rs ++ ss) ≡ numbered_from lsn rs ++ numbered_from (lsn + length (spelled_all rs)) ss
+numbered_from-append lsn [] ss = ap (λ (n : ℕ). numbered_from n ss) (sym (add-zero lsn))
+numbered_from-append lsn (r ∷ rs) ss =
+    ap (λ (xs : List Numbered). record { lsn = lsn; is = r } ∷ xs)
+    (numbered_from-append (lsn + length (spelled r)) rs ss ∙ ap (λ (n : ℕ). numbered_from (lsn + length (spelled r)) rs ++ numbered_from n ss) (omega (arith, length-append (spelled r) (spelled_all rs))))
 
-pub records_at-append : (at : ℕ) (rs ss : List Record) → records_at at (rs ++ ss) ≡ records_at at rs ++ records_at (at + length (spelled_all rs)) ss
-records_at-append at [] ss = ap (λ (n : ℕ). records_at n ss) (zero_more at)
-  where
-    zero_more : (n : ℕ) → n ≡ n + 0
-    zero_more n = omega arith
-records_at-append at (r ∷ rs) ss =
-    ap (λ (xs : List At). record { offset = at; is = r } ∷ xs)
-    (records_at-append (at + length (spelled r)) rs ss ∙ ap (λ (n : ℕ). records_at (at + length (spelled r)) rs ++ records_at n ss) (omega (arith, length-append (spelled r) (spelled_all rs))))
+pub records_of-append : (xs ys : List Numbered) → records_of (xs ++ ys) ≡ records_of xs ++ records_of ys
+records_of-append xs ys = map-append (λ (n : Numbered). n.is) xs ys
 
-pub map_is-append : (xs ys : List At) → map {B = Record} (λ p. p.is) (xs ++ ys) ≡ map (λ p. p.is) xs ++ map (λ p. p.is) ys
-map_is-append xs ys = map-append (λ (p : At). p.is) xs ys
+pub lines_at-append : (t : ℕ) (xs ys : List Numbered) → lines_at t (xs ++ ys) ≡ lines_at t xs ++ lines_at t ys
+lines_at-append t xs ys = flat_map-append (λ (n : Numbered). line_at t n.lsn n.is) xs ys
+
+pub commits_of-append : (xs ys : List Numbered) → commits_in (records_of (xs ++ ys)) ≡ commits_in (records_of xs) ++ commits_in (records_of ys)
+commits_of-append xs ys = ap commits_in (records_of-append xs ys) ∙ commits_in-append (records_of xs) (records_of ys)
 
 -- found one after another
 pub finds_none : (found : code_found.Found) → Finds found found []
 finds_none found = record {
   lines = λ t. sym (append-nil (lines_found found t));
   commits = sym (append-nil found.commits.items);
+  lasts = λ t. refl;
 }
 
-pub finds_more : (old mid new : code_found.Found) (xs ys : List At) → Finds old mid xs → Finds mid new ys → Finds old new (xs ++ ys)
+pub finds_more : (old mid new : code_found.Found) (xs ys : List Numbered) → Finds old mid xs → Finds mid new ys → Finds old new (xs ++ ys)
 finds_more old mid new xs ys h k = record {
-  lines = λ t. k.lines t ∙ (ap (λ l. l ++ lines_at t ys) (h.lines t) ∙ (append_assoc (lines_found old t) (lines_at t xs) (lines_at t ys) ∙ ap (λ l. lines_found old t ++ l) (sym (flat_map-append (λ (p : At). line_at t p.offset p.is) xs ys))));
-  commits = k.commits ∙ (ap (λ (l : List ℕ). l ++ commits_in (map (λ p. p.is) ys)) h.commits ∙ (append_assoc old.commits.items (commits_in (map (λ p. p.is) xs)) (commits_in (map (λ p. p.is) ys))
-      ∙ ap (λ (l : List ℕ). old.commits.items ++ l) (sym (ap commits_in (map_is-append xs ys) ∙ commits_in-append (map (λ p. p.is) xs) (map (λ p. p.is) ys)))));
+  lines = λ t. k.lines t ∙ (ap (λ l. l ++ lines_at t ys) (h.lines t) ∙ (append_assoc (lines_found old t) (lines_at t xs) (lines_at t ys) ∙ ap (λ l. lines_found old t ++ l) (sym (lines_at-append t xs ys))));
+  commits = k.commits ∙ (ap (λ (l : List ℕ). l ++ commits_in (records_of ys)) h.commits ∙ (append_assoc old.commits.items (commits_in (records_of xs)) (commits_in (records_of ys))
+      ∙ ap (λ (l : List ℕ). old.commits.items ++ l) (sym (commits_of-append xs ys))));
+  lasts = λ t. k.lasts t ∙ (ap (λ (n : ℕ). last_or n t ys) (h.lasts t) ∙ sym (last_or-append (last_found old t) t xs ys));
 }
 
-pub finds_one : (old new : code_found.Found) (at : ℕ) (r : Record) → ((t : ℕ) → lines_found new t ≡ lines_found old t ++ line_at t at r) → new.commits.items ≡ old.commits.items ++ commits_in (r ∷ []) → Finds old new (record { offset = at; is = r } ∷ [])
-finds_one old new at r lines commits = record {
-  lines = λ t. lines t ∙ ap (λ l. lines_found old t ++ l) (sym (append-nil (line_at t at r)));
+pub finds_one : (old new : code_found.Found) (n : Numbered) → ((t : ℕ) → lines_found new t ≡ lines_found old t ++ line_at t n.lsn n.is) → new.commits.items ≡ old.commits.items ++ commits_in (n.is ∷ [])
+    → ((t : ℕ) → last_found new t ≡ last_or (last_found old t) t (n ∷ [])) → Finds old new (n ∷ [])
+finds_one old new n lines commits lasts = record {
+  lines = λ t. lines t ∙ ap (λ l. lines_found old t ++ l) (sym (append-nil (line_at t n.lsn n.is)));
   commits = commits;
+  lasts = lasts;
 }
+
+-- what was known of the records before is then known with these
+pub knows_more : (old new : code_found.Found) (before xs : List Numbered) → Finds old new xs → KnowsLasts old before → KnowsLasts new (before ++ xs)
+knows_more old new before xs h knows t = h.lasts t ∙ (ap (λ (n : ℕ). last_or n t xs) (knows t) ∙ sym (last_or-append 0 t before xs))
+
+-- the records follow one another behind each list that what was found knows the last ones of
+abbrev pub AreChainedHere : code_found.Found → List Numbered → Type 0
+AreChainedHere found records = (before : List Numbered) → KnowsLasts found before → AreChainedBehind before records
 
 -- the records of a frame's bytes, some of which were found
-pub record IsSoFar (old now : code_found.Found) (bytes : List ℕ) (at gate from : ℕ) (rs : List Record) : Type 0 where
+pub record IsSoFar (old now : code_found.Found) (bytes : List ℕ) (at from : ℕ) (rs : List Record) : Type 0 where
   pub front : List Record
   pub back : List Record
   pub split : rs ≡ front ++ back
   pub fields : AreRecords back
   pub rest : drop from bytes ≡ spelled_all back
   pub place : from ≡ length (spelled_all front)
-  pub finds : Finds old now (records_at at front)
-  pub below : AreBelow gate front
+  pub finds : Finds old now (numbered_from at front)
+  pub chained : AreChainedHere old (numbered_from at front)
 
-abbrev pub SoFar : code_found.Found → code_found.Found → List ℕ → ℕ → ℕ → ℕ → Type 0
-SoFar old now bytes at gate from = (rs : List Record) → AreRecords rs → bytes ≡ spelled_all rs → IsSoFar old now bytes at gate from rs
+abbrev pub SoFar : code_found.Found → code_found.Found → List ℕ → ℕ → ℕ → Type 0
+SoFar old now bytes at from = (rs : List Record) → AreRecords rs → bytes ≡ spelled_all rs → IsSoFar old now bytes at from rs
 
-pub so_far_none : (found : code_found.Found) (bytes : List ℕ) (at gate : ℕ) → SoFar found found bytes at gate 0
-so_far_none found bytes at gate rs fields is = record {
+pub so_far_none : (found : code_found.Found) (bytes : List ℕ) (at : ℕ) → SoFar found found bytes at 0
+so_far_none found bytes at rs fields is = record {
   front = [];
   back = rs;
   split = refl;
@@ -73,7 +87,7 @@ so_far_none found bytes at gate rs fields is = record {
   rest = is;
   place = refl;
   finds = finds_none found;
-  below = tt;
+  chained = λ before knows. tt;
 }
 
 -- while bytes are left there is a next record
@@ -102,13 +116,13 @@ same_pair r s m n e =
 abbrev pub Reads : List ℕ → ℕ → Option (Record × ℕ) → Type 0
 Reads bytes from got = (r : Record) (rest : List ℕ) → IsRecord r → drop from bytes ≡ spelled r ++ rest → got ≡ Some (r, length (spelled r))
 
-module _ (old now : code_found.Found) (bytes : List ℕ) (at gate from : ℕ) (so : SoFar old now bytes at gate from) where
+module _ (old now : code_found.Found) (bytes : List ℕ) (at from : ℕ) (so : SoFar old now bytes at from) where
   -- all of them were found
-  pub so_far_all : length bytes ≤ from → (rs : List Record) → AreRecords rs → bytes ≡ spelled_all rs → Finds old now (records_at at rs) × AreBelow gate rs
+  pub so_far_all : length bytes ≤ from → (rs : List Record) → AreRecords rs → bytes ≡ spelled_all rs → Finds old now (numbered_from at rs) × AreChainedHere old (numbered_from at rs)
   so_far_all all rs fields is =
       let h = so rs fields is in
       let e : h.front ≡ rs = sym (h.split ∙ (ap (λ (b : List Record). h.front ++ b) (none_left bytes from h.back h.rest all) ∙ append-nil h.front)) in
-      (subst (λ (xs : List Record). Finds old now (records_at at xs)) e h.finds, subst (AreBelow gate) e h.below)
+      (subst (λ (xs : List Record). Finds old now (numbered_from at xs)) e h.finds, subst (λ (xs : List Record). AreChainedHere old (numbered_from at xs)) e h.chained)
 
   -- a record is read
   pub so_far_read : from < length bytes → Reads bytes from None → (rs : List Record) → AreRecords rs → bytes ≡ spelled_all rs → ⊥
@@ -119,31 +133,35 @@ module _ (old now : code_found.Found) (bytes : List ℕ) (at gate from : ℕ) (s
       absurd (cc)
 
   module _ (r : Record) (size : ℕ) (some : from < length bytes) (read : Reads bytes from (Some (r, size))) where
-    -- of a transaction with too great a number
-    pub so_far_high : gate ≤ transaction_of r → (rs : List Record) → AreRecords rs → bytes ≡ spelled_all rs → HasHigh gate (at + from) (records_at at rs)
-    so_far_high high rs fields is =
+    abbrev pub here : Numbered
+    here = record { lsn = at + from; is = r }
+
+    -- which follows none of those before it
+    pub so_far_stray : ((before : List Numbered) → KnowsLasts now before → Follows before here → ⊥) → (before : List Numbered) (rs : List Record) → KnowsLasts old before
+        → AreRecords rs → bytes ≡ spelled_all rs → HasStray before (at + from) (numbered_from at rs)
+    so_far_stray none before rs knows fields is =
         let h = so rs fields is in
         let n = next bytes from h.back h.fields h.rest some in
         let same = same_pair r n.is size (length (spelled n.is)) (read n.is (spelled_all n.more) n.good n.text) in
+        let back : List Numbered = numbered_from (at + from + length (spelled n.is)) n.more in
         record {
           is = r;
-          front = records_at at h.front;
-          back = records_at (at + from + length (spelled n.is)) n.more;
-          there = ap (records_at at) (h.split ∙ ap (λ (b : List Record). h.front ++ b) n.split) ∙ (records_at-append at h.front (n.is ∷ n.more)
-              ∙ (ap (λ (k : ℕ). records_at at h.front ++ records_at (at + k) (n.is ∷ n.more)) (sym h.place) ∙ ap (λ (s : Record). records_at at h.front ++ record { offset = at + from; is = s } ∷ records_at (at + from + length (spelled n.is)) n.more) (sym same.0)));
-          high = high;
+          front = numbered_from at h.front;
+          back = back;
+          there = ap (numbered_from at) (h.split ∙ ap (λ (b : List Record). h.front ++ b) n.split) ∙ (numbered_from-append at h.front (n.is ∷ n.more)
+              ∙ (ap (λ (k : ℕ). numbered_from at h.front ++ numbered_from (at + k) (n.is ∷ n.more)) (sym h.place) ∙ ap (λ (s : Record). numbered_from at h.front ++ record { lsn = at + from; is = s } ∷ back) (sym same.0)));
+          stray = none (before ++ numbered_from at h.front) (knows_more old now before (numbered_from at h.front) h.finds knows);
         }
 
     -- and one more is found
-    pub so_far_more : (new : code_found.Found) → transaction_of r < gate → ((t : ℕ) → lines_found new t ≡ lines_found now t ++ line_at t (at + from) r) → new.commits.items ≡ now.commits.items ++ commits_in (r ∷ [])
-        → (from + size ≤ length bytes) → SoFar old new bytes at gate (from + size)
-    so_far_more new low lines commits within rs fields is =
+    pub so_far_more : (new : code_found.Found) → AreChainedHere now (here ∷ []) → Finds now new (here ∷ []) → (from + size ≤ length bytes) → SoFar old new bytes at (from + size)
+    so_far_more new follows one within rs fields is =
         let h = so rs fields is in
         let n = next bytes from h.back h.fields h.rest some in
         let same = same_pair r n.is size (length (spelled n.is)) (read n.is (spelled_all n.more) n.good n.text) in
-        let place : at + from ≡ at + length (spelled_all h.front) = omega (arith, h.place) in
-        let one : Finds now new (record { offset = at + length (spelled_all h.front); is = n.is } ∷ []) =
-        subst (λ (s : Record). Finds now new (record { offset = at + length (spelled_all h.front); is = s } ∷ [])) same.0 (subst (λ (k : ℕ). Finds now new (record { offset = k; is = r } ∷ [])) place (finds_one now new (at + from) r lines commits)) in
+        let front : List Numbered = numbered_from at h.front in
+        let more : numbered_from at (h.front ++ n.is ∷ []) ≡ front ++ here ∷ [] =
+        numbered_from-append at h.front (n.is ∷ []) ∙ (ap (λ (k : ℕ). front ++ numbered_from (at + k) (n.is ∷ [])) (sym h.place) ∙ ap (λ (s : Record). front ++ record { lsn = at + from; is = s } ∷ []) (sym same.0)) in
         record {
           front = h.front ++ n.is ∷ [];
           back = n.more;
@@ -151,8 +169,9 @@ module _ (old now : code_found.Found) (bytes : List ℕ) (at gate from : ℕ) (s
           fields = n.fields;
           rest = ap (λ (k : ℕ). drop (from + k) bytes) same.1 ∙ (sym (drop-drop (length (spelled n.is)) from bytes) ∙ (ap (drop (length (spelled n.is))) n.text ∙ drop-append_seam (spelled n.is) (spelled_all n.more)));
           place = omega (arith, h.place, same.1, ap length (spelled_all-append h.front (n.is ∷ [])), length-append (spelled_all h.front) (spelled_all (n.is ∷ [])), length-append (spelled n.is) []);
-          finds = subst (Finds old new) (sym (records_at-append at h.front (n.is ∷ []))) (finds_more old now new (records_at at h.front) (record { offset = at + length (spelled_all h.front); is = n.is } ∷ []) h.finds one);
-          below = below-append gate h.front (n.is ∷ []) h.below (subst (λ (s : Record). transaction_of s < gate) same.0 low, tt);
+          finds = subst (Finds old new) (sym more) (finds_more old now new front (here ∷ []) h.finds one);
+          chained = λ before knows.
+              subst (AreChainedBehind before) (sym more) (chained-append before front (here ∷ []) (h.chained before knows) (follows (before ++ front) (knows_more old now before front h.finds knows)));
         }
 
 -- what is read of a slice's rest

@@ -55,11 +55,12 @@ pub record EndsAt (v : disk.View) (log : Tail) (frames : List (List Record)) : T
   pub gate : log.gate ≡ gate_after 0 frames
   pub within : log.gate ≤ LOG_END
 
--- why a log isn't read on in a frame whose body has these bytes, and stands at this offset, behind these records
-abbrev pub IsRefusedIn : code_refused.OpenRefused → (before : List Numbered) → (bytes : List ℕ) → (start : ℕ) → Type 0
-IsRefusedIn refusals.DiskFault before bytes start = ⊥
-IsRefusedIn refusals.Memory before bytes start = Unit {0}
-IsRefusedIn (refusals.Damaged area at) before bytes start = (area ≡ Log0) × ((rs : List Record) → AreRecords rs → bytes ≡ spelled_all rs → HasStray before at (numbered_from start rs))
+-- why a log isn't read on in a frame whose body has these bytes, and stands at this offset, behind what was found
+abbrev pub IsRefusedIn : code_refused.OpenRefused → code_found.Found → (bytes : List ℕ) → (start : ℕ) → Type 0
+IsRefusedIn refusals.DiskFault found bytes start = ⊥
+IsRefusedIn refusals.Memory found bytes start = Unit {0}
+IsRefusedIn (refusals.Damaged area at) found bytes start = (area ≡ Log0)
+    × ((before : List Numbered) (rs : List Record) → KnowsLasts found before → AreRecords rs → bytes ≡ spelled_all rs → HasStray before at (numbered_from start rs))
 
 -- why the records of a log weren't all found
 abbrev pub IsNotFound : code_refused.OpenRefused → Bool → disk.View → disk.View → Tail → Type 0

@@ -58,7 +58,7 @@ fn find_in_frame(
     requires { at + length bytes.now < 2 ^ 64 }
     ensures found { (rs : List Record) → AreRecords rs → bytes.now ≡ spelled_all rs → OnOk result (Finds found.old found.new (numbered_from at rs)) }
     ensures chained { (before : List Numbered) (rs : List Record) → KnowsLasts found.old before → AreRecords rs → bytes.now ≡ spelled_all rs → OnOk result (AreChainedBehind before (numbered_from at rs)) }
-    ensures refused { (before : List Numbered) → KnowsLasts found.old before → IfErr result (λ why. IsRefusedIn why before bytes.now at) }
+    ensures refused { IfErr result (λ why. IsRefusedIn why found.old bytes.now at) }
 {
     let mut from = 0;
     'records: while from < bytes.len() {

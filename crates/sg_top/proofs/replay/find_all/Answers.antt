@@ -1,13 +1,12 @@
 use Rattle.std.proofs.Common.{◌≡◌, ℕ, ◌+◌, ◌-◌, take, refl, sym, subst, arith}
 use Rattle.sg_log.proofs.Runs.{reads_more}
-use Rattle.sg_top.specs.Stands.{AreBelow}
-use Rattle.sg_top.specs.Found.{IsRefusedIn, IsNotFound}
+use Rattle.sg_top.specs.Found.{IsNotFound}
 use Rattle.sg_top.specs.declared.opening.OpenRefused as code_refused
 use Rattle.sg_top.proofs.Walking.{walking_none, walking_more, walking_done, walking_fails, walking_refused}
 use Rattle.sg_top.proofs.replay.find_all.Goals as goal
 
 pub frames-init : goal.frames-init
-frames-init g c = walking_none g.D.Disk.told (g.D.Disk.view c.args.disk.now) c.args.log.now c.new-found.result c.new-found.ensures.lines c.new-found.ensures.commits
+frames-init g c = walking_none g.D.Disk.told (g.D.Disk.view c.args.disk.now) c.args.log.now c.new-found.result c.new-found.ensures.lines c.new-found.ensures.commits c.new-found.ensures.lasts
 
 pub frames-preserved : goal.frames-preserved
 frames-preserved g c =
@@ -17,7 +16,7 @@ frames-preserved g c =
     let bytes = take c.in-Ok-Some.size c.frame.new.into in
     walking_more g.D.Disk.told (g.D.Disk.view c.args.disk.now) (g.D.Disk.view c.frames.disk) c.args.log.now c.frames.found c.frames.gate (c.frames.gate - c.args.log.now.base) c.frames.invariant to
     (g.D.Disk.view c.frame.new.disk) c.find_in_frame.new.found c.in-Ok-Some.size bytes c.frame.ensures.reads (omega (arith, onward.2)) formed c.in-Ok.ensures.found
-    (λ rs fields is. subst (λ (n : ℕ). AreBelow n rs) c.durable.ensures (c.in-Ok.ensures.below rs fields is))
+    (λ rs fields is before knows. c.in-Ok.ensures.chained before rs knows fields is)
 
 pub returns-in-Err-find_in_frame-clause-refused : goal.returns-in-Err-find_in_frame-clause-refused
 returns-in-Err-find_in_frame-clause-refused g c =
@@ -26,7 +25,7 @@ returns-in-Err-find_in_frame-clause-refused g c =
     let bytes = take c.in-Ok-Some.size c.frame.new.into in
     walking_refused g.D.Disk.told (g.D.Disk.view c.args.disk.now) (g.D.Disk.view c.frames.disk) c.args.log.now c.frames.found c.frames.gate (c.frames.gate - c.args.log.now.base) c.frames.invariant to
     (g.D.Disk.view c.frame.new.disk) c.in-Ok-Some.size bytes c.in-Err-find_in_frame.why formed
-    (subst (λ (n : ℕ). IsRefusedIn c.in-Err-find_in_frame.why n bytes (c.frames.gate + 5)) c.durable.ensures c.in-Err-find_in_frame.ensures.refused)
+    c.in-Err-find_in_frame.ensures.refused
 
 pub returns-in-Err-find_in_frame-clause-reads : goal.returns-in-Err-find_in_frame-clause-reads
 returns-in-Err-find_in_frame-clause-reads g c = reads_more c.frames.invariant.reads c.frame.ensures.reads
