@@ -1,5 +1,5 @@
 -- What is read back of a log, and why it isn't.
-use Rattle.std.proofs.Common.{◌≡◌, inl, inr, ℕ, Bool, IsTrue, List, [], map, Some, refl, sym, ap, ◌∙◌, subst, arith}
+use Rattle.std.proofs.Common.{◌≡◌, inl, inr, ℕ, Bool, IsTrue, List, [], Some, refl, sym, ap, ◌∙◌, subst, arith}
 use Rattle.std.specs.List.{flat_map}
 use Rattle.std.specs.FinMap.{empty}
 use Rattle.sg_base.specs.declared.area.Area.{Area}
@@ -7,15 +7,16 @@ use Rattle.sg_base.specs.declared.area.Area.TheVariants.{Log0}
 use Rattle.sg_disk.specs.Disk as disk
 use Rattle.sg_model.specs.Objects.{Objects}
 use Rattle.sg_record.specs.Records.{Record}
-use Rattle.sg_log.specs.Frames.{Frames, HasRecords}
+use Rattle.sg_log.specs.Following.{AreChained}
+use Rattle.sg_log.specs.Frames.{Frames, Numbered, numbered_in, records_of, HasRecords}
 use Rattle.sg_log.specs.Held.{Tail, Holds}
 use Rattle.sg_log.specs.Faults.{AttachFails}
 use Rattle.sg_log.specs.Reads.{OnlyReads}
 use Rattle.sg_log.specs.declared.fault.LogFault.{LogFault}
 use Rattle.sg_log.specs.declared.fault.LogFault.TheVariants as faults
 use Rattle.sg_log.proofs.Holding.{holds_along}
-use Rattle.sg_top.specs.Stands.{AreBelow, commits_in, committed_lines, replay}
-use Rattle.sg_top.specs.Damage.{lines_at, committed_at, words_of_all, records_in, HasHigh, HasUnanswered}
+use Rattle.sg_top.specs.Stands.{commits_in, committed_lines, replay}
+use Rattle.sg_top.specs.Damage.{lines_at, committed_at, words_of_all, HasStray, HasUnanswered}
 use Rattle.sg_top.specs.Found.{lines_found, AreFound, EndsAt, IsReadBack, IsNotFound, IsRefusedBy}
 use Rattle.sg_top.specs.Opening.{IsRefusedFor}
 use Rattle.sg_top.specs.Shown.{refusal_at}
@@ -25,9 +26,9 @@ use Rattle.sg_top.specs.declared.opening.OpenRefused.TheVariants as refusals
 use Rattle.sg_top.proofs.Nothing.{all-same, committed-words}
 
 -- the lines that were found of all commits
-pub found_lines : (found : code_found.Found) (gate : ℕ) (frames : List (List Record)) → AreFound found gate frames → flat_map (λ t. lines_found found t) found.commits.items ≡ committed_at (records_in 0 frames)
-found_lines found gate frames are =
-    ap (flat_map (lines_found found)) are.commits ∙ all-same (lines_found found) (λ t. lines_at t (records_in 0 frames)) (commits_in (map (λ p. p.is) (records_in 0 frames))) are.lines
+pub found_lines : (found : code_found.Found) (frames : List (List Record)) → AreFound found frames → flat_map (λ t. lines_found found t) found.commits.items ≡ committed_at (numbered_in 0 frames)
+found_lines found frames are =
+    ap (flat_map (lines_found found)) are.commits ∙ all-same (lines_found found) (λ t. lines_at t (numbered_in 0 frames)) (commits_in (records_of (numbered_in 0 frames))) are.lines
 
 -- an attach fails
 pub attach_refused : (told : Bool) (v w : disk.View) (e : LogFault) → AttachFails told Log0 0 v w e → IsRefusedFor (refusal_at e) told v w
@@ -38,7 +39,7 @@ attach_refused told v w faults.Memory h = tt
 
 -- the records that an attach finds, which the log holds
 abbrev pub Attaches : disk.View → disk.View → Tail → Type 0
-Attaches v w log = (ds : List Record) × HasRecords (v.now Log0).seen 0 log.gate ds × Holds w log ds []
+Attaches v w log = (ds : List Numbered) × HasRecords (v.now Log0).seen 0 log.gate ds × Holds w log ds []
 
 module _ (told : Bool) (v u : disk.View) (log : Tail) (area : log.area ≡ Log0) (reads : OnlyReads told v u) (is_told : IsTrue told) (attached : Attaches v u log) where
   abbrev pub frames : List (List Record)
@@ -52,38 +53,38 @@ module _ (told : Bool) (v u : disk.View) (log : Tail) (area : log.area ≡ Log0)
   }
 
   -- all was read back
-  pub read_found : (w : disk.View) (found : code_found.Found) (objects : Objects) → OnlyReads told u w → ((fs : List (List Record)) → IsTrue told → EndsAt u log fs → AreFound found log.gate fs)
+  pub read_found : (w : disk.View) (found : code_found.Found) (objects : Objects) → OnlyReads told u w → ((fs : List (List Record)) → IsTrue told → EndsAt u log fs → AreFound found fs)
       → replay (words_of_all (flat_map (λ t. lines_found found t) found.commits.items)) (Some empty) ≡ Some objects → IsReadBack w log objects
   read_found w found objects more all done =
       let are = all frames is_told ends in
       record {
         records = attached.0;
         holds = holds_along {v = u} {w = w} {log = log} (more.unchanged is_told) attached.2;
-        below = subst (AreBelow log.gate) attached.1.all are.below;
-        replayed = ap (λ (rs : List Record). replay (committed_lines rs) (Some empty)) (sym attached.1.all)
-            ∙ (ap (λ (ls : List (List ℕ)). replay ls (Some empty)) (sym (ap words_of_all (found_lines found log.gate frames are) ∙ committed-words frames)) ∙ done);
+        chained = subst AreChained attached.1.all are.chained;
+        replayed = ap (λ (ns : List Numbered). replay (committed_lines (records_of ns)) (Some empty)) (sym attached.1.all)
+            ∙ (ap (λ (ls : List (List ℕ)). replay ls (Some empty)) (sym (ap words_of_all (found_lines found frames are) ∙ committed-words (numbered_in 0 frames))) ∙ done);
       }
 
-  -- a transaction's number is too great
-  pub read_high : (at : ℕ) → ((fs : List (List Record)) → EndsAt u log fs → HasHigh log.gate at (records_in 0 fs)) → IsRefusedFor (refusals.Damaged Log0 at) told v u
-  read_high at high = (
+  -- a record doesn't follow those before it
+  pub read_stray : (at : ℕ) → ((fs : List (List Record)) → EndsAt u log fs → HasStray [] at (numbered_in 0 fs)) → IsRefusedFor (refusals.Damaged Log0 at) told v u
+  read_stray at stray = (
     refl,
     λ sure. inr (inl (record {
       frames = frames;
       stand = attached.1.stand;
-      has = subst (λ (n : ℕ). HasHigh n at (records_in 0 frames)) ends.gate (high frames ends);
+      has = stray frames ends;
     })),
   )
 
   -- a committed line gets no reply
-  pub read_unanswered : (at : ℕ) (found : code_found.Found) → ((fs : List (List Record)) → IsTrue told → EndsAt u log fs → AreFound found log.gate fs)
+  pub read_unanswered : (at : ℕ) (found : code_found.Found) → ((fs : List (List Record)) → IsTrue told → EndsAt u log fs → AreFound found fs)
       → HasUnanswered empty at (flat_map (λ t. lines_found found t) found.commits.items) → IsRefusedFor (refusals.Damaged Log0 at) told v u
   read_unanswered at found all h = (
     refl,
     λ sure. inr (inr (record {
       frames = frames;
       stand = attached.1.stand;
-      has = subst (HasUnanswered empty at) (found_lines found log.gate frames (all frames is_told ends)) h;
+      has = subst (HasUnanswered empty at) (found_lines found frames (all frames is_told ends)) h;
     })),
   )
 
@@ -91,10 +92,10 @@ module _ (told : Bool) (v u : disk.View) (log : Tail) (area : log.area ≡ Log0)
 pub not_found : (told : Bool) (v u w : disk.View) (log : Tail) (why : code_refused.OpenRefused) → log.area ≡ Log0 → OnlyReads told v u → (IsTrue told → Attaches v u log) → IsNotFound why told u w log → IsRefusedFor why told v w
 not_found told v u w log refusals.DiskFault area reads attached h = λ room. omega (arith, h room, reads.later)
 not_found told v u w log refusals.Memory area reads attached h = tt
-not_found told v u w log (refusals.Damaged there at) area reads attached h = (h.0, λ is_told. (read_high told v u log area reads is_told (attached is_told) at (λ fs ends. h.1 is_told fs ends)).1 is_told)
+not_found told v u w log (refusals.Damaged there at) area reads attached h = (h.0, λ is_told. (read_stray told v u log area reads is_told (attached is_told) at (λ fs ends. h.1 is_told fs ends)).1 is_told)
 
 pub not_replayed : (told : Bool) (v u w : disk.View) (log : Tail) (why : code_refused.OpenRefused) (found : code_found.Found) → log.area ≡ Log0 → OnlyReads told v u → (IsTrue told → Attaches v u log)
-    → ((fs : List (List Record)) → IsTrue told → EndsAt u log fs → AreFound found log.gate fs) → IsRefusedBy why empty (flat_map (λ t. lines_found found t) found.commits.items) → IsRefusedFor why told v w
+    → ((fs : List (List Record)) → IsTrue told → EndsAt u log fs → AreFound found fs) → IsRefusedBy why empty (flat_map (λ t. lines_found found t) found.commits.items) → IsRefusedFor why told v w
 not_replayed told v u w log refusals.DiskFault found area reads attached all h = absurd h
 not_replayed told v u w log refusals.Memory found area reads attached all h = tt
 not_replayed told v u w log (refusals.Damaged there at) found area reads attached all h = (h.0, λ is_told. (read_unanswered told v u log area reads is_told (attached is_told) at found all h.1).1 is_told)

@@ -39,7 +39,7 @@ refused_later s m refusals.DiskFault xs ys zs done h = h
 refused_later s m refusals.Memory xs ys zs done h = h
 refused_later s m (refusals.Damaged area at) xs ys zs done h =
     let k = h.1 in
-    let here : LineAt = record { offset = at; words = k.words } in
+    let here : LineAt = record { lsn = at; words = k.words } in
     let P : LineAt → List LineAt → List LineAt = λ l ls. l ∷ ls in (
       h.0,
       record {
@@ -63,7 +63,7 @@ refused_here m (refusals.Damaged area at) line h = (
     front = [];
     words = line.words;
     back = [];
-    there = let P : ℕ → List LineAt = λ n. record { offset = n; words = line.words } ∷ [] in ap P (sym h.1);
+    there = let P : ℕ → List LineAt = λ n. record { lsn = n; words = line.words } ∷ [] in ap P (sym h.1);
     objects = m;
     replayed = refl;
     none = h.2;

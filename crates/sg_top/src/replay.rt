@@ -49,12 +49,7 @@ fn refusal(fault: LogFault) -> OpenRefused
 
 // Finds what the records of a frame say, of which the first begins at this offset. One that doesn't
 // follow those that were found is refused.
-fn find_in_frame(
-    alloc: Global,
-    found: &mut Found,
-    bytes: &[u8],
-    at: u64,
-) -> Result<(), OpenRefused>
+fn find_in_frame(alloc: Global, found: &mut Found, bytes: &[u8], at: u64) -> Result<(), OpenRefused>
     requires { at + length bytes.now < 2 ^ 64 }
     ensures found { (rs : List Record) → AreRecords rs → bytes.now ≡ spelled_all rs → OnOk result (Finds found.old found.new (numbered_from at rs)) }
     ensures chained { (before : List Numbered) (rs : List Record) → KnowsLasts found.old before → AreRecords rs → bytes.now ≡ spelled_all rs → OnOk result (AreChainedBehind before (numbered_from at rs)) }

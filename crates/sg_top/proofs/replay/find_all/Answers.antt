@@ -1,4 +1,4 @@
-use Rattle.std.proofs.Common.{◌≡◌, ℕ, ◌+◌, ◌-◌, take, refl, sym, subst, arith}
+use Rattle.std.proofs.Common.{◌≡◌, ◌-◌, take, refl, sym, subst, arith}
 use Rattle.sg_log.proofs.Runs.{reads_more}
 use Rattle.sg_top.specs.Found.{IsNotFound}
 use Rattle.sg_top.specs.declared.opening.OpenRefused as code_refused

@@ -20,9 +20,11 @@ pub returns-then-not-is_followed_by-clause-refused : goal.returns-then-not-is_fo
 returns-then-not-is_followed_by-clause-refused c =
     let r = shown c.in-Ok.record in
     let read = reads_rest c.args.bytes.now c.records.from (Some (r, c.in-Ok.size)) c.in-Ok.ensures.back in
-    subst (λ (why : code_refused.OpenRefused). IsRefusedIn why c.args.found.now c.args.bytes.now c.args.at) (sym c.damaged-then-not-is_followed_by.ensures)
-    (refl, so_far_stray c.args.found.now c.records.found c.args.bytes.now c.args.at c.records.from c.records.invariant.so_far r c.in-Ok.size c.records-test.true read
-    (λ all known follows. let test = (c.is_followed_by.ensures all known).1 follows in absurd (cc (test, c.if-not-is_followed_by.true))))
+    subst (λ (why : code_refused.OpenRefused). IsRefusedIn why c.args.found.now c.args.bytes.now c.args.at) (sym c.damaged-then-not-is_followed_by.ensures) (
+      refl,
+      so_far_stray c.args.found.now c.records.found c.args.bytes.now c.args.at c.records.from c.records.invariant.so_far r c.in-Ok.size c.records-test.true read
+          (λ all known follows. let test = (c.is_followed_by.ensures all known).1 follows in absurd (cc (test, c.if-not-is_followed_by.true))),
+    )
 
 pub records-smaller : goal.records-smaller
 records-smaller c = omega (arith, c.in-Ok.ensures.size, spelled-long (shown c.in-Ok.record))
