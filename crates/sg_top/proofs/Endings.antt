@@ -19,6 +19,7 @@ use Rattle.sg_model.specs.History.{State, start, committed_objects, objects_afte
 use Rattle.sg_words.specs.Parse.{lines_of}
 use Rattle.sg_words.specs.Pieces.{behind}
 use Rattle.sg_words.specs.Text.{text_of_all}
+use Rattle.sg_log.proofs.Following.{chained-front}
 use Rattle.sg_log.proofs.Holding.{holds_seen}
 use Rattle.sg_top.specs.Stands.{StandsFor, StandsForFirst}
 use Rattle.sg_top.specs.Store.{Core, Runs}
@@ -136,7 +137,7 @@ all_stand x c all h =
 read_stands : (told : Bool) (w : disk.View) (k : Core) (x : State) → Runs told w k x → IsTrue told → StandsFor (reads_of w) (committed_objects x)
 read_stands told w k x r is_told =
     let kept = r.keeps is_told in
-    stands (reads_of w) (committed_objects x) k.log.gate kept.durable (at_log0 w k.log kept.durable r.area r.base (holds_seen kept.holds)) kept.logs.below kept.logs.durable
+    stands (reads_of w) (committed_objects x) k.log.gate kept.durable (at_log0 w k.log kept.durable r.area r.base (holds_seen kept.holds)) (chained-front [] kept.durable kept.waiting kept.chained) kept.logs.durable
 
 -- what a run that is done has done
 pub done_of : (told : Bool) (v w : disk.View) (r : ℕ) (source left first now : Option (List ℕ)) (s : code_status.Status) → Ran told (disk.refusing v 0) (disk.refusing w r) source left first now s → s ≡ statuses.Done → IsDone told v w source first now

@@ -1,13 +1,14 @@
 -- How the records of a log are found, one after another.
-use Rattle.std.proofs.Common.{add-zero, ◌≡◌, ℕ, ◌+◌, ◌<◌, ◌≤◌, List, [], ◌∷◌, ◌++◌, length, length-drop, length-take, take, ◌-◌, drop, Option, Some, None, refl, sym, ap, ◌∙◌, subst, arith, append-nil, append_assoc, length-append}
+use Rattle.std.proofs.Common.{◌≡◌, ℕ, ◌+◌, ◌<◌, ◌≤◌, List, [], ◌∷◌, ◌++◌, length, length-drop, length-take, take, ◌-◌, drop, Option, Some, None, refl, sym, ap, ◌∙◌, subst, arith, append-nil, append_assoc, length-append}
 use Rattle.std.proofs.lemmas.Grind.{flat_map-append}
-use Rattle.std.proofs.lemmas.List.{drop-drop, map-append}
+use Rattle.std.proofs.lemmas.List.{drop-drop}
 use Rattle.std.proofs.Math.Seq.{drop-append_seam}
 use Rattle.sg_record.specs.Records.{Record, spelled, spelled_all, IsRecord, AreRecords}
 use Rattle.sg_record.proofs.Spelling.{spelled-long}
 use Rattle.sg_log.specs.Following.{last_or, Follows, AreChainedBehind}
 use Rattle.sg_log.specs.Frames.{Numbered, numbered_from, records_of}
-use Rattle.sg_log.proofs.Following.{last_or-append, chained-append}
+use Rattle.sg_log.proofs.Following.{records_of-append, last_or-append, chained-append}
+use Rattle.sg_log.proofs.Holding.{numbered_from-append}
 use Rattle.sg_log.proofs.Standing.{spelled_all-append}
 use Rattle.sg_log.proofs.Whole.{rest_all}
 use Rattle.sg_top.specs.Stands.{commits_in}
@@ -15,16 +16,6 @@ use Rattle.sg_top.specs.Damage.{line_at, lines_at, HasStray}
 use Rattle.sg_top.specs.Found.{lines_found, last_found, Finds, KnowsLasts}
 use Rattle.sg_top.specs.declared.found.Found as code_found
 use Rattle.sg_top.proofs.Replays.{commits_in-append}
-
--- the records behind others, and their numbers
-pub numbered_from-append : (lsn : ℕ) (rs ss : List Record) → numbered_from lsn (rs ++ ss) ≡ numbered_from lsn rs ++ numbered_from (lsn + length (spelled_all rs)) ss
-numbered_from-append lsn [] ss = ap (λ (n : ℕ). numbered_from n ss) (sym (add-zero lsn))
-numbered_from-append lsn (r ∷ rs) ss =
-    ap (λ (xs : List Numbered). record { lsn = lsn; is = r } ∷ xs)
-    (numbered_from-append (lsn + length (spelled r)) rs ss ∙ ap (λ (n : ℕ). numbered_from (lsn + length (spelled r)) rs ++ numbered_from n ss) (omega (arith, length-append (spelled r) (spelled_all rs))))
-
-pub records_of-append : (xs ys : List Numbered) → records_of (xs ++ ys) ≡ records_of xs ++ records_of ys
-records_of-append xs ys = map-append (λ (n : Numbered). n.is) xs ys
 
 pub lines_at-append : (t : ℕ) (xs ys : List Numbered) → lines_at t (xs ++ ys) ≡ lines_at t xs ++ lines_at t ys
 lines_at-append t xs ys = flat_map-append (λ (n : Numbered). line_at t n.lsn n.is) xs ys

@@ -11,10 +11,10 @@ use Rattle.sg_model.specs.History.{start}
 use Rattle.sg_log.specs.Following.{AreChained}
 use Rattle.sg_log.specs.Frames.{Numbered, HasRecords}
 use Rattle.sg_log.specs.Reads.{OnlyReads}
-use Rattle.sg_log.specs.Held.{Tail, tail_of}
+use Rattle.sg_log.specs.Held.{Tail}
 use Rattle.sg_top.specs.declared.opening.OpenRefused as code_refused
 use Rattle.sg_top.specs.declared.opening.OpenRefused.TheVariants as refusals
-use Rattle.sg_log.proofs.Holding.{holds_seen, tail_empty}
+use Rattle.sg_log.proofs.Holding.{holds_seen}
 use Rattle.sg_log.proofs.Unique.{HasRecords-gate}
 use Rattle.sg_top.specs.Stands.{StandsFor}
 use Rattle.sg_top.specs.Damage.{StandsForNothing}
