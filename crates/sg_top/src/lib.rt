@@ -32,6 +32,8 @@ pub use store::Stop;
 pub use top::{Finish, stasis};
 
 #[cfg(test)]
+mod end_tests;
+#[cfg(test)]
 mod reopen_tests;
 #[cfg(test)]
 mod stop_tests;

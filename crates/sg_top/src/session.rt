@@ -50,6 +50,17 @@ impl<D: Disk> Session<D> {
         }
     }
 
+    /// A session over a store that a test has made.
+    #[cfg(test)]
+    pub(crate) fn over(store: Store<D>) -> Session<D> {
+        Session {
+            store,
+            scratch: [0; 32768],
+            kept: [0; 32768],
+            into: [0; 8192],
+        }
+    }
+
     /// The disk, at the end, and why the store has stopped, if it has. A live transaction is left
     /// without its commit. Nothing is written.
     pub fn finish(self) -> (Option<Stop>, D)

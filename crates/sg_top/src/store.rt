@@ -101,6 +101,24 @@ impl<D: Disk> Store<D> {
         }
     }
 
+    /// A store without objects over this log, with a live transaction or none. Opening begins the log's
+    /// numbers at 0, so no test reaches their end by it.
+    #[cfg(test)]
+    pub(crate) fn over(
+        alloc: Global,
+        disk: D,
+        log: Log,
+        live: Option<(Name, TxnId, Lsn)>,
+    ) -> Store<D> {
+        Store {
+            disk,
+            log,
+            objects: Objects::empty(alloc),
+            live: live.map(|(name, txn, last)| Running { name, txn, last }),
+            stop: None,
+        }
+    }
+
     /// The disk, at the end, and why the store has stopped, if it has. It writes nothing.
     pub fn close(self) -> (Option<Stop>, D)
         ensures stop { result.0 ≡ self.stop }

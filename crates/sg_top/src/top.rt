@@ -52,7 +52,8 @@ fn status_of_end(end: RunEnd) -> Status
     }
 }
 
-fn status_of(end: RunEnd, stop: Option<Stop>) -> Status
+// The status of a run that ended so, over a store that has stopped or not.
+pub(crate) fn status_of(end: RunEnd, stop: Option<Stop>) -> Status
     ensures { result ≡ status_of end stop }
 {
     match stop {
