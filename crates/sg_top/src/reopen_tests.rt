@@ -105,8 +105,9 @@ fn a_torn_frame_behind_a_closed_gate_counts_for_nothing(rt: HostRuntime) -> Resu
 }
 
 // The last record begins 58 bytes behind the gate. Up to its length the frame isn't whole records. With its kind and
-// length alone it commits transaction 0, and with the first byte of its number this one. The bytes behind that are 0,
-// but for the number of the record before, which nothing here rests on.
+// length alone it commits transaction 0, which has no record before. With the first byte of its transaction's number it
+// commits this one, but names no record before until the first byte of that one's number is there too. All other bytes
+// of these two numbers are 0.
 #[test]
 fn a_torn_frame_behind_an_open_gate_is_what_its_bytes_say(rt: HostRuntime) -> Result<(), Fail> {
     let alloc = rt.alloc();
@@ -115,6 +116,7 @@ fn a_torn_frame_behind_an_open_gate_is_what_its_bytes_say(rt: HostRuntime) -> Re
         let (expected, replies) = match kept {
             0..60 => (Status::Damaged(Area::Log0, 145), b"".as_slice()),
             60..64 => (Status::Done, OLD),
+            64..72 => (Status::Damaged(Area::Log0, 203), b"".as_slice()),
             _ => (Status::Done, NEW),
         };
         assert_eq!(rt; status, expected);
@@ -123,8 +125,8 @@ fn a_torn_frame_behind_an_open_gate_is_what_its_bytes_say(rt: HostRuntime) -> Re
     Ok(())
 }
 
-// A byte of the first frame's log, what stands there instead, and where the log is then damaged.
-const WRONG: [(usize, u8, u64); 9] = [
+// A byte of the log of both frames, what stands there instead, and where the log is then damaged.
+const WRONG: [(usize, u8, u64); 17] = [
     // lengths: none, one byte less, and more than a frame may have
     (1, 0, 0),
     (1, 0x8b, 0),
@@ -132,9 +134,20 @@ const WRONG: [(usize, u8, u64); 9] = [
     // a kind, and a begin's length
     (5, 14, 0),
     (6, 0x16, 0),
-    // a transaction's number: of the begin, and of the commit
-    (10, 0x91, 5),
+    // the number of a begin's transaction: below its own, that of the closed gate, and that of the transaction before
+    (10, 4, 5),
+    (10, 0xe0, 5),
+    (155, 5, 150),
+    // that of a line's and of a commit's: its own, and greater, also of one that begins behind it
+    (66, 0x3d, 61),
+    (66, 0x96, 61),
     (130, 1, 124),
+    // the record before: of a begin, of a line that names its begin, of one that names the transaction before, and of
+    // a commit that names none
+    (18, 1, 5),
+    (74, 5, 61),
+    (184, 0x7c, 171),
+    (137, 0, 124),
     // words: those of an operation that isn't there, and of an array that isn't
     (82, b'w', 61),
     (87, b'b', 61),
@@ -145,6 +158,7 @@ fn a_wrong_log_is_answered_with_its_place(rt: HostRuntime) -> Result<(), Fail> {
     let alloc = rt.alloc();
     for (at, byte, place) in WRONG {
         let mut log = FIRST_FRAME.to_vec(alloc)?;
+        log.extend_from_slice(SECOND_FRAME)?;
         if at < log.len() {
             log[at] = byte;
         }
@@ -154,6 +168,26 @@ fn a_wrong_log_is_answered_with_its_place(rt: HostRuntime) -> Result<(), Fail> {
         assert_eq!(rt; out.text(), [].as_slice());
         assert_eq!(rt; finish.disk.log0(), log.as_slice());
     }
+    Ok(())
+}
+
+// One frame of two transactions, 5 and 26, whose records stand among one another. Each names its own one before it.
+const MINGLED: &[u8] = b"\x01\xb1\0\0\0\
+    \x01\x15\0\0\0\x05\0\0\0\0\0\0\0\0\0\0\0\0\0\0\0\
+    \x01\x15\0\0\0\x1a\0\0\0\0\0\0\0\0\0\0\0\0\0\0\0\
+    \x0d\x23\0\0\0\x05\0\0\0\0\0\0\0\x05\0\0\0\0\0\0\0make array a 1\
+    \x0d\x1d\0\0\0\x1a\0\0\0\0\0\0\0\x1a\0\0\0\0\0\0\0push a y\
+    \x0d\x1d\0\0\0\x05\0\0\0\0\0\0\0\x2f\0\0\0\0\0\0\0push a x\
+    \x0a\x15\0\0\0\x05\0\0\0\0\0\0\0\x6f\0\0\0\0\0\0\0\
+    \x0a\x15\0\0\0\x1a\0\0\0\0\0\0\0\x52\0\0\0\0\0\0\0";
+
+#[test]
+fn records_follow_their_own_transaction(rt: HostRuntime) -> Result<(), Fail> {
+    let alloc = rt.alloc();
+    let mut out = MemSink::new(alloc, None);
+    let finish = run(alloc, disk_of(alloc, MINGLED)?, LOOK, &mut out)?;
+    assert_eq!(rt; finish.status, Status::Done);
+    assert_eq!(rt; out.text(), b"ok\nok x\nok y\n".as_slice());
     Ok(())
 }
 
