@@ -141,6 +141,7 @@ module _ (old now : code_found.Found) (bytes : List ℕ) (at from : ℕ) (so : S
           back = back;
           there = ap (numbered_from at) (h.split ∙ ap (λ (b : List Record). h.front ++ b) n.split) ∙ (numbered_from-append at h.front (n.is ∷ n.more)
               ∙ (ap (λ (k : ℕ). numbered_from at h.front ++ numbered_from (at + k) (n.is ∷ n.more)) (sym h.place) ∙ ap (λ (s : Record). numbered_from at h.front ++ record { lsn = at + from; is = s } ∷ back) (sym same.0)));
+          chained = h.chained before knows;
           stray = none (before ++ numbered_from at h.front) (knows_more old now before (numbered_from at h.front) h.finds knows);
         }
 

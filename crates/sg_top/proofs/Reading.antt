@@ -79,14 +79,16 @@ module _ (told : Bool) (v u : disk.View) (log : Tail) (area : log.area ≡ Log0)
   -- a committed line gets no reply
   pub read_unanswered : (at : ℕ) (found : code_found.Found) → ((fs : List (List Record)) → IsTrue told → EndsAt u log fs → AreFound found fs)
       → HasUnanswered empty at (flat_map (λ t. lines_found found t) found.commits.items) → IsRefusedFor (refusals.Damaged Log0 at) told v u
-  read_unanswered at found all h = (
-    refl,
-    λ sure. inr (inr (record {
-      frames = frames;
-      stand = attached.1.stand;
-      has = subst (HasUnanswered empty at) (found_lines found frames (all frames is_told ends)) h;
-    })),
-  )
+  read_unanswered at found all h =
+      let are = all frames is_told ends in (
+        refl,
+        λ sure. inr (inr (record {
+          frames = frames;
+          stand = attached.1.stand;
+          chained = are.chained;
+          has = subst (HasUnanswered empty at) (found_lines found frames are) h;
+        })),
+      )
 
 -- why what was found isn't all
 pub not_found : (told : Bool) (v u w : disk.View) (log : Tail) (why : code_refused.OpenRefused) → log.area ≡ Log0 → OnlyReads told v u → (IsTrue told → Attaches v u log) → IsNotFound why told u w log → IsRefusedFor why told v w

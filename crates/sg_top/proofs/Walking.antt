@@ -100,8 +100,8 @@ found_more now new at front rs place are finds chained =
     }
 
 -- a stray record among some is one among all
-pub stray_within : (before ns more : List Numbered) (lsn : ℕ) → HasStray before lsn ns → HasStray [] lsn (before ++ (ns ++ more))
-stray_within before ns more lsn h =
+pub stray_within : (before ns more : List Numbered) (lsn : ℕ) → AreChained before → HasStray before lsn ns → HasStray [] lsn (before ++ (ns ++ more))
+stray_within before ns more lsn chained h =
     let P : Numbered → List Numbered → List Numbered = λ x xs. x ∷ xs in
     let n : Numbered = record { lsn = lsn; is = h.is } in
     record {
@@ -109,6 +109,7 @@ stray_within before ns more lsn h =
       front = before ++ h.front;
       back = h.back ++ more;
       there = ap (λ (xs : List Numbered). before ++ (xs ++ more)) h.there ∙ (ap (λ (xs : List Numbered). before ++ xs) (append_assoc h.front (P n h.back) more) ∙ sym (append_assoc before h.front (P n (h.back ++ more))));
+      chained = chained-append [] before h.front chained h.chained;
       stray = h.stray;
     }
 
@@ -184,5 +185,5 @@ module _ (told : Bool) (v u : disk.View) (log : Tail) (now : code_found.Found) (
         let all : numbered_in 0 frames ≡ before ++ (numbered_from (at + 5) rs ++ more) =
         ap (numbered_in 0) (k.split ∙ ap (λ (xs : List (List Record)). k.front ++ xs) next.split)
         ∙ (numbered_in-append 0 k.front (rs ∷ next.more) ∙ ap (λ (m : ℕ). before ++ numbered_in m (rs ∷ next.more)) (sym k.place)) in
-        subst (HasStray [] there) (sym all) (stray_within before (numbered_from (at + 5) rs) more there (h.1 before rs k.are.lasts formed.frame.fields r.3)),
+        subst (HasStray [] there) (sym all) (stray_within before (numbered_from (at + 5) rs) more there k.are.chained (h.1 before rs k.are.lasts formed.frame.fields r.3)),
   )

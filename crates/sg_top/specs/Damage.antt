@@ -7,7 +7,7 @@ use Rattle.sg_model.specs.Objects.{Objects}
 use Rattle.sg_record.specs.Records.{Record}
 use Rattle.sg_record.specs.Records.Record.{Begin, Commit, Line}
 use Rattle.sg_log.specs.Formed.{IsDamagedAt}
-use Rattle.sg_log.specs.Following.{Follows}
+use Rattle.sg_log.specs.Following.{Follows, AreChainedBehind, AreChained}
 use Rattle.sg_log.specs.Frames.{Numbered, numbered_in, records_of, Frames}
 use Rattle.sg_top.specs.Stands.{commits_in, after_line, replay}
 
@@ -37,12 +37,13 @@ committed_at records = lines_of_all (commits_in (records_of records)) records
 abbrev pub words_of_all : List LineAt → List (List ℕ)
 words_of_all lines = map (λ l. l.words) lines
 
--- Behind some records one of these has this number, and doesn't follow all before it.
+-- Behind some records each of these follows all before it, up to one that doesn't, which has this number.
 pub record HasStray (before : List Numbered) (lsn : ℕ) (records : List Numbered) : Type 0 where
   pub is : Record
   pub front : List Numbered
   pub back : List Numbered
   pub there : records ≡ front ++ record { lsn = lsn; is = is } ∷ back
+  pub chained : AreChainedBehind before front
   pub stray : Follows (before ++ front) (record { lsn = lsn; is = is }) → ⊥
 
 -- from these objects each of these lines gets a reply up to one that gets none, whose record has this number
@@ -55,19 +56,21 @@ pub record HasUnanswered (first : Objects) (lsn : ℕ) (lines : List LineAt) : T
   pub replayed : replay (words_of_all front) (Some first) ≡ Some objects
   pub none : after_line objects words ≡ None
 
--- at this offset begins a record that doesn't follow those before it
+-- at this offset begins the first record that doesn't follow those before it
 pub record IsStrayAt (f : Bytes) (at : ℕ) : Type 0 where
   pub frames : List (List Record)
   pub stand : Frames f 0 frames
   pub has : HasStray [] at (numbered_in 0 frames)
 
--- at this offset begins the record of a committed transaction's line which gets no reply, where all before it got one
+-- all records follow one another, and at this offset begins the record of a committed transaction's line which gets no
+-- reply, where all before it got one
 pub record IsUnansweredAt (f : Bytes) (at : ℕ) : Type 0 where
   pub frames : List (List Record)
   pub stand : Frames f 0 frames
+  pub chained : AreChained (numbered_in 0 frames)
   pub has : HasUnanswered empty at (committed_at (numbered_in 0 frames))
 
 -- the bytes of a log stand for nothing, by what begins at this offset: an open gate behind which no frame is formed,
--- a record that doesn't follow those before it, or a committed line that gets no reply
+-- the first record that doesn't follow those before it, or the first committed line that gets no reply
 abbrev pub StandsForNothing : Bytes → ℕ → Type 0
 StandsForNothing f at = IsDamagedAt f 0 at ⊎ (IsStrayAt f at ⊎ IsUnansweredAt f at)
