@@ -1,5 +1,8 @@
-// std's readers and writers as a source and a sink: the edge to the outside, which tells no contents.
-ghost use Rattle.std.specs.Prelude.{None};
+// std's readers and writers as a source and a sink: the edge to the outside. As a source and a sink they tell no contents,
+// since a file or a terminal tells none. Clauses of their own say what is read of a reader, or added to a writer, that does.
+ghost use Rattle.std.specs.Prelude.{◌≡◌, ◌≤◌, None, length, IfOk, OnOk, OnErr};
+ghost use Rattle.std.specs.Io.KnownBytes.{Appends, ReadConsumes};
+ghost use Rattle.sg_base.specs.Ends.{HasRisen};
 
 use crate::{Failed, Sink, Source};
 use std::io::{Read, Write};
@@ -19,13 +22,19 @@ pub struct WriteSink<W: Write> {
 }
 
 impl<R: Read> ReadSource<R> {
-    pub fn new(inner: R) -> Self {
+    pub fn new(inner: R) -> Self
+        ensures inner { result.inner ≡ inner }
+        ensures faults { result.faults ≡ 0 }
+    {
         ReadSource { inner, faults: 0 }
     }
 }
 
 impl<W: Write> WriteSink<W> {
-    pub fn new(inner: W) -> Self {
+    pub fn new(inner: W) -> Self
+        ensures inner { result.inner ≡ inner }
+        ensures faults { result.faults ≡ 0 }
+    {
         WriteSink { inner, faults: 0 }
     }
 }
@@ -35,7 +44,13 @@ impl<R: Read> Source for ReadSource<R> {
 
     ghost faults = { λ s. s.faults };
 
-    fn read(&mut self, into: &mut [u8]) -> Result<usize, Failed> {
+    fn read(&mut self, into: &mut [u8]) -> Result<usize, Failed>
+        ensures within { IfOk result (λ n. n ≤ length into.new) }
+        ensures later { self.old.faults ≤ self.new.faults }
+        ensures failed { OnErr result (HasRisen self.old.faults self.new.faults) }
+        // Of a reader that tells its bytes, these were taken, and 0 is the end.
+        ensures bytes { ReadConsumes (R.remaining self.old.inner) (R.remaining self.new.inner) result into.new }
+    {
         match self.inner.read(into) {
             Ok(n) => Ok(n),
             Err(_) => {
@@ -51,7 +66,12 @@ impl<W: Write> Sink for WriteSink<W> {
 
     ghost faults = { λ s. s.faults };
 
-    fn write(&mut self, bytes: &[u8]) -> Result<(), Failed> {
+    fn write(&mut self, bytes: &[u8]) -> Result<(), Failed>
+        ensures later { self.old.faults ≤ self.new.faults }
+        ensures failed { OnErr result (HasRisen self.old.faults self.new.faults) }
+        // Of a writer that tells its bytes, all of these were added.
+        ensures added { OnOk result (Appends (W.contents self.old.inner) (W.contents self.new.inner) bytes.now) }
+    {
         let mut rest = bytes;
         while !rest.is_empty() {
             match self.inner.write(rest) {
