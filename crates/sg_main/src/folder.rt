@@ -1,7 +1,8 @@
 // The trusted edge to the files of the system.
-ghost use Rattle.std.specs.Prelude.{◌≡◌, ◌↔◌, IsErr, ◌≤◌, ◌+◌, ◌^◌, ◌-◌, length, min, false, [], OnErr};
+ghost use Rattle.std.specs.Prelude.{MatchOption, None, ◌≡◌, ◌↔◌, IsErr, ◌≤◌, ◌+◌, ◌^◌, ◌-◌, length, min, false, [], OnErr};
 ghost use Rattle.sg_base.specs.Ends.{HasRisen};
 
+use crate::status::area_name;
 use sg_base::{Area, Failed};
 use sg_disk::Disk;
 use std::fs::{File, OpenOptions};
@@ -35,15 +36,6 @@ pub struct FolderDisk<'a, R: Files<File = File> + Alloc> {
     handed: u64,
     calls: u64,
     faults: u64,
-}
-
-// The name of the area's file.
-fn file_name(area: Area) -> &'static str {
-    match area {
-        Area::Home => "home",
-        Area::Log0 => "log0",
-        Area::Log1 => "log1",
-    }
 }
 
 // Makes durable what names the folder contains.
@@ -101,7 +93,7 @@ fn cut(file: &File, at: u64) -> io::Result<()> {
 impl<R: Files<File = File> + Alloc> Folder<'_, R> {
     // Opens the area's file, and makes it where it isn't there.
     fn open(&self, area: Area, make: bool) -> io::Result<File> {
-        let path: PathBuf<R::A> = Path::new(self.path).join(self.rt.alloc(), file_name(area))?;
+        let path: PathBuf<R::A> = Path::new(self.path).join(self.rt.alloc(), area_name(area))?;
         OpenOptions::new()
             .read(true)
             .write(true)
@@ -202,6 +194,7 @@ impl<R: Files<File = File> + Alloc> Folder<'_, R> {
 impl<'a, R: Files<File = File> + Alloc> FolderDisk<'a, R> {
     /// A disk over the folder of this path. Neither the folder nor a file is made.
     pub fn new(rt: &'a R, path: &'a str) -> Self
+        ensures path { MatchOption result.folder ⊥ (λ f. f.path.now ≡ path.now) }
         ensures handed { result.handed ≡ 0 }
         ensures calls { result.calls ≡ 0 }
         ensures faults { result.faults ≡ 0 }
@@ -232,6 +225,7 @@ impl<'a, R: Files<File = File> + Alloc> FolderDisk<'a, R> {
 
     /// A disk without a folder.
     pub fn none() -> Self
+        ensures folder { result.folder ≡ None }
         ensures handed { result.handed ≡ 0 }
         ensures calls { result.calls ≡ 0 }
         ensures faults { result.faults ≡ 0 }

@@ -9,8 +9,8 @@ use std::fmt;
 #[derive(Clone, Copy, Drop)]
 pub struct Shown(pub Status);
 
-// The name of the area as it is printed.
-fn area_name(area: Area) -> &'static str
+/// The name of the area: its file's, and as it is printed.
+pub fn area_name(area: Area) -> &'static str
     ensures { result.now ≡ name_of area }
 {
     match area {
