@@ -3,3 +3,7 @@ pub mod Spelling
 pub mod Padded
 pub mod Page
 pub mod Taken
+pub mod Bytes
+pub mod Slots
+pub mod Sheet
+pub mod Op

@@ -14,6 +14,7 @@ mod fields;
 mod memory;
 mod name;
 mod numbers;
+mod op;
 mod page;
 mod real;
 
@@ -24,6 +25,7 @@ pub use fields::{read_u16, read_u32, read_u64, write_u16, write_u32, write_u64};
 pub use memory::{MemSink, MemSource};
 pub use name::Name;
 pub use numbers::{BandNo, Lsn, PageNo, TxnId};
+pub use op::PageOp;
 pub use page::{PAGE_SIZE, SlotView};
 pub use real::{ReadSource, WriteSink};
 

@@ -3,7 +3,7 @@ use Rattle.std.proofs.Common.{◌≡◌, ℕ, ◌+◌, ◌-◌, ◌*◌, ◌/◌
 use Rattle.std.proofs.Math.Nat.{pow-succ', mul_assoc, mod-add-div}
 use Rattle.std.proofs.lemmas.List.{drop_all, take_all, append-nil}
 use Rattle.std.proofs.lemmas.Nat.{mod_below}
-use Rattle.sg_ops.specs.Bytes.{IsBytes}
+use Rattle.sg_base.specs.Bytes.{IsBytes}
 use Rattle.sg_ops.specs.Shipped.{value_of, bytes_of, after_add, before_add}
 use Rattle.sg_ops.specs.AddLaw.{bytes_of-more, bytes_of-value_of, power_positive}
 

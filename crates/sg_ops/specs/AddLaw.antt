@@ -3,7 +3,7 @@ use Rattle.std.proofs.Common.{◌≡◌, ℕ, ◌+◌, ◌-◌, ◌*◌, ◌/◌
 use Rattle.std.specs.Prelude.{◌&&◌, ◌==◌, nat_le, slice_index_or}
 use Rattle.std.proofs.Math.Nat.{pow-suc, pow-succ', mul_assoc, mod-eq_of_lt, mod-add-div}
 use Rattle.std.proofs.Math.Arith.{mod-mul}
-use Rattle.sg_ops.specs.Bytes.{IsBytes}
+use Rattle.sg_base.specs.Bytes.{IsBytes}
 use Rattle.sg_ops.specs.Meaning.{IsUndoable}
 use Rattle.sg_ops.specs.Shipped.{value_of, bytes_of, after_add, before_add, add_meaning}
 

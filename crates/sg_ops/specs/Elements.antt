@@ -1,6 +1,6 @@
 -- Elements of lists of bytes.
 use Rattle.std.proofs.Common.{ℕ, ◌<◌, zero, suc, List, [], ◌∷◌, slice_index, arith}
-use Rattle.sg_ops.specs.Bytes.{IsBytes}
+use Rattle.sg_base.specs.Bytes.{IsBytes}
 
 -- an element is a byte, also past the end
 pub byte_at : (xs : List ℕ) (k : ℕ) → IsBytes xs → slice_index xs k < 256

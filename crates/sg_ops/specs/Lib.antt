@@ -1,5 +1,4 @@
 pub mod AddLaw
-pub mod Bytes
 pub mod Elements
 pub mod Laws
 pub mod Meaning
@@ -7,3 +6,4 @@ pub mod RotateLaw
 pub mod Shipped
 pub mod Table
 pub mod XorLaw
+pub mod Steps

@@ -1,6 +1,6 @@
 -- What an operation means, and the laws that it keeps.
 use Rattle.std.specs.Prelude.{◌≡◌, ℕ, ◌<◌, List, Bool, IsTrue, length}
-use Rattle.sg_ops.specs.Bytes.{IsBytes}
+use Rattle.sg_base.specs.Bytes.{IsBytes}
 use Rattle.sg_ops.specs.declared.TheConstants.{RANGE_LIMIT}
 
 -- a record operation: its code, which items and arguments it accepts, what it leaves of an item,

@@ -1,4 +1,4 @@
-ghost use Rattle.sg_ops.specs.Bytes.{IsBytes};
+ghost use Rattle.sg_base.specs.Bytes.{IsBytes};
 
 /// Tells a proof that each element of `xs` is below 256, as the undo law asks of an item and an
 /// argument. It runs no code.

@@ -1,5 +1,5 @@
 //! The registered operations: what a store's records and byte ranges can be told to do by a code
-//! and an argument. It stands on nothing but std.
+//! and an argument, and what each operation on a page does with them. It stands on `sg_base` alone.
 //!
 //! A record operation changes one item and can be undone; a range operation gives the bytes of a
 //! range by their positions. A program registers its own beside the shipped ones, each once, and

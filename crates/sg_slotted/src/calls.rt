@@ -1,6 +1,6 @@
 ghost use Rattle.std.specs.Prelude.{◌≡◌, ◌≢◌, ◌↔◌, ◌+◌, ◌<◌, ◌≤◌, ◌++◌, ◌∷◌, [], length, slice_set, Some, None, Ok, Err, OnOk, OnErr, IfErr};
 ghost use Rattle.sg_base.specs.Page.{slots_of, cell_in, header_of, lsn_of, bytes_of, IsSlotted};
-ghost use Rattle.sg_slotted.specs.Calls.{IsFree, with_cell};
+ghost use Rattle.sg_base.specs.Slots.{IsFree, with_cell};
 
 use crate::compaction::make_room;
 use crate::steps::{clear, fill, grow, reset};

@@ -1,6 +1,6 @@
 use Rattle.std.proofs.Common.{◌≤◌, ◌<◌, ℕ, List, length, ap, ◌∙◌, arith}
 use Rattle.sg_base.specs.Page.{slots_of, bytes_of, room_of}
-use Rattle.sg_slotted.specs.Calls.{with_cell}
+use Rattle.sg_base.specs.Slots.{with_cell}
 use Rattle.sg_slotted.proofs.Room.{enough_room, put_fits}
 use Rattle.sg_slotted.proofs.calls.put.Goals as goal
 
