@@ -1,5 +1,5 @@
 -- What each status of a run tells.
-use Rattle.std.proofs.Common.{◌≡◌, ◌⊎◌, inl, inr, ⊎_elim, ℕ, zero, suc, ◌+◌, ◌<◌, Bool, IsTrue, List, [], ◌++◌, Option, Some, None, is_some, length, refl, sym, ap, ◌∙◌, subst, arith, append-nil, length-append, IfSome}
+use Rattle.std.proofs.Common.{◌≡◌, ◌⊎◌, inl, inr, ⊎_elim, ℕ, zero, suc, ◌+◌, ◌<◌, ◌≤◌, Bool, IsTrue, List, [], ◌++◌, Option, Some, None, is_some, length, append_assoc, refl, sym, ap, ◌∙◌, subst, arith, append-nil, length-append, IfSome}
 use Rattle.sg_base.specs.Ends.{HasRisen, Takes, TakesFront}
 use Rattle.sg_base.specs.declared.area.Area.{Area}
 use Rattle.sg_base.specs.declared.area.Area.TheVariants.{Log0}
@@ -18,15 +18,17 @@ use Rattle.sg_top.specs.Shown.{StopIsCaused}
 use Rattle.sg_model.specs.History.{State, start, committed_objects, objects_after}
 use Rattle.sg_words.specs.Parse.{lines_of}
 use Rattle.sg_words.specs.Pieces.{behind}
-use Rattle.sg_words.specs.Text.{text_of_all}
+use Rattle.sg_words.specs.Text.{Answer, text_of_all}
 use Rattle.sg_log.proofs.Following.{chained-front}
 use Rattle.sg_log.proofs.Holding.{holds_seen}
 use Rattle.sg_top.specs.Stands.{StandsFor, StandsForFirst}
 use Rattle.sg_top.specs.Store.{Core, Runs}
-use Rattle.sg_top.specs.Script.{HasRead, Executed, MayEnd}
+use Rattle.sg_top.specs.Script.{AreFirst, acknowledged, TookAll, CutAtLast, HasRead, Executed, MayEnd}
 use Rattle.sg_top.specs.Ending.{RunsTo, IsWhole, IsTooLong, MOST_BYTES}
 use Rattle.sg_top.specs.Opening.{reads_of}
-use Rattle.sg_top.specs.Top.{status_of, status_of_refusal, NeverRan, Ran, IsDone, TookReplies, Lasts, Unchanged, IsFaultless}
+use Rattle.sg_top.specs.Top.{status_of, status_of_refusal, NeverRan, Ran, HasCause, IsDone, TookReplies, told_of, Lasts, Unchanged, IsFaultless}
+use Rattle.sg_words.specs.Run.{Lines}
+use Rattle.sg_top.proofs.Acknowledged.{all_but_one, all_but_last}
 use Rattle.sg_top.proofs.Serial.{after_commits}
 use Rattle.sg_top.proofs.Standing.{stands}
 use Rattle.sg_top.proofs.Opened.{at_log0}
@@ -51,6 +53,12 @@ pub refused_disk : (why : code_refused.OpenRefused) (s : code_status.Status) (to
 refused_disk refusals.DiskFault s told v w e h is = h
 refused_disk refusals.Memory s told v w e h is = absurd (cc (e, is))
 refused_disk (refusals.Damaged area at) s told v w e h is = absurd (cc (e, is))
+
+pub has_cause : (A B : Type 0) (end : code_end.RunEnd) → (end ≡ ends.Read → A) → (end ≡ ends.Write → B) → HasCause A B end
+has_cause A B ends.Done read write = tt
+has_cause A B ends.Read read write = read refl
+has_cause A B ends.Write read write = write refl
+has_cause A B ends.TooLong read write = tt
 
 -- a run that began wasn't one of other words
 pub ended_use : (end : code_end.RunEnd) (stop : Option code_stop.Stop) (s : code_status.Status) → s ≡ status_of end stop → s ≡ statuses.Usage → ⊥
@@ -102,8 +110,8 @@ refused_log refusals.Memory s e h = cc (e, h)
 refused_log (refusals.Damaged area at) s e h = cc (e, h)
 
 -- then so much was handed to the disk since the log ended there
-pub log_of : (told : Bool) (v w : disk.View) (source left first now : Option (List ℕ)) (s : code_status.Status) → Ran told v w source left first now s → s ≡ statuses.LogEnd → IsTrue told → (ds : List Numbered) (gate : ℕ) → HasRecords (reads_of v Log0) 0 gate ds → MayEnd gate v w
-log_of told v w source left first now s ran is is_told ds gate has =
+pub log_of : (A B : Type 0) (told : Bool) (v w : disk.View) (source left first now : Option (List ℕ)) (s : code_status.Status) → Ran A B told v w source left first now s → s ≡ statuses.LogEnd → IsTrue told → (ds : List Numbered) (gate : ℕ) → HasRecords (reads_of v Log0) 0 gate ds → MayEnd gate v w
+log_of A B told v w source left first now s ran is is_told ds gate has =
     let full = ended_log ran.end ran.stop s _ _ ran.status_is ran.caused is in
     let same : ran.core.log.gate ≡ gate = ran.gate is_told ds gate has in
     let handed : ran.opened.handed ≡ v.handed = ran.handed in
@@ -140,8 +148,8 @@ read_stands told w k x r is_told =
     stands (reads_of w) (committed_objects x) k.log.gate kept.durable (at_log0 w k.log kept.durable r.area r.base (holds_seen kept.holds)) (chained-front [] kept.durable kept.waiting kept.chained) kept.logs.durable
 
 -- what a run that is done has done
-pub done_of : (told : Bool) (v w : disk.View) (r : ℕ) (source left first now : Option (List ℕ)) (s : code_status.Status) → Ran told (disk.refusing v 0) (disk.refusing w r) source left first now s → s ≡ statuses.Done → IsDone told v w source first now
-done_of told v w r source left first now s ran is =
+pub done_of : (A B : Type 0) (told : Bool) (v w : disk.View) (r : ℕ) (source left first now : Option (List ℕ)) (s : code_status.Status) → Ran A B told (disk.refusing v 0) (disk.refusing w r) source left first now s → s ≡ statuses.Done → IsDone told v w source first now
+done_of A B told v w r source left first now s ran is =
     let u : disk.View = disk.refusing w r in
     let e = ended_done ran.end ran.stop s ran.status_is is in
     let h : IsWhole told ran.opened ran.core (start ran.objects) source left first now u ran.last = subst (λ (z : code_end.RunEnd). RunsTo z told ran.opened ran.core (start ran.objects) source left first now u ran.last) e.0 ran.runs in
@@ -162,9 +170,9 @@ done_of told v w r source left first now s ran is =
       images = λ is_told c leaves. all_stand h.executed.after c runs.answered (shows.images is_told c leaves);
     }
 
-pub done_either : (told : Bool) (v w : disk.View) (r : ℕ) (source left first now : Option (List ℕ)) (s : code_status.Status) → NeverRan told (disk.refusing v 0) (disk.refusing w r) source left first now s ⊎ Ran told (disk.refusing v 0) (disk.refusing w r) source left first now s → s ≡ statuses.Done → IsDone told v w source first now
-done_either told v w r source left first now s (inl shut) is = absurd (refused_done shut.why s shut.status_is is)
-done_either told v w r source left first now s (inr ran) is = done_of told v w r source left first now s ran is
+pub done_either : (A B : Type 0) (told : Bool) (v w : disk.View) (r : ℕ) (source left first now : Option (List ℕ)) (s : code_status.Status) → NeverRan told (disk.refusing v 0) (disk.refusing w r) source left first now s ⊎ Ran A B told (disk.refusing v 0) (disk.refusing w r) source left first now s → s ≡ statuses.Done → IsDone told v w source first now
+done_either A B told v w r source left first now s (inl shut) is = absurd (refused_done shut.why s shut.status_is is)
+done_either A B told v w r source left first now s (inr ran) is = done_of A B told v w r source left first now s ran is
 
 -- the count of faults behind a fuse rises only where that of the disk inside does, or where a call is refused
 pub risen_or_refused : (before now r : ℕ) → HasRisen (before + 0) (now + r) → HasRisen before now ⊎ (0 < r)
@@ -191,8 +199,8 @@ long_text None left got n h long = tt
 long_text (Some text) left got n h long = let e = ap length h.2 ∙ length-append got h.0 in omega arith
 
 -- a script that ended a run by its length is so long
-pub long_of : (told : Bool) (v w : disk.View) (source left first now : Option (List ℕ)) (s : code_status.Status) → Ran told v w source left first now s → s ≡ statuses.TooLong → IfSome source (λ text. MOST_BYTES < length text)
-long_of told v w source left first now s ran is =
+pub long_of : (A B : Type 0) (told : Bool) (v w : disk.View) (source left first now : Option (List ℕ)) (s : code_status.Status) → Ran A B told v w source left first now s → s ≡ statuses.TooLong → IfSome source (λ text. MOST_BYTES < length text)
+long_of A B told v w source left first now s ran is =
     let e = ended_long ran.end ran.stop s ran.status_is is in
     let h : IsTooLong told ran.opened ran.core (start ran.objects) source left first now w ran.last = subst (λ (z : code_end.RunEnd). RunsTo z told ran.opened ran.core (start ran.objects) source left first now w ran.last) e ran.runs in
     long_text source left (h.text ++ h.piece) MOST_BYTES h.read h.long
@@ -246,50 +254,50 @@ record Began (Failed : Type 0) (told : Bool) (v : disk.View) (k : Core) (x : Sta
   text : List ℕ
   read : HasRead source text left
   lines : List (List ℕ)
-  more : List (List ℕ)
-  front : lines ++ more ≡ lines_of text
-  executed : Executed told v k x lines (λ replies. TookReplies Failed first replies now) w m
+  front : AreFirst source text lines
+  executed : Executed told v k x lines (TookReplies Failed first now) w m
 
-retook : (told : Bool) (v : disk.View) (k : Core) (x : State) (lines : List (List ℕ)) (P Q : List ℕ → Type 0) (w : disk.View) (m : Core) → ((replies : List ℕ) → P replies → Q replies) → Executed told v k x lines P w m → Executed told v k x lines Q w m
-retook told v k x lines P Q w m weaker h = record { answers = h.answers; after = h.after; goes = h.goes; answered = h.answered; caused = h.caused; shows = h.shows; took = weaker (text_of_all h.answers) h.took; moments = h.moments }
+retook : (told : Bool) (v : disk.View) (k : Core) (x : State) (lines : List (List ℕ)) (P Q : List Answer → Type 0) (w : disk.View) (m : Core) → ((replies : List Answer) → P replies → Q replies) → Executed told v k x lines P w m → Executed told v k x lines Q w m
+retook told v k x lines P Q w m weaker h = record { answers = h.answers; after = h.after; goes = h.goes; answered = h.answered; caused = h.caused; shows = h.shows; took = weaker h.answers h.took; moments = h.moments }
 
 began : (Failed : Type 0) (end : code_end.RunEnd) (told : Bool) (v : disk.View) (k : Core) (x : State) (source left first now : Option (List ℕ)) (w : disk.View) (m : Core) → (end ≡ ends.Write → Failed) → RunsTo end told v k x source left first now w m → Began Failed told v k x source left first now w m
 began Failed ends.Done told v k x source left first now w m failed h = record {
   text = h.text;
   read = h.read;
   lines = lines_of h.text;
-  more = [];
-  front = append-nil (lines_of h.text);
-  executed = retook told v k x (lines_of h.text) (λ replies. Takes first replies now) (λ replies. TookReplies Failed first replies now) w m (λ replies took. inl took) h.executed;
+  front = inr (refl, h.whole);
+  executed = retook told v k x (lines_of h.text) (TookAll first now) (TookReplies Failed first now) w m (λ replies took. inl took) h.executed;
 }
 began Failed ends.Read told v k x source left first now w m failed h = record {
   text = h.text;
   read = h.read;
   lines = h.lines;
-  more = behind h.rest (lines_of []);
-  front = h.over [] ∙ ap lines_of (append-nil h.text);
-  executed = retook told v k x h.lines (λ replies. Takes first replies now) (λ replies. TookReplies Failed first replies now) w m (λ replies took. inl took) h.executed;
+  front = inl (λ after. (behind h.rest (lines_of after), h.over after));
+  executed = retook told v k x h.lines (TookAll first now) (TookReplies Failed first now) w m (λ replies took. inl took) h.executed;
 }
 began Failed ends.TooLong told v k x source left first now w m failed h = record {
   text = h.text ++ h.piece;
   read = h.read;
   lines = h.lines;
-  more = behind h.rest (lines_of h.piece);
-  front = h.over h.piece;
-  executed = retook told v k x h.lines (λ replies. Takes first replies now) (λ replies. TookReplies Failed first replies now) w m (λ replies took. inl took) h.executed;
+  front = inl (λ after. (behind h.rest (lines_of (h.piece ++ after)), h.over (h.piece ++ after) ∙ ap lines_of (sym (append_assoc h.text h.piece after))));
+  executed = retook told v k x h.lines (TookAll first now) (TookReplies Failed first now) w m (λ replies took. inl took) h.executed;
 }
 began Failed ends.Write told v k x source left first now w m failed h = record {
   text = h.text;
   read = h.read;
   lines = h.lines;
-  more = h.more;
   front = h.front;
-  executed = retook told v k x h.lines (λ replies. TakesFront first replies now) (λ replies. TookReplies Failed first replies now) w m (λ replies took. inr (failed refl, took)) h.executed;
+  executed = retook told v k x h.lines (CutAtLast first now) (TookReplies Failed first now) w m (λ replies took. inr (failed refl, took)) h.executed;
 }
 
+heard_bound : (Failed : Type 0) (first now : Option (List ℕ)) (lines : List (List ℕ)) (answers : List Answer) (x y : State) → Lines x lines answers y → (t : TookReplies Failed first now answers)
+    → length y.commits ≤ length x.commits + acknowledged lines (told_of t) + 1
+heard_bound Failed first now lines answers x y h (inl all) = all_but_one lines answers x y h
+heard_bound Failed first now lines answers x y h (inr cut) = all_but_last lines cut.1.told cut.1.last x y (subst (λ (a : List Answer). Lines x lines a y) cut.1.all h)
+
 -- what a crash leaves of a run that began
-pub lasts_of : (Failed : Type 0) (told : Bool) (v w : disk.View) (source left first now : Option (List ℕ)) (s : code_status.Status) → (ran : Ran told v w source left first now s) → (ran.end ≡ ends.Write → Failed) → IsTrue told → Lasts Failed v w source left first now
-lasts_of Failed told v w source left first now s ran failed is_told =
+pub lasts_of : (A B : Type 0) (Failed : Type 0) (told : Bool) (v w : disk.View) (source left first now : Option (List ℕ)) (s : code_status.Status) → (ran : Ran A B told v w source left first now s) → (ran.end ≡ ends.Write → Failed) → IsTrue told → Lasts Failed v w source left first now
+lasts_of A B Failed told v w source left first now s ran failed is_told =
     let h = began Failed ran.end told ran.opened ran.core (start ran.objects) source left first now w ran.last failed ran.runs in
     record {
       objects = ran.objects;
@@ -297,7 +305,6 @@ lasts_of Failed told v w source left first now s ran failed is_told =
       text = h.text;
       read = h.read;
       lines = h.lines;
-      more = h.more;
       front = h.front;
       answers = h.executed.answers;
       after = h.executed.after;
@@ -307,7 +314,7 @@ lasts_of Failed told v w source left first now s ran failed is_told =
       opening = ran.opening is_told;
       moments = h.executed.moments is_told;
       exit = h.executed.shows.images is_told;
-      one_more = h.executed.shows.one_more;
+      one_more = omega (arith, heard_bound Failed first now h.lines h.executed.answers (start ran.objects) h.executed.after h.executed.goes h.executed.took);
     }
 
 -- views that differ in their counts alone have the same images
@@ -321,7 +328,6 @@ lasts_inside Failed v w r source left first now h =
       text = h.text;
       read = h.read;
       lines = h.lines;
-      more = h.more;
       front = h.front;
       answers = h.answers;
       after = h.after;

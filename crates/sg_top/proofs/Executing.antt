@@ -18,7 +18,7 @@ use Rattle.sg_log.specs.Held.{tail_of}
 use Rattle.sg_top.specs.Stands.{StandsFor, StandsForFirst}
 use Rattle.sg_top.specs.Store.{Core, Shows}
 use Rattle.sg_top.specs.Goes.{Goes, Grows, NEW_WORK_END}
-use Rattle.sg_top.specs.Script.{Executed, MayBeFull}
+use Rattle.sg_top.specs.Script.{Executed, MayBeFull, TookAll, CutAtLast}
 use Rattle.sg_top.proofs.Steps.{tail_near}
 
 -- a run goes on: it has the same first objects, more commits or as many, and no fewer that were answered
@@ -110,7 +110,7 @@ fewer : (x : State) (low high : ℕ) (c : disk.Image) → low ≤ high → Stand
 fewer x low high c le h = record { commits = h.commits; enough = omega (arith, h.enough); most = h.most; stands = h.stands }
 
 -- in a stopped store no log's end is answered
-never_stopped : (x : State) (order : Order) → x.stopped ≡ true → IsLogged order → WouldReply x order → ⊥
+pub never_stopped : (x : State) (order : Order) → x.stopped ≡ true → IsLogged order → WouldReply x order → ⊥
 never_stopped x Blank stopped logged said = logged
 never_stopped x Syntax stopped logged said = logged
 never_stopped x (Txn name verb) stopped logged said = subst IsSaid (ap (λ (p : Answer × State). p.0) (ap (λ b. cond b (Stopped, x) (turn_verb x x.next name verb)) stopped)) said
@@ -133,7 +133,7 @@ near_full told v k x y order (Said reply) R shows line h = tt
 near_full told v k x y order (Refused reason) R shows line h = tt
 
 -- before the first line
-pub executed-none : (told : Bool) (v : disk.View) (k : Core) (x : State) (Took : List ℕ → Type 0) → Took [] → Shows told v k x → Executed told v k x [] Took v k
+pub executed-none : (told : Bool) (v : disk.View) (k : Core) (x : State) (Took : List Answer → Type 0) → Took [] → Shows told v k x → Executed told v k x [] Took v k
 executed-none told v k x Took nothing shows = record {
   answers = [];
   after = x;
@@ -146,9 +146,9 @@ executed-none told v k x Took nothing shows = record {
 }
 
 -- one line more
-pub executed-more : (told : Bool) (v : disk.View) (k : Core) (x : State) (lines : List (List ℕ)) (Before After : List ℕ → Type 0) (w u : disk.View) (m n : Core) (line : List ℕ) (answer : Answer)
+pub executed-more : (told : Bool) (v : disk.View) (k : Core) (x : State) (lines : List (List ℕ)) (Before After : List Answer → Type 0) (w u : disk.View) (m n : Core) (line : List ℕ) (answer : Answer)
     → v.faults ≤ w.faults → w.faults ≤ u.faults → Grows k.log m.log v w → w.handed ≤ u.handed
-    → (e : Executed told v k x lines Before w m) → Goes told w m e.after (order_of line) answer u n → ((answers : List Answer) → Before (text_of_all answers) → After (text_of_all (answers ++ answer ∷ []))) → Executed told v k x (lines ++ line ∷ []) After u n
+    → (e : Executed told v k x lines Before w m) → Goes told w m e.after (order_of line) answer u n → ((answers : List Answer) → Before answers → After (answers ++ answer ∷ [])) → Executed told v k x (lines ++ line ∷ []) After u n
 executed-more told v k x lines Before After w u m n line answer later more_later grows kept e h takes =
     let ext : Extends e.after h.after = extends_line e.after h.after (order_of line) answer e.shows.answered h.line in
     let near = near_full told w m e.after h.after (order_of line) answer (HasRisen w.faults u.faults) e.shows h.line h.caused in
@@ -177,5 +177,5 @@ executed-more told v k x lines Before After w u m n line answer later more_later
 pub takes_more : (before mid now : Option (List ℕ)) (answer : Answer) → Takes mid (text_of answer) now → (answers : List Answer) → Takes before (text_of_all answers) mid → Takes before (text_of_all (answers ++ answer ∷ [])) now
 takes_more before mid now answer takes answers took = told-more before answers mid answer now took takes
 
-pub takes_cut : (before mid now : Option (List ℕ)) (answer : Answer) → TakesFront mid (text_of answer) now → (answers : List Answer) → Takes before (text_of_all answers) mid → TakesFront before (text_of_all (answers ++ answer ∷ [])) now
-takes_cut before mid now answer takes answers took = told-cut before answers mid answer now took takes
+pub takes_cut : (before mid now : Option (List ℕ)) (answer : Answer) → TakesFront mid (text_of answer) now → (answers : List Answer) → TookAll before mid answers → CutAtLast before now (answers ++ answer ∷ [])
+takes_cut before mid now answer takes answers took = record { told = answers; last = answer; all = refl; mid = mid; took = took; cut = takes }

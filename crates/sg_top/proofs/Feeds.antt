@@ -17,7 +17,7 @@ use Rattle.sg_log.specs.Held.{Tail}
 use Rattle.sg_top.specs.Kept.{MOST_KEPT}
 use Rattle.sg_top.specs.Store.{Core}
 use Rattle.sg_top.specs.Goes.{Goes, Grows}
-use Rattle.sg_top.specs.Script.{Executed, MayEnd}
+use Rattle.sg_top.specs.Script.{TookAll, CutAtLast, Executed, MayEnd}
 use Rattle.sg_top.specs.Shown.{StopIsCaused}
 use Rattle.sg_top.specs.declared.store.Stop as code_stop
 use Rattle.sg_top.specs.declared.store.Stop.TheVariants as stops
@@ -60,12 +60,12 @@ module _ (told : Bool) (v : disk.View) (k : Core) (x : State) (lines : List (Lis
   feed_line mid now w u m n had more cleared left part after answer a is nothing cut later grown goes takes =
       let line : List ℕ = a.rest ++ part in
       let said : order_of line ≡ order_of more = sym (order_of-kept line) ∙ ap order_of (sym (kept_part a.rest part had more a.so_far.pending is)) in
-      let done = executed-more told v k x (lines ++ a.over) _ (λ text. Takes first text now) w u m n line answer a.so_far.later later a.so_far.grown grown.kept a.so_far.executed (subst (λ (o : Order). Goes told w m a.so_far.executed.after o answer u n) (sym said) goes) (takes_more first mid now answer takes) in
+      let done = executed-more told v k x (lines ++ a.over) _ (TookAll first now) w u m n line answer a.so_far.later later a.so_far.grown grown.kept a.so_far.executed (subst (λ (o : Order). Goes told w m a.so_far.executed.after o answer u n) (sym said) goes) (takes_more first mid now answer takes) in
       record {
         over = a.over ++ line ∷ [];
         rest = [];
         so_far = record {
-          executed = subst (λ (ls : List (List ℕ)). Executed told v k x ls (λ text. Takes first text now) u n) (append_assoc lines a.over (line ∷ [])) done;
+          executed = subst (λ (ls : List (List ℕ)). Executed told v k x ls (TookAll first now) u n) (append_assoc lines a.over (line ∷ [])) done;
           later = omega (arith, a.so_far.later, later);
           grown = grows_on k.log m.log n.log v w u a.so_far.grown grown;
           pending = nothing;
@@ -95,10 +95,10 @@ module _ (told : Bool) (v : disk.View) (k : Core) (x : State) (lines : List (Lis
   feed_breaks mid now w u m n had more left part after answer a is cut later grown goes takes =
       let line : List ℕ = a.rest ++ part in
       let said : order_of line ≡ order_of more = sym (order_of-kept line) ∙ ap order_of (sym (kept_part a.rest part had more a.so_far.pending is)) in
-      let done = executed-more told v k x (lines ++ a.over) _ (λ text. TakesFront first text now) w u m n line answer a.so_far.later later a.so_far.grown grown.kept a.so_far.executed (subst (λ (o : Order). Goes told w m a.so_far.executed.after o answer u n) (sym said) goes) (takes_cut first mid now answer takes) in
+      let done = executed-more told v k x (lines ++ a.over) _ (CutAtLast first now) w u m n line answer a.so_far.later later a.so_far.grown grown.kept a.so_far.executed (subst (λ (o : Order). Goes told w m a.so_far.executed.after o answer u n) (sym said) goes) (takes_cut first mid now answer takes) in
       record {
         over = a.over ++ line ∷ [];
-        executed = subst (λ (ls : List (List ℕ)). Executed told v k x ls (λ text. TakesFront first text now) u n) (append_assoc lines a.over (line ∷ [])) done;
+        executed = subst (λ (ls : List (List ℕ)). Executed told v k x ls (CutAtLast first now) u n) (append_assoc lines a.over (line ∷ [])) done;
         front = λ behind_it. (behind [] (lines_of (after ++ behind_it)), seam a.over a.rest part line [] (lines_of (after ++ behind_it)) (lines_of (left ++ behind_it)) (behind held (lines_of (piece ++ behind_it))) (behind_nothing (λ b. b == 10) (after ++ behind_it)) refl refl (cut behind_it) (a.goes_on behind_it));
       }
 

@@ -14,3 +14,4 @@ pub mod Walking
 pub mod Replaying
 pub mod Nothing
 pub mod Reading
+pub mod Acknowledged

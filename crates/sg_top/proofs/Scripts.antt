@@ -1,5 +1,5 @@
 -- How a script is read and run, piece by piece.
-use Rattle.std.proofs.Common.{◌≡◌, ◌==◌, inr, ℕ, ◌+◌, ◌<◌, ◌≤◌, Bool, List, [], ◌∷◌, ◌++◌, length, take, drop, Option, Some, None, IfSome, refl, sym, ap, ◌∙◌, subst, arith, append_assoc, append-nil, length-append}
+use Rattle.std.proofs.Common.{◌≡◌, ◌==◌, inl, inr, ℕ, ◌+◌, ◌<◌, ◌≤◌, Bool, List, [], ◌∷◌, ◌++◌, length, take, drop, Option, Some, None, IfSome, refl, sym, ap, ◌∙◌, subst, arith, append_assoc, append-nil, length-append}
 use Rattle.std.proofs.lemmas.List.{take-append-drop, length-take-le}
 use Rattle.sg_base.specs.Ends.{Gives, Takes, TakesFront}
 use Rattle.sg_disk.specs.Disk as disk
@@ -13,7 +13,7 @@ use Rattle.sg_words.proofs.Seams.{behind_nothing}
 use Rattle.sg_top.specs.Kept.{MOST_KEPT}
 use Rattle.sg_top.specs.Store.{Core, Shows}
 use Rattle.sg_top.specs.Goes.{Goes, Grows}
-use Rattle.sg_top.specs.Script.{Executed, HasRead}
+use Rattle.sg_top.specs.Script.{TookAll, CutAtLast, Executed, HasRead}
 use Rattle.sg_top.specs.Feeding.{Feeds, Breaks}
 use Rattle.sg_top.specs.Ending.{MOST_BYTES, IsWhole, IsCutShort, IsTooLong, IsUnwritten, IsUnderWay}
 use Rattle.sg_top.proofs.Executing.{executed-none, executed-more, takes_more, takes_cut}
@@ -47,7 +47,7 @@ module _ (told : Bool) (v : disk.View) (k : Core) (x : State) (source first : Op
     rest = [];
     over = λ after. behind_nothing (λ b. b == 10) after;
     before = record {
-      executed = executed-none told v k x (λ replies. Takes first replies first) (Takes-nothing first) shows;
+      executed = executed-none told v k x (TookAll first first) (Takes-nothing first) shows;
       later = omega arith;
       grown = record { kept = omega arith; grown = inr (omega arith) };
       pending = nothing;
@@ -85,8 +85,8 @@ module _ (told : Bool) (v : disk.View) (k : Core) (x : State) (source first : Op
         read = ended.0;
         whole = ended.1;
         short = omega (arith, h.size);
-        executed = subst (λ (ls : List (List ℕ)). Executed told v k x ls (λ replies. Takes first replies next) u n) (last_lines h.lines h.rest h.text h.over)
-            (executed-more told v k x h.lines _ (λ replies. Takes first replies next) w u m n (h.rest ++ []) answer h.before.later later h.before.grown grown.kept h.before.executed
+        executed = subst (λ (ls : List (List ℕ)). Executed told v k x ls (TookAll first next) u n) (last_lines h.lines h.rest h.text h.over)
+            (executed-more told v k x h.lines _ (TookAll first next) w u m n (h.rest ++ []) answer h.before.later later h.before.grown grown.kept h.before.executed
             (subst (λ (o : Order). Goes told w m h.before.executed.after o answer u n) (sym (last_said h.rest had h.before.pending)) goes) (takes_more first now next answer takes));
       }
 
@@ -100,9 +100,8 @@ module _ (told : Bool) (v : disk.View) (k : Core) (x : State) (source first : Op
         read = ended.0;
         short = omega (arith, h.size);
         lines = h.lines ++ (h.rest ++ []) ∷ [];
-        more = [];
-        front = append-nil (h.lines ++ (h.rest ++ []) ∷ []) ∙ last_lines h.lines h.rest h.text h.over;
-        executed = executed-more told v k x h.lines _ (λ replies. TakesFront first replies next) w u m n (h.rest ++ []) answer h.before.later later h.before.grown grown.kept h.before.executed
+        front = inr (last_lines h.lines h.rest h.text h.over, ended.1);
+        executed = executed-more told v k x h.lines _ (CutAtLast first next) w u m n (h.rest ++ []) answer h.before.later later h.before.grown grown.kept h.before.executed
             (subst (λ (o : Order). Goes told w m h.before.executed.after o answer u n) (sym (last_said h.rest had h.before.pending)) goes) (takes_cut first now next answer takes);
       }
 
@@ -111,14 +110,12 @@ module _ (told : Bool) (v : disk.View) (k : Core) (x : State) (source first : Op
       → Breaks told w m u n now next had piece → IsUnwritten told v k x source left first next u n
   way_broken mid left now next w u m n had into piece total count h short given within is breaks =
       let b = breaks v k x h.lines first h.rest h.before in
-      let f = b.front [] in
       record {
         text = h.text ++ piece;
         read = subst (λ (p : List ℕ). HasRead source (h.text ++ p) left) (sym is) (HasRead-more source h.text mid into count left h.read given);
         short = omega (arith, h.size, length-append h.text piece, ap length is, length-take-le count into within);
         lines = h.lines ++ b.over;
-        more = f.0;
-        front = append_assoc h.lines b.over f.0 ∙ (ap (λ (ls : List (List ℕ)). h.lines ++ ls) f.1 ∙ (h.over (piece ++ []) ∙ ap (λ (p : List ℕ). lines_of (h.text ++ p)) (append-nil piece)));
+        front = inl (λ after. let f = b.front after in (f.0, append_assoc h.lines b.over f.0 ∙ (ap (λ (ls : List (List ℕ)). h.lines ++ ls) f.1 ∙ (h.over (piece ++ after) ∙ ap lines_of (sym (append_assoc h.text piece after))))));
         executed = b.executed;
       }
 
@@ -135,12 +132,13 @@ module _ (told : Bool) (v : disk.View) (k : Core) (x : State) (source first : Op
   }
 
   -- the source gives too much
-  pub way_too_long : (mid left now : Option (List ℕ)) (w : disk.View) (m : Core) (had into : List ℕ) (total count : ℕ) → IsUnderWay told v k x source mid first now w m had total → total ≤ MOST_BYTES → MOST_BYTES < total + count → Gives mid into count left → count ≤ length into → IsTooLong told v k x source left first now w m
-  way_too_long mid left now w m had into total count h short long given within = record {
+  pub way_too_long : (mid left now : Option (List ℕ)) (w : disk.View) (m : Core) (had into : List ℕ) (total count : ℕ) → IsUnderWay told v k x source mid first now w m had total → total ≤ MOST_BYTES → MOST_BYTES < total + count → Gives mid into count left → count ≤ length into → length into ≤ 65536 → IsTooLong told v k x source left first now w m
+  way_too_long mid left now w m had into total count h short long given within room = record {
     text = h.text;
     piece = take count into;
     read = HasRead-more source h.text mid into count left h.read given;
     short = omega (arith, h.size);
+    small = omega (arith, length-take-le count into within, within, room);
     long = omega (arith, h.size, long, length-append h.text (take count into), length-take-le count into within);
     lines = h.lines;
     rest = h.rest;

@@ -7,7 +7,7 @@ use Rattle.sg_words.specs.Parse.{lines_of}
 use Rattle.sg_top.specs.declared.script.RunEnd as code_end
 use Rattle.sg_top.specs.declared.script.RunEnd.TheVariants as ends
 use Rattle.sg_top.specs.Store.{Core}
-use Rattle.sg_top.specs.Script.{Executed, Ends, HasRead}
+use Rattle.sg_top.specs.Script.{AreFirst, TookAll, CutAtLast, Executed, Ends, HasRead}
 use Rattle.sg_top.specs.Feeding.{Before}
 
 -- the most bytes of a script
@@ -20,7 +20,7 @@ pub record IsWhole (told : Bool) (v : disk.View) (k : Core) (x : State) (source 
   pub read : HasRead source text left
   pub whole : IfSome source (λ all. text ≡ all)
   pub short : length text ≤ MOST_BYTES
-  pub executed : Executed told v k x (lines_of text) (λ replies. Takes first replies now) w m
+  pub executed : Executed told v k x (lines_of text) (TookAll first now) w m
 
 -- the source failed, and the lines that were over in what it had given were executed
 pub record IsCutShort (told : Bool) (v : disk.View) (k : Core) (x : State) (source left first now : Option (List ℕ)) (w : disk.View) (m : Core) : Type 0 where
@@ -30,7 +30,7 @@ pub record IsCutShort (told : Bool) (v : disk.View) (k : Core) (x : State) (sour
   pub lines : List (List ℕ)
   pub rest : List ℕ
   pub over : Ends text lines rest
-  pub executed : Executed told v k x lines (λ replies. Takes first replies now) w m
+  pub executed : Executed told v k x lines (TookAll first now) w m
 
 -- the source gave more than a script may have, and the lines that were over before that piece were executed
 pub record IsTooLong (told : Bool) (v : disk.View) (k : Core) (x : State) (source left first now : Option (List ℕ)) (w : disk.View) (m : Core) : Type 0 where
@@ -39,10 +39,11 @@ pub record IsTooLong (told : Bool) (v : disk.View) (k : Core) (x : State) (sourc
   pub read : HasRead source (text ++ piece) left
   pub short : length text ≤ MOST_BYTES
   pub long : MOST_BYTES < length (text ++ piece)
+  pub small : length piece ≤ 65536
   pub lines : List (List ℕ)
   pub rest : List ℕ
   pub over : Ends text lines rest
-  pub executed : Executed told v k x lines (λ replies. Takes first replies now) w m
+  pub executed : Executed told v k x lines (TookAll first now) w m
 
 -- the sink failed at the last of these lines, which are the first of what the source had given
 pub record IsUnwritten (told : Bool) (v : disk.View) (k : Core) (x : State) (source left first now : Option (List ℕ)) (w : disk.View) (m : Core) : Type 0 where
@@ -50,9 +51,8 @@ pub record IsUnwritten (told : Bool) (v : disk.View) (k : Core) (x : State) (sou
   pub read : HasRead source text left
   pub short : length text ≤ MOST_BYTES
   pub lines : List (List ℕ)
-  pub more : List (List ℕ)
-  pub front : lines ++ more ≡ lines_of text
-  pub executed : Executed told v k x lines (λ replies. TakesFront first replies now) w m
+  pub front : AreFirst source text lines
+  pub executed : Executed told v k x lines (CutAtLast first now) w m
 
 -- how a run that ended so went
 abbrev pub RunsTo : code_end.RunEnd → Bool → disk.View → Core → State → Option (List ℕ) → Option (List ℕ) → Option (List ℕ) → Option (List ℕ) → disk.View → Core → Type 0

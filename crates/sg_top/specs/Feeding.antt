@@ -8,11 +8,11 @@ use Rattle.sg_words.specs.Pieces.{behind}
 use Rattle.sg_top.specs.Kept.{MOST_KEPT}
 use Rattle.sg_top.specs.Store.{Core}
 use Rattle.sg_top.specs.Goes.{Grows}
-use Rattle.sg_top.specs.Script.{Executed}
+use Rattle.sg_top.specs.Script.{TookAll, CutAtLast, Executed}
 
 -- what was executed before a piece came, from a view v of the disk and a core k on
 pub record Before (told : Bool) (v : disk.View) (k : Core) (x : State) (lines : List (List ℕ)) (first now : Option (List ℕ)) (w : disk.View) (m : Core) (held kept : List ℕ) : Type 0 where
-  pub executed : Executed told v k x lines (λ text. Takes first text now) w m
+  pub executed : Executed told v k x lines (TookAll first now) w m
   pub later : v.faults ≤ w.faults
   pub grown : Grows k.log m.log v w
   -- what is kept of the line that hasn't ended yet
@@ -32,7 +32,7 @@ Feeds told w m u n was now had piece kept = (v : disk.View) (k : Core) (x : Stat
 -- The sink failed at the last of these lines
 pub record Broken (told : Bool) (v : disk.View) (k : Core) (x : State) (lines : List (List ℕ)) (first now : Option (List ℕ)) (w : disk.View) (m : Core) (held piece : List ℕ) : Type 0 where
   pub over : List (List ℕ)
-  pub executed : Executed told v k x (lines ++ over) (λ text. TakesFront first text now) w m
+  pub executed : Executed told v k x (lines ++ over) (CutAtLast first now) w m
   pub front : (after : List ℕ) → (more : List (List ℕ)) × (over ++ more ≡ behind held (lines_of (piece ++ after)))
 
 abbrev pub Breaks : Bool → disk.View → Core → disk.View → Core → Option (List ℕ) → Option (List ℕ) → List ℕ → List ℕ → Type 0

@@ -1,11 +1,16 @@
 -- What the lines of a script do, one after another.
-use Rattle.std.specs.Prelude.{◌≡◌, ◌⊎◌, ◌+◌, ◌<◌, ◌≤◌, ℕ, Bool, IsTrue, List, ◌++◌, Option, Some, None}
-use Rattle.sg_base.specs.Ends.{HasRisen}
+use Rattle.std.specs.Prelude.{◌≡◌, ◌⊎◌, ◌+◌, ◌<◌, ◌≤◌, ℕ, Bool, IsTrue, List, [], ◌∷◌, ◌++◌, Option, Some, None, IfSome}
+use Rattle.sg_base.specs.Ends.{HasRisen, Takes, TakesFront}
 use Rattle.sg_disk.specs.Disk as disk
 use Rattle.sg_model.specs.History.{State}
-use Rattle.sg_words.specs.Parse.{lines_of}
+use Rattle.sg_words.specs.Parse.{lines_of, order_of}
+use Rattle.sg_model.specs.Objects.Reply.{Done}
+use Rattle.sg_words.specs.Order.{Order}
+use Rattle.sg_words.specs.Order.Order.{Txn}
+use Rattle.sg_words.specs.Order.Verb.{Commit}
+use Rattle.sg_words.specs.Text.Answer.{Said}
 use Rattle.sg_words.specs.Pieces.{behind}
-use Rattle.sg_words.specs.Text.{Answer, text_of_all}
+use Rattle.sg_words.specs.Text.{Answer, text_of, text_of_all}
 use Rattle.sg_words.specs.Run.{Lines, AreCaused}
 use Rattle.sg_log.specs.Frames.{LOG_END}
 use Rattle.sg_top.specs.Stands.{StandsForFirst}
@@ -17,15 +22,39 @@ use Rattle.sg_top.specs.Goes.{NEW_WORK_END}
 abbrev pub MayBeFull : ℕ → disk.View → disk.View → Type 0
 MayBeFull gate v w = (disk.FULL ≤ w.handed) ⊎ (NEW_WORK_END + v.handed < gate + w.handed + 65541)
 
--- From x, these lines were executed, and a sink took of the replies what Took says
-pub record Executed (told : Bool) (v : disk.View) (k : Core) (x : State) (lines : List (List ℕ)) (Took : List ℕ → Type 0) (w : disk.View) (m : Core) : Type 0 where
+-- a commit that was answered `ok`
+abbrev pub acks : Order → Answer → ℕ
+acks (Txn name Commit) (Said Done) = 1
+acks order answer = 0
+
+-- how many commits among these lines were answered `ok`, as far as the answers go
+abbrev pub acknowledged : List (List ℕ) → List Answer → ℕ
+acknowledged [] answers = 0
+acknowledged (line ∷ lines) [] = 0
+acknowledged (line ∷ lines) (answer ∷ answers) = acks (order_of line) answer + acknowledged lines answers
+
+-- the sink took the replies to all lines
+abbrev pub TookAll : Option (List ℕ) → Option (List ℕ) → List Answer → Type 0
+TookAll first now answers = Takes first (text_of_all answers) now
+
+-- the sink took the replies to all lines but the last, and a front of the reply to that one
+pub record CutAtLast (first now : Option (List ℕ)) (answers : List Answer) : Type 0 where
+  pub told : List Answer
+  pub last : Answer
+  pub all : answers ≡ told ++ last ∷ []
+  pub mid : Option (List ℕ)
+  pub took : TookAll first mid told
+  pub cut : TakesFront mid (text_of last) now
+
+-- From x, these lines were executed, and a sink took of the replies to them what Took says
+pub record Executed (told : Bool) (v : disk.View) (k : Core) (x : State) (lines : List (List ℕ)) (Took : List Answer → Type 0) (w : disk.View) (m : Core) : Type 0 where
   pub answers : List Answer
   pub after : State
   pub goes : Lines x lines answers after
   pub answered : x.answered ≤ after.answered
   pub caused : AreCaused (HasRisen v.faults w.faults) (MayBeFull k.log.gate v w) answers
   pub shows : Shows told w m after
-  pub took : Took (text_of_all answers)
+  pub took : Took answers
   pub moments : IsTrue told → disk.LeavesOnly v w (StandsForFirst x.answered after)
 
 -- However a text goes on, so many of its lines are over, and this is the front of the next one
@@ -36,6 +65,14 @@ Ends text over rest = (after : List ℕ) → over ++ behind rest (lines_of after
 abbrev pub HasRead : Option (List ℕ) → List ℕ → Option (List ℕ) → Type 0
 HasRead None got left = left ≡ None
 HasRead (Some all) got left = (rest : List ℕ) × (left ≡ Some rest) × (all ≡ got ++ rest)
+
+-- however the text goes on, these are its first lines
+abbrev pub AreOver : List ℕ → List (List ℕ) → Type 0
+AreOver text lines = (after : List ℕ) → (more : List (List ℕ)) × (lines ++ more ≡ lines_of (text ++ after))
+
+-- these lines are over in what was read of a source, or they are all lines of one that is at its end
+abbrev pub AreFirst : Option (List ℕ) → List ℕ → List (List ℕ) → Type 0
+AreFirst source text lines = AreOver text lines ⊎ ((lines ≡ lines_of text) × IfSome source (λ all. text ≡ all))
 
 -- So many bytes were handed to the disk since v that a record may end past the log's last byte
 abbrev pub MayEnd : ℕ → disk.View → disk.View → Type 0

@@ -1,5 +1,6 @@
 -- The program's words, and how a run of it ends.
 use Rattle.std.specs.Prelude.{◌≡◌, ◌⊎◌, ◌≤◌, ◌+◌, ◌&&◌, if◌then◌else◌, ℕ, Bool, IsTrue, List, [], ◌∷◌, ◌++◌, codes, string_bytes, String, Option, Some, None, is_some, IfSome, length}
+use Rattle.std.proofs.Common.{inl, inr}
 use Rattle.std.specs.Str.{bytes_eq}
 use Rattle.std.specs.declared.alloc.Global.{Global}
 use Rattle.sg_base.specs.declared.area.Area.TheVariants.{Log0}
@@ -22,9 +23,9 @@ use Rattle.sg_log.specs.Frames.{Numbered, HasRecords}
 use Rattle.sg_top.specs.Stands.{StandsFor, StandsForFirst}
 use Rattle.sg_top.specs.Store.{Core}
 use Rattle.sg_top.specs.Ending.{RunsTo, MOST_BYTES}
-use Rattle.sg_top.specs.Script.{HasRead, MayEnd}
+use Rattle.sg_top.specs.Script.{AreFirst, acknowledged, HasRead, MayEnd, TookAll, CutAtLast}
 use Rattle.sg_top.specs.Shown.{StopIsCaused}
-use Rattle.sg_base.specs.Ends.{HasRisen, Takes, TakesFront}
+use Rattle.sg_base.specs.Ends.{HasRisen, Takes}
 use Rattle.sg_top.specs.Opening.{StaysShut, reads_of}
 
 -- `run` and a folder: a run whose disk isn't stopped
@@ -85,10 +86,17 @@ pub record NeverRan (told : Bool) (v w : disk.View) (source left first now : Opt
   pub unwritten : now ≡ first
   pub status_is : status ≡ status_of_refusal why
 
+-- a script is left, or replies are, only where the source or the sink failed
+abbrev pub HasCause : Type 0 → Type 0 → code_end.RunEnd → Type 0
+HasCause SourceFailed SinkFailed ends.Done = Unit {0}
+HasCause SourceFailed SinkFailed ends.Read = SourceFailed
+HasCause SourceFailed SinkFailed ends.Write = SinkFailed
+HasCause SourceFailed SinkFailed ends.TooLong = Unit {0}
+
 -- A run that began with the objects for which the image read at entry stands, and those alone, and ended so. Until it
 -- had opened the store a crash left what it could have left at first. The log's end is met only where so much was
 -- handed to the disk
-pub record Ran (told : Bool) (v w : disk.View) (source left first now : Option (List ℕ)) (status : code_status.Status) : Type 0 where
+pub record Ran (SourceFailed SinkFailed : Type 0) (told : Bool) (v w : disk.View) (source left first now : Option (List ℕ)) (status : code_status.Status) : Type 0 where
   pub objects : Objects
   pub stands : IsTrue told → StandsFor (reads_of v) objects
   pub only : IsTrue told → (s : Objects) → StandsFor (reads_of v) s → s ≡ objects
@@ -99,6 +107,8 @@ pub record Ran (told : Bool) (v w : disk.View) (source left first now : Option (
   pub handed : opened.handed ≡ v.handed
   pub later : v.faults ≤ opened.faults
   pub end : code_end.RunEnd
+  -- also where the store has stopped
+  pub heard : HasCause SourceFailed SinkFailed end
   pub last : Core
   pub stop : Option code_stop.Stop
   pub caused : StopIsCaused (HasRisen opened.faults w.faults) (MayEnd core.log.gate opened w) None stop
@@ -123,9 +133,14 @@ pub record IsDone (told : Bool) (v w : disk.View) (source first now : Option (Li
   pub read : IsTrue told → StandsFor (reads_of w) (committed_objects after)
   pub images : IsTrue told → (c : disk.Image) → disk.Leaves w.now c → StandsFor c (committed_objects after)
 
--- the sink took all of these replies, or it failed and took a front of them
-abbrev pub TookReplies : Type 0 → Option (List ℕ) → List ℕ → Option (List ℕ) → Type 0
-TookReplies Failed first replies now = Takes first replies now ⊎ (Failed × TakesFront first replies now)
+-- the sink took all of these replies, or it failed at the last of them and took a front of that one
+abbrev pub TookReplies : Type 0 → Option (List ℕ) → Option (List ℕ) → List Answer → Type 0
+TookReplies Failed first now answers = TookAll first now answers ⊎ (Failed × CutAtLast first now answers)
+
+-- the answers that the sink took whole
+abbrev pub told_of : {Failed : Type 0} {first now : Option (List ℕ)} {answers : List Answer} → TookReplies Failed first now answers → List Answer
+told_of {answers = answers} (inl all) = answers
+told_of (inr cut) = cut.1.told
 
 -- A run on a disk that tells, whatever ended it. The image that reads gave at entry stands for some objects. From these
 -- on some first lines of what the source gave were executed, and the sink took the replies to them. Until the store had
@@ -137,17 +152,17 @@ pub record Lasts (Failed : Type 0) (v w : disk.View) (source left first now : Op
   pub text : List ℕ
   pub read : HasRead source text left
   pub lines : List (List ℕ)
-  pub more : List (List ℕ)
-  pub front : lines ++ more ≡ lines_of text
+  pub front : AreFirst source text lines
   pub answers : List Answer
   pub after : State
   pub goes : Lines (start objects) lines answers after
-  pub replies : TookReplies Failed first (text_of_all answers) now
+  pub replies : TookReplies Failed first now answers
   pub opened : disk.View
   pub opening : disk.LeavesOnly v opened (disk.Leaves v.now)
   pub moments : disk.LeavesOnly opened w (StandsForFirst 0 after)
   pub exit : (c : disk.Image) → disk.Leaves w.now c → StandsForFirst after.answered after c
-  pub one_more : length after.commits ≤ after.answered + 1
+  -- all commits but one at most, the last, were acknowledged: their `ok` is whole in what the sink took
+  pub one_more : length after.commits ≤ acknowledged lines (told_of replies) + 1
 
 -- A run that didn't begin. Nothing was read or answered, and each image of each moment is one of those at entry
 pub record Unchanged (v w : disk.View) (source left first now : Option (List ℕ)) : Type 0 where

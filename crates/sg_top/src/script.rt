@@ -39,7 +39,8 @@ pub fn run_script<D: Disk, S: Source, K: Sink>(
     out: &mut K,
     piece: &mut [u8],
 ) -> RunEnd
-    requires { 0 < length piece.old }
+    requires some { 0 < length piece.old }
+    requires small { length piece.old ≤ 65536 }
     ensures ran { (x : State) → Shows D.told (D.view (session_disk session.old)) (session_core session.old) x
         → RunsTo result D.told (D.view (session_disk session.old)) (session_core session.old) x (S.left script.old) (S.left script.new) (K.taken out.old) (K.taken out.new)
         (D.view (session_disk session.new)) (session_core session.new) }

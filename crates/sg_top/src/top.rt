@@ -90,7 +90,7 @@ fn run_behind_fuse<D: Disk, S: Source, K: Sink, O: Origin>(
     requires began { O.calls ≡ (D.view disk).calls }
     ensures usage { result.status ≡ Status.Usage → ⊥ }
     ensures run { NeverRan D.told (refusing (D.view disk) 0) (refusing (D.view result.disk) result.refused) (S.left script.old) (S.left script.new) (K.taken out.old) (K.taken out.new) result.status
-        ⊎ Ran D.told (refusing (D.view disk) 0) (refusing (D.view result.disk) result.refused) (S.left script.old) (S.left script.new) (K.taken out.old) (K.taken out.new) result.status }
+        ⊎ Ran (HasRisen (S.faults script.old) (S.faults script.new)) (HasRisen (K.faults out.old) (K.faults out.new)) D.told (refusing (D.view disk) 0) (refusing (D.view result.disk) result.refused) (S.left script.old) (S.left script.new) (K.taken out.old) (K.taken out.new) result.status }
     ensures crash { IsTrue D.told →
         Unchanged (D.view disk) (D.view result.disk) (S.left script.old) (S.left script.new) (K.taken out.old) (K.taken out.new)
         ⊎ Lasts (HasRisen (K.faults out.old) (K.faults out.new)) (D.view disk) (D.view result.disk) (S.left script.old) (S.left script.new) (K.taken out.old) (K.taken out.new) }
@@ -144,7 +144,7 @@ pub fn stasis<D: Disk, S: Source, K: Sink>(
     ensures unused { are_run words.now ≡ false → (result.status ≡ Status.Usage) × (result.disk ≡ disk) × (result.refused ≡ 0) × (script.new ≡ script.old) × (out.new ≡ out.old) }
     ensures run { are_run words.now ≡ true →
         NeverRan D.told (refusing (D.view disk) 0) (refusing (D.view result.disk) result.refused) (S.left script.old) (S.left script.new) (K.taken out.old) (K.taken out.new) result.status
-        ⊎ Ran D.told (refusing (D.view disk) 0) (refusing (D.view result.disk) result.refused) (S.left script.old) (S.left script.new) (K.taken out.old) (K.taken out.new) result.status }
+        ⊎ Ran (HasRisen (S.faults script.old) (S.faults script.new)) (HasRisen (K.faults out.old) (K.faults out.new)) D.told (refusing (D.view disk) 0) (refusing (D.view result.disk) result.refused) (S.left script.old) (S.left script.new) (K.taken out.old) (K.taken out.new) result.status }
     ensures crash { are_run words.now ≡ true → IsTrue D.told →
         Unchanged (D.view disk) (D.view result.disk) (S.left script.old) (S.left script.new) (K.taken out.old) (K.taken out.new)
         ⊎ Lasts (HasRisen (K.faults out.old) (K.faults out.new)) (D.view disk) (D.view result.disk) (S.left script.old) (S.left script.new) (K.taken out.old) (K.taken out.new) }

@@ -44,7 +44,7 @@ returns-in-Err-clause-ran g c x shows =
 pub returns-then-count-total-clause-ran : goal.returns-then-count-total-clause-ran
 returns-then-count-total-clause-ran g c x shows =
     way_too_long g.D.Disk.told (g.D.Disk.view (session_disk c.args.session.now)) (session_core c.args.session.now) x (g.S.Source.left c.args.script.now) (g.K.Sink.taken c.args.out.now) (g.S.Source.left c.pieces.script) (g.S.Source.left c.read.new.self) _ _ _ c.pieces.line c.read.new.into c.pieces.total c.in-Ok.count
-    (c.pieces.invariant.so_far x shows) c.pieces.invariant.short (omega arith) c.in-Ok.ensures.given c.in-Ok.ensures.within
+    (c.pieces.invariant.so_far x shows) c.pieces.invariant.short (omega arith) c.in-Ok.ensures.given c.in-Ok.ensures.within (omega (arith, c.requires.small))
 
 pub pieces-preserved : goal.pieces-preserved
 pieces-preserved g c = record {

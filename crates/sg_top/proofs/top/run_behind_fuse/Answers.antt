@@ -5,7 +5,7 @@ use Rattle.sg_model.specs.History.{start}
 use Rattle.sg_top.specs.Opening.{StaysShut, reads_of}
 use Rattle.sg_top.specs.Top.{status_of, status_of_refusal, NeverRan, Ran, Lasts}
 use Rattle.sg_top.specs.Sessions.{session_core, session_disk, session_stop}
-use Rattle.sg_top.proofs.Endings.{refused_use, refused_read, refused_write, refused_disk, ended_use, ended_read, ended_write, ended_disk, was_running, refused_done, done_either, risen_or_refused, faultless, along, unchanged_of, lasts_of, lasts_inside, refused_long, long_of, refused_damaged, ended_damaged, refused_log, log_of}
+use Rattle.sg_top.proofs.Endings.{refused_use, has_cause, refused_read, refused_write, refused_disk, ended_use, ended_read, ended_write, ended_disk, was_running, refused_done, done_either, risen_or_refused, faultless, along, unchanged_of, lasts_of, lasts_inside, refused_long, long_of, refused_damaged, ended_damaged, refused_log, log_of}
 use Rattle.sg_base.specs.declared.area.Area.TheVariants.{Log0}
 use Rattle.sg_log.specs.Frames.{HasRecords}
 use Rattle.sg_top.specs.Script.{MayEnd}
@@ -79,7 +79,7 @@ pub returns-clause-write : goal.returns-clause-write
 returns-clause-write g c h = c.run_script-end.ensures.write (ended_write c.run_script-end.result c.finish-stop.result.0 _ (ending g c) h)
 
 -- the run over the disk behind the fuse
-abbrev begun : (g : _) (c : goal.After-drop-piece-2 g) → Ran g.D.Disk.told (disk.refusing (g.D.Disk.view c.marked-fuse.result.inner) c.marked-fuse.result.refused)
+abbrev begun : (g : _) (c : goal.After-drop-piece-2 g) → Ran (HasRisen (g.S.Source.faults c.args.script.now) (g.S.Source.faults c.run_script-end.new.script)) (HasRisen (g.K.Sink.faults c.args.out.now) (g.K.Sink.faults c.run_script-end.new.out)) g.D.Disk.told (disk.refusing (g.D.Disk.view c.marked-fuse.result.inner) c.marked-fuse.result.refused)
     (disk.refusing (g.D.Disk.view (session_disk c.run_script-end.new.session).inner) (session_disk c.run_script-end.new.session).refused)
     (g.S.Source.left c.args.script.now) (g.S.Source.left c.run_script-end.new.script) (g.K.Sink.taken c.args.out.now) (g.K.Sink.taken c.run_script-end.new.out) c.finished-2.result.status
 begun g c =
@@ -96,6 +96,7 @@ begun g c =
       handed = c.in-Ok-start.ensures.opens.handed;
       later = c.in-Ok-start.ensures.opens.later;
       end = c.run_script-end.result;
+      heard = has_cause _ _ c.run_script-end.result c.run_script-end.ensures.read c.run_script-end.ensures.write;
       last = session_core n;
       stop = c.finish-stop.result.0;
       caused = was_running _ _ (session_stop o) (session_stop n) c.finish-stop.result.0 c.in-Ok-start.ensures.running c.finish-stop.ensures.stop c.run_script-end.ensures.cause;
@@ -110,7 +111,7 @@ last_view : (g : _) (c : goal.After-drop-piece-2 g) → disk.refusing (g.D.Disk.
 last_view g c = sym (ap (λ d. disk.refusing (g.D.Disk.view d.inner) d.refused) c.finish-stop.ensures.disk) ∙ c.finished-2.ensures.view
 
 pub returns-clause-run : goal.returns-clause-run
-returns-clause-run g c = inr (along (λ v w. Ran g.D.Disk.told v w (g.S.Source.left c.args.script.now) (g.S.Source.left c.run_script-end.new.script) (g.K.Sink.taken c.args.out.now) (g.K.Sink.taken c.run_script-end.new.out) c.finished-2.result.status)
+returns-clause-run g c = inr (along (λ v w. Ran (HasRisen (g.S.Source.faults c.args.script.now) (g.S.Source.faults c.run_script-end.new.script)) (HasRisen (g.K.Sink.faults c.args.out.now) (g.K.Sink.faults c.run_script-end.new.out)) g.D.Disk.told v w (g.S.Source.left c.args.script.now) (g.S.Source.left c.run_script-end.new.script) (g.K.Sink.taken c.args.out.now) (g.K.Sink.taken c.run_script-end.new.out) c.finished-2.result.status)
     _ _ _ _ c.marked-fuse.ensures.view (last_view g c) (begun g c))
 
 pub returns-clause-crash : goal.returns-clause-crash
@@ -118,7 +119,7 @@ returns-clause-crash g c told =
     let Failed : Type 0 = HasRisen (g.K.Sink.faults c.args.out.now) (g.K.Sink.faults c.run_script-end.new.out) in
     inr (lasts_inside Failed (g.D.Disk.view c.args.disk) (g.D.Disk.view c.finished-2.result.disk) c.finished-2.result.refused _ _ _ _
     (along (λ v w. Lasts Failed v w (g.S.Source.left c.args.script.now) (g.S.Source.left c.run_script-end.new.script) (g.K.Sink.taken c.args.out.now) (g.K.Sink.taken c.run_script-end.new.out))
-    _ _ _ _ c.marked-fuse.ensures.view (last_view g c) (lasts_of Failed g.D.Disk.told _ _ _ _ _ _ _ (begun g c) c.run_script-end.ensures.write told)))
+    _ _ _ _ c.marked-fuse.ensures.view (last_view g c) (lasts_of (HasRisen (g.S.Source.faults c.args.script.now) (g.S.Source.faults c.run_script-end.new.script)) (HasRisen (g.K.Sink.faults c.args.out.now) (g.K.Sink.faults c.run_script-end.new.out)) Failed g.D.Disk.told _ _ _ _ _ _ _ (begun g c) c.run_script-end.ensures.write told)))
 
 pub returns-clause-disk : goal.returns-clause-disk
 returns-clause-disk g c h =
@@ -128,7 +129,7 @@ returns-clause-disk g c h =
     (along (λ v w. HasRisen v.faults w.faults) _ _ _ _ c.marked-fuse.ensures.view (last_view g c) (λ room. omega (arith, risen room, c.in-Ok-start.ensures.opens.later)))
 
 pub returns-clause-too_long : goal.returns-clause-too_long
-returns-clause-too_long g c h = long_of g.D.Disk.told _ _ (g.S.Source.left c.args.script.now) _ _ _ c.finished-2.result.status (begun g c) h
+returns-clause-too_long g c h = long_of (HasRisen (g.S.Source.faults c.args.script.now) (g.S.Source.faults c.run_script-end.new.script)) (HasRisen (g.K.Sink.faults c.args.out.now) (g.K.Sink.faults c.run_script-end.new.out)) g.D.Disk.told _ _ (g.S.Source.left c.args.script.now) _ _ _ c.finished-2.result.status (begun g c) h
 
 pub returns-clause-damaged : goal.returns-clause-damaged
 returns-clause-damaged g c area at h = absurd (ended_damaged c.run_script-end.result c.finish-stop.result.0 c.finished-2.result.status area at (ending g c) h)
@@ -138,7 +139,7 @@ returns-clause-nothing g c area at s h told stand = absurd (ended_damaged c.run_
 
 pub returns-clause-log_end : goal.returns-clause-log_end
 returns-clause-log_end g c ds gate h told has =
-    along (λ v w. HasRecords (reads_of v Log0) 0 gate ds → MayEnd gate v w) _ _ _ _ c.marked-fuse.ensures.view (last_view g c) (λ there. log_of g.D.Disk.told _ _ _ _ _ _ c.finished-2.result.status (begun g c) h told ds gate there) has
+    along (λ v w. HasRecords (reads_of v Log0) 0 gate ds → MayEnd gate v w) _ _ _ _ c.marked-fuse.ensures.view (last_view g c) (λ there. log_of (HasRisen (g.S.Source.faults c.args.script.now) (g.S.Source.faults c.run_script-end.new.script)) (HasRisen (g.K.Sink.faults c.args.out.now) (g.K.Sink.faults c.run_script-end.new.out)) g.D.Disk.told _ _ _ _ _ _ c.finished-2.result.status (begun g c) h told ds gate there) has
 
 pub returns-clause-complete : goal.returns-clause-complete
 returns-clause-complete g c no_read no_write no_fault none = faultless c.finished-2.result.status
@@ -149,5 +150,5 @@ returns-clause-complete g c no_read no_write no_fault none = faultless c.finishe
 
 pub returns-clause-done : goal.returns-clause-done
 returns-clause-done g c h =
-    done_either g.D.Disk.told (g.D.Disk.view c.args.disk) (g.D.Disk.view c.finished-2.result.disk) c.finished-2.result.refused (g.S.Source.left c.args.script.now) (g.S.Source.left c.run_script-end.new.script) (g.K.Sink.taken c.args.out.now) (g.K.Sink.taken c.run_script-end.new.out)
+    done_either (HasRisen (g.S.Source.faults c.args.script.now) (g.S.Source.faults c.run_script-end.new.script)) (HasRisen (g.K.Sink.faults c.args.out.now) (g.K.Sink.faults c.run_script-end.new.out)) g.D.Disk.told (g.D.Disk.view c.args.disk) (g.D.Disk.view c.finished-2.result.disk) c.finished-2.result.refused (g.S.Source.left c.args.script.now) (g.S.Source.left c.run_script-end.new.script) (g.K.Sink.taken c.args.out.now) (g.K.Sink.taken c.run_script-end.new.out)
     c.finished-2.result.status (returns-clause-run g c) h
