@@ -7,3 +7,4 @@ pub mod Bytes
 pub mod Slots
 pub mod Sheet
 pub mod Op
+pub mod Overwritten

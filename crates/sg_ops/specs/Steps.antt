@@ -1,5 +1,5 @@
 -- What each operation on a page does to what the page says, and what takes it off again.
-use Rattle.std.specs.Prelude.{◌≡◌, ℕ, if◌then◌else◌, List, [], slice_set, Option, Some, None, IsTrue, IsSome, IfSome, option_map, option_and_then, ⊤}
+use Rattle.std.specs.Prelude.{◌≡◌, ℕ, if◌then◌else◌, List, [], slice_set, Option, Some, None, Bool, true, false, IsTrue, IfSome, is_some, option_map, option_and_then, ⊤}
 use Rattle.sg_base.specs.Bytes.{IsBytes}
 use Rattle.sg_base.specs.Page.{cell_in}
 use Rattle.sg_base.specs.Slots.{Slots, cell_bytes, put_in, set_in, remove_in}
@@ -13,9 +13,9 @@ use Rattle.sg_ops.specs.Table.{Table, record_at, accepts_of, after_of, before_of
 abbrev pub item_after : Option RecordMeaning → List ℕ → List ℕ → Option (List ℕ)
 item_after op arg item = if accepts_of op item arg then Some (after_of op item arg) else None
 
--- what its undo leaves of an item
+-- what its undo leaves of an item, where the operation is registered
 abbrev pub item_before : Option RecordMeaning → List ℕ → List ℕ → Option (List ℕ)
-item_before op arg item = Some (before_of op item arg)
+item_before op arg item = if is_some op then Some (before_of op item arg) else None
 
 -- the slots with the cell of a full slot changed. It is refused where the slot isn't full, or the change isn't defined
 abbrev pub change_in : Slots → ℕ → (List ℕ → Option (List ℕ)) → Option Slots
@@ -45,15 +45,15 @@ inverse (Links links) sheet = Links sheet.links
 inverse (Item slot code arg) sheet = ItemBack slot code arg
 inverse (ItemBack slot code arg) sheet = Item slot code arg
 
--- the registered operation that it wants is there
-abbrev pub IsKnown : Table → Op → Type 0
-IsKnown t (Format kind) = ⊤
-IsKnown t (Put slot bytes) = ⊤
-IsKnown t (Remove slot) = ⊤
-IsKnown t (Set slot bytes) = ⊤
-IsKnown t (Links links) = ⊤
-IsKnown t (Item slot code arg) = IsSome (record_at t code)
-IsKnown t (ItemBack slot code arg) = IsSome (record_at t code)
+-- the bytes that it brings are bytes
+abbrev pub BringsBytes : Op → Type 0
+BringsBytes (Format kind) = ⊤
+BringsBytes (Put slot bytes) = IsBytes bytes
+BringsBytes (Remove slot) = ⊤
+BringsBytes (Set slot bytes) = IsBytes bytes
+BringsBytes (Links links) = ⊤
+BringsBytes (Item slot code arg) = IsBytes arg
+BringsBytes (ItemBack slot code arg) = IsBytes arg
 
 -- the cell was left by the operation from an item that it accepts
 pub record IsLeft (op : Option RecordMeaning) (arg cell : List ℕ) : Type 0 where
@@ -62,12 +62,27 @@ pub record IsLeft (op : Option RecordMeaning) (arg cell : List ℕ) : Type 0 whe
   pub accepted : IsTrue (accepts_of op item arg)
   pub left : cell ≡ after_of op item arg
 
--- what is asked of an operation besides that it fits: its bytes are bytes, and what it undoes was done
-abbrev pub IsProper : Table → Op → Sheet → Type 0
-IsProper t (Format kind) sheet = ⊤
-IsProper t (Put slot bytes) sheet = IsBytes bytes
-IsProper t (Remove slot) sheet = ⊤
-IsProper t (Set slot bytes) sheet = IsBytes bytes
-IsProper t (Links links) sheet = ⊤
-IsProper t (Item slot code arg) sheet = IsBytes arg
-IsProper t (ItemBack slot code arg) sheet = IsBytes arg × IfSome (cell_in sheet.slots slot) (IsLeft (record_at t code) arg)
+-- what it undoes was done: all but ItemBack undo nothing
+abbrev pub WasDone : Table → Op → Sheet → Type 0
+WasDone t (Format kind) sheet = ⊤
+WasDone t (Put slot bytes) sheet = ⊤
+WasDone t (Remove slot) sheet = ⊤
+WasDone t (Set slot bytes) sheet = ⊤
+WasDone t (Links links) sheet = ⊤
+WasDone t (Item slot code arg) sheet = ⊤
+WasDone t (ItemBack slot code arg) sheet = IfSome (cell_in sheet.slots slot) (IsLeft (record_at t code) arg)
+
+-- what is asked of an operation besides that it fits, so that its inverse fits later
+pub record IsProper (t : Table) (op : Op) (sheet : Sheet) : Type 0 where
+  pub bytes : BringsBytes op
+  pub done : WasDone t op sheet
+
+-- what it does is said by the table, and not by the operation alone
+abbrev pub uses_table : Op → Bool
+uses_table (Format kind) = false
+uses_table (Put slot bytes) = false
+uses_table (Remove slot) = false
+uses_table (Set slot bytes) = false
+uses_table (Links links) = false
+uses_table (Item slot code arg) = true
+uses_table (ItemBack slot code arg) = true

@@ -1,5 +1,6 @@
 -- The table of registered operations.
-use Rattle.std.specs.Prelude.{◌≡◌, ◌≢◌, ◌==◌, ℕ, List, [], ◌∷◌, ◌++◌, Bool, false, Option, Some, None, map, find}
+use Rattle.std.specs.Prelude.{◌≡◌, ◌≢◌, ◌==◌, ℕ, ◌+◌, List, [], ◌∷◌, ◌++◌, Bool, false, Option, Some, None, map, find}
+use Rattle.std.specs.List.{range_with_len}
 use Rattle.std.specs.declared.alloc.Global.{Global}
 use Rattle.std.specs.declared.dyn_box.DynBox.{DynBox}
 use Rattle.sg_ops.specs.declared.ops.Ops.{Ops}
@@ -47,6 +48,10 @@ before_of (Some m) item arg = m.before item arg
 abbrev pub byte_of : Option RangeMeaning → List ℕ → ℕ → ℕ
 byte_of None arg position = 0
 byte_of (Some m) arg position = m.byte arg position
+
+-- the bytes that a range operation gives for so many positions, from one on
+abbrev pub rendered : Option RangeMeaning → List ℕ → ℕ → ℕ → List ℕ
+rendered op arg position count = map (λ k. byte_of op arg (position + k)) (range_with_len 0 count)
 
 -- the table that has `fill` alone
 abbrev pub fresh_table : Table
