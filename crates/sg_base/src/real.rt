@@ -5,16 +5,19 @@ ghost use Rattle.std.specs.Io.KnownBytes.{Appends, ReadConsumes};
 ghost use Rattle.sg_base.specs.Ends.{HasRisen};
 
 use crate::{Failed, Sink, Source};
-use std::io::{Read, Write};
+use std::io::{ErrorKind, Read, Write};
 
-/// A reader of std as a source. It tells nothing of its text, and counts its failures.
+/// A reader of std as a source. It tells nothing of its text, and counts its failures. A read that a
+/// signal interrupts is tried again, and is no failure.
 #[derive(Drop)]
 pub struct ReadSource<R: Read> {
     inner: R,
     faults: u64,
 }
 
-/// A writer of std as a sink. It tells nothing of what it took, and counts its failures.
+/// A writer of std as a sink. It tells nothing of what it took, and counts its failures. A write that
+/// a signal interrupts is tried again, and one that took a part goes on with the rest: neither is a
+/// failure.
 #[derive(Drop)]
 pub struct WriteSink<W: Write> {
     inner: W,
@@ -39,6 +42,15 @@ impl<W: Write> WriteSink<W> {
     }
 }
 
+// A failure that is counted.
+fn failure(faults: &mut u64) -> Failed
+    ensures later { faults.old ≤ faults.new }
+    ensures risen { HasRisen faults.old faults.new }
+{
+    *faults = faults.saturating_add(1);
+    Failed
+}
+
 impl<R: Read> Source for ReadSource<R> {
     ghost left = { λ _. None };
 
@@ -51,13 +63,14 @@ impl<R: Read> Source for ReadSource<R> {
         // Of a reader that tells its bytes, these were taken, and 0 is the end.
         ensures bytes { ReadConsumes (R.remaining self.old.inner) (R.remaining self.new.inner) result into.new }
     {
-        match self.inner.read(into) {
-            Ok(n) => Ok(n),
-            Err(_) => {
-                self.faults = self.faults.saturating_add(1);
-                Err(Failed)
+        for _ in 0..u64::MAX {
+            match self.inner.read(into) {
+                Ok(n) => return Ok(n),
+                Err(e) if e.kind() == ErrorKind::Interrupted => {}
+                Err(_) => break,
             }
         }
+        Err(failure(&mut self.faults))
     }
 }
 
@@ -72,16 +85,9 @@ impl<W: Write> Sink for WriteSink<W> {
         // Of a writer that tells its bytes, all of these were added.
         ensures added { OnOk result (Appends (W.contents self.old.inner) (W.contents self.new.inner) bytes.now) }
     {
-        let mut rest = bytes;
-        while !rest.is_empty() {
-            match self.inner.write(rest) {
-                Ok(n) if n > 0 => rest = &rest[n..],
-                _ => {
-                    self.faults = self.faults.saturating_add(1);
-                    return Err(Failed);
-                }
-            }
+        match self.inner.write_all(bytes) {
+            Ok(()) => Ok(()),
+            Err(_) => Err(failure(&mut self.faults)),
         }
-        Ok(())
     }
 }

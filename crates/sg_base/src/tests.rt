@@ -1,4 +1,6 @@
 use super::*;
+use std::io;
+use std::io::{ErrorKind, Read, Write};
 use std::test::Fail;
 
 #[test]
@@ -60,5 +62,80 @@ fn a_sink_takes_and_fails_from_a_call_on(rt: HostRuntime) -> Result<(), Fail> {
     assert_eq!(rt; sink.write(b"none\n"), Ok(()));
     assert_eq!(rt; sink.write(b"ok\n"), Err(Failed));
     assert_eq!(rt; sink.text(), b"ok\nnone\n".as_slice());
+    Ok(())
+}
+
+// A terminal of one byte a call, each second call of which a signal interrupts.
+#[derive(Drop)]
+struct Terminal {
+    bytes: Vec<u8>,
+    at: usize,
+    is_interrupted: bool,
+}
+
+impl Terminal {
+    fn new(bytes: Vec<u8>) -> Self {
+        Terminal {
+            bytes,
+            at: 0,
+            is_interrupted: false,
+        }
+    }
+
+    // Whether this call is interrupted.
+    fn interrupts(&mut self) -> bool {
+        self.is_interrupted = !self.is_interrupted;
+        self.is_interrupted
+    }
+}
+
+impl Read for Terminal {
+    fn read(&mut self, into: &mut [u8]) -> io::Result<usize> {
+        if self.interrupts() {
+            return Err(ErrorKind::Interrupted.into());
+        }
+        let Some((&byte, place)) = self.bytes.get(self.at).zip(into.first_mut()) else {
+            return Ok(0);
+        };
+        *place = byte;
+        self.at = self.at.saturating_add(1);
+        Ok(1)
+    }
+}
+
+impl Write for Terminal {
+    fn write(&mut self, bytes: &[u8]) -> io::Result<usize> {
+        if self.interrupts() {
+            return Err(ErrorKind::Interrupted.into());
+        }
+        let Some(&byte) = bytes.first() else {
+            return Ok(0);
+        };
+        self.bytes.push(byte)?;
+        Ok(1)
+    }
+
+    fn flush(&mut self) -> io::Result<()> {
+        Ok(())
+    }
+}
+
+#[test]
+fn a_terminal_gives_a_byte_a_read(rt: HostRuntime) -> Result<(), Fail> {
+    let mut source = ReadSource::new(Terminal::new(Vec::from_slice(rt.alloc(), b"ab")?));
+    let mut into = [0u8; 4];
+    assert_eq!(rt; source.read(&mut into), Ok(1));
+    assert_eq!(rt; into, *b"a\0\0\0");
+    assert_eq!(rt; source.read(&mut into), Ok(1));
+    assert_eq!(rt; into, *b"b\0\0\0");
+    assert_eq!(rt; source.read(&mut into), Ok(0));
+    Ok(())
+}
+
+#[test]
+fn a_terminal_takes_a_byte_a_write(rt: HostRuntime) -> Result<(), Fail> {
+    let mut terminal = Terminal::new(Vec::new(rt.alloc()));
+    assert_eq!(rt; WriteSink::new(&mut terminal).write(b"ok\n"), Ok(()));
+    assert_eq!(rt; terminal.bytes.as_slice(), b"ok\n".as_slice());
     Ok(())
 }
