@@ -4,7 +4,9 @@ pub mod Padded
 pub mod Page
 pub mod Taken
 pub mod Bytes
+pub mod Elements
 pub mod Slots
 pub mod Sheet
 pub mod Op
 pub mod Overwritten
+pub mod Forms

@@ -17,6 +17,7 @@ mod numbers;
 mod op;
 mod page;
 mod real;
+mod split;
 
 pub use area::Area;
 pub use check::view;
@@ -28,6 +29,7 @@ pub use numbers::{BandNo, Lsn, PageNo, TxnId};
 pub use op::PageOp;
 pub use page::{PAGE_SIZE, SlotView};
 pub use real::{ReadSource, WriteSink};
+pub use split::{split_text, split_u8, split_u16, split_u32, split_u64};
 
 #[cfg(test)]
 mod page_tests;

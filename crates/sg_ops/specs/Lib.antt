@@ -1,5 +1,4 @@
 pub mod AddLaw
-pub mod Elements
 pub mod Laws
 pub mod Meaning
 pub mod RotateLaw

@@ -6,7 +6,7 @@ use Rattle.std.proofs.lemmas.Nat.{xor_lt}
 use Rattle.std.proofs.lemmas.Grind.{same_number_lists}
 use Rattle.std.proofs.lemmas.List.FromFn.{length-map-range_with_len, get_or-map-range_with_len}
 use Rattle.std.proofs.lemmas.List.Elements.{All-map}
-use Rattle.sg_ops.specs.Elements.{byte_at}
+use Rattle.sg_base.specs.Elements.{byte_at}
 use Rattle.sg_base.specs.Bytes.{IsBytes}
 use Rattle.sg_ops.specs.Meaning.{IsUndoable}
 use Rattle.sg_ops.specs.Shipped.{xored, xor_meaning}
