@@ -2,3 +2,10 @@ pub mod Found
 pub mod Rows
 pub mod Changed
 pub mod Laws
+pub mod Parts
+pub mod Items
+pub mod Slots
+pub mod Footprint
+pub mod Refused
+pub mod Meeting
+pub mod Made

@@ -4,3 +4,11 @@ pub mod Shown
 pub mod Arrays
 pub mod Codes
 pub mod Replies
+pub mod Verb
+pub mod Step
+pub mod Touches
+pub mod Laws
+pub mod Keys
+pub mod Padded
+pub mod Resources
+pub mod TouchList

@@ -8,14 +8,20 @@
 #![tactic(auto)]
 
 mod array;
+mod key;
+mod law;
 mod objects;
 mod op;
 mod reason;
+mod touch;
 
 pub use array::Array;
+pub use key::{Key, MOST_KEY_BYTES};
+pub use law::steps_keep_to_touches;
 pub use objects::{Object, Objects};
 pub use op::{Op, Reply};
 pub use reason::Reason;
+pub use touch::{MOST_TOUCHES, Resource, Touch, Touches, conflict};
 
 #[cfg(test)]
 mod tests;

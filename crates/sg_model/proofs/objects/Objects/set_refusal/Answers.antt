@@ -1,6 +1,6 @@
 use Rattle.std.proofs.Common.{◌≡◌, Some}
 use Rattle.std.specs.FinMap.{get}
-use Rattle.sg_model.specs.Objects.{Object, Row, on_array, set_item}
+use Rattle.sg_model.specs.Objects.{Row, on_array, set_item}
 use Rattle.sg_model.specs.Objects.Object.{Array}
 use Rattle.sg_model.specs.declared.objects.Object.TheVariants as objects
 use Rattle.sg_model.proofs.Found.{look}
