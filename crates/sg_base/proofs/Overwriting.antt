@@ -1,8 +1,9 @@
 -- A part of a list written over.
-use Rattle.std.proofs.Common.{◌≡◌, ℕ, ◌+◌, ◌++◌, List, length, take, drop, sym, ap, ◌∙◌}
-use Rattle.std.proofs.lemmas.List.{drop-drop, append_assoc}
+use Rattle.std.proofs.Common.{◌≡◌, ℕ, ◌+◌, ◌<◌, ◌≤◌, List, [], ◌∷◌, ◌++◌, length, take, drop, inl, inr, sym, ap, ◌∙◌, arith, append-nil, add-zero, take-append-drop}
+use Rattle.std.proofs.lemmas.List.{drop-drop, append_assoc, ext_get_or, length-take, length-drop, length-append, get_or-take, get_or-drop}
+use Rattle.std.proofs.Math.ListN.{drop_of_length-le}
 use borrow.Rule.Slice.PartMut.{put_mid}
-use Rattle.sg_base.specs.Overwritten.{overwritten}
+use Rattle.sg_base.specs.Overwritten.{overwritten, IsSameOutside}
 
 -- a write to a part of a list, as a whole
 pub overwritten_by_part : (xs written bytes : List ℕ) (at size : ℕ) → written ≡ bytes → size ≡ length bytes → put_mid at size xs written ≡ overwritten xs at bytes
@@ -11,3 +12,31 @@ overwritten_by_part xs written bytes at size e s =
     ∙ (ap (λ (n : ℕ). take at xs ++ (bytes ++ drop n (drop at xs))) s
     ∙ (ap (λ (ys : List ℕ). take at xs ++ (bytes ++ ys)) (drop-drop (length bytes) at xs)
     ∙ sym (append_assoc (take at xs) bytes (drop (at + length bytes) xs))))
+
+-- and to a front of the part, which is all of it
+pub overwritten_by_front : (xs written bytes : List ℕ) (at size : ℕ) → size ≡ length bytes → written ≡ bytes ++ drop (length bytes) (take size (drop at xs)) → put_mid at size xs written ≡ overwritten xs at bytes
+overwritten_by_front xs written bytes at size s e =
+    let none : drop (length bytes) (take size (drop at xs)) ≡ [] = drop_of_length-le (take size (drop at xs)) (omega (arith, length-take size (drop at xs))) in
+    overwritten_by_part xs written bytes at size (e ∙ (ap (λ (ys : List ℕ). bytes ++ ys) none ∙ append-nil bytes)) s
+
+pub length-overwritten : (xs : List ℕ) (at : ℕ) (bytes : List ℕ) → at + length bytes ≤ length xs → length (overwritten xs at bytes) ≡ length xs
+length-overwritten xs at bytes within =
+    omega (arith, length-append (take at xs ++ bytes) (drop (at + length bytes) xs), length-append (take at xs) bytes, length-take at xs, length-drop (at + length bytes) xs)
+
+-- what stood in the part doesn't show in what is left
+pub overwritten_blind : (xs ys : List ℕ) (at : ℕ) (bytes : List ℕ) → at ≤ length xs → IsSameOutside at (length bytes) xs ys → overwritten xs at bytes ≡ overwritten ys at bytes
+overwritten_blind xs ys at bytes fits same =
+    let end : ℕ = at + length bytes in
+    let front : take at xs ≡ take at ys =
+    ext_get_or 0 (take at xs) (take at ys) (omega (arith, length-take at xs, length-take at ys, same.long))
+    (λ k h. let lt : k < at = omega (arith, length-take at xs) in
+    get_or-take at xs k 0 lt ∙ (same.same k (inl lt) ∙ sym (get_or-take at ys k 0 lt))) in
+    let back : drop end xs ≡ drop end ys =
+    ext_get_or 0 (drop end xs) (drop end ys) (omega (arith, length-drop end xs, length-drop end ys, same.long))
+    (λ k h. get_or-drop end xs k 0 ∙ (same.same (end + k) (inr (omega arith)) ∙ sym (get_or-drop end ys k 0))) in
+    ap (λ (zs : List ℕ). zs ++ bytes ++ drop end xs) front ∙ ap (λ (zs : List ℕ). take at ys ++ bytes ++ zs) back
+
+-- a part without bytes changes none
+pub overwritten_none : (xs : List ℕ) (at : ℕ) (bytes : List ℕ) → length bytes ≡ 0 → overwritten xs at bytes ≡ xs
+overwritten_none xs at [] none = ap (λ (ys : List ℕ). ys ++ drop (at + 0) xs) (append-nil (take at xs)) ∙ (ap (λ (n : ℕ). take at xs ++ drop n xs) (add-zero at) ∙ take-append-drop at xs)
+overwritten_none xs at (x ∷ bytes) none = absurd (omega (arith, none))

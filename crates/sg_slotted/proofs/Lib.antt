@@ -1,5 +1,8 @@
 pub mod Outside
+pub mod Layouts
 pub mod Step
 pub mod Changes
 pub mod Kept
 pub mod Room
+pub mod Refusals
+pub mod InPlace

@@ -1,9 +1,10 @@
-ghost use Rattle.std.specs.Prelude.{◌≡◌, ◌≢◌, ◌↔◌, ◌+◌, ◌<◌, ◌≤◌, ◌++◌, ◌∷◌, [], length, slice_set, Some, None, Ok, Err, OnOk, OnErr, IfErr};
+ghost use Rattle.std.specs.Prelude.{◌≡◌, ◌≢◌, ◌↔◌, ◌+◌, ◌<◌, ◌≤◌, ◌++◌, ◌∷◌, [], length, slice_set, false, Some, None, Ok, Err, OnOk, OnErr, IfErr};
 ghost use Rattle.sg_base.specs.Page.{slots_of, cell_in, header_of, lsn_of, bytes_of, IsSlotted};
-ghost use Rattle.sg_base.specs.Slots.{IsFree, with_cell};
+ghost use Rattle.sg_base.specs.Slots.{is_free, put_in, set_in, remove_in};
+ghost use Rattle.sg_slotted.specs.Layout.{store_layout, push_layout, lsn_layout, links_layout, format_layout, put_layout, remove_layout, set_layout};
 
 use crate::compaction::make_room;
-use crate::steps::{clear, fill, grow, reset};
+use crate::steps::{clear, fill, grow, refill, reset};
 use crate::writes::{put_u8, put_u32, put_u64};
 use sg_base::{Lsn, SlotView};
 
@@ -22,6 +23,7 @@ pub fn set_lsn(page: &mut [u8], lsn: Lsn)
     ensures slotted { IsSlotted page.new }
     ensures slots { slots_of page.new ≡ slots_of page.old }
     ensures header { header_of page.new ≡ record (header_of page.old) { lsn = lsn } }
+    ensures bytes { page.new ≡ lsn_layout page.old lsn }
 {
     put_u64(page, 0, lsn);
 }
@@ -32,6 +34,7 @@ pub fn set_links(page: &mut [u8], a: u32, b: u32)
     ensures slotted { IsSlotted page.new }
     ensures slots { slots_of page.new ≡ slots_of page.old }
     ensures header { header_of page.new ≡ record (header_of page.old) { links = (a, b) } }
+    ensures bytes { page.new ≡ links_layout page.old a b }
 {
     put_u32(page, 16, a);
     put_u32(page, 20, b);
@@ -44,6 +47,7 @@ pub fn format(page: &mut [u8], kind: u8)
     ensures slotted { IsSlotted page.new }
     ensures slots { slots_of page.new ≡ [] }
     ensures header { header_of page.new ≡ record { kind = kind; lsn = lsn_of page.old; links = (0, 0) } }
+    ensures bytes { page.new ≡ format_layout page.old kind }
 {
     reset(page);
     put_u8(page, 8, kind);
@@ -59,6 +63,7 @@ fn store(page: &mut [u8], slot: u16, bytes: &[u8])
     ensures slotted { IsSlotted page.new }
     ensures slots { slots_of page.new ≡ slice_set (slots_of page.old) slot (Some bytes.now) }
     ensures header { header_of page.new ≡ header_of page.old }
+    ensures bytes { page.new ≡ store_layout page.old slot bytes.now }
 {
     make_room(page, bytes.len());
     fill(page, slot, bytes);
@@ -71,6 +76,7 @@ fn push(page: &mut [u8], bytes: &[u8])
     ensures slotted { IsSlotted page.new }
     ensures slots { slots_of page.new ≡ slots_of page.old ++ (Some bytes.now ∷ []) }
     ensures header { header_of page.new ≡ header_of page.old }
+    ensures bytes { page.new ≡ push_layout page.old bytes.now }
 {
     make_room(page, 4 + bytes.len());
     let slot = SlotView::new(page).slots();
@@ -84,12 +90,13 @@ fn push(page: &mut [u8], bytes: &[u8])
 pub fn put(page: &mut [u8], slot: u16, bytes: &[u8]) -> Result<(), SlotError>
     requires { IsSlotted page.old }
     ensures slotted { IsSlotted page.new }
-    ensures ok { OnOk result (slots_of page.new ≡ with_cell (slots_of page.old) slot bytes.now) }
     ensures header { header_of page.new ≡ header_of page.old }
+    ensures ok { OnOk result (put_in (slots_of page.old) slot bytes.now ≡ Some (slots_of page.new)) }
+    ensures bytes { OnOk result (page.new ≡ put_layout page.old slot bytes.now) }
 
-    ensures no_slot { (result ≡ Err SlotError.NoSlot) ↔ (¬ IsFree (slots_of page.old) slot) }
-    ensures no_room { (result ≡ Err SlotError.NoRoom) ↔ ((IsFree (slots_of page.old) slot) × (4072 < bytes_of (with_cell (slots_of page.old) slot bytes.now))) }
-    ensures refused { OnErr result (page.new ≡ page.old) }
+    ensures err { OnErr result (put_in (slots_of page.old) slot bytes.now ≡ None) }
+    ensures no_slot { (result ≡ Err SlotError.NoSlot) ↔ (is_free (slots_of page.old) slot ≡ false) }
+    ensures same { OnErr result (page.new ≡ page.old) }
 {
     let view = SlotView::new(page);
     let slots = view.slots();
@@ -116,12 +123,13 @@ pub fn put(page: &mut [u8], slot: u16, bytes: &[u8]) -> Result<(), SlotError>
 pub fn remove(page: &mut [u8], slot: u16) -> Result<(), SlotError>
     requires { IsSlotted page.old }
     ensures slotted { IsSlotted page.new }
-    ensures ok { OnOk result (slots_of page.new ≡ slice_set (slots_of page.old) slot None) }
     ensures header { header_of page.new ≡ header_of page.old }
+    ensures ok { OnOk result (remove_in (slots_of page.old) slot ≡ Some (slots_of page.new)) }
+    ensures bytes { OnOk result (page.new ≡ remove_layout page.old slot) }
 
-    ensures no_slot { (result ≡ Err SlotError.NoSlot) ↔ (cell_in (slots_of page.old) slot ≡ None) }
-    ensures errors { IfErr result (λ e. e ≡ SlotError.NoSlot) }
-    ensures refused { OnErr result (page.new ≡ page.old) }
+    ensures err { OnErr result (remove_in (slots_of page.old) slot ≡ None) }
+    ensures no_slot { IfErr result (λ e. e ≡ SlotError.NoSlot) }
+    ensures same { OnErr result (page.new ≡ page.old) }
 {
     let view = SlotView::new(page);
     if view.slot(slot).is_none() {
@@ -133,22 +141,27 @@ pub fn remove(page: &mut [u8], slot: u16) -> Result<(), SlotError>
 
 /// Puts another cell into a full slot, and leaves all others. It answers `NoSlot` where there is no
 /// full slot of this number, and else `NoRoom` where cells and directory would have more than 4,072
-/// bytes; then no byte changes.
+/// bytes; then no byte changes. A cell of as many bytes always fits, and takes the old one's place.
 pub fn set(page: &mut [u8], slot: u16, bytes: &[u8]) -> Result<(), SlotError>
     requires { IsSlotted page.old }
     ensures slotted { IsSlotted page.new }
-    ensures ok { OnOk result (slots_of page.new ≡ slice_set (slots_of page.old) slot (Some bytes.now)) }
     ensures header { header_of page.new ≡ header_of page.old }
+    ensures ok { OnOk result (set_in (slots_of page.old) slot bytes.now ≡ Some (slots_of page.new)) }
+    ensures bytes { OnOk result (page.new ≡ set_layout page.old slot bytes.now) }
 
+    ensures err { OnErr result (set_in (slots_of page.old) slot bytes.now ≡ None) }
     ensures no_slot { (result ≡ Err SlotError.NoSlot) ↔ (cell_in (slots_of page.old) slot ≡ None) }
-    ensures no_room { (result ≡ Err SlotError.NoRoom) ↔ ((cell_in (slots_of page.old) slot ≢ None) × (4072 < bytes_of (slice_set (slots_of page.old) slot (Some bytes.now)))) }
-    ensures refused { OnErr result (page.new ≡ page.old) }
+    ensures same { OnErr result (page.new ≡ page.old) }
 {
     let view = SlotView::new(page);
     let room = view.room() as usize;
     let Some(old) = view.slot(slot) else {
         return Err(SlotError::NoSlot);
     };
+    if bytes.len() == old.len() {
+        refill(page, slot, bytes);
+        return Ok(());
+    }
     if room + old.len() < bytes.len() {
         return Err(SlotError::NoRoom);
     }

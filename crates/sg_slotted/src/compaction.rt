@@ -1,6 +1,7 @@
 // All free bytes in one place, in front of the cells.
 ghost use Rattle.std.specs.Prelude.{◌≡◌, ◌+◌, ◌≤◌, [], length};
 ghost use Rattle.sg_base.specs.Page.{start_of, lost_of, directory_end, slots_of, header_of, bytes_of, IsSlotted};
+ghost use Rattle.sg_slotted.specs.Layout.{emptied, rebuilt, compacted, roomy};
 
 use crate::steps::{fill, grow, reset};
 use crate::writes::number_u16;
@@ -13,6 +14,7 @@ fn rebuild(page: &mut [u8], view: &SlotView<'_>)
     ensures slots { slots_of page.new ≡ slots_of view.now.page.now }
     ensures header { header_of page.new ≡ header_of page.old }
     ensures lost { lost_of page.new ≡ 0 }
+    ensures bytes { page.new ≡ rebuilt (emptied page.old) (slots_of view.now.page.now) (length (slots_of view.now.page.now)) }
 {
     reset(page);
     let count = view.slots();
@@ -31,6 +33,7 @@ pub fn compact(page: &mut [u8])
     ensures slots { slots_of page.new ≡ slots_of page.old }
     ensures header { header_of page.new ≡ header_of page.old }
     ensures lost { lost_of page.new ≡ 0 }
+    ensures bytes { page.new ≡ compacted page.old }
 {
     let mut old = [0; PAGE_SIZE];
     old.copy_from_slice(page);
@@ -45,6 +48,7 @@ pub fn make_room(page: &mut [u8], need: usize)
     ensures slots { slots_of page.new ≡ slots_of page.old }
     ensures header { header_of page.new ≡ header_of page.old }
     ensures room { directory_end page.new + need ≤ start_of page.new }
+    ensures bytes { page.new ≡ roomy page.old need }
 {
     let directory = 24 + 4 * number_u16(page, 10) as usize;
     let start = number_u16(page, 12) as usize;

@@ -1,4 +1,5 @@
 use Rattle.std.proofs.Common.{◌≡◌, ℕ, List, ◌∙◌, ap, inl, arith}
+use Rattle.sg_slotted.proofs.Layouts.{formatted}
 use Rattle.sg_base.specs.Page.{kind_of, lsn_of, header_of, Header}
 use Rattle.sg_slotted.proofs.Outside.{same_number}
 use Rattle.sg_slotted.proofs.Kept.{IsApart, slotted_kept, slots_kept}
@@ -22,4 +23,5 @@ returns c =
       slotted = c.set_links.ensures.slotted;
       slots = c.set_links.ensures.slots ∙ (slots_kept p1 p2 8 9 c.reset.ensures.slotted k apart ∙ c.reset.ensures.slots);
       header = header c.args.page.now p1 p2 c.set_links.new.page c.args.kind c.reset.ensures.header c.put_u8.ensures.written (same_number p1 p2 8 9 0 8 k (inl (omega arith))) c.set_links.ensures.header;
+      bytes = formatted c.args.page.now p1 p2 c.set_links.new.page c.args.kind c.reset.ensures.bytes c.put_u8.ensures.bytes c.set_links.ensures.bytes;
     }

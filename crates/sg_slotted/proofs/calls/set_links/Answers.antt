@@ -1,4 +1,5 @@
 use Rattle.std.proofs.Common.{◌≡◌, ℕ, List, ◌∙◌, inl, inr, arith}
+use Rattle.sg_slotted.proofs.Layouts.{links_set}
 use Rattle.sg_base.specs.Page.{kind_of, lsn_of, number_at, header_of, IsSlotted}
 use Rattle.sg_slotted.proofs.Outside.{same_number, same_byte}
 use Rattle.sg_slotted.proofs.Kept.{IsApart, slotted_kept, slots_kept}
@@ -21,4 +22,5 @@ returns c =
       slotted = slotted_kept p1 p2 20 24 slotted k2 apart2;
       slots = slots_kept p1 p2 20 24 slotted k2 apart2 ∙ slots_kept p0 p1 16 20 c.requires k1 apart1;
       header = header p0 p2 c.args.a c.args.b (same_byte p1 p2 20 24 8 k2 (inl (omega arith)) ∙ same_byte p0 p1 16 20 8 k1 (inl (omega arith))) (same_number p1 p2 20 24 0 8 k2 (inl (omega arith)) ∙ same_number p0 p1 16 20 0 8 k1 (inl (omega arith))) (same_number p1 p2 20 24 16 4 k2 (inl (omega arith)) ∙ c.put_u32.ensures.written) c.put_u32-2.ensures.written;
+      bytes = links_set p0 p1 p2 c.args.a c.args.b c.put_u32.ensures.bytes c.put_u32-2.ensures.bytes;
     }

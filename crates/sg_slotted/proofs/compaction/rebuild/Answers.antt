@@ -1,6 +1,7 @@
 use Rattle.std.proofs.Common.{◌≡◌, ◌<◌, ◌+◌, ◌++◌, ◌∷◌, [], ℕ, List, Option, None, Some, length, set, subst, arith, sym, ap, ◌∙◌}
 use Rattle.sg_base.specs.Page.{slots_of, cell_in, header_of, lost_of, IsSlotted}
 use Rattle.sg_slotted.proofs.Room.{IsBegun, IsGrown, grow_room, fill_room, next_full, next_empty}
+use Rattle.sg_slotted.proofs.Layouts.{further, begun}
 use Rattle.sg_slotted.proofs.compaction.rebuild.Goals as goal
 use Rattle.sg_slotted.proofs.compaction.rebuild.Goals.{in-Some, in_default}
 
@@ -42,9 +43,18 @@ slots-preserved c =
       | in-Some w ↦ record {
         begun = further_full c.grow.new.page other w.fill.new.page c.match-slot.page c.slots.s w.in-Some.cell.now g below w.in-Some.ensures w.fill.ensures.slotted w.fill.ensures.slots w.fill.ensures.lost w.page-is;
         header = ap header_of w.page-is ∙ (w.fill.ensures.header ∙ (e.header ∙ c.slots.invariant.header));
+        bytes = further _ c.slots.page c.grow.new.page c.match-slot.page (slots_of other) c.slots.s (Some w.in-Some.cell.now) c.slots.invariant.bytes e.bytes (w.page-is ∙ w.fill.ensures.bytes) w.in-Some.ensures;
       }
       | in_default w ↦ record {
         begun = further_empty c.grow.new.page other c.match-slot.page c.slots.s g below w.in_default.ensures w.page-is;
         header = ap header_of w.page-is ∙ (e.header ∙ c.slots.invariant.header);
+        bytes = further _ c.slots.page c.grow.new.page c.match-slot.page (slots_of other) c.slots.s None c.slots.invariant.bytes e.bytes w.page-is w.in_default.ensures;
       }
     ]
+
+pub slots-init : goal.slots-init
+slots-init c = record {
+  begun = record { slotted = c.reset.ensures.slotted; slots = c.reset.ensures.slots; lost = c.reset.ensures.lost };
+  header = c.reset.ensures.header;
+  bytes = begun _ c.reset.new.page (slots_of c.args.view.now.page.now) c.reset.ensures.bytes;
+}

@@ -1,6 +1,7 @@
 use Rattle.std.proofs.Common.{◌≡◌, ◌≤◌, ◌+◌, ◌*◌, ℕ, List, length, None, arith, set, ap, ◌∙◌}
 use Rattle.sg_base.specs.Page.{slots_of, lost_of, number_at, length_at}
 use Rattle.sg_slotted.proofs.Changes.{cleared, IsChanged, has_cell, entry_within, lost_fits}
+use Rattle.sg_slotted.proofs.Layouts.{cleared_is}
 use Rattle.sg_slotted.proofs.steps.clear.Goals as goal
 
 pub number_u16-size-requires : goal.number_u16-size-requires
@@ -32,4 +33,4 @@ returns c =
     let size : c.number_u16-size.result ≡ length_at p0 c.args.slot = c.number_u16-size.ensures ∙ same_place p0 c.args.slot in
     let all : IsChanged p0 p2 (set (slots_of p0) c.args.slot None) =
     cleared p0 c.put_u16.new.page p2 c.args.slot c.requires.slotted c.requires.full (omega arith) c.put_u16.ensures.others c.put_u16-2.ensures.written c.put_u16-2.ensures.others in
-    record { slotted = all.slotted; slots = all.slots; header = all.header }
+    record { slotted = all.slotted; slots = all.slots; header = all.header; bytes = cleared_is p0 c.put_u16.new.page p2 c.args.slot c.number_u16-lost.result c.number_u16-size.result c.number_u16-lost.ensures size c.put_u16.ensures.bytes c.put_u16-2.ensures.bytes }

@@ -2,6 +2,7 @@ use Rattle.std.proofs.Common.{◌≡◌, ℕ, List, [], length, ◌∙◌, inl, 
 use Rattle.sg_base.specs.Page.{slots_of, count_of, start_of, IsSlotted}
 use Rattle.sg_slotted.proofs.Outside.{same_number, same_byte}
 use Rattle.sg_slotted.proofs.Kept.{emptied, header_kept}
+use Rattle.sg_slotted.proofs.Layouts.{emptied_is}
 use Rattle.sg_slotted.proofs.steps.reset.Goals as goal
 
 pub returns : goal.returns
@@ -25,4 +26,5 @@ returns c =
       slots = all.1;
       header = header_kept p3 p4 14 16 k4 (omega arith) (omega arith) ∙ (header_kept p2 p3 12 14 k3 (omega arith) (omega arith) ∙ (header_kept p1 p2 10 12 k2 (omega arith) (omega arith) ∙ header_kept p0 p1 9 10 k1 (omega arith) (omega arith)));
       lost = c.put_u16-3.ensures.written;
+      bytes = emptied_is p0 p1 p2 p3 p4 c.put_u8.ensures.bytes c.put_u16.ensures.bytes c.put_u16-2.ensures.bytes c.put_u16-3.ensures.bytes;
     }

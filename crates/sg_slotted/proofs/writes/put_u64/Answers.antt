@@ -1,3 +1,6 @@
+use Rattle.std.proofs.Common.{◌+◌, ◌-◌, arith}
+use Rattle.byteorder.specs.Endian.{little_bytes}
+use Rattle.sg_base.proofs.Overwriting.{overwritten_by_front}
 use Rattle.sg_slotted.proofs.Outside.{others_kept, number_is}
 use Rattle.sg_slotted.proofs.writes.put_u64.Goals as goal
 
@@ -6,3 +9,6 @@ returns-clause-written c = number_is c.args.page.now c.write_u64.new.into c.args
 
 pub returns-clause-others : goal.returns-clause-others
 returns-clause-others c = others_kept c.args.page.now c.write_u64.new.into c.args.at 8 c.requires c.write_u64.auto.into
+
+pub returns-clause-bytes : goal.returns-clause-bytes
+returns-clause-bytes c = overwritten_by_front c.args.page.now c.write_u64.new.into (little_bytes 8 c.args.number) c.args.at (c.args.at + 8 - c.args.at) (omega arith) c.write_u64.ensures.bytes
