@@ -3,7 +3,10 @@ use Rattle.std.proofs.Common.{◌≡◌, ℕ, ◌+◌, ◌<◌, ◌≤◌, List,
 use Rattle.std.proofs.lemmas.List.{drop-drop, append_assoc, ext_get_or, length-take, length-drop, length-append, get_or-take, get_or-drop}
 use Rattle.std.proofs.Math.ListN.{drop_of_length-le}
 use borrow.Rule.Slice.PartMut.{put_mid}
-use Rattle.sg_base.specs.Overwritten.{overwritten, IsSameOutside}
+use Rattle.sg_base.specs.Overwritten.{overwritten, IsSameOutside, Wrote}
+use Rattle.std.proofs.Common.{subst}
+use Rattle.std.proofs.Math.Seq.{take-append_seam, drop-append-add}
+use Rattle.std.proofs.lemmas.List.{length-take-le}
 
 -- a write to a part of a list, as a whole
 pub overwritten_by_part : (xs written bytes : List ℕ) (at size : ℕ) → written ≡ bytes → size ≡ length bytes → put_mid at size xs written ≡ overwritten xs at bytes
@@ -40,3 +43,33 @@ overwritten_blind xs ys at bytes fits same =
 pub overwritten_none : (xs : List ℕ) (at : ℕ) (bytes : List ℕ) → length bytes ≡ 0 → overwritten xs at bytes ≡ xs
 overwritten_none xs at [] none = ap (λ (ys : List ℕ). ys ++ drop (at + 0) xs) (append-nil (take at xs)) ∙ (ap (λ (n : ℕ). take at xs ++ drop n xs) (add-zero at) ∙ take-append-drop at xs)
 overwritten_none xs at (x ∷ bytes) none = absurd (omega (arith, none))
+
+-- a write behind another one: both are one write
+pub wrote_on : {old one two : List ℕ} {at next end : ℕ} {a b : List ℕ} → at ≤ length old → Wrote old at a one next → Wrote one next b two end → Wrote old at (a ++ b) two end
+wrote_on {old = old} {one = one} {two = two} {at = at} {next = next} {end = end} {a = a} {b = b} within first second =
+    let front : List ℕ = take at old ++ a in
+    let long : length front ≡ at + length a = length-append (take at old) a ∙ ap (λ (n : ℕ). n + length a) (length-take-le at old within) in
+    let is : one ≡ front ++ drop (at + length a) old = first.written in
+    let kept : take next one ≡ front = ap (take next) is ∙ (ap (λ (n : ℕ). take n (front ++ drop (at + length a) old)) (first.place ∙ sym long) ∙ take-append_seam front (drop (at + length a) old)) in
+    let both : at + (length a + length b) ≡ at + length (a ++ b) = ap (λ (n : ℕ). at + n) (sym (length-append a b)) in
+    let left : drop (next + length b) one ≡ drop (at + length (a ++ b)) old =
+    ap (drop (next + length b)) is
+    ∙ (ap (λ (n : ℕ). drop (n + length b) (front ++ drop (at + length a) old)) (first.place ∙ sym long)
+    ∙ (drop-append-add front (drop (at + length a) old) (length b)
+    ∙ (drop-drop (length b) (at + length a) old ∙ ap (λ (n : ℕ). drop n old) (omega (arith, both))))) in
+    record {
+      written =
+          second.written
+          ∙ (ap (λ (xs : List ℕ). xs ++ b ++ drop (next + length b) one) kept
+          ∙ (ap (λ (xs : List ℕ). front ++ b ++ xs) left
+          ∙ ap (λ (xs : List ℕ). xs ++ drop (at + length (a ++ b)) old) (append_assoc (take at old) a b)));
+      place = second.place ∙ (ap (λ (n : ℕ). n + length b) first.place ∙ omega (arith, both));
+    }
+
+-- nothing written behind a write
+pub wrote_end : {old new : List ℕ} {at next : ℕ} {a : List ℕ} → Wrote old at a new next → Wrote old at (a ++ []) new next
+wrote_end {old = old} {new = new} {at = at} {next = next} {a = a} w = subst (λ (xs : List ℕ). Wrote old at xs new next) (sym (append-nil a)) w
+
+-- what was written at the front, and what stands behind it
+pub wrote_front : {old new bytes : List ℕ} {next : ℕ} → Wrote old 0 bytes new next → new ≡ bytes ++ drop (length bytes) old
+wrote_front {old = old} {bytes = bytes} w = w.written ∙ ap (λ (n : ℕ). bytes ++ drop n old) (omega arith)

@@ -9,3 +9,8 @@ overwritten xs at bytes = take at xs ++ bytes ++ drop (at + length bytes) xs
 pub record IsSameOutside (at count : ℕ) (xs ys : List ℕ) : Type 0 where
   pub long : length xs ≡ length ys
   pub same : (k : ℕ) → (k < at) ⊎ (at + count ≤ k) → slice_index xs k ≡ slice_index ys k
+
+-- these bytes were written from place `at` on, and `next` is the place behind them
+pub record Wrote (old : List ℕ) (at : ℕ) (bytes new : List ℕ) (next : ℕ) : Type 0 where
+  pub written : new ≡ overwritten old at bytes
+  pub place : next ≡ at + length bytes
