@@ -1,7 +1,7 @@
 //! The dirty bytes of a window of 32,768 bytes, kept as one bit a byte, and blind writes, which set
 //! bytes of a window and mark them without a look at what stood there.
 //!
-//! It stands on no other crate. It promises that the marked bytes are a set: a mark adds exactly
+//! It stands on `sg_base` alone. It promises that the marked bytes are a set: a mark adds exactly
 //! its range, the next run is exactly the first maximal run of marked bytes, going from run to run
 //! gives exactly the marked bytes, and a blind write leaves its range as given, marks it, and
 //! changes nothing else. No call takes memory, and each goes by words of 64 bits, not by bits.

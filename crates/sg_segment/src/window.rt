@@ -1,5 +1,6 @@
 ghost use Rattle.std.specs.Prelude.{◌≡◌, ℕ, ◌+◌, ◌≤◌, ◌↔◌, ◌⊎◌, List, length};
-ghost use Rattle.sg_segment.specs.Overwritten.{overwritten, IsSameOutside};
+ghost use Rattle.sg_base.specs.Overwritten.{overwritten};
+ghost use Rattle.sg_segment.specs.Overwritten.{IsSameOutside};
 ghost use Rattle.sg_segment.specs.Runs.{IsMarked, IsWithin};
 
 use crate::dirty::Dirty;

@@ -1,0 +1,47 @@
+// What the structures read of a page.
+ghost use Rattle.std.specs.Prelude.{◌≡◌, ◌≢◌, length, Some, OnOk, IsTrue, IsFalse};
+ghost use Rattle.sg_base.specs.Page.{slots_of, cell_in};
+ghost use Rattle.sg_space.specs.Reads.{CanRead, Reads};
+ghost use Rattle.sg_space.specs.View.{Counts, OnlyReads};
+
+use crate::{PageSpace, SpaceFault};
+use sg_base::{PageNo, SlotView};
+
+// Copies the cell of a slot, if there is one and it is as long as the buffer.
+fn copy_cell(view: &SlotView<'_>, slot: u16, into: &mut [u8]) -> bool
+    ensures copied { IsTrue result → cell_in (slots_of view.now.page.now) slot ≡ Some into.new }
+    ensures other { IsFalse result → (cell : _) → cell_in (slots_of view.now.page.now) slot ≡ Some cell → length cell ≢ length into.old }
+{
+    let Some(cell) = view.slot(slot) else {
+        return false;
+    };
+    if cell.len() != into.len() {
+        return false;
+    }
+    into.copy_from_slice(cell);
+    true
+}
+
+/// Fills the buffer with the cell of a slot. A page of another kind, an empty slot and a cell of
+/// another length are reported as what can't be.
+pub fn read_cell<P: PageSpace>(
+    space: &mut P,
+    p: PageNo,
+    kind: u8,
+    slot: u16,
+    into: &mut [u8],
+) -> Result<(), SpaceFault>
+    requires { CanRead (P.view space.old) p.0 kind slot (length into.old) }
+    ensures counts { Counts (P.view space.old) (P.view space.new) result }
+    ensures kept { OnOk result (OnlyReads (P.view space.old) (P.view space.new)) }
+    ensures read { OnOk result (Reads (P.view space.old) p.0 kind slot into.new) }
+{
+    let view = space.page(p)?;
+    if view.kind() != kind {
+        return Err(space.broken());
+    }
+    if !copy_cell(&view, slot, into) {
+        return Err(space.broken());
+    }
+    Ok(())
+}

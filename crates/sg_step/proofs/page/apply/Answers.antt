@@ -1,0 +1,12 @@
+use Rattle.std.proofs.lemmas.Bool.{OnTrue_from, OnTrue_at, OnFalse_from, OnFalse_at}
+use Rattle.sg_step.proofs.Sheets.{changed_sheet, same_sheet}
+use Rattle.sg_step.proofs.page.apply.Goals as goal
+
+pub returns-in-Item-clause-done : goal.returns-in-Item-clause-done
+returns-in-Item-clause-done g c = rw c.in-Item.is (OnTrue_from c.redo_item.result _ (λ yes. changed_sheet _ _ _ _ c.redo_item.ensures.header (OnTrue_at yes c.redo_item.ensures.done)))
+
+pub returns-in-Item-clause-refused : goal.returns-in-Item-clause-refused
+returns-in-Item-clause-refused g c = rw c.in-Item.is (OnFalse_from c.redo_item.result _ (λ no. same_sheet _ _ _ (OnFalse_at no c.redo_item.ensures.refused)))
+
+pub returns-in-ItemBack-clause-done : goal.returns-in-ItemBack-clause-done
+returns-in-ItemBack-clause-done g c = rw c.in-ItemBack.is (OnTrue_from c.undo_item.result _ (λ yes. changed_sheet _ _ _ _ c.undo_item.ensures.header (OnTrue_at yes c.undo_item.ensures.done)))

@@ -1,0 +1,10 @@
+//! One operation on the bytes of a page of slots, done where it fits.
+//!
+//! It stands on `sg_base`, `sg_ops` and `sg_slotted`. It promises that what the page says afterwards is
+//! the operation's step of what it said before, that the operation is refused exactly where there is
+//! no such step, and that a refused one changes no byte.
+#![tactic(auto)]
+
+mod page;
+
+pub use page::apply;
