@@ -1,0 +1,9 @@
+pub mod Copies
+pub mod Copying
+pub mod Costs
+pub mod Headers
+pub mod Laid
+pub mod Over
+pub mod Placing
+pub mod Texts
+pub mod Windows

@@ -1,0 +1,21 @@
+-- When a call of a gate answers which fault.
+use Rattle.std.specs.Prelude.{◌≡◌, ◌+◌, Bool, IsTrue, ℕ}
+use Rattle.sg_base.specs.Ends.{HasRisen}
+use Rattle.sg_base.specs.declared.area.Area.TheVariants.{Home}
+use Rattle.sg_disk.specs.Disk.{View}
+use Rattle.sg_gate.specs.Layout.{HEADER}
+use Rattle.sg_gate.specs.Batch.{IsWrongAt}
+use Rattle.sg_gate.specs.declared.fault.GateFault.{GateFault}
+use Rattle.sg_gate.specs.declared.fault.GateFault.TheVariants.{Disk, NotAStore, Damaged}
+
+-- a call that writes fails only where the disk does
+abbrev pub WriteFails : View → View → GateFault → Type 0
+WriteFails old new Disk = HasRisen old.faults new.faults
+WriteFails old new NotAStore = ⊥
+WriteFails old new (Damaged at) = ⊥
+
+-- laying over fails only where the disk does, or where the gate is open and this field of the header is the first that is out of its range
+abbrev pub LayFails : Bool → ℕ → View → View → GateFault → Type 0
+LayFails told pages old new Disk = HasRisen old.faults new.faults
+LayFails told pages old new NotAStore = ⊥
+LayFails told pages old new (Damaged at) = IsTrue told → ((old.now Home).seen HEADER ≡ 1) × IsWrongAt pages (old.now Home).seen (HEADER + 1) at

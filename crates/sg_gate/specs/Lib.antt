@@ -1,0 +1,4 @@
+pub mod Batch
+pub mod Faults
+pub mod Layout
+pub mod Reads
