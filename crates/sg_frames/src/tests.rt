@@ -6,6 +6,16 @@ use super::*;
 use std::test::Fail;
 use std::thread::{Threads, join_mut};
 
+// Whether each byte is this one. It promises nothing, so that a test's proof carries no clause of what goes over bytes.
+fn are_all(bytes: &[u8], x: u8) -> bool {
+    bytes.iter().all(|b| *b == x)
+}
+
+// Whether each byte but the one at this place is this one.
+fn are_all_but(bytes: &[u8], at: usize, x: u8) -> bool {
+    bytes.iter().enumerate().all(|(i, b)| i == at || *b == x)
+}
+
 // Writes one byte of a loan.
 fn poke(loan: &mut Loan, at: usize, x: u8)
     requires { at < size_of loan.old.place }
@@ -44,10 +54,10 @@ fn frames_begin_with_zeros(rt: HostRuntime) -> Result<(), Fail> {
     let frames = Frames::new(rt.alloc(), 32, 4)?;
     let page = frames.page(31);
     assert_eq!(rt; page.len(), 4096);
-    assert!(rt; page.iter().all(|x| *x == 0));
+    assert!(rt; are_all(page, 0));
     let window = frames.window(3);
     assert_eq!(rt; window.len(), 32_768);
-    assert!(rt; window.iter().all(|x| *x == 0));
+    assert!(rt; are_all(window, 0));
     frames.end();
     Ok(())
 }
@@ -69,12 +79,12 @@ fn a_loan_beside_a_frame(rt: HostRuntime) -> Result<(), Fail> {
     let mut loan = frames.take(3);
     loan.bytes_mut().fill(9);
     assert_eq!(rt; loan.bytes().len(), 4096);
-    assert!(rt; loan.bytes().iter().all(|x| *x == 9));
-    assert!(rt; frames.page(4).iter().all(|x| *x == 7));
-    assert!(rt; frames.page(2).iter().all(|x| *x == 0));
+    assert!(rt; are_all(loan.bytes(), 9));
+    assert!(rt; are_all(frames.page(4), 7));
+    assert!(rt; are_all(frames.page(2), 0));
     frames.give(loan);
-    assert!(rt; frames.page(3).iter().all(|x| *x == 9));
-    assert!(rt; frames.page(4).iter().all(|x| *x == 7));
+    assert!(rt; are_all(frames.page(3), 9));
+    assert!(rt; are_all(frames.page(4), 7));
     frames.end();
     Ok(())
 }
@@ -84,10 +94,10 @@ fn two_threads_write_two_loans(rt: HostRuntime) -> Result<(), Fail> {
     let mut frames = Frames::new(rt.alloc(), 32, 4)?;
     poke_in_threads(&rt, &mut frames, 2, 3);
     assert_eq!(rt; frames.page(2).first(), Some(&5));
-    assert!(rt; frames.page(2).iter().skip(1).all(|x| *x == 0));
+    assert!(rt; are_all_but(frames.page(2), 0, 0));
     assert_eq!(rt; frames.window(3).last(), Some(&6));
-    assert!(rt; frames.window(3).iter().take(32_767).all(|x| *x == 0));
-    assert!(rt; frames.page(3).iter().all(|x| *x == 0));
+    assert!(rt; are_all_but(frames.window(3), 32_767, 0));
+    assert!(rt; are_all(frames.page(3), 0));
     frames.end();
     Ok(())
 }
@@ -138,10 +148,10 @@ fn fill_window(frames: &mut Frames, w: u32)
 fn windows_beside_each_other(rt: HostRuntime) -> Result<(), Fail> {
     let mut frames = Frames::new(rt.alloc(), 32, 4)?;
     fill_window(&mut frames, 2);
-    assert!(rt; frames.window(2).iter().all(|x| *x == 3));
-    assert!(rt; frames.window(1).iter().all(|x| *x == 0));
-    assert!(rt; frames.window(3).iter().all(|x| *x == 0));
-    assert!(rt; frames.page(31).iter().all(|x| *x == 0));
+    assert!(rt; are_all(frames.window(2), 3));
+    assert!(rt; are_all(frames.window(1), 0));
+    assert!(rt; are_all(frames.window(3), 0));
+    assert!(rt; are_all(frames.page(31), 0));
     frames.end();
     Ok(())
 }
@@ -152,7 +162,7 @@ fn two_frames_at_once(rt: HostRuntime) -> Result<(), Fail> {
     write_two(&mut frames, 31, 0);
     write_two(&mut frames, 7, 8);
     for (i, want) in [(31, 1u8), (0, 2), (7, 1), (8, 2), (30, 0), (9, 0)] {
-        assert!(rt; frames.page(i).iter().all(|x| *x == want), "frame {i}");
+        assert!(rt; are_all(frames.page(i), want), "frame {i}");
     }
     frames.end();
     Ok(())
