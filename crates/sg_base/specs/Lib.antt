@@ -2,6 +2,7 @@ pub mod Ends
 pub mod Spelling
 pub mod Padded
 pub mod Page
+pub mod Slotted
 pub mod Taken
 pub mod Bytes
 pub mod Elements

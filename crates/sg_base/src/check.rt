@@ -1,7 +1,8 @@
 // Whether some bytes are a page of slots.
-ghost use Rattle.std.specs.Prelude.{◌≡◌, ◌↔◌, ◌+◌, ◌*◌, ◌<◌, ◌≤◌, length, IsTrue, IsSome, IfSome, MatchOption};
+ghost use Rattle.std.specs.Prelude.{◌≡◌, ◌↔◌, ◌+◌, ◌*◌, ◌<◌, ◌≤◌, length, IsTrue, IsSome, is_some, IfSome, MatchOption};
 ghost use Rattle.std.specs.Bool.{MatchBool};
 ghost use Rattle.sg_base.specs.Page.{slots_below, count_of, stored, directory_end, start_of, AreCells, IsSlotted};
+ghost use Rattle.sg_base.specs.Slotted.{is_slotted};
 ghost use Rattle.sg_base.specs.Taken.{Takes, IsMet};
 
 use crate::page::u16_at;
@@ -59,6 +60,7 @@ fn stored_bytes(page: &[u8], start: usize, count: usize) -> Option<usize>
 /// cells agree. It takes no memory, and time in proportion to the page's size.
 pub fn view(page: &[u8]) -> Option<SlotView<'_>>
     ensures slotted { IsSome result ↔ IsSlotted page.now }
+    ensures answer { is_some result ≡ is_slotted page.now }
     ensures page { IfSome result (λ v. v.page.now ≡ page.now) }
 {
     if page.len() != PAGE_SIZE || page[9] != 0 {

@@ -28,7 +28,7 @@ pub use memory::{MemSink, MemSource};
 pub use name::Name;
 pub use numbers::{BandNo, Lsn, PageNo, TxnId};
 pub use op::PageOp;
-pub use page::{PAGE_SIZE, SlotView};
+pub use page::{BAND_SIZE, PAGE_SIZE, SlotView, page_lsn};
 pub use put::{put_text, put_u8, put_u16, put_u32, put_u64};
 pub use real::{ReadSource, WriteSink};
 pub use split::{split_text, split_u8, split_u16, split_u32, split_u64};

@@ -7,6 +7,9 @@ use crate::{Lsn, read_u16, read_u32, read_u64};
 /// How many bytes a page has.
 pub const PAGE_SIZE: usize = 4096;
 
+/// How many bytes a band has, and a window, which holds one in memory.
+pub const BAND_SIZE: usize = 32_768;
+
 // The number in the 2 bytes there.
 #[tactic(auto, unfolding(crate::specs::Page::number_at, crate::specs::Page::bytes_at))]
 pub fn u16_at(page: &[u8], at: usize) -> u16
@@ -23,6 +26,15 @@ fn u32_at(page: &[u8], at: usize) -> u32
     ensures { result ≡ number_at page.now at 4 }
 {
     read_u32(&page[at..at + 4])
+}
+
+/// The log's number of the last change of 4,096 bytes, whether they are a page of slots or not.
+#[tactic(auto, unfolding(crate::specs::Page::number_at, crate::specs::Page::bytes_at))]
+pub fn page_lsn(page: &[u8]) -> Lsn
+    requires { length page.now ≡ PAGE_SIZE }
+    ensures { result ≡ lsn_of page.now }
+{
+    read_u64(&page[0..8])
 }
 
 /// A look at the fields and slots of a page that is known to be slotted. Each call takes

@@ -2,4 +2,4 @@ pub mod WordBits
 pub mod RowBits
 pub mod MarkBits
 pub mod RunLists
-pub mod Blind
+pub mod SameMarks
