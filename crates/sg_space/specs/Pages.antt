@@ -67,7 +67,7 @@ pub record Changed (t : Table) (old new : View) (p : ℕ) (op : Op) : Type 0 whe
   pub may_take : old.MayTake → new.MayTake
   pub may_have : (q n : ℕ) → q ≢ p → old.MayHave q n → new.MayHave q n
   -- the page may have as many slots as before, unless it has shrunk
-  pub may_still : (n : ℕ) (sheet : Sheet) → old.space.pages.at p ≡ Some sheet → shrinks op sheet ≡ false → old.MayHave p n → new.MayHave p n
+  pub may_still : (n : ℕ) → ((sheet : Sheet) → old.space.pages.at p ≡ Some sheet → shrinks op sheet ≡ false) → old.MayHave p n → new.MayHave p n
 
 pub record Changes (t : Table) (old new : View) (p : ℕ) (op : Op) (result : Result (Unit {0}) SpaceFault) : Type 0 where
   pub counts : Counts old new result
@@ -86,8 +86,8 @@ abbrev pub empty_sheet : ℕ → Sheet
 empty_sheet kind = record { kind = kind; links = (0, 0); slots = [] }
 
 -- the bytes of such a page
-pub record IsEmptyPage (kind : ℕ) (page : List ℕ) : Type 0 where
-  pub says : sheet_of page ≡ empty_sheet kind
+unfoldable pub IsEmptyPage : ℕ → List ℕ → Type 0
+IsEmptyPage kind page = sheet_of page ≡ empty_sheet kind
 
 pub record Took (old new : View) (kind p : ℕ) : Type 0 where
   pub keeps : Keeps old new

@@ -1,5 +1,5 @@
 //! A space of pages and bands, on which arrays, tables, blobs and the catalogue stand: the trait
-//! `PageSpace`, and what these structures share.
+//! `PageSpace`, one in memory, and what these structures share.
 //!
 //! It stands on `sg_base`, `sg_ops`, `sg_slotted`, `sg_step` and `sg_alloc`. It promises that a call on a
 //! space does exactly what its name says to one page or band and leaves all others, that counts of
@@ -8,7 +8,12 @@
 #![tactic(auto)]
 
 mod cells;
+mod memory;
+mod note;
 mod space;
+mod stock;
 
 pub use cells::read_cell;
+pub use memory::MemSpace;
+pub use note::UndoNote;
 pub use space::{PageSpace, SpaceFault};

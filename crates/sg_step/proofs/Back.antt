@@ -27,11 +27,11 @@ pub record IsBack (t : Table) (op : Op) (p q : Sheet) : Type 0 where
 pub removes : (slots : Slots) (i : ℕ) (c : List ℕ) → cell_in slots i ≡ Some c → remove_in slots i ≡ Some (set slots i None)
 removes slots i c e = ap (λ (o : Option (List ℕ)). if is_some o then Some (set slots i None) else None) e
 
-fit : (xs : Slots) → bytes_of xs ≤ 4072 → where_room xs ≡ Some xs
-fit xs h = let e : nat_le (bytes_of xs) 4072 ≡ true = grind (arith, nat_tests, h) in rw e refl
+pub has_room : (xs : Slots) → bytes_of xs ≤ 4072 → where_room xs ≡ Some xs
+has_room xs h = let e : nat_le (bytes_of xs) 4072 ≡ true = grind (arith, nat_tests, h) in rw e refl
 
 pub sets : (slots : Slots) (i : ℕ) (c new : List ℕ) → cell_in slots i ≡ Some c → bytes_of (set slots i (Some new)) ≤ 4072 → set_in slots i new ≡ Some (set slots i (Some new))
-sets slots i c new e h = ap (λ (o : Option (List ℕ)). if is_some o then where_room (set slots i (Some new)) else None) e ∙ fit (set slots i (Some new)) h
+sets slots i c new e h = ap (λ (o : Option (List ℕ)). if is_some o then where_room (set slots i (Some new)) else None) e ∙ has_room (set slots i (Some new)) h
 
 pub puts : (slots : Slots) (i : ℕ) (new : List ℕ) → i < length slots → cell_in slots i ≡ None → bytes_of (set slots i (Some new)) ≤ 4072 → put_in slots i new ≡ Some (set slots i (Some new))
 puts slots i new below e h =
@@ -39,7 +39,7 @@ puts slots i new below e h =
     let other : (i == length slots) ≡ false = grind (arith, nat_tests, below) in
     let there : with_cell slots i new ≡ set slots i (Some new) = rw other refl in
     ap (λ (o : Option (List ℕ)). if nat_le i (length slots) && is_none o then where_room (with_cell slots i new) else None) e
-    ∙ (ap (λ (b : Bool). if b && true then where_room (with_cell slots i new) else None) test ∙ (ap where_room there ∙ fit (set slots i (Some new)) h))
+    ∙ (ap (λ (b : Bool). if b && true then where_room (with_cell slots i new) else None) test ∙ (ap where_room there ∙ has_room (set slots i (Some new)) h))
 
 pub changes : (slots : Slots) (i : ℕ) (change : List ℕ → Option (List ℕ)) (c new : List ℕ) → cell_in slots i ≡ Some c → change c ≡ Some new → change_in slots i change ≡ Some (set slots i (Some new))
 changes slots i change c new e made =

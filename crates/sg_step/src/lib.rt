@@ -6,5 +6,7 @@
 #![tactic(auto)]
 
 mod page;
+mod take_off;
 
 pub use page::apply;
+pub use take_off::{brings_bytes, do_and_take_off};
