@@ -8,7 +8,18 @@
 //! sink, and which number and text stand for each status.
 #![tactic(auto)]
 
-ghost use Rattle.std.specs.Prelude.{◌≡◌, map, string_bytes, option_copied};
+ghost use Rattle.std.specs.Prelude.{◌≡◌, ◌≢◌, ◌↔◌, ◌⊎◌, ◌<◌, ℕ, true, false, IsTrue, IfSome, length, map, string_bytes, option_copied};
+ghost use Rattle.std.specs.IoError.{error_kind};
+ghost use Rattle.std.specs.Process.{exit_status};
+ghost use Rattle.sg_base.specs.Ends.{HasRisen};
+ghost use Rattle.sg_base.specs.declared.area.Area.{Area};
+ghost use Rattle.sg_disk.specs.Disk.{refusing};
+ghost use Rattle.sg_model.specs.Objects.{Objects};
+ghost use Rattle.sg_top.specs.Ending.{MOST_BYTES};
+ghost use Rattle.sg_top.specs.Opening.{reads_of};
+ghost use Rattle.sg_top.specs.Stands.{StandsFor};
+ghost use Rattle.sg_top.specs.Top.{are_run, NeverRan, Ran, IsDone};
+ghost use Rattle.sg_main.specs.Texts.{number_of};
 ghost use Rattle.sg_main.specs.Words.{folder_in, are_stop};
 
 mod folder;
@@ -16,11 +27,13 @@ mod status;
 
 use crate::folder::FolderDisk;
 use crate::status::{Shown, exit_number};
-use sg_base::{ReadSource, WriteSink};
+use sg_base::{ReadSource, Sink, Source, WriteSink};
 use sg_disk::Disk;
 use sg_top::{Finish, Status, stasis};
 use std::alloc::Global;
+use std::fs::File;
 use std::io::ErrorKind;
+use std::os::fd::AsRawFd;
 use std::process::ExitCode;
 use std::{env, io};
 
@@ -55,44 +68,98 @@ fn folder_of(words: &[String]) -> Option<&str>
     }
 }
 
-// Does what the words say over this disk.
-fn perform<D: Disk + Drop>(rt: &HostRuntime, alloc: Global, words: &[String], disk: D) -> Status {
+// Opens the root folder in the place of each standard stream that the process began without: an open
+// takes the least number that is free. So no file of the store gets the number of a stream. A folder
+// can be neither read nor written as a stream, so what is asked of these fails.
+fn fill_standard_streams(rt: &HostRuntime) -> io::Result<[Option<File>; 3]> {
+    let mut folders = [None, None, None];
+    for place in &mut folders {
+        let folder = File::open(rt, "/")?;
+        if folder.as_raw_fd() > 2 {
+            break;
+        }
+        *place = Some(folder);
+    }
+    Ok(folders)
+}
+
+// Does what the words say over this disk, and answers how `stasis` ended.
+fn perform<D: Disk + Drop, S: Source, K: Sink>(
+    alloc: Global,
+    words: &[String],
+    disk: D,
+    script: &mut S,
+    out: &mut K,
+) -> Status
+    ensures usage { result ≡ Status.Usage ↔ are_run words.now ≡ false }
+    // Some disk was left, and so many calls of it were refused.
+    ensures run { are_run words.now ≡ true → (after : D) × (refused : ℕ) × (
+        NeverRan D.told (refusing (D.view disk) 0) (refusing (D.view after) refused) (S.left script.old) (S.left script.new) (K.taken out.old) (K.taken out.new) result
+        ⊎ Ran (HasRisen (S.faults script.old) (S.faults script.new)) (HasRisen (K.faults out.old) (K.faults out.new)) D.told (refusing (D.view disk) 0) (refusing (D.view after) refused) (S.left script.old) (S.left script.new) (K.taken out.old) (K.taken out.new) result) }
+    ensures done { are_run words.now ≡ true → result ≡ Status.Done → (after : D) × IsDone D.told (D.view disk) (D.view after) (S.left script.old) (K.taken out.old) (K.taken out.new) }
+    ensures read { result ≡ Status.Read → HasRisen (S.faults script.old) (S.faults script.new) }
+    ensures write { result ≡ Status.Write → HasRisen (K.faults out.old) (K.faults out.new) }
+    ensures too_long { result ≡ Status.TooLong → IfSome (S.left script.old) (λ text. MOST_BYTES < length text) }
+    ensures nothing { (area : Area) (at : ℕ) (s : Objects) → result ≡ Status.Damaged area at → IsTrue D.told → StandsFor (reads_of (D.view disk)) s → ⊥ }
+{
+    let Finish {
+        status: ended,
+        disk: _,
+        refused: _,
+    } = stasis(alloc, words, disk, script, out);
+    ended
+}
+
+// Does what the words say over the folder that they name, or over none, from standard input to standard output.
+fn run(rt: &HostRuntime, words: &[String]) -> Status
+    ensures usage { result ≡ Status.Usage ↔ are_run words.now ≡ false }
+{
+    // Held to the end of the run. Where they can't be had the disk has no folder, so each of its calls fails.
+    let streams = fill_standard_streams(rt);
     // Neither end keeps bytes back, so nothing is left to be flushed.
     let mut script = ReadSource::new(rt.stdin());
     let mut out = WriteSink::new(rt.stdout());
-    let Finish {
-        status,
-        disk: _,
-        refused: _,
-    } = stasis(alloc, words, disk, &mut script, &mut out);
-    status
-}
-
-// Does what the words say over the folder that they name, or over none.
-fn perform_over_folder(rt: &HostRuntime, alloc: Global, words: &[String]) -> Status {
     match folder_of(words) {
-        Some(path) => perform(rt, alloc, words, FolderDisk::new(rt, path)),
-        None => perform(rt, alloc, words, FolderDisk::<HostRuntime>::none()),
+        Some(path) if streams.is_ok() => {
+            let disk = FolderDisk::new(rt, path);
+            perform(rt.alloc(), words, disk, &mut script, &mut out)
+        }
+        _ => {
+            let disk = FolderDisk::<HostRuntime>::none();
+            perform(rt.alloc(), words, disk, &mut script, &mut out)
+        }
     }
 }
 
-// The status of the program.
-fn run(rt: &HostRuntime) -> Status {
-    match given_words(rt) {
-        Ok(words) => perform_over_folder(rt, rt.alloc(), words.as_slice()),
-        Err(e) if e.kind() == ErrorKind::OutOfMemory => Status::Memory,
-        Err(_) => Status::Usage,
+// The status where the words couldn't be had.
+fn status_without_words(e: &io::Error) -> Status
+    ensures memory { error_kind e.now ≡ ErrorKind.OutOfMemory → result ≡ Status.Memory }
+    ensures usage { error_kind e.now ≢ ErrorKind.OutOfMemory → result ≡ Status.Usage }
+{
+    match e.kind() {
+        ErrorKind::OutOfMemory => Status::Memory,
+        _ => Status::Usage,
     }
 }
 
-fn main(rt: HostRuntime) -> ExitCode {
-    let status = run(&rt);
+// Says on standard error how the program ended, and answers the number for it.
+fn conclude(rt: &HostRuntime, status: Status) -> ExitCode
+    ensures { exit_status result ≡ number_of status }
+{
     if status != Status::Done {
         let text = Shown(status);
         // Where standard error can't be written, the number alone says it.
         let _ = eprintln!(rt; "stasis: {text}");
     }
     ExitCode::from(exit_number(status))
+}
+
+fn main(rt: HostRuntime) -> ExitCode {
+    let status = match given_words(&rt) {
+        Ok(words) => run(&rt, words.as_slice()),
+        Err(e) => status_without_words(&e),
+    };
+    conclude(&rt, status)
 }
 
 #[cfg(test)]
