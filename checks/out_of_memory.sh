@@ -1,9 +1,10 @@
 #!/usr/bin/env bash
 # Shows what the program does where the allocator refuses, which no test can show: a test has no allocator that does.
 # `rt try` builds the program with an allocator that refuses one request, counted from the start, and runs it over a
-# new folder with the first example. Where that is a request for the words, or one of the opening, the program ends
-# with status 3 and its text, answers no line and makes no folder. Where it is one of a line, this line is answered
-# `error memory`, the later ones as of an array that isn't there, and the status is 0.
+# new folder with the first example. Where that is a request for the words, or one of the opening for its own tables, the
+# program ends with status 3 and its text, answers no line and makes no folder. Where it is one of a line, this line is
+# answered `error memory`, the later ones as of an array that isn't there, and the status is 0. Where it is one for the
+# path of the folder or of a file, a call of the disk has failed: this is a disk fault, status 4, in the opening too.
 #
 # It prints a line for each case, and ends with 0 only where all went as they should. The requests' numbers are
 # the program's own, found by trying each number in turn: where a change of the program moves them, a case fails,
@@ -55,15 +56,17 @@ judge() {
     echo "out of memory, $name (request $request): $verdict"
 }
 
-# The first is a request for the words, the second one of the opening, and the third is that for the array.
-for request in 2 10 18; do
+# The first is a request for the words, the second that for the folder's path, the third one of the opening, and the last
+# one that for the array.
+for request in 2 8 10 14; do
     run_refusing "$request" &
 done
 wait
 
 judge "at the words" 2 3 "stasis: out of memory" "" none
+judge "at the folder's path" 8 4 "stasis: disk fault" "" none
 judge "in the opening" 10 3 "stasis: out of memory" "" none
-judge "in the line that makes the array" 18 0 "" "ok
+judge "in the line that makes the array" 14 0 "" "ok
 error memory
 error no-object
 error no-object
