@@ -1,59 +1,77 @@
 #!/usr/bin/env bash
 # Runs lines through the program over a folder of the moment, and prints how many it does in a second
-# and the greatest memory that it used. The words: how many lines (100,000 where none is given), and
-# how many of them a transaction has (100).
-set -u
+# and the greatest memory that it used, which is the system's own account of it. The words: how many lines
+# (100,000 where none is given; 3 are the least that are made), and how many of them a transaction has
+# (100; 3 is the least).
+set -eu
 top="$(cd "$(dirname "$(readlink -f "${BASH_SOURCE[0]}")")/.." && pwd)"
 lines="${1:-100000}"
 each="${2:-100}"
+for number in "$lines" "$each"; do
+    if ! [[ "$number" =~ ^[0-9]{1,7}$ ]]; then
+        echo "lines.sh: $number is no number from 0 to 9999999" >&2
+        exit 2
+    fi
+done
 folder="$(mktemp -d)"
 trap 'rm -rf "$folder"' EXIT
 
-# A transaction each `each` lines: begin, then a push, a get, a set and a get by turns, then commit.
-awk -v lines="$lines" -v each="$each" 'BEGIN {
-    print "t begin"; print "t make array a 8"; done = 2; items = 0; turn = 0
-    while (done < lines - 1) {
-        place = done % each
-        if (place == each - 1) { print "t commit" }
-        else if (place == 0) { print "t begin" }
-        else if (items == 0 || turn % 4 == 0) { printf "t push a %08d\n", items; items++; turn++ }
-        else if (turn % 4 == 2) { printf "t set a %d %08d\n", (turn * 7919) % items, turn; turn++ }
-        else { printf "t get a %d\n", (turn * 104729) % items; turn++ }
-        done++
-    }
-    print "t commit"
-}' >"$folder/script"
-
 # Builds the program where it must, outside of what is measured.
-"$top/stasis" >/dev/null 2>&1 </dev/null
+"$top/stasis" </dev/null >/dev/null 2>"$folder/said" || [ -x "$top/crates/sg_main/out/sg_main" ] || {
+    cat "$folder/said" >&2
+    exit 1
+}
 
-python3 - "$top/crates/sg_main/out/sg_main" "$folder" <<'PYTHON'
+python3 - "$top/crates/sg_main/out/sg_main" "$folder" "$lines" "$each" <<'PYTHON'
 import subprocess, sys, time
 
 
-def most_memory(process, least):
-    """The greatest memory that the process has used so far, in KiB, or `least` once it has ended."""
+def script_of(lines, each):
+    """So many lines: transactions of begin, then a push, a get, a set and a get by turns, then commit."""
+    script, items, turn = ["t begin", "t make array a 8"], 0, 0
+    place = len(script)
+    while len(script) < lines - 1:
+        if place == 0:
+            script.append("t begin")
+        elif place == each - 1:
+            script.append("t commit")
+        elif items == 0 or turn % 4 == 0:
+            script.append(f"t push a {items:08d}")
+            items, turn = items + 1, turn + 1
+        elif turn % 4 == 2:
+            script.append(f"t set a {turn * 7919 % items} {turn:08d}")
+            turn += 1
+        else:
+            script.append(f"t get a {turn * 104729 % items}")
+            turn += 1
+        place = (place + 1) % each
+    return script + ["t commit"] * (place > 0)
+
+
+def most_memory(process):
+    """The greatest memory that the process has used so far, in KiB."""
     with open(f"/proc/{process.pid}/status") as status:
-        for line in status:
-            if line.startswith("VmHWM:"):
-                return max(least, int(line.split()[1]))
-    return least
+        return next(int(line.split()[1]) for line in status if line.startswith("VmHWM:"))
 
 
-program, folder = sys.argv[1:]
-with open(folder + "/script", "rb") as script:
-    count = sum(1 for _ in script)
-memory = 0
-with open(folder + "/script", "rb") as script, open(folder + "/replies", "wb") as replies:
+program, folder, lines, each = sys.argv[1], sys.argv[2], int(sys.argv[3]), int(sys.argv[4])
+script = script_of(lines, max(each, 3))
+with open(f"{folder}/replies", "wb") as replies, open(f"{folder}/replies", "rb") as answered:
     start = time.monotonic()
-    process = subprocess.Popen([program, "run", folder + "/store"], stdin=script, stdout=replies)
-    while process.poll() is None:
-        memory = most_memory(process, memory)
-        time.sleep(0.002)
+    process = subprocess.Popen([program, "run", f"{folder}/store"], stdin=subprocess.PIPE, stdout=replies)
+    process.stdin.write("".join(line + "\n" for line in script).encode())
+    process.stdin.flush()
+    # The program waits for the script's end once it has answered each line. Its account is read then.
+    given = []
+    while len(given) < len(script) and process.poll() is None:
+        time.sleep(0.001)
+        given += answered.readlines()
     seconds = time.monotonic() - start
-with open(folder + "/replies", "rb") as replies:
-    errors = sum(1 for line in replies if line.startswith(b"error"))
-print(f"status {process.returncode}, {count} lines, {errors} answered with an error")
-print(f"{seconds:.3f} seconds, {count / seconds:.0f} lines a second")
+    memory = most_memory(process) if process.poll() is None else 0
+    process.stdin.close()
+    process.wait()
+errors = sum(1 for line in given if line.startswith(b"error"))
+print(f"status {process.returncode}, {len(script)} lines, {errors} answered with an error")
+print(f"{seconds:.3f} seconds, {len(script) / seconds:.0f} lines a second")
 print(f"{memory} KiB at most")
 PYTHON
