@@ -15,15 +15,6 @@ use Rattle.sg_gate.proofs.Over.{numbers_agree_at, numbers_at_length, laid_open, 
 use Rattle.sg_gate.proofs.Texts.{number_listed}
 use Rattle.sg_gate.proofs.Headers.{whole_same}
 
--- one read
-pub only_read : {T E : Type 0} {told : Bool} {v w : View} {r : Result T E} → Counts 0 v w r → (IsTrue told → ReadBytes v w r) → (IsTrue told → w.now ≡ v.now) → OnlyReads told v w
-only_read {v = v} counts does unchanged = record {
-  unchanged = unchanged;
-  any_moment = λ sure. goes_on (started v (Leaves v.now) (λ c leaves. leaves)) (does sure) (λ c leaves. leaves);
-  handed = let most = counts.handed_most in let least = counts.handed_least in omega arith;
-  later = counts.later;
-}
-
 -- at rest, an image is seen as the store is
 rest_whole : (s : State) (pages : ℕ) (c : Image) → IsSettled (s Home) → ((s Home).seen HEADER ≡ 1 → IsBatch pages (numbers_of (s Home).seen)) → Leaves s c → IsWhole s pages (laid (s Home).seen) c
 rest_whole s pages c settled header leaves =

@@ -1,9 +1,14 @@
 pub mod Copies
 pub mod Copying
 pub mod Costs
+pub mod Fields
+pub mod Fronts
 pub mod Headers
 pub mod Laid
 pub mod Over
 pub mod Placing
+pub mod Reading
+pub mod Renewing
+pub mod Slots
 pub mod Texts
 pub mod Windows

@@ -1,10 +1,11 @@
 -- When a call of a gate answers which fault.
-use Rattle.std.specs.Prelude.{◌≡◌, ◌+◌, Bool, IsTrue, ℕ}
+use Rattle.std.specs.Prelude.{◌≡◌, ◌≢◌, ◌+◌, Bool, IsTrue, ℕ, Err}
 use Rattle.sg_base.specs.Ends.{HasRisen}
 use Rattle.sg_base.specs.declared.area.Area.TheVariants.{Home}
 use Rattle.sg_disk.specs.Disk.{View}
 use Rattle.sg_gate.specs.Layout.{HEADER}
 use Rattle.sg_gate.specs.Batch.{IsWrongAt}
+use Rattle.sg_gate.specs.Superblock.{superblock}
 use Rattle.sg_gate.specs.declared.fault.GateFault.{GateFault}
 use Rattle.sg_gate.specs.declared.fault.GateFault.TheVariants.{Disk, NotAStore, Damaged}
 
@@ -19,3 +20,10 @@ abbrev pub LayFails : Bool → ℕ → View → View → GateFault → Type 0
 LayFails told pages old new Disk = HasRisen old.faults new.faults
 LayFails told pages old new NotAStore = ⊥
 LayFails told pages old new (Damaged at) = IsTrue told → ((old.now Home).seen HEADER ≡ 1) × IsWrongAt pages (old.now Home).seen (HEADER + 1) at
+
+-- a read of the superblock fails only where the disk does, where both gates are closed, or where the slot that counts has this
+-- field as the first that is out of its range
+abbrev pub ReadFails : Bool → View → View → GateFault → Type 0
+ReadFails told old new Disk = HasRisen old.faults new.faults
+ReadFails told old new NotAStore = IsTrue told → ((old.now Home).seen 0 ≢ 1) × ((old.now Home).seen 4096 ≢ 1)
+ReadFails told old new (Damaged at) = IsTrue told → superblock (old.now Home).seen ≡ Err (Damaged at)

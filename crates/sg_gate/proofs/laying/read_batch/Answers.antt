@@ -3,7 +3,8 @@ use Rattle.sg_base.specs.declared.area.Area.TheVariants.{Home}
 use Rattle.sg_disk.specs.Memory.{bytes_of}
 use Rattle.sg_gate.specs.Layout.{HEADER}
 use Rattle.sg_gate.proofs.Windows.{behind_first, first_of}
-use Rattle.sg_gate.proofs.Laid.{only_read, numbers_there, wrong_there}
+use Rattle.sg_gate.proofs.Reading.{only_read}
+use Rattle.sg_gate.proofs.Laid.{numbers_there, wrong_there}
 use Rattle.sg_gate.proofs.laying.read_batch.Goals as goal
 
 pub returns-in_err-read_at-clause-reads : goal.returns-in_err-read_at-clause-reads

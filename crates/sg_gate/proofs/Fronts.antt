@@ -1,0 +1,43 @@
+-- The gates and texts of slots that were read.
+use Rattle.std.proofs.Common.{◌≡◌, ◌↔◌, ◌<◌, ◌≤◌, ◌+◌, ◌==◌, ℕ, Bool, true, false, IsTrue, if◌then◌else◌, Option, Some, None, Result, IfErr, List, length, take, drop, get_or, ◌-◌, min, sym, ◌∙◌, ap, subst, arith}
+use Rattle.std.proofs.lemmas.Bool.Decides.{nat_tests}
+use Rattle.std.proofs.Math.Seq.{take-length}
+use Rattle.sg_base.specs.declared.area.Area.TheVariants.{Home}
+use Rattle.sg_disk.specs.Disk.{Bytes, View, window}
+use Rattle.sg_gate.specs.Faults.{ReadFails}
+use Rattle.sg_gate.specs.Superblock.{start_of, text_at, counting, read_with, read_text, superblock, wrong_in}
+use Rattle.sg_gate.specs.declared.fault.GateFault.{GateFault}
+use Rattle.sg_gate.specs.declared.slot.Slot.{Slot}
+use Rattle.sg_gate.specs.declared.superblock.Super.{Super}
+use Rattle.sg_gate.proofs.Windows.{first_of, window_size}
+use Rattle.sg_gate.proofs.Fields.{slot_text}
+use Rattle.sg_gate.proofs.Slots.{superblock_is}
+
+pub gate_same : (f : Bytes) (at n : ℕ) (read : List ℕ) → read ≡ window f at n → n ≡ 44 → (get_or read 0 0 == 1) ≡ (f at == 1)
+gate_same f at n read is size = ap (λ (x : ℕ). x == 1) (first_of f at n read is (omega arith))
+
+is_one : (x : ℕ) → IsTrue (x == 1) ↔ (x ≡ 1)
+is_one x = (λ yes. grind (arith, nat_tests), λ is. grind (arith, nat_tests))
+
+pub gate_open : (f : Bytes) (at n : ℕ) (read : List ℕ) → read ≡ window f at n → n ≡ 44 → IsTrue (get_or read 0 0 == 1) ↔ (f at ≡ 1)
+gate_open f at n read is size = subst (λ (b : Bool). IsTrue b ↔ (f at ≡ 1)) (sym (gate_same f at n read is size)) (is_one (f at))
+
+-- What a reader answers of the slot that counts.
+text_long : (f : Bytes) (at : ℕ) → length (text_at f at) ≡ 43
+unfolding text_at
+text_long f at = window_size f (at + 1) 43
+
+pub read_there : (f : Bytes) (slot : Slot) (at n m : ℕ) (read : List ℕ) → counting f ≡ Some slot → start_of slot ≡ at → read ≡ window f at n → n ≡ 44 → m ≡ 43 → superblock f ≡ read_text (start_of slot) (take m (drop 1 read))
+read_there f slot at n m read counts start is size part =
+    let text = text_at f at in
+    let long : m ≡ length text = part ∙ sym (text_long f at) in
+    let whole : take m (drop 1 read) ≡ text = ap (take m) (slot_text f at n read is size) ∙ ap (λ (k : ℕ). take k text) long ∙ take-length text in
+    superblock_is f slot counts ∙ ap (read_text (start_of slot)) (ap (text_at f) start ∙ sym whole)
+
+faults_with : (told : Bool) (old new : View) (at : ℕ) (text : List ℕ) (o : Option ℕ) (r : Result Super GateFault) → r ≡ read_with at text o → (IsTrue told → r ≡ superblock (old.now Home).seen) → IfErr r (λ e. ReadFails told old new e)
+faults_with told old new at text None r is found = subst (λ (q : Result Super GateFault). IfErr q (λ e. ReadFails told old new e)) (sym is) tt
+faults_with told old new at text (Some wrong) r is found = subst (λ (q : Result Super GateFault). IfErr q (λ e. ReadFails told old new e)) (sym is) (λ sure. sym (found sure) ∙ is)
+
+-- when it answers which fault
+pub text_faults : (told : Bool) (old new : View) (at : ℕ) (text : List ℕ) (r : Result Super GateFault) → r ≡ read_text at text → (IsTrue told → r ≡ superblock (old.now Home).seen) → IfErr r (λ e. ReadFails told old new e)
+text_faults told old new at text r is found = faults_with told old new at text (wrong_in text) r is found
