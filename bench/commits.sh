@@ -1,7 +1,8 @@
 #!/usr/bin/env bash
 # Times commits against what two syncs of a small file take: the floor, which no commit of two syncs can pass. A commit
 # pushes one item of 128 bytes; the floor does the same calls on a file beside it, which are a write behind the file's end,
-# a sync of the data, a write of one byte, and a sync of the data. Both are done in turn, for some rounds, over folders
+# a sync of the data, a write of one byte, and a sync of the data, and for the first one those that make the folder and
+# the file and sync their names. Both are done in turn, for some rounds, over folders
 # of the moment. It prints the commits in a second of both, as the median and as the best of the rounds, and
 # their ratios.
 #
@@ -38,22 +39,30 @@ with open(f"{folder}/script", "w") as script:
         script.write(f"t push a {number:0128d}\nt commit\n")
 
 
-def time_commits(store):
-    """The seconds that a run of the script takes over a new store, and the bytes of its log."""
-    with open(f"{folder}/script", "rb") as script, open(f"{folder}/replies", "wb") as replies:
+def time_commits(store, to="/dev/null"):
+    """The seconds that a run of the script takes over a new store."""
+    with open(f"{folder}/script", "rb") as script, open(to, "wb") as replies:
         start = time.monotonic()
         subprocess.run([program, "run", store], stdin=script, stdout=replies, check=True)
-        seconds = time.monotonic() - start
-    with open(f"{folder}/replies") as replies:
-        assert all(line.startswith("ok") for line in replies)
-    return seconds, os.path.getsize(f"{store}/log0")
+        return time.monotonic() - start
+
+
+def sync_folder(path):
+    """Makes durable what names the folder contains."""
+    opened = os.open(path, os.O_RDONLY)
+    os.fsync(opened)
+    os.close(opened)
 
 
 def time_syncs(path, size):
-    """The seconds that as many times two writes and two syncs of a file take, of which the first writes so many bytes."""
+    """The seconds that as many times two writes and two syncs of a file in a new folder take, of which the first writes so
+    many bytes."""
     body, gate = bytes(size), b"\1"
-    file = os.open(path, os.O_RDWR | os.O_CREAT | os.O_EXCL, 0o666)
     start = time.monotonic()
+    os.mkdir(path)
+    sync_folder(folder)
+    file = os.open(f"{path}/file", os.O_RDWR | os.O_CREAT | os.O_EXCL, 0o666)
+    sync_folder(path)
     for number in range(commits):
         os.pwrite(file, body, number * size + 1)
         os.fdatasync(file)
@@ -64,14 +73,18 @@ def time_syncs(path, size):
     return seconds
 
 
-# The first run warms the folder up, and tells how many bytes a commit writes.
-size = time_commits(f"{folder}/first")[1] // commits
+# The first run warms the folder up, and tells how many bytes a commit writes. Its replies are looked at; those of the
+# others go nowhere, as the floor has none.
+time_commits(f"{folder}/first", f"{folder}/replies")
+with open(f"{folder}/replies") as replies:
+    assert all(line.startswith("ok") for line in replies)
+size = os.path.getsize(f"{folder}/first/log0") // commits
 done, floor = [], []
 for number in range(rounds):
     # By turns the floor is done second and first.
     if number % 2 == 1:
         floor.append(commits / time_syncs(f"{folder}/floor{number}", size))
-    done.append(commits / time_commits(f"{folder}/store{number}")[0])
+    done.append(commits / time_commits(f"{folder}/store{number}"))
     if number % 2 == 0:
         floor.append(commits / time_syncs(f"{folder}/floor{number}", size))
 print(f"{commits} commits of about {size} bytes of log each, {rounds} rounds")
