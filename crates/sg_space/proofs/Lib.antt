@@ -3,3 +3,4 @@ pub mod Firsts
 pub mod Fresh
 pub mod Rendered
 pub mod Owners
+pub mod Placed

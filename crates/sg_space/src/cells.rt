@@ -1,11 +1,13 @@
 // What the structures read of a page.
-ghost use Rattle.std.specs.Prelude.{◌≡◌, ◌≢◌, length, Some, OnOk, IsTrue, IsFalse};
+ghost use Rattle.std.specs.Prelude.{◌≡◌, ◌≢◌, ◌≤◌, length, Some, IfOk, OnOk, IsTrue, IsFalse};
 ghost use Rattle.sg_base.specs.Page.{slots_of, cell_in};
-ghost use Rattle.sg_space.specs.Reads.{CanRead, Reads};
+ghost use Rattle.sg_space.specs.Pages.{CanTake};
+ghost use Rattle.sg_space.specs.Reads.{CanRead, Reads, TookWith};
 ghost use Rattle.sg_space.specs.View.{Counts, OnlyReads};
 
 use crate::{PageSpace, SpaceFault};
-use sg_base::{PageNo, SlotView};
+use sg_base::{PageNo, PageOp, SlotView};
+use sg_ops::Ops;
 
 // Copies the cell of a slot, if there is one and it is as long as the buffer.
 fn copy_cell(view: &SlotView<'_>, slot: u16, into: &mut [u8]) -> bool
@@ -44,4 +46,25 @@ pub fn read_cell<P: PageSpace>(
         return Err(space.broken());
     }
     Ok(())
+}
+
+/// Takes a page of this kind, with links 0, and puts a cell of at most 4,068 bytes into its slot 0.
+pub fn take_page_with<P: PageSpace>(
+    space: &mut P,
+    ops: &Ops,
+    kind: u8,
+    cell: &[u8],
+) -> Result<PageNo, SpaceFault>
+    requires free { CanTake (P.view space.old) (P.view space.old).space.pages }
+    requires fits { length cell.now ≤ 4068 }
+    ensures counts { Counts (P.view space.old) (P.view space.new) result }
+    ensures did { IfOk result (λ p. TookWith (P.view space.old) (P.view space.new) kind cell.now p.0) }
+{
+    let p = space.take_page(kind)?;
+    let op = PageOp::Put {
+        slot: 0,
+        bytes: cell,
+    };
+    space.change(ops, p, &op)?;
+    Ok(p)
 }

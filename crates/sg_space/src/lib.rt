@@ -13,7 +13,7 @@ mod note;
 mod space;
 mod stock;
 
-pub use cells::read_cell;
+pub use cells::{read_cell, take_page_with};
 pub use memory::MemSpace;
 pub use note::UndoNote;
 pub use space::{PageSpace, SpaceFault};

@@ -91,8 +91,8 @@ impl PageSpace for MemSpace {
     }
 
     fn change(&mut self, ops: &Ops, p: PageNo, op: &PageOp<'_>) -> Result<(), SpaceFault> {
-        let page = &mut self.pages[p.0 as usize];
-        page.change(ops, op);
+        let changed = &mut self.pages[p.0 as usize];
+        changed.change(ops, op);
         Ok(())
     }
 

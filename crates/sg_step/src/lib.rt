@@ -10,3 +10,6 @@ mod take_off;
 
 pub use page::apply;
 pub use take_off::{brings_bytes, do_and_take_off};
+
+#[cfg(test)]
+mod tests;
