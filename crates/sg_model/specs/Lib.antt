@@ -12,3 +12,4 @@ pub mod Keys
 pub mod Padded
 pub mod Resources
 pub mod TouchList
+pub mod SaidOps

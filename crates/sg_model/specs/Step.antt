@@ -1,14 +1,15 @@
 -- What each verb answers, and the objects after it.
-use Rattle.std.specs.Prelude.{ℕ, zero, suc, ◌+◌, ◌-◌, Bool, true, false, ◌==◌, ◌&&◌, ◌||◌, nat_lt, nat_le, not, if◌then◌else◌, List, [], ◌∷◌, ◌++◌, length, take, drop, replicate, Option, Some, None, Ok, Err, slice_get, slice_set}
+use Rattle.std.specs.Prelude.{◌≡◌, IsOk, ℕ, zero, suc, ◌+◌, ◌-◌, Bool, true, false, ◌==◌, ◌&&◌, ◌||◌, nat_lt, nat_le, not, if◌then◌else◌, List, [], ◌∷◌, ◌++◌, length, take, drop, replicate, Option, Some, None, Ok, Err, slice_get, slice_set}
 use Rattle.std.specs.FinMap.{get, insert, remove, empty, keys}
 use Rattle.sg_ops.specs.Meaning.{RecordMeaning, RangeMeaning}
-use Rattle.sg_ops.specs.Table.{Table as Operations, record_at, range_at}
+use Rattle.sg_ops.specs.Table.{Table as Operations, record_at, range_at, rendered}
 use Rattle.sg_model.specs.Objects.{Row, Entries, Object, Objects}
 use Rattle.sg_model.specs.Verb.{Verb, Op, Outcome, Reply}
 use Rattle.sg_model.specs.Objects.Object.{Array, Table, Blob}
 use Rattle.sg_model.specs.Verb.Verb.{MakeArray, MakeTable, MakeBlob, Discard, Push, Pop, Set, Get, Len, Apply, Put, Del, Find, Keys, Write, Read, Size, Paint}
 use Rattle.sg_model.specs.Verb.Op.{On, Names}
 use Rattle.sg_model.specs.Verb.Reply.{Done, New, Replaced, Absent, Number, Bytes, Several}
+use Rattle.sg_model.specs.declared.reason.Reason.{Reason}
 use Rattle.sg_model.specs.declared.reason.Reason.TheVariants.{NoObject, WrongKind, Exists, OutOfRange, NoOperation, Declined, TooLong, TooMany}
 
 -- the record operation that a code names. A code has 16 bits
@@ -53,6 +54,9 @@ at_found index decide row (Some item) = let r = decide row.size item in (r.0, pu
 
 abbrev pub at_item : ℕ → Decision → Row → Outcome × Row
 at_item index decide row = at_found index decide row (slice_get row.items index)
+
+abbrev pub got : Decision
+got size item = (Ok (Bytes item), None)
 
 abbrev pub set_to : List ℕ → Decision
 set_to value size item = if length value == size then (Ok Done, Some value) else (Err Declined, None)
@@ -102,11 +106,6 @@ found (Some value) = (Ok (Bytes value), Stays)
 
 -- Blobs
 
--- the bytes that an operation gives from a position on
-abbrev pub rendered : RangeMeaning → List ℕ → ℕ → ℕ → List ℕ
-rendered m arg at zero = []
-rendered m arg at (suc count) = m.byte arg at ∷ rendered m arg (suc at) count
-
 -- bytes in place of those from a position on
 abbrev pub overlaid : List ℕ → ℕ → List ℕ → List ℕ
 overlaid blob at bytes = take at blob ++ (bytes ++ drop (at + length bytes) blob)
@@ -121,12 +120,16 @@ read at count blob =
     if nat_lt 8192 count then Err TooLong
     else (if nat_lt (length blob) (at + count) then Err OutOfRange else Ok (Bytes (take count (drop at blob))))
 
+-- bytes cut or filled up with zeros to a length
+abbrev pub resized : ℕ → List ℕ → List ℕ
+resized n blob = take n blob ++ replicate (n - length blob) 0
+
 abbrev pub resize : ℕ → List ℕ → Outcome × List ℕ
-resize n blob = if nat_lt 16384000 n then (Err TooLong, blob) else (Ok Done, take n blob ++ replicate (n - length blob) 0)
+resize n blob = if nat_lt 16384000 n then (Err TooLong, blob) else (Ok Done, resized n blob)
 
 abbrev pub paint_by : ℕ → ℕ → List ℕ → List ℕ → Option RangeMeaning → Outcome × List ℕ
 paint_by at count arg blob None = (Err NoOperation, blob)
-paint_by at count arg blob (Some m) = (Ok Done, overlaid blob at (rendered m arg at count))
+paint_by at count arg blob (Some m) = (Ok Done, overlaid blob at (rendered (Some m) arg at count))
 
 abbrev pub paint : Operations → ℕ → ℕ → ℕ → List ℕ → List ℕ → Outcome × List ℕ
 paint t at count code arg blob =
@@ -183,7 +186,7 @@ on t Discard = discard
 on t (Push value) = on_array (push value)
 on t Pop = on_array pop
 on t (Set index value) = on_array (at_item index (set_to value))
-on t (Get index) = on_array (at_item index (λ size item. (Ok (Bytes item), None)))
+on t (Get index) = on_array (at_item index got)
 on t Len = λ object. (len object, object)
 on t (Apply index code arg) = on_array (apply t index code arg)
 on t (Put key value) = on_table (at_key key (put_value value))
@@ -219,3 +222,33 @@ is_changing_verb other = true
 abbrev pub is_changing : Op → Bool
 is_changing (On name verb) = is_changing_verb verb
 is_changing Names = false
+
+-- verbs on an object that is there, which make and drop none
+abbrev pub IsInPlace : Verb → Type 0
+IsInPlace (MakeArray size) = ⊥
+IsInPlace MakeTable = ⊥
+IsInPlace MakeBlob = ⊥
+IsInPlace Discard = ⊥
+IsInPlace other = Unit {0}
+
+-- the verbs that take memory for what they leave
+abbrev pub GrowsBy : Verb → Type 0
+GrowsBy (MakeArray size) = Unit {0}
+GrowsBy MakeTable = Unit {0}
+GrowsBy MakeBlob = Unit {0}
+GrowsBy (Push value) = Unit {0}
+GrowsBy (Put key value) = Unit {0}
+GrowsBy (Write at bytes) = Unit {0}
+GrowsBy (Size length) = Unit {0}
+GrowsBy other = ⊥
+
+-- the reason of a refusal, where there is one, and a reply where there is none
+abbrev pub Refuses : Outcome → Option Reason → Type 0
+Refuses outcome None = IsOk outcome
+Refuses outcome (Some reason) = outcome ≡ Err reason
+
+-- the operations that take memory for what they leave or answer
+abbrev pub Grows : Op → Type 0
+Grows (On name Keys) = Unit {0}
+Grows (On name verb) = GrowsBy verb
+Grows Names = Unit {0}

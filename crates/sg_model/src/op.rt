@@ -116,6 +116,32 @@ pub enum Reply {
 impl Op<'_> {
     ghost use Rattle.sg_model.specs.Objects.{is_changing};
     ghost use Rattle.sg_model.specs.Shown.{shown_op};
+    ghost use Rattle.sg_model.specs.SaidOps.{name_of};
+
+    /// The name of the object that the operation is done to.
+    pub fn name(&self) -> Name
+        ensures { result ≡ name_of self.now }
+    {
+        match *self {
+            Op::MakeArray { name, .. } => name,
+            Op::MakeTable { name } => name,
+            Op::MakeBlob { name } => name,
+            Op::Discard { name } => name,
+            Op::Push { name, .. } => name,
+            Op::Pop { name } => name,
+            Op::Set { name, .. } => name,
+            Op::Get { name, .. } => name,
+            Op::Len { name } => name,
+            Op::Apply { name, .. } => name,
+            Op::Put { name, .. } => name,
+            Op::Del { name, .. } => name,
+            Op::Find { name, .. } => name,
+            Op::Write { name, .. } => name,
+            Op::Read { name, .. } => name,
+            Op::Size { name, .. } => name,
+            Op::Paint { name, .. } => name,
+        }
+    }
 
     /// Whether the operation can change the objects: all can but get, len, find and read.
     pub fn is_changing(&self) -> bool

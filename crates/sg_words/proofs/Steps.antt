@@ -1,14 +1,10 @@
 -- Lines follow one another.
-use Rattle.std.proofs.Common.{◌≡◌, ℕ, ◌+◌, ◌≤◌, ◌==◌, Bool, true, false, cond, List, [], ◌∷◌, ◌++◌, length, map, take, Option, Some, None, Bor, IfNone, IfSome, refl, sym, ap, ◌∙◌, subst, append_assoc, append-nil, arith, length-append}
+use Rattle.std.proofs.Common.{◌≡◌, ℕ, ◌+◌, ◌≤◌, List, [], ◌∷◌, ◌++◌, length, map, take, Option, Some, None, Bor, IfNone, IfSome, refl, sym, ap, ◌∙◌, subst, append_assoc, append-nil, arith, length-append}
 use Rattle.std.proofs.Math.Seq.{take-append-add}
 use Rattle.sg_base.specs.Ends.{Takes, TakesFront}
 use Rattle.sg_model.specs.Objects.{Objects, Op, step}
-use Rattle.sg_model.specs.Objects.Reply.{Done}
-use Rattle.sg_model.specs.History.{Entry, Live, State, after_all, live_objects}
-use Rattle.sg_words.specs.Order.{Order}
-use Rattle.sg_words.specs.Order.Order.{Blank, Syntax, Txn}
-use Rattle.sg_words.specs.Order.Verb.{Begin, Commit, Do}
-use Rattle.sg_words.specs.Parse.{order_of, lines_of}
+use Rattle.sg_model.specs.History.{Entry, State, after_all, live_objects}
+use Rattle.sg_words.specs.Parse.{lines_of}
 use Rattle.sg_words.specs.Pieces.{behind}
 use Rattle.sg_words.specs.Text.{Answer, text_of, text_of_all}
 use Rattle.sg_words.specs.Text.Answer.{Silent, BadSyntax, NoTransaction, IsLive, TooManyLive, Memory, Stopped, LogEnd, Disk, Said, Refused}

@@ -1,10 +1,10 @@
 -- The run of a script: what each line may be answered, and what has happened after it.
-use Rattle.std.specs.Prelude.{◌≡◌, ℕ, ◌+◌, ◌≤◌, Bool, true, false, IsTrue, not, ◌==◌, if◌then◌else◌, List, [], ◌∷◌, ◌++◌, length, filter, find, Option, Some, None, Result, Ok, Err}
+use Rattle.std.specs.Prelude.{◌≡◌, ℕ, ◌+◌, ◌≤◌, true, IsTrue, not, ◌==◌, if◌then◌else◌, List, [], ◌∷◌, ◌++◌, length, filter, find, Option, Some, None, Result, Ok, Err}
 use Rattle.std.specs.Str.{bytes_eq}
 use Rattle.sg_model.specs.declared.reason.Reason.{Reason}
 use Rattle.sg_model.specs.Objects.{Op, Reply, Grows, is_changing, step}
 use Rattle.sg_model.specs.Objects.Reply.{Done}
-use Rattle.sg_model.specs.History.{Entry, Live, State, ops_of, live_objects}
+use Rattle.sg_model.specs.History.{Live, State, ops_of, live_objects}
 use Rattle.sg_words.specs.Order.{Order, Verb}
 use Rattle.sg_words.specs.Order.Order.{Blank, Syntax, Txn}
 use Rattle.sg_words.specs.Order.Verb.{Begin, Commit, Do}

@@ -33,7 +33,7 @@ pub enum Line<'a> {
 }
 
 /// The longest line in bytes, without its LF.
-const MOST_LINE_BYTES: usize = 32768;
+pub const MOST_LINE_BYTES: usize = 32768;
 
 fn begin(rest: &[u8]) -> Option<Verb<'_>>
     ensures built { IfBuilt (shown_option result) }
@@ -152,8 +152,8 @@ fn is_reserved(word: &[u8]) -> bool
         || word == b"truncate".as_slice()
 }
 
-// The name of a transaction.
-fn transaction(word: &[u8]) -> Option<Name>
+/// The name of a transaction.
+pub fn transaction(word: &[u8]) -> Option<Name>
     ensures { result ≡ (if is_transaction word.now then Some word.now else None) }
 {
     let name = Name::new(word)?;

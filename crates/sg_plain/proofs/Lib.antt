@@ -1,0 +1,6 @@
+pub mod Found
+pub mod Rows
+pub mod Arrays
+pub mod Steps
+pub mod Blobs
+pub mod Sorted

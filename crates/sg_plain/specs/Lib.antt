@@ -1,0 +1,4 @@
+pub mod Shown
+pub mod Arrays
+pub mod Tables
+pub mod Replies

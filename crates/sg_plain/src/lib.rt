@@ -1,0 +1,25 @@
+//! Objects under names in memory, and what every verb does to them: arrays of items of one size,
+//! tables of values under keys, and blobs of bytes.
+//!
+//! It stands on `sg_base`, `sg_ops` and `sg_model`. It promises that `Objects::apply` answers and
+//! changes exactly as the definition of a step says, with the operations that are handed to it, that
+//! a refused operation changes nothing, and that memory runs out only where an operation that takes
+//! memory for what it leaves would have been done.
+#![tactic(auto)]
+
+mod array;
+mod blob;
+mod front;
+mod object;
+mod objects;
+mod reach;
+mod table;
+
+pub use array::Array;
+pub use blob::Blob;
+pub use object::Object;
+pub use objects::Objects;
+pub use table::Table;
+
+#[cfg(test)]
+mod tests;

@@ -1,0 +1,95 @@
+ghost use Rattle.std.specs.Prelude.{◌≡◌, ◌≤◌, length, IfOk, OnErr, IsOk, Ok, Some, ◌++◌, map};
+ghost use Rattle.sg_ops.specs.Table.{Table as Operations, table_of};
+ghost use Rattle.sg_model.specs.Verb.Verb.{Keys};
+ghost use Rattle.sg_plain.specs.Replies.{shown_reply, shown_keys};
+ghost use Rattle.sg_plain.specs.Shown.{shown};
+ghost use Rattle.sg_model.specs.SaidOps.{verb_of, name_of};
+ghost use Rattle.sg_model.specs.TouchList.{shown_touches};
+ghost use Rattle.sg_model.specs.Touches.{further, touch_of};
+ghost use Rattle.sg_model.specs.Step.{on, IsInPlace, GrowsBy, Refuses};
+
+use crate::array::Array;
+use crate::blob::Blob;
+use crate::table::Table;
+use sg_base::OutOfMemory;
+use sg_model::{Key, Op, Reason, Reply, Touches};
+use sg_ops::Ops;
+use std::alloc::Global;
+
+/// An object.
+#[derive(Drop)]
+pub enum Object {
+    /// Items of one size.
+    Array(Array),
+    /// Values under keys.
+    Table(Table),
+    /// Bytes.
+    Blob(Blob),
+}
+
+impl Object {
+    /// Why an operation that makes and drops no object would be refused.
+    #[tactic(auto, using(crate::proofs::Steps::table_refuses))]
+    pub fn refusal(&self, ops: &Ops, op: &Op<'_>) -> Option<Reason>
+        requires { IsInPlace (verb_of op.now) }
+        ensures { Refuses (on (table_of record_meaning range_meaning ops.now) (verb_of op.now) (Some (shown self.now))).0 result }
+    {
+        match self {
+            Object::Array(array) => array.refusal(ops, op),
+            Object::Table(table) => table.refusal(op),
+            Object::Blob(blob) => blob.refusal(ops, op),
+        }
+    }
+
+    /// Adds what an operation that makes and drops no object touches of the object beside whether
+    /// and what it is.
+    pub fn reach(&self, op: &Op<'_>, into: &mut Touches)
+        requires in_place { IsInPlace (verb_of op.now) }
+        requires room { length (shown_touches into.old) ≤ 1 }
+        ensures { shown_touches into.new ≡ shown_touches into.old ++ map (touch_of (name_of op.now)) (further (verb_of op.now) (Some (shown self.now))) }
+    {
+        match self {
+            Object::Array(array) => array.reach(op, into),
+            Object::Table(table) => table.reach(op, into),
+            Object::Blob(blob) => blob.reach(op, into),
+        }
+    }
+
+    /// The keys of a table, by their bytes.
+    pub fn keys(&self, alloc: Global) -> Result<Result<Vec<Key>, Reason>, OutOfMemory>
+        ensures { IfOk result (λ r. (t : Operations) → on t Keys (Some (shown self.now)) ≡ (shown_keys r, Some (shown self.now))) }
+    {
+        match self {
+            Object::Table(table) => match table.keys(alloc) {
+                Ok(keys) => Ok(Ok(keys)),
+                Err(fault) => Err(fault),
+            },
+            _ => Ok(Err(Reason::WrongKind)),
+        }
+    }
+
+    /// Does an operation that isn't refused, and that makes and drops no object. After
+    /// `OutOfMemory`, which comes only for an operation that takes memory for what it leaves, the
+    /// object is unchanged.
+    #[tactic(auto, using(crate::proofs::Steps::table_accepts, crate::proofs::Steps::table_does))]
+    pub fn apply(
+        &mut self,
+        alloc: Global,
+        ops: &Ops,
+        op: &Op<'_>,
+        into: &mut [u8],
+    ) -> Result<Reply, OutOfMemory>
+        requires room { 8192 ≤ length into.old }
+        requires in_place { IsInPlace (verb_of op.now) }
+        requires accepted { IsOk (on (table_of record_meaning range_meaning ops.now) (verb_of op.now) (Some (shown self.old))).0 }
+        ensures done { IfOk result (λ r. on (table_of record_meaning range_meaning ops.now) (verb_of op.now) (Some (shown self.old)) ≡ (Ok (shown_reply into.new r), Some (shown self.new))) }
+        ensures err { OnErr result (shown self.new ≡ shown self.old) }
+        ensures memory { OnErr result (GrowsBy (verb_of op.now)) }
+    {
+        match self {
+            Object::Array(array) => array.apply(alloc, ops, op, into),
+            Object::Table(table) => table.apply(alloc, op, into),
+            Object::Blob(blob) => blob.apply(ops, op, into),
+        }
+    }
+}

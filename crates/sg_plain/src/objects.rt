@@ -1,0 +1,321 @@
+ghost use Rattle.std.specs.Prelude.{◌≡◌, ◌≤◌, [], ◌∷◌, map, length, is_some, OnOk, IfOk, OnErr, IsOk, Ok};
+ghost use Rattle.std.specs.FinMap as finmap;
+ghost use Rattle.sg_ops.specs.Table.{Table as Operations, table_of};
+ghost use Rattle.sg_model.specs.Verb.Op.{On, Names};
+ghost use Rattle.sg_model.specs.Verb.Reply.{Several};
+ghost use Rattle.sg_model.specs.Verb.Verb.{Keys};
+ghost use Rattle.sg_plain.specs.Replies.{shown_reply, shown_result, shown_keys};
+ghost use Rattle.sg_plain.specs.Shown.{shown, objects_of};
+ghost use Rattle.sg_model.specs.SaidOps.{said_op, verb_of, name_of};
+ghost use Rattle.sg_model.specs.TouchList.{shown_touches};
+ghost use Rattle.sg_model.specs.Touches.{touches, touch_of, to_read, to_write, further};
+ghost use Rattle.sg_model.specs.Touches.Part.{Kind};
+ghost use Rattle.sg_model.specs.Touches.Region.{Just, Everything};
+ghost use Rattle.sg_model.specs.Step.{on, step, IsInPlace, GrowsBy, Refuses};
+
+use crate::array::Array;
+use crate::blob::Blob;
+use crate::object::Object;
+use crate::reach::{only_read, written};
+use crate::table::Table;
+use sg_base::{Name, OutOfMemory};
+use sg_model::{Key, Op, Reason, Reply, Resource, Touches};
+use sg_ops::Ops;
+use std::alloc::Global;
+use std::collections::BTreeMap;
+use std::marker::Model;
+
+// Does an operation that isn't refused to the object with its name.
+fn apply_in(
+    map: &mut BTreeMap<Name, Object>,
+    alloc: Global,
+    ops: &Ops,
+    name: Name,
+    op: &Op<'_>,
+    into: &mut [u8],
+) -> Result<Reply, OutOfMemory>
+    requires room { 8192 ≤ length into.old }
+    requires named { name ≡ name_of op.now }
+    requires in_place { IsInPlace (verb_of op.now) }
+    requires accepted { IsOk (on (table_of record_meaning range_meaning ops.now) (verb_of op.now) (finmap.get (objects_of map.old.entries) name)).0 }
+    ensures done { IfOk result (λ r. step (table_of record_meaning range_meaning ops.now) (objects_of map.old.entries) (said_op op.now) ≡ (Ok (shown_reply into.new r), objects_of map.new.entries)) }
+    ensures err { OnErr result (objects_of map.new.entries ≡ objects_of map.old.entries) }
+    ensures memory { OnErr result (GrowsBy (verb_of op.now)) }
+{
+    let Some(object) = map.get_mut(&name) else {
+        unreachable!();
+    };
+    object.apply(alloc, ops, op, into)
+}
+
+/// Objects under names, which contracts see as a finite map.
+#[derive(Drop)]
+pub struct Objects {
+    map: BTreeMap<Name, Object>,
+}
+
+impl Model for Objects {
+    ghost use Rattle.std.specs.FinMap.{FinMap};
+    ghost use Rattle.std.specs.Ordering.{nat_cmp};
+    ghost use Rattle.std.specs.Cmp.Lexicographic.{slice_cmp};
+    ghost use Rattle.sg_model.specs.Objects.{Object};
+
+    ghost Value = { FinMap (slice_cmp nat_cmp) Object };
+
+    ghost use Rattle.std.specs.FinMap.{code};
+    ghost use Rattle.std.specs.Coded.{coded_ℕ, coded_list};
+    ghost use Rattle.sg_model.specs.Codes.{object_code};
+
+    ghost coded = { code (coded_list coded_ℕ) object_code };
+
+    ghost use Rattle.sg_plain.specs.Shown.{objects_of};
+
+    ghost view = { λ a. objects_of a.map.entries };
+}
+
+impl Objects {
+    ghost use Rattle.sg_model.specs.Step.{Grows};
+
+    /// No objects. Takes no memory.
+    pub fn empty(alloc: Global) -> Objects
+        ensures { result ≡ finmap.empty }
+    {
+        Objects {
+            map: BTreeMap::new(alloc),
+        }
+    }
+
+    // Whether there is an object with this name.
+    fn has(&self, name: Name) -> bool
+        ensures { result ≡ is_some (finmap.get self.now name) }
+    {
+        self.map.contains_key(&name)
+    }
+
+    // Puts a new object under a name.
+    fn put(&mut self, name: Name, object: Object) -> Result<(), OutOfMemory>
+        ensures ok { OnOk result (self.new ≡ finmap.insert self.old name (shown object)) }
+        ensures err { OnErr result (self.new ≡ self.old) }
+    {
+        match self.map.insert(name, object) {
+            Ok(_) => Ok(()),
+            Err(_) => Err(OutOfMemory),
+        }
+    }
+
+    // Takes the object with a name away. Takes no memory.
+    fn discard(&mut self, name: Name)
+        ensures { self.new ≡ finmap.remove self.old name }
+    {
+        let _ = self.map.remove(&name);
+    }
+
+    // Why an operation on an object that is there would be refused.
+    fn refusal_in(&self, ops: &Ops, name: Name, op: &Op<'_>) -> Option<Reason>
+        requires { IsInPlace (verb_of op.now) }
+        ensures { Refuses (on (table_of record_meaning range_meaning ops.now) (verb_of op.now) (finmap.get self.now name)).0 result }
+    {
+        match self.map.get(&name) {
+            None => Some(Reason::NoObject),
+            Some(object) => object.refusal(ops, op),
+        }
+    }
+
+    /// Why an operation would be refused, if it would. It changes nothing and takes no memory.
+    #[tactic(auto, unfolding(sg_model::specs::Step::step), using(crate::proofs::Steps::exists_array, crate::proofs::Steps::empty_array, crate::proofs::Steps::wide_array, crate::proofs::Steps::fits_array, crate::proofs::Steps::exists, crate::proofs::Steps::made, crate::proofs::Steps::nothing_there, crate::proofs::Steps::dropped))]
+    pub fn refusal(&self, ops: &Ops, op: &Op<'_>) -> Option<Reason>
+        ensures { Refuses (step (table_of record_meaning range_meaning ops.now) self.now (said_op op.now)).0 result }
+    {
+        match *op {
+            Op::MakeArray { name, size } => {
+                if self.has(name) {
+                    Some(Reason::Exists)
+                } else if size < 1 || size > 256 {
+                    Some(Reason::OutOfRange)
+                } else {
+                    None
+                }
+            }
+            Op::MakeTable { name } => {
+                if self.has(name) {
+                    Some(Reason::Exists)
+                } else {
+                    None
+                }
+            }
+            Op::MakeBlob { name } => {
+                if self.has(name) {
+                    Some(Reason::Exists)
+                } else {
+                    None
+                }
+            }
+            Op::Discard { name } => {
+                if self.has(name) {
+                    None
+                } else {
+                    Some(Reason::NoObject)
+                }
+            }
+            Op::Push { .. }
+            | Op::Pop { .. }
+            | Op::Set { .. }
+            | Op::Get { .. }
+            | Op::Len { .. }
+            | Op::Apply { .. }
+            | Op::Put { .. }
+            | Op::Del { .. }
+            | Op::Find { .. }
+            | Op::Write { .. }
+            | Op::Read { .. }
+            | Op::Size { .. }
+            | Op::Paint { .. } => self.refusal_in(ops, op.name(), op),
+        }
+    }
+
+    /// The keys of a table by their bytes, or the reason why there are none. It changes nothing.
+    pub fn keys(&self, alloc: Global, name: Name) -> Result<Result<Vec<Key>, Reason>, OutOfMemory>
+        ensures { IfOk result (λ r. (t : Operations) → step t self.now (On name Keys) ≡ (shown_keys r, self.now)) }
+    {
+        match self.map.get(&name) {
+            None => Ok(Err(Reason::NoObject)),
+            Some(object) => object.keys(alloc),
+        }
+    }
+
+    /// The names of all objects, by their bytes. It changes nothing.
+    pub fn list(&self, alloc: Global) -> Result<Vec<Name>, OutOfMemory>
+        ensures { IfOk result (λ names. (t : Operations) → step t self.now Names ≡ (Ok (Several names.items), self.now)) }
+    {
+        match self.map.keys().copied().collect(alloc) {
+            Ok(names) => Ok(names),
+            Err(_) => Err(OutOfMemory),
+        }
+    }
+
+    // What an operation on an object that is there touches.
+    fn reach_in(&self, name: Name, op: &Op<'_>) -> Touches
+        requires named { name ≡ name_of op.now }
+        requires in_place { IsInPlace (verb_of op.now) }
+        ensures { shown_touches result ≡ map (touch_of (name_of op.now)) (to_read (Just Kind) ∷ further (verb_of op.now) (finmap.get self.now name)) }
+    {
+        let mut touches = Touches::new();
+        touches.push(only_read(Resource::Name(name)));
+        match self.map.get(&name) {
+            None => {}
+            Some(object) => object.reach(op, &mut touches),
+        }
+        touches
+    }
+
+    // The touch of an operation that makes or drops an object.
+    fn reach_all(&self, name: Name) -> Touches
+        ensures { shown_touches result ≡ map (touch_of name) (to_write Everything ∷ []) }
+    {
+        let mut touches = Touches::new();
+        touches.push(written(Resource::AllOf(name)));
+        touches
+    }
+
+    /// What an operation touches. It changes nothing and takes no memory.
+    #[tactic(auto, unfolding(sg_model::specs::Touches::touches))]
+    pub fn touches(&self, op: &Op<'_>) -> Touches
+        ensures { shown_touches result ≡ touches self.now (said_op op.now) }
+    {
+        match *op {
+            Op::MakeArray { name, size: _ } => self.reach_all(name),
+            Op::MakeTable { name } => self.reach_all(name),
+            Op::MakeBlob { name } => self.reach_all(name),
+            Op::Discard { name } => self.reach_all(name),
+            Op::Push { .. }
+            | Op::Pop { .. }
+            | Op::Set { .. }
+            | Op::Get { .. }
+            | Op::Len { .. }
+            | Op::Apply { .. }
+            | Op::Put { .. }
+            | Op::Del { .. }
+            | Op::Find { .. }
+            | Op::Write { .. }
+            | Op::Read { .. }
+            | Op::Size { .. }
+            | Op::Paint { .. } => self.reach_in(op.name(), op),
+        }
+    }
+
+    // Does an operation that isn't refused.
+    #[tactic(auto, unfolding(sg_model::specs::Step::step), using(crate::proofs::Steps::array_size, crate::proofs::Steps::after_make_array, crate::proofs::Steps::after_make, crate::proofs::Steps::after_discard))]
+    fn perform(
+        &mut self,
+        alloc: Global,
+        ops: &Ops,
+        op: &Op<'_>,
+        into: &mut [u8],
+    ) -> Result<Reply, OutOfMemory>
+        requires room { 8192 ≤ length into.old }
+        requires accepted { IsOk (step (table_of record_meaning range_meaning ops.now) self.old (said_op op.now)).0 }
+        ensures done { IfOk result (λ r. step (table_of record_meaning range_meaning ops.now) self.old (said_op op.now) ≡ (Ok (shown_reply into.new r), self.new)) }
+        ensures err { OnErr result (self.new ≡ self.old) }
+        ensures memory { OnErr result (GrowsBy (verb_of op.now)) }
+    {
+        match *op {
+            Op::MakeArray { name, size } => {
+                self.put(name, Object::Array(Array::new(alloc, size)))?;
+                Ok(Reply::Done)
+            }
+            Op::MakeTable { name } => {
+                self.put(name, Object::Table(Table::new(alloc)))?;
+                Ok(Reply::Done)
+            }
+            Op::MakeBlob { name } => {
+                self.put(name, Object::Blob(Blob::new(alloc)))?;
+                Ok(Reply::Done)
+            }
+            Op::Discard { name } => {
+                self.discard(name);
+                Ok(Reply::Done)
+            }
+            Op::Push { .. }
+            | Op::Pop { .. }
+            | Op::Set { .. }
+            | Op::Get { .. }
+            | Op::Len { .. }
+            | Op::Apply { .. }
+            | Op::Put { .. }
+            | Op::Del { .. }
+            | Op::Find { .. }
+            | Op::Write { .. }
+            | Op::Read { .. }
+            | Op::Size { .. }
+            | Op::Paint { .. } => apply_in(&mut self.map, alloc, ops, op.name(), op, into),
+        }
+    }
+
+    /// Does an operation, and answers its reply or the reason why it is refused. `Bytes(n)` says
+    /// that the first n bytes of `into` are the answer. A refused operation changes nothing.
+    ///
+    /// After `OutOfMemory`, which comes only for an operation that takes memory for what it leaves
+    /// and would have got a reply, the objects are unchanged.
+    #[tactic(auto, using(crate::proofs::Steps::refused))]
+    pub fn apply(
+        &mut self,
+        alloc: Global,
+        ops: &Ops,
+        op: &Op<'_>,
+        into: &mut [u8],
+    ) -> Result<Result<Reply, Reason>, OutOfMemory>
+        requires { 8192 ≤ length into.old }
+        ensures done { IfOk result (λ r. step (table_of record_meaning range_meaning ops.now) self.old (said_op op.now) ≡ (shown_result into.new r, self.new)) }
+        ensures err { OnErr result (self.new ≡ self.old) }
+        ensures memory { OnErr result (Grows (said_op op.now)) }
+        ensures cause { OnErr result (IsOk (step (table_of record_meaning range_meaning ops.now) self.old (said_op op.now)).0) }
+    {
+        if let Some(reason) = self.refusal(ops, op) {
+            return Ok(Err(reason));
+        }
+        match self.perform(alloc, ops, op, into) {
+            Ok(reply) => Ok(Ok(reply)),
+            Err(fault) => Err(fault),
+        }
+    }
+}
