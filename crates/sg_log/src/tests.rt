@@ -114,9 +114,26 @@ impl Trial {
         Ok(None)
     }
 
-    // The log's end with the buffer, and how many calls its disk has answered.
+    // The log's end with the buffer.
+    fn tail(&self) -> Lsn {
+        self.log.tail()
+    }
+
+    // The same, and how many calls the disk has answered.
     fn tail_and_calls(&self) -> (Lsn, u64) {
-        (self.log.tail(), self.disk.call_count())
+        (self.tail(), self.disk.call_count())
+    }
+
+    fn home(&self) -> &[u8] {
+        self.disk.home()
+    }
+
+    fn log0(&self) -> &[u8] {
+        self.disk.log0()
+    }
+
+    fn log1(&self) -> &[u8] {
+        self.disk.log1()
     }
 
     fn first(&mut self) -> Result<Option<Place>, LogFault> {
@@ -178,14 +195,11 @@ fn behind_a_frame(alloc: Global, bytes: &[u8]) -> Result<Vec<u8>, AllocError> {
     Ok(log0)
 }
 
-// The same with the line's frame, in which the byte at this offset is another.
-fn behind_it_spoiled(alloc: Global, at: u8, byte: u8) -> Result<Vec<u8>, AllocError> {
-    let mut log0 = behind_a_frame(alloc, &LINE_FRAME)?;
-    let place = 47 + at as usize;
-    if place < log0.len() {
-        log0[place] = byte;
+// Puts another byte there.
+fn spoil(bytes: &mut [u8], at: usize, byte: u8) {
+    if at < bytes.len() {
+        bytes[at] = byte;
     }
-    Ok(log0)
 }
 
 // Where attaching finds a damage, if it does.
@@ -213,8 +227,8 @@ fn one_commit_is_one_frame(rt: HostRuntime) -> Result<(), Fail> {
         assert_eq!(rt; trial.step(step)?, lsn);
         assert_eq!(rt; trial.tail_and_calls(), (tail, calls));
     }
-    assert_eq!(rt; trial.disk.log0(), FRAME.as_slice());
-    assert_eq!(rt; trial.disk.home(), [].as_slice());
+    assert_eq!(rt; trial.log0(), FRAME.as_slice());
+    assert_eq!(rt; trial.home(), [].as_slice());
     Ok(())
 }
 
@@ -224,9 +238,9 @@ fn a_base_is_added_to_each_number(rt: HostRuntime) -> Result<(), Fail> {
     let mut trial = Trial::attach(alloc, MemDisk::new(alloc), Area::Log1, 1000)?;
     assert_eq!(rt; trial.step(Step::Begin)?, Some(1005));
     trial.step(Step::Force)?;
-    assert_eq!(rt; trial.log.tail(), 1026);
-    assert_eq!(rt; trial.disk.log1().len(), 27);
-    assert_eq!(rt; trial.disk.log0(), [].as_slice());
+    assert_eq!(rt; trial.tail(), 1026);
+    assert_eq!(rt; trial.log1().len(), 27);
+    assert_eq!(rt; trial.log0(), [].as_slice());
     Ok(())
 }
 
@@ -245,7 +259,7 @@ fn a_stopped_force_leaves_the_frame_or_none(rt: HostRuntime) -> Result<(), Fail>
             let there = again.log.durable() == 47;
             assert_eq!(rt; there, passes == 4 || passes == 3 && pick == 0);
             if there {
-                assert_eq!(rt; again.disk.log0(), FRAME.as_slice());
+                assert_eq!(rt; again.log0(), FRAME.as_slice());
             }
         }
     }
@@ -300,19 +314,21 @@ fn a_frame_that_is_not_formed_is_a_damage(rt: HostRuntime) -> Result<(), Fail> {
     // a length above 65,536
     let long = behind_a_frame(alloc, &[1, 1, 0, 1, 0])?;
     assert_eq!(rt; damage(alloc, long, 0)?, Some(47));
+    // the line's frame, which begins at offset 47, with another byte at an offset
     for (at, byte) in [
         // no length
-        (1, 0),
+        (48, 0),
         // a kind that isn't, and a record's length that its kind hasn't or that leads behind the body
-        (5, 2),
-        (5, 10),
-        (6, 20),
-        (6, 24),
+        (52, 2),
+        (52, 10),
+        (53, 20),
+        (53, 24),
         // a record that leaves a byte of the body, and a body that ends in its record
-        (6, 22),
-        (1, 22),
+        (53, 22),
+        (48, 22),
     ] {
-        let log0 = behind_it_spoiled(alloc, at, byte)?;
+        let mut log0 = behind_a_frame(alloc, &LINE_FRAME)?;
+        spoil(&mut log0, at, byte);
         assert_eq!(rt; damage(alloc, log0, 0)?, Some(47), "byte {byte} at {at}");
     }
     // the frame as it is; one that ends at 2^63, and one that ends behind it
@@ -332,13 +348,14 @@ fn a_frame_that_is_not_formed_is_a_damage(rt: HostRuntime) -> Result<(), Fail> {
 fn a_closed_gate_ends_the_log(rt: HostRuntime) -> Result<(), Fail> {
     let alloc = rt.alloc();
     for gate in [0, 2, 255] {
-        let disk = disk_of(alloc, behind_it_spoiled(alloc, 0, gate)?);
-        let mut trial = Trial::attach(alloc, disk, Area::Log0, 0)?;
-        assert_eq!(rt; trial.log.tail(), 47);
+        let mut log0 = behind_a_frame(alloc, &LINE_FRAME)?;
+        spoil(&mut log0, 47, gate);
+        let mut trial = Trial::attach(alloc, disk_of(alloc, log0), Area::Log0, 0)?;
+        assert_eq!(rt; trial.tail(), 47);
         assert_eq!(rt; trial.step(Step::Begin)?, Some(52));
         trial.step(Step::Force)?;
         let mut again = trial.again()?;
-        assert_eq!(rt; again.log.tail(), 73);
+        assert_eq!(rt; again.tail(), 73);
         assert_eq!(rt; again.next(place(26, 47))?, Some(place(52, 73)));
         assert_eq!(rt; again.read(52)?.as_slice(), &FRAME[5..26]);
     }
@@ -357,7 +374,7 @@ fn a_record_that_does_not_fit_begins_another_frame(rt: HostRuntime) -> Result<()
         assert_eq!(rt; trial.step(step)?, Some(lsn));
         assert_eq!(rt; trial.tail_and_calls(), (tail, calls));
     }
-    let bytes = trial.disk.log0();
+    let bytes = trial.log0();
     assert_eq!(rt; bytes.len(), 65_469);
     assert_eq!(rt; &bytes[..5], [1, 0xb7, 0xff, 0, 0].as_slice());
     Ok(())
@@ -394,7 +411,7 @@ fn no_record_ends_behind_the_logs_end(rt: HostRuntime) -> Result<(), Fail> {
     ] {
         assert_eq!(rt; trial.step(step), answer);
     }
-    assert_eq!(rt; trial.log.tail(), 1 << 63);
-    assert_eq!(rt; trial.disk.log0().len(), 48);
+    assert_eq!(rt; trial.tail(), 1 << 63);
+    assert_eq!(rt; trial.log0().len(), 48);
     Ok(())
 }
