@@ -14,7 +14,7 @@ enum Came {
 }
 
 // What an operation comes to, with the first bytes of the buffer.
-fn came(objects: &mut Objects, alloc: Global, ops: &Ops, op: &Op<'_>) -> (Came, [u8; 8]) {
+fn outcome(objects: &mut Objects, alloc: Global, ops: &Ops, op: &Op<'_>) -> (Came, [u8; 8]) {
     let mut into = [0u8; 8192];
     let came = match objects.apply(alloc, ops, op, &mut into) {
         Ok(Ok(reply)) => Came::Reply(reply),
@@ -231,7 +231,7 @@ fn an_array_keeps_its_items(rt: HostRuntime) -> Result<(), Fail> {
         (Op::Discard { name }, Came::Reason(Reason::NoObject), [0; 8]),
     ];
     for (i, (op, want, bytes)) in rows.iter().enumerate() {
-        let (got, first) = came(&mut objects, alloc, &ops, op);
+        let (got, first) = outcome(&mut objects, alloc, &ops, op);
         assert_eq!(rt; got, *want, "row {i}");
         assert_eq!(rt; first, *bytes, "row {i}");
     }
@@ -359,7 +359,7 @@ fn a_table_keeps_its_values(rt: HostRuntime) -> Result<(), Fail> {
         ),
     ];
     for (i, (op, want, bytes)) in rows.iter().enumerate() {
-        let (got, first) = came(&mut objects, alloc, &ops, op);
+        let (got, first) = outcome(&mut objects, alloc, &ops, op);
         assert_eq!(rt; got, *want, "row {i}");
         assert_eq!(rt; first, *bytes, "row {i}");
     }
@@ -594,7 +594,7 @@ fn a_blob_keeps_its_bytes(rt: HostRuntime) -> Result<(), Fail> {
         ),
     ];
     for (i, (op, want, bytes)) in rows.iter().enumerate() {
-        let (got, first) = came(&mut objects, alloc, &ops, op);
+        let (got, first) = outcome(&mut objects, alloc, &ops, op);
         assert_eq!(rt; got, *want, "row {i}");
         assert_eq!(rt; first, *bytes, "row {i}");
     }
@@ -612,7 +612,7 @@ fn a_refusal_is_known_before(rt: HostRuntime) -> Result<(), Fail> {
         Some(Reason::NoObject)
     );
     assert_eq!(rt; refused(&objects, &ops, &Op::MakeBlob { name }), None);
-    let (made, _) = came(&mut objects, alloc, &ops, &Op::MakeBlob { name });
+    let (made, _) = outcome(&mut objects, alloc, &ops, &Op::MakeBlob { name });
     assert_eq!(rt; made, done());
     assert_eq!(rt; refused(&objects, &ops, &Op::Len { name }), None);
     Ok(())
