@@ -1,10 +1,13 @@
 -- What a page says once the cell of a slot was changed, and that it can be.
+use Rattle.std.specs.Prelude.{option_and_then}
 use Rattle.std.proofs.Common.{◌≡◌, ℕ, List, length, Option, Some, None, Result, Ok, Err, Bool, true, false, OnOk, OnErr, is_ok, ap, sym, ◌∙◌}
 use Rattle.sg_base.specs.Page.{Header, IsSlotted, header_of, slots_of, cell_in}
 use Rattle.sg_base.specs.Sheet.{sheet_of}
 use Rattle.sg_base.specs.Slots.{set_in}
 use Rattle.sg_ops.specs.Steps.{change_in, with_slots}
 use Rattle.sg_slotted.proofs.Refusals.{same_size_fits}
+use Rattle.sg_slotted.specs.Layout.{set_layout}
+use Rattle.sg_step.specs.Changed.{with_item}
 use Rattle.sg_step.proofs.Back.{changes}
 
 pub changed_sheet : (old new : List ℕ) (slot : ℕ) (change : List ℕ → Option (List ℕ)) → header_of new ≡ header_of old → change_in (slots_of old) slot change ≡ Some (slots_of new) → with_slots (sheet_of old) (change_in (slots_of old) slot change) ≡ Some (sheet_of new)
@@ -28,3 +31,7 @@ ok_at (Err x) P e h = cc
 pub err_at : {T E : Type 0} (r : Result T E) (P : Type 0) → is_ok r ≡ false → OnErr r P → P
 err_at (Ok x) P e h = cc
 err_at (Err x) P e h = h
+
+-- the bytes that another cell leaves
+pub item_bytes : (page new : List ℕ) (slot : ℕ) (cell left : List ℕ) (change : List ℕ → Option (List ℕ)) → Some cell ≡ cell_in (slots_of page) slot → change cell ≡ Some left → new ≡ set_layout page slot left → new ≡ with_item page slot (option_and_then change (cell_in (slots_of page) slot))
+item_bytes page new slot cell left change is made e = e ∙ sym (ap (λ (o : Option (List ℕ)). with_item page slot (option_and_then change o)) (sym is) ∙ ap (with_item page slot) made)

@@ -1,10 +1,11 @@
-ghost use Rattle.std.specs.Prelude.{◌≡◌, None, Some};
+ghost use Rattle.std.specs.Prelude.{◌≡◌, None, Some, option_and_then};
 ghost use Rattle.std.specs.Bool.{OnTrue, OnFalse};
 ghost use Rattle.sg_base.specs.Op.{op_of};
-ghost use Rattle.sg_base.specs.Page.{lsn_of, slots_of, header_of, IsSlotted};
+ghost use Rattle.sg_base.specs.Page.{lsn_of, slots_of, cell_in, header_of, IsSlotted};
 ghost use Rattle.sg_base.specs.Sheet.{sheet_of};
 ghost use Rattle.sg_ops.specs.Steps.{change_in, item_after, item_before, step};
 ghost use Rattle.sg_ops.specs.Table.{table_of, record_at};
+ghost use Rattle.sg_step.specs.Changed.{with_item, changed};
 
 use sg_base::{PAGE_SIZE, PageOp, SlotView};
 use sg_ops::Ops;
@@ -22,6 +23,9 @@ fn redo_item(page: &mut [u8], slot: u16, code: u16, arg: &[u8], ops: &Ops) -> bo
         (item_after (record_at (table_of record_meaning range_meaning ops.now) code) arg.now)
         ≡ None) }
     ensures same { OnFalse result (page.new ≡ page.old) }
+    ensures bytes { OnTrue result (page.new ≡ with_item page.old slot
+        (option_and_then (item_after (record_at (table_of record_meaning range_meaning ops.now) code) arg.now)
+        (cell_in (slots_of page.old) slot))) }
 {
     let mut buffer = [0u8; PAGE_SIZE];
     let Some(cell) = SlotView::new(page).slot(slot) else {
@@ -48,6 +52,9 @@ fn undo_item(page: &mut [u8], slot: u16, code: u16, arg: &[u8], ops: &Ops) -> bo
         (item_before (record_at (table_of record_meaning range_meaning ops.now) code) arg.now)
         ≡ None) }
     ensures same { OnFalse result (page.new ≡ page.old) }
+    ensures bytes { OnTrue result (page.new ≡ with_item page.old slot
+        (option_and_then (item_before (record_at (table_of record_meaning range_meaning ops.now) code) arg.now)
+        (cell_in (slots_of page.old) slot))) }
 {
     let mut buffer = [0u8; PAGE_SIZE];
     let Some(cell) = SlotView::new(page).slot(slot) else {
@@ -64,6 +71,7 @@ fn undo_item(page: &mut [u8], slot: u16, code: u16, arg: &[u8], ops: &Ops) -> bo
 
 /// Does an operation to a page of slots, where it fits, and says whether it did; where not, no byte
 /// changes. The page's number in the log stays.
+#[tactic(auto, unfolding(crate::specs::Changed::changed))]
 pub fn apply(page: &mut [u8], op: &PageOp<'_>, ops: &Ops) -> bool
     requires { IsSlotted page.old }
     ensures slotted { IsSlotted page.new }
@@ -75,6 +83,8 @@ pub fn apply(page: &mut [u8], op: &PageOp<'_>, ops: &Ops) -> bool
         (step (table_of record_meaning range_meaning ops.now) (op_of op.now) (sheet_of page.old)
         ≡ None) }
     ensures same { OnFalse result (page.new ≡ page.old) }
+    ensures bytes { OnTrue result
+        (page.new ≡ changed (table_of record_meaning range_meaning ops.now) (op_of op.now) page.old) }
 {
     match *op {
         PageOp::Format { kind } => {

@@ -1,5 +1,6 @@
 use Rattle.std.proofs.lemmas.Bool.{OnTrue_from, OnTrue_at, OnFalse_from, OnFalse_at}
 use Rattle.sg_step.proofs.Sheets.{changed_sheet, same_sheet}
+use Rattle.sg_step.specs.Changed.{changed}
 use Rattle.sg_step.proofs.page.apply.Goals as goal
 
 pub returns-in-Item-clause-done : goal.returns-in-Item-clause-done
@@ -10,3 +11,11 @@ returns-in-Item-clause-refused g c = rw c.in-Item.is (OnFalse_from c.redo_item.r
 
 pub returns-in-ItemBack-clause-done : goal.returns-in-ItemBack-clause-done
 returns-in-ItemBack-clause-done g c = rw c.in-ItemBack.is (OnTrue_from c.undo_item.result _ (λ yes. changed_sheet _ _ _ _ c.undo_item.ensures.header (OnTrue_at yes c.undo_item.ensures.done)))
+
+pub returns-in-Item-clause-bytes : goal.returns-in-Item-clause-bytes
+unfolding changed
+returns-in-Item-clause-bytes g c = rw c.in-Item.is c.redo_item.ensures.bytes
+
+pub returns-in-ItemBack-clause-bytes : goal.returns-in-ItemBack-clause-bytes
+unfolding changed
+returns-in-ItemBack-clause-bytes g c = rw c.in-ItemBack.is c.undo_item.ensures.bytes
