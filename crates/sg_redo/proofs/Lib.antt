@@ -1,0 +1,5 @@
+pub mod Versions
+pub mod Bytes
+pub mod Numbers
+pub mod Painting
+pub mod Redone
