@@ -1,6 +1,7 @@
 -- Frames of which some are lent: what callers of `take`, `give` and the calls that lend bytes carry from one to the next.
 use Rattle.std.proofs.Common.{◌≡◌, ◌⊎◌, ℕ, List, [], length, get_or, set, refl, sym, ap, ◌∙◌, inl, inr, subst, arith, length-set}
 use Rattle.std.proofs.lemmas.Grind.{common_steps}
+use Rattle.std.proofs.lemmas.List.{take_at, set-set, set-get_or}
 use Rattle.std.specs.List.{length_refill}
 use Rattle.sg_frames.specs.declared.place.Place.{Place}
 use Rattle.sg_frames.specs.declared.place.Place.TheVariants.{Page, Window}
@@ -65,3 +66,22 @@ none_lent-here_but held here = record {
   pages = λ i has. elim (here (Page i) has) [ inl lent ↦ absurd lent | inr stays ↦ stays ];
   windows = λ w has. elim (here (Window w) has) [ inl lent ↦ absurd lent | inr stays ↦ stays ];
 }
+
+-- as many bytes as there were are all written back
+pub rewritten_whole : (old new : List ℕ) → length new ≡ length old → rewritten old new ≡ new
+rewritten_whole old new same = take_at new _ (length old) same
+
+-- the last bytes of a place count
+pub with_bytes-twice : (held : Held) (place : Place) (a b : List ℕ) → with_bytes (with_bytes held place a) place b ≡ with_bytes held place b
+with_bytes-twice held (Page i) a b = ap (λ (xs : List (List ℕ)). record held { pages = xs }) (set-set held.pages i a b)
+with_bytes-twice held (Window w) a b = ap (λ (xs : List (List ℕ)). record held { windows = xs }) (set-set held.windows w a b)
+
+-- a place with its own bytes is as it was
+pub with_bytes-own : (held : Held) (place : Place) → with_bytes held place (bytes_at held place) ≡ held
+with_bytes-own held (Page i) = ap (λ (xs : List (List ℕ)). record held { pages = xs }) (set-get_or held.pages i [])
+with_bytes-own held (Window w) = ap (λ (xs : List (List ℕ)). record held { windows = xs }) (set-get_or held.windows w [])
+
+-- a loan that comes back with the bytes that it left with leaves the frames as they were
+pub given_back : (old taken new : Held) (place : Place) (bytes : List ℕ) → taken ≡ with_bytes old place [] → bytes ≡ bytes_at old place → new ≡ with_bytes taken place bytes → new ≡ old
+given_back old taken new place bytes left own back =
+    back ∙ (ap (λ (h : Held). with_bytes h place bytes) left ∙ (with_bytes-twice old place [] bytes ∙ (ap (with_bytes old place) own ∙ with_bytes-own old place)))

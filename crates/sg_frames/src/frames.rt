@@ -2,10 +2,10 @@ ghost use Rattle.std.specs.Prelude.{◌≡◌, ◌+◌, ◌*◌, ◌<◌, ◌≤
 
 use crate::block::{Run, Shell, attach, detach};
 use crate::loan::Loan;
-use crate::place::{Place, WINDOW_SIZE};
+use crate::place::Place;
 use crate::slot::Slot;
 use crate::table::Table;
-use sg_base::{OutOfMemory, PAGE_SIZE};
+use sg_base::{BAND_SIZE, OutOfMemory, PAGE_SIZE};
 use std::alloc::{AllocError, Global};
 use std::marker::Model;
 
@@ -57,7 +57,7 @@ fn reserve(
     ensures pages { IfOk result (λ r. (vec_len r.1 ≡ 0) × (frames ≤ vec_capacity r.1)) }
     ensures windows { IfOk result (λ r. (vec_len r.2 ≡ 0) × (windows ≤ vec_capacity r.2)) }
 {
-    let size = frames as usize * PAGE_SIZE + windows as usize * WINDOW_SIZE;
+    let size = frames as usize * PAGE_SIZE + windows as usize * BAND_SIZE;
     let memory = Vec::from_elem(alloc, 0, size)?;
     let pages = Vec::with_capacity(alloc, frames as usize)?;
     let others = Vec::with_capacity(alloc, windows as usize)?;
@@ -70,14 +70,14 @@ impl Frames {
     ghost use Rattle.sg_frames.specs.Lending.{LendsPlace, LendsPages, LendsTwo, pages_of};
     ghost use Rattle.sg_frames.specs.Tables.{ShowsSlots};
 
-    /// So many page frames, 32 to 16,384 of them, and windows, 4 to 256, all in one block. Their bytes
+    /// So many page frames, 1 to 16,384 of them, and windows, 1 to 256, all in one block. Their bytes
     /// are 0.
     ///
     /// `OutOfMemory`, where there isn't enough memory, is the only refusal, and nothing is taken then.
     pub fn new(alloc: Global, frames: u32, windows: u32) -> Result<Frames, OutOfMemory>
-        requires some_frames { 32 ≤ frames }
+        requires some_frames { 1 ≤ frames }
         requires most_frames { frames ≤ 16384 }
-        requires some_windows { 4 ≤ windows }
+        requires some_windows { 1 ≤ windows }
         requires most_windows { windows ≤ 256 }
         ensures pages { IfOk result (λ f. length f.pages ≡ frames) }
         ensures windows { IfOk result (λ f. length f.windows ≡ windows) }
@@ -119,7 +119,7 @@ impl Frames {
         let (run, shell) = detach(memory);
         let (pages, run) = Table::new(pages, start, 0, PAGE_SIZE, frames, run);
         let at = frames as usize * PAGE_SIZE;
-        let (windows, rest) = Table::new(others, start, at, WINDOW_SIZE, windows, run);
+        let (windows, rest) = Table::new(others, start, at, BAND_SIZE, windows, run);
         Frames {
             shell,
             rest,
@@ -244,7 +244,7 @@ impl Frames {
             pages,
             windows,
         } = self;
-        let run = windows.into_run(WINDOW_SIZE, rest);
+        let run = windows.into_run(BAND_SIZE, rest);
         let run = pages.into_run(PAGE_SIZE, run);
         drop(attach(run, shell));
     }

@@ -25,7 +25,7 @@ mod table;
 
 pub use frames::Frames;
 pub use loan::Loan;
-pub use place::{Place, WINDOW_SIZE};
+pub use place::Place;
 
 #[cfg(test)]
 mod tests;

@@ -1,6 +1,3 @@
-/// How many bytes a window has.
-pub const WINDOW_SIZE: usize = 32_768;
-
 /// Which page frame or window of a block it is. Each kind is numbered from 0 on.
 #[derive(Clone, Copy, Debug, PartialEq, Eq)]
 pub enum Place {
