@@ -1,13 +1,12 @@
 -- What is found in a list that was mapped.
-use Rattle.std.proofs.Common.{◌≡◌, ◌≢◌, ◌==◌, ℕ, suc, Bool, true, false, List, [], ◌∷◌, ◌++◌, Option, Some, None, refl, map, cond, arith, Bor, sym, ◌∙◌, ap, eq-eqb}
+use Rattle.std.proofs.Common.{◌≡◌, ◌≢◌, ◌==◌, ℕ, suc, Bool, true, false, List, [], ◌∷◌, ◌++◌, Option, Some, None, refl, map, cond, arith, Bor, sym, ◌∙◌, ap, eq-eqb, append_assoc}
 use Rattle.std.specs.Prelude.{MatchOption, All, IfSome, is_some}
 use Rattle.std.specs.List.{find}
 use Rattle.std.specs.Option.{option_map, option_copied, option_or}
 use Rattle.std.proofs.lemmas.Bool.{ne_eqb}
 use Rattle.std.proofs.lemmas.List.{map-append}
 use Rattle.std.proofs.lemmas.List.Folds.{find-append}
-use Rattle.sg_ops.specs.Meaning.{RecordMeaning, RangeMeaning}
-use Rattle.sg_ops.specs.Table.{Table, record_at, range_at, AddsRecord, AddsRange}
+use Rattle.sg_ops.specs.Table.{Adds}
 
 pub finds_mapped : {A B : Type 0} (p : B → Bool) (f : A → B) (xs : List A) → find p (map f xs) ≡ option_map f (find (λ x. p (f x)) xs)
 finds_mapped p f [] = refl
@@ -53,33 +52,16 @@ found_before code_of xs x code h =
     ∙ ap (λ b. option_or (find (λ y. code_of y == code) xs) (cond b (Some x) None)) (ne_eqb (code_of x) code (λ e. h (sym e)))
     ∙ option_or-None (find (λ y. code_of y == code) xs)
 
-adds_record : (old new : Table) (op : RecordMeaning) → is_some (record_at old op.code) ≡ false → new.records ≡ old.records ++ op ∷ [] → new.ranges ≡ old.ranges → AddsRecord old new op
-adds_record old new op free records ranges =
-    let was_free : record_at old op.code ≡ None = none_of (record_at old op.code) free in
+-- a push of one more box, under a code that was free, adds what the box means, behind some others
+pub pushes : {A M : Type 0} (code_of : M → ℕ) (f : A → M) (front : List M) (before after : List A) (x : A) (code : ℕ) → code ≡ code_of (f x) → is_some (find (λ m. code_of m == code) (front ++ map f before)) ≡ false → after ≡ before ++ x ∷ [] → Adds code_of (front ++ map f before) (front ++ map f after) (f x)
+pushes code_of f front before after x code same free pushed =
+    let old = front ++ map f before in
+    let all : front ++ map f after ≡ old ++ f x ∷ [] =
+    ap (λ ms. front ++ ms) (ap (map f) pushed ∙ map-append f before (x ∷ [])) ∙ sym (append_assoc front (map f before) (f x ∷ [])) in
+    let was_free : find (λ m. code_of m == code_of (f x)) old ≡ None = none_of _ (ap (λ k. is_some (find (λ m. code_of m == k) old)) (sym same) ∙ free) in
     record {
       was_free = was_free;
-      is_there = ap (find (λ m. m.code == op.code)) records ∙ found_behind (λ m. m.code) old.records op was_free;
-      others = λ code other. ap (find (λ m. m.code == code)) records ∙ found_before (λ m. m.code) old.records op code other;
-      records = records;
-      ranges = ranges;
+      is_there = ap (find (λ m. code_of m == code_of (f x))) all ∙ found_behind code_of old (f x) was_free;
+      others = λ code other. ap (find (λ m. code_of m == code)) all ∙ found_before code_of old (f x) code other;
+      all = all;
     }
-
-adds_range : (old new : Table) (op : RangeMeaning) → is_some (range_at old op.code) ≡ false → new.ranges ≡ old.ranges ++ op ∷ [] → new.records ≡ old.records → AddsRange old new op
-adds_range old new op free ranges records =
-    let was_free : range_at old op.code ≡ None = none_of (range_at old op.code) free in
-    record {
-      was_free = was_free;
-      is_there = ap (find (λ m. m.code == op.code)) ranges ∙ found_behind (λ m. m.code) old.ranges op was_free;
-      others = λ code other. ap (find (λ m. m.code == code)) ranges ∙ found_before (λ m. m.code) old.ranges op code other;
-      ranges = ranges;
-      records = records;
-    }
-
--- what a push of one more box, under a code that was free, does to the table
-pub pushes_record : {A : Type 0} (f : A → RecordMeaning) (before after : List A) (x : A) (ranges : List RangeMeaning) (code : ℕ) → code ≡ (f x).code → is_some (find (λ m. m.code == code) (map f before)) ≡ false → after ≡ before ++ x ∷ [] → AddsRecord (record { records = map f before; ranges = ranges }) (record { records = map f after; ranges = ranges }) (f x)
-pushes_record f before after x ranges code same free pushed =
-    adds_record (record { records = map f before; ranges = ranges }) (record { records = map f after; ranges = ranges }) (f x) (ap (λ k. is_some (find (λ m. m.code == k) (map f before))) (sym same) ∙ free) (ap (map f) pushed ∙ map-append f before (x ∷ [])) refl
-
-pub pushes_range : {A : Type 0} (f : A → RangeMeaning) (before after : List A) (x : A) (first : RangeMeaning) (records : List RecordMeaning) (code : ℕ) → code ≡ (f x).code → is_some (find (λ m. m.code == code) (first ∷ map f before)) ≡ false → after ≡ before ++ x ∷ [] → AddsRange (record { records = records; ranges = first ∷ map f before }) (record { records = records; ranges = first ∷ map f after }) (f x)
-pushes_range f before after x first records code same free pushed =
-    adds_range (record { records = records; ranges = first ∷ map f before }) (record { records = records; ranges = first ∷ map f after }) (f x) (ap (λ k. is_some (find (λ m. m.code == k) (first ∷ map f before))) (sym same) ∙ free) (ap (λ ms. first ∷ ms) (ap (map f) pushed ∙ map-append f before (x ∷ []))) refl

@@ -58,17 +58,18 @@ abbrev pub fresh_table : Table
 fresh_table = record { records = []; ranges = fill_meaning ∷ [] }
 
 -- one operation more, under a code that was free, and every other as it was
+pub record Adds {M : Type 0} (code_of : M → ℕ) (old new : List M) (op : M) : Type 0 where
+  pub was_free : find (λ m. code_of m == code_of op) old ≡ None
+  pub is_there : find (λ m. code_of m == code_of op) new ≡ Some op
+  pub others : (code : ℕ) → code ≢ code_of op → find (λ m. code_of m == code) new ≡ find (λ m. code_of m == code) old
+  pub all : new ≡ old ++ op ∷ []
+
+-- a record operation more in a table
 pub record AddsRecord (old new : Table) (op : RecordMeaning) : Type 0 where
-  pub was_free : record_at old op.code ≡ None
-  pub is_there : record_at new op.code ≡ Some op
-  pub others : (code : ℕ) → code ≢ op.code → record_at new code ≡ record_at old code
-  pub records : new.records ≡ old.records ++ op ∷ []
+  pub records : Adds (λ m. m.code) old.records new.records op
   pub ranges : new.ranges ≡ old.ranges
 
--- the same among the range operations
+-- a range operation more
 pub record AddsRange (old new : Table) (op : RangeMeaning) : Type 0 where
-  pub was_free : range_at old op.code ≡ None
-  pub is_there : range_at new op.code ≡ Some op
-  pub others : (code : ℕ) → code ≢ op.code → range_at new code ≡ range_at old code
-  pub ranges : new.ranges ≡ old.ranges ++ op ∷ []
+  pub ranges : Adds (λ m. m.code) old.ranges new.ranges op
   pub records : new.records ≡ old.records

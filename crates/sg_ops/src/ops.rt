@@ -56,16 +56,12 @@ impl Ops {
     /// `CodeTaken` where a record operation has its code, else `TableFull` where `OPS_LIMIT` are
     /// registered, else `Memory`.
     pub fn register_record(&mut self, op: RecordBox) -> Result<(), OpsError>
-        ensures ok { OnOk result (AddsRecord
-            (table_of_boxes record_meaning range_meaning self.old)
-            (table_of_boxes record_meaning range_meaning self.new)
-            (record_meaning op)) }
-        ensures err { OnErr result
-            (table_of_boxes record_meaning range_meaning self.new
-            ≡ table_of_boxes record_meaning range_meaning self.old) }
-        ensures taken { IsErrOf result OpsError.CodeTaken
-            ↔ IsTrue (is_some (record_at
-            (table_of_boxes record_meaning range_meaning self.old) (record_meaning op).code)) }
+        ensures ok { let t = table_of_boxes record_meaning range_meaning in
+            OnOk result (AddsRecord (t self.old) (t self.new) (record_meaning op)) }
+        ensures err { let t = table_of_boxes record_meaning range_meaning in
+            OnErr result (t self.new ≡ t self.old) }
+        ensures taken { let t = table_of_boxes record_meaning range_meaning self.old in
+            IsErrOf result OpsError.CodeTaken ↔ IsTrue (is_some (record_at t (record_meaning op).code)) }
         ensures full { let t = table_of_boxes record_meaning range_meaning self.old in
             IsErrOf result OpsError.TableFull
             ↔ ((record_at t (record_meaning op).code ≡ None) × (length t.records ≡ OPS_LIMIT)) }
@@ -86,16 +82,12 @@ impl Ops {
     /// `CodeTaken` where a range operation has its code, as `fill` has 1, else `TableFull` where
     /// `OPS_LIMIT` are registered, `fill` among them, else `Memory`.
     pub fn register_range(&mut self, op: RangeBox) -> Result<(), OpsError>
-        ensures ok { OnOk result (AddsRange
-            (table_of_boxes record_meaning range_meaning self.old)
-            (table_of_boxes record_meaning range_meaning self.new)
-            (range_meaning op)) }
-        ensures err { OnErr result
-            (table_of_boxes record_meaning range_meaning self.new
-            ≡ table_of_boxes record_meaning range_meaning self.old) }
-        ensures taken { IsErrOf result OpsError.CodeTaken
-            ↔ IsTrue (is_some (range_at
-            (table_of_boxes record_meaning range_meaning self.old) (range_meaning op).code)) }
+        ensures ok { let t = table_of_boxes record_meaning range_meaning in
+            OnOk result (AddsRange (t self.old) (t self.new) (range_meaning op)) }
+        ensures err { let t = table_of_boxes record_meaning range_meaning in
+            OnErr result (t self.new ≡ t self.old) }
+        ensures taken { let t = table_of_boxes record_meaning range_meaning self.old in
+            IsErrOf result OpsError.CodeTaken ↔ IsTrue (is_some (range_at t (range_meaning op).code)) }
         ensures full { let t = table_of_boxes record_meaning range_meaning self.old in
             IsErrOf result OpsError.TableFull
             ↔ ((range_at t (range_meaning op).code ≡ None) × (length t.ranges ≡ OPS_LIMIT)) }
@@ -128,10 +120,10 @@ impl Ops {
 
     /// Whether the record operation with this code accepts the item and the argument.
     pub fn accepts(&self, code: u16, item: &[u8], arg: &[u8]) -> bool
-        requires { IsTrue (is_some (record_at (table_of_boxes record_meaning range_meaning self.now) code)) }
-        ensures { result ≡ accepts_of
-            (record_at (table_of_boxes record_meaning range_meaning self.now) code)
-            item.now arg.now }
+        requires { let t = table_of_boxes record_meaning range_meaning self.now in
+            IsTrue (is_some (record_at t code)) }
+        ensures { let t = table_of_boxes record_meaning range_meaning self.now in
+            result ≡ accepts_of (record_at t code) item.now arg.now }
     {
         match self.record(code) {
             Some(op) => box_accepts(op, item, arg),
@@ -142,12 +134,10 @@ impl Ops {
     /// Does the record operation with this code to an item that it accepts with this argument. The
     /// item keeps its length.
     pub fn redo(&self, code: u16, item: &mut [u8], arg: &[u8])
-        requires { IsTrue (accepts_of
-            (record_at (table_of_boxes record_meaning range_meaning self.now) code)
-            item.old arg.now) }
-        ensures { item.new ≡ after_of
-            (record_at (table_of_boxes record_meaning range_meaning self.now) code)
-            item.old arg.now }
+        requires { let t = table_of_boxes record_meaning range_meaning self.now in
+            IsTrue (accepts_of (record_at t code) item.old arg.now) }
+        ensures { let t = table_of_boxes record_meaning range_meaning self.now in
+            item.new ≡ after_of (record_at t code) item.old arg.now }
     {
         match self.record(code) {
             Some(op) => box_redo(op, item, arg),
@@ -158,10 +148,10 @@ impl Ops {
     /// Undoes the record operation with this code, on any item with any argument. The item keeps
     /// its length.
     pub fn undo(&self, code: u16, item: &mut [u8], arg: &[u8])
-        requires { IsTrue (is_some (record_at (table_of_boxes record_meaning range_meaning self.now) code)) }
-        ensures { item.new ≡ before_of
-            (record_at (table_of_boxes record_meaning range_meaning self.now) code)
-            item.old arg.now }
+        requires { let t = table_of_boxes record_meaning range_meaning self.now in
+            IsTrue (is_some (record_at t code)) }
+        ensures { let t = table_of_boxes record_meaning range_meaning self.now in
+            item.new ≡ before_of (record_at t code) item.old arg.now }
     {
         match self.record(code) {
             Some(op) => box_undo(op, item, arg),
@@ -169,15 +159,14 @@ impl Ops {
         }
     }
 
-    /// Sets byte k of `into` to the byte that the range operation with this code gives for `arg` at
-    /// the position `pos + k`, whatever stood there. The positions stay below `RANGE_LIMIT`.
+    /// Fills `into` with the bytes that the range operation with this code gives for `arg` from the
+    /// position `pos` on, whatever stood there. The positions stay below `RANGE_LIMIT`.
     pub fn render(&self, code: u16, pos: u32, arg: &[u8], into: &mut [u8])
-        requires registered { IsTrue (is_some (range_at (table_of_boxes record_meaning range_meaning self.now) code)) }
+        requires registered { let t = table_of_boxes record_meaning range_meaning self.now in
+            IsTrue (is_some (range_at t code)) }
         requires within { pos + length into.old ≤ RANGE_LIMIT }
-        ensures { (k : ℕ) → k < length into.old →
-            slice_index into.new k
-            ≡ byte_of (range_at (table_of_boxes record_meaning range_meaning self.now) code)
-            arg.now (pos + k) }
+        ensures { let t = table_of_boxes record_meaning range_meaning self.now in
+            (k : ℕ) → k < length into.old → slice_index into.new k ≡ byte_of (range_at t code) arg.now (pos + k) }
     {
         if code == FILL_CODE {
             fill(pos, arg, into);
