@@ -3,9 +3,9 @@ use Rattle.std.proofs.Common.{add-zero, true, ◌≡◌, ℕ, ◌+◌, ◌<◌, 
 use Rattle.std.proofs.lemmas.Bool.Decides.{nat_tests}
 use Rattle.std.proofs.lemmas.List.{map-append}
 use Rattle.sg_disk.specs.Disk.{View}
-use Rattle.sg_record.specs.Records.{Record, spelled, spelled_all, transaction_of}
-use Rattle.sg_record.specs.Records.Record.{Begin, Commit, Line}
-use Rattle.sg_record.proofs.Spelling.{spelled-long}
+use Rattle.sg_record.specs.Plain.{Record, spelled, spelled_all, transaction_of}
+use Rattle.sg_record.specs.Plain.Record.{Begin, Commit, Line}
+use Rattle.sg_record.proofs.PlainLaws.{spelled-long}
 use Rattle.sg_log.specs.Following.{last_or, last_of, IsOwned, Follows, AreChainedBehind, AreChained}
 use Rattle.sg_log.specs.Frames.{Numbered, records_of, numbered_from, numbered_in, text_of, gate_after}
 use Rattle.sg_log.specs.Held.{Tail, Holds, tail_of}

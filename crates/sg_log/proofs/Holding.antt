@@ -6,10 +6,11 @@ use Rattle.std.proofs.lemmas.Bool.Decides.{nat_tests}
 use Rattle.sg_base.specs.declared.area.Area.{Area}
 use Rattle.sg_disk.specs.Disk.{Bytes, Image, State, Leaves, View, LeavesOnly, ReadBytes}
 use Rattle.sg_disk.proofs.Moments.{started, goes_on}
-use Rattle.sg_record.specs.Records.{Record, spelled, spelled_all, HEADER, GREATEST, header, kind_of, transaction_of, previous_of, body_of, IsRecord, AreRecords}
+use Rattle.sg_record.specs.Records.{header}
+use Rattle.sg_record.specs.Plain.{Record, spelled, spelled_all, HEADER, GREATEST, kind_of, transaction_of, previous_of, body_of, IsRecord, AreRecords}
 use borrow.Rule.Slice.PartMut.{put_mid}
-use Rattle.sg_record.proofs.Placed.{placed}
-use Rattle.sg_record.proofs.Spelling.{spelled-long}
+use Rattle.sg_log.proofs.Laid.{placed}
+use Rattle.sg_record.proofs.PlainLaws.{spelled-long}
 use Rattle.sg_log.specs.Frames.{GREATEST_BODY, LOG_END, Numbered, numbered_from, numbered_in, gate_after, text_of, IsFrame, Frames, IsAtRest, IsWithOrWithout, HasRecords}
 use Rattle.sg_log.specs.Held.{Tail, Holds, tail_of, has_room, place_of, end_of, numbered, forced, buffered, durable_after, waiting_after, IsBeforeOrAfter}
 use Rattle.sg_log.proofs.Steps.{frame_text, gate_more, rest_image}

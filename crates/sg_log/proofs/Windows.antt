@@ -7,7 +7,8 @@ use Rattle.byteorder.specs.Endian.{little_bytes, little_number}
 use Rattle.byteorder.specs.Numbers.{little_number-reads_back}
 use Rattle.sg_disk.specs.Disk.{Bytes, State, window}
 use Rattle.sg_log.specs.Places.{IsRecordText}
-use Rattle.sg_record.specs.Records.{Record, HEADER, header, kind_of, transaction_of, previous_of, body_of, spelled, IsRecord}
+use Rattle.sg_record.specs.Records.{header}
+use Rattle.sg_record.specs.Plain.{Record, HEADER, kind_of, transaction_of, previous_of, body_of, spelled, IsRecord}
 
 pub window-length : (f : Bytes) (at n : ℕ) → length (window f at n) ≡ n
 window-length f at zero = refl

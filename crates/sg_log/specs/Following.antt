@@ -1,7 +1,7 @@
 -- Which records follow one another in a log.
 use Rattle.std.specs.Prelude.{◌≡◌, ◌<◌, ◌==◌, if◌then◌else◌, ℕ, List, [], ◌∷◌, ◌++◌}
-use Rattle.sg_record.specs.Records.{Record, transaction_of, previous_of}
-use Rattle.sg_record.specs.Records.Record.{Begin, Commit, Line}
+use Rattle.sg_record.specs.Plain.{Record, transaction_of, previous_of}
+use Rattle.sg_record.specs.Plain.Record.{Begin, Commit, Line}
 use Rattle.sg_log.specs.Frames.{Numbered}
 
 -- the number of the last of these records that is of this transaction, or the one given where none is

@@ -1,13 +1,13 @@
 ghost use Rattle.std.specs.Prelude.{◌≡◌, ◌⊎◌, ◌≤◌, IfOk, length};
 ghost use Rattle.sg_base.specs.declared.area.Area.TheVariants.{Log0, Log1};
 ghost use Rattle.sg_log.specs.Frames.{LOG_END};
-ghost use Rattle.sg_record.specs.Records.{IsRecord};
-ghost use Rattle.sg_record.specs.Shown.{shown};
+ghost use Rattle.sg_record.specs.Plain.{IsRecord};
+ghost use Rattle.sg_record.specs.Plain.{shown};
 
 use crate::{Log, LogFault, Place};
 use sg_base::{Lsn, TxnId};
 use sg_disk::{Area, CallKind, Disk, Fuse, MemDisk};
-use sg_record::Rec;
+use sg_record::plain::Rec;
 use std::alloc::{AllocError, Global};
 use std::test::Fail;
 

@@ -1,3 +1,5 @@
-pub mod Placed
-pub mod Spelling
+pub mod Laws
+pub mod Parsing
 pub mod Read
+pub mod PlainLaws
+pub mod Written

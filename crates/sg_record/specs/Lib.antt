@@ -1,3 +1,6 @@
+pub mod Changes
 pub mod Records
+pub mod Ranges
 pub mod Reading
 pub mod Shown
+pub mod Plain

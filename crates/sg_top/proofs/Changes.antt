@@ -19,8 +19,8 @@ use Rattle.sg_words.specs.Text.Answer.{TooManyLive, Memory, LogEnd, Disk, Said}
 use Rattle.sg_words.specs.Run.{live_named, without, answer_of, began, committed, did, stop, stop_at_commit, stop_at, broken, full, turn, turn_begin, turn_commit, turn_op, IsSaid, IsLogged, WouldReply}
 use Rattle.sg_words.specs.Spoken.{op_said}
 use Rattle.sg_words.proofs.Steps.{live_objects-did}
-use Rattle.sg_record.specs.Records.{Record, IsRecord}
-use Rattle.sg_record.specs.Records.Record.{Begin as BeginRecord, Commit as CommitRecord, Line as LineRecord}
+use Rattle.sg_record.specs.Plain.{Record, IsRecord}
+use Rattle.sg_record.specs.Plain.Record.{Begin as BeginRecord, Commit as CommitRecord, Line as LineRecord}
 use Rattle.sg_log.specs.Frames.{LOG_END, Numbered, records_of, HasRecords}
 use Rattle.sg_log.specs.Faults.{AppendFails, ForceFails}
 use Rattle.sg_log.specs.declared.fault.LogFault.{LogFault}

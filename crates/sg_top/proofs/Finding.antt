@@ -3,8 +3,8 @@ use Rattle.std.proofs.Common.{◌≡◌, ℕ, ◌+◌, ◌<◌, ◌≤◌, List,
 use Rattle.std.proofs.lemmas.Grind.{flat_map-append}
 use Rattle.std.proofs.lemmas.List.{drop-drop}
 use Rattle.std.proofs.Math.Seq.{drop-append_seam}
-use Rattle.sg_record.specs.Records.{Record, spelled, spelled_all, IsRecord, AreRecords}
-use Rattle.sg_record.proofs.Spelling.{spelled-long}
+use Rattle.sg_record.specs.Plain.{Record, spelled, spelled_all, IsRecord, AreRecords}
+use Rattle.sg_record.proofs.PlainLaws.{spelled-long}
 use Rattle.sg_log.specs.Following.{last_or, Follows, AreChainedBehind}
 use Rattle.sg_log.specs.Frames.{Numbered, numbered_from, records_of}
 use Rattle.sg_log.proofs.Following.{records_of-append, last_or-append, chained-append}

@@ -5,8 +5,8 @@ use Rattle.std.specs.FinMap.{empty}
 use Rattle.sg_base.specs.declared.area.Area.TheVariants.{Log0}
 use Rattle.sg_disk.specs.Disk as disk
 use Rattle.sg_model.specs.Objects.{Objects}
-use Rattle.sg_record.specs.Records.{Record}
-use Rattle.sg_record.specs.Records.Record.{Begin, Commit, Line}
+use Rattle.sg_record.specs.Plain.{Record}
+use Rattle.sg_record.specs.Plain.Record.{Begin, Commit, Line}
 use Rattle.sg_log.specs.Following.{Follows, AreChained}
 use Rattle.sg_log.specs.Frames.{Frames, Numbered, numbered_in, records_of}
 use Rattle.sg_log.proofs.Chain.{undamaged}

@@ -6,7 +6,7 @@ use Rattle.sg_base.specs.declared.area.Area.{Area}
 use Rattle.sg_base.specs.declared.area.Area.TheVariants.{Log0}
 use Rattle.sg_disk.specs.Disk as disk
 use Rattle.sg_model.specs.Objects.{Objects}
-use Rattle.sg_record.specs.Records.{Record}
+use Rattle.sg_record.specs.Plain.{Record}
 use Rattle.sg_log.specs.Following.{AreChained}
 use Rattle.sg_log.specs.Frames.{Frames, Numbered, numbered_in, records_of, HasRecords}
 use Rattle.sg_log.specs.Held.{Tail, Holds}

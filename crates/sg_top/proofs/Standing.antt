@@ -6,8 +6,8 @@ use Rattle.sg_base.specs.declared.area.Area.TheVariants.{Log0}
 use Rattle.sg_disk.specs.Disk as disk
 use Rattle.sg_model.specs.Objects.{Objects, Op}
 use Rattle.sg_model.specs.History.{Live, State, committed_objects, live_objects}
-use Rattle.sg_record.specs.Records.{Record}
-use Rattle.sg_record.specs.Records.Record.{Commit}
+use Rattle.sg_record.specs.Plain.{Record}
+use Rattle.sg_record.specs.Plain.Record.{Commit}
 use Rattle.sg_log.specs.Following.{AreChained}
 use Rattle.sg_log.specs.Frames.{Numbered, records_of, HasRecords}
 use Rattle.sg_log.specs.Held.{Tail, tail_of, IsBeforeOrAfter}

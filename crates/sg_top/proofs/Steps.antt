@@ -17,8 +17,8 @@ use Rattle.sg_words.specs.Order.Verb.{Begin, Commit, Do}
 use Rattle.sg_words.specs.Text.{Answer}
 use Rattle.sg_words.specs.Text.Answer.{Silent, BadSyntax, NoTransaction, IsLive, TooManyLive, Memory, Stopped, LogEnd, Said}
 use Rattle.sg_words.specs.Run.{live_named, answer_of, began, turn, turn_verb, turn_begin, turn_commit, turn_op, IsSaid, WouldReply, Turns, LineBy, IsCaused}
-use Rattle.sg_record.specs.Records.{Record, spelled, transaction_of, IsRecord}
-use Rattle.sg_record.specs.Records.Record.{Begin as BeginRecord, Commit as CommitRecord}
+use Rattle.sg_record.specs.Plain.{Record, spelled, transaction_of, IsRecord}
+use Rattle.sg_record.specs.Plain.Record.{Begin as BeginRecord, Commit as CommitRecord}
 use Rattle.sg_log.specs.Frames.{LOG_END, Numbered, records_of, HasRecords}
 use Rattle.sg_log.specs.Faults.{AppendFails, ForceFails}
 use Rattle.sg_log.specs.declared.fault.LogFault.{LogFault}

@@ -1,7 +1,7 @@
 -- How the frames of a log are walked over.
 use Rattle.std.proofs.Common.{◌≡◌, ℕ, ◌+◌, ◌≤◌, Bool, IsTrue, List, [], ◌∷◌, ◌++◌, length, refl, sym, ap, ◌∙◌, subst, arith, append-nil, append_assoc}
 use Rattle.sg_disk.specs.Disk as disk
-use Rattle.sg_record.specs.Records.{Record, spelled_all, AreRecords}
+use Rattle.sg_record.specs.Plain.{Record, spelled_all, AreRecords}
 use Rattle.sg_log.specs.Faults.{FrameFails}
 use Rattle.sg_log.specs.Following.{AreChained}
 use Rattle.sg_log.specs.Formed.{IsFormed, IsUnformed}

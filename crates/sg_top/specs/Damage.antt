@@ -4,8 +4,8 @@ use Rattle.std.specs.List.{flat_map}
 use Rattle.std.specs.FinMap.{empty}
 use Rattle.sg_disk.specs.Disk.{Bytes}
 use Rattle.sg_model.specs.Objects.{Objects}
-use Rattle.sg_record.specs.Records.{Record}
-use Rattle.sg_record.specs.Records.Record.{Begin, Commit, Line}
+use Rattle.sg_record.specs.Plain.{Record}
+use Rattle.sg_record.specs.Plain.Record.{Begin, Commit, Line}
 use Rattle.sg_log.specs.Formed.{IsDamagedAt}
 use Rattle.sg_log.specs.Following.{Follows, AreChainedBehind, AreChained}
 use Rattle.sg_log.specs.Frames.{Numbered, numbered_in, records_of, Frames}

@@ -4,7 +4,7 @@ use Rattle.sg_base.specs.Ends.{HasRisen}
 use Rattle.sg_disk.specs.Disk as disk
 use Rattle.sg_base.specs.declared.area.Area.TheVariants.{Log0}
 use Rattle.sg_model.specs.Objects.{Objects}
-use Rattle.sg_record.specs.Records.{Record, AreRecords, spelled_all}
+use Rattle.sg_record.specs.Plain.{Record, AreRecords, spelled_all}
 use Rattle.sg_log.specs.Following.{last_or, last_of, AreChained}
 use Rattle.sg_log.specs.Frames.{LOG_END, Numbered, numbered_from, numbered_in, records_of, Frames, gate_after}
 use Rattle.sg_log.specs.Held.{Tail, Holds}

@@ -8,8 +8,8 @@ use Rattle.sg_model.specs.declared.reason.Reason.{Reason}
 use Rattle.sg_model.specs.Objects.{Objects, Op, Reply, step}
 use Rattle.sg_model.specs.History.{State, objects_after}
 use Rattle.sg_words.specs.Spoken.{op_said}
-use Rattle.sg_record.specs.Records.{Record}
-use Rattle.sg_record.specs.Records.Record.{Begin, Commit, Line}
+use Rattle.sg_record.specs.Plain.{Record}
+use Rattle.sg_record.specs.Plain.Record.{Begin, Commit, Line}
 use Rattle.sg_log.specs.Following.{AreChained}
 use Rattle.sg_log.specs.Frames.{Numbered, records_of, HasRecords}
 

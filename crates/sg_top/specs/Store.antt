@@ -6,8 +6,8 @@ use Rattle.sg_base.specs.declared.area.Area.TheVariants.{Log0}
 use Rattle.sg_disk.specs.Disk as disk
 use Rattle.sg_model.specs.Objects.{Objects}
 use Rattle.sg_model.specs.History.{Entry, Live, State, after_all, ops_of, live_objects, committed_objects}
-use Rattle.sg_record.specs.Records.{Record}
-use Rattle.sg_record.specs.Records.Record.{Begin, Commit, Line}
+use Rattle.sg_record.specs.Plain.{Record}
+use Rattle.sg_record.specs.Plain.Record.{Begin, Commit, Line}
 use Rattle.sg_log.specs.Following.{last_of, AreChained}
 use Rattle.sg_log.specs.Frames.{GREATEST_BODY, Numbered, records_of}
 use Rattle.sg_log.specs.Held.{Tail, tail_of, Holds}

@@ -1,16 +1,16 @@
 // What a log says of its transactions.
 ghost use Rattle.std.specs.Prelude.{◌≡◌, ◌≤◌, ◌==◌, length, ℕ, List, [], ◌∷◌, ◌++◌, map, OnOk, MatchOption, IsTrue, ◌↔◌, if◌then◌else◌, true, None, option_copied};
-ghost use Rattle.sg_record.specs.Records.{IsRecord, transaction_of, previous_of};
+ghost use Rattle.sg_record.specs.Plain.{IsRecord, transaction_of, previous_of};
 ghost use Rattle.sg_log.specs.Following.{last_or, IsOwned, Follows};
 ghost use Rattle.sg_log.specs.Frames.{Numbered};
-ghost use Rattle.sg_record.specs.Shown.{shown};
+ghost use Rattle.sg_record.specs.Plain.{shown};
 ghost use Rattle.sg_top.specs.Stands.{commits_in};
 ghost use Rattle.sg_top.specs.Damage.{LineAt, line_at};
 ghost use Rattle.sg_top.specs.Found.{line_of, lines_found, last_found, KnowsLasts};
 
 use crate::found_line::FoundLine;
 use sg_base::{Lsn, OutOfMemory};
-use sg_record::Rec;
+use sg_record::plain::Rec;
 use std::alloc::Global;
 use std::collections::BTreeMap;
 

@@ -3,8 +3,8 @@ ghost use Rattle.std.specs.Prelude.{◌≡◌, ◌⊎◌, ◌≤◌, ◌<◌, �
 ghost use Rattle.std.specs.List.{flat_map};
 ghost use Rattle.std.specs.FinMap.{empty};
 ghost use Rattle.sg_base.specs.declared.area.Area.TheVariants.{Log0};
-ghost use Rattle.sg_record.specs.Records.{Record, spelled_all, AreRecords};
-ghost use Rattle.sg_record.specs.Shown.{shown};
+ghost use Rattle.sg_record.specs.Plain.{Record, spelled_all, AreRecords};
+ghost use Rattle.sg_record.specs.Plain.{shown};
 ghost use Rattle.sg_log.specs.Following.{AreChainedBehind};
 ghost use Rattle.sg_log.specs.Frames.{Frames, Numbered, numbered_from, HasRecords, gate_after, GREATEST_BODY};
 ghost use Rattle.sg_log.specs.Held.{Holds};
@@ -22,7 +22,7 @@ use sg_base::{Area, OutOfMemory};
 use sg_disk::Disk;
 use sg_log::{Log, LogFault};
 use sg_model::Objects;
-use sg_record::decode;
+use sg_record::plain::decode;
 use sg_words::parse_said;
 use std::alloc::Global;
 

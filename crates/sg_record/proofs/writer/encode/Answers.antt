@@ -1,22 +1,12 @@
-use Rattle.std.proofs.Common.{◌≡◌, ◌+◌, ◌-◌, ◌++◌, length, drop, sym, subst}
-use borrow.Rule.Slice.PartMut.{put_mid}
-use Rattle.sg_record.specs.Records.{spelled}
-use Rattle.sg_record.specs.Shown.{shown}
-use Rattle.sg_record.specs.declared.record.Rec as code
-use Rattle.sg_record.proofs.Placed.{spelled_begin, spelled_commit, spelled_line}
+use Rattle.std.proofs.Common.{◌+◌, ◌∙◌, ap, arith}
+use Rattle.sg_base.proofs.Overwriting.{wrote_on}
+use Rattle.sg_record.specs.Records.{HEADER, kind_of, code_of}
+use Rattle.sg_record.specs.Shown.{shown, shown_says}
+use Rattle.sg_record.proofs.Written.{encoded}
 use Rattle.sg_record.proofs.writer.encode.Goals as goal
 
-pub returns-in-Begin-clause-bytes : goal.returns-in-Begin-clause-bytes
-returns-in-Begin-clause-bytes c =
-    subst (λ (r : code.Rec). c.put_header.new.into ≡ spelled (shown r) ++ drop (length (spelled (shown r))) c.args.into.now) (sym c.in-Begin.is)
-    (spelled_begin c.in-Begin.txn.0 c.in-Begin.prev c.args.into.now c.put_header.new.into c.put_header.ensures)
-
-pub returns-in-Commit-clause-bytes : goal.returns-in-Commit-clause-bytes
-returns-in-Commit-clause-bytes c =
-    subst (λ (r : code.Rec). c.put_header-in-Commit.new.into ≡ spelled (shown r) ++ drop (length (spelled (shown r))) c.args.into.now) (sym c.in-Commit.is)
-    (spelled_commit c.in-Commit.txn.0 c.in-Commit.prev c.args.into.now c.put_header-in-Commit.new.into c.put_header-in-Commit.ensures)
-
-pub returns-in-Line-clause-bytes : goal.returns-in-Line-clause-bytes
-returns-in-Line-clause-bytes c =
-    subst (λ (r : code.Rec). put_mid 21 (21 + length c.in-Line.words.now - 21) c.put_header-in-Line.new.into c.copy_from_slice.new.self ≡ spelled (shown r) ++ drop (length (spelled (shown r))) c.args.into.now) (sym c.in-Line.is)
-    (spelled_line c.args.into.now c.put_header-in-Line.new.into c.copy_from_slice.new.self c.in-Line.words.now c.in-Line.txn.0 c.in-Line.prev c.put_header-in-Line.ensures c.copy_from_slice.ensures.after)
+pub returns-clause-bytes : goal.returns-clause-bytes
+returns-clause-bytes c =
+    encoded c.args.into.now c.put_says.new.into c.put_says.result (shown c.args.r.now) (shown_says c.says-says.result) c.code_of.result (HEADER + c.body_size-size.result) c.txn.result.0 c.prev.result
+    c.says-says.ensures (c.code_of.ensures ∙ ap code_of c.kind.ensures) (ap (λ n. HEADER + n) c.body_size-size.ensures) c.txn.ensures c.prev.ensures
+    (wrote_on (omega arith) c.put_header-at.ensures c.put_says.ensures)

@@ -1,6 +1,6 @@
 use Rattle.std.proofs.Common.{◌+◌, None, Some, refl, sym, subst, arith}
-use Rattle.sg_record.specs.Shown.{shown}
-use Rattle.sg_record.proofs.Spelling.{spelled-long}
+use Rattle.sg_record.specs.Plain.{shown}
+use Rattle.sg_record.proofs.PlainLaws.{spelled-long}
 use Rattle.sg_log.specs.Frames.{Numbered}
 use Rattle.sg_top.specs.Found.{IsRefusedIn}
 use Rattle.sg_top.specs.declared.opening.OpenRefused as code_refused

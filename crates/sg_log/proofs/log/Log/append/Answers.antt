@@ -1,5 +1,5 @@
 use Rattle.std.proofs.Common.{[], ◌++◌, ◌≤◌, ◌+◌, ◌^◌, length, subst, sym, ap, ◌∙◌, arith}
-use Rattle.sg_record.specs.Shown.{shown}
+use Rattle.sg_record.specs.Plain.{shown}
 use Rattle.sg_log.specs.Held.{Tail, Holds, tail_of, end_of, forced, buffered, durable_after, waiting_after}
 use Rattle.sg_log.proofs.Holding.{spelled_most, no_room, no_call_moments, tail_room, tail_no_room, place_forced, forced_empty, holds_room, holds_no_room}
 use Rattle.sg_log.proofs.log.Log.append.Goals as goal

@@ -1,6 +1,6 @@
 use Rattle.std.proofs.Common.{◌≤◌, inr, option_map, refl, sym, ap, ◌∙◌, arith}
-use Rattle.sg_record.specs.Records.{IsRecord}
-use Rattle.sg_record.specs.Records.Record.{Begin as BeginRecord}
+use Rattle.sg_record.specs.Plain.{IsRecord}
+use Rattle.sg_record.specs.Plain.Record.{Begin as BeginRecord}
 use Rattle.sg_log.specs.Held.{Tail, tail_of, end_of}
 use Rattle.sg_top.specs.Goes.{NEW_WORK_END}
 use Rattle.sg_top.specs.Shown.{core_of, live_of}

@@ -1,7 +1,7 @@
 use Rattle.std.proofs.Common.{◌<◌, Err, option_map, refl, sym, ap, ◌∙◌, arith, subst, ◌+◌}
 use Rattle.sg_base.specs.Ends.{HasRisen}
 use Rattle.sg_log.specs.Frames.{LOG_END}
-use Rattle.sg_record.specs.Records.Record.{Commit as CommitRecord}
+use Rattle.sg_record.specs.Plain.Record.{Commit as CommitRecord}
 use Rattle.sg_log.specs.Held.{Tail, tail_of, end_of}
 use Rattle.sg_top.specs.Shown.{core_of, live_of, last_in, shown_answer, answer_at, StopIsCaused}
 use Rattle.sg_top.specs.declared.answer.Answer as code_answer

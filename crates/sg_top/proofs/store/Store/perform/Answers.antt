@@ -7,8 +7,8 @@ use Rattle.sg_model.specs.declared.reason.Reason.{Reason}
 use Rattle.sg_model.specs.Shown.{shown_op}
 use Rattle.sg_words.specs.Spoken.{spoken}
 use Rattle.sg_words.proofs.Said.{op_said-spoken}
-use Rattle.sg_record.specs.Records.{Record, IsRecord}
-use Rattle.sg_record.specs.Records.Record.{Line as LineRecord}
+use Rattle.sg_record.specs.Plain.{Record, IsRecord}
+use Rattle.sg_record.specs.Plain.Record.{Line as LineRecord}
 use Rattle.sg_log.specs.Held.{Tail, tail_of, end_of}
 use Rattle.sg_top.specs.Shown.{core_of, live_of, last_in, shown_answer, answer_at, StopIsCaused}
 use Rattle.sg_top.specs.Goes.{NEW_WORK_END}
