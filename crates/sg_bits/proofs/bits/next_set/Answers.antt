@@ -1,0 +1,25 @@
+use Rattle.std.proofs.Common.{◌≡◌, ◌+◌, ◌*◌, ◌/◌, refl, arith}
+use Rattle.sg_bits.specs.Bits.{IsSet}
+use Rattle.sg_bits.proofs.RowBits.{reach_more, word_skipped, word_found}
+use Rattle.sg_bits.proofs.bits.next_set.Goals as goal
+
+pub returns-then-bit-lt-WORD_BITS-clause-skipped :
+    goal.returns-then-bit-lt-WORD_BITS-clause-skipped
+returns-then-bit-lt-WORD_BITS-clause-skipped c =
+    reach_more (λ k. IsSet c.args.words.now k → ⊥) c.args.from c.words.here _ c.words.invariant.passed
+    (word_skipped c.args.words.now c.words.here c.lowest_from-bit.result _ c.lowest_from-bit.ensures.bound refl c.lowest_from-bit.ensures.skipped)
+
+pub returns-then-bit-lt-WORD_BITS-clause-found : goal.returns-then-bit-lt-WORD_BITS-clause-found
+returns-then-bit-lt-WORD_BITS-clause-found c =
+    λ _. word_found c.args.words.now (c.words.here / 64) c.lowest_from-bit.result _ c.if-bit-lt-WORD_BITS.true refl (c.lowest_from-bit.ensures.found c.if-bit-lt-WORD_BITS.true)
+
+pub words-preserved : goal.words-preserved
+words-preserved c =
+    let whole : c.words.here / 64 * 64 + c.lowest_from-bit.result ≡ (c.words.here / 64 + 1) * 64 = omega arith in
+    record {
+      after = omega arith;
+      within = omega arith;
+      passed =
+          reach_more (λ k. IsSet c.args.words.now k → ⊥) c.args.from c.words.here _ c.words.invariant.passed
+          (word_skipped c.args.words.now c.words.here c.lowest_from-bit.result _ c.lowest_from-bit.ensures.bound whole c.lowest_from-bit.ensures.skipped);
+    }
