@@ -1,17 +1,17 @@
 -- The gates and texts of slots that were read.
-use Rattle.std.proofs.Common.{◌≡◌, ◌↔◌, ◌<◌, ◌≤◌, ◌+◌, ◌==◌, ℕ, Bool, true, false, IsTrue, if◌then◌else◌, Option, Some, None, Result, IfErr, List, length, take, drop, get_or, ◌-◌, min, sym, ◌∙◌, ap, subst, arith}
+use Rattle.std.proofs.Common.{refl, ◌≡◌, ◌↔◌, ◌<◌, ◌≤◌, ◌+◌, ◌==◌, ℕ, Bool, true, false, IsTrue, if◌then◌else◌, Option, Some, None, Result, IfErr, List, length, take, drop, get_or, ◌-◌, min, sym, ◌∙◌, ap, subst, arith}
 use Rattle.std.proofs.lemmas.Bool.Decides.{nat_tests}
 use Rattle.std.proofs.Math.Seq.{take-length}
 use Rattle.sg_base.specs.declared.area.Area.TheVariants.{Home}
-use Rattle.sg_disk.specs.Disk.{Bytes, View, window}
+use Rattle.sg_disk.specs.Disk.{Bytes, State, View, LeavesOnly, window}
 use Rattle.sg_gate.specs.Faults.{ReadFails}
-use Rattle.sg_gate.specs.Superblock.{start_of, text_at, counting, read_with, read_text, superblock, wrong_in}
+use Rattle.sg_gate.specs.Superblock.{start_of, text_at, counting, spare, spare_of, spelled, read_with, read_text, superblock, wrong_in, IsSuper, IsText, IsNewer, IsSpare, IsRenewing, IsRenewed}
 use Rattle.sg_gate.specs.declared.fault.GateFault.{GateFault}
 use Rattle.sg_gate.specs.declared.slot.Slot.{Slot}
 use Rattle.sg_gate.specs.declared.superblock.Super.{Super}
 use Rattle.sg_gate.proofs.Windows.{first_of, window_size}
-use Rattle.sg_gate.proofs.Fields.{slot_text}
-use Rattle.sg_gate.proofs.Slots.{superblock_is}
+use Rattle.sg_gate.proofs.Fields.{slot_text, spelled_text}
+use Rattle.sg_gate.proofs.Slots.{superblock_is, is_spare}
 
 pub gate_same : (f : Bytes) (at n : ℕ) (read : List ℕ) → read ≡ window f at n → n ≡ 44 → (get_or read 0 0 == 1) ≡ (f at == 1)
 gate_same f at n read is size = ap (λ (x : ℕ). x == 1) (first_of f at n read is (omega arith))
@@ -41,3 +41,21 @@ faults_with told old new at text (Some wrong) r is found = subst (λ (q : Result
 -- when it answers which fault
 pub text_faults : (told : Bool) (old new : View) (at : ℕ) (text : List ℕ) (r : Result Super GateFault) → r ≡ read_text at text → (IsTrue told → r ≡ superblock (old.now Home).seen) → IfErr r (λ e. ReadFails told old new e)
 text_faults told old new at text r is found = faults_with told old new at text (wrong_in text) r is found
+
+-- THE SLOT THAT DOESN'T COUNT, as it was found.
+pub spare_text : (f : Bytes) (s : Super) (text : List ℕ) → text ≡ spelled s → IsSuper s → IsNewer f s → IsSpare f s text (spare_of f)
+spare_text f s text is range newer = is_spare f s text (subst (λ (t : List ℕ). IsText s t) (sym is) (spelled_text s range)) (counting f) refl newer
+
+spare_at : (f : Bytes) (slot : Slot) (o : Option Slot) (found : Slot) → o ≡ counting f → found ≡ spare o → found ≡ slot → spare_of f ≡ start_of slot
+spare_at f slot o found counted is arm = ap (λ (p : Option Slot). start_of (spare p)) (sym counted) ∙ ap start_of (sym is ∙ arm)
+
+pub spare_here : (f : Bytes) (s : Super) (text : List ℕ) → text ≡ spelled s → IsSuper s → IsNewer f s → (slot : Slot) (o : Option Slot) (found : Slot) → o ≡ counting f → found ≡ spare o → found ≡ slot → IsSpare f s text (start_of slot)
+spare_here f s text spells range newer slot o found counted is arm = subst (λ (at : ℕ). IsSpare f s text at) (spare_at f slot o found counted is arm) (spare_text f s text spells range newer)
+
+pub moments_there : (v z : View) (s : Super) (slot : Slot) (o : Option Slot) (found : Slot) → o ≡ counting (v.now Home).seen → found ≡ spare o → found ≡ slot
+    → LeavesOnly v z (IsRenewing v.now s (start_of slot)) → LeavesOnly v z (IsRenewing v.now s (spare_of (v.now Home).seen))
+moments_there v z s slot o found counted is arm run = subst (λ (at : ℕ). LeavesOnly v z (IsRenewing v.now s at)) (sym (spare_at (v.now Home).seen slot o found counted is arm)) run
+
+pub renewed_there : (r s t : State) (new : Super) (slot : Slot) (o : Option Slot) (found : Slot) → o ≡ counting (r Home).seen → found ≡ spare o → found ≡ slot → s ≡ r → IsRenewed s t new (start_of slot) → IsRenewed r t new (spare_of (r Home).seen)
+renewed_there r s t new slot o found counted is arm same done =
+    subst (λ (at : ℕ). IsRenewed r t new at) (sym (spare_at (r Home).seen slot o found counted is arm)) (subst (λ (u : State). IsRenewed u t new (start_of slot)) same done)

@@ -10,9 +10,6 @@ pub const HEADER_START: u64 = 8_192;
 /// The offset of the header's count of numbers.
 pub const COUNT_START: u64 = 8_193;
 
-/// How many places the double-write area has, and so how many pages go home at once at most.
-pub const PLACE_COUNT: u32 = 32;
-
 /// The offset in the home area at which place `k` of the double-write area begins.
 pub fn place_start(k: u32) -> u64
     requires { k < 32 }

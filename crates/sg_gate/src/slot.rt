@@ -13,6 +13,11 @@ use crate::superblock::{Super, parse_text, spell_text};
 use sg_base::read_u64;
 use sg_disk::{Area, Disk, Failed};
 
+// The offsets in the home area at which the two slots begin, with their gates.
+const FIRST_START: u64 = 0;
+
+const SECOND_START: u64 = 4_096;
+
 /// One of the two slots.
 #[derive(Clone, Copy, Debug, PartialEq, Eq)]
 pub enum Slot {
@@ -26,8 +31,8 @@ impl Slot {
         ensures { result ≡ start_of self }
     {
         match self {
-            Slot::First => 0,
-            Slot::Second => 4_096,
+            Slot::First => FIRST_START,
+            Slot::Second => SECOND_START,
         }
     }
 }
@@ -77,8 +82,8 @@ fn read_slots<D: Disk>(
     ensures calls { OnOk result ((D.view disk.new).calls ≡ min ((D.view disk.old).calls + 2) FULL) }
     ensures calls_most { (D.view disk.new).calls ≤ (D.view disk.old).calls + 2 }
 {
-    disk.read_at(Area::Home, 0, first)?;
-    disk.read_at(Area::Home, 4_096, second)?;
+    disk.read_at(Area::Home, FIRST_START, first)?;
+    disk.read_at(Area::Home, SECOND_START, second)?;
     Ok(choose(first, second))
 }
 
@@ -209,11 +214,11 @@ pub fn renew<D: Disk>(disk: &mut D, s: &Super) -> Result<(), GateFault>
     spell_text(s, &mut text);
     match spare(read_slots(disk, &mut first, &mut second)?) {
         Slot::First => {
-            renew_slot(disk, 0, first[0] == 1, &text)?;
+            renew_slot(disk, FIRST_START, first[0] == 1, &text)?;
             Ok(())
         }
         Slot::Second => {
-            renew_slot(disk, 4_096, second[0] == 1, &text)?;
+            renew_slot(disk, SECOND_START, second[0] == 1, &text)?;
             Ok(())
         }
     }
