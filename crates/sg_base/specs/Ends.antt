@@ -5,11 +5,6 @@ use Rattle.std.specs.Prelude.{◌≡◌, ℕ, ◌+◌, ◌<◌, ◌≤◌, ◌^�
 abbrev pub HasRisen : ℕ → ℕ → Type 0
 HasRisen before now = now + 1 < 2 ^ 64 → before < now
 
--- the count of faults did not rise
-pub record IsQuiet (before now : ℕ) : Type 0 where
-  pub same : now ≡ before
-  pub below : now + 1 < 2 ^ 64
-
 -- A read of n bytes into the buffer, from a source of which this was left and now that is.
 -- Nothing is said of a source that doesn't tell
 abbrev pub Gives : Option (List ℕ) → List ℕ → ℕ → Option (List ℕ) → Type 0

@@ -18,12 +18,14 @@ pub trait Source {
     ghost faults: { Self → ℕ };
 
     /// Fills a front of the buffer, and answers how many bytes. 0 for a buffer that isn't empty is
-    /// the end. A call that fails takes nothing from what is left.
+    /// the end. A call that fails takes nothing from what is left, and raises the count of faults,
+    /// which every other call leaves as it was.
     fn read(&mut self, into: &mut [u8]) -> Result<usize, Failed>
         ensures within { IfOk result (λ n. n ≤ length into.new) }
         ensures given { IfOk result (λ n. Gives (left self.old) into.new n (left self.new)) }
         ensures kept { OnErr result (left self.new ≡ left self.old) }
         ensures later { faults self.old ≤ faults self.new }
+        ensures quiet { OnOk result (faults self.new ≡ faults self.old) }
         ensures failed { OnErr result (HasRisen (faults self.old) (faults self.new)) };
 }
 
@@ -35,10 +37,12 @@ pub trait Sink {
     /// How often the sink has failed.
     ghost faults: { Self → ℕ };
 
-    /// Takes all of the bytes. Where it fails, it took a front of them.
+    /// Takes all of the bytes. Where it fails, it took a front of them, and the count of faults rose,
+    /// which every other call leaves as it was.
     fn write(&mut self, bytes: &[u8]) -> Result<(), Failed>
         ensures took { OnOk result (Takes (taken self.old) bytes.now (taken self.new)) }
         ensures cut { OnErr result (TakesFront (taken self.old) bytes.now (taken self.new)) }
         ensures later { faults self.old ≤ faults self.new }
+        ensures quiet { OnOk result (faults self.new ≡ faults self.old) }
         ensures failed { OnErr result (HasRisen (faults self.old) (faults self.new)) };
 }

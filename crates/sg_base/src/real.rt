@@ -59,6 +59,7 @@ impl<R: Read> Source for ReadSource<R> {
     fn read(&mut self, into: &mut [u8]) -> Result<usize, Failed>
         ensures within { IfOk result (λ n. n ≤ length into.new) }
         ensures later { self.old.faults ≤ self.new.faults }
+        ensures quiet { OnOk result (self.new.faults ≡ self.old.faults) }
         ensures failed { OnErr result (HasRisen self.old.faults self.new.faults) }
         // Of a reader that tells its bytes, these were taken, and 0 is the end.
         ensures bytes { ReadConsumes (R.remaining self.old.inner) (R.remaining self.new.inner) result into.new }
@@ -81,6 +82,7 @@ impl<W: Write> Sink for WriteSink<W> {
 
     fn write(&mut self, bytes: &[u8]) -> Result<(), Failed>
         ensures later { self.old.faults ≤ self.new.faults }
+        ensures quiet { OnOk result (self.new.faults ≡ self.old.faults) }
         ensures failed { OnErr result (HasRisen self.old.faults self.new.faults) }
         // Of a writer that tells its bytes, all of these were added.
         ensures added { OnOk result (Appends (W.contents self.old.inner) (W.contents self.new.inner) bytes.now) }

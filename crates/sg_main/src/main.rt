@@ -8,17 +8,10 @@
 //! sink, and which number and text stand for each status.
 #![tactic(auto)]
 
-ghost use Rattle.std.specs.Prelude.{◌≡◌, ◌≢◌, ◌↔◌, ◌⊎◌, ◌<◌, ℕ, true, false, IsTrue, IfSome, length, map, string_bytes, option_copied};
+ghost use Rattle.std.specs.Prelude.{◌≡◌, ◌≢◌, ◌↔◌, ℕ, true, false, map, string_bytes, option_copied};
 ghost use Rattle.std.specs.IoError.{error_kind};
 ghost use Rattle.std.specs.Process.{exit_status};
-ghost use Rattle.sg_base.specs.Ends.{HasRisen};
-ghost use Rattle.sg_base.specs.declared.area.Area.{Area};
-ghost use Rattle.sg_disk.specs.Disk.{refusing};
-ghost use Rattle.sg_model.specs.Objects.{Objects};
-ghost use Rattle.sg_top.specs.Ending.{MOST_BYTES};
-ghost use Rattle.sg_top.specs.Opening.{reads_of};
-ghost use Rattle.sg_top.specs.Stands.{StandsFor};
-ghost use Rattle.sg_top.specs.Top.{are_run, NeverRan, Ran, IsDone};
+ghost use Rattle.sg_top.specs.Top.{are_run, outside, HasGone};
 ghost use Rattle.sg_main.specs.Texts.{number_of};
 ghost use Rattle.sg_main.specs.Words.{folder_in, are_stop};
 
@@ -93,14 +86,8 @@ fn perform<D: Disk + Drop, S: Source, K: Sink>(
 ) -> Status
     ensures usage { result ≡ Status.Usage ↔ are_run words.now ≡ false }
     // Some disk was left, and so many calls of it were refused.
-    ensures run { are_run words.now ≡ true → (after : D) × (refused : ℕ) × (
-        NeverRan D.told (refusing (D.view disk) 0) (refusing (D.view after) refused) (S.left script.old) (S.left script.new) (K.taken out.old) (K.taken out.new) result
-        ⊎ Ran (HasRisen (S.faults script.old) (S.faults script.new)) (HasRisen (K.faults out.old) (K.faults out.new)) D.told (refusing (D.view disk) 0) (refusing (D.view after) refused) (S.left script.old) (S.left script.new) (K.taken out.old) (K.taken out.new) result) }
-    ensures done { are_run words.now ≡ true → result ≡ Status.Done → (after : D) × IsDone D.told (D.view disk) (D.view after) (S.left script.old) (K.taken out.old) (K.taken out.new) }
-    ensures read { result ≡ Status.Read → HasRisen (S.faults script.old) (S.faults script.new) }
-    ensures write { result ≡ Status.Write → HasRisen (K.faults out.old) (K.faults out.new) }
-    ensures too_long { result ≡ Status.TooLong → IfSome (S.left script.old) (λ text. MOST_BYTES < length text) }
-    ensures nothing { (area : Area) (at : ℕ) (s : Objects) → result ≡ Status.Damaged area at → IsTrue D.told → StandsFor (reads_of (D.view disk)) s → ⊥ }
+    ensures run { are_run words.now ≡ true → (after : D) × (refused : ℕ) × HasGone D.told (outside (D.view disk) (S.left script.old) (S.faults script.old) (K.taken out.old) (K.faults out.old))
+        (outside (D.view after) (S.left script.new) (S.faults script.new) (K.taken out.new) (K.faults out.new)) refused result }
 {
     let Finish {
         status: ended,

@@ -1,6 +1,7 @@
 -- The run of transactions, as lists of operations.
-use Rattle.std.specs.Prelude.{ℕ, Bool, false, ◌==◌, List, [], ◌∷◌, map, filter, take}
+use Rattle.std.specs.Prelude.{ℕ, ◌==◌, List, [], ◌∷◌, map, filter, take, Option, None}
 use Rattle.std.specs.List.{flat_map}
+use Rattle.sg_model.specs.declared.stop.Stop.{Stop}
 use Rattle.sg_model.specs.Objects.{Objects, Op, step}
 
 -- an operation, and the number of the transaction that it belongs to
@@ -15,7 +16,7 @@ pub record Live : Type 0 where
 
 -- What has happened since a run began with its first objects: the operations that got a reply or a reason,
 -- the committed transactions in order and how many of these were answered, the live ones in order of begin,
--- a number above those of all transactions so far, and whether the store has stopped
+-- a number above those of all transactions so far, and why the store has stopped, if it has
 pub record State : Type 0 where
   pub first : Objects
   pub history : List Entry
@@ -23,11 +24,11 @@ pub record State : Type 0 where
   pub answered : ℕ
   pub live : List Live
   pub next : ℕ
-  pub stopped : Bool
+  pub stopped : Option Stop
 
 -- a run that begins with these objects
 abbrev pub start : Objects → State
-start first = record { first = first; history = []; commits = []; answered = 0; live = []; next = 0; stopped = false }
+start first = record { first = first; history = []; commits = []; answered = 0; live = []; next = 0; stopped = None }
 
 -- the objects after these operations, one after another
 abbrev pub after_all : Objects → List Op → Objects

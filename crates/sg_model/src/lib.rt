@@ -13,6 +13,7 @@ mod law;
 mod objects;
 mod op;
 mod reason;
+mod stop;
 mod touch;
 
 pub use array::Array;
@@ -21,6 +22,7 @@ pub use law::steps_keep_to_touches;
 pub use objects::{Object, Objects};
 pub use op::{Op, Reply};
 pub use reason::Reason;
+pub use stop::Stop;
 pub use touch::{MOST_TOUCHES, Resource, Touch, Touches, conflict};
 
 #[cfg(test)]

@@ -7,6 +7,8 @@ use Rattle.sg_base.specs.declared.area.Area.TheVariants.{Log0}
 use Rattle.sg_disk.specs.Disk as disk
 use Rattle.sg_disk.proofs.Moments as moments
 use Rattle.sg_model.specs.declared.reason.Reason.{Reason}
+use Rattle.sg_model.specs.declared.stop.Stop.{Stop}
+use Rattle.sg_model.specs.declared.stop.Stop.TheVariants as stops
 use Rattle.sg_model.specs.Objects.{Objects, Op, Reply, is_changing, Grows, step}
 use Rattle.sg_model.specs.Objects.Reply.{Done}
 use Rattle.sg_model.specs.History.{Live, State, ops_of, live_objects, committed_objects, objects_after}
@@ -29,23 +31,22 @@ use Rattle.sg_log.specs.Held.{Tail, tail_of, has_room, place_of, end_of, numbere
 use Rattle.sg_log.proofs.Holding.{all_appended, spelled_most, forced_empty}
 use Rattle.sg_log.specs.Following.{last_of, AreChained}
 use Rattle.sg_log.proofs.Following.{records_of-append, held_low}
-use Rattle.sg_top.specs.Stands.{lines_by, commits_in, committed_lines, replay, after_line, after_op, if_replied, StandsFor, StandsForFirst}
+use Rattle.sg_top.specs.Stands.{lines_by, commits_in, committed_lines, replay, after_line, after_op, if_replied, OthersAsIn, StandsFor, StandsForFirst}
 use Rattle.sg_top.specs.Store.{Core, AreSerial, AreOwn, IsNotAmong, IsOpen, IsOpenOrNone, IsLast, Logs, Keeps, Runs, Shows}
-use Rattle.sg_top.specs.Shown.{shown_answer, answer_at, IsFullAnswer, StopIsCaused, stop_at as stop_code}
-use Rattle.sg_top.specs.declared.store.Stop as code_stop
+use Rattle.sg_top.specs.Shown.{shown_answer, answer_at, IsFullAnswer, stop_at as stop_code}
 use Rattle.sg_top.specs.declared.answer.Answer as code_answer
-use Rattle.sg_top.specs.Goes.{Goes, NEW_WORK_END, IsWork}
+use Rattle.sg_top.specs.Goes.{Goes, NEW_WORK_END, IsFull}
 use Rattle.sg_top.proofs.Replays.{AreBelow, chained_below, last_or-above, replay-append, lines_by-above, commits_in-above, lines_by-append, lines_by-line}
 use Rattle.sg_top.proofs.Serial.{serial_began, serial_did, serial_committed, committed_live, without_one, after_commits}
-use Rattle.sg_top.proofs.Steps.{op_end, op_memory, ends_within, grows_changing, going_turn, named_none, named_one, tail-place, appended_place, forced_place, running_shows, stopped_shows, line_said, caused_said, own_after, uncommitted_after, durable_lines, logs_after, all_after, chained_after, last_after, appended_either, one_after, begin-length, commit-length, place-tail, appended_short, HoldsAfter, MomentsOf}
-use Rattle.sg_top.proofs.Standing.{IsEither, forced_lines, stands_either, of_log, replay_commit, first_same, first_others, first_all, stands}
+use Rattle.sg_top.proofs.Steps.{op_end, op_memory, ends_within, grows_changing, going_turn, named_none, named_one, tail-place, appended_place, forced_place, running_shows, stopped_shows, line_said, caused_said, own_after, uncommitted_after, durable_lines, logs_after, all_after, chained_after, last_after, appended_either, one_after, begin-length, commit-length, place-tail, appended_short, HoldsAfter, MomentsOf, Elsewhere, commit_full, commit_past}
+use Rattle.sg_top.proofs.Standing.{IsEither, forced_lines, stands_either, of_log, others_of, same_on, replay_commit, first_same, first_others, first_all, stands}
 
 -- The store isn't stopped
-module _ (told : Bool) (v : disk.View) (k : Core) (x : State) (shows : Shows told v k x) (running : k.stopped ≡ false) where
-  going : x.stopped ≡ false
+module _ (told : Bool) (was : disk.State) (v : disk.View) (k : Core) (x : State) (shows : Shows told was v k x) (running : k.stopped ≡ None) where
+  going : x.stopped ≡ None
   going = sym shows.stopped ∙ running
 
-  runs : Runs told v k x
+  runs : Runs told was v k x
   runs = shows.runs going
 
   none_live : k.live ≡ None → x.live ≡ []
@@ -66,13 +67,13 @@ module _ (told : Bool) (v : disk.View) (k : Core) (x : State) (shows : Shows tol
 
   -- an operation that leaves the objects as they were
   pub op_same : (name : List ℕ) (op : Op) (l : Live) (o : Objects) → k.live ≡ Some l → l.name ≡ name → o ≡ (step k.objects op).1 → (step k.objects op).1 ≡ k.objects
-      → (NEW_WORK_END < tail_of k.log → IsWork (Txn name (Do op)) → IsSaid (answer_of (step k.objects op).0) → answer_of (step k.objects op).0 ≡ LogEnd)
-      → Goes told v k x (Txn name (Do op)) (answer_of (step k.objects op).0) v (record k { objects = o })
+      → (NEW_WORK_END < tail_of k.log → IsLogged (Txn name (Do op)) → IsSaid (answer_of (step k.objects op).0) → answer_of (step k.objects op).0 ≡ LogEnd)
+      → Goes told was v k x (Txn name (Do op)) (answer_of (step k.objects op).0) v (record k { objects = o })
   op_same name op l o one is answered kept is_full =
       let y : State = did x l.transaction op in
       let e = op_turn name op l one is in
       let live : live_objects y ≡ live_objects x = live_objects-did x l.transaction op ∙ (ap (λ (m : Objects). (step m op).1) (sym runs.objects) ∙ (kept ∙ runs.objects)) in
-      let after : Shows told v (record k { objects = o }) y = running_shows told v (record k { objects = o }) y running going (record {
+      let after : Shows told was v (record k { objects = o }) y = running_shows told was v (record k { objects = o }) y running going (record {
         serial = serial_did x l op runs.serial (one_live l one);
         objects = answered ∙ (ap (λ (m : Objects). (step m op).1) runs.objects ∙ sym (live_objects-did x l.transaction op));
         live = runs.live;
@@ -94,14 +95,15 @@ module _ (told : Bool) (v : disk.View) (k : Core) (x : State) (shows : Shows tol
                 open_one = still_open k.live (records_of kept_logs.durable) (records_of kept_logs.waiting) live kept_logs.logs.open_one;
               };
             };
+        elsewhere = runs.elsewhere;
       }) in
       record {
         after = y;
         line = line_said x (Txn name (Do op)) (step k.objects op).0 y (record { number = x.next; above = omega arith; turned = e x.next });
-        caused = caused_said (HasRisen v.faults v.faults) (NEW_WORK_END < tail_of k.log) (step k.objects op).0;
+        caused = caused_said (HasRisen v.faults v.faults) (IsFull k) (Txn name (Do op)) (step k.objects op).0;
         full = λ high work said. is_full high work (subst IsSaid (ap (λ (p : Answer × State). p.0) (e x.next)) said);
         shows = after;
-        moments = λ is_told. moments.started v (StandsForFirst x.answered y) (after.images is_told);
+        moments = λ is_told. moments.started v (StandsForFirst was x.answered y) (after.images is_told);
       }
     where
       still_open : (live : Option Live) (ds ps : List Record) → live_objects (did x l.transaction op) ≡ live_objects x → IsOpenOrNone x ds ps live → IsOpenOrNone (did x l.transaction op) ds ps live
@@ -112,9 +114,9 @@ module _ (told : Bool) (v : disk.View) (k : Core) (x : State) (shows : Shows tol
   pub op_logged : (name : List ℕ) (op : Op) (l : Live) (reply : Reply) (o : Objects) (w : disk.View) (new : Tail) (previous : ℕ) (words : List ℕ) → k.live ≡ Some l → l.name ≡ name
       → o ≡ (step k.objects op).1 → (step k.objects op).0 ≡ Ok reply → op_said words ≡ Some op → IsRecord (LineRecord l.transaction previous words) → previous ≡ k.last → tail_of k.log ≤ NEW_WORK_END
       → new ≡ appended k.log (LineRecord l.transaction previous words) → tail_of new ≡ end_of k.log (LineRecord l.transaction previous words)
-      → HoldsAfter told v w k.log new (LineRecord l.transaction previous words) → MomentsOf told v w k.log
-      → Goes told v k x (Txn name (Do op)) (Said reply) w (record k { objects = o; last = place_of k.log (LineRecord l.transaction previous words); log = new })
-  op_logged name op l reply o w new previous words one is answered replied says fields follows low is_new tail holds call =
+      → HoldsAfter told v w k.log new (LineRecord l.transaction previous words) → MomentsOf told v w k.log → Elsewhere told v w k.log
+      → Goes told was v k x (Txn name (Do op)) (Said reply) w (record k { objects = o; last = place_of k.log (LineRecord l.transaction previous words); log = new })
+  op_logged name op l reply o w new previous words one is answered replied says fields follows low is_new tail holds call same =
       let y : State = did x l.transaction op in
       let r : Record = LineRecord l.transaction previous words in
       let t : ℕ = l.transaction in
@@ -125,7 +127,7 @@ module _ (told : Bool) (v : disk.View) (k : Core) (x : State) (shows : Shows tol
       let rises : tail_of k.log ≤ tail_of new = omega (arith, tail-place k.log r, tail) in
       let low_number : t < x.next = (subst (AreSerial x) (one_live l one) runs.serial.live).1 in
       let m : Core = record k { objects = o; last = place_of k.log r; log = new } in
-      let after : Shows told w m y = running_shows told w m y running going (record {
+      let after : Shows told was w m y = running_shows told was w m y running going (record {
         serial = serial_did x l op runs.serial (one_live l one);
         objects = answered ∙ sym live;
         live = runs.live;
@@ -157,6 +159,7 @@ module _ (told : Bool) (v : disk.View) (k : Core) (x : State) (shows : Shows tol
                 });
               });
             };
+        elsewhere = λ is_told. same_on was v.now w.now k.log.area runs.area (runs.elsewhere is_told) (same is_told);
       }) in
       record {
         after = y;
@@ -166,7 +169,7 @@ module _ (told : Bool) (v : disk.View) (k : Core) (x : State) (shows : Shows tol
         shows = after;
         moments = λ is_told.
             let h = runs.keeps is_told in
-            moments.weaker (call h.durable h.waiting is_told h.holds) (λ c here. first_same x y x.answered c refl refl (omega (arith, runs.answered)) (stands_either h c (of_log k.log runs.area runs.base here)));
+            moments.weaker (call h.durable h.waiting is_told h.holds) (λ c here. first_same was x y x.answered c refl refl (omega (arith, runs.answered)) (others_of k.log runs.area (runs.elsewhere is_told) here) (stands_either h c (of_log k.log runs.area runs.base here)));
       }
 
   -- the turn of a begin where none is live
@@ -178,9 +181,9 @@ module _ (told : Bool) (v : disk.View) (k : Core) (x : State) (shows : Shows tol
   -- a transaction begins
   pub begun : (name : List ℕ) (n last previous : ℕ) (w : disk.View) (new : Tail) → k.live ≡ None → tail_of k.log ≤ NEW_WORK_END → n ≡ place_of k.log (BeginRecord n previous) → last ≡ place_of k.log (BeginRecord n previous) → previous ≡ 0
       → new ≡ appended k.log (BeginRecord n previous) → tail_of new ≡ end_of k.log (BeginRecord n previous)
-      → HoldsAfter told v w k.log new (BeginRecord n previous) → MomentsOf told v w k.log
-      → Goes told v k x (Txn name Begin) (Said Done) w (record k { live = Some (record { name = name; transaction = n }); last = last; log = new })
-  begun name n last previous w new none low place is_last first is_new tail holds call =
+      → HoldsAfter told v w k.log new (BeginRecord n previous) → MomentsOf told v w k.log → Elsewhere told v w k.log
+      → Goes told was v k x (Txn name Begin) (Said Done) w (record k { live = Some (record { name = name; transaction = n }); last = last; log = new })
+  begun name n last previous w new none low place is_last first is_new tail holds call same =
       let y : State = began x n name in
       let r : Record = BeginRecord n previous in
       let l : Live = record { name = name; transaction = n } in
@@ -188,7 +191,7 @@ module _ (told : Bool) (v : disk.View) (k : Core) (x : State) (shows : Shows tol
       let at : tail_of k.log ≤ n = omega (arith, tail-place k.log r, place) in
       let rises : n + 21 ≤ tail_of new = omega (arith, tail, place, begin-length n previous) in
       let settled : live_objects x ≡ committed_objects x = subst (AreSerial x) (none_live none) runs.serial.live in
-      let after : Shows told w m y = running_shows told w m y running going (record {
+      let after : Shows told was w m y = running_shows told was w m y running going (record {
         serial = serial_began x n name runs.serial (none_live none) (omega (arith, runs.next, at));
         objects = runs.objects;
         live = ap (λ (ls : List Live). ls ++ l ∷ []) (none_live none);
@@ -224,6 +227,7 @@ module _ (told : Bool) (v : disk.View) (k : Core) (x : State) (shows : Shows tol
                 };
               });
             };
+        elsewhere = λ is_told. same_on was v.now w.now k.log.area runs.area (runs.elsewhere is_told) (same is_told);
       }) in
       record {
         after = y;
@@ -233,7 +237,7 @@ module _ (told : Bool) (v : disk.View) (k : Core) (x : State) (shows : Shows tol
         shows = after;
         moments = λ is_told.
             let h = runs.keeps is_told in
-            moments.weaker (call h.durable h.waiting is_told h.holds) (λ c here. first_same x y x.answered c refl refl (omega (arith, runs.answered)) (stands_either h c (of_log k.log runs.area runs.base here)));
+            moments.weaker (call h.durable h.waiting is_told h.holds) (λ c here. first_same was x y x.answered c refl refl (omega (arith, runs.answered)) (others_of k.log runs.area (runs.elsewhere is_told) here) (stands_either h c (of_log k.log runs.area runs.base here)));
       }
 
   -- the turn of a commit
@@ -275,10 +279,11 @@ module _ (told : Bool) (v : disk.View) (k : Core) (x : State) (shows : Shows tol
   -- the live transaction is committed: its commit record was appended, and then the log was forced
   pub commits : (name : List ℕ) (l : Live) (w1 w : disk.View) (mid new : Tail) (previous : ℕ) → k.live ≡ Some l → l.name ≡ name → previous ≡ k.last
       → mid ≡ appended k.log (CommitRecord l.transaction previous) → tail_of mid ≡ end_of k.log (CommitRecord l.transaction previous) → new ≡ forced mid → tail_of mid ≤ tail_of new
-      → HoldsAfter told v w1 k.log mid (CommitRecord l.transaction previous) → MomentsOf told v w1 k.log
-      → ((ds ps : List Numbered) → IsTrue told → Holds w1 mid ds ps → Holds w new (ds ++ ps) []) → MomentsOf told w1 w mid
-      → Goes told v k x (Txn name Commit) (Said Done) w (record k { live = None; last = 0; log = new })
-  commits name l w1 w mid new previous one is follows is_mid tail is_new grows holds1 call1 holds2 call2 =
+      → HoldsAfter told v w1 k.log mid (CommitRecord l.transaction previous) → MomentsOf told v w1 k.log → Elsewhere told v w1 k.log
+      → ((ds ps : List Numbered) → IsTrue told → Holds w1 mid ds ps → Holds w new (ds ++ ps) []) → MomentsOf told w1 w mid → Elsewhere told w1 w mid
+      → (LOG_END < end_of k.log (CommitRecord l.transaction previous) → ⊥)
+      → Goes told was v k x (Txn name Commit) (Said Done) w (record k { live = None; last = 0; log = new })
+  commits name l w1 w mid new previous one is follows is_mid tail is_new grows holds1 call1 same1 holds2 call2 same2 fits =
       let t : ℕ = l.transaction in
       let y : State = committed x t in
       let r : Record = CommitRecord t previous in
@@ -301,7 +306,7 @@ module _ (told : Bool) (v : disk.View) (k : Core) (x : State) (shows : Shows tol
         last = tt;
         logs = record { durable = committed_replay l previous h one; open_one = refl };
       } in
-      let after : Shows told w m y = running_shows told w m y running going (record {
+      let after : Shows told was w m y = running_shows told was w m y running going (record {
         serial = serial_committed x l runs.serial (one_live l one);
         objects = runs.objects;
         live = ap (without t) (one_live l one) ∙ without_one l;
@@ -311,154 +316,156 @@ module _ (told : Bool) (v : disk.View) (k : Core) (x : State) (shows : Shows tol
         base = ap (λ (z : Tail). z.base) is_new ∙ ((forced_place mid).1 ∙ mid_base);
         short = subst (λ (z : Tail). length z.buffer ≤ 65536) (sym is_new) (omega (arith, forced_empty mid));
         keeps = kept;
+        elsewhere = λ is_told. same_on was w1.now w.now mid.area mid_area (same_on was v.now w1.now k.log.area runs.area (runs.elsewhere is_told) (same1 is_told)) (same2 is_told);
       }) in
       record {
         after = y;
         line = record { number = x.next; above = omega arith; turned = commit_turn name l one is x.next };
         caused = tt;
-        full = λ high work said. absurd work;
+        full = λ high logged said. absurd (fits (commit_past k name l previous one follows high));
         shows = after;
         moments = λ is_told.
             let h = runs.keeps is_told in
             let ds1 : List Numbered = durable_after k.log r h.durable h.waiting in
             let ps1 : List Numbered = waiting_after k.log r h.waiting in
             moments.joined
-            (moments.weaker (call1 h.durable h.waiting is_told h.holds) (λ c here. first_others x y (ops_of t x.history) x.answered c refl refl (omega (arith, runs.answered)) (stands_either h c (of_log k.log runs.area runs.base here))))
-            (moments.weaker (call2 ds1 ps1 is_told (holds1 h.durable h.waiting is_told h.holds)) (λ c here. commit_moment l previous mid one follows is_mid h c (of_log mid mid_area mid_base here)));
+            (moments.weaker (call1 h.durable h.waiting is_told h.holds) (λ c here. first_others was x y (ops_of t x.history) x.answered c refl refl (omega (arith, runs.answered)) (others_of k.log runs.area (runs.elsewhere is_told) here) (stands_either h c (of_log k.log runs.area runs.base here))))
+            (moments.weaker (call2 ds1 ps1 is_told (holds1 h.durable h.waiting is_told h.holds)) (λ c here. commit_moment l previous mid one follows is_mid h c (others_of mid mid_area (same_on was v.now w1.now k.log.area runs.area (runs.elsewhere is_told) (same1 is_told)) here) (of_log mid mid_area mid_base here)));
       }
     where
-      commit_moment : (l : Live) (previous : ℕ) (mid : Tail) → k.live ≡ Some l → previous ≡ k.last → mid ≡ appended k.log (CommitRecord l.transaction previous) → (h : Keeps v k x) (c : disk.Image)
+      commit_moment : (l : Live) (previous : ℕ) (mid : Tail) → k.live ≡ Some l → previous ≡ k.last → mid ≡ appended k.log (CommitRecord l.transaction previous) → (h : Keeps v k x) (c : disk.Image) → OthersAsIn was c
           → IsEither mid (durable_after k.log (CommitRecord l.transaction previous) h.durable h.waiting) (waiting_after k.log (CommitRecord l.transaction previous) h.waiting) c
-          → StandsForFirst x.answered (committed x l.transaction) c
-      commit_moment l previous mid one follows is_mid h c (inl before) =
-          first_others x (committed x l.transaction) (ops_of l.transaction x.history) x.answered c refl refl (omega (arith, runs.answered)) (commit_before_it l previous mid is_mid h c before)
-      commit_moment l previous mid one follows is_mid h c (inr after) =
-          first_all (committed x l.transaction) x.answered c (omega (arith, runs.answered, length-append x.commits (ops_of l.transaction x.history ∷ []))) (commit_with_it l previous mid one follows h c after)
+          → StandsForFirst was x.answered (committed x l.transaction) c
+      commit_moment l previous mid one follows is_mid h c others (inl before) =
+          first_others was x (committed x l.transaction) (ops_of l.transaction x.history) x.answered c refl refl (omega (arith, runs.answered)) others (commit_before_it l previous mid is_mid h c before)
+      commit_moment l previous mid one follows is_mid h c others (inr after) =
+          first_all was (committed x l.transaction) x.answered c (omega (arith, runs.answered, length-append x.commits (ops_of l.transaction x.history ∷ []))) others (commit_with_it l previous mid one follows h c after)
 
   -- what the images of a call on the log stand for, as a prefix of the commits as they were
-  still : (w : disk.View) → MomentsOf told v w k.log → IsTrue told → disk.LeavesOnly v w (StandsForFirst x.answered (stop x))
+  still : (w : disk.View) → MomentsOf told v w k.log → IsTrue told → disk.LeavesOnly v w (StandsForFirst was x.answered (stop stops.Disk x))
   still w call is_told =
       let h = runs.keeps is_told in
-      moments.weaker (call h.durable h.waiting is_told h.holds) (λ c here. first_same x (stop x) x.answered c refl refl (omega (arith, runs.answered)) (stands_either h c (of_log k.log runs.area runs.base here)))
+      moments.weaker (call h.durable h.waiting is_told h.holds) (λ c here. first_same was x (stop stops.Disk x) x.answered c refl refl (omega (arith, runs.answered)) (others_of k.log runs.area (runs.elsewhere is_told) here) (stands_either h c (of_log k.log runs.area runs.base here)))
 
   -- the disk has failed in an order that is no commit
-  breaks : (order : Order) (w : disk.View) (m : Core) → m.stopped ≡ true → broken x order ≡ stop x → IsLogged order → WouldReply x order → HasRisen v.faults w.faults
-      → (NEW_WORK_END < tail_of k.log → IsWork order → ⊥) → MomentsOf told v w k.log → Goes told v k x order Disk w m
+  breaks : (order : Order) (w : disk.View) (m : Core) → m.stopped ≡ Some stops.Disk → broken x order ≡ stop stops.Disk x → IsLogged order → WouldReply x order → HasRisen v.faults w.faults
+      → (IsFull k order → ⊥) → MomentsOf told v w k.log → Goes told was v k x order Disk w m
   breaks order w m halted is logged said risen low call = record {
-    after = stop x;
+    after = stop stops.Disk x;
     line = record { after = sym is; logged = logged; said = said };
     caused = risen;
-    full = λ high work would. absurd (low high work);
-    shows = stopped_shows told w m (stop x) halted refl (omega (arith, runs.answered)) (omega (arith, runs.answered)) (λ is_told c leaves. (still w call is_told).each c (inl leaves));
+    full = λ high logs would. absurd (low high);
+    shows = stopped_shows told was w m (stop stops.Disk x) stops.Disk halted refl (omega (arith, runs.answered)) (omega (arith, runs.answered)) (λ is_told c leaves. (still w call is_told).each c (inl leaves));
     moments = still w call;
   }
 
-  pub begin_breaks : (name : List ℕ) (w : disk.View) (m : Core) → m.stopped ≡ true → k.live ≡ None → tail_of k.log ≤ NEW_WORK_END → HasRisen v.faults w.faults → MomentsOf told v w k.log → Goes told v k x (Txn name Begin) Disk w m
-  begin_breaks name w m halted none low risen call = breaks (Txn name Begin) w m halted refl tt (subst IsSaid (sym (ap (λ (p : Answer × State). p.0) (begin_turn name none x.next))) tt) risen (λ high work. absurd (omega arith)) call
+  pub begin_breaks : (name : List ℕ) (w : disk.View) (m : Core) → m.stopped ≡ Some stops.Disk → k.live ≡ None → tail_of k.log ≤ NEW_WORK_END → HasRisen v.faults w.faults → MomentsOf told v w k.log → Goes told was v k x (Txn name Begin) Disk w m
+  begin_breaks name w m halted none low risen call = breaks (Txn name Begin) w m halted refl tt (subst IsSaid (sym (ap (λ (p : Answer × State). p.0) (begin_turn name none x.next))) tt) risen (λ high. absurd (omega arith)) call
 
-  pub op_breaks : (name : List ℕ) (op : Op) (l : Live) (w : disk.View) (m : Core) → m.stopped ≡ true → k.live ≡ Some l → l.name ≡ name → is_changing op ≡ true → IsSaid (answer_of (step k.objects op).0) → tail_of k.log ≤ NEW_WORK_END
-      → HasRisen v.faults w.faults → MomentsOf told v w k.log → Goes told v k x (Txn name (Do op)) Disk w m
+  pub op_breaks : (name : List ℕ) (op : Op) (l : Live) (w : disk.View) (m : Core) → m.stopped ≡ Some stops.Disk → k.live ≡ Some l → l.name ≡ name → is_changing op ≡ true → IsSaid (answer_of (step k.objects op).0) → tail_of k.log ≤ NEW_WORK_END
+      → HasRisen v.faults w.faults → MomentsOf told v w k.log → Goes told was v k x (Txn name (Do op)) Disk w m
   op_breaks name op l w m halted one is changing said low risen call =
-      breaks (Txn name (Do op)) w m halted refl changing (subst IsSaid (sym (ap (λ (p : Answer × State). p.0) (op_turn name op l one is x.next))) said) risen (λ high work. absurd (omega arith)) call
+      breaks (Txn name (Do op)) w m halted refl changing (subst IsSaid (sym (ap (λ (p : Answer × State). p.0) (op_turn name op l one is x.next))) said) risen (λ high. absurd (omega arith)) call
 
   -- a commit that ends the store's work
-  stopped_commit : (name : List ℕ) (l : Live) → k.live ≡ Some l → l.name ≡ name → stop_at x (live_named x.live name) ≡ stop_at_commit x l.transaction
-  stopped_commit name l one is = ap (stop_at x) (named_one x l name (one_live l one) is)
+  stopped_commit : (why : Stop) (name : List ℕ) (l : Live) → k.live ≡ Some l → l.name ≡ name → stop_at why x (live_named x.live name) ≡ stop_at_commit why x l.transaction
+  stopped_commit why name l one is = ap (stop_at why x) (named_one x l name (one_live l one) is)
 
   would_commit : (name : List ℕ) (l : Live) → k.live ≡ Some l → l.name ≡ name → WouldReply x (Txn name Commit)
   would_commit name l one is = subst IsSaid (sym (ap (λ (p : Answer × State). p.0) (commit_turn name l one is x.next))) tt
 
-  commit_stops : (w : disk.View) (m : Core) (t : ℕ) → m.stopped ≡ true → (IsTrue told → (c : disk.Image) → disk.Leaves w.now c → StandsForFirst x.answered (stop_at_commit x t) c) → Shows told w m (stop_at_commit x t)
-  commit_stops w m t halted images =
+  commit_stops : (why : Stop) (w : disk.View) (m : Core) (t : ℕ) → m.stopped ≡ Some why → (IsTrue told → (c : disk.Image) → disk.Leaves w.now c → StandsForFirst was x.answered (stop_at_commit why x t) c) → Shows told was w m (stop_at_commit why x t)
+  commit_stops why w m t halted images =
       let more = length-append x.commits (ops_of t x.history ∷ []) in
-      stopped_shows told w m (stop_at_commit x t) halted refl (omega (arith, runs.answered, more)) (omega (arith, runs.answered, more)) images
+      stopped_shows told was w m (stop_at_commit why x t) why halted refl (omega (arith, runs.answered, more)) (omega (arith, runs.answered, more)) images
 
   -- the commits as they were, before one that wasn't answered
-  pub commit_before : (t : ℕ) (w : disk.View) → MomentsOf told v w k.log → IsTrue told → disk.LeavesOnly v w (StandsForFirst x.answered (stop_at_commit x t))
+  pub commit_before : (t : ℕ) (w : disk.View) → MomentsOf told v w k.log → IsTrue told → disk.LeavesOnly v w (StandsForFirst was x.answered (stop_at_commit stops.Disk x t))
   commit_before t w call is_told =
       let h = runs.keeps is_told in
-      moments.weaker (call h.durable h.waiting is_told h.holds) (λ c here. first_others x (stop_at_commit x t) (ops_of t x.history) x.answered c refl refl (omega (arith, runs.answered)) (stands_either h c (of_log k.log runs.area runs.base here)))
+      moments.weaker (call h.durable h.waiting is_told h.holds) (λ c here. first_others was x (stop_at_commit stops.Disk x t) (ops_of t x.history) x.answered c refl refl (omega (arith, runs.answered)) (others_of k.log runs.area (runs.elsewhere is_told) here) (stands_either h c (of_log k.log runs.area runs.base here)))
 
-  commit_fails : (name : List ℕ) (l : Live) (w : disk.View) (m : Core) → k.live ≡ Some l → l.name ≡ name → m.stopped ≡ true → HasRisen v.faults w.faults
-      → (IsTrue told → disk.LeavesOnly v w (StandsForFirst x.answered (stop_at_commit x l.transaction))) → Goes told v k x (Txn name Commit) Disk w m
-  commit_fails name l w m one is halted risen call = record {
-    after = stop_at_commit x l.transaction;
-    line = record { after = sym (stopped_commit name l one is); logged = tt; said = would_commit name l one is };
+  commit_fails : (name : List ℕ) (l : Live) (w : disk.View) (m : Core) → k.live ≡ Some l → l.name ≡ name → m.stopped ≡ Some stops.Disk → HasRisen v.faults w.faults → (IsFull k (Txn name Commit) → ⊥)
+      → (IsTrue told → disk.LeavesOnly v w (StandsForFirst was x.answered (stop_at_commit stops.Disk x l.transaction))) → Goes told was v k x (Txn name Commit) Disk w m
+  commit_fails name l w m one is halted risen fits call = record {
+    after = stop_at_commit stops.Disk x l.transaction;
+    line = record { after = sym (stopped_commit stops.Disk name l one is); logged = tt; said = would_commit name l one is };
     caused = risen;
-    full = λ high work would. absurd work;
-    shows = commit_stops w m l.transaction halted (λ is_told c leaves. (call is_told).each c (inl leaves));
+    full = λ high logs would. absurd (fits high);
+    shows = commit_stops stops.Disk w m l.transaction halted (λ is_told c leaves. (call is_told).each c (inl leaves));
     moments = call;
   }
 
   -- the disk has failed as a commit's record was appended
-  pub commit_breaks : (name : List ℕ) (l : Live) (w : disk.View) (m : Core) → k.live ≡ Some l → l.name ≡ name → m.stopped ≡ true → HasRisen v.faults w.faults → MomentsOf told v w k.log → Goes told v k x (Txn name Commit) Disk w m
-  commit_breaks name l w m one is halted risen call = commit_fails name l w m one is halted risen (commit_before l.transaction w call)
+  pub commit_breaks : (name : List ℕ) (l : Live) (w : disk.View) (m : Core) → k.live ≡ Some l → l.name ≡ name → m.stopped ≡ Some stops.Disk → HasRisen v.faults w.faults → (IsFull k (Txn name Commit) → ⊥) → MomentsOf told v w k.log → Goes told was v k x (Txn name Commit) Disk w m
+  commit_breaks name l w m one is halted risen fits call = commit_fails name l w m one is halted risen fits (commit_before l.transaction w call)
 
   -- the disk has failed as it was forced
-  pub force_breaks : (name : List ℕ) (l : Live) (w1 w : disk.View) (mid : Tail) (m : Core) (previous : ℕ) → k.live ≡ Some l → l.name ≡ name → previous ≡ k.last → m.stopped ≡ true → HasRisen v.faults w.faults
-      → mid ≡ appended k.log (CommitRecord l.transaction previous) → HoldsAfter told v w1 k.log mid (CommitRecord l.transaction previous) → MomentsOf told v w1 k.log → MomentsOf told w1 w mid
-      → Goes told v k x (Txn name Commit) Disk w m
-  force_breaks name l w1 w mid m previous one is follows halted risen is_mid holds1 call1 call2 =
+  pub force_breaks : (name : List ℕ) (l : Live) (w1 w : disk.View) (mid : Tail) (m : Core) (previous : ℕ) → k.live ≡ Some l → l.name ≡ name → previous ≡ k.last → m.stopped ≡ Some stops.Disk → HasRisen v.faults w.faults
+      → mid ≡ appended k.log (CommitRecord l.transaction previous) → HoldsAfter told v w1 k.log mid (CommitRecord l.transaction previous) → MomentsOf told v w1 k.log → Elsewhere told v w1 k.log → MomentsOf told w1 w mid
+      → (LOG_END < end_of k.log (CommitRecord l.transaction previous) → ⊥)
+      → Goes told was v k x (Txn name Commit) Disk w m
+  force_breaks name l w1 w mid m previous one is follows halted risen is_mid holds1 call1 same1 call2 fits =
       let r : Record = CommitRecord l.transaction previous in
       let mid_area : mid.area ≡ Log0 = ap (λ (z : Tail). z.area) is_mid ∙ ((appended_place k.log r).0 ∙ runs.area) in
       let mid_base : mid.base ≡ 0 = ap (λ (z : Tail). z.base) is_mid ∙ ((appended_place k.log r).1 ∙ runs.base) in
-      commit_fails name l w m one is halted risen (λ is_told.
+      commit_fails name l w m one is halted risen (λ high. fits (commit_past k name l previous one follows high)) (λ is_told.
       let h = runs.keeps is_told in
       moments.joined (commit_before l.transaction w1 call1 is_told)
-      (moments.weaker (call2 (durable_after k.log r h.durable h.waiting) (waiting_after k.log r h.waiting) is_told (holds1 h.durable h.waiting is_told h.holds)) (λ c here. forced_moment h c (of_log mid mid_area mid_base here))))
+      (moments.weaker (call2 (durable_after k.log r h.durable h.waiting) (waiting_after k.log r h.waiting) is_told (holds1 h.durable h.waiting is_told h.holds)) (λ c here. forced_moment h c (others_of mid mid_area (same_on was v.now w1.now k.log.area runs.area (runs.elsewhere is_told) (same1 is_told)) here) (of_log mid mid_area mid_base here))))
     where
-      forced_moment : (h : Keeps v k x) (c : disk.Image)
+      forced_moment : (h : Keeps v k x) (c : disk.Image) → OthersAsIn was c
           → IsEither mid (durable_after k.log (CommitRecord l.transaction previous) h.durable h.waiting) (waiting_after k.log (CommitRecord l.transaction previous) h.waiting) c
-          → StandsForFirst x.answered (stop_at_commit x l.transaction) c
-      forced_moment h c (inl before) =
-          first_others x (stop_at_commit x l.transaction) (ops_of l.transaction x.history) x.answered c refl refl (omega (arith, runs.answered)) (commit_before_it l previous mid is_mid h c before)
-      forced_moment h c (inr after) =
-          first_all (stop_at_commit x l.transaction) x.answered c (omega (arith, runs.answered, length-append x.commits (ops_of l.transaction x.history ∷ []))) (commit_with_it l previous mid one follows h c after)
+          → StandsForFirst was x.answered (stop_at_commit stops.Disk x l.transaction) c
+      forced_moment h c others (inl before) =
+          first_others was x (stop_at_commit stops.Disk x l.transaction) (ops_of l.transaction x.history) x.answered c refl refl (omega (arith, runs.answered)) others (commit_before_it l previous mid is_mid h c before)
+      forced_moment h c others (inr after) =
+          first_all was (stop_at_commit stops.Disk x l.transaction) x.answered c (omega (arith, runs.answered, length-append x.commits (ops_of l.transaction x.history ∷ []))) others (commit_with_it l previous mid one follows h c after)
 
   -- the log has no room for a commit
-  pub commit_end : (name : List ℕ) (l : Live) (m : Core) → k.live ≡ Some l → l.name ≡ name → m.stopped ≡ true → NEW_WORK_END < tail_of k.log → Goes told v k x (Txn name Commit) LogEnd v m
+  pub commit_end : (name : List ℕ) (l : Live) (m : Core) → k.live ≡ Some l → l.name ≡ name → m.stopped ≡ Some stops.LogEnd → IsFull k (Txn name Commit) → Goes told was v k x (Txn name Commit) LogEnd v m
   commit_end name l m one is halted high =
       let t : ℕ = l.transaction in
-      let y : State = stop_at_commit x t in
-      let images : IsTrue told → (c : disk.Image) → disk.Leaves v.now c → StandsForFirst x.answered y c = λ is_told c leaves.
+      let y : State = stop_at_commit stops.LogEnd x t in
+      let images : IsTrue told → (c : disk.Image) → disk.Leaves v.now c → StandsForFirst was x.answered y c = λ is_told c leaves.
       let h = shows.images is_told c leaves in
       let all : h.commits ≡ length x.commits = omega (arith, h.enough, h.most, runs.answered) in
-      first_others x y (ops_of t x.history) x.answered c refl refl (omega (arith, runs.answered)) (subst (StandsFor c) (ap (λ n. objects_after n x) all ∙ after_commits x) h.stands) in
+      first_others was x y (ops_of t x.history) x.answered c refl refl (omega (arith, runs.answered)) h.others (subst (StandsFor c) (ap (λ n. objects_after n x) all ∙ after_commits x) h.stands) in
       record {
         after = y;
-        line = record { after = sym (stopped_commit name l one is); logged = tt; said = would_commit name l one is };
+        line = record { after = sym (stopped_commit stops.LogEnd name l one is); logged = tt; said = would_commit name l one is };
         caused = high;
         full = λ above work would. refl;
-        shows = commit_stops v m t halted images;
-        moments = λ is_told. moments.started v (StandsForFirst x.answered y) (images is_told);
+        shows = commit_stops stops.LogEnd v m t halted images;
+        moments = λ is_told. moments.started v (StandsForFirst was x.answered y) (images is_told);
       }
 
   -- the log has failed as a commit's record was appended
-  pub commit_fault : (name : List ℕ) (l : Live) (e : LogFault) (w : disk.View) (m : Core) (previous : ℕ) (into : List ℕ) → k.live ≡ Some l → l.name ≡ name → m.stopped ≡ true
-      → AppendFails (end_of k.log (CommitRecord l.transaction previous)) v w e → (e ≡ faults.LogEnd → w ≡ v) → MomentsOf told v w k.log → Goes told v k x (Txn name Commit) (shown_answer into (answer_at e)) w m
-  commit_fault name l faults.LogEnd w m previous into one is halted h same call =
-      let high : NEW_WORK_END < tail_of k.log = omega (arith, h, place-tail k.log (CommitRecord l.transaction previous), commit-length l.transaction previous) in
-      subst (λ (u : disk.View). Goes told v k x (Txn name Commit) LogEnd u m) (sym (same refl)) (commit_end name l m one is halted high)
-  commit_fault name l faults.Disk w m previous into one is halted h same call = commit_breaks name l w m one is halted h call
-  commit_fault name l (faults.Damaged at) w m previous into one is halted h same call = absurd h
-  commit_fault name l faults.Memory w m previous into one is halted h same call = absurd h
+  pub commit_fault : (name : List ℕ) (l : Live) (e : LogFault) (w : disk.View) (m : Core) (previous : ℕ) (into : List ℕ) → k.live ≡ Some l → l.name ≡ name → previous ≡ k.last → m.stopped ≡ Some (stop_code e)
+      → AppendFails (end_of k.log (CommitRecord l.transaction previous)) v w e → (LOG_END < end_of k.log (CommitRecord l.transaction previous) → e ≡ faults.LogEnd) → (e ≡ faults.LogEnd → w ≡ v) → MomentsOf told v w k.log
+      → Goes told was v k x (Txn name Commit) (shown_answer into (answer_at e)) w m
+  commit_fault name l faults.LogEnd w m previous into one is follows halted h fits same call =
+      subst (λ (u : disk.View). Goes told was v k x (Txn name Commit) LogEnd u m) (sym (same refl)) (commit_end name l m one is halted (commit_full k name l previous one follows h))
+  commit_fault name l faults.Disk w m previous into one is follows halted h fits same call = commit_breaks name l w m one is halted h (λ high. cc (fits (commit_past k name l previous one follows high))) call
+  commit_fault name l (faults.Damaged at) w m previous into one is follows halted h fits same call = absurd h
+  commit_fault name l faults.Memory w m previous into one is follows halted h fits same call = absurd h
 
   -- and as it was forced
-  pub force_fault : (name : List ℕ) (l : Live) (e : LogFault) (w1 w : disk.View) (mid : Tail) (m : Core) (previous : ℕ) (into : List ℕ) → k.live ≡ Some l → l.name ≡ name → previous ≡ k.last → m.stopped ≡ true → ForceFails w1 w e → v.faults ≤ w1.faults
-      → mid ≡ appended k.log (CommitRecord l.transaction previous) → HoldsAfter told v w1 k.log mid (CommitRecord l.transaction previous) → MomentsOf told v w1 k.log → MomentsOf told w1 w mid
-      → Goes told v k x (Txn name Commit) (shown_answer into (answer_at e)) w m
-  force_fault name l faults.Disk w1 w mid m previous into one is follows halted h later is_mid holds1 call1 call2 = force_breaks name l w1 w mid m previous one is follows halted (λ room. omega (arith, h room)) is_mid holds1 call1 call2
-  force_fault name l faults.LogEnd w1 w mid m previous into one is follows halted h later is_mid holds1 call1 call2 = absurd h
-  force_fault name l (faults.Damaged at) w1 w mid m previous into one is follows halted h later is_mid holds1 call1 call2 = absurd h
-  force_fault name l faults.Memory w1 w mid m previous into one is follows halted h later is_mid holds1 call1 call2 = absurd h
+  pub force_fault : (name : List ℕ) (l : Live) (e : LogFault) (w1 w : disk.View) (mid : Tail) (m : Core) (previous : ℕ) (into : List ℕ) → k.live ≡ Some l → l.name ≡ name → previous ≡ k.last → m.stopped ≡ Some (stop_code e) → ForceFails w1 w e → v.faults ≤ w1.faults
+      → mid ≡ appended k.log (CommitRecord l.transaction previous) → HoldsAfter told v w1 k.log mid (CommitRecord l.transaction previous) → MomentsOf told v w1 k.log → Elsewhere told v w1 k.log → MomentsOf told w1 w mid
+      → (LOG_END < end_of k.log (CommitRecord l.transaction previous) → ⊥) → Goes told was v k x (Txn name Commit) (shown_answer into (answer_at e)) w m
+  force_fault name l faults.Disk w1 w mid m previous into one is follows halted h later is_mid holds1 call1 same1 call2 fits = force_breaks name l w1 w mid m previous one is follows halted (λ room. omega (arith, h room)) is_mid holds1 call1 same1 call2 fits
+  force_fault name l faults.LogEnd w1 w mid m previous into one is follows halted h later is_mid holds1 call1 same1 call2 fits = absurd h
+  force_fault name l (faults.Damaged at) w1 w mid m previous into one is follows halted h later is_mid holds1 call1 same1 call2 fits = absurd h
+  force_fault name l faults.Memory w1 w mid m previous into one is follows halted h later is_mid holds1 call1 same1 call2 fits = absurd h
 
   -- an operation that was refused, or only reads
   pub op_unchanged : (name : List ℕ) (op : Op) (l : Live) (r : Result Reply Reason) (o : Objects) → k.live ≡ Some l → l.name ≡ name → step k.objects op ≡ (r, o) → (IsErr r) ⊎ (is_changing op ≡ false)
-      → Goes told v k x (Txn name (Do op)) (answer_of r) v (record k { objects = o })
+      → Goes told was v k x (Txn name (Do op)) (answer_of r) v (record k { objects = o })
   op_unchanged name op l r o one is e why =
       let first : (step k.objects op).0 ≡ r = ap (λ (p : Result Reply Reason × Objects). p.0) e in
       let kept : (step k.objects op).1 ≡ k.objects = elim why [ inl refused ↦ step-refused k.objects op (subst (λ (a : Result Reply Reason). IsErr a) (sym first) refused) | inr reads ↦ step-reads k.objects op reads ] in
-      subst (λ (a : Result Reply Reason). Goes told v k x (Txn name (Do op)) (answer_of a) v (record k { objects = o })) first
+      subst (λ (a : Result Reply Reason). Goes told was v k x (Txn name (Do op)) (answer_of a) v (record k { objects = o })) first
       (op_same name op l o one is (sym (ap (λ (p : Result Reply Reason × Objects). p.1) e)) kept (λ high work said. absurd (never_full r why (subst (λ (a : Result Reply Reason). IsSaid (answer_of a)) first said) work)))
     where
       never_full : (r : Result Reply Reason) → (IsErr r) ⊎ (is_changing op ≡ false) → IsSaid (answer_of r) → is_changing op ≡ true → ⊥
@@ -468,54 +475,40 @@ module _ (told : Bool) (v : disk.View) (k : Core) (x : State) (shows : Shows tol
 
   -- an operation that the log has no room for
   pub op_full : (name : List ℕ) (op : Op) (l : Live) (a : code_answer.Answer) (into : List ℕ) → k.live ≡ Some l → l.name ≡ name → is_changing op ≡ true → NEW_WORK_END < tail_of k.log → IsFullAnswer (step k.objects op).0 a
-      → Goes told v k x (Txn name (Do op)) (shown_answer into a) v k
+      → Goes told was v k x (Txn name (Do op)) (shown_answer into a) v k
   op_full name op l a into one is changing high full_answer = by_outcome (step k.objects op).0 refl full_answer
     where
-      by_outcome : (r : Result Reply Reason) → (step k.objects op).0 ≡ r → IsFullAnswer r a → Goes told v k x (Txn name (Do op)) (shown_answer into a) v k
+      by_outcome : (r : Result Reply Reason) → (step k.objects op).0 ≡ r → IsFullAnswer r a → Goes told was v k x (Txn name (Do op)) (shown_answer into a) v k
       by_outcome (Ok reply) e h =
-          subst (λ (b : code_answer.Answer). Goes told v k x (Txn name (Do op)) (shown_answer into b) v k) (sym h) (op_end told v k x shows running name op l one is changing (subst (λ (r : Result Reply Reason). IsSaid (answer_of r)) (sym e) tt) high)
+          subst (λ (b : code_answer.Answer). Goes told was v k x (Txn name (Do op)) (shown_answer into b) v k) (sym h) (op_end told was v k x shows running name op l one is changing (subst (λ (r : Result Reply Reason). IsSaid (answer_of r)) (sym e) tt) high)
       by_outcome (Err reason) e h =
           let kept : (step k.objects op).1 ≡ k.objects = step-refused k.objects op (subst (λ (r : Result Reply Reason). IsErr r) (sym e) refl) in
           let P : Result Reply Reason → Objects → Result Reply Reason × Objects = λ r m. (r, m) in
-          subst (λ (b : code_answer.Answer). Goes told v k x (Txn name (Do op)) (shown_answer into b) v k) (sym h)
+          subst (λ (b : code_answer.Answer). Goes told was v k x (Txn name (Do op)) (shown_answer into b) v k) (sym h)
           (op_unchanged name op l (Err reason) k.objects one is (ap (λ (r : Result Reply Reason). P r (step k.objects op).1) e ∙ ap (P (Err reason)) kept) (inl refl))
 
   -- memory has run out in an operation that takes some
   pub op_starved : (name : List ℕ) (op : Op) (l : Live) (o : Objects) → k.live ≡ Some l → l.name ≡ name → Grows op → IsOk (step k.objects op).0 → (is_changing op ≡ true → tail_of k.log ≤ NEW_WORK_END) → o ≡ k.objects
-      → Goes told v k x (Txn name (Do op)) Memory v (record k { objects = o })
+      → Goes told was v k x (Txn name (Do op)) Memory v (record k { objects = o })
   op_starved name op l o one is grows fine low same =
-      subst (λ (m : Objects). Goes told v k x (Txn name (Do op)) Memory v (record k { objects = m })) (sym same) (op_memory told v k x shows running name op l one is grows (said_ok (step k.objects op).0 fine) (low (grows_changing op grows)))
+      subst (λ (m : Objects). Goes told was v k x (Txn name (Do op)) Memory v (record k { objects = m })) (sym same) (op_memory told was v k x shows running name op l one is grows (said_ok (step k.objects op).0 fine) (low (grows_changing op grows)))
     where
       said_ok : (r : Result Reply Reason) → IsOk r → IsSaid (answer_of r)
       said_ok (Ok reply) h = tt
       said_ok (Err reason) h = absurd (cc)
 
   -- the log has failed as an operation's line was appended
-  pub op_fault : (name : List ℕ) (op : Op) (l : Live) (reply : Reply) (e : LogFault) (w : disk.View) (m : Core) (r : Record) (into : List ℕ) → m.stopped ≡ true → k.live ≡ Some l → l.name ≡ name → is_changing op ≡ true
-      → (step k.objects op).0 ≡ Ok reply → tail_of k.log ≤ NEW_WORK_END → IsRecord r → AppendFails (end_of k.log r) v w e → MomentsOf told v w k.log → Goes told v k x (Txn name (Do op)) (shown_answer into (answer_at e)) w m
+  pub op_fault : (name : List ℕ) (op : Op) (l : Live) (reply : Reply) (e : LogFault) (w : disk.View) (m : Core) (r : Record) (into : List ℕ) → m.stopped ≡ Some (stop_code e) → k.live ≡ Some l → l.name ≡ name → is_changing op ≡ true
+      → (step k.objects op).0 ≡ Ok reply → tail_of k.log ≤ NEW_WORK_END → IsRecord r → AppendFails (end_of k.log r) v w e → MomentsOf told v w k.log → Goes told was v k x (Txn name (Do op)) (shown_answer into (answer_at e)) w m
   op_fault name op l reply faults.Disk w m r into halted one is changing e low fields h call = op_breaks name op l w m halted one is changing (subst (λ (a : Result Reply Reason). IsSaid (answer_of a)) (sym e) tt) low h call
   op_fault name op l reply faults.LogEnd w m r into halted one is changing e low fields h call = let within = ends_within k.log r fields low in absurd (omega arith)
   op_fault name op l reply (faults.Damaged at) w m r into halted one is changing e low fields h call = absurd h
   op_fault name op l reply faults.Memory w m r into halted one is changing e low fields h call = absurd h
 
 -- the same of an answer, a disk and a store that are known by equations
-pub goes_along : {told : Bool} {v : disk.View} {k : Core} {x : State} {order : Order} (a b : Answer) (u w : disk.View) (m n : Core) → a ≡ b → u ≡ w → m ≡ n → Goes told v k x order b w n → Goes told v k x order a u m
-goes_along {told = told} {v = v} {k = k} {x = x} {order = order} a b u w m n same_answer same_disk same_core h =
-    subst (λ (p : Answer). Goes told v k x order p u m) (sym same_answer) (subst (λ (z : disk.View). Goes told v k x order b z m) (sym same_disk) (subst (λ (c : Core). Goes told v k x order b w c) (sym same_core) h))
+pub goes_along : {told : Bool} {was : disk.State} {v : disk.View} {k : Core} {x : State} {order : Order} (a b : Answer) (u w : disk.View) (m n : Core) → a ≡ b → u ≡ w → m ≡ n → Goes told was v k x order b w n → Goes told was v k x order a u m
+goes_along {told = told} {was = was} {v = v} {k = k} {x = x} {order = order} a b u w m n same_answer same_disk same_core h =
+    subst (λ (p : Answer). Goes told was v k x order p u m) (sym same_answer) (subst (λ (z : disk.View). Goes told was v k x order b z m) (sym same_disk) (subst (λ (c : Core). Goes told was v k x order b w c) (sym same_core) h))
 
-pub goes_order : {told : Bool} {v w : disk.View} {k m : Core} {x : State} {answer : Answer} (o p : Order) → o ≡ p → Goes told v k x p answer w m → Goes told v k x o answer w m
-goes_order {told = told} {v = v} {w = w} {k = k} {m = m} {x = x} {answer = answer} o p same h = subst (λ (q : Order). Goes told v k x q answer w m) (sym same) h
-
--- the cause of a stop as a record was appended
-pub stop_append : (e : LogFault) (end : ℕ) (v w : disk.View) (F : Type 0) (old : Option code_stop.Stop) → AppendFails end v w e → (LOG_END < end → F) → StopIsCaused (HasRisen v.faults w.faults) F old (Some (stop_code e))
-stop_append faults.Disk end v w F old h full = inr h
-stop_append faults.LogEnd end v w F old h full = inr (full h)
-stop_append (faults.Damaged at) end v w F old h full = absurd h
-stop_append faults.Memory end v w F old h full = absurd h
-
-pub stop_along : (R F : Type 0) (old a b : Option code_stop.Stop) → a ≡ b → StopIsCaused R F old b → StopIsCaused R F old a
-stop_along R F old a b e h = subst (λ (s : Option code_stop.Stop). StopIsCaused R F old s) (sym e) h
-
--- a commit's record ends soon after the tail
-pub commit_high : (log : Tail) (t p : ℕ) → LOG_END < end_of log (CommitRecord t p) → LOG_END < tail_of log + 31
-commit_high log t p h = omega (arith, h, place-tail log (CommitRecord t p), commit-length t p)
+pub goes_order : {told : Bool} {was : disk.State} {v w : disk.View} {k m : Core} {x : State} {answer : Answer} (o p : Order) → o ≡ p → Goes told was v k x p answer w m → Goes told was v k x o answer w m
+goes_order {told = told} {was = was} {v = v} {w = w} {k = k} {m = m} {x = x} {answer = answer} o p same h = subst (λ (q : Order). Goes told was v k x q answer w m) (sym same) h

@@ -17,11 +17,7 @@ use Rattle.sg_log.specs.Held.{Tail}
 use Rattle.sg_top.specs.Kept.{MOST_KEPT}
 use Rattle.sg_top.specs.Store.{Core}
 use Rattle.sg_top.specs.Goes.{Goes, Grows}
-use Rattle.sg_top.specs.Script.{TookAll, CutAtLast, Executed, MayEnd}
-use Rattle.sg_top.specs.Shown.{StopIsCaused}
-use Rattle.sg_top.specs.declared.store.Stop as code_stop
-use Rattle.sg_top.specs.declared.store.Stop.TheVariants as stops
-use Rattle.sg_log.specs.Frames.{LOG_END}
+use Rattle.sg_top.specs.Script.{TookAll, CutAtLast, Executed}
 use Rattle.sg_top.specs.Feeding.{Before, After, Broken}
 use Rattle.sg_top.proofs.Fronts.{kept_again}
 use Rattle.sg_top.proofs.Executing.{executed-more, takes_more, takes_cut}
@@ -40,12 +36,12 @@ order_of-kept text = by_length (nat_le (length text) MOST_KEPT) refl
 pub grows_on : (a b c : Tail) (u v w : disk.View) → Grows a b u v → Grows b c v w → Grows a c u w
 grows_on a b c u v w h k = record { kept = omega (arith, h.kept, k.kept); grown = ⊎_elim (λ full. inl (omega (arith, full, k.kept))) (λ more. ⊎_elim (λ full. inl full) (λ again. inr (omega (arith, more, again, h.kept, k.kept))) k.grown) h.grown }
 
-module _ (told : Bool) (v : disk.View) (k : Core) (x : State) (lines : List (List ℕ)) (first : Option (List ℕ)) (held piece : List ℕ) where
-  pub feed_started : (now : Option (List ℕ)) (w : disk.View) (m : Core) (had : List ℕ) → Before told v k x lines first now w m held had → After told v k x lines first now w m held piece piece had
+module _ (told : Bool) (was : disk.State) (v : disk.View) (k : Core) (x : State) (lines : List (List ℕ)) (first : Option (List ℕ)) (held piece : List ℕ) where
+  pub feed_started : (now : Option (List ℕ)) (w : disk.View) (m : Core) (had : List ℕ) → Before told was v k x lines first now w m held had → After told was v k x lines first now w m held piece piece had
   feed_started now w m had h = record {
     over = [];
     rest = held;
-    so_far = subst (λ (ls : List (List ℕ)). Before told v k x ls first now w m held had) (sym (append-nil lines)) h;
+    so_far = subst (λ (ls : List (List ℕ)). Before told was v k x ls first now w m held had) (sym (append-nil lines)) h;
     goes_on = λ after. refl;
   }
 
@@ -55,17 +51,17 @@ module _ (told : Bool) (v : disk.View) (k : Core) (x : State) (lines : List (Lis
 
   -- a line is over in the piece
   pub feed_line : (mid now : Option (List ℕ)) (w u : disk.View) (m n : Core) (had more cleared left part after : List ℕ) (answer : Answer)
-      → (a : After told v k x lines first mid w m held piece left had) → more ≡ take MOST_KEPT (had ++ part) → cleared ≡ [] → ((behind_it : List ℕ) → lines_of (left ++ behind_it) ≡ part ∷ lines_of (after ++ behind_it))
-      → w.faults ≤ u.faults → Grows m.log n.log w u → Goes told w m a.so_far.executed.after (order_of more) answer u n → Takes mid (text_of answer) now → After told v k x lines first now u n held piece after cleared
+      → (a : After told was v k x lines first mid w m held piece left had) → more ≡ take MOST_KEPT (had ++ part) → cleared ≡ [] → ((behind_it : List ℕ) → lines_of (left ++ behind_it) ≡ part ∷ lines_of (after ++ behind_it))
+      → w.faults ≤ u.faults → Grows m.log n.log w u → Goes told was w m a.so_far.executed.after (order_of more) answer u n → Takes mid (text_of answer) now → After told was v k x lines first now u n held piece after cleared
   feed_line mid now w u m n had more cleared left part after answer a is nothing cut later grown goes takes =
       let line : List ℕ = a.rest ++ part in
       let said : order_of line ≡ order_of more = sym (order_of-kept line) ∙ ap order_of (sym (kept_part a.rest part had more a.so_far.pending is)) in
-      let done = executed-more told v k x (lines ++ a.over) _ (TookAll first now) w u m n line answer a.so_far.later later a.so_far.grown grown.kept a.so_far.executed (subst (λ (o : Order). Goes told w m a.so_far.executed.after o answer u n) (sym said) goes) (takes_more first mid now answer takes) in
+      let done = executed-more told was v k x (lines ++ a.over) _ (TookAll first now) w u m n line answer a.so_far.later later a.so_far.grown grown.kept a.so_far.executed (subst (λ (o : Order). Goes told was w m a.so_far.executed.after o answer u n) (sym said) goes) (takes_more first mid now answer takes) in
       record {
         over = a.over ++ line ∷ [];
         rest = [];
         so_far = record {
-          executed = subst (λ (ls : List (List ℕ)). Executed told v k x ls (TookAll first now) u n) (append_assoc lines a.over (line ∷ [])) done;
+          executed = subst (λ (ls : List (List ℕ)). Executed told was v k x ls (TookAll first now) u n) (append_assoc lines a.over (line ∷ [])) done;
           later = omega (arith, a.so_far.later, later);
           grown = grows_on k.log m.log n.log v w u a.so_far.grown grown;
           pending = nothing;
@@ -74,8 +70,8 @@ module _ (told : Bool) (v : disk.View) (k : Core) (x : State) (lines : List (Lis
       }
 
   -- the piece ends
-  pub feed_ends : (now : Option (List ℕ)) (w : disk.View) (m : Core) (had more left part : List ℕ) → (a : After told v k x lines first now w m held piece left had) → more ≡ take MOST_KEPT (had ++ part)
-      → ((behind_it : List ℕ) → lines_of (left ++ behind_it) ≡ behind part (lines_of behind_it)) → After told v k x lines first now w m held piece [] more
+  pub feed_ends : (now : Option (List ℕ)) (w : disk.View) (m : Core) (had more left part : List ℕ) → (a : After told was v k x lines first now w m held piece left had) → more ≡ take MOST_KEPT (had ++ part)
+      → ((behind_it : List ℕ) → lines_of (left ++ behind_it) ≡ behind part (lines_of behind_it)) → After told was v k x lines first now w m held piece [] more
   feed_ends now w m had more left part a is cut = record {
     over = a.over;
     rest = a.rest ++ part;
@@ -90,45 +86,14 @@ module _ (told : Bool) (v : disk.View) (k : Core) (x : State) (lines : List (Lis
 
   -- the sink fails at the reply of a line
   pub feed_breaks : (mid now : Option (List ℕ)) (w u : disk.View) (m n : Core) (had more left part after : List ℕ) (answer : Answer)
-      → (a : After told v k x lines first mid w m held piece left had) → more ≡ take MOST_KEPT (had ++ part) → ((behind_it : List ℕ) → lines_of (left ++ behind_it) ≡ part ∷ lines_of (after ++ behind_it))
-      → w.faults ≤ u.faults → Grows m.log n.log w u → Goes told w m a.so_far.executed.after (order_of more) answer u n → TakesFront mid (text_of answer) now → Broken told v k x lines first now u n held piece
+      → (a : After told was v k x lines first mid w m held piece left had) → more ≡ take MOST_KEPT (had ++ part) → ((behind_it : List ℕ) → lines_of (left ++ behind_it) ≡ part ∷ lines_of (after ++ behind_it))
+      → w.faults ≤ u.faults → Grows m.log n.log w u → Goes told was w m a.so_far.executed.after (order_of more) answer u n → TakesFront mid (text_of answer) now → Broken told was v k x lines first now u n held piece
   feed_breaks mid now w u m n had more left part after answer a is cut later grown goes takes =
       let line : List ℕ = a.rest ++ part in
       let said : order_of line ≡ order_of more = sym (order_of-kept line) ∙ ap order_of (sym (kept_part a.rest part had more a.so_far.pending is)) in
-      let done = executed-more told v k x (lines ++ a.over) _ (CutAtLast first now) w u m n line answer a.so_far.later later a.so_far.grown grown.kept a.so_far.executed (subst (λ (o : Order). Goes told w m a.so_far.executed.after o answer u n) (sym said) goes) (takes_cut first mid now answer takes) in
+      let done = executed-more told was v k x (lines ++ a.over) _ (CutAtLast first now) w u m n line answer a.so_far.later later a.so_far.grown grown.kept a.so_far.executed (subst (λ (o : Order). Goes told was w m a.so_far.executed.after o answer u n) (sym said) goes) (takes_cut first mid now answer takes) in
       record {
         over = a.over ++ line ∷ [];
-        executed = subst (λ (ls : List (List ℕ)). Executed told v k x ls (CutAtLast first now) u n) (append_assoc lines a.over (line ∷ [])) done;
+        executed = subst (λ (ls : List (List ℕ)). Executed told was v k x ls (CutAtLast first now) u n) (append_assoc lines a.over (line ∷ [])) done;
         front = λ behind_it. (behind [] (lines_of (after ++ behind_it)), seam a.over a.rest part line [] (lines_of (after ++ behind_it)) (lines_of (left ++ behind_it)) (behind held (lines_of (piece ++ behind_it))) (behind_nothing (λ b. b == 10) (after ++ behind_it)) refl refl (cut behind_it) (a.goes_on behind_it));
       }
-
--- the causes of a stop, one after another
-pub stop_on : (gate high : ℕ) (a b c : disk.View) (s t u : Option code_stop.Stop) → b.faults ≤ c.faults → a.faults ≤ b.faults → b.handed ≤ c.handed → (disk.FULL ≤ b.handed) ⊎ (high + a.handed ≤ gate + b.handed)
-    → StopIsCaused (HasRisen a.faults b.faults) (MayEnd gate a b) s t → StopIsCaused (HasRisen b.faults c.faults) (MayEnd high b c) t u → StopIsCaused (HasRisen a.faults c.faults) (MayEnd gate a c) s u
-stop_on gate high a b c s t None more later kept grown h k = tt
-stop_on gate high a b c s t (Some stops.Disk) more later kept grown h (inl was) = before (subst (λ (o : Option code_stop.Stop). StopIsCaused (HasRisen a.faults b.faults) (MayEnd gate a b) s o) was h)
-  where
-    before : (s ≡ Some stops.Disk) ⊎ HasRisen a.faults b.faults → (s ≡ Some stops.Disk) ⊎ HasRisen a.faults c.faults
-    before (inl same) = inl same
-    before (inr risen) = inr (λ room. omega (arith, risen (omega (arith, room, more)), more))
-stop_on gate high a b c s t (Some stops.Disk) more later kept grown h (inr risen) = inr (λ room. omega (arith, risen room, later))
-stop_on gate high a b c s t (Some stops.LogEnd) more later kept grown h (inl was) = before (subst (λ (o : Option code_stop.Stop). StopIsCaused (HasRisen a.faults b.faults) (MayEnd gate a b) s o) was h)
-  where
-    before : (s ≡ Some stops.LogEnd) ⊎ MayEnd gate a b → (s ≡ Some stops.LogEnd) ⊎ MayEnd gate a c
-    before (inl same) = inl same
-    before (inr (inl full)) = inr (inl (omega (arith, full, kept)))
-    before (inr (inr past)) = inr (inr (omega (arith, past, kept)))
-stop_on gate high a b c s t (Some stops.LogEnd) more later kept grown h (inr (inl full)) = inr (inl full)
-stop_on gate high a b c s t (Some stops.LogEnd) more later kept grown h (inr (inr past)) = inr (⊎_elim (λ full. inl (omega (arith, full, kept))) (λ more_gate. inr (omega (arith, past, more_gate, kept))) grown)
-
--- at its own line a log that is at its end may be so
-pub stop_here : (gate : ℕ) (b c : disk.View) (t u : Option code_stop.Stop) → b.handed ≤ c.handed → StopIsCaused (HasRisen b.faults c.faults) (LOG_END < gate + 65572) t u → StopIsCaused (HasRisen b.faults c.faults) (MayEnd gate b c) t u
-stop_here gate b c t None kept h = tt
-stop_here gate b c t (Some stops.Disk) kept h = h
-stop_here gate b c t (Some stops.LogEnd) kept (inl same) = inl same
-stop_here gate b c t (Some stops.LogEnd) kept (inr past) = inr (inr (omega (arith, past, kept)))
-
-pub stop_same : (R F : Type 0) (s : Option code_stop.Stop) → StopIsCaused R F s s
-stop_same R F None = tt
-stop_same R F (Some stops.Disk) = inl refl
-stop_same R F (Some stops.LogEnd) = inl refl

@@ -129,14 +129,14 @@ module _ (old now : code_found.Found) (bytes : List ℕ) (at from : ℕ) (so : S
 
     -- which follows none of those before it
     pub so_far_stray : ((before : List Numbered) → KnowsLasts now before → Follows before here → ⊥) → (before : List Numbered) (rs : List Record) → KnowsLasts old before
-        → AreRecords rs → bytes ≡ spelled_all rs → HasStray before (at + from) (numbered_from at rs)
+        → AreRecords rs → bytes ≡ spelled_all rs → HasStray before (numbered_from at rs)
     so_far_stray none before rs knows fields is =
         let h = so rs fields is in
         let n = next bytes from h.back h.fields h.rest some in
         let same = same_pair r n.is size (length (spelled n.is)) (read n.is (spelled_all n.more) n.good n.text) in
         let back : List Numbered = numbered_from (at + from + length (spelled n.is)) n.more in
         record {
-          is = r;
+          one = here;
           front = numbered_from at h.front;
           back = back;
           there = ap (numbered_from at) (h.split ∙ ap (λ (b : List Record). h.front ++ b) n.split) ∙ (numbered_from-append at h.front (n.is ∷ n.more)

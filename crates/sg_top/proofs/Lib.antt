@@ -15,3 +15,4 @@ pub mod Replaying
 pub mod Nothing
 pub mod Reading
 pub mod Acknowledged
+pub mod OneLines

@@ -1,14 +1,14 @@
 -- What an image stands for is one collection of objects at most, and none where its log is damaged.
-use Rattle.std.proofs.Common.{◌≡◌, inl, inr, ℕ, ◌==◌, Bool, true, false, cond, List, [], ◌∷◌, ◌++◌, Option, Some, None, refl, sym, ap, ◌∙◌, subst}
+use Rattle.std.proofs.Common.{◌≡◌, inl, inr, ℕ, ◌+◌, length, append_assoc, ◌==◌, Bool, true, false, cond, List, [], ◌∷◌, ◌++◌, Option, Some, None, refl, sym, ap, ◌∙◌, subst}
 use Rattle.std.specs.List.{flat_map}
 use Rattle.std.specs.FinMap.{empty}
 use Rattle.sg_base.specs.declared.area.Area.TheVariants.{Log0}
 use Rattle.sg_disk.specs.Disk as disk
 use Rattle.sg_model.specs.Objects.{Objects}
-use Rattle.sg_record.specs.Plain.{Record}
+use Rattle.sg_record.specs.Plain.{Record, spelled_all}
 use Rattle.sg_record.specs.Plain.Record.{Begin, Commit, Line}
 use Rattle.sg_log.specs.Following.{Follows, AreChained}
-use Rattle.sg_log.specs.Frames.{Frames, Numbered, numbered_in, records_of}
+use Rattle.sg_log.specs.Frames.{Frames, Numbered, numbered_from, numbered_in, records_of, text_of, gate_after}
 use Rattle.sg_log.proofs.Chain.{undamaged}
 use Rattle.sg_log.proofs.Following.{chained-back}
 use Rattle.sg_log.proofs.Unique.{Frames-one, HasRecords-one}
@@ -16,6 +16,7 @@ use Rattle.sg_top.specs.Stands.{lines_by, commits_in, committed_lines, replay, S
 use Rattle.sg_top.specs.Damage.{LineAt, line_at, lines_at, committed_at, words_of_all, IsStrayAt, IsUnansweredAt, StandsForNothing}
 use Rattle.sg_top.proofs.Replays.{replay-append, replay-none}
 use Rattle.sg_top.proofs.Replaying.{words-append}
+use Rattle.sg_top.proofs.Walking.{numbered_in-append}
 
 -- the words of a transaction's lines, with and without their numbers
 pub lines_at-words : (t : ℕ) (records : List Numbered) → words_of_all (lines_at t records) ≡ lines_by t (records_of records)
@@ -58,7 +59,15 @@ follows_among : (front : List Numbered) (n : Numbered) (back : List Numbered) �
 follows_among front n back h = (chained-back [] front (n ∷ back) h).0
 
 stray : (c : disk.Image) (s : Objects) (at : ℕ) → StandsFor c s → IsStrayAt (c Log0) at → ⊥
-stray c s at h m = m.has.stray (follows_among m.has.front (record { lsn = at; is = m.has.is }) m.has.back (subst AreChained (records_here c s h m.frames m.stand ∙ m.has.there) h.chained))
+stray c s at h m =
+    let k = m.has in
+    let ns : List Numbered = numbered_in 0 k.front in
+    let more : List Numbered = numbered_in (gate_after 0 k.front + 1 + length (text_of (spelled_all k.frame))) k.back in
+    let P : Numbered → List Numbered → List Numbered = λ x xs. x ∷ xs in
+    let all : numbered_in 0 m.frames ≡ (ns ++ k.has.front) ++ P k.has.one (k.has.back ++ more) =
+    ap (numbered_in 0) k.there ∙ (numbered_in-append 0 k.front (k.frame ∷ k.back) ∙ (ap (λ (n : ℕ). ns ++ (numbered_from (n + 5) k.frame ++ more)) (sym k.place)
+    ∙ (ap (λ (xs : List Numbered). ns ++ (xs ++ more)) k.has.there ∙ (ap (λ (xs : List Numbered). ns ++ xs) (append_assoc k.has.front (P k.has.one k.has.back) more) ∙ sym (append_assoc ns k.has.front (P k.has.one (k.has.back ++ more))))))) in
+    k.has.stray (follows_among (ns ++ k.has.front) k.has.one (k.has.back ++ more) (subst AreChained (records_here c s h m.frames m.stand ∙ all) h.chained))
 
 unanswered : (c : disk.Image) (s : Objects) (at : ℕ) → StandsFor c s → IsUnansweredAt (c Log0) at → ⊥
 unanswered c s at h u =

@@ -16,7 +16,7 @@ use Rattle.sg_log.specs.declared.fault.LogFault.{LogFault}
 use Rattle.sg_log.specs.declared.fault.LogFault.TheVariants as faults
 use Rattle.sg_log.proofs.Holding.{holds_along}
 use Rattle.sg_top.specs.Stands.{commits_in, committed_lines, replay}
-use Rattle.sg_top.specs.Damage.{lines_at, committed_at, words_of_all, HasStray, HasUnanswered}
+use Rattle.sg_top.specs.Damage.{lines_at, committed_at, words_of_all, HasStrayFrame, HasUnanswered}
 use Rattle.sg_top.specs.Found.{lines_found, AreFound, EndsAt, IsReadBack, IsNotFound, IsRefusedBy}
 use Rattle.sg_top.specs.Opening.{IsRefusedFor}
 use Rattle.sg_top.specs.Shown.{refusal_at}
@@ -66,7 +66,7 @@ module _ (told : Bool) (v u : disk.View) (log : Tail) (area : log.area ≡ Log0)
       }
 
   -- a record doesn't follow those before it
-  pub read_stray : (at : ℕ) → ((fs : List (List Record)) → EndsAt u log fs → HasStray [] at (numbered_in 0 fs)) → IsRefusedFor (refusals.Damaged Log0 at) told v u
+  pub read_stray : (at : ℕ) → ((fs : List (List Record)) → EndsAt u log fs → HasStrayFrame at fs) → IsRefusedFor (refusals.Damaged Log0 at) told v u
   read_stray at stray = (
     refl,
     λ sure. inr (inl (record {

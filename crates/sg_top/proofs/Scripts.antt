@@ -15,7 +15,8 @@ use Rattle.sg_top.specs.Store.{Core, Shows}
 use Rattle.sg_top.specs.Goes.{Goes, Grows}
 use Rattle.sg_top.specs.Script.{TookAll, CutAtLast, Executed, HasRead}
 use Rattle.sg_top.specs.Feeding.{Feeds, Breaks}
-use Rattle.sg_top.specs.Ending.{MOST_BYTES, IsWhole, IsCutShort, IsTooLong, IsUnwritten, IsUnderWay}
+use Rattle.sg_top.specs.declared.script.RunEnd.TheVariants as ends
+use Rattle.sg_top.specs.Ending.{MOST_BYTES, RunsTo, IsUnderWay}
 use Rattle.sg_top.proofs.Executing.{executed-none, executed-more, takes_more, takes_cut}
 use Rattle.sg_top.proofs.Feeds.{order_of-kept}
 
@@ -37,8 +38,8 @@ HasRead-end (Some all) text mid into left some h given =
     let g = subst (λ (m : Option (List ℕ)). Gives m into 0 left) h.1 given in
     ((h.0, g.2, h.2), sym (h.2 ∙ (ap (λ (r : List ℕ). text ++ r) (g.3 refl some) ∙ append-nil text)))
 
-module _ (told : Bool) (v : disk.View) (k : Core) (x : State) (source first : Option (List ℕ)) where
-  pub way_begins : (kept : List ℕ) → kept ≡ [] → Shows told v k x → IsUnderWay told v k x source source first first v k kept 0
+module _ (told : Bool) (was : disk.State) (v : disk.View) (k : Core) (x : State) (source first : Option (List ℕ)) where
+  pub way_begins : (kept : List ℕ) → kept ≡ [] → Shows told was v k x → IsUnderWay told was v k x source source first first v k kept 0
   way_begins kept nothing shows = record {
     text = [];
     read = HasRead-none source;
@@ -47,7 +48,7 @@ module _ (told : Bool) (v : disk.View) (k : Core) (x : State) (source first : Op
     rest = [];
     over = λ after. behind_nothing (λ b. b == 10) after;
     before = record {
-      executed = executed-none told v k x (TookAll first first) (Takes-nothing first) shows;
+      executed = executed-none told was v k x (TookAll first first) (Takes-nothing first) shows;
       later = omega arith;
       grown = record { kept = omega arith; grown = inr (omega arith) };
       pending = nothing;
@@ -55,10 +56,10 @@ module _ (told : Bool) (v : disk.View) (k : Core) (x : State) (source first : Op
   }
 
   -- a piece more
-  pub way_goes_on : (mid left now next : Option (List ℕ)) (w u : disk.View) (m n : Core) (had kept into piece : List ℕ) (total count : ℕ) → (h : IsUnderWay told v k x source mid first now w m had total) → Gives mid into count left → count ≤ length into → piece ≡ take count into
-      → Feeds told w m u n now next had piece kept → IsUnderWay told v k x source left first next u n kept (total + count)
+  pub way_goes_on : (mid left now next : Option (List ℕ)) (w u : disk.View) (m n : Core) (had kept into piece : List ℕ) (total count : ℕ) → (h : IsUnderWay told was v k x source mid first now w m had total) → Gives mid into count left → count ≤ length into → piece ≡ take count into
+      → Feeds told w m u n now next had piece kept → IsUnderWay told was v k x source left first next u n kept (total + count)
   way_goes_on mid left now next w u m n had kept into piece total count h given within is fed =
-      let a = fed v k x h.lines first h.rest h.before in
+      let a = fed was v k x h.lines first h.rest h.before in
       record {
         text = h.text ++ piece;
         read = subst (λ (p : List ℕ). HasRead source (h.text ++ p) left) (sym is) (HasRead-more source h.text mid into count left h.read given);
@@ -76,72 +77,75 @@ module _ (told : Bool) (v : disk.View) (k : Core) (x : State) (source first : Op
   last_said : (rest had : List ℕ) → had ≡ take MOST_KEPT rest → order_of (rest ++ []) ≡ order_of had
   last_said rest had pending = ap order_of (append-nil rest) ∙ (sym (order_of-kept rest) ∙ ap order_of (sym pending))
 
-  pub way_ends : (mid left now next : Option (List ℕ)) (w u : disk.View) (m n : Core) (had into : List ℕ) (total : ℕ) (answer : Answer) → (h : IsUnderWay told v k x source mid first now w m had total) → total ≤ MOST_BYTES → 0 < length into → Gives mid into 0 left
-      → w.faults ≤ u.faults → Grows m.log n.log w u → Goes told w m h.before.executed.after (order_of had) answer u n → Takes now (text_of answer) next → IsWhole told v k x source left first next u n
+  pub way_ends : (mid left now next : Option (List ℕ)) (w u : disk.View) (m n : Core) (had into : List ℕ) (total : ℕ) (answer : Answer) → (h : IsUnderWay told was v k x source mid first now w m had total) → total ≤ MOST_BYTES → 0 < length into → Gives mid into 0 left
+      → w.faults ≤ u.faults → Grows m.log n.log w u → Goes told was w m h.before.executed.after (order_of had) answer u n → Takes now (text_of answer) next → RunsTo ends.Done told was v k x source left first next u n
   way_ends mid left now next w u m n had into total answer h short some given later grown goes takes =
       let ended = HasRead-end source h.text mid into left some h.read given in
       record {
         text = h.text;
         read = ended.0;
-        whole = ended.1;
-        short = omega (arith, h.size);
-        executed = subst (λ (ls : List (List ℕ)). Executed told v k x ls (TookAll first next) u n) (last_lines h.lines h.rest h.text h.over)
-            (executed-more told v k x h.lines _ (TookAll first next) w u m n (h.rest ++ []) answer h.before.later later h.before.grown grown.kept h.before.executed
-            (subst (λ (o : Order). Goes told w m h.before.executed.after o answer u n) (sym (last_said h.rest had h.before.pending)) goes) (takes_more first now next answer takes));
+        lines = lines_of h.text;
+        ended = record { whole = ended.1; short = omega (arith, h.size); all = refl };
+        executed = subst (λ (ls : List (List ℕ)). Executed told was v k x ls (TookAll first next) u n) (last_lines h.lines h.rest h.text h.over)
+            (executed-more told was v k x h.lines _ (TookAll first next) w u m n (h.rest ++ []) answer h.before.later later h.before.grown grown.kept h.before.executed
+            (subst (λ (o : Order). Goes told was w m h.before.executed.after o answer u n) (sym (last_said h.rest had h.before.pending)) goes) (takes_more first now next answer takes));
       }
 
   -- the sink fails at it
-  pub way_unwritten : (mid left now next : Option (List ℕ)) (w u : disk.View) (m n : Core) (had into : List ℕ) (total : ℕ) (answer : Answer) → (h : IsUnderWay told v k x source mid first now w m had total) → total ≤ MOST_BYTES → 0 < length into → Gives mid into 0 left
-      → w.faults ≤ u.faults → Grows m.log n.log w u → Goes told w m h.before.executed.after (order_of had) answer u n → TakesFront now (text_of answer) next → IsUnwritten told v k x source left first next u n
+  pub way_unwritten : (mid left now next : Option (List ℕ)) (w u : disk.View) (m n : Core) (had into : List ℕ) (total : ℕ) (answer : Answer) → (h : IsUnderWay told was v k x source mid first now w m had total) → total ≤ MOST_BYTES → 0 < length into → Gives mid into 0 left
+      → w.faults ≤ u.faults → Grows m.log n.log w u → Goes told was w m h.before.executed.after (order_of had) answer u n → TakesFront now (text_of answer) next → RunsTo ends.Write told was v k x source left first next u n
   way_unwritten mid left now next w u m n had into total answer h short some given later grown goes takes =
       let ended = HasRead-end source h.text mid into left some h.read given in
       record {
         text = h.text;
         read = ended.0;
-        short = omega (arith, h.size);
         lines = h.lines ++ (h.rest ++ []) ∷ [];
-        front = inr (last_lines h.lines h.rest h.text h.over, ended.1);
-        executed = executed-more told v k x h.lines _ (CutAtLast first next) w u m n (h.rest ++ []) answer h.before.later later h.before.grown grown.kept h.before.executed
-            (subst (λ (o : Order). Goes told w m h.before.executed.after o answer u n) (sym (last_said h.rest had h.before.pending)) goes) (takes_cut first now next answer takes);
+        ended = record { short = omega (arith, h.size); first = inr (last_lines h.lines h.rest h.text h.over, ended.1) };
+        executed = executed-more told was v k x h.lines _ (CutAtLast first next) w u m n (h.rest ++ []) answer h.before.later later h.before.grown grown.kept h.before.executed
+            (subst (λ (o : Order). Goes told was w m h.before.executed.after o answer u n) (sym (last_said h.rest had h.before.pending)) goes) (takes_cut first now next answer takes);
       }
 
   -- the sink fails within a piece
-  pub way_broken : (mid left now next : Option (List ℕ)) (w u : disk.View) (m n : Core) (had into piece : List ℕ) (total count : ℕ) → (h : IsUnderWay told v k x source mid first now w m had total) → total + count ≤ MOST_BYTES → Gives mid into count left → count ≤ length into → piece ≡ take count into
-      → Breaks told w m u n now next had piece → IsUnwritten told v k x source left first next u n
+  pub way_broken : (mid left now next : Option (List ℕ)) (w u : disk.View) (m n : Core) (had into piece : List ℕ) (total count : ℕ) → (h : IsUnderWay told was v k x source mid first now w m had total) → total + count ≤ MOST_BYTES → Gives mid into count left → count ≤ length into → piece ≡ take count into
+      → Breaks told w m u n now next had piece → RunsTo ends.Write told was v k x source left first next u n
   way_broken mid left now next w u m n had into piece total count h short given within is breaks =
-      let b = breaks v k x h.lines first h.rest h.before in
+      let b = breaks was v k x h.lines first h.rest h.before in
       record {
         text = h.text ++ piece;
         read = subst (λ (p : List ℕ). HasRead source (h.text ++ p) left) (sym is) (HasRead-more source h.text mid into count left h.read given);
-        short = omega (arith, h.size, length-append h.text piece, ap length is, length-take-le count into within);
         lines = h.lines ++ b.over;
-        front = inl (λ after. let f = b.front after in (f.0, append_assoc h.lines b.over f.0 ∙ (ap (λ (ls : List (List ℕ)). h.lines ++ ls) f.1 ∙ (h.over (piece ++ after) ∙ ap lines_of (sym (append_assoc h.text piece after))))));
+        ended = record {
+          short = omega (arith, h.size, length-append h.text piece, ap length is, length-take-le count into within);
+          first = inl (λ after. let f = b.front after in (f.0, append_assoc h.lines b.over f.0 ∙ (ap (λ (ls : List (List ℕ)). h.lines ++ ls) f.1 ∙ (h.over (piece ++ after) ∙ ap lines_of (sym (append_assoc h.text piece after))))));
+        };
         executed = b.executed;
       }
 
   -- the source fails
-  pub way_unread : (mid left now : Option (List ℕ)) (w : disk.View) (m : Core) (had : List ℕ) (total : ℕ) → IsUnderWay told v k x source mid first now w m had total → total ≤ MOST_BYTES → left ≡ mid → IsCutShort told v k x source left first now w m
+  pub way_unread : (mid left now : Option (List ℕ)) (w : disk.View) (m : Core) (had : List ℕ) (total : ℕ) → IsUnderWay told was v k x source mid first now w m had total → total ≤ MOST_BYTES → left ≡ mid → RunsTo ends.Read told was v k x source left first now w m
   way_unread mid left now w m had total h short same = record {
     text = h.text;
     read = subst (HasRead source h.text) (sym same) h.read;
-    short = omega (arith, h.size);
     lines = h.lines;
-    rest = h.rest;
-    over = h.over;
+    ended = record { short = omega (arith, h.size); rest = h.rest; over = h.over };
     executed = h.before.executed;
   }
 
   -- the source gives too much
-  pub way_too_long : (mid left now : Option (List ℕ)) (w : disk.View) (m : Core) (had into : List ℕ) (total count : ℕ) → IsUnderWay told v k x source mid first now w m had total → total ≤ MOST_BYTES → MOST_BYTES < total + count → Gives mid into count left → count ≤ length into → length into ≤ 65536 → IsTooLong told v k x source left first now w m
+  pub way_too_long : (mid left now : Option (List ℕ)) (w : disk.View) (m : Core) (had into : List ℕ) (total count : ℕ) → IsUnderWay told was v k x source mid first now w m had total → total ≤ MOST_BYTES → MOST_BYTES < total + count → Gives mid into count left → count ≤ length into → length into ≤ 65536 → RunsTo ends.TooLong told was v k x source left first now w m
   way_too_long mid left now w m had into total count h short long given within room = record {
-    text = h.text;
-    piece = take count into;
+    text = h.text ++ take count into;
     read = HasRead-more source h.text mid into count left h.read given;
-    short = omega (arith, h.size);
-    small = omega (arith, length-take-le count into within, within, room);
-    long = omega (arith, h.size, long, length-append h.text (take count into), length-take-le count into within);
     lines = h.lines;
-    rest = h.rest;
-    over = h.over;
+    ended = record {
+      before = h.text;
+      piece = take count into;
+      split = refl;
+      short = omega (arith, h.size);
+      long = omega (arith, h.size, long, length-append h.text (take count into), length-take-le count into within);
+      small = omega (arith, length-take-le count into within, within, room);
+      rest = h.rest;
+      over = h.over;
+    };
     executed = h.before.executed;
   }

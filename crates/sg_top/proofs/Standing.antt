@@ -9,10 +9,10 @@ use Rattle.sg_model.specs.History.{Live, State, committed_objects, live_objects}
 use Rattle.sg_record.specs.Plain.{Record}
 use Rattle.sg_record.specs.Plain.Record.{Commit}
 use Rattle.sg_log.specs.Following.{AreChained}
-use Rattle.sg_log.specs.Frames.{Numbered, records_of, HasRecords}
+use Rattle.sg_log.specs.Frames.{Numbered, records_of, HasRecords, SameElsewhere}
 use Rattle.sg_log.specs.Held.{Tail, tail_of, IsBeforeOrAfter}
 use Rattle.sg_log.proofs.Following.{records_of-append, chained-front}
-use Rattle.sg_top.specs.Stands.{lines_by, committed_lines, replay, StandsFor, StandsForFirst}
+use Rattle.sg_top.specs.Stands.{lines_by, committed_lines, replay, OthersAsIn, StandsFor, StandsForFirst}
 use Rattle.sg_top.specs.Store.{Core, Logs, Keeps, IsOpenOrNone}
 use Rattle.sg_top.proofs.Replays.{replay-append, committed_lines-own, committed_lines-commit}
 use Rattle.sg_top.proofs.Serial.{after_commits, after_others}
@@ -44,6 +44,16 @@ of_log log {ds = ds} {ps = ps} {c = c} area base h =
     let Q : ℕ → Type 0 = λ b. HasRecords (c Log0) b log.gate ds ⊎ HasRecords (c Log0) b (tail_of log) (ds ++ ps) in
     subst Q base (subst P area h.held)
 
+-- the areas that the log doesn't stand in
+pub others_of : (log : Tail) {was s : disk.State} {ds ps : List Numbered} {c : disk.Image} → log.area ≡ Log0 → SameElsewhere Log0 was s → IsBeforeOrAfter s log ds ps c → OthersAsIn was c
+others_of log {c = c} area same h a other = subst (λ (p : disk.Part). disk.LeavesPart p (c a)) (same a other) (h.others a (λ e. other (e ∙ area)))
+
+pub others_leaves : (was : disk.State) (w : disk.View) (c : disk.Image) → SameElsewhere Log0 was w.now → disk.Leaves w.now c → OthersAsIn was c
+others_leaves was w c same leaves a other = subst (λ (p : disk.Part). disk.LeavesPart p (c a)) (same a other) (leaves a)
+
+pub same_on : (was s t : disk.State) (area : Area) → area ≡ Log0 → SameElsewhere Log0 was s → SameElsewhere area s t → SameElsewhere Log0 was t
+same_on was s t area is h k b other = k b (λ e. other (e ∙ is)) ∙ h b other
+
 -- the replay of a committed transaction's lines
 pub replay_commit : (x : State) (l : Live) (p : ℕ) (ds ps : List Record) → Logs x (Some l) ds ps → replay (committed_lines ((ds ++ ps) ++ Commit l.transaction p ∷ [])) (Some empty) ≡ Some (live_objects x)
 replay_commit x l p ds ps logs =
@@ -51,22 +61,24 @@ replay_commit x l p ds ps logs =
     ∙ (replay-append (committed_lines ds) (lines_by l.transaction (ds ++ ps)) (Some empty) ∙ (ap (replay (lines_by l.transaction (ds ++ ps))) logs.durable ∙ logs.open_one.lines))
 
 -- an image that stands for all commits of x, as a prefix of those of y
-pub first_same : (x y : State) (least : ℕ) (c : disk.Image) → y.first ≡ x.first → y.commits ≡ x.commits → least ≤ length x.commits → StandsFor c (committed_objects x) → StandsForFirst least y c
-first_same x y least c first same le h = record {
+pub first_same : (was : disk.State) (x y : State) (least : ℕ) (c : disk.Image) → y.first ≡ x.first → y.commits ≡ x.commits → least ≤ length x.commits → OthersAsIn was c → StandsFor c (committed_objects x) → StandsForFirst was least y c
+first_same was x y least c first same le others h = record {
   commits = length y.commits;
   enough = omega (arith, ap length same);
   most = omega arith;
   stands = subst (StandsFor c) (ap (λ (cs : List (List Op)). committed_objects (record x { commits = cs })) (sym same) ∙ ap (λ (s : Objects). committed_objects (record y { first = s })) (sym first) ∙ sym (after_commits y)) h;
+  others = others;
 }
 
-pub first_others : (x y : State) (ops : List Op) (least : ℕ) (c : disk.Image) → y.first ≡ x.first → y.commits ≡ x.commits ++ ops ∷ [] → least ≤ length x.commits → StandsFor c (committed_objects x) → StandsForFirst least y c
-first_others x y ops least c first more le h = record {
+pub first_others : (was : disk.State) (x y : State) (ops : List Op) (least : ℕ) (c : disk.Image) → y.first ≡ x.first → y.commits ≡ x.commits ++ ops ∷ [] → least ≤ length x.commits → OthersAsIn was c → StandsFor c (committed_objects x) → StandsForFirst was least y c
+first_others was x y ops least c first more le others h = record {
   commits = length x.commits;
   enough = le;
   most = omega (arith, ap length more, length-append x.commits (ops ∷ []));
   stands = subst (StandsFor c) (sym (after_others x y ops first more)) h;
+  others = others;
 }
 
 -- an image that stands for all commits
-pub first_all : (y : State) (least : ℕ) (c : disk.Image) → least ≤ length y.commits → StandsFor c (committed_objects y) → StandsForFirst least y c
-first_all y least c le h = record { commits = length y.commits; enough = le; most = omega arith; stands = subst (StandsFor c) (sym (after_commits y)) h }
+pub first_all : (was : disk.State) (y : State) (least : ℕ) (c : disk.Image) → least ≤ length y.commits → OthersAsIn was c → StandsFor c (committed_objects y) → StandsForFirst was least y c
+first_all was y least c le others h = record { commits = length y.commits; enough = le; most = omega arith; stands = subst (StandsFor c) (sym (after_commits y)) h; others = others }

@@ -99,20 +99,6 @@ found_more now new at front rs place are finds chained =
       chained = subst AreChained (sym all) (chained-append [] ns ms are.chained (chained ns are.lasts));
     }
 
--- a stray record among some is one among all
-pub stray_within : (before ns more : List Numbered) (lsn : ℕ) → AreChained before → HasStray before lsn ns → HasStray [] lsn (before ++ (ns ++ more))
-stray_within before ns more lsn chained h =
-    let P : Numbered → List Numbered → List Numbered = λ x xs. x ∷ xs in
-    let n : Numbered = record { lsn = lsn; is = h.is } in
-    record {
-      is = h.is;
-      front = before ++ h.front;
-      back = h.back ++ more;
-      there = ap (λ (xs : List Numbered). before ++ (xs ++ more)) h.there ∙ (ap (λ (xs : List Numbered). before ++ xs) (append_assoc h.front (P n h.back) more) ∙ sym (append_assoc before h.front (P n (h.back ++ more))));
-      chained = chained-append [] before h.front chained h.chained;
-      stray = h.stray;
-    }
-
 -- what is read of a frame at this offset: its records' bytes
 abbrev pub ReadsFrame : Bool → disk.View → Tail → (at n : ℕ) → List ℕ → Type 0
 ReadsFrame told u log at n bytes = IsTrue told → (rs : List Record) × IsFormed (u.now log.area).seen at rs × (n ≡ length (spelled_all rs)) × (bytes ≡ spelled_all rs)
@@ -168,7 +154,7 @@ module _ (told : Bool) (v u : disk.View) (log : Tail) (now : code_found.Found) (
   walking_fails w base faults.Memory none h = tt
 
   -- a frame's records can't all be found
-  pub walking_refused : (w : disk.View) (n : ℕ) (bytes : List ℕ) (why : code_refused.OpenRefused) → ReadsFrame told u log to n bytes → IsRefusedIn why now bytes (at + 5) → IsNotFound why told v w log
+  pub walking_refused : (w : disk.View) (n : ℕ) (bytes : List ℕ) (why : code_refused.OpenRefused) → ReadsFrame told u log to n bytes → IsRefusedIn why now bytes at → IsNotFound why told v w log
   walking_refused w n bytes refusals.DiskFault read h = absurd h
   walking_refused w n bytes refusals.Memory read h = tt
   walking_refused w n bytes (refusals.Damaged area there) read h = (
@@ -181,9 +167,13 @@ module _ (told : Bool) (v u : disk.View) (log : Tail) (now : code_found.Found) (
         let formed : IsFormed f at rs = subst (λ (m : ℕ). IsFormed f m rs) same (subst (λ (g : disk.Bytes). IsFormed g to rs) (seen_here is_told) r.1) in
         let next = next_frame f at k.back rs k.rest formed in
         let before : List Numbered = numbered_in 0 k.front in
-        let more : List Numbered = numbered_in (at + 1 + length (text_of (spelled_all rs))) next.more in
-        let all : numbered_in 0 frames ≡ before ++ (numbered_from (at + 5) rs ++ more) =
-        ap (numbered_in 0) (k.split ∙ ap (λ (xs : List (List Record)). k.front ++ xs) next.split)
-        ∙ (numbered_in-append 0 k.front (rs ∷ next.more) ∙ ap (λ (m : ℕ). before ++ numbered_in m (rs ∷ next.more)) (sym k.place)) in
-        subst (HasStray [] there) (sym all) (stray_within before (numbered_from (at + 5) rs) more there k.are.chained (h.1 before rs k.are.lasts formed.frame.fields r.3)),
+        record {
+          front = k.front;
+          frame = rs;
+          back = next.more;
+          there = k.split ∙ ap (λ (xs : List (List Record)). k.front ++ xs) next.split;
+          place = h.1 ∙ k.place;
+          chained = k.are.chained;
+          has = subst (λ (m : ℕ). HasStray before (numbered_from (m + 5) rs)) (sym h.1) (h.2 before rs k.are.lasts formed.frame.fields r.3);
+        },
   )

@@ -1,5 +1,5 @@
 -- Where an image's bytes stand for nothing.
-use Rattle.std.specs.Prelude.{◌≡◌, ◌⊎◌, ℕ, ◌==◌, if◌then◌else◌, List, [], ◌∷◌, ◌++◌, map, Some, None}
+use Rattle.std.specs.Prelude.{◌≡◌, ◌⊎◌, ◌+◌, ℕ, ◌==◌, if◌then◌else◌, List, [], ◌∷◌, ◌++◌, map, Some, None}
 use Rattle.std.specs.List.{flat_map}
 use Rattle.std.specs.FinMap.{empty}
 use Rattle.sg_disk.specs.Disk.{Bytes}
@@ -8,7 +8,7 @@ use Rattle.sg_record.specs.Plain.{Record}
 use Rattle.sg_record.specs.Plain.Record.{Begin, Commit, Line}
 use Rattle.sg_log.specs.Formed.{IsDamagedAt}
 use Rattle.sg_log.specs.Following.{Follows, AreChainedBehind, AreChained}
-use Rattle.sg_log.specs.Frames.{Numbered, numbered_in, records_of, Frames}
+use Rattle.sg_log.specs.Frames.{Numbered, numbered_from, numbered_in, records_of, Frames, gate_after}
 use Rattle.sg_top.specs.Stands.{commits_in, after_line, replay}
 
 -- a line of a transaction: the number of its record, and its words
@@ -37,14 +37,24 @@ committed_at records = lines_of_all (commits_in (records_of records)) records
 abbrev pub words_of_all : List LineAt → List (List ℕ)
 words_of_all lines = map (λ l. l.words) lines
 
--- Behind some records each of these follows all before it, up to one that doesn't, which has this number.
-pub record HasStray (before : List Numbered) (lsn : ℕ) (records : List Numbered) : Type 0 where
-  pub is : Record
+-- Behind some records each of these follows all before it, up to one that doesn't.
+pub record HasStray (before : List Numbered) (records : List Numbered) : Type 0 where
+  pub one : Numbered
   pub front : List Numbered
   pub back : List Numbered
-  pub there : records ≡ front ++ record { lsn = lsn; is = is } ∷ back
+  pub there : records ≡ front ++ one ∷ back
   pub chained : AreChainedBehind before front
-  pub stray : Follows (before ++ front) (record { lsn = lsn; is = is }) → ⊥
+  pub stray : Follows (before ++ front) one → ⊥
+
+-- this is the offset of the gate of the first of these frames that has a record which doesn't follow all before it
+pub record HasStrayFrame (at : ℕ) (frames : List (List Record)) : Type 0 where
+  pub front : List (List Record)
+  pub frame : List Record
+  pub back : List (List Record)
+  pub there : frames ≡ front ++ frame ∷ back
+  pub place : at ≡ gate_after 0 front
+  pub chained : AreChained (numbered_in 0 front)
+  pub has : HasStray (numbered_in 0 front) (numbered_from (at + 5) frame)
 
 -- from these objects each of these lines gets a reply up to one that gets none, whose record has this number
 pub record HasUnanswered (first : Objects) (lsn : ℕ) (lines : List LineAt) : Type 0 where
@@ -56,11 +66,11 @@ pub record HasUnanswered (first : Objects) (lsn : ℕ) (lines : List LineAt) : T
   pub replayed : replay (words_of_all front) (Some first) ≡ Some objects
   pub none : after_line objects words ≡ None
 
--- at this offset begins the first record that doesn't follow those before it
+-- at this offset stands the gate of the first frame with a record that doesn't follow those before it
 pub record IsStrayAt (f : Bytes) (at : ℕ) : Type 0 where
   pub frames : List (List Record)
   pub stand : Frames f 0 frames
-  pub has : HasStray [] at (numbered_in 0 frames)
+  pub has : HasStrayFrame at frames
 
 -- all records follow one another, and at this offset begins the record of a committed transaction's line which gets no
 -- reply, where all before it got one
@@ -70,7 +80,7 @@ pub record IsUnansweredAt (f : Bytes) (at : ℕ) : Type 0 where
   pub chained : AreChained (numbered_in 0 frames)
   pub has : HasUnanswered empty at (committed_at (numbered_in 0 frames))
 
--- the bytes of a log stand for nothing, by what begins at this offset: an open gate behind which no frame is formed,
--- the first record that doesn't follow those before it, or the first committed line that gets no reply
+-- the bytes of a log stand for nothing, by what begins at this offset: an open gate behind which no frame is formed, or
+-- one whose frame has the first record that doesn't follow those before it, or the first committed line that gets no reply
 abbrev pub StandsForNothing : Bytes → ℕ → Type 0
 StandsForNothing f at = IsDamagedAt f 0 at ⊎ (IsStrayAt f at ⊎ IsUnansweredAt f at)

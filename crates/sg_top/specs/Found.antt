@@ -1,5 +1,5 @@
 -- What was found in a log.
-use Rattle.std.specs.Prelude.{◌≡◌, ◌≤◌, ℕ, Bool, IsTrue, List, [], ◌++◌, map, Option, Some, None}
+use Rattle.std.specs.Prelude.{◌≡◌, ◌+◌, ◌≤◌, ℕ, Bool, IsTrue, List, [], ◌++◌, map, Option, Some, None}
 use Rattle.sg_base.specs.Ends.{HasRisen}
 use Rattle.sg_disk.specs.Disk as disk
 use Rattle.sg_base.specs.declared.area.Area.TheVariants.{Log0}
@@ -14,7 +14,7 @@ use Rattle.std.specs.Ordering.{nat_cmp}
 use Rattle.std.specs.BTreeMap.{get}
 use Rattle.std.specs.FinMap.{empty}
 use Rattle.sg_top.specs.Stands.{commits_in, after_line, committed_lines, replay}
-use Rattle.sg_top.specs.Damage.{LineAt, lines_at, HasStray, HasUnanswered}
+use Rattle.sg_top.specs.Damage.{LineAt, lines_at, HasStray, HasStrayFrame, HasUnanswered}
 use Rattle.std.specs.declared.vec.Vec.{Vec}
 use Rattle.std.specs.declared.alloc.Global.{Global}
 use Rattle.sg_top.specs.declared.found_line.FoundLine as code_line
@@ -55,18 +55,19 @@ pub record EndsAt (v : disk.View) (log : Tail) (frames : List (List Record)) : T
   pub gate : log.gate ≡ gate_after 0 frames
   pub within : log.gate ≤ LOG_END
 
--- why a log isn't read on in a frame whose body has these bytes, and stands at this offset, behind what was found
-abbrev pub IsRefusedIn : code_refused.OpenRefused → code_found.Found → (bytes : List ℕ) → (start : ℕ) → Type 0
-IsRefusedIn refusals.DiskFault found bytes start = ⊥
-IsRefusedIn refusals.Memory found bytes start = Unit {0}
-IsRefusedIn (refusals.Damaged area at) found bytes start = (area ≡ Log0)
-    × ((before : List Numbered) (rs : List Record) → KnowsLasts found before → AreRecords rs → bytes ≡ spelled_all rs → HasStray before at (numbered_from start rs))
+-- why a log isn't read on in a frame whose body has these bytes, and whose gate stands at this offset, behind what was
+-- found
+abbrev pub IsRefusedIn : code_refused.OpenRefused → code_found.Found → (bytes : List ℕ) → (gate : ℕ) → Type 0
+IsRefusedIn refusals.DiskFault found bytes gate = ⊥
+IsRefusedIn refusals.Memory found bytes gate = Unit {0}
+IsRefusedIn (refusals.Damaged area at) found bytes gate = (area ≡ Log0) × (at ≡ gate)
+    × ((before : List Numbered) (rs : List Record) → KnowsLasts found before → AreRecords rs → bytes ≡ spelled_all rs → HasStray before (numbered_from (gate + 5) rs))
 
 -- why the records of a log weren't all found
 abbrev pub IsNotFound : code_refused.OpenRefused → Bool → disk.View → disk.View → Tail → Type 0
 IsNotFound refusals.DiskFault told v w log = HasRisen v.faults w.faults
 IsNotFound refusals.Memory told v w log = Unit {0}
-IsNotFound (refusals.Damaged area at) told v w log = (area ≡ Log0) × (IsTrue told → (frames : List (List Record)) → EndsAt v log frames → HasStray [] at (numbered_in 0 frames))
+IsNotFound (refusals.Damaged area at) told v w log = (area ≡ Log0) × (IsTrue told → (frames : List (List Record)) → EndsAt v log frames → HasStrayFrame at frames)
 
 -- a log was read back: it holds these records, and its committed transactions leave these objects
 pub record IsReadBack (w : disk.View) (log : Tail) (objects : Objects) : Type 0 where

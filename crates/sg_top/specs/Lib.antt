@@ -12,3 +12,5 @@ pub mod Opening
 pub mod Top
 pub mod Damage
 pub mod Found
+pub mod Statuses
+pub mod OneLine

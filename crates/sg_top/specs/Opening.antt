@@ -1,5 +1,5 @@
 -- How a store opens.
-use Rattle.std.specs.Prelude.{◌≡◌, ◌≤◌, ℕ, Bool, IsTrue, List}
+use Rattle.std.specs.Prelude.{◌≡◌, ◌⊎◌, ◌+◌, ◌≤◌, ℕ, Bool, IsTrue, List}
 use Rattle.sg_base.specs.Ends.{HasRisen}
 use Rattle.sg_base.specs.declared.area.Area.{Area}
 use Rattle.sg_base.specs.declared.area.Area.TheVariants.{Log0}
@@ -9,7 +9,7 @@ use Rattle.sg_model.specs.History.{start}
 use Rattle.sg_top.specs.declared.opening.OpenRefused as code_refused
 use Rattle.sg_top.specs.declared.opening.OpenRefused.TheVariants as refusals
 use Rattle.sg_log.specs.Frames.{Numbered, HasRecords}
-use Rattle.sg_top.specs.Stands.{StandsFor}
+use Rattle.sg_top.specs.Stands.{OthersAsIn, StandsFor}
 use Rattle.sg_top.specs.Damage.{StandsForNothing}
 use Rattle.sg_top.specs.Store.{Core, Shows}
 
@@ -17,16 +17,36 @@ use Rattle.sg_top.specs.Store.{Core, Shows}
 abbrev pub reads_of : disk.View → disk.Image
 reads_of v a = (v.now a).seen
 
+-- At this moment opening's sync of the log's area had returned, the first call that was made. Until then each image is
+-- one of those at the beginning, and from then on each has P
+pub record SplitsAt (synced v w : disk.View) (P : disk.Image → Type 0) : Type 0 where
+  pub one_call : synced.calls ≤ v.calls + 1
+  pub before : disk.LeavesOnly v synced (disk.Leaves v.now)
+  pub behind : disk.LeavesOnly synced w P
+
+-- no sync had returned: no call was made, or one, which failed
+pub record IsUnsynced (v w : disk.View) : Type 0 where
+  pub one_call : w.calls ≤ v.calls + 1
+  pub failed : (w.calls ≡ v.calls) ⊎ HasRisen v.faults w.faults
+
+-- Each image of each moment is one of those at the beginning. Once a sync had returned each stands for the objects for
+-- which the image stands that reads gave at the beginning, if there are any
+pub record IsLeftAlone (v w : disk.View) : Type 0 where
+  pub moments : disk.LeavesOnly v w (disk.Leaves v.now)
+  pub settled : IsUnsynced v w ⊎ ((synced : disk.View) × SplitsAt synced v w (λ c. (s : Objects) → StandsFor (reads_of v) s → StandsFor c s))
+
 -- A store has opened: it shows a run that begins with the objects that the image read stands for, and those alone.
--- Nothing was written, so until then a crash leaves what it could have left at first
+-- Nothing was written. From the return of its sync on each image stands for these objects, and has the other areas as
+-- they were
 pub record Opens (told : Bool) (v w : disk.View) (k : Core) : Type 0 where
   pub first : Objects
   pub stands : IsTrue told → StandsFor (reads_of v) first
   pub only : IsTrue told → (s : Objects) → StandsFor (reads_of v) s → s ≡ first
   -- the log goes on where that image's ends
   pub gate : IsTrue told → (ds : List Numbered) (gate : ℕ) → HasRecords (reads_of v Log0) 0 gate ds → k.log.gate ≡ gate
-  pub shows : Shows told w k (start first)
-  pub moments : IsTrue told → disk.LeavesOnly v w (disk.Leaves v.now)
+  pub shows : Shows told v.now w k (start first)
+  pub synced : disk.View
+  pub moments : IsTrue told → SplitsAt synced v w (λ c. StandsFor c first × OthersAsIn v.now c)
   pub handed : w.handed ≡ v.handed
   pub later : v.faults ≤ w.faults
 
@@ -40,6 +60,6 @@ IsRefusedFor (refusals.Damaged area at) told v w = (area ≡ Log0) × (IsTrue to
 pub record StaysShut (told : Bool) (v w : disk.View) (why : code_refused.OpenRefused) : Type 0 where
   pub reason : IsRefusedFor why told v w
   pub nothing : (area : Area) (at : ℕ) → why ≡ refusals.Damaged area at → IsTrue told → (s : Objects) → StandsFor (reads_of v) s → ⊥
-  pub moments : IsTrue told → disk.LeavesOnly v w (disk.Leaves v.now)
+  pub alone : IsTrue told → IsLeftAlone v w
   pub handed : w.handed ≡ v.handed
   pub later : v.faults ≤ w.faults

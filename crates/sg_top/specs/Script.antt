@@ -17,10 +17,20 @@ use Rattle.sg_top.specs.Stands.{StandsForFirst}
 use Rattle.sg_top.specs.Store.{Core, Shows}
 use Rattle.sg_top.specs.Goes.{NEW_WORK_END}
 
--- So many bytes were handed to the disk since v that the tail of a log with this gate then may be above the end of
--- new work now. A buffer, and a gate and a length, may come to what was handed
-abbrev pub MayBeFull : ℕ → disk.View → disk.View → Type 0
-MayBeFull gate v w = (disk.FULL ≤ w.handed) ⊎ (NEW_WORK_END + v.handed < gate + w.handed + 65541)
+-- the byte by which the log has room for an order: a commit's record ends there at the latest, and new work begins
+abbrev pub end_for : Order → ℕ
+end_for (Txn name Commit) = LOG_END
+end_for other = NEW_WORK_END
+
+-- How far behind a log's closed gate an order may come to that byte. A buffer that is to be a frame takes 65,541 bytes at
+-- most, and a commit's record behind it, with a gate and a length of its own, 26 more
+abbrev pub reach_of : Order → ℕ
+reach_of (Txn name Commit) = 65567
+reach_of other = 65541
+
+-- So many bytes were handed to the disk since v that a log with this gate then may be full for an order now
+abbrev pub MayBeFull : ℕ → disk.View → disk.View → Order → Type 0
+MayBeFull gate v w order = (disk.FULL ≤ w.handed) ⊎ (end_for order + v.handed < gate + w.handed + reach_of order)
 
 -- a commit that was answered `ok`
 abbrev pub acks : Order → Answer → ℕ
@@ -47,15 +57,16 @@ pub record CutAtLast (first now : Option (List ℕ)) (answers : List Answer) : T
   pub cut : TakesFront mid (text_of last) now
 
 -- From x, these lines were executed, and a sink took of the replies to them what Took says
-pub record Executed (told : Bool) (v : disk.View) (k : Core) (x : State) (lines : List (List ℕ)) (Took : List Answer → Type 0) (w : disk.View) (m : Core) : Type 0 where
+pub record Executed (told : Bool) (was : disk.State) (v : disk.View) (k : Core) (x : State) (lines : List (List ℕ)) (Took : List Answer → Type 0) (w : disk.View) (m : Core) : Type 0 where
   pub answers : List Answer
   pub after : State
   pub goes : Lines x lines answers after
+  pub first : after.first ≡ x.first
   pub answered : x.answered ≤ after.answered
-  pub caused : AreCaused (HasRisen v.faults w.faults) (MayBeFull k.log.gate v w) answers
-  pub shows : Shows told w m after
+  pub caused : AreCaused (HasRisen v.faults w.faults) (MayBeFull k.log.gate v w) lines answers
+  pub shows : Shows told was w m after
   pub took : Took answers
-  pub moments : IsTrue told → disk.LeavesOnly v w (StandsForFirst x.answered after)
+  pub moments : IsTrue told → disk.LeavesOnly v w (StandsForFirst was x.answered after)
 
 -- However a text goes on, so many of its lines are over, and this is the front of the next one
 abbrev pub Ends : List ℕ → List (List ℕ) → List ℕ → Type 0
@@ -73,7 +84,3 @@ AreOver text lines = (after : List ℕ) → (more : List (List ℕ)) × (lines +
 -- these lines are over in what was read of a source, or they are all lines of one that is at its end
 abbrev pub AreFirst : Option (List ℕ) → List ℕ → List (List ℕ) → Type 0
 AreFirst source text lines = AreOver text lines ⊎ ((lines ≡ lines_of text) × IfSome source (λ all. text ≡ all))
-
--- So many bytes were handed to the disk since v that a record may end past the log's last byte
-abbrev pub MayEnd : ℕ → disk.View → disk.View → Type 0
-MayEnd gate v w = (disk.FULL ≤ w.handed) ⊎ (LOG_END + v.handed < gate + w.handed + 65572)

@@ -1,5 +1,5 @@
 -- The code's answers and stores, as definitions speak of them.
-use Rattle.std.specs.Prelude.{◌≡◌, ◌⊎◌, ℕ, List, Option, Some, None, is_some, Result, Ok, Err}
+use Rattle.std.specs.Prelude.{◌≡◌, ℕ, List, Option, Some, None, Result, Ok, Err}
 use Rattle.std.specs.Option.{option_map}
 use Rattle.sg_model.specs.History.{Live}
 use Rattle.sg_model.specs.declared.reason.Reason.{Reason}
@@ -14,8 +14,8 @@ use Rattle.sg_log.specs.declared.fault.LogFault.TheVariants as faults
 use Rattle.sg_base.specs.declared.area.Area.TheVariants.{Log0}
 use Rattle.sg_top.specs.declared.opening.OpenRefused as code_refused
 use Rattle.sg_top.specs.declared.opening.OpenRefused.TheVariants as refusals
-use Rattle.sg_top.specs.declared.store.Stop as code_stop
-use Rattle.sg_top.specs.declared.store.Stop.TheVariants as stops
+use Rattle.sg_model.specs.declared.stop.Stop.{Stop}
+use Rattle.sg_model.specs.declared.stop.Stop.TheVariants as stops
 use Rattle.sg_top.specs.declared.store.Running as code_running
 use Rattle.sg_top.specs.declared.store.Store as code_store
 use Rattle.sg_top.specs.Store.{Core}
@@ -44,7 +44,7 @@ last_in (Some r) = r.last
 
 -- a store without its disk
 abbrev pub core_of : {D : Type 0} → code_store.Store D → Core
-core_of s = record { objects = s.objects; live = option_map live_of s.live; last = last_in s.live; stopped = is_some s.stop; log = s.log }
+core_of s = record { objects = s.objects; live = option_map live_of s.live; last = last_in s.live; stopped = s.stop; log = s.log }
 
 -- what is answered where the log fails, and why the store stops then
 abbrev pub answer_at : LogFault → code_answer.Answer
@@ -53,7 +53,7 @@ answer_at faults.Disk = answers.Disk
 answer_at (faults.Damaged at) = answers.Disk
 answer_at faults.Memory = answers.Disk
 
-abbrev pub stop_at : LogFault → code_stop.Stop
+abbrev pub stop_at : LogFault → Stop
 stop_at faults.LogEnd = stops.LogEnd
 stop_at faults.Disk = stops.Disk
 stop_at (faults.Damaged at) = stops.Disk
@@ -63,12 +63,6 @@ stop_at faults.Memory = stops.Disk
 abbrev pub IsFullAnswer : Result Reply Reason → code_answer.Answer → Type 0
 IsFullAnswer (Ok reply) answer = answer ≡ answers.LogEnd
 IsFullAnswer (Err reason) answer = answer ≡ answers.Refused reason
-
--- a store stops at a fault of the disk, or where its log is full, only where there is one
-abbrev pub StopIsCaused : Type 0 → Type 0 → Option code_stop.Stop → Option code_stop.Stop → Type 0
-StopIsCaused Risen Full old None = Unit {0}
-StopIsCaused Risen Full old (Some stops.Disk) = (old ≡ Some stops.Disk) ⊎ Risen
-StopIsCaused Risen Full old (Some stops.LogEnd) = (old ≡ Some stops.LogEnd) ⊎ Full
 
 -- why a store doesn't open where its log fails
 abbrev pub refusal_at : LogFault → code_refused.OpenRefused

@@ -2,7 +2,9 @@
 use Rattle.std.specs.Prelude.{◌≡◌, ℕ, ◌==◌, ◌≤◌, if◌then◌else◌, List, [], ◌∷◌, length, Option, Some, None, Result, Ok, Err}
 use Rattle.std.specs.List.{flat_map}
 use Rattle.std.specs.FinMap.{empty}
+use Rattle.sg_base.specs.declared.area.Area.{Area}
 use Rattle.sg_base.specs.declared.area.Area.TheVariants.{Log0}
+use Rattle.sg_disk.specs.Disk as disk
 use Rattle.sg_disk.specs.Disk.{Image}
 use Rattle.sg_model.specs.declared.reason.Reason.{Reason}
 use Rattle.sg_model.specs.Objects.{Objects, Op, Reply, step}
@@ -60,9 +62,15 @@ pub record StandsFor (c : Image) (s : Objects) : Type 0 where
   pub chained : AreChained records
   pub replayed : replay (committed_lines (records_of records)) (Some empty) ≡ Some s
 
--- an image stands for the objects after the first transactions of a run in order of commit, so many or more
-pub record StandsForFirst (least : ℕ) (x : State) (c : Image) : Type 0 where
+-- each area but the first log area is as a crash could have left it in this state
+abbrev pub OthersAsIn : disk.State → Image → Type 0
+OthersAsIn was c = (a : Area) → (a ≡ Log0 → ⊥) → disk.LeavesPart (was a) (c a)
+
+-- an image stands for the objects after the first transactions of a run in order of commit, so many or more, and its
+-- other areas are as they were in this state
+pub record StandsForFirst (was : disk.State) (least : ℕ) (x : State) (c : Image) : Type 0 where
   pub commits : ℕ
   pub enough : least ≤ commits
   pub most : commits ≤ length x.commits
   pub stands : StandsFor c (objects_after commits x)
+  pub others : OthersAsIn was c

@@ -1,25 +1,26 @@
 -- What a store over a disk shows of a run.
-use Rattle.std.specs.Prelude.{◌≡◌, ℕ, ◌+◌, ◌<◌, ◌≤◌, Bool, false, IsTrue, List, [], ◌∷◌, ◌++◌, length, Option, Some, None}
+use Rattle.std.specs.Prelude.{◌≡◌, ℕ, ◌+◌, ◌<◌, ◌≤◌, Bool, IsTrue, List, [], ◌∷◌, ◌++◌, length, Option, Some, None}
 use Rattle.std.specs.FinMap.{empty}
 use Rattle.std.specs.Option.{option_to_list}
 use Rattle.sg_base.specs.declared.area.Area.TheVariants.{Log0}
 use Rattle.sg_disk.specs.Disk as disk
+use Rattle.sg_model.specs.declared.stop.Stop.{Stop}
 use Rattle.sg_model.specs.Objects.{Objects}
 use Rattle.sg_model.specs.History.{Entry, Live, State, after_all, ops_of, live_objects, committed_objects}
 use Rattle.sg_record.specs.Plain.{Record}
 use Rattle.sg_record.specs.Plain.Record.{Begin, Commit, Line}
 use Rattle.sg_log.specs.Following.{last_of, AreChained}
-use Rattle.sg_log.specs.Frames.{GREATEST_BODY, Numbered, records_of}
+use Rattle.sg_log.specs.Frames.{GREATEST_BODY, Numbered, records_of, SameElsewhere}
 use Rattle.sg_log.specs.Held.{Tail, tail_of, Holds}
 use Rattle.sg_top.specs.Stands.{lines_by, commits_in, committed_lines, replay, StandsForFirst}
 
 -- a store without its disk: the objects as they are now, the live transaction and the number of its last record (0
--- where none is live), whether it has stopped, and its log
+-- where none is live), why it has stopped, if it has, and its log
 pub record Core : Type 0 where
   pub objects : Objects
   pub live : Option Live
   pub last : ℕ
-  pub stopped : Bool
+  pub stopped : Option Stop
   pub log : Tail
 
 -- each entry is of a transaction with a smaller number
@@ -83,8 +84,8 @@ pub record Keeps (v : disk.View) (k : Core) (x : State) : Type 0 where
   pub last : IsLast k.live k.last (durable ++ waiting)
   pub logs : Logs x k.live (records_of durable) (records_of waiting)
 
--- a store that isn't stopped shows the run
-pub record Runs (told : Bool) (v : disk.View) (k : Core) (x : State) : Type 0 where
+-- A store that isn't stopped shows the run. The areas that it doesn't use are in this state
+pub record Runs (told : Bool) (was : disk.State) (v : disk.View) (k : Core) (x : State) : Type 0 where
   pub serial : IsSerial x
   pub objects : k.objects ≡ live_objects x
   pub live : x.live ≡ option_to_list k.live
@@ -94,12 +95,14 @@ pub record Runs (told : Bool) (v : disk.View) (k : Core) (x : State) : Type 0 wh
   pub base : k.log.base ≡ 0
   pub short : length k.log.buffer ≤ GREATEST_BODY
   pub keeps : IsTrue told → Keeps v k x
+  pub elsewhere : IsTrue told → SameElsewhere Log0 was v.now
 
--- A store shows a run. Each image that a crash now leaves stands for a prefix of its commits that has all
--- answered ones, and at most one wasn't answered. A stopped store shows each run that is stopped so
-pub record Shows (told : Bool) (v : disk.View) (k : Core) (x : State) : Type 0 where
+-- A store shows a run over a disk that was in this state when it was opened. Each image that a crash now leaves stands
+-- for a prefix of its commits that has all answered ones, and its other areas are as they were then. At most one commit
+-- wasn't answered. A stopped store shows each run that is stopped so, for the same reason
+pub record Shows (told : Bool) (was : disk.State) (v : disk.View) (k : Core) (x : State) : Type 0 where
   pub stopped : k.stopped ≡ x.stopped
-  pub runs : x.stopped ≡ false → Runs told v k x
+  pub runs : x.stopped ≡ None → Runs told was v k x
   pub answered : x.answered ≤ length x.commits
   pub one_more : length x.commits ≤ x.answered + 1
-  pub images : IsTrue told → (c : disk.Image) → disk.Leaves v.now c → StandsForFirst x.answered x c
+  pub images : IsTrue told → (c : disk.Image) → disk.Leaves v.now c → StandsForFirst was x.answered x c

@@ -1,32 +1,30 @@
 -- The program's words, and how a run of it ends.
-use Rattle.std.specs.Prelude.{◌≡◌, ◌⊎◌, ◌≤◌, ◌+◌, ◌&&◌, if◌then◌else◌, ℕ, Bool, IsTrue, List, [], ◌∷◌, ◌++◌, codes, string_bytes, String, Option, Some, None, is_some, IfSome, length}
-use Rattle.std.proofs.Common.{inl, inr}
+use Rattle.std.specs.Prelude.{◌≡◌, ◌⊎◌, ◌≤◌, ◌<◌, ◌+◌, ◌&&◌, if◌then◌else◌, ℕ, Bool, IsTrue, List, [], ◌∷◌, codes, string_bytes, String, Option, Some, None, is_some, IfSome, length}
 use Rattle.std.specs.Str.{bytes_eq}
 use Rattle.std.specs.declared.alloc.Global.{Global}
+use Rattle.sg_base.specs.Ends.{HasRisen}
 use Rattle.sg_base.specs.declared.area.Area.TheVariants.{Log0}
 use Rattle.sg_disk.specs.Disk as disk
-use Rattle.sg_words.specs.Parse.{lines_of, number_of}
-use Rattle.sg_words.specs.Run.{Lines}
-use Rattle.sg_words.specs.Text.{Answer, text_of_all}
 use Rattle.sg_model.specs.Objects.{Objects}
 use Rattle.sg_model.specs.History.{State, start, committed_objects}
+use Rattle.sg_words.specs.Order.Order.{Txn}
+use Rattle.sg_words.specs.Order.Verb.{Commit}
+use Rattle.sg_words.specs.Parse.{number_of}
+use Rattle.sg_words.specs.Run.{Lines, AreCaused}
+use Rattle.sg_words.specs.Text.{Answer}
+use Rattle.sg_log.specs.Frames.{Numbered, HasRecords}
 use Rattle.sg_top.specs.declared.opening.OpenRefused as code_refused
-use Rattle.sg_top.specs.declared.opening.OpenRefused.TheVariants as refusals
 use Rattle.sg_top.specs.declared.script.RunEnd as code_end
 use Rattle.sg_top.specs.declared.script.RunEnd.TheVariants as ends
 use Rattle.sg_top.specs.declared.status.Status as code_status
 use Rattle.sg_top.specs.declared.status.Status.TheVariants as statuses
 use Rattle.sg_top.specs.declared.words.Command.{Command}
-use Rattle.sg_top.specs.declared.store.Stop as code_stop
-use Rattle.sg_top.specs.declared.store.Stop.TheVariants as stops
-use Rattle.sg_log.specs.Frames.{Numbered, HasRecords}
+use Rattle.sg_top.specs.Damage.{StandsForNothing}
 use Rattle.sg_top.specs.Stands.{StandsFor, StandsForFirst}
-use Rattle.sg_top.specs.Store.{Core}
-use Rattle.sg_top.specs.Ending.{RunsTo, MOST_BYTES}
-use Rattle.sg_top.specs.Script.{AreFirst, acknowledged, HasRead, MayEnd, TookAll, CutAtLast}
-use Rattle.sg_top.specs.Shown.{StopIsCaused}
-use Rattle.sg_base.specs.Ends.{HasRisen, Takes}
-use Rattle.sg_top.specs.Opening.{StaysShut, reads_of}
+use Rattle.sg_top.specs.Script.{acknowledged, HasRead, MayBeFull, TookAll, CutAtLast}
+use Rattle.sg_top.specs.Ending.{MOST_BYTES, AreAll, AreExecuted}
+use Rattle.sg_top.specs.Opening.{SplitsAt, IsLeftAlone, IsRefusedFor, reads_of}
+use Rattle.sg_top.specs.Statuses.{status_of, status_of_refusal}
 
 -- `run` and a folder: a run whose disk isn't stopped
 abbrev pub plain_run : List ℕ → Option Command
@@ -58,126 +56,149 @@ stop_in (Some command) = command.stop_after
 abbrev pub stop_after : List (String Global) → Option ℕ
 stop_after words = stop_in (command_of words)
 
--- the status of a run that didn't begin
-abbrev pub status_of_refusal : code_refused.OpenRefused → code_status.Status
-status_of_refusal refusals.DiskFault = statuses.Disk
-status_of_refusal refusals.Memory = statuses.Memory
-status_of_refusal (refusals.Damaged area at) = statuses.Damaged area at
+-- what is seen of the disk, the source and the sink at a moment: the disk, what is left of the script, what the sink has
+-- taken, and how often the source and the sink have failed
+pub record Outside : Type 0 where
+  pub disk : disk.View
+  pub left : Option (List ℕ)
+  pub taken : Option (List ℕ)
+  pub source_faults : ℕ
+  pub sink_faults : ℕ
 
--- the status of a run whose store didn't stop
-abbrev pub status_of_end : code_end.RunEnd → code_status.Status
-status_of_end ends.Done = statuses.Done
-status_of_end ends.Read = statuses.Read
-status_of_end ends.Write = statuses.Write
-status_of_end ends.TooLong = statuses.TooLong
+abbrev pub outside : disk.View → Option (List ℕ) → ℕ → Option (List ℕ) → ℕ → Outside
+outside v left source_faults taken sink_faults = record { disk = v; left = left; taken = taken; source_faults = source_faults; sink_faults = sink_faults }
 
--- the status of a run: that of its first fault. A store stops before the script or the replies end
-abbrev pub status_of : code_end.RunEnd → Option code_stop.Stop → code_status.Status
-status_of end None = status_of_end end
-status_of end (Some stops.Disk) = statuses.Disk
-status_of end (Some stops.LogEnd) = statuses.LogEnd
+-- the disk as the run saw it: its counts of calls and faults have the refused calls too
+abbrev pub at_first : Outside → disk.View
+at_first old = disk.refusing old.disk 0
 
--- A run did not begin: no line was executed and nothing was read, written or answered. A crash leaves what it could
--- have left at first
-pub record NeverRan (told : Bool) (v w : disk.View) (source left first now : Option (List ℕ)) (status : code_status.Status) : Type 0 where
-  pub why : code_refused.OpenRefused
-  pub shut : StaysShut told v w why
-  pub unread : left ≡ source
-  pub unwritten : now ≡ first
-  pub status_is : status ≡ status_of_refusal why
+abbrev pub at_end : Outside → ℕ → disk.View
+at_end new refused = disk.refusing new.disk refused
+
+-- the course of a run that began
+pub record Course : Type 0 where
+  -- the objects that it began with, and where the log ended
+  pub objects : Objects
+  pub gate : ℕ
+  -- the disk as opening's sync had returned
+  pub synced : disk.View
+  -- how the script ended, what was read of it, and which lines of it were executed
+  pub end : code_end.RunEnd
+  pub text : List ℕ
+  pub lines : List (List ℕ)
+  -- the answers to these lines, and those of them that the sink took whole
+  pub answers : List Answer
+  pub heard : List Answer
+  -- the run after them
+  pub after : State
 
 -- a script is left, or replies are, only where the source or the sink failed
-abbrev pub HasCause : Type 0 → Type 0 → code_end.RunEnd → Type 0
-HasCause SourceFailed SinkFailed ends.Done = Unit {0}
-HasCause SourceFailed SinkFailed ends.Read = SourceFailed
-HasCause SourceFailed SinkFailed ends.Write = SinkFailed
-HasCause SourceFailed SinkFailed ends.TooLong = Unit {0}
+abbrev pub HasCause : code_end.RunEnd → Outside → Outside → Type 0
+HasCause ends.Done old new = Unit {0}
+HasCause ends.Read old new = HasRisen old.source_faults new.source_faults
+HasCause ends.Write old new = HasRisen old.sink_faults new.sink_faults
+HasCause ends.TooLong old new = Unit {0}
 
--- A run that began with the objects for which the image read at entry stands, and those alone, and ended so. Until it
--- had opened the store a crash left what it could have left at first. The log's end is met only where so much was
--- handed to the disk
-pub record Ran (SourceFailed SinkFailed : Type 0) (told : Bool) (v w : disk.View) (source left first now : Option (List ℕ)) (status : code_status.Status) : Type 0 where
-  pub objects : Objects
-  pub stands : IsTrue told → StandsFor (reads_of v) objects
-  pub only : IsTrue told → (s : Objects) → StandsFor (reads_of v) s → s ≡ objects
-  pub opened : disk.View
-  pub core : Core
-  pub gate : IsTrue told → (ds : List Numbered) (gate : ℕ) → HasRecords (reads_of v Log0) 0 gate ds → core.log.gate ≡ gate
-  pub opening : IsTrue told → disk.LeavesOnly v opened (disk.Leaves v.now)
-  pub handed : opened.handed ≡ v.handed
-  pub later : v.faults ≤ opened.faults
-  pub end : code_end.RunEnd
-  -- also where the store has stopped
-  pub heard : HasCause SourceFailed SinkFailed end
-  pub last : Core
-  pub stop : Option code_stop.Stop
-  pub caused : StopIsCaused (HasRisen opened.faults w.faults) (MayEnd core.log.gate opened w) None stop
-  pub stopped : last.stopped ≡ is_some stop
-  pub runs : RunsTo end told opened core (start objects) source left first now w last
-  pub status_is : status ≡ status_of end stop
+-- what the sink took whole: all replies, but for the last one where it failed there
+abbrev pub IsHeard : (end : code_end.RunEnd) → (first now : Option (List ℕ)) → (answers heard : List Answer) → Type 0
+IsHeard ends.Done first now answers heard = (heard ≡ answers) × TookAll first now answers
+IsHeard ends.Read first now answers heard = (heard ≡ answers) × TookAll first now answers
+IsHeard ends.TooLong first now answers heard = (heard ≡ answers) × TookAll first now answers
+IsHeard ends.Write first now answers heard = (cut : CutAtLast first now answers) × (heard ≡ cut.told)
 
--- A run with status Done: all lines of the whole script, which isn't too long, were executed from these objects on, for which the image that
--- reads gave at entry stands, and the sink has all replies. All commits were answered, and what reads give, and each
--- image that a crash could leave, stands for the objects after all of them
-pub record IsDone (told : Bool) (v w : disk.View) (source first now : Option (List ℕ)) : Type 0 where
+-- What was executed and answered. The run begins with the objects for which the image read at entry stands, and those
+-- alone. As far as the script's end says, its lines are executed, each is answered by what a line may be answered, and
+-- the sink takes these answers
+pub record Output (told : Bool) (old new : Outside) (refused : ℕ) (run : Course) : Type 0 where
+  pub stands : IsTrue told → StandsFor (reads_of old.disk) run.objects
+  pub only : IsTrue told → (s : Objects) → StandsFor (reads_of old.disk) s → s ≡ run.objects
+  pub read : HasRead old.left run.text new.left
+  pub executed : AreExecuted run.end old.left run.text run.lines
+  pub ended : HasCause run.end old new
+  pub goes : Lines (start run.objects) run.lines run.answers run.after
+  pub took : IsHeard run.end old.taken new.taken run.answers run.heard
+  pub gate : IsTrue told → (ds : List Numbered) (gate : ℕ) → HasRecords (reads_of old.disk Log0) 0 gate ds → run.gate ≡ gate
+  pub caused : AreCaused (HasRisen (at_first old).faults (at_end new refused).faults) (MayBeFull run.gate (at_first old) (at_end new refused)) run.lines run.answers
+
+-- What a crash leaves at the return: it stands for the objects after some first commits, all of those among them whose
+-- answer is `ok`, and the other areas are as they were. At most one commit wasn't acknowledged, by an `ok` that the
+-- sink took whole, and it is the last
+pub record Exit (told : Bool) (old new : Outside) (run : Course) : Type 0 where
+  pub images : IsTrue told → (c : disk.Image) → disk.Leaves new.disk.now c → StandsForFirst old.disk.now run.after.answered run.after c
+  pub one_more : length run.after.commits ≤ acknowledged run.lines run.heard + 1
+
+-- with status Done all commits were answered, and what reads give and what a crash leaves stands for the objects after
+-- all of them
+pub record IsDone (told : Bool) (old new : Outside) (run : Course) : Type 0 where
+  pub executed : AreAll old.left run.text run.lines
+  pub took : TookAll old.taken new.taken run.answers
+  pub answered : run.after.answered ≡ length run.after.commits
+  pub reads : IsTrue told → StandsFor (reads_of new.disk) (committed_objects run.after)
+  pub images : IsTrue told → (c : disk.Image) → disk.Leaves new.disk.now c → StandsFor c (committed_objects run.after)
+  pub quiet : (new.source_faults ≡ old.source_faults) × (new.sink_faults ≡ old.sink_faults)
+
+-- A run that began. All of this is said of one course: what was answered, what a crash leaves at the return, what one
+-- leaves at each moment, and what status Done tells
+pub record Ran (told : Bool) (old new : Outside) (refused : ℕ) (status : code_status.Status) : Type 0 where
+  pub run : Course
+  pub output : Output told old new refused run
+  pub exit : Exit told old new run
+  pub moments : IsTrue told → SplitsAt run.synced (at_first old) (at_end new refused) (StandsForFirst old.disk.now 0 run.after)
+  pub done : status ≡ statuses.Done → IsDone told old new run
+  pub status_is : status ≡ status_of run.end run.after.stopped
+
+-- A run that didn't begin: nothing was read, answered or handed to the disk
+pub record NeverRan (told : Bool) (old new : Outside) (refused : ℕ) (status : code_status.Status) : Type 0 where
+  pub why : code_refused.OpenRefused
+  pub reason : IsRefusedFor why told (at_first old) (at_end new refused)
+  pub unread : new.left ≡ old.left
+  pub unwritten : new.taken ≡ old.taken
+  pub unhanded : new.disk.handed ≡ old.disk.handed
+  pub moments : IsTrue told → IsLeftAlone (at_first old) (at_end new refused)
+  pub status_is : status ≡ status_of_refusal why
+
+-- how the words of a run went
+abbrev pub HasGone : Bool → Outside → Outside → ℕ → code_status.Status → Type 0
+HasGone told old new refused status = NeverRan told old new refused status ⊎ Ran told old new refused status
+
+-- where so much was handed to the disk, from the end of the log on, that a commit's record may end past its last byte
+abbrev pub IsLogSpent : Bool → Outside → Outside → Type 0
+IsLogSpent told old new = IsTrue told → (name : List ℕ) (ds : List Numbered) (gate : ℕ) → HasRecords (reads_of old.disk Log0) 0 gate ds → MayBeFull gate old.disk new.disk (Txn name Commit)
+
+-- what each status tells of a run
+abbrev pub Tells : code_status.Status → Bool → Outside → Outside → ℕ → Type 0
+Tells statuses.Done told old new refused = (new.source_faults ≡ old.source_faults) × (new.sink_faults ≡ old.sink_faults)
+Tells statuses.Usage told old new refused = ⊥
+Tells statuses.Memory told old new refused = (new.left ≡ old.left) × (new.taken ≡ old.taken)
+Tells statuses.Disk told old new refused = HasRisen old.disk.faults new.disk.faults ⊎ (0 < refused)
+Tells statuses.Read told old new refused = HasRisen old.source_faults new.source_faults
+Tells statuses.Write told old new refused = HasRisen old.sink_faults new.sink_faults
+Tells statuses.TooLong told old new refused = IfSome old.left (λ text. MOST_BYTES < length text)
+Tells (statuses.Damaged area at) told old new refused = (area ≡ Log0) × (IsTrue told → StandsForNothing (reads_of old.disk Log0) at × ((s : Objects) → StandsFor (reads_of old.disk) s → ⊥))
+Tells statuses.LogEnd told old new refused = IsLogSpent told old new
+
+-- nothing hinders a run: the image that reads give at entry stands for objects, the script isn't too long, no count of
+-- faults can have risen, and no call was refused
+pub record IsUnhindered (told : Bool) (old new : Outside) (refused : ℕ) : Type 0 where
+  pub is_told : IsTrue told
   pub objects : Objects
-  pub stands : IsTrue told → StandsFor (reads_of v) objects
+  pub stands : StandsFor (reads_of old.disk) objects
   pub text : List ℕ
-  pub whole : IfSome source (λ all. text ≡ all)
+  pub script : old.left ≡ Some text
   pub short : length text ≤ MOST_BYTES
-  pub answers : List Answer
-  pub after : State
-  pub goes : Lines (start objects) (lines_of text) answers after
-  pub replies : Takes first (text_of_all answers) now
-  pub answered : after.answered ≡ length after.commits
-  pub read : IsTrue told → StandsFor (reads_of w) (committed_objects after)
-  pub images : IsTrue told → (c : disk.Image) → disk.Leaves w.now c → StandsFor c (committed_objects after)
+  pub disk : HasRisen old.disk.faults new.disk.faults → ⊥
+  pub passed : refused ≡ 0
+  pub source : HasRisen old.source_faults new.source_faults → ⊥
+  pub sink : HasRisen old.sink_faults new.sink_faults → ⊥
 
--- the sink took all of these replies, or it failed at the last of them and took a front of that one
-abbrev pub TookReplies : Type 0 → Option (List ℕ) → Option (List ℕ) → List Answer → Type 0
-TookReplies Failed first now answers = TookAll first now answers ⊎ (Failed × CutAtLast first now answers)
-
--- the answers that the sink took whole
-abbrev pub told_of : {Failed : Type 0} {first now : Option (List ℕ)} {answers : List Answer} → TookReplies Failed first now answers → List Answer
-told_of {answers = answers} (inl all) = answers
-told_of (inr cut) = cut.1.told
-
--- A run on a disk that tells, whatever ended it. The image that reads gave at entry stands for some objects. From these
--- on some first lines of what the source gave were executed, and the sink took the replies to them. Until the store had
--- opened each image of each moment is one of those at entry. From then on each stands for the objects after some first
--- transactions in order of commit, and at the return these have all that were answered `ok`. At most one wasn't
-pub record Lasts (Failed : Type 0) (v w : disk.View) (source left first now : Option (List ℕ)) : Type 0 where
-  pub objects : Objects
-  pub stands : StandsFor (reads_of v) objects
-  pub text : List ℕ
-  pub read : HasRead source text left
-  pub lines : List (List ℕ)
-  pub front : AreFirst source text lines
-  pub answers : List Answer
-  pub after : State
-  pub goes : Lines (start objects) lines answers after
-  pub replies : TookReplies Failed first now answers
-  pub opened : disk.View
-  pub opening : disk.LeavesOnly v opened (disk.Leaves v.now)
-  pub moments : disk.LeavesOnly opened w (StandsForFirst 0 after)
-  pub exit : (c : disk.Image) → disk.Leaves w.now c → StandsForFirst after.answered after c
-  -- all commits but one at most, the last, were acknowledged: their `ok` is whole in what the sink took
-  pub one_more : length after.commits ≤ acknowledged lines (told_of replies) + 1
-
--- A run that didn't begin. Nothing was read or answered, and each image of each moment is one of those at entry
-pub record Unchanged (v w : disk.View) (source left first now : Option (List ℕ)) : Type 0 where
-  pub unread : left ≡ source
-  pub unwritten : now ≡ first
-  pub moments : disk.LeavesOnly v w (disk.Leaves v.now)
-
--- a status that comes of no fault of the disk, the source or the sink, nor of other words
-abbrev pub IsFaultless : code_status.Status → Type 0
-IsFaultless statuses.Done = Unit {0}
-IsFaultless statuses.Usage = ⊥
-IsFaultless statuses.Memory = Unit {0}
-IsFaultless statuses.Disk = ⊥
-IsFaultless statuses.Read = ⊥
-IsFaultless statuses.Write = ⊥
-IsFaultless statuses.TooLong = Unit {0}
-IsFaultless (statuses.Damaged area at) = Unit {0}
-IsFaultless statuses.LogEnd = Unit {0}
+-- and so it ends: done, or for want of memory before it began, or at the log's end
+abbrev pub Completes : code_status.Status → Bool → Outside → Outside → ℕ → Type 0
+Completes statuses.Done told old new refused = Unit {0}
+Completes statuses.Usage told old new refused = ⊥
+Completes statuses.Memory told old new refused = (new.left ≡ old.left) × (new.taken ≡ old.taken) × (new.disk.handed ≡ old.disk.handed) × (IsTrue told → IsLeftAlone (at_first old) (at_end new refused))
+Completes statuses.Disk told old new refused = ⊥
+Completes statuses.Read told old new refused = ⊥
+Completes statuses.Write told old new refused = ⊥
+Completes statuses.TooLong told old new refused = ⊥
+Completes (statuses.Damaged area at) told old new refused = ⊥
+Completes statuses.LogEnd told old new refused = IsLogSpent told old new

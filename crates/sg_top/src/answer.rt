@@ -1,4 +1,4 @@
-ghost use Rattle.std.specs.Prelude.{◌≤◌, List, length, OnOk, OnErr};
+ghost use Rattle.std.specs.Prelude.{◌≡◌, ◌≤◌, List, length, OnOk, OnErr};
 ghost use Rattle.sg_base.specs.Ends.{HasRisen, Takes, TakesFront};
 ghost use Rattle.sg_words.specs.Text.{text_of};
 ghost use Rattle.sg_top.specs.Shown.{shown_answer};
@@ -41,6 +41,7 @@ pub fn write_answer<K: Sink>(answer: Answer, into: &[u8], out: &mut K) -> Result
     ensures took { OnOk result (Takes (K.taken out.old) (text_of (shown_answer into.now answer)) (K.taken out.new)) }
     ensures cut { OnErr result (TakesFront (K.taken out.old) (text_of (shown_answer into.now answer)) (K.taken out.new)) }
     ensures later { K.faults out.old ≤ K.faults out.new }
+    ensures quiet { OnOk result (K.faults out.new ≡ K.faults out.old) }
     ensures failed { OnErr result (HasRisen (K.faults out.old) (K.faults out.new)) }
 {
     match answer {

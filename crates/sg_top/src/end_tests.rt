@@ -2,8 +2,8 @@ ghost use Rattle.std.specs.Prelude.{◌≤◌};
 ghost use Rattle.sg_log.specs.Frames.{LOG_END};
 
 use crate::script::run_script;
-use crate::store::{Stop, Store};
-use crate::top::status_of;
+use crate::status::{first_fault, status_of_end};
+use crate::store::Store;
 use crate::{Session, Status};
 use sg_base::{Area, Lsn, MemSink, MemSource, Name, TxnId};
 use sg_disk::MemDisk;
@@ -16,11 +16,10 @@ const NEW_WORK_END: u64 = 4_611_686_018_427_387_904;
 
 const LAST_END: u64 = 9_223_372_036_854_775_808;
 
-// How a run ended: its status, why the store has stopped, and the disk.
+// How a run ended: its status, and the disk.
 #[derive(Drop)]
 struct Ended {
     status: Status,
-    stop: Option<Stop>,
     disk: MemDisk,
 }
 
@@ -40,10 +39,9 @@ fn run_at(
     let mut piece = vec![in alloc; 0; 65_536]?;
     let mut session = Session::over(Store::over(alloc, disk, log, live));
     let end = run_script(alloc, &mut session, &mut source, out, &mut piece);
-    let (stop, disk) = session.finish();
+    let (first, disk) = session.finish();
     Ok(Ended {
-        status: status_of(end, stop),
-        stop,
+        status: first_fault(first, status_of_end(end)),
         disk,
     })
 }
@@ -65,7 +63,6 @@ fn new_work_up_to_its_end(rt: HostRuntime) -> Result<(), Fail> {
         out.text(),
         b"ok\nerror log-end\nerror no-object\nok\nerror log-end\n".as_slice()
     );
-    assert_eq!(rt; ended.stop, None);
     assert_eq!(rt; ended.status, Status::Done);
     Ok(())
 }
@@ -81,7 +78,6 @@ fn no_new_work_above_its_end(rt: HostRuntime) -> Result<(), Fail> {
         out.text(),
         b"error log-end\nerror log-end\nerror no-transaction\n".as_slice()
     );
-    assert_eq!(rt; ended.stop, None);
     assert_eq!(rt; ended.status, Status::Done);
     assert_eq!(rt; ended.disk.log0(), [].as_slice());
     Ok(())
@@ -95,7 +91,6 @@ fn a_commit_up_to_the_last_end(rt: HostRuntime) -> Result<(), Fail> {
     let script = b"t commit\nu begin";
     let ended = run_at(alloc, LAST_END - 26, live_transaction(), script, &mut out)?;
     assert_eq!(rt; out.text(), b"ok\nerror log-end\n".as_slice());
-    assert_eq!(rt; ended.stop, None);
     assert_eq!(rt; ended.status, Status::Done);
     let frame = b"\x01\x15\0\0\0\x0a\x15\0\0\0\x07\0\0\0\0\0\0\0\x09\0\0\0\0\0\0\0\0";
     assert_eq!(rt; ended.disk.log0(), frame.as_slice());
@@ -113,7 +108,6 @@ fn a_commit_above_the_last_end(rt: HostRuntime) -> Result<(), Fail> {
         out.text(),
         b"error log-end\nerror stopped\nerror stopped\nerror stopped\nerror syntax\n".as_slice()
     );
-    assert_eq!(rt; ended.stop, Some(Stop::LogEnd));
     assert_eq!(rt; ended.status, Status::LogEnd);
     assert_eq!(rt; ended.disk.log0(), [].as_slice());
     assert!(rt; ended.disk.calls_made().is_empty());

@@ -28,7 +28,6 @@ pub use answer::Answer;
 pub use opening::{OpenRefused, Unopened};
 pub use session::Session;
 pub use status::Status;
-pub use store::Stop;
 pub use top::{Finish, stasis};
 
 #[cfg(test)]

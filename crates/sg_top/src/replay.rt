@@ -47,22 +47,27 @@ fn refusal(fault: LogFault) -> OpenRefused
     }
 }
 
-// Finds what the records of a frame say, of which the first begins at this offset. One that doesn't
-// follow those that were found is refused.
-fn find_in_frame(alloc: Global, found: &mut Found, bytes: &[u8], at: u64) -> Result<(), OpenRefused>
-    requires { at + length bytes.now < 2 ^ 64 }
-    ensures found { (rs : List Record) → AreRecords rs → bytes.now ≡ spelled_all rs → OnOk result (Finds found.old found.new (numbered_from at rs)) }
-    ensures chained { (before : List Numbered) (rs : List Record) → KnowsLasts found.old before → AreRecords rs → bytes.now ≡ spelled_all rs → OnOk result (AreChainedBehind before (numbered_from at rs)) }
-    ensures refused { IfErr result (λ why. IsRefusedIn why found.old bytes.now at) }
+// Finds what the records of the frame say whose gate stands at this offset. Where one doesn't follow
+// those that were found, the frame is refused.
+fn find_in_frame(
+    alloc: Global,
+    found: &mut Found,
+    bytes: &[u8],
+    gate: u64,
+) -> Result<(), OpenRefused>
+    requires { gate + 5 + length bytes.now < 2 ^ 64 }
+    ensures found { (rs : List Record) → AreRecords rs → bytes.now ≡ spelled_all rs → OnOk result (Finds found.old found.new (numbered_from (gate + 5) rs)) }
+    ensures chained { (before : List Numbered) (rs : List Record) → KnowsLasts found.old before → AreRecords rs → bytes.now ≡ spelled_all rs → OnOk result (AreChainedBehind before (numbered_from (gate + 5) rs)) }
+    ensures refused { IfErr result (λ why. IsRefusedIn why found.old bytes.now gate) }
 {
     let mut from = 0;
     'records: while from < bytes.len() {
-        let offset = at + from as u64;
+        let offset = gate + 5 + from as u64;
         let Ok((record, size)) = decode(&bytes[from..]) else {
-            return Err(damaged(offset));
+            return Err(damaged(gate));
         };
         if !found.is_followed_by(offset, &record) {
-            return Err(damaged(offset));
+            return Err(damaged(gate));
         }
         match found.note(alloc, offset, &record) {
             Ok(()) => {}
@@ -91,7 +96,7 @@ fn find_all<D: Disk>(
     'frames: loop {
         match log.frame(disk, gate, body) {
             Ok(Some(size)) => {
-                match find_in_frame(alloc, &mut found, &body[..size], gate + 5) {
+                match find_in_frame(alloc, &mut found, &body[..size], gate) {
                     Ok(()) => gate += 5 + size as u64,
                     Err(why) => return Err(why),
                 }

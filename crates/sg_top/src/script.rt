@@ -1,12 +1,10 @@
-ghost use Rattle.std.specs.Prelude.{◌≡◌, ◌⊎◌, ◌≤◌, ◌<◌, ◌+◌, List, ℕ, Option, length};
+ghost use Rattle.std.specs.Prelude.{◌≡◌, ◌≤◌, ◌<◌, ◌||◌, length, is_none};
 ghost use Rattle.sg_base.specs.Ends.{HasRisen};
+ghost use Rattle.sg_disk.specs.Disk.{State as DiskState};
 ghost use Rattle.sg_model.specs.History.{State};
 ghost use Rattle.sg_top.specs.Store.{Shows};
-ghost use Rattle.sg_top.specs.Goes.{Grows};
-ghost use Rattle.sg_top.specs.Script.{MayEnd};
-ghost use Rattle.sg_top.specs.Shown.{StopIsCaused};
-ghost use Rattle.sg_top.specs.Ending.{RunsTo};
-ghost use Rattle.sg_top.specs.Sessions.{session_core, session_disk, session_stop};
+ghost use Rattle.sg_top.specs.Ending.{RunsTo, MOST_OF_PIECE};
+ghost use Rattle.sg_top.specs.Sessions.{session_core, session_disk, session_unheard};
 
 use crate::buffer::LineBuffer;
 use crate::feed::feed;
@@ -40,18 +38,15 @@ pub fn run_script<D: Disk, S: Source, K: Sink>(
     piece: &mut [u8],
 ) -> RunEnd
     requires some { 0 < length piece.old }
-    requires small { length piece.old ≤ 65536 }
-    ensures ran { (x : State) → Shows D.told (D.view (session_disk session.old)) (session_core session.old) x
-        → RunsTo result D.told (D.view (session_disk session.old)) (session_core session.old) x (S.left script.old) (S.left script.new) (K.taken out.old) (K.taken out.new)
+    requires small { length piece.old ≤ MOST_OF_PIECE }
+    ensures ran { (was : DiskState) (x : State) → Shows D.told was (D.view (session_disk session.old)) (session_core session.old) x
+        → RunsTo result D.told was (D.view (session_disk session.old)) (session_core session.old) x (S.left script.old) (S.left script.new) (K.taken out.old) (K.taken out.new)
         (D.view (session_disk session.new)) (session_core session.new) }
-    ensures cause { StopIsCaused (HasRisen (D.view (session_disk session.old)).faults (D.view (session_disk session.new)).faults)
-        (MayEnd (session_core session.old).log.gate (D.view (session_disk session.old)) (D.view (session_disk session.new))) (session_stop session.old) (session_stop session.new) }
-    ensures grown { Grows (session_core session.old).log (session_core session.new).log (D.view (session_disk session.old)) (D.view (session_disk session.new)) }
-    ensures disk { (D.view (session_disk session.old)).faults ≤ (D.view (session_disk session.new)).faults }
-    ensures source { S.faults script.old ≤ S.faults script.new }
-    ensures sink { K.faults out.old ≤ K.faults out.new }
     ensures read { result ≡ RunEnd.Read → HasRisen (S.faults script.old) (S.faults script.new) }
     ensures write { result ≡ RunEnd.Write → HasRisen (K.faults out.old) (K.faults out.new) }
+    ensures quiet { result ≡ RunEnd.Done → (S.faults script.new ≡ S.faults script.old) × (K.faults out.new ≡ K.faults out.old) }
+    ensures heard { (result ≡ RunEnd.Write → ⊥) → session_unheard session.new ≡ session_unheard session.old }
+    ensures unheard { result ≡ RunEnd.Write → session_unheard session.new ≡ (is_none (session_core session.new).stopped || session_unheard session.old) }
 {
     let mut line = LineBuffer::new();
     let mut total: u64 = 0;

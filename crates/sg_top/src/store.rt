@@ -12,15 +12,15 @@ ghost use Rattle.sg_words.specs.Parse.{order_of};
 ghost use Rattle.sg_words.specs.Run.{live_named};
 ghost use Rattle.sg_words.specs.Shown.{shown_line};
 ghost use Rattle.sg_words.specs.Spoken.{spoken};
-ghost use Rattle.sg_disk.specs.Disk.{LeavesOnly};
+ghost use Rattle.sg_disk.specs.Disk.{LeavesOnly, State as DiskState};
 ghost use Rattle.sg_record.specs.Plain.{IsRecord};
 ghost use Rattle.sg_record.specs.Plain.Record.{Line as LineRecord};
 ghost use Rattle.sg_log.specs.Faults.{AppendFails};
-ghost use Rattle.sg_log.specs.Frames.{LOG_END, Numbered};
+ghost use Rattle.sg_log.specs.Frames.{Numbered, SameElsewhere};
 ghost use Rattle.sg_log.specs.Held.{Holds, tail_of, place_of, end_of, appended, durable_after, waiting_after, IsBeforeOrAfter};
 ghost use Rattle.sg_top.specs.Store.{Shows};
 ghost use Rattle.sg_top.specs.Goes.{Goes, Grows, NEW_WORK_END};
-ghost use Rattle.sg_top.specs.Shown.{shown_answer, live_of, core_of, answer_at, stop_at, IsFullAnswer, StopIsCaused, refusal_at};
+ghost use Rattle.sg_top.specs.Shown.{shown_answer, live_of, core_of, answer_at, stop_at, IsFullAnswer, refusal_at};
 ghost use Rattle.sg_top.specs.Opening.{Opens, StaysShut, IsRefusedFor};
 ghost use Rattle.sg_base.specs.declared.area.Area.TheVariants.{Log0};
 ghost use Rattle.sg_log.specs.Reads.{OnlyReads};
@@ -31,22 +31,13 @@ use crate::replay::read_back;
 use sg_base::{Area, Lsn, Name, OutOfMemory, TxnId};
 use sg_disk::Disk;
 use sg_log::{Log, LogFault};
-use sg_model::{Objects, Op, Reply};
+use sg_model::{Objects, Op, Reply, Stop};
 use sg_record::plain::Rec;
 use sg_words::{Line, Verb, join_words};
 use std::alloc::Global;
 
 /// No new work begins once the log's tail is above this byte: 2^62.
 const NEW_WORK_END: u64 = 1 << 62;
-
-/// Why a store has stopped.
-#[derive(Clone, Copy, Debug, PartialEq, Eq)]
-pub enum Stop {
-    /// A call of the disk failed.
-    Disk,
-    /// The log had no room for a commit.
-    LogEnd,
-}
 
 /// A live transaction: its name, its number, and its last record.
 #[derive(Clone, Copy)]
@@ -119,21 +110,27 @@ impl<D: Disk> Store<D> {
         }
     }
 
-    /// The disk, at the end, and why the store has stopped, if it has. It writes nothing.
-    pub fn close(self) -> (Option<Stop>, D)
-        ensures stop { result.0 ≡ self.stop }
-        ensures disk { result.1 ≡ self.disk }
+    /// Why the store has stopped, if it has.
+    pub fn stop(&self) -> Option<Stop>
+        ensures { result ≡ self.now.stop }
+    {
+        self.stop
+    }
+
+    /// The disk, at the end. It writes nothing.
+    pub fn close(self) -> D
+        ensures { result ≡ self.disk }
     {
         let Store {
             disk,
             log,
             objects,
             live: _,
-            stop,
+            stop: _,
         } = self;
         drop(log);
         drop(objects);
-        (stop, disk)
+        disk
     }
 
     // The live transaction, if it has this name.
@@ -150,11 +147,10 @@ impl<D: Disk> Store<D> {
 
     // Begins a transaction, where none is live.
     fn begin(&mut self, name: Name) -> Answer
-        requires { (core_of self.old).stopped ≡ false }
-        ensures goes { (into : List ℕ) (x : State) → Shows D.told (D.view self.old.disk) (core_of self.old) x
-            → Goes D.told (D.view self.old.disk) (core_of self.old) x (Txn name Begin) (shown_answer into result) (D.view self.new.disk) (core_of self.new) }
+        requires { self.old.stop ≡ None }
+        ensures goes { (into : List ℕ) (was : DiskState) (x : State) → Shows D.told was (D.view self.old.disk) (core_of self.old) x
+            → Goes D.told was (D.view self.old.disk) (core_of self.old) x (Txn name Begin) (shown_answer into result) (D.view self.new.disk) (core_of self.new) }
         ensures grown { Grows self.old.log self.new.log (D.view self.old.disk) (D.view self.new.disk) }
-        ensures cause { StopIsCaused (HasRisen (D.view self.old.disk).faults (D.view self.new.disk).faults) (LOG_END < self.old.log.gate + 65572) self.old.stop self.new.stop }
         ensures later { (D.view self.old.disk).faults ≤ (D.view self.new.disk).faults }
     {
         if let Some(live) = self.live {
@@ -189,11 +185,10 @@ impl<D: Disk> Store<D> {
 
     // Stops the store at a fault of the log.
     fn halt(&mut self, fault: LogFault) -> Answer
-        ensures stopped { core_of self.new ≡ record (core_of self.old) { stopped = true } }
+        ensures stopped { core_of self.new ≡ record (core_of self.old) { stopped = Some (stop_at fault) } }
         ensures disk { self.new.disk ≡ self.old.disk }
         ensures answer { result ≡ answer_at fault }
         ensures log { self.new.log ≡ self.old.log }
-        ensures why { self.new.stop ≡ Some (stop_at fault) }
     {
         if fault == LogFault::LogEnd {
             self.stop = Some(Stop::LogEnd);
@@ -206,11 +201,10 @@ impl<D: Disk> Store<D> {
 
     // Commits the live transaction, if it has this name.
     fn commit(&mut self, name: Name) -> Answer
-        requires { (core_of self.old).stopped ≡ false }
-        ensures goes { (into : List ℕ) (x : State) → Shows D.told (D.view self.old.disk) (core_of self.old) x
-            → Goes D.told (D.view self.old.disk) (core_of self.old) x (Txn name Commit) (shown_answer into result) (D.view self.new.disk) (core_of self.new) }
+        requires { self.old.stop ≡ None }
+        ensures goes { (into : List ℕ) (was : DiskState) (x : State) → Shows D.told was (D.view self.old.disk) (core_of self.old) x
+            → Goes D.told was (D.view self.old.disk) (core_of self.old) x (Txn name Commit) (shown_answer into result) (D.view self.new.disk) (core_of self.new) }
         ensures grown { Grows self.old.log self.new.log (D.view self.old.disk) (D.view self.new.disk) }
-        ensures cause { StopIsCaused (HasRisen (D.view self.old.disk).faults (D.view self.new.disk).faults) (LOG_END < self.old.log.gate + 65572) self.old.stop self.new.stop }
         ensures later { (D.view self.old.disk).faults ≤ (D.view self.new.disk).faults }
     {
         let Some(live) = self.named(name) else {
@@ -249,6 +243,7 @@ impl<D: Disk> Store<D> {
             (waiting_after self.old.log (LineRecord live.txn.0 live.last (spoken text.now)) ps)) }
         ensures any_moment { (ds ps : List Numbered) → IsTrue D.told → Holds (D.view self.old.disk) self.old.log ds ps →
             LeavesOnly (D.view self.old.disk) (D.view self.new.disk) (IsBeforeOrAfter (D.view self.old.disk).now self.old.log ds ps) }
+        ensures elsewhere { IsTrue D.told → OnOk result (SameElsewhere self.old.log.area (D.view self.old.disk).now (D.view self.new.disk).now) }
         ensures grown { Grows self.old.log self.new.log (D.view self.old.disk) (D.view self.new.disk) }
         ensures later { (D.view self.old.disk).faults ≤ (D.view self.new.disk).faults }
     {
@@ -296,16 +291,15 @@ impl<D: Disk> Store<D> {
         kept: &mut [u8],
         into: &mut [u8],
     ) -> Answer
-        requires running { (core_of self.old).stopped ≡ false }
+        requires running { self.old.stop ≡ None }
         requires built { IsBuilt (shown_op op.now) }
         requires said { order_of text.now ≡ Txn name (Do (shown_op op.now)) }
         requires line { length text.now ≤ 32768 }
         requires kept { 32768 ≤ length kept.old }
         requires into { 8192 ≤ length into.old }
-        ensures goes { (x : State) → Shows D.told (D.view self.old.disk) (core_of self.old) x
-            → Goes D.told (D.view self.old.disk) (core_of self.old) x (Txn name (Do (shown_op op.now))) (shown_answer into.new result) (D.view self.new.disk) (core_of self.new) }
+        ensures goes { (was : DiskState) (x : State) → Shows D.told was (D.view self.old.disk) (core_of self.old) x
+            → Goes D.told was (D.view self.old.disk) (core_of self.old) x (Txn name (Do (shown_op op.now))) (shown_answer into.new result) (D.view self.new.disk) (core_of self.new) }
         ensures grown { Grows self.old.log self.new.log (D.view self.old.disk) (D.view self.new.disk) }
-        ensures cause { StopIsCaused (HasRisen (D.view self.old.disk).faults (D.view self.new.disk).faults) (LOG_END < self.old.log.gate + 65572) self.old.stop self.new.stop }
         ensures later { (D.view self.old.disk).faults ≤ (D.view self.new.disk).faults }
     {
         let Some(live) = self.named(name) else {
@@ -345,10 +339,9 @@ impl<D: Disk> Store<D> {
         requires into { 8192 ≤ length into.old }
         // a store that has stopped makes no call of the disk
         ensures stopped { IsSome self.old.stop → self.new ≡ self.old }
-        ensures goes { (x : State) → Shows D.told (D.view self.old.disk) (core_of self.old) x
-            → Goes D.told (D.view self.old.disk) (core_of self.old) x (order_of text.now) (shown_answer into.new result) (D.view self.new.disk) (core_of self.new) }
+        ensures goes { (was : DiskState) (x : State) → Shows D.told was (D.view self.old.disk) (core_of self.old) x
+            → Goes D.told was (D.view self.old.disk) (core_of self.old) x (order_of text.now) (shown_answer into.new result) (D.view self.new.disk) (core_of self.new) }
         ensures grown { Grows self.old.log self.new.log (D.view self.old.disk) (D.view self.new.disk) }
-        ensures cause { StopIsCaused (HasRisen (D.view self.old.disk).faults (D.view self.new.disk).faults) (LOG_END < self.old.log.gate + 65572) self.old.stop self.new.stop }
         ensures later { (D.view self.old.disk).faults ≤ (D.view self.new.disk).faults }
     {
         match line {

@@ -26,6 +26,18 @@ fn words(alloc: Global, text: &str) -> Result<Vec<String>, AllocError> {
     Ok(words)
 }
 
+// Does what the words say.
+fn stasis_with<S: Source>(
+    alloc: Global,
+    text: &str,
+    disk: MemDisk,
+    script: &mut S,
+    out: &mut MemSink,
+) -> Result<Finish<MemDisk>, Fail> {
+    let words = words(alloc, text)?;
+    Ok(stasis(alloc, &words, disk, script, out))
+}
+
 // Runs a script over a disk, from a source that gives so many bytes a read.
 fn run_in_pieces(
     alloc: Global,
@@ -36,9 +48,8 @@ fn run_in_pieces(
 ) -> Result<Finish<MemDisk>, Fail>
     requires { 0 < piece }
 {
-    let words = words(alloc, "run store")?;
     let mut source = MemSource::new(script.to_vec(alloc)?, piece, None);
-    Ok(stasis(alloc, &words, disk, &mut source, out))
+    stasis_with(alloc, "run store", disk, &mut source, out)
 }
 
 fn run(alloc: Global, script: &[u8], out: &mut MemSink) -> Result<Finish<MemDisk>, Fail> {
@@ -150,10 +161,9 @@ fn the_longest_line(rt: HostRuntime) -> Result<(), Fail> {
 fn other_words_are_no_command(rt: HostRuntime) -> Result<(), Fail> {
     let alloc = rt.alloc();
     for text in ["run", "runs store", "run store more", "store run"] {
-        let words = words(alloc, text)?;
         let mut source = MemSource::new(Vec::new(alloc), 8, None);
         let mut out = MemSink::new(alloc, None);
-        let finish = stasis(alloc, &words, MemDisk::new(alloc), &mut source, &mut out);
+        let finish = stasis_with(alloc, text, MemDisk::new(alloc), &mut source, &mut out)?;
         assert_eq!(rt; finish.status, Status::Usage);
         assert_eq!(rt; finish.disk.call_count(), 0);
     }
@@ -163,11 +173,16 @@ fn other_words_are_no_command(rt: HostRuntime) -> Result<(), Fail> {
 #[test]
 fn a_source_that_fails(rt: HostRuntime) -> Result<(), Fail> {
     let alloc = rt.alloc();
-    let words = words(alloc, "run store")?;
     let script = b"t begin\nt commit".to_vec(alloc)?;
     let mut source = MemSource::new(script, 8, Some(3));
     let mut out = MemSink::new(alloc, None);
-    let finish = stasis(alloc, &words, MemDisk::new(alloc), &mut source, &mut out);
+    let finish = stasis_with(
+        alloc,
+        "run store",
+        MemDisk::new(alloc),
+        &mut source,
+        &mut out,
+    )?;
     assert_eq!(rt; finish.status, Status::Read);
     assert_eq!(rt; out.text(), b"ok\n".as_slice());
     assert_eq!(rt; finish.disk.log0(), [].as_slice());
@@ -178,9 +193,11 @@ fn a_source_that_fails(rt: HostRuntime) -> Result<(), Fail> {
 fn a_sink_that_fails(rt: HostRuntime) -> Result<(), Fail> {
     let alloc = rt.alloc();
     let mut out = MemSink::new(alloc, Some(2));
-    let finish = run(alloc, b"t begin\nt commit\nu begin", &mut out)?;
+    let finish = run(alloc, b"t begin\nt commit\nu begin\nu commit", &mut out)?;
     assert_eq!(rt; finish.status, Status::Write);
     assert_eq!(rt; out.text(), b"ok\n".as_slice());
+    // one frame of two records of 21 bytes, and a closed gate
+    assert_eq!(rt; finish.disk.log0().len(), 48);
     Ok(())
 }
 
@@ -230,30 +247,46 @@ impl Source for LineFeeds {
 #[test]
 fn a_script_has_a_greatest_length(rt: HostRuntime) -> Result<(), Fail> {
     let alloc = rt.alloc();
-    let words = words(alloc, "run store")?;
     for (left, status) in [(268_435_456, Status::Done), (268_435_457, Status::TooLong)] {
         let mut source = LineFeeds { left };
         let mut out = MemSink::new(alloc, None);
-        let finish = stasis(alloc, &words, MemDisk::new(alloc), &mut source, &mut out);
+        let finish = stasis_with(
+            alloc,
+            "run store",
+            MemDisk::new(alloc),
+            &mut source,
+            &mut out,
+        )?;
         assert_eq!(rt; finish.status, status);
     }
     Ok(())
+}
+
+// What a session leaves that answers the lines of the first script.
+fn answered_in_a_session(alloc: Global, out: &mut MemSink) -> Result<(Status, MemDisk), Fail> {
+    let Ok(session) = Session::start(alloc, MemDisk::new(alloc)) else {
+        return Err("the session didn't start".into());
+    };
+    let mut session = session;
+    for line in FIRST.split('\n') {
+        let _ = session.line(alloc, line.as_bytes(), out);
+    }
+    Ok(session.finish())
 }
 
 #[test]
 fn a_session_answers_each_line(rt: HostRuntime) -> Result<(), Fail> {
     let alloc = rt.alloc();
     let mut out = MemSink::new(alloc, None);
-    let Ok(session) = Session::start(alloc, MemDisk::new(alloc)) else {
-        return Err("the session didn't start".into());
-    };
-    let mut session = session;
-    for line in FIRST.split('\n') {
-        let _ = session.line(alloc, line.as_bytes(), &mut out);
-    }
-    let (stop, disk) = session.finish();
-    assert_eq!(rt; stop, None);
+    let (status, disk) = answered_in_a_session(alloc, &mut out)?;
+    assert_eq!(rt; status, Status::Done);
     assert_eq!(rt; out.text(), FIRST_REPLIES.as_bytes());
+    assert_eq!(rt; disk.log0(), FIRST_LOG);
+    // The sink fails at the third line, and later lines are answered to no one.
+    let mut out = MemSink::new(alloc, Some(3));
+    let (status, disk) = answered_in_a_session(alloc, &mut out)?;
+    assert_eq!(rt; status, Status::Write);
+    assert_eq!(rt; out.text(), b"ok\nok\n".as_slice());
     assert_eq!(rt; disk.log0(), FIRST_LOG);
     Ok(())
 }

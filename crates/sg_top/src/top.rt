@@ -1,21 +1,11 @@
-ghost use Rattle.std.specs.Prelude.{◌≡◌, ◌⊎◌, ◌≤◌, ◌<◌, ◌+◌, ℕ, true, false, IsTrue, List, length, Option, Some, IfSome};
-ghost use Rattle.sg_base.specs.Ends.{HasRisen};
+ghost use Rattle.std.specs.Prelude.{◌≡◌, ◌≤◌, ◌<◌, ◌+◌, ℕ, true, false, IsTrue, Some, IfSome};
 ghost use Rattle.sg_disk.specs.Disk.{FULL, refusing, Spent};
-ghost use Rattle.sg_base.specs.declared.area.Area.{Area};
-ghost use Rattle.sg_base.specs.declared.area.Area.TheVariants.{Log0};
-ghost use Rattle.sg_model.specs.Objects.{Objects};
-ghost use Rattle.sg_log.specs.Frames.{Numbered, HasRecords};
-ghost use Rattle.sg_top.specs.Opening.{IsRefusedFor, reads_of};
-ghost use Rattle.sg_top.specs.Script.{MayEnd};
-ghost use Rattle.sg_top.specs.Stands.{StandsFor};
-ghost use Rattle.sg_top.specs.Ending.{MOST_BYTES};
-ghost use Rattle.sg_top.specs.Top.{are_run, stop_after, status_of, status_of_end, status_of_refusal, NeverRan, Ran, IsDone, Lasts, Unchanged, IsFaultless};
+ghost use Rattle.sg_top.specs.Top.{are_run, stop_after, outside, HasGone, Tells, IsUnhindered, Completes};
 
-use crate::opening::{OpenRefused, Unopened};
-use crate::script::{RunEnd, run_script};
+use crate::opening::Unopened;
+use crate::script::run_script;
 use crate::session::Session;
-use crate::status::Status;
-use crate::store::Stop;
+use crate::status::{Status, first_fault, status_of_end, status_of_refusal};
 use crate::words::command_of;
 use sg_base::{Sink, Source};
 use sg_disk::{Disk, Fuse, Origin};
@@ -29,38 +19,6 @@ pub struct Finish<D> {
     pub status: Status,
     pub disk: D,
     pub refused: u64,
-}
-
-fn status_of_refusal(why: OpenRefused) -> Status
-    ensures { result ≡ status_of_refusal why }
-{
-    match why {
-        OpenRefused::DiskFault => Status::Disk,
-        OpenRefused::Memory => Status::Memory,
-        OpenRefused::Damaged { area, at } => Status::Damaged(area, at),
-    }
-}
-
-fn status_of_end(end: RunEnd) -> Status
-    ensures { result ≡ status_of_end end }
-{
-    match end {
-        RunEnd::Done => Status::Done,
-        RunEnd::Read => Status::Read,
-        RunEnd::Write => Status::Write,
-        RunEnd::TooLong => Status::TooLong,
-    }
-}
-
-// The status of a run that ended so, over a store that has stopped or not.
-pub(crate) fn status_of(end: RunEnd, stop: Option<Stop>) -> Status
-    ensures { result ≡ status_of end stop }
-{
-    match stop {
-        None => status_of_end(end),
-        Some(Stop::Disk) => Status::Disk,
-        Some(Stop::LogEnd) => Status::LogEnd,
-    }
 }
 
 // The end of a command, with the disk out of its fuse.
@@ -88,22 +46,8 @@ fn run_behind_fuse<D: Disk, S: Source, K: Sink, O: Origin>(
     requires known { IsTrue O.known }
     requires passes { O.passes ≡ calls }
     requires began { O.calls ≡ (D.view disk).calls }
-    ensures usage { result.status ≡ Status.Usage → ⊥ }
-    ensures run { NeverRan D.told (refusing (D.view disk) 0) (refusing (D.view result.disk) result.refused) (S.left script.old) (S.left script.new) (K.taken out.old) (K.taken out.new) result.status
-        ⊎ Ran (HasRisen (S.faults script.old) (S.faults script.new)) (HasRisen (K.faults out.old) (K.faults out.new)) D.told (refusing (D.view disk) 0) (refusing (D.view result.disk) result.refused) (S.left script.old) (S.left script.new) (K.taken out.old) (K.taken out.new) result.status }
-    ensures crash { IsTrue D.told →
-        Unchanged (D.view disk) (D.view result.disk) (S.left script.old) (S.left script.new) (K.taken out.old) (K.taken out.new)
-        ⊎ Lasts (HasRisen (K.faults out.old) (K.faults out.new)) (D.view disk) (D.view result.disk) (S.left script.old) (S.left script.new) (K.taken out.old) (K.taken out.new) }
-    ensures done { result.status ≡ Status.Done → IsDone D.told (D.view disk) (D.view result.disk) (S.left script.old) (K.taken out.old) (K.taken out.new) }
-    ensures read { result.status ≡ Status.Read → HasRisen (S.faults script.old) (S.faults script.new) }
-    ensures write { result.status ≡ Status.Write → HasRisen (K.faults out.old) (K.faults out.new) }
-    ensures disk { result.status ≡ Status.Disk → HasRisen (D.view disk).faults (D.view result.disk).faults ⊎ (0 < result.refused) }
-    ensures too_long { result.status ≡ Status.TooLong → IfSome (S.left script.old) (λ text. MOST_BYTES < length text) }
-    ensures damaged { (area : Area) (at : ℕ) → result.status ≡ Status.Damaged area at → IsRefusedFor (OpenRefused.Damaged area at) D.told (refusing (D.view disk) 0) (refusing (D.view result.disk) result.refused) }
-    ensures nothing { (area : Area) (at : ℕ) (s : Objects) → result.status ≡ Status.Damaged area at → IsTrue D.told → StandsFor (reads_of (D.view disk)) s → ⊥ }
-    ensures log_end { (ds : List Numbered) (gate : ℕ) → result.status ≡ Status.LogEnd → IsTrue D.told → HasRecords (reads_of (D.view disk) Log0) 0 gate ds → MayEnd gate (D.view disk) (D.view result.disk) }
-    ensures complete { (HasRisen (S.faults script.old) (S.faults script.new) → ⊥) → (HasRisen (K.faults out.old) (K.faults out.new) → ⊥)
-        → (HasRisen (D.view disk).faults (D.view result.disk).faults → ⊥) → result.refused ≡ 0 → IsFaultless result.status }
+    ensures run { HasGone D.told (outside (D.view disk) (S.left script.old) (S.faults script.old) (K.taken out.old) (K.faults out.old))
+        (outside (D.view result.disk) (S.left script.new) (S.faults script.new) (K.taken out.new) (K.faults out.new)) result.refused result.status }
     ensures spent { Spent calls (D.view disk).calls (D.view result.disk).calls result.refused }
 {
     let Ok(piece) = vec![in alloc; 0; 65536] else {
@@ -123,8 +67,8 @@ fn run_behind_fuse<D: Disk, S: Source, K: Sink, O: Origin>(
         }
     };
     let end = run_script(alloc, &mut session, script, out, &mut piece);
-    let (stop, fuse) = session.finish();
-    let status = status_of(end, stop);
+    let (first, fuse) = session.finish();
+    let status = first_fault(first, status_of_end(end));
     finished(status, fuse)
 }
 
@@ -140,24 +84,22 @@ pub fn stasis<D: Disk, S: Source, K: Sink>(
     script: &mut S,
     out: &mut K,
 ) -> Finish<D>
-    ensures usage { (result.status ≡ Status.Usage → are_run words.now ≡ false) }
+    ensures usage { result.status ≡ Status.Usage → are_run words.now ≡ false }
     ensures unused { are_run words.now ≡ false → (result.status ≡ Status.Usage) × (result.disk ≡ disk) × (result.refused ≡ 0) × (script.new ≡ script.old) × (out.new ≡ out.old) }
-    ensures run { are_run words.now ≡ true →
-        NeverRan D.told (refusing (D.view disk) 0) (refusing (D.view result.disk) result.refused) (S.left script.old) (S.left script.new) (K.taken out.old) (K.taken out.new) result.status
-        ⊎ Ran (HasRisen (S.faults script.old) (S.faults script.new)) (HasRisen (K.faults out.old) (K.faults out.new)) D.told (refusing (D.view disk) 0) (refusing (D.view result.disk) result.refused) (S.left script.old) (S.left script.new) (K.taken out.old) (K.taken out.new) result.status }
-    ensures crash { are_run words.now ≡ true → IsTrue D.told →
-        Unchanged (D.view disk) (D.view result.disk) (S.left script.old) (S.left script.new) (K.taken out.old) (K.taken out.new)
-        ⊎ Lasts (HasRisen (K.faults out.old) (K.faults out.new)) (D.view disk) (D.view result.disk) (S.left script.old) (S.left script.new) (K.taken out.old) (K.taken out.new) }
-    ensures done { are_run words.now ≡ true → result.status ≡ Status.Done → IsDone D.told (D.view disk) (D.view result.disk) (S.left script.old) (K.taken out.old) (K.taken out.new) }
-    ensures read { result.status ≡ Status.Read → HasRisen (S.faults script.old) (S.faults script.new) }
-    ensures write { result.status ≡ Status.Write → HasRisen (K.faults out.old) (K.faults out.new) }
-    ensures disk { result.status ≡ Status.Disk → HasRisen (D.view disk).faults (D.view result.disk).faults ⊎ (0 < result.refused) }
-    ensures too_long { result.status ≡ Status.TooLong → IfSome (S.left script.old) (λ text. MOST_BYTES < length text) }
-    ensures damaged { (area : Area) (at : ℕ) → result.status ≡ Status.Damaged area at → IsRefusedFor (OpenRefused.Damaged area at) D.told (refusing (D.view disk) 0) (refusing (D.view result.disk) result.refused) }
-    ensures nothing { (area : Area) (at : ℕ) (s : Objects) → result.status ≡ Status.Damaged area at → IsTrue D.told → StandsFor (reads_of (D.view disk)) s → ⊥ }
-    ensures log_end { (ds : List Numbered) (gate : ℕ) → result.status ≡ Status.LogEnd → IsTrue D.told → HasRecords (reads_of (D.view disk) Log0) 0 gate ds → MayEnd gate (D.view disk) (D.view result.disk) }
-    ensures complete { are_run words.now ≡ true → (HasRisen (S.faults script.old) (S.faults script.new) → ⊥) → (HasRisen (K.faults out.old) (K.faults out.new) → ⊥)
-        → (HasRisen (D.view disk).faults (D.view result.disk).faults → ⊥) → result.refused ≡ 0 → IsFaultless result.status }
+
+    // The headline: one course of the run, its replies, and what a crash leaves of it.
+    ensures run { are_run words.now ≡ true → HasGone D.told (outside (D.view disk) (S.left script.old) (S.faults script.old) (K.taken out.old) (K.faults out.old))
+        (outside (D.view result.disk) (S.left script.new) (S.faults script.new) (K.taken out.new) (K.faults out.new)) result.refused result.status }
+
+    // The cause of each status, and how a run ends that nothing hinders.
+    ensures cause { are_run words.now ≡ true → Tells result.status D.told (outside (D.view disk) (S.left script.old) (S.faults script.old) (K.taken out.old) (K.faults out.old))
+        (outside (D.view result.disk) (S.left script.new) (S.faults script.new) (K.taken out.new) (K.faults out.new)) result.refused }
+    ensures complete { are_run words.now ≡ true → IsUnhindered D.told (outside (D.view disk) (S.left script.old) (S.faults script.old) (K.taken out.old) (K.faults out.old))
+        (outside (D.view result.disk) (S.left script.new) (S.faults script.new) (K.taken out.new) (K.faults out.new)) result.refused →
+        Completes result.status D.told (outside (D.view disk) (S.left script.old) (S.faults script.old) (K.taken out.old) (K.faults out.old))
+        (outside (D.view result.disk) (S.left script.new) (S.faults script.new) (K.taken out.new) (K.faults out.new)) result.refused }
+
+    // The stop.
     ensures refused { 0 < result.refused → (n : ℕ) × (stop_after words.now ≡ Some n) × ((D.view result.disk).calls < FULL → (D.view result.disk).calls ≡ (D.view disk).calls + n) }
     ensures passed { IfSome (stop_after words.now) (λ n. (D.view result.disk).calls ≤ (D.view disk).calls + n) }
 {

@@ -4,7 +4,8 @@ use Rattle.std.proofs.Math.Seq.{take-append-add}
 use Rattle.sg_base.specs.Ends.{Takes, TakesFront}
 use Rattle.sg_model.specs.Objects.{Objects, Op, step}
 use Rattle.sg_model.specs.History.{Entry, State, after_all, live_objects}
-use Rattle.sg_words.specs.Parse.{lines_of}
+use Rattle.sg_words.specs.Order.{Order}
+use Rattle.sg_words.specs.Parse.{order_of, lines_of}
 use Rattle.sg_words.specs.Pieces.{behind}
 use Rattle.sg_words.specs.Text.{Answer, text_of, text_of_all}
 use Rattle.sg_words.specs.Text.Answer.{Silent, BadSyntax, NoTransaction, IsLive, TooManyLive, Memory, Stopped, LogEnd, Disk, Said, Refused}
@@ -77,23 +78,27 @@ kept done pending part new next rest all is_new cut h =
     ap (λ (t : List ℕ). done ++ behind t next) is_new ∙ (ap (λ (ls : List (List ℕ)). done ++ ls) (sym (behind_behind pending part next)) ∙ (ap (λ (r : List (List ℕ)). done ++ behind pending r) (sym cut) ∙ h))
 
 -- a cause goes on, where what it says goes on
-pub caused-weaker : (R F S G : Type 0) (answer : Answer) → (R → S) → (F → G) → IsCaused R F answer → IsCaused S G answer
-caused-weaker R F S G Disk r f h = r h
-caused-weaker R F S G LogEnd r f h = f h
-caused-weaker R F S G Silent r f h = tt
-caused-weaker R F S G BadSyntax r f h = tt
-caused-weaker R F S G NoTransaction r f h = tt
-caused-weaker R F S G IsLive r f h = tt
-caused-weaker R F S G TooManyLive r f h = tt
-caused-weaker R F S G Memory r f h = tt
-caused-weaker R F S G Stopped r f h = tt
-caused-weaker R F S G (Said reply) r f h = tt
-caused-weaker R F S G (Refused reason) r f h = tt
+pub caused-weaker : (R S : Type 0) (F G : Order → Type 0) (order : Order) (answer : Answer) → (R → S) → ((o : Order) → F o → G o) → IsCaused R F order answer → IsCaused S G order answer
+caused-weaker R S F G order Disk r f h = r h
+caused-weaker R S F G order LogEnd r f h = f order h
+caused-weaker R S F G order Silent r f h = tt
+caused-weaker R S F G order BadSyntax r f h = tt
+caused-weaker R S F G order NoTransaction r f h = tt
+caused-weaker R S F G order IsLive r f h = tt
+caused-weaker R S F G order TooManyLive r f h = tt
+caused-weaker R S F G order Memory r f h = tt
+caused-weaker R S F G order Stopped r f h = tt
+caused-weaker R S F G order (Said reply) r f h = tt
+caused-weaker R S F G order (Refused reason) r f h = tt
 
-pub all_caused-weaker : (R F S G : Type 0) (answers : List Answer) → (R → S) → (F → G) → AreCaused R F answers → AreCaused S G answers
-all_caused-weaker R F S G [] r f h = tt
-all_caused-weaker R F S G (a ∷ answers) r f h = (caused-weaker R F S G a r f h.0, all_caused-weaker R F S G answers r f h.1)
+pub all_caused-weaker : (R S : Type 0) (F G : Order → Type 0) (lines : List (List ℕ)) (answers : List Answer) → (R → S) → ((o : Order) → F o → G o) → AreCaused R F lines answers → AreCaused S G lines answers
+all_caused-weaker R S F G [] [] r f h = tt
+all_caused-weaker R S F G [] (a ∷ answers) r f h = h
+all_caused-weaker R S F G (l ∷ lines) [] r f h = h
+all_caused-weaker R S F G (l ∷ lines) (a ∷ answers) r f h = (caused-weaker R S F G (order_of l) a r f h.0, all_caused-weaker R S F G lines answers r f h.1)
 
-pub all_caused-more : (R F : Type 0) (answers : List Answer) (answer : Answer) → AreCaused R F answers → IsCaused R F answer → AreCaused R F (answers ++ answer ∷ [])
-all_caused-more R F [] answer h k = (k, tt)
-all_caused-more R F (a ∷ answers) answer h k = (h.0, all_caused-more R F answers answer h.1 k)
+pub all_caused-more : (R : Type 0) (F : Order → Type 0) (lines : List (List ℕ)) (answers : List Answer) (line : List ℕ) (answer : Answer) → AreCaused R F lines answers → IsCaused R F (order_of line) answer → AreCaused R F (lines ++ line ∷ []) (answers ++ answer ∷ [])
+all_caused-more R F [] [] line answer h k = (k, tt)
+all_caused-more R F [] (a ∷ answers) line answer h k = absurd h
+all_caused-more R F (l ∷ lines) [] line answer h k = absurd h
+all_caused-more R F (l ∷ lines) (a ∷ answers) line answer h k = (h.0, all_caused-more R F lines answers line answer h.1 k)

@@ -1,7 +1,9 @@
 -- The run of a script: what each line may be answered, and what has happened after it.
-use Rattle.std.specs.Prelude.{◌≡◌, ℕ, ◌+◌, ◌≤◌, true, IsTrue, not, ◌==◌, if◌then◌else◌, List, [], ◌∷◌, ◌++◌, length, filter, find, Option, Some, None, Result, Ok, Err}
+use Rattle.std.specs.Prelude.{◌≡◌, ℕ, ◌+◌, ◌≤◌, IsTrue, not, ◌==◌, if◌then◌else◌, List, [], ◌∷◌, ◌++◌, length, filter, find, Option, Some, None, is_some, Result, Ok, Err}
 use Rattle.std.specs.Str.{bytes_eq}
 use Rattle.sg_model.specs.declared.reason.Reason.{Reason}
+use Rattle.sg_model.specs.declared.stop.Stop.{Stop}
+use Rattle.sg_model.specs.declared.stop.Stop.TheVariants as stops
 use Rattle.sg_model.specs.Objects.{Op, Reply, Grows, is_changing, step}
 use Rattle.sg_model.specs.Objects.Reply.{Done}
 use Rattle.sg_model.specs.History.{Live, State, ops_of, live_objects}
@@ -36,13 +38,13 @@ committed x transaction = record x { commits = x.commits ++ ops_of transaction x
 abbrev pub did : State → ℕ → Op → State
 did x transaction op = record x { history = x.history ++ (record { transaction = transaction; op = op }) ∷ [] }
 
--- the store has stopped
-abbrev pub stop : State → State
-stop x = record x { stopped = true }
+-- the store has stopped, for this reason
+abbrev pub stop : Stop → State → State
+stop why x = record x { stopped = Some why }
 
 -- the store has stopped at a commit, which counts whether or not it is on the disk
-abbrev pub stop_at_commit : State → ℕ → State
-stop_at_commit x transaction = record x { commits = x.commits ++ ops_of transaction x.history ∷ []; stopped = true }
+abbrev pub stop_at_commit : Stop → State → ℕ → State
+stop_at_commit why x transaction = record x { commits = x.commits ++ ops_of transaction x.history ∷ []; stopped = Some why }
 
 abbrev pub turn_begin : State → ℕ → List ℕ → Option Live → Answer × State
 turn_begin x number name (Some live) = (IsLive, x)
@@ -66,7 +68,7 @@ turn_verb x number name (Do op) = turn_op x op (live_named x.live name)
 abbrev pub turn : State → ℕ → Order → Answer × State
 turn x number Blank = (Silent, x)
 turn x number Syntax = (BadSyntax, x)
-turn x number (Txn name verb) = if x.stopped then (Stopped, x) else turn_verb x number name verb
+turn x number (Txn name verb) = if is_some x.stopped then (Stopped, x) else turn_verb x number name verb
 
 -- an operation that takes memory
 abbrev pub IsGrowing : Order → Type 0
@@ -90,18 +92,18 @@ abbrev pub WouldReply : State → Order → Type 0
 WouldReply x order = IsSaid (turn x x.next order).0
 
 -- the transaction of a commit that ends a store's work, if it is one
-abbrev pub stop_at : State → Option Live → State
-stop_at x None = stop x
-stop_at x (Some live) = stop_at_commit x live.transaction
+abbrev pub stop_at : Stop → State → Option Live → State
+stop_at why x None = stop why x
+stop_at why x (Some live) = stop_at_commit why x live.transaction
 
--- the store has stopped in this order
+-- the disk has failed in this order, and the store has stopped
 abbrev pub broken : State → Order → State
-broken x (Txn name Commit) = stop_at x (live_named x.live name)
-broken x other = stop x
+broken x (Txn name Commit) = stop_at stops.Disk x (live_named x.live name)
+broken x other = stop stops.Disk x
 
 -- the state after an order for which the log has no room: a commit stops the store, and all else changes nothing
 abbrev pub full : State → Order → State
-full x (Txn name Commit) = stop_at x (live_named x.live name)
+full x (Txn name Commit) = stop_at stops.LogEnd x (live_named x.live name)
 full x other = x
 
 -- memory runs out, only at an operation that takes memory and would have got a reply, and nothing has changed
@@ -146,14 +148,16 @@ Lines x (line ∷ lines) (answer ∷ answers) y = (mid : State) × Line x line a
 Lines x [] (answer ∷ answers) y = ⊥
 Lines x (line ∷ lines) [] y = ⊥
 
--- an answer has its cause: that a disk failed comes only where its count of faults has risen,
--- and that the log is at its end only where it is full
-abbrev pub IsCaused : Type 0 → Type 0 → Answer → Type 0
-IsCaused Risen Full Disk = Risen
-IsCaused Risen Full LogEnd = Full
-IsCaused Risen Full other = Unit {0}
+-- the answer to an order has its cause: that a disk failed comes only where its count of faults has risen,
+-- and that the log is at its end only where it is full for this order
+abbrev pub IsCaused : Type 0 → (Order → Type 0) → Order → Answer → Type 0
+IsCaused Risen IsFull order Disk = Risen
+IsCaused Risen IsFull order LogEnd = IsFull order
+IsCaused Risen IsFull order other = Unit {0}
 
--- each of the answers has
-abbrev pub AreCaused : Type 0 → Type 0 → List Answer → Type 0
-AreCaused Risen Full [] = Unit {0}
-AreCaused Risen Full (answer ∷ answers) = IsCaused Risen Full answer × AreCaused Risen Full answers
+-- each of the answers to these lines has
+abbrev pub AreCaused : Type 0 → (Order → Type 0) → List (List ℕ) → List Answer → Type 0
+AreCaused Risen IsFull [] [] = Unit {0}
+AreCaused Risen IsFull (line ∷ lines) (answer ∷ answers) = IsCaused Risen IsFull (order_of line) answer × AreCaused Risen IsFull lines answers
+AreCaused Risen IsFull [] (answer ∷ answers) = ⊥
+AreCaused Risen IsFull (line ∷ lines) [] = ⊥

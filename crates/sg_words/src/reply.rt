@@ -91,6 +91,7 @@ fn write_short<K: Sink>(reply: &Reply, value: &[u8], out: &mut K) -> Result<(), 
     ensures took { OnOk result (Takes (K.taken out.old) (text_of_reply (shown_reply value.now reply.now)) (K.taken out.new)) }
     ensures cut { OnErr result (TakesFront (K.taken out.old) (text_of_reply (shown_reply value.now reply.now)) (K.taken out.new)) }
     ensures later { K.faults out.old ≤ K.faults out.new }
+    ensures quiet { OnOk result (K.faults out.new ≡ K.faults out.old) }
     ensures failed { OnErr result (HasRisen (K.faults out.old) (K.faults out.new)) }
 {
     let mut line = [0u8; 576];
@@ -103,6 +104,7 @@ fn write_long<K: Sink>(reply: &Reply, value: &[u8], out: &mut K) -> Result<(), F
     ensures took { OnOk result (Takes (K.taken out.old) (text_of_reply (shown_reply value.now reply.now)) (K.taken out.new)) }
     ensures cut { OnErr result (TakesFront (K.taken out.old) (text_of_reply (shown_reply value.now reply.now)) (K.taken out.new)) }
     ensures later { K.faults out.old ≤ K.faults out.new }
+    ensures quiet { OnOk result (K.faults out.new ≡ K.faults out.old) }
     ensures failed { OnErr result (HasRisen (K.faults out.old) (K.faults out.new)) }
 {
     let mut line = [0u8; 16448];
@@ -117,6 +119,7 @@ pub fn write_reply<K: Sink>(reply: &Reply, bytes: &[u8], out: &mut K) -> Result<
     ensures took { OnOk result (Takes (K.taken out.old) (text_of_reply (shown_reply bytes.now reply.now)) (K.taken out.new)) }
     ensures cut { OnErr result (TakesFront (K.taken out.old) (text_of_reply (shown_reply bytes.now reply.now)) (K.taken out.new)) }
     ensures later { K.faults out.old ≤ K.faults out.new }
+    ensures quiet { OnOk result (K.faults out.new ≡ K.faults out.old) }
     ensures failed { OnErr result (HasRisen (K.faults out.old) (K.faults out.new)) }
 {
     let value = value_of_reply(reply, bytes);
@@ -135,6 +138,7 @@ pub fn write_value<K: Sink>(bytes: &[u8], out: &mut K) -> Result<(), Failed>
     ensures took { OnOk result (Takes (K.taken out.old) (printed bytes.now) (K.taken out.new)) }
     ensures cut { OnErr result (TakesFront (K.taken out.old) (printed bytes.now) (K.taken out.new)) }
     ensures later { K.faults out.old ≤ K.faults out.new }
+    ensures quiet { OnOk result (K.faults out.new ≡ K.faults out.old) }
     ensures failed { OnErr result (HasRisen (K.faults out.old) (K.faults out.new)) }
 {
     let mut text = [0u8; 16448];

@@ -1,0 +1,38 @@
+-- Which status stands for which fault.
+use Rattle.std.specs.Prelude.{Option, Some, None}
+use Rattle.sg_model.specs.declared.stop.Stop.{Stop}
+use Rattle.sg_model.specs.declared.stop.Stop.TheVariants as stops
+use Rattle.sg_top.specs.declared.opening.OpenRefused as code_refused
+use Rattle.sg_top.specs.declared.opening.OpenRefused.TheVariants as refusals
+use Rattle.sg_top.specs.declared.script.RunEnd as code_end
+use Rattle.sg_top.specs.declared.script.RunEnd.TheVariants as ends
+use Rattle.sg_top.specs.declared.status.Status as code_status
+use Rattle.sg_top.specs.declared.status.Status.TheVariants as statuses
+
+-- of a run that didn't begin
+abbrev pub status_of_refusal : code_refused.OpenRefused → code_status.Status
+status_of_refusal refusals.DiskFault = statuses.Disk
+status_of_refusal refusals.Memory = statuses.Memory
+status_of_refusal (refusals.Damaged area at) = statuses.Damaged area at
+
+-- of a script that ended so
+abbrev pub status_of_end : code_end.RunEnd → code_status.Status
+status_of_end ends.Done = statuses.Done
+status_of_end ends.Read = statuses.Read
+status_of_end ends.Write = statuses.Write
+status_of_end ends.TooLong = statuses.TooLong
+
+-- of a store that has stopped for this reason, or hasn't
+abbrev pub status_of_stop : Option Stop → code_status.Status
+status_of_stop None = statuses.Done
+status_of_stop (Some stops.Disk) = statuses.Disk
+status_of_stop (Some stops.LogEnd) = statuses.LogEnd
+
+-- of two that came one after another, the first that is a fault
+abbrev pub first_fault : code_status.Status → code_status.Status → code_status.Status
+first_fault statuses.Done later = later
+first_fault status later = status
+
+-- Of a run: that of its first fault. A store stops before the script or the replies end
+abbrev pub status_of : code_end.RunEnd → Option Stop → code_status.Status
+status_of end stop = first_fault (status_of_stop stop) (status_of_end end)
