@@ -5,6 +5,10 @@ use sg_ops::{Add, Ops, Ramp, Rotate, Xor};
 use std::alloc::Global;
 use std::test::Fail;
 
+const HIGHEST: &[u8] = b"\xff\xff\xff\xff\xff\xff\xff\xff";
+
+const ONE: &[u8] = b"\x01\0\0\0\0\0\0\0";
+
 /// What an operation came to.
 #[derive(Clone, Copy, Debug, PartialEq, Eq)]
 enum Came {
@@ -44,13 +48,11 @@ fn an_array_keeps_its_items(rt: HostRuntime) -> Result<(), Fail> {
     assert!(rt; ops.register_record(Box::new(alloc, Rotate)?).is_ok());
     let name = Name::new(b"n").ok_or("a name")?;
     let mut objects = Objects::empty(alloc);
-    let highest = [255u8; 8];
-    let one = [1u8, 0, 0, 0, 0, 0, 0, 0];
     let rows = [
         (
             Op::Push {
                 name,
-                value: &highest,
+                value: HIGHEST,
             },
             Came::Reason(Reason::NoObject),
             [0; 8],
@@ -84,7 +86,7 @@ fn an_array_keeps_its_items(rt: HostRuntime) -> Result<(), Fail> {
         (
             Op::Push {
                 name,
-                value: &highest,
+                value: HIGHEST,
             },
             Came::Reply(Reply::Number(0)),
             [0; 8],
@@ -94,7 +96,7 @@ fn an_array_keeps_its_items(rt: HostRuntime) -> Result<(), Fail> {
                 name,
                 index: 0,
                 code: 1,
-                arg: &one,
+                arg: ONE,
             },
             done(),
             [0; 8],
@@ -109,7 +111,7 @@ fn an_array_keeps_its_items(rt: HostRuntime) -> Result<(), Fail> {
                 name,
                 index: 0,
                 code: 2,
-                arg: &highest,
+                arg: HIGHEST,
             },
             done(),
             [0; 8],
@@ -117,7 +119,7 @@ fn an_array_keeps_its_items(rt: HostRuntime) -> Result<(), Fail> {
         (
             Op::Get { name, index: 0 },
             Came::Reply(Reply::Bytes(8)),
-            highest,
+            [255; 8],
         ),
         (
             Op::Apply {
@@ -144,7 +146,7 @@ fn an_array_keeps_its_items(rt: HostRuntime) -> Result<(), Fail> {
                 name,
                 index: 0,
                 code: 65537,
-                arg: &one,
+                arg: ONE,
             },
             Came::Reason(Reason::NoOperation),
             [0; 8],
