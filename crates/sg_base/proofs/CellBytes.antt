@@ -1,9 +1,9 @@
 -- The cells of a page of bytes are bytes.
-use Rattle.std.proofs.Common.{◌≡◌, ℕ, ◌+◌, ◌<◌, ◌≤◌, List, length, take, drop, Option, Some, None, IfSome, sym, ◌∙◌, subst, arith, inl, inr}
+use Rattle.std.proofs.Common.{◌≡◌, ℕ, ◌+◌, ◌<◌, ◌≤◌, List, length, take, drop, Option, IfSome, sym, ◌∙◌, subst, arith, inl, inr}
 use Rattle.std.proofs.lemmas.Bool.{cases_lt}
 use Rattle.std.proofs.lemmas.List.{length-take, length-drop, get_or-take, get_or-drop}
 use Rattle.sg_base.specs.Bytes.{IsBytes}
-use Rattle.sg_base.specs.Page.{bytes_at, slot_at, offset_at, length_at, count_of, cell_in}
+use Rattle.sg_base.specs.Page.{bytes_at, slot_at, offset_at, length_at, count_of}
 use Rattle.sg_base.specs.Sheet.{sheet_of, HasBytes}
 use Rattle.sg_base.proofs.Slots.{cell_in-slots_below, cell_in_past, slot_at_empty, slot_at_full}
 

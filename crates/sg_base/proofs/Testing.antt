@@ -1,8 +1,8 @@
 -- The test of a page is right.
-use Rattle.std.proofs.Common.{◌≡◌, ◌≢◌, ◌↔◌, ℕ, zero, suc, ◌+◌, ◌*◌, ◌<◌, ◌≤◌, ◌==◌, ◌&&◌, ◌||◌, nat_le, Bool, true, false, is_some, Option, Some, None, IsSome, IsTrue, List, length, get_or, refl, sym, ap, ◌∙◌, subst, arith, inl, inr}
-use Rattle.std.proofs.lemmas.Bool.{cases_lt, cases_eq, cases_Bool}
+use Rattle.std.proofs.Common.{◌≡◌, ◌↔◌, ℕ, zero, suc, ◌+◌, ◌<◌, ◌≤◌, ◌==◌, ◌&&◌, ◌||◌, nat_le, Bool, true, false, IsTrue, List, length, get_or, refl, sym, subst, arith, inl, inr}
+use Rattle.std.proofs.lemmas.Bool.{cases_lt}
 use Rattle.std.proofs.lemmas.Bool.Decides.{nat_tests}
-use Rattle.sg_base.specs.Page.{count_of, start_of, lost_of, directory_end, offset_at, length_at, slots_of, stored, HasCell, IsInCell, IsWhole, AreCells, IsSlotted}
+use Rattle.sg_base.specs.Page.{count_of, start_of, lost_of, directory_end, offset_at, length_at, slots_of, stored, IsInCell, IsWhole, AreCells, IsSlotted}
 use Rattle.sg_base.specs.Slotted.{stands_whole, share_none, is_apart, are_cells, is_slotted}
 
 -- both parts of a test

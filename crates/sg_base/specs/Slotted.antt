@@ -1,5 +1,5 @@
 -- Whether some bytes are a page of slots, as a test, and the page that was never written.
-use Rattle.std.specs.Prelude.{ℕ, zero, suc, ◌+◌, ◌*◌, ◌==◌, ◌&&◌, ◌||◌, nat_le, Bool, true, List, length, slice_index, replicate}
+use Rattle.std.specs.Prelude.{ℕ, zero, suc, ◌+◌, ◌==◌, ◌&&◌, ◌||◌, nat_le, Bool, true, List, length, slice_index, replicate}
 use Rattle.sg_base.specs.Page.{count_of, start_of, lost_of, directory_end, offset_at, length_at, slots_of, stored}
 
 -- a cell of so many bytes there stands in the area of cells, or has none and stands behind the fields

@@ -1,6 +1,10 @@
+ghost use Rattle.std.specs.Prelude.{◌≡◌, ◌+◌, ◌<◌, length};
+
 use super::*;
 use std::io;
 use std::io::{ErrorKind, Read, Write};
+use std::marker::Brand;
+use std::sync::ledger::{Blank, Ledger};
 use std::test::Fail;
 
 #[test]
@@ -137,5 +141,33 @@ fn a_terminal_takes_a_byte_a_write(rt: HostRuntime) -> Result<(), Fail> {
     let mut terminal = Terminal::new(Vec::new(rt.alloc()));
     assert_eq!(rt; WriteSink::new(&mut terminal).write(b"ok\n"), Ok(()));
     assert_eq!(rt; terminal.bytes.as_slice(), b"ok\n".as_slice());
+    Ok(())
+}
+
+// One step for each byte.
+fn walk<L: Ledger>(bytes: &[u8], steps: &mut Steps<L>)
+    ensures { steps.new ≡ steps.old + length bytes.now }
+{
+    for _ in 0..bytes.len() {
+        steps.tick();
+    }
+}
+
+// The same on a ledger that the caller hands in.
+fn walk_from<L: Ledger>(bytes: &[u8], blank: Blank) -> usize
+    requires name { blank.name ≡ L.name }
+    requires parts { blank.parts ≡ L.parts }
+    requires some { 0 < L.parts }
+    ensures { result ≡ length bytes.now }
+{
+    let mut steps = Steps::<L>::open(blank);
+    walk(bytes, &mut steps);
+    bytes.len()
+}
+
+#[test]
+fn steps_are_counted_without_bytes(rt: HostRuntime) -> Result<(), Fail> {
+    assert_eq!(rt; walk_from::<Brand>(b"abc", Blank::new(1)), 3);
+    assert_eq!(rt; size_of::<Steps<Brand>>(), 0);
     Ok(())
 }
