@@ -13,3 +13,4 @@ pub mod Padded
 pub mod Resources
 pub mod TouchList
 pub mod SaidOps
+pub mod SaidReplies

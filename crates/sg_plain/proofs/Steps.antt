@@ -11,7 +11,8 @@ use Rattle.sg_model.specs.declared.reason.Reason.{Reason}
 use Rattle.sg_model.specs.declared.reason.Reason.TheVariants.{NoObject, Exists, OutOfRange}
 use Rattle.sg_model.specs.Objects.{Entries, Object, Objects}
 use Rattle.sg_model.specs.Objects.Object.{Array, Table}
-use Rattle.sg_plain.specs.Replies.{shown_reply, shown_keys}
+use Rattle.sg_model.specs.SaidReplies.{said_reply}
+use Rattle.sg_plain.specs.Replies.{shown_keys}
 use Rattle.sg_model.specs.Verb.{Verb, Op, Outcome}
 use Rattle.sg_model.specs.Verb.Op.{On, Names}
 use Rattle.sg_model.specs.Verb.Reply.{Done, Several}
@@ -130,11 +131,11 @@ after_discard s n (Some y) h = refl
 
 -- a verb on an object that is there, among all objects
 pub done_in : {E : Type 0} (t : Operations) (s m : Objects) (n : List ℕ) (verb : Verb) (o p : Object) (bytes : List ℕ) (result : Result code_reply.Reply E) → get s n ≡ Some o → m ≡ insert s n p
-    → IfOk result (λ r. on t verb (Some o) ≡ (Ok (shown_reply bytes r), Some p)) → IfOk result (λ r. step t s (On n verb) ≡ (Ok (shown_reply bytes r), m))
+    → IfOk result (λ r. on t verb (Some o) ≡ (Ok (said_reply bytes r), Some p)) → IfOk result (λ r. step t s (On n verb) ≡ (Ok (said_reply bytes r), m))
 unfolding step
 done_in t s m n verb o p bytes (Ok r) there is h =
     let P : Change → Outcome × Objects = λ c. (c.0, put_at s n c.1) in
-    let Q : Objects → Outcome × Objects = λ x. (Ok (shown_reply bytes r), x) in
+    let Q : Objects → Outcome × Objects = λ x. (Ok (said_reply bytes r), x) in
     ap (λ (x : Option Object). P (on t verb x)) there ∙ (ap P h ∙ ap Q (sym is))
 done_in t s m n verb o p bytes (Err e) there is h = tt
 
@@ -183,7 +184,7 @@ pub table_accepts : (t : Operations) (verb : Verb) (m : Entries) → IsInPlace v
 table_accepts t verb m h k = subst (λ (c : Change). IsOk c.0) (same_table t fresh_table verb m h) k
 
 pub table_does : {E : Type 0} (t : Operations) (verb : Verb) (m n : Entries) (bytes : List ℕ) (result : Result code_reply.Reply E) → IsInPlace verb
-    → IfOk result (λ r. on fresh_table verb (Some (Table m)) ≡ (Ok (shown_reply bytes r), Some (Table n))) → IfOk result (λ r. on t verb (Some (Table m)) ≡ (Ok (shown_reply bytes r), Some (Table n)))
+    → IfOk result (λ r. on fresh_table verb (Some (Table m)) ≡ (Ok (said_reply bytes r), Some (Table n))) → IfOk result (λ r. on t verb (Some (Table m)) ≡ (Ok (said_reply bytes r), Some (Table n)))
 table_does t verb m n bytes (Ok r) h k = same_table t fresh_table verb m h ∙ k
 table_does t verb m n bytes (Err e) h k = tt
 

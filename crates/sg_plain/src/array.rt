@@ -1,7 +1,7 @@
 ghost use Rattle.std.specs.Prelude.{◌≡◌, ◌<◌, ◌≤◌, [], ◌∷◌, ◌++◌, length, take, is_some, IfSome, IfOk, OnOk, OnErr, IsOk, IsTrue, MatchOption, Ok, Err, Some, slice_get, slice_set, slice_index_or, option_copied, map};
 ghost use Rattle.sg_ops.specs.Table.{table_of, record_at, accepts_of, after_of};
 ghost use Rattle.sg_model.specs.Objects.Object.{Array as as_object};
-ghost use Rattle.sg_plain.specs.Replies.{shown_reply};
+ghost use Rattle.sg_model.specs.SaidReplies.{said_reply};
 ghost use Rattle.sg_model.specs.SaidOps.{verb_of, name_of};
 ghost use Rattle.sg_model.specs.TouchList.{shown_touches};
 ghost use Rattle.sg_model.specs.Touches.{array_touches, touch_of};
@@ -39,6 +39,17 @@ impl Model for Array {
     ghost view = { row_of };
 
     ghost invariant = { IsRow };
+}
+
+impl Clone for Array {
+    ghost is_clone = { λ a b. b ≡ a };
+
+    fn clone(&self) -> Result<Array, AllocError> {
+        Ok(Array {
+            size: self.size,
+            items: self.items.clone()?,
+        })
+    }
 }
 
 // Does a record operation to bytes that it accepts.
@@ -350,7 +361,7 @@ impl Array {
         requires room { 8192 ≤ length into.old }
         requires in_place { IsInPlace (verb_of op.now) }
         requires accepted { IsOk (on (table_of record_meaning range_meaning ops.now) (verb_of op.now) (Some (as_object self.old))).0 }
-        ensures done { IfOk result (λ r. on (table_of record_meaning range_meaning ops.now) (verb_of op.now) (Some (as_object self.old)) ≡ (Ok (shown_reply into.new r), Some (as_object self.new))) }
+        ensures done { IfOk result (λ r. on (table_of record_meaning range_meaning ops.now) (verb_of op.now) (Some (as_object self.old)) ≡ (Ok (said_reply into.new r), Some (as_object self.new))) }
         ensures err { OnErr result (self.new ≡ self.old) }
         ensures memory { OnErr result (GrowsBy (verb_of op.now)) }
     {

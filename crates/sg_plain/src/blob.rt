@@ -1,7 +1,7 @@
 ghost use Rattle.std.specs.Prelude.{◌≡◌, ◌+◌, ◌≤◌, ◌<◌, [], length, take, drop, OnOk, OnErr, IsOk, IsTrue, is_some, IfOk, Ok, Err, Some, ◌++◌, map};
 ghost use Rattle.sg_ops.specs.Table.{table_of, range_at, rendered};
 ghost use Rattle.sg_model.specs.Objects.Object.{Blob as as_object};
-ghost use Rattle.sg_plain.specs.Replies.{shown_reply};
+ghost use Rattle.sg_model.specs.SaidReplies.{said_reply};
 ghost use Rattle.sg_model.specs.SaidOps.{verb_of, name_of};
 ghost use Rattle.sg_model.specs.TouchList.{shown_touches};
 ghost use Rattle.sg_model.specs.Touches.{blob_touches, touch_of};
@@ -37,6 +37,16 @@ impl Model for Blob {
     ghost view = { λ b. b.bytes.items };
 
     ghost invariant = { λ b. length b.bytes.items ≤ 16384000 };
+}
+
+impl Clone for Blob {
+    ghost is_clone = { λ a b. b ≡ a };
+
+    fn clone(&self) -> Result<Blob, AllocError> {
+        Ok(Blob {
+            bytes: self.bytes.clone()?,
+        })
+    }
 }
 
 // Puts the bytes of a range operation into a part of a blob.
@@ -272,7 +282,7 @@ impl Blob {
         requires room { 8192 ≤ length into.old }
         requires in_place { IsInPlace (verb_of op.now) }
         requires accepted { IsOk (on (table_of record_meaning range_meaning ops.now) (verb_of op.now) (Some (as_object self.old))).0 }
-        ensures done { IfOk result (λ r. on (table_of record_meaning range_meaning ops.now) (verb_of op.now) (Some (as_object self.old)) ≡ (Ok (shown_reply into.new r), Some (as_object self.new))) }
+        ensures done { IfOk result (λ r. on (table_of record_meaning range_meaning ops.now) (verb_of op.now) (Some (as_object self.old)) ≡ (Ok (said_reply into.new r), Some (as_object self.new))) }
         ensures err { OnErr result (self.new ≡ self.old) }
         ensures memory { OnErr result (GrowsBy (verb_of op.now)) }
     {

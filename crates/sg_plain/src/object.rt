@@ -1,7 +1,8 @@
 ghost use Rattle.std.specs.Prelude.{◌≡◌, ◌≤◌, length, IfOk, OnErr, IsOk, Ok, Some, ◌++◌, map};
 ghost use Rattle.sg_ops.specs.Table.{Table as Operations, table_of};
 ghost use Rattle.sg_model.specs.Verb.Verb.{Keys};
-ghost use Rattle.sg_plain.specs.Replies.{shown_reply, shown_keys};
+ghost use Rattle.sg_model.specs.SaidReplies.{said_reply};
+ghost use Rattle.sg_plain.specs.Replies.{shown_keys};
 ghost use Rattle.sg_plain.specs.Shown.{shown};
 ghost use Rattle.sg_model.specs.SaidOps.{verb_of, name_of};
 ghost use Rattle.sg_model.specs.TouchList.{shown_touches};
@@ -14,7 +15,7 @@ use crate::table::Table;
 use sg_base::OutOfMemory;
 use sg_model::{Key, Op, Reason, Reply, Touches};
 use sg_ops::Ops;
-use std::alloc::Global;
+use std::alloc::{AllocError, Global};
 
 /// An object.
 #[derive(Drop)]
@@ -25,6 +26,18 @@ pub enum Object {
     Table(Table),
     /// Bytes.
     Blob(Blob),
+}
+
+impl Clone for Object {
+    ghost is_clone = { λ a b. b ≡ a };
+
+    fn clone(&self) -> Result<Object, AllocError> {
+        match self {
+            Object::Array(array) => Ok(Object::Array(array.clone()?)),
+            Object::Table(table) => Ok(Object::Table(table.clone()?)),
+            Object::Blob(blob) => Ok(Object::Blob(blob.clone()?)),
+        }
+    }
 }
 
 impl Object {
@@ -82,7 +95,7 @@ impl Object {
         requires room { 8192 ≤ length into.old }
         requires in_place { IsInPlace (verb_of op.now) }
         requires accepted { IsOk (on (table_of record_meaning range_meaning ops.now) (verb_of op.now) (Some (shown self.old))).0 }
-        ensures done { IfOk result (λ r. on (table_of record_meaning range_meaning ops.now) (verb_of op.now) (Some (shown self.old)) ≡ (Ok (shown_reply into.new r), Some (shown self.new))) }
+        ensures done { IfOk result (λ r. on (table_of record_meaning range_meaning ops.now) (verb_of op.now) (Some (shown self.old)) ≡ (Ok (said_reply into.new r), Some (shown self.new))) }
         ensures err { OnErr result (shown self.new ≡ shown self.old) }
         ensures memory { OnErr result (GrowsBy (verb_of op.now)) }
     {

@@ -4,7 +4,8 @@ ghost use Rattle.sg_ops.specs.Table.{Table as Operations, table_of};
 ghost use Rattle.sg_model.specs.Verb.Op.{On, Names};
 ghost use Rattle.sg_model.specs.Verb.Reply.{Several};
 ghost use Rattle.sg_model.specs.Verb.Verb.{Keys};
-ghost use Rattle.sg_plain.specs.Replies.{shown_reply, shown_result, shown_keys};
+ghost use Rattle.sg_model.specs.SaidReplies.{said_reply, said_outcome};
+ghost use Rattle.sg_plain.specs.Replies.{shown_keys};
 ghost use Rattle.sg_plain.specs.Shown.{shown, objects_of};
 ghost use Rattle.sg_model.specs.SaidOps.{said_op, verb_of, name_of};
 ghost use Rattle.sg_model.specs.TouchList.{shown_touches};
@@ -38,7 +39,7 @@ fn apply_in(
     requires named { name ≡ name_of op.now }
     requires in_place { IsInPlace (verb_of op.now) }
     requires accepted { IsOk (on (table_of record_meaning range_meaning ops.now) (verb_of op.now) (finmap.get (objects_of map.old.entries) name)).0 }
-    ensures done { IfOk result (λ r. step (table_of record_meaning range_meaning ops.now) (objects_of map.old.entries) (said_op op.now) ≡ (Ok (shown_reply into.new r), objects_of map.new.entries)) }
+    ensures done { IfOk result (λ r. step (table_of record_meaning range_meaning ops.now) (objects_of map.old.entries) (said_op op.now) ≡ (Ok (said_reply into.new r), objects_of map.new.entries)) }
     ensures err { OnErr result (objects_of map.new.entries ≡ objects_of map.old.entries) }
     ensures memory { OnErr result (GrowsBy (verb_of op.now)) }
 {
@@ -82,6 +83,16 @@ impl Objects {
     {
         Objects {
             map: BTreeMap::new(alloc),
+        }
+    }
+
+    /// An equal value that shares no memory with this one. It changes nothing.
+    pub fn copy(&self) -> Result<Objects, OutOfMemory>
+        ensures { IfOk result (λ copy. copy ≡ self.now) }
+    {
+        match self.map.clone() {
+            Ok(map) => Ok(Objects { map }),
+            Err(_) => Err(OutOfMemory),
         }
     }
 
@@ -254,7 +265,7 @@ impl Objects {
     ) -> Result<Reply, OutOfMemory>
         requires room { 8192 ≤ length into.old }
         requires accepted { IsOk (step (table_of record_meaning range_meaning ops.now) self.old (said_op op.now)).0 }
-        ensures done { IfOk result (λ r. step (table_of record_meaning range_meaning ops.now) self.old (said_op op.now) ≡ (Ok (shown_reply into.new r), self.new)) }
+        ensures done { IfOk result (λ r. step (table_of record_meaning range_meaning ops.now) self.old (said_op op.now) ≡ (Ok (said_reply into.new r), self.new)) }
         ensures err { OnErr result (self.new ≡ self.old) }
         ensures memory { OnErr result (GrowsBy (verb_of op.now)) }
     {
@@ -305,7 +316,7 @@ impl Objects {
         into: &mut [u8],
     ) -> Result<Result<Reply, Reason>, OutOfMemory>
         requires { 8192 ≤ length into.old }
-        ensures done { IfOk result (λ r. step (table_of record_meaning range_meaning ops.now) self.old (said_op op.now) ≡ (shown_result into.new r, self.new)) }
+        ensures done { IfOk result (λ r. step (table_of record_meaning range_meaning ops.now) self.old (said_op op.now) ≡ (said_outcome into.new r, self.new)) }
         ensures err { OnErr result (self.new ≡ self.old) }
         ensures memory { OnErr result (Grows (said_op op.now)) }
         ensures cause { OnErr result (IsOk (step (table_of record_meaning range_meaning ops.now) self.old (said_op op.now)).0) }

@@ -3,7 +3,7 @@ ghost use Rattle.std.specs.FinMap as finmap;
 ghost use Rattle.sg_ops.specs.Table.{fresh_table};
 ghost use Rattle.sg_model.specs.Keys.{key_checked};
 ghost use Rattle.sg_model.specs.Objects.Object.{Table as as_object};
-ghost use Rattle.sg_plain.specs.Replies.{shown_reply};
+ghost use Rattle.sg_model.specs.SaidReplies.{said_reply};
 ghost use Rattle.sg_model.specs.SaidOps.{verb_of, name_of};
 ghost use Rattle.sg_model.specs.TouchList.{shown_touches};
 ghost use Rattle.sg_model.specs.Touches.{table_touches, touch_of};
@@ -14,7 +14,7 @@ use crate::front::put_front;
 use crate::reach::{only_read, written};
 use sg_base::OutOfMemory;
 use sg_model::{Key, Op, Reason, Reply, Resource, Touches};
-use std::alloc::Global;
+use std::alloc::{AllocError, Global};
 use std::collections::BTreeMap;
 use std::marker::Model;
 
@@ -26,6 +26,16 @@ const MOST_VALUE_BYTES: usize = 1024;
 struct Entry {
     bytes: Vec<u8>,
     ghost short: { vec_len bytes ≤ 1024 },
+}
+
+impl Clone for Entry {
+    ghost is_clone = { λ a b. b.bytes.items ≡ a.bytes.items };
+
+    fn clone(&self) -> Result<Entry, AllocError> {
+        Ok(Entry {
+            bytes: self.bytes.clone()?,
+        })
+    }
 }
 
 /// Values of at most 1,024 bytes under keys, which contracts see as a finite map.
@@ -47,6 +57,16 @@ impl Model for Table {
     ghost use Rattle.sg_plain.specs.Tables.{entries_of};
 
     ghost view = { λ t. entries_of t.map.entries };
+}
+
+impl Clone for Table {
+    ghost is_clone = { λ a b. b ≡ a };
+
+    fn clone(&self) -> Result<Table, AllocError> {
+        Ok(Table {
+            map: self.map.clone()?,
+        })
+    }
 }
 
 // The key of these bytes, or why they are none.
@@ -164,7 +184,7 @@ impl Table {
     // Reads the value under a key.
     fn read(&self, key: Key, into: &mut [u8]) -> Reply
         requires { 8192 ≤ length into.old }
-        ensures { found (finmap.get self.now key) ≡ (Ok (shown_reply into.new result), Stays) }
+        ensures { found (finmap.get self.now key) ≡ (Ok (said_reply into.new result), Stays) }
     {
         match self.find(key) {
             None => Reply::Absent,
@@ -178,7 +198,7 @@ impl Table {
     // Puts a value under the key of these bytes.
     fn put_bytes(&mut self, alloc: Global, key: &[u8], value: &[u8]) -> Result<Reply, OutOfMemory>
         requires { IsOk (at_key key.now (put_value value.now) self.old).0 }
-        ensures done { IfOk result (λ r. (bytes : List ℕ) → at_key key.now (put_value value.now) self.old ≡ (Ok (shown_reply bytes r), self.new)) }
+        ensures done { IfOk result (λ r. (bytes : List ℕ) → at_key key.now (put_value value.now) self.old ≡ (Ok (said_reply bytes r), self.new)) }
         ensures err { OnErr result (self.new ≡ self.old) }
     {
         match checked_key(key) {
@@ -197,7 +217,7 @@ impl Table {
     #[tactic(auto, using(crate::proofs::Found::remove_absent))]
     fn del_bytes(&mut self, key: &[u8]) -> Reply
         requires { IsOk (at_key key.now del_value self.old).0 }
-        ensures { (bytes : List ℕ) → at_key key.now del_value self.old ≡ (Ok (shown_reply bytes result), self.new) }
+        ensures { (bytes : List ℕ) → at_key key.now del_value self.old ≡ (Ok (said_reply bytes result), self.new) }
     {
         match checked_key(key) {
             Err(_) => Reply::Absent,
@@ -215,7 +235,7 @@ impl Table {
     fn find_bytes(&self, key: &[u8], into: &mut [u8]) -> Reply
         requires room { 8192 ≤ length into.old }
         requires key { IsOk (at_key key.now found self.now).0 }
-        ensures { at_key key.now found self.now ≡ (Ok (shown_reply into.new result), self.now) }
+        ensures { at_key key.now found self.now ≡ (Ok (said_reply into.new result), self.now) }
     {
         match checked_key(key) {
             Err(_) => Reply::Absent,
@@ -265,7 +285,7 @@ impl Table {
         requires room { 8192 ≤ length into.old }
         requires in_place { IsInPlace (verb_of op.now) }
         requires accepted { IsOk (on fresh_table (verb_of op.now) (Some (as_object self.old))).0 }
-        ensures done { IfOk result (λ r. on fresh_table (verb_of op.now) (Some (as_object self.old)) ≡ (Ok (shown_reply into.new r), Some (as_object self.new))) }
+        ensures done { IfOk result (λ r. on fresh_table (verb_of op.now) (Some (as_object self.old)) ≡ (Ok (said_reply into.new r), Some (as_object self.new))) }
         ensures err { OnErr result (self.new ≡ self.old) }
         ensures memory { OnErr result (GrowsBy (verb_of op.now)) }
     {
