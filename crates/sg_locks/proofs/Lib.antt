@@ -1,0 +1,3 @@
+pub mod Places
+pub mod Least
+pub mod Counting
