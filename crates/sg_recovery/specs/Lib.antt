@@ -1,0 +1,17 @@
+pub mod Setting
+pub mod Log
+pub mod Stands
+pub mod Laws
+pub mod Keeps
+pub mod Shows
+pub mod Runs
+pub mod Chains
+pub mod Opens
+pub mod Words
+pub mod Claims
+pub mod SmallLogs
+pub mod Cells
+pub mod TakeOff
+pub mod Formed
+pub mod Alike
+pub mod ArrayCase
