@@ -21,7 +21,6 @@ pub record State (S Op Out Resource : Type 0) : Type 0 where
   pub held : List (Hold Resource)
   pub next : ℕ
   pub clock : ℕ
-  pub stopped : Bool
 
 abbrev pub is_live : List Live → ℕ → Bool
 is_live [] t = false
@@ -138,7 +137,7 @@ saved x t = record x { live = marking t x.clock x.live }
 
 -- a run that begins with this
 abbrev pub start : {S Op Out Resource : Type 0} → S → State S Op Out Resource
-start first = record { first = first; history = []; commits = []; answered = 0; live = []; held = []; next = 0; clock = 0; stopped = false }
+start first = record { first = first; history = []; commits = []; answered = 0; live = []; held = []; next = 0; clock = 0 }
 
 -- the other live transaction that began first of those that hold a touch in conflict with these
 abbrev pub holder : {Resource : Type 0} → (Touch Resource → Touch Resource → Bool) → List Live → List (Hold Resource) → ℕ → List (Touch Resource) → Option Live

@@ -1,0 +1,13 @@
+//! Runs of transactions, several at a time, over objects: what each line of a script may be
+//! answered, in the order of its refusals, and what has happened after it. It is definitions, with
+//! laws that tell of them, and no code that does anything.
+//!
+//! It stands on `sg_serial`, `sg_ops`, `sg_model` and `sg_words`. It promises that every list of
+//! lines, however its transactions are interleaved, leads to a run that is serial, in which an abort
+//! leaves out what its transaction did, and that a log of the changing operations which got a reply
+//! is enough to have its objects again.
+#![tactic(auto)]
+
+mod law;
+
+pub use law::{log_is_enough, runs_are_serial};
