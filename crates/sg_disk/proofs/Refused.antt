@@ -8,6 +8,7 @@ refused_counts e n v before now counted fits = record {
   handed_least = omega arith;
   calls = omega arith;
   later = omega arith;
+  quiet = tt;
   failed = λ below. omega arith;
 }
 

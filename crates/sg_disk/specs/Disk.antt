@@ -105,12 +105,14 @@ pub record View : Type 0 where
   pub calls : ℕ
   pub faults : ℕ
 
--- What each call does to the counts, told or not: at most n bytes are handed over
+-- What each call does to the counts, told or not: at most n bytes are handed over, and the faults are those of calls
+-- that failed
 pub record Counts {T E : Type 0} (n : ℕ) (old new : View) (result : Result T E) : Type 0 where
   pub handed_most : new.handed ≤ old.handed + n
   pub handed_least : old.handed ≤ new.handed
   pub calls : new.calls ≡ min (old.calls + 1) FULL
   pub later : old.faults ≤ new.faults
+  pub quiet : OnOk result (new.faults ≡ old.faults)
   pub failed : OnErr result (HasRisen old.faults new.faults)
 
 -- What a call does to a disk that tells. In it and after it a crash leaves what it may leave of widest, also where it fails.

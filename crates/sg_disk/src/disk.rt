@@ -9,7 +9,8 @@ use crate::{Area, Failed};
 /// sync of its area that succeeds. A crash leaves any value at each pending byte, and what a read
 /// gives at every other one.
 ///
-/// A call that fails raises the count of faults. A count that stands at 2^64 - 1 counts as raised.
+/// A call that fails raises the count of faults, and every other call leaves it as it was. A count that
+/// stands at 2^64 - 1 counts as raised.
 pub trait Disk {
     /// Whether such a disk tells what it contains. Of one that doesn't only the counts are known.
     ghost told: { Bool };

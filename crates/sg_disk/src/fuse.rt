@@ -16,6 +16,9 @@ pub trait Origin {
 
     /// The calls that the disk inside had counted.
     ghost calls: { ℕ };
+
+    /// The faults that it had counted.
+    ghost faults: { ℕ };
 }
 
 impl Origin for Brand {
@@ -24,6 +27,8 @@ impl Origin for Brand {
     ghost passes = { None };
 
     ghost calls = { 0 };
+
+    ghost faults = { 0 };
 }
 
 /// Marks the fuses of which it isn't known how they began.
@@ -35,6 +40,8 @@ impl Origin for Unmarked {
     ghost passes = { None };
 
     ghost calls = { 0 };
+
+    ghost faults = { 0 };
 }
 
 /// A disk that stops: it passes a number of calls to the disk inside, and fails each later one
@@ -52,6 +59,7 @@ pub struct Fuse<D: Disk, O: Origin = Unmarked> {
     ghost same: { IsTrue O.known → passes ≡ O.passes } by { Prim.hlevel props },
     ghost most: { IsTrue O.known → (D.view inner).calls ≤ O.calls + passed } by { Prim.hlevel props },
     ghost exact: { IsTrue O.known → (D.view inner).calls < FULL → (D.view inner).calls ≡ O.calls + passed } by { Prim.hlevel props },
+    ghost later: { IsTrue O.known → O.faults ≤ (D.view inner).faults } by { Prim.hlevel props },
 }
 
 impl<D: Disk> Fuse<D> {
@@ -71,6 +79,7 @@ impl<D: Disk, O: Origin> Fuse<D, O> {
     pub fn marked(inner: D, passes: Option<u64>) -> Self
         requires passes { IsTrue O.known → passes ≡ O.passes }
         requires calls { IsTrue O.known → (D.view inner).calls ≡ O.calls }
+        requires faults { IsTrue O.known → (D.view inner).faults ≡ O.faults }
         ensures inner { result.inner ≡ inner }
         ensures passes { result.passes ≡ passes }
         ensures refused { result.refused ≡ 0 }
@@ -98,6 +107,7 @@ impl<D: Disk, O: Origin> Fuse<D, O> {
         ensures inner { result ≡ self.inner }
         ensures view { ⟦<Fuse<D, O> as Disk>⟧.view self ≡ refusing (D.view result) self.refused }
         ensures spent { IsTrue O.known → Spent O.passes O.calls (D.view result).calls self.refused }
+        ensures later { IsTrue O.known → O.faults ≤ (D.view result).faults }
     {
         self.inner
     }

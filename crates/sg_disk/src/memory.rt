@@ -99,6 +99,7 @@ fn write_part(
     ensures bytes_err { OnErr result ((i : ℕ) → bytes_of bytes.new.items i ≡ bytes_of bytes.old.items i) }
     ensures calls_err { OnErr result (calls.new ≡ calls.old) }
     ensures fit { (i : ℕ) → bytes_of bytes.new.items i < 256 }
+    ensures quiet { OnOk result (faults.new ≡ faults.old) }
     ensures fault { OnErr result (HasRisen faults.old faults.new) }
     ensures later { faults.old ≤ faults.new }
 {
@@ -163,6 +164,7 @@ fn drop_part(
     ensures bytes_err { OnErr result ((i : ℕ) → bytes_of bytes.new.items i ≡ bytes_of bytes.old.items i) }
     ensures calls_err { OnErr result (calls.new ≡ calls.old) }
     ensures fit { (i : ℕ) → bytes_of bytes.new.items i < 256 }
+    ensures quiet { OnOk result (faults.new ≡ faults.old) }
     ensures fault { OnErr result (HasRisen faults.old faults.new) }
     ensures later { faults.old ≤ faults.new }
 {
@@ -179,6 +181,7 @@ fn drop_part(
 fn sync_part(calls: &mut LinkedList<Call>, faults: &mut u64, area: Area) -> Result<(), Failed>
     ensures recorded { OnOk result (calls.new ≡ Call.Sync area ∷ calls.old) }
     ensures calls_err { OnErr result (calls.new ≡ calls.old) }
+    ensures quiet { OnOk result (faults.new ≡ faults.old) }
     ensures fault { OnErr result (HasRisen faults.old faults.new) }
     ensures later { faults.old ≤ faults.new }
 {

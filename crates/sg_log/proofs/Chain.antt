@@ -93,10 +93,11 @@ pub record LeadTo (f : Bytes) (at before now : ℕ) : Type 0 where
 pub record IsWalked (told : Bool) (area : Area) (base at : ℕ) (old new : View) : Type 0 where
   pub within : base + at ≤ LOG_END
   pub reads : OnlyReads told old new
+  pub quiet : new.faults ≡ old.faults
   pub lead : IsTrue told → LeadTo (old.now area).seen at old.calls new.calls
 
 pub walk_starts : (told : Bool) (area : Area) (base : ℕ) (v : View) → base ≤ LOG_END → IsWalked told area base 0 v v
-walk_starts told area base v within = record { within = omega arith; reads = reads_none v; lead = λ sure. record { frames = []; lead = tt; there = refl; calls = omega arith } }
+walk_starts told area base v within = record { within = omega arith; reads = reads_none v; quiet = refl; lead = λ sure. record { frames = []; lead = tt; there = refl; calls = omega arith } }
 
 -- the bytes there are those of the start
 seen_same : {told : Bool} {v w : View} → OnlyReads told v w → IsTrue told → (area : Area) → (w.now area).seen ≡ (v.now area).seen
@@ -106,11 +107,12 @@ seen_same h sure area = ap (λ (s : State). (s area).seen) (h.unchanged sure)
 abbrev pub Reaches : Bool → Bytes → (at end : ℕ) → Type 0
 Reaches told f at end = IsTrue told → (rs : List Record) × IsFormed f at rs × (end ≡ gate_after at (rs ∷ []))
 
-pub walk_goes_on : {told : Bool} {area : Area} {base at : ℕ} {old mid new : View} (end : ℕ) → IsWalked told area base at old mid → OnlyReads told mid new → base + end ≤ LOG_END → Reaches told (mid.now area).seen at end → new.calls ≡ min (mid.calls + 2) FULL
+pub walk_goes_on : {told : Bool} {area : Area} {base at : ℕ} {old mid new : View} (end : ℕ) → IsWalked told area base at old mid → OnlyReads told mid new → new.faults ≡ mid.faults → base + end ≤ LOG_END → Reaches told (mid.now area).seen at end → new.calls ≡ min (mid.calls + 2) FULL
     → IsWalked told area base end old new
-walk_goes_on {told = told} {area = area} {base = base} {at = at} {old = old} {mid = mid} {new = new} end h more within formed calls = record {
+walk_goes_on {told = told} {area = area} {base = base} {at = at} {old = old} {mid = mid} {new = new} end h more quiet within formed calls = record {
   within = within;
   reads = reads_more h.reads more;
+  quiet = quiet ∙ h.quiet;
   lead = λ sure.
       let l = h.lead sure in
       let r = formed sure in

@@ -1,5 +1,5 @@
 -- When a call of a log answers which fault.
-use Rattle.std.specs.Prelude.{◌≡◌, ◌<◌, ℕ, Bool, IsTrue}
+use Rattle.std.specs.Prelude.{◌≡◌, ◌<◌, ℕ, Bool, IsTrue, Result, Ok, Err}
 use Rattle.sg_base.specs.Ends.{HasRisen}
 use Rattle.sg_base.specs.declared.area.Area.{Area}
 use Rattle.sg_disk.specs.Disk.{View}
@@ -42,3 +42,11 @@ AttachFails told area base old new Disk = HasRisen old.faults new.faults
 AttachFails told area base old new LogEnd = ⊥
 AttachFails told area base old new (Damaged at) = IsTrue told → IsDamagedAt (old.now area).seen base at
 AttachFails told area base old new Memory = Unit {0}
+
+-- no fault of the disk is passed over: except where `Disk` is answered, its count of faults is as it was
+abbrev pub HeedsFaults : {T : Type 0} → Result T LogFault → View → View → Type 0
+HeedsFaults (Ok answer) old new = new.faults ≡ old.faults
+HeedsFaults (Err Disk) old new = Unit {0}
+HeedsFaults (Err LogEnd) old new = new.faults ≡ old.faults
+HeedsFaults (Err (Damaged at)) old new = new.faults ≡ old.faults
+HeedsFaults (Err Memory) old new = new.faults ≡ old.faults

@@ -34,6 +34,7 @@ pub fn write_frame<D: Disk>(disk: &mut D, area: Area, at: u64, text: &[u8]) -> R
         LeavesOnly (D.view disk.old) (D.view disk.new) (IsWithOrWithout (D.view disk.old).now area frames rs) }
     ensures elsewhere { IsTrue D.told → OnOk result (SameElsewhere area (D.view disk.old).now (D.view disk.new).now) }
     ensures failed { OnErr result (HasRisen (D.view disk.old).faults (D.view disk.new).faults) }
+    ensures quiet { OnOk result ((D.view disk.new).faults ≡ (D.view disk.old).faults) }
     ensures handed { (D.view disk.new).handed ≤ (D.view disk.old).handed + length text.now + 1 }
     ensures kept { (D.view disk.old).handed ≤ (D.view disk.new).handed }
     ensures all_handed { OnOk result ((D.view disk.new).handed ≡ min ((D.view disk.old).handed + length text.now + 1) FULL) }

@@ -4,7 +4,7 @@ ghost use Rattle.sg_base.specs.Ends.{HasRisen};
 ghost use Rattle.sg_disk.specs.Disk.{FULL, Image, Leaves, LeavesOnly, window};
 ghost use Rattle.sg_record.specs.Plain.{Record, GREATEST, spelled, spelled_all, IsRecord};
 ghost use Rattle.sg_record.specs.Plain.{shown};
-ghost use Rattle.sg_log.specs.Faults.{ForceFails, AppendFails, AttachFails, FrameFails};
+ghost use Rattle.sg_log.specs.Faults.{ForceFails, AppendFails, AttachFails, FrameFails, HeedsFaults};
 ghost use Rattle.sg_log.specs.Formed.{IsFormed, IsDamagedAt};
 ghost use Rattle.sg_log.specs.Frames.{Frames, Numbered, HasRecords, SameElsewhere, LOG_END, GREATEST_BODY};
 ghost use Rattle.sg_log.specs.Held.{Tail, IsTail, Holds, tail_of, place_of, end_of, has_room, forced, buffered, appended, durable_after, waiting_after, IsBeforeOrAfter};
@@ -90,6 +90,7 @@ impl Log {
         ensures damaged { (at : ℕ) → IsTrue D.told → IsDamagedAt ((D.view disk.old).now area).seen base at →
             (result ≡ Err (LogFault.Damaged at)) ⊎ ((result ≡ Err LogFault.Disk) ⊎ (result ≡ Err LogFault.Memory)) }
         ensures faults { IfErr result (λ e. AttachFails D.told area base (D.view disk.old) (D.view disk.new) e) }
+        ensures heeded { HeedsFaults result (D.view disk.old) (D.view disk.new) }
         // For want of memory no call is made.
         ensures memory { result ≡ Err LogFault.Memory → disk.new ≡ disk.old }
         ensures unchanged { IsTrue D.told → (D.view disk.new).now ≡ (D.view disk.old).now }
@@ -149,6 +150,7 @@ impl Log {
         // On any disk, what it answers is a record.
         ensures is_record { IfOk result (λ n. IsRecordText (take n into.new) n) }
         ensures fault { IfErr result (λ e. e ≡ LogFault.Disk) }
+        ensures heeded { HeedsFaults result (D.view disk.old) (D.view disk.new) }
         ensures reads { OnlyReads D.told (D.view disk.old) (D.view disk.new) }
         ensures calls { (D.view disk.new).calls ≤ (D.view disk.old).calls + 1 }
     {
@@ -179,6 +181,7 @@ impl Log {
             × (n ≡ length (spelled_all rs)) × (take n into.new ≡ spelled_all rs))) }
         ensures onward { IfOk result (λ r. IfSome r (λ n. (0 < n) × (n ≤ GREATEST_BODY) × (gate + 5 + n ≤ LOG_END))) }
         ensures faults { IfErr result (λ e. FrameFails D.told self.now.area self.now.base (gate - self.now.base) (D.view disk.old) (D.view disk.new) e) }
+        ensures heeded { HeedsFaults result (D.view disk.old) (D.view disk.new) }
         ensures reads { OnlyReads D.told (D.view disk.old) (D.view disk.new) }
         ensures calls { OnOk result ((D.view disk.new).calls ≤ (D.view disk.old).calls + 2) }
     {
@@ -196,6 +199,7 @@ impl Log {
             OnErr result (HasRisen (D.view disk.old).faults (D.view disk.new).faults) }
         ensures within { IfOk result (λ first. IfSome first (λ p. p.lsn < tail_of self.now)) }
         ensures fault { IfErr result (λ e. e ≡ LogFault.Disk) }
+        ensures heeded { HeedsFaults result (D.view disk.old) (D.view disk.new) }
         ensures reads { OnlyReads D.told (D.view disk.old) (D.view disk.new) }
         ensures calls { (D.view disk.new).calls ≤ (D.view disk.old).calls + 1 }
     {
@@ -215,6 +219,7 @@ impl Log {
         // On any disk, a walk ends.
         ensures onward { IfOk result (λ next. IfSome next (λ p. (place.lsn < p.lsn) × (p.lsn < tail_of self.now))) }
         ensures fault { IfErr result (λ e. e ≡ LogFault.Disk) }
+        ensures heeded { HeedsFaults result (D.view disk.old) (D.view disk.new) }
         ensures reads { OnlyReads D.told (D.view disk.old) (D.view disk.new) }
         ensures calls { (D.view disk.new).calls ≤ (D.view disk.old).calls + 2 }
     {
@@ -289,6 +294,7 @@ impl Log {
         ensures failed { (r : Record) → IsTrue D.told → IsDurable (D.view disk.old) self.now at r → OnErr result (HasRisen (D.view disk.old).faults (D.view disk.new).faults) }
         ensures is_record { IfOk result (λ n. IsRecordText (take n into.new) n) }
         ensures fault { IfErr result (λ e. e ≡ LogFault.Disk) }
+        ensures heeded { HeedsFaults result (D.view disk.old) (D.view disk.new) }
         ensures reads { OnlyReads D.told (D.view disk.old) (D.view disk.new) }
         ensures calls { (D.view disk.new).calls ≤ (D.view disk.old).calls + 1 }
     {
@@ -322,6 +328,7 @@ impl Log {
         ensures failed { (r : Record) → IsTrue D.told → IsDurable (D.view disk.old) self.now at r → OnErr result (HasRisen (D.view disk.old).faults (D.view disk.new).faults) }
         ensures within { IfOk result (λ n. (0 < n) × (at + n ≤ self.now.gate)) }
         ensures fault { IfErr result (λ e. e ≡ LogFault.Disk) }
+        ensures heeded { HeedsFaults result (D.view disk.old) (D.view disk.new) }
         ensures reads { OnlyReads D.told (D.view disk.old) (D.view disk.new) }
         ensures calls { (D.view disk.new).calls ≤ (D.view disk.old).calls + 1 }
     {
@@ -338,6 +345,7 @@ impl Log {
         ensures failed { (r : Record) → IsTrue D.told → IsThere (D.view disk.old) self.now at r → OnErr result (HasRisen (D.view disk.old).faults (D.view disk.new).faults) }
         ensures within { IfOk result (λ n. (0 < n) × (at + n ≤ tail_of self.now)) }
         ensures fault { IfErr result (λ e. e ≡ LogFault.Disk) }
+        ensures heeded { HeedsFaults result (D.view disk.old) (D.view disk.new) }
         ensures reads { OnlyReads D.told (D.view disk.old) (D.view disk.new) }
         ensures calls { (D.view disk.new).calls ≤ (D.view disk.old).calls + 1 }
     {
@@ -354,6 +362,7 @@ impl Log {
         ensures failed { (n : ℕ) → IsTrue D.told → IsSizeBehind (D.view disk.old) self.now gate n → OnErr result (HasRisen (D.view disk.old).faults (D.view disk.new).faults) }
         ensures within { IfOk result (λ n. (gate ≤ LOG_END) × (n < 2 ^ 32)) }
         ensures fault { IfErr result (λ e. e ≡ LogFault.Disk) }
+        ensures heeded { HeedsFaults result (D.view disk.old) (D.view disk.new) }
         ensures reads { OnlyReads D.told (D.view disk.old) (D.view disk.new) }
         ensures calls { (D.view disk.new).calls ≤ (D.view disk.old).calls + 1 }
     {
@@ -374,6 +383,7 @@ impl Log {
         ensures failed { (rest : List Placed) → IsTrue D.told → StandBehind (D.view disk.old) self.now gate rest → OnErr result (HasRisen (D.view disk.old).faults (D.view disk.new).faults) }
         ensures onward { IfOk result (λ first. IfSome first (λ p. (gate < p.lsn) × (p.lsn < tail_of self.now))) }
         ensures fault { IfErr result (λ e. e ≡ LogFault.Disk) }
+        ensures heeded { HeedsFaults result (D.view disk.old) (D.view disk.new) }
         ensures reads { OnlyReads D.told (D.view disk.old) (D.view disk.new) }
         ensures calls { (D.view disk.new).calls ≤ (D.view disk.old).calls + 1 }
     {
@@ -454,6 +464,7 @@ impl Log {
         ensures tail { OnOk result (tail_of self.new ≡ end_of self.old (shown r.now)) }
         ensures full { LOG_END < end_of self.old (shown r.now) → result ≡ Err LogFault.LogEnd }
         ensures faults { IfErr result (λ e. AppendFails (end_of self.old (shown r.now)) (D.view disk.old) (D.view disk.new) e) }
+        ensures heeded { HeedsFaults result (D.view disk.old) (D.view disk.new) }
         ensures unchanged { result ≡ Err LogFault.LogEnd → (self.new ≡ self.old) × (disk.new ≡ disk.old) }
         ensures no_call { IsTrue (has_room self.old (shown r.now)) → disk.new ≡ disk.old }
         // It holds the record at its number from then on, and each record before it at the number that it had.
@@ -488,6 +499,7 @@ impl Log {
         ensures log { OnOk result (self.new ≡ forced self.old) }
         ensures same { OnErr result (self.new ≡ self.old) }
         ensures faults { IfErr result (λ e. ForceFails (D.view disk.old) (D.view disk.new) e) }
+        ensures heeded { HeedsFaults result (D.view disk.old) (D.view disk.new) }
         ensures no_call { length self.old.buffer ≡ 0 → disk.new ≡ disk.old }
         ensures holds { (ds ps : List Numbered) → IsTrue D.told → Holds (D.view disk.old) self.old ds ps → OnOk result (Holds (D.view disk.new) self.new (ds ++ ps) []) }
         // A crash after it leaves all the records, and one at any moment of the call all or those that were durable.

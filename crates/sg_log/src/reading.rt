@@ -2,7 +2,7 @@
 ghost use Rattle.std.specs.Prelude.{◌≡◌, ◌⊎◌, ◌≤◌, ◌<◌, ◌+◌, ◌-◌, ◌*◌, ℕ, List, [], ◌∷◌, ◌++◌, length, take, min, Some, None, IfOk, IfErr, IfSome, OnOk, OnErr, IsTrue, ◌↔◌, is_some, if◌then◌else◌};
 ghost use Rattle.sg_base.specs.Ends.{HasRisen};
 ghost use Rattle.sg_disk.specs.Disk.{FULL, window};
-ghost use Rattle.sg_log.specs.Faults.{FrameFails, WalkFails};
+ghost use Rattle.sg_log.specs.Faults.{FrameFails, WalkFails, HeedsFaults};
 ghost use Rattle.sg_log.specs.Formed.{IsWhole, IsFormed, IsUnformed, IsDamagedAt};
 ghost use Rattle.sg_log.specs.Frames.{Frames, LOG_END, GREATEST_BODY, gate_after};
 ghost use Rattle.sg_log.specs.Places.{IsRecordText};
@@ -44,6 +44,7 @@ pub fn read_frame<D: Disk>(
     ensures formed { IsTrue D.told → IfOk result (λ r. IfSome r (λ end. (rs : List Record) × IsFormed ((D.view disk.old).now area).seen at rs × (end ≡ gate_after at (rs ∷ [])) × (take (end - (at + 5)) space.new ≡ spelled_all rs))) }
     ensures onward { IfOk result (λ r. IfSome r (λ end. (at + 5 < end) × (end ≤ at + 5 + GREATEST_BODY) × (base + end ≤ LOG_END))) }
     ensures faults { IfErr result (λ e. FrameFails D.told area base at (D.view disk.old) (D.view disk.new) e) }
+    ensures heeded { HeedsFaults result (D.view disk.old) (D.view disk.new) }
     ensures reads { OnlyReads D.told (D.view disk.old) (D.view disk.new) }
     ensures calls { IfOk result (λ r. (D.view disk.new).calls ≡ min ((D.view disk.old).calls + (if is_some r then 2 else 1)) FULL) }
 {
@@ -78,6 +79,7 @@ pub fn find_gate<D: Disk>(
     ensures gate { IsTrue D.told → IfOk result (λ gate. (frames : List (List Record)) × Frames ((D.view disk.old).now area).seen 0 frames × (gate ≡ gate_after 0 frames)) }
     ensures within { IfOk result (λ gate. base + gate ≤ LOG_END) }
     ensures faults { IfErr result (λ e. WalkFails D.told area base (D.view disk.old) (D.view disk.new) e) }
+    ensures heeded { HeedsFaults result (D.view disk.old) (D.view disk.new) }
     ensures reads { OnlyReads D.told (D.view disk.old) (D.view disk.new) }
     ensures calls { (frames : List (List Record)) → IsTrue D.told → Frames ((D.view disk.old).now area).seen 0 frames →
         OnOk result ((D.view disk.new).calls ≡ min ((D.view disk.old).calls + 1 + 2 * length frames) FULL) }
@@ -98,6 +100,7 @@ pub fn body_size<D: Disk>(disk: &mut D, area: Area, at: u64) -> Result<u32, Fail
     ensures size { (rs : List Record) → IsTrue D.told → IsFormed ((D.view disk.old).now area).seen at rs → IfOk result (λ n. n ≡ length (spelled_all rs)) }
     ensures reads { OnlyReads D.told (D.view disk.old) (D.view disk.new) }
     ensures failed { OnErr result (HasRisen (D.view disk.old).faults (D.view disk.new).faults) }
+    ensures quiet { OnOk result ((D.view disk.new).faults ≡ (D.view disk.old).faults) }
     ensures calls { (D.view disk.new).calls ≤ (D.view disk.old).calls + 1 }
 {
     let mut length = [0; 4];
@@ -111,6 +114,7 @@ pub fn record_size<D: Disk>(disk: &mut D, area: Area, at: u64) -> Result<u32, Fa
     ensures size { (r : Record) → IsTrue D.told → IsRecord r → window ((D.view disk.old).now area).seen at (length (spelled r)) ≡ spelled r → IfOk result (λ n. n ≡ length (spelled r)) }
     ensures reads { OnlyReads D.told (D.view disk.old) (D.view disk.new) }
     ensures failed { OnErr result (HasRisen (D.view disk.old).faults (D.view disk.new).faults) }
+    ensures quiet { OnOk result ((D.view disk.new).faults ≡ (D.view disk.old).faults) }
     ensures calls { (D.view disk.new).calls ≤ (D.view disk.old).calls + 1 }
 {
     let mut header = [0; 21];
@@ -148,6 +152,7 @@ pub fn read_record<D: Disk>(
     ensures is_record { IfOk result (λ n. IfSome n (λ n. IsRecordText (take n into.new) n)) }
     ensures reads { OnlyReads D.told (D.view disk.old) (D.view disk.new) }
     ensures failed { OnErr result (HasRisen (D.view disk.old).faults (D.view disk.new).faults) }
+    ensures quiet { OnOk result ((D.view disk.new).faults ≡ (D.view disk.old).faults) }
     ensures calls { (D.view disk.new).calls ≤ (D.view disk.old).calls + 1 }
 {
     disk.read_at(area, at, &mut into[..count])?;

@@ -1,5 +1,5 @@
 // The trusted edge to the files of the system.
-ghost use Rattle.std.specs.Prelude.{MatchOption, None, ◌≡◌, ◌↔◌, IsErr, ◌≤◌, ◌+◌, ◌^◌, ◌-◌, length, min, false, [], OnErr};
+ghost use Rattle.std.specs.Prelude.{MatchOption, None, ◌≡◌, ◌↔◌, IsErr, ◌≤◌, ◌+◌, ◌^◌, ◌-◌, length, min, false, [], OnErr, OnOk};
 ghost use Rattle.sg_base.specs.Ends.{HasRisen};
 ghost use Rattle.sg_main.specs.Streams.{IsApart};
 
@@ -367,6 +367,7 @@ fn count(calls: &mut u64)
 fn note(answer: io::Result<()>, faults: &mut u64) -> Result<(), Failed>
     ensures told { IsErr result ↔ IsErr answer }
     ensures failed { OnErr result (HasRisen faults.old faults.new) }
+    ensures quiet { OnOk result (faults.new ≡ faults.old) }
     ensures later { faults.old ≤ faults.new }
 {
     match answer {

@@ -27,10 +27,10 @@ use Rattle.sg_top.specs.declared.status.Status.TheVariants as statuses
 use Rattle.sg_top.specs.Stands.{OthersAsIn, StandsFor, StandsForFirst}
 use Rattle.sg_top.specs.Store.{Core, Runs}
 use Rattle.sg_top.specs.Script.{acknowledged, HasRead, MayBeFull, TookAll, CutAtLast}
-use Rattle.sg_top.specs.Ending.{MOST_BYTES, AreAll, AreExecuted, AreOverBefore, TookBy, RunsTo}
-use Rattle.sg_top.specs.Opening.{Opens, StaysShut, SplitsAt, IsLeftAlone, IsRefusedFor, reads_of}
+use Rattle.sg_top.specs.Ending.{MOST_BYTES, AreAll, AreExecuted, AreOverBefore, HasCause, TookBy, RunsTo}
+use Rattle.sg_top.specs.Opening.{Opens, StaysShut, SplitsAt, IsLeftAlone, IsRefusedFor, IsQuietFor, reads_of}
 use Rattle.sg_top.specs.Statuses.{status_of, status_of_end, status_of_stop, status_of_refusal, first_fault}
-use Rattle.sg_top.specs.Top.{Outside, at_first, at_end, Course, HasCause, IsHeard, Output, Exit, IsDone, Ran, NeverRan, HasGone, IsLogSpent, Tells, IsUnhindered, Completes}
+use Rattle.sg_top.specs.Top.{Outside, at_first, at_end, Course, IsHeard, Output, Exit, IsDone, Ran, NeverRan, HasGone, IsLogSpent, Tells, IsUnhindered, Completes}
 use Rattle.sg_top.proofs.Acknowledged.{all_but_one, all_but_last, StopCause, stop_cause}
 use Rattle.sg_top.proofs.Opened.{at_log0, nothing_stands}
 use Rattle.sg_top.proofs.Serial.{after_commits}
@@ -65,12 +65,6 @@ ended_memory ends.Write None h = cc h
 ended_memory ends.TooLong None h = cc h
 ended_memory end (Some stops.Disk) h = cc h
 ended_memory end (Some stops.LogEnd) h = cc h
-
-pub has_cause : (end : code_end.RunEnd) (old new : Outside) → (end ≡ ends.Read → HasRisen old.source_faults new.source_faults) → (end ≡ ends.Write → HasRisen old.sink_faults new.sink_faults) → HasCause end old new
-has_cause ends.Done old new read write = tt
-has_cause ends.Read old new read write = read refl
-has_cause ends.Write old new read write = write refl
-has_cause ends.TooLong old new read write = tt
 
 -- where all commits were answered, an image stands for the objects after all of them
 all_stand : (was : disk.State) (x : State) (c : disk.Image) → x.answered ≡ length x.commits → StandsForFirst was x.answered x c → StandsFor c (committed_objects x)
@@ -111,13 +105,13 @@ opening_stands : (was : disk.State) (first : Objects) (y : State) (c : disk.Imag
 opening_stands was first y c same h = record { commits = 0; enough = omega arith; most = omega arith; stands = subst (StandsFor c) (sym same) h.0; others = h.1 }
 
 -- a run that began
-module _ (told : Bool) (old new : Outside) (refused : ℕ) (status : code_status.Status) (u : disk.View) (k m : Core) (end : code_end.RunEnd) (cause : HasCause end old new)
-    (quiet : end ≡ ends.Done → (new.source_faults ≡ old.source_faults) × (new.sink_faults ≡ old.sink_faults)) (status_is : status ≡ status_of end m.stopped) where
+module _ (told : Bool) (old new : Outside) (refused : ℕ) (status : code_status.Status) (u : disk.View) (k m : Core) (end : code_end.RunEnd) (cause : HasCause end old.source_faults new.source_faults old.sink_faults new.sink_faults)
+    (status_is : status ≡ status_of end m.stopped) where
   ran_here : (opens : Opens told (at_first old) u k) → RunsTo end told old.disk.now u k (start opens.first) old.left new.left old.taken new.taken (at_end new refused) m → Ran told old new refused status
   ran_here opens runs =
       let done = runs.executed in
       let after = done.after in
-      let risen : HasRisen u.faults (at_end new refused).faults → HasRisen (at_first old).faults (at_end new refused).faults = λ rose room. omega (arith, rose, room, opens.later) in
+      let risen : HasRisen u.faults (at_end new refused).faults → HasRisen (at_first old).faults (at_end new refused).faults = λ rose room. omega (arith, rose, room, opens.quiet) in
       let run : Course = record {
         objects = opens.first;
         gate = k.log.gate;
@@ -162,7 +156,6 @@ module _ (told : Bool) (old new : Outside) (refused : ℕ) (status : code_status
               answered = running.answered;
               reads = read_stands told old.disk.now (at_end new refused) m after running;
               images = λ is_told c leaves. all_stand old.disk.now after c running.answered (done.shows.images is_told c leaves);
-              quiet = quiet e.0;
             };
         status_is = status_is ∙ ap (status_of end) done.shows.stopped;
       }
@@ -175,13 +168,14 @@ module _ (told : Bool) (old new : Outside) (refused : ℕ) (status : code_status
   ran_of v w e f = along (λ a b. (opens : Opens told a u k) → RunsTo end told a.now u k (start opens.first) old.left new.left old.taken new.taken b m → Ran told old new refused status) v (at_first old) w (at_end new refused) (sym e) (sym f) ran_here
 
 -- a run that didn't begin
-pub never_of : (told : Bool) (old new : Outside) (refused : ℕ) (status : code_status.Status) (why : code_refused.OpenRefused) → new.left ≡ old.left → new.taken ≡ old.taken → status ≡ status_of_refusal why
+pub never_of : (told : Bool) (old new : Outside) (refused : ℕ) (status : code_status.Status) (why : code_refused.OpenRefused) → new.left ≡ old.left → new.taken ≡ old.taken → (new.source_faults ≡ old.source_faults) × (new.sink_faults ≡ old.sink_faults) → status ≡ status_of_refusal why
     → StaysShut told (at_first old) (at_end new refused) why → NeverRan told old new refused status
-never_of told old new refused status why unread unwritten is shut = record {
+never_of told old new refused status why unread unwritten quiet is shut = record {
   why = why;
   reason = shut.reason;
   unread = unread;
   unwritten = unwritten;
+  quiet = quiet;
   unhanded = shut.handed;
   moments = shut.alone;
   status_is = is;
@@ -194,6 +188,7 @@ never_began told old = record {
   reason = tt;
   unread = refl;
   unwritten = refl;
+  quiet = (refl, refl);
   unhanded = refl;
   moments = λ is_told. record {
     moments = moments.started (at_first old) (disk.Leaves old.disk.now) (λ c leaves. leaves);
@@ -226,17 +221,16 @@ tells_ran told old new refused status h =
     let o = h.output in
     let stopped = stop_cause (HasRisen (at_first old).faults (at_end new refused).faults) (MayBeFull run.gate (at_first old) (at_end new refused)) run.lines run.answers (start run.objects) run.after o.goes o.caused tt in
     subst (λ (s : code_status.Status). Tells s told old new refused) (sym h.status_is)
-    (by_end run.end run.after.stopped o.ended o.executed (λ is. (h.done (h.status_is ∙ is)).quiet) stopped)
+    (by_end run.end run.after.stopped o.ended o.executed stopped)
   where
-    by_end : (end : code_end.RunEnd) (stop : Option Stop) → HasCause end old new → AreExecuted end old.left h.run.text h.run.lines
-        → (status_of end stop ≡ statuses.Done → (new.source_faults ≡ old.source_faults) × (new.sink_faults ≡ old.sink_faults))
+    by_end : (end : code_end.RunEnd) (stop : Option Stop) → HasCause end old.source_faults new.source_faults old.sink_faults new.sink_faults → AreExecuted end old.left h.run.text h.run.lines
         → StopCause (HasRisen (at_first old).faults (at_end new refused).faults) (MayBeFull h.run.gate (at_first old) (at_end new refused)) stop → Tells (status_of end stop) told old new refused
-    by_end ends.Done None cause lines quiet stopped = quiet refl
-    by_end ends.Read None cause lines quiet stopped = cause
-    by_end ends.Write None cause lines quiet stopped = cause
-    by_end ends.TooLong None cause lines quiet stopped = long_text old.left new.left h.run.text MOST_BYTES h.output.read lines.long
-    by_end end (Some stops.Disk) cause lines quiet stopped = risen_or_refused old.disk.faults new.disk.faults refused stopped
-    by_end end (Some stops.LogEnd) cause lines quiet stopped = λ is_told name ds gate has. subst (λ (n : ℕ). MayBeFull n old.disk new.disk (Txn name Commit)) (h.output.gate is_told ds gate has) stopped.1
+    by_end ends.Done None cause lines stopped = cause
+    by_end ends.Read None cause lines stopped = cause.0
+    by_end ends.Write None cause lines stopped = cause.1
+    by_end ends.TooLong None cause lines stopped = long_text old.left new.left h.run.text MOST_BYTES h.output.read lines.long
+    by_end end (Some stops.Disk) cause lines stopped = risen_or_refused old.disk.faults new.disk.faults refused stopped
+    by_end end (Some stops.LogEnd) cause lines stopped = λ is_told name ds gate has. subst (λ (n : ℕ). MayBeFull n old.disk new.disk (Txn name Commit)) (h.output.gate is_told ds gate has) stopped.1
 
 -- what each status tells follows from how the run went
 pub tells_of : (told : Bool) (old new : Outside) (refused : ℕ) (status : code_status.Status) → HasGone told old new refused status → Tells status told old new refused
@@ -262,3 +256,19 @@ completes_of told old new refused status gone u = by_status status gone (tells_o
     by_status statuses.TooLong h t = let long = subst (λ (o : Option (List ℕ)). IfSome o (λ text. MOST_BYTES < length text)) u.script t in omega (arith, long, u.short)
     by_status (statuses.Damaged area at) h t = (t.1 u.is_told).1 u.objects u.stands
     by_status statuses.LogEnd h t = t
+
+-- where the count behind a fuse didn't rise, neither did that of the disk inside, and no call was refused
+unspent : (before now r : ℕ) → now + r ≡ before + 0 → before ≤ now → (now ≡ before) × (r ≡ 0)
+unspent before now r same le = (omega arith, omega arith)
+
+-- a run that didn't begin, and not for a fault of the disk
+pub heeded_never : (v w : disk.View) (refused : ℕ) (why : code_refused.OpenRefused) (status : code_status.Status) → status ≡ status_of_refusal why → IsQuietFor why (disk.refusing v 0) (disk.refusing w refused) → v.faults ≤ w.faults
+    → (status ≡ statuses.Disk → ⊥) → (w.faults ≡ v.faults) × (refused ≡ 0)
+heeded_never v w refused refusals.DiskFault status is quiet le none = absurd (none is)
+heeded_never v w refused refusals.Memory status is quiet le none = unspent v.faults w.faults refused quiet le
+heeded_never v w refused (refusals.Damaged area at) status is quiet le none = unspent v.faults w.faults refused quiet le
+
+-- a run that began, and that the disk didn't stop
+pub heeded_ran : (v w : disk.View) (refused : ℕ) (end : code_end.RunEnd) (stop : Option Stop) (status : code_status.Status) → status ≡ status_of end stop → ((stop ≡ Some stops.Disk → ⊥) → w.faults + refused ≡ v.faults + 0) → v.faults ≤ w.faults
+    → (status ≡ statuses.Disk → ⊥) → (w.faults ≡ v.faults) × (refused ≡ 0)
+heeded_ran v w refused end stop status is quiet le none = unspent v.faults w.faults refused (quiet (λ e. none (is ∙ ap (status_of end) e))) le

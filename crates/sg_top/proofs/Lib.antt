@@ -5,6 +5,7 @@ pub mod Steps
 pub mod Changes
 pub mod Endings
 pub mod Executing
+pub mod Heeding
 pub mod Fronts
 pub mod Feeds
 pub mod Scripts

@@ -20,7 +20,8 @@ use Rattle.sg_base.specs.Ends.{HasRisen}
 use Rattle.sg_top.specs.Stands.{OthersAsIn, StandsFor}
 use Rattle.sg_top.specs.Damage.{StandsForNothing}
 use Rattle.sg_top.specs.Found.{IsReadBack}
-use Rattle.sg_top.specs.Opening.{Opens, StaysShut, IsRefusedFor, reads_of}
+use Rattle.sg_top.specs.Opening.{Opens, StaysShut, IsRefusedFor, IsQuietFor, reads_of}
+use Rattle.sg_top.proofs.Heeding.{quiet_later}
 use Rattle.sg_top.proofs.Nothing.{stands_one, stands_not}
 use Rattle.sg_top.proofs.Standing.{stands}
 use Rattle.sg_top.proofs.Steps.{running_shows}
@@ -64,9 +65,9 @@ pub at_log0 : (v : disk.View) (log : Tail) (ds : List Numbered) → log.area ≡
 at_log0 v log ds area base h = subst (λ (b : ℕ). HasRecords (v.now Log0).seen b log.gate ds) base (subst (λ (a : Area). HasRecords (v.now a).seen log.base log.gate ds) area h)
 
 -- a store that has read its log back shows its objects
-pub opened : {T E : Type 0} (told : Bool) (v v1 w : disk.View) (log : Tail) (objects : Objects) (u : T) → (IsTrue told → disk.Synced {E = E} Log0 v v1 (Ok u)) → v1.handed ≡ v.handed → v.faults ≤ v1.faults → v1.calls ≤ v.calls + 1
-    → log ≡ record { area = Log0; base = 0; gate = log.gate; buffer = [] } → (IsTrue told → (v1.now Log0).pending ≡ [] → IsReadBack w log objects) → OnlyReads told v1 w → Opens told v w (record { objects = objects; live = None; last = 0; stopped = None; log = log })
-opened told v v1 w log objects u synced handed1 later1 one_call is_log found reads =
+pub opened : {T E : Type 0} (told : Bool) (v v1 w : disk.View) (log : Tail) (objects : Objects) (u : T) → (IsTrue told → disk.Synced {E = E} Log0 v v1 (Ok u)) → v1.handed ≡ v.handed → v1.faults ≡ v.faults → v1.calls ≤ v.calls + 1
+    → log ≡ record { area = Log0; base = 0; gate = log.gate; buffer = [] } → (IsTrue told → (v1.now Log0).pending ≡ [] → IsReadBack w log objects) → OnlyReads told v1 w → w.faults ≡ v1.faults → Opens told v w (record { objects = objects; live = None; last = 0; stopped = None; log = log })
+opened told v v1 w log objects u synced handed1 quiet1 one_call is_log found reads quiet =
     let area : log.area ≡ Log0 = ap (λ (z : Tail). z.area) is_log in
     let base : log.base ≡ 0 = ap (λ (z : Tail). z.base) is_log in
     let empty_buffer : log.buffer ≡ [] = ap (λ (z : Tail). z.buffer) is_log in
@@ -112,7 +113,7 @@ opened told v v1 w log objects u synced handed1 later1 one_call is_log found rea
         behind = moments.weaker (reads.any_moment is_told) (λ c leaves. (synced_stands v v1 u (synced is_told) c leaves objects (stand is_told), synced_others v v1 u (synced is_told) c leaves));
       };
       handed = reads.handed ∙ handed1;
-      later = omega (arith, later1, reads.later);
+      quiet = quiet ∙ quiet1;
     }
 
 -- after a sync of the area it stays so
@@ -126,10 +127,10 @@ pub nothing_stands : (told : Bool) (v w : disk.View) (why : code_refused.OpenRef
 nothing_stands told v w why h area at is is_told s stand = stands_not (reads_of v) s at stand ((subst (λ (r : code_refused.OpenRefused). IsRefusedFor r told v w) is h).1 is_told)
 
 -- where the log can't be opened the store stays shut
-pub shut : {T E : Type 0} (told : Bool) (v v1 w : disk.View) (why : code_refused.OpenRefused) (u : T) → (IsTrue told → disk.Synced {E = E} Log0 v v1 (Ok u)) → v1.handed ≡ v.handed → v.faults ≤ v1.faults → v1.calls ≤ v.calls + 1
-    → IsRefusedFor why told v1 w → OnlyReads told v1 w → StaysShut told v w why
-shut told v v1 w why u synced handed1 later1 one_call h reads =
-    let reason = after_sync told v v1 w why later1 (λ is_told. synced_seen v v1 u (synced is_told)) h in
+pub shut : {T E : Type 0} (told : Bool) (v v1 w : disk.View) (why : code_refused.OpenRefused) (u : T) → (IsTrue told → disk.Synced {E = E} Log0 v v1 (Ok u)) → v1.handed ≡ v.handed → v1.faults ≡ v.faults → v1.calls ≤ v.calls + 1
+    → IsRefusedFor why told v1 w → OnlyReads told v1 w → IsQuietFor why v1 w → StaysShut told v w why
+shut told v v1 w why u synced handed1 quiet1 one_call h reads quiet =
+    let reason = after_sync told v v1 w why (omega (arith, quiet1)) (λ is_told. synced_seen v v1 u (synced is_told)) h in
     record {
       reason = reason;
       nothing = nothing_stands told v w why reason;
@@ -145,7 +146,8 @@ shut told v v1 w why u synced handed1 later1 one_call h reads =
         );
       };
       handed = reads.handed ∙ handed1;
-      later = omega (arith, later1, reads.later);
+      later = omega (arith, quiet1, reads.later);
+      quiet = quiet_later why v v1 w quiet1 quiet;
     }
 
 -- and where the sync fails
@@ -159,4 +161,5 @@ shut_unsynced told v w e failed risen handed later one_call = record {
   };
   handed = handed;
   later = later;
+  quiet = tt;
 }

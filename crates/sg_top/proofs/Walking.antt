@@ -45,12 +45,14 @@ pub record IsWalkedTo (f : disk.Bytes) (frames : List (List Record)) (found : co
 pub record IsWalking (told : Bool) (v u : disk.View) (log : Tail) (found : code_found.Found) (at : ℕ) : Type 0 where
   pub within : at ≤ LOG_END
   pub reads : OnlyReads told v u
+  pub quiet : u.faults ≡ v.faults
   pub walked : IsTrue told → (frames : List (List Record)) → EndsAt v log frames → IsWalkedTo (v.now log.area).seen frames found at
 
 pub walking_none : (told : Bool) (v : disk.View) (log : Tail) (found : code_found.Found) → ((t : ℕ) → lines_found found t ≡ []) → found.commits.items ≡ [] → KnowsLasts found [] → IsWalking told v v log found 0
 walking_none told v log found lines commits lasts = record {
   within = omega arith;
   reads = reads_none v;
+  quiet = refl;
   walked = λ is_told frames ends. record {
     front = [];
     back = frames;
@@ -108,12 +110,13 @@ module _ (told : Bool) (v u : disk.View) (log : Tail) (now : code_found.Found) (
   seen_here is_told = ap (λ (s : disk.State). (s log.area).seen) (walking.reads.unchanged is_told)
 
   -- a frame more
-  pub walking_more : (w : disk.View) (new : code_found.Found) (n : ℕ) (bytes : List ℕ) → OnlyReads told u w → at + 5 + n ≤ LOG_END → ReadsFrame told u log to n bytes
+  pub walking_more : (w : disk.View) (new : code_found.Found) (n : ℕ) (bytes : List ℕ) → OnlyReads told u w → w.faults ≡ u.faults → at + 5 + n ≤ LOG_END → ReadsFrame told u log to n bytes
       → ((rs : List Record) → AreRecords rs → bytes ≡ spelled_all rs → Finds now new (numbered_from (at + 5) rs)) → ((rs : List Record) → AreRecords rs → bytes ≡ spelled_all rs → AreChainedHere now (numbered_from (at + 5) rs))
       → IsWalking told v w log new (at + (5 + n))
-  walking_more w new n bytes reads within read finds chained = record {
+  walking_more w new n bytes reads quiet within read finds chained = record {
     within = omega arith;
     reads = reads_more walking.reads reads;
+    quiet = quiet ∙ walking.quiet;
     walked = λ is_told frames ends.
         let h = walking.walked is_told frames ends in
         let r = read is_told in

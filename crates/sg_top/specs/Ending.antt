@@ -1,5 +1,6 @@
 -- How the run of a script ends.
 use Rattle.std.specs.Prelude.{◌≡◌, ◌<◌, ◌≤◌, ℕ, Bool, List, ◌++◌, length, Option, IfSome}
+use Rattle.sg_base.specs.Ends.{HasRisen}
 use Rattle.sg_disk.specs.Disk as disk
 use Rattle.sg_model.specs.History.{State}
 use Rattle.sg_words.specs.Parse.{lines_of}
@@ -59,6 +60,14 @@ TookBy ends.Done first now answers = TookAll first now answers
 TookBy ends.Read first now answers = TookAll first now answers
 TookBy ends.TooLong first now answers = TookAll first now answers
 TookBy ends.Write first now answers = CutAtLast first now answers
+
+-- A script is left, or replies are, only where the source or the sink failed, which the counts of faults before and now
+-- show. Each other count is as it was
+abbrev pub HasCause : code_end.RunEnd → (source_before source_now sink_before sink_now : ℕ) → Type 0
+HasCause ends.Done source_before source_now sink_before sink_now = (source_now ≡ source_before) × (sink_now ≡ sink_before)
+HasCause ends.Read source_before source_now sink_before sink_now = HasRisen source_before source_now × (sink_now ≡ sink_before)
+HasCause ends.Write source_before source_now sink_before sink_now = (source_now ≡ source_before) × HasRisen sink_before sink_now
+HasCause ends.TooLong source_before source_now sink_before sink_now = (source_now ≡ source_before) × (sink_now ≡ sink_before)
 
 -- how a run that ended so went
 pub record RunsTo (end : code_end.RunEnd) (told : Bool) (was : disk.State) (v : disk.View) (k : Core) (x : State) (source left first now : Option (List ℕ)) (w : disk.View) (m : Core) : Type 0 where

@@ -48,13 +48,19 @@ pub record Opens (told : Bool) (v w : disk.View) (k : Core) : Type 0 where
   pub synced : disk.View
   pub moments : IsTrue told → SplitsAt synced v w (λ c. StandsFor c first × OthersAsIn v.now c)
   pub handed : w.handed ≡ v.handed
-  pub later : v.faults ≤ w.faults
+  pub quiet : w.faults ≡ v.faults
 
 -- why a store doesn't open. The bytes that begin at the offset of a damage show that the log stands for nothing
 abbrev pub IsRefusedFor : code_refused.OpenRefused → Bool → disk.View → disk.View → Type 0
 IsRefusedFor refusals.DiskFault told v w = HasRisen v.faults w.faults
 IsRefusedFor refusals.Memory told v w = Unit {0}
 IsRefusedFor (refusals.Damaged area at) told v w = (area ≡ Log0) × (IsTrue told → StandsForNothing (v.now Log0).seen at)
+
+-- a fault of the disk is why, or its count of faults is as it was
+abbrev pub IsQuietFor : code_refused.OpenRefused → disk.View → disk.View → Type 0
+IsQuietFor refusals.DiskFault v w = Unit {0}
+IsQuietFor refusals.Memory v w = w.faults ≡ v.faults
+IsQuietFor (refusals.Damaged area at) v w = w.faults ≡ v.faults
 
 -- A store hasn't opened, and nothing was written. It is damaged only where the image read stands for no objects
 pub record StaysShut (told : Bool) (v w : disk.View) (why : code_refused.OpenRefused) : Type 0 where
@@ -63,3 +69,4 @@ pub record StaysShut (told : Bool) (v w : disk.View) (why : code_refused.OpenRef
   pub alone : IsTrue told → IsLeftAlone v w
   pub handed : w.handed ≡ v.handed
   pub later : v.faults ≤ w.faults
+  pub quiet : IsQuietFor why v w

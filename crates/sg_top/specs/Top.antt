@@ -22,7 +22,7 @@ use Rattle.sg_top.specs.declared.words.Command.{Command}
 use Rattle.sg_top.specs.Damage.{StandsForNothing}
 use Rattle.sg_top.specs.Stands.{StandsFor, StandsForFirst}
 use Rattle.sg_top.specs.Script.{acknowledged, HasRead, MayBeFull, TookAll, CutAtLast}
-use Rattle.sg_top.specs.Ending.{MOST_BYTES, AreAll, AreExecuted}
+use Rattle.sg_top.specs.Ending.{MOST_BYTES, AreAll, AreExecuted, HasCause}
 use Rattle.sg_top.specs.Opening.{SplitsAt, IsLeftAlone, IsRefusedFor, reads_of}
 use Rattle.sg_top.specs.Statuses.{status_of, status_of_refusal}
 
@@ -92,13 +92,6 @@ pub record Course : Type 0 where
   -- the run after them
   pub after : State
 
--- a script is left, or replies are, only where the source or the sink failed
-abbrev pub HasCause : code_end.RunEnd → Outside → Outside → Type 0
-HasCause ends.Done old new = Unit {0}
-HasCause ends.Read old new = HasRisen old.source_faults new.source_faults
-HasCause ends.Write old new = HasRisen old.sink_faults new.sink_faults
-HasCause ends.TooLong old new = Unit {0}
-
 -- what the sink took whole: all replies, but for the last one where it failed there
 abbrev pub IsHeard : (end : code_end.RunEnd) → (first now : Option (List ℕ)) → (answers heard : List Answer) → Type 0
 IsHeard ends.Done first now answers heard = (heard ≡ answers) × TookAll first now answers
@@ -114,7 +107,7 @@ pub record Output (told : Bool) (old new : Outside) (refused : ℕ) (run : Cours
   pub only : IsTrue told → (s : Objects) → StandsFor (reads_of old.disk) s → s ≡ run.objects
   pub read : HasRead old.left run.text new.left
   pub executed : AreExecuted run.end old.left run.text run.lines
-  pub ended : HasCause run.end old new
+  pub ended : HasCause run.end old.source_faults new.source_faults old.sink_faults new.sink_faults
   pub goes : Lines (start run.objects) run.lines run.answers run.after
   pub took : IsHeard run.end old.taken new.taken run.answers run.heard
   pub gate : IsTrue told → (ds : List Numbered) (gate : ℕ) → HasRecords (reads_of old.disk Log0) 0 gate ds → run.gate ≡ gate
@@ -135,7 +128,6 @@ pub record IsDone (told : Bool) (old new : Outside) (run : Course) : Type 0 wher
   pub answered : run.after.answered ≡ length run.after.commits
   pub reads : IsTrue told → StandsFor (reads_of new.disk) (committed_objects run.after)
   pub images : IsTrue told → (c : disk.Image) → disk.Leaves new.disk.now c → StandsFor c (committed_objects run.after)
-  pub quiet : (new.source_faults ≡ old.source_faults) × (new.sink_faults ≡ old.sink_faults)
 
 -- A run that began. All of this is said of one course: what was answered, what a crash leaves at the return, what one
 -- leaves at each moment, and what status Done tells
@@ -147,12 +139,13 @@ pub record Ran (told : Bool) (old new : Outside) (refused : ℕ) (status : code_
   pub done : status ≡ statuses.Done → IsDone told old new run
   pub status_is : status ≡ status_of run.end run.after.stopped
 
--- A run that didn't begin: nothing was read, answered or handed to the disk
+-- A run that didn't begin: nothing was read, answered or handed to the disk, and neither source nor sink failed
 pub record NeverRan (told : Bool) (old new : Outside) (refused : ℕ) (status : code_status.Status) : Type 0 where
   pub why : code_refused.OpenRefused
   pub reason : IsRefusedFor why told (at_first old) (at_end new refused)
   pub unread : new.left ≡ old.left
   pub unwritten : new.taken ≡ old.taken
+  pub quiet : (new.source_faults ≡ old.source_faults) × (new.sink_faults ≡ old.sink_faults)
   pub unhanded : new.disk.handed ≡ old.disk.handed
   pub moments : IsTrue told → IsLeftAlone (at_first old) (at_end new refused)
   pub status_is : status ≡ status_of_refusal why

@@ -2,6 +2,7 @@ ghost use Rattle.std.specs.Prelude.{◌≡◌, ◌||◌, OnOk, OnErr, is_none};
 ghost use Rattle.sg_base.specs.Ends.{HasRisen};
 ghost use Rattle.sg_top.specs.Sessions.{session_core, session_disk, session_unheard};
 ghost use Rattle.sg_top.specs.Feeding.{Feeds, Breaks};
+ghost use Rattle.sg_top.specs.Goes.{Heeds};
 
 use crate::buffer::LineBuffer;
 use crate::session::Session;
@@ -22,6 +23,7 @@ pub fn feed<D: Disk, K: Sink>(
         (K.taken out.old) (K.taken out.new) pending.old piece.now pending.new) }
     ensures broken { OnErr result (Breaks D.told (D.view (session_disk session.old)) (session_core session.old) (D.view (session_disk session.new)) (session_core session.new)
         (K.taken out.old) (K.taken out.new) pending.old piece.now) }
+    ensures heeded { Heeds (session_core session.old).stopped (session_core session.new).stopped (D.view (session_disk session.old)) (D.view (session_disk session.new)) }
     ensures quiet { OnOk result (K.faults out.new ≡ K.faults out.old) }
     ensures failed { OnErr result (HasRisen (K.faults out.old) (K.faults out.new)) }
     ensures heard { OnOk result (session_unheard session.new ≡ session_unheard session.old) }

@@ -1,5 +1,5 @@
 // How the log of a store is read back when it opens.
-ghost use Rattle.std.specs.Prelude.{◌≡◌, ◌⊎◌, ◌≤◌, ◌<◌, ◌+◌, ◌^◌, ℕ, List, [], map, length, IsTrue, IfOk, IfErr, OnOk, Some};
+ghost use Rattle.std.specs.Prelude.{◌≡◌, ◌⊎◌, ◌≤◌, ◌<◌, ◌+◌, ◌^◌, ℕ, List, [], map, length, IsTrue, IfOk, IfErr, OnOk, MatchResult, Some};
 ghost use Rattle.std.specs.List.{flat_map};
 ghost use Rattle.std.specs.FinMap.{empty};
 ghost use Rattle.sg_base.specs.declared.area.Area.TheVariants.{Log0};
@@ -12,7 +12,7 @@ ghost use Rattle.sg_log.specs.Reads.{OnlyReads};
 ghost use Rattle.sg_top.specs.Stands.{after_line, committed_lines, replay};
 ghost use Rattle.sg_top.specs.Damage.{LineAt, words_of_all};
 ghost use Rattle.sg_top.specs.Found.{line_of, lines_found, Finds, KnowsLasts, AreFound, EndsAt, IsReadBack, IsRefusedIn, IsNotFound, IsLineRefused, IsRefusedBy};
-ghost use Rattle.sg_top.specs.Opening.{IsRefusedFor};
+ghost use Rattle.sg_top.specs.Opening.{IsRefusedFor, IsQuietFor};
 ghost use Rattle.sg_top.specs.Shown.{refusal_at};
 
 use crate::found::Found;
@@ -89,6 +89,7 @@ fn find_all<D: Disk>(
     requires base { log.now.base ≡ 0 }
     ensures found { (frames : List (List Record)) → IsTrue D.told → EndsAt (D.view disk.old) log.now frames → IfOk result (λ found. AreFound found frames) }
     ensures refused { IfErr result (λ why. IsNotFound why D.told (D.view disk.old) (D.view disk.new) log.now) }
+    ensures quiet { MatchResult result (λ found. (D.view disk.new).faults ≡ (D.view disk.old).faults) (λ why. IsQuietFor why (D.view disk.old) (D.view disk.new)) }
     ensures reads { OnlyReads D.told (D.view disk.old) (D.view disk.new) }
 {
     let mut found = Found::new(alloc);
@@ -181,6 +182,7 @@ pub fn read_back<D: Disk>(alloc: Global, disk: &mut D) -> Result<(Log, Objects),
     ensures log { IfOk result (λ p. p.0 ≡ record { area = Log0; base = 0; gate = p.0.gate; buffer = [] }) }
     ensures found { IsTrue D.told → ((D.view disk.old).now Log0).pending ≡ [] → IfOk result (λ p. IsReadBack (D.view disk.new) p.0 p.1) }
     ensures refused { (IsTrue D.told → ((D.view disk.old).now Log0).pending ≡ []) → IfErr result (λ why. IsRefusedFor why D.told (D.view disk.old) (D.view disk.new)) }
+    ensures quiet { MatchResult result (λ p. (D.view disk.new).faults ≡ (D.view disk.old).faults) (λ why. IsQuietFor why (D.view disk.old) (D.view disk.new)) }
     ensures reads { OnlyReads D.told (D.view disk.old) (D.view disk.new) }
 {
     let (Ok(body), Ok(scratch), Ok(into)) = (

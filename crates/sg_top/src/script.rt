@@ -1,9 +1,9 @@
 ghost use Rattle.std.specs.Prelude.{◌≡◌, ◌≤◌, ◌<◌, ◌||◌, length, is_none};
-ghost use Rattle.sg_base.specs.Ends.{HasRisen};
 ghost use Rattle.sg_disk.specs.Disk.{State as DiskState};
 ghost use Rattle.sg_model.specs.History.{State};
 ghost use Rattle.sg_top.specs.Store.{Shows};
-ghost use Rattle.sg_top.specs.Ending.{RunsTo, MOST_OF_PIECE};
+ghost use Rattle.sg_top.specs.Ending.{RunsTo, HasCause, MOST_OF_PIECE};
+ghost use Rattle.sg_top.specs.Goes.{Heeds};
 ghost use Rattle.sg_top.specs.Sessions.{session_core, session_disk, session_unheard};
 
 use crate::buffer::LineBuffer;
@@ -42,9 +42,8 @@ pub fn run_script<D: Disk, S: Source, K: Sink>(
     ensures ran { (was : DiskState) (x : State) → Shows D.told was (D.view (session_disk session.old)) (session_core session.old) x
         → RunsTo result D.told was (D.view (session_disk session.old)) (session_core session.old) x (S.left script.old) (S.left script.new) (K.taken out.old) (K.taken out.new)
         (D.view (session_disk session.new)) (session_core session.new) }
-    ensures read { result ≡ RunEnd.Read → HasRisen (S.faults script.old) (S.faults script.new) }
-    ensures write { result ≡ RunEnd.Write → HasRisen (K.faults out.old) (K.faults out.new) }
-    ensures quiet { result ≡ RunEnd.Done → (S.faults script.new ≡ S.faults script.old) × (K.faults out.new ≡ K.faults out.old) }
+    ensures cause { HasCause result (S.faults script.old) (S.faults script.new) (K.faults out.old) (K.faults out.new) }
+    ensures heeded { Heeds (session_core session.old).stopped (session_core session.new).stopped (D.view (session_disk session.old)) (D.view (session_disk session.new)) }
     ensures heard { (result ≡ RunEnd.Write → ⊥) → session_unheard session.new ≡ session_unheard session.old }
     ensures unheard { result ≡ RunEnd.Write → session_unheard session.new ≡ (is_none (session_core session.new).stopped || session_unheard session.old) }
 {

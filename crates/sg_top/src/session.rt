@@ -29,7 +29,7 @@ pub struct Session<D: Disk> {
 
 impl<D: Disk> Session<D> {
     ghost use Rattle.sg_top.specs.Store.{Shows};
-    ghost use Rattle.sg_top.specs.Goes.{Goes, Grows};
+    ghost use Rattle.sg_top.specs.Goes.{Goes, Grows, Heeds};
     ghost use Rattle.sg_top.specs.OneLine.{OneLine};
     ghost use Rattle.sg_top.specs.Opening.{Opens, StaysShut};
     ghost use Rattle.sg_top.specs.Sessions.{session_core, session_disk, session_unheard, session_status};
@@ -108,6 +108,8 @@ impl<D: Disk> Session<D> {
         ensures stopped { IsSome (session_core self.old).stopped → (session_disk self.new ≡ session_disk self.old) × ((session_core self.new).stopped ≡ (session_core self.old).stopped) }
         ensures grown { Grows (session_core self.old).log (session_core self.new).log (D.view (session_disk self.old)) (D.view (session_disk self.new)) }
         ensures disk { (D.view (session_disk self.old)).faults ≤ (D.view (session_disk self.new)).faults }
+        // Where the disk fails, the store stops.
+        ensures heeded { Heeds (session_core self.old).stopped (session_core self.new).stopped (D.view (session_disk self.old)) (D.view (session_disk self.new)) }
         ensures quiet { OnOk result (K.faults out.new ≡ K.faults out.old) }
         ensures failed { OnErr result (HasRisen (K.faults out.old) (K.faults out.new)) }
         // The session's status is that of its first fault: in a line the store stops before the sink fails.

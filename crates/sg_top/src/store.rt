@@ -15,11 +15,11 @@ ghost use Rattle.sg_words.specs.Spoken.{spoken};
 ghost use Rattle.sg_disk.specs.Disk.{LeavesOnly, State as DiskState};
 ghost use Rattle.sg_record.specs.Plain.{IsRecord};
 ghost use Rattle.sg_record.specs.Plain.Record.{Line as LineRecord};
-ghost use Rattle.sg_log.specs.Faults.{AppendFails};
+ghost use Rattle.sg_log.specs.Faults.{AppendFails, HeedsFaults};
 ghost use Rattle.sg_log.specs.Frames.{Numbered, SameElsewhere};
 ghost use Rattle.sg_log.specs.Held.{Holds, tail_of, place_of, end_of, appended, durable_after, waiting_after, IsBeforeOrAfter};
 ghost use Rattle.sg_top.specs.Store.{Shows};
-ghost use Rattle.sg_top.specs.Goes.{Goes, Grows, NEW_WORK_END};
+ghost use Rattle.sg_top.specs.Goes.{Goes, Grows, Heeds, NEW_WORK_END};
 ghost use Rattle.sg_top.specs.Shown.{shown_answer, live_of, core_of, answer_at, stop_at, IsFullAnswer, refusal_at};
 ghost use Rattle.sg_top.specs.Opening.{Opens, StaysShut, IsRefusedFor};
 ghost use Rattle.sg_base.specs.declared.area.Area.TheVariants.{Log0};
@@ -152,6 +152,7 @@ impl<D: Disk> Store<D> {
             → Goes D.told was (D.view self.old.disk) (core_of self.old) x (Txn name Begin) (shown_answer into result) (D.view self.new.disk) (core_of self.new) }
         ensures grown { Grows self.old.log self.new.log (D.view self.old.disk) (D.view self.new.disk) }
         ensures later { (D.view self.old.disk).faults ≤ (D.view self.new.disk).faults }
+        ensures heeded { Heeds self.old.stop self.new.stop (D.view self.old.disk) (D.view self.new.disk) }
     {
         if let Some(live) = self.live {
             return if is_named(&live, name) {
@@ -206,6 +207,7 @@ impl<D: Disk> Store<D> {
             → Goes D.told was (D.view self.old.disk) (core_of self.old) x (Txn name Commit) (shown_answer into result) (D.view self.new.disk) (core_of self.new) }
         ensures grown { Grows self.old.log self.new.log (D.view self.old.disk) (D.view self.new.disk) }
         ensures later { (D.view self.old.disk).faults ≤ (D.view self.new.disk).faults }
+        ensures heeded { Heeds self.old.stop self.new.stop (D.view self.old.disk) (D.view self.new.disk) }
     {
         let Some(live) = self.named(name) else {
             return Answer::NoTransaction;
@@ -246,6 +248,7 @@ impl<D: Disk> Store<D> {
         ensures elsewhere { IsTrue D.told → OnOk result (SameElsewhere self.old.log.area (D.view self.old.disk).now (D.view self.new.disk).now) }
         ensures grown { Grows self.old.log self.new.log (D.view self.old.disk) (D.view self.new.disk) }
         ensures later { (D.view self.old.disk).faults ≤ (D.view self.new.disk).faults }
+        ensures heeded { HeedsFaults result (D.view self.old.disk) (D.view self.new.disk) }
     {
         let size = join_words(text, kept);
         let record = Rec::Line {
@@ -301,6 +304,7 @@ impl<D: Disk> Store<D> {
             → Goes D.told was (D.view self.old.disk) (core_of self.old) x (Txn name (Do (shown_op op.now))) (shown_answer into.new result) (D.view self.new.disk) (core_of self.new) }
         ensures grown { Grows self.old.log self.new.log (D.view self.old.disk) (D.view self.new.disk) }
         ensures later { (D.view self.old.disk).faults ≤ (D.view self.new.disk).faults }
+        ensures heeded { Heeds self.old.stop self.new.stop (D.view self.old.disk) (D.view self.new.disk) }
     {
         let Some(live) = self.named(name) else {
             return Answer::NoTransaction;
@@ -343,6 +347,7 @@ impl<D: Disk> Store<D> {
             → Goes D.told was (D.view self.old.disk) (core_of self.old) x (order_of text.now) (shown_answer into.new result) (D.view self.new.disk) (core_of self.new) }
         ensures grown { Grows self.old.log self.new.log (D.view self.old.disk) (D.view self.new.disk) }
         ensures later { (D.view self.old.disk).faults ≤ (D.view self.new.disk).faults }
+        ensures heeded { Heeds self.old.stop self.new.stop (D.view self.old.disk) (D.view self.new.disk) }
     {
         match line {
             Line::Blank => Answer::Silent,

@@ -26,6 +26,7 @@ fn finished<D: Disk, O: Origin>(status: Status, fuse: Fuse<D, O>) -> Finish<D>
     ensures status { result.status ≡ status }
     ensures view { ⟦<Fuse<D, O> as Disk>⟧.view fuse ≡ refusing (D.view result.disk) result.refused }
     ensures spent { IsTrue O.known → Spent O.passes O.calls (D.view result.disk).calls result.refused }
+    ensures later { IsTrue O.known → O.faults ≤ (D.view result.disk).faults }
 {
     let refused = fuse.refused();
     Finish {
@@ -46,8 +47,10 @@ fn run_behind_fuse<D: Disk, S: Source, K: Sink, O: Origin>(
     requires known { IsTrue O.known }
     requires passes { O.passes ≡ calls }
     requires began { O.calls ≡ (D.view disk).calls }
+    requires faults { O.faults ≡ (D.view disk).faults }
     ensures run { HasGone D.told (outside (D.view disk) (S.left script.old) (S.faults script.old) (K.taken out.old) (K.faults out.old))
         (outside (D.view result.disk) (S.left script.new) (S.faults script.new) (K.taken out.new) (K.faults out.new)) result.refused result.status }
+    ensures heeded { (result.status ≡ Status.Disk → ⊥) → ((D.view result.disk).faults ≡ (D.view disk).faults) × (result.refused ≡ 0) }
     ensures spent { Spent calls (D.view disk).calls (D.view result.disk).calls result.refused }
 {
     let Ok(piece) = vec![in alloc; 0; 65536] else {
@@ -91,9 +94,11 @@ pub fn stasis<D: Disk, S: Source, K: Sink>(
     ensures run { are_run words.now ≡ true → HasGone D.told (outside (D.view disk) (S.left script.old) (S.faults script.old) (K.taken out.old) (K.faults out.old))
         (outside (D.view result.disk) (S.left script.new) (S.faults script.new) (K.taken out.new) (K.faults out.new)) result.refused result.status }
 
-    // The cause of each status, and how a run ends that nothing hinders.
+    // The cause of each status, that a fault of the disk and a call that is refused give theirs, and how a run ends that
+    // nothing hinders.
     ensures cause { are_run words.now ≡ true → Tells result.status D.told (outside (D.view disk) (S.left script.old) (S.faults script.old) (K.taken out.old) (K.faults out.old))
         (outside (D.view result.disk) (S.left script.new) (S.faults script.new) (K.taken out.new) (K.faults out.new)) result.refused }
+    ensures heeded { (result.status ≡ Status.Disk → ⊥) → ((D.view result.disk).faults ≡ (D.view disk).faults) × (result.refused ≡ 0) }
     ensures complete { are_run words.now ≡ true → IsUnhindered D.told (outside (D.view disk) (S.left script.old) (S.faults script.old) (K.taken out.old) (K.faults out.old))
         (outside (D.view result.disk) (S.left script.new) (S.faults script.new) (K.taken out.new) (K.faults out.new)) result.refused →
         Completes result.status D.told (outside (D.view disk) (S.left script.old) (S.faults script.old) (K.taken out.old) (K.faults out.old))

@@ -11,7 +11,7 @@ frames-preserved g c =
     let formed = rw c.in-Ok-Some.field-0-is at c.in-Ok-Some.ensures.formed in
     let onward = rw c.in-Ok-Some.field-0-is at c.in-Ok-Some.ensures.onward in
     let calls = rw c.in-Ok-Some.field-0-is at c.in-Ok-Some.ensures.calls in
-    walk_goes_on c.in-Ok-Some.end c.frames.invariant c.read_frame.ensures.reads onward.2 (λ told. let h = formed told in (h.0, h.1, h.2)) calls
+    walk_goes_on c.in-Ok-Some.end c.frames.invariant c.read_frame.ensures.reads c.in-Ok-Some.ensures.heeded onward.2 (λ told. let h = formed told in (h.0, h.1, h.2)) calls
 
 pub returns-in-Ok-None-clause-gate : goal.returns-in-Ok-None-clause-gate
 returns-in-Ok-None-clause-gate g c =

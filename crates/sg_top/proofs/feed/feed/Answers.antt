@@ -3,6 +3,7 @@ use Rattle.sg_base.specs.Ends.{HasRisen}
 use Rattle.sg_words.specs.Parse.{order_of}
 use Rattle.sg_top.specs.Goes.{Goes}
 use Rattle.sg_top.specs.Sessions.{session_core, session_disk, session_unheard}
+use Rattle.sg_top.proofs.Heeding.{heeds_more}
 use Rattle.sg_top.proofs.Feeds.{feed_started, feed_line, feed_ends, feed_breaks}
 use Rattle.sg_top.proofs.feed.feed.Goals as goal
 
@@ -11,6 +12,7 @@ lines-init g c = record {
   so_far = λ was v k x lines first held h. feed_started g.D.Disk.told was v k x lines first held c.args.piece.now _ _ _ c.args.pending.now h;
   quiet = refl;
   heard = refl;
+  heeded = λ none. (none, refl);
 }
 
 pub returns-in_default-clause-fed : goal.returns-in_default-clause-fed
@@ -29,6 +31,7 @@ lines-preserved g c = record {
       (subst (λ (t : List ℕ). Goes g.D.Disk.told was w (session_core c.lines.session) a.so_far.executed.after (order_of t) l.0 u (session_core c.line.new.self)) c.bytes.ensures l.1) l.2;
   quiet = c.in-Ok.ensures.quiet ∙ c.lines.invariant.quiet;
   heard = c.in-Ok.ensures.heard ∙ c.lines.invariant.heard;
+  heeded = heeds_more _ _ _ (g.D.Disk.view (session_disk c.args.session.now)) (g.D.Disk.view (session_disk c.lines.session)) (g.D.Disk.view (session_disk c.line.new.self)) c.lines.invariant.heeded c.line.ensures.heeded;
 }
 
 pub returns-in-Err-clause-broken : goal.returns-in-Err-clause-broken
@@ -46,3 +49,6 @@ returns-in-Err-clause-failed g c = subst (λ (n : ℕ). HasRisen n (g.K.Sink.fau
 
 pub returns-in-Err-clause-unheard : goal.returns-in-Err-clause-unheard
 returns-in-Err-clause-unheard g c = c.in-Err.ensures.unheard ∙ ap (λ (b : Bool). is_none (session_core c.line.new.self).stopped || b) c.lines.invariant.heard
+
+pub returns-in-Err-clause-heeded : goal.returns-in-Err-clause-heeded
+returns-in-Err-clause-heeded g c = heeds_more _ _ _ (g.D.Disk.view (session_disk c.args.session.now)) (g.D.Disk.view (session_disk c.lines.session)) (g.D.Disk.view (session_disk c.line.new.self)) c.lines.invariant.heeded c.line.ensures.heeded

@@ -4,6 +4,7 @@ use Rattle.sg_model.specs.History.{State}
 use Rattle.sg_top.specs.Store.{Core}
 use Rattle.sg_top.specs.Sessions.{session_core, session_disk, session_unheard}
 use Rattle.sg_top.specs.Feeding.{Before, After}
+use Rattle.sg_top.specs.Goes.{Heeds}
 use Rattle.sg_top.proofs.feed.feed.Given as goal
 
 -- the lines so far, with what is left of the piece
@@ -14,6 +15,7 @@ invariant-lines g l = record {
       → After g.D.Disk.told was v k x lines first (g.K.Sink.taken l.out) (g.D.Disk.view (session_disk l.session)) (session_core l.session) held l.piece l.rest l.pending;
   quiet : g.K.Sink.faults l.out ≡ g.K.Sink.faults l.fn.out;
   heard : session_unheard l.session ≡ session_unheard l.fn.session;
+  heeded : Heeds (session_core l.fn.session).stopped (session_core l.session).stopped (g.D.Disk.view (session_disk l.fn.session)) (g.D.Disk.view (session_disk l.session));
 }
 
 abbrev pub decreases-lines : goal.decreases-lines

@@ -1,7 +1,10 @@
-use Rattle.std.proofs.Common.{◌≡◌, ◌-◌, take, refl, sym, subst, arith}
+use Rattle.std.proofs.Common.{◌≡◌, ℕ, ◌-◌, take, Option, refl, sym, subst, arith}
 use Rattle.sg_log.proofs.Runs.{reads_more}
 use Rattle.sg_top.specs.Found.{IsNotFound}
+use Rattle.sg_top.specs.Opening.{IsQuietFor}
+use Rattle.sg_top.specs.Shown.{refusal_at}
 use Rattle.sg_top.specs.declared.opening.OpenRefused as code_refused
+use Rattle.sg_top.proofs.Heeding.{quiet_at, quiet_later}
 use Rattle.sg_top.proofs.Walking.{walking_none, walking_more, walking_done, walking_fails, walking_refused}
 use Rattle.sg_top.proofs.replay.find_all.Goals as goal
 
@@ -15,7 +18,7 @@ frames-preserved g c =
     let to : c.frames.gate - c.args.log.now.base ≡ c.frames.gate = omega (arith, c.requires.base) in
     let bytes = take c.in-Ok-Some.size c.frame.new.into in
     walking_more g.D.Disk.told (g.D.Disk.view c.args.disk.now) (g.D.Disk.view c.frames.disk) c.args.log.now c.frames.found c.frames.gate (c.frames.gate - c.args.log.now.base) c.frames.invariant to
-    (g.D.Disk.view c.frame.new.disk) c.find_in_frame.new.found c.in-Ok-Some.size bytes c.frame.ensures.reads (omega (arith, onward.2)) formed c.in-Ok.ensures.found
+    (g.D.Disk.view c.frame.new.disk) c.find_in_frame.new.found c.in-Ok-Some.size bytes c.frame.ensures.reads c.in-Ok-Some.ensures.heeded (omega (arith, onward.2)) formed c.in-Ok.ensures.found
     (λ rs fields is before knows. c.in-Ok.ensures.chained before rs knows fields is)
 
 pub returns-in-Err-find_in_frame-clause-refused : goal.returns-in-Err-find_in_frame-clause-refused
@@ -48,3 +51,10 @@ returns-in-Err-clause-refused g c =
 
 pub returns-in-Err-clause-reads : goal.returns-in-Err-clause-reads
 returns-in-Err-clause-reads g c = reads_more c.frames.invariant.reads c.frame.ensures.reads
+
+pub returns-in-Err-clause-quiet : goal.returns-in-Err-clause-quiet
+returns-in-Err-clause-quiet g c =
+    let v = g.D.Disk.view c.args.disk.now in
+    let u = g.D.Disk.view c.frames.disk in
+    let w = g.D.Disk.view c.frame.new.disk in
+    subst (λ (why : code_refused.OpenRefused). IsQuietFor why v w) (sym c.refusal.ensures) (quiet_later (refusal_at c.in-Err.fault) v u w c.frames.invariant.quiet (quiet_at (Option ℕ) u w c.in-Err.fault c.in-Err.ensures.heeded))

@@ -2,8 +2,9 @@ use Rattle.std.proofs.Common.{sym, ap, subst}
 use Rattle.sg_log.specs.Held.{Tail}
 use Rattle.sg_log.specs.Reads.{OnlyReads}
 use Rattle.sg_log.proofs.Runs.{reads_more}
-use Rattle.sg_top.specs.Opening.{IsRefusedFor}
+use Rattle.sg_top.specs.Opening.{IsRefusedFor, IsQuietFor}
 use Rattle.sg_top.specs.declared.opening.OpenRefused as code_refused
+use Rattle.sg_top.proofs.Heeding.{quiet_at, quiet_later}
 use Rattle.sg_top.proofs.Reading.{attach_refused, read_found, not_found, not_replayed}
 use Rattle.sg_top.proofs.replay.read_back.Goals as goal
 
@@ -55,3 +56,12 @@ returns-clause-reads g c =
     let u = g.D.Disk.view c.attach.new.disk in
     let reads : OnlyReads g.D.Disk.told v u = record { unchanged = c.attach.ensures.unchanged; any_moment = c.attach.ensures.any_moment; handed = c.attach.ensures.handed; later = c.attach.ensures.later } in
     reads_more reads c.find_all.ensures.reads
+
+pub returns-in-Err-clause-quiet : goal.returns-in-Err-clause-quiet
+returns-in-Err-clause-quiet g c =
+    let v = g.D.Disk.view c.args.disk.now in
+    let u = g.D.Disk.view c.attach.new.disk in
+    subst (λ (why : code_refused.OpenRefused). IsQuietFor why v u) (sym c.refusal.ensures) (quiet_at Tail v u c.in-Err.fault c.in-Err.ensures.heeded)
+
+pub returns-in-Err-find_all-clause-quiet : goal.returns-in-Err-find_all-clause-quiet
+returns-in-Err-find_all-clause-quiet g c = quiet_later c.in-Err-find_all.why (g.D.Disk.view c.args.disk.now) (g.D.Disk.view c.attach.new.disk) (g.D.Disk.view c.find_all.new.disk) c.in-Ok.ensures.heeded c.in-Err-find_all.ensures.quiet

@@ -3,6 +3,7 @@ use Rattle.sg_base.specs.Ends.{HasRisen}
 use Rattle.sg_words.specs.Parse.{order_of}
 use Rattle.sg_top.specs.Goes.{Goes}
 use Rattle.sg_top.specs.Sessions.{session_core, session_disk}
+use Rattle.sg_top.proofs.Heeding.{heeds_more}
 use Rattle.sg_top.proofs.Scripts.{way_begins, way_goes_on, way_ends, way_unwritten, way_broken, way_unread, way_too_long}
 use Rattle.sg_top.proofs.script.run_script.Goals as goal
 
@@ -13,6 +14,7 @@ pieces-init g c = record {
   source = refl;
   sink = refl;
   heard = refl;
+  heeded = λ none. (none, refl);
 }
 
 pub returns-in_default-clause-ran : goal.returns-in_default-clause-ran
@@ -53,6 +55,7 @@ pieces-preserved g c = record {
   source = c.in-Ok.ensures.quiet ∙ c.pieces.invariant.source;
   sink = c.in-Ok-feed.ensures.quiet ∙ c.pieces.invariant.sink;
   heard = c.in-Ok-feed.ensures.heard ∙ c.pieces.invariant.heard;
+  heeded = heeds_more _ _ _ (g.D.Disk.view (session_disk c.args.session.now)) (g.D.Disk.view (session_disk c.pieces.session)) (g.D.Disk.view (session_disk c.feed.new.session)) c.pieces.invariant.heeded c.feed.ensures.heeded;
 }
 
 pub returns-in-Err-feed-clause-ran : goal.returns-in-Err-feed-clause-ran
@@ -60,23 +63,35 @@ returns-in-Err-feed-clause-ran g c was x shows =
     way_broken g.D.Disk.told was (g.D.Disk.view (session_disk c.args.session.now)) (session_core c.args.session.now) x (g.S.Source.left c.args.script.now) (g.K.Sink.taken c.args.out.now) (g.S.Source.left c.pieces.script) (g.S.Source.left c.read.new.self) _ _ _ _ _ _ c.pieces.line c.read.new.into _ c.pieces.total c.in-Ok.count
     (c.pieces.invariant.so_far was x shows) (omega arith) c.in-Ok.ensures.given c.in-Ok.ensures.within refl c.in-Err-feed.ensures.broken
 
-pub returns-in_default-clause-read : goal.returns-in_default-clause-read
-returns-in_default-clause-read g c h = subst (λ (n : ℕ). HasRisen n (g.S.Source.faults c.read.new.self)) c.pieces.invariant.source c.in_default.ensures.failed
+pub returns-in_default-clause-cause : goal.returns-in_default-clause-cause
+returns-in_default-clause-cause g c = (subst (λ (n : ℕ). HasRisen n (g.S.Source.faults c.read.new.self)) c.pieces.invariant.source c.in_default.ensures.failed, c.pieces.invariant.sink)
 
-pub returns-in-Ok-line-clause-quiet : goal.returns-in-Ok-line-clause-quiet
-returns-in-Ok-line-clause-quiet g c h = (c.in-Ok.ensures.quiet ∙ c.pieces.invariant.source, c.in-Ok-line.ensures.quiet ∙ c.pieces.invariant.sink)
+pub returns-in-Ok-line-clause-cause : goal.returns-in-Ok-line-clause-cause
+returns-in-Ok-line-clause-cause g c = (c.in-Ok.ensures.quiet ∙ c.pieces.invariant.source, c.in-Ok-line.ensures.quiet ∙ c.pieces.invariant.sink)
 
 pub returns-in-Ok-line-clause-heard : goal.returns-in-Ok-line-clause-heard
 returns-in-Ok-line-clause-heard g c h = c.in-Ok-line.ensures.heard ∙ c.pieces.invariant.heard
 
-pub returns-in-Err-clause-write : goal.returns-in-Err-clause-write
-returns-in-Err-clause-write g c h = subst (λ (n : ℕ). HasRisen n (g.K.Sink.faults c.line.new.out)) c.pieces.invariant.sink c.in-Err.ensures.failed
+pub returns-in-Err-clause-cause : goal.returns-in-Err-clause-cause
+returns-in-Err-clause-cause g c = (c.in-Ok.ensures.quiet ∙ c.pieces.invariant.source, subst (λ (n : ℕ). HasRisen n (g.K.Sink.faults c.line.new.out)) c.pieces.invariant.sink c.in-Err.ensures.failed)
 
 pub returns-in-Err-clause-unheard : goal.returns-in-Err-clause-unheard
 returns-in-Err-clause-unheard g c h = c.in-Err.ensures.unheard ∙ ap (λ (b : Bool). is_none (session_core c.line.new.self).stopped || b) c.pieces.invariant.heard
 
-pub returns-in-Err-feed-clause-write : goal.returns-in-Err-feed-clause-write
-returns-in-Err-feed-clause-write g c h = subst (λ (n : ℕ). HasRisen n (g.K.Sink.faults c.feed.new.out)) c.pieces.invariant.sink c.in-Err-feed.ensures.failed
+pub returns-in-Err-feed-clause-cause : goal.returns-in-Err-feed-clause-cause
+returns-in-Err-feed-clause-cause g c = (c.in-Ok.ensures.quiet ∙ c.pieces.invariant.source, subst (λ (n : ℕ). HasRisen n (g.K.Sink.faults c.feed.new.out)) c.pieces.invariant.sink c.in-Err-feed.ensures.failed)
+
+pub returns-then-count-total-clause-cause : goal.returns-then-count-total-clause-cause
+returns-then-count-total-clause-cause g c = (c.in-Ok.ensures.quiet ∙ c.pieces.invariant.source, c.pieces.invariant.sink)
+
+pub returns-in-Ok-line-clause-heeded : goal.returns-in-Ok-line-clause-heeded
+returns-in-Ok-line-clause-heeded g c = heeds_more _ _ _ (g.D.Disk.view (session_disk c.args.session.now)) (g.D.Disk.view (session_disk c.pieces.session)) (g.D.Disk.view (session_disk c.line.new.self)) c.pieces.invariant.heeded c.line.ensures.heeded
+
+pub returns-in-Err-clause-heeded : goal.returns-in-Err-clause-heeded
+returns-in-Err-clause-heeded g c = heeds_more _ _ _ (g.D.Disk.view (session_disk c.args.session.now)) (g.D.Disk.view (session_disk c.pieces.session)) (g.D.Disk.view (session_disk c.line.new.self)) c.pieces.invariant.heeded c.line.ensures.heeded
+
+pub returns-in-Err-feed-clause-heeded : goal.returns-in-Err-feed-clause-heeded
+returns-in-Err-feed-clause-heeded g c = heeds_more _ _ _ (g.D.Disk.view (session_disk c.args.session.now)) (g.D.Disk.view (session_disk c.pieces.session)) (g.D.Disk.view (session_disk c.feed.new.session)) c.pieces.invariant.heeded c.feed.ensures.heeded
 
 pub returns-in-Err-feed-clause-unheard : goal.returns-in-Err-feed-clause-unheard
 returns-in-Err-feed-clause-unheard g c h = c.in-Err-feed.ensures.unheard ∙ ap (λ (b : Bool). is_none (session_core c.feed.new.session).stopped || b) c.pieces.invariant.heard

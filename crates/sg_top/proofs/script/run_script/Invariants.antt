@@ -4,6 +4,7 @@ use Rattle.sg_model.specs.History.{State}
 use Rattle.sg_top.specs.Store.{Shows}
 use Rattle.sg_top.specs.Sessions.{session_core, session_disk, session_unheard}
 use Rattle.sg_top.specs.Ending.{IsUnderWay}
+use Rattle.sg_top.specs.Goes.{Heeds}
 use Rattle.sg_top.proofs.script.run_script.Given as goal
 
 abbrev pub invariant-pieces : goal.invariant-pieces
@@ -15,6 +16,7 @@ invariant-pieces g l = record {
   source : g.S.Source.faults l.script ≡ g.S.Source.faults l.fn.script;
   sink : g.K.Sink.faults l.out ≡ g.K.Sink.faults l.fn.out;
   heard : session_unheard l.session ≡ session_unheard l.fn.session;
+  heeded : Heeds (session_core l.fn.session).stopped (session_core l.session).stopped (g.D.Disk.view (session_disk l.fn.session)) (g.D.Disk.view (session_disk l.session));
 }
 
 abbrev pub decreases-pieces : goal.decreases-pieces
