@@ -46,14 +46,16 @@ Takes-nothing (Some had) = ap Some (sym (append-nil had))
 pub told-more : (a : Option (List ℕ)) (answers : List Answer) (b : Option (List ℕ)) (answer : Answer) (c : Option (List ℕ)) → Takes a (text_of_all answers) b → Takes b (text_of answer) c → Takes a (text_of_all (answers ++ answer ∷ [])) c
 told-more a answers b answer c h k = subst (λ (t : List ℕ). Takes a t c) (sym (text-more answers answer)) (Takes-more a (text_of_all answers) b (text_of answer) c h k)
 
+-- a front is taken behind all of what came before
+pub front_behind : (a : Option (List ℕ)) (front : List ℕ) (b : Option (List ℕ)) (rest : List ℕ) (c : Option (List ℕ)) → Takes a front b → TakesFront b rest c → TakesFront a (front ++ rest) c
+front_behind None front b rest c h k = subst (λ (o : Option (List ℕ)). TakesFront o rest c) h k
+front_behind (Some had) front b rest c h k =
+    let m : TakesFront (Some (had ++ front)) rest c = subst (λ (o : Option (List ℕ)). TakesFront o rest c) h k in
+    let len : length front + m.0 ≤ length (front ++ rest) = omega (arith, length-append front rest, m.1) in
+    (length front + m.0, len, m.2 ∙ ap Some (append_assoc had front (take m.0 rest) ∙ ap (λ (t : List ℕ). had ++ t) (sym (take-append-add front rest m.0))))
+
 pub told-cut : (a : Option (List ℕ)) (answers : List Answer) (b : Option (List ℕ)) (answer : Answer) (c : Option (List ℕ)) → Takes a (text_of_all answers) b → TakesFront b (text_of answer) c → TakesFront a (text_of_all (answers ++ answer ∷ [])) c
-told-cut None answers b answer c h k = subst (λ (o : Option (List ℕ)). TakesFront o (text_of answer) c) h k
-told-cut (Some had) answers b answer c h k =
-    let m : TakesFront (Some (had ++ text_of_all answers)) (text_of answer) c = subst (λ (o : Option (List ℕ)). TakesFront o (text_of answer) c) h k in
-    let both = text_of_all answers ++ text_of answer in
-    let len : length (text_of_all answers) + m.0 ≤ length both = omega (arith, length-append (text_of_all answers) (text_of answer), m.1) in
-    let P : List ℕ → Type 0 = λ t. TakesFront (Some had) t c in
-    subst P (sym (text-more answers answer)) (length (text_of_all answers) + m.0, len, m.2 ∙ ap Some (append_assoc had (text_of_all answers) (take m.0 (text_of answer)) ∙ ap (λ (t : List ℕ). had ++ t) (sym (take-append-add (text_of_all answers) (text_of answer) m.0))))
+told-cut a answers b answer c h k = subst (λ (t : List ℕ). TakesFront a t c) (sym (text-more answers answer)) (front_behind a (text_of_all answers) b (text_of answer) c h k)
 
 pub shifted : (done : List (List ℕ)) (line : List ℕ) (after rest all : List (List ℕ)) → rest ≡ line ∷ after → done ++ rest ≡ all → (done ++ line ∷ []) ++ after ≡ all
 shifted done line after rest all cut h = append_assoc done (line ∷ []) after ∙ (ap (λ (ls : List (List ℕ)). done ++ ls) (sym cut) ∙ h)

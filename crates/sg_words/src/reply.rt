@@ -15,8 +15,8 @@ const MOST_BYTES: usize = 8192;
 /// The most bytes of a value that the small buffer takes.
 const FEW_BYTES: usize = 256;
 
-// Whether bytes are printed as themselves.
-fn prints_plain(bytes: &[u8]) -> bool
+/// Whether bytes are printed as themselves.
+pub fn prints_plain(bytes: &[u8]) -> bool
     ensures { result ≡ prints_plain bytes.now }
 {
     if let [b'x', b':', ..] = bytes {
@@ -65,14 +65,23 @@ fn put_reply(into: &mut [u8], reply: &Reply, value: &[u8]) -> usize
     }
 }
 
+/// Puts `ok`, a space and a number at the front of a buffer, and gives their end.
+pub fn put_count(into: &mut [u8], n: u64) -> usize
+    requires { 64 ≤ length into.old }
+    ensures end { result ≤ 43 }
+    ensures front { take result into.new ≡ codes "ok " ++ decimal n }
+{
+    let mut digits = Buffer::new();
+    let at = append(into, 0, b"ok ");
+    append(into, at, digits.format(n).as_bytes())
+}
+
 fn put_number(into: &mut [u8], n: u64) -> usize
     requires { 64 ≤ length into.old }
     ensures end { result ≤ length into.new }
     ensures line { take result into.new ≡ codes "ok " ++ decimal n ++ codes "\n" }
 {
-    let mut digits = Buffer::new();
-    let at = append(into, 0, b"ok ");
-    let end = append(into, at, digits.format(n).as_bytes());
+    let end = put_count(into, n);
     append(into, end, b"\n")
 }
 

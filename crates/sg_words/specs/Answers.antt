@@ -1,0 +1,60 @@
+-- What a line is answered, with every verb, and the bytes of an answer.
+use Rattle.std.specs.Prelude.{ℕ, List, [], ◌++◌, length, codes, decimal}
+use Rattle.std.specs.List.{flat_map}
+use Rattle.sg_model.specs.declared.reason.Reason.{Reason}
+use Rattle.sg_model.specs.Verb.{Reply}
+use Rattle.sg_model.specs.Verb.Reply.{Done, New, Replaced, Absent, Number, Bytes, Several}
+use Rattle.sg_words.specs.Text.{printed, text_of_reason}
+
+-- nothing, a refusal of the line as a whole, the reason of a refused operation, what ran out or failed, or a reply
+pub data Answer : Type 0 where
+  Silent : Answer
+  BadSyntax : Answer
+  Stopped : Answer
+  NoTransaction : Answer
+  IsLive : Answer
+  TooManyLive : Answer
+  Busy : (name : List ℕ) → Answer
+  LocksFull : Answer
+  Refused : (reason : Reason) → Answer
+  LogEnd : Answer
+  Memory : Answer
+  Disk : Answer
+  Said : (reply : Reply) → Answer
+
+-- a word as it is printed, behind a space
+abbrev pub behind_space : List ℕ → List ℕ
+behind_space word = codes " " ++ printed word
+
+-- how many words there are, and the words
+abbrev pub text_of_words : {A : Type 0} → (A → List ℕ) → List A → List ℕ
+text_of_words bytes_of words = codes "ok " ++ decimal (length words) ++ flat_map (λ w. behind_space (bytes_of w)) words ++ codes "\n"
+
+abbrev pub text_of_reply : Reply → List ℕ
+text_of_reply Done = codes "ok\n"
+text_of_reply New = codes "ok new\n"
+text_of_reply Replaced = codes "ok replaced\n"
+text_of_reply Absent = codes "none\n"
+text_of_reply (Number n) = codes "ok " ++ decimal n ++ codes "\n"
+text_of_reply (Bytes bytes) = codes "ok " ++ printed bytes ++ codes "\n"
+text_of_reply (Several words) = text_of_words (λ word. word) words
+
+-- a reply line with its LF, or nothing
+abbrev pub text_of : Answer → List ℕ
+text_of Silent = []
+text_of BadSyntax = codes "error syntax\n"
+text_of Stopped = codes "error stopped\n"
+text_of NoTransaction = codes "error no-transaction\n"
+text_of IsLive = codes "error live\n"
+text_of TooManyLive = codes "error too-many-live\n"
+text_of (Busy name) = codes "busy " ++ name ++ codes "\n"
+text_of LocksFull = codes "error locks-full\n"
+text_of (Refused reason) = text_of_reason reason
+text_of LogEnd = codes "error log-end\n"
+text_of Memory = codes "error memory\n"
+text_of Disk = codes "error disk\n"
+text_of (Said reply) = text_of_reply reply
+
+-- the reply lines, one after another
+abbrev pub text_of_all : List Answer → List ℕ
+text_of_all answers = flat_map text_of answers
