@@ -1,0 +1,45 @@
+-- The live transactions, as a list in the order of their numbers.
+use Rattle.std.specs.Prelude.{ℕ, ◌+◌, ◌-◌, Bool, not, ◌==◌, ◌&&◌, nat_lt, if◌then◌else◌, List, [], map}
+use Rattle.std.specs.List.{filter, list_any}
+use Rattle.sg_base.specs.declared.numbers.TxnId.{TxnId}
+
+-- a live transaction: its number, how much it has reserved, and the log's numbers at its marks
+pub record Txn : Type 0 where
+  pub transaction : ℕ
+  pub reserved : ℕ
+  pub marks : List ℕ
+
+-- a transaction that has just begun
+abbrev pub begun : ℕ → Txn
+begun t = record { transaction = t; reserved = 0; marks = [] }
+
+abbrev pub is_of : ℕ → Txn → Bool
+is_of t x = x.transaction == t
+
+abbrev pub is_live : List Txn → ℕ → Bool
+is_live xs t = list_any (is_of t) xs
+
+-- all but this one
+abbrev pub without : ℕ → List Txn → List Txn
+without t xs = filter (λ x. not (is_of t x)) xs
+
+-- this one is live and has reserved some
+abbrev pub has_reserved : List Txn → ℕ → Bool
+has_reserved xs t = list_any (λ x. is_of t x && nat_lt 0 x.reserved) xs
+
+-- the same ones, of which this one has reserved one more
+abbrev pub one_more : Txn → Txn
+one_more x = record x { reserved = x.reserved + 1 }
+
+abbrev pub one_less : Txn → Txn
+one_less x = record x { reserved = x.reserved - 1 }
+
+abbrev pub reserving : ℕ → List Txn → List Txn
+reserving t xs = map (λ x. if is_of t x then one_more x else x) xs
+
+-- the same ones, of which this one has reserved one less
+abbrev pub unreserving : ℕ → List Txn → List Txn
+unreserving t xs = map (λ x. if is_of t x then one_less x else x) xs
+
+abbrev pub number_of : Txn → TxnId
+number_of x = record { 0 = x.transaction }
