@@ -1,77 +1,98 @@
 #!/usr/bin/env bash
-# Runs lines through the program over a folder of the moment, and prints how many it does in a second
-# and the greatest memory that it used, which is the system's own account of it. The words: how many lines
-# (100,000 where none is given; 3 are the least that are made), and how many of them a transaction has
-# (100; 3 is the least).
+# Runs lines through the program over folders of the moment, and prints how many it does in a second
+# and the greatest memory that it used.
+#
+# The words: how many lines (100,000 where none is given), how many of them a transaction has (100), how
+# many bytes a line pushes (0: a push, a get, a set and a get by turns), how many rounds there are (1), and
+# other builds of the program, whose runs of the same script stand among its own. With several rounds the
+# median and the best are printed, and for another build how many times its lines a second the program does.
+#
+# So `bench/lines.sh 50000 50000 128 9 OTHER` compares one transaction of pushes of 128 bytes.
 set -eu
 top="$(cd "$(dirname "$(readlink -f "${BASH_SOURCE[0]}")")/.." && pwd)"
-lines="${1:-100000}"
-each="${2:-100}"
-for number in "$lines" "$each"; do
-    if ! [[ "$number" =~ ^[0-9]{1,7}$ ]]; then
-        echo "lines.sh: $number is no number from 0 to 9999999" >&2
-        exit 2
-    fi
-done
 folder="$(mktemp -d)"
 trap 'rm -rf "$folder"' EXIT
 
 # Builds the program where it must, outside of what is measured.
-"$top/stasis" </dev/null >/dev/null 2>"$folder/said" || [ -x "$top/crates/sg_main/out/sg_main" ] || {
-    cat "$folder/said" >&2
-    exit 1
-}
+"$top/stasis" >/dev/null 2>&1 </dev/null || true
 
-python3 - "$top/crates/sg_main/out/sg_main" "$folder" "$lines" "$each" <<'PYTHON'
-import subprocess, sys, time
+python3 - "$folder" "$top/crates/sg_main/out/sg_main" "$@" <<'PYTHON'
+import statistics, subprocess, sys, time
 
-
-def script_of(lines, each):
-    """So many lines: transactions of begin, then a push, a get, a set and a get by turns, then commit."""
-    script, items, turn = ["t begin", "t make array a 8"], 0, 0
-    place = len(script)
-    while len(script) < lines - 1:
-        if place == 0:
-            script.append("t begin")
-        elif place == each - 1:
-            script.append("t commit")
-        elif items == 0 or turn % 4 == 0:
-            script.append(f"t push a {items:08d}")
-            items, turn = items + 1, turn + 1
-        elif turn % 4 == 2:
-            script.append(f"t set a {turn * 7919 % items} {turn:08d}")
-            turn += 1
-        else:
-            script.append(f"t get a {turn * 104729 % items}")
-            turn += 1
-        place = (place + 1) % each
-    return script + ["t commit"] * (place > 0)
+folder, program = sys.argv[1:3]
+lines, each, size, rounds = (int(word) for word in (sys.argv[3:7] + ["100000", "100", "0", "1"][len(sys.argv[3:7]):]))
+builds = [program] + sys.argv[7:]
 
 
-def most_memory(process):
-    """The greatest memory that the process has used so far, in KiB."""
+def line_of(place, items, turn):
+    """A line of a transaction, and whether it pushes an item."""
+    if size > 0:
+        return f"t push a {items:0{size}d}", True
+    if items == 0 or turn % 4 == 0:
+        return f"t push a {items:08d}", True
+    if turn % 4 == 2:
+        return f"t set a {turn * 7919 % items} {turn:08d}", False
+    return f"t get a {turn * 104729 % items}", False
+
+
+def write_script(path):
+    """A transaction each `each` lines: begin, the lines, commit. The first makes the array."""
+    with open(path, "w") as script:
+        script.write(f"t begin\nt make array a {size or 8}\n")
+        items = turn = 0
+        for done in range(2, lines - 1):
+            if done % each == each - 1:
+                script.write("t commit\n")
+            elif done % each == 0:
+                script.write("t begin\n")
+            else:
+                line, is_push = line_of(done % each, items, turn)
+                script.write(line + "\n")
+                items += is_push
+                turn += 1
+        script.write("t commit\n")
+
+
+def most_memory(process, least):
+    """The greatest memory that the process has used so far, in KiB, or `least` once it has ended."""
     with open(f"/proc/{process.pid}/status") as status:
-        return next(int(line.split()[1]) for line in status if line.startswith("VmHWM:"))
+        for line in status:
+            if line.startswith("VmHWM:"):
+                return max(least, int(line.split()[1]))
+    return least
 
 
-program, folder, lines, each = sys.argv[1], sys.argv[2], int(sys.argv[3]), int(sys.argv[4])
-script = script_of(lines, max(each, 3))
-with open(f"{folder}/replies", "wb") as replies, open(f"{folder}/replies", "rb") as answered:
-    start = time.monotonic()
-    process = subprocess.Popen([program, "run", f"{folder}/store"], stdin=subprocess.PIPE, stdout=replies)
-    process.stdin.write("".join(line + "\n" for line in script).encode())
-    process.stdin.flush()
-    # The program waits for the script's end once it has answered each line. Its account is read then.
-    given = []
-    while len(given) < len(script) and process.poll() is None:
-        time.sleep(0.001)
-        given += answered.readlines()
-    seconds = time.monotonic() - start
-    memory = most_memory(process) if process.poll() is None else 0
-    process.stdin.close()
-    process.wait()
-errors = sum(1 for line in given if line.startswith(b"error"))
-print(f"status {process.returncode}, {len(script)} lines, {errors} answered with an error")
-print(f"{seconds:.3f} seconds, {len(script) / seconds:.0f} lines a second")
-print(f"{memory} KiB at most")
+def run(build, number):
+    """The seconds of a run over a new store, its greatest memory, its status and its replies that are errors."""
+    memory = 0
+    with open(folder + "/script", "rb") as script, open(folder + "/replies", "wb") as replies:
+        start = time.monotonic()
+        process = subprocess.Popen([build, "run", f"{folder}/store{number}"], stdin=script, stdout=replies)
+        while process.poll() is None:
+            memory = most_memory(process, memory)
+            time.sleep(0.002)
+        seconds = time.monotonic() - start
+    with open(folder + "/replies", "rb") as replies:
+        errors = sum(1 for line in replies if line.startswith(b"error"))
+    return seconds, memory, process.returncode, errors
+
+
+write_script(folder + "/script")
+seconds = {build: [] for build in builds}
+for number in range(rounds):
+    for build in builds:
+        took, memory, status, errors = run(build, f"{number}-{builds.index(build)}")
+        seconds[build].append(took)
+        if build == program and number == 0:
+            print(f"status {status}, {lines} lines, {errors} answered with an error")
+            print(f"{took:.3f} seconds, {lines / took:.0f} lines a second")
+            print(f"{memory} KiB at most")
+if rounds > 1 or len(builds) > 1:
+    for build in builds:
+        middle, best = statistics.median(seconds[build]), min(seconds[build])
+        print(f"{build}: median {lines / middle:.0f} lines a second, best {lines / best:.0f}")
+    for build in builds[1:]:
+        middle = statistics.median(seconds[build]) / statistics.median(seconds[program])
+        best = min(seconds[build]) / min(seconds[program])
+        print(f"{middle:.2f} times {build} by the median, {best:.2f} by the best")
 PYTHON

@@ -95,28 +95,21 @@ fn put_value(into: &mut [u8], value: &[u8]) -> usize
     append(into, end, b"\n")
 }
 
-fn write_short<K: Sink>(reply: &Reply, value: &[u8], out: &mut K) -> Result<(), Failed>
-    requires { length value.now ≤ 256 }
+// Writes a reply's line by a buffer of N bytes.
+fn write_by<const N: usize, K: Sink>(
+    reply: &Reply,
+    value: &[u8],
+    out: &mut K,
+) -> Result<(), Failed>
+    requires room { 64 + 2 * length value.now ≤ N }
+    requires most { N ≤ 16448 }
     ensures took { OnOk result (Takes (K.taken out.old) (text_of_reply (shown_reply value.now reply.now)) (K.taken out.new)) }
     ensures cut { OnErr result (TakesFront (K.taken out.old) (text_of_reply (shown_reply value.now reply.now)) (K.taken out.new)) }
     ensures later { K.faults out.old ≤ K.faults out.new }
     ensures quiet { OnOk result (K.faults out.new ≡ K.faults out.old) }
     ensures failed { OnErr result (HasRisen (K.faults out.old) (K.faults out.new)) }
 {
-    let mut line = [0u8; 576];
-    let end = put_reply(&mut line, reply, value);
-    out.write(&line[..end])
-}
-
-fn write_long<K: Sink>(reply: &Reply, value: &[u8], out: &mut K) -> Result<(), Failed>
-    requires { length value.now ≤ 8192 }
-    ensures took { OnOk result (Takes (K.taken out.old) (text_of_reply (shown_reply value.now reply.now)) (K.taken out.new)) }
-    ensures cut { OnErr result (TakesFront (K.taken out.old) (text_of_reply (shown_reply value.now reply.now)) (K.taken out.new)) }
-    ensures later { K.faults out.old ≤ K.faults out.new }
-    ensures quiet { OnOk result (K.faults out.new ≡ K.faults out.old) }
-    ensures failed { OnErr result (HasRisen (K.faults out.old) (K.faults out.new)) }
-{
-    let mut line = [0u8; 16448];
+    let mut line = [0u8; N];
     let end = put_reply(&mut line, reply, value);
     out.write(&line[..end])
 }
@@ -132,10 +125,12 @@ pub fn write_reply<K: Sink>(reply: &Reply, bytes: &[u8], out: &mut K) -> Result<
     ensures failed { OnErr result (HasRisen (K.faults out.old) (K.faults out.new)) }
 {
     let value = value_of_reply(reply, bytes);
-    if value.len() <= FEW_BYTES {
-        write_short(reply, value, out)
+    if value.is_empty() {
+        write_by::<64, K>(reply, value, out)
+    } else if value.len() <= FEW_BYTES {
+        write_by::<576, K>(reply, value, out)
     } else {
-        write_long(reply, value, out)
+        write_by::<16448, K>(reply, value, out)
     }
 }
 

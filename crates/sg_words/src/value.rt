@@ -9,11 +9,16 @@ fn is_plain(b: u8) -> bool
     b >= 0x21 && b <= 0x7e
 }
 
-/// Whether all of the bytes stand for themselves.
+/// Whether all of the bytes stand for themselves. It looks at all of them, so that several can be
+/// looked at at once.
 pub fn are_plain(word: &[u8]) -> bool
     ensures { result ≡ list_all is_plain word.now }
 {
-    word.iter().all(|b| is_plain(*b))
+    let mut plain = true;
+    'bytes: for b in word {
+        plain &= is_plain(*b);
+    }
+    plain
 }
 
 // The bytes of hexadecimal digits, put at the front of the scratch.
