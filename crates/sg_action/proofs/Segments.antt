@@ -7,7 +7,8 @@ use Rattle.sg_action.specs.States.{State, Change, Kept, with_one, made, apply}
 use Rattle.sg_action.specs.States.Change.{Page, Write, Paint}
 use Rattle.sg_action.specs.Opened.{StoodThere, IsOpened}
 use Rattle.sg_action.specs.Opened.{put_back, IsNotFilled}
-use Rattle.sg_action.proofs.WrittenBack.{length-rendered, overwritten_back}
+use Rattle.sg_ops.proofs.Rendering.{length-rendered}
+use Rattle.sg_action.proofs.WrittenBack.{overwritten_back}
 use Rattle.sg_action.proofs.Opened.{one_here, one_there}
 
 module _ (t : Table) (kept : Kept) (begin : State) where

@@ -1,12 +1,10 @@
 -- The laws of open actions.
-use Rattle.std.proofs.Common.{◌≡◌, ℕ, Bool, true, false, List, [], ◌∷◌, ◌++◌, Some, refl}
-use Rattle.sg_base.specs.Op.{Op, opens}
-use Rattle.sg_base.specs.Sheet.{Sheet}
+use Rattle.std.proofs.Common.{◌≡◌, ℕ, List, [], ◌∷◌, ◌++◌, refl}
 use Rattle.sg_ops.specs.Laws.{IsLawful}
 use Rattle.sg_ops.specs.Table.{Table}
 use Rattle.sg_action.specs.States.{State, Change, Kept, made}
 use Rattle.sg_action.specs.States.Change.{Page, Write, Paint}
-use Rattle.sg_action.specs.Opened.{IsOpened, IsBegun, AreFit, ArePlaced, HasPlaceFor, OpensWell, OpenWell, TakesTo, TakesOff, GoesOn, IsNotFilled, put_back}
+use Rattle.sg_action.specs.Opened.{IsOpened, IsBegun, ArePlaced, HasPlaceFor, OpensWell, OpenWell, TakesTo, TakesOff, GoesOn, IsNotFilled, put_back}
 use Rattle.sg_action.proofs.Grown.{place_unless_shrunk}
 use Rattle.sg_action.proofs.Room.{takes_front}
 use Rattle.sg_action.proofs.Segments.{bytes_back}

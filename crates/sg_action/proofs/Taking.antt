@@ -15,7 +15,8 @@ use Rattle.sg_action.specs.States.Change.{Page, Write, Paint}
 use Rattle.sg_action.specs.Opened.{formats, in_use, most, IsPageChange, StoodThere, IsOpened, IsBegun, HasRoom, AreSmall, TakesTo}
 use Rattle.sg_step.proofs.Back.{back as back_fits}
 use Rattle.sg_step.proofs.Sizes.{sizes}
-use Rattle.sg_action.proofs.WrittenBack.{length-rendered, overwritten_back}
+use Rattle.sg_ops.proofs.Rendering.{length-rendered}
+use Rattle.sg_action.proofs.WrittenBack.{overwritten_back}
 use Rattle.sg_action.proofs.Opened.{one_here, one_there, formats_here, formats_there, formatted, made_here, made_there, use_there, use_more, good, most_changed, most_now}
 
 -- a page that is as another, with no fewer slots

@@ -1,14 +1,8 @@
 -- The bytes of a band before a write come back.
-use Rattle.std.proofs.Common.{◌≡◌, ℕ, ◌+◌, ◌≤◌, List, Option, ◌++◌, length, take, drop, refl, sym, ap, ◌∙◌, arith}
-use Rattle.std.proofs.lemmas.List.FromFn.{length-map-range_with_len}
+use Rattle.std.proofs.Common.{◌≡◌, ℕ, ◌+◌, ◌≤◌, List, ◌++◌, length, take, drop, sym, ap, ◌∙◌, arith}
 use Rattle.std.proofs.lemmas.List.{take_at, drop_at, take-append-drop, length-take-le, length-drop, drop-drop, append_assoc}
-use Rattle.sg_ops.specs.Meaning.{RangeMeaning}
-use Rattle.sg_ops.specs.Table.{rendered}
 use Rattle.sg_base.specs.Overwritten.{overwritten}
 use Rattle.sg_action.specs.Opened.{StoodThere}
-
-pub length-rendered : (op : Option RangeMeaning) (arg : List ℕ) (position count : ℕ) → length (rendered op arg position count) ≡ count
-length-rendered op arg position count = length-map-range_with_len _ 0 count
 
 parts : (band bytes : List ℕ) (at : ℕ) → overwritten band at bytes ≡ take at band ++ (bytes ++ drop (at + length bytes) band)
 parts band bytes at = append_assoc (take at band) bytes (drop (at + length bytes) band)

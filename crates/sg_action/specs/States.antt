@@ -1,5 +1,5 @@
 -- Pages and bands, the changes of them that an action makes, and what takes these off again.
-use Rattle.std.specs.Prelude.{◌≡◌, ℕ, ◌+◌, ◌≤◌, ◌==◌, Bool, true, if◌then◌else◌, List, [], ◌∷◌, Option, Some, None, is_some, option_map, length}
+use Rattle.std.specs.Prelude.{◌≡◌, ℕ, ◌≤◌, ◌==◌, Bool, true, if◌then◌else◌, List, [], ◌∷◌, Option, Some, None, is_some, option_map, length}
 use Rattle.sg_base.specs.Page.{stored}
 use Rattle.sg_ops.specs.Table.{Table, range_at, rendered}
 use Rattle.sg_base.specs.Overwritten.{overwritten}

@@ -15,6 +15,7 @@ pub struct Change {
     pub arg: Vec<u8>,
 }
 
+#[tactic(auto, unfolding(sg_ops::specs::Table::accepts_of))]
 fn is_accepted(ops: &Ops, change: &Change) -> bool
     ensures { IsTrue result ↔ IsAccepted (table_of record_meaning range_meaning ops.now) change.now }
 {

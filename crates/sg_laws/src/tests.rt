@@ -1,7 +1,7 @@
 ghost use Rattle.std.specs.Prelude.{true, refl};
 
 use super::*;
-use sg_ops::{Add, Ops, RecordOp, Xor};
+use sg_ops::{Ops, RecordOp};
 use std::alloc::{AllocError, Global};
 use std::sync::Arc;
 use std::sync::atomic::{AtomicU64, Ordering};
@@ -83,37 +83,35 @@ fn two_threads_meet(rt: HostRuntime) -> Result<(), Fail> {
     Ok(())
 }
 
+// Whether the items are of one byte each, and these.
+fn items_are(changes: &[Change], want: &[u8]) -> bool {
+    changes.len() == want.len()
+        && changes.iter().zip(want).all(|(change, byte)| change.item.as_slice()
+            == [*byte].as_slice())
+}
+
 #[test]
 fn threads_share_the_operations(rt: HostRuntime) -> Result<(), Fail> {
     let alloc = rt.alloc();
-    let mut ops = Ops::new(alloc)?;
-    assert!(rt; ops.register_record(Box::new(alloc, Add)?).is_ok());
-    assert!(rt; ops.register_record(Box::new(alloc, Xor)?).is_ok());
+    let ops = Ops::shipped(alloc)?;
     let mut changes = Vec::new(alloc);
     changes.push(change(alloc, 250, 1, 10)?)?;
     changes.push(change(alloc, 0b1100, 2, 0b1010)?)?;
     changes.push(change(alloc, 1, 1, 2)?)?;
     assert!(rt; redo_all(&rt, 2, &ops, changes.as_mut_slice()));
-    for (i, want) in [4u8, 0b0110, 3].iter().enumerate() {
-        let item = changes.get(i).and_then(|c| c.item.first().copied());
-        assert_eq!(rt; item, Some(*want), "change {i}");
-    }
+    assert!(rt; items_are(&changes, &[4, 0b0110, 3]));
     if are_accepted(&ops, changes.as_slice()) {
         redo_in_turn(&ops, changes.as_mut_slice());
     }
-    for (i, want) in [14u8, 0b1100, 5].iter().enumerate() {
-        let item = changes.get(i).and_then(|c| c.item.first().copied());
-        assert_eq!(rt; item, Some(*want), "change {i}");
-    }
-    changes.push(change(alloc, 9, 3, 1)?)?;
+    assert!(rt; items_are(&changes, &[14, 0b1100, 5]));
+    changes.push(change(alloc, 9, 4, 1)?)?;
     assert!(rt; !redo_all(&rt, 2, &ops, changes.as_mut_slice()));
     Ok(())
 }
 
 #[test]
 fn undone_at_once(rt: HostRuntime) -> Result<(), Fail> {
-    let mut ops = Ops::new(rt.alloc())?;
-    assert!(rt; ops.register_record(Box::new(rt.alloc(), Add)?).is_ok());
+    let ops = Ops::shipped(rt.alloc())?;
     let mut item = [200u8, 1];
     let arg = [100u8, 255];
     let mut changed = [0u8; 2];

@@ -10,8 +10,8 @@
 //! operation and changes no other. The calls by code do what the operation with that code does.
 #![tactic(auto)]
 
-mod boxes;
 mod bytes;
+mod entries;
 mod ops;
 mod range;
 mod record;

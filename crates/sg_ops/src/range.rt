@@ -16,8 +16,8 @@ pub trait RangeOp {
     fn code(&self) -> u16
         ensures { result ≡ (range_meaning self.now).code };
 
-    /// Sets byte k of `into` to the byte of `arg` at the position `pos + k`. The positions stay
-    /// below `RANGE_LIMIT`.
+    /// Sets byte k of `into` to the byte of `arg` at the position `pos + k`, whatever stood there.
+    /// The positions stay below `RANGE_LIMIT`.
     fn render(&self, pos: u32, arg: &[u8], into: &mut [u8])
         requires { pos + length into.old ≤ RANGE_LIMIT }
         ensures { (k : ℕ) → k < length into.old →

@@ -1,7 +1,8 @@
 // The operations that come with the crate.
 ghost use Rattle.std.proofs.Common.{rules};
-ghost use Rattle.std.specs.Prelude.{◌≡◌, ℕ, ◌<◌, ◌≤◌, ◌+◌, ◌%◌, ◌^◌, IsTrue, length, slice_index};
-ghost use Rattle.sg_ops.specs.Shipped.{add_meaning, after_add, before_add, value_of, xor_meaning, xored, rotate_meaning, ramp_meaning, fill_byte};
+ghost use Rattle.std.specs.Prelude.{◌≡◌, ℕ, ◌<◌, ◌≤◌, ◌+◌, ◌%◌, ◌^◌, IsTrue, Some, length, slice_index};
+ghost use Rattle.sg_ops.specs.Table.{rendered};
+ghost use Rattle.sg_ops.specs.Shipped.{add_meaning, after_add, before_add, value_of, xor_meaning, xored, rotate_meaning, ramp_meaning, fill_meaning};
 ghost use Rattle.sg_ops.specs.AddLaw.{add_is_undoable};
 ghost use Rattle.sg_ops.specs.XorLaw.{xor_is_undoable};
 ghost use Rattle.sg_ops.specs.RotateLaw.{rotate_is_undoable};
@@ -80,7 +81,7 @@ fn turn(len: usize, arg: &[u8]) -> usize
 // The bytes of `fill`: the argument over and over, from position 0 on, or zeros.
 pub fn fill(pos: u32, arg: &[u8], into: &mut [u8])
     requires { pos + length into.old ≤ RANGE_LIMIT }
-    ensures { (k : ℕ) → k < length into.old → slice_index into.new k ≡ fill_byte arg.now (pos + k) }
+    ensures { into.new ≡ rendered (Some fill_meaning) arg.now pos (length into.old) }
 {
     if arg.is_empty() {
         into.fill(0);

@@ -65,123 +65,157 @@ impl RangeOp for Blank {
     }
 }
 
-// Does the operation where it accepts, and says whether it did.
-fn redo_where_accepted(ops: &Ops, code: u16, item: &mut [u8], arg: &[u8]) -> bool {
-    if ops.has_record(code) && ops.accepts(code, item, arg) {
-        ops.redo(code, item, arg);
-        return true;
-    }
-    false
+fn make_idle(code: u16, drops: &Arc<AtomicU64, Global>) -> Result<Idle, Fail> {
+    Ok(Idle {
+        code,
+        drops: Arc::try_clone(drops)?,
+    })
 }
 
-fn undo_where_registered(ops: &Ops, code: u16, item: &mut [u8], arg: &[u8]) {
-    if ops.has_record(code) {
-        ops.undo(code, item, arg);
+fn make_blank(code: u16, drops: &Arc<AtomicU64, Global>) -> Result<Blank, Fail> {
+    Ok(Blank {
+        code,
+        drops: Arc::try_clone(drops)?,
+    })
+}
+
+// Whether the operation accepts the item, leaves this of it, and its undo gives the item back.
+fn leaves(ops: &Ops, code: u16, item: &[u8], arg: &[u8], want: &[u8]) -> bool {
+    let mut buffer = [0u8; 8];
+    let Some(bytes) = buffer.get_mut(..item.len()) else {
+        return false;
+    };
+    bytes.copy_from_slice(item);
+    if !ops.has_record(code) || !ops.accepts(code, bytes, arg) {
+        return false;
+    }
+    ops.redo(code, bytes, arg);
+    let is_changed = *bytes == *want;
+    ops.undo(code, bytes, arg);
+    is_changed && *bytes == *item
+}
+
+// Whether an operation is registered that accepts an item and an argument of these lengths.
+fn accepts(ops: &Ops, code: u16, item: usize, arg: usize) -> bool {
+    let bytes = [7u8; 9];
+    match bytes.get(..item).zip(bytes.get(..arg)) {
+        Some((item, arg)) => ops.has_record(code) && ops.accepts(code, item, arg),
+        None => false,
     }
 }
 
-fn render_where_registered(ops: &Ops, code: u16, pos: u32, arg: &[u8], into: &mut [u8]) {
-    if ops.has_range(code) && pos <= RANGE_LIMIT && into.len() <= (RANGE_LIMIT - pos) as usize {
-        ops.render(code, pos, arg, into);
+// Whether the operation is registered and gives these bytes from the position on.
+fn gives(ops: &Ops, code: u16, pos: u32, arg: &[u8], want: &[u8]) -> bool {
+    let mut bytes = [9u8; 4];
+    if !ops.has_range(code) || pos > RANGE_LIMIT - 4 {
+        return false;
     }
+    ops.render(code, pos, arg, &mut bytes);
+    bytes.as_slice() == want
 }
+
+// Code, item, argument, and what the operation leaves.
+const CHANGES: [(u16, &[u8], &[u8], &[u8]); 10] = [
+    // The sum of numbers, of which the bytes past the item's length are lost.
+    (1, &[250, 0, 0], &[10, 0, 0], &[4, 1, 0]),
+    (1, &[255, 255, 0], &[1, 0, 0], &[0, 0, 1]),
+    (1, &[255, 255, 255], &[1, 0, 0], &[0, 0, 0]),
+    // 0x563412 + 0xf0debc = 0x14712ce
+    (
+        1,
+        &[0x12, 0x34, 0x56],
+        &[0xbc, 0xde, 0xf0],
+        &[0xce, 0x12, 0x47],
+    ),
+    // Each bit that differs.
+    (
+        2,
+        &[0b1100, 0xff, 0],
+        &[0b1010, 0x0f, 9],
+        &[0b0110, 0xf0, 9],
+    ),
+    // Turned toward the front.
+    (3, &[1, 2, 3, 4, 5], &[0], &[1, 2, 3, 4, 5]),
+    (3, &[1, 2, 3, 4, 5], &[2], &[3, 4, 5, 1, 2]),
+    (3, &[1, 2, 3, 4, 5], &[7], &[3, 4, 5, 1, 2]),
+    (3, &[1, 2, 3, 4, 5], &[255], &[1, 2, 3, 4, 5]),
+    (3, &[], &[2], &[]),
+];
 
 #[test]
-fn sums_wrap_at_the_length(rt: HostRuntime) -> Result<(), Fail> {
-    let mut ops = Ops::new(rt.alloc())?;
-    assert!(rt; ops.register_record(Box::new(rt.alloc(), Add)?).is_ok());
-    let rows: [([u8; 3], [u8; 3], [u8; 3]); 4] = [
-        ([250, 0, 0], [10, 0, 0], [4, 1, 0]),
-        ([255, 255, 0], [1, 0, 0], [0, 0, 1]),
-        ([255, 255, 255], [1, 0, 0], [0, 0, 0]),
-        // 0x563412 + 0xf0debc = 0x14712ce
-        ([0x12, 0x34, 0x56], [0xbc, 0xde, 0xf0], [0xce, 0x12, 0x47]),
-    ];
-    for (item, arg, sum) in rows {
-        let mut bytes = item;
-        assert!(rt; redo_where_accepted(&ops, 1, &mut bytes, &arg), "{item:?}");
-        assert_eq!(rt; bytes, sum, "{item:?}");
-        undo_where_registered(&ops, 1, &mut bytes, &arg);
-        assert_eq!(rt; bytes, item, "{item:?}");
+fn items_are_changed_and_come_back(rt: HostRuntime) -> Result<(), Fail> {
+    let ops = Ops::shipped(rt.alloc())?;
+    for (code, item, arg, want) in CHANGES {
+        assert!(rt;
+            leaves(&ops, code, item, arg, want),
+            "code {code} at {item:?} and {arg:?}"
+        );
     }
     Ok(())
 }
+
+// Lengths of item and argument, and whether add, xor and rotate accept them.
+const ACCEPTED: [(usize, usize, bool, bool, bool); 7] = [
+    (0, 0, true, true, false),
+    (8, 8, true, true, false),
+    (9, 9, false, true, false),
+    (3, 2, false, false, false),
+    (0, 1, false, false, true),
+    (5, 1, false, false, true),
+    (1, 1, true, true, true),
+];
 
 #[test]
 fn accepts_by_lengths(rt: HostRuntime) -> Result<(), Fail> {
-    let mut ops = Ops::new(rt.alloc())?;
-    assert!(rt; ops.register_record(Box::new(rt.alloc(), Add)?).is_ok());
-    assert!(rt; ops.register_record(Box::new(rt.alloc(), Xor)?).is_ok());
-    assert!(rt; ops.register_record(Box::new(rt.alloc(), Rotate)?).is_ok());
-    // Lengths of item and argument, and whether add, xor and rotate accept them.
-    let rows = [
-        (0, 0, true, true, false),
-        (8, 8, true, true, false),
-        (9, 9, false, true, false),
-        (3, 2, false, false, false),
-        (0, 1, false, false, true),
-        (5, 1, false, false, true),
-        (1, 1, true, true, true),
-    ];
-    let bytes = [7u8; 9];
-    for (item, arg, add, xor, rotate) in rows {
-        for (code, want) in [(1, add), (2, xor), (3, rotate)] {
-            let mut changed = bytes;
-            if item <= 9 && arg <= 9 {
-                let did = redo_where_accepted(&ops, code, &mut changed[..item], &bytes[..arg]);
-                assert_eq!(rt; did, want, "code {code} at {item} and {arg}");
-            }
-        }
+    let ops = Ops::shipped(rt.alloc())?;
+    for (item, arg, add, xor, rotate) in ACCEPTED {
+        assert_eq!(rt; accepts(&ops, 1, item, arg), add, "add at {item} and {arg}");
+        assert_eq!(rt; accepts(&ops, 2, item, arg), xor, "xor at {item} and {arg}");
+        assert_eq!(rt;
+            accepts(&ops, 3, item, arg),
+            rotate,
+            "rotate at {item} and {arg}"
+        );
     }
     Ok(())
 }
 
-#[test]
-fn turns_toward_the_front(rt: HostRuntime) -> Result<(), Fail> {
-    let mut ops = Ops::new(rt.alloc())?;
-    assert!(rt; ops.register_record(Box::new(rt.alloc(), Rotate)?).is_ok());
-    let item = [1u8, 2, 3, 4, 5];
-    for (by, want) in [
-        (0u8, [1u8, 2, 3, 4, 5]),
-        (2, [3, 4, 5, 1, 2]),
-        (7, [3, 4, 5, 1, 2]),
-        (255, [1, 2, 3, 4, 5]),
-    ] {
-        let mut bytes = item;
-        assert!(rt; redo_where_accepted(&ops, 3, &mut bytes, &[by]), "by {by}");
-        assert_eq!(rt; bytes, want, "by {by}");
-        undo_where_registered(&ops, 3, &mut bytes, &[by]);
-        assert_eq!(rt; bytes, item, "by {by}");
-    }
-    Ok(())
-}
-
-#[test]
-fn exclusive_or(rt: HostRuntime) -> Result<(), Fail> {
-    let mut ops = Ops::new(rt.alloc())?;
-    assert!(rt; ops.register_record(Box::new(rt.alloc(), Xor)?).is_ok());
-    let mut bytes = [0b1100u8, 0xff, 0];
-    assert!(rt; redo_where_accepted(&ops, 2, &mut bytes, &[0b1010, 0x0f, 9]));
-    assert_eq!(rt; bytes, [0b0110, 0xf0, 9]);
-    Ok(())
-}
+// Code, position, argument, and the four bytes from there on.
+const RENDERED: [(u16, u32, &[u8], [u8; 4]); 4] = [
+    (1, 4, &[1, 2, 3], [2, 3, 1, 2]),
+    (1, 4, &[], [0, 0, 0, 0]),
+    (2, 3, &[250, 7], [253, 254, 255, 0]),
+    // The last four positions: 16,384,000 is a multiple of 256.
+    (2, 16_383_996, &[], [252, 253, 254, 255]),
+];
 
 #[test]
 fn bytes_by_position(rt: HostRuntime) -> Result<(), Fail> {
-    let mut ops = Ops::new(rt.alloc())?;
-    assert!(rt; !ops.has_range(2));
-    assert!(rt; ops.register_range(Box::new(rt.alloc(), Ramp)?).is_ok());
-    assert!(rt; ops.has_range(1) && ops.has_range(2) && !ops.has_range(3));
-    let mut into = [9u8; 4];
-    render_where_registered(&ops, 1, 4, &[1, 2, 3], &mut into);
-    assert_eq!(rt; into, [2, 3, 1, 2]);
-    render_where_registered(&ops, 1, 4, &[], &mut into);
-    assert_eq!(rt; into, [0, 0, 0, 0]);
-    render_where_registered(&ops, 2, 3, &[250, 7], &mut into);
-    assert_eq!(rt; into, [253, 254, 255, 0]);
-    // The last four positions: 16,384,000 is a multiple of 256.
-    render_where_registered(&ops, 2, 16_383_996, &[], &mut into);
-    assert_eq!(rt; into, [252, 253, 254, 255]);
+    let ops = Ops::shipped(rt.alloc())?;
+    for (code, pos, arg, want) in RENDERED {
+        assert!(rt;
+            gives(&ops, code, pos, arg, &want),
+            "code {code} at {pos} for {arg:?}"
+        );
+    }
+    Ok(())
+}
+
+#[test]
+fn five_are_shipped(rt: HostRuntime) -> Result<(), Fail> {
+    let alloc = rt.alloc();
+    let mut ops = Ops::new(alloc)?;
+    assert!(rt; ops.has_range(1) && !ops.has_range(2) && !ops.has_record(1));
+    assert!(rt; ops.register_record(Box::new(alloc, Add)?).is_ok());
+    assert!(rt; leaves(&ops, 1, &[255, 0], &[2, 0], &[1, 1]));
+    let mut ops = Ops::shipped(alloc)?;
+    assert!(rt; ops.has_record(1) && ops.has_record(2) && ops.has_record(3));
+    assert!(rt; ops.has_range(1) && ops.has_range(2));
+    assert!(rt; !ops.has_record(0) && !ops.has_record(4) && !ops.has_range(0) && !ops.has_range(3));
+    assert_eq!(rt;
+        ops.register_range(Box::new(alloc, Ramp)?),
+        Err(OpsError::CodeTaken)
+    );
     Ok(())
 }
 
@@ -190,35 +224,15 @@ fn refuses_records(rt: HostRuntime) -> Result<(), Fail> {
     let alloc = rt.alloc();
     let drops = Arc::new(alloc, AtomicU64::new(0))?;
     let mut ops = Ops::new(alloc)?;
-    assert!(rt; !ops.has_record(0));
     for code in 0..64u16 {
-        let op = Idle {
-            code,
-            drops: Arc::try_clone(&drops)?,
-        };
-        assert!(rt;
-            ops.register_record(Box::new(alloc, op)?).is_ok(),
-            "code {code}"
-        );
+        let said = ops.register_record(Box::new(alloc, make_idle(code, &drops)?)?);
+        assert_eq!(rt; said, Ok(()), "code {code}");
     }
     assert_eq!(rt; drops.load(Ordering::SeqCst), 0);
-    let taken = Idle {
-        code: 63,
-        drops: Arc::try_clone(&drops)?,
-    };
-    assert_eq!(rt;
-        ops.register_record(Box::new(alloc, taken)?),
-        Err(OpsError::CodeTaken)
-    );
-    assert_eq!(rt; drops.load(Ordering::SeqCst), 1);
-    let late = Idle {
-        code: 64,
-        drops: Arc::try_clone(&drops)?,
-    };
-    assert_eq!(rt;
-        ops.register_record(Box::new(alloc, late)?),
-        Err(OpsError::TableFull)
-    );
+    let said = ops.register_record(Box::new(alloc, make_idle(63, &drops)?)?);
+    assert_eq!(rt; said, Err(OpsError::CodeTaken));
+    let said = ops.register_record(Box::new(alloc, make_idle(64, &drops)?)?);
+    assert_eq!(rt; said, Err(OpsError::TableFull));
     assert_eq!(rt; drops.load(Ordering::SeqCst), 2);
     assert!(rt; ops.has_record(0) && ops.has_record(63) && !ops.has_record(64));
     Ok(())
@@ -229,33 +243,15 @@ fn refuses_ranges(rt: HostRuntime) -> Result<(), Fail> {
     let alloc = rt.alloc();
     let drops = Arc::new(alloc, AtomicU64::new(0))?;
     let mut ops = Ops::new(alloc)?;
-    let like_fill = Blank {
-        code: 1,
-        drops: Arc::try_clone(&drops)?,
-    };
-    assert_eq!(rt;
-        ops.register_range(Box::new(alloc, like_fill)?),
-        Err(OpsError::CodeTaken)
-    );
+    let said = ops.register_range(Box::new(alloc, make_blank(1, &drops)?)?);
+    assert_eq!(rt; said, Err(OpsError::CodeTaken));
     for code in 2..65u16 {
-        let op = Blank {
-            code,
-            drops: Arc::try_clone(&drops)?,
-        };
-        assert!(rt;
-            ops.register_range(Box::new(alloc, op)?).is_ok(),
-            "code {code}"
-        );
+        let said = ops.register_range(Box::new(alloc, make_blank(code, &drops)?)?);
+        assert_eq!(rt; said, Ok(()), "code {code}");
     }
     assert_eq!(rt; drops.load(Ordering::SeqCst), 1);
-    let late = Blank {
-        code: 0,
-        drops: Arc::try_clone(&drops)?,
-    };
-    assert_eq!(rt;
-        ops.register_range(Box::new(alloc, late)?),
-        Err(OpsError::TableFull)
-    );
+    let said = ops.register_range(Box::new(alloc, make_blank(0, &drops)?)?);
+    assert_eq!(rt; said, Err(OpsError::TableFull));
     assert_eq!(rt; drops.load(Ordering::SeqCst), 2);
     assert!(rt; ops.has_range(64) && !ops.has_range(0));
     Ok(())

@@ -2,6 +2,5 @@ pub mod Found
 pub mod Rows
 pub mod Arrays
 pub mod Steps
-pub mod Blobs
 pub mod Sorted
 pub mod Copies

@@ -199,6 +199,7 @@ impl Array {
     }
 
     // Why a record operation would not be done to the item at an index.
+    #[tactic(auto, unfolding(sg_ops::specs::Table::accepts_of))]
     fn change_refusal(&self, ops: &Ops, index: u64, code: u64, arg: &[u8]) -> Option<Reason>
         ensures { Refuses (apply (table_of record_meaning range_meaning ops.now) index code arg.now self.now).0 result }
     {
@@ -307,6 +308,7 @@ impl Array {
     }
 
     // Does a record operation to the item at an index. Takes no memory.
+    #[tactic(auto, unfolding(sg_ops::specs::Table::accepts_of, sg_ops::specs::Table::after_of))]
     fn change(&mut self, ops: &Ops, index: u64, code: u64, arg: &[u8])
         requires { IsOk (apply (table_of record_meaning range_meaning ops.now) index code arg.now self.old).0 }
         ensures { apply (table_of record_meaning range_meaning ops.now) index code arg.now self.old ≡ (Ok Done, self.new) }

@@ -49,15 +49,6 @@ impl Clone for Blob {
     }
 }
 
-// Puts the bytes of a range operation into a part of a blob.
-fn render_into(ops: &Ops, code: u16, at: u32, arg: &[u8], into: &mut [u8])
-    requires registered { IsTrue (is_some (range_at (table_of record_meaning range_meaning ops.now) code)) }
-    requires within { at + length into.old ≤ 16384000 }
-    ensures { into.new ≡ rendered (range_at (table_of record_meaning range_meaning ops.now) code) arg.now at (length into.old) }
-{
-    ops.render(code, at, arg, into);
-}
-
 impl Blob {
     /// A blob without bytes. Takes no memory.
     pub fn new(alloc: Global) -> Blob
@@ -115,7 +106,7 @@ impl Blob {
         requires registered { IsTrue (is_some (range_at (table_of record_meaning range_meaning ops.now) code)) }
         ensures { self.new ≡ overlaid self.old at (rendered (range_at (table_of record_meaning range_meaning ops.now) code) arg.now at count) }
     {
-        render_into(ops, code, at as u32, arg, &mut self.bytes[at..at + count]);
+        ops.render(code, at as u32, arg, &mut self.bytes[at..at + count]);
     }
 
     // Why bytes would not be written.

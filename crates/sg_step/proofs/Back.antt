@@ -5,14 +5,15 @@ use Rattle.std.proofs.lemmas.List.{length-set}
 use Rattle.sg_base.specs.Page.{cell_in, stored, bytes_of}
 use Rattle.sg_base.specs.Bytes.{IsBytes}
 use Rattle.std.specs.Prelude.{option_and_then}
-use Rattle.sg_ops.specs.Meaning.{RecordMeaning, IsUndoable}
-use Rattle.sg_ops.specs.Laws.{IsLawful}
+use Rattle.sg_ops.specs.Meaning.{RecordMeaning}
+use Rattle.sg_ops.specs.Laws.{IsLawful, undone}
+use Rattle.sg_ops.proofs.Lookups.{known_if}
 use Rattle.sg_ops.specs.Table.{Table, record_at, accepts_of, after_of, before_of}
 use Rattle.sg_slotted.proofs.Room.{full_below}
 use Rattle.sg_base.specs.Slots.{Slots, cell_bytes, with_cell, where_room, put_in, set_in, remove_in}
-use Rattle.sg_base.specs.Sheet.{Sheet, Seen, seen, HasBytes, sheet_of}
-use Rattle.sg_base.specs.Op.{Op, op_of, is_format, opens, shrinks}
-use Rattle.sg_ops.specs.Steps.{item_after, item_before, change_in, with_slots, step, inverse, BringsBytes, IsLeft, WasDone, IsProper}
+use Rattle.sg_base.specs.Sheet.{Sheet, Seen, seen, HasBytes}
+use Rattle.sg_base.specs.Op.{Op, is_format}
+use Rattle.sg_ops.specs.Steps.{item_after, item_before, change_in, with_slots, step, inverse, IsLeft, IsProper}
 use Rattle.sg_base.specs.Op.Op.{Format, Put, Remove, Set, Links, Item, ItemBack}
 use Rattle.sg_step.proofs.Steps.{but, but_here, but_but, but_same, cells_set, stored_seen, step_seen, slots_some, put_is, set_is, remove_is, redone_is, change_is, full_there}
 
@@ -51,16 +52,6 @@ accepted_after op arg item ok = ap (λ (b : Bool). if b then Some (after_of op i
 
 pub known_before : (op : Option RecordMeaning) (arg item : List ℕ) → is_some op ≡ true → item_before op arg item ≡ Some (before_of op item arg)
 known_before op arg item ok = ap (λ (b : Bool). if b then Some (before_of op item arg) else None) ok
-
--- what accepts an item is registered
-pub known_if : (op : Option RecordMeaning) (arg item : List ℕ) → accepts_of op item arg ≡ true → is_some op ≡ true
-known_if None arg item ok = absurd (cc)
-known_if (Some m) arg item ok = refl
-
--- what the law says of an operation that may not be there
-law_of : (op : Option RecordMeaning) (item arg : List ℕ) → IfSome op IsUndoable → IsBytes item → IsBytes arg → accepts_of op item arg ≡ true → before_of op (after_of op item arg) arg ≡ item
-law_of None item arg law in_item in_arg ok = absurd (cc)
-law_of (Some m) item arg law in_item in_arg ok = law.undoes item arg in_item in_arg ok
 
 -- one cell put back as it was
 pub record IsRestored (p q : Sheet) (slot : ℕ) (v : Option (List ℕ)) : Type 0 where
@@ -137,7 +128,7 @@ back t law (Item slot code arg) p new q plain bytes ok e alike long room =
     ∙ ap (λ (o : Option (List ℕ)). record (seen p) { cells = but (cell_in p.slots) slot (option_map (λ c. after_of op c arg) o) }) w.full) in
     let there : cell_in q.slots slot ≡ Some left = now_there p q slot (Some left) s in
     let r = restored p q slot (Some left) (Some was) s (some_below q.slots slot left there) w.full in
-    let again : before_of op left arg ≡ was = law_of op was arg (law.undoable code) (if_bytes was (cell_in p.slots slot) w.full (bytes slot)) ok.bytes g.accepted in
+    let again : before_of op left arg ≡ was = undone op was arg (law.undoable code) (if_bytes was (cell_in p.slots slot) w.full (bytes slot)) ok.bytes g.accepted in
     by_slots t (Item slot code arg) p q slot (Some was) (change_in q.slots slot (item_before op arg)) refl
     (changes q.slots slot (item_before op arg) left was there (known_before op arg left (known_if op arg was g.accepted) ∙ ap (λ (x : List ℕ). Some x) again)) r
 back t law (ItemBack slot code arg) p new q plain bytes ok e alike long room =
@@ -147,7 +138,7 @@ back t law (ItemBack slot code arg) p new q plain bytes ok e alike long room =
     let was : List ℕ = cell_bytes (cell_in p.slots slot) in
     let l = if_left op arg was (cell_in p.slots slot) w.full ok.done in
     let gone : List ℕ = before_of op was arg in
-    let item : gone ≡ l.item = ap (λ (x : List ℕ). before_of op x arg) l.left ∙ law_of op l.item arg (law.undoable code) l.bytes ok.bytes l.accepted in
+    let item : gone ≡ l.item = ap (λ (x : List ℕ). before_of op x arg) l.left ∙ undone op l.item arg (law.undoable code) l.bytes ok.bytes l.accepted in
     let s : seen q ≡ record (seen p) { cells = but (cell_in p.slots) slot (Some gone) } = alike ∙ (step_seen t (ItemBack slot code arg) p new e
     ∙ ap (λ (o : Option (List ℕ)). record (seen p) { cells = but (cell_in p.slots) slot (option_map (λ c. before_of op c arg) o) }) w.full) in
     let there : cell_in q.slots slot ≡ Some gone = now_there p q slot (Some gone) s in

@@ -1,6 +1,6 @@
 -- What a page says once the cell of a slot was changed, and that it can be.
 use Rattle.std.specs.Prelude.{option_and_then}
-use Rattle.std.proofs.Common.{◌≡◌, ℕ, List, length, Option, Some, None, Result, Ok, Err, Bool, true, false, OnOk, OnErr, is_ok, ap, sym, ◌∙◌}
+use Rattle.std.proofs.Common.{◌≡◌, ℕ, List, length, Option, Some, None, Result, Ok, Err, true, false, OnOk, OnErr, is_ok, ap, sym, ◌∙◌}
 use Rattle.sg_base.specs.Page.{Header, IsSlotted, header_of, slots_of, cell_in}
 use Rattle.sg_base.specs.Sheet.{sheet_of}
 use Rattle.sg_base.specs.Slots.{set_in}

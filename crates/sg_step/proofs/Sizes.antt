@@ -4,14 +4,15 @@ use Rattle.std.proofs.lemmas.Bool.Decides.{nat_tests}
 use Rattle.std.proofs.lemmas.List.{length-set, length_push}
 use Rattle.sg_base.specs.Page.{cell_in, cell_size, stored, bytes_of}
 use Rattle.sg_base.specs.Bytes.{IsBytes}
-use Rattle.sg_ops.specs.Meaning.{RecordMeaning, IsUndoable}
+use Rattle.sg_ops.specs.Meaning.{RecordMeaning}
 use Rattle.sg_ops.specs.Laws.{IsLawful}
-use Rattle.sg_ops.specs.Table.{Table, record_at, accepts_of, after_of, before_of}
+use Rattle.sg_ops.proofs.Lookups.{after_bytes, before_bytes, after_long, before_long}
+use Rattle.sg_ops.specs.Table.{Table, record_at, after_of, before_of}
 use Rattle.sg_slotted.proofs.Room.{bytes_with, bytes_without, bytes_of-set, bytes_of-push}
-use Rattle.sg_base.specs.Slots.{Slots, cell_bytes, with_cell, where_room, put_in, set_in, remove_in}
-use Rattle.sg_base.specs.Sheet.{Sheet, Seen, seen, HasBytes, sheet_of}
-use Rattle.sg_base.specs.Op.{Op, op_of, is_format, opens, shrinks}
-use Rattle.sg_ops.specs.Steps.{item_after, item_before, change_in, with_slots, step, inverse, BringsBytes, IsLeft, WasDone, IsProper}
+use Rattle.sg_base.specs.Slots.{cell_bytes, put_in, set_in, remove_in}
+use Rattle.sg_base.specs.Sheet.{Sheet, Seen, seen, HasBytes}
+use Rattle.sg_base.specs.Op.{Op, is_format, opens, shrinks}
+use Rattle.sg_ops.specs.Steps.{item_after, item_before, change_in, step, IsProper}
 use Rattle.sg_base.specs.Op.Op.{Format, Put, Remove, Set, Links, Item, ItemBack}
 use Rattle.sg_step.proofs.Steps.{but, seen_step, step_seen, slots_some, put_is, set_is, remove_is, redone_is, undone_is, change_is}
 use Rattle.sg_step.proofs.Back.{if_bytes}
@@ -22,22 +23,6 @@ but_bytes f i v h g j = by (j == i)
     by : (b : Bool) → IfSome (cond b v (f j)) IsBytes
     by true = g
     by false = h j
-
-after_bytes : (op : Option RecordMeaning) (item arg : List ℕ) → IfSome op IsUndoable → IsBytes item → IsBytes arg → accepts_of op item arg ≡ true → IsBytes (after_of op item arg)
-after_bytes None item arg law a b ok = absurd (cc)
-after_bytes (Some m) item arg law a b ok = law.leaves_bytes item arg a b ok
-
-before_bytes : (op : Option RecordMeaning) (item arg : List ℕ) → IfSome op IsUndoable → IsBytes item → IsBytes arg → IsBytes (before_of op item arg)
-before_bytes None item arg law a b = a
-before_bytes (Some m) item arg law a b = law.undo_leaves_bytes item arg a b
-
-after_long : (op : Option RecordMeaning) (item arg : List ℕ) → IfSome op IsUndoable → IsBytes item → IsBytes arg → accepts_of op item arg ≡ true → length (after_of op item arg) ≡ length item
-after_long None item arg law a b ok = absurd (cc)
-after_long (Some m) item arg law a b ok = law.keeps_length item arg a b ok
-
-before_long : (op : Option RecordMeaning) (item arg : List ℕ) → IfSome op IsUndoable → IsBytes item → IsBytes arg → length (before_of op item arg) ≡ length item
-before_long None item arg law a b = refl
-before_long (Some m) item arg law a b = law.undo_keeps_length item arg a b
 
 -- the cells stay bytes
 pub keeps_bytes : (t : Table) → IsLawful t → (op : Op) (p new : Sheet) → HasBytes p → IsProper t op p → step t op p ≡ Some new → HasBytes new

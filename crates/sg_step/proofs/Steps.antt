@@ -10,9 +10,9 @@ use Rattle.sg_ops.specs.Meaning.{RecordMeaning}
 use Rattle.sg_ops.specs.Table.{Table, record_at, accepts_of, after_of, before_of}
 use Rattle.sg_slotted.proofs.Room.{full_below}
 use Rattle.sg_base.specs.Slots.{Slots, cell_bytes, with_cell, where_room, put_in, set_in, remove_in}
-use Rattle.sg_base.specs.Sheet.{Sheet, Seen, seen, HasBytes, sheet_of}
-use Rattle.sg_base.specs.Op.{Op, op_of, is_format, opens, shrinks}
-use Rattle.sg_ops.specs.Steps.{item_after, item_before, change_in, with_slots, step, inverse, BringsBytes, IsLeft, WasDone, IsProper}
+use Rattle.sg_base.specs.Sheet.{Sheet, Seen, seen}
+use Rattle.sg_base.specs.Op.{Op}
+use Rattle.sg_ops.specs.Steps.{item_after, item_before, change_in, with_slots, step}
 use Rattle.sg_base.specs.Op.Op.{Format, Put, Remove, Set, Links, Item, ItemBack}
 
 -- the cells with one replaced

@@ -12,6 +12,7 @@ use sg_ops::Ops;
 use sg_slotted::{format, put, remove, set, set_links};
 
 // Does the operation with this code to the cell of a full slot, where it accepts the cell.
+#[tactic(auto, unfolding(sg_ops::specs::Table::accepts_of))]
 fn redo_item(page: &mut [u8], slot: u16, code: u16, arg: &[u8], ops: &Ops) -> bool
     requires { IsSlotted page.old }
     ensures slotted { IsSlotted page.new }

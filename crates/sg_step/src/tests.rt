@@ -1,6 +1,6 @@
 use super::*;
 use sg_base::{PAGE_SIZE, PageOp, view};
-use sg_ops::{Add, Ops};
+use sg_ops::Ops;
 use sg_slotted::format;
 use std::test::Fail;
 
@@ -22,8 +22,7 @@ fn cell(page: &[u8], slot: u16) -> Option<&[u8]> {
 
 #[test]
 fn each_operation_is_done_where_it_fits(rt: HostRuntime) -> Result<(), Fail> {
-    let mut ops = Ops::new(rt.alloc())?;
-    assert!(rt; ops.register_record(Box::new(rt.alloc(), Add)?).is_ok());
+    let ops = Ops::shipped(rt.alloc())?;
     let mut page = [0xff; PAGE_SIZE];
     format(&mut page, 0);
     let table = [

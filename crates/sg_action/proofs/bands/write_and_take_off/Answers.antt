@@ -1,5 +1,4 @@
-use Rattle.std.proofs.Common.{◌≡◌, ℕ, ◌+◌, ◌≤◌, List, length, take, drop, refl, ap, sym, ◌∙◌, arith, length-drop}
-use Rattle.std.proofs.lemmas.List.{length-take-le}
+use Rattle.std.proofs.Common.{ℕ, List, length, refl, ap, ◌∙◌}
 use Rattle.sg_base.specs.Overwritten.{overwritten}
 use Rattle.sg_action.proofs.WrittenBack.{overwritten_back}
 use Rattle.sg_action.proofs.bands.write_and_take_off.Goals as goal

@@ -1,6 +1,5 @@
-use Rattle.std.proofs.Common.{refl}
 use Rattle.sg_ops.specs.Table.{table_of}
-use Rattle.sg_action.proofs.TakenOff.{takes_off, goes_on, bytes_come_back}
+use Rattle.sg_action.proofs.TakenOff.{goes_on}
 use Rattle.sg_action.proofs.laws.goes_on.Goals as goal
 
 pub returns : goal.returns

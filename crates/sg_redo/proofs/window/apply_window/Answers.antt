@@ -2,7 +2,7 @@ use Rattle.std.proofs.Common.{◌↔◌, ◌⊎◌, ℕ, Option, sym, subst}
 use Rattle.sg_ops.specs.Meaning.{RangeMeaning}
 use Rattle.sg_ops.specs.Table.{table_of, range_at}
 use Rattle.sg_segment.specs.Runs.{IsMarked, IsWithin}
-use Rattle.sg_redo.proofs.Painting.{length-rendered}
+use Rattle.sg_ops.proofs.Rendering.{length-rendered}
 use Rattle.sg_redo.proofs.window.apply_window.Goals as goal
 
 pub returns-in-Paint-clause-marked : goal.returns-in-Paint-clause-marked

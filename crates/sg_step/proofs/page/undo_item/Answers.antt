@@ -1,10 +1,10 @@
-use Rattle.std.proofs.Common.{◌≡◌, ℕ, List, length, Option, Some, None, true, false, is_some, ap, sym, ◌∙◌, arith}
+use Rattle.std.proofs.Common.{◌≡◌, ℕ, List, length, Option, Some, None, true, is_some, ap, sym, ◌∙◌, arith}
 use Rattle.std.proofs.lemmas.Bool.{OnTrue_from, OnFalse_from}
 use Rattle.sg_base.specs.Page.{slots_of, cell_in}
 use Rattle.sg_base.specs.Slots.{set_in}
 use Rattle.sg_ops.specs.Meaning.{RecordMeaning}
-use Rattle.sg_ops.specs.Steps.{item_after, item_before}
-use Rattle.sg_ops.specs.Table.{table_of, record_at, accepts_of, after_of, before_of}
+use Rattle.sg_ops.specs.Steps.{item_before}
+use Rattle.sg_ops.specs.Table.{table_of, record_at, before_of}
 use Rattle.sg_step.proofs.Back.{known_before}
 use Rattle.sg_step.proofs.Sheets.{item_changed, item_bytes, never_refused, ok_at, err_at}
 use Rattle.sg_slotted.specs.Layout.{set_layout}

@@ -1,7 +1,7 @@
-use Rattle.std.proofs.Common.{◌≡◌, Some, None, Option, Bool, false, true, IsSome, refl, sym, ◌∙◌, ap, subst}
+use Rattle.std.proofs.Common.{◌≡◌, Bool, false, true, refl}
 use Rattle.std.proofs.lemmas.Bool.{OnTrue_from, OnTrue_at, OnFalse_from, OnFalse_at}
 use Rattle.sg_base.specs.Op.{op_of}
-use Rattle.sg_base.specs.Sheet.{Sheet, sheet_of}
+use Rattle.sg_base.specs.Sheet.{sheet_of}
 use Rattle.sg_ops.specs.Table.{table_of}
 use Rattle.sg_step.proofs.After.{back_after, some_is}
 use Rattle.sg_step.proofs.take_off.do_and_take_off.Goals as goal
