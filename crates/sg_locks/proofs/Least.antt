@@ -19,11 +19,27 @@ pub lesser_none : (r : Option ℕ) → lesser_of r None ≡ r
 lesser_none None = refl
 lesser_none (Some n) = refl
 
-lesser_assoc : (a b c : Option ℕ) → lesser_of (lesser_of a b) c ≡ lesser_of a (lesser_of b c)
+pub lesser_assoc : (a b c : Option ℕ) → lesser_of (lesser_of a b) c ≡ lesser_of a (lesser_of b c)
 lesser_assoc None b c = refl
 lesser_assoc (Some n) None c = refl
 lesser_assoc (Some n) (Some m) None = refl
 lesser_assoc (Some n) (Some m) (Some k) = ap Some (omega arith)
+
+-- the lesser of a number and of two others
+pub both : (n : ℕ) (l r : Option ℕ) → lesser n (lesser_of l r) ≡ lesser_of (lesser n l) (lesser n r)
+both n None None = ap Some (omega arith)
+both n None (Some k) = ap Some (omega arith)
+both n (Some m) None = ap Some (omega arith)
+both n (Some m) (Some k) = ap Some (omega arith)
+
+pub left : (n : ℕ) (l r : Option ℕ) → lesser n (lesser_of l r) ≡ lesser_of (lesser n l) r
+left n None r = refl
+left n (Some m) None = refl
+left n (Some m) (Some k) = ap Some (omega arith)
+
+pub right : (n : ℕ) (l r : Option ℕ) → lesser n (lesser_of l r) ≡ lesser_of l (lesser n r)
+right n None r = refl
+right n (Some m) r = lesser_swap n m r
 
 module _ {B : Type 0} (f : B → Hold Resource) (p : Hold Resource → Bool) where
   -- one more hold at the end of a front
@@ -68,21 +84,6 @@ module _ (t : ℕ) where
       go : (b : Bool) (r : Option ℕ) → r ≡ None → cond (b && false) (lesser h.transaction r) r ≡ None
       go true r e = e
       go false r e = e
-
-  both : (n : ℕ) (l r : Option ℕ) → lesser n (lesser_of l r) ≡ lesser_of (lesser n l) (lesser n r)
-  both n None None = ap Some (omega arith)
-  both n None (Some k) = ap Some (omega arith)
-  both n (Some m) None = ap Some (omega arith)
-  both n (Some m) (Some k) = ap Some (omega arith)
-
-  left : (n : ℕ) (l r : Option ℕ) → lesser n (lesser_of l r) ≡ lesser_of (lesser n l) r
-  left n None r = refl
-  left n (Some m) None = refl
-  left n (Some m) (Some k) = ap Some (omega arith)
-
-  right : (n : ℕ) (l r : Option ℕ) → lesser n (lesser_of l r) ≡ lesser_of l (lesser n r)
-  right n None r = refl
-  right n (Some m) r = lesser_swap n m r
 
   -- who is in the way of several touches is in the way of the first or of the rest
   pub first_more : (a : Touch Resource) (rest : List (Touch Resource)) (hs : List (Hold Resource)) → first_holder conflict t (a ∷ rest) hs ≡ lesser_of (least_of (blocks t a) hs) (first_holder conflict t rest hs)

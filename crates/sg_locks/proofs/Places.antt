@@ -1,8 +1,8 @@
 -- The first place at which an element passes, and what is held once a touch has been added there.
-use Rattle.std.proofs.Common.{◌≡◌, ℕ, zero, suc, ◌+◌, ◌<◌, Bool, true, false, cond, List, [], ◌∷◌, ◌++◌, map, length, take, get_or, set, Option, Some, None, refl, sym, ap, ◌∙◌, subst, arith, add-one}
+use Rattle.std.proofs.Common.{◌≡◌, ℕ, zero, suc, ◌+◌, ◌<◌, ◌≤◌, Bool, true, false, cond, not, List, [], ◌∷◌, ◌++◌, map, length, take, get_or, set, Option, Some, None, refl, sym, ap, ◌∙◌, subst, arith, add-one}
 use Rattle.std.specs.Prelude.{◌||◌}
 use Rattle.std.specs.Option.{option_map, option_or, is_some}
-use Rattle.std.specs.List.{list_any}
+use Rattle.std.specs.List.{list_any, filter}
 use Rattle.sg_serial.specs.Locks.{Touch, Hold, hold_one, is_pair}
 use Rattle.sg_model.specs.Touches.{Resource, same_resource}
 use Rattle.sg_locks.specs.Places.{first_place, joined}
@@ -26,9 +26,13 @@ place_within p (x ∷ xs) i e = go (p x) (first_place p xs) e (place_within p xs
     go false None e h = absurd (cc)
     go false (Some j) e h = let q : suc j ≡ i = cc in let l : j < length xs = h j refl in omega arith
 
+pub none_found : (r : Option ℕ) → option_or r None ≡ r
+none_found None = refl
+none_found (Some n) = refl
+
 module _ {A B : Type 0} (f : B → A) (p : A → Bool) where
   -- one more element at the end of a front
-  place_more : (xs : List B) (i : ℕ) (d : B) → i < length xs → first_place p (map f (take (suc i) xs)) ≡ option_or (first_place p (map f (take i xs))) (cond (p (f (get_or xs i d))) (Some i) None)
+  pub place_more : (xs : List B) (i : ℕ) (d : B) → i < length xs → first_place p (map f (take (suc i) xs)) ≡ option_or (first_place p (map f (take i xs))) (cond (p (f (get_or xs i d))) (Some i) None)
   place_more [] i d h = absurd (omega arith)
   place_more (x ∷ xs) zero d h = refl
   place_more (x ∷ xs) (suc i) d h = go (p (f x)) (p (f (get_or xs i d))) (first_place p (map f (take i xs))) (first_place p (map f (take (suc i) xs))) (place_more xs i d (omega arith))
@@ -57,6 +61,48 @@ module _ {A B : Type 0} (f : B → A) (p : A → Bool) where
   place_walked xs i n x found new h one is e =
       ap (option_or (first_place p (map f (take i xs)))) (e ∙ ap (λ y. cond (p (f y)) (Some i) found) is)
       ∙ (place_step xs i x found h ∙ ap (λ m. option_or (first_place p (map f (take m xs))) found) (sym one))
+
+  -- one that doesn't pass
+  pub place_none : (xs : List B) (i : ℕ) (d : B) → i < length xs → first_place p (map f (take i xs)) ≡ None → p (f (get_or xs i d)) ≡ false → first_place p (map f (take (i + 1) xs)) ≡ None
+  place_none xs i d h none off =
+      ap (λ n. first_place p (map f (take n xs))) (add-one i)
+      ∙ (place_more xs i d h ∙ (ap (λ r. option_or r (cond (p (f (get_or xs i d))) (Some i) None)) none ∙ ap (λ b. cond {A = Option ℕ} b (Some i) None) off))
+
+  -- and the first that does
+  pub place_found : (xs : List B) (i : ℕ) (d : B) → i < length xs → first_place p (map f (take i xs)) ≡ None → p (f (get_or xs i d)) ≡ true → first_place p (map f xs) ≡ Some i
+  place_found [] i d h none on = absurd (omega arith)
+  place_found (x ∷ xs) zero d h none on = ap (λ b. cond b (Some 0) (option_map suc (first_place p (map f xs)))) on
+  place_found (x ∷ xs) (suc i) d h none on = go (p (f x)) (first_place p (map f (take i xs))) none (λ e. place_found xs i d (omega arith) e on)
+    where
+      go : (b : Bool) (r : Option ℕ) → cond b (Some 0) (option_map suc r) ≡ None → (r ≡ None → first_place p (map f xs) ≡ Some i) → cond b (Some 0) (option_map suc (first_place p (map f xs))) ≡ Some (suc i)
+      go true r e rest = absurd (cc)
+      go false None e rest = ap (option_map suc) (rest refl)
+      go false (Some j) e rest = absurd (cc)
+
+  -- what stands before the first that passes stays where those that pass are left out
+  pub kept_front : (xs : List B) (n : ℕ) → first_place p (map f xs) ≡ Some n → (n ≤ length (filter (λ x. not (p (f x))) xs)) × (take n (filter (λ x. not (p (f x))) xs) ≡ take n xs)
+  kept_front [] n e = absurd (cc)
+  kept_front (x ∷ xs) n e = go (p (f x)) (first_place p (map f xs)) e (kept_front xs)
+    where
+      go : (b : Bool) (r : Option ℕ) → cond b (Some 0) (option_map suc r) ≡ Some n
+          → ((m : ℕ) → r ≡ Some m → (m ≤ length (filter (λ x. not (p (f x))) xs)) × (take m (filter (λ x. not (p (f x))) xs) ≡ take m xs))
+          → (n ≤ length (cond (not b) (x ∷ filter (λ x. not (p (f x))) xs) (filter (λ x. not (p (f x))) xs))) × (take n (cond (not b) (x ∷ filter (λ x. not (p (f x))) xs) (filter (λ x. not (p (f x))) xs)) ≡ take n (x ∷ xs))
+      go true r e rest =
+          let q : 0 ≡ n = cc in (omega arith, subst (λ (k : ℕ). take k (filter (λ x. not (p (f x))) xs) ≡ take k (x ∷ xs)) q refl)
+      go false None e rest = absurd (cc)
+      go false (Some m) e rest =
+          let q : suc m ≡ n = cc in let h = rest m refl in let l = h.0 in
+          (omega arith, subst (λ (k : ℕ). take k (x ∷ filter (λ x. not (p (f x))) xs) ≡ take k (x ∷ xs)) q (ap (λ ys. x ∷ ys) h.1))
+
+-- where none passes nothing is left out
+pub all_kept : {A : Type 0} (p : A → Bool) (xs : List A) → first_place p xs ≡ None → filter (λ x. not (p x)) xs ≡ xs
+all_kept p [] e = refl
+all_kept p (x ∷ xs) e = go (p x) (first_place p xs) e (all_kept p xs)
+  where
+    go : (b : Bool) (r : Option ℕ) → cond b (Some 0) (option_map suc r) ≡ None → (r ≡ None → filter (λ x. not (p x)) xs ≡ xs) → cond (not b) (x ∷ filter (λ x. not (p x)) xs) (filter (λ x. not (p x)) xs) ≡ x ∷ xs
+    go true r e rest = absurd (cc)
+    go false None e rest = ap (λ ys. x ∷ ys) (rest refl)
+    go false (Some m) e rest = absurd (cc)
 
 module _ (t : ℕ) (a : Touch Resource) where
   -- where the transaction holds the resource, that hold is joined by the touch

@@ -1,5 +1,5 @@
 -- Where a hold stands in a table, and who is in the way of a touch.
-use Rattle.std.specs.Prelude.{ℕ, suc, Bool, cond, not, ◌==◌, ◌||◌, ◌&&◌, List, [], ◌∷◌, Option, Some, None}
+use Rattle.std.specs.Prelude.{ℕ, suc, Bool, true, false, cond, not, ◌==◌, ◌||◌, ◌&&◌, List, [], ◌∷◌, Option, Some, None}
 use Rattle.std.specs.Option.{option_map}
 use Rattle.sg_serial.specs.Locks.{Touch, Hold, lesser}
 use Rattle.sg_model.specs.Touches.{Resource, conflict}
@@ -26,3 +26,13 @@ lesser_of (Some n) other = lesser n other
 abbrev pub least_of : (Hold Resource → Bool) → List (Hold Resource) → Option ℕ
 least_of p [] = None
 least_of p (h ∷ hs) = cond (p h) (lesser h.transaction (least_of p hs)) (least_of p hs)
+
+abbrev pub later : Bool → Option ℕ → Option ℕ
+later here (Some n) = Some (suc n)
+later true None = Some 0
+later false None = None
+
+-- the place of the last element that passes
+abbrev pub last_place : {A : Type 0} → (A → Bool) → List A → Option ℕ
+last_place p [] = None
+last_place p (x ∷ xs) = later (p x) (last_place p xs)

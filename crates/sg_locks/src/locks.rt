@@ -11,6 +11,11 @@ use std::marker::Model;
 
 /// What transactions hold: at most 4,096 pairs of a transaction and a resource. Contracts see the
 /// list of pairs, in the order in which they were first held.
+///
+/// A touch is held against the pairs in one bucket of 4,096, into which resources fall by their name
+/// and part, so that it costs about the same with thousands of pairs as with ten. Three things go
+/// with what is held: a touch of all of an object or of all keys of a table looks at each pair on a
+/// name in the name's bucket, a touch of the names at each pair, and a release too.
 #[derive(Drop)]
 pub struct Locks {
     table: Table,

@@ -1,13 +1,17 @@
-ghost use Rattle.std.specs.Prelude.{◌≡◌, ◌+◌, ◌≤◌, ◌==◌, ℕ, [], length, map, IfOk, Option, Some, not, ◌||◌, cond, vec_capacity};
+ghost use Rattle.std.specs.Prelude.{◌≡◌, ◌+◌, ◌<◌, ◌≤◌, ◌==◌, ℕ, [], ◌∷◌, ◌++◌, length, map, take, slice_index_or, IfOk, Option, Some, true, not, ◌||◌, ◌&&◌, cond, vec_capacity};
 ghost use Rattle.std.specs.List.{list_any};
 ghost use Rattle.sg_serial.specs.Locks.{first_holder, lesser, hold_one, hold_all, released, is_pair};
 ghost use Rattle.sg_model.specs.Touches.{same_resource, conflict};
 ghost use Rattle.sg_model.specs.Resources.{shown_resource, shown_touch};
 ghost use Rattle.sg_locks.specs.Answers.{lock_answer, locks_after};
-ghost use Rattle.sg_locks.specs.Places.{first_place, joined, blocks, lesser_of, least_of};
+ghost use Rattle.sg_locks.specs.Buckets.{bucket_of, resource_bucket, name_bucket, resource_buckets, name_buckets};
+ghost use Rattle.sg_locks.specs.Chain.{is_on, IsChain};
+ghost use Rattle.sg_locks.specs.Places.{first_place, last_place, joined, blocks, lesser_of, least_of};
 ghost use Rattle.sg_locks.specs.Shown.{shown_hold, holds_of};
 
-use sg_base::{OutOfMemory, TxnId};
+use crate::bucket::{bucket_of, name_bucket, resource_bucket};
+use crate::chains::Chains;
+use sg_base::{Name, OutOfMemory, TxnId};
 use sg_model::{Resource, Touch, conflict};
 use std::alloc::Global;
 
@@ -15,7 +19,7 @@ use std::alloc::Global;
 pub const MOST_HELD: usize = 4096;
 
 /// What asking for locks comes to.
-#[derive(Clone, Copy)]
+#[derive(Clone, Copy, Debug, PartialEq, Eq)]
 pub enum LockAnswer {
     /// All of them are held now.
     Granted,
@@ -32,12 +36,26 @@ pub struct Hold {
     touch: Touch,
 }
 
-// The pairs in the order in which they were first held.
+// What leads from one hold to those before it: those of the resources in a bucket, those of the
+// names in a bucket, or all.
+#[derive(Clone, Copy)]
+enum Chain {
+    Resource(usize),
+    Name(usize),
+    Every,
+}
+
+// The pairs in the order in which they were first held, and chains of those whose resource, and of
+// those whose name, is in one bucket.
 #[derive(Drop)]
 pub struct Table {
     holds: Vec<Hold>,
+    by_resource: Chains,
+    by_name: Chains,
     ghost room: { 4096 ≤ vec_capacity holds },
     ghost few: { length holds.items ≤ 4096 },
+    ghost resources: { by_resource ≡ resource_buckets (holds_of holds.items) },
+    ghost names: { by_name ≡ name_buckets (holds_of holds.items) },
 }
 
 // Whether another transaction holds this, in conflict with the touch.
@@ -115,28 +133,138 @@ fn place_with(
     found
 }
 
+// The first place that has a hold of the transaction.
+fn first_hold(holds: &[Hold], t: TxnId) -> Option<usize>
+    ensures { result ≡ first_place (λ h. h.transaction == t.0) (holds_of holds.now) }
+{
+    for (place, hold) in holds.iter().enumerate() {
+        if hold.transaction == t {
+            return Some(place);
+        }
+    }
+    None
+}
+
+// A hold of the resource goes to the end of its chains.
+fn add_links(what: &Resource, by_resource: &mut Chains, by_name: &mut Chains)
+    requires resources { length by_resource.old < 4096 }
+    requires names { length by_name.old < 4096 }
+    ensures resources { by_resource.new ≡ by_resource.old ++ resource_bucket (shown_resource what.now) ∷ [] }
+    ensures names { by_name.new ≡ by_name.old ++ name_bucket (shown_resource what.now) ∷ [] }
+{
+    by_resource.push(resource_bucket(what));
+    by_name.push(name_bucket(what));
+}
+
+// The chains of all holds, from those of so many first ones.
+fn link_from(holds: &[Hold], first: usize, by_resource: &mut Chains, by_name: &mut Chains)
+    requires few { length holds.now ≤ 4096 }
+    requires within { first ≤ length holds.now }
+    requires resources { by_resource.old ≡ resource_buckets (map shown_hold (take first holds.now)) }
+    requires names { by_name.old ≡ name_buckets (map shown_hold (take first holds.now)) }
+    ensures resources { by_resource.new ≡ resource_buckets (holds_of holds.now) }
+    ensures names { by_name.new ≡ name_buckets (holds_of holds.now) }
+{
+    for i in first..holds.len() {
+        add_links(&holds[i].touch.what, by_resource, by_name);
+    }
+}
+
 impl Table {
     // Nothing is held.
     pub fn new(alloc: Global) -> Result<Table, OutOfMemory>
         ensures { IfOk result (λ l. holds_of l.holds.items ≡ []) }
     {
-        match Vec::with_capacity(alloc, MOST_HELD) {
-            Ok(holds) => Ok(Table { holds }),
-            Err(_) => Err(OutOfMemory),
+        let Ok(holds) = Vec::with_capacity(alloc, MOST_HELD) else {
+            return Err(OutOfMemory);
+        };
+        Ok(Table {
+            holds,
+            by_resource: Chains::new(alloc)?,
+            by_name: Chains::new(alloc)?,
+        })
+    }
+
+    // The last hold on the chain.
+    fn last(&self, chain: Chain) -> Option<usize>
+        requires { IsChain chain }
+        ensures { result ≡ last_place (is_on chain) (holds_of self.now.holds.items) }
+    {
+        match chain {
+            Chain::Resource(bucket) => self.by_resource.last(bucket),
+            Chain::Name(bucket) => self.by_name.last(bucket),
+            Chain::Every => self.holds.len().checked_sub(1),
         }
     }
 
-    // The lesser of the number and the least transaction that is in the way of the touch.
+    // The hold before this one on the chain.
+    fn earlier(&self, chain: Chain, at: usize) -> Option<usize>
+        requires within { at < length self.now.holds.items }
+        requires on { (h : Hold) → is_on chain (shown_hold (slice_index_or self.now.holds.items at h)) ≡ true }
+        ensures { result ≡ last_place (is_on chain) (map shown_hold (take at self.now.holds.items)) }
+    {
+        match chain {
+            Chain::Resource(_) => self.by_resource.earlier(at),
+            Chain::Name(_) => self.by_name.earlier(at),
+            Chain::Every => at.checked_sub(1),
+        }
+    }
+
+    // The lesser of the number and the least transaction on the chain that is in the way of the touch.
+    fn least_along(&self, chain: Chain, t: TxnId, touch: &Touch, least: Option<u64>) -> Option<u64>
+        requires { IsChain chain }
+        ensures { result ≡ lesser_of least (least_of (λ h. is_on chain h && blocks t.0 (shown_touch touch.now) h) (holds_of self.now.holds.items)) }
+    {
+        let mut least = least;
+        let mut at = self.last(chain);
+        while let Some(place) = at {
+            least = least_with(t, touch, &self.holds[place], least);
+            at = self.earlier(chain, place);
+        }
+        least
+    }
+
+    // The same of the holds whose resource has the bucket of this one.
+    fn least_at(&self, what: &Resource, t: TxnId, touch: &Touch, least: Option<u64>) -> Option<u64>
+        ensures { result ≡ lesser_of least (least_of (λ h. (resource_bucket h.touch.what == resource_bucket (shown_resource what.now)) && blocks t.0 (shown_touch touch.now) h) (holds_of self.now.holds.items)) }
+    {
+        self.least_along(Chain::Resource(resource_bucket(what)), t, touch, least)
+    }
+
+    // The same of the holds whose name has the bucket of this one.
+    fn least_under(&self, name: &Name, t: TxnId, touch: &Touch, least: Option<u64>) -> Option<u64>
+        ensures { result ≡ lesser_of least (least_of (λ h. (name_bucket h.touch.what == bucket_of name.now) && blocks t.0 (shown_touch touch.now) h) (holds_of self.now.holds.items)) }
+    {
+        self.least_along(Chain::Name(bucket_of(name)), t, touch, least)
+    }
+
+    // The lesser of the number and the least transaction that is in the way of the touch. Only holds
+    // on the chains that are walked here can be.
     fn least_in_way(&self, t: TxnId, touch: &Touch, least: Option<u64>) -> Option<u64>
         ensures { result ≡ lesser_of least (least_of (blocks t.0 (shown_touch touch.now)) (holds_of self.now.holds.items)) }
     {
-        let mut least = least;
-        let mut left = self.holds.len();
-        while left > 0 {
-            left -= 1;
-            least = least_with(t, touch, &self.holds[left], least);
+        match &touch.what {
+            Resource::Names => self.least_along(Chain::Every, t, touch, least),
+            Resource::AllOf(name) => {
+                let least = self.least_under(name, t, touch, least);
+                self.least_at(&Resource::Names, t, touch, least)
+            }
+            Resource::Keys(name) => self.least_under(name, t, touch, least),
+            Resource::Name(name) => {
+                let least = self.least_at(&touch.what, t, touch, least);
+                let least = self.least_at(&Resource::AllOf(*name), t, touch, least);
+                self.least_at(&Resource::Names, t, touch, least)
+            }
+            Resource::Key(name, _) => {
+                let least = self.least_at(&touch.what, t, touch, least);
+                let least = self.least_at(&Resource::AllOf(*name), t, touch, least);
+                self.least_at(&Resource::Keys(*name), t, touch, least)
+            }
+            Resource::Len(name) | Resource::Item(name, _) | Resource::Body(name) => {
+                let least = self.least_at(&touch.what, t, touch, least);
+                self.least_at(&Resource::AllOf(*name), t, touch, least)
+            }
         }
-        least
     }
 
     // The least transaction that is in the way of one of the touches.
@@ -154,11 +282,12 @@ impl Table {
     fn place_of(&self, t: TxnId, what: &Resource) -> Option<usize>
         ensures { result ≡ first_place (is_pair same_resource t.0 (shown_resource what.now)) (holds_of self.now.holds.items) }
     {
+        let bucket = resource_bucket(what);
         let mut found = None;
-        let mut left = self.holds.len();
-        while left > 0 {
-            left -= 1;
-            found = place_with(t, what, &self.holds[left], left, found);
+        let mut at = self.last(Chain::Resource(bucket));
+        while let Some(place) = at {
+            found = place_with(t, what, &self.holds[place], place, found);
+            at = self.earlier(Chain::Resource(bucket), place);
         }
         found
     }
@@ -193,6 +322,15 @@ impl Table {
         count
     }
 
+    // One more hold at the end, for which there is room.
+    fn add(&mut self, hold: Hold)
+        requires { length self.old.holds.items < 4096 }
+        ensures { holds_of self.new.holds.items ≡ holds_of self.old.holds.items ++ shown_hold hold ∷ [] }
+    {
+        add_links(&hold.touch.what, &mut self.by_resource, &mut self.by_name);
+        self.holds.push_reserved(hold);
+    }
+
     // The transaction holds one more touch, for which there is room.
     fn hold(&mut self, t: TxnId, touch: &Touch)
         requires { length (hold_one same_resource t.0 (shown_touch touch.now) (holds_of self.old.holds.items)) ≤ 4096 }
@@ -203,7 +341,7 @@ impl Table {
                 let held = joined(&self.holds[at], touch);
                 self.holds[at] = held;
             }
-            None => self.holds.push_reserved(Hold {
+            None => self.add(Hold {
                 transaction: t,
                 touch: *touch,
             }),
@@ -235,6 +373,17 @@ impl Table {
     pub fn release(&mut self, t: TxnId)
         ensures { holds_of self.new.holds.items ≡ released t.0 (holds_of self.old.holds.items) }
     {
+        let Some(first) = first_hold(self.holds.as_slice(), t) else {
+            return;
+        };
+        self.by_resource.truncate(first);
+        self.by_name.truncate(first);
         self.holds.retain(|hold| hold.transaction != t);
+        link_from(
+            self.holds.as_slice(),
+            first,
+            &mut self.by_resource,
+            &mut self.by_name,
+        );
     }
 }

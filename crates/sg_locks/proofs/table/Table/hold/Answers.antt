@@ -1,9 +1,10 @@
 use Rattle.std.proofs.Common.{◌≡◌, arith, sym, ap, ◌∙◌, ◌∷◌, [], map, set, get_or, length, length-append, ◌<◌}
-use Rattle.std.proofs.lemmas.List.{map-append, map-set, length-map, get_or-map}
-use Rattle.sg_serial.specs.Locks.{is_pair}
-use Rattle.sg_model.specs.Touches.{same_resource}
+use Rattle.std.proofs.lemmas.List.{map-set, length-map, length-set, get_or-map}
+use Rattle.sg_serial.specs.Locks.{Hold, is_pair}
+use Rattle.sg_model.specs.Touches.{Resource, same_resource}
 use Rattle.sg_model.specs.Resources.{shown_touch}
-use Rattle.sg_locks.specs.declared.table.Hold as code
+use Rattle.sg_locks.specs.Buckets.{resource_bucket, name_bucket}
+use Rattle.sg_locks.proofs.Indexed.{same_buckets}
 use Rattle.sg_locks.specs.Places.{joined}
 use Rattle.sg_locks.specs.Shown.{shown_hold}
 use Rattle.sg_locks.proofs.Places.{place_within, hold_at, hold_last}
@@ -19,22 +20,12 @@ index_mut-requires c =
     let there = place_within (is_pair same_resource c.args.t.0 (shown_touch c.args.touch.now).what) (map shown_hold c.args.self.now.holds.items) c.in-Some.at (sym c.place_of.ensures ∙ c.in-Some.is) in
     omega (arith, there, length-map c.args.self.now.holds.items shown_hold, c.args.self.now.holds.ok.0)
 
-pub push_reserved-requires : goal.push_reserved-requires
-push_reserved-requires c =
+pub add-requires : goal.add-requires
+add-requires c =
     let items = c.args.self.now.holds.items in
     let longer = ap length (hold_last c.args.t.0 (shown_touch c.args.touch.now) (map shown_hold items) (sym c.place_of.ensures ∙ c.in-None.is)) in
     let one = length-append (map shown_hold items) (record { transaction = c.args.t.0; touch = shown_touch c.args.touch.now } ∷ []) in
-    omega (arith, longer, one, length-map items shown_hold, c.requires, c.args.self.now.room, c.args.self.now.holds.ok.0)
-
-pub invariant_of-self-in-None : goal.invariant_of-self-in-None
-invariant_of-self-in-None c =
-    let items = c.args.self.now.holds.items in
-    let longer = ap length (hold_last c.args.t.0 (shown_touch c.args.touch.now) (map shown_hold items) (sym c.place_of.ensures ∙ c.in-None.is)) in
-    let one = length-append (map shown_hold items) (record { transaction = c.args.t.0; touch = shown_touch c.args.touch.now } ∷ []) in
-    record {
-      room = omega (arith, c.args.self.now.room, c.push_reserved.ensures.capacity);
-      few = omega (arith, longer, one, length-map items shown_hold, c.requires, ap length c.push_reserved.ensures.items, length-append {A = code.Hold});
-    }
+    omega (arith, longer, one, length-map items shown_hold, c.requires)
 
 pub returns-in-Some : goal.returns-in-Some
 returns-in-Some c =
@@ -51,7 +42,19 @@ returns-in-Some c =
 
 pub returns-in-None : goal.returns-in-None
 returns-in-None c =
+    c.add.ensures ∙ hold_last c.args.t.0 (shown_touch c.args.touch.now) (map shown_hold c.args.self.now.holds.items) (sym c.place_of.ensures ∙ c.in-None.is)
+
+pub invariant_of-self : goal.invariant_of-self
+invariant_of-self c =
     let items = c.args.self.now.holds.items in
-    ap (map shown_hold) c.push_reserved.ensures.items
-    ∙ (map-append shown_hold items (record { transaction = c.args.t; touch = c.args.touch.now } ∷ [])
-    ∙ hold_last c.args.t.0 (shown_touch c.args.touch.now) (map shown_hold items) (sym c.place_of.ensures ∙ c.in-None.is))
+    let held = c.joined-held.result in
+    let there = place_within (is_pair same_resource c.args.t.0 (shown_touch c.args.touch.now).what) (map shown_hold items) c.in-Some.at (sym c.place_of.ensures ∙ c.in-Some.is) in
+    let within : c.in-Some.at < length items = omega (arith, there, length-map items shown_hold) in
+    let by_resource = λ (h : Hold Resource). resource_bucket h.touch.what in
+    let by_name = λ (h : Hold Resource). name_bucket h.touch.what in
+    record {
+      room = c.args.self.now.room;
+      few = omega (arith, c.args.self.now.few, length-set items c.in-Some.at held);
+      resources = c.args.self.now.resources ∙ sym (same_buckets by_resource items c.in-Some.at c.index.result.now held within c.index.ensures (ap by_resource c.joined-held.ensures));
+      names = c.args.self.now.names ∙ sym (same_buckets by_name items c.in-Some.at c.index.result.now held within c.index.ensures (ap by_name c.joined-held.ensures));
+    }

@@ -1,9 +1,56 @@
-use Rattle.std.proofs.Common.{rules, ap, ◌∙◌, map, not}
+use Rattle.std.proofs.Common.{rules, ◌≤◌, sym, ap, ◌∙◌, map, not, take, length, arith, subst, List}
 use Rattle.std.specs.Prelude.{◌==◌}
 use Rattle.std.proofs.lemmas.Fn.{filter_same}
+use Rattle.sg_locks.specs.declared.table.Hold as code
+use Rattle.sg_locks.specs.Buckets.{resource_bucket, name_bucket}
+use Rattle.sg_locks.specs.Places.{first_place}
 use Rattle.sg_locks.specs.Shown.{shown_hold}
+use Rattle.sg_serial.specs.Locks.{Hold}
+use Rattle.sg_model.specs.Touches.{Resource}
 use Rattle.sg_locks.proofs.Counting.{map_released}
+use Rattle.sg_locks.proofs.Indexed.{front_buckets}
+use Rattle.sg_locks.proofs.Places.{kept_front, all_kept}
 use Rattle.sg_locks.proofs.table.Table.release.Goals as goal
 
 pub returns : goal.returns
 returns c = ap (map shown_hold) (filter_same _ (λ h. not (h.transaction.0 == c.args.t.0)) _ (λ x b f r. search rules) _ _ c.retain.ensures.filtered) ∙ map_released c.args.t.0 c.args.self.now.holds.items
+
+pub returns-in_default : goal.returns-in_default
+returns-in_default c =
+    sym (all_kept (λ h. h.transaction == c.args.t.0) (map shown_hold c.args.self.now.holds.items) (ap (λ (hs : List code.Hold). first_place (λ h. h.transaction == c.args.t.0) (map shown_hold hs)) (sym c.as_slice.ensures.value) ∙ (sym c.first_hold.ensures ∙ c.in_default.is)))
+
+pub link_from-requires-clause-within : goal.link_from-requires-clause-within
+link_from-requires-clause-within c =
+    let items = c.args.self.now.holds.items in
+    let left = filter_same _ (λ h. not (h.transaction.0 == c.args.t.0)) _ (λ x b f r. search rules) _ _ c.retain.ensures.filtered in
+    let placed = ap (λ (hs : List code.Hold). first_place (λ h. h.transaction == c.args.t.0) (map shown_hold hs)) (sym c.as_slice.ensures.value) ∙ (sym c.first_hold.ensures ∙ c.in-Some.is) in
+    let front = kept_front shown_hold (λ h. h.transaction == c.args.t.0) items c.in-Some.first placed in
+    subst (λ (hs : List code.Hold). c.in-Some.first ≤ length hs) (sym (c.as_slice-2.ensures.value ∙ left)) front.0
+
+pub link_from-requires-clause-resources : goal.link_from-requires-clause-resources
+link_from-requires-clause-resources c =
+    let items = c.args.self.now.holds.items in
+    let left = filter_same _ (λ h. not (h.transaction.0 == c.args.t.0)) _ (λ x b f r. search rules) _ _ c.retain.ensures.filtered in
+    let placed = ap (λ (hs : List code.Hold). first_place (λ h. h.transaction == c.args.t.0) (map shown_hold hs)) (sym c.as_slice.ensures.value) ∙ (sym c.first_hold.ensures ∙ c.in-Some.is) in
+    let front = kept_front shown_hold (λ h. h.transaction == c.args.t.0) items c.in-Some.first placed in
+    let g = λ (h : Hold Resource). resource_bucket h.touch.what in
+    c.truncate.ensures ∙ (ap (take c.in-Some.first) c.args.self.now.resources ∙ (front_buckets g items c.in-Some.first
+    ∙ ap (λ (hs : List code.Hold). map g (map shown_hold hs)) (sym (ap (take c.in-Some.first) (c.as_slice-2.ensures.value ∙ left) ∙ front.1))))
+
+pub link_from-requires-clause-names : goal.link_from-requires-clause-names
+link_from-requires-clause-names c =
+    let items = c.args.self.now.holds.items in
+    let left = filter_same _ (λ h. not (h.transaction.0 == c.args.t.0)) _ (λ x b f r. search rules) _ _ c.retain.ensures.filtered in
+    let placed = ap (λ (hs : List code.Hold). first_place (λ h. h.transaction == c.args.t.0) (map shown_hold hs)) (sym c.as_slice.ensures.value) ∙ (sym c.first_hold.ensures ∙ c.in-Some.is) in
+    let front = kept_front shown_hold (λ h. h.transaction == c.args.t.0) items c.in-Some.first placed in
+    let g = λ (h : Hold Resource). name_bucket h.touch.what in
+    c.truncate-2.ensures ∙ (ap (take c.in-Some.first) c.args.self.now.names ∙ (front_buckets g items c.in-Some.first
+    ∙ ap (λ (hs : List code.Hold). map g (map shown_hold hs)) (sym (ap (take c.in-Some.first) (c.as_slice-2.ensures.value ∙ left) ∙ front.1))))
+
+pub invariant_of-self : goal.invariant_of-self
+invariant_of-self c = record {
+  room = omega (arith, c.args.self.now.room, c.retain.ensures.capacity);
+  few = omega (arith, c.args.self.now.few, c.retain.ensures.bound, c.args.self.now.holds.ok.0, c.retain.new.self.ok.0);
+  resources = c.link_from.ensures.resources ∙ ap (λ (hs : List code.Hold). map (λ (h : Hold Resource). resource_bucket h.touch.what) (map shown_hold hs)) c.as_slice-2.ensures.value;
+  names = c.link_from.ensures.names ∙ ap (λ (hs : List code.Hold). map (λ (h : Hold Resource). name_bucket h.touch.what) (map shown_hold hs)) c.as_slice-2.ensures.value;
+}
