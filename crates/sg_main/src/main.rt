@@ -8,26 +8,20 @@
 //! sink, and which number and text stand for each status.
 #![tactic(auto)]
 
-ghost use Rattle.std.specs.Prelude.{◌≡◌, ◌≢◌, ◌↔◌, ℕ, true, false, map, string_bytes, option_copied};
-ghost use Rattle.std.specs.IoError.{error_kind};
-ghost use Rattle.std.specs.Process.{exit_status};
-ghost use Rattle.sg_top.specs.Top.{are_run, outside, HasGone};
-ghost use Rattle.sg_main.specs.Texts.{number_of};
+ghost use Rattle.std.specs.Prelude.{◌≡◌, ◌↔◌, false, map, string_bytes, option_copied};
+ghost use Rattle.sg_top.specs.Top.{are_run};
+ghost use Rattle.sg_top.specs.declared.status.Status.TheVariants.{Usage};
 ghost use Rattle.sg_main.specs.Words.{folder_in, are_stop};
 
+mod ended;
 mod folder;
 mod status;
 
+use crate::ended::Ended;
 use crate::folder::FolderDisk;
-use crate::status::{Shown, exit_number};
-use sg_base::{ReadSource, Sink, Source, WriteSink};
-use sg_disk::Disk;
-use sg_top::{Finish, Status, stasis};
-use std::alloc::Global;
+use sg_base::{ReadSource, WriteSink};
 use std::fs::File;
-use std::io::ErrorKind;
 use std::os::fd::AsRawFd;
-use std::process::ExitCode;
 use std::{env, io};
 
 // The words after the program's name.
@@ -76,30 +70,9 @@ fn fill_standard_streams(rt: &HostRuntime) -> io::Result<[Option<File>; 3]> {
     Ok(folders)
 }
 
-// Does what the words say over this disk, and answers how `stasis` ended.
-fn perform<D: Disk + Drop, S: Source, K: Sink>(
-    alloc: Global,
-    words: &[String],
-    disk: D,
-    script: &mut S,
-    out: &mut K,
-) -> Status
-    ensures usage { result ≡ Status.Usage ↔ are_run words.now ≡ false }
-    // Some disk was left, and so many calls of it were refused.
-    ensures run { are_run words.now ≡ true → (after : D) × (refused : ℕ) × HasGone D.told (outside (D.view disk) (S.left script.old) (S.faults script.old) (K.taken out.old) (K.faults out.old))
-        (outside (D.view after) (S.left script.new) (S.faults script.new) (K.taken out.new) (K.faults out.new)) refused result }
-{
-    let Finish {
-        status: ended,
-        disk: _,
-        refused: _,
-    } = stasis(alloc, words, disk, script, out);
-    ended
-}
-
 // Does what the words say over the folder that they name, or over none, from standard input to standard output.
-fn run(rt: &HostRuntime, words: &[String]) -> Status
-    ensures usage { result ≡ Status.Usage ↔ are_run words.now ≡ false }
+fn run(rt: &HostRuntime, words: &[String]) -> Ended
+    ensures { result ≡ Usage ↔ are_run words.now ≡ false }
 {
     // Held to the end of the run. Where they can't be had the disk has no folder, so each of its calls fails.
     let streams = fill_standard_streams(rt);
@@ -109,44 +82,20 @@ fn run(rt: &HostRuntime, words: &[String]) -> Status
     match folder_of(words) {
         Some(path) if streams.is_ok() => {
             let disk = FolderDisk::new(rt, path);
-            perform(rt.alloc(), words, disk, &mut script, &mut out)
+            Ended::of_run(rt.alloc(), words, disk, &mut script, &mut out)
         }
         _ => {
             let disk = FolderDisk::<HostRuntime>::none();
-            perform(rt.alloc(), words, disk, &mut script, &mut out)
+            Ended::of_run(rt.alloc(), words, disk, &mut script, &mut out)
         }
     }
 }
 
-// The status where the words couldn't be had.
-fn status_without_words(e: &io::Error) -> Status
-    ensures memory { error_kind e.now ≡ ErrorKind.OutOfMemory → result ≡ Status.Memory }
-    ensures usage { error_kind e.now ≢ ErrorKind.OutOfMemory → result ≡ Status.Usage }
-{
-    match e.kind() {
-        ErrorKind::OutOfMemory => Status::Memory,
-        _ => Status::Usage,
-    }
-}
-
-// Says on standard error how the program ended, and answers the number for it.
-fn conclude(rt: &HostRuntime, status: Status) -> ExitCode
-    ensures { exit_status result ≡ number_of status }
-{
-    if status != Status::Done {
-        let text = Shown(status);
-        // Where standard error can't be written, the number alone says it.
-        let _ = eprintln!(rt; "stasis: {text}");
-    }
-    ExitCode::from(exit_number(status))
-}
-
-fn main(rt: HostRuntime) -> ExitCode {
-    let status = match given_words(&rt) {
+fn main(rt: HostRuntime) -> Ended {
+    match given_words(&rt) {
         Ok(words) => run(&rt, words.as_slice()),
-        Err(e) => status_without_words(&e),
-    };
-    conclude(&rt, status)
+        Err(e) => Ended::without_words(&e),
+    }
 }
 
 #[cfg(test)]

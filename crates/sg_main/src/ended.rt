@@ -1,0 +1,79 @@
+ghost use Rattle.std.specs.Prelude.{◌≡◌, ◌≢◌, ◌↔◌, ℕ, true, false};
+ghost use Rattle.std.specs.IoError.{error_kind};
+ghost use Rattle.std.specs.Process.{exit_status};
+ghost use Rattle.sg_top.specs.Top.{are_run, outside, HasGone};
+ghost use Rattle.sg_main.specs.Texts.{number_of};
+
+use crate::status::{Shown, exit_number};
+use sg_base::{Sink, Source};
+use sg_disk::Disk;
+use sg_top::{Finish, Status, stasis};
+use std::alloc::Global;
+use std::io::{self, Eprint, ErrorKind};
+use std::marker::Model;
+use std::process::{ExitCode, Termination};
+
+/// How the program ended, which contracts see as its status. One is made by a run alone, of the status
+/// with which `stasis` ended, or where the words of the process couldn't be had. `main` answers one, so
+/// it can end with no other number.
+#[derive(Drop)]
+pub struct Ended {
+    status: Status,
+}
+
+impl Model for Ended {
+    ghost use Rattle.sg_top.specs.declared.status.Status.{Status};
+
+    ghost Value = { Status };
+
+    ghost view = { λ e. e.status };
+}
+
+impl Ended {
+    /// Does what the words say over this disk, and keeps how `stasis` ended.
+    pub fn of_run<D: Disk + Drop, S: Source, K: Sink>(
+        alloc: Global,
+        words: &[String],
+        disk: D,
+        script: &mut S,
+        out: &mut K,
+    ) -> Ended
+        ensures usage { result ≡ Status.Usage ↔ are_run words.now ≡ false }
+        // Some disk was left, and so many calls of it were refused.
+        ensures run { are_run words.now ≡ true → (after : D) × (refused : ℕ) × HasGone D.told (outside (D.view disk) (S.left script.old) (S.faults script.old) (K.taken out.old) (K.faults out.old))
+            (outside (D.view after) (S.left script.new) (S.faults script.new) (K.taken out.new) (K.faults out.new)) refused result }
+    {
+        let Finish {
+            status: ended,
+            disk: _,
+            refused: _,
+        } = stasis(alloc, words, disk, script, out);
+        Ended { status: ended }
+    }
+
+    /// Where the words of the process couldn't be had.
+    pub fn without_words(e: &io::Error) -> Ended
+        ensures memory { error_kind e.now ≡ ErrorKind.OutOfMemory → result ≡ Status.Memory }
+        ensures usage { error_kind e.now ≢ ErrorKind.OutOfMemory → result ≡ Status.Usage }
+    {
+        let status = match e.kind() {
+            ErrorKind::OutOfMemory => Status::Memory,
+            _ => Status::Usage,
+        };
+        Ended { status }
+    }
+}
+
+impl Termination for Ended {
+    /// Says on standard error how the program ended, and answers the number for it.
+    fn report<R: Eprint>(self, rt: &R) -> ExitCode
+        ensures { exit_status result ≡ number_of self }
+    {
+        if self.status != Status::Done {
+            let text = Shown(self.status);
+            // Where standard error can't be written, the number alone says it.
+            let _ = eprintln!(rt; "stasis: {text}");
+        }
+        ExitCode::from(exit_number(self.status))
+    }
+}
