@@ -1,4 +1,4 @@
-ghost use Rattle.std.specs.Prelude.{◌≡◌, ◌≤◌, ◌<◌, ◌+◌, ℕ, true, false, IsTrue, Some, IfSome};
+ghost use Rattle.std.specs.Prelude.{◌≡◌, ◌≤◌, ◌<◌, ◌+◌, ℕ, true, false, IsTrue, Some, IfOk, IfSome, length};
 ghost use Rattle.sg_disk.specs.Disk.{FULL, refusing, Spent};
 ghost use Rattle.sg_top.specs.Top.{are_run, stop_after, outside, HasGone, Tells, IsUnhindered, Completes};
 
@@ -9,7 +9,7 @@ use crate::status::{Status, first_fault, status_of_end, status_of_refusal};
 use crate::words::command_of;
 use sg_base::{Sink, Source};
 use sg_disk::{Disk, Fuse, Origin};
-use std::alloc::Global;
+use std::alloc::{AllocError, Global};
 use std::marker::Brand;
 
 /// What a command leaves: its status, the disk, and how many of its calls the stop refused. A count
@@ -36,6 +36,13 @@ fn finished<D: Disk, O: Origin>(status: Status, fuse: Fuse<D, O>) -> Finish<D>
     }
 }
 
+// So many zeros.
+fn zeros(alloc: Global, count: usize) -> Result<Vec<u8>, AllocError>
+    ensures { IfOk result (λ v. length v.items ≡ count) }
+{
+    vec![in alloc; 0; count]
+}
+
 // Runs the script over the disk, which makes so many calls at most where a number is given.
 fn run_behind_fuse<D: Disk, S: Source, K: Sink, O: Origin>(
     alloc: Global,
@@ -53,7 +60,7 @@ fn run_behind_fuse<D: Disk, S: Source, K: Sink, O: Origin>(
     ensures heeded { (result.status ≡ Status.Disk → ⊥) → ((D.view result.disk).faults ≡ (D.view disk).faults) × (result.refused ≡ 0) }
     ensures spent { Spent calls (D.view disk).calls (D.view result.disk).calls result.refused }
 {
-    let Ok(piece) = vec![in alloc; 0; 65536] else {
+    let Ok(piece) = zeros(alloc, 65_536) else {
         return Finish {
             status: Status::Memory,
             disk,
