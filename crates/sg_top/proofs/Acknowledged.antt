@@ -1,5 +1,5 @@
 -- All commits but the last were acknowledged.
-use Rattle.std.proofs.Common.{◌≡◌, ◌==◌, ℕ, ◌+◌, ◌<◌, ◌≤◌, Bool, true, false, cond, List, [], ◌∷◌, ◌++◌, length, Option, Some, None, is_some, refl, sym, ap, ◌∙◌, subst, arith, length-append}
+use Rattle.std.proofs.Common.{◌≡◌, ◌==◌, ℕ, ◌+◌, ◌≤◌, Bool, true, false, cond, List, [], ◌∷◌, ◌++◌, length, Option, Some, None, is_some, refl, sym, ap, ◌∙◌, subst, arith, length-append}
 use Rattle.sg_model.specs.declared.stop.Stop.{Stop}
 use Rattle.sg_model.specs.declared.stop.Stop.TheVariants as stops
 use Rattle.sg_model.specs.Objects.{Op}
@@ -11,7 +11,7 @@ use Rattle.sg_words.specs.Order.Verb.{Begin, Commit, Do}
 use Rattle.sg_words.specs.Parse.{order_of}
 use Rattle.sg_words.specs.Text.{Answer}
 use Rattle.sg_words.specs.Text.Answer.{Silent, BadSyntax, NoTransaction, IsLive, TooManyLive, Memory, Stopped, LogEnd, Disk, Said, Refused}
-use Rattle.sg_words.specs.Run.{live_named, began, did, committed, stop, stop_at, broken, full, turn, turn_verb, turn_begin, turn_commit, turn_op, IsLogged, WouldReply, Turns, LineBy, Line, Lines, IsCaused, AreCaused}
+use Rattle.sg_words.specs.Run.{live_named, began, did, stop, stop_at, broken, full, turn, turn_verb, turn_begin, turn_commit, turn_op, Turns, LineBy, Lines, IsCaused, AreCaused}
 use Rattle.sg_top.specs.Script.{acks, acknowledged}
 use Rattle.sg_top.proofs.Executing.{never_stopped}
 

@@ -18,7 +18,7 @@ use Rattle.sg_words.specs.Order.Order.{Txn}
 use Rattle.sg_words.specs.Order.Verb.{Begin, Commit, Do}
 use Rattle.sg_words.specs.Text.{Answer}
 use Rattle.sg_words.specs.Text.Answer.{TooManyLive, Memory, LogEnd, Disk, Said}
-use Rattle.sg_words.specs.Run.{live_named, without, answer_of, began, committed, did, stop, stop_at_commit, stop_at, broken, full, turn, turn_begin, turn_commit, turn_op, IsSaid, IsLogged, WouldReply}
+use Rattle.sg_words.specs.Run.{live_named, without, answer_of, began, committed, did, stop, stop_at_commit, stop_at, broken, turn, turn_begin, turn_commit, turn_op, IsSaid, IsLogged, WouldReply}
 use Rattle.sg_words.specs.Spoken.{op_said}
 use Rattle.sg_words.proofs.Steps.{live_objects-did}
 use Rattle.sg_record.specs.Plain.{Record, IsRecord}
@@ -38,7 +38,7 @@ use Rattle.sg_top.specs.declared.answer.Answer as code_answer
 use Rattle.sg_top.specs.Goes.{Goes, NEW_WORK_END, IsFull}
 use Rattle.sg_top.proofs.Replays.{AreBelow, chained_below, last_or-above, replay-append, lines_by-above, commits_in-above, lines_by-append, lines_by-line}
 use Rattle.sg_top.proofs.Serial.{serial_began, serial_did, serial_committed, committed_live, without_one, after_commits}
-use Rattle.sg_top.proofs.Steps.{op_end, op_memory, ends_within, grows_changing, going_turn, named_none, named_one, tail-place, appended_place, forced_place, running_shows, stopped_shows, line_said, caused_said, own_after, uncommitted_after, durable_lines, logs_after, all_after, chained_after, last_after, appended_either, one_after, begin-length, commit-length, place-tail, appended_short, HoldsAfter, MomentsOf, Elsewhere, commit_full, commit_past}
+use Rattle.sg_top.proofs.Steps.{op_end, op_memory, ends_within, grows_changing, going_turn, named_none, named_one, tail-place, appended_place, forced_place, running_shows, stopped_shows, line_said, caused_said, own_after, uncommitted_after, durable_lines, logs_after, all_after, chained_after, last_after, appended_either, one_after, begin-length, appended_short, HoldsAfter, MomentsOf, Elsewhere, commit_full, commit_past}
 use Rattle.sg_top.proofs.Standing.{IsEither, forced_lines, stands_either, of_log, others_of, same_on, replay_commit, first_same, first_others, first_all, stands}
 
 -- The store isn't stopped

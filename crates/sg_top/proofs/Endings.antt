@@ -1,8 +1,6 @@
 -- What a run tells.
-use Rattle.std.proofs.Common.{◌≡◌, ◌⊎◌, inl, inr, ⊎_elim, ℕ, zero, suc, ◌+◌, ◌<◌, ◌≤◌, ◌||◌, Bool, true, false, cond, IsTrue, List, [], ◌∷◌, ◌++◌, Option, Some, None, is_none, IfSome, length, refl, sym, ap, ◌∙◌, subst, arith, length-append}
-use Rattle.sg_base.specs.Ends.{HasRisen, Takes}
-use Rattle.sg_base.specs.declared.area.Area.{Area}
-use Rattle.sg_base.specs.declared.area.Area.TheVariants.{Log0}
+use Rattle.std.proofs.Common.{◌≡◌, ◌⊎◌, inl, inr, ⊎_elim, ℕ, zero, suc, ◌+◌, ◌<◌, ◌≤◌, ◌||◌, Bool, false, cond, IsTrue, List, [], Option, Some, None, is_none, IfSome, length, refl, sym, ap, ◌∙◌, subst, arith, length-append}
+use Rattle.sg_base.specs.Ends.{HasRisen}
 use Rattle.sg_disk.specs.Disk as disk
 use Rattle.sg_disk.proofs.Moments as moments
 use Rattle.sg_model.specs.declared.stop.Stop.{Stop}
@@ -12,10 +10,9 @@ use Rattle.sg_model.specs.History.{State, start, committed_objects, objects_afte
 use Rattle.sg_words.specs.Order.{Order}
 use Rattle.sg_words.specs.Order.Order.{Txn}
 use Rattle.sg_words.specs.Order.Verb.{Commit}
-use Rattle.sg_words.specs.Run.{Lines, AreCaused}
+use Rattle.sg_words.specs.Run.{Lines}
 use Rattle.sg_words.specs.Text.{Answer}
 use Rattle.sg_words.proofs.Steps.{all_caused-weaker}
-use Rattle.sg_log.specs.Frames.{Numbered, HasRecords}
 use Rattle.sg_log.proofs.Following.{chained-front}
 use Rattle.sg_log.proofs.Holding.{holds_seen}
 use Rattle.sg_top.specs.declared.opening.OpenRefused as code_refused
@@ -26,11 +23,11 @@ use Rattle.sg_top.specs.declared.status.Status as code_status
 use Rattle.sg_top.specs.declared.status.Status.TheVariants as statuses
 use Rattle.sg_top.specs.Stands.{OthersAsIn, StandsFor, StandsForFirst}
 use Rattle.sg_top.specs.Store.{Core, Runs}
-use Rattle.sg_top.specs.Script.{acknowledged, HasRead, MayBeFull, TookAll, CutAtLast}
-use Rattle.sg_top.specs.Ending.{MOST_BYTES, AreAll, AreExecuted, AreOverBefore, HasCause, TookBy, RunsTo}
-use Rattle.sg_top.specs.Opening.{Opens, StaysShut, SplitsAt, IsLeftAlone, IsRefusedFor, IsQuietFor, reads_of}
+use Rattle.sg_top.specs.Script.{acknowledged, HasRead, MayBeFull}
+use Rattle.sg_top.specs.Ending.{MOST_BYTES, AreExecuted, HasCause, TookBy, RunsTo}
+use Rattle.sg_top.specs.Opening.{Opens, StaysShut, IsRefusedFor, IsQuietFor, reads_of}
 use Rattle.sg_top.specs.Statuses.{status_of, status_of_end, status_of_stop, status_of_refusal, first_fault}
-use Rattle.sg_top.specs.Top.{Outside, at_first, at_end, Course, IsHeard, Output, Exit, IsDone, Ran, NeverRan, HasGone, IsLogSpent, Tells, IsUnhindered, Completes}
+use Rattle.sg_top.specs.Top.{Outside, at_first, at_end, Course, IsHeard, Ran, NeverRan, HasGone, Tells, IsUnhindered, Completes}
 use Rattle.sg_top.proofs.Acknowledged.{all_but_one, all_but_last, StopCause, stop_cause}
 use Rattle.sg_top.proofs.Opened.{at_log0, nothing_stands}
 use Rattle.sg_top.proofs.Serial.{after_commits}

@@ -15,7 +15,7 @@ use Rattle.sg_words.specs.Parse.{order_of}
 use Rattle.sg_words.specs.Text.{Answer, text_of, text_of_all}
 use Rattle.sg_words.specs.Text.Answer.{Silent, BadSyntax, NoTransaction, IsLive, TooManyLive, Memory, Stopped, LogEnd, Disk, Said, Refused}
 use Rattle.sg_words.specs.Run.{live_named, began, did, stop, stop_at, broken, full, turn, turn_verb, turn_begin, turn_commit, turn_op, IsSaid, IsLogged, WouldReply, Turns, LineBy, IsCaused}
-use Rattle.sg_words.proofs.Steps.{Lines-more, told-more, told-cut, caused-weaker, all_caused-weaker, all_caused-more}
+use Rattle.sg_words.proofs.Steps.{Lines-more, told-more, caused-weaker, all_caused-weaker, all_caused-more}
 use Rattle.sg_top.specs.Stands.{StandsFor, StandsForFirst}
 use Rattle.sg_top.specs.Store.{Core, Shows}
 use Rattle.sg_top.specs.Goes.{Goes, Grows, IsFull}

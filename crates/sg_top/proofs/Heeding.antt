@@ -1,5 +1,5 @@
 -- Faults of the disk are heeded.
-use Rattle.std.proofs.Common.{◌≡◌, Option, Some, Err, ◌∙◌}
+use Rattle.std.proofs.Common.{◌≡◌, Option, Err, ◌∙◌}
 use Rattle.sg_disk.specs.Disk as disk
 use Rattle.sg_model.specs.declared.stop.Stop.{Stop}
 use Rattle.sg_log.specs.Faults.{HeedsFaults}

@@ -12,7 +12,7 @@ use Rattle.sg_log.specs.Frames.{Frames, Numbered, numbered_from, numbered_in, re
 use Rattle.sg_log.proofs.Chain.{undamaged}
 use Rattle.sg_log.proofs.Following.{chained-back}
 use Rattle.sg_log.proofs.Unique.{Frames-one, HasRecords-one}
-use Rattle.sg_top.specs.Stands.{lines_by, commits_in, committed_lines, replay, StandsFor}
+use Rattle.sg_top.specs.Stands.{lines_by, commits_in, once, committed_lines, replay, StandsFor}
 use Rattle.sg_top.specs.Damage.{LineAt, line_at, lines_at, committed_at, words_of_all, IsStrayAt, IsUnansweredAt, StandsForNothing}
 use Rattle.sg_top.proofs.Replays.{replay-append, replay-none}
 use Rattle.sg_top.proofs.Replaying.{words-append}
@@ -42,7 +42,7 @@ all-same g h [] same = refl
 all-same g h (t ∷ ts) same = ap (λ ls. ls ++ flat_map g ts) (same t) ∙ ap (λ ls. h t ++ ls) (all-same g h ts same)
 
 pub committed-words : (records : List Numbered) → words_of_all (committed_at records) ≡ committed_lines (records_of records)
-committed-words records = all-words (λ t. lines_at t records) (λ t. lines_by t (records_of records)) (commits_in (records_of records)) (λ t. lines_at-words t records)
+committed-words records = all-words (λ t. lines_at t records) (λ t. lines_by t (records_of records)) (once (commits_in (records_of records))) (λ t. lines_at-words t records)
 
 -- the records of an image that stands for objects are those of its frames
 records_here : (c : disk.Image) (s : Objects) (h : StandsFor c s) (frames : List (List Record)) → Frames (c Log0) 0 frames → h.records ≡ numbered_in 0 frames

@@ -1,5 +1,5 @@
 -- What one line leaves on the disk.
-use Rattle.std.proofs.Common.{◌≡◌, ◌⊎◌, inl, inr, ⊎_elim, ◌==◌, ℕ, ◌+◌, ◌≤◌, nat_le, leb-true, Bool, true, false, cond, IsTrue, List, [], ◌∷◌, ◌++◌, length, take, Option, Some, None, is_some, refl, sym, ap, ◌∙◌, subst, arith, length-append}
+use Rattle.std.proofs.Common.{◌≡◌, ◌⊎◌, inl, inr, ◌==◌, ℕ, ◌+◌, ◌≤◌, nat_le, leb-true, Bool, true, false, cond, IsTrue, List, [], ◌∷◌, ◌++◌, length, take, Option, Some, None, is_some, refl, sym, ap, ◌∙◌, subst, arith, length-append}
 use Rattle.std.proofs.lemmas.Bool.Decides.{nat_tests}
 use Rattle.sg_disk.specs.Disk as disk
 use Rattle.sg_disk.proofs.Moments as moments
@@ -13,7 +13,7 @@ use Rattle.sg_words.specs.Order.Order.{Blank, Syntax, Txn}
 use Rattle.sg_words.specs.Order.Verb.{Begin, Commit, Do}
 use Rattle.sg_words.specs.Text.{Answer}
 use Rattle.sg_words.specs.Text.Answer.{Silent, BadSyntax, NoTransaction, IsLive, TooManyLive, Memory, Stopped, LogEnd, Disk, Said, Refused}
-use Rattle.sg_words.specs.Run.{live_named, began, committed, did, stop_at, broken, full, turn, turn_verb, turn_begin, turn_commit, turn_op, Turns, LineBy}
+use Rattle.sg_words.specs.Run.{live_named, began, committed, stop_at, broken, full, turn, turn_verb, turn_begin, turn_commit, turn_op, Turns, LineBy}
 use Rattle.sg_top.specs.Stands.{StandsFor, StandsForFirst}
 use Rattle.sg_top.specs.Store.{Core, Shows}
 use Rattle.sg_top.specs.Goes.{Goes}

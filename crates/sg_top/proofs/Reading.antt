@@ -15,7 +15,7 @@ use Rattle.sg_log.specs.Reads.{OnlyReads}
 use Rattle.sg_log.specs.declared.fault.LogFault.{LogFault}
 use Rattle.sg_log.specs.declared.fault.LogFault.TheVariants as faults
 use Rattle.sg_log.proofs.Holding.{holds_along}
-use Rattle.sg_top.specs.Stands.{commits_in, committed_lines, replay}
+use Rattle.sg_top.specs.Stands.{commits_in, once, committed_lines, replay}
 use Rattle.sg_top.specs.Damage.{lines_at, committed_at, words_of_all, HasStrayFrame, HasUnanswered}
 use Rattle.sg_top.specs.Found.{lines_found, AreFound, EndsAt, IsReadBack, IsNotFound, IsRefusedBy}
 use Rattle.sg_top.specs.Opening.{IsRefusedFor}
@@ -26,9 +26,9 @@ use Rattle.sg_top.specs.declared.opening.OpenRefused.TheVariants as refusals
 use Rattle.sg_top.proofs.Nothing.{all-same, committed-words}
 
 -- the lines that were found of all commits
-pub found_lines : (found : code_found.Found) (frames : List (List Record)) → AreFound found frames → flat_map (λ t. lines_found found t) found.commits.items ≡ committed_at (numbered_in 0 frames)
+pub found_lines : (found : code_found.Found) (frames : List (List Record)) → AreFound found frames → flat_map (λ t. lines_found found t) (once found.commits.items) ≡ committed_at (numbered_in 0 frames)
 found_lines found frames are =
-    ap (flat_map (lines_found found)) are.commits ∙ all-same (lines_found found) (λ t. lines_at t (numbered_in 0 frames)) (commits_in (records_of (numbered_in 0 frames))) are.lines
+    ap (λ (ts : List ℕ). flat_map (lines_found found) (once ts)) are.commits ∙ all-same (lines_found found) (λ t. lines_at t (numbered_in 0 frames)) (once (commits_in (records_of (numbered_in 0 frames)))) are.lines
 
 -- an attach fails
 pub attach_refused : (told : Bool) (v w : disk.View) (e : LogFault) → AttachFails told Log0 0 v w e → IsRefusedFor (refusal_at e) told v w
@@ -54,7 +54,7 @@ module _ (told : Bool) (v u : disk.View) (log : Tail) (area : log.area ≡ Log0)
 
   -- all was read back
   pub read_found : (w : disk.View) (found : code_found.Found) (objects : Objects) → OnlyReads told u w → ((fs : List (List Record)) → IsTrue told → EndsAt u log fs → AreFound found fs)
-      → replay (words_of_all (flat_map (λ t. lines_found found t) found.commits.items)) (Some empty) ≡ Some objects → IsReadBack w log objects
+      → replay (words_of_all (flat_map (λ t. lines_found found t) (once found.commits.items))) (Some empty) ≡ Some objects → IsReadBack w log objects
   read_found w found objects more all done =
       let are = all frames is_told ends in
       record {
@@ -78,7 +78,7 @@ module _ (told : Bool) (v u : disk.View) (log : Tail) (area : log.area ≡ Log0)
 
   -- a committed line gets no reply
   pub read_unanswered : (at : ℕ) (found : code_found.Found) → ((fs : List (List Record)) → IsTrue told → EndsAt u log fs → AreFound found fs)
-      → HasUnanswered empty at (flat_map (λ t. lines_found found t) found.commits.items) → IsRefusedFor (refusals.Damaged Log0 at) told v u
+      → HasUnanswered empty at (flat_map (λ t. lines_found found t) (once found.commits.items)) → IsRefusedFor (refusals.Damaged Log0 at) told v u
   read_unanswered at found all h =
       let are = all frames is_told ends in (
         refl,
@@ -97,7 +97,7 @@ not_found told v u w log refusals.Memory area reads attached h = tt
 not_found told v u w log (refusals.Damaged there at) area reads attached h = (h.0, λ is_told. (read_stray told v u log area reads is_told (attached is_told) at (λ fs ends. h.1 is_told fs ends)).1 is_told)
 
 pub not_replayed : (told : Bool) (v u w : disk.View) (log : Tail) (why : code_refused.OpenRefused) (found : code_found.Found) → log.area ≡ Log0 → OnlyReads told v u → (IsTrue told → Attaches v u log)
-    → ((fs : List (List Record)) → IsTrue told → EndsAt u log fs → AreFound found fs) → IsRefusedBy why empty (flat_map (λ t. lines_found found t) found.commits.items) → IsRefusedFor why told v w
+    → ((fs : List (List Record)) → IsTrue told → EndsAt u log fs → AreFound found fs) → IsRefusedBy why empty (flat_map (λ t. lines_found found t) (once found.commits.items)) → IsRefusedFor why told v w
 not_replayed told v u w log refusals.DiskFault found area reads attached all h = absurd h
 not_replayed told v u w log refusals.Memory found area reads attached all h = tt
 not_replayed told v u w log (refusals.Damaged there at) found area reads attached all h = (h.0, λ is_told. (read_unanswered told v u log area reads is_told (attached is_told) at found all h.1).1 is_told)

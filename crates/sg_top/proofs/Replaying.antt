@@ -1,5 +1,5 @@
 -- How committed lines are replayed, one after another.
-use Rattle.std.proofs.Common.{◌≡◌, ℕ, ◌+◌, ◌<◌, suc, List, [], ◌∷◌, ◌++◌, length, map, take, drop, get_or, Some, None, Result, Ok, Err, refl, sym, ap, ◌∙◌, subst, append-nil, append_assoc}
+use Rattle.std.proofs.Common.{◌≡◌, ℕ, ◌+◌, ◌<◌, ◌==◌, ◌||◌, Bool, true, false, cond, suc, List, [], ◌∷◌, ◌++◌, length, map, take, drop, get_or, Some, None, Result, Ok, Err, refl, sym, ap, ◌∙◌, subst, append-nil, append_assoc}
 use Rattle.std.specs.List.{flat_map}
 use Rattle.std.proofs.lemmas.Grind.{flat_map-append}
 use Rattle.std.proofs.lemmas.List.{map-append, take-append-drop, take_more}
@@ -7,12 +7,12 @@ use Rattle.std.proofs.Math.Seq.{drop-cons}
 use Rattle.sg_model.specs.declared.reason.Reason.{Reason}
 use Rattle.sg_model.specs.Objects.{Objects, Op, Reply, step}
 use Rattle.sg_words.specs.Spoken.{op_said}
-use Rattle.sg_top.specs.Stands.{after_line, after_op, if_replied, replay}
+use Rattle.sg_top.specs.Stands.{once, after_line, after_op, if_replied, replay}
 use Rattle.sg_top.specs.Damage.{LineAt, words_of_all}
 use Rattle.sg_top.specs.Found.{IsLineRefused, IsRefusedBy}
 use Rattle.sg_top.specs.declared.opening.OpenRefused as code_refused
 use Rattle.sg_top.specs.declared.opening.OpenRefused.TheVariants as refusals
-use Rattle.sg_top.proofs.Replays.{replay-append}
+use Rattle.sg_top.proofs.Replays.{replay-append, apart, is_among, is_among-more, once-append, apart-one}
 
 pub words-append : (xs ys : List LineAt) → words_of_all (xs ++ ys) ≡ words_of_all xs ++ words_of_all ys
 words-append xs ys = map-append (λ (l : LineAt). l.words) xs ys
@@ -74,7 +74,7 @@ refused_here m (refusals.Damaged area at) line h = (
 split_at : {X : Type 0} (xs : List X) (i : ℕ) (x : X) → i < length xs → x ≡ get_or xs i x → xs ≡ take i xs ++ (x ∷ [] ++ drop (suc i) xs)
 split_at xs i x lt is = sym (take-append-drop i xs) ∙ ap (λ ys. take i xs ++ ys) (drop-cons xs i x lt ∙ ap (λ y. y ∷ drop (suc i) xs) (sym is))
 
-front_more : {X : Type 0} (xs : List X) (i : ℕ) (x : X) → i < length xs → x ≡ get_or xs i x → take (i + 1) xs ≡ take i xs ++ x ∷ []
+pub front_more : {X : Type 0} (xs : List X) (i : ℕ) (x : X) → i < length xs → x ≡ get_or xs i x → take (i + 1) xs ≡ take i xs ++ x ∷ []
 front_more xs i x lt is = take_more xs i x lt ∙ ap (λ y. take i xs ++ y ∷ []) (sym is)
 
 -- the lines of a list, one by one
@@ -87,14 +87,38 @@ module _ {X : Type 0} (f : X → LineAt) (xs : List X) (i : ℕ) (x : X) (lt : i
       let all : map f xs ≡ map f (take i xs) ++ (f x ∷ [] ++ map f (drop (suc i) xs)) = ap (map f) (split_at xs i x lt is) ∙ map-append f (take i xs) (x ∷ drop (suc i) xs) in
       subst (IsRefusedBy why s) (sym all) (refused_later s m why (map f (take i xs)) (f x ∷ []) (map f (drop (suc i) xs)) done (refused_here m why (f x) h))
 
--- the lines of transactions, one transaction by one
-module _ (g : ℕ → List LineAt) (ts : List ℕ) (i : ℕ) (t : ℕ) (lt : i < length ts) (is : t ≡ get_or ts i t) (s m : Objects) (done : replay (words_of_all (flat_map g (take i ts))) (Some s) ≡ Some m) where
-  pub lines_more : (n : Objects) → replay (words_of_all (g t)) (Some m) ≡ Some n → replay (words_of_all (flat_map g (take (i + 1) ts))) (Some s) ≡ Some n
-  lines_more n one =
-      ap (λ us. replay (words_of_all (flat_map g us)) (Some s)) (front_more ts i t lt is)
-      ∙ (ap (λ ls. replay (words_of_all ls) (Some s)) (flat_map-append g (take i ts) (t ∷ []) ∙ ap (λ ls. flat_map g (take i ts) ++ ls) (append-nil (g t))) ∙ replay_more s m n (flat_map g (take i ts)) (g t) done one)
+-- the lines of transactions, each once, one transaction by one
+module _ (g : ℕ → List LineAt) (ts : List ℕ) (i : ℕ) (t : ℕ) (lt : i < length ts) (is : t ≡ get_or ts i t) (s m : Objects) (done : replay (words_of_all (flat_map g (once (take i ts)))) (Some s) ≡ Some m) where
+  -- what this one adds: its lines, unless it was done before
+  abbrev pub own_lines : List LineAt
+  own_lines = cond (is_among t (take i ts)) [] (g t)
 
-  pub lines_fail : (why : code_refused.OpenRefused) → IsRefusedBy why m (g t) → IsRefusedBy why s (flat_map g ts)
+  one_more : flat_map g (once (take (i + 1) ts)) ≡ flat_map g (once (take i ts)) ++ own_lines
+  one_more =
+      let before = take i ts in
+      let last : (b : Bool) → flat_map g (cond b [] (t ∷ [])) ≡ cond b [] (g t) = λ b. elim b as (λ c. flat_map g (cond c [] (t ∷ [])) ≡ cond c [] (g t)) [ true ↦ refl | false ↦ append-nil (g t) ] in
+      ap (λ us. flat_map g (once us)) (front_more ts i t lt is) ∙ (ap (flat_map g) (once-append before (t ∷ []) ∙ ap (λ us. once before ++ us) (apart-one t before))
+      ∙ (flat_map-append g (once before) (cond (is_among t before) [] (t ∷ [])) ∙ ap (λ ls. flat_map g (once before) ++ ls) (last (is_among t before))))
+
+  pub lines_more : (n : Objects) → replay (words_of_all own_lines) (Some m) ≡ Some n → replay (words_of_all (flat_map g (once (take (i + 1) ts)))) (Some s) ≡ Some n
+  lines_more n one = ap (λ ls. replay (words_of_all ls) (Some s)) one_more ∙ replay_more s m n (flat_map g (once (take i ts))) own_lines done one
+
+  pub lines_fail : (why : code_refused.OpenRefused) → IsRefusedBy why m own_lines → IsRefusedBy why s (flat_map g (once ts))
   lines_fail why h =
-      let all : flat_map g ts ≡ flat_map g (take i ts) ++ (g t ++ flat_map g (drop (suc i) ts)) = ap (flat_map g) (split_at ts i t lt is) ∙ flat_map-append g (take i ts) (t ∷ drop (suc i) ts) in
-      subst (IsRefusedBy why s) (sym all) (refused_later s m why (flat_map g (take i ts)) (g t) (flat_map g (drop (suc i) ts)) done h)
+      let front = take (i + 1) ts in
+      let rest = drop (i + 1) ts in
+      let later = flat_map g (apart front (once rest)) in
+      let all : flat_map g (once ts) ≡ flat_map g (once (take i ts)) ++ (own_lines ++ later) =
+      ap (λ us. flat_map g (once us)) (sym (take-append-drop (i + 1) ts)) ∙ (ap (flat_map g) (once-append front rest) ∙ (flat_map-append g (once front) (apart front (once rest))
+      ∙ (ap (λ ls. ls ++ later) one_more ∙ append_assoc (flat_map g (once (take i ts))) own_lines later))) in
+      subst (IsRefusedBy why s) (sym all) (refused_later s m why (flat_map g (once (take i ts))) own_lines later done h)
+
+-- the lines that are left once one more transaction's were taken out
+pub left_more : (t u : ℕ) (us : List ℕ) (lines now later : List LineAt) → now ≡ cond (is_among t us) [] lines → later ≡ cond (t == u) [] now → later ≡ cond (is_among t (us ++ u ∷ [])) [] lines
+left_more t u us lines now later before taken = taken ∙ (ap (λ (ls : List LineAt). cond (t == u) [] ls) before ∙ (by_tests (t == u) (is_among t us) ∙ ap (λ (b : Bool). cond b [] lines) (sym (is_among-more t u us))))
+  where
+    by_tests : (a b : Bool) → cond a [] (cond b [] lines) ≡ cond (b || a) [] lines
+    by_tests true true = refl
+    by_tests true false = refl
+    by_tests false true = refl
+    by_tests false false = refl

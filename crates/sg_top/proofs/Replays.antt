@@ -1,6 +1,7 @@
 -- What the records of a log replay to, as the log grows.
-use Rattle.std.proofs.Common.{◌≡◌, ℕ, ◌<◌, ◌≤◌, ◌==◌, Bool, true, false, cond, List, [], ◌∷◌, ◌++◌, Option, Some, None, refl, sym, ap, ◌∙◌, arith, append-nil}
-use Rattle.std.specs.List.{flat_map}
+use Rattle.std.proofs.Common.{◌≡◌, ℕ, ◌<◌, ◌≤◌, ◌==◌, ◌||◌, not, Bool, true, false, cond, List, [], ◌∷◌, ◌++◌, Option, Some, None, refl, sym, ap, ◌∙◌, arith, append-nil}
+use Rattle.std.specs.List.{filter, flat_map}
+use Rattle.std.proofs.lemmas.List.Elements.{filter-append}
 use Rattle.std.proofs.lemmas.Grind.{flat_map-append}
 use Rattle.std.proofs.lemmas.Bool.Decides.{nat_tests}
 use Rattle.sg_model.specs.Objects.{Objects}
@@ -9,7 +10,7 @@ use Rattle.sg_record.specs.Plain.Record.{Begin, Commit, Line}
 use Rattle.sg_log.specs.Following.{last_or, AreChainedBehind}
 use Rattle.sg_log.specs.Frames.{Numbered, records_of}
 use Rattle.sg_log.proofs.Following.{AreLow, owned_low}
-use Rattle.sg_top.specs.Stands.{lines_by, commits_in, committed_lines, after_line, replay}
+use Rattle.sg_top.specs.Stands.{lines_by, commits_in, once, committed_lines, after_line, replay}
 use Rattle.sg_top.specs.Store.{AreOwn, IsNotAmong}
 
 pub replay-none : (lines : List (List ℕ)) → replay lines None ≡ None
@@ -27,6 +28,58 @@ commits_in-append (Begin t p ∷ rs) ss = commits_in-append rs ss
 commits_in-append (Commit t p ∷ rs) ss = ap (λ (ts : List ℕ). t ∷ ts) (commits_in-append rs ss)
 commits_in-append (Line t p w ∷ rs) ss = commits_in-append rs ss
 
+-- other numbers stay others where some are left out
+among-filter : (t : ℕ) (test : ℕ → Bool) (us : List ℕ) → IsNotAmong t us → IsNotAmong t (filter test us)
+among-filter t test [] h = tt
+among-filter t test (u ∷ us) h = by_test (test u) (among-filter t test us h.1)
+  where
+    by_test : (b : Bool) → IsNotAmong t (filter test us) → IsNotAmong t (cond b (u ∷ filter test us) (filter test us))
+    by_test true rest = (h.0, rest)
+    by_test false rest = rest
+
+pub once-apart : (t : ℕ) (us : List ℕ) → IsNotAmong t us → IsNotAmong t (once us)
+once-apart t [] h = tt
+once-apart t (u ∷ us) h = (h.0, among-filter t (λ v. not (v == u)) (once us) (once-apart t us h.1))
+
+-- those of ys that aren't among xs
+abbrev pub apart : List ℕ → List ℕ → List ℕ
+apart [] ys = ys
+apart (x ∷ xs) ys = filter (λ u. not (u == x)) (apart xs ys)
+
+pub once-append : (xs ys : List ℕ) → once (xs ++ ys) ≡ once xs ++ apart xs (once ys)
+once-append [] ys = refl
+once-append (x ∷ xs) ys =
+    let test : ℕ → Bool = λ u. not (u == x) in
+    ap (λ (us : List ℕ). x ∷ filter test us) (once-append xs ys) ∙ ap (λ (us : List ℕ). x ∷ us) (filter-append test (once xs) (apart xs (once ys)))
+
+-- the number is among these
+abbrev pub is_among : ℕ → List ℕ → Bool
+is_among t [] = false
+is_among t (u ∷ us) = (t == u) || is_among t us
+
+pub is_among-more : (t u : ℕ) (us : List ℕ) → is_among t (us ++ u ∷ []) ≡ (is_among t us || (t == u))
+is_among-more t u [] = either_false (t == u)
+  where
+    either_false : (b : Bool) → (b || false) ≡ (false || b)
+    either_false true = refl
+    either_false false = refl
+is_among-more t u (v ∷ us) = ap (λ (b : Bool). (t == v) || b) (is_among-more t u us) ∙ regrouped (t == v) (is_among t us) (t == u)
+  where
+    regrouped : (a b d : Bool) → (a || (b || d)) ≡ ((a || b) || d)
+    regrouped true b d = refl
+    regrouped false b d = refl
+
+-- one number stays where it isn't among them
+pub apart-one : (t : ℕ) (xs : List ℕ) → apart xs (t ∷ []) ≡ cond (is_among t xs) [] (t ∷ [])
+apart-one t [] = refl
+apart-one t (x ∷ xs) = ap (filter (λ u. not (u == x))) (apart-one t xs) ∙ by_tests (t == x) (is_among t xs) refl
+  where
+    by_tests : (a b : Bool) → (t == x) ≡ a → filter (λ u. not (u == x)) (cond b [] (t ∷ [])) ≡ cond (a || b) [] (t ∷ [])
+    by_tests true true e = refl
+    by_tests true false e = ap (λ (c : Bool). cond (not c) (t ∷ []) []) e
+    by_tests false true e = refl
+    by_tests false false e = ap (λ (c : Bool). cond (not c) (t ∷ []) []) e
+
 chosen-append : (b : Bool) (w : List ℕ) (xs ys zs : List (List ℕ)) → zs ≡ xs ++ ys → cond b (w ∷ zs) zs ≡ cond b (w ∷ xs) xs ++ ys
 chosen-append true w xs ys zs e = ap (λ (l : List (List ℕ)). w ∷ l) e
 chosen-append false w xs ys zs e = e
@@ -42,6 +95,14 @@ different u t ne = grind (arith, nat_tests)
 
 same : (t : ℕ) → (t == t) ≡ true
 same t = grind (arith, nat_tests)
+
+is_among-not : (t : ℕ) (us : List ℕ) → IsNotAmong t us → is_among t us ≡ false
+is_among-not t [] h = refl
+is_among-not t (u ∷ us) h = ap (λ (b : Bool). b || is_among t us) (different t u (λ e. h.0 (sym e))) ∙ is_among-not t us h.1
+
+-- a number that isn't among them comes last
+once-new : (t : ℕ) (us : List ℕ) → IsNotAmong t us → once (us ++ t ∷ []) ≡ once us ++ t ∷ []
+once-new t us h = once-append us (t ∷ []) ∙ ap (λ (ts : List ℕ). once us ++ ts) (apart-one t us ∙ ap (λ (b : Bool). cond b [] (t ∷ [])) (is_among-not t us h))
 
 -- each record is of a transaction with a smaller number
 abbrev pub AreBelow : ℕ → List Record → Type 0
@@ -101,17 +162,19 @@ others t (u ∷ us) rs ps own h =
 -- an uncommitted transaction's own records commit nothing
 pub committed_lines-own : (t : ℕ) (rs ps : List Record) → AreOwn t ps → IsNotAmong t (commits_in rs) → committed_lines (rs ++ ps) ≡ committed_lines rs
 committed_lines-own t rs ps own h =
-    ap (λ (ts : List ℕ). flat_map (λ u. lines_by u (rs ++ ps)) ts) (commits_in-append rs ps ∙ (ap (λ (ts : List ℕ). commits_in rs ++ ts) (commits_in-own t ps own) ∙ append-nil (commits_in rs)))
-    ∙ others t (commits_in rs) rs ps own h
+    ap (λ (ts : List ℕ). flat_map (λ u. lines_by u (rs ++ ps)) (once ts)) (commits_in-append rs ps ∙ (ap (λ (ts : List ℕ). commits_in rs ++ ts) (commits_in-own t ps own) ∙ append-nil (commits_in rs)))
+    ∙ others t (once (commits_in rs)) rs ps own (once-apart t (commits_in rs) h)
 
 -- a commit adds its transaction's lines
 pub committed_lines-commit : (t p : ℕ) (rs ps : List Record) → AreOwn t ps → IsNotAmong t (commits_in rs) → committed_lines ((rs ++ ps) ++ Commit t p ∷ []) ≡ committed_lines rs ++ lines_by t (rs ++ ps)
 committed_lines-commit t p rs ps own h =
     let all : List Record = (rs ++ ps) ++ Commit t p ∷ [] in
     let keep : (u : ℕ) → lines_by u all ≡ lines_by u (rs ++ ps) = λ u. lines_by-append u (rs ++ ps) (Commit t p ∷ []) ∙ append-nil (lines_by u (rs ++ ps)) in
-    let ts : commits_in all ≡ commits_in rs ++ t ∷ [] = commits_in-append (rs ++ ps) (Commit t p ∷ []) ∙ ap (λ (us : List ℕ). us ++ t ∷ []) (commits_in-append rs ps ∙ (ap (λ (us : List ℕ). commits_in rs ++ us) (commits_in-own t ps own) ∙ append-nil (commits_in rs))) in
-    ap (λ (us : List ℕ). flat_map (λ u. lines_by u all) us) ts ∙ (flat_map-append (λ u. lines_by u all) (commits_in rs) (t ∷ [])
-    ∙ (ap (λ (ls : List (List ℕ)). ls ++ (lines_by t all ++ [])) (kept (commits_in rs) all (rs ++ ps) keep ∙ others t (commits_in rs) rs ps own h)
+    let named : commits_in all ≡ commits_in rs ++ t ∷ [] = commits_in-append (rs ++ ps) (Commit t p ∷ []) ∙ ap (λ (us : List ℕ). us ++ t ∷ []) (commits_in-append rs ps ∙ (ap (λ (us : List ℕ). commits_in rs ++ us) (commits_in-own t ps own) ∙ append-nil (commits_in rs))) in
+    let firsts = once (commits_in rs) in
+    let ts : once (commits_in all) ≡ firsts ++ t ∷ [] = ap once named ∙ once-new t (commits_in rs) h in
+    ap (λ (us : List ℕ). flat_map (λ u. lines_by u all) us) ts ∙ (flat_map-append (λ u. lines_by u all) firsts (t ∷ [])
+    ∙ (ap (λ (ls : List (List ℕ)). ls ++ (lines_by t all ++ [])) (kept firsts all (rs ++ ps) keep ∙ others t firsts rs ps own (once-apart t (commits_in rs) h))
     ∙ ap (λ (ls : List (List ℕ)). committed_lines rs ++ ls) (append-nil (lines_by t all) ∙ keep t)))
   where
     kept : (us : List ℕ) (xs ys : List Record) → ((u : ℕ) → lines_by u xs ≡ lines_by u ys) → flat_map (λ u. lines_by u xs) us ≡ flat_map (λ u. lines_by u ys) us

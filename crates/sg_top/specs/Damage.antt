@@ -9,7 +9,7 @@ use Rattle.sg_record.specs.Plain.Record.{Begin, Commit, Line}
 use Rattle.sg_log.specs.Formed.{IsDamagedAt}
 use Rattle.sg_log.specs.Following.{Follows, AreChainedBehind, AreChained}
 use Rattle.sg_log.specs.Frames.{Numbered, numbered_from, numbered_in, records_of, Frames, gate_after}
-use Rattle.sg_top.specs.Stands.{commits_in, after_line, replay}
+use Rattle.sg_top.specs.Stands.{commits_in, once, after_line, replay}
 
 -- a line of a transaction: the number of its record, and its words
 pub record LineAt : Type 0 where
@@ -30,9 +30,9 @@ lines_at t records = flat_map (λ n. line_at t n.lsn n.is) records
 abbrev pub lines_of_all : List ℕ → List Numbered → List LineAt
 lines_of_all ts records = flat_map (λ t. lines_at t records) ts
 
--- the lines of the committed transactions, in order of their commits
+-- the lines of the committed transactions, each once, in order of their first commits
 abbrev pub committed_at : List Numbered → List LineAt
-committed_at records = lines_of_all (commits_in (records_of records)) records
+committed_at records = lines_of_all (once (commits_in (records_of records))) records
 
 abbrev pub words_of_all : List LineAt → List (List ℕ)
 words_of_all lines = map (λ l. l.words) lines

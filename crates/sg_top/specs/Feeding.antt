@@ -1,6 +1,5 @@
 -- A script that comes in pieces.
 use Rattle.std.specs.Prelude.{◌≡◌, ◌≤◌, ℕ, Bool, List, [], ◌++◌, Option, take}
-use Rattle.sg_base.specs.Ends.{Takes, TakesFront}
 use Rattle.sg_disk.specs.Disk as disk
 use Rattle.sg_model.specs.History.{State}
 use Rattle.sg_words.specs.Parse.{lines_of}

@@ -19,6 +19,7 @@ use Rattle.std.specs.declared.vec.Vec.{Vec}
 use Rattle.std.specs.declared.alloc.Global.{Global}
 use Rattle.sg_top.specs.declared.found_line.FoundLine as code_line
 use Rattle.sg_top.specs.declared.found.Found as code_found
+use Rattle.sg_top.specs.declared.lines.Lines as code_lines
 
 abbrev pub line_of : code_line.FoundLine → LineAt
 line_of l = record { lsn = l.at; words = l.words.items }
@@ -31,9 +32,13 @@ abbrev pub number_or_none : Option ℕ → ℕ
 number_or_none None = 0
 number_or_none (Some lsn) = lsn
 
--- the lines of a transaction that were found
+-- the lines of a transaction among those of a log
+abbrev pub lines_in : code_lines.Lines → ℕ → List LineAt
+lines_in lines t = lines_or_none (get nat_cmp lines.map t)
+
+-- those that were found
 abbrev pub lines_found : code_found.Found → ℕ → List LineAt
-lines_found found t = lines_or_none (get nat_cmp found.lines t)
+lines_found found t = lines_in found.lines t
 
 -- the number of a transaction's last record that was found, or 0 where none was
 abbrev pub last_found : code_found.Found → ℕ → ℕ

@@ -1,6 +1,6 @@
 -- What the bytes of a disk stand for.
-use Rattle.std.specs.Prelude.{◌≡◌, ℕ, ◌==◌, ◌≤◌, if◌then◌else◌, List, [], ◌∷◌, length, Option, Some, None, Result, Ok, Err}
-use Rattle.std.specs.List.{flat_map}
+use Rattle.std.specs.Prelude.{◌≡◌, ℕ, ◌==◌, ◌≤◌, if◌then◌else◌, List, [], ◌∷◌, length, Option, Some, None, Result, Ok, Err, not}
+use Rattle.std.specs.List.{flat_map, filter}
 use Rattle.std.specs.FinMap.{empty}
 use Rattle.sg_base.specs.declared.area.Area.{Area}
 use Rattle.sg_base.specs.declared.area.Area.TheVariants.{Log0}
@@ -22,16 +22,22 @@ lines_by transaction (Begin t previous ∷ rs) = lines_by transaction rs
 lines_by transaction (Commit t previous ∷ rs) = lines_by transaction rs
 lines_by transaction (Line t previous words ∷ rs) = if t == transaction then words ∷ lines_by transaction rs else lines_by transaction rs
 
--- the transactions that are committed, in order of their commit records
+-- the transactions of the commit records, in order
 abbrev pub commits_in : List Record → List ℕ
 commits_in [] = []
 commits_in (Begin t previous ∷ rs) = commits_in rs
 commits_in (Commit t previous ∷ rs) = t ∷ commits_in rs
 commits_in (Line t previous words ∷ rs) = commits_in rs
 
--- the lines of the committed transactions, one whole transaction after another
+-- each of these numbers once, at its first place
+abbrev pub once : List ℕ → List ℕ
+once [] = []
+once (t ∷ ts) = t ∷ filter (λ u. not (u == t)) (once ts)
+
+-- The lines of the committed transactions, one whole transaction after another in order of their first commit records:
+-- a transaction counts once, however many commit records it has
 abbrev pub committed_lines : List Record → List (List ℕ)
-committed_lines rs = flat_map (λ t. lines_by t rs) (commits_in rs)
+committed_lines rs = flat_map (λ t. lines_by t rs) (once (commits_in rs))
 
 -- the objects after an operation that got a reply
 abbrev pub if_replied : Result Reply Reason → Objects → Option Objects
@@ -53,7 +59,7 @@ replay (words ∷ lines) None = None
 replay (words ∷ lines) (Some s) = replay lines (after_line s words)
 
 -- An image stands for the objects that the lines of the committed transactions leave, in order of their
--- commits. The records are those of the log in the first log area, from its first byte on. Each one follows those before
+-- first commits. The records are those of the log in the first log area, from its first byte on. Each one follows those before
 -- it: it names its transaction's previous record, and a transaction has the number of its begin.
 pub record StandsFor (c : Image) (s : Objects) : Type 0 where
   pub records : List Numbered

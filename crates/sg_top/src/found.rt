@@ -6,19 +6,19 @@ ghost use Rattle.sg_log.specs.Frames.{Numbered};
 ghost use Rattle.sg_record.specs.Plain.{shown};
 ghost use Rattle.sg_top.specs.Stands.{commits_in};
 ghost use Rattle.sg_top.specs.Damage.{LineAt, line_at};
-ghost use Rattle.sg_top.specs.Found.{line_of, lines_found, last_found, KnowsLasts};
+ghost use Rattle.sg_top.specs.Found.{lines_in, lines_found, last_found, KnowsLasts};
 
-use crate::found_line::FoundLine;
+use crate::lines::Lines;
 use sg_base::{Lsn, OutOfMemory};
 use sg_record::plain::Rec;
 use std::alloc::Global;
 use std::collections::BTreeMap;
 
-/// The lines of each transaction of a log, in order, by its number, the transactions that are
-/// committed, in order of their commit records, and the number of each transaction's last record.
+/// The lines of each transaction of a log, the transactions of its commit records, in order, and the
+/// number of each transaction's last record.
 #[derive(Drop)]
 pub struct Found {
-    lines: BTreeMap<u64, Vec<FoundLine>>,
+    lines: Lines,
     commits: Vec<u64>,
     lasts: BTreeMap<u64, Lsn>,
 }
@@ -62,27 +62,24 @@ impl Found {
         ensures lasts { (t : ℕ) → last_found result t ≡ 0 }
     {
         Found {
-            lines: BTreeMap::new(alloc),
+            lines: Lines::new(alloc),
             commits: Vec::new(alloc),
             lasts: BTreeMap::new(alloc),
         }
     }
 
-    /// The committed transactions, in order of their commit records.
-    pub fn commits(&self) -> &[u64]
-        ensures { result.now ≡ self.now.commits.items }
+    /// The lines of each transaction, and the transactions of the commit records, in order.
+    pub fn into_parts(self) -> (Lines, Vec<u64>)
+        ensures lines { (t : ℕ) → lines_in result.0 t ≡ lines_found self t }
+        ensures commits { result.1.items ≡ self.commits.items }
     {
-        &self.commits
-    }
-
-    /// The lines of a transaction, in order.
-    pub fn lines(&self, txn: u64) -> &[FoundLine]
-        ensures { map line_of result.now ≡ lines_found self.now txn }
-    {
-        match self.lines.get(&txn) {
-            Some(lines) => lines,
-            None => &[],
-        }
+        let Found {
+            lines,
+            commits,
+            lasts,
+        } = self;
+        drop(lasts);
+        (lines, commits)
     }
 
     // The number of the transaction's last record, or 0 where none was found.
@@ -102,36 +99,6 @@ impl Found {
         ensures { (before : List Numbered) → KnowsLasts self.now before → IsTrue result ↔ Follows before (record { lsn = lsn; is = shown r.now }) }
     {
         is_owned(lsn, r) && previous(r) == self.last(transaction(r))
-    }
-
-    // Adds a line of a transaction.
-    fn add_line(
-        &mut self,
-        alloc: Global,
-        txn: u64,
-        at: u64,
-        words: &[u8],
-    ) -> Result<(), OutOfMemory>
-        requires { length words.now ≤ 32768 }
-        ensures lines { OnOk result ((t : ℕ) → lines_found self.new t ≡ lines_found self.old t ++ (if txn == t then record { lsn = at; words = words.now } ∷ [] else [])) }
-        ensures commits { OnOk result (self.new.commits.items ≡ self.old.commits.items) }
-        ensures lasts { self.new.lasts ≡ self.old.lasts }
-    {
-        let Ok(words) = Vec::from_slice(alloc, words) else {
-            return Err(OutOfMemory);
-        };
-        let mut lines = match self.lines.remove(&txn) {
-            Some(lines) => lines,
-            None => Vec::new(alloc),
-        };
-        match lines.push(FoundLine { at, words }) {
-            Ok(()) => {}
-            Err(_) => return Err(OutOfMemory),
-        }
-        match self.lines.insert(txn, lines) {
-            Ok(_) => Ok(()),
-            Err(_) => Err(OutOfMemory),
-        }
     }
 
     /// Adds what a record says that has this number. After `OutOfMemory` nothing is known of what was
@@ -156,7 +123,7 @@ impl Found {
                 txn,
                 prev: _,
                 words,
-            } => self.add_line(alloc, txn.0, lsn, words),
+            } => self.lines.add(alloc, txn.0, lsn, words),
         }
     }
 }

@@ -15,6 +15,7 @@ mod buffer;
 mod feed;
 mod found;
 mod found_line;
+mod lines;
 mod opening;
 mod replay;
 mod script;

@@ -191,6 +191,27 @@ fn records_follow_their_own_transaction(rt: HostRuntime) -> Result<(), Fail> {
     Ok(())
 }
 
+// A frame behind the mingled one that commits both transactions once more.
+const AGAIN: &[u8] = b"\x01\x2a\0\0\0\
+    \x0a\x15\0\0\0\x05\0\0\0\0\0\0\0\x8c\0\0\0\0\0\0\0\
+    \x0a\x15\0\0\0\x1a\0\0\0\0\0\0\0\xa1\0\0\0\0\0\0\0";
+
+#[test]
+fn a_transaction_counts_once(rt: HostRuntime) -> Result<(), Fail> {
+    let alloc = rt.alloc();
+    let mut log = MINGLED.to_vec(alloc)?;
+    log.extend_from_slice(AGAIN)?;
+    let mut out = MemSink::new(alloc, None);
+    let script = b"u begin\nu get a 0\nu get a 1\nu get a 2";
+    let finish = run(alloc, disk_of(alloc, &log)?, script, &mut out)?;
+    assert_eq!(rt; finish.status, Status::Done);
+    assert_eq!(rt;
+        out.text(),
+        b"ok\nok x\nok y\nerror out-of-range\n".as_slice()
+    );
+    Ok(())
+}
+
 #[test]
 fn a_store_is_opened_ten_times(rt: HostRuntime) -> Result<(), Fail> {
     let alloc = rt.alloc();

@@ -9,7 +9,7 @@ ghost use Rattle.sg_log.specs.Following.{AreChainedBehind};
 ghost use Rattle.sg_log.specs.Frames.{Frames, Numbered, numbered_from, HasRecords, gate_after, GREATEST_BODY};
 ghost use Rattle.sg_log.specs.Held.{Holds};
 ghost use Rattle.sg_log.specs.Reads.{OnlyReads};
-ghost use Rattle.sg_top.specs.Stands.{after_line, committed_lines, replay};
+ghost use Rattle.sg_top.specs.Stands.{after_line, once, committed_lines, replay};
 ghost use Rattle.sg_top.specs.Damage.{LineAt, words_of_all};
 ghost use Rattle.sg_top.specs.Found.{line_of, lines_found, Finds, KnowsLasts, AreFound, EndsAt, IsReadBack, IsRefusedIn, IsNotFound, IsLineRefused, IsRefusedBy};
 ghost use Rattle.sg_top.specs.Opening.{IsRefusedFor, IsQuietFor};
@@ -154,21 +154,24 @@ fn replay_lines(
     Ok(())
 }
 
-// The objects after the committed transactions, one after another.
+// The objects after the committed transactions, one after another. Each is done once: its lines are
+// taken out, so that a later commit record of it finds none.
 fn replay_all(
     alloc: Global,
-    found: &Found,
+    found: Found,
     scratch: &mut [u8],
     into: &mut [u8],
 ) -> Result<Objects, OpenRefused>
     requires scratch { 32768 ≤ length scratch.old }
     requires into { 8192 ≤ length into.old }
-    ensures done { IfOk result (λ objects. replay (words_of_all (flat_map (λ t. lines_found found.now t) found.now.commits.items)) (Some empty) ≡ Some objects) }
-    ensures refused { IfErr result (λ why. IsRefusedBy why empty (flat_map (λ t. lines_found found.now t) found.now.commits.items)) }
+    ensures done { IfOk result (λ objects. replay (words_of_all (flat_map (λ t. lines_found found t) (once found.commits.items))) (Some empty) ≡ Some objects) }
+    ensures refused { IfErr result (λ why. IsRefusedBy why empty (flat_map (λ t. lines_found found t) (once found.commits.items))) }
 {
     let mut objects = Objects::empty(alloc);
-    for txn in found.commits() {
-        match replay_lines(alloc, &mut objects, found.lines(*txn), scratch, into) {
+    let (mut lines, commits) = found.into_parts();
+    for txn in &commits {
+        let own = lines.take(alloc, *txn);
+        match replay_lines(alloc, &mut objects, &own, scratch, into) {
             Ok(()) => {}
             Err(why) => return Err(why),
         }
@@ -177,7 +180,7 @@ fn replay_all(
 }
 
 /// The log in the first log area, which was synced, and the objects that its committed transactions
-/// leave, one after another in order of their commit records. Nothing is written.
+/// leave, one after another in order of their first commit records. Nothing is written.
 pub fn read_back<D: Disk>(alloc: Global, disk: &mut D) -> Result<(Log, Objects), OpenRefused>
     ensures log { IfOk result (λ p. p.0 ≡ record { area = Log0; base = 0; gate = p.0.gate; buffer = [] }) }
     ensures found { IsTrue D.told → ((D.view disk.old).now Log0).pending ≡ [] → IfOk result (λ p. IsReadBack (D.view disk.new) p.0 p.1) }
@@ -201,7 +204,7 @@ pub fn read_back<D: Disk>(alloc: Global, disk: &mut D) -> Result<(Log, Objects),
         Ok(found) => found,
         Err(why) => return Err(why),
     };
-    match replay_all(alloc, &found, &mut scratch, &mut into) {
+    match replay_all(alloc, found, &mut scratch, &mut into) {
         Ok(objects) => Ok((log, objects)),
         Err(why) => Err(why),
     }

@@ -2,7 +2,7 @@ use Rattle.std.proofs.Common.{List, ℕ, Bool, ◌||◌, is_none, refl, ap, ◌�
 use Rattle.sg_base.specs.Ends.{HasRisen}
 use Rattle.sg_words.specs.Parse.{order_of}
 use Rattle.sg_top.specs.Goes.{Goes}
-use Rattle.sg_top.specs.Sessions.{session_core, session_disk, session_unheard}
+use Rattle.sg_top.specs.Sessions.{session_core, session_disk}
 use Rattle.sg_top.proofs.Heeding.{heeds_more}
 use Rattle.sg_top.proofs.Feeds.{feed_started, feed_line, feed_ends, feed_breaks}
 use Rattle.sg_top.proofs.feed.feed.Goals as goal

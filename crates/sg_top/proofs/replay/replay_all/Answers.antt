@@ -1,32 +1,39 @@
-use Rattle.std.proofs.Common.{◌≡◌, ℕ, List, get_or, length, ◌<◌, sym, ap, ◌∙◌, subst, Some}
+use Rattle.std.proofs.Common.{◌≡◌, ◌<◌, ℕ, List, [], get_or, length, take, map, cond, sym, ap, ◌∙◌, subst, Some}
 use Rattle.std.proofs.lemmas.List.{get_or_default}
+use Rattle.std.specs.List.{flat_map}
 use Rattle.std.specs.FinMap.{empty}
-use Rattle.sg_top.specs.Stands.{replay}
+use Rattle.sg_top.specs.Stands.{once, replay}
 use Rattle.sg_top.specs.Damage.{LineAt, words_of_all}
-use Rattle.sg_top.specs.Found.{lines_found, IsRefusedBy}
-use Rattle.sg_top.proofs.Replaying.{lines_more, lines_fail}
+use Rattle.sg_top.specs.Found.{line_of, lines_in, lines_found, IsRefusedBy}
+use Rattle.sg_top.proofs.Replays.{is_among}
+use Rattle.sg_top.proofs.Replaying.{front_more, lines_more, lines_fail, left_more}
 use Rattle.sg_top.proofs.replay.replay_all.Goals as goal
-
--- the transaction at an index of the commits, and what was found of it
-module _ (ts us : List ℕ) (same : us ≡ ts) (i : ℕ) (lt : i < length us) where
-  within : i < length ts
-  within = subst (λ (xs : List ℕ). i < length xs) same lt
-
-  there : get_or us i 0 ≡ get_or ts i (get_or us i 0)
-  there = ap (λ (xs : List ℕ). get_or xs i 0) same ∙ get_or_default ts i 0 (get_or us i 0) within
 
 pub returns-in-Err-clause-refused : goal.returns-in-Err-clause-refused
 returns-in-Err-clause-refused c =
-    let ts = c.args.found.now.commits.items in
-    let us = c.commits-txn-items.result.now in
+    let g = lines_found c.args.found in
+    let us = c.deref-txn-items.result.now in
     let i = c.loop-txn.txn-index in
-    lines_fail (lines_found c.args.found.now) ts i (get_or us i 0) (within ts us c.commits-txn-items.ensures i c.loop-txn-test.true) (there ts us c.commits-txn-items.ensures i c.loop-txn-test.true) empty c.loop-txn.objects c.loop-txn.invariant
-    c.in-Err.why (subst (λ (ls : List LineAt). IsRefusedBy c.in-Err.why c.loop-txn.objects ls) c.lines.ensures c.in-Err.ensures.refused)
+    let txn = get_or us i 0 in
+    let lt : i < length us = c.loop-txn-test.true in
+    let own : map line_of c.deref.result.now ≡ cond (is_among txn (take i us)) [] (g txn) = ap (map line_of) c.deref.ensures.value ∙ (c.take-own.ensures.taken ∙ c.loop-txn.invariant.left txn) in
+    subst (λ (ts : List ℕ). IsRefusedBy c.in-Err.why empty (flat_map g (once ts))) (c.deref-txn-items.ensures.value ∙ c.into_parts-lines.ensures.commits)
+    (lines_fail g us i txn lt (get_or_default us i 0 txn lt) empty c.loop-txn.objects c.loop-txn.invariant.done c.in-Err.why
+    (subst (λ (ls : List LineAt). IsRefusedBy c.in-Err.why c.loop-txn.objects ls) own c.in-Err.ensures.refused))
 
 pub loop-txn-preserved : goal.loop-txn-preserved
 loop-txn-preserved c =
-    let ts = c.args.found.now.commits.items in
-    let us = c.commits-txn-items.result.now in
+    let g = lines_found c.args.found in
+    let us = c.deref-txn-items.result.now in
     let i = c.loop-txn.txn-index in
-    lines_more (lines_found c.args.found.now) ts i (get_or us i 0) (within ts us c.commits-txn-items.ensures i c.loop-txn-test.true) (there ts us c.commits-txn-items.ensures i c.loop-txn-test.true) empty c.loop-txn.objects c.loop-txn.invariant
-    c.replay_lines.new.objects (ap (λ (ls : List LineAt). replay (words_of_all ls) (Some c.loop-txn.objects)) (sym c.lines.ensures) ∙ c.in-Ok.ensures.done)
+    let txn = get_or us i 0 in
+    let lt : i < length us = c.loop-txn-test.true in
+    let is = get_or_default us i 0 txn lt in
+    let own : map line_of c.deref.result.now ≡ cond (is_among txn (take i us)) [] (g txn) = ap (map line_of) c.deref.ensures.value ∙ (c.take-own.ensures.taken ∙ c.loop-txn.invariant.left txn) in
+    record {
+      done = lines_more g us i txn lt is empty c.loop-txn.objects c.loop-txn.invariant.done c.replay_lines.new.objects
+          (ap (λ (ls : List LineAt). replay (words_of_all ls) (Some c.loop-txn.objects)) (sym own) ∙ c.in-Ok.ensures.done);
+      left = λ u.
+          left_more u txn (take i us) (g u) (lines_in c.loop-txn.lines u) (lines_in c.take-own.new.self u) (c.loop-txn.invariant.left u) (c.take-own.ensures.left u)
+          ∙ ap (λ (xs : List ℕ). cond (is_among u xs) [] (g u)) (sym (front_more us i txn lt is));
+    }

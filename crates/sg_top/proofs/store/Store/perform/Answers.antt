@@ -1,4 +1,4 @@
-use Rattle.std.proofs.Common.{◌≡◌, inl, inr, Ok, Err, Result, option_map, refl, sym, ap, ◌∙◌, arith}
+use Rattle.std.proofs.Common.{◌≡◌, inl, inr, Ok, Err, Result, option_map, refl, sym, ap, ◌∙◌}
 use Rattle.sg_model.specs.Objects.{Objects, Op, Reply, step}
 use Rattle.sg_model.specs.Replies.{shown_reply}
 use Rattle.sg_model.specs.declared.reason.Reason.{Reason}
