@@ -43,3 +43,18 @@ pub fn do_and_take_off(page: &mut [u8], op: &PageOp<'_>, back: &PageOp<'_>, ops:
     }
     apply(page, back, ops)
 }
+
+/// Does an operation to two pages of slots with the same bytes: it fits both or neither, and they have
+/// the same bytes afterwards too.
+pub fn do_to_both(page: &mut [u8], twin: &mut [u8], op: &PageOp<'_>, ops: &Ops) -> bool
+    requires slotted { IsSlotted page.old }
+    requires same { twin.old ≡ page.old }
+    ensures done { IsTrue result ↔ IsSome
+        (step (table_of record_meaning range_meaning ops.now) (op_of op.now) (sheet_of page.old)) }
+    ensures alike { twin.new ≡ page.new }
+{
+    let is_done = apply(page, op, ops);
+    let is_done_again = apply(twin, op, ops);
+    prove!(is_done_again == is_done);
+    is_done
+}
