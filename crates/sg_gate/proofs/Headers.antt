@@ -1,5 +1,5 @@
 -- How a batch's gate is opened.
-use Rattle.std.proofs.Common.{◌≡◌, ◌⊎◌, inl, inr, ⊎_elim, ◌<◌, ◌≤◌, ◌+◌, ◌-◌, ◌*◌, ℕ, zero, suc, List, [], ◌∷◌, ◌++◌, length, take, get_or, Result, Ok, refl, sym, ◌∙◌, ap, subst, arith, zero-add, add-one, get_or-take}
+use Rattle.std.proofs.Common.{◌≡◌, ◌⊎◌, inl, inr, ⊎_elim, ◌<◌, ◌≤◌, ◌+◌, ◌-◌, ◌*◌, ℕ, zero, suc, List, [], ◌∷◌, ◌++◌, length, take, get_or, Result, Ok, Err, OnOk, refl, sym, ◌∙◌, ap, subst, arith, zero-add, add-one, get_or-take}
 use Rattle.std.proofs.lemmas.List.{length-take-le}
 use Rattle.std.proofs.Math.Seq.{take-suc, get_or-append_right}
 use Rattle.std.proofs.Math.ListN.{get_or-append}
@@ -48,28 +48,32 @@ module _ (v : View) (ns : List ℕ) (most : length ns ≤ 32) (text : List ℕ) 
   abbrev staged : Part
   staged = synced_part (written_part (HEADER + 1) front (v.now Home))
 
-  -- the header is written and synced
-  module _ {T E : Type 0} {w x : View} {a b : T} (one : Wrote {E = E} Home (HEADER + 1) front v w (Ok a)) (two : Synced {E = E} Home w x (Ok b)) where
-    staged_is : x.now Home ≡ staged
-    staged_is = part_synced w.now Home two.ok ∙ ap synced_part (part_written v.now Home (HEADER + 1) front one.ok)
+  -- the header was written and synced
+  module _ (x : State) (stage : x ≡ synced Home (written Home (HEADER + 1) front v.now)) where
+    staged_is : x Home ≡ staged
+    staged_is = part_synced (written Home (HEADER + 1) front v.now) Home stage
 
-    others_are : SameLogs v.now x.now
-    others_are b other = other_synced w.now Home b other two.ok ∙ other_written v.now Home b (HEADER + 1) front other one.ok
+    others_are : SameLogs v.now x
+    others_are b other = other_synced (written Home (HEADER + 1) front v.now) Home b other stage ∙ other_written v.now Home b (HEADER + 1) front other refl
 
-    -- and then its gate is opened
-    pub opened : {y z : View} {d e : T} → Wrote {E = E} Home HEADER (1 ∷ []) x y (Ok d) → Synced {E = E} Home y z (Ok e) → IsOpened v.now z.now ns
-    opened {y = y} {z = z} three four =
-        let part : z.now Home ≡ synced_part (written_part HEADER (1 ∷ []) staged) = part_synced y.now Home four.ok ∙ ap synced_part (part_written x.now Home HEADER (1 ∷ []) three.ok ∙ ap (written_part HEADER (1 ∷ [])) staged_is) in
-        let seen : (i : ℕ) → (i ≡ HEADER → ⊥) → (z.now Home).seen i ≡ g i = λ i not. ap (λ (p : Part). p.seen i) part ∙ put_outside HEADER (1 ∷ []) g i (λ low high. not (omega arith)) in
+    -- and then its gate was opened
+    pub opened : (z : State) → z ≡ synced Home (written Home HEADER (1 ∷ []) x) → IsOpened v.now z ns
+    opened z gate_open =
+        let part : z Home ≡ synced_part (written_part HEADER (1 ∷ []) staged) = part_synced (written Home HEADER (1 ∷ []) x) Home gate_open ∙ ap (λ (p : Part). synced_part (written_part HEADER (1 ∷ []) p)) staged_is in
+        let seen : (i : ℕ) → (i ≡ HEADER → ⊥) → (z Home).seen i ≡ g i = λ i not. ap (λ (p : Part). p.seen i) part ∙ put_outside HEADER (1 ∷ []) g i (λ low high. not (omega arith)) in
         record {
           opened = record {
             gate = ap (λ (p : Part). p.seen HEADER) part ∙ put_inside HEADER (1 ∷ []) g 0 0 (omega arith);
-            numbers = numbers_agree g (z.now Home).seen g_short (λ i a b. seen i (λ is. absurd (omega arith))) ∙ g_numbers;
+            numbers = numbers_agree g (z Home).seen g_short (λ i a b. seen i (λ is. absurd (omega arith))) ∙ g_numbers;
           };
           settled = λ i. subst (λ (p : Part). Spoils p.pending i → ⊥) (sym part) (λ none. none);
           same = λ i out. seen i (λ is. ⊎_elim (λ a. absurd (omega arith)) (λ b. absurd (omega arith)) out) ∙ g_else i (⊎_elim (λ a. inl (omega arith)) (λ b. inr b) out);
-          logs = λ b other. other_synced y.now Home b other four.ok ∙ other_written x.now Home b HEADER (1 ∷ []) other three.ok ∙ others_are b other;
+          logs = λ b other. other_synced (written Home HEADER (1 ∷ []) x) Home b other gate_open ∙ other_written x Home b HEADER (1 ∷ []) other refl ∙ others_are b other;
         }
+
+    pub opened_ok : {T E : Type 0} (r : Result T E) (z : State) → OnOk r (z ≡ synced Home (written Home HEADER (1 ∷ []) x)) → OnOk r (IsOpened v.now z ns)
+    opened_ok (Ok a) z gate_open = opened z gate_open
+    opened_ok (Err e) z gate_open = tt
 
   -- The moments.
   module _ (pages : ℕ) (ready : IsReady (v.now Home)) (batch : IsBatch pages ns) where
@@ -86,9 +90,6 @@ module _ (v : View) (ns : List ℕ) (most : length ns ≤ 32) (text : List ℕ) 
           fits = fits;
           others = others;
         }
-
-    first : (c : Image) → Leaves v.now c → IsWhole v.now pages f c
-    first c leaves = old_whole c (λ i out. (leaves Home).rest i (ready.settled i (⊎_elim (λ a. inl (omega arith)) (λ b. inr b) out))) (leaves Home).byte (λ b other. leaves b)
 
     -- the header is being written
     writing : (c : Image) → Leaves (written Home (HEADER + 1) front v.now) c → IsWhole v.now pages f c
@@ -125,26 +126,20 @@ module _ (v : View) (ns : List ℕ) (most : length ns ≤ 32) (text : List ℕ) 
     abbrev P : Image → Type 0
     P = IsEither v.now pages f target
 
-    pub after_write : {T E : Type 0} {w : View} {r : Result T E} → Wrote Home (HEADER + 1) front v w r → LeavesOnly v w P
-    after_write one = goes_on (started v P (λ c leaves. inl (first c leaves))) one (λ c leaves. inl (writing c leaves))
+    pub staging : {x : View} → LeavesOnly v x (Leaves (written Home (HEADER + 1) front v.now)) → LeavesOnly v x P
+    staging run = weaker run (λ c leaves. inl (writing c leaves))
 
-    pub after_sync : {T E : Type 0} {w x : View} {a : T} {r : Result T E} → Wrote {E = E} Home (HEADER + 1) front v w (Ok a) → Synced Home w x r → LeavesOnly v x P
-    after_sync one two = goes_on (after_write one) two (λ c leaves. inl (writing c (subst (λ (q : State). Leaves q c) one.ok leaves)))
-
-    module _ {T E : Type 0} {w x : View} {a b : T} (one : Wrote {E = E} Home (HEADER + 1) front v w (Ok a)) (two : Synced {E = E} Home w x (Ok b)) where
-      gate_crash : (c : Image) → Leaves (written Home HEADER (1 ∷ []) x.now) c → P c
+    module _ (x : State) (stage : x ≡ synced Home (written Home (HEADER + 1) front v.now)) where
+      gate_crash : (c : Image) → Leaves (written Home HEADER (1 ∷ []) x) c → P c
       gate_crash c leaves =
-          let torn : LeavesPart (written_part HEADER (1 ∷ []) staged) (c Home) = subst (λ (p : Part). LeavesPart (written_part HEADER (1 ∷ []) p) (c Home)) (staged_is one two) (leaves_written x.now Home HEADER (1 ∷ []) c leaves) in
+          let torn : LeavesPart (written_part HEADER (1 ∷ []) staged) (c Home) = subst (λ (p : Part). LeavesPart (written_part HEADER (1 ∷ []) p) (c Home)) (staged_is x stage) (leaves_written x Home HEADER (1 ∷ []) c leaves) in
           torn_gate c
           (λ i not. other_byte staged HEADER (1 ∷ []) (c Home) refl torn i (⊎_elim (λ lt. inl lt) (λ le. inr (⊎_elim (λ at. absurd (not at)) (λ off. omega arith) (cases_eq i HEADER))) (cases_lt i HEADER)))
           (leaves Home).byte
-          (λ b other. subst (λ (p : Part). LeavesPart p (c b)) (others_are one two b other) (leaves_other x.now Home b HEADER (1 ∷ []) c other leaves))
+          (λ b other. subst (λ (p : Part). LeavesPart p (c b)) (others_are x stage b other) (leaves_other x Home b HEADER (1 ∷ []) c other leaves))
 
-      pub after_gate : {y : View} {r : Result T E} → Wrote Home HEADER (1 ∷ []) x y r → LeavesOnly v y P
-      after_gate three = goes_on (after_sync one two) three gate_crash
-
-      pub after_last : {y z : View} {d : T} {r : Result T E} → Wrote {E = E} Home HEADER (1 ∷ []) x y (Ok d) → Synced Home y z r → LeavesOnly v z P
-      after_last three four = goes_on (after_gate three) four (λ c leaves. gate_crash c (subst (λ (q : State). Leaves q c) three.ok leaves))
+    pub opening : {x z : View} → LeavesOnly v x (Leaves (written Home (HEADER + 1) front v.now)) → x.now ≡ synced Home (written Home (HEADER + 1) front v.now) → LeavesOnly x z (Leaves (written Home HEADER (1 ∷ []) x.now)) → LeavesOnly v z P
+    opening {x = x} run stage gate = joined (staging run) (weaker gate (gate_crash x.now stage))
 
 -- What is laid over is the same where the places and the store are.
 pub homed_same : (f g : Bytes) (ns : List ℕ) → length ns ≤ 32 → ((i : ℕ) → IsOutside i → g i ≡ f i) → (i : ℕ) → IsOutside i → homed ns g i ≡ homed ns f i

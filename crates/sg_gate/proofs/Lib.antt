@@ -9,6 +9,7 @@ pub mod Over
 pub mod Placing
 pub mod Reading
 pub mod Renewing
+pub mod Settling
 pub mod Slots
 pub mod Texts
 pub mod Windows

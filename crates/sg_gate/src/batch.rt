@@ -8,8 +8,9 @@ ghost use Rattle.sg_gate.specs.Layout.{PAGE, place_at, home_at};
 ghost use Rattle.sg_gate.specs.Batch.{homed, IsBatch, IsReady, IsSettled, IsOpen, IsOpened, IsDone, IsWhole, IsEither, SameLogs};
 
 use crate::GateFault;
-use crate::header::write_header;
-use crate::layout::{COUNT_START, HEADER_START, page_start, place_start};
+use crate::gate::open_gate;
+use crate::header::stage_header;
+use crate::layout::{HEADER_START, page_start, place_start};
 use sg_base::{PAGE_SIZE, PageNo};
 use sg_disk::{Area, Disk, Failed};
 
@@ -77,7 +78,7 @@ pub fn copy_home<D: Disk>(disk: &mut D, numbers: &[u32], page: &mut [u8]) -> Res
     Ok(())
 }
 
-// Writes the header behind the closed gate, syncs, opens the gate and syncs.
+// Writes the header behind the closed gate, and then opens the gate, with a sync behind each.
 fn open_batch<D: Disk>(disk: &mut D, numbers: &[u32], text: &mut [u8]) -> Result<(), Failed>
     requires most { length numbers.now ≤ 32 }
     requires room { 132 ≤ length text.old }
@@ -92,12 +93,8 @@ fn open_batch<D: Disk>(disk: &mut D, numbers: &[u32], text: &mut [u8]) -> Result
     ensures kept { (D.view disk.old).handed ≤ (D.view disk.new).handed }
     ensures all_handed { OnOk result ((D.view disk.new).handed ≡ min ((D.view disk.old).handed + 4 * length numbers.now + 5) FULL) }
 {
-    write_header(numbers, text);
-    disk.write_at(Area::Home, COUNT_START, &text[..4 + 4 * numbers.len()])?;
-    disk.sync(Area::Home)?;
-    disk.write_at(Area::Home, HEADER_START, &[1])?;
-    disk.sync(Area::Home)?;
-    Ok(())
+    stage_header(disk, numbers, text)?;
+    open_gate(disk)
 }
 
 /// Writes the pages at the first places home, each to the home of its number: it writes the header,

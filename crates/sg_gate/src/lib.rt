@@ -10,6 +10,7 @@
 
 mod batch;
 mod fault;
+mod gate;
 mod header;
 mod laying;
 mod layout;

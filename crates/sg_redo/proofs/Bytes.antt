@@ -34,13 +34,13 @@ over_out w xs i lies out =
     ∙ (get_or-append_right w.bytes (drop (w.at + length w.bytes) xs) (i - w.at) 0 (omega arith) ∙ (get_or-drop (w.at + length w.bytes) xs (i - w.at - length w.bytes) 0 ∙ ap (λ (k : ℕ). get_or xs k 0) place))))
     out
 
-part_in : (w : OnWindow) (i : ℕ) (ws : List OnWindow) → w.at ≤ i → i < w.at + length w.bytes → on_byte i (w ∷ ws) ≡ record { lsn = w.lsn; value = get_or w.bytes (i - w.at) 0 } ∷ on_byte i ws
+pub part_in : (w : OnWindow) (i : ℕ) (ws : List OnWindow) → w.at ≤ i → i < w.at + length w.bytes → on_byte i (w ∷ ws) ≡ record { lsn = w.lsn; value = get_or w.bytes (i - w.at) 0 } ∷ on_byte i ws
 part_in w i ws low high = grind (arith, nat_tests)
 
-part_out : (w : OnWindow) (i : ℕ) (ws : List OnWindow) → (i < w.at) ⊎ (w.at + length w.bytes ≤ i) → on_byte i (w ∷ ws) ≡ on_byte i ws
+pub part_out : (w : OnWindow) (i : ℕ) (ws : List OnWindow) → (i < w.at) ⊎ (w.at + length w.bytes ≤ i) → on_byte i (w ∷ ws) ≡ on_byte i ws
 part_out w i ws out = grind (arith, nat_tests)
 
-place_or : (w : OnWindow) (i : ℕ) → ((w.at ≤ i) × (i < w.at + length w.bytes)) ⊎ ((i < w.at) ⊎ (w.at + length w.bytes ≤ i))
+pub place_or : (w : OnWindow) (i : ℕ) → ((w.at ≤ i) × (i < w.at + length w.bytes)) ⊎ ((i < w.at) ⊎ (w.at + length w.bytes ≤ i))
 place_or w i = ⊎_elim (λ before. inr (inl before)) (λ low. ⊎_elim (λ high. inl (low, high)) (λ behind. inr (inr behind)) (cases_lt i (w.at + length w.bytes))) (cases_lt i w.at)
 
 replay_byte : (ws : List OnWindow) (xs : List ℕ) (i : ℕ) → AllLie (length xs) ws → get_or (replayed ws xs) i 0 ≡ rewritten (on_byte i ws) (get_or xs i 0)

@@ -1,4 +1,9 @@
 pub mod Versions
 pub mod Bytes
+pub mod InRange
+pub mod InTurn
+pub mod Marking
 pub mod Numbers
 pub mod Redone
+pub mod Replayed
+pub mod Said

@@ -9,12 +9,19 @@
 //! differ only in bytes that the changes cover are the same after them.
 #![tactic(auto)]
 
+mod change;
 mod laws;
 mod page;
+mod place;
+mod replaying;
+mod unit;
 mod window;
 
 pub use laws::{records_set_numbers, versions_repeat, windows_converge};
 pub use page::apply_page;
+pub use place::Place;
+pub use replaying::replay;
+pub use unit::Unit;
 pub use window::{BandChange, apply_window};
 
 #[cfg(test)]

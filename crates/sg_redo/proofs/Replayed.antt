@@ -1,0 +1,46 @@
+-- What replay of a unit leaves of it, and of all units.
+use Rattle.std.proofs.Common.{◌≡◌, ◌≢◌, ◌<◌, ◌+◌, ◌-◌, ◌==◌, ℕ, suc, Bool, true, false, List, [], ◌∷◌, length, map, take, drop, slice_index_or, refl, ap, ◌∙◌, arith}
+use Rattle.std.proofs.lemmas.Bool.Decides.{nat_tests}
+use Rattle.sg_frames.proofs.Lent.{rewritten_whole}
+use Rattle.sg_frames.specs.Pieces.{rewritten}
+use Rattle.sg_ops.specs.Table.{Table}
+use Rattle.sg_redo.specs.declared.place.Place.{Place}
+use Rattle.sg_redo.specs.declared.unit.Unit as code
+use Rattle.sg_redo.specs.History.{repeated}
+use Rattle.sg_redo.specs.Window.{replayed}
+use Rattle.sg_redo.specs.Places.{page_records, window_records, marks_with}
+use Rattle.sg_redo.specs.Units.{own_places, with_bytes, replayed_unit}
+
+-- the places from one on, so many
+pub these : (u : code.Unit) (places : List Place) → take (u.first + u.count - u.first) (drop u.first places) ≡ own_places places u
+these u places = let many : u.first + u.count - u.first ≡ u.count = omega arith in ap (λ (n : ℕ). take n (drop u.first places)) many
+
+-- a page, whose bytes were lent as `memory`
+pub page_done : (t : Table) (text : List ℕ) (places own : List Place) (u : code.Unit) (memory page : List ℕ) → memory ≡ u.loan.bytes → length memory ≡ 4096 → own ≡ own_places places u → length page ≡ length memory
+    → page ≡ repeated (page_records t text own) memory → with_bytes u (rewritten u.loan.bytes page) ≡ replayed_unit t text places u
+unfolding replayed_unit
+page_done t text places own u memory page lent size is long done =
+    let same : length memory ≡ length u.loan.bytes = ap (λ (bytes : List ℕ). length bytes) lent in
+    let test : (length u.loan.bytes == 4096) ≡ true = grind (arith, nat_tests, size, same) in
+    rw test (ap (with_bytes u) (rewritten_whole u.loan.bytes page (long ∙ same)
+    ∙ (done ∙ (ap (repeated (page_records t text own)) lent ∙ ap (λ (ps : List Place). repeated (page_records t text ps) u.loan.bytes) is))))
+
+-- a window
+pub window_done : (t : Table) (text : List ℕ) (places own : List Place) (u : code.Unit) (memory window : List ℕ) (marks : List Bool) → memory ≡ u.loan.bytes → length memory ≢ 4096 → own ≡ own_places places u → length window ≡ length memory
+    → window ≡ replayed (window_records t text own) memory → marks ≡ marks_with (window_records t text own) u.dirty → record (with_bytes u (rewritten u.loan.bytes window)) { dirty = marks } ≡ replayed_unit t text places u
+unfolding replayed_unit
+window_done t text places own u memory window marks lent size is long done marked =
+    let same : length memory ≡ length u.loan.bytes = ap (λ (bytes : List ℕ). length bytes) lent in
+    let test : (length u.loan.bytes == 4096) ≡ false = grind (arith, nat_tests, size, same) in
+    rw test
+    (ap (λ (bytes : List ℕ). record (with_bytes u bytes) { dirty = marks })
+    (rewritten_whole u.loan.bytes window (long ∙ same) ∙ (done ∙ (ap (replayed (window_records t text own)) lent ∙ ap (λ (ps : List Place). replayed (window_records t text ps) u.loan.bytes) is)))
+    ∙ ap (λ (ms : List Bool). record (with_bytes u (replayed (window_records t text (own_places places u)) u.loan.bytes)) { dirty = ms }) (marked ∙ ap (λ (ps : List Place). marks_with (window_records t text ps) u.dirty) is))
+
+-- units that were each replayed are all replayed
+pub all_done : (f : code.Unit → code.Unit) (old new : List code.Unit) → length new ≡ length old → ((i : ℕ) (d : code.Unit) → i < length old → slice_index_or new i d ≡ f (slice_index_or old i d)) → new ≡ map f old
+all_done f [] [] same each = refl
+all_done f [] (y ∷ ys) same each = absurd (omega (arith, same))
+all_done f (x ∷ xs) [] same each = absurd (omega (arith, same))
+all_done f (x ∷ xs) (y ∷ ys) same each =
+    ap (λ (u : code.Unit). u ∷ ys) (each 0 x (omega arith)) ∙ ap (λ (us : List code.Unit). f x ∷ us) (all_done f xs ys (omega (arith, same)) (λ i d h. each (suc i) d (omega (arith, h))))
