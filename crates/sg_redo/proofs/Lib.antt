@@ -1,5 +1,6 @@
 pub mod Versions
 pub mod Bytes
+pub mod Converging
 pub mod InRange
 pub mod InTurn
 pub mod Marking
@@ -7,3 +8,5 @@ pub mod Numbers
 pub mod Redone
 pub mod Replayed
 pub mod Said
+pub mod Staying
+pub mod Wrote

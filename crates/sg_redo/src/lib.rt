@@ -10,6 +10,7 @@
 #![tactic(auto)]
 
 mod change;
+mod known;
 mod laws;
 mod page;
 mod place;
@@ -17,7 +18,10 @@ mod replaying;
 mod unit;
 mod window;
 
-pub use laws::{records_set_numbers, versions_repeat, windows_converge};
+pub use known::are_known;
+pub use laws::{
+    records_keep_pages, records_set_numbers, replay_converges, versions_repeat, windows_converge,
+};
 pub use page::apply_page;
 pub use place::Place;
 pub use replaying::replay;

@@ -51,6 +51,9 @@ pub fn apply_page(page: &mut [u8], lsn: Lsn, op: &PageOp<'_>, ops: &Ops) -> bool
     ensures applied { result ≡ (nat_lt (lsn_of page.old) lsn
         && fits (table_of record_meaning range_meaning ops.now) (op_of op.now) page.old) }
 
+    // A page of slots stays one.
+    ensures kept { IsSlotted page.old → IsSlotted page.new }
+
     // What it leaves of a page, where it does something.
     ensures slotted { OnTrue result (IsSlotted page.new) }
     ensures says { OnTrue result

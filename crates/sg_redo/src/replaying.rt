@@ -1,5 +1,5 @@
 // Replay: the records of each unit, in their order, through its loan.
-ghost use Rattle.std.specs.Prelude.{◌≡◌, ◌↔◌, ◌⊎◌, ◌≤◌, ℕ, length, map};
+ghost use Rattle.std.specs.Prelude.{◌≡◌, ◌+◌, ◌↔◌, ◌⊎◌, ◌≤◌, ℕ, length, map, sum_by};
 ghost use Rattle.std.specs.List.{All};
 ghost use Rattle.sg_ops.specs.Table.{table_of};
 ghost use Rattle.sg_redo.specs.History.{repeated, IsCovered};
@@ -13,18 +13,21 @@ use crate::page::apply_page;
 use crate::place::Place;
 use crate::unit::Unit;
 use crate::window::{BandChange, apply_window};
-use sg_base::{BAND_SIZE, PAGE_SIZE};
+use sg_base::{BAND_SIZE, PAGE_SIZE, Steps};
 use sg_ops::Ops;
 use sg_record::Change;
 use sg_segment::Dirty;
+use std::sync::ledger::Ledger;
 
 // The record at one place, done to a page where it is due there.
 #[tactic(auto, unfolding(crate::specs::Places::page_part))]
-fn redo_page(page: &mut [u8], place: Place, text: &[u8], ops: &Ops)
+fn redo_page<L: Ledger>(page: &mut [u8], place: Place, text: &[u8], ops: &Ops, steps: &mut Steps<L>)
     requires { length page.old ≡ PAGE_SIZE }
-    ensures { let t = table_of record_meaning range_meaning ops.now in
+    ensures page { let t = table_of record_meaning range_meaning ops.now in
         page.new ≡ repeated (page_part t place.lsn (change_at text.now place.at)) page.old }
+    ensures steps { steps.new ≡ steps.old + 1 }
 {
+    steps.tick();
     if let Some(Change::Page(change)) = change_at(text, place.at) {
         apply_page(page, place.lsn, &page_op(&change), ops);
     }
@@ -32,19 +35,20 @@ fn redo_page(page: &mut [u8], place: Place, text: &[u8], ops: &Ops)
 
 // The records at these places, done to a page in turn.
 #[tactic(auto, using(crate::proofs::InTurn::page_none, crate::proofs::InTurn::page_turn))]
-fn replay_page(page: &mut [u8], places: &[Place], text: &[u8], ops: &Ops)
+fn replay_page<L: Ledger>(page: &mut [u8], places: &[Place], text: &[u8], ops: &Ops, steps: &mut Steps<L>)
     requires { length page.old ≡ PAGE_SIZE }
-    ensures { let t = table_of record_meaning range_meaning ops.now in
+    ensures page { let t = table_of record_meaning range_meaning ops.now in
         page.new ≡ repeated (page_records t text.now places.now) page.old }
+    ensures steps { steps.new ≡ steps.old + length places.now }
 {
     'places: for k in 0..places.len() {
-        redo_page(page, places[k], text, ops);
+        redo_page(page, places[k], text, ops, steps);
     }
 }
 
 // The record at one place, written over a window.
 #[tactic(auto, unfolding(crate::specs::Places::window_part))]
-fn redo_window(window: &mut [u8], dirty: &mut Dirty, place: Place, text: &[u8], ops: &Ops)
+fn redo_window<L: Ledger>(window: &mut [u8], dirty: &mut Dirty, place: Place, text: &[u8], ops: &Ops, steps: &mut Steps<L>)
     requires size { length window.old ≡ BAND_SIZE }
     requires known { IsKnown (table_of record_meaning range_meaning ops.now) (change_at text.now place.at) }
     ensures written { let t = table_of record_meaning range_meaning ops.now in
@@ -52,7 +56,9 @@ fn redo_window(window: &mut [u8], dirty: &mut Dirty, place: Place, text: &[u8], 
     ensures marked { let t = table_of record_meaning range_meaning ops.now in
         (k : ℕ) → IsMarked dirty.new k ↔ (IsMarked dirty.old k ⊎ IsCovered (on_byte k (window_part t place.lsn (change_at text.now place.at)))) }
     ensures marks { length dirty.old ≡ BAND_SIZE → length dirty.new ≡ BAND_SIZE }
+    ensures steps { steps.new ≡ steps.old + 1 }
 {
+    steps.tick();
     match change_at(text, place.at) {
         Some(Change::SegWrite(change)) => apply_window(
             window,
@@ -81,49 +87,52 @@ fn redo_window(window: &mut [u8], dirty: &mut Dirty, place: Place, text: &[u8], 
 
 // The records at these places, written over a window in turn.
 #[tactic(auto, using(crate::proofs::InTurn::window_none, crate::proofs::InTurn::window_turn, crate::proofs::InTurn::marks_start, crate::proofs::InTurn::marks_turn))]
-fn replay_window(window: &mut [u8], dirty: &mut Dirty, places: &[Place], text: &[u8], ops: &Ops)
+fn replay_window<L: Ledger>(window: &mut [u8], dirty: &mut Dirty, places: &[Place], text: &[u8], ops: &Ops, steps: &mut Steps<L>)
     requires size { length window.old ≡ BAND_SIZE }
     requires known { AreKnown (table_of record_meaning range_meaning ops.now) text.now places.now }
     ensures written { let t = table_of record_meaning range_meaning ops.now in
         window.new ≡ replayed (window_records t text.now places.now) window.old }
     ensures marked { let t = table_of record_meaning range_meaning ops.now in
         dirty.new ≡ marks_with (window_records t text.now places.now) dirty.old }
+    ensures steps { steps.new ≡ steps.old + length places.now }
 {
     let count = places.len();
     dirty.covers_window();
     'places: for k in 0..count {
-        redo_window(window, dirty, places[k], text, ops);
+        redo_window(window, dirty, places[k], text, ops, steps);
     }
 }
 
 // The records of one unit, through its loan.
-fn replay_unit(unit: &mut Unit, places: &[Place], text: &[u8], ops: &Ops)
+fn replay_unit<L: Ledger>(unit: &mut Unit, places: &[Place], text: &[u8], ops: &Ops, steps: &mut Steps<L>)
     requires lies { Lies places.now unit.old }
     requires known { AreKnown (table_of record_meaning range_meaning ops.now) text.now places.now }
-    ensures { unit.new ≡ replayed_unit (table_of record_meaning range_meaning ops.now) text.now places.now unit.old }
+    ensures unit { unit.new ≡ replayed_unit (table_of record_meaning range_meaning ops.now) text.now places.now unit.old }
+    ensures steps { steps.new ≡ steps.old + unit.old.count }
 {
     let first = unit.first as usize;
     let own = &places[first..first + unit.count as usize];
     let memory = unit.loan.bytes_mut();
     if memory.len() == PAGE_SIZE {
-        replay_page(memory, own, text, ops);
+        replay_page(memory, own, text, ops, steps);
     } else {
-        replay_window(memory, &mut unit.dirty, own, text, ops);
+        replay_window(memory, &mut unit.dirty, own, text, ops, steps);
     }
 }
 
 /// Replays each unit's records, in the order of its places, through its loan. A page has its history
 /// repeated: a record is done exactly where the page's number in the log is smaller and the operation
 /// fits. A window has the records' bytes written over it, whatever stood there, and exactly these
-/// marked besides.
+/// marked besides. Each place is one step.
 ///
 /// A place at which no whole record stands that changes a unit of this sort changes nothing.
-pub fn replay(units: &mut [Unit], places: &[Place], text: &[u8], ops: &Ops)
+pub fn replay<L: Ledger>(units: &mut [Unit], places: &[Place], text: &[u8], ops: &Ops, steps: &mut Steps<L>)
     requires lie { All (λ u. Lies places.now u) units.old }
     requires known { AreKnown (table_of record_meaning range_meaning ops.now) text.now places.now }
-    ensures { units.new ≡ map (replayed_unit (table_of record_meaning range_meaning ops.now) text.now places.now) units.old }
+    ensures units { units.new ≡ map (replayed_unit (table_of record_meaning range_meaning ops.now) text.now places.now) units.old }
+    ensures steps { steps.new ≡ steps.old + sum_by (λ u. u.count) units.old }
 {
     'units: for i in 0..units.len() {
-        replay_unit(&mut units[i], places, text, ops);
+        replay_unit(&mut units[i], places, text, ops, steps);
     }
 }

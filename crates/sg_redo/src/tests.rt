@@ -161,3 +161,37 @@ fn changed(alloc: Global) -> Option<([u8; 6], Option<(u32, u32)>)> {
 fn the_last_change_of_a_byte_wins(rt: HostRuntime) {
     assert!(rt; changed(rt.alloc()) == Some(([7, b'a', b'b', b'y', b'x', 7], Some((10, 4)))));
 }
+
+// The record of transaction 5 that turns the item in slot 0 of page 3 by one byte.
+const TURNED: [u8; 35] = [
+    2, 35, 0, 0, 0, 5, 0, 0, 0, 0, 0, 0, 0, 26, 0, 0, 0, 0, 0, 0, 0, 3, 0, 0, 0, 6, 0, 0, 3, 0, 0,
+    0, 1, 0, 1,
+];
+
+// Replays that record, whose number is 20, on the page that is lent.
+fn turn<L: Ledger>(loan: Loan, ops: &Ops, steps: &mut Steps<L>) -> Loan {
+    let places = [Place {
+        unit: 3,
+        lsn: 20,
+        at: 0,
+    }];
+    let mut units = [Unit {
+        number: 3,
+        loan,
+        dirty: Dirty::new(),
+        first: 0,
+        count: 1,
+    }];
+    if are_known(&places, &TURNED, ops) {
+        replay(&mut units, &places, &TURNED, ops, steps);
+    }
+    let [unit] = units;
+    let Unit {
+        number: _,
+        loan,
+        dirty: _,
+        first: _,
+        count: _,
+    } = unit;
+    loan
+}

@@ -14,6 +14,7 @@ places-preserved g c =
       written = grind (arith, common_steps, window_turn);
       marked = marks_turn t c.args.text.now c.args.places.now c.places.k _ c.args.dirty.now c.places.dirty c.redo_window.new.dirty c.places-test.true c.places.invariant.marked c.redo_window.ensures.marked;
       marks = λ whole. c.redo_window.ensures.marks (c.places.invariant.marks whole);
+      steps = omega arith;
     }
 
 pub returns-clause-marked : goal.returns-clause-marked

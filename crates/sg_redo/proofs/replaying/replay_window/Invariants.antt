@@ -1,4 +1,4 @@
-use Rattle.std.proofs.Common.{◌≡◌, ◌⊎◌, ◌↔◌, ℕ, length, take}
+use Rattle.std.proofs.Common.{◌≡◌, ◌+◌, ◌⊎◌, ◌↔◌, ℕ, length, take}
 use Rattle.sg_ops.specs.Table.{table_of}
 use Rattle.sg_segment.specs.Runs.{IsMarked}
 use Rattle.sg_redo.specs.History.{IsCovered}
@@ -12,4 +12,5 @@ invariant-places g l = record {
   written : l.window ≡ replayed (window_records (table_of (λ p. (goal.RecordOp-dyn g p).record_meaning p.1) (λ p. (goal.RangeOp-dyn g p).range_meaning p.1) l.ops) l.text (take l.k l.places)) l.initial.window;
   marked : (k : ℕ) → IsMarked l.dirty k ↔ (IsMarked l.initial.dirty k ⊎ IsCovered (on_byte k (window_records (table_of (λ p. (goal.RecordOp-dyn g p).record_meaning p.1) (λ p. (goal.RangeOp-dyn g p).range_meaning p.1) l.ops) l.text (take l.k l.places))));
   marks : length l.initial.dirty ≡ 32768 → length l.dirty ≡ 32768;
+  steps : l.steps ≡ l.initial.steps + l.k;
 }
