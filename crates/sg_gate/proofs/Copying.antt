@@ -1,19 +1,16 @@
 -- The moments of a batch's copying, from the open gate to the closed one.
-use Rattle.std.proofs.Common.{◌≡◌, ◌⊎◌, inl, inr, ⊎_elim, ◌<◌, ◌≤◌, ◌+◌, ◌-◌, ◌*◌, ℕ, zero, suc, List, [], ◌∷◌, ◌++◌, length, take, get_or, Result, Ok, refl, sym, ◌∙◌, ap, subst, arith, add-zero, zero-add, add-one, length-take}
-use Rattle.std.proofs.Math.Seq.{take-suc, take-length}
-use Rattle.std.proofs.lemmas.List.{length-take-le}
+use Rattle.std.proofs.Common.{◌≡◌, inl, inr, ⊎_elim, ◌<◌, ◌≤◌, ◌+◌, ℕ, List, [], ◌∷◌, length, get_or, Result, Ok, refl, sym, ◌∙◌, ap, subst, arith}
 use Rattle.std.proofs.lemmas.Bool.{cases_lt, cases_eq}
 use Rattle.sg_base.specs.declared.area.Area.{Area}
-use Rattle.sg_base.specs.declared.area.Area.TheVariants.{Home, Log0, Log1}
-use Rattle.sg_disk.specs.Disk.{Bytes, Image, Range, Part, State, Spoils, LeavesPart, Leaves, View, ReadBytes, Wrote, Synced, LeavesOnly, put, window, written_part, synced_part, written, synced}
-use Rattle.sg_disk.proofs.Images.{put_outside, write_keeps}
-use Rattle.sg_disk.proofs.Parts.{untouched, part_written, part_synced, leaves_written, settled_byte, other_byte, put_inside, other_written, other_synced, leaves_other}
+use Rattle.sg_base.specs.declared.area.Area.TheVariants.{Home}
+use Rattle.sg_disk.specs.Disk.{Bytes, Image, Part, State, Spoils, LeavesPart, Leaves, View, Wrote, Synced, LeavesOnly, window, written_part, synced_part, written, synced}
+use Rattle.sg_disk.proofs.Parts.{untouched, part_written, part_synced, leaves_written, other_byte, other_written, other_synced, leaves_other}
 use Rattle.sg_disk.proofs.Moments.{started, goes_on, joined, weaker}
-use Rattle.sg_gate.specs.Layout.{PAGE, HEADER, HOMES, place_at, home_at, IsStore, IsOutside}
-use Rattle.sg_gate.specs.Batch.{numbers_of, over, homed, laid, IsBatch, InHomes, IsSettled, IsOpen, IsDone, IsWhole, SameLogs}
+use Rattle.sg_gate.specs.Layout.{PAGE, HEADER, HOMES, place_at, home_at, IsStore}
+use Rattle.sg_gate.specs.Batch.{numbers_of, homed, IsBatch, InHomes, IsSettled, IsOpen, IsWhole, SameLogs}
 use Rattle.sg_gate.proofs.Windows.{window_size, put_window_out}
 use Rattle.sg_gate.proofs.Copies.{in_homes_at}
-use Rattle.sg_gate.proofs.Over.{in_or_out, step, step_in, step_out, over_low, over_out, over_more, over_agree, homes_high, numbers_agree, laid_open, laid_shut}
+use Rattle.sg_gate.proofs.Over.{over_low, over_out, over_agree, homes_high, numbers_agree, laid_open, laid_shut}
 
 module _ (v : View) (ns : List ℕ) (pages : ℕ) (opened : IsOpen (v.now Home) ns) (settled : IsSettled (v.now Home)) (batch : IsBatch pages ns) where
   abbrev f : Bytes

@@ -1,5 +1,5 @@
 -- The fields of a superblock, as they are written and as they are read.
-use Rattle.std.proofs.Common.{◌≡◌, ◌≢◌, ◌<◌, ◌≤◌, ◌+◌, ◌-◌, ◌==◌, ℕ, suc, Bool, false, Option, Some, None, List, [], ◌∷◌, length, drop, take, get_or, ◌++◌, ◌&&◌, ◌*◌, ◌^◌, nat_le, nat_lt, true, append-nil, lit<, refl, sym, ◌∙◌, ap, subst, arith, add-zero, add-one}
+use Rattle.std.proofs.Common.{◌≡◌, ◌≢◌, ◌<◌, ◌≤◌, ◌+◌, ◌-◌, ◌==◌, ℕ, suc, Bool, false, Some, None, List, [], ◌∷◌, length, drop, take, get_or, ◌++◌, ◌&&◌, ◌^◌, nat_le, nat_lt, true, append-nil, lit<, refl, sym, ◌∙◌, ap, arith, add-zero, add-one}
 use Rattle.std.proofs.lemmas.Bool.Decides.{nat_tests}
 use Rattle.std.proofs.lemmas.List.{take_rest, drop-drop, get_or-drop}
 use Rattle.std.proofs.Math.ListN.{drop_of_length-le}
@@ -8,7 +8,6 @@ use Rattle.byteorder.specs.Numbers.{little_number-reads_back}
 use Rattle.sg_base.specs.Overwritten.{Wrote}
 use Rattle.sg_base.proofs.Overwriting.{wrote_on, wrote_front}
 use Rattle.sg_disk.specs.Disk.{Bytes, window}
-use Rattle.sg_disk.specs.Memory.{bytes_of}
 use Rattle.sg_gate.specs.Superblock.{MAGIC, field, said, spelled, is_within, map_bands, fields, first_out, wrong_in, text_at, sequence_of, which, counting, IsSuper, AreInRange, IsText}
 use Rattle.sg_gate.specs.declared.superblock.Super.{Super}
 use Rattle.sg_gate.proofs.Windows.{first_of}

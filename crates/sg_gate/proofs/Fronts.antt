@@ -1,5 +1,5 @@
 -- The gates and texts of slots that were read.
-use Rattle.std.proofs.Common.{refl, ◌≡◌, ◌↔◌, ◌<◌, ◌≤◌, ◌+◌, ◌==◌, ℕ, Bool, true, false, IsTrue, if◌then◌else◌, Option, Some, None, Result, IfErr, List, length, take, drop, get_or, ◌-◌, min, sym, ◌∙◌, ap, subst, arith}
+use Rattle.std.proofs.Common.{refl, ◌≡◌, ◌↔◌, ◌+◌, ◌==◌, ℕ, Bool, IsTrue, Option, Some, None, Result, IfErr, List, length, take, drop, get_or, sym, ◌∙◌, ap, subst, arith}
 use Rattle.std.proofs.lemmas.Bool.Decides.{nat_tests}
 use Rattle.std.proofs.Math.Seq.{take-length}
 use Rattle.sg_base.specs.declared.area.Area.TheVariants.{Home}

@@ -1,19 +1,17 @@
 -- How a batch's gate is opened.
-use Rattle.std.proofs.Common.{◌≡◌, ◌⊎◌, inl, inr, ⊎_elim, ◌<◌, ◌≤◌, ◌+◌, ◌-◌, ◌*◌, ℕ, zero, suc, List, [], ◌∷◌, ◌++◌, length, take, get_or, Result, Ok, Err, OnOk, refl, sym, ◌∙◌, ap, subst, arith, zero-add, add-one, get_or-take}
+use Rattle.std.proofs.Common.{◌≡◌, ◌⊎◌, inl, inr, ⊎_elim, ◌<◌, ◌≤◌, ◌+◌, ◌*◌, ℕ, List, [], ◌∷◌, length, take, Result, Ok, Err, OnOk, refl, sym, ◌∙◌, ap, subst, arith, zero-add, get_or-take}
 use Rattle.std.proofs.lemmas.List.{length-take-le}
-use Rattle.std.proofs.Math.Seq.{take-suc, get_or-append_right}
-use Rattle.std.proofs.Math.ListN.{get_or-append}
 use Rattle.std.proofs.lemmas.Bool.{cases_lt, cases_eq}
 use Rattle.byteorder.specs.Endian.{little_number}
 use Rattle.sg_base.specs.declared.area.Area.{Area}
-use Rattle.sg_base.specs.declared.area.Area.TheVariants.{Home, Log0, Log1}
-use Rattle.sg_disk.specs.Disk.{Bytes, Image, Range, Part, State, Spoils, LeavesPart, Leaves, View, Wrote, Synced, LeavesOnly, put, window, written_part, synced_part, written, synced}
+use Rattle.sg_base.specs.declared.area.Area.TheVariants.{Home}
+use Rattle.sg_disk.specs.Disk.{Bytes, Image, Part, State, Spoils, LeavesPart, Leaves, View, LeavesOnly, put, written_part, synced_part, written, synced}
 use Rattle.sg_disk.specs.Memory.{bytes_of}
 use Rattle.sg_disk.proofs.Images.{put_outside}
-use Rattle.sg_disk.proofs.Parts.{untouched, part_written, part_synced, leaves_written, other_byte, put_inside, other_written, other_synced, leaves_other}
-use Rattle.sg_disk.proofs.Moments.{started, goes_on, joined, weaker}
+use Rattle.sg_disk.proofs.Parts.{untouched, part_synced, leaves_written, other_byte, put_inside, other_written, other_synced, leaves_other}
+use Rattle.sg_disk.proofs.Moments.{joined, weaker}
 use Rattle.sg_gate.specs.Layout.{HEADER, PLACES, HOMES, IsStore, IsOutside}
-use Rattle.sg_gate.specs.Batch.{numbers_from, numbers_of, homed, laid, IsBatch, IsReady, IsSettled, IsOpen, IsOpened, IsDone, IsWhole, IsEither, IsHeader, SameLogs}
+use Rattle.sg_gate.specs.Batch.{numbers_of, homed, IsBatch, IsReady, IsOpened, IsDone, IsWhole, IsEither, IsHeader, SameLogs}
 use Rattle.sg_gate.proofs.Windows.{window_shift}
 use Rattle.sg_gate.proofs.Over.{over_agree, numbers_agree_from, numbers_are, numbers_agree, laid_open, laid_shut}
 

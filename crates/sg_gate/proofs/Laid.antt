@@ -1,15 +1,13 @@
 -- Laying an open batch over.
-use Rattle.std.proofs.Common.{◌≡◌, ◌≢◌, ◌⊎◌, inl, inr, ⊎_elim, ◌<◌, ◌≤◌, ◌+◌, ◌*◌, ℕ, Bool, IsTrue, Result, List, length, take, get_or, drop, refl, sym, ◌∙◌, ap, subst, arith, add-zero, zero-add}
+use Rattle.std.proofs.Common.{◌≡◌, ◌≢◌, ◌⊎◌, inl, inr, ⊎_elim, ◌<◌, ◌≤◌, ◌+◌, ◌*◌, ℕ, List, length, refl, sym, ◌∙◌, ap, subst, arith, add-zero, zero-add}
 use Rattle.std.proofs.lemmas.Bool.{cases_lt}
 use Rattle.byteorder.specs.Endian.{little_number}
-use Rattle.sg_base.specs.declared.area.Area.{Area}
 use Rattle.sg_base.specs.declared.area.Area.TheVariants.{Home}
-use Rattle.sg_disk.specs.Disk.{Bytes, Image, Part, State, Spoils, LeavesPart, Leaves, View, Counts, ReadBytes, LeavesOnly, window}
+use Rattle.sg_disk.specs.Disk.{Bytes, Image, State, Leaves, View, LeavesOnly, window}
 use Rattle.sg_disk.specs.Memory.{bytes_of}
-use Rattle.sg_disk.proofs.Moments.{started, goes_on, joined, weaker}
-use Rattle.sg_gate.specs.Layout.{HEADER, IsOutside}
-use Rattle.sg_gate.specs.Batch.{count_at, number_at, numbers_at, numbers_of, homed, laid, IsBatch, IsFit, IsFirstUnfit, IsWrongAt, IsOpen, IsSettled, IsDone, IsLaid, IsWhole, SameLogs}
-use Rattle.sg_gate.specs.Reads.{OnlyReads}
+use Rattle.sg_disk.proofs.Moments.{joined, weaker}
+use Rattle.sg_gate.specs.Layout.{HEADER}
+use Rattle.sg_gate.specs.Batch.{count_at, number_at, numbers_at, numbers_of, homed, laid, IsBatch, IsFit, IsWrongAt, IsOpen, IsSettled, IsDone, IsLaid, IsWhole, SameLogs}
 use Rattle.sg_gate.proofs.Windows.{window_shift}
 use Rattle.sg_gate.proofs.Over.{numbers_agree_at, numbers_at_length, laid_open, laid_shut}
 use Rattle.sg_gate.proofs.Texts.{number_listed}

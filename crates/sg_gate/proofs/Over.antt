@@ -1,10 +1,9 @@
 -- Pages laid over their homes.
-use Rattle.std.proofs.Common.{◌≡◌, ◌⊎◌, inl, inr, ⊎_elim, ◌<◌, ◌≤◌, ◌+◌, ◌-◌, ◌*◌, ◌==◌, ◌&&◌, ℕ, zero, suc, Bool, true, false, nat_le, nat_lt, if◌then◌else◌, List, [], ◌∷◌, ◌++◌, length, refl, sym, ◌∙◌, ap, subst, arith, add-zero}
-use Rattle.std.proofs.lemmas.Bool.{cases_lt, cases_eq}
+use Rattle.std.proofs.Common.{◌≡◌, ◌⊎◌, inl, inr, ⊎_elim, ◌<◌, ◌≤◌, ◌+◌, ◌-◌, ◌*◌, ℕ, zero, suc, true, false, if◌then◌else◌, List, [], ◌∷◌, ◌++◌, length, refl, sym, ◌∙◌, ap, arith, add-zero}
+use Rattle.std.proofs.lemmas.Bool.{cases_lt}
 use Rattle.std.proofs.lemmas.Bool.Decides.{nat_tests}
 use Rattle.byteorder.specs.Endian.{little_number}
 use Rattle.sg_disk.specs.Disk.{Bytes, window}
-use Rattle.sg_disk.proofs.Parts.{window_agree}
 use Rattle.sg_gate.proofs.Windows.{window_shift}
 use Rattle.sg_gate.specs.Layout.{PAGE, HEADER, PLACES, HOMES, place_at, home_at}
 use Rattle.sg_gate.specs.Batch.{numbers_from, count_at, numbers_at, numbers_of, in_page, over, homed, laid, InHomes}

@@ -1,14 +1,13 @@
 -- A page is written to its place.
-use Rattle.std.proofs.Common.{◌≡◌, ◌≢◌, ◌⊎◌, inl, inr, ⊎_elim, ◌<◌, ◌≤◌, ◌+◌, ◌*◌, ℕ, List, length, min, Result, Ok, refl, sym, ◌∙◌, ap, subst, arith}
-use Rattle.std.proofs.lemmas.Bool.{cases_eq}
+use Rattle.std.proofs.Common.{◌≡◌, ◌⊎◌, inl, inr, ⊎_elim, ◌<◌, ◌≤◌, ◌+◌, ℕ, List, length, Result, Ok, sym, ◌∙◌, ap, subst, arith}
 use Rattle.sg_base.specs.declared.area.Area.{Area}
 use Rattle.sg_base.specs.declared.area.Area.TheVariants.{Home}
-use Rattle.sg_disk.specs.Disk.{Image, Part, State, Spoils, LeavesPart, Leaves, View, Wrote, LeavesOnly, put, written_part, written}
+use Rattle.sg_disk.specs.Disk.{Image, Part, State, Spoils, LeavesPart, Leaves, View, Wrote, LeavesOnly, put, written}
 use Rattle.sg_disk.proofs.Images.{put_outside}
 use Rattle.sg_disk.proofs.Parts.{untouched, part_written, leaves_written, leaves_other}
 use Rattle.sg_disk.proofs.Moments.{started, goes_on}
-use Rattle.sg_gate.specs.Layout.{PAGE, HEADER, PLACES, HOMES, place_at, IsStore}
-use Rattle.sg_gate.specs.Batch.{laid, IsReady, IsWhole}
+use Rattle.sg_gate.specs.Layout.{PAGE, HEADER, PLACES, HOMES, place_at}
+use Rattle.sg_gate.specs.Batch.{IsReady, IsWhole}
 use Rattle.sg_gate.proofs.Over.{laid_shut}
 
 -- the same write, of another kind of fault

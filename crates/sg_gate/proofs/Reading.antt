@@ -1,6 +1,6 @@
 -- Calls of a disk that only read.
-use Rattle.std.proofs.Common.{◌≡◌, ◌≤◌, Bool, IsTrue, Result, sym, ◌∙◌, subst, arith}
-use Rattle.sg_disk.specs.Disk.{State, Leaves, View, Counts, ReadBytes, LeavesOnly}
+use Rattle.std.proofs.Common.{◌≡◌, Bool, IsTrue, Result, ◌∙◌, subst, arith}
+use Rattle.sg_disk.specs.Disk.{State, Leaves, View, Counts, ReadBytes}
 use Rattle.sg_disk.proofs.Moments.{started, goes_on, joined, weaker}
 use Rattle.sg_gate.specs.Reads.{OnlyReads}
 

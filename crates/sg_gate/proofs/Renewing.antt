@@ -1,15 +1,15 @@
 -- The moments of a renewal.
-use Rattle.std.proofs.Common.{◌≡◌, ◌⊎◌, inl, inr, ⊎_elim, ◌<◌, ◌≤◌, ◌+◌, ◌-◌, ℕ, zero, suc, List, [], ◌∷◌, length, get_or, Result, Ok, Err, OnOk, refl, sym, ◌∙◌, ap, subst, arith, add-zero}
+use Rattle.std.proofs.Common.{◌≡◌, ◌⊎◌, inl, inr, ⊎_elim, ◌<◌, ◌≤◌, ◌+◌, ℕ, List, [], ◌∷◌, length, get_or, Result, Ok, Err, OnOk, refl, sym, ◌∙◌, ap, subst, arith, add-zero}
 use Rattle.std.proofs.lemmas.Bool.{cases_lt, cases_eq}
 use Rattle.sg_base.specs.declared.area.Area.{Area}
 use Rattle.sg_base.specs.declared.area.Area.TheVariants.{Home}
 use Rattle.sg_disk.specs.Disk.{Bytes, Image, Part, State, Spoils, LeavesPart, Leaves, View, Wrote, Synced, LeavesOnly, put, window, written_part, synced_part, written, synced}
 use Rattle.sg_disk.proofs.Images.{put_outside}
 use Rattle.sg_disk.proofs.Parts.{untouched, part_written, part_synced, leaves_written, put_inside, window_is, other_written, other_synced, leaves_other}
-use Rattle.sg_disk.proofs.Moments.{started, goes_on, joined, weaker}
+use Rattle.sg_disk.proofs.Moments.{started, goes_on, weaker}
 use Rattle.sg_gate.specs.Layout.{HEADER}
 use Rattle.sg_gate.specs.Batch.{SameLogs}
-use Rattle.sg_gate.specs.Superblock.{SLOT, text_at, superblock, IsElsewhere, IsRenewing, IsRenewed, AreSettled, IsSpare, IsCalm, IsWritten}
+use Rattle.sg_gate.specs.Superblock.{SLOT, text_at, IsElsewhere, IsRenewing, IsRenewed, AreSettled, IsSpare, IsCalm, IsWritten}
 use Rattle.sg_gate.specs.declared.superblock.Super.{Super}
 use Rattle.sg_gate.proofs.Slots.{superblock_agree}
 

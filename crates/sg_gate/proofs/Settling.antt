@@ -1,5 +1,5 @@
 -- Bytes that are written to the home area and synced: what a crash leaves meanwhile.
-use Rattle.std.proofs.Common.{◌≡◌, ℕ, List, Result, Ok, subst}
+use Rattle.std.proofs.Common.{ℕ, List, Result, Ok, subst}
 use Rattle.sg_base.specs.declared.area.Area.TheVariants.{Home}
 use Rattle.sg_disk.specs.Disk.{State, Leaves, View, Wrote, Synced, LeavesOnly, written}
 use Rattle.sg_disk.proofs.Images.{write_keeps}

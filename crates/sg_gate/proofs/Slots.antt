@@ -1,11 +1,11 @@
 -- Which slot counts.
-use Rattle.std.proofs.Common.{◌≡◌, ◌≢◌, ◌⊎◌, inl, inr, ⊎_elim, ◌<◌, ◌≤◌, ◌+◌, ◌==◌, ◌&&◌, ℕ, nat_lt, if◌then◌else◌, Option, Some, None, IfSome, Result, Ok, List, refl, sym, ◌∙◌, ap, subst, arith}
+use Rattle.std.proofs.Common.{◌≡◌, ◌≢◌, ◌⊎◌, inl, inr, ⊎_elim, ◌<◌, ◌≤◌, ◌+◌, ℕ, Option, Some, None, IfSome, Ok, List, refl, sym, ◌∙◌, ap, arith}
 use Rattle.std.proofs.lemmas.Bool.{cases_lt, cases_eq}
 use Rattle.std.proofs.lemmas.Bool.Decides.{nat_tests}
-use Rattle.sg_disk.specs.Disk.{Bytes, window}
+use Rattle.sg_disk.specs.Disk.{Bytes}
 use Rattle.sg_disk.proofs.Parts.{window_agree}
 use Rattle.sg_gate.specs.Layout.{HEADER}
-use Rattle.sg_gate.specs.Superblock.{SLOT, text_at, sequence_of, said, which, counting, start_of, spare, spare_of, read_with, read_text, read_in, superblock, IsText, IsNewer, IsElsewhere, IsSpare}
+use Rattle.sg_gate.specs.Superblock.{SLOT, text_at, sequence_of, which, counting, start_of, spare, read_with, read_text, read_in, superblock, IsText, IsElsewhere, IsSpare}
 use Rattle.sg_gate.specs.declared.slot.Slot.{Slot}
 use Rattle.sg_gate.specs.declared.slot.Slot.TheVariants.{First, Second}
 use Rattle.sg_gate.specs.declared.superblock.Super.{Super}

@@ -1,5 +1,5 @@
 -- The text of a header, as it is written and as it is read.
-use Rattle.std.proofs.Common.{◌≡◌, ◌≢◌, ◌⊎◌, inl, inr, ⊎_elim, ◌<◌, ◌≤◌, ◌+◌, ◌-◌, ◌*◌, ℕ, zero, suc, List, [], ◌∷◌, ◌++◌, length, take, get_or, refl, sym, ◌∙◌, ap, subst, arith, add-zero, add-one, set, get_or-take, get_or-set_same, get_or-set_other}
+use Rattle.std.proofs.Common.{◌≡◌, ◌≢◌, ⊎_elim, ◌<◌, ◌≤◌, ◌+◌, ◌-◌, ◌*◌, ℕ, zero, suc, List, [], ◌∷◌, ◌++◌, length, take, get_or, sym, ◌∙◌, ap, subst, arith, add-zero, add-one, set, get_or-take}
 use Rattle.std.proofs.lemmas.List.{length-take-le}
 use Rattle.std.proofs.Math.Seq.{take-suc, take-suc-set, get_or-append_right}
 use Rattle.std.proofs.Math.ListN.{get_or-append}
@@ -7,9 +7,9 @@ use Rattle.std.proofs.lemmas.Bool.{cases_lt}
 use Rattle.byteorder.specs.Endian.{little_number}
 use Rattle.sg_disk.specs.Disk.{Bytes, window}
 use Rattle.sg_disk.specs.Memory.{bytes_of}
-use Rattle.sg_gate.specs.Batch.{numbers_from, count_at, number_at, numbers_at, IsBatch, IsFit, IsFirstUnfit, IsWrongAt}
+use Rattle.sg_gate.specs.Batch.{numbers_from, count_at, number_at, numbers_at, IsBatch, IsFit}
 use Rattle.sg_gate.proofs.Windows.{window_shift}
-use Rattle.sg_gate.proofs.Over.{numbers_agree_from, numbers_more, numbers_length, numbers_are}
+use Rattle.sg_gate.proofs.Over.{numbers_agree_from, numbers_more, numbers_are}
 
 -- A text of a header, one number longer.
 module _ (text sub longer ns : List ℕ) (k n m : ℕ) (lt : k < length ns) (room : 4 + 4 * length ns ≤ length text) (is : get_or ns k 0 ≡ n) (spelled : little_number 4 sub ≡ n) (wide : 8 + 4 * k ≤ m)

@@ -1,5 +1,5 @@
 -- Where the home area has what. All numbers are of bytes, but for those of places, pages and bands.
-use Rattle.std.specs.Prelude.{◌⊎◌, ◌<◌, ◌≤◌, ◌+◌, ◌*◌, ◌/◌, ℕ}
+use Rattle.std.specs.Prelude.{◌⊎◌, ◌<◌, ◌≤◌, ◌+◌, ◌*◌, ℕ}
 
 -- the bytes of a page, and of a place of the double-write area
 abbrev pub PAGE : ℕ

@@ -1,13 +1,13 @@
 -- Replay of a unit that is lent in one of several versions.
-use Rattle.std.proofs.Common.{◌≡◌, ◌<◌, ◌^◌, ℕ, suc, arith, Bool, true, false, List, [], ◌∷◌, ◌++◌, length, Option, Some, None, refl, sym, ap, ◌∙◌, subst}
-use Rattle.std.specs.List.{All, flat_map}
+use Rattle.std.proofs.Common.{◌≡◌, ◌<◌, ◌^◌, ℕ, suc, arith, true, false, List, [], ◌∷◌, ◌++◌, length, Option, Some, None, refl, sym, ap, ◌∙◌}
+use Rattle.std.specs.List.{All}
 use Rattle.sg_ops.specs.Table.{Table}
 use Rattle.sg_record.specs.Changes.{Change}
 use Rattle.sg_record.specs.Changes.Change.{Page, SegWrite, SegOp}
 use Rattle.sg_redo.specs.declared.place.Place.{Place}
 use Rattle.sg_redo.specs.declared.unit.Unit as code
 use Rattle.sg_redo.specs.History.{OnPage, repeated, below, Rises, AllSetNumber, AllFit}
-use Rattle.sg_redo.specs.Window.{OnWindow, replayed, AllLie, IsSameBut}
+use Rattle.sg_redo.specs.Window.{replayed, AllLie, IsSameBut}
 use Rattle.sg_redo.specs.Places.{change_at, op_said, page_part, page_records, window_records}
 use Rattle.sg_redo.specs.Units.{own_places, is_page, replayed_unit}
 use Rattle.sg_redo.proofs.Bytes.{converge}

@@ -1,7 +1,7 @@
 -- A record whose fields are in their ranges makes a change that is in its range.
-use Rattle.std.proofs.Common.{◌≡◌, ◌≤◌, ◌+◌, ℕ, Bool, true, false, IsTrue, if◌then◌else◌, nat_le, ◌&&◌, List, [], ◌∷◌, length, Option, Some, None, IfSome, refl, arith}
+use Rattle.std.proofs.Common.{◌≡◌, ◌≤◌, ◌+◌, ℕ, Bool, true, false, if◌then◌else◌, nat_le, List, [], ◌∷◌, length, Option, Some, None, IfSome, refl, arith}
 use Rattle.std.proofs.lemmas.Bool.Decides.{nat_tests}
-use Rattle.sg_record.specs.Changes.{Change, PageChange, BandBytes, BandOp}
+use Rattle.sg_record.specs.Changes.{PageChange, BandBytes, BandOp}
 use Rattle.sg_record.specs.Changes.Change.{Page, SegWrite, SegOp}
 use Rattle.sg_record.specs.Ranges.{Field, first_out, change_fields, says_fields, is_part, position_fits, greatest, IsRecord}
 use Rattle.sg_record.specs.Records.{Record, Says, HEADER, body_of, SaysFits}

@@ -1,5 +1,5 @@
 -- Records at places, one place after another.
-use Rattle.std.proofs.Common.{◌≡◌, ◌<◌, ◌≤◌, ◌+◌, ◌-◌, ◌⊎◌, ◌↔◌, ◌&&◌, ℕ, Bool, arith, if◌then◌else◌, nat_lt, nat_le, List, [], ◌∷◌, ◌++◌, length, take, get_or, slice_index, refl, sym, ◌∙◌, ap, subst, inl, inr, ⊎_elim, append_assoc}
+use Rattle.std.proofs.Common.{◌≡◌, ◌<◌, ◌+◌, ◌-◌, ◌⊎◌, ◌↔◌, ◌&&◌, ℕ, Bool, arith, if◌then◌else◌, nat_lt, nat_le, List, [], ◌∷◌, ◌++◌, length, take, get_or, slice_index, refl, sym, ◌∙◌, ap, subst, inl, inr, ⊎_elim, append_assoc}
 use Rattle.std.proofs.lemmas.List.{take_more, flat_map_more}
 use Rattle.std.specs.List.{flat_map}
 use Rattle.sg_base.specs.Overwritten.{overwritten}
@@ -88,15 +88,16 @@ marks_start t text marks = marks_none marks
 
 pub marks_then : (ws more : List OnWindow) (old mid new : List Bool) → Marks ws old mid → Marks more mid new → Marks (ws ++ more) old new
 marks_then ws more old mid new first second k =
-    let both = on_byte-append k ws more in
-    (λ is. ⊎_elim
-    (λ was. ⊎_elim (λ had. inl had) (λ covered. inr (subst (λ (l : List OnByte). IsCovered l) (sym both) (covered_front (on_byte k ws) (on_byte k more) covered))) ((first k).0 was))
-    (λ covered. inr (subst (λ (l : List OnByte). IsCovered l) (sym both) (covered_back (on_byte k ws) (on_byte k more) covered)))
-    ((second k).0 is),
-    λ is. ⊎_elim
-    (λ had. (second k).1 (inl ((first k).1 (inl had))))
-    (λ covered. ⊎_elim (λ front. (second k).1 (inl ((first k).1 (inr front)))) (λ back. (second k).1 (inr back)) (covered_either (on_byte k ws) (on_byte k more) (subst (λ (l : List OnByte). IsCovered l) both covered)))
-    is)
+    let both = on_byte-append k ws more in (
+      λ is. ⊎_elim
+          (λ was. ⊎_elim (λ had. inl had) (λ covered. inr (subst (λ (l : List OnByte). IsCovered l) (sym both) (covered_front (on_byte k ws) (on_byte k more) covered))) ((first k).0 was))
+          (λ covered. inr (subst (λ (l : List OnByte). IsCovered l) (sym both) (covered_back (on_byte k ws) (on_byte k more) covered)))
+          ((second k).0 is),
+      λ is. ⊎_elim
+          (λ had. (second k).1 (inl ((first k).1 (inl had))))
+          (λ covered. ⊎_elim (λ front. (second k).1 (inl ((first k).1 (inr front)))) (λ back. (second k).1 (inr back)) (covered_either (on_byte k ws) (on_byte k more) (subst (λ (l : List OnByte). IsCovered l) both covered)))
+          is,
+    )
 
 -- of one record these are the bytes that it writes
 covered_one : (w : OnWindow) (k : ℕ) → IsCovered (on_byte k (w ∷ [])) ↔ IsWithin w.at (length w.bytes) k
@@ -106,9 +107,10 @@ covered_one w k = ⊎_elim
     (place_or w k)
 
 pub marks_one : (w : OnWindow) (old new : List Bool) → ((k : ℕ) → IsMarked new k ↔ (IsMarked old k ⊎ IsWithin w.at (length w.bytes) k)) → Marks (w ∷ []) old new
-marks_one w old new marked k =
-    (λ is. ⊎_elim (λ had. inl had) (λ within. inr ((covered_one w k).1 within)) ((marked k).0 is),
-    λ is. (marked k).1 (⊎_elim (λ had. inl had) (λ covered. inr ((covered_one w k).0 covered)) is))
+marks_one w old new marked k = (
+  λ is. ⊎_elim (λ had. inl had) (λ within. inr ((covered_one w k).1 within)) ((marked k).0 is),
+  λ is. (marked k).1 (⊎_elim (λ had. inl had) (λ covered. inr ((covered_one w k).0 covered)) is),
+)
 
 -- the marks after one place more
 pub marks_turn : (t : Table) (text : List ℕ) (places : List Place) (k : ℕ) (d : Place) (old mid new : List Bool) → k < length places

@@ -1,8 +1,7 @@
 -- The marks of a window after replay, as a list.
-use Rattle.std.proofs.Common.{◌≡◌, ◌<◌, ◌⊎◌, ◌↔◌, ◌||◌, ℕ, Bool, true, false, List, [], ◌∷◌, length, get_or, slice_index_or, map, refl, sym, ◌∙◌, inl, inr, ⊎_elim, arith}
+use Rattle.std.proofs.Common.{◌≡◌, ◌<◌, ◌⊎◌, ◌↔◌, ◌||◌, ℕ, Bool, true, false, List, [], ◌∷◌, length, get_or, refl, sym, ◌∙◌, inl, inr, ⊎_elim, arith}
 use Rattle.std.proofs.lemmas.List.{ext_get_or}
 use Rattle.std.proofs.lemmas.List.FromFn.{length-map-range_with_len, get_or-map-range_with_len}
-use Rattle.sg_segment.specs.Runs.{IsMarked}
 use Rattle.sg_redo.specs.History.{OnByte, IsCovered, is_covered}
 use Rattle.sg_redo.specs.Window.{OnWindow, on_byte}
 use Rattle.sg_redo.specs.Places.{marks_with}

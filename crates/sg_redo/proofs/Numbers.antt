@@ -1,13 +1,12 @@
 -- What a record makes of a page has the record's number.
-use Rattle.std.proofs.Common.{◌≡◌, ◌<◌, ◌^◌, ℕ, Bool, true, false, if◌then◌else◌, List, [], Option, Some, None, IfSome, refl, ap, ◌∙◌, arith}
-use Rattle.byteorder.specs.Endian.{little_bytes, little_number}
+use Rattle.std.proofs.Common.{◌≡◌, ◌<◌, ◌^◌, ℕ, Bool, true, false, if◌then◌else◌, List, [], Some, None, IfSome}
 use Rattle.byteorder.specs.Numbers.{little_number-reads_back}
 use Rattle.sg_base.specs.Op.{Op}
 use Rattle.sg_base.specs.Page.{lsn_of, number_at, bytes_at}
 use Rattle.sg_ops.specs.Table.{Table}
 use Rattle.sg_slotted.specs.Layout.{lsn_layout}
 use Rattle.sg_step.specs.Changed.{changed}
-use Rattle.sg_redo.specs.History.{OnPage, SetsNumber}
+use Rattle.sg_redo.specs.History.{SetsNumber}
 use Rattle.sg_redo.specs.Page.{fits, made, on_page}
 
 pub lsn_of-lsn_layout : (page : List ℕ) (lsn : ℕ) → lsn < 2 ^ 64 → lsn_of (lsn_layout page lsn) ≡ lsn

@@ -1,5 +1,5 @@
 -- What replay of a unit leaves of it, and of all units.
-use Rattle.std.proofs.Common.{◌≡◌, ◌≢◌, ◌<◌, ◌+◌, ◌-◌, ◌==◌, ℕ, suc, Bool, true, false, List, [], ◌∷◌, length, map, take, drop, slice_index_or, refl, ap, ◌∙◌, arith}
+use Rattle.std.proofs.Common.{◌≡◌, ◌≢◌, ◌<◌, ◌+◌, ◌-◌, ◌==◌, ℕ, suc, Bool, true, false, if◌then◌else◌, List, [], ◌∷◌, length, map, take, drop, slice_index_or, refl, ap, ◌∙◌, arith}
 use Rattle.std.proofs.lemmas.Bool.Decides.{nat_tests}
 use Rattle.sg_frames.proofs.Lent.{rewritten_whole}
 use Rattle.sg_frames.specs.Pieces.{rewritten}
@@ -9,7 +9,7 @@ use Rattle.sg_redo.specs.declared.unit.Unit as code
 use Rattle.sg_redo.specs.History.{repeated}
 use Rattle.sg_redo.specs.Window.{replayed}
 use Rattle.sg_redo.specs.Places.{page_records, window_records, marks_with}
-use Rattle.sg_redo.specs.Units.{own_places, with_bytes, replayed_unit}
+use Rattle.sg_redo.specs.Units.{own_places, with_bytes, lent_at, is_page, replayed_unit}
 
 -- the places from one on, so many
 pub these : (u : code.Unit) (places : List Place) → take (u.first + u.count - u.first) (drop u.first places) ≡ own_places places u
@@ -36,6 +36,22 @@ window_done t text places own u memory window marks lent size is long done marke
     (ap (λ (bytes : List ℕ). record (with_bytes u bytes) { dirty = marks })
     (rewritten_whole u.loan.bytes window (long ∙ same) ∙ (done ∙ (ap (replayed (window_records t text own)) lent ∙ ap (λ (ps : List Place). replayed (window_records t text ps) u.loan.bytes) is)))
     ∙ ap (λ (ms : List Bool). record (with_bytes u (replayed (window_records t text (own_places places u)) u.loan.bytes)) { dirty = ms }) (marked ∙ ap (λ (ps : List Place). marks_with (window_records t text ps) u.dirty) is))
+
+-- the loans stay where they are
+lent_same : (t : Table) (text : List ℕ) (places : List Place) (u : code.Unit) → lent_at (replayed_unit t text places u) ≡ lent_at u
+unfolding replayed_unit
+lent_same t text places u = either (is_page u)
+  where
+    either : (b : Bool) → lent_at (if b then with_bytes u (repeated (page_records t text (own_places places u)) u.loan.bytes) else record (with_bytes u (replayed (window_records t text (own_places places u)) u.loan.bytes)) { dirty = marks_with (window_records t text (own_places places u)) u.dirty }) ≡ lent_at u
+    either true = refl
+    either false = refl
+
+pub lent_kept : (t : Table) (text : List ℕ) (places : List Place) (old new : List code.Unit) → new ≡ map (replayed_unit t text places) old → map lent_at new ≡ map lent_at old
+lent_kept t text places old new is = ap (map lent_at) is ∙ each old
+  where
+    each : (us : List code.Unit) → map lent_at (map (replayed_unit t text places) us) ≡ map lent_at us
+    each [] = refl
+    each (u ∷ us) = λ i. lent_same t text places u i ∷ each us i
 
 -- units that were each replayed are all replayed
 pub all_done : (f : code.Unit → code.Unit) (old new : List code.Unit) → length new ≡ length old → ((i : ℕ) (d : code.Unit) → i < length old → slice_index_or new i d ≡ f (slice_index_or old i d)) → new ≡ map f old

@@ -1,5 +1,5 @@
 -- A page of slots stays one, whichever call's layout it gets.
-use Rattle.std.proofs.Common.{◌≡◌, ◌≢◌, ℕ, zero, suc, ◌+◌, ◌-◌, ◌*◌, ◌==◌, ◌^◌, ◌<◌, ◌≤◌, ◌⊎◌, inl, inr, ⊎_elim, ◌&&◌, Bool, true, false, nat_lt, if◌then◌else◌, List, [], ◌∷◌, ◌++◌, length, length-append, length-set, take, set, get_or, get_or-set_same, add-one, Option, Some, None, IfSome, is_some, option_and_then, refl, sym, ap, ◌∙◌, subst, arith}
+use Rattle.std.proofs.Common.{◌≡◌, ◌≢◌, ℕ, zero, suc, ◌+◌, ◌-◌, ◌*◌, ◌==◌, ◌^◌, ◌<◌, ◌≤◌, ◌⊎◌, inl, inr, ⊎_elim, ◌&&◌, Bool, true, false, nat_lt, List, [], ◌∷◌, ◌++◌, length, length-append, length-set, set, get_or, get_or-set_same, add-one, Option, Some, None, IfSome, is_some, option_and_then, refl, sym, ap, ◌∙◌, subst, arith}
 use Rattle.std.proofs.Math.Seq.{take-length}
 use Rattle.std.proofs.lemmas.Bool.{cases_Bool, cases_lt, cases_eq}
 use Rattle.std.proofs.lemmas.Bool.Decides.{nat_tests}
@@ -8,7 +8,7 @@ use Rattle.sg_base.specs.Bytes.{IsBytes}
 use Rattle.sg_base.specs.Op.{Op}
 use Rattle.sg_base.specs.Op.Op.{Format, Put, Remove, Set, Links, Item, ItemBack}
 use Rattle.sg_base.specs.Overwritten.{overwritten}
-use Rattle.sg_base.specs.Page.{number_at, count_of, start_of, lost_of, offset_at, length_at, directory_end, slots_of, cell_in, lsn_of, cell_size, bytes_of, IsWhole, IsSlotted}
+use Rattle.sg_base.specs.Page.{count_of, start_of, lost_of, offset_at, length_at, directory_end, slots_of, cell_in, lsn_of, cell_size, bytes_of, IsWhole, IsSlotted}
 use Rattle.sg_base.specs.Sheet.{Sheet, sheet_of}
 use Rattle.sg_base.specs.Slots.{Slots, cell_bytes, with_cell, put_in, set_in, remove_in}
 use Rattle.sg_base.specs.Slotted.{is_slotted}
@@ -69,13 +69,14 @@ enters p s top size within small few =
     let two : List ℕ = with_u16 one (26 + 4 * s) size in
     let first = wrote_u16 p (24 + 4 * s) top (omega arith) in
     let long = first.size in
-    let second = wrote_u16 one (26 + 4 * s) size (omega arith) in
-    (same_number one two (26 + 4 * s) (26 + 4 * s + 2) (24 + 4 * s) 2 second (inl (omega arith)) ∙ found_u16 p (24 + 4 * s) top (omega arith) small,
-    found_u16 one (26 + 4 * s) size (omega arith) few,
-    record {
-      size = second.size ∙ first.size;
-      same = λ a n outside. second.same a n (⊎_elim (λ b. inl (omega arith)) (λ b. inr (omega arith)) outside) ∙ first.same a n (⊎_elim (λ b. inl (omega arith)) (λ b. inr (omega arith)) outside);
-    })
+    let second = wrote_u16 one (26 + 4 * s) size (omega arith) in (
+      same_number one two (26 + 4 * s) (26 + 4 * s + 2) (24 + 4 * s) 2 second (inl (omega arith)) ∙ found_u16 p (24 + 4 * s) top (omega arith) small,
+      found_u16 one (26 + 4 * s) size (omega arith) few,
+      record {
+        size = second.size ∙ first.size;
+        same = λ a n outside. second.same a n (⊎_elim (λ b. inl (omega arith)) (λ b. inr (omega arith)) outside) ∙ first.same a n (⊎_elim (λ b. inl (omega arith)) (λ b. inr (omega arith)) outside);
+      },
+    )
 
 -- a cell in an empty slot
 fills : (p : List ℕ) (s : ℕ) (cell : List ℕ) → IsSlotted p → s < length (slots_of p) → cell_in (slots_of p) s ≡ None → directory_end p + length cell ≤ start_of p

@@ -1,5 +1,5 @@
 -- What writes of parts of a page leave, as functions of the page.
-use Rattle.std.proofs.Common.{◌≡◌, ℕ, ◌+◌, ◌-◌, ◌*◌, ◌^◌, ◌<◌, ◌≤◌, ◌⊎◌, inl, inr, List, [], ◌∷◌, ◌++◌, length, take, drop, set, get_or, refl, sym, ap, ◌∙◌, subst, arith, length-set, length-drop}
+use Rattle.std.proofs.Common.{◌≡◌, ℕ, ◌+◌, ◌-◌, ◌^◌, ◌<◌, ◌≤◌, inl, inr, List, [], length, take, drop, set, refl, sym, ap, ◌∙◌, subst, arith, length-set, length-drop}
 use Rattle.std.proofs.lemmas.List.{take-set-le, drop-set-lt, length-take-le, drop-take}
 use borrow.Rule.Slice.PartMut.{put_mid}
 use Rattle.byteorder.specs.Endian.{little_bytes, little_number}
@@ -9,7 +9,7 @@ use Rattle.sg_base.specs.Page.{bytes_at, number_at}
 use Rattle.sg_base.proofs.Overwriting.{overwritten_by_part}
 use Rattle.sg_slotted.specs.Layout.{with_u16}
 use Rattle.sg_slotted.specs.Writes.{KeepsOutside}
-use Rattle.sg_slotted.proofs.Outside.{others_kept, bytes_are, number_is}
+use Rattle.sg_slotted.proofs.Outside.{others_kept, bytes_are}
 
 part_long : (p ys : List ℕ) (at : ℕ) → at + length ys ≤ length p → length ys ≡ length (take (at + length ys - at) (drop at p))
 part_long p ys at within = sym (length-take-le (at + length ys - at) (drop at p) (omega (arith, length-drop at p)) ∙ omega arith)

@@ -1,5 +1,5 @@
 -- One page, and one byte of a band, as records of the log change them.
-use Rattle.std.specs.Prelude.{◌≡◌, ◌⊎◌, ◌<◌, ◌≤◌, ℕ, suc, nat_lt, Bool, true, false, if◌then◌else◌, List, [], ◌∷◌, Option, Some, None, IfSome, unwrap_or}
+use Rattle.std.specs.Prelude.{◌≡◌, ◌<◌, ◌≤◌, ℕ, suc, nat_lt, Bool, true, false, if◌then◌else◌, List, [], ◌∷◌, Option, Some, IfSome, unwrap_or}
 use Rattle.sg_base.specs.Page.{lsn_of}
 
 -- a record of the log as one page has it: its number, and what its operation makes of a page that it fits

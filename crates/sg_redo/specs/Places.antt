@@ -1,11 +1,11 @@
 -- Records at places of a text, as one page and one window have them.
-use Rattle.std.specs.Prelude.{◌≡◌, ◌≤◌, ℕ, ◌+◌, ◌==◌, ◌||◌, Bool, false, IsTrue, is_some, if◌then◌else◌, List, [], ◌∷◌, length, drop, map, slice_index, slice_index_or, Option, Some, None, Result, Ok, Err, ⊤}
+use Rattle.std.specs.Prelude.{◌≤◌, ℕ, ◌+◌, ◌==◌, ◌||◌, Bool, false, IsTrue, is_some, if◌then◌else◌, List, [], ◌∷◌, length, drop, map, slice_index, slice_index_or, Option, Some, None, Ok, Err, ⊤}
 use Rattle.std.specs.List.{flat_map, range_with_len}
 use Rattle.byteorder.specs.Endian.{little_number}
 use Rattle.sg_base.specs.Op.{Op}
 use Rattle.sg_base.specs.Op.Op.{Format, Put, Remove, Set, Links, Item, ItemBack}
 use Rattle.sg_ops.specs.Table.{Table, range_at, rendered}
-use Rattle.sg_record.specs.Changes.{Change, PageChange, BandBytes, BandOp}
+use Rattle.sg_record.specs.Changes.{Change, PageChange}
 use Rattle.sg_record.specs.Changes.Change.{Page, SegWrite, SegOp}
 use Rattle.sg_record.specs.Records.{Says}
 use Rattle.sg_record.specs.Records.Says.{Changed, PhysComp}

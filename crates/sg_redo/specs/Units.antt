@@ -1,7 +1,8 @@
 -- What replay leaves of a unit.
 use Rattle.std.specs.Prelude.{◌≤◌, ℕ, ◌+◌, ◌==◌, if◌then◌else◌, Bool, List, length, take, drop}
 use Rattle.std.specs.List.{All}
-use Rattle.sg_frames.specs.Held.{Lent}
+use Rattle.std.specs.Ptr.{Ptr}
+use Rattle.sg_frames.specs.declared.place.Place as frames
 use Rattle.sg_ops.specs.Table.{Table}
 use Rattle.sg_redo.specs.declared.place.Place.{Place}
 use Rattle.sg_redo.specs.declared.unit.Unit as code
@@ -24,6 +25,10 @@ AreKnown t text places = All (λ p. IsKnown t (change_at text p.at)) places
 -- the unit with other bytes
 abbrev pub with_bytes : code.Unit → List ℕ → code.Unit
 with_bytes u bytes = record u { loan = record u.loan { bytes = bytes } }
+
+-- where its loan lies, and of which frame or window it is
+abbrev pub lent_at : code.Unit → Ptr × frames.Place
+lent_at u = (u.loan.spot, u.loan.place)
 
 -- it is a page, and not a band
 abbrev pub is_page : code.Unit → Bool

@@ -4,7 +4,7 @@ ghost use Rattle.std.specs.List.{All};
 ghost use Rattle.sg_ops.specs.Table.{table_of};
 ghost use Rattle.sg_redo.specs.History.{repeated, IsCovered};
 ghost use Rattle.sg_redo.specs.Places.{change_at, page_part, page_records, window_part, window_records, marks_with, IsKnown};
-ghost use Rattle.sg_redo.specs.Units.{Lies, AreKnown, replayed_unit};
+ghost use Rattle.sg_redo.specs.Units.{Lies, AreKnown, lent_at, replayed_unit};
 ghost use Rattle.sg_redo.specs.Window.{on_byte, replayed};
 ghost use Rattle.sg_segment.specs.Runs.{IsMarked};
 
@@ -35,7 +35,13 @@ fn redo_page<L: Ledger>(page: &mut [u8], place: Place, text: &[u8], ops: &Ops, s
 
 // The records at these places, done to a page in turn.
 #[tactic(auto, using(crate::proofs::InTurn::page_none, crate::proofs::InTurn::page_turn))]
-fn replay_page<L: Ledger>(page: &mut [u8], places: &[Place], text: &[u8], ops: &Ops, steps: &mut Steps<L>)
+fn replay_page<L: Ledger>(
+    page: &mut [u8],
+    places: &[Place],
+    text: &[u8],
+    ops: &Ops,
+    steps: &mut Steps<L>,
+)
     requires { length page.old ≡ PAGE_SIZE }
     ensures page { let t = table_of record_meaning range_meaning ops.now in
         page.new ≡ repeated (page_records t text.now places.now) page.old }
@@ -48,7 +54,14 @@ fn replay_page<L: Ledger>(page: &mut [u8], places: &[Place], text: &[u8], ops: &
 
 // The record at one place, written over a window.
 #[tactic(auto, unfolding(crate::specs::Places::window_part))]
-fn redo_window<L: Ledger>(window: &mut [u8], dirty: &mut Dirty, place: Place, text: &[u8], ops: &Ops, steps: &mut Steps<L>)
+fn redo_window<L: Ledger>(
+    window: &mut [u8],
+    dirty: &mut Dirty,
+    place: Place,
+    text: &[u8],
+    ops: &Ops,
+    steps: &mut Steps<L>,
+)
     requires size { length window.old ≡ BAND_SIZE }
     requires known { IsKnown (table_of record_meaning range_meaning ops.now) (change_at text.now place.at) }
     ensures written { let t = table_of record_meaning range_meaning ops.now in
@@ -87,7 +100,14 @@ fn redo_window<L: Ledger>(window: &mut [u8], dirty: &mut Dirty, place: Place, te
 
 // The records at these places, written over a window in turn.
 #[tactic(auto, using(crate::proofs::InTurn::window_none, crate::proofs::InTurn::window_turn, crate::proofs::InTurn::marks_start, crate::proofs::InTurn::marks_turn))]
-fn replay_window<L: Ledger>(window: &mut [u8], dirty: &mut Dirty, places: &[Place], text: &[u8], ops: &Ops, steps: &mut Steps<L>)
+fn replay_window<L: Ledger>(
+    window: &mut [u8],
+    dirty: &mut Dirty,
+    places: &[Place],
+    text: &[u8],
+    ops: &Ops,
+    steps: &mut Steps<L>,
+)
     requires size { length window.old ≡ BAND_SIZE }
     requires known { AreKnown (table_of record_meaning range_meaning ops.now) text.now places.now }
     ensures written { let t = table_of record_meaning range_meaning ops.now in
@@ -104,7 +124,13 @@ fn replay_window<L: Ledger>(window: &mut [u8], dirty: &mut Dirty, places: &[Plac
 }
 
 // The records of one unit, through its loan.
-fn replay_unit<L: Ledger>(unit: &mut Unit, places: &[Place], text: &[u8], ops: &Ops, steps: &mut Steps<L>)
+fn replay_unit<L: Ledger>(
+    unit: &mut Unit,
+    places: &[Place],
+    text: &[u8],
+    ops: &Ops,
+    steps: &mut Steps<L>,
+)
     requires lies { Lies places.now unit.old }
     requires known { AreKnown (table_of record_meaning range_meaning ops.now) text.now places.now }
     ensures unit { unit.new ≡ replayed_unit (table_of record_meaning range_meaning ops.now) text.now places.now unit.old }
@@ -126,10 +152,18 @@ fn replay_unit<L: Ledger>(unit: &mut Unit, places: &[Place], text: &[u8], ops: &
 /// marked besides. Each place is one step.
 ///
 /// A place at which no whole record stands that changes a unit of this sort changes nothing.
-pub fn replay<L: Ledger>(units: &mut [Unit], places: &[Place], text: &[u8], ops: &Ops, steps: &mut Steps<L>)
+pub fn replay<L: Ledger>(
+    units: &mut [Unit],
+    places: &[Place],
+    text: &[u8],
+    ops: &Ops,
+    steps: &mut Steps<L>,
+)
     requires lie { All (λ u. Lies places.now u) units.old }
     requires known { AreKnown (table_of record_meaning range_meaning ops.now) text.now places.now }
     ensures units { units.new ≡ map (replayed_unit (table_of record_meaning range_meaning ops.now) text.now places.now) units.old }
+    // Each loan is of the frame or window that it was of.
+    ensures lent { map lent_at units.new ≡ map lent_at units.old }
     ensures steps { steps.new ≡ steps.old + sum_by (λ u. u.count) units.old }
 {
     'units: for i in 0..units.len() {

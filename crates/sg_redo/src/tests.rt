@@ -1,8 +1,13 @@
+ghost use Rattle.std.specs.Prelude.{◌≡◌, ◌<◌};
+
 use super::*;
-use sg_base::{BAND_SIZE, Lsn, PAGE_SIZE, PageOp, view};
+use sg_base::{BAND_SIZE, Lsn, PAGE_SIZE, PageOp, Steps, view};
+use sg_frames::{Frames, Loan};
 use sg_ops::{Ops, Rotate};
 use sg_segment::Dirty;
 use std::alloc::Global;
+use std::marker::Brand;
+use std::sync::ledger::{Blank, Ledger};
 use std::test::Fail;
 
 // A record on a page, and the slot's cell afterwards: by calls that no clause follows.
@@ -10,7 +15,7 @@ fn redo(page: &mut [u8; PAGE_SIZE], lsn: Lsn, op: &PageOp<'_>, ops: &Ops) -> boo
     apply_page(page, lsn, op, ops)
 }
 
-fn holds(page: &[u8; PAGE_SIZE], cell: Option<&[u8]>) -> bool {
+fn holds(page: &[u8], cell: Option<&[u8]>) -> bool {
     match view(page) {
         Some(view) => view.slot(0) == cell,
         None => cell.is_none(),
@@ -169,7 +174,10 @@ const TURNED: [u8; 35] = [
 ];
 
 // Replays that record, whose number is 20, on the page that is lent.
-fn turn<L: Ledger>(loan: Loan, ops: &Ops, steps: &mut Steps<L>) -> Loan {
+fn turn<L: Ledger>(loan: Loan, ops: &Ops, steps: &mut Steps<L>) -> Loan
+    ensures spot { result.spot ≡ loan.spot }
+    ensures place { result.place ≡ loan.place }
+{
     let places = [Place {
         unit: 3,
         lsn: 20,
@@ -194,4 +202,59 @@ fn turn<L: Ledger>(loan: Loan, ops: &Ops, steps: &mut Steps<L>) -> Loan {
         count: _,
     } = unit;
     loan
+}
+
+// Lays over the page that is lent: its number is 9, and slot 0 holds `abc`.
+fn lay_over(loan: &mut Loan, ops: &Ops)
+    ensures spot { loan.new.spot ≡ loan.old.spot }
+    ensures place { loan.new.place ≡ loan.old.place }
+{
+    let mut page = [0; PAGE_SIZE];
+    redo(&mut page, 5, &PageOp::Format { kind: 4 }, ops);
+    let put = PageOp::Put {
+        slot: 0,
+        bytes: b"abc",
+    };
+    redo(&mut page, 9, &put, ops);
+    let bytes = loan.bytes_mut();
+    if bytes.len() == PAGE_SIZE {
+        bytes.copy_from_slice(&page);
+    }
+}
+
+// Replays the record on a page of 255 in each byte, and twice on the page that is laid over it: whether
+// slot 0 holds nothing, and then the turned item both times.
+fn turned<L: Ledger>(loan: Loan, ops: &Ops, blank: Blank) -> ([bool; 3], Loan)
+    requires name { blank.name ≡ L.name }
+    requires parts { blank.parts ≡ L.parts }
+    requires some { 0 < L.parts }
+    ensures spot { result.1.spot ≡ loan.spot }
+    ensures place { result.1.place ≡ loan.place }
+{
+    let mut steps = Steps::<L>::open(blank);
+    let mut loan = loan;
+    loan.bytes_mut().fill(255);
+    let mut loan = turn(loan, ops, &mut steps);
+    let none = holds(loan.bytes(), None);
+    lay_over(&mut loan, ops);
+    let loan = turn(loan, ops, &mut steps);
+    let once = holds(loan.bytes(), Some(b"bca"));
+    let loan = turn(loan, ops, &mut steps);
+    let still = holds(loan.bytes(), Some(b"bca"));
+    ([none, once, still], loan)
+}
+
+#[test]
+fn a_page_of_255_that_is_laid_over(rt: HostRuntime) -> Result<(), Fail> {
+    let Ok(mut ops) = Ops::new(rt.alloc()) else {
+        assert!(rt; false);
+        return Ok(());
+    };
+    assert!(rt; ops.register_record(Box::new(rt.alloc(), Rotate)?).is_ok());
+    let mut frames = Frames::new(rt.alloc(), 1, 1)?;
+    let (are_right, loan) = turned::<Brand>(frames.take(0), &ops, Blank::new(1));
+    assert_eq!(rt; are_right, [true, true, true]);
+    frames.give(loan);
+    frames.end();
+    Ok(())
 }

@@ -1,6 +1,5 @@
-use Rattle.std.proofs.Common.{◌≡◌, ◌≤◌, ◌<◌, ◌+◌, ◌*◌, ℕ, suc, length, min, refl, subst, sym, ◌∙◌, ap, add-one, arith}
-use Rattle.sg_base.specs.declared.area.Area.TheVariants.{Home}
-use Rattle.sg_disk.specs.Disk.{FULL, View}
+use Rattle.std.proofs.Common.{◌≡◌, ◌+◌, ◌*◌, ℕ, length, min, refl, subst, sym, ◌∙◌, ap, add-one, arith}
+use Rattle.sg_disk.specs.Disk.{FULL}
 use Rattle.sg_gate.specs.Layout.{PAGE}
 use Rattle.sg_gate.proofs.Costs.{raised_more}
 use Rattle.sg_gate.proofs.Copies.{IsCopied, copied_starts, copied_page, all_bytes, all_done}

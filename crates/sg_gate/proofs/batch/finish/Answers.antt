@@ -1,4 +1,4 @@
-use Rattle.std.proofs.Common.{ℕ, inr, length, sym, ◌∙◌}
+use Rattle.std.proofs.Common.{inr, ◌∙◌}
 use Rattle.sg_base.specs.declared.area.Area.TheVariants.{Home}
 use Rattle.sg_disk.specs.Disk.{Image}
 use Rattle.sg_disk.proofs.Moments.{joined, weaker}

@@ -1,4 +1,4 @@
-use Rattle.std.proofs.Common.{◌≡◌, ◌<◌, inr, ◌+◌, ◌-◌, ◌*◌, ℕ, length, take, get_or, sym, ◌∙◌, arith, length-take, get_or-take}
+use Rattle.std.proofs.Common.{◌≡◌, ◌<◌, inr, ◌+◌, ◌-◌, ◌*◌, length, sym, ◌∙◌, arith, length-take, get_or-take}
 use Rattle.sg_disk.specs.Memory.{bytes_of}
 use Rattle.sg_gate.specs.Batch.{count_at, number_at}
 use Rattle.sg_gate.proofs.Windows.{number_read, number_part}

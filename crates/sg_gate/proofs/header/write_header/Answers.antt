@@ -1,7 +1,5 @@
-use Rattle.std.proofs.Common.{◌≡◌, ◌+◌, ◌-◌, ◌*◌, ◌≤◌, ℕ, List, ◌++◌, length, take, get_or, refl, sym, ◌∙◌, ap, subst, arith, drop, length-take, length-drop}
+use Rattle.std.proofs.Common.{◌≡◌, ◌+◌, ◌-◌, ◌*◌, length, get_or, refl, ◌∙◌, arith, drop, length-take, length-drop}
 use Rattle.std.proofs.lemmas.Slice.{take-put_mid}
-use Rattle.sg_disk.specs.Memory.{bytes_of}
-use Rattle.sg_gate.specs.Batch.{numbers_from}
 use Rattle.sg_gate.proofs.Texts.{longer_count, longer_numbers}
 use Rattle.sg_gate.proofs.header.write_header.Goals as goal
 

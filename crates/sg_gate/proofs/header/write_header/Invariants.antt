@@ -1,4 +1,4 @@
-use Rattle.std.proofs.Common.{◌≡◌, ◌+◌, ◌*◌, ◌≤◌, length, take}
+use Rattle.std.proofs.Common.{◌≡◌, length, take}
 use Rattle.byteorder.specs.Endian.{little_number}
 use Rattle.sg_disk.specs.Disk.{window}
 use Rattle.sg_disk.specs.Memory.{bytes_of}

@@ -1,8 +1,7 @@
-use Rattle.std.proofs.Common.{◌≡◌, ◌+◌, ℕ, List, take, Ok, ap, subst}
+use Rattle.std.proofs.Common.{◌+◌, ℕ, List, take, Ok, ap, subst}
 use Rattle.sg_base.specs.declared.area.Area.TheVariants.{Home}
-use Rattle.sg_disk.specs.Disk.{State}
 use Rattle.sg_gate.specs.Layout.{HEADER}
-use Rattle.sg_gate.specs.Batch.{numbers_of, IsBatch}
+use Rattle.sg_gate.specs.Batch.{IsBatch}
 use Rattle.sg_gate.proofs.Laid.{rest_moments, rest_laid, is_open_there, settled_same, laying, is_laid, none_wrong}
 use Rattle.sg_gate.proofs.laying.lay_over.Goals as goal
 

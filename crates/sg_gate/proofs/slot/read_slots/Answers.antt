@@ -1,4 +1,4 @@
-use Rattle.std.proofs.Common.{◌≡◌, ℕ, List, length, ◌∙◌, ap}
+use Rattle.std.proofs.Common.{length, ◌∙◌, ap}
 use Rattle.sg_base.specs.declared.area.Area.TheVariants.{Home}
 use Rattle.sg_disk.specs.Disk.{State, window}
 use Rattle.sg_gate.proofs.Reading.{only_read, reads_more}

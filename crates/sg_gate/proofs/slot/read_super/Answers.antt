@@ -1,7 +1,6 @@
-use Rattle.std.proofs.Common.{◌≡◌, ◌≢◌, ℕ, List, Option, Some, length, take, drop, ◌-◌, inl, inr, refl, sym, ◌∙◌, ap, subst, arith}
+use Rattle.std.proofs.Common.{take, drop, inl, refl, sym, ◌∙◌, ap}
 use Rattle.sg_base.specs.declared.area.Area.TheVariants.{Home}
-use Rattle.sg_gate.specs.Superblock.{start_of, counting}
-use Rattle.sg_gate.specs.declared.slot.Slot.{Slot}
+use Rattle.sg_gate.specs.Superblock.{start_of}
 use Rattle.sg_gate.proofs.Fronts.{read_there, text_faults}
 use Rattle.sg_gate.proofs.slot.read_super.Goals as goal
 

@@ -1,7 +1,7 @@
 use Rattle.std.proofs.Common.{sym, subst, refl}
 use Rattle.sg_base.specs.declared.area.Area.TheVariants.{Home}
 use Rattle.sg_disk.specs.Disk.{State}
-use Rattle.sg_gate.specs.Superblock.{spare_of, IsSpare, IsRenewed}
+use Rattle.sg_gate.specs.Superblock.{spare_of, IsSpare}
 use Rattle.sg_gate.specs.declared.slot.Slot.TheVariants.{First, Second}
 use Rattle.sg_gate.proofs.Fronts.{gate_open, spare_text, spare_here, moments_there, renewed_there}
 use Rattle.sg_gate.proofs.Renewing.{after_reads}

@@ -1,5 +1,4 @@
-use Rattle.std.proofs.Common.{◌≡◌, ◌∙◌, sym, refl}
-use Rattle.sg_gate.specs.Superblock.{MAGIC, field}
+use Rattle.std.proofs.Common.{◌∙◌, sym}
 use Rattle.sg_gate.proofs.Fields.{wrong_magic, wrong_version, wrong_field, is_text, behind}
 use Rattle.sg_gate.proofs.superblock.parse_text.Goals as goal
 

@@ -1,4 +1,4 @@
-use Rattle.std.proofs.Common.{◌≡◌, ◌≤◌, length, Option, Ok, Err, IfSome, sym, ◌∙◌, subst, arith}
+use Rattle.std.proofs.Common.{Option, IfSome, sym, ◌∙◌, subst, arith}
 use Rattle.sg_record.specs.Changes.{Change}
 use Rattle.sg_record.specs.Shown.{shown, shown_change}
 use Rattle.sg_redo.specs.Places.{IsInRange}
