@@ -5,6 +5,7 @@ pub mod InRange
 pub mod InTurn
 pub mod Marking
 pub mod Numbers
+pub mod Painting
 pub mod Redone
 pub mod Replayed
 pub mod Said

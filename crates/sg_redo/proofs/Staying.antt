@@ -14,8 +14,8 @@ use Rattle.sg_base.specs.Slots.{Slots, cell_bytes, with_cell, put_in, set_in, re
 use Rattle.sg_base.specs.Slotted.{is_slotted}
 use Rattle.sg_base.proofs.CellBytes.{has_bytes}
 use Rattle.sg_base.proofs.Slots.{length-slots_below}
+use Rattle.sg_ops.proofs.Lookups.{after_long, before_long}
 use Rattle.sg_ops.specs.Laws.{IsLawful}
-use Rattle.sg_ops.specs.Meaning.{RecordMeaning, IsUndoable}
 use Rattle.sg_ops.specs.Steps.{item_after, item_before, change_in, step, BringsBytes}
 use Rattle.sg_ops.specs.Table.{Table, record_at, accepts_of, after_of, before_of}
 use Rattle.sg_slotted.specs.Layout.{with_u16, grown, filled, cleared, emptied, filled_with, rebuilt, compacted, roomy, store_layout, push_layout, lsn_layout, links_layout, format_layout, put_layout, remove_layout, set_layout}
@@ -295,14 +295,6 @@ set_stays p s cell new slotted e =
 item_stays : (p : List ℕ) (s : ℕ) (old cell : List ℕ) → IsSlotted p → cell_in (slots_of p) s ≡ Some old → length cell ≡ length old → IsSlotted (set_layout p s cell)
 item_stays p s old cell slotted full same = set_stays p s cell (set (slots_of p) s (Some cell)) slotted (same_size_fits p s old cell slotted (sym full) same)
 
-keeps_length : (op : Option RecordMeaning) (item arg : List ℕ) → IfSome op IsUndoable → IsBytes item → IsBytes arg → accepts_of op item arg ≡ true → length (after_of op item arg) ≡ length item
-keeps_length None item arg law in_item in_arg accepted = refl
-keeps_length (Some m) item arg law in_item in_arg accepted = law.keeps_length item arg in_item in_arg accepted
-
-undo_keeps_length : (op : Option RecordMeaning) (item arg : List ℕ) → IfSome op IsUndoable → IsBytes item → IsBytes arg → length (before_of op item arg) ≡ length item
-undo_keeps_length None item arg law in_item in_arg = refl
-undo_keeps_length (Some m) item arg law in_item in_arg = law.undo_keeps_length item arg in_item in_arg
-
 -- the page with a change of a cell that keeps its length
 with_item_stays : (p : List ℕ) (s : ℕ) (change : List ℕ → Option (List ℕ)) (new : Slots) → IsSlotted p → IsBytes p → change_in (slots_of p) s change ≡ Some new
     → ((item cell : List ℕ) → IsBytes item → change item ≡ Some cell → length cell ≡ length item) → IsSlotted (with_item p s (option_and_then change (cell_in (slots_of p) s)))
@@ -323,11 +315,11 @@ changed_stays t (Links links) p new lawful brings bytes slotted e = links_stay p
 changed_stays t (Item slot code arg) p new lawful brings bytes slotted e =
     with_item_stays p slot (item_after (record_at t code) arg) new.slots slotted bytes (slots_some (sheet_of p) new (change_in (slots_of p) slot (item_after (record_at t code) arg)) e).slots
     (λ item cell in_item made. let is = redone_is (record_at t code) arg item cell made in
-    ap (λ (xs : List ℕ). length xs) is.is ∙ keeps_length (record_at t code) item arg (lawful.undoable code) in_item brings is.accepted)
+    ap (λ (xs : List ℕ). length xs) is.is ∙ after_long (record_at t code) item arg (lawful.undoable code) in_item brings is.accepted)
 changed_stays t (ItemBack slot code arg) p new lawful brings bytes slotted e =
     with_item_stays p slot (item_before (record_at t code) arg) new.slots slotted bytes (slots_some (sheet_of p) new (change_in (slots_of p) slot (item_before (record_at t code) arg)) e).slots
     (λ item cell in_item made. let is = undone_is (record_at t code) arg item cell made in
-    ap (λ (xs : List ℕ). length xs) is.is ∙ undo_keeps_length (record_at t code) item arg (lawful.undoable code) in_item brings)
+    ap (λ (xs : List ℕ). length xs) is.is ∙ before_long (record_at t code) item arg (lawful.undoable code) in_item brings)
 
 some_is : (o : Option Sheet) → is_some o ≡ true → (new : Sheet) × (o ≡ Some new)
 some_is None e = absurd cc
