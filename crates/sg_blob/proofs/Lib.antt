@@ -1,0 +1,11 @@
+pub mod Over
+pub mod Parts
+pub mod Turned
+pub mod Writes
+pub mod Reading
+pub mod Writing
+pub mod Roots
+pub mod Growth
+pub mod Wholes
+pub mod Making
+pub mod Freeing

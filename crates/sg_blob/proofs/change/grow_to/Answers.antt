@@ -1,0 +1,20 @@
+use Rattle.std.proofs.Common.{◌<◌, ◌≤◌, arith}
+use Rattle.sg_blob.proofs.Growth.{grows_none, grows_on, can_add}
+use Rattle.sg_blob.proofs.change.grow_to.Goals as goal
+
+pub loop-j-init : goal.loop-j-init
+loop-j-init g c = grows_none c.requires.order
+
+pub add_band-requires-clause-there : goal.add_band-requires-clause-there
+add_band-requires-clause-there g c = λ told.
+    let i = c.loop-j.invariant in
+    let back = i.back told in
+    let h = c.requires.there back in
+    let kept = i.did.keeps back in
+    let one = i.did.turns back h.0 h.1 h.2 in
+    (one.0, (one.1).raw, can_add h.2 i.from (omega arith) one.1 one.2 kept.may_take (kept.may_have _))
+
+pub loop-j-preserved : goal.loop-j-preserved
+loop-j-preserved g c =
+    let counts = c.add_band.ensures.counts in
+    grows_on c.loop-j.invariant (omega arith) counts.told counts.later c.in_ok-add_band.ensures.did

@@ -1,0 +1,37 @@
+use Rattle.std.proofs.Common.{◌≡◌, ℕ, ◌+◌, ◌-◌, ◌<◌, ◌≤◌, length, sym, ap, ◌∙◌, arith, refl, Option}
+use Rattle.sg_ops.specs.Meaning.{RangeMeaning}
+use Rattle.sg_ops.specs.Table.{table_of, range_at, rendered}
+use Rattle.sg_space.proofs.Rendered.{length-rendered}
+use Rattle.sg_blob.proofs.Writing.{writes_none, writes_on, place_on, rendered_on}
+use Rattle.sg_blob.proofs.change.paint_all.Goals as goal
+
+pub pieces-init : goal.pieces-init
+pieces-init g c = writes_none
+
+pub paint_in-requires-clause-there : goal.paint_in-requires-clause-there
+paint_in-requires-clause-there g c = λ told.
+    let op : Option RangeMeaning = range_at (table_of (λ p. (goal.RecordOp-dyn g p).record_meaning p.1) (λ p. (goal.RangeOp-dyn g p).range_meaning p.1) c.args.ops.now) c.args.code in
+    let i = c.pieces.invariant in
+    let back = i.back told in
+    let h = c.requires.there back in
+    let most = c.piece-n.ensures.most in
+    let test = c.pieces-test.true in
+    let within = i.within in
+    (_, (i.did.turns back h.0 h.1 h.2).raw, place_on (rendered op c.args.arg.now c.args.at c.pieces.done) h.0 h.2 (length-rendered op c.args.arg.now c.args.at c.pieces.done) (omega arith))
+
+pub paint_in-requires-clause-can : goal.paint_in-requires-clause-can
+paint_in-requires-clause-can g c = λ told.
+    let i = c.pieces.invariant in
+    let back = i.back told in
+    let can = c.requires.can back in
+    record { known = can.known; short = can.short; means = λ ne. (i.did.keeps back).table _ (can.means ne) }
+
+pub pieces-preserved : goal.pieces-preserved
+pieces-preserved g c =
+    let op : Option RangeMeaning = range_at (table_of (λ p. (goal.RecordOp-dyn g p).record_meaning p.1) (λ p. (goal.RangeOp-dyn g p).range_meaning p.1) c.args.ops.now) c.args.code in
+    let i = c.pieces.invariant in
+    let most = c.piece-n.ensures.most in
+    let test = c.pieces-test.true in
+    let counts = c.paint_in.ensures.counts in
+    writes_on c.piece-n.result c.piece-n.result (rendered op c.args.arg.now c.args.at c.pieces.done) (rendered op c.args.arg.now (c.args.at + c.pieces.done) c.piece-n.result) (rendered op c.args.arg.now c.args.at (c.pieces.done + c.piece-n.result))
+      (length-rendered op c.args.arg.now c.args.at c.pieces.done) (omega arith) refl (rendered_on op c.args.arg.now c.args.at c.pieces.done c.piece-n.result) i counts.told counts.later c.in_ok-paint_in.ensures.did

@@ -1,0 +1,36 @@
+use Rattle.std.proofs.Common.{Option}
+use Rattle.sg_ops.specs.Meaning.{RangeMeaning}
+use Rattle.sg_ops.specs.Table.{table_of, range_at}
+use Rattle.sg_space.proofs.Known.{keeps_then}
+use Rattle.sg_space.proofs.Rendered.{length-rendered}
+use Rattle.sg_blob.proofs.Parts.{still_raw, band_there}
+use Rattle.sg_blob.proofs.Turned.{after_reads}
+use Rattle.sg_blob.proofs.Writes.{paint_turns}
+use Rattle.sg_blob.proofs.change.paint_in.Goals as goal
+
+pub paint_band-requires : goal.paint_band-requires
+paint_band-requires g c = λ told.
+    let back = c.band_at.ensures.counts.told told in
+    let shows = g.met.P.PageSpace.told_shows _ back in
+    let h = c.requires.there back in
+    let can = c.requires.can back in
+    record {
+      writable = record { there = band_there _ _ (still_raw c.in_ok-b.ensures.kept shows h.1) (c.in_ok-b.ensures.read shows h.0 h.1); piece = c.requires.piece };
+      known = can.known;
+      short = can.short;
+      ends = c.requires.small;
+      means = λ ne. c.in_ok-b.ensures.kept.keeps.table _ (can.means ne);
+    }
+
+pub returns-clause-did : goal.returns-clause-did
+returns-clause-did g c =
+    let op : Option RangeMeaning = range_at (table_of (λ p. (goal.RecordOp-dyn g p).record_meaning p.1) (λ p. (goal.RangeOp-dyn g p).range_meaning p.1) c.args.ops.now) c.args.code in
+    let kept = c.in_ok-b.ensures.kept in
+    let did = c.in_ok-paint_band.ensures.did in
+    record {
+      keeps = λ t. keeps_then kept.keeps did.keeps;
+      turns = λ t r h can.
+          let shows = g.met.P.PageSpace.told_shows _ t in
+          let told = kept.keeps.told t in
+          after_reads kept shows (paint_turns c.args.at c.args.count _ (length-rendered op c.args.arg.now c.args.at c.args.count) (still_raw kept shows h) (c.in_ok-b.ensures.read shows r h) can c.requires.piece (did.bands told) (did.pages told));
+    }

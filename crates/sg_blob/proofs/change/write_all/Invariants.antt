@@ -1,0 +1,10 @@
+use Rattle.std.proofs.Common.{length, ◌-◌, take}
+use Rattle.sg_blob.proofs.Writing.{WritesTo}
+use Rattle.sg_blob.specs.Steps.{HasPlace, with_bytes}
+use Rattle.sg_blob.proofs.change.write_all.Given as goal
+
+abbrev pub invariant-pieces : goal.invariant-pieces
+invariant-pieces g l = WritesTo (g.P.PageSpace.view l.fn.space) (g.P.PageSpace.view l.space) l.root.0 (HasPlace l.at (length l.bytes)) (with_bytes l.at (take l.done l.bytes)) l.done (length l.bytes)
+
+abbrev pub decreases-pieces : goal.decreases-pieces
+decreases-pieces g l = length l.bytes - l.done

@@ -1,0 +1,4 @@
+pub mod Blob
+pub mod Raw
+pub mod Steps
+pub mod Calls
