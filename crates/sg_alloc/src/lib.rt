@@ -7,5 +7,6 @@
 
 mod map;
 mod maps;
+mod rows;
 
 pub use maps::{Maps, map_bands};

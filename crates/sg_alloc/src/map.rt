@@ -1,20 +1,19 @@
 // Which of so many numbered things are taken.
-ghost use Rattle.std.specs.Prelude.{◌≡◌, ℕ, ◌+◌, ◌*◌, ◌^◌, ◌<◌, ◌≤◌, true, false, Some, length, replicate, slice_get, slice_set, IfOk};
+ghost use Rattle.std.specs.Prelude.{◌≡◌, ℕ, ◌<◌, true, false, Some, replicate, slice_get, slice_set, IfOk};
 ghost use Rattle.sg_alloc.specs.Flags.{free_of, IsLeastFree};
 
+use crate::rows::Rows;
 use sg_base::OutOfMemory;
-use sg_bits::{WORD_BITS, clear, is_set, next_clear, set};
+use sg_bits::WORD_BITS;
 use std::alloc::Global;
 use std::marker::Model;
 
 #[derive(Drop)]
 pub struct Map {
-    // A bit for each, set where it's taken. Those behind the last are set too.
-    words: Vec<u64>,
+    // A bit for each, set where it's taken. Those behind the last are clear.
+    rows: Rows,
     count: u32,
     free: u32,
-    // All below this one are taken.
-    low: u32,
 }
 
 impl Model for Map {
@@ -23,19 +22,9 @@ impl Model for Map {
 
     ghost Value = { List Bool };
 
-    ghost view = { λ m. flags_of m.words.items m.count };
+    ghost view = { λ m. flags_of m.rows m.count };
 
-    ghost invariant = { λ m. IsKept m.words.items m.count m.free m.low };
-}
-
-// So many words, none of whose bits is set.
-fn new_words(alloc: Global, count: usize) -> Result<Vec<u64>, OutOfMemory>
-    ensures { IfOk result (λ v. v.items ≡ replicate count 0) }
-{
-    match vec![in alloc; 0u64; count] {
-        Ok(words) => Ok(words),
-        Err(_) => Err(OutOfMemory),
-    }
+    ghost invariant = { λ m. IsKept m.rows m.count m.free };
 }
 
 impl Map {
@@ -43,14 +32,10 @@ impl Map {
     pub fn new(alloc: Global, count: u32) -> Result<Map, OutOfMemory>
         ensures { IfOk result (λ m. m ≡ replicate count false) }
     {
-        let size = count as usize / WORD_BITS + 1;
-        let mut words = new_words(alloc, size)?;
-        set(words.as_mut_slice(), count as usize, WORD_BITS * size);
         Ok(Map {
-            words,
+            rows: Rows::new(alloc, count as usize / WORD_BITS + 1)?,
             count,
             free: count,
-            low: 0,
         })
     }
 
@@ -60,10 +45,9 @@ impl Map {
         ensures least { IsLeastFree self.old result }
         ensures taken { self.new ≡ slice_set self.old result true }
     {
-        let n = next_clear(self.words.as_slice(), self.low as usize);
-        set(self.words.as_mut_slice(), n, n + 1);
+        let n = self.rows.first_clear();
+        self.rows.set(n);
         self.free -= 1;
-        self.low = n as u32 + 1;
         n as u32
     }
 
@@ -72,8 +56,7 @@ impl Map {
         requires { slice_get self.old n ≡ Some false }
         ensures { self.new ≡ slice_set self.old n true }
     {
-        let bit = n as usize;
-        set(self.words.as_mut_slice(), bit, bit + 1);
+        self.rows.set(n as usize);
         self.free -= 1;
     }
 
@@ -82,9 +65,8 @@ impl Map {
         requires { slice_get self.old n ≡ Some true }
         ensures { self.new ≡ slice_set self.old n false }
     {
-        clear(self.words.as_mut_slice(), n as usize);
+        self.rows.clear(n as usize);
         self.free += 1;
-        self.low = self.low.min(n);
     }
 
     // How many are free.
@@ -101,6 +83,6 @@ impl Map {
         if n >= self.count {
             return None;
         }
-        Some(is_set(self.words.as_slice(), n as usize))
+        Some(self.rows.is_set(n as usize))
     }
 }

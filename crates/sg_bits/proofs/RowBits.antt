@@ -146,3 +146,22 @@ lowest_is_set words at r after skipped found = (
       let same : r ≡ at % 64 = elim (cases_lt (at % 64) r) as (λ _. r ≡ at % 64) [ inl less ↦ absurd (skipped (at % 64) (omega arith) less one) | inr le ↦ omega arith ] in
       grind (arith, nat_tests, same)),
 )
+
+-- a word is full where its complement has no one
+pub none_is_full : (words : List ℕ) (word r : ℕ) → get_or words word 0 < 2 ^ 64 → r ≤ 64 → ((k : ℕ) → 0 ≤ k → k < r → HasBit (bit_not w64 (get_or words word 0)) k → ⊥) → (r < 64 → HasBit (bit_not w64 (get_or words word 0)) r)
+    → ((r == 64) ≡ true) ↔ ((k : ℕ) → k / 64 ≡ word → IsSet words k)
+none_is_full words word r small bound none found = (
+  (λ yes k e.
+      let all : r ≡ 64 = grind (arith, nat_tests, yes) in
+      (set_is words word (k % 64) k e refl).1 (elim (HasBit_or_not (get_or words word 0) (k % 64)) as (λ _. HasBit (get_or words word 0) (k % 64)) [
+        | inl one ↦ one
+        | inr zero ↦ absurd (none (k % 64) (omega arith) (omega arith) ((HasBit-not (get_or words word 0) (k % 64) small (omega arith)).1 zero))
+      ])),
+  (λ full.
+      let at : r < 64 → ⊥ = λ less.
+          let place : (word * 64 + r) / 64 ≡ word = omega arith in
+          let bit : (word * 64 + r) % 64 ≡ r = omega arith in
+          (HasBit-not (get_or words word 0) r small less).0 (found less) ((set_is words word r (word * 64 + r) place bit).0 (full (word * 64 + r) place)) in
+      let all : r ≡ 64 = elim (cases_lt r 64) as (λ _. r ≡ 64) [ inl less ↦ absurd (at less) | inr le ↦ omega arith ] in
+      grind (arith, nat_tests, all)),
+)

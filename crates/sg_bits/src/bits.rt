@@ -1,5 +1,5 @@
 ghost use Rattle.std.specs.Prelude.{◌≡◌, ℕ, ◌*◌, ◌^◌, ◌<◌, ◌≤◌, ◌↔◌, ◌⊎◌, ◌≢◌, IsTrue, length};
-ghost use Rattle.sg_bits.specs.Bits.{IsSet};
+ghost use Rattle.sg_bits.specs.Bits.{IsSet, IsFull};
 
 use crate::word::{lowest_from, ones_between};
 
@@ -81,4 +81,12 @@ pub fn is_set(words: &[u64], at: usize) -> bool
 {
     let bit = at % WORD_BITS;
     lowest_from(words[at / WORD_BITS], bit) == bit
+}
+
+/// Whether all bits of one word are set.
+pub fn is_full(words: &[u64], word: usize) -> bool
+    requires { word < length words.now }
+    ensures { IsTrue result ↔ IsFull words.now word }
+{
+    lowest_from(!words[word], 0) == WORD_BITS
 }

@@ -7,4 +7,4 @@
 mod bits;
 mod word;
 
-pub use bits::{WORD_BITS, clear, is_set, next_clear, next_set, set};
+pub use bits::{WORD_BITS, clear, is_full, is_set, next_clear, next_set, set};

@@ -6,3 +6,4 @@ pub mod Flagged
 pub mod Memory
 pub mod Owned
 pub mod Reads
+pub mod Guarded

@@ -8,12 +8,14 @@
 #![tactic(auto)]
 
 mod cells;
+mod guarded;
 mod memory;
 mod note;
 mod space;
 mod stock;
 
 pub use cells::{read_cell, take_page_with};
+pub use guarded::Guarded;
 pub use memory::MemSpace;
 pub use note::UndoNote;
 pub use space::{PageSpace, SpaceFault};

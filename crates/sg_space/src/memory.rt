@@ -35,7 +35,7 @@ fn take_first_bands(maps: &mut Maps, count: u32)
 }
 
 impl MemSpace {
-    ghost use Rattle.std.specs.Prelude.{◌<◌, IfOk};
+    ghost use Rattle.std.specs.Prelude.{◌<◌, ◌↔◌, IfOk, IsTrue, IsSome};
     ghost use Rattle.sg_alloc.specs.Flags.{map_bands_of};
     ghost use Rattle.sg_space.specs.Memory.{space_of, IsNew};
 
@@ -55,6 +55,28 @@ impl MemSpace {
             bands: new_bands(alloc, bands)?,
             maps,
         })
+    }
+
+    /// Whether the page is there and taken.
+    pub fn has_page(&self, p: PageNo) -> bool
+        ensures { IsTrue result ↔ IsSome ((space_of self.now).pages.at p.0) }
+    {
+        matches!(self.maps.page_taken(p), Some(true))
+    }
+
+    /// Whether the band is there and taken.
+    pub fn has_band(&self, b: BandNo) -> bool
+        ensures { IsTrue result ↔ IsSome ((space_of self.now).bands.at b.0) }
+    {
+        matches!(self.maps.band_taken(b), Some(true))
+    }
+
+    // Does an operation to a taken page, if it fits and isn't `Format`, and says whether it did.
+    pub(crate) fn try_change(&mut self, ops: &Ops, p: PageNo, op: &PageOp<'_>) -> bool
+        requires { IsSome ((space_of self.old).pages.at p.0) }
+    {
+        let changed = &mut self.pages[p.0 as usize];
+        changed.try_change(ops, op)
     }
 }
 

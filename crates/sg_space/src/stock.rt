@@ -94,6 +94,14 @@ impl MemPage {
         apply(self.bytes.as_mut_slice(), op, ops);
     }
 
+    // Does an operation, if it fits and isn't `Format`, and says whether it did.
+    pub fn try_change(&mut self, ops: &Ops, op: &PageOp<'_>) -> bool {
+        if matches!(op, PageOp::Format { .. }) {
+            return false;
+        }
+        apply(self.bytes.as_mut_slice(), op, ops)
+    }
+
     // Makes it an empty page of this kind.
     pub fn format(&mut self, kind: u8)
         ensures { sheet_of self.new.bytes.items ≡ empty_sheet kind }

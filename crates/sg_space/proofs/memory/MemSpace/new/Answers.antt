@@ -1,8 +1,17 @@
-use Rattle.std.proofs.Common.{◌≡◌, ℕ, ◌<◌, ◌≤◌, List, Bool, true, false, length, set, replicate, ap, ◌∙◌, subst, arith}
+use Rattle.std.proofs.Common.{◌≡◌, ℕ, ◌<◌, ◌≤◌, List, Bool, true, false, Some, length, set, slice_get, replicate, ap, ◌∙◌, subst, arith}
 use Rattle.sg_alloc.specs.Flags.{map_bands_of}
-use Rattle.sg_space.proofs.Firsts.{AreTaken}
+use Rattle.sg_space.proofs.Firsts.{AreTaken, free_at}
 use Rattle.sg_space.proofs.Fresh.{new_pages_are, new_bands_are}
 use Rattle.sg_space.proofs.memory.MemSpace.new.Goals as goal
+
+pub set_page-requires : goal.set_page-requires
+set_page-requires c = ap (λ (xs : List Bool). slice_get xs 0) c.in_ok-maps.ensures.pages ∙ free_at c.args.pages 0 c.requires.page
+
+pub take_first_bands-requires : goal.take_first_bands-requires
+take_first_bands-requires c = λ b below.
+    let less = c.requires.bands in
+    let map = c.map_bands.ensures in
+    ap (λ (xs : List Bool). slice_get xs b) (c.set_page.ensures.bands ∙ c.in_ok-maps.ensures.bands) ∙ free_at c.args.bands b (omega arith)
 
 pub returns : goal.returns
 returns c =
