@@ -159,9 +159,9 @@ none_is_full words word r small bound none found = (
       ])),
   (λ full.
       let at : r < 64 → ⊥ = λ less.
-          let place : (word * 64 + r) / 64 ≡ word = omega arith in
-          let bit : (word * 64 + r) % 64 ≡ r = omega arith in
-          (HasBit-not (get_or words word 0) r small less).0 (found less) ((set_is words word r (word * 64 + r) place bit).0 (full (word * 64 + r) place)) in
+      let place : (word * 64 + r) / 64 ≡ word = omega arith in
+      let bit : (word * 64 + r) % 64 ≡ r = omega arith in
+      (HasBit-not (get_or words word 0) r small less).0 (found less) ((set_is words word r (word * 64 + r) place bit).0 (full (word * 64 + r) place)) in
       let all : r ≡ 64 = elim (cases_lt r 64) as (λ _. r ≡ 64) [ inl less ↦ absurd (at less) | inr le ↦ omega arith ] in
       grind (arith, nat_tests, all)),
 )

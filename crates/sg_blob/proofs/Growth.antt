@@ -143,12 +143,15 @@ grows_on {u} {v} {w} {root} {have} {next} {want} i below told later d =
         turns = λ t r h can.
             let kept = i.did.keeps t in
             let one = i.did.turns t r h can in
-            let two = d.turns (kept.told t) one.0 (one.1).raw (can_add can i.from below one.1 one.2 kept.may_take (kept.may_have root)) in
-            (two.0, turns_then one.1 two.1, record {
-              same_count = (two.2).same_count ∙ (one.2).same_count;
-              same_peak = (two.2).same_peak ∙ (one.2).same_peak;
-              same_bytes = (two.2).same_bytes ∙ (one.2).same_bytes;
-              long = (two.2).long;
-            });
+            let two = d.turns (kept.told t) one.0 (one.1).raw (can_add can i.from below one.1 one.2 kept.may_take (kept.may_have root)) in (
+              two.0,
+              turns_then one.1 two.1,
+              record {
+                same_count = (two.2).same_count ∙ (one.2).same_count;
+                same_peak = (two.2).same_peak ∙ (one.2).same_peak;
+                same_bytes = (two.2).same_bytes ∙ (one.2).same_bytes;
+                long = (two.2).long;
+              },
+            );
       };
     }

@@ -50,33 +50,33 @@ over_twice xs ys zs at d h is =
     let both = length_over xs (ys ++ zs) at h in
     let long : length (ys ++ zs) ≡ length ys + length zs = length-append ys zs in
     same_number_lists (overwritten (overwritten xs at ys) (at + d) zs) (overwritten xs at (ys ++ zs)) (omega arith) (λ k below.
-      elim (cases_lt k at) [
-        | inl a ↦ over_before (overwritten xs at ys) zs (at + d) k mid (omega arith) ∙ (over_before xs ys at k h a ∙ sym (over_before xs (ys ++ zs) at k h a))
-        | inr a ↦
-            let e : at + (k - at) ≡ k = omega arith in
-            elim (cases_lt k (at + d)) [
-              | inl b ↦
-                  over_before (overwritten xs at ys) zs (at + d) k mid b
-                  ∙ (ap (λ (n : ℕ). slice_index (overwritten xs at ys) n) (sym e)
-                  ∙ (over_inside xs ys at (k - at) h (omega arith)
-                  ∙ (sym (get_or_append_left ys zs 0 (k - at) (omega arith))
+    elim (cases_lt k at) [
+      | inl a ↦ over_before (overwritten xs at ys) zs (at + d) k mid (omega arith) ∙ (over_before xs ys at k h a ∙ sym (over_before xs (ys ++ zs) at k h a))
+      | inr a ↦
+          let e : at + (k - at) ≡ k = omega arith in
+          elim (cases_lt k (at + d)) [
+            | inl b ↦
+                over_before (overwritten xs at ys) zs (at + d) k mid b
+                ∙ (ap (λ (n : ℕ). slice_index (overwritten xs at ys) n) (sym e)
+                ∙ (over_inside xs ys at (k - at) h (omega arith)
+                ∙ (sym (get_or_append_left ys zs 0 (k - at) (omega arith))
+                ∙ (sym (over_inside xs (ys ++ zs) at (k - at) h (omega arith))
+                ∙ ap (λ (n : ℕ). slice_index (overwritten xs at (ys ++ zs)) n) e))))
+            | inr b ↦ elim (cases_lt k (at + d + length zs)) [
+              | inl c ↦
+                  let f : at + d + (k - at - d) ≡ k = omega arith in
+                  ap (λ (n : ℕ). slice_index (overwritten (overwritten xs at ys) (at + d) zs) n) (sym f)
+                  ∙ (over_inside (overwritten xs at ys) zs (at + d) (k - at - d) mid (omega arith)
+                  ∙ (sym (get_or-append_right ys zs d (k - at) 0 (sym is) (omega arith))
                   ∙ (sym (over_inside xs (ys ++ zs) at (k - at) h (omega arith))
-                  ∙ ap (λ (n : ℕ). slice_index (overwritten xs at (ys ++ zs)) n) e))))
-              | inr b ↦ elim (cases_lt k (at + d + length zs)) [
-                  | inl c ↦
-                      let f : at + d + (k - at - d) ≡ k = omega arith in
-                      ap (λ (n : ℕ). slice_index (overwritten (overwritten xs at ys) (at + d) zs) n) (sym f)
-                      ∙ (over_inside (overwritten xs at ys) zs (at + d) (k - at - d) mid (omega arith)
-                      ∙ (sym (get_or-append_right ys zs d (k - at) 0 (sym is) (omega arith))
-                      ∙ (sym (over_inside xs (ys ++ zs) at (k - at) h (omega arith))
-                      ∙ ap (λ (n : ℕ). slice_index (overwritten xs at (ys ++ zs)) n) e)))
-                  | inr c ↦
-                      over_after (overwritten xs at ys) zs (at + d) k mid (omega arith)
-                      ∙ (over_after xs ys at k h (omega arith)
-                      ∙ sym (over_after xs (ys ++ zs) at k h (omega arith)))
-                  ]
-              ]
-        ])
+                  ∙ ap (λ (n : ℕ). slice_index (overwritten xs at (ys ++ zs)) n) e)))
+              | inr c ↦
+                  over_after (overwritten xs at ys) zs (at + d) k mid (omega arith)
+                  ∙ (over_after xs ys at k h (omega arith)
+                  ∙ sym (over_after xs (ys ++ zs) at k h (omega arith)))
+            ]
+          ]
+    ])
 
 pub over_none : (xs : List ℕ) (at : ℕ) → at ≤ length xs → overwritten xs at [] ≡ xs
 over_none xs at h =
@@ -84,4 +84,4 @@ over_none xs at h =
     same_number_lists (overwritten xs at []) xs (omega arith) (λ k below. elim (cases_lt k at) [
       | inl a ↦ over_before xs [] at k h a
       | inr a ↦ over_after xs [] at k h (omega arith)
-      ])
+    ])

@@ -63,10 +63,12 @@ pub part_read : {pages : ℕ → Option Sheet} {bands : ℕ → Option (List ℕ
 part_read {r = r} {into = into} at n h e fits c =
     let p = h.part (at / 32768) n e in
     let copied = both p c in
-    record { same = λ k below.
-      let inside : at % 32768 + k < 32768 = omega arith in
-      let is : 32768 * (at / 32768) + (at % 32768 + k) ≡ at + k = omega (arith, place at) in
-      copied.same k below ∙ (p.has.each (at % 32768 + k) inside ∙ ap (λ (i : ℕ). slice_index r.bytes i) is) }
+    record {
+      same = λ k below.
+          let inside : at % 32768 + k < 32768 = omega arith in
+          let is : 32768 * (at / 32768) + (at % 32768 + k) ≡ at + k = omega (arith, place at) in
+          copied.same k below ∙ (p.has.each (at % 32768 + k) inside ∙ ap (λ (i : ℕ). slice_index r.bytes i) is);
+    }
 
 -- the front of the bytes from there on, as a list
 pub copied_is : (bytes into : List ℕ) (at : ℕ) → at + length into ≤ length bytes → ((k : ℕ) → k < length into → slice_index into k ≡ slice_index bytes (at + k)) → into ≡ take (length into) (drop at bytes)
@@ -74,7 +76,7 @@ copied_is bytes into at fits same =
     let rest : length (drop at bytes) ≡ length bytes - at = length-drop at bytes in
     let long : length (take (length into) (drop at bytes)) ≡ length into = length-take-le (length into) (drop at bytes) (omega arith) in
     same_number_lists into (take (length into) (drop at bytes)) (sym long) (λ k below.
-      same k below ∙ sym (get_or-take (length into) (drop at bytes) k 0 below ∙ get_or-drop at bytes k 0))
+    same k below ∙ sym (get_or-take (length into) (drop at bytes) k 0 below ∙ get_or-drop at bytes k 0))
 
 -- a place within so many bytes of so many bands has a band
 pub band_below : (at count n : ℕ) → at < count → count ≤ 32768 * n → at / 32768 < n

@@ -45,4 +45,5 @@ reads_on {u} {v} {w} {root} {at} {done} {into} n piece h told later kept read lo
             ∙ (over_inside into piece done (k - done) within (omega arith)
             ∙ ((read (h.kept.shows shows) (raw_of b) (still_blob h.kept shows blob).raw).same (k - done) (omega arith)
             ∙ ap (λ (i : ℕ). slice_index b.bytes i) f))
-        ] }
+      ];
+    }

@@ -76,7 +76,7 @@ cut_reads op bytes n from is zeros k =
           let front : k < length (take n bytes) = elim (cases_lt n (length bytes)) [
             | inl x ↦ let t = length-take-le n bytes (omega arith) in omega arith
             | inr x ↦ rw (take_all n bytes x) (omega arith)
-            ] in
+          ] in
           over_before bytes (rendered op [] from (length bytes - from)) from k inside a
           ∙ sym (get_or_append_left (take n bytes) (replicate (n - length bytes) 0) 0 k front ∙ get_or-take n bytes k 0 (omega arith))
       | inr a ↦
@@ -86,7 +86,7 @@ cut_reads op bytes n from is zeros k =
                 ap (λ (i : ℕ). slice_index (overwritten bytes from (rendered op [] from (length bytes - from))) i) (sym e)
                 ∙ (over_inside bytes (rendered op [] from (length bytes - from)) from (k - from) inside (omega arith) ∙ zeros (k - from))
             | inr x ↦ over_after bytes (rendered op [] from (length bytes - from)) from k inside (omega arith) ∙ get_or_past bytes k 0 x
-            ] in
+          ] in
           left ∙ sym (elim (cases_lt n (length bytes)) [
             | inl x ↦
                 let t = length-take-le n bytes (omega arith) in
@@ -95,11 +95,11 @@ cut_reads op bytes n from is zeros k =
                 let t : length (take n bytes) ≡ length bytes = ap (λ (xs : List ℕ). length xs) (take_all n bytes x) in
                 get_or-append_right (take n bytes) (replicate (n - length bytes) 0) (length bytes) k 0 t (omega arith)
                 ∙ elim (cases_lt (k - length bytes) (n - length bytes)) [
-                    | inl y ↦ get_or-replicate (n - length bytes) (k - length bytes) 0 0 y
-                    | inr y ↦ get_or_past (replicate (n - length bytes) 0) (k - length bytes) 0 (omega arith)
-                    ]
-            ])
-      ]
+                  | inl y ↦ get_or-replicate (n - length bytes) (k - length bytes) 0 0 y
+                  | inr y ↦ get_or_past (replicate (n - length bytes) 0) (k - length bytes) 0 (omega arith)
+                ]
+          ])
+    ]
 
 pub length_resized : (n : ℕ) (bytes : List ℕ) → length (resized n bytes) ≡ n
 length_resized n bytes =
@@ -108,7 +108,7 @@ length_resized n bytes =
     elim (cases_lt n (length bytes)) [
       | inl x ↦ let t = length-take-le n bytes (omega arith) in omega arith
       | inr x ↦ let t : length (take n bytes) ≡ length bytes = ap (λ (xs : List ℕ). length xs) (take_all n bytes x) in omega arith
-      ]
+    ]
 
 pub has_after : {v w : View} {root size : ℕ} {b : Blob} {r r' : Raw} → RawTurns v.space w.space root r r' → length r'.bands ≡ length r.bands → Keeps v w → HasBandsFor v root size b → HasBandsFor w root size b
 has_after t same k h =
@@ -127,7 +127,7 @@ pub fill_zero : (op : Option RangeMeaning) → op ≡ Some fill_meaning → (pos
 fill_zero op e pos count k = elim (cases_lt k count) [
   | inl a ↦ rendered_at op [] pos count k a ∙ ap (λ (m : Option RangeMeaning). byte_of m [] (pos + k)) e
   | inr a ↦ let long = length-rendered op [] pos count in get_or_past (rendered op [] pos count) k 0 (omega arith)
-  ]
+]
 
 pub cut_at : (op : Option RangeMeaning) (bytes xs : List ℕ) (n from count : ℕ) → op ≡ Some fill_meaning → count ≡ length bytes → from ≡ min count n → xs ≡ overwritten bytes from (rendered op [] from (count - from)) → (k : ℕ) → slice_index xs k ≡ slice_index (resized n bytes) k
 cut_at op bytes xs n from count fill e is x k =

@@ -28,18 +28,19 @@ part_over xs ys band at from fits h =
             over_before band ys (at % 32768) m inside a
             ∙ (h.each m below ∙ sym (over_before xs ys at (32768 * (at / 32768) + m) from (omega arith)))
         | inr a ↦ elim (cases_lt m (at % 32768 + length ys)) [
-            | inl b ↦
-                let e : at % 32768 + (m - at % 32768) ≡ m = omega arith in
-                let f : at + (m - at % 32768) ≡ 32768 * (at / 32768) + m = omega arith in
-                ap (λ (n : ℕ). slice_index (overwritten band (at % 32768) ys) n) (sym e)
-                ∙ (over_inside band ys (at % 32768) (m - at % 32768) inside (omega arith)
-                ∙ (sym (over_inside xs ys at (m - at % 32768) from (omega arith))
-                ∙ ap (λ (n : ℕ). slice_index (overwritten xs at ys) n) f))
-            | inr b ↦
-                over_after band ys (at % 32768) m inside b
-                ∙ (h.each m below ∙ sym (over_after xs ys at (32768 * (at / 32768) + m) from (omega arith)))
-            ]
-        ] }
+          | inl b ↦
+              let e : at % 32768 + (m - at % 32768) ≡ m = omega arith in
+              let f : at + (m - at % 32768) ≡ 32768 * (at / 32768) + m = omega arith in
+              ap (λ (n : ℕ). slice_index (overwritten band (at % 32768) ys) n) (sym e)
+              ∙ (over_inside band ys (at % 32768) (m - at % 32768) inside (omega arith)
+              ∙ (sym (over_inside xs ys at (m - at % 32768) from (omega arith))
+              ∙ ap (λ (n : ℕ). slice_index (overwritten xs at ys) n) f))
+          | inr b ↦
+              over_after band ys (at % 32768) m inside b
+              ∙ (h.each m below ∙ sym (over_after xs ys at (32768 * (at / 32768) + m) from (omega arith)))
+        ]
+      ];
+    }
 
 -- and in another band
 pub part_beside : (xs ys band : List ℕ) (at j : ℕ) → at ≤ length xs → at % 32768 + length ys ≤ 32768 → j ≢ at / 32768 → IsPart xs j band → IsPart (overwritten xs at ys) j band
@@ -50,7 +51,8 @@ part_beside xs ys band at j from fits ne h =
       each = λ m below. h.each m below ∙ elim (cases_lt j (at / 32768)) [
         | inl a ↦ sym (over_before xs ys at (32768 * j + m) from (omega arith))
         | inr a ↦ let more : at / 32768 < j = omega (arith, ne) in sym (over_after xs ys at (32768 * j + m) from (omega arith))
-        ] }
+      ];
+    }
 
 pub write_turns : {old new : Space} {root n : ℕ} {r : Raw} (at : ℕ) (bytes : List ℕ) → IsRaw old.pages.at old.bands.at root r → slice_get r.bands (at / 32768) ≡ Some n → HasPlace at (length bytes) r → IsPiece (at % 32768) (length bytes) → IsChanged old.bands new.bands n (λ band. Some (overwritten band (at % 32768) bytes)) → new.pages ≡ old.pages → RawTurns old new root r (with_bytes at bytes r)
 write_turns {old} {new} {root} {n} {r} at bytes h e can piece w pages =

@@ -34,7 +34,8 @@ writes_none {at = at} = record {
   back = λ t. t;
   later = omega arith;
   within = omega arith;
-  did = did_none (λ r h. ap (λ (xs : List ℕ). record r { bytes = xs }) (over_none r.bytes at h.from)) }
+  did = did_none (λ r h. ap (λ (xs : List ℕ). record r { bytes = xs }) (over_none r.bytes at h.from));
+}
 
 pub writes_on : {u v w : View} {root at d len : ℕ} (n m : ℕ) (front piece whole : List ℕ) → length front ≡ d → d + n ≤ len → m ≡ n → whole ≡ front ++ piece → WritesTo u v root (HasPlace at len) (with_bytes at front) d len → (w.Told → v.Told) → v.faults ≤ w.faults → Did v w root (HasPlace (at + d) m) (with_bytes (at + d) piece) → WritesTo u w root (HasPlace at len) (with_bytes at whole) (d + n) len
 writes_on {u} {v} {w} {root} {at} {d} {len} n m front piece whole is room same e i told later did =
@@ -44,9 +45,10 @@ writes_on {u} {v} {w} {root} {at} {d} {len} n m front piece whole is room same e
       later = omega arith;
       within = room;
       did = did_then i.did did
-        (λ r can. place_on front r can is (omega arith))
-        (λ r can. ap (λ (xs : List ℕ). record r { bytes = xs })
-          (ap (λ (ys : List ℕ). overwritten r.bytes at ys) e ∙ sym (over_twice r.bytes front piece at d can.from (sym is)))) }
+          (λ r can. place_on front r can is (omega arith))
+          (λ r can. ap (λ (xs : List ℕ). record r { bytes = xs })
+          (ap (λ (ys : List ℕ). overwritten r.bytes at ys) e ∙ sym (over_twice r.bytes front piece at d can.from (sym is))));
+    }
 
 pub front_and_piece : (ys : List ℕ) (d n : ℕ) → take (d + n) ys ≡ take d ys ++ take (d + n - d) (drop d ys)
 front_and_piece ys d n = take-add d n ys ∙ ap (λ (k : ℕ). take d ys ++ take k (drop d ys)) (let e : n ≡ d + n - d = omega arith in e)
@@ -61,10 +63,10 @@ rendered_on op arg pos d n =
     let c = length-rendered op arg (pos + d) n in
     let s = length-append (rendered op arg pos d) (rendered op arg (pos + d) n) in
     same_number_lists (rendered op arg pos (d + n)) (rendered op arg pos d ++ rendered op arg (pos + d) n) (omega arith) (λ k below.
-      let all : k < d + n = omega arith in
-      rendered_at op arg pos (d + n) k all ∙ elim (cases_lt k d) [
-        | inl x ↦ sym (get_or_append_left (rendered op arg pos d) (rendered op arg (pos + d) n) 0 k (omega arith) ∙ rendered_at op arg pos d k x)
-        | inr x ↦
-            let e : pos + d + (k - d) ≡ pos + k = omega arith in
-            sym (get_or-append_right (rendered op arg pos d) (rendered op arg (pos + d) n) d k 0 b x ∙ (rendered_at op arg (pos + d) n (k - d) (omega arith) ∙ ap (λ (j : ℕ). byte_of op arg j) e))
-        ])
+    let all : k < d + n = omega arith in
+    rendered_at op arg pos (d + n) k all ∙ elim (cases_lt k d) [
+      | inl x ↦ sym (get_or_append_left (rendered op arg pos d) (rendered op arg (pos + d) n) 0 k (omega arith) ∙ rendered_at op arg pos d k x)
+      | inr x ↦
+          let e : pos + d + (k - d) ≡ pos + k = omega arith in
+          sym (get_or-append_right (rendered op arg pos d) (rendered op arg (pos + d) n) d k 0 b x ∙ (rendered_at op arg (pos + d) n (k - d) (omega arith) ∙ ap (λ (j : ℕ). byte_of op arg j) e))
+    ])

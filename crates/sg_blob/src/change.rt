@@ -139,12 +139,7 @@ pub fn paint_all<P: PageSpace>(
 }
 
 // Takes a band, and puts its number behind those of the root.
-fn add_band<P: PageSpace>(
-    space: &mut P,
-    ops: &Ops,
-    root: PageNo,
-    j: u32,
-) -> Result<(), SpaceFault>
+fn add_band<P: PageSpace>(space: &mut P, ops: &Ops, root: PageNo, j: u32) -> Result<(), SpaceFault>
     requires below { j < 500 }
     requires there { HasRaw (P.view space.old) root.0 (CanAdd (P.view space.old) root.0 j) }
     ensures counts { Counts (P.view space.old) (P.view space.new) result }

@@ -37,8 +37,8 @@ put_step t sheet slot cell free fits =
     let next = free.next in
     let test : nat_le slot (length sheet.slots) ≡ true = grind (arith, nat_tests, next) in
     ap (with_slots sheet) (
-      ap (λ (o : Option (List ℕ)). if nat_le slot (length sheet.slots) && is_none o then where_room (with_cell sheet.slots slot cell) else None) free.empty
-      ∙ (ap (λ (b : Bool). if b && true then where_room (with_cell sheet.slots slot cell) else None) test ∙ has_room (with_cell sheet.slots slot cell) fits))
+    ap (λ (o : Option (List ℕ)). if nat_le slot (length sheet.slots) && is_none o then where_room (with_cell sheet.slots slot cell) else None) free.empty
+    ∙ (ap (λ (b : Bool). if b && true then where_room (with_cell sheet.slots slot cell) else None) test ∙ has_room (with_cell sheet.slots slot cell) fits))
 
 pub set_step : (t : Table) (sheet : Sheet) (slot : ℕ) (was cell : List ℕ) → cell_in sheet.slots slot ≡ Some was → bytes_of (set sheet.slots slot (Some cell)) ≤ 4072 → step t (Set slot cell) sheet ≡ Some (record sheet { slots = set sheet.slots slot (Some cell) })
 set_step t sheet slot was cell e fits = ap (with_slots sheet) (sets sheet.slots slot was cell e fits)

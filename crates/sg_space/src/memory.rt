@@ -75,8 +75,8 @@ impl MemSpace {
     pub(crate) fn try_change(&mut self, ops: &Ops, p: PageNo, op: &PageOp<'_>) -> bool
         requires { IsSome ((space_of self.old).pages.at p.0) }
     {
-        let changed = &mut self.pages[p.0 as usize];
-        changed.try_change(ops, op)
+        let page = &mut self.pages[p.0 as usize];
+        page.try_change(ops, op)
     }
 }
 

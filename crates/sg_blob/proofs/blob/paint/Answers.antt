@@ -22,7 +22,7 @@ broken-requires g c = λ told.
     elim c.then-at-found.branch [
       | then-at-found-via-then-at-found w ↦ let more = w.if-at-found in omega arith
       | then-at-found-via-else-at-found+then-count-found w ↦ let more = w.if-count-found in omega arith
-      ]
+    ]
 
 pub paint_all-requires-clause-there : goal.paint_all-requires-clause-there
 paint_all-requires-clause-there g c = λ told.

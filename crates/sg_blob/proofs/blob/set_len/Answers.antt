@@ -96,8 +96,9 @@ returns-clause-did g c =
           let bands = (two.2).long in
           let peak_is = c.max-peak.ensures in
           let size = length_resized c.args.size b.bytes in
-          let reads = cut_at op b.bytes (two.0).bytes c.args.size c.min-from.result c.in_ok-found.found.count refl is.0 c.min-from.ensures (two.2).same_bytes in
-          (blob_of (record { count = c.args.size; peak = c.max-peak.result; bands = (two.0).bands; bytes = resized c.args.size b.bytes }),
-          whole _ (same_bytes (resized c.args.size b.bytes) reads (omega arith) all) (sym size) (omega arith) (omega arith),
-          record { bytes = refl; peak = omega arith });
+          let reads = cut_at op b.bytes (two.0).bytes c.args.size c.min-from.result c.in_ok-found.found.count refl is.0 c.min-from.ensures (two.2).same_bytes in (
+            blob_of (record { count = c.args.size; peak = c.max-peak.result; bands = (two.0).bands; bytes = resized c.args.size b.bytes }),
+            whole _ (same_bytes (resized c.args.size b.bytes) reads (omega arith) all) (sym size) (omega arith) (omega arith),
+            record { bytes = refl; peak = omega arith },
+          );
     }

@@ -92,7 +92,9 @@ returns-clause-did g c =
           let count = is.0 in
           let peak = is.1 in
           let count_is = c.max-count.ensures in
-          let peak_is = c.max-peak.ensures in
-          (blob_of (with_root c.max-count.result c.max-peak.result (with_bytes c.args.at c.args.bytes.now one.0)), whole _ all (omega arith) (omega arith) (omega arith),
-          record { bytes = ap (λ (xs : List ℕ). overwritten xs c.args.at c.args.bytes.now) (one.2).same_bytes; peak = omega arith });
+          let peak_is = c.max-peak.ensures in (
+            blob_of (with_root c.max-count.result c.max-peak.result (with_bytes c.args.at c.args.bytes.now one.0)),
+            whole _ all (omega arith) (omega arith) (omega arith),
+            record { bytes = ap (λ (xs : List ℕ). overwritten xs c.args.at c.args.bytes.now) (one.2).same_bytes; peak = omega arith },
+          );
     }

@@ -25,7 +25,9 @@ returns-clause-did g c =
     record {
       keeps = λ t. keeps_then took.keeps (put_keeps did);
       turns = λ t r h can.
-          let told = took.keeps.told t in
-          (with_band c.in_ok-band.band.0 r, add_turns {t = table_of (λ p. (goal.RecordOp-dyn g p).record_meaning p.1) (λ p. (goal.RangeOp-dyn g p).range_meaning p.1) c.args.ops.now} _ c.write_u32.ensures.bytes can.behind c.requires.below took.small h (record { took = took.bands t; same_pages = took.pages t; put = did.pages told; same_bands = did.bands told }),
-          record { same_count = refl; same_peak = refl; same_bytes = refl; long = length_push r.bands _ ∙ ap (λ (n : ℕ). n + 1) can.behind });
+          let told = took.keeps.told t in (
+            with_band c.in_ok-band.band.0 r,
+            add_turns {t = table_of (λ p. (goal.RecordOp-dyn g p).record_meaning p.1) (λ p. (goal.RangeOp-dyn g p).range_meaning p.1) c.args.ops.now} _ c.write_u32.ensures.bytes can.behind c.requires.below took.small h (record { took = took.bands t; same_pages = took.pages t; put = did.pages told; same_bands = did.bands told }),
+            record { same_count = refl; same_peak = refl; same_bytes = refl; long = length_push r.bands _ ∙ ap (λ (n : ℕ). n + 1) can.behind },
+          );
     }

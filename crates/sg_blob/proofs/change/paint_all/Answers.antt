@@ -34,4 +34,4 @@ pieces-preserved g c =
     let test = c.pieces-test.true in
     let counts = c.paint_in.ensures.counts in
     writes_on c.piece-n.result c.piece-n.result (rendered op c.args.arg.now c.args.at c.pieces.done) (rendered op c.args.arg.now (c.args.at + c.pieces.done) c.piece-n.result) (rendered op c.args.arg.now c.args.at (c.pieces.done + c.piece-n.result))
-      (length-rendered op c.args.arg.now c.args.at c.pieces.done) (omega arith) refl (rendered_on op c.args.arg.now c.args.at c.pieces.done c.piece-n.result) i counts.told counts.later c.in_ok-paint_in.ensures.did
+    (length-rendered op c.args.arg.now c.args.at c.pieces.done) (omega arith) refl (rendered_on op c.args.arg.now c.args.at c.pieces.done c.piece-n.result) i counts.told counts.later c.in_ok-paint_in.ensures.did

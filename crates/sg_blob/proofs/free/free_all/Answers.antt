@@ -56,6 +56,6 @@ returns-clause-did g c =
     let for = c.bands_for-j-end.ensures in
     let end = c.loop-j.auto.j-end in
     all_gone i c.in_ok-free_page.ensures.did (λ t b h.
-        let peak = (c.in_ok-found.ensures.read (g.met.P.PageSpace.told_shows _ t) (raw_of b) h.raw).1 in
-        let many = so_many b.bands b.peak c.in_ok-found.found.peak peak h.least h.most in
-        omega arith)
+    let peak = (c.in_ok-found.ensures.read (g.met.P.PageSpace.told_shows _ t) (raw_of b) h.raw).1 in
+    let many = so_many b.bands b.peak c.in_ok-found.found.peak peak h.least h.most in
+    omega arith)
