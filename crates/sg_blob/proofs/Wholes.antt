@@ -1,15 +1,15 @@
 -- From what a root and its bands say to a blob, and back.
-use Rattle.std.proofs.Common.{◌≡◌, ◌≢◌, ℕ, ◌+◌, ◌-◌, ◌*◌, ◌/◌, ◌<◌, ◌≤◌, ◌++◌, List, [], length, slice_index, Option, Some, take, replicate, sym, ap, subst, ◌∙◌, refl, arith, inl, inr, max, min}
+use Rattle.std.proofs.Common.{◌≡◌, ◌≢◌, ℕ, ◌+◌, ◌-◌, ◌*◌, ◌/◌, ◌<◌, ◌≤◌, ◌++◌, List, [], ◌∷◌, length, slice_index, Option, Some, take, replicate, sym, ap, subst, ◌∙◌, refl, arith, inl, inr, max, min}
 use Rattle.std.proofs.lemmas.Bool.{cases_lt}
 use Rattle.std.proofs.lemmas.List.{length-append, length-take-le, length-replicate, take_all, get_or-replicate, get_or-take, get_or_past, get_or_append_left, get_or-append_right}
 use Rattle.sg_base.specs.Overwritten.{overwritten}
 use Rattle.sg_base.specs.Sheet.{Sheet}
-use Rattle.sg_ops.specs.Meaning.{RangeMeaning}
+use Rattle.sg_ops.specs.Meaning.{RecordMeaning, RangeMeaning}
 use Rattle.sg_ops.specs.Shipped.{fill_meaning}
-use Rattle.sg_ops.specs.Table.{byte_of, rendered}
+use Rattle.sg_ops.specs.Table.{byte_of, range_at, rendered}
 use Rattle.sg_space.proofs.Known.{still}
 use Rattle.sg_space.proofs.Owners.{grown}
-use Rattle.sg_space.proofs.Rendered.{length-rendered}
+use Rattle.sg_ops.proofs.Rendering.{length-rendered}
 use Rattle.sg_space.specs.View.{View, Space, Keeps, OnlyReads}
 use Rattle.sg_blob.specs.Blob.{Blob, raw_of, IsBlob}
 use Rattle.sg_blob.specs.Calls.{Turns, HasBandsFor, resized, CanRestore}
@@ -123,7 +123,13 @@ place_grown {r = r} b peak g e is from =
     let long = g.long in
     record { from = omega arith; within = omega arith }
 
+-- `fill` has the code 1 in each table
+pub fill_there : (records : List RecordMeaning) (ranges : List RangeMeaning) → range_at (record { records = records; ranges = fill_meaning ∷ ranges }) 1 ≡ Some fill_meaning
+unfolding range_at
+fill_there records ranges = refl
+
 pub fill_zero : (op : Option RangeMeaning) → op ≡ Some fill_meaning → (pos count k : ℕ) → slice_index (rendered op [] pos count) k ≡ 0
+unfolding byte_of
 fill_zero op e pos count k = elim (cases_lt k count) [
   | inl a ↦ rendered_at op [] pos count k a ∙ ap (λ (m : Option RangeMeaning). byte_of m [] (pos + k)) e
   | inr a ↦ let long = length-rendered op [] pos count in get_or_past (rendered op [] pos count) k 0 (omega arith)

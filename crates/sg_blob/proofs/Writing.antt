@@ -8,7 +8,7 @@ use Rattle.std.proofs.lemmas.List.FromFn.{get_or-map-range_with_len}
 use Rattle.sg_base.specs.Overwritten.{overwritten}
 use Rattle.sg_ops.specs.Meaning.{RangeMeaning}
 use Rattle.sg_ops.specs.Table.{byte_of, rendered}
-use Rattle.sg_space.proofs.Rendered.{length-rendered}
+use Rattle.sg_ops.proofs.Rendering.{length-rendered}
 use Rattle.sg_space.specs.View.{View}
 use Rattle.sg_blob.specs.Raw.{Raw}
 use Rattle.sg_blob.specs.Steps.{Did, HasPlace, with_bytes}
@@ -29,12 +29,12 @@ place_on {at} {len} {d} {n} front r h is room =
     let long = length_over r.bytes front at from in
     record { from = omega arith; within = omega arith }
 
-pub writes_none : {v : View} {root at len : ℕ} → WritesTo v v root (HasPlace at len) (with_bytes at []) 0 len
-writes_none {at = at} = record {
+pub writes_none : {v : View} {root at len : ℕ} (front : List ℕ) → front ≡ [] → WritesTo v v root (HasPlace at len) (with_bytes at front) 0 len
+writes_none {at = at} front none = record {
   back = λ t. t;
   later = omega arith;
   within = omega arith;
-  did = did_none (λ r h. ap (λ (xs : List ℕ). record r { bytes = xs }) (over_none r.bytes at h.from));
+  did = did_none (λ r h. ap (λ (xs : List ℕ). record r { bytes = xs }) (ap (overwritten r.bytes at) none ∙ over_none r.bytes at h.from));
 }
 
 pub writes_on : {u v w : View} {root at d len : ℕ} (n m : ℕ) (front piece whole : List ℕ) → length front ≡ d → d + n ≤ len → m ≡ n → whole ≡ front ++ piece → WritesTo u v root (HasPlace at len) (with_bytes at front) d len → (w.Told → v.Told) → v.faults ≤ w.faults → Did v w root (HasPlace (at + d) m) (with_bytes (at + d) piece) → WritesTo u w root (HasPlace at len) (with_bytes at whole) (d + n) len
@@ -54,7 +54,12 @@ pub front_and_piece : (ys : List ℕ) (d n : ℕ) → take (d + n) ys ≡ take d
 front_and_piece ys d n = take-add d n ys ∙ ap (λ (k : ℕ). take d ys ++ take k (drop d ys)) (let e : n ≡ d + n - d = omega arith in e)
 
 pub rendered_at : (op : Option RangeMeaning) (arg : List ℕ) (pos count k : ℕ) → k < count → slice_index (rendered op arg pos count) k ≡ byte_of op arg (pos + k)
+unfolding rendered
 rendered_at op arg pos count k below = get_or-map-range_with_len _ 0 count k k 0 below (omega arith)
+
+pub rendered_none : (op : Option RangeMeaning) (arg : List ℕ) (pos : ℕ) → rendered op arg pos 0 ≡ []
+unfolding rendered
+rendered_none op arg pos = refl
 
 pub rendered_on : (op : Option RangeMeaning) (arg : List ℕ) (pos d n : ℕ) → rendered op arg pos (d + n) ≡ rendered op arg pos d ++ rendered op arg (pos + d) n
 rendered_on op arg pos d n =

@@ -2,7 +2,7 @@ use Rattle.std.proofs.Common.{◌≡◌, ℕ, ◌+◌, ◌-◌, ◌<◌, ◌≤�
 use Rattle.sg_ops.specs.Meaning.{RangeMeaning}
 use Rattle.sg_ops.specs.Table.{table_of, range_at, rendered}
 use Rattle.sg_space.proofs.Known.{keeps_then}
-use Rattle.sg_space.proofs.Rendered.{length-rendered}
+use Rattle.sg_ops.proofs.Rendering.{length-rendered}
 use Rattle.sg_blob.specs.Blob.{raw_of}
 use Rattle.sg_blob.specs.Steps.{with_bytes}
 use Rattle.sg_blob.proofs.Over.{length_over}

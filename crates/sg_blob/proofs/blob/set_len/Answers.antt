@@ -1,4 +1,4 @@
-use Rattle.std.proofs.Common.{◌≡◌, ℕ, ◌+◌, ◌-◌, ◌*◌, ◌/◌, ◌<◌, ◌≤◌, Option, List, [], length, sym, ap, ◌∙◌, arith, refl, max, min}
+use Rattle.std.proofs.Common.{◌≡◌, ℕ, ◌+◌, ◌-◌, ◌*◌, ◌/◌, ◌<◌, ◌≤◌, Option, IsSome, List, [], length, sym, ap, subst, ◌∙◌, arith, refl, max, min}
 use Rattle.sg_ops.specs.Meaning.{RangeMeaning}
 use Rattle.sg_ops.specs.Table.{table_of, range_at, rendered}
 use Rattle.sg_space.proofs.Known.{keeps_then}
@@ -6,7 +6,7 @@ use Rattle.sg_blob.specs.Blob.{raw_of}
 use Rattle.sg_blob.specs.Calls.{resized}
 use Rattle.sg_blob.proofs.Parts.{still_blob}
 use Rattle.sg_blob.proofs.Turned.{after_reads, turns_then}
-use Rattle.sg_blob.proofs.Wholes.{whole, blob_of, can_grow, has_still, has_after, same_bytes, cut_at, length_resized}
+use Rattle.sg_blob.proofs.Wholes.{whole, blob_of, can_grow, has_still, has_after, same_bytes, cut_at, fill_there, length_resized}
 use Rattle.sg_blob.proofs.blob.set_len.Goals as goal
 
 pub paint_all-requires-clause-there : goal.paint_all-requires-clause-there
@@ -21,6 +21,9 @@ paint_all-requires-clause-there g c = λ told.
     let least = b.least in
     let peak = b.raw.below_peak in
     (raw_of h.0, b.raw, record { from = omega arith; within = omega arith })
+
+pub paint_all-requires-clause-can : goal.paint_all-requires-clause-can
+paint_all-requires-clause-can g c = λ told. record { known = subst IsSome (sym (fill_there _ _)) refl; short = omega arith; means = λ ne. absurd (ne refl) }
 
 pub grow_to-requires-clause-there : goal.grow_to-requires-clause-there
 grow_to-requires-clause-there g c = λ told.
@@ -96,7 +99,7 @@ returns-clause-did g c =
           let bands = (two.2).long in
           let peak_is = c.max-peak.ensures in
           let size = length_resized c.args.size b.bytes in
-          let reads = cut_at op b.bytes (two.0).bytes c.args.size c.min-from.result c.in_ok-found.found.count refl is.0 c.min-from.ensures (two.2).same_bytes in (
+          let reads = cut_at op b.bytes (two.0).bytes c.args.size c.min-from.result c.in_ok-found.found.count (fill_there _ _) is.0 c.min-from.ensures (two.2).same_bytes in (
             blob_of (record { count = c.args.size; peak = c.max-peak.result; bands = (two.0).bands; bytes = resized c.args.size b.bytes }),
             whole _ (same_bytes (resized c.args.size b.bytes) reads (omega arith) all) (sym size) (omega arith) (omega arith),
             record { bytes = refl; peak = omega arith },

@@ -1,12 +1,14 @@
 use Rattle.std.proofs.Common.{◌≡◌, ℕ, ◌+◌, ◌-◌, ◌<◌, ◌≤◌, length, sym, ap, ◌∙◌, arith, refl, Option}
 use Rattle.sg_ops.specs.Meaning.{RangeMeaning}
 use Rattle.sg_ops.specs.Table.{table_of, range_at, rendered}
-use Rattle.sg_space.proofs.Rendered.{length-rendered}
-use Rattle.sg_blob.proofs.Writing.{writes_none, writes_on, place_on, rendered_on}
+use Rattle.sg_ops.proofs.Rendering.{length-rendered}
+use Rattle.sg_blob.proofs.Writing.{writes_none, writes_on, place_on, rendered_none, rendered_on}
 use Rattle.sg_blob.proofs.change.paint_all.Goals as goal
 
 pub pieces-init : goal.pieces-init
-pieces-init g c = writes_none
+pieces-init g c =
+    let op : Option RangeMeaning = range_at (table_of (λ p. (goal.RecordOp-dyn g p).record_meaning p.1) (λ p. (goal.RangeOp-dyn g p).range_meaning p.1) c.args.ops.now) c.args.code in
+    writes_none (rendered op c.args.arg.now c.args.at 0) (rendered_none op c.args.arg.now c.args.at)
 
 pub paint_in-requires-clause-there : goal.paint_in-requires-clause-there
 paint_in-requires-clause-there g c = λ told.

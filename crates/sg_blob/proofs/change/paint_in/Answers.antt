@@ -2,7 +2,7 @@ use Rattle.std.proofs.Common.{Option}
 use Rattle.sg_ops.specs.Meaning.{RangeMeaning}
 use Rattle.sg_ops.specs.Table.{table_of, range_at}
 use Rattle.sg_space.proofs.Known.{keeps_then}
-use Rattle.sg_space.proofs.Rendered.{length-rendered}
+use Rattle.sg_ops.proofs.Rendering.{length-rendered}
 use Rattle.sg_blob.proofs.Parts.{still_raw, band_there}
 use Rattle.sg_blob.proofs.Turned.{after_reads}
 use Rattle.sg_blob.proofs.Writes.{paint_turns}
