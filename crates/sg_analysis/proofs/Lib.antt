@@ -1,0 +1,10 @@
+pub mod Lists
+pub mod Kept
+pub mod GoingOn
+pub mod Taking
+pub mod Bodies
+pub mod Ended
+pub mod Walking
+pub mod Formedness
+pub mod Told
+pub mod Sufficing

@@ -1,0 +1,10 @@
+pub mod Frames
+pub mod Sights
+pub mod Analysis
+pub mod Standing
+pub mod Damage
+pub mod Rows
+pub mod Pairs
+pub mod Shown
+pub mod Walks
+pub mod Suffices

@@ -1,0 +1,108 @@
+ghost use Rattle.std.specs.Prelude.{◌≡◌, ◌≤◌, ◌+◌, ◌*◌, ℕ, List, [], length, min, Err, IfOk, IfErr, OnOk, IsTrue};
+ghost use Rattle.sg_disk.specs.Disk.{FULL};
+ghost use Rattle.sg_record.specs.Records.{Record};
+ghost use Rattle.sg_log.specs.Frames.{LOG_END, GREATEST_BODY};
+ghost use Rattle.sg_log.specs.Reads.{OnlyReads};
+ghost use Rattle.sg_analysis.specs.Frames.{HasFrames, numbered_in};
+ghost use Rattle.sg_analysis.specs.Rows.{Knows};
+ghost use Rattle.sg_analysis.specs.Walks.{IsFound};
+ghost use Rattle.sg_analysis.specs.Standing.{IsPageLog};
+ghost use Rattle.sg_analysis.specs.Damage.{AnalysisFails};
+ghost use Rattle.sg_analysis.specs.Analysis.{analysis_of};
+ghost use Rattle.sg_analysis.specs.Shown.{shown, IsAnalysed};
+
+use crate::AnalysisFault;
+use crate::frame::read_body;
+use crate::losers::Losers;
+use crate::scan::Scan;
+use sg_base::{Lsn, TxnId};
+use sg_disk::{Area, Disk};
+use std::alloc::{AllocError, Global};
+
+/// What opening needs to know of a log.
+#[derive(Drop)]
+pub struct Analysis {
+    /// The transactions that have begun and neither committed nor ended.
+    pub losers: Losers,
+    /// What the last checkpoint estimates: history is repeated from there on. It is the number of the
+    /// log's first byte where there is no checkpoint.
+    pub estimate: Lsn,
+    /// The number of the last checkpoint.
+    pub last_checkpoint: Option<Lsn>,
+    /// The system, which is 0, or the loser whose action has no end, with the number of its last record.
+    pub unfinished: Option<(TxnId, Lsn)>,
+}
+
+// Room for the greatest body of a frame.
+fn room(alloc: Global) -> Result<Vec<u8>, AllocError>
+    ensures { IfOk result (λ v. length v.items ≡ 65536) }
+{
+    vec![in alloc; 0; 65_536]
+}
+
+// Takes all records of the log in, and answers the offset of the gate of its last frame.
+fn walk<D: Disk>(
+    disk: &mut D,
+    area: Area,
+    base: Lsn,
+    space: &mut [u8],
+    scan: &mut Scan,
+) -> Result<u64, AnalysisFault>
+    requires base { base ≤ LOG_END }
+    requires space { GREATEST_BODY ≤ length space.old }
+    requires scan { Knows scan.old base [] }
+    ensures found { IfOk result (λ last. IsFound D.told area base last (D.view disk.old) (D.view disk.new) scan.new) }
+    ensures faults { IfErr result (λ e. AnalysisFails D.told area base (D.view disk.old) (D.view disk.new) e) }
+    ensures reads { OnlyReads D.told (D.view disk.old) (D.view disk.new) }
+{
+    let mut at = 0;
+    let mut last = 0;
+    'frames: loop {
+        match read_body(disk, area, base, at, space) {
+            Err(fault) => return Err(fault),
+            Ok(None) => return Ok(last),
+            Ok(Some(size)) => {
+                match scan.take(base + at + 5, at, &space[..size]) {
+                    Err(fault) => return Err(fault),
+                    Ok(()) => {
+                        last = at;
+                        at += 5 + size as u64;
+                    }
+                }
+            }
+        }
+    }
+}
+
+/// Analyses the log in this area, whose first byte has the number `base`. It reads the log once, frame
+/// by frame, up to the first closed gate, and writes nothing. Beside room for one frame it takes memory
+/// for the transactions that go on at one time, however long the log is.
+///
+/// It answers `Damaged`, with the offset of a frame's gate, exactly where that frame isn't formed, or a
+/// record of it may not stand behind those before it, as far as the last record of its transaction and
+/// the last one that ended an action tell; or where it is the last one and more than one action has no
+/// end. A formed log is never damaged. It answers `Disk` only where the disk fails.
+pub fn analyse<D: Disk>(
+    alloc: Global,
+    disk: &mut D,
+    area: Area,
+    base: Lsn,
+) -> Result<Analysis, AnalysisFault>
+    requires { base ≤ LOG_END }
+    ensures analysed { IsTrue D.told → IfOk result (IsAnalysed ((D.view disk.old).now area).seen base) }
+    ensures says { (frames : List (List Record)) → IsTrue D.told → HasFrames ((D.view disk.old).now area).seen base frames →
+        IfOk result (λ a. shown a ≡ analysis_of base (numbered_in base frames)) }
+    ensures undamaged { (frames : List (List Record)) (at : ℕ) → IsTrue D.told → HasFrames ((D.view disk.old).now area).seen base frames →
+        IsPageLog base (numbered_in base frames) → result ≡ Err (AnalysisFault.Damaged at) → ⊥ }
+    ensures faults { IfErr result (λ e. AnalysisFails D.told area base (D.view disk.old) (D.view disk.new) e) }
+    ensures reads { OnlyReads D.told (D.view disk.old) (D.view disk.new) }
+    ensures calls { (frames : List (List Record)) → IsTrue D.told → HasFrames ((D.view disk.old).now area).seen base frames →
+        OnOk result ((D.view disk.new).calls ≡ min ((D.view disk.old).calls + 1 + 2 * length frames) FULL) }
+{
+    let mut space = room(alloc)?;
+    let mut scan = Scan::new(alloc, base);
+    match walk(disk, area, base, &mut space, &mut scan) {
+        Ok(last) => scan.finish(last),
+        Err(fault) => Err(fault),
+    }
+}
