@@ -2,7 +2,7 @@ ghost use Rattle.std.specs.Prelude.{◌≡◌, ◌≤◌, length};
 ghost use Rattle.sg_model.specs.Verb.Op.{Names};
 ghost use Rattle.sg_words.specs.Parse.{words_of};
 ghost use Rattle.sg_words.specs.Requested.{shown_option, shown_asked};
-ghost use Rattle.sg_words.specs.Requests.{make_array_of, make_table_of, make_blob_of, discard_of, pop_of, get_of, len_of, read_of, size_of, push_of, set_of, apply_of, put_of, del_of, find_of, write_of, paint_of, keys_of, make_of, alone, plain_request, valued_request, either, asked_by, asked};
+ghost use Rattle.sg_words.specs.Requests.{make_array_of, make_table_of, make_blob_of, discard_of, pop_of, get_of, len_of, read_of, size_of, push_of, set_of, apply_of, put_of, del_of, find_of, write_of, paint_of, keys_of, make_of, alone, plain_request, valued_request, either, asked_by, request_of, asked};
 ghost use Rattle.sg_words.specs.Requests.Request.{Begin, Commit, Abort, Do};
 
 use crate::number::parse_number;
@@ -455,4 +455,14 @@ pub fn parse_request<'a>(text: &'a [u8], scratch: &'a mut [u8]) -> Asked<'a>
         return Asked::Blank;
     }
     asked_by(without_return(text), scratch)
+}
+
+/// What the words kept of a line ask for, with every verb: a verb and its arguments. `scratch` takes
+/// the bytes of values in hexadecimal digits.
+pub fn parse_words<'a>(words: &'a [u8], scratch: &'a mut [u8]) -> Option<Request<'a>>
+    requires { length words.now ≤ length scratch.old }
+    ensures { shown_option result ≡ request_of (words_of words.now) }
+{
+    let (word, rest) = next_word(words)?;
+    read_request(word, rest, scratch)
 }
