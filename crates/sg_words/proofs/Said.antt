@@ -112,11 +112,6 @@ pub join-spaced : (word : List ℕ) (words : List (List ℕ)) → join_with_byte
 join-spaced word [] = sym (append-nil word)
 join-spaced word (next ∷ words) = ap (λ (t : List ℕ). word ++ 32 ∷ t) (join-spaced next words)
 
--- the first of the kept words, with the later ones behind it
-pub spoken-joined : (line name word front : List ℕ) (rest after : List (List ℕ)) → words_of (strip_carriage_return line) ≡ name ∷ rest → rest ≡ word ∷ after → front ≡ word → front ++ spaced after ≡ spoken line
-spoken-joined line name word front rest after is_line is_rest is_front =
-    ap (λ (t : List ℕ). t ++ spaced after) is_front ∙ (sym (join-spaced word after) ∙ (sym (ap (join_with_byte 32) is_rest) ∙ sym (ap (λ (ws : List (List ℕ)). join_with_byte 32 (later_words ws)) is_line)))
-
 -- a line that names a transaction isn't too long
 pub order_of-short : (line name : List ℕ) (verb : Verb) → order_of line ≡ Txn name verb → length line ≤ most_line_bytes
 unfolding order_of

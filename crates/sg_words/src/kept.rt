@@ -1,12 +1,51 @@
-ghost use Rattle.std.specs.Prelude.{◌≡◌, ◌≤◌, length, take, Option, Some, None};
+ghost use Rattle.std.specs.Prelude.{◌≡◌, ◌≤◌, length, take, true, Option, Some, None};
+ghost use Rattle.std.specs.List.{join_with_byte};
+ghost use Rattle.sg_words.specs.Parse.{words_of};
 ghost use Rattle.sg_words.specs.Shown.{shown_op_option};
 ghost use Rattle.sg_words.specs.Order.{IfBuiltOp};
 ghost use Rattle.sg_words.specs.Spoken.{spoken, op_said};
 
 use crate::buffer::append;
 use crate::parse::{Verb, read_verb, without_return};
-use crate::split::next_word;
+use crate::split::{cut, next_word};
 use sg_model::Op;
+
+// Whether the words stand joined: with one space between each two, and none before the first or behind
+// the last.
+fn are_joined(text: &[u8]) -> bool
+    ensures { result ≡ true → join_with_byte 32 (words_of text.now) ≡ text.now }
+{
+    let mut rest = text;
+    'words: loop {
+        let (word, more) = cut(rest, b' ');
+        if word.is_empty() {
+            return false;
+        }
+        let Some(after) = more else {
+            return true;
+        };
+        rest = after;
+    }
+}
+
+// Puts words with one space between each two at the front of a buffer.
+fn join(text: &[u8], into: &mut [u8]) -> usize
+    requires { length text.now ≤ length into.old }
+    ensures within { result ≤ length text.now }
+    ensures words { take result into.new ≡ join_with_byte 32 (words_of text.now) }
+{
+    let Some((word, after)) = next_word(text) else {
+        return 0;
+    };
+    let mut end = append(into, 0, word);
+    let mut rest = after;
+    'words: while let Some((word, after)) = next_word(rest) {
+        let at = append(into, end, b" ");
+        end = append(into, at, word);
+        rest = after;
+    }
+    end
+}
 
 /// Puts the words of a line but for the first, with one space between each two, at the front of a
 /// buffer, and gives how many bytes these are. A CR at the line's end is no part of its words.
@@ -18,17 +57,11 @@ pub fn join_words(line: &[u8], into: &mut [u8]) -> usize
     let Some((_, rest)) = next_word(without_return(line)) else {
         return 0;
     };
-    let Some((word, after)) = next_word(rest) else {
-        return 0;
-    };
-    let mut end = append(into, 0, word);
-    let mut rest = after;
-    'words: while let Some((word, after)) = next_word(rest) {
-        let at = append(into, end, b" ");
-        end = append(into, at, word);
-        rest = after;
+    if are_joined(rest) {
+        append(into, 0, rest)
+    } else {
+        join(rest, into)
     }
-    end
 }
 
 /// The operation that the words kept of a line say, if they say one. `scratch` takes the bytes of a

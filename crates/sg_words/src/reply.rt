@@ -96,11 +96,7 @@ fn put_value(into: &mut [u8], value: &[u8]) -> usize
 }
 
 // Writes a reply's line by a buffer of N bytes.
-fn write_by<const N: usize, K: Sink>(
-    reply: &Reply,
-    value: &[u8],
-    out: &mut K,
-) -> Result<(), Failed>
+fn write_by<const N: usize, K: Sink>(reply: &Reply, value: &[u8], out: &mut K) -> Result<(), Failed>
     requires room { 64 + 2 * length value.now ≤ N }
     requires most { N ≤ 16448 }
     ensures took { OnOk result (Takes (K.taken out.old) (text_of_reply (shown_reply value.now reply.now)) (K.taken out.new)) }
