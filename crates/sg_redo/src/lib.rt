@@ -1,12 +1,14 @@
-//! Redo: what a record of the log does to the bytes of a page or of a band's window when history is
+//! Redo: what the records of a log do to the bytes of pages and of bands' windows when history is
 //! repeated.
 //!
-//! It stands on `sg_base`, `sg_ops`, `sg_slotted`, `sg_step` and `sg_segment`. It promises that a page has a
-//! record's operation done exactly where the page's number in the log is smaller and the operation
-//! fits, with the bytes that one function says, and that no byte changes otherwise; that a change of a
-//! band writes its bytes whatever stood there and marks exactly these; and, as laws of these
-//! functions, that any version of a page repeats to what all its records make, and that windows which
-//! differ only in bytes that the changes cover are the same after them.
+//! It stands on `sg_base`, `sg_record`, `sg_ops`, `sg_slotted`, `sg_step`, `sg_segment` and `sg_frames`. It
+//! promises that a page has a record's operation done exactly where the page's number in the log is
+//! smaller and the operation fits, with the bytes that one function says, and that no byte changes
+//! otherwise; that a change of a band writes its bytes whatever stood there and marks exactly these;
+//! that `replay` does so with the records of each unit, in their order, and leaves what one function
+//! of that unit says, so that no order of the units shows; and, as laws of these functions, that redo
+//! keeps a page of slots one, that any version of a page repeats to what all its records make, and that
+//! windows which differ only in bytes that the changes cover are the same after them.
 #![tactic(auto)]
 
 mod change;
