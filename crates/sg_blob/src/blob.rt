@@ -1,6 +1,6 @@
 ghost use Rattle.std.specs.Prelude.{◌≡◌, ◌+◌, ◌-◌, ◌*◌, ◌/◌, ◌%◌, ◌^◌, ◌<◌, ◌≤◌, length, take, drop, IfOk, OnOk, ⊤};
 ghost use Rattle.sg_blob.specs.Calls.{HasBlob, IfBlob, DidIf, HasBandsFor, CanWriteAt, IsPlaced, IsPaintedAt, IsResized, Made, CanRestore, Restored};
-ghost use Rattle.sg_blob.specs.Steps.{HasRaw, CanPaintBy};
+ghost use Rattle.sg_blob.specs.Steps.{HasRaw, IfRaw, CanPaintBy};
 ghost use Rattle.sg_ops.specs.Table.{table_of};
 ghost use Rattle.sg_space.specs.Pages.{CanTake};
 ghost use Rattle.sg_space.specs.View.{Counts, OnlyReads};
@@ -88,6 +88,7 @@ pub fn write<P: PageSpace>(
     ensures counts { Counts (P.view space.old) (P.view space.new) result }
     ensures did { OnOk result (DidIf (P.view space.old) (P.view space.new) root.0
         (CanWriteAt (P.view space.old) root.0 at (length bytes.now)) (IsPlaced at bytes.now)) }
+    ensures within { OnOk result (IfBlob (P.view space.old) root.0 (λ b. at ≤ length b.bytes)) }
 {
     let found = read_root(space, root)?;
     if at > found.count {
@@ -120,6 +121,7 @@ pub fn paint<P: PageSpace>(
     ensures did { OnOk result (DidIf (P.view space.old) (P.view space.new) root.0
         (λ b. at + count ≤ length b.bytes)
         (IsPaintedAt (table_of record_meaning range_meaning ops.now) at count code arg.now)) }
+    ensures within { OnOk result (IfBlob (P.view space.old) root.0 (λ b. at + count ≤ length b.bytes)) }
 {
     let found = read_root(space, root)?;
     if at > found.count || count > found.count - at {
@@ -164,6 +166,7 @@ pub fn restore_len<P: PageSpace>(
     requires { HasRaw (P.view space.old) root.0 (CanRestore size) }
     ensures counts { Counts (P.view space.old) (P.view space.new) result }
     ensures did { OnOk result (Restored (P.view space.old) (P.view space.new) root.0 size) }
+    ensures within { OnOk result (IfRaw (P.view space.old) root.0 (λ r. size ≤ r.peak)) }
 {
     let found = read_root(space, root)?;
     if size > found.peak {

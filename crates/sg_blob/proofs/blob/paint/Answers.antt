@@ -58,3 +58,10 @@ returns-clause-did g c =
           let one = did.turns (kept.keeps.told t) (raw_of b) k.raw (record { from = omega arith; within = omega arith }) in
           (blob_of (with_bytes c.args.at (rendered op c.args.arg.now c.args.at c.args.count) (raw_of b)), whole _ (after_reads kept shows one) (omega arith) h.least h.most, record { bytes = refl; peak = refl; bands = refl });
     }
+
+pub returns-clause-within : goal.returns-clause-within
+returns-clause-within g c = λ shows b h.
+    let count = (c.in_ok-found.ensures.read shows (raw_of b) h.raw).0 in
+    let from = c.if-at-found.false in
+    let to = c.if-count-found.false in
+    omega arith

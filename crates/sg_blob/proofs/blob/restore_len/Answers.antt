@@ -35,3 +35,9 @@ returns-clause-did g c =
           let peak = (c.in_ok-found.ensures.read shows r h).1 in
           restored_blob can (subst (λ (n : ℕ). StandsRaw c.args.root.0 (with_root c.args.size n r) (g.P.PageSpace.view c.set_root.new.space).space) peak (set.turns (kept.keeps.told t) r (still_raw kept shows h) tt).raw);
     }
+
+pub returns-clause-within : goal.returns-clause-within
+returns-clause-within g c = λ shows r h.
+    let peak = (c.in_ok-found.ensures.read shows r h).1 in
+    let test = c.if-size-found.false in
+    omega arith

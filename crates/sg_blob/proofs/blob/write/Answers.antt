@@ -98,3 +98,9 @@ returns-clause-did g c =
             record { bytes = ap (λ (xs : List ℕ). overwritten xs c.args.at c.args.bytes.now) (one.2).same_bytes; peak = omega arith },
           );
     }
+
+pub returns-clause-within : goal.returns-clause-within
+returns-clause-within g c = λ shows b h.
+    let count = (c.in_ok-found.ensures.read shows (raw_of b) h.raw).0 in
+    let test = c.if-at-found.false in
+    omega arith
