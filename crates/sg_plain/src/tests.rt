@@ -271,3 +271,24 @@ fn a_refusal_is_known_before(rt: HostRuntime) -> Result<(), Fail> {
     assert_eq!(rt; refused(&objects, &ops, &Op::Len { name }), None);
     Ok(())
 }
+
+#[test]
+fn a_copy_stays_as_it_was(rt: HostRuntime) -> Result<(), Fail> {
+    let alloc = rt.alloc();
+    let ops = Ops::new(alloc)?;
+    let name = Name::new(b"b").ok_or("a name")?;
+    let mut objects = Objects::empty(alloc);
+    let (made, _) = outcome(&mut objects, alloc, &ops, &Op::MakeBlob { name });
+    assert_eq!(rt; made, done());
+    let mut copy = objects.copy()?;
+    let write = Op::Write {
+        name,
+        at: 0,
+        bytes: b"x",
+    };
+    let (written, _) = outcome(&mut objects, alloc, &ops, &write);
+    assert_eq!(rt; written, done());
+    let (length, _) = outcome(&mut copy, alloc, &ops, &Op::Len { name });
+    assert_eq!(rt; length, Came::Reply(Reply::Number(0)));
+    Ok(())
+}
