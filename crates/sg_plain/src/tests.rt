@@ -272,23 +272,32 @@ fn a_refusal_is_known_before(rt: HostRuntime) -> Result<(), Fail> {
     Ok(())
 }
 
+// How many keys a table has, if there is one with this name.
+fn key_count(objects: &Objects, alloc: Global, name: Name) -> Result<Option<usize>, Fail> {
+    Ok(objects.keys(alloc, name)?.ok().map(|keys| keys.len()))
+}
+
 #[test]
 fn a_copy_stays_as_it_was(rt: HostRuntime) -> Result<(), Fail> {
     let alloc = rt.alloc();
     let ops = Ops::new(alloc)?;
-    let name = Name::new(b"b").ok_or("a name")?;
+    let name = Name::new(b"t").ok_or("a name")?;
+    let key = b"k".as_slice();
     let mut objects = Objects::empty(alloc);
-    let (made, _) = outcome(&mut objects, alloc, &ops, &Op::MakeBlob { name });
+    let (made, _) = outcome(&mut objects, alloc, &ops, &Op::MakeTable { name });
     assert_eq!(rt; made, done());
-    let mut copy = objects.copy()?;
-    let write = Op::Write {
+    let put = Op::Put {
         name,
-        at: 0,
-        bytes: b"x",
+        key,
+        value: b"v",
     };
-    let (written, _) = outcome(&mut objects, alloc, &ops, &write);
-    assert_eq!(rt; written, done());
-    let (length, _) = outcome(&mut copy, alloc, &ops, &Op::Len { name });
-    assert_eq!(rt; length, Came::Reply(Reply::Number(0)));
+    let (new, _) = outcome(&mut objects, alloc, &ops, &put);
+    assert_eq!(rt; new, Came::Reply(Reply::New));
+    let copy = objects.copy()?;
+    let (gone, _) = outcome(&mut objects, alloc, &ops, &Op::Del { name, key });
+    assert_eq!(rt; gone, done());
+    assert_eq!(rt; key_count(&objects, alloc, name)?, Some(0));
+    assert_eq!(rt; key_count(&copy, alloc, name)?, Some(1));
+    assert_eq!(rt; copy.list(alloc)?.len(), 1);
     Ok(())
 }
