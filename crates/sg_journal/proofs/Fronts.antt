@@ -15,10 +15,10 @@ use Rattle.sg_run.specs.Run.{Event}
 use Rattle.sg_run.specs.Kept.{is_kept, kept_ops, if_replied}
 use Rattle.sg_run.specs.Kept as run_kept
 use Rattle.sg_run.proofs.Log.{replay_front}
-use Rattle.sg_journal.specs.Lines.{op_said, lines_by, commit_records, committed_lines}
+use Rattle.sg_journal.specs.Lines.{op_said, lines_by, commits_in, committed_lines}
 use Rattle.sg_journal.specs.Stands.{after_op, after_line, replay}
 use Rattle.sg_journal.specs.Logs.{AreLogged, FrontsStand}
-use Rattle.sg_journal.proofs.Records.{map-append, replay-append, lines_by-append, lines_none, commit_records-append, committed_before, apart-front, ends-front, committed_lines-apart}
+use Rattle.sg_journal.proofs.Records.{map-append, replay-append, lines_by-append, lines_none, commits_in-append, committed_before, apart-front, ends-front, committed_lines-apart}
 
 -- a replay by what the words say
 abbrev replay_said : Operations → List (Option Op) → Option Objects → Option Objects
@@ -63,11 +63,11 @@ logged_lines rs (t ∷ ts) [] h = absurd h
 
 pub fronts_stand : FrontsStand
 fronts_stand t x old ds ps k h =
-    let n : ℕ = length (commit_records ds) in
-    let tied : AreLogged ds (commit_records ds) (take n x.so_far.commits) = front_logged ds ps (commit_records ds) (commit_records ps) x.so_far.commits
-    (λ u i. lines_none u ps (committed_before u ds ps h.ends i)) (subst (λ (ts : List ℕ). AreLogged (ds ++ ps) ts x.so_far.commits) (commit_records-append ds ps) h.committed) in
+    let n : ℕ = length (commits_in ds) in
+    let tied : AreLogged ds (commits_in ds) (take n x.so_far.commits) = front_logged ds ps (commits_in ds) (commits_in ps) x.so_far.commits
+    (λ u i. lines_none u ps (committed_before u ds ps h.ends i)) (subst (λ (ts : List ℕ). AreLogged (ds ++ ps) ts x.so_far.commits) (commits_in-append ds ps) h.committed) in
     ap (λ (ls : List (List ℕ)). replay t ls (Some empty)) (committed_lines-apart old ds (apart-front old ds ps h.apart) (ends-front ds ps h.ends))
-    ∙ (replay-append t (committed_lines old) (flat_map (λ u. lines_by u ds) (commit_records ds)) (Some empty)
-    ∙ (ap (λ (s : Option Objects). replay t (flat_map (λ u. lines_by u ds) (commit_records ds)) s) h.found
-    ∙ (replay-said t (flat_map (λ u. lines_by u ds) (commit_records ds)) (kept_ops (in_order (take n x.so_far.commits))) (Some x.so_far.first) (logged_lines ds (commit_records ds) (take n x.so_far.commits) tied)
+    ∙ (replay-append t (committed_lines old) (flat_map (λ u. lines_by u ds) (commits_in ds)) (Some empty)
+    ∙ (ap (λ (s : Option Objects). replay t (flat_map (λ u. lines_by u ds) (commits_in ds)) s) h.found
+    ∙ (replay-said t (flat_map (λ u. lines_by u ds) (commits_in ds)) (kept_ops (in_order (take n x.so_far.commits))) (Some x.so_far.first) (logged_lines ds (commits_in ds) (take n x.so_far.commits) tied)
     ∙ replay_front t x k.replies n)))

@@ -1,3 +1,13 @@
 pub mod Records
 pub mod Fronts
 pub mod Logging
+pub mod Tails
+pub mod Standing
+pub mod Listing
+pub mod Steps
+pub mod Changes
+pub mod Folding
+pub mod Locking
+pub mod Along
+pub mod Failing
+pub mod Performing

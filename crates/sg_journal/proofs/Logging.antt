@@ -16,10 +16,10 @@ use Rattle.sg_record.specs.Plain.{Record}
 use Rattle.sg_record.specs.Plain.Record.{Begin, Commit, Line}
 use Rattle.sg_run.specs.Run.{Event, Run, live_objects, began, committed, aborted, with_locks, did}
 use Rattle.sg_run.specs.Kept.{is_kept, kept_ops}
-use Rattle.sg_run.proofs.Serial.{Stays}
-use Rattle.sg_journal.specs.Lines.{op_said, lines_by, commit_records}
+use Rattle.sg_run.specs.Serial.{IsSound}
+use Rattle.sg_journal.specs.Lines.{op_said, lines_by, commits_in}
 use Rattle.sg_journal.specs.Logs.{NoneOf, AreApart, EndsAtCommit, IsLogged, AreLogged, Logs}
-use Rattle.sg_journal.proofs.Records.{map-append, lines_by-append, lines_none, commit_records-append, commits_none, none-front, none-back, apart-more, ends-more}
+use Rattle.sg_journal.proofs.Records.{map-append, lines_by-append, lines_none, commits_in-append, commits_none, none-front, none-back, apart-more, ends-more}
 use Rattle.sg_journal.proofs.Fronts.{kept_ops-append}
 
 -- what is logged of transactions stays so behind records that have no lines of theirs
@@ -38,15 +38,16 @@ logged_last rs (u ∷ ts) (fs ∷ ess) t es h e = (h.0, logged_last rs ts ess t 
 logged_last rs [] (fs ∷ ess) t es h e = absurd h
 logged_last rs (u ∷ ts) [] t es h e = absurd h
 
-no_entries : (n c t : ℕ) (es : List Event) → AreBelow n c es → n ≤ t → filter (is_own t) es ≡ []
+-- a transaction above all others has no entries
+pub no_entries : (n c t : ℕ) (es : List Event) → AreBelow n c es → n ≤ t → filter (is_own t) es ≡ []
 no_entries n c t [] h i = refl
 no_entries n c t (e ∷ es) h i = let a : e.transaction < n = h.0.0 in not_chosen (is_own t e) (e ∷ filter (is_own t) es) (filter (is_own t) es) (ne_eqb e.transaction t (λ q. absurd (omega (arith, q)))) ∙ no_entries n c t es h.1 i
 
 module _ (t : Operations) where
   -- a transaction has begun, of which there is no record
-  pub begin_logs : (x : Run) (old new : List Record) (u previous : ℕ) (name : List ℕ) → x.so_far.next ≤ u → NoneOf u (old ++ new) → Stays t x → Logs t x old new → Logs t (began x u name) old (new ++ Begin u previous ∷ [])
+  pub begin_logs : (x : Run) (old new : List Record) (u previous : ℕ) (name : List ℕ) → x.so_far.next ≤ u → NoneOf u (old ++ new) → IsSound t x → Logs t x old new → Logs t (began x u name) old (new ++ Begin u previous ∷ [])
   begin_logs x old new u previous name above none k h =
-      let same : commit_records (new ++ Begin u previous ∷ []) ≡ commit_records new = commit_records-append new (Begin u previous ∷ []) ∙ append_nil (commit_records new) in
+      let same : commits_in (new ++ Begin u previous ∷ []) ≡ commits_in new = commits_in-append new (Begin u previous ∷ []) ∙ append_nil (commits_in new) in
       let lines : (v : ℕ) → lines_by v (new ++ Begin u previous ∷ []) ≡ lines_by v new = λ v. lines_by-append v new (Begin u previous ∷ []) ∙ append_nil (lines_by v new) in
       let either : (v : ℕ) → is_live (began x u name).so_far.live v ≡ true → (is_live x.so_far.live v ≡ true) ⊎ (u ≡ v) = λ v y. (elim (or_true (is_live x.so_far.live v) (is_live ((record { name = name; transaction = u; marks = [] }) ∷ []) v) (sym (live-append x.so_far.live ((record { name = name; transaction = u; marks = [] }) ∷ []) v) ∙ y)) [
         | inl a ↦ inl a
@@ -55,7 +56,7 @@ module _ (t : Operations) where
       record {
         found = h.found;
         apart = apart-more old new (Begin u previous) h.apart (none-front u old new none);
-        committed = subst (λ (ts : List ℕ). AreLogged (new ++ Begin u previous ∷ []) ts x.so_far.commits) (sym same) (logged_more new (Begin u previous ∷ []) (commit_records new) x.so_far.commits (λ v i. refl) h.committed);
+        committed = subst (λ (ts : List ℕ). AreLogged (new ++ Begin u previous ∷ []) ts x.so_far.commits) (sym same) (logged_more new (Begin u previous ∷ []) (commits_in new) x.so_far.commits (λ v i. refl) h.committed);
         open_lines = λ v y. ap (λ (ls : List (List ℕ)). map op_said ls) (lines v) ∙ (elim (either v y) [
           | inl a ↦ h.open_lines v a
           | inr q ↦ (let above_v : x.so_far.next ≤ v = omega (arith, q) in
@@ -88,7 +89,7 @@ module _ (t : Operations) where
       ∙ sym (ap (λ (es : List Event). map Some (kept_ops es)) (chosen (is_own u e) (e ∷ []) [] (eq-eqb e.transaction u o)) ∙ ap (λ b. map Some (map (λ (f : Event). f.op) (cond b (e ∷ []) []))) q))
   own_record u previous words e false q o said = sym (ap (λ (es : List Event). map Some (kept_ops es)) (chosen (is_own u e) (e ∷ []) [] (eq-eqb e.transaction u o)) ∙ ap (λ b. map Some (map (λ (f : Event). f.op) (cond b (e ∷ []) []))) q)
 
-  no_commit : (u previous : ℕ) (words : List ℕ) (b : Bool) → commit_records (record_of u previous words b) ≡ []
+  no_commit : (u previous : ℕ) (words : List ℕ) (b : Bool) → commits_in (record_of u previous words b) ≡ []
   no_commit u previous words true = refl
   no_commit u previous words false = refl
 
@@ -103,11 +104,11 @@ module _ (t : Operations) where
       let e : Event = event_of x u op in
       let b : Bool = is_kept e in
       let more : List Record = record_of u previous words b in
-      let same : commit_records (new ++ more) ≡ commit_records new = commit_records-append new more ∙ (ap (λ (us : List ℕ). commit_records new ++ us) (no_commit u previous words b) ∙ append_nil (commit_records new)) in
+      let same : commits_in (new ++ more) ≡ commits_in new = commits_in-append new more ∙ (ap (λ (us : List ℕ). commits_in new ++ us) (no_commit u previous words b) ∙ append_nil (commits_in new)) in
       record {
         found = h.found;
         apart = apart_by b;
-        committed = subst (λ (ts : List ℕ). AreLogged (new ++ more) ts x.so_far.commits) (sym same) (logged_more new more (commit_records new) x.so_far.commits (λ v i. lines_record u v previous words b (λ q. h.uncommitted u there (subst (λ (w : ℕ). Among w (commit_records new)) (sym q) i))) h.committed);
+        committed = subst (λ (ts : List ℕ). AreLogged (new ++ more) ts x.so_far.commits) (sym same) (logged_more new more (commits_in new) x.so_far.commits (λ v i. lines_record u v previous words b (λ q. h.uncommitted u there (subst (λ (w : ℕ). Among w (commits_in new)) (sym q) i))) h.committed);
         open_lines = λ v y. ap (λ (ls : List (List ℕ)). map op_said ls) (lines_by-append v new more) ∙ (map-append op_said (lines_by v new) (lines_by v more)
             ∙ (ap (λ (os : List (Option Op)). os ++ map op_said (lines_by v more)) (h.open_lines v y) ∙ (ap (λ (os : List (Option Op)). map Some (kept_ops (filter (is_own v) x.so_far.history)) ++ os) (last v (u == v) refl)
             ∙ (sym (map-append Some (kept_ops (filter (is_own v) x.so_far.history)) (kept_ops (filter (is_own v) (e ∷ [])))) ∙ (ap (λ (ops : List Op). map Some ops) (sym (kept_ops-append (filter (is_own v) x.so_far.history) (filter (is_own v) (e ∷ []))))
@@ -140,10 +141,10 @@ module _ (t : Operations) where
       record {
         found = h.found;
         apart = apart-more old new (Commit u previous) h.apart (h.fresh u there);
-        committed = subst (λ (ts : List ℕ). AreLogged (new ++ more) ts (x.so_far.commits ++ filter (is_own u) x.so_far.history ∷ [])) (sym (commit_records-append new more))
-            (logged_last (new ++ more) (commit_records new) x.so_far.commits u (filter (is_own u) x.so_far.history) (logged_more new more (commit_records new) x.so_far.commits (λ v i. refl) h.committed) (ap (λ (ls : List (List ℕ)). map op_said ls) (lines u) ∙ h.open_lines u there));
+        committed = subst (λ (ts : List ℕ). AreLogged (new ++ more) ts (x.so_far.commits ++ filter (is_own u) x.so_far.history ∷ [])) (sym (commits_in-append new more))
+            (logged_last (new ++ more) (commits_in new) x.so_far.commits u (filter (is_own u) x.so_far.history) (logged_more new more (commits_in new) x.so_far.commits (λ v i. refl) h.committed) (ap (λ (ls : List (List ℕ)). map op_said ls) (lines u) ∙ h.open_lines u there));
         open_lines = λ v y. ap (λ (ls : List (List ℕ)). map op_said ls) (lines v) ∙ h.open_lines v (still_live x u v y).0;
-        uncommitted = λ v y i. (let s = still_live x u v y in elim (among_append v (commit_records new) (u ∷ []) (subst (λ (ts : List ℕ). Among v ts) (commit_records-append new more) i)) [
+        uncommitted = λ v y i. (let s = still_live x u v y in elim (among_append v (commits_in new) (u ∷ []) (subst (λ (ts : List ℕ). Among v ts) (commits_in-append new more) i)) [
           | inl j ↦ h.uncommitted v s.0 j
           | inr j ↦ elim j [ inl q ↦ s.1 q | inr n ↦ n ]
         ]);

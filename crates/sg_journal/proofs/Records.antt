@@ -10,7 +10,7 @@ use Rattle.sg_ops.specs.Table.{Table as Operations}
 use Rattle.sg_model.specs.Objects.{Objects}
 use Rattle.sg_record.specs.Plain.{Record, transaction_of}
 use Rattle.sg_record.specs.Plain.Record.{Begin, Commit, Line}
-use Rattle.sg_journal.specs.Lines.{lines_by, commit_records, once, commits_in, committed_lines}
+use Rattle.sg_journal.specs.Lines.{lines_by, commits_in, once, committed_lines}
 use Rattle.sg_journal.specs.Stands.{replay, after_line}
 use Rattle.sg_journal.specs.Logs.{NoneOf, AreApart, EndsAtCommit}
 
@@ -37,11 +37,11 @@ lines_by-append u (Begin v p ∷ rs) ss = lines_by-append u rs ss
 lines_by-append u (Commit v p ∷ rs) ss = lines_by-append u rs ss
 lines_by-append u (Line v p w ∷ rs) ss = chosen-append (v == u) w (lines_by u rs) (lines_by u ss) (lines_by u (rs ++ ss)) (lines_by-append u rs ss)
 
-pub commit_records-append : (rs ss : List Record) → commit_records (rs ++ ss) ≡ commit_records rs ++ commit_records ss
-commit_records-append [] ss = refl
-commit_records-append (Begin u p ∷ rs) ss = commit_records-append rs ss
-commit_records-append (Commit u p ∷ rs) ss = ap (λ (ts : List ℕ). u ∷ ts) (commit_records-append rs ss)
-commit_records-append (Line u p w ∷ rs) ss = commit_records-append rs ss
+pub commits_in-append : (rs ss : List Record) → commits_in (rs ++ ss) ≡ commits_in rs ++ commits_in ss
+commits_in-append [] ss = refl
+commits_in-append (Begin u p ∷ rs) ss = commits_in-append rs ss
+commits_in-append (Commit u p ∷ rs) ss = ap (λ (ts : List ℕ). u ∷ ts) (commits_in-append rs ss)
+commits_in-append (Line u p w ∷ rs) ss = commits_in-append rs ss
 
 -- a transaction without records has no lines and no commit
 pub lines_none : (u : ℕ) (rs : List Record) → NoneOf u rs → lines_by u rs ≡ []
@@ -50,7 +50,7 @@ lines_none u (Begin v p ∷ rs) h = lines_none u rs h.1
 lines_none u (Commit v p ∷ rs) h = lines_none u rs h.1
 lines_none u (Line v p w ∷ rs) h = not_chosen (v == u) (w ∷ lines_by u rs) (lines_by u rs) (ne_eqb v u h.0) ∙ lines_none u rs h.1
 
-pub commits_none : (u : ℕ) (rs : List Record) → NoneOf u rs → Among u (commit_records rs) → ⊥
+pub commits_none : (u : ℕ) (rs : List Record) → NoneOf u rs → Among u (commits_in rs) → ⊥
 commits_none u [] h i = i
 commits_none u (Begin v p ∷ rs) h i = commits_none u rs h.1 i
 commits_none u (Commit v p ∷ rs) h i = elim i [ inl q ↦ h.0 (sym q) | inr j ↦ commits_none u rs h.1 j ]
@@ -88,14 +88,14 @@ one_end (Commit u p) = (tt, tt)
 one_end (Line u p w) = tt
 
 -- one more record, of a transaction that hasn't committed
-pub ends-more : (rs : List Record) (r : Record) → EndsAtCommit rs → (Among (transaction_of r) (commit_records rs) → ⊥) → EndsAtCommit (rs ++ r ∷ [])
+pub ends-more : (rs : List Record) (r : Record) → EndsAtCommit rs → (Among (transaction_of r) (commits_in rs) → ⊥) → EndsAtCommit (rs ++ r ∷ [])
 ends-more [] r h n = one_end r
 ends-more (Begin u p ∷ rs) r h n = ends-more rs r h n
 ends-more (Commit u p ∷ rs) r h n = (none-more u rs r h.0 (λ q. n (inl q)), ends-more rs r h.1 (λ i. n (inr i)))
 ends-more (Line u p w ∷ rs) r h n = ends-more rs r h n
 
 -- behind a front of records nothing is of those that it commits
-pub committed_before : (u : ℕ) (ds ps : List Record) → EndsAtCommit (ds ++ ps) → Among u (commit_records ds) → NoneOf u ps
+pub committed_before : (u : ℕ) (ds ps : List Record) → EndsAtCommit (ds ++ ps) → Among u (commits_in ds) → NoneOf u ps
 committed_before u [] ps h i = absurd i
 committed_before u (Begin v p ∷ ds) ps h i = committed_before u ds ps h i
 committed_before u (Commit v p ∷ ds) ps h i = elim i [
@@ -116,10 +116,10 @@ once-append (x ∷ xs) ys n e =
     ap (λ (vs : List ℕ). x ∷ filter (λ v. not (v == x)) vs) (once-append xs ys (λ u i j. n u (inr i) j) e)
     ∙ ap (λ (vs : List ℕ). x ∷ vs) (filter_append (λ v. not (v == x)) (once xs) ys ∙ ap (λ (vs : List ℕ). filter (λ v. not (v == x)) (once xs) ++ vs) (without_none x ys (λ i. n x (inl refl) i)))
 
-pub once-ended : (rs : List Record) → EndsAtCommit rs → once (commit_records rs) ≡ commit_records rs
+pub once-ended : (rs : List Record) → EndsAtCommit rs → once (commits_in rs) ≡ commits_in rs
 once-ended [] h = refl
 once-ended (Begin u p ∷ rs) h = once-ended rs h
-once-ended (Commit u p ∷ rs) h = ap (λ (vs : List ℕ). u ∷ filter (λ v. not (v == u)) vs) (once-ended rs h.1) ∙ ap (λ (vs : List ℕ). u ∷ vs) (without_none u (commit_records rs) (λ i. commits_none u rs h.0 i))
+once-ended (Commit u p ∷ rs) h = ap (λ (vs : List ℕ). u ∷ filter (λ v. not (v == u)) vs) (once-ended rs h.1) ∙ ap (λ (vs : List ℕ). u ∷ vs) (without_none u (commits_in rs) (λ i. commits_none u rs h.0 i))
 once-ended (Line u p w ∷ rs) h = once-ended rs h
 
 in_once : (u : ℕ) (ts : List ℕ) → Among u (once ts) → Among u ts
@@ -127,14 +127,14 @@ in_once u [] i = i
 in_once u (t ∷ ts) i = elim i [ inl q ↦ inl q | inr j ↦ inr (in_once u ts (among_filter (λ v. not (v == t)) u (once ts) j).0) ]
 
 -- what commits in the old records has none among the new ones
-apart_none : (u : ℕ) (old new : List Record) → AreApart old new → Among u (commit_records old) → NoneOf u new
+apart_none : (u : ℕ) (old new : List Record) → AreApart old new → Among u (commits_in old) → NoneOf u new
 apart_none u [] new h i = absurd i
 apart_none u (Begin v p ∷ old) new h i = apart_none u old new h.1 i
 apart_none u (Commit v p ∷ old) new h i = elim i [ inl q ↦ subst (λ (k : ℕ). NoneOf k new) (sym q) h.0 | inr j ↦ apart_none u old new h.1 j ]
 apart_none u (Line v p w ∷ old) new h i = apart_none u old new h.1 i
 
 -- and what commits in the new ones has none among the old ones
-pub fresh_commit : (u : ℕ) (old new : List Record) → AreApart old new → Among u (commit_records new) → NoneOf u old
+pub fresh_commit : (u : ℕ) (old new : List Record) → AreApart old new → Among u (commits_in new) → NoneOf u old
 fresh_commit u [] new h i = tt
 fresh_commit u (r ∷ old) new h i = ((λ q. commits_none u new (subst (λ (k : ℕ). NoneOf k new) q h.0) i), fresh_commit u old new h.1 i)
 
@@ -143,13 +143,13 @@ same_lines f g [] h = refl
 same_lines f g (t ∷ ts) h = ap (λ (ls : List (List ℕ)). ls ++ flat_map f ts) (h t (inl refl)) ∙ ap (λ (ls : List (List ℕ)). g t ++ ls) (same_lines f g ts (λ u i. h u (inr i)))
 
 -- the committed lines of records of some transactions, and then of others
-pub committed_lines-apart : (old new : List Record) → AreApart old new → EndsAtCommit new → committed_lines (old ++ new) ≡ committed_lines old ++ flat_map (λ u. lines_by u new) (commit_records new)
+pub committed_lines-apart : (old new : List Record) → AreApart old new → EndsAtCommit new → committed_lines (old ++ new) ≡ committed_lines old ++ flat_map (λ u. lines_by u new) (commits_in new)
 committed_lines-apart old new apart ends =
-    let cs : List ℕ = commit_records new in
-    let all : commits_in (old ++ new) ≡ commits_in old ++ cs = ap once (commit_records-append old new) ∙ once-append (commit_records old) cs (λ u i j. commits_none u new (apart_none u old new apart i) j) (once-ended new ends) in
-    let first : flat_map (λ u. lines_by u (old ++ new)) (commits_in old) ≡ committed_lines old = same_lines (λ u. lines_by u (old ++ new)) (λ u. lines_by u old) (commits_in old)
-    (λ u i. lines_by-append u old new ∙ (ap (λ (ls : List (List ℕ)). lines_by u old ++ ls) (lines_none u new (apart_none u old new apart (in_once u (commit_records old) i))) ∙ append-nil (lines_by u old))) in
+    let cs : List ℕ = commits_in new in
+    let all : once (commits_in (old ++ new)) ≡ once (commits_in old) ++ cs = ap once (commits_in-append old new) ∙ once-append (commits_in old) cs (λ u i j. commits_none u new (apart_none u old new apart i) j) (once-ended new ends) in
+    let first : flat_map (λ u. lines_by u (old ++ new)) (once (commits_in old)) ≡ committed_lines old = same_lines (λ u. lines_by u (old ++ new)) (λ u. lines_by u old) (once (commits_in old))
+    (λ u i. lines_by-append u old new ∙ (ap (λ (ls : List (List ℕ)). lines_by u old ++ ls) (lines_none u new (apart_none u old new apart (in_once u (commits_in old) i))) ∙ append-nil (lines_by u old))) in
     let second : flat_map (λ u. lines_by u (old ++ new)) cs ≡ flat_map (λ u. lines_by u new) cs = same_lines (λ u. lines_by u (old ++ new)) (λ u. lines_by u new) cs
     (λ u i. lines_by-append u old new ∙ ap (λ (ls : List (List ℕ)). ls ++ lines_by u new) (lines_none u old (fresh_commit u old new apart i))) in
-    ap (λ (ts : List ℕ). flat_map (λ u. lines_by u (old ++ new)) ts) all ∙ (flat_map-append (λ u. lines_by u (old ++ new)) (commits_in old) cs
+    ap (λ (ts : List ℕ). flat_map (λ u. lines_by u (old ++ new)) ts) all ∙ (flat_map-append (λ u. lines_by u (old ++ new)) (once (commits_in old)) cs
     ∙ (ap (λ (ls : List (List ℕ)). ls ++ flat_map (λ u. lines_by u (old ++ new)) cs) first ∙ ap (λ (ls : List (List ℕ)). committed_lines old ++ ls) second))

@@ -28,21 +28,18 @@ lines_by transaction (Commit t previous ∷ rs) = lines_by transaction rs
 lines_by transaction (Line t previous words ∷ rs) = if t == transaction then words ∷ lines_by transaction rs else lines_by transaction rs
 
 -- the transactions of the commit records, in order
-abbrev pub commit_records : List Record → List ℕ
-commit_records [] = []
-commit_records (Begin t previous ∷ rs) = commit_records rs
-commit_records (Commit t previous ∷ rs) = t ∷ commit_records rs
-commit_records (Line t previous words ∷ rs) = commit_records rs
+abbrev pub commits_in : List Record → List ℕ
+commits_in [] = []
+commits_in (Begin t previous ∷ rs) = commits_in rs
+commits_in (Commit t previous ∷ rs) = t ∷ commits_in rs
+commits_in (Line t previous words ∷ rs) = commits_in rs
 
 -- each of these numbers once, where it stands first
 abbrev pub once : List ℕ → List ℕ
 once [] = []
 once (t ∷ ts) = t ∷ filter (λ u. not (u == t)) (once ts)
 
--- the transactions that are committed, each once, in order of their first commit records
-abbrev pub commits_in : List Record → List ℕ
-commits_in rs = once (commit_records rs)
-
--- the lines of the committed transactions, one whole transaction after another
+-- The lines of the committed transactions, one whole transaction after another in order of their first commit records:
+-- a transaction counts once, however many commit records it has
 abbrev pub committed_lines : List Record → List (List ℕ)
-committed_lines rs = flat_map (λ t. lines_by t rs) (commits_in rs)
+committed_lines rs = flat_map (λ t. lines_by t rs) (once (commits_in rs))

@@ -10,7 +10,7 @@ use Rattle.sg_record.specs.Plain.Record.{Begin, Commit, Line}
 use Rattle.sg_run.specs.Run.{Event, Run, objects_after}
 use Rattle.sg_run.specs.Kept.{kept_ops}
 use Rattle.sg_run.specs.Serial.{IsSerial}
-use Rattle.sg_journal.specs.Lines.{op_said, lines_by, commit_records, committed_lines}
+use Rattle.sg_journal.specs.Lines.{op_said, lines_by, commits_in, committed_lines}
 use Rattle.sg_journal.specs.Stands.{replay}
 
 -- no record is of this transaction
@@ -47,13 +47,13 @@ AreLogged rs (t ∷ ts) [] = ⊥
 pub record Logs (t : Operations) (x : Run) (old new : List Record) : Type 0 where
   pub found : replay t (committed_lines old) (Some empty) ≡ Some x.so_far.first
   pub apart : AreApart old new
-  pub committed : AreLogged new (commit_records new) x.so_far.commits
+  pub committed : AreLogged new (commits_in new) x.so_far.commits
   pub open_lines : (u : ℕ) → is_live x.so_far.live u ≡ true → IsLogged new u (filter (is_own u) x.so_far.history)
-  pub uncommitted : (u : ℕ) → is_live x.so_far.live u ≡ true → Among u (commit_records new) → ⊥
+  pub uncommitted : (u : ℕ) → is_live x.so_far.live u ≡ true → Among u (commits_in new) → ⊥
   pub fresh : (u : ℕ) → is_live x.so_far.live u ≡ true → NoneOf u old
   pub ends : EndsAtCommit new
 
 -- each front of a log that keeps a run stands for the objects after as many of the run's commits as it has
 abbrev pub FrontsStand : Type 0
 FrontsStand = (t : Operations) (x : Run) (old front back : List Record) → IsSerial t x → Logs t x old (front ++ back)
-    → replay t (committed_lines (old ++ front)) (Some empty) ≡ Some (objects_after t (length (commit_records front)) x)
+    → replay t (committed_lines (old ++ front)) (Some empty) ≡ Some (objects_after t (length (commits_in front)) x)

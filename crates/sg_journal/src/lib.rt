@@ -1,11 +1,18 @@
 //! The plain store for several transactions at a time: objects in memory, and a log of the changing
 //! lines that got a reply.
 //!
-//! It stands on `sg_base`, `sg_disk`, `sg_ops`, `sg_serial`, `sg_model`, `sg_record`, `sg_log`,
-//! `sg_words` and `sg_run`. So far it has the definitions of what a log stands for and of what it keeps
-//! of a run, and the law that each front of such a log stands for a front of the run's commits.
+//! It stands on `sg_base`, `sg_disk`, `sg_ops`, `sg_serial`, `sg_model`, `sg_plain`, `sg_locks`,
+//! `sg_record`, `sg_log`, `sg_words` and `sg_run`. It promises that a store shows a run of the lines that
+//! it was given, which is serial, and that at each moment a crash leaves what stands for the objects
+//! after a front of its commits, with each one that was answered.
 #![tactic(auto)]
 
+mod kept;
 mod law;
+mod line;
+mod live;
+mod store;
 
 pub use law::fronts_stand;
+pub use live::MOST_LIVE;
+pub use store::Store;

@@ -54,6 +54,10 @@ module _ (t : Operations) where
       go true q s f h = ap (λ r. replay t (kept_ops es) r) (all_replied s e h.0 (and_true (is_changing e.op) (is_ok e.out) q).1) ∙ f (step t s e.op).1 h.1
       go false q s f h = f s h
 
+-- and their operations do again what the entries did, each with a reply
+pub replay_kept : (t : Operations) (s : Objects) (es : List Event) → Replays (step t) s es → replay t (kept_ops es) (Some s) ≡ Some (run (step t) s es)
+replay_kept t s es h = let k = kept_run t s es h in replayed t s es k.1 ∙ ap Some k.0
+
 Replays-front : (t : Operations) (s : Objects) (xs ys : List Event) → Replays (step t) s (xs ++ ys) → Replays (step t) s xs
 Replays-front t s [] ys h = tt
 Replays-front t s (e ∷ xs) ys h = (h.0, Replays-front t (step t s e.op).1 xs ys h.1)
@@ -67,8 +71,7 @@ pub replay_front : (t : Operations) (x : Run) → Replays (step t) x.so_far.firs
 replay_front t x h n =
     let r = split_first n x.so_far.commits in
     let all : Replays (step t) x.so_far.first (in_order (take n x.so_far.commits)) = Replays-front t x.so_far.first (in_order (take n x.so_far.commits)) r.0 (subst (λ (es : List Event). Replays (step t) x.so_far.first es) r.1 h) in
-    let k = kept_run t x.so_far.first (in_order (take n x.so_far.commits)) all in
-    replayed t x.so_far.first (in_order (take n x.so_far.commits)) k.1 ∙ ap Some k.0
+    replay_kept t x.so_far.first (in_order (take n x.so_far.commits)) all
 
 pub log_theorem : LogIsEnough
 log_theorem t first lines answers x h s n = replay_front t x (serial_theorem t first lines answers x h s).replies n

@@ -30,10 +30,11 @@ use Rattle.sg_model.proofs.Parts.{bytes_self}
 use Rattle.sg_words.specs.Requests.{Asked, Request, asked}
 use Rattle.sg_words.specs.Requests.Asked.{Blank, Wrong, Of}
 use Rattle.sg_words.specs.Requests.Request.{Begin, Commit, Abort, Do}
-use Rattle.sg_run.specs.Answer.{Answer, answer_of, IsSaid}
-use Rattle.sg_run.specs.Answer.Answer.{Silent, BadSyntax, Stopped, NoTransaction, IsLive, TooManyLive, Busy, LocksFull, Refused, Memory, LogEnd, Disk, Said}
+use Rattle.sg_words.specs.Answers.{Answer}
+use Rattle.sg_run.specs.Answer.{answer_of, IsSaid}
+use Rattle.sg_words.specs.Answers.Answer.{Silent, BadSyntax, Stopped, NoTransaction, IsLive, TooManyLive, Busy, LocksFull, Refused, Memory, LogEnd, Disk, Said}
 use Rattle.sg_run.specs.Run.{Run, start, live_named, live_objects, committed_objects, began, committed, aborted, with_locks, did, holder_of, held_with, turn_begin, turn_commit, turn_abort, turn_held, turn_op, turn_request, turn, WouldReply, stop, stop_at, only_locks, lacking, full, broken, LineBy, Lines, Turns, MOST_LIVE, MOST_HELD}
-use Rattle.sg_run.specs.Serial.{IsSerial, RunsAreSerial}
+use Rattle.sg_run.specs.Serial.{IsSound, IsSerial, RunsAreSerial}
 
 found_live : (b : Bool) (m l : Live) (ls : List Live) (r : Option Live) → (r ≡ Some l → is_live ls l.transaction ≡ true) → cond b (Some m) r ≡ Some l → (((m.transaction == l.transaction) || is_live ls l.transaction) ≡ true)
 found_live true m l ls r f e = let p : m ≡ l = cc in or_left (m.transaction == l.transaction) (is_live ls l.transaction) (eq-eqb m.transaction l.transaction (ap (λ (k : Live). k.transaction) p))
@@ -55,45 +56,40 @@ resource_self (OfName n r) = both_true (bytes_eq n n) (same_region r r) (bytes_s
 resource_self Names = refl
 
 module _ (t : Operations) where
-  -- the past of a run is serial, and each pair is held once
-  pub record Stays (x : Run) : Type 0 where
-    pub serial : runs.IsSerial (step t) touches covers x.so_far
-    pub once : AreOnce same_resource x.so_far.held
-
   -- a run that has stopped is left alone
   abbrev pub UnlessStopped : Run → Type 0
-  UnlessStopped x = x.stopped ≡ None → Stays x
+  UnlessStopped x = x.stopped ≡ None → IsSound t x
 
   -- nobody else holds anything in conflict with what an operation touches
-  pub free_of : (x : Run) (number : ℕ) (op : Op) → Stays x → holder_of t x number op ≡ None → IsFree covers x.so_far.held number (touches (live_objects t x) op)
+  pub free_of : (x : Run) (number : ℕ) (op : Op) → IsSound t x → holder_of t x number op ≡ None → IsFree covers x.so_far.held number (touches (live_objects t x) op)
   free_of x number op k none = free_of_none covers conflict conflict_law x.so_far.held number (touches (live_objects t x) op)
       (holder_is conflict x.so_far.live x.so_far.held number (touches (live_objects t x) op) k.serial.rising k.serial.holders ∙ ap (λ (r : Option Live). option_map (λ (l : Live). l.transaction) r) none)
 
-  pub begin_stays : (x : Run) (number : ℕ) (name : List ℕ) → x.so_far.next ≤ number → Stays x → Stays (began x number name)
+  pub begin_stays : (x : Run) (number : ℕ) (name : List ℕ) → x.so_far.next ≤ number → IsSound t x → IsSound t (began x number name)
   begin_stays x number name above k = record {
     serial = kept.begin_keeps CellContents (step t) cell touches covers same_resource resource_same (footprint t) x.so_far number name above k.serial;
     once = k.once;
   }
 
-  pub commit_stays : (x : Run) (number : ℕ) → is_live x.so_far.live number ≡ true → Stays x → Stays (committed x number)
+  pub commit_stays : (x : Run) (number : ℕ) → is_live x.so_far.live number ≡ true → IsSound t x → IsSound t (committed x number)
   commit_stays x number live k = record {
     serial = kept.commit_keeps CellContents (step t) cell touches covers same_resource resource_same (footprint t) x.so_far number live k.serial;
     once = once_released same_resource number x.so_far.held k.once;
   }
 
-  pub abort_stays : (x : Run) (number : ℕ) → is_live x.so_far.live number ≡ true → Stays x → Stays (aborted x number)
+  pub abort_stays : (x : Run) (number : ℕ) → is_live x.so_far.live number ≡ true → IsSound t x → IsSound t (aborted x number)
   abort_stays x number live k = record {
     serial = kept.abort_keeps CellContents (step t) cell touches covers same_resource resource_same (footprint t) x.so_far number live k.serial;
     once = once_released same_resource number x.so_far.held k.once;
   }
 
-  pub locks_stay : (x : Run) (number : ℕ) (op : Op) → is_live x.so_far.live number ≡ true → holder_of t x number op ≡ None → Stays x → Stays (with_locks t x number op)
+  pub locks_stay : (x : Run) (number : ℕ) (op : Op) → is_live x.so_far.live number ≡ true → holder_of t x number op ≡ None → IsSound t x → IsSound t (with_locks t x number op)
   locks_stay x number op live none k = record {
     serial = kept.lock_keeps CellContents (step t) cell touches covers same_resource resource_same (footprint t) x.so_far number (touches (live_objects t x) op) live (free_of x number op k none) k.serial;
     once = once_all same_resource resource_same resource_self number (touches (live_objects t x) op) x.so_far.held k.once;
   }
 
-  pub did_stays : (x : Run) (number : ℕ) (op : Op) → is_live x.so_far.live number ≡ true → holder_of t x number op ≡ None → Stays x → Stays (did t x number op)
+  pub did_stays : (x : Run) (number : ℕ) (op : Op) → is_live x.so_far.live number ≡ true → holder_of t x number op ≡ None → IsSound t x → IsSound t (did t x number op)
   did_stays x number op live none k = record {
     serial = theorems.does_keeps CellContents (step t) cell touches covers same_resource resource_same (footprint t) x.so_far number op live (free_of x number op k none) k.serial;
     once = once_all same_resource resource_same resource_self number (touches (live_objects t x) op) x.so_far.held k.once;
@@ -218,7 +214,7 @@ module _ (t : Operations) where
   lines_keep x y (line ∷ lines) [] h k = absurd h
 
   -- what follows
-  pub serial_run : (x : Run) → Stays x → IsSerial t x
+  pub serial_run : (x : Run) → IsSound t x → IsSerial t x
   serial_run x k = record {
     replies = k.serial.replays;
     objects = same_live CellContents (step t) cell touches covers same_resource resource_same (footprint t) x.so_far k.serial;
@@ -229,7 +225,7 @@ module _ (t : Operations) where
     pairs = k.once;
   }
 
-  pub start_stays : (first : _) → Stays (start first)
+  pub start_stays : (first : _) → IsSound t (start first)
   start_stays first = record { serial = theorems.start_serial CellContents (step t) cell touches covers same_resource resource_same (footprint t) first; once = tt }
 
 pub serial_theorem : RunsAreSerial

@@ -6,7 +6,7 @@ use Rattle.sg_ops.specs.Table.{Table as Operations}
 use Rattle.sg_model.specs.Objects.{Objects}
 use Rattle.sg_model.specs.Verb.{Op, Outcome}
 use Rattle.sg_model.specs.Step.{step, is_changing}
-use Rattle.sg_run.specs.Answer.{Answer}
+use Rattle.sg_words.specs.Answers.{Answer}
 use Rattle.sg_run.specs.Run.{Event, Run, start, Lines, objects_after}
 
 -- whether a log keeps an entry

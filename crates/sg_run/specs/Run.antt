@@ -16,8 +16,9 @@ use Rattle.sg_model.specs.Touches.{Resource, touches, same_resource, conflict}
 use Rattle.sg_words.specs.Requests.{Asked, Request, asked}
 use Rattle.sg_words.specs.Requests.Asked.{Blank, Wrong, Of}
 use Rattle.sg_words.specs.Requests.Request.{Begin, Commit, Abort, Do}
-use Rattle.sg_run.specs.Answer.{Answer, answer_of, IsSaid}
-use Rattle.sg_run.specs.Answer.Answer.{Silent, BadSyntax, Stopped, NoTransaction, IsLive, TooManyLive, Busy, LocksFull, Memory, LogEnd, Disk, Said}
+use Rattle.sg_words.specs.Answers.{Answer}
+use Rattle.sg_run.specs.Answer.{answer_of, IsSaid}
+use Rattle.sg_words.specs.Answers.Answer.{Silent, BadSyntax, Stopped, NoTransaction, IsLive, TooManyLive, Busy, LocksFull, Memory, LogEnd, Disk, Said}
 
 -- an operation of a transaction, with what came out
 abbrev pub Event : Type 0

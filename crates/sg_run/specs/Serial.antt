@@ -4,12 +4,19 @@ use Rattle.std.specs.List.{filter}
 use Rattle.sg_serial.specs.Machine.{run, Replays}
 use Rattle.sg_serial.specs.Locks.{AreOnce}
 use Rattle.sg_serial.specs.Runs.{is_live, in_order, is_own, open_entries}
+use Rattle.sg_serial.specs.Runs as runs
 use Rattle.sg_ops.specs.Table.{Table as Operations}
 use Rattle.sg_model.specs.Objects.{Objects}
 use Rattle.sg_model.specs.Step.{step}
-use Rattle.sg_model.specs.Touches.{same_resource}
-use Rattle.sg_run.specs.Answer.{Answer}
+use Rattle.sg_model.specs.Touches.{touches, covers, same_resource}
+use Rattle.sg_words.specs.Answers.{Answer}
 use Rattle.sg_run.specs.Run.{Run, start, Lines, live_objects, committed_objects, aborted, committed}
+
+-- What each line keeps, unless the store stops: what the live transactions have done stands behind the committed ones by
+-- what they hold, and each pair of a transaction and a resource is held once
+pub record IsSound (t : Operations) (x : Run) : Type 0 where
+  pub serial : runs.IsSerial (step t) touches covers x.so_far
+  pub once : AreOnce same_resource x.so_far.held
 
 -- What a run is that hasn't stopped
 pub record IsSerial (t : Operations) (x : Run) : Type 0 where

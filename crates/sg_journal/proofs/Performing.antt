@@ -1,0 +1,150 @@
+-- How an operation goes, by what the code's calls came to.
+use Rattle.std.proofs.Common.{◌≡◌, ◌⊎◌, inl, inr, ℕ, ◌<◌, ◌≤◌, Bool, true, false, cond, List, [], ◌∷◌, length, Option, Some, None, Ok, Err, refl, sym, ap, ◌∙◌, subst, arith}
+use Rattle.std.specs.Prelude.{nat_lt, ◌==◌, slice_index, IsOk, IsErr}
+use Rattle.std.specs.Str.Lines.{strip_carriage_return}
+use Rattle.sg_disk.specs.Disk as disk
+use Rattle.sg_serial.specs.Locks.{Touch, Hold, first_holder, hold_all}
+use Rattle.sg_ops.specs.Table.{Table as Operations}
+use Rattle.sg_model.specs.declared.op.Op as code_op
+use Rattle.sg_model.specs.declared.op.Op.TheVariants as ops
+use Rattle.sg_model.specs.Objects as old_model
+use Rattle.sg_model.specs.Shown.{shown_op}
+use Rattle.sg_model.specs.SaidOps.{said_op}
+use Rattle.sg_model.specs.Objects.{Objects}
+use Rattle.sg_model.specs.Verb.{Op, Outcome, Reply}
+use Rattle.sg_model.specs.Step.{step, is_changing, Grows}
+use Rattle.sg_model.specs.Touches.{Resource, touches, same_resource, conflict}
+use Rattle.sg_model.proofs.Refused.{step_refused, replied}
+use Rattle.sg_words.specs.Parse.{words_of, is_transaction, most_line_bytes}
+use Rattle.sg_words.specs.Requests.{Asked, Request, request_of, asked, asked_by, asked_of}
+use Rattle.sg_words.specs.Requests.Asked.{Blank, Wrong, Of}
+use Rattle.sg_words.specs.Requests.Request.{Do}
+use Rattle.sg_words.specs.Spoken.{later_words, spoken}
+use Rattle.sg_words.proofs.Said.{words_of-spoken}
+use Rattle.sg_words.specs.Answers.{Answer}
+use Rattle.sg_words.specs.Answers.Answer.{Memory, LogEnd}
+use Rattle.sg_words.specs.declared.answer.Answer as code_answer
+use Rattle.sg_words.specs.declared.answer.Answer.TheVariants as answers
+use Rattle.sg_words.specs.Answered.{shown_answer}
+use Rattle.sg_record.specs.Plain.{Record, IsRecord}
+use Rattle.sg_log.specs.Faults.{AppendFails}
+use Rattle.sg_log.specs.Held.{tail_of, end_of}
+use Rattle.sg_log.specs.declared.fault.LogFault.{LogFault}
+use Rattle.sg_log.specs.declared.fault.LogFault.TheVariants as faults
+use Rattle.sg_locks.specs.declared.table.LockAnswer.TheVariants.{Granted}
+use Rattle.sg_locks.specs.Answers.{lock_answer, locks_after}
+use Rattle.sg_run.specs.Answer.{answer_of, IsSaid}
+use Rattle.sg_run.specs.Run.{Run, holder_of, held_with, MOST_HELD}
+use Rattle.sg_journal.specs.Lines.{op_of, op_said}
+use Rattle.sg_journal.specs.Live.{Opened, opened_named}
+use Rattle.sg_journal.specs.Shown.{answer_at, stop_at, IsReasonOr}
+use Rattle.sg_journal.specs.Store.{Core, Shows}
+use Rattle.sg_journal.specs.Goes.{Goes, NEW_WORK_END}
+use Rattle.sg_journal.proofs.Tails.{MomentsOf, ends_within}
+use Rattle.sg_journal.proofs.Locking.{granted_is, nobody, same_count}
+use Rattle.sg_journal.proofs.Changes.{op_end, op_memory, op_unchanged, op_breaks}
+
+-- both ways to say that an operation can change objects are one
+pub changing_same : (op : code_op.Op) → old_model.is_changing (shown_op op) ≡ is_changing (said_op op)
+changing_same (ops.MakeArray name size) = refl
+changing_same (ops.MakeTable name) = refl
+changing_same (ops.MakeBlob name) = refl
+changing_same (ops.Discard name) = refl
+changing_same (ops.Push name value) = refl
+changing_same (ops.Pop name) = refl
+changing_same (ops.Set name index value) = refl
+changing_same (ops.Get name index) = refl
+changing_same (ops.Len name) = refl
+changing_same (ops.Apply name index code arg) = refl
+changing_same (ops.Put name key value) = refl
+changing_same (ops.Del name key) = refl
+changing_same (ops.Find name key) = refl
+changing_same (ops.Write name at bytes) = refl
+changing_same (ops.Read name at count) = refl
+changing_same (ops.Size name length) = refl
+changing_same (ops.Paint name at count code arg) = refl
+
+-- the kept words of a line that says an operation say it too
+
+said_with : (b : Bool) (name text : List ℕ) (request said : Request) → ◌≡◌ {A = Asked} (cond b (Of name request) Wrong) (Of text said) → request ≡ said
+said_with true name text request said e = cc
+said_with false name text request said e = absurd (cc)
+
+said_request : (name text : List ℕ) (request : Option Request) (said : Request) → asked_of name request ≡ Of text said → request ≡ Some said
+said_request name text None said e = absurd (cc)
+said_request name text (Some request) said e = ap Some (said_with (is_transaction name) name text request said e)
+
+said_words : (words : List (List ℕ)) (text : List ℕ) (said : Request) → asked_by words ≡ Of text said → request_of (later_words words) ≡ Some said
+said_words [] text said e = absurd (cc)
+said_words (name ∷ words) text said e = said_request name text (request_of words) said e
+
+said_line : (long remark : Bool) (words : List (List ℕ)) (text : List ℕ) (said : Request) → ◌≡◌ {A = Asked} (cond long Wrong (cond remark Blank (asked_by words))) (Of text said) → request_of (later_words words) ≡ Some said
+said_line true remark words text said e = absurd (cc)
+said_line false true words text said e = absurd (cc)
+said_line false false words text said e = said_words words text said e
+
+pub op_said-spoken : (line name : List ℕ) (op : Op) → asked line ≡ Of name (Do op) → op_said (spoken line) ≡ Some op
+unfolding asked op_said
+op_said-spoken line name op e =
+    ap (λ (ws : List (List ℕ)). op_of (request_of ws)) (words_of-spoken line) ∙ ap (λ (r : Option Request). op_of r) (said_line (nat_lt most_line_bytes (length line)) (slice_index line 0 == 35) (words_of (strip_carriage_return line)) name (Do op) e)
+
+module _ (t : Operations) (told : Bool) (was : disk.State) (v : disk.View) (k : Core) (x : Run) (shows : Shows t told was v k x) (running : k.stopped ≡ None) where
+  -- a transaction has got what an operation touches
+  pub record IsLocked (u : ℕ) (op : Op) (held : List (Hold Resource)) : Type 0 where
+    pub free : holder_of t x u op ≡ None
+    pub few : nat_lt MOST_HELD (held_with t x u op) ≡ false
+    pub is : held ≡ hold_all same_resource u (touches k.objects op) k.held
+
+  pub locked : (u : ℕ) (op : Op) (wanted : List (Touch Resource)) (held : List (Hold Resource)) → wanted ≡ touches k.objects op → Granted ≡ lock_answer u wanted k.held → held ≡ locks_after u wanted k.held → IsLocked u op held
+  locked u op wanted held e granted after =
+      let g = granted_is u wanted k.held granted in
+      record {
+        free = nobody t told was v k x shows running u op (ap (λ (ws : List (Touch Resource)). first_holder conflict u ws k.held) (sym e) ∙ g.free);
+        few = same_count t told was v k x shows running u op false (ap (λ (ws : List (Touch Resource)). nat_lt 4096 (length (hold_all same_resource u ws k.held))) (sym e) ∙ g.few);
+        is = after ∙ (g.after ∙ ap (λ (ws : List (Touch Resource)). hold_all same_resource u ws k.held) e);
+      }
+
+  module _ (name : List ℕ) (op : Op) (l : Opened) (one : opened_named k.live name ≡ Some l) (held : List (Hold Resource)) (h : IsLocked l.transaction op held) where
+    along : (answer : Answer) (w : disk.View) (o : Objects) → Goes t told was v k x (Of name (Do op)) answer w (record k { held = hold_all same_resource l.transaction (touches k.objects op) k.held; objects = o }) → Goes t told was v k x (Of name (Do op)) answer w (record k { held = held; objects = o })
+    along answer w o g = subst (λ (hs : List (Hold Resource)). Goes t told was v k x (Of name (Do op)) answer w (record k { held = hs; objects = o })) (sym h.is) g
+
+    -- it was refused, or only reads
+    pub unchanged : (r : Outcome) (o : Objects) → step t k.objects op ≡ (r, o) → (IsErr r) ⊎ (is_changing op ≡ false) → Goes t told was v k x (Of name (Do op)) (answer_of r) v (record k { held = held; objects = o })
+    unchanged r o e why = along (answer_of r) v o (op_unchanged t told was v k x shows running name op l one h.free h.few r o e why)
+
+    -- it is refused, or else answered this
+    reason_or : (other : code_answer.Answer) (answer : code_answer.Answer) (into : List ℕ) → (IsSaid (answer_of (step t k.objects op).0) → Goes t told was v k x (Of name (Do op)) (shown_answer into other) v (record k { held = held; objects = k.objects }))
+        → IsReasonOr (step t k.objects op).0 other answer → Goes t told was v k x (Of name (Do op)) (shown_answer into answer) v (record k { held = held; objects = k.objects })
+    reason_or other answer into goes is = by_outcome (step t k.objects op).0 refl is
+      where
+        by_outcome : (r : Outcome) → (step t k.objects op).0 ≡ r → IsReasonOr r other answer → Goes t told was v k x (Of name (Do op)) (shown_answer into answer) v (record k { held = held; objects = k.objects })
+        by_outcome (Ok reply) e q = subst (λ (a : code_answer.Answer). Goes t told was v k x (Of name (Do op)) (shown_answer into a) v (record k { held = held; objects = k.objects })) (sym q) (goes (subst (λ (r : Outcome). IsSaid (answer_of r)) (sym e) tt))
+        by_outcome (Err reason) e q =
+            let same : (step t k.objects op).1 ≡ k.objects = step_refused t k.objects op (ap (λ (r : Outcome). replied r) e) in
+            let both : step t k.objects op ≡ (Err reason, k.objects) = ap (λ (r : Outcome). (r, (step t k.objects op).1)) e ∙ ap (λ (s : Objects). (Err reason, s)) same in
+            subst (λ (a : code_answer.Answer). Goes t told was v k x (Of name (Do op)) (shown_answer into a) v (record k { held = held; objects = k.objects })) (sym q) (unchanged (Err reason) k.objects both (inl refl))
+
+    -- the log is full
+    pub full_or : (answer : code_answer.Answer) (into : List ℕ) → is_changing op ≡ true → NEW_WORK_END < tail_of k.log → IsReasonOr (step t k.objects op).0 answers.LogEnd answer → Goes t told was v k x (Of name (Do op)) (shown_answer into answer) v (record k { held = held })
+    full_or answer into changing above is = reason_or answers.LogEnd answer into (λ said. along LogEnd v k.objects (op_end t told was v k x shows running name op l one h.free h.few changing said above)) is
+
+    -- there is no memory for its words
+    pub short_or : (answer : code_answer.Answer) (into : List ℕ) → is_changing op ≡ true → tail_of k.log ≤ NEW_WORK_END → IsReasonOr (step t k.objects op).0 answers.Memory answer → Goes t told was v k x (Of name (Do op)) (shown_answer into answer) v (record k { held = held })
+    short_or answer into changing low is = reason_or answers.Memory answer into (λ said. along Memory v k.objects (op_memory t told was v k x shows running name op l one h.free h.few (inr changing) said (λ work. low))) is
+
+    -- there is none for what it leaves
+    pub starved : (o : Objects) → Grows op → IsOk (step t k.objects op).0 → (is_changing op ≡ true → tail_of k.log ≤ NEW_WORK_END) → o ≡ k.objects → Goes t told was v k x (Of name (Do op)) Memory v (record k { held = held; objects = o })
+    starved o grows fine low same = subst (λ (s : Objects). Goes t told was v k x (Of name (Do op)) Memory v (record k { held = held; objects = s })) (sym same)
+        (along Memory v k.objects (op_memory t told was v k x shows running name op l one h.free h.few (inl grows) (said_ok (step t k.objects op).0 fine) low))
+      where
+        said_ok : (r : Outcome) → IsOk r → IsSaid (answer_of r)
+        said_ok (Ok reply) q = tt
+        said_ok (Err reason) q = absurd (cc)
+
+    -- the log has failed as its line was appended
+    pub op_fault : (reply : Reply) (e : LogFault) (w : disk.View) (m : Core) (r : Record) (into : List ℕ) → m.stopped ≡ Some (stop_at e) → is_changing op ≡ true → (step t k.objects op).0 ≡ Ok reply → tail_of k.log ≤ NEW_WORK_END → IsRecord r
+        → AppendFails (end_of k.log r) v w e → MomentsOf told v w k.log → Goes t told was v k x (Of name (Do op)) (shown_answer into (answer_at e)) w m
+    op_fault reply faults.Disk w m r into halted changing came low fields f call = op_breaks t told was v k x shows running name op l one h.free h.few w m halted changing (subst (λ (a : Outcome). IsSaid (answer_of a)) (sym came) tt) low f call
+    op_fault reply faults.LogEnd w m r into halted changing came low fields f call = let within = ends_within k.log r fields low in absurd (omega arith)
+    op_fault reply (faults.Damaged at) w m r into halted changing came low fields f call = absurd f
+    op_fault reply faults.Memory w m r into halted changing came low fields f call = absurd f

@@ -1,0 +1,46 @@
+-- The code's values as definitions speak of them.
+use Rattle.std.specs.Prelude.{◌≡◌, ◌==◌, if◌then◌else◌, ℕ, List, map, Ok, Err}
+use Rattle.sg_model.specs.declared.stop.Stop.{Stop}
+use Rattle.sg_model.specs.declared.stop.Stop.TheVariants as stops
+use Rattle.sg_model.specs.Verb.{Outcome}
+use Rattle.sg_words.specs.declared.answer.Answer as code_answer
+use Rattle.sg_words.specs.declared.answer.Answer.TheVariants as answers
+use Rattle.sg_log.specs.declared.fault.LogFault.{LogFault}
+use Rattle.sg_log.specs.declared.fault.LogFault.TheVariants as faults
+use Rattle.sg_journal.specs.declared.live.Running as code_running
+use Rattle.sg_journal.specs.declared.line.Kept as code_kept
+use Rattle.sg_journal.specs.Live.{Opened, KeptLine}
+
+abbrev pub opened_of : code_running.Running → Opened
+opened_of r = record { name = r.name; transaction = r.txn.0; last = r.last }
+
+abbrev pub all_opened : List code_running.Running → List Opened
+all_opened live = map opened_of live
+
+-- a live transaction, with another last record if it has this number
+abbrev pub renewed_of : ℕ → ℕ → code_running.Running → code_running.Running
+renewed_of transaction last r = if r.txn.0 == transaction then record r { last = last } else r
+
+abbrev pub kept_of : code_kept.Kept → KeptLine
+kept_of line = record { transaction = line.txn.0; words = line.words.items }
+
+abbrev pub all_kept : List code_kept.Kept → List KeptLine
+all_kept lines = map kept_of lines
+
+-- what is answered where the log fails, and why the store stops then
+abbrev pub answer_at : LogFault → code_answer.Answer
+answer_at faults.LogEnd = answers.LogEnd
+answer_at faults.Disk = answers.Disk
+answer_at (faults.Damaged at) = answers.Disk
+answer_at faults.Memory = answers.Disk
+
+abbrev pub stop_at : LogFault → Stop
+stop_at faults.LogEnd = stops.LogEnd
+stop_at faults.Disk = stops.Disk
+stop_at (faults.Damaged at) = stops.Disk
+stop_at faults.Memory = stops.Disk
+
+-- what an operation that isn't done is answered, by what it would have got: its reason first
+abbrev pub IsReasonOr : Outcome → code_answer.Answer → code_answer.Answer → Type 0
+IsReasonOr (Ok reply) other answer = answer ≡ other
+IsReasonOr (Err reason) other answer = answer ≡ answers.Refused reason

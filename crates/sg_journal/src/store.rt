@@ -1,0 +1,360 @@
+ghost use Rattle.std.specs.Prelude.{◌≡◌, ◌≤◌, ◌<◌, ◌++◌, ◌∷◌, [], vec_capacity, List, ℕ, length, IfOk, IfErr, OnOk, IsTrue, Some, None, true, false};
+ghost use Rattle.sg_base.specs.Ends.{HasRisen};
+ghost use Rattle.sg_disk.specs.Disk.{LeavesOnly, State as DiskState};
+ghost use Rattle.sg_ops.specs.Table.{Table as Operations, table_of};
+ghost use Rattle.sg_serial.specs.Locks.{released};
+ghost use Rattle.sg_model.specs.SaidOps.{said_op};
+ghost use Rattle.sg_model.specs.Step.{step};
+ghost use Rattle.sg_words.specs.Requests.{asked};
+ghost use Rattle.sg_words.specs.Requests.Asked.{Of};
+ghost use Rattle.sg_words.specs.Requests.Request.{Begin, Commit, Abort, Do};
+ghost use Rattle.sg_words.specs.Answered.{shown_answer};
+ghost use Rattle.sg_words.specs.Answers.Answer.{Busy};
+ghost use Rattle.sg_record.specs.Plain.{IsRecord};
+ghost use Rattle.sg_record.specs.Plain.Record.{Line as LineRecord};
+ghost use Rattle.sg_log.specs.Faults.{AppendFails};
+ghost use Rattle.sg_log.specs.Frames.{Numbered, SameElsewhere};
+ghost use Rattle.sg_log.specs.Held.{Holds, tail_of, place_of, end_of, appended, durable_after, waiting_after, IsBeforeOrAfter};
+ghost use Rattle.sg_run.specs.Run.{Run};
+ghost use Rattle.sg_journal.specs.Store.{Shows};
+ghost use Rattle.sg_journal.specs.Goes.{Goes, Grows, NEW_WORK_END};
+ghost use Rattle.sg_journal.specs.Live.{Opened, opened_numbered, opened_without, with_last, lines_chosen};
+ghost use Rattle.sg_journal.specs.Shown.{kept_of, answer_at, stop_at, IsReasonOr};
+ghost use Rattle.sg_journal.specs.Seen.{core_of};
+
+use crate::kept::{folded, line_of};
+use crate::line::Kept;
+use crate::live::{Live, Running};
+use sg_base::{Name, OutOfMemory, TxnId};
+use sg_disk::Disk;
+use sg_locks::{LockAnswer, Locks};
+use sg_log::{Log, LogFault};
+use sg_model::{Op, Reply, Stop};
+use sg_ops::Ops;
+use sg_plain::Objects;
+use sg_record::plain::Rec;
+use sg_words::Answer;
+use std::alloc::Global;
+
+/// No new work begins once the log's tail is above this byte: 2^62.
+const NEW_WORK_END: u64 = 1 << 62;
+
+/// The byte behind the last one of a log: 2^63.
+const LOG_END: u64 = 1 << 63;
+
+/// How many bytes the record of a commit has.
+const COMMIT_BYTES: u64 = 21;
+
+/// Objects in memory and the log of the lines that made them, with up to 64 live transactions. Once it
+/// has stopped it makes no further call of the disk.
+pub struct Store<D: Disk> {
+    disk: D,
+    log: Log,
+    locks: Locks,
+    live: Live,
+    // the changing lines of the live transactions that got a reply, in order
+    kept: Vec<Kept>,
+    // the objects after the committed transactions, and as the live ones have left them
+    committed: Objects,
+    objects: Objects,
+    stop: Option<Stop>,
+}
+
+impl<D: Disk> Store<D> {
+    /// Why the store has stopped, if it has.
+    pub fn stop(&self) -> Option<Stop>
+        ensures { result ≡ self.now.stop }
+    {
+        self.stop
+    }
+
+    /// The disk, at the end. Live transactions are dropped, and nothing is written.
+    pub fn close(self) -> D
+        ensures { result ≡ self.disk }
+    {
+        let Store {
+            disk,
+            log,
+            locks,
+            live,
+            kept,
+            committed,
+            objects,
+            stop: _,
+        } = self;
+        drop(log);
+        drop(locks);
+        drop(live);
+        drop(kept);
+        drop(committed);
+        drop(objects);
+        disk
+    }
+
+    // Stops the store at a fault of the log.
+    fn halt(&mut self, fault: LogFault) -> Answer
+        ensures stopped { core_of self.new ≡ record (core_of self.old) { stopped = Some (stop_at fault) } }
+        ensures disk { self.new.disk ≡ self.old.disk }
+        ensures answer { result ≡ answer_at fault }
+        ensures log { self.new.log ≡ self.old.log }
+    {
+        if fault == LogFault::LogEnd {
+            self.stop = Some(Stop::LogEnd);
+            Answer::LogEnd
+        } else {
+            self.stop = Some(Stop::Disk);
+            Answer::Disk
+        }
+    }
+
+    /// Begins a transaction with this name.
+    pub fn begin(&mut self, name: Name) -> Answer
+        requires { self.old.stop ≡ None }
+        ensures goes { (t : Operations) (into : List ℕ) (was : DiskState) (x : Run) → Shows t D.told was (D.view self.old.disk) (core_of self.old) x
+            → Goes t D.told was (D.view self.old.disk) (core_of self.old) x (Of name Begin) (shown_answer into result) (D.view self.new.disk) (core_of self.new) }
+        ensures grown { Grows self.old.log self.new.log (D.view self.old.disk) (D.view self.new.disk) }
+        ensures later { (D.view self.old.disk).faults ≤ (D.view self.new.disk).faults }
+    {
+        if let Some(_live) = self.live.named(name) {
+            return Answer::IsLive;
+        }
+        if self.live.is_full() {
+            return Answer::TooManyLive;
+        }
+        if self.log.tail() > NEW_WORK_END {
+            return Answer::LogEnd;
+        }
+        let header = Rec::Begin {
+            txn: TxnId(0),
+            prev: 0,
+        };
+        let txn = TxnId(self.log.place(&header));
+        match self
+            .log
+            .append(&mut self.disk, &Rec::Begin { txn, prev: 0 })
+        {
+            Ok(last) => {
+                self.live.add(name, txn, last);
+                Answer::Said(Reply::Done)
+            }
+            Err(_) => {
+                self.stop = Some(Stop::Disk);
+                Answer::Disk
+            }
+        }
+    }
+
+    // A transaction is no more: nothing is kept of it, and it holds nothing.
+    fn forget(&mut self, txn: TxnId)
+        ensures core { core_of self.new ≡ record (core_of self.old) { live = opened_without txn.0 (core_of self.old).live; kept = lines_chosen false txn.0 (core_of self.old).kept; held = released txn.0 (core_of self.old).held } }
+        ensures disk { self.new.disk ≡ self.old.disk }
+        ensures log { self.new.log ≡ self.old.log }
+    {
+        self.live.remove(txn);
+        self.kept.retain(|line| line.txn != txn);
+        self.locks.release(txn);
+    }
+
+    /// Takes back what the transaction with this name did, if it is live: its lines are left out of a
+    /// copy of the committed objects, and it is no more. After `Memory` nothing has changed.
+    pub fn abort(
+        &mut self,
+        alloc: Global,
+        ops: &Ops,
+        name: Name,
+        scratch: &mut [u8],
+        into: &mut [u8],
+    ) -> Answer
+        requires running { self.old.stop ≡ None }
+        requires scratch { 32768 ≤ length scratch.old }
+        requires into { 8192 ≤ length into.old }
+        ensures goes { (was : DiskState) (x : Run) → Shows (table_of record_meaning range_meaning ops.now) D.told was (D.view self.old.disk) (core_of self.old) x
+            → Goes (table_of record_meaning range_meaning ops.now) D.told was (D.view self.old.disk) (core_of self.old) x (Of name Abort) (shown_answer into.new result) (D.view self.new.disk) (core_of self.new) }
+        // it makes no call of the disk
+        ensures disk { (self.new.disk ≡ self.old.disk) × (self.new.log ≡ self.old.log) }
+    {
+        let Some(live) = self.live.named(name) else {
+            return Answer::NoTransaction;
+        };
+        match folded(
+            alloc,
+            ops,
+            &self.committed,
+            &self.kept,
+            live.txn,
+            false,
+            scratch,
+            into,
+        ) {
+            Ok(objects) => self.objects = objects,
+            Err(OutOfMemory) => return Answer::Memory,
+        }
+        self.forget(live.txn);
+        Answer::Said(Reply::Done)
+    }
+
+    /// Makes durable what the transaction with this name did, if it is live, and it is no more. The
+    /// committed objects are made anew before its record is appended. After `Memory` nothing has
+    /// changed; after `Disk` and `LogEnd` the store has stopped.
+    pub fn commit(
+        &mut self,
+        alloc: Global,
+        ops: &Ops,
+        name: Name,
+        scratch: &mut [u8],
+        into: &mut [u8],
+    ) -> Answer
+        requires running { self.old.stop ≡ None }
+        requires scratch { 32768 ≤ length scratch.old }
+        requires into { 8192 ≤ length into.old }
+        ensures goes { (was : DiskState) (x : Run) → Shows (table_of record_meaning range_meaning ops.now) D.told was (D.view self.old.disk) (core_of self.old) x
+            → Goes (table_of record_meaning range_meaning ops.now) D.told was (D.view self.old.disk) (core_of self.old) x (Of name Commit) (shown_answer into.new result) (D.view self.new.disk) (core_of self.new) }
+        ensures grown { Grows self.old.log self.new.log (D.view self.old.disk) (D.view self.new.disk) }
+        ensures later { (D.view self.old.disk).faults ≤ (D.view self.new.disk).faults }
+    {
+        let Some(live) = self.live.named(name) else {
+            return Answer::NoTransaction;
+        };
+        let record = Rec::Commit {
+            txn: live.txn,
+            prev: live.last,
+        };
+        if self.log.place(&record) + COMMIT_BYTES > LOG_END {
+            return self.halt(LogFault::LogEnd);
+        }
+        let committed = match folded(
+            alloc,
+            ops,
+            &self.committed,
+            &self.kept,
+            live.txn,
+            true,
+            scratch,
+            into,
+        ) {
+            Ok(committed) => committed,
+            Err(OutOfMemory) => return Answer::Memory,
+        };
+        match self.log.append(&mut self.disk, &record) {
+            Ok(_) => {}
+            Err(fault) => return self.halt(fault),
+        }
+        match self.log.force(&mut self.disk) {
+            Ok(()) => {}
+            Err(fault) => return self.halt(fault),
+        }
+        self.committed = committed;
+        self.forget(live.txn);
+        Answer::Said(Reply::Done)
+    }
+
+    // The name of the transaction that is in the way. Only live ones hold anything, so there is one.
+    fn busy(&self, holder: TxnId) -> Answer
+        ensures { (l : Opened) → opened_numbered (core_of self.now).live holder.0 ≡ Some l → (into : List ℕ) → shown_answer into result ≡ Busy l.name }
+    {
+        match self.live.numbered(holder) {
+            Some(live) => Answer::Busy(live.name),
+            None => Answer::LocksFull,
+        }
+    }
+
+    // What an operation that isn't done is answered: the reason that it has anyway comes first.
+    fn refuse(&self, ops: &Ops, op: &Op<'_>, otherwise: Answer) -> Answer
+        ensures { IsReasonOr (step (table_of record_meaning range_meaning ops.now) self.now.objects (said_op op.now)).0 otherwise result }
+    {
+        match self.objects.refusal(ops, op) {
+            Some(reason) => Answer::Refused(reason),
+            None => otherwise,
+        }
+    }
+
+    // Appends the line of an operation that was done to the log, and keeps it.
+    fn keep(&mut self, live: Running, line: Kept) -> Result<(), LogFault>
+        requires { length self.old.kept.items < vec_capacity self.old.kept }
+        ensures log { OnOk result (self.new.log ≡ appended self.old.log (LineRecord live.txn.0 live.last line.words.items)) }
+        ensures tail { OnOk result (tail_of self.new.log ≡ end_of self.old.log (LineRecord live.txn.0 live.last line.words.items)) }
+        ensures core { OnOk result (core_of self.new ≡ record (core_of self.old) { live = with_last live.txn.0 (place_of self.old.log (LineRecord live.txn.0 live.last line.words.items)) (core_of self.old).live; kept = (core_of self.old).kept ++ kept_of line ∷ []; log = self.new.log }) }
+        ensures range { IsRecord (LineRecord live.txn.0 live.last line.words.items) }
+        ensures faults { IfErr result (λ e. AppendFails (end_of self.old.log (LineRecord live.txn.0 live.last line.words.items)) (D.view self.old.disk) (D.view self.new.disk) e) }
+        ensures holds { (ds ps : List Numbered) → IsTrue D.told → Holds (D.view self.old.disk) self.old.log ds ps →
+            OnOk result (Holds (D.view self.new.disk) self.new.log (durable_after self.old.log (LineRecord live.txn.0 live.last line.words.items) ds ps)
+            (waiting_after self.old.log (LineRecord live.txn.0 live.last line.words.items) ps)) }
+        ensures any_moment { (ds ps : List Numbered) → IsTrue D.told → Holds (D.view self.old.disk) self.old.log ds ps →
+            LeavesOnly (D.view self.old.disk) (D.view self.new.disk) (IsBeforeOrAfter (D.view self.old.disk).now self.old.log ds ps) }
+        ensures elsewhere { IsTrue D.told → OnOk result (SameElsewhere self.old.log.area (D.view self.old.disk).now (D.view self.new.disk).now) }
+        ensures grown { Grows self.old.log self.new.log (D.view self.old.disk) (D.view self.new.disk) }
+        ensures later { (D.view self.old.disk).faults ≤ (D.view self.new.disk).faults }
+    {
+        let record = Rec::Line {
+            txn: live.txn,
+            prev: live.last,
+            words: &line.words,
+        };
+        match self.log.append(&mut self.disk, &record) {
+            Ok(last) => {
+                self.live.set_last(live.txn, last);
+                self.kept.push_reserved(line);
+                Ok(())
+            }
+            Err(fault) => Err(fault),
+        }
+    }
+
+    /// Does an operation of the transaction with this name, if it is live. It holds what the operation
+    /// touches from then on, unless another one is in the way or too much would be held. `text` is the
+    /// line that says it. After `Memory`, and after `LogEnd`, nothing but locks has changed; after `Disk` the store
+    /// has stopped.
+    pub fn perform(
+        &mut self,
+        alloc: Global,
+        ops: &Ops,
+        name: Name,
+        op: &Op<'_>,
+        text: &[u8],
+        scratch: &mut [u8],
+        into: &mut [u8],
+    ) -> Answer
+        requires running { self.old.stop ≡ None }
+        requires said { asked text.now ≡ Of name (Do (said_op op.now)) }
+        requires line { length text.now ≤ 32768 }
+        requires scratch { 32768 ≤ length scratch.old }
+        requires into { 8192 ≤ length into.old }
+        ensures goes { (was : DiskState) (x : Run) → Shows (table_of record_meaning range_meaning ops.now) D.told was (D.view self.old.disk) (core_of self.old) x
+            → Goes (table_of record_meaning range_meaning ops.now) D.told was (D.view self.old.disk) (core_of self.old) x (Of name (Do (said_op op.now))) (shown_answer into.new result) (D.view self.new.disk) (core_of self.new) }
+        ensures grown { Grows self.old.log self.new.log (D.view self.old.disk) (D.view self.new.disk) }
+        ensures later { (D.view self.old.disk).faults ≤ (D.view self.new.disk).faults }
+    {
+        let Some(live) = self.live.named(name) else {
+            return Answer::NoTransaction;
+        };
+        let touches = self.objects.touches(op);
+        match self.locks.try_lock(live.txn, touches.list()) {
+            LockAnswer::Granted => {}
+            LockAnswer::Busy(holder) => return self.busy(holder),
+            LockAnswer::LocksFull => return Answer::LocksFull,
+        }
+        if !op.is_changing() {
+            return match self.objects.apply(alloc, ops, op, into) {
+                Ok(Ok(reply)) => Answer::Said(reply),
+                Ok(Err(reason)) => Answer::Refused(reason),
+                Err(OutOfMemory) => Answer::Memory,
+            };
+        }
+        if self.log.tail() > NEW_WORK_END {
+            return self.refuse(ops, op, Answer::LogEnd);
+        }
+        let line = match line_of(&mut self.kept, alloc, live.txn, text, scratch) {
+            Ok(line) => line,
+            Err(OutOfMemory) => return self.refuse(ops, op, Answer::Memory),
+        };
+        let reply = match self.objects.apply(alloc, ops, op, into) {
+            Ok(Ok(reply)) => reply,
+            Ok(Err(reason)) => return Answer::Refused(reason),
+            Err(OutOfMemory) => return Answer::Memory,
+        };
+        match self.keep(live, line) {
+            Ok(()) => Answer::Said(reply),
+            Err(fault) => self.halt(fault),
+        }
+    }
+}
