@@ -2,10 +2,10 @@
 # Measures what the merge gate takes, crate by crate, in minutes of processor, and writes a table in markdown. The words
 # are the crates to be measured; where there are none, each one of crates.txt, lowest first.
 #
-# It works on a copy of the files that git knows, in which a measured crate begins with an empty folder of kept work (a
-# link to one, since rt would else begin with what checks of the crate kept in other copies on the machine). The libraries
-# below it are brought up to date first, outside of what is measured, from what out/ holds of them here. Processor time is
-# that of all processes together, so that other work on the machine hardly changes it.
+# It works on a copy of the files that git knows, in which a measured crate has no out/. The libraries below it are
+# brought up to date first, outside of what is measured, from what out/ holds of them here. Processor time is that of all
+# processes together, so that other work on the machine hardly changes it. Kept work does: rt begins a check with what checks of
+# the crate left in any copy of the repository on the machine. So measure where no other copy was checked.
 #
 # The gate proves a crate from nothing, and once more with its tests, and then tries its edits over one another's work,
 # the first one from nothing. So the last column is the first one twice (once where there are no tests), what the tests
@@ -53,18 +53,11 @@ minutes_of() {
     return "$status"
 }
 
-# Leaves nothing kept of a crate, and a link where its checks keep their work.
-begin_anew() {
-    rm -rf "${copy:?}/$1/out"
-    mkdir "$copy/$1/out"
-    ln -s "$(mktemp -d -p "$copy")" "$copy/$1/out/incremental"
-}
-
 # Measures a crate and prints its row.
 measure() {
     local name="$1" crate="crates/$1" proof tests added edits tried gate
     build_below "$name" || { stopped "$name" "a library below it"; return 1; }
-    begin_anew "$crate"
+    rm -rf "${copy:?}/$crate/out"
     tests="$(cat "$copy/$crate"/src/*.rt | grep -c '^ *#\[test\]')"
     edits="$(find "$copy/$crate" -path '*/must-fail/*.edit' | wc -l)"
     proof="$(minutes_of "$crate" rt check --jobs 1)" || { stopped "$name" "its proof"; return 1; }
