@@ -5,7 +5,8 @@
 # The words: how many lines (100,000 where none is given), how many of them a transaction has (100), how
 # many bytes a line pushes (0: a push, a get, a set and a get by turns), how many rounds there are (1), and
 # other builds of the program, whose runs of the same script stand among its own. With several rounds the
-# median and the best are printed, and for another build how many times its lines a second the program does.
+# median and the best are printed, and for another build how many times its lines a second the program does,
+# by the clock and by the processor's time, which other work on the machine changes less.
 #
 # So `bench/lines.sh 50000 50000 128 9 OTHER` compares one transaction of pushes of 128 bytes.
 set -eu
@@ -17,7 +18,7 @@ trap 'rm -rf "$folder"' EXIT
 "$top/stasis" >/dev/null 2>&1 </dev/null || true
 
 python3 - "$folder" "$top/crates/sg_main/out/sg_main" "$@" <<'PYTHON'
-import statistics, subprocess, sys, time
+import resource, statistics, subprocess, sys, time
 
 folder, program = sys.argv[1:3]
 lines, each, size, rounds = (int(word) for word in (sys.argv[3:7] + ["100000", "100", "0", "1"][len(sys.argv[3:7]):]))
@@ -62,9 +63,16 @@ def most_memory(process, least):
     return least
 
 
+def processor_time():
+    """The processor's time of the runs that have ended."""
+    used = resource.getrusage(resource.RUSAGE_CHILDREN)
+    return used.ru_utime + used.ru_stime
+
+
 def run(build, number):
-    """The seconds of a run over a new store, its greatest memory, its status and its replies that are errors."""
-    memory = 0
+    """The seconds of a run over a new store, by the clock and by the processor, its greatest memory, its status and its
+    replies that are errors."""
+    memory, before = 0, processor_time()
     with open(folder + "/script", "rb") as script, open(folder + "/replies", "wb") as replies:
         start = time.monotonic()
         process = subprocess.Popen([build, "run", f"{folder}/store{number}"], stdin=script, stdout=replies)
@@ -74,25 +82,27 @@ def run(build, number):
         seconds = time.monotonic() - start
     with open(folder + "/replies", "rb") as replies:
         errors = sum(1 for line in replies if line.startswith(b"error"))
-    return seconds, memory, process.returncode, errors
+    return seconds, processor_time() - before, memory, process.returncode, errors
 
 
 write_script(folder + "/script")
-seconds = {build: [] for build in builds}
+clock = {build: [] for build in builds}
+processor = {build: [] for build in builds}
 for number in range(rounds):
     for build in builds:
-        took, memory, status, errors = run(build, f"{number}-{builds.index(build)}")
-        seconds[build].append(took)
+        seconds, used, memory, status, errors = run(build, f"{number}-{builds.index(build)}")
+        clock[build].append(seconds)
+        processor[build].append(used)
         if build == program and number == 0:
             print(f"status {status}, {lines} lines, {errors} answered with an error")
-            print(f"{took:.3f} seconds, {lines / took:.0f} lines a second")
+            print(f"{seconds:.3f} seconds, {lines / seconds:.0f} lines a second")
             print(f"{memory} KiB at most")
 if rounds > 1 or len(builds) > 1:
-    for build in builds:
-        middle, best = statistics.median(seconds[build]), min(seconds[build])
-        print(f"{build}: median {lines / middle:.0f} lines a second, best {lines / best:.0f}")
-    for build in builds[1:]:
-        middle = statistics.median(seconds[build]) / statistics.median(seconds[program])
-        best = min(seconds[build]) / min(seconds[program])
-        print(f"{middle:.2f} times {build} by the median, {best:.2f} by the best")
+    for kind, times in (("clock", clock), ("processor", processor)):
+        middle = {build: statistics.median(times[build]) for build in builds}
+        best = {build: min(times[build]) for build in builds}
+        for build in builds:
+            print(f"{kind}: {build}: median {lines / middle[build]:.0f} lines a second, best {lines / best[build]:.0f}")
+        for build in builds[1:]:
+            print(f"{kind}: {middle[build] / middle[program]:.2f} times {build} by the median, {best[build] / best[program]:.2f} by the best")
 PYTHON
