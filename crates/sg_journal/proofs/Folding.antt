@@ -1,5 +1,5 @@
 -- Lines done again one after another, and live transactions gone through one by one.
-use Rattle.std.proofs.Common.{◌≡◌, ℕ, Bool, true, false, cond, List, [], ◌∷◌, map, Option, Some, Ok, refl, sym, ap, ◌∙◌}
+use Rattle.std.proofs.Common.{◌≡◌, ℕ, Bool, true, false, cond, List, [], ◌∷◌, map, length, Option, Some, None, Ok, refl, sym, ap, ◌∙◌}
 use Rattle.sg_ops.specs.Table.{Table as Operations}
 use Rattle.sg_model.specs.Objects.{Objects}
 use Rattle.sg_model.specs.Verb.{Op, Outcome, Reply}
@@ -8,22 +8,49 @@ use Rattle.sg_words.specs.Parse.{words_of}
 use Rattle.sg_words.specs.Requests.{Request, request_of}
 use Rattle.sg_words.specs.Requests.Request.{Do}
 use Rattle.sg_run.specs.Kept.{if_replied}
-use Rattle.sg_journal.specs.Lines.{op_of, op_said}
+use Rattle.sg_model.specs.declared.op.Op as code_op
+use Rattle.sg_model.specs.declared.op.Op.TheVariants as ops
+use Rattle.sg_model.specs.SaidOps.{said_op}
+use Rattle.sg_journal.specs.Lines.{kept_op, op_of, op_said}
 use Rattle.std.specs.Prelude.{◌==◌}
 use Rattle.sg_journal.specs.declared.live.Running as code_running
 use Rattle.sg_journal.specs.Shown.{opened_of, all_opened, renewed_of}
 use Rattle.sg_journal.specs.Live.{Opened, KeptLine, with_last, is_chosen, lines_chosen, words_of_all}
 use Rattle.sg_journal.specs.Stands.{after_op, after_line, replay}
 
--- what words say that ask for an operation
-pub says_op : (words : List ℕ) (op : Op) → Some (Do op) ≡ request_of (words_of words) → op_said words ≡ Some op
+-- a log may keep each of the code's operations
+pub kept_said : (op : code_op.Op) → kept_op (said_op op) ≡ Some (said_op op)
+kept_said (ops.MakeArray name size) = refl
+kept_said (ops.MakeTable name) = refl
+kept_said (ops.MakeBlob name) = refl
+kept_said (ops.Discard name) = refl
+kept_said (ops.Push name value) = refl
+kept_said (ops.Pop name) = refl
+kept_said (ops.Set name index value) = refl
+kept_said (ops.Get name index) = refl
+kept_said (ops.Len name) = refl
+kept_said (ops.Apply name index code arg) = refl
+kept_said (ops.Put name key value) = refl
+kept_said (ops.Del name key) = refl
+kept_said (ops.Find name key) = refl
+kept_said (ops.Write name at bytes) = refl
+kept_said (ops.Read name at count) = refl
+kept_said (ops.Size name length) = refl
+kept_said (ops.Paint name at count code arg) = refl
+
+-- what words say that ask for an operation, and for anything else
+pub says_op : (words : List ℕ) (op : code_op.Op) → Some (Do (said_op op)) ≡ request_of (words_of words) → Some (said_op op) ≡ op_said words
 unfolding op_said
-says_op words op e = sym (ap (λ (r : Option Request). op_of r) e)
+says_op words op e = sym (sym (ap (λ (r : Option Request). op_of r) e) ∙ kept_said op)
+
+pub says_none : (words : List ℕ) (r : Option Request) → r ≡ request_of (words_of words) → op_of r ≡ None → None ≡ op_said words
+unfolding op_said
+says_none words r e none = sym none ∙ ap (λ (q : Option Request). op_of q) e
 
 -- a line that got a reply
-pub line_replied : (t : Operations) (s after : Objects) (words : List ℕ) (op : Op) (reply : Reply) → Some (Do op) ≡ request_of (words_of words) → step t s op ≡ (Ok reply, after) → after_line t s words ≡ Some after
+pub line_replied : (t : Operations) (s after : Objects) (words : List ℕ) (op : Op) (reply : Reply) → Some op ≡ op_said words → step t s op ≡ (Ok reply, after) → after_line t s words ≡ Some after
 line_replied t s after words op reply said e =
-    ap (λ (o : Option Op). after_op t s o) (says_op words op said) ∙ ap (λ (r : Outcome × Objects). if_replied r.0 r.1) e
+    ap (λ (o : Option Op). after_op t s o) (sym said) ∙ ap (λ (r : Outcome × Objects). if_replied r.0 r.1) e
 
 -- what is left to do of some lines, behind the next one of them
 pub chosen_line : (t : Operations) (own : Bool) (u : ℕ) (line : KeptLine) (lines : List KeptLine) (s after : Objects) → is_chosen own u line ≡ true → after_line t s line.words ≡ Some after

@@ -11,3 +11,11 @@ pub mod Locking
 pub mod Along
 pub mod Failing
 pub mod Performing
+pub mod Ones
+pub mod Heeding
+pub mod Finding
+pub mod Walking
+pub mod Replaying
+pub mod Nothing
+pub mod Reading
+pub mod Opened

@@ -41,6 +41,7 @@ use Rattle.sg_journal.specs.Shown.{answer_at, stop_at, IsReasonOr}
 use Rattle.sg_journal.specs.Store.{Core, Shows}
 use Rattle.sg_journal.specs.Goes.{Goes, NEW_WORK_END}
 use Rattle.sg_journal.proofs.Tails.{MomentsOf, ends_within}
+use Rattle.sg_journal.proofs.Folding.{kept_said}
 use Rattle.sg_journal.proofs.Locking.{granted_is, nobody, same_count}
 use Rattle.sg_journal.proofs.Changes.{op_end, op_memory, op_unchanged, op_breaks}
 
@@ -83,10 +84,10 @@ said_line true remark words text said e = absurd (cc)
 said_line false true words text said e = absurd (cc)
 said_line false false words text said e = said_words words text said e
 
-pub op_said-spoken : (line name : List ℕ) (op : Op) → asked line ≡ Of name (Do op) → op_said (spoken line) ≡ Some op
+pub op_said-spoken : (line name : List ℕ) (op : code_op.Op) → asked line ≡ Of name (Do (said_op op)) → op_said (spoken line) ≡ Some (said_op op)
 unfolding asked op_said
 op_said-spoken line name op e =
-    ap (λ (ws : List (List ℕ)). op_of (request_of ws)) (words_of-spoken line) ∙ ap (λ (r : Option Request). op_of r) (said_line (nat_lt most_line_bytes (length line)) (slice_index line 0 == 35) (words_of (strip_carriage_return line)) name (Do op) e)
+    ap (λ (ws : List (List ℕ)). op_of (request_of ws)) (words_of-spoken line) ∙ (ap (λ (r : Option Request). op_of r) (said_line (nat_lt most_line_bytes (length line)) (slice_index line 0 == 35) (words_of (strip_carriage_return line)) name (Do (said_op op)) e) ∙ kept_said op)
 
 module _ (t : Operations) (told : Bool) (was : disk.State) (v : disk.View) (k : Core) (x : Run) (shows : Shows t told was v k x) (running : k.stopped ≡ None) where
   -- a transaction has got what an operation touches

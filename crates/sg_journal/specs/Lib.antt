@@ -6,3 +6,6 @@ pub mod Store
 pub mod Goes
 pub mod Shown
 pub mod Seen
+pub mod Damage
+pub mod Found
+pub mod Opening

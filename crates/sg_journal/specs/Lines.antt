@@ -2,19 +2,27 @@
 use Rattle.std.specs.Prelude.{ℕ, ◌==◌, not, if◌then◌else◌, List, [], ◌∷◌, Option, Some, None}
 use Rattle.std.specs.List.{filter, flat_map}
 use Rattle.sg_model.specs.Verb.{Op}
+use Rattle.sg_model.specs.Verb.Op.{On, Names}
+use Rattle.sg_model.specs.Verb.Verb.{Keys}
 use Rattle.sg_words.specs.Parse.{words_of}
 use Rattle.sg_words.specs.Requests.{Request, request_of}
 use Rattle.sg_words.specs.Requests.Request.{Begin as AsksBegin, Commit as AsksCommit, Abort as AsksAbort, Do}
 use Rattle.sg_record.specs.Plain.{Record}
 use Rattle.sg_record.specs.Plain.Record.{Begin, Commit, Line}
 
--- the operation of a request that is one
+-- the operation that a log may keep. It keeps none that lists keys or names
+abbrev pub kept_op : Op → Option Op
+kept_op (On name Keys) = None
+kept_op (On name verb) = Some (On name verb)
+kept_op Names = None
+
+-- the operation of a request, if it is one that a log may keep
 abbrev pub op_of : Option Request → Option Op
 op_of None = None
 op_of (Some AsksBegin) = None
 op_of (Some AsksCommit) = None
 op_of (Some AsksAbort) = None
-op_of (Some (Do op)) = Some op
+op_of (Some (Do op)) = kept_op op
 
 -- the operation that the words kept of a line say: a verb and its arguments
 unfoldable pub op_said : List ℕ → Option Op

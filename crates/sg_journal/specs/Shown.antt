@@ -7,6 +7,9 @@ use Rattle.sg_words.specs.declared.answer.Answer as code_answer
 use Rattle.sg_words.specs.declared.answer.Answer.TheVariants as answers
 use Rattle.sg_log.specs.declared.fault.LogFault.{LogFault}
 use Rattle.sg_log.specs.declared.fault.LogFault.TheVariants as faults
+use Rattle.sg_base.specs.declared.area.Area.TheVariants.{Log0}
+use Rattle.sg_journal.specs.declared.opening.OpenRefused as code_refused
+use Rattle.sg_journal.specs.declared.opening.OpenRefused.TheVariants as refusals
 use Rattle.sg_journal.specs.declared.live.Running as code_running
 use Rattle.sg_journal.specs.declared.line.Kept as code_kept
 use Rattle.sg_journal.specs.Live.{Opened, KeptLine}
@@ -44,3 +47,10 @@ stop_at faults.Memory = stops.Disk
 abbrev pub IsReasonOr : Outcome → code_answer.Answer → code_answer.Answer → Type 0
 IsReasonOr (Ok reply) other answer = answer ≡ other
 IsReasonOr (Err reason) other answer = answer ≡ answers.Refused reason
+
+-- why a store doesn't open where its log fails
+abbrev pub refusal_at : LogFault → code_refused.OpenRefused
+refusal_at faults.LogEnd = refusals.DiskFault
+refusal_at faults.Disk = refusals.DiskFault
+refusal_at (faults.Damaged at) = refusals.Damaged Log0 at
+refusal_at faults.Memory = refusals.Memory

@@ -1,6 +1,9 @@
 // The lines of live transactions that the log keeps, in memory.
 ghost use Rattle.std.specs.Prelude.{◌≡◌, ◌≤◌, ◌<◌, length, vec_capacity, OnOk, IfOk, Some};
+ghost use Rattle.std.specs.Option.{option_map};
 ghost use Rattle.sg_ops.specs.Table.{table_of};
+ghost use Rattle.sg_model.specs.SaidOps.{said_op};
+ghost use Rattle.sg_journal.specs.Lines.{op_said};
 ghost use Rattle.sg_words.specs.Spoken.{spoken};
 ghost use Rattle.sg_journal.specs.Live.{is_chosen, lines_chosen, words_of_all};
 ghost use Rattle.sg_journal.specs.Shown.{kept_of, all_kept};
@@ -8,6 +11,7 @@ ghost use Rattle.sg_journal.specs.Stands.{after_line, replay};
 
 use crate::line::Kept;
 use sg_base::{OutOfMemory, TxnId};
+use sg_model::Op;
 use sg_ops::Ops;
 use sg_plain::Objects;
 use sg_words::{Request, join_words, parse_words};
@@ -18,6 +22,23 @@ fn is_chosen(line: &Kept, txn: TxnId, own: bool) -> bool
     ensures { result ≡ is_chosen own txn.0 (kept_of line.now) }
 {
     (line.txn == txn) == own
+}
+
+/// The operation that the words kept of a line say, if they say one. `scratch` takes the bytes of its
+/// values. Keys and names aren't listed by a line of a log.
+pub fn operation<'a>(words: &'a [u8], scratch: &'a mut [u8]) -> Option<Op<'a>>
+    requires { length words.now ≤ length scratch.old }
+    ensures { option_map said_op result ≡ op_said words.now }
+{
+    match parse_words(words, scratch) {
+        Some(Request::Do(op)) => Some(op),
+        Some(Request::Begin) => None,
+        Some(Request::Commit) => None,
+        Some(Request::Abort) => None,
+        Some(Request::Keys(_)) => None,
+        Some(Request::List) => None,
+        None => None,
+    }
 }
 
 // Does again what the words of a line say. A line that is kept has replied before, so that no other
@@ -34,7 +55,7 @@ fn redo(
     requires into { 8192 ≤ length into.old }
     ensures { OnOk result (after_line (table_of record_meaning range_meaning ops.now) objects.old words.now ≡ Some objects.new) }
 {
-    let Some(Request::Do(op)) = parse_words(words, scratch) else {
+    let Some(op) = operation(words, scratch) else {
         return Err(OutOfMemory);
     };
     match objects.apply(alloc, ops, &op, into) {

@@ -7,12 +7,18 @@
 //! after a front of its commits, with each one that was answered.
 #![tactic(auto)]
 
+mod found;
+mod found_line;
 mod kept;
 mod law;
 mod line;
+mod lines;
 mod live;
+mod opening;
+mod replay;
 mod store;
 
 pub use law::fronts_stand;
 pub use live::MOST_LIVE;
+pub use opening::{OpenRefused, Unopened};
 pub use store::Store;

@@ -19,13 +19,16 @@ ghost use Rattle.sg_run.specs.Run.{Run};
 ghost use Rattle.sg_journal.specs.Store.{Shows};
 ghost use Rattle.sg_journal.specs.Goes.{Goes, Grows, NEW_WORK_END};
 ghost use Rattle.sg_journal.specs.Live.{Opened, opened_numbered, opened_without, with_last, lines_chosen};
-ghost use Rattle.sg_journal.specs.Shown.{kept_of, answer_at, stop_at, IsReasonOr};
+ghost use Rattle.sg_journal.specs.Shown.{all_opened, kept_of, all_kept, answer_at, stop_at, IsReasonOr};
+ghost use Rattle.sg_journal.specs.Opening.{Opens, StaysShut};
 ghost use Rattle.sg_journal.specs.Seen.{core_of};
 
 use crate::kept::{folded, line_of};
 use crate::line::Kept;
 use crate::live::{Live, Running};
-use sg_base::{Name, OutOfMemory, TxnId};
+use crate::opening::{OpenRefused, Unopened};
+use crate::replay::read_back;
+use sg_base::{Area, Name, OutOfMemory, TxnId};
 use sg_disk::Disk;
 use sg_locks::{LockAnswer, Locks};
 use sg_log::{Log, LogFault};
@@ -60,7 +63,57 @@ pub struct Store<D: Disk> {
     stop: Option<Stop>,
 }
 
+// What a store has in memory beside the committed objects: no live transactions, no locks, no lines, and
+// the objects as they are now.
+fn room_for(
+    alloc: Global,
+    committed: &Objects,
+) -> Result<(Live, Locks, Vec<Kept>, Objects), OutOfMemory>
+    ensures { IfOk result (λ p. (all_opened p.0.all.items ≡ []) × (p.1 ≡ []) × (all_kept p.2.items ≡ []) × (p.3 ≡ committed.now)) }
+{
+    let live = Live::new(alloc)?;
+    let locks = Locks::new(alloc)?;
+    let objects = committed.copy()?;
+    Ok((live, locks, Vec::new(alloc), objects))
+}
+
 impl<D: Disk> Store<D> {
+    /// Opens the store on the disk: it syncs the log's area, reads the log and does its committed
+    /// transactions again with these operations. It writes nothing.
+    pub fn open(alloc: Global, ops: &Ops, disk: D) -> Result<Store<D>, Unopened<D>>
+        ensures opens { IfOk result (λ s. Opens (table_of record_meaning range_meaning ops.now) D.told (D.view disk) (D.view s.disk) (core_of s)) }
+        ensures running { IfOk result (λ s. s.stop ≡ None) }
+        ensures refused { IfErr result (λ u. StaysShut (table_of record_meaning range_meaning ops.now) D.told (D.view disk) (D.view u.disk) u.why) }
+    {
+        let mut disk = disk;
+        match disk.sync(Area::Log0) {
+            Ok(()) => {}
+            Err(_) => {
+                let why = OpenRefused::DiskFault;
+                return Err(Unopened { why, disk });
+            }
+        }
+        match read_back(alloc, ops, &mut disk) {
+            Ok((log, committed)) => match room_for(alloc, &committed) {
+                Ok((live, locks, kept, objects)) => Ok(Store {
+                    disk,
+                    log,
+                    locks,
+                    live,
+                    kept,
+                    committed,
+                    objects,
+                    stop: None,
+                }),
+                Err(OutOfMemory) => {
+                    let why = OpenRefused::Memory;
+                    Err(Unopened { why, disk })
+                }
+            },
+            Err(why) => Err(Unopened { why, disk }),
+        }
+    }
+
     /// Why the store has stopped, if it has.
     pub fn stop(&self) -> Option<Stop>
         ensures { result ≡ self.now.stop }

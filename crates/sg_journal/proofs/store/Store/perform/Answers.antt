@@ -140,7 +140,7 @@ returns-in-Ok-keep-clause-goes g c was x shows =
     let changing = sym (changing_same c.args.op.now) ∙ (sym c.is_changing.ensures ∙ c.if-not-is_changing.false) in
     let e = rw c.in-Ok-Ok-apply.field-0-is at c.in-Ok-Ok-apply.ensures.done in
     let h = locked _ g.D.Disk.told was v k x shows c.requires.running l.transaction op _ c.try_lock.new.self (c.list.ensures ∙ c.touches-touches.ensures) c.in-Granted.ensures.answer c.in-Granted.ensures.after in
-    let says = ap op_said (ap (λ (q : KeptLine). q.words) c.in-Ok.ensures.words) ∙ op_said-spoken c.args.text.now c.args.name op c.requires.said in
+    let says = ap op_said (ap (λ (q : KeptLine). q.words) c.in-Ok.ensures.words) ∙ op_said-spoken c.args.text.now c.args.name c.args.op.now c.requires.said in
     let line : KeptLine = record { transaction = l.transaction; words = words } in
     let is_line : kept_of c.in-Ok.line ≡ line = ap (λ (n : ℕ). record { transaction = n; words = words }) (ap (λ (q : KeptLine). q.transaction) c.in-Ok.ensures.words) in
     let live : List Opened = with_last l.transaction last k.live in
