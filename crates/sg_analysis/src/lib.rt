@@ -21,3 +21,6 @@ pub use analysis::{Analysis, analyse};
 pub use fault::AnalysisFault;
 pub use laws::analyses_suffice;
 pub use losers::Losers;
+
+#[cfg(test)]
+mod tests;

@@ -111,11 +111,7 @@ impl Scan {
         ensures rows { OnOk result (self.new.rows.items ≡ rows_by (sight_of (shown rec.now)) lsn self.old.rows.items) }
     {
         match *rec {
-            Rec::Begin { txn, .. } => self.rows.push(Row {
-                txn,
-                last: lsn,
-                border: lsn,
-            })?,
+            Rec::Begin { txn, .. } => self.rows.push(Row::begun(txn, lsn))?,
             Rec::Commit { txn, .. } | Rec::End { txn, .. } => self.forget(txn),
             _ => {}
         }
