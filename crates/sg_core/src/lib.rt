@@ -9,3 +9,6 @@
 mod txns;
 
 pub use txns::{MOST_LIVE, Txns};
+
+#[cfg(test)]
+mod tests;

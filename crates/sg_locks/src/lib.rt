@@ -14,3 +14,6 @@ mod table;
 
 pub use locks::Locks;
 pub use table::{LockAnswer, MOST_HELD};
+
+#[cfg(test)]
+mod tests;
