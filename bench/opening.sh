@@ -57,9 +57,10 @@ class Log:
 
 def log_of(kind, commits):
     """A log with an array `a` of one item, and so many commits behind it."""
-    log = Log()
-    log.begin((LINE, b"make array a 256"), (LINE, b"push a x"), (COMMIT, b""))
-    words = b"push a " + b"y" * 256 if kind == "push" else b"set a 0 y"
+    size = 256 if kind == "push" else 1
+    log, item = Log(), b"y" * size
+    log.begin((LINE, b"make array a %d" % size), (LINE, b"push a " + item), (COMMIT, b""))
+    words = b"push a " + item if kind == "push" else b"set a 0 y"
     if kind == "own":
         for _ in range(commits):
             log.begin((LINE, words), (COMMIT, b""))
@@ -71,12 +72,19 @@ def log_of(kind, commits):
 
 
 def opened(program, store):
-    """Runs an empty script over the store, and answers the status, the seconds and the greatest memory in KiB."""
+    """Runs one line over the store, and answers the status, the seconds to its reply and the greatest memory in KiB."""
     start = time.monotonic()
-    process = subprocess.Popen([program, "run", store], stdin=subprocess.DEVNULL)
-    _, status, usage = os.wait4(process.pid, 0)
-    process.returncode = os.waitstatus_to_exitcode(status)
-    return process.returncode, time.monotonic() - start, usage.ru_maxrss
+    process = subprocess.Popen([program, "run", store], stdin=subprocess.PIPE, stdout=subprocess.PIPE)
+    process.stdin.write(b"t begin\n")
+    process.stdin.flush()
+    # Behind its reply the program waits for the script's end. Its account is read then.
+    reply = process.stdout.readline()
+    seconds = time.monotonic() - start
+    with open(f"/proc/{process.pid}/status") as account:
+        memory = next((int(line.split()[1]) for line in account if line.startswith("VmHWM:")), 0)
+    process.stdin.close()
+    process.wait()
+    return process.returncode if reply == b"ok\n" else f"{process.returncode} without a reply", seconds, memory
 
 
 program, folder, least = sys.argv[1], sys.argv[2], int(sys.argv[3])
