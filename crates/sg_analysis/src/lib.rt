@@ -19,7 +19,7 @@ mod scan;
 
 pub use analysis::{Analysis, analyse};
 pub use fault::AnalysisFault;
-pub use laws::analyses_suffice;
+pub use laws::{analyses_suffice, formed_logs_exist};
 pub use losers::Losers;
 
 #[cfg(test)]
