@@ -1,8 +1,10 @@
 -- How a line goes in a store.
-use Rattle.std.specs.Prelude.{◌≡◌, ◌⊎◌, ◌+◌, ◌^◌, ◌<◌, ◌≤◌, ℕ, Bool, IsTrue, MatchOption}
+use Rattle.std.specs.Prelude.{◌≡◌, ◌⊎◌, ◌+◌, ◌^◌, ◌<◌, ◌≤◌, ℕ, Bool, IsTrue, Option, Some, MatchOption}
 use Rattle.sg_base.specs.Ends.{HasRisen}
 use Rattle.sg_disk.specs.Disk as disk
 use Rattle.sg_ops.specs.Table.{Table as Operations}
+use Rattle.sg_model.specs.declared.stop.Stop.{Stop}
+use Rattle.sg_model.specs.declared.stop.Stop.TheVariants as stops
 use Rattle.sg_words.specs.Requests.{Asked}
 use Rattle.sg_words.specs.Requests.Asked.{Blank, Wrong, Of}
 use Rattle.sg_words.specs.Requests.Request.{Begin, Commit, Abort, Do}
@@ -46,3 +48,8 @@ pub record Goes (t : Operations) (told : Bool) (was : disk.State) (v : disk.View
 pub record Grows (old new : Tail) (v w : disk.View) : Type 0 where
   pub kept : v.handed ≤ w.handed
   pub grown : (disk.FULL ≤ w.handed) ⊎ (new.gate + v.handed ≤ old.gate + w.handed)
+
+-- No fault of the disk is passed over: a store that hasn't stopped for one now had not stopped for one before, and since
+-- then the disk's count of faults hasn't risen
+abbrev pub Heeds : (before now : Option Stop) → disk.View → disk.View → Type 0
+Heeds before now v w = (now ≡ Some stops.Disk → ⊥) → (before ≡ Some stops.Disk → ⊥) × (w.faults ≡ v.faults)

@@ -1,9 +1,11 @@
-ghost use Rattle.std.specs.Prelude.{◌≡◌, ◌≤◌, ◌<◌, ◌++◌, ◌∷◌, [], vec_capacity, List, ℕ, length, IfOk, IfErr, OnOk, IsTrue, Some, None, true, false};
+ghost use Rattle.std.specs.Prelude.{◌≡◌, ◌≤◌, ◌<◌, ◌++◌, ◌∷◌, [], vec_capacity, List, ℕ, length, IfOk, IfErr, IsSome, OnOk, IsTrue, Some, None, true, false};
 ghost use Rattle.sg_base.specs.Ends.{HasRisen};
 ghost use Rattle.sg_disk.specs.Disk.{LeavesOnly, State as DiskState};
 ghost use Rattle.sg_ops.specs.Table.{Table as Operations, table_of};
 ghost use Rattle.sg_serial.specs.Locks.{released};
 ghost use Rattle.sg_model.specs.SaidOps.{said_op};
+ghost use Rattle.sg_model.specs.Verb.Op.{On, Names};
+ghost use Rattle.sg_model.specs.Verb.Verb.{Keys};
 ghost use Rattle.sg_model.specs.Step.{step};
 ghost use Rattle.sg_words.specs.Requests.{asked};
 ghost use Rattle.sg_words.specs.Requests.Asked.{Of};
@@ -12,12 +14,12 @@ ghost use Rattle.sg_words.specs.Answered.{shown_answer};
 ghost use Rattle.sg_words.specs.Answers.Answer.{Busy};
 ghost use Rattle.sg_record.specs.Plain.{IsRecord};
 ghost use Rattle.sg_record.specs.Plain.Record.{Line as LineRecord};
-ghost use Rattle.sg_log.specs.Faults.{AppendFails};
+ghost use Rattle.sg_log.specs.Faults.{AppendFails, HeedsFaults};
 ghost use Rattle.sg_log.specs.Frames.{Numbered, SameElsewhere};
 ghost use Rattle.sg_log.specs.Held.{Holds, tail_of, place_of, end_of, appended, durable_after, waiting_after, IsBeforeOrAfter};
 ghost use Rattle.sg_run.specs.Run.{Run};
 ghost use Rattle.sg_journal.specs.Store.{Shows};
-ghost use Rattle.sg_journal.specs.Goes.{Goes, Grows, NEW_WORK_END};
+ghost use Rattle.sg_journal.specs.Goes.{Goes, Grows, Heeds, NEW_WORK_END};
 ghost use Rattle.sg_journal.specs.Live.{Opened, opened_numbered, opened_without, with_last, lines_chosen};
 ghost use Rattle.sg_journal.specs.Shown.{all_opened, kept_of, all_kept, answer_at, stop_at, IsReasonOr};
 ghost use Rattle.sg_journal.specs.Opening.{Opens, StaysShut};
@@ -36,7 +38,7 @@ use sg_model::{Op, Reply, Stop};
 use sg_ops::Ops;
 use sg_plain::Objects;
 use sg_record::plain::Rec;
-use sg_words::Answer;
+use sg_words::{Answer, Asked, Request, parse_request};
 use std::alloc::Global;
 
 /// No new work begins once the log's tail is above this byte: 2^62.
@@ -167,6 +169,7 @@ impl<D: Disk> Store<D> {
             → Goes t D.told was (D.view self.old.disk) (core_of self.old) x (Of name Begin) (shown_answer into result) (D.view self.new.disk) (core_of self.new) }
         ensures grown { Grows self.old.log self.new.log (D.view self.old.disk) (D.view self.new.disk) }
         ensures later { (D.view self.old.disk).faults ≤ (D.view self.new.disk).faults }
+        ensures heeded { Heeds self.old.stop self.new.stop (D.view self.old.disk) (D.view self.new.disk) }
     {
         if let Some(_live) = self.live.named(name) {
             return Answer::IsLive;
@@ -224,7 +227,7 @@ impl<D: Disk> Store<D> {
         ensures goes { (was : DiskState) (x : Run) → Shows (table_of record_meaning range_meaning ops.now) D.told was (D.view self.old.disk) (core_of self.old) x
             → Goes (table_of record_meaning range_meaning ops.now) D.told was (D.view self.old.disk) (core_of self.old) x (Of name Abort) (shown_answer into.new result) (D.view self.new.disk) (core_of self.new) }
         // it makes no call of the disk
-        ensures disk { (self.new.disk ≡ self.old.disk) × (self.new.log ≡ self.old.log) }
+        ensures disk { (self.new.disk ≡ self.old.disk) × (self.new.log ≡ self.old.log) × (self.new.stop ≡ self.old.stop) }
     {
         let Some(live) = self.live.named(name) else {
             return Answer::NoTransaction;
@@ -264,6 +267,7 @@ impl<D: Disk> Store<D> {
             → Goes (table_of record_meaning range_meaning ops.now) D.told was (D.view self.old.disk) (core_of self.old) x (Of name Commit) (shown_answer into.new result) (D.view self.new.disk) (core_of self.new) }
         ensures grown { Grows self.old.log self.new.log (D.view self.old.disk) (D.view self.new.disk) }
         ensures later { (D.view self.old.disk).faults ≤ (D.view self.new.disk).faults }
+        ensures heeded { Heeds self.old.stop self.new.stop (D.view self.old.disk) (D.view self.new.disk) }
     {
         let Some(live) = self.live.named(name) else {
             return Answer::NoTransaction;
@@ -337,6 +341,8 @@ impl<D: Disk> Store<D> {
         ensures elsewhere { IsTrue D.told → OnOk result (SameElsewhere self.old.log.area (D.view self.old.disk).now (D.view self.new.disk).now) }
         ensures grown { Grows self.old.log self.new.log (D.view self.old.disk) (D.view self.new.disk) }
         ensures later { (D.view self.old.disk).faults ≤ (D.view self.new.disk).faults }
+        ensures heeded { HeedsFaults result (D.view self.old.disk) (D.view self.new.disk) }
+        ensures stop { self.new.stop ≡ self.old.stop }
     {
         let record = Rec::Line {
             txn: live.txn,
@@ -376,6 +382,7 @@ impl<D: Disk> Store<D> {
             → Goes (table_of record_meaning range_meaning ops.now) D.told was (D.view self.old.disk) (core_of self.old) x (Of name (Do (said_op op.now))) (shown_answer into.new result) (D.view self.new.disk) (core_of self.new) }
         ensures grown { Grows self.old.log self.new.log (D.view self.old.disk) (D.view self.new.disk) }
         ensures later { (D.view self.old.disk).faults ≤ (D.view self.new.disk).faults }
+        ensures heeded { Heeds self.old.stop self.new.stop (D.view self.old.disk) (D.view self.new.disk) }
     {
         let Some(live) = self.live.named(name) else {
             return Answer::NoTransaction;
@@ -408,6 +415,97 @@ impl<D: Disk> Store<D> {
         match self.keep(live, line) {
             Ok(()) => Answer::Said(reply),
             Err(fault) => self.halt(fault),
+        }
+    }
+
+    /// The keys of a table, by their bytes, asked by the transaction with this name, if it is live. It
+    /// holds them all from then on, as `perform` says. It makes no call of the disk.
+    pub fn keys(&mut self, alloc: Global, name: Name, table: Name) -> Answer
+        requires { self.old.stop ≡ None }
+        ensures goes { (t : Operations) (into : List ℕ) (was : DiskState) (x : Run) → Shows t D.told was (D.view self.old.disk) (core_of self.old) x
+            → Goes t D.told was (D.view self.old.disk) (core_of self.old) x (Of name (Do (On table Keys))) (shown_answer into result) (D.view self.new.disk) (core_of self.new) }
+        ensures disk { (self.new.disk ≡ self.old.disk) × (self.new.log ≡ self.old.log) × (self.new.stop ≡ self.old.stop) }
+    {
+        let Some(live) = self.live.named(name) else {
+            return Answer::NoTransaction;
+        };
+        let touches = self.objects.keys_touches(table);
+        match self.locks.try_lock(live.txn, touches.list()) {
+            LockAnswer::Granted => {}
+            LockAnswer::Busy(holder) => return self.busy(holder),
+            LockAnswer::LocksFull => return Answer::LocksFull,
+        }
+        match self.objects.keys(alloc, table) {
+            Ok(Ok(keys)) => Answer::Keys(keys),
+            Ok(Err(reason)) => Answer::Refused(reason),
+            Err(OutOfMemory) => Answer::Memory,
+        }
+    }
+
+    /// The names of all objects, by their bytes, asked by the transaction with this name, if it is live.
+    /// It holds which objects there are from then on, as `perform` says. It makes no call of the disk.
+    pub fn list(&mut self, alloc: Global, name: Name) -> Answer
+        requires { self.old.stop ≡ None }
+        ensures goes { (t : Operations) (into : List ℕ) (was : DiskState) (x : Run) → Shows t D.told was (D.view self.old.disk) (core_of self.old) x
+            → Goes t D.told was (D.view self.old.disk) (core_of self.old) x (Of name (Do Names)) (shown_answer into result) (D.view self.new.disk) (core_of self.new) }
+        ensures disk { (self.new.disk ≡ self.old.disk) × (self.new.log ≡ self.old.log) × (self.new.stop ≡ self.old.stop) }
+    {
+        let Some(live) = self.live.named(name) else {
+            return Answer::NoTransaction;
+        };
+        let touches = self.objects.list_touches();
+        match self.locks.try_lock(live.txn, touches.list()) {
+            LockAnswer::Granted => {}
+            LockAnswer::Busy(holder) => return self.busy(holder),
+            LockAnswer::LocksFull => return Answer::LocksFull,
+        }
+        match self.objects.list(alloc) {
+            Ok(names) => Answer::Names(names),
+            Err(OutOfMemory) => Answer::Memory,
+        }
+    }
+
+    /// Answers a line, without its LF and of any length. `values` takes the bytes of values that are
+    /// written in hexadecimal digits, `words` the words that the log keeps of a line, and the first bytes
+    /// of `into` are those of an answer `Said(Reply::Bytes(n))`. A store that has stopped answers
+    /// `Stopped` to each line that asks for something.
+    pub fn answer(
+        &mut self,
+        alloc: Global,
+        ops: &Ops,
+        text: &[u8],
+        values: &mut [u8],
+        words: &mut [u8],
+        into: &mut [u8],
+    ) -> Answer
+        requires values { 32768 ≤ length values.old }
+        requires words { 32768 ≤ length words.old }
+        requires into { 8192 ≤ length into.old }
+        // a store that has stopped changes no more, and makes no call of the disk
+        ensures stopped { IsSome self.old.stop → self.new ≡ self.old }
+        ensures goes { (was : DiskState) (x : Run) → Shows (table_of record_meaning range_meaning ops.now) D.told was (D.view self.old.disk) (core_of self.old) x
+            → Goes (table_of record_meaning range_meaning ops.now) D.told was (D.view self.old.disk) (core_of self.old) x (asked text.now) (shown_answer into.new result) (D.view self.new.disk) (core_of self.new) }
+        ensures grown { Grows self.old.log self.new.log (D.view self.old.disk) (D.view self.new.disk) }
+        ensures later { (D.view self.old.disk).faults ≤ (D.view self.new.disk).faults }
+        // where the disk fails, the store stops
+        ensures heeded { Heeds self.old.stop self.new.stop (D.view self.old.disk) (D.view self.new.disk) }
+    {
+        match parse_request(text, values) {
+            Asked::Blank => Answer::Silent,
+            Asked::Wrong => Answer::BadSyntax,
+            Asked::Of { name, request } => {
+                if self.stop.is_some() {
+                    return Answer::Stopped;
+                }
+                match request {
+                    Request::Begin => self.begin(name),
+                    Request::Commit => self.commit(alloc, ops, name, words, into),
+                    Request::Abort => self.abort(alloc, ops, name, words, into),
+                    Request::Do(op) => self.perform(alloc, ops, name, &op, text, words, into),
+                    Request::Keys(table) => self.keys(alloc, name, table),
+                    Request::List => self.list(alloc, name),
+                }
+            }
         }
     }
 }

@@ -186,7 +186,8 @@ impl Objects {
 
     /// The keys of a table by their bytes, or the reason why there are none. It changes nothing.
     pub fn keys(&self, alloc: Global, name: Name) -> Result<Result<Vec<Key>, Reason>, OutOfMemory>
-        ensures { IfOk result (λ r. (t : Operations) → step t self.now (On name Keys) ≡ (shown_keys r, self.now)) }
+        ensures done { IfOk result (λ r. (t : Operations) → step t self.now (On name Keys) ≡ (shown_keys r, self.now)) }
+        ensures cause { OnErr result ((t : Operations) → IsOk (step t self.now (On name Keys)).0) }
     {
         match self.map.get(&name) {
             None => Ok(Err(Reason::NoObject)),
@@ -225,6 +226,30 @@ impl Objects {
     {
         let mut touches = Touches::new();
         touches.push(written(Resource::AllOf(name)));
+        touches
+    }
+
+    /// What the keys of a table touch. It changes nothing and takes no memory.
+    #[tactic(auto, unfolding(sg_model::specs::Touches::touches))]
+    pub fn keys_touches(&self, name: Name) -> Touches
+        ensures { shown_touches result ≡ touches self.now (On name Keys) }
+    {
+        let mut touches = Touches::new();
+        touches.push(only_read(Resource::Name(name)));
+        match self.map.get(&name) {
+            Some(Object::Table(_)) => touches.push(only_read(Resource::Keys(name))),
+            _ => {}
+        }
+        touches
+    }
+
+    /// What the names of all objects touch. It changes nothing and takes no memory.
+    #[tactic(auto, unfolding(sg_model::specs::Touches::touches))]
+    pub fn list_touches(&self) -> Touches
+        ensures { shown_touches result ≡ touches self.now Names }
+    {
+        let mut touches = Touches::new();
+        touches.push(only_read(Resource::Names));
         touches
     }
 
