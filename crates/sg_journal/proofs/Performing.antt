@@ -13,6 +13,7 @@ use Rattle.sg_model.specs.Shown.{shown_op}
 use Rattle.sg_model.specs.SaidOps.{said_op}
 use Rattle.sg_model.specs.Objects.{Objects}
 use Rattle.sg_model.specs.Verb.{Op, Outcome, Reply}
+use Rattle.sg_model.specs.Verb.Op.{Names}
 use Rattle.sg_model.specs.Step.{step, is_changing, Grows}
 use Rattle.sg_model.specs.Touches.{Resource, touches, same_resource, conflict}
 use Rattle.sg_model.proofs.Refused.{step_refused, replied}
@@ -92,6 +93,11 @@ pub op_said-spoken : (line name : List ℕ) (op : code_op.Op) → asked line ≡
 unfolding asked op_said
 op_said-spoken line name op e =
     ap (λ (ws : List (List ℕ)). op_of (request_of ws)) (words_of-spoken line) ∙ (ap (λ (r : Option Request). op_of r) (said_line (nat_lt most_line_bytes (length line)) (slice_index line 0 == 35) (words_of (strip_carriage_return line)) name (Do (said_op op)) e) ∙ kept_said op)
+
+-- the names of all objects are always answered
+pub names_said : (t : Operations) (s : Objects) → IsOk (step t s Names).0
+unfolding step
+names_said t s = refl
 
 -- a line that asks for something isn't too long
 pub asked-short : (line name : List ℕ) (request : Request) → asked line ≡ Of name request → length line ≤ most_line_bytes
