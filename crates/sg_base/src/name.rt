@@ -83,6 +83,13 @@ impl Name {
     {
         &self.bytes[..self.len]
     }
+
+    /// Tells a proof that its text is that of a name. It does nothing.
+    pub fn tell_name(&self)
+        ensures { IsTrue (is_name self.now) }
+    {
+        let _ = &self.bytes;
+    }
 }
 
 impl PartialEq for Name {
