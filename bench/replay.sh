@@ -18,7 +18,7 @@ folder="$(mktemp -d)"
 trap 'rm -rf "$folder"' EXIT
 bench="$folder/crates/replay_bench"
 mkdir -p "$bench/src" "$bench/proofs/run" "$bench/proofs/main"
-below="sg_base sg_record sg_segment sg_slotted sg_frames sg_ops sg_step sg_redo"
+below="sg_base sg_record sg_bits sg_segment sg_slotted sg_frames sg_ops sg_step sg_redo"
 for crate in $below; do
     mkdir "$folder/crates/$crate"
     (cd "$top/crates/$crate" && cp -r src specs proofs "$folder/crates/$crate")

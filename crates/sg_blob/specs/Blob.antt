@@ -1,6 +1,7 @@
 -- A blob: what callers see of it, and how it stands in a page and in bands.
 use Rattle.std.specs.Prelude.{◌≡◌, ℕ, ◌+◌, ◌*◌, ◌<◌, ◌≤◌, List, length, slice_get, Option, Some}
 use Rattle.sg_base.specs.Sheet.{Sheet}
+use Rattle.sg_base.specs.declared.page.TheConstants.{BAND_SIZE}
 use Rattle.sg_blob.specs.Raw.{Raw, IsRaw}
 
 -- a list of bytes. Its peak is the greatest length that it had since it was made
@@ -18,8 +19,8 @@ raw_of b = record { count = length b.bytes; peak = b.peak; bands = b.bands; byte
 -- and what bytes each band has.
 pub record IsBlob (pages : ℕ → Option Sheet) (bands : ℕ → Option (List ℕ)) (root : ℕ) (b : Blob) : Type 0 where
   pub raw : IsRaw pages bands root (raw_of b)
-  pub least : b.peak ≤ 32768 * length b.bands
-  pub most : 32768 * length b.bands < b.peak + 32768
+  pub least : b.peak ≤ BAND_SIZE * length b.bands
+  pub most : BAND_SIZE * length b.bands < b.peak + BAND_SIZE
 
 -- the page is the blob's
 abbrev pub OwnsPage : (root p : ℕ) → Type 0

@@ -1,6 +1,7 @@
 -- What the calls on a blob want and do.
 use Rattle.std.specs.Prelude.{◌≡◌, ◌≢◌, ℕ, ◌+◌, ◌*◌, ◌-◌, max, [], ◌++◌, ◌<◌, ◌≤◌, List, length, take, replicate, ⊤}
 use Rattle.sg_base.specs.Overwritten.{overwritten}
+use Rattle.sg_base.specs.declared.page.TheConstants.{BAND_SIZE}
 use Rattle.sg_ops.specs.Table.{Table, range_at, rendered}
 use Rattle.sg_space.specs.Owned.{Becomes}
 use Rattle.sg_space.specs.Units.{IsTaken, IsFreed}
@@ -32,9 +33,9 @@ pub record DidIf (v w : View) (root : ℕ) (Can : Blob → Type 0) (Is : Blob �
 -- there are bands for a blob of this length. Where it wants more than it has, the open action may take them, and may open
 -- their slots in the root
 pub record HasBandsFor (v : View) (root size : ℕ) (b : Blob) : Type 0 where
-  pub free : size ≤ 32768 * (length b.bands + v.space.bands.free)
-  pub may_take : 32768 * length b.bands < size → v.MayTake
-  pub may_fill : 32768 * length b.bands < size → MayFill v root 501
+  pub free : size ≤ BAND_SIZE * (length b.bands + v.space.bands.free)
+  pub may_take : BAND_SIZE * length b.bands < size → v.MayTake
+  pub may_fill : BAND_SIZE * length b.bands < size → MayFill v root 501
 
 -- so many bytes may be written from byte `at` on, which is within the blob or right behind it
 pub record CanWriteAt (v : View) (root at count : ℕ) (b : Blob) : Type 0 where
@@ -80,8 +81,8 @@ pub record Made (v w : View) (root : ℕ) : Type 0 where
 pub record CanRestore (size : ℕ) (r : Raw) : Type 0 where
   pub long : length r.bytes ≡ size
   pub below : size ≤ r.peak
-  pub least : r.peak ≤ 32768 * length r.bands
-  pub most : 32768 * length r.bands < r.peak + 32768
+  pub least : r.peak ≤ BAND_SIZE * length r.bands
+  pub most : BAND_SIZE * length r.bands < r.peak + BAND_SIZE
 
 -- the root says this length and nothing else has changed, so that these bytes are a blob's
 pub record Restored (v w : View) (root size : ℕ) : Type 0 where

@@ -3,6 +3,7 @@ use Rattle.std.specs.Prelude.{◌≡◌, ℕ, ◌+◌, ◌*◌, ◌<◌, ◌≤�
 use Rattle.byteorder.specs.Endian.{little_bytes}
 use Rattle.sg_base.specs.Page.{cell_in}
 use Rattle.sg_base.specs.Sheet.{Sheet}
+use Rattle.sg_base.specs.declared.page.TheConstants.{BAND_SIZE}
 use Rattle.sg_space.specs.Units.{HasAt}
 
 pub record Raw : Type 0 where
@@ -32,8 +33,8 @@ pub record IsRoot (count peak : ℕ) (bands : List ℕ) (sheet : Sheet) : Type 0
 
 -- band j, from 0 on, has its part of the bytes, and 0 past their end
 pub record IsPart (bytes : List ℕ) (j : ℕ) (band : List ℕ) : Type 0 where
-  pub size : length band ≡ 32768
-  pub each : (k : ℕ) → k < 32768 → slice_index band k ≡ slice_index bytes (32768 * j + k)
+  pub size : length band ≡ BAND_SIZE
+  pub each : (k : ℕ) → k < BAND_SIZE → slice_index band k ≡ slice_index bytes (BAND_SIZE * j + k)
 
 -- The root page and the bands say this. `pages` and `bands` are what each page says and what bytes each band has.
 pub record IsRaw (pages : ℕ → Option Sheet) (bands : ℕ → Option (List ℕ)) (root : ℕ) (r : Raw) : Type 0 where
@@ -44,4 +45,4 @@ pub record IsRaw (pages : ℕ → Option Sheet) (bands : ℕ → Option (List �
   pub apart : (i j b : ℕ) → slice_get r.bands i ≡ Some b → slice_get r.bands j ≡ Some b → i ≡ j
   pub below_peak : r.count ≤ r.peak
   pub few : r.peak ≤ 16384000
-  pub enough : length r.bytes ≤ 32768 * length r.bands
+  pub enough : length r.bytes ≤ BAND_SIZE * length r.bands

@@ -1,6 +1,7 @@
 -- What the steps of a change of a blob want and do. Between them the root may say another length than the bytes have.
 use Rattle.std.specs.Prelude.{◌≡◌, ◌≢◌, ℕ, ◌+◌, ◌*◌, ◌<◌, ◌≤◌, List, length, slice_index, IsSome}
 use Rattle.sg_base.specs.Overwritten.{overwritten}
+use Rattle.sg_base.specs.declared.page.TheConstants.{BAND_SIZE}
 use Rattle.sg_ops.specs.Table.{Table, range_at}
 use Rattle.sg_space.specs.Owned.{Grows}
 use Rattle.sg_space.specs.View.{View, Space, Keeps, MayFill}
@@ -48,7 +49,7 @@ pub record DidSome (v w : View) (root : ℕ) (Can : Raw → Type 0) (Is : Raw �
 -- so many bytes from byte `at` on are bytes of the bands, and follow those that are known
 pub record HasPlace (at count : ℕ) (r : Raw) : Type 0 where
   pub from : at ≤ length r.bytes
-  pub within : at + count ≤ 32768 * length r.bands
+  pub within : at + count ≤ BAND_SIZE * length r.bands
 
 -- other bytes from byte `at` on
 abbrev pub with_bytes : (at : ℕ) (bytes : List ℕ) → Raw → Raw

@@ -18,7 +18,7 @@ pub fn write_in<P: PageSpace>(
     at: u32,
     bytes: &[u8],
 ) -> Result<(), SpaceFault>
-    requires piece { IsPiece (at % 32768) (length bytes.now) }
+    requires piece { IsPiece (at % BAND) (length bytes.now) }
     requires small { at < 16384000 }
     requires there { HasRaw (P.view space.old) root.0 (HasPlace at (length bytes.now)) }
     ensures counts { Counts (P.view space.old) (P.view space.new) result }
@@ -96,7 +96,7 @@ pub fn paint_in<P: PageSpace>(
     code: u16,
     arg: &[u8],
 ) -> Result<(), SpaceFault>
-    requires piece { IsPiece (at % 32768) count }
+    requires piece { IsPiece (at % BAND) count }
     requires small { at + count ≤ 16384000 }
     requires there { HasRaw (P.view space.old) root.0 (HasPlace at count) }
     requires can { (P.view space.old).Told → CanPaintBy (table_of record_meaning range_meaning ops.now)

@@ -62,55 +62,114 @@ impl Trial {
         self.space.write_band(BandNo(band), at, bytes)
     }
 
-    fn free_bands(&self) -> u32 {
-        self.space.free_bands()
+    // Whether these bytes, at most 8, are read from there on.
+    fn reads(&mut self, at: u32, want: &[u8]) -> bool {
+        let mut bytes = [7; 8];
+        match bytes.get_mut(..want.len()) {
+            Some(into) => self.read(at, into).is_ok() && &*into == want,
+            None => false,
+        }
     }
 
-    fn faults(&self) -> u64 {
-        self.space.faults()
+    // Whether a step is done.
+    fn does(&mut self, step: &Step) -> bool {
+        match *step {
+            Step::Write(at, bytes) => self.write(at, bytes).is_ok(),
+            Step::Paint(at, count, code, arg) => self.paint(at, count, code, arg).is_ok(),
+            Step::SetLen(size) => self.set_len(size).is_ok(),
+            Step::RestoreLen(size) => self.restore_len(size).is_ok(),
+            Step::PutBack(at, bytes) => self.put_back(1, at, bytes).is_ok(),
+            Step::Reads(at, want) => self.reads(at, want),
+        }
+    }
+
+    // Where the first step stands that is done and isn't to be, or isn't done and is to be.
+    fn first_wrong(&mut self, steps: &[(Step, bool)]) -> Option<usize> {
+        for (at, (step, done)) in steps.iter().enumerate() {
+            if self.does(step) != *done {
+                return Some(at);
+            }
+        }
+        None
+    }
+
+    fn free(&mut self) -> bool {
+        free_all(&mut self.space, self.root).is_ok()
+    }
+
+    // Its length, how many bands it has, how many are free, and how many faults there were.
+    fn counts(&mut self) -> (Option<u32>, Option<u32>, u32, u64) {
+        (
+            self.len().ok(),
+            self.bands().ok(),
+            self.space.free_bands(),
+            self.space.faults(),
+        )
     }
 }
 
-// A write across the end of a band, taken off again. Of 4 bands the map has one, and the blob two.
+// One call on a blob, or a look at some of its bytes.
+#[derive(Clone, Copy)]
+enum Step {
+    Write(u32, &'static [u8]),
+    Paint(u32, u32, u16, &'static [u8]),
+    SetLen(u32),
+    RestoreLen(u32),
+    PutBack(u32, &'static [u8]),
+    Reads(u32, &'static [u8]),
+}
+
+// A write across the end of a band, taken off again.
+const ACROSS: [(Step, bool); 6] = [
+    (Step::SetLen(32_769), true),
+    (Step::Write(32_767, b"AB"), true),
+    (Step::Reads(32_766, &[0x00, 0x41, 0x42]), true),
+    (Step::Write(32_767, &[0, 0]), true),
+    (Step::RestoreLen(32_769), true),
+    (Step::Reads(32_766, &[0, 0, 0]), true),
+];
+
+// Bytes that were cut off come back as zeros, and as themselves where the cut is taken off. Then some are painted.
+const CUT: [(Step, bool); 12] = [
+    (Step::Write(0, b"hello"), true),
+    (Step::SetLen(2), true),
+    (Step::SetLen(5), true),
+    (Step::Reads(0, b"he\0\0\0"), true),
+    (Step::RestoreLen(2), true),
+    (Step::PutBack(2, b"llo"), true),
+    (Step::RestoreLen(5), true),
+    (Step::Reads(0, b"hello"), true),
+    (Step::SetLen(4), true),
+    (Step::Paint(0, 4, 2, &[0x0a]), true),
+    (Step::Paint(1, 2, 1, b"Z"), true),
+    (Step::Reads(0, &[0x0a, 0x5a, 0x5a, 0x0d]), true),
+];
+
+// What can't be done of a blob of three bytes.
+const REFUSED: [(Step, bool); 6] = [
+    (Step::Write(0, b"abc"), true),
+    (Step::Reads(2, b"c?"), false),
+    (Step::Write(4, b"x"), false),
+    (Step::Paint(1, 3, 1, b"x"), false),
+    (Step::Paint(0, 1, 9, b"x"), false),
+    (Step::RestoreLen(4), false),
+];
+
+// Of 4 bands the map has one, and the blob two.
 #[test]
 fn a_write_across_bands_is_taken_off(rt: HostRuntime) -> Result<(), Fail> {
     let mut blob = Trial::new(rt.alloc(), Ops::shipped(rt.alloc())?, false)?;
-    let mut into = [7; 3];
-    blob.set_len(32_769)?;
-    blob.write(32_767, b"AB")?;
-    blob.read(32_766, &mut into)?;
-    assert_eq!(rt; into, [0x00, 0x41, 0x42]);
-    blob.write(32_767, &[0, 0])?;
-    blob.restore_len(32_769)?;
-    blob.read(32_766, &mut into)?;
-    assert_eq!(rt; into, [0, 0, 0]);
-    assert_eq!(rt; blob.bands()?, 2);
-    assert_eq!(rt; blob.free_bands(), 1);
-    assert!(rt; blob.set_len(98_305).is_err());
+    assert_eq!(rt; blob.first_wrong(&ACROSS), None);
+    assert_eq!(rt; blob.counts(), (Some(32_769), Some(2), 1, 0));
+    assert!(rt; !blob.does(&Step::SetLen(98_305)));
     Ok(())
 }
 
-// Bytes that were cut off come back as zeros, and as themselves where the cut is taken off.
 #[test]
 fn a_cut_is_taken_off(rt: HostRuntime) -> Result<(), Fail> {
     let mut blob = Trial::new(rt.alloc(), Ops::shipped(rt.alloc())?, false)?;
-    let mut five = [7; 5];
-    let mut four = [7; 4];
-    blob.write(0, b"hello")?;
-    blob.set_len(2)?;
-    blob.set_len(5)?;
-    blob.read(0, &mut five)?;
-    assert_eq!(rt; five, *b"he\0\0\0");
-    blob.restore_len(2)?;
-    blob.put_back(1, 2, b"llo")?;
-    blob.restore_len(5)?;
-    blob.read(0, &mut five)?;
-    assert_eq!(rt; five, *b"hello");
-    blob.set_len(4)?;
-    blob.paint(0, 4, 2, &[0x0a])?;
-    blob.paint(1, 2, 1, b"Z")?;
-    blob.read(0, &mut four)?;
-    assert_eq!(rt; four, [0x0a, 0x5a, 0x5a, 0x0d]);
+    assert_eq!(rt; blob.first_wrong(&CUT), None);
+    assert_eq!(rt; blob.counts(), (Some(4), Some(1), 2, 0));
     Ok(())
 }
 
@@ -118,21 +177,10 @@ fn a_cut_is_taken_off(rt: HostRuntime) -> Result<(), Fail> {
 #[test]
 fn what_cannot_be_done_is_counted(rt: HostRuntime) -> Result<(), Fail> {
     let mut blob = Trial::new(rt.alloc(), Ops::shipped(rt.alloc())?, false)?;
-    let mut into = [7; 2];
-    blob.write(0, b"abc")?;
-    let refused = [
-        blob.read(2, &mut into).is_err(),
-        blob.write(4, b"x").is_err(),
-        blob.paint(1, 3, 1, b"x").is_err(),
-        blob.paint(0, 1, 9, b"x").is_err(),
-        blob.restore_len(4).is_err(),
-    ];
-    assert_eq!(rt; refused, [true; 5]);
-    assert_eq!(rt; blob.faults(), 5);
-    assert_eq!(rt; blob.len()?, 3);
-    free_all(&mut blob.space, blob.root)?;
-    assert_eq!(rt; blob.free_bands(), 3);
-    assert!(rt; blob.len().is_err());
+    assert_eq!(rt; blob.first_wrong(&REFUSED), None);
+    assert_eq!(rt; blob.counts(), (Some(3), Some(1), 2, 5));
+    assert!(rt; blob.free());
+    assert_eq!(rt; blob.counts(), (None, None, 3, 7));
     Ok(())
 }
 
@@ -254,6 +302,6 @@ fn a_blob_is_a_list_of_bytes(rt: HostRuntime) -> Result<(), Fail> {
         }
     }
     assert_eq!(rt; wrong, 0);
-    assert_eq!(rt; pair.blob.faults(), 0);
+    assert_eq!(rt; pair.blob.space.faults(), 0);
     Ok(())
 }

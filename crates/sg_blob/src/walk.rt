@@ -1,5 +1,5 @@
 // From the root of a blob to its bands.
-ghost use Rattle.std.specs.Prelude.{◌≡◌, ◌+◌, ◌*◌, ◌/◌, ◌%◌, ◌^◌, ◌<◌, ◌≤◌, length, slice_get, Some, IfOk, OnOk, IfSome, IsSome, ⊤};
+ghost use Rattle.std.specs.Prelude.{◌≡◌, ◌+◌, ◌-◌, ◌*◌, ◌/◌, ◌%◌, ◌^◌, ◌<◌, ◌≤◌, length, slice_get, Some, IfOk, OnOk, IfSome, IsSome, ⊤};
 ghost use Rattle.byteorder.specs.Endian.{little_bytes};
 ghost use Rattle.sg_blob.specs.Raw.{root_cell};
 ghost use Rattle.sg_blob.specs.Steps.{HasRaw, IfRaw, IsInRange, IsCopied};
@@ -10,7 +10,7 @@ ghost use Rattle.sg_space.specs.Reads.{CanRead, Reads};
 ghost use Rattle.sg_space.specs.Units.{HasAt};
 ghost use Rattle.sg_space.specs.View.{Counts, OnlyReads};
 
-use sg_base::{BandNo, PageNo, read_u32};
+use sg_base::{BAND_SIZE, BandNo, PageNo, read_u32};
 use sg_space::{PageSpace, SpaceFault, read_cell};
 
 /// The kind of a blob's root page.
@@ -19,8 +19,8 @@ pub const ROOT_KIND: u8 = 7;
 /// The most bytes that a blob may have.
 pub const MOST: u32 = 16_384_000;
 
-/// How many bytes a band has.
-pub const BAND: u32 = 32_768;
+/// How many bytes a band has, as a number of the type of places in a blob.
+pub const BAND: u32 = BAND_SIZE as u32;
 
 /// The most bytes that are written or read at once.
 const MOST_AT_ONCE: u32 = 8_192;
@@ -115,9 +115,9 @@ pub fn read_in<P: PageSpace>(
     at: u32,
     into: &mut [u8],
 ) -> Result<(), SpaceFault>
-    requires piece { IsPiece (at % 32768) (length into.old) }
+    requires piece { IsPiece (at % BAND) (length into.old) }
     requires small { at < 16384000 }
-    requires there { HasRaw (P.view space.old) root.0 (λ r. at / 32768 < length r.bands) }
+    requires there { HasRaw (P.view space.old) root.0 (λ r. at / BAND < length r.bands) }
     ensures counts { Counts (P.view space.old) (P.view space.new) result }
     ensures kept { OnOk result (OnlyReads (P.view space.old) (P.view space.new)) }
     ensures read { OnOk result (IfRaw (P.view space.old) root.0 (λ r. IsCopied r.bytes at into.new)) }
@@ -131,7 +131,7 @@ pub fn read_in<P: PageSpace>(
 /// the next band.
 pub fn piece(at: u32, left: usize) -> usize
     requires { 1 ≤ left }
-    ensures piece { IsPiece (at % 32768) result }
+    ensures piece { IsPiece (at % BAND) result }
     ensures most { result ≤ left }
 {
     let room = (BAND - at % BAND).min(MOST_AT_ONCE) as usize;
@@ -141,7 +141,7 @@ pub fn piece(at: u32, left: usize) -> usize
 /// How many bands so many bytes want.
 pub fn bands_for(size: u32) -> u32
     requires { size ≤ 16384000 }
-    ensures { result ≡ (size + 32767) / 32768 }
+    ensures { result ≡ (size + (BAND - 1)) / BAND }
 {
     (size + (BAND - 1)) / BAND
 }

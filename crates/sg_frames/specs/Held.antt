@@ -1,6 +1,7 @@
 -- What the page frames and windows of one block hold, and what a loan of one holds.
 use Rattle.std.specs.Prelude.{◌≡◌, ◌<◌, ◌+◌, ◌*◌, ◌⊎◌, ℕ, List, [], length, slice_set, slice_index_or}
 use Rattle.std.specs.Ptr.{Ptr, null_ptr}
+use Rattle.sg_base.specs.declared.page.TheConstants.{BAND_SIZE}
 use Rattle.sg_frames.specs.declared.block.Run.{Run}
 use Rattle.sg_frames.specs.declared.place.Place.{Place}
 use Rattle.sg_frames.specs.declared.place.Place.TheVariants.{Page, Window}
@@ -30,7 +31,7 @@ pub record Lent : Type 0 where
 -- how many bytes a frame and a window have
 abbrev pub size_of : Place → ℕ
 size_of (Page i) = 4096
-size_of (Window w) = 32768
+size_of (Window w) = BAND_SIZE
 
 -- where the place lies in the block
 abbrev pub spot_at : Held → Place → Ptr
@@ -78,6 +79,6 @@ HereBut out held = (place : Place) → HasPlace held place → out place ⊎ IsH
 -- page frames, windows and the rest lie side by side, and are the whole
 pub record IsWhole (block : Block) : Type 0 where
   pub pages : AreSideBySide 4096 block.pages (start_of block.windows block.rest.ptr)
-  pub windows : AreSideBySide 32768 block.windows block.rest.ptr
+  pub windows : AreSideBySide BAND_SIZE block.windows block.rest.ptr
   pub start : start_of block.pages (start_of block.windows block.rest.ptr) ≡ block.whole.ptr
-  pub size : length block.rest.items + length block.windows * 32768 + length block.pages * 4096 ≡ block.whole.len
+  pub size : length block.rest.items + length block.windows * BAND_SIZE + length block.pages * 4096 ≡ block.whole.len

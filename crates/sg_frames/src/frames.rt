@@ -52,7 +52,7 @@ fn reserve(
 ) -> Result<(Vec<u8>, Vec<Slot>, Vec<Slot>), AllocError>
     requires most_frames { frames ≤ 16384 }
     requires most_windows { windows ≤ 256 }
-    ensures size { IfOk result (λ r. length r.0.items ≡ frames * 4096 + windows * 32768) }
+    ensures size { IfOk result (λ r. length r.0.items ≡ frames * 4096 + windows * BAND_SIZE) }
     ensures zeros { IfOk result (λ r. All (λ x. x ≡ 0) r.0.items) }
     ensures pages { IfOk result (λ r. (vec_len r.1 ≡ 0) × (frames ≤ vec_capacity r.1)) }
     ensures windows { IfOk result (λ r. (vec_len r.2 ≡ 0) × (windows ≤ vec_capacity r.2)) }
@@ -105,7 +105,7 @@ impl Frames {
         requires most_frames { frames ≤ 16384 }
         requires some_windows { 0 < windows }
         requires most_windows { windows ≤ 256 }
-        requires size { length memory.items ≡ frames * 4096 + windows * 32768 }
+        requires size { length memory.items ≡ frames * 4096 + windows * BAND_SIZE }
         requires zeros { All (λ x. x ≡ 0) memory.items }
         requires pages { (vec_len pages ≡ 0) × (frames ≤ vec_capacity pages) }
         requires windows { (vec_len others ≡ 0) × (windows ≤ vec_capacity others) }

@@ -1,12 +1,10 @@
 -- Where the home area has what. All numbers are of bytes, but for those of places, pages and bands.
 use Rattle.std.specs.Prelude.{◌⊎◌, ◌<◌, ◌≤◌, ◌+◌, ◌*◌, ℕ}
+use Rattle.sg_base.specs.declared.page.TheConstants.{BAND_SIZE}
 
 -- the bytes of a page, and of a place of the double-write area
 abbrev pub PAGE : ℕ
 PAGE = 4096
-
-abbrev pub BAND : ℕ
-BAND = 32768
 
 -- the double-write header: its gate, and behind it a count and the numbers of pages. The two slots of the superblock lie
 -- before it
@@ -31,7 +29,7 @@ home_at n = HOMES + PAGE * n
 
 -- where a band begins: behind the homes of all pages
 abbrev pub band_at : (pages band : ℕ) → ℕ
-band_at pages band = home_at pages + BAND * band
+band_at pages band = home_at pages + BAND_SIZE * band
 
 -- a byte of the store: of a superblock slot, a page's home or a band, so of all but the double-write area
 abbrev pub IsStore : ℕ → Type 0

@@ -2,7 +2,7 @@
 ghost use Rattle.std.specs.Prelude.{◌≡◌, ◌<◌, ◌≤◌};
 ghost use Rattle.sg_gate.specs.Layout.{place_at, home_at, band_at};
 
-use sg_base::{BandNo, PageNo};
+use sg_base::{BAND_SIZE, BandNo, PageNo};
 
 /// The offset in the home area at which the double-write header begins, with its gate.
 pub const HEADER_START: u64 = 8_192;
@@ -29,5 +29,5 @@ pub fn page_start(page: PageNo) -> u64
 pub fn band_start(pages: u32, band: BandNo) -> u64
     ensures { result ≡ band_at pages band.0 }
 {
-    page_start(PageNo(pages)) + 32_768 * band.0 as u64
+    page_start(PageNo(pages)) + BAND_SIZE as u64 * band.0 as u64
 }

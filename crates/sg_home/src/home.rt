@@ -1,14 +1,12 @@
 ghost use Rattle.std.specs.Prelude.{◌≡◌, ◌≤◌, IfOk, vec_len};
 ghost use Rattle.sg_base.specs.Ends.{HasRisen};
+ghost use Rattle.sg_base.specs.declared.page.TheConstants.{BAND_SIZE};
 
-use sg_base::{Area, BandNo, OutOfMemory, PAGE_SIZE, PageNo, PageOp, SlotView, view};
+use sg_base::{Area, BAND_SIZE, BandNo, OutOfMemory, PAGE_SIZE, PageNo, PageOp, SlotView, view};
 use sg_disk::Disk;
 use sg_ops::Ops;
 use sg_space::{PageSpace, SpaceFault};
 use std::alloc::Global;
-
-/// How many bytes a band has.
-const BAND_SIZE: usize = 32_768;
 
 /// Where the home of page 0 begins.
 const HOMES: u64 = 143_360;
@@ -26,7 +24,7 @@ pub struct HomeSpace<D: Disk> {
     // How often what was read couldn't be, and a change was asked for.
     breaks: u64,
     ghost size: { vec_len frame ≡ 4096 },
-    ghost window_size: { vec_len window ≡ 32768 },
+    ghost window_size: { vec_len window ≡ BAND_SIZE },
 }
 
 // One more fault is counted.
@@ -114,7 +112,7 @@ impl<D: Disk> HomeSpace<D> {
     // The band in the window.
     fn shown_band(&self) -> &[u8]
         ensures value { result.now ≡ self.now.window.items }
-        ensures size { length result.now ≡ 32768 }
+        ensures size { length result.now ≡ BAND_SIZE }
     {
         self.window.as_slice()
     }

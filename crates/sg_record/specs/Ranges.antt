@@ -1,5 +1,6 @@
 -- The ranges of a record's fields.
 use Rattle.std.specs.Prelude.{⊤, ◌≡◌, ℕ, ◌+◌, ◌^◌, ◌<◌, ◌==◌, ◌&&◌, ◌||◌, not, nat_lt, nat_le, Bool, true, false, if◌then◌else◌, List, [], ◌∷◌, ◌++◌, length, Option, Some, None}
+use Rattle.sg_base.specs.declared.page.TheConstants.{BAND_SIZE}
 use Rattle.sg_record.specs.Changes.{Change, PageChange, BandBytes, BandOp}
 use Rattle.sg_record.specs.Changes.Change.{Page, SegWrite, SegOp}
 use Rattle.sg_record.specs.Records.{Record, Says, HEADER, body_of, SaysFits}
@@ -40,13 +41,13 @@ page_fields taking_off offset c =
     ∷ (offset + 11, after_fits c.operation (length c.after))
     ∷ []
 
--- a part of a band: 1 to 8,192 of its 32,768 bytes
+-- a part of a band: 1 to 8,192 of its bytes
 abbrev pub is_part : (at count : ℕ) → Bool
-is_part at count = nat_le 1 count && (nat_le count 8192 && nat_le (at + count) 32768)
+is_part at count = nat_le 1 count && (nat_le count 8192 && nat_le (at + count) BAND_SIZE)
 
 -- the fields of a write of a band's bytes that begins at this offset
 abbrev pub bytes_fields : (offset : ℕ) → BandBytes → List Field
-bytes_fields offset c = (offset, nat_lt c.band 65536) ∷ (offset + 4, nat_lt c.at 32768) ∷ (offset + 8, is_part c.at c.count) ∷ []
+bytes_fields offset c = (offset, nat_lt c.band 65536) ∷ (offset + 4, nat_lt c.at BAND_SIZE) ∷ (offset + 8, is_part c.at c.count) ∷ []
 
 -- the code of the range operation that fills zeros in where its argument is empty
 abbrev pub FILL : ℕ
@@ -73,7 +74,7 @@ op_before_fits taking_off c =
 abbrev pub op_fields : (taking_off : Bool) (offset : ℕ) → BandOp → List Field
 op_fields taking_off offset c =
     (offset, nat_lt c.band 65536)
-    ∷ (offset + 4, nat_lt c.at 32768)
+    ∷ (offset + 4, nat_lt c.at BAND_SIZE)
     ∷ (offset + 8, is_part c.at c.count)
     ∷ (offset + 12, code_fits taking_off c.code)
     ∷ (offset + 14, position_fits c.position c.count)

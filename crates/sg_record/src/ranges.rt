@@ -6,7 +6,7 @@ ghost use Rattle.sg_record.specs.Shown.{shown_page, shown_bytes, shown_op, shown
 
 use crate::says::Says;
 use crate::{BandBytes, BandOp, Change, PageChange};
-use sg_base::{Lsn, TxnId};
+use sg_base::{BAND_SIZE, Lsn, TxnId};
 
 // A field's offset, and whether it is in its range.
 type Field = (u32, bool);
@@ -71,11 +71,11 @@ fn out_of_page(taking_off: bool, offset: u32, c: &PageChange<'_>) -> Option<u32>
     ])
 }
 
-// A part of a band: 1 to 8,192 of its 32,768 bytes.
+// A part of a band: 1 to 8,192 of its bytes.
 fn is_part(at: u32, count: u32) -> bool
     ensures { result ≡ is_part at count }
 {
-    1 <= count && count <= 8_192 && u64::from(at) + u64::from(count) <= 32_768
+    1 <= count && count <= 8_192 && u64::from(at) + u64::from(count) <= BAND_SIZE as u64
 }
 
 fn out_of_bytes(offset: u32, c: &BandBytes<'_>) -> Option<u32>
@@ -83,7 +83,7 @@ fn out_of_bytes(offset: u32, c: &BandBytes<'_>) -> Option<u32>
     ensures { result ≡ first_out (bytes_fields offset (shown_bytes c.now)) }
 {
     let band = c.band.0 < 65_536;
-    let at = c.at < 32_768;
+    let at = c.at < BAND_SIZE as u32;
     let count = is_part(c.at, c.count);
     first_out(&[(offset, band), (offset + 4, at), (offset + 8, count)])
 }
@@ -128,7 +128,7 @@ fn out_of_op(taking_off: bool, offset: u32, c: &BandOp<'_>) -> Option<u32>
     ensures { result ≡ first_out (op_fields taking_off offset (shown_op c.now)) }
 {
     let band = c.band.0 < 65_536;
-    let at = c.at < 32_768;
+    let at = c.at < BAND_SIZE as u32;
     let count = is_part(c.at, c.count);
     let code = code_fits(taking_off, c.code);
     let position = position_fits(c.position, c.count);

@@ -4,6 +4,7 @@ use Rattle.std.specs.List.{flat_map, range_with_len}
 use Rattle.byteorder.specs.Endian.{little_number}
 use Rattle.sg_base.specs.Op.{Op}
 use Rattle.sg_base.specs.Op.Op.{Format, Put, Remove, Set, Links, Item, ItemBack}
+use Rattle.sg_base.specs.declared.page.TheConstants.{BAND_SIZE}
 use Rattle.sg_ops.specs.Table.{Table, range_at, rendered}
 use Rattle.sg_record.specs.Changes.{Change, PageChange}
 use Rattle.sg_record.specs.Changes.Change.{Page, SegWrite, SegOp}
@@ -66,8 +67,8 @@ window_records t text places = flat_map (λ p. window_part t p.lsn (change_at te
 -- A change's bytes are as many as its operation on a page brings, or lie in a band, at positions that there are.
 abbrev pub IsInRange : Change → Type 0
 IsInRange (Page c) = IsTrue (after_fits c.operation (length c.after))
-IsInRange (SegWrite c) = c.at + length c.after ≤ 32768
-IsInRange (SegOp c) = (c.at + c.count ≤ 32768) × (c.position + c.count ≤ 16384000)
+IsInRange (SegWrite c) = c.at + length c.after ≤ BAND_SIZE
+IsInRange (SegOp c) = (c.at + c.count ≤ BAND_SIZE) × (c.position + c.count ≤ 16384000)
 
 -- the range operation that a change names is registered
 abbrev pub IsKnown : Table → Option Change → Type 0

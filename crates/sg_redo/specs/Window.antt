@@ -1,6 +1,7 @@
 -- Changes of a band in its window, a list of bytes.
 use Rattle.std.specs.Prelude.{◌≡◌, ◌≤◌, ◌+◌, ◌-◌, ◌&&◌, ℕ, nat_lt, nat_le, if◌then◌else◌, List, [], ◌∷◌, ◌++◌, length, IsTrue, is_some, slice_index}
 use Rattle.sg_base.specs.Overwritten.{overwritten}
+use Rattle.sg_base.specs.declared.page.TheConstants.{BAND_SIZE}
 use Rattle.sg_ops.specs.Table.{Table, range_at, rendered}
 use Rattle.sg_redo.specs.History.{OnByte, IsCovered}
 use Rattle.sg_redo.specs.declared.window.BandChange.{BandChange}
@@ -24,8 +25,8 @@ bytes_of t (Paint at count code position arg) = rendered (range_at t code) arg.n
 
 -- its bytes lie in a band, and its operation is registered and has these positions
 abbrev pub IsPossible : Table → BandChange → Type 0
-IsPossible t (Write at bytes) = at + length bytes.now ≤ 32768
-IsPossible t (Paint at count code position arg) = (at + count ≤ 32768) × IsTrue (is_some (range_at t code)) × (position + count ≤ 16384000)
+IsPossible t (Write at bytes) = at + length bytes.now ≤ BAND_SIZE
+IsPossible t (Paint at count code position arg) = (at + count ≤ BAND_SIZE) × IsTrue (is_some (range_at t code)) × (position + count ≤ 16384000)
 
 -- changes over a window, in order, blind
 abbrev pub replayed : List OnWindow → List ℕ → List ℕ

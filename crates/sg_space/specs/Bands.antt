@@ -2,6 +2,7 @@
 use Rattle.std.specs.Prelude.{◌≡◌, ◌≢◌, ℕ, ◌+◌, ◌<◌, ◌≤◌, ◌^◌, List, length, slice_index, Option, Some, IsSome, Result, IfOk, OnOk}
 use Rattle.sg_base.specs.Overwritten.{overwritten}
 use Rattle.sg_base.specs.declared.numbers.BandNo.{BandNo}
+use Rattle.sg_base.specs.declared.page.TheConstants.{BAND_SIZE}
 use Rattle.sg_ops.specs.Table.{Table, range_at, rendered}
 use Rattle.sg_space.specs.Units.{IsChanged, IsTaken, IsFreed}
 use Rattle.sg_space.specs.View.{View, Counts, Keeps}
@@ -9,14 +10,14 @@ use Rattle.sg_space.specs.declared.space.SpaceFault.{SpaceFault}
 
 -- a band that was just taken
 pub record IsEmptyBand (band : List ℕ) : Type 0 where
-  pub size : length band ≡ 32768
+  pub size : length band ≡ BAND_SIZE
   pub zero_at : (k : ℕ) → slice_index band k ≡ 0
 
 -- so many bytes from there on are within a band, and no more than one record holds
 pub record IsPiece (at count : ℕ) : Type 0 where
   pub some : 1 ≤ count
   pub most : count ≤ 8192
-  pub within : at + count ≤ 32768
+  pub within : at + count ≤ BAND_SIZE
 
 pub record IsWritable (v : View) (b at count : ℕ) : Type 0 where
   pub there : IsSome (v.space.bands.at b)

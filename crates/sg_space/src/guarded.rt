@@ -4,8 +4,11 @@ ghost use Rattle.sg_space.specs.Bands.{IsPiece};
 ghost use Rattle.sg_space.specs.Memory.{space_of};
 
 use crate::{MemSpace, PageSpace, SpaceFault};
-use sg_base::{BandNo, PageNo, PageOp, SlotView};
+use sg_base::{BAND_SIZE, BandNo, PageNo, PageOp, SlotView};
 use sg_ops::Ops;
+
+/// How many bytes a band has, as a number of the type of places in one.
+const BAND: u32 = BAND_SIZE as u32;
 
 /// The most positions that a range operation paints.
 const MOST_POSITIONS: u32 = 16_384_000;
@@ -33,7 +36,7 @@ fn count_fault(faults: &mut u64) -> SpaceFault
 fn is_piece(at: u32, count: usize) -> bool
     ensures { IsTrue result → IsPiece at count }
 {
-    1 <= count && count <= 8_192 && at <= 32_768 && count as u32 <= 32_768 - at
+    1 <= count && count <= 8_192 && at <= BAND && count as u32 <= BAND - at
 }
 
 impl Guarded {

@@ -19,3 +19,6 @@ pub use guarded::Guarded;
 pub use memory::MemSpace;
 pub use note::UndoNote;
 pub use space::{PageSpace, SpaceFault};
+
+#[cfg(test)]
+mod tests;

@@ -9,7 +9,7 @@ ghost use Rattle.sg_space.specs.Pages.{CanBreak, Breaks, CanLook, Looked, Looks,
 ghost use Rattle.sg_space.specs.Units.{IsExact};
 ghost use Rattle.sg_space.specs.View.{View};
 
-use sg_base::{BandNo, PageNo, PageOp, SlotView};
+use sg_base::{BAND_SIZE, BandNo, PageNo, PageOp, SlotView};
 use sg_ops::Ops;
 
 /// Why a call of a space failed.
@@ -78,7 +78,7 @@ pub trait PageSpace {
     fn band(&mut self, b: BandNo) -> Result<&[u8], SpaceFault>
         requires { CanLook (view self.old) (view self.old).space.bands b.0 }
         ensures looked { IfOk result (λ s. Looked (view self.old) (view self.old).space.bands b.0 s.now) }
-        ensures size { IfOk result (λ s. length s.now ≡ 32768) }
+        ensures size { IfOk result (λ s. length s.now ≡ BAND_SIZE) }
         ensures* after { sem 𝓛 (Rests Self.row self.entry (λ new. Looks (view self.old) (view new) result)) };
 
     /// Writes 1 to 8,192 bytes into a taken band, from byte `at` on.

@@ -4,19 +4,17 @@ ghost use Rattle.sg_base.specs.Op.{op_of};
 ghost use Rattle.sg_base.specs.Overwritten.{overwritten};
 ghost use Rattle.sg_base.specs.Page.{IsSlotted};
 ghost use Rattle.sg_base.specs.Sheet.{sheet_of};
+ghost use Rattle.sg_base.specs.declared.page.TheConstants.{BAND_SIZE};
 ghost use Rattle.sg_ops.specs.Steps.{step};
 ghost use Rattle.sg_ops.specs.Table.{table_of, range_at, rendered};
 ghost use Rattle.sg_space.specs.Bands.{IsEmptyBand};
 ghost use Rattle.sg_space.specs.Pages.{IsEmptyPage};
 
-use sg_base::{OutOfMemory, PAGE_SIZE, PageOp, SlotView};
+use sg_base::{BAND_SIZE, OutOfMemory, PAGE_SIZE, PageOp, SlotView};
 use sg_ops::Ops;
 use sg_slotted::format;
 use sg_step::apply;
 use std::alloc::Global;
-
-// How many bytes a band has.
-const BAND_SIZE: usize = 32_768;
 
 // The kind of a page of the catalogue.
 const CATALOGUE: u8 = 1;
@@ -32,7 +30,7 @@ pub struct MemPage {
 #[derive(Drop)]
 pub struct MemBand {
     bytes: Vec<u8>,
-    ghost size: { vec_len bytes ≡ 32768 },
+    ghost size: { vec_len bytes ≡ BAND_SIZE },
 }
 
 // Sets the bytes from byte `at` on.
@@ -47,7 +45,7 @@ fn overwrite(band: &mut [u8], at: u32, bytes: &[u8])
 // Sets `count` bytes from byte `at` on to what a range operation gives.
 fn paint(band: &mut [u8], ops: &Ops, at: u32, count: u32, code: u16, position: u32, arg: &[u8])
     requires fits { at + count ≤ length band.old }
-    requires small { at + count ≤ 32768 }
+    requires small { at + count ≤ BAND_SIZE }
     requires known { IsSome (range_at (table_of record_meaning range_meaning ops.now) code) }
     requires ends { position + count ≤ 16384000 }
     ensures { band.new ≡ overwritten band.old at
@@ -123,14 +121,14 @@ impl MemBand {
     }
 
     pub fn write(&mut self, at: u32, bytes: &[u8])
-        requires { at + length bytes.now ≤ 32768 }
+        requires { at + length bytes.now ≤ BAND_SIZE }
         ensures { self.new.bytes.items ≡ overwritten self.old.bytes.items at bytes.now }
     {
         overwrite(self.bytes.as_mut_slice(), at, bytes);
     }
 
     pub fn paint(&mut self, ops: &Ops, at: u32, count: u32, code: u16, position: u32, arg: &[u8])
-        requires fits { at + count ≤ 32768 }
+        requires fits { at + count ≤ BAND_SIZE }
         requires known { IsSome (range_at (table_of record_meaning range_meaning ops.now) code) }
         requires ends { position + count ≤ 16384000 }
         ensures { self.new.bytes.items ≡ overwritten self.old.bytes.items at
