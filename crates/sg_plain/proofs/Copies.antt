@@ -1,8 +1,8 @@
 -- What a clone shows is what was cloned.
-use Rattle.std.proofs.Common.{◌≡◌, ℕ, List, [], ◌∷◌, length, map, refl, ap, ◌∙◌}
-use Rattle.std.specs.Prelude.{Vec, vec_len, All}
+use Rattle.std.proofs.Common.{◌≡◌, ℕ, List, [], ◌∷◌, map, refl, ap, ◌∙◌}
+use Rattle.std.specs.Prelude.{Vec, vec_len}
 use Rattle.std.specs.List.{AllZip}
-use Rattle.std.proofs.lemmas.List.Elements.{same_from_all_zip, All-nil, All-cons, All-head, All-tail}
+use Rattle.std.proofs.lemmas.List.Elements.{same_from_all_zip}
 use Rattle.std.specs.declared.alloc.Global.{Global}
 
 pub same_items : (xs ys : List ℕ) → AllZip (λ x y. y ≡ x) xs ys → ys ≡ xs
@@ -11,23 +11,6 @@ same_items xs ys h = same_from_all_zip (λ x y. y ≡ x) xs ys h (λ x y e. e)
 -- a clone of some items
 abbrev pub IsCopy : Vec ℕ Global → Vec ℕ Global → Type 0
 IsCopy v w = AllZip (λ x y. y ≡ x) v.items w.items × (vec_len w ≡ vec_len v)
-
-pub same_rows : (vs ws : List (Vec ℕ Global)) → AllZip IsCopy vs ws → map (λ v. v.items) ws ≡ map (λ v. v.items) vs
-same_rows [] [] h = refl
-same_rows [] (w ∷ ws) h = absurd h
-same_rows (v ∷ vs) [] h = absurd h
-same_rows (v ∷ vs) (w ∷ ws) h = ap (λ (x : List ℕ). x ∷ map (λ (u : Vec ℕ Global). u.items) ws) (same_items v.items w.items h.0.0) ∙ ap (λ (xs : List (List ℕ)). v.items ∷ xs) (same_rows vs ws h.1)
-
-abbrev IsSized : ℕ → Vec ℕ Global → Type 0
-IsSized size v = length v.items ≡ size
-
--- the clones of items of one size have that size
-pub sized_rows : (size : ℕ) (vs ws : List (Vec ℕ Global)) → AllZip IsCopy vs ws → All (IsSized size) vs → All (IsSized size) ws
-sized_rows size [] [] h a = All-nil (IsSized size)
-sized_rows size [] (w ∷ ws) h a = absurd h
-sized_rows size (v ∷ vs) [] h a = absurd h
-sized_rows size (v ∷ vs) (w ∷ ws) h a =
-    All-cons (IsSized size) w ws (ap length (same_items v.items w.items h.0.0) ∙ All-head (IsSized size) v vs a) (sized_rows size vs ws h.1 (All-tail (IsSized size) v vs a))
 
 -- the entries, with what their values show
 abbrev pub shown_entries : {V W : Type 0} → (V → W) → List (List ℕ × V) → List (List ℕ × W)

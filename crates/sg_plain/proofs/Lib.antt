@@ -1,5 +1,5 @@
 pub mod Found
-pub mod Rows
+pub mod Chunks
 pub mod Arrays
 pub mod Steps
 pub mod Sorted

@@ -1,4 +1,5 @@
-ghost use Rattle.std.specs.Prelude.{◌≡◌, ◌<◌, ◌≤◌, [], ◌∷◌, ◌++◌, length, take, is_some, IfSome, IfOk, OnOk, OnErr, IsOk, IsTrue, MatchOption, Ok, Err, Some, slice_get, slice_set, slice_index_or, option_copied, map};
+ghost use Rattle.std.specs.Prelude.{◌≡◌, ◌<◌, ◌≤◌, ◌*◌, [], ◌∷◌, ◌++◌, length, take, is_some, IfSome, IfOk, OnOk, OnErr, IsOk, IsTrue, Ok, Err, Some, slice_get, slice_set, slice_index_or, option_copied, map};
+ghost use Rattle.std.specs.Simd.{first_chunks};
 ghost use Rattle.sg_ops.specs.Table.{table_of, record_at, accepts_of, after_of};
 ghost use Rattle.sg_model.specs.Objects.Object.{Array as as_object};
 ghost use Rattle.sg_model.specs.SaidReplies.{said_reply};
@@ -25,8 +26,11 @@ pub const MOST_ARG_BYTES: usize = 256;
 /// Items of one size of at most 256 bytes, which contracts see as the size and the list of items.
 #[derive(Drop)]
 pub struct Array {
-    size: u64,
-    items: Vec<Vec<u8>>,
+    size: usize,
+    // how many items there are
+    count: usize,
+    // the items, one behind another
+    bytes: Vec<u8>,
 }
 
 impl Model for Array {
@@ -47,20 +51,56 @@ impl Clone for Array {
     fn clone(&self) -> Result<Array, AllocError> {
         Ok(Array {
             size: self.size,
-            items: self.items.clone()?,
+            count: self.count,
+            bytes: Vec::from_slice(*self.bytes.allocator(), &self.bytes)?,
         })
     }
 }
 
-// Does a record operation to bytes that it accepts.
-fn redo_item(ops: &Ops, code: u16, item: &mut Vec<u8>, arg: &[u8])
-    requires { IsTrue (accepts_of (record_at (table_of record_meaning range_meaning ops.now) code) item.old.items arg.now) }
-    ensures bytes { item.new.items ≡ after_of (record_at (table_of record_meaning range_meaning ops.now) code) item.old.items arg.now }
-    ensures len { length item.new.items ≡ length item.old.items }
+// The bytes of an item that is there, of so many of this size.
+fn item_in(bytes: &[u8], size: usize, count: usize, index: usize) -> &[u8]
+    requires there { index < count }
+    requires whole { length bytes.now ≡ count * size }
+    ensures item { result.now ≡ slice_index_or (first_chunks size count bytes.now) index [] }
+    ensures size { length result.now ≡ size }
 {
-    ops.redo(code, item.as_mut_slice(), arg);
+    let at = index * size;
+    &bytes[at..at + size]
 }
 
+// Writes over the bytes of an item that is there, of so many of this size.
+fn replace_in(bytes: &mut [u8], size: usize, count: usize, index: usize, value: &[u8])
+    requires there { index < count }
+    requires whole { length bytes.old ≡ count * size }
+    requires sized { length value.now ≡ size }
+    ensures { first_chunks size count bytes.new ≡ slice_set (first_chunks size count bytes.old) index value.now }
+{
+    let at = index * size;
+    bytes[at..at + size].copy_from_slice(value);
+}
+
+// Does a record operation to the bytes of an item that is there, of so many of this size, and that
+// it accepts.
+fn redo_in(
+    bytes: &mut [u8],
+    size: usize,
+    count: usize,
+    index: usize,
+    ops: &Ops,
+    code: u16,
+    arg: &[u8],
+)
+    requires there { index < count }
+    requires whole { length bytes.old ≡ count * size }
+    requires accepted { IsTrue (accepts_of (record_at (table_of record_meaning range_meaning ops.now) code) (slice_index_or (first_chunks size count bytes.old) index []) arg.now) }
+    ensures { first_chunks size count bytes.new ≡ slice_set (first_chunks size count bytes.old) index
+        (after_of (record_at (table_of record_meaning range_meaning ops.now) code) (slice_index_or (first_chunks size count bytes.old) index []) arg.now) }
+{
+    let at = index * size;
+    ops.redo(code, &mut bytes[at..at + size], arg);
+}
+
+#[tactic(auto, using(crate::proofs::Chunks::length_chunks))]
 impl Array {
     /// An array without items, for items of this many bytes. Takes no memory.
     pub fn new(alloc: Global, size: u64) -> Array
@@ -68,8 +108,9 @@ impl Array {
         ensures { result ≡ record { size = size; items = [] } }
     {
         Array {
-            size,
-            items: Vec::new(alloc),
+            size: size as usize,
+            count: 0,
+            bytes: Vec::new(alloc),
         }
     }
 
@@ -77,34 +118,40 @@ impl Array {
     pub fn size(&self) -> u64
         ensures { result ≡ self.now.size }
     {
-        self.size
+        self.size as u64
     }
 
     /// How many items there are.
     pub fn len(&self) -> usize
         ensures { result ≡ length self.now.items }
     {
-        self.items.len()
+        self.count
     }
 
     // Adds an item of the right size.
-    fn add(&mut self, alloc: Global, value: &[u8]) -> Result<(), AllocError>
-        requires { length value.now ≡ self.old.size }
+    fn add(&mut self, value: &[u8]) -> Result<(), AllocError>
+        requires sized { length value.now ≡ self.old.size }
+        requires room { length self.old.items < MOST_ITEMS }
         ensures ok { OnOk result (self.new ≡ record { size = self.old.size; items = self.old.items ++ value.now ∷ [] }) }
         ensures err { OnErr result (self.new ≡ self.old) }
     {
-        let item = Vec::from_slice(alloc, value)?;
-        self.items.push(item)?;
+        self.bytes.extend_from_slice(value)?;
+        self.count += 1;
         Ok(())
     }
 
-    // Takes the last item, if there is one.
-    fn take_last(&mut self) -> Option<Vec<u8>>
-        ensures last { MatchOption result ((self.old.items ≡ []) × (self.new ≡ self.old))
-            (λ item. self.old ≡ record { size = self.new.size; items = self.new.items ++ item.items ∷ [] }) }
-        ensures size { IfSome result (λ item. length item.items ≤ 256) }
+    // Takes the last item, which is there, puts its bytes at the front of a buffer, and gives how many
+    // they are.
+    fn take_last(&mut self, into: &mut [u8]) -> usize
+        requires some { 0 < length self.old.items }
+        requires room { 256 ≤ length into.old }
+        ensures { self.old ≡ record { size = self.new.size; items = self.new.items ++ take result into.new ∷ [] } }
     {
-        self.items.pop()
+        let rest = self.count - 1;
+        put_front(into, item_in(&self.bytes, self.size, self.count, rest));
+        self.bytes.truncate(rest * self.size);
+        self.count = rest;
+        self.size
     }
 
     // Writes into an item that is there. Takes no memory.
@@ -113,8 +160,7 @@ impl Array {
         requires sized { length value.now ≡ self.old.size }
         ensures { self.new ≡ record { size = self.old.size; items = slice_set self.old.items index value.now } }
     {
-        let item = &mut self.items[index];
-        item.copy_from_slice(value);
+        replace_in(&mut self.bytes, self.size, self.count, index, value);
     }
 
     // Whether a record operation accepts an item that is there.
@@ -123,7 +169,11 @@ impl Array {
         requires registered { IsTrue (is_some (record_at (table_of record_meaning range_meaning ops.now) code)) }
         ensures { result ≡ accepts_of (record_at (table_of record_meaning range_meaning ops.now) code) (slice_index_or self.now.items index []) arg.now }
     {
-        ops.accepts(code, self.items[index].as_slice(), arg)
+        ops.accepts(
+            code,
+            item_in(&self.bytes, self.size, self.count, index),
+            arg,
+        )
     }
 
     // Does a record operation to an item that is there and that it accepts.
@@ -136,8 +186,15 @@ impl Array {
               (after_of (record_at (table_of record_meaning range_meaning ops.now) code) (slice_index_or self.old.items index []) arg.now);
         } }
     {
-        let item = &mut self.items[index];
-        redo_item(ops, code, item, arg);
+        redo_in(
+            &mut self.bytes,
+            self.size,
+            self.count,
+            index,
+            ops,
+            code,
+            arg,
+        );
     }
 
     /// The item at an index, if it is there.
@@ -145,11 +202,10 @@ impl Array {
         ensures item { option_copied result ≡ slice_get self.now.items index }
         ensures size { IfSome result (λ item. length item.now ≤ 256) }
     {
-        let index = usize::try_from(index).ok()?;
-        match self.items.get(index) {
-            Some(item) => Some(item.as_slice()),
-            None => None,
+        if index >= self.count as u64 {
+            return None;
         }
+        Some(item_in(&self.bytes, self.size, self.count, index as usize))
     }
 
     // Why an item would not be added.
@@ -257,13 +313,13 @@ impl Array {
     }
 
     // Adds an item at the end, and gives its index.
-    fn push(&mut self, alloc: Global, value: &[u8]) -> Result<u64, OutOfMemory>
+    fn push(&mut self, value: &[u8]) -> Result<u64, OutOfMemory>
         requires { IsOk (push value.now self.old).0 }
         ensures done { IfOk result (λ n. push value.now self.old ≡ (Ok (Number n), self.new)) }
         ensures err { OnErr result (self.new ≡ self.old) }
     {
         let at = self.len() as u64;
-        match self.add(alloc, value) {
+        match self.add(value) {
             Ok(()) => Ok(at),
             Err(_) => Err(OutOfMemory),
         }
@@ -275,13 +331,7 @@ impl Array {
         requires some { IsOk (pop self.old).0 }
         ensures { pop self.old ≡ (Ok (Bytes (take result into.new)), self.new) }
     {
-        match self.take_last() {
-            None => 0,
-            Some(item) => {
-                put_front(into, item.as_slice());
-                item.len()
-            }
-        }
+        self.take_last(into)
     }
 
     // Replaces the item at an index. Takes no memory.
@@ -353,13 +403,7 @@ impl Array {
 
     /// Does an operation that isn't refused, and that makes and drops no object. After
     /// `OutOfMemory`, which comes only for an item to be added, the array is unchanged.
-    pub fn apply(
-        &mut self,
-        alloc: Global,
-        ops: &Ops,
-        op: &Op<'_>,
-        into: &mut [u8],
-    ) -> Result<Reply, OutOfMemory>
+    pub fn apply(&mut self, ops: &Ops, op: &Op<'_>, into: &mut [u8]) -> Result<Reply, OutOfMemory>
         requires room { 8192 ≤ length into.old }
         requires in_place { IsInPlace (verb_of op.now) }
         requires accepted { IsOk (on (table_of record_meaning range_meaning ops.now) (verb_of op.now) (Some (as_object self.old))).0 }
@@ -368,7 +412,7 @@ impl Array {
         ensures memory { OnErr result (GrowsBy (verb_of op.now)) }
     {
         match *op {
-            Op::Push { name: _, value } => Ok(Reply::Number(self.push(alloc, value)?)),
+            Op::Push { name: _, value } => Ok(Reply::Number(self.push(value)?)),
             Op::Pop { name: _ } => Ok(Reply::Bytes(self.pop(into))),
             Op::Set {
                 name: _,

@@ -113,7 +113,7 @@ impl Object {
         ensures memory { OnErr result (GrowsBy (verb_of op.now)) }
     {
         match self {
-            Object::Array(array) => array.apply(alloc, ops, op, into),
+            Object::Array(array) => array.apply(ops, op, into),
             Object::Table(table) => table.apply(alloc, op, into),
             Object::Blob(blob) => blob.apply(ops, op, into),
         }
