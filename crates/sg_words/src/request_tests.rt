@@ -1,5 +1,8 @@
 use super::*;
+use What::*;
 use sg_model::Op;
+use std::alloc::{AllocError, Global};
+use std::test::Fail;
 
 /// What a line asks for, with numbers, and the lengths of keys and values.
 #[derive(Clone, Copy, Debug, PartialEq, Eq)]
@@ -30,153 +33,416 @@ enum What {
     Paint(u64, u64, u64, usize),
 }
 
-fn of_op(op: Op<'_>) -> What {
-    match op {
-        Op::MakeArray { name: _, size } => What::MakeArray(size),
-        Op::MakeTable { name: _ } => What::MakeTable,
-        Op::MakeBlob { name: _ } => What::MakeBlob,
-        Op::Discard { name: _ } => What::Discard,
-        Op::Push { name: _, value } => What::Push(value.len()),
-        Op::Pop { name: _ } => What::Pop,
+// A line, and what it asks for.
+type Row = (&'static [u8], What);
+
+fn of_op(op: &Op<'_>) -> What {
+    match *op {
+        Op::MakeArray { name: _, size } => MakeArray(size),
+        Op::MakeTable { name: _ } => MakeTable,
+        Op::MakeBlob { name: _ } => MakeBlob,
+        Op::Discard { name: _ } => Discard,
+        Op::Push { name: _, value } => Push(value.len()),
+        Op::Pop { name: _ } => Pop,
         Op::Set {
             name: _,
             index,
             value,
-        } => What::Set(index, value.len()),
-        Op::Get { name: _, index } => What::Get(index),
-        Op::Len { name: _ } => What::Len,
+        } => Set(index, value.len()),
+        Op::Get { name: _, index } => Get(index),
+        Op::Len { name: _ } => Len,
         Op::Apply {
             name: _,
             index,
             code,
             arg,
-        } => What::Apply(index, code, arg.len()),
+        } => Apply(index, code, arg.len()),
         Op::Put {
             name: _,
             key,
             value,
-        } => What::Put(key.len(), value.len()),
-        Op::Del { name: _, key } => What::Del(key.len()),
-        Op::Find { name: _, key } => What::Find(key.len()),
-        Op::Write { name: _, at, bytes } => What::Write(at, bytes.len()),
-        Op::Read { name: _, at, count } => What::Read(at, count),
-        Op::Size { name: _, length } => What::Size(length),
+        } => Put(key.len(), value.len()),
+        Op::Del { name: _, key } => Del(key.len()),
+        Op::Find { name: _, key } => Find(key.len()),
+        Op::Write { name: _, at, bytes } => Write(at, bytes.len()),
+        Op::Read { name: _, at, count } => Read(at, count),
+        Op::Size { name: _, length } => Size(length),
         Op::Paint {
             name: _,
             at,
             count,
             code,
             arg,
-        } => What::Paint(at, count, code, arg.len()),
+        } => Paint(at, count, code, arg.len()),
     }
 }
 
-fn asks(text: &[u8]) -> What {
+fn of_request(request: &Request<'_>) -> What {
+    match request {
+        Request::Begin => Begin,
+        Request::Commit => Commit,
+        Request::Abort => Abort,
+        Request::Do(op) => of_op(op),
+        Request::Keys(_) => Keys,
+        Request::List => List,
+    }
+}
+
+// What a line asks for.
+fn asked(text: &[u8]) -> What {
     let mut scratch = [0u8; 32768];
     match parse_request(text, &mut scratch) {
-        Asked::Blank => What::Blank,
-        Asked::Wrong => What::Wrong,
-        Asked::Of { name: _, request } => match request {
-            Request::Begin => What::Begin,
-            Request::Commit => What::Commit,
-            Request::Abort => What::Abort,
-            Request::Do(op) => of_op(op),
-            Request::Keys(_) => What::Keys,
-            Request::List => What::List,
+        Asked::Blank => Blank,
+        Asked::Wrong => Wrong,
+        Asked::Of { name: _, request } => of_request(&request),
+    }
+}
+
+// The same, of the verbs that `parse_line` knows.
+fn said(text: &[u8]) -> What {
+    let mut scratch = [0u8; 32768];
+    match parse_line(text, &mut scratch) {
+        Line::Blank => Blank,
+        Line::Syntax => Wrong,
+        Line::Txn { name: _, verb } => match verb {
+            Verb::Begin => Begin,
+            Verb::Commit => Commit,
+            Verb::Do(op) => of_op(&op),
         },
     }
 }
 
+// The first row that asks for something else.
+fn first_asked(rows: &[Row]) -> Option<usize> {
+    for (i, (text, want)) in rows.iter().enumerate() {
+        if asked(text) != *want {
+            return Some(i);
+        }
+    }
+    None
+}
+
+// The same, of the verbs that `parse_line` knows.
+fn first_said(rows: &[Row]) -> Option<usize> {
+    for (i, (text, want)) in rows.iter().enumerate() {
+        if said(text) != *want {
+            return Some(i);
+        }
+    }
+    None
+}
+
+// Lines without words and remarks; words are parted by spaces alone, and stand in one order.
+const WORDS: [Row; 36] = [
+    (b"", Blank),
+    (b"    ", Blank),
+    (b"\r", Blank),
+    (b"  \r", Blank),
+    (b"#", Blank),
+    (b"#t begin", Blank),
+    (b" #t begin", Wrong),
+    (b"\t", Wrong),
+    (b"\r\r", Wrong),
+    (b"t begin", Begin),
+    (b"   t   begin   ", Begin),
+    (b"t begin\r", Begin),
+    (b"t commit \r", Commit),
+    (b"t begin\r\r", Wrong),
+    (b"t\rbegin", Wrong),
+    (b"t\tbegin", Wrong),
+    (b"t begin\t", Wrong),
+    (b"t Begin", Wrong),
+    (b"t begin\0", Wrong),
+    (b"t", Wrong),
+    (b"begin t", Wrong),
+    (b"t begin now", Wrong),
+    (b"t commit now", Wrong),
+    (b"t make array a", Wrong),
+    (b"t make array a 4", MakeArray(4)),
+    (b"t make a array 4", Wrong),
+    (b"t make array a 4 4", Wrong),
+    (b"t push a", Wrong),
+    (b"t push a b c", Wrong),
+    (b"t set a b 0", Wrong),
+    (b"t set a 0 b", Set(0, 1)),
+    (b"t set a 0 b c", Wrong),
+    (b"t get a", Wrong),
+    (b"t get a 0 0", Wrong),
+    (b"t get 0 a", Wrong),
+    (b"flush", Wrong),
+];
+
+// A number has 1 to 20 digits and 64 bits, a value is its bytes or digits, and names have their lengths.
+const PARTS: [Row; 34] = [
+    (b"t get a 0", Get(0)),
+    (b"t get a 18446744073709551615", Get(18446744073709551615)),
+    (b"t get a 18446744073709551616", Wrong),
+    (b"t get a 99999999999999999999", Wrong),
+    (b"t get a 00000000000000000001", Get(1)),
+    (b"t get a 000000000000000000001", Wrong),
+    (b"t get a -1", Wrong),
+    (b"t get a +1", Wrong),
+    (b"t get a 1a", Wrong),
+    (b"t get a 0x1", Wrong),
+    (b"t get a x:01", Wrong),
+    (b"t make array a 0", MakeArray(0)),
+    (b"t make array a 257", MakeArray(257)),
+    (b"t push a x:4", Wrong),
+    (b"t push a x:414", Wrong),
+    (b"t push a x:4g", Wrong),
+    (b"t push a x:41:41", Wrong),
+    (b"t push a b\x7f", Wrong),
+    (b"t push a b\x80", Wrong),
+    (b"t push a b\x1f", Wrong),
+    (b"t push a b\tc", Wrong),
+    (b"t get abcdefghijklmnopqrstuvwxyz_01234 0", Get(0)),
+    (b"t get abcdefghijklmnopqrstuvwxyz_012345 0", Wrong),
+    (b"abcdefghijkl_123 begin", Begin),
+    (b"abcdefghijkl_1234 begin", Wrong),
+    (b"1 begin", Wrong),
+    (b"T begin", Wrong),
+    (b"t get A 0", Wrong),
+    (b"flush begin", Wrong),
+    (b"checkpoint commit", Wrong),
+    (b"truncate get a 0", Wrong),
+    (b"flushed begin", Begin),
+    (b"begin begin", Begin),
+    (b"t get flush 0", Get(0)),
+];
+
+#[test]
+fn a_line_says_what_its_words_say(rt: HostRuntime) {
+    assert_eq!(rt; first_asked(&WORDS), None);
+    assert_eq!(rt; first_asked(&PARTS), None);
+    assert_eq!(rt; first_said(&WORDS), None);
+    assert_eq!(rt; first_said(&PARTS), None);
+}
+
+// What `parse_line` doesn't know.
+const UNKNOWN: [Row; 2] = [(b"t make table a", Wrong), (b"t pop a", Wrong)];
+
+// Each verb takes its words.
+const VERBS: [Row; 42] = [
+    (b"", Blank),
+    (b"# t list", Blank),
+    (b"t begin", Begin),
+    (b"t  commit \r", Commit),
+    (b"t abort", Abort),
+    (b"t abort now", Wrong),
+    (b"t save", Wrong),
+    (b"t back 1", Wrong),
+    (b"flush", Wrong),
+    (b"checkpoint", Wrong),
+    (b"truncate", Wrong),
+    (b"flush list", Wrong),
+    (b"t list", List),
+    (b"t list a", Wrong),
+    (b"t keys a", Keys),
+    (b"t keys", Wrong),
+    (b"t make array a 4", MakeArray(4)),
+    (b"t make table a", MakeTable),
+    (b"t make blob a", MakeBlob),
+    (b"t make blob a 4", Wrong),
+    (b"t make heap a", Wrong),
+    (b"t make", Wrong),
+    (b"t drop a", Discard),
+    (b"t push a abc", Push(3)),
+    (b"t pop a", Pop),
+    (b"t pop A", Wrong),
+    (b"t set a 1 x", Set(1, 1)),
+    (b"t get a 1", Get(1)),
+    (b"t len a", Len),
+    (b"t apply a 1 2 x:0102", Apply(1, 2, 2)),
+    (b"t apply a 1 x:0102", Wrong),
+    (b"t put a k v", Put(1, 1)),
+    (b"t put a x:6b6b x:76", Put(2, 1)),
+    (b"t put a k", Wrong),
+    (b"t del a x:", Del(0)),
+    (b"t find a key", Find(3)),
+    (b"t write a 0 x:00", Write(0, 1)),
+    (b"t read a 1 2", Read(1, 2)),
+    (b"t size a 7", Size(7)),
+    (b"t paint a 1 2 3 Z", Paint(1, 2, 3, 1)),
+    (b"t paint a 1 2 3", Wrong),
+    (b"t paint a 1 2 3 Z Z", Wrong),
+];
+
+// Numbers and values of the other verbs at their limits.
+const LIMITS: [Row; 15] = [
+    (
+        b"t read a 18446744073709551615 18446744073709551615",
+        Read(18446744073709551615, 18446744073709551615),
+    ),
+    (b"t read a 18446744073709551616 1", Wrong),
+    (b"t read a 1 18446744073709551616", Wrong),
+    (b"t size a 00000000000000000007", Size(7)),
+    (b"t size a 000000000000000000007", Wrong),
+    (b"t size a 99999999999999999999", Wrong),
+    (b"t apply a 0 18446744073709551616 x", Wrong),
+    (
+        b"t paint a 0 1 18446744073709551615 x",
+        Paint(0, 1, 18446744073709551615, 1),
+    ),
+    (b"t size a -1", Wrong),
+    (b"t put a x: x:", Put(0, 0)),
+    (b"t put a x:0 v", Wrong),
+    (b"t put a k x:0", Wrong),
+    (b"t put a x:0g v", Wrong),
+    (b"t put a k\xff v", Wrong),
+    (b"t write a 0 x:Ff", Write(0, 1)),
+];
+
 #[test]
 fn each_verb_takes_its_words(rt: HostRuntime) {
-    let rows: [(&[u8], What); 42] = [
-        (b"", What::Blank),
-        (b"# t list", What::Blank),
-        (b"t begin", What::Begin),
-        (b"t  commit \r", What::Commit),
-        (b"t abort", What::Abort),
-        (b"t abort now", What::Wrong),
-        (b"t save", What::Wrong),
-        (b"t back 1", What::Wrong),
-        (b"flush", What::Wrong),
-        (b"checkpoint", What::Wrong),
-        (b"truncate", What::Wrong),
-        (b"flush list", What::Wrong),
-        (b"t list", What::List),
-        (b"t list a", What::Wrong),
-        (b"t keys a", What::Keys),
-        (b"t keys", What::Wrong),
-        (b"t make array a 4", What::MakeArray(4)),
-        (b"t make table a", What::MakeTable),
-        (b"t make blob a", What::MakeBlob),
-        (b"t make blob a 4", What::Wrong),
-        (b"t make heap a", What::Wrong),
-        (b"t make", What::Wrong),
-        (b"t drop a", What::Discard),
-        (b"t push a abc", What::Push(3)),
-        (b"t pop a", What::Pop),
-        (b"t pop A", What::Wrong),
-        (b"t set a 1 x", What::Set(1, 1)),
-        (b"t get a 1", What::Get(1)),
-        (b"t len a", What::Len),
-        (b"t apply a 1 2 x:0102", What::Apply(1, 2, 2)),
-        (b"t apply a 1 x:0102", What::Wrong),
-        (b"t put a k v", What::Put(1, 1)),
-        (b"t put a x:6b6b x:76", What::Put(2, 1)),
-        (b"t put a k", What::Wrong),
-        (b"t del a x:", What::Del(0)),
-        (b"t find a key", What::Find(3)),
-        (b"t write a 0 x:00", What::Write(0, 1)),
-        (b"t read a 1 2", What::Read(1, 2)),
-        (b"t size a 7", What::Size(7)),
-        (b"t paint a 1 2 3 Z", What::Paint(1, 2, 3, 1)),
-        (b"t paint a 1 2 3", What::Wrong),
-        (b"t paint a 1 2 3 Z Z", What::Wrong),
-    ];
-    for (i, (text, want)) in rows.iter().enumerate() {
-        assert_eq!(rt; asks(text), *want, "row {i}");
+    assert_eq!(rt; first_asked(&VERBS), None);
+    assert_eq!(rt; first_asked(&LIMITS), None);
+    assert_eq!(rt; first_said(&UNKNOWN), None);
+}
+
+// The value that a line pushes.
+fn is_pushed(text: &[u8], value: &[u8]) -> bool {
+    let mut scratch = [0u8; 32768];
+    match parse_request(text, &mut scratch) {
+        Asked::Of { name: _, request } => match request {
+            Request::Do(Op::Push { name: _, value: v }) => v == value,
+            _ => false,
+        },
+        _ => false,
     }
 }
 
-#[test]
-fn a_number_has_20_digits_and_64_bits_and_a_value_pairs_of_digits(rt: HostRuntime) {
-    let most = u64::MAX;
-    let rows: [(&[u8], What); 15] = [
-        (
-            b"t read a 18446744073709551615 18446744073709551615",
-            What::Read(most, most),
-        ),
-        (b"t read a 18446744073709551616 1", What::Wrong),
-        (b"t read a 1 18446744073709551616", What::Wrong),
-        (b"t size a 00000000000000000007", What::Size(7)),
-        (b"t size a 000000000000000000007", What::Wrong),
-        (b"t size a 99999999999999999999", What::Wrong),
-        (b"t apply a 0 18446744073709551616 x", What::Wrong),
-        (
-            b"t paint a 0 1 18446744073709551615 x",
-            What::Paint(0, 1, most, 1),
-        ),
-        (b"t size a -1", What::Wrong),
-        (b"t put a x: x:", What::Put(0, 0)),
-        (b"t put a x:0 v", What::Wrong),
-        (b"t put a k x:0", What::Wrong),
-        (b"t put a x:0g v", What::Wrong),
-        (b"t put a k\xff v", What::Wrong),
-        (b"t write a 0 x:Ff", What::Write(0, 1)),
-    ];
-    for (i, (text, want)) in rows.iter().enumerate() {
-        assert_eq!(rt; asks(text), *want, "row {i}");
+// The same, by `parse_line`.
+fn is_said(text: &[u8], value: &[u8]) -> bool {
+    let mut scratch = [0u8; 32768];
+    match parse_line(text, &mut scratch) {
+        Line::Txn { name: _, verb } => match verb {
+            Verb::Do(Op::Push { name: _, value: v }) => v == value,
+            _ => false,
+        },
+        _ => false,
     }
 }
 
+// Lines that push, and the bytes of their values.
+const VALUES: [(&[u8], &[u8]); 8] = [
+    (b"t push a abc", b"abc"),
+    (b"t push a !~", b"!~"),
+    (b"t push a x", b"x"),
+    (b"t push a X:41", b"X:41"),
+    (b"t push a ax:41", b"ax:41"),
+    (b"t push a x:", b""),
+    (b"t push a x:00ff7f80", b"\0\xff\x7f\x80"),
+    (b"t push a x:4a4B4C4d\r", b"JKLM"),
+];
+
+// The first row that pushes something else.
+fn first_pushed() -> Option<usize> {
+    for (i, (text, value)) in VALUES.iter().enumerate() {
+        if !is_pushed(text, value) || !is_said(text, value) {
+            return Some(i);
+        }
+    }
+    None
+}
+
+// A line that begins with a text, has so many bytes then, filled up with one byte, and ends with another
+// text; what it asks for, and whether `parse_line` says the same.
+const LONG: [(&[u8], u8, usize, &[u8], What, bool); 9] = [
+    (b"", b' ', 32768, b"", Blank, true),
+    (b"", b' ', 32769, b"", Wrong, true),
+    (b"t push a x:", b'4', 32767, b"", Push(16378), true),
+    (b"t push a x:", b'4', 32767, b"\r", Push(16378), true),
+    (b"t push a x:", b'4', 32767, b"\r\r", Wrong, true),
+    (b"t find a ", b'k', 137, b"", Find(128), false),
+    (b"t find a ", b'k', 138, b"", Find(129), false),
+    (b"t put a k ", b'k', 1035, b"", Put(1, 1025), false),
+    (b"t apply a 0 1 ", b'k', 271, b"", Apply(0, 1, 257), false),
+];
+
+fn filled(
+    alloc: Global,
+    front: &[u8],
+    fill: u8,
+    len: usize,
+    back: &[u8],
+) -> Result<Vec<u8>, AllocError> {
+    let mut line = Vec::from_slice(alloc, front)?;
+    line.resize(len, fill)?;
+    line.extend_from_slice(back)?;
+    Ok(line)
+}
+
+// The first row that asks for something else.
+fn first_long(alloc: Global) -> Result<Option<usize>, AllocError> {
+    for (i, (front, fill, len, back, want, both)) in LONG.iter().enumerate() {
+        let line = filled(alloc, front, *fill, *len, back)?;
+        if asked(&line) != *want || (*both && said(&line) != *want) {
+            return Ok(Some(i));
+        }
+    }
+    Ok(None)
+}
+
 #[test]
-fn keys_values_and_arguments_past_their_limits_are_said(rt: HostRuntime) {
-    let mut line = [b'k'; 1100];
-    line[..10].copy_from_slice(b"t find a k");
-    assert_eq!(rt; asks(&line[..137]), What::Find(128));
-    assert_eq!(rt; asks(&line[..138]), What::Find(129));
-    line[..10].copy_from_slice(b"t put a k ");
-    assert_eq!(rt; asks(&line[..1035]), What::Put(1, 1025));
-    line[..14].copy_from_slice(b"t apply a 0 1 ");
-    assert_eq!(rt; asks(&line[..271]), What::Apply(0, 1, 257));
+fn values_keys_and_lines_have_their_lengths(rt: HostRuntime) -> Result<(), Fail> {
+    assert_eq!(rt; first_pushed(), None);
+    assert_eq!(rt; first_long(rt.alloc())?, None);
+    Ok(())
+}
+
+// Lines, the words that are kept of them, and what these ask for.
+const KEPT: [(&[u8], &[u8], What); 4] = [
+    (b"  t  set   a 7  x:4142 \r", b"set a 7 x:4142", Set(7, 2)),
+    (b"t begin", b"begin", Begin),
+    (b"t", b"", Wrong),
+    (b"", b"", Wrong),
+];
+
+// What the words kept of a line ask for.
+fn asked_again(words: &[u8]) -> What {
+    let mut scratch = [0u8; 32768];
+    if words.len() > 32768 {
+        return Wrong;
+    }
+    match parse_words(words, &mut scratch) {
+        Some(request) => of_request(&request),
+        None => Wrong,
+    }
+}
+
+// The operation that they say by `parse_said`, if they say one.
+fn said_again(words: &[u8]) -> What {
+    let mut scratch = [0u8; 32768];
+    if words.len() > 32768 {
+        return Wrong;
+    }
+    match parse_said(words, &mut scratch) {
+        Some(op) => of_op(&op),
+        None => Wrong,
+    }
+}
+
+fn is_kept(text: &[u8], words: &[u8]) -> bool {
+    let mut into = [0u8; 64];
+    if text.len() > 64 {
+        return false;
+    }
+    let end = join_words(text, &mut into);
+    &into[..end] == words
+}
+
+// The first row that keeps or asks for something else.
+fn first_kept() -> Option<usize> {
+    for (i, (text, words, want)) in KEPT.iter().enumerate() {
+        let op = if *want == Begin { Wrong } else { *want };
+        if !is_kept(text, words) || asked_again(words) != *want || said_again(words) != op {
+            return Some(i);
+        }
+    }
+    None
+}
+
+#[test]
+fn the_words_kept_of_a_line_say_its_operation(rt: HostRuntime) {
+    assert_eq!(rt; first_kept(), None);
 }
