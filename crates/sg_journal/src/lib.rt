@@ -11,6 +11,7 @@ mod found;
 mod found_line;
 mod hold;
 mod kept;
+mod kept_lines;
 mod law;
 mod line;
 mod lines;

@@ -62,6 +62,13 @@ impl Live {
         }
     }
 
+    /// All of them, in order of begin.
+    pub fn all(&self) -> &[Running]
+        ensures { result.now ≡ self.now.all.items }
+    {
+        self.all.as_slice()
+    }
+
     /// The transaction with this name.
     pub fn named(&self, name: Name) -> Option<Running>
         ensures { option_map opened_of result ≡ opened_named (all_opened self.now.all.items) name }
