@@ -247,15 +247,15 @@ module _ (t : Operations) (told : Bool) (was : disk.State) (v : disk.View) (k : 
         ∙ ap (λ (os : List Op). map Some os) (sym (kept_ops-append (filter (is_own u) es) (cond (l.transaction == u) (new ∷ []) []))
         ∙ ap (λ (fs : List Event). kept_ops fs) (sym own ∙ ap (λ (fs : List Event). filter (is_own u) fs) (sym opened_more)))))))
       where
-        one : kept_ops (event_of t x l.transaction op ∷ []) ≡ cond b (op ∷ []) []
-        one = ap (λ d. map (λ (f : Event). f.op) (cond d (event_of t x l.transaction op ∷ []) [])) is ∙ by_kept b
+        its_op : kept_ops (event_of t x l.transaction op ∷ []) ≡ cond b (op ∷ []) []
+        its_op = ap (λ d. map (λ (f : Event). f.op) (cond d (event_of t x l.transaction op ∷ []) [])) is ∙ by_kept b
           where
             by_kept : (d : Bool) → map (λ (f : Event). f.op) (cond d (event_of t x l.transaction op ∷ []) []) ≡ cond d (op ∷ []) []
             by_kept true = refl
             by_kept false = refl
 
         by_owner : (c : Bool) → map op_said (cond c words []) ≡ map Some (kept_ops (cond c (event_of t x l.transaction op ∷ []) []))
-        by_owner true = e ∙ ap (λ (os : List Op). map Some os) (sym one)
+        by_owner true = e ∙ ap (λ (os : List Op). map Some os) (sym its_op)
         by_owner false = refl
 
     -- an operation that was refused, or only reads

@@ -1,5 +1,5 @@
 -- Lines done again one after another, and live transactions gone through one by one.
-use Rattle.std.proofs.Common.{◌≡◌, ℕ, Bool, true, false, cond, not, List, [], ◌∷◌, map, length, Option, Some, None, Ok, Err, refl, sym, ap, ◌∙◌}
+use Rattle.std.proofs.Common.{◌≡◌, ℕ, Bool, true, false, cond, not, List, [], ◌∷◌, map, length, Option, Some, None, Ok, Err, refl, sym, ap, ◌∙◌, suc, ◌+◌, ◌<◌, drop, get_or, drop-cons, add-one}
 use Rattle.sg_ops.specs.Table.{Table as Operations}
 use Rattle.sg_model.specs.Objects.{Objects}
 use Rattle.sg_model.specs.Verb.{Op, Outcome, Reply}
@@ -74,6 +74,20 @@ next_one t words but l ls s after other e =
 pub next_other : (t : Operations) (words : ℕ → List (List ℕ)) (but : ℕ) (l : Opened) (ls : List Opened) (s : Objects) → (l.transaction == but) ≡ true
     → replay t (words_of_each words (opened_without but (l ∷ ls))) (Some s) ≡ replay t (words_of_each words (opened_without but ls)) (Some s)
 next_other t words but l ls s own = ap (λ b. replay t (words_of_each words (cond (not b) (l ∷ opened_without but ls) (opened_without but ls))) (Some s)) own
+
+dropped : (live : List code_running.Running) (i : ℕ) (r : code_running.Running) → i < length live → r ≡ get_or live i r → drop i live ≡ r ∷ drop (i + 1) live
+dropped live i r lt is = drop-cons live i r lt ∙ (ap (λ (x : code_running.Running). x ∷ drop (suc i) live) (sym is) ∙ ap (λ (n : ℕ). r ∷ drop n live) (sym (add-one i)))
+
+module _ (t : Operations) (words : ℕ → List (List ℕ)) (but : ℕ) (live : List code_running.Running) (i : ℕ) (r : code_running.Running) (s : Objects) (lt : i < length live) (is : r ≡ get_or live i r) where
+  pub fold_next : (after : Objects) → (r.txn.0 == but) ≡ false → replay t (words r.txn.0) (Some s) ≡ Some after
+      → replay t (words_of_each words (opened_without but (all_opened (drop (i + 1) live)))) (Some after) ≡ replay t (words_of_each words (opened_without but (all_opened (drop i live)))) (Some s)
+  fold_next after other e =
+      sym (ap (λ (rs : List code_running.Running). replay t (words_of_each words (opened_without but (all_opened rs))) (Some s)) (dropped live i r lt is) ∙ next_one t words but (opened_of r) (all_opened (drop (i + 1) live)) s after other e)
+
+  pub fold_other : (r.txn.0 == but) ≡ true
+      → replay t (words_of_each words (opened_without but (all_opened (drop (i + 1) live)))) (Some s) ≡ replay t (words_of_each words (opened_without but (all_opened (drop i live)))) (Some s)
+  fold_other own =
+      sym (ap (λ (rs : List code_running.Running). replay t (words_of_each words (opened_without but (all_opened rs))) (Some s)) (dropped live i r lt is) ∙ next_other t words but (opened_of r) (all_opened (drop (i + 1) live)) s own)
 
 renewed_one : (u last : ℕ) (b : Bool) (r : code_running.Running) → opened_of (cond b (record r { last = last }) r) ≡ cond b (record (opened_of r) { last = last }) (opened_of r)
 renewed_one u last true r = refl

@@ -132,14 +132,11 @@ open_began x u name none = filter_same (λ e. is_live (began x u name).so_far.li
 -- an entry that isn't one's own among those of the others
 none_own : (u : ℕ) (es : List Event) → filter (is_own u) (filter (not_of u) es) ≡ []
 none_own u [] = refl
-none_own u (e ∷ es) = by (is_own u e) refl
+none_own u (e ∷ es) = by (filter (not_of u) es) (is_own u e) refl (none_own u es)
   where
-    rest : List Event
-    rest = filter (not_of u) es
-
-    by : (b : Bool) → is_own u e ≡ b → filter (is_own u) (cond (not b) (e ∷ rest) rest) ≡ []
-    by true q = none_own u es
-    by false q = ap (λ b. cond b (e ∷ filter (is_own u) rest) (filter (is_own u) rest)) q ∙ none_own u es
+    by : (rest : List Event) (b : Bool) → is_own u e ≡ b → filter (is_own u) rest ≡ [] → filter (is_own u) (cond (not b) (e ∷ rest) rest) ≡ []
+    by rest true q none = none
+    by rest false q none = ap (λ b. cond b (e ∷ filter (is_own u) rest) (filter (is_own u) rest)) q ∙ none
 
 -- those of another one are all there
 others_own : (u v : ℕ) (es : List Event) → (v == u) ≡ false → filter (is_own v) (filter (not_of u) es) ≡ filter (is_own v) es
@@ -193,11 +190,11 @@ commit_replay t x u words there k e =
 -- a live transaction that is gone, and those that are left of some in the order of their numbers
 left_above : (u : ℕ) (ls : List Live) → AreAbove u ls → without u ls ≡ ls
 left_above u [] h = refl
-left_above u (l ∷ ls) h = by (l.transaction == u) refl
+left_above u (l ∷ ls) h = by (l.transaction == u) refl (left_above u ls h.1)
   where
-    by : (b : Bool) → (l.transaction == u) ≡ b → cond (not b) (l ∷ without u ls) (without u ls) ≡ l ∷ ls
-    by true q = absurd (let same : l.transaction ≡ u = eqb-true l.transaction u q in omega (arith, same, h.0))
-    by false q = ap (λ (ms : List Live). l ∷ ms) (left_above u ls h.1)
+    by : (b : Bool) → (l.transaction == u) ≡ b → without u ls ≡ ls → cond (not b) (l ∷ without u ls) (without u ls) ≡ l ∷ ls
+    by true q rest = absurd (let same : l.transaction ≡ u = eqb-true l.transaction u q in omega (arith, same, h.0))
+    by false q rest = ap (λ (ms : List Live). l ∷ ms) rest
 
 without_first : (l : Live) (ls : List Live) → AreAbove l.transaction ls → without l.transaction (l ∷ ls) ≡ ls
 without_first l ls h = ap (λ b. cond (not b) (l ∷ without l.transaction ls) (without l.transaction ls)) (eq-eqb l.transaction l.transaction refl) ∙ left_above l.transaction ls h

@@ -1,5 +1,5 @@
 // The lines that the log keeps, done again.
-ghost use Rattle.std.specs.Prelude.{◌≡◌, ◌≤◌, ◌+◌, ◌++◌, ℕ, length, OnOk, OnErr, IfOk, Some};
+ghost use Rattle.std.specs.Prelude.{◌≡◌, ◌≤◌, ◌+◌, ◌++◌, [], ℕ, length, OnOk, OnErr, IfOk, Some};
 ghost use Rattle.std.specs.Option.{option_map};
 ghost use Rattle.std.specs.VecDeque.{deque_len, deque_capacity};
 ghost use Rattle.sg_ops.specs.Table.{table_of};
@@ -12,7 +12,7 @@ ghost use Rattle.sg_journal.specs.Stands.{after_line, replay};
 
 use crate::kept_lines::KeptLines;
 use crate::line::Kept;
-use crate::live::Running;
+use crate::live::{Running, is_numbered};
 use sg_base::{OutOfMemory, TxnId};
 use sg_model::Op;
 use sg_ops::Ops;
@@ -82,7 +82,8 @@ fn redo_all(
     Ok(())
 }
 
-/// Does the lines that are due, in order, as far as memory goes. Each that is done is due no more.
+/// Does the lines that are due, in order. Each that is done is due no more. After `OutOfMemory` those
+/// for which there was no memory are due still.
 pub fn settle(
     alloc: Global,
     ops: &Ops,
@@ -90,17 +91,17 @@ pub fn settle(
     due: &mut VecDeque<Kept>,
     scratch: &mut [u8],
     into: &mut [u8],
-)
+) -> Result<(), OutOfMemory>
     requires scratch { 32768 ≤ length scratch.old }
     requires into { 8192 ≤ length into.old }
-    ensures { replay (table_of record_meaning range_meaning ops.now) (words_of_lines due.new.items) (Some objects.new) ≡ replay (table_of record_meaning range_meaning ops.now) (words_of_lines due.old.items) (Some objects.old) }
+    ensures same { replay (table_of record_meaning range_meaning ops.now) (words_of_lines due.new.items) (Some objects.new) ≡ replay (table_of record_meaning range_meaning ops.now) (words_of_lines due.old.items) (Some objects.old) }
+    ensures all { OnOk result (due.new.items ≡ []) }
 {
     while let Some(line) = due.front() {
-        if redo(alloc, ops, objects, &line.words, scratch, into).is_err() {
-            return;
-        }
+        redo(alloc, ops, objects, &line.words, scratch, into)?;
         let _done = due.pop_front();
     }
+    Ok(())
 }
 
 /// These lines are due behind the others, for which there is room.
@@ -108,8 +109,10 @@ pub fn queue(due: &mut VecDeque<Kept>, lines: Vec<Kept>)
     requires { deque_len due.old + length lines.items ≤ deque_capacity due.old }
     ensures { due.new.items ≡ due.old.items ++ lines.items }
 {
-    for line in lines {
-        due.push_back_reserved(line);
+    let mut more = VecDeque::from_vec(lines);
+    match due.append(&mut more) {
+        Ok(()) => {}
+        Err(_) => unreachable!(),
     }
 }
 
@@ -154,7 +157,7 @@ pub fn folded(
 {
     let mut objects = base.copy()?;
     for r in live {
-        if r.txn != but {
+        if !is_numbered(r, but) {
             redo_all(alloc, ops, &mut objects, kept.of(r.txn), scratch, into)?;
         }
     }

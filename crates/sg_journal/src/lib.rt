@@ -24,3 +24,6 @@ pub use law::fronts_stand;
 pub use live::MOST_LIVE;
 pub use opening::{OpenRefused, Unopened};
 pub use store::Store;
+
+#[cfg(test)]
+mod tests;

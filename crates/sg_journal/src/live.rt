@@ -33,8 +33,8 @@ fn is_named(r: &Running, name: Name) -> bool
     name == r.name
 }
 
-// Whether the transaction has this number.
-fn is_numbered(r: &Running, txn: TxnId) -> bool
+/// Whether the transaction has this number.
+pub fn is_numbered(r: &Running, txn: TxnId) -> bool
     ensures { result ≡ (opened_of r.now).transaction == txn.0 }
 {
     r.txn == txn

@@ -31,6 +31,8 @@ use crate::line::Kept;
 use crate::live::{Live, Running};
 use crate::opening::{OpenRefused, Unopened};
 use crate::replay::read_back;
+#[cfg(test)]
+use sg_base::Lsn;
 use sg_base::{Area, Name, OutOfMemory, TxnId};
 use sg_disk::Disk;
 use sg_locks::Locks;
@@ -116,6 +118,33 @@ impl<D: Disk> Store<D> {
             },
             Err(why) => Err(Unopened { why, disk }),
         }
+    }
+
+    /// A store without objects over this log, with a live transaction or none. Opening begins the log's
+    /// numbers at 0, so no test reaches their end by it.
+    #[cfg(test)]
+    pub(crate) fn over(
+        alloc: Global,
+        disk: D,
+        log: Log,
+        live: Option<(Name, TxnId, Lsn)>,
+    ) -> Result<Store<D>, OutOfMemory> {
+        let committed = Objects::empty(alloc);
+        let (mut all, locks, objects) = room_for(alloc, &committed)?;
+        if let Some((name, txn, last)) = live {
+            all.add(name, txn, last);
+        }
+        Ok(Store {
+            disk,
+            log,
+            locks,
+            live: all,
+            kept: KeptLines::new(alloc),
+            committed,
+            due: VecDeque::new(alloc),
+            objects,
+            stop: None,
+        })
     }
 
     /// Why the store has stopped, if it has.
@@ -241,16 +270,16 @@ impl<D: Disk> Store<D> {
         let Some(live) = self.live.named(name) else {
             return Answer::NoTransaction;
         };
-        settle(
+        match settle(
             alloc,
             ops,
             &mut self.committed,
             &mut self.due,
             scratch,
             into,
-        );
-        if !self.due.is_empty() {
-            return Answer::Memory;
+        ) {
+            Ok(()) => {}
+            Err(OutOfMemory) => return Answer::Memory,
         }
         match folded(
             alloc,
@@ -300,8 +329,10 @@ impl<D: Disk> Store<D> {
         if self.log.place(&record) + COMMIT_BYTES > LOG_END {
             return self.halt(LogFault::LogEnd);
         }
-        if self.due.reserve(self.kept.of(live.txn).len()).is_err() {
-            return Answer::Memory;
+        let count = self.kept.of(live.txn).len();
+        match self.due.reserve(count) {
+            Ok(()) => {}
+            Err(_) => return Answer::Memory,
         }
         match self.log.append(&mut self.disk, &record) {
             Ok(_) => {}
@@ -313,7 +344,8 @@ impl<D: Disk> Store<D> {
         }
         let lines = self.forget(alloc, live.txn);
         queue(&mut self.due, lines);
-        settle(
+        // those for which there is no memory now are done by a later commit or abort
+        let _ = settle(
             alloc,
             ops,
             &mut self.committed,

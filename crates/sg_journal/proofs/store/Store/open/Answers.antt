@@ -21,12 +21,12 @@ returns-in-Ok-room_for-clause-opens g c =
     let p = c.in-Ok-room_for in
     let committed : Objects = c.in-Ok-read_back.committed in
     let log = c.in-Ok-read_back.log in
-    let kept : ℕ → List (List ℕ) = words_in c.new-kept.result in
+    let kept : ℕ → List (List ℕ) = words_in c.new.result in
     let core =
-    ap (λ (ls : List Opened). let k : Core = record { committed = committed; due = words_of_lines c.new-due.result.items; objects = p.objects; live = ls; kept = kept; held = p.locks; stopped = None; log = log } in k) p.ensures.0
-    ∙ (ap (λ (hs : List (Hold Resource)). let k : Core = record { committed = committed; due = words_of_lines c.new-due.result.items; objects = p.objects; live = []; kept = kept; held = hs; stopped = None; log = log } in k) p.ensures.1
-    ∙ (ap (λ (ls : List Kept). let k : Core = record { committed = committed; due = words_of_lines ls; objects = p.objects; live = []; kept = kept; held = []; stopped = None; log = log } in k) c.new-due.ensures.items
-    ∙ (ap (λ (f : ℕ → List (List ℕ)). let k : Core = record { committed = committed; due = []; objects = p.objects; live = []; kept = f; held = []; stopped = None; log = log } in k) (fun_ext c.new-kept.ensures)
+    ap (λ (ls : List Opened). let k : Core = record { committed = committed; due = words_of_lines c.new-in-Ok-room_for.result.items; objects = p.objects; live = ls; kept = kept; held = p.locks; stopped = None; log = log } in k) p.ensures.0
+    ∙ (ap (λ (hs : List (Hold Resource)). let k : Core = record { committed = committed; due = words_of_lines c.new-in-Ok-room_for.result.items; objects = p.objects; live = []; kept = kept; held = hs; stopped = None; log = log } in k) p.ensures.1
+    ∙ (ap (λ (ls : List Kept). let k : Core = record { committed = committed; due = words_of_lines ls; objects = p.objects; live = []; kept = kept; held = []; stopped = None; log = log } in k) c.new-in-Ok-room_for.ensures.items
+    ∙ (ap (λ (f : ℕ → List (List ℕ)). let k : Core = record { committed = committed; due = []; objects = p.objects; live = []; kept = f; held = []; stopped = None; log = log } in k) (fun_ext c.new.ensures)
     ∙ ap (λ (s : Objects). let k : Core = record { committed = committed; due = []; objects = s; live = []; kept = λ u. []; held = []; stopped = None; log = log } in k) p.ensures.2))) in
     subst (λ (k : Core). Opens table g.D.Disk.told v w k) (sym core)
     (opened table g.D.Disk.told v (g.D.Disk.view c.sync.new.self) w log committed c.in-Ok.field-0 c.in-Ok.ensures.does

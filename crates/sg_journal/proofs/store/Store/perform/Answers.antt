@@ -1,5 +1,5 @@
 use mathlib.Core.Path.{fun_ext}
-use Rattle.std.proofs.Common.{◌≡◌, ◌++◌, ◌∷◌, [], ◌≤◌, inl, inr, ℕ, List, Ok, Err, refl, sym, ap, ◌∙◌, arith}
+use Rattle.std.proofs.Common.{◌≡◌, ◌==◌, ◌++◌, ◌∷◌, [], ◌≤◌, inl, inr, ℕ, List, Ok, Err, cond, refl, sym, ap, ◌∙◌, arith}
 use Rattle.sg_serial.specs.Locks.{Hold, hold_all}
 use Rattle.sg_model.specs.Objects.{Objects}
 use Rattle.sg_model.specs.SaidOps.{said_op}
