@@ -120,33 +120,6 @@ impl<D: Disk> Store<D> {
         }
     }
 
-    /// A store without objects over this log, with a live transaction or none. Opening begins the log's
-    /// numbers at 0, so no test reaches their end by it.
-    #[cfg(test)]
-    pub(crate) fn over(
-        alloc: Global,
-        disk: D,
-        log: Log,
-        live: Option<(Name, TxnId, Lsn)>,
-    ) -> Result<Store<D>, OutOfMemory> {
-        let committed = Objects::empty(alloc);
-        let (mut all, locks, objects) = room_for(alloc, &committed)?;
-        if let Some((name, txn, last)) = live {
-            all.add(name, txn, last);
-        }
-        Ok(Store {
-            disk,
-            log,
-            locks,
-            live: all,
-            kept: KeptLines::new(alloc),
-            committed,
-            due: VecDeque::new(alloc),
-            objects,
-            stop: None,
-        })
-    }
-
     /// Why the store has stopped, if it has.
     pub fn stop(&self) -> Option<Stop>
         ensures { result ≡ self.now.stop }
@@ -546,5 +519,34 @@ impl<D: Disk> Store<D> {
                 }
             }
         }
+    }
+}
+
+#[cfg(test)]
+impl<D: Disk + Drop> Store<D> {
+    /// A store without objects over this log, with a live transaction or none. Opening begins the log's
+    /// numbers at 0, so no test reaches their end by it.
+    pub(crate) fn over(
+        alloc: Global,
+        disk: D,
+        log: Log,
+        live: Option<(Name, TxnId, Lsn)>,
+    ) -> Result<Store<D>, OutOfMemory> {
+        let committed = Objects::empty(alloc);
+        let (mut all, locks, objects) = room_for(alloc, &committed)?;
+        if let Some((name, txn, last)) = live {
+            all.add(name, txn, last);
+        }
+        Ok(Store {
+            disk,
+            log,
+            locks,
+            live: all,
+            kept: KeptLines::new(alloc),
+            committed,
+            due: VecDeque::new(alloc),
+            objects,
+            stop: None,
+        })
     }
 }

@@ -1,4 +1,7 @@
 //! Scripts through the store's answers: worked rows, limits, reopening, and where a log ends.
+ghost use Rattle.std.specs.Prelude.{◌≤◌};
+ghost use Rattle.sg_log.specs.Frames.{LOG_END};
+
 use crate::{MOST_LIVE, Store};
 use sg_base::{Area, Lsn, MemSink, Name, TxnId};
 use sg_disk::MemDisk;
@@ -38,8 +41,10 @@ fn open(alloc: Global, disk: MemDisk) -> Result<Store<MemDisk>, Fail> {
 fn run(alloc: Global, disk: MemDisk, script: &[u8]) -> Result<(MemSink, MemDisk), Fail> {
     let mut store = open(alloc, disk)?;
     let mut out = MemSink::new(alloc, None);
-    answer_all(alloc, &mut store, script, &mut out)?;
-    Ok((out, store.close()))
+    let answered = answer_all(alloc, &mut store, script, &mut out);
+    let disk = store.close();
+    answered?;
+    Ok((out, disk))
 }
 
 // An array of two items, a blob, and a store with an object of each kind.
@@ -191,8 +196,10 @@ fn run_at(
     let log = Log::attach(alloc, &mut disk, Area::Log0, base)?;
     let mut store = Store::over(alloc, disk, log, live)?;
     let mut out = MemSink::new(alloc, None);
-    answer_all(alloc, &mut store, script.as_bytes(), &mut out)?;
-    Ok((out, store.close()))
+    let answered = answer_all(alloc, &mut store, script.as_bytes(), &mut out);
+    let disk = store.close();
+    answered?;
+    Ok((out, disk))
 }
 
 // The transaction `t`, with the number 7 and its last record at byte 9.
