@@ -1,4 +1,4 @@
-use Rattle.std.proofs.Common.{◌≡◌, ◌+◌, ℕ, List, drop, Option, Some, sym, ap, ◌∙◌}
+use Rattle.std.proofs.Common.{◌+◌, ℕ, List, drop, Option, Some, sym, ap, ◌∙◌}
 use Rattle.sg_ops.specs.Table.{table_of}
 use Rattle.sg_model.specs.Objects.{Objects}
 use Rattle.sg_journal.specs.Live.{opened_without, words_of_each}

@@ -1,11 +1,11 @@
 use mathlib.Core.Path.{fun_ext}
 use Rattle.std.proofs.Common.{◌≡◌, ◌==◌, ◌++◌, ◌∷◌, [], ◌≤◌, inl, inr, ℕ, List, Ok, Err, cond, refl, sym, ap, ◌∙◌, arith}
-use Rattle.sg_serial.specs.Locks.{Hold, hold_all}
+use Rattle.sg_serial.specs.Locks.{Hold}
 use Rattle.sg_model.specs.Objects.{Objects}
 use Rattle.sg_model.specs.SaidOps.{said_op}
 use Rattle.sg_model.specs.SaidReplies.{said_reply}
 use Rattle.sg_model.specs.Verb.{Op, Outcome}
-use Rattle.sg_model.specs.Touches.{Resource, touches, same_resource}
+use Rattle.sg_model.specs.Touches.{Resource}
 use Rattle.sg_record.specs.Plain.Record.{Line as LineRecord}
 use Rattle.sg_words.specs.declared.answer.Answer as code_answer
 use Rattle.sg_words.specs.Answered.{shown_answer}
