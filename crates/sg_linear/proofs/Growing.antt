@@ -82,6 +82,13 @@ next_divides s hash within = elim (cases_eq (s.split + 1) (2 ^ s.level)) as (λ 
         let below : hash % 2 ^ s.level < 2 ^ s.level = mod_below hash (2 ^ s.level) (pow_pos s.level) in
         at_whole (record { level = s.level + 1; split = 0 }) hash (omega arith) ∙ sym (when _ _ _ (below_is (hash % 2 ^ s.level) (s.split + 1) (omega arith)))
 
+-- the two cases of a growth, with what the code tests
+pub level_divides : (s : Shape) (low from hash : ℕ) → low ≡ 2 ^ s.level → from ≡ s.split → from + 1 ≡ low → s.split < low → Divides s (record { level = s.level + 1; split = 0 }) hash
+level_divides s low from hash power is full within = subst (λ (t : Shape). Divides s t hash) (next_level s (omega arith)) (next_divides s hash (omega arith))
+
+pub split_divides : (s : Shape) (low from hash : ℕ) → low ≡ 2 ^ s.level → from ≡ s.split → from + 1 ≢ low → s.split < low → Divides s (record { level = s.level; split = s.split + 1 }) hash
+split_divides s low from hash power is more within = subst (λ (t : Shape). Divides s t hash) (next_split s (λ e. more (omega arith))) (next_divides s hash (omega arith))
+
 -- the bucket is one of those there are
 pub bucket_there : (s : Shape) (hash : ℕ) → s.split < 2 ^ s.level → bucket_at s hash < buckets_of s
 bucket_there s hash within =
@@ -97,3 +104,11 @@ bucket_there s hash within =
 -- a level of at most 20 has at most 2^20 buckets
 pub low_fits : (k : ℕ) → k ≤ 20 → 2 ^ k ≤ 1048576
 low_fits k h = pow_mono {i = k} {j = 20} h
+
+-- the same with what the code computes
+pub split_there : (s : Shape) (low from hash : ℕ) → low ≡ 2 ^ s.level → from ≡ s.split → hash % low < from → s.split < low → hash % (2 * low) < buckets_of s
+split_there s low from hash power is early within =
+    let low_bits : hash % low ≡ hash % 2 ^ s.level = ap (λ (n : ℕ). hash % n) power in
+    let bits : hash % (2 * low) ≡ hash % 2 ^ (s.level + 1) = ap (λ (n : ℕ). hash % n) (ap (λ (n : ℕ). 2 * n) power ∙ sym (doubled s.level)) in
+    let before : hash % 2 ^ s.level < s.split = omega arith in
+    subst (λ (n : ℕ). n < buckets_of s) (at_split s hash before ∙ sym bits) (bucket_there s hash (omega arith))

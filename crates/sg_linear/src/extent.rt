@@ -76,17 +76,16 @@ impl Extent {
         ensures divides { (hash : ℕ) → Divides (shape_of self.now) (shape_of result) hash }
     {
         if u64::from(self.split) + 1 == self.low {
-            Extent {
+            return Extent {
                 level: self.level + 1,
                 split: 0,
                 low: 2 * self.low,
-            }
-        } else {
-            Extent {
-                level: self.level,
-                split: self.split + 1,
-                low: self.low,
-            }
+            };
+        }
+        Extent {
+            level: self.level,
+            split: self.split + 1,
+            low: self.low,
         }
     }
 }
