@@ -1,33 +1,30 @@
 -- The steps of a change of a bucket: a cell put, set or removed, a page appended, a page cut.
-use Rattle.std.proofs.Common.{◌≡◌, ◌≢◌, ℕ, zero, suc, ◌+◌, ◌*◌, ◌<◌, ◌≤◌, ◌^◌, ◌⊎◌, ◌==◌, Bool, true, false, List, [], ◌∷◌, ◌++◌, length, set, slice_index, Option, Some, None, IsSome, slice_get, sym, ap, subst, ◌∙◌, refl, arith, inl, inr}
-use Rattle.std.specs.List.{remove}
+use Rattle.std.proofs.Common.{◌≡◌, ◌≢◌, ℕ, ◌+◌, ◌<◌, ◌≤◌, ◌==◌, true, false, List, [], ◌∷◌, ◌++◌, length, set, Option, Some, None, IsSome, slice_get, sym, ap, subst, ◌∙◌, refl, arith, inl, inr}
 use Rattle.std.proofs.lemmas.Bool.{cases_lt, cases_eq}
 use Rattle.std.proofs.lemmas.Bool.Decides.{nat_tests}
-use Rattle.std.proofs.lemmas.List.{get_or-set_same, get_or-set_other, length-set, length_push, get_or_push, get_or_append_left}
-use Rattle.std.proofs.lemmas.List.Edits.{get_or-remove_below, get_or-remove_above, length-remove}
+use Rattle.std.proofs.lemmas.List.{get_or-set_same, get_or-set_other, length_push, get_or_push, get_or_append_left}
 use Rattle.std.proofs.lemmas.Option.{slice_get_within}
-use Rattle.sg_base.specs.Op.{Op, shrinks, opens}
+use Rattle.sg_base.specs.Op.{Op, shrinks}
 use Rattle.sg_base.specs.Op.Op.{Put, Set, Remove, Links}
 use Rattle.sg_base.specs.Page.{cell_in, bytes_of}
 use Rattle.sg_base.specs.Sheet.{Sheet}
 use Rattle.sg_base.specs.Slots.{Slots, IsFree, with_cell}
 use Rattle.sg_ops.specs.Steps.{step, with_slots}
 use Rattle.sg_ops.specs.Table.{Table}
-use Rattle.sg_slotted.proofs.Room.{full_below, bytes_with, bytes_of-push}
+use Rattle.sg_slotted.proofs.Room.{full_below, bytes_with}
 use Rattle.sg_step.proofs.Back.{removes}
-use Rattle.sg_space.specs.Owned.{Becomes}
 use Rattle.sg_space.specs.Pages.{IsPossible, Changed, Freed}
 use Rattle.sg_space.specs.Reads.{TookWith}
-use Rattle.sg_space.specs.Units.{HasAt, Units, IsChanged, IsTaken}
-use Rattle.sg_space.specs.View.{View, Space, Keeps, MayFill}
+use Rattle.sg_space.specs.Units.{HasAt, Units, IsTaken}
+use Rattle.sg_space.specs.View.{View, Keeps}
 use Rattle.sg_space.proofs.Known.{moved, same_some, keeps_then}
-use Rattle.sg_space.proofs.Putting.{cell-set_same, cell-set_other, cell-with_same, cell-with_other, put_step, set_step, slice_get-push_other, slice_get-push_same}
-use Rattle.sg_bucket.specs.Bucket.{Bucket, IsLinked, IsPart, part_at, OwnsPage, HasEntry, entries_of}
-use Rattle.sg_bucket.specs.Entry.{Entry, IsEntryCell, entry_in, AreExchanged}
-use Rattle.sg_bucket.specs.Part.{AreEntries, entries_in}
-use Rattle.sg_bucket.specs.Steps.{CanPut, CanPutAt, CanAdd, CanAppend, IsAdded, CanSet, IsSet, CanCut, IsCut, IsStanding, HasCellAt, IsFull, IsLast, Turns, Did, DidKeep, with_part, without, IsRemoved}
+use Rattle.sg_space.proofs.Putting.{cell-set_same, cell-set_other, cell-with_same, cell-with_other, put_step, set_step, slice_get-push_other}
+use Rattle.sg_bucket.specs.Bucket.{Bucket, IsLinked, part_at, HasEntry}
+use Rattle.sg_bucket.specs.Entry.{IsEntryCell, entry_in}
+use Rattle.sg_bucket.specs.Part.{AreEntries}
+use Rattle.sg_bucket.specs.Steps.{CanPut, CanPutAt, CanAppend, IsAdded, CanSet, IsSet, CanCut, IsCut, IsStanding, HasCellAt, IsFull, IsLast, Did, DidKeep, with_part, without, IsRemoved}
 use Rattle.sg_bucket.specs.declared.walk.Place.{Place}
-use Rattle.sg_bucket.proofs.Entries.{put_exchanges, set_exchanges, remove_exchanges, part_exchanges, push_exchanges}
+use Rattle.sg_bucket.proofs.Entries.{put_exchanges, set_exchanges, part_exchanges, push_exchanges}
 use Rattle.sg_bucket.proofs.Linking.{part_changed, same_owned, with_page, appended, append_owned, cut_linked, cut_owned}
 
 -- an operation that doesn't shrink its page keeps what a caller relies on
@@ -138,6 +135,7 @@ put_did {t} {v} {w} {first} {p} {slot} {cell} entry c = record {
           exchanged = part_exchanges b.parts k.index (with_cell slots slot cell) [] (entry_in cell ∷ []) below (put_exchanges slots slot cell k.room.free);
           full = full_with b k.index (with_cell slots slot cell) below (record { slot = slot; cell = cell; is = cell-with_same slots slot cell k.room.free.next });
           stays = stays_put b k.index slot cell below k.room.free;
+          few = omega arith;
         },
       );
 }
@@ -196,6 +194,7 @@ set_did {t} {v} {w} {first} {place} {cell} entry c = record {
               let same = (same_standing h s r).1 in
               part_exchanges b.parts s.index (set slots place.slot (Some cell)) (entry_in was ∷ []) (entry_in cell ∷ []) below (set_exchanges slots place.slot was cell (s.is ∙ ap Some (sym same)));
           full = full_with b s.index (set slots place.slot (Some cell)) below (record { slot = place.slot; cell = cell; is = cell-set_same slots place.slot (Some cell) full_slot });
+          few = omega arith;
         },
       );
   may_have = λ told b h k page n none there may. c.may_have page n (λ same. none (k.stands.index, k.stands.page ∙ ap Some (sym same))) may;
@@ -304,6 +303,7 @@ append_did {t} {v} {x} {w} {first} {last} {q} {cell} entry took c = record {
           exchanged = push_exchanges b.parts cell;
           full = full_more b q cell h.long;
           stays = stays_more b q cell h;
+          few = let long = length_push b.pages q in omega arith;
         },
       );
 }

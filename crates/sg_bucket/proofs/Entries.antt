@@ -1,15 +1,15 @@
 -- The entries of slots and of chains of pages, by counting.
-use Rattle.std.proofs.Common.{◌≡◌, ◌≢◌, ℕ, zero, suc, ◌+◌, ◌<◌, ◌≤◌, ◌==◌, Bool, true, false, cond, if◌then◌else◌, List, [], ◌∷◌, ◌++◌, length, set, take, drop, Option, Some, None, sym, ap, subst, ◌∙◌, refl, arith, inl, inr}
+use Rattle.std.proofs.Common.{◌≡◌, ℕ, suc, ◌+◌, ◌<◌, ◌≤◌, ◌==◌, Bool, true, false, cond, if◌then◌else◌, List, [], ◌∷◌, ◌++◌, length, set, take, drop, Option, Some, None, sym, ap, refl, arith}
 use Rattle.std.specs.List.{sum_by, count_by, remove}
 use Rattle.std.proofs.lemmas.Bool.Decides.{nat_tests}
 use Rattle.std.proofs.lemmas.List.Sums.{sum_by-cons, sum_by-append, sum_by-set, sum_by_push, get_or-le-sum_by, sum_by-take-drop, sum_by-drop_more}
 use Rattle.sg_base.specs.Page.{cell_in}
 use Rattle.sg_base.specs.Slots.{Slots, IsFree, with_cell}
 use Rattle.sg_slotted.proofs.Room.{full_below}
-use Rattle.sg_bucket.specs.Bucket.{Bucket, entries_of, part_at}
+use Rattle.sg_bucket.specs.Bucket.{entries_of, part_at}
 use Rattle.sg_bucket.specs.Entry.{Entry, entry_in, AreOnce, AreExchanged, value_of}
-use Rattle.sg_bucket.specs.Part.{entries_in, HasKeyAt, HasNoKey}
-use Rattle.sg_bucket.proofs.Values.{has_key, is_entry, count_yes, count_no, other_bytes, none_of, value_there, is_self}
+use Rattle.sg_bucket.specs.Part.{entries_in, HasNoKey}
+use Rattle.sg_bucket.proofs.Values.{has_key, is_entry, count_no, other_bytes, value_there, is_self}
 
 -- what a slot adds to a sum over the entries
 weight : (Entry → ℕ) → Option (List ℕ) → ℕ

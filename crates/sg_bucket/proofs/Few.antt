@@ -1,13 +1,11 @@
 -- A bucket has at most one page more than it has entries.
-use Rattle.std.proofs.Common.{◌≡◌, ℕ, zero, suc, ◌+◌, ◌<◌, ◌≤◌, List, [], ◌∷◌, ◌++◌, length, Option, Some, None, sym, ap, subst, ◌∙◌, refl, arith}
+use Rattle.std.proofs.Common.{◌≡◌, ℕ, zero, suc, ◌+◌, ◌<◌, ◌≤◌, List, [], ◌∷◌, ◌++◌, length, Option, Some, None, subst, arith}
 use Rattle.std.proofs.lemmas.List.{length-append}
 use Rattle.sg_base.specs.Page.{cell_in}
 use Rattle.sg_base.specs.Sheet.{Sheet}
 use Rattle.sg_base.specs.Slots.{Slots}
-use Rattle.sg_bucket.specs.Bucket.{Bucket, IsBucket, IsLinked, HasEntry, entries_of, part_at}
+use Rattle.sg_bucket.specs.Bucket.{Bucket, IsBucket, HasEntry, entries_of, part_at}
 use Rattle.sg_bucket.specs.Part.{entries_in}
-use Rattle.sg_bucket.proofs.Walking.{IsWalked}
-use Rattle.sg_bucket.proofs.Rooms.{last_here}
 
 some_entry : (slots : Slots) (slot : ℕ) (cell : List ℕ) → cell_in slots slot ≡ Some cell → 1 ≤ length (entries_in slots)
 some_entry [] slot cell e = absurd (cc)

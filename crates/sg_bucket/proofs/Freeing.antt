@@ -1,12 +1,10 @@
 -- The pages of a bucket are freed, one after another.
-use Rattle.std.proofs.Common.{◌≡◌, ◌≢◌, ℕ, ◌+◌, ◌<◌, ◌≤◌, List, length, Option, Some, None, IsSome, slice_get, slice_index, sym, ap, subst, ◌∙◌, refl, arith, inl, inr}
+use Rattle.std.proofs.Common.{◌≡◌, ◌≢◌, ℕ, ◌+◌, ◌<◌, ◌≤◌, List, Some, None, slice_get, slice_index, sym, ap, subst, ◌∙◌, refl, arith, inl, inr}
 use Rattle.std.proofs.lemmas.Bool.{cases_eq}
 use Rattle.std.proofs.lemmas.Option.{slice_get_within}
-use Rattle.sg_base.specs.Sheet.{Sheet}
 use Rattle.sg_ops.specs.Table.{Table}
-use Rattle.sg_space.specs.Owned.{Becomes}
 use Rattle.sg_space.specs.Pages.{Freed}
-use Rattle.sg_space.specs.Units.{HasAt, Units, IsFreed}
+use Rattle.sg_space.specs.Units.{HasAt, IsFreed}
 use Rattle.sg_space.specs.View.{View, Space, OnlyReads}
 use Rattle.sg_space.proofs.Known.{moved, same_some}
 use Rattle.sg_bucket.specs.Bucket.{Bucket, IsLinked, IsPart, OwnsPage, part_at}

@@ -1,21 +1,20 @@
 -- Chains of which one page has changed, or one is more, or one less.
-use Rattle.std.proofs.Common.{◌≡◌, ◌≢◌, ℕ, zero, suc, ◌+◌, ◌-◌, ◌*◌, ◌<◌, ◌≤◌, ◌^◌, ◌⊎◌, List, [], ◌∷◌, ◌++◌, length, set, take, drop, get_or, slice_index, Option, Some, None, IsSome, slice_get, sym, ap, subst, ◌∙◌, refl, arith, inl, inr}
+use Rattle.std.proofs.Common.{◌≡◌, ◌≢◌, ℕ, zero, suc, ◌+◌, ◌-◌, ◌<◌, ◌≤◌, ◌^◌, ◌⊎◌, List, [], ◌∷◌, ◌++◌, length, set, slice_index, Option, Some, None, IsSome, slice_get, sym, ap, subst, ◌∙◌, refl, arith, inl, inr}
 use Rattle.std.specs.List.{remove}
 use Rattle.std.proofs.lemmas.Bool.{cases_lt, cases_eq}
 use Rattle.std.proofs.lemmas.List.{get_or-set_same, get_or-set_other, length-set, length_push, get_or_push, get_or_append_left, get_or_past}
 use Rattle.std.proofs.lemmas.List.Edits.{get_or-remove_below, get_or-remove_above, length-remove}
 use Rattle.std.proofs.lemmas.Option.{slice_get_within, slice_get-get_or, slice_get_past}
-use Rattle.sg_base.specs.Page.{cell_in, bytes_of}
 use Rattle.sg_base.specs.Sheet.{Sheet}
-use Rattle.sg_base.specs.Slots.{Slots, with_cell}
+use Rattle.sg_base.specs.Slots.{Slots}
 use Rattle.sg_space.specs.Owned.{Becomes}
 use Rattle.sg_space.specs.Reads.{one_cell}
 use Rattle.sg_space.specs.Units.{HasAt, Units, IsChanged, IsTaken, IsFreed}
 use Rattle.sg_space.proofs.Known.{moved, same_some}
 use Rattle.sg_space.proofs.Putting.{slice_get-push_same, slice_get-push_other}
-use Rattle.sg_bucket.specs.Bucket.{Bucket, IsLinked, IsPart, part_at, OwnsPage, HasEntry}
+use Rattle.sg_bucket.specs.Bucket.{Bucket, IsLinked, IsPart, part_at, OwnsPage}
 use Rattle.sg_bucket.specs.Entry.{IsEntryCell}
-use Rattle.sg_bucket.specs.Part.{IsBucketPage, AreEntries}
+use Rattle.sg_bucket.specs.Part.{AreEntries}
 use Rattle.sg_bucket.specs.Steps.{IsLast, CanCut, with_part, without}
 
 -- a page with this part, whatever its slots are called

@@ -1,24 +1,23 @@
 -- What the calls on a bucket do to its map.
-use Rattle.std.proofs.Common.{◌≡◌, ◌≢◌, ℕ, ◌+◌, ◌<◌, ◌≤◌, List, [], ◌∷◌, length, slice_get, Option, Some, None, option_map, sym, ap, subst, ◌∙◌, refl, arith, inl}
-use Rattle.std.specs.List.{sum_by, count_by}
+use Rattle.std.proofs.Common.{◌≡◌, ℕ, ◌+◌, ◌≤◌, List, [], ◌∷◌, length, Option, Some, None, option_map, sym, ap, subst, ◌∙◌, refl, arith, inl}
+use Rattle.std.specs.List.{sum_by}
 use Rattle.std.proofs.lemmas.Option.{slice_get_within}
 use Rattle.sg_base.specs.Page.{cell_in, bytes_of}
 use Rattle.sg_base.specs.Sheet.{Sheet}
 use Rattle.sg_base.specs.Slots.{Slots}
-use Rattle.sg_space.specs.Owned.{Becomes}
-use Rattle.sg_space.specs.Units.{HasAt, Units}
+use Rattle.sg_space.specs.Units.{HasAt}
 use Rattle.sg_space.specs.View.{View, Space, OnlyReads}
-use Rattle.sg_space.proofs.Known.{both, same_some, still}
-use Rattle.sg_bucket.specs.Bucket.{Bucket, IsLinked, IsBucket, IsFound, IsPlace, entries_of, part_at, OwnsPage}
-use Rattle.sg_bucket.specs.Calls.{IsSound, IsGone, LosesEntry, IsMapped, IsPut, IsDeleted, CanPutEntry}
-use Rattle.sg_bucket.specs.Entry.{Entry, entry_in, AreExchanged, AreOnce, value_of, with_value}
+use Rattle.sg_space.proofs.Known.{both, same_some}
+use Rattle.sg_bucket.specs.Bucket.{Bucket, IsLinked, IsFound, IsPlace, entries_of, part_at}
+use Rattle.sg_bucket.specs.Calls.{IsSound, IsPut, IsDeleted}
+use Rattle.sg_bucket.specs.Entry.{Entry, entry_in, AreExchanged, value_of, with_value}
 use Rattle.sg_bucket.specs.Part.{HasValueAt}
-use Rattle.sg_bucket.specs.Steps.{CanAdd, CanSet, CanReplace, Did, HasCellAt, IsAdded, IsHeld, IsReplaced, IsSet, IsStanding, IsTakenOut, Turns}
+use Rattle.sg_bucket.specs.Steps.{CanSet, Did, HasCellAt, IsAdded, IsHeld, IsReplaced, IsSet, IsStanding, IsTakenOut, Turns}
 use Rattle.sg_bucket.specs.declared.room.Held.{Held}
 use Rattle.sg_bucket.specs.declared.walk.Place.{Place}
 use Rattle.sg_bucket.proofs.Entries.{parts_lack, value_here, exchanged_then, slot_has, part_has, one_sum}
 use Rattle.sg_bucket.proofs.Places.{found_lacks}
-use Rattle.sg_bucket.proofs.Values.{changed, has_key, none_of, put_new, put_over, taken_out}
+use Rattle.sg_bucket.proofs.Values.{changed, none_of, put_new, put_over, taken_out}
 
 -- where the entry of a key stands
 pub place_stands : {b : Bucket} {key : List ℕ} {place : Place} (is : IsPlace b key place) → IsStanding b place is.key_at.cell
@@ -56,7 +55,7 @@ pub held_set : {at : ℕ → Option Sheet} {first : ℕ} {b : Bucket} {place : P
 held_set cell h k seen short = let w = weighed h k.stands seen in let most = w.most in record { was = k.was; stands = k.stands; fits = omega arith }
 
 pub set_replaces : {b b' : Bucket} {place : Place} {cell : List ℕ} {size : ℕ} → ((was : List ℕ) → IsStanding b place was → length (entry_in was).value ≡ size) → IsSet cell place b b' → IsReplaced cell place size b b'
-set_replaces value s = record { exchanged = s.exchanged; value = value; full = s.full }
+set_replaces value s = record { exchanged = s.exchanged; value = value; full = s.full; few = let less = s.few in omega arith }
 
 -- an entry that stands in a bucket is one of its entries
 standing_had : {at : ℕ → Option Sheet} {first : ℕ} {b : Bucket} {place : Place} {was : List ℕ} → IsLinked at first b → IsStanding b place was → (f : Entry → ℕ) → sum_by f (entry_in was ∷ []) ≤ sum_by f (entries_of b.parts)
@@ -74,6 +73,7 @@ moved_replaces {place = place} h value a t = record {
   exchanged = λ was s. exchanged_then a.exchanged (t.exchanged was (a.stays place was s)) (standing_had h s);
   value = value;
   full = λ full. t.full (a.full full);
+  few = let one = a.few in let less = t.few in omega arith;
 }
 
 pub still_has : {b b' : Bucket} {place : Place} {cell : List ℕ} → IsAdded cell b b' → HasCellAt place b → HasCellAt place b'
@@ -93,6 +93,7 @@ put_adds {b = b} {b' = b'} {key = key} {value = value} {cell = cell} a e h sound
       values = m.values;
       had = ap (option_map (λ (x : List ℕ). length x)) (none_of key (entries_of b.parts) count);
       entries = record { gone = []; gone_is = refl; exchanged = x };
+      few = let less = a.few in omega arith;
     }
 
 -- the value that the key has
@@ -118,6 +119,7 @@ put_replaces {size = size} {b = b} {b' = b'} {key = key} {value = value} {cell =
       values = m.values;
       had = ap (option_map (λ (x : List ℕ). length x)) (here_value h sound is) ∙ ap Some size_is;
       entries = record { gone = entry_in was ∷ []; gone_is = ((entry_in was).value, ap (λ (y : Entry). y ∷ []) (entry_is was is.key_at.key_is), size_is); exchanged = x };
+      few = let less = r.few in omega arith;
     }
 
 pub del_takes : {at : ℕ → Option Sheet} {first size : ℕ} {b b' : Bucket} {key : List ℕ} {place : Place} → IsLinked at first b → IsSound b → (is : IsPlace b key place) → length (entry_in is.key_at.cell).value ≡ size → IsTakenOut place b b' → IsDeleted key (Some size) b b'
@@ -130,6 +132,7 @@ del_takes {size = size} {b = b} {b' = b'} {key = key} h sound is size_is t =
       values = m.values ∙ ap (λ (k : List ℕ). with_value (value_of (entries_of b.parts)) k None) is.key_at.key_is;
       had = ap (option_map (λ (x : List ℕ). length x)) (here_value h sound is) ∙ ap Some size_is;
       entries = record { gone = entry_in was ∷ []; gone_is = ((entry_in was).value, ap (λ (y : Entry). y ∷ []) (entry_is was is.key_at.key_is), size_is); exchanged = x };
+      few = let less = t.few in omega arith;
     }
 
 pub none_exchanged : (es : List Entry) → AreExchanged es es [] []
@@ -146,6 +149,7 @@ del_none {b = b} {key = key} h sound none found =
       values = changed key None (value_of (entries_of b.parts)) (value_of (entries_of b.parts)) value (λ other ne. refl);
       had = ap (option_map (λ (x : List ℕ). length x)) value;
       entries = record { gone = []; gone_is = refl; exchanged = none_exchanged (entries_of b.parts) };
+      few = omega arith;
     }
 
 pub turns_none : {at at' : Space} {first : ℕ} {b : Bucket} → at' ≡ at → IsLinked at.pages.at first b → Turns at at' first b b

@@ -1,8 +1,6 @@
 -- Changes of buckets, one after another.
-use Rattle.std.proofs.Common.{◌≡◌, ◌≢◌, ℕ, zero, suc, ◌+◌, ◌<◌, ◌≤◌, ◌⊎◌, List, [], ◌∷◌, length, Option, Some, None, slice_get, sym, ap, subst, ◌∙◌, refl, arith, inl, inr}
+use Rattle.std.proofs.Common.{◌≡◌, ◌≢◌, ℕ, zero, suc, ◌⊎◌, List, [], ◌∷◌, Some, None, slice_get, sym, ap, ◌∙◌, arith, inl, inr}
 use Rattle.std.proofs.lemmas.Bool.{cases_eq}
-use Rattle.sg_base.specs.Sheet.{Sheet}
-use Rattle.sg_ops.specs.Table.{Table}
 use Rattle.sg_space.specs.Owned.{Becomes}
 use Rattle.sg_space.specs.Units.{Units}
 use Rattle.sg_space.specs.View.{View, Space, OnlyReads}

@@ -1,12 +1,12 @@
 -- Where an entry stands in a bucket.
-use Rattle.std.proofs.Common.{◌≡◌, ◌≢◌, ℕ, ◌+◌, ◌<◌, ◌≤◌, List, length, take, Option, Some, None, slice_get, sym, ap, subst, ◌∙◌, refl, arith}
+use Rattle.std.proofs.Common.{◌≡◌, ℕ, List, take, Option, Some, None, sym, ap, subst, ◌∙◌, arith}
 use Rattle.std.proofs.lemmas.Option.{slice_get_within}
 use Rattle.sg_base.specs.Page.{cell_in}
 use Rattle.sg_base.specs.Sheet.{Sheet}
 use Rattle.sg_base.specs.Slots.{Slots}
 use Rattle.sg_space.specs.Units.{HasAt}
 use Rattle.sg_space.proofs.Known.{both, same_some}
-use Rattle.sg_bucket.specs.Bucket.{Bucket, IsLinked, IsBucket, IsPart, IsFound, IsPlace, LacksKey, entries_of, part_at}
+use Rattle.sg_bucket.specs.Bucket.{Bucket, IsLinked, IsBucket, IsFound, IsPlace, LacksKey, entries_of, part_at}
 use Rattle.sg_bucket.specs.Entry.{value_of, entry_in}
 use Rattle.sg_bucket.specs.Part.{HasValueAt, IsCopied}
 use Rattle.sg_bucket.specs.declared.walk.Place.{Place}

@@ -1,19 +1,18 @@
 -- An entry taken out of a bucket, and its page where it is empty then.
-use Rattle.std.proofs.Common.{◌≡◌, ◌≢◌, ℕ, zero, suc, ◌+◌, ◌-◌, ◌<◌, ◌≤◌, List, [], ◌∷◌, length, set, slice_index, Option, Some, None, slice_get, sym, ap, subst, ◌∙◌, refl, arith, inl, inr}
+use Rattle.std.proofs.Common.{◌≡◌, ◌≢◌, ℕ, zero, suc, ◌+◌, ◌<◌, List, [], ◌∷◌, length, set, Option, Some, None, slice_get, sym, ap, subst, ◌∙◌, refl, arith, inl, inr}
 use Rattle.std.specs.List.{remove, sum_by}
-use Rattle.std.proofs.lemmas.Bool.{cases_lt, cases_eq}
-use Rattle.std.proofs.lemmas.List.{get_or-set_same, get_or-set_other, length-set}
+use Rattle.std.proofs.lemmas.Bool.{cases_lt}
+use Rattle.std.proofs.lemmas.List.{get_or-set_same, get_or-set_other}
 use Rattle.std.proofs.lemmas.List.Edits.{get_or-remove_below, get_or-remove_above, length-remove}
 use Rattle.std.proofs.lemmas.Option.{slice_get_within}
-use Rattle.sg_base.specs.Page.{cell_in}
 use Rattle.sg_base.specs.Sheet.{Sheet}
 use Rattle.sg_base.specs.Slots.{Slots}
 use Rattle.sg_base.specs.declared.numbers.PageNo.{PageNo}
 use Rattle.sg_space.specs.Units.{HasAt}
 use Rattle.sg_space.proofs.Known.{both}
-use Rattle.sg_bucket.specs.Bucket.{Bucket, IsLinked, IsPart, part_at, OwnsPage, HasEntry, entries_of}
-use Rattle.sg_bucket.specs.Entry.{Entry, entry_in, AreExchanged}
-use Rattle.sg_bucket.specs.Part.{IsBucketPage, entries_in}
+use Rattle.sg_bucket.specs.Bucket.{Bucket, IsLinked, part_at, HasEntry, entries_of}
+use Rattle.sg_bucket.specs.Entry.{entry_in, AreExchanged}
+use Rattle.sg_bucket.specs.Part.{IsBucketPage}
 use Rattle.sg_bucket.specs.Steps.{IsStanding, IsRemoved, IsTakenOut, HasCellAt, CanCut, IsCut, IsFull, IsBare, IsEmptied, with_part, without}
 use Rattle.sg_bucket.specs.declared.walk.Place.{Place}
 use Rattle.sg_bucket.proofs.Changing.{full_with, within_parts}
@@ -31,6 +30,7 @@ pub taken_out_left : {at : ℕ → Option Sheet} {first : ℕ} {b b' : Bucket} {
 taken_out_left {b = b} {b' = b'} {place = place} h k r some = subst (λ (x : Bucket). IsTakenOut place b x) (sym is) (record {
   exchanged = λ was s. subst (λ (x : Bucket). AreExchanged (entries_of b.parts) (entries_of x.parts) (entry_in was ∷ []) []) (sym (r.is was s) ∙ is) (removed_exchanges h s);
   full = full_with b k.stands.index (left_slots b place k.stands.index) below some_left;
+  few = omega arith;
 })
   where
     is : b' ≡ with_part k.stands.index (left_slots b place k.stands.index) b
@@ -47,6 +47,7 @@ pub taken_out_first : {at : ℕ → Option Sheet} {first : ℕ} {b b' : Bucket} 
 taken_out_first {first = first} {b = b} {b' = b'} {place = place} h k same r = subst (λ (x : Bucket). IsTakenOut place b x) (sym is) (record {
   exchanged = λ was s. subst (λ (x : Bucket). AreExchanged (entries_of b.parts) (entries_of x.parts) (entry_in was ∷ []) []) (sym (r.is was s) ∙ is) (removed_exchanges h s);
   full = λ full i less. subst HasEntry (sym (get_or-set_other b.parts k.stands.index (i + 1) (left_slots b place k.stands.index) [] (λ e. absurd (let z = zero_is in omega arith)))) (full i less);
+  few = omega arith;
 })
   where
     is : b' ≡ with_part k.stands.index (left_slots b place k.stands.index) b
@@ -101,6 +102,7 @@ pub taken_out_cut : {at at' : ℕ → Option Sheet} {first before next : ℕ} {b
 taken_out_cut {b = b} {b' = b'} {b'' = b''} {place = place} h k r h' can cut = record {
   exchanged = λ was s. exchanged_cut was s;
   full = λ full i less. subst (λ (x : Bucket). HasEntry (part_at x.parts (i + 1))) (sym cut_is) (full_left full i (subst (λ (x : Bucket). i + 1 < length x.pages) cut_is less));
+  few = let same = same_long in let one = length-remove b'.pages (can.index + 1) (slice_get_within b'.pages (can.index + 1) place.page.0 can.page_is) in let long : length b''.pages ≡ length (remove b'.pages (can.index + 1)) = ap (λ (x : Bucket). length x.pages) cut_is in omega arith;
 }
   where
     cut_is : b'' ≡ without (can.index + 1) b'

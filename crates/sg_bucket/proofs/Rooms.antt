@@ -1,20 +1,20 @@
 -- Room on a page.
-use Rattle.std.proofs.Common.{◌≡◌, ◌≢◌, ℕ, ◌+◌, ◌-◌, ◌<◌, ◌≤◌, ◌==◌, Bool, true, false, List, [], ◌∷◌, ◌++◌, length, set, Option, Some, None, IsSome, slice_index, sym, ap, subst, ◌∙◌, refl, arith}
+use Rattle.std.proofs.Common.{◌≡◌, ℕ, ◌+◌, ◌<◌, ◌≤◌, ◌==◌, false, List, length, set, Option, Some, None, IsSome, slice_index, sym, ap, subst, ◌∙◌, refl, arith}
 use Rattle.std.proofs.lemmas.Bool.Decides.{nat_tests}
 use Rattle.std.proofs.lemmas.Option.{slice_get_within}
 use Rattle.sg_base.specs.Page.{cell_in, cell_size, bytes_of, room_of, slots_of, IsSlotted}
 use Rattle.sg_base.specs.Sheet.{Sheet}
-use Rattle.sg_base.specs.Slots.{Slots, IsFree, with_cell}
+use Rattle.sg_base.specs.Slots.{Slots, with_cell}
 use Rattle.sg_base.specs.declared.numbers.PageNo.{PageNo}
-use Rattle.sg_slotted.proofs.Room.{bytes_of-set, enough_room, bytes_fit}
+use Rattle.sg_slotted.proofs.Room.{bytes_of-set, enough_room}
 use Rattle.sg_space.specs.Units.{HasAt}
-use Rattle.sg_space.specs.View.{View, Space, OnlyReads, MayFill}
+use Rattle.sg_space.specs.View.{View, Space, OnlyReads}
 use Rattle.sg_space.proofs.Known.{both, still, before, keeps_then}
-use Rattle.sg_bucket.specs.Bucket.{Bucket, IsLinked, IsPart, part_at, OwnsPage}
-use Rattle.sg_bucket.specs.Steps.{CanPut, CanPutAt, CanAdd, CanAppend, IsLast, IsRoom, Turns, Did, DidKeep}
+use Rattle.sg_bucket.specs.Bucket.{Bucket, IsLinked, IsPart}
+use Rattle.sg_bucket.specs.Steps.{CanPut, CanAdd, IsLast, IsRoom, Turns, DidKeep}
 use Rattle.sg_bucket.specs.declared.room.Room.{Room}
 use Rattle.sg_bucket.specs.declared.room.Room.TheVariants as room
-use Rattle.sg_bucket.proofs.Walking.{IsWalked, Walks, part_seen, index_past}
+use Rattle.sg_bucket.proofs.Walking.{IsWalked, index_past}
 
 -- a cell may be put into an empty slot
 pub put_empty : (page : List ℕ) (room size slot : ℕ) → IsSlotted page → room ≡ room_of (slots_of page) → size ≤ room → slot < length (slots_of page) → cell_in (slots_of page) slot ≡ None → CanPut size slot (slots_of page)

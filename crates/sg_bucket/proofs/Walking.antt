@@ -1,12 +1,11 @@
 -- Walks along the chain of a bucket.
-use Rattle.std.proofs.Common.{◌≡◌, ◌≢◌, ℕ, zero, suc, ◌+◌, ◌<◌, ◌≤◌, ◌^◌, List, [], ◌∷◌, length, Option, Some, None, slice_get, slice_index, sym, ap, subst, ◌∙◌, refl, arith, inl, inr}
-use Rattle.std.proofs.lemmas.Bool.{cases_lt, cases_eq}
-use Rattle.std.proofs.lemmas.Option.{slice_get_within, slice_get-get_or, slice_get_past}
+use Rattle.std.proofs.Common.{◌≡◌, ◌≢◌, ℕ, zero, suc, ◌+◌, ◌<◌, ◌≤◌, List, [], ◌∷◌, length, Option, Some, slice_get, slice_index, sym, ap, subst, ◌∙◌, refl, arith, inl, inr}
+use Rattle.std.proofs.lemmas.Bool.{cases_eq}
 use Rattle.sg_base.specs.Sheet.{Sheet}
 use Rattle.sg_base.specs.Slots.{Slots}
-use Rattle.sg_space.specs.Units.{HasAt, Units, IsExact}
+use Rattle.sg_space.specs.Units.{HasAt}
 use Rattle.sg_space.specs.View.{View, Space, OnlyReads}
-use Rattle.sg_space.proofs.Known.{moved, still, keeps_same, reads_then, both}
+use Rattle.sg_space.proofs.Known.{still, keeps_same, reads_then, both}
 use Rattle.sg_bucket.specs.Bucket.{Bucket, IsLinked, IsPart, part_at}
 use Rattle.sg_bucket.specs.Part.{IsBucketPage, HasKeyAt, HasNoKey, IsLook}
 use Rattle.sg_bucket.specs.declared.page.Look.{Look}

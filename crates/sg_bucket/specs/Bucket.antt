@@ -1,11 +1,11 @@
 -- A bucket: entries on a chain of pages.
-use Rattle.std.specs.Prelude.{◌≡◌, ◌≢◌, ℕ, ◌+◌, ◌<◌, ◌≤◌, ◌^◌, List, [], ◌∷◌, ◌++◌, length, take, slice_get, slice_index, slice_index_or, Option, Some, None, option_map}
+use Rattle.std.specs.Prelude.{◌≡◌, ℕ, ◌+◌, ◌<◌, ◌^◌, List, [], ◌∷◌, ◌++◌, length, take, slice_get, slice_index, slice_index_or, Option, Some, None, option_map}
 use Rattle.sg_base.specs.Page.{cell_in}
 use Rattle.sg_base.specs.Sheet.{Sheet}
 use Rattle.sg_base.specs.Slots.{Slots}
 use Rattle.sg_space.specs.Units.{HasAt}
 use Rattle.sg_space.specs.View.{View}
-use Rattle.sg_bucket.specs.Entry.{Entry, AreOnce, value_of}
+use Rattle.sg_bucket.specs.Entry.{Entry, AreOnce}
 use Rattle.sg_bucket.specs.Part.{IsBucketPage, entries_in, HasKeyAt, HasNoKey}
 use Rattle.sg_bucket.specs.declared.walk.Place.{Place}
 

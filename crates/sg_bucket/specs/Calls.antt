@@ -1,5 +1,5 @@
 -- What the calls on a bucket want and do.
-use Rattle.std.specs.Prelude.{◌≡◌, ◌≢◌, ℕ, ◌+◌, ◌<◌, ◌≤◌, ◌^◌, List, [], ◌∷◌, length, Option, Some, None, option_map}
+use Rattle.std.specs.Prelude.{◌≡◌, ℕ, ◌+◌, ◌<◌, ◌≤◌, ◌^◌, List, [], ◌∷◌, length, Option, Some, None, option_map}
 use Rattle.sg_ops.specs.Table.{Table}
 use Rattle.sg_space.specs.Owned.{Becomes}
 use Rattle.sg_space.specs.Units.{IsTaken}
@@ -31,6 +31,8 @@ pub record IsMapped (key : List ℕ) (value : Option (List ℕ)) (come : List En
   pub values : value_of (entries_of b'.parts) ≡ with_value (value_of (entries_of b.parts)) key value
   pub had : option_map (λ (x : List ℕ). length x) (value_of (entries_of b.parts) key) ≡ old
   pub entries : LosesEntry key old come b b'
+  -- at most one page more, and none where nothing came
+  pub few : length b'.pages ≤ length b.pages + length come
 
 -- the entry is there now
 abbrev pub IsPut : List ℕ → List ℕ → Option ℕ → Bucket → Bucket → Type 0

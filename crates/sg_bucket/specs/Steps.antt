@@ -10,7 +10,7 @@ use Rattle.sg_ops.specs.Table.{Table}
 use Rattle.sg_space.specs.Owned.{Becomes}
 use Rattle.sg_space.specs.View.{View, Space, Keeps, MayFill}
 use Rattle.sg_bucket.specs.Bucket.{Bucket, IsLinked, OwnsPage, entries_of, part_at, HasEntry}
-use Rattle.sg_bucket.specs.Entry.{Entry, entry_in, AreExchanged}
+use Rattle.sg_bucket.specs.Entry.{entry_in, AreExchanged}
 use Rattle.sg_bucket.specs.declared.room.Held.{Held}
 use Rattle.sg_bucket.specs.declared.room.Room.{Room}
 use Rattle.sg_bucket.specs.declared.room.Room.TheVariants as room
@@ -85,6 +85,7 @@ pub record IsAdded (cell : List ℕ) (b b' : Bucket) : Type 0 where
   pub exchanged : AreExchanged (entries_of b.parts) (entries_of b'.parts) [] (entry_in cell ∷ [])
   pub full : IsFull b → IsFull b'
   pub stays : (place : Place) (other : List ℕ) → IsStanding b place other → IsStanding b' place other
+  pub few : length b'.pages ≤ length b.pages + 1
 
 -- the page is the last one
 pub record IsLast (last : ℕ) (b : Bucket) : Type 0 where
@@ -113,6 +114,7 @@ pub record CanSet (size : ℕ) (place : Place) (b : Bucket) : Type 0 where
 pub record IsSet (cell : List ℕ) (place : Place) (b b' : Bucket) : Type 0 where
   pub exchanged : (was : List ℕ) → IsStanding b place was → AreExchanged (entries_of b.parts) (entries_of b'.parts) (entry_in was ∷ []) (entry_in cell ∷ [])
   pub full : IsFull b → IsFull b'
+  pub few : length b'.pages ≤ length b.pages
 
 -- some cell stands there
 pub record HasCellAt (place : Place) (b : Bucket) : Type 0 where
@@ -131,6 +133,7 @@ pub record IsRemoved (place : Place) (b b' : Bucket) : Type 0 where
 pub record IsTakenOut (place : Place) (b b' : Bucket) : Type 0 where
   pub exchanged : (was : List ℕ) → IsStanding b place was → AreExchanged (entries_of b.parts) (entries_of b'.parts) (entry_in was ∷ []) []
   pub full : IsFull b → IsFull b'
+  pub few : length b'.pages ≤ length b.pages
 
 -- a page without entries stands between these two
 pub record CanCut (before page next : ℕ) (b : Bucket) : Type 0 where
@@ -157,3 +160,4 @@ pub record IsReplaced (cell : List ℕ) (place : Place) (size : ℕ) (b b' : Buc
   pub exchanged : (was : List ℕ) → IsStanding b place was → AreExchanged (entries_of b.parts) (entries_of b'.parts) (entry_in was ∷ []) (entry_in cell ∷ [])
   pub value : (was : List ℕ) → IsStanding b place was → length (entry_in was).value ≡ size
   pub full : IsFull b → IsFull b'
+  pub few : length b'.pages ≤ length b.pages + 1

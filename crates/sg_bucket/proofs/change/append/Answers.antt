@@ -1,5 +1,4 @@
-use Rattle.std.proofs.Common.{ap, subst, sym, ◌∙◌, refl}
-use Rattle.sg_bucket.proofs.Changing.{links_can, append_did, link_last}
+use Rattle.sg_bucket.proofs.Changing.{append_did, link_last}
 use Rattle.sg_bucket.proofs.change.append.Goals as goal
 
 pub take_page_with-requires-clause-free : goal.take_page_with-requires-clause-free

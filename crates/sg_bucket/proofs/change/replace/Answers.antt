@@ -1,4 +1,3 @@
-use Rattle.sg_bucket.specs.Steps.{CanReplace, CanAdd, IsAdded}
 use Rattle.sg_bucket.proofs.Mapping.{held_there, held_value, held_set, set_replaces, moved_replaces, still_has}
 use Rattle.sg_bucket.proofs.Owning.{did_as, did_of, did_then, reads_did}
 use Rattle.sg_bucket.proofs.Rooms.{can_add_still}

@@ -1,9 +1,7 @@
-use Rattle.std.proofs.Common.{◌≡◌, ℕ}
 use Rattle.sg_space.proofs.Known.{still}
 use Rattle.sg_space.specs.Units.{HasAt}
 use Rattle.sg_space.specs.View.{Space}
-use Rattle.sg_bucket.specs.Bucket.{Bucket, IsLinked}
-use Rattle.sg_bucket.specs.Steps.{IsEmptied, IsRemoved, HasCellAt, CanCut}
+use Rattle.sg_bucket.specs.Steps.{IsEmptied}
 use Rattle.sg_bucket.proofs.Owning.{did_as, did_reads, did_then}
 use Rattle.sg_bucket.proofs.Removing.{taken_out_first, taken_out_left, taken_out_cut, entry_left, cut_ready, removed_page}
 use Rattle.sg_bucket.proofs.Walking.{still_linked}

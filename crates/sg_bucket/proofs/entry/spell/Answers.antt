@@ -1,5 +1,3 @@
-use Rattle.std.proofs.Common.{◌+◌, arith}
-use Rattle.sg_base.proofs.Overwriting.{wrote_on}
 use Rattle.sg_bucket.proofs.Cells.{spelled_front}
 use Rattle.sg_bucket.proofs.entry.spell.Goals as goal
 

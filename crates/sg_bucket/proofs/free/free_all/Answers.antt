@@ -1,10 +1,7 @@
-use Rattle.std.proofs.Common.{◌≡◌, ◌<◌, ℕ, slice_index, IsSome, subst, sym, ◌∙◌, refl, arith}
+use Rattle.std.proofs.Common.{IsSome, subst, sym, ◌∙◌, refl, arith}
 use Rattle.std.proofs.lemmas.Option.{slice_get_within}
-use Rattle.sg_base.specs.Sheet.{Sheet}
 use Rattle.sg_space.proofs.Known.{both, still}
-use Rattle.sg_space.specs.Units.{HasAt}
 use Rattle.sg_space.specs.View.{Space}
-use Rattle.sg_bucket.specs.Bucket.{Bucket}
 use Rattle.sg_bucket.proofs.Freeing.{frees_none, frees_on, all_gone, next_part}
 use Rattle.sg_bucket.proofs.Fuel.{few_pages}
 use Rattle.sg_bucket.proofs.Walking.{part_page}

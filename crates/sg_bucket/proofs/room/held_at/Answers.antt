@@ -1,5 +1,4 @@
-use Rattle.std.proofs.Common.{◌≤◌, ◌+◌, List, ℕ, length, sym, ap, arith}
-use Rattle.sg_base.specs.Page.{bytes_of, slots_of}
+use Rattle.std.proofs.Common.{List, ℕ, length, sym, ap, arith}
 use Rattle.sg_base.specs.Sheet.{sheet_of}
 use Rattle.sg_slotted.proofs.Room.{bytes_fit}
 use Rattle.sg_bucket.proofs.room.held_at.Goals as goal

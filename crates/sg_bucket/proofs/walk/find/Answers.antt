@@ -1,5 +1,3 @@
-use Rattle.std.proofs.Common.{◌≡◌, ℕ, List, Some, ap, subst, sym, ◌∙◌, refl}
-use Rattle.sg_base.specs.Slots.{Slots}
 use Rattle.sg_space.proofs.Known.{before}
 use Rattle.sg_space.specs.Units.{HasAt}
 use Rattle.sg_space.specs.View.{Space}

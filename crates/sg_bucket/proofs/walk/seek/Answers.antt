@@ -1,4 +1,4 @@
-use Rattle.std.proofs.Common.{ap, ◌∙◌, arith}
+use Rattle.std.proofs.Common.{◌∙◌, arith}
 use Rattle.std.proofs.lemmas.Option.{slice_get_within}
 use Rattle.sg_bucket.proofs.Fuel.{few_pages}
 use Rattle.sg_bucket.proofs.Walking.{walks_none, walks_on, part_seen, part_page, look_here, look_next, walk_end}
