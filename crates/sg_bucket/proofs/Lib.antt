@@ -1,0 +1,14 @@
+pub mod Cells
+pub mod Values
+pub mod Entries
+pub mod Walking
+pub mod Places
+pub mod Rooms
+pub mod Linking
+pub mod Changing
+pub mod Fuel
+pub mod Owning
+pub mod Removing
+pub mod Mapping
+pub mod Freeing
+pub mod Few

@@ -1,0 +1,52 @@
+use Rattle.std.proofs.Common.{IsSome, subst, sym, ◌∙◌, refl, arith}
+use Rattle.std.proofs.lemmas.Option.{slice_get_within}
+use Rattle.sg_space.proofs.Known.{both, still}
+use Rattle.sg_space.specs.View.{Space}
+use Rattle.sg_bucket.proofs.Freeing.{frees_none, frees_on, all_gone, next_part}
+use Rattle.sg_bucket.proofs.Fuel.{few_pages}
+use Rattle.sg_bucket.proofs.Walking.{part_page}
+use Rattle.sg_bucket.proofs.free.free_all.Goals as goal
+
+pub loop-passed-init : goal.loop-passed-init
+loop-passed-init g c = frees_none
+
+pub next_of-requires : goal.next_of-requires
+next_of-requires g c = λ told.
+    let i = c.loop-passed.invariant in
+    let back = i.back told in
+    part_page (next_part i back (c.requires back).1)
+
+pub free_page-requires : goal.free_page-requires
+free_page-requires g c = λ told.
+    let i = c.loop-passed.invariant in
+    let told_then = c.next_of.ensures.counts.told told in
+    let back = i.back told_then in
+    let part = next_part i back (c.requires back).1 in
+    still (λ (s : Space). IsSome (s.pages.at c.loop-passed.page.0)) c.in_ok-next.ensures.kept (g.met.P.PageSpace.told_shows _ told_then) (subst IsSome (sym part.is) refl)
+
+pub returns-then-next-eq0-clause-did : goal.returns-then-next-eq0-clause-did
+returns-then-next-eq0-clause-did g c =
+    let i = c.loop-passed.invariant in
+    all_gone i (λ t. g.met.P.PageSpace.told_shows _ (i.told t)) c.in_ok-next.ensures.kept c.in_ok-free_page.ensures.did (λ t b h.
+    let part = next_part i t h in
+    sym part.has.next_is ∙ (both part (c.in_ok-next.ensures.read (g.met.P.PageSpace.told_shows _ (i.told t))) ∙ c.if-next-eq0.true))
+
+pub loop-passed-preserved : goal.loop-passed-preserved
+loop-passed-preserved g c =
+    let i = c.loop-passed.invariant in
+    let read = c.next_of.ensures.counts in
+    let counts = c.free_page.ensures.counts in
+    frees_on i (λ t. g.met.P.PageSpace.told_shows _ (i.told t)) c.in_ok-next.ensures.kept read.told read.later counts.told counts.later c.in_ok-free_page.ensures.did (λ t b h.
+    let part = next_part i t h in
+    sym part.has.next_is ∙ both part (c.in_ok-next.ensures.read (g.met.P.PageSpace.told_shows _ (i.told t)))) c.if-next-eq0.false
+
+pub broken-requires : goal.broken-requires
+broken-requires g c = λ told.
+    let i = c.loop-passed.invariant in
+    let back = i.back told in
+    let h = c.requires back in
+    let few = few_pages (g.met.P.PageSpace.pages_exact _ back) h.1 in
+    let within = slice_get_within h.0.pages c.loop-passed._passed c.loop-passed.page.0 (i.next back h.0 h.1) in
+    let end = c.loop-passed-test.false in
+    let count = c.pages-passed-end.ensures in
+    absurd (omega arith)

@@ -1,0 +1,7 @@
+use Rattle.std.proofs.Common.{◌≡◌, ℕ, ◌<◌, List, Some}
+use Rattle.sg_base.specs.Page.{cell_in, slots_of}
+use Rattle.sg_bucket.specs.Entry.{entry_in}
+use Rattle.sg_bucket.proofs.page.seek_slot.Given as goal
+
+abbrev pub invariant-loop-slot : goal.invariant-loop-slot
+invariant-loop-slot l = (slot : ℕ) (cell : List ℕ) → slot < l.slot → cell_in (slots_of l.view.page.now) slot ≡ Some cell → (entry_in cell).key ≡ l.key → ⊥

@@ -1,0 +1,16 @@
+use Rattle.std.proofs.Common.{List, ℕ, length, sym, ap, arith}
+use Rattle.sg_base.specs.Sheet.{sheet_of}
+use Rattle.sg_slotted.proofs.Room.{bytes_fit}
+use Rattle.sg_bucket.proofs.room.held_at.Goals as goal
+
+pub returns-clause-read : goal.returns-clause-read
+returns-clause-read g c = λ shows. record {
+  what = sheet_of c.in_ok-view.view.page.now;
+  is = c.in_ok-view.ensures.looked shows;
+  has = record {
+    cell = c.in-Some.cell.now;
+    is = sym c.in-Some.ensures;
+    value = ap (λ (x : List ℕ). length x) (sym c.value_in.ensures.value);
+    most = let fits = bytes_fit c.in_ok-view.view.page.now c.in_ok-view.view.slotted in let room = c.room-room.ensures in omega arith;
+  };
+}
