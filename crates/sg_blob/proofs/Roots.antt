@@ -20,18 +20,11 @@ use Rattle.sg_space.specs.View.{Space, View, Keeps, MayFill}
 use Rattle.sg_space.proofs.Known.{moved, same_some}
 use Rattle.sg_space.proofs.Owners.{grows_same}
 use Rattle.sg_space.proofs.Putting.{cell-set_same, cell-set_other, cell-with_same, cell-with_other, length-with, put_step, set_step, slice_get-push_same, slice_get-push_other}
-use Rattle.sg_blob.specs.Raw.{IsRoot, root_cell, link_cell, Raw, IsRaw}
+use Rattle.sg_space.specs.Links.{link_cell}
+use Rattle.sg_space.proofs.Links.{link_size, stored_most}
+use Rattle.sg_blob.specs.Raw.{IsRoot, root_cell, Raw, IsRaw}
 use Rattle.sg_blob.specs.Steps.{with_root, RawTurns}
 use Rattle.sg_blob.proofs.Turned.{root_changed}
-
-pub stored_most : (slots : List (Option (List ℕ))) (size : ℕ) → ((m : ℕ) → cell_size (cell_in slots m) ≤ size) → stored slots ≤ size * length slots
-stored_most [] size h = omega arith
-stored_most (x ∷ xs) size h =
-    let first : cell_size x ≤ size = h 0 in
-    let rest : stored xs ≤ size * length xs = stored_most xs size (λ m. h (suc m)) in
-    let sum : stored (x ∷ xs) ≡ cell_size x + stored xs = sum_by-cons cell_size x xs in
-    let more : size * suc (length xs) ≡ size * length xs + size = omega arith in
-    rw sum (rw more (omega arith))
 
 -- a first cell of 8 bytes at most, and others of 4
 pub bytes_most : (slots : List (Option (List ℕ))) → cell_size (cell_in slots 0) ≤ 8 → ((j : ℕ) → cell_size (cell_in slots (suc j)) ≤ 4) → length slots ≤ 501 → bytes_of slots ≤ 4072
@@ -40,10 +33,6 @@ bytes_most (x ∷ xs) first rest few =
     let most : stored xs ≤ 4 * length xs = stored_most xs 4 (λ m. rest m) in
     let sum : stored (x ∷ xs) ≡ cell_size x + stored xs = sum_by-cons cell_size x xs in
     omega arith
-
-pub link_size : (o : Option ℕ) → cell_size (link_cell o) ≤ 4
-link_size None = omega arith
-link_size (Some x) = omega arith
 
 pub root_bytes : {count peak : ℕ} {bands : List ℕ} {sheet : Sheet} → IsRoot count peak bands sheet → bytes_of sheet.slots ≤ 4072
 root_bytes {bands = bands} {sheet = sheet} h = bytes_most sheet.slots (rw h.first (omega arith)) (λ j. rw (← add-one, h.links j) (link_size (slice_get bands j))) h.few

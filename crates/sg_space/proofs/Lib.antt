@@ -5,3 +5,5 @@ pub mod Owners
 pub mod Placed
 pub mod Known
 pub mod Putting
+pub mod Links
+pub mod Freeing
