@@ -46,3 +46,10 @@ item_read {leaf = leaf} h at r = sym (item_cell h at) ∙ read_is (h.leaf _ leaf
 -- the front of a list that was put together
 pub front_is : (n : ℕ) (xs ys : List ℕ) → length xs ≡ n → take n (xs ++ ys) ≡ xs
 front_is n xs ys e = take-append-le n xs ys (omega arith) ∙ take_all n xs (omega arith)
+
+-- the numbers that the code computes of the root's
+pub same_quotient : {c c' each size size' : ℕ} → c ≡ c' → each ≡ per_page size → size ≡ size' → c / each ≡ c' / per_page size'
+same_quotient {c} {c'} {each} {size} {size'} a b d = ap (λ (x : ℕ). x / each) a ∙ (ap (λ (x : ℕ). c' / x) b ∙ ap (λ (x : ℕ). c' / per_page x) d)
+
+pub same_rest : {c c' each size size' : ℕ} → c ≡ c' → each ≡ per_page size → size ≡ size' → c % each ≡ c' % per_page size'
+same_rest {c} {c'} {each} {size} {size'} a b d = ap (λ (x : ℕ). x % each) a ∙ (ap (λ (x : ℕ). c' % x) b ∙ ap (λ (x : ℕ). c' % per_page x) d)

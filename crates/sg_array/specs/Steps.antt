@@ -1,5 +1,5 @@
 -- What the steps of a call on an array want and do. Between them an array may have more pages than it wants.
-use Rattle.std.specs.Prelude.{◌≡◌, ◌≢◌, ℕ, ◌+◌, ◌*◌, ◌/◌, ◌%◌, ◌<◌, ◌≤◌, ◌^◌, max, List, [], ◌∷◌, ◌++◌, length, take, slice_get, Option, Some, None, IsSome}
+use Rattle.std.specs.Prelude.{◌≡◌, ◌≢◌, ℕ, ◌+◌, ◌*◌, ◌/◌, ◌%◌, ◌<◌, ◌≤◌, ◌^◌, max, List, [], ◌∷◌, ◌++◌, length, take, slice_get, Option, Some, None}
 use Rattle.byteorder.specs.Endian.{little_bytes}
 use Rattle.sg_base.specs.Page.{bytes_of}
 use Rattle.sg_base.specs.Sheet.{Sheet}
@@ -82,7 +82,7 @@ pub record SetsRoot (v w : View) (root size count peak : ℕ) : Type 0 where
 -- a number of a page may be put into the slot
 pub record HasRoom (slot : ℕ) (sheet : Sheet) : Type 0 where
   pub free : IsFree sheet.slots slot
-  pub room : (cell : List ℕ) → length cell ≡ 4 → bytes_of (with_cell sheet.slots slot cell) ≤ 4072
+  pub room : (q : ℕ) → bytes_of (with_cell sheet.slots slot (little_bytes 4 q)) ≤ 4072
 
 -- a page may be taken, and its number put into the slot of another
 pub record CanLinkTo (v : View) (p slot : ℕ) : Type 0 where
@@ -177,15 +177,12 @@ pub record TakesLast (v w : View) (root leaf slot size count peak : ℕ) : Type 
   pub keeps : v.Told → KeepsBut v w (λ p. p ≡ leaf)
   pub done : v.Told → (a : Array) → IsBuilt v.space.pages.at root a → IsLast leaf slot size count peak a → Builds v.space w.space root a (popped count a)
 
--- a root names so many index pages
+-- a root names so many index pages, which are there
 pub record NamesIndex (pages : ℕ → Option Sheet) (root count : ℕ) (a : Array) : Type 0 where
   pub first : HasAt pages root (IsRoot a.size (length a.items) a.peak a.index)
+  pub index : (j p : ℕ) → slice_get a.index j ≡ Some p → HasAt pages p (λ sheet. sheet.kind ≡ 3)
   pub are : ArePages a.index
   pub many : length a.index ≡ count
-
--- each of these pages is there
-abbrev pub AreThere : (pages : ℕ → Option Sheet) (ps : List ℕ) → Type 0
-AreThere pages ps = (j p : ℕ) → slice_get ps j ≡ Some p → IsSome (pages p)
 
 -- Of each array that stood there in this way the first pages of a list are free now, and nothing else has changed.
 pub record Frees (v w : View) (Is : Array → Type 0) (list : Array → List ℕ) (done : Array → ℕ) : Type 0 where

@@ -5,5 +5,4 @@ ghost use Rattle.sg_array.specs.Beside.{StandApart};
 /// one as it was, and no page is of both.
 pub fn stand_apart()
     ensures { StandApart }
-{
-}
+{}

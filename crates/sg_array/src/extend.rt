@@ -83,11 +83,7 @@ fn new_leaf<P: PageSpace>(
 }
 
 // The item page for one more item that is there.
-fn old_leaf<P: PageSpace>(
-    space: &mut P,
-    root: PageNo,
-    found: Root,
-) -> Result<PageNo, SpaceFault>
+fn old_leaf<P: PageSpace>(space: &mut P, root: PageNo, found: Root) -> Result<PageNo, SpaceFault>
     requires most { found.count < 1048576 }
     requires why { (found.count < found.peak) ⊎ (found.count % per_page found.size ≢ 0) }
     requires there { HasArray (P.view space.old) root.0

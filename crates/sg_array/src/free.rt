@@ -2,7 +2,7 @@
 ghost use Rattle.std.specs.Prelude.{◌≡◌, ◌<◌, ◌≤◌, length, OnOk, ⊤};
 ghost use Rattle.sg_array.specs.Array.{IsArray};
 ghost use Rattle.sg_array.specs.Calls.{HasArray, Gone};
-ghost use Rattle.sg_array.specs.Steps.{NamesIndex, AreThere, Frees};
+ghost use Rattle.sg_array.specs.Steps.{NamesIndex, Frees};
 ghost use Rattle.sg_space.specs.View.{Counts};
 
 use crate::walk::{ROOT_KIND, leaf_at, link_at, read_root, wanted_pages};
@@ -28,8 +28,7 @@ fn free_leaves<P: PageSpace>(space: &mut P, root: PageNo, count: u32) -> Result<
 // Frees the index pages, of which there are so many.
 fn free_index<P: PageSpace>(space: &mut P, root: PageNo, count: u32) -> Result<(), SpaceFault>
     requires few { count ≤ 138 }
-    requires there { (P.view space.old).Told → (a : _) × NamesIndex (P.view space.old).space.pages.at root.0 count a
-        × AreThere (P.view space.old).space.pages.at a.index }
+    requires there { (P.view space.old).Told → (a : _) × NamesIndex (P.view space.old).space.pages.at root.0 count a }
     ensures counts { Counts (P.view space.old) (P.view space.new) result }
     ensures did { OnOk result (Frees (P.view space.old) (P.view space.new)
         (NamesIndex (P.view space.old).space.pages.at root.0 count) (λ a. a.index) (λ a. length a.index)) }

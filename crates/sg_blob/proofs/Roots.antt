@@ -18,6 +18,7 @@ use Rattle.sg_space.specs.Pages.{IsPossible, Changed}
 use Rattle.sg_space.specs.Units.{Units, HasAt, IsChanged}
 use Rattle.sg_space.specs.View.{Space, View, Keeps, MayFill}
 use Rattle.sg_space.proofs.Known.{moved, same_some}
+use Rattle.sg_space.proofs.Changing.{keeps_but}
 use Rattle.sg_space.proofs.Owners.{grows_same}
 use Rattle.sg_space.proofs.Putting.{cell-set_same, cell-set_other, cell-with_same, cell-with_other, length-with, put_step, set_step, slice_get-push_same, slice_get-push_other}
 use Rattle.sg_space.specs.Links.{link_cell}
@@ -156,20 +157,6 @@ put_possible t v {root} {j = j} {bands = bands} q cell e is below may h = record
     next : (length bands + 1 == length (h.what).slots) ≡ true → length (h.what).slots + 1 ≤ 501
     next u = let same : length bands + 1 ≡ length (h.what).slots = grind (arith, nat_tests, u) in omega arith
 
--- a change of the root that doesn't shrink it keeps what a caller relies on
-keeps_but : {t : Table} {v w : View} {root : ℕ} {op : Op} → Changed t v w root op → ((sheet : Sheet) → v.space.pages.at root ≡ Some sheet → shrinks op sheet ≡ false) → Keeps v w
-keeps_but {t} {v} {w} {root} c same = record {
-  told = c.told;
-  table = c.table;
-  may_take = c.may_take;
-  may_have = λ p n h. elim (cases_eq p root) as (λ _. w.MayHave p n) [
-    | inl is ↦ subst (λ (k : ℕ). w.MayHave k n) (sym is) (c.may_still n same (subst (λ (k : ℕ). v.MayHave k n) is h))
-    | inr ne ↦ c.may_have p n ne h
-  ];
-}
-
+-- a change of the root's first cell keeps what a caller relies on
 pub root_keeps : {t : Table} {v w : View} {root count peak : ℕ} {bands : List ℕ} (count' peak' : ℕ) (cell : List ℕ) → cell ≡ root_cell count' peak' → HasAt v.space.pages.at root (IsRoot count peak bands) → Changed t v w root (Set 0 cell) → Keeps v w
 root_keeps {t} {v} {w} {root} count' peak' cell e h c = keeps_but c (λ sheet is. subst (λ (s : Sheet). shrinks (Set 0 cell) s ≡ false) (same_some _ _ (sym h.is ∙ is)) (root_same_size cell count' peak' e h.has))
-
-pub put_keeps : {t : Table} {v w : View} {root slot : ℕ} {cell : List ℕ} → Changed t v w root (Put slot cell) → Keeps v w
-put_keeps c = keeps_but c (λ sheet is. refl)

@@ -7,3 +7,4 @@ pub mod Known
 pub mod Putting
 pub mod Links
 pub mod Freeing
+pub mod Changing
