@@ -12,8 +12,8 @@ use Rattle.sg_space.proofs.Freeing.{freed_none, next_stays, one_freed}
 use Rattle.sg_space.proofs.Known.{moved, same_some}
 use Rattle.sg_array.specs.Array.{Array, IsArray, IsBuilt, NamesPages, IsRoot, ArePages, Owns, page_count}
 use Rattle.sg_array.specs.Calls.{IsGone, Gone}
-use Rattle.sg_array.specs.Steps.{Frees, NamesIndex}
-use Rattle.sg_array.proofs.Links.{index_link}
+use Rattle.sg_array.specs.Steps.{Frees, NamesIndex, IsOfKind}
+use Rattle.sg_array.proofs.Links.{leaf_kind, index_kind}
 use Rattle.sg_array.proofs.Turned.{other_kind}
 
 -- so many pages of a list are free, of each array that stood there
@@ -78,8 +78,8 @@ names_still h f =
     }
 
 -- the next item page is still there
-pub leaf_still : {old new : Units Sheet} {root j n : ℕ} {a : Array} → IsBuilt old.at root a → AreFreed old new a.leaves j → slice_get a.leaves j ≡ Some n → IsSome (new.at n)
-leaf_still {j = j} {n = n} h f e = subst IsSome (sym (next_stays h.names.leaf_pages.apart f e ∙ (h.leaf j n e).is)) refl
+pub leaf_still : {old new : Units Sheet} {root j n : ℕ} {a : Array} → IsBuilt old.at root a → AreFreed old new a.leaves j → slice_get a.leaves j ≡ Some n → HasAt new.at n (IsOfKind 4)
+leaf_still {j = j} {n = n} h f e = moved (next_stays h.names.leaf_pages.apart f e) (leaf_kind h j e)
 
 -- what is left of an array without its item pages
 pub index_left : {old new : Units Sheet} {root count n : ℕ} {a : Array} → IsBuilt old.at root a → AreFreed old new a.leaves n → length a.index ≡ count → NamesIndex new.at root count a
@@ -87,7 +87,7 @@ index_left h f many =
     let names = names_still h f in
     record {
       first = names.first;
-      index = λ j p e. let k = names.index j p e in record { what = k.what; is = k.is; has = k.has.kind };
+      index = λ j p e. index_kind names j e;
       are = names.index_pages;
       many = many;
     }
@@ -98,8 +98,11 @@ root_left h f =
     let first = h.first in
     moved (f.others _ (λ one. let page = h.index one.0 _ one.2 in other_kind page first 3 2 page.has first.has.kind (λ e. omega arith) refl)) first
 
-pub next_index : {old new : Units Sheet} {root count j n : ℕ} {a : Array} → NamesIndex old.at root count a → AreFreed old new a.index j → slice_get a.index j ≡ Some n → IsSome (new.at n)
-next_index {j = j} {n = n} h f e = subst IsSome (sym (next_stays h.are.apart f e ∙ (h.index j n e).is)) refl
+pub next_index : {old new : Units Sheet} {root count j n : ℕ} {a : Array} → NamesIndex old.at root count a → AreFreed old new a.index j → slice_get a.index j ≡ Some n → HasAt new.at n (IsOfKind 3)
+next_index {j = j} {n = n} h f e = moved (next_stays h.are.apart f e) (h.index j n e)
+
+pub is_some : {pages : ℕ → Option Sheet} {n : ℕ} {P : Sheet → Type 0} → HasAt pages n P → IsSome (pages n)
+is_some h = subst IsSome (sym h.is) refl
 
 -- what all three have left
 pub all_gone : {old mid last new : Units Sheet} {root count : ℕ} {a : Array} → IsBuilt old.at root a → NamesIndex mid.at root count a → AreFreed old mid a.leaves (length a.leaves) → AreFreed mid last a.index (length a.index) → IsFreed last new root → Becomes old new (Owns root a) (λ _. ⊥) (page_count a) 0

@@ -9,7 +9,8 @@ use Rattle.sg_space.specs.Units.{HasAt}
 use Rattle.sg_space.specs.View.{Space, View, OnlyReads}
 use Rattle.sg_space.proofs.Known.{read_is, still}
 use Rattle.sg_space.proofs.Links.{link_is, there}
-use Rattle.sg_array.specs.Array.{Array, NamesPages, IsRoot, IsArray, ArePages}
+use Rattle.sg_array.specs.Array.{Array, NamesPages, IsBuilt, IsRoot, IsArray, ArePages}
+use Rattle.sg_array.specs.Steps.{IsOfKind}
 
 -- what stands in a space, said of the space alone
 abbrev pub Names : ℕ → Array → Space → Type 0
@@ -56,3 +57,10 @@ leaf_read d q n h e hn r = link_is _ n (λ p i. h.leaf_pages.fit d p i) hn (sym 
 -- the index page of an item page is there
 pub index_below : {pages : ℕ → Option Sheet} {root : ℕ} {a : Array} (d : ℕ) → NamesPages pages root a → d < length a.leaves → d / 509 < length a.index
 index_below d h below = let least = h.index_least in omega arith
+
+-- the kinds of the pages that are named
+pub index_kind : {pages : ℕ → Option Sheet} {root p : ℕ} {a : Array} → NamesPages pages root a → (j : ℕ) → slice_get a.index j ≡ Some p → HasAt pages p (IsOfKind 3)
+index_kind h j e = let page = h.index j _ e in record { what = page.what; is = page.is; has = page.has.kind }
+
+pub leaf_kind : {pages : ℕ → Option Sheet} {root p : ℕ} {a : Array} → IsBuilt pages root a → (d : ℕ) → slice_get a.leaves d ≡ Some p → HasAt pages p (IsOfKind 4)
+leaf_kind h d e = let page = h.leaf d _ e in record { what = page.what; is = page.is; has = page.has.kind }

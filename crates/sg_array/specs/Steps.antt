@@ -40,6 +40,9 @@ IfNames v root P = v.Shows → (a : Array) → NamesPages v.space.pages.at root 
 abbrev pub HasBuilt : View → ℕ → (Array → Type 0) → Type 0
 HasBuilt v root P = v.Told → (a : Array) × IsBuilt v.space.pages.at root a × P a
 
+abbrev pub IsOfKind : ℕ → Sheet → Type 0
+IsOfKind kind sheet = sheet.kind ≡ kind
+
 -- where the item stands
 pub record IsPlace (i leaf slot size : ℕ) (a : Array) : Type 0 where
   pub below : i < length a.items
@@ -180,7 +183,7 @@ pub record TakesLast (v w : View) (root leaf slot size count peak : ℕ) : Type 
 -- a root names so many index pages, which are there
 pub record NamesIndex (pages : ℕ → Option Sheet) (root count : ℕ) (a : Array) : Type 0 where
   pub first : HasAt pages root (IsRoot a.size (length a.items) a.peak a.index)
-  pub index : (j p : ℕ) → slice_get a.index j ≡ Some p → HasAt pages p (λ sheet. sheet.kind ≡ 3)
+  pub index : (j p : ℕ) → slice_get a.index j ≡ Some p → HasAt pages p (IsOfKind 3)
   pub are : ArePages a.index
   pub many : length a.index ≡ count
 

@@ -6,7 +6,7 @@ ghost use Rattle.sg_space.specs.View.{Counts, OnlyReads};
 
 use crate::extend::leaf_for;
 use crate::grow::{put_last, spell_root, take_last};
-use crate::walk::{LEAF_KIND, MOST, ROOT_KIND, last_of, place_of, read_root, wanted_pages};
+use crate::walk::{LEAF_KIND, MOST, ROOT_KIND, find_item, last_of, place_of, read_root, wanted_pages};
 use sg_base::{PageNo, PageOp};
 use sg_ops::{Ops, are_bytes};
 use sg_space::{PageSpace, SpaceFault, read_cell, take_page_with};
@@ -97,7 +97,7 @@ pub fn set<P: PageSpace>(
         (CanSet i (length item.now)) (IsSet i item.now)) }
     ensures within { OnOk result (IfArray (P.view space.old) root.0 (CanSet i (length item.now))) }
 {
-    let place = place_of(space, root, i)?;
+    let place = find_item(space, root, i)?;
     if item.len() != place.size as usize {
         return Err(space.broken());
     }

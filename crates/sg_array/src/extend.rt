@@ -6,7 +6,7 @@ ghost use Rattle.sg_array.specs.Steps.{MakesIndex, MakesRoom, CanGrow, IsNext};
 ghost use Rattle.sg_space.specs.View.{Counts};
 
 use crate::grow::link_new;
-use crate::walk::{INDEX_KIND, LEAF_KIND, LINKS, Root, index_at, leaf_at, per_page};
+use crate::walk::{INDEX_KIND, LEAF_KIND, LINKS, Root, check_kind, index_at, leaf_at, per_page};
 use sg_base::PageNo;
 use sg_ops::Ops;
 use sg_space::{PageSpace, SpaceFault};
@@ -19,8 +19,9 @@ fn old_index<P: PageSpace>(space: &mut P, root: PageNo, d: u32) -> Result<PageNo
     ensures counts { Counts (P.view space.old) (P.view space.new) result }
     ensures did { IfOk result (λ q. MakesIndex (P.view space.old) (P.view space.new) root.0 d q.0) }
 {
-    let found = index_at(space, root, d / LINKS)?;
-    Ok(found)
+    let index = index_at(space, root, d / LINKS)?;
+    check_kind(space, index, INDEX_KIND)?;
+    Ok(index)
 }
 
 // A new index page.
@@ -93,6 +94,7 @@ fn old_leaf<P: PageSpace>(space: &mut P, root: PageNo, found: Root) -> Result<Pa
         found.size found.count found.peak) }
 {
     let leaf = leaf_at(space, root, found.count / per_page(found.size))?;
+    check_kind(space, leaf, LEAF_KIND)?;
     Ok(leaf)
 }
 

@@ -5,7 +5,7 @@ ghost use Rattle.sg_array.specs.Calls.{HasArray, Gone};
 ghost use Rattle.sg_array.specs.Steps.{NamesIndex, Frees};
 ghost use Rattle.sg_space.specs.View.{Counts};
 
-use crate::walk::{ROOT_KIND, leaf_at, link_at, read_root, wanted_pages};
+use crate::walk::{INDEX_KIND, LEAF_KIND, ROOT_KIND, check_kind, leaf_at, link_at, read_root, wanted_pages};
 use sg_base::PageNo;
 use sg_space::{PageSpace, SpaceFault};
 
@@ -20,6 +20,7 @@ fn free_leaves<P: PageSpace>(space: &mut P, root: PageNo, count: u32) -> Result<
 {
     for d in 0..count {
         let leaf = leaf_at(space, root, d)?;
+        check_kind(space, leaf, LEAF_KIND)?;
         space.free_page(leaf)?;
     }
     Ok(())
@@ -35,6 +36,7 @@ fn free_index<P: PageSpace>(space: &mut P, root: PageNo, count: u32) -> Result<(
 {
     for j in 0..count {
         let index = link_at(space, root, ROOT_KIND, (j + 1) as u16)?;
+        check_kind(space, index, INDEX_KIND)?;
         space.free_page(index)?;
     }
     Ok(())

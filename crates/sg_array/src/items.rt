@@ -4,7 +4,7 @@ ghost use Rattle.sg_array.specs.Calls.{HasArray, IfArray, DidIf, MayUse, CanAppl
 ghost use Rattle.sg_ops.specs.Table.{table_of};
 ghost use Rattle.sg_space.specs.View.{Counts};
 
-use crate::walk::place_of;
+use crate::walk::find_item;
 use sg_base::{PageNo, PageOp};
 use sg_ops::{Ops, are_bytes};
 use sg_space::{PageSpace, SpaceFault};
@@ -30,7 +30,7 @@ pub fn apply<P: PageSpace>(
 {
     ops.laws();
     are_bytes(arg);
-    let place = place_of(space, root, i)?;
+    let place = find_item(space, root, i)?;
     let slot = place.slot;
     let op = PageOp::Item { slot, code, arg };
     space.change(ops, place.leaf, &op)?;
@@ -58,7 +58,7 @@ pub fn apply_back<P: PageSpace>(
 {
     ops.laws();
     are_bytes(arg);
-    let place = place_of(space, root, i)?;
+    let place = find_item(space, root, i)?;
     let slot = place.slot;
     let op = PageOp::ItemBack { slot, code, arg };
     space.change(ops, place.leaf, &op)?;

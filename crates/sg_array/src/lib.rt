@@ -18,3 +18,4 @@ pub use array::{get, len, make, pages, pop, push, set, size};
 pub use beside::stand_apart;
 pub use free::free_all;
 pub use items::{apply, apply_back};
+

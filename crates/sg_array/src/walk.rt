@@ -3,9 +3,10 @@ ghost use Rattle.std.specs.Prelude.{◌≡◌, ◌+◌, ◌*◌, ◌/◌, ◌^�
 ghost use Rattle.byteorder.specs.Endian.{little_bytes};
 ghost use Rattle.sg_array.specs.Array.{per_page, root_cell, rounded_up};
 ghost use Rattle.sg_array.specs.Calls.{HasArray, IfArray};
-ghost use Rattle.sg_array.specs.Steps.{HasNames, IfNames, IsInRange, IsPlace, IsLast};
+ghost use Rattle.sg_array.specs.Steps.{HasNames, IfNames, IsInRange, IsOfKind, IsPlace, IsLast};
 ghost use Rattle.sg_array.specs.Steps as spec;
 ghost use Rattle.sg_space.specs.Reads.{CanRead, Reads};
+ghost use Rattle.sg_space.specs.Units.{HasAt};
 ghost use Rattle.sg_space.specs.View.{Counts, OnlyReads};
 
 use sg_base::{PageNo, read_u16, read_u32};
@@ -121,12 +122,26 @@ pub fn leaf_at<P: PageSpace>(space: &mut P, root: PageNo, d: u32) -> Result<Page
     Ok(found)
 }
 
+/// Looks that a page is of this kind.
+pub fn check_kind<P: PageSpace>(space: &mut P, p: PageNo, kind: u8) -> Result<(), SpaceFault>
+    requires { (P.view space.old).Told → HasAt (P.view space.old).space.pages.at p.0 (IsOfKind kind) }
+    ensures counts { Counts (P.view space.old) (P.view space.new) result }
+    ensures kept { OnOk result (OnlyReads (P.view space.old) (P.view space.new)) }
+{
+    let view = space.page(p)?;
+    if view.kind() != kind {
+        return Err(space.broken());
+    }
+    Ok(())
+}
+
 /// Where an item stands.
 #[derive(Clone, Copy)]
 pub struct Place {
     pub leaf: PageNo,
     pub slot: u16,
     pub size: u16,
+    ghost small: { size ≤ 256 },
 }
 
 /// Where an item stands, and how many bytes it has.
@@ -145,6 +160,30 @@ pub fn place_of<P: PageSpace>(space: &mut P, root: PageNo, i: u32) -> Result<Pla
     let leaf = leaf_at(space, root, i / each)?;
     let slot = (i % each) as u16;
     Ok(Place { leaf, slot, size })
+}
+
+// Looks that a page of items has a cell of this size there.
+fn check_item<P: PageSpace>(space: &mut P, place: Place) -> Result<(), SpaceFault>
+    requires { CanRead (P.view space.old) place.leaf.0 4 place.slot place.size }
+    ensures counts { Counts (P.view space.old) (P.view space.new) result }
+    ensures kept { OnOk result (OnlyReads (P.view space.old) (P.view space.new)) }
+{
+    let mut buffer = [0; 256];
+    let item = &mut buffer[..place.size as usize];
+    read_cell(space, place.leaf, LEAF_KIND, place.slot, item)?;
+    Ok(())
+}
+
+/// Where an item stands, in a page of items that has a cell of its size there.
+pub fn find_item<P: PageSpace>(space: &mut P, root: PageNo, i: u32) -> Result<Place, SpaceFault>
+    requires { HasArray (P.view space.old) root.0 (λ a. i < length a.items) }
+    ensures counts { Counts (P.view space.old) (P.view space.new) result }
+    ensures kept { OnOk result (OnlyReads (P.view space.old) (P.view space.new)) }
+    ensures read { IfOk result (λ r. IfArray (P.view space.old) root.0 (IsPlace i r.leaf.0 r.slot r.size)) }
+{
+    let place = place_of(space, root, i)?;
+    check_item(space, place)?;
+    Ok(place)
 }
 
 /// Where the last item stands, and the numbers of the root without it.

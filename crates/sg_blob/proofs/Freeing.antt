@@ -17,9 +17,9 @@ use Rattle.sg_blob.specs.Raw.{Raw, IsRaw, IsRoot}
 use Rattle.sg_blob.proofs.Parts.{StandsBlob}
 
 -- the first bands of a list are free, and nothing else has changed
-pub record BandsFreed (old new : Space) (bands : List ℕ) (count : ℕ) : Type 0 where
+pub record BandsFreed (old new : Space) (taken : List ℕ) (count : ℕ) : Type 0 where
   pub pages : new.pages ≡ old.pages
-  pub bands : AreFreed old.bands new.bands bands count
+  pub bands : AreFreed old.bands new.bands taken count
 
 -- so many bands of the blobs that stood at a root are free
 pub record FreesTo (v w : View) (root done : ℕ) : Type 0 where

@@ -9,7 +9,7 @@ use Rattle.sg_array.proofs.array.set.Goals as goal
 
 pub change-requires : goal.change-requires
 change-requires g c = λ told.
-    let back = c.place_of.ensures.counts.told told in
+    let back = c.find_item.ensures.counts.told told in
     let shows = g.met.P.PageSpace.told_shows _ back in
     let h = c.requires back in
     set_possible_at (table_of (λ p. (goal.RecordOp-dyn g p).record_meaning p.1) (λ p. (goal.RangeOp-dyn g p).range_meaning p.1) c.args.ops.now) _ (still_array c.in_ok-place.ensures.kept shows h.1).built (c.in_ok-place.ensures.read shows h.0 h.1) (record { sized = h.2.1; bytes = c.are_bytes.ensures })

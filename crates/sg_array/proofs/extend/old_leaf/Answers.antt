@@ -1,6 +1,8 @@
 use Rattle.std.proofs.Common.{◌≡◌, ◌≢◌, ℕ, ◌+◌, ◌*◌, ◌/◌, ◌%◌, ◌<◌, ◌≤◌, ◌⊎◌, length, ap, ◌∙◌, sym, subst, arith, slice_get, Some, inl, inr, refl}
 use Rattle.sg_array.specs.Array.{per_page}
+use Rattle.sg_space.proofs.Known.{reads_then}
 use Rattle.sg_array.proofs.Growth.{roomy_still}
+use Rattle.sg_array.proofs.Links.{still_array, leaf_kind}
 use Rattle.sg_array.proofs.Places.{same_quotient, same_rest}
 use Rattle.sg_array.proofs.Pushes.{old_leaf, next_below}
 use Rattle.sg_array.proofs.extend.old_leaf.Goals as goal
@@ -16,9 +18,17 @@ leaf_at-requires-clause-there g c = λ told.
     let below = next_below h.1 (why _ _ _ _ _ _ h.2.count_is h.2.can.fits h.2.peak_is c.requires.why) in
     (h.0, h.1.built.names, subst (λ (n : ℕ). n < length h.0.leaves) (sym d) below)
 
+pub check_kind-requires : goal.check_kind-requires
+check_kind-requires g c = λ told.
+    let back = c.leaf_at.ensures.counts.told told in
+    let shows = g.met.P.PageSpace.told_shows _ back in
+    let h = c.requires.there back in
+    let array = still_array c.in_ok-leaf.ensures.kept shows h.1 in
+    leaf_kind array.built _ (c.in_ok-leaf.ensures.read shows h.0 h.1.built.names)
+
 pub returns-clause-did : goal.returns-clause-did
 returns-clause-did g c =
-    let kept = c.in_ok-leaf.ensures.kept in
+    let kept = reads_then c.in_ok-leaf.ensures.kept c.in_ok-check_kind.ensures.kept in
     record {
       keeps = λ t. kept.keeps;
       done = λ t a h next.

@@ -11,7 +11,7 @@ use Rattle.sg_array.proofs.items.apply_back.Goals as goal
 pub change-requires : goal.change-requires
 change-requires g c = λ told.
     let t : Table = table_of (λ p. (goal.RecordOp-dyn g p).record_meaning p.1) (λ p. (goal.RangeOp-dyn g p).range_meaning p.1) c.args.ops.now in
-    let back = c.place_of.ensures.counts.told told in
+    let back = c.find_item.ensures.counts.told told in
     let shows = g.met.P.PageSpace.told_shows _ back in
     let h = c.requires.there back in
     let may = c.requires.may back in
