@@ -6,7 +6,9 @@ ghost use Rattle.sg_space.specs.View.{Counts, OnlyReads};
 
 use crate::extend::leaf_for;
 use crate::grow::{put_last, spell_root, take_last};
-use crate::walk::{LEAF_KIND, MOST, ROOT_KIND, find_item, last_of, place_of, read_root, wanted_pages};
+use crate::walk::{
+    LEAF_KIND, MOST, ROOT_KIND, find_item, last_of, place_of, read_root, wanted_pages,
+};
 use sg_base::{PageNo, PageOp};
 use sg_ops::{Ops, are_bytes};
 use sg_space::{PageSpace, SpaceFault, read_cell, take_page_with};

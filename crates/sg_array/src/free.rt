@@ -5,7 +5,9 @@ ghost use Rattle.sg_array.specs.Calls.{HasArray, Gone};
 ghost use Rattle.sg_array.specs.Steps.{NamesIndex, Frees};
 ghost use Rattle.sg_space.specs.View.{Counts};
 
-use crate::walk::{INDEX_KIND, LEAF_KIND, ROOT_KIND, check_kind, leaf_at, link_at, read_root, wanted_pages};
+use crate::walk::{
+    INDEX_KIND, LEAF_KIND, ROOT_KIND, check_kind, leaf_at, link_at, read_root, wanted_pages,
+};
 use sg_base::PageNo;
 use sg_space::{PageSpace, SpaceFault};
 

@@ -19,3 +19,5 @@ pub use beside::stand_apart;
 pub use free::free_all;
 pub use items::{apply, apply_back};
 
+#[cfg(test)]
+mod tests;
