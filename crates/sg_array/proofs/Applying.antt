@@ -1,5 +1,5 @@
 -- An array of which one item is changed by a registered operation, or changed back.
-use Rattle.std.proofs.Common.{◌≡◌, ◌≢◌, ℕ, ◌/◌, ◌≤◌, List, length, Option, Some, IsSome, IfSome, Bool, true, false, refl, sym, ap, ◌∙◌, subst, set, slice_get}
+use Rattle.std.proofs.Common.{◌≡◌, ℕ, ◌/◌, List, Option, Some, IsSome, IfSome, true, false, refl, sym, ap, ◌∙◌, subst, set, slice_get}
 use Rattle.sg_base.specs.Bytes.{IsBytes}
 use Rattle.sg_base.specs.Op.Op.{Item, ItemBack}
 use Rattle.sg_base.specs.Page.{cell_in}

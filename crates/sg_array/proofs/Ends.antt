@@ -1,10 +1,9 @@
 -- An array that gets an item behind its last one, or loses its last one.
-use Rattle.std.proofs.Common.{◌≡◌, ◌≢◌, ℕ, ◌+◌, ◌-◌, ◌*◌, ◌/◌, ◌%◌, ◌<◌, ◌≤◌, max, ◌++◌, List, [], ◌∷◌, length, take, Option, Some, IsSome, refl, sym, ap, ◌∙◌, subst, arith, slice_get, get_or, inl, inr}
+use Rattle.std.proofs.Common.{◌≡◌, ℕ, ◌+◌, ◌*◌, ◌/◌, ◌%◌, ◌<◌, ◌≤◌, max, ◌++◌, List, [], ◌∷◌, length, take, Option, Some, refl, sym, ◌∙◌, subst, arith, slice_get, inl, inr}
 use Rattle.std.proofs.lemmas.Bool.{cases_eq}
 use Rattle.std.proofs.lemmas.List.{length_push, length-take-le}
-use Rattle.std.proofs.lemmas.Option.{slice_get-get_or, slice_get_within}
+use Rattle.std.proofs.lemmas.Option.{slice_get_within}
 use Rattle.sg_base.specs.Op.Op.{Put, Remove}
-use Rattle.sg_base.specs.Page.{cell_in}
 use Rattle.sg_base.specs.Sheet.{Sheet}
 use Rattle.sg_ops.specs.Steps.{step}
 use Rattle.sg_ops.specs.Table.{Table}
@@ -15,7 +14,7 @@ use Rattle.sg_space.proofs.Changing.{put_possible, remove_possible}
 use Rattle.sg_space.proofs.Known.{moved, same_some}
 use Rattle.sg_space.proofs.Putting.{put_step, slice_get-push_same, slice_get-push_other}
 use Rattle.sg_array.specs.Array.{Array, IsBuilt, IsInLimits, IsItem, IsRoot, IsLeaf, per_page}
-use Rattle.sg_array.specs.Steps.{IsPlace, IsLast, CanPutLast, Rewrites, Builds, HasRootPage, pushed, popped, root_of}
+use Rattle.sg_array.specs.Steps.{IsLast, CanPutLast, Rewrites, Builds, HasRootPage, pushed, popped, root_of}
 use Rattle.sg_array.proofs.Places.{per_page-least, item_place}
 use Rattle.sg_array.proofs.Setting.{stands_there}
 use Rattle.sg_array.proofs.Sheets.{with_put, without, put_leaf, leaf_free, leaf_bytes, remove_leaf, remove_step, take_others, slice_get-take_within}

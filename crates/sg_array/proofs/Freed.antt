@@ -1,17 +1,14 @@
 -- The pages of an array are freed: its item pages, its index pages, and then its root.
-use Rattle.std.proofs.Common.{◌≡◌, ◌≢◌, ℕ, ◌+◌, ◌-◌, ◌*◌, ◌/◌, ◌<◌, ◌≤◌, List, length, Option, Some, None, IsSome, sym, ap, subst, ◌∙◌, refl, arith, slice_get, inl, inr}
+use Rattle.std.proofs.Common.{◌≡◌, ◌≢◌, ℕ, ◌+◌, ◌≤◌, List, length, Option, Some, None, IsSome, sym, ap, subst, ◌∙◌, refl, arith, slice_get, inl, inr}
 use Rattle.std.proofs.lemmas.Option.{slice_get_within}
 use Rattle.sg_base.specs.Sheet.{Sheet}
-use Rattle.sg_ops.specs.Table.{Table}
-use Rattle.sg_space.specs.Owned.{Becomes, IsOneOf, IsFirst, AreFreed}
+use Rattle.sg_space.specs.Owned.{Becomes, IsFirst, AreFreed}
 use Rattle.sg_space.specs.Pages.{Freed}
-use Rattle.sg_space.specs.Reads.{HasSized}
 use Rattle.sg_space.specs.Units.{Units, HasAt, IsFreed}
 use Rattle.sg_space.specs.View.{Space, View, OnlyReads}
 use Rattle.sg_space.proofs.Freeing.{freed_none, next_stays, one_freed}
-use Rattle.sg_space.proofs.Known.{moved, same_some}
-use Rattle.sg_array.specs.Array.{Array, IsArray, IsBuilt, NamesPages, IsRoot, ArePages, Owns, page_count}
-use Rattle.sg_array.specs.Calls.{IsGone, Gone}
+use Rattle.sg_space.proofs.Known.{moved}
+use Rattle.sg_array.specs.Array.{Array, IsBuilt, NamesPages, IsRoot, Owns, page_count}
 use Rattle.sg_array.specs.Steps.{Frees, NamesIndex, IsOfKind}
 use Rattle.sg_array.proofs.Links.{leaf_kind, index_kind}
 use Rattle.sg_array.proofs.Turned.{other_kind}

@@ -1,28 +1,28 @@
 -- An array that gets a page more.
-use Rattle.std.proofs.Common.{◌≡◌, ◌≢◌, ℕ, ◌+◌, ◌-◌, ◌*◌, ◌/◌, ◌%◌, ◌<◌, ◌≤◌, ◌⊎◌, ◌^◌, ◌++◌, List, [], ◌∷◌, length, Option, Some, None, IsSome, sym, ap, ◌∙◌, refl, arith, get_or, slice_get, inl, inr, subst}
+use Rattle.std.proofs.Common.{◌≡◌, ◌≢◌, ℕ, ◌+◌, ◌-◌, ◌*◌, ◌/◌, ◌%◌, ◌<◌, ◌≤◌, ◌⊎◌, ◌^◌, ◌++◌, List, [], ◌∷◌, length, Option, Some, None, sym, ap, ◌∙◌, refl, arith, get_or, slice_get, inl, inr, subst}
 use Rattle.std.proofs.lemmas.Bool.{cases_eq}
 use Rattle.std.proofs.lemmas.List.{length_push}
 use Rattle.std.proofs.lemmas.Option.{slice_get_within, slice_get-get_or, slice_get_past}
 use Rattle.std.proofs.Math.Nat.{mul-le-mul_left}
 use Rattle.byteorder.specs.Endian.{little_bytes}
 use Rattle.sg_base.specs.Op.Op.{Put}
-use Rattle.sg_base.specs.Page.{cell_in, bytes_of}
+use Rattle.sg_base.specs.Page.{cell_in}
 use Rattle.sg_base.specs.Sheet.{Sheet}
-use Rattle.sg_base.specs.Slots.{IsFree, with_cell}
+use Rattle.sg_base.specs.Slots.{with_cell}
 use Rattle.sg_ops.specs.Steps.{step}
 use Rattle.sg_ops.specs.Table.{Table}
 use Rattle.sg_slotted.proofs.Room.{full_below}
 use Rattle.sg_space.specs.Links.{link_cell}
 use Rattle.sg_space.specs.Owned.{Grows}
 use Rattle.sg_space.specs.Pages.{empty_sheet, IsPossible}
-use Rattle.sg_space.specs.Units.{Units, HasAt, IsChanged, IsTaken}
+use Rattle.sg_space.specs.Units.{HasAt, IsChanged, IsTaken}
 use Rattle.sg_space.specs.View.{Space, View, Keeps, MayFill}
 use Rattle.sg_space.proofs.Changing.{put_possible}
 use Rattle.sg_space.proofs.Known.{moved, same_some}
 use Rattle.sg_space.proofs.Putting.{cell-with_same, cell-with_other, length-with, put_step, slice_get-push_same, slice_get-push_other}
-use Rattle.sg_array.specs.Array.{Array, NamesPages, IsBuilt, IsRoot, IsIndex, IsLeaf, ArePages, Owns, page_count, per_page}
+use Rattle.sg_array.specs.Array.{Array, IsBuilt, IsRoot, IsIndex, IsLeaf, ArePages, Owns, page_count, per_page}
 use Rattle.sg_array.specs.Calls.{IsRoomy}
-use Rattle.sg_array.specs.Steps.{IsLinked, HasRoom, Builds, with_pages}
+use Rattle.sg_array.specs.Steps.{IsLinked, HasRoom, with_pages}
 use Rattle.sg_array.proofs.Sheets.{with_put, root_bytes, index_bytes}
 use Rattle.sg_array.proofs.Turned.{other_kind}
 

@@ -1,12 +1,12 @@
 -- An array is made.
-use Rattle.std.proofs.Common.{◌≡◌, ◌≢◌, ℕ, ◌+◌, ◌*◌, ◌<◌, ◌≤◌, ◌⊎◌, List, [], ◌∷◌, length, Option, Some, None, sym, ap, ◌∙◌, refl, arith, subst, inl, inr}
+use Rattle.std.proofs.Common.{◌≡◌, ℕ, ◌+◌, ◌≤◌, List, [], ◌∷◌, Some, None, sym, ap, ◌∙◌, refl, arith, subst, inl, inr}
 use Rattle.std.proofs.lemmas.List.{get_or_past}
 use Rattle.sg_base.specs.Sheet.{Sheet}
 use Rattle.sg_space.specs.Reads.{one_cell}
-use Rattle.sg_space.specs.Units.{Units, HasAt, IsTaken}
+use Rattle.sg_space.specs.Units.{IsTaken}
 use Rattle.sg_space.specs.View.{Space}
-use Rattle.sg_array.specs.Array.{Array, IsArray, IsRoot, Owns, per_page, root_cell}
-use Rattle.sg_array.specs.Calls.{IsMade, empty_array}
+use Rattle.sg_array.specs.Array.{IsRoot, per_page, root_cell}
+use Rattle.sg_array.specs.Calls.{IsMade}
 use Rattle.sg_array.proofs.Places.{per_page-least}
 
 root_first : {size : ℕ} {cell : List ℕ} {sheet : Sheet} → cell ≡ root_cell size 0 0 → sheet ≡ one_cell 2 cell → IsRoot size 0 0 [] sheet

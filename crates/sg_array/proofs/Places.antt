@@ -1,5 +1,5 @@
 -- Where an item stands.
-use Rattle.std.proofs.Common.{◌≡◌, ℕ, ◌+◌, ◌-◌, ◌*◌, ◌/◌, ◌%◌, ◌<◌, ◌≤◌, List, [], ◌++◌, length, Option, Some, sym, ap, ◌∙◌, refl, arith, slice_get, get_or, take, drop, take_all}
+use Rattle.std.proofs.Common.{◌≡◌, ℕ, ◌+◌, ◌*◌, ◌/◌, ◌%◌, ◌<◌, ◌≤◌, List, [], ◌++◌, length, Option, Some, sym, ap, ◌∙◌, arith, slice_get, get_or, take, take_all}
 use Rattle.std.proofs.lemmas.List.{take-append-le}
 use Rattle.std.proofs.lemmas.Option.{slice_get-get_or}
 use Rattle.std.proofs.lemmas.Nat.{div_below, le-div}
@@ -9,7 +9,7 @@ use Rattle.sg_base.specs.Sheet.{Sheet}
 use Rattle.sg_space.specs.Reads.{HasCell, HasSized}
 use Rattle.sg_space.specs.Units.{HasAt}
 use Rattle.sg_space.proofs.Known.{read_is}
-use Rattle.sg_array.specs.Array.{Array, IsBuilt, IsInLimits, per_page}
+use Rattle.sg_array.specs.Array.{Array, IsBuilt, per_page}
 use Rattle.sg_array.specs.Steps.{IsPlace}
 
 -- a page holds at least 15 items

@@ -1,17 +1,16 @@
 -- An array that gets one more item: the page for it.
-use Rattle.std.proofs.Common.{◌≡◌, ◌≢◌, ℕ, ◌+◌, ◌-◌, ◌*◌, ◌/◌, ◌%◌, ◌<◌, ◌≤◌, ◌⊎◌, ◌^◌, ◌++◌, max, List, [], ◌∷◌, length, Option, Some, None, sym, ap, ◌∙◌, refl, arith, slice_get, inl, inr, subst}
+use Rattle.std.proofs.Common.{◌≡◌, ◌≢◌, ℕ, ◌+◌, ◌*◌, ◌/◌, ◌%◌, ◌<◌, ◌≤◌, ◌⊎◌, ◌^◌, ◌++◌, List, [], ◌∷◌, length, Option, Some, sym, ap, ◌∙◌, refl, arith, slice_get, inl, inr, subst}
 use Rattle.std.proofs.lemmas.Bool.{cases_lt}
 use Rattle.std.proofs.lemmas.List.{length_push}
-use Rattle.std.proofs.lemmas.Nat.{div_below, le-div, div-mul-add}
+use Rattle.std.proofs.lemmas.Nat.{div_below, div-mul-add}
 use Rattle.std.proofs.Math.Nat.{mul-le-mul_left, mul-div-le}
 use Rattle.sg_base.specs.Sheet.{Sheet}
-use Rattle.sg_space.specs.Units.{Units}
 use Rattle.sg_space.specs.View.{Space, View, Keeps, OnlyReads, MayFill}
 use Rattle.sg_space.proofs.Owners.{grows_same, grows_then, grown}
 use Rattle.sg_space.proofs.Putting.{slice_get-push_same}
-use Rattle.sg_array.specs.Array.{Array, IsArray, IsBuilt, Owns, per_page, page_count}
+use Rattle.sg_array.specs.Array.{Array, IsArray, IsBuilt, per_page}
 use Rattle.sg_array.specs.Calls.{Turns, CanPush, IsRoomy, IsPushed}
-use Rattle.sg_array.specs.Steps.{Builds, CanGrow, CanPutLast, HasIndexFor, HasRoomFor, IsLinked, IsNext, Linked, pushed, with_pages}
+use Rattle.sg_array.specs.Steps.{Builds, CanGrow, CanPutLast, HasIndexFor, HasRoomFor, IsLinked, IsNext, pushed, with_pages}
 use Rattle.sg_array.proofs.Places.{per_page-least, item_place}
 use Rattle.sg_array.proofs.Growth.{add_index, add_leaf, index_grows, leaf_grows, owns_there, roomy_index, roomy_leaf, roomy_still}
 

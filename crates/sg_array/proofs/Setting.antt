@@ -1,17 +1,16 @@
 -- An array of which one item is set, or changed by a registered operation.
-use Rattle.std.proofs.Common.{◌≡◌, ◌≢◌, ℕ, ◌+◌, ◌*◌, ◌/◌, ◌%◌, ◌<◌, ◌≤◌, List, [], length, Option, Some, None, IsSome, Bool, true, false, refl, sym, ap, ◌∙◌, subst, arith, set, slice_get, get_or, inl, inr}
+use Rattle.std.proofs.Common.{◌≡◌, ◌≢◌, ℕ, ◌+◌, ◌*◌, ◌/◌, ◌%◌, ◌<◌, ◌≤◌, List, [], length, Option, Some, false, refl, sym, ap, ◌∙◌, subst, arith, set, slice_get, get_or, inl, inr}
 use Rattle.std.proofs.lemmas.Bool.{cases_eq}
 use Rattle.std.proofs.lemmas.List.{length-set}
 use Rattle.std.proofs.lemmas.Option.{slice_get-get_or}
-use Rattle.sg_base.specs.Bytes.{IsBytes}
 use Rattle.sg_base.specs.Op.{shrinks}
-use Rattle.sg_base.specs.Op.Op.{Set, Item, ItemBack}
+use Rattle.sg_base.specs.Op.Op.{Set}
 use Rattle.sg_base.specs.Page.{cell_in}
 use Rattle.sg_base.specs.Sheet.{Sheet}
-use Rattle.sg_ops.specs.Steps.{step, IsLeft}
-use Rattle.sg_ops.specs.Table.{Table, record_at, accepts_of, after_of, before_of}
+use Rattle.sg_ops.specs.Steps.{step}
+use Rattle.sg_ops.specs.Table.{Table}
 use Rattle.sg_space.specs.Pages.{IsPossible, Changed}
-use Rattle.sg_space.specs.Units.{Units, HasAt, IsChanged}
+use Rattle.sg_space.specs.Units.{HasAt, IsChanged}
 use Rattle.sg_space.specs.View.{Space, View, Keeps}
 use Rattle.sg_space.proofs.Changing.{set_possible, keeps_but}
 use Rattle.sg_space.proofs.InMemory.{slice_get-set_same, slice_get-set_other}
@@ -22,7 +21,7 @@ use Rattle.sg_array.specs.Array.{Array, IsArray, IsBuilt, IsInLimits, IsItem, Is
 use Rattle.sg_array.specs.Calls.{Turns}
 use Rattle.sg_array.specs.Steps.{IsPlace, Rewrites}
 use Rattle.sg_array.proofs.Places.{per_page-least, item_place, item_cell}
-use Rattle.sg_array.proofs.Sheets.{with_set, set_leaf, leaf_bytes, same_size, item_step}
+use Rattle.sg_array.proofs.Sheets.{with_set, set_leaf, leaf_bytes, same_size}
 use Rattle.sg_array.proofs.Turned.{rewrites, rewrites_same, other_kind, leaf_and_root, same_own, with_end}
 
 -- items of which one was set

@@ -1,14 +1,11 @@
 -- One page of an array, and what an operation leaves of it.
-use Rattle.std.proofs.Common.{◌≡◌, ◌≢◌, ℕ, zero, suc, ◌+◌, ◌-◌, ◌*◌, ◌/◌, ◌%◌, ◌<◌, ◌≤◌, nat_lt, ◌++◌, Bool, true, false, List, [], ◌∷◌, length, take, Option, Some, None, IsSome, is_some, refl, sym, ap, ◌∙◌, subst, arith, set, get_or, slice_get, inl, inr, add-one}
+use Rattle.std.proofs.Common.{◌≡◌, ◌≢◌, ℕ, zero, suc, ◌+◌, ◌-◌, ◌*◌, ◌/◌, ◌<◌, ◌≤◌, nat_lt, ◌++◌, true, false, List, [], ◌∷◌, length, take, Option, Some, None, is_some, refl, sym, ap, ◌∙◌, subst, arith, set, get_or, slice_get, inl, inr, add-one}
 use Rattle.std.proofs.lemmas.Bool.{cases_lt, cases_eq}
 use Rattle.std.proofs.lemmas.Bool.Decides.{nat_tests}
 use Rattle.std.proofs.lemmas.List.{length-set, length-take-le, get_or_past}
-use Rattle.std.proofs.lemmas.Nat.{le-div}
 use Rattle.std.proofs.lemmas.Option.{slice_get-get_or, slice_get_past}
 use Rattle.std.proofs.Math.Nat.{mul-div-le, mul-le-mul_left}
-use Rattle.byteorder.specs.Endian.{little_bytes}
-use Rattle.sg_base.specs.Op.{shrinks}
-use Rattle.sg_base.specs.Op.Op.{Put, Set, Remove, Item, ItemBack}
+use Rattle.sg_base.specs.Op.Op.{Set, Remove, Item, ItemBack}
 use Rattle.sg_base.specs.Page.{cell_in, cell_size, bytes_of, stored}
 use Rattle.sg_base.specs.Sheet.{Sheet}
 use Rattle.sg_base.specs.Slots.{Slots, IsFree, with_cell}
@@ -16,12 +13,10 @@ use Rattle.sg_ops.specs.Steps.{step, with_slots, item_after, item_before}
 use Rattle.sg_ops.specs.Table.{Table, record_at, accepts_of, after_of, before_of}
 use Rattle.sg_slotted.proofs.Room.{full_below}
 use Rattle.sg_step.proofs.Back.{removes, changes, accepted_after, known_before}
-use Rattle.sg_space.specs.Links.{link_cell}
 use Rattle.sg_space.proofs.Links.{link_size, stored_most}
-use Rattle.sg_space.proofs.Putting.{cell-set_same, cell-set_other, cell-with_same, cell-with_other, length-with, put_step, set_step, slice_get-push_same, slice_get-push_other}
+use Rattle.sg_space.proofs.Putting.{cell-set_same, cell-set_other, cell-with_same, cell-with_other, length-with, set_step, slice_get-push_same, slice_get-push_other}
 use Rattle.sg_space.proofs.InMemory.{slice_get-set_same, slice_get-set_other}
 use Rattle.sg_array.specs.Array.{IsRoot, IsIndex, IsLeaf, IsItem, per_page, root_cell}
-use Rattle.sg_array.proofs.Places.{per_page-least}
 
 -- what a change leaves of the slots
 abbrev pub with_put : Sheet → ℕ → List ℕ → Sheet

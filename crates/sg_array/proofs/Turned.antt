@@ -1,5 +1,5 @@
 -- An array of which one page was changed, and then its root.
-use Rattle.std.proofs.Common.{◌≡◌, ◌≢◌, ℕ, ◌+◌, ◌*◌, ◌/◌, ◌%◌, ◌<◌, ◌≤◌, List, [], length, Option, Some, refl, sym, ap, ◌∙◌, subst, arith, slice_get, inl, inr}
+use Rattle.std.proofs.Common.{◌≡◌, ◌≢◌, ℕ, ◌+◌, ◌*◌, ◌/◌, ◌%◌, ◌<◌, ◌≤◌, List, length, Option, Some, refl, sym, ap, ◌∙◌, subst, arith, slice_get, inl, inr}
 use Rattle.std.proofs.lemmas.Bool.{cases_eq}
 use Rattle.std.proofs.lemmas.Nat.{div-mul-add}
 use Rattle.std.proofs.Math.Nat.{div-add-mod}
@@ -9,7 +9,7 @@ use Rattle.sg_space.specs.Units.{Units, HasAt, IsChanged}
 use Rattle.sg_space.specs.View.{Space, View, OnlyReads}
 use Rattle.sg_space.proofs.Known.{moved, same_some, before}
 use Rattle.sg_space.proofs.Owners.{grown}
-use Rattle.sg_array.specs.Array.{Array, NamesPages, IsBuilt, IsArray, IsInLimits, IsRoot, IsIndex, IsLeaf, Owns, per_page, page_count}
+use Rattle.sg_array.specs.Array.{Array, IsBuilt, IsArray, IsInLimits, IsRoot, IsLeaf, Owns, per_page, page_count}
 use Rattle.sg_array.specs.Calls.{Turns}
 use Rattle.sg_array.specs.Steps.{Rewrites, Builds}
 

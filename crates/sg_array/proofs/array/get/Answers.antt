@@ -1,4 +1,4 @@
-use Rattle.std.proofs.Common.{◌≡◌, ℕ, List, Some, sym, ap, ◌∙◌, ◌≤◌, ◌<◌, length, take, arith}
+use Rattle.std.proofs.Common.{Some, sym, ap, ◌∙◌, length, take}
 use Rattle.std.proofs.lemmas.List.{length-take-le}
 use Rattle.sg_space.proofs.Known.{still, before}
 use Rattle.sg_space.specs.Reads.{HasCell, HasSized}

@@ -1,4 +1,4 @@
-use Rattle.std.proofs.Common.{◌≡◌, ℕ, List, Some, sym, ap, ◌∙◌, ◌≤◌, ◌<◌, ◌+◌, ◌-◌, length, take, arith, refl, inl, inr, slice_get}
+use Rattle.std.proofs.Common.{◌≡◌, ℕ, Some, sym, ap, ◌∙◌, ◌-◌, length, take, arith, refl, inr, slice_get}
 use Rattle.std.proofs.lemmas.List.{length-take-le}
 use Rattle.sg_space.proofs.Known.{still, before, reads_then}
 use Rattle.sg_space.specs.Reads.{HasCell, HasSized}

@@ -1,4 +1,4 @@
-use Rattle.std.proofs.Common.{◌≡◌, ◌≢◌, ℕ, ◌+◌, ◌<◌, ◌≤◌, length, ap, ◌∙◌, sym, refl}
+use Rattle.std.proofs.Common.{sym}
 use Rattle.sg_space.proofs.Known.{keeps_then}
 use Rattle.sg_array.proofs.Links.{still_array}
 use Rattle.sg_array.proofs.Turned.{after_reads}

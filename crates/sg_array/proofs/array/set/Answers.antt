@@ -1,5 +1,4 @@
-use Rattle.std.proofs.Common.{◌≡◌, ℕ, sym, ap, ◌∙◌, refl}
-use Rattle.sg_base.specs.Op.{shrinks}
+use Rattle.std.proofs.Common.{refl}
 use Rattle.sg_ops.specs.Table.{table_of}
 use Rattle.sg_space.proofs.Known.{keeps_then}
 use Rattle.sg_array.proofs.Links.{still_array}

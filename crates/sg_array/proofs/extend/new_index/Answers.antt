@@ -1,4 +1,4 @@
-use Rattle.std.proofs.Common.{◌≡◌, ◌≢◌, ℕ, ◌+◌, ◌*◌, ◌/◌, ◌%◌, ◌<◌, ◌≤◌, length, ap, ◌∙◌, sym, subst, arith}
+use Rattle.std.proofs.Common.{◌≡◌, ℕ, ◌+◌, ◌/◌, length, ap, sym, subst, arith}
 use Rattle.sg_array.specs.Steps.{HasRoom}
 use Rattle.sg_array.proofs.Growth.{root_room}
 use Rattle.sg_array.proofs.Pushes.{new_index}

@@ -1,7 +1,6 @@
-use Rattle.std.proofs.Common.{◌≡◌, ◌≢◌, ℕ, ◌+◌, ◌*◌, ◌/◌, ◌%◌, ◌<◌, ◌≤◌, length, ap, ◌∙◌, sym, subst, arith, refl, slice_get, Some}
+use Rattle.std.proofs.Common.{ℕ, ◌/◌, ◌%◌, length, ap, ◌∙◌, sym, subst, arith, refl}
 use Rattle.sg_space.proofs.Known.{keeps_then}
-use Rattle.sg_array.specs.Array.{per_page}
-use Rattle.sg_array.specs.Steps.{HasRoom, CanGrow}
+use Rattle.sg_array.specs.Steps.{HasRoom}
 use Rattle.sg_array.proofs.Growth.{index_room}
 use Rattle.sg_array.proofs.Places.{same_quotient, same_rest}
 use Rattle.sg_array.proofs.Pushes.{grow_ready, new_leaf, is_full}

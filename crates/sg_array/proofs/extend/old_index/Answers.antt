@@ -1,4 +1,4 @@
-use Rattle.std.proofs.Common.{◌≡◌, ◌≢◌, ℕ, ◌/◌, ◌%◌, ◌<◌, length, ap, ◌∙◌, sym, arith, slice_get, Some}
+use Rattle.std.proofs.Common.{ℕ, ◌/◌, ap, ◌∙◌, arith, slice_get}
 use Rattle.sg_space.proofs.Known.{reads_then}
 use Rattle.sg_array.proofs.Links.{still_names, index_kind}
 use Rattle.sg_array.proofs.Growth.{roomy_still}

@@ -1,4 +1,4 @@
-use Rattle.std.proofs.Common.{◌≡◌, ◌≢◌, ℕ, ◌+◌, ◌*◌, ◌/◌, ◌%◌, ◌<◌, ◌≤◌, ◌⊎◌, length, ap, ◌∙◌, sym, subst, arith, slice_get, Some, inl, inr, refl}
+use Rattle.std.proofs.Common.{◌≡◌, ◌≢◌, ℕ, ◌%◌, ◌<◌, ◌⊎◌, length, ap, ◌∙◌, sym, subst, arith, slice_get, inl, inr, refl}
 use Rattle.sg_array.specs.Array.{per_page}
 use Rattle.sg_space.proofs.Known.{reads_then}
 use Rattle.sg_array.proofs.Growth.{roomy_still}

@@ -1,8 +1,8 @@
-use Rattle.std.proofs.Common.{◌≡◌, ℕ, ◌+◌, ◌-◌, ◌*◌, ◌/◌, ◌<◌, ◌≤◌, IsSome, List, length, arith, sym, ap, subst, refl, ◌∙◌, inl, inr}
+use Rattle.std.proofs.Common.{◌≡◌, IsSome, sym, ap, subst, refl, ◌∙◌, inl, inr}
 use Rattle.sg_array.proofs.Links.{still_array}
 use Rattle.sg_array.proofs.Freed.{index_left, root_left, all_gone}
 use Rattle.sg_array.proofs.Wanting.{leaves_wanted, index_wanted}
-use Rattle.sg_space.specs.Owned.{AreFreed, Becomes}
+use Rattle.sg_space.specs.Owned.{Becomes}
 use Rattle.sg_space.specs.View.{Space}
 use Rattle.sg_array.specs.Array.{Owns, page_count}
 use Rattle.sg_array.proofs.free.free_all.Goals as goal

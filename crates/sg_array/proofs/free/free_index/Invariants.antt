@@ -1,4 +1,3 @@
-use Rattle.std.proofs.Common.{◌≡◌, length}
 use Rattle.sg_array.specs.Steps.{NamesIndex}
 use Rattle.sg_array.proofs.Freed.{FreesTo}
 use Rattle.sg_array.proofs.free.free_index.Given as goal

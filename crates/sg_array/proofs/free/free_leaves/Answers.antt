@@ -1,5 +1,4 @@
-use Rattle.std.proofs.Common.{◌≡◌, ℕ, ◌<◌, ◌≤◌, IsSome, List, length, arith, sym, subst}
-use Rattle.sg_space.specs.Owned.{AreFreed}
+use Rattle.std.proofs.Common.{IsSome, arith, sym, subst}
 use Rattle.sg_space.specs.Units.{HasAt}
 use Rattle.sg_space.specs.View.{Space}
 use Rattle.sg_space.proofs.Known.{still, reads_then}

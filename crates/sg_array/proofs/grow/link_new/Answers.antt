@@ -1,7 +1,4 @@
-use Rattle.std.proofs.Common.{◌≡◌, ◌^◌, ap}
-use Rattle.sg_base.specs.Sheet.{Sheet}
 use Rattle.sg_ops.specs.Table.{Table, table_of}
-use Rattle.sg_space.specs.Units.{Units}
 use Rattle.sg_space.proofs.Changing.{put_keeps}
 use Rattle.sg_space.proofs.Known.{moved, keeps_then}
 use Rattle.sg_array.proofs.Growth.{link_possible, link_steps, not_free}

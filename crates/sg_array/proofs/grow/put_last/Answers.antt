@@ -1,8 +1,7 @@
-use Rattle.std.proofs.Common.{◌≡◌, ℕ, ◌+◌, ◌%◌, ◌<◌, max, length, sym, ap, ◌∙◌, arith}
+use Rattle.std.proofs.Common.{ℕ, ◌+◌, max, ap, ◌∙◌, arith}
 use Rattle.sg_ops.specs.Table.{Table, table_of}
 use Rattle.sg_space.proofs.Changing.{put_keeps}
 use Rattle.sg_space.proofs.Known.{keeps_then}
-use Rattle.sg_array.specs.Array.{per_page}
 use Rattle.sg_array.specs.Steps.{root_of}
 use Rattle.sg_array.proofs.Ends.{put_possible_at, root_there, put_builds, root_still}
 use Rattle.sg_array.proofs.Places.{same_rest}

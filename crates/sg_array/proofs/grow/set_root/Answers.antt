@@ -1,4 +1,4 @@
-use Rattle.std.proofs.Common.{◌≡◌, ℕ, List, Option, length, false, refl, sym, ap, subst, ◌∙◌}
+use Rattle.std.proofs.Common.{◌≡◌, ℕ, List, length, false, sym, ap, subst, ◌∙◌}
 use Rattle.sg_base.specs.Op.{shrinks}
 use Rattle.sg_base.specs.Op.Op.{Set}
 use Rattle.sg_base.specs.Sheet.{Sheet}

@@ -2,7 +2,6 @@ use Rattle.std.proofs.Common.{refl}
 use Rattle.sg_ops.specs.Table.{Table, table_of}
 use Rattle.sg_space.proofs.Changing.{keeps_but}
 use Rattle.sg_space.proofs.Known.{keeps_then}
-use Rattle.sg_array.specs.Calls.{MayUse}
 use Rattle.sg_array.proofs.Links.{still_array}
 use Rattle.sg_array.proofs.Turned.{after_reads}
 use Rattle.sg_array.proofs.Applying.{apply_possible, after_item, apply_turns, is_applied}

@@ -1,4 +1,4 @@
-use Rattle.std.proofs.Common.{◌≡◌, ℕ, ◌+◌, ◌<◌, length, arith}
+use Rattle.std.proofs.Common.{arith}
 use Rattle.sg_array.proofs.Links.{still_array}
 use Rattle.sg_array.proofs.walk.last_of.Goals as goal
 

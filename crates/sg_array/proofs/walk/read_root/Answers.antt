@@ -1,4 +1,4 @@
-use Rattle.std.proofs.Common.{◌≡◌, Some, sym, ◌∙◌}
+use Rattle.std.proofs.Common.{sym, ◌∙◌}
 use Rattle.sg_space.proofs.Known.{same_some, read_is}
 use Rattle.sg_array.specs.Steps.{root_of}
 use Rattle.sg_array.proofs.walk.read_root.Goals as goal
