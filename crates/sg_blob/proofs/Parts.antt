@@ -2,16 +2,16 @@
 use Rattle.std.proofs.Common.{◌≡◌, ℕ, ◌+◌, ◌-◌, ◌*◌, ◌/◌, ◌%◌, ◌<◌, ◌≤◌, ◌^◌, List, [], ◌++◌, length, Option, Some, None, IsSome, sym, ap, ◌∙◌, refl, arith, slice_get, slice_index, get_or, subst, take, drop}
 use Rattle.std.proofs.lemmas.Grind.{same_number_lists}
 use Rattle.std.proofs.lemmas.List.{get_or-take, get_or-drop, length-take-le, length-drop}
-use Rattle.std.proofs.lemmas.Option.{slice_get-get_or}
-use Rattle.byteorder.specs.Endian.{little_bytes, little_number}
-use Rattle.byteorder.specs.Numbers.{little_number-reads_back}
+use Rattle.byteorder.specs.Endian.{little_bytes}
 use Rattle.sg_base.specs.Sheet.{Sheet}
 use Rattle.sg_space.specs.Units.{HasAt}
 use Rattle.sg_space.specs.View.{Space, View, OnlyReads}
 use Rattle.sg_space.specs.Reads.{HasCell, HasSized}
-use Rattle.sg_space.proofs.Known.{same_some, both, read_is, still}
+use Rattle.sg_space.specs.Links.{link_cell}
+use Rattle.sg_space.proofs.Known.{both, read_is, still}
+use Rattle.sg_space.proofs.Links.{link_is, there}
 use Rattle.sg_blob.specs.Blob.{Blob, IsBlob}
-use Rattle.sg_blob.specs.Raw.{Raw, IsRaw, IsRoot, link_cell}
+use Rattle.sg_blob.specs.Raw.{Raw, IsRaw, IsRoot}
 use Rattle.sg_blob.specs.Steps.{IsCopied}
 
 -- what stands in a space, said of the space alone
@@ -26,20 +26,6 @@ still_raw {root = root} {r = r} k shows h = still (StandsRaw root r) k shows h
 
 pub still_blob : {v w : View} {root : ℕ} {b : Blob} → OnlyReads v w → v.Shows → StandsBlob root b v.space → StandsBlob root b w.space
 still_blob {root = root} {b = b} k shows h = still (StandsBlob root b) k shows h
-
--- the number of 4 bytes that was read is the one that was written
-pub number_is : (m n : ℕ) → m < 2 ^ 32 → n < 2 ^ 32 → little_bytes 4 m ≡ little_bytes 4 n → m ≡ n
-number_is m n hm hn e =
-    let a = little_number-reads_back 4 m [] hm in
-    let b = little_number-reads_back 4 n [] hn in
-    sym a ∙ (ap (λ (xs : List ℕ). little_number 4 (xs ++ [])) e ∙ b)
-
-pub link_is : (o : Option ℕ) (n : ℕ) → ((p : ℕ) → o ≡ Some p → p < 2 ^ 32) → n < 2 ^ 32 → link_cell o ≡ Some (little_bytes 4 n) → o ≡ Some n
-link_is None n fit hn e = cc
-link_is (Some p) n fit hn e = ap Some (number_is p n (fit p refl) hn (same_some _ _ e))
-
-pub there : (ps : List ℕ) (i : ℕ) → i < length ps → slice_get ps i ≡ Some (get_or ps i 0)
-there ps i h = slice_get-get_or ps i 0 h
 
 -- a slot of the root names a band
 pub link_there : {pages : ℕ → Option Sheet} {root count peak : ℕ} {bands : List ℕ} (j : ℕ) → HasAt pages root (IsRoot count peak bands) → j < length bands → HasAt pages root (HasSized 7 (j + 1) 4)

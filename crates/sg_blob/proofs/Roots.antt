@@ -18,20 +18,14 @@ use Rattle.sg_space.specs.Pages.{IsPossible, Changed}
 use Rattle.sg_space.specs.Units.{Units, HasAt, IsChanged}
 use Rattle.sg_space.specs.View.{Space, View, Keeps, MayFill}
 use Rattle.sg_space.proofs.Known.{moved, same_some}
+use Rattle.sg_space.proofs.Changing.{keeps_but}
 use Rattle.sg_space.proofs.Owners.{grows_same}
 use Rattle.sg_space.proofs.Putting.{cell-set_same, cell-set_other, cell-with_same, cell-with_other, length-with, put_step, set_step, slice_get-push_same, slice_get-push_other}
-use Rattle.sg_blob.specs.Raw.{IsRoot, root_cell, link_cell, Raw, IsRaw}
+use Rattle.sg_space.specs.Links.{link_cell}
+use Rattle.sg_space.proofs.Links.{link_size, stored_most}
+use Rattle.sg_blob.specs.Raw.{IsRoot, root_cell, Raw, IsRaw}
 use Rattle.sg_blob.specs.Steps.{with_root, RawTurns}
 use Rattle.sg_blob.proofs.Turned.{root_changed}
-
-pub stored_most : (slots : List (Option (List ℕ))) (size : ℕ) → ((m : ℕ) → cell_size (cell_in slots m) ≤ size) → stored slots ≤ size * length slots
-stored_most [] size h = omega arith
-stored_most (x ∷ xs) size h =
-    let first : cell_size x ≤ size = h 0 in
-    let rest : stored xs ≤ size * length xs = stored_most xs size (λ m. h (suc m)) in
-    let sum : stored (x ∷ xs) ≡ cell_size x + stored xs = sum_by-cons cell_size x xs in
-    let more : size * suc (length xs) ≡ size * length xs + size = omega arith in
-    rw sum (rw more (omega arith))
 
 -- a first cell of 8 bytes at most, and others of 4
 pub bytes_most : (slots : List (Option (List ℕ))) → cell_size (cell_in slots 0) ≤ 8 → ((j : ℕ) → cell_size (cell_in slots (suc j)) ≤ 4) → length slots ≤ 501 → bytes_of slots ≤ 4072
@@ -40,10 +34,6 @@ bytes_most (x ∷ xs) first rest few =
     let most : stored xs ≤ 4 * length xs = stored_most xs 4 (λ m. rest m) in
     let sum : stored (x ∷ xs) ≡ cell_size x + stored xs = sum_by-cons cell_size x xs in
     omega arith
-
-pub link_size : (o : Option ℕ) → cell_size (link_cell o) ≤ 4
-link_size None = omega arith
-link_size (Some x) = omega arith
 
 pub root_bytes : {count peak : ℕ} {bands : List ℕ} {sheet : Sheet} → IsRoot count peak bands sheet → bytes_of sheet.slots ≤ 4072
 root_bytes {bands = bands} {sheet = sheet} h = bytes_most sheet.slots (rw h.first (omega arith)) (λ j. rw (← add-one, h.links j) (link_size (slice_get bands j))) h.few
@@ -167,20 +157,6 @@ put_possible t v {root} {j = j} {bands = bands} q cell e is below may h = record
     next : (length bands + 1 == length (h.what).slots) ≡ true → length (h.what).slots + 1 ≤ 501
     next u = let same : length bands + 1 ≡ length (h.what).slots = grind (arith, nat_tests, u) in omega arith
 
--- a change of the root that doesn't shrink it keeps what a caller relies on
-keeps_but : {t : Table} {v w : View} {root : ℕ} {op : Op} → Changed t v w root op → ((sheet : Sheet) → v.space.pages.at root ≡ Some sheet → shrinks op sheet ≡ false) → Keeps v w
-keeps_but {t} {v} {w} {root} c same = record {
-  told = c.told;
-  table = c.table;
-  may_take = c.may_take;
-  may_have = λ p n h. elim (cases_eq p root) as (λ _. w.MayHave p n) [
-    | inl is ↦ subst (λ (k : ℕ). w.MayHave k n) (sym is) (c.may_still n same (subst (λ (k : ℕ). v.MayHave k n) is h))
-    | inr ne ↦ c.may_have p n ne h
-  ];
-}
-
+-- a change of the root's first cell keeps what a caller relies on
 pub root_keeps : {t : Table} {v w : View} {root count peak : ℕ} {bands : List ℕ} (count' peak' : ℕ) (cell : List ℕ) → cell ≡ root_cell count' peak' → HasAt v.space.pages.at root (IsRoot count peak bands) → Changed t v w root (Set 0 cell) → Keeps v w
 root_keeps {t} {v} {w} {root} count' peak' cell e h c = keeps_but c (λ sheet is. subst (λ (s : Sheet). shrinks (Set 0 cell) s ≡ false) (same_some _ _ (sym h.is ∙ is)) (root_same_size cell count' peak' e h.has))
-
-pub put_keeps : {t : Table} {v w : View} {root slot : ℕ} {cell : List ℕ} → Changed t v w root (Put slot cell) → Keeps v w
-put_keeps c = keeps_but c (λ sheet is. refl)

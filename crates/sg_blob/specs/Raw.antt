@@ -1,9 +1,10 @@
 -- What a root page and the bands that it names say.
-use Rattle.std.specs.Prelude.{◌≡◌, ℕ, ◌+◌, ◌*◌, ◌<◌, ◌≤◌, ◌^◌, List, ◌++◌, length, slice_get, slice_index, Option, Some, None}
+use Rattle.std.specs.Prelude.{◌≡◌, ℕ, ◌+◌, ◌*◌, ◌<◌, ◌≤◌, ◌^◌, List, ◌++◌, length, slice_get, slice_index, Option, Some}
 use Rattle.byteorder.specs.Endian.{little_bytes}
 use Rattle.sg_base.specs.Page.{cell_in}
 use Rattle.sg_base.specs.Sheet.{Sheet}
 use Rattle.sg_base.specs.declared.page.TheConstants.{BAND_SIZE}
+use Rattle.sg_space.specs.Links.{link_cell}
 use Rattle.sg_space.specs.Units.{HasAt}
 
 pub record Raw : Type 0 where
@@ -18,11 +19,6 @@ pub record Raw : Type 0 where
 -- the root's first cell: two numbers of 4 bytes
 abbrev pub root_cell : (count peak : ℕ) → List ℕ
 root_cell count peak = little_bytes 4 count ++ little_bytes 4 peak
-
--- the cell that names a band, where there is one
-abbrev pub link_cell : Option ℕ → Option (List ℕ)
-link_cell None = None
-link_cell (Some b) = Some (little_bytes 4 b)
 
 -- a page of kind 7, with these numbers in its first cell and the number of a band in each later one
 pub record IsRoot (count peak : ℕ) (bands : List ℕ) (sheet : Sheet) : Type 0 where

@@ -5,3 +5,6 @@ pub mod Owners
 pub mod Placed
 pub mod Known
 pub mod Putting
+pub mod Links
+pub mod Freeing
+pub mod Changing

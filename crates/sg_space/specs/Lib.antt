@@ -6,4 +6,5 @@ pub mod Flagged
 pub mod Memory
 pub mod Owned
 pub mod Reads
+pub mod Links
 pub mod Guarded

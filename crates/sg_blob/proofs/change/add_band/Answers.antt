@@ -5,7 +5,8 @@ use Rattle.sg_ops.specs.Table.{table_of}
 use Rattle.sg_space.specs.Units.{Units}
 use Rattle.sg_space.proofs.Known.{moved, keeps_then}
 use Rattle.sg_blob.proofs.Growth.{add_turns, with_band}
-use Rattle.sg_blob.proofs.Roots.{put_possible, put_keeps}
+use Rattle.sg_blob.proofs.Roots.{put_possible}
+use Rattle.sg_space.proofs.Changing.{put_keeps}
 use Rattle.sg_blob.proofs.change.add_band.Goals as goal
 
 pub take_band-requires : goal.take_band-requires

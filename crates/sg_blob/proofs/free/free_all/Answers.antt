@@ -1,7 +1,7 @@
 use Rattle.std.proofs.Common.{◌≡◌, ℕ, ◌<◌, ◌≤◌, IsSome, arith, refl, subst, sym, ◌∙◌}
 use Rattle.sg_space.specs.View.{Space}
 use Rattle.sg_blob.specs.Blob.{raw_of}
-use Rattle.sg_blob.proofs.Freeing.{AreFreed, frees_none, frees_on, link_still, next_some, all_gone, so_many}
+use Rattle.sg_blob.proofs.Freeing.{BandsFreed, frees_none, frees_on, link_still, next_some, all_gone, so_many}
 use Rattle.sg_blob.proofs.Parts.{link_there, link_read}
 use Rattle.sg_blob.proofs.free.free_all.Goals as goal
 
@@ -30,8 +30,8 @@ free_band-requires g c = λ told.
     let shows = g.met.P.PageSpace.told_shows _ told_then in
     let h = c.requires back in
     let read = link_read c.loop-j.j c.in_ok-b.b.0 (link_still i back h.1) h.1.raw.fit c.in_ok-b.ensures.small (c.in_ok-b.ensures.read shows) in
-    let freed : AreFreed (g.P.PageSpace.view c.args.space.now).space (g.P.PageSpace.view c.link_at.new.space).space h.0.bands c.loop-j.j =
-    subst (λ (s : Space). AreFreed (g.P.PageSpace.view c.args.space.now).space s h.0.bands c.loop-j.j) (sym (c.in_ok-b.ensures.kept.same shows)) (i.freed back h.0 h.1) in
+    let freed : BandsFreed (g.P.PageSpace.view c.args.space.now).space (g.P.PageSpace.view c.link_at.new.space).space h.0.bands c.loop-j.j =
+    subst (λ (s : Space). BandsFreed (g.P.PageSpace.view c.args.space.now).space s h.0.bands c.loop-j.j) (sym (c.in_ok-b.ensures.kept.same shows)) (i.freed back h.0 h.1) in
     next_some h.1.raw freed read
 
 pub loop-j-preserved : goal.loop-j-preserved

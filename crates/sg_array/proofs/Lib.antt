@@ -1,0 +1,13 @@
+pub mod Links
+pub mod Places
+pub mod Sheets
+pub mod Turned
+pub mod Setting
+pub mod Ends
+pub mod Growth
+pub mod Pushes
+pub mod Freed
+pub mod Wanting
+pub mod Applying
+pub mod Making
+pub mod Sides

@@ -1,0 +1,4 @@
+pub mod Array
+pub mod Calls
+pub mod Steps
+pub mod Beside
