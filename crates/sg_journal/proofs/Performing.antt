@@ -2,6 +2,7 @@
 use Rattle.std.proofs.Common.{◌≡◌, ◌⊎◌, inl, inr, ℕ, ◌<◌, ◌≤◌, Bool, true, false, cond, List, [], ◌∷◌, length, Option, Some, None, Ok, Err, refl, sym, ap, ◌∙◌, subst, arith}
 use Rattle.std.specs.Prelude.{nat_lt, ◌==◌, slice_index, IsOk, IsErr}
 use Rattle.std.specs.Str.Lines.{strip_carriage_return}
+use Rattle.std.proofs.lemmas.Bool.Decides.{nat_tests}
 use Rattle.sg_disk.specs.Disk as disk
 use Rattle.sg_serial.specs.Locks.{Touch, Hold, first_holder, hold_all}
 use Rattle.sg_ops.specs.Table.{Table as Operations}
@@ -12,6 +13,7 @@ use Rattle.sg_model.specs.Shown.{shown_op}
 use Rattle.sg_model.specs.SaidOps.{said_op}
 use Rattle.sg_model.specs.Objects.{Objects}
 use Rattle.sg_model.specs.Verb.{Op, Outcome, Reply}
+use Rattle.sg_model.specs.Verb.Op.{Names}
 use Rattle.sg_model.specs.Step.{step, is_changing, Grows}
 use Rattle.sg_model.specs.Touches.{Resource, touches, same_resource, conflict}
 use Rattle.sg_model.proofs.Refused.{step_refused, replied}
@@ -22,7 +24,7 @@ use Rattle.sg_words.specs.Requests.Request.{Do}
 use Rattle.sg_words.specs.Spoken.{later_words, spoken}
 use Rattle.sg_words.proofs.Said.{words_of-spoken}
 use Rattle.sg_words.specs.Answers.{Answer}
-use Rattle.sg_words.specs.Answers.Answer.{Memory, LogEnd}
+use Rattle.sg_words.specs.Answers.Answer.{Busy, Memory, LogEnd}
 use Rattle.sg_words.specs.declared.answer.Answer as code_answer
 use Rattle.sg_words.specs.declared.answer.Answer.TheVariants as answers
 use Rattle.sg_words.specs.Answered.{shown_answer}
@@ -31,18 +33,21 @@ use Rattle.sg_log.specs.Faults.{AppendFails}
 use Rattle.sg_log.specs.Held.{tail_of, end_of}
 use Rattle.sg_log.specs.declared.fault.LogFault.{LogFault}
 use Rattle.sg_log.specs.declared.fault.LogFault.TheVariants as faults
-use Rattle.sg_locks.specs.declared.table.LockAnswer.TheVariants.{Granted}
+use Rattle.sg_locks.specs.declared.table.LockAnswer.{LockAnswer}
+use Rattle.sg_locks.specs.declared.table.LockAnswer.TheVariants as locks
 use Rattle.sg_locks.specs.Answers.{lock_answer, locks_after}
 use Rattle.sg_run.specs.Answer.{answer_of, IsSaid}
 use Rattle.sg_run.specs.Run.{Run, holder_of, held_with, MOST_HELD}
 use Rattle.sg_journal.specs.Lines.{op_of, op_said}
 use Rattle.sg_journal.specs.Live.{Opened, opened_named}
-use Rattle.sg_journal.specs.Shown.{answer_at, stop_at, IsReasonOr}
+use Rattle.sg_journal.specs.Shown.{answer_at, stop_at, IsReasonOr, IsNotGranted}
 use Rattle.sg_journal.specs.Store.{Core, Shows}
 use Rattle.sg_journal.specs.Goes.{Goes, NEW_WORK_END}
 use Rattle.sg_journal.proofs.Tails.{MomentsOf, ends_within}
 use Rattle.sg_journal.proofs.Folding.{kept_said}
-use Rattle.sg_journal.proofs.Locking.{granted_is, nobody, same_count}
+use Rattle.sg_journal.proofs.Along.{goes_along}
+use Rattle.sg_journal.proofs.Steps.{op_busy, op_locks_full}
+use Rattle.sg_journal.proofs.Locking.{granted_is, busy_is, full_is, somebody, nobody, same_count}
 use Rattle.sg_journal.proofs.Changes.{op_end, op_memory, op_unchanged, op_breaks}
 
 -- both ways to say that an operation can change objects are one
@@ -89,6 +94,20 @@ unfolding asked op_said
 op_said-spoken line name op e =
     ap (λ (ws : List (List ℕ)). op_of (request_of ws)) (words_of-spoken line) ∙ (ap (λ (r : Option Request). op_of r) (said_line (nat_lt most_line_bytes (length line)) (slice_index line 0 == 35) (words_of (strip_carriage_return line)) name (Do (said_op op)) e) ∙ kept_said op)
 
+-- the names of all objects are always answered
+pub names_said : (t : Operations) (s : Objects) → IsOk (step t s Names).0
+unfolding step
+names_said t s = refl
+
+-- a line that asks for something isn't too long
+pub asked-short : (line name : List ℕ) (request : Request) → asked line ≡ Of name request → length line ≤ most_line_bytes
+unfolding asked
+asked-short line name request e = by_length (nat_lt most_line_bytes (length line)) refl e
+  where
+    by_length : (b : Bool) → nat_lt most_line_bytes (length line) ≡ b → ◌≡◌ {A = Asked} (cond b Wrong (cond (slice_index line 0 == 35) Blank (asked_by (words_of (strip_carriage_return line))))) (Of name request) → length line ≤ most_line_bytes
+    by_length true is h = absurd (cc)
+    by_length false is h = grind (arith, nat_tests, is)
+
 module _ (t : Operations) (told : Bool) (was : disk.State) (v : disk.View) (k : Core) (x : Run) (shows : Shows t told was v k x) (running : k.stopped ≡ None) where
   -- a transaction has got what an operation touches
   pub record IsLocked (u : ℕ) (op : Op) (held : List (Hold Resource)) : Type 0 where
@@ -96,7 +115,7 @@ module _ (t : Operations) (told : Bool) (was : disk.State) (v : disk.View) (k : 
     pub few : nat_lt MOST_HELD (held_with t x u op) ≡ false
     pub is : held ≡ hold_all same_resource u (touches k.objects op) k.held
 
-  pub locked : (u : ℕ) (op : Op) (wanted : List (Touch Resource)) (held : List (Hold Resource)) → wanted ≡ touches k.objects op → Granted ≡ lock_answer u wanted k.held → held ≡ locks_after u wanted k.held → IsLocked u op held
+  pub locked : (u : ℕ) (op : Op) (wanted : List (Touch Resource)) (held : List (Hold Resource)) → wanted ≡ touches k.objects op → locks.Granted ≡ lock_answer u wanted k.held → held ≡ locks_after u wanted k.held → IsLocked u op held
   locked u op wanted held e granted after =
       let g = granted_is u wanted k.held granted in
       record {
@@ -104,6 +123,26 @@ module _ (t : Operations) (told : Bool) (was : disk.State) (v : disk.View) (k : 
         few = same_count t told was v k x shows running u op false (ap (λ (ws : List (Touch Resource)). nat_lt 4096 (length (hold_all same_resource u ws k.held))) (sym e) ∙ g.few);
         is = after ∙ (g.after ∙ ap (λ (ws : List (Touch Resource)). hold_all same_resource u ws k.held) e);
       }
+
+  -- an operation isn't granted what it touches
+  module _ (name : List ℕ) (op : Op) (l : Opened) (one : opened_named k.live name ≡ Some l) (wanted : List (Touch Resource)) (e : wanted ≡ touches k.objects op) where
+    in_the_way_or_full : (r : LockAnswer) → r ≡ lock_answer l.transaction wanted k.held → (a : code_answer.Answer) (into : List ℕ) → IsNotGranted k.live r a → Goes t told was v k x (Of name (Do op)) (shown_answer into a) v (record k { held = locks_after l.transaction wanted k.held })
+    in_the_way_or_full locks.Granted is a into h = absurd h
+    in_the_way_or_full (locks.Busy holder) is a into h =
+        let b = busy_is holder l.transaction wanted k.held is in
+        let way = ap (λ (ws : List (Touch Resource)). first_holder conflict l.transaction ws k.held) (sym e) ∙ b.first in
+        let s = somebody t told was v k x shows running l.transaction holder.0 op way in
+        goes_along _ (Busy s.0.name) _ v _ k (h s.0 s.1 into) refl (ap (λ (hs : List (Hold Resource)). record k { held = hs }) b.after) (op_busy t told was v k x shows running name op l holder.0 s.0 one way s.2)
+    in_the_way_or_full locks.LocksFull is a into h =
+        let f = full_is l.transaction wanted k.held is in
+        goes_along _ (shown_answer into answers.LocksFull) _ v _ k (ap (λ (b : code_answer.Answer). shown_answer into b) h) refl (ap (λ (hs : List (Hold Resource)). record k { held = hs }) f.after)
+        (op_locks_full t told was v k x shows running name op l one
+        (nobody t told was v k x shows running l.transaction op (ap (λ (ws : List (Touch Resource)). first_holder conflict l.transaction ws k.held) (sym e) ∙ f.free))
+        (same_count t told was v k x shows running l.transaction op true (ap (λ (ws : List (Touch Resource)). nat_lt 4096 (length (hold_all same_resource l.transaction ws k.held))) (sym e) ∙ f.many)))
+
+    pub not_granted : (held : List (Hold Resource)) → held ≡ locks_after l.transaction wanted k.held → (a : code_answer.Answer) (into : List ℕ) → IsNotGranted k.live (lock_answer l.transaction wanted k.held) a → Goes t told was v k x (Of name (Do op)) (shown_answer into a) v (record k { held = held })
+    not_granted held after a into h =
+        goes_along _ (shown_answer into a) _ v _ (record k { held = locks_after l.transaction wanted k.held }) refl refl (ap (λ (hs : List (Hold Resource)). record k { held = hs }) after) (in_the_way_or_full (lock_answer l.transaction wanted k.held) refl a into h)
 
   module _ (name : List ℕ) (op : Op) (l : Opened) (one : opened_named k.live name ≡ Some l) (held : List (Hold Resource)) (h : IsLocked l.transaction op held) where
     along : (answer : Answer) (w : disk.View) (o : Objects) → Goes t told was v k x (Of name (Do op)) answer w (record k { held = hold_all same_resource l.transaction (touches k.objects op) k.held; objects = o }) → Goes t told was v k x (Of name (Do op)) answer w (record k { held = held; objects = o })

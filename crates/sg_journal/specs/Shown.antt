@@ -1,10 +1,14 @@
 -- The code's values as definitions speak of them.
-use Rattle.std.specs.Prelude.{◌≡◌, ◌==◌, if◌then◌else◌, ℕ, List, map, Ok, Err}
+use Rattle.std.specs.Prelude.{◌≡◌, ◌==◌, if◌then◌else◌, ℕ, List, map, Some, Ok, Err}
 use Rattle.sg_model.specs.declared.stop.Stop.{Stop}
 use Rattle.sg_model.specs.declared.stop.Stop.TheVariants as stops
 use Rattle.sg_model.specs.Verb.{Outcome}
 use Rattle.sg_words.specs.declared.answer.Answer as code_answer
 use Rattle.sg_words.specs.declared.answer.Answer.TheVariants as answers
+use Rattle.sg_words.specs.Answers.Answer.{Busy}
+use Rattle.sg_words.specs.Answered.{shown_answer}
+use Rattle.sg_locks.specs.declared.table.LockAnswer.{LockAnswer}
+use Rattle.sg_locks.specs.declared.table.LockAnswer.TheVariants as locks
 use Rattle.sg_log.specs.declared.fault.LogFault.{LogFault}
 use Rattle.sg_log.specs.declared.fault.LogFault.TheVariants as faults
 use Rattle.sg_base.specs.declared.area.Area.TheVariants.{Log0}
@@ -12,7 +16,7 @@ use Rattle.sg_journal.specs.declared.opening.OpenRefused as code_refused
 use Rattle.sg_journal.specs.declared.opening.OpenRefused.TheVariants as refusals
 use Rattle.sg_journal.specs.declared.live.Running as code_running
 use Rattle.sg_journal.specs.declared.line.Kept as code_kept
-use Rattle.sg_journal.specs.Live.{Opened, KeptLine}
+use Rattle.sg_journal.specs.Live.{Opened, KeptLine, opened_numbered}
 
 abbrev pub opened_of : code_running.Running → Opened
 opened_of r = record { name = r.name; transaction = r.txn.0; last = r.last }
@@ -47,6 +51,13 @@ stop_at faults.Memory = stops.Disk
 abbrev pub IsReasonOr : Outcome → code_answer.Answer → code_answer.Answer → Type 0
 IsReasonOr (Ok reply) other answer = answer ≡ other
 IsReasonOr (Err reason) other answer = answer ≡ answers.Refused reason
+
+-- what a line is answered that isn't granted what it touches: the name of the live transaction that is in the way, or that
+-- too much would be held
+abbrev pub IsNotGranted : List Opened → LockAnswer → code_answer.Answer → Type 0
+IsNotGranted live locks.Granted answer = ⊥
+IsNotGranted live (locks.Busy holder) answer = (l : Opened) → opened_numbered live holder.0 ≡ Some l → (into : List ℕ) → shown_answer into answer ≡ Busy l.name
+IsNotGranted live locks.LocksFull answer = answer ≡ answers.LocksFull
 
 -- why a store doesn't open where its log fails
 abbrev pub refusal_at : LogFault → code_refused.OpenRefused

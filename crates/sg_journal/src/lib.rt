@@ -9,6 +9,7 @@
 
 mod found;
 mod found_line;
+mod hold;
 mod kept;
 mod law;
 mod line;

@@ -11,7 +11,6 @@ ghost use Rattle.sg_words.specs.Requests.{asked};
 ghost use Rattle.sg_words.specs.Requests.Asked.{Of};
 ghost use Rattle.sg_words.specs.Requests.Request.{Begin, Commit, Abort, Do};
 ghost use Rattle.sg_words.specs.Answered.{shown_answer};
-ghost use Rattle.sg_words.specs.Answers.Answer.{Busy};
 ghost use Rattle.sg_record.specs.Plain.{IsRecord};
 ghost use Rattle.sg_record.specs.Plain.Record.{Line as LineRecord};
 ghost use Rattle.sg_log.specs.Faults.{AppendFails, HeedsFaults};
@@ -20,11 +19,12 @@ ghost use Rattle.sg_log.specs.Held.{Holds, tail_of, place_of, end_of, appended, 
 ghost use Rattle.sg_run.specs.Run.{Run};
 ghost use Rattle.sg_journal.specs.Store.{Shows};
 ghost use Rattle.sg_journal.specs.Goes.{Goes, Grows, Heeds, NEW_WORK_END};
-ghost use Rattle.sg_journal.specs.Live.{Opened, opened_numbered, opened_without, with_last, lines_chosen};
+ghost use Rattle.sg_journal.specs.Live.{Opened, opened_without, with_last, lines_chosen};
 ghost use Rattle.sg_journal.specs.Shown.{all_opened, kept_of, all_kept, answer_at, stop_at, IsReasonOr};
 ghost use Rattle.sg_journal.specs.Opening.{Opens, StaysShut};
 ghost use Rattle.sg_journal.specs.Seen.{core_of};
 
+use crate::hold::hold;
 use crate::kept::{folded, line_of};
 use crate::line::Kept;
 use crate::live::{Live, Running};
@@ -32,7 +32,7 @@ use crate::opening::{OpenRefused, Unopened};
 use crate::replay::read_back;
 use sg_base::{Area, Name, OutOfMemory, TxnId};
 use sg_disk::Disk;
-use sg_locks::{LockAnswer, Locks};
+use sg_locks::Locks;
 use sg_log::{Log, LogFault};
 use sg_model::{Op, Reply, Stop};
 use sg_ops::Ops;
@@ -305,16 +305,6 @@ impl<D: Disk> Store<D> {
         Answer::Said(Reply::Done)
     }
 
-    // The name of the transaction that is in the way. Only live ones hold anything, so there is one.
-    fn busy(&self, holder: TxnId) -> Answer
-        ensures { (l : Opened) → opened_numbered (core_of self.now).live holder.0 ≡ Some l → (into : List ℕ) → shown_answer into result ≡ Busy l.name }
-    {
-        match self.live.numbered(holder) {
-            Some(live) => Answer::Busy(live.name),
-            None => Answer::LocksFull,
-        }
-    }
-
     // What an operation that isn't done is answered: the reason that it has anyway comes first.
     fn refuse(&self, ops: &Ops, op: &Op<'_>, otherwise: Answer) -> Answer
         ensures { IsReasonOr (step (table_of record_meaning range_meaning ops.now) self.now.objects (said_op op.now)).0 otherwise result }
@@ -388,10 +378,9 @@ impl<D: Disk> Store<D> {
             return Answer::NoTransaction;
         };
         let touches = self.objects.touches(op);
-        match self.locks.try_lock(live.txn, touches.list()) {
-            LockAnswer::Granted => {}
-            LockAnswer::Busy(holder) => return self.busy(holder),
-            LockAnswer::LocksFull => return Answer::LocksFull,
+        match hold(&mut self.locks, &self.live, live.txn, &touches) {
+            Ok(()) => {}
+            Err(answer) => return answer,
         }
         if !op.is_changing() {
             return match self.objects.apply(alloc, ops, op, into) {
@@ -430,10 +419,9 @@ impl<D: Disk> Store<D> {
             return Answer::NoTransaction;
         };
         let touches = self.objects.keys_touches(table);
-        match self.locks.try_lock(live.txn, touches.list()) {
-            LockAnswer::Granted => {}
-            LockAnswer::Busy(holder) => return self.busy(holder),
-            LockAnswer::LocksFull => return Answer::LocksFull,
+        match hold(&mut self.locks, &self.live, live.txn, &touches) {
+            Ok(()) => {}
+            Err(answer) => return answer,
         }
         match self.objects.keys(alloc, table) {
             Ok(Ok(keys)) => Answer::Keys(keys),
@@ -454,10 +442,9 @@ impl<D: Disk> Store<D> {
             return Answer::NoTransaction;
         };
         let touches = self.objects.list_touches();
-        match self.locks.try_lock(live.txn, touches.list()) {
-            LockAnswer::Granted => {}
-            LockAnswer::Busy(holder) => return self.busy(holder),
-            LockAnswer::LocksFull => return Answer::LocksFull,
+        match hold(&mut self.locks, &self.live, live.txn, &touches) {
+            Ok(()) => {}
+            Err(answer) => return answer,
         }
         match self.objects.list(alloc) {
             Ok(names) => Answer::Names(names),

@@ -203,6 +203,12 @@ pub keys_there : {E : Type 0} (s : Objects) (n : List ℕ) (o : Object) (result 
 keys_there s n o (Ok r) there h = λ u. keys_in u s n (Some o) (shown_keys r) there (h u)
 keys_there s n o (Err e) there h = tt
 
+-- they would have been answered
+pub keys_reply : {A E : Type 0} (s : Objects) (n : List ℕ) (o : Object) (result : Result A E) → get s n ≡ Some o → OnErr result ((t : Operations) → IsOk (on t Keys (Some o)).0) → OnErr result ((t : Operations) → IsOk (step t s (On n Keys)).0)
+unfolding step
+keys_reply s n o (Ok r) there h = tt
+keys_reply s n o (Err e) there h = λ t. subst (λ (x : Option Object). IsOk (on t Keys x).0) (sym there) (h t)
+
 pub listed : (t : Operations) (s : Objects) (names : List (List ℕ)) → keys s ≡ names → step t s Names ≡ (Ok (Several names), s)
 unfolding step
 listed t s names e = let P : List (List ℕ) → Outcome × Objects = λ ks. (Ok (Several ks), s) in ap P e

@@ -11,9 +11,10 @@ ghost use Rattle.sg_model.specs.Step.{on, IsInPlace, GrowsBy, Refuses};
 
 use crate::array::Array;
 use crate::blob::Blob;
+use crate::reach::only_read;
 use crate::table::Table;
-use sg_base::OutOfMemory;
-use sg_model::{Key, Op, Reason, Reply, Touches};
+use sg_base::{Name, OutOfMemory};
+use sg_model::{Key, Op, Reason, Reply, Resource, Touches};
 use sg_ops::Ops;
 use std::alloc::{AllocError, Global};
 
@@ -68,9 +69,21 @@ impl Object {
         }
     }
 
+    /// Adds what the keys of the table with this name touch beside whether and what the object is.
+    pub fn reach_keys(&self, name: Name, into: &mut Touches)
+        requires { length (shown_touches into.old) ≤ 1 }
+        ensures { shown_touches into.new ≡ shown_touches into.old ++ map (touch_of name) (further Keys (Some (shown self.now))) }
+    {
+        match self {
+            Object::Table(_) => into.push(only_read(Resource::Keys(name))),
+            Object::Array(_) | Object::Blob(_) => {}
+        }
+    }
+
     /// The keys of a table, by their bytes.
     pub fn keys(&self, alloc: Global) -> Result<Result<Vec<Key>, Reason>, OutOfMemory>
-        ensures { IfOk result (λ r. (t : Operations) → on t Keys (Some (shown self.now)) ≡ (shown_keys r, Some (shown self.now))) }
+        ensures done { IfOk result (λ r. (t : Operations) → on t Keys (Some (shown self.now)) ≡ (shown_keys r, Some (shown self.now))) }
+        ensures cause { OnErr result ((t : Operations) → IsOk (on t Keys (Some (shown self.now))).0) }
     {
         match self {
             Object::Table(table) => match table.keys(alloc) {

@@ -229,18 +229,25 @@ impl Objects {
         touches
     }
 
+    // What the keys of a table touch.
+    fn reach_keys(&self, name: Name) -> Touches
+        ensures { shown_touches result ≡ map (touch_of name) (to_read (Just Kind) ∷ further Keys (finmap.get self.now name)) }
+    {
+        let mut touches = Touches::new();
+        touches.push(only_read(Resource::Name(name)));
+        match self.map.get(&name) {
+            None => {}
+            Some(object) => object.reach_keys(name, &mut touches),
+        }
+        touches
+    }
+
     /// What the keys of a table touch. It changes nothing and takes no memory.
     #[tactic(auto, unfolding(sg_model::specs::Touches::touches))]
     pub fn keys_touches(&self, name: Name) -> Touches
         ensures { shown_touches result ≡ touches self.now (On name Keys) }
     {
-        let mut touches = Touches::new();
-        touches.push(only_read(Resource::Name(name)));
-        match self.map.get(&name) {
-            Some(Object::Table(_)) => touches.push(only_read(Resource::Keys(name))),
-            _ => {}
-        }
-        touches
+        self.reach_keys(name)
     }
 
     /// What the names of all objects touch. It changes nothing and takes no memory.
