@@ -30,7 +30,10 @@ fn a_second_run_reads_what_the_first_left(rt: HostRuntime) -> Result<(), Fail> {
     assert_eq!(rt; first.status, Status::Done);
     let second = run(alloc, first.disk, LOOK)?;
     assert_eq!(rt; second.status, Status::Done);
-    assert_eq!(rt; second.replies.as_slice(), b"ok\nok xyz\nerror out-of-range\n".as_slice());
+    assert_eq!(rt;
+        second.replies.as_slice(),
+        b"ok\nok xyz\nerror out-of-range\n".as_slice()
+    );
     Ok(())
 }
 
@@ -220,7 +223,10 @@ fn a_commit_that_failed_is_not_there(rt: HostRuntime) -> Result<(), Fail> {
         );
         let left = run(alloc, left.disk.crash(pick), b"u begin\nu get a 0")?;
         assert_eq!(rt; left.status, Status::Done);
-        assert_eq!(rt; left.replies.as_slice(), b"ok\nerror out-of-range\n".as_slice());
+        assert_eq!(rt;
+            left.replies.as_slice(),
+            b"ok\nerror out-of-range\n".as_slice()
+        );
     }
     Ok(())
 }

@@ -75,7 +75,13 @@ impl<D: Disk> Session<D> {
     /// Answers one line, without its LF and of any length, and writes the reply line. The operations are
     /// those with which the session was started. Where the sink fails, the line was executed, and a
     /// front of its reply was taken.
-    pub fn line<K: Sink>(&mut self, alloc: Global, ops: &Ops, text: &[u8], out: &mut K) -> Result<(), Failed>
+    pub fn line<K: Sink>(
+        &mut self,
+        alloc: Global,
+        ops: &Ops,
+        text: &[u8],
+        out: &mut K,
+    ) -> Result<(), Failed>
         // For each run that the session shows: what is answered, and which run it then shows.
         ensures line { OnOk result (AnswersAll (table_of record_meaning range_meaning ops.now) D.told (D.view (session_disk self.old)) (session_core self.old) (asked text.now)
             (λ answer. Takes (K.taken out.old) (text_of answer) (K.taken out.new)) (D.view (session_disk self.new)) (session_core self.new)) }
@@ -107,7 +113,9 @@ impl<D: Disk> Session<D> {
             self.room.words.as_mut_slice(),
             reply,
         );
-        match write_answer(&answer, reply, out) {
+        let written = write_answer(&answer, reply, out);
+        drop(answer);
+        match written {
             Ok(()) => Ok(()),
             Err(Failed) => {
                 if self.store.stop().is_none() {

@@ -61,7 +61,10 @@ fn a_stop_after_each_number_of_calls(rt: HostRuntime) -> Result<(), Fail> {
         for pick in 0..4u64 {
             let left = run_stopped(alloc, MemDisk::new(alloc), SCRIPT, calls)?;
             let stops = calls < CALLS;
-            assert_eq!(rt; left.status, if stops { Status::Disk } else { Status::Done });
+            assert_eq!(rt;
+                left.status,
+                if stops { Status::Disk } else { Status::Done }
+            );
             assert_eq!(rt; left.refused, u64::from(stops));
             assert_eq!(rt; left.disk.call_count(), calls);
             assert_eq!(rt; left.disk.fault_count(), 0);
@@ -104,7 +107,11 @@ fn acknowledged(replies: &[u8]) -> usize {
 // The number of commits whose objects a store over this disk shows.
 fn commits_shown(alloc: Global, disk: MemDisk) -> Result<Option<usize>, Fail> {
     let left = run(alloc, disk, ITEMS)?;
-    Ok(AFTER.iter().position(|replies| *replies == left.replies.as_slice()))
+    Ok(
+        AFTER
+            .iter()
+            .position(|replies| *replies == left.replies.as_slice()),
+    )
 }
 
 // An opening of such a store, and a script that commits nothing, make fewer calls.

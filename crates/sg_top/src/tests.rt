@@ -128,7 +128,13 @@ fn a_sink_that_fails(rt: HostRuntime) -> Result<(), Fail> {
     let alloc = rt.alloc();
     let script = b"t begin\nt commit\nu begin\nu commit".to_vec(alloc)?;
     let mut source = MemSource::new(script, 64, None);
-    let left = run_from(alloc, "run store", MemDisk::new(alloc), &mut source, Some(2))?;
+    let left = run_from(
+        alloc,
+        "run store",
+        MemDisk::new(alloc),
+        &mut source,
+        Some(2),
+    )?;
     assert_eq!(rt; left.status, Status::Write);
     assert_eq!(rt; left.replies.as_slice(), b"ok\n".as_slice());
     // one frame of two records of 21 bytes, and a closed gate

@@ -82,7 +82,12 @@ pub fn run_stopped(alloc: Global, disk: MemDisk, script: &[u8], calls: u64) -> R
 
 /// What a session leaves that answers lines, which stand behind one another with an LF between. The
 /// sink's n-th call fails where n is given.
-pub fn answered(alloc: Global, disk: MemDisk, lines: &str, sink_fails: Option<u64>) -> Result<Left, Fail> {
+pub fn answered(
+    alloc: Global,
+    disk: MemDisk,
+    lines: &str,
+    sink_fails: Option<u64>,
+) -> Result<Left, Fail> {
     let ops = Ops::shipped(alloc)?;
     let mut out = MemSink::new(alloc, sink_fails);
     let Ok(session) = Session::start(alloc, &ops, disk) else {
