@@ -1,3 +1,5 @@
+ghost use Rattle.std.specs.Prelude.{None};
+
 use crate::Status;
 use crate::trial::{answered, run, run_from, run_in_pieces};
 use sg_base::{Failed, MemSource, Source};
