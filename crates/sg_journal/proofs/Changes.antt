@@ -38,19 +38,20 @@ use Rattle.sg_words.specs.Answers.{Answer}
 use Rattle.sg_run.specs.Answer.{answer_of, IsSaid}
 use Rattle.sg_words.specs.Answers.Answer.{TooManyLive, LocksFull, Memory, LogEnd, Disk, Said}
 use Rattle.sg_run.specs.Run.{Event, Run, live_named, live_objects, committed_objects, began, committed, aborted, with_locks, did, holder_of, held_with, turn, turn_begin, turn_commit, turn_abort, turn_op, turn_held, WouldReply, LineBy, Turns, IsCaused, TakesMemory, stop, stop_at, with_commit, objects_after, only_locks, MOST_LIVE, MOST_HELD}
-use Rattle.sg_run.specs.Kept.{is_kept}
+use Rattle.sg_run.specs.Kept.{is_kept, kept_ops}
 use Rattle.sg_run.proofs.Serial.{begin_stays, commit_stays, abort_stays, locks_stay, did_stays}
 use Rattle.sg_journal.specs.Lines.{op_said, committed_lines}
 use Rattle.sg_journal.specs.Stands.{replay, OthersAsIn, StandsFor, StandsForFirst}
 use Rattle.sg_journal.specs.Logs.{NoneOf, Logs}
-use Rattle.sg_journal.specs.Live.{Opened, KeptLine, live_of, opened_named, with_last, opened_without, lines_chosen, words_of_all, said_by, done_by}
+use Rattle.sg_journal.specs.Live.{Opened, live_of, opened_named, with_last, opened_without, words_of_each}
 use Rattle.sg_journal.specs.Store.{Core, Keeps, Runs, Shows}
 use Rattle.sg_journal.specs.Goes.{Goes, IsFull, NEW_WORK_END}
-use Rattle.sg_journal.proofs.Records.{map-append}
+use Rattle.sg_journal.proofs.Records.{map-append, replay-append}
+use Rattle.sg_journal.proofs.Fronts.{kept_ops-append}
 use Rattle.sg_journal.proofs.Logging.{no_entries, begin_logs, did_logs, commit_logs, abort_logs, lock_logs, event_of, record_of}
 use Rattle.sg_journal.proofs.Tails.{AreBelow, chained_below, last_or-above, tail-place, appended_place, forced_place, appended_short, begin-length, HoldsAfter, MomentsOf, Elsewhere, IsEither, appended_either, of_log, others_of, same_on, tail_forced}
 use Rattle.sg_journal.proofs.Standing.{first_same, first_others, first_all, stands_either, running_shows, stopped_shows, keeps_more, keeps_same, last_other, last_own, after_commits, stands, all_stand, new_after, durable_split, records_split, all_split}
-use Rattle.sg_journal.proofs.Listing.{found_among, among_live, live_with_last, among_with_last, live_without, open_committed, open_aborted, open_began, kept_but, among_last, abort_replay, commit_replay}
+use Rattle.sg_journal.proofs.Listing.{found_among, among_live, live_with_last, among_with_last, live_without, open_committed, open_aborted, open_began, AreSaid, kept_but, among_last, abort_replay, commit_replay}
 use Rattle.sg_journal.proofs.Steps.{going_turn, first_of, stays, going, runs, named_none, named_one, is_there, how_many}
 
 -- no record is of a number that is above all of theirs
@@ -117,7 +118,7 @@ module _ (t : Operations) (told : Bool) (was : disk.State) (v : disk.View) (k : 
         committed = my_runs.committed;
         objects = my_runs.objects;
         live = ap (λ (ls : List Live). ls ++ live_of l ∷ []) my_runs.live ∙ sym (map-append live_of k.live (l ∷ []));
-        kept = my_runs.kept ∙ ap (λ (es : List Event). map done_by (filter is_kept es)) (sym (open_began x n name no_events));
+        kept = λ u. my_runs.kept u ∙ ap (λ (es : List Event). map Some (kept_ops (filter (is_own u) es))) (sym (open_began x n name no_events));
         held = my_runs.held;
         next = omega (arith, rises);
         answered = my_runs.answered;
@@ -226,16 +227,36 @@ module _ (t : Operations) (told : Bool) (was : disk.State) (v : disk.View) (k : 
     live_after : live_objects t (did t x l.transaction op) ≡ (step t k.objects op).1
     live_after = run-append (step t) x.so_far.first x.so_far.history (event_of t x l.transaction op ∷ []) ∙ ap (λ (s : Objects). (step t s op).1) (sym my_runs.objects)
 
-    -- what is kept of its entry
-    kept_after : (lines : List KeptLine) (b : Bool) → is_kept (event_of t x l.transaction op) ≡ b → map said_by lines ≡ map done_by (cond b (event_of t x l.transaction op ∷ []) [])
-        → map said_by (k.kept ++ lines) ≡ map done_by (filter is_kept (open_entries (did t x l.transaction op).so_far))
-    kept_after lines b is e =
+    -- the entries of the live transactions with it
+    opened_more : open_entries (did t x l.transaction op).so_far ≡ open_entries x.so_far ++ event_of t x l.transaction op ∷ []
+    opened_more =
+        filter_append (λ f. is_live x.so_far.live f.transaction) x.so_far.history (event_of t x l.transaction op ∷ [])
+        ∙ ap (λ c. open_entries x.so_far ++ cond c (event_of t x l.transaction op ∷ []) []) there
+
+    -- what is kept of its transaction and of another one
+    kept_after : (words : List (List ℕ)) (b : Bool) → is_kept (event_of t x l.transaction op) ≡ b → map op_said words ≡ map Some (cond b (op ∷ []) []) → (kept : ℕ → List (List ℕ)) → ((u : ℕ) → kept u ≡ k.kept u ++ cond (l.transaction == u) words [])
+        → AreSaid kept (open_entries (did t x l.transaction op).so_far)
+    kept_after words b is e kept more u =
         let new : Event = event_of t x l.transaction op in
         let es : List Event = open_entries x.so_far in
-        let opened : filter (λ f. is_live x.so_far.live f.transaction) (x.so_far.history ++ new ∷ []) ≡ es ++ new ∷ [] = filter_append (λ f. is_live x.so_far.live f.transaction) x.so_far.history (new ∷ []) ∙ ap (λ c. es ++ cond c (new ∷ []) []) there in
-        let kept : filter is_kept (es ++ new ∷ []) ≡ filter is_kept es ++ cond b (new ∷ []) [] = filter_append is_kept es (new ∷ []) ∙ ap (λ c. filter is_kept es ++ cond c (new ∷ []) []) is in
-        map-append said_by k.kept lines ∙ (ap (λ (zs : List (ℕ × Option Op)). zs ++ map said_by lines) my_runs.kept ∙ (ap (λ (zs : List (ℕ × Option Op)). map done_by (filter is_kept es) ++ zs) e
-        ∙ (sym (map-append done_by (filter is_kept es) (cond b (new ∷ []) [])) ∙ ap (λ (fs : List Event). map done_by fs) (sym kept ∙ ap (λ (fs : List Event). filter is_kept fs) (sym opened)))))
+        let own : filter (is_own u) (es ++ new ∷ []) ≡ filter (is_own u) es ++ cond (l.transaction == u) (new ∷ []) [] = filter_append (is_own u) es (new ∷ []) in
+        ap (λ (ws : List (List ℕ)). map op_said ws) (more u) ∙ (map-append op_said (k.kept u) (cond (l.transaction == u) words [])
+        ∙ (ap (λ (os : List (Option Op)). os ++ map op_said (cond (l.transaction == u) words [])) (my_runs.kept u)
+        ∙ (ap (λ (os : List (Option Op)). map Some (kept_ops (filter (is_own u) es)) ++ os) (by_owner (l.transaction == u))
+        ∙ (sym (map-append Some (kept_ops (filter (is_own u) es)) (kept_ops (cond (l.transaction == u) (new ∷ []) [])))
+        ∙ ap (λ (os : List Op). map Some os) (sym (kept_ops-append (filter (is_own u) es) (cond (l.transaction == u) (new ∷ []) []))
+        ∙ ap (λ (fs : List Event). kept_ops fs) (sym own ∙ ap (λ (fs : List Event). filter (is_own u) fs) (sym opened_more)))))))
+      where
+        its_op : kept_ops (event_of t x l.transaction op ∷ []) ≡ cond b (op ∷ []) []
+        its_op = ap (λ d. map (λ (f : Event). f.op) (cond d (event_of t x l.transaction op ∷ []) [])) is ∙ by_kept b
+          where
+            by_kept : (d : Bool) → map (λ (f : Event). f.op) (cond d (event_of t x l.transaction op ∷ []) []) ≡ cond d (op ∷ []) []
+            by_kept true = refl
+            by_kept false = refl
+
+        by_owner : (c : Bool) → map op_said (cond c words []) ≡ map Some (kept_ops (cond c (event_of t x l.transaction op ∷ []) []))
+        by_owner true = e ∙ ap (λ (os : List Op). map Some os) (sym its_op)
+        by_owner false = refl
 
     -- an operation that was refused, or only reads
     pub op_unchanged : (r : Outcome) (o : Objects) → step t k.objects op ≡ (r, o) → (IsErr r) ⊎ (is_changing op ≡ false) → Goes t told was v k x (Of name (Do op)) (answer_of r) v (record k { held = held_then; objects = o })
@@ -250,7 +271,7 @@ module _ (t : Operations) (told : Bool) (was : disk.State) (v : disk.View) (k : 
           committed = my_runs.committed;
           objects = sym (ap (λ (p : Outcome × Objects). p.1) e) ∙ sym live_after;
           live = my_runs.live;
-          kept = ap (λ (ls : List KeptLine). map said_by ls) (sym (append-nil k.kept)) ∙ kept_after [] false unkept refl;
+          kept = kept_after [] false unkept refl k.kept (λ u. sym (append-nil (k.kept u)) ∙ ap (λ (ws : List (List ℕ)). k.kept u ++ ws) (none_either (l.transaction == u)));
           held = held_is;
           next = my_runs.next;
           answered = my_runs.answered;
@@ -273,6 +294,10 @@ module _ (t : Operations) (told : Bool) (was : disk.State) (v : disk.View) (k : 
           moments = λ is_told. moments.started v (StandsForFirst t was x.so_far.answered y) (after.images is_told);
         }
       where
+        none_either : (b : Bool) → [] ≡ cond {A = List (List ℕ)} b [] []
+        none_either true = refl
+        none_either false = refl
+
         not_kept : (r : Outcome) → (IsErr r) ⊎ (is_changing op ≡ false) → (is_changing op && is_ok r) ≡ false
         not_kept (Ok reply) (inl refused) = absurd (cc)
         not_kept (Err reason) (inl refused) = and_none (is_changing op)
@@ -284,17 +309,17 @@ module _ (t : Operations) (told : Bool) (was : disk.State) (v : disk.View) (k : 
         never_full r (inr reads) said work = absurd (cc (reads, work))
 
     -- an operation whose line the log keeps
-    pub op_logged : (reply : Reply) (o : Objects) (w : disk.View) (new : Tail) (words : List ℕ) → o ≡ (step t k.objects op).1 → (step t k.objects op).0 ≡ Ok reply → is_changing op ≡ true → op_said words ≡ Some op
+    pub op_logged : (reply : Reply) (o : Objects) (w : disk.View) (new : Tail) (words : List ℕ) (kept : ℕ → List (List ℕ)) → ((u : ℕ) → kept u ≡ k.kept u ++ cond (l.transaction == u) (words ∷ []) []) → o ≡ (step t k.objects op).1 → (step t k.objects op).0 ≡ Ok reply → is_changing op ≡ true → op_said words ≡ Some op
         → IsRecord (LineRecord l.transaction l.last words) → tail_of k.log ≤ NEW_WORK_END
         → new ≡ appended k.log (LineRecord l.transaction l.last words) → tail_of new ≡ end_of k.log (LineRecord l.transaction l.last words)
         → HoldsAfter told v w k.log new (LineRecord l.transaction l.last words) → MomentsOf told v w k.log → Elsewhere told v w k.log
-        → Goes t told was v k x (Of name (Do op)) (Said reply) w (record k { held = held_then; objects = o; live = with_last l.transaction (place_of k.log (LineRecord l.transaction l.last words)) k.live; kept = k.kept ++ (record { transaction = l.transaction; words = words }) ∷ []; log = new })
-    op_logged reply o w new words is_objects came changing says fields low is_new tail holds call same =
+        → Goes t told was v k x (Of name (Do op)) (Said reply) w (record k { held = held_then; objects = o; live = with_last l.transaction (place_of k.log (LineRecord l.transaction l.last words)) k.live; kept = kept; log = new })
+    op_logged reply o w new words kept more is_objects came changing says fields low is_new tail holds call same =
         let y : Run = did t x l.transaction op in
         let u : ℕ = l.transaction in
         let r : Record = LineRecord u l.last words in
         let last : ℕ = place_of k.log r in
-        let m : Core = record k { held = held_then; objects = o; live = with_last u last k.live; kept = k.kept ++ (record { transaction = u; words = words }) ∷ []; log = new } in
+        let m : Core = record k { held = held_then; objects = o; live = with_last u last k.live; kept = kept; log = new } in
         let out : (step t (live_objects t x) op).0 ≡ Ok reply = ap (λ (s : Objects). (step t s op).0) (sym my_runs.objects) ∙ came in
         let is : is_kept (event_of t x u op) ≡ true = ap (λ (a : Outcome). is_changing op && is_ok a) out ∙ ap (λ b. b && true) changing in
         let rises : tail_of k.log ≤ tail_of new = omega (arith, tail-place k.log r, tail) in
@@ -305,7 +330,7 @@ module _ (t : Operations) (told : Bool) (was : disk.State) (v : disk.View) (k : 
           committed = my_runs.committed;
           objects = is_objects ∙ sym live_after;
           live = my_runs.live ∙ sym (live_with_last u last k.live);
-          kept = kept_after ((record { transaction = u; words = words }) ∷ []) true is (ap (λ (q : Option Op). (u, q) ∷ []) says);
+          kept = kept_after (words ∷ []) true is (ap (λ (q : Option Op). q ∷ []) says) kept more;
           held = held_is;
           next = omega (arith, my_runs.next, rises);
           answered = my_runs.answered;
@@ -363,27 +388,55 @@ module _ (t : Operations) (told : Bool) (was : disk.State) (v : disk.View) (k : 
   abort_turn : (name : List ℕ) (l : Opened) → opened_named k.live name ≡ Some l → (n : ℕ) → turn t x n (Of name Abort) ≡ (Said Done, aborted x l.transaction)
   abort_turn name l one n = going_turn t x n name Abort my_going ∙ ap (λ (o : Option Live). turn_abort t x o) (named_one t told was v k x shows running name l one)
 
-  pub abort_memory : (name : List ℕ) (l : Opened) → opened_named k.live name ≡ Some l → Goes t told was v k x (Of name Abort) Memory v k
-  abort_memory name l one = stays t told was v k x shows (Of name Abort) Memory (record { after = refl; takes = tt; said = subst (λ (a : Answer). IsSaid a) (sym (first_of (abort_turn name l one x.so_far.next))) tt }) tt (λ full logged said. absurd full)
+  -- some lines that were due are done
+  module _ (c : Objects) (due : List (List ℕ)) (done : replay t due (Some c) ≡ replay t k.due (Some k.committed)) where
+    settled : Shows t told was v (record k { committed = c; due = due }) x
+    settled = running_shows t told was v (record k { committed = c; due = due }) x running my_going (record {
+      sound = my_runs.sound;
+      committed = done ∙ my_runs.committed;
+      objects = my_runs.objects;
+      live = my_runs.live;
+      kept = my_runs.kept;
+      held = my_runs.held;
+      next = my_runs.next;
+      answered = my_runs.answered;
+      area = my_runs.area;
+      base = my_runs.base;
+      short = my_runs.short;
+      keeps = λ is_told. (let h = my_runs.keeps is_told in keeps_same t v k (record k { committed = c; due = due }) x x h refl h.logs (λ j i. i));
+      elsewhere = my_runs.elsewhere;
+    })
+
+    pub abort_memory : (name : List ℕ) (l : Opened) → opened_named k.live name ≡ Some l → Goes t told was v k x (Of name Abort) Memory v (record k { committed = c; due = due })
+    abort_memory name l one = record {
+      after = x;
+      line_goes = record { after = refl; takes = tt; said = subst (λ (a : Answer). IsSaid a) (sym (first_of (abort_turn name l one x.so_far.next))) tt };
+      caused = tt;
+      full = λ full logged said. absurd full;
+      shows = settled;
+      moments = λ is_told. moments.started v (StandsForFirst t was x.so_far.answered x) (shows.images is_told);
+    }
 
   -- only these are live, and lines of these kept
   without_is : (u : ℕ) → without u x.so_far.live ≡ map live_of (opened_without u k.live)
   without_is u = ap (λ (ls : List Live). without u ls) my_runs.live ∙ sym (live_without u k.live)
 
-  pub aborts : (name : List ℕ) (l : Opened) (o : Objects) → opened_named k.live name ≡ Some l → replay t (words_of_all (lines_chosen false l.transaction k.kept)) (Some k.committed) ≡ Some o
-      → Goes t told was v k x (Of name Abort) (Said Done) v (record k { objects = o; live = opened_without l.transaction k.live; kept = lines_chosen false l.transaction k.kept; held = released l.transaction k.held })
-  aborts name l o one replayed =
+  pub aborts : (name : List ℕ) (l : Opened) (c o : Objects) (left : ℕ → List (List ℕ)) → opened_named k.live name ≡ Some l → replay t [] (Some c) ≡ replay t k.due (Some k.committed)
+      → replay t (words_of_each k.kept (opened_without l.transaction k.live)) (Some c) ≡ Some o → ((u : ℕ) → left u ≡ cond (u == l.transaction) [] (k.kept u))
+      → Goes t told was v k x (Of name Abort) (Said Done) v (record k { committed = c; due = []; objects = o; live = opened_without l.transaction k.live; kept = left; held = released l.transaction k.held })
+  aborts name l c o left one done replayed others =
       let u : ℕ = l.transaction in
       let y : Run = aborted x u in
-      let m : Core = record k { objects = o; live = opened_without u k.live; kept = lines_chosen false u k.kept; held = released u k.held } in
+      let m : Core = record k { committed = c; due = []; objects = o; live = opened_without u k.live; kept = left; held = released u k.held } in
       let there = is_there t told was v k x shows running name l one in
-      let is : Some o ≡ Some (live_objects t y) = sym replayed ∙ (ap (λ (s : Objects). replay t (words_of_all (lines_chosen false u k.kept)) (Some s)) my_runs.committed ∙ abort_replay t x u k.kept there my_runs.sound my_runs.kept) in
+      let all : Some c ≡ Some (committed_objects t x) = done ∙ my_runs.committed in
+      let is : Some o ≡ Some (live_objects t y) = sym replayed ∙ (ap (λ (s : Option Objects). replay t (words_of_each k.kept (opened_without u k.live)) s) all ∙ abort_replay t x u k.kept (opened_without u k.live) there my_runs.sound (without_is u) my_runs.kept) in
       let after : Shows t told was v m y = running_shows t told was v m y running my_going (record {
         sound = abort_stays t x u there my_runs.sound;
-        committed = my_runs.committed;
+        committed = all;
         objects = cc;
         live = without_is u;
-        kept = kept_but u k.kept (open_entries x.so_far) my_runs.kept ∙ ap (λ (es : List Event). map done_by (filter is_kept es)) (sym (open_aborted x u));
+        kept = subst (λ (es : List Event). AreSaid left es) (sym (open_aborted x u)) (kept_but u left k.kept (open_entries x.so_far) others my_runs.kept);
         held = ap (λ (hs : List (Hold Resource)). released u hs) my_runs.held;
         next = my_runs.next;
         answered = my_runs.answered;
@@ -546,28 +599,29 @@ module _ (t : Operations) (told : Bool) (was : disk.State) (v : disk.View) (k : 
     force_breaks w1 w mid m halted risen is_mid holds1 call1 same1 call2 fits = commit_fails w m halted risen fits (commit_moments (stopped_at stops.Disk) w1 w mid refl refl is_mid holds1 call1 same1 call2)
 
     -- it is durable
-    pub commits : (o : Objects) (w1 w : disk.View) (mid new : Tail) → replay t (words_of_all (lines_chosen true l.transaction k.kept)) (Some k.committed) ≡ Some o
+    pub commits : (o : Objects) (due : List (List ℕ)) (left : ℕ → List (List ℕ)) (w1 w : disk.View) (mid new : Tail) → replay t due (Some o) ≡ replay t (k.due ++ k.kept l.transaction) (Some k.committed) → ((u : ℕ) → left u ≡ cond (u == l.transaction) [] (k.kept u))
         → mid ≡ appended k.log commit_record → tail_of mid ≡ end_of k.log commit_record → new ≡ forced mid
         → HoldsAfter told v w1 k.log mid commit_record → MomentsOf told v w1 k.log → Elsewhere told v w1 k.log
         → ((ds ps : List Numbered) → IsTrue told → Holds w1 mid ds ps → Holds w new (ds ++ ps) []) → MomentsOf told w1 w mid → Elsewhere told w1 w mid
         → (LOG_END < end_of k.log commit_record → ⊥)
-        → Goes t told was v k x (Of name Commit) (Said Done) w (record k { committed = o; live = opened_without l.transaction k.live; kept = lines_chosen false l.transaction k.kept; held = released l.transaction k.held; log = new })
-    commits o w1 w mid new replayed is_mid tail is_new holds1 call1 same1 holds2 call2 same2 fits =
+        → Goes t told was v k x (Of name Commit) (Said Done) w (record k { committed = o; due = due; live = opened_without l.transaction k.live; kept = left; held = released l.transaction k.held; log = new })
+    commits o due left w1 w mid new replayed others is_mid tail is_new holds1 call1 same1 holds2 call2 same2 fits =
         let u : ℕ = l.transaction in
         let y : Run = committed x u in
         let r : Record = commit_record in
-        let m : Core = record k { committed = o; live = opened_without u k.live; kept = lines_chosen false u k.kept; held = released u k.held; log = new } in
+        let m : Core = record k { committed = o; due = due; live = opened_without u k.live; kept = left; held = released u k.held; log = new } in
         let rises : tail_of k.log ≤ tail_of mid = omega (arith, tail-place k.log r, tail) in
         let grows : tail_of mid ≤ tail_of new = omega (arith, tail_forced mid, ap tail_of is_new) in
-        let is : Some o ≡ Some (committed_objects t y) = sym replayed ∙ (ap (λ (s : Objects). replay t (words_of_all (lines_chosen true u k.kept)) (Some s)) my_runs.committed ∙ commit_replay t x u k.kept committer my_runs.sound my_runs.kept) in
+        let is : replay t due (Some o) ≡ Some (committed_objects t y) =
+        replayed ∙ (replay-append t k.due (k.kept u) (Some k.committed) ∙ (ap (λ (s : Option Objects). replay t (k.kept u) s) my_runs.committed ∙ commit_replay t x u (k.kept u) committer my_runs.sound (my_runs.kept u))) in
         let mid_area : mid.area ≡ Log0 = ap (λ (z : Tail). z.area) is_mid ∙ ((appended_place k.log r).0 ∙ my_runs.area) in
         let mid_base : mid.base ≡ 0 = ap (λ (z : Tail). z.base) is_mid ∙ ((appended_place k.log r).1 ∙ my_runs.base) in
         let after : Shows t told was w m y = running_shows t told was w m y running my_going (record {
           sound = commit_stays t x u committer my_runs.sound;
-          committed = cc;
+          committed = is;
           objects = my_runs.objects;
           live = without_is u;
-          kept = kept_but u k.kept (open_entries x.so_far) my_runs.kept ∙ ap (λ (es : List Event). map done_by (filter is_kept es)) (sym (open_committed x u));
+          kept = subst (λ (es : List Event). AreSaid left es) (sym (open_committed x u)) (kept_but u left k.kept (open_entries x.so_far) others my_runs.kept);
           held = ap (λ (hs : List (Hold Resource)). released u hs) my_runs.held;
           next = omega (arith, my_runs.next, rises, grows);
           answered = omega (arith, one_more y refl, my_runs.answered);

@@ -1,28 +1,28 @@
--- Live transactions and kept lines as lists, and what a run has of them.
-use Rattle.std.proofs.Common.{◌≡◌, ℕ, Bool, true, false, cond, not, List, [], ◌∷◌, ◌++◌, map, Option, Some, refl, sym, ap, ◌∙◌, ◌⊎◌, subst}
+-- Live transactions as lists, the lines that are kept of them, and what a run has of them.
+use Rattle.std.proofs.Common.{◌≡◌, ℕ, Bool, true, false, cond, not, List, [], ◌∷◌, ◌++◌, map, Option, Some, refl, sym, ap, ◌∙◌, ◌⊎◌, subst, arith}
 use Rattle.std.proofs.Common.{inl, inr}
 use Rattle.std.specs.Prelude.{◌==◌, ◌&&◌, ◌||◌}
 use Rattle.std.specs.Option.{option_map}
 use Rattle.std.specs.Str.{bytes_eq}
-use Rattle.std.specs.List.{filter, find}
+use Rattle.std.specs.List.{filter, find, flat_map}
 use Rattle.std.proofs.lemmas.Bool.{eqb-true, eqb-false, eq-eqb}
 use Rattle.sg_serial.specs.Machine.{Among, run, Replays}
-use Rattle.sg_serial.specs.Runs.{Live, is_live, is_own, in_order, without, open_entries}
-use Rattle.sg_serial.proofs.Lists.{filter_same, in_filter, filter_both, filter_swap, live-without, live-append, in_order_last}
-use Rattle.sg_serial.proofs.Kept.{and_true, both_true, same_bool}
+use Rattle.sg_serial.specs.Runs.{Live, is_live, is_own, in_order, without, open_entries, AreAbove, AreRising}
+use Rattle.sg_serial.proofs.Lists.{filter_same, in_filter, filter_both, live-without, live-append, in_order_last}
+use Rattle.sg_serial.proofs.Kept.{and_true, both_true, same_bool, not_true}
 use Rattle.sg_serial.proofs.Commute.{or_left, or_right}
 use Rattle.sg_ops.specs.Table.{Table as Operations}
 use Rattle.sg_model.specs.Objects.{Objects}
-use Rattle.sg_model.specs.Verb.{Op}
 use Rattle.sg_model.specs.Step.{step}
 use Rattle.sg_run.specs.Run.{Event, Run, live_named, live_objects, committed_objects, began, committed, aborted}
-use Rattle.sg_run.specs.Kept.{is_kept, kept_ops}
+use Rattle.sg_run.specs.Kept.{kept_ops}
 use Rattle.sg_run.specs.Serial.{IsSound}
 use Rattle.sg_run.proofs.Serial.{commit_stays, abort_stays, serial_run}
 use Rattle.sg_run.proofs.Log.{replay_kept}
 use Rattle.sg_journal.specs.Lines.{op_said}
 use Rattle.sg_journal.specs.Stands.{replay}
-use Rattle.sg_journal.specs.Live.{Opened, KeptLine, live_of, opened_named, with_last, opened_without, lines_chosen, words_of_all, said_by, done_by}
+use Rattle.sg_journal.specs.Live.{Opened, live_of, opened_named, with_last, opened_without, words_of_each}
+use Rattle.sg_journal.proofs.Records.{replay-append}
 use Rattle.sg_journal.proofs.Fronts.{replay-said}
 
 -- live transactions
@@ -129,38 +129,42 @@ open_began x u name none = filter_same (λ e. is_live (began x u name).so_far.li
     not_there : (e : Event) → Among e x.so_far.history → u ≡ e.transaction → ⊥
     not_there e i q = subst (λ (es : List Event). Among e es) none (in_filter (is_own u) e x.so_far.history i (eq-eqb e.transaction u (sym q)))
 
-pub kept_but : (u : ℕ) (ls : List KeptLine) (es : List Event) → map said_by ls ≡ map done_by (filter is_kept es) → map said_by (lines_chosen false u ls) ≡ map done_by (filter is_kept (filter (not_of u) es))
-kept_but u ls es e =
-    map-filter said_by (λ (z : ℕ × Option Op). not (z.0 == u)) ls ∙ (ap (λ (zs : List (ℕ × Option Op)). filter (λ z. not (z.0 == u)) zs) e
-    ∙ (sym (map-filter done_by (λ (z : ℕ × Option Op). not (z.0 == u)) (filter is_kept es)) ∙ ap (λ (fs : List Event). map done_by fs) (filter_swap (not_of u) is_kept es)))
+-- an entry that isn't one's own among those of the others
+none_own : (u : ℕ) (es : List Event) → filter (is_own u) (filter (not_of u) es) ≡ []
+none_own u [] = refl
+none_own u (e ∷ es) = by (filter (not_of u) es) (is_own u e) refl (none_own u es)
+  where
+    by : (rest : List Event) (b : Bool) → is_own u e ≡ b → filter (is_own u) rest ≡ [] → filter (is_own u) (cond (not b) (e ∷ rest) rest) ≡ []
+    by rest true q none = none
+    by rest false q none = ap (λ b. cond b (e ∷ filter (is_own u) rest) (filter (is_own u) rest)) q ∙ none
 
-pub kept_of : (u : ℕ) (ls : List KeptLine) (es : List Event) → map said_by ls ≡ map done_by (filter is_kept es) → map said_by (lines_chosen true u ls) ≡ map done_by (filter is_kept (filter (is_own u) es))
-kept_of u ls es e =
-    map-filter said_by (λ (z : ℕ × Option Op). z.0 == u) ls ∙ (ap (λ (zs : List (ℕ × Option Op)). filter (λ z. z.0 == u) zs) e
-    ∙ (sym (map-filter done_by (λ (z : ℕ × Option Op). z.0 == u) (filter is_kept es)) ∙ ap (λ (fs : List Event). map done_by fs) (filter_swap (is_own u) is_kept es)))
+-- those of another one are all there
+others_own : (u v : ℕ) (es : List Event) → (v == u) ≡ false → filter (is_own v) (filter (not_of u) es) ≡ filter (is_own v) es
+others_own u v es q =
+    filter_both (is_own v) (not_of u) es ∙ filter_same (λ e. is_own v e && not_of u e) (is_own v) es
+    (λ e i. same_bool (is_own v e && not_of u e) (is_own v e) (λ h. (and_true (is_own v e) (not_of u e) h).0) (λ h. both_true (is_own v e) (not_of u e) h (not_own e h)))
+  where
+    not_own : (e : Event) → is_own v e ≡ true → not_of u e ≡ true
+    not_own e h = ap (λ (n : ℕ). not (n == u)) (eqb-true e.transaction v h) ∙ ap (λ b. not b) q
 
-ops_of_lines : (ls : List KeptLine) → map op_said (words_of_all ls) ≡ map (λ (z : ℕ × Option Op). z.1) (map said_by ls)
-ops_of_lines [] = refl
-ops_of_lines (l ∷ ls) = ap (λ (os : List (Option Op)). op_said l.words ∷ os) (ops_of_lines ls)
+-- of each transaction the lines are kept that say its operations
+abbrev pub AreSaid : (ℕ → List (List ℕ)) → List Event → Type 0
+AreSaid words es = (u : ℕ) → map op_said (words u) ≡ map Some (kept_ops (filter (is_own u) es))
 
-ops_of_events : (es : List Event) → map (λ (z : ℕ × Option Op). z.1) (map done_by es) ≡ map Some (map (λ e. e.op) es)
-ops_of_events [] = refl
-ops_of_events (e ∷ es) = ap (λ (os : List (Option Op)). Some e.op ∷ os) (ops_of_events es)
+pub kept_but : (u : ℕ) (left words : ℕ → List (List ℕ)) (es : List Event) → ((v : ℕ) → left v ≡ cond (v == u) [] (words v)) → AreSaid words es → AreSaid left (filter (not_of u) es)
+kept_but u left words es is kept v = by (v == u) refl
+  where
+    by : (b : Bool) → (v == u) ≡ b → map op_said (left v) ≡ map Some (kept_ops (filter (is_own v) (filter (not_of u) es)))
+    by true q =
+        ap (λ (ws : List (List ℕ)). map op_said ws) (is v ∙ ap (λ b. cond b [] (words v)) q)
+        ∙ sym (ap (λ (fs : List Event). map Some (kept_ops fs)) (subst (λ (w : ℕ). filter (is_own v) (filter (not_of w) es) ≡ []) (eqb-true v u q) (none_own v es)))
+    by false q =
+        ap (λ (ws : List (List ℕ)). map op_said ws) (is v ∙ ap (λ b. cond b [] (words v)) q)
+        ∙ (kept v ∙ ap (λ (fs : List Event). map Some (kept_ops fs)) (sym (others_own u v es q)))
 
 -- lines that are kept of entries leave what the entries leave
-pub replay_lines : (t : Operations) (s : Objects) (ls : List KeptLine) (es : List Event) → map said_by ls ≡ map done_by (filter is_kept es) → Replays (step t) s es → replay t (words_of_all ls) (Some s) ≡ Some (run (step t) s es)
-replay_lines t s ls es e h =
-    replay-said t (words_of_all ls) (kept_ops es) (Some s) (ops_of_lines ls ∙ (ap (λ (zs : List (ℕ × Option Op)). map (λ (z : ℕ × Option Op). z.1) zs) e ∙ ops_of_events (filter is_kept es))) ∙ replay_kept t s es h
-
--- so the other lines over the committed objects leave what an abort leaves
-pub abort_replay : (t : Operations) (x : Run) (u : ℕ) (ls : List KeptLine) → is_live x.so_far.live u ≡ true → IsSound t x → map said_by ls ≡ map done_by (filter is_kept (open_entries x.so_far))
-    → replay t (words_of_all (lines_chosen false u ls)) (Some (committed_objects t x)) ≡ Some (live_objects t (aborted x u))
-abort_replay t x u ls there k e =
-    let y = serial_run t (aborted x u) (abort_stays t x u there k) in
-    let es : List Event = filter (not_of u) (open_entries x.so_far) in
-    let replays : Replays (step t) (committed_objects t x) es = subst (λ (fs : List Event). Replays (step t) (committed_objects t x) fs) (open_aborted x u) y.open_replies in
-    replay_lines t (committed_objects t x) (lines_chosen false u ls) es (kept_but u ls (open_entries x.so_far) e) replays
-    ∙ ap Some (ap (λ (fs : List Event). run (step t) (committed_objects t x) fs) (sym (open_aborted x u)) ∙ sym y.objects)
+pub replay_lines : (t : Operations) (s : Objects) (words : List (List ℕ)) (es : List Event) → map op_said words ≡ map Some (kept_ops es) → Replays (step t) s es → replay t words (Some s) ≡ Some (run (step t) s es)
+replay_lines t s words es e h = replay-said t words (kept_ops es) (Some s) e ∙ replay_kept t s es h
 
 Replays-back : (t : Operations) (s : Objects) (xs ys : List Event) → Replays (step t) s (xs ++ ys) → Replays (step t) (run (step t) s xs) ys
 Replays-back t s [] ys h = h
@@ -172,16 +176,65 @@ own_open x u there = filter_both (is_own u) (λ e. is_live x.so_far.live e.trans
     (λ h. (and_true (is_own u e) (is_live x.so_far.live e.transaction) h).0)
     (λ h. both_true (is_own u e) (is_live x.so_far.live e.transaction) h (ap (λ (v : ℕ). is_live x.so_far.live v) (eqb-true e.transaction u h) ∙ there)))
 
--- and its own ones what its commit leaves
-pub commit_replay : (t : Operations) (x : Run) (u : ℕ) (ls : List KeptLine) → is_live x.so_far.live u ≡ true → IsSound t x → map said_by ls ≡ map done_by (filter is_kept (open_entries x.so_far))
-    → replay t (words_of_all (lines_chosen true u ls)) (Some (committed_objects t x)) ≡ Some (committed_objects t (committed x u))
-commit_replay t x u ls there k e =
+-- so the lines of a transaction over the committed objects leave what its commit leaves
+pub commit_replay : (t : Operations) (x : Run) (u : ℕ) (words : List (List ℕ)) → is_live x.so_far.live u ≡ true → IsSound t x → map op_said words ≡ map Some (kept_ops (filter (is_own u) (open_entries x.so_far)))
+    → replay t words (Some (committed_objects t x)) ≡ Some (committed_objects t (committed x u))
+commit_replay t x u words there k e =
     let own : List Event = filter (is_own u) (open_entries x.so_far) in
     let all = (serial_run t (committed x u) (commit_stays t x u there k)).replies in
     let back : Replays (step t) (committed_objects t x) (filter (is_own u) x.so_far.history) = Replays-back t x.so_far.first (in_order x.so_far.commits) (filter (is_own u) x.so_far.history)
     (subst (λ (es : List Event). Replays (step t) x.so_far.first es) (in_order_last x.so_far.commits (filter (is_own u) x.so_far.history)) all) in
     let replays : Replays (step t) (committed_objects t x) own = subst (λ (es : List Event). Replays (step t) (committed_objects t x) es) (sym (own_open x u there)) back in
-    replay_lines t (committed_objects t x) (lines_chosen true u ls) own (kept_of u ls (open_entries x.so_far) e) replays ∙ ap Some (sym ((serial_run t x k).adds u there))
+    replay_lines t (committed_objects t x) words own e replays ∙ ap Some (sym ((serial_run t x k).adds u there))
+
+-- a live transaction that is gone, and those that are left of some in the order of their numbers
+left_above : (u : ℕ) (ls : List Live) → AreAbove u ls → without u ls ≡ ls
+left_above u [] h = refl
+left_above u (l ∷ ls) h = by (l.transaction == u) refl (left_above u ls h.1)
+  where
+    by : (b : Bool) → (l.transaction == u) ≡ b → without u ls ≡ ls → cond (not b) (l ∷ without u ls) (without u ls) ≡ l ∷ ls
+    by true q rest = absurd (let same : l.transaction ≡ u = eqb-true l.transaction u q in omega (arith, same, h.0))
+    by false q rest = ap (λ (ms : List Live). l ∷ ms) rest
+
+without_first : (l : Live) (ls : List Live) → AreAbove l.transaction ls → without l.transaction (l ∷ ls) ≡ ls
+without_first l ls h = ap (λ b. cond (not b) (l ∷ without l.transaction ls) (without l.transaction ls)) (eq-eqb l.transaction l.transaction refl) ∙ left_above l.transaction ls h
+
+-- The lines of all live transactions, one whole transaction after another, leave the objects as they are now: it is as if
+-- each of them committed
+pub all_replay : (t : Operations) (words : ℕ → List (List ℕ)) (ls : List Live) (x : Run) → x.so_far.live ≡ ls → IsSound t x
+    → ((u : ℕ) → is_live x.so_far.live u ≡ true → map op_said (words u) ≡ map Some (kept_ops (filter (is_own u) (open_entries x.so_far))))
+    → replay t (flat_map (λ (l : Live). words l.transaction) ls) (Some (committed_objects t x)) ≡ Some (live_objects t x)
+all_replay t words [] x e k kept = ap Some (sym ((serial_run t x k).alone (λ u. ap (λ (ms : List Live). is_live ms u) e)))
+all_replay t words (l ∷ ls) x e k kept =
+    let u : ℕ = l.transaction in
+    let y : Run = committed x u in
+    let there : is_live x.so_far.live u ≡ true = ap (λ (ms : List Live). is_live ms u) e ∙ or_left (l.transaction == u) (is_live ls u) (eq-eqb u u refl) in
+    let rising : AreRising (l ∷ ls) = subst (λ (ms : List Live). AreRising ms) e k.serial.rising in
+    let rest : y.so_far.live ≡ ls = ap (λ (ms : List Live). without u ms) e ∙ without_first l ls rising.0 in
+    replay-append t (words u) (flat_map (λ (m : Live). words m.transaction) ls) (Some (committed_objects t x))
+    ∙ (ap (λ (s : Option Objects). replay t (flat_map (λ (m : Live). words m.transaction) ls) s) (commit_replay t x u (words u) there k (kept u there))
+    ∙ all_replay t words ls y rest (commit_stays t x u there k) still_kept)
+  where
+    still_kept : (v : ℕ) → is_live (without l.transaction x.so_far.live) v ≡ true → map op_said (words v) ≡ map Some (kept_ops (filter (is_own v) (open_entries (committed x l.transaction).so_far)))
+    still_kept v i =
+        let both = and_true (is_live x.so_far.live v) (not (v == l.transaction)) (sym (live-without l.transaction x.so_far.live v) ∙ i) in
+        kept v both.0 ∙ ap (λ (fs : List Event). map Some (kept_ops fs)) (sym (ap (λ (es : List Event). filter (is_own v) es) (open_committed x l.transaction) ∙ others_own l.transaction v (open_entries x.so_far) (not_true (v == l.transaction) both.1)))
+
+each_mapped : (words : ℕ → List (List ℕ)) (ls : List Opened) → words_of_each words ls ≡ flat_map (λ (l : Live). words l.transaction) (map live_of ls)
+each_mapped words [] = refl
+each_mapped words (l ∷ ls) = ap (λ (ws : List (List ℕ)). words l.transaction ++ ws) (each_mapped words ls)
+
+-- so those of the others over the committed objects leave what an abort leaves
+pub abort_replay : (t : Operations) (x : Run) (u : ℕ) (words : ℕ → List (List ℕ)) (ls : List Opened) → is_live x.so_far.live u ≡ true → IsSound t x → without u x.so_far.live ≡ map live_of ls → AreSaid words (open_entries x.so_far)
+    → replay t (words_of_each words ls) (Some (committed_objects t x)) ≡ Some (live_objects t (aborted x u))
+abort_replay t x u words ls there k others kept =
+    ap (λ (ws : List (List ℕ)). replay t ws (Some (committed_objects t x))) (each_mapped words ls)
+    ∙ all_replay t words (map live_of ls) (aborted x u) others (abort_stays t x u there k) left
+  where
+    left : (v : ℕ) → is_live (without u x.so_far.live) v ≡ true → map op_said (words v) ≡ map Some (kept_ops (filter (is_own v) (open_entries (aborted x u).so_far)))
+    left v i =
+        let both = and_true (is_live x.so_far.live v) (not (v == u)) (sym (live-without u x.so_far.live v) ∙ i) in
+        kept v ∙ ap (λ (fs : List Event). map Some (kept_ops fs)) (sym (ap (λ (es : List Event). filter (is_own v) es) (open_aborted x u) ∙ others_own u v (open_entries x.so_far) (not_true (v == u) both.1)))
 
 -- the last of some, or one of those before
 pub among_last : {A : Type 0} (xs : List A) (y x : A) → Among x (xs ++ y ∷ []) → Among x xs ⊎ (x ≡ y)

@@ -71,7 +71,7 @@ module _ (tb : Operations) where
 
   -- a store that has just opened
   abbrev pub opened_core : Objects → Tail → Core
-  opened_core objects log = record { committed = objects; objects = objects; live = []; kept = []; held = []; stopped = None; log = log }
+  opened_core objects log = record { committed = objects; due = []; objects = objects; live = []; kept = λ u. []; held = []; stopped = None; log = log }
 
   none_apart : (rs : List Record) → AreApart rs []
   none_apart [] = tt
@@ -100,7 +100,7 @@ module _ (tb : Operations) where
           committed = refl;
           objects = refl;
           live = refl;
-          kept = refl;
+          kept = λ u. refl;
           held = refl;
           next = omega arith;
           answered = refl;

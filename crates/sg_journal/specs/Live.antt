@@ -1,11 +1,8 @@
--- Live transactions, and the lines that are kept of them.
-use Rattle.std.specs.Prelude.{ℕ, Bool, true, false, not, ◌==◌, cond, List, [], map, Option, Some}
-use Rattle.std.specs.List.{filter, find}
+-- Live transactions, and the words of the lines that are kept of them.
+use Rattle.std.specs.Prelude.{ℕ, not, ◌==◌, cond, List, [], map, Option}
+use Rattle.std.specs.List.{filter, find, flat_map}
 use Rattle.std.specs.Str.{bytes_eq}
 use Rattle.sg_serial.specs.Runs.{Live}
-use Rattle.sg_model.specs.Verb.{Op}
-use Rattle.sg_run.specs.Run.{Event}
-use Rattle.sg_journal.specs.Lines.{op_said}
 
 -- a live transaction: its name, its number, and the number of its last record
 pub record Opened : Type 0 where
@@ -31,27 +28,6 @@ with_last transaction last live = map (λ l. cond (l.transaction == transaction)
 abbrev pub opened_without : ℕ → List Opened → List Opened
 opened_without transaction live = filter (λ l. not (l.transaction == transaction)) live
 
--- a line of a live transaction that the log keeps
-pub record KeptLine : Type 0 where
-  pub transaction : ℕ
-  pub words : List ℕ
-
--- whether a line is one of a transaction, or one of the others
-abbrev pub is_chosen : Bool → ℕ → KeptLine → Bool
-is_chosen true transaction l = l.transaction == transaction
-is_chosen false transaction l = not (l.transaction == transaction)
-
--- the lines of a transaction, or those of the others
-abbrev pub lines_chosen : Bool → ℕ → List KeptLine → List KeptLine
-lines_chosen own transaction lines = filter (is_chosen own transaction) lines
-
-abbrev pub words_of_all : List KeptLine → List (List ℕ)
-words_of_all lines = map (λ l. l.words) lines
-
--- whose line it is, and the operation that it says
-abbrev pub said_by : KeptLine → ℕ × Option Op
-said_by line = (line.transaction, op_said line.words)
-
--- whose entry it is, and its operation
-abbrev pub done_by : Event → ℕ × Option Op
-done_by e = (e.transaction, Some e.op)
+-- the words of the lines that are kept of these transactions, one whole transaction after another
+abbrev pub words_of_each : (ℕ → List (List ℕ)) → List Opened → List (List ℕ)
+words_of_each words live = flat_map (λ l. words l.transaction) live

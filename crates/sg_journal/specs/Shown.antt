@@ -1,5 +1,9 @@
 -- The code's values as definitions speak of them.
-use Rattle.std.specs.Prelude.{◌≡◌, ◌==◌, if◌then◌else◌, ℕ, List, map, Some, Ok, Err}
+use Rattle.std.specs.Prelude.{◌≡◌, ◌<◌, ◌==◌, if◌then◌else◌, ℕ, List, [], length, map, Option, Some, None, Ok, Err, vec_capacity}
+use Rattle.std.specs.Ordering.{nat_cmp}
+use Rattle.std.specs.BTreeMap.{get}
+use Rattle.std.specs.declared.vec.Vec.{Vec}
+use Rattle.std.specs.declared.alloc.Global.{Global}
 use Rattle.sg_model.specs.declared.stop.Stop.{Stop}
 use Rattle.sg_model.specs.declared.stop.Stop.TheVariants as stops
 use Rattle.sg_model.specs.Verb.{Outcome}
@@ -16,7 +20,8 @@ use Rattle.sg_journal.specs.declared.opening.OpenRefused as code_refused
 use Rattle.sg_journal.specs.declared.opening.OpenRefused.TheVariants as refusals
 use Rattle.sg_journal.specs.declared.live.Running as code_running
 use Rattle.sg_journal.specs.declared.line.Kept as code_kept
-use Rattle.sg_journal.specs.Live.{Opened, KeptLine, opened_numbered}
+use Rattle.sg_journal.specs.declared.kept_lines.KeptLines as code_lines
+use Rattle.sg_journal.specs.Live.{Opened, opened_numbered}
 
 abbrev pub opened_of : code_running.Running → Opened
 opened_of r = record { name = r.name; transaction = r.txn.0; last = r.last }
@@ -28,11 +33,24 @@ all_opened live = map opened_of live
 abbrev pub renewed_of : ℕ → ℕ → code_running.Running → code_running.Running
 renewed_of transaction last r = if r.txn.0 == transaction then record r { last = last } else r
 
-abbrev pub kept_of : code_kept.Kept → KeptLine
-kept_of line = record { transaction = line.txn.0; words = line.words.items }
+abbrev pub words_of_lines : List code_kept.Kept → List (List ℕ)
+words_of_lines lines = map (λ l. l.words.items) lines
 
-abbrev pub all_kept : List code_kept.Kept → List KeptLine
-all_kept lines = map kept_of lines
+abbrev pub words_or_none : Option (Vec code_kept.Kept Global) → List (List ℕ)
+words_or_none None = []
+words_or_none (Some lines) = words_of_lines lines.items
+
+-- the words of the lines that are kept of a transaction
+abbrev pub words_in : code_lines.KeptLines → ℕ → List (List ℕ)
+words_in lines transaction = words_or_none (get nat_cmp lines.map transaction)
+
+abbrev pub FitsOneMore : Option (Vec code_kept.Kept Global) → Type 0
+FitsOneMore None = ⊥
+FitsOneMore (Some lines) = length lines.items < vec_capacity lines
+
+-- there is room for one more line of a transaction
+abbrev pub HasRoom : code_lines.KeptLines → ℕ → Type 0
+HasRoom lines transaction = FitsOneMore (get nat_cmp lines.map transaction)
 
 -- what is answered where the log fails, and why the store stops then
 abbrev pub answer_at : LogFault → code_answer.Answer

@@ -1,11 +1,11 @@
 -- What a store over a disk shows of a run.
-use Rattle.std.specs.Prelude.{◌≡◌, ◌+◌, ◌≤◌, Bool, IsTrue, List, [], ◌++◌, length, map, Option, None}
+use Rattle.std.specs.Prelude.{◌≡◌, ◌+◌, ◌≤◌, ℕ, Bool, IsTrue, List, [], ◌++◌, length, map, Option, Some, None}
 use Rattle.std.specs.List.{filter}
 use Rattle.sg_base.specs.declared.area.Area.TheVariants.{Log0}
 use Rattle.sg_disk.specs.Disk as disk
 use Rattle.sg_serial.specs.Machine.{Among}
 use Rattle.sg_serial.specs.Locks.{Hold}
-use Rattle.sg_serial.specs.Runs.{open_entries}
+use Rattle.sg_serial.specs.Runs.{is_own, open_entries}
 use Rattle.sg_ops.specs.Table.{Table as Operations}
 use Rattle.sg_model.specs.declared.stop.Stop.{Stop}
 use Rattle.sg_model.specs.Objects.{Objects}
@@ -14,21 +14,22 @@ use Rattle.sg_log.specs.Following.{last_of, AreChained}
 use Rattle.sg_log.specs.Frames.{GREATEST_BODY, Numbered, records_of, SameElsewhere}
 use Rattle.sg_log.specs.Held.{Tail, tail_of, Holds}
 use Rattle.sg_run.specs.Run.{Run, live_objects, committed_objects}
-use Rattle.sg_run.specs.Kept.{is_kept}
+use Rattle.sg_run.specs.Kept.{kept_ops}
 use Rattle.sg_run.specs.Serial.{IsSound}
-use Rattle.sg_journal.specs.Lines.{commits_in}
-use Rattle.sg_journal.specs.Live.{Opened, KeptLine, live_of, said_by, done_by}
-use Rattle.sg_journal.specs.Stands.{StandsForFirst}
+use Rattle.sg_journal.specs.Lines.{op_said, commits_in}
+use Rattle.sg_journal.specs.Live.{Opened, live_of}
+use Rattle.sg_journal.specs.Stands.{replay, StandsForFirst}
 use Rattle.sg_journal.specs.Logs.{Logs}
 
--- A store without its disk: the objects after the committed transactions, and as they are now; the live transactions in
--- order of begin, their changing lines that got a reply in order, and what they hold; why the store has stopped, if it
--- has; and its log
+-- A store without its disk: the objects after the first committed lines, the words of the committed lines behind these,
+-- and the objects as they are now; the live transactions in order of begin, the words of the changing lines of each that
+-- got a reply, and what they hold; why the store has stopped, if it has; and its log
 pub record Core : Type 0 where
   pub committed : Objects
+  pub due : List (List ℕ)
   pub objects : Objects
   pub live : List Opened
-  pub kept : List KeptLine
+  pub kept : ℕ → List (List ℕ)
   pub held : List (Hold Resource)
   pub stopped : Option Stop
   pub log : Tail
@@ -48,10 +49,10 @@ pub record Keeps (t : Operations) (v : disk.View) (k : Core) (x : Run) : Type 0 
 -- A store that isn't stopped shows the run. The areas that it doesn't use are in this state
 pub record Runs (t : Operations) (told : Bool) (was : disk.State) (v : disk.View) (k : Core) (x : Run) : Type 0 where
   pub sound : IsSound t x
-  pub committed : k.committed ≡ committed_objects t x
+  pub committed : replay t k.due (Some k.committed) ≡ Some (committed_objects t x)
   pub objects : k.objects ≡ live_objects t x
   pub live : x.so_far.live ≡ map live_of k.live
-  pub kept : map said_by k.kept ≡ map done_by (filter is_kept (open_entries x.so_far))
+  pub kept : (u : ℕ) → map op_said (k.kept u) ≡ map Some (kept_ops (filter (is_own u) (open_entries x.so_far)))
   pub held : k.held ≡ x.so_far.held
   pub next : x.so_far.next ≤ tail_of k.log
   pub answered : x.so_far.answered ≡ length x.so_far.commits

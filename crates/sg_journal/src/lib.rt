@@ -11,6 +11,7 @@ mod found;
 mod found_line;
 mod hold;
 mod kept;
+mod kept_lines;
 mod law;
 mod line;
 mod lines;
@@ -23,3 +24,6 @@ pub use law::fronts_stand;
 pub use live::MOST_LIVE;
 pub use opening::{OpenRefused, Unopened};
 pub use store::Store;
+
+#[cfg(test)]
+mod tests;

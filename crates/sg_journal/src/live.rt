@@ -33,8 +33,8 @@ fn is_named(r: &Running, name: Name) -> bool
     name == r.name
 }
 
-// Whether the transaction has this number.
-fn is_numbered(r: &Running, txn: TxnId) -> bool
+/// Whether the transaction has this number.
+pub fn is_numbered(r: &Running, txn: TxnId) -> bool
     ensures { result ≡ (opened_of r.now).transaction == txn.0 }
 {
     r.txn == txn
@@ -60,6 +60,13 @@ impl Live {
             Ok(all) => Ok(Live { all }),
             Err(_) => Err(OutOfMemory),
         }
+    }
+
+    /// All of them, in order of begin.
+    pub fn all(&self) -> &[Running]
+        ensures { result.now ≡ self.now.all.items }
+    {
+        self.all.as_slice()
     }
 
     /// The transaction with this name.

@@ -1,4 +1,4 @@
-ghost use Rattle.std.specs.Prelude.{◌≡◌, ◌≤◌, ◌<◌, ◌++◌, ◌∷◌, [], vec_capacity, List, ℕ, length, IfOk, IfErr, IsSome, OnOk, IsTrue, Some, None, true, false};
+ghost use Rattle.std.specs.Prelude.{◌≡◌, ◌≤◌, ◌==◌, ◌++◌, ◌∷◌, [], List, ℕ, length, IfOk, IfErr, IsSome, OnOk, IsTrue, Some, None, if◌then◌else◌};
 ghost use Rattle.sg_base.specs.Ends.{HasRisen};
 ghost use Rattle.sg_disk.specs.Disk.{LeavesOnly, State as DiskState};
 ghost use Rattle.sg_ops.specs.Table.{Table as Operations, table_of};
@@ -19,17 +19,20 @@ ghost use Rattle.sg_log.specs.Held.{Holds, tail_of, place_of, end_of, appended, 
 ghost use Rattle.sg_run.specs.Run.{Run};
 ghost use Rattle.sg_journal.specs.Store.{Shows};
 ghost use Rattle.sg_journal.specs.Goes.{Goes, Grows, Heeds, NEW_WORK_END};
-ghost use Rattle.sg_journal.specs.Live.{Opened, opened_without, with_last, lines_chosen};
-ghost use Rattle.sg_journal.specs.Shown.{all_opened, kept_of, all_kept, answer_at, stop_at, IsReasonOr};
+ghost use Rattle.sg_journal.specs.Live.{opened_without, with_last};
+ghost use Rattle.sg_journal.specs.Shown.{all_opened, words_of_lines, words_in, HasRoom, answer_at, stop_at, IsReasonOr};
 ghost use Rattle.sg_journal.specs.Opening.{Opens, StaysShut};
 ghost use Rattle.sg_journal.specs.Seen.{core_of};
 
 use crate::hold::hold;
-use crate::kept::{folded, line_of};
+use crate::kept::{folded, line_of, queue, settle};
+use crate::kept_lines::KeptLines;
 use crate::line::Kept;
 use crate::live::{Live, Running};
 use crate::opening::{OpenRefused, Unopened};
 use crate::replay::read_back;
+#[cfg(test)]
+use sg_base::Lsn;
 use sg_base::{Area, Name, OutOfMemory, TxnId};
 use sg_disk::Disk;
 use sg_locks::Locks;
@@ -40,6 +43,7 @@ use sg_plain::Objects;
 use sg_record::plain::Rec;
 use sg_words::{Answer, Asked, Request, parse_request};
 use std::alloc::Global;
+use std::collections::VecDeque;
 
 /// No new work begins once the log's tail is above this byte: 2^62.
 const NEW_WORK_END: u64 = 1 << 62;
@@ -57,26 +61,25 @@ pub struct Store<D: Disk> {
     log: Log,
     locks: Locks,
     live: Live,
-    // the changing lines of the live transactions that got a reply, in order
-    kept: Vec<Kept>,
-    // the objects after the committed transactions, and as the live ones have left them
+    // the changing lines of each live transaction that got a reply, in order
+    kept: KeptLines,
+    // the objects after the committed lines but for the last ones, which are due to them
     committed: Objects,
+    due: VecDeque<Kept>,
+    // the objects as the live transactions have left them
     objects: Objects,
     stop: Option<Stop>,
 }
 
-// What a store has in memory beside the committed objects: no live transactions, no locks, no lines, and
-// the objects as they are now.
-fn room_for(
-    alloc: Global,
-    committed: &Objects,
-) -> Result<(Live, Locks, Vec<Kept>, Objects), OutOfMemory>
-    ensures { IfOk result (λ p. (all_opened p.0.all.items ≡ []) × (p.1 ≡ []) × (all_kept p.2.items ≡ []) × (p.3 ≡ committed.now)) }
+// What a store has in memory beside the committed objects: no live transactions, no locks, and the
+// objects as they are now.
+fn room_for(alloc: Global, committed: &Objects) -> Result<(Live, Locks, Objects), OutOfMemory>
+    ensures { IfOk result (λ p. (all_opened p.0.all.items ≡ []) × (p.1 ≡ []) × (p.2 ≡ committed.now)) }
 {
     let live = Live::new(alloc)?;
     let locks = Locks::new(alloc)?;
     let objects = committed.copy()?;
-    Ok((live, locks, Vec::new(alloc), objects))
+    Ok((live, locks, objects))
 }
 
 impl<D: Disk> Store<D> {
@@ -97,13 +100,14 @@ impl<D: Disk> Store<D> {
         }
         match read_back(alloc, ops, &mut disk) {
             Ok((log, committed)) => match room_for(alloc, &committed) {
-                Ok((live, locks, kept, objects)) => Ok(Store {
+                Ok((live, locks, objects)) => Ok(Store {
                     disk,
                     log,
                     locks,
                     live,
-                    kept,
+                    kept: KeptLines::new(alloc),
                     committed,
+                    due: VecDeque::new(alloc),
                     objects,
                     stop: None,
                 }),
@@ -134,6 +138,7 @@ impl<D: Disk> Store<D> {
             live,
             kept,
             committed,
+            due,
             objects,
             stop: _,
         } = self;
@@ -142,6 +147,7 @@ impl<D: Disk> Store<D> {
         drop(live);
         drop(kept);
         drop(committed);
+        drop(due);
         drop(objects);
         disk
     }
@@ -200,19 +206,24 @@ impl<D: Disk> Store<D> {
         }
     }
 
-    // A transaction is no more: nothing is kept of it, and it holds nothing.
-    fn forget(&mut self, txn: TxnId)
-        ensures core { core_of self.new ≡ record (core_of self.old) { live = opened_without txn.0 (core_of self.old).live; kept = lines_chosen false txn.0 (core_of self.old).kept; held = released txn.0 (core_of self.old).held } }
+    // A transaction is no more, and it holds nothing. Its lines are handed out.
+    fn forget(&mut self, alloc: Global, txn: TxnId) -> Vec<Kept>
+        ensures core { core_of self.new ≡ record (core_of self.old) { live = opened_without txn.0 (core_of self.old).live; kept = words_in self.new.kept; held = released txn.0 (core_of self.old).held } }
+        ensures left { (u : ℕ) → words_in self.new.kept u ≡ (if u == txn.0 then [] else words_in self.old.kept u) }
+        ensures lines { words_of_lines result.items ≡ words_in self.old.kept txn.0 }
+        ensures due { self.new.due ≡ self.old.due }
+        ensures committed { self.new.committed ≡ self.old.committed }
         ensures disk { self.new.disk ≡ self.old.disk }
         ensures log { self.new.log ≡ self.old.log }
+        ensures stop { self.new.stop ≡ self.old.stop }
     {
         self.live.remove(txn);
-        self.kept.retain(|line| line.txn != txn);
         self.locks.release(txn);
+        self.kept.take(alloc, txn)
     }
 
-    /// Takes back what the transaction with this name did, if it is live: its lines are left out of a
-    /// copy of the committed objects, and it is no more. After `Memory` nothing has changed.
+    /// Takes back what the transaction with this name did, if it is live, and it is no more. The lines of
+    /// the others are done over a copy of the committed objects. After `Memory` nothing has changed.
     pub fn abort(
         &mut self,
         alloc: Global,
@@ -232,26 +243,38 @@ impl<D: Disk> Store<D> {
         let Some(live) = self.live.named(name) else {
             return Answer::NoTransaction;
         };
+        match settle(
+            alloc,
+            ops,
+            &mut self.committed,
+            &mut self.due,
+            scratch,
+            into,
+        ) {
+            Ok(()) => {}
+            Err(OutOfMemory) => return Answer::Memory,
+        }
         match folded(
             alloc,
             ops,
             &self.committed,
+            self.live.all(),
             &self.kept,
             live.txn,
-            false,
             scratch,
             into,
         ) {
             Ok(objects) => self.objects = objects,
             Err(OutOfMemory) => return Answer::Memory,
         }
-        self.forget(live.txn);
+        drop(self.forget(alloc, live.txn));
         Answer::Said(Reply::Done)
     }
 
-    /// Makes durable what the transaction with this name did, if it is live, and it is no more. The
-    /// committed objects are made anew before its record is appended. After `Memory` nothing has
-    /// changed; after `Disk` and `LogEnd` the store has stopped.
+    /// Makes durable what the transaction with this name did, if it is live, and it is no more. Its lines
+    /// are then done to the committed objects, as far as memory goes, and the others later. After
+    /// `Memory`, which comes before anything is appended, nothing has changed; after `Disk` and `LogEnd`
+    /// the store has stopped.
     pub fn commit(
         &mut self,
         alloc: Global,
@@ -279,19 +302,11 @@ impl<D: Disk> Store<D> {
         if self.log.place(&record) + COMMIT_BYTES > LOG_END {
             return self.halt(LogFault::LogEnd);
         }
-        let committed = match folded(
-            alloc,
-            ops,
-            &self.committed,
-            &self.kept,
-            live.txn,
-            true,
-            scratch,
-            into,
-        ) {
-            Ok(committed) => committed,
-            Err(OutOfMemory) => return Answer::Memory,
-        };
+        let count = self.kept.of(live.txn).len();
+        match self.due.reserve(count) {
+            Ok(()) => {}
+            Err(_) => return Answer::Memory,
+        }
         match self.log.append(&mut self.disk, &record) {
             Ok(_) => {}
             Err(fault) => return self.halt(fault),
@@ -300,8 +315,17 @@ impl<D: Disk> Store<D> {
             Ok(()) => {}
             Err(fault) => return self.halt(fault),
         }
-        self.committed = committed;
-        self.forget(live.txn);
+        let lines = self.forget(alloc, live.txn);
+        queue(&mut self.due, lines);
+        // those for which there is no memory now are done by a later commit or abort
+        let _ = settle(
+            alloc,
+            ops,
+            &mut self.committed,
+            &mut self.due,
+            scratch,
+            into,
+        );
         Answer::Said(Reply::Done)
     }
 
@@ -317,10 +341,11 @@ impl<D: Disk> Store<D> {
 
     // Appends the line of an operation that was done to the log, and keeps it.
     fn keep(&mut self, live: Running, line: Kept) -> Result<(), LogFault>
-        requires { length self.old.kept.items < vec_capacity self.old.kept }
+        requires { HasRoom self.old.kept live.txn.0 }
         ensures log { OnOk result (self.new.log ≡ appended self.old.log (LineRecord live.txn.0 live.last line.words.items)) }
         ensures tail { OnOk result (tail_of self.new.log ≡ end_of self.old.log (LineRecord live.txn.0 live.last line.words.items)) }
-        ensures core { OnOk result (core_of self.new ≡ record (core_of self.old) { live = with_last live.txn.0 (place_of self.old.log (LineRecord live.txn.0 live.last line.words.items)) (core_of self.old).live; kept = (core_of self.old).kept ++ kept_of line ∷ []; log = self.new.log }) }
+        ensures core { OnOk result (core_of self.new ≡ record (core_of self.old) { live = with_last live.txn.0 (place_of self.old.log (LineRecord live.txn.0 live.last line.words.items)) (core_of self.old).live; kept = words_in self.new.kept; log = self.new.log }) }
+        ensures kept { (u : ℕ) → OnOk result (words_in self.new.kept u ≡ words_in self.old.kept u ++ (if live.txn.0 == u then line.words.items ∷ [] else [])) }
         ensures range { IsRecord (LineRecord live.txn.0 live.last line.words.items) }
         ensures faults { IfErr result (λ e. AppendFails (end_of self.old.log (LineRecord live.txn.0 live.last line.words.items)) (D.view self.old.disk) (D.view self.new.disk) e) }
         ensures holds { (ds ps : List Numbered) → IsTrue D.told → Holds (D.view self.old.disk) self.old.log ds ps →
@@ -342,7 +367,7 @@ impl<D: Disk> Store<D> {
         match self.log.append(&mut self.disk, &record) {
             Ok(last) => {
                 self.live.set_last(live.txn, last);
-                self.kept.push_reserved(line);
+                self.kept.add(live.txn, line);
                 Ok(())
             }
             Err(fault) => Err(fault),
@@ -494,5 +519,34 @@ impl<D: Disk> Store<D> {
                 }
             }
         }
+    }
+}
+
+#[cfg(test)]
+impl<D: Disk + Drop> Store<D> {
+    /// A store without objects over this log, with a live transaction or none. Opening begins the log's
+    /// numbers at 0, so no test reaches their end by it.
+    pub(crate) fn over(
+        alloc: Global,
+        disk: D,
+        log: Log,
+        live: Option<(Name, TxnId, Lsn)>,
+    ) -> Result<Store<D>, OutOfMemory> {
+        let committed = Objects::empty(alloc);
+        let (mut all, locks, objects) = room_for(alloc, &committed)?;
+        if let Some((name, txn, last)) = live {
+            all.add(name, txn, last);
+        }
+        Ok(Store {
+            disk,
+            log,
+            locks,
+            live: all,
+            kept: KeptLines::new(alloc),
+            committed,
+            due: VecDeque::new(alloc),
+            objects,
+            stop: None,
+        })
     }
 }

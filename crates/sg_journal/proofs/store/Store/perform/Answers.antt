@@ -1,17 +1,18 @@
-use Rattle.std.proofs.Common.{◌≡◌, ◌++◌, ◌∷◌, [], ◌≤◌, inl, inr, ℕ, List, Ok, Err, refl, sym, ap, ◌∙◌, arith}
-use Rattle.sg_serial.specs.Locks.{Hold, hold_all}
+use mathlib.Core.Path.{fun_ext}
+use Rattle.std.proofs.Common.{◌≡◌, ◌==◌, ◌++◌, ◌∷◌, [], ◌≤◌, inl, inr, ℕ, List, Ok, Err, cond, refl, sym, ap, ◌∙◌, arith}
+use Rattle.sg_serial.specs.Locks.{Hold}
 use Rattle.sg_model.specs.Objects.{Objects}
 use Rattle.sg_model.specs.SaidOps.{said_op}
 use Rattle.sg_model.specs.SaidReplies.{said_reply}
 use Rattle.sg_model.specs.Verb.{Op, Outcome}
-use Rattle.sg_model.specs.Touches.{Resource, touches, same_resource}
+use Rattle.sg_model.specs.Touches.{Resource}
 use Rattle.sg_record.specs.Plain.Record.{Line as LineRecord}
 use Rattle.sg_words.specs.declared.answer.Answer as code_answer
 use Rattle.sg_words.specs.Answered.{shown_answer}
 use Rattle.sg_log.specs.Held.{Tail, tail_of, place_of}
 use Rattle.sg_journal.specs.Lines.{op_said}
-use Rattle.sg_journal.specs.Live.{Opened, KeptLine, with_last}
-use Rattle.sg_journal.specs.Shown.{opened_of, kept_of, all_kept, answer_at}
+use Rattle.sg_journal.specs.Live.{Opened, with_last}
+use Rattle.sg_journal.specs.Shown.{opened_of, words_in, answer_at}
 use Rattle.sg_journal.specs.Store.{Core}
 use Rattle.sg_journal.specs.Seen.{core_of}
 use Rattle.sg_journal.specs.Goes.{NEW_WORK_END}
@@ -76,7 +77,7 @@ returns-in-Err-line_of-clause-goes g c was x shows =
     let op : Op = said_op c.args.op.now in
     let l : Opened = opened_of c.in-Some.live in
     let h = locked _ g.D.Disk.told was v k x shows c.requires.running l.transaction op _ c.hold.new.locks c.touches-touches.ensures c.in-Ok.ensures.granted c.in-Ok.ensures.after in
-    goes_along _ _ _ v _ _ refl refl (ap (λ (ls : List KeptLine). record k { held = c.hold.new.locks; kept = ls }) (ap all_kept c.in-Err-line_of.ensures.same))
+    goes_along _ _ _ v _ _ refl refl (ap (λ (f : ℕ → List (List ℕ)). record k { held = c.hold.new.locks; kept = f }) (fun_ext c.in-Err-line_of.ensures.same))
     (short_or _ g.D.Disk.told was v k x shows c.requires.running c.args.name op l (sym c.in-Some.ensures) c.hold.new.locks h c.refuse-in-Err-line_of.result c.args.into.now
     (sym (changing_same c.args.op.now) ∙ (sym c.is_changing.ensures ∙ c.if-not-is_changing.false)) (omega (arith, c.tail.ensures, c.if-tail-gt-NEW_WORK_END.false)) c.refuse-in-Err-line_of.ensures)
 
@@ -87,7 +88,7 @@ returns-in-Ok-Err-apply-clause-goes g c was x shows =
     let op : Op = said_op c.args.op.now in
     let l : Opened = opened_of c.in-Some.live in
     let h = locked _ g.D.Disk.told was v k x shows c.requires.running l.transaction op _ c.hold.new.locks c.touches-touches.ensures c.in-Ok.ensures.granted c.in-Ok.ensures.after in
-    goes_along _ _ _ v _ _ refl refl (ap (λ (ls : List KeptLine). record k { held = c.hold.new.locks; objects = c.apply-2.new.self; kept = ls }) (ap all_kept c.in-Ok-line_of.ensures.same))
+    goes_along _ _ _ v _ _ refl refl (ap (λ (f : ℕ → List (List ℕ)). record k { held = c.hold.new.locks; objects = c.apply-2.new.self; kept = f }) (fun_ext c.in-Ok-line_of.ensures.same))
     (unchanged _ g.D.Disk.told was v k x shows c.requires.running c.args.name op l (sym c.in-Some.ensures) c.hold.new.locks h (Err c.in-Ok-Err-apply.reason) c.apply-2.new.self
     (rw c.in-Ok-Err-apply.field-0-is at c.in-Ok-Err-apply.ensures.done) (inl refl))
 
@@ -99,7 +100,7 @@ returns-in-Err-apply-2-clause-goes g c was x shows =
     let l : Opened = opened_of c.in-Some.live in
     let low : tail_of k.log ≤ NEW_WORK_END = omega (arith, c.tail.ensures, c.if-tail-gt-NEW_WORK_END.false) in
     let h = locked _ g.D.Disk.told was v k x shows c.requires.running l.transaction op _ c.hold.new.locks c.touches-touches.ensures c.in-Ok.ensures.granted c.in-Ok.ensures.after in
-    goes_along _ _ _ v _ _ refl refl (ap (λ (ls : List KeptLine). record k { held = c.hold.new.locks; objects = c.apply-2.new.self; kept = ls }) (ap all_kept c.in-Ok-line_of.ensures.same))
+    goes_along _ _ _ v _ _ refl refl (ap (λ (f : ℕ → List (List ℕ)). record k { held = c.hold.new.locks; objects = c.apply-2.new.self; kept = f }) (fun_ext c.in-Ok-line_of.ensures.same))
     (starved _ g.D.Disk.told was v k x shows c.requires.running c.args.name op l (sym c.in-Some.ensures) c.hold.new.locks h c.apply-2.new.self c.in-Err-apply-2.ensures.memory c.in-Err-apply-2.ensures.cause (λ work. low) c.in-Err-apply-2.ensures.err)
 
 pub returns-in-Ok-keep-clause-goes : goal.returns-in-Ok-keep-clause-goes
@@ -116,17 +117,13 @@ returns-in-Ok-keep-clause-goes g c was x shows =
     let changing = sym (changing_same c.args.op.now) ∙ (sym c.is_changing.ensures ∙ c.if-not-is_changing.false) in
     let e = rw c.in-Ok-Ok-apply.field-0-is at c.in-Ok-Ok-apply.ensures.done in
     let h = locked _ g.D.Disk.told was v k x shows c.requires.running l.transaction op _ c.hold.new.locks c.touches-touches.ensures c.in-Ok.ensures.granted c.in-Ok.ensures.after in
-    let says = ap op_said (ap (λ (q : KeptLine). q.words) c.in-Ok-line_of.ensures.words) ∙ op_said-spoken c.args.text.now c.args.name c.args.op.now c.requires.said in
-    let line : KeptLine = record { transaction = l.transaction; words = words } in
-    let is_line : kept_of c.in-Ok-line_of.line ≡ line = ap (λ (n : ℕ). record { transaction = n; words = words }) (ap (λ (q : KeptLine). q.transaction) c.in-Ok-line_of.ensures.words) in
+    let says = ap op_said c.in-Ok-line_of.ensures.words ∙ op_said-spoken c.args.text.now c.args.name c.args.op.now c.requires.said in
     let live : List Opened = with_last l.transaction last k.live in
-    let held : List (Hold Resource) = hold_all same_resource l.transaction (touches k.objects op) k.held in
-    let core = c.in-Ok-keep.ensures.core
-    ∙ (ap (λ (hs : List (Hold Resource)). record k { held = hs; objects = o; live = live; kept = all_kept c.line_of.new.kept.items ++ kept_of c.in-Ok-line_of.line ∷ []; log = new }) h.is
-    ∙ (ap (λ (ls : List KeptLine). record k { held = held; objects = o; live = live; kept = ls ++ kept_of c.in-Ok-line_of.line ∷ []; log = new }) (ap all_kept c.in-Ok-line_of.ensures.same)
-    ∙ ap (λ (q : KeptLine). record k { held = held; objects = o; live = live; kept = k.kept ++ q ∷ []; log = new }) is_line)) in
+    let kept : ℕ → List (List ℕ) = words_in c.keep.new.self.kept in
+    let more : (u : ℕ) → kept u ≡ k.kept u ++ cond (l.transaction == u) (words ∷ []) [] = λ u. c.in-Ok-keep.ensures.kept u ∙ ap (λ (ws : List (List ℕ)). ws ++ cond (l.transaction == u) (words ∷ []) []) (c.in-Ok-line_of.ensures.same u) in
+    let core = c.in-Ok-keep.ensures.core ∙ ap (λ (hs : List (Hold Resource)). record k { held = hs; objects = o; live = live; kept = kept; log = new }) h.is in
     goes_along _ _ _ _ _ _ refl refl core
-    (op_logged _ g.D.Disk.told was v k x shows c.requires.running c.args.name op l (sym c.in-Some.ensures) h.free h.few (said_reply c.apply-2.new.into c.in-Ok-Ok-apply.reply) o (g.D.Disk.view c.keep.new.self.disk) new words
+    (op_logged _ g.D.Disk.told was v k x shows c.requires.running c.args.name op l (sym c.in-Some.ensures) h.free h.few (said_reply c.apply-2.new.into c.in-Ok-Ok-apply.reply) o (g.D.Disk.view c.keep.new.self.disk) new words kept more
     (sym (ap (λ (p : Outcome × Objects). p.1) e)) (ap (λ (p : Outcome × Objects). p.0) e) changing says c.keep.ensures.range low c.in-Ok-keep.ensures.log c.in-Ok-keep.ensures.tail c.in-Ok-keep.ensures.holds c.keep.ensures.any_moment c.in-Ok-keep.ensures.elsewhere)
 
 pub returns-in-Err-keep-clause-goes : goal.returns-in-Err-keep-clause-goes
