@@ -1,13 +1,15 @@
 ghost use Rattle.std.specs.Prelude.{◌≡◌, ◌≢◌, ◌↔◌, ℕ, true, false};
 ghost use Rattle.std.specs.IoError.{error_kind};
 ghost use Rattle.std.specs.Process.{exit_status};
+ghost use Rattle.sg_ops.specs.Table.{shipped_table};
 ghost use Rattle.sg_top.specs.Top.{are_run, outside, HasGone};
 ghost use Rattle.sg_main.specs.Texts.{number_of};
 
 use crate::status::{Shown, exit_number};
 use sg_base::{Sink, Source};
 use sg_disk::Disk;
-use sg_top::{Finish, Status, stasis};
+use sg_ops::Ops;
+use sg_top::{Finish, Status, is_run, stasis};
 use std::alloc::Global;
 use std::io::{self, Eprint, ErrorKind};
 use std::marker::Model;
@@ -30,7 +32,8 @@ impl Model for Ended {
 }
 
 impl Ended {
-    /// Does what the words say over this disk, and keeps how `stasis` ended.
+    /// Does what the words say over this disk, with the shipped operations, and keeps how `stasis` ended.
+    /// Without the memory for these no run begins.
     pub fn of_run<D: Disk + Drop, S: Source, K: Sink>(
         alloc: Global,
         words: &[String],
@@ -40,14 +43,22 @@ impl Ended {
     ) -> Ended
         ensures usage { result ≡ Status.Usage ↔ are_run words.now ≡ false }
         // Some disk was left, and so many calls of it were refused.
-        ensures run { are_run words.now ≡ true → (after : D) × (refused : ℕ) × HasGone D.told (outside (D.view disk) (S.left script.old) (S.faults script.old) (K.taken out.old) (K.faults out.old))
+        ensures run { are_run words.now ≡ true → (after : D) × (refused : ℕ) × HasGone shipped_table D.told (outside (D.view disk) (S.left script.old) (S.faults script.old) (K.taken out.old) (K.faults out.old))
             (outside (D.view after) (S.left script.new) (S.faults script.new) (K.taken out.new) (K.faults out.new)) refused result }
     {
+        let Ok(ops) = Ops::shipped(alloc) else {
+            let status = if is_run(words) {
+                Status::Memory
+            } else {
+                Status::Usage
+            };
+            return Ended { status };
+        };
         let Finish {
             status: ended,
             disk: _,
             refused: _,
-        } = stasis(alloc, words, disk, script, out);
+        } = stasis(alloc, ops, words, disk, script, out);
         Ended { status: ended }
     }
 

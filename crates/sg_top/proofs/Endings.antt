@@ -1,37 +1,38 @@
 -- What a run tells.
-use Rattle.std.proofs.Common.{◌≡◌, ◌⊎◌, inl, inr, ⊎_elim, ℕ, zero, suc, ◌+◌, ◌<◌, ◌≤◌, ◌||◌, Bool, false, cond, IsTrue, List, [], Option, Some, None, is_none, IfSome, length, refl, sym, ap, ◌∙◌, subst, arith, length-append}
+use Rattle.std.proofs.Common.{◌≡◌, ◌⊎◌, inl, inr, ⊎_elim, ℕ, zero, suc, ◌+◌, ◌<◌, ◌≤◌, ◌||◌, Bool, false, cond, IsTrue, List, [], Option, Some, None, is_none, IfSome, ◌++◌, length, refl, sym, ap, ◌∙◌, subst, arith, length-append}
 use Rattle.sg_base.specs.Ends.{HasRisen}
 use Rattle.sg_disk.specs.Disk as disk
 use Rattle.sg_disk.proofs.Moments as moments
+use Rattle.sg_ops.specs.Table.{Table as Operations}
 use Rattle.sg_model.specs.declared.stop.Stop.{Stop}
 use Rattle.sg_model.specs.declared.stop.Stop.TheVariants as stops
 use Rattle.sg_model.specs.Objects.{Objects}
-use Rattle.sg_model.specs.History.{State, start, committed_objects, objects_after}
-use Rattle.sg_words.specs.Order.{Order}
-use Rattle.sg_words.specs.Order.Order.{Txn}
-use Rattle.sg_words.specs.Order.Verb.{Commit}
-use Rattle.sg_words.specs.Run.{Lines}
-use Rattle.sg_words.specs.Text.{Answer}
-use Rattle.sg_words.proofs.Steps.{all_caused-weaker}
-use Rattle.sg_log.proofs.Following.{chained-front}
+use Rattle.sg_words.specs.Requests.{Asked}
+use Rattle.sg_words.specs.Requests.Asked.{Of}
+use Rattle.sg_words.specs.Requests.Request.{Commit}
+use Rattle.sg_words.specs.Answers.{Answer}
 use Rattle.sg_log.proofs.Holding.{holds_seen}
-use Rattle.sg_top.specs.declared.opening.OpenRefused as code_refused
-use Rattle.sg_top.specs.declared.opening.OpenRefused.TheVariants as refusals
+use Rattle.sg_run.specs.Run.{Run, start, Lines, objects_after, committed_objects}
+use Rattle.sg_journal.specs.declared.opening.OpenRefused as code_refused
+use Rattle.sg_journal.specs.declared.opening.OpenRefused.TheVariants as refusals
+use Rattle.sg_journal.specs.Stands.{OthersAsIn, StandsFor, StandsForFirst}
+use Rattle.sg_journal.specs.Store.{Core, Runs}
+use Rattle.sg_journal.specs.Opening.{Opens, StaysShut, IsRefusedFor, IsQuietFor, reads_of}
+use Rattle.sg_journal.proofs.Opened.{at_log0}
+use Rattle.sg_journal.proofs.Nothing.{stands_not}
+use Rattle.sg_journal.proofs.Standing.{after_commits, stands_either}
 use Rattle.sg_top.specs.declared.script.RunEnd as code_end
 use Rattle.sg_top.specs.declared.script.RunEnd.TheVariants as ends
 use Rattle.sg_top.specs.declared.status.Status as code_status
 use Rattle.sg_top.specs.declared.status.Status.TheVariants as statuses
-use Rattle.sg_top.specs.Stands.{OthersAsIn, StandsFor, StandsForFirst}
-use Rattle.sg_top.specs.Store.{Core, Runs}
 use Rattle.sg_top.specs.Script.{acknowledged, HasRead, MayBeFull}
 use Rattle.sg_top.specs.Ending.{MOST_BYTES, AreExecuted, HasCause, TookBy, RunsTo}
-use Rattle.sg_top.specs.Opening.{Opens, StaysShut, IsRefusedFor, IsQuietFor, reads_of}
 use Rattle.sg_top.specs.Statuses.{status_of, status_of_end, status_of_stop, status_of_refusal, first_fault}
 use Rattle.sg_top.specs.Top.{Outside, at_first, at_end, Course, IsHeard, Ran, NeverRan, HasGone, Tells, IsUnhindered, Completes}
+use Rattle.sg_top.proofs.Lines.{all_caused-weaker}
 use Rattle.sg_top.proofs.Acknowledged.{all_but_one, all_but_last, StopCause, stop_cause}
-use Rattle.sg_top.proofs.Opened.{at_log0, nothing_stands}
-use Rattle.sg_top.proofs.Serial.{after_commits}
-use Rattle.sg_top.proofs.Standing.{stands}
+use Rattle.sg_top.proofs.Rooms.{alone}
+use Rattle.sg_top.proofs.Serial.{throughout}
 
 -- what holds at two views holds at equal ones
 pub along : (P : disk.View → disk.View → Type 0) (v was w is : disk.View) → was ≡ v → is ≡ w → P was is → P v w
@@ -64,16 +65,16 @@ ended_memory end (Some stops.Disk) h = cc h
 ended_memory end (Some stops.LogEnd) h = cc h
 
 -- where all commits were answered, an image stands for the objects after all of them
-all_stand : (was : disk.State) (x : State) (c : disk.Image) → x.answered ≡ length x.commits → StandsForFirst was x.answered x c → StandsFor c (committed_objects x)
-all_stand was x c all h =
-    let whole : h.commits ≡ length x.commits = omega (arith, h.enough, h.most, all) in
-    subst (StandsFor c) (ap (λ (n : ℕ). objects_after n x) whole ∙ after_commits x) h.stands
+all_stand : (t : Operations) (was : disk.State) (x : Run) (c : disk.Image) → x.so_far.answered ≡ length x.so_far.commits → StandsForFirst t was x.so_far.answered x c → StandsFor t c (committed_objects t x)
+all_stand t was x c all h =
+    let whole : h.commits ≡ length x.so_far.commits = omega (arith, h.enough, h.most, all) in
+    subst (StandsFor t c) (ap (λ (n : ℕ). objects_after t n x) whole ∙ after_commits t x) h.stands
 
 -- and so does what reads give
-read_stands : (told : Bool) (was : disk.State) (w : disk.View) (k : Core) (x : State) → Runs told was w k x → IsTrue told → StandsFor (reads_of w) (committed_objects x)
-read_stands told was w k x r is_told =
+read_stands : (t : Operations) (told : Bool) (was : disk.State) (w : disk.View) (k : Core) (x : Run) → Runs t told was w k x → IsTrue told → StandsFor t (reads_of w) (committed_objects t x)
+read_stands t told was w k x r is_told =
     let kept = r.keeps is_told in
-    stands (reads_of w) (committed_objects x) k.log.gate kept.durable (at_log0 w k.log kept.durable r.area r.base (holds_seen kept.holds)) (chained-front [] kept.durable kept.waiting kept.chained) kept.logs.durable
+    stands_either kept r.sound (reads_of w) (inl (at_log0 t w k.log (kept.old ++ kept.new) r.area r.base (holds_seen kept.holds)))
 
 -- the answers that the sink took whole
 heard_of : (end : code_end.RunEnd) (first now : Option (List ℕ)) (answers : List Answer) → TookBy end first now answers → List Answer
@@ -89,22 +90,22 @@ is_heard ends.Read first now answers took = (refl, took)
 is_heard ends.TooLong first now answers took = (refl, took)
 is_heard ends.Write first now answers took = (took, refl)
 
-heard_bound : (end : code_end.RunEnd) (first now : Option (List ℕ)) (lines : List (List ℕ)) (answers : List Answer) (x y : State) → Lines x lines answers y → (took : TookBy end first now answers)
-    → length y.commits ≤ length x.commits + acknowledged lines (heard_of end first now answers took) + 1
+heard_bound : (t : Operations) (end : code_end.RunEnd) (first now : Option (List ℕ)) (lines : List (List ℕ)) (answers : List Answer) (x y : Run) → Lines t x lines answers y → (took : TookBy end first now answers)
+    → length y.so_far.commits ≤ length x.so_far.commits + acknowledged lines (heard_of end first now answers took) + 1
 unfolding heard_of
-heard_bound ends.Done first now lines answers x y h took = all_but_one lines answers x y h
-heard_bound ends.Read first now lines answers x y h took = all_but_one lines answers x y h
-heard_bound ends.TooLong first now lines answers x y h took = all_but_one lines answers x y h
-heard_bound ends.Write first now lines answers x y h took = all_but_last lines took.told took.last x y (subst (λ (a : List Answer). Lines x lines a y) took.all h)
+heard_bound t ends.Done first now lines answers x y h took = all_but_one t lines answers x y h
+heard_bound t ends.Read first now lines answers x y h took = all_but_one t lines answers x y h
+heard_bound t ends.TooLong first now lines answers x y h took = all_but_one t lines answers x y h
+heard_bound t ends.Write first now lines answers x y h took = all_but_last t lines took.told took.last x y (subst (λ (a : List Answer). Lines t x lines a y) took.all h)
 
 -- an image of the opening, as a prefix of the run's commits
-opening_stands : (was : disk.State) (first : Objects) (y : State) (c : disk.Image) → y.first ≡ first → StandsFor c first × OthersAsIn was c → StandsForFirst was 0 y c
-opening_stands was first y c same h = record { commits = 0; enough = omega arith; most = omega arith; stands = subst (StandsFor c) (sym same) h.0; others = h.1 }
+opening_stands : (t : Operations) (was : disk.State) (first : Objects) (y : Run) (c : disk.Image) → y.so_far.first ≡ first → StandsFor t c first × OthersAsIn was c → StandsForFirst t was 0 y c
+opening_stands t was first y c same h = record { commits = 0; enough = omega arith; most = omega arith; stands = subst (StandsFor t c) (sym same) h.0; others = h.1 }
 
 -- a run that began
-module _ (told : Bool) (old new : Outside) (refused : ℕ) (status : code_status.Status) (u : disk.View) (k m : Core) (end : code_end.RunEnd) (cause : HasCause end old.source_faults new.source_faults old.sink_faults new.sink_faults)
+module _ (t : Operations) (told : Bool) (old new : Outside) (refused : ℕ) (status : code_status.Status) (u : disk.View) (k m : Core) (end : code_end.RunEnd) (cause : HasCause end old.source_faults new.source_faults old.sink_faults new.sink_faults)
     (status_is : status ≡ status_of end m.stopped) where
-  ran_here : (opens : Opens told (at_first old) u k) → RunsTo end told old.disk.now u k (start opens.first) old.left new.left old.taken new.taken (at_end new refused) m → Ran told old new refused status
+  ran_here : (opens : Opens t told (at_first old) u k) → RunsTo end t told old.disk.now u k (start opens.first) old.left new.left old.taken new.taken (at_end new refused) m → Ran t told old new refused status
   ran_here opens runs =
       let done = runs.executed in
       let after = done.after in
@@ -135,14 +136,14 @@ module _ (told : Bool) (old new : Outside) (refused : ℕ) (status : code_status
         };
         exit = record {
           images = done.shows.images;
-          one_more = omega (arith, heard_bound end old.taken new.taken runs.lines done.answers (start opens.first) after done.goes done.took);
+          one_more = omega (arith, heard_bound t end old.taken new.taken runs.lines done.answers (start opens.first) after done.goes done.took);
         };
         moments = λ is_told.
             let opening = opens.moments is_told in
             record {
               one_call = opening.one_call;
               before = opening.before;
-              behind = moments.joined (moments.weaker opening.behind (λ c h. opening_stands old.disk.now opens.first after c done.first h)) (done.moments is_told);
+              behind = moments.joined (moments.weaker opening.behind (λ c h. opening_stands t old.disk.now opens.first after c done.first h)) (done.moments is_told);
             };
         done = λ is.
             let e = ended_done end m.stopped (sym status_is ∙ is) in
@@ -151,23 +152,24 @@ module _ (told : Bool) (old new : Outside) (refused : ℕ) (status : code_status
               executed = subst (λ (z : code_end.RunEnd). AreExecuted z old.left runs.text runs.lines) e.0 runs.ended;
               took = subst (λ (z : code_end.RunEnd). TookBy z old.taken new.taken done.answers) e.0 done.took;
               answered = running.answered;
-              reads = read_stands told old.disk.now (at_end new refused) m after running;
-              images = λ is_told c leaves. all_stand old.disk.now after c running.answered (done.shows.images is_told c leaves);
+              reads = read_stands t told old.disk.now (at_end new refused) m after running;
+              images = λ is_told c leaves. all_stand t old.disk.now after c running.answered (done.shows.images is_told c leaves);
             };
+        serial = throughout t run;
         status_is = status_is ∙ ap (status_of end) done.shows.stopped;
       }
     where
-      handed : (o : Order) → MayBeFull k.log.gate u (at_end new refused) o → MayBeFull k.log.gate (at_first old) (at_end new refused) o
+      handed : (o : Asked) → MayBeFull k.log.gate u (at_end new refused) o → MayBeFull k.log.gate (at_first old) (at_end new refused) o
       handed o (inl counted) = inl counted
       handed o (inr high) = inr (omega (arith, high, opens.handed))
 
-  pub ran_of : (v w : disk.View) → v ≡ at_first old → w ≡ at_end new refused → (opens : Opens told v u k) → RunsTo end told v.now u k (start opens.first) old.left new.left old.taken new.taken w m → Ran told old new refused status
-  ran_of v w e f = along (λ a b. (opens : Opens told a u k) → RunsTo end told a.now u k (start opens.first) old.left new.left old.taken new.taken b m → Ran told old new refused status) v (at_first old) w (at_end new refused) (sym e) (sym f) ran_here
+  pub ran_of : (v w : disk.View) → v ≡ at_first old → w ≡ at_end new refused → (opens : Opens t told v u k) → RunsTo end t told v.now u k (start opens.first) old.left new.left old.taken new.taken w m → Ran t told old new refused status
+  ran_of v w e f = along (λ a b. (opens : Opens t told a u k) → RunsTo end t told a.now u k (start opens.first) old.left new.left old.taken new.taken b m → Ran t told old new refused status) v (at_first old) w (at_end new refused) (sym e) (sym f) ran_here
 
 -- a run that didn't begin
-pub never_of : (told : Bool) (old new : Outside) (refused : ℕ) (status : code_status.Status) (why : code_refused.OpenRefused) → new.left ≡ old.left → new.taken ≡ old.taken → (new.source_faults ≡ old.source_faults) × (new.sink_faults ≡ old.sink_faults) → status ≡ status_of_refusal why
-    → StaysShut told (at_first old) (at_end new refused) why → NeverRan told old new refused status
-never_of told old new refused status why unread unwritten quiet is shut = record {
+pub never_of : (t : Operations) (told : Bool) (old new : Outside) (refused : ℕ) (status : code_status.Status) (why : code_refused.OpenRefused) → new.left ≡ old.left → new.taken ≡ old.taken → (new.source_faults ≡ old.source_faults) × (new.sink_faults ≡ old.sink_faults) → status ≡ status_of_refusal why
+    → StaysShut t told (at_first old) (at_end new refused) why → NeverRan t told old new refused status
+never_of t told old new refused status why unread unwritten quiet is shut = record {
   why = why;
   reason = shut.reason;
   unread = unread;
@@ -179,18 +181,15 @@ never_of told old new refused status why unread unwritten quiet is shut = record
 }
 
 -- one for which not even the first memory was there
-pub never_began : (told : Bool) (old : Outside) → NeverRan told old old 0 statuses.Memory
-never_began told old = record {
+pub never_began : (t : Operations) (told : Bool) (old : Outside) → NeverRan t told old old 0 statuses.Memory
+never_began t told old = record {
   why = refusals.Memory;
   reason = tt;
   unread = refl;
   unwritten = refl;
   quiet = (refl, refl);
   unhanded = refl;
-  moments = λ is_told. record {
-    moments = moments.started (at_first old) (disk.Leaves old.disk.now) (λ c leaves. leaves);
-    settled = inl (record { one_call = omega arith; failed = inl refl });
-  };
+  moments = λ is_told. alone t (at_first old);
   status_is = refl;
 }
 
@@ -204,45 +203,45 @@ long_text : (source left : Option (List ℕ)) (got : List ℕ) (n : ℕ) → Has
 long_text None left got n h long = tt
 long_text (Some text) left got n h long = let e = ap length h.2 ∙ length-append got h.0 in omega arith
 
-tells_never : (told : Bool) (old new : Outside) (refused : ℕ) (status : code_status.Status) → NeverRan told old new refused status → Tells status told old new refused
-tells_never told old new refused status h = subst (λ (s : code_status.Status). Tells s told old new refused) (sym h.status_is) (by_why h.why h.reason)
+tells_never : (t : Operations) (told : Bool) (old new : Outside) (refused : ℕ) (status : code_status.Status) → NeverRan t told old new refused status → Tells status t told old new refused
+tells_never t told old new refused status h = subst (λ (s : code_status.Status). Tells s t told old new refused) (sym h.status_is) (by_why h.why h.reason)
   where
-    by_why : (why : code_refused.OpenRefused) → IsRefusedFor why told (at_first old) (at_end new refused) → Tells (status_of_refusal why) told old new refused
+    by_why : (why : code_refused.OpenRefused) → IsRefusedFor t why told (at_first old) (at_end new refused) → Tells (status_of_refusal why) t told old new refused
     by_why refusals.DiskFault r = risen_or_refused old.disk.faults new.disk.faults refused r
     by_why refusals.Memory r = (h.unread, h.unwritten)
-    by_why (refusals.Damaged area at) r = (r.0, λ is_told. (r.1 is_told, λ s stand. nothing_stands told (at_first old) (at_end new refused) (refusals.Damaged area at) r area at refl is_told s stand))
+    by_why (refusals.Damaged area at) r = (r.0, λ is_told. (r.1 is_told, λ s stand. stands_not t (reads_of old.disk) s at stand (r.1 is_told)))
 
-tells_ran : (told : Bool) (old new : Outside) (refused : ℕ) (status : code_status.Status) → Ran told old new refused status → Tells status told old new refused
-tells_ran told old new refused status h =
+tells_ran : (t : Operations) (told : Bool) (old new : Outside) (refused : ℕ) (status : code_status.Status) → Ran t told old new refused status → Tells status t told old new refused
+tells_ran t told old new refused status h =
     let run = h.run in
     let o = h.output in
-    let stopped = stop_cause (HasRisen (at_first old).faults (at_end new refused).faults) (MayBeFull run.gate (at_first old) (at_end new refused)) run.lines run.answers (start run.objects) run.after o.goes o.caused tt in
-    subst (λ (s : code_status.Status). Tells s told old new refused) (sym h.status_is)
+    let stopped = stop_cause t (HasRisen (at_first old).faults (at_end new refused).faults) (MayBeFull run.gate (at_first old) (at_end new refused)) run.lines run.answers (start run.objects) run.after o.goes o.caused tt in
+    subst (λ (s : code_status.Status). Tells s t told old new refused) (sym h.status_is)
     (by_end run.end run.after.stopped o.ended o.executed stopped)
   where
     by_end : (end : code_end.RunEnd) (stop : Option Stop) → HasCause end old.source_faults new.source_faults old.sink_faults new.sink_faults → AreExecuted end old.left h.run.text h.run.lines
-        → StopCause (HasRisen (at_first old).faults (at_end new refused).faults) (MayBeFull h.run.gate (at_first old) (at_end new refused)) stop → Tells (status_of end stop) told old new refused
+        → StopCause (HasRisen (at_first old).faults (at_end new refused).faults) (MayBeFull h.run.gate (at_first old) (at_end new refused)) stop → Tells (status_of end stop) t told old new refused
     by_end ends.Done None cause lines stopped = cause
     by_end ends.Read None cause lines stopped = cause.0
     by_end ends.Write None cause lines stopped = cause.1
     by_end ends.TooLong None cause lines stopped = long_text old.left new.left h.run.text MOST_BYTES h.output.read lines.long
     by_end end (Some stops.Disk) cause lines stopped = risen_or_refused old.disk.faults new.disk.faults refused stopped
-    by_end end (Some stops.LogEnd) cause lines stopped = λ is_told name ds gate has. subst (λ (n : ℕ). MayBeFull n old.disk new.disk (Txn name Commit)) (h.output.gate is_told ds gate has) stopped.1
+    by_end end (Some stops.LogEnd) cause lines stopped = λ is_told name ds gate has. subst (λ (n : ℕ). MayBeFull n old.disk new.disk (Of name Commit)) (h.output.gate is_told ds gate has) stopped.1
 
 -- what each status tells follows from how the run went
-pub tells_of : (told : Bool) (old new : Outside) (refused : ℕ) (status : code_status.Status) → HasGone told old new refused status → Tells status told old new refused
-tells_of told old new refused status (inl never) = tells_never told old new refused status never
-tells_of told old new refused status (inr ran) = tells_ran told old new refused status ran
+pub tells_of : (t : Operations) (told : Bool) (old new : Outside) (refused : ℕ) (status : code_status.Status) → HasGone t told old new refused status → Tells status t told old new refused
+tells_of t told old new refused status (inl never) = tells_never t told old new refused status never
+tells_of t told old new refused status (inr ran) = tells_ran t told old new refused status ran
 
 -- a run isn't one of other words
-pub never_usage : (told : Bool) (old new : Outside) (refused : ℕ) (status : code_status.Status) → HasGone told old new refused status → status ≡ statuses.Usage → ⊥
-never_usage told old new refused status gone is = subst (λ (s : code_status.Status). Tells s told old new refused) is (tells_of told old new refused status gone)
+pub never_usage : (t : Operations) (told : Bool) (old new : Outside) (refused : ℕ) (status : code_status.Status) → HasGone t told old new refused status → status ≡ statuses.Usage → ⊥
+never_usage t told old new refused status gone is = subst (λ (s : code_status.Status). Tells s t told old new refused) is (tells_of t told old new refused status gone)
 
 -- and so does how one ends that nothing hinders
-pub completes_of : (told : Bool) (old new : Outside) (refused : ℕ) (status : code_status.Status) → HasGone told old new refused status → IsUnhindered told old new refused → Completes status told old new refused
-completes_of told old new refused status gone u = by_status status gone (tells_of told old new refused status gone)
+pub completes_of : (t : Operations) (told : Bool) (old new : Outside) (refused : ℕ) (status : code_status.Status) → HasGone t told old new refused status → IsUnhindered t told old new refused → Completes status t told old new refused
+completes_of t told old new refused status gone u = by_status status gone (tells_of t told old new refused status gone)
   where
-    by_status : (s : code_status.Status) → HasGone told old new refused s → Tells s told old new refused → Completes s told old new refused
+    by_status : (s : code_status.Status) → HasGone t told old new refused s → Tells s t told old new refused → Completes s t told old new refused
     by_status statuses.Done h t = tt
     by_status statuses.Usage h t = t
     by_status statuses.Memory (inl never) t = (never.unread, never.unwritten, never.unhanded, never.moments)

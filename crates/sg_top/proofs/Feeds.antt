@@ -1,47 +1,61 @@
 -- How a piece of a script is executed.
-use Rattle.std.proofs.Common.{◌≡◌, ◌==◌, inl, inr, ⊎_elim, ℕ, ◌<◌, ◌≤◌, Bool, true, false, nat_le, leb-true, List, [], ◌∷◌, ◌++◌, length, take, Option, refl, sym, ap, ◌∙◌, subst, arith, append_assoc, append-nil}
+use Rattle.std.proofs.Common.{◌≡◌, ◌==◌, inl, inr, ⊎_elim, ℕ, ◌<◌, ◌≤◌, Bool, true, false, cond, nat_le, leb-true, List, [], ◌∷◌, ◌++◌, length, take, Option, refl, sym, ap, ◌∙◌, subst, arith, append_assoc, append-nil}
+use Rattle.std.specs.Prelude.{nat_lt, if◌then◌else◌, slice_index}
+use Rattle.std.specs.Str.Lines.{strip_carriage_return}
 use Rattle.std.proofs.Math.Seq.{take_all}
 use Rattle.std.proofs.lemmas.List.{length-take-le}
 use Rattle.std.proofs.lemmas.Bool.Decides.{nat_tests}
 use Rattle.sg_base.specs.Ends.{Takes, TakesFront}
 use Rattle.sg_disk.specs.Disk as disk
-use Rattle.sg_model.specs.History.{State}
-use Rattle.sg_words.specs.Order.{Order}
-use Rattle.sg_words.specs.Parse.{lines_of, order_of}
+use Rattle.sg_ops.specs.Table.{Table as Operations}
+use Rattle.sg_words.specs.Parse.{lines_of, words_of, most_line_bytes}
 use Rattle.sg_words.specs.Pieces.{behind}
-use Rattle.sg_words.specs.Text.{Answer, text_of}
+use Rattle.sg_words.specs.Requests.{Asked, asked, asked_by}
+use Rattle.sg_words.specs.Requests.Asked.{Blank, Wrong}
+use Rattle.sg_words.specs.Answers.{Answer, text_of}
 use Rattle.sg_words.proofs.Steps.{seam, kept}
 use Rattle.sg_words.proofs.Seams.{behind_nothing}
-use Rattle.sg_words.proofs.Said.{order_of-long}
 use Rattle.sg_log.specs.Held.{Tail}
+use Rattle.sg_run.specs.Run.{Run}
+use Rattle.sg_journal.specs.Store.{Core}
+use Rattle.sg_journal.specs.Goes.{Goes, Grows}
 use Rattle.sg_top.specs.Kept.{MOST_KEPT}
-use Rattle.sg_top.specs.Store.{Core}
-use Rattle.sg_top.specs.Goes.{Goes, Grows}
 use Rattle.sg_top.specs.Script.{TookAll, CutAtLast, Executed}
 use Rattle.sg_top.specs.Feeding.{Before, After, Broken}
 use Rattle.sg_top.proofs.Fronts.{kept_again}
 use Rattle.sg_top.proofs.Executing.{executed-more, takes_more, takes_cut}
 
--- what is kept of a line says what the line says
-pub order_of-kept : (text : List ℕ) → order_of (take MOST_KEPT text) ≡ order_of text
-order_of-kept text = by_length (nat_le (length text) MOST_KEPT) refl
+-- a line that is too long asks for nothing
+asked-long : (line : List ℕ) → most_line_bytes < length line → asked line ≡ Wrong
+unfolding asked
+asked-long line long =
+    let is : nat_lt most_line_bytes (length line) ≡ true = grind (arith, nat_tests, long) in
+    ap (λ b. cond b Wrong (cond (slice_index line 0 == 35) Blank (asked_by (words_of (strip_carriage_return line))))) is
+
+-- what is kept of a line asks for what the line asks for
+pub asked-kept : (text : List ℕ) → asked (take MOST_KEPT text) ≡ asked text
+asked-kept text = by_length (nat_le (length text) MOST_KEPT) refl
   where
-    by_length : (b : Bool) → nat_le (length text) MOST_KEPT ≡ b → order_of (take MOST_KEPT text) ≡ order_of text
-    by_length true e = ap order_of (take_all MOST_KEPT text (leb-true (length text) MOST_KEPT e))
+    by_length : (b : Bool) → nat_le (length text) MOST_KEPT ≡ b → asked (take MOST_KEPT text) ≡ asked text
+    by_length true e = ap asked (take_all MOST_KEPT text (leb-true (length text) MOST_KEPT e))
     by_length false e =
         let long : MOST_KEPT < length text = grind (arith, nat_tests, e) in
         let cut : length (take MOST_KEPT text) ≡ MOST_KEPT = length-take-le MOST_KEPT text (omega arith) in
-        order_of-long (take MOST_KEPT text) (omega arith) ∙ sym (order_of-long text (omega arith))
+        asked-long (take MOST_KEPT text) (omega arith) ∙ sym (asked-long text (omega arith))
+
+-- a line goes as its bytes say, wherever they lie
+pub goes_at : {t : Operations} {told : Bool} {was : disk.State} {v : disk.View} {k : Core} {x : Run} {answer : Answer} {w : disk.View} {m : Core} (here there : List ℕ) → here ≡ there → Goes t told was v k x (asked here) answer w m → Goes t told was v k x (asked there) answer w m
+goes_at {t = t} {told = told} {was = was} {v = v} {k = k} {x = x} {answer = answer} {w = w} {m = m} here there e h = subst (λ (line : List ℕ). Goes t told was v k x (asked line) answer w m) e h
 
 pub grows_on : (a b c : Tail) (u v w : disk.View) → Grows a b u v → Grows b c v w → Grows a c u w
 grows_on a b c u v w h k = record { kept = omega (arith, h.kept, k.kept); grown = ⊎_elim (λ full. inl (omega (arith, full, k.kept))) (λ more. ⊎_elim (λ full. inl full) (λ again. inr (omega (arith, more, again, h.kept, k.kept))) k.grown) h.grown }
 
-module _ (told : Bool) (was : disk.State) (v : disk.View) (k : Core) (x : State) (lines : List (List ℕ)) (first : Option (List ℕ)) (held piece : List ℕ) where
-  pub feed_started : (now : Option (List ℕ)) (w : disk.View) (m : Core) (had : List ℕ) → Before told was v k x lines first now w m held had → After told was v k x lines first now w m held piece piece had
+module _ (t : Operations) (told : Bool) (was : disk.State) (v : disk.View) (k : Core) (x : Run) (lines : List (List ℕ)) (first : Option (List ℕ)) (held piece : List ℕ) where
+  pub feed_started : (now : Option (List ℕ)) (w : disk.View) (m : Core) (had : List ℕ) → Before t told was v k x lines first now w m held had → After t told was v k x lines first now w m held piece piece had
   feed_started now w m had h = record {
     over = [];
     rest = held;
-    so_far = subst (λ (ls : List (List ℕ)). Before told was v k x ls first now w m held had) (sym (append-nil lines)) h;
+    so_far = subst (λ (ls : List (List ℕ)). Before t told was v k x ls first now w m held had) (sym (append-nil lines)) h;
     goes_on = λ after. refl;
   }
 
@@ -51,17 +65,17 @@ module _ (told : Bool) (was : disk.State) (v : disk.View) (k : Core) (x : State)
 
   -- a line is over in the piece
   pub feed_line : (mid now : Option (List ℕ)) (w u : disk.View) (m n : Core) (had more cleared left part after : List ℕ) (answer : Answer)
-      → (a : After told was v k x lines first mid w m held piece left had) → more ≡ take MOST_KEPT (had ++ part) → cleared ≡ [] → ((behind_it : List ℕ) → lines_of (left ++ behind_it) ≡ part ∷ lines_of (after ++ behind_it))
-      → w.faults ≤ u.faults → Grows m.log n.log w u → Goes told was w m a.so_far.executed.after (order_of more) answer u n → Takes mid (text_of answer) now → After told was v k x lines first now u n held piece after cleared
+      → (a : After t told was v k x lines first mid w m held piece left had) → more ≡ take MOST_KEPT (had ++ part) → cleared ≡ [] → ((behind_it : List ℕ) → lines_of (left ++ behind_it) ≡ part ∷ lines_of (after ++ behind_it))
+      → w.faults ≤ u.faults → Grows m.log n.log w u → Goes t told was w m a.so_far.executed.after (asked more) answer u n → Takes mid (text_of answer) now → After t told was v k x lines first now u n held piece after cleared
   feed_line mid now w u m n had more cleared left part after answer a is nothing cut later grown goes takes =
       let line : List ℕ = a.rest ++ part in
-      let said : order_of line ≡ order_of more = sym (order_of-kept line) ∙ ap order_of (sym (kept_part a.rest part had more a.so_far.pending is)) in
-      let done = executed-more told was v k x (lines ++ a.over) _ (TookAll first now) w u m n line answer a.so_far.later later a.so_far.grown grown.kept a.so_far.executed (subst (λ (o : Order). Goes told was w m a.so_far.executed.after o answer u n) (sym said) goes) (takes_more first mid now answer takes) in
+      let said : asked line ≡ asked more = sym (asked-kept line) ∙ ap asked (sym (kept_part a.rest part had more a.so_far.pending is)) in
+      let done = executed-more t told was v k x (lines ++ a.over) _ (TookAll first now) w u m n line answer a.so_far.later later a.so_far.grown grown.kept a.so_far.executed (subst (λ (o : Asked). Goes t told was w m a.so_far.executed.after o answer u n) (sym said) goes) (takes_more first mid now answer takes) in
       record {
         over = a.over ++ line ∷ [];
         rest = [];
         so_far = record {
-          executed = subst (λ (ls : List (List ℕ)). Executed told was v k x ls (TookAll first now) u n) (append_assoc lines a.over (line ∷ [])) done;
+          executed = subst (λ (ls : List (List ℕ)). Executed t told was v k x ls (TookAll first now) u n) (append_assoc lines a.over (line ∷ [])) done;
           later = omega (arith, a.so_far.later, later);
           grown = grows_on k.log m.log n.log v w u a.so_far.grown grown;
           pending = nothing;
@@ -70,8 +84,8 @@ module _ (told : Bool) (was : disk.State) (v : disk.View) (k : Core) (x : State)
       }
 
   -- the piece ends
-  pub feed_ends : (now : Option (List ℕ)) (w : disk.View) (m : Core) (had more left part : List ℕ) → (a : After told was v k x lines first now w m held piece left had) → more ≡ take MOST_KEPT (had ++ part)
-      → ((behind_it : List ℕ) → lines_of (left ++ behind_it) ≡ behind part (lines_of behind_it)) → After told was v k x lines first now w m held piece [] more
+  pub feed_ends : (now : Option (List ℕ)) (w : disk.View) (m : Core) (had more left part : List ℕ) → (a : After t told was v k x lines first now w m held piece left had) → more ≡ take MOST_KEPT (had ++ part)
+      → ((behind_it : List ℕ) → lines_of (left ++ behind_it) ≡ behind part (lines_of behind_it)) → After t told was v k x lines first now w m held piece [] more
   feed_ends now w m had more left part a is cut = record {
     over = a.over;
     rest = a.rest ++ part;
@@ -86,14 +100,14 @@ module _ (told : Bool) (was : disk.State) (v : disk.View) (k : Core) (x : State)
 
   -- the sink fails at the reply of a line
   pub feed_breaks : (mid now : Option (List ℕ)) (w u : disk.View) (m n : Core) (had more left part after : List ℕ) (answer : Answer)
-      → (a : After told was v k x lines first mid w m held piece left had) → more ≡ take MOST_KEPT (had ++ part) → ((behind_it : List ℕ) → lines_of (left ++ behind_it) ≡ part ∷ lines_of (after ++ behind_it))
-      → w.faults ≤ u.faults → Grows m.log n.log w u → Goes told was w m a.so_far.executed.after (order_of more) answer u n → TakesFront mid (text_of answer) now → Broken told was v k x lines first now u n held piece
+      → (a : After t told was v k x lines first mid w m held piece left had) → more ≡ take MOST_KEPT (had ++ part) → ((behind_it : List ℕ) → lines_of (left ++ behind_it) ≡ part ∷ lines_of (after ++ behind_it))
+      → w.faults ≤ u.faults → Grows m.log n.log w u → Goes t told was w m a.so_far.executed.after (asked more) answer u n → TakesFront mid (text_of answer) now → Broken t told was v k x lines first now u n held piece
   feed_breaks mid now w u m n had more left part after answer a is cut later grown goes takes =
       let line : List ℕ = a.rest ++ part in
-      let said : order_of line ≡ order_of more = sym (order_of-kept line) ∙ ap order_of (sym (kept_part a.rest part had more a.so_far.pending is)) in
-      let done = executed-more told was v k x (lines ++ a.over) _ (CutAtLast first now) w u m n line answer a.so_far.later later a.so_far.grown grown.kept a.so_far.executed (subst (λ (o : Order). Goes told was w m a.so_far.executed.after o answer u n) (sym said) goes) (takes_cut first mid now answer takes) in
+      let said : asked line ≡ asked more = sym (asked-kept line) ∙ ap asked (sym (kept_part a.rest part had more a.so_far.pending is)) in
+      let done = executed-more t told was v k x (lines ++ a.over) _ (CutAtLast first now) w u m n line answer a.so_far.later later a.so_far.grown grown.kept a.so_far.executed (subst (λ (o : Asked). Goes t told was w m a.so_far.executed.after o answer u n) (sym said) goes) (takes_cut first mid now answer takes) in
       record {
         over = a.over ++ line ∷ [];
-        executed = subst (λ (ls : List (List ℕ)). Executed told was v k x ls (CutAtLast first now) u n) (append_assoc lines a.over (line ∷ [])) done;
+        executed = subst (λ (ls : List (List ℕ)). Executed t told was v k x ls (CutAtLast first now) u n) (append_assoc lines a.over (line ∷ [])) done;
         front = λ behind_it. (behind [] (lines_of (after ++ behind_it)), seam a.over a.rest part line [] (lines_of (after ++ behind_it)) (lines_of (left ++ behind_it)) (behind held (lines_of (piece ++ behind_it))) (behind_nothing (λ b. b == 10) (after ++ behind_it)) refl refl (cut behind_it) (a.goes_on behind_it));
       }

@@ -3,22 +3,23 @@ use Rattle.std.proofs.Common.{◌≡◌, ◌==◌, inl, inr, ℕ, ◌+◌, ◌<�
 use Rattle.std.proofs.lemmas.List.{take-append-drop, length-take-le}
 use Rattle.sg_base.specs.Ends.{Gives, Takes, TakesFront}
 use Rattle.sg_disk.specs.Disk as disk
-use Rattle.sg_model.specs.History.{State}
-use Rattle.sg_words.specs.Order.{Order}
-use Rattle.sg_words.specs.Parse.{lines_of, order_of}
+use Rattle.sg_ops.specs.Table.{Table as Operations}
+use Rattle.sg_words.specs.Parse.{lines_of}
 use Rattle.sg_words.specs.Pieces.{behind}
-use Rattle.sg_words.specs.Text.{Answer, text_of}
+use Rattle.sg_words.specs.Requests.{Asked, asked}
+use Rattle.sg_words.specs.Answers.{Answer, text_of}
 use Rattle.sg_words.proofs.Steps.{Takes-nothing}
 use Rattle.sg_words.proofs.Seams.{behind_nothing}
+use Rattle.sg_run.specs.Run.{Run}
+use Rattle.sg_journal.specs.Store.{Core, Shows}
+use Rattle.sg_journal.specs.Goes.{Goes, Grows}
 use Rattle.sg_top.specs.Kept.{MOST_KEPT}
-use Rattle.sg_top.specs.Store.{Core, Shows}
-use Rattle.sg_top.specs.Goes.{Goes, Grows}
 use Rattle.sg_top.specs.Script.{TookAll, CutAtLast, Executed, HasRead}
 use Rattle.sg_top.specs.Feeding.{Feeds, Breaks}
 use Rattle.sg_top.specs.declared.script.RunEnd.TheVariants as ends
 use Rattle.sg_top.specs.Ending.{MOST_BYTES, RunsTo, IsUnderWay}
 use Rattle.sg_top.proofs.Executing.{executed-none, executed-more, takes_more, takes_cut}
-use Rattle.sg_top.proofs.Feeds.{order_of-kept}
+use Rattle.sg_top.proofs.Feeds.{asked-kept}
 
 pub HasRead-none : (source : Option (List ℕ)) → HasRead source [] source
 HasRead-none None = refl
@@ -38,8 +39,8 @@ HasRead-end (Some all) text mid into left some h given =
     let g = subst (λ (m : Option (List ℕ)). Gives m into 0 left) h.1 given in
     ((h.0, g.2, h.2), sym (h.2 ∙ (ap (λ (r : List ℕ). text ++ r) (g.3 refl some) ∙ append-nil text)))
 
-module _ (told : Bool) (was : disk.State) (v : disk.View) (k : Core) (x : State) (source first : Option (List ℕ)) where
-  pub way_begins : (kept : List ℕ) → kept ≡ [] → Shows told was v k x → IsUnderWay told was v k x source source first first v k kept 0
+module _ (t : Operations) (told : Bool) (was : disk.State) (v : disk.View) (k : Core) (x : Run) (source first : Option (List ℕ)) where
+  pub way_begins : (kept : List ℕ) → kept ≡ [] → Shows t told was v k x → IsUnderWay t told was v k x source source first first v k kept 0
   way_begins kept nothing shows = record {
     text = [];
     read = HasRead-none source;
@@ -48,7 +49,7 @@ module _ (told : Bool) (was : disk.State) (v : disk.View) (k : Core) (x : State)
     rest = [];
     over = λ after. behind_nothing (λ b. b == 10) after;
     before = record {
-      executed = executed-none told was v k x (TookAll first first) (Takes-nothing first) shows;
+      executed = executed-none t told was v k x (TookAll first first) (Takes-nothing first) shows;
       later = omega arith;
       grown = record { kept = omega arith; grown = inr (omega arith) };
       pending = nothing;
@@ -56,8 +57,8 @@ module _ (told : Bool) (was : disk.State) (v : disk.View) (k : Core) (x : State)
   }
 
   -- a piece more
-  pub way_goes_on : (mid left now next : Option (List ℕ)) (w u : disk.View) (m n : Core) (had kept into piece : List ℕ) (total count : ℕ) → (h : IsUnderWay told was v k x source mid first now w m had total) → Gives mid into count left → count ≤ length into → piece ≡ take count into
-      → Feeds told w m u n now next had piece kept → IsUnderWay told was v k x source left first next u n kept (total + count)
+  pub way_goes_on : (mid left now next : Option (List ℕ)) (w u : disk.View) (m n : Core) (had kept into piece : List ℕ) (total count : ℕ) → (h : IsUnderWay t told was v k x source mid first now w m had total) → Gives mid into count left → count ≤ length into → piece ≡ take count into
+      → Feeds t told w m u n now next had piece kept → IsUnderWay t told was v k x source left first next u n kept (total + count)
   way_goes_on mid left now next w u m n had kept into piece total count h given within is fed =
       let a = fed was v k x h.lines first h.rest h.before in
       record {
@@ -74,11 +75,11 @@ module _ (told : Bool) (was : disk.State) (v : disk.View) (k : Core) (x : State)
   last_lines : (lines : List (List ℕ)) (rest text : List ℕ) → ((after : List ℕ) → lines ++ behind rest (lines_of after) ≡ lines_of (text ++ after)) → lines ++ (rest ++ []) ∷ [] ≡ lines_of text
   last_lines lines rest text over = over [] ∙ ap lines_of (append-nil text)
 
-  last_said : (rest had : List ℕ) → had ≡ take MOST_KEPT rest → order_of (rest ++ []) ≡ order_of had
-  last_said rest had pending = ap order_of (append-nil rest) ∙ (sym (order_of-kept rest) ∙ ap order_of (sym pending))
+  last_said : (rest had : List ℕ) → had ≡ take MOST_KEPT rest → asked (rest ++ []) ≡ asked had
+  last_said rest had pending = ap asked (append-nil rest) ∙ (sym (asked-kept rest) ∙ ap asked (sym pending))
 
-  pub way_ends : (mid left now next : Option (List ℕ)) (w u : disk.View) (m n : Core) (had into : List ℕ) (total : ℕ) (answer : Answer) → (h : IsUnderWay told was v k x source mid first now w m had total) → total ≤ MOST_BYTES → 0 < length into → Gives mid into 0 left
-      → w.faults ≤ u.faults → Grows m.log n.log w u → Goes told was w m h.before.executed.after (order_of had) answer u n → Takes now (text_of answer) next → RunsTo ends.Done told was v k x source left first next u n
+  pub way_ends : (mid left now next : Option (List ℕ)) (w u : disk.View) (m n : Core) (had into : List ℕ) (total : ℕ) (answer : Answer) → (h : IsUnderWay t told was v k x source mid first now w m had total) → total ≤ MOST_BYTES → 0 < length into → Gives mid into 0 left
+      → w.faults ≤ u.faults → Grows m.log n.log w u → Goes t told was w m h.before.executed.after (asked had) answer u n → Takes now (text_of answer) next → RunsTo ends.Done t told was v k x source left first next u n
   way_ends mid left now next w u m n had into total answer h short some given later grown goes takes =
       let ended = HasRead-end source h.text mid into left some h.read given in
       record {
@@ -86,14 +87,14 @@ module _ (told : Bool) (was : disk.State) (v : disk.View) (k : Core) (x : State)
         read = ended.0;
         lines = lines_of h.text;
         ended = record { whole = ended.1; short = omega (arith, h.size); all = refl };
-        executed = subst (λ (ls : List (List ℕ)). Executed told was v k x ls (TookAll first next) u n) (last_lines h.lines h.rest h.text h.over)
-            (executed-more told was v k x h.lines _ (TookAll first next) w u m n (h.rest ++ []) answer h.before.later later h.before.grown grown.kept h.before.executed
-            (subst (λ (o : Order). Goes told was w m h.before.executed.after o answer u n) (sym (last_said h.rest had h.before.pending)) goes) (takes_more first now next answer takes));
+        executed = subst (λ (ls : List (List ℕ)). Executed t told was v k x ls (TookAll first next) u n) (last_lines h.lines h.rest h.text h.over)
+            (executed-more t told was v k x h.lines _ (TookAll first next) w u m n (h.rest ++ []) answer h.before.later later h.before.grown grown.kept h.before.executed
+            (subst (λ (o : Asked). Goes t told was w m h.before.executed.after o answer u n) (sym (last_said h.rest had h.before.pending)) goes) (takes_more first now next answer takes));
       }
 
   -- the sink fails at it
-  pub way_unwritten : (mid left now next : Option (List ℕ)) (w u : disk.View) (m n : Core) (had into : List ℕ) (total : ℕ) (answer : Answer) → (h : IsUnderWay told was v k x source mid first now w m had total) → total ≤ MOST_BYTES → 0 < length into → Gives mid into 0 left
-      → w.faults ≤ u.faults → Grows m.log n.log w u → Goes told was w m h.before.executed.after (order_of had) answer u n → TakesFront now (text_of answer) next → RunsTo ends.Write told was v k x source left first next u n
+  pub way_unwritten : (mid left now next : Option (List ℕ)) (w u : disk.View) (m n : Core) (had into : List ℕ) (total : ℕ) (answer : Answer) → (h : IsUnderWay t told was v k x source mid first now w m had total) → total ≤ MOST_BYTES → 0 < length into → Gives mid into 0 left
+      → w.faults ≤ u.faults → Grows m.log n.log w u → Goes t told was w m h.before.executed.after (asked had) answer u n → TakesFront now (text_of answer) next → RunsTo ends.Write t told was v k x source left first next u n
   way_unwritten mid left now next w u m n had into total answer h short some given later grown goes takes =
       let ended = HasRead-end source h.text mid into left some h.read given in
       record {
@@ -101,13 +102,13 @@ module _ (told : Bool) (was : disk.State) (v : disk.View) (k : Core) (x : State)
         read = ended.0;
         lines = h.lines ++ (h.rest ++ []) ∷ [];
         ended = record { short = omega (arith, h.size); first = inr (last_lines h.lines h.rest h.text h.over, ended.1) };
-        executed = executed-more told was v k x h.lines _ (CutAtLast first next) w u m n (h.rest ++ []) answer h.before.later later h.before.grown grown.kept h.before.executed
-            (subst (λ (o : Order). Goes told was w m h.before.executed.after o answer u n) (sym (last_said h.rest had h.before.pending)) goes) (takes_cut first now next answer takes);
+        executed = executed-more t told was v k x h.lines _ (CutAtLast first next) w u m n (h.rest ++ []) answer h.before.later later h.before.grown grown.kept h.before.executed
+            (subst (λ (o : Asked). Goes t told was w m h.before.executed.after o answer u n) (sym (last_said h.rest had h.before.pending)) goes) (takes_cut first now next answer takes);
       }
 
   -- the sink fails within a piece
-  pub way_broken : (mid left now next : Option (List ℕ)) (w u : disk.View) (m n : Core) (had into piece : List ℕ) (total count : ℕ) → (h : IsUnderWay told was v k x source mid first now w m had total) → total + count ≤ MOST_BYTES → Gives mid into count left → count ≤ length into → piece ≡ take count into
-      → Breaks told w m u n now next had piece → RunsTo ends.Write told was v k x source left first next u n
+  pub way_broken : (mid left now next : Option (List ℕ)) (w u : disk.View) (m n : Core) (had into piece : List ℕ) (total count : ℕ) → (h : IsUnderWay t told was v k x source mid first now w m had total) → total + count ≤ MOST_BYTES → Gives mid into count left → count ≤ length into → piece ≡ take count into
+      → Breaks t told w m u n now next had piece → RunsTo ends.Write t told was v k x source left first next u n
   way_broken mid left now next w u m n had into piece total count h short given within is breaks =
       let b = breaks was v k x h.lines first h.rest h.before in
       record {
@@ -122,7 +123,7 @@ module _ (told : Bool) (was : disk.State) (v : disk.View) (k : Core) (x : State)
       }
 
   -- the source fails
-  pub way_unread : (mid left now : Option (List ℕ)) (w : disk.View) (m : Core) (had : List ℕ) (total : ℕ) → IsUnderWay told was v k x source mid first now w m had total → total ≤ MOST_BYTES → left ≡ mid → RunsTo ends.Read told was v k x source left first now w m
+  pub way_unread : (mid left now : Option (List ℕ)) (w : disk.View) (m : Core) (had : List ℕ) (total : ℕ) → IsUnderWay t told was v k x source mid first now w m had total → total ≤ MOST_BYTES → left ≡ mid → RunsTo ends.Read t told was v k x source left first now w m
   way_unread mid left now w m had total h short same = record {
     text = h.text;
     read = subst (HasRead source h.text) (sym same) h.read;
@@ -132,7 +133,7 @@ module _ (told : Bool) (was : disk.State) (v : disk.View) (k : Core) (x : State)
   }
 
   -- the source gives too much
-  pub way_too_long : (mid left now : Option (List ℕ)) (w : disk.View) (m : Core) (had into : List ℕ) (total count : ℕ) → IsUnderWay told was v k x source mid first now w m had total → total ≤ MOST_BYTES → MOST_BYTES < total + count → Gives mid into count left → count ≤ length into → length into ≤ 65536 → RunsTo ends.TooLong told was v k x source left first now w m
+  pub way_too_long : (mid left now : Option (List ℕ)) (w : disk.View) (m : Core) (had into : List ℕ) (total count : ℕ) → IsUnderWay t told was v k x source mid first now w m had total → total ≤ MOST_BYTES → MOST_BYTES < total + count → Gives mid into count left → count ≤ length into → length into ≤ 65536 → RunsTo ends.TooLong t told was v k x source left first now w m
   way_too_long mid left now w m had into total count h short long given within room = record {
     text = h.text ++ take count into;
     read = HasRead-more source h.text mid into count left h.read given;

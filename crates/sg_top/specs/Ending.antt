@@ -2,12 +2,13 @@
 use Rattle.std.specs.Prelude.{◌≡◌, ◌<◌, ◌≤◌, ℕ, Bool, List, ◌++◌, length, Option, IfSome}
 use Rattle.sg_base.specs.Ends.{HasRisen}
 use Rattle.sg_disk.specs.Disk as disk
-use Rattle.sg_model.specs.History.{State}
+use Rattle.sg_ops.specs.Table.{Table as Operations}
 use Rattle.sg_words.specs.Parse.{lines_of}
-use Rattle.sg_words.specs.Text.{Answer}
+use Rattle.sg_words.specs.Answers.{Answer}
+use Rattle.sg_run.specs.Run.{Run}
+use Rattle.sg_journal.specs.Store.{Core}
 use Rattle.sg_top.specs.declared.script.RunEnd as code_end
 use Rattle.sg_top.specs.declared.script.RunEnd.TheVariants as ends
-use Rattle.sg_top.specs.Store.{Core}
 use Rattle.sg_top.specs.Script.{AreFirst, TookAll, CutAtLast, Executed, Ends, HasRead}
 use Rattle.sg_top.specs.Feeding.{Before}
 
@@ -70,19 +71,19 @@ HasCause ends.Write source_before source_now sink_before sink_now = (source_now 
 HasCause ends.TooLong source_before source_now sink_before sink_now = (source_now ≡ source_before) × (sink_now ≡ sink_before)
 
 -- how a run that ended so went
-pub record RunsTo (end : code_end.RunEnd) (told : Bool) (was : disk.State) (v : disk.View) (k : Core) (x : State) (source left first now : Option (List ℕ)) (w : disk.View) (m : Core) : Type 0 where
+pub record RunsTo (end : code_end.RunEnd) (t : Operations) (told : Bool) (was : disk.State) (v : disk.View) (k : Core) (x : Run) (source left first now : Option (List ℕ)) (w : disk.View) (m : Core) : Type 0 where
   pub text : List ℕ
   pub read : HasRead source text left
   pub lines : List (List ℕ)
   pub ended : AreExecuted end source text lines
-  pub executed : Executed told was v k x lines (TookBy end first now) w m
+  pub executed : Executed t told was v k x lines (TookBy end first now) w m
 
 -- a run so far: what was read, which lines are over, and what is held of the next
-pub record IsUnderWay (told : Bool) (was : disk.State) (v : disk.View) (k : Core) (x : State) (source left first now : Option (List ℕ)) (w : disk.View) (m : Core) (kept : List ℕ) (total : ℕ) : Type 0 where
+pub record IsUnderWay (t : Operations) (told : Bool) (was : disk.State) (v : disk.View) (k : Core) (x : Run) (source left first now : Option (List ℕ)) (w : disk.View) (m : Core) (kept : List ℕ) (total : ℕ) : Type 0 where
   pub text : List ℕ
   pub read : HasRead source text left
   pub size : total ≡ length text
   pub lines : List (List ℕ)
   pub rest : List ℕ
   pub over : Ends text lines rest
-  pub before : Before told was v k x lines first now w m rest kept
+  pub before : Before t told was v k x lines first now w m rest kept

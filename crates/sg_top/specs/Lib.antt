@@ -1,16 +1,10 @@
-pub mod Stands
-pub mod Store
-pub mod Goes
-pub mod Shown
 pub mod Sessions
+pub mod Lines
 pub mod Script
 pub mod Kept
 pub mod Buffers
 pub mod Feeding
 pub mod Ending
-pub mod Opening
 pub mod Top
-pub mod Damage
-pub mod Found
 pub mod Statuses
 pub mod OneLine

@@ -2,46 +2,46 @@
 use Rattle.std.specs.Prelude.{◌≡◌, ◌⊎◌, ◌+◌, ◌<◌, ◌≤◌, ℕ, Bool, IsTrue, List, [], ◌∷◌, ◌++◌, Option, Some, None, IfSome}
 use Rattle.sg_base.specs.Ends.{HasRisen, Takes, TakesFront}
 use Rattle.sg_disk.specs.Disk as disk
-use Rattle.sg_model.specs.History.{State}
-use Rattle.sg_words.specs.Parse.{lines_of, order_of}
-use Rattle.sg_model.specs.Objects.Reply.{Done}
-use Rattle.sg_words.specs.Order.{Order}
-use Rattle.sg_words.specs.Order.Order.{Txn}
-use Rattle.sg_words.specs.Order.Verb.{Commit}
-use Rattle.sg_words.specs.Text.Answer.{Said}
+use Rattle.sg_ops.specs.Table.{Table as Operations}
+use Rattle.sg_model.specs.Verb.Reply.{Done}
+use Rattle.sg_words.specs.Parse.{lines_of}
 use Rattle.sg_words.specs.Pieces.{behind}
-use Rattle.sg_words.specs.Text.{Answer, text_of, text_of_all}
-use Rattle.sg_words.specs.Run.{Lines, AreCaused}
+use Rattle.sg_words.specs.Requests.{Asked, asked}
+use Rattle.sg_words.specs.Requests.Asked.{Of}
+use Rattle.sg_words.specs.Requests.Request.{Commit}
+use Rattle.sg_words.specs.Answers.{Answer, text_of, text_of_all}
+use Rattle.sg_words.specs.Answers.Answer.{Said}
 use Rattle.sg_log.specs.Frames.{LOG_END}
-use Rattle.sg_top.specs.Stands.{StandsForFirst}
-use Rattle.sg_top.specs.Store.{Core, Shows}
-use Rattle.sg_top.specs.Goes.{NEW_WORK_END}
+use Rattle.sg_run.specs.Run.{Run, Lines, AreCaused}
+use Rattle.sg_journal.specs.Stands.{StandsForFirst}
+use Rattle.sg_journal.specs.Store.{Core, Shows}
+use Rattle.sg_journal.specs.Goes.{NEW_WORK_END}
 
--- the byte by which the log has room for an order: a commit's record ends there at the latest, and new work begins
-abbrev pub end_for : Order → ℕ
-end_for (Txn name Commit) = LOG_END
+-- the byte by which the log has room for a line: a commit's record ends there at the latest, and new work begins
+abbrev pub end_for : Asked → ℕ
+end_for (Of name Commit) = LOG_END
 end_for other = NEW_WORK_END
 
--- How far behind a log's closed gate an order may come to that byte. A buffer that is to be a frame takes 65,541 bytes at
+-- How far behind a log's closed gate a line may come to that byte. A buffer that is to be a frame takes 65,541 bytes at
 -- most, and a commit's record behind it, with a gate and a length of its own, 26 more
-abbrev pub reach_of : Order → ℕ
-reach_of (Txn name Commit) = 65567
+abbrev pub reach_of : Asked → ℕ
+reach_of (Of name Commit) = 65567
 reach_of other = 65541
 
--- So many bytes were handed to the disk since v that a log with this gate then may be full for an order now
-abbrev pub MayBeFull : ℕ → disk.View → disk.View → Order → Type 0
-MayBeFull gate v w order = (disk.FULL ≤ w.handed) ⊎ (end_for order + v.handed < gate + w.handed + reach_of order)
+-- So many bytes were handed to the disk since v that a log with this gate then may be full for a line now
+abbrev pub MayBeFull : ℕ → disk.View → disk.View → Asked → Type 0
+MayBeFull gate v w line = (disk.FULL ≤ w.handed) ⊎ (end_for line + v.handed < gate + w.handed + reach_of line)
 
 -- a commit that was answered `ok`
-abbrev pub acks : Order → Answer → ℕ
-acks (Txn name Commit) (Said Done) = 1
-acks order answer = 0
+abbrev pub acks : Asked → Answer → ℕ
+acks (Of name Commit) (Said Done) = 1
+acks line answer = 0
 
 -- how many commits among these lines were answered `ok`, as far as the answers go
 abbrev pub acknowledged : List (List ℕ) → List Answer → ℕ
 acknowledged [] answers = 0
 acknowledged (line ∷ lines) [] = 0
-acknowledged (line ∷ lines) (answer ∷ answers) = acks (order_of line) answer + acknowledged lines answers
+acknowledged (line ∷ lines) (answer ∷ answers) = acks (asked line) answer + acknowledged lines answers
 
 -- the sink took the replies to all lines
 abbrev pub TookAll : Option (List ℕ) → Option (List ℕ) → List Answer → Type 0
@@ -57,16 +57,16 @@ pub record CutAtLast (first now : Option (List ℕ)) (answers : List Answer) : T
   pub cut : TakesFront mid (text_of last) now
 
 -- From x, these lines were executed, and a sink took of the replies to them what Took says
-pub record Executed (told : Bool) (was : disk.State) (v : disk.View) (k : Core) (x : State) (lines : List (List ℕ)) (Took : List Answer → Type 0) (w : disk.View) (m : Core) : Type 0 where
+pub record Executed (t : Operations) (told : Bool) (was : disk.State) (v : disk.View) (k : Core) (x : Run) (lines : List (List ℕ)) (Took : List Answer → Type 0) (w : disk.View) (m : Core) : Type 0 where
   pub answers : List Answer
-  pub after : State
-  pub goes : Lines x lines answers after
-  pub first : after.first ≡ x.first
-  pub answered : x.answered ≤ after.answered
+  pub after : Run
+  pub goes : Lines t x lines answers after
+  pub first : after.so_far.first ≡ x.so_far.first
+  pub answered : x.so_far.answered ≤ after.so_far.answered
   pub caused : AreCaused (HasRisen v.faults w.faults) (MayBeFull k.log.gate v w) lines answers
-  pub shows : Shows told was w m after
+  pub shows : Shows t told was w m after
   pub took : Took answers
-  pub moments : IsTrue told → disk.LeavesOnly v w (StandsForFirst was x.answered after)
+  pub moments : IsTrue told → disk.LeavesOnly v w (StandsForFirst t was x.so_far.answered after)
 
 -- However a text goes on, so many of its lines are over, and this is the front of the next one
 abbrev pub Ends : List ℕ → List (List ℕ) → List ℕ → Type 0

@@ -1,10 +1,10 @@
 -- What a session is seen as.
 use Rattle.std.specs.Prelude.{Bool, if◌then◌else◌}
+use Rattle.sg_journal.specs.Store.{Core}
+use Rattle.sg_journal.specs.Seen.{core_of}
 use Rattle.sg_top.specs.declared.session.Session as code_session
 use Rattle.sg_top.specs.declared.status.Status as code_status
 use Rattle.sg_top.specs.declared.status.Status.TheVariants as statuses
-use Rattle.sg_top.specs.Store.{Core}
-use Rattle.sg_top.specs.Shown.{core_of}
 use Rattle.sg_top.specs.Statuses.{status_of_stop}
 
 -- the store without its disk

@@ -2,8 +2,8 @@
 use Rattle.std.specs.Prelude.{Option, Some, None}
 use Rattle.sg_model.specs.declared.stop.Stop.{Stop}
 use Rattle.sg_model.specs.declared.stop.Stop.TheVariants as stops
-use Rattle.sg_top.specs.declared.opening.OpenRefused as code_refused
-use Rattle.sg_top.specs.declared.opening.OpenRefused.TheVariants as refusals
+use Rattle.sg_journal.specs.declared.opening.OpenRefused as code_refused
+use Rattle.sg_journal.specs.declared.opening.OpenRefused.TheVariants as refusals
 use Rattle.sg_top.specs.declared.script.RunEnd as code_end
 use Rattle.sg_top.specs.declared.script.RunEnd.TheVariants as ends
 use Rattle.sg_top.specs.declared.status.Status as code_status

@@ -2,26 +2,29 @@ ghost use Rattle.std.specs.Prelude.{◌≡◌, ◌||◌, OnOk, OnErr, is_none};
 ghost use Rattle.sg_base.specs.Ends.{HasRisen};
 ghost use Rattle.sg_top.specs.Sessions.{session_core, session_disk, session_unheard};
 ghost use Rattle.sg_top.specs.Feeding.{Feeds, Breaks};
-ghost use Rattle.sg_top.specs.Goes.{Heeds};
+ghost use Rattle.sg_ops.specs.Table.{table_of};
+ghost use Rattle.sg_journal.specs.Goes.{Heeds};
 
 use crate::buffer::LineBuffer;
 use crate::session::Session;
 use sg_base::{Failed, Sink};
 use sg_disk::Disk;
+use sg_ops::Ops;
 use sg_words::cut;
 use std::alloc::Global;
 
 /// Executes the lines that a piece of a script ends, and keeps what has come of the next line.
 pub fn feed<D: Disk, K: Sink>(
     alloc: Global,
+    ops: &Ops,
     session: &mut Session<D>,
     pending: &mut LineBuffer,
     piece: &[u8],
     out: &mut K,
 ) -> Result<(), Failed>
-    ensures fed { OnOk result (Feeds D.told (D.view (session_disk session.old)) (session_core session.old) (D.view (session_disk session.new)) (session_core session.new)
+    ensures fed { OnOk result (Feeds (table_of record_meaning range_meaning ops.now) D.told (D.view (session_disk session.old)) (session_core session.old) (D.view (session_disk session.new)) (session_core session.new)
         (K.taken out.old) (K.taken out.new) pending.old piece.now pending.new) }
-    ensures broken { OnErr result (Breaks D.told (D.view (session_disk session.old)) (session_core session.old) (D.view (session_disk session.new)) (session_core session.new)
+    ensures broken { OnErr result (Breaks (table_of record_meaning range_meaning ops.now) D.told (D.view (session_disk session.old)) (session_core session.old) (D.view (session_disk session.new)) (session_core session.new)
         (K.taken out.old) (K.taken out.new) pending.old piece.now) }
     ensures heeded { Heeds (session_core session.old).stopped (session_core session.new).stopped (D.view (session_disk session.old)) (D.view (session_disk session.new)) }
     ensures quiet { OnOk result (K.faults out.new ≡ K.faults out.old) }
@@ -36,7 +39,7 @@ pub fn feed<D: Disk, K: Sink>(
         let Some(after) = more else {
             return Ok(());
         };
-        match session.line(alloc, pending.bytes(), out) {
+        match session.line(alloc, ops, pending.bytes(), out) {
             Ok(()) => {}
             Err(_) => return Err(Failed),
         }

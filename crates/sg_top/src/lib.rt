@@ -2,40 +2,37 @@
 //! the words takes a script from a source, executes it line by line over a disk and hands the
 //! replies to a sink. Where the words say so, the disk stops after a number of calls.
 //!
-//! It stands on `sg_words`, which says what a line says and what a run of lines answers, on
-//! `sg_model`, which says what its operations do to the objects, and on `sg_log` over `sg_disk`,
-//! which keeps the lines of transactions. It promises that each reply follows from the lines so
-//! far, that each fault which is answered was there, and that at every moment each image a crash
-//! could leave stands for the objects after the first transactions in order of commit, all of those
-//! that were answered among them.
+//! It stands on `sg_journal`, which keeps up to 64 live transactions over `sg_log` and `sg_disk`, on
+//! `sg_run`, which says what a line of a run of transactions is answered, on `sg_words`, which reads and
+//! writes their text, and on `sg_ops` and `sg_model`, which say what an operation does to the objects. It
+//! promises that each reply follows from the lines so far, that committed transactions got the replies
+//! that they get one whole transaction after another, that each fault which is answered was there, and
+//! that at every moment each image a crash could leave stands for the objects after the first
+//! transactions in order of commit, all of those that were answered among them.
 #![tactic(auto)]
 
-mod answer;
 mod buffer;
 mod feed;
-mod found;
-mod found_line;
-mod lines;
-mod opening;
-mod replay;
+mod room;
 mod script;
 mod session;
 mod status;
-mod store;
 mod top;
 mod words;
 
-pub use answer::Answer;
-pub use opening::{OpenRefused, Unopened};
 pub use session::Session;
+pub use sg_journal::{OpenRefused, Unopened};
 pub use status::Status;
 pub use top::{Finish, stasis};
+pub use words::is_run;
 
 #[cfg(test)]
-mod end_tests;
-#[cfg(test)]
 mod reopen_tests;
+#[cfg(test)]
+mod row_tests;
 #[cfg(test)]
 mod stop_tests;
 #[cfg(test)]
 mod tests;
+#[cfg(test)]
+mod trial;

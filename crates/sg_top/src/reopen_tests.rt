@@ -1,8 +1,7 @@
-ghost use Rattle.std.specs.Prelude.{◌<◌};
-
-use crate::{Finish, Status, stasis};
-use sg_base::{Area, MemSink, MemSource};
-use sg_disk::{CallKind, Disk, MemDisk};
+use crate::Status;
+use crate::trial::{Left, disk_of, run};
+use sg_base::Area;
+use sg_disk::{CallKind, MemDisk};
 use std::alloc::Global;
 use std::test::Fail;
 
@@ -20,26 +19,6 @@ const SECOND_FRAME: &[u8] = b"\x01\x4a\0\0\0\
     \x0d\x20\0\0\0\x96\0\0\0\0\0\0\0\x96\0\0\0\0\0\0\0set a 0 abc\
     \x0a\x15\0\0\0\x96\0\0\0\0\0\0\0\xab\0\0\0\0\0\0\0";
 
-// Runs a script over a disk.
-fn run(
-    alloc: Global,
-    disk: MemDisk,
-    script: &[u8],
-    out: &mut MemSink,
-) -> Result<Finish<MemDisk>, Fail> {
-    let mut words = Vec::new(alloc);
-    for word in ["run", "store"] {
-        words.push(word.to_string(alloc)?)?;
-    }
-    let mut source = MemSource::new(script.to_vec(alloc)?, 65_536, None);
-    Ok(stasis(alloc, &words, disk, &mut source, out))
-}
-
-// A disk whose first log area has these bytes, all of them stable.
-fn disk_of(alloc: Global, log: &[u8]) -> Result<MemDisk, Fail> {
-    Ok(MemDisk::of(alloc, Vec::new(alloc), log.to_vec(alloc)?, Vec::new(alloc)))
-}
-
 const LOOK: &[u8] = b"u begin\nu get a 0\nu get a 1";
 
 #[test]
@@ -47,33 +26,33 @@ fn a_second_run_reads_what_the_first_left(rt: HostRuntime) -> Result<(), Fail> {
     let alloc = rt.alloc();
     let script =
         b"t begin\nt make array a 3\nt push a abc\nt set a 0 xyz\nt commit\nt begin\nt set a 0 old";
-    let mut out = MemSink::new(alloc, None);
-    let first = run(alloc, MemDisk::new(alloc), script, &mut out)?;
+    let first = run(alloc, MemDisk::new(alloc), script)?;
     assert_eq!(rt; first.status, Status::Done);
-    let mut out = MemSink::new(alloc, None);
-    let second = run(alloc, first.disk, LOOK, &mut out)?;
+    let second = run(alloc, first.disk, LOOK)?;
     assert_eq!(rt; second.status, Status::Done);
-    assert_eq!(rt; out.text(), b"ok\nok xyz\nerror out-of-range\n".as_slice());
+    assert_eq!(rt;
+        second.replies.as_slice(),
+        b"ok\nok xyz\nerror out-of-range\n".as_slice()
+    );
     Ok(())
 }
 
 #[test]
 fn commits_follow_the_frames_that_are_there(rt: HostRuntime) -> Result<(), Fail> {
     let alloc = rt.alloc();
-    let mut out = MemSink::new(alloc, None);
     let script = b"u begin\nu set a 0 abc\nu commit";
-    let finish = run(alloc, disk_of(alloc, FIRST_FRAME)?, script, &mut out)?;
-    assert_eq!(rt; finish.status, Status::Done);
+    let left = run(alloc, disk_of(alloc, FIRST_FRAME)?, script)?;
+    assert_eq!(rt; left.status, Status::Done);
     let mut both = FIRST_FRAME.to_vec(alloc)?;
     both.extend_from_slice(SECOND_FRAME)?;
     both.push(0)?;
-    assert_eq!(rt; finish.disk.log0(), both.as_slice());
+    assert_eq!(rt; left.disk.log0(), both.as_slice());
     Ok(())
 }
 
 // What a script is answered over a log whose second frame is torn so that only so many of its bytes are there, with this
 // gate.
-fn answered(alloc: Global, kept: usize, gate: u8) -> Result<(Status, MemSink), Fail> {
+fn looked(alloc: Global, kept: usize, gate: u8) -> Result<Left, Fail> {
     let mut log = FIRST_FRAME.to_vec(alloc)?;
     for (i, byte) in SECOND_FRAME.iter().enumerate() {
         log.push(if i == 0 {
@@ -84,9 +63,7 @@ fn answered(alloc: Global, kept: usize, gate: u8) -> Result<(Status, MemSink), F
             0
         })?;
     }
-    let mut out = MemSink::new(alloc, None);
-    let finish = run(alloc, disk_of(alloc, &log)?, LOOK, &mut out)?;
-    Ok((finish.status, out))
+    run(alloc, disk_of(alloc, &log)?, LOOK)
 }
 
 const OLD: &[u8] = b"ok\nok xyz\nerror out-of-range\n";
@@ -97,9 +74,9 @@ const NEW: &[u8] = b"ok\nok abc\nerror out-of-range\n";
 fn a_torn_frame_behind_a_closed_gate_counts_for_nothing(rt: HostRuntime) -> Result<(), Fail> {
     let alloc = rt.alloc();
     for kept in 0..80usize {
-        let (status, out) = answered(alloc, kept, 0)?;
-        assert_eq!(rt; status, Status::Done);
-        assert_eq!(rt; out.text(), OLD);
+        let left = looked(alloc, kept, 0)?;
+        assert_eq!(rt; left.status, Status::Done);
+        assert_eq!(rt; left.replies.as_slice(), OLD);
     }
     Ok(())
 }
@@ -112,15 +89,15 @@ fn a_torn_frame_behind_a_closed_gate_counts_for_nothing(rt: HostRuntime) -> Resu
 fn a_torn_frame_behind_an_open_gate_is_what_its_bytes_say(rt: HostRuntime) -> Result<(), Fail> {
     let alloc = rt.alloc();
     for kept in 1..80usize {
-        let (status, out) = answered(alloc, kept, 1)?;
+        let left = looked(alloc, kept, 1)?;
         let (expected, replies) = match kept {
             0..60 => (Status::Damaged(Area::Log0, 145), b"".as_slice()),
             60..64 => (Status::Done, OLD),
             64..72 => (Status::Damaged(Area::Log0, 145), b"".as_slice()),
             _ => (Status::Done, NEW),
         };
-        assert_eq!(rt; status, expected);
-        assert_eq!(rt; out.text(), replies);
+        assert_eq!(rt; left.status, expected);
+        assert_eq!(rt; left.replies.as_slice(), replies);
     }
     Ok(())
 }
@@ -162,11 +139,10 @@ fn a_wrong_log_is_answered_with_its_place(rt: HostRuntime) -> Result<(), Fail> {
         if at < log.len() {
             log[at] = byte;
         }
-        let mut out = MemSink::new(alloc, None);
-        let finish = run(alloc, disk_of(alloc, &log)?, LOOK, &mut out)?;
-        assert_eq!(rt; finish.status, Status::Damaged(Area::Log0, place));
-        assert_eq!(rt; out.text(), [].as_slice());
-        assert_eq!(rt; finish.disk.log0(), log.as_slice());
+        let left = run(alloc, disk_of(alloc, &log)?, LOOK)?;
+        assert_eq!(rt; left.status, Status::Damaged(Area::Log0, place));
+        assert_eq!(rt; left.replies.as_slice(), [].as_slice());
+        assert_eq!(rt; left.disk.log0(), log.as_slice());
     }
     Ok(())
 }
@@ -184,10 +160,9 @@ const MINGLED: &[u8] = b"\x01\xb1\0\0\0\
 #[test]
 fn records_follow_their_own_transaction(rt: HostRuntime) -> Result<(), Fail> {
     let alloc = rt.alloc();
-    let mut out = MemSink::new(alloc, None);
-    let finish = run(alloc, disk_of(alloc, MINGLED)?, LOOK, &mut out)?;
-    assert_eq!(rt; finish.status, Status::Done);
-    assert_eq!(rt; out.text(), b"ok\nok x\nok y\n".as_slice());
+    let left = run(alloc, disk_of(alloc, MINGLED)?, LOOK)?;
+    assert_eq!(rt; left.status, Status::Done);
+    assert_eq!(rt; left.replies.as_slice(), b"ok\nok x\nok y\n".as_slice());
     Ok(())
 }
 
@@ -201,12 +176,11 @@ fn a_transaction_counts_once(rt: HostRuntime) -> Result<(), Fail> {
     let alloc = rt.alloc();
     let mut log = MINGLED.to_vec(alloc)?;
     log.extend_from_slice(AGAIN)?;
-    let mut out = MemSink::new(alloc, None);
     let script = b"u begin\nu get a 0\nu get a 1\nu get a 2";
-    let finish = run(alloc, disk_of(alloc, &log)?, script, &mut out)?;
-    assert_eq!(rt; finish.status, Status::Done);
+    let left = run(alloc, disk_of(alloc, &log)?, script)?;
+    assert_eq!(rt; left.status, Status::Done);
     assert_eq!(rt;
-        out.text(),
+        left.replies.as_slice(),
         b"ok\nok x\nok y\nerror out-of-range\n".as_slice()
     );
     Ok(())
@@ -215,33 +189,20 @@ fn a_transaction_counts_once(rt: HostRuntime) -> Result<(), Fail> {
 #[test]
 fn a_store_is_opened_ten_times(rt: HostRuntime) -> Result<(), Fail> {
     let alloc = rt.alloc();
-    let mut out = MemSink::new(alloc, None);
-    let mut disk = run(
-        alloc,
-        MemDisk::new(alloc),
-        b"t begin\nt make array a 1\nt commit",
-        &mut out,
-    )?
-    .disk;
+    let script = b"t begin\nt make array a 1\nt commit";
+    let mut disk = run(alloc, MemDisk::new(alloc), script)?.disk;
     for index in 0..10u8 {
         let script = format!(in alloc; "t begin\nt push a {index}\nt commit")?;
-        let mut out = MemSink::new(alloc, None);
-        let finish = run(alloc, disk, script.as_bytes(), &mut out)?;
-        assert_eq!(rt; finish.status, Status::Done);
+        let left = run(alloc, disk, script.as_bytes())?;
+        assert_eq!(rt; left.status, Status::Done);
         let replies = format!(in alloc; "ok\nok {index}\nok\n")?;
-        assert_eq!(rt; out.text(), replies.as_bytes());
-        disk = finish.disk;
+        assert_eq!(rt; left.replies.as_slice(), replies.as_bytes());
+        disk = left.disk;
     }
-    let mut out = MemSink::new(alloc, None);
-    let finish = run(
-        alloc,
-        disk,
-        b"t begin\nt get a 0\nt get a 9\nt get a 10",
-        &mut out,
-    )?;
-    assert_eq!(rt; finish.status, Status::Done);
+    let left = run(alloc, disk, b"t begin\nt get a 0\nt get a 9\nt get a 10")?;
+    assert_eq!(rt; left.status, Status::Done);
     assert_eq!(rt;
-        out.text(),
+        left.replies.as_slice(),
         b"ok\nok 0\nok 9\nerror out-of-range\n".as_slice()
     );
     Ok(())
@@ -254,22 +215,18 @@ fn a_commit_that_failed_is_not_there(rt: HostRuntime) -> Result<(), Fail> {
     for pick in 0..4u64 {
         let mut disk = MemDisk::new(alloc);
         disk.fail(CallKind::Write, 3);
-        let mut out = MemSink::new(alloc, None);
-        let finish = run(alloc, disk, script, &mut out)?;
-        assert_eq!(rt; finish.status, Status::Disk);
+        let left = run(alloc, disk, script)?;
+        assert_eq!(rt; left.status, Status::Disk);
         assert_eq!(rt;
-            out.text(),
+            left.replies.as_slice(),
             b"ok\nok\nok\nok\nok 0\nerror disk\nerror stopped\n".as_slice()
         );
-        let mut out = MemSink::new(alloc, None);
-        let finish = run(
-            alloc,
-            finish.disk.crash(pick),
-            b"u begin\nu get a 0",
-            &mut out,
-        )?;
-        assert_eq!(rt; finish.status, Status::Done);
-        assert_eq!(rt; out.text(), b"ok\nerror out-of-range\n".as_slice());
+        let left = run(alloc, left.disk.crash(pick), b"u begin\nu get a 0")?;
+        assert_eq!(rt; left.status, Status::Done);
+        assert_eq!(rt;
+            left.replies.as_slice(),
+            b"ok\nerror out-of-range\n".as_slice()
+        );
     }
     Ok(())
 }

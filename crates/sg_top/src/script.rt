@@ -1,9 +1,10 @@
 ghost use Rattle.std.specs.Prelude.{◌≡◌, ◌≤◌, ◌<◌, ◌||◌, length, is_none};
 ghost use Rattle.sg_disk.specs.Disk.{State as DiskState};
-ghost use Rattle.sg_model.specs.History.{State};
-ghost use Rattle.sg_top.specs.Store.{Shows};
+ghost use Rattle.sg_ops.specs.Table.{table_of};
+ghost use Rattle.sg_run.specs.Run.{Run};
+ghost use Rattle.sg_journal.specs.Store.{Shows};
+ghost use Rattle.sg_journal.specs.Goes.{Heeds};
 ghost use Rattle.sg_top.specs.Ending.{RunsTo, HasCause, MOST_OF_PIECE};
-ghost use Rattle.sg_top.specs.Goes.{Heeds};
 ghost use Rattle.sg_top.specs.Sessions.{session_core, session_disk, session_unheard};
 
 use crate::buffer::LineBuffer;
@@ -11,6 +12,7 @@ use crate::feed::feed;
 use crate::session::Session;
 use sg_base::{Sink, Source};
 use sg_disk::Disk;
+use sg_ops::Ops;
 use std::alloc::Global;
 
 /// The most bytes of a script.
@@ -29,9 +31,11 @@ pub enum RunEnd {
     TooLong,
 }
 
-/// Executes the lines of a script as the source gives them.
+/// Executes the lines of a script as the source gives them, with the operations with which the session
+/// was started.
 pub fn run_script<D: Disk, S: Source, K: Sink>(
     alloc: Global,
+    ops: &Ops,
     session: &mut Session<D>,
     script: &mut S,
     out: &mut K,
@@ -39,8 +43,8 @@ pub fn run_script<D: Disk, S: Source, K: Sink>(
 ) -> RunEnd
     requires some { 0 < length piece.old }
     requires small { length piece.old ≤ MOST_OF_PIECE }
-    ensures ran { (was : DiskState) (x : State) → Shows D.told was (D.view (session_disk session.old)) (session_core session.old) x
-        → RunsTo result D.told was (D.view (session_disk session.old)) (session_core session.old) x (S.left script.old) (S.left script.new) (K.taken out.old) (K.taken out.new)
+    ensures ran { (was : DiskState) (x : Run) → Shows (table_of record_meaning range_meaning ops.now) D.told was (D.view (session_disk session.old)) (session_core session.old) x
+        → RunsTo result (table_of record_meaning range_meaning ops.now) D.told was (D.view (session_disk session.old)) (session_core session.old) x (S.left script.old) (S.left script.new) (K.taken out.old) (K.taken out.new)
         (D.view (session_disk session.new)) (session_core session.new) }
     ensures cause { HasCause result (S.faults script.old) (S.faults script.new) (K.faults out.old) (K.faults out.new) }
     ensures heeded { Heeds (session_core session.old).stopped (session_core session.new).stopped (D.view (session_disk session.old)) (D.view (session_disk session.new)) }
@@ -54,7 +58,7 @@ pub fn run_script<D: Disk, S: Source, K: Sink>(
             return RunEnd::Read;
         };
         if count == 0 {
-            return match session.line(alloc, line.bytes(), out) {
+            return match session.line(alloc, ops, line.bytes(), out) {
                 Ok(()) => RunEnd::Done,
                 Err(_) => RunEnd::Write,
             };
@@ -63,7 +67,7 @@ pub fn run_script<D: Disk, S: Source, K: Sink>(
             return RunEnd::TooLong;
         }
         total += count as u64;
-        match feed(alloc, session, &mut line, &piece[..count], out) {
+        match feed(alloc, ops, session, &mut line, &piece[..count], out) {
             Ok(()) => {}
             Err(_) => return RunEnd::Write,
         }

@@ -1,17 +1,18 @@
 ghost use Rattle.std.specs.Prelude.{◌≡◌, ◌≤◌, ◌||◌, OnOk, OnErr, IfOk, IfErr, MatchResult, IsSome, IsTrue, None, false, is_none};
 ghost use Rattle.sg_base.specs.Ends.{HasRisen, Takes, TakesFront};
 ghost use Rattle.sg_disk.specs.Disk.{State as DiskState};
-ghost use Rattle.sg_model.specs.History.{State};
-ghost use Rattle.sg_words.specs.Parse.{order_of};
-ghost use Rattle.sg_words.specs.Text.{Answer as Said, text_of};
+ghost use Rattle.sg_ops.specs.Table.{table_of};
+ghost use Rattle.sg_words.specs.Requests.{asked};
+ghost use Rattle.sg_words.specs.Answers.{text_of};
+ghost use Rattle.sg_run.specs.Run.{Run};
 
-use crate::answer::write_answer;
-use crate::opening::Unopened;
+use crate::room::Room;
 use crate::status::{Status, status_of_stop};
-use crate::store::Store;
 use sg_base::{Failed, Sink};
 use sg_disk::Disk;
-use sg_words::parse_line;
+use sg_journal::{OpenRefused, Store, Unopened};
+use sg_ops::Ops;
+use sg_words::write_answer;
 use std::alloc::Global;
 
 /// A store that answers the lines of a script, one at a time.
@@ -19,57 +20,41 @@ pub struct Session<D: Disk> {
     store: Store<D>,
     // whether the sink failed before the store had stopped
     unheard: bool,
-    // takes the bytes of a value that is written in hexadecimal digits
-    scratch: [u8; 32768],
-    // takes the words that the log keeps of a line
-    kept: [u8; 32768],
-    // takes the bytes of a reply
-    into: [u8; 8192],
+    room: Room,
 }
 
 impl<D: Disk> Session<D> {
-    ghost use Rattle.sg_top.specs.Store.{Shows};
-    ghost use Rattle.sg_top.specs.Goes.{Goes, Grows, Heeds};
+    ghost use Rattle.sg_journal.specs.Store.{Shows};
+    ghost use Rattle.sg_journal.specs.Goes.{Grows, Heeds};
+    ghost use Rattle.sg_journal.specs.Opening.{Opens, StaysShut};
+    ghost use Rattle.sg_top.specs.Lines.{AnswersAll};
     ghost use Rattle.sg_top.specs.OneLine.{OneLine};
-    ghost use Rattle.sg_top.specs.Opening.{Opens, StaysShut};
     ghost use Rattle.sg_top.specs.Sessions.{session_core, session_disk, session_unheard, session_status};
 
-    // A session over a store.
-    fn of(store: Store<D>) -> Session<D>
-        ensures store { result.store ≡ store }
-        ensures unheard { result.unheard ≡ false }
-    {
-        Session {
-            store,
-            unheard: false,
-            scratch: [0; 32768],
-            kept: [0; 32768],
-            into: [0; 8192],
-        }
-    }
-
-    /// Opens the store on a disk. Where that is refused nothing was written, and the disk is handed
-    /// back.
-    pub fn start(alloc: Global, disk: D) -> Result<Session<D>, Unopened<D>>
-        ensures opens { IfOk result (λ s. Opens D.told (D.view disk) (D.view (session_disk s)) (session_core s)) }
+    /// Opens the store on a disk, whose committed transactions are done again with these operations.
+    /// Where that is refused nothing was written, and the disk is handed back.
+    pub fn start(alloc: Global, ops: &Ops, disk: D) -> Result<Session<D>, Unopened<D>>
+        ensures opens { IfOk result (λ s. Opens (table_of record_meaning range_meaning ops.now) D.told (D.view disk) (D.view (session_disk s)) (session_core s)) }
         ensures running { IfOk result (λ s. (session_core s).stopped ≡ None) }
         ensures heard { IfOk result (λ s. session_unheard s ≡ false) }
-        ensures refused { IfErr result (λ u. StaysShut D.told (D.view disk) (D.view u.disk) u.why) }
+        ensures refused { IfErr result (λ u. StaysShut (table_of record_meaning range_meaning ops.now) D.told (D.view disk) (D.view u.disk) u.why) }
     {
-        match Store::open(alloc, disk) {
-            Ok(store) => Ok(Session::of(store)),
+        let Ok(room) = Room::new(alloc) else {
+            let why = OpenRefused::Memory;
+            return Err(Unopened { why, disk });
+        };
+        match Store::open(alloc, ops, disk) {
+            Ok(store) => Ok(Session {
+                store,
+                unheard: false,
+                room,
+            }),
             Err(unopened) => Err(unopened),
         }
     }
 
-    /// A session over a store that a test has made.
-    #[cfg(test)]
-    pub(crate) fn over(store: Store<D>) -> Session<D> {
-        Session::of(store)
-    }
-
     /// The status of the first fault of its lines, which is `Done`, `Disk`, `Write` or `LogEnd`, and
-    /// the disk. A live transaction is left without its commit. Nothing is written.
+    /// the disk. Live transactions are left without a commit. Nothing is written.
     pub fn finish(self) -> (Status, D)
         ensures status { result.0 ≡ session_status self }
         ensures disk { result.1 ≡ session_disk self }
@@ -77,9 +62,7 @@ impl<D: Disk> Session<D> {
         let Session {
             store,
             unheard,
-            scratch: _,
-            kept: _,
-            into: _,
+            room: _,
         } = self;
         let status = if unheard {
             Status::Write
@@ -89,19 +72,24 @@ impl<D: Disk> Session<D> {
         (status, store.close())
     }
 
-    /// Answers one line, without its LF and of any length, and writes the reply line in one call of
-    /// the sink. Where the sink fails, the line was executed, and a front of its reply was taken.
-    pub fn line<K: Sink>(&mut self, alloc: Global, text: &[u8], out: &mut K) -> Result<(), Failed>
+    /// Answers one line, without its LF and of any length, and writes the reply line. The operations are
+    /// those with which the session was started. Where the sink fails, the line was executed, and a
+    /// front of its reply was taken.
+    pub fn line<K: Sink>(
+        &mut self,
+        alloc: Global,
+        ops: &Ops,
+        text: &[u8],
+        out: &mut K,
+    ) -> Result<(), Failed>
         // For each run that the session shows: what is answered, and which run it then shows.
-        ensures line { OnOk result ((was : DiskState) (x : State) → Shows D.told was (D.view (session_disk self.old)) (session_core self.old) x →
-            (answer : Said) × Goes D.told was (D.view (session_disk self.old)) (session_core self.old) x (order_of text.now) answer (D.view (session_disk self.new)) (session_core self.new)
-            × Takes (K.taken out.old) (text_of answer) (K.taken out.new)) }
-        ensures cut { OnErr result ((was : DiskState) (x : State) → Shows D.told was (D.view (session_disk self.old)) (session_core self.old) x →
-            (answer : Said) × Goes D.told was (D.view (session_disk self.old)) (session_core self.old) x (order_of text.now) answer (D.view (session_disk self.new)) (session_core self.new)
-            × TakesFront (K.taken out.old) (text_of answer) (K.taken out.new)) }
+        ensures line { OnOk result (AnswersAll (table_of record_meaning range_meaning ops.now) D.told (D.view (session_disk self.old)) (session_core self.old) (asked text.now)
+            (λ answer. Takes (K.taken out.old) (text_of answer) (K.taken out.new)) (D.view (session_disk self.new)) (session_core self.new)) }
+        ensures cut { OnErr result (AnswersAll (table_of record_meaning range_meaning ops.now) D.told (D.view (session_disk self.old)) (session_core self.old) (asked text.now)
+            (λ answer. TakesFront (K.taken out.old) (text_of answer) (K.taken out.new)) (D.view (session_disk self.new)) (session_core self.new)) }
         // What a crash leaves of one line, where the store hasn't stopped.
-        ensures one_line { (was : DiskState) (x : State) → Shows D.told was (D.view (session_disk self.old)) (session_core self.old) x → (session_core self.old).stopped ≡ None → IsTrue D.told →
-            OneLine (D.view (session_disk self.old)) x (order_of text.now)
+        ensures one_line { (was : DiskState) (x : Run) → Shows (table_of record_meaning range_meaning ops.now) D.told was (D.view (session_disk self.old)) (session_core self.old) x → (session_core self.old).stopped ≡ None → IsTrue D.told →
+            OneLine (table_of record_meaning range_meaning ops.now) (D.view (session_disk self.old)) x (asked text.now)
             (λ answer. MatchResult result (λ u. Takes (K.taken out.old) (text_of answer) (K.taken out.new)) (λ e. TakesFront (K.taken out.old) (text_of answer) (K.taken out.new)))
             (D.view (session_disk self.new)) }
         // A store that has stopped stays so, and makes no call of the disk.
@@ -116,11 +104,18 @@ impl<D: Disk> Session<D> {
         ensures heard { OnOk result (session_unheard self.new ≡ session_unheard self.old) }
         ensures unheard { OnErr result (session_unheard self.new ≡ (is_none (session_core self.new).stopped || session_unheard self.old)) }
     {
-        let line = parse_line(text, &mut self.scratch);
-        let answer = self
-            .store
-            .answer(alloc, &line, text, &mut self.kept, &mut self.into);
-        match write_answer(answer, &self.into, out) {
+        let reply = self.room.reply.as_mut_slice();
+        let answer = self.store.answer(
+            alloc,
+            ops,
+            text,
+            self.room.values.as_mut_slice(),
+            self.room.words.as_mut_slice(),
+            reply,
+        );
+        let written = write_answer(&answer, reply, out);
+        drop(answer);
+        match written {
             Ok(()) => Ok(()),
             Err(Failed) => {
                 if self.store.stop().is_none() {

@@ -1,9 +1,9 @@
 ghost use Rattle.std.specs.Prelude.{◌≡◌};
 ghost use Rattle.sg_top.specs.Statuses.{status_of_refusal, status_of_end, status_of_stop, first_fault};
 
-use crate::opening::OpenRefused;
 use crate::script::RunEnd;
 use sg_base::Area;
+use sg_journal::OpenRefused;
 use sg_model::Stop;
 
 /// How a command ended: with the status of its first fault, if there was one.

@@ -1,15 +1,18 @@
-ghost use Rattle.std.specs.Prelude.{◌≡◌, ◌≤◌, ◌<◌, ◌+◌, ℕ, true, false, IsTrue, Some, IfOk, IfSome, length};
+ghost use Rattle.std.specs.Prelude.{◌≡◌, ◌≤◌, ◌<◌, ◌+◌, ℕ, true, false, IsTrue, Some, IfSome};
 ghost use Rattle.sg_disk.specs.Disk.{FULL, refusing, Spent};
+ghost use Rattle.sg_ops.specs.Table.{table_of};
 ghost use Rattle.sg_top.specs.Top.{are_run, stop_after, outside, HasGone, Tells, IsUnhindered, Completes};
 
-use crate::opening::Unopened;
+use crate::room::zeros;
 use crate::script::run_script;
 use crate::session::Session;
 use crate::status::{Status, first_fault, status_of_end, status_of_refusal};
 use crate::words::command_of;
 use sg_base::{Sink, Source};
 use sg_disk::{Disk, Fuse, Origin};
-use std::alloc::{AllocError, Global};
+use sg_journal::Unopened;
+use sg_ops::Ops;
+use std::alloc::Global;
 use std::marker::Brand;
 
 /// What a command leaves: its status, the disk, and how many of its calls the stop refused. A count
@@ -36,16 +39,10 @@ fn finished<D: Disk, O: Origin>(status: Status, fuse: Fuse<D, O>) -> Finish<D>
     }
 }
 
-// So many zeros.
-fn zeros(alloc: Global, count: usize) -> Result<Vec<u8>, AllocError>
-    ensures { IfOk result (λ v. length v.items ≡ count) }
-{
-    vec![in alloc; 0; count]
-}
-
 // Runs the script over the disk, which makes so many calls at most where a number is given.
 fn run_behind_fuse<D: Disk, S: Source, K: Sink, O: Origin>(
     alloc: Global,
+    ops: &Ops,
     disk: D,
     calls: Option<u64>,
     script: &mut S,
@@ -55,7 +52,7 @@ fn run_behind_fuse<D: Disk, S: Source, K: Sink, O: Origin>(
     requires passes { O.passes ≡ calls }
     requires began { O.calls ≡ (D.view disk).calls }
     requires faults { O.faults ≡ (D.view disk).faults }
-    ensures run { HasGone D.told (outside (D.view disk) (S.left script.old) (S.faults script.old) (K.taken out.old) (K.faults out.old))
+    ensures run { HasGone (table_of record_meaning range_meaning ops.now) D.told (outside (D.view disk) (S.left script.old) (S.faults script.old) (K.taken out.old) (K.faults out.old))
         (outside (D.view result.disk) (S.left script.new) (S.faults script.new) (K.taken out.new) (K.faults out.new)) result.refused result.status }
     ensures heeded { (result.status ≡ Status.Disk → ⊥) → ((D.view result.disk).faults ≡ (D.view disk).faults) × (result.refused ≡ 0) }
     ensures spent { Spent calls (D.view disk).calls (D.view result.disk).calls result.refused }
@@ -69,26 +66,28 @@ fn run_behind_fuse<D: Disk, S: Source, K: Sink, O: Origin>(
     };
     let mut piece = piece;
     let fuse = Fuse::<D, O>::marked(disk, calls);
-    let mut session = match Session::start(alloc, fuse) {
+    let mut session = match Session::start(alloc, ops, fuse) {
         Ok(session) => session,
         Err(Unopened { why, disk }) => {
             let status = status_of_refusal(why);
             return finished(status, disk);
         }
     };
-    let end = run_script(alloc, &mut session, script, out, &mut piece);
+    let end = run_script(alloc, ops, &mut session, script, out, &mut piece);
     let (first, fuse) = session.finish();
     let status = first_fault(first, status_of_end(end));
     finished(status, fuse)
 }
 
 /// Does what the words say, with the script that the source gives, over the disk: `run` and a folder,
-/// which names the disk, runs the script. The replies go to the sink. With `--stop-after` and a number
+/// which names the disk, runs the script with these operations, up to 64 of whose transactions are live
+/// at a time. The replies go to the sink. With `--stop-after` and a number
 /// behind these the disk makes so many more calls at most: each later one fails, and doesn't touch
 /// it. Other words are `Status::Usage`, and touch nothing. A run ends with its first fault, but for
 /// one of the disk: behind that each line is still answered.
 pub fn stasis<D: Disk, S: Source, K: Sink>(
     alloc: Global,
+    ops: Ops,
     words: &[String],
     disk: D,
     script: &mut S,
@@ -98,17 +97,17 @@ pub fn stasis<D: Disk, S: Source, K: Sink>(
     ensures unused { are_run words.now ≡ false → (result.status ≡ Status.Usage) × (result.disk ≡ disk) × (result.refused ≡ 0) × (script.new ≡ script.old) × (out.new ≡ out.old) }
 
     // The headline: one course of the run, its replies, and what a crash leaves of it.
-    ensures run { are_run words.now ≡ true → HasGone D.told (outside (D.view disk) (S.left script.old) (S.faults script.old) (K.taken out.old) (K.faults out.old))
+    ensures run { are_run words.now ≡ true → HasGone (table_of record_meaning range_meaning ops) D.told (outside (D.view disk) (S.left script.old) (S.faults script.old) (K.taken out.old) (K.faults out.old))
         (outside (D.view result.disk) (S.left script.new) (S.faults script.new) (K.taken out.new) (K.faults out.new)) result.refused result.status }
 
     // The cause of each status, that a fault of the disk and a call that is refused give theirs, and how a run ends that
     // nothing hinders.
-    ensures cause { are_run words.now ≡ true → Tells result.status D.told (outside (D.view disk) (S.left script.old) (S.faults script.old) (K.taken out.old) (K.faults out.old))
+    ensures cause { are_run words.now ≡ true → Tells result.status (table_of record_meaning range_meaning ops) D.told (outside (D.view disk) (S.left script.old) (S.faults script.old) (K.taken out.old) (K.faults out.old))
         (outside (D.view result.disk) (S.left script.new) (S.faults script.new) (K.taken out.new) (K.faults out.new)) result.refused }
     ensures heeded { (result.status ≡ Status.Disk → ⊥) → ((D.view result.disk).faults ≡ (D.view disk).faults) × (result.refused ≡ 0) }
-    ensures complete { are_run words.now ≡ true → IsUnhindered D.told (outside (D.view disk) (S.left script.old) (S.faults script.old) (K.taken out.old) (K.faults out.old))
+    ensures complete { are_run words.now ≡ true → IsUnhindered (table_of record_meaning range_meaning ops) D.told (outside (D.view disk) (S.left script.old) (S.faults script.old) (K.taken out.old) (K.faults out.old))
         (outside (D.view result.disk) (S.left script.new) (S.faults script.new) (K.taken out.new) (K.faults out.new)) result.refused →
-        Completes result.status D.told (outside (D.view disk) (S.left script.old) (S.faults script.old) (K.taken out.old) (K.faults out.old))
+        Completes result.status (table_of record_meaning range_meaning ops) D.told (outside (D.view disk) (S.left script.old) (S.faults script.old) (K.taken out.old) (K.faults out.old))
         (outside (D.view result.disk) (S.left script.new) (S.faults script.new) (K.taken out.new) (K.faults out.new)) result.refused }
 
     // The stop.
@@ -122,5 +121,5 @@ pub fn stasis<D: Disk, S: Source, K: Sink>(
             refused: 0,
         };
     };
-    run_behind_fuse::<D, S, K, Brand>(alloc, disk, command.stop_after, script, out)
+    run_behind_fuse::<D, S, K, Brand>(alloc, &ops, disk, command.stop_after, script, out)
 }

@@ -1,6 +1,6 @@
 ghost use Rattle.std.specs.Prelude.{◌≡◌};
 ghost use Rattle.sg_words.specs.Parse.{number_of};
-ghost use Rattle.sg_top.specs.Top.{command_of, run_with};
+ghost use Rattle.sg_top.specs.Top.{command_of, are_run, run_with};
 
 use sg_words::parse_number;
 
@@ -36,4 +36,11 @@ pub fn command_of(words: &[String]) -> Option<Command>
         }
         _ => None,
     }
+}
+
+/// Whether the words are those of a run.
+pub fn is_run(words: &[String]) -> bool
+    ensures { result ≡ are_run words.now }
+{
+    command_of(words).is_some()
 }

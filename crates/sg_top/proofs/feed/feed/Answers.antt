@@ -1,15 +1,13 @@
 use Rattle.std.proofs.Common.{List, ℕ, Bool, ◌||◌, is_none, refl, ap, ◌∙◌, subst}
 use Rattle.sg_base.specs.Ends.{HasRisen}
-use Rattle.sg_words.specs.Parse.{order_of}
-use Rattle.sg_top.specs.Goes.{Goes}
 use Rattle.sg_top.specs.Sessions.{session_core, session_disk}
 use Rattle.sg_top.proofs.Heeding.{heeds_more}
-use Rattle.sg_top.proofs.Feeds.{feed_started, feed_line, feed_ends, feed_breaks}
+use Rattle.sg_top.proofs.Feeds.{goes_at, feed_started, feed_line, feed_ends, feed_breaks}
 use Rattle.sg_top.proofs.feed.feed.Goals as goal
 
 pub lines-init : goal.lines-init
 lines-init g c = record {
-  so_far = λ was v k x lines first held h. feed_started g.D.Disk.told was v k x lines first held c.args.piece.now _ _ _ c.args.pending.now h;
+  so_far = λ was v k x lines first held h. feed_started _ g.D.Disk.told was v k x lines first held c.args.piece.now _ _ _ c.args.pending.now h;
   quiet = refl;
   heard = refl;
   heeded = λ none. (none, refl);
@@ -17,7 +15,7 @@ lines-init g c = record {
 
 pub returns-in_default-clause-fed : goal.returns-in_default-clause-fed
 returns-in_default-clause-fed g c = λ was v k x lines first held h.
-    feed_ends g.D.Disk.told was v k x lines first held c.args.piece.now _ _ _ c.lines.pending c.push.new.self c.lines.rest.now c.cut.result.0.now (c.lines.invariant.so_far was v k x lines first held h) c.push.ensures (rw c.in_default.is at c.cut.ensures.last_piece)
+    feed_ends _ g.D.Disk.told was v k x lines first held c.args.piece.now _ _ _ c.lines.pending c.push.new.self c.lines.rest.now c.cut.result.0.now (c.lines.invariant.so_far was v k x lines first held h) c.push.ensures (rw c.in_default.is at c.cut.ensures.last_piece)
 
 pub lines-preserved : goal.lines-preserved
 lines-preserved g c = record {
@@ -26,9 +24,9 @@ lines-preserved g c = record {
       let l = c.in-Ok.ensures.line was a.so_far.executed.after a.so_far.executed.shows in
       let w = g.D.Disk.view (session_disk c.lines.session) in
       let u = g.D.Disk.view (session_disk c.line.new.self) in
-      feed_line g.D.Disk.told was v k x lines first held c.args.piece.now (g.K.Sink.taken c.lines.out) (g.K.Sink.taken c.line.new.out) w u (session_core c.lines.session) (session_core c.line.new.self)
-      c.lines.pending c.push.new.self c.clear.new.self c.lines.rest.now c.cut.result.0.now c.in-Some.after.now l.0 a c.push.ensures c.clear.ensures (rw c.in-Some.is at c.cut.ensures.more_piece) c.line.ensures.disk c.line.ensures.grown
-      (subst (λ (t : List ℕ). Goes g.D.Disk.told was w (session_core c.lines.session) a.so_far.executed.after (order_of t) l.0 u (session_core c.line.new.self)) c.bytes.ensures l.1) l.2;
+      feed_line _ g.D.Disk.told was v k x lines first held c.args.piece.now (g.K.Sink.taken c.lines.out) (g.K.Sink.taken c.line.new.out) w u (session_core c.lines.session) (session_core c.line.new.self)
+      c.lines.pending c.push.new.self c.clear.new.self c.lines.rest.now c.cut.result.0.now c.in-Some.after.now l.answer a c.push.ensures c.clear.ensures (rw c.in-Some.is at c.cut.ensures.more_piece) c.line.ensures.disk c.line.ensures.grown
+      (goes_at _ _ c.bytes.ensures l.goes) l.took;
   quiet = c.in-Ok.ensures.quiet ∙ c.lines.invariant.quiet;
   heard = c.in-Ok.ensures.heard ∙ c.lines.invariant.heard;
   heeded = heeds_more _ _ _ (g.D.Disk.view (session_disk c.args.session.now)) (g.D.Disk.view (session_disk c.lines.session)) (g.D.Disk.view (session_disk c.line.new.self)) c.lines.invariant.heeded c.line.ensures.heeded;
@@ -40,9 +38,9 @@ returns-in-Err-clause-broken g c = λ was v k x lines first held h.
     let l = c.in-Err.ensures.cut was a.so_far.executed.after a.so_far.executed.shows in
     let w = g.D.Disk.view (session_disk c.lines.session) in
     let u = g.D.Disk.view (session_disk c.line.new.self) in
-    feed_breaks g.D.Disk.told was v k x lines first held c.args.piece.now (g.K.Sink.taken c.lines.out) (g.K.Sink.taken c.line.new.out) w u (session_core c.lines.session) (session_core c.line.new.self)
-    c.lines.pending c.push.new.self c.lines.rest.now c.cut.result.0.now c.in-Some.after.now l.0 a c.push.ensures (rw c.in-Some.is at c.cut.ensures.more_piece) c.line.ensures.disk c.line.ensures.grown
-    (subst (λ (t : List ℕ). Goes g.D.Disk.told was w (session_core c.lines.session) a.so_far.executed.after (order_of t) l.0 u (session_core c.line.new.self)) c.bytes.ensures l.1) l.2
+    feed_breaks _ g.D.Disk.told was v k x lines first held c.args.piece.now (g.K.Sink.taken c.lines.out) (g.K.Sink.taken c.line.new.out) w u (session_core c.lines.session) (session_core c.line.new.self)
+    c.lines.pending c.push.new.self c.lines.rest.now c.cut.result.0.now c.in-Some.after.now l.answer a c.push.ensures (rw c.in-Some.is at c.cut.ensures.more_piece) c.line.ensures.disk c.line.ensures.grown
+    (goes_at _ _ c.bytes.ensures l.goes) l.took
 
 pub returns-in-Err-clause-failed : goal.returns-in-Err-clause-failed
 returns-in-Err-clause-failed g c = subst (λ (n : ℕ). HasRisen n (g.K.Sink.faults c.line.new.out)) c.lines.invariant.quiet c.in-Err.ensures.failed

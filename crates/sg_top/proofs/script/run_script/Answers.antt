@@ -1,15 +1,14 @@
 use Rattle.std.proofs.Common.{List, ℕ, Bool, ◌||◌, is_none, arith, subst, refl, ap, ◌∙◌}
 use Rattle.sg_base.specs.Ends.{HasRisen}
-use Rattle.sg_words.specs.Parse.{order_of}
-use Rattle.sg_top.specs.Goes.{Goes}
 use Rattle.sg_top.specs.Sessions.{session_core, session_disk}
 use Rattle.sg_top.proofs.Heeding.{heeds_more}
+use Rattle.sg_top.proofs.Feeds.{goes_at}
 use Rattle.sg_top.proofs.Scripts.{way_begins, way_goes_on, way_ends, way_unwritten, way_broken, way_unread, way_too_long}
 use Rattle.sg_top.proofs.script.run_script.Goals as goal
 
 pub pieces-init : goal.pieces-init
 pieces-init g c = record {
-  so_far = λ was x shows. way_begins g.D.Disk.told was (g.D.Disk.view (session_disk c.args.session.now)) (session_core c.args.session.now) x (g.S.Source.left c.args.script.now) (g.K.Sink.taken c.args.out.now) c.new-line.result c.new-line.ensures shows;
+  so_far = λ was x shows. way_begins _ g.D.Disk.told was (g.D.Disk.view (session_disk c.args.session.now)) (session_core c.args.session.now) x (g.S.Source.left c.args.script.now) (g.K.Sink.taken c.args.out.now) c.new-line.result c.new-line.ensures shows;
   short = omega arith;
   source = refl;
   sink = refl;
@@ -19,7 +18,7 @@ pieces-init g c = record {
 
 pub returns-in_default-clause-ran : goal.returns-in_default-clause-ran
 returns-in_default-clause-ran g c was x shows =
-    way_unread g.D.Disk.told was (g.D.Disk.view (session_disk c.args.session.now)) (session_core c.args.session.now) x (g.S.Source.left c.args.script.now) (g.K.Sink.taken c.args.out.now) (g.S.Source.left c.pieces.script) _ _ _ _ c.pieces.line c.pieces.total (c.pieces.invariant.so_far was x shows) c.pieces.invariant.short c.in_default.ensures.kept
+    way_unread _ g.D.Disk.told was (g.D.Disk.view (session_disk c.args.session.now)) (session_core c.args.session.now) x (g.S.Source.left c.args.script.now) (g.K.Sink.taken c.args.out.now) (g.S.Source.left c.pieces.script) _ _ _ _ c.pieces.line c.pieces.total (c.pieces.invariant.so_far was x shows) c.pieces.invariant.short c.in_default.ensures.kept
 
 pub returns-in-Ok-line-clause-ran : goal.returns-in-Ok-line-clause-ran
 returns-in-Ok-line-clause-ran g c was x shows =
@@ -27,9 +26,9 @@ returns-in-Ok-line-clause-ran g c was x shows =
     let l = c.in-Ok-line.ensures.line was h.before.executed.after h.before.executed.shows in
     let w = g.D.Disk.view (session_disk c.pieces.session) in
     let u = g.D.Disk.view (session_disk c.line.new.self) in
-    way_ends g.D.Disk.told was (g.D.Disk.view (session_disk c.args.session.now)) (session_core c.args.session.now) x (g.S.Source.left c.args.script.now) (g.K.Sink.taken c.args.out.now) (g.S.Source.left c.pieces.script) (g.S.Source.left c.read.new.self) (g.K.Sink.taken c.pieces.out) (g.K.Sink.taken c.line.new.out)
-    w u (session_core c.pieces.session) (session_core c.line.new.self) c.pieces.line c.read.new.into c.pieces.total l.0 h c.pieces.invariant.short (omega arith) (rw c.if-count-eq0.true at c.in-Ok.ensures.given) c.line.ensures.disk c.line.ensures.grown
-    (subst (λ (t : List ℕ). Goes g.D.Disk.told was w (session_core c.pieces.session) h.before.executed.after (order_of t) l.0 u (session_core c.line.new.self)) c.bytes.ensures l.1) l.2
+    way_ends _ g.D.Disk.told was (g.D.Disk.view (session_disk c.args.session.now)) (session_core c.args.session.now) x (g.S.Source.left c.args.script.now) (g.K.Sink.taken c.args.out.now) (g.S.Source.left c.pieces.script) (g.S.Source.left c.read.new.self) (g.K.Sink.taken c.pieces.out) (g.K.Sink.taken c.line.new.out)
+    w u (session_core c.pieces.session) (session_core c.line.new.self) c.pieces.line c.read.new.into c.pieces.total l.answer h c.pieces.invariant.short (omega arith) (rw c.if-count-eq0.true at c.in-Ok.ensures.given) c.line.ensures.disk c.line.ensures.grown
+    (goes_at _ _ c.bytes.ensures l.goes) l.took
 
 pub returns-in-Err-clause-ran : goal.returns-in-Err-clause-ran
 returns-in-Err-clause-ran g c was x shows =
@@ -37,19 +36,19 @@ returns-in-Err-clause-ran g c was x shows =
     let l = c.in-Err.ensures.cut was h.before.executed.after h.before.executed.shows in
     let w = g.D.Disk.view (session_disk c.pieces.session) in
     let u = g.D.Disk.view (session_disk c.line.new.self) in
-    way_unwritten g.D.Disk.told was (g.D.Disk.view (session_disk c.args.session.now)) (session_core c.args.session.now) x (g.S.Source.left c.args.script.now) (g.K.Sink.taken c.args.out.now) (g.S.Source.left c.pieces.script) (g.S.Source.left c.read.new.self) (g.K.Sink.taken c.pieces.out) (g.K.Sink.taken c.line.new.out)
-    w u (session_core c.pieces.session) (session_core c.line.new.self) c.pieces.line c.read.new.into c.pieces.total l.0 h c.pieces.invariant.short (omega arith) (rw c.if-count-eq0.true at c.in-Ok.ensures.given) c.line.ensures.disk c.line.ensures.grown
-    (subst (λ (t : List ℕ). Goes g.D.Disk.told was w (session_core c.pieces.session) h.before.executed.after (order_of t) l.0 u (session_core c.line.new.self)) c.bytes.ensures l.1) l.2
+    way_unwritten _ g.D.Disk.told was (g.D.Disk.view (session_disk c.args.session.now)) (session_core c.args.session.now) x (g.S.Source.left c.args.script.now) (g.K.Sink.taken c.args.out.now) (g.S.Source.left c.pieces.script) (g.S.Source.left c.read.new.self) (g.K.Sink.taken c.pieces.out) (g.K.Sink.taken c.line.new.out)
+    w u (session_core c.pieces.session) (session_core c.line.new.self) c.pieces.line c.read.new.into c.pieces.total l.answer h c.pieces.invariant.short (omega arith) (rw c.if-count-eq0.true at c.in-Ok.ensures.given) c.line.ensures.disk c.line.ensures.grown
+    (goes_at _ _ c.bytes.ensures l.goes) l.took
 
 pub returns-then-count-total-clause-ran : goal.returns-then-count-total-clause-ran
 returns-then-count-total-clause-ran g c was x shows =
-    way_too_long g.D.Disk.told was (g.D.Disk.view (session_disk c.args.session.now)) (session_core c.args.session.now) x (g.S.Source.left c.args.script.now) (g.K.Sink.taken c.args.out.now) (g.S.Source.left c.pieces.script) (g.S.Source.left c.read.new.self) _ _ _ c.pieces.line c.read.new.into c.pieces.total c.in-Ok.count
+    way_too_long _ g.D.Disk.told was (g.D.Disk.view (session_disk c.args.session.now)) (session_core c.args.session.now) x (g.S.Source.left c.args.script.now) (g.K.Sink.taken c.args.out.now) (g.S.Source.left c.pieces.script) (g.S.Source.left c.read.new.self) _ _ _ c.pieces.line c.read.new.into c.pieces.total c.in-Ok.count
     (c.pieces.invariant.so_far was x shows) c.pieces.invariant.short (omega arith) c.in-Ok.ensures.given c.in-Ok.ensures.within (omega (arith, c.requires.small))
 
 pub pieces-preserved : goal.pieces-preserved
 pieces-preserved g c = record {
   so_far = λ was x shows.
-      way_goes_on g.D.Disk.told was (g.D.Disk.view (session_disk c.args.session.now)) (session_core c.args.session.now) x (g.S.Source.left c.args.script.now) (g.K.Sink.taken c.args.out.now) (g.S.Source.left c.pieces.script) (g.S.Source.left c.read.new.self) _ _ _ _ _ _ c.pieces.line c.feed.new.pending c.read.new.into _ c.pieces.total c.in-Ok.count
+      way_goes_on _ g.D.Disk.told was (g.D.Disk.view (session_disk c.args.session.now)) (session_core c.args.session.now) x (g.S.Source.left c.args.script.now) (g.K.Sink.taken c.args.out.now) (g.S.Source.left c.pieces.script) (g.S.Source.left c.read.new.self) _ _ _ _ _ _ c.pieces.line c.feed.new.pending c.read.new.into _ c.pieces.total c.in-Ok.count
       (c.pieces.invariant.so_far was x shows) c.in-Ok.ensures.given c.in-Ok.ensures.within refl c.in-Ok-feed.ensures.fed;
   short = omega arith;
   source = c.in-Ok.ensures.quiet ∙ c.pieces.invariant.source;
@@ -60,7 +59,7 @@ pieces-preserved g c = record {
 
 pub returns-in-Err-feed-clause-ran : goal.returns-in-Err-feed-clause-ran
 returns-in-Err-feed-clause-ran g c was x shows =
-    way_broken g.D.Disk.told was (g.D.Disk.view (session_disk c.args.session.now)) (session_core c.args.session.now) x (g.S.Source.left c.args.script.now) (g.K.Sink.taken c.args.out.now) (g.S.Source.left c.pieces.script) (g.S.Source.left c.read.new.self) _ _ _ _ _ _ c.pieces.line c.read.new.into _ c.pieces.total c.in-Ok.count
+    way_broken _ g.D.Disk.told was (g.D.Disk.view (session_disk c.args.session.now)) (session_core c.args.session.now) x (g.S.Source.left c.args.script.now) (g.K.Sink.taken c.args.out.now) (g.S.Source.left c.pieces.script) (g.S.Source.left c.read.new.self) _ _ _ _ _ _ c.pieces.line c.read.new.into _ c.pieces.total c.in-Ok.count
     (c.pieces.invariant.so_far was x shows) (omega arith) c.in-Ok.ensures.given c.in-Ok.ensures.within refl c.in-Err-feed.ensures.broken
 
 pub returns-in_default-clause-cause : goal.returns-in_default-clause-cause

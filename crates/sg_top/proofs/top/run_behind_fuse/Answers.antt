@@ -1,21 +1,22 @@
 use Rattle.std.proofs.Common.{◌≡◌, ℕ, ◌||◌, Bool, is_none, inl, inr, refl, sym, ap, ◌∙◌, arith}
 use Rattle.sg_disk.specs.Disk as disk
-use Rattle.sg_model.specs.History.{start}
+use Rattle.sg_ops.specs.Table.{table_of}
+use Rattle.sg_run.specs.Run.{start}
+use Rattle.sg_journal.specs.Opening.{StaysShut, IsQuietFor}
 use Rattle.sg_top.specs.declared.status.Status as code_status
 use Rattle.sg_top.specs.Statuses.{status_of, status_of_end, first_fault}
 use Rattle.sg_top.specs.Top.{Outside, outside}
-use Rattle.sg_top.specs.Opening.{StaysShut, IsQuietFor}
 use Rattle.sg_top.specs.Sessions.{session_core, session_disk, session_unheard}
 use Rattle.sg_top.proofs.Endings.{along, ended_status, ran_of, never_of, never_began, heeded_never, heeded_ran}
 use Rattle.sg_top.proofs.top.run_behind_fuse.Goals as goal
 
 pub returns-in_default-clause-run : goal.returns-in_default-clause-run
-returns-in_default-clause-run g c = inl (never_began g.D.Disk.told _)
+returns-in_default-clause-run g c = inl (never_began _ g.D.Disk.told _)
 
 pub returns-in-Err-clause-run : goal.returns-in-Err-clause-run
 returns-in-Err-clause-run g c =
-    inl (never_of g.D.Disk.told _ _ c.finished.result.refused c.finished.result.status c.in-Err.field-0.why refl refl (refl, refl) (c.finished.ensures.status ∙ c.status_of_refusal-status.ensures)
-    (along (λ v w. StaysShut g.D.Disk.told v w c.in-Err.field-0.why) _ _ _ _ c.marked-fuse.ensures.view c.finished.ensures.view c.in-Err.ensures.refused))
+    inl (never_of _ g.D.Disk.told _ _ c.finished.result.refused c.finished.result.status c.in-Err.field-0.why refl refl (refl, refl) (c.finished.ensures.status ∙ c.status_of_refusal-status.ensures)
+    (along (λ v w. StaysShut (table_of (λ z. (goal.RecordOp-dyn g z).record_meaning z.1) (λ z. (goal.RangeOp-dyn g z).range_meaning z.1) c.args.ops.now) g.D.Disk.told v w c.in-Err.field-0.why) _ _ _ _ c.marked-fuse.ensures.view c.finished.ensures.view c.in-Err.ensures.refused))
 
 -- the status at the end
 ending : (g : _) (c : goal.After-drop-piece-2 g) → c.finished-2.result.status ≡ status_of c.run_script-end.result (session_core c.run_script-end.new.session).stopped
@@ -39,7 +40,7 @@ returns-clause-run g c =
     let n = c.run_script-end.new.session in
     let old : Outside = outside (g.D.Disk.view c.args.disk) (g.S.Source.left c.args.script.now) (g.S.Source.faults c.args.script.now) (g.K.Sink.taken c.args.out.now) (g.K.Sink.faults c.args.out.now) in
     let new : Outside = outside (g.D.Disk.view c.finished-2.result.disk) (g.S.Source.left c.run_script-end.new.script) (g.S.Source.faults c.run_script-end.new.script) (g.K.Sink.taken c.run_script-end.new.out) (g.K.Sink.faults c.run_script-end.new.out) in
-    inr (ran_of g.D.Disk.told old new c.finished-2.result.refused c.finished-2.result.status _ (session_core o) (session_core n) c.run_script-end.result c.run_script-end.ensures.cause
+    inr (ran_of _ g.D.Disk.told old new c.finished-2.result.refused c.finished-2.result.status _ (session_core o) (session_core n) c.run_script-end.result c.run_script-end.ensures.cause
     (ending g c) _ _ c.marked-fuse.ensures.view (last_view g c) c.in-Ok-start.ensures.opens (c.run_script-end.ensures.ran _ (start c.in-Ok-start.ensures.opens.first) c.in-Ok-start.ensures.opens.shows))
 
 pub returns-in-Err-clause-heeded : goal.returns-in-Err-clause-heeded

@@ -1,0 +1,156 @@
+use crate::Status;
+use crate::trial::answered;
+use sg_disk::MemDisk;
+use std::test::Fail;
+
+// Lines, and what a session over an empty disk answers them.
+const ROWS: [(&str, &str); 13] = [
+    // one transaction behind another
+    (
+        "t begin\nt make array a 3\nt push a abc\nt set a 0 xyz\nt commit\nu begin\nu get a 0\nu get a 1",
+        "ok\nok\nok 0\nok\nok\nok\nok xyz\nerror out-of-range\n",
+    ),
+    // an abort beside the change of another item
+    (
+        "p begin\np make array a 2\np push a aa\np push a bb\np commit\n\
+         t begin\nu begin\nt set a 0 cc\nu set a 1 dd\nt abort\nu get a 0\nu commit\nv begin\nv get a 0\nv get a 1",
+        "ok\nok\nok 0\nok 1\nok\nok\nok\nok\nok\nok\nok aa\nok\nok\nok aa\nok dd\n",
+    ),
+    // a read of what another has changed
+    (
+        "p begin\np make array a 2\np push a aa\np push a bb\np commit\n\
+         t begin\nu begin\nt set a 0 zz\nu get a 0\nt abort\nu get a 0",
+        "ok\nok\nok 0\nok 1\nok\nok\nok\nok\nbusy t\nok\nok aa\n",
+    ),
+    // what a refused read touched is held
+    (
+        "p begin\np make array a 2\np push a aa\np push a bb\np commit\nt begin\nu begin\nt get a 2\nu push a xx",
+        "ok\nok\nok 0\nok 1\nok\nok\nok\nerror out-of-range\nbusy t\n",
+    ),
+    // a sum that wraps, and its undo
+    (
+        "t begin\nt make array n 8\nt push n x:ffffffffffffffff\nt commit\nu begin\nu apply n 0 1 x:0100000000000000\n\
+         u get n 0\nu abort\nv begin\nv get n 0\nv apply n 0 2 x:01\nv apply n 0 9 x:01",
+        "ok\nok\nok 0\nok\nok\nok\nok x:0000000000000000\nok\nok\nok x:ffffffffffffffff\nerror declined\nerror no-operation\n",
+    ),
+    (
+        "t begin\nt make array r 3\nt push r abc\nt apply r 0 3 x:01\nt get r 0",
+        "ok\nok\nok 0\nok\nok bca\n",
+    ),
+    (
+        "t begin\nt make blob b\nt size b 32769\nt commit\nu begin\nu write b 32767 AB\nu read b 32766 3\nu abort\n\
+         v begin\nv read b 32766 3",
+        "ok\nok\nok\nok\nok\nok\nok x:004142\nok\nok\nok x:000000\n",
+    ),
+    (
+        "p begin\np make blob b\np size b 5\np write b 0 hello\np commit\nt begin\nt size b 2\nt size b 5\nt read b 0 5\n\
+         t abort\nu begin\nu read b 0 5\nu size b 4\nu paint b 0 4 2 x:0a\nu paint b 1 2 1 Z\nu read b 0 4",
+        "ok\nok\nok\nok\nok\nok\nok\nok\nok x:6865000000\nok\nok\nok hello\nok\nok\nok\nok x:0a5a5a0d\n",
+    ),
+    (
+        "p begin\np make array a 1\np push a x:00\np make blob b\np size b 5\np write b 0 hello\np make table t\n\
+         p put t a x:\np put t b x:c3a9\np put t c x:783a79\np commit\ns begin\ns keys t\ns list",
+        "ok\nok\nok 0\nok\nok\nok\nok\nok new\nok new\nok new\nok\nok\nok 3 a b c\nok 3 a b t\n",
+    ),
+    // refusals in their order
+    (
+        "t frob\nt push a x:0\nT begin\n\n# note\nt begin\nt begin\nu get a 0",
+        "error syntax\nerror syntax\nerror syntax\nok\nerror live\nerror no-transaction\n",
+    ),
+    // of two that are in the way the one that began first is named, and one that has ended is in nobody's way
+    (
+        "p begin\np make array a 2\np push a aa\np commit\nt begin\nu begin\nv begin\nu get a 0\nt get a 0\nv set a 0 zz\n\
+         t abort\nv set a 0 zz\nu commit\nv set a 0 zz\nv commit\nw begin\nw get a 0",
+        "ok\nok\nok 0\nok\nok\nok\nok\nok aa\nok aa\nbusy t\nok\nbusy u\nok\nok\nok\nok\nok zz\n",
+    ),
+    // an abort leaves out its own keys and objects, and no one else's
+    (
+        "p begin\np make table h\np put h a 1\np commit\nt begin\nu begin\nt put h b 2\nu put h c 3\nt put h a 9\n\
+         t make array z 1\nu keys h\nt abort\nu keys h\nu list\nu find h a\nu commit\nv begin\nv keys h\nv list",
+        "ok\nok\nok new\nok\nok\nok\nok new\nok new\nok replaced\nok\nbusy t\nok\nok 2 a c\nok 1 h\nok 1\nok\nok\nok 2 a c\nok 1 h\n",
+    ),
+    // what is dropped is there again, also where another had read its name
+    (
+        "p begin\np make array a 2\np push a aa\np commit\nt begin\nu begin\nt drop a\nu get a 0\nt abort\nu get a 0\n\
+         u drop a\nu make array a 1\nu push a x\nu abort\nv begin\nv get a 0",
+        "ok\nok\nok 0\nok\nok\nok\nok\nbusy t\nok\nok aa\nok\nok\nok 0\nok\nok\nok aa\n",
+    ),
+];
+
+#[test]
+fn lines_of_transactions_among_one_another(rt: HostRuntime) -> Result<(), Fail> {
+    let alloc = rt.alloc();
+    for (lines, replies) in ROWS {
+        let left = answered(alloc, MemDisk::new(alloc), lines, None)?;
+        assert_eq!(rt; left.status, Status::Done);
+        assert_eq!(rt; left.replies.as_slice(), replies.as_bytes());
+    }
+    Ok(())
+}
+
+// A table whose second long entry is taken back.
+#[test]
+fn a_long_entry_is_taken_back(rt: HostRuntime) -> Result<(), Fail> {
+    let alloc = rt.alloc();
+    let mut value = String::new(alloc);
+    for _ in 0..1024u32 {
+        value.push('v')?;
+    }
+    let lines = format!(in alloc;
+        "t begin\nt make table h\nt put h k1 {value}\nt commit\nu begin\nu put h k2 {value}\nu abort\nw begin\nw find h k2\nw find h k1"
+    )?;
+    let left = answered(alloc, MemDisk::new(alloc), lines.as_str(), None)?;
+    let replies = format!(in alloc; "ok\nok\nok new\nok\nok\nok new\nok\nok\nnone\nok {value}\n")?;
+    assert_eq!(rt; left.replies.as_slice(), replies.as_bytes());
+    Ok(())
+}
+
+// The lines of 64 transactions that begin and make an object each, of one more that can't, and then of an abort of each
+// second one and a commit of the others.
+#[test]
+fn as_many_are_live_as_may_be(rt: HostRuntime) -> Result<(), Fail> {
+    let alloc = rt.alloc();
+    let mut lines = String::new(alloc);
+    let mut replies = String::new(alloc);
+    for n in 10..74u32 {
+        lines.push_str(format!(in alloc; "t{n} begin\nt{n} make array a{n} 1\n")?.as_str())?;
+        replies.push_str("ok\nok\n")?;
+    }
+    lines.push_str("u begin\n")?;
+    replies.push_str("error too-many-live\n")?;
+    for n in 10..74u32 {
+        let end = if n % 2 == 0 { "abort" } else { "commit" };
+        lines.push_str(format!(in alloc; "t{n} {end}\n")?.as_str())?;
+        replies.push_str("ok\n")?;
+    }
+    lines.push_str("u begin\nu list")?;
+    replies.push_str("ok\nok 32")?;
+    for n in 10..74u32 {
+        if n % 2 == 1 {
+            replies.push_str(format!(in alloc; " a{n}")?.as_str())?;
+        }
+    }
+    replies.push_str("\n")?;
+    let left = answered(alloc, MemDisk::new(alloc), lines.as_str(), None)?;
+    assert_eq!(rt; left.replies.as_slice(), replies.as_bytes());
+    Ok(())
+}
+
+// A transaction holds an array, its kind, its length and each item that it pushed.
+#[test]
+fn as_much_is_held_as_may_be(rt: HostRuntime) -> Result<(), Fail> {
+    let alloc = rt.alloc();
+    let mut lines = String::new(alloc);
+    let mut replies = String::new(alloc);
+    lines.push_str("t begin\nt make array a 1\n")?;
+    replies.push_str("ok\nok\n")?;
+    for n in 0..4093u32 {
+        lines.push_str("t push a x\n")?;
+        replies.push_str(format!(in alloc; "ok {n}\n")?.as_str())?;
+    }
+    lines.push_str("t push a x\nt len a")?;
+    replies.push_str("error locks-full\nok 4093\n")?;
+    let left = answered(alloc, MemDisk::new(alloc), lines.as_str(), None)?;
+    assert_eq!(rt; left.replies.as_slice(), replies.as_bytes());
+    Ok(())
+}
