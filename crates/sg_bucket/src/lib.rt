@@ -19,6 +19,3 @@ pub use bucket::{del, make, put};
 pub use entry::{MOST_KEY, MOST_VALUE};
 pub use free::free_all;
 pub use walk::{find, pages};
-
-#[cfg(test)]
-mod tests;

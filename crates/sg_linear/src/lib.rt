@@ -11,6 +11,3 @@ mod fnv;
 
 pub use extent::Extent;
 pub use fnv::fnv_1a;
-
-#[cfg(test)]
-mod tests;
