@@ -224,10 +224,10 @@ peak_turns {old} {new} {c} peak h changed bands = record {
     page_kept : (j p : ℕ) → slice_get c.pages j ≡ Some p → HasAt new.pages.at p (IsPage (get_or c.pages (j + 1) 0) c.places j)
     page_kept j p at = let one = h.page j p at in elim (cases_eq p 0) [
       | inl e ↦ record {
-          what = record (one.what) { links = (one.what.links.0, peak) };
-          is = ap new.pages.at e ∙ changed.here one.what (ap old.pages.at (sym e) ∙ one.is);
-          has = record { kind = one.has.kind; link = one.has.link; few = one.has.few; cells = one.has.cells };
-        }
+        what = record (one.what) { links = (one.what.links.0, peak) };
+        is = ap new.pages.at e ∙ changed.here one.what (ap old.pages.at (sym e) ∙ one.is);
+        has = record { kind = one.has.kind; link = one.has.link; few = one.has.few; cells = one.has.cells };
+      }
       | inr ne ↦ record { what = one.what; is = changed.others p ne ∙ one.is; has = one.has }
     ]
 

@@ -91,10 +91,10 @@ module _ {old new : ℕ → Option Sheet} (c : Catalog) (i : ℕ) (spot : Spot) 
   peak_now : HasAt new 0 (SaysPeak c.peak)
   peak_now = let says = h.says_peak in elim (cases_eq 0 spot.page.0) [
     | inl e ↦ record {
-        what = q.now;
-        is = here_at 0 e;
-        has = record { says = ap (λ (l : ℕ × ℕ). l.1) q.placed.links ∙ (ap (λ (t : Sheet). t.links.1) (same_some q.was says.what (sym q.was_is ∙ (ap old (sym e) ∙ says.is))) ∙ says.has.says) };
-      }
+      what = q.now;
+      is = here_at 0 e;
+      has = record { says = ap (λ (l : ℕ × ℕ). l.1) q.placed.links ∙ (ap (λ (t : Sheet). t.links.1) (same_some q.was says.what (sym q.was_is ∙ (ap old (sym e) ∙ says.is))) ∙ says.has.says) };
+    }
     | inr ne ↦ record { what = says.what; is = q.others 0 ne ∙ says.is; has = says.has }
   ]
 

@@ -11,8 +11,8 @@ ghost use Rattle.sg_space.specs.View.{Counts, OnlyReads};
 use crate::change::{clear_row, set_row};
 use crate::grow::{place_row, raise_peak};
 use crate::look::Found;
-use crate::row::{Entry, Row};
 use crate::page::ListFault;
+use crate::row::{Entry, Row};
 use crate::walk::{list_all, search, survey_pages};
 use crate::wanted::Wanted;
 use sg_base::{Name, PageNo, TxnId};
@@ -61,12 +61,7 @@ pub fn next_buried<P: PageSpace>(
 }
 
 /// Makes the object of this name a tombstone of this transaction.
-pub fn bury<P: PageSpace>(
-    space: &mut P,
-    ops: &Ops,
-    name: Name,
-    by: TxnId,
-) -> Result<(), SpaceFault>
+pub fn bury<P: PageSpace>(space: &mut P, ops: &Ops, name: Name, by: TxnId) -> Result<(), SpaceFault>
     requires { HasCatalog (P.view space.old) (HasOne (is_there name)) }
     ensures counts { Counts (P.view space.old) (P.view space.new) result }
     ensures did { OnOk result (DidIf (P.view space.old) (P.view space.new)

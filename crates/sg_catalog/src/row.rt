@@ -5,8 +5,10 @@ ghost use Rattle.sg_base.specs.Overwritten.{Wrote};
 ghost use Rattle.sg_catalog.specs.Row.{code_of, state_of, dropper_of, row_form, row_cell, shown_fields, kind_with, row_of, IsFormed};
 ghost use Rattle.sg_catalog.specs.Row as spec;
 
-use sg_base::{Name, PageNo, TxnId, put_text, put_u8, put_u32, put_u64};
-use sg_base::{split_text, split_u8, split_u32, split_u64};
+use sg_base::{
+    Name, PageNo, TxnId, put_text, put_u8, put_u32, put_u64, split_text, split_u8, split_u32,
+    split_u64,
+};
 
 /// The most bytes that a row has.
 pub const LARGEST: usize = 47;

@@ -21,12 +21,15 @@ returns-clause-did g c =
     let linked = c.in_ok-set_next.ensures.did in
     record {
       keeps = λ t. keeps_then (record { told = took.told; table = took.table; may_take = took.may_take; may_have = took.may_have }) (linked.keeps (took.told t));
-      turns = λ t d h can. (c.in_ok-page.page.0, page_turns h (record {
-        at_last = can.at_last;
-        took = subst (λ (cell : List ℕ). IsTaken (g.P.PageSpace.view c.args.space.now).space.pages (g.P.PageSpace.view c.take_page_with.new.space).space.pages c.in_ok-page.page.0 (λ (sheet : Sheet). sheet ≡ one_cell 1 cell)) c.spell_row-size.ensures.bytes (took.pages t);
-        linked = linked.pages (took.told t);
-        bands = linked.bands (took.told t) ∙ took.bands t;
-        small = took.small;
-        formed = c.spell_row-size.ensures.formed;
-      }));
+      turns = λ t d h can. (
+        c.in_ok-page.page.0,
+        page_turns h (record {
+          at_last = can.at_last;
+          took = subst (λ (cell : List ℕ). IsTaken (g.P.PageSpace.view c.args.space.now).space.pages (g.P.PageSpace.view c.take_page_with.new.space).space.pages c.in_ok-page.page.0 (λ (sheet : Sheet). sheet ≡ one_cell 1 cell)) c.spell_row-size.ensures.bytes (took.pages t);
+          linked = linked.pages (took.told t);
+          bands = linked.bands (took.told t) ∙ took.bands t;
+          small = took.small;
+          formed = c.spell_row-size.ensures.formed;
+        }),
+      );
     }

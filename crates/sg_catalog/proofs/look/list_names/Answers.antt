@@ -16,4 +16,4 @@ loop-slot-preserved-then-is_some c =
 pub loop-slot-preserved : goal.loop-slot-preserved
 loop-slot-preserved c =
     names_object (slots_of c.args.view.now.page.now) c.loop-slot.slot (omega arith) _ _ c.loop-slot.invariant c.in-Some-row_in.row _
-    (ap (λ (o : Option (List ℕ)). row_in o) (sym c.in-Some.ensures) ∙ sym c.in-Some-row_in.ensures) (ap not (sym c.is_some.ensures ∙ c.if-is_some.false)) c.in_ok-push_name.ensures.pushed
+    (ap (λ (o : Option (List ℕ)). row_in o) (sym c.in-Some.ensures) ∙ sym c.in-Some-row_in.ensures) (ap not (sym c.is_some.ensures ∙ c.if-is_some.false)) c.in-Ok.ensures
