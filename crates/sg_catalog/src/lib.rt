@@ -19,6 +19,3 @@ mod wanted;
 pub use catalog::{add, bury, find, forget, names, next_buried, remove, unbury};
 pub use page::ListFault;
 pub use row::{Entry, ObjectKind};
-
-#[cfg(test)]
-mod tests;
