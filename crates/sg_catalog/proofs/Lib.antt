@@ -1,0 +1,12 @@
+pub mod Lists
+pub mod Bytes
+pub mod Pages
+pub mod Parts
+pub mod Walks
+pub mod Changing
+pub mod Places
+pub mod Turned
+pub mod Rows
+pub mod Growth
+pub mod Adding
+pub mod Maps

@@ -1,0 +1,65 @@
+use Rattle.std.proofs.Common.{◌≡◌, ℕ, ◌+◌, max, length, refl, ap, sym, ◌∙◌, subst}
+use Rattle.sg_space.proofs.Known.{keeps_then, reads_then}
+use Rattle.sg_catalog.specs.Catalog.{rows}
+use Rattle.sg_catalog.specs.Steps.{RawTurns}
+use Rattle.sg_catalog.proofs.Adding.{added_turns, can_place, still_grow}
+use Rattle.sg_catalog.proofs.Parts.{still_catalog}
+use Rattle.sg_catalog.proofs.Turned.{after_reads, turns_then}
+use Rattle.sg_catalog.proofs.catalog.add.Goals as goal
+
+pub place_row-requires : goal.place_row-requires
+place_row-requires g c = λ told.
+    let told1 = c.survey_pages.ensures.counts.told told in
+    let told0 = c.search.ensures.counts.told told1 in
+    let shows0 = g.met.P.PageSpace.told_shows _ told0 in
+    let shows1 = g.met.P.PageSpace.told_shows _ told1 in
+    let k1 = c.in_ok-search.ensures.kept in
+    let k2 = c.in_ok-survey.ensures.kept in
+    let h = c.requires told0 in
+    let one = still_catalog k1 shows0 h.1 in
+    (h.0, still_catalog k2 shows1 one, can_place k2 shows1 (c.in_ok-survey.ensures.read shows1 h.0 one) (still_grow k1 shows0 (h.2).grow))
+
+pub raise_peak-requires : goal.raise_peak-requires
+raise_peak-requires g c = λ told.
+    let told2 = c.place_row.ensures.counts.told told in
+    let told1 = c.survey_pages.ensures.counts.told told2 in
+    let told0 = c.search.ensures.counts.told told1 in
+    let shows0 = g.met.P.PageSpace.told_shows _ told0 in
+    let shows1 = g.met.P.PageSpace.told_shows _ told1 in
+    let k1 = c.in_ok-search.ensures.kept in
+    let k2 = c.in_ok-survey.ensures.kept in
+    let h = c.requires told0 in
+    let one = still_catalog k1 shows0 h.1 in
+    let survey = c.in_ok-survey.ensures.read shows1 h.0 one in
+    let placed = c.in_ok-place_row.ensures.did.turns told2 h.0 (still_catalog k2 shows1 one) (can_place k2 shows1 survey (still_grow k1 shows0 (h.2).grow)) in
+    (placed.0, (placed.1).raw, (placed.2).peak ∙ sym survey.peak)
+
+pub returns-clause-did : goal.returns-clause-did
+returns-clause-did g c =
+    let k1 = c.in_ok-search.ensures.kept in
+    let k2 = c.in_ok-survey.ensures.kept in
+    let place = c.in_ok-place_row.ensures.did in
+    let raise = c.in_ok-raise_peak.ensures.did in
+    record {
+      keeps = λ t.
+          let told1 = k1.keeps.told t in
+          let told2 = k2.keeps.told told1 in
+          let told3 = (place.keeps told2).told told2 in
+          keeps_then k1.keeps (keeps_then k2.keeps (keeps_then (place.keeps told2) (raise.keeps told3)));
+      turns = λ t d h can.
+          let told1 = k1.keeps.told t in
+          let told2 = k2.keeps.told told1 in
+          let told3 = (place.keeps told2).told told2 in
+          let shows0 = g.met.P.PageSpace.told_shows _ t in
+          let shows1 = g.met.P.PageSpace.told_shows _ told1 in
+          let one = still_catalog k1 shows0 h in
+          let survey = c.in_ok-survey.ensures.read shows1 d one in
+          let placed = place.turns told2 d (still_catalog k2 shows1 one) (can_place k2 shows1 survey (still_grow k1 shows0 can.grow)) in
+          let peak = (placed.2).peak ∙ sym survey.peak in
+          let raised = raise.turns told3 placed.0 (placed.1).raw peak in
+          let two = subst (λ (n : ℕ). RawTurns (g.P.PageSpace.view c.place_row.new.space).space (g.P.PageSpace.view c.raise_peak.new.space).space placed.0 (record (placed.0) { peak = max n (c.in_ok-survey.survey.rows + 1) })) (sym peak) raised in
+          let three = subst (λ (n : ℕ). RawTurns (g.P.PageSpace.view c.place_row.new.space).space (g.P.PageSpace.view c.raise_peak.new.space).space placed.0 (record (placed.0) { peak = max (placed.0).peak (n + 1) })) survey.count two in
+          let all = after_reads (reads_then k1 k2) shows0 (turns_then placed.1 three) in
+          let added = added_turns h placed.2 can.absent refl all in
+          (record (placed.0) { peak = max (placed.0).peak (length (rows d) + 1) }, added.0, added.1);
+    }

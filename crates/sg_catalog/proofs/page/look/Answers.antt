@@ -1,0 +1,15 @@
+use Rattle.sg_catalog.specs.Look.{fits}
+use Rattle.sg_catalog.proofs.Parts.{owned_there, page_read, sees_here}
+use Rattle.sg_catalog.proofs.page.look.Goals as goal
+
+pub page-requires : goal.page-requires
+page-requires g c = λ told. let h = c.requires told in owned_there c.args.p.0 h.1 h.2
+
+pub broken-requires : goal.broken-requires
+broken-requires g c = λ told.
+    let back = c.page.follows.holds-at-none.counts.told told in
+    let h = c.requires back in
+    page_read (h.2).0 c.args.p.0 _ h.1 (h.2).1 (c.in_ok-view.ensures.looked (g.met.P.PageSpace.told_shows _ back)) c.in-Err.ensures
+
+pub returns-in-Ok-clause-read : goal.returns-in-Ok-clause-read
+returns-in-Ok-clause-read g c = λ shows d j h at. sees_here j c.args.p.0 _ h at (c.in_ok-view.ensures.looked shows) (fits c.args.wanted.now) c.in-Ok.seen c.in-Ok.ensures

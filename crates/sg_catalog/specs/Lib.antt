@@ -1,0 +1,5 @@
+pub mod Row
+pub mod Catalog
+pub mod Look
+pub mod Steps
+pub mod Calls
