@@ -1,5 +1,4 @@
 use super::*;
-use std::test::Fail;
 
 // The fields and entries of a page of three slots: a cell of 3 bytes at the end, an empty slot, and
 // a cell of 2 bytes with a lost byte behind it.
@@ -43,31 +42,49 @@ fn front(bytes: &[u8], size: usize) -> &[u8] {
     }
 }
 
+fn is_page(page: &[u8]) -> bool {
+    view(page).is_some()
+}
+
+// The log's number, the kind, the links, how many slots there are and how many bytes are left.
+fn seen(page: &[u8]) -> Option<(u64, u8, (u32, u32), u16, u16)> {
+    let view = view(page)?;
+    Some((
+        view.lsn(),
+        view.kind(),
+        view.links(),
+        view.slots(),
+        view.room(),
+    ))
+}
+
+// Whether a slot has this cell. None is asked for as `None`.
+fn has_cell(page: &[u8], slot: u16, want: Option<&[u8]>) -> bool {
+    match view(page) {
+        Some(view) => view.slot(slot) == want,
+        None => false,
+    }
+}
+
 #[test]
-fn a_page_is_seen(rt: HostRuntime) -> Result<(), Fail> {
+fn a_page_is_seen(rt: HostRuntime) {
     let mut page = page_of_three();
-    put(&mut page, 0, 0x0708);
-    put(&mut page, 6, 0x0102);
-    put(&mut page, 16, 5);
-    put(&mut page, 20, 0xfffe);
-    put(&mut page, 22, 0xffff);
-    let Some(view) = view(&page) else {
-        assert!(rt; false);
-        return Ok(());
-    };
-    assert_eq!(rt; view.lsn(), 0x0102_0000_0000_0708);
-    assert_eq!(rt; view.kind(), 7);
-    let (left, right) = view.links();
-    assert_eq!(rt; left, 5);
-    assert_eq!(rt; right, 0xffff_fffe);
-    assert_eq!(rt; view.slots(), 3);
-    assert!(rt; view.slot(0) == Some(b"abc".as_slice()));
-    assert!(rt; view.slot(1).is_none());
-    assert!(rt; view.slot(2) == Some(b"de".as_slice()));
-    assert!(rt; view.slot(3).is_none());
-    assert!(rt; view.slot(65535).is_none());
-    assert_eq!(rt; view.room(), 4072 - 12 - 5);
-    Ok(())
+    for (at, number) in [
+        (0, 0x0708),
+        (6, 0x0102),
+        (16, 5),
+        (20, 0xfffe),
+        (22, 0xffff),
+    ] {
+        put(&mut page, at, number);
+    }
+    let fields = (0x0102_0000_0000_0708, 7, (5, 0xffff_fffe), 3, 4072 - 12 - 5);
+    assert!(rt; seen(&page) == Some(fields));
+    assert!(rt; has_cell(&page, 0, Some(b"abc")));
+    assert!(rt; has_cell(&page, 2, Some(b"de")));
+    for slot in [1, 3, 65535] {
+        assert!(rt; has_cell(&page, slot, None));
+    }
 }
 
 // One number in place of another, and whether the bytes are still a page of slots.
@@ -133,44 +150,48 @@ const CHANGES: [(usize, u16, bool); 52] = [
     (30, 0xffff, true),
 ];
 
-#[test]
-fn hostile_pages_are_told(rt: HostRuntime) -> Result<(), Fail> {
-    for (at, number, is_page) in CHANGES {
+// Where the first change stands that is told otherwise.
+fn first_wrong() -> Option<usize> {
+    for (row, (at, number, wanted)) in CHANGES.iter().enumerate() {
         let mut page = page_of_three();
-        put(&mut page, at, number);
-        assert_eq!(rt; view(&page).is_some(), is_page, "{number} at {at}");
+        put(&mut page, *at, *number);
+        if is_page(&page) != *wanted {
+            return Some(row);
+        }
     }
-    Ok(())
+    None
 }
 
 #[test]
-fn other_sizes_are_no_pages(rt: HostRuntime) -> Result<(), Fail> {
+fn hostile_pages_are_told(rt: HostRuntime) {
+    assert!(rt; first_wrong().is_none());
+}
+
+#[test]
+fn other_sizes_are_no_pages(rt: HostRuntime) {
     let mut longer = [0; 4100];
     write_fields(&mut longer);
-    assert!(rt; view(front(&longer, 4096)).is_some());
-    assert!(rt; view(front(&longer, 4095)).is_none());
-    assert!(rt; view(front(&longer, 4097)).is_none());
-    assert!(rt; view(front(&longer, 9)).is_none());
-    assert!(rt; view(&[]).is_none());
-    assert!(rt; view(&[0; 4096]).is_none());
-    Ok(())
+    for (size, wanted) in [(4096, true), (4095, false), (4097, false), (9, false)] {
+        assert!(rt; is_page(front(&longer, size)) == wanted);
+    }
+    assert!(rt; !is_page(&[]));
+    assert!(rt; !is_page(&[0; 4096]));
 }
 
 // A directory of 1,018 slots fills the page: all cells without bytes, or one of them over another.
 #[test]
-fn a_full_directory_is_a_page(rt: HostRuntime) -> Result<(), Fail> {
+fn a_full_directory_is_a_page(rt: HostRuntime) {
     let mut page = [0; 4096];
     put(&mut page, 10, 1018);
     put(&mut page, 12, 4096);
-    assert!(rt; view(&page).is_some());
+    assert!(rt; is_page(&page));
     for slot in 0..1018 {
         put(&mut page, 24 + 4 * slot, 24);
     }
-    assert!(rt; view(&page).is_some());
+    assert!(rt; is_page(&page));
     put(&mut page, 26, 1);
-    assert!(rt; view(&page).is_none());
+    assert!(rt; !is_page(&page));
     put(&mut page, 26, 0);
     put(&mut page, 10, 1019);
-    assert!(rt; view(&page).is_none());
-    Ok(())
+    assert!(rt; !is_page(&page));
 }

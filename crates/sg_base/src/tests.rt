@@ -7,66 +7,84 @@ use std::marker::Brand;
 use std::sync::ledger::{Blank, Ledger};
 use std::test::Fail;
 
-#[test]
-fn fields_are_little_endian(rt: HostRuntime) -> Result<(), Fail> {
+// A number of 8 bytes.
+fn one_number() -> [u8; 9] {
     let mut bytes = [7u8; 9];
     write_u64(&mut bytes, 0x0102_0304_0506_0708);
-    assert_eq!(rt; bytes, [8, 7, 6, 5, 4, 3, 2, 1, 7]);
+    bytes
+}
+
+// The same with two smaller ones written over it.
+fn three_numbers() -> [u8; 9] {
+    let mut bytes = one_number();
     write_u32(&mut bytes, 140);
     write_u16(&mut bytes[4..], 4072);
-    assert_eq!(rt; bytes, [0x8c, 0, 0, 0, 0xe8, 0x0f, 2, 1, 7]);
-    assert_eq!(rt; read_u16(&bytes[4..]), 4072);
-    assert_eq!(rt; read_u32(&bytes), 140);
-    assert_eq!(rt; read_u64(&[8, 7, 6, 5, 4, 3, 2, 1]), 0x0102_0304_0506_0708);
-    Ok(())
+    bytes
 }
 
 #[test]
-fn a_name_has_1_to_32_bytes(rt: HostRuntime) -> Result<(), Fail> {
-    let longest = [b'a'; 32];
-    let longer = [b'a'; 33];
-    assert!(rt; Name::new(&longest).is_some());
-    assert!(rt; Name::new(&longer).is_none());
-    assert!(rt; Name::new(b"").is_none());
-    assert!(rt; Name::new(b"a_9").is_some());
-    assert!(rt; Name::new(b"9a").is_none());
-    assert!(rt; Name::new(b"_a").is_none());
-    assert!(rt; Name::new(b"aB").is_none());
-    assert!(rt; Name::new(b"a-b").is_none());
-    Ok(())
+fn fields_are_little_endian(rt: HostRuntime) {
+    let first = one_number();
+    let second = three_numbers();
+    assert!(rt; first == [8, 7, 6, 5, 4, 3, 2, 1, 7]);
+    assert!(rt; second == [0x8c, 0, 0, 0, 0xe8, 0x0f, 2, 1, 7]);
+    assert!(rt; read_u16(&second[4..]) == 4072);
+    assert!(rt; read_u32(&second) == 140);
+    assert!(rt; read_u64(&first) == 0x0102_0304_0506_0708);
+}
+
+const TEXTS: [(&[u8], bool); 8] = [
+    (&[b'a'; 32], true),
+    (&[b'a'; 33], false),
+    (b"", false),
+    (b"a_9", true),
+    (b"9a", false),
+    (b"_a", false),
+    (b"aB", false),
+    (b"a-b", false),
+];
+
+#[test]
+fn a_name_has_1_to_32_bytes(rt: HostRuntime) {
+    for (at, (text, is_name)) in TEXTS.iter().enumerate() {
+        assert!(rt; Name::new(text).is_some() == *is_name, "text {at}");
+    }
+}
+
+// Whether a read of a source is answered so, and gives these bytes, with zeros behind them.
+fn reads<S: Source>(source: &mut S, answer: Option<usize>, bytes: &[u8; 8]) -> bool {
+    let mut into = [0; 8];
+    source.read(&mut into).ok() == answer && into == *bytes
 }
 
 #[test]
 fn a_source_gives_pieces_and_fails_from_a_call_on(rt: HostRuntime) -> Result<(), Fail> {
-    let alloc = rt.alloc();
-    let mut source = MemSource::new(Vec::from_slice(alloc, b"abcde")?, 3, Some(3));
-    let mut into = [0u8; 8];
-    assert_eq!(rt; source.read(&mut into), Ok(3));
-    assert_eq!(rt; into, *b"abc\0\0\0\0\0");
-    assert_eq!(rt; source.read(&mut into), Ok(2));
-    assert_eq!(rt; source.read(&mut into), Err(Failed));
-    assert_eq!(rt; source.read(&mut into), Err(Failed));
+    let mut source = MemSource::new(Vec::from_slice(rt.alloc(), b"abcde")?, 3, Some(3));
+    assert!(rt; reads(&mut source, Some(3), b"abc\0\0\0\0\0"));
+    assert!(rt; reads(&mut source, Some(2), b"de\0\0\0\0\0\0"));
+    assert!(rt; reads(&mut source, None, &[0; 8]));
+    assert!(rt; reads(&mut source, None, &[0; 8]));
     Ok(())
 }
 
 #[test]
 fn a_source_ends_with_0(rt: HostRuntime) -> Result<(), Fail> {
-    let alloc = rt.alloc();
-    let mut source = MemSource::new(Vec::from_slice(alloc, b"ab")?, 9, None);
-    let mut into = [0u8; 4];
-    assert_eq!(rt; source.read(&mut into), Ok(2));
-    assert_eq!(rt; source.read(&mut into), Ok(0));
+    let mut source = MemSource::new(Vec::from_slice(rt.alloc(), b"ab")?, 9, None);
+    assert!(rt; reads(&mut source, Some(2), b"ab\0\0\0\0\0\0"));
+    assert!(rt; reads(&mut source, Some(0), &[0; 8]));
     Ok(())
 }
 
 #[test]
-fn a_sink_takes_and_fails_from_a_call_on(rt: HostRuntime) -> Result<(), Fail> {
+fn a_sink_takes_and_fails_from_a_call_on(rt: HostRuntime) {
     let mut sink = MemSink::new(rt.alloc(), Some(3));
-    assert_eq!(rt; sink.write(b"ok\n"), Ok(()));
-    assert_eq!(rt; sink.write(b"none\n"), Ok(()));
-    assert_eq!(rt; sink.write(b"ok\n"), Err(Failed));
-    assert_eq!(rt; sink.text(), b"ok\nnone\n".as_slice());
-    Ok(())
+    let taken = [
+        sink.write(b"ok\n").is_ok(),
+        sink.write(b"none\n").is_ok(),
+        sink.write(b"ok\n").is_ok(),
+    ];
+    assert!(rt; taken == [true, true, false]);
+    assert!(rt; sink.text() == b"ok\nnone\n".as_slice());
 }
 
 // A terminal of one byte a call, each second call of which a signal interrupts.
@@ -127,21 +145,17 @@ impl Write for Terminal {
 #[test]
 fn a_terminal_gives_a_byte_a_read(rt: HostRuntime) -> Result<(), Fail> {
     let mut source = ReadSource::new(Terminal::new(Vec::from_slice(rt.alloc(), b"ab")?));
-    let mut into = [0u8; 4];
-    assert_eq!(rt; source.read(&mut into), Ok(1));
-    assert_eq!(rt; into, *b"a\0\0\0");
-    assert_eq!(rt; source.read(&mut into), Ok(1));
-    assert_eq!(rt; into, *b"b\0\0\0");
-    assert_eq!(rt; source.read(&mut into), Ok(0));
+    assert!(rt; reads(&mut source, Some(1), b"a\0\0\0\0\0\0\0"));
+    assert!(rt; reads(&mut source, Some(1), b"b\0\0\0\0\0\0\0"));
+    assert!(rt; reads(&mut source, Some(0), &[0; 8]));
     Ok(())
 }
 
 #[test]
-fn a_terminal_takes_a_byte_a_write(rt: HostRuntime) -> Result<(), Fail> {
+fn a_terminal_takes_a_byte_a_write(rt: HostRuntime) {
     let mut terminal = Terminal::new(Vec::new(rt.alloc()));
-    assert_eq!(rt; WriteSink::new(&mut terminal).write(b"ok\n"), Ok(()));
-    assert_eq!(rt; terminal.bytes.as_slice(), b"ok\n".as_slice());
-    Ok(())
+    assert!(rt; WriteSink::new(&mut terminal).write(b"ok\n").is_ok());
+    assert!(rt; terminal.bytes.as_slice() == b"ok\n".as_slice());
 }
 
 // One step for each byte.
