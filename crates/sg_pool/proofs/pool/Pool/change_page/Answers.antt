@@ -1,0 +1,42 @@
+use Rattle.std.proofs.Common.{◌≡◌, ◌<◌, ℕ, Option, Some, None, List, [], length, get_or, refl, sym, ◌∙◌, ap, subst, arith}
+use Rattle.sg_base.specs.declared.area.Area.TheVariants.{Home}
+use Rattle.sg_pool.specs.Units.{Geometry, IsBacked}
+use Rattle.sg_pool.specs.Changed.{IsChanged}
+use Rattle.sg_pool.specs.Shelves.{geometry_of, units}
+use Rattle.sg_pool.proofs.Slots.{frame_some}
+use Rattle.sg_pool.proofs.Changes.{change_is, change_backed, still_held, others_still}
+use Rattle.sg_pool.proofs.pool.Pool.change_page.Goals as goal
+
+pub change-requires : goal.change-requires
+change-requires g c = record { there = (frame_some c.args.p.0 c.hold.new.self.shelf.slots.items c.in_ok-f.f c.in_ok-f.ensures.held).0 }
+
+pub returns-clause-brought : goal.returns-clause-brought
+returns-clause-brought g c =
+    let s = c.hold.new.self.shelf in let held = c.in_ok-f.ensures.held in
+    let lt = (frame_some c.args.p.0 s.slots.items c.in_ok-f.f held).0 in let many = s.shelf.many in
+    (c.in_ok-f.f, record {
+      held = still_held c.args.p.0 _ s.slots.items s.frames c.in_ok-f.f lt (omega (arith, lt, many)) s.shelf.apart held c.change.new.self.slots.items c.change.new.self.frames c.change.ensures.frames c.change.ensures.slots;
+      recent = c.in_ok-f.ensures.recent;
+      victim = c.in_ok-f.ensures.victim;
+      others = others_still c.args.p.0 _ s.slots.items s.frames c.in_ok-f.f lt (omega (arith, lt, many)) s.shelf.apart held c.args.self.now.shelf.slots.items c.change.new.self.slots.items c.change.new.self.frames c.change.ensures.frames c.change.ensures.slots c.in_ok-f.ensures.others;
+    })
+
+pub returns-clause-backed : goal.returns-clause-backed
+returns-clause-backed g c told apart backed =
+    let s = c.hold.new.self.shelf in let t = c.change.new.self in let o = c.args.self.now.shelf in let held = c.in_ok-f.ensures.held in
+    let w = g.D.Disk.view c.hold.new.disk in
+    let lt = (frame_some c.args.p.0 s.slots.items c.in_ok-f.f held).0 in let many = s.shelf.many in
+    let same : geometry_of s ≡ geometry_of o = c.hold.ensures.geometry in
+    let now = subst (λ (h : Geometry). IsBacked h (w.now Home) (units (w.now Home).seen s)) (sym same) (c.in_ok-f.ensures.backed told apart backed) in
+    subst (λ (h : Geometry). IsBacked h (w.now Home) (units (w.now Home).seen t)) same
+    (change_backed c.args.p.0 _ s.slots.items s.frames c.in_ok-f.f lt (omega (arith, lt, many)) s.shelf.apart held (geometry_of s) s.wins.items (w.now Home).seen (geometry_of t) t.slots.items t.wins.items t.frames
+      c.change.ensures.geometry c.change.ensures.slots c.change.ensures.wins c.change.ensures.frames (w.now Home) now)
+
+pub returns-clause-changed : goal.returns-clause-changed
+returns-clause-changed g c told apart backed =
+    let s = c.hold.new.self.shelf in let t = c.change.new.self in let held = c.in_ok-f.ensures.held in
+    let w = g.D.Disk.view c.hold.new.disk in
+    let lt = (frame_some c.args.p.0 s.slots.items c.in_ok-f.f held).0 in let many = s.shelf.many in
+    (units (w.now Home).seen s, c.in_ok-f.ensures.units told apart backed,
+      change_is c.args.p.0 _ s.slots.items s.frames c.in_ok-f.f lt (omega (arith, lt, many)) s.shelf.apart held (geometry_of s) s.wins.items (w.now Home).seen (geometry_of t) t.slots.items t.wins.items t.frames
+      c.change.ensures.geometry c.change.ensures.slots c.change.ensures.wins c.change.ensures.frames)

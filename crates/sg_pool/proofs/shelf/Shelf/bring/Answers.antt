@@ -1,0 +1,49 @@
+use Rattle.std.proofs.Common.{◌≡◌, ◌<◌, ℕ, Option, Some, None, List, [], length, get_or, set, refl, sym, ◌∙◌, ap, subst, arith}
+use Rattle.std.proofs.lemmas.Result.{on_ok_weaker, IfErr-weaker}
+use Rattle.sg_base.specs.declared.area.Area.TheVariants.{Home}
+use Rattle.sg_gate.specs.Layout.{home_at}
+use Rattle.sg_pool.specs.Units.{page_at, Geometry, IsCleaned}
+use Rattle.sg_disk.specs.Disk.{Part, State}
+use Rattle.sg_pool.specs.Moments.{IsMoment, IsSameOrForced}
+use Rattle.sg_pool.specs.Held.{page_in}
+use Rattle.sg_pool.specs.Shelves.{geometry_of, units, lasts, LoadFails, BringFails}
+use Rattle.sg_pool.proofs.Changing.{twice}
+use Rattle.sg_pool.proofs.Bringing.{on_told, on_told_weaker, log_now, then_reads, absent_still, cleaned_more, backed_in, at_home, bring_fails}
+use Rattle.sg_pool.proofs.shelf.Shelf.bring.Goals as goal
+
+pub load-requires-clause-absent : goal.load-requires-clause-absent
+load-requires-clause-absent g c = let s = c.args.self.now in absent_still s.slots.items c.clean.new.self.slots.items c.args.f c.args.p c.requires.there s.shelf.apart c.in_ok-clean.ensures.slots c.requires.absent
+
+pub returns-clause-slots : goal.returns-clause-slots
+returns-clause-slots g c = let s = c.args.self.now in
+    on_ok_weaker c.load.result (λ is. is ∙ twice s.slots.items c.clean.new.self.slots.items c.args.f (record { page = page_in s.slots.items c.args.f; since = None }) (record { page = Some c.args.p; since = None }) c.in_ok-clean.ensures.slots) c.load.ensures.slots
+
+pub returns-clause-units : goal.returns-clause-units
+returns-clause-units g c told apart backed =
+    let s = c.args.self.now in let t = c.clean.new.self in
+    let v = g.D.Disk.view c.args.disk.now in let w = g.D.Disk.view c.clean.new.disk in let z = g.D.Disk.view c.load.new.disk in
+    let now = backed_in (geometry_of s) (geometry_of t) (w.now Home) (units (w.now Home).seen t) c.clean.ensures.geometry (c.in_ok-clean.ensures.backed told apart backed) in
+    on_told_weaker c.load.result (IsCleaned (geometry_of t) (units (w.now Home).seen t) (units (z.now Home).seen c.load.new.self)) (IsCleaned (geometry_of s) (units (v.now Home).seen s) (units (z.now Home).seen c.load.new.self))
+    (cleaned_more (geometry_of s) (geometry_of t) (units (v.now Home).seen s) (units (w.now Home).seen t) (units (z.now Home).seen c.load.new.self) c.clean.ensures.geometry (c.in_ok-clean.ensures.units told apart backed.ready))
+    (c.load.ensures.units told now)
+
+pub returns-clause-log : goal.returns-clause-log
+returns-clause-log g c ds ps told apart ready holds =
+    on_told c.load.result (IsSameOrForced (g.D.Disk.view c.load.new.disk) c.args.log.now c.clean.new.log ds ps)
+    (log_now (g.D.Disk.view c.clean.new.disk) (g.D.Disk.view c.load.new.disk) c.args.log.now c.clean.new.log ds ps (c.load.ensures.unchanged told) (c.in_ok-clean.ensures.log ds ps told apart ready holds))
+
+pub returns-clause-moments : goal.returns-clause-moments
+returns-clause-moments g c ds ps told apart ready holds below =
+    let s = c.args.self.now in
+    let v = g.D.Disk.view c.args.disk.now in let w = g.D.Disk.view c.clean.new.disk in let z = g.D.Disk.view c.load.new.disk in
+    then_reads v w z (IsMoment (geometry_of s) v c.args.log.now ds ps (lasts s) (units (v.now Home).seen s)) (c.clean.ensures.moments ds ps told apart ready holds below) (c.load.ensures.moments told)
+
+pub returns-clause-faults : goal.returns-clause-faults
+returns-clause-faults g c =
+    let s = c.args.self.now in let t = c.clean.new.self in
+    let v = g.D.Disk.view c.args.disk.now in let w = g.D.Disk.view c.clean.new.disk in let z = g.D.Disk.view c.load.new.disk in
+    let still = absent_still s.slots.items t.slots.items c.args.f c.args.p c.requires.there s.shelf.apart c.in_ok-clean.ensures.slots c.requires.absent in
+    IfErr-weaker c.load.result (LoadFails g.D.Disk.told c.args.p w z) (BringFails g.D.Disk.told c.args.log.now.area c.args.p v z s)
+    (bring_fails g.D.Disk.told c.args.log.now.area c.args.p v w z s t c.clean.ensures.later c.requires.page
+      (λ told apart backed. sym (at_home t.slots.items t.frames.pages c.args.p (page_at (w.now Home).seen (home_at c.args.p)) still) ∙ (c.in_ok-clean.ensures.units told apart backed.ready).page c.args.p c.requires.page))
+    c.load.ensures.faults

@@ -1,0 +1,35 @@
+-- A record is done to a page in its frame.
+use Rattle.std.specs.Prelude.{◌≡◌, ◌≢◌, ◌&&◌, ℕ, Bool, true, false, if◌then◌else◌, nat_lt, Option, Some, List, slice_set, unwrap_or, is_some}
+use Rattle.sg_base.specs.Page.{lsn_of}
+use Rattle.sg_redo.specs.History.{OnPage, redone}
+use Rattle.sg_pool.specs.declared.slot.Slot.{Slot}
+use Rattle.sg_pool.specs.Held.{page_in, since_of}
+use Rattle.sg_pool.specs.Units.{Geometry, Units, IsCleaned}
+
+-- the record is done to the page: its number is above the page's, and its operation fits
+abbrev pub applies : OnPage → List ℕ → Bool
+applies r page = nat_lt (lsn_of page) r.lsn && is_some (r.makes page)
+
+-- the oldest change of the page that isn't on the disk, after the record: it is one, where the page had none
+abbrev pub since_after : OnPage → List ℕ → Option ℕ → Option ℕ
+since_after r page since = if applies r page then Some (unwrap_or since r.lsn) else since
+
+-- the frames once that was done to the page of one of them, or wasn't
+abbrev pub slots_after : (is_done : Bool) → List Slot → (f lsn : ℕ) → List Slot
+slots_after true slots f lsn = slice_set slots f (record { page = page_in slots f; since = Some (unwrap_or (since_of slots (Some f)) lsn) })
+slots_after false slots f lsn = slots
+
+-- THE UNITS ONCE A RECORD IS DONE TO PAGE p: it is redone there, and it is the page's oldest change that isn't on the disk where it changed
+-- the page and there was none. Nothing else changes
+pub record IsChanged (p : ℕ) (r : OnPage) (m m' : Units) : Type 0 where
+  pub page : m'.page p ≡ redone r (m.page p)
+  pub since : m'.page_since p ≡ since_after r (m.page p) (m.page_since p)
+  pub other_pages : (n : ℕ) → n ≢ p → m'.page n ≡ m.page n
+  pub other_sinces : (n : ℕ) → n ≢ p → m'.page_since n ≡ m.page_since n
+  pub byte : (b i : ℕ) → m'.byte b i ≡ m.byte b i
+  pub band_since : (b : ℕ) → m'.band_since b ≡ m.band_since b
+  pub marked : (b i : ℕ) → m'.marked b i ≡ m.marked b i
+
+-- units may have gone home, and then the record r was done to page p
+abbrev pub IsCleanedThenChanged : Geometry → (p : ℕ) → OnPage → Units → Units → Type 0
+IsCleanedThenChanged g p r m m' = (mid : Units) × IsCleaned g m mid × IsChanged p r mid m'

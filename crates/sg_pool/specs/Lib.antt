@@ -1,0 +1,13 @@
+pub mod Units
+pub mod Held
+pub mod Going
+pub mod Frames
+pub mod Well
+pub mod Order
+pub mod Pools
+pub mod Oldest
+pub mod Changed
+pub mod Batches
+pub mod Moments
+pub mod Shelves
+pub mod Lending

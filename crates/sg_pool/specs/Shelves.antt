@@ -1,0 +1,50 @@
+-- The units of a shelf.
+use Rattle.std.specs.Prelude.{◌≡◌, ◌<◌, ℕ, Bool, IsTrue, Option, Some, None, Result, Ok, Err, List, [], length, get_or}
+use Rattle.sg_base.specs.Ends.{HasRisen}
+use Rattle.sg_base.specs.declared.area.Area.{Area}
+use Rattle.sg_base.specs.declared.area.Area.TheVariants.{Home}
+use Rattle.sg_disk.specs.Disk.{Bytes, View}
+use Rattle.sg_gate.specs.Layout.{home_at}
+use Rattle.sg_pool.specs.Units.{page_at, Geometry, Units, IsBacked}
+use Rattle.sg_pool.specs.Frames.{units_of, lasts_of}
+use Rattle.sg_pool.specs.Well.{IsWell}
+use Rattle.sg_pool.specs.declared.fault.PoolFault.{PoolFault}
+use Rattle.sg_pool.specs.declared.fault.PoolFault.TheVariants.{Disk, Damaged, Memory}
+use Rattle.sg_pool.specs.declared.shelf.Shelf.{Shelf}
+use Rattle.sg_pool.specs.Held.{page_in}
+
+abbrev pub geometry_of : Shelf → Geometry
+geometry_of s = record { pages = s.pages; bands = s.bands }
+
+abbrev pub units : Bytes → Shelf → Units
+units seen s = units_of (geometry_of s) seen s.slots.items s.wins.items s.frames
+
+abbrev pub lasts : Shelf → ℕ → ℕ
+lasts s = lasts_of s.wins.items
+
+-- the pool is told on: the call didn't answer Disk
+abbrev pub OnTold : {T : Type 0} → Result T PoolFault → Type 0 → Type 0
+OnTold (Ok x) P = P
+OnTold (Err Disk) P = Unit {0}
+OnTold (Err (Damaged n)) P = P
+OnTold (Err Memory) P = P
+
+-- a read of a page into a frame fails where the disk does, or where the page isn't one
+abbrev pub LoadFails : Bool → (n : ℕ) → View → View → PoolFault → Type 0
+LoadFails told n old new Disk = HasRisen old.faults new.faults
+LoadFails told n old new (Damaged page) = (page.0 ≡ n) × (IsTrue told → IsWell (page_at (old.now Home).seen (home_at n)) → ⊥)
+LoadFails told n old new Memory = ⊥
+
+-- and a page is brought into a frame: it fails so, said of the unit
+abbrev pub BringFails : Bool → Area → (n : ℕ) → View → View → Shelf → PoolFault → Type 0
+BringFails told area n old new s Disk = HasRisen old.faults new.faults
+BringFails told area n old new s (Damaged page) = (page.0 ≡ n) × (IsTrue told → (area ≡ Home → ⊥) → IsBacked (geometry_of s) (old.now Home) (units (old.now Home).seen s) → IsWell ((units (old.now Home).seen s).page n) → ⊥)
+BringFails told area n old new s Memory = ⊥
+
+-- the frames hold the same pages, with the same bytes, and nothing else has changed but the sinces of pages
+pub record IsSameShelf (old new : Shelf) : Type 0 where
+  pub geometry : geometry_of new ≡ geometry_of old
+  pub count : length new.slots.items ≡ length old.slots.items
+  pub pages : (h : ℕ) → page_in new.slots.items h ≡ page_in old.slots.items h
+  pub frames : new.frames ≡ old.frames
+  pub wins : new.wins.items ≡ old.wins.items
