@@ -15,7 +15,6 @@ use Rattle.sg_pool.specs.declared.slot.Win.{Win}
 use Rattle.sg_pool.specs.Changed.{applies, since_after, slots_after, IsChanged}
 use Rattle.sg_pool.specs.Frames.{units_of}
 use Rattle.sg_pool.specs.Held.{no_slot, frame_of, page_in, AreApart, bytes_of, since_of, page_of, page_since_of}
-use Rattle.sg_pool.specs.Pools.{OthersKeep}
 use Rattle.sg_pool.specs.Units.{Geometry, Units, IsBacked, page_at}
 use Rattle.sg_pool.proofs.Slots.{some_same, none_is_some, frame_some, set_here, set_there, page_there, frame_kept}
 
@@ -183,5 +182,5 @@ module _ (p : ℕ) (r : OnPage) (slots : List Slot) (frames : Held) (f : ℕ) (l
   pub still_held : (slots' : List Slot) (frames' : Held) → frames' ≡ frames1 → slots' ≡ slots1 → frame_of slots' p ≡ Some f
   still_held slots' frames' same_frames is = ap (λ (t : List Slot). frame_of t p) is ∙ (is_marked.frames p ∙ held)
 
-  pub others_still : (old slots' : List Slot) (frames' : Held) → frames' ≡ frames1 → slots' ≡ slots1 → OthersKeep f old slots → OthersKeep f old slots'
+  pub others_still : (old slots' : List Slot) (frames' : Held) → frames' ≡ frames1 → slots' ≡ slots1 → ((k : ℕ) → k ≢ f → page_in slots k ≡ page_in old k) → (k : ℕ) → k ≢ f → page_in slots' k ≡ page_in old k
   others_still old slots' frames' same_frames is others k differ = ap (λ (t : List Slot). page_in t k) is ∙ (is_marked.pages k ∙ others k differ)

@@ -222,21 +222,28 @@ module _ (pages bands : ℕ) (slots : List Slot) {index : List (Option ℕ)} (wi
       (λ differ. shelf.within k n (let e = length-set slots f s in omega (arith, e)) (sym (page_there slots f s lt k differ) ∙ is))
       (cases_eq k f)
 
-  pub shelf_slot : AreApart (set slots f s) → ((n : ℕ) → s.page ≡ Some n → n < pages) → (index' : List (Option ℕ)) → length index' ≡ length index → IsIndex (set slots f s) index' → IsShelf pages bands (set slots f s) index' wins frames
-  shelf_slot apart small index' listed found = record {
+  owned_set : (s.page ≡ None → s.since ≡ None) → (k : ℕ) → page_in (set slots f s) k ≡ None → since_of (set slots f s) (Some k) ≡ None
+  owned_set fresh k none = ⊎_elim
+      (λ same. ap (λ (j : ℕ). since_of (set slots f s) (Some j)) same ∙ (ap (λ (x : Slot). x.since) (set_here slots f s lt) ∙ fresh (sym (page_here slots f s lt) ∙ (ap (page_in (set slots f s)) (sym same) ∙ none))))
+      (λ differ. ap (λ (x : Slot). x.since) (set_there slots f s lt k differ) ∙ shelf.owned k (sym (page_there slots f s lt k differ) ∙ none))
+      (cases_eq k f)
+
+  pub shelf_slot : AreApart (set slots f s) → ((n : ℕ) → s.page ≡ Some n → n < pages) → (s.page ≡ None → s.since ≡ None) → (index' : List (Option ℕ)) → length index' ≡ length index → IsIndex (set slots f s) index' → IsShelf pages bands (set slots f s) index' wins frames
+  shelf_slot apart small fresh index' listed found = record {
     here = shelf.here;
     many = shelf.many ∙ sym (length-set slots f s);
     wide = shelf.wide;
     few = let e = length-set slots f s in let few = shelf.few in omega (arith, e, few);
     apart = apart;
     within = within_set small;
+    owned = owned_set fresh;
     most = shelf.most;
     listed = listed ∙ shelf.listed;
     found = found;
   }
 
-  pub shelf_cleaned : s.page ≡ page_in slots f → IsShelf pages bands (set slots f s) index wins frames
-  shelf_cleaned same = shelf_slot (apart_kept slots f s lt same shelf.apart) (λ n is. shelf.within f n lt (sym same ∙ is)) index refl (λ n less. shelf.found n less ∙ sym (frame_kept slots f s lt same n shelf.apart))
+  pub shelf_cleaned : s.page ≡ page_in slots f → (s.page ≡ None → s.since ≡ None) → IsShelf pages bands (set slots f s) index wins frames
+  shelf_cleaned same fresh = shelf_slot (apart_kept slots f s lt same shelf.apart) (λ n is. shelf.within f n lt (sym same ∙ is)) fresh index refl (λ n less. shelf.found n less ∙ sym (frame_kept slots f s lt same n shelf.apart))
 
 pub frame_bytes : (pages : List (List ℕ)) (f : ℕ) (bytes : List ℕ) → length bytes ≡ 4096 → ((i : ℕ) → i < length pages → length (get_or pages i []) ≡ 4096) → (i : ℕ) → i < length (set pages f bytes) → length (get_or (set pages f bytes) i []) ≡ 4096
 frame_bytes pages f bytes long each i less =
@@ -255,6 +262,7 @@ shelf_frame pages bands slots wins frames f bytes long shelf = record {
   few = shelf.few;
   apart = shelf.apart;
   within = shelf.within;
+  owned = shelf.owned;
   most = shelf.most;
   listed = shelf.listed;
   found = shelf.found;

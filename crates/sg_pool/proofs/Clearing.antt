@@ -47,14 +47,16 @@ module _ (old new : List Slot) (count : length new ≡ length old) (pages : (h :
       (λ some. let at = frame_some n old some.0 some.1 in let lt = at.0 in frame_is new some.0 n apart_cleared (omega (arith, count, lt)) (pages some.0 ∙ at.1) ∙ sym some.1)
       (none_or_some (frame_of old n))
 
-pub shelf_cleared : (p b : ℕ) (old new : List Slot) {index : List (Option ℕ)} (wins : List Win) (frames : Held) → IsShelf p b old index wins frames → length new ≡ length old → ((h : ℕ) → page_in new h ≡ page_in old h) → IsShelf p b new index wins frames
-shelf_cleared p b old new wins frames shelf count pages = record {
+pub shelf_cleared : (p b : ℕ) (old new : List Slot) {index : List (Option ℕ)} (wins : List Win) (frames : Held) → IsShelf p b old index wins frames → length new ≡ length old → ((h : ℕ) → page_in new h ≡ page_in old h)
+    → ((h : ℕ) → (since_of new (Some h) ≡ None) ⊎ (since_of new (Some h) ≡ since_of old (Some h))) → IsShelf p b new index wins frames
+shelf_cleared p b old new wins frames shelf count pages sinces = record {
   here = shelf.here;
   many = shelf.many ∙ sym count;
   wide = shelf.wide;
   few = let few = shelf.few in omega (arith, count, few);
   apart = apart_cleared old new count pages shelf.apart;
   within = λ f n lt is. shelf.within f n (omega (arith, count, lt)) (sym (pages f) ∙ is);
+  owned = λ f none. ⊎_elim (λ clear. clear) (λ same. same ∙ shelf.owned f (sym (pages f) ∙ none)) (sinces f);
   most = shelf.most;
   listed = shelf.listed;
   found = λ n less. shelf.found n less ∙ sym (frames_same old new count pages shelf.apart n);

@@ -51,12 +51,12 @@ module _ (pages bands : ℕ) (slots : List Slot) (index : List (Option ℕ)) (wi
   shelf_emptied new none some =
       let small : (n : ℕ) → page_in slots f ≡ Some n → n < length index = λ n is. (let low = shelf.within f n lt is in let e = shelf.listed in omega (arith, low, e)) in
       let it = emptied slots index f lt shelf.apart shelf.found new small none some in
-      shelf_slot pages bands slots wins frames shelf f lt no_slot (apart_none slots f no_slot lt refl shelf.apart) (λ n is. absurd (none_is_some n is)) new it.0 it.1
+      shelf_slot pages bands slots wins frames shelf f lt no_slot (apart_none slots f no_slot lt refl shelf.apart) (λ n is. absurd (none_is_some n is)) (λ none. refl) new it.0 it.1
 
   pub shelf_filled : (p : ℕ) → p < pages → page_in slots f ≡ None → frame_of slots p ≡ None → IsShelf pages bands (set slots f (record { page = Some p; since = None })) (set index p (Some f)) wins frames
   shelf_filled p small none absent =
       let s : Slot = record { page = Some p; since = None } in
-      shelf_slot pages bands slots wins frames shelf f lt s (apart_new slots f s lt p refl absent shelf.apart) (λ n is. subst (λ (m : ℕ). m < pages) (some_same p n is) small)
+      shelf_slot pages bands slots wins frames shelf f lt s (apart_new slots f s lt p refl absent shelf.apart) (λ n is. subst (λ (m : ℕ). m < pages) (some_same p n is) small) (λ none. refl)
       (set index p (Some f)) (length-set index p (Some f)) (filled slots index f lt shelf.apart shelf.found p (let e = shelf.listed in omega (arith, e)) none absent)
 
 -- emptying a frame brings no page into one

@@ -11,6 +11,8 @@ pub mod GoingOn
 pub mod Homed
 pub mod Homes
 pub mod Indexing
+pub mod Fresh
+pub mod Oldest
 pub mod Ordering
 pub mod Placing
 pub mod Pooling

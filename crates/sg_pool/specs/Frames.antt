@@ -54,8 +54,8 @@ lasts_of wins b = last_in wins (window_of wins b)
 abbrev pub IsIndex : List Slot → List (Option ℕ) → Type 0
 IsIndex slots index = (n : ℕ) → n < length index → get_or index n None ≡ frame_of slots n
 
--- THE FRAMES AND WHAT THEY HOLD AGREE: none is lent, no page is in two of them, each page is one of the store's, and the list by page
--- number knows each
+-- THE FRAMES AND WHAT THEY HOLD AGREE: none is lent, no page is in two of them, each page is one of the store's, a frame without a page has
+-- no change, and the list by page number knows each page
 pub record IsShelf (pages bands : ℕ) (slots : List Slot) (index : List (Option ℕ)) (wins : List Win) (frames : Held) : Type 0 where
   pub here : NoneLent frames
   pub many : length frames.pages ≡ length slots
@@ -63,6 +63,7 @@ pub record IsShelf (pages bands : ℕ) (slots : List Slot) (index : List (Option
   pub few : length slots ≤ 16384
   pub apart : AreApart slots
   pub within : (f n : ℕ) → f < length slots → page_in slots f ≡ Some n → n < pages
+  pub owned : (f : ℕ) → page_in slots f ≡ None → since_of slots (Some f) ≡ None
   pub most : pages ≤ 1048576
   pub listed : length index ≡ pages
   pub found : IsIndex slots index

@@ -1,32 +1,31 @@
--- What the pool ends as, once a page or window that it lent isn't used any more.
-use Rattle.std.specs.Prelude.{◌≡◌, ◌<◌, ℕ, Bool, IsTrue, Option, Some, None, Result, IfOk, ⊤}
+-- What the pool ends as, once a page that it lent isn't used any more.
+use Rattle.std.specs.Prelude.{◌≡◌, ◌≢◌, ℕ, Bool, IsTrue, Option, Some, None, Result, IfOk, ⊤}
 use Rattle.std.specs.Borrow.{Fml, MutBor, follows_so}
 use mathlib.Core.Option.{none}
 use Rattle.sg_base.specs.declared.area.Area.{Area}
 use Rattle.sg_base.specs.declared.area.Area.TheVariants.{Home}
 use Rattle.sg_disk.specs.Disk.{View}
-use Rattle.sg_pool.specs.Units.{IsBacked, IsCleaned}
 use Rattle.sg_pool.specs.declared.fault.PoolFault.{PoolFault}
 use Rattle.sg_pool.specs.declared.pool.Pool.{Pool}
 use Rattle.sg_pool.specs.contracts.pool.Pool.{the_row}
-use Rattle.sg_pool.specs.Held.{frame_of}
 use Rattle.sg_pool.specs.Order.{IsVictim, IsUsed}
-use Rattle.sg_pool.specs.Pools.{OthersKeep}
-use Rattle.sg_pool.specs.Shelves.{geometry_of, units, OnTold}
+use Rattle.sg_pool.specs.Pooled.{sizes, frame_holding, uses, OthersKeep, Backs, SameContents}
+use Rattle.sg_pool.specs.Shelves.{OnTold}
 
--- page p has been brought: its frame f is the most recently used, and it is the victim's where p was in no frame
+-- PAGE p IS IN FRAME f, which is the most recently used: it was the victim, where p was in no frame. The other frames keep their pages
 pub record IsBrought (p : ℕ) (old new : Pool) (f : ℕ) : Type 0 where
-  pub held : frame_of new.shelf.slots.items p ≡ Some f
-  pub recent : IsUsed f old.order.entries new.order.entries
-  pub victim : frame_of old.shelf.slots.items p ≡ None → IsVictim old.order.entries f
-  pub others : OthersKeep f old.shelf.slots.items new.shelf.slots.items
+  pub held : frame_holding new p ≡ Some f
+  pub used : IsUsed f (uses old) (uses new)
+  pub victim : frame_holding old p ≡ None → IsVictim (uses old) f
+  pub others : OthersKeep f old new
 
--- the pool once page p was lent: it is backed, and its units are what they were
+-- THE POOL ONCE PAGE p WAS LENT: it is in a frame; the disk backs the pool, and its contents are what they were
 pub record IsLent {T : Type 0} (told : Bool) (area : Area) (v w : View) (p : ℕ) (result : Result T PoolFault) (old new : Pool) : Type 0 where
-  pub geometry : geometry_of new.shelf ≡ geometry_of old.shelf
+  pub size : sizes new ≡ sizes old
   pub brought : IfOk result (λ _. (f : ℕ) × IsBrought p old new f)
-  pub backed : IsTrue told → (area ≡ Home → ⊥) → IsBacked (geometry_of old.shelf) (v.now Home) (units (v.now Home).seen old.shelf) → OnTold result (IsBacked (geometry_of old.shelf) (w.now Home) (units (w.now Home).seen new.shelf))
-  pub same : IsTrue told → (area ≡ Home → ⊥) → IsBacked (geometry_of old.shelf) (v.now Home) (units (v.now Home).seen old.shelf) → OnTold result (IsCleaned (geometry_of old.shelf) (units (v.now Home).seen old.shelf) (units (w.now Home).seen new.shelf))
+  pub backed : IsTrue told → area ≢ Home → Backs (sizes old) v old → OnTold result (Backs (sizes old) w new)
+  pub same : IsTrue told → area ≢ Home → Backs (sizes old) v old → OnTold result (SameContents v old w new)
 
+-- the pool ends so, once the loan has ended
 abbrev pub ends_as : MutBor Pool → (Pool → Type 0) → Fml
 ends_as s P = follows_so the_row the_row s.ghost_name none (λ _ _. ⊤) P

@@ -10,4 +10,5 @@ pub mod Changed
 pub mod Batches
 pub mod Moments
 pub mod Shelves
+pub mod Pooled
 pub mod Lending

@@ -22,6 +22,13 @@ units seen s = units_of (geometry_of s) seen s.slots.items s.wins.items s.frames
 abbrev pub lasts : Shelf → ℕ → ℕ
 lasts s = lasts_of s.wins.items
 
+-- in a state of the disk
+abbrev pub units_at : View → Shelf → Units
+units_at v s = units (v.now Home).seen s
+
+abbrev pub IsBackedAt : Geometry → View → Shelf → Type 0
+IsBackedAt g v s = IsBacked g (v.now Home) (units_at v s)
+
 -- the pool is told on: the call didn't answer Disk
 abbrev pub OnTold : {T : Type 0} → Result T PoolFault → Type 0 → Type 0
 OnTold (Ok x) P = P

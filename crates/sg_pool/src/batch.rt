@@ -1,4 +1,4 @@
-ghost use Rattle.std.specs.Prelude.{◌≡◌, ◌⊎◌, ◌≤◌, ◌<◌, ◌+◌, ◌++◌, ◌∷◌, [], ℕ, List, Some, None, length, take, get_or, OnOk, OnErr, IfOk, IfErr, IfSome, IsTrue};
+ghost use Rattle.std.specs.Prelude.{◌≡◌, ◌≢◌, ◌⊎◌, ◌≤◌, ◌<◌, ◌+◌, ◌++◌, ◌∷◌, [], ℕ, List, Some, None, length, take, get_or, OnOk, OnErr, IfOk, IfErr, IfSome, IsTrue};
 ghost use Rattle.sg_base.specs.Ends.{HasRisen};
 ghost use Rattle.sg_base.specs.declared.area.Area.TheVariants.{Home};
 ghost use Rattle.sg_disk.specs.Disk.{LeavesOnly};
@@ -18,7 +18,7 @@ use sg_gate::{finish, place};
 use sg_log::Log;
 
 impl Shelf {
-    ghost use Rattle.sg_pool.specs.Shelves.{geometry_of, units, lasts, IsSameShelf};
+    ghost use Rattle.sg_pool.specs.Shelves.{geometry_of, units_at, IsBackedAt, lasts, IsSameShelf};
 
     // Puts a frame's page at place k, if it was changed, and puts its number behind the first k. Answers how many
     // numbers there are then.
@@ -90,12 +90,12 @@ impl Shelf {
         ensures frames { self.new.frames ≡ self.old.frames }
         ensures wins { self.new.wins.items ≡ self.old.wins.items }
         ensures geometry { geometry_of self.new ≡ geometry_of self.old }
-        ensures backed { IsTrue D.told → IsBacked (geometry_of self.old) ((D.view disk.old).now Home) (units ((D.view disk.old).now Home).seen self.old) →
-            OnOk result (IsBacked (geometry_of self.old) ((D.view disk.new).now Home) (units ((D.view disk.new).now Home).seen self.new)) }
+        ensures backed { IsTrue D.told → IsBackedAt (geometry_of self.old) (D.view disk.old) self.old →
+            OnOk result (IsBackedAt (geometry_of self.old) (D.view disk.new) self.new) }
         ensures partly { IsTrue D.told → IsReady ((D.view disk.old).now Home) →
             OnOk result (IsReady ((D.view disk.new).now Home) × IsPartly (geometry_of self.old) self.old.slots.items self.old.frames.pages ((D.view disk.old).now Home).seen ((D.view disk.new).now Home).seen) }
         ensures units { IsTrue D.told → IsReady ((D.view disk.old).now Home) →
-            OnOk result (IsCleaned (geometry_of self.old) (units ((D.view disk.old).now Home).seen self.old) (units ((D.view disk.new).now Home).seen self.new)) }
+            OnOk result (IsCleaned (geometry_of self.old) (units_at (D.view disk.old) self.old) (units_at (D.view disk.new) self.new)) }
         ensures logs { IsTrue D.told → IsReady ((D.view disk.old).now Home) → OnOk result (SameLogs (D.view disk.old).now (D.view disk.new).now) }
         ensures moments { IsTrue D.told → IsReady ((D.view disk.old).now Home) → LeavesOnly (D.view disk.old) (D.view disk.new) (IsBatchMoment (geometry_of self.old) self.old.slots.items self.old.frames.pages (D.view disk.old).now) }
         ensures later { (D.view disk.old).faults ≤ (D.view disk.new).faults }
@@ -111,10 +111,10 @@ impl Shelf {
     fn flush_pages<D: Disk>(&mut self, disk: &mut D) -> Result<(), PoolFault>
         ensures clean { OnOk result ((h : ℕ) → since_of self.new.slots.items (Some h) ≡ None) }
         ensures kept { IsSameShelf self.old self.new }
-        ensures backed { IsTrue D.told → IsBacked (geometry_of self.old) ((D.view disk.old).now Home) (units ((D.view disk.old).now Home).seen self.old) →
-            OnOk result (IsBacked (geometry_of self.old) ((D.view disk.new).now Home) (units ((D.view disk.new).now Home).seen self.new)) }
+        ensures backed { IsTrue D.told → IsBackedAt (geometry_of self.old) (D.view disk.old) self.old →
+            OnOk result (IsBackedAt (geometry_of self.old) (D.view disk.new) self.new) }
         ensures units { IsTrue D.told → IsReady ((D.view disk.old).now Home) →
-            OnOk result (IsCleaned (geometry_of self.old) (units ((D.view disk.old).now Home).seen self.old) (units ((D.view disk.new).now Home).seen self.new)) }
+            OnOk result (IsCleaned (geometry_of self.old) (units_at (D.view disk.old) self.old) (units_at (D.view disk.new) self.new)) }
         ensures logs { IsTrue D.told → IsReady ((D.view disk.old).now Home) → OnOk result (SameLogs (D.view disk.old).now (D.view disk.new).now) }
         ensures moments { IsTrue D.told → IsReady ((D.view disk.old).now Home) → LeavesOnly (D.view disk.old) (D.view disk.new) (IsBatchMoment (geometry_of self.old) self.old.slots.items self.old.frames.pages (D.view disk.old).now) }
         ensures later { (D.view disk.old).faults ≤ (D.view disk.new).faults }
@@ -133,14 +133,14 @@ impl Shelf {
     pub(crate) fn flush<D: Disk>(&mut self, disk: &mut D, log: &mut Log) -> Result<(), PoolFault>
         ensures clean { OnOk result ((h : ℕ) → since_of self.new.slots.items (Some h) ≡ None) }
         ensures kept { IsSameShelf self.old self.new }
-        ensures backed { IsTrue D.told → (log.old.area ≡ Home → ⊥) → IsBacked (geometry_of self.old) ((D.view disk.old).now Home) (units ((D.view disk.old).now Home).seen self.old) →
-            OnOk result (IsBacked (geometry_of self.old) ((D.view disk.new).now Home) (units ((D.view disk.new).now Home).seen self.new)) }
-        ensures units { IsTrue D.told → (log.old.area ≡ Home → ⊥) → IsReady ((D.view disk.old).now Home) →
-            OnOk result (IsCleaned (geometry_of self.old) (units ((D.view disk.old).now Home).seen self.old) (units ((D.view disk.new).now Home).seen self.new)) }
+        ensures backed { IsTrue D.told → log.old.area ≢ Home → IsBackedAt (geometry_of self.old) (D.view disk.old) self.old →
+            OnOk result (IsBackedAt (geometry_of self.old) (D.view disk.new) self.new) }
+        ensures units { IsTrue D.told → log.old.area ≢ Home → IsReady ((D.view disk.old).now Home) →
+            OnOk result (IsCleaned (geometry_of self.old) (units_at (D.view disk.old) self.old) (units_at (D.view disk.new) self.new)) }
         ensures log { OnOk result (log.new ≡ forced log.old) }
-        ensures holds { (ds ps : List Numbered) → IsTrue D.told → (log.old.area ≡ Home → ⊥) → IsReady ((D.view disk.old).now Home) → Holds (D.view disk.old) log.old ds ps → OnOk result (Holds (D.view disk.new) log.new (ds ++ ps) []) }
-        ensures moments { (ds ps : List Numbered) → IsTrue D.told → (log.old.area ≡ Home → ⊥) → IsBacked (geometry_of self.old) ((D.view disk.old).now Home) (units ((D.view disk.old).now Home).seen self.old) → Holds (D.view disk.old) log.old ds ps →
-            IsBelow (geometry_of self.old) (tail_of log.old) (units ((D.view disk.old).now Home).seen self.old) → LeavesOnly (D.view disk.old) (D.view disk.new) (IsMoment (geometry_of self.old) (D.view disk.old) log.old ds ps (lasts self.old) (units ((D.view disk.old).now Home).seen self.old)) }
+        ensures holds { (ds ps : List Numbered) → IsTrue D.told → log.old.area ≢ Home → IsReady ((D.view disk.old).now Home) → Holds (D.view disk.old) log.old ds ps → OnOk result (Holds (D.view disk.new) log.new (ds ++ ps) []) }
+        ensures moments { (ds ps : List Numbered) → IsTrue D.told → log.old.area ≢ Home → IsBackedAt (geometry_of self.old) (D.view disk.old) self.old → Holds (D.view disk.old) log.old ds ps →
+            IsBelow (geometry_of self.old) (tail_of log.old) (units_at (D.view disk.old) self.old) → LeavesOnly (D.view disk.old) (D.view disk.new) (IsMoment (geometry_of self.old) (D.view disk.old) log.old ds ps (lasts self.old) (units_at (D.view disk.old) self.old)) }
         ensures later { (D.view disk.old).faults ≤ (D.view disk.new).faults }
         ensures failed { OnErr result (HasRisen (D.view disk.old).faults (D.view disk.new).faults) }
         ensures fault { IfErr result (λ e. e ≡ PoolFault.Disk) }

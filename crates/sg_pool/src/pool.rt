@@ -1,31 +1,37 @@
-ghost use Rattle.std.specs.Prelude.{◌≡◌, ◌≢◌, ◌⊎◌, ◌≤◌, ◌<◌, ◌+◌, ◌++◌, [], ℕ, List, Some, None, nat_eq, length, get_or, OnOk, OnErr, IfOk, IfErr, IsTrue};
+ghost use Rattle.std.specs.Prelude.{true, false, ◌≡◌, ◌≢◌, ◌⊎◌, ◌≤◌, ◌<◌, ◌+◌, ◌++◌, [], ℕ, List, Some, None, nat_eq, length, get_or, OnOk, OnErr, IfOk, IfErr, IfSome, IfNone, IsTrue};
+ghost use Rattle.std.specs.Map.{set_value};
 ghost use Rattle.sg_base.specs.Ends.{HasRisen};
 ghost use Rattle.sg_base.specs.Op.{op_of};
 ghost use Rattle.sg_base.specs.declared.area.Area.TheVariants.{Home};
-ghost use Rattle.sg_disk.specs.Disk.{Leaves, LeavesOnly};
+ghost use Rattle.sg_disk.specs.Disk.{View, LeavesOnly};
 ghost use Rattle.sg_gate.specs.Batch.{IsReady};
+ghost use Rattle.sg_gate.specs.Superblock.{IsSuper};
 ghost use Rattle.sg_log.specs.Frames.{Numbered};
-ghost use Rattle.sg_log.specs.Held.{Holds, tail_of};
+ghost use Rattle.sg_log.specs.Held.{Holds, tail_of, forced};
 ghost use Rattle.sg_ops.specs.Table.{table_of};
 ghost use Rattle.sg_redo.specs.Page.{on_page};
 ghost use Rattle.sg_pool.specs.Changed.{IsCleanedThenChanged};
-ghost use Rattle.sg_pool.specs.Held.{frame_of};
-ghost use Rattle.sg_pool.specs.Moments.{IsSameOrForced, IsMoment};
-ghost use Rattle.sg_pool.specs.Order.{IsVictim, IsUsed};
-ghost use Rattle.sg_pool.specs.Pools.{IsPool, OthersKeep};
-ghost use Rattle.sg_pool.specs.Units.{IsBacked, IsCleaned, IsBelow};
-ghost use Rattle.sg_pool.specs.Well.{IsWell};
+ghost use Rattle.sg_pool.specs.Moments.{IsSameOrForced};
+ghost use Rattle.sg_pool.specs.Order.{IsVictim, IsUsed, below, pins_of};
+ghost use Rattle.sg_pool.specs.Pools.{IsPool};
 
-use crate::order::{next_out, touch};
-use crate::shelf::Shelf;
 use crate::PoolFault;
+use crate::order::{all_frames, next_out, set_pin, touch};
+use crate::shelf::Shelf;
 use lru::LruCache;
-use sg_base::{PageNo, PageOp};
+use sg_base::{Lsn, PageNo, PageOp};
 use sg_disk::Disk;
+use sg_gate::Super;
 use sg_log::Log;
 use sg_ops::Ops;
+use std::alloc::Global;
+use std::num::NonZeroUsize;
 
-/// The buffer pool.
+/// Frames of memory that hold pages of a store: the page that is asked for comes into the frame of
+/// the least recently used one, which goes home first where it was changed.
+///
+/// It has to be ended with `end`: it isn't `Drop`. After `PoolFault::Disk` nothing more is known of
+/// it, but that its calls return and are safe.
 pub struct Pool {
     shelf: Shelf,
     // the frames by their last use, each with whether it is pinned
@@ -36,24 +42,55 @@ pub struct Pool {
 impl Pool {
     ghost use Rattle.std.specs.Borrow.{sem};
     ghost use Rattle.sg_pool.specs.Lending.{IsLent, IsBrought, ends_as};
-    ghost use Rattle.sg_pool.specs.Shelves.{geometry_of, units, lasts, OnTold, BringFails};
+    ghost use Rattle.sg_pool.specs.Pooled.{sizes, contents, frame_holding, page_held, uses, OthersKeep, Backs, SameContents, IsLogged, IsPoolMoment, IsUnwritten};
+    ghost use Rattle.sg_pool.specs.Shelves.{OnTold, BringFails};
+
+    /// A pool for a store of this size, with as many frames as its superblock says. No page is in a
+    /// frame, and the lower frames are used first.
+    ///
+    /// `Memory`, where memory is refused, is the only refusal; no other call takes any.
+    pub fn new(alloc: Global, geometry: &Super) -> Result<Pool, PoolFault>
+        requires { IsSuper geometry.now }
+        ensures size { IfOk result (λ pool. sizes pool ≡ record { pages = geometry.now.pages; bands = geometry.now.bands }) }
+        ensures empty { IfOk result (λ pool. (f : ℕ) → page_held pool f ≡ None) }
+        ensures order { IfOk result (λ pool. uses pool ≡ below geometry.now.frames) }
+        // A home area that is ready backs it: it has all of the contents.
+        ensures backed { IfOk result (λ pool. (v : View) → IsReady (v.now Home) → Backs (sizes pool) v pool) }
+        ensures written { IfOk result (λ pool. (lsn : ℕ) → IsUnwritten pool lsn → ⊥) }
+        ensures memory { IfErr result (λ e. e ≡ PoolFault.Memory) }
+    {
+        let cap = NonZeroUsize::new(geometry.frames as usize).unwrap();
+        let Ok(order) = all_frames(alloc, cap) else {
+            return Err(PoolFault::Memory);
+        };
+        match Shelf::new(
+            alloc,
+            geometry.pages,
+            geometry.bands,
+            geometry.frames,
+            geometry.windows,
+        ) {
+            Ok(shelf) => Ok(Pool { shelf, order }),
+            Err(_) => Err(PoolFault::Memory),
+        }
+    }
 
     // The frame of a page, which is brought into the victim's where it is in none.
     fn hold<D: Disk>(&mut self, disk: &mut D, log: &mut Log, p: u32) -> Result<u32, PoolFault>
-        requires page { p < self.old.shelf.pages }
-        ensures held { IfOk result (λ f. frame_of self.new.shelf.slots.items p ≡ Some f) }
-        ensures recent { IfOk result (λ f. IsUsed f self.old.order.entries self.new.order.entries) }
-        ensures victim { frame_of self.old.shelf.slots.items p ≡ None → IfOk result (λ f. IsVictim self.old.order.entries f) }
-        ensures others { IfOk result (λ f. OthersKeep f self.old.shelf.slots.items self.new.shelf.slots.items) }
-        ensures geometry { geometry_of self.new.shelf ≡ geometry_of self.old.shelf }
-        ensures backed { IsTrue D.told → (log.old.area ≡ Home → ⊥) → IsBacked (geometry_of self.old.shelf) ((D.view disk.old).now Home) (units ((D.view disk.old).now Home).seen self.old.shelf) →
-            OnTold result (IsBacked (geometry_of self.old.shelf) ((D.view disk.new).now Home) (units ((D.view disk.new).now Home).seen self.new.shelf)) }
-        ensures units { IsTrue D.told → (log.old.area ≡ Home → ⊥) → IsBacked (geometry_of self.old.shelf) ((D.view disk.old).now Home) (units ((D.view disk.old).now Home).seen self.old.shelf) →
-            OnTold result (IsCleaned (geometry_of self.old.shelf) (units ((D.view disk.old).now Home).seen self.old.shelf) (units ((D.view disk.new).now Home).seen self.new.shelf)) }
-        ensures log { (ds ps : List Numbered) → IsTrue D.told → (log.old.area ≡ Home → ⊥) → IsReady ((D.view disk.old).now Home) → Holds (D.view disk.old) log.old ds ps →
+        requires page { p < (sizes self.old).pages }
+        ensures held { IfOk result (λ f. frame_holding self.new p ≡ Some f) }
+        ensures used { IfOk result (λ f. IsUsed f (uses self.old) (uses self.new)) }
+        ensures victim { frame_holding self.old p ≡ None → IfOk result (λ f. IsVictim (uses self.old) f) }
+        ensures others { IfOk result (λ f. OthersKeep f self.old self.new) }
+        ensures size { sizes self.new ≡ sizes self.old }
+        ensures backed { IsTrue D.told → log.old.area ≢ Home → Backs (sizes self.old) (D.view disk.old) self.old →
+            OnTold result (Backs (sizes self.old) (D.view disk.new) self.new) }
+        ensures same { IsTrue D.told → log.old.area ≢ Home → Backs (sizes self.old) (D.view disk.old) self.old →
+            OnTold result (SameContents (D.view disk.old) self.old (D.view disk.new) self.new) }
+        ensures log { (ds ps : List Numbered) → IsTrue D.told → log.old.area ≢ Home → IsReady ((D.view disk.old).now Home) → Holds (D.view disk.old) log.old ds ps →
             OnTold result (IsSameOrForced (D.view disk.new) log.old log.new ds ps) }
-        ensures moments { (ds ps : List Numbered) → IsTrue D.told → (log.old.area ≡ Home → ⊥) → IsReady ((D.view disk.old).now Home) → Holds (D.view disk.old) log.old ds ps →
-            IsBelow (geometry_of self.old.shelf) (tail_of log.old) (units ((D.view disk.old).now Home).seen self.old.shelf) → LeavesOnly (D.view disk.old) (D.view disk.new) (IsMoment (geometry_of self.old.shelf) (D.view disk.old) log.old ds ps (lasts self.old.shelf) (units ((D.view disk.old).now Home).seen self.old.shelf)) }
+        ensures moments { (ds ps : List Numbered) → IsTrue D.told → log.old.area ≢ Home → IsReady ((D.view disk.old).now Home) → Holds (D.view disk.old) log.old ds ps →
+            IsLogged (tail_of log.old) (D.view disk.old) self.old → LeavesOnly (D.view disk.old) (D.view disk.new) (IsPoolMoment (D.view disk.old) self.old log.old ds ps) }
         ensures later { (D.view disk.old).faults ≤ (D.view disk.new).faults }
         ensures faults { IfErr result (λ e. BringFails D.told log.old.area p (D.view disk.old) (D.view disk.new) self.old.shelf e) }
     {
@@ -67,52 +104,142 @@ impl Pool {
         Ok(f)
     }
 
-    /// The page's bytes.
-    pub fn page<D: Disk>(&mut self, disk: &mut D, log: &mut Log, p: PageNo) -> Result<&[u8], PoolFault>
-        requires page { p.0 < self.old.shelf.pages }
+    /// The 4,096 bytes of a page of the store: those that it was given last, whatever was evicted.
+    /// The page is in a frame then, which is the most recently used.
+    ///
+    /// Where the page was in no frame, it comes into the victim's. Whose page goes home first where
+    /// it was changed, through the double-write area, and after a force of the log where its last
+    /// change isn't durable.
+    ///
+    /// `Damaged` comes exactly where the home of a page that is in no frame is neither a page of
+    /// slots nor all 0. The contents are what they were; the victim's frame is empty then.
+    pub fn page<D: Disk>(
+        &mut self,
+        disk: &mut D,
+        log: &mut Log,
+        p: PageNo,
+    ) -> Result<&[u8], PoolFault>
+        requires page { p.0 < (sizes self.old).pages }
         ensures* ends { sem 𝓛 (ends_as self.entry (IsLent D.told log.old.area (D.view disk.old) (D.view disk.new) p.0 result self.old)) }
-        ensures bytes { IsTrue D.told → (log.old.area ≡ Home → ⊥) → IsBacked (geometry_of self.old.shelf) ((D.view disk.old).now Home) (units ((D.view disk.old).now Home).seen self.old.shelf) →
-            IfOk result (λ bytes. bytes.now ≡ (units ((D.view disk.old).now Home).seen self.old.shelf).page p.0) }
-        ensures log { (ds ps : List Numbered) → IsTrue D.told → (log.old.area ≡ Home → ⊥) → IsReady ((D.view disk.old).now Home) → Holds (D.view disk.old) log.old ds ps →
+        ensures bytes { IsTrue D.told → log.old.area ≢ Home → Backs (sizes self.old) (D.view disk.old) self.old →
+            IfOk result (λ bytes. bytes.now ≡ (contents (D.view disk.old) self.old).page p.0) }
+        ensures log { (ds ps : List Numbered) → IsTrue D.told → log.old.area ≢ Home → IsReady ((D.view disk.old).now Home) → Holds (D.view disk.old) log.old ds ps →
             OnTold result (IsSameOrForced (D.view disk.new) log.old log.new ds ps) }
-        ensures moments { (ds ps : List Numbered) → IsTrue D.told → (log.old.area ≡ Home → ⊥) → IsReady ((D.view disk.old).now Home) → Holds (D.view disk.old) log.old ds ps →
-            IsBelow (geometry_of self.old.shelf) (tail_of log.old) (units ((D.view disk.old).now Home).seen self.old.shelf) → LeavesOnly (D.view disk.old) (D.view disk.new) (IsMoment (geometry_of self.old.shelf) (D.view disk.old) log.old ds ps (lasts self.old.shelf) (units ((D.view disk.old).now Home).seen self.old.shelf)) }
+        // At each moment, faults included.
+        ensures moments { (ds ps : List Numbered) → IsTrue D.told → log.old.area ≢ Home → IsReady ((D.view disk.old).now Home) → Holds (D.view disk.old) log.old ds ps →
+            IsLogged (tail_of log.old) (D.view disk.old) self.old → LeavesOnly (D.view disk.old) (D.view disk.new) (IsPoolMoment (D.view disk.old) self.old log.old ds ps) }
         ensures faults { IfErr result (λ e. BringFails D.told log.old.area p.0 (D.view disk.old) (D.view disk.new) self.old.shelf e) }
+        ensures later { (D.view disk.old).faults ≤ (D.view disk.new).faults }
     {
         let f = self.hold(disk, log, p.0)?;
         Ok(self.shelf.frames.page(f))
     }
 
-    /// Makes a logged change of a page.
-    pub fn change_page<D: Disk>(&mut self, disk: &mut D, log: &mut Log, p: PageNo, lsn: u64, op: &PageOp<'_>, ops: &Ops) -> Result<(), PoolFault>
-        requires page { p.0 < self.old.shelf.pages }
+    /// Does the operation of the record `lsn` to a page, where the page's number is smaller and the
+    /// operation fits. The page stays changed in its frame until it goes home. The record has been
+    /// appended to the log.
+    ///
+    /// The page comes into a frame as by `page`, with the same refusals.
+    pub fn change_page<D: Disk>(
+        &mut self,
+        disk: &mut D,
+        log: &mut Log,
+        p: PageNo,
+        lsn: Lsn,
+        op: &PageOp<'_>,
+        ops: &Ops,
+    ) -> Result<(), PoolFault>
+        requires page { p.0 < (sizes self.old).pages }
         ensures brought { IfOk result (λ _. (f : ℕ) × IsBrought p.0 self.old self.new f) }
-        ensures geometry { geometry_of self.new.shelf ≡ geometry_of self.old.shelf }
-        ensures backed { IsTrue D.told → (log.old.area ≡ Home → ⊥) → IsBacked (geometry_of self.old.shelf) ((D.view disk.old).now Home) (units ((D.view disk.old).now Home).seen self.old.shelf) →
-            OnTold result (IsBacked (geometry_of self.old.shelf) ((D.view disk.new).now Home) (units ((D.view disk.new).now Home).seen self.new.shelf)) }
-        ensures changed { IsTrue D.told → (log.old.area ≡ Home → ⊥) → IsBacked (geometry_of self.old.shelf) ((D.view disk.old).now Home) (units ((D.view disk.old).now Home).seen self.old.shelf) →
-            OnOk result (IsCleanedThenChanged (geometry_of self.old.shelf) p.0 (on_page (table_of record_meaning range_meaning ops.now) lsn (op_of op.now)) (units ((D.view disk.old).now Home).seen self.old.shelf) (units ((D.view disk.new).now Home).seen self.new.shelf)) }
-        ensures refused { IsTrue D.told → (log.old.area ≡ Home → ⊥) → IsBacked (geometry_of self.old.shelf) ((D.view disk.old).now Home) (units ((D.view disk.old).now Home).seen self.old.shelf) →
-            OnErr result (OnTold result (IsCleaned (geometry_of self.old.shelf) (units ((D.view disk.old).now Home).seen self.old.shelf) (units ((D.view disk.new).now Home).seen self.new.shelf))) }
-        ensures log { (ds ps : List Numbered) → IsTrue D.told → (log.old.area ≡ Home → ⊥) → IsReady ((D.view disk.old).now Home) → Holds (D.view disk.old) log.old ds ps →
+        ensures size { sizes self.new ≡ sizes self.old }
+        ensures backed { IsTrue D.told → log.old.area ≢ Home → Backs (sizes self.old) (D.view disk.old) self.old →
+            OnTold result (Backs (sizes self.old) (D.view disk.new) self.new) }
+        ensures changed { IsTrue D.told → log.old.area ≢ Home → Backs (sizes self.old) (D.view disk.old) self.old →
+            OnOk result (IsCleanedThenChanged (sizes self.old) p.0 (on_page (table_of record_meaning range_meaning ops.now) lsn (op_of op.now)) (contents (D.view disk.old) self.old) (contents (D.view disk.new) self.new)) }
+        ensures refused { IsTrue D.told → log.old.area ≢ Home → Backs (sizes self.old) (D.view disk.old) self.old →
+            OnErr result (OnTold result (SameContents (D.view disk.old) self.old (D.view disk.new) self.new)) }
+        ensures log { (ds ps : List Numbered) → IsTrue D.told → log.old.area ≢ Home → IsReady ((D.view disk.old).now Home) → Holds (D.view disk.old) log.old ds ps →
             OnTold result (IsSameOrForced (D.view disk.new) log.old log.new ds ps) }
-        ensures moments { (ds ps : List Numbered) → IsTrue D.told → (log.old.area ≡ Home → ⊥) → IsReady ((D.view disk.old).now Home) → Holds (D.view disk.old) log.old ds ps →
-            IsBelow (geometry_of self.old.shelf) (tail_of log.old) (units ((D.view disk.old).now Home).seen self.old.shelf) → LeavesOnly (D.view disk.old) (D.view disk.new) (IsMoment (geometry_of self.old.shelf) (D.view disk.old) log.old ds ps (lasts self.old.shelf) (units ((D.view disk.old).now Home).seen self.old.shelf)) }
+        // At each moment, faults included.
+        ensures moments { (ds ps : List Numbered) → IsTrue D.told → log.old.area ≢ Home → IsReady ((D.view disk.old).now Home) → Holds (D.view disk.old) log.old ds ps →
+            IsLogged (tail_of log.old) (D.view disk.old) self.old → LeavesOnly (D.view disk.old) (D.view disk.new) (IsPoolMoment (D.view disk.old) self.old log.old ds ps) }
         ensures faults { IfErr result (λ e. BringFails D.told log.old.area p.0 (D.view disk.old) (D.view disk.new) self.old.shelf e) }
+        ensures later { (D.view disk.old).faults ≤ (D.view disk.new).faults }
     {
         let f = self.hold(disk, log, p.0)?;
         self.shelf.change(f, lsn, op, ops);
         Ok(())
     }
 
-    /// The frame whose page goes next.
+    /// Makes the log durable and writes each changed page home, up to 32 of them at once. They stay
+    /// in their frames.
+    pub fn flush<D: Disk>(&mut self, disk: &mut D, log: &mut Log) -> Result<(), PoolFault>
+        ensures order { uses self.new ≡ uses self.old }
+        ensures frames { (f : ℕ) → page_held self.new f ≡ page_held self.old f }
+        ensures size { sizes self.new ≡ sizes self.old }
+        ensures written { OnOk result ((lsn : ℕ) → IsUnwritten self.new lsn → ⊥) }
+        ensures backed { IsTrue D.told → log.old.area ≢ Home → Backs (sizes self.old) (D.view disk.old) self.old →
+            OnOk result (Backs (sizes self.old) (D.view disk.new) self.new) }
+        ensures same { IsTrue D.told → log.old.area ≢ Home → Backs (sizes self.old) (D.view disk.old) self.old →
+            OnOk result (SameContents (D.view disk.old) self.old (D.view disk.new) self.new) }
+        ensures log { OnOk result (log.new ≡ forced log.old) }
+        ensures holds { (ds ps : List Numbered) → IsTrue D.told → log.old.area ≢ Home → IsReady ((D.view disk.old).now Home) → Holds (D.view disk.old) log.old ds ps →
+            OnOk result (Holds (D.view disk.new) log.new (ds ++ ps) []) }
+        // At each moment, faults included.
+        ensures moments { (ds ps : List Numbered) → IsTrue D.told → log.old.area ≢ Home → Backs (sizes self.old) (D.view disk.old) self.old → Holds (D.view disk.old) log.old ds ps →
+            IsLogged (tail_of log.old) (D.view disk.old) self.old → LeavesOnly (D.view disk.old) (D.view disk.new) (IsPoolMoment (D.view disk.old) self.old log.old ds ps) }
+        ensures faults { IfErr result (λ e. e ≡ PoolFault.Disk) }
+        ensures failed { OnErr result (HasRisen (D.view disk.old).faults (D.view disk.new).faults) }
+        ensures later { (D.view disk.old).faults ≤ (D.view disk.new).faults }
+    {
+        self.shelf.flush(disk, log)
+    }
+
+    /// Keeps a page's frame from being the victim. The page is in a frame, and fewer than 6 are
+    /// pinned.
+    pub fn pin(&mut self, p: PageNo)
+        requires page { p.0 < (sizes self.old).pages }
+        requires held { (f : ℕ) × (frame_holding self.old p.0 ≡ Some f) }
+        requires room { pins_of (uses self.old) < 6 }
+        ensures shelf { self.new.shelf ≡ self.old.shelf }
+        ensures order { IfSome (frame_holding self.old p.0) (λ f. uses self.new ≡ set_value (nat_eq f) (uses self.old) true) }
+    {
+        if let Some(f) = self.shelf.find(p.0) {
+            set_pin(&mut self.order, f, true);
+        }
+    }
+
+    /// Lets a page's frame be the victim again. A page that is in no frame is left as it is.
+    pub fn unpin(&mut self, p: PageNo)
+        requires page { p.0 < (sizes self.old).pages }
+        ensures shelf { self.new.shelf ≡ self.old.shelf }
+        ensures order { IfSome (frame_holding self.old p.0) (λ f. uses self.new ≡ set_value (nat_eq f) (uses self.old) false) }
+        ensures absent { frame_holding self.old p.0 ≡ None → uses self.new ≡ uses self.old }
+    {
+        if let Some(f) = self.shelf.find(p.0) {
+            set_pin(&mut self.order, f, false);
+        }
+    }
+
+    /// The number of the oldest change of a page that isn't on the disk: no write of the page home
+    /// with a sync behind it has followed that change. `None` exactly where there is none.
+    pub fn oldest(&self) -> Option<Lsn>
+        ensures none { IfNone result ((lsn : ℕ) → IsUnwritten self.now lsn → ⊥) }
+        ensures least { IfSome result (λ oldest. (lsn : ℕ) → IsUnwritten self.now lsn → oldest ≤ lsn) }
+        ensures some { IfSome result (λ oldest. IsUnwritten self.now oldest) }
+    {
+        self.shelf.oldest_page()
+    }
+
+    /// The frame into which the next page comes that is in none: the least recently used that isn't
+    /// pinned.
     pub fn victim(&self) -> u32
-        ensures { IsVictim self.now.order.entries result }
+        ensures { IsVictim (uses self.now) result }
     {
         next_out(&self.order)
     }
 
-    /// Gives the frames' memory back.
+    /// Gives the memory back.
     pub fn end(self) {
         let Pool { shelf, order } = self;
         drop(order);

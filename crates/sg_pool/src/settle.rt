@@ -1,4 +1,4 @@
-ghost use Rattle.std.specs.Prelude.{◌≡◌, ◌⊎◌, ◌≤◌, ◌<◌, ◌+◌, ◌++◌, [], ℕ, List, length, OnOk, OnErr, IfErr, IsTrue};
+ghost use Rattle.std.specs.Prelude.{◌≡◌, ◌≢◌, ◌⊎◌, ◌≤◌, ◌<◌, ◌+◌, ◌++◌, [], ℕ, List, length, OnOk, OnErr, IfErr, IsTrue};
 ghost use Rattle.sg_base.specs.Ends.{HasRisen};
 ghost use Rattle.sg_base.specs.declared.area.Area.TheVariants.{Home};
 ghost use Rattle.sg_disk.specs.Disk.{LeavesOnly};
@@ -41,9 +41,9 @@ pub(crate) fn settle<D: Disk>(disk: &mut D, log: &mut Log, pages: u32, n: u32, p
     requires number { n < pages }
     requires pages { pages ≤ 1048576 }
     requires size { length page.now ≡ PAGE }
-    ensures done { IsTrue D.told → (log.old.area ≡ Home → ⊥) → IsReady ((D.view disk.old).now Home) → OnOk result (IsStored ((D.view disk.new).now Home) (with_home n page.now ((D.view disk.old).now Home).seen)) }
-    ensures log { (ds ps : List Numbered) → IsTrue D.told → (log.old.area ≡ Home → ⊥) → IsReady ((D.view disk.old).now Home) → Holds (D.view disk.old) log.old ds ps → OnOk result (IsSameOrForced (D.view disk.new) log.old log.new ds ps) }
-    ensures moments { (ds ps : List Numbered) (g : Geometry) (last : ℕ → ℕ) (m : Units) → IsTrue D.told → (log.old.area ≡ Home → ⊥) → IsReady ((D.view disk.old).now Home) → Holds (D.view disk.old) log.old ds ps → g.pages ≡ pages → m.page n ≡ page.now → lsn_of page.now < tail_of log.old →
+    ensures done { IsTrue D.told → log.old.area ≢ Home → IsReady ((D.view disk.old).now Home) → OnOk result (IsStored ((D.view disk.new).now Home) (with_home n page.now ((D.view disk.old).now Home).seen)) }
+    ensures log { (ds ps : List Numbered) → IsTrue D.told → log.old.area ≢ Home → IsReady ((D.view disk.old).now Home) → Holds (D.view disk.old) log.old ds ps → OnOk result (IsSameOrForced (D.view disk.new) log.old log.new ds ps) }
+    ensures moments { (ds ps : List Numbered) (g : Geometry) (last : ℕ → ℕ) (m : Units) → IsTrue D.told → log.old.area ≢ Home → IsReady ((D.view disk.old).now Home) → Holds (D.view disk.old) log.old ds ps → g.pages ≡ pages → m.page n ≡ page.now → lsn_of page.now < tail_of log.old →
         LeavesOnly (D.view disk.old) (D.view disk.new) (IsMoment g (D.view disk.old) log.old ds ps last m) }
     ensures later { (D.view disk.old).faults ≤ (D.view disk.new).faults }
     ensures failed { OnErr result (HasRisen (D.view disk.old).faults (D.view disk.new).faults) }

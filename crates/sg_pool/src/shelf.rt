@@ -1,4 +1,4 @@
-ghost use Rattle.std.specs.Prelude.{◌≡◌, ◌⊎◌, ◌≤◌, ◌<◌, ◌+◌, ◌++◌, [], ℕ, List, Some, None, length, get_or, slice_set, replicate, OnOk, OnErr, IfOk, IfErr, IfSome, IfNone, IsTrue};
+ghost use Rattle.std.specs.Prelude.{◌≡◌, ◌≢◌, ◌⊎◌, ◌≤◌, ◌<◌, ◌+◌, ◌++◌, [], ℕ, List, Some, None, length, get_or, slice_set, replicate, OnOk, OnErr, IfOk, IfErr, IfSome, IfNone, IsTrue};
 ghost use Rattle.sg_base.specs.Ends.{HasRisen};
 ghost use Rattle.sg_base.specs.declared.area.Area.TheVariants.{Home};
 ghost use Rattle.sg_disk.specs.Disk.{Leaves, LeavesOnly, Counts, ReadBytes};
@@ -50,7 +50,7 @@ pub struct Shelf {
 }
 
 impl Shelf {
-    ghost use Rattle.sg_pool.specs.Shelves.{geometry_of, units, lasts, OnTold, LoadFails, BringFails};
+    ghost use Rattle.sg_pool.specs.Shelves.{geometry_of, units_at, IsBackedAt, lasts, OnTold, LoadFails, BringFails};
 
     // So many frames and windows, which hold nothing, for so many pages and bands.
     pub(crate) fn new(
@@ -124,10 +124,10 @@ impl Shelf {
     // Writes a frame's page home, if it was changed.
     fn write_back<D: Disk>(&self, disk: &mut D, log: &mut Log, f: u32) -> Result<(), PoolFault>
         requires there { f < length self.now.slots.items }
-        ensures home { IsTrue D.told → (log.old.area ≡ Home → ⊥) → IsReady ((D.view disk.old).now Home) → OnOk result (IsAtHome self.now.slots.items self.now.frames f ((D.view disk.old).now Home) ((D.view disk.new).now Home)) }
-        ensures log { (ds ps : List Numbered) → IsTrue D.told → (log.old.area ≡ Home → ⊥) → IsReady ((D.view disk.old).now Home) → Holds (D.view disk.old) log.old ds ps → OnOk result (IsSameOrForced (D.view disk.new) log.old log.new ds ps) }
-        ensures moments { (ds ps : List Numbered) → IsTrue D.told → (log.old.area ≡ Home → ⊥) → IsReady ((D.view disk.old).now Home) → Holds (D.view disk.old) log.old ds ps →
-            IsBelow (geometry_of self.now) (tail_of log.old) (units ((D.view disk.old).now Home).seen self.now) → LeavesOnly (D.view disk.old) (D.view disk.new) (IsMoment (geometry_of self.now) (D.view disk.old) log.old ds ps (lasts self.now) (units ((D.view disk.old).now Home).seen self.now)) }
+        ensures home { IsTrue D.told → log.old.area ≢ Home → IsReady ((D.view disk.old).now Home) → OnOk result (IsAtHome self.now.slots.items self.now.frames f ((D.view disk.old).now Home) ((D.view disk.new).now Home)) }
+        ensures log { (ds ps : List Numbered) → IsTrue D.told → log.old.area ≢ Home → IsReady ((D.view disk.old).now Home) → Holds (D.view disk.old) log.old ds ps → OnOk result (IsSameOrForced (D.view disk.new) log.old log.new ds ps) }
+        ensures moments { (ds ps : List Numbered) → IsTrue D.told → log.old.area ≢ Home → IsReady ((D.view disk.old).now Home) → Holds (D.view disk.old) log.old ds ps →
+            IsBelow (geometry_of self.now) (tail_of log.old) (units_at (D.view disk.old) self.now) → LeavesOnly (D.view disk.old) (D.view disk.new) (IsMoment (geometry_of self.now) (D.view disk.old) log.old ds ps (lasts self.now) (units_at (D.view disk.old) self.now)) }
         ensures later { (D.view disk.old).faults ≤ (D.view disk.new).faults }
         ensures failed { OnErr result (HasRisen (D.view disk.old).faults (D.view disk.new).faults) }
         ensures fault { IfErr result (λ e. e ≡ PoolFault.Disk) }
@@ -149,13 +149,13 @@ impl Shelf {
         ensures frames { self.new.frames ≡ self.old.frames }
         ensures wins { self.new.wins.items ≡ self.old.wins.items }
         ensures geometry { geometry_of self.new ≡ geometry_of self.old }
-        ensures backed { IsTrue D.told → (log.old.area ≡ Home → ⊥) → IsBacked (geometry_of self.old) ((D.view disk.old).now Home) (units ((D.view disk.old).now Home).seen self.old) →
-            OnOk result (IsBacked (geometry_of self.old) ((D.view disk.new).now Home) (units ((D.view disk.new).now Home).seen self.new)) }
-        ensures units { IsTrue D.told → (log.old.area ≡ Home → ⊥) → IsReady ((D.view disk.old).now Home) →
-            OnOk result (IsCleaned (geometry_of self.old) (units ((D.view disk.old).now Home).seen self.old) (units ((D.view disk.new).now Home).seen self.new)) }
-        ensures log { (ds ps : List Numbered) → IsTrue D.told → (log.old.area ≡ Home → ⊥) → IsReady ((D.view disk.old).now Home) → Holds (D.view disk.old) log.old ds ps → OnOk result (IsSameOrForced (D.view disk.new) log.old log.new ds ps) }
-        ensures moments { (ds ps : List Numbered) → IsTrue D.told → (log.old.area ≡ Home → ⊥) → IsReady ((D.view disk.old).now Home) → Holds (D.view disk.old) log.old ds ps →
-            IsBelow (geometry_of self.old) (tail_of log.old) (units ((D.view disk.old).now Home).seen self.old) → LeavesOnly (D.view disk.old) (D.view disk.new) (IsMoment (geometry_of self.old) (D.view disk.old) log.old ds ps (lasts self.old) (units ((D.view disk.old).now Home).seen self.old)) }
+        ensures backed { IsTrue D.told → log.old.area ≢ Home → IsBackedAt (geometry_of self.old) (D.view disk.old) self.old →
+            OnOk result (IsBackedAt (geometry_of self.old) (D.view disk.new) self.new) }
+        ensures units { IsTrue D.told → log.old.area ≢ Home → IsReady ((D.view disk.old).now Home) →
+            OnOk result (IsCleaned (geometry_of self.old) (units_at (D.view disk.old) self.old) (units_at (D.view disk.new) self.new)) }
+        ensures log { (ds ps : List Numbered) → IsTrue D.told → log.old.area ≢ Home → IsReady ((D.view disk.old).now Home) → Holds (D.view disk.old) log.old ds ps → OnOk result (IsSameOrForced (D.view disk.new) log.old log.new ds ps) }
+        ensures moments { (ds ps : List Numbered) → IsTrue D.told → log.old.area ≢ Home → IsReady ((D.view disk.old).now Home) → Holds (D.view disk.old) log.old ds ps →
+            IsBelow (geometry_of self.old) (tail_of log.old) (units_at (D.view disk.old) self.old) → LeavesOnly (D.view disk.old) (D.view disk.new) (IsMoment (geometry_of self.old) (D.view disk.old) log.old ds ps (lasts self.old) (units_at (D.view disk.old) self.old)) }
         ensures later { (D.view disk.old).faults ≤ (D.view disk.new).faults }
         ensures failed { OnErr result (HasRisen (D.view disk.old).faults (D.view disk.new).faults) }
         ensures fault { IfErr result (λ e. e ≡ PoolFault.Disk) }
@@ -191,10 +191,10 @@ impl Shelf {
         ensures emptied { OnErr result (self.new.slots.items ≡ slice_set self.old.slots.items f (record { page = None; since = None })) }
         ensures wins { self.new.wins.items ≡ self.old.wins.items }
         ensures geometry { geometry_of self.new ≡ geometry_of self.old }
-        ensures backed { IsTrue D.told → IsBacked (geometry_of self.old) ((D.view disk.old).now Home) (units ((D.view disk.old).now Home).seen self.old) →
-            OnTold result (IsBacked (geometry_of self.old) ((D.view disk.new).now Home) (units ((D.view disk.new).now Home).seen self.new)) }
-        ensures units { IsTrue D.told → IsBacked (geometry_of self.old) ((D.view disk.old).now Home) (units ((D.view disk.old).now Home).seen self.old) →
-            OnTold result (IsCleaned (geometry_of self.old) (units ((D.view disk.old).now Home).seen self.old) (units ((D.view disk.new).now Home).seen self.new)) }
+        ensures backed { IsTrue D.told → IsBackedAt (geometry_of self.old) (D.view disk.old) self.old →
+            OnTold result (IsBackedAt (geometry_of self.old) (D.view disk.new) self.new) }
+        ensures units { IsTrue D.told → IsBackedAt (geometry_of self.old) (D.view disk.old) self.old →
+            OnTold result (IsCleaned (geometry_of self.old) (units_at (D.view disk.old) self.old) (units_at (D.view disk.new) self.new)) }
         ensures well { IsTrue D.told → OnOk result (IsWell (page_at ((D.view disk.old).now Home).seen (home_at p))) }
         ensures unchanged { IsTrue D.told → (D.view disk.new).now ≡ (D.view disk.old).now }
         ensures moments { IsTrue D.told → LeavesOnly (D.view disk.old) (D.view disk.new) (Leaves (D.view disk.old).now) }
@@ -221,16 +221,16 @@ impl Shelf {
         ensures count { length self.new.slots.items ≡ length self.old.slots.items }
         ensures wins { self.new.wins.items ≡ self.old.wins.items }
         ensures geometry { geometry_of self.new ≡ geometry_of self.old }
-        ensures backed { IsTrue D.told → (log.old.area ≡ Home → ⊥) → IsBacked (geometry_of self.old) ((D.view disk.old).now Home) (units ((D.view disk.old).now Home).seen self.old) →
-            OnTold result (IsBacked (geometry_of self.old) ((D.view disk.new).now Home) (units ((D.view disk.new).now Home).seen self.new)) }
-        ensures units { IsTrue D.told → (log.old.area ≡ Home → ⊥) → IsBacked (geometry_of self.old) ((D.view disk.old).now Home) (units ((D.view disk.old).now Home).seen self.old) →
-            OnTold result (IsCleaned (geometry_of self.old) (units ((D.view disk.old).now Home).seen self.old) (units ((D.view disk.new).now Home).seen self.new)) }
-        ensures log { (ds ps : List Numbered) → IsTrue D.told → (log.old.area ≡ Home → ⊥) → IsReady ((D.view disk.old).now Home) → Holds (D.view disk.old) log.old ds ps →
+        ensures backed { IsTrue D.told → log.old.area ≢ Home → IsBackedAt (geometry_of self.old) (D.view disk.old) self.old →
+            OnTold result (IsBackedAt (geometry_of self.old) (D.view disk.new) self.new) }
+        ensures units { IsTrue D.told → log.old.area ≢ Home → IsBackedAt (geometry_of self.old) (D.view disk.old) self.old →
+            OnTold result (IsCleaned (geometry_of self.old) (units_at (D.view disk.old) self.old) (units_at (D.view disk.new) self.new)) }
+        ensures log { (ds ps : List Numbered) → IsTrue D.told → log.old.area ≢ Home → IsReady ((D.view disk.old).now Home) → Holds (D.view disk.old) log.old ds ps →
             OnTold result (IsSameOrForced (D.view disk.new) log.old log.new ds ps) }
-        ensures moments { (ds ps : List Numbered) → IsTrue D.told → (log.old.area ≡ Home → ⊥) → IsReady ((D.view disk.old).now Home) → Holds (D.view disk.old) log.old ds ps →
-            IsBelow (geometry_of self.old) (tail_of log.old) (units ((D.view disk.old).now Home).seen self.old) → LeavesOnly (D.view disk.old) (D.view disk.new) (IsMoment (geometry_of self.old) (D.view disk.old) log.old ds ps (lasts self.old) (units ((D.view disk.old).now Home).seen self.old)) }
-        ensures well { IsTrue D.told → (log.old.area ≡ Home → ⊥) → IsBacked (geometry_of self.old) ((D.view disk.old).now Home) (units ((D.view disk.old).now Home).seen self.old) →
-            OnOk result (IsWell ((units ((D.view disk.old).now Home).seen self.old).page p)) }
+        ensures moments { (ds ps : List Numbered) → IsTrue D.told → log.old.area ≢ Home → IsReady ((D.view disk.old).now Home) → Holds (D.view disk.old) log.old ds ps →
+            IsBelow (geometry_of self.old) (tail_of log.old) (units_at (D.view disk.old) self.old) → LeavesOnly (D.view disk.old) (D.view disk.new) (IsMoment (geometry_of self.old) (D.view disk.old) log.old ds ps (lasts self.old) (units_at (D.view disk.old) self.old)) }
+        ensures well { IsTrue D.told → log.old.area ≢ Home → IsBackedAt (geometry_of self.old) (D.view disk.old) self.old →
+            OnOk result (IsWell ((units_at (D.view disk.old) self.old).page p)) }
         ensures later { (D.view disk.old).faults ≤ (D.view disk.new).faults }
         ensures faults { IfErr result (λ e. BringFails D.told log.old.area p (D.view disk.old) (D.view disk.new) self.old e) }
     {
@@ -241,6 +241,7 @@ impl Shelf {
     // Does a record's operation to a frame's page.
     pub(crate) fn change(&mut self, f: u32, lsn: u64, op: &PageOp<'_>, ops: &Ops)
         requires there { f < length self.old.slots.items }
+        requires held { (p : ℕ) × (page_in self.old.slots.items f ≡ Some p) }
         ensures slots { let r = on_page (table_of record_meaning range_meaning ops.now) lsn (op_of op.now) in
             self.new.slots.items ≡ slots_after (applies r (get_or self.old.frames.pages f [])) self.old.slots.items f lsn }
         ensures frames { let r = on_page (table_of record_meaning range_meaning ops.now) lsn (op_of op.now) in

@@ -2,7 +2,7 @@ use Rattle.std.proofs.Common.{◌≡◌, ◌<◌, ℕ, Option, Some, None, List,
 use Rattle.std.specs.List.{refill, length_refill}
 use Rattle.sg_pool.specs.declared.slot.Slot.{Slot}
 use Rattle.sg_pool.specs.Held.{no_slot}
-use Rattle.sg_pool.proofs.Slots.{slot_at}
+use Rattle.sg_pool.proofs.Slots.{slot_at, none_is_some}
 use Rattle.sg_pool.proofs.Changing.{shelf_cleaned, shelf_frame}
 use Rattle.sg_pool.proofs.Changes.{slots_not, slots_done}
 use Rattle.sg_pool.proofs.shelf.Shelf.change.Goals as goal
@@ -19,9 +19,10 @@ invariant_of-self-2 g c =
     let here : length (get_or s.frames.pages c.args.f []) ≡ 4096 = s.shelf.here.pages c.args.f (omega (arith, many, there)) in
     let bytes : List ℕ = refill (length (get_or s.frames.pages c.args.f [])) (get_or s.frames.pages c.args.f []) c.apply_page.new.page in
     let long : length bytes ≡ 4096 = sym (length_refill (length (get_or s.frames.pages c.args.f [])) (get_or s.frames.pages c.args.f []) c.apply_page.new.page refl) ∙ here in
+    let page = ap (λ (x : Slot). x.page) (slot_at s.slots.items c.args.f c.index-slot.result.now there c.index-slot.ensures) in
     let slot : Slot = record { page = c.index-slot.result.now.page; since = Some c.unwrap_or.result } in
     record { shelf = shelf_frame s.pages s.bands (set s.slots.items c.args.f slot) s.wins.items s.frames c.args.f bytes long
-        (shelf_cleaned s.pages s.bands s.slots.items s.wins.items s.frames s.shelf c.args.f there slot (ap (λ (x : Slot). x.page) (slot_at s.slots.items c.args.f c.index-slot.result.now there c.index-slot.ensures))) }
+        (shelf_cleaned s.pages s.bands s.slots.items s.wins.items s.frames s.shelf c.args.f there slot page (λ none. absurd (none_is_some c.requires.held.0 (sym none ∙ (page ∙ c.requires.held.1))))) }
 
 pub returns-clause-slots : goal.returns-clause-slots
 returns-clause-slots g c =

@@ -14,7 +14,7 @@ pub invariant_of-self : goal.invariant_of-self
 invariant_of-self g c =
     let s = c.args.self.now in
     let is : c.index_mut.result.now ≡ get_or s.slots.items c.args.f no_slot = slot_at s.slots.items c.args.f c.index_mut.result.now c.requires.there c.index_mut.ensures.value in
-    record { shelf = shelf_cleaned s.pages s.bands s.slots.items s.wins.items s.frames s.shelf c.args.f c.requires.there (record { page = c.index_mut.result.now.page; since = None }) (ap (λ (x : Slot). x.page) is) }
+    record { shelf = shelf_cleaned s.pages s.bands s.slots.items s.wins.items s.frames s.shelf c.args.f c.requires.there (record { page = c.index_mut.result.now.page; since = None }) (ap (λ (x : Slot). x.page) is) (λ none. refl) }
 
 pub returns-clause-backed : goal.returns-clause-backed
 returns-clause-backed g c told apart backed =

@@ -1,0 +1,17 @@
+use Rattle.std.proofs.Common.{◌≡◌, ◌<◌, ◌+◌, ◌≤◌, ℕ, Bool, true, false, Some, List, length, sym, ◌∙◌, subst, arith}
+use Rattle.std.specs.Prelude.{nat_eq}
+use Rattle.sg_pool.specs.Order.{IsOrder, pins_of}
+use Rattle.sg_pool.proofs.Ordering.{order_unset}
+use Rattle.sg_pool.proofs.Slots.{frame_some}
+use Rattle.sg_pool.proofs.pool.Pool.unpin.Goals as goal
+
+pub set_pin-requires : goal.set_pin-requires
+set_pin-requires c = let s = c.args.self.now in
+    record { there = s.pool.order.each c.in-Some.f (frame_some c.args.p.0 s.shelf.slots.items c.in-Some.f (sym c.find.ensures ∙ c.in-Some.is)).0 }
+
+pub invariant_of-self : goal.invariant_of-self
+invariant_of-self c = let s = c.args.self.now in
+    record { pool = record {
+      many = s.pool.many;
+      order = subst (λ (es : List (ℕ × Bool)). IsOrder (length s.shelf.slots.items) es) (sym c.set_pin.ensures.entries) (order_unset c.in-Some.f (length s.shelf.slots.items) s.order.entries s.pool.order);
+    } }

@@ -1,0 +1,54 @@
+-- A pool as its callers see it.
+use Rattle.std.specs.Prelude.{◌≡◌, ◌≢◌, ◌<◌, ℕ, Bool, Option, Some, List}
+use Rattle.sg_base.specs.declared.area.Area.TheVariants.{Home}
+use Rattle.sg_disk.specs.Disk.{Image, View}
+use Rattle.sg_log.specs.Frames.{Numbered}
+use Rattle.sg_log.specs.Held.{Tail}
+use Rattle.sg_pool.specs.declared.pool.Pool.{Pool}
+use Rattle.sg_pool.specs.Held.{frame_of, page_in, page_since_of}
+use Rattle.sg_pool.specs.Moments.{IsMoment}
+use Rattle.sg_pool.specs.Shelves.{geometry_of, units, lasts}
+use Rattle.sg_pool.specs.Units.{Geometry, Units, IsBacked, IsCleaned, IsBelow}
+
+-- how many pages and bands its store has
+abbrev pub sizes : Pool → Geometry
+sizes pool = geometry_of pool.shelf
+
+-- THE CONTENTS OF THE STORE: what is in each page and band, whether memory or the disk has it
+abbrev pub contents : View → Pool → Units
+contents v pool = units (v.now Home).seen pool.shelf
+
+-- the frame that holds a page, and the page that a frame holds
+abbrev pub frame_holding : Pool → ℕ → Option ℕ
+frame_holding pool n = frame_of pool.shelf.slots.items n
+
+abbrev pub page_held : Pool → ℕ → Option ℕ
+page_held pool f = page_in pool.shelf.slots.items f
+
+-- the frames by their last use, the most recently used first, each with whether it is pinned
+abbrev pub uses : Pool → List (ℕ × Bool)
+uses pool = pool.order.entries
+
+-- the frames but this one keep their pages
+abbrev pub OthersKeep : ℕ → (old new : Pool) → Type 0
+OthersKeep f old new = (k : ℕ) → k ≢ f → page_held new k ≡ page_held old k
+
+-- the disk has what memory doesn't, of a store of this size
+abbrev pub Backs : Geometry → View → Pool → Type 0
+Backs g v pool = IsBacked g (v.now Home) (contents v pool)
+
+-- the contents are the same, and some may have gone home
+abbrev pub SameContents : (v : View) → (old : Pool) → (w : View) → (new : Pool) → Type 0
+SameContents v old w new = IsCleaned (sizes old) (contents v old) (contents w new)
+
+-- the last change of each page that isn't on the disk is a record below this number
+abbrev pub IsLogged : ℕ → View → Pool → Type 0
+IsLogged tail v pool = IsBelow (sizes pool) tail (contents v pool)
+
+-- an image of a moment of a call of a pool that was so before it
+abbrev pub IsPoolMoment : View → Pool → Tail → (ds ps : List Numbered) → Image → Type 0
+IsPoolMoment v pool log ds ps c = IsMoment (sizes pool) v log ds ps (lasts pool.shelf) (contents v pool) c
+
+-- this is the oldest change of some page that isn't on the disk
+abbrev pub IsUnwritten : Pool → ℕ → Type 0
+IsUnwritten pool lsn = (n : ℕ) × (n < pool.shelf.pages) × (page_since_of pool.shelf.slots.items n ≡ Some lsn)
