@@ -126,7 +126,7 @@ module _ (ns : List ℕ) (n : ℕ) where
       while_placed c leaves = whole_store v.now pages (put (place_at k) page (v.now Home).seen) (v.now Home).seen c
           (λ i store. put_outside (place_at k) page (v.now Home).seen i (λ low lt. ⊎_elim (λ a. absurd (omega arith)) (λ a. absurd (omega arith)) store))
           (rest_whole v.now pages (written_part (place_at k) page (v.now Home)) c (placed_ready k page small long (v.now Home) ready) (leaves_written v.now Home (place_at k) page c leaves)
-            (λ b other. leaves_other v.now Home b (place_at k) page c other leaves))
+          (λ b other. leaves_other v.now Home b (place_at k) page c other leaves))
 
       pub place_whole : {T E : Type 0} (r : Result T E) → Wrote Home (place_at k) page v m r → LeavesOnly v m Same
       place_whole r wrote = goes_on (started v Same at_start) wrote while_placed

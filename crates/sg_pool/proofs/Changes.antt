@@ -152,8 +152,8 @@ module _ (p : ℕ) (r : OnPage) (slots : List Slot) (frames : Held) (f : ℕ) (l
       unchanged = ⊎_elim
           (λ yes. absurd (since_some r was (page_since_of slots p) (applies r was) yes (sym (since_now (page_at seen (home_at p))) ∙ none)))
           (λ not.
-            let since : page_since_of slots p ≡ None = sym (since_none r (page_since_of slots p) (applies r was) not) ∙ (sym (since_now (page_at seen (home_at p))) ∙ none) in
-            backed.pages p small since ∙ (sym (redone_same r was not) ∙ sym (page_now (page_at seen (home_at p)))))
+          let since : page_since_of slots p ≡ None = sym (since_none r (page_since_of slots p) (applies r was) not) ∙ (sym (since_now (page_at seen (home_at p))) ∙ none) in
+          backed.pages p small since ∙ (sym (redone_same r was not) ∙ sym (page_now (page_at seen (home_at p)))))
           (bool_cases (applies r was))
 
     changed_backed : (q : Part) → IsBacked g q (units_of g seen slots wins frames) → IsBacked g q (units_of g seen slots1 wins frames1)
@@ -161,7 +161,7 @@ module _ (p : ℕ) (r : OnPage) (slots : List Slot) (frames : Held) (f : ℕ) (l
       ready = backed.ready;
       pages = λ n small none. ⊎_elim
           (λ same. subst (λ (j : ℕ). page_at q.seen (home_at j) ≡ page_of slots1 frames1.pages j (page_at seen (home_at j))) (sym same)
-              (unchanged q backed (subst (λ (j : ℕ). j < g.pages) same small) (ap (page_since_of slots1) (sym same) ∙ none)))
+          (unchanged q backed (subst (λ (j : ℕ). j < g.pages) same small) (ap (page_since_of slots1) (sym same) ∙ none)))
           (λ differ. backed.pages n small (sym (since_other n differ) ∙ none) ∙ sym (page_other n differ (page_at seen (home_at n))))
           (cases_eq n p);
       bytes = backed.bytes;

@@ -64,9 +64,9 @@ module _ (g : Geometry) (slots : List Slot) (wins : List Win) (frames : Held) (f
     same_since n None e = refl
     same_since n (Some k) e = ⊎_elim
         (λ same. ⊎_elim
-          (λ empty. absurd (none_is_some n (sym empty ∙ (ap (page_in slots) (sym same) ∙ (frame_some n slots k e).1))))
-          (λ clean. ap (λ (j : ℕ). since_of cleaned (Some j)) same ∙ (ap (λ (s : Slot). s.since) (set_here slots f (record { page = page_in slots f; since = None }) lt) ∙ (sym clean ∙ ap (λ (j : ℕ). since_of slots (Some j)) (sym same))))
-          none)
+        (λ empty. absurd (none_is_some n (sym empty ∙ (ap (page_in slots) (sym same) ∙ (frame_some n slots k e).1))))
+        (λ clean. ap (λ (j : ℕ). since_of cleaned (Some j)) same ∙ (ap (λ (s : Slot). s.since) (set_here slots f (record { page = page_in slots f; since = None }) lt) ∙ (sym clean ∙ ap (λ (j : ℕ). since_of slots (Some j)) (sym same))))
+        none)
         (λ differ. since_other k differ)
         (cases_eq k f)
 
@@ -129,10 +129,10 @@ module _ (g : Geometry) (slots : List Slot) (wins : List Win) (frames : Held) (f
       ready = done_ready q (with_home n page p.seen) done;
       pages = λ k lt none. ⊎_elim
           (λ same. subst (λ (j : ℕ). page_at q.seen (home_at j) ≡ page_of cleaned frames.pages j (page_at q.seen (home_at j))) (sym same)
-              (home_same n ∙ (homed_page n page long p.seen ∙ sym (page_cleaned n (page_at q.seen (home_at n)) ∙ in_frame (page_at q.seen (home_at n))))))
+          (home_same n ∙ (homed_page n page long p.seen ∙ sym (page_cleaned n (page_at q.seen (home_at n)) ∙ in_frame (page_at q.seen (home_at n))))))
           (λ differ.
-            let was : page_since_of slots k ≡ None = sym (ap (λ (h : ℕ → Option ℕ). since_of cleaned (h k)) here ∙ since_kept k differ (frame_of slots k) refl) ∙ none in
-            other_same k differ ∙ (backed.pages k lt was ∙ sym (page_stays k)))
+          let was : page_since_of slots k ≡ None = sym (ap (λ (h : ℕ → Option ℕ). since_of cleaned (h k)) here ∙ since_kept k differ (frame_of slots k) refl) ∙ none in
+          other_same k differ ∙ (backed.pages k lt was ∙ sym (page_stays k)))
           (cases_eq k n);
       bytes = λ b i a c unmarked. byte_stays b i ∙ (backed.bytes b i a c unmarked ∙ sym (ap (byte_in frames.windows (window_of wins b) i) (byte_stays b i)));
       clean = backed.clean;
@@ -155,9 +155,10 @@ module _ (g : Geometry) (slots : List Slot) (wins : List Win) (frames : Held) (f
       IsSame = (page_of replaced refilled.pages n home ≡ page_of slots frames.pages n home) × (page_since_of replaced n ≡ page_since_of slots n)
 
       same_in : (o o' : Option ℕ) (x : List ℕ) → frame_of replaced n ≡ o' → frame_of slots n ≡ o → bytes_of refilled.pages o' home ≡ x → bytes_of frames.pages o home ≡ x → since_of replaced o' ≡ since_of slots o → IsSame
-      same_in o o' x e' e a b c =
-          (ap (λ (t : Option ℕ). bytes_of refilled.pages t home) e' ∙ (a ∙ sym (ap (λ (t : Option ℕ). bytes_of frames.pages t home) e ∙ b)),
-            ap (since_of replaced) e' ∙ (c ∙ sym (ap (since_of slots) e)))
+      same_in o o' x e' e a b c = (
+        ap (λ (t : Option ℕ). bytes_of refilled.pages t home) e' ∙ (a ∙ sym (ap (λ (t : Option ℕ). bytes_of frames.pages t home) e ∙ b)),
+        ap (since_of replaced) e' ∙ (c ∙ sym (ap (since_of slots) e)),
+      )
 
       case_new : s.page ≡ Some n → IsSame
       case_new is = same_in None (Some f) home (frame_is replaced f n apart' (let e = length-set slots f s in omega (arith, e)) (page_here slots f s lt ∙ is)) (new n is).0

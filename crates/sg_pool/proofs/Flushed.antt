@@ -95,9 +95,9 @@ module _ (g : Geometry) (slots : List Slot) (wins : List Win) (frames : Held) (a
           ⊎_elim
           (λ low. out (inl low))
           (λ high. ⊎_elim
-            (λ within. ⊎_elim (λ clean. was_clean (ap (since_of slots) e ∙ clean)) (λ is. went_home (h, here.0, here.1) is) (home.written h n high within here.1))
-            (λ behind. out (inr behind))
-            (cases_lt h to))
+          (λ within. ⊎_elim (λ clean. was_clean (ap (since_of slots) e ∙ clean)) (λ is. went_home (h, here.0, here.1) is) (home.written h n high within here.1))
+          (λ behind. out (inr behind))
+          (cases_lt h to))
           (cases_lt h from)
 
     pub flushed_backed : IsBacked g p (units_of g p.seen slots wins frames) → IsBacked g q (units_of g q.seen slots' wins frames)

@@ -28,7 +28,7 @@ module _ (g : Geometry) (d : ℕ) (last : ℕ → ℕ) (seen : Bytes) (m : Units
   going_batch f ns batch may going = record {
     pages = λ n lt. ⊎_elim
         (λ there. subst (λ (j : ℕ). (page_at (over ns 0 f f) (home_at j) ≡ page_at seen (home_at j)) ⊎ ((page_at (over ns 0 f f) (home_at j) ≡ m.page j) × (lsn_of (m.page j) < d))) there.2
-          (inr (batch_page ns f batch.different there.0 there.1 ∙ (may there.0 there.1).0, (may there.0 there.1).1)))
+        (inr (batch_page ns f batch.different there.0 there.1 ∙ (may there.0 there.1).0, (may there.0 there.1).1)))
         (λ nowhere. let here = other_page ns f batch.different n nowhere in ⊎_elim (λ as_was. inl (here ∙ as_was)) (λ gone. inr (here ∙ gone.0, gone.1)) (going.pages n lt))
         (page_in_batch ns n);
     bytes = λ b i is_band is_byte.

@@ -44,4 +44,3 @@ window_sized seen at n lent read long is = is ∙ ap (window seen at) long
 pub page_read : (seen : Bytes) (at : ℕ) (old lent read : List ℕ) → length old ≡ PAGE → lent ≡ old → length read ≡ length lent → read ≡ window seen at (length lent) → refill (length old) old read ≡ page_at seen at
 unfolding page_at
 page_read seen at old lent read size same long is = rewritten_whole old read (long ∙ ap length same) ∙ window_sized seen at PAGE lent read (ap length same ∙ size) is
-

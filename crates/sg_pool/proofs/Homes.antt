@@ -41,9 +41,9 @@ page_in_batch [] n = inr (λ k lt is. absurd (omega arith))
 page_in_batch (m ∷ ns) n = ⊎_elim
     (λ is. inl (0, omega arith, is))
     (λ not. ⊎_elim
-      (λ there. inl (suc there.0, let lt = there.1 in omega arith, there.2))
-      (λ nowhere. inr (elsewhere m ns n not nowhere))
-      (page_in_batch ns n))
+    (λ there. inl (suc there.0, let lt = there.1 in omega arith, there.2))
+    (λ nowhere. inr (elsewhere m ns n not nowhere))
+    (page_in_batch ns n))
     (cases_eq m n)
 
 -- THE HOMES AFTER A BATCH: a page of the batch is the one at its place, and all else is as before

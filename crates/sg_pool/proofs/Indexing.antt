@@ -20,9 +20,9 @@ module _ (slots : List Slot) (index : List (Option ℕ)) (f : ℕ) (lt : f < len
       let low : n < length index = let e = length-set index m None in omega (arith, e) in
       ⊎_elim
       (λ same. subst (λ (j : ℕ). get_or (set index m None) j None ≡ frame_of (set slots f no_slot) j) (sym same)
-          (get_or-set_same index m None None small ∙ sym (frame_gone slots f no_slot lt m apart was (none_is_some m))))
+      (get_or-set_same index m None None small ∙ sym (frame_gone slots f no_slot lt m apart was (none_is_some m))))
       (λ differ. get_or-set_other index m n None None differ ∙ (found n low
-          ∙ sym (frame_other slots f no_slot lt n (apart_none slots f no_slot lt refl apart) (none_is_some n) (λ is. differ (some_same n m (sym is ∙ was))))))
+      ∙ sym (frame_other slots f no_slot lt n (apart_none slots f no_slot lt refl apart) (none_is_some n) (λ is. differ (some_same n m (sym is ∙ was))))))
       (cases_eq n m)
 
   -- an empty frame gets page p
@@ -33,9 +33,9 @@ module _ (slots : List Slot) (index : List (Option ℕ)) (f : ℕ) (lt : f < len
       let apart' : AreApart (set slots f s) = apart_new slots f s lt p refl absent apart in
       ⊎_elim
       (λ same. subst (λ (j : ℕ). get_or (set index p (Some f)) j None ≡ frame_of (set slots f s) j) (sym same)
-          (get_or-set_same index p (Some f) None small ∙ sym (frame_is (set slots f s) f p apart' (let e = length-set slots f s in omega (arith, e, lt)) (page_here slots f s lt))))
+      (get_or-set_same index p (Some f) None small ∙ sym (frame_is (set slots f s) f p apart' (let e = length-set slots f s in omega (arith, e, lt)) (page_here slots f s lt))))
       (λ differ. get_or-set_other index p n (Some f) None differ ∙ (found n low
-          ∙ sym (frame_other slots f s lt n apart' (λ is. differ (sym (some_same p n is))) (λ is. none_is_some n (sym none ∙ is)))))
+      ∙ sym (frame_other slots f s lt n apart' (λ is. differ (sym (some_same p n is))) (λ is. none_is_some n (sym none ∙ is)))))
       (cases_eq n p)
 
   -- the page of a frame is taken out of the list, where it has one
@@ -64,7 +64,7 @@ pub absent_emptied : (slots : List Slot) (f p : ℕ) → f < length slots → Ar
 absent_emptied slots f p lt apart absent = ⊎_elim
     (λ none. frame_kept slots f no_slot lt (sym none) p apart ∙ absent)
     (λ held. ⊎_elim
-      (λ same. absurd (none_is_some f (sym absent ∙ frame_is slots f p apart lt (held.1 ∙ ap Some same))))
-      (λ differ. frame_other slots f no_slot lt p (apart_none slots f no_slot lt refl apart) (none_is_some p) (λ is. differ (some_same held.0 p (sym held.1 ∙ is))) ∙ absent)
-      (cases_eq held.0 p))
+    (λ same. absurd (none_is_some f (sym absent ∙ frame_is slots f p apart lt (held.1 ∙ ap Some same))))
+    (λ differ. frame_other slots f no_slot lt p (apart_none slots f no_slot lt refl apart) (none_is_some p) (λ is. differ (some_same held.0 p (sym held.1 ∙ is))) ∙ absent)
+    (cases_eq held.0 p))
     (none_or_some (page_in slots f))

@@ -126,9 +126,9 @@ each_used k count es some each j lt =
     let it = entry_there k es some in
     subst (λ (o : Option (ℕ × Bool)). IsSome (lookup (nat_eq j) (option_map_or (λ e. e ∷ remove_entry (nat_eq k) es) o es))) (sym it.2)
     (⊎_elim
-      (λ same. let t : nat_eq j k ≡ true = grind (arith, nat_tests) in rw t refl)
-      (λ differ. let t : nat_eq j k ≡ false = other_key j k differ in rw t (subst IsSome (sym (still_there k j differ es)) (each j lt)))
-      (cases_eq j k))
+    (λ same. let t : nat_eq j k ≡ true = grind (arith, nat_tests) in rw t refl)
+    (λ differ. let t : nat_eq j k ≡ false = other_key j k differ in rw t (subst IsSome (sym (still_there k j differ es)) (each j lt)))
+    (cases_eq j k))
 
 pub order_promoted : (k count : ℕ) (es : List (ℕ × Bool)) → IsSome (lookup (nat_eq k) es) → IsOrder count es → IsOrder count (promoted (nat_eq k) es)
 order_promoted k count es some order = record {
@@ -176,14 +176,14 @@ module _ (k : ℕ) (b : Bool) where
   pins_set [] = omega arith
   pins_set (x ∷ es) = (elim (nat_eq k x.0) as (λ y. nat_eq k x.0 ≡ y → pins_of (set_value (nat_eq k) (x ∷ es) b) ≤ pins_of (x ∷ es) + cond b 1 0) [
     | true ↦ λ t.
-      let a : pins_of (set_value (nat_eq k) (x ∷ es) b) ≡ cond b 1 0 + pins_of es = ap pins_of (set_first x es t) ∙ sum_by-cons pin (x.0, b) es in
-      let c : pins_of (x ∷ es) ≡ pin x + pins_of es = sum_by-cons pin x es in
-      omega (arith, a, c)
+        let a : pins_of (set_value (nat_eq k) (x ∷ es) b) ≡ cond b 1 0 + pins_of es = ap pins_of (set_first x es t) ∙ sum_by-cons pin (x.0, b) es in
+        let c : pins_of (x ∷ es) ≡ pin x + pins_of es = sum_by-cons pin x es in
+        omega (arith, a, c)
     | false ↦ λ t.
-      let a : pins_of (set_value (nat_eq k) (x ∷ es) b) ≡ pin x + pins_of (set_value (nat_eq k) es b) = ap pins_of (set_later x es t) ∙ sum_by-cons pin x (set_value (nat_eq k) es b) in
-      let c : pins_of (x ∷ es) ≡ pin x + pins_of es = sum_by-cons pin x es in
-      let rest = pins_set es in
-      omega (arith, a, c, rest)
+        let a : pins_of (set_value (nat_eq k) (x ∷ es) b) ≡ pin x + pins_of (set_value (nat_eq k) es b) = ap pins_of (set_later x es t) ∙ sum_by-cons pin x (set_value (nat_eq k) es b) in
+        let c : pins_of (x ∷ es) ≡ pin x + pins_of es = sum_by-cons pin x es in
+        let rest = pins_set es in
+        omega (arith, a, c, rest)
   ]) refl
 
   pub order_set : (count : ℕ) (es : List (ℕ × Bool)) → pins_of es + cond b 1 0 ≤ 6 → IsOrder count es → IsOrder count (set_value (nat_eq k) es b)
@@ -193,8 +193,8 @@ module _ (k : ℕ) (b : Bool) where
     each = λ j lt. each_set j es (order.each j lt);
     few = let most = pins_set es in omega (arith, most, room);
   }
-
   -- unpinned, no more are
+
 module _ (k : ℕ) where
   pins_unset : (es : List (ℕ × Bool)) → pins_of (set_value (nat_eq k) es false) ≤ pins_of es
   pins_unset es = let most = pins_set k false es in omega (arith, most)

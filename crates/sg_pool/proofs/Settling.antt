@@ -59,18 +59,18 @@ pub record Stands (w : View) (log : Tail) (ds ps : List Numbered) (d : ℕ) : Ty
 pub stands : (w : View) (log log' : Tail) (ds ps : List Numbered) → IsSameOrForced w log log' ds ps → Stands w log ds ps log'.gate
 stands w log log' ds ps is = ⊎_elim
     (λ kept.
-      let gate : log'.gate ≡ log.gate = ap (λ (t : Tail). t.gate) kept.0 in
-      record { records = ds; which = inl (gate, refl); image = λ x leaves. subst (λ (d : ℕ). HasRecords x log.base d ds) (sym gate) (part_image w log ds ps x kept.1 leaves) })
+    let gate : log'.gate ≡ log.gate = ap (λ (t : Tail). t.gate) kept.0 in
+    record { records = ds; which = inl (gate, refl); image = λ x leaves. subst (λ (d : ℕ). HasRecords x log.base d ds) (sym gate) (part_image w log ds ps x kept.1 leaves) })
     (λ gone.
-      let same = is_forced log in
-      let gate : log'.gate ≡ (forced log).gate = ap (λ (t : Tail). t.gate) gone.0 in
-      record {
-        records = ds ++ ps;
-        which = inr (gate ∙ gate_forced log, refl);
-        image = λ x leaves.
-            let there = part_image w (forced log) (ds ++ ps) [] x gone.1 (subst (λ (a : Area). LeavesPart (w.now a) x) (sym same.area) leaves) in
-            subst (λ (d : ℕ). HasRecords x log.base d (ds ++ ps)) (sym gate) (subst (λ (b : ℕ). HasRecords x b (forced log).gate (ds ++ ps)) same.base there);
-      })
+    let same = is_forced log in
+    let gate : log'.gate ≡ (forced log).gate = ap (λ (t : Tail). t.gate) gone.0 in
+    record {
+      records = ds ++ ps;
+      which = inr (gate ∙ gate_forced log, refl);
+      image = λ x leaves.
+          let there = part_image w (forced log) (ds ++ ps) [] x gone.1 (subst (λ (a : Area). LeavesPart (w.now a) x) (sym same.area) leaves) in
+          subst (λ (d : ℕ). HasRecords x log.base d (ds ++ ps)) (sym gate) (subst (λ (b : ℕ). HasRecords x b (forced log).gate (ds ++ ps)) same.base there);
+    })
     is
 
 -- ONE PAGE GOES HOME
@@ -97,7 +97,7 @@ module _ (g : Geometry) (v w : View) (log : Tail) (ds ps : List Numbered) (last 
     homed_goes = record {
       pages = λ k small. ⊎_elim
           (λ same. inr (subst (λ (j : ℕ). (page_at (with_home n page (v.now Home).seen) (home_at j) ≡ m.page j) × (lsn_of (m.page j) < d)) (sym same)
-              (homed_page n page long (v.now Home).seen ∙ sym is, subst (λ (p : List ℕ). lsn_of p < d) (sym is) below)))
+          (homed_page n page long (v.now Home).seen ∙ sym is, subst (λ (p : List ℕ). lsn_of p < d) (sym is) below)))
           (λ differ. inl (homed_other n page long (v.now Home).seen k differ))
           (cases_eq k n);
       bytes = λ b i is_band is_byte. inl (homed_band n page long (v.now Home).seen g lt b i);

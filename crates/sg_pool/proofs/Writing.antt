@@ -42,14 +42,14 @@ module _ (page : List ℕ) (long : length page ≡ PAGE) where
   pub over_one : (n : ℕ) (f : Bytes) (i : ℕ) → IsStore i → over (n ∷ []) 0 (put (place_at 0) page f) (put (place_at 0) page f) i ≡ with_home n page f i
   over_one n f i store = ⊎_elim
       (λ is.
-        let low = is.1 in let high = is.2 in
-        let k = i - home_at n in
-        let lt : k < length page = omega arith in
-        let at : home_at n + k ≡ i = omega arith in
-        step_in n 0 (put (place_at 0) page f) (put (place_at 0) page f) i low high ∙ (put_inside (place_at 0) page f k 0 lt ∙ sym (ap (put (home_at n) page f) (sym at) ∙ put_inside (home_at n) page f k 0 lt)))
+      let low = is.1 in let high = is.2 in
+      let k = i - home_at n in
+      let lt : k < length page = omega arith in
+      let at : home_at n + k ≡ i = omega arith in
+      step_in n 0 (put (place_at 0) page f) (put (place_at 0) page f) i low high ∙ (put_inside (place_at 0) page f k 0 lt ∙ sym (ap (put (home_at n) page f) (sym at) ∙ put_inside (home_at n) page f k 0 lt)))
       (λ out.
-        let no = out.1 in
-        step_out n 0 (put (place_at 0) page f) (put (place_at 0) page f) i no ∙ (placed_store f i store ∙ sym (put_outside (home_at n) page f i (λ low lt. no low (omega arith)))))
+      let no = out.1 in
+      step_out n 0 (put (place_at 0) page f) (put (place_at 0) page f) i no ∙ (placed_store f i store ∙ sym (put_outside (home_at n) page f i (λ low lt. no low (omega arith)))))
       (in_or_out (home_at n) i)
 
   module _ (pages n : ℕ) (v : View) (ready : IsReady (v.now Home)) where
@@ -62,7 +62,7 @@ module _ (page : List ℕ) (long : length page ≡ PAGE) where
     while_placed : (c : Image) → Leaves (written Home (place_at 0) page v.now) c → P c
     while_placed c leaves = inl (whole_store v.now pages (put (place_at 0) page (v.now Home).seen) (v.now Home).seen c (placed_store (v.now Home).seen)
         (rest_whole v.now pages (written_part (place_at 0) page (v.now Home)) c (placed_ready 0 page (omega arith) long (v.now Home) ready) (leaves_written v.now Home (place_at 0) page c leaves)
-          (λ b other. leaves_other v.now Home b (place_at 0) page c other leaves)))
+        (λ b other. leaves_other v.now Home b (place_at 0) page c other leaves)))
 
     pub place_moments : {T E : Type 0} (m : View) (r : Result T E) → Wrote Home (place_at 0) page v m r → LeavesOnly v m P
     place_moments m r wrote = goes_on (started v P at_start) wrote while_placed

@@ -1,5 +1,5 @@
 -- What the pool ends as, once a page that it lent isn't used any more.
-use Rattle.std.specs.Prelude.{◌≡◌, ◌≢◌, ℕ, Bool, IsTrue, Option, Some, None, Result, IfOk, ⊤}
+use Rattle.std.specs.Prelude.{◌≡◌, ◌≢◌, ℕ, Bool, IsTrue, Option, Some, None, Result, IfOk, OnErr, ⊤}
 use Rattle.std.specs.Borrow.{Fml, MutBor, follows_so}
 use mathlib.Core.Option.{none}
 use Rattle.sg_base.specs.declared.area.Area.{Area}
@@ -19,10 +19,12 @@ pub record IsBrought (p : ℕ) (old new : Pool) (f : ℕ) : Type 0 where
   pub victim : frame_holding old p ≡ None → IsVictim (uses old) f
   pub others : OthersKeep f old new
 
--- THE POOL ONCE PAGE p WAS LENT: it is in a frame; the disk backs the pool, and its contents are what they were
+-- THE POOL ONCE PAGE p WAS LENT: it is in a frame, or nothing was used where the call was refused; the disk backs the pool, and its contents
+-- are what they were
 pub record IsLent {T : Type 0} (told : Bool) (area : Area) (v w : View) (p : ℕ) (result : Result T PoolFault) (old new : Pool) : Type 0 where
   pub size : sizes new ≡ sizes old
   pub brought : IfOk result (λ _. (f : ℕ) × IsBrought p old new f)
+  pub unused : OnErr result (uses new ≡ uses old)
   pub backed : IsTrue told → area ≢ Home → Backs (sizes old) v old → OnTold result (Backs (sizes old) w new)
   pub same : IsTrue told → area ≢ Home → Backs (sizes old) v old → OnTold result (SameContents v old w new)
 

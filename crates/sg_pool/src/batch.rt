@@ -10,8 +10,8 @@ ghost use Rattle.sg_pool.specs.Held.{frame_of, page_in, since_of};
 ghost use Rattle.sg_pool.specs.Moments.{IsMoment};
 ghost use Rattle.sg_pool.specs.Batches.{AreCollected, ArePlaced, AreHome, IsPartly, IsBatchMoment};
 
-use crate::clear::clear_since;
 use crate::PoolFault;
+use crate::clear::clear_since;
 use crate::shelf::Shelf;
 use sg_disk::Disk;
 use sg_gate::{finish, place};
@@ -22,7 +22,13 @@ impl Shelf {
 
     // Puts a frame's page at place k, if it was changed, and puts its number behind the first k. Answers how many
     // numbers there are then.
-    fn place_frame<D: Disk>(&self, disk: &mut D, f: u32, k: usize, numbers: &mut [u32]) -> Result<usize, PoolFault>
+    fn place_frame<D: Disk>(
+        &self,
+        disk: &mut D,
+        f: u32,
+        k: usize,
+        numbers: &mut [u32],
+    ) -> Result<usize, PoolFault>
         requires there { f < length self.now.slots.items }
         requires place { k < 32 }
         requires room { length numbers.old ≡ 32 }

@@ -11,7 +11,12 @@ use sg_disk::Disk;
 use sg_gate::{finish, place};
 
 // Writes a page home through the double-write area.
-pub(crate) fn write_page<D: Disk>(disk: &mut D, pages: u32, n: u32, page: &[u8]) -> Result<(), PoolFault>
+pub(crate) fn write_page<D: Disk>(
+    disk: &mut D,
+    pages: u32,
+    n: u32,
+    page: &[u8],
+) -> Result<(), PoolFault>
     requires number { n < pages }
     requires pages { pages ≤ 1048576 }
     requires size { length page.now ≡ PAGE }

@@ -43,6 +43,21 @@ pub(crate) fn set_pin(order: &mut LruCache<u32, bool>, frame: u32, is_pinned: bo
     }
 }
 
+// How many frames are pinned.
+pub(crate) fn pin_count(order: &LruCache<u32, bool>) -> usize
+    ensures { result ≡ pins_of order.now.entries }
+{
+    let _most = order.len();
+    let mut left = order.iter();
+    let mut count = 0;
+    while let Some((_frame, is_pinned)) = left.next_back() {
+        if *is_pinned {
+            count += 1;
+        }
+    }
+    count
+}
+
 // All frames, none used yet: the lower ones go first.
 pub(crate) fn all_frames(
     alloc: Global,

@@ -1,4 +1,4 @@
-ghost use Rattle.std.specs.Prelude.{true, false, ◌≡◌, ◌≢◌, ◌⊎◌, ◌≤◌, ◌<◌, ◌+◌, ◌++◌, [], ℕ, List, Some, None, nat_eq, length, get_or, OnOk, OnErr, IfOk, IfErr, IfSome, IfNone, IsTrue};
+ghost use Rattle.std.specs.Prelude.{true, false, ◌&&◌, nat_lt, is_some, ◌≡◌, ◌≢◌, ◌⊎◌, ◌≤◌, ◌<◌, ◌+◌, ◌++◌, [], ℕ, List, Some, None, nat_eq, length, get_or, OnOk, OnErr, IfOk, IfErr, IfSome, IfNone, IsTrue};
 ghost use Rattle.std.specs.Map.{set_value};
 ghost use Rattle.sg_base.specs.Ends.{HasRisen};
 ghost use Rattle.sg_base.specs.Op.{op_of};
@@ -14,9 +14,10 @@ ghost use Rattle.sg_pool.specs.Changed.{IsCleanedThenChanged};
 ghost use Rattle.sg_pool.specs.Moments.{IsSameOrForced};
 ghost use Rattle.sg_pool.specs.Order.{IsVictim, IsUsed, below, pins_of};
 ghost use Rattle.sg_pool.specs.Pools.{IsPool};
+ghost use Rattle.sg_pool.specs.Well.{IsWell};
 
 use crate::PoolFault;
-use crate::order::{all_frames, next_out, set_pin, touch};
+use crate::order::{all_frames, next_out, pin_count, set_pin, touch};
 use crate::shelf::Shelf;
 use lru::LruCache;
 use sg_base::{Lsn, PageNo, PageOp};
@@ -91,6 +92,9 @@ impl Pool {
             OnTold result (IsSameOrForced (D.view disk.new) log.old log.new ds ps) }
         ensures moments { (ds ps : List Numbered) → IsTrue D.told → log.old.area ≢ Home → IsReady ((D.view disk.old).now Home) → Holds (D.view disk.old) log.old ds ps →
             IsLogged (tail_of log.old) (D.view disk.old) self.old → LeavesOnly (D.view disk.old) (D.view disk.new) (IsPoolMoment (D.view disk.old) self.old log.old ds ps) }
+        ensures well { IsTrue D.told → log.old.area ≢ Home → Backs (sizes self.old) (D.view disk.old) self.old → frame_holding self.old p ≡ None →
+            OnOk result (IsWell ((contents (D.view disk.old) self.old).page p)) }
+        ensures unused { OnErr result (uses self.new ≡ uses self.old) }
         ensures later { (D.view disk.old).faults ≤ (D.view disk.new).faults }
         ensures faults { IfErr result (λ e. BringFails D.told log.old.area p (D.view disk.old) (D.view disk.new) self.old.shelf e) }
     {
@@ -128,6 +132,9 @@ impl Pool {
         // At each moment, faults included.
         ensures moments { (ds ps : List Numbered) → IsTrue D.told → log.old.area ≢ Home → IsReady ((D.view disk.old).now Home) → Holds (D.view disk.old) log.old ds ps →
             IsLogged (tail_of log.old) (D.view disk.old) self.old → LeavesOnly (D.view disk.old) (D.view disk.new) (IsPoolMoment (D.view disk.old) self.old log.old ds ps) }
+        // Where the page was in no frame, `Ok` says that it is a page of slots or all 0, and `Damaged` that it is neither.
+        ensures well { IsTrue D.told → log.old.area ≢ Home → Backs (sizes self.old) (D.view disk.old) self.old → frame_holding self.old p.0 ≡ None →
+            OnOk result (IsWell ((contents (D.view disk.old) self.old).page p.0)) }
         ensures faults { IfErr result (λ e. BringFails D.told log.old.area p.0 (D.view disk.old) (D.view disk.new) self.old.shelf e) }
         ensures later { (D.view disk.old).faults ≤ (D.view disk.new).faults }
     {
@@ -151,6 +158,7 @@ impl Pool {
     ) -> Result<(), PoolFault>
         requires page { p.0 < (sizes self.old).pages }
         ensures brought { IfOk result (λ _. (f : ℕ) × IsBrought p.0 self.old self.new f) }
+        ensures unused { OnErr result (uses self.new ≡ uses self.old) }
         ensures size { sizes self.new ≡ sizes self.old }
         ensures backed { IsTrue D.told → log.old.area ≢ Home → Backs (sizes self.old) (D.view disk.old) self.old →
             OnTold result (Backs (sizes self.old) (D.view disk.new) self.new) }
@@ -163,6 +171,9 @@ impl Pool {
         // At each moment, faults included.
         ensures moments { (ds ps : List Numbered) → IsTrue D.told → log.old.area ≢ Home → IsReady ((D.view disk.old).now Home) → Holds (D.view disk.old) log.old ds ps →
             IsLogged (tail_of log.old) (D.view disk.old) self.old → LeavesOnly (D.view disk.old) (D.view disk.new) (IsPoolMoment (D.view disk.old) self.old log.old ds ps) }
+        // Where the page was in no frame, `Ok` says that it is a page of slots or all 0, and `Damaged` that it is neither.
+        ensures well { IsTrue D.told → log.old.area ≢ Home → Backs (sizes self.old) (D.view disk.old) self.old → frame_holding self.old p.0 ≡ None →
+            OnOk result (IsWell ((contents (D.view disk.old) self.old).page p.0)) }
         ensures faults { IfErr result (λ e. BringFails D.told log.old.area p.0 (D.view disk.old) (D.view disk.new) self.old.shelf e) }
         ensures later { (D.view disk.old).faults ≤ (D.view disk.new).faults }
     {
@@ -195,11 +206,27 @@ impl Pool {
         self.shelf.flush(disk, log)
     }
 
+    /// How many pages its store has.
+    pub fn pages(&self) -> u32
+        ensures { result ≡ (sizes self.now).pages }
+    {
+        self.shelf.pages
+    }
+
+    /// Whether `pin` may be called: the page is in a frame, and fewer than 6 are pinned. It looks at
+    /// each frame.
+    pub fn can_pin(&self, p: PageNo) -> bool
+        requires page { p.0 < (sizes self.now).pages }
+        ensures { result ≡ (is_some (frame_holding self.now p.0) && nat_lt (pins_of (uses self.now)) 6) }
+    {
+        self.shelf.find(p.0).is_some() && pin_count(&self.order) < 6
+    }
+
     /// Keeps a page's frame from being the victim. The page is in a frame, and fewer than 6 are
     /// pinned.
     pub fn pin(&mut self, p: PageNo)
         requires page { p.0 < (sizes self.old).pages }
-        requires held { (f : ℕ) × (frame_holding self.old p.0 ≡ Some f) }
+        requires held { IsTrue (is_some (frame_holding self.old p.0)) }
         requires room { pins_of (uses self.old) < 6 }
         ensures shelf { self.new.shelf ≡ self.old.shelf }
         ensures order { IfSome (frame_holding self.old p.0) (λ f. uses self.new ≡ set_value (nat_eq f) (uses self.old) true) }

@@ -37,7 +37,13 @@ pub(crate) fn make_durable<D: Disk>(disk: &mut D, log: &mut Log, lsn: u64) -> Re
 }
 
 // Writes a page home, once its last change is durable.
-pub(crate) fn settle<D: Disk>(disk: &mut D, log: &mut Log, pages: u32, n: u32, page: &[u8]) -> Result<(), PoolFault>
+pub(crate) fn settle<D: Disk>(
+    disk: &mut D,
+    log: &mut Log,
+    pages: u32,
+    n: u32,
+    page: &[u8],
+) -> Result<(), PoolFault>
     requires number { n < pages }
     requires pages { pages ≤ 1048576 }
     requires size { length page.now ≡ PAGE }

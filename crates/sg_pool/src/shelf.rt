@@ -21,12 +21,12 @@ ghost use Rattle.sg_pool.specs.Held.{frame_of, page_in, since_of};
 ghost use Rattle.sg_pool.specs.Moments.{IsSameOrForced, IsMoment};
 ghost use Rattle.sg_pool.specs.Well.{IsWell};
 
+use crate::PoolFault;
 use crate::index::forget;
 use crate::making::empty_lists;
 use crate::settle::settle;
-use crate::well::is_well;
-use crate::PoolFault;
 use crate::slot::{Slot, Win};
+use crate::well::is_well;
 use sg_base::{Area, Failed, OutOfMemory, PageNo, PageOp};
 use sg_disk::Disk;
 use sg_frames::Frames;
@@ -143,7 +143,12 @@ impl Shelf {
     }
 
     // Makes a frame clean: its page goes home, if it was changed.
-    pub(crate) fn clean<D: Disk>(&mut self, disk: &mut D, log: &mut Log, f: u32) -> Result<(), PoolFault>
+    pub(crate) fn clean<D: Disk>(
+        &mut self,
+        disk: &mut D,
+        log: &mut Log,
+        f: u32,
+    ) -> Result<(), PoolFault>
         requires there { f < length self.old.slots.items }
         ensures slots { OnOk result (self.new.slots.items ≡ slice_set self.old.slots.items f (record { page = page_in self.old.slots.items f; since = None })) }
         ensures frames { self.new.frames ≡ self.old.frames }
@@ -213,7 +218,13 @@ impl Shelf {
     }
 
     // Puts a page into a frame, whose own page goes home first where it was changed.
-    pub(crate) fn bring<D: Disk>(&mut self, disk: &mut D, log: &mut Log, f: u32, p: u32) -> Result<(), PoolFault>
+    pub(crate) fn bring<D: Disk>(
+        &mut self,
+        disk: &mut D,
+        log: &mut Log,
+        f: u32,
+        p: u32,
+    ) -> Result<(), PoolFault>
         requires there { f < length self.old.slots.items }
         requires page { p < self.old.pages }
         requires absent { frame_of self.old.slots.items p ≡ None }
@@ -274,7 +285,14 @@ impl Shelf {
 
     // Gives the memory back.
     pub(crate) fn end(self) {
-        let Shelf { pages: _, bands: _, frames, slots, index, wins } = self;
+        let Shelf {
+            pages: _,
+            bands: _,
+            frames,
+            slots,
+            index,
+            wins,
+        } = self;
         drop(slots);
         drop(index);
         drop(wins);

@@ -13,13 +13,15 @@ change-requires g c = let it = frame_some c.args.p.0 c.hold.new.self.shelf.slots
 pub returns-clause-brought : goal.returns-clause-brought
 returns-clause-brought g c =
     let s = c.hold.new.self.shelf in let held = c.in_ok-f.ensures.held in
-    let lt = (frame_some c.args.p.0 s.slots.items c.in_ok-f.f held).0 in let many = s.shelf.many in
-    (c.in_ok-f.f, record {
-      held = still_held c.args.p.0 _ s.slots.items s.frames c.in_ok-f.f lt (omega (arith, lt, many)) s.shelf.apart held c.change.new.self.slots.items c.change.new.self.frames c.change.ensures.frames c.change.ensures.slots;
-      used = c.in_ok-f.ensures.used;
-      victim = c.in_ok-f.ensures.victim;
-      others = others_still c.args.p.0 _ s.slots.items s.frames c.in_ok-f.f lt (omega (arith, lt, many)) s.shelf.apart held c.args.self.now.shelf.slots.items c.change.new.self.slots.items c.change.new.self.frames c.change.ensures.frames c.change.ensures.slots c.in_ok-f.ensures.others;
-    })
+    let lt = (frame_some c.args.p.0 s.slots.items c.in_ok-f.f held).0 in let many = s.shelf.many in (
+      c.in_ok-f.f,
+      record {
+        held = still_held c.args.p.0 _ s.slots.items s.frames c.in_ok-f.f lt (omega (arith, lt, many)) s.shelf.apart held c.change.new.self.slots.items c.change.new.self.frames c.change.ensures.frames c.change.ensures.slots;
+        used = c.in_ok-f.ensures.used;
+        victim = c.in_ok-f.ensures.victim;
+        others = others_still c.args.p.0 _ s.slots.items s.frames c.in_ok-f.f lt (omega (arith, lt, many)) s.shelf.apart held c.args.self.now.shelf.slots.items c.change.new.self.slots.items c.change.new.self.frames c.change.ensures.frames c.change.ensures.slots c.in_ok-f.ensures.others;
+      },
+    )
 
 pub returns-clause-backed : goal.returns-clause-backed
 returns-clause-backed g c told apart backed =
@@ -30,13 +32,15 @@ returns-clause-backed g c told apart backed =
     let now = subst (λ (h : Geometry). IsBacked h (w.now Home) (units (w.now Home).seen s)) (sym same) (c.in_ok-f.ensures.backed told apart backed) in
     subst (λ (h : Geometry). IsBacked h (w.now Home) (units (w.now Home).seen t)) same
     (change_backed c.args.p.0 _ s.slots.items s.frames c.in_ok-f.f lt (omega (arith, lt, many)) s.shelf.apart held (geometry_of s) s.wins.items (w.now Home).seen (geometry_of t) t.slots.items t.wins.items t.frames
-      c.change.ensures.geometry c.change.ensures.slots c.change.ensures.wins c.change.ensures.frames (w.now Home) now)
+    c.change.ensures.geometry c.change.ensures.slots c.change.ensures.wins c.change.ensures.frames (w.now Home) now)
 
 pub returns-clause-changed : goal.returns-clause-changed
 returns-clause-changed g c told apart backed =
     let s = c.hold.new.self.shelf in let t = c.change.new.self in let held = c.in_ok-f.ensures.held in
     let w = g.D.Disk.view c.hold.new.disk in
-    let lt = (frame_some c.args.p.0 s.slots.items c.in_ok-f.f held).0 in let many = s.shelf.many in
-    (units (w.now Home).seen s, c.in_ok-f.ensures.same told apart backed,
+    let lt = (frame_some c.args.p.0 s.slots.items c.in_ok-f.f held).0 in let many = s.shelf.many in (
+      units (w.now Home).seen s,
+      c.in_ok-f.ensures.same told apart backed,
       change_is c.args.p.0 _ s.slots.items s.frames c.in_ok-f.f lt (omega (arith, lt, many)) s.shelf.apart held (geometry_of s) s.wins.items (w.now Home).seen (geometry_of t) t.slots.items t.wins.items t.frames
-      c.change.ensures.geometry c.change.ensures.slots c.change.ensures.wins c.change.ensures.frames)
+          c.change.ensures.geometry c.change.ensures.slots c.change.ensures.wins c.change.ensures.frames,
+    )

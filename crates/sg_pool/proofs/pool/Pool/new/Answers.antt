@@ -16,10 +16,12 @@ invariant_of-result c =
     let n = c.args.geometry.now.frames in
     let count : length c.in-Ok-new.shelf.slots.items ≡ n = ap length c.in-Ok-new.ensures.slots ∙ length-replicate n no_slot in
     let many = (in_range c.args.geometry.now c.requires).frames.0 in
-    record { pool = record {
-      many = omega (arith, count, many);
-      order = subst (λ (k : ℕ). IsOrder k c.in-Ok.order.entries) (sym count) (subst (λ (es : List (ℕ × Bool)). IsOrder n es) (let e : c.in-Ok.order.entries ≡ below n = search rules in sym e) (order_below n));
-    } }
+    record {
+      pool = record {
+        many = omega (arith, count, many);
+        order = subst (λ (k : ℕ). IsOrder k c.in-Ok.order.entries) (sym count) (subst (λ (es : List (ℕ × Bool)). IsOrder n es) (let e : c.in-Ok.order.entries ≡ below n = search rules in sym e) (order_below n));
+      };
+    }
 
 pub returns-in-Ok-new-clause-backed : goal.returns-in-Ok-new-clause-backed
 returns-in-Ok-new-clause-backed c v ready = let s = c.in-Ok-new.shelf in fresh_backed c.args.geometry.now.frames s.slots.items s.wins.items s.frames c.in-Ok-new.ensures.slots c.in-Ok-new.ensures.wins (geometry_of s) (v.now Home) ready

@@ -11,7 +11,9 @@ set_pin-requires c = let s = c.args.self.now in
 
 pub invariant_of-self : goal.invariant_of-self
 invariant_of-self c = let s = c.args.self.now in
-    record { pool = record {
-      many = s.pool.many;
-      order = subst (λ (es : List (ℕ × Bool)). IsOrder (length s.shelf.slots.items) es) (sym c.set_pin.ensures.entries) (order_unset c.in-Some.f (length s.shelf.slots.items) s.order.entries s.pool.order);
-    } }
+    record {
+      pool = record {
+        many = s.pool.many;
+        order = subst (λ (es : List (ℕ × Bool)). IsOrder (length s.shelf.slots.items) es) (sym c.set_pin.ensures.entries) (order_unset c.in-Some.f (length s.shelf.slots.items) s.order.entries s.pool.order);
+      };
+    }

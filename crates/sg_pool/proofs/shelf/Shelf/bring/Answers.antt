@@ -45,5 +45,5 @@ returns-clause-faults g c =
     let still = absent_still s.slots.items t.slots.items c.args.f c.args.p c.requires.there s.shelf.apart c.in_ok-clean.ensures.slots c.requires.absent in
     IfErr-weaker c.load.result (LoadFails g.D.Disk.told c.args.p w z) (BringFails g.D.Disk.told c.args.log.now.area c.args.p v z s)
     (bring_fails g.D.Disk.told c.args.log.now.area c.args.p v w z s t c.clean.ensures.later c.requires.page
-      (λ told apart backed. sym (at_home t.slots.items t.frames.pages c.args.p (page_at (w.now Home).seen (home_at c.args.p)) still) ∙ (c.in_ok-clean.ensures.units told apart backed.ready).page c.args.p c.requires.page))
+    (λ told apart backed. sym (at_home t.slots.items t.frames.pages c.args.p (page_at (w.now Home).seen (home_at c.args.p)) still) ∙ (c.in_ok-clean.ensures.units told apart backed.ready).page c.args.p c.requires.page))
     c.load.ensures.faults

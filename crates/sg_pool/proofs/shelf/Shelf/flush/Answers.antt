@@ -25,4 +25,4 @@ returns-clause-moments g c ds ps told apart backed holds below =
     let d : now.gate ≡ tail_of log = ap (λ (t : Tail). t.gate) c.in-Ok.ensures.log ∙ gate_forced log in
     joined (weaker (c.force.ensures.any_moment ds ps told holds) (λ (im : Image) before. inl before))
     (weaker (c.flush_pages.ensures.moments told there) (λ (im : Image) moment. inr (batch_goes (geometry_of s) s.slots.items s.wins.items s.frames s.shelf.apart v w log ds ps (lasts s) now.gate apart same
-      (stands w log now ds ps (inr (c.in-Ok.ensures.log, after))) backed (λ n o small since. subst (λ (k : ℕ). lsn_of ((units (v.now Home).seen s).page n) < k) (sym d) (below n o small since)) home im moment)))
+    (stands w log now ds ps (inr (c.in-Ok.ensures.log, after))) backed (λ n o small since. subst (λ (k : ℕ). lsn_of ((units (v.now Home).seen s).page n) < k) (sym d) (below n o small since)) home im moment)))

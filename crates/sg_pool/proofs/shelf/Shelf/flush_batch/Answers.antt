@@ -8,8 +8,10 @@ use Rattle.sg_pool.proofs.shelf.Shelf.flush_batch.Goals as goal
 
 pub invariant_of-self : goal.invariant_of-self
 invariant_of-self g c = let s = c.args.self.now in
-    record { shelf = shelf_cleared s.pages s.bands s.slots.items c.clear_since.new.slots.items s.wins.items s.frames s.shelf c.clear_since.ensures.count c.clear_since.ensures.pages
-        (λ h. ⊎_elim (λ low. inr (c.clear_since.ensures.others h (inl low))) (λ high. ⊎_elim (λ within. inl (c.clear_since.ensures.cleared h high within)) (λ far. inr (c.clear_since.ensures.others h (inr far))) (cases_lt h c.in_ok-to.to)) (cases_lt h c.args.from)) }
+    record {
+      shelf = shelf_cleared s.pages s.bands s.slots.items c.clear_since.new.slots.items s.wins.items s.frames s.shelf c.clear_since.ensures.count c.clear_since.ensures.pages
+          (λ h. ⊎_elim (λ low. inr (c.clear_since.ensures.others h (inl low))) (λ high. ⊎_elim (λ within. inl (c.clear_since.ensures.cleared h high within)) (λ far. inr (c.clear_since.ensures.others h (inr far))) (cases_lt h c.in_ok-to.to)) (cases_lt h c.args.from));
+    }
 
 pub returns-clause-holders : goal.returns-clause-holders
 returns-clause-holders g c = let s = c.args.self.now in

@@ -44,9 +44,11 @@ pub returns-clause-collected : goal.returns-clause-collected
 returns-clause-collected g c from are =
     let s = c.args.self.now in let xs = c.args.numbers.now in let small = c.requires.place in let room = c.requires.room in
     let is = slot_at s.slots.items c.args.f c.index.result.now c.requires.there c.index.ensures in
-    let count = count_is xs c.args.k small room in
-    (omega arith, subst (AreCollected s.slots.items from (c.args.f + 1)) (sym (take_set xs c.args.k c.in-Some.n (omega (arith, small, room))))
-      (collected_more (take c.args.k xs) c.in-Some.n s.slots.items from c.args.f are s.shelf.apart c.requires.there (sym (ap (λ (x : Slot). x.page) is) ∙ c.in-Some.is) (omega (arith, count, small))))
+    let count = count_is xs c.args.k small room in (
+      omega arith,
+      subst (AreCollected s.slots.items from (c.args.f + 1)) (sym (take_set xs c.args.k c.in-Some.n (omega (arith, small, room))))
+          (collected_more (take c.args.k xs) c.in-Some.n s.slots.items from c.args.f are s.shelf.apart c.requires.there (sym (ap (λ (x : Slot). x.page) is) ∙ c.in-Some.is) (omega (arith, count, small))),
+    )
 
 pub returns-clause-placed : goal.returns-clause-placed
 returns-clause-placed g c from told are ready p placed =
@@ -59,5 +61,5 @@ returns-clause-placed g c from told are ready p placed =
     let part = part_written v.now Home (place_at c.args.k) c.page.result.now (c.in-Ok.ensures.does told).ok in
     subst (λ (ns : List ℕ). ArePlaced s.slots.items s.frames.pages ns p (w.now Home)) (sym (take_set xs c.args.k c.in-Some.n (omega (arith, small, room))))
     (subst (λ (q : Part). ArePlaced s.slots.items s.frames.pages (take c.args.k xs ++ c.in-Some.n ∷ []) p q) (sym part)
-      (placed_more (take c.args.k xs) c.in-Some.n c.args.k small c.page.result.now long (v.now Home) s.slots.items s.frames.pages p (count_is xs c.args.k small room)
-        (c.page.ensures ∙ sym (ap (λ (o : Option ℕ). bytes_of s.frames.pages o []) held)) placed))
+    (placed_more (take c.args.k xs) c.in-Some.n c.args.k small c.page.result.now long (v.now Home) s.slots.items s.frames.pages p (count_is xs c.args.k small room)
+    (c.page.ensures ∙ sym (ap (λ (o : Option ℕ). bytes_of s.frames.pages o []) held)) placed))

@@ -17,6 +17,6 @@ returns-clause-frames g c told =
     let t = c.empty.new.self in
     let here' : length (get_or t.frames.pages c.args.f []) ≡ 4096 = subst (λ (h : Held). length (get_or h.pages c.args.f []) ≡ 4096) (sym c.empty.ensures.frames) here in
     on_ok_weaker c.read_at.result (λ is. ap (λ (bytes : List ℕ). record t.frames { pages = set t.frames.pages c.args.f bytes })
-        (page_read ((g.D.Disk.view c.args.disk.now).now Home).seen (home_at c.args.p) (get_or t.frames.pages c.args.f []) c.page_mut.result.now c.read_at.new.into here' c.page_mut.ensures.value (omega arith) (is ∙ ap (λ (at : ℕ). window ((g.D.Disk.view c.args.disk.now).now Home).seen at (length c.page_mut.result.now)) c.page_start.ensures))
-        ∙ ap (λ (h : Held). record h { pages = set h.pages c.args.f (page_at ((g.D.Disk.view c.args.disk.now).now Home).seen (home_at c.args.p)) }) c.empty.ensures.frames)
+    (page_read ((g.D.Disk.view c.args.disk.now).now Home).seen (home_at c.args.p) (get_or t.frames.pages c.args.f []) c.page_mut.result.now c.read_at.new.into here' c.page_mut.ensures.value (omega arith) (is ∙ ap (λ (at : ℕ). window ((g.D.Disk.view c.args.disk.now).now Home).seen at (length c.page_mut.result.now)) c.page_start.ensures))
+    ∙ ap (λ (h : Held). record h { pages = set h.pages c.args.f (page_at ((g.D.Disk.view c.args.disk.now).now Home).seen (home_at c.args.p)) }) c.empty.ensures.frames)
     (c.read_at.ensures.bytes told)

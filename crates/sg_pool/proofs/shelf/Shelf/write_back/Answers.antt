@@ -34,4 +34,4 @@ returns-in-Some-clause-moments g c ds ps told apart ready holds below =
     let o = some_of c.index.result.now.since c.if-is_none.ensures in
     c.settle.ensures.moments ds ps (geometry_of s) (lasts s) (units (v.now Home).seen s) told apart ready holds refl bytes
     (subst (λ (p : List ℕ). lsn_of p < tail_of c.args.log.now) bytes (below c.in-Some.n o.0 (s.shelf.within c.args.f c.in-Some.n c.requires.there holds_it)
-      (ap (since_of s.slots.items) is ∙ (ap (λ (s : Slot). s.since) (sym slot_is) ∙ o.1))))
+    (ap (since_of s.slots.items) is ∙ (ap (λ (s : Slot). s.since) (sym slot_is) ∙ o.1))))

@@ -65,7 +65,7 @@ returns-in-Ok-clause-done g c told ready =
     let v = g.D.Disk.view c.args.disk.now in let w = g.D.Disk.view c.frames.disk in
     let placed = inv.placed told ready in
     let batch = is_batch s.pages s.slots.items c.args.from c.frames.f (take c.frames.count c.frames.numbers) inv.collected s.shelf.within
-        (let long = length_front c.frames.numbers c.frames.count inv.few inv.room in let a = c.if-count-eq0.false in omega (arith, long, a)) in
+    (let long = length_front c.frames.numbers c.frames.count inv.few inv.room in let a = c.if-count-eq0.false in omega (arith, long, a)) in
     batch_home (geometry_of s) s.slots.items s.frames.pages c.args.from c.frames.f (take c.frames.count c.frames.numbers) v w inv.collected placed (inv.logs told ready) batch ((g.D.Disk.view c.finish.new.disk).now Home) (stored ((g.D.Disk.view c.finish.new.disk).now Home) (homed (take c.frames.count c.frames.numbers) (w.now Home).seen) (c.in-Ok.ensures.done told))
 
 pub returns-in-Ok-clause-moments : goal.returns-in-Ok-clause-moments
@@ -74,7 +74,7 @@ returns-in-Ok-clause-moments g c told ready =
     let v = g.D.Disk.view c.args.disk.now in let w = g.D.Disk.view c.frames.disk in
     let placed = inv.placed told ready in
     let batch = is_batch s.pages s.slots.items c.args.from c.frames.f (take c.frames.count c.frames.numbers) inv.collected s.shelf.within
-        (let long = length_front c.frames.numbers c.frames.count inv.few inv.room in let a = c.if-count-eq0.false in omega (arith, long, a)) in
+    (let long = length_front c.frames.numbers c.frames.count inv.few inv.room in let a = c.if-count-eq0.false in omega (arith, long, a)) in
     batch_moments (geometry_of s) s.slots.items s.frames.pages c.args.from c.frames.f (take c.frames.count c.frames.numbers) v w inv.collected placed (inv.logs told ready) batch (g.D.Disk.view c.finish.new.disk) (inv.moments told ready) (c.finish.ensures.any_moment told placed.ready)
 
 pub returns-in-Err-clause-moments : goal.returns-in-Err-clause-moments
@@ -83,5 +83,5 @@ returns-in-Err-clause-moments g c told ready =
     let v = g.D.Disk.view c.args.disk.now in let w = g.D.Disk.view c.frames.disk in
     let placed = inv.placed told ready in
     let batch = is_batch s.pages s.slots.items c.args.from c.frames.f (take c.frames.count c.frames.numbers) inv.collected s.shelf.within
-        (let long = length_front c.frames.numbers c.frames.count inv.few inv.room in let a = c.if-count-eq0.false in omega (arith, long, a)) in
+    (let long = length_front c.frames.numbers c.frames.count inv.few inv.room in let a = c.if-count-eq0.false in omega (arith, long, a)) in
     batch_moments (geometry_of s) s.slots.items s.frames.pages c.args.from c.frames.f (take c.frames.count c.frames.numbers) v w inv.collected placed (inv.logs told ready) batch (g.D.Disk.view c.finish.new.disk) (inv.moments told ready) (c.finish.ensures.any_moment told placed.ready)

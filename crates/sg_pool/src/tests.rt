@@ -1,0 +1,400 @@
+use crate::{Pool, PoolFault};
+use sg_base::{Lsn, PageNo, PageOp, TxnId, view};
+use sg_disk::{Area, Fuse, MemDisk};
+use sg_gate::{Super, lay_over, page_start};
+use sg_log::{Log, LogFault};
+use sg_ops::Ops;
+use sg_record::plain::Rec;
+use std::alloc::Global;
+use std::test::Fail;
+
+const PAGES: u32 = 200;
+
+const STORE: Super = Super {
+    sequence: 1,
+    pages: PAGES,
+    bands: 40,
+    frames: 32,
+    windows: 4,
+    log: 0,
+    base: 0,
+};
+
+// A record of 21 bytes, for the sake of its number.
+const RECORD: Rec<'static> = Rec::Begin {
+    txn: TxnId(5),
+    prev: 0,
+};
+
+// A pool with its disk and log. Its calls promise nothing: a test that makes them sees plain values.
+struct Trial {
+    disk: Fuse<MemDisk>,
+    log: Log,
+    ops: Ops,
+    pool: Pool,
+}
+
+// Why a call of a trial stops.
+#[derive(Clone, Copy, Debug)]
+enum Stop {
+    Pool(PoolFault),
+    Log(LogFault),
+    NoPage,
+}
+
+impl From<PoolFault> for Stop {
+    fn from(fault: PoolFault) -> Stop {
+        Stop::Pool(fault)
+    }
+}
+
+impl From<LogFault> for Stop {
+    fn from(fault: LogFault) -> Stop {
+        Stop::Log(fault)
+    }
+}
+
+// The number of a page and that of its last change, as a cell.
+fn cell_of(page: u32, lsn: Lsn) -> [u8; 12] {
+    let [a, b, c, d] = page.to_le_bytes();
+    let [e, f, g, h, i, j, k, l] = lsn.to_le_bytes();
+    [a, b, c, d, e, f, g, h, i, j, k, l]
+}
+
+// Whether a page has one slot with this cell, and that number; or whether it is all 0, for number 0.
+fn is_version(bytes: &[u8], page: u32, lsn: Lsn) -> bool {
+    match view(bytes) {
+        None => lsn == 0 && bytes.iter().all(|b| *b == 0),
+        Some(slots) => {
+            slots.lsn() == lsn && slots.slots() == 1 && slots.slot(0) == Some(&cell_of(page, lsn))
+        }
+    }
+}
+
+impl Trial {
+    // A store of zeros, of whose disk so many calls pass, or all.
+    fn new(alloc: Global, passes: Option<u64>) -> Result<Trial, Fail> {
+        let ops = Ops::shipped(alloc)?;
+        let mut disk = MemDisk::new(alloc);
+        let log = Log::attach(alloc, &mut disk, Area::Log0, 0)?;
+        let pool = Pool::new(alloc, &STORE)?;
+        Ok(Trial {
+            disk: Fuse::new(disk, passes),
+            log,
+            ops,
+            pool,
+        })
+    }
+
+    fn end(self) -> MemDisk {
+        let Trial {
+            disk,
+            log: _,
+            ops: _,
+            pool,
+        } = self;
+        pool.end();
+        disk.into_inner()
+    }
+
+    fn change(&mut self, p: u32, op: &PageOp<'_>, lsn: Lsn) -> Result<(), Stop> {
+        if p >= self.pool.pages() {
+            return Err(Stop::NoPage);
+        }
+        self.pool.change_page(&mut self.disk, &mut self.log, PageNo(p), lsn, op, &self.ops)?;
+        Ok(())
+    }
+
+    // Gives a page its number and that of the change as its cell; it is formatted first, where it is new.
+    // Answers the number of the first of these changes and of the last.
+    fn write(&mut self, p: u32, is_new: bool) -> Result<(Lsn, Lsn), Stop> {
+        let first = self.log.append(&mut self.disk, &RECORD)?;
+        if !is_new {
+            let cell = cell_of(p, first);
+            let bytes = cell.as_slice();
+            self.change(p, &PageOp::Set { slot: 0, bytes }, first)?;
+            return Ok((first, first));
+        }
+        self.change(p, &PageOp::Format { kind: 1 }, first)?;
+        let last = self.log.append(&mut self.disk, &RECORD)?;
+        let cell = cell_of(p, last);
+        let bytes = cell.as_slice();
+        self.change(p, &PageOp::Put { slot: 0, bytes }, last)?;
+        Ok((first, last))
+    }
+
+    // Whether a page that is lent is that version.
+    fn has(&mut self, p: u32, lsn: Lsn) -> Result<bool, Stop> {
+        if p >= self.pool.pages() {
+            return Err(Stop::NoPage);
+        }
+        let bytes = self.pool.page(&mut self.disk, &mut self.log, PageNo(p))?;
+        Ok(is_version(bytes, p, lsn))
+    }
+
+    // Pins a page, if it may be pinned.
+    fn pin(&mut self, p: u32) -> bool {
+        if p >= self.pool.pages() || !self.pool.can_pin(PageNo(p)) {
+            return false;
+        }
+        self.pool.pin(PageNo(p));
+        true
+    }
+
+    fn unpin(&mut self, p: u32) {
+        if p < self.pool.pages() {
+            self.pool.unpin(PageNo(p));
+        }
+    }
+
+    fn flush(&mut self) -> Result<(), PoolFault> {
+        self.pool.flush(&mut self.disk, &mut self.log)
+    }
+}
+
+// The victim before a change of page 32, behind it, and once page 2 was read again; and whether that has its
+// last bytes.
+fn row_of_frames(trial: &mut Trial) -> Result<([u32; 3], bool), Stop> {
+    let mut of_2 = 0;
+    for p in 0..32 {
+        let (_first, last) = trial.write(p, true)?;
+        if p == 2 {
+            of_2 = last;
+        }
+    }
+    trial.has(0, 0)?;
+    trial.pin(1);
+    let before = trial.pool.victim();
+    trial.write(32, true)?;
+    let behind = trial.pool.victim();
+    let same = trial.has(2, of_2)?;
+    Ok(([before, behind, trial.pool.victim()], same))
+}
+
+#[test]
+fn the_least_recently_used_page_that_is_not_pinned_goes(rt: HostRuntime) -> Result<(), Fail> {
+    let mut trial = Trial::new(rt.alloc(), None)?;
+    let outcome = row_of_frames(&mut trial);
+    trial.end();
+    let (victims, same) = outcome?;
+    assert_eq!(rt; victims, [2, 3, 4]);
+    assert!(rt; same);
+    Ok(())
+}
+
+// What a plain array knows of a page: the numbers of its last change, of the oldest that isn't home, and of the
+// last that is; when it was used, if it is in a frame; and whether it is pinned there.
+#[derive(Clone, Copy)]
+struct Row {
+    last: Lsn,
+    since: Option<Lsn>,
+    home: Lsn,
+    used: Option<u64>,
+    is_pinned: bool,
+}
+
+// A pool beside such an array, and calls that are drawn.
+#[derive(Drop)]
+struct Plain {
+    rows: Vec<Row>,
+    clock: u64,
+    seed: u64,
+}
+
+impl Plain {
+    fn new(alloc: Global, seed: u64) -> Result<Plain, Fail> {
+        let row = Row {
+            last: 0,
+            since: None,
+            home: 0,
+            used: None,
+            is_pinned: false,
+        };
+        let rows = vec![in alloc; row; PAGES as usize]?;
+        Ok(Plain {
+            rows,
+            clock: 0,
+            seed,
+        })
+    }
+
+    fn draw(&mut self, below: u32) -> u32 {
+        self.seed = self
+            .seed
+            .wrapping_mul(6_364_136_223_846_793_005)
+            .wrapping_add(1_442_695_040_888_963_407);
+        ((self.seed >> 33) as u32).checked_rem(below).unwrap_or(0)
+    }
+
+    fn last(&self, p: u32) -> Lsn {
+        match self.rows.get(p as usize) {
+            Some(row) => row.last,
+            None => 0,
+        }
+    }
+
+    // The page in a frame that was used longest ago and isn't pinned goes home, where 32 are in frames.
+    fn evict(&mut self) {
+        let mut held = 0u32;
+        let mut least = u64::MAX;
+        for row in self.rows.iter() {
+            if let Some(used) = row.used {
+                held = held.saturating_add(1);
+                if !row.is_pinned {
+                    least = least.min(used);
+                }
+            }
+        }
+        if held < 32 {
+            return;
+        }
+        for row in self.rows.iter_mut() {
+            if row.used == Some(least) {
+                row.used = None;
+                row.since = None;
+                row.home = row.last;
+            }
+        }
+    }
+
+    // The page is used.
+    fn use_page(&mut self, p: u32) {
+        let absent = match self.rows.get(p as usize) {
+            Some(row) => row.used.is_none(),
+            None => false,
+        };
+        if absent {
+            self.evict();
+        }
+        self.clock = self.clock.saturating_add(1);
+        if let Some(row) = self.rows.get_mut(p as usize) {
+            row.used = Some(self.clock);
+        }
+    }
+
+    // And changed.
+    fn change_page(&mut self, p: u32, first: Lsn, last: Lsn) {
+        self.use_page(p);
+        if let Some(row) = self.rows.get_mut(p as usize) {
+            row.last = last;
+            row.since = Some(row.since.unwrap_or(first));
+        }
+    }
+
+    fn flush(&mut self) {
+        for row in self.rows.iter_mut() {
+            row.since = None;
+            row.home = row.last;
+        }
+    }
+
+    fn set_pin(&mut self, p: u32, is_pinned: bool) {
+        if let Some(row) = self.rows.get_mut(p as usize) {
+            row.is_pinned = is_pinned;
+        }
+    }
+
+    fn oldest(&self) -> Option<Lsn> {
+        self.rows.iter().filter_map(|row| row.since).min()
+    }
+
+    // One call of the pool, and whether what it answers is right.
+    fn call(&mut self, trial: &mut Trial) -> Result<bool, Stop> {
+        let p = self.draw(PAGES);
+        let last = self.last(p);
+        let mut is_right = true;
+        match self.draw(100) {
+            0 => {
+                trial.flush()?;
+                self.flush();
+            }
+            1 => {
+                if trial.pin(p) {
+                    self.set_pin(p, true);
+                }
+            }
+            2 => {
+                trial.unpin(p);
+                self.set_pin(p, false);
+            }
+            3..=50 => {
+                let (first, last) = trial.write(p, last == 0)?;
+                self.change_page(p, first, last);
+            }
+            _ => {
+                is_right = trial.has(p, last)?;
+                self.use_page(p);
+            }
+        }
+        Ok(is_right && trial.pool.oldest() == self.oldest())
+    }
+
+    // Whether so many calls were answered right. It stops at the first fault.
+    fn run(&mut self, trial: &mut Trial, count: u32) -> Result<bool, Stop> {
+        for _k in 0..count {
+            if !self.call(trial)? {
+                return Ok(false);
+            }
+        }
+        Ok(true)
+    }
+}
+
+#[test]
+fn a_page_is_what_was_last_written_to_it(rt: HostRuntime) -> Result<(), Fail> {
+    let mut plain = Plain::new(rt.alloc(), 1)?;
+    let mut trial = Trial::new(rt.alloc(), None)?;
+    let outcome = plain.run(&mut trial, 10_000);
+    trial.end();
+    assert!(rt; outcome?);
+    Ok(())
+}
+
+// Whether a page's home is one of its versions, not older than the last that went home, and below the durable
+// tail of the log.
+fn is_kept(bytes: &[u8], page: u32, home: Lsn, durable: Lsn) -> bool {
+    let lsn = match view(bytes) {
+        Some(slots) => slots.lsn(),
+        None => 0,
+    };
+    is_version(bytes, page, lsn) && home <= lsn && (lsn == 0 || lsn < durable)
+}
+
+// Whether that is so of each page, once an open batch was laid over.
+fn all_kept(alloc: Global, mut disk: MemDisk, plain: &Plain) -> Result<bool, Fail> {
+    lay_over(&mut disk, PAGES)?;
+    let log = Log::attach(alloc, &mut disk, Area::Log0, 0)?;
+    let durable = log.durable();
+    let zeros = [0; 4_096];
+    let mut page = 0;
+    for row in plain.rows.iter() {
+        let from = page_start(PageNo(page)) as usize;
+        let bytes = match disk.home().get(from..from.saturating_add(4_096)) {
+            Some(bytes) => bytes,
+            None => zeros.as_slice(),
+        };
+        if !is_kept(bytes, page, row.home, durable) {
+            return Ok(false);
+        }
+        page = page.saturating_add(1);
+    }
+    Ok(true)
+}
+
+// What a crash leaves of 400 calls that are stopped after so many calls of the disk.
+fn is_crash_safe(alloc: Global, passes: u64, pick: u64) -> Result<bool, Fail> {
+    let mut plain = Plain::new(alloc, 2)?;
+    let mut trial = Trial::new(alloc, Some(passes))?;
+    let _stopped = plain.run(&mut trial, 400);
+    let disk = trial.end().crash(pick);
+    all_kept(alloc, disk, &plain)
+}
+
+#[test]
+fn a_crash_leaves_whole_pages_of_durable_records(rt: HostRuntime) -> Result<(), Fail> {
+    for k in 0..20u64 {
+        let safe = is_crash_safe(rt.alloc(), k.wrapping_mul(13), k.wrapping_mul(0x9e37_79b9))?;
+        assert!(rt; safe);
+    }
+    Ok(())
+}
