@@ -1,19 +1,18 @@
 -- A batch of pages from frames goes home.
-use Rattle.std.proofs.Common.{◌≡◌, ◌≢◌, ◌⊎◌, inl, inr, ⊎_elim, ◌<◌, ◌≤◌, ◌+◌, ◌*◌, ℕ, Bool, IsTrue, Option, Some, None, List, [], ◌∷◌, ◌++◌, take, length, get_or, refl, sym, ◌∙◌, ap, subst, arith}
-use Rattle.sg_base.specs.declared.area.Area.{Area}
+use Rattle.std.proofs.Common.{◌≡◌, ◌⊎◌, inl, inr, ⊎_elim, ◌<◌, ◌≤◌, ◌+◌, ℕ, Bool, IsTrue, Some, None, List, [], take, length, get_or, refl, sym, ◌∙◌, ap, subst, arith}
 use Rattle.sg_base.specs.declared.area.Area.TheVariants.{Home}
-use Rattle.sg_disk.specs.Disk.{Bytes, Image, Part, State, Leaves, LeavesOnly, View}
-use Rattle.sg_disk.proofs.Moments.{started, weaker, joined}
-use Rattle.sg_gate.specs.Layout.{PAGE, HOMES, place_at, home_at, IsStore}
-use Rattle.sg_gate.specs.Batch.{over, homed, IsReady, IsWhole, IsEither, IsBatch, SameLogs}
+use Rattle.sg_disk.specs.Disk.{Bytes, Image, Part, State, LeavesOnly, View}
+use Rattle.sg_disk.proofs.Moments.{weaker, joined}
+use Rattle.sg_gate.specs.Layout.{home_at, IsStore}
+use Rattle.sg_gate.specs.Batch.{homed, IsReady, IsWhole, IsEither, IsBatch, SameLogs}
 use Rattle.sg_pool.specs.Going.{IsStored}
 use Rattle.sg_pool.specs.Units.{Geometry, page_at, band_byte}
 use Rattle.sg_pool.proofs.Homes.{page_same, batch_page, other_page, page_in_batch, homes_below}
 use Rattle.sg_gate.proofs.Over.{over_out}
 use Rattle.sg_pool.specs.declared.slot.Slot.{Slot}
-use Rattle.sg_pool.specs.Held.{page_in, since_of, page_of, AreApart}
-use Rattle.sg_pool.specs.Batches.{IsInFrame, AreCollected, ArePlaced, IsHeld, IsPartly, IsBatchMoment, AreHome}
-use Rattle.sg_pool.proofs.Writing.{rest_whole, whole_store, whole_state}
+use Rattle.sg_pool.specs.Held.{page_in, since_of, page_of}
+use Rattle.sg_pool.specs.Batches.{AreCollected, ArePlaced, IsHeld, IsPartly, IsBatchMoment, AreHome}
+use Rattle.sg_pool.proofs.Writing.{whole_store, whole_state}
 use Rattle.sg_pool.proofs.Changing.{done_ready}
 use Rattle.sg_pool.proofs.Batching.{none_whole}
 use Rattle.sg_pool.proofs.Slots.{some_same, none_is_some}

@@ -1,22 +1,21 @@
 -- Changed pages are put at the places, one after another.
-use Rattle.std.proofs.Common.{◌≡◌, ◌≢◌, ◌⊎◌, inl, inr, ⊎_elim, ◌<◌, ◌≤◌, ◌+◌, ◌*◌, ℕ, Bool, true, false, Option, Some, None, List, [], ◌∷◌, ◌++◌, take, length, get_or, set, Result, refl, sym, ◌∙◌, ap, subst, arith, length-append, get_or-set_same, length-take-le, take-suc-set, suc}
+use Rattle.std.proofs.Common.{◌≡◌, ◌≢◌, ◌⊎◌, inl, inr, ⊎_elim, ◌<◌, ◌≤◌, ◌+◌, ℕ, false, Option, Some, None, List, [], ◌∷◌, ◌++◌, take, length, get_or, set, Result, refl, sym, ◌∙◌, ap, subst, arith, length-append, length-take-le, take-suc-set, suc}
 use Rattle.std.specs.Prelude.{is_some}
 use Rattle.std.proofs.lemmas.Bool.{cases_lt, cases_eq}
 use Rattle.std.proofs.lemmas.Grind.{common_steps}
-use Rattle.std.proofs.lemmas.List.{get_or_append_left, get_or-append-add, take_more}
-use Rattle.sg_base.specs.declared.area.Area.{Area}
+use Rattle.std.proofs.lemmas.List.{get_or_append_left, get_or-append-add}
 use Rattle.sg_base.specs.declared.area.Area.TheVariants.{Home}
-use Rattle.sg_disk.specs.Disk.{Bytes, Image, Part, State, Leaves, LeavesOnly, View, Wrote, put, written, written_part}
+use Rattle.sg_disk.specs.Disk.{Image, Part, Leaves, LeavesOnly, View, Wrote, put, written, written_part}
 use Rattle.sg_disk.proofs.Images.{put_outside}
 use Rattle.sg_disk.proofs.Parts.{put_inside, window_is, leaves_written, leaves_other}
 use Rattle.sg_disk.proofs.Moments.{started, goes_on}
-use Rattle.sg_gate.specs.Layout.{PAGE, HOMES, HEADER, PLACES, place_at, IsStore}
+use Rattle.sg_gate.specs.Layout.{PAGE, place_at, IsStore}
 use Rattle.sg_gate.specs.Batch.{IsReady, IsWhole}
 use Rattle.sg_pool.specs.Units.{page_at}
 use Rattle.sg_pool.proofs.Homes.{page_same}
 use Rattle.sg_pool.proofs.Placing.{placed_ready}
 use Rattle.sg_pool.specs.declared.slot.Slot.{Slot}
-use Rattle.sg_pool.specs.Held.{page_in, since_of, page_of, AreApart}
+use Rattle.sg_pool.specs.Held.{page_in, page_of, AreApart}
 use Rattle.sg_pool.specs.Batches.{IsInFrame, IsCared, AreCollected, ArePlaced}
 use Rattle.sg_pool.proofs.Writing.{rest_whole, whole_store}
 use Rattle.sg_pool.proofs.Homed.{window_whole}

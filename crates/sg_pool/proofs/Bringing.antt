@@ -1,17 +1,15 @@
 -- A frame is cleaned, and then gets a page.
-use Rattle.std.proofs.Common.{◌≡◌, ◌⊎◌, inl, inr, ⊎_elim, ◌<◌, ◌≤◌, ◌+◌, ◌*◌, ℕ, Bool, IsTrue, Option, Some, None, Result, Ok, Err, List, [], ◌++◌, length, get_or, set, refl, sym, ◌∙◌, ap, subst, arith}
+use Rattle.std.proofs.Common.{◌≡◌, inl, inr, ⊎_elim, ◌<◌, ◌≤◌, ℕ, Bool, IsTrue, Option, None, Result, Ok, Err, List, length, set, refl, sym, ◌∙◌, ap, subst, arith}
 use Rattle.sg_base.specs.Ends.{HasRisen}
 use Rattle.sg_base.specs.declared.area.Area.{Area}
 use Rattle.sg_base.specs.declared.area.Area.TheVariants.{Home}
-use Rattle.sg_disk.specs.Disk.{Bytes, Image, Part, View, Leaves, LeavesOnly}
+use Rattle.sg_disk.specs.Disk.{Image, Part, View, Leaves, LeavesOnly}
 use Rattle.sg_disk.proofs.Moments.{weaker, joined}
 use Rattle.sg_log.specs.Frames.{Numbered}
-use Rattle.sg_log.specs.Held.{Tail, forced}
+use Rattle.sg_log.specs.Held.{Tail}
 use Rattle.sg_log.proofs.Holding.{holds_along}
 use Rattle.sg_gate.specs.Layout.{home_at}
 use Rattle.sg_pool.specs.Units.{Geometry, page_at, Units, IsBacked, IsCleaned}
-use Rattle.sg_pool.specs.Frames.{units_of, IsShelf}
-use Rattle.sg_frames.specs.Held.{Held}
 use Rattle.sg_pool.specs.declared.fault.PoolFault.{PoolFault}
 use Rattle.sg_pool.specs.declared.fault.PoolFault.TheVariants.{Disk, Damaged, Memory}
 use Rattle.sg_pool.specs.declared.slot.Slot.{Slot}

@@ -1,5 +1,5 @@
 -- A record is done to a page in its frame.
-use Rattle.std.proofs.Common.{◌≡◌, ◌≢◌, ◌⊎◌, inl, inr, ⊎_elim, ◌<◌, ◌≤◌, ℕ, Bool, true, false, if◌then◌else◌, Option, Some, None, List, [], length, get_or, set, refl, sym, ◌∙◌, ap, subst, arith, get_or-set_same, get_or-set_other, length-set}
+use Rattle.std.proofs.Common.{◌≡◌, ◌≢◌, ◌⊎◌, inl, inr, ⊎_elim, ◌<◌, ℕ, Bool, true, false, if◌then◌else◌, Option, Some, None, List, [], length, get_or, set, refl, sym, ◌∙◌, ap, subst, get_or-set_same, get_or-set_other}
 use Rattle.std.specs.Prelude.{◌&&◌, nat_lt, is_some, unwrap_or}
 use Rattle.std.proofs.lemmas.Bool.{cases_eq}
 use Rattle.sg_base.specs.Page.{lsn_of}
@@ -15,8 +15,8 @@ use Rattle.sg_pool.specs.declared.slot.Win.{Win}
 use Rattle.sg_pool.specs.Changed.{applies, since_after, slots_after, IsChanged}
 use Rattle.sg_pool.specs.Frames.{units_of}
 use Rattle.sg_pool.specs.Held.{no_slot, frame_of, page_in, AreApart, bytes_of, since_of, page_of, page_since_of}
-use Rattle.sg_pool.specs.Units.{Geometry, Units, IsBacked, page_at}
-use Rattle.sg_pool.proofs.Slots.{some_same, none_is_some, frame_some, set_here, set_there, page_there, frame_kept}
+use Rattle.sg_pool.specs.Units.{Geometry, IsBacked, page_at}
+use Rattle.sg_pool.proofs.Slots.{some_same, frame_some, set_here, set_there, page_there, frame_kept}
 
 module _ (r : OnPage) (page : List ℕ) where
   unfit : (o : Option (List ℕ)) → is_some o ≡ false → unwrap_or o page ≡ page

@@ -1,17 +1,17 @@
 -- The units when a frame is cleaned, and when it gets another page.
-use Rattle.std.proofs.Common.{◌≡◌, ◌≢◌, ◌⊎◌, inl, inr, ⊎_elim, ◌<◌, ◌≤◌, ◌+◌, ◌*◌, ℕ, Bool, true, false, Option, Some, None, List, [], length, get_or, set, refl, sym, ◌∙◌, ap, subst, arith, get_or-set_same, get_or-set_other, length-set}
-use Rattle.std.proofs.lemmas.Bool.{cases_lt, cases_eq}
-use Rattle.sg_disk.specs.Disk.{Bytes, Part, Range, Spoils}
-use Rattle.sg_gate.specs.Layout.{PAGE, HOMES, home_at}
+use Rattle.std.proofs.Common.{◌≡◌, ◌≢◌, ◌⊎◌, inl, inr, ⊎_elim, ◌<◌, ◌+◌, ℕ, false, Option, Some, None, List, [], length, get_or, set, refl, sym, ◌∙◌, ap, subst, arith, get_or-set_same, get_or-set_other, length-set}
+use Rattle.std.proofs.lemmas.Bool.{cases_eq}
+use Rattle.sg_disk.specs.Disk.{Bytes, Part}
+use Rattle.sg_gate.specs.Layout.{PAGE, home_at}
 use Rattle.sg_gate.specs.Batch.{IsReady}
 use Rattle.sg_pool.specs.Going.{IsStored, with_home}
-use Rattle.sg_pool.specs.Units.{Geometry, EachPage, EachByte, page_at, band_byte, Units, IsBacked, IsCleaned}
+use Rattle.sg_pool.specs.Units.{Geometry, EachPage, page_at, band_byte, Units, IsBacked, IsCleaned}
 use Rattle.sg_pool.proofs.Homes.{page_same}
-use Rattle.sg_pool.specs.Frames.{units_of, window_of, byte_in, IsIndex, IsShelf, IsWritten, IsAtHome}
+use Rattle.sg_pool.specs.Frames.{units_of, window_of, byte_in, IsIndex, IsShelf, IsAtHome}
 use Rattle.sg_frames.specs.Held.{Held}
 use Rattle.sg_pool.specs.declared.slot.Slot.{Slot}
 use Rattle.sg_pool.specs.declared.slot.Win.{Win}
-use Rattle.sg_pool.specs.Held.{no_slot, frame_of, page_in, AreApart, bytes_of, since_of, page_of, page_since_of}
+use Rattle.sg_pool.specs.Held.{frame_of, page_in, AreApart, bytes_of, since_of, page_of, page_since_of}
 use Rattle.sg_pool.proofs.Homed.{homed_page, homed_other, homed_band}
 use Rattle.std.proofs.lemmas.List.{set-set}
 use Rattle.sg_pool.proofs.Slots.{apart_new, apart_none, some_same, none_is_some, is_or_not, frame_some, frame_is, set_here, set_there, page_here, page_there, apart_kept, frame_kept, frame_other, frame_gone}

@@ -1,23 +1,22 @@
 -- A batch is home, in the pool's words: its moments go, and its units are clean.
-use Rattle.std.proofs.Common.{◌≡◌, ◌≢◌, ◌⊎◌, inl, inr, ⊎_elim, ◌<◌, ◌≤◌, ◌+◌, ◌*◌, ℕ, Bool, Option, Some, None, List, [], length, get_or, refl, sym, ◌∙◌, ap, subst, arith}
+use Rattle.std.proofs.Common.{◌≡◌, ◌⊎◌, inl, inr, ⊎_elim, ◌<◌, ◌≤◌, ℕ, Option, Some, None, List, [], length, refl, sym, ◌∙◌, ap, subst, arith}
 use Rattle.std.proofs.lemmas.Bool.{cases_lt}
 use Rattle.sg_base.specs.Page.{lsn_of}
-use Rattle.sg_base.specs.declared.area.Area.{Area}
 use Rattle.sg_base.specs.declared.area.Area.TheVariants.{Home}
 use Rattle.sg_disk.specs.Disk.{Bytes, Image, Part, State, View}
 use Rattle.sg_log.specs.Frames.{Numbered, SameElsewhere}
-use Rattle.sg_log.specs.Held.{Tail, Holds, tail_of}
+use Rattle.sg_log.specs.Held.{Tail}
 use Rattle.sg_gate.specs.Layout.{home_at}
-use Rattle.sg_gate.specs.Batch.{IsWhole, SameLogs}
+use Rattle.sg_gate.specs.Batch.{SameLogs}
 use Rattle.sg_frames.specs.Held.{Held}
-use Rattle.sg_pool.specs.Units.{Geometry, EachPage, page_at, band_byte, Units, IsGoing, IsBacked, IsCleaned, IsBelow}
+use Rattle.sg_pool.specs.Units.{Geometry, EachPage, page_at, IsGoing, IsBacked, IsCleaned, IsBelow}
 use Rattle.sg_pool.specs.declared.slot.Slot.{Slot}
 use Rattle.sg_pool.specs.declared.slot.Win.{Win}
 use Rattle.sg_pool.specs.Frames.{units_of, window_of, byte_in}
 use Rattle.sg_pool.specs.Held.{frame_of, page_in, AreApart, bytes_of, since_of, page_of, page_since_of}
 use Rattle.sg_pool.specs.Batches.{IsHeld, IsPartly, IsBatchMoment, AreHome}
 use Rattle.sg_pool.specs.Moments.{GoesHome}
-use Rattle.sg_pool.proofs.Slots.{some_same, frame_is, frame_some, none_is_some, none_or_some}
+use Rattle.sg_pool.proofs.Slots.{frame_is, frame_some}
 use Rattle.sg_pool.proofs.Settling.{Stands, whole_goes}
 use Rattle.sg_pool.proofs.Writing.{whole_state}
 

@@ -1,16 +1,16 @@
 -- Batch after batch goes home: what the loop keeps.
-use Rattle.std.proofs.Common.{◌≡◌, ◌⊎◌, inl, inr, ⊎_elim, ◌<◌, ◌≤◌, ℕ, Bool, IsTrue, Option, Some, None, List, length, get_or, refl, sym, ◌∙◌, ap, subst, arith}
+use Rattle.std.proofs.Common.{◌≡◌, ◌⊎◌, inl, ⊎_elim, ◌<◌, ◌≤◌, ℕ, Bool, IsTrue, Some, None, List, length, refl, sym, ◌∙◌, ap, subst, arith}
 use Rattle.std.proofs.lemmas.Bool.{cases_lt}
 use Rattle.std.proofs.lemmas.List.{get_or_past}
 use Rattle.sg_base.specs.declared.area.Area.TheVariants.{Home}
-use Rattle.sg_disk.specs.Disk.{Image, Bytes, Part, View, LeavesOnly}
+use Rattle.sg_disk.specs.Disk.{Image, Bytes, View, LeavesOnly}
 use Rattle.sg_disk.proofs.Moments.{weaker, joined}
-use Rattle.sg_gate.specs.Batch.{IsReady, IsWhole, SameLogs}
+use Rattle.sg_gate.specs.Batch.{IsReady, SameLogs}
 use Rattle.sg_frames.specs.Held.{Held}
 use Rattle.sg_pool.specs.declared.shelf.Shelf.{Shelf}
 use Rattle.sg_pool.specs.declared.slot.Slot.{Slot}
 use Rattle.sg_pool.specs.Units.{Geometry, IsBacked, IsCleaned}
-use Rattle.sg_pool.specs.Held.{no_slot, frame_of, page_in, since_of}
+use Rattle.sg_pool.specs.Held.{no_slot, since_of}
 use Rattle.sg_pool.specs.Batches.{IsPartly, IsBatchMoment}
 use Rattle.sg_pool.specs.Shelves.{geometry_of, units, IsSameShelf}
 use Rattle.sg_pool.proofs.Changing.{cleaned_refl, cleaned_twice}

@@ -1,5 +1,5 @@
 -- What a force of the log leaves as it is.
-use Rattle.std.proofs.Common.{◌≡◌, ◌≤◌, ◌+◌, ◌==◌, ℕ, Bool, true, false, if◌then◌else◌, List, [], length, refl, arith}
+use Rattle.std.proofs.Common.{◌≡◌, ◌≤◌, ◌+◌, ◌==◌, Bool, true, false, if◌then◌else◌, [], length, refl, arith}
 use Rattle.sg_log.specs.Held.{Tail, tail_of, forced}
 
 pub record IsForced (log log' : Tail) : Type 0 where

@@ -1,12 +1,12 @@
 -- Units go home one after another: each moment goes as it may, from what stood at first.
-use Rattle.std.proofs.Common.{◌≡◌, ◌⊎◌, inl, inr, ⊎_elim, ◌<◌, ◌≤◌, ◌+◌, ◌*◌, ℕ, Bool, true, List, length, get_or, refl, sym, ◌∙◌, ap, subst, arith}
+use Rattle.std.proofs.Common.{◌≡◌, ◌⊎◌, inl, inr, ⊎_elim, ◌<◌, ◌≤◌, ◌+◌, ℕ, true, List, length, get_or, refl, ◌∙◌, subst, arith}
 use Rattle.sg_base.specs.Page.{lsn_of}
 use Rattle.sg_disk.specs.Disk.{Bytes, State, Image}
 use Rattle.sg_base.specs.declared.area.Area.TheVariants.{Home}
-use Rattle.sg_gate.specs.Layout.{PAGE, BAND, HOMES, place_at, home_at}
+use Rattle.sg_gate.specs.Layout.{PAGE, HOMES, place_at, home_at}
 use Rattle.sg_gate.specs.Batch.{over, laid, IsBatch, IsWhole}
 use Rattle.sg_gate.proofs.Over.{over_out}
-use Rattle.sg_pool.specs.Units.{Geometry, EachPage, EachByte, page_at, band_byte, Units, IsGoing}
+use Rattle.sg_pool.specs.Units.{Geometry, EachByte, page_at, band_byte, Units, IsGoing}
 use Rattle.sg_pool.proofs.Homes.{page_same, batch_page, other_page, page_in_batch, homes_below}
 
 module _ (g : Geometry) (d : ℕ) (last : ℕ → ℕ) (seen : Bytes) (m : Units) where

@@ -1,12 +1,12 @@
 -- The homes once one page has gone home.
-use Rattle.std.proofs.Common.{◌≡◌, ◌≢◌, ◌⊎◌, inl, inr, ⊎_elim, ◌<◌, ◌≤◌, ◌+◌, ◌*◌, ℕ, List, length, refl, sym, ◌∙◌, ap, subst, arith}
+use Rattle.std.proofs.Common.{◌≡◌, ◌≢◌, ◌⊎◌, inl, inr, ⊎_elim, ◌<◌, ◌≤◌, ◌+◌, ℕ, List, length, sym, ◌∙◌, ap, arith}
 use Rattle.std.proofs.lemmas.Bool.{cases_lt}
 use Rattle.std.specs.List.{refill}
 use Rattle.std.proofs.lemmas.List.{take_at}
-use Rattle.sg_disk.specs.Disk.{Bytes, put, window}
+use Rattle.sg_disk.specs.Disk.{Bytes, window}
 use Rattle.sg_disk.proofs.Images.{put_outside}
 use Rattle.sg_disk.proofs.Parts.{put_inside, window_is}
-use Rattle.sg_gate.specs.Layout.{PAGE, HOMES, home_at, BAND}
+use Rattle.sg_gate.specs.Layout.{PAGE, home_at}
 use Rattle.sg_pool.specs.Units.{Geometry, page_at, band_byte}
 use Rattle.sg_pool.proofs.Homes.{page_same}
 use Rattle.sg_pool.specs.Going.{with_home}

@@ -1,10 +1,10 @@
 -- Pages of a home area, and the homes after a batch.
-use Rattle.std.proofs.Common.{◌≡◌, ◌≢◌, ◌⊎◌, inl, inr, ⊎_elim, ◌<◌, ◌≤◌, ◌+◌, ◌-◌, ◌*◌, ℕ, zero, suc, List, [], ◌∷◌, length, get_or, refl, sym, ◌∙◌, ap, subst, arith}
+use Rattle.std.proofs.Common.{◌≡◌, ◌≢◌, ◌⊎◌, inl, inr, ⊎_elim, ◌<◌, ◌≤◌, ◌+◌, ◌-◌, ◌*◌, ℕ, zero, suc, List, [], ◌∷◌, length, get_or, sym, ◌∙◌, ap, arith}
 use Rattle.std.proofs.lemmas.Bool.{cases_eq}
 use Rattle.sg_disk.specs.Disk.{Bytes}
 use Rattle.sg_gate.specs.Layout.{PAGE, HOMES, place_at, home_at}
 use Rattle.sg_gate.specs.Batch.{over, InHomes}
-use Rattle.sg_gate.proofs.Over.{step, step_in, step_out, over_out}
+use Rattle.sg_gate.proofs.Over.{step, step_in, over_out}
 use Rattle.sg_gate.proofs.Windows.{window_shift}
 use Rattle.sg_pool.specs.Units.{page_at}
 

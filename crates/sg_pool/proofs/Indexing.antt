@@ -1,5 +1,5 @@
 -- The list by page number when a frame is emptied and filled.
-use Rattle.std.proofs.Common.{◌≡◌, ◌≢◌, ◌⊎◌, ⊎_elim, ◌<◌, ◌≤◌, ℕ, Option, Some, None, List, length, get_or, set, refl, sym, ◌∙◌, ap, subst, arith, length-set, get_or-set_same, get_or-set_other}
+use Rattle.std.proofs.Common.{◌≡◌, ⊎_elim, ◌<◌, ℕ, Option, Some, None, List, length, get_or, set, refl, sym, ◌∙◌, ap, subst, arith, length-set, get_or-set_same, get_or-set_other}
 use Rattle.std.proofs.lemmas.Bool.{cases_eq}
 use Rattle.sg_frames.specs.Held.{Held}
 use Rattle.sg_pool.specs.declared.slot.Slot.{Slot}

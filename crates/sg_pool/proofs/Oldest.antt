@@ -1,8 +1,8 @@
 -- The oldest change over the frames is that over the pages.
-use Rattle.std.proofs.Common.{◌≡◌, ◌⊎◌, ⊎_elim, ◌<◌, ◌≤◌, ℕ, Option, Some, None, List, length, refl, sym, ◌∙◌, ap, subst}
+use Rattle.std.proofs.Common.{◌≡◌, ⊎_elim, ◌<◌, ◌≤◌, ℕ, Option, Some, None, length, sym, ◌∙◌, ap}
 use Rattle.std.specs.Prelude.{IfNone, IfSome}
 use Rattle.sg_pool.specs.declared.pool.Pool.{Pool}
-use Rattle.sg_pool.specs.Held.{frame_of, page_in, since_of, page_since_of}
+use Rattle.sg_pool.specs.Held.{frame_of, page_in, since_of}
 use Rattle.sg_pool.specs.Pooled.{IsUnwritten}
 use Rattle.sg_pool.proofs.Slots.{none_is_some, none_or_some, frame_some, frame_is}
 

@@ -1,6 +1,6 @@
 -- The order of the frames.
-use Rattle.std.proofs.Common.{◌≡◌, ◌≢◌, ◌⊎◌, inl, inr, ⊎_elim, ◌<◌, ◌≤◌, ◌+◌, ◌-◌, ◌==◌, ◌++◌, ℕ, zero, suc, Bool, true, false, cond, Option, Some, None, List, [], ◌∷◌, take, length, nat_eq, refl, ap, sym, ◌∙◌, subst, arith}
-use Rattle.std.specs.Prelude.{Contains, IsSome, sum_by, count_by, IsTrue}
+use Rattle.std.proofs.Common.{◌≡◌, ◌≢◌, inl, inr, ⊎_elim, ◌<◌, ◌≤◌, ◌+◌, ◌-◌, ◌++◌, ℕ, zero, suc, Bool, true, false, cond, Option, Some, None, List, [], ◌∷◌, length, nat_eq, refl, ap, sym, ◌∙◌, subst, arith}
+use Rattle.std.specs.Prelude.{Contains, IsSome, sum_by, IsTrue}
 use Rattle.std.specs.List.{All}
 use Rattle.std.specs.Option.{option_map_or}
 use Rattle.std.specs.Map.{lookup, lookup_entry, remove_entry, set_value}
@@ -13,7 +13,7 @@ use Rattle.std.proofs.lemmas.List.Elements.{All-head, All-tail}
 use Rattle.std.proofs.lemmas.List.Sums.{sum_by-cons}
 use Rattle.lru.proofs.Splits.{Contains-middle, Contains-head, Contains-tail, Contains-cons, Contains-nil}
 use Rattle.lru.specs.LruCache.{promoted, lru_cache, put_entries}
-use Rattle.lru.proofs.CallerLemmas.{Contains-promoted, Contains-lookup_entry}
+use Rattle.lru.proofs.CallerLemmas.{Contains-promoted}
 use Rattle.sg_pool.specs.Order.{below, pins_of, IsOrder, IsUsed}
 
 pub length-below : (n : ℕ) → length (below n) ≡ n

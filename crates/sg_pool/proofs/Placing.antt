@@ -1,6 +1,6 @@
 -- A page is put at a place of the double-write area.
-use Rattle.std.proofs.Common.{◌≡◌, ◌⊎◌, inl, inr, ⊎_elim, ◌<◌, ◌≤◌, ◌+◌, ◌*◌, ℕ, List, length, sym, ◌∙◌, arith}
-use Rattle.sg_disk.specs.Disk.{Part, put, written_part}
+use Rattle.std.proofs.Common.{◌≡◌, ◌⊎◌, inl, inr, ⊎_elim, ◌<◌, ◌≤◌, ◌+◌, ℕ, List, length, sym, ◌∙◌, arith}
+use Rattle.sg_disk.specs.Disk.{Part, written_part}
 use Rattle.sg_disk.proofs.Images.{put_outside}
 use Rattle.sg_disk.proofs.Parts.{untouched}
 use Rattle.sg_gate.specs.Layout.{PAGE, HEADER, PLACES, HOMES, place_at}

@@ -1,10 +1,10 @@
 -- The pool's order and its frames.
-use Rattle.std.proofs.Common.{◌≡◌, ◌≢◌, ◌<◌, ◌≤◌, ℕ, Bool, Option, Some, None, List, length, set, refl, sym, ◌∙◌, ap, subst, arith, length-set}
+use Rattle.std.proofs.Common.{◌≡◌, ◌<◌, ℕ, Bool, Some, None, List, length, set, sym, ◌∙◌, ap, subst, arith, length-set}
 use Rattle.sg_pool.specs.declared.slot.Slot.{Slot}
 use Rattle.sg_pool.specs.Held.{frame_of, page_in, AreApart}
 use Rattle.sg_pool.specs.Order.{IsOrder}
 use Rattle.sg_pool.specs.Pools.{IsPool}
-use Rattle.sg_pool.proofs.Slots.{frame_is, page_here, apart_new}
+use Rattle.sg_pool.proofs.Slots.{frame_is, page_here}
 
 pub pool_same : (slots slots' : List Slot) (es es' : List (ℕ × Bool)) → length slots' ≡ length slots → IsPool slots es → IsOrder (length slots) es' → IsPool slots' es'
 pool_same slots slots' es es' same pool order = record { many = let m = pool.many in omega (arith, m, same); order = subst (λ (n : ℕ). IsOrder n es') (sym same) order }

@@ -1,18 +1,18 @@
 -- A page goes home, after a force where it isn't durable: what holds of the log, and each moment.
-use Rattle.std.proofs.Common.{◌≡◌, ◌≢◌, ◌⊎◌, inl, inr, ⊎_elim, ◌<◌, ◌≤◌, ◌+◌, ◌*◌, ℕ, List, [], ◌++◌, length, refl, sym, ◌∙◌, ap, subst, arith}
+use Rattle.std.proofs.Common.{◌≡◌, inl, inr, ⊎_elim, ◌<◌, ℕ, List, [], ◌++◌, length, refl, sym, ◌∙◌, ap, subst}
 use Rattle.std.proofs.lemmas.Bool.{cases_eq}
 use Rattle.sg_base.specs.declared.area.Area.{Area}
 use Rattle.sg_base.specs.declared.area.Area.TheVariants.{Home}
-use Rattle.sg_disk.specs.Disk.{Bytes, Image, Part, State, LeavesPart, View, LeavesOnly}
+use Rattle.sg_disk.specs.Disk.{Bytes, Image, Part, LeavesPart, View, LeavesOnly}
 use Rattle.sg_disk.proofs.Parts.{settled_byte}
 use Rattle.sg_disk.proofs.Moments.{weaker, joined}
 use Rattle.sg_log.specs.Frames.{Numbered, HasRecords, Frames, SameElsewhere}
 use Rattle.sg_log.specs.Held.{Tail, Holds, tail_of, forced, IsBeforeOrAfter}
 use Rattle.sg_log.proofs.Holding.{holds_seen, tail_forced, tail_empty, forced_empty}
-use Rattle.sg_gate.specs.Layout.{PAGE, HEADER, HOMES, home_at, IsStore}
-use Rattle.sg_gate.specs.Batch.{laid, IsBatch, numbers_of, IsReady, IsWhole, IsEither, SameLogs}
+use Rattle.sg_gate.specs.Layout.{PAGE, home_at}
+use Rattle.sg_gate.specs.Batch.{laid, IsWhole, IsEither, SameLogs}
 use Rattle.sg_base.specs.Page.{lsn_of}
-use Rattle.sg_pool.specs.Units.{Geometry, EachPage, EachByte, page_at, band_byte, Units, IsGoing}
+use Rattle.sg_pool.specs.Units.{Geometry, page_at, Units, IsGoing}
 use Rattle.sg_pool.proofs.GoingOn.{going_starts, going_same}
 use Rattle.sg_pool.proofs.Forcing.{is_forced}
 use Rattle.sg_pool.specs.Going.{with_home}

@@ -1,14 +1,13 @@
 -- One page goes home: its moments, and its end.
-use Rattle.std.proofs.Common.{◌≡◌, ◌⊎◌, inl, inr, ⊎_elim, ◌<◌, ◌≤◌, ◌+◌, ◌-◌, ◌*◌, ℕ, List, [], ◌∷◌, length, get_or, Result, refl, sym, ◌∙◌, ap, subst, arith}
-use Rattle.std.proofs.lemmas.Bool.{cases_lt}
+use Rattle.std.proofs.Common.{◌≡◌, inl, inr, ⊎_elim, ◌<◌, ◌+◌, ◌-◌, ℕ, List, [], ◌∷◌, length, Result, sym, ◌∙◌, ap, subst, arith}
 use Rattle.sg_base.specs.declared.area.Area.{Area}
 use Rattle.sg_base.specs.declared.area.Area.TheVariants.{Home}
-use Rattle.sg_disk.specs.Disk.{Bytes, Image, Part, State, Spoils, LeavesPart, Leaves, View, Wrote, LeavesOnly, put, written, written_part}
+use Rattle.sg_disk.specs.Disk.{Bytes, Image, Part, State, LeavesPart, Leaves, View, Wrote, LeavesOnly, put, written, written_part}
 use Rattle.sg_disk.proofs.Images.{put_outside}
 use Rattle.sg_disk.proofs.Parts.{part_written, other_written, leaves_written, leaves_other, put_inside}
 use Rattle.sg_disk.proofs.Moments.{started, goes_on, weaker, joined}
-use Rattle.sg_gate.specs.Layout.{PAGE, HEADER, PLACES, HOMES, place_at, home_at, IsStore}
-use Rattle.sg_gate.specs.Batch.{over, laid, IsReady, IsDone, IsWhole, IsEither}
+use Rattle.sg_gate.specs.Layout.{PAGE, HEADER, place_at, home_at, IsStore}
+use Rattle.sg_gate.specs.Batch.{over, IsReady, IsDone, IsWhole, IsEither}
 use Rattle.sg_pool.specs.Going.{IsStored, with_home}
 use Rattle.sg_pool.proofs.Placing.{placed_ready}
 use Rattle.sg_gate.proofs.Over.{laid_shut, in_or_out, step_in, step_out}

@@ -1,5 +1,5 @@
 -- Changed pages are put at the places, to go home as one batch.
-use Rattle.std.specs.Prelude.{◌≡◌, ◌≢◌, ◌⊎◌, ◌<◌, ◌≤◌, ℕ, Option, Some, None, List, [], length, get_or}
+use Rattle.std.specs.Prelude.{◌≡◌, ◌≢◌, ◌⊎◌, ◌<◌, ◌≤◌, ℕ, Some, None, List, [], length, get_or}
 use Rattle.sg_base.specs.declared.area.Area.TheVariants.{Home}
 use Rattle.sg_disk.specs.Disk.{Bytes, Image, Part, State}
 use Rattle.sg_pool.specs.Units.{Geometry, page_at, band_byte}

@@ -1,5 +1,5 @@
 -- The units by what frames and windows hold, and by what reads of the home area give.
-use Rattle.std.specs.Prelude.{◌≡◌, ◌⊎◌, ◌<◌, ◌≤◌, ℕ, suc, Bool, true, false, if◌then◌else◌, Option, Some, None, option_map, List, [], ◌∷◌, length, get_or}
+use Rattle.std.specs.Prelude.{◌≡◌, ◌⊎◌, ◌<◌, ◌≤◌, ℕ, suc, Bool, false, if◌then◌else◌, Option, Some, None, option_map, List, [], ◌∷◌, length, get_or}
 use Rattle.sg_disk.specs.Disk.{Bytes, Part}
 use Rattle.sg_frames.specs.Held.{Held, NoneLent}
 use Rattle.sg_gate.specs.Layout.{home_at}

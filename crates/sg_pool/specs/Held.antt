@@ -1,5 +1,5 @@
 -- Which frame holds which page, and what a page is whether it is in a frame or not.
-use Rattle.std.specs.Prelude.{◌≡◌, ◌<◌, ◌≤◌, ◌==◌, ℕ, suc, Bool, true, false, if◌then◌else◌, Option, Some, None, option_map, List, [], ◌∷◌, length, get_or}
+use Rattle.std.specs.Prelude.{◌≡◌, ◌<◌, ◌==◌, ℕ, suc, Bool, false, if◌then◌else◌, Option, Some, None, option_map, List, [], ◌∷◌, length, get_or}
 use Rattle.sg_pool.specs.declared.slot.Slot.{Slot}
 
 -- a frame that holds no page

@@ -1,5 +1,5 @@
 -- The frames by their last use, the most recently used first, each with whether it is pinned.
-use Rattle.std.specs.Prelude.{◌≡◌, ℕ, zero, suc, ◌<◌, ◌≤◌, Bool, true, false, IsTrue, nat_eq, Contains, IsSome, Some, List, [], ◌∷◌, ◌++◌, length, count_by}
+use Rattle.std.specs.Prelude.{◌≡◌, ℕ, zero, suc, ◌<◌, ◌≤◌, Bool, false, IsTrue, nat_eq, Contains, IsSome, Some, List, [], ◌∷◌, ◌++◌, length, count_by}
 use Rattle.std.specs.List.{All}
 use Rattle.std.specs.Map.{lookup, remove_entry}
 

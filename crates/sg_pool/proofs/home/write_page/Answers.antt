@@ -1,4 +1,4 @@
-use Rattle.std.proofs.Common.{◌≡◌, ◌∙◌, ℕ, List, [], ◌∷◌, length, sym}
+use Rattle.std.proofs.Common.{◌∙◌}
 use Rattle.sg_base.specs.declared.area.Area.TheVariants.{Home}
 use Rattle.sg_pool.proofs.Writing.{place_moments, placed, logs_same, finish_moments, finish_done}
 use Rattle.sg_pool.proofs.home.write_page.Goals as goal

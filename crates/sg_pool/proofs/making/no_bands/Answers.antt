@@ -1,4 +1,4 @@
-use Rattle.std.proofs.Common.{◌≡◌, ◌∷◌, ◌++◌, [], ℕ, Option, None, List, length, refl, sym, ◌∙◌, ap, subst, arith}
+use Rattle.std.proofs.Common.{List, refl, ◌∙◌, ap, arith}
 use Rattle.sg_pool.specs.declared.slot.Win.{Win}
 use Rattle.sg_pool.specs.Frames.{window_of}
 use Rattle.sg_pool.proofs.Fresh.{none_more}

@@ -1,4 +1,4 @@
-use Rattle.std.proofs.Common.{◌≡◌, ◌<◌, ◌++◌, ℕ, Bool, IsTrue, List, length}
+use Rattle.std.proofs.Common.{◌≡◌, ◌++◌, ℕ, Bool, IsTrue, List, length}
 use Rattle.std.specs.List.{All}
 use Rattle.sg_pool.proofs.order.next_out.Given as goal
 

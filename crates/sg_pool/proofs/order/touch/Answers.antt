@@ -1,4 +1,4 @@
-use Rattle.std.proofs.Common.{◌≡◌, ℕ, Bool, sym, subst}
+use Rattle.std.proofs.Common.{ℕ, Bool, sym, subst}
 use Rattle.lru.specs.LruCache.{LruCache}
 use Rattle.sg_pool.specs.Order.{IsOrder, IsUsed}
 use Rattle.sg_pool.proofs.Ordering.{order_promoted, used_promoted}

@@ -1,7 +1,7 @@
-use Rattle.std.proofs.Common.{◌≡◌, ◌⊎◌, ◌<◌, inl, inr, ℕ, List, [], length, sym, ◌∙◌, ap, subst}
+use Rattle.std.proofs.Common.{◌<◌, inl, ℕ, sym, subst}
 use Rattle.std.proofs.lemmas.Result.{on_ok_weaker}
 use Rattle.sg_base.specs.declared.area.Area.TheVariants.{Home}
-use Rattle.sg_disk.specs.Disk.{Image, Part, LeavesOnly}
+use Rattle.sg_disk.specs.Disk.{Image, LeavesOnly}
 use Rattle.sg_disk.proofs.Moments.{weaker}
 use Rattle.sg_log.specs.Held.{tail_of}
 use Rattle.sg_gate.specs.Batch.{IsReady, IsEither}

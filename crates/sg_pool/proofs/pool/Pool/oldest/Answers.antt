@@ -1,6 +1,3 @@
-use Rattle.std.proofs.Common.{◌≡◌, ◌<◌, ◌≤◌, ℕ, Some, None, length}
-use Rattle.sg_pool.specs.Held.{since_of}
-use Rattle.sg_pool.specs.Pooled.{IsUnwritten}
 use Rattle.sg_pool.proofs.Oldest.{none_unwritten, least_unwritten, some_unwritten, on_none, on_some}
 use Rattle.sg_pool.proofs.pool.Pool.oldest.Goals as goal
 

@@ -1,4 +1,4 @@
-use Rattle.std.proofs.Common.{◌≡◌, ◌<◌, ℕ, Option, Some, None, List, [], length, get_or, refl, sym, ◌∙◌, ap, subst, arith}
+use Rattle.std.proofs.Common.{arith}
 use Rattle.sg_pool.proofs.Slots.{frame_some}
 use Rattle.sg_pool.proofs.pool.Pool.page.Goals as goal
 

@@ -1,6 +1,5 @@
-use Rattle.std.proofs.Common.{◌≡◌, ◌<◌, ◌+◌, ◌≤◌, ℕ, Bool, true, false, Some, List, length, sym, ◌∙◌, subst, arith}
-use Rattle.std.specs.Prelude.{nat_eq}
-use Rattle.sg_pool.specs.Order.{IsOrder, pins_of}
+use Rattle.std.proofs.Common.{ℕ, Bool, true, List, length, sym, ◌∙◌, subst, arith}
+use Rattle.sg_pool.specs.Order.{IsOrder}
 use Rattle.sg_pool.proofs.Ordering.{order_set}
 use Rattle.sg_pool.proofs.Slots.{frame_some}
 use Rattle.sg_pool.proofs.pool.Pool.pin.Goals as goal

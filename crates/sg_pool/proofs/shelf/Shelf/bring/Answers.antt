@@ -1,9 +1,8 @@
-use Rattle.std.proofs.Common.{◌≡◌, ◌<◌, ℕ, Option, Some, None, List, [], length, get_or, set, refl, sym, ◌∙◌, ap, subst, arith}
+use Rattle.std.proofs.Common.{Some, None, sym, ◌∙◌}
 use Rattle.std.proofs.lemmas.Result.{on_ok_weaker, IfErr-weaker}
 use Rattle.sg_base.specs.declared.area.Area.TheVariants.{Home}
 use Rattle.sg_gate.specs.Layout.{home_at}
-use Rattle.sg_pool.specs.Units.{page_at, Geometry, IsCleaned}
-use Rattle.sg_disk.specs.Disk.{Part, State}
+use Rattle.sg_pool.specs.Units.{page_at, IsCleaned}
 use Rattle.sg_pool.specs.Moments.{IsMoment, IsSameOrForced}
 use Rattle.sg_pool.specs.Held.{page_in}
 use Rattle.sg_pool.specs.Shelves.{geometry_of, units, lasts, LoadFails, BringFails}

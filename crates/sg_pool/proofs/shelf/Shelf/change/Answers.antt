@@ -1,7 +1,6 @@
-use Rattle.std.proofs.Common.{◌≡◌, ◌<◌, ℕ, Option, Some, None, List, [], length, get_or, set, refl, sym, ◌∙◌, ap, subst, arith}
+use Rattle.std.proofs.Common.{◌≡◌, ℕ, Some, List, [], length, get_or, set, refl, sym, ◌∙◌, ap, arith}
 use Rattle.std.specs.List.{refill, length_refill}
 use Rattle.sg_pool.specs.declared.slot.Slot.{Slot}
-use Rattle.sg_pool.specs.Held.{no_slot}
 use Rattle.sg_pool.proofs.Slots.{slot_at, none_is_some}
 use Rattle.sg_pool.proofs.Changing.{shelf_cleaned, shelf_frame}
 use Rattle.sg_pool.proofs.Changes.{slots_not, slots_done}

@@ -1,6 +1,5 @@
-use Rattle.std.proofs.Common.{◌≡◌, ◌⊎◌, ⊎_elim, ◌<◌, inl, inr, ℕ, Option, Some, None, List, [], length, get_or, set, refl, sym, ◌∙◌, ap, subst, arith}
+use Rattle.std.proofs.Common.{◌≡◌, ℕ, Option, None, get_or, set, refl, sym, ap, subst}
 use Rattle.sg_base.specs.declared.area.Area.TheVariants.{Home}
-use Rattle.sg_disk.specs.Disk.{Part}
 use Rattle.sg_pool.specs.Units.{IsBacked, IsCleaned}
 use Rattle.sg_pool.specs.Frames.{units_of}
 use Rattle.sg_pool.specs.declared.slot.Slot.{Slot}

@@ -1,4 +1,4 @@
-use Rattle.std.proofs.Common.{◌≡◌, ◌<◌, ℕ, Option, Some, None, List, length, get_or, sym, ◌∙◌, ap, arith}
+use Rattle.std.proofs.Common.{◌≡◌, get_or, sym, ◌∙◌, ap, arith}
 use Rattle.sg_pool.specs.declared.slot.Slot.{Slot}
 use Rattle.sg_pool.specs.Held.{no_slot}
 use Rattle.sg_pool.proofs.Slots.{slot_at}

@@ -1,11 +1,10 @@
-use Rattle.std.proofs.Common.{◌≡◌, ◌⊎◌, ◌<◌, inl, inr, ℕ, Option, Some, List, ◌++◌, [], length, refl, sym, ◌∙◌, ap, subst}
+use Rattle.std.proofs.Common.{◌≡◌, ◌<◌, inl, inr, ℕ, ◌++◌, [], sym, ◌∙◌, ap, subst}
 use Rattle.sg_base.specs.declared.area.Area.TheVariants.{Home}
 use Rattle.sg_base.specs.Page.{lsn_of}
-use Rattle.sg_disk.specs.Disk.{Image, Part}
+use Rattle.sg_disk.specs.Disk.{Image}
 use Rattle.sg_disk.proofs.Moments.{weaker, joined}
 use Rattle.sg_gate.specs.Batch.{IsReady}
-use Rattle.sg_log.specs.Frames.{Numbered}
-use Rattle.sg_log.specs.Held.{Tail, Holds, forced, tail_of}
+use Rattle.sg_log.specs.Held.{Tail, Holds, tail_of}
 use Rattle.sg_pool.specs.Shelves.{geometry_of, units, lasts}
 use Rattle.sg_pool.proofs.Settling.{stands, gate_forced}
 use Rattle.sg_pool.proofs.Flushed.{batch_goes}

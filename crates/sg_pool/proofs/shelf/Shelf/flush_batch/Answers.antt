@@ -1,4 +1,4 @@
-use Rattle.std.proofs.Common.{◌≡◌, ◌⊎◌, ⊎_elim, inl, inr, ◌<◌, ◌≤◌, ℕ, List, length, refl, sym, ◌∙◌, ap, subst}
+use Rattle.std.proofs.Common.{⊎_elim, inl, inr}
 use Rattle.sg_base.specs.declared.area.Area.TheVariants.{Home}
 use Rattle.std.proofs.lemmas.Bool.{cases_lt}
 use Rattle.sg_pool.specs.Shelves.{geometry_of}

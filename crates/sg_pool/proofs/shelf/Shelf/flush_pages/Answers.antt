@@ -1,6 +1,4 @@
-use Rattle.std.proofs.Common.{◌≡◌, ◌⊎◌, ◌<◌, ◌≤◌, ℕ, length, refl, sym, ◌∙◌, ap, arith}
-use Rattle.sg_pool.specs.Shelves.{geometry_of, units}
-use Rattle.sg_pool.proofs.Flushing.{flushing_starts, flushing_next, run_on, all_clear}
+use Rattle.sg_pool.proofs.Flushing.{flushing_starts, flushing_next, run_on}
 use Rattle.sg_pool.proofs.shelf.Shelf.flush_pages.Goals as goal
 
 pub batches-init : goal.batches-init

@@ -1,4 +1,4 @@
-use Rattle.std.proofs.Common.{◌≡◌, ◌-◌, ℕ, length}
+use Rattle.std.proofs.Common.{◌-◌}
 use Rattle.sg_pool.proofs.Flushing.{IsFlushing}
 use Rattle.sg_pool.proofs.shelf.Shelf.flush_pages.Given as goal
 

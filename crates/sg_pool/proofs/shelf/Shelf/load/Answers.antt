@@ -1,9 +1,9 @@
-use Rattle.std.proofs.Common.{◌≡◌, ◌<◌, ℕ, Option, Some, None, List, [], length, get_or, set, refl, sym, ◌∙◌, ap, subst, arith, length-set}
+use Rattle.std.proofs.Common.{◌<◌, ℕ, Some, None, List, length, sym, ◌∙◌, ap, subst, arith, length-set}
 use Rattle.sg_base.specs.declared.area.Area.TheVariants.{Home}
-use Rattle.sg_disk.specs.Disk.{Part, State}
+use Rattle.sg_disk.specs.Disk.{State}
 use Rattle.sg_pool.specs.Units.{Geometry}
-use Rattle.sg_pool.specs.Shelves.{geometry_of, units}
-use Rattle.sg_pool.proofs.Changing.{empty, loaded, empty_backed, empty_cleaned, loaded_backed, loaded_cleaned, twice}
+use Rattle.sg_pool.specs.Shelves.{geometry_of}
+use Rattle.sg_pool.proofs.Changing.{empty_backed, empty_cleaned, loaded_backed, loaded_cleaned, twice}
 use Rattle.sg_pool.specs.declared.slot.Slot.{Slot}
 use Rattle.sg_pool.specs.Held.{no_slot, frame_of, page_in}
 use Rattle.sg_pool.proofs.Slots.{page_here}

@@ -1,4 +1,4 @@
-use Rattle.std.proofs.Common.{◌≡◌, ℕ, length, sym, ◌∙◌}
+use Rattle.std.proofs.Common.{sym, ◌∙◌}
 use Rattle.sg_pool.proofs.Fresh.{shelf_new}
 use Rattle.sg_pool.proofs.shelf.Shelf.new.Goals as goal
 

@@ -1,4 +1,4 @@
-use Rattle.std.proofs.Common.{◌≡◌, ◌<◌, ℕ, List, [], length, get_or, set, sym, ◌∙◌, ap, subst, arith}
+use Rattle.std.proofs.Common.{◌≡◌, ℕ, List, [], length, get_or, set, sym, ◌∙◌, ap, subst, arith}
 use Rattle.sg_disk.specs.Disk.{window}
 use Rattle.sg_pool.specs.Units.{page_at}
 use Rattle.std.proofs.lemmas.Result.{on_ok_weaker}
