@@ -1,8 +1,9 @@
 -- The units of a store: what is in each page and band, whether memory holds it or the home area, and how it stands to the disk.
 use Rattle.std.specs.Prelude.{◌≡◌, ◌⊎◌, ◌<◌, ◌+◌, ℕ, Bool, true, false, Option, Some, None, List}
 use Rattle.sg_base.specs.Page.{lsn_of}
+use Rattle.sg_base.specs.declared.page.TheConstants.{BAND_SIZE}
 use Rattle.sg_disk.specs.Disk.{Bytes, Part, window}
-use Rattle.sg_gate.specs.Layout.{PAGE, BAND, home_at, band_at}
+use Rattle.sg_gate.specs.Layout.{PAGE, home_at, band_at}
 use Rattle.sg_gate.specs.Batch.{IsReady}
 
 -- how many pages and bands a store has
@@ -15,7 +16,7 @@ abbrev pub EachPage : Geometry → (ℕ → Type 0) → Type 0
 EachPage g P = (n : ℕ) → n < g.pages → P n
 
 abbrev pub EachByte : Geometry → (ℕ → ℕ → Type 0) → Type 0
-EachByte g P = (b i : ℕ) → b < g.bands → i < BAND → P b i
+EachByte g P = (b i : ℕ) → b < g.bands → i < BAND_SIZE → P b i
 
 -- the bytes of a page that begins here
 unfoldable pub page_at : Bytes → ℕ → List ℕ

@@ -58,6 +58,7 @@ impl Pool {
         // A home area that is ready backs it: it has all of the contents.
         ensures backed { IfOk result (λ pool. (v : View) → IsReady (v.now Home) → Backs (sizes pool) v pool) }
         ensures written { IfOk result (λ pool. (lsn : ℕ) → IsUnwritten pool lsn → ⊥) }
+        ensures bands { IfOk result (λ pool. (v : View) (b : ℕ) → (contents v pool).band_since b ≡ None) }
         ensures memory { IfErr result (λ e. e ≡ PoolFault.Memory) }
     {
         let cap = NonZeroUsize::new(geometry.frames as usize).unwrap();
@@ -88,6 +89,7 @@ impl Pool {
             OnTold result (Backs (sizes self.old) (D.view disk.new) self.new) }
         ensures same { IsTrue D.told → log.old.area ≢ Home → Backs (sizes self.old) (D.view disk.old) self.old →
             OnTold result (SameContents (D.view disk.old) self.old (D.view disk.new) self.new) }
+        ensures log_kept { (log.new ≡ log.old) ⊎ (log.new ≡ forced log.old) }
         ensures log { (ds ps : List Numbered) → IsTrue D.told → log.old.area ≢ Home → IsReady ((D.view disk.old).now Home) → Holds (D.view disk.old) log.old ds ps →
             OnTold result (IsSameOrForced (D.view disk.new) log.old log.new ds ps) }
         ensures moments { (ds ps : List Numbered) → IsTrue D.told → log.old.area ≢ Home → IsReady ((D.view disk.old).now Home) → Holds (D.view disk.old) log.old ds ps →
@@ -127,6 +129,7 @@ impl Pool {
         ensures* ends { sem 𝓛 (ends_as self.entry (IsLent D.told log.old.area (D.view disk.old) (D.view disk.new) p.0 result self.old)) }
         ensures bytes { IsTrue D.told → log.old.area ≢ Home → Backs (sizes self.old) (D.view disk.old) self.old →
             IfOk result (λ bytes. bytes.now ≡ (contents (D.view disk.old) self.old).page p.0) }
+        ensures log_kept { (log.new ≡ log.old) ⊎ (log.new ≡ forced log.old) }
         ensures log { (ds ps : List Numbered) → IsTrue D.told → log.old.area ≢ Home → IsReady ((D.view disk.old).now Home) → Holds (D.view disk.old) log.old ds ps →
             OnTold result (IsSameOrForced (D.view disk.new) log.old log.new ds ps) }
         // At each moment, faults included.
@@ -166,6 +169,7 @@ impl Pool {
             OnOk result (IsCleanedThenChanged (sizes self.old) p.0 (on_page (table_of record_meaning range_meaning ops.now) lsn (op_of op.now)) (contents (D.view disk.old) self.old) (contents (D.view disk.new) self.new)) }
         ensures refused { IsTrue D.told → log.old.area ≢ Home → Backs (sizes self.old) (D.view disk.old) self.old →
             OnErr result (OnTold result (SameContents (D.view disk.old) self.old (D.view disk.new) self.new)) }
+        ensures log_kept { (log.new ≡ log.old) ⊎ (log.new ≡ forced log.old) }
         ensures log { (ds ps : List Numbered) → IsTrue D.told → log.old.area ≢ Home → IsReady ((D.view disk.old).now Home) → Holds (D.view disk.old) log.old ds ps →
             OnTold result (IsSameOrForced (D.view disk.new) log.old log.new ds ps) }
         // At each moment, faults included.

@@ -23,6 +23,7 @@ pub(crate) fn make_durable<D: Disk>(disk: &mut D, log: &mut Log, lsn: u64) -> Re
     ensures log { (ds ps : List Numbered) → IsTrue D.told → Holds (D.view disk.old) log.old ds ps → OnOk result (IsSameOrForced (D.view disk.new) log.old log.new ds ps) }
     ensures elsewhere { IsTrue D.told → OnOk result (SameElsewhere log.old.area (D.view disk.old).now (D.view disk.new).now) }
     ensures any_moment { (ds ps : List Numbered) → IsTrue D.told → Holds (D.view disk.old) log.old ds ps → LeavesOnly (D.view disk.old) (D.view disk.new) (IsBeforeOrAfter (D.view disk.old).now log.old ds ps) }
+    ensures log_kept { (log.new ≡ log.old) ⊎ (log.new ≡ forced log.old) }
     ensures later { (D.view disk.old).faults ≤ (D.view disk.new).faults }
     ensures failed { OnErr result (HasRisen (D.view disk.old).faults (D.view disk.new).faults) }
     ensures fault { IfErr result (λ e. e ≡ PoolFault.Disk) }
@@ -51,6 +52,7 @@ pub(crate) fn settle<D: Disk>(
     ensures log { (ds ps : List Numbered) → IsTrue D.told → log.old.area ≢ Home → IsReady ((D.view disk.old).now Home) → Holds (D.view disk.old) log.old ds ps → OnOk result (IsSameOrForced (D.view disk.new) log.old log.new ds ps) }
     ensures moments { (ds ps : List Numbered) (g : Geometry) (last : ℕ → ℕ) (m : Units) → IsTrue D.told → log.old.area ≢ Home → IsReady ((D.view disk.old).now Home) → Holds (D.view disk.old) log.old ds ps → g.pages ≡ pages → m.page n ≡ page.now → lsn_of page.now < tail_of log.old →
         LeavesOnly (D.view disk.old) (D.view disk.new) (IsMoment g (D.view disk.old) log.old ds ps last m) }
+    ensures log_kept { (log.new ≡ log.old) ⊎ (log.new ≡ forced log.old) }
     ensures later { (D.view disk.old).faults ≤ (D.view disk.new).faults }
     ensures failed { OnErr result (HasRisen (D.view disk.old).faults (D.view disk.new).faults) }
     ensures fault { IfErr result (λ e. e ≡ PoolFault.Disk) }

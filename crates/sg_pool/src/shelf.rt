@@ -128,6 +128,7 @@ impl Shelf {
         ensures log { (ds ps : List Numbered) → IsTrue D.told → log.old.area ≢ Home → IsReady ((D.view disk.old).now Home) → Holds (D.view disk.old) log.old ds ps → OnOk result (IsSameOrForced (D.view disk.new) log.old log.new ds ps) }
         ensures moments { (ds ps : List Numbered) → IsTrue D.told → log.old.area ≢ Home → IsReady ((D.view disk.old).now Home) → Holds (D.view disk.old) log.old ds ps →
             IsBelow (geometry_of self.now) (tail_of log.old) (units_at (D.view disk.old) self.now) → LeavesOnly (D.view disk.old) (D.view disk.new) (IsMoment (geometry_of self.now) (D.view disk.old) log.old ds ps (lasts self.now) (units_at (D.view disk.old) self.now)) }
+        ensures log_kept { (log.new ≡ log.old) ⊎ (log.new ≡ forced log.old) }
         ensures later { (D.view disk.old).faults ≤ (D.view disk.new).faults }
         ensures failed { OnErr result (HasRisen (D.view disk.old).faults (D.view disk.new).faults) }
         ensures fault { IfErr result (λ e. e ≡ PoolFault.Disk) }
@@ -161,6 +162,7 @@ impl Shelf {
         ensures log { (ds ps : List Numbered) → IsTrue D.told → log.old.area ≢ Home → IsReady ((D.view disk.old).now Home) → Holds (D.view disk.old) log.old ds ps → OnOk result (IsSameOrForced (D.view disk.new) log.old log.new ds ps) }
         ensures moments { (ds ps : List Numbered) → IsTrue D.told → log.old.area ≢ Home → IsReady ((D.view disk.old).now Home) → Holds (D.view disk.old) log.old ds ps →
             IsBelow (geometry_of self.old) (tail_of log.old) (units_at (D.view disk.old) self.old) → LeavesOnly (D.view disk.old) (D.view disk.new) (IsMoment (geometry_of self.old) (D.view disk.old) log.old ds ps (lasts self.old) (units_at (D.view disk.old) self.old)) }
+        ensures log_kept { (log.new ≡ log.old) ⊎ (log.new ≡ forced log.old) }
         ensures later { (D.view disk.old).faults ≤ (D.view disk.new).faults }
         ensures failed { OnErr result (HasRisen (D.view disk.old).faults (D.view disk.new).faults) }
         ensures fault { IfErr result (λ e. e ≡ PoolFault.Disk) }
@@ -242,6 +244,7 @@ impl Shelf {
             IsBelow (geometry_of self.old) (tail_of log.old) (units_at (D.view disk.old) self.old) → LeavesOnly (D.view disk.old) (D.view disk.new) (IsMoment (geometry_of self.old) (D.view disk.old) log.old ds ps (lasts self.old) (units_at (D.view disk.old) self.old)) }
         ensures well { IsTrue D.told → log.old.area ≢ Home → IsBackedAt (geometry_of self.old) (D.view disk.old) self.old →
             OnOk result (IsWell ((units_at (D.view disk.old) self.old).page p)) }
+        ensures log_kept { (log.new ≡ log.old) ⊎ (log.new ≡ forced log.old) }
         ensures later { (D.view disk.old).faults ≤ (D.view disk.new).faults }
         ensures faults { IfErr result (λ e. BringFails D.told log.old.area p (D.view disk.old) (D.view disk.new) self.old e) }
     {

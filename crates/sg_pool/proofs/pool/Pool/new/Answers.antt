@@ -2,6 +2,7 @@ use Rattle.std.proofs.Common.{rules, ◌≡◌, ℕ, Bool, List, length, sym, �
 use Rattle.std.proofs.lemmas.List.{length-replicate}
 use Rattle.sg_base.specs.declared.area.Area.TheVariants.{Home}
 use Rattle.sg_gate.proofs.Fields.{in_range}
+use Rattle.sg_pool.specs.Frames.{band_since_in}
 use Rattle.sg_pool.specs.Held.{no_slot}
 use Rattle.sg_pool.specs.Order.{IsOrder, below}
 use Rattle.sg_pool.specs.Shelves.{geometry_of}
@@ -26,3 +27,6 @@ returns-in-Ok-new-clause-backed c v ready = let s = c.in-Ok-new.shelf in fresh_b
 
 pub returns-in-Ok-new-clause-written : goal.returns-in-Ok-new-clause-written
 returns-in-Ok-new-clause-written c lsn has = let s = c.in-Ok-new.shelf in fresh_written c.args.geometry.now.frames s.slots.items s.wins.items s.frames c.in-Ok-new.ensures.slots c.in-Ok-new.ensures.wins has.0 lsn has.2
+
+pub returns-in-Ok-new-clause-bands : goal.returns-in-Ok-new-clause-bands
+returns-in-Ok-new-clause-bands c v b = let s = c.in-Ok-new.shelf in ap (band_since_in s.wins.items) (c.in-Ok-new.ensures.wins b)
