@@ -26,4 +26,6 @@ pub use opening::{OpenRefused, Unopened};
 pub use store::Store;
 
 #[cfg(test)]
+mod hostile_tests;
+#[cfg(test)]
 mod tests;
