@@ -53,7 +53,7 @@ live_named live name = find (λ l. bytes_eq name l.name) live
 abbrev pub TakesMemory : Op → Type 0
 TakesMemory op = Grows op ⊎ IsTrue (is_changing op)
 
--- a line that takes memory. A commit and an abort make objects anew
+-- a line that takes memory. A commit takes room for its lines, and an abort makes objects anew
 abbrev pub MayLackMemory : Asked → Type 0
 MayLackMemory Blank = ⊥
 MayLackMemory Wrong = ⊥
