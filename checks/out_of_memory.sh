@@ -58,15 +58,15 @@ judge() {
 
 # The first is a request for the words, the second that for the folder's path, the third one of the opening, and the last
 # one that for the array.
-for request in 2 8 10 14; do
+for request in 2 13 16 25; do
     run_refusing "$request" &
 done
 wait
 
 judge "at the words" 2 3 "stasis: out of memory" "" none
-judge "at the folder's path" 8 4 "stasis: disk fault" "" none
-judge "in the opening" 10 3 "stasis: out of memory" "" none
-judge "in the line that makes the array" 14 0 "" "ok
+judge "at the folder's path" 13 4 "stasis: disk fault" "" none
+judge "in the opening" 16 3 "stasis: out of memory" "" none
+judge "in the line that makes the array" 25 0 "" "ok
 error memory
 error no-object
 error no-object
