@@ -11,3 +11,6 @@ mod fnv;
 
 pub use extent::Extent;
 pub use fnv::fnv_1a;
+
+#[cfg(test)]
+mod tests;
