@@ -1,7 +1,7 @@
 #!/usr/bin/env bash
 # Prints what a push and a get of an array cost, in a space in memory, at 1,000 items up to 1,000,000. An item has 8 bytes. The
 # gets go to drawn places. The program is written here, into a copy of the crates that it stands on, proved there, and
-# built. The crates are to be checked before (`rt check` in each, or `.ci/run`).
+# built. The crates are to be checked before (`rt check` in each, or `.ci/run`). This script was not run yet.
 set -eu
 top="$(cd "$(dirname "$(readlink -f "${BASH_SOURCE[0]}")")/.." && pwd)"
 folder="$(mktemp -d)"
