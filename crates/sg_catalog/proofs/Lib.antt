@@ -3,7 +3,6 @@ pub mod Bytes
 pub mod Pages
 pub mod Parts
 pub mod Walks
-pub mod Changing
 pub mod Places
 pub mod Turned
 pub mod Rows

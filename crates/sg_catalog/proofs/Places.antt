@@ -21,7 +21,7 @@ use Rattle.sg_catalog.specs.Steps.{IsSpot, RawTurns, with_place}
 use Rattle.sg_catalog.specs.declared.look.Spot.{Spot}
 use Rattle.sg_catalog.specs.declared.row.Row.{Row}
 use Rattle.sg_catalog.proofs.Bytes.{length-row, name_short}
-use Rattle.sg_catalog.proofs.Changing.{stored_most}
+use Rattle.sg_space.proofs.Links.{stored_most}
 use Rattle.sg_catalog.proofs.Parts.{part_inside, page_here}
 
 -- a sheet with another row, or none, in one slot

@@ -21,7 +21,7 @@ use Rattle.sg_catalog.specs.Steps.{IsSpot, RawTurns, with_place, HasRow, HasRowO
 use Rattle.sg_catalog.specs.declared.look.Spot.{Spot}
 use Rattle.sg_catalog.specs.declared.row.Row.{Row}
 use Rattle.sg_catalog.proofs.Bytes.{length-row}
-use Rattle.sg_catalog.proofs.Changing.{set_possible, put_possible, remove_possible, keeps_but}
+use Rattle.sg_space.proofs.Changing.{set_possible, put_possible, remove_possible, keeps_but}
 use Rattle.sg_catalog.proofs.Parts.{page_here}
 use Rattle.sg_catalog.proofs.Places.{IsPlaced, place_raw, page_changed, placed_bytes, page_sizes, set_placed, clear_placed, put_placed}
 

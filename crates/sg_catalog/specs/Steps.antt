@@ -1,7 +1,6 @@
 -- What the steps of a call on the catalogue want and do. Between them there may be more rows than the peak says.
-use Rattle.std.specs.Prelude.{◌≡◌, ◌≢◌, ℕ, ◌+◌, ◌-◌, ◌*◌, ◌<◌, ◌≤◌, Bool, List, ◌++◌, ◌∷◌, [], take, drop, replicate, length, slice_get, slice_index, slice_set, Option, Some, None, MatchOption, Result, IfErr}
+use Rattle.std.specs.Prelude.{◌≡◌, ◌≢◌, ℕ, ◌+◌, ◌-◌, ◌*◌, ◌<◌, ◌≤◌, Bool, List, ◌++◌, ◌∷◌, [], take, drop, replicate, length, slice_get, slice_index, slice_set, Option, Some, None, MatchOption}
 use Rattle.std.specs.List.{find}
-use Rattle.sg_base.specs.Ends.{HasRisen}
 use Rattle.sg_base.specs.Sheet.{Sheet}
 use Rattle.sg_base.specs.Slots.{IsFree}
 use Rattle.sg_base.specs.declared.numbers.PageNo.{PageNo}
@@ -9,10 +8,7 @@ use Rattle.sg_ops.specs.Table.{Table}
 use Rattle.sg_space.specs.Owned.{Grows}
 use Rattle.sg_space.specs.Units.{HasAt, IsChanged}
 use Rattle.sg_space.specs.View.{View, Space, Keeps, MayFill}
-use Rattle.sg_space.specs.declared.space.SpaceFault.TheVariants.{Disk, LogEnd}
 use Rattle.sg_catalog.specs.Look.{names_of}
-use Rattle.sg_catalog.specs.declared.page.ListFault.{ListFault}
-use Rattle.sg_catalog.specs.declared.page.ListFault.TheVariants.{Space as InSpace}
 use Rattle.sg_catalog.specs.Catalog.{Catalog, IsRaw, IsCatalog, Owns, row_at, filled, rows}
 use Rattle.sg_catalog.specs.declared.look.Header.{Header}
 use Rattle.sg_catalog.specs.declared.look.Measure.{Measure}
@@ -85,14 +81,6 @@ Searched p c found = MatchOption found (find p (rows c) ≡ None) (IsFound p c)
 pub record GathersPage (c : Catalog) (j : ℕ) (old new : List (List ℕ)) (head : Header) : Type 0 where
   pub header : IsHeader c j head
   pub names : new ≡ old ++ names_of (filled (part j c.places))
-
--- no call makes the count of faults less, and none fails without a cause, of those that take memory too
-pub record CountsList {T : Type 0} (old new : View) (result : Result T ListFault) : Type 0 where
-  -- a space that isn't told is never told later
-  pub told : new.Told → old.Told
-  pub later : old.faults ≤ new.faults
-  pub disk : IfErr result (λ e. e ≡ InSpace Disk → HasRisen old.faults new.faults)
-  pub log_end : IfErr result (λ e. e ≡ InSpace LogEnd → new.IsNearEnd)
 
 -- a place that is free, and its slot may be filled
 pub record IsFreeSpot (pages : ℕ → Option Sheet) (c : Catalog) (spot : Spot) : Type 0 where

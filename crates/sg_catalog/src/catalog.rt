@@ -5,19 +5,18 @@ ghost use Rattle.sg_catalog.specs.Calls.{HasCatalog, IfCatalog, DidIf, ShrankIf,
 ghost use Rattle.sg_catalog.specs.Catalog.{there, buried, rows, is_there, is_tomb_at};
 ghost use Rattle.sg_catalog.specs.Look.{fits, names_of};
 ghost use Rattle.sg_catalog.specs.Row.{entry_of};
-ghost use Rattle.sg_catalog.specs.Steps.{CountsList};
+ghost use Rattle.sg_space.specs.Listing.{CountsList};
 ghost use Rattle.sg_space.specs.View.{Counts, OnlyReads};
 
 use crate::change::{clear_row, set_row};
 use crate::grow::{place_row, raise_peak};
 use crate::look::Found;
-use crate::page::ListFault;
 use crate::row::{Entry, Row};
 use crate::walk::{list_all, search, survey_pages};
 use crate::wanted::Wanted;
 use sg_base::{Name, PageNo, TxnId};
 use sg_ops::Ops;
-use sg_space::{PageSpace, SpaceFault};
+use sg_space::{ListFault, PageSpace, SpaceFault};
 use std::alloc::Global;
 
 // As many rows as a peak can't count.

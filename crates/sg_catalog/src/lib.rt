@@ -17,5 +17,4 @@ mod walk;
 mod wanted;
 
 pub use catalog::{add, bury, find, forget, names, next_buried, remove, unbury};
-pub use page::ListFault;
 pub use row::{Entry, ObjectKind};

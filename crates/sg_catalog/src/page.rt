@@ -1,14 +1,15 @@
 // One page of the catalogue in a space.
 ghost use Rattle.std.specs.Prelude.{◌≡◌, ◌<◌, ◌≤◌, IfOk, OnOk, length};
 ghost use Rattle.sg_catalog.specs.Look.{fits};
-ghost use Rattle.sg_catalog.specs.Steps.{HasRaw, IfPage, SeesPage, MeasuresPage, GathersPage, CountsList};
+ghost use Rattle.sg_catalog.specs.Steps.{HasRaw, IfPage, SeesPage, MeasuresPage, GathersPage};
 ghost use Rattle.sg_catalog.specs.Catalog.{Owns};
+ghost use Rattle.sg_space.specs.Listing.{CountsList};
 ghost use Rattle.sg_space.specs.View.{Counts, OnlyReads};
 
 use crate::look::{Broken, Header, Measured, Seen, Unlisted, list_page, read_measure, see};
 use crate::wanted::Wanted;
 use sg_base::{Name, PageNo};
-use sg_space::{PageSpace, SpaceFault};
+use sg_space::{ListFault, PageSpace, SpaceFault};
 
 /// What a search sees of a page.
 pub fn look<P: PageSpace>(space: &mut P, p: PageNo, wanted: &Wanted) -> Result<Seen, SpaceFault>
@@ -40,15 +41,6 @@ pub fn measure<P: PageSpace>(space: &mut P, p: PageNo) -> Result<Measured, Space
     }
 }
 
-/// Why the names aren't listed.
-#[derive(Clone, Copy, Debug, PartialEq, Eq)]
-pub enum ListFault {
-    /// A call of the space failed, or what was read can't be.
-    Space(SpaceFault),
-    /// Memory was refused.
-    Memory,
-}
-
 /// Puts the names of a page's objects behind those that there are, and answers what it says beside
 /// its rows.
 pub fn gather<P: PageSpace>(
@@ -62,13 +54,10 @@ pub fn gather<P: PageSpace>(
     ensures read { IfOk result (λ head. IfPage (P.view space.old) p.0
         (λ c j. GathersPage c j names.old.items names.new.items head)) }
 {
-    let view = match space.page(p) {
-        Ok(view) => view,
-        Err(fault) => return Err(ListFault::Space(fault)),
-    };
+    let view = space.page(p)?;
     match list_page(&view, names) {
         Ok(head) => Ok(head),
         Err(Unlisted::Memory) => Err(ListFault::Memory),
-        Err(Unlisted::Broken) => Err(ListFault::Space(space.broken())),
+        Err(Unlisted::Broken) => Err(space.broken().into()),
     }
 }

@@ -3,14 +3,15 @@ ghost use Rattle.std.specs.Prelude.{◌≡◌, ◌+◌, ◌-◌, ◌*◌, ◌/�
 ghost use Rattle.sg_catalog.specs.Calls.{HasCatalog, IfCatalog};
 ghost use Rattle.sg_catalog.specs.Look.{fits, names_of};
 ghost use Rattle.sg_catalog.specs.Catalog.{rows};
-ghost use Rattle.sg_catalog.specs.Steps.{Searched, Surveyed, IsSurveyedOn, CountsList};
+ghost use Rattle.sg_catalog.specs.Steps.{Searched, Surveyed, IsSurveyedOn};
+ghost use Rattle.sg_space.specs.Listing.{CountsList};
 ghost use Rattle.sg_space.specs.View.{Counts, OnlyReads};
 
 use crate::look::{Found, Measure, Spot};
-use crate::page::{ListFault, gather, look, measure};
+use crate::page::{gather, look, measure};
 use crate::wanted::Wanted;
 use sg_base::{Name, PageNo};
-use sg_space::{PageSpace, SpaceFault};
+use sg_space::{ListFault, PageSpace, SpaceFault};
 use std::alloc::Global;
 
 /// The first page.
@@ -123,13 +124,13 @@ pub fn list_all<P: PageSpace>(space: &mut P, alloc: Global) -> Result<Vec<Name>,
     let pages = pages_for(first.peak);
     'pages: for _ in 1..pages {
         if next == FIRST {
-            return Err(ListFault::Space(space.broken()));
+            return Err(space.broken().into());
         }
         let head = gather(space, next, &mut all)?;
         next = head.next;
     }
     if next != FIRST {
-        return Err(ListFault::Space(space.broken()));
+        return Err(space.broken().into());
     }
     Ok(all)
 }

@@ -8,3 +8,4 @@ pub mod Owned
 pub mod Reads
 pub mod Links
 pub mod Guarded
+pub mod Listing

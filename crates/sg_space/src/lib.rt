@@ -18,7 +18,7 @@ pub use cells::{read_cell, take_page_with};
 pub use guarded::Guarded;
 pub use memory::MemSpace;
 pub use note::UndoNote;
-pub use space::{PageSpace, SpaceFault};
+pub use space::{ListFault, PageSpace, SpaceFault};
 
 #[cfg(test)]
 mod tests;

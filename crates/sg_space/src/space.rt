@@ -21,6 +21,25 @@ pub enum SpaceFault {
     LogEnd,
 }
 
+/// Why a call that also takes memory failed.
+#[derive(Clone, Copy, Debug, PartialEq, Eq)]
+pub enum ListFault {
+    /// A call of the space failed, or what was read can't be.
+    Space(SpaceFault),
+    /// Memory was refused.
+    Memory,
+}
+
+impl From<SpaceFault> for ListFault {
+    ghost use Rattle.sg_space.specs.declared.space.ListFault.TheVariants.{Space};
+
+    ghost from_gives = { λ fault e. e ≡ Space fault };
+
+    fn from(fault: SpaceFault) -> ListFault {
+        ListFault::Space(fault)
+    }
+}
+
 /// Pages of slots, which are changed one operation at a time, and bands of 32,768 bytes, which are
 /// written in pieces of at most 8,192.
 ///

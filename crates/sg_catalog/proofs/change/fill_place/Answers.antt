@@ -1,5 +1,5 @@
 use Rattle.sg_ops.specs.Table.{table_of}
-use Rattle.sg_catalog.proofs.Changing.{put_keeps}
+use Rattle.sg_space.proofs.Changing.{put_keeps}
 use Rattle.sg_catalog.proofs.Turned.{fill_place_can, fill_place_turns}
 use Rattle.sg_catalog.proofs.change.fill_place.Goals as goal
 

@@ -12,8 +12,8 @@ pub broken-requires : goal.broken-requires
 broken-requires g c = λ told.
     let back = c.page.follows.holds-at-none.counts.told told in
     let h = c.requires back in
-    page_read (h.2).0 c.args.p.0 _ h.1 (h.2).1 (c.in-Ok.ensures.looked (g.met.P.PageSpace.told_shows _ back))
-    (subst (λ (e : Unlisted). IsNoList (sheet_of c.in-Ok.view.page.now) e) c.in-Err-Broken.field-0-is c.in-Err-Broken.ensures)
+    page_read (h.2).0 c.args.p.0 _ h.1 (h.2).1 (c.in_ok-view.ensures.looked (g.met.P.PageSpace.told_shows _ back))
+    (subst (λ (e : Unlisted). IsNoList (sheet_of c.in_ok-view.view.page.now) e) c.in-Err-Broken.field-0-is c.in-Err-Broken.ensures)
 
-pub returns-in-Ok-list_page-clause-read : goal.returns-in-Ok-list_page-clause-read
-returns-in-Ok-list_page-clause-read g c = λ shows d j h at. gathers_here j c.args.p.0 _ h at (c.in-Ok.ensures.looked shows) c.args.names.now.items c.list_page.new.names.items c.in-Ok-list_page.head c.in-Ok-list_page.ensures
+pub returns-in-Ok-clause-read : goal.returns-in-Ok-clause-read
+returns-in-Ok-clause-read g c = λ shows d j h at. gathers_here j c.args.p.0 _ h at (c.in_ok-view.ensures.looked shows) c.args.names.now.items c.list_page.new.names.items c.in-Ok.head c.in-Ok.ensures
