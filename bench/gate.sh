@@ -7,9 +7,9 @@
 # processes together, so that other work on the machine hardly changes it. Kept work does: rt begins a check with what checks of
 # the crate left in any copy of the repository on the machine. So measure where no other copy was checked.
 #
-# The gate proves a crate from nothing, and once more with its tests, and then tries its edits over one another's work,
-# the first one from nothing. So the last column is the first one twice (once where there are no tests), what the tests
-# add, and the edits.
+# The gate proves a crate from nothing, and tries its edits over one another's work, the first one from nothing too. A crate that has
+# tests it proves once more, with them. So the last column is the first one twice where there are tests, what the tests add,
+# and the edits. Most tests stand in crates of their own, whose first column is next to nothing.
 set -u
 top="$(cd "$(dirname "$(readlink -f "${BASH_SOURCE[0]}")")/.." && pwd)"
 copy="$(mktemp -d)"

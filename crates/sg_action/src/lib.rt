@@ -10,6 +10,3 @@ mod laws;
 
 pub use bands::write_and_take_off;
 pub use laws::{bytes_come_back, goes_on, takes_off};
-
-#[cfg(test)]
-mod band_tests;

@@ -11,6 +11,3 @@ mod maps;
 mod rows;
 
 pub use maps::{Maps, map_bands};
-
-#[cfg(test)]
-mod tests;

@@ -21,6 +21,3 @@ pub use analysis::{Analysis, analyse};
 pub use fault::AnalysisFault;
 pub use laws::{analyses_suffice, formed_logs_exist};
 pub use losers::Losers;
-
-#[cfg(test)]
-mod tests;

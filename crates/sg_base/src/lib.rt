@@ -36,8 +36,3 @@ pub use put::{put_text, put_u8, put_u16, put_u32, put_u64};
 pub use real::{ReadSource, WriteSink};
 pub use split::{split_text, split_u8, split_u16, split_u32, split_u64};
 pub use steps::Steps;
-
-#[cfg(test)]
-mod page_tests;
-#[cfg(test)]
-mod tests;

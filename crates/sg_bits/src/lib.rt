@@ -9,6 +9,3 @@ mod bits;
 mod word;
 
 pub use bits::{WORD_BITS, clear, is_full, is_set, next_clear, next_set, set};
-
-#[cfg(test)]
-mod tests;

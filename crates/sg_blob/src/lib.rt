@@ -13,6 +13,3 @@ mod walk;
 
 pub use blob::{bands, len, make, paint, read, restore_len, set_len, write};
 pub use free::free_all;
-
-#[cfg(test)]
-mod tests;

@@ -9,6 +9,3 @@
 mod txns;
 
 pub use txns::{MOST_LIVE, Txns};
-
-#[cfg(test)]
-mod tests;

@@ -19,6 +19,3 @@ pub use fuse::{Fuse, Origin, Unmarked};
 pub use memory::MemDisk;
 pub use record::{Call, CallKind};
 pub use sg_base::{Area, Failed};
-
-#[cfg(test)]
-mod tests;

@@ -26,6 +26,3 @@ mod table;
 pub use frames::Frames;
 pub use loan::Loan;
 pub use place::Place;
-
-#[cfg(test)]
-mod tests;

@@ -23,6 +23,3 @@ pub use laying::lay_over;
 pub use layout::{band_start, page_start, place_start};
 pub use slot::{read_super, renew};
 pub use superblock::Super;
-
-#[cfg(test)]
-mod tests;

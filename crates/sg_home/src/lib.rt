@@ -9,6 +9,3 @@
 mod home;
 
 pub use home::HomeSpace;
-
-#[cfg(test)]
-mod tests;

@@ -10,6 +10,3 @@ mod undo;
 
 pub use change::{Change, are_accepted, redo_all, redo_in_threads, redo_in_turn};
 pub use undo::redo_and_undo;
-
-#[cfg(test)]
-mod tests;

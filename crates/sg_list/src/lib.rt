@@ -13,6 +13,3 @@ mod two;
 
 pub use list::{count, get, make, push};
 pub use two::keep_two;
-
-#[cfg(test)]
-mod tests;

@@ -14,6 +14,3 @@ mod table;
 
 pub use locks::Locks;
 pub use table::{LockAnswer, MOST_HELD};
-
-#[cfg(test)]
-mod tests;

@@ -17,6 +17,3 @@ mod reading;
 pub use fault::LogFault;
 pub use log::Log;
 pub use place::Place;
-
-#[cfg(test)]
-mod tests;

@@ -28,6 +28,3 @@ pub const OPS_LIMIT: usize = 64;
 
 /// Where the positions of a range end: each byte that is rendered has a position below this.
 pub const RANGE_LIMIT: u32 = 16_384_000;
-
-#[cfg(test)]
-mod tests;

@@ -20,6 +20,3 @@ pub use blob::Blob;
 pub use object::Object;
 pub use objects::Objects;
 pub use table::Table;
-
-#[cfg(test)]
-mod tests;

@@ -21,6 +21,3 @@ pub use writer::{encode, size};
 
 // The bytes of a record's header.
 const HEADER_SIZE: usize = 21;
-
-#[cfg(test)]
-mod tests;

@@ -22,6 +22,3 @@ pub use kinds::{actions_are_taken_off, pages_last, records_keep};
 pub use locality::{CellGround, arrays_are_lawful, cells_are_lawful};
 pub use reopening::openings_keep;
 pub use walks::{notes_are_found, nothing_is_undone_twice, take_offs_find};
-
-#[cfg(test)]
-mod tests;

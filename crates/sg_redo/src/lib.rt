@@ -29,6 +29,3 @@ pub use place::Place;
 pub use replaying::replay;
 pub use unit::Unit;
 pub use window::{BandChange, apply_window};
-
-#[cfg(test)]
-mod tests;

@@ -18,6 +18,3 @@ mod window;
 
 pub use dirty::Dirty;
 pub use window::{WINDOW, blind_write};
-
-#[cfg(test)]
-mod tests;

@@ -19,6 +19,3 @@ pub use guarded::Guarded;
 pub use memory::MemSpace;
 pub use note::UndoNote;
 pub use space::{ListFault, PageSpace, SpaceFault};
-
-#[cfg(test)]
-mod tests;

@@ -11,6 +11,3 @@ mod take_off;
 
 pub use page::apply;
 pub use take_off::{brings_bytes, do_and_take_off, do_to_both};
-
-#[cfg(test)]
-mod tests;

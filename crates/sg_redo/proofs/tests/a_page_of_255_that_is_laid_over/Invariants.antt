@@ -1,4 +1,0 @@
-use Rattle.sg_redo.proofs.tests.a_page_of_255_that_is_laid_over.Given as goal
-
-abbrev pub ghosts-turned : goal.ghosts-turned
-ghosts-turned g a = record { name = a.blank.name; parts = a.blank.parts }
