@@ -22,10 +22,10 @@ use Rattle.sg_space.proofs.Putting.{cell-set_same, cell-set_other, cell-with_sam
 use Rattle.sg_bucket.specs.Bucket.{Bucket, IsLinked, part_at, HasEntry}
 use Rattle.sg_bucket.specs.Entry.{IsEntryCell, entry_in}
 use Rattle.sg_bucket.specs.Part.{AreEntries}
-use Rattle.sg_bucket.specs.Steps.{CanPut, CanPutAt, CanAppend, IsAdded, CanSet, IsSet, CanCut, IsCut, IsStanding, HasCellAt, IsFull, IsLast, Did, DidKeep, with_part, without, IsRemoved}
+use Rattle.sg_bucket.specs.Steps.{CanPut, CanPutAt, CanAppend, CanSet, IsSet, CanCut, IsCut, IsStanding, HasCellAt, IsFull, IsLast, Did, DidKeep, with_page, with_part, without, IsRemoved, IsPutAt, IsAppended}
 use Rattle.sg_bucket.specs.declared.walk.Place.{Place}
 use Rattle.sg_bucket.proofs.Entries.{put_exchanges, set_exchanges, part_exchanges, push_exchanges}
-use Rattle.sg_bucket.proofs.Linking.{part_changed, same_owned, with_page, appended, append_owned, cut_linked, cut_owned}
+use Rattle.sg_bucket.proofs.Linking.{part_changed, same_owned, appended, append_owned, cut_linked, cut_owned}
 
 -- an operation that doesn't shrink its page keeps what a caller relies on
 keeps_but : {t : Table} {v w : View} {p : ℕ} {op : Op} → Changed t v w p op → ((sheet : Sheet) → shrinks op sheet ≡ false) → Keeps v w
@@ -97,7 +97,7 @@ put_can {t} {v} {p = p} {slot = slot} {b = b} {cell = cell} h k =
         done = tt;
         short = omega arith;
         means = λ e. absurd (no e);
-        place = λ e. k.add.may_fill p (k.index, k.there) (length part.what.slots + 1) (small_directory part.what.slots slot cell e can);
+        place = λ e. k.may_fill p (k.index, k.there) (length part.what.slots + 1) (small_directory part.what.slots slot cell e can);
       };
     }
 
@@ -119,7 +119,7 @@ stays_put b i slot cell below free place other s = record {
     other_slot : cell_in (part_at b.parts i) place.slot ≡ Some other → place.slot ≢ slot
     other_slot there same = let none : cell_in (part_at b.parts i) place.slot ≡ None = ap (cell_in (part_at b.parts i)) same ∙ free.empty in cc
 
-pub put_did : {t : Table} {v w : View} {first p slot : ℕ} {cell : List ℕ} → IsEntryCell cell → Changed t v w p (Put slot cell) → DidKeep v w first (CanPutAt v (length cell) p slot) (IsAdded cell)
+pub put_did : {t : Table} {v w : View} {first p slot : ℕ} {cell : List ℕ} → IsEntryCell cell → Changed t v w p (Put slot cell) → DidKeep v w first (CanPutAt v (length cell) p slot) (IsPutAt cell p slot)
 put_did {t} {v} {w} {first} {p} {slot} {cell} entry c = record {
   keeps = λ told. keeps_but c (λ sheet. refl);
   turns = λ told b h k.
@@ -132,10 +132,13 @@ put_did {t} {v} {w} {first} {p} {slot} {cell} entry c = record {
           bands = c.bands told;
         },
         record {
-          exchanged = part_exchanges b.parts k.index (with_cell slots slot cell) [] (entry_in cell ∷ []) below (put_exchanges slots slot cell k.room.free);
-          full = full_with b k.index (with_cell slots slot cell) below (record { slot = slot; cell = cell; is = cell-with_same slots slot cell k.room.free.next });
-          stays = stays_put b k.index slot cell below k.room.free;
-          few = omega arith;
+          added = record {
+            exchanged = part_exchanges b.parts k.index (with_cell slots slot cell) [] (entry_in cell ∷ []) below (put_exchanges slots slot cell k.room.free);
+            full = full_with b k.index (with_cell slots slot cell) below (record { slot = slot; cell = cell; is = cell-with_same slots slot cell k.room.free.next });
+            stays = stays_put b k.index slot cell below k.room.free;
+            few = omega arith;
+          };
+          is = λ i e. ap (λ (n : ℕ). with_part n (with_cell (part_at b.parts n) slot cell) b) (h.apart k.index i p k.there e);
         },
       );
 }
@@ -288,7 +291,7 @@ stays_more b q cell h place other s =
 took_keeps : {v w : View} {kind p : ℕ} {cell : List ℕ} → TookWith v w kind cell p → Keeps v w
 took_keeps t = record { told = t.told; table = t.table; may_take = t.may_take; may_have = t.may_have }
 
-pub append_did : {t : Table} {v x w : View} {first last q : ℕ} {cell : List ℕ} → IsEntryCell cell → TookWith v x 6 cell q → Changed t x w last (Links (q, 0)) → DidKeep v w first (CanAppend v last) (IsAdded cell)
+pub append_did : {t : Table} {v x w : View} {first last q : ℕ} {cell : List ℕ} → IsEntryCell cell → TookWith v x 6 cell q → Changed t x w last (Links (q, 0)) → DidKeep v w first (CanAppend v last) (IsAppended w cell q)
 append_did {t} {v} {x} {w} {first} {last} {q} {cell} entry took c = record {
   keeps = λ told. keeps_then (took_keeps took) (keeps_but c (λ sheet. refl));
   turns = λ told b h k.
@@ -300,10 +303,14 @@ append_did {t} {v} {x} {w} {first} {last} {q} {cell} entry took c = record {
           bands = c.bands there ∙ took.bands told;
         },
         record {
-          exchanged = push_exchanges b.parts cell;
-          full = full_more b q cell h.long;
-          stays = stays_more b q cell h;
-          few = let long = length_push b.pages q in omega arith;
+          added = record {
+            exchanged = push_exchanges b.parts cell;
+            full = full_more b q cell h.long;
+            stays = stays_more b q cell h;
+            few = let long = length_push b.pages q in omega arith;
+          };
+          is = refl;
+          may_fill = λ n le. (keeps_but c (λ sheet. refl)).may_have q n (took.may_fill told n le);
         },
       );
 }

@@ -10,5 +10,11 @@ pub mod Fuel
 pub mod Owning
 pub mod Removing
 pub mod Mapping
+pub mod Stripping
 pub mod Freeing
+pub mod Passing
+pub mod Copying
+pub mod Extending
+pub mod Listed
 pub mod Few
+pub mod Filters

@@ -15,7 +15,7 @@ use Rattle.sg_space.proofs.Putting.{slice_get-push_same, slice_get-push_other}
 use Rattle.sg_bucket.specs.Bucket.{Bucket, IsLinked, IsPart, part_at, OwnsPage}
 use Rattle.sg_bucket.specs.Entry.{IsEntryCell}
 use Rattle.sg_bucket.specs.Part.{AreEntries}
-use Rattle.sg_bucket.specs.Steps.{IsLast, CanCut, with_part, without}
+use Rattle.sg_bucket.specs.Steps.{IsLast, CanCut, with_page, with_part, without}
 
 -- a page with this part, whatever its slots are called
 same_part : {at : ℕ → Option Sheet} {p n m : ℕ} {slots other : Slots} → n ≡ m → slots ≡ other → HasAt at p (IsPart n slots) → HasAt at p (IsPart m other)
@@ -72,10 +72,6 @@ same_owned i {old} {new} {p} b b' same e c = record {
   exactly = let free = c.free in let long : length b'.pages ≡ length b.pages = ap (λ (xs : List ℕ). length xs) same in omega arith;
   all = c.count;
 }
-
--- a page more, behind the last
-abbrev pub with_page : ℕ → List ℕ → Bucket → Bucket
-with_page q cell b = record { pages = b.pages ++ (q ∷ []); parts = b.parts ++ ((Some cell ∷ []) ∷ []) }
 
 pub one_entry : (cell : List ℕ) → IsEntryCell cell → AreEntries (Some cell ∷ [])
 one_entry cell h zero other e = subst (λ (c : List ℕ). IsEntryCell c) (same_some _ _ e) h

@@ -57,37 +57,37 @@ taken_out_first {first = first} {b = b} {b' = b'} {place = place} h k same r = s
     zero_is = h.apart k.stands.index 0 first (k.stands.page ∙ ap Some same) h.starts
 
 -- where no entry is left on a later page, it may be cut
-pub cut_ready : {at at' : ℕ → Option Sheet} {first : ℕ} {b b' : Bucket} {place : Place} {next : PageNo} {o : Option PageNo} → IsLinked at first b → (k : HasCellAt place b) → place.page.0 ≢ first → IsRemoved place b b' → IsLinked at' first b' → o ≡ Some next → HasAt at' place.page.0 (IsEmptied o) → CanCut place.before.0 place.page.0 next.0 b'
-cut_ready {at' = at'} {first = first} {b = b} {b' = b'} {place = place} {next = next} h k other r h' e seen = by k.stands.index refl
+pub cut_ready_at : {at at' : ℕ → Option Sheet} {first before page index : ℕ} (slots : Slots) {b b' : Bucket} {next : PageNo} {o : Option PageNo} → IsLinked at first b → slice_get b.pages index ≡ Some page → ((i : ℕ) → index ≡ i + 1 → slice_get b.pages i ≡ Some before) → page ≢ first → b' ≡ with_part index slots b → IsLinked at' first b' → o ≡ Some next → HasAt at' page (IsEmptied o) → CanCut before page next.0 b'
+cut_ready_at {at' = at'} {first = first} {before = before} {page = page} {index = index} slots {b = b} {b' = b'} {next = next} h there behind other is h' e seen = by index refl
   where
-    is : b' ≡ with_part k.stands.index (left_slots b place k.stands.index) b
-    is = r.is k.was k.stands
-
     same_pages : b'.pages ≡ b.pages
     same_pages = ap (λ (x : Bucket). x.pages) is
 
-    page_at : (i : ℕ) → k.stands.index ≡ i → slice_get b'.pages i ≡ Some place.page.0
-    page_at i at_i = ap (λ (xs : List ℕ). slice_get xs i) same_pages ∙ (ap (slice_get b.pages) (sym at_i) ∙ k.stands.page)
+    page_at : (i : ℕ) → index ≡ i → slice_get b'.pages i ≡ Some page
+    page_at i at_i = ap (λ (xs : List ℕ). slice_get xs i) same_pages ∙ (ap (slice_get b.pages) (sym at_i) ∙ there)
 
-    here : HasAt at' place.page.0 (IsEmptied (Some next))
-    here = subst (λ (o : Option PageNo). HasAt at' place.page.0 (IsEmptied o)) e seen
+    here : HasAt at' page (IsEmptied (Some next))
+    here = subst (λ (o : Option PageNo). HasAt at' page (IsEmptied o)) e seen
 
-    by : (i : ℕ) → k.stands.index ≡ i → CanCut place.before.0 place.page.0 next.0 b'
+    by : (i : ℕ) → index ≡ i → CanCut before page next.0 b'
     by zero at_i = absurd (other (first_is at_i))
       where
-        first_is : k.stands.index ≡ 0 → place.page.0 ≡ first
+        first_is : index ≡ 0 → page ≡ first
         first_is at_i = let one = page_at 0 at_i in let two = h'.starts in cc
     by (suc i) at_i =
-        let at_one : k.stands.index ≡ i + 1 = omega arith in
-        let part = h'.part (i + 1) place.page.0 (page_at (i + 1) at_one) in
+        let at_one : index ≡ i + 1 = omega arith in
+        let part = h'.part (i + 1) page (page_at (i + 1) at_one) in
         let looked = both part here in
         record {
           index = i;
-          before_is = ap (λ (xs : List ℕ). slice_get xs i) same_pages ∙ k.stands.before i at_one;
+          before_is = ap (λ (xs : List ℕ). slice_get xs i) same_pages ∙ behind i at_one;
           page_is = page_at (i + 1) at_one;
           next_is = sym part.has.next_is ∙ looked.1;
           bare = subst IsBare part.has.slots_are looked.0;
         }
+
+pub cut_ready : {at at' : ℕ → Option Sheet} {first : ℕ} {b b' : Bucket} {place : Place} {next : PageNo} {o : Option PageNo} → IsLinked at first b → (k : HasCellAt place b) → place.page.0 ≢ first → IsRemoved place b b' → IsLinked at' first b' → o ≡ Some next → HasAt at' place.page.0 (IsEmptied o) → CanCut place.before.0 place.page.0 next.0 b'
+cut_ready {b = b} {place = place} h k other r h' e seen = cut_ready_at (left_slots b place k.stands.index) h k.stands.page k.stands.before other (r.is k.was k.stands) h' e seen
 
 -- and where the look found an entry, it's left
 pub entry_left : {at' : ℕ → Option Sheet} {first : ℕ} {b b' : Bucket} {place : Place} {o : Option PageNo} → (k : HasCellAt place b) → IsRemoved place b b' → IsLinked at' first b' → o ≡ None → HasAt at' place.page.0 (IsEmptied o) → HasEntry (part_at b'.parts k.stands.index)

@@ -11,7 +11,7 @@ use Rattle.sg_space.specs.Units.{HasAt}
 use Rattle.sg_space.specs.View.{View, Space, OnlyReads}
 use Rattle.sg_space.proofs.Known.{both, still, before, keeps_then}
 use Rattle.sg_bucket.specs.Bucket.{Bucket, IsLinked, IsPart}
-use Rattle.sg_bucket.specs.Steps.{CanPut, CanAdd, IsLast, IsRoom, Turns, DidKeep}
+use Rattle.sg_bucket.specs.Steps.{CanPut, CanPutAt, CanAdd, CanAppend, IsAdded, IsPutAt, IsAppended, IsLast, IsRoom, Turns, DidKeep}
 use Rattle.sg_bucket.specs.declared.room.Room.{Room}
 use Rattle.sg_bucket.specs.declared.room.Room.TheVariants as room
 use Rattle.sg_bucket.proofs.Walking.{IsWalked, index_past}
@@ -58,6 +58,20 @@ keep_after {v} {w} {x} {first} shows k d so = record {
       let one = d.turns (k.keeps.told told) b (still (λ (s : Space). IsLinked s.pages.at first b) k (shows told) h) (so told b h can) in
       (one.0, before (λ (s : Space). Turns s x.space first b one.0) k (shows told) one.1, one.2);
 }
+
+-- the same step, told otherwise
+pub keep_told : {v w : View} {first : ℕ} {Can Then : Bucket → Type 0} {Is Now : Bucket → Bucket → Type 0} → DidKeep v w first Then Is → (v.Told → (b : Bucket) → IsLinked v.space.pages.at first b → Can b → Then b) → (v.Told → (b b' : Bucket) → IsLinked v.space.pages.at first b → Can b → Turns v.space w.space first b b' → Is b b' → Now b b') → DidKeep v w first Can Now
+keep_told d so now = record {
+  keeps = d.keeps;
+  turns = λ told b h can. let one = d.turns told b h (so told b h can) in (one.0, one.1, now told b one.0 h can one.1 one.2);
+}
+
+-- a cell put is one added, and so is one on a page of its own
+pub put_added : {v w : View} {first size p slot : ℕ} {cell : List ℕ} → DidKeep v w first (CanPutAt v size p slot) (IsPutAt cell p slot) → DidKeep v w first (CanPutAt v size p slot) (IsAdded cell)
+put_added d = keep_told d (λ told b h can. can) (λ told b b' h can t put. put.added)
+
+pub append_added : {v w : View} {first last p : ℕ} {cell : List ℕ} → DidKeep v w first (CanAppend v last) (IsAppended w cell p) → DidKeep v w first (CanAppend v last) (IsAdded cell)
+append_added d = keep_told d (λ told b h can. can) (λ told b b' h can t more. more.added)
 
 -- the last page of the chain
 pub last_here : {at : ℕ → Option Sheet} {first i page before : ℕ} {b : Bucket} {P : Slots → Type 0} → IsLinked at first b → IsWalked b i page before P → slice_index b.pages (i + 1) ≡ 0 → IsLast page b

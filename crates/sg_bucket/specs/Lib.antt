@@ -3,3 +3,7 @@ pub mod Part
 pub mod Bucket
 pub mod Steps
 pub mod Calls
+pub mod Division
+pub mod Branch
+pub mod Listing
+pub mod Prune

@@ -1,6 +1,6 @@
 -- What the steps of a change of a bucket want and do. Between them a key may be that of two entries, and a page without entries
 -- may stand in the chain.
-use Rattle.std.specs.Prelude.{◌≡◌, ◌≢◌, ℕ, ◌+◌, ◌<◌, ◌≤◌, List, [], ◌∷◌, length, slice_get, slice_index, slice_set, Option, Some, None, IsSome}
+use Rattle.std.specs.Prelude.{◌≡◌, ◌≢◌, ℕ, ◌+◌, ◌<◌, ◌≤◌, List, [], ◌∷◌, ◌++◌, length, slice_get, slice_index, slice_set, Option, Some, None, IsSome}
 use Rattle.std.specs.List.{remove}
 use Rattle.sg_base.specs.Page.{cell_in, bytes_of}
 use Rattle.sg_base.specs.Sheet.{Sheet}
@@ -99,7 +99,7 @@ pub record CanAppend (v : View) (last : ℕ) (b : Bucket) : Type 0 where
 
 -- a cell may be put into this slot of a page
 pub record CanPutAt (v : View) (size page slot : ℕ) (b : Bucket) : Type 0 where
-  pub add : CanAdd v b
+  pub may_fill : (p : ℕ) → OwnsPage b p → MayFill v p 1018
   pub index : ℕ
   pub there : slice_get b.pages index ≡ Some page
   pub room : CanPut size slot (part_at b.parts index)
@@ -124,6 +124,21 @@ pub record HasCellAt (place : Place) (b : Bucket) : Type 0 where
 -- the chain with other slots on one of its pages
 abbrev pub with_part : ℕ → Slots → Bucket → Bucket
 with_part i slots b = record b { parts = slice_set b.parts i slots }
+
+-- the chain with one page more, behind the last, that has this one cell
+abbrev pub with_page : ℕ → List ℕ → Bucket → Bucket
+with_page page cell b = record { pages = b.pages ++ (page ∷ []); parts = b.parts ++ ((Some cell ∷ []) ∷ []) }
+
+-- the cell stands in this slot of a page now
+pub record IsPutAt (cell : List ℕ) (page slot : ℕ) (b b' : Bucket) : Type 0 where
+  pub added : IsAdded cell b b'
+  pub is : (i : ℕ) → slice_get b.pages i ≡ Some page → b' ≡ with_part i (with_cell (part_at b.parts i) slot cell) b
+
+-- the cell stands on a page of its own now, of which the open action may fill the slots
+pub record IsAppended (w : View) (cell : List ℕ) (page : ℕ) (b b' : Bucket) : Type 0 where
+  pub added : IsAdded cell b b'
+  pub is : b' ≡ with_page page cell b
+  pub may_fill : MayFill w page 1018
 
 -- the slot is empty now
 pub record IsRemoved (place : Place) (b b' : Bucket) : Type 0 where

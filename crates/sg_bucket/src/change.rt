@@ -2,7 +2,7 @@
 ghost use Rattle.std.specs.Prelude.{◌≡◌, ◌≤◌, length, IfOk, OnOk};
 ghost use Rattle.sg_bucket.specs.Bucket.{HasLinked};
 ghost use Rattle.sg_bucket.specs.Entry.{IsEntryCell};
-ghost use Rattle.sg_bucket.specs.Steps.{CanPutAt, CanAppend, CanAdd, IsAdded, CanSet, IsSet, CanCut, IsCut, HasCellAt, IsRemoved, CanReplace, IsReplaced, IsTakenOut, Did, DidKeep};
+ghost use Rattle.sg_bucket.specs.Steps.{CanPutAt, CanAppend, CanAdd, IsAdded, IsPutAt, IsAppended, CanSet, IsSet, CanCut, IsCut, HasCellAt, IsRemoved, CanReplace, IsReplaced, IsTakenOut, Did, DidKeep};
 ghost use Rattle.sg_space.specs.View.{Counts};
 
 use crate::page::BUCKET_KIND;
@@ -12,8 +12,8 @@ use sg_base::{PageNo, PageOp};
 use sg_ops::Ops;
 use sg_space::{PageSpace, SpaceFault, take_page_with};
 
-// Puts a cell into a slot of a page of the chain.
-fn put_at<P: PageSpace>(
+/// Puts a cell into a slot of a page of the chain.
+pub fn put_at<P: PageSpace>(
     space: &mut P,
     ops: &Ops,
     first: PageNo,
@@ -25,31 +25,31 @@ fn put_at<P: PageSpace>(
     requires there { HasLinked (P.view space.old) first.0 (CanPutAt (P.view space.old) (length cell.now) p.0 slot) }
     ensures counts { Counts (P.view space.old) (P.view space.new) result }
     ensures did { OnOk result (DidKeep (P.view space.old) (P.view space.new) first.0
-        (CanPutAt (P.view space.old) (length cell.now) p.0 slot) (IsAdded cell.now)) }
+        (CanPutAt (P.view space.old) (length cell.now) p.0 slot) (IsPutAt cell.now p.0 slot)) }
 {
     let op = PageOp::Put { slot, bytes: cell };
     space.change(ops, p, &op)?;
     Ok(())
 }
 
-// Puts a cell on a page that is taken and linked behind the last.
-fn append<P: PageSpace>(
+/// Puts a cell on a page that is taken and linked behind the last, and answers which.
+pub fn append<P: PageSpace>(
     space: &mut P,
     ops: &Ops,
     first: PageNo,
     last: PageNo,
     cell: &[u8],
-) -> Result<(), SpaceFault>
+) -> Result<PageNo, SpaceFault>
     requires cell { IsEntryCell cell.now }
     requires there { HasLinked (P.view space.old) first.0 (CanAppend (P.view space.old) last.0) }
     ensures counts { Counts (P.view space.old) (P.view space.new) result }
-    ensures did { OnOk result (DidKeep (P.view space.old) (P.view space.new) first.0
-        (CanAppend (P.view space.old) last.0) (IsAdded cell.now)) }
+    ensures did { IfOk result (λ p. DidKeep (P.view space.old) (P.view space.new) first.0
+        (CanAppend (P.view space.old) last.0) (IsAppended (P.view space.new) cell.now p.0)) }
 {
     let p = take_page_with(space, ops, BUCKET_KIND, cell)?;
     let op = PageOp::Links { a: p.0, b: 0 };
     space.change(ops, last, &op)?;
-    Ok(())
+    Ok(p)
 }
 
 /// Puts a cell on the first page that has room for it, or on a new one behind the last.
@@ -106,8 +106,8 @@ pub fn set_over<P: PageSpace>(
     Ok(())
 }
 
-// Takes a page without entries out of the chain, and frees it.
-fn cut<P: PageSpace>(
+/// Takes a page without entries out of the chain, and frees it.
+pub fn cut<P: PageSpace>(
     space: &mut P,
     ops: &Ops,
     first: PageNo,
@@ -126,8 +126,8 @@ fn cut<P: PageSpace>(
     Ok(())
 }
 
-// Removes the cell at a place.
-fn remove_at<P: PageSpace>(
+/// Removes the cell at a place.
+pub fn remove_at<P: PageSpace>(
     space: &mut P,
     ops: &Ops,
     first: PageNo,

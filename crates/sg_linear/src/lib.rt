@@ -6,9 +6,11 @@
 //! split, of which each stays or goes to the new one.
 #![tactic(auto)]
 
+mod address;
 mod extent;
 mod fnv;
 
+pub use address::Address;
 pub use extent::Extent;
 pub use fnv::fnv_1a;
 

@@ -1,7 +1,7 @@
 use Rattle.std.proofs.Common.{◌∙◌, arith}
 use Rattle.std.proofs.lemmas.Option.{slice_get_within}
 use Rattle.sg_bucket.proofs.Fuel.{few_pages}
-use Rattle.sg_bucket.proofs.Rooms.{room_at, room_next, can_add_still, keep_after, last_here}
+use Rattle.sg_bucket.proofs.Rooms.{room_at, room_next, can_add_still, keep_after, put_added, append_added, last_here}
 use Rattle.sg_bucket.proofs.Walking.{walks_none, walks_on, part_seen, part_page, still_linked, reads_on}
 use Rattle.sg_bucket.proofs.change.add.Goals as goal
 
@@ -25,7 +25,7 @@ put_at-requires-clause-there g c = λ told.
       h.0,
       still_linked (reads_on i kept) shows h.1,
       record {
-        add = can_add_still (reads_on i kept) shows h.2;
+        may_fill = (can_add_still (reads_on i kept) shows h.2).may_fill;
         index = c.loop-passed._passed;
         there = (i.walked shows h.0 h.1).there;
         room = room_at c.in-At.is (part_seen i shows h.1) (c.in_ok-slot.ensures.read (i.kept.shows shows));
@@ -36,10 +36,10 @@ pub returns-in-At-clause-did : goal.returns-in-At-clause-did
 returns-in-At-clause-did g c =
     let i = (c.loop-passed.invariant).1 in
     let kept = c.in_ok-slot.ensures.kept in
-    keep_after (λ t. g.met.P.PageSpace.told_shows _ t) (reads_on i kept) c.in_ok-put_at-in-At.ensures.did (λ told b h can.
+    keep_after (λ t. g.met.P.PageSpace.told_shows _ t) (reads_on i kept) (put_added c.in_ok-put_at-in-At.ensures.did) (λ told b h can.
     let shows = g.met.P.PageSpace.told_shows _ told in
     record {
-      add = can_add_still (reads_on i kept) shows can;
+      may_fill = (can_add_still (reads_on i kept) shows can).may_fill;
       index = c.loop-passed._passed;
       there = (i.walked shows b h).there;
       room = room_at c.in-At.is (part_seen i shows h) (c.in_ok-slot.ensures.read (i.kept.shows shows));
@@ -62,7 +62,7 @@ pub returns-then-next-eq0-clause-did : goal.returns-then-next-eq0-clause-did
 returns-then-next-eq0-clause-did g c =
     let i = (c.loop-passed.invariant).1 in
     let kept = c.in_ok-slot.ensures.kept in
-    keep_after (λ t. g.met.P.PageSpace.told_shows _ t) (reads_on i kept) c.in_ok-append-in-Full.ensures.did (λ told b h can.
+    keep_after (λ t. g.met.P.PageSpace.told_shows _ t) (reads_on i kept) (append_added c.in_ok-append-in-Full.ensures.did) (λ told b h can.
     let shows = g.met.P.PageSpace.told_shows _ told in
     let next = room_next _ c.in-Full.is (part_seen i shows h) (c.in_ok-slot.ensures.read (i.kept.shows shows)) in
     record { add = can_add_still (reads_on i kept) shows can; ending = last_here h (i.walked shows b h) (next ∙ c.if-next-eq0.true) })

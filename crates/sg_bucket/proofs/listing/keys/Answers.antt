@@ -1,0 +1,38 @@
+use Rattle.std.proofs.Common.{arith}
+use Rattle.std.proofs.lemmas.Option.{slice_get_within}
+use Rattle.sg_bucket.proofs.Fuel.{few_pages}
+use Rattle.sg_bucket.proofs.Listed.{listed_none, listed_on, listed_all, next_listed}
+use Rattle.sg_bucket.proofs.Walking.{walks_none, walks_on, part_seen, part_page}
+use Rattle.sg_bucket.proofs.listing.keys.Goals as goal
+
+pub loop-passed-init : goal.loop-passed-init
+loop-passed-init g c = ((c.args.first.0, walks_none), listed_none (g.P.PageSpace.view c.args.space.now) c.args.first.0 c.args.into.now.items)
+
+pub gather-requires : goal.gather-requires
+gather-requires g c = λ told.
+    let i = (c.loop-passed.invariant).0.1 in
+    let back = i.back told in
+    part_page (part_seen i (g.met.P.PageSpace.told_shows _ back) (c.requires back).1)
+
+pub returns-then-next-eq0-clause-read : goal.returns-then-next-eq0-clause-read
+returns-then-next-eq0-clause-read g c = let i = c.loop-passed.invariant in listed_all c.args.into.now.items i.0.1 i.1 c.in_ok-next.ensures.read c.if-next-eq0.true
+
+pub loop-passed-preserved : goal.loop-passed-preserved
+loop-passed-preserved g c =
+    let i = c.loop-passed.invariant in
+    let counts = c.gather.ensures.counts in (
+      (c.loop-passed.page.0, walks_on i.0.1 counts.told counts.later c.in_ok-next.ensures.kept (λ shows b part. (tt, next_listed part (c.in_ok-next.ensures.read shows))) c.if-next-eq0.false),
+      listed_on c.args.into.now.items i.0.1 i.1 c.in_ok-next.ensures.read,
+    )
+
+pub broken-requires : goal.broken-requires
+broken-requires g c = λ told.
+    let i = (c.loop-passed.invariant).0.1 in
+    let back = i.back told in
+    let h = c.requires back in
+    let w = i.walked (g.met.P.PageSpace.told_shows _ back) h.0 h.1 in
+    let few = few_pages (g.met.P.PageSpace.pages_exact _ back) h.1 in
+    let within = slice_get_within h.0.pages c.loop-passed._passed c.loop-passed.page.0 w.there in
+    let end = c.loop-passed-test.false in
+    let count = c.pages-passed-end.ensures in
+    absurd (omega arith)

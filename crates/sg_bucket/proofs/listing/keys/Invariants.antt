@@ -1,0 +1,9 @@
+use Rattle.std.specs.Prelude.{ℕ, ⊤}
+use Rattle.sg_bucket.proofs.Listed.{AreListed}
+use Rattle.sg_bucket.proofs.Walking.{Walks}
+use Rattle.sg_bucket.proofs.listing.keys.Given as goal
+
+abbrev pub invariant-loop-passed : goal.invariant-loop-passed
+invariant-loop-passed g l =
+    ((before : ℕ) × Walks (g.P.PageSpace.view l.fn.space) (g.P.PageSpace.view l.space) l.fn.first.0 l._passed l.page.0 before (λ slots. ⊤))
+    × AreListed (g.P.PageSpace.view l.fn.space) l.fn.first.0 l._passed l.fn.into.items l.into.items
