@@ -1,0 +1,12 @@
+pub mod Sums
+pub mod Values
+pub mod Roots
+pub mod Trunks
+pub mod Owning
+pub mod Changing
+pub mod Small
+pub mod Making
+pub mod Freeing
+pub mod Splitting
+pub mod Dividing
+pub mod Calling

@@ -1,0 +1,48 @@
+use Rattle.std.proofs.Common.{◌≡◌, ◌≤◌, ◌<◌, ℕ, length, sym, ap, subst, arith}
+use Rattle.sg_space.specs.View.{Space}
+use Rattle.sg_hash.specs.Steps.{AreFreed, FreesBuckets}
+use Rattle.sg_hash.proofs.Freeing.{frees_none, frees_on, trunk_left, bucket_found}
+use Rattle.sg_hash.proofs.free.free_buckets.Goals as goal
+
+pub loop-i-init : goal.loop-i-init
+loop-i-init g c = frees_none _ _
+
+pub bucket_at-requires : goal.bucket_at-requires
+bucket_at-requires g c = λ told.
+    let i = c.loop-i.invariant in
+    let back = i.back told in
+    let h = c.requires back in
+    let test = c.loop-i-test.true in
+    let many = h.2 in
+    (_, h.0, trunk_left h.1.built (i.frees.freed back h.0 h.1), omega arith)
+
+pub free_all-requires : goal.free_all-requires
+free_all-requires g c = λ told.
+    let i = c.loop-i.invariant in
+    let then = c.bucket_at.ensures.counts.told told in
+    let back = i.back then in
+    let shows = g.met.P.PageSpace.told_shows _ then in
+    let h = c.requires back in
+    let test = c.loop-i-test.true in
+    let many = h.2 in
+    let freed = i.frees.freed back h.0 h.1 in
+    let first = c.in_ok-first.ensures.read shows _ h.0 (trunk_left h.1.built freed) (omega arith) in
+    let now = subst (λ (s : Space). AreFreed (g.P.PageSpace.view c.args.space.now).space s h.0.buckets c.loop-i.i) (sym (c.in_ok-first.ensures.kept.same shows)) freed in
+    (first.bucket, bucket_found h.1.built now first, tt)
+
+pub loop-i-preserved : goal.loop-i-preserved
+loop-i-preserved g c =
+    let i = c.loop-i.invariant in
+    let test = c.loop-i-test.true in
+    let read = c.bucket_at.ensures.counts in
+    let counts = c.free_all.ensures.counts in
+    frees_on i (λ t. g.met.P.PageSpace.told_shows _ t) c.in_ok-first.ensures.kept read.told read.later counts.told counts.later c.in_ok-free_all.ensures.did
+    (λ told t h. c.in_ok-first.ensures.read (g.met.P.PageSpace.told_shows _ (i.frees.told told)) _ t (trunk_left h.built (i.frees.freed told t h)) ?)
+
+pub returns-clause-did : goal.returns-clause-did
+returns-clause-did g c =
+    let i = c.loop-i.invariant in
+    let test = c.loop-i-test.false in
+    let end = c.loop-i.auto.i-end in
+    let same : c.loop-i.i ≡ c.args.count = omega arith in
+    subst (λ (n : ℕ). FreesBuckets (g.P.PageSpace.view c.args.space.now) (g.P.PageSpace.view c.loop-i.space) c.args.root.0 n) same i.frees

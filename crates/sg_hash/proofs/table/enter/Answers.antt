@@ -1,0 +1,71 @@
+use Rattle.std.proofs.Common.{◌≡◌, ◌+◌, ℕ, List, length, IsSome, is_none, refl, sym, ap, subst, arith, ◌∙◌}
+use Rattle.sg_hash.specs.Table.{HashTable, Numbers, home_of, numbers_of}
+use Rattle.sg_hash.specs.Steps.{IsCounted, numbers_in}
+use Rattle.sg_hash.proofs.Calling.{can_enter, did_enter, put_fits}
+use Rattle.sg_hash.proofs.Changing.{counted, found_bucket, root_there}
+use Rattle.sg_hash.proofs.Trunks.{still_table}
+use Rattle.sg_space.proofs.Known.{reads_then}
+use Rattle.sg_hash.proofs.table.enter.Goals as goal
+
+pub read_root-requires : goal.read_root-requires
+read_root-requires g c = λ told. let h = c.requires.there told in (_, h.0, h.1.built.trunk, tt)
+
+pub bucket_of-requires : goal.bucket_of-requires
+bucket_of-requires g c = λ told.
+    let back = c.read_root.ensures.counts.told told in
+    let shows = g.met.P.PageSpace.told_shows _ back in
+    let h = c.requires.there back in
+    (h.0, still_table c.in_ok-found.ensures.kept shows h.1, c.in_ok-found.ensures.read shows _ h.0 h.1.built.trunk)
+
+pub put-requires-clause-there : goal.put-requires-clause-there
+put-requires-clause-there g c = λ told.
+    let mid = c.bucket_of.ensures.counts.told told in
+    let back = c.read_root.ensures.counts.told mid in
+    let shows = g.met.P.PageSpace.told_shows _ back in
+    let h = c.requires.there back in
+    let kept = c.in_ok-found.ensures.kept in
+    let both = reads_then kept c.in_ok-first.ensures.kept in
+    let table = still_table kept shows h.1 in
+    let first = c.in_ok-first.ensures.read (kept.shows shows) h.0 table (c.in_ok-found.ensures.read shows _ h.0 h.1.built.trunk) in
+    (first.bucket, (found_bucket (still_table both shows h.1) first).linked, can_enter both shows h.1 h.2 first)
+
+pub set_root-requires : goal.set_root-requires
+set_root-requires g c = λ told.
+    let last = c.put.ensures.counts.told told in
+    let mid = c.bucket_of.ensures.counts.told last in
+    let back = c.read_root.ensures.counts.told mid in
+    let shows = g.met.P.PageSpace.told_shows _ back in
+    let h = c.requires.there back in
+    let kept = c.in_ok-found.ensures.kept in
+    let both = reads_then kept c.in_ok-first.ensures.kept in
+    let table = still_table kept shows h.1 in
+    let first = c.in_ok-first.ensures.read (kept.shows shows) h.0 table (c.in_ok-found.ensures.read shows _ h.0 h.1.built.trunk) in
+    let now = still_table both shows h.1 in
+    let one = c.in_ok-old.ensures.did.did.turns last first.bucket (found_bucket now first).linked (can_enter both shows h.1 h.2 first) in
+    record { numbers = numbers_of h.0; directory = h.0.directory; page = root_there now first one.1 }
+
+pub broken-requires : goal.broken-requires
+broken-requires g c = λ told.
+    let last = c.put.ensures.counts.told told in
+    let mid = c.bucket_of.ensures.counts.told last in
+    let back = c.read_root.ensures.counts.told mid in
+    let shows = g.met.P.PageSpace.told_shows _ back in
+    let h = c.requires.there back in
+    let kept = c.in_ok-found.ensures.kept in
+    let both = reads_then kept c.in_ok-first.ensures.kept in
+    let table = still_table kept shows h.1 in
+    let is = c.in_ok-found.ensures.read shows _ h.0 h.1.built.trunk in
+    let first = c.in_ok-first.ensures.read (kept.shows shows) h.0 table is in
+    let now = still_table both shows h.1 in
+    let one = c.in_ok-old.ensures.did.did.turns last first.bucket (found_bucket now first).linked (can_enter both shows h.1 h.2 first) in
+    let are = counted h.0.buckets (home_of h.0.shape c.args.key.now) first.is one.2.entries in
+    let fits = put_fits h.1 (ap (λ (n : Numbers). n.entries) is) (ap (λ (n : Numbers). n.bytes) is) h.2.few are in
+    let some = c.in-None.ensures.all fits.0 fits.1.0 fits.1.1 in
+    (cc)
+
+pub returns-in_ok-set_root-in-Some-clause-did : goal.returns-in_ok-set_root-in-Some-clause-did
+returns-in_ok-set_root-in-Some-clause-did g c =
+    let kept = c.in_ok-found.ensures.kept in
+    did_enter (λ t. g.met.P.PageSpace.told_shows _ t) (reads_then kept c.in_ok-first.ensures.kept) c.in_ok-old.ensures.did c.in_ok-set_root-in-Some.ensures.did c.in_ok-set_root-in-Some.ensures.range
+    (λ shows t h. c.in_ok-first.ensures.read (kept.shows shows) t (still_table kept shows h) (c.in_ok-found.ensures.read shows _ t h.built.trunk))
+    (λ told t h. subst (λ (r : Numbers). IsCounted (length c.args.key.now) (length c.args.value.now) _ c.args.split r _) (c.in_ok-found.ensures.read (g.met.P.PageSpace.told_shows _ told) _ t h.built.trunk) c.in-Some.ensures.counted)

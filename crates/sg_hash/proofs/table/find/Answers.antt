@@ -1,0 +1,37 @@
+use Rattle.std.proofs.Common.{◌≡◌, ℕ, Option, option_map, refl, sym, ap, subst, ◌∙◌}
+use Rattle.sg_bucket.specs.Bucket.{Bucket, IsBucket}
+use Rattle.sg_hash.specs.Table.{home_of}
+use Rattle.sg_hash.specs.Steps.{IsFirstOf}
+use Rattle.sg_hash.proofs.Changing.{found_bucket, own_value}
+use Rattle.sg_hash.proofs.Trunks.{still_table}
+use Rattle.sg_space.proofs.Known.{reads_then}
+use Rattle.sg_hash.proofs.table.find.Goals as goal
+
+pub read_root-requires : goal.read_root-requires
+read_root-requires g c = λ told. let h = c.requires.there told in (_, h.0, h.1.built.trunk, tt)
+
+pub bucket_of-requires : goal.bucket_of-requires
+bucket_of-requires g c = λ told.
+    let back = c.read_root.ensures.counts.told told in
+    let shows = g.met.P.PageSpace.told_shows _ back in
+    let h = c.requires.there back in
+    (h.0, still_table c.in_ok-found.ensures.kept shows h.1, c.in_ok-found.ensures.read shows _ h.0 h.1.built.trunk)
+
+pub find-requires-clause-there : goal.find-requires-clause-there
+find-requires-clause-there g c = λ told.
+    let mid = c.bucket_of.ensures.counts.told told in
+    let back = c.read_root.ensures.counts.told mid in
+    let shows = g.met.P.PageSpace.told_shows _ back in
+    let h = c.requires.there back in
+    let kept = c.in_ok-found.ensures.kept in
+    let table = still_table kept shows h.1 in
+    let first = c.in_ok-first.ensures.read (kept.shows shows) h.0 table (c.in_ok-found.ensures.read shows _ h.0 h.1.built.trunk) in
+    (first.bucket, found_bucket (still_table c.in_ok-first.ensures.kept (kept.shows shows) table) first, tt)
+
+pub returns-clause-read : goal.returns-clause-read
+returns-clause-read g c = λ shows t h.
+    let kept = c.in_ok-found.ensures.kept in
+    let table = still_table kept shows h in
+    let first = c.in_ok-first.ensures.read (kept.shows shows) t table (c.in_ok-found.ensures.read shows _ t h.built.trunk) in
+    let both = c.in_ok-first.ensures.kept in
+    own_value c.args.key.now h first ∙ c.in_ok-value.ensures.read (both.shows (kept.shows shows)) first.bucket (found_bucket (still_table both (kept.shows shows) table) first)

@@ -1,0 +1,13 @@
+//! Linear hash tables: maps from keys of at most 128 bytes to values of at most 1,024, in buckets of a space, which
+//! are found by the hash of a key and split one at a time as the table grows.
+#![tactic(auto)]
+
+mod create;
+mod free;
+mod root;
+mod table;
+mod walk;
+
+pub use free::free_all;
+pub use create::make;
+pub use table::{del, enter, find};

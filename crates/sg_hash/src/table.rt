@@ -1,0 +1,89 @@
+// The calls on a hash table that look for a key, put one or remove one.
+ghost use Rattle.std.specs.Prelude.{◌≡◌, ◌+◌, ◌<◌, ◌≤◌, ◌^◌, length, IfOk, OnOk, IfSome, Some, ⊤};
+ghost use Rattle.sg_bucket.specs.Bucket.{IsAnswer};
+ghost use Rattle.sg_hash.specs.Table.{value_at};
+ghost use Rattle.sg_hash.specs.Calls.{HasHashTable, IfHashTable, Did, CanPut, IsDeleted};
+ghost use Rattle.sg_hash.specs.Steps.{DidEnter};
+ghost use Rattle.sg_space.specs.View.{Counts, OnlyReads};
+
+use crate::root::{read_root, set_root};
+use crate::walk::bucket_of;
+use sg_base::PageNo;
+use sg_ops::Ops;
+use sg_space::{PageSpace, SpaceFault};
+
+/// Copies the value of this key to the front of the buffer, which has room for 1,024 bytes, and says how many bytes
+/// it has. There is none where the table has no entry with the key.
+pub fn find<P: PageSpace>(
+    space: &mut P,
+    root: PageNo,
+    key: &[u8],
+    into: &mut [u8],
+) -> Result<Option<usize>, SpaceFault>
+    requires room { 1024 ≤ length into.old }
+    requires there { HasHashTable (P.view space.old) root.0 (λ _. ⊤) }
+    ensures counts { Counts (P.view space.old) (P.view space.new) result }
+    ensures kept { OnOk result (OnlyReads (P.view space.old) (P.view space.new)) }
+    ensures read { IfOk result (λ found. IfHashTable (P.view space.old) root.0
+        (λ t. IsAnswer (value_at t key.now) found into.new)) }
+    ensures within { IfOk result (λ found. IfSome found (λ n. n ≤ length into.new)) }
+{
+    let found = read_root(space, root)?;
+    let first = bucket_of(space, root, found, key)?;
+    let value = sg_bucket::find(space, first, key, into)?;
+    Ok(value)
+}
+
+/// Puts the entry of this key, in place of the one that it had, and answers whether the key was new. No bucket is
+/// split.
+pub fn enter<P: PageSpace>(
+    space: &mut P,
+    ops: &Ops,
+    root: PageNo,
+    key: &[u8],
+    value: &[u8],
+    split: bool,
+) -> Result<bool, SpaceFault>
+    requires key { length key.now ≤ 128 }
+    requires value { length value.now ≤ 1024 }
+    requires there { HasHashTable (P.view space.old) root.0 (CanPut (P.view space.old) key.now split) }
+    ensures counts { Counts (P.view space.old) (P.view space.new) result }
+    ensures did { IfOk result (λ new. DidEnter (P.view space.old) (P.view space.new) root.0 key.now value.now split new) }
+{
+    let found = read_root(space, root)?;
+    let first = bucket_of(space, root, found, key)?;
+    let old = sg_bucket::put(space, ops, first, key, value)?;
+    match found.with_entry(key.len(), value.len(), old, split) {
+        Some(numbers) => {
+            set_root(space, ops, root, numbers)?;
+            Ok(old.is_none())
+        }
+        None => Err(space.broken()),
+    }
+}
+
+/// Removes the entry of this key, if there is one, and answers whether there was. A page that has no entry any more is
+/// freed, but for the first of each bucket. The table stays as split as it was.
+pub fn del<P: PageSpace>(
+    space: &mut P,
+    ops: &Ops,
+    root: PageNo,
+    key: &[u8],
+) -> Result<bool, SpaceFault>
+    requires { HasHashTable (P.view space.old) root.0 (λ _. ⊤) }
+    ensures counts { Counts (P.view space.old) (P.view space.new) result }
+    ensures did { IfOk result (λ was. Did (P.view space.old) (P.view space.new) root.0 (λ _. ⊤) (IsDeleted key.now was)) }
+{
+    let found = read_root(space, root)?;
+    let first = bucket_of(space, root, found, key)?;
+    match sg_bucket::del(space, ops, first, key)? {
+        None => Ok(false),
+        Some(value) => match found.without_entry(key.len(), value) {
+            Some(numbers) => {
+                set_root(space, ops, root, numbers)?;
+                Ok(true)
+            }
+            None => Err(space.broken()),
+        },
+    }
+}
