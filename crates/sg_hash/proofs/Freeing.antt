@@ -1,5 +1,5 @@
 -- The buckets of a table are freed, one after another, and then the directory and the root.
-use Rattle.std.proofs.Common.{◌≡◌, ◌≢◌, ℕ, ◌+◌, ◌<◌, ◌≤◌, ◌⊎◌, List, length, take, Option, Some, None, IsSome, sym, ap, subst, ◌∙◌, refl, arith, get_or, slice_get, inl, inr}
+use Rattle.std.proofs.Common.{◌≡◌, ◌≢◌, ℕ, ◌+◌, ◌<◌, ◌≤◌, ◌⊎◌, List, [], ◌∷◌, length, take, Option, Some, None, IsSome, sym, ap, subst, ◌∙◌, refl, arith, get_or, slice_get, inl, inr}
 use Rattle.std.specs.List.{sum_by}
 use Rattle.std.proofs.lemmas.Bool.{cases_eq}
 use Rattle.std.proofs.lemmas.List.Sums.{sum_by_more}
@@ -22,6 +22,7 @@ use Rattle.sg_hash.specs.Calls.{IsGone, Gone}
 use Rattle.sg_hash.specs.declared.root.Root.{Root}
 use Rattle.sg_hash.specs.Table.{HashTable, Numbers, IsTrunk, IsBuilt, IsHashTable, IsInBuckets, Owns, chain_pages, first_page, numbers_of, page_count, root_cell, root_sheet}
 use Rattle.sg_hash.specs.Steps.{IsInFirst, AreFreed, FreesBuckets, IsFirstOf, numbers_in}
+use Rattle.sg_hash.proofs.Roots.{same_numbers}
 use Rattle.sg_hash.proofs.Trunks.{trunk_names, still_table}
 use Rattle.sg_hash.proofs.Owning.{trunk_stays, bucket_stays, trunk_not_bucket, root_not_array, in_bucket, bucket_kind, OwnsTrunk}
 
@@ -174,3 +175,16 @@ gone_calls {u} {v} {w} {x} {y} {root} {p} {count} shows k one two three director
       (two.may_have (one.told there) t.names (array_left now.built (one.freed there t now) is) q m (λ a. no (inr (inl (subst (λ (d : ℕ). array.Owns d t.names q) (sym is) a))))
       (one.may_have there t now q m (λ b. no (inr (inr b))) (k.keeps.may_have q m had)));
 }
+
+-- two accounts of one table have as many buckets
+pub same_many : {at : ℕ → Option Sheet} {root : ℕ} {t t' : HashTable} → IsHashTable at root t → IsHashTable at root t' → length t.buckets ≡ length t'.buckets
+same_many {t = t} {t' = t'} h k =
+    let sheets = same_some _ _ (sym h.built.trunk.first ∙ k.built.trunk.first) in
+    let cells : root_cell (numbers_of t) ≡ root_cell (numbers_of t') = ap (λ (s : Sheet). first_cell s.slots) sheets in
+    let same = same_numbers (numbers_of t) (numbers_of t') h.built.trunk.range k.built.trunk.range cells in
+    h.many ∙ (ap (λ (n : Numbers). buckets_of n.shape) same ∙ sym k.many)
+  where
+    first_cell : List (Option (List ℕ)) → List ℕ
+    first_cell [] = []
+    first_cell (None ∷ slots) = []
+    first_cell (Some cell ∷ slots) = cell

@@ -10,3 +10,6 @@ pub mod Freeing
 pub mod Splitting
 pub mod Dividing
 pub mod Calling
+pub mod Deciding
+pub mod Sides
+pub mod Bounds

@@ -1,5 +1,5 @@
 -- The root's page.
-use Rattle.std.proofs.Common.{◌≡◌, ◌≢◌, ℕ, ◌+◌, ◌<◌, ◌≤◌, ◌^◌, List, [], ◌∷◌, ◌++◌, length, drop, Option, Some, subst, refl, sym, ap, ◌∙◌, arith}
+use Rattle.std.proofs.Common.{◌≡◌, ◌≢◌, ℕ, ◌+◌, ◌<◌, ◌≤◌, ◌^◌, List, [], ◌∷◌, ◌++◌, length, drop, Option, Some, subst, inl, inr, refl, sym, ap, ◌∙◌, arith}
 use Rattle.byteorder.specs.Endian.{little_bytes, little_number}
 use Rattle.byteorder.specs.Numbers.{little_number-reads_back}
 use Rattle.sg_base.specs.Page.{cell_in}
@@ -7,6 +7,10 @@ use Rattle.sg_base.specs.Op.Op.{Set}
 use Rattle.sg_base.specs.Sheet.{Sheet}
 use Rattle.sg_ops.specs.Steps.{step}
 use Rattle.sg_ops.specs.Table.{Table}
+use Rattle.std.proofs.lemmas.Bool.{cases_lt}
+use Rattle.sg_linear.specs.Extent.{shape_of}
+use Rattle.sg_linear.specs.declared.extent.Extent.{Extent}
+use Rattle.std.proofs.Math.Pow.{pow_mono}
 use Rattle.sg_linear.proofs.Growing.{low_fits}
 use Rattle.sg_space.specs.Pages.{IsPossible}
 use Rattle.sg_space.specs.Reads.{HasCell, HasSized}
@@ -74,3 +78,17 @@ same_numbers m n h k e = λ i. record { shape = record { level = level i; split 
 
     peak : m.peak ≡ n.peak
     peak = sym (peak_of m h) ∙ (ap (λ (xs : List ℕ). little_number 8 (drop 17 xs)) e ∙ peak_of n k)
+
+-- the numbers of an extent are in their ranges
+level_small : (k : ℕ) → 2 ^ k ≤ 1048576 → k ≤ 20
+level_small k h = elim (cases_lt 20 k) as (λ _. k ≤ 20) [
+  | inl more ↦ absurd (let large : 2 ^ 21 ≤ 2 ^ k = pow_mono {i = 21} {j = k} (omega arith) in omega arith)
+  | inr few ↦ few
+]
+
+pub numbers_range : (e : Extent) (count bytes peak : ℕ) → count < 2 ^ 32 → bytes < 2 ^ 64 → peak < 2 ^ 64 → IsInRange (record { shape = shape_of e; entries = count; bytes = bytes; peak = peak })
+numbers_range e count bytes peak a b c =
+    let power = e.power in
+    let most = e.most in
+    let within = e.within in
+    record { level = level_small e.level (omega arith); split = omega arith; entries = a; bytes = b; peak = c }

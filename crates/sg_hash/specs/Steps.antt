@@ -12,7 +12,7 @@ use Rattle.sg_space.specs.Owned.{Becomes}
 use Rattle.sg_space.specs.Units.{Units, IsTaken}
 use Rattle.sg_space.specs.View.{View, Space, Keeps, MayFill}
 use Rattle.sg_ops.specs.Table.{Table}
-use Rattle.sg_hash.specs.Table.{HashTable, Numbers, IsTrunk, IsHashTable, IsInBuckets, chain_pages, first_page, root_cell, root_sheet}
+use Rattle.sg_hash.specs.Table.{HashTable, Numbers, IsInRange, IsTrunk, IsHashTable, IsInBuckets, chain_pages, first_page, root_cell, root_sheet}
 use Rattle.sg_hash.specs.Calls.{CanPut, IsEntered, Did}
 use Rattle.sg_hash.specs.declared.root.Root.{Root}
 
@@ -49,6 +49,7 @@ pub record Rewrites (old new : Units Sheet) (p : ℕ) (sheet : Sheet) : Type 0 w
 -- the root has these numbers now, and nothing else has changed
 pub record SetsRoot (v w : View) (root : ℕ) (numbers : Numbers) : Type 0 where
   pub keeps : v.Told → Keeps v w
+  pub range : IsInRange numbers
   pub pages : v.Told → (n : Numbers) (directory : ℕ) → v.space.pages.at root ≡ Some (root_sheet (root_cell n) directory) → Rewrites v.space.pages w.space.pages root (root_sheet (root_cell numbers) directory)
   pub bands : v.Told → w.space.bands ≡ v.space.bands
 

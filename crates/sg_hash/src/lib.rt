@@ -2,12 +2,17 @@
 //! are found by the hash of a key and split one at a time as the table grows.
 #![tactic(auto)]
 
+mod beside;
 mod create;
 mod free;
 mod root;
 mod table;
 mod walk;
 
-pub use free::free_all;
+pub use beside::{keep_bound, stand_apart};
 pub use create::make;
-pub use table::{del, enter, find};
+pub use free::free_all;
+pub use table::{del, find, put};
+
+#[cfg(test)]
+mod tests;

@@ -161,7 +161,6 @@ pub fn set_root<P: PageSpace>(
     requires { (P.view space.old).Told → HasRootPage (P.view space.old) root.0 }
     ensures counts { Counts (P.view space.old) (P.view space.new) result }
     ensures did { OnOk result (SetsRoot (P.view space.old) (P.view space.new) root.0 (numbers_in numbers)) }
-    ensures range { IsInRange (numbers_in numbers) }
 {
     let cell = spell_root(numbers);
     let op = PageOp::Set {

@@ -1,5 +1,5 @@
 // The calls on a hash table that look for a key, put one or remove one.
-ghost use Rattle.std.specs.Prelude.{◌≡◌, ◌+◌, ◌<◌, ◌≤◌, ◌^◌, length, IfOk, OnOk, IfSome, Some, ⊤};
+ghost use Rattle.std.specs.Prelude.{◌≡◌, ◌+◌, ◌<◌, ◌≤◌, ◌^◌, length, IfOk, OnOk, IfSome, Some, false, ⊤};
 ghost use Rattle.sg_bucket.specs.Bucket.{IsAnswer};
 ghost use Rattle.sg_hash.specs.Table.{value_at};
 ghost use Rattle.sg_hash.specs.Calls.{HasHashTable, IfHashTable, Did, CanPut, IsDeleted};
@@ -34,9 +34,9 @@ pub fn find<P: PageSpace>(
     Ok(value)
 }
 
-/// Puts the entry of this key, in place of the one that it had, and answers whether the key was new. No bucket is
-/// split.
-pub fn enter<P: PageSpace>(
+// Puts the entry of this key, in place of the one that it had, and answers whether the key was new. `split` raises the
+// peak of the entries' bytes to what they are then. No bucket is split.
+fn enter<P: PageSpace>(
     space: &mut P,
     ops: &Ops,
     root: PageNo,
@@ -62,6 +62,27 @@ pub fn enter<P: PageSpace>(
     }
 }
 
+/// Puts the entry of this key, in place of the one that it had, and answers whether the key was new. At most one page is
+/// taken. `split` is false: buckets can't be split yet.
+pub fn put<P: PageSpace>(
+    space: &mut P,
+    ops: &Ops,
+    root: PageNo,
+    key: &[u8],
+    value: &[u8],
+    split: bool,
+) -> Result<bool, SpaceFault>
+    requires key { length key.now ≤ 128 }
+    requires value { length value.now ≤ 1024 }
+    requires unsplit { split ≡ false }
+    requires there { HasHashTable (P.view space.old) root.0 (CanPut (P.view space.old) key.now false) }
+    ensures counts { Counts (P.view space.old) (P.view space.new) result }
+    ensures did { IfOk result (λ new. DidEnter (P.view space.old) (P.view space.new) root.0 key.now value.now false new) }
+{
+    let new = enter(space, ops, root, key, value, split)?;
+    Ok(new)
+}
+
 /// Removes the entry of this key, if there is one, and answers whether there was. A page that has no entry any more is
 /// freed, but for the first of each bucket. The table stays as split as it was.
 pub fn del<P: PageSpace>(
@@ -70,7 +91,8 @@ pub fn del<P: PageSpace>(
     root: PageNo,
     key: &[u8],
 ) -> Result<bool, SpaceFault>
-    requires { HasHashTable (P.view space.old) root.0 (λ _. ⊤) }
+    requires key { length key.now ≤ 128 }
+    requires there { HasHashTable (P.view space.old) root.0 (λ _. ⊤) }
     ensures counts { Counts (P.view space.old) (P.view space.new) result }
     ensures did { IfOk result (λ was. Did (P.view space.old) (P.view space.new) root.0 (λ _. ⊤) (IsDeleted key.now was)) }
 {

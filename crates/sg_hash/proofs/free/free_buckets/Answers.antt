@@ -1,7 +1,7 @@
 use Rattle.std.proofs.Common.{◌≡◌, ◌≤◌, ◌<◌, ℕ, length, sym, ap, subst, arith}
 use Rattle.sg_space.specs.View.{Space}
 use Rattle.sg_hash.specs.Steps.{AreFreed, FreesBuckets}
-use Rattle.sg_hash.proofs.Freeing.{frees_none, frees_on, trunk_left, bucket_found}
+use Rattle.sg_hash.proofs.Freeing.{frees_none, frees_on, trunk_left, bucket_found, same_many}
 use Rattle.sg_hash.proofs.free.free_buckets.Goals as goal
 
 pub loop-i-init : goal.loop-i-init
@@ -37,7 +37,7 @@ loop-i-preserved g c =
     let read = c.bucket_at.ensures.counts in
     let counts = c.free_all.ensures.counts in
     frees_on i (λ t. g.met.P.PageSpace.told_shows _ t) c.in_ok-first.ensures.kept read.told read.later counts.told counts.later c.in_ok-free_all.ensures.did
-    (λ told t h. c.in_ok-first.ensures.read (g.met.P.PageSpace.told_shows _ (i.frees.told told)) _ t (trunk_left h.built (i.frees.freed told t h)) ?)
+    (λ told t h. c.in_ok-first.ensures.read (g.met.P.PageSpace.told_shows _ (i.frees.told told)) _ t (trunk_left h.built (i.frees.freed told t h)) (let own = c.requires told in let same = same_many h own.1 in let many = own.2 in omega arith))
 
 pub returns-clause-did : goal.returns-clause-did
 returns-clause-did g c =

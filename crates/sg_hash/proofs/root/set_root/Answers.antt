@@ -1,4 +1,4 @@
-use Rattle.std.proofs.Common.{◌≡◌, ℕ, List, [], ◌∷◌, length, Some, false, refl, sym, ap, subst, ◌∙◌}
+use Rattle.std.proofs.Common.{◌≡◌, ℕ, List, [], ◌∷◌, length, Some, false, ◌<◌, ◌^◌, refl, sym, ap, subst, arith, ◌∙◌}
 use Rattle.sg_base.specs.Op.{shrinks}
 use Rattle.sg_base.specs.Op.Op.{Set}
 use Rattle.sg_base.specs.Sheet.{Sheet}
@@ -8,7 +8,7 @@ use Rattle.sg_space.proofs.Known.{same_some}
 use Rattle.sg_array.proofs.Sheets.{same_size}
 use Rattle.sg_hash.specs.Table.{root_cell, root_sheet}
 use Rattle.sg_hash.specs.Steps.{numbers_in}
-use Rattle.sg_hash.proofs.Roots.{root_step, root_possible}
+use Rattle.sg_hash.proofs.Roots.{numbers_range, root_step, root_possible}
 use Rattle.sg_hash.proofs.root.set_root.Goals as goal
 
 pub change-requires : goal.change-requires
@@ -16,8 +16,8 @@ change-requires g c = λ told.
     let h = c.requires told in
     root_possible _ _ h.numbers c.spell_root-cell.result h.page (ap (λ (x : List ℕ). length x) c.spell_root-cell.ensures)
 
-pub returns-in_ok-change-clause-did : goal.returns-in_ok-change-clause-did
-returns-in_ok-change-clause-did g c =
+pub returns-clause-did : goal.returns-clause-did
+returns-clause-did g c =
     let t = table_of (λ p. (goal.RecordOp-dyn g p).record_meaning p.1) (λ p. (goal.RangeOp-dyn g p).range_meaning p.1) c.args.ops.now in
     let did = c.in_ok-change.ensures.did in
     let long : length c.spell_root-cell.result ≡ 25 = ap (λ (x : List ℕ). length x) c.spell_root-cell.ensures in
@@ -34,4 +34,5 @@ returns-in_ok-change-clause-did g c =
             count = pages.count;
           };
       bands = did.bands;
+      range = numbers_range c.args.numbers.extent _ _ _ (omega arith) (omega arith) (omega arith);
     }

@@ -9,13 +9,13 @@ use Rattle.sg_space.proofs.Known.{reads_then, keeps_same}
 use Rattle.sg_hash.proofs.table.del.Goals as goal
 
 pub read_root-requires : goal.read_root-requires
-read_root-requires g c = λ told. let h = c.requires told in (_, h.0, h.1.built.trunk, tt)
+read_root-requires g c = λ told. let h = c.requires.there told in (_, h.0, h.1.built.trunk, tt)
 
 pub bucket_of-requires : goal.bucket_of-requires
 bucket_of-requires g c = λ told.
     let back = c.read_root.ensures.counts.told told in
     let shows = g.met.P.PageSpace.told_shows _ back in
-    let h = c.requires back in
+    let h = c.requires.there back in
     (h.0, still_table c.in_ok-found.ensures.kept shows h.1, c.in_ok-found.ensures.read shows _ h.0 h.1.built.trunk)
 
 pub del-requires : goal.del-requires
@@ -23,7 +23,7 @@ del-requires g c = λ told.
     let mid = c.bucket_of.ensures.counts.told told in
     let back = c.read_root.ensures.counts.told mid in
     let shows = g.met.P.PageSpace.told_shows _ back in
-    let h = c.requires back in
+    let h = c.requires.there back in
     let kept = c.in_ok-found.ensures.kept in
     let both = reads_then kept c.in_ok-first.ensures.kept in
     let first = c.in_ok-first.ensures.read (kept.shows shows) h.0 (still_table kept shows h.1) (c.in_ok-found.ensures.read shows _ h.0 h.1.built.trunk) in
@@ -36,7 +36,7 @@ set_root-requires g c = λ told.
     let mid = c.bucket_of.ensures.counts.told last in
     let back = c.read_root.ensures.counts.told mid in
     let shows = g.met.P.PageSpace.told_shows _ back in
-    let h = c.requires back in
+    let h = c.requires.there back in
     let kept = c.in_ok-found.ensures.kept in
     let both = reads_then kept c.in_ok-first.ensures.kept in
     let first = c.in_ok-first.ensures.read (kept.shows shows) h.0 (still_table kept shows h.1) (c.in_ok-found.ensures.read shows _ h.0 h.1.built.trunk) in
@@ -51,7 +51,7 @@ broken-requires g c = λ told.
     let mid = c.bucket_of.ensures.counts.told last in
     let back = c.read_root.ensures.counts.told mid in
     let shows = g.met.P.PageSpace.told_shows _ back in
-    let h = c.requires back in
+    let h = c.requires.there back in
     let kept = c.in_ok-found.ensures.kept in
     let both = reads_then kept c.in_ok-first.ensures.kept in
     let is = c.in_ok-found.ensures.read shows _ h.0 h.1.built.trunk in
@@ -61,7 +61,7 @@ broken-requires g c = λ told.
     let one = c.in_ok-del.ensures.did.turns last first.bucket b.linked (record { once = b.once; full = b.full }) in
     let are = counted h.0.buckets (home_of h.0.shape c.args.key.now) first.is one.2.entries in
     let fits = del_fits h.0 c.in-Some.is (ap (λ (n : Numbers). n.entries) is) (ap (λ (n : Numbers). n.bytes) is) are in
-    let some = c.in-None.ensures.all fits.0 fits.1 in
+    let some = c.in-None-without_entry.ensures.all fits.0 fits.1 in
     (cc)
 
 pub returns-in-None-clause-did : goal.returns-in-None-clause-did
@@ -74,14 +74,14 @@ returns-in-None-clause-did g c =
     (λ told t h cs are. same_counts c.in-None.is are)
     (λ told t h. refl))
 
-pub returns-in_ok-set_root-in-Some-clause-did : goal.returns-in_ok-set_root-in-Some-clause-did
-returns-in_ok-set_root-in-Some-clause-did g c =
+pub returns-in_ok-set_root-in-Some-without_entry-clause-did : goal.returns-in_ok-set_root-in-Some-without_entry-clause-did
+returns-in_ok-set_root-in-Some-without_entry-clause-did g c =
     let kept = c.in_ok-found.ensures.kept in
-    let set = c.in_ok-set_root-in-Some.ensures in
+    let set = c.in_ok-set_root-in-Some-without_entry.ensures in
     let same = λ (shows : (g.P.PageSpace.view c.args.space.now).Shows) (t : HashTable) (h : IsHashTable (g.P.PageSpace.view c.args.space.now).space.pages.at c.args.root.0 t). c.in_ok-found.ensures.read shows (numbers_of t) t h.built.trunk in
     subst (λ (b : Bool). Did (g.P.PageSpace.view c.args.space.now) (g.P.PageSpace.view c.set_root.new.space) c.args.root.0 (λ _. Unit {0}) (IsDeleted c.args.key.now b)) (ap is_some c.in-Some.is)
-    (did_delete (λ _. numbers_in c.in-Some-2.numbers) (λ t. g.met.P.PageSpace.told_shows _ t) (reads_then kept c.in_ok-first.ensures.kept) c.in_ok-del.ensures.did set.did.keeps set.did.bands (λ told t e. set.did.pages told (numbers_of t) t.directory e)
+    (did_delete (λ _. numbers_in c.in-Some-without_entry.numbers) (λ t. g.met.P.PageSpace.told_shows _ t) (reads_then kept c.in_ok-first.ensures.kept) c.in_ok-del.ensures.did set.did.keeps set.did.bands (λ told t e. set.did.pages told (numbers_of t) t.directory e)
     (λ shows t h. c.in_ok-first.ensures.read (kept.shows shows) t (still_table kept shows h) (same shows t h))
-    (λ told t h. set.range)
-    (λ told t h cs are. del_numbers (subst (λ (o : Option ℕ). AreCounted c.args.key.now o [] t.buckets cs) c.in-Some.is are) (subst (λ (r : Numbers). IsUncounted (length c.args.key.now) _ r _) (same (g.met.P.PageSpace.told_shows _ told) t h) c.in-Some-2.ensures.counted))
-    (λ told t h. c.in-Some-2.ensures.counted.peak ∙ ap (λ (r : Numbers). r.peak) (same (g.met.P.PageSpace.told_shows _ told) t h)))
+    (λ told t h. set.did.range)
+    (λ told t h cs are. del_numbers (subst (λ (o : Option ℕ). AreCounted c.args.key.now o [] t.buckets cs) c.in-Some.is are) (subst (λ (r : Numbers). IsUncounted (length c.args.key.now) c.in-Some.value r (numbers_in c.in-Some-without_entry.numbers)) (same (g.met.P.PageSpace.told_shows _ told) t h) c.in-Some-without_entry.ensures.counted))
+    (λ told t h. c.in-Some-without_entry.ensures.counted.peak ∙ ap (λ (r : Numbers). r.peak) (same (g.met.P.PageSpace.told_shows _ told) t h)))

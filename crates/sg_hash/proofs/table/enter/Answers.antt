@@ -1,11 +1,15 @@
-use Rattle.std.proofs.Common.{◌≡◌, ◌+◌, ℕ, List, length, IsSome, is_none, refl, sym, ap, subst, arith, ◌∙◌}
+use Rattle.std.proofs.Common.{◌≡◌, ◌+◌, ℕ, Bool, true, false, not, List, length, is_none, refl, sym, ap, subst, arith, ◌∙◌}
 use Rattle.sg_hash.specs.Table.{HashTable, Numbers, home_of, numbers_of}
-use Rattle.sg_hash.specs.Steps.{IsCounted, numbers_in}
+use Rattle.sg_hash.specs.Steps.{DidEnter, IsCounted, numbers_in}
 use Rattle.sg_hash.proofs.Calling.{can_enter, did_enter, put_fits}
 use Rattle.sg_hash.proofs.Changing.{counted, found_bucket, root_there}
 use Rattle.sg_hash.proofs.Trunks.{still_table}
 use Rattle.sg_space.proofs.Known.{reads_then}
 use Rattle.sg_hash.proofs.table.enter.Goals as goal
+
+flip : (a b : Bool) → a ≡ not b → not a ≡ b
+flip a true e = ap not e
+flip a false e = ap not e
 
 pub read_root-requires : goal.read_root-requires
 read_root-requires g c = λ told. let h = c.requires.there told in (_, h.0, h.1.built.trunk, tt)
@@ -66,6 +70,9 @@ broken-requires g c = λ told.
 pub returns-in_ok-set_root-in-Some-clause-did : goal.returns-in_ok-set_root-in-Some-clause-did
 returns-in_ok-set_root-in-Some-clause-did g c =
     let kept = c.in_ok-found.ensures.kept in
-    did_enter (λ t. g.met.P.PageSpace.told_shows _ t) (reads_then kept c.in_ok-first.ensures.kept) c.in_ok-old.ensures.did c.in_ok-set_root-in-Some.ensures.did c.in_ok-set_root-in-Some.ensures.range
+    let set = c.in_ok-set_root-in-Some.ensures.did in
+    let same : is_none c.in_ok-old.old ≡ c.is_none.result = flip _ _ c.is_none.ensures in
+    subst (λ (b : Bool). DidEnter (g.P.PageSpace.view c.args.space.now) (g.P.PageSpace.view c.set_root.new.space) c.args.root.0 c.args.key.now c.args.value.now c.args.split b) same
+    (did_enter (λ t. g.met.P.PageSpace.told_shows _ t) (reads_then kept c.in_ok-first.ensures.kept) c.in_ok-old.ensures.did set set.range
     (λ shows t h. c.in_ok-first.ensures.read (kept.shows shows) t (still_table kept shows h) (c.in_ok-found.ensures.read shows _ t h.built.trunk))
-    (λ told t h. subst (λ (r : Numbers). IsCounted (length c.args.key.now) (length c.args.value.now) _ c.args.split r _) (c.in_ok-found.ensures.read (g.met.P.PageSpace.told_shows _ told) _ t h.built.trunk) c.in-Some.ensures.counted)
+    (λ told t h. subst (λ (r : Numbers). IsCounted (length c.args.key.now) (length c.args.value.now) c.in_ok-old.old c.args.split r (numbers_in c.in-Some.numbers)) (c.in_ok-found.ensures.read (g.met.P.PageSpace.told_shows _ told) _ t h.built.trunk) c.in-Some.ensures.counted))

@@ -1,0 +1,148 @@
+use super::*;
+use sg_base::{PageNo, PageOp};
+use sg_ops::Ops;
+use sg_space::{Guarded, MemSpace, PageSpace, SpaceFault};
+use std::alloc::Global;
+use std::test::Fail;
+
+// A table over a space in memory that tells nothing, so that its calls ask for nothing: what they are to answer stands in
+// the tests. The methods promise nothing, and a test sees plain values.
+#[derive(Drop)]
+struct Trial {
+    space: Guarded,
+    ops: Ops,
+    root: PageNo,
+}
+
+impl Trial {
+    // 64 or 700 pages, of which the catalogue has one.
+    fn new(alloc: Global, ops: Ops, large: bool) -> Result<Trial, Fail> {
+        let pages = if large { 700 } else { 64 };
+        let mut space = Guarded::new(MemSpace::new(alloc, pages, 2)?);
+        let root = make(&mut space, &ops)?;
+        Ok(Trial { space, ops, root })
+    }
+
+    // Another table in the same space, whose calls go through the same methods.
+    fn make_other(&mut self) -> Result<PageNo, SpaceFault> {
+        make(&mut self.space, &self.ops)
+    }
+
+    // Keys and values are cut to the lengths that they may have.
+    fn put(&mut self, key: &[u8], value: &[u8]) -> Result<bool, SpaceFault> {
+        let key = &key[..key.len().min(128)];
+        let value = &value[..value.len().min(1_024)];
+        put(&mut self.space, &self.ops, self.root, key, value, false)
+    }
+
+    fn find(&mut self, key: &[u8], into: &mut [u8; 1_024]) -> Result<Option<usize>, SpaceFault> {
+        find(&mut self.space, self.root, key, into)
+    }
+
+    fn del(&mut self, key: &[u8]) -> Result<bool, SpaceFault> {
+        del(&mut self.space, &self.ops, self.root, key)
+    }
+
+    fn free_all(&mut self) -> Result<(), SpaceFault> {
+        free_all(&mut self.space, self.root)
+    }
+
+    fn free_pages(&self) -> u32 {
+        self.space.free_pages()
+    }
+
+    fn faults(&self) -> u64 {
+        self.space.faults()
+    }
+
+    // Changes a page, as nothing of this crate would.
+    fn spoil(&mut self, page: u32, op: &PageOp<'_>) -> Result<(), SpaceFault> {
+        self.space.change(&self.ops, PageNo(page), op)
+    }
+}
+
+// How long the value of a key is, and the byte that each of its bytes is.
+fn found(table: &mut Trial, key: &[u8]) -> Result<Option<(usize, u8)>, SpaceFault> {
+    let mut into = [0; 1_024];
+    match table.find(key, &mut into)? {
+        None => Ok(None),
+        Some(n) => Ok(Some((n, into[0]))),
+    }
+}
+
+// Two values of 1,024 letters, one of them removed and put again.
+#[test]
+fn a_key_is_removed_and_put_again(rt: HostRuntime) -> Result<(), Fail> {
+    let mut table = Trial::new(rt.alloc(), Ops::shipped(rt.alloc())?, false)?;
+    assert_eq!(rt; table.put(b"k1", &[b'v'; 1_024])?, true);
+    assert_eq!(rt; table.put(b"k2", &[b'v'; 1_024])?, true);
+    assert_eq!(rt; table.del(b"k2")?, true);
+    assert_eq!(rt; table.del(b"k2")?, false);
+    assert_eq!(rt; found(&mut table, b"k2")?, None);
+    assert_eq!(rt; found(&mut table, b"k1")?, Some((1_024, b'v')));
+    assert_eq!(rt; table.put(b"k2", b"w")?, true);
+    assert_eq!(rt; table.put(b"k1", b"x")?, false);
+    assert_eq!(rt; found(&mut table, b"k2")?, Some((1, b'w')));
+    assert_eq!(rt; found(&mut table, b"k1")?, Some((1, b'x')));
+    Ok(())
+}
+
+// Puts so many entries of one table, and removes those of even number. Answers how many pages that took and gave back.
+fn fill_and_thin(table: &mut Trial, count: u16) -> Result<(u32, u32), SpaceFault> {
+    let first = table.free_pages();
+    for i in 0..count {
+        table.put(&i.to_le_bytes(), &[7; 500])?;
+    }
+    let full = table.free_pages();
+    for i in 0..count / 2 {
+        table.del(&(2 * i).to_le_bytes())?;
+    }
+    Ok((first.saturating_sub(full), table.free_pages().saturating_sub(full)))
+}
+
+// Entries of 506 bytes with their places, of which a page of 4,072 holds eight less 24 bytes: seven. A page whose entries
+// have all gone is given back.
+#[test]
+fn a_full_chain_takes_pages_and_gives_them_back(rt: HostRuntime) -> Result<(), Fail> {
+    let mut table = Trial::new(rt.alloc(), Ops::shipped(rt.alloc())?, false)?;
+    let (took, gave) = fill_and_thin(&mut table, 70)?;
+    assert_eq!(rt; took, 9);
+    assert_eq!(rt; gave, 0);
+    assert_eq!(rt; found(&mut table, &[2, 0])?, None);
+    assert_eq!(rt; found(&mut table, &[3, 0])?, Some((500, 7)));
+    Ok(())
+}
+
+// Two tables in one space, one of which is freed.
+#[test]
+fn tables_stand_side_by_side(rt: HostRuntime) -> Result<(), Fail> {
+    let mut table = Trial::new(rt.alloc(), Ops::shipped(rt.alloc())?, false)?;
+    let one = table.root;
+    table.put(b"key", b"one")?;
+    let free = table.free_pages();
+    table.root = table.make_other()?;
+    table.put(b"key", b"two")?;
+    assert_eq!(rt; found(&mut table, b"key")?, Some((3, b't')));
+    table.free_all()?;
+    assert_eq!(rt; table.free_pages(), free);
+    table.root = one;
+    assert_eq!(rt; found(&mut table, b"key")?, Some((3, b'o')));
+    Ok(())
+}
+
+// In a space whose page 0 is the catalogue's the table's directory is rooted in page 1 and its bucket begins in page 2; the
+// root is page 5. A chain that goes on in a ring, and a root that names a page that isn't a directory, end with a fault.
+#[test]
+fn broken_contents_end_with_a_fault(rt: HostRuntime) -> Result<(), Fail> {
+    let mut table = Trial::new(rt.alloc(), Ops::shipped(rt.alloc())?, false)?;
+    table.put(b"key", b"value")?;
+    table.spoil(2, &PageOp::Links { a: 2, b: 0 })?;
+    assert_eq!(rt; found(&mut table, b"key")?, Some((5, b'v')));
+    assert!(rt; table.del(b"other").is_err());
+    assert_eq!(rt; table.faults(), 1);
+    table.spoil(table.root.0, &PageOp::Links { a: 2, b: 0 })?;
+    assert!(rt; found(&mut table, b"key").is_err());
+    assert!(rt; table.free_all().is_err());
+    assert_eq!(rt; table.faults(), 3);
+    Ok(())
+}
