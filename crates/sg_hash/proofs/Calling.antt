@@ -33,7 +33,7 @@ can_enter {v} {w} {i = i} k shows h can f =
       };
     }
 
-not_in : {t : HashTable} {root i page p : ℕ} (f : IsFirstOf t i page) → ¬ Owns root t p → ¬ OwnsPage f.bucket p
+pub not_in : {t : HashTable} {root i page p : ℕ} (f : IsFirstOf t i page) → ¬ Owns root t p → ¬ OwnsPage f.bucket p
 not_in {i = i} f apart o = apart (inr (inr (record { index = i; bucket = f.bucket; is = f.is; owns = o })))
 
 pub did_enter : {u v w x : View} {root page : ℕ} {key value : List ℕ} {split : Bool} {old : Option ℕ} {n : Numbers} → (u.Told → u.Shows) → OnlyReads u v → DidPut v w page key value old → SetsRoot w x root n → IsInRange n

@@ -51,10 +51,10 @@ pub record IsMore (old mid new : Space) (t : HashTable) (names : Array) (c : Buc
   pub size : names.size ≡ t.names.size
 
 -- the pages of the table, and those of the new bucket
-table_same : {old mid new : Space} {root : ℕ} {n : Numbers} {t : HashTable} {names : Array} {c : Bucket} → IsBuilt old.pages.at root n t → IsMore old mid new t names c → (p : ℕ) → Owns root t p → mid.pages.at p ≡ old.pages.at p
+pub table_same : {old mid new : Space} {root : ℕ} {n : Numbers} {t : HashTable} {names : Array} {c : Bucket} → IsBuilt old.pages.at root n t → IsMore old mid new t names c → (p : ℕ) → Owns root t p → mid.pages.at p ≡ old.pages.at p
 table_same h m p o = m.pages.others p (λ x. x) (λ mine. elim (m.pages.taken p mine) as (λ _. ⊥) [ inl x ↦ x | inr free ↦ owns_there h p o free ])
 
-array_other : {mid new : Space} {directory : ℕ} {a b : Array} → array_calls.Turns mid new directory a b → (p : ℕ) → ¬ array.Owns directory a p → mid.pages.at p ≢ None → new.pages.at p ≡ mid.pages.at p
+pub array_other : {mid new : Space} {directory : ℕ} {a b : Array} → array_calls.Turns mid new directory a b → (p : ℕ) → ¬ array.Owns directory a p → mid.pages.at p ≢ None → new.pages.at p ≡ mid.pages.at p
 array_other t p apart some = t.pages.others p apart (λ mine. elim (t.pages.taken p mine) as (λ _. ⊥) [ inl before ↦ apart before | inr free ↦ some free ])
 
 more_named : {at : ℕ → Option Sheet} {root : ℕ} {n : Numbers} {t : HashTable} (names : Array) (c : Bucket) → IsTrunk at root n t → names.items ≡ t.names.items ++ (little_bytes 4 (first_page c) ∷ []) → (i : ℕ) → slice_get names.items i ≡ name_of (slice_get (t.buckets ++ (c ∷ [])) i)

@@ -59,11 +59,11 @@ pub record IsEntered (key value : List ℕ) (split new : Bool) (t t' : HashTable
   pub names : t'.names ≡ t.names
 
 -- A bucket is to be split: the entries have more than 2,048 bytes for each bucket, the chain of the bucket that is next has
--- at most 8 pages, and the directory has room for one more.
+-- at most 8 pages, and there are fewer than 2^20 buckets.
 pub record IsDue (t : HashTable) : Type 0 where
   pub bytes : 2048 * length t.buckets < byte_count (entries t)
   pub short : (b : Bucket) → slice_get t.buckets t.shape.split ≡ Some b → length b.pages ≤ 8
-  pub room : length t.buckets < 1048576
+  pub room : t.shape.level < 20
 
 -- one bucket has been split, where that was due. The entries are the same
 pub record IsGrown (t t' : HashTable) : Type 0 where

@@ -140,7 +140,8 @@ fn broken_contents_end_with_a_fault(rt: HostRuntime) -> Result<(), Fail> {
     assert_eq!(rt; found(&mut table, b"key")?, Some((5, b'v')));
     assert!(rt; table.del(b"other").is_err());
     assert_eq!(rt; table.faults(), 1);
-    table.spoil(table.root.0, &PageOp::Links { a: 2, b: 0 })?;
+    let root = table.root.0;
+    table.spoil(root, &PageOp::Links { a: 2, b: 0 })?;
     assert!(rt; found(&mut table, b"key").is_err());
     assert!(rt; table.free_all().is_err());
     assert_eq!(rt; table.faults(), 3);
