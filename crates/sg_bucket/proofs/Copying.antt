@@ -110,10 +110,10 @@ copies_past {u} {v} {x} {from = from} {s = s} i shows k back later outline below
   later = let first = i.later in omega arith;
   room = let room = i.room in omega arith;
   did = keep_told (keep_reads i.did shows k) (λ told b h can. can) (λ told b b' h can t c. λ sheet e.
-  let sh = shows ((i.did.keeps told).told told) in
-  let in_v : v.space.pages.at from ≡ Some sheet = sym (ap (λ (y : Space). y.pages.at from) (k.same sh)) ∙ same_beside t can.other e in
-  let out = here_is e (outline told) in
-  past_one sheet.slots k.keeps (let long = out.slots in omega arith) (here_is in_v (read sh)) (c sheet e));
+      let sh = shows ((i.did.keeps told).told told) in
+      let in_v : v.space.pages.at from ≡ Some sheet = sym (ap (λ (y : Space). y.pages.at from) (k.same sh)) ∙ same_beside t can.other e in
+      let out = here_is e (outline told) in
+      past_one sheet.slots k.keeps (let long = out.slots in omega arith) (here_is in_v (read sh)) (c sheet e));
 }
 
 -- and a cell more
@@ -181,11 +181,11 @@ copies_on i shows k back later back' later' outline below read room d = record {
   later = let first = i.later in omega arith;
   room = let before = i.room in omega arith;
   did = keep_then (keep_reads i.did shows k) d
-  (λ told b b' h can t c. let keeps = i.did.keeps told in let sh = shows (keeps.told told) in can_extend sh keeps k t can (outline told) below (read sh) c)
-  (λ told b b' b'' h can t c e. λ sheet is.
-  let sh = shows ((i.did.keeps told).told told) in
-  let f = found sh k t can (outline told) below (read sh) is in
-  copied_one sheet.slots f.below f.has.is f.has.at (c sheet is) e);
+      (λ told b b' h can t c. let keeps = i.did.keeps told in let sh = shows (keeps.told told) in can_extend sh keeps k t can (outline told) below (read sh) c)
+      (λ told b b' b'' h can t c e. λ sheet is.
+      let sh = shows ((i.did.keeps told).told told) in
+      let f = found sh k t can (outline told) below (read sh) is in
+      copied_one sheet.slots f.below f.has.is f.has.at (c sheet is) e);
 }
 
 -- all slots of the page

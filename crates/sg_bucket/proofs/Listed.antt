@@ -48,10 +48,10 @@ page_listed {v = v} {i = i} {page = page} old {now = now} {b = b} w listed read 
     let within = slice_get_within b.pages i page (w.walked shows b h).there in
     let long = h.long in (
       seen.listed
-      ∙ (ap (λ (s : Slots). now ++ keys_of (entries_in s)) part.has.slots_are
-      ∙ (ap (λ (ks : List (List ℕ)). ks ++ keys_of (entries_in (part_at b.parts i))) (listed shows b h)
-      ∙ (append_assoc old (keys_of (entries_of (take i b.parts))) (keys_of (entries_in (part_at b.parts i)))
-      ∙ ap (λ (ks : List (List ℕ)). old ++ ks) (sym (keys_append (entries_of (take i b.parts)) (entries_in (part_at b.parts i))) ∙ ap (λ (es : List Entry). keys_of es) (sym (parts_on b.parts i (omega arith))))))),
+          ∙ (ap (λ (s : Slots). now ++ keys_of (entries_in s)) part.has.slots_are
+          ∙ (ap (λ (ks : List (List ℕ)). ks ++ keys_of (entries_in (part_at b.parts i))) (listed shows b h)
+          ∙ (append_assoc old (keys_of (entries_of (take i b.parts))) (keys_of (entries_in (part_at b.parts i)))
+          ∙ ap (λ (ks : List (List ℕ)). old ++ ks) (sym (keys_append (entries_of (take i b.parts)) (entries_in (part_at b.parts i))) ∙ ap (λ (es : List Entry). keys_of es) (sym (parts_on b.parts i (omega arith))))))),
       sym part.has.next_is ∙ seen.next_is,
     )
 

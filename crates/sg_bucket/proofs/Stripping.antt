@@ -186,9 +186,9 @@ strips_past {page = page} {s = s} {there = there} i shows k back later read = re
   back = λ t. i.back (back t);
   later = let first = i.later in omega arith;
   did = did_as (did_reads i.did shows k) (λ told b c h can t r.
-  let sh = shows (i.did.told told) in
-  let here = still (λ (y : Space). HasAt y.pages.at page (LacksThere there s)) k sh (read sh) in
-  past_slot r (λ cell e. here.has cell (ap (λ (xs : Slots). cell_in xs s) (slots_now t.linked r (within_parts h r.page_is) here.is) ∙ e)));
+      let sh = shows (i.did.told told) in
+      let here = still (λ (y : Space). HasAt y.pages.at page (LacksThere there s)) k sh (read sh) in
+      past_slot r (λ cell e. here.has cell (ap (λ (xs : Slots). cell_in xs s) (slots_now t.linked r (within_parts h r.page_is) here.is) ∙ e)));
 }
 
 -- the cell that is to be removed
@@ -217,8 +217,8 @@ strips_on i shows k back later back' later' read before_is page_is slot_is d = r
   back = λ t. i.back (back (back' t));
   later = let first = i.later in omega arith;
   did = did_then (did_reads i.did shows k) d
-  (λ told b c h can t r. let found = found_at (shows (i.did.told told)) k h t.linked r read in record { was = found.cell; stands = strip_stands h can r found.is before_is page_is slot_is })
-  (λ told b c c' h can t r gone. let found = found_at (shows (i.did.told told)) k h t.linked r read in strip_one h can r found.is found.at before_is page_is slot_is gone);
+      (λ told b c h can t r. let found = found_at (shows (i.did.told told)) k h t.linked r read in record { was = found.cell; stands = strip_stands h can r found.is before_is page_is slot_is })
+      (λ told b c c' h can t r gone. let found = found_at (shows (i.did.told told)) k h t.linked r read in strip_one h can r found.is found.at before_is page_is slot_is gone);
 }
 
 pub strips_all : {u v : View} {first before page : ℕ} {there : Address} {seen : Outline} → Strips u v first before page there seen.slots → (u.Told → HasAt u.space.pages.at page (IsOutline seen)) → Did u v first (IsBehind before page) (IsStripped there page)

@@ -42,11 +42,7 @@ fn push_key(alloc: Global, keys: &mut Vec<Bytes>, cell: &[u8]) -> Result<(), Unl
 }
 
 // Puts the keys of a page's entries behind those that there are.
-fn list_keys(
-    view: &SlotView<'_>,
-    alloc: Global,
-    keys: &mut Vec<Bytes>,
-) -> Result<(), Unlisted>
+fn list_keys(view: &SlotView<'_>, alloc: Global, keys: &mut Vec<Bytes>) -> Result<(), Unlisted>
     ensures { MatchResult result
         (λ _. keys.new.items ≡ keys.old.items ++ keys_of (entries_in (slots_of view.now.page.now)))
         (λ e. IsUnlisted (slots_of view.now.page.now) e) }
