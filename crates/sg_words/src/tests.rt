@@ -63,12 +63,7 @@ fn long_line(alloc: Global, count: usize) -> Result<Vec<u8>, AllocError> {
 // Whether a value of so many bytes 0xa5 is one line.
 fn is_one_line(alloc: Global, count: usize) -> Result<bool, AllocError> {
     let text = long_line(alloc, count)?;
-    Ok(is_replied(
-        alloc,
-        &Reply::Bytes(count),
-        &[0xa5u8; 8192],
-        &text,
-    ))
+    Ok(is_replied(alloc, &Reply::Bytes(count), &[0xa5u8; 8192], &text))
 }
 
 #[test]
