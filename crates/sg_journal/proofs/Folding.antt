@@ -60,10 +60,6 @@ pub line_refused : (t : Operations) (s after : Objects) (op : Op) (reason : Reas
 line_refused t s after op reason e =
     sym (ap (λ (p : Outcome × Objects). p.1) e) ∙ step_refused t s op (ap (λ (p : Outcome × Objects). replied p.0) e)
 
--- what is left to do behind the next one of some lines
-pub next_line : (t : Operations) (s after : Objects) (words : List ℕ) (lines : List (List ℕ)) → after_line t s words ≡ Some after → replay t (words ∷ lines) (Some s) ≡ replay t lines (Some after)
-next_line t s after words lines e = ap (λ (o : Option Objects). replay t lines o) e
-
 -- what is left to do behind the lines of one of some transactions, and of one that is left out
 pub next_one : (t : Operations) (words : ℕ → List (List ℕ)) (but : ℕ) (l : Opened) (ls : List Opened) (s after : Objects) → (l.transaction == but) ≡ false → replay t (words l.transaction) (Some s) ≡ Some after
     → replay t (words_of_each words (opened_without but (l ∷ ls))) (Some s) ≡ replay t (words_of_each words (opened_without but ls)) (Some after)

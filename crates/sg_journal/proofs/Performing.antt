@@ -7,9 +7,6 @@ use Rattle.sg_disk.specs.Disk as disk
 use Rattle.sg_serial.specs.Locks.{Touch, Hold, first_holder, hold_all}
 use Rattle.sg_ops.specs.Table.{Table as Operations}
 use Rattle.sg_model.specs.declared.op.Op as code_op
-use Rattle.sg_model.specs.declared.op.Op.TheVariants as ops
-use Rattle.sg_model.specs.Objects as old_model
-use Rattle.sg_model.specs.Shown.{shown_op}
 use Rattle.sg_model.specs.SaidOps.{said_op}
 use Rattle.sg_model.specs.Objects.{Objects}
 use Rattle.sg_model.specs.Verb.{Op, Outcome, Reply}
@@ -49,26 +46,6 @@ use Rattle.sg_journal.proofs.Along.{goes_along}
 use Rattle.sg_journal.proofs.Steps.{op_busy, op_locks_full}
 use Rattle.sg_journal.proofs.Locking.{granted_is, busy_is, full_is, somebody, nobody, same_count}
 use Rattle.sg_journal.proofs.Changes.{op_end, op_memory, op_unchanged, op_breaks}
-
--- both ways to say that an operation can change objects are one
-pub changing_same : (op : code_op.Op) → old_model.is_changing (shown_op op) ≡ is_changing (said_op op)
-changing_same (ops.MakeArray name size) = refl
-changing_same (ops.MakeTable name) = refl
-changing_same (ops.MakeBlob name) = refl
-changing_same (ops.Discard name) = refl
-changing_same (ops.Push name value) = refl
-changing_same (ops.Pop name) = refl
-changing_same (ops.Set name index value) = refl
-changing_same (ops.Get name index) = refl
-changing_same (ops.Len name) = refl
-changing_same (ops.Apply name index code arg) = refl
-changing_same (ops.Put name key value) = refl
-changing_same (ops.Del name key) = refl
-changing_same (ops.Find name key) = refl
-changing_same (ops.Write name at bytes) = refl
-changing_same (ops.Read name at count) = refl
-changing_same (ops.Size name length) = refl
-changing_same (ops.Paint name at count code arg) = refl
 
 -- the kept words of a line that says an operation say it too
 

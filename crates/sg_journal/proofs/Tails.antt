@@ -95,10 +95,6 @@ same_on was s t area is h k b other = k b (λ e. other (e ∙ is)) ∙ h b other
 pub chained_after : (log : Tail) (r : Record) (ds ps : List Numbered) → AreChained (ds ++ ps) → Follows (ds ++ ps) (numbered log r) → AreChained (durable_after log r ds ps ++ waiting_after log r ps)
 chained_after log r ds ps h follows = subst AreChained (sym (all_appended log r ds ps)) (chained-more (ds ++ ps) (numbered log r) h follows)
 
--- and is its transaction's last one
-pub last_after : (log : Tail) (r : Record) (ds ps : List Numbered) → place_of log r ≡ last_of (transaction_of r) (durable_after log r ds ps ++ waiting_after log r ps)
-last_after log r ds ps = sym (last_of-own (ds ++ ps) (numbered log r)) ∙ ap (last_of (transaction_of r)) (sym (all_appended log r ds ps))
-
 -- a call on the log that made what waited durable, or nothing
 abbrev pub HoldsAfter : Bool → disk.View → disk.View → Tail → Tail → Record → Type 0
 HoldsAfter told v w log new r = (ds ps : List Numbered) → IsTrue told → Holds v log ds ps → Holds w new (durable_after log r ds ps) (waiting_after log r ps)
@@ -133,12 +129,6 @@ append_risen end v w faults.Disk h within = h
 append_risen end v w faults.LogEnd h within = absurd (omega arith)
 append_risen end v w (faults.Damaged at) h within = absurd h
 append_risen end v w faults.Memory h within = absurd h
-
-pub force_risen : (v w : disk.View) (e : LogFault) → ForceFails v w e → HasRisen v.faults w.faults
-force_risen v w faults.Disk h = h
-force_risen v w faults.LogEnd h = absurd h
-force_risen v w (faults.Damaged at) h = absurd h
-force_risen v w faults.Memory h = absurd h
 
 -- equal texts
 pub same_text : (xs ys : List ℕ) → bytes_eq xs ys ≡ true → ys ≡ xs

@@ -90,9 +90,6 @@ found_changed i d a b (Some item) s e f = ap (λ n. slice_get (put_item b i (d n
 only_item : (i : ℕ) (q : Part) → (same_part (Item i) q || false) ≡ true → Item i ≡ q
 only_item i q h = part_same (Item i) q (one_true (same_part (Item i) q) h)
 
-item_agrees : (i : ℕ) (rs : List Reach) (a b : Row) → any_touch reads_part rs (Item i) ≡ true → AgreeRow rs a b → slice_get b.items i ≡ slice_get a.items i
-item_agrees i rs a b h agree = sym (agree (Item i) h)
-
 pub item_self : (i : ℕ) → (same_part (Item i) (Item i) || false) ≡ true
 item_self i = true_one (i == i) (eq-eqb i i refl)
 

@@ -1,7 +1,3 @@
-pub mod Found
-pub mod Rows
-pub mod Changed
-pub mod Laws
 pub mod Parts
 pub mod Items
 pub mod Slots

@@ -176,9 +176,6 @@ blob_reach ts (Some (Array row)) = to_read (Just Kind) ∷ []
 blob_reach ts (Some (Table m)) = to_read (Just Kind) ∷ []
 blob_reach ts (Some (Blob x)) = to_read (Just Kind) ∷ ts
 
-kind_read : (o : Option Object) (rs : Option Object → List Reach) → ((p : Option Object) → any_touch reads_part (rs p) Kind ≡ true) → any_touch reads_part (rs o) Kind ≡ true
-kind_read o rs h = h o
-
 more_read : (ts : List Reach) (q : Part) → any_touch reads_part ts q ≡ true → any_touch reads_part (to_read (Just Kind) ∷ ts) q ≡ true
 more_read ts q h = more (covers_part (Just Kind) q) (any_touch reads_part ts q) h
   where
@@ -286,9 +283,6 @@ module _ (f : List ℕ → Outcome × List ℕ) (w : Bool) (kept : w ≡ false �
     given = λ o p h. (blob_follows (alike o p (h Kind (blob_kind o))) h).1;
     changed = λ o p h. (blob_follows (alike o p (h Kind (blob_kind o))) h).2;
   }
-
-kind_further : (o : Option Object) → any_touch reads_part (to_read (Just Kind) ∷ further Len o) Kind ≡ true
-kind_further o = refl
 
 no_write : (o : Option Object) (q : Part) → any_touch writes_part (to_read (Just Kind) ∷ further Len o) q ≡ true → ⊥
 no_write None q h = never h

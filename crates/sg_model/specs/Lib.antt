@@ -1,9 +1,5 @@
 pub mod Objects
-pub mod History
-pub mod Shown
-pub mod Arrays
 pub mod Codes
-pub mod Replies
 pub mod Verb
 pub mod Step
 pub mod Touches

@@ -114,9 +114,8 @@ pub enum Reply {
 }
 
 impl Op<'_> {
-    ghost use Rattle.sg_model.specs.Objects.{is_changing};
-    ghost use Rattle.sg_model.specs.Shown.{shown_op};
-    ghost use Rattle.sg_model.specs.SaidOps.{name_of};
+    ghost use Rattle.sg_model.specs.Step.{is_changing};
+    ghost use Rattle.sg_model.specs.SaidOps.{said_op, name_of};
 
     /// The name of the object that the operation is done to.
     pub fn name(&self) -> Name
@@ -145,7 +144,7 @@ impl Op<'_> {
 
     /// Whether the operation can change the objects: all can but get, len, find and read.
     pub fn is_changing(&self) -> bool
-        ensures { result ≡ is_changing (shown_op self.now) }
+        ensures { result ≡ is_changing (said_op self.now) }
     {
         match self {
             Op::Get { .. } | Op::Len { .. } | Op::Find { .. } | Op::Read { .. } => false,

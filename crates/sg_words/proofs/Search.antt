@@ -34,15 +34,6 @@ is_position at text (Some n) h =
     let e = position_or_len_is (λ b. b == at) text n 0 (omega arith) (λ k i. not_true (slice_index text k == at) (h.0.before k (omega arith) i)) (λ i. h.1) in
     sym (at_place at n text e ∙ ap (λ (b : Bool). cond b (Some n) None) (below n (length text) high))
 
--- a place in the first part of a list is one of the whole
-place_some : (p : ℕ → Bool) (xs ys : List ℕ) → position_or_len p xs < length xs → position_or_len p (xs ++ ys) ≡ position_or_len p xs
-place_some p [] ys h = absurd (omega arith)
-place_some p (x ∷ xs) ys h =
-    elim (p x) as (λ b. cond (not b) (1 + position_or_len p xs) 0 < length (x ∷ xs) → cond (not b) (1 + position_or_len p (xs ++ ys)) 0 ≡ cond (not b) (1 + position_or_len p xs) 0) [
-      | true ↦ λ k. refl
-      | false ↦ λ k. ap (λ (n : ℕ). 1 + n) (place_some p xs ys (omega arith))
-    ] h
-
 -- where the first part has none, the place is one of the second
 place_none : (p : ℕ → Bool) (xs ys : List ℕ) → length xs ≤ position_or_len p xs → position_or_len p (xs ++ ys) ≡ length xs + position_or_len p ys
 place_none p [] ys h = omega arith
@@ -58,13 +49,6 @@ placed p xs i e h = ap (λ (n : ℕ). cond (nat_lt n (length xs)) (Some n) None)
 module _ (p : ℕ → Bool) (text near far : List ℕ) (n : ℕ) (front : near ≡ take n text) (back : far ≡ drop n text) where
   whole : near ++ far ≡ text
   whole = ap (λ (xs : List ℕ). xs ++ far) front ∙ (ap (λ (ys : List ℕ). take n text ++ ys) back ∙ take-append-drop n text)
-
-  pub near_place : (i : ℕ) → position p near ≡ Some i → position p text ≡ Some i
-  near_place i e =
-      let h = chosen (nat_lt (position_or_len p near) (length near)) (position_or_len p near) i e in
-      let within : i < length near = grind (arith, nat_tests, h.0, h.1) in
-      let some : position_or_len p near < length near = omega (arith, h.1, within) in
-      subst (λ (t : List ℕ). position p t ≡ Some i) whole (placed p (near ++ far) i (place_some p near far some ∙ h.1) (omega (arith, within, length-append near far)))
 
   pub far_place : (i : ℕ) → position p near ≡ None → position p far ≡ Some i → position p text ≡ Some (length near + i)
   far_place i none e =

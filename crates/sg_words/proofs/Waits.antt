@@ -19,10 +19,6 @@ front_longer (Some had) bytes more b h =
 pub passes_none : (a : Option (List ℕ)) (bytes waiting : List ℕ) → waiting ≡ bytes → Passes a bytes a waiting
 passes_none a bytes waiting e = record { front = []; taken = Takes-nothing a; whole = e }
 
--- what waited is written, and more waits
-pub passes_some : (a : Option (List ℕ)) (bytes more : List ℕ) (b : Option (List ℕ)) (waiting : List ℕ) → Takes a bytes b → waiting ≡ more → Passes a (bytes ++ more) b waiting
-passes_some a bytes more b waiting h e = record { front = bytes; taken = h; whole = ap (λ (t : List ℕ). bytes ++ t) e }
-
 -- more comes to what waits
 pub passes_on : (a : Option (List ℕ)) (bytes : List ℕ) (b : Option (List ℕ)) (waiting more : List ℕ) (c : Option (List ℕ)) (now : List ℕ) → Passes a bytes b waiting → Passes b (waiting ++ more) c now → Passes a (bytes ++ more) c now
 passes_on a bytes b waiting more c now h k = record {
@@ -30,10 +26,6 @@ passes_on a bytes b waiting more c now h k = record {
   taken = Takes-more a h.front b k.front c h.taken k.taken;
   whole = append_assoc h.front k.front now ∙ (ap (λ (t : List ℕ). h.front ++ t) k.whole ∙ (sym (append_assoc h.front waiting more) ∙ ap (λ (t : List ℕ). t ++ more) h.whole));
 }
-
--- what waits is written
-pub passes_all : (a : Option (List ℕ)) (bytes : List ℕ) (b : Option (List ℕ)) (waiting : List ℕ) (c : Option (List ℕ)) → Passes a bytes b waiting → Takes b waiting c → Takes a bytes c
-passes_all a bytes b waiting c h k = subst (λ (t : List ℕ). Takes a t c) h.whole (Takes-more a h.front b waiting c h.taken k)
 
 -- of what waits a front is written
 pub passes_cut : (a : Option (List ℕ)) (bytes : List ℕ) (b : Option (List ℕ)) (waiting : List ℕ) (c : Option (List ℕ)) → Passes a bytes b waiting → TakesFront b waiting c → TakesFront a bytes c
@@ -44,12 +36,6 @@ pub passes_cut_on : (a : Option (List ℕ)) (bytes : List ℕ) (b : Option (List
 passes_cut_on a bytes b waiting more c h k =
     let whole : h.front ++ (waiting ++ more) ≡ bytes ++ more = sym (append_assoc h.front waiting more) ∙ ap (λ (t : List ℕ). t ++ more) h.whole in
     subst (λ (t : List ℕ). TakesFront a t c) whole (front_behind a h.front b (waiting ++ more) c h.taken k)
-
--- what waits, and more, is written
-pub passes_end : (a : Option (List ℕ)) (bytes : List ℕ) (b : Option (List ℕ)) (waiting more : List ℕ) (c : Option (List ℕ)) → Passes a bytes b waiting → Takes b (waiting ++ more) c → Takes a (bytes ++ more) c
-passes_end a bytes b waiting more c h k =
-    let whole : h.front ++ (waiting ++ more) ≡ bytes ++ more = sym (append_assoc h.front waiting more) ∙ ap (λ (t : List ℕ). t ++ more) h.whole in
-    subst (λ (t : List ℕ). Takes a t c) whole (Takes-more a h.front b (waiting ++ more) c h.taken k)
 
 -- all is written
 pub passes_whole : (a : Option (List ℕ)) (bytes more : List ℕ) (b c : Option (List ℕ)) → Takes a bytes b → Takes b more c → Passes a (bytes ++ more) c []

@@ -1,10 +1,8 @@
 -- The words of a line that a log keeps.
-use Rattle.std.specs.Prelude.{ℕ, List, [], ◌∷◌, Option}
+use Rattle.std.specs.Prelude.{ℕ, List, [], ◌∷◌}
 use Rattle.std.specs.List.{join_with_byte}
 use Rattle.std.specs.Str.Lines.{strip_carriage_return}
-use Rattle.sg_model.specs.Objects.{Op}
-use Rattle.sg_words.specs.Order.{op_of}
-use Rattle.sg_words.specs.Parse.{words_of, verb_of}
+use Rattle.sg_words.specs.Parse.{words_of}
 
 -- the words but for the first
 abbrev pub later_words : List (List ℕ) → List (List ℕ)
@@ -14,7 +12,3 @@ later_words (word ∷ words) = words
 -- the words of a line but for the first, the transaction's name, with one space between each two
 abbrev pub spoken : List ℕ → List ℕ
 spoken line = join_with_byte 32 (later_words (words_of (strip_carriage_return line)))
-
--- the operation that such words say
-abbrev pub op_said : List ℕ → Option Op
-op_said said = op_of (verb_of (words_of said))

@@ -1,14 +1,10 @@
-ghost use Rattle.std.specs.Prelude.{◌≡◌, ◌≤◌, length, take, true, Option, Some, None};
+ghost use Rattle.std.specs.Prelude.{◌≡◌, ◌≤◌, length, take, true};
 ghost use Rattle.std.specs.List.{join_with_byte};
 ghost use Rattle.sg_words.specs.Parse.{words_of};
-ghost use Rattle.sg_words.specs.Shown.{shown_op_option};
-ghost use Rattle.sg_words.specs.Order.{IfBuiltOp};
-ghost use Rattle.sg_words.specs.Spoken.{spoken, op_said};
+ghost use Rattle.sg_words.specs.Spoken.{spoken};
 
 use crate::buffer::append;
-use crate::parse::{Verb, read_verb, without_return};
-use crate::split::{cut, next_word};
-use sg_model::Op;
+use crate::split::{cut, next_word, without_return};
 
 // Whether the words stand joined: with one space between each two, and none before the first or behind
 // the last.
@@ -61,19 +57,5 @@ pub fn join_words(line: &[u8], into: &mut [u8]) -> usize
         append(into, 0, rest)
     } else {
         join(rest, into)
-    }
-}
-
-/// The operation that the words kept of a line say, if they say one. `scratch` takes the bytes of a
-/// value in hexadecimal digits.
-pub fn parse_said<'a>(said: &'a [u8], scratch: &'a mut [u8]) -> Option<Op<'a>>
-    requires { length said.now ≤ length scratch.old }
-    ensures built { IfBuiltOp (shown_op_option result) }
-    ensures op { shown_op_option result ≡ op_said said.now }
-{
-    let (word, rest) = next_word(said)?;
-    match read_verb(word, rest, scratch) {
-        Some(Verb::Do(op)) => Some(op),
-        _ => None,
     }
 }

@@ -1,7 +1,8 @@
 ghost use Rattle.std.specs.Prelude.{◌≡◌, ◌+◌, ◌*◌, ◌≤◌, ◌<◌, [], ◌++◌, List, ℕ, length, take, OnOk, OnErr, codes, decimal};
 ghost use Rattle.sg_base.specs.Ends.{HasRisen, Takes, TakesFront};
-ghost use Rattle.sg_model.specs.Replies.{shown_reply};
-ghost use Rattle.sg_words.specs.Text.{prints_plain, printed, text_of_reason, text_of_reply};
+ghost use Rattle.sg_model.specs.SaidReplies.{said_reply};
+ghost use Rattle.sg_words.specs.Answers.{text_of_reply};
+ghost use Rattle.sg_words.specs.Text.{prints_plain, printed, text_of_reason};
 
 use crate::buffer::{append, append_hex};
 use crate::value::are_plain;
@@ -40,7 +41,7 @@ fn print(into: &mut [u8], at: usize, bytes: &[u8]) -> usize
 
 // The bytes of an answer, at the front of those that were handed in.
 fn value_of_reply<'a>(reply: &Reply, bytes: &'a [u8]) -> &'a [u8]
-    ensures same { shown_reply result.now reply.now ≡ shown_reply bytes.now reply.now }
+    ensures same { said_reply result.now reply.now ≡ said_reply bytes.now reply.now }
     ensures within { length result.now ≤ length bytes.now }
 {
     match reply {
@@ -53,7 +54,7 @@ fn value_of_reply<'a>(reply: &Reply, bytes: &'a [u8]) -> &'a [u8]
 fn put_reply(into: &mut [u8], reply: &Reply, value: &[u8]) -> usize
     requires room { 64 + 2 * length value.now ≤ length into.old }
     ensures end { result ≤ length into.new }
-    ensures line { take result into.new ≡ text_of_reply (shown_reply value.now reply.now) }
+    ensures line { take result into.new ≡ text_of_reply (said_reply value.now reply.now) }
 {
     match reply {
         Reply::Done => append(into, 0, b"ok\n"),
@@ -99,8 +100,8 @@ fn put_value(into: &mut [u8], value: &[u8]) -> usize
 fn write_by<const N: usize, K: Sink>(reply: &Reply, value: &[u8], out: &mut K) -> Result<(), Failed>
     requires room { 64 + 2 * length value.now ≤ N }
     requires most { N ≤ 16448 }
-    ensures took { OnOk result (Takes (K.taken out.old) (text_of_reply (shown_reply value.now reply.now)) (K.taken out.new)) }
-    ensures cut { OnErr result (TakesFront (K.taken out.old) (text_of_reply (shown_reply value.now reply.now)) (K.taken out.new)) }
+    ensures took { OnOk result (Takes (K.taken out.old) (text_of_reply (said_reply value.now reply.now)) (K.taken out.new)) }
+    ensures cut { OnErr result (TakesFront (K.taken out.old) (text_of_reply (said_reply value.now reply.now)) (K.taken out.new)) }
     ensures later { K.faults out.old ≤ K.faults out.new }
     ensures quiet { OnOk result (K.faults out.new ≡ K.faults out.old) }
     ensures failed { OnErr result (HasRisen (K.faults out.old) (K.faults out.new)) }
@@ -114,8 +115,8 @@ fn write_by<const N: usize, K: Sink>(reply: &Reply, value: &[u8], out: &mut K) -
 /// at its front. Where the sink fails, it took a front of the line.
 pub fn write_reply<K: Sink>(reply: &Reply, bytes: &[u8], out: &mut K) -> Result<(), Failed>
     requires { length bytes.now ≤ 8192 }
-    ensures took { OnOk result (Takes (K.taken out.old) (text_of_reply (shown_reply bytes.now reply.now)) (K.taken out.new)) }
-    ensures cut { OnErr result (TakesFront (K.taken out.old) (text_of_reply (shown_reply bytes.now reply.now)) (K.taken out.new)) }
+    ensures took { OnOk result (Takes (K.taken out.old) (text_of_reply (said_reply bytes.now reply.now)) (K.taken out.new)) }
+    ensures cut { OnErr result (TakesFront (K.taken out.old) (text_of_reply (said_reply bytes.now reply.now)) (K.taken out.new)) }
     ensures later { K.faults out.old ≤ K.faults out.new }
     ensures quiet { OnOk result (K.faults out.new ≡ K.faults out.old) }
     ensures failed { OnErr result (HasRisen (K.faults out.old) (K.faults out.new)) }
@@ -128,22 +129,6 @@ pub fn write_reply<K: Sink>(reply: &Reply, bytes: &[u8], out: &mut K) -> Result<
     } else {
         write_by::<16448, K>(reply, value, out)
     }
-}
-
-/// Writes bytes as they are printed, in one call of the sink: as themselves where there is at least
-/// one, all are from 0x21 to 0x7E and they don't begin with `x:`, and else as `x:` and lower-case
-/// hexadecimal digits. Where the sink fails, it took a front of that.
-pub fn write_value<K: Sink>(bytes: &[u8], out: &mut K) -> Result<(), Failed>
-    requires { length bytes.now ≤ 8192 }
-    ensures took { OnOk result (Takes (K.taken out.old) (printed bytes.now) (K.taken out.new)) }
-    ensures cut { OnErr result (TakesFront (K.taken out.old) (printed bytes.now) (K.taken out.new)) }
-    ensures later { K.faults out.old ≤ K.faults out.new }
-    ensures quiet { OnOk result (K.faults out.new ≡ K.faults out.old) }
-    ensures failed { OnErr result (HasRisen (K.faults out.old) (K.faults out.new)) }
-{
-    let mut text = [0u8; 16448];
-    let end = print(&mut text, 0, bytes);
-    out.write(&text[..end])
 }
 
 /// The line of a reason, with its LF.

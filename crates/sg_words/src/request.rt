@@ -6,11 +6,14 @@ ghost use Rattle.sg_words.specs.Requests.{make_array_of, make_table_of, make_blo
 ghost use Rattle.sg_words.specs.Requests.Request.{Begin, Commit, Abort, Do};
 
 use crate::number::parse_number;
-use crate::parse::{MOST_LINE_BYTES, transaction, without_return};
-use crate::split::next_word;
+use crate::split::{next_word, without_return};
+use crate::transaction::transaction;
 use crate::value;
 use sg_base::Name;
 use sg_model::Op;
+
+/// The longest line in bytes, without its LF.
+const MOST_LINE_BYTES: usize = 32768;
 
 /// What is asked of a transaction.
 #[derive(Clone, Copy)]

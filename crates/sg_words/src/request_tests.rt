@@ -98,34 +98,10 @@ fn asked(text: &[u8]) -> What {
     }
 }
 
-// The same, of the verbs that `parse_line` knows.
-fn said(text: &[u8]) -> What {
-    let mut scratch = [0u8; 32768];
-    match parse_line(text, &mut scratch) {
-        Line::Blank => Blank,
-        Line::Syntax => Wrong,
-        Line::Txn { name: _, verb } => match verb {
-            Verb::Begin => Begin,
-            Verb::Commit => Commit,
-            Verb::Do(op) => of_op(&op),
-        },
-    }
-}
-
 // The first row that asks for something else.
 fn first_asked(rows: &[Row]) -> Option<usize> {
     for (i, (text, want)) in rows.iter().enumerate() {
         if asked(text) != *want {
-            return Some(i);
-        }
-    }
-    None
-}
-
-// The same, of the verbs that `parse_line` knows.
-fn first_said(rows: &[Row]) -> Option<usize> {
-    for (i, (text, want)) in rows.iter().enumerate() {
-        if said(text) != *want {
             return Some(i);
         }
     }
@@ -214,12 +190,7 @@ const PARTS: [Row; 34] = [
 fn a_line_says_what_its_words_say(rt: HostRuntime) {
     assert_eq!(rt; first_asked(&WORDS), None);
     assert_eq!(rt; first_asked(&PARTS), None);
-    assert_eq!(rt; first_said(&WORDS), None);
-    assert_eq!(rt; first_said(&PARTS), None);
 }
-
-// What `parse_line` doesn't know.
-const UNKNOWN: [Row; 2] = [(b"t make table a", Wrong), (b"t pop a", Wrong)];
 
 // Each verb takes its words.
 const VERBS: [Row; 42] = [
@@ -296,7 +267,6 @@ const LIMITS: [Row; 15] = [
 fn each_verb_takes_its_words(rt: HostRuntime) {
     assert_eq!(rt; first_asked(&VERBS), None);
     assert_eq!(rt; first_asked(&LIMITS), None);
-    assert_eq!(rt; first_said(&UNKNOWN), None);
 }
 
 // The value that a line pushes.
@@ -305,18 +275,6 @@ fn is_pushed(text: &[u8], value: &[u8]) -> bool {
     match parse_request(text, &mut scratch) {
         Asked::Of { name: _, request } => match request {
             Request::Do(Op::Push { name: _, value: v }) => v == value,
-            _ => false,
-        },
-        _ => false,
-    }
-}
-
-// The same, by `parse_line`.
-fn is_said(text: &[u8], value: &[u8]) -> bool {
-    let mut scratch = [0u8; 32768];
-    match parse_line(text, &mut scratch) {
-        Line::Txn { name: _, verb } => match verb {
-            Verb::Do(Op::Push { name: _, value: v }) => v == value,
             _ => false,
         },
         _ => false,
@@ -338,7 +296,7 @@ const VALUES: [(&[u8], &[u8]); 8] = [
 // The first row that pushes something else.
 fn first_pushed() -> Option<usize> {
     for (i, (text, value)) in VALUES.iter().enumerate() {
-        if !is_pushed(text, value) || !is_said(text, value) {
+        if !is_pushed(text, value) {
             return Some(i);
         }
     }
@@ -346,17 +304,17 @@ fn first_pushed() -> Option<usize> {
 }
 
 // A line that begins with a text, has so many bytes then, filled up with one byte, and ends with another
-// text; what it asks for, and whether `parse_line` says the same.
-const LONG: [(&[u8], u8, usize, &[u8], What, bool); 9] = [
-    (b"", b' ', 32768, b"", Blank, true),
-    (b"", b' ', 32769, b"", Wrong, true),
-    (b"t push a x:", b'4', 32767, b"", Push(16378), true),
-    (b"t push a x:", b'4', 32767, b"\r", Push(16378), true),
-    (b"t push a x:", b'4', 32767, b"\r\r", Wrong, true),
-    (b"t find a ", b'k', 137, b"", Find(128), false),
-    (b"t find a ", b'k', 138, b"", Find(129), false),
-    (b"t put a k ", b'k', 1035, b"", Put(1, 1025), false),
-    (b"t apply a 0 1 ", b'k', 271, b"", Apply(0, 1, 257), false),
+// text; and what it asks for.
+const LONG: [(&[u8], u8, usize, &[u8], What); 9] = [
+    (b"", b' ', 32768, b"", Blank),
+    (b"", b' ', 32769, b"", Wrong),
+    (b"t push a x:", b'4', 32767, b"", Push(16378)),
+    (b"t push a x:", b'4', 32767, b"\r", Push(16378)),
+    (b"t push a x:", b'4', 32767, b"\r\r", Wrong),
+    (b"t find a ", b'k', 137, b"", Find(128)),
+    (b"t find a ", b'k', 138, b"", Find(129)),
+    (b"t put a k ", b'k', 1035, b"", Put(1, 1025)),
+    (b"t apply a 0 1 ", b'k', 271, b"", Apply(0, 1, 257)),
 ];
 
 fn filled(
@@ -374,9 +332,9 @@ fn filled(
 
 // The first row that asks for something else.
 fn first_long(alloc: Global) -> Result<Option<usize>, AllocError> {
-    for (i, (front, fill, len, back, want, both)) in LONG.iter().enumerate() {
+    for (i, (front, fill, len, back, want)) in LONG.iter().enumerate() {
         let line = filled(alloc, front, *fill, *len, back)?;
-        if asked(&line) != *want || (*both && said(&line) != *want) {
+        if asked(&line) != *want {
             return Ok(Some(i));
         }
     }
@@ -410,18 +368,6 @@ fn asked_again(words: &[u8]) -> What {
     }
 }
 
-// The operation that they say by `parse_said`, if they say one.
-fn said_again(words: &[u8]) -> What {
-    let mut scratch = [0u8; 32768];
-    if words.len() > 32768 {
-        return Wrong;
-    }
-    match parse_said(words, &mut scratch) {
-        Some(op) => of_op(&op),
-        None => Wrong,
-    }
-}
-
 fn is_kept(text: &[u8], words: &[u8]) -> bool {
     let mut into = [0u8; 64];
     if text.len() > 64 {
@@ -434,8 +380,7 @@ fn is_kept(text: &[u8], words: &[u8]) -> bool {
 // The first row that keeps or asks for something else.
 fn first_kept() -> Option<usize> {
     for (i, (text, words, want)) in KEPT.iter().enumerate() {
-        let op = if *want == Begin { Wrong } else { *want };
-        if !is_kept(text, words) || asked_again(words) != *want || said_again(words) != op {
+        if !is_kept(text, words) || asked_again(words) != *want {
             return Some(i);
         }
     }
@@ -443,6 +388,6 @@ fn first_kept() -> Option<usize> {
 }
 
 #[test]
-fn the_words_kept_of_a_line_say_its_operation(rt: HostRuntime) {
+fn the_words_kept_of_a_line_ask_for_the_same(rt: HostRuntime) {
     assert_eq!(rt; first_kept(), None);
 }

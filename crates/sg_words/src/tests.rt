@@ -31,7 +31,7 @@ fn is_replied(alloc: Global, reply: &Reply, bytes: &[u8], text: &[u8]) -> bool {
     if bytes.len() > 8192 {
         return false;
     }
-    let went = write_reply(reply, bytes, &mut sink).is_ok();
+    let went = write_answer(&Answer::Said(*reply), bytes, &mut sink).is_ok();
     went && sink.text() == text && sink.write(b"more").is_err()
 }
 
@@ -50,37 +50,28 @@ fn a_reply_is_one_line(rt: HostRuntime) {
     assert_eq!(rt; first_replied(rt.alloc()), None);
 }
 
-// The line of a value of 8,192 bytes 0xa5.
-fn longest_line(alloc: Global) -> Result<Vec<u8>, AllocError> {
+// The line of a value of so many bytes 0xa5.
+fn long_line(alloc: Global, count: usize) -> Result<Vec<u8>, AllocError> {
     let mut text = Vec::from_slice(alloc, b"ok x:")?;
-    for _ in 0..8192 {
+    for _ in 0..count {
         text.extend_from_slice(b"a5")?;
     }
     text.push(b'\n')?;
     Ok(text)
 }
 
-// How many bytes a value is written as, if that takes one call of a sink whose second one fails.
-fn value_len(alloc: Global, bytes: &[u8]) -> Option<usize> {
-    let mut sink = MemSink::new(alloc, Some(2));
-    if bytes.len() > 8192 || write_value(bytes, &mut sink).is_err() {
-        return None;
-    }
-    let len = sink.text().len();
-    if write_value(b"a", &mut sink).is_err() {
-        Some(len)
-    } else {
-        None
-    }
+// Whether a value of so many bytes 0xa5 is one line.
+fn is_one_line(alloc: Global, count: usize) -> Result<bool, AllocError> {
+    let text = long_line(alloc, count)?;
+    Ok(is_replied(alloc, &Reply::Bytes(count), &[0xa5u8; 8192], &text))
 }
 
 #[test]
-fn the_longest_value_is_one_line(rt: HostRuntime) -> Result<(), Fail> {
+fn a_long_value_is_one_line(rt: HostRuntime) -> Result<(), Fail> {
     let alloc = rt.alloc();
-    let bytes = [0xa5u8; 8192];
-    let text = longest_line(alloc)?;
-    assert!(rt; is_replied(alloc, &Reply::Bytes(8192), &bytes, &text));
-    assert_eq!(rt; value_len(alloc, &bytes[..257]), Some(516));
+    assert!(rt; is_one_line(alloc, 256)?);
+    assert!(rt; is_one_line(alloc, 257)?);
+    assert!(rt; is_one_line(alloc, 8192)?);
     Ok(())
 }
 
@@ -95,10 +86,17 @@ const REASONS: [(Reason, &[u8]); 8] = [
     (Reason::TooMany, b"error too-many\n"),
 ];
 
+// Whether a reason is written as this text in one call of a sink whose second one fails.
+fn is_told(alloc: Global, reason: Reason, text: &[u8]) -> bool {
+    let mut sink = MemSink::new(alloc, Some(2));
+    let went = write_answer(&Answer::Refused(reason), b"", &mut sink).is_ok();
+    went && sink.text() == text && sink.write(b"more").is_err()
+}
+
 // The first reason that has another line.
-fn first_reason() -> Option<usize> {
+fn first_reason(alloc: Global) -> Option<usize> {
     for (i, (reason, text)) in REASONS.iter().enumerate() {
-        if reason_text(*reason) != *text {
+        if !is_told(alloc, *reason, text) {
             return Some(i);
         }
     }
@@ -123,6 +121,6 @@ fn first_cut() -> Option<usize> {
 
 #[test]
 fn each_reason_has_its_line_and_a_text_is_cut_at_the_first_byte(rt: HostRuntime) {
-    assert_eq!(rt; first_reason(), None);
+    assert_eq!(rt; first_reason(rt.alloc()), None);
     assert_eq!(rt; first_cut(), None);
 }

@@ -18,7 +18,7 @@ use Rattle.sg_journal.specs.Seen.{core_of}
 use Rattle.sg_journal.specs.Goes.{NEW_WORK_END}
 use Rattle.sg_journal.proofs.Steps.{op_none}
 use Rattle.sg_journal.proofs.Changes.{op_logged}
-use Rattle.sg_journal.proofs.Performing.{changing_same, op_said-spoken, not_granted, locked, unchanged, full_or, short_or, starved, op_fault}
+use Rattle.sg_journal.proofs.Performing.{op_said-spoken, not_granted, locked, unchanged, full_or, short_or, starved, op_fault}
 use Rattle.sg_journal.proofs.Along.{goes_along}
 use Rattle.sg_journal.proofs.store.Store.perform.Goals as goal
 
@@ -38,7 +38,7 @@ returns-in-Ok-Ok-clause-goes g c was x shows =
     let l : Opened = opened_of c.in-Some.live in
     let h = locked _ g.D.Disk.told was v k x shows c.requires.running l.transaction op _ c.hold.new.locks c.touches-touches.ensures c.in-Ok.ensures.granted c.in-Ok.ensures.after in
     unchanged _ g.D.Disk.told was v k x shows c.requires.running c.args.name op l (sym c.in-Some.ensures) c.hold.new.locks h (Ok (said_reply c.apply.new.into c.in-Ok-Ok.reply)) c.apply.new.self
-    (rw c.in-Ok-Ok.field-0-is at c.in-Ok-Ok.ensures.done) (inr (sym (changing_same c.args.op.now) ∙ (sym c.is_changing.ensures ∙ c.if-not-is_changing.true)))
+    (rw c.in-Ok-Ok.field-0-is at c.in-Ok-Ok.ensures.done) (inr (sym c.is_changing.ensures ∙ c.if-not-is_changing.true))
 
 pub returns-in-Ok-Err-clause-goes : goal.returns-in-Ok-Err-clause-goes
 returns-in-Ok-Err-clause-goes g c was x shows =
@@ -56,7 +56,7 @@ returns-in-Err-apply-clause-goes g c was x shows =
     let v = g.D.Disk.view c.args.self.now.disk in
     let op : Op = said_op c.args.op.now in
     let l : Opened = opened_of c.in-Some.live in
-    let reads = sym (changing_same c.args.op.now) ∙ (sym c.is_changing.ensures ∙ c.if-not-is_changing.true) in
+    let reads = sym c.is_changing.ensures ∙ c.if-not-is_changing.true in
     let h = locked _ g.D.Disk.told was v k x shows c.requires.running l.transaction op _ c.hold.new.locks c.touches-touches.ensures c.in-Ok.ensures.granted c.in-Ok.ensures.after in
     starved _ g.D.Disk.told was v k x shows c.requires.running c.args.name op l (sym c.in-Some.ensures) c.hold.new.locks h c.apply.new.self c.in-Err-apply.ensures.memory c.in-Err-apply.ensures.cause (λ work. absurd (cc (work, reads))) c.in-Err-apply.ensures.err
 
@@ -68,7 +68,7 @@ returns-then-tail-gt-NEW_WORK_END-clause-goes g c was x shows =
     let l : Opened = opened_of c.in-Some.live in
     let h = locked _ g.D.Disk.told was v k x shows c.requires.running l.transaction op _ c.hold.new.locks c.touches-touches.ensures c.in-Ok.ensures.granted c.in-Ok.ensures.after in
     full_or _ g.D.Disk.told was v k x shows c.requires.running c.args.name op l (sym c.in-Some.ensures) c.hold.new.locks h c.refuse.result c.args.into.now
-    (sym (changing_same c.args.op.now) ∙ (sym c.is_changing.ensures ∙ c.if-not-is_changing.false)) (omega (arith, c.tail.ensures, c.if-tail-gt-NEW_WORK_END.true)) c.refuse.ensures
+    (sym c.is_changing.ensures ∙ c.if-not-is_changing.false) (omega (arith, c.tail.ensures, c.if-tail-gt-NEW_WORK_END.true)) c.refuse.ensures
 
 pub returns-in-Err-line_of-clause-goes : goal.returns-in-Err-line_of-clause-goes
 returns-in-Err-line_of-clause-goes g c was x shows =
@@ -79,7 +79,7 @@ returns-in-Err-line_of-clause-goes g c was x shows =
     let h = locked _ g.D.Disk.told was v k x shows c.requires.running l.transaction op _ c.hold.new.locks c.touches-touches.ensures c.in-Ok.ensures.granted c.in-Ok.ensures.after in
     goes_along _ _ _ v _ _ refl refl (ap (λ (f : ℕ → List (List ℕ)). record k { held = c.hold.new.locks; kept = f }) (fun_ext c.in-Err-line_of.ensures.same))
     (short_or _ g.D.Disk.told was v k x shows c.requires.running c.args.name op l (sym c.in-Some.ensures) c.hold.new.locks h c.refuse-in-Err-line_of.result c.args.into.now
-    (sym (changing_same c.args.op.now) ∙ (sym c.is_changing.ensures ∙ c.if-not-is_changing.false)) (omega (arith, c.tail.ensures, c.if-tail-gt-NEW_WORK_END.false)) c.refuse-in-Err-line_of.ensures)
+    (sym c.is_changing.ensures ∙ c.if-not-is_changing.false) (omega (arith, c.tail.ensures, c.if-tail-gt-NEW_WORK_END.false)) c.refuse-in-Err-line_of.ensures)
 
 pub returns-in-Ok-Err-apply-clause-goes : goal.returns-in-Ok-Err-apply-clause-goes
 returns-in-Ok-Err-apply-clause-goes g c was x shows =
@@ -114,7 +114,7 @@ returns-in-Ok-keep-clause-goes g c was x shows =
     let new : Tail = c.keep.new.self.log in
     let o : Objects = c.apply-2.new.self in
     let low : tail_of k.log ≤ NEW_WORK_END = omega (arith, c.tail.ensures, c.if-tail-gt-NEW_WORK_END.false) in
-    let changing = sym (changing_same c.args.op.now) ∙ (sym c.is_changing.ensures ∙ c.if-not-is_changing.false) in
+    let changing = sym c.is_changing.ensures ∙ c.if-not-is_changing.false in
     let e = rw c.in-Ok-Ok-apply.field-0-is at c.in-Ok-Ok-apply.ensures.done in
     let h = locked _ g.D.Disk.told was v k x shows c.requires.running l.transaction op _ c.hold.new.locks c.touches-touches.ensures c.in-Ok.ensures.granted c.in-Ok.ensures.after in
     let says = ap op_said c.in-Ok-line_of.ensures.words ∙ op_said-spoken c.args.text.now c.args.name c.args.op.now c.requires.said in
@@ -134,7 +134,7 @@ returns-in-Err-keep-clause-goes g c was x shows =
     let l : Opened = opened_of c.in-Some.live in
     let words : List ℕ = c.in-Ok-line_of.line.words.items in
     let low : tail_of k.log ≤ NEW_WORK_END = omega (arith, c.tail.ensures, c.if-tail-gt-NEW_WORK_END.false) in
-    let changing = sym (changing_same c.args.op.now) ∙ (sym c.is_changing.ensures ∙ c.if-not-is_changing.false) in
+    let changing = sym c.is_changing.ensures ∙ c.if-not-is_changing.false in
     let e = rw c.in-Ok-Ok-apply.field-0-is at c.in-Ok-Ok-apply.ensures.done in
     let h = locked _ g.D.Disk.told was v k x shows c.requires.running l.transaction op _ c.hold.new.locks c.touches-touches.ensures c.in-Ok.ensures.granted c.in-Ok.ensures.after in
     goes_along _ (shown_answer c.apply-2.new.into (answer_at c.in-Err-keep.fault)) _ (g.D.Disk.view c.keep.new.self.disk) _ _ (ap (λ (a : code_answer.Answer). shown_answer c.apply-2.new.into a) c.halt.ensures.answer) (ap g.D.Disk.view c.halt.ensures.disk) refl
