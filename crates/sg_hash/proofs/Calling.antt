@@ -15,7 +15,7 @@ use Rattle.sg_hash.proofs.Changing.{AreCounted, AreNumbers, gone_count, changed_
 use Rattle.sg_hash.proofs.Small.{table_small}
 use Rattle.sg_hash.proofs.Trunks.{still_table}
 
-none_is : {A : Type 0} (o : Option A) → is_none o ≡ true → o ≡ None
+pub none_is : {A : Type 0} (o : Option A) → is_none o ≡ true → o ≡ None
 none_is None e = refl
 none_is (Some x) e = absurd (cc)
 

@@ -13,3 +13,6 @@ pub mod Calling
 pub mod Deciding
 pub mod Sides
 pub mod Bounds
+pub mod Parting
+pub mod Growing
+pub mod Listing

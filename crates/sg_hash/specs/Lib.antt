@@ -2,3 +2,4 @@ pub mod Table
 pub mod Calls
 pub mod Steps
 pub mod Beside
+pub mod Splits

@@ -5,14 +5,15 @@
 mod beside;
 mod create;
 mod free;
+mod list;
 mod root;
+mod split;
 mod table;
 mod walk;
 
 pub use beside::{keep_bound, stand_apart};
 pub use create::make;
 pub use free::free_all;
+pub use list::keys;
 pub use table::{del, find, put};
 
-#[cfg(test)]
-mod tests;

@@ -1,12 +1,13 @@
 // The calls on a hash table that look for a key, put one or remove one.
-ghost use Rattle.std.specs.Prelude.{◌≡◌, ◌+◌, ◌<◌, ◌≤◌, ◌^◌, length, IfOk, OnOk, IfSome, Some, false, ⊤};
+ghost use Rattle.std.specs.Prelude.{◌≡◌, ◌+◌, ◌<◌, ◌≤◌, ◌^◌, length, IfOk, OnOk, IfSome, Some, ⊤};
 ghost use Rattle.sg_bucket.specs.Bucket.{IsAnswer};
 ghost use Rattle.sg_hash.specs.Table.{value_at};
-ghost use Rattle.sg_hash.specs.Calls.{HasHashTable, IfHashTable, Did, CanPut, IsDeleted};
+ghost use Rattle.sg_hash.specs.Calls.{HasHashTable, IfHashTable, Did, CanPut, IsPut, IsDeleted};
 ghost use Rattle.sg_hash.specs.Steps.{DidEnter};
 ghost use Rattle.sg_space.specs.View.{Counts, OnlyReads};
 
 use crate::root::{read_root, set_root};
+use crate::split::grow;
 use crate::walk::bucket_of;
 use sg_base::PageNo;
 use sg_ops::Ops;
@@ -63,7 +64,9 @@ fn enter<P: PageSpace>(
 }
 
 /// Puts the entry of this key, in place of the one that it had, and answers whether the key was new. At most one page is
-/// taken. `split` is false: buckets can't be split yet.
+/// taken. With `split` the peak of the entries' bytes rises to what they are then; and where the key was new and the
+/// entries have more than 2,048 bytes for each bucket, the next bucket is split, unless its chain has more than 8 pages. For that
+/// at most 10 more pages are taken, before any is freed.
 pub fn put<P: PageSpace>(
     space: &mut P,
     ops: &Ops,
@@ -74,13 +77,20 @@ pub fn put<P: PageSpace>(
 ) -> Result<bool, SpaceFault>
     requires key { length key.now ≤ 128 }
     requires value { length value.now ≤ 1024 }
-    requires unsplit { split ≡ false }
-    requires there { HasHashTable (P.view space.old) root.0 (CanPut (P.view space.old) key.now false) }
+    requires there { HasHashTable (P.view space.old) root.0 (CanPut (P.view space.old) key.now split) }
     ensures counts { Counts (P.view space.old) (P.view space.new) result }
-    ensures did { IfOk result (λ new. DidEnter (P.view space.old) (P.view space.new) root.0 key.now value.now false new) }
+    ensures did { IfOk result (λ new. Did (P.view space.old) (P.view space.new) root.0
+        (CanPut (P.view space.old) key.now split) (IsPut key.now value.now split new)) }
 {
     let new = enter(space, ops, root, key, value, split)?;
-    Ok(new)
+    if !split {
+        return Ok(new);
+    }
+    if !new {
+        return Ok(false);
+    }
+    grow(space, ops, root)?;
+    Ok(true)
 }
 
 /// Removes the entry of this key, if there is one, and answers whether there was. A page that has no entry any more is

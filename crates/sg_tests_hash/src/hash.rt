@@ -1,5 +1,5 @@
-use super::*;
 use sg_base::{PageNo, PageOp};
+use sg_hash::{del, find, free_all, keys, make, put};
 use sg_ops::Ops;
 use sg_space::{Guarded, MemSpace, PageSpace, SpaceFault};
 use std::alloc::Global;
@@ -32,7 +32,23 @@ impl Trial {
     fn put(&mut self, key: &[u8], value: &[u8]) -> Result<bool, SpaceFault> {
         let key = &key[..key.len().min(128)];
         let value = &value[..value.len().min(1_024)];
+        put(&mut self.space, &self.ops, self.root, key, value, true)
+    }
+
+    // The same without a split.
+    fn put_whole(&mut self, key: &[u8], value: &[u8]) -> Result<bool, SpaceFault> {
+        let key = &key[..key.len().min(128)];
+        let value = &value[..value.len().min(1_024)];
         put(&mut self.space, &self.ops, self.root, key, value, false)
+    }
+
+    // The level, the split and the number of entries, of which the root's cell has bytes 0, 1 and 5.
+    fn shape(&mut self) -> Result<(u8, u8, u8), SpaceFault> {
+        let view = self.space.page(self.root)?;
+        match view.slot(0) {
+            Some(&[level, split, _, _, _, entries, ..]) => Ok((level, split, entries)),
+            _ => Ok((255, 255, 255)),
+        }
     }
 
     fn find(&mut self, key: &[u8], into: &mut [u8; 1_024]) -> Result<Option<usize>, SpaceFault> {
@@ -40,6 +56,7 @@ impl Trial {
     }
 
     fn del(&mut self, key: &[u8]) -> Result<bool, SpaceFault> {
+        let key = &key[..key.len().min(128)];
         del(&mut self.space, &self.ops, self.root, key)
     }
 
@@ -70,20 +87,53 @@ fn found(table: &mut Trial, key: &[u8]) -> Result<Option<(usize, u8)>, SpaceFaul
     }
 }
 
-// Two values of 1,024 letters, one of them removed and put again.
+// Two values of 1,024 letters, 2,060 bytes of entries and so more than 2,048: the table splits, and stays split when one
+// of the keys goes again, and when it comes back without a split.
 #[test]
-fn a_key_is_removed_and_put_again(rt: HostRuntime) -> Result<(), Fail> {
+fn a_table_that_split_stays_split(rt: HostRuntime) -> Result<(), Fail> {
     let mut table = Trial::new(rt.alloc(), Ops::shipped(rt.alloc())?, false)?;
     assert_eq!(rt; table.put(b"k1", &[b'v'; 1_024])?, true);
+    assert_eq!(rt; table.shape()?, (0, 0, 1));
     assert_eq!(rt; table.put(b"k2", &[b'v'; 1_024])?, true);
+    assert_eq!(rt; table.shape()?, (1, 0, 2));
     assert_eq!(rt; table.del(b"k2")?, true);
-    assert_eq!(rt; table.del(b"k2")?, false);
+    assert_eq!(rt; table.shape()?, (1, 0, 1));
     assert_eq!(rt; found(&mut table, b"k2")?, None);
     assert_eq!(rt; found(&mut table, b"k1")?, Some((1_024, b'v')));
-    assert_eq!(rt; table.put(b"k2", b"w")?, true);
-    assert_eq!(rt; table.put(b"k1", b"x")?, false);
-    assert_eq!(rt; found(&mut table, b"k2")?, Some((1, b'w')));
-    assert_eq!(rt; found(&mut table, b"k1")?, Some((1, b'x')));
+    assert_eq!(rt; table.put_whole(b"k2", &[b'w'; 1_024])?, true);
+    assert_eq!(rt; table.shape()?, (1, 0, 2));
+    assert_eq!(rt; found(&mut table, b"k2")?, Some((1_024, b'w')));
+    Ok(())
+}
+
+// So many drawn calls, and in how many the answer wasn't that of a plain map from 64 keys to a length and a letter each.
+fn drawn_calls(table: &mut Trial, count: u32) -> Result<u32, SpaceFault> {
+    let mut plain: [Option<(usize, u8)>; 64] = [None; 64];
+    let mut seed = 54u32;
+    let mut wrong = 0u32;
+    for _ in 0..count {
+        seed = seed.wrapping_mul(1_664_525).wrapping_add(1_013_904_223);
+        let i = ((seed >> 8) % 64) as usize;
+        let key = [i as u8; 3];
+        let length = 1 + ((seed >> 14) % 1_024) as usize;
+        let letter = (seed >> 24) as u8;
+        let same = match seed >> 30 {
+            0 => found(table, &key)? == plain[i],
+            1 => table.del(&key)? == plain[i].take().is_some(),
+            _ => table.put(&key, &[letter; 1_024][..length])? == plain[i].replace((length, letter)).is_none(),
+        };
+        if !same {
+            wrong = wrong.saturating_add(1);
+        }
+    }
+    Ok(wrong)
+}
+
+#[test]
+fn drawn_calls_are_those_of_a_plain_map(rt: HostRuntime) -> Result<(), Fail> {
+    let mut table = Trial::new(rt.alloc(), Ops::shipped(rt.alloc())?, true)?;
+    assert_eq!(rt; drawn_calls(&mut table, 20_000)?, 0);
+    assert_eq!(rt; table.faults(), 0);
     Ok(())
 }
 
@@ -91,7 +141,7 @@ fn a_key_is_removed_and_put_again(rt: HostRuntime) -> Result<(), Fail> {
 fn fill_and_thin(table: &mut Trial, count: u16) -> Result<(u32, u32), SpaceFault> {
     let first = table.free_pages();
     for i in 0..count {
-        table.put(&i.to_le_bytes(), &[7; 500])?;
+        table.put_whole(&i.to_le_bytes(), &[7; 500])?;
     }
     let full = table.free_pages();
     for i in 0..count / 2 {

@@ -1,0 +1,60 @@
+use Rattle.std.proofs.Common.{◌≡◌, ◌≤◌, ◌<◌, ◌++◌, ℕ, List, length, refl, sym, ap, subst, arith, ◌∙◌}
+use Rattle.sg_bucket.specs.Bucket.{entries_of}
+use Rattle.sg_bucket.specs.Division.{keys_of}
+use Rattle.sg_hash.proofs.Changing.{found_bucket}
+use Rattle.sg_hash.proofs.Freeing.{all_buckets}
+use Rattle.sg_hash.proofs.Listing.{lists_start, lists_on, lists_all}
+use Rattle.sg_hash.proofs.Trunks.{still_table}
+use Rattle.sg_space.proofs.Known.{reads_then}
+use Rattle.sg_hash.proofs.list.list_keys.Goals as goal
+
+pub read_root-requires : goal.read_root-requires
+read_root-requires g c = λ told. let h = c.requires told in (_, h.0, h.1.built.trunk, tt)
+
+pub loop-i-init : goal.loop-i-init
+loop-i-init g c = lists_start c.new-all.ensures.items c.in_ok-found.ensures.kept c.read_root.ensures.counts.told c.read_root.ensures.counts.later
+
+pub bucket_at-requires : goal.bucket_at-requires
+bucket_at-requires g c = λ told.
+    let i = c.loop-i.invariant in
+    let back = i.back told in
+    let shows = g.met.P.PageSpace.told_shows _ back in
+    let h = c.requires back in
+    let many = all_buckets c.in_ok-found.found h.1 (c.in_ok-found.ensures.read shows _ h.0 h.1.built.trunk) c.buckets-count.ensures in
+    let test = c.loop-i-test.true in
+    (_, h.0, (still_table i.kept shows h.1).built.trunk, omega arith)
+
+pub keys-requires : goal.keys-requires
+keys-requires g c = λ told.
+    let i = c.loop-i.invariant in
+    let then = c.bucket_at.ensures.counts.told told in
+    let back = i.back then in
+    let shows = g.met.P.PageSpace.told_shows _ back in
+    let h = c.requires back in
+    let many = all_buckets c.in_ok-found.found h.1 (c.in_ok-found.ensures.read shows _ h.0 h.1.built.trunk) c.buckets-count.ensures in
+    let test = c.loop-i-test.true in
+    let now = still_table i.kept shows h.1 in
+    let first = c.in_ok-first.ensures.read (i.kept.shows shows) _ h.0 now.built.trunk (omega arith) in
+    (first.bucket, (found_bucket (still_table c.in_ok-first.ensures.kept (i.kept.shows shows) now) first).linked, tt)
+
+pub loop-i-preserved : goal.loop-i-preserved
+loop-i-preserved g c =
+    let i = c.loop-i.invariant in
+    let test = c.loop-i-test.true in
+    let read = c.bucket_at.ensures.counts in
+    let counts = c.keys.ensures.counts in
+    let one = read.later in
+    let two = counts.later in
+    lists_on i (reads_then c.in_ok-first.ensures.kept c.in_ok-keys.ensures.kept) (λ told. read.told (counts.told told)) (omega arith) (λ shows t h.
+    let many = all_buckets c.in_ok-found.found h (c.in_ok-found.ensures.read shows _ t h.built.trunk) c.buckets-count.ensures in
+    let now = still_table i.kept shows h in
+    let there = i.kept.shows shows in
+    let first = c.in_ok-first.ensures.read there _ t now.built.trunk (omega arith) in
+    (first.bucket, first.is, c.in_ok-keys.ensures.read (c.in_ok-first.ensures.kept.shows there) first.bucket (found_bucket (still_table c.in_ok-first.ensures.kept there now) first).linked))
+
+pub returns-clause-read : goal.returns-clause-read
+returns-clause-read g c =
+    let i = c.loop-i.invariant in
+    let test = c.loop-i-test.false in
+    let end = c.loop-i.auto.i-end in
+    lists_all i (λ shows t h. let many = all_buckets c.in_ok-found.found h (c.in_ok-found.ensures.read shows _ t h.built.trunk) c.buckets-count.ensures in omega arith)

@@ -1,0 +1,55 @@
+// The keys of a hash table.
+ghost use Rattle.std.specs.Prelude.{◌≡◌, IfOk, OnOk, IsPermutation, IsSorted, ⊤};
+ghost use Rattle.std.specs.Cmp.Lexicographic.{slice_cmp};
+ghost use Rattle.std.specs.Ordering.{nat_cmp};
+ghost use Rattle.sg_bucket.specs.Division.{keys_of};
+ghost use Rattle.sg_hash.specs.Table.{entries};
+ghost use Rattle.sg_hash.specs.Calls.{HasHashTable, IfHashTable};
+ghost use Rattle.sg_space.specs.Listing.{CountsList};
+ghost use Rattle.sg_space.specs.View.{OnlyReads};
+
+use crate::root::read_root;
+use crate::walk::bucket_at;
+use sg_base::PageNo;
+use sg_bucket::Bytes;
+use sg_space::{ListFault, PageSpace};
+use std::alloc::Global;
+
+// The keys of all entries, bucket by bucket.
+fn list_keys<P: PageSpace>(
+    space: &mut P,
+    root: PageNo,
+    alloc: Global,
+) -> Result<Vec<Bytes>, ListFault>
+    requires { HasHashTable (P.view space.old) root.0 (λ _. ⊤) }
+    ensures counts { CountsList (P.view space.old) (P.view space.new) result }
+    ensures kept { OnOk result (OnlyReads (P.view space.old) (P.view space.new)) }
+    ensures read { IfOk result (λ v. IfHashTable (P.view space.old) root.0 (λ t. v.items ≡ keys_of (entries t))) }
+{
+    let found = read_root(space, root)?;
+    let mut all = Vec::new(alloc);
+    let count = found.extent.buckets();
+    for i in 0..count {
+        let first = bucket_at(space, root, i)?;
+        sg_bucket::keys(space, alloc, first, &mut all)?;
+    }
+    Ok(all)
+}
+
+/// The keys of all entries, in the order of their bytes. `Memory` where memory is refused; no other call takes any.
+pub fn keys<P: PageSpace>(
+    space: &mut P,
+    root: PageNo,
+    alloc: Global,
+) -> Result<Vec<Bytes>, ListFault>
+    requires { HasHashTable (P.view space.old) root.0 (λ _. ⊤) }
+    ensures counts { CountsList (P.view space.old) (P.view space.new) result }
+    ensures kept { OnOk result (OnlyReads (P.view space.old) (P.view space.new)) }
+    ensures read { IfOk result (λ v. IfHashTable (P.view space.old) root.0
+        (λ t. IsPermutation (keys_of (entries t)) v.items)) }
+    ensures order { IfOk result (λ v. IsSorted (slice_cmp nat_cmp) v.items) }
+{
+    let mut all = list_keys(space, root, alloc)?;
+    all.sort_unstable();
+    Ok(all)
+}
