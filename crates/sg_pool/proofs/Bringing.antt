@@ -1,5 +1,6 @@
 -- A frame is cleaned, and then gets a page.
 use Rattle.std.proofs.Common.{◌≡◌, inl, inr, ⊎_elim, ◌<◌, ◌≤◌, ℕ, Bool, IsTrue, Option, None, Result, Ok, Err, List, length, set, refl, sym, ◌∙◌, ap, subst, arith}
+use Rattle.std.specs.Prelude.{OnErr}
 use Rattle.sg_base.specs.Ends.{HasRisen}
 use Rattle.sg_base.specs.declared.area.Area.{Area}
 use Rattle.sg_base.specs.declared.area.Area.TheVariants.{Home}
@@ -33,6 +34,10 @@ on_told_weaker (Err Disk) P Q f p = tt
 on_told_weaker (Err (Damaged n)) P Q f p = f p
 on_told_weaker (Err Memory) P Q f p = f p
 
+pub on_err : {T E P : Type 0} (r : Result T E) → P → OnErr r P
+on_err (Ok x) p = tt
+on_err (Err e) p = p
+
 pub log_now : (w z : View) (log log' : Tail) (ds ps : List Numbered) → z.now ≡ w.now → IsSameOrForced w log log' ds ps → IsSameOrForced z log log' ds ps
 log_now w z log log' ds ps same is = ⊎_elim (λ kept. inl (kept.0, holds_along same kept.1)) (λ gone. inr (gone.0, holds_along same gone.1)) is
 
@@ -40,8 +45,8 @@ log_now w z log log' ds ps same is = ⊎_elim (λ kept. inl (kept.0, holds_along
 pub then_reads : (v w z : View) (P : Image → Type 0) → LeavesOnly v w P → LeavesOnly w z (Leaves w.now) → LeavesOnly v z P
 then_reads v w z P run reads = joined run (weaker reads (λ c leaves. run.each c (inl leaves)))
 
-pub absent_still : (slots t : List Slot) (f p : ℕ) → f < length slots → AreApart slots → t ≡ set slots f (record { page = page_in slots f; since = None }) → frame_of slots p ≡ None → frame_of t p ≡ None
-absent_still slots t f p lt apart is absent = ap (λ (u : List Slot). frame_of u p) is ∙ (frame_kept slots f (record { page = page_in slots f; since = None }) lt refl p apart ∙ absent)
+pub absent_still : (slots t : List Slot) (f p : ℕ) → f < length slots → AreApart slots → t ≡ set slots f (record { number = page_in slots f; since = None }) → frame_of slots p ≡ None → frame_of t p ≡ None
+absent_still slots t f p lt apart is absent = ap (λ (u : List Slot). frame_of u p) is ∙ (frame_kept slots f (record { number = page_in slots f; since = None }) lt refl p apart ∙ absent)
 
 -- in another geometry's words
 pub cleaned_more : (g g' : Geometry) (m n k : Units) → g' ≡ g → IsCleaned g m n → IsCleaned g' n k → IsCleaned g m k

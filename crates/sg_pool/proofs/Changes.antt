@@ -11,7 +11,7 @@ use Rattle.sg_ops.specs.Table.{Table}
 use Rattle.sg_redo.specs.History.{OnPage, redone}
 use Rattle.sg_redo.specs.Page.{fits, made, on_page}
 use Rattle.sg_pool.specs.declared.slot.Slot.{Slot}
-use Rattle.sg_pool.specs.declared.slot.Win.{Win}
+use Rattle.sg_pool.specs.declared.windows.Windows.{Windows}
 use Rattle.sg_pool.specs.Changed.{applies, since_after, slots_after, IsChanged}
 use Rattle.sg_pool.specs.Frames.{units_of}
 use Rattle.sg_pool.specs.Held.{no_slot, frame_of, page_in, AreApart, bytes_of, since_of, page_of, page_since_of}
@@ -62,10 +62,10 @@ slots_not t op lsn page page' b slots f same is not = sym (ap (λ (x : Bool). sl
 
 pub slots_done : (t : Table) (op : Op) (lsn : ℕ) (page page' : List ℕ) (b : Bool) (slots : List Slot) (f : ℕ) → page' ≡ page → b ≡ (nat_lt (lsn_of page') lsn && fits t op page') → b ≡ true
     → (slot : Slot) → slot ≡ get_or slots f no_slot → (since : ℕ) → since ≡ unwrap_or slot.since lsn
-    → set slots f (record { page = slot.page; since = Some since }) ≡ slots_after (applies (on_page t lsn op) page) slots f lsn
+    → set slots f (record { number = slot.number; since = Some since }) ≡ slots_after (applies (on_page t lsn op) page) slots f lsn
 slots_done t op lsn page page' b slots f same is applies_it slot at since oldest =
-    ap (λ (n : ℕ). set slots f (record { page = slot.page; since = Some n })) oldest
-    ∙ (ap (λ (x : Slot). set slots f (record { page = x.page; since = Some (unwrap_or x.since lsn) })) at
+    ap (λ (n : ℕ). set slots f (record { number = slot.number; since = Some n })) oldest
+    ∙ (ap (λ (x : Slot). set slots f (record { number = x.number; since = Some (unwrap_or x.since lsn) })) at
     ∙ sym (ap (λ (x : Bool). slots_after x slots f lsn) (applied_is t op lsn page page' b same is ∙ applies_it)))
 
 -- frame f's slot may have another oldest change, and the others none
@@ -77,11 +77,11 @@ pub record IsMarkedSlot (slots slots1 : List Slot) (f : ℕ) (since : Option ℕ
 
 module _ (slots : List Slot) (f lsn : ℕ) (lt : f < length slots) (apart : AreApart slots) where
   abbrev marked : Slot
-  marked = record { page = page_in slots f; since = Some (unwrap_or (since_of slots (Some f)) lsn) }
+  marked = record { number = page_in slots f; since = Some (unwrap_or (since_of slots (Some f)) lsn) }
 
   same_page : (k : ℕ) → page_in (set slots f marked) k ≡ page_in slots k
   same_page k = ⊎_elim
-      (λ e. ap (page_in (set slots f marked)) e ∙ (ap (λ (s : Slot). s.page) (set_here slots f marked lt) ∙ ap (page_in slots) (sym e)))
+      (λ e. ap (page_in (set slots f marked)) e ∙ (ap (λ (s : Slot). s.number) (set_here slots f marked lt) ∙ ap (page_in slots) (sym e)))
       (λ differ. page_there slots f marked lt k differ)
       (cases_eq k f)
 
@@ -131,7 +131,7 @@ module _ (p : ℕ) (r : OnPage) (slots : List Slot) (frames : Held) (f : ℕ) (l
   since_other : (n : ℕ) → n ≢ p → page_since_of slots1 n ≡ page_since_of slots n
   since_other n differ = ap (since_of slots1) (is_marked.frames n) ∙ (other_in n differ [] (frame_of slots n) refl).1
 
-  module _ (g : Geometry) (wins : List Win) (seen : Bytes) where
+  module _ (g : Geometry) (wins : Windows) (seen : Bytes) where
     is_changed : IsChanged p r (units_of g seen slots wins frames) (units_of g seen slots1 wins frames1)
     is_changed = record {
       page = page_now (page_at seen (home_at p));
@@ -169,9 +169,9 @@ module _ (p : ℕ) (r : OnPage) (slots : List Slot) (frames : Held) (f : ℕ) (l
     }
 
     -- in what the code's values are
-    module _ (g' : Geometry) (slots' : List Slot) (wins' : List Win) (frames' : Held) (same_g : g' ≡ g) (is : slots' ≡ slots1) (same_wins : wins' ≡ wins) (same_frames : frames' ≡ frames1) where
+    module _ (g' : Geometry) (slots' : List Slot) (wins' : Windows) (frames' : Held) (same_g : g' ≡ g) (is : slots' ≡ slots1) (same_wins : wins' ≡ wins) (same_frames : frames' ≡ frames1) where
       units_are : units_of g' seen slots' wins' frames' ≡ units_of g seen slots1 wins frames1
-      units_are = ap (λ (h : Geometry). units_of h seen slots' wins' frames') same_g ∙ (ap (λ (t : List Slot). units_of g seen t wins' frames') is ∙ (ap (λ (t : List Win). units_of g seen slots1 t frames') same_wins ∙ ap (units_of g seen slots1 wins) same_frames))
+      units_are = ap (λ (h : Geometry). units_of h seen slots' wins' frames') same_g ∙ (ap (λ (t : List Slot). units_of g seen t wins' frames') is ∙ (ap (λ (t : Windows). units_of g seen slots1 t frames') same_wins ∙ ap (units_of g seen slots1 wins) same_frames))
 
       pub change_is : IsChanged p r (units_of g seen slots wins frames) (units_of g' seen slots' wins' frames')
       change_is = subst (IsChanged p r (units_of g seen slots wins frames)) (sym units_are) is_changed

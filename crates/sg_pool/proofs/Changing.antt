@@ -7,14 +7,14 @@ use Rattle.sg_gate.specs.Batch.{IsReady}
 use Rattle.sg_pool.specs.Going.{IsStored, with_home}
 use Rattle.sg_pool.specs.Units.{Geometry, EachPage, page_at, band_byte, Units, IsBacked, IsCleaned}
 use Rattle.sg_pool.proofs.Homes.{page_same}
-use Rattle.sg_pool.specs.Frames.{units_of, window_of, byte_in, IsIndex, IsShelf, IsAtHome}
+use Rattle.sg_pool.specs.Frames.{units_of, window_of, byte_in, IsShelf, IsAtHome}
 use Rattle.sg_frames.specs.Held.{Held}
 use Rattle.sg_pool.specs.declared.slot.Slot.{Slot}
-use Rattle.sg_pool.specs.declared.slot.Win.{Win}
-use Rattle.sg_pool.specs.Held.{frame_of, page_in, AreApart, bytes_of, since_of, page_of, page_since_of}
+use Rattle.sg_pool.specs.declared.windows.Windows.{Windows}
+use Rattle.sg_pool.specs.Held.{frame_of, page_in, AreApart, IsIndex, bytes_of, since_of, page_of, page_since_of}
 use Rattle.sg_pool.proofs.Homed.{homed_page, homed_other, homed_band}
 use Rattle.std.proofs.lemmas.List.{set-set}
-use Rattle.sg_pool.proofs.Slots.{apart_new, apart_none, some_same, none_is_some, is_or_not, frame_some, frame_is, set_here, set_there, page_here, page_there, apart_kept, frame_kept, frame_other, frame_gone}
+use Rattle.sg_pool.proofs.Slots.{apart_new, apart_none, some_same, none_is_some, is_or_not, frame_some, frame_is, set_here, set_there, page_here, page_there, apart_kept, frame_kept, frame_other, frame_gone, within_set, owned_set}
 
 pub done_ready : (p : Part) (f : Bytes) → IsStored p f → IsReady p
 done_ready p f done = record { closed = done.closed; settled = λ i out. done.settled i }
@@ -34,23 +34,23 @@ cleaned_twice g m n k first second = record {
   marked = λ b i. chain (m.marked b i) (n.marked b i) (k.marked b i) false (first.marked b i) (second.marked b i);
 }
 
-module _ (g : Geometry) (slots : List Slot) (wins : List Win) (frames : Held) (f : ℕ) (lt : f < length slots) (apart : AreApart slots) where
+module _ (g : Geometry) (slots : List Slot) (wins : Windows) (frames : Held) (f : ℕ) (lt : f < length slots) (apart : AreApart slots) where
   -- A FRAME IS CLEANED
   abbrev pub cleaned : List Slot
-  cleaned = set slots f (record { page = page_in slots f; since = None })
+  cleaned = set slots f (record { number = page_in slots f; since = None })
 
   here : frame_of cleaned ≡ frame_of slots
-  here = λ j n. frame_kept slots f (record { page = page_in slots f; since = None }) lt refl n apart j
+  here = λ j n. frame_kept slots f (record { number = page_in slots f; since = None }) lt refl n apart j
 
   since_cleaned : (o : Option ℕ) → (since_of cleaned o ≡ since_of slots o) ⊎ (since_of cleaned o ≡ None)
   since_cleaned None = inl refl
   since_cleaned (Some k) = ⊎_elim
-      (λ same. inr (ap (λ (j : ℕ). since_of cleaned (Some j)) same ∙ ap (λ (s : Slot). s.since) (set_here slots f (record { page = page_in slots f; since = None }) lt)))
-      (λ differ. inl (ap (λ (s : Slot). s.since) (set_there slots f (record { page = page_in slots f; since = None }) lt k differ)))
+      (λ same. inr (ap (λ (j : ℕ). since_of cleaned (Some j)) same ∙ ap (λ (s : Slot). s.since) (set_here slots f (record { number = page_in slots f; since = None }) lt)))
+      (λ differ. inl (ap (λ (s : Slot). s.since) (set_there slots f (record { number = page_in slots f; since = None }) lt k differ)))
       (cases_eq k f)
 
   since_other : (k : ℕ) → k ≢ f → since_of cleaned (Some k) ≡ since_of slots (Some k)
-  since_other k differ = ap (λ (s : Slot). s.since) (set_there slots f (record { page = page_in slots f; since = None }) lt k differ)
+  since_other k differ = ap (λ (s : Slot). s.since) (set_there slots f (record { number = page_in slots f; since = None }) lt k differ)
 
   page_cleaned : (n : ℕ) (home : List ℕ) → page_of cleaned frames.pages n home ≡ page_of slots frames.pages n home
   page_cleaned n home = ap (λ (h : ℕ → Option ℕ). bytes_of frames.pages (h n) home) here
@@ -65,7 +65,7 @@ module _ (g : Geometry) (slots : List Slot) (wins : List Win) (frames : Held) (f
     same_since n (Some k) e = ⊎_elim
         (λ same. ⊎_elim
         (λ empty. absurd (none_is_some n (sym empty ∙ (ap (page_in slots) (sym same) ∙ (frame_some n slots k e).1))))
-        (λ clean. ap (λ (j : ℕ). since_of cleaned (Some j)) same ∙ (ap (λ (s : Slot). s.since) (set_here slots f (record { page = page_in slots f; since = None }) lt) ∙ (sym clean ∙ ap (λ (j : ℕ). since_of slots (Some j)) (sym same))))
+        (λ clean. ap (λ (j : ℕ). since_of cleaned (Some j)) same ∙ (ap (λ (s : Slot). s.since) (set_here slots f (record { number = page_in slots f; since = None }) lt) ∙ (sym clean ∙ ap (λ (j : ℕ). since_of slots (Some j)) (sym same))))
         none)
         (λ differ. since_other k differ)
         (cases_eq k f)
@@ -140,7 +140,7 @@ module _ (g : Geometry) (slots : List Slot) (wins : List Win) (frames : Held) (f
 
   -- THE FRAME GETS OTHER BYTES, AND HOLDS ANOTHER PAGE OR NONE: those bytes are that page's home, and the frame was clean
   module _ (s : Slot) (bytes : List ℕ) (seen : Bytes) (long : f < length frames.pages) (clean : since_of slots (Some f) ≡ None) (fresh : s.since ≡ None) (apart' : AreApart (set slots f s))
-      (new : (n : ℕ) → s.page ≡ Some n → (frame_of slots n ≡ None) × (bytes ≡ page_at seen (home_at n))) where
+      (new : (n : ℕ) → s.number ≡ Some n → (frame_of slots n ≡ None) × (bytes ≡ page_at seen (home_at n))) where
     abbrev pub refilled : Held
     refilled = record frames { pages = set frames.pages f bytes }
 
@@ -160,18 +160,18 @@ module _ (g : Geometry) (slots : List Slot) (wins : List Win) (frames : Held) (f
         ap (since_of replaced) e' ∙ (c ∙ sym (ap (since_of slots) e)),
       )
 
-      case_new : s.page ≡ Some n → IsSame
+      case_new : s.number ≡ Some n → IsSame
       case_new is = same_in None (Some f) home (frame_is replaced f n apart' (let e = length-set slots f s in omega (arith, e)) (page_here slots f s lt ∙ is)) (new n is).0
           (get_or-set_same frames.pages f bytes [] long ∙ (new n is).1) refl (ap (λ (x : Slot). x.since) (set_here slots f s lt) ∙ fresh)
 
-      case_old : page_in slots f ≡ Some n → (s.page ≡ Some n → ⊥) → IsSame
+      case_old : page_in slots f ≡ Some n → (s.number ≡ Some n → ⊥) → IsSame
       case_old was not_new =
           let held : frame_of slots n ≡ Some f = frame_is slots f n apart lt was in
           let is_clean : page_since_of slots n ≡ None = ap (since_of slots) held ∙ clean in
           same_in (Some f) None home (frame_gone slots f s lt n apart was not_new) held refl
           (sym (ap (λ (t : Option ℕ). bytes_of frames.pages t home) held) ∙ sym (backed n small is_clean)) (sym clean)
 
-      other_at : (o : Option ℕ) → (s.page ≡ Some n → ⊥) → (page_in slots f ≡ Some n → ⊥) → frame_of slots n ≡ o → IsSame
+      other_at : (o : Option ℕ) → (s.number ≡ Some n → ⊥) → (page_in slots f ≡ Some n → ⊥) → frame_of slots n ≡ o → IsSame
       other_at None not_new not_old e = same_in None None home (frame_other slots f s lt n apart' not_new not_old ∙ e) e refl refl refl
       other_at (Some k) not_new not_old e =
           let differ : k ≢ f = λ same. not_old (ap (page_in slots) (sym same) ∙ (frame_some n slots k e).1) in
@@ -181,7 +181,7 @@ module _ (g : Geometry) (slots : List Slot) (wins : List Win) (frames : Held) (f
       page_replaced = ⊎_elim
           (λ is. case_new is.1)
           (λ not_new. ⊎_elim (λ was. case_old was.1 not_new.1) (λ not_old. other_at (frame_of slots n) not_new.1 not_old.1 refl) (is_or_not (page_in slots f) n))
-          (is_or_not s.page n)
+          (is_or_not s.number n)
 
     pub replaced_cleaned : (p : Part) → p.seen ≡ seen → IsBacked g p (units_of g seen slots wins frames) → IsCleaned g (units_of g seen slots wins frames) (units_of g seen replaced wins refilled)
     replaced_cleaned p same backed =
@@ -199,7 +199,7 @@ module _ (g : Geometry) (slots : List Slot) (wins : List Win) (frames : Held) (f
         }
 
 -- either way
-module _ (g : Geometry) (slots : List Slot) {index : List (Option ℕ)} (wins : List Win) (frames : Held) (shelf : IsShelf g.pages g.bands slots index wins frames) (f : ℕ) (lt : f < length slots) (p q : Part) (home : IsAtHome slots frames f p q) where
+module _ (g : Geometry) (slots : List Slot) {index : List (Option ℕ)} (wins : Windows) (frames : Held) (shelf : IsShelf g.pages g.bands slots index wins frames) (f : ℕ) (lt : f < length slots) (p q : Part) (home : IsAtHome slots frames f p q) where
   frame_long : length (get_or frames.pages f []) ≡ PAGE
   frame_long = shelf.here.pages f (let e = shelf.many in omega (arith, e))
 
@@ -216,34 +216,24 @@ module _ (g : Geometry) (slots : List Slot) {index : List (Option ℕ)} (wins : 
       home
 
 -- WHAT THE SHELF KEEPS
-module _ (pages bands : ℕ) (slots : List Slot) {index : List (Option ℕ)} (wins : List Win) (frames : Held) (shelf : IsShelf pages bands slots index wins frames) (f : ℕ) (lt : f < length slots) (s : Slot) where
-  within_set : ((n : ℕ) → s.page ≡ Some n → n < pages) → (k n : ℕ) → k < length (set slots f s) → page_in (set slots f s) k ≡ Some n → n < pages
-  within_set small k n less is = ⊎_elim
-      (λ same. small n (sym (page_here slots f s lt) ∙ (ap (page_in (set slots f s)) (sym same) ∙ is)))
-      (λ differ. shelf.within k n (let e = length-set slots f s in omega (arith, e)) (sym (page_there slots f s lt k differ) ∙ is))
-      (cases_eq k f)
-
-  owned_set : (s.page ≡ None → s.since ≡ None) → (k : ℕ) → page_in (set slots f s) k ≡ None → since_of (set slots f s) (Some k) ≡ None
-  owned_set fresh k none = ⊎_elim
-      (λ same. ap (λ (j : ℕ). since_of (set slots f s) (Some j)) same ∙ (ap (λ (x : Slot). x.since) (set_here slots f s lt) ∙ fresh (sym (page_here slots f s lt) ∙ (ap (page_in (set slots f s)) (sym same) ∙ none))))
-      (λ differ. ap (λ (x : Slot). x.since) (set_there slots f s lt k differ) ∙ shelf.owned k (sym (page_there slots f s lt k differ) ∙ none))
-      (cases_eq k f)
-
-  pub shelf_slot : AreApart (set slots f s) → ((n : ℕ) → s.page ≡ Some n → n < pages) → (s.page ≡ None → s.since ≡ None) → (index' : List (Option ℕ)) → length index' ≡ length index → IsIndex (set slots f s) index' → IsShelf pages bands (set slots f s) index' wins frames
+module _ (pages bands : ℕ) (slots : List Slot) {index : List (Option ℕ)} (wins : Windows) (frames : Held) (shelf : IsShelf pages bands slots index wins frames) (f : ℕ) (lt : f < length slots) (s : Slot) where
+  pub shelf_slot : AreApart (set slots f s) → ((n : ℕ) → s.number ≡ Some n → n < pages) → (s.number ≡ None → s.since ≡ None) → (index' : List (Option ℕ)) → length index' ≡ length index → IsIndex (set slots f s) index' → IsShelf pages bands (set slots f s) index' wins frames
   shelf_slot apart small fresh index' listed found = record {
     here = shelf.here;
     many = shelf.many ∙ sym (length-set slots f s);
     wide = shelf.wide;
     few = let e = length-set slots f s in let few = shelf.few in omega (arith, e, few);
     apart = apart;
-    within = within_set small;
-    owned = owned_set fresh;
+    within = within_set slots f s lt pages shelf.within small;
+    owned = owned_set slots f s lt shelf.owned fresh;
     most = shelf.most;
     listed = listed ∙ shelf.listed;
     found = found;
+    most_bands = shelf.most_bands;
+    listed_bands = shelf.listed_bands;
   }
 
-  pub shelf_cleaned : s.page ≡ page_in slots f → (s.page ≡ None → s.since ≡ None) → IsShelf pages bands (set slots f s) index wins frames
+  pub shelf_cleaned : s.number ≡ page_in slots f → (s.number ≡ None → s.since ≡ None) → IsShelf pages bands (set slots f s) index wins frames
   shelf_cleaned same fresh = shelf_slot (apart_kept slots f s lt same shelf.apart) (λ n is. shelf.within f n lt (sym same ∙ is)) fresh index refl (λ n less. shelf.found n less ∙ sym (frame_kept slots f s lt same n shelf.apart))
 
 pub frame_bytes : (pages : List (List ℕ)) (f : ℕ) (bytes : List ℕ) → length bytes ≡ 4096 → ((i : ℕ) → i < length pages → length (get_or pages i []) ≡ 4096) → (i : ℕ) → i < length (set pages f bytes) → length (get_or (set pages f bytes) i []) ≡ 4096
@@ -255,7 +245,7 @@ frame_bytes pages f bytes long each i less =
     (cases_eq i f)
 
 -- with a page frame's bytes set
-pub shelf_frame : (pages bands : ℕ) (slots : List Slot) {index : List (Option ℕ)} (wins : List Win) (frames : Held) (f : ℕ) (bytes : List ℕ) → length bytes ≡ 4096 → IsShelf pages bands slots index wins frames → IsShelf pages bands slots index wins (record frames { pages = set frames.pages f bytes })
+pub shelf_frame : (pages bands : ℕ) (slots : List Slot) {index : List (Option ℕ)} (wins : Windows) (frames : Held) (f : ℕ) (bytes : List ℕ) → length bytes ≡ 4096 → IsShelf pages bands slots index wins frames → IsShelf pages bands slots index wins (record frames { pages = set frames.pages f bytes })
 shelf_frame pages bands slots wins frames f bytes long shelf = record {
   here = record { pages = frame_bytes frames.pages f bytes long shelf.here.pages; windows = shelf.here.windows };
   many = length-set frames.pages f bytes ∙ shelf.many;
@@ -267,16 +257,18 @@ shelf_frame pages bands slots wins frames f bytes long shelf = record {
   most = shelf.most;
   listed = shelf.listed;
   found = shelf.found;
+  most_bands = shelf.most_bands;
+  listed_bands = shelf.listed_bands;
 }
 
 -- A CLEAN FRAME GETS A PAGE FROM ITS HOME, OR NONE
-module _ (g : Geometry) (slots : List Slot) {index : List (Option ℕ)} (wins : List Win) (frames : Held) (shelf : IsShelf g.pages g.bands slots index wins frames) (f : ℕ) (lt : f < length slots) (clean : since_of slots (Some f) ≡ None)
+module _ (g : Geometry) (slots : List Slot) {index : List (Option ℕ)} (wins : Windows) (frames : Held) (shelf : IsShelf g.pages g.bands slots index wins frames) (f : ℕ) (lt : f < length slots) (clean : since_of slots (Some f) ≡ None)
     (p : ℕ) (absent : frame_of slots p ≡ None) where
   abbrev pub empty : Slot
-  empty = record { page = None; since = None }
+  empty = record { number = None; since = None }
 
   abbrev pub loaded : Slot
-  loaded = record { page = Some p; since = None }
+  loaded = record { number = Some p; since = None }
 
   long : f < length frames.pages
   long = let e = shelf.many in omega (arith, e)
@@ -298,11 +290,11 @@ module _ (g : Geometry) (slots : List Slot) {index : List (Option ℕ)} (wins : 
   loaded_apart = apart_new slots f loaded lt p refl absent shelf.apart
 
   -- in what the code's values are
-  module _ (g' : Geometry) (q r : Part) (slots' : List Slot) (wins' : List Win) (frames' : Held) (same_g : g' ≡ g) (same : r ≡ q) (same_wins : wins' ≡ wins) (same_frames : frames' ≡ record frames { pages = set frames.pages f (page_at q.seen (home_at p)) })
+  module _ (g' : Geometry) (q r : Part) (slots' : List Slot) (wins' : Windows) (frames' : Held) (same_g : g' ≡ g) (same : r ≡ q) (same_wins : wins' ≡ wins) (same_frames : frames' ≡ record frames { pages = set frames.pages f (page_at q.seen (home_at p)) })
       (backed : IsBacked g q (units_of g q.seen slots wins frames)) where
     units_are : (s : Slot) → slots' ≡ set slots f s → units_of g' r.seen slots' wins' frames' ≡ units_of g q.seen (set slots f s) wins (record frames { pages = set frames.pages f (page_at q.seen (home_at p)) })
     units_are s is = ap (λ (h : Geometry). units_of h r.seen slots' wins' frames') same_g ∙ (ap (λ (t : Part). units_of g t.seen slots' wins' frames') same ∙ (ap (λ (t : List Slot). units_of g q.seen t wins' frames') is
-        ∙ (ap (λ (t : List Win). units_of g q.seen (set slots f s) t frames') same_wins ∙ ap (units_of g q.seen (set slots f s) wins) same_frames)))
+        ∙ (ap (λ (t : Windows). units_of g q.seen (set slots f s) t frames') same_wins ∙ ap (units_of g q.seen (set slots f s) wins) same_frames)))
 
     to_backed : (s : Slot) → slots' ≡ set slots f s → IsBacked g q (units_of g q.seen (set slots f s) wins (record frames { pages = set frames.pages f (page_at q.seen (home_at p)) })) → IsBacked g r (units_of g' r.seen slots' wins' frames')
     to_backed s is b = subst (λ (t : Part). IsBacked g t (units_of g' r.seen slots' wins' frames')) (sym same) (subst (IsBacked g q) (sym (units_are s is)) b)

@@ -3,7 +3,7 @@ use Rattle.std.proofs.Common.{◌≡◌, ◌≢◌, ◌⊎◌, inl, inr, ⊎_eli
 use Rattle.std.proofs.lemmas.Bool.{cases_eq}
 use Rattle.sg_frames.specs.Held.{Held}
 use Rattle.sg_pool.specs.declared.slot.Slot.{Slot}
-use Rattle.sg_pool.specs.declared.slot.Win.{Win}
+use Rattle.sg_pool.specs.declared.windows.Windows.{Windows}
 use Rattle.sg_pool.specs.Held.{no_slot, frame_of, page_in, since_of, AreApart}
 use Rattle.sg_pool.specs.Frames.{IsShelf}
 use Rattle.sg_pool.proofs.Slots.{set_here, set_there, none_or_some, frame_some, frame_none, frame_nowhere, frame_is}
@@ -17,15 +17,15 @@ pub record IsClearing (old new : List Slot) (from f : ℕ) : Type 0 where
 pub clearing_starts : (slots : List Slot) (from : ℕ) → IsClearing slots slots from from
 clearing_starts slots from = record { count = refl; pages = λ h. refl; cleared = λ h low high. absurd (omega arith); others = λ h out. refl }
 
-pub clearing_next : (old new : List Slot) (from f : ℕ) (page : Option ℕ) → from ≤ f → f < length new → page ≡ page_in new f → IsClearing old new from f → IsClearing old (set new f (record { page = page; since = None })) from (f + 1)
+pub clearing_next : (old new : List Slot) (from f : ℕ) (page : Option ℕ) → from ≤ f → f < length new → page ≡ page_in new f → IsClearing old new from f → IsClearing old (set new f (record { number = page; since = None })) from (f + 1)
 clearing_next old new from f page low lt same is =
-    let s : Slot = record { page = page; since = None } in
+    let s : Slot = record { number = page; since = None } in
     let here : get_or (set new f s) f no_slot ≡ s = set_here new f s lt in
     record {
       count = length-set new f s ∙ is.count;
       pages = λ h. ⊎_elim
-          (λ e. ap (page_in (set new f s)) e ∙ (ap (λ (x : Slot). x.page) here ∙ (same ∙ (ap (page_in new) (sym e) ∙ is.pages h))))
-          (λ differ. ap (λ (x : Slot). x.page) (set_there new f s lt h differ) ∙ is.pages h)
+          (λ e. ap (page_in (set new f s)) e ∙ (ap (λ (x : Slot). x.number) here ∙ (same ∙ (ap (page_in new) (sym e) ∙ is.pages h))))
+          (λ differ. ap (λ (x : Slot). x.number) (set_there new f s lt h differ) ∙ is.pages h)
           (cases_eq h f);
       cleared = λ h a b. ⊎_elim
           (λ e. ap (λ (j : ℕ). since_of (set new f s) (Some j)) e ∙ ap (λ (x : Slot). x.since) here)
@@ -47,7 +47,7 @@ module _ (old new : List Slot) (count : length new ≡ length old) (pages : (h :
       (λ some. let at = frame_some n old some.0 some.1 in let lt = at.0 in frame_is new some.0 n apart_cleared (omega (arith, count, lt)) (pages some.0 ∙ at.1) ∙ sym some.1)
       (none_or_some (frame_of old n))
 
-pub shelf_cleared : (p b : ℕ) (old new : List Slot) {index : List (Option ℕ)} (wins : List Win) (frames : Held) → IsShelf p b old index wins frames → length new ≡ length old → ((h : ℕ) → page_in new h ≡ page_in old h)
+pub shelf_cleared : (p b : ℕ) (old new : List Slot) {index : List (Option ℕ)} (wins : Windows) (frames : Held) → IsShelf p b old index wins frames → length new ≡ length old → ((h : ℕ) → page_in new h ≡ page_in old h)
     → ((h : ℕ) → (since_of new (Some h) ≡ None) ⊎ (since_of new (Some h) ≡ since_of old (Some h))) → IsShelf p b new index wins frames
 shelf_cleared p b old new wins frames shelf count pages sinces = record {
   here = shelf.here;
@@ -60,4 +60,6 @@ shelf_cleared p b old new wins frames shelf count pages sinces = record {
   most = shelf.most;
   listed = shelf.listed;
   found = λ n less. shelf.found n less ∙ sym (frames_same old new count pages shelf.apart n);
+  most_bands = shelf.most_bands;
+  listed_bands = shelf.listed_bands;
 }

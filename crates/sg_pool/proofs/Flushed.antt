@@ -11,7 +11,7 @@ use Rattle.sg_gate.specs.Batch.{SameLogs}
 use Rattle.sg_frames.specs.Held.{Held}
 use Rattle.sg_pool.specs.Units.{Geometry, EachPage, page_at, IsGoing, IsBacked, IsCleaned, IsBelow}
 use Rattle.sg_pool.specs.declared.slot.Slot.{Slot}
-use Rattle.sg_pool.specs.declared.slot.Win.{Win}
+use Rattle.sg_pool.specs.declared.windows.Windows.{Windows}
 use Rattle.sg_pool.specs.Frames.{units_of, window_of, byte_in}
 use Rattle.sg_pool.specs.Held.{frame_of, page_in, AreApart, bytes_of, since_of, page_of, page_since_of}
 use Rattle.sg_pool.specs.Batches.{IsHeld, IsPartly, IsBatchMoment, AreHome}
@@ -26,7 +26,7 @@ in_frame_any slots frames n apart held a b =
     let e = frame_is slots held.0 n apart held.1 held.2 in
     ap (λ (o : Option ℕ). bytes_of frames o a) e ∙ sym (ap (λ (o : Option ℕ). bytes_of frames o b) e)
 
-module _ (g : Geometry) (slots : List Slot) (wins : List Win) (frames : Held) (apart : AreApart slots) where
+module _ (g : Geometry) (slots : List Slot) (wins : Windows) (frames : Held) (apart : AreApart slots) where
   -- pages that go home go as they may, where each changed one has a number below d
   module _ (p : Part) (last : ℕ → ℕ) (d : ℕ) (backed : EachPage g (λ n. page_since_of slots n ≡ None → page_at p.seen (home_at n) ≡ page_of slots frames.pages n (page_at p.seen (home_at n))))
       (below : IsBelow g d (units_of g p.seen slots wins frames)) where

@@ -5,30 +5,15 @@ use Rattle.std.proofs.lemmas.Bool.{cases_lt}
 use Rattle.std.proofs.lemmas.List.{get_or-replicate, get_or_past, length-replicate}
 use Rattle.sg_frames.specs.Held.{Held, NoneLent}
 use Rattle.sg_pool.specs.declared.slot.Slot.{Slot}
-use Rattle.sg_pool.specs.declared.slot.Win.{Win}
+use Rattle.sg_pool.specs.declared.windows.Windows.{Windows}
 use Rattle.sg_disk.specs.Disk.{Part}
 use Rattle.sg_gate.specs.Batch.{IsReady}
 use Rattle.sg_gate.specs.Layout.{home_at}
 use Rattle.sg_pool.specs.Units.{Geometry, IsBacked, page_at, band_byte}
 use Rattle.sg_pool.specs.Held.{no_slot, is_page, frame_of, page_in, since_of, bytes_of, page_since_of}
-use Rattle.sg_pool.specs.Frames.{units_of, window_of, byte_in, marked_in, IsShelf}
+use Rattle.sg_pool.specs.Frames.{units_of, window_of, byte_in, IsShelf}
+use Rattle.sg_pool.specs.Windows.{marked_in}
 use Rattle.sg_pool.proofs.Slots.{none_is_some, frame_nowhere}
-
--- windows that hold no band, and one more
-module _ (w : Win) (empty : w.band ≡ None) (b : ℕ) where
-  alone : window_of (w ∷ []) b ≡ None
-  alone = let e : is_page w.band b ≡ false = ap (λ (o : Option ℕ). is_page o b) empty in rw e refl
-
-  later : (o : Option ℕ) → option_map suc o ≡ None → o ≡ None
-  later None is = refl
-  later (Some x) is = cc
-
-  pub none_more : (ws : List Win) → window_of ws b ≡ None → window_of (ws ++ w ∷ []) b ≡ None
-  none_more [] none = alone
-  none_more (v ∷ ws) none = (elim (is_page v.band b) as (λ y. is_page v.band b ≡ y → window_of (v ∷ ws ++ w ∷ []) b ≡ None) [
-    | true ↦ λ t. let here : Some 0 ≡ None = rw t at none in absurd (none_is_some 0 (sym here))
-    | false ↦ λ t. let rest : option_map suc (window_of ws b) ≡ None = rw t at none in rw t (ap (option_map suc) (none_more ws (later (window_of ws b) rest)))
-  ]) refl
 
 module _ (count : ℕ) where
   abbrev slots : List Slot
@@ -38,7 +23,7 @@ module _ (count : ℕ) where
   slot_is f = ⊎_elim (λ low. get_or-replicate count f no_slot no_slot low) (λ high. get_or_past slots f no_slot (let e = length-replicate count no_slot in omega (arith, e))) (cases_lt f count)
 
   pub page_none : (f : ℕ) → page_in slots f ≡ None
-  page_none f = ap (λ (s : Slot). s.page) (slot_is f)
+  page_none f = ap (λ (s : Slot). s.number) (slot_is f)
 
   pub since_none : (f : ℕ) → since_of slots (Some f) ≡ None
   since_none f = ap (λ (s : Slot). s.since) (slot_is f)
@@ -46,9 +31,9 @@ module _ (count : ℕ) where
   pub frame_none : (n : ℕ) → frame_of slots n ≡ None
   frame_none n = frame_nowhere slots n (λ j lt is. none_is_some n (sym (page_none j) ∙ is))
 
-  pub shelf_new : (pages bands : ℕ) (slots' : List Slot) (index : List (Option ℕ)) (wins : List Win) (frames : Held) → pages ≤ 1048576 → count ≤ 16384 → slots' ≡ slots → index ≡ replicate pages None → length frames.pages ≡ count → length frames.windows ≡ length wins → NoneLent frames
+  pub shelf_new : (pages bands : ℕ) (slots' : List Slot) (index : List (Option ℕ)) (wins : Windows) (frames : Held) → pages ≤ 1048576 → bands ≤ 65536 → count ≤ 16384 → slots' ≡ slots → index ≡ replicate pages None → length frames.pages ≡ count → length frames.windows ≡ length wins.slots.items → length wins.index.items ≡ bands → NoneLent frames
       → IsShelf pages bands slots' index wins frames
-  shelf_new pages bands slots' index wins frames small few same all many wide here = record {
+  shelf_new pages bands slots' index wins frames small few_bands few same all many wide listed here = record {
     here = here;
     many = many ∙ (sym (length-replicate count no_slot) ∙ ap length (sym same));
     wide = wide;
@@ -60,10 +45,12 @@ module _ (count : ℕ) where
     listed = ap length all ∙ length-replicate pages None;
     found = λ n lt. ap (λ (l : List (Option ℕ)). get_or l n None) all ∙ (get_or-replicate pages n None None (let e = ap length all ∙ length-replicate {A = Option ℕ} pages None in omega (arith, e, lt))
         ∙ (sym (frame_none n) ∙ ap (λ (t : List Slot). frame_of t n) (sym same)));
+    most_bands = few_bands;
+    listed_bands = listed;
   }
 
 -- the disk has all of it
-module _ (count : ℕ) (slots' : List Slot) (wins : List Win) (frames : Held) (is : slots' ≡ replicate count no_slot) (empty : (b : ℕ) → window_of wins b ≡ None) where
+module _ (count : ℕ) (slots' : List Slot) (wins : Windows) (frames : Held) (is : slots' ≡ replicate count no_slot) (empty : (b : ℕ) → window_of wins b ≡ None) where
   no_frame : (n : ℕ) → frame_of slots' n ≡ None
   no_frame n = ap (λ (t : List Slot). frame_of t n) is ∙ frame_none count n
 
@@ -72,7 +59,7 @@ module _ (count : ℕ) (slots' : List Slot) (wins : List Win) (frames : Held) (i
     ready = ready;
     pages = λ n small none. sym (ap (λ (o : Option ℕ). bytes_of frames.pages o (page_at p.seen (home_at n))) (no_frame n));
     bytes = λ b i a c none. sym (ap (λ (o : Option ℕ). byte_in frames.windows o i (p.seen (band_byte g b i))) (empty b));
-    clean = λ b i none. ap (λ (o : Option ℕ). marked_in wins o i) (empty b);
+    clean = λ b i none. ap (λ (o : Option ℕ). marked_in wins.marks.items o i) (empty b);
   }
 
   pub fresh_written : (n lsn : ℕ) → page_since_of slots' n ≡ Some lsn → ⊥

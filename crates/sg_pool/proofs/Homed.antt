@@ -1,5 +1,5 @@
 -- The homes once one page has gone home.
-use Rattle.std.proofs.Common.{◌≡◌, ◌≢◌, ◌⊎◌, inl, inr, ⊎_elim, ◌<◌, ◌≤◌, ◌+◌, ℕ, List, length, sym, ◌∙◌, ap, arith}
+use Rattle.std.proofs.Common.{◌≡◌, ◌≢◌, ◌⊎◌, inl, inr, ⊎_elim, ◌<◌, ◌≤◌, ◌+◌, ℕ, zero, suc, List, length, get_or, sym, ◌∙◌, ap, arith}
 use Rattle.std.proofs.lemmas.Bool.{cases_lt}
 use Rattle.std.specs.List.{refill}
 use Rattle.std.proofs.lemmas.List.{take_at}
@@ -36,6 +36,18 @@ module _ (n : ℕ) (page : List ℕ) (long : length page ≡ PAGE) (f : Bytes) w
 
 rewritten_whole : (old new : List ℕ) → length new ≡ length old → refill (length old) old new ≡ new
 rewritten_whole old new same = take_at new _ (length old) same
+
+-- a byte of a window of bytes
+window_get : (f : Bytes) (at n i : ℕ) → i < n → get_or (window f at n) i 0 ≡ f (at + i)
+window_get f at zero i lt = absurd (omega arith)
+window_get f at (suc n) zero lt = let e : at ≡ at + 0 = omega arith in ap f e
+window_get f at (suc n) (suc i) lt = let e : suc at + i ≡ at + suc i = omega arith in window_get f (suc at) n i (omega arith) ∙ ap f e
+
+-- a window into which a band's home was read
+pub band_read : (seen : Bytes) (at n i : ℕ) (old lent read : List ℕ) → length old ≡ n → lent ≡ old → length read ≡ length lent → read ≡ window seen at (length lent) → i < n → get_or (refill (length old) old read) i 0 ≡ seen (at + i)
+band_read seen at n i old lent read size same long is lt =
+    let e = ap length same in
+    ap (λ (x : List ℕ). get_or x i 0) (rewritten_whole old read (long ∙ e) ∙ is) ∙ window_get seen at (length lent) i (omega (arith, e, size, lt))
 
 -- a frame into which a page's home was read
 window_sized : (seen : Bytes) (at n : ℕ) (lent read : List ℕ) → length lent ≡ n → read ≡ window seen at (length lent) → read ≡ window seen at n

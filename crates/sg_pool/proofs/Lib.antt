@@ -1,3 +1,6 @@
+pub mod Banding
+pub mod BandsHome
+pub mod BandsChanged
 pub mod Batched
 pub mod Batching
 pub mod Bringing
@@ -6,6 +9,7 @@ pub mod Changing
 pub mod Clearing
 pub mod Flushed
 pub mod Flushing
+pub mod FlushingAll
 pub mod Forcing
 pub mod GoingOn
 pub mod Homed
@@ -18,4 +22,5 @@ pub mod Placing
 pub mod Pooling
 pub mod Settling
 pub mod Slots
+pub mod Windowing
 pub mod Writing

@@ -4,7 +4,7 @@ use Rattle.sg_pool.specs.declared.slot.Slot.{Slot}
 
 -- a frame that holds no page
 abbrev pub no_slot : Slot
-no_slot = record { page = None; since = None }
+no_slot = record { number = None; since = None }
 
 abbrev pub is_page : Option ℕ → ℕ → Bool
 is_page None n = false
@@ -13,11 +13,11 @@ is_page (Some m) n = m == n
 -- the frame that holds the page
 abbrev pub frame_of : List Slot → ℕ → Option ℕ
 frame_of [] n = None
-frame_of (s ∷ ss) n = if is_page s.page n then Some 0 else option_map suc (frame_of ss n)
+frame_of (s ∷ ss) n = if is_page s.number n then Some 0 else option_map suc (frame_of ss n)
 
 -- the page that the frame holds
 abbrev pub page_in : List Slot → ℕ → Option ℕ
-page_in ss f = (get_or ss f no_slot).page
+page_in ss f = (get_or ss f no_slot).number
 
 -- no page is in two frames
 abbrev pub AreApart : List Slot → Type 0
@@ -39,3 +39,7 @@ page_of ss frames n home = bytes_of frames (frame_of ss n) home
 
 abbrev pub page_since_of : List Slot → ℕ → Option ℕ
 page_since_of ss n = since_of ss (frame_of ss n)
+
+-- the list says of each number which frame holds it
+abbrev pub IsIndex : List Slot → List (Option ℕ) → Type 0
+IsIndex slots index = (n : ℕ) → n < length index → get_or index n None ≡ frame_of slots n

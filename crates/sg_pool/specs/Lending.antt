@@ -9,8 +9,8 @@ use Rattle.sg_pool.specs.declared.fault.PoolFault.{PoolFault}
 use Rattle.sg_pool.specs.declared.pool.Pool.{Pool}
 use Rattle.sg_pool.specs.contracts.pool.Pool.{the_row}
 use Rattle.sg_pool.specs.Order.{IsVictim, IsUsed}
-use Rattle.sg_pool.specs.Pooled.{sizes, frame_holding, uses, OthersKeep, Backs, SameContents}
-use Rattle.sg_pool.specs.Shelves.{OnTold}
+use Rattle.sg_pool.specs.Pooled.{sizes, frame_holding, uses, OthersKeep, Backs, SameContents, SameWindows, SameFrames, IsBandBrought}
+use Rattle.sg_pool.specs.Shelves.{OnTold, AreLogged}
 
 -- PAGE p IS IN FRAME f, which is the most recently used: it was the victim, where p was in no frame. The other frames keep their pages
 pub record IsBrought (p : ℕ) (old new : Pool) (f : ℕ) : Type 0 where
@@ -19,12 +19,28 @@ pub record IsBrought (p : ℕ) (old new : Pool) (f : ℕ) : Type 0 where
   pub victim : frame_holding old p ≡ None → IsVictim (uses old) f
   pub others : OthersKeep f old new
 
+-- no frame but the victim's has lost its page
+abbrev pub IsEmptied : (old new : Pool) → Type 0
+IsEmptied old new = (f : ℕ) × IsVictim (uses old) f × OthersKeep f old new
+
 -- THE POOL ONCE PAGE p WAS LENT: it is in a frame, or nothing was used where the call was refused; the disk backs the pool, and its contents
--- are what they were
+-- are what they were. The windows are as they were
 pub record IsLent {T : Type 0} (told : Bool) (area : Area) (v w : View) (p : ℕ) (result : Result T PoolFault) (old new : Pool) : Type 0 where
   pub size : sizes new ≡ sizes old
   pub brought : IfOk result (λ _. (f : ℕ) × IsBrought p old new f)
   pub unused : OnErr result (uses new ≡ uses old)
+  pub emptied : OnErr result (IsEmptied old new)
+  pub windows : SameWindows old new
+  pub backed : IsTrue told → area ≢ Home → Backs (sizes old) v old → OnTold result (Backs (sizes old) w new)
+  pub same : IsTrue told → area ≢ Home → Backs (sizes old) v old → OnTold result (SameContents v old w new)
+
+-- THE POOL ONCE BAND b WAS LENT: it is in a window; the page frames are as they were; the disk backs the pool, and its contents are what
+-- they were
+pub record IsBandLent {T : Type 0} (told : Bool) (area : Area) (v w : View) (b : ℕ) (result : Result T PoolFault) (old new : Pool) : Type 0 where
+  pub size : sizes new ≡ sizes old
+  pub brought : IfOk result (λ _. (x : ℕ) × IsBandBrought b old new x)
+  pub frames : SameFrames old new
+  pub logged : (tail : ℕ) → AreLogged tail old.shelf → AreLogged tail new.shelf
   pub backed : IsTrue told → area ≢ Home → Backs (sizes old) v old → OnTold result (Backs (sizes old) w new)
   pub same : IsTrue told → area ≢ Home → Backs (sizes old) v old → OnTold result (SameContents v old w new)
 

@@ -1,5 +1,6 @@
 pub mod Units
 pub mod Held
+pub mod Windows
 pub mod Going
 pub mod Frames
 pub mod Well
@@ -8,6 +9,7 @@ pub mod Pools
 pub mod Oldest
 pub mod Changed
 pub mod Batches
+pub mod Bands
 pub mod Moments
 pub mod Shelves
 pub mod Pooled

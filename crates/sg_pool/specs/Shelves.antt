@@ -6,7 +6,7 @@ use Rattle.sg_base.specs.declared.area.Area.TheVariants.{Home}
 use Rattle.sg_disk.specs.Disk.{Bytes, View}
 use Rattle.sg_gate.specs.Layout.{home_at}
 use Rattle.sg_pool.specs.Units.{page_at, Geometry, Units, IsBacked}
-use Rattle.sg_pool.specs.Frames.{units_of, lasts_of}
+use Rattle.sg_pool.specs.Frames.{AreBelow, units_of, lasts_of}
 use Rattle.sg_pool.specs.Well.{IsWell}
 use Rattle.sg_pool.specs.declared.fault.PoolFault.{PoolFault}
 use Rattle.sg_pool.specs.declared.fault.PoolFault.TheVariants.{Disk, Damaged, Memory}
@@ -17,10 +17,14 @@ abbrev pub geometry_of : Shelf → Geometry
 geometry_of s = record { pages = s.pages; bands = s.bands }
 
 abbrev pub units : Bytes → Shelf → Units
-units seen s = units_of (geometry_of s) seen s.slots.items s.wins.items s.frames
+units seen s = units_of (geometry_of s) seen s.slots.items s.wins s.frames
 
 abbrev pub lasts : Shelf → ℕ → ℕ
-lasts s = lasts_of s.wins.items
+lasts s = lasts_of s.wins
+
+-- the last change of each band that isn't on the disk is a record below this number
+abbrev pub AreLogged : ℕ → Shelf → Type 0
+AreLogged tail s = AreBelow tail s.wins
 
 -- in a state of the disk
 abbrev pub units_at : View → Shelf → Units
@@ -54,4 +58,4 @@ pub record IsSameShelf (old new : Shelf) : Type 0 where
   pub count : length new.slots.items ≡ length old.slots.items
   pub pages : (h : ℕ) → page_in new.slots.items h ≡ page_in old.slots.items h
   pub frames : new.frames ≡ old.frames
-  pub wins : new.wins.items ≡ old.wins.items
+  pub wins : new.wins ≡ old.wins

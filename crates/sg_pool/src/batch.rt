@@ -7,6 +7,7 @@ ghost use Rattle.sg_log.specs.Held.{Holds, tail_of, forced};
 ghost use Rattle.sg_gate.specs.Batch.{IsReady, IsWhole, SameLogs};
 ghost use Rattle.sg_pool.specs.Units.{IsBacked, IsCleaned, IsBelow};
 ghost use Rattle.sg_pool.specs.Held.{frame_of, page_in, since_of};
+ghost use Rattle.sg_pool.specs.Bands.{AreCleared};
 ghost use Rattle.sg_pool.specs.Moments.{IsMoment};
 ghost use Rattle.sg_pool.specs.Batches.{AreCollected, ArePlaced, AreHome, IsPartly, IsBatchMoment};
 
@@ -18,7 +19,7 @@ use sg_gate::{finish, place};
 use sg_log::Log;
 
 impl Shelf {
-    ghost use Rattle.sg_pool.specs.Shelves.{geometry_of, units_at, IsBackedAt, lasts, IsSameShelf};
+    ghost use Rattle.sg_pool.specs.Shelves.{geometry_of, units_at, IsBackedAt, lasts, AreLogged, IsSameShelf};
 
     // Puts a frame's page at place k, if it was changed, and puts its number behind the first k. Answers how many
     // numbers there are then.
@@ -45,7 +46,7 @@ impl Shelf {
         if slot.since.is_none() {
             return Ok(k);
         }
-        let Some(n) = slot.page else {
+        let Some(n) = slot.number else {
             return Ok(k);
         };
         match place(disk, k as u32, self.frames.page(f)) {
@@ -94,7 +95,7 @@ impl Shelf {
         ensures pages { (h : ℕ) → page_in self.new.slots.items h ≡ page_in self.old.slots.items h }
         ensures holders { (n : ℕ) → frame_of self.new.slots.items n ≡ frame_of self.old.slots.items n }
         ensures frames { self.new.frames ≡ self.old.frames }
-        ensures wins { self.new.wins.items ≡ self.old.wins.items }
+        ensures wins { self.new.wins ≡ self.old.wins }
         ensures geometry { geometry_of self.new ≡ geometry_of self.old }
         ensures backed { IsTrue D.told → IsBackedAt (geometry_of self.old) (D.view disk.old) self.old →
             OnOk result (IsBackedAt (geometry_of self.old) (D.view disk.new) self.new) }
@@ -121,6 +122,8 @@ impl Shelf {
             OnOk result (IsBackedAt (geometry_of self.old) (D.view disk.new) self.new) }
         ensures units { IsTrue D.told → IsReady ((D.view disk.old).now Home) →
             OnOk result (IsCleaned (geometry_of self.old) (units_at (D.view disk.old) self.old) (units_at (D.view disk.new) self.new)) }
+        ensures partly { IsTrue D.told → IsReady ((D.view disk.old).now Home) →
+            OnOk result (IsReady ((D.view disk.new).now Home) × IsPartly (geometry_of self.old) self.old.slots.items self.old.frames.pages ((D.view disk.old).now Home).seen ((D.view disk.new).now Home).seen) }
         ensures logs { IsTrue D.told → IsReady ((D.view disk.old).now Home) → OnOk result (SameLogs (D.view disk.old).now (D.view disk.new).now) }
         ensures moments { IsTrue D.told → IsReady ((D.view disk.old).now Home) → LeavesOnly (D.view disk.old) (D.view disk.new) (IsBatchMoment (geometry_of self.old) self.old.slots.items self.old.frames.pages (D.view disk.old).now) }
         ensures later { (D.view disk.old).faults ≤ (D.view disk.new).faults }
@@ -135,10 +138,16 @@ impl Shelf {
         Ok(())
     }
 
-    // Makes the log durable, and writes all changed pages home.
+    // Makes the log durable, and writes all changed pages home, and then all changed bands.
     pub(crate) fn flush<D: Disk>(&mut self, disk: &mut D, log: &mut Log) -> Result<(), PoolFault>
         ensures clean { OnOk result ((h : ℕ) → since_of self.new.slots.items (Some h) ≡ None) }
-        ensures kept { IsSameShelf self.old self.new }
+        ensures clear { OnOk result (AreCleared self.old.wins self.new.wins 0 (length self.old.wins.slots.items)) }
+        ensures count { length self.new.slots.items ≡ length self.old.slots.items }
+        ensures pages { (h : ℕ) → page_in self.new.slots.items h ≡ page_in self.old.slots.items h }
+        ensures bands { (w : ℕ) → page_in self.new.wins.slots.items w ≡ page_in self.old.wins.slots.items w }
+        ensures frames { self.new.frames ≡ self.old.frames }
+        ensures logged { (tail : ℕ) → AreLogged tail self.old → AreLogged tail self.new }
+        ensures geometry { geometry_of self.new ≡ geometry_of self.old }
         ensures backed { IsTrue D.told → log.old.area ≢ Home → IsBackedAt (geometry_of self.old) (D.view disk.old) self.old →
             OnOk result (IsBackedAt (geometry_of self.old) (D.view disk.new) self.new) }
         ensures units { IsTrue D.told → log.old.area ≢ Home → IsReady ((D.view disk.old).now Home) →
@@ -146,7 +155,8 @@ impl Shelf {
         ensures log { OnOk result (log.new ≡ forced log.old) }
         ensures holds { (ds ps : List Numbered) → IsTrue D.told → log.old.area ≢ Home → IsReady ((D.view disk.old).now Home) → Holds (D.view disk.old) log.old ds ps → OnOk result (Holds (D.view disk.new) log.new (ds ++ ps) []) }
         ensures moments { (ds ps : List Numbered) → IsTrue D.told → log.old.area ≢ Home → IsBackedAt (geometry_of self.old) (D.view disk.old) self.old → Holds (D.view disk.old) log.old ds ps →
-            IsBelow (geometry_of self.old) (tail_of log.old) (units_at (D.view disk.old) self.old) → LeavesOnly (D.view disk.old) (D.view disk.new) (IsMoment (geometry_of self.old) (D.view disk.old) log.old ds ps (lasts self.old) (units_at (D.view disk.old) self.old)) }
+            IsBelow (geometry_of self.old) (tail_of log.old) (units_at (D.view disk.old) self.old) → AreLogged (tail_of log.old) self.old →
+            LeavesOnly (D.view disk.old) (D.view disk.new) (IsMoment (geometry_of self.old) (D.view disk.old) log.old ds ps (lasts self.old) (units_at (D.view disk.old) self.old)) }
         ensures later { (D.view disk.old).faults ≤ (D.view disk.new).faults }
         ensures failed { OnErr result (HasRisen (D.view disk.old).faults (D.view disk.new).faults) }
         ensures fault { IfErr result (λ e. e ≡ PoolFault.Disk) }
@@ -155,6 +165,7 @@ impl Shelf {
             Ok(()) => {}
             Err(_) => return Err(PoolFault::Disk),
         }
-        self.flush_pages(disk)
+        self.flush_pages(disk)?;
+        self.flush_windows(disk)
     }
 }

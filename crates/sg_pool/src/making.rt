@@ -1,68 +1,59 @@
 // The lists of a pool that holds nothing yet.
-ghost use Rattle.std.specs.Prelude.{◌≡◌, None, IfOk, ℕ, length, replicate};
-ghost use Rattle.sg_pool.specs.Frames.{window_of};
+ghost use Rattle.std.specs.Prelude.{◌≡◌, None, IfOk, length, replicate};
 ghost use Rattle.sg_pool.specs.Held.{no_slot};
 
-use crate::slot::{Slot, Win};
+use crate::slot::Slot;
+use crate::windows::Marks;
 use sg_base::OutOfMemory;
 use sg_segment::Dirty;
 use std::alloc::{AllocError, Global};
 
-// So many frames that hold no page.
-pub(crate) fn no_pages(alloc: Global, count: u32) -> Result<Vec<Slot>, AllocError>
+// So many frames or windows that hold nothing.
+fn no_slots(alloc: Global, count: u32) -> Result<Vec<Slot>, AllocError>
     ensures { IfOk result (λ v. v.items ≡ replicate count no_slot) }
 {
     let slot = Slot {
-        page: None,
+        number: None,
         since: None,
     };
     vec![in alloc; slot; count as usize]
 }
 
-// So many pages that are in no frame.
-pub(crate) fn no_frames(alloc: Global, count: u32) -> Result<Vec<Option<u32>>, AllocError>
+// So many pages or bands that are nowhere.
+fn no_places(alloc: Global, count: u32) -> Result<Vec<Option<u32>>, AllocError>
     ensures { IfOk result (λ v. v.items ≡ replicate count None) }
 {
     vec![in alloc; None; count as usize]
 }
 
-// So many windows that hold no band.
-pub(crate) fn no_bands(alloc: Global, count: u32) -> Result<Vec<Win>, AllocError>
-    ensures count { IfOk result (λ v. length v.items ≡ count) }
-    ensures none { IfOk result (λ v. (b : ℕ) → window_of v.items b ≡ None) }
+// So many windows without a marked byte.
+pub(crate) fn no_changes(alloc: Global, count: u32) -> Result<Vec<Marks>, AllocError>
+    ensures { IfOk result (λ v. length v.items ≡ count) }
 {
-    let mut wins = Vec::with_capacity(alloc, count as usize)?;
+    let mut marks = Vec::with_capacity(alloc, count as usize)?;
     'windows: for _k in 0..count {
-        wins.push(Win {
-            band: None,
-            since: None,
+        marks.push(Marks {
             last: 0,
             dirty: Dirty::new(),
         })?;
     }
-    Ok(wins)
+    Ok(marks)
 }
 
-// All three, with a list by number of the pages.
-pub(crate) fn empty_lists(
+// So many frames or windows that hold nothing, and a list by number of so many pages or bands.
+pub(crate) fn empty_table(
     alloc: Global,
-    pages: u32,
-    frames: u32,
-    windows: u32,
-) -> Result<(Vec<Slot>, Vec<Option<u32>>, Vec<Win>), OutOfMemory>
-    ensures slots { IfOk result (λ r. r.0.items ≡ replicate frames no_slot) }
-    ensures index { IfOk result (λ r. r.1.items ≡ replicate pages None) }
-    ensures count { IfOk result (λ r. length r.2.items ≡ windows) }
-    ensures wins { IfOk result (λ r. (b : ℕ) → window_of r.2.items b ≡ None) }
+    numbers: u32,
+    places: u32,
+) -> Result<(Vec<Slot>, Vec<Option<u32>>), OutOfMemory>
+    ensures slots { IfOk result (λ r. r.0.items ≡ replicate places no_slot) }
+    ensures index { IfOk result (λ r. r.1.items ≡ replicate numbers None) }
 {
-    let Ok(slots) = no_pages(alloc, frames) else {
+    let Ok(slots) = no_slots(alloc, places) else {
         return Err(OutOfMemory);
     };
-    let Ok(index) = no_frames(alloc, pages) else {
+    let Ok(index) = no_places(alloc, numbers) else {
         return Err(OutOfMemory);
     };
-    let Ok(wins) = no_bands(alloc, windows) else {
-        return Err(OutOfMemory);
-    };
-    Ok((slots, index, wins))
+    Ok((slots, index))
 }

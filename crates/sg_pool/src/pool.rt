@@ -3,6 +3,7 @@ ghost use Rattle.std.specs.Map.{set_value};
 ghost use Rattle.sg_base.specs.Ends.{HasRisen};
 ghost use Rattle.sg_base.specs.Op.{op_of};
 ghost use Rattle.sg_base.specs.declared.area.Area.TheVariants.{Home};
+ghost use Rattle.sg_base.specs.declared.page.TheConstants.{BAND_SIZE};
 ghost use Rattle.sg_disk.specs.Disk.{View, LeavesOnly};
 ghost use Rattle.sg_gate.specs.Batch.{IsReady};
 ghost use Rattle.sg_gate.specs.Superblock.{IsSuper};
@@ -10,17 +11,18 @@ ghost use Rattle.sg_log.specs.Frames.{Numbered};
 ghost use Rattle.sg_log.specs.Held.{Holds, tail_of, forced};
 ghost use Rattle.sg_ops.specs.Table.{table_of};
 ghost use Rattle.sg_redo.specs.Page.{on_page};
-ghost use Rattle.sg_pool.specs.Changed.{IsCleanedThenChanged};
+ghost use Rattle.sg_pool.specs.Changed.{IsCleanedThenChanged, IsCleanedThenWritten};
 ghost use Rattle.sg_pool.specs.Moments.{IsSameOrForced};
 ghost use Rattle.sg_pool.specs.Order.{IsVictim, IsUsed, below, pins_of};
 ghost use Rattle.sg_pool.specs.Pools.{IsPool};
 ghost use Rattle.sg_pool.specs.Well.{IsWell};
 
 use crate::PoolFault;
+use crate::least::{earlier, oldest_of};
 use crate::order::{all_frames, next_out, pin_count, set_pin, touch};
 use crate::shelf::Shelf;
 use lru::LruCache;
-use sg_base::{Lsn, PageNo, PageOp};
+use sg_base::{BandNo, Lsn, PageNo, PageOp};
 use sg_disk::Disk;
 use sg_gate::Super;
 use sg_log::Log;
@@ -42,9 +44,9 @@ pub struct Pool {
 
 impl Pool {
     ghost use Rattle.std.specs.Borrow.{sem};
-    ghost use Rattle.sg_pool.specs.Lending.{IsLent, IsBrought, ends_as};
-    ghost use Rattle.sg_pool.specs.Pooled.{sizes, contents, frame_holding, page_held, uses, OthersKeep, Backs, SameContents, IsLogged, IsPoolMoment, IsUnwritten};
-    ghost use Rattle.sg_pool.specs.Shelves.{OnTold, BringFails};
+    ghost use Rattle.sg_pool.specs.Lending.{IsLent, IsBandLent, IsBrought, IsEmptied, ends_as};
+    ghost use Rattle.sg_pool.specs.Pooled.{sizes, contents, frame_holding, page_held, uses, OthersKeep, Backs, SameContents, IsLogged, IsPoolMoment, IsUnwritten, SameWindows, SameFrames, IsBandBrought, band_held, last_of};
+    ghost use Rattle.sg_pool.specs.Shelves.{OnTold, BringFails, AreLogged};
 
     /// A pool for a store of this size, with as many frames as its superblock says. No page is in a
     /// frame, and the lower frames are used first.
@@ -84,6 +86,7 @@ impl Pool {
         ensures used { IfOk result (λ f. IsUsed f (uses self.old) (uses self.new)) }
         ensures victim { frame_holding self.old p ≡ None → IfOk result (λ f. IsVictim (uses self.old) f) }
         ensures others { IfOk result (λ f. OthersKeep f self.old self.new) }
+        ensures emptied { OnErr result (IsEmptied self.old self.new) }
         ensures size { sizes self.new ≡ sizes self.old }
         ensures backed { IsTrue D.told → log.old.area ≢ Home → Backs (sizes self.old) (D.view disk.old) self.old →
             OnTold result (Backs (sizes self.old) (D.view disk.new) self.new) }
@@ -97,6 +100,7 @@ impl Pool {
         ensures well { IsTrue D.told → log.old.area ≢ Home → Backs (sizes self.old) (D.view disk.old) self.old → frame_holding self.old p ≡ None →
             OnOk result (IsWell ((contents (D.view disk.old) self.old).page p)) }
         ensures unused { OnErr result (uses self.new ≡ uses self.old) }
+        ensures windows { SameWindows self.old self.new }
         ensures later { (D.view disk.old).faults ≤ (D.view disk.new).faults }
         ensures faults { IfErr result (λ e. BringFails D.told log.old.area p (D.view disk.old) (D.view disk.new) self.old.shelf e) }
     {
@@ -118,7 +122,8 @@ impl Pool {
     /// change isn't durable.
     ///
     /// `Damaged` comes exactly where the home of a page that is in no frame is neither a page of
-    /// slots nor all 0. The contents are what they were; the victim's frame is empty then.
+    /// slots nor all 0. The contents are what they were; the victim's frame is empty then, and the
+    /// others keep their pages.
     pub fn page<D: Disk>(
         &mut self,
         disk: &mut D,
@@ -161,7 +166,10 @@ impl Pool {
     ) -> Result<(), PoolFault>
         requires page { p.0 < (sizes self.old).pages }
         ensures brought { IfOk result (λ _. (f : ℕ) × IsBrought p.0 self.old self.new f) }
+        // No frame but the victim's has lost its page.
+        ensures emptied { OnErr result (IsEmptied self.old self.new) }
         ensures unused { OnErr result (uses self.new ≡ uses self.old) }
+        ensures windows { SameWindows self.old self.new }
         ensures size { sizes self.new ≡ sizes self.old }
         ensures backed { IsTrue D.told → log.old.area ≢ Home → Backs (sizes self.old) (D.view disk.old) self.old →
             OnTold result (Backs (sizes self.old) (D.view disk.new) self.new) }
@@ -186,11 +194,112 @@ impl Pool {
         Ok(())
     }
 
-    /// Makes the log durable and writes each changed page home, up to 32 of them at once. They stay
-    /// in their frames.
+    // The window of a band, which is brought into the next one where it is in none.
+    fn hold_band<D: Disk>(&mut self, disk: &mut D, log: &mut Log, b: u32) -> Result<u32, PoolFault>
+        requires band { b < (sizes self.old).bands }
+        ensures brought { IfOk result (λ w. IsBandBrought b self.old self.new w) }
+        ensures bytes { IsTrue D.told → log.old.area ≢ Home → Backs (sizes self.old) (D.view disk.old) self.old →
+            IfOk result (λ w. (i : ℕ) → i < BAND_SIZE → get_or (get_or self.new.shelf.frames.windows w []) i 0 ≡ (contents (D.view disk.old) self.old).byte b i) }
+        ensures whole { IfOk result (λ w. length (get_or self.new.shelf.frames.windows w []) ≡ BAND_SIZE) }
+        ensures frames { SameFrames self.old self.new }
+        ensures logged { (tail : ℕ) → AreLogged tail self.old.shelf → AreLogged tail self.new.shelf }
+        ensures size { sizes self.new ≡ sizes self.old }
+        ensures backed { IsTrue D.told → log.old.area ≢ Home → Backs (sizes self.old) (D.view disk.old) self.old →
+            OnTold result (Backs (sizes self.old) (D.view disk.new) self.new) }
+        ensures same { IsTrue D.told → log.old.area ≢ Home → Backs (sizes self.old) (D.view disk.old) self.old →
+            OnTold result (SameContents (D.view disk.old) self.old (D.view disk.new) self.new) }
+        ensures log_kept { (log.new ≡ log.old) ⊎ (log.new ≡ forced log.old) }
+        ensures log { (ds ps : List Numbered) → IsTrue D.told → log.old.area ≢ Home → Holds (D.view disk.old) log.old ds ps → OnTold result (IsSameOrForced (D.view disk.new) log.old log.new ds ps) }
+        ensures moments { (ds ps : List Numbered) → IsTrue D.told → log.old.area ≢ Home → IsReady ((D.view disk.old).now Home) → Holds (D.view disk.old) log.old ds ps →
+            IsLogged (tail_of log.old) (D.view disk.old) self.old → LeavesOnly (D.view disk.old) (D.view disk.new) (IsPoolMoment (D.view disk.old) self.old log.old ds ps) }
+        ensures fault { IfErr result (λ e. e ≡ PoolFault.Disk) }
+        ensures failed { OnErr result (HasRisen (D.view disk.old).faults (D.view disk.new).faults) }
+        ensures later { (D.view disk.old).faults ≤ (D.view disk.new).faults }
+    {
+        if let Some(w) = self.shelf.wins.find(b) {
+            return Ok(w);
+        }
+        let w = self.shelf.wins.next;
+        self.shelf.bring_band(disk, log, w, b)?;
+        Ok(w)
+    }
+
+    /// The 32,768 bytes of a band of the store: those that it was given last, whatever was evicted.
+    /// The band is in a window then.
+    ///
+    /// Where the band was in no window, it comes into one, in turn. Whose band goes home first where
+    /// it was changed: exactly the bytes that were written, after a force of the log where its last
+    /// change isn't durable, and with a sync behind. The page frames stay as they are.
+    pub fn band<D: Disk>(
+        &mut self,
+        disk: &mut D,
+        log: &mut Log,
+        b: BandNo,
+    ) -> Result<&[u8], PoolFault>
+        requires band { b.0 < (sizes self.old).bands }
+        ensures* ends { sem 𝓛 (ends_as self.entry (IsBandLent D.told log.old.area (D.view disk.old) (D.view disk.new) b.0 result self.old)) }
+        ensures size { IfOk result (λ bytes. length bytes.now ≡ BAND_SIZE) }
+        ensures bytes { IsTrue D.told → log.old.area ≢ Home → Backs (sizes self.old) (D.view disk.old) self.old →
+            IfOk result (λ bytes. (i : ℕ) → i < BAND_SIZE → get_or bytes.now i 0 ≡ (contents (D.view disk.old) self.old).byte b.0 i) }
+        ensures log_kept { (log.new ≡ log.old) ⊎ (log.new ≡ forced log.old) }
+        ensures log { (ds ps : List Numbered) → IsTrue D.told → log.old.area ≢ Home → Holds (D.view disk.old) log.old ds ps → OnTold result (IsSameOrForced (D.view disk.new) log.old log.new ds ps) }
+        // At each moment, faults included.
+        ensures moments { (ds ps : List Numbered) → IsTrue D.told → log.old.area ≢ Home → IsReady ((D.view disk.old).now Home) → Holds (D.view disk.old) log.old ds ps →
+            IsLogged (tail_of log.old) (D.view disk.old) self.old → LeavesOnly (D.view disk.old) (D.view disk.new) (IsPoolMoment (D.view disk.old) self.old log.old ds ps) }
+        ensures fault { IfErr result (λ e. e ≡ PoolFault.Disk) }
+        ensures failed { OnErr result (HasRisen (D.view disk.old).faults (D.view disk.new).faults) }
+        ensures later { (D.view disk.old).faults ≤ (D.view disk.new).faults }
+    {
+        let w = self.hold_band(disk, log, b.0)?;
+        Ok(self.shelf.frames.window(w))
+    }
+
+    /// Writes bytes to a band from byte `at` on, as the record `lsn` does. They stay in the band's
+    /// window until it goes home. The record has been appended to the log.
+    ///
+    /// The band comes into a window as by `band`, with the same refusal.
+    pub fn change_band<D: Disk>(
+        &mut self,
+        disk: &mut D,
+        log: &mut Log,
+        b: BandNo,
+        lsn: Lsn,
+        at: u32,
+        bytes: &[u8],
+    ) -> Result<(), PoolFault>
+        requires band { b.0 < (sizes self.old).bands }
+        requires fits { at + length bytes.now ≤ BAND_SIZE }
+        ensures brought { IfOk result (λ _. (w : ℕ) × IsBandBrought b.0 self.old self.new w) }
+        ensures frames { SameFrames self.old self.new }
+        // Where the record is in the log, the last change of each band is.
+        ensures logged { (tail : ℕ) → AreLogged tail self.old.shelf → lsn < tail → AreLogged tail self.new.shelf }
+        ensures size { sizes self.new ≡ sizes self.old }
+        ensures backed { IsTrue D.told → log.old.area ≢ Home → Backs (sizes self.old) (D.view disk.old) self.old →
+            OnOk result (Backs (sizes self.old) (D.view disk.new) self.new) }
+        ensures changed { IsTrue D.told → log.old.area ≢ Home → Backs (sizes self.old) (D.view disk.old) self.old →
+            OnOk result (IsCleanedThenWritten (sizes self.old) b.0 lsn at bytes.now (contents (D.view disk.old) self.old) (contents (D.view disk.new) self.new)) }
+        ensures last { OnOk result (last_of self.new b.0 ≡ lsn) }
+        ensures log_kept { (log.new ≡ log.old) ⊎ (log.new ≡ forced log.old) }
+        ensures log { (ds ps : List Numbered) → IsTrue D.told → log.old.area ≢ Home → Holds (D.view disk.old) log.old ds ps → OnTold result (IsSameOrForced (D.view disk.new) log.old log.new ds ps) }
+        // At each moment, faults included.
+        ensures moments { (ds ps : List Numbered) → IsTrue D.told → log.old.area ≢ Home → IsReady ((D.view disk.old).now Home) → Holds (D.view disk.old) log.old ds ps →
+            IsLogged (tail_of log.old) (D.view disk.old) self.old → LeavesOnly (D.view disk.old) (D.view disk.new) (IsPoolMoment (D.view disk.old) self.old log.old ds ps) }
+        ensures fault { IfErr result (λ e. e ≡ PoolFault.Disk) }
+        ensures failed { OnErr result (HasRisen (D.view disk.old).faults (D.view disk.new).faults) }
+        ensures later { (D.view disk.old).faults ≤ (D.view disk.new).faults }
+    {
+        let w = self.hold_band(disk, log, b.0)?;
+        self.shelf.write_band(w, lsn, at, bytes);
+        Ok(())
+    }
+
+    /// Makes the log durable and writes each changed page home, up to 32 of them at once, and then
+    /// each changed band, with one sync behind all of them. They stay in their frames and windows.
     pub fn flush<D: Disk>(&mut self, disk: &mut D, log: &mut Log) -> Result<(), PoolFault>
         ensures order { uses self.new ≡ uses self.old }
         ensures frames { (f : ℕ) → page_held self.new f ≡ page_held self.old f }
+        ensures windows { (w : ℕ) → band_held self.new w ≡ band_held self.old w }
+        ensures logged { (tail : ℕ) → AreLogged tail self.old.shelf → AreLogged tail self.new.shelf }
         ensures size { sizes self.new ≡ sizes self.old }
         ensures written { OnOk result ((lsn : ℕ) → IsUnwritten self.new lsn → ⊥) }
         ensures backed { IsTrue D.told → log.old.area ≢ Home → Backs (sizes self.old) (D.view disk.old) self.old →
@@ -215,6 +324,13 @@ impl Pool {
         ensures { result ≡ (sizes self.now).pages }
     {
         self.shelf.pages
+    }
+
+    /// How many bands its store has.
+    pub fn bands(&self) -> u32
+        ensures { result ≡ (sizes self.now).bands }
+    {
+        self.shelf.bands
     }
 
     /// Whether `pin` may be called: the page is in a frame, and fewer than 6 are pinned. It looks at
@@ -252,14 +368,14 @@ impl Pool {
         }
     }
 
-    /// The number of the oldest change of a page that isn't on the disk: no write of the page home
+    /// The number of the oldest change of a page or band that isn't on the disk: no write of it home
     /// with a sync behind it has followed that change. `None` exactly where there is none.
     pub fn oldest(&self) -> Option<Lsn>
         ensures none { IfNone result ((lsn : ℕ) → IsUnwritten self.now lsn → ⊥) }
         ensures least { IfSome result (λ oldest. (lsn : ℕ) → IsUnwritten self.now lsn → oldest ≤ lsn) }
         ensures some { IfSome result (λ oldest. IsUnwritten self.now oldest) }
     {
-        self.shelf.oldest_page()
+        earlier(oldest_of(&self.shelf.slots), oldest_of(&self.shelf.wins.slots))
     }
 
     /// The frame into which the next page comes that is in none: the least recently used that isn't

@@ -1,11 +1,11 @@
-ghost use Rattle.std.specs.Prelude.{◌≡◌, ◌≢◌, ◌⊎◌, ◌≤◌, ◌<◌, ◌+◌, ◌++◌, [], ℕ, List, Some, None, length, get_or, slice_set, replicate, OnOk, OnErr, IfOk, IfErr, IfSome, IfNone, IsTrue};
+ghost use Rattle.std.specs.Prelude.{◌≡◌, ◌≢◌, ◌↔◌, ◌⊎◌, ◌≤◌, ◌<◌, ◌+◌, ◌++◌, [], ℕ, true, List, Some, None, length, get_or, slice_set, replicate, unwrap_or, OnOk, OnErr, IfOk, IfErr, IfSome, IfNone, IsTrue};
 ghost use Rattle.sg_base.specs.Ends.{HasRisen};
 ghost use Rattle.sg_base.specs.declared.area.Area.TheVariants.{Home};
 ghost use Rattle.sg_disk.specs.Disk.{Leaves, LeavesOnly, Counts, ReadBytes};
 ghost use Rattle.sg_log.specs.Frames.{Numbered};
 ghost use Rattle.sg_log.specs.Held.{Holds, tail_of, forced, IsBeforeOrAfter};
 ghost use Rattle.sg_frames.specs.Held.{with_bytes};
-ghost use Rattle.sg_frames.specs.declared.place.Place.TheVariants.{Page};
+ghost use Rattle.sg_frames.specs.declared.place.Place.TheVariants.{Page, Window};
 ghost use Rattle.sg_gate.specs.Layout.{PAGE, home_at};
 ghost use Rattle.sg_gate.specs.Batch.{IsReady};
 ghost use Rattle.sg_pool.specs.Going.{IsStored};
@@ -15,7 +15,10 @@ ghost use Rattle.sg_redo.specs.History.{redone};
 ghost use Rattle.sg_redo.specs.Page.{on_page};
 ghost use Rattle.sg_pool.specs.Units.{Geometry, page_at, IsBacked, IsCleaned, IsBelow};
 ghost use Rattle.sg_pool.specs.Frames.{IsShelf, IsAtHome, window_of};
-ghost use Rattle.sg_pool.specs.Oldest.{earlier};
+ghost use Rattle.sg_base.specs.Overwritten.{overwritten};
+ghost use Rattle.sg_base.specs.declared.page.TheConstants.{BAND_SIZE};
+ghost use Rattle.sg_segment.specs.Runs.{IsWithin};
+ghost use Rattle.sg_pool.specs.Windows.{no_marks, marked_in, last_in};
 ghost use Rattle.sg_pool.specs.Changed.{applies, slots_after};
 ghost use Rattle.sg_pool.specs.Held.{frame_of, page_in, since_of};
 ghost use Rattle.sg_pool.specs.Moments.{IsSameOrForced, IsMoment};
@@ -23,10 +26,11 @@ ghost use Rattle.sg_pool.specs.Well.{IsWell};
 
 use crate::PoolFault;
 use crate::index::forget;
-use crate::making::empty_lists;
+use crate::making::empty_table;
 use crate::settle::settle;
-use crate::slot::{Slot, Win};
+use crate::slot::Slot;
 use crate::well::is_well;
+use crate::windows::Windows;
 use sg_base::{Area, Failed, OutOfMemory, PageNo, PageOp};
 use sg_disk::Disk;
 use sg_frames::Frames;
@@ -44,9 +48,8 @@ pub struct Shelf {
     // what each frame holds, and the frame of each page
     pub(crate) slots: Vec<Slot>,
     pub(crate) index: Vec<Option<u32>>,
-    // what each window holds
-    pub(crate) wins: Vec<Win>,
-    ghost shelf: { IsShelf pages bands slots.items index.items wins.items frames },
+    pub(crate) wins: Windows,
+    ghost shelf: { IsShelf pages bands slots.items index.items wins frames },
 }
 
 impl Shelf {
@@ -61,13 +64,15 @@ impl Shelf {
         windows: u32,
     ) -> Result<Shelf, OutOfMemory>
         requires pages { pages ≤ 1048576 }
+        requires bands { bands ≤ 65536 }
         requires frames { (1 ≤ frames) × (frames ≤ 16384) }
         requires windows { (1 ≤ windows) × (windows ≤ 256) }
         ensures geometry { IfOk result (λ s. geometry_of s ≡ record { pages = pages; bands = bands }) }
-        ensures slots { IfOk result (λ s. s.slots.items ≡ replicate frames (record { page = None; since = None })) }
-        ensures wins { IfOk result (λ s. (b : ℕ) → window_of s.wins.items b ≡ None) }
+        ensures slots { IfOk result (λ s. s.slots.items ≡ replicate frames (record { number = None; since = None })) }
+        ensures wins { IfOk result (λ s. (b : ℕ) → window_of s.wins b ≡ None) }
     {
-        let (slots, index, wins) = empty_lists(alloc, pages, frames, windows)?;
+        let (slots, index) = empty_table(alloc, pages, frames)?;
+        let wins = Windows::new(alloc, bands, windows)?;
         let frames = Frames::new(alloc, frames, windows)?;
         Ok(Shelf {
             pages,
@@ -90,17 +95,17 @@ impl Shelf {
     // Takes the page out of a frame.
     fn empty(&mut self, f: u32)
         requires there { f < length self.old.slots.items }
-        ensures slots { self.new.slots.items ≡ slice_set self.old.slots.items f (record { page = None; since = None }) }
+        ensures slots { self.new.slots.items ≡ slice_set self.old.slots.items f (record { number = None; since = None }) }
         ensures frames { self.new.frames ≡ self.old.frames }
-        ensures wins { self.new.wins.items ≡ self.old.wins.items }
+        ensures wins { self.new.wins ≡ self.old.wins }
         ensures geometry { geometry_of self.new ≡ geometry_of self.old }
     {
         let slot = self.slots[f as usize];
         self.slots[f as usize] = Slot {
-            page: None,
+            number: None,
             since: None,
         };
-        forget(&mut self.index, slot.page);
+        forget(&mut self.index, slot.number);
     }
 
     // Puts a page into an empty frame.
@@ -109,13 +114,13 @@ impl Shelf {
         requires empty { page_in self.old.slots.items f ≡ None }
         requires page { p < self.old.pages }
         requires absent { frame_of self.old.slots.items p ≡ None }
-        ensures slots { self.new.slots.items ≡ slice_set self.old.slots.items f (record { page = Some p; since = None }) }
+        ensures slots { self.new.slots.items ≡ slice_set self.old.slots.items f (record { number = Some p; since = None }) }
         ensures frames { self.new.frames ≡ self.old.frames }
-        ensures wins { self.new.wins.items ≡ self.old.wins.items }
+        ensures wins { self.new.wins ≡ self.old.wins }
         ensures geometry { geometry_of self.new ≡ geometry_of self.old }
     {
         self.slots[f as usize] = Slot {
-            page: Some(p),
+            number: Some(p),
             since: None,
         };
         self.index[p as usize] = Some(f);
@@ -137,7 +142,7 @@ impl Shelf {
         if slot.since.is_none() {
             return Ok(());
         }
-        match slot.page {
+        match slot.number {
             Some(n) => settle(disk, log, self.pages, n, self.frames.page(f)),
             None => Ok(()),
         }
@@ -151,9 +156,10 @@ impl Shelf {
         f: u32,
     ) -> Result<(), PoolFault>
         requires there { f < length self.old.slots.items }
-        ensures slots { OnOk result (self.new.slots.items ≡ slice_set self.old.slots.items f (record { page = page_in self.old.slots.items f; since = None })) }
+        ensures slots { OnOk result (self.new.slots.items ≡ slice_set self.old.slots.items f (record { number = page_in self.old.slots.items f; since = None })) }
+        ensures pages { (h : ℕ) → page_in self.new.slots.items h ≡ page_in self.old.slots.items h }
         ensures frames { self.new.frames ≡ self.old.frames }
-        ensures wins { self.new.wins.items ≡ self.old.wins.items }
+        ensures wins { self.new.wins ≡ self.old.wins }
         ensures geometry { geometry_of self.new ≡ geometry_of self.old }
         ensures backed { IsTrue D.told → log.old.area ≢ Home → IsBackedAt (geometry_of self.old) (D.view disk.old) self.old →
             OnOk result (IsBackedAt (geometry_of self.old) (D.view disk.new) self.new) }
@@ -176,8 +182,9 @@ impl Shelf {
     fn read_home<D: Disk>(&mut self, disk: &mut D, f: u32, p: u32) -> Result<(), Failed>
         requires there { f < length self.old.slots.items }
         requires page { p < self.old.pages }
-        ensures slots { self.new.slots.items ≡ slice_set self.old.slots.items f (record { page = None; since = None }) }
-        ensures wins { self.new.wins.items ≡ self.old.wins.items }
+        ensures slots { self.new.slots.items ≡ slice_set self.old.slots.items f (record { number = None; since = None }) }
+        ensures wins { self.new.wins ≡ self.old.wins }
+        ensures windows { self.new.frames.windows ≡ self.old.frames.windows }
         ensures geometry { geometry_of self.new ≡ geometry_of self.old }
         ensures frames { IsTrue D.told → OnOk result (self.new.frames ≡ with_bytes self.old.frames (Page f) (page_at ((D.view disk.old).now Home).seen (home_at p))) }
         ensures counts { Counts 0 (D.view disk.old) (D.view disk.new) result }
@@ -194,9 +201,11 @@ impl Shelf {
         requires page { p < self.old.pages }
         requires absent { frame_of self.old.slots.items p ≡ None }
         requires clean { since_of self.old.slots.items (Some f) ≡ None }
-        ensures slots { OnOk result (self.new.slots.items ≡ slice_set self.old.slots.items f (record { page = Some p; since = None })) }
-        ensures emptied { OnErr result (self.new.slots.items ≡ slice_set self.old.slots.items f (record { page = None; since = None })) }
-        ensures wins { self.new.wins.items ≡ self.old.wins.items }
+        ensures slots { OnOk result (self.new.slots.items ≡ slice_set self.old.slots.items f (record { number = Some p; since = None })) }
+        ensures emptied { OnErr result (self.new.slots.items ≡ slice_set self.old.slots.items f (record { number = None; since = None })) }
+        ensures others { (h : ℕ) → h ≢ f → page_in self.new.slots.items h ≡ page_in self.old.slots.items h }
+        ensures wins { self.new.wins ≡ self.old.wins }
+        ensures windows { self.new.frames.windows ≡ self.old.frames.windows }
         ensures geometry { geometry_of self.new ≡ geometry_of self.old }
         ensures backed { IsTrue D.told → IsBackedAt (geometry_of self.old) (D.view disk.old) self.old →
             OnTold result (IsBackedAt (geometry_of self.old) (D.view disk.new) self.new) }
@@ -230,9 +239,11 @@ impl Shelf {
         requires there { f < length self.old.slots.items }
         requires page { p < self.old.pages }
         requires absent { frame_of self.old.slots.items p ≡ None }
-        ensures slots { OnOk result (self.new.slots.items ≡ slice_set self.old.slots.items f (record { page = Some p; since = None })) }
+        ensures slots { OnOk result (self.new.slots.items ≡ slice_set self.old.slots.items f (record { number = Some p; since = None })) }
         ensures count { length self.new.slots.items ≡ length self.old.slots.items }
-        ensures wins { self.new.wins.items ≡ self.old.wins.items }
+        ensures others { (h : ℕ) → h ≢ f → page_in self.new.slots.items h ≡ page_in self.old.slots.items h }
+        ensures wins { self.new.wins ≡ self.old.wins }
+        ensures windows { self.new.frames.windows ≡ self.old.frames.windows }
         ensures geometry { geometry_of self.new ≡ geometry_of self.old }
         ensures backed { IsTrue D.told → log.old.area ≢ Home → IsBackedAt (geometry_of self.old) (D.view disk.old) self.old →
             OnTold result (IsBackedAt (geometry_of self.old) (D.view disk.new) self.new) }
@@ -260,7 +271,7 @@ impl Shelf {
             self.new.slots.items ≡ slots_after (applies r (get_or self.old.frames.pages f [])) self.old.slots.items f lsn }
         ensures frames { let r = on_page (table_of record_meaning range_meaning ops.now) lsn (op_of op.now) in
             self.new.frames ≡ with_bytes self.old.frames (Page f) (redone r (get_or self.old.frames.pages f [])) }
-        ensures wins { self.new.wins.items ≡ self.old.wins.items }
+        ensures wins { self.new.wins ≡ self.old.wins }
         ensures geometry { geometry_of self.new ≡ geometry_of self.old }
     {
         let slot = self.slots[f as usize];
@@ -268,22 +279,25 @@ impl Shelf {
             return;
         }
         self.slots[f as usize] = Slot {
-            page: slot.page,
+            number: slot.number,
             since: Some(slot.since.unwrap_or(lsn)),
         };
     }
 
-    // The least of the oldest changes that aren't on the disk, over the pages.
-    pub(crate) fn oldest_page(&self) -> Option<u64>
-        ensures none { IfNone result ((f : ℕ) → f < length self.now.slots.items → since_of self.now.slots.items (Some f) ≡ None) }
-        ensures least { IfSome result (λ o. (f x : ℕ) → f < length self.now.slots.items → since_of self.now.slots.items (Some f) ≡ Some x → o ≤ x) }
-        ensures some { IfSome result (λ o. (f : ℕ) × (f < length self.now.slots.items) × (since_of self.now.slots.items (Some f) ≡ Some o)) }
+    // Writes bytes to a window's band, and marks them, as the record of this number does.
+    pub(crate) fn write_band(&mut self, w: u32, lsn: u64, at: u32, bytes: &[u8])
+        requires there { w < length self.old.wins.slots.items }
+        requires held { (b : ℕ) × (page_in self.old.wins.slots.items w ≡ Some b) }
+        requires fits { at + length bytes.now ≤ BAND_SIZE }
+        ensures wins { self.new.wins.slots.items ≡ slice_set self.old.wins.slots.items w (record { number = page_in self.old.wins.slots.items w; since = Some (unwrap_or (since_of self.old.wins.slots.items (Some w)) lsn) }) }
+        ensures last { last_in self.new.wins.marks.items (Some w) ≡ lsn }
+        ensures marked { (k : ℕ) → marked_in self.new.wins.marks.items (Some w) k ≡ true ↔ ((marked_in self.old.wins.marks.items (Some w) k ≡ true) ⊎ IsWithin at (length bytes.now) k) }
+        ensures marks { (v : ℕ) → v ≢ w → get_or self.new.wins.marks.items v no_marks ≡ get_or self.old.wins.marks.items v no_marks }
+        ensures slots { self.new.slots.items ≡ self.old.slots.items }
+        ensures geometry { geometry_of self.new ≡ geometry_of self.old }
+        ensures frames { self.new.frames ≡ with_bytes self.old.frames (Window w) (overwritten (get_or self.old.frames.windows w []) at bytes.now) }
     {
-        let mut least = None;
-        'frames: for f in 0..self.slots.len() {
-            least = earlier(least, self.slots[f].since);
-        }
-        least
+        self.wins.write(self.frames.window_mut(w), w, lsn, at, bytes);
     }
 
     // Gives the memory back.
@@ -300,16 +314,5 @@ impl Shelf {
         drop(index);
         drop(wins);
         frames.end();
-    }
-}
-
-// The lesser of two, where there are two.
-fn earlier(a: Option<u64>, b: Option<u64>) -> Option<u64>
-    ensures { result ≡ earlier a b }
-{
-    match (a, b) {
-        (Some(x), Some(y)) => Some(if y < x { y } else { x }),
-        (Some(x), None) => Some(x),
-        (None, b) => b,
     }
 }

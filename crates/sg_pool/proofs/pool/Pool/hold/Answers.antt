@@ -2,6 +2,7 @@ use Rattle.std.proofs.Common.{inl, length, refl, sym, ◌∙◌}
 use Rattle.sg_disk.specs.Disk.{Image}
 use Rattle.sg_disk.proofs.Moments.{weaker}
 use Rattle.sg_log.proofs.Holding.{no_call_moments}
+use Rattle.sg_pool.proofs.Bringing.{on_err}
 use Rattle.sg_pool.proofs.Slots.{frame_some}
 use Rattle.sg_pool.proofs.Pooling.{pool_same, held_new}
 use Rattle.sg_pool.proofs.pool.Pool.hold.Goals as goal
@@ -31,3 +32,13 @@ returns-clause-held g c = let s = c.args.self.now in
 
 pub returns-clause-victim : goal.returns-clause-victim
 returns-clause-victim g c none = let s = c.args.self.now in c.next_out-f.ensures.victim (length s.shelf.slots.items) s.pool.many s.pool.order
+
+pub returns-in_err-bring-clause-moments : goal.returns-in_err-bring-clause-moments
+returns-in_err-bring-clause-moments g c ds ps told apart ready holds below = c.bring.ensures.moments ds ps told apart ready holds below.pages
+
+pub returns-clause-moments : goal.returns-clause-moments
+returns-clause-moments g c ds ps told apart ready holds below = c.bring.ensures.moments ds ps told apart ready holds below.pages
+
+pub returns-in_err-bring-clause-emptied : goal.returns-in_err-bring-clause-emptied
+returns-in_err-bring-clause-emptied g c = let s = c.args.self.now in
+    on_err c.from_residual.result (c.next_out-f.result, c.next_out-f.ensures.victim (length s.shelf.slots.items) s.pool.many s.pool.order, c.bring.ensures.others)

@@ -15,7 +15,7 @@ load-requires-clause-absent g c = let s = c.args.self.now in absent_still s.slot
 
 pub returns-clause-slots : goal.returns-clause-slots
 returns-clause-slots g c = let s = c.args.self.now in
-    on_ok_weaker c.load.result (λ is. is ∙ twice s.slots.items c.clean.new.self.slots.items c.args.f (record { page = page_in s.slots.items c.args.f; since = None }) (record { page = Some c.args.p; since = None }) c.in_ok-clean.ensures.slots) c.load.ensures.slots
+    on_ok_weaker c.load.result (λ is. is ∙ twice s.slots.items c.clean.new.self.slots.items c.args.f (record { number = page_in s.slots.items c.args.f; since = None }) (record { number = Some c.args.p; since = None }) c.in_ok-clean.ensures.slots) c.load.ensures.slots
 
 pub returns-clause-units : goal.returns-clause-units
 returns-clause-units g c told apart backed =
@@ -46,3 +46,9 @@ returns-clause-faults g c =
     (bring_fails g.D.Disk.told c.args.log.now.area c.args.p v w z s t c.clean.ensures.later c.requires.page
     (λ told apart backed. sym (at_home t.slots.items t.frames.pages c.args.p (page_at (w.now Home).seen (home_at c.args.p)) still) ∙ (c.in_ok-clean.ensures.units told apart backed.ready).page c.args.p c.requires.page))
     c.load.ensures.faults
+
+pub returns-clause-others : goal.returns-clause-others
+returns-clause-others g c h differ = c.load.ensures.others h differ ∙ c.clean.ensures.pages h
+
+pub returns-in_err-clean-clause-others : goal.returns-in_err-clean-clause-others
+returns-in_err-clean-clause-others g c h differ = c.clean.ensures.pages h

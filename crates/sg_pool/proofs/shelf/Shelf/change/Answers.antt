@@ -18,11 +18,11 @@ invariant_of-self-2 g c =
     let here : length (get_or s.frames.pages c.args.f []) ≡ 4096 = s.shelf.here.pages c.args.f (omega (arith, many, there)) in
     let bytes : List ℕ = refill (length (get_or s.frames.pages c.args.f [])) (get_or s.frames.pages c.args.f []) c.apply_page.new.page in
     let long : length bytes ≡ 4096 = sym (length_refill (length (get_or s.frames.pages c.args.f [])) (get_or s.frames.pages c.args.f []) c.apply_page.new.page refl) ∙ here in
-    let page = ap (λ (x : Slot). x.page) (slot_at s.slots.items c.args.f c.index-slot.result.now there c.index-slot.ensures) in
-    let slot : Slot = record { page = c.index-slot.result.now.page; since = Some c.unwrap_or.result } in
+    let page = ap (λ (x : Slot). x.number) (slot_at s.slots.items c.args.f c.index-slot.result.now there c.index-slot.ensures) in
+    let slot : Slot = record { number = c.index-slot.result.now.number; since = Some c.unwrap_or.result } in
     record {
-      shelf = shelf_frame s.pages s.bands (set s.slots.items c.args.f slot) s.wins.items s.frames c.args.f bytes long
-          (shelf_cleaned s.pages s.bands s.slots.items s.wins.items s.frames s.shelf c.args.f there slot page (λ none. absurd (none_is_some c.requires.held.0 (sym none ∙ (page ∙ c.requires.held.1)))));
+      shelf = shelf_frame s.pages s.bands (set s.slots.items c.args.f slot) s.wins s.frames c.args.f bytes long
+          (shelf_cleaned s.pages s.bands s.slots.items s.wins s.frames s.shelf c.args.f there slot page (λ none. absurd (none_is_some c.requires.held.0 (sym none ∙ (page ∙ c.requires.held.1)))));
     }
 
 pub returns-clause-slots : goal.returns-clause-slots

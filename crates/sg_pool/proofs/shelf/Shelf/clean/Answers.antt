@@ -5,7 +5,7 @@ use Rattle.sg_pool.specs.Frames.{units_of}
 use Rattle.sg_pool.specs.declared.slot.Slot.{Slot}
 use Rattle.sg_pool.specs.Held.{no_slot}
 use Rattle.sg_pool.specs.Shelves.{geometry_of, units}
-use Rattle.sg_pool.proofs.Slots.{slot_at}
+use Rattle.sg_pool.proofs.Slots.{slot_at, page_kept}
 use Rattle.sg_pool.proofs.Changing.{home_cleaned, home_backed, shelf_cleaned}
 use Rattle.sg_pool.proofs.shelf.Shelf.clean.Goals as goal
 
@@ -13,7 +13,7 @@ pub invariant_of-self : goal.invariant_of-self
 invariant_of-self g c =
     let s = c.args.self.now in
     let is : c.index_mut.result.now ≡ get_or s.slots.items c.args.f no_slot = slot_at s.slots.items c.args.f c.index_mut.result.now c.requires.there c.index_mut.ensures.value in
-    record { shelf = shelf_cleaned s.pages s.bands s.slots.items s.wins.items s.frames s.shelf c.args.f c.requires.there (record { page = c.index_mut.result.now.page; since = None }) (ap (λ (x : Slot). x.page) is) (λ none. refl) }
+    record { shelf = shelf_cleaned s.pages s.bands s.slots.items s.wins s.frames s.shelf c.args.f c.requires.there (record { number = c.index_mut.result.now.number; since = None }) (ap (λ (x : Slot). x.number) is) (λ none. refl) }
 
 pub returns-clause-backed : goal.returns-clause-backed
 returns-clause-backed g c told apart backed =
@@ -21,8 +21,8 @@ returns-clause-backed g c told apart backed =
     let v = g.D.Disk.view c.args.disk.now in
     let w = g.D.Disk.view c.write_back.new.disk in
     let is : c.index_mut.result.now ≡ get_or s.slots.items c.args.f no_slot = slot_at s.slots.items c.args.f c.index_mut.result.now c.requires.there c.index_mut.ensures.value in
-    subst (λ (o : Option ℕ). IsBacked (geometry_of s) (w.now Home) (units_of (geometry_of s) (w.now Home).seen (set s.slots.items c.args.f (record { page = o; since = None })) s.wins.items s.frames)) (sym (ap (λ (x : Slot). x.page) is))
-    (home_backed (geometry_of s) s.slots.items s.wins.items s.frames s.shelf c.args.f c.requires.there (v.now Home) (w.now Home) (c.in_ok-write_back.ensures.home told apart backed.ready) backed)
+    subst (λ (o : Option ℕ). IsBacked (geometry_of s) (w.now Home) (units_of (geometry_of s) (w.now Home).seen (set s.slots.items c.args.f (record { number = o; since = None })) s.wins s.frames)) (sym (ap (λ (x : Slot). x.number) is))
+    (home_backed (geometry_of s) s.slots.items s.wins s.frames s.shelf c.args.f c.requires.there (v.now Home) (w.now Home) (c.in_ok-write_back.ensures.home told apart backed.ready) backed)
 
 pub returns-clause-units : goal.returns-clause-units
 returns-clause-units g c told apart ready =
@@ -30,5 +30,11 @@ returns-clause-units g c told apart ready =
     let v = g.D.Disk.view c.args.disk.now in
     let w = g.D.Disk.view c.write_back.new.disk in
     let is : c.index_mut.result.now ≡ get_or s.slots.items c.args.f no_slot = slot_at s.slots.items c.args.f c.index_mut.result.now c.requires.there c.index_mut.ensures.value in
-    subst (λ (o : Option ℕ). IsCleaned (geometry_of s) (units (v.now Home).seen s) (units_of (geometry_of s) (w.now Home).seen (set s.slots.items c.args.f (record { page = o; since = None })) s.wins.items s.frames)) (sym (ap (λ (x : Slot). x.page) is))
-    (home_cleaned (geometry_of s) s.slots.items s.wins.items s.frames s.shelf c.args.f c.requires.there (v.now Home) (w.now Home) (c.in_ok-write_back.ensures.home told apart ready))
+    subst (λ (o : Option ℕ). IsCleaned (geometry_of s) (units (v.now Home).seen s) (units_of (geometry_of s) (w.now Home).seen (set s.slots.items c.args.f (record { number = o; since = None })) s.wins s.frames)) (sym (ap (λ (x : Slot). x.number) is))
+    (home_cleaned (geometry_of s) s.slots.items s.wins s.frames s.shelf c.args.f c.requires.there (v.now Home) (w.now Home) (c.in_ok-write_back.ensures.home told apart ready))
+
+pub returns-clause-pages : goal.returns-clause-pages
+returns-clause-pages g c h =
+    let s = c.args.self.now in
+    let is : c.index_mut.result.now ≡ get_or s.slots.items c.args.f no_slot = slot_at s.slots.items c.args.f c.index_mut.result.now c.requires.there c.index_mut.ensures.value in
+    page_kept s.slots.items c.args.f (record { number = c.index_mut.result.now.number; since = None }) c.requires.there (ap (λ (x : Slot). x.number) is) h

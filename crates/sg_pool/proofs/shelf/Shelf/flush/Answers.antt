@@ -1,27 +1,72 @@
-use Rattle.std.proofs.Common.{◌≡◌, ◌<◌, inl, inr, ℕ, ◌++◌, [], sym, ◌∙◌, ap, subst}
+use Rattle.std.proofs.Common.{◌≡◌, inl, ◌++◌, [], ℕ, length, sym, ◌∙◌, ap, subst}
+use Rattle.std.proofs.lemmas.Result.{on_ok_weaker}
 use Rattle.sg_base.specs.declared.area.Area.TheVariants.{Home}
-use Rattle.sg_base.specs.Page.{lsn_of}
-use Rattle.sg_disk.specs.Disk.{Image}
-use Rattle.sg_disk.proofs.Moments.{weaker, joined}
+use Rattle.sg_disk.specs.Disk.{Image, Part, LeavesOnly}
+use Rattle.sg_disk.proofs.Moments.{weaker}
 use Rattle.sg_gate.specs.Batch.{IsReady}
-use Rattle.sg_log.specs.Held.{Tail, Holds, tail_of}
-use Rattle.sg_pool.specs.Shelves.{geometry_of, units, lasts}
-use Rattle.sg_pool.proofs.Settling.{stands, gate_forced}
-use Rattle.sg_pool.proofs.Flushed.{batch_goes}
+use Rattle.sg_log.specs.Held.{Tail, Holds}
+use Rattle.sg_window.specs.Runs.{IsTorn}
+use Rattle.sg_pool.specs.Bands.{IsDirty}
+use Rattle.sg_pool.specs.Frames.{AreBelow}
+use Rattle.sg_pool.specs.declared.windows.Windows.{Windows}
+use Rattle.sg_pool.specs.Shelves.{geometry_of, units}
+use Rattle.sg_pool.specs.Units.{Geometry, IsCleaned}
+use Rattle.sg_pool.proofs.Bringing.{cleaned_more}
+use Rattle.sg_pool.proofs.Forcing.{is_forced}
+use Rattle.sg_pool.proofs.Settling.{holds_at}
+use Rattle.sg_pool.proofs.FlushingAll.{force_then_pages, then_windows}
 use Rattle.sg_pool.proofs.shelf.Shelf.flush.Goals as goal
 
 pub returns-in-Err-clause-moments : goal.returns-in-Err-clause-moments
-returns-in-Err-clause-moments g c ds ps told apart backed holds below = weaker (c.force.ensures.any_moment ds ps told holds) (λ (im : Image) before. inl before)
+returns-in-Err-clause-moments g c ds ps told apart backed holds below logged = weaker (c.force.ensures.any_moment ds ps told holds) (λ (im : Image) before. inl before)
 
-pub returns-clause-moments : goal.returns-clause-moments
-returns-clause-moments g c ds ps told apart backed holds below =
-    let s = c.args.self.now in let log = c.args.log.now in let now = c.force.new.self in
+pub returns-in_err-flush_pages-clause-moments : goal.returns-in_err-flush_pages-clause-moments
+returns-in_err-flush_pages-clause-moments g c ds ps told apart backed holds below logged =
+    let s = c.args.self.now in let now = c.force.new.self in
     let v = g.D.Disk.view c.args.disk.now in let w = g.D.Disk.view c.force.new.disk in
     let same = c.in-Ok.ensures.elsewhere told in
-    let home = same Home (λ e. apart (sym e)) in
-    let there : IsReady (w.now Home) = subst IsReady (sym home) backed.ready in
+    let there : IsReady (w.now Home) = subst IsReady (sym (same Home (λ e. apart (sym e)))) backed.ready in
     let after = subst (λ (t : Tail). Holds w t (ds ++ ps) []) c.in-Ok.ensures.log (c.in-Ok.ensures.holds ds ps told holds) in
-    let d : now.gate ≡ tail_of log = ap (λ (t : Tail). t.gate) c.in-Ok.ensures.log ∙ gate_forced log in
-    joined (weaker (c.force.ensures.any_moment ds ps told holds) (λ (im : Image) before. inl before))
-    (weaker (c.flush_pages.ensures.moments told there) (λ (im : Image) moment. inr (batch_goes (geometry_of s) s.slots.items s.wins.items s.frames s.shelf.apart v w log ds ps (lasts s) now.gate apart same
-    (stands w log now ds ps (inr (c.in-Ok.ensures.log, after))) backed (λ n o small since. subst (λ (k : ℕ). lsn_of ((units (v.now Home).seen s).page n) < k) (sym d) (below n o small since)) home im moment)))
+    force_then_pages (geometry_of s) s.slots.items s.wins s.frames s.shelf.apart v w c.args.log.now now ds ps apart same c.in-Ok.ensures.log after backed below (g.D.Disk.view c.flush_pages.new.disk)
+    (c.force.ensures.any_moment ds ps told holds) (c.flush_pages.ensures.moments told there)
+
+pub returns-clause-moments : goal.returns-clause-moments
+returns-clause-moments g c ds ps told apart backed holds below logged =
+    let s = c.args.self.now in let now = c.force.new.self in let t = c.flush_pages.new.self in
+    let v = g.D.Disk.view c.args.disk.now in let w = g.D.Disk.view c.force.new.disk in let z = g.D.Disk.view c.flush_pages.new.disk in let y = g.D.Disk.view c.flush_windows.new.disk in
+    let same = c.in-Ok.ensures.elsewhere told in
+    let there : IsReady (w.now Home) = subst IsReady (sym (same Home (λ e. apart (sym e)))) backed.ready in
+    let after = subst (λ (t : Tail). Holds w t (ds ++ ps) []) c.in-Ok.ensures.log (c.in-Ok.ensures.holds ds ps told holds) in
+    let first = force_then_pages (geometry_of s) s.slots.items s.wins s.frames s.shelf.apart v w c.args.log.now now ds ps apart same c.in-Ok.ensures.log after backed below z
+        (c.force.ensures.any_moment ds ps told holds) (c.flush_pages.ensures.moments told there) in
+    let partly = c.in_ok-flush_pages.ensures.partly told there in
+    let run = subst (λ (h : Geometry). LeavesOnly z y (IsTorn z.now (IsDirty h t.wins 0 (length t.wins.slots.items)))) c.flush_pages.ensures.kept.geometry (c.flush_windows.ensures.any_moment told) in
+    let run_in = subst (λ (ws : Windows). LeavesOnly z y (IsTorn z.now (IsDirty (geometry_of s) ws 0 (length ws.slots.items)))) c.flush_pages.ensures.kept.wins run in
+    then_windows (geometry_of s) s.slots.items s.wins s.frames s.shelf.apart v w c.args.log.now now ds ps apart same c.in-Ok.ensures.log after backed below z y
+    first (c.in_ok-flush_pages.ensures.logs told there) partly.0 partly.1 logged run_in
+
+pub returns-clause-units : goal.returns-clause-units
+returns-clause-units g c told apart ready =
+    let s = c.args.self.now in let t = c.flush_pages.new.self in
+    let v = g.D.Disk.view c.args.disk.now in let w = g.D.Disk.view c.force.new.disk in let z = g.D.Disk.view c.flush_pages.new.disk in let y = g.D.Disk.view c.flush_windows.new.disk in
+    let home : w.now Home ≡ v.now Home = c.in-Ok.ensures.elsewhere told Home (λ e. apart (sym e)) in
+    let there : IsReady (w.now Home) = subst IsReady (sym home) ready in
+    let first = subst (λ (p : Part). IsCleaned (geometry_of s) (units p.seen s) (units (z.now Home).seen t)) home (c.in_ok-flush_pages.ensures.units told there) in
+    on_ok_weaker c.flush_windows.result (cleaned_more (geometry_of s) (geometry_of t) (units (v.now Home).seen s) (units (z.now Home).seen t) (units (y.now Home).seen c.flush_windows.new.self) c.flush_pages.ensures.kept.geometry first)
+    (c.flush_windows.ensures.units told (c.in_ok-flush_pages.ensures.partly told there).0)
+
+pub returns-clause-holds : goal.returns-clause-holds
+returns-clause-holds g c ds ps told apart ready holds =
+    let now = c.force.new.self in
+    let v = g.D.Disk.view c.args.disk.now in let w = g.D.Disk.view c.force.new.disk in let y = g.D.Disk.view c.flush_windows.new.disk in
+    let home : w.now Home ≡ v.now Home = c.in-Ok.ensures.elsewhere told Home (λ e. apart (sym e)) in
+    let there : IsReady (w.now Home) = subst IsReady (sym home) ready in
+    let area : now.area ≡ c.args.log.now.area = ap (λ (t : Tail). t.area) c.in-Ok.ensures.log ∙ (is_forced c.args.log.now).area in
+    let not_home : now.area ≡ Home → ⊥ = λ e. apart (sym area ∙ e) in
+    on_ok_weaker c.flush_windows.result (λ logs. holds_at w y now (ds ++ ps) [] (logs now.area not_home ∙ c.in_ok-flush_pages.ensures.logs told there now.area not_home) (c.in-Ok.ensures.holds ds ps told holds)) (c.flush_windows.ensures.logs told)
+
+pub returns-in_err-flush_pages-clause-logged : goal.returns-in_err-flush_pages-clause-logged
+returns-in_err-flush_pages-clause-logged g c tail below = subst (λ (x : Windows). AreBelow tail x) (sym c.flush_pages.ensures.kept.wins) below
+
+pub returns-clause-logged : goal.returns-clause-logged
+returns-clause-logged g c tail below = c.flush_windows.ensures.logged tail (subst (λ (x : Windows). AreBelow tail x) (sym c.flush_pages.ensures.kept.wins) below)

@@ -26,7 +26,7 @@ pub returns-in_default-clause-collected : goal.returns-in_default-clause-collect
 returns-in_default-clause-collected g c from are =
     let s = c.args.self.now in
     let is = slot_at s.slots.items c.args.f c.index.result.now c.requires.there c.index.ensures in
-    (omega arith, collected_skip s.slots.items from c.args.f (take c.args.k c.args.numbers.now) are (inl (inr (sym (ap (λ (x : Slot). x.page) is) ∙ c.in_default.is))))
+    (omega arith, collected_skip s.slots.items from c.args.f (take c.args.k c.args.numbers.now) are (inl (inr (sym (ap (λ (x : Slot). x.number) is) ∙ c.in_default.is))))
 
 pub returns-in-Err-clause-moments : goal.returns-in-Err-clause-moments
 returns-in-Err-clause-moments g c pages told ready =
@@ -47,7 +47,7 @@ returns-clause-collected g c from are =
     let count = count_is xs c.args.k small room in (
       omega arith,
       subst (AreCollected s.slots.items from (c.args.f + 1)) (sym (take_set xs c.args.k c.in-Some.n (omega (arith, small, room))))
-          (collected_more (take c.args.k xs) c.in-Some.n s.slots.items from c.args.f are s.shelf.apart c.requires.there (sym (ap (λ (x : Slot). x.page) is) ∙ c.in-Some.is) (omega (arith, count, small))),
+          (collected_more (take c.args.k xs) c.in-Some.n s.slots.items from c.args.f are s.shelf.apart c.requires.there (sym (ap (λ (x : Slot). x.number) is) ∙ c.in-Some.is) (omega (arith, count, small))),
     )
 
 pub returns-clause-placed : goal.returns-clause-placed
@@ -57,7 +57,7 @@ returns-clause-placed g c from told are ready p placed =
     let v = g.D.Disk.view c.args.disk.now in let w = g.D.Disk.view c.place.new.disk in
     let long : length c.page.result.now ≡ 4096 = ap length c.page.ensures ∙ s.shelf.here.pages c.args.f (omega (arith, many, at)) in
     let is = slot_at s.slots.items c.args.f c.index.result.now c.requires.there c.index.ensures in
-    let held = frame_is s.slots.items c.args.f c.in-Some.n s.shelf.apart c.requires.there (sym (ap (λ (x : Slot). x.page) is) ∙ c.in-Some.is) in
+    let held = frame_is s.slots.items c.args.f c.in-Some.n s.shelf.apart c.requires.there (sym (ap (λ (x : Slot). x.number) is) ∙ c.in-Some.is) in
     let part = part_written v.now Home (place_at c.args.k) c.page.result.now (c.in-Ok.ensures.does told).ok in
     subst (λ (ns : List ℕ). ArePlaced s.slots.items s.frames.pages ns p (w.now Home)) (sym (take_set xs c.args.k c.in-Some.n (omega (arith, small, room))))
     (subst (λ (q : Part). ArePlaced s.slots.items s.frames.pages (take c.args.k xs ++ c.in-Some.n ∷ []) p q) (sym part)

@@ -14,7 +14,7 @@ use Rattle.sg_pool.specs.Held.{bytes_of, since_of}
 use Rattle.sg_pool.proofs.shelf.Shelf.write_back.Goals as goal
 
 pub settle-requires-clause-number : goal.settle-requires-clause-number
-settle-requires-clause-number g c = c.args.self.now.shelf.within c.args.f c.in-Some.n c.requires.there (ap (λ (s : Slot). s.page) (sym (slot_at c.args.self.now.slots.items c.args.f c.index.result.now c.requires.there c.index.ensures)) ∙ c.in-Some.is)
+settle-requires-clause-number g c = c.args.self.now.shelf.within c.args.f c.in-Some.n c.requires.there (ap (λ (s : Slot). s.number) (sym (slot_at c.args.self.now.slots.items c.args.f c.index.result.now c.requires.there c.index.ensures)) ∙ c.in-Some.is)
 
 pub returns-then-is_none-clause-moments : goal.returns-then-is_none-clause-moments
 returns-then-is_none-clause-moments g c ds ps told apart ready holds below = weaker (no_call_moments holds) (λ (im : Image) before. inl before)
@@ -27,7 +27,7 @@ returns-in-Some-clause-moments g c ds ps told apart ready holds below =
     let s = c.args.self.now in
     let v = g.D.Disk.view c.args.disk.now in
     let slot_is = slot_at s.slots.items c.args.f c.index.result.now c.requires.there c.index.ensures in
-    let holds_it = ap (λ (s : Slot). s.page) (sym slot_is) ∙ c.in-Some.is in
+    let holds_it = ap (λ (s : Slot). s.number) (sym slot_is) ∙ c.in-Some.is in
     let is = frame_is s.slots.items c.args.f c.in-Some.n s.shelf.apart c.requires.there holds_it in
     let bytes = ap (λ (o : Option ℕ). bytes_of s.frames.pages o (page_at (v.now Home).seen (home_at c.in-Some.n))) is ∙ sym c.page.ensures in
     let o = some_of c.index.result.now.since c.if-is_none.ensures in

@@ -1,19 +1,30 @@
-use crate::{Pool, PoolFault};
-use sg_base::{Lsn, PageNo, PageOp, TxnId, view};
-use sg_disk::{Area, Fuse, MemDisk};
-use sg_gate::{Super, lay_over, page_start};
+use sg_base::{BandNo, Lsn, PageNo, PageOp, TxnId, view};
+use sg_disk::{Area, Disk, Fuse, MemDisk};
+use sg_gate::{Super, band_start, lay_over, page_start};
 use sg_log::{Log, LogFault};
 use sg_ops::Ops;
+use sg_pool::{Pool, PoolFault};
 use sg_record::plain::Rec;
 use std::alloc::Global;
 use std::test::Fail;
 
 const PAGES: u32 = 200;
 
+const BANDS: u32 = 40;
+
+// A band has so many cells of 8 bytes that change, one in each 2,048 bytes, from this byte on.
+const CELLS: u32 = 16;
+const CELL_AT: u32 = 1_000;
+
+const ZEROS: [u8; 2_048] = [0; 2_048];
+
+// The last byte of the last band.
+const LAST: u64 = 2_273_279;
+
 const STORE: Super = Super {
     sequence: 1,
     pages: PAGES,
-    bands: 40,
+    bands: BANDS,
     frames: 32,
     windows: 4,
     log: 0,
@@ -40,6 +51,7 @@ enum Stop {
     Pool(PoolFault),
     Log(LogFault),
     NoPage,
+    NoBand,
 }
 
 impl From<PoolFault> for Stop {
@@ -71,11 +83,40 @@ fn is_version(bytes: &[u8], page: u32, lsn: Lsn) -> bool {
     }
 }
 
+// The 8 bytes that stand for a cell among 2,048 bytes of a band.
+fn has_cell(bytes: &[u8], cell: Lsn) -> bool {
+    let text = cell.to_le_bytes();
+    bytes.get(1_000..1_008) == Some(text.as_slice())
+}
+
+// Whether the other bytes are 0.
+fn is_bare(bytes: &[u8]) -> bool {
+    bytes.get(..1_000) == ZEROS.get(..1_000) && bytes.get(1_008..) == ZEROS.get(1_008..)
+}
+
+// Which cells of a band differ, as bits: 65,536 stands for a byte beside them that isn't 0.
+fn cells_differ(bytes: &[u8], cells: &[Lsn; 16]) -> u32 {
+    let mut differ = 0;
+    let mut bit = 1u32;
+    for (part, cell) in bytes.chunks(2_048).zip(cells.iter()) {
+        if !is_bare(part) {
+            differ |= 65_536;
+        }
+        if !has_cell(part, *cell) {
+            differ |= bit;
+        }
+        bit = bit.wrapping_mul(2);
+    }
+    differ
+}
+
 impl Trial {
-    // A store of zeros, of whose disk so many calls pass, or all.
+    // A store of zeros that are all written, of whose disk so many more calls pass, or all.
     fn new(alloc: Global, passes: Option<u64>) -> Result<Trial, Fail> {
         let ops = Ops::shipped(alloc)?;
         let mut disk = MemDisk::new(alloc);
+        let _written = disk.write_at(Area::Home, LAST, &[0]);
+        let _synced = disk.sync(Area::Home);
         let log = Log::attach(alloc, &mut disk, Area::Log0, 0)?;
         let pool = Pool::new(alloc, &STORE)?;
         Ok(Trial {
@@ -130,6 +171,27 @@ impl Trial {
         }
         let bytes = self.pool.page(&mut self.disk, &mut self.log, PageNo(p))?;
         Ok(is_version(bytes, p, lsn))
+    }
+
+    // Gives a cell of a band the number of a new record. Answers that.
+    fn write_cell(&mut self, b: u32, cell: u32) -> Result<Lsn, Stop> {
+        let lsn = self.log.append(&mut self.disk, &RECORD)?;
+        if b >= self.pool.bands() || cell >= CELLS {
+            return Err(Stop::NoBand);
+        }
+        let at = cell * 2_048 + CELL_AT;
+        let bytes = lsn.to_le_bytes();
+        self.pool.change_band(&mut self.disk, &mut self.log, BandNo(b), lsn, at, &bytes)?;
+        Ok(lsn)
+    }
+
+    // Whether a band that is lent has these cells, and 0 elsewhere.
+    fn has_cells(&mut self, b: u32, cells: &[Lsn; 16]) -> Result<bool, Stop> {
+        if b >= self.pool.bands() {
+            return Err(Stop::NoBand);
+        }
+        let bytes = self.pool.band(&mut self.disk, &mut self.log, BandNo(b))?;
+        Ok(cells_differ(bytes, cells) == 0)
     }
 
     // Pins a page, if it may be pinned.
@@ -193,10 +255,24 @@ struct Row {
     is_pinned: bool,
 }
 
-// A pool beside such an array, and calls that are drawn.
+// And of a band: the numbers in its cells, and what was in them when it went home last; the numbers of the oldest
+// change that isn't home, and of the last.
+#[derive(Clone, Copy)]
+struct Strip {
+    cells: [Lsn; 16],
+    homes: [Lsn; 16],
+    since: Option<Lsn>,
+    last: Lsn,
+}
+
+// A pool beside such arrays, and calls that are drawn.
 #[derive(Drop)]
 struct Plain {
     rows: Vec<Row>,
+    strips: Vec<Strip>,
+    // the band in each window, and which window comes next
+    windows: [Option<u32>; 4],
+    next: usize,
     clock: u64,
     seed: u64,
 }
@@ -210,9 +286,19 @@ impl Plain {
             used: None,
             is_pinned: false,
         };
+        let strip = Strip {
+            cells: [0; 16],
+            homes: [0; 16],
+            since: None,
+            last: 0,
+        };
         let rows = vec![in alloc; row; PAGES as usize]?;
+        let strips = vec![in alloc; strip; BANDS as usize]?;
         Ok(Plain {
             rows,
+            strips,
+            windows: [None; 4],
+            next: 0,
             clock: 0,
             seed,
         })
@@ -286,6 +372,47 @@ impl Plain {
             row.since = None;
             row.home = row.last;
         }
+        for strip in self.strips.iter_mut() {
+            strip.since = None;
+            strip.homes = strip.cells;
+        }
+    }
+
+    fn cells(&self, b: u32) -> [Lsn; 16] {
+        match self.strips.get(b as usize) {
+            Some(strip) => strip.cells,
+            None => [0; 16],
+        }
+    }
+
+    // The band comes into a window, and the one there goes home.
+    fn use_band(&mut self, b: u32) {
+        if self.windows.iter().any(|held| *held == Some(b)) {
+            return;
+        }
+        let Some(window) = self.windows.get_mut(self.next) else {
+            return;
+        };
+        if let Some(out) = *window {
+            if let Some(strip) = self.strips.get_mut(out as usize) {
+                strip.since = None;
+                strip.homes = strip.cells;
+            }
+        }
+        *window = Some(b);
+        self.next = if self.next >= 3 { 0 } else { self.next.saturating_add(1) };
+    }
+
+    // And its cell is changed.
+    fn change_cell(&mut self, b: u32, cell: u32, lsn: Lsn) {
+        self.use_band(b);
+        if let Some(strip) = self.strips.get_mut(b as usize) {
+            if let Some(number) = strip.cells.get_mut(cell as usize) {
+                *number = lsn;
+            }
+            strip.since = Some(strip.since.unwrap_or(lsn));
+            strip.last = lsn;
+        }
     }
 
     fn set_pin(&mut self, p: u32, is_pinned: bool) {
@@ -295,7 +422,13 @@ impl Plain {
     }
 
     fn oldest(&self) -> Option<Lsn> {
-        self.rows.iter().filter_map(|row| row.since).min()
+        let pages = self.rows.iter().filter_map(|row| row.since).min();
+        let bands = self.strips.iter().filter_map(|strip| strip.since).min();
+        match (pages, bands) {
+            (Some(a), Some(b)) => Some(a.min(b)),
+            (Some(a), None) => Some(a),
+            (None, b) => b,
+        }
     }
 
     // One call of the pool, and whether what it answers is right.
@@ -317,9 +450,20 @@ impl Plain {
                 trial.unpin(p);
                 self.set_pin(p, false);
             }
-            3..=50 => {
+            3..=35 => {
                 let (first, last) = trial.write(p, last == 0)?;
                 self.change_page(p, first, last);
+            }
+            36..=50 => {
+                let b = self.draw(BANDS);
+                let cell = self.draw(CELLS);
+                let lsn = trial.write_cell(b, cell)?;
+                self.change_cell(b, cell, lsn);
+            }
+            51..=65 => {
+                let b = self.draw(BANDS);
+                is_right = trial.has_cells(b, &self.cells(b))?;
+                self.use_band(b);
             }
             _ => {
                 is_right = trial.has(p, last)?;
@@ -341,7 +485,7 @@ impl Plain {
 }
 
 #[test]
-fn a_page_is_what_was_last_written_to_it(rt: HostRuntime) -> Result<(), Fail> {
+fn a_page_and_a_band_are_what_was_last_written_to_them(rt: HostRuntime) -> Result<(), Fail> {
     let mut plain = Plain::new(rt.alloc(), 1)?;
     let mut trial = Trial::new(rt.alloc(), None)?;
     let outcome = plain.run(&mut trial, 10_000);
@@ -365,35 +509,66 @@ fn all_kept(alloc: Global, mut disk: MemDisk, plain: &Plain) -> Result<bool, Fai
     lay_over(&mut disk, PAGES)?;
     let log = Log::attach(alloc, &mut disk, Area::Log0, 0)?;
     let durable = log.durable();
-    let zeros = [0; 4_096];
     let mut page = 0;
     for row in plain.rows.iter() {
         let from = page_start(PageNo(page)) as usize;
-        let bytes = match disk.home().get(from..from.saturating_add(4_096)) {
-            Some(bytes) => bytes,
-            None => zeros.as_slice(),
+        let Some(bytes) = disk.home().get(from..from.saturating_add(4_096)) else {
+            return Ok(false);
         };
         if !is_kept(bytes, page, row.home, durable) {
             return Ok(false);
         }
         page = page.saturating_add(1);
     }
-    Ok(true)
+    Ok(bands_kept(&disk, plain, durable))
 }
 
-// What a crash leaves of 400 calls that are stopped after so many calls of the disk.
+// Whether each cell that has changed since its band went home is as it was then, or the band's last change is below
+// the durable tail; and each other byte is as it was.
+fn is_strip_kept(bytes: &[u8], strip: &Strip, durable: Lsn) -> bool {
+    let mut differ = cells_differ(bytes, &strip.homes);
+    if differ >= 65_536 {
+        return false;
+    }
+    for (cell, home) in strip.cells.iter().zip(strip.homes.iter()).rev() {
+        let is_open = cell != home && strip.last < durable;
+        if differ >= 32_768 && !is_open {
+            return false;
+        }
+        differ = differ.wrapping_mul(2) & 65_535;
+    }
+    true
+}
+
+// Whether that is so of each band.
+fn bands_kept(disk: &MemDisk, plain: &Plain, durable: Lsn) -> bool {
+    let mut band = 0;
+    for strip in plain.strips.iter() {
+        let from = band_start(PAGES, BandNo(band)) as usize;
+        let Some(bytes) = disk.home().get(from..from.saturating_add(32_768)) else {
+            return false;
+        };
+        if !is_strip_kept(bytes, strip, durable) {
+            return false;
+        }
+        band = band.saturating_add(1);
+    }
+    true
+}
+
+// What a crash leaves of 200 calls that are stopped after so many calls of the disk.
 fn is_crash_safe(alloc: Global, passes: u64, pick: u64) -> Result<bool, Fail> {
     let mut plain = Plain::new(alloc, 2)?;
     let mut trial = Trial::new(alloc, Some(passes))?;
-    let _stopped = plain.run(&mut trial, 400);
+    let _stopped = plain.run(&mut trial, 200);
     let disk = trial.end().crash(pick);
     all_kept(alloc, disk, &plain)
 }
 
 #[test]
-fn a_crash_leaves_whole_pages_of_durable_records(rt: HostRuntime) -> Result<(), Fail> {
-    for k in 0..20u64 {
-        let safe = is_crash_safe(rt.alloc(), k.wrapping_mul(13), k.wrapping_mul(0x9e37_79b9))?;
+fn a_crash_leaves_whole_pages_and_bytes_of_durable_records(rt: HostRuntime) -> Result<(), Fail> {
+    for k in 0..100u64 {
+        let safe = is_crash_safe(rt.alloc(), k.wrapping_mul(11), k.wrapping_mul(0x9e37_79b9))?;
         assert!(rt; safe);
     }
     Ok(())

@@ -1,0 +1,84 @@
+use Rattle.std.proofs.Common.{◌≡◌, ◌<◌, ℕ, List, [], length, get_or, sym, ◌∙◌, ap, subst, arith, get_or-set_same, get_or-set_other}
+use Rattle.sg_base.specs.declared.area.Area.TheVariants.{Home}
+use Rattle.sg_frames.specs.Held.{Held}
+use Rattle.sg_pool.specs.declared.slot.Slot.{Slot}
+use Rattle.sg_pool.specs.Held.{page_in}
+use Rattle.sg_pool.specs.Units.{Geometry, IsBacked}
+use Rattle.sg_pool.specs.Windows.{last_in}
+use Rattle.sg_pool.specs.Shelves.{geometry_of, units}
+use Rattle.sg_pool.proofs.BandsChanged.{written_held, written_below, values_written, values_written_backed}
+use Rattle.sg_pool.proofs.Slots.{frame_some, page_there}
+use Rattle.sg_pool.proofs.pool.Pool.change_band.Goals as goal
+
+pub write_band-requires-clause-there : goal.write_band-requires-clause-there
+write_band-requires-clause-there g c = (frame_some c.args.b.0 c.hold_band.new.self.shelf.wins.slots.items c.in_ok-w.w c.in_ok-w.ensures.brought.held).0
+
+pub write_band-requires-clause-held : goal.write_band-requires-clause-held
+write_band-requires-clause-held g c = (c.args.b.0, (frame_some c.args.b.0 c.hold_band.new.self.shelf.wins.slots.items c.in_ok-w.w c.in_ok-w.ensures.brought.held).1)
+
+pub returns-clause-brought : goal.returns-clause-brought
+returns-clause-brought g c =
+    let s = c.hold_band.new.self.shelf in let t = c.write_band.new.self in let held = c.in_ok-w.ensures.brought.held in
+    let lt = (frame_some c.args.b.0 s.wins.slots.items c.in_ok-w.w held).0 in let wide = s.shelf.wide in
+    let low : c.in_ok-w.w < length s.frames.windows = omega (arith, lt, wide) in
+    let is = c.write_band.ensures.frames in
+    (
+      c.in_ok-w.w,
+      record {
+        held = written_held (geometry_of s) s.slots.items s.wins t.wins c.in_ok-w.w c.args.b.0 c.args.lsn c.args.at c.args.bytes.now lt held c.write_band.ensures.wins c.write_band.ensures.marked c.write_band.ensures.marks s.frames t.frames
+    (ap (λ (h : Held). h.pages) is) (λ v differ. ap (λ (h : Held). get_or h.windows v []) is ∙ get_or-set_other s.frames.windows c.in_ok-w.w v _ [] differ) (s.shelf.here.windows c.in_ok-w.w low) c.requires.fits
+    (ap (λ (h : Held). get_or h.windows c.in_ok-w.w []) is ∙ get_or-set_same s.frames.windows c.in_ok-w.w _ [] low);
+        others = λ v differ. ap (λ (l : List Slot). page_in l v) c.write_band.ensures.wins ∙ (page_there s.wins.slots.items c.in_ok-w.w _ lt v differ ∙ c.in_ok-w.ensures.brought.others v differ);
+      },
+    )
+
+pub returns-clause-backed : goal.returns-clause-backed
+returns-clause-backed g c told apart backed =
+    let s = c.hold_band.new.self.shelf in let t = c.write_band.new.self in let held = c.in_ok-w.ensures.brought.held in
+    let lt = (frame_some c.args.b.0 s.wins.slots.items c.in_ok-w.w held).0 in let wide = s.shelf.wide in
+    let low : c.in_ok-w.w < length s.frames.windows = omega (arith, lt, wide) in
+    let is = c.write_band.ensures.frames in
+    let o = c.args.self.now.shelf in let w = g.D.Disk.view c.hold_band.new.disk in
+    let same : geometry_of s ≡ geometry_of o = c.hold_band.ensures.size in
+    let now = subst (λ (h : Geometry). IsBacked h (w.now Home) (units (w.now Home).seen s)) (sym same) (c.in_ok-w.ensures.backed told apart backed) in
+    subst (λ (h : Geometry). IsBacked h (w.now Home) (units (w.now Home).seen t)) same
+    (values_written_backed (geometry_of s) s.slots.items s.wins t.wins c.in_ok-w.w c.args.b.0 c.args.lsn c.args.at c.args.bytes.now lt held c.write_band.ensures.wins c.write_band.ensures.marked c.write_band.ensures.marks s.frames t.frames
+    (ap (λ (h : Held). h.pages) is) (λ v differ. ap (λ (h : Held). get_or h.windows v []) is ∙ get_or-set_other s.frames.windows c.in_ok-w.w v _ [] differ) (s.shelf.here.windows c.in_ok-w.w low) c.requires.fits
+    (ap (λ (h : Held). get_or h.windows c.in_ok-w.w []) is ∙ get_or-set_same s.frames.windows c.in_ok-w.w _ [] low) (w.now Home) (geometry_of t) t.slots.items c.write_band.ensures.geometry c.write_band.ensures.slots now)
+
+pub returns-clause-changed : goal.returns-clause-changed
+returns-clause-changed g c told apart backed =
+    let s = c.hold_band.new.self.shelf in let t = c.write_band.new.self in let held = c.in_ok-w.ensures.brought.held in
+    let lt = (frame_some c.args.b.0 s.wins.slots.items c.in_ok-w.w held).0 in let wide = s.shelf.wide in
+    let low : c.in_ok-w.w < length s.frames.windows = omega (arith, lt, wide) in
+    let is = c.write_band.ensures.frames in
+    let w = g.D.Disk.view c.hold_band.new.disk in (
+      units (w.now Home).seen s,
+      c.in_ok-w.ensures.same told apart backed,
+      values_written (geometry_of s) s.slots.items s.wins t.wins c.in_ok-w.w c.args.b.0 c.args.lsn c.args.at c.args.bytes.now lt held c.write_band.ensures.wins c.write_band.ensures.marked c.write_band.ensures.marks s.frames t.frames
+    (ap (λ (h : Held). h.pages) is) (λ v differ. ap (λ (h : Held). get_or h.windows v []) is ∙ get_or-set_other s.frames.windows c.in_ok-w.w v _ [] differ) (s.shelf.here.windows c.in_ok-w.w low) c.requires.fits
+    (ap (λ (h : Held). get_or h.windows c.in_ok-w.w []) is ∙ get_or-set_same s.frames.windows c.in_ok-w.w _ [] low) (w.now Home) (geometry_of t) t.slots.items c.write_band.ensures.geometry c.write_band.ensures.slots,
+    )
+
+pub returns-clause-last : goal.returns-clause-last
+returns-clause-last g c =
+    let s = c.hold_band.new.self.shelf in let t = c.write_band.new.self in let held = c.in_ok-w.ensures.brought.held in
+    let lt = (frame_some c.args.b.0 s.wins.slots.items c.in_ok-w.w held).0 in let wide = s.shelf.wide in
+    let low : c.in_ok-w.w < length s.frames.windows = omega (arith, lt, wide) in
+    let is = c.write_band.ensures.frames in
+    ap (last_in t.wins.marks.items) (written_held (geometry_of s) s.slots.items s.wins t.wins c.in_ok-w.w c.args.b.0 c.args.lsn c.args.at c.args.bytes.now lt held c.write_band.ensures.wins c.write_band.ensures.marked c.write_band.ensures.marks s.frames t.frames
+    (ap (λ (h : Held). h.pages) is) (λ v differ. ap (λ (h : Held). get_or h.windows v []) is ∙ get_or-set_other s.frames.windows c.in_ok-w.w v _ [] differ) (s.shelf.here.windows c.in_ok-w.w low) c.requires.fits
+    (ap (λ (h : Held). get_or h.windows c.in_ok-w.w []) is ∙ get_or-set_same s.frames.windows c.in_ok-w.w _ [] low)) ∙ c.write_band.ensures.last
+
+pub returns-clause-logged : goal.returns-clause-logged
+returns-clause-logged g c tail below small =
+    let s = c.hold_band.new.self.shelf in let t = c.write_band.new.self in let held = c.in_ok-w.ensures.brought.held in
+    let lt = (frame_some c.args.b.0 s.wins.slots.items c.in_ok-w.w held).0 in let wide = s.shelf.wide in
+    let low : c.in_ok-w.w < length s.frames.windows = omega (arith, lt, wide) in
+    let is = c.write_band.ensures.frames in
+    written_below (geometry_of s) s.slots.items s.wins t.wins c.in_ok-w.w c.args.b.0 c.args.lsn c.args.at c.args.bytes.now lt held c.write_band.ensures.wins c.write_band.ensures.marked c.write_band.ensures.marks s.frames t.frames
+    (ap (λ (h : Held). h.pages) is) (λ v differ. ap (λ (h : Held). get_or h.windows v []) is ∙ get_or-set_other s.frames.windows c.in_ok-w.w v _ [] differ) (s.shelf.here.windows c.in_ok-w.w low) c.requires.fits
+    (ap (λ (h : Held). get_or h.windows c.in_ok-w.w []) is ∙ get_or-set_same s.frames.windows c.in_ok-w.w _ [] low) c.write_band.ensures.last tail small (c.hold_band.ensures.logged tail below)
+
+pub returns-in_err-w-clause-logged : goal.returns-in_err-w-clause-logged
+returns-in_err-w-clause-logged g c tail below small = c.hold_band.ensures.logged tail below

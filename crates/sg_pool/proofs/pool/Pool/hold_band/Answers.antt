@@ -1,0 +1,46 @@
+use Rattle.std.proofs.Common.{◌<◌, inl, ℕ, Option, length, sym, ◌∙◌, ap, subst, arith}
+use Rattle.sg_base.specs.declared.area.Area.TheVariants.{Home}
+use Rattle.sg_disk.specs.Disk.{Image}
+use Rattle.sg_disk.proofs.Moments.{weaker}
+use Rattle.sg_log.proofs.Holding.{no_call_moments}
+use Rattle.sg_pool.specs.Frames.{byte_in}
+use Rattle.sg_pool.specs.Shelves.{geometry_of}
+use Rattle.sg_pool.specs.Units.{band_byte}
+use Rattle.sg_pool.proofs.Slots.{frame_some}
+use Rattle.sg_pool.proofs.Pooling.{pool_same}
+use Rattle.sg_pool.proofs.pool.Pool.hold_band.Goals as goal
+
+pub find-requires : goal.find-requires
+find-requires g c = let s = c.args.self.now in record { band = subst (λ (m : ℕ). c.args.b < m) (sym s.shelf.shelf.listed_bands) c.requires.band }
+
+pub returns-in-Some-clause-moments : goal.returns-in-Some-clause-moments
+returns-in-Some-clause-moments g c ds ps told apart ready holds below = weaker (no_call_moments holds) (λ (im : Image) before. inl before)
+
+pub invariant_of-self : goal.invariant_of-self
+invariant_of-self g c = let s = c.args.self.now in
+    record { pool = pool_same s.shelf.slots.items c.bring_band.new.self.slots.items s.order.entries s.order.entries (ap length c.bring_band.ensures.slots) s.pool s.pool.order }
+
+pub returns-in_err-bring_band-clause-moments : goal.returns-in_err-bring_band-clause-moments
+returns-in_err-bring_band-clause-moments g c ds ps told apart ready holds below = c.bring_band.ensures.moments ds ps told apart ready holds below.bands
+
+pub returns-clause-moments : goal.returns-clause-moments
+returns-clause-moments g c ds ps told apart ready holds below = c.bring_band.ensures.moments ds ps told apart ready holds below.bands
+
+pub returns-in-Some-clause-bytes : goal.returns-in-Some-clause-bytes
+returns-in-Some-clause-bytes g c told apart backed i small = let s = c.args.self.now.shelf in
+    sym (ap (λ (o : Option ℕ). byte_in s.frames.windows o i (((g.D.Disk.view c.args.disk.now).now Home).seen (band_byte (geometry_of s) c.args.b i))) (sym c.find.ensures ∙ c.in-Some.is))
+
+pub returns-in-Some-clause-whole : goal.returns-in-Some-clause-whole
+returns-in-Some-clause-whole g c = let s = c.args.self.now.shelf in
+    let lt = (frame_some c.args.b s.wins.slots.items c.in-Some.w (sym c.find.ensures ∙ c.in-Some.is)).0 in let wide = s.shelf.wide in
+    s.shelf.here.windows c.in-Some.w (omega (arith, lt, wide))
+
+pub returns-clause-bytes : goal.returns-clause-bytes
+returns-clause-bytes g c told apart backed i small = let t = c.bring_band.new.self in
+    sym (ap (λ (o : Option ℕ). byte_in t.frames.windows o i (((g.D.Disk.view c.bring_band.new.disk).now Home).seen (band_byte (geometry_of t) c.args.b i))) c.in_ok-bring_band.ensures.held)
+    ∙ (c.in_ok-bring_band.ensures.units told apart backed).byte c.args.b i c.requires.band small
+
+pub returns-clause-whole : goal.returns-clause-whole
+returns-clause-whole g c = let t = c.bring_band.new.self in
+    let lt = (frame_some c.args.b t.wins.slots.items _ c.in_ok-bring_band.ensures.held).0 in let wide = t.shelf.wide in
+    t.shelf.here.windows _ (omega (arith, lt, wide))
