@@ -1,7 +1,8 @@
 #!/usr/bin/env bash
 # Prints what a push and a get of an array cost, in a space in memory, at 1,000 items up to 1,000,000. An item has 8 bytes. The
-# gets go to drawn places. The program is written here, into a copy of the crates that it stands on, proved there, and
-# built. The crates are to be checked before (`rt check` in each, or `.ci/run`). This script was not run yet.
+# gets go to the places in their order, and to drawn places, which miss the processor's caches where the pages don't fit them.
+# The program is written here, into a copy of the crates that it stands on, proved there, and built. The crates are to be
+# checked before (`rt check` in each, or `.ci/run`).
 set -eu
 top="$(cd "$(dirname "$(readlink -f "${BASH_SOURCE[0]}")")/.." && pwd)"
 folder="$(mktemp -d)"
@@ -37,13 +38,14 @@ fn push_all(space: &mut Guarded, ops: &Ops, root: PageNo, count: u32) -> u32 {
     done
 }
 
-fn get_all(space: &mut Guarded, root: PageNo, count: u32) -> u32 {
+fn get_all(space: &mut Guarded, root: PageNo, count: u32, drawn: bool) -> u32 {
     let mut done = 0u32;
     let mut seed = 54u32;
     let mut item = [0; 8];
-    for _ in 0..GETS {
+    for turn in 0..GETS {
         seed = seed.wrapping_mul(1_664_525).wrapping_add(1_013_904_223);
-        let i = (seed >> 4).checked_rem(count).unwrap_or(0);
+        let place = if drawn { seed >> 4 } else { turn };
+        let i = place.checked_rem(count).unwrap_or(0);
         if sg_array::get(space, root, i, &mut item).is_ok() && item == u64::from(i).to_le_bytes() {
             done = done.saturating_add(1);
         }
@@ -70,8 +72,11 @@ fn measure(rt: &HostRuntime, count: u32) -> io::Result<()> {
     let done = push_all(&mut space, &ops, root, count);
     told(rt, "pushes", count, done, start)?;
     let start = Instant::now(rt)?;
-    let done = get_all(&mut space, root, count);
-    told(rt, "gets", count, done, start)
+    let done = get_all(&mut space, root, count, false);
+    told(rt, "gets in order", count, done, start)?;
+    let start = Instant::now(rt)?;
+    let done = get_all(&mut space, root, count, true);
+    told(rt, "gets at drawn places", count, done, start)
 }
 
 fn main(rt: HostRuntime) -> io::Result<()> {

@@ -1,45 +1,9 @@
 -- A chain has no more pages than its space.
-use Rattle.std.proofs.Common.{◌≡◌, ◌≢◌, ℕ, suc, ◌<◌, ◌≤◌, Bool, true, false, List, [], ◌∷◌, length, Some, slice_get, sym, ap, refl, arith, inl, inr, eqb}
-use Rattle.std.proofs.lemmas.Bool.{cases_lt}
-use Rattle.std.proofs.lemmas.Bool.Decides.{nat_tests}
-use Rattle.std.proofs.lemmas.Map.Steps.{length-le_from_distinct_below}
-use Rattle.std.specs.List.{IsDistinct, AllByRecursion, list_any}
+use Rattle.std.proofs.Common.{ℕ, ◌≤◌, length}
 use Rattle.sg_base.specs.Sheet.{Sheet}
 use Rattle.sg_space.specs.Units.{Units, IsExact}
+use Rattle.sg_space.proofs.Few.{few_units}
 use Rattle.sg_bucket.specs.Bucket.{Bucket, IsLinked}
 
--- no two elements are one
-abbrev pub AreApart : List ℕ → Type 0
-AreApart xs = (i j x : ℕ) → slice_get xs i ≡ Some x → slice_get xs j ≡ Some x → i ≡ j
-
-others : (x : ℕ) (xs : List ℕ) → ((j : ℕ) → slice_get xs j ≡ Some x → ⊥) → AllByRecursion (λ y. eqb x y ≡ false) xs
-others x [] absent = tt
-others x (y ∷ xs) absent =
-    let ne : x ≢ y = λ e. absent 0 (ap Some (sym e)) in
-    let test : eqb x y ≡ false = grind (arith, nat_tests, ne) in
-    (test, others x xs (λ j. absent (suc j)))
-
-distinct : (xs : List ℕ) → AreApart xs → IsDistinct eqb xs
-unfolding IsDistinct
-distinct [] a = tt
-distinct (x ∷ xs) a = (others x xs (λ j e. absurd (let same : 0 ≡ suc j = a 0 (suc j) x refl e in omega arith)), distinct xs (λ i j y e f. let same : suc i ≡ suc j = a (suc i) (suc j) y e f in omega arith))
-
-found_by : (q x : ℕ) (xs : List ℕ) (b : Bool) → eqb q x ≡ b → (list_any (eqb q) xs ≡ true → (i : ℕ) × (slice_get xs i ≡ Some q)) → list_any (eqb q) (x ∷ xs) ≡ true → (i : ℕ) × (slice_get (x ∷ xs) i ≡ Some q)
-found_by q x xs true t rest h = let same : q ≡ x = grind (arith, nat_tests, t) in (0, ap Some (sym same))
-found_by q x xs false t rest h =
-    let later : list_any (eqb q) xs ≡ true = rw t at h in
-    let f = rest later in
-    (suc f.0, f.1)
-
-found : (q : ℕ) (xs : List ℕ) → list_any (eqb q) xs ≡ true → (i : ℕ) × (slice_get xs i ≡ Some q)
-found q [] e = absurd (cc)
-found q (x ∷ xs) e = found_by q x xs (eqb q x) refl (found q xs) e
-
-pub few_elements : (xs : List ℕ) (n : ℕ) → AreApart xs → ((i x : ℕ) → slice_get xs i ≡ Some x → x < n) → length xs ≤ n
-few_elements xs n apart below = length-le_from_distinct_below xs n (distinct xs apart) (λ q e. let f = found q xs e in below f.0 q f.1)
-
 pub few_pages : {units : Units Sheet} {first : ℕ} {b : Bucket} → IsExact units → IsLinked units.at first b → length b.pages ≤ units.count
-few_pages {units} {first} {b} exact h = few_elements b.pages units.count h.apart (λ i p e. elim (cases_lt p units.count) as (λ _. p < units.count) [
-  | inl below ↦ below
-  | inr past ↦ absurd (let none = exact.past p past in let some = (h.part i p e).is in cc)
-])
+few_pages {units} {first} {b} exact h = few_units b.pages exact h.apart (λ i p e none. let some = (h.part i p e).is in cc)

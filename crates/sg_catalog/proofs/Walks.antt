@@ -8,8 +8,9 @@ use Rattle.std.proofs.lemmas.Option.{slice_get-get_or}
 use Rattle.sg_base.specs.Sheet.{Sheet}
 use Rattle.sg_base.specs.Slots.{IsFree}
 use Rattle.sg_base.specs.declared.numbers.PageNo.{PageNo}
-use Rattle.sg_space.specs.Units.{HasAt}
+use Rattle.sg_space.specs.Units.{HasAt, IsExact}
 use Rattle.sg_space.specs.View.{Space, View, OnlyReads}
+use Rattle.sg_space.proofs.Few.{few_units}
 use Rattle.sg_space.proofs.Known.{before, reads_then}
 use Rattle.sg_catalog.specs.Catalog.{Catalog, IsRaw, IsCatalog, Owns, filled, rows}
 use Rattle.sg_catalog.specs.Steps.{part, IfPage, IsHeader, IsFoundIn, IsFound, Searched, SeesPage, MeasuresPage, IsFreeSpot, SurveyedTo, Surveyed, IsSurveyedOn, free_on}
@@ -188,3 +189,7 @@ names_more places j old new h n =
     n
     ∙ (ap (λ (xs : List (List ℕ)). xs ++ names_of (filled (part j places))) h
     ∙ (sym (names_both (filled (take (79 * j) places)) (filled (part j places))) ∙ ap names_of (sym (filled_more places j))))
+
+-- a catalogue has no more pages than its space
+pub few_pages : (space : Space) {c : Catalog} → IsExact space.pages → IsCatalog space.pages.at c → 1 + (c.peak - 1) / 79 ≤ space.pages.count
+few_pages space {c} exact h = subst (λ (n : ℕ). n ≤ space.pages.count) h.exactly (few_units c.pages exact h.raw.apart (λ j p e none. let is = (h.raw.page j p e).is in cc))

@@ -24,6 +24,20 @@ fn pages_for(rows: u32) -> u32
     1 + rows.saturating_sub(1) / 79
 }
 
+// How many pages a catalogue has that had so many rows at most. A space with fewer pages has none.
+fn pages_wanted<P: PageSpace>(space: &mut P, peak: u32) -> Result<u32, SpaceFault>
+    requires { HasCatalog (P.view space.old) (λ c. c.peak ≡ peak) }
+    ensures counts { Counts (P.view space.old) (P.view space.new) result }
+    ensures kept { OnOk result (OnlyReads (P.view space.old) (P.view space.new)) }
+    ensures number { IfOk result (λ n. n ≡ 1 + (peak - 1) / 79) }
+{
+    let pages = pages_for(peak);
+    if pages > space.pages() {
+        return Err(space.broken());
+    }
+    Ok(pages)
+}
+
 /// The first row that is wanted. Each page is looked at once at most.
 pub fn search<P: PageSpace>(space: &mut P, wanted: &Wanted) -> Result<Option<Found>, SpaceFault>
     requires { HasCatalog (P.view space.old) (λ _. ⊤) }
@@ -36,7 +50,7 @@ pub fn search<P: PageSpace>(space: &mut P, wanted: &Wanted) -> Result<Option<Fou
         return Ok(first.found);
     }
     let mut next = first.head.next;
-    let pages = pages_for(first.head.peak);
+    let pages = pages_wanted(space, first.head.peak)?;
     'pages: for _ in 1..pages {
         if next == FIRST {
             return Err(space.broken());
@@ -96,7 +110,7 @@ pub fn survey_pages<P: PageSpace>(space: &mut P) -> Result<Survey, SpaceFault>
     };
     let mut all = with_page(none, FIRST, first.measure);
     let mut next = first.head.next;
-    let pages = pages_for(first.head.peak);
+    let pages = pages_wanted(space, first.head.peak)?;
     'pages: for _ in 1..pages {
         if next == FIRST {
             return Err(space.broken());
@@ -121,7 +135,7 @@ pub fn list_all<P: PageSpace>(space: &mut P, alloc: Global) -> Result<Vec<Name>,
     let mut all = Vec::new(alloc);
     let first = gather(space, FIRST, &mut all)?;
     let mut next = first.next;
-    let pages = pages_for(first.peak);
+    let pages = pages_wanted(space, first.peak)?;
     'pages: for _ in 1..pages {
         if next == FIRST {
             return Err(space.broken().into());

@@ -8,3 +8,4 @@ pub mod Putting
 pub mod Links
 pub mod Freeing
 pub mod Changing
+pub mod Few

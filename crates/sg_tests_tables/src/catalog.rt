@@ -523,7 +523,7 @@ const WHOLE: Failing = [false, false, true, true, false, false, true, false];
 // Those that read more than the objects of page 1.
 const BEHIND: Failing = [false, true, true, true, false, false, true, true];
 
-const ROWS: [(Damage, Failing); 25] = [
+const ROWS: [(Damage, Failing); 27] = [
     (Damage::None, NONE),
     (
         Damage::Cell(0, 0, b"\x01\0\0\0\0\0\0\0\0\0\x05\0\0\0\x01a"),
@@ -579,10 +579,12 @@ const ROWS: [(Damage, Failing); 25] = [
     (Damage::Links(0, 4_000_000_000, 84), ALL),
     (Damage::Links(1, 1, 0), WHOLE),
     (Damage::Links(1, 3, 0), WHOLE),
-    // the peak
+    // the peak: the rows of one page, of as many as the space has, and of more
     (Damage::Links(0, 1, 0), ALL),
     (Damage::Links(0, 1, 79), ALL),
-    (Damage::Links(0, 1, 1_000), WHOLE),
+    (Damage::Links(0, 1, 632), WHOLE),
+    (Damage::Links(0, 1, 633), ALL),
+    (Damage::Links(0, 1, u32::MAX), ALL),
     // the page's kind
     (Damage::Kind(0, 4), ALL),
     (Damage::Kind(1, 4), ALL),
@@ -670,16 +672,16 @@ fn broken_contents_are_faults(rt: HostRuntime) -> Result<(), Fail> {
             met = met.saturating_add(1);
         }
     }
-    assert_eq!(rt; met, 25);
+    assert_eq!(rt; met, 27);
     Ok(())
 }
 
-// A chain that comes back to itself ends with a fault, after so many pages as the peak wants.
+// A chain that comes back to itself ends with a fault, after as many pages as the peak wants.
 #[test]
 fn a_ring_ends(rt: HostRuntime) -> Result<(), Fail> {
     let ops = Ops::shipped(rt.alloc())?;
     let mut all = Trial::sound(rt.alloc(), &ops)?;
-    all.damage(&ops, &Damage::Links(0, 1, 100_000))?;
+    all.damage(&ops, &Damage::Links(0, 1, 632))?;
     all.damage(&ops, &Damage::Links(1, 1, 0))?;
     assert_eq!(rt; all.find(b"n0079"), Ok(Some((ObjectKind::Table, 79))));
     assert_eq!(rt; all.find(b"other"), Err(SpaceFault::Disk));

@@ -1,5 +1,6 @@
 use Rattle.std.proofs.Common.{◌≡◌, ℕ, ◌+◌, ◌*◌, ◌<◌, ◌≤◌, arith, refl}
 use Rattle.std.proofs.lemmas.Bool.Decides.{nat_tests}
+use Rattle.sg_space.proofs.Known.{reads_then}
 use Rattle.sg_catalog.proofs.Parts.{still_raw}
 use Rattle.sg_catalog.proofs.Walks.{next_some, next_at, next_owned, walks_start, walks_on, measures_before, surveyed_none, surveyed_more}
 use Rattle.sg_catalog.proofs.walk.survey_pages.Goals as goal
@@ -7,14 +8,17 @@ use Rattle.sg_catalog.proofs.walk.survey_pages.Goals as goal
 pub pages-init : goal.pages-init
 pages-init g c =
     let counts = c.measure.ensures.counts in
+    let wanted = c.pages_wanted.ensures.counts in
+    let before = counts.later in
+    let after = wanted.later in
     let few = c.in_ok-first.ensures.few in
     let sum = c.with_page-all.ensures.count in
     record {
-      walk = walks_start c.in_ok-first.first.head c.pages_for-pages.result counts.told counts.later c.in_ok-first.ensures.kept (λ shows d h.
+      walk = walks_start c.in_ok-first.first.head c.in_ok-pages.pages (λ t. counts.told (wanted.told t)) (omega arith) (reads_then c.in_ok-first.ensures.kept c.in_ok-pages.ensures.kept) (λ shows d h.
           let m = c.in_ok-first.ensures.read shows d 0 h.raw h.raw.first in (
             m.header,
             surveyed_more _ d 0 _ h.raw.first c.in_ok-first.first _ c.with_page-all.result few (surveyed_none _ d _ refl (m.header.peak refl) refl) m c.with_page-all.ensures,
-          )) c.pages_for-pages.ensures;
+          )) c.in_ok-pages.ensures.number;
       most = omega arith;
     }
 
