@@ -236,17 +236,20 @@ put_grown {v} {w} {x} {root} {key} {value} d g = record {
       let two = g.turns (d.did.told told) one.0 one.1.table (can_grow (d.keeps refl told) h can one.1 one.2) in
       let few = one.2.few in
       let more = two.2.few in
-      let bytes : byte_count (entries two.0) ≡ byte_count (entries one.0) = two.2.sums entry_size in
-      (two.0, record { table = two.1.table; pages = becomes_then (table_or root t) (table_or root one.0) one.1.pages two.1.pages; bands = two.1.bands ∙ one.1.bands }, record {
-        values = two.2.values ∙ one.2.values;
-        was_new = one.2.was_new;
-        peak = two.2.peak ∙ (one.2.peak ∙ ap (λ (n : ℕ). max t.peak n) (sym bytes));
-        before_split = one.0;
-        entered = one.2;
-        grown = λ s n. two.2;
-        whole = λ no_split. absurd (no_split refl refl);
-        few = omega arith;
-      });
+      let bytes : byte_count (entries two.0) ≡ byte_count (entries one.0) = two.2.sums entry_size in (
+        two.0,
+        record { table = two.1.table; pages = becomes_then (table_or root t) (table_or root one.0) one.1.pages two.1.pages; bands = two.1.bands ∙ one.1.bands },
+        record {
+          values = two.2.values ∙ one.2.values;
+          was_new = one.2.was_new;
+          peak = two.2.peak ∙ (one.2.peak ∙ ap (λ (n : ℕ). max t.peak n) (sym bytes));
+          before_split = one.0;
+          entered = one.2;
+          grown = λ s n. two.2;
+          whole = λ no_split. absurd (no_split refl refl);
+          few = omega arith;
+        },
+      );
   may_have = λ told t h can q m none some had.
       let one = d.did.turns told t h can in
       let other = other_still one.1 none some in

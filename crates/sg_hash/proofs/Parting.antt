@@ -108,24 +108,25 @@ pub parted : {old z : Space} {root : ℕ} {there : Address} {t : HashTable} {b k
     → n.shape ≡ shape_of there.extent → n.entries ≡ length (entries t) → n.bytes ≡ byte_count (entries t) → n.peak ≡ t.peak
     → Turns old z root t (split_table (shape_of there.extent) names kept new t) × IsSplit t (split_table (shape_of there.extent) names kept new t)
 parted {old} {z} {root} {there} {t} {b} {kept} {new} {names} {n} h p last next divides above raised short s e y k = (
-    record {
-      table = record {
-        built = subst (λ (m : Numbers). IsBuilt z.pages.at root m (split_table (shape_of there.extent) names kept new t)) same p.built;
-        many = long ∙ (ap (λ (m : ℕ). m + 1) h.many ∙ (sym (next_buckets t.shape) ∙ ap buckets_of (sym next)));
-        home = divided_home (is_divided h p last divides);
-        grown = subst (λ (m : ℕ). m ≤ most_buckets t.peak) (sym long) (one_allowed (length t.buckets) (byte_count (entries t)) t.peak above raised);
-        longest = let items = p.items in let peak = p.peak in let longest = h.longest in omega arith;
-      };
-      pages = p.pages;
-      bands = p.bands;
-    },
-    record {
-      shape = next;
-      values = divided_values (is_divided h p last divides) (home_there h) (λ key. subst (λ (x : Shape). home_of x key < length t.buckets + 1) (sym next) (next_there t.shape (length t.buckets) key h.many within));
-      sums = parted_sums p;
-      peak = refl;
-      few = few;
-    })
+  record {
+    table = record {
+      built = subst (λ (m : Numbers). IsBuilt z.pages.at root m (split_table (shape_of there.extent) names kept new t)) same p.built;
+      many = long ∙ (ap (λ (m : ℕ). m + 1) h.many ∙ (sym (next_buckets t.shape) ∙ ap buckets_of (sym next)));
+      home = divided_home (is_divided h p last divides);
+      grown = subst (λ (m : ℕ). m ≤ most_buckets t.peak) (sym long) (one_allowed (length t.buckets) (byte_count (entries t)) t.peak above raised);
+      longest = let items = p.items in let peak = p.peak in let longest = h.longest in omega arith;
+    };
+    pages = p.pages;
+    bands = p.bands;
+  },
+  record {
+    shape = next;
+    values = divided_values (is_divided h p last divides) (home_there h) (λ key. subst (λ (x : Shape). home_of x key < length t.buckets + 1) (sym next) (next_there t.shape (length t.buckets) key h.many within));
+    sums = parted_sums p;
+    peak = refl;
+    few = few;
+  },
+)
   where
     long : length (divided t.shape t.buckets kept new) ≡ length t.buckets + 1
     long = length-set (t.buckets ++ (new ∷ [])) t.shape.split kept ∙ length_push t.buckets new

@@ -16,4 +16,3 @@ pub use create::make;
 pub use free::free_all;
 pub use list::keys;
 pub use table::{del, find, put};
-

@@ -40,13 +40,7 @@ impl Root {
 
     /// The numbers after the entry of a key was put, whose value was `old` bytes long, if it had one. `split` raises the
     /// peak. None where they don't fit.
-    pub fn with_entry(
-        self,
-        key: usize,
-        value: usize,
-        old: Option<u16>,
-        split: bool,
-    ) -> Option<Root>
+    pub fn with_entry(self, key: usize, value: usize, old: Option<u16>, split: bool) -> Option<Root>
         requires key { key ≤ 128 }
         requires value { value ≤ 1024 }
         ensures counted { IfSome result (λ r. IsCounted key value old split (numbers_in self) (numbers_in r)) }
@@ -62,7 +56,11 @@ impl Root {
         };
         let rest = self.bytes.checked_sub(gone)?;
         let bytes = rest.checked_add(entry_bytes(key, value))?;
-        let peak = if split { self.peak.max(bytes) } else { self.peak };
+        let peak = if split {
+            self.peak.max(bytes)
+        } else {
+            self.peak
+        };
         Some(Root {
             extent: self.extent,
             entries,

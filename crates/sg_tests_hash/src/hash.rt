@@ -120,7 +120,8 @@ fn drawn_calls(table: &mut Trial, count: u32) -> Result<u32, SpaceFault> {
         let same = match seed >> 30 {
             0 => found(table, &key)? == plain[i],
             1 => table.del(&key)? == plain[i].take().is_some(),
-            _ => table.put(&key, &[letter; 1_024][..length])? == plain[i].replace((length, letter)).is_none(),
+            _ => table.put(&key, &[letter; 1_024][..length])?
+                == plain[i].replace((length, letter)).is_none(),
         };
         if !same {
             wrong = wrong.saturating_add(1);
@@ -147,7 +148,10 @@ fn fill_and_thin(table: &mut Trial, count: u16) -> Result<(u32, u32), SpaceFault
     for i in 0..count / 2 {
         table.del(&(2 * i).to_le_bytes())?;
     }
-    Ok((first.saturating_sub(full), table.free_pages().saturating_sub(full)))
+    Ok((
+        first.saturating_sub(full),
+        table.free_pages().saturating_sub(full),
+    ))
 }
 
 // Entries of 506 bytes with their places, of which a page of 4,072 holds eight less 24 bytes: seven. A page whose entries

@@ -38,8 +38,7 @@ returns-clause-did g c =
           let k = made.keeps told in
           let there = k.told told in
           let last = took.keeps.told there in
-          let one = push.turns last (empty_array 4) (array_taken (made.done told).array (took.pages there)) (push_ready (ap (λ (x : List ℕ). length x) c.write_u32.ensures.bytes) (c.requires told) told made c.make.ensures.counts.told took) in
-          (
+          let one = push.turns last (empty_array 4) (array_taken (made.done told).array (took.pages there)) (push_ready (ap (λ (x : List ℕ). length x) c.write_u32.ensures.bytes) (c.requires told) told made c.make.ensures.counts.told took) in (
             one.0,
             c.in_ok-first.first.0,
             started (made.done told) (took.pages there) (took.bucket there) (took.bands there) took.small one.1 (one.2.items ∙ ap (λ (x : List ℕ). x ∷ []) c.write_u32.ensures.bytes) one.2.size one.2.peak,

@@ -67,11 +67,11 @@ returns-clause-did g c =
     let all = reads_then both c.in_ok-pages.ensures.kept in
     let crowded = c.if-not-is_crowded.ensures.yes refl in
     let due = λ (told : (g.P.PageSpace.view c.args.space.now).Told) (t : HashTable) (h : IsHashTable (g.P.PageSpace.view c.args.space.now).space.pages.at c.args.root.0 t).
-        let shows = g.met.P.PageSpace.told_shows _ told in
-        let same = c.in_ok-found.ensures.read shows _ t h.built.trunk in
-        let f = first_of c.in_ok-found.found t same (c.in_ok-first.ensures.read (kept.shows shows) _ t (still_trunk kept shows h.built.trunk) (split_below c.in_ok-found.found t h same)) in
-        let pages = c.in_ok-pages.ensures.read (both.shows shows) f.bucket (found_bucket (still_table both shows h) f) in
-        is_due c.in_ok-found.found t h same crowded.0 crowded.1 f pages c.if-pages-gt-MOST_SPLIT.false
+    let shows = g.met.P.PageSpace.told_shows _ told in
+    let same = c.in_ok-found.ensures.read shows _ t h.built.trunk in
+    let f = first_of c.in_ok-found.found t same (c.in_ok-first.ensures.read (kept.shows shows) _ t (still_trunk kept shows h.built.trunk) (split_below c.in_ok-found.found t h same)) in
+    let pages = c.in_ok-pages.ensures.read (both.shows shows) f.bucket (found_bucket (still_table both shows h) f) in
+    is_due c.in_ok-found.found t h same crowded.0 crowded.1 f pages c.if-pages-gt-MOST_SPLIT.false
     in
     did_after (λ t. g.met.P.PageSpace.told_shows _ t) all c.in_ok-split_next.ensures.did
     (λ told t h can. let shows = g.met.P.PageSpace.told_shows _ told in can_split c.in_ok-found.found all shows (c.in_ok-found.ensures.read shows _ t h.built.trunk) (due told t h) can)

@@ -12,8 +12,8 @@ grow-requires g c = λ told.
     let back = c.enter.ensures.counts.told told in
     let h = c.requires.there back in
     let d =
-        subst (λ (b : Bool). DidEnter (g.P.PageSpace.view c.args.space.now) (g.P.PageSpace.view c.enter.new.space) c.args.root.0 c.args.key.now c.args.value.now b true) c.if-not-split.false
-        (subst (λ (b : Bool). DidEnter (g.P.PageSpace.view c.args.space.now) (g.P.PageSpace.view c.enter.new.space) c.args.root.0 c.args.key.now c.args.value.now c.args.split b) c.if-not-new.false c.in_ok-new.ensures.did)
+    subst (λ (b : Bool). DidEnter (g.P.PageSpace.view c.args.space.now) (g.P.PageSpace.view c.enter.new.space) c.args.root.0 c.args.key.now c.args.value.now b true) c.if-not-split.false
+    (subst (λ (b : Bool). DidEnter (g.P.PageSpace.view c.args.space.now) (g.P.PageSpace.view c.enter.new.space) c.args.root.0 c.args.key.now c.args.value.now c.args.split b) c.if-not-new.false c.in_ok-new.ensures.did)
     in
     let can = subst (λ (b : Bool). CanPut (g.P.PageSpace.view c.args.space.now) c.args.key.now b h.0) c.if-not-split.false h.2 in
     let one = d.did.turns back h.0 h.1 can in
@@ -30,7 +30,7 @@ returns-then-not-new-clause-did g c =
 pub returns-clause-did : goal.returns-clause-did
 returns-clause-did g c =
     let d =
-        subst (λ (b : Bool). DidEnter (g.P.PageSpace.view c.args.space.now) (g.P.PageSpace.view c.enter.new.space) c.args.root.0 c.args.key.now c.args.value.now b true) c.if-not-split.false
-        (subst (λ (b : Bool). DidEnter (g.P.PageSpace.view c.args.space.now) (g.P.PageSpace.view c.enter.new.space) c.args.root.0 c.args.key.now c.args.value.now c.args.split b) c.if-not-new.false c.in_ok-new.ensures.did)
+    subst (λ (b : Bool). DidEnter (g.P.PageSpace.view c.args.space.now) (g.P.PageSpace.view c.enter.new.space) c.args.root.0 c.args.key.now c.args.value.now b true) c.if-not-split.false
+    (subst (λ (b : Bool). DidEnter (g.P.PageSpace.view c.args.space.now) (g.P.PageSpace.view c.enter.new.space) c.args.root.0 c.args.key.now c.args.value.now c.args.split b) c.if-not-new.false c.in_ok-new.ensures.did)
     in
     subst (λ (b : Bool). Did (g.P.PageSpace.view c.args.space.now) (g.P.PageSpace.view c.grow.new.space) c.args.root.0 (CanPut (g.P.PageSpace.view c.args.space.now) c.args.key.now b) (IsPut c.args.key.now c.args.value.now b true)) (sym c.if-not-split.false) (put_grown d c.in_ok-grow.ensures.did)
