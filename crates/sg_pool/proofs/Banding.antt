@@ -1,10 +1,9 @@
 -- Bands go home from windows: which bytes, and in turn.
-use Rattle.std.proofs.Common.{◌≡◌, ◌≢◌, ◌⊎◌, inl, inr, ⊎_elim, ◌<◌, ◌≤◌, ◌+◌, ◌-◌, ℕ, Bool, true, false, Some, List, [], Result, length, get_or, refl, sym, ◌∙◌, ap, subst, arith}
+use Rattle.std.proofs.Common.{◌≡◌, ⊎_elim, ◌<◌, ◌≤◌, ◌+◌, ◌-◌, ℕ, Bool, true, Some, List, [], Result, length, get_or, refl, sym, ◌∙◌, ap, subst, arith}
 use Rattle.std.proofs.lemmas.Bool.{cases_lt}
-use Rattle.sg_base.specs.declared.area.Area.{Area}
 use Rattle.sg_base.specs.declared.area.Area.TheVariants.{Home}
 use Rattle.sg_base.specs.declared.page.TheConstants.{BAND_SIZE}
-use Rattle.sg_disk.specs.Disk.{Part, State, Image, Leaves, Spoils, LeavesPart, View, Synced, LeavesOnly, synced, synced_part}
+use Rattle.sg_disk.specs.Disk.{Part, State, Image, Spoils, LeavesPart, View, Synced, LeavesOnly, synced, synced_part}
 use Rattle.sg_disk.proofs.Moments.{started, weaker, goes_on}
 use Rattle.sg_disk.proofs.Parts.{part_synced, other_synced}
 use Rattle.sg_gate.specs.Layout.{HEADER, band_at}
@@ -13,11 +12,11 @@ use Rattle.sg_window.specs.Runs.{IsMarkedAt, IsTorn, IsSameBut, AreWritten}
 use Rattle.sg_window.proofs.Writing.{torn}
 use Rattle.sg_pool.specs.declared.windows.Windows.{Windows}
 use Rattle.sg_pool.specs.declared.windows.Marks.{Marks}
-use Rattle.sg_pool.specs.Held.{frame_of, page_in, AreApart}
+use Rattle.sg_pool.specs.Held.{frame_of, page_in}
 use Rattle.sg_pool.specs.Windows.{no_marks, marked_in}
 use Rattle.sg_pool.specs.Units.{Geometry, band_byte}
 use Rattle.sg_pool.specs.Bands.{IsDirty, AreBandsWritten, AreBandsHome}
-use Rattle.sg_pool.proofs.Slots.{some_same, none_is_some, frame_is}
+use Rattle.sg_pool.proofs.Slots.{some_same, frame_is}
 
 -- a byte of the home area is one of one band
 pub same_byte : (g : Geometry) (b i c j : ℕ) → i < BAND_SIZE → j < BAND_SIZE → band_byte g b i ≡ band_byte g c j → (b ≡ c) × (i ≡ j)
@@ -66,7 +65,7 @@ module _ (g : Geometry) (wins : Windows) (windows : List (List ℕ)) where
         there = λ v b k low high held small marked. ⊎_elim
             (λ early.
             let apart : IsDirty g wins w (w + 1) (band_byte g b k) → ⊥ = λ d.
-                let same = same_byte g b k d.band d.byte small d.inside d.is in let a = d.low in let e : d.window ≡ v = wins.windows.apart d.window v b d.there (let m = d.there in omega (arith, m, a, early)) (d.holds ∙ ap Some (sym same.0)) held in omega (arith, a, e, early) in
+            let same = same_byte g b k d.band d.byte small d.inside d.is in let a = d.low in let e : d.window ≡ v = wins.windows.apart d.window v b d.there (let m = d.there in omega (arith, m, a, early)) (d.holds ∙ ap Some (sym same.0)) held in omega (arith, a, e, early) in
             second.rest.seen (band_byte g b k) apart ∙ first.there v b k low early held small marked)
             (λ late. second.there v b k late high held small marked)
             (cases_lt v w);

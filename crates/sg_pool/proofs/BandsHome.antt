@@ -1,5 +1,5 @@
 -- The units when bands of windows go home.
-use Rattle.std.proofs.Common.{◌≡◌, ◌⊎◌, inl, inr, ⊎_elim, ◌<◌, ◌≤◌, ◌+◌, ℕ, true, false, Option, Some, None, List, [], length, get_or, refl, sym, ◌∙◌, ap, subst, arith}
+use Rattle.std.proofs.Common.{◌≡◌, ◌⊎◌, inl, inr, ⊎_elim, ◌<◌, ◌≤◌, ◌+◌, ℕ, true, false, Option, Some, None, List, length, get_or, refl, sym, ◌∙◌, ap, subst, arith}
 use Rattle.std.proofs.lemmas.Bool.{cases_lt}
 use Rattle.sg_base.specs.declared.area.Area.{Area}
 use Rattle.sg_base.specs.declared.area.Area.TheVariants.{Home}
@@ -16,7 +16,7 @@ use Rattle.sg_pool.specs.declared.slot.Slot.{Slot}
 use Rattle.sg_pool.specs.declared.windows.Windows.{Windows}
 use Rattle.sg_pool.specs.declared.windows.Marks.{Marks}
 use Rattle.sg_pool.specs.Held.{frame_of, page_in, since_of, page_of}
-use Rattle.sg_pool.specs.Windows.{no_marks, marked_in, last_in}
+use Rattle.sg_pool.specs.Windows.{marked_in, last_in}
 use Rattle.sg_pool.specs.Units.{Geometry, page_at, band_byte, Units, IsBacked, IsCleaned, IsGoing}
 use Rattle.sg_pool.specs.Frames.{units_of, byte_in, lasts_of, AreBelow}
 use Rattle.sg_pool.specs.Moments.{GoesHome}
@@ -129,9 +129,9 @@ module _ (g : Geometry) (wins : Windows) (from to : ℕ) where
       byte_goes None b i small e = inl (same (band_byte g b i) (omega arith) (clean_byte b i small (λ x low high is marked. none_is_some x (sym e ∙ is))))
       byte_goes (Some x) b i small e =
           let bare : ((x < from) ⊎ (to ≤ x)) ⊎ (marked_in wins.marks.items (Some x) i ≡ false) → laid (c Home) (band_byte g b i) ≡ (w.now Home).seen (band_byte g b i) = λ not.
-              same (band_byte g b i) (omega arith) (clean_byte b i small (λ y low high is marked.
-                let same : y ≡ x = some_same y x (sym is ∙ e) in
-                ⊎_elim (λ out. ⊎_elim (λ a. absurd (omega (arith, same, low, a))) (λ a. absurd (omega (arith, same, high, a))) out) (λ off. not_both (sym off ∙ (ap (λ (z : ℕ). marked_in wins.marks.items (Some z) i) (sym same) ∙ marked))) not)) in
+          same (band_byte g b i) (omega arith) (clean_byte b i small (λ y low high is marked.
+          let same : y ≡ x = some_same y x (sym is ∙ e) in
+          ⊎_elim (λ out. ⊎_elim (λ a. absurd (omega (arith, same, low, a))) (λ a. absurd (omega (arith, same, high, a))) out) (λ off. not_both (sym off ∙ (ap (λ (z : ℕ). marked_in wins.marks.items (Some z) i) (sym same) ∙ marked))) not)) in
           ⊎_elim
           (λ within. ⊎_elim (λ marked. inr (marked, below x b i within.0 within.1 (frame_some b wins.slots.items x e).1 marked)) (λ off. inl (bare (inr off))) (bool_cases (marked_in wins.marks.items (Some x) i)))
           (λ out. inl (bare (inl out)))

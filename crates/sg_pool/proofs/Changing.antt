@@ -14,7 +14,7 @@ use Rattle.sg_pool.specs.declared.windows.Windows.{Windows}
 use Rattle.sg_pool.specs.Held.{frame_of, page_in, AreApart, IsIndex, bytes_of, since_of, page_of, page_since_of}
 use Rattle.sg_pool.proofs.Homed.{homed_page, homed_other, homed_band}
 use Rattle.std.proofs.lemmas.List.{set-set}
-use Rattle.sg_pool.proofs.Slots.{apart_new, apart_none, some_same, none_is_some, is_or_not, frame_some, frame_is, set_here, set_there, page_here, page_there, apart_kept, frame_kept, frame_other, frame_gone, within_set, owned_set}
+use Rattle.sg_pool.proofs.Slots.{apart_new, apart_none, some_same, none_is_some, is_or_not, frame_some, frame_is, set_here, set_there, page_here, apart_kept, frame_kept, frame_other, frame_gone, within_set, owned_set}
 
 pub done_ready : (p : Part) (f : Bytes) → IsStored p f → IsReady p
 done_ready p f done = record { closed = done.closed; settled = λ i out. done.settled i }

@@ -1,5 +1,5 @@
 -- A pool that holds nothing yet.
-use Rattle.std.proofs.Common.{◌≡◌, ⊎_elim, ◌≤◌, ℕ, suc, true, false, Option, Some, None, option_map, List, [], ◌∷◌, ◌++◌, length, get_or, refl, sym, ◌∙◌, ap, arith}
+use Rattle.std.proofs.Common.{◌≡◌, ⊎_elim, ◌≤◌, ℕ, Option, Some, None, List, length, get_or, sym, ◌∙◌, ap, arith}
 use Rattle.std.specs.Prelude.{replicate}
 use Rattle.std.proofs.lemmas.Bool.{cases_lt}
 use Rattle.std.proofs.lemmas.List.{get_or-replicate, get_or_past, length-replicate}
@@ -10,7 +10,7 @@ use Rattle.sg_disk.specs.Disk.{Part}
 use Rattle.sg_gate.specs.Batch.{IsReady}
 use Rattle.sg_gate.specs.Layout.{home_at}
 use Rattle.sg_pool.specs.Units.{Geometry, IsBacked, page_at, band_byte}
-use Rattle.sg_pool.specs.Held.{no_slot, is_page, frame_of, page_in, since_of, bytes_of, page_since_of}
+use Rattle.sg_pool.specs.Held.{no_slot, frame_of, page_in, since_of, bytes_of, page_since_of}
 use Rattle.sg_pool.specs.Frames.{units_of, window_of, byte_in, IsShelf}
 use Rattle.sg_pool.specs.Windows.{marked_in}
 use Rattle.sg_pool.proofs.Slots.{none_is_some, frame_nowhere}

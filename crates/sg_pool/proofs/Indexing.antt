@@ -76,8 +76,7 @@ pub replaced : (slots : List Slot) (index : List (Option ℕ)) (f p : ℕ) → f
 replaced slots index f p lt apart found small absent new low none some =
     let s : Slot = record { number = Some p; since = None } in
     let it = emptied slots index f lt apart found new low none some in
-    let long = length-set slots f no_slot in
-    (
+    let long = length-set slots f no_slot in (
       it.0,
       subst (λ (t : List Slot). IsIndex t (set new p (Some f))) (set-set slots f no_slot s)
           (filled (set slots f no_slot) new f (omega (arith, long, lt)) (apart_none slots f no_slot lt refl apart) it.1 p (let e = it.0 in omega (arith, e, small)) (page_here slots f no_slot lt) (absent_emptied slots f p lt apart absent)),

@@ -1,14 +1,14 @@
 -- What windows keep when a band comes into one, is written to, or is clean.
-use Rattle.std.proofs.Common.{◌≡◌, ◌≢◌, ◌⊎◌, inl, inr, ⊎_elim, ◌<◌, ◌≤◌, ◌+◌, ℕ, Bool, false, Option, Some, None, List, length, get_or, set, refl, sym, ◌∙◌, ap, subst, arith, length-set, get_or-set_same, get_or-set_other}
+use Rattle.std.proofs.Common.{◌≡◌, ◌≢◌, ◌⊎◌, inl, inr, ⊎_elim, ◌<◌, ◌≤◌, ◌+◌, ℕ, Bool, false, Option, Some, None, List, length, get_or, set, refl, sym, ◌∙◌, ap, arith, length-set, get_or-set_same, get_or-set_other}
 use Rattle.std.proofs.lemmas.Bool.{cases_eq}
 use Rattle.std.specs.Prelude.{replicate}
 use Rattle.std.proofs.lemmas.List.{get_or-replicate, length-replicate}
 use Rattle.sg_segment.specs.Runs.{NoneFrom}
 use Rattle.sg_pool.specs.declared.slot.Slot.{Slot}
 use Rattle.sg_pool.specs.declared.windows.Marks.{Marks}
-use Rattle.sg_pool.specs.Held.{no_slot, frame_of, page_in, since_of, AreApart, IsIndex}
+use Rattle.sg_pool.specs.Held.{no_slot, frame_of, page_in, since_of}
 use Rattle.sg_pool.specs.Windows.{no_marks, marked_in, IsWindows}
-use Rattle.sg_pool.proofs.Slots.{some_same, none_is_some, apart_new, apart_kept, frame_kept, page_here, within_set, owned_set}
+use Rattle.sg_pool.proofs.Slots.{some_same, none_is_some, apart_new, apart_kept, frame_kept, within_set, owned_set}
 use Rattle.sg_pool.proofs.Clearing.{apart_cleared, frames_same}
 use Rattle.sg_pool.proofs.Changes.{bool_cases}
 use Rattle.sg_pool.proofs.Indexing.{replaced}

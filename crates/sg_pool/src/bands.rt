@@ -39,7 +39,12 @@ impl Shelf {
             return Ok(());
         };
         let start = band_start(self.pages, BandNo(b));
-        match write_runs(disk, start, self.frames.window(w), &self.wins.marks[w as usize].dirty) {
+        match write_runs(
+            disk,
+            start,
+            self.frames.window(w),
+            &self.wins.marks[w as usize].dirty,
+        ) {
             Ok(()) => Ok(()),
             Err(_) => Err(PoolFault::Disk),
         }
@@ -62,7 +67,12 @@ impl Shelf {
     }
 
     // Writes them home, and syncs the home area.
-    pub(crate) fn sync_windows<D: Disk>(&self, disk: &mut D, from: u32, to: u32) -> Result<(), PoolFault>
+    pub(crate) fn sync_windows<D: Disk>(
+        &self,
+        disk: &mut D,
+        from: u32,
+        to: u32,
+    ) -> Result<(), PoolFault>
         requires order { from ≤ to }
         requires within { to ≤ length self.now.wins.slots.items }
         ensures home { IsTrue D.told → IsReady ((D.view disk.old).now Home) → OnOk result (AreBandsHome (geometry_of self.now) self.now.wins self.now.frames.windows from to ((D.view disk.old).now Home) ((D.view disk.new).now Home)) }
@@ -80,7 +90,12 @@ impl Shelf {
     }
 
     // Writes a window's band home, if it was changed, once its last change is durable.
-    fn write_back_window<D: Disk>(&self, disk: &mut D, log: &mut Log, w: u32) -> Result<(), PoolFault>
+    fn write_back_window<D: Disk>(
+        &self,
+        disk: &mut D,
+        log: &mut Log,
+        w: u32,
+    ) -> Result<(), PoolFault>
         requires there { w < length self.now.wins.slots.items }
         ensures home { IsTrue D.told → log.old.area ≢ Home → IsBackedAt (geometry_of self.now) (D.view disk.old) self.now →
             OnOk result (AreBandsHome (geometry_of self.now) self.now.wins self.now.frames.windows w (w + 1) ((D.view disk.old).now Home) ((D.view disk.new).now Home)) }
@@ -101,7 +116,12 @@ impl Shelf {
     }
 
     // Makes a window clean: its band goes home, if it was changed.
-    fn clean_window<D: Disk>(&mut self, disk: &mut D, log: &mut Log, w: u32) -> Result<(), PoolFault>
+    fn clean_window<D: Disk>(
+        &mut self,
+        disk: &mut D,
+        log: &mut Log,
+        w: u32,
+    ) -> Result<(), PoolFault>
         requires there { w < length self.old.wins.slots.items }
         ensures clear { OnOk result (AreCleared self.old.wins self.new.wins w (w + 1)) }
         ensures frames { self.new.frames ≡ self.old.frames }

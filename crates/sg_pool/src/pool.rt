@@ -375,7 +375,10 @@ impl Pool {
         ensures least { IfSome result (λ oldest. (lsn : ℕ) → IsUnwritten self.now lsn → oldest ≤ lsn) }
         ensures some { IfSome result (λ oldest. IsUnwritten self.now oldest) }
     {
-        earlier(oldest_of(&self.shelf.slots), oldest_of(&self.shelf.wins.slots))
+        earlier(
+            oldest_of(&self.shelf.slots),
+            oldest_of(&self.shelf.wins.slots),
+        )
     }
 
     /// The frame into which the next page comes that is in none: the least recently used that isn't

@@ -297,7 +297,8 @@ impl Shelf {
         ensures geometry { geometry_of self.new ≡ geometry_of self.old }
         ensures frames { self.new.frames ≡ with_bytes self.old.frames (Window w) (overwritten (get_or self.old.frames.windows w []) at bytes.now) }
     {
-        self.wins.write(self.frames.window_mut(w), w, lsn, at, bytes);
+        self.wins
+            .write(self.frames.window_mut(w), w, lsn, at, bytes);
     }
 
     // Gives the memory back.

@@ -1,4 +1,4 @@
-use Rattle.std.proofs.Common.{◌≡◌, ◌<◌, ℕ, List, [], length, get_or, sym, ◌∙◌, ap, subst, arith, get_or-set_same, get_or-set_other}
+use Rattle.std.proofs.Common.{◌≡◌, ◌<◌, List, [], length, get_or, sym, ◌∙◌, ap, subst, arith, get_or-set_same, get_or-set_other}
 use Rattle.sg_base.specs.declared.area.Area.TheVariants.{Home}
 use Rattle.sg_frames.specs.Held.{Held}
 use Rattle.sg_pool.specs.declared.slot.Slot.{Slot}
@@ -21,13 +21,12 @@ returns-clause-brought g c =
     let s = c.hold_band.new.self.shelf in let t = c.write_band.new.self in let held = c.in_ok-w.ensures.brought.held in
     let lt = (frame_some c.args.b.0 s.wins.slots.items c.in_ok-w.w held).0 in let wide = s.shelf.wide in
     let low : c.in_ok-w.w < length s.frames.windows = omega (arith, lt, wide) in
-    let is = c.write_band.ensures.frames in
-    (
+    let is = c.write_band.ensures.frames in (
       c.in_ok-w.w,
       record {
         held = written_held (geometry_of s) s.slots.items s.wins t.wins c.in_ok-w.w c.args.b.0 c.args.lsn c.args.at c.args.bytes.now lt held c.write_band.ensures.wins c.write_band.ensures.marked c.write_band.ensures.marks s.frames t.frames
-    (ap (λ (h : Held). h.pages) is) (λ v differ. ap (λ (h : Held). get_or h.windows v []) is ∙ get_or-set_other s.frames.windows c.in_ok-w.w v _ [] differ) (s.shelf.here.windows c.in_ok-w.w low) c.requires.fits
-    (ap (λ (h : Held). get_or h.windows c.in_ok-w.w []) is ∙ get_or-set_same s.frames.windows c.in_ok-w.w _ [] low);
+            (ap (λ (h : Held). h.pages) is) (λ v differ. ap (λ (h : Held). get_or h.windows v []) is ∙ get_or-set_other s.frames.windows c.in_ok-w.w v _ [] differ) (s.shelf.here.windows c.in_ok-w.w low) c.requires.fits
+            (ap (λ (h : Held). get_or h.windows c.in_ok-w.w []) is ∙ get_or-set_same s.frames.windows c.in_ok-w.w _ [] low);
         others = λ v differ. ap (λ (l : List Slot). page_in l v) c.write_band.ensures.wins ∙ (page_there s.wins.slots.items c.in_ok-w.w _ lt v differ ∙ c.in_ok-w.ensures.brought.others v differ);
       },
     )
@@ -56,8 +55,8 @@ returns-clause-changed g c told apart backed =
       units (w.now Home).seen s,
       c.in_ok-w.ensures.same told apart backed,
       values_written (geometry_of s) s.slots.items s.wins t.wins c.in_ok-w.w c.args.b.0 c.args.lsn c.args.at c.args.bytes.now lt held c.write_band.ensures.wins c.write_band.ensures.marked c.write_band.ensures.marks s.frames t.frames
-    (ap (λ (h : Held). h.pages) is) (λ v differ. ap (λ (h : Held). get_or h.windows v []) is ∙ get_or-set_other s.frames.windows c.in_ok-w.w v _ [] differ) (s.shelf.here.windows c.in_ok-w.w low) c.requires.fits
-    (ap (λ (h : Held). get_or h.windows c.in_ok-w.w []) is ∙ get_or-set_same s.frames.windows c.in_ok-w.w _ [] low) (w.now Home) (geometry_of t) t.slots.items c.write_band.ensures.geometry c.write_band.ensures.slots,
+          (ap (λ (h : Held). h.pages) is) (λ v differ. ap (λ (h : Held). get_or h.windows v []) is ∙ get_or-set_other s.frames.windows c.in_ok-w.w v _ [] differ) (s.shelf.here.windows c.in_ok-w.w low) c.requires.fits
+          (ap (λ (h : Held). get_or h.windows c.in_ok-w.w []) is ∙ get_or-set_same s.frames.windows c.in_ok-w.w _ [] low) (w.now Home) (geometry_of t) t.slots.items c.write_band.ensures.geometry c.write_band.ensures.slots,
     )
 
 pub returns-clause-last : goal.returns-clause-last

@@ -1,4 +1,4 @@
-use Rattle.std.proofs.Common.{◌<◌, arith}
+use Rattle.std.proofs.Common.{arith}
 use Rattle.sg_pool.proofs.Oldest.{no_unwritten, on_ok_two}
 use Rattle.sg_pool.proofs.pool.Pool.flush.Goals as goal
 

@@ -1,4 +1,4 @@
-use Rattle.std.proofs.Common.{◌≡◌, inl, ◌++◌, [], ℕ, length, sym, ◌∙◌, ap, subst}
+use Rattle.std.proofs.Common.{◌≡◌, inl, ◌++◌, [], length, sym, ◌∙◌, ap, subst}
 use Rattle.std.proofs.lemmas.Result.{on_ok_weaker}
 use Rattle.sg_base.specs.declared.area.Area.TheVariants.{Home}
 use Rattle.sg_disk.specs.Disk.{Image, Part, LeavesOnly}
@@ -38,7 +38,7 @@ returns-clause-moments g c ds ps told apart backed holds below logged =
     let there : IsReady (w.now Home) = subst IsReady (sym (same Home (λ e. apart (sym e)))) backed.ready in
     let after = subst (λ (t : Tail). Holds w t (ds ++ ps) []) c.in-Ok.ensures.log (c.in-Ok.ensures.holds ds ps told holds) in
     let first = force_then_pages (geometry_of s) s.slots.items s.wins s.frames s.shelf.apart v w c.args.log.now now ds ps apart same c.in-Ok.ensures.log after backed below z
-        (c.force.ensures.any_moment ds ps told holds) (c.flush_pages.ensures.moments told there) in
+    (c.force.ensures.any_moment ds ps told holds) (c.flush_pages.ensures.moments told there) in
     let partly = c.in_ok-flush_pages.ensures.partly told there in
     let run = subst (λ (h : Geometry). LeavesOnly z y (IsTorn z.now (IsDirty h t.wins 0 (length t.wins.slots.items)))) c.flush_pages.ensures.kept.geometry (c.flush_windows.ensures.any_moment told) in
     let run_in = subst (λ (ws : Windows). LeavesOnly z y (IsTorn z.now (IsDirty (geometry_of s) ws 0 (length ws.slots.items)))) c.flush_pages.ensures.kept.wins run in

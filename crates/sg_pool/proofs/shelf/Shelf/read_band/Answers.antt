@@ -15,5 +15,5 @@ returns-clause-bytes g c told =
     let seen = ((g.D.Disk.view c.args.disk.now).now Home).seen in
     on_ok_weaker c.read_at.result (λ is i small. ap (λ (x : List ℕ). get_or x i 0) (get_or-set_same s.frames.windows c.args.w _ [] low)
     ∙ band_read seen (band_at s.pages c.args.b) BAND_SIZE i old c.window_mut.result.now c.read_at.new.into (s.shelf.here.windows c.args.w low) c.window_mut.ensures.value (omega arith)
-      (is ∙ ap (λ (at : ℕ). window seen at (length c.window_mut.result.now)) c.band_start-start.ensures) small)
+    (is ∙ ap (λ (at : ℕ). window seen at (length c.window_mut.result.now)) c.band_start-start.ensures) small)
     (c.read_at.ensures.bytes told)

@@ -1,4 +1,3 @@
-use Rattle.sg_base.specs.declared.area.Area.TheVariants.{Home}
 use Rattle.sg_pool.specs.Shelves.{geometry_of}
 use Rattle.sg_pool.proofs.Banding.{bands_synced, synced_logs, sync_torn}
 use Rattle.sg_pool.proofs.shelf.Shelf.sync_windows.Goals as goal

@@ -1,4 +1,4 @@
-use Rattle.std.proofs.Common.{◌≡◌, ◌<◌, ◌≤◌, ◌+◌, inl, inr, ℕ, Some, None, get_or, refl, sym, ◌∙◌, ap, subst, arith}
+use Rattle.std.proofs.Common.{◌≡◌, ◌<◌, ◌+◌, inl, inr, ℕ, Some, None, get_or, sym, ◌∙◌, ap, subst, arith}
 use Rattle.std.proofs.lemmas.Result.{on_ok_weaker}
 use Rattle.sg_base.specs.declared.area.Area.TheVariants.{Home}
 use Rattle.sg_disk.specs.Disk.{Image, Part}
@@ -61,5 +61,5 @@ returns-clause-moments g c ds ps told apart ready holds logged =
     let going = subst (λ (p : Part). IsGoing (geometry_of s) c.make_durable.new.log.gate (lasts s) (v.now Home).seen (units (v.now Home).seen s) p.seen) (sym home) (going_starts (geometry_of s) c.make_durable.new.log.gate (lasts s) (v.now Home).seen (units (v.now Home).seen s)) in
     joined (weaker (c.make_durable.ensures.any_moment ds ps told holds) (λ (im : Image) before. inl before))
     (weaker (c.sync_windows.ensures.any_moment told) (λ (im : Image) torn. inr (torn_goes (geometry_of s) s.wins c.args.w (c.args.w + 1) s.slots.items s.frames v u c.args.log.now ds ps c.make_durable.new.log.gate (v.now Home).seen apart (λ b other not_log. same b not_log)
-      (stands u c.args.log.now c.make_durable.new.log ds ps (c.in_ok-make_durable.ensures.log ds ps told holds)) (subst IsReady (sym home) ready)
-      (λ x b k low high held marked. let e : x ≡ c.args.w = omega (arith, low, high) in subst (λ (y : ℕ). last_in s.wins.marks.items (Some y) < c.make_durable.new.log.gate) (sym e) gate) im torn going)))
+    (stands u c.args.log.now c.make_durable.new.log ds ps (c.in_ok-make_durable.ensures.log ds ps told holds)) (subst IsReady (sym home) ready)
+    (λ x b k low high held marked. let e : x ≡ c.args.w = omega (arith, low, high) in subst (λ (y : ℕ). last_in s.wins.marks.items (Some y) < c.make_durable.new.log.gate) (sym e) gate) im torn going)))

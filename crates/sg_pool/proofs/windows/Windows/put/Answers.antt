@@ -1,4 +1,4 @@
-use Rattle.std.proofs.Common.{◌≡◌, ℕ, Some, None, length, get_or, set, sym, ◌∙◌, ap, arith, length-set}
+use Rattle.std.proofs.Common.{◌≡◌, Some, None, length, get_or, set, sym, ◌∙◌, ap, arith, length-set}
 use Rattle.sg_pool.specs.declared.slot.Slot.{Slot}
 use Rattle.sg_pool.specs.declared.windows.Marks.{Marks}
 use Rattle.sg_pool.specs.Held.{no_slot}
@@ -19,7 +19,7 @@ index_mut-requires-2 c =
     let is : c.index-slot.result.now ≡ get_or s.slots.items c.args.w no_slot = slot_at s.slots.items c.args.w c.index-slot.result.now c.requires.there c.index-slot.ensures in
     let page = ap (λ (x : Slot). x.number) is in
     let e : length c.forget.new.index.items ≡ length s.index.items = (emptied s.slots.items s.index.items c.args.w c.requires.there s.windows.apart s.windows.found c.forget.new.index.items (λ n held. s.windows.within c.args.w n c.requires.there held)
-        (λ none. c.forget.ensures.none (page ∙ none)) (λ n held. c.forget.ensures.some n (page ∙ held))).0 in
+    (λ none. c.forget.ensures.none (page ∙ none)) (λ n held. c.forget.ensures.some n (page ∙ held))).0 in
     let small = c.requires.band in
     omega (arith, e, small)
 
@@ -44,4 +44,4 @@ returns-clause-bands c =
     let page = ap (λ (x : Slot). x.number) is in
     length-set c.forget.new.index.items c.args.b (Some c.args.w)
     ∙ (emptied s.slots.items s.index.items c.args.w c.requires.there s.windows.apart s.windows.found c.forget.new.index.items (λ n held. s.windows.within c.args.w n c.requires.there held)
-      (λ none. c.forget.ensures.none (page ∙ none)) (λ n held. c.forget.ensures.some n (page ∙ held))).0
+    (λ none. c.forget.ensures.none (page ∙ none)) (λ n held. c.forget.ensures.some n (page ∙ held))).0
