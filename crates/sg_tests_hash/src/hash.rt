@@ -1,7 +1,7 @@
 use sg_base::{PageNo, PageOp};
 use sg_hash::{del, find, free_all, keys, make, put};
 use sg_ops::Ops;
-use sg_space::{Guarded, MemSpace, PageSpace, SpaceFault};
+use sg_space::{Guarded, ListFault, MemSpace, PageSpace, SpaceFault};
 use std::alloc::Global;
 use std::test::Fail;
 
@@ -164,6 +164,62 @@ fn a_full_chain_takes_pages_and_gives_them_back(rt: HostRuntime) -> Result<(), F
     assert_eq!(rt; gave, 0);
     assert_eq!(rt; found(&mut table, &[2, 0])?, None);
     assert_eq!(rt; found(&mut table, &[3, 0])?, Some((500, 7)));
+    Ok(())
+}
+
+// Takes free pages until one is left.
+fn leave_one(table: &mut Trial) -> Result<(), SpaceFault> {
+    for _ in 0..64 {
+        if table.free_pages() > 1 {
+            table.space.take_page(9)?;
+        }
+    }
+    Ok(())
+}
+
+// Four values of 1,024 letters, of which a page holds three. The fourth comes back where one page is free.
+#[test]
+fn a_removed_key_comes_back_where_one_page_is_free(rt: HostRuntime) -> Result<(), Fail> {
+    let mut table = Trial::new(rt.alloc(), Ops::shipped(rt.alloc())?, false)?;
+    for key in [b"k1", b"k2", b"k3", b"k4"] {
+        table.put_whole(key, &[b'v'; 1_024])?;
+    }
+    leave_one(&mut table)?;
+    assert_eq!(rt; table.del(b"k4")?, true);
+    assert_eq!(rt; table.free_pages(), 2);
+    leave_one(&mut table)?;
+    assert_eq!(rt; table.put_whole(b"k4", &[b'w'; 1_024])?, true);
+    assert_eq!(rt; table.free_pages(), 0);
+    assert_eq!(rt; found(&mut table, b"k4")?, Some((1_024, b'w')));
+    Ok(())
+}
+
+// Whether the keys of a table are these three, in the order of their bytes.
+fn lists_three(table: &mut Trial, alloc: Global) -> Result<bool, ListFault> {
+    let all = keys(&mut table.space, table.root, alloc)?;
+    let (Some(first), Some(second), Some(third), None) = (
+        all.first(),
+        all.get(1),
+        all.get(2),
+        all.get(3),
+    ) else {
+        return Ok(false);
+    };
+    Ok(
+        first.bytes() == b"a".as_slice()
+            && second.bytes() == b"ab".as_slice()
+            && third.bytes() == b"b".as_slice(),
+    )
+}
+
+#[test]
+fn keys_are_listed_in_their_order(rt: HostRuntime) -> Result<(), Fail> {
+    let mut table = Trial::new(rt.alloc(), Ops::shipped(rt.alloc())?, false)?;
+    for key in [&b"b"[..], b"ab", b"a"] {
+        table.put(key, &[b'v'; 1_024])?;
+    }
+    let listed = lists_three(&mut table, rt.alloc());
+    assert!(rt; matches!(listed, Ok(true)));
     Ok(())
 }
 
