@@ -13,6 +13,3 @@ mod fnv;
 pub use address::Address;
 pub use extent::Extent;
 pub use fnv::fnv_1a;
-
-#[cfg(test)]
-mod tests;

@@ -1,4 +1,4 @@
-use super::*;
+use sg_linear::{Address, Extent, fnv_1a};
 use std::test::Fail;
 
 // What the hash's authors give for the empty text, for `a` and for `foobar`.
@@ -26,4 +26,29 @@ fn a_table_grows(rt: HostRuntime) -> Result<(), Fail> {
     assert!(rt; Extent::new(2, 4).is_none());
     assert!(rt; Extent::new(21, 0).is_none());
     Ok(())
+}
+
+// Which of the three buckets of a table of level 1 and split 1 the key belongs to, where it is one alone.
+fn bucket_of(key: &[u8]) -> Option<u32> {
+    let extent = Extent::new(1, 1)?;
+    let mut found = None;
+    for bucket in 0..3 {
+        let there = Address { extent, bucket };
+        if there.holds(key) {
+            if found.is_some() {
+                return None;
+            }
+            found = Some(bucket);
+        }
+    }
+    found
+}
+
+// By the low bits of the published hashes: that of the empty text ends in 25, that of `a` in 8c, and that of `foobar`
+// in e8. Bucket 0 was split, so that one bit more counts there.
+#[test]
+fn a_key_belongs_to_one_bucket(rt: HostRuntime) {
+    assert_eq!(rt; bucket_of(b""), Some(1));
+    assert_eq!(rt; bucket_of(b"a"), Some(0));
+    assert_eq!(rt; bucket_of(b"foobar"), Some(0));
 }
