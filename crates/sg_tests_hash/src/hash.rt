@@ -167,6 +167,49 @@ fn a_full_chain_takes_pages_and_gives_them_back(rt: HostRuntime) -> Result<(), F
     Ok(())
 }
 
+// Keys of 4 bytes, little-endian, whose hashes agree in their last 12 bits.
+const COLLIDING: [u32; 40] = [
+    1_429, 6_170, 9_175, 9_525, 9_892, 17_271, 19_686, 27_057, 27_654, 35_392, 47_091, 53_378,
+    55_059, 61_474, 64_861, 65_228, 70_124, 70_269, 78_092, 79_039, 84_814, 85_753, 93_576, 93_721,
+    99_110, 99_776, 99_921, 107_872, 120_979, 127_709, 129_075, 130_978, 137_671, 138_324, 139_045,
+    145_046, 145_767, 151_760, 152_481, 153_142,
+];
+
+// How many of these keys are new.
+fn put_colliding(table: &mut Trial) -> Result<u32, SpaceFault> {
+    let mut new = 0u32;
+    for key in &COLLIDING {
+        if table.put(&key.to_le_bytes(), &[7; 1_000])? {
+            new = new.saturating_add(1);
+        }
+    }
+    Ok(new)
+}
+
+// How many of them are found.
+fn find_colliding(table: &mut Trial) -> Result<u32, SpaceFault> {
+    let mut there = 0u32;
+    for key in &COLLIDING {
+        if found(table, &key.to_le_bytes())? == Some((1_000, 7)) {
+            there = there.saturating_add(1);
+        }
+    }
+    Ok(there)
+}
+
+// All keys stay in one bucket, of four on a page, while 19 buckets are split off beside it. When its turn came for the
+// fourth time, at level 3, it had 8 pages, and was split still.
+#[test]
+fn keys_that_collide_are_found(rt: HostRuntime) -> Result<(), Fail> {
+    let mut table = Trial::new(rt.alloc(), Ops::shipped(rt.alloc())?, false)?;
+    let free = table.free_pages();
+    assert_eq!(rt; put_colliding(&mut table)?, 40);
+    assert_eq!(rt; find_colliding(&mut table)?, 40);
+    assert_eq!(rt; table.shape()?, (4, 4, 40));
+    assert_eq!(rt; table.free_pages(), free.saturating_sub(28));
+    Ok(())
+}
+
 // Takes free pages until one is left.
 fn leave_one(table: &mut Trial) -> Result<(), SpaceFault> {
     for _ in 0..64 {
