@@ -18,6 +18,3 @@ pub use array::{get, len, make, pages, pop, push, set, size};
 pub use beside::stand_apart;
 pub use free::free_all;
 pub use items::{apply, apply_back};
-
-#[cfg(test)]
-mod tests;

@@ -21,6 +21,3 @@ pub use op::{Op, Reply};
 pub use reason::Reason;
 pub use stop::Stop;
 pub use touch::{MOST_TOUCHES, Resource, Touch, Touches, conflict};
-
-#[cfg(test)]
-mod tests;

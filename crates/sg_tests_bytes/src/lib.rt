@@ -1,6 +1,5 @@
 //! Tests of the layers that know bytes alone: fields, names, sources and sinks, pages as they are looked at
-//! and changed, rows of bits, dirty bytes, and the bytes of each kind of record.
-//! Each module has those of one crate.
+//! and changed, rows of bits and dirty bytes. Each module has those of one crate.
 #![tactic(auto)]
 
 #[cfg(test)]
@@ -9,8 +8,6 @@ mod base;
 mod bits;
 #[cfg(test)]
 mod pages;
-#[cfg(test)]
-mod record;
 #[cfg(test)]
 mod segment;
 #[cfg(test)]

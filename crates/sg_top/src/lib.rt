@@ -25,14 +25,3 @@ pub use sg_journal::{OpenRefused, Unopened};
 pub use status::Status;
 pub use top::{Finish, stasis};
 pub use words::is_run;
-
-#[cfg(test)]
-mod reopen_tests;
-#[cfg(test)]
-mod row_tests;
-#[cfg(test)]
-mod stop_tests;
-#[cfg(test)]
-mod tests;
-#[cfg(test)]
-mod trial;

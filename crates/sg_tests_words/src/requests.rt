@@ -1,6 +1,6 @@
-use super::*;
 use What::*;
 use sg_model::Op;
+use sg_words::{Asked, Request, join_words, parse_request, parse_words};
 use std::alloc::{AllocError, Global};
 use std::test::Fail;
 

@@ -1,6 +1,6 @@
-use crate::Status;
 use crate::trial::answered;
 use sg_disk::MemDisk;
+use sg_top::Status;
 use std::test::Fail;
 
 // Lines, and what a session over an empty disk answers them.

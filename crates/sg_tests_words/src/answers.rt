@@ -1,6 +1,6 @@
-use super::*;
 use sg_base::{MemSink, Name, Sink};
 use sg_model::{Key, Reason, Reply};
+use sg_words::{Answer, write_answer};
 use std::alloc::Global;
 use std::process::Abort;
 use std::test::Fail;

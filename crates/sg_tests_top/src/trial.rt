@@ -1,10 +1,10 @@
 // A run or a session over a disk in memory, and what is left of it as plain values.
 ghost use Rattle.std.specs.Prelude.{◌<◌};
 
-use crate::{Finish, Session, Status, stasis};
 use sg_base::{MemSink, MemSource, Source};
 use sg_disk::MemDisk;
 use sg_ops::Ops;
+use sg_top::{Finish, Session, Status, stasis};
 use std::alloc::{AllocError, Global};
 use std::test::Fail;
 

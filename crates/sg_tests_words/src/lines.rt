@@ -1,6 +1,6 @@
-use super::*;
 use sg_base::{MemSink, Sink};
 use sg_model::{Reason, Reply};
+use sg_words::{Answer, cut, write_answer};
 use std::alloc::{AllocError, Global};
 use std::test::Fail;
 

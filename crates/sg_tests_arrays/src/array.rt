@@ -1,4 +1,4 @@
-use super::*;
+use sg_array::{apply, apply_back, free_all, get, len, make, pages, pop, push, set, size};
 use sg_base::{PageNo, PageOp};
 use sg_ops::Ops;
 use sg_space::{Guarded, MemSpace, PageSpace, SpaceFault};

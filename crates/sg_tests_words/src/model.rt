@@ -1,5 +1,5 @@
-use super::*;
 use sg_base::Name;
+use sg_model::Op;
 use std::test::Fail;
 
 #[test]

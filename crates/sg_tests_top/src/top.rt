@@ -1,9 +1,9 @@
 ghost use Rattle.std.specs.Prelude.{None};
 
-use crate::Status;
 use crate::trial::{answered, run, run_from, run_in_pieces};
 use sg_base::{Failed, MemSource, Source};
 use sg_disk::{CallKind, Disk, MemDisk};
+use sg_top::Status;
 use std::test::Fail;
 
 const FIRST: &str = "t begin\nt make array a 3\nt push a abc\nt set a 0 xyz\nt get a 0\nt commit";

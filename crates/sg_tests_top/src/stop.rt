@@ -1,6 +1,6 @@
-use crate::Status;
 use crate::trial::{disk_of, run, run_in_pieces, run_stopped};
 use sg_disk::MemDisk;
+use sg_top::Status;
 use std::alloc::Global;
 use std::test::Fail;
 

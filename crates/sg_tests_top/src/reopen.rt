@@ -1,7 +1,7 @@
-use crate::Status;
 use crate::trial::{Left, disk_of, run};
 use sg_base::Area;
 use sg_disk::{CallKind, MemDisk};
+use sg_top::Status;
 use std::alloc::Global;
 use std::test::Fail;
 

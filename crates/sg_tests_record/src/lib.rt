@@ -1,0 +1,5 @@
+//! Tests of the bytes of records.
+#![tactic(auto)]
+
+#[cfg(test)]
+mod record;

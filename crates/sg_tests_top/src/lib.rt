@@ -1,0 +1,13 @@
+//! Tests of the session and of whole scripts over a disk in memory: replies, stops, crashes and openings.
+#![tactic(auto)]
+
+#[cfg(test)]
+mod reopen;
+#[cfg(test)]
+mod row;
+#[cfg(test)]
+mod stop;
+#[cfg(test)]
+mod top;
+#[cfg(test)]
+mod trial;
