@@ -14,6 +14,7 @@ const BANDS: u32 = 40;
 
 // A band has so many cells of 8 bytes that change, one in each 2,048 bytes, from this byte on.
 const CELLS: u32 = 16;
+
 const CELL_AT: u32 = 1_000;
 
 const ZEROS: [u8; 2_048] = [0; 2_048];
@@ -112,8 +113,7 @@ fn cells_differ(bytes: &[u8], cells: &[Lsn; 16]) -> u32 {
 
 impl Trial {
     // A store of zeros that are all written, of whose disk so many more calls pass, or all.
-    fn new(alloc: Global, passes: Option<u64>) -> Result<Trial, Fail> {
-        let ops = Ops::shipped(alloc)?;
+    fn new(alloc: Global, ops: Ops, passes: Option<u64>) -> Result<Trial, Fail> {
         let mut disk = MemDisk::new(alloc);
         let _written = disk.write_at(Area::Home, LAST, &[0]);
         let _synced = disk.sync(Area::Home);
@@ -181,7 +181,8 @@ impl Trial {
         }
         let at = cell * 2_048 + CELL_AT;
         let bytes = lsn.to_le_bytes();
-        self.pool.change_band(&mut self.disk, &mut self.log, BandNo(b), lsn, at, &bytes)?;
+        self.pool
+            .change_band(&mut self.disk, &mut self.log, BandNo(b), lsn, at, &bytes)?;
         Ok(lsn)
     }
 
@@ -235,7 +236,7 @@ fn row_of_frames(trial: &mut Trial) -> Result<([u32; 3], bool), Stop> {
 
 #[test]
 fn the_least_recently_used_page_that_is_not_pinned_goes(rt: HostRuntime) -> Result<(), Fail> {
-    let mut trial = Trial::new(rt.alloc(), None)?;
+    let mut trial = Trial::new(rt.alloc(), Ops::shipped(rt.alloc())?, None)?;
     let outcome = row_of_frames(&mut trial);
     trial.end();
     let (victims, same) = outcome?;
@@ -400,7 +401,11 @@ impl Plain {
             }
         }
         *window = Some(b);
-        self.next = if self.next >= 3 { 0 } else { self.next.saturating_add(1) };
+        self.next = if self.next >= 3 {
+            0
+        } else {
+            self.next.saturating_add(1)
+        };
     }
 
     // And its cell is changed.
@@ -487,7 +492,7 @@ impl Plain {
 #[test]
 fn a_page_and_a_band_are_what_was_last_written_to_them(rt: HostRuntime) -> Result<(), Fail> {
     let mut plain = Plain::new(rt.alloc(), 1)?;
-    let mut trial = Trial::new(rt.alloc(), None)?;
+    let mut trial = Trial::new(rt.alloc(), Ops::shipped(rt.alloc())?, None)?;
     let outcome = plain.run(&mut trial, 10_000);
     trial.end();
     assert!(rt; outcome?);
@@ -557,9 +562,9 @@ fn bands_kept(disk: &MemDisk, plain: &Plain, durable: Lsn) -> bool {
 }
 
 // What a crash leaves of 200 calls that are stopped after so many calls of the disk.
-fn is_crash_safe(alloc: Global, passes: u64, pick: u64) -> Result<bool, Fail> {
+fn is_crash_safe(alloc: Global, ops: Ops, passes: u64, pick: u64) -> Result<bool, Fail> {
     let mut plain = Plain::new(alloc, 2)?;
-    let mut trial = Trial::new(alloc, Some(passes))?;
+    let mut trial = Trial::new(alloc, ops, Some(passes))?;
     let _stopped = plain.run(&mut trial, 200);
     let disk = trial.end().crash(pick);
     all_kept(alloc, disk, &plain)
@@ -568,7 +573,13 @@ fn is_crash_safe(alloc: Global, passes: u64, pick: u64) -> Result<bool, Fail> {
 #[test]
 fn a_crash_leaves_whole_pages_and_bytes_of_durable_records(rt: HostRuntime) -> Result<(), Fail> {
     for k in 0..100u64 {
-        let safe = is_crash_safe(rt.alloc(), k.wrapping_mul(11), k.wrapping_mul(0x9e37_79b9))?;
+        let ops = Ops::shipped(rt.alloc())?;
+        let safe = is_crash_safe(
+            rt.alloc(),
+            ops,
+            k.wrapping_mul(11),
+            k.wrapping_mul(0x9e37_79b9),
+        )?;
         assert!(rt; safe);
     }
     Ok(())
