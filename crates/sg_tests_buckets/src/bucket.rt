@@ -111,12 +111,12 @@ impl Trial {
 
     // How many of the calls, from the first on, answer what they are to.
     fn run(&mut self, ops: &Ops, calls: &[Call]) -> usize {
-        let mut done = 0;
+        let mut done = 0usize;
         for call in calls {
             if !self.answers(ops, *call) {
                 return done;
             }
-            done += 1;
+            done = done.saturating_add(1);
         }
         done
     }
