@@ -1,7 +1,7 @@
 #!/usr/bin/env bash
 # Prints what a put and a find of a hash table cost, in a space in memory, and how many pages the table has then, at 1,000 keys up to 1,000,000.
 # A key has 4 bytes and a value 8. The finds are of drawn keys. The program is written here, into a copy of the crates that it stands on, proved
-# there, and built. The crates are to be checked before (`rt check` in each, or `.ci/run`). This script was not run yet.
+# there, and built. The crates are to be checked before (`rt check` in each, or `.ci/run`).
 set -eu
 top="$(cd "$(dirname "$(readlink -f "${BASH_SOURCE[0]}")")/.." && pwd)"
 folder="$(mktemp -d)"
