@@ -24,3 +24,8 @@ pub use law::fronts_stand;
 pub use live::MOST_LIVE;
 pub use opening::{OpenRefused, Unopened};
 pub use store::Store;
+
+#[cfg(test)]
+mod hostile_tests;
+#[cfg(test)]
+mod tests;

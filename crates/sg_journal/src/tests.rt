@@ -2,9 +2,9 @@
 ghost use Rattle.std.specs.Prelude.{◌≤◌};
 ghost use Rattle.sg_log.specs.Frames.{LOG_END};
 
+use crate::{MOST_LIVE, Store};
 use sg_base::{Area, Lsn, MemSink, Name, TxnId};
 use sg_disk::MemDisk;
-use sg_journal::{MOST_LIVE, Store};
 use sg_log::Log;
 use sg_ops::Ops;
 use sg_words::write_answer;

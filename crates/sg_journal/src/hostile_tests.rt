@@ -1,7 +1,7 @@
 //! Hostile lines, each answered by the refusal that it meets first.
+use crate::Store;
 use sg_base::MemSink;
 use sg_disk::MemDisk;
-use sg_journal::Store;
 use sg_ops::Ops;
 use sg_words::write_answer;
 use std::alloc::{AllocError, Global};
