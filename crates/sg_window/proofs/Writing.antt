@@ -42,9 +42,9 @@ module _ (s t u : State) (base : ℕ) (window bytes : List ℕ) (marks : List Bo
   out_of_run i bare = ⊎_elim
       (λ before. inl before)
       (λ low. ⊎_elim
-        (λ within. absurd (bare (omega arith, omega arith, run.marked (i - base) (omega arith, omega arith))))
-        (λ behind. inr behind)
-        (cases_lt i (base + start + length bytes)))
+      (λ within. absurd (bare (omega arith, omega arith, run.marked (i - base) (omega arith, omega arith))))
+      (λ behind. inr behind)
+      (cases_lt i (base + start + length bytes)))
       (cases_lt i (base + start))
 
   less : (i : ℕ) → (IsMarkedAt base marks (start + count) i → ⊥) → IsMarkedAt base marks from i → ⊥
@@ -53,15 +53,15 @@ module _ (s t u : State) (base : ℕ) (window bytes : List ℕ) (marks : List Bo
   pub runs_more : AreWritten s u base window marks (start + count)
   runs_more = record {
     there = λ k lt marked. ⊎_elim
-      (λ early. seen (base + k) ∙ put_outside (base + start) bytes (t Home).seen (base + k) (λ low high. let after = run.after in absurd (omega arith)) ∙ done.there k early marked)
-      (λ late. ⊎_elim
+        (λ early. seen (base + k) ∙ put_outside (base + start) bytes (t Home).seen (base + k) (λ low high. let after = run.after in absurd (omega arith)) ∙ done.there k early marked)
+        (λ late. ⊎_elim
         (λ before. absurd (run.none_before k late before marked))
         (λ within.
-          let place : base + k ≡ base + start + (k - start) = omega arith in
-          let there : start + (k - start) ≡ k = omega arith in
-          seen (base + k) ∙ ap (put (base + start) bytes (t Home).seen) place ∙ put_inside (base + start) bytes (t Home).seen (k - start) 0 (omega arith) ∙ are (k - start) (omega arith) ∙ ap (λ (j : ℕ). get_or window j 0) there)
+        let place : base + k ≡ base + start + (k - start) = omega arith in
+        let there : start + (k - start) ≡ k = omega arith in
+        seen (base + k) ∙ ap (put (base + start) bytes (t Home).seen) place ∙ put_inside (base + start) bytes (t Home).seen (k - start) 0 (omega arith) ∙ are (k - start) (omega arith) ∙ ap (λ (j : ℕ). get_or window j 0) there)
         (cases_lt k start))
-      (cases_lt k from);
+        (cases_lt k from);
     rest = record {
       seen = λ i bare. seen i ∙ put_outside (base + start) bytes (t Home).seen i (λ low high. ⊎_elim (λ a. absurd (omega arith)) (λ b. absurd (omega arith)) (out_of_run i bare)) ∙ done.rest.seen i (less i bare);
       pending = λ i bare whole. subst (λ (p : Part). Spoils p.pending i → ⊥) (sym part) (⊎_elim (untouched (base + start) (length bytes) i (out_of_run i bare)) (done.rest.pending i (less i bare) whole));
@@ -83,7 +83,7 @@ pub run_torn : {T E : Type 0} (v w z : View) (r : Result T E) (base : ℕ) (wind
     → length bytes ≡ count → ((j : ℕ) → j < count → get_or bytes j 0 ≡ get_or window (start + j) 0) → start + count ≤ size → LeavesOnly v w (IsTorn v.now (IsMarkedAt base marks size)) → Wrote Home (base + start) bytes w z r → LeavesOnly v z (IsTorn v.now (IsMarkedAt base marks size))
 run_torn v w z r base window bytes marks from start count size done run long are le so_far wrote =
     goes_on so_far wrote (λ c leaves. torn v.now (written Home (base + start) bytes w.now) (IsMarkedAt base marks (start + count)) (IsMarkedAt base marks size) c (fewer_marked base marks (start + count) size le)
-      (runs_more v.now w.now (written Home (base + start) bytes w.now) base window bytes marks from start count done run long are refl).rest leaves)
+    (runs_more v.now w.now (written Home (base + start) bytes w.now) base window bytes marks from start count done run long are refl).rest leaves)
 
 pub slice_are : (window : List ℕ) (start count : ℕ) → (j : ℕ) → j < count → get_or (take count (drop start window)) j 0 ≡ get_or window (start + j) 0
 slice_are window start count j lt = get_or-take count (drop start window) j 0 lt ∙ get_or-drop start window j 0

@@ -8,4 +8,3 @@
 mod runs;
 
 pub use runs::write_runs;
-

@@ -28,7 +28,11 @@ pub fn write_runs<D: Disk>(
     let mut from = 0;
     'runs: while let Some((start, count)) = dirty.next_run(from) {
         let end = start + count;
-        disk.write_at(Area::Home, base + start as u64, &window[start as usize..end as usize])?;
+        disk.write_at(
+            Area::Home,
+            base + start as u64,
+            &window[start as usize..end as usize],
+        )?;
         from = end;
     }
     Ok(())

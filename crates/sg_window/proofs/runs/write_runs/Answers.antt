@@ -33,7 +33,8 @@ runs-preserved g c =
       later = let a = c.runs.invariant.later in let b = c.write_at.ensures.counts.later in omega arith;
       moments = λ told. (
         run_torn (g.D.Disk.view c.args.disk.now) (g.D.Disk.view c.runs.disk) (g.D.Disk.view c.write_at.new.self) c.write_at.result c.args.base window text c.args.dirty.now c.runs.from start count BAND_SIZE
-          (c.runs.invariant.moments told).1 run long are fits (c.runs.invariant.moments told).0 (c.write_at.ensures.does told),
+            (c.runs.invariant.moments told).1 run long are fits (c.runs.invariant.moments told).0 (c.write_at.ensures.does told),
         runs_more (g.D.Disk.view c.args.disk.now).now (g.D.Disk.view c.runs.disk).now (g.D.Disk.view c.write_at.new.self).now c.args.base window text c.args.dirty.now c.runs.from start count
-          (c.runs.invariant.moments told).1 run long are (c.in_ok-write_at.ensures.does told).ok);
+            (c.runs.invariant.moments told).1 run long are (c.in_ok-write_at.ensures.does told).ok,
+      );
     }
