@@ -2,6 +2,7 @@ pub mod Objects
 pub mod Codes
 pub mod Verb
 pub mod Step
+pub mod Undo
 pub mod Touches
 pub mod Laws
 pub mod Keys
