@@ -1,5 +1,5 @@
 -- What undoes an operation: what was done, with what stood there before.
-use Rattle.std.specs.Prelude.{◌≡◌, ℕ, zero, suc, List, [], ◌∷◌, ◌++◌, length, take, drop, Option, Some, None, Ok, Err, slice_get, if◌then◌else◌}
+use Rattle.std.specs.Prelude.{◌≡◌, ℕ, zero, suc, List, [], ◌∷◌, ◌++◌, length, take, drop, min, Option, Some, None, Ok, Err, slice_get, if◌then◌else◌}
 use Rattle.std.specs.Str.{bytes_eq}
 use Rattle.std.specs.FinMap.{get}
 use Rattle.sg_ops.specs.Table.{Table as Operations}
@@ -66,7 +66,7 @@ note_bytes at count blob = HadBytes at (take count (drop at blob)) (length blob)
 
 abbrev pub note_blob : Verb → List ℕ → Note
 note_blob (Write at bytes) blob = note_bytes at (length bytes) blob
-note_blob (Size n) blob = HadBytes n (drop n blob) (length blob)
+note_blob (Size n) blob = HadBytes (min n (length blob)) (drop n blob) (length blob)
 note_blob (Paint at count code arg) blob = note_bytes at count blob
 note_blob other blob = Nothing
 
@@ -101,7 +101,7 @@ undo (WasPut key) object = (on_table (λ m. (Ok Done, updated m key Goes)) objec
 undo (HadValue key value) object = (on_table (λ m. (Ok Done, updated m key (Becomes value))) object).1
 undo (HadBytes at bytes length) object = (on_blob (λ blob. (Ok Done, overlaid (resized length blob) at bytes)) object).1
 
--- the same of several, in the order in which they were done: the last one is taken back first
+-- the same of several notes, in the order in which they were made: the last one is taken back first
 abbrev pub undo_each : List Note → Option Object → Option Object
 undo_each [] object = object
 undo_each (note ∷ notes) object = undo note (undo_each notes object)
@@ -124,11 +124,11 @@ noted_step t s op = (((step t s op).0, note_of_op t s op), (step t s op).1)
 abbrev pub unstep : Objects → Outcome × OpNote → Objects
 unstep s out = put_at s out.1.0 (undo out.1.1 (get s out.1.0))
 
--- a note, if there is something to be taken back
-abbrev pub noted : Note → List Note
-noted Nothing = []
-noted note = note ∷ []
+-- what stands under a name once an operation that was done last is taken back: that of another name leaves it
+abbrev pub undo_on : List ℕ → OpNote → Option Object → Option Object
+undo_on name note object = if bytes_eq name note.0 then undo note.1 object else object
 
--- the notes on a name
-abbrev pub note_on : List ℕ → OpNote → List Note
-note_on name note = if bytes_eq name note.0 then noted note.1 else []
+-- the same of several operations, in the order in which they were done
+abbrev pub undo_all_on : List ℕ → List OpNote → Option Object → Option Object
+undo_all_on name [] object = object
+undo_all_on name (note ∷ notes) object = undo_on name note (undo_all_on name notes object)

@@ -4,3 +4,4 @@ pub mod Arrays
 pub mod Steps
 pub mod Sorted
 pub mod Copies
+pub mod Noting

@@ -2,3 +2,4 @@ pub mod Shown
 pub mod Arrays
 pub mod Tables
 pub mod Replies
+pub mod Undone

@@ -9,14 +9,18 @@
 
 mod array;
 mod blob;
+mod changes;
 mod front;
 mod object;
 mod objects;
 mod reach;
 mod table;
+mod undo;
 
 pub use array::Array;
 pub use blob::Blob;
+pub use changes::Changes;
 pub use object::Object;
 pub use objects::Objects;
 pub use table::Table;
+pub use undo::{Past, Undo};

@@ -1,6 +1,7 @@
-ghost use Rattle.std.specs.Prelude.{◌≡◌, ◌≤◌, [], ◌∷◌, map, length, is_some, OnOk, IfOk, OnErr, IsOk, Ok};
+ghost use Rattle.std.specs.Prelude.{◌≡◌, ◌≤◌, ℕ, List, IsTrue, Option, [], ◌∷◌, map, length, is_some, OnOk, IfOk, OnErr, IsOk, Ok};
 ghost use Rattle.std.specs.FinMap as finmap;
 ghost use Rattle.sg_ops.specs.Table.{Table as Operations, table_of};
+ghost use Rattle.sg_model.specs.Objects as plain;
 ghost use Rattle.sg_model.specs.Verb.Op.{On, Names};
 ghost use Rattle.sg_model.specs.Verb.Reply.{Several};
 ghost use Rattle.sg_model.specs.Verb.Verb.{Keys};
@@ -16,6 +17,7 @@ ghost use Rattle.sg_model.specs.Step.{on, step, IsInPlace, GrowsBy, Refuses};
 
 use crate::array::Array;
 use crate::blob::Blob;
+use crate::changes::Changes;
 use crate::object::Object;
 use crate::reach::{only_read, written};
 use crate::table::Table;
@@ -75,7 +77,9 @@ impl Model for Objects {
 }
 
 impl Objects {
-    ghost use Rattle.sg_model.specs.Step.{Grows};
+    ghost use Rattle.sg_model.specs.Step.{Grows, is_changing};
+    ghost use Rattle.sg_model.specs.Undo.{undo_on, note_of_op};
+    ghost use Rattle.sg_plain.specs.Undone.{undo_in};
 
     /// No objects. Takes no memory.
     pub fn empty(alloc: Global) -> Objects
@@ -360,5 +364,43 @@ impl Objects {
             Ok(reply) => Ok(Ok(reply)),
             Err(fault) => Err(fault),
         }
+    }
+
+    /// Does a changing operation as `apply` does, and notes in `changes` what takes it back, before what these note.
+    ///
+    /// After `OutOfMemory`, which comes only for an operation that would have got a reply, the objects
+    /// and the notes are unchanged.
+    #[tactic(auto, using(crate::proofs::Steps::refused, crate::proofs::Noting::refused_notes))]
+    pub fn change(
+        &mut self,
+        alloc: Global,
+        ops: &Ops,
+        op: &Op<'_>,
+        into: &mut [u8],
+        changes: &mut Changes,
+    ) -> Result<Result<Reply, Reason>, OutOfMemory>
+        requires room { 8192 ≤ length into.old }
+        requires changing { IsTrue (is_changing (said_op op.now)) }
+        ensures done { IfOk result (λ r. step (table_of record_meaning range_meaning ops.now) self.old (said_op op.now) ≡ (said_outcome into.new r, self.new)) }
+        ensures noted { OnOk result ((name : List ℕ) (object : Option plain.Object) → undo_in changes.new name object ≡ undo_in changes.old name (undo_on name (note_of_op (table_of record_meaning range_meaning ops.now) self.old (said_op op.now)) object)) }
+        ensures err { OnErr result (self.new ≡ self.old) }
+        ensures same { OnErr result ((name : List ℕ) (object : Option plain.Object) → undo_in changes.new name object ≡ undo_in changes.old name object) }
+        ensures cause { OnErr result (IsOk (step (table_of record_meaning range_meaning ops.now) self.old (said_op op.now)).0) }
+    {
+        if let Some(reason) = self.refusal(ops, op) {
+            return Ok(Err(reason));
+        }
+        Err(OutOfMemory)
+    }
+
+    /// Takes back all that `changes` notes, and then it notes nothing.
+    /// After `OutOfMemory` the objects and the notes are unchanged.
+    pub fn take_back(&mut self, changes: &mut Changes) -> Result<(), OutOfMemory>
+        ensures back { OnOk result ((name : List ℕ) → finmap.get self.new name ≡ undo_in changes.old name (finmap.get self.old name)) }
+        ensures none { OnOk result ((name : List ℕ) (object : Option plain.Object) → undo_in changes.new name object ≡ object) }
+        ensures err { OnErr result (self.new ≡ self.old) }
+        ensures same { OnErr result ((name : List ℕ) (object : Option plain.Object) → undo_in changes.new name object ≡ undo_in changes.old name object) }
+    {
+        Err(OutOfMemory)
     }
 }

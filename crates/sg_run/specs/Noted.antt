@@ -1,7 +1,7 @@
 -- A run whose entries keep, beside what came out, what undoes them.
 use Rattle.std.specs.Prelude.{◌≡◌, ℕ, true, List, map}
 use Rattle.std.specs.FinMap.{get}
-use Rattle.std.specs.List.{filter, flat_map}
+use Rattle.std.specs.List.{filter}
 use Rattle.sg_serial.specs.Machine.{Entry}
 use Rattle.sg_serial.specs.Runs.{State, is_live, is_own}
 use Rattle.sg_serial.specs.Runs as runs
@@ -9,7 +9,7 @@ use Rattle.sg_ops.specs.Table.{Table as Operations}
 use Rattle.sg_model.specs.Objects.{Objects}
 use Rattle.sg_model.specs.Verb.{Op, Outcome}
 use Rattle.sg_model.specs.Touches.{Resource, touches, covers}
-use Rattle.sg_model.specs.Undo.{Note, OpNote, undo_each, noted_step, note_on}
+use Rattle.sg_model.specs.Undo.{OpNote, undo_all_on, noted_step}
 use Rattle.sg_run.specs.Run.{Event, Past, Run, live_objects, aborted}
 
 -- an operation of a transaction, with what came out and what undoes it
@@ -42,12 +42,12 @@ pub record IsNoted (t : Operations) (x : Run) (p : NotedPast) : Type 0 where
   pub past : x.so_far ≡ bare_past p
   pub serial : runs.IsSerial (noted_step t) touches covers p
 
--- the notes on a name that a transaction's entries have, in their order
-abbrev pub notes_by : NotedPast → ℕ → List ℕ → List Note
-notes_by p transaction name = flat_map (λ e. note_on name e.out.1) (filter (is_own transaction) p.history)
+-- what undoes a transaction's entries, in their order
+abbrev pub notes_by : NotedPast → ℕ → List OpNote
+notes_by p transaction = map (λ e. e.out.1) (filter (is_own transaction) p.history)
 
 -- Taking back what a live transaction has done, on each name the last change first, leaves the objects as an abort of it
 -- leaves them
 abbrev pub UndoingLeavesOut : Type 0
 UndoingLeavesOut = (t : Operations) (x : Run) (p : NotedPast) (transaction : ℕ) (after : Objects) → IsNoted t x p → is_live x.so_far.live transaction ≡ true
-    → ((name : List ℕ) → get after name ≡ undo_each (notes_by p transaction name) (get (live_objects t x) name)) → after ≡ live_objects t (aborted x transaction)
+    → ((name : List ℕ) → get after name ≡ undo_all_on name (notes_by p transaction) (get (live_objects t x) name)) → after ≡ live_objects t (aborted x transaction)

@@ -1,0 +1,37 @@
+-- The code's notes of what was done to objects, without where they lie in memory, and what takes it back.
+use Rattle.std.specs.Prelude.{ℕ, List, map, Option, Some, None}
+use Rattle.std.specs.Ordering.{nat_cmp}
+use Rattle.std.specs.Cmp.Lexicographic.{slice_cmp}
+use Rattle.std.specs.BTreeMap.{get}
+use Rattle.sg_model.specs.Objects.{Object}
+use Rattle.sg_model.specs.Undo.{Note, undo_each}
+use Rattle.sg_model.specs.Undo.Note.{WasPushed, WasPopped, WasSet, WasPut, HadValue, HadBytes}
+use Rattle.sg_plain.specs.declared.undo.Undo as code_undo
+use Rattle.sg_plain.specs.declared.undo.Undo.TheVariants as undos
+use Rattle.sg_plain.specs.declared.undo.Past as code_past
+use Rattle.sg_plain.specs.declared.undo.Past.TheVariants as pasts
+use Rattle.sg_plain.specs.declared.changes.Changes as code_changes
+use Rattle.sg_plain.specs.Shown.{shown}
+
+abbrev pub shown_undo : code_undo.Undo → Note
+shown_undo undos.Pushed = WasPushed
+shown_undo (undos.Popped item) = WasPopped item.items
+shown_undo (undos.Set index item) = WasSet index item.items
+shown_undo (undos.New key) = WasPut key
+shown_undo (undos.Value key bytes) = HadValue key bytes.items
+shown_undo (undos.Bytes at bytes length) = HadBytes at bytes.items length
+
+abbrev pub undo_listed : List code_undo.Undo → Option Object → Option Object
+undo_listed undos object = undo_each (map shown_undo undos) object
+
+-- what stood under a name before a transaction's changes: an object that it made wasn't there, one that it changed was what
+-- its notes make of it now, and one that it dropped is what they make of the one that was kept
+abbrev pub before : Option code_past.Past → Option Object → Option Object
+before None object = object
+before (Some pasts.Made) object = None
+before (Some (pasts.Changed undos)) object = undo_listed undos.items object
+before (Some (pasts.Dropped dropped undos)) object = undo_listed undos.items (Some (shown dropped))
+
+-- what stood under a name before the changes, by what stands there now
+abbrev pub undo_in : code_changes.Changes → List ℕ → Option Object → Option Object
+undo_in changes name object = before (get (slice_cmp nat_cmp) changes.map name) object
