@@ -5,6 +5,7 @@ use Rattle.std.specs.Str.{bytes_eq}
 use Rattle.std.specs.FinMap.{get}
 use Rattle.sg_serial.specs.Machine.{any_touch, HasFootprint}
 use Rattle.sg_serial.specs.Locks.{reads, writes}
+use Rattle.sg_serial.proofs.Kept.{same_bool}
 use Rattle.sg_ops.specs.Table.{Table as Operations}
 use Rattle.sg_model.specs.Objects.{Row, Entries, Object, Objects}
 use Rattle.sg_model.specs.Verb.{Verb, Op, Outcome}
@@ -16,7 +17,7 @@ use Rattle.sg_model.specs.Step.{Update, updated, put_value, del_value, on, put_a
 use Rattle.sg_model.specs.Touches.{Part, Reach, to_read, to_write, seen, seen_row, seen_entries, cell, last_item, reach_of, touches, covers}
 use Rattle.sg_model.specs.Touches.Part.{Kind, Length, Item, Key, Body}
 use Rattle.sg_model.specs.Touches.Region.{Just}
-use Rattle.sg_model.specs.Undo.{Note, note_item, note_last, note_popped, note_put, note_del, note_blob, note_object, if_replied, note_of, undo, note_of_op, noted_step, unstep}
+use Rattle.sg_model.specs.Undo.{Note, note_item, note_last, note_popped, note_put, note_del, note_blob, note_object, if_replied, note_of, undo, OpNote, note_of_op, noted_step, unstep, undo_on}
 use Rattle.sg_model.specs.Laws.{StepsAreUndoable}
 use Rattle.sg_model.proofs.Parts.{reads_part, same_entries, bytes_self, bytes_same}
 use Rattle.sg_model.proofs.Items.{item_self}
@@ -155,3 +156,20 @@ module _ (t : Operations) where
 
 pub undoable : StepsAreUndoable
 undoable t = record { footprint = noted_footprint t; undone = takes_back t }
+
+-- under each name
+
+same_bytes : (m n : List ℕ) → bytes_eq m n ≡ bytes_eq n m
+same_bytes m n = same_bool (bytes_eq m n) (bytes_eq n m) (λ h. swapped (bytes_same m n h)) (λ h. swapped (bytes_same n m h))
+  where
+    swapped : {m n : List ℕ} → m ≡ n → bytes_eq n m ≡ true
+    swapped {m} {n} e = ap (λ k. bytes_eq n k) e ∙ bytes_self n
+
+pub get_unstep : (s : Objects) (out : Outcome × OpNote) (name : List ℕ) → get (unstep s out) name ≡ undo_on name out.1 (get s name)
+get_unstep s out name =
+    let n : List ℕ = out.1.0 in
+    get_put_at s n (undo out.1.1 (get s n)) name ∙ (ap (λ b. cond b (undo out.1.1 (get s n)) (get s name)) (same_bytes n name) ∙ go (bytes_eq name n) refl)
+  where
+    go : (b : Bool) → bytes_eq name out.1.0 ≡ b → cond b (undo out.1.1 (get s out.1.0)) (get s name) ≡ cond b (undo out.1.1 (get s name)) (get s name)
+    go true e = ap (λ k. undo out.1.1 (get s k)) (sym (bytes_same name out.1.0 e))
+    go false e = refl
