@@ -53,12 +53,12 @@ live_named live name = find (λ l. bytes_eq name l.name) live
 abbrev pub TakesMemory : Op → Type 0
 TakesMemory op = Grows op ⊎ IsTrue (is_changing op)
 
--- a line that takes memory. A commit takes room for its lines, and an abort makes objects anew
+-- a line that takes memory: such an operation, or an abort, which takes room for what it puts back. A commit takes none
 abbrev pub MayLackMemory : Asked → Type 0
 MayLackMemory Blank = ⊥
 MayLackMemory Wrong = ⊥
 MayLackMemory (Of name Begin) = ⊥
-MayLackMemory (Of name Commit) = Unit {0}
+MayLackMemory (Of name Commit) = ⊥
 MayLackMemory (Of name Abort) = Unit {0}
 MayLackMemory (Of name (Do op)) = TakesMemory op
 
