@@ -1,11 +1,11 @@
 // What a record of each kind says, by the bytes behind its header.
-ghost use Rattle.std.specs.Prelude.{◌≡◌, option_map};
+ghost use Rattle.std.specs.Prelude.{◌≡◌, if◌then◌else◌, option_map};
 ghost use Rattle.sg_base.specs.Forms.{number, read_all};
-ghost use Rattle.sg_record.specs.Changes.{page_form, write_form, rewrite_form, op_form, read_change};
+ghost use Rattle.sg_record.specs.Changes.{page_form, band_form, write_form, op_form, read_change};
 ghost use Rattle.sg_record.specs.Changes.Change.{Page, SegWrite, SegOp};
 ghost use Rattle.sg_record.specs.Records.{note_form, live_form};
 ghost use Rattle.sg_record.specs.Records.Says.{Changed, TopEnd, Checkpoint};
-ghost use Rattle.sg_record.specs.Reading.{read_held, read_taken_off, read_bare, read_says};
+ghost use Rattle.sg_record.specs.Reading.{read_taken_off, read_bare, read_says};
 ghost use Rattle.sg_record.specs.Shown.{shown_change, shown_says};
 
 use crate::kind::{Kind, kind_with};
@@ -50,8 +50,15 @@ fn page_change(bytes: &[u8]) -> Option<Change<'_>>
     }))
 }
 
-fn band_bytes(bytes: &[u8]) -> Option<Change<'_>>
-    ensures { option_map shown_change result ≡ option_map SegWrite (read_all write_form bytes.now) }
+// A write that takes another change off has no bytes before.
+fn before_size(taking_off: bool, count: u32) -> usize
+    ensures { result ≡ if taking_off then 0 else count }
+{
+    if taking_off { 0 } else { count as usize }
+}
+
+fn band_bytes(taking_off: bool, bytes: &[u8]) -> Option<Change<'_>>
+    ensures { option_map shown_change result ≡ option_map SegWrite (read_all (band_form taking_off) bytes.now) }
 {
     let Some((band, rest)) = split_u32(bytes) else {
         return None;
@@ -62,7 +69,7 @@ fn band_bytes(bytes: &[u8]) -> Option<Change<'_>>
     let Some((count, rest)) = split_u32(rest) else {
         return None;
     };
-    let Some((before, rest)) = split_text(rest, count as usize) else {
+    let Some((before, rest)) = split_text(rest, before_size(taking_off, count)) else {
         return None;
     };
     let Some((after, [])) = split_text(rest, count as usize) else {
@@ -118,34 +125,6 @@ fn band_op(bytes: &[u8]) -> Option<Change<'_>>
     }))
 }
 
-// A write that takes another change off has no bytes before.
-fn rewritten_bytes(bytes: &[u8]) -> Option<Change<'_>>
-    ensures { option_map shown_change result ≡ option_map SegWrite (read_all rewrite_form bytes.now) }
-{
-    let Some((band, rest)) = split_u32(bytes) else {
-        return None;
-    };
-    let Some((at, rest)) = split_u32(rest) else {
-        return None;
-    };
-    let Some((count, rest)) = split_u32(rest) else {
-        return None;
-    };
-    let Some((before, rest)) = split_text(rest, 0) else {
-        return None;
-    };
-    let Some((after, [])) = split_text(rest, count as usize) else {
-        return None;
-    };
-    Some(Change::SegWrite(BandBytes {
-        band: BandNo(band),
-        at,
-        count,
-        before,
-        after,
-    }))
-}
-
 // Where undoing goes on, and a note behind its length.
 fn top_end(bytes: &[u8]) -> Option<Says<'_>>
     ensures { option_map shown_says result ≡ option_map (λ p. TopEnd p.0 p.1) (read_all note_form bytes.now) }
@@ -196,12 +175,12 @@ fn mark_alone(bytes: &[u8]) -> Option<u16>
     Some(mark)
 }
 
-fn change(kind: Kind, bytes: &[u8]) -> Option<Change<'_>>
-    ensures { option_map shown_change result ≡ read_change write_form kind bytes.now }
+fn change(taking_off: bool, kind: Kind, bytes: &[u8]) -> Option<Change<'_>>
+    ensures { option_map shown_change result ≡ read_change (band_form taking_off) kind bytes.now }
 {
     match kind {
         Kind::Page => page_change(bytes),
-        Kind::SegWrite => band_bytes(bytes),
+        Kind::SegWrite => band_bytes(taking_off, bytes),
         Kind::SegOp => band_op(bytes),
         _ => None,
     }
@@ -210,22 +189,10 @@ fn change(kind: Kind, bytes: &[u8]) -> Option<Change<'_>>
 fn changed(kind: Kind, bytes: &[u8]) -> Option<Says<'_>>
     ensures { option_map shown_says result ≡ option_map Changed (read_change write_form kind bytes.now) }
 {
-    let Some(change) = change(kind, bytes) else {
+    let Some(change) = change(false, kind, bytes) else {
         return None;
     };
     Some(Says::Changed(change))
-}
-
-// The change that takes another one off.
-fn held_change(kind: Option<Kind>, bytes: &[u8]) -> Option<Change<'_>>
-    ensures { option_map shown_change result ≡ read_held kind bytes.now }
-{
-    match kind {
-        Some(Kind::Page) => page_change(bytes),
-        Some(Kind::SegWrite) => rewritten_bytes(bytes),
-        Some(Kind::SegOp) => band_op(bytes),
-        _ => None,
-    }
 }
 
 // What takes a change off, and where undoing goes on.
@@ -238,7 +205,10 @@ fn taken_off(bytes: &[u8]) -> Option<Says<'_>>
     let Some((code, rest)) = split_u8(rest) else {
         return None;
     };
-    let Some(change) = held_change(kind_with(code), rest) else {
+    let Some(kind) = kind_with(code) else {
+        return None;
+    };
+    let Some(change) = change(true, kind, rest) else {
         return None;
     };
     Some(Says::PhysComp { undo_next, change })

@@ -48,37 +48,37 @@ const RECORDS: [u8; 569] = [
 ];
 
 // Their numbers.
-const BEGIN: u16 = 0;
+const BEGIN: u32 = 0;
 
-const PAGE: u16 = 1;
+const PAGE: u32 = 1;
 
-const SEG_WRITE: u16 = 2;
+const SEG_WRITE: u32 = 2;
 
-const SEG_OP: u16 = 3;
+const SEG_OP: u32 = 3;
 
-const ZEROS: u16 = 4;
+const ZEROS: u32 = 4;
 
-const TOP_END: u16 = 5;
+const TOP_END: u32 = 5;
 
-const COMP_PAGE: u16 = 6;
+const COMP_PAGE: u32 = 6;
 
-const COMP_WRITE: u16 = 7;
+const COMP_WRITE: u32 = 7;
 
-const COMP_ZEROS: u16 = 8;
+const COMP_ZEROS: u32 = 8;
 
-const TOP_VOID: u16 = 9;
+const TOP_VOID: u32 = 9;
 
-const COMP_END: u16 = 10;
+const COMP_END: u32 = 10;
 
-const SAVE: u16 = 11;
+const SAVE: u32 = 11;
 
-const COMMIT: u16 = 12;
+const COMMIT: u32 = 12;
 
-const END: u16 = 13;
+const END: u32 = 13;
 
-const CHECKPOINT: u16 = 14;
+const CHECKPOINT: u32 = 14;
 
-const LINE: u16 = 15;
+const LINE: u32 = 15;
 
 // Where each of them begins and ends.
 const PLACES: [(usize, usize); 16] = [
@@ -102,13 +102,17 @@ const PLACES: [(usize, usize); 16] = [
 
 // The bytes of one of them.
 fn record(number: usize) -> Option<&'static [u8]> {
-    let (start, end) = *PLACES.get(number)?;
-    RECORDS.get(start..end)
+    let Some((start, end)) = PLACES.get(number) else {
+        return None;
+    };
+    RECORDS.get(*start..*end)
 }
 
 // Reads the record and writes it again, and says how many bytes were written.
 fn written_again(bytes: &[u8], into: &mut [u8]) -> Option<usize> {
-    let (r, length) = decode(bytes).ok()?;
+    let Ok((r, length)) = decode(bytes) else {
+        return None;
+    };
     if length > into.len() || size(&r) != length {
         return None;
     }
@@ -119,9 +123,7 @@ fn written_again(bytes: &[u8], into: &mut [u8]) -> Option<usize> {
 fn comes_back(bytes: &[u8]) -> bool {
     let mut into = [7u8; 64];
     let length = written_again(bytes, &mut into);
-    length == Some(bytes.len())
-        && into.get(..bytes.len()) == Some(bytes)
-        && into.get(bytes.len()) == Some(&7)
+    length == Some(bytes.len()) && into.starts_with(bytes) && into.get(bytes.len()) == Some(&7)
 }
 
 // Which of the records doesn't come back.
@@ -141,7 +143,9 @@ fn each_kind_is_read_and_written(rt: HostRuntime) {
 
 // The numbers of a record, in the order of its fields.
 fn numbers(bytes: &[u8]) -> Option<[u64; 5]> {
-    let (r, _) = decode(bytes).ok()?;
+    let Ok((r, _)) = decode(bytes) else {
+        return None;
+    };
     let txn = r.txn().0;
     let prev = r.prev();
     Some(match &r {
@@ -232,27 +236,38 @@ fn told(fault: Option<RecError>) -> u32 {
 }
 
 // A byte of a record that is changed: where it stands, and what stands there then.
-type Patch = (u8, u8);
+type Patch = (u32, u32);
 
 // One that changes nothing: a zero behind each record.
 const SAME: Patch = (255, 0);
 
-// What is told of the first bytes, so many, of a record with some bytes changed and zeros behind it.
-fn told_of(number: u16, changes: &[Patch], count: u16) -> Option<u32> {
-    let mut bytes = [0u8; 33_000];
-    for (to, from) in bytes.iter_mut().zip(record(usize::from(number))?) {
-        *to = *from;
-    }
+fn patch(bytes: &mut [u8], changes: &[Patch]) {
     for (at, byte) in changes {
-        if let Some(to) = bytes.get_mut(usize::from(*at)) {
-            *to = *byte;
+        if let Some(to) = bytes.get_mut(*at as usize) {
+            *to = (*byte % 256) as u8;
         }
     }
-    Some(told(decode(bytes.get(..usize::from(count))?).err()))
+}
+
+// What is told of the first bytes, so many, of a record with some bytes changed and zeros behind it.
+fn told_of(number: u32, changes: &[Patch], count: u32) -> Option<u32> {
+    let mut bytes = [0u8; 33_000];
+    let Some(record) = record(number as usize) else {
+        return None;
+    };
+    let Some(front) = bytes.get_mut(..record.len()) else {
+        return None;
+    };
+    front.copy_from_slice(record);
+    patch(&mut bytes, changes);
+    let Some(read) = bytes.get(..count as usize) else {
+        return None;
+    };
+    Some(told(decode(read).err()))
 }
 
 // A record, the bytes of it that are changed, how many bytes are read, and what is told of them.
-const HOSTILE: [(u16, [Patch; 2], u16, u32); 37] = [
+const HOSTILE: [(u32, [Patch; 2], u32, u32); 37] = [
     // The order of the faults.
     (BEGIN, [SAME, SAME], 0, SHORT),
     (BEGIN, [SAME, SAME], 20, SHORT),
@@ -301,7 +316,7 @@ const HOSTILE: [(u16, [Patch; 2], u16, u32); 37] = [
 ];
 
 // The same with more bytes changed.
-const LONGER: [(u16, [Patch; 6], u16, u32); 10] = [
+const LONGER: [(u32, [Patch; 6], u32, u32); 10] = [
     // The length of the whole record.
     (
         PAGE,
@@ -396,7 +411,7 @@ fn hostile_records(rt: HostRuntime) {
 
 // A record, how many bytes of it are read, and what is told of them: the plain store has three of the
 // kinds.
-const PLAIN: [(u16, u16, u32); 6] = [
+const PLAIN: [(u32, u32, u32); 6] = [
     (BEGIN, 21, GOOD),
     (COMMIT, 21, GOOD),
     (LINE, 33, GOOD),
@@ -405,9 +420,14 @@ const PLAIN: [(u16, u16, u32); 6] = [
     (COMMIT, 20, SHORT),
 ];
 
-fn plain_told(number: u16, count: u16) -> Option<u32> {
-    let bytes = record(usize::from(number))?;
-    Some(told(plain::decode(bytes.get(..usize::from(count))?).err()))
+fn plain_told(number: u32, count: u32) -> Option<u32> {
+    let Some(record) = record(number as usize) else {
+        return None;
+    };
+    let Some(read) = record.get(..count as usize) else {
+        return None;
+    };
+    Some(told(plain::decode(read).err()))
 }
 
 // Of which record the plain store tells something else.
