@@ -216,33 +216,35 @@ fn fields_are_those_of_the_record(rt: HostRuntime) {
     assert_eq!(rt; first_other(), None);
 }
 
-// What is told of a record's bytes, as a number: nothing, that bytes are lacking, or a kind or a
-// field's offset that is at fault.
+// What is told of a record's bytes: nothing, that bytes are lacking, or a kind or a field's offset
+// that is at fault.
+type Told = (u32, u32);
+
 const GOOD: u32 = 0;
 
 const SHORT: u32 = 1;
 
-const BAD_KIND: u32 = 1_000;
+const BAD_KIND: u32 = 2;
 
-const BAD_FIELD: u32 = 2_000;
+const BAD_FIELD: u32 = 3;
 
-fn told(fault: Option<RecError>) -> u32 {
+fn told(fault: Option<RecError>) -> Told {
     match fault {
-        None => GOOD,
-        Some(RecError::Short) => SHORT,
-        Some(RecError::BadKind(kind)) => BAD_KIND + u32::from(kind),
-        Some(RecError::BadField(at)) => BAD_FIELD.saturating_add(at),
+        None => (GOOD, 0),
+        Some(RecError::Short) => (SHORT, 0),
+        Some(RecError::BadKind(kind)) => (BAD_KIND, u32::from(kind)),
+        Some(RecError::BadField(at)) => (BAD_FIELD, at),
     }
 }
 
 // A byte of a record that is changed: where it stands, and what stands there then.
-type Patch = (u32, u32);
+type Patch = [u32; 2];
 
 // One that changes nothing: a zero behind each record.
-const SAME: Patch = (255, 0);
+const SAME: Patch = [255, 0];
 
 fn patch(bytes: &mut [u8], changes: &[Patch]) {
-    for (at, byte) in changes {
+    for [at, byte] in changes {
         if let Some(to) = bytes.get_mut(*at as usize) {
             *to = (*byte % 256) as u8;
         }
@@ -250,7 +252,7 @@ fn patch(bytes: &mut [u8], changes: &[Patch]) {
 }
 
 // What is told of the first bytes, so many, of a record with some bytes changed and zeros behind it.
-fn told_of(number: u32, changes: &[Patch], count: u32) -> Option<u32> {
+fn told_of(number: u32, changes: &[Patch], count: u32) -> Option<Told> {
     let mut bytes = [0u8; 33_000];
     let Some(record) = record(number as usize) else {
         return None;
@@ -267,127 +269,137 @@ fn told_of(number: u32, changes: &[Patch], count: u32) -> Option<u32> {
 }
 
 // A record, the bytes of it that are changed, how many bytes are read, and what is told of them.
-const HOSTILE: [(u32, [Patch; 2], u32, u32); 37] = [
+const HOSTILE: [(u32, [Patch; 2], u32, u32, u32); 37] = [
     // The order of the faults.
-    (BEGIN, [SAME, SAME], 0, SHORT),
-    (BEGIN, [SAME, SAME], 20, SHORT),
-    (BEGIN, [(0, 0), SAME], 20, SHORT),
-    (BEGIN, [(0, 0), SAME], 21, BAD_KIND + 0),
-    (BEGIN, [(0, 14), SAME], 21, BAD_KIND + 14),
-    (BEGIN, [(0, 255), (1, 99)], 21, BAD_KIND + 255),
-    (BEGIN, [(1, 22), SAME], 21, SHORT),
-    (BEGIN, [(4, 1), SAME], 21, SHORT),
+    (BEGIN, [SAME, SAME], 0, SHORT, 0),
+    (BEGIN, [SAME, SAME], 20, SHORT, 0),
+    (BEGIN, [[0, 0], SAME], 20, SHORT, 0),
+    (BEGIN, [[0, 0], SAME], 21, BAD_KIND, 0),
+    (BEGIN, [[0, 14], SAME], 21, BAD_KIND, 14),
+    (BEGIN, [[0, 255], [1, 99]], 21, BAD_KIND, 255),
+    (BEGIN, [[1, 22], SAME], 21, SHORT, 0),
+    (BEGIN, [[4, 1], SAME], 21, SHORT, 0),
     // The length of the whole record.
-    (BEGIN, [(1, 20), SAME], 21, BAD_FIELD + 1),
-    (BEGIN, [(1, 22), SAME], 22, BAD_FIELD + 1),
-    (BEGIN, [SAME, SAME], 22, GOOD),
-    (PAGE, [(30, 3), SAME], 39, BAD_FIELD + 1),
-    (SEG_WRITE, [(29, 3), SAME], 37, BAD_FIELD + 1),
-    (SEG_OP, [(39, 2), SAME], 50, BAD_FIELD + 1),
-    (TOP_END, [(29, 2), SAME], 32, BAD_FIELD + 1),
-    (CHECKPOINT, [(29, 2), SAME], 47, BAD_FIELD + 1),
-    (COMP_PAGE, [(1, 29), SAME], 44, BAD_FIELD + 1),
+    (BEGIN, [[1, 20], SAME], 21, BAD_FIELD, 1),
+    (BEGIN, [[1, 22], SAME], 22, BAD_FIELD, 1),
+    (BEGIN, [SAME, SAME], 22, GOOD, 0),
+    (PAGE, [[30, 3], SAME], 39, BAD_FIELD, 1),
+    (SEG_WRITE, [[29, 3], SAME], 37, BAD_FIELD, 1),
+    (SEG_OP, [[39, 2], SAME], 50, BAD_FIELD, 1),
+    (TOP_END, [[29, 2], SAME], 32, BAD_FIELD, 1),
+    (CHECKPOINT, [[29, 2], SAME], 47, BAD_FIELD, 1),
+    (COMP_PAGE, [[1, 29], SAME], 44, BAD_FIELD, 1),
     // 16,418 bytes, and 32,768 and 32,769 of words.
-    (LINE, [(1, 0x15), (2, 0x80)], 33_000, GOOD),
-    (LINE, [(1, 0x16), (2, 0x80)], 33_000, BAD_FIELD + 1),
+    (LINE, [[1, 0x15], [2, 0x80]], 33_000, GOOD, 0),
+    (LINE, [[1, 0x16], [2, 0x80]], 33_000, BAD_FIELD, 1),
     // A page's number, the operation and both lengths.
-    (PAGE, [(23, 16), SAME], 39, BAD_FIELD + 21),
-    (PAGE, [(25, 0), SAME], 39, BAD_FIELD + 25),
-    (PAGE, [(25, 2), SAME], 39, BAD_FIELD + 30),
-    (PAGE, [(25, 3), SAME], 39, BAD_FIELD + 32),
+    (PAGE, [[23, 16], SAME], 39, BAD_FIELD, 21),
+    (PAGE, [[25, 0], SAME], 39, BAD_FIELD, 25),
+    (PAGE, [[25, 2], SAME], 39, BAD_FIELD, 30),
+    (PAGE, [[25, 3], SAME], 39, BAD_FIELD, 32),
     // A band, a place and a count.
-    (SEG_WRITE, [(23, 1), SAME], 37, BAD_FIELD + 21),
-    (SEG_WRITE, [(26, 0x80), SAME], 37, BAD_FIELD + 25),
-    (SEG_WRITE, [(25, 0xfe), (26, 0x7f)], 37, GOOD),
-    (SEG_WRITE, [(25, 0xff), (26, 0x7f)], 37, BAD_FIELD + 29),
-    (ZEROS, [(29, 0), SAME], 45, BAD_FIELD + 29),
-    (ZEROS, [(29, 1), (30, 0x20)], 45, BAD_FIELD + 29),
+    (SEG_WRITE, [[23, 1], SAME], 37, BAD_FIELD, 21),
+    (SEG_WRITE, [[26, 0x80], SAME], 37, BAD_FIELD, 25),
+    (SEG_WRITE, [[25, 0xfe], [26, 0x7f]], 37, GOOD, 0),
+    (SEG_WRITE, [[25, 0xff], [26, 0x7f]], 37, BAD_FIELD, 29),
+    (ZEROS, [[29, 0], SAME], 45, BAD_FIELD, 29),
+    (ZEROS, [[29, 1], [30, 0x20]], 45, BAD_FIELD, 29),
     // A position, an argument, and how many bytes stood there.
-    (ZEROS, [(33, 2), SAME], 45, BAD_FIELD + 41),
-    (SEG_OP, [(29, 3), SAME], 50, BAD_FIELD + 42),
+    (ZEROS, [[33, 2], SAME], 45, BAD_FIELD, 41),
+    (SEG_OP, [[29, 3], SAME], 50, BAD_FIELD, 42),
     // What takes a change off.
-    (COMP_PAGE, [(29, 5), SAME], 44, BAD_FIELD + 29),
-    (COMP_PAGE, [(39, 1), (41, 0)], 44, BAD_FIELD + 39),
-    (COMP_ZEROS, [(42, 2), SAME], 54, BAD_FIELD + 42),
+    (COMP_PAGE, [[29, 5], SAME], 44, BAD_FIELD, 29),
+    (COMP_PAGE, [[39, 1], [41, 0]], 44, BAD_FIELD, 39),
+    (COMP_ZEROS, [[42, 2], SAME], 54, BAD_FIELD, 42),
     // A note of 2,401 bytes, marks, and checkpoints.
-    (SAVE, [(21, 17), SAME], 23, BAD_FIELD + 21),
-    (CHECKPOINT, [(5, 1), (13, 1)], 47, BAD_FIELD + 5),
-    (CHECKPOINT, [(13, 1), SAME], 47, BAD_FIELD + 13),
+    (SAVE, [[21, 17], SAME], 23, BAD_FIELD, 21),
+    (CHECKPOINT, [[5, 1], [13, 1]], 47, BAD_FIELD, 5),
+    (CHECKPOINT, [[13, 1], SAME], 47, BAD_FIELD, 13),
 ];
 
 // The same with more bytes changed.
-const LONGER: [(u32, [Patch; 6], u32, u32); 10] = [
+const LONGER: [(u32, [Patch; 6], u32, u32, u32); 10] = [
     // The length of the whole record.
     (
         PAGE,
-        [(1, 33), (21, 255), (24, 255), SAME, SAME, SAME],
+        [[1, 33], [21, 255], [24, 255], SAME, SAME, SAME],
         39,
-        BAD_FIELD + 1,
+        BAD_FIELD,
+        1,
     ),
     // 16,418 bytes, and 32,768 and 32,769 of words.
     (
         PAGE,
-        [(1, 0x22), (2, 0x40), (30, 0), (32, 0), (33, 0x40), SAME],
+        [[1, 0x22], [2, 0x40], [30, 0], [32, 0], [33, 0x40], SAME],
         16_418,
-        BAD_FIELD + 1,
+        BAD_FIELD,
+        1,
     ),
     // A page's number, the operation and both lengths.
     (
         PAGE,
-        [(25, 8), (30, 5), (32, 0), SAME, SAME, SAME],
+        [[25, 8], [30, 5], [32, 0], SAME, SAME, SAME],
         39,
-        BAD_FIELD + 25,
+        BAD_FIELD,
+        25,
     ),
     (
         PAGE,
-        [(25, 6), (30, 0), (32, 5), SAME, SAME, SAME],
+        [[25, 6], [30, 0], [32, 5], SAME, SAME, SAME],
         39,
         GOOD,
+        0,
     ),
     (
         PAGE,
-        [(1, 0x23), (2, 1), (25, 6), (30, 0), (32, 1), (33, 1)],
+        [[1, 0x23], [2, 1], [25, 6], [30, 0], [32, 1], [33, 1]],
         291,
-        BAD_FIELD + 32,
+        BAD_FIELD,
+        32,
     ),
     // A position, an argument, and how many bytes stood there.
     (
         ZEROS,
-        [(35, 0xfc), (36, 0xff), (37, 0xf9), SAME, SAME, SAME],
+        [[35, 0xfc], [36, 0xff], [37, 0xf9], SAME, SAME, SAME],
         45,
         GOOD,
+        0,
     ),
     (
         ZEROS,
-        [(35, 0xfd), (36, 0xff), (37, 0xf9), SAME, SAME, SAME],
+        [[35, 0xfd], [36, 0xff], [37, 0xf9], SAME, SAME, SAME],
         45,
-        BAD_FIELD + 35,
+        BAD_FIELD,
+        35,
     ),
     (
         ZEROS,
-        [(1, 0x2e), (2, 1), (39, 1), (40, 1), SAME, SAME],
+        [[1, 0x2e], [2, 1], [39, 1], [40, 1], SAME, SAME],
         302,
-        BAD_FIELD + 39,
+        BAD_FIELD,
+        39,
     ),
     // A note of 2,401 bytes, marks, and checkpoints.
     (
         TOP_END,
-        [(1, 0x80), (2, 9), (29, 0x61), (30, 9), SAME, SAME],
+        [[1, 0x80], [2, 9], [29, 0x61], [30, 9], SAME, SAME],
         2_432,
-        BAD_FIELD + 29,
+        BAD_FIELD,
+        29,
     ),
     (
         CHECKPOINT,
-        [(1, 0x2f), (2, 4), (29, 65), SAME, SAME, SAME],
+        [[1, 0x2f], [2, 4], [29, 65], SAME, SAME, SAME],
         1_071,
-        BAD_FIELD + 29,
+        BAD_FIELD,
+        29,
     ),
 ];
 
 // Of which record something else is told.
 fn first_told_wrong() -> Option<usize> {
-    for (row, (number, changes, count, want)) in HOSTILE.iter().enumerate() {
-        if told_of(*number, changes, *count) != Some(*want) {
+    for (row, (number, changes, count, fault, what)) in HOSTILE.iter().enumerate() {
+        if told_of(*number, changes, *count) != Some((*fault, *what)) {
             return Some(row);
         }
     }
@@ -395,8 +407,8 @@ fn first_told_wrong() -> Option<usize> {
 }
 
 fn first_longer_told_wrong() -> Option<usize> {
-    for (row, (number, changes, count, want)) in LONGER.iter().enumerate() {
-        if told_of(*number, changes, *count) != Some(*want) {
+    for (row, (number, changes, count, fault, what)) in LONGER.iter().enumerate() {
+        if told_of(*number, changes, *count) != Some((*fault, *what)) {
             return Some(row);
         }
     }
@@ -411,16 +423,16 @@ fn hostile_records(rt: HostRuntime) {
 
 // A record, how many bytes of it are read, and what is told of them: the plain store has three of the
 // kinds.
-const PLAIN: [(u32, u32, u32); 6] = [
-    (BEGIN, 21, GOOD),
-    (COMMIT, 21, GOOD),
-    (LINE, 33, GOOD),
-    (PAGE, 39, BAD_KIND + 2),
-    (CHECKPOINT, 47, BAD_KIND + 12),
-    (COMMIT, 20, SHORT),
+const PLAIN: [(u32, u32, u32, u32); 6] = [
+    (BEGIN, 21, GOOD, 0),
+    (COMMIT, 21, GOOD, 0),
+    (LINE, 33, GOOD, 0),
+    (PAGE, 39, BAD_KIND, 2),
+    (CHECKPOINT, 47, BAD_KIND, 12),
+    (COMMIT, 20, SHORT, 0),
 ];
 
-fn plain_told(number: u32, count: u32) -> Option<u32> {
+fn plain_told(number: u32, count: u32) -> Option<Told> {
     let Some(record) = record(number as usize) else {
         return None;
     };
@@ -432,8 +444,8 @@ fn plain_told(number: u32, count: u32) -> Option<u32> {
 
 // Of which record the plain store tells something else.
 fn first_plain_told_wrong() -> Option<usize> {
-    for (row, (number, count, want)) in PLAIN.iter().enumerate() {
-        if plain_told(*number, *count) != Some(*want) {
+    for (row, (number, count, fault, what)) in PLAIN.iter().enumerate() {
+        if plain_told(*number, *count) != Some((*fault, *what)) {
             return Some(row);
         }
     }
