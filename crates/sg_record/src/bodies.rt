@@ -1,4 +1,6 @@
-// What a record of each kind says, by the bytes behind its header.
+// What a record of each kind says, by the bytes behind its header. Each field is taken by a
+// `let .. else`, since a `?` takes several times as long to prove (docs/ARCHITECTURE.md, "Keeping the
+// gate short").
 ghost use Rattle.std.specs.Prelude.{◌≡◌, if◌then◌else◌, option_map};
 ghost use Rattle.sg_base.specs.Forms.{number, read_all};
 ghost use Rattle.sg_record.specs.Changes.{page_form, band_form, write_form, op_form, read_change};
