@@ -1,6 +1,6 @@
-// What a record of each kind says, by the bytes behind its header. Each field is taken by a
-// `let .. else`, since a `?` takes several times as long to prove (docs/ARCHITECTURE.md, "Keeping the
-// gate short").
+// What a record of each kind says, by the bytes behind its header. The fields are taken
+// by `if let`, since a `?` takes several times as long to prove (docs/ARCHITECTURE.md, "Keeping the gate
+// short").
 ghost use Rattle.std.specs.Prelude.{◌≡◌, if◌then◌else◌, option_map};
 ghost use Rattle.sg_base.specs.Forms.{number, read_all};
 ghost use Rattle.sg_record.specs.Changes.{page_form, band_form, write_form, op_form, read_change};
@@ -18,38 +18,25 @@ use sg_base::{BandNo, Lsn, PageNo, split_text, split_u8, split_u16, split_u32, s
 fn page_change(bytes: &[u8]) -> Option<Change<'_>>
     ensures { option_map shown_change result ≡ option_map Page (read_all page_form bytes.now) }
 {
-    let Some((page, rest)) = split_u32(bytes) else {
-        return None;
-    };
-    let Some((operation, rest)) = split_u8(rest) else {
-        return None;
-    };
-    let Some((slot, rest)) = split_u16(rest) else {
-        return None;
-    };
-    let Some((code, rest)) = split_u16(rest) else {
-        return None;
-    };
-    let Some((before_size, rest)) = split_u16(rest) else {
-        return None;
-    };
-    let Some((after_size, rest)) = split_u16(rest) else {
-        return None;
-    };
-    let Some((before, rest)) = split_text(rest, before_size as usize) else {
-        return None;
-    };
-    let Some((after, [])) = split_text(rest, after_size as usize) else {
-        return None;
-    };
-    Some(Change::Page(PageChange {
-        page: PageNo(page),
-        operation,
-        slot,
-        code,
-        before,
-        after,
-    }))
+    if let Some((page, rest)) = split_u32(bytes)
+        && let Some((operation, rest)) = split_u8(rest)
+        && let Some((slot, rest)) = split_u16(rest)
+        && let Some((code, rest)) = split_u16(rest)
+        && let Some((before_size, rest)) = split_u16(rest)
+        && let Some((after_size, rest)) = split_u16(rest)
+        && let Some((before, rest)) = split_text(rest, before_size as usize)
+        && let Some((after, [])) = split_text(rest, after_size as usize)
+    {
+        return Some(Change::Page(PageChange {
+            page: PageNo(page),
+            operation,
+            slot,
+            code,
+            before,
+            after,
+        }));
+    }
+    None
 }
 
 // A write that takes another change off has no bytes before.
@@ -62,101 +49,73 @@ fn before_size(taking_off: bool, count: u32) -> usize
 fn band_bytes(taking_off: bool, bytes: &[u8]) -> Option<Change<'_>>
     ensures { option_map shown_change result ≡ option_map SegWrite (read_all (band_form taking_off) bytes.now) }
 {
-    let Some((band, rest)) = split_u32(bytes) else {
-        return None;
-    };
-    let Some((at, rest)) = split_u32(rest) else {
-        return None;
-    };
-    let Some((count, rest)) = split_u32(rest) else {
-        return None;
-    };
-    let Some((before, rest)) = split_text(rest, before_size(taking_off, count)) else {
-        return None;
-    };
-    let Some((after, [])) = split_text(rest, count as usize) else {
-        return None;
-    };
-    Some(Change::SegWrite(BandBytes {
-        band: BandNo(band),
-        at,
-        count,
-        before,
-        after,
-    }))
+    if let Some((band, rest)) = split_u32(bytes)
+        && let Some((at, rest)) = split_u32(rest)
+        && let Some((count, rest)) = split_u32(rest)
+        && let Some((before, rest)) = split_text(rest, before_size(taking_off, count))
+        && let Some((after, [])) = split_text(rest, count as usize)
+    {
+        return Some(Change::SegWrite(BandBytes {
+            band: BandNo(band),
+            at,
+            count,
+            before,
+            after,
+        }));
+    }
+    None
 }
 
 fn band_op(bytes: &[u8]) -> Option<Change<'_>>
     ensures { option_map shown_change result ≡ option_map SegOp (read_all op_form bytes.now) }
 {
-    let Some((band, rest)) = split_u32(bytes) else {
-        return None;
-    };
-    let Some((at, rest)) = split_u32(rest) else {
-        return None;
-    };
-    let Some((count, rest)) = split_u32(rest) else {
-        return None;
-    };
-    let Some((code, rest)) = split_u16(rest) else {
-        return None;
-    };
-    let Some((position, rest)) = split_u32(rest) else {
-        return None;
-    };
-    let Some((arg_size, rest)) = split_u16(rest) else {
-        return None;
-    };
-    let Some((arg, rest)) = split_text(rest, arg_size as usize) else {
-        return None;
-    };
-    let Some((before_size, rest)) = split_u32(rest) else {
-        return None;
-    };
-    let Some((before, [])) = split_text(rest, before_size as usize) else {
-        return None;
-    };
-    Some(Change::SegOp(BandOp {
-        band: BandNo(band),
-        at,
-        count,
-        code,
-        position,
-        arg,
-        before,
-    }))
+    if let Some((band, rest)) = split_u32(bytes)
+        && let Some((at, rest)) = split_u32(rest)
+        && let Some((count, rest)) = split_u32(rest)
+        && let Some((code, rest)) = split_u16(rest)
+        && let Some((position, rest)) = split_u32(rest)
+        && let Some((arg_size, rest)) = split_u16(rest)
+        && let Some((arg, rest)) = split_text(rest, arg_size as usize)
+        && let Some((before_size, rest)) = split_u32(rest)
+        && let Some((before, [])) = split_text(rest, before_size as usize)
+    {
+        return Some(Change::SegOp(BandOp {
+            band: BandNo(band),
+            at,
+            count,
+            code,
+            position,
+            arg,
+            before,
+        }));
+    }
+    None
 }
 
 // Where undoing goes on, and a note behind its length.
 fn top_end(bytes: &[u8]) -> Option<Says<'_>>
     ensures { option_map shown_says result ≡ option_map (λ p. TopEnd p.0 p.1) (read_all note_form bytes.now) }
 {
-    let Some((undo_next, rest)) = split_u64(bytes) else {
-        return None;
-    };
-    let Some((size, rest)) = split_u16(rest) else {
-        return None;
-    };
-    let Some((note, [])) = split_text(rest, size as usize) else {
-        return None;
-    };
-    Some(Says::TopEnd { undo_next, note })
+    if let Some((undo_next, rest)) = split_u64(bytes)
+        && let Some((size, rest)) = split_u16(rest)
+        && let Some((note, [])) = split_text(rest, size as usize)
+    {
+        return Some(Says::TopEnd { undo_next, note });
+    }
+    None
 }
 
 // From where on a log is read again, and the live transactions behind their count.
 fn checkpoint(bytes: &[u8]) -> Option<Says<'_>>
     ensures { option_map shown_says result ≡ option_map (λ p. Checkpoint p.0 p.1) (read_all live_form bytes.now) }
 {
-    let Some((estimate, rest)) = split_u64(bytes) else {
-        return None;
-    };
-    let Some((count, rest)) = split_u16(rest) else {
-        return None;
-    };
-    let Some((live, [])) = split_text(rest, 16 * count as usize) else {
-        return None;
-    };
-    Some(Says::Checkpoint { estimate, live })
+    if let Some((estimate, rest)) = split_u64(bytes)
+        && let Some((count, rest)) = split_u16(rest)
+        && let Some((live, [])) = split_text(rest, 16 * count as usize)
+    {
+        return Some(Says::Checkpoint { estimate, live });
+    }
+    None
 }
 
 fn lsn_alone(bytes: &[u8]) -> Option<Lsn>
@@ -201,19 +160,14 @@ fn changed(kind: Kind, bytes: &[u8]) -> Option<Says<'_>>
 fn taken_off(bytes: &[u8]) -> Option<Says<'_>>
     ensures { option_map shown_says result ≡ read_taken_off bytes.now }
 {
-    let Some((undo_next, rest)) = split_u64(bytes) else {
-        return None;
-    };
-    let Some((code, rest)) = split_u8(rest) else {
-        return None;
-    };
-    let Some(kind) = kind_with(code) else {
-        return None;
-    };
-    let Some(change) = change(true, kind, rest) else {
-        return None;
-    };
-    Some(Says::PhysComp { undo_next, change })
+    if let Some((undo_next, rest)) = split_u64(bytes)
+        && let Some((code, rest)) = split_u8(rest)
+        && let Some(kind) = kind_with(code)
+        && let Some(change) = change(true, kind, rest)
+    {
+        return Some(Says::PhysComp { undo_next, change });
+    }
+    None
 }
 
 // What a record without fields says.
