@@ -1,12 +1,12 @@
 -- What a record says is told from its bytes, and back.
-use Rattle.std.proofs.Common.{◌≡◌, ℕ, ◌+◌, ◌*◌, ◌/◌, ◌^◌, ◌<◌, ◌==◌, true, false, List, [], ◌∷◌, ◌++◌, length, Bool, Option, Some, None, cond, option_map, refl, sym, ap, ◌∙◌, subst, arith, append_assoc}
+use Rattle.std.proofs.Common.{◌≡◌, ℕ, ◌*◌, ◌/◌, ◌^◌, ◌<◌, ◌==◌, true, false, List, [], ◌∷◌, ◌++◌, length, Bool, Option, Some, None, cond, option_map, refl, sym, ap, ◌∙◌, subst, arith}
 use Rattle.std.specs.List.{find}
 use Rattle.std.proofs.lemmas.List.{nil_from_length}
 use Rattle.std.proofs.lemmas.Bool.Decides.{nat_tests}
 use Rattle.std.proofs.lemmas.Option.{cond_some, same_Some}
 use Rattle.byteorder.specs.Endian.{little_bytes}
 use Rattle.sg_base.specs.Bytes.{IsBytes}
-use Rattle.sg_base.specs.Forms.{Form, IsExact, number, text, followed, pair, mapped, counted, read_on, read_number, read_all}
+use Rattle.sg_base.specs.Forms.{Form, IsExact, number, text, pair, mapped, counted, read_on, read_number, read_all}
 use Rattle.sg_base.proofs.Forms.{number_exact, text_exact, followed_exact, pair_exact, mapped_exact, counted_exact, two_counted_exact, read_all-back, read_all-only, rest_bytes, was_read}
 use Rattle.sg_record.specs.declared.kind.Kind.{Kind}
 use Rattle.sg_record.specs.declared.kind.Kind.TheVariants as kinds

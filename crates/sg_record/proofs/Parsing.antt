@@ -1,5 +1,5 @@
 -- A record is told from its bytes, and back.
-use Rattle.std.proofs.Common.{◌≡◌, ℕ, ◌+◌, ◌-◌, ◌^◌, ◌<◌, ◌≤◌, ◌==◌, ◌&&◌, true, false, nat_lt, nat_le, List, [], ◌∷◌, ◌++◌, length, take, drop, slice_index, Bool, Option, Some, None, Result, Ok, Err, cond, refl, sym, ap, ◌∙◌, subst, arith, append_assoc, length-append, length-drop}
+use Rattle.std.proofs.Common.{◌≡◌, ℕ, ◌+◌, ◌-◌, ◌^◌, ◌<◌, ◌≤◌, true, false, nat_lt, nat_le, List, [], ◌∷◌, ◌++◌, length, take, drop, slice_index, Bool, Option, Some, None, Result, Ok, Err, cond, refl, sym, ap, ◌∙◌, subst, arith, append_assoc, length-append, length-drop}
 use Rattle.std.proofs.Math.Seq.{take-add, take-append_seam, drop-append_seam}
 use Rattle.std.proofs.lemmas.List.{length-take-le}
 use Rattle.std.proofs.lemmas.List.Elements.{All-drop, All-take}
@@ -11,7 +11,7 @@ use Rattle.sg_base.specs.Elements.{byte_at}
 use Rattle.sg_base.proofs.Forms.{little_bytes-back}
 use Rattle.sg_record.specs.declared.kind.Kind.{Kind}
 use Rattle.sg_record.specs.declared.record.RecError.{RecError}
-use Rattle.sg_record.specs.declared.record.RecError.TheVariants.{Short, BadKind, BadField}
+use Rattle.sg_record.specs.declared.record.RecError.TheVariants.{Short, BadField}
 use Rattle.sg_record.specs.Records.{Record, Says, HEADER, header, kind_of, code_of, body_of, SaysFits, spelled}
 use Rattle.sg_record.specs.Records.Says.{Changed, PhysComp, Line}
 use Rattle.sg_base.specs.Forms.{Form}
@@ -19,7 +19,7 @@ use Rattle.sg_record.specs.Changes.{Change, BandBytes, ChangeFits, write_form, r
 use Rattle.sg_record.specs.Changes.Change.{Page, SegWrite, SegOp}
 use Rattle.sg_record.specs.Ranges.{IsRecord, out_of_range, greatest, first_out, says_fields, ArgsFit, HasArgs}
 use Rattle.sg_record.specs.Reading.{kind_with, read_says, size_at, transaction_at, previous_at, body_at, in_range, parse_says, parse_kind, parse}
-use Rattle.sg_record.proofs.Laws.{kind_only, kind_back, IsSaid, says_only, says_back}
+use Rattle.sg_record.proofs.Laws.{kind_only, kind_back, says_only, says_back}
 
 abbrev pub record_at : List ℕ → Says → Record
 record_at bytes says = record { transaction = transaction_at bytes; previous = previous_at bytes; says = says }

@@ -1,6 +1,5 @@
 -- The plain store's records as a log's.
-use Rattle.std.proofs.Common.{◌≡◌, ℕ, ◌+◌, ◌-◌, ◌≤◌, true, nat_le, cond, List, [], ◌∷◌, ◌++◌, length, take, drop, Option, Some, None, Result, Ok, Err, IfOk, Bool, refl, sym, ap, ◌∙◌, subst, arith, length-append}
-use Rattle.std.proofs.Math.Seq.{drop-append_seam}
+use Rattle.std.proofs.Common.{◌≡◌, ℕ, ◌+◌, ◌≤◌, true, nat_le, cond, List, [], ◌∷◌, ◌++◌, length, take, Option, Some, None, Result, Ok, Err, IfOk, Bool, refl, sym, ap, ◌∙◌, arith, length-append}
 use Rattle.std.proofs.lemmas.Bool.Decides.{nat_tests}
 use Rattle.std.proofs.lemmas.Option.{same_Some}
 use Rattle.std.proofs.lemmas.Result.{IfOk-weaker}
@@ -10,7 +9,7 @@ use Rattle.sg_record.specs.Records.{Says, header, spelled as log_spelled}
 use Rattle.sg_record.specs.Records.Says.{Begin as SaysBegin, Commit as SaysCommit, Line as SaysLine}
 use Rattle.sg_record.specs.Ranges as ranges
 use Rattle.sg_record.specs.Reading.{parse}
-use Rattle.sg_record.specs.Plain.{Record, spelled, spelled_all, IsRecord, AreRecords, kind_of, body_of, transaction_of, previous_of, HEADER, full, plain_with, of_kind, plain_one, plain_read, shown, shown_read, shown_result}
+use Rattle.sg_record.specs.Plain.{Record, spelled, spelled_all, IsRecord, AreRecords, kind_of, body_of, transaction_of, previous_of, HEADER, full, plain_with, of_kind, plain_read, shown, shown_read, shown_result}
 use Rattle.sg_record.specs.Plain.Record.{Begin, Commit, Line}
 use Rattle.sg_record.specs.declared.plain.Rec as code
 use Rattle.sg_record.specs.declared.record.RecError.{RecError}

@@ -1,5 +1,5 @@
 -- The clauses of what was read.
-use Rattle.std.proofs.Common.{◌≡◌, ℕ, ◌++◌, List, length, take, Result, Ok, Err, IfOk, sym, ap, ◌∙◌, arith}
+use Rattle.std.proofs.Common.{◌≡◌, ℕ, ◌++◌, List, length, take, Result, Ok, Err, IfOk, sym, ap, ◌∙◌}
 use Rattle.std.proofs.lemmas.Result.{IfOk-weaker}
 use Rattle.sg_base.specs.Bytes.{IsBytes}
 use Rattle.sg_record.specs.Records.{Record, spelled}

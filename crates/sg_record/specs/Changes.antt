@@ -1,5 +1,5 @@
 -- The changes that a log's records hold, and their bytes.
-use Rattle.std.specs.Prelude.{⊤, ◌≡◌, ℕ, ◌^◌, ◌<◌, List, [], ◌∷◌, ◌++◌, length, Option, Some, None, option_map}
+use Rattle.std.specs.Prelude.{Bool, true, false, if◌then◌else◌, ⊤, ℕ, List, Option, None, option_map}
 use Rattle.sg_base.specs.Forms.{Form, number, text, followed, pair, mapped, counted, two_counted, read_all}
 use Rattle.sg_record.specs.declared.kind.Kind.{Kind}
 use Rattle.sg_record.specs.declared.kind.Kind.TheVariants as kinds
@@ -60,13 +60,17 @@ bytes_made p = record { band = p.0.0; at = p.0.1.0; count = p.0.1.1; before = p.
 abbrev pub bytes_parts : BandBytes → (ℕ × (ℕ × ℕ)) × (List ℕ × List ℕ)
 bytes_parts c = ((c.band, (c.at, c.count)), (c.before, c.after))
 
+-- as many bytes before as the count says, or none where the change takes another one off, and as many after as the count says
+abbrev pub band_form : (taking_off : Bool) → Form BandBytes
+band_form taking_off = mapped bytes_made bytes_parts (bytes_layout (λ count. if taking_off then 0 else count) (λ count. count))
+
 -- as many bytes before and after as the count says
 abbrev pub write_form : Form BandBytes
-write_form = mapped bytes_made bytes_parts (bytes_layout (λ count. count) (λ count. count))
+write_form = band_form false
 
 -- none before, and after as many as the count says
 abbrev pub rewrite_form : Form BandBytes
-rewrite_form = mapped bytes_made bytes_parts (bytes_layout (λ count. 0) (λ count. count))
+rewrite_form = band_form true
 
 -- a band's number, a place and a count, a code and a position, and two texts, each behind its length
 abbrev pub op_layout : Form (ℕ × (ℕ × (ℕ × (ℕ × (ℕ × (List ℕ × List ℕ))))))

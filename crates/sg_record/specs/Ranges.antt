@@ -1,5 +1,5 @@
 -- The ranges of a record's fields.
-use Rattle.std.specs.Prelude.{⊤, ◌≡◌, ℕ, ◌+◌, ◌^◌, ◌<◌, ◌==◌, ◌&&◌, ◌||◌, not, nat_lt, nat_le, Bool, true, false, if◌then◌else◌, List, [], ◌∷◌, ◌++◌, length, Option, Some, None}
+use Rattle.std.specs.Prelude.{⊤, ◌≡◌, ℕ, ◌+◌, ◌^◌, ◌<◌, ◌==◌, ◌&&◌, ◌||◌, not, nat_lt, nat_le, Bool, true, false, if◌then◌else◌, List, [], ◌∷◌, length, Option, Some, None}
 use Rattle.sg_base.specs.declared.page.TheConstants.{BAND_SIZE}
 use Rattle.sg_record.specs.Changes.{Change, PageChange, BandBytes, BandOp}
 use Rattle.sg_record.specs.Changes.Change.{Page, SegWrite, SegOp}

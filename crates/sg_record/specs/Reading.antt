@@ -2,7 +2,7 @@
 use Rattle.std.specs.Prelude.{ℕ, ◌-◌, ◌==◌, ◌||◌, ◌&&◌, nat_lt, not, if◌then◌else◌, List, [], ◌∷◌, length, take, drop, slice_index, Option, Some, None, option_map, Result, Ok, Err}
 use Rattle.std.specs.List.{find}
 use Rattle.byteorder.specs.Endian.{little_number}
-use Rattle.sg_base.specs.Forms.{number, text, read_on, read_number, read_all}
+use Rattle.sg_base.specs.Forms.{number, read_on, read_number, read_all}
 use Rattle.sg_record.specs.declared.kind.Kind.{Kind}
 use Rattle.sg_record.specs.declared.kind.Kind.TheVariants as kinds
 use Rattle.sg_record.specs.Changes.{Change, write_form, rewrite_form, read_change}

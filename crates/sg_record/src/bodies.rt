@@ -1,178 +1,173 @@
-// What a record of each kind says, by the bytes behind its header.
-ghost use Rattle.std.specs.Prelude.{◌≡◌, option_map};
+// What a record of each kind says, by the bytes behind its header. The fields are taken
+// by `if let`, since a `?` takes several times as long to prove (docs/ARCHITECTURE.md, "Keeping the gate
+// short").
+ghost use Rattle.std.specs.Prelude.{◌≡◌, if◌then◌else◌, option_map};
 ghost use Rattle.sg_base.specs.Forms.{number, read_all};
-ghost use Rattle.sg_record.specs.Changes.{page_form, write_form, rewrite_form, op_form, read_change};
+ghost use Rattle.sg_record.specs.Changes.{page_form, band_form, write_form, op_form, read_change};
+ghost use Rattle.sg_record.specs.Changes.Change.{Page, SegWrite, SegOp};
 ghost use Rattle.sg_record.specs.Records.{note_form, live_form};
-ghost use Rattle.sg_record.specs.Reading.{read_held, read_taken_off, read_bare, read_says};
-ghost use Rattle.sg_record.specs.Shown.{shown_page, shown_bytes, shown_op, shown_change, shown_says};
+ghost use Rattle.sg_record.specs.Records.Says.{Changed, TopEnd, Checkpoint};
+ghost use Rattle.sg_record.specs.Reading.{read_taken_off, read_bare, read_says};
+ghost use Rattle.sg_record.specs.Shown.{shown_change, shown_says};
 
 use crate::kind::{Kind, kind_with};
 use crate::says::Says;
 use crate::{BandBytes, BandOp, Change, PageChange};
 use sg_base::{BandNo, Lsn, PageNo, split_text, split_u8, split_u16, split_u32, split_u64};
 
-fn page_change(bytes: &[u8]) -> Option<PageChange<'_>>
-    ensures { option_map shown_page result ≡ read_all page_form bytes.now }
+fn page_change(bytes: &[u8]) -> Option<Change<'_>>
+    ensures { option_map shown_change result ≡ option_map Page (read_all page_form bytes.now) }
 {
-    let (page, rest) = split_u32(bytes)?;
-    let (operation, rest) = split_u8(rest)?;
-    let (slot, rest) = split_u16(rest)?;
-    let (code, rest) = split_u16(rest)?;
-    let (before_size, rest) = split_u16(rest)?;
-    let (after_size, rest) = split_u16(rest)?;
-    let (before, rest) = split_text(rest, before_size as usize)?;
-    let (after, rest) = split_text(rest, after_size as usize)?;
-    if !rest.is_empty() {
-        return None;
+    if let Some((page, rest)) = split_u32(bytes)
+        && let Some((operation, rest)) = split_u8(rest)
+        && let Some((slot, rest)) = split_u16(rest)
+        && let Some((code, rest)) = split_u16(rest)
+        && let Some((before_size, rest)) = split_u16(rest)
+        && let Some((after_size, rest)) = split_u16(rest)
+        && let Some((before, rest)) = split_text(rest, before_size as usize)
+        && let Some((after, [])) = split_text(rest, after_size as usize)
+    {
+        return Some(Change::Page(PageChange {
+            page: PageNo(page),
+            operation,
+            slot,
+            code,
+            before,
+            after,
+        }));
     }
-    Some(PageChange {
-        page: PageNo(page),
-        operation,
-        slot,
-        code,
-        before,
-        after,
-    })
-}
-
-fn band_bytes(bytes: &[u8]) -> Option<BandBytes<'_>>
-    ensures { option_map shown_bytes result ≡ read_all write_form bytes.now }
-{
-    let (band, rest) = split_u32(bytes)?;
-    let (at, rest) = split_u32(rest)?;
-    let (count, rest) = split_u32(rest)?;
-    let (before, rest) = split_text(rest, count as usize)?;
-    let (after, rest) = split_text(rest, count as usize)?;
-    if !rest.is_empty() {
-        return None;
-    }
-    Some(BandBytes {
-        band: BandNo(band),
-        at,
-        count,
-        before,
-        after,
-    })
-}
-
-fn band_op(bytes: &[u8]) -> Option<BandOp<'_>>
-    ensures { option_map shown_op result ≡ read_all op_form bytes.now }
-{
-    let (band, rest) = split_u32(bytes)?;
-    let (at, rest) = split_u32(rest)?;
-    let (count, rest) = split_u32(rest)?;
-    let (code, rest) = split_u16(rest)?;
-    let (position, rest) = split_u32(rest)?;
-    let (arg_size, rest) = split_u16(rest)?;
-    let (arg, rest) = split_text(rest, arg_size as usize)?;
-    let (before_size, rest) = split_u32(rest)?;
-    let (before, rest) = split_text(rest, before_size as usize)?;
-    if !rest.is_empty() {
-        return None;
-    }
-    Some(BandOp {
-        band: BandNo(band),
-        at,
-        count,
-        code,
-        position,
-        arg,
-        before,
-    })
+    None
 }
 
 // A write that takes another change off has no bytes before.
-fn rewritten_bytes(bytes: &[u8]) -> Option<BandBytes<'_>>
-    ensures { option_map shown_bytes result ≡ read_all rewrite_form bytes.now }
+fn before_size(taking_off: bool, count: u32) -> usize
+    ensures { result ≡ if taking_off then 0 else count }
 {
-    let (band, rest) = split_u32(bytes)?;
-    let (at, rest) = split_u32(rest)?;
-    let (count, rest) = split_u32(rest)?;
-    let (before, rest) = split_text(rest, 0)?;
-    let (after, rest) = split_text(rest, count as usize)?;
-    if !rest.is_empty() {
-        return None;
-    }
-    Some(BandBytes {
-        band: BandNo(band),
-        at,
-        count,
-        before,
-        after,
-    })
+    if taking_off { 0 } else { count as usize }
 }
 
-// A number of the log and a text behind its length.
-fn number_and_note(bytes: &[u8]) -> Option<(Lsn, &[u8])>
-    ensures { option_map (λ p. (p.0, p.1.now)) result ≡ read_all note_form bytes.now }
+fn band_bytes(taking_off: bool, bytes: &[u8]) -> Option<Change<'_>>
+    ensures { option_map shown_change result ≡ option_map SegWrite (read_all (band_form taking_off) bytes.now) }
 {
-    let (lsn, rest) = split_u64(bytes)?;
-    let (size, rest) = split_u16(rest)?;
-    let (note, rest) = split_text(rest, size as usize)?;
-    if !rest.is_empty() {
-        return None;
+    if let Some((band, rest)) = split_u32(bytes)
+        && let Some((at, rest)) = split_u32(rest)
+        && let Some((count, rest)) = split_u32(rest)
+        && let Some((before, rest)) = split_text(rest, before_size(taking_off, count))
+        && let Some((after, [])) = split_text(rest, count as usize)
+    {
+        return Some(Change::SegWrite(BandBytes {
+            band: BandNo(band),
+            at,
+            count,
+            before,
+            after,
+        }));
     }
-    Some((lsn, note))
+    None
 }
 
-// A number of the log and live transactions behind their count.
-fn number_and_live(bytes: &[u8]) -> Option<(Lsn, &[u8])>
-    ensures { option_map (λ p. (p.0, p.1.now)) result ≡ read_all live_form bytes.now }
+fn band_op(bytes: &[u8]) -> Option<Change<'_>>
+    ensures { option_map shown_change result ≡ option_map SegOp (read_all op_form bytes.now) }
 {
-    let (lsn, rest) = split_u64(bytes)?;
-    let (count, rest) = split_u16(rest)?;
-    let (live, rest) = split_text(rest, 16 * count as usize)?;
-    if !rest.is_empty() {
-        return None;
+    if let Some((band, rest)) = split_u32(bytes)
+        && let Some((at, rest)) = split_u32(rest)
+        && let Some((count, rest)) = split_u32(rest)
+        && let Some((code, rest)) = split_u16(rest)
+        && let Some((position, rest)) = split_u32(rest)
+        && let Some((arg_size, rest)) = split_u16(rest)
+        && let Some((arg, rest)) = split_text(rest, arg_size as usize)
+        && let Some((before_size, rest)) = split_u32(rest)
+        && let Some((before, [])) = split_text(rest, before_size as usize)
+    {
+        return Some(Change::SegOp(BandOp {
+            band: BandNo(band),
+            at,
+            count,
+            code,
+            position,
+            arg,
+            before,
+        }));
     }
-    Some((lsn, live))
+    None
+}
+
+// Where undoing goes on, and a note behind its length.
+fn top_end(bytes: &[u8]) -> Option<Says<'_>>
+    ensures { option_map shown_says result ≡ option_map (λ p. TopEnd p.0 p.1) (read_all note_form bytes.now) }
+{
+    if let Some((undo_next, rest)) = split_u64(bytes)
+        && let Some((size, rest)) = split_u16(rest)
+        && let Some((note, [])) = split_text(rest, size as usize)
+    {
+        return Some(Says::TopEnd { undo_next, note });
+    }
+    None
+}
+
+// From where on a log is read again, and the live transactions behind their count.
+fn checkpoint(bytes: &[u8]) -> Option<Says<'_>>
+    ensures { option_map shown_says result ≡ option_map (λ p. Checkpoint p.0 p.1) (read_all live_form bytes.now) }
+{
+    if let Some((estimate, rest)) = split_u64(bytes)
+        && let Some((count, rest)) = split_u16(rest)
+        && let Some((live, [])) = split_text(rest, 16 * count as usize)
+    {
+        return Some(Says::Checkpoint { estimate, live });
+    }
+    None
 }
 
 fn lsn_alone(bytes: &[u8]) -> Option<Lsn>
     ensures { result ≡ read_all (number 8) bytes.now }
 {
-    let (lsn, rest) = split_u64(bytes)?;
-    if rest.is_empty() { Some(lsn) } else { None }
+    let Some((lsn, [])) = split_u64(bytes) else {
+        return None;
+    };
+    Some(lsn)
 }
 
 fn mark_alone(bytes: &[u8]) -> Option<u16>
     ensures { result ≡ read_all (number 2) bytes.now }
 {
-    let (mark, rest) = split_u16(bytes)?;
-    if rest.is_empty() { Some(mark) } else { None }
+    let Some((mark, [])) = split_u16(bytes) else {
+        return None;
+    };
+    Some(mark)
 }
 
-fn change(kind: Kind, bytes: &[u8]) -> Option<Change<'_>>
-    ensures { option_map shown_change result ≡ read_change write_form kind bytes.now }
+fn change(taking_off: bool, kind: Kind, bytes: &[u8]) -> Option<Change<'_>>
+    ensures { option_map shown_change result ≡ read_change (band_form taking_off) kind bytes.now }
 {
     match kind {
-        Kind::Page => Some(Change::Page(page_change(bytes)?)),
-        Kind::SegWrite => Some(Change::SegWrite(band_bytes(bytes)?)),
-        Kind::SegOp => Some(Change::SegOp(band_op(bytes)?)),
+        Kind::Page => page_change(bytes),
+        Kind::SegWrite => band_bytes(taking_off, bytes),
+        Kind::SegOp => band_op(bytes),
         _ => None,
     }
 }
 
-// The change that takes another one off.
-fn held_change(kind: Option<Kind>, bytes: &[u8]) -> Option<Change<'_>>
-    ensures { option_map shown_change result ≡ read_held kind bytes.now }
+fn changed(kind: Kind, bytes: &[u8]) -> Option<Says<'_>>
+    ensures { option_map shown_says result ≡ option_map Changed (read_change write_form kind bytes.now) }
 {
-    match kind {
-        Some(Kind::Page) => Some(Change::Page(page_change(bytes)?)),
-        Some(Kind::SegWrite) => Some(Change::SegWrite(rewritten_bytes(bytes)?)),
-        Some(Kind::SegOp) => Some(Change::SegOp(band_op(bytes)?)),
-        _ => None,
-    }
+    let Some(change) = change(false, kind, bytes) else {
+        return None;
+    };
+    Some(Says::Changed(change))
 }
 
 // What takes a change off, and where undoing goes on.
 fn taken_off(bytes: &[u8]) -> Option<Says<'_>>
     ensures { option_map shown_says result ≡ read_taken_off bytes.now }
 {
-    let (undo_next, rest) = split_u64(bytes)?;
-    let (code, rest) = split_u8(rest)?;
-    let change = held_change(kind_with(code), rest)?;
-    Some(Says::PhysComp { undo_next, change })
+    if let Some((undo_next, rest)) = split_u64(bytes)
+        && let Some((code, rest)) = split_u8(rest)
+        && let Some(kind) = kind_with(code)
+        && let Some(change) = change(true, kind, rest)
+    {
+        return Some(Says::PhysComp { undo_next, change });
+    }
+    None
 }
 
 // What a record without fields says.
@@ -189,27 +184,30 @@ pub fn says(kind: Kind, bytes: &[u8]) -> Option<Says<'_>>
 {
     match kind {
         Kind::Begin => bare(Says::Begin, bytes),
-        Kind::Page | Kind::SegWrite | Kind::SegOp => Some(Says::Changed(change(kind, bytes)?)),
-        Kind::TopEnd => {
-            let (undo_next, note) = number_and_note(bytes)?;
-            Some(Says::TopEnd { undo_next, note })
-        }
+        Kind::Page | Kind::SegWrite | Kind::SegOp => changed(kind, bytes),
+        Kind::TopEnd => top_end(bytes),
         Kind::PhysComp => taken_off(bytes),
-        Kind::TopVoid => Some(Says::TopVoid {
-            undo_next: lsn_alone(bytes)?,
-        }),
-        Kind::CompEnd => Some(Says::CompEnd {
-            undo_next: lsn_alone(bytes)?,
-        }),
-        Kind::Save => Some(Says::Save {
-            mark: mark_alone(bytes)?,
-        }),
+        Kind::TopVoid => {
+            let Some(undo_next) = lsn_alone(bytes) else {
+                return None;
+            };
+            Some(Says::TopVoid { undo_next })
+        }
+        Kind::CompEnd => {
+            let Some(undo_next) = lsn_alone(bytes) else {
+                return None;
+            };
+            Some(Says::CompEnd { undo_next })
+        }
+        Kind::Save => {
+            let Some(mark) = mark_alone(bytes) else {
+                return None;
+            };
+            Some(Says::Save { mark })
+        }
         Kind::Commit => bare(Says::Commit, bytes),
         Kind::End => bare(Says::End, bytes),
-        Kind::Checkpoint => {
-            let (estimate, live) = number_and_live(bytes)?;
-            Some(Says::Checkpoint { estimate, live })
-        }
+        Kind::Checkpoint => checkpoint(bytes),
         Kind::Line => Some(Says::Line { words: bytes }),
     }
 }

@@ -3,7 +3,7 @@ ghost use Rattle.sg_record.specs.Records.{code_of};
 ghost use Rattle.sg_record.specs.Reading.{kind_with};
 
 /// The kinds of records.
-#[derive(Clone, Copy, Debug, PartialEq, Eq)]
+#[derive(Clone, Copy)]
 pub enum Kind {
     Begin,
     Page,

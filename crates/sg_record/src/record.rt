@@ -183,46 +183,40 @@ impl<'a> Rec<'a> {
     ghost use Rattle.sg_record.specs.Records.{code_of, kind_of};
     ghost use Rattle.sg_record.specs.Shown.{shown, shown_says};
 
+    // Whose it is, and that transaction's record before it. A checkpoint is nobody's.
+    fn owner(&self) -> (TxnId, Lsn)
+        ensures transaction { result.0.0 ≡ (shown self.now).transaction }
+        ensures previous { result.1 ≡ (shown self.now).previous }
+    {
+        match *self {
+            Rec::Begin { txn, prev }
+            | Rec::Page { txn, prev, .. }
+            | Rec::SegWrite { txn, prev, .. }
+            | Rec::SegOp { txn, prev, .. }
+            | Rec::TopEnd { txn, prev, .. }
+            | Rec::PhysComp { txn, prev, .. }
+            | Rec::TopVoid { txn, prev, .. }
+            | Rec::CompEnd { txn, prev, .. }
+            | Rec::Save { txn, prev, .. }
+            | Rec::Commit { txn, prev }
+            | Rec::End { txn, prev }
+            | Rec::Line { txn, prev, .. } => (txn, prev),
+            Rec::Checkpoint { .. } => (TxnId(0), 0),
+        }
+    }
+
     /// The transaction, which for a checkpoint is 0.
     pub fn txn(&self) -> TxnId
         ensures { result.0 ≡ (shown self.now).transaction }
     {
-        match *self {
-            Rec::Begin { txn, .. }
-            | Rec::Page { txn, .. }
-            | Rec::SegWrite { txn, .. }
-            | Rec::SegOp { txn, .. }
-            | Rec::TopEnd { txn, .. }
-            | Rec::PhysComp { txn, .. }
-            | Rec::TopVoid { txn, .. }
-            | Rec::CompEnd { txn, .. }
-            | Rec::Save { txn, .. }
-            | Rec::Commit { txn, .. }
-            | Rec::End { txn, .. }
-            | Rec::Line { txn, .. } => txn,
-            Rec::Checkpoint { .. } => TxnId(0),
-        }
+        self.owner().0
     }
 
     /// The transaction's record before it, 0 for its first and for a checkpoint.
     pub fn prev(&self) -> Lsn
         ensures { result ≡ (shown self.now).previous }
     {
-        match *self {
-            Rec::Begin { prev, .. }
-            | Rec::Page { prev, .. }
-            | Rec::SegWrite { prev, .. }
-            | Rec::SegOp { prev, .. }
-            | Rec::TopEnd { prev, .. }
-            | Rec::PhysComp { prev, .. }
-            | Rec::TopVoid { prev, .. }
-            | Rec::CompEnd { prev, .. }
-            | Rec::Save { prev, .. }
-            | Rec::Commit { prev, .. }
-            | Rec::End { prev, .. }
-            | Rec::Line { prev, .. } => prev,
-            Rec::Checkpoint { .. } => 0,
-        }
+        self.owner().1
     }
 
     // The byte of its kind.

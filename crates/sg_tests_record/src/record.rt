@@ -1,104 +1,118 @@
 use sg_base::TxnId;
 use sg_record::{Rec, RecError, decode, encode, plain, size};
-use std::test::Fail;
 
-// One record of each kind, as bytes.
-const BEGIN: [u8; 21] = [
+// One record of each kind, one behind another.
+const RECORDS: [u8; 569] = [
+    // A transaction begins.
     1, 21, 0, 0, 0, 5, 0, 0, 0, 0, 0, 0, 0, 0, 0, 0, 0, 0, 0, 0, 0,
-];
-// Slot 2 of page 7 is set from `ab` to `xyz`.
-const PAGE: [u8; 39] = [
+    // Slot 2 of page 7 is set from `ab` to `xyz`.
     2, 39, 0, 0, 0, 5, 0, 0, 0, 0, 0, 0, 0, 26, 0, 0, 0, 0, 0, 0, 0, 7, 0, 0, 0, 4, 2, 0, 0, 0, 2,
     0, 3, 0, b'a', b'b', b'x', b'y', b'z',
-];
-// Bytes 100 and 101 of band 3.
-const SEG_WRITE: [u8; 37] = [
+    // Bytes 100 and 101 of band 3.
     3, 37, 0, 0, 0, 5, 0, 0, 0, 0, 0, 0, 0, 26, 0, 0, 0, 0, 0, 0, 0, 3, 0, 0, 0, 100, 0, 0, 0, 2,
     0, 0, 0, 1, 2, 3, 4,
-];
-// Operation 2 with the argument 9 at position 8, on 4 bytes of band 3.
-const SEG_OP: [u8; 50] = [
+    // Operation 2 with the argument 9 at position 8, on 4 bytes of band 3.
     4, 50, 0, 0, 0, 5, 0, 0, 0, 0, 0, 0, 0, 26, 0, 0, 0, 0, 0, 0, 0, 3, 0, 0, 0, 0, 1, 0, 0, 4, 0,
     0, 0, 2, 0, 8, 0, 0, 0, 1, 0, 9, 4, 0, 0, 0, 1, 2, 3, 4,
-];
-// Zeros in 4 bytes of band 3.
-const ZEROS: [u8; 45] = [
+    // Zeros in 4 bytes of band 3.
     4, 45, 0, 0, 0, 5, 0, 0, 0, 0, 0, 0, 0, 26, 0, 0, 0, 0, 0, 0, 0, 3, 0, 0, 0, 0, 1, 0, 0, 4, 0,
     0, 0, 1, 0, 8, 0, 0, 0, 0, 0, 0, 0, 0, 0,
-];
-
-const TOP_END: [u8; 32] = [
+    // An action with a note of one byte.
     5, 32, 0, 0, 0, 5, 0, 0, 0, 0, 0, 0, 0, 26, 0, 0, 0, 0, 0, 0, 0, 5, 0, 0, 0, 0, 0, 0, 0, 1, 0,
     7,
-];
-// Slot 2 of page 7 is set back to one byte.
-const COMP_PAGE: [u8; 44] = [
+    // Slot 2 of page 7 is set back to one byte.
     6, 44, 0, 0, 0, 5, 0, 0, 0, 0, 0, 0, 0, 26, 0, 0, 0, 0, 0, 0, 0, 5, 0, 0, 0, 0, 0, 0, 0, 2, 7,
     0, 0, 0, 4, 2, 0, 0, 0, 0, 0, 1, 0, b'x',
-];
-
-const COMP_WRITE: [u8; 44] = [
+    // Bytes 100 and 101 of band 3, set back.
     6, 44, 0, 0, 0, 5, 0, 0, 0, 0, 0, 0, 0, 26, 0, 0, 0, 0, 0, 0, 0, 5, 0, 0, 0, 0, 0, 0, 0, 3, 3,
     0, 0, 0, 100, 0, 0, 0, 2, 0, 0, 0, 1, 2,
-];
-
-const COMP_ZEROS: [u8; 54] = [
+    // Zeros in 4 bytes of band 3, where a change is taken off.
     6, 54, 0, 0, 0, 5, 0, 0, 0, 0, 0, 0, 0, 26, 0, 0, 0, 0, 0, 0, 0, 5, 0, 0, 0, 0, 0, 0, 0, 4, 3,
     0, 0, 0, 0, 1, 0, 0, 4, 0, 0, 0, 1, 0, 8, 0, 0, 0, 0, 0, 0, 0, 0, 0,
-];
-
-const TOP_VOID: [u8; 29] = [
+    // No change of an action is left.
     7, 29, 0, 0, 0, 5, 0, 0, 0, 0, 0, 0, 0, 26, 0, 0, 0, 0, 0, 0, 0, 5, 0, 0, 0, 0, 0, 0, 0,
-];
-
-const COMP_END: [u8; 29] = [
+    // An action was undone.
     8, 29, 0, 0, 0, 5, 0, 0, 0, 0, 0, 0, 0, 26, 0, 0, 0, 0, 0, 0, 0, 5, 0, 0, 0, 0, 0, 0, 0,
-];
-
-const SAVE: [u8; 23] = [
+    // Mark 16.
     9, 23, 0, 0, 0, 5, 0, 0, 0, 0, 0, 0, 0, 26, 0, 0, 0, 0, 0, 0, 0, 16, 0,
-];
-
-const COMMIT: [u8; 21] = [
+    // A transaction is committed.
     10, 21, 0, 0, 0, 5, 0, 0, 0, 0, 0, 0, 0, 47, 0, 0, 0, 0, 0, 0, 0,
-];
-
-const END: [u8; 21] = [
+    // It has ended.
     11, 21, 0, 0, 0, 5, 0, 0, 0, 0, 0, 0, 0, 68, 0, 0, 0, 0, 0, 0, 0,
-];
-// Transaction 5 is live, and its last record is 26.
-const CHECKPOINT: [u8; 47] = [
+    // Transaction 5 is live, and its last record is 26.
     12, 47, 0, 0, 0, 0, 0, 0, 0, 0, 0, 0, 0, 0, 0, 0, 0, 0, 0, 0, 0, 5, 0, 0, 0, 0, 0, 0, 0, 1, 0,
     5, 0, 0, 0, 0, 0, 0, 0, 26, 0, 0, 0, 0, 0, 0, 0,
-];
-
-const LINE: [u8; 33] = [
+    // The words `push a xyzzy`.
     13, 33, 0, 0, 0, 8, 7, 6, 5, 4, 3, 2, 1, 0, 1, 0, 0, 0, 0, 0, 0, b'p', b'u', b's', b'h', b' ',
     b'a', b' ', b'x', b'y', b'z', b'z', b'y',
 ];
 
-const KINDS: [&[u8]; 16] = [
-    &BEGIN,
-    &PAGE,
-    &SEG_WRITE,
-    &SEG_OP,
-    &ZEROS,
-    &TOP_END,
-    &COMP_PAGE,
-    &COMP_WRITE,
-    &COMP_ZEROS,
-    &TOP_VOID,
-    &COMP_END,
-    &SAVE,
-    &COMMIT,
-    &END,
-    &CHECKPOINT,
-    &LINE,
+// Their numbers.
+const BEGIN: u32 = 0;
+
+const PAGE: u32 = 1;
+
+const SEG_WRITE: u32 = 2;
+
+const SEG_OP: u32 = 3;
+
+const ZEROS: u32 = 4;
+
+const TOP_END: u32 = 5;
+
+const COMP_PAGE: u32 = 6;
+
+const COMP_WRITE: u32 = 7;
+
+const COMP_ZEROS: u32 = 8;
+
+const TOP_VOID: u32 = 9;
+
+const COMP_END: u32 = 10;
+
+const SAVE: u32 = 11;
+
+const COMMIT: u32 = 12;
+
+const END: u32 = 13;
+
+const CHECKPOINT: u32 = 14;
+
+const LINE: u32 = 15;
+
+// Where each of them begins and ends.
+const PLACES: [(usize, usize); 16] = [
+    (0, 21),
+    (21, 60),
+    (60, 97),
+    (97, 147),
+    (147, 192),
+    (192, 224),
+    (224, 268),
+    (268, 312),
+    (312, 366),
+    (366, 395),
+    (395, 424),
+    (424, 447),
+    (447, 468),
+    (468, 489),
+    (489, 536),
+    (536, 569),
 ];
+
+// The bytes of one of them.
+fn record(number: usize) -> Option<&'static [u8]> {
+    let Some((start, end)) = PLACES.get(number) else {
+        return None;
+    };
+    RECORDS.get(*start..*end)
+}
 
 // Reads the record and writes it again, and says how many bytes were written.
 fn written_again(bytes: &[u8], into: &mut [u8]) -> Option<usize> {
-    let (r, length) = decode(bytes).ok()?;
+    let Ok((r, length)) = decode(bytes) else {
+        return None;
+    };
     if length > into.len() || size(&r) != length {
         return None;
     }
@@ -109,16 +123,14 @@ fn written_again(bytes: &[u8], into: &mut [u8]) -> Option<usize> {
 fn comes_back(bytes: &[u8]) -> bool {
     let mut into = [7u8; 64];
     let length = written_again(bytes, &mut into);
-    length == Some(bytes.len())
-        && into.get(..bytes.len()) == Some(bytes)
-        && into.get(bytes.len()) == Some(&7)
+    length == Some(bytes.len()) && into.starts_with(bytes) && into.get(bytes.len()) == Some(&7)
 }
 
-// Which of the kinds doesn't come back.
+// Which of the records doesn't come back.
 fn first_lost() -> Option<usize> {
-    for (row, bytes) in KINDS.iter().enumerate() {
-        if !comes_back(bytes) {
-            return Some(row);
+    for number in 0..PLACES.len() {
+        if !record(number).is_some_and(comes_back) {
+            return Some(number);
         }
     }
     None
@@ -131,9 +143,12 @@ fn each_kind_is_read_and_written(rt: HostRuntime) {
 
 // The numbers of a record, in the order of its fields.
 fn numbers(bytes: &[u8]) -> Option<[u64; 5]> {
-    let (r, _) = decode(bytes).ok()?;
+    let Ok((r, _)) = decode(bytes) else {
+        return None;
+    };
     let txn = r.txn().0;
-    Some(match r {
+    let prev = r.prev();
+    Some(match &r {
         Rec::Page { change, .. } => [
             txn,
             u64::from(change.page.0),
@@ -159,28 +174,38 @@ fn numbers(bytes: &[u8]) -> Option<[u64; 5]> {
             undo_next,
             note,
             ..
-        } => [txn, r.prev(), undo_next, note.len() as u64, 0],
-        Rec::Save { mark, .. } => [txn, r.prev(), u64::from(mark), 0, 0],
-        Rec::Checkpoint { estimate, live } => [txn, r.prev(), estimate, live.len() as u64, 0],
-        _ => [txn, r.prev(), 0, 0, 0],
+        } => [txn, prev, *undo_next, note.len() as u64, 0],
+        Rec::Save { mark, .. } => [txn, prev, u64::from(*mark), 0, 0],
+        Rec::Checkpoint { estimate, live } => [txn, prev, *estimate, live.len() as u64, 0],
+        _ => [txn, prev, 0, 0, 0],
     })
 }
 
-const FIELDS: [(&[u8], [u64; 5]); 7] = [
-    (&PAGE, [5, 7, 4, 2, 3]),
-    (&SEG_WRITE, [5, 3, 100, 2, 2]),
-    (&SEG_OP, [256, 2, 8, 1, 4]),
-    (&TOP_END, [5, 26, 5, 1, 0]),
-    (&SAVE, [5, 26, 16, 0, 0]),
-    (&CHECKPOINT, [0, 0, 5, 16, 0]),
-    (&LINE, [0x0102_0304_0506_0708, 256, 0, 0, 0]),
+// Those of each record.
+const FIELDS: [[u64; 5]; 16] = [
+    [5, 0, 0, 0, 0],
+    [5, 7, 4, 2, 3],
+    [5, 3, 100, 2, 2],
+    [256, 2, 8, 1, 4],
+    [256, 1, 8, 0, 0],
+    [5, 26, 5, 1, 0],
+    [5, 26, 0, 0, 0],
+    [5, 26, 0, 0, 0],
+    [5, 26, 0, 0, 0],
+    [5, 26, 0, 0, 0],
+    [5, 26, 0, 0, 0],
+    [5, 26, 16, 0, 0],
+    [5, 47, 0, 0, 0],
+    [5, 68, 0, 0, 0],
+    [0, 0, 5, 16, 0],
+    [0x0102_0304_0506_0708, 256, 0, 0, 0],
 ];
 
 // Which record has other numbers.
 fn first_other() -> Option<usize> {
-    for (row, (bytes, want)) in FIELDS.iter().enumerate() {
-        if numbers(bytes) != Some(*want) {
-            return Some(row);
+    for (number, want) in FIELDS.iter().enumerate() {
+        if record(number).and_then(numbers) != Some(*want) {
+            return Some(number);
         }
     }
     None
@@ -191,160 +216,199 @@ fn fields_are_those_of_the_record(rt: HostRuntime) {
     assert_eq!(rt; first_other(), None);
 }
 
-// What is told of the first bytes, so many, of a record with some bytes changed and zeros behind it.
-fn fault(record: &[u8], changes: &[(usize, u8)], count: usize) -> Option<RecError> {
-    let mut bytes = [0u8; 33_000];
-    for (to, from) in bytes.iter_mut().zip(record) {
-        *to = *from;
+// What is told of a record's bytes: nothing, that bytes are lacking, or a kind or a field's offset
+// that is at fault.
+type Told = (u32, u32);
+
+const GOOD: u32 = 0;
+
+const SHORT: u32 = 1;
+
+const BAD_KIND: u32 = 2;
+
+const BAD_FIELD: u32 = 3;
+
+fn told(fault: Option<RecError>) -> Told {
+    match fault {
+        None => (GOOD, 0),
+        Some(RecError::Short) => (SHORT, 0),
+        Some(RecError::BadKind(kind)) => (BAD_KIND, u32::from(kind)),
+        Some(RecError::BadField(at)) => (BAD_FIELD, at),
     }
-    for (at, byte) in changes {
-        if let Some(to) = bytes.get_mut(*at) {
-            *to = *byte;
+}
+
+// A byte of a record that is changed: where it stands, and what stands there then.
+type Patch = [u32; 2];
+
+// One that changes nothing: a zero behind each record.
+const SAME: Patch = [255, 0];
+
+fn patch(bytes: &mut [u8], changes: &[Patch]) {
+    for [at, byte] in changes {
+        if let Some(to) = bytes.get_mut(*at as usize) {
+            *to = (*byte % 256) as u8;
         }
     }
-    decode(bytes.get(..count)?).err()
+}
+
+// What is told of the first bytes, so many, of a record with some bytes changed and zeros behind it.
+fn told_of(number: u32, changes: &[Patch], count: u32) -> Option<Told> {
+    let mut bytes = [0u8; 33_000];
+    let Some(record) = record(number as usize) else {
+        return None;
+    };
+    let Some(front) = bytes.get_mut(..record.len()) else {
+        return None;
+    };
+    front.copy_from_slice(record);
+    patch(&mut bytes, changes);
+    let Some(read) = bytes.get(..count as usize) else {
+        return None;
+    };
+    Some(told(decode(read).err()))
 }
 
 // A record, the bytes of it that are changed, how many bytes are read, and what is told of them.
-type Hostile = (
-    &'static [u8],
-    &'static [(usize, u8)],
-    usize,
-    Option<RecError>,
-);
-
-const HOSTILE: [Hostile; 47] = [
+const HOSTILE: [(u32, [Patch; 2], u32, u32, u32); 37] = [
     // The order of the faults.
-    (&BEGIN, &[], 0, Some(RecError::Short)),
-    (&BEGIN, &[], 20, Some(RecError::Short)),
-    (&BEGIN, &[(0, 0)], 20, Some(RecError::Short)),
-    (&BEGIN, &[(0, 0)], 21, Some(RecError::BadKind(0))),
-    (&BEGIN, &[(0, 14)], 21, Some(RecError::BadKind(14))),
-    (
-        &BEGIN,
-        &[(0, 255), (1, 99)],
-        21,
-        Some(RecError::BadKind(255)),
-    ),
-    (&BEGIN, &[(1, 22)], 21, Some(RecError::Short)),
-    (&BEGIN, &[(4, 1)], 21, Some(RecError::Short)),
+    (BEGIN, [SAME, SAME], 0, SHORT, 0),
+    (BEGIN, [SAME, SAME], 20, SHORT, 0),
+    (BEGIN, [[0, 0], SAME], 20, SHORT, 0),
+    (BEGIN, [[0, 0], SAME], 21, BAD_KIND, 0),
+    (BEGIN, [[0, 14], SAME], 21, BAD_KIND, 14),
+    (BEGIN, [[0, 255], [1, 99]], 21, BAD_KIND, 255),
+    (BEGIN, [[1, 22], SAME], 21, SHORT, 0),
+    (BEGIN, [[4, 1], SAME], 21, SHORT, 0),
     // The length of the whole record.
-    (&BEGIN, &[(1, 20)], 21, Some(RecError::BadField(1))),
-    (&BEGIN, &[(1, 22)], 22, Some(RecError::BadField(1))),
-    (&BEGIN, &[], 22, None),
-    (&PAGE, &[(30, 3)], 39, Some(RecError::BadField(1))),
+    (BEGIN, [[1, 20], SAME], 21, BAD_FIELD, 1),
+    (BEGIN, [[1, 22], SAME], 22, BAD_FIELD, 1),
+    (BEGIN, [SAME, SAME], 22, GOOD, 0),
+    (PAGE, [[30, 3], SAME], 39, BAD_FIELD, 1),
+    (SEG_WRITE, [[29, 3], SAME], 37, BAD_FIELD, 1),
+    (SEG_OP, [[39, 2], SAME], 50, BAD_FIELD, 1),
+    (TOP_END, [[29, 2], SAME], 32, BAD_FIELD, 1),
+    (CHECKPOINT, [[29, 2], SAME], 47, BAD_FIELD, 1),
+    (COMP_PAGE, [[1, 29], SAME], 44, BAD_FIELD, 1),
+    // 16,418 bytes, and 32,768 and 32,769 of words.
+    (LINE, [[1, 0x15], [2, 0x80]], 33_000, GOOD, 0),
+    (LINE, [[1, 0x16], [2, 0x80]], 33_000, BAD_FIELD, 1),
+    // A page's number, the operation and both lengths.
+    (PAGE, [[23, 16], SAME], 39, BAD_FIELD, 21),
+    (PAGE, [[25, 0], SAME], 39, BAD_FIELD, 25),
+    (PAGE, [[25, 2], SAME], 39, BAD_FIELD, 30),
+    (PAGE, [[25, 3], SAME], 39, BAD_FIELD, 32),
+    // A band, a place and a count.
+    (SEG_WRITE, [[23, 1], SAME], 37, BAD_FIELD, 21),
+    (SEG_WRITE, [[26, 0x80], SAME], 37, BAD_FIELD, 25),
+    (SEG_WRITE, [[25, 0xfe], [26, 0x7f]], 37, GOOD, 0),
+    (SEG_WRITE, [[25, 0xff], [26, 0x7f]], 37, BAD_FIELD, 29),
+    (ZEROS, [[29, 0], SAME], 45, BAD_FIELD, 29),
+    (ZEROS, [[29, 1], [30, 0x20]], 45, BAD_FIELD, 29),
+    // A position, an argument, and how many bytes stood there.
+    (ZEROS, [[33, 2], SAME], 45, BAD_FIELD, 41),
+    (SEG_OP, [[29, 3], SAME], 50, BAD_FIELD, 42),
+    // What takes a change off.
+    (COMP_PAGE, [[29, 5], SAME], 44, BAD_FIELD, 29),
+    (COMP_PAGE, [[39, 1], [41, 0]], 44, BAD_FIELD, 39),
+    (COMP_ZEROS, [[42, 2], SAME], 54, BAD_FIELD, 42),
+    // A note of 2,401 bytes, marks, and checkpoints.
+    (SAVE, [[21, 17], SAME], 23, BAD_FIELD, 21),
+    (CHECKPOINT, [[5, 1], [13, 1]], 47, BAD_FIELD, 5),
+    (CHECKPOINT, [[13, 1], SAME], 47, BAD_FIELD, 13),
+];
+
+// The same with more bytes changed.
+const LONGER: [(u32, [Patch; 6], u32, u32, u32); 10] = [
+    // The length of the whole record.
     (
-        &PAGE,
-        &[(1, 33), (21, 255), (24, 255)],
+        PAGE,
+        [[1, 33], [21, 255], [24, 255], SAME, SAME, SAME],
         39,
-        Some(RecError::BadField(1)),
+        BAD_FIELD,
+        1,
     ),
-    (&SEG_WRITE, &[(29, 3)], 37, Some(RecError::BadField(1))),
-    (&SEG_OP, &[(39, 2)], 50, Some(RecError::BadField(1))),
-    (&TOP_END, &[(29, 2)], 32, Some(RecError::BadField(1))),
-    (&CHECKPOINT, &[(29, 2)], 47, Some(RecError::BadField(1))),
-    (&COMP_PAGE, &[(1, 29)], 44, Some(RecError::BadField(1))),
     // 16,418 bytes, and 32,768 and 32,769 of words.
     (
-        &PAGE,
-        &[(1, 0x22), (2, 0x40), (30, 0), (32, 0), (33, 0x40)],
+        PAGE,
+        [[1, 0x22], [2, 0x40], [30, 0], [32, 0], [33, 0x40], SAME],
         16_418,
-        Some(RecError::BadField(1)),
-    ),
-    (&LINE, &[(1, 0x15), (2, 0x80)], 33_000, None),
-    (
-        &LINE,
-        &[(1, 0x16), (2, 0x80)],
-        33_000,
-        Some(RecError::BadField(1)),
+        BAD_FIELD,
+        1,
     ),
     // A page's number, the operation and both lengths.
-    (&PAGE, &[(23, 16)], 39, Some(RecError::BadField(21))),
-    (&PAGE, &[(25, 0)], 39, Some(RecError::BadField(25))),
     (
-        &PAGE,
-        &[(25, 8), (30, 5), (32, 0)],
+        PAGE,
+        [[25, 8], [30, 5], [32, 0], SAME, SAME, SAME],
         39,
-        Some(RecError::BadField(25)),
+        BAD_FIELD,
+        25,
     ),
-    (&PAGE, &[(25, 2)], 39, Some(RecError::BadField(30))),
-    (&PAGE, &[(25, 3)], 39, Some(RecError::BadField(32))),
-    (&PAGE, &[(25, 6), (30, 0), (32, 5)], 39, None),
     (
-        &PAGE,
-        &[(1, 0x23), (2, 1), (25, 6), (30, 0), (32, 1), (33, 1)],
+        PAGE,
+        [[25, 6], [30, 0], [32, 5], SAME, SAME, SAME],
+        39,
+        GOOD,
+        0,
+    ),
+    (
+        PAGE,
+        [[1, 0x23], [2, 1], [25, 6], [30, 0], [32, 1], [33, 1]],
         291,
-        Some(RecError::BadField(32)),
-    ),
-    // A band, a place and a count.
-    (&SEG_WRITE, &[(23, 1)], 37, Some(RecError::BadField(21))),
-    (&SEG_WRITE, &[(26, 0x80)], 37, Some(RecError::BadField(25))),
-    (&SEG_WRITE, &[(25, 0xfe), (26, 0x7f)], 37, None),
-    (
-        &SEG_WRITE,
-        &[(25, 0xff), (26, 0x7f)],
-        37,
-        Some(RecError::BadField(29)),
-    ),
-    (&ZEROS, &[(29, 0)], 45, Some(RecError::BadField(29))),
-    (
-        &ZEROS,
-        &[(29, 1), (30, 0x20)],
-        45,
-        Some(RecError::BadField(29)),
+        BAD_FIELD,
+        32,
     ),
     // A position, an argument, and how many bytes stood there.
-    (&ZEROS, &[(35, 0xfc), (36, 0xff), (37, 0xf9)], 45, None),
     (
-        &ZEROS,
-        &[(35, 0xfd), (36, 0xff), (37, 0xf9)],
+        ZEROS,
+        [[35, 0xfc], [36, 0xff], [37, 0xf9], SAME, SAME, SAME],
         45,
-        Some(RecError::BadField(35)),
+        GOOD,
+        0,
     ),
     (
-        &ZEROS,
-        &[(1, 0x2e), (2, 1), (39, 1), (40, 1)],
+        ZEROS,
+        [[35, 0xfd], [36, 0xff], [37, 0xf9], SAME, SAME, SAME],
+        45,
+        BAD_FIELD,
+        35,
+    ),
+    (
+        ZEROS,
+        [[1, 0x2e], [2, 1], [39, 1], [40, 1], SAME, SAME],
         302,
-        Some(RecError::BadField(39)),
+        BAD_FIELD,
+        39,
     ),
-    (&ZEROS, &[(33, 2)], 45, Some(RecError::BadField(41))),
-    (&SEG_OP, &[(29, 3)], 50, Some(RecError::BadField(42))),
-    // What takes a change off.
-    (&COMP_PAGE, &[(29, 5)], 44, Some(RecError::BadField(29))),
-    (
-        &COMP_PAGE,
-        &[(39, 1), (41, 0)],
-        44,
-        Some(RecError::BadField(39)),
-    ),
-    (&COMP_ZEROS, &[(42, 2)], 54, Some(RecError::BadField(42))),
     // A note of 2,401 bytes, marks, and checkpoints.
     (
-        &TOP_END,
-        &[(1, 0x80), (2, 9), (29, 0x61), (30, 9)],
+        TOP_END,
+        [[1, 0x80], [2, 9], [29, 0x61], [30, 9], SAME, SAME],
         2_432,
-        Some(RecError::BadField(29)),
+        BAD_FIELD,
+        29,
     ),
-    (&SAVE, &[(21, 17)], 23, Some(RecError::BadField(21))),
     (
-        &CHECKPOINT,
-        &[(5, 1), (13, 1)],
-        47,
-        Some(RecError::BadField(5)),
-    ),
-    (&CHECKPOINT, &[(13, 1)], 47, Some(RecError::BadField(13))),
-    (
-        &CHECKPOINT,
-        &[(1, 0x2f), (2, 4), (29, 65)],
+        CHECKPOINT,
+        [[1, 0x2f], [2, 4], [29, 65], SAME, SAME, SAME],
         1_071,
-        Some(RecError::BadField(29)),
+        BAD_FIELD,
+        29,
     ),
 ];
 
 // Of which record something else is told.
 fn first_told_wrong() -> Option<usize> {
-    for (row, (record, changes, count, want)) in HOSTILE.iter().enumerate() {
-        if fault(record, changes, *count) != *want {
+    for (row, (number, changes, count, fault, what)) in HOSTILE.iter().enumerate() {
+        if told_of(*number, changes, *count) != Some((*fault, *what)) {
+            return Some(row);
+        }
+    }
+    None
+}
+
+fn first_longer_told_wrong() -> Option<usize> {
+    for (row, (number, changes, count, fault, what)) in LONGER.iter().enumerate() {
+        if told_of(*number, changes, *count) != Some((*fault, *what)) {
             return Some(row);
         }
     }
@@ -354,29 +418,59 @@ fn first_told_wrong() -> Option<usize> {
 #[test]
 fn hostile_records(rt: HostRuntime) {
     assert_eq!(rt; first_told_wrong(), None);
+    assert_eq!(rt; first_longer_told_wrong(), None);
 }
 
-// The plain store has three of the kinds.
-fn plain_fault(bytes: &[u8]) -> Option<RecError> {
-    plain::decode(bytes).err()
+// A record, how many bytes of it are read, and what is told of them: the plain store has three of the
+// kinds.
+const PLAIN: [(u32, u32, u32, u32); 6] = [
+    (BEGIN, 21, GOOD, 0),
+    (COMMIT, 21, GOOD, 0),
+    (LINE, 33, GOOD, 0),
+    (PAGE, 39, BAD_KIND, 2),
+    (CHECKPOINT, 47, BAD_KIND, 12),
+    (COMMIT, 20, SHORT, 0),
+];
+
+fn plain_told(number: u32, count: u32) -> Option<Told> {
+    let Some(record) = record(number as usize) else {
+        return None;
+    };
+    let Some(read) = record.get(..count as usize) else {
+        return None;
+    };
+    Some(told(plain::decode(read).err()))
+}
+
+// Of which record the plain store tells something else.
+fn first_plain_told_wrong() -> Option<usize> {
+    for (row, (number, count, fault, what)) in PLAIN.iter().enumerate() {
+        if plain_told(*number, *count) != Some((*fault, *what)) {
+            return Some(row);
+        }
+    }
+    None
 }
 
 #[test]
-fn the_plain_store_reads_its_kinds(rt: HostRuntime) -> Result<(), Fail> {
-    assert_eq!(rt; plain_fault(&BEGIN), None);
-    assert_eq!(rt; plain_fault(&COMMIT), None);
-    assert_eq!(rt; plain_fault(&LINE), None);
-    assert_eq!(rt; plain_fault(&PAGE), Some(RecError::BadKind(2)));
-    assert_eq!(rt; plain_fault(&CHECKPOINT), Some(RecError::BadKind(12)));
-    assert_eq!(rt; plain_fault(&COMMIT[..20]), Some(RecError::Short));
-    let words = plain::Rec::Line {
+fn the_plain_store_reads_its_kinds(rt: HostRuntime) {
+    assert_eq!(rt; first_plain_told_wrong(), None);
+}
+
+// Whether a line of the plain store is written as its header and its words, and no more.
+fn plain_line_is_written() -> bool {
+    let mut into = [9u8; 30];
+    let line = plain::Rec::Line {
         txn: TxnId(5),
         prev: 26,
         words: b"push a x",
     };
-    let mut into = [9u8; 30];
-    assert_eq!(rt; plain::size(&words), 29);
-    assert_eq!(rt; plain::encode(&words, &mut into), 29);
-    assert_eq!(rt; &into[21..], b"push a x\x09".as_slice());
-    Ok(())
+    plain::size(&line) == 29
+        && plain::encode(&line, &mut into) == 29
+        && into.get(21..) == Some(b"push a x\x09".as_slice())
+}
+
+#[test]
+fn the_plain_store_writes_its_kinds(rt: HostRuntime) {
+    assert!(rt; plain_line_is_written());
 }

@@ -1,4 +1,4 @@
-use Rattle.std.proofs.Common.{◌≡◌, ℕ, Ok, ap, ◌∙◌}
+use Rattle.std.proofs.Common.{◌≡◌, Ok, ap, ◌∙◌}
 use Rattle.std.proofs.lemmas.List.{take_rest}
 use Rattle.byteorder.specs.Endian.{little_number}
 use Rattle.sg_record.specs.Records.{Record}

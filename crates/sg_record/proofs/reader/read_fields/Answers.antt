@@ -1,8 +1,8 @@
-use Rattle.std.proofs.Common.{◌≡◌, ℕ, ◌-◌, ◌≤◌, take, drop, length, Some, None, Err, sym, ap, ◌∙◌, arith}
+use Rattle.std.proofs.Common.{◌≡◌, ℕ, ◌-◌, take, drop, Some, None, Err, sym, ap, ◌∙◌, arith}
 use Rattle.sg_base.specs.Bytes.{IsBytes}
 use Rattle.sg_record.specs.Records.{Record, HEADER}
 use Rattle.sg_record.specs.Ranges.{out_of_range}
-use Rattle.sg_record.specs.Reading.{Parsed, unread_at, size_at, transaction_at, previous_at, body_at, in_range, read_says, parse_says}
+use Rattle.sg_record.specs.Reading.{Parsed, unread_at, transaction_at, previous_at, body_at, in_range, read_says, parse_says}
 use Rattle.sg_record.specs.Shown.{shown_says, by}
 use Rattle.sg_record.specs.declared.record.RecError.TheVariants.{BadField}
 use Rattle.sg_record.proofs.Parsing.{read_size, read_args}

@@ -1,6 +1,6 @@
 use Rattle.std.proofs.Common.{◌+◌, ◌∙◌, ap, arith}
 use Rattle.sg_base.proofs.Overwriting.{wrote_on}
-use Rattle.sg_record.specs.Records.{HEADER, kind_of, code_of}
+use Rattle.sg_record.specs.Records.{HEADER, code_of}
 use Rattle.sg_record.specs.Shown.{shown, shown_says}
 use Rattle.sg_record.proofs.Written.{encoded}
 use Rattle.sg_record.proofs.writer.encode.Goals as goal
