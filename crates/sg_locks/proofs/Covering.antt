@@ -12,7 +12,7 @@ use Rattle.sg_model.specs.Touches.Part.{Kind, Key}
 use Rattle.sg_model.specs.Touches.Region.{Just, EachKey, Everything}
 use Rattle.sg_model.specs.Touches.Resource.{Of, Names}
 use Rattle.sg_model.proofs.Parts.{part_same, bytes_same}
-use Rattle.sg_locks.specs.Buckets.{bucket_of, resource_bucket, name_bucket}
+use Rattle.sg_locks.specs.Buckets.{bucket_of, region_bucket, resource_bucket, name_bucket}
 use Rattle.sg_locks.specs.Places.{blocks, lesser_of, least_of}
 use Rattle.sg_locks.proofs.Least.{lesser_assoc, both, left, right}
 
@@ -98,59 +98,67 @@ of_name Names n s h = inr refl
 blocks_meet : (t : ℕ) (a : Touch Resource) (h : Hold Resource) → blocks t a h ≡ true → meet h.touch.what a.what ≡ true
 blocks_meet t a h e = (and_true (h.touch.write || a.write) (meet h.touch.what a.what) (and_true (not (h.transaction == t)) (conflict h.touch a) e).1).1
 
-same_bucket : (r s : Resource) → r ≡ s → (resource_bucket r == resource_bucket s) ≡ true
-same_bucket r s e = eq-eqb (resource_bucket r) (resource_bucket s) (ap resource_bucket e)
-
-module _ (t : ℕ) (a : Touch Resource) (n : List ℕ) (h : Hold Resource) (e : blocks t a h ≡ true) where
-  abbrev at : Resource → Bool
-  at s = resource_bucket h.touch.what == resource_bucket s
+-- a hold in the way of a touch of the object n, whose name and whose resource have these buckets
+module _ (t : ℕ) (a : Touch Resource) (n : List ℕ) (name resource whole : ℕ) (of : name ≡ bucket_of n) (own : resource ≡ resource_bucket a.what)
+    (all : whole ≡ region_bucket name Everything) (h : Hold Resource) (e : blocks t a h ≡ true) where
+  abbrev at : ℕ → Bool
+  at bucket = resource_bucket h.touch.what == bucket
 
   abbrev under : Bool
-  under = name_bucket h.touch.what == bucket_of n
+  under = name_bucket h.touch.what == name
 
   found : (x : Part) → a.what ≡ Of n (Just x) → Meets h.touch.what n x
   found x is = meets h.touch.what n x (ap (meet h.touch.what) (sym is) ∙ blocks_meet t a h e)
 
+  at_own : h.touch.what ≡ a.what → at resource ≡ true
+  at_own is = eq-eqb (resource_bucket h.touch.what) resource (ap resource_bucket is ∙ sym own)
+
+  at_region : (s : Region) (bucket : ℕ) → bucket ≡ region_bucket name s → h.touch.what ≡ Of n s → at bucket ≡ true
+  at_region s bucket f is = eq-eqb (resource_bucket h.touch.what) bucket (ap resource_bucket is ∙ (ap (λ k. region_bucket k s) (sym of) ∙ sym f))
+
+  at_names : h.touch.what ≡ Names → at 0 ≡ true
+  at_names is = eq-eqb (resource_bucket h.touch.what) 0 (ap resource_bucket is)
+
   -- of a part that is neither the kind nor a key
-  pub part_found : (x : Part) → a.what ≡ Of n (Just x) → is_key x ≡ false → is_kind x ≡ false → (at a.what || at (Of n Everything)) ≡ true
+  pub part_found : (x : Part) → a.what ≡ Of n (Just x) → is_key x ≡ false → is_kind x ≡ false → (at resource || at whole) ≡ true
   part_found x is no_key no_kind = elim (found x is) [
-    | inl same ↦ or_left (at a.what) (at (Of n Everything)) (same_bucket h.touch.what a.what (same ∙ sym is))
+    | inl same ↦ or_left (at resource) (at whole) (at_own (same ∙ sym is))
     | inr rest ↦ elim rest [
-      | inl whole ↦ or_right (at a.what) (at (Of n Everything)) (same_bucket h.touch.what (Of n Everything) whole)
-      | inr other ↦ elim other [ inl keys ↦ absurd (not_both (is_key x) keys.1 no_key) | inr names ↦ absurd (not_both (is_kind x) names.1 no_kind) ]
+      | inl every ↦ or_right (at resource) (at whole) (at_region Everything whole all every)
+      | inr other ↦ elim other [ inl keyed ↦ absurd (not_both (is_key x) keyed.1 no_key) | inr names ↦ absurd (not_both (is_kind x) names.1 no_kind) ]
     ]
   ]
 
   -- of the kind
-  pub kind_found : a.what ≡ Of n (Just Kind) → (at a.what || (at (Of n Everything) || at Names)) ≡ true
+  pub kind_found : a.what ≡ Of n (Just Kind) → (at resource || (at whole || at 0)) ≡ true
   kind_found is = elim (found Kind is) [
-    | inl same ↦ or_left (at a.what) (at (Of n Everything) || at Names) (same_bucket h.touch.what a.what (same ∙ sym is))
-    | inr rest ↦ or_right (at a.what) (at (Of n Everything) || at Names) (elim rest [
-      | inl whole ↦ or_left (at (Of n Everything)) (at Names) (same_bucket h.touch.what (Of n Everything) whole)
-      | inr other ↦ elim other [ inl keys ↦ absurd (not_both false keys.1 refl) | inr names ↦ or_right (at (Of n Everything)) (at Names) (same_bucket h.touch.what Names names.0) ]
+    | inl same ↦ or_left (at resource) (at whole || at 0) (at_own (same ∙ sym is))
+    | inr rest ↦ or_right (at resource) (at whole || at 0) (elim rest [
+      | inl every ↦ or_left (at whole) (at 0) (at_region Everything whole all every)
+      | inr other ↦ elim other [ inl keyed ↦ absurd (not_both false keyed.1 refl) | inr names ↦ or_right (at whole) (at 0) (at_names names.0) ]
     ])
   ]
 
   -- of a key
-  pub key_found : (k : List ℕ) → a.what ≡ Of n (Just (Key k)) → (at a.what || (at (Of n Everything) || at (Of n EachKey))) ≡ true
-  key_found k is = elim (found (Key k) is) [
-    | inl same ↦ or_left (at a.what) (at (Of n Everything) || at (Of n EachKey)) (same_bucket h.touch.what a.what (same ∙ sym is))
-    | inr rest ↦ or_right (at a.what) (at (Of n Everything) || at (Of n EachKey)) (elim rest [
-      | inl whole ↦ or_left (at (Of n Everything)) (at (Of n EachKey)) (same_bucket h.touch.what (Of n Everything) whole)
-      | inr other ↦ elim other [ inl keys ↦ or_right (at (Of n Everything)) (at (Of n EachKey)) (same_bucket h.touch.what (Of n EachKey) keys.0) | inr names ↦ absurd (not_both false names.1 refl) ]
+  pub key_found : (keys : ℕ) → keys ≡ region_bucket name EachKey → (k : List ℕ) → a.what ≡ Of n (Just (Key k)) → (at resource || (at whole || at keys)) ≡ true
+  key_found keys each k is = elim (found (Key k) is) [
+    | inl same ↦ or_left (at resource) (at whole || at keys) (at_own (same ∙ sym is))
+    | inr rest ↦ or_right (at resource) (at whole || at keys) (elim rest [
+      | inl every ↦ or_left (at whole) (at keys) (at_region Everything whole all every)
+      | inr other ↦ elim other [ inl keyed ↦ or_right (at whole) (at keys) (at_region EachKey keys each keyed.0) | inr names ↦ absurd (not_both false names.1 refl) ]
     ])
   ]
 
-  -- of all keys
-  pub keys_found : a.what ≡ Of n EachKey → under ≡ true
+-- the same of a touch of all keys, and of all of the object
+module _ (t : ℕ) (a : Touch Resource) (n : List ℕ) (name : ℕ) (of : name ≡ bucket_of n) (h : Hold Resource) (e : blocks t a h ≡ true) where
+  pub keys_found : a.what ≡ Of n EachKey → (name_bucket h.touch.what == name) ≡ true
   keys_found is = elim (of_name h.touch.what n EachKey (ap (meet h.touch.what) (sym is) ∙ blocks_meet t a h e)) [
-    | inl same ↦ eq-eqb (name_bucket h.touch.what) (bucket_of n) same
+    | inl same ↦ eq-eqb (name_bucket h.touch.what) name (same ∙ sym of)
     | inr names ↦ absurd (not_both false (ap (λ r. meet r (Of n EachKey)) (sym names) ∙ (ap (meet h.touch.what) (sym is) ∙ blocks_meet t a h e)) refl)
   ]
 
-  -- of all of an object
-  pub whole_found : a.what ≡ Of n Everything → (under || at Names) ≡ true
+  pub whole_found : a.what ≡ Of n Everything → ((name_bucket h.touch.what == name) || (resource_bucket h.touch.what == 0)) ≡ true
   whole_found is = elim (of_name h.touch.what n Everything (ap (meet h.touch.what) (sym is) ∙ blocks_meet t a h e)) [
-    | inl same ↦ or_left under (at Names) (eq-eqb (name_bucket h.touch.what) (bucket_of n) same)
-    | inr names ↦ or_right under (at Names) (same_bucket h.touch.what Names names)
+    | inl same ↦ or_left (name_bucket h.touch.what == name) (resource_bucket h.touch.what == 0) (eq-eqb (name_bucket h.touch.what) name (same ∙ sym of))
+    | inr names ↦ or_right (name_bucket h.touch.what == name) (resource_bucket h.touch.what == 0) (eq-eqb (resource_bucket h.touch.what) 0 (ap resource_bucket names))
   ]

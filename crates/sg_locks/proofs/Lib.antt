@@ -6,3 +6,5 @@ pub mod Links
 pub mod OnChain
 pub mod Covering
 pub mod Indexed
+pub mod Held
+pub mod Answered

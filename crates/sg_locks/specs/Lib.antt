@@ -5,3 +5,6 @@ pub mod Places
 pub mod Buckets
 pub mod Links
 pub mod Chain
+pub mod Held
+pub mod Found
+pub mod Spots

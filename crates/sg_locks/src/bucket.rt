@@ -1,12 +1,22 @@
 ghost use Rattle.std.specs.Prelude.{◌≡◌, ◌<◌};
 ghost use Rattle.sg_model.specs.Resources.{shown_resource};
-ghost use Rattle.sg_locks.specs.Buckets.{mixed, mixed_all, bucket_of, resource_bucket, name_bucket};
+ghost use Rattle.sg_model.specs.Touches.Region.{EachKey, Everything};
+ghost use Rattle.sg_locks.specs.Buckets.{mixed, mixed_all, bucket_of, region_bucket, resource_bucket, name_bucket};
 
 use sg_base::Name;
 use sg_model::Resource;
 
 /// How many buckets there are.
 pub const BUCKETS: usize = 4096;
+
+/// The bucket of a resource and that of its name, each below 4,096.
+#[derive(Clone, Copy)]
+pub struct Buckets {
+    pub name: usize,
+    pub resource: usize,
+    ghost name_below: { name < 4096 },
+    ghost below: { resource < 4096 },
+}
 
 // The bucket, with one more number.
 fn mixed(bucket: usize, n: usize) -> usize
@@ -38,36 +48,39 @@ pub fn bucket_of(name: &Name) -> usize
     mixed_all(0, name.text())
 }
 
-/// The bucket of a resource.
-pub fn resource_bucket(what: &Resource) -> usize
+/// The bucket of all keys of the table whose name has this bucket.
+pub fn keys_bucket(name: usize) -> usize
+    requires { name < 4096 }
+    ensures value { result ≡ region_bucket name EachKey }
+    ensures below { result < 4096 }
+{
+    mixed(name, 6)
+}
+
+/// The bucket of all of the object whose name has this bucket.
+pub fn whole_bucket(name: usize) -> usize
+    requires { name < 4096 }
+    ensures value { result ≡ region_bucket name Everything }
+    ensures below { result < 4096 }
+{
+    mixed(name, 7)
+}
+
+/// The bucket of a resource whose name has this bucket.
+pub fn resource_bucket(name: usize, what: &Resource) -> usize
+    requires name { name ≡ name_bucket (shown_resource what.now) }
+    requires below { name < 4096 }
     ensures value { result ≡ resource_bucket (shown_resource what.now) }
     ensures below { result < 4096 }
 {
     match what {
-        Resource::Item(name, index) => mixed(bucket_of(name), (*index % 4096) as usize),
-        Resource::Key(name, key) => mixed_all(mixed(bucket_of(name), 1), key.bytes()),
-        Resource::Name(name) => mixed(bucket_of(name), 2),
-        Resource::Len(name) => mixed(bucket_of(name), 3),
-        Resource::Body(name) => mixed(bucket_of(name), 4),
-        Resource::Keys(name) => mixed(bucket_of(name), 6),
-        Resource::AllOf(name) => mixed(bucket_of(name), 7),
-        Resource::Names => 0,
-    }
-}
-
-/// The bucket of the name that a resource is of.
-pub fn name_bucket(what: &Resource) -> usize
-    ensures value { result ≡ name_bucket (shown_resource what.now) }
-    ensures below { result < 4096 }
-{
-    match what {
-        Resource::Name(name)
-        | Resource::Len(name)
-        | Resource::Item(name, _)
-        | Resource::Key(name, _)
-        | Resource::Body(name)
-        | Resource::Keys(name)
-        | Resource::AllOf(name) => bucket_of(name),
+        Resource::Item(_, index) => mixed(name, (*index % 4096) as usize),
+        Resource::Key(_, key) => mixed_all(mixed(name, 1), key.bytes()),
+        Resource::Name(_) => mixed(name, 2),
+        Resource::Len(_) => mixed(name, 3),
+        Resource::Body(_) => mixed(name, 4),
+        Resource::Keys(_) => keys_bucket(name),
+        Resource::AllOf(_) => whole_bucket(name),
         Resource::Names => 0,
     }
 }

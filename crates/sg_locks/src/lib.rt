@@ -9,6 +9,7 @@
 
 mod bucket;
 mod chains;
+mod finder;
 mod locks;
 mod table;
 

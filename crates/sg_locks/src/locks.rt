@@ -3,6 +3,7 @@ ghost use Rattle.sg_serial.specs.Locks.{released};
 ghost use Rattle.sg_model.specs.Resources.{shown_touch};
 ghost use Rattle.sg_locks.specs.Answers.{lock_answer, locks_after};
 
+use crate::finder::Finder;
 use crate::table::{LockAnswer, Table};
 use sg_base::{OutOfMemory, TxnId};
 use sg_model::Touch;
@@ -13,12 +14,14 @@ use std::marker::Model;
 /// list of pairs, in the order in which they were first held.
 ///
 /// A touch is held against the pairs in one bucket of 4,096, into which resources fall by their name
-/// and part, so that it costs about the same with thousands of pairs as with ten. Three things go
-/// with what is held: a touch of all of an object or of all keys of a table looks at each pair on a
+/// and part, so that it costs about the same with thousands of pairs as with ten; one that the
+/// transaction holds already is found there, and nothing else is looked at. Three things go with
+/// what is held: a touch of all of an object or of all keys of a table looks at each pair on a
 /// name in the name's bucket, a touch of the names at each pair, and a release too.
 #[derive(Drop)]
 pub struct Locks {
     table: Table,
+    finder: Finder,
 }
 
 impl Model for Locks {
@@ -42,7 +45,10 @@ impl Locks {
         ensures { IfOk result (λ l. l ≡ []) }
     {
         let table = Table::new(alloc)?;
-        Ok(Locks { table })
+        Ok(Locks {
+            table,
+            finder: Finder::new(),
+        })
     }
 
     /// A transaction asks for locks, of which it gets all or none. `Busy` names the first of the
@@ -53,13 +59,13 @@ impl Locks {
         ensures answer { result ≡ lock_answer t.0 (map shown_touch wanted.now) self.old }
         ensures after { self.new ≡ locks_after t.0 (map shown_touch wanted.now) self.old }
     {
-        self.table.try_lock(t, wanted)
+        self.table.try_lock(&mut self.finder, t, wanted)
     }
 
     /// A transaction holds nothing any more.
     pub fn release(&mut self, t: TxnId)
         ensures { self.new ≡ released t.0 self.old }
     {
-        self.table.release(t);
+        self.table.release(&mut self.finder, t);
     }
 }

@@ -1,17 +1,21 @@
-ghost use Rattle.std.specs.Prelude.{◌≡◌, ◌+◌, ◌<◌, ◌≤◌, ◌==◌, ℕ, [], ◌∷◌, ◌++◌, length, map, take, slice_index_or, IfOk, Option, Some, true, not, ◌||◌, ◌&&◌, cond, vec_capacity};
+ghost use Rattle.std.specs.Prelude.{◌≡◌, ◌+◌, ◌<◌, ◌≤◌, ◌==◌, ℕ, [], ◌∷◌, ◌++◌, length, map, take, slice_index_or, IfOk, IfNone, IfSome, Option, Some, None, true, not, ◌||◌, ◌&&◌, cond, vec_capacity};
 ghost use Rattle.std.specs.List.{list_any};
 ghost use Rattle.sg_serial.specs.Locks.{first_holder, lesser, hold_one, hold_all, released, is_pair};
 ghost use Rattle.sg_model.specs.Touches.{same_resource, conflict};
 ghost use Rattle.sg_model.specs.Resources.{shown_resource, shown_touch};
 ghost use Rattle.sg_locks.specs.Answers.{lock_answer, locks_after};
-ghost use Rattle.sg_locks.specs.Buckets.{bucket_of, resource_bucket, name_bucket, resource_buckets, name_buckets};
+ghost use Rattle.sg_locks.specs.Buckets.{resource_bucket, name_bucket, resource_buckets, name_buckets};
+ghost use Rattle.sg_locks.specs.Found.{AreBucketsOf};
+ghost use Rattle.sg_locks.specs.Held.{IsClear, is_held, AreCompatible};
+ghost use Rattle.sg_locks.specs.Spots.{IsSpotOf};
 ghost use Rattle.sg_locks.specs.Chain.{is_on, IsChain};
 ghost use Rattle.sg_locks.specs.Places.{first_place, last_place, joined, blocks, lesser_of, least_of};
 ghost use Rattle.sg_locks.specs.Shown.{shown_hold, holds_of};
 
-use crate::bucket::{bucket_of, name_bucket, resource_bucket};
+use crate::bucket::{Buckets, keys_bucket, whole_bucket};
 use crate::chains::Chains;
-use sg_base::{Name, OutOfMemory, TxnId};
+use crate::finder::Finder;
+use sg_base::{OutOfMemory, TxnId};
 use sg_model::{Resource, Touch, conflict};
 use std::alloc::Global;
 
@@ -36,6 +40,14 @@ pub struct Hold {
     touch: Touch,
 }
 
+// Where a touch of a transaction is to be held: the buckets of its resource, and the first place that
+// has the transaction's hold of that, if there is one.
+#[derive(Clone, Copy)]
+struct Spot {
+    buckets: Buckets,
+    place: Option<usize>,
+}
+
 // What leads from one hold to those before it: those of the resources in a bucket, those of the
 // names in a bucket, or all.
 #[derive(Clone, Copy)]
@@ -56,6 +68,7 @@ pub struct Table {
     ghost few: { length holds.items ≤ 4096 },
     ghost resources: { by_resource ≡ resource_buckets (holds_of holds.items) },
     ghost names: { by_name ≡ name_buckets (holds_of holds.items) },
+    ghost compatible: { AreCompatible (holds_of holds.items) },
 }
 
 // Whether another transaction holds this, in conflict with the touch.
@@ -70,6 +83,13 @@ fn is_pair(t: TxnId, what: &Resource, hold: &Hold) -> bool
     ensures { result ≡ is_pair same_resource t.0 (shown_resource what.now) (shown_hold hold.now) }
 {
     hold.transaction == t && hold.touch.what.is_same(what)
+}
+
+// Whether the hold is to write where the touch is.
+fn is_enough(hold: &Hold, touch: &Touch) -> bool
+    ensures { result ≡ ((shown_hold hold.now).touch.write || not (shown_touch touch.now).write) }
+{
+    hold.touch.write || !touch.write
 }
 
 // Whether one of the touches is of the resource.
@@ -145,19 +165,25 @@ fn first_hold(holds: &[Hold], t: TxnId) -> Option<usize>
     None
 }
 
-// A hold of the resource goes to the end of its chains.
-fn add_links(what: &Resource, by_resource: &mut Chains, by_name: &mut Chains)
+// A hold of a resource with these buckets goes to the end of its chains.
+fn add_links(buckets: Buckets, by_resource: &mut Chains, by_name: &mut Chains)
     requires resources { length by_resource.old < 4096 }
     requires names { length by_name.old < 4096 }
-    ensures resources { by_resource.new ≡ by_resource.old ++ resource_bucket (shown_resource what.now) ∷ [] }
-    ensures names { by_name.new ≡ by_name.old ++ name_bucket (shown_resource what.now) ∷ [] }
+    ensures resources { by_resource.new ≡ by_resource.old ++ buckets.resource ∷ [] }
+    ensures names { by_name.new ≡ by_name.old ++ buckets.name ∷ [] }
 {
-    by_resource.push(resource_bucket(what));
-    by_name.push(name_bucket(what));
+    by_resource.push(buckets.resource);
+    by_name.push(buckets.name);
 }
 
 // The chains of all holds, from those of so many first ones.
-fn link_from(holds: &[Hold], first: usize, by_resource: &mut Chains, by_name: &mut Chains)
+fn link_from(
+    finder: &mut Finder,
+    holds: &[Hold],
+    first: usize,
+    by_resource: &mut Chains,
+    by_name: &mut Chains,
+)
     requires few { length holds.now ≤ 4096 }
     requires within { first ≤ length holds.now }
     requires resources { by_resource.old ≡ resource_buckets (map shown_hold (take first holds.now)) }
@@ -166,7 +192,7 @@ fn link_from(holds: &[Hold], first: usize, by_resource: &mut Chains, by_name: &m
     ensures names { by_name.new ≡ name_buckets (holds_of holds.now) }
 {
     for i in first..holds.len() {
-        add_links(&holds[i].touch.what, by_resource, by_name);
+        add_links(finder.buckets(&holds[i].touch.what), by_resource, by_name);
     }
 }
 
@@ -224,65 +250,76 @@ impl Table {
         least
     }
 
-    // The same of the holds whose resource has the bucket of this one.
-    fn least_at(&self, what: &Resource, t: TxnId, touch: &Touch, least: Option<u64>) -> Option<u64>
-        ensures { result ≡ lesser_of least (least_of (λ h. (resource_bucket h.touch.what == resource_bucket (shown_resource what.now)) && blocks t.0 (shown_touch touch.now) h) (holds_of self.now.holds.items)) }
+    // The same of the holds whose resource has the bucket.
+    fn least_at(&self, bucket: usize, t: TxnId, touch: &Touch, least: Option<u64>) -> Option<u64>
+        requires { bucket < 4096 }
+        ensures { result ≡ lesser_of least (least_of (λ h. (resource_bucket h.touch.what == bucket) && blocks t.0 (shown_touch touch.now) h) (holds_of self.now.holds.items)) }
     {
-        self.least_along(Chain::Resource(resource_bucket(what)), t, touch, least)
+        self.least_along(Chain::Resource(bucket), t, touch, least)
     }
 
-    // The same of the holds whose name has the bucket of this one.
-    fn least_under(&self, name: &Name, t: TxnId, touch: &Touch, least: Option<u64>) -> Option<u64>
-        ensures { result ≡ lesser_of least (least_of (λ h. (name_bucket h.touch.what == bucket_of name.now) && blocks t.0 (shown_touch touch.now) h) (holds_of self.now.holds.items)) }
+    // The same of the holds whose name has the bucket.
+    fn least_under(&self, bucket: usize, t: TxnId, touch: &Touch, least: Option<u64>) -> Option<u64>
+        requires { bucket < 4096 }
+        ensures { result ≡ lesser_of least (least_of (λ h. (name_bucket h.touch.what == bucket) && blocks t.0 (shown_touch touch.now) h) (holds_of self.now.holds.items)) }
     {
-        self.least_along(Chain::Name(bucket_of(name)), t, touch, least)
+        self.least_along(Chain::Name(bucket), t, touch, least)
     }
 
     // The lesser of the number and the least transaction that is in the way of the touch. Only holds
     // on the chains that are walked here can be.
-    fn least_in_way(&self, t: TxnId, touch: &Touch, least: Option<u64>) -> Option<u64>
+    fn least_in_way(
+        &self,
+        buckets: Buckets,
+        t: TxnId,
+        touch: &Touch,
+        least: Option<u64>,
+    ) -> Option<u64>
+        requires { AreBucketsOf buckets (shown_resource touch.now.what) }
         ensures { result ≡ lesser_of least (least_of (blocks t.0 (shown_touch touch.now)) (holds_of self.now.holds.items)) }
     {
         match &touch.what {
             Resource::Names => self.least_along(Chain::Every, t, touch, least),
-            Resource::AllOf(name) => {
-                let least = self.least_under(name, t, touch, least);
-                self.least_at(&Resource::Names, t, touch, least)
+            Resource::AllOf(_) => {
+                let least = self.least_under(buckets.name, t, touch, least);
+                self.least_at(0, t, touch, least)
             }
-            Resource::Keys(name) => self.least_under(name, t, touch, least),
-            Resource::Name(name) => {
-                let least = self.least_at(&touch.what, t, touch, least);
-                let least = self.least_at(&Resource::AllOf(*name), t, touch, least);
-                self.least_at(&Resource::Names, t, touch, least)
+            Resource::Keys(_) => self.least_under(buckets.name, t, touch, least),
+            Resource::Name(_) => {
+                let least = self.least_at(buckets.resource, t, touch, least);
+                let least = self.least_at(whole_bucket(buckets.name), t, touch, least);
+                self.least_at(0, t, touch, least)
             }
-            Resource::Key(name, _) => {
-                let least = self.least_at(&touch.what, t, touch, least);
-                let least = self.least_at(&Resource::AllOf(*name), t, touch, least);
-                self.least_at(&Resource::Keys(*name), t, touch, least)
+            Resource::Key(_, _) => {
+                let least = self.least_at(buckets.resource, t, touch, least);
+                let least = self.least_at(whole_bucket(buckets.name), t, touch, least);
+                self.least_at(keys_bucket(buckets.name), t, touch, least)
             }
-            Resource::Len(name) | Resource::Item(name, _) | Resource::Body(name) => {
-                let least = self.least_at(&touch.what, t, touch, least);
-                self.least_at(&Resource::AllOf(*name), t, touch, least)
+            Resource::Len(_) | Resource::Item(_, _) | Resource::Body(_) => {
+                let least = self.least_at(buckets.resource, t, touch, least);
+                self.least_at(whole_bucket(buckets.name), t, touch, least)
             }
         }
     }
 
     // The least transaction that is in the way of one of the touches.
-    fn first_holder(&self, t: TxnId, wanted: &[Touch]) -> Option<u64>
+    fn first_holder(&self, finder: &mut Finder, t: TxnId, wanted: &[Touch]) -> Option<u64>
         ensures { result ≡ first_holder conflict t.0 (map shown_touch wanted.now) (holds_of self.now.holds.items) }
     {
         let mut least = None;
         for touch in wanted {
-            least = self.least_in_way(t, touch, least);
+            let buckets = finder.buckets(&touch.what);
+            least = self.least_in_way(buckets, t, touch, least);
         }
         least
     }
 
-    // The first place that has the transaction's hold of the resource.
-    fn place_of(&self, t: TxnId, what: &Resource) -> Option<usize>
+    // The first place that has the transaction's hold of the resource with these buckets.
+    fn place_of(&self, buckets: Buckets, t: TxnId, what: &Resource) -> Option<usize>
+        requires { AreBucketsOf buckets (shown_resource what.now) }
         ensures { result ≡ first_place (is_pair same_resource t.0 (shown_resource what.now)) (holds_of self.now.holds.items) }
     {
-        let bucket = resource_bucket(what);
+        let bucket = buckets.resource;
         let mut found = None;
         let mut at = self.last(Chain::Resource(bucket));
         while let Some(place) = at {
@@ -292,76 +329,106 @@ impl Table {
         found
     }
 
-    // Whether the transaction holds the resource.
-    fn has(&self, t: TxnId, what: &Resource) -> bool
-        ensures { result ≡ list_any (is_pair same_resource t.0 (shown_resource what.now)) (holds_of self.now.holds.items) }
+    // The buckets of the resource, and the first place that has the transaction's hold of it.
+    fn spot(&self, finder: &mut Finder, t: TxnId, what: &Resource) -> Spot
+        ensures buckets { AreBucketsOf result.buckets (shown_resource what.now) }
+        ensures place { result.place ≡ first_place (is_pair same_resource t.0 (shown_resource what.now)) (holds_of self.now.holds.items) }
     {
-        self.place_of(t, what).is_some()
+        let buckets = finder.buckets(what);
+        Spot {
+            buckets,
+            place: self.place_of(buckets, t, what),
+        }
     }
 
     // Whether the transaction doesn't hold the resource, and none of the touches before is of it.
-    fn is_new(&self, t: TxnId, what: &Resource, before: &[Touch]) -> bool
+    fn is_new(&self, finder: &mut Finder, t: TxnId, what: &Resource, before: &[Touch]) -> bool
         ensures { result ≡ not (list_any (is_pair same_resource t.0 (shown_resource what.now)) (holds_of self.now.holds.items) || list_any (λ o. same_resource o.what (shown_resource what.now)) (map shown_touch before.now)) }
     {
-        if self.has(t, what) {
-            return false;
-        }
-        !is_among(what, before)
+        let spot = self.spot(finder, t, what);
+        spot.place.is_none() && !is_among(what, before)
     }
 
     // How many pairs are new.
-    fn count_new(&self, t: TxnId, wanted: &[Touch]) -> usize
+    fn count_new(&self, finder: &mut Finder, t: TxnId, wanted: &[Touch]) -> usize
         ensures { result + length self.now.holds.items ≡ length (hold_all same_resource t.0 (map shown_touch wanted.now) (holds_of self.now.holds.items)) }
     {
         let mut count = 0;
         for i in 0..wanted.len() {
-            if self.is_new(t, &wanted[i].what, &wanted[..i]) {
+            if self.is_new(finder, t, &wanted[i].what, &wanted[..i]) {
                 count += 1;
             }
         }
         count
     }
 
-    // One more hold at the end, for which there is room.
-    fn add(&mut self, hold: Hold)
-        requires { length self.old.holds.items < 4096 }
-        ensures { holds_of self.new.holds.items ≡ holds_of self.old.holds.items ++ shown_hold hold ∷ [] }
-    {
-        add_links(&hold.touch.what, &mut self.by_resource, &mut self.by_name);
-        self.holds.push_reserved(hold);
-    }
-
-    // The transaction holds one more touch, for which there is room.
-    fn hold(&mut self, t: TxnId, touch: &Touch)
-        requires { length (hold_one same_resource t.0 (shown_touch touch.now) (holds_of self.old.holds.items)) ≤ 4096 }
+    // A new hold, of a resource with these buckets, which the transaction doesn't hold. There is room, and
+    // nobody is in the way.
+    fn add(&mut self, buckets: Buckets, t: TxnId, touch: &Touch)
+        requires place { first_place (is_pair same_resource t.0 (shown_touch touch.now).what) (holds_of self.old.holds.items) ≡ None }
+        requires buckets { AreBucketsOf buckets (shown_touch touch.now).what }
+        requires room { length self.old.holds.items < 4096 }
+        requires clear { IsClear t.0 (shown_touch touch.now) (holds_of self.old.holds.items) }
         ensures { holds_of self.new.holds.items ≡ hold_one same_resource t.0 (shown_touch touch.now) (holds_of self.old.holds.items) }
     {
-        match self.place_of(t, &touch.what) {
-            Some(at) => {
-                let held = joined(&self.holds[at], touch);
-                self.holds[at] = held;
-            }
-            None => self.add(Hold {
-                transaction: t,
-                touch: *touch,
-            }),
+        add_links(buckets, &mut self.by_resource, &mut self.by_name);
+        self.holds.push_reserved(Hold {
+            transaction: t,
+            touch: Touch {
+                what: touch.what,
+                write: touch.write,
+            },
+        });
+    }
+
+    // The transaction's hold at this place is joined by a touch of its resource. Nobody is in the way.
+    fn join(&mut self, at: usize, t: TxnId, touch: &Touch)
+        requires place { first_place (is_pair same_resource t.0 (shown_touch touch.now).what) (holds_of self.old.holds.items) ≡ Some at }
+        requires clear { IsClear t.0 (shown_touch touch.now) (holds_of self.old.holds.items) }
+        ensures { holds_of self.new.holds.items ≡ hold_one same_resource t.0 (shown_touch touch.now) (holds_of self.old.holds.items) }
+    {
+        let held = joined(&self.holds[at], touch);
+        self.holds[at] = held;
+    }
+
+    // The transaction holds one more touch, of which this is the spot. There is room, and nobody is in
+    // the way.
+    fn hold_at(&mut self, spot: Spot, t: TxnId, touch: &Touch)
+        requires spot { IsSpotOf spot t.0 (shown_touch touch.now) (holds_of self.old.holds.items) }
+        requires room { length (hold_one same_resource t.0 (shown_touch touch.now) (holds_of self.old.holds.items)) ≤ 4096 }
+        requires clear { IsClear t.0 (shown_touch touch.now) (holds_of self.old.holds.items) }
+        ensures { holds_of self.new.holds.items ≡ hold_one same_resource t.0 (shown_touch touch.now) (holds_of self.old.holds.items) }
+    {
+        match spot.place {
+            Some(at) => self.join(at, t, touch),
+            None => self.add(spot.buckets, t, touch),
         }
     }
 
+    // The transaction holds one more touch. There is room, and nobody is in the way.
+    fn hold(&mut self, finder: &mut Finder, t: TxnId, touch: &Touch)
+        requires room { length (hold_one same_resource t.0 (shown_touch touch.now) (holds_of self.old.holds.items)) ≤ 4096 }
+        requires clear { IsClear t.0 (shown_touch touch.now) (holds_of self.old.holds.items) }
+        ensures { holds_of self.new.holds.items ≡ hold_one same_resource t.0 (shown_touch touch.now) (holds_of self.old.holds.items) }
+    {
+        let spot = self.spot(finder, t, &touch.what);
+        self.hold_at(spot, t, touch);
+    }
+
     // A transaction asks for locks, of which it gets all or none.
-    pub fn try_lock(&mut self, t: TxnId, wanted: &[Touch]) -> LockAnswer
+    fn lock_all(&mut self, finder: &mut Finder, t: TxnId, wanted: &[Touch]) -> LockAnswer
         ensures answer { result ≡ lock_answer t.0 (map shown_touch wanted.now) (holds_of self.old.holds.items) }
         ensures after { holds_of self.new.holds.items ≡ locks_after t.0 (map shown_touch wanted.now) (holds_of self.old.holds.items) }
     {
-        match self.first_holder(t, wanted) {
+        match self.first_holder(finder, t, wanted) {
             Some(holder) => LockAnswer::Busy(TxnId(holder)),
             None => {
-                let new = self.count_new(t, wanted);
+                let new = self.count_new(finder, t, wanted);
                 if new > MOST_HELD - self.holds.len() {
                     LockAnswer::LocksFull
                 } else {
                     for touch in wanted {
-                        self.hold(t, touch);
+                        self.hold(finder, t, touch);
                     }
                     LockAnswer::Granted
                 }
@@ -369,8 +436,54 @@ impl Table {
         }
     }
 
+    // A transaction asks for one lock, of which this is the spot.
+    fn lock_one(&mut self, spot: Spot, t: TxnId, touch: &Touch) -> LockAnswer
+        requires { IsSpotOf spot t.0 (shown_touch touch.now) (holds_of self.old.holds.items) }
+        ensures answer { result ≡ lock_answer t.0 (shown_touch touch.now ∷ []) (holds_of self.old.holds.items) }
+        ensures after { holds_of self.new.holds.items ≡ locks_after t.0 (shown_touch touch.now ∷ []) (holds_of self.old.holds.items) }
+    {
+        if let Some(holder) = self.least_in_way(spot.buckets, t, touch, None) {
+            return LockAnswer::Busy(TxnId(holder));
+        }
+        if spot.place.is_none() && self.holds.len() == MOST_HELD {
+            return LockAnswer::LocksFull;
+        }
+        self.hold_at(spot, t, touch);
+        LockAnswer::Granted
+    }
+
+    // The spot of a touch, unless the transaction holds what it is of already, to write it where the
+    // touch does.
+    fn spot_to_hold(&self, finder: &mut Finder, t: TxnId, touch: &Touch) -> Option<Spot>
+        ensures held { IfNone result (is_held t.0 (shown_touch touch.now) (holds_of self.now.holds.items) ≡ true) }
+        ensures spot { IfSome result (λ s. IsSpotOf s t.0 (shown_touch touch.now) (holds_of self.now.holds.items)) }
+    {
+        let spot = self.spot(finder, t, &touch.what);
+        match spot.place {
+            Some(at) if is_enough(&self.holds[at], touch) => None,
+            _ => Some(spot),
+        }
+    }
+
+    // A transaction asks for locks, of which it gets all or none. The touches from the first on that it
+    // holds already change nothing, since nobody can be in their way.
+    pub fn try_lock(&mut self, finder: &mut Finder, t: TxnId, wanted: &[Touch]) -> LockAnswer
+        ensures answer { result ≡ lock_answer t.0 (map shown_touch wanted.now) (holds_of self.old.holds.items) }
+        ensures after { holds_of self.new.holds.items ≡ locks_after t.0 (map shown_touch wanted.now) (holds_of self.old.holds.items) }
+    {
+        for i in 0..wanted.len() {
+            if let Some(spot) = self.spot_to_hold(finder, t, &wanted[i]) {
+                return match &wanted[i..] {
+                    [touch] => self.lock_one(spot, t, touch),
+                    rest => self.lock_all(finder, t, rest),
+                };
+            }
+        }
+        LockAnswer::Granted
+    }
+
     // A transaction holds nothing any more.
-    pub fn release(&mut self, t: TxnId)
+    pub fn release(&mut self, finder: &mut Finder, t: TxnId)
         ensures { holds_of self.new.holds.items ≡ released t.0 (holds_of self.old.holds.items) }
     {
         let Some(first) = first_hold(self.holds.as_slice(), t) else {
@@ -380,6 +493,7 @@ impl Table {
         self.by_name.truncate(first);
         self.holds.retain(|hold| hold.transaction != t);
         link_from(
+            finder,
             self.holds.as_slice(),
             first,
             &mut self.by_resource,

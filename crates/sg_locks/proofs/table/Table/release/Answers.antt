@@ -5,6 +5,8 @@ use Rattle.sg_locks.specs.declared.table.Hold as code
 use Rattle.sg_locks.specs.Buckets.{resource_bucket, name_bucket}
 use Rattle.sg_locks.specs.Places.{first_place}
 use Rattle.sg_locks.specs.Shown.{shown_hold}
+use Rattle.sg_locks.specs.Held.{AreCompatible}
+use Rattle.sg_locks.proofs.Held.{compatible_released}
 use Rattle.sg_serial.specs.Locks.{Hold}
 use Rattle.sg_model.specs.Touches.{Resource}
 use Rattle.sg_locks.proofs.Counting.{map_released}
@@ -53,4 +55,7 @@ invariant_of-self c = record {
   few = omega (arith, c.args.self.now.few, c.retain.ensures.bound, c.args.self.now.holds.ok.0, c.retain.new.self.ok.0);
   resources = c.link_from.ensures.resources ∙ ap (λ (hs : List code.Hold). map (λ (h : Hold Resource). resource_bucket h.touch.what) (map shown_hold hs)) c.as_slice-2.ensures.value;
   names = c.link_from.ensures.names ∙ ap (λ (hs : List code.Hold). map (λ (h : Hold Resource). name_bucket h.touch.what) (map shown_hold hs)) c.as_slice-2.ensures.value;
+  compatible =
+      subst AreCompatible (sym (ap (map shown_hold) (filter_same _ (λ h. not (h.transaction.0 == c.args.t.0)) _ (λ x b f r. search rules) _ _ c.retain.ensures.filtered) ∙ map_released c.args.t.0 c.args.self.now.holds.items))
+      (compatible_released c.args.t.0 (map shown_hold c.args.self.now.holds.items) c.args.self.now.compatible);
 }
