@@ -7,9 +7,9 @@ use Rattle.sg_plain.specs.declared.object.Object as code
 use Rattle.sg_plain.specs.declared.object.Object.TheVariants as objects
 
 abbrev pub shown : code.Object → Object
-shown (objects.Array row) = Array row
+shown (objects.Array held) = Array held.row
 shown (objects.Table entries) = Table entries
-shown (objects.Blob bytes) = Blob bytes
+shown (objects.Blob held) = Blob held.bytes
 
 abbrev pub shown_entry : List ℕ × code.Object → List ℕ × Object
 shown_entry e = (e.0, shown e.1)

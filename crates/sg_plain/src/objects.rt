@@ -21,6 +21,7 @@ use crate::changes::Changes;
 use crate::object::Object;
 use crate::reach::{only_read, written};
 use crate::table::Table;
+use crate::undo::{Change, Undo};
 use sg_base::{Name, OutOfMemory};
 use sg_model::{Key, Op, Reason, Reply, Resource, Touches};
 use sg_ops::Ops;
@@ -78,8 +79,12 @@ impl Model for Objects {
 
 impl Objects {
     ghost use Rattle.sg_model.specs.Step.{Grows, is_changing};
-    ghost use Rattle.sg_model.specs.Undo.{undo_on, note_of_op};
-    ghost use Rattle.sg_plain.specs.Undone.{undo_in};
+    ghost use Rattle.std.specs.Prelude.{IsSome};
+    ghost use Rattle.std.specs.Option.{option_map};
+    ghost use Rattle.sg_model.specs.Verb.Verb.{Discard};
+    ghost use Rattle.sg_model.specs.declared.op.Reply.TheVariants as Reply;
+    ghost use Rattle.sg_model.specs.Undo.{undo_on, note_of_op, note_object};
+    ghost use Rattle.sg_plain.specs.Undone.{undo_in, shown_undo_of, Makes};
 
     /// No objects. Takes no memory.
     pub fn empty(alloc: Global) -> Objects
@@ -87,16 +92,6 @@ impl Objects {
     {
         Objects {
             map: BTreeMap::new(alloc),
-        }
-    }
-
-    /// An equal value that shares no memory with this one. It changes nothing.
-    pub fn copy(&self) -> Result<Objects, OutOfMemory>
-        ensures { IfOk result (λ copy. copy ≡ self.now) }
-    {
-        match self.map.clone() {
-            Ok(map) => Ok(Objects { map }),
-            Err(_) => Err(OutOfMemory),
         }
     }
 
@@ -123,6 +118,14 @@ impl Objects {
         ensures { self.new ≡ finmap.remove self.old name }
     {
         let _ = self.map.remove(&name);
+    }
+
+    // Takes the object with a name away, and gives it. Takes no memory.
+    fn take_out(&mut self, name: Name) -> Option<Object>
+        ensures there { option_map shown result ≡ finmap.get self.old name }
+        ensures after { self.new ≡ finmap.remove self.old name }
+    {
+        self.map.remove(&name)
     }
 
     // Why an operation on an object that is there would be refused.
@@ -366,6 +369,122 @@ impl Objects {
         }
     }
 
+    // What undoes an operation that isn't refused, and that makes and drops no object, where it has to be known.
+    fn undo_of(&self, alloc: Global, ops: &Ops, op: &Op<'_>, changes: &Changes) -> Result<Option<Undo>, OutOfMemory>
+        requires in_place { IsInPlace (verb_of op.now) }
+        requires accepted { IsOk (step (table_of record_meaning range_meaning ops.now) self.now (said_op op.now)).0 }
+        ensures { IfOk result (λ undo. (name : List ℕ) (object : Option plain.Object) → undo_in changes.now name (undo_on name (name_of op.now, shown_undo_of undo) object) ≡ undo_in changes.now name (undo_on name (note_of_op (table_of record_meaning range_meaning ops.now) self.now (said_op op.now)) object)) }
+    {
+        let name = op.name();
+        if !changes.keeps_notes(name) {
+            return Ok(None);
+        }
+        match self.map.get(&name) {
+            None => unreachable!(),
+            Some(object) => object.undo_of(alloc, op),
+        }
+    }
+
+    // Makes an object, where that isn't refused, and notes it.
+    fn make_noted(
+        &mut self,
+        alloc: Global,
+        ops: &Ops,
+        op: &Op<'_>,
+        into: &mut [u8],
+        changes: &mut Changes,
+    ) -> Result<Reply, OutOfMemory>
+        requires room { 8192 ≤ length into.old }
+        requires accepted { IsOk (step (table_of record_meaning range_meaning ops.now) self.old (said_op op.now)).0 }
+        requires makes { Makes (verb_of op.now) }
+        ensures done { IfOk result (λ r. step (table_of record_meaning range_meaning ops.now) self.old (said_op op.now) ≡ (Ok (said_reply into.new r), self.new)) }
+        ensures noted { OnOk result ((name : List ℕ) (object : Option plain.Object) → undo_in changes.new name object ≡ undo_in changes.old name (undo_on name (note_of_op (table_of record_meaning range_meaning ops.now) self.old (said_op op.now)) object)) }
+        ensures err { OnErr result (self.new ≡ self.old) }
+        ensures same { OnErr result ((name : List ℕ) (object : Option plain.Object) → undo_in changes.new name object ≡ undo_in changes.old name object) }
+    {
+        changes.reserve(alloc, op.name())?;
+        let reply = self.perform(alloc, ops, op, into)?;
+        changes.add(op.name(), Change::Made);
+        Ok(reply)
+    }
+
+    // Drops an object that is there, and notes it.
+    fn drop_noted(&mut self, alloc: Global, name: Name, changes: &mut Changes) -> Result<Reply, OutOfMemory>
+        requires { IsSome (finmap.get self.old name) }
+        ensures done { OnOk result (self.new ≡ finmap.remove self.old name) }
+        ensures reply { IfOk result (λ r. r ≡ Reply.Done) }
+        ensures noted { OnOk result ((other : List ℕ) (object : Option plain.Object) → undo_in changes.new other object ≡ undo_in changes.old other (undo_on other (name, note_object Discard (finmap.get self.old name)) object)) }
+        ensures err { OnErr result (self.new ≡ self.old) }
+        ensures same { OnErr result ((other : List ℕ) (object : Option plain.Object) → undo_in changes.new other object ≡ undo_in changes.old other object) }
+    {
+        changes.reserve(alloc, name)?;
+        if let Some(object) = self.take_out(name) {
+            changes.add(name, Change::Dropped(object));
+        }
+        Ok(Reply::Done)
+    }
+
+    // Does an operation that isn't refused, and that makes and drops no object, and notes it.
+    fn edit_noted(
+        &mut self,
+        alloc: Global,
+        ops: &Ops,
+        op: &Op<'_>,
+        into: &mut [u8],
+        changes: &mut Changes,
+    ) -> Result<Reply, OutOfMemory>
+        requires room { 8192 ≤ length into.old }
+        requires in_place { IsInPlace (verb_of op.now) }
+        requires accepted { IsOk (step (table_of record_meaning range_meaning ops.now) self.old (said_op op.now)).0 }
+        ensures done { IfOk result (λ r. step (table_of record_meaning range_meaning ops.now) self.old (said_op op.now) ≡ (Ok (said_reply into.new r), self.new)) }
+        ensures noted { OnOk result ((name : List ℕ) (object : Option plain.Object) → undo_in changes.new name object ≡ undo_in changes.old name (undo_on name (note_of_op (table_of record_meaning range_meaning ops.now) self.old (said_op op.now)) object)) }
+        ensures err { OnErr result (self.new ≡ self.old) }
+        ensures same { OnErr result ((name : List ℕ) (object : Option plain.Object) → undo_in changes.new name object ≡ undo_in changes.old name object) }
+    {
+        let undo = self.undo_of(alloc, ops, op, changes)?;
+        changes.reserve(alloc, op.name())?;
+        let reply = self.perform(alloc, ops, op, into)?;
+        changes.add_undo(op.name(), undo);
+        Ok(reply)
+    }
+
+    // Does an operation that isn't refused, and notes it.
+    fn perform_noted(
+        &mut self,
+        alloc: Global,
+        ops: &Ops,
+        op: &Op<'_>,
+        into: &mut [u8],
+        changes: &mut Changes,
+    ) -> Result<Reply, OutOfMemory>
+        requires room { 8192 ≤ length into.old }
+        requires accepted { IsOk (step (table_of record_meaning range_meaning ops.now) self.old (said_op op.now)).0 }
+        ensures done { IfOk result (λ r. step (table_of record_meaning range_meaning ops.now) self.old (said_op op.now) ≡ (Ok (said_reply into.new r), self.new)) }
+        ensures noted { OnOk result ((name : List ℕ) (object : Option plain.Object) → undo_in changes.new name object ≡ undo_in changes.old name (undo_on name (note_of_op (table_of record_meaning range_meaning ops.now) self.old (said_op op.now)) object)) }
+        ensures err { OnErr result (self.new ≡ self.old) }
+        ensures same { OnErr result ((name : List ℕ) (object : Option plain.Object) → undo_in changes.new name object ≡ undo_in changes.old name object) }
+    {
+        match *op {
+            Op::MakeArray { .. } | Op::MakeTable { .. } | Op::MakeBlob { .. } => {
+                self.make_noted(alloc, ops, op, into, changes)
+            }
+            Op::Discard { name } => self.drop_noted(alloc, name, changes),
+            Op::Push { .. }
+            | Op::Pop { .. }
+            | Op::Set { .. }
+            | Op::Get { .. }
+            | Op::Len { .. }
+            | Op::Apply { .. }
+            | Op::Put { .. }
+            | Op::Del { .. }
+            | Op::Find { .. }
+            | Op::Write { .. }
+            | Op::Read { .. }
+            | Op::Size { .. }
+            | Op::Paint { .. } => self.edit_noted(alloc, ops, op, into, changes),
+        }
+    }
+
     /// Does a changing operation as `apply` does, and notes in `changes` what takes it back, before what these note.
     ///
     /// After `OutOfMemory`, which comes only for an operation that would have got a reply, the objects
@@ -390,7 +509,10 @@ impl Objects {
         if let Some(reason) = self.refusal(ops, op) {
             return Ok(Err(reason));
         }
-        Err(OutOfMemory)
+        match self.perform_noted(alloc, ops, op, into, changes) {
+            Ok(reply) => Ok(Ok(reply)),
+            Err(fault) => Err(fault),
+        }
     }
 
     /// Takes back all that `changes` notes, and then it notes nothing.

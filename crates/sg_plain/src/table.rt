@@ -12,6 +12,7 @@ ghost use Rattle.sg_model.specs.Step.{at_key, put_value, del_value, found, on, I
 
 use crate::front::put_front;
 use crate::reach::{only_read, written};
+use crate::undo::Undo;
 use sg_base::OutOfMemory;
 use sg_model::{Key, Op, Reason, Reply, Resource, Touches};
 use std::alloc::{AllocError, Global};
@@ -93,6 +94,9 @@ fn key_refusal(key: &[u8]) -> Option<Reason>
 }
 
 impl Table {
+    ghost use Rattle.sg_model.specs.Undo.{note_del, note_put, note_table};
+    ghost use Rattle.sg_plain.specs.Undone.{shown_undo_of};
+
     /// A table without entries. Takes no memory.
     pub fn new(alloc: Global) -> Table
         ensures { result ≡ finmap.empty }
@@ -170,14 +174,55 @@ impl Table {
         self.map.remove(&key).is_some()
     }
 
-    // The value under a key.
-    fn find(&self, key: Key) -> Option<&[u8]>
+    /// The value under a key.
+    pub fn find(&self, key: Key) -> Option<&[u8]>
         ensures value { option_copied result ≡ finmap.get self.now key }
         ensures short { IfSome result (λ value. length value.now ≤ 1024) }
     {
         match self.map.get(&key) {
             Some(entry) => Some(entry.bytes.as_slice()),
             None => None,
+        }
+    }
+
+    // What undoes that the value under a key is replaced or taken away: nothing, where there is none.
+    fn undo_of_value(&self, alloc: Global, key: Key) -> Result<Option<Undo>, OutOfMemory>
+        ensures { IfOk result (λ undo. shown_undo_of undo ≡ note_del key (finmap.get self.now key)) }
+    {
+        match self.find(key) {
+            None => Ok(None),
+            Some(value) => match Vec::from_slice(alloc, value) {
+                Ok(bytes) => Ok(Some(Undo::Value { key, bytes })),
+                Err(_) => Err(OutOfMemory),
+            },
+        }
+    }
+
+    // What undoes that a value is put under a key.
+    fn undo_of_put(&self, alloc: Global, key: Key) -> Result<Option<Undo>, OutOfMemory>
+        ensures { IfOk result (λ undo. shown_undo_of undo ≡ note_put key (finmap.get self.now key)) }
+    {
+        if self.find(key).is_none() {
+            return Ok(Some(Undo::New(key)));
+        }
+        self.undo_of_value(alloc, key)
+    }
+
+    /// What undoes an operation that isn't refused: nothing, where it changes nothing.
+    pub fn undo_of(&self, alloc: Global, op: &Op<'_>) -> Result<Option<Undo>, OutOfMemory>
+        requires { IsOk (on fresh_table (verb_of op.now) (Some (as_object self.now))).0 }
+        ensures { IfOk result (λ undo. shown_undo_of undo ≡ note_table (verb_of op.now) self.now) }
+    {
+        match *op {
+            Op::Put { key, .. } => match checked_key(key) {
+                Ok(key) => self.undo_of_put(alloc, key),
+                Err(_) => unreachable!(),
+            },
+            Op::Del { key, .. } => match checked_key(key) {
+                Ok(key) => self.undo_of_value(alloc, key),
+                Err(_) => unreachable!(),
+            },
+            _ => Ok(None),
         }
     }
 
