@@ -54,8 +54,8 @@ HasRoom (pasts.Changed undos) = vec_len undos < vec_capacity undos
 HasRoom other = Unit {0}
 
 -- there is memory to note one more change of what stands under a name
-abbrev pub HasPlace : code_changes.Changes → List ℕ → Type 0
-HasPlace changes name = IsSomeAnd (get (slice_cmp nat_cmp) changes.map name) HasRoom
+abbrev pub IsReserved : code_changes.Changes → List ℕ → Type 0
+IsReserved changes name = IsSomeAnd (get (slice_cmp nat_cmp) changes.map name) HasRoom
 
 -- what stood under a name before the changes, by what stands there now
 abbrev pub undo_in : code_changes.Changes → List ℕ → Option Object → Option Object

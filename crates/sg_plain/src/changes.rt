@@ -2,7 +2,7 @@ ghost use Rattle.std.specs.Prelude.{◌≡◌, ℕ, List, Option, OnOk};
 ghost use Rattle.std.specs.Bool.{OnFalse};
 ghost use Rattle.sg_model.specs.Objects.{Object};
 ghost use Rattle.sg_model.specs.Undo.{undo_on};
-ghost use Rattle.sg_plain.specs.Undone.{undo_in, shown_change, shown_undo_of, HasPlace};
+ghost use Rattle.sg_plain.specs.Undone.{undo_in, shown_change, shown_undo_of, IsReserved};
 
 use crate::undo::{Change, Past, Undo};
 use sg_base::{Name, OutOfMemory};
@@ -58,7 +58,7 @@ impl Changes {
     /// Takes memory so that one more change of what stands under a name can be added. The changes stay, whatever the result.
     pub fn reserve(&mut self, alloc: Global, name: Name) -> Result<(), OutOfMemory>
         ensures same { (other : List ℕ) (object : Option Object) → undo_in self.new other object ≡ undo_in self.old other object }
-        ensures place { OnOk result (HasPlace self.new name) }
+        ensures place { OnOk result (IsReserved self.new name) }
     {
         self.make_place(alloc, name)?;
         match self.map.get_mut(&name) {
@@ -69,7 +69,7 @@ impl Changes {
 
     /// Adds a change of what stands under a name. Takes no memory.
     pub fn add(&mut self, name: Name, change: Change)
-        requires { HasPlace self.old name }
+        requires { IsReserved self.old name }
         ensures { (other : List ℕ) (object : Option Object) → undo_in self.new other object ≡ undo_in self.old other (undo_on other (name, shown_change change) object) }
     {
         match self.map.get_mut(&name) {
@@ -80,7 +80,7 @@ impl Changes {
 
     /// Adds a change in place of what stands under a name, where it has to be known. Takes no memory.
     pub fn add_undo(&mut self, name: Name, undo: Option<Undo>)
-        requires { HasPlace self.old name }
+        requires { IsReserved self.old name }
         ensures { (other : List ℕ) (object : Option Object) → undo_in self.new other object ≡ undo_in self.old other (undo_on other (name, shown_undo_of undo) object) }
     {
         if let Some(undo) = undo {
