@@ -1,4 +1,4 @@
-ghost use Rattle.std.specs.Prelude.{◌≡◌, ◌≤◌, length, IfOk, OnErr, IsOk, Ok, Some, ◌++◌, map};
+ghost use Rattle.std.specs.Prelude.{◌≡◌, ◌≤◌, length, IfOk, OnOk, OnErr, IsOk, Ok, Some, ◌++◌, map};
 ghost use Rattle.sg_ops.specs.Table.{Table as Operations, table_of};
 ghost use Rattle.sg_model.specs.Verb.Verb.{Keys};
 ghost use Rattle.sg_model.specs.SaidReplies.{said_reply};
@@ -13,10 +13,11 @@ use crate::array::Array;
 use crate::blob::Blob;
 use crate::reach::only_read;
 use crate::table::Table;
+use crate::undo::Undo;
 use sg_base::{Name, OutOfMemory};
 use sg_model::{Key, Op, Reason, Reply, Resource, Touches};
 use sg_ops::Ops;
-use std::alloc::{AllocError, Global};
+use std::alloc::Global;
 
 /// An object.
 #[derive(Drop)]
@@ -29,19 +30,10 @@ pub enum Object {
     Blob(Blob),
 }
 
-impl Clone for Object {
-    ghost is_clone = { λ a b. b ≡ a };
-
-    fn clone(&self) -> Result<Object, AllocError> {
-        match self {
-            Object::Array(array) => Ok(Object::Array(array.clone()?)),
-            Object::Table(table) => Ok(Object::Table(table.clone()?)),
-            Object::Blob(blob) => Ok(Object::Blob(blob.clone()?)),
-        }
-    }
-}
-
 impl Object {
+    ghost use Rattle.sg_plain.specs.Undone.{shown_undo, undo_listed};
+    ghost use Rattle.sg_plain.specs.Ready.{IsReady};
+
     /// Why an operation that makes and drops no object would be refused.
     #[tactic(auto, using(crate::proofs::Steps::table_refuses))]
     pub fn refusal(&self, ops: &Ops, op: &Op<'_>) -> Option<Reason>
@@ -116,6 +108,35 @@ impl Object {
             Object::Array(array) => array.apply(ops, op, into),
             Object::Table(table) => table.apply(alloc, op, into),
             Object::Blob(blob) => blob.apply(ops, op, into),
+        }
+    }
+
+    /// Makes room for taking back what the notes say. After `OutOfMemory`, which comes too where the
+    /// notes don't fit the object, it is unchanged.
+    pub fn make_ready(&mut self, undos: &[Undo]) -> Result<(), OutOfMemory>
+        ensures same { shown self.new ≡ shown self.old }
+        ensures ready { OnOk result (IsReady (map shown_undo undos.now) self.new) }
+    {
+        let _ = undos;
+        Err(OutOfMemory)
+    }
+
+    /// Takes back what the notes say, the last one first. Takes no memory.
+    pub fn undo_all(&mut self, undos: Vec<Undo>)
+        requires { IsReady (map shown_undo undos.items) self.old }
+        ensures { Some (shown self.new) ≡ undo_listed undos.items (Some (shown self.old)) }
+    {
+        let _ = undos;
+        unreachable!()
+    }
+
+    /// Takes away room that notes needed, where it is known to be empty. Takes no memory.
+    pub fn drop_places(&mut self)
+        ensures { shown self.new ≡ shown self.old }
+    {
+        match self {
+            Object::Table(table) => table.drop_places(),
+            Object::Array(_) | Object::Blob(_) => {}
         }
     }
 }
