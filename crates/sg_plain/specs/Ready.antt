@@ -6,6 +6,7 @@ use Rattle.sg_model.specs.Undo.Note.{WasPushed, WasPopped, WasSet, HadBytes}
 use Rattle.sg_plain.specs.declared.object.Object as code
 use Rattle.sg_plain.specs.declared.object.Object.TheVariants as objects
 use Rattle.sg_plain.specs.Rooms.{HeldRow, HeldBytes}
+use Rattle.sg_plain.specs.Tables.{IsReadyTable}
 
 -- a note of what was done to an array with items of this size
 abbrev pub IsOfRow : ℕ → Note → Type 0
@@ -39,7 +40,7 @@ abbrev pub IsReadyBytes : List Note → HeldBytes → Type 0
 IsReadyBytes notes blob = All (IsOfBytes blob.room) notes
 
 -- the notes can be undone, the last one first, without more memory
-abbrev pub IsReady : List Note → code.Object → Type 0
+unfoldable pub IsReady : List Note → code.Object → Type 0
 IsReady notes (objects.Array array) = IsReadyRow notes array
-IsReady notes (objects.Table table) = ⊥
+IsReady notes (objects.Table places) = IsReadyTable notes places
 IsReady notes (objects.Blob blob) = IsReadyBytes notes blob

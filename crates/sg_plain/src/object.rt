@@ -1,4 +1,4 @@
-ghost use Rattle.std.specs.Prelude.{◌≡◌, ◌≤◌, length, IfOk, OnErr, IsOk, Ok, Some, ◌++◌, map};
+ghost use Rattle.std.specs.Prelude.{◌≡◌, ◌≤◌, length, IfOk, OnOk, OnErr, IsOk, Ok, Some, ◌++◌, map};
 ghost use Rattle.sg_ops.specs.Table.{Table as Operations, table_of};
 ghost use Rattle.sg_model.specs.Verb.Verb.{Keys};
 ghost use Rattle.sg_model.specs.SaidReplies.{said_reply};
@@ -31,7 +31,6 @@ pub enum Object {
 }
 
 impl Object {
-    ghost use Rattle.std.specs.Prelude.{OnOk};
     ghost use Rattle.sg_model.specs.Undo.{note_there};
     ghost use Rattle.sg_plain.specs.Undone.{shown_undo, shown_undo_of, undo_listed};
     ghost use Rattle.sg_plain.specs.Ready.{IsReady};
@@ -128,26 +127,38 @@ impl Object {
 
     /// Takes memory so that the notes can be undone without any more, and leaves the object as it is.
     /// It answers `OutOfMemory` too where the notes aren't those of an object like this.
+    #[tactic(auto, unfolding(crate::specs::Ready::IsReady))]
     pub fn make_ready(&mut self, undos: &[Undo]) -> Result<(), OutOfMemory>
         ensures same { shown self.new ≡ shown self.old }
         ensures ready { OnOk result (IsReady (map shown_undo undos.now) self.new) }
     {
         match self {
             Object::Array(array) => array.make_ready(undos),
-            Object::Table(_) => Err(OutOfMemory),
+            Object::Table(table) => table.make_ready(undos),
             Object::Blob(blob) => blob.make_ready(undos),
         }
     }
 
     /// Undoes what the notes say, the last one first. Takes no memory.
+    #[tactic(auto, unfolding(crate::specs::Ready::IsReady))]
     pub fn undo_all(&mut self, undos: Vec<Undo>)
         requires { IsReady (map shown_undo undos.items) self.old }
         ensures { Some (shown self.new) ≡ undo_listed undos.items (Some (shown self.old)) }
     {
         match self {
             Object::Array(array) => array.undo_all(undos),
-            Object::Table(_) => unreachable!(),
+            Object::Table(table) => table.undo_all(undos),
             Object::Blob(blob) => blob.undo_all(undos),
+        }
+    }
+
+    /// Takes away room that notes needed, where it is known to be empty. Takes no memory.
+    pub fn drop_places(&mut self)
+        ensures { shown self.new ≡ shown self.old }
+    {
+        match self {
+            Object::Table(table) => table.drop_places(),
+            Object::Array(_) | Object::Blob(_) => {}
         }
     }
 }

@@ -1,4 +1,5 @@
-ghost use Rattle.std.specs.Prelude.{◌≡◌, ◌≤◌, ℕ, List, IsTrue, Option, [], ◌∷◌, map, length, is_some, OnOk, IfOk, OnErr, IsOk, Ok};
+ghost use Rattle.std.specs.Prelude.{◌≡◌, ◌≤◌, ℕ, List, IsTrue, Option, [], ◌∷◌, map, length, is_some, option_copied, OnOk, IfOk, OnErr, IsOk, Ok};
+ghost use Rattle.std.specs.Option.{option_map};
 ghost use Rattle.std.specs.FinMap as finmap;
 ghost use Rattle.sg_ops.specs.Table.{Table as Operations, table_of};
 ghost use Rattle.sg_model.specs.Objects as plain;
@@ -18,7 +19,9 @@ ghost use Rattle.sg_model.specs.Step.{on, step, IsInPlace, GrowsBy, Refuses};
 use crate::array::Array;
 use crate::blob::Blob;
 use crate::changes::Changes;
+use crate::back::{drop_places, make_all_ready, take_all_back};
 use crate::object::Object;
+use crate::places::filled_keys;
 use crate::reach::{only_read, written};
 use crate::table::Table;
 use crate::undo::{Change, Undo};
@@ -31,7 +34,7 @@ use std::marker::Model;
 
 // Does an operation that isn't refused to the object with its name.
 fn apply_in(
-    map: &mut BTreeMap<Name, Object>,
+    map: &mut BTreeMap<Name, Option<Object>>,
     alloc: Global,
     ops: &Ops,
     name: Name,
@@ -46,16 +49,17 @@ fn apply_in(
     ensures err { OnErr result (objects_of map.new.entries ≡ objects_of map.old.entries) }
     ensures memory { OnErr result (GrowsBy (verb_of op.now)) }
 {
-    let Some(object) = map.get_mut(&name) else {
-        unreachable!();
-    };
-    object.apply(alloc, ops, op, into)
+    match map.get_mut(&name) {
+        Some(Some(object)) => object.apply(alloc, ops, op, into),
+        Some(None) | None => unreachable!(),
+    }
 }
 
 /// Objects under names, which contracts see as a finite map.
 #[derive(Drop)]
 pub struct Objects {
-    map: BTreeMap<Name, Object>,
+    // a name may have a place with no object, where one can be put back without memory
+    map: BTreeMap<Name, Option<Object>>,
 }
 
 impl Model for Objects {
@@ -80,7 +84,6 @@ impl Model for Objects {
 impl Objects {
     ghost use Rattle.sg_model.specs.Step.{Grows, is_changing};
     ghost use Rattle.std.specs.Prelude.{IsSome};
-    ghost use Rattle.std.specs.Option.{option_map};
     ghost use Rattle.sg_model.specs.Verb.Verb.{Discard};
     ghost use Rattle.sg_model.specs.declared.op.Reply.TheVariants as Reply;
     ghost use Rattle.sg_model.specs.Undo.{undo_on, note_of_op, note_object};
@@ -95,11 +98,21 @@ impl Objects {
         }
     }
 
+    // The object with this name.
+    fn get(&self, name: Name) -> Option<&Object>
+        ensures { option_map shown (option_copied result) ≡ finmap.get self.now name }
+    {
+        match self.map.get(&name) {
+            Some(Some(object)) => Some(object),
+            Some(None) | None => None,
+        }
+    }
+
     // Whether there is an object with this name.
     fn has(&self, name: Name) -> bool
         ensures { result ≡ is_some (finmap.get self.now name) }
     {
-        self.map.contains_key(&name)
+        self.get(name).is_some()
     }
 
     // Puts a new object under a name.
@@ -107,7 +120,7 @@ impl Objects {
         ensures ok { OnOk result (self.new ≡ finmap.insert self.old name (shown object)) }
         ensures err { OnErr result (self.new ≡ self.old) }
     {
-        match self.map.insert(name, object) {
+        match self.map.insert(name, Some(object)) {
             Ok(_) => Ok(()),
             Err(_) => Err(OutOfMemory),
         }
@@ -125,7 +138,10 @@ impl Objects {
         ensures there { option_map shown result ≡ finmap.get self.old name }
         ensures after { self.new ≡ finmap.remove self.old name }
     {
-        self.map.remove(&name)
+        match self.map.remove(&name) {
+            Some(place) => place,
+            None => None,
+        }
     }
 
     // Why an operation on an object that is there would be refused.
@@ -133,7 +149,7 @@ impl Objects {
         requires { IsInPlace (verb_of op.now) }
         ensures { Refuses (on (table_of record_meaning range_meaning ops.now) (verb_of op.now) (finmap.get self.now name)).0 result }
     {
-        match self.map.get(&name) {
+        match self.get(name) {
             None => Some(Reason::NoObject),
             Some(object) => object.refusal(ops, op),
         }
@@ -196,7 +212,7 @@ impl Objects {
         ensures done { IfOk result (λ r. (t : Operations) → step t self.now (On name Keys) ≡ (shown_keys r, self.now)) }
         ensures cause { OnErr result ((t : Operations) → IsOk (step t self.now (On name Keys)).0) }
     {
-        match self.map.get(&name) {
+        match self.get(name) {
             None => Ok(Err(Reason::NoObject)),
             Some(object) => object.keys(alloc),
         }
@@ -206,10 +222,7 @@ impl Objects {
     pub fn list(&self, alloc: Global) -> Result<Vec<Name>, OutOfMemory>
         ensures { IfOk result (λ names. (t : Operations) → step t self.now Names ≡ (Ok (Several names.items), self.now)) }
     {
-        match self.map.keys().copied().collect(alloc) {
-            Ok(names) => Ok(names),
-            Err(_) => Err(OutOfMemory),
-        }
+        filled_keys(alloc, &self.map)
     }
 
     // What an operation on an object that is there touches.
@@ -220,7 +233,7 @@ impl Objects {
     {
         let mut touches = Touches::new();
         touches.push(only_read(Resource::Name(name)));
-        match self.map.get(&name) {
+        match self.get(name) {
             None => {}
             Some(object) => object.reach(op, &mut touches),
         }
@@ -242,7 +255,7 @@ impl Objects {
     {
         let mut touches = Touches::new();
         touches.push(only_read(Resource::Name(name)));
-        match self.map.get(&name) {
+        match self.get(name) {
             None => {}
             Some(object) => object.reach_keys(name, &mut touches),
         }
@@ -379,7 +392,7 @@ impl Objects {
         if !changes.keeps_notes(name) {
             return Ok(None);
         }
-        match self.map.get(&name) {
+        match self.get(name) {
             None => unreachable!(),
             Some(object) => object.undo_of(alloc, op),
         }
@@ -517,12 +530,21 @@ impl Objects {
 
     /// Takes back all that `changes` notes, and then it notes nothing.
     /// After `OutOfMemory` the objects and the notes are unchanged.
-    pub fn take_back(&mut self, changes: &mut Changes) -> Result<(), OutOfMemory>
+    pub fn take_back(&mut self, alloc: Global, changes: &mut Changes) -> Result<(), OutOfMemory>
         ensures back { OnOk result ((name : List ℕ) → finmap.get self.new name ≡ undo_in changes.old name (finmap.get self.old name)) }
         ensures none { OnOk result ((name : List ℕ) (object : Option plain.Object) → undo_in changes.new name object ≡ object) }
         ensures err { OnErr result (self.new ≡ self.old) }
         ensures same { OnErr result ((name : List ℕ) (object : Option plain.Object) → undo_in changes.new name object ≡ undo_in changes.old name object) }
     {
-        Err(OutOfMemory)
+        match make_all_ready(&mut self.map, alloc, changes) {
+            Ok(()) => {
+                take_all_back(&mut self.map, changes);
+                Ok(())
+            }
+            Err(fault) => {
+                drop_places(&mut self.map, changes);
+                Err(fault)
+            }
+        }
     }
 }
