@@ -1,6 +1,6 @@
 -- Notes that can be undone in place without more memory.
-use Rattle.std.specs.Prelude.{◌≡◌, ℕ, ◌+◌, ◌*◌, ◌^◌, ◌<◌, ◌≤◌, Bool, true, false, List, length}
-use Rattle.std.specs.List.{All, count_by}
+use Rattle.std.specs.Prelude.{◌≡◌, ℕ, ◌+◌, ◌*◌, ◌^◌, ◌<◌, ◌≤◌, List, length}
+use Rattle.std.specs.List.{All, sum_by}
 use Rattle.sg_model.specs.Undo.{Note}
 use Rattle.sg_model.specs.Undo.Note.{WasPushed, WasPopped, WasSet, HadBytes}
 use Rattle.sg_plain.specs.declared.object.Object as code
@@ -15,14 +15,14 @@ IsOfRow size (WasPopped item) = length item ≡ size
 IsOfRow size (WasSet index item) = length item ≡ size
 IsOfRow size other = ⊥
 
--- whether to undo it adds an item
-abbrev pub adds_item : Note → Bool
-adds_item (WasPopped item) = true
-adds_item other = false
+-- how many items are put back at an array's end where a note is undone
+abbrev pub items_back : Note → ℕ
+items_back (WasPopped item) = 1
+items_back other = 0
 
--- how many items there can be once these notes are undone, at most
+-- how many items there are where these notes are undone, at most
 abbrev pub most_items : List Note → HeldRow → ℕ
-most_items notes array = length array.row.items + count_by adds_item notes
+most_items notes array = length array.row.items + sum_by items_back notes
 
 -- the notes are of arrays with items of this size, and there is room for every item that was taken off, beside those
 -- that are there

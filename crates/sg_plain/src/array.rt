@@ -1,9 +1,9 @@
 ghost use Rattle.std.specs.Prelude.{◌≡◌, ◌<◌, ◌≤◌, ◌*◌, [], ◌∷◌, ◌++◌, length, take, is_some, IfSome, IfOk, OnOk, OnErr, IsOk, IsTrue, Ok, Err, Some, slice_get, slice_set, slice_index_or, option_copied, map};
 ghost use Rattle.std.specs.Simd.{first_chunks};
-ghost use Rattle.std.specs.List.{All, count_by};
+ghost use Rattle.std.specs.List.{All, sum_by};
 ghost use Rattle.std.specs.Option.{OnSome};
 ghost use Rattle.sg_ops.specs.Table.{table_of, record_at, accepts_of, after_of};
-ghost use Rattle.sg_plain.specs.Ready.{IsOfRow, adds_item};
+ghost use Rattle.sg_plain.specs.Ready.{IsOfRow, items_back};
 ghost use Rattle.sg_plain.specs.Undone.{shown_undo};
 ghost use Rattle.sg_model.specs.Objects.Object.{Array as as_object};
 ghost use Rattle.sg_model.specs.SaidReplies.{said_reply};
@@ -94,21 +94,30 @@ fn redo_in(
     ops.redo(code, &mut bytes[at..at + size], arg);
 }
 
-// How many items are added once the notes are undone, if they are all notes of an array with items of this size.
-fn items_added(undos: &[Undo], size: usize) -> Option<usize>
-    ensures count { IfSome result (λ n. n ≡ count_by adds_item (map shown_undo undos.now)) }
+// How many items are put back at the end where a note is undone, if it is one of an array with items of this size.
+fn items_back_by(undo: &Undo, size: usize) -> Option<usize>
+    ensures count { IfSome result (λ n. n ≡ items_back (shown_undo undo.now)) }
+    ensures few { IfSome result (λ n. n ≤ 1) }
+    ensures kind { OnSome result (IsOfRow size (shown_undo undo.now)) }
+{
+    match undo {
+        Undo::Pushed => Some(0),
+        Undo::Popped(item) if item.len() == size => Some(1),
+        Undo::Set { index: _, item } if item.len() == size => Some(0),
+        _ => None,
+    }
+}
+
+// The same of several notes.
+fn items_back_by_all(undos: &[Undo], size: usize) -> Option<usize>
+    ensures count { IfSome result (λ n. n ≡ sum_by items_back (map shown_undo undos.now)) }
     ensures kind { OnSome result (All (IsOfRow size) (map shown_undo undos.now)) }
 {
-    let mut added = 0;
+    let mut back = 0;
     for undo in undos {
-        match undo {
-            Undo::Pushed => {}
-            Undo::Popped(item) if item.len() == size => added += 1,
-            Undo::Set { index: _, item } if item.len() == size => {}
-            _ => return None,
-        }
+        back += items_back_by(undo, size)?;
     }
-    Some(added)
+    Some(back)
 }
 
 #[tactic(auto, using(crate::proofs::Chunks::length_chunks))]
@@ -506,10 +515,10 @@ impl Array {
         ensures same { self.new.row ≡ self.old.row }
         ensures ready { OnOk result (IsReadyRow (map shown_undo undos.now) self.new) }
     {
-        let Some(added) = items_added(undos, self.size) else {
+        let Some(back) = items_back_by_all(undos, self.size) else {
             return Err(OutOfMemory);
         };
-        let Some(most) = self.count.checked_add(added) else {
+        let Some(most) = self.count.checked_add(back) else {
             return Err(OutOfMemory);
         };
         let Some(room) = most.checked_mul(self.size) else {
@@ -559,15 +568,17 @@ impl Array {
     }
 
     // Undoes what a note says. Takes no memory.
-    fn undo(&mut self, note: &Undo)
-        requires { IsReadyRow (shown_undo note.now ∷ []) self.old }
-        ensures after { Some (as_object self.new.row) ≡ undo (shown_undo note.now) (Some (as_object self.old.row)) }
+    fn undo(&mut self, note: Undo)
+        requires kind { IsOfRow self.old.row.size (shown_undo note) }
+        requires fits { (length self.old.row.items + items_back (shown_undo note)) * self.old.row.size ≤ self.old.room }
+        requires few { length self.old.row.items + items_back (shown_undo note) < 2 ^ 64 }
+        ensures after { Some (as_object self.new.row) ≡ undo (shown_undo note) (Some (as_object self.old.row)) }
         ensures room { self.old.room ≤ self.new.room }
     {
         match note {
             Undo::Pushed => self.cut_last(),
-            Undo::Popped(item) => self.put_back(item),
-            Undo::Set { index, item } => self.set_back(*index, item),
+            Undo::Popped(item) => self.put_back(&item),
+            Undo::Set { index, item } => self.set_back(index, &item),
             _ => unreachable!(),
         }
     }
@@ -579,7 +590,7 @@ impl Array {
     {
         let mut undos = undos;
         while let Some(note) = undos.pop() {
-            self.undo(&note);
+            self.undo(note);
         }
     }
 }

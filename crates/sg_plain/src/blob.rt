@@ -45,22 +45,29 @@ impl Model for Blob {
     ghost invariant = { λ b. length b.bytes.items ≤ 16384000 };
 }
 
-// The greatest length that the notes give back, if they are all notes of a blob.
+// The length that a note gives back, if it is one of a blob, whose bytes lie within that length.
+fn length_back(undo: &Undo) -> Option<usize>
+    ensures { IfSome result (λ len. IsOfBytes len (shown_undo undo.now)) }
+{
+    match undo {
+        Undo::Bytes { at, bytes, length }
+            if *length as u64 <= MOST_BLOB_BYTES
+                && *at <= *length
+                && bytes.len() <= *length - *at =>
+        {
+            Some(*length)
+        }
+        _ => None,
+    }
+}
+
+// The greatest length that the notes give back, if they are all of a blob.
 fn greatest_length(undos: &[Undo]) -> Option<usize>
     ensures { IfSome result (λ most. All (IsOfBytes most) (map shown_undo undos.now)) }
 {
     let mut most = 0;
     for undo in undos {
-        match undo {
-            Undo::Bytes { at, bytes, length }
-                if *length as u64 <= MOST_BLOB_BYTES
-                    && *at <= *length
-                    && bytes.len() <= *length - *at =>
-            {
-                most = max(most, *length);
-            }
-            _ => return None,
-        }
+        most = max(most, length_back(undo)?);
     }
     Some(most)
 }
@@ -388,14 +395,14 @@ impl Blob {
     }
 
     // Undoes what a note says. Takes no memory.
-    fn undo(&mut self, note: &Undo)
-        requires { IsOfBytes self.old.room (shown_undo note.now) }
-        ensures after { Some (as_object self.new.bytes) ≡ undo (shown_undo note.now) (Some (as_object self.old.bytes)) }
+    fn undo(&mut self, note: Undo)
+        requires { IsOfBytes self.old.room (shown_undo note) }
+        ensures after { Some (as_object self.new.bytes) ≡ undo (shown_undo note) (Some (as_object self.old.bytes)) }
         ensures room { self.old.room ≤ self.new.room }
     {
         match note {
-            Undo::Bytes { at, bytes, length } => match self.set_len(*length) {
-                Ok(()) => self.replace(*at, bytes),
+            Undo::Bytes { at, bytes, length } => match self.set_len(length) {
+                Ok(()) => self.replace(at, &bytes),
                 Err(_) => unreachable!(),
             },
             _ => unreachable!(),
@@ -409,7 +416,7 @@ impl Blob {
     {
         let mut undos = undos;
         while let Some(note) = undos.pop() {
-            self.undo(&note);
+            self.undo(note);
         }
     }
 }
