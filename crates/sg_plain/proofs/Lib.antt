@@ -5,4 +5,4 @@ pub mod Steps
 pub mod Sorted
 pub mod Copies
 pub mod Noting
-pub mod Undoing
+pub mod Ready

@@ -6,7 +6,7 @@ use Rattle.std.proofs.lemmas.List.{take_all}
 use Rattle.sg_plain.specs.declared.undo.Undo as code_undo
 use Rattle.sg_plain.specs.Ready.{IsOfRow, items_back}
 use Rattle.sg_plain.specs.Undone.{shown_undo}
-use Rattle.sg_plain.proofs.Undoing.{back_shown}
+use Rattle.sg_plain.proofs.Ready.{back_shown}
 use Rattle.sg_plain.proofs.array.items_back_by_all.Goals as goal
 
 pub loop-undo-preserved : goal.loop-undo-preserved

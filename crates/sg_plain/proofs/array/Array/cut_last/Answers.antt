@@ -3,7 +3,7 @@ use Rattle.std.specs.Simd.{first_chunks}
 use Rattle.sg_model.specs.Objects.{Row}
 use Rattle.sg_model.specs.Step.{pop}
 use Rattle.sg_plain.specs.Rooms.{HeldRow}
-use Rattle.sg_plain.proofs.Undoing.{cut_row}
+use Rattle.sg_plain.proofs.Ready.{cut_row}
 use Rattle.sg_plain.proofs.array.Array.cut_last.Goals as goal
 
 pub returns-then-self-gt0-clause-after : goal.returns-then-self-gt0-clause-after

@@ -2,7 +2,7 @@ use Rattle.std.proofs.Common.{◌≡◌, ◌≤◌, List, ℕ, length, sym, ap, 
 use Rattle.std.specs.Simd.{first_chunks}
 use Rattle.sg_plain.specs.Rooms.{HeldRow}
 use Rattle.sg_plain.proofs.Chunks.{length_chunks}
-use Rattle.sg_plain.proofs.Undoing.{set_past}
+use Rattle.sg_plain.proofs.Ready.{set_past}
 use Rattle.sg_plain.proofs.array.Array.set_back.Goals as goal
 
 pub returns-else-index-self-clause-after : goal.returns-else-index-self-clause-after

@@ -1,6 +1,6 @@
 use Rattle.std.proofs.Common.{◌≡◌, length, Some, sym, ◌∙◌, arith}
 use Rattle.sg_model.specs.Objects.Object.{Array as as_object}
-use Rattle.sg_plain.proofs.Undoing.{row_next, row_rest, undone_last, none_left}
+use Rattle.sg_plain.proofs.Ready.{row_next, row_rest, undone_last, none_left}
 use Rattle.sg_plain.proofs.array.Array.undo_all.Goals as goal
 
 pub undo-requires : goal.undo-requires

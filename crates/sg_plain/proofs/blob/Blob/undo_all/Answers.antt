@@ -1,6 +1,6 @@
 use Rattle.std.proofs.Common.{◌≡◌, length, Some, sym, ◌∙◌, arith}
 use Rattle.sg_model.specs.Objects.Object.{Blob as as_object}
-use Rattle.sg_plain.proofs.Undoing.{bytes_next, bytes_rest, undone_last, none_left}
+use Rattle.sg_plain.proofs.Ready.{bytes_next, bytes_rest, undone_last, none_left}
 use Rattle.sg_plain.proofs.blob.Blob.undo_all.Goals as goal
 
 pub undo-requires : goal.undo-requires
