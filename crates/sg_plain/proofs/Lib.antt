@@ -3,5 +3,5 @@ pub mod Chunks
 pub mod Arrays
 pub mod Steps
 pub mod Sorted
-pub mod Copies
+pub mod Standing
 pub mod Noting
