@@ -4,4 +4,5 @@ pub mod Arrays
 pub mod Steps
 pub mod Sorted
 pub mod Standing
+pub mod Taken
 pub mod Noting

@@ -118,3 +118,13 @@ module _ {V W : Type 0} (f : V → W) where
   -- entries at whose places the same stands show the same
   pub same_there : (es fs : List (List ℕ × Option V)) → ((k : List ℕ) → option_flatten (lookup (at k) fs) ≡ option_flatten (lookup (at k) es)) → shown_there fs ≡ shown_there es
   same_there es fs h = same_entries _ _ (λ k. get_shown_there fs k ∙ (ap (option_map f) (h k) ∙ sym (get_shown_there es k)))
+
+  emptied : (b : Bool) (w l : Option (Option V)) → option_flatten w ≡ None → (b ≡ true → option_flatten l ≡ None) → option_flatten (cond b w l) ≡ option_flatten l
+  emptied true w l e none = e ∙ sym (none refl)
+  emptied false w l e none = refl
+
+  -- a place that is made or taken away where nothing stands changes nothing
+  pub empty_changes : (es fs : List (List ℕ × Option V)) (q : List ℕ) (w : Option (Option V)) → option_flatten w ≡ None → option_flatten (lookup (at q) es) ≡ None
+      → ((k : List ℕ) → lookup (at k) fs ≡ cond (at q k) w (lookup (at k) es)) → shown_there fs ≡ shown_there es
+  empty_changes es fs q w e none h = same_there es fs (λ k.
+      ap option_flatten (h k) ∙ emptied (at q k) w (lookup (at k) es) e (λ tie. ap (λ (x : List ℕ). option_flatten (lookup (at x) es)) (bytes_same k q (sym (tied q k) ∙ tie)) ∙ none))
