@@ -55,7 +55,7 @@ module _ {V W : Type 0} (f : V → W) where
       get_shown fs k ∙ (ap (option_map f) (h k) ∙ (sym (unmapped (at q k) (lookup (at k) es)) ∙ (ap (λ b. cond b None (option_map f (lookup (at k) es))) (same_at q k)
       ∙ sym (get-remove nat_list_cmp_total (shown_map es) q k ∙ ap (cond (eq_by_cmp (slice_cmp nat_cmp) k q) None) (get_shown es k))))))
 
-mapped_some : {V W : Type 0} (f : V → W) (o : Option V) → is_some (option_map f o) ≡ is_some o
+pub mapped_some : {V W : Type 0} (f : V → W) (o : Option V) → is_some (option_map f o) ≡ is_some o
 mapped_some f None = refl
 mapped_some f (Some x) = refl
 

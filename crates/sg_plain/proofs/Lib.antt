@@ -3,6 +3,7 @@ pub mod Chunks
 pub mod Arrays
 pub mod Steps
 pub mod Sorted
-pub mod Copies
+pub mod Standing
+pub mod Taken
 pub mod Noting
 pub mod Ready

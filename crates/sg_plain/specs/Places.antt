@@ -10,21 +10,16 @@ use Rattle.std.specs.FinMap.{FinMap, entries, empty, get, insert, remove}
 abbrev pub Places : Type 0 → Type 0
 Places X = FinMap (slice_cmp nat_cmp) (Option X)
 
--- what stands at a place, where there is one
-abbrev pub standing : {X : Type 0} → Option (Option X) → Option X
-standing None = None
-standing (Some x) = x
-
 -- a map with this under a key, or with nothing there
 abbrev pub set_at : {X : Type 0} → FinMap (slice_cmp nat_cmp) X → List ℕ → Option X → FinMap (slice_cmp nat_cmp) X
 set_at m key None = remove m key
 set_at m key (Some x) = insert m key x
 
--- what stands at places, as a finite map
 abbrev pub standing_in : {X : Type 0} → List (List ℕ × Option X) → FinMap (slice_cmp nat_cmp) X
 standing_in [] = empty
 standing_in (e ∷ es) = set_at (standing_in es) e.0 e.1
 
+-- what stands at places, as a finite map
 unfoldable pub there : {X : Type 0} → Places X → FinMap (slice_cmp nat_cmp) X
 there m = standing_in (entries m)
 

@@ -21,7 +21,7 @@ use crate::blob::Blob;
 use crate::changes::Changes;
 use crate::back::{drop_places, make_all_ready, take_all_back};
 use crate::object::Object;
-use crate::places::filled_keys;
+use crate::places::{at_place, filled_keys};
 use crate::reach::{only_read, written};
 use crate::table::Table;
 use crate::undo::{Change, Undo};
@@ -49,10 +49,13 @@ fn apply_in(
     ensures err { OnErr result (objects_of map.new.entries ≡ objects_of map.old.entries) }
     ensures memory { OnErr result (GrowsBy (verb_of op.now)) }
 {
-    match map.get_mut(&name) {
-        Some(Some(object)) => object.apply(alloc, ops, op, into),
-        Some(None) | None => unreachable!(),
-    }
+    let Some(place) = map.get_mut(&name) else {
+        unreachable!();
+    };
+    let Some(object) = place else {
+        unreachable!();
+    };
+    object.apply(alloc, ops, op, into)
 }
 
 /// Objects under names, which contracts see as a finite map.
@@ -102,10 +105,7 @@ impl Objects {
     fn get(&self, name: Name) -> Option<&Object>
         ensures { option_map shown (option_copied result) ≡ finmap.get self.now name }
     {
-        match self.map.get(&name) {
-            Some(Some(object)) => Some(object),
-            Some(None) | None => None,
-        }
+        at_place(self.map.get(&name))
     }
 
     // Whether there is an object with this name.

@@ -13,7 +13,7 @@ ghost use Rattle.sg_model.specs.Step.Update.{Stays};
 ghost use Rattle.sg_model.specs.Step.{at_key, put_value, del_value, found, on, IsInPlace, GrowsBy, Refuses};
 
 use crate::front::put_front;
-use crate::places::filled_keys;
+use crate::places::{at_place, filled_keys};
 use crate::reach::{only_read, written};
 use crate::undo::Undo;
 use sg_base::OutOfMemory;
@@ -147,8 +147,7 @@ impl Table {
             return Err(OutOfMemory);
         };
         match self.map.insert(key, Some(Entry { bytes })) {
-            Ok(Some(place)) => Ok(place.is_some()),
-            Ok(None) => Ok(false),
+            Ok(old) => Ok(old.flatten().is_some()),
             Err(_) => Err(OutOfMemory),
         }
     }
@@ -158,10 +157,7 @@ impl Table {
         ensures there { result ≡ is_some (finmap.get (there self.old) key) }
         ensures after { there self.new ≡ finmap.remove (there self.old) key }
     {
-        match self.map.remove(&key) {
-            Some(place) => place.is_some(),
-            None => false,
-        }
+        self.map.remove(&key).flatten().is_some()
     }
 
     /// The value under a key.
@@ -169,9 +165,9 @@ impl Table {
         ensures value { option_copied result ≡ finmap.get (there self.now) key }
         ensures short { IfSome result (λ value. length value.now ≤ 1024) }
     {
-        match self.map.get(&key) {
-            Some(Some(entry)) => Some(entry.bytes.as_slice()),
-            Some(None) | None => None,
+        match at_place(self.map.get(&key)) {
+            Some(entry) => Some(entry.bytes.as_slice()),
+            None => None,
         }
     }
 
@@ -358,10 +354,10 @@ impl Table {
         requires { HasPlace self.old key }
         ensures { self.new ≡ finmap.insert self.old key None }
     {
-        match self.map.get_mut(&key) {
-            Some(place) => *place = None,
-            None => unreachable!(),
-        }
+        let Some(place) = self.map.get_mut(&key) else {
+            unreachable!();
+        };
+        *place = None;
     }
 
     // Puts an entry at the place of its key. Takes no memory.
@@ -369,10 +365,10 @@ impl Table {
         requires { HasPlace self.old key }
         ensures { self.new ≡ finmap.insert self.old key (Some entry.bytes.items) }
     {
-        match self.map.get_mut(&key) {
-            Some(place) => *place = Some(entry),
-            None => unreachable!(),
-        }
+        let Some(place) = self.map.get_mut(&key) else {
+            unreachable!();
+        };
+        *place = Some(entry);
     }
 
     // Takes away the place of a key, if nothing stands at it. Takes no memory.
