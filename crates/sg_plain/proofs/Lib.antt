@@ -7,3 +7,4 @@ pub mod Standing
 pub mod Taken
 pub mod Noting
 pub mod Ready
+pub mod Pasts

@@ -10,7 +10,7 @@ use Rattle.sg_model.specs.Verb.Op.{On, Names}
 use Rattle.sg_model.specs.Step.{step}
 use Rattle.sg_model.specs.Undo.{note_object, if_replied, note_of_op, undo_on}
 
-either : (b : Bool) (object : Option Object) → cond b object object ≡ object
+pub either : (b : Bool) (object : Option Object) → cond b object object ≡ object
 either true object = refl
 either false object = refl
 

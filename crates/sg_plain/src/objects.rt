@@ -138,10 +138,7 @@ impl Objects {
         ensures there { option_map shown result ≡ finmap.get self.old name }
         ensures after { self.new ≡ finmap.remove self.old name }
     {
-        match self.map.remove(&name) {
-            Some(place) => place,
-            None => None,
-        }
+        self.map.remove(&name).flatten()
     }
 
     // Why an operation on an object that is there would be refused.
@@ -415,9 +412,10 @@ impl Objects {
         ensures err { OnErr result (self.new ≡ self.old) }
         ensures same { OnErr result ((name : List ℕ) (object : Option plain.Object) → undo_in changes.new name object ≡ undo_in changes.old name object) }
     {
-        changes.reserve(alloc, op.name())?;
+        let name = op.name();
+        changes.reserve(alloc, name)?;
         let reply = self.perform(alloc, ops, op, into)?;
-        changes.add(op.name(), Change::Made);
+        changes.add(name, Change::Made);
         Ok(reply)
     }
 
@@ -431,9 +429,10 @@ impl Objects {
         ensures same { OnErr result ((other : List ℕ) (object : Option plain.Object) → undo_in changes.new other object ≡ undo_in changes.old other object) }
     {
         changes.reserve(alloc, name)?;
-        if let Some(object) = self.take_out(name) {
-            changes.add(name, Change::Dropped(object));
-        }
+        let Some(object) = self.take_out(name) else {
+            unreachable!();
+        };
+        changes.add(name, Change::Dropped(object));
         Ok(Reply::Done)
     }
 
@@ -454,10 +453,11 @@ impl Objects {
         ensures err { OnErr result (self.new ≡ self.old) }
         ensures same { OnErr result ((name : List ℕ) (object : Option plain.Object) → undo_in changes.new name object ≡ undo_in changes.old name object) }
     {
+        let name = op.name();
         let undo = self.undo_of(alloc, ops, op, changes)?;
-        changes.reserve(alloc, op.name())?;
+        changes.reserve(alloc, name)?;
         let reply = self.perform(alloc, ops, op, into)?;
-        changes.add_undo(op.name(), undo);
+        changes.add_undo(name, undo);
         Ok(reply)
     }
 
