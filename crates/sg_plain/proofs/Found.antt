@@ -63,7 +63,7 @@ mapped_some f (Some x) = refl
 pub has : {V W : Type 0} (f : V → W) (s : FinMap (slice_cmp nat_cmp) W) (es : List (List ℕ × V)) (q : List ℕ) (b : Bool) → shown_map f es ≡ s → b ≡ is_some (lookup (at q) es) → b ≡ is_some (get s q)
 has f s es q b is h = h ∙ sym (ap is_some (look f s es q (lookup (at q) es) is refl) ∙ mapped_some f (lookup (at q) es))
 
-none_of : {W : Type 0} (o : Option W) → false ≡ is_some o → o ≡ None
+pub none_of : {W : Type 0} (o : Option W) → false ≡ is_some o → o ≡ None
 none_of None e = refl
 none_of (Some x) e = absurd (cc)
 

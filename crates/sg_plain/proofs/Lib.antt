@@ -5,4 +5,5 @@ pub mod Steps
 pub mod Sorted
 pub mod Standing
 pub mod Taken
+pub mod Undoing
 pub mod Noting
