@@ -1,5 +1,5 @@
 -- What taking changes back leaves under each name.
-use Rattle.std.proofs.Common.{◌≡◌, ℕ, Bool, true, false, cond, List, [], ◌∷◌, ◌++◌, map, Option, Some, None, Result, Ok, Err, OnOk, length, ◌<◌, arith, refl, sym, ap, ◌∙◌, subst}
+use Rattle.std.proofs.Common.{◌≡◌, ℕ, Bool, true, false, cond, List, [], ◌∷◌, ◌++◌, map, Option, Some, None, Result, Ok, Err, OnOk, refl, sym, ap, ◌∙◌, subst}
 use Rattle.std.specs.Prelude.{◌||◌}
 use Rattle.std.specs.List.{AllByRecursion}
 use Rattle.std.specs.Option.{is_some, IsSome}
@@ -112,7 +112,3 @@ module _ (pasts rest : List ℕ → Option code_past.Past) (q : List ℕ) (left 
       by : (b : Bool) → at q k ≡ b → before (rest k) (now k) ≡ before (pasts k) (then k)
       by true tie = subst (λ (x : List ℕ). before (rest x) (now x) ≡ before (pasts x) (then x)) (bytes_same q k (sym (at_bytes q k) ∙ tie)) (here (at_bytes q q ∙ bytes_self q))
       by false tie = ap (λ (p : Option code_past.Past). before p (now k)) (kept k tie) ∙ ap (before (pasts k)) (others k (sym (at_bytes q k) ∙ tie))
-
-pub none_left : {A : Type 0} (es : List A) → (0 < length es → false ≡ true) → es ≡ []
-none_left [] h = refl
-none_left (x ∷ es) h = absurd (let e : false ≡ true = h (omega arith) in cc)

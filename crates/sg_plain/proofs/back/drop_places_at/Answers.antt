@@ -11,4 +11,8 @@ returns-in-Some-place c =
 
 pub returns-in-None : goal.returns-in-None
 returns-in-None c =
-    empty_changes shown c.args.objects.now.entries c.remove.new.self.entries c.args.name None refl (sym (ap option_flatten c.in-Some.ensures.value) ∙ c.in-None.is) c.remove.ensures.updates.0
+    let es = c.args.objects.now.entries in
+    let fs = (c.get_mut.follows.lender c.in-Some.place.now).entries in
+    let held = (c.get_mut.follows.holds c.in-Some.place.now).3 (search rules) in
+    empty_changes shown fs c.remove.new.self.entries c.args.name None refl (ap option_flatten held.1 ∙ c.in-None.is) c.remove.ensures.updates.0
+    ∙ empty_changes shown es fs c.args.name (Some c.in-Some.place.now) c.in-None.is (sym (ap option_flatten c.in-Some.ensures.value) ∙ c.in-None.is) held.0
