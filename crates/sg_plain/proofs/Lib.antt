@@ -5,6 +5,7 @@ pub mod Steps
 pub mod Sorted
 pub mod Standing
 pub mod Taken
+pub mod Undoing
 pub mod Noting
 pub mod Ready
 pub mod Pasts

@@ -2,7 +2,8 @@
 use Rattle.std.proofs.Common.{◌≡◌, ℕ, Bool, true, false, cond, List, [], ◌∷◌, map, Option, Some, None, refl, sym, ap, ◌∙◌, subst}
 use Rattle.std.specs.Option.{option_map, option_flatten, is_some, IsSome}
 use Rattle.std.specs.Ordering.{nat_cmp}
-use Rattle.std.specs.Cmp.Lexicographic.{slice_cmp}
+use Rattle.std.specs.Cmp.{eq_by_cmp_equiv}
+use Rattle.std.specs.Cmp.Lexicographic.{slice_cmp, nat_list_cmp_total}
 use Rattle.std.specs.FinMap.{FinMap, get, insert, remove, find, entries, get-entries, get-empty}
 use Rattle.std.specs.Str.{bytes_eq}
 use Rattle.std.specs.Map.{lookup}
@@ -104,6 +105,10 @@ module _ {V W : Type 0} (f : V → W) where
   pub stands : (s : FinMap (slice_cmp nat_cmp) W) (es : List (List ℕ × Option V)) (q : List ℕ) (o : Option (Option V)) → shown_there es ≡ s → o ≡ lookup (at q) es → get s q ≡ option_map f (option_flatten o)
   stands s es q o is h = ap (λ (m : FinMap (slice_cmp nat_cmp) W). get m q) (sym is) ∙ (get_shown_there es q ∙ ap (λ (r : Option (Option V)). option_map f (option_flatten r)) (sym h))
 
+  -- the same where the same stands
+  pub same_at_key : (es fs : List (List ℕ × Option V)) (q : List ℕ) → lookup (at q) fs ≡ lookup (at q) es → get (shown_there fs) q ≡ get (shown_there es) q
+  same_at_key es fs q e = get_shown_there fs q ∙ (ap (λ (r : Option (Option V)). option_map f (option_flatten r)) e ∙ sym (get_shown_there es q))
+
   -- whether there is something under a key
   pub stands_some : (s : FinMap (slice_cmp nat_cmp) W) (es : List (List ℕ × Option V)) (q : List ℕ) (o : Option (Option V)) (b : Bool) → shown_there es ≡ s → o ≡ lookup (at q) es → b ≡ is_some (option_flatten o) → b ≡ is_some (get s q)
   stands_some s es q o b is h t = t ∙ sym (ap is_some (stands s es q o is h) ∙ mapped_some f (option_flatten o))
@@ -128,3 +133,17 @@ module _ {V W : Type 0} (f : V → W) where
       → ((k : List ℕ) → lookup (at k) fs ≡ cond (at q k) w (lookup (at k) es)) → shown_there fs ≡ shown_there es
   empty_changes es fs q w e none h = same_there es fs (λ k.
       ap option_flatten (h k) ∙ emptied (at q k) w (lookup (at k) es) e (λ tie. ap (λ (x : List ℕ). option_flatten (lookup (at x) es)) (bytes_same k q (sym (tied q k) ∙ tie)) ∙ none))
+
+  replaced : (b : Bool) (v w : V) (l : Option (Option V)) → f w ≡ f v → (b ≡ true → Some (Some v) ≡ l) → option_map f (option_flatten (cond b (Some (Some w)) l)) ≡ option_map f (option_flatten l)
+  replaced true v w l e there = ap Some e ∙ ap (λ (r : Option (Option V)). option_map f (option_flatten r)) (there refl)
+  replaced false v w l e there = refl
+
+  -- neither does what shows the same, put in the place of what stood there
+  pub same_replaced : (es fs : List (List ℕ × Option V)) (q : List ℕ) (v w : V) → f w ≡ f v → Some (Some v) ≡ lookup (at q) es
+      → ((k : List ℕ) → lookup (at k) fs ≡ cond (at q k) (Some (Some w)) (lookup (at k) es)) → shown_there fs ≡ shown_there es
+  same_replaced es fs q v w e there h = same_entries _ _ (λ k.
+      get_shown_there fs k ∙ (ap (λ (r : Option (Option V)). option_map f (option_flatten r)) (h k)
+      ∙ (replaced (at q k) v w (lookup (at k) es) e (λ tie. there ∙ ap (λ (x : List ℕ). lookup (at x) es) (sym (bytes_same k q (sym (tied q k) ∙ tie)))) ∙ sym (get_shown_there es k))))
+
+pub at_bytes : (q k : List ℕ) → at q k ≡ bytes_eq q k
+at_bytes q k = (eq_by_cmp_equiv nat_list_cmp_total).symm q k ∙ tied k q
