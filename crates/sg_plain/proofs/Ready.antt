@@ -4,7 +4,7 @@ use Rattle.std.specs.Prelude.{slice_get, slice_set, ◌-◌, slice_index_or}
 use Rattle.std.specs.Simd.{first_chunks}
 use Rattle.std.specs.List.{All, sum_by}
 use Rattle.std.proofs.Math.Nat.{mul-le-mul_right}
-use Rattle.std.proofs.lemmas.List.{map-append, length-take, length-append}
+use Rattle.std.proofs.lemmas.List.{length-take, length-append}
 use Rattle.std.proofs.lemmas.List.Elements.{All-pop, All-weaker}
 use Rattle.std.proofs.lemmas.List.Sums.{sum_by_push, sum_by-cons}
 use Rattle.std.proofs.Math.ListN.{length-set}
@@ -12,27 +12,24 @@ use Rattle.sg_model.specs.Objects.{Row, Object}
 use Rattle.sg_model.specs.Objects.Object.{Array, Table, Blob}
 use Rattle.sg_model.specs.Verb.{Outcome}
 use Rattle.sg_model.specs.Step.{pop, pop_at, pop_item}
-use Rattle.sg_model.specs.Undo.{Note, undo, undo_each}
+use Rattle.sg_model.specs.Undo.{Note, undo}
 use Rattle.sg_model.specs.Undo.Note.{Nothing, WasMade, WasDropped, WasPushed, WasPopped, WasSet, WasPut, HadValue, HadBytes}
 use Rattle.sg_plain.specs.declared.undo.Undo as code_undo
 use Rattle.sg_plain.specs.Rooms.{HeldRow}
 use Rattle.sg_plain.specs.Ready.{IsOfRow, items_back, most_items, IsReadyRow, IsOfBytes}
 use Rattle.sg_plain.specs.Undone.{shown_undo, undo_listed}
+use Rattle.sg_plain.proofs.Taken.{shown_pushed, undo_last}
 use Rattle.sg_plain.proofs.Arrays.{popped}
 use Rattle.sg_plain.proofs.Chunks.{row_with, last_taken}
 
-undo_last : (notes : List Note) (note : Note) (object : Option Object) → undo_each (notes ++ note ∷ []) object ≡ undo_each notes (undo note object)
-undo_last [] note object = refl
-undo_last (n ∷ notes) note object = ap (undo n) (undo_last notes note object)
-
 -- notes of which one is the last
 pub listed_last : (us vs : List code_undo.Undo) (u : code_undo.Undo) → us ≡ vs ++ u ∷ [] → map shown_undo us ≡ map shown_undo vs ++ shown_undo u ∷ []
-listed_last us vs u e = ap (map shown_undo) e ∙ map-append shown_undo vs (u ∷ [])
+listed_last us vs u e = ap (map shown_undo) e ∙ shown_pushed vs u
 
 -- the last one undone, and then the others
 pub undone_last : (us vs : List code_undo.Undo) (u : code_undo.Undo) (before after : Option Object) → us ≡ vs ++ u ∷ [] → after ≡ undo (shown_undo u) before → undo_listed vs after ≡ undo_listed us before
 undone_last us vs u before after e is =
-    ap (undo_listed vs) is ∙ sym (ap (λ (ns : List Note). undo_each ns before) (listed_last us vs u e) ∙ undo_last (map shown_undo vs) (shown_undo u) before)
+    ap (undo_listed vs) is ∙ sym (ap (λ (xs : List code_undo.Undo). undo_listed xs before) e ∙ undo_last vs u before)
 
 pub none_left : (us : List code_undo.Undo) (object : Option Object) → length us ≡ 0 → undo_listed us object ≡ object
 none_left [] object none = refl

@@ -4,7 +4,7 @@ use Rattle.std.specs.Option.{option_map, option_flatten, is_some, IsSome}
 use Rattle.std.specs.Ordering.{nat_cmp}
 use Rattle.std.specs.Cmp.{eq_by_cmp_equiv}
 use Rattle.std.specs.Cmp.Lexicographic.{slice_cmp, nat_list_cmp_total}
-use Rattle.std.specs.FinMap.{FinMap, get, insert, remove, find, entries, get-entries, get-empty}
+use Rattle.std.specs.FinMap.{FinMap, get, insert, remove, find, entries, empty, get-entries, get-empty}
 use Rattle.std.specs.Str.{bytes_eq}
 use Rattle.std.specs.Map.{lookup}
 use Rattle.sg_model.proofs.Parts.{get_put, get_del, same_entries, bytes_same, bytes_self, tied}
@@ -32,6 +32,16 @@ found_in (e ∷ es) q =
 pub get_there : {X : Type 0} (m : Places X) (q : List ℕ) → get (there m) q ≡ option_flatten (get m q)
 unfolding there
 get_there m q = found_in (entries m) q ∙ ap option_flatten (sym (get-entries m q))
+
+-- at no place nothing stands
+pub there_empty : {X : Type 0} → there {X = X} empty ≡ empty
+there_empty {X} =
+    let m : Places X = empty in
+    let n : FinMap (slice_cmp nat_cmp) X = empty in
+    same_entries (there m) n (λ q.
+    let places : get m q ≡ None = get-empty (slice_cmp nat_cmp) q in
+    let none : get n q ≡ None = get-empty (slice_cmp nat_cmp) q in
+    get_there m q ∙ (ap option_flatten places ∙ sym none))
 
 -- what stands at a place can be put there and taken away
 pub there_put : {X : Type 0} (m : Places X) (k : List ℕ) (x : X) → there (insert m k (Some x)) ≡ insert (there m) k x

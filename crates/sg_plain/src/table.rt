@@ -87,7 +87,8 @@ impl Table {
 
     /// A table without entries. Takes no memory.
     pub fn new(alloc: Global) -> Table
-        ensures { result ≡ finmap.empty }
+        ensures places { result ≡ finmap.empty }
+        ensures entries { there result ≡ finmap.empty }
     {
         Table {
             map: BTreeMap::new(alloc),
