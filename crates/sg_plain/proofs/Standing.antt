@@ -1,15 +1,15 @@
 -- What maps with places show.
-use Rattle.std.proofs.Common.{◌≡◌, ℕ, Bool, true, false, cond, List, [], ◌∷◌, map, Option, Some, None, refl, sym, ap, ◌∙◌, subst}
+use Rattle.std.proofs.Common.{◌≡◌, ℕ, Bool, true, false, cond, List, [], ◌∷◌, Option, Some, None, refl, sym, ap, ◌∙◌, subst}
 use Rattle.std.specs.Option.{option_map, option_flatten, is_some, IsSome}
 use Rattle.std.specs.Ordering.{nat_cmp}
 use Rattle.std.specs.Cmp.{eq_by_cmp_equiv}
 use Rattle.std.specs.Cmp.Lexicographic.{slice_cmp, nat_list_cmp_total}
-use Rattle.std.specs.FinMap.{FinMap, get, insert, remove, find, entries, empty, get-entries, get-empty}
+use Rattle.std.specs.FinMap.{FinMap, get, insert, remove, find, empty, entries, get-entries, get-empty}
 use Rattle.std.specs.Str.{bytes_eq}
 use Rattle.std.specs.Map.{lookup}
 use Rattle.sg_model.proofs.Parts.{get_put, get_del, same_entries, bytes_same, bytes_self, tied}
 use Rattle.sg_plain.specs.Places.{Places, set_at, standing_in, there, with_place, HasPlace}
-use Rattle.sg_plain.proofs.Found.{at, shown_map, look, one_put, one_gone, mapped_some, get_shown, remove_absent}
+use Rattle.sg_plain.proofs.Found.{at, shown_map, one_put, one_gone, mapped_some, get_shown, remove_absent}
 
 pub get_set_at : {X : Type 0} (m : FinMap (slice_cmp nat_cmp) X) (k : List ℕ) (o : Option X) (q : List ℕ) → get (set_at m k o) q ≡ cond (bytes_eq k q) o (get m q)
 get_set_at m k None q = get_del m k q
@@ -33,15 +33,8 @@ pub get_there : {X : Type 0} (m : Places X) (q : List ℕ) → get (there m) q �
 unfolding there
 get_there m q = found_in (entries m) q ∙ ap option_flatten (sym (get-entries m q))
 
--- at no place nothing stands
 pub there_empty : {X : Type 0} → there {X = X} empty ≡ empty
-there_empty {X} =
-    let m : Places X = empty in
-    let n : FinMap (slice_cmp nat_cmp) X = empty in
-    same_entries (there m) n (λ q.
-    let places : get m q ≡ None = get-empty (slice_cmp nat_cmp) q in
-    let none : get n q ≡ None = get-empty (slice_cmp nat_cmp) q in
-    get_there m q ∙ (ap option_flatten places ∙ sym none))
+there_empty {X} = same_entries (there {X = X} empty) empty (λ q. get_there empty q ∙ (ap option_flatten (get-empty (slice_cmp nat_cmp) q) ∙ sym (get-empty (slice_cmp nat_cmp) q)))
 
 -- what stands at a place can be put there and taken away
 pub there_put : {X : Type 0} (m : Places X) (k : List ℕ) (x : X) → there (insert m k (Some x)) ≡ insert (there m) k x

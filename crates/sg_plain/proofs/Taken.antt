@@ -1,10 +1,7 @@
 -- What is taken back of tables.
-use Rattle.std.proofs.Common.{◌≡◌, ℕ, ◌≤◌, Bool, true, false, cond, List, [], ◌∷◌, ◌++◌, length, map, Option, Some, None, Result, Ok, Err, OnOk, OnErr, refl, sym, ap, ◌∙◌, subst}
+use Rattle.std.proofs.Common.{◌≡◌, ℕ, ◌≤◌, List, [], ◌∷◌, ◌++◌, length, map, Option, Result, Ok, Err, OnOk, OnErr, refl, sym, ap, ◌∙◌, subst}
 use Rattle.std.specs.List.{AllByRecursion}
-use Rattle.std.specs.Option.{is_some, IsSome}
-use Rattle.std.specs.FinMap.{get, insert}
 use Rattle.sg_model.specs.Objects.{Object}
-use Rattle.sg_model.specs.Objects.Object.{Table}
 use Rattle.sg_model.specs.Undo.{Note, undo, undo_each}
 use Rattle.sg_model.specs.Undo.Note.{Nothing, WasMade, WasDropped, WasPushed, WasPopped, WasSet, WasPut, HadValue, HadBytes}
 use Rattle.sg_plain.specs.declared.undo.Undo as code_undo

@@ -1,8 +1,8 @@
 -- What taking changes back leaves under each name.
-use Rattle.std.proofs.Common.{◌≡◌, ℕ, Bool, true, false, cond, List, [], ◌∷◌, ◌++◌, map, Option, Some, None, Result, Ok, Err, OnOk, refl, sym, ap, ◌∙◌, subst}
+use Rattle.std.proofs.Common.{◌≡◌, ℕ, Bool, true, false, cond, List, [], ◌∷◌, ◌++◌, Option, Some, None, Result, OnOk, refl, sym, ap, ◌∙◌, subst}
 use Rattle.std.specs.Prelude.{◌||◌}
 use Rattle.std.specs.List.{AllByRecursion}
-use Rattle.std.specs.Option.{is_some, IsSome}
+use Rattle.std.specs.Option.{is_some}
 use Rattle.std.specs.Ordering.{nat_cmp, eq_by_cmp}
 use Rattle.std.specs.Cmp.Lexicographic.{slice_cmp}
 use Rattle.std.specs.Str.{bytes_eq}
@@ -109,6 +109,7 @@ module _ (pasts rest : List ℕ → Option code_past.Past) (q : List ℕ) (left 
     where
       here : at q q ≡ true → before (rest q) (now q) ≡ before (pasts q) (then q)
       here tie = ap (λ (p : Option code_past.Past). before p (now q)) (taken q tie) ∙ (back ∙ ap (λ (p : Option code_past.Past). before p (then q)) (sym there))
+
       by : (b : Bool) → at q k ≡ b → before (rest k) (now k) ≡ before (pasts k) (then k)
       by true tie = subst (λ (x : List ℕ). before (rest x) (now x) ≡ before (pasts x) (then x)) (bytes_same q k (sym (at_bytes q k) ∙ tie)) (here (at_bytes q q ∙ bytes_self q))
       by false tie = ap (λ (p : Option code_past.Past). before p (now k)) (kept k tie) ∙ ap (before (pasts k)) (others k (sym (at_bytes q k) ∙ tie))

@@ -17,9 +17,9 @@ ghost use Rattle.sg_model.specs.Touches.Region.{Just, Everything};
 ghost use Rattle.sg_model.specs.Step.{on, step, IsInPlace, GrowsBy, Refuses};
 
 use crate::array::Array;
+use crate::back::{drop_places, make_all_ready, take_all_back};
 use crate::blob::Blob;
 use crate::changes::Changes;
-use crate::back::{drop_places, make_all_ready, take_all_back};
 use crate::object::Object;
 use crate::places::{at_place, filled_keys};
 use crate::reach::{only_read, written};

@@ -87,8 +87,7 @@ impl Table {
 
     /// A table without entries. Takes no memory.
     pub fn new(alloc: Global) -> Table
-        ensures places { result ≡ finmap.empty }
-        ensures entries { there result ≡ finmap.empty }
+        ensures { there result ≡ finmap.empty }
     {
         Table {
             map: BTreeMap::new(alloc),
@@ -388,6 +387,7 @@ impl Table {
         while let Some(key) = self.given.pop() {
             Table::drop_place(&mut self.map, key);
         }
+        self.given.shrink_to_fit();
     }
 
     // Gives a key that a note names a place. It refuses what isn't a note of a table.

@@ -1,4 +1,4 @@
-use Rattle.std.proofs.Common.{◌≡◌, ℕ, List, [], ◌∷◌, ◌++◌, ◌+◌, true, take, sym, ap, ◌∙◌, subst, arith, rules}
+use Rattle.std.proofs.Common.{◌≡◌, ℕ, List, [], ◌∷◌, ◌++◌, ◌+◌, take, sym, ap, ◌∙◌, subst, arith, rules}
 use Rattle.std.proofs.lemmas.List.{take_more, take_all}
 use Rattle.std.specs.List.{AllByRecursion}
 use Rattle.std.specs.Map.{keys_of}
@@ -18,8 +18,8 @@ loop-name-preserved c =
       same = λ name object. c.make_ready_at.ensures.same name object ∙ c.loop-name.invariant.same name object;
       names = λ name. c.make_ready_at.ensures.names name ∙ c.loop-name.invariant.names name;
       ready = ready_step (at_name c.loop-name.changes.map) (at_name c.make_ready_at.new.changes.map) (at_name c.loop-name.objects) (at_name c.make_ready_at.new.objects) c.name-item.result
-      (take i names) (take (i + 1) names) (take_more names i c.name-item.result (omega arith) ∙ ap (λ (n : List ℕ). take i names ++ n ∷ []) (sym c.name-item.is))
-      c.in_ok-make_ready_at.ensures.ready c.make_ready_at.ensures.notes c.make_ready_at.ensures.others c.loop-name.invariant.ready
+          (take i names) (take (i + 1) names) (take_more names i c.name-item.result (omega arith) ∙ ap (λ (n : List ℕ). take i names ++ n ∷ []) (sym c.name-item.is))
+          c.in_ok-make_ready_at.ensures.ready c.make_ready_at.ensures.notes c.make_ready_at.ensures.others c.loop-name.invariant.ready;
     }
 
 pub returns-clause-ready : goal.returns-clause-ready

@@ -12,5 +12,5 @@ invariant-loop-name l = record {
   objects : objects_of l.objects.entries ≡ objects_of l.initial.objects.entries;
   same : (name : List ℕ) (object : Option Object) → undo_in l.changes name object ≡ undo_in l.initial.changes name object;
   names : (name : List ℕ) → is_some (at_name l.changes.map name) ≡ is_some (at_name l.initial.changes.map name);
-  ready : AllByRecursion (λ name. IsReadyAt (at_name l.changes.map name) (at_name l.objects name)) (take l.name-index l.name-items)
+  ready : AllByRecursion (λ name. IsReadyAt (at_name l.changes.map name) (at_name l.objects name)) (take l.name-index l.name-items);
 }

@@ -1,4 +1,4 @@
-use Rattle.std.proofs.Common.{sym, Some, None, Err, refl}
+use Rattle.std.proofs.Common.{sym, None, Err, refl}
 use Rattle.sg_model.specs.declared.reason.Reason.TheVariants.{NoObject}
 use Rattle.sg_plain.specs.Shown.{shown}
 use Rattle.sg_plain.proofs.Steps.{keys_in, keys_there, keys_reply}

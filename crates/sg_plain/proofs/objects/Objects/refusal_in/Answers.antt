@@ -1,4 +1,4 @@
-use Rattle.std.proofs.Common.{sym, Some, None}
+use Rattle.std.proofs.Common.{sym}
 use Rattle.std.specs.FinMap.{get}
 use Rattle.sg_ops.specs.Table.{table_of}
 use Rattle.sg_model.specs.SaidOps.{verb_of}

@@ -1,5 +1,5 @@
 use Rattle.std.proofs.Common.{ap, ◌∙◌}
-use Rattle.std.specs.Option.{is_some, option_flatten}
+use Rattle.std.specs.Option.{is_some}
 use Rattle.sg_plain.specs.Places.{there}
 use Rattle.sg_plain.specs.Tables.{shown_value}
 use Rattle.sg_plain.proofs.Standing.{stands_some, gone_there}

@@ -12,6 +12,6 @@ loop-undo-preserved c =
     record {
       same = c.make_room_for.ensures.same ∙ c.loop-undo.invariant.same;
       ready = ready_more c.loop-undo.self c.make_room_for.new.self (take i us) (take (i + 1) us) c.undo-item.result
-      (take_more us i c.undo-item.result (omega arith) ∙ ap (λ (u : code_undo.Undo). take i us ++ u ∷ []) (sym c.undo-item.is))
-      c.make_room_for.ensures.kept c.loop-undo.invariant.ready c.in_ok-make_room_for.ensures.ready
+          (take_more us i c.undo-item.result (omega arith) ∙ ap (λ (u : code_undo.Undo). take i us ++ u ∷ []) (sym c.undo-item.is))
+          c.make_room_for.ensures.kept c.loop-undo.invariant.ready c.in_ok-make_room_for.ensures.ready;
     }

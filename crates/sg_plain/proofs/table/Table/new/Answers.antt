@@ -5,5 +5,5 @@ use Rattle.sg_plain.specs.Tables.{places_of}
 use Rattle.sg_plain.proofs.Standing.{there_empty}
 use Rattle.sg_plain.proofs.table.Table.new.Goals as goal
 
-pub returns-clause-entries : goal.returns-clause-entries
-returns-clause-entries c = ap (λ (es : List (List ℕ × Option Entry)). there (places_of es)) c.new.ensures.empty ∙ there_empty
+pub returns : goal.returns
+returns c = ap (λ (es : List (List ℕ × Option Entry)). there (places_of es)) c.new.ensures.empty ∙ there_empty

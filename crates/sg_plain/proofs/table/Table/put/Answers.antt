@@ -1,5 +1,5 @@
 use Rattle.std.proofs.Common.{ap, ◌∙◌}
-use Rattle.std.specs.Option.{is_some, option_flatten}
+use Rattle.std.specs.Option.{is_some}
 use Rattle.std.specs.FinMap.{insert}
 use Rattle.sg_plain.specs.Places.{there}
 use Rattle.sg_plain.specs.Tables.{shown_value}

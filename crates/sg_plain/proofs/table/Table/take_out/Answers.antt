@@ -1,4 +1,4 @@
-use Rattle.std.proofs.Common.{rules, Some, None, sym, ap, ◌∙◌, ℕ, List}
+use Rattle.std.proofs.Common.{rules, None, sym, ap, ◌∙◌, ℕ, List}
 use Rattle.std.specs.Option.{is_some}
 use Rattle.std.specs.FinMap.{insert}
 use Rattle.sg_plain.specs.Places.{Places}

@@ -11,5 +11,5 @@ undo-requires c = ready_last c.loop-note.self c.loop-note.undos.items c.pop.new.
 pub loop-note-preserved : goal.loop-note-preserved
 loop-note-preserved c = record {
   ready = ready_kept c.loop-note.self c.undo.new.self c.undo.ensures.kept (map shown_undo c.pop.new.self.items) (ready_front c.loop-note.self c.loop-note.undos.items c.pop.new.self.items c.in-Some.note c.in-Some.ensures.items c.loop-note.invariant.ready);
-  back = one_undone c.loop-note.undos.items c.pop.new.self.items c.in-Some.note (Some (Table (there c.loop-note.self))) (Some (Table (there c.undo.new.self))) (Some (Table (there c.args.self.now))) c.args.undos.items c.in-Some.ensures.items c.undo.ensures.done c.loop-note.invariant.back
+  back = one_undone c.loop-note.undos.items c.pop.new.self.items c.in-Some.note (Some (Table (there c.loop-note.self))) (Some (Table (there c.undo.new.self))) (Some (Table (there c.args.self.now))) c.args.undos.items c.in-Some.ensures.items c.undo.ensures.done c.loop-note.invariant.back;
 }

@@ -8,7 +8,7 @@ use Rattle.sg_plain.proofs.table.Table.undo_all.Given as goal
 abbrev pub invariant-loop-note : goal.invariant-loop-note
 invariant-loop-note l = record {
   ready : IsReadyTable (map shown_undo l.undos.items) l.self;
-  back : undo_listed l.undos.items (Some (Table (there l.self))) ≡ undo_listed l.initial.undos.items (Some (Table (there l.initial.self)))
+  back : undo_listed l.undos.items (Some (Table (there l.self))) ≡ undo_listed l.initial.undos.items (Some (Table (there l.initial.self)));
 }
 
 abbrev pub decreases-loop-note : goal.decreases-loop-note
