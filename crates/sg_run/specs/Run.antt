@@ -49,16 +49,16 @@ MOST_HELD = 4096
 abbrev pub live_named : List Live → List ℕ → Option Live
 live_named live name = find (λ l. bytes_eq name l.name) live
 
--- the operations that take memory: for what they leave or answer, or for the words that are kept of their lines
+-- the operations that take memory: for what they leave or answer, or for what takes their changes back
 abbrev pub TakesMemory : Op → Type 0
 TakesMemory op = Grows op ⊎ IsTrue (is_changing op)
 
--- a line that takes memory. A commit takes room for its lines, and an abort makes objects anew
+-- a line that takes memory. A commit takes none, and an abort takes room for what it puts back
 abbrev pub MayLackMemory : Asked → Type 0
 MayLackMemory Blank = ⊥
 MayLackMemory Wrong = ⊥
 MayLackMemory (Of name Begin) = ⊥
-MayLackMemory (Of name Commit) = Unit {0}
+MayLackMemory (Of name Commit) = ⊥
 MayLackMemory (Of name Abort) = Unit {0}
 MayLackMemory (Of name (Do op)) = TakesMemory op
 
