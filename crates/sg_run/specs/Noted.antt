@@ -8,7 +8,7 @@ use Rattle.sg_serial.specs.Runs as runs
 use Rattle.sg_ops.specs.Table.{Table as Operations}
 use Rattle.sg_model.specs.Objects.{Objects}
 use Rattle.sg_model.specs.Verb.{Op, Outcome}
-use Rattle.sg_model.specs.Touches.{Resource, touches, covers}
+use Rattle.sg_model.specs.Touches.{Resource, touches, covers, same_resource}
 use Rattle.sg_model.specs.Undo.{OpNote, undo_all_on, noted_step}
 use Rattle.sg_run.specs.Run.{Event, Past, Run, live_objects, aborted}
 
@@ -41,6 +41,15 @@ bare_past p = record {
 pub record IsNoted (t : Operations) (x : Run) (p : NotedPast) : Type 0 where
   pub past : x.so_far ≡ bare_past p
   pub serial : runs.IsSerial (noted_step t) touches covers p
+
+module _ (t : Operations) where
+  -- a transaction holds what an operation touches
+  abbrev pub noted_locks : NotedPast → ℕ → Op → NotedPast
+  noted_locks p transaction op = runs.locked same_resource p transaction (touches (runs.live_state (noted_step t) p) op)
+
+  -- a transaction holds what an operation touches, and has done it
+  abbrev pub noted_did : NotedPast → ℕ → Op → NotedPast
+  noted_did p transaction op = runs.did (noted_step t) (noted_locks p transaction op) transaction op
 
 -- what undoes a transaction's entries, in their order
 abbrev pub notes_by : NotedPast → ℕ → List OpNote
