@@ -6,7 +6,8 @@ pub mod Standing
 pub mod Listing
 pub mod Steps
 pub mod Changes
-pub mod Folding
+pub mod Saying
+pub mod Undoing
 pub mod Locking
 pub mod Along
 pub mod Failing

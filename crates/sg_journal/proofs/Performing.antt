@@ -41,7 +41,7 @@ use Rattle.sg_journal.specs.Shown.{answer_at, stop_at, IsReasonOr, IsNotGranted}
 use Rattle.sg_journal.specs.Store.{Core, Shows}
 use Rattle.sg_journal.specs.Goes.{Goes, NEW_WORK_END}
 use Rattle.sg_journal.proofs.Tails.{MomentsOf, ends_within}
-use Rattle.sg_journal.proofs.Folding.{kept_said}
+use Rattle.sg_journal.proofs.Saying.{kept_said}
 use Rattle.sg_journal.proofs.Along.{goes_along}
 use Rattle.sg_journal.proofs.Steps.{op_busy, op_locks_full}
 use Rattle.sg_journal.proofs.Locking.{granted_is, busy_is, full_is, somebody, nobody, same_count}

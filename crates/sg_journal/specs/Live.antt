@@ -1,6 +1,6 @@
--- Live transactions, and the words of the lines that are kept of them.
+-- Live transactions.
 use Rattle.std.specs.Prelude.{ℕ, not, ◌==◌, cond, List, [], map, Option}
-use Rattle.std.specs.List.{filter, find, flat_map}
+use Rattle.std.specs.List.{filter, find}
 use Rattle.std.specs.Str.{bytes_eq}
 use Rattle.sg_serial.specs.Runs.{Live}
 
@@ -27,7 +27,3 @@ with_last transaction last live = map (λ l. cond (l.transaction == transaction)
 -- all but one of them
 abbrev pub opened_without : ℕ → List Opened → List Opened
 opened_without transaction live = filter (λ l. not (l.transaction == transaction)) live
-
--- the words of the lines that are kept of these transactions, one whole transaction after another
-abbrev pub words_of_each : (ℕ → List (List ℕ)) → List Opened → List (List ℕ)
-words_of_each words live = flat_map (λ l. words l.transaction) live
