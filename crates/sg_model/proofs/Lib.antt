@@ -5,3 +5,6 @@ pub mod Footprint
 pub mod Refused
 pub mod Meeting
 pub mod Made
+pub mod Overlaid
+pub mod Undoing
+pub mod Noted

@@ -19,7 +19,7 @@ use Rattle.sg_model.specs.Touches.Region.{Just, EachKey, Everything}
 use Rattle.sg_model.proofs.Parts.{reads_part, writes_part, get_put, get_del, same_entries, bytes_self, same_lists, part_same}
 use Rattle.sg_model.proofs.Items.{RowFollows, RowLaw, one_true, one_false, true_one, item_law, read_law, refusing_law, push_law, pop_law}
 
-never : {A : Type 0} → false ≡ true → A
+pub never : {A : Type 0} → false ≡ true → A
 never h = absurd (cc)
 
 never_true : {A : Type 0} → true ≡ false → A

@@ -1,15 +1,15 @@
 -- What undoes an operation: what was done, with what stood there before.
-use Rattle.std.specs.Prelude.{◌≡◌, ℕ, zero, suc, List, [], ◌∷◌, ◌++◌, length, take, drop, min, Option, Some, None, Ok, Err, slice_get, if◌then◌else◌}
+use Rattle.std.specs.Prelude.{ℕ, zero, suc, List, [], ◌∷◌, ◌++◌, length, take, drop, min, Option, Some, None, Ok, Err, slice_get, if◌then◌else◌}
 use Rattle.std.specs.Str.{bytes_eq}
 use Rattle.std.specs.FinMap.{get}
 use Rattle.sg_ops.specs.Table.{Table as Operations}
 use Rattle.sg_model.specs.Objects.{Row, Entries, Object, Objects}
 use Rattle.sg_model.specs.Objects.Object.{Array, Table, Blob}
 use Rattle.sg_model.specs.Verb.{Verb, Op, Outcome}
-use Rattle.sg_model.specs.Verb.Verb.{MakeArray, MakeTable, MakeBlob, Discard, Push, Pop, Set, Get, Len, Apply, Put, Del, Find, Keys, Write, Read, Size, Paint}
+use Rattle.sg_model.specs.Verb.Verb.{Discard, Push, Pop, Set, Apply, Put, Del, Write, Size, Paint}
 use Rattle.sg_model.specs.Verb.Op.{On, Names}
 use Rattle.sg_model.specs.Verb.Reply.{Done}
-use Rattle.sg_model.specs.Step.{put_item, Update, updated, on_array, on_table, on_blob, on, put_at, pop, step, overlaid, resized}
+use Rattle.sg_model.specs.Step.{put_item, updated, on_array, on_table, on_blob, on, put_at, pop, step, overlaid, resized}
 use Rattle.sg_model.specs.Step.Update.{Becomes, Goes}
 
 -- what was done to an object, as far as it has to be known to take it back: nothing; it was made; it was dropped, and was

@@ -4,9 +4,8 @@ use Rattle.std.specs.Prelude.{◌||◌, ◌==◌, nat_lt, is_some}
 use Rattle.std.specs.Option.{option_map}
 use Rattle.std.specs.Str.{bytes_eq}
 use Rattle.std.proofs.lemmas.Bool.{eq-eqb}
-use Rattle.sg_serial.specs.Locks.{reads, writes, held_of, AreOnce}
-use Rattle.sg_serial.specs.Runs.{Live, is_live, holder, open_entries, IsFree}
-use Rattle.sg_serial.specs.Runs as runs
+use Rattle.sg_serial.specs.Locks.{reads, writes, held_of}
+use Rattle.sg_serial.specs.Runs.{Live, is_live, open_entries, IsFree}
 use Rattle.sg_serial.proofs.Commute.{or_left, or_right}
 use Rattle.sg_serial.proofs.Kept as kept
 use Rattle.sg_serial.proofs.Kept.{same_live, Replays_of_Held, both_true}

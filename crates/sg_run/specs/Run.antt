@@ -49,11 +49,11 @@ MOST_HELD = 4096
 abbrev pub live_named : List Live → List ℕ → Option Live
 live_named live name = find (λ l. bytes_eq name l.name) live
 
--- the operations that take memory: for what they leave or answer, or for what takes their changes back
+-- the operations that take memory: for what they leave or answer, or for the words that are kept of their lines
 abbrev pub TakesMemory : Op → Type 0
 TakesMemory op = Grows op ⊎ IsTrue (is_changing op)
 
--- a line that takes memory. A commit takes none, and an abort takes room for what it puts back
+-- a line that takes memory: such an operation, or an abort, which takes room for what it puts back. A commit takes none
 abbrev pub MayLackMemory : Asked → Type 0
 MayLackMemory Blank = ⊥
 MayLackMemory Wrong = ⊥

@@ -1,5 +1,6 @@
 ghost use Rattle.sg_run.specs.Serial.{RunsAreSerial};
 ghost use Rattle.sg_run.specs.Kept.{LogIsEnough};
+ghost use Rattle.sg_run.specs.Noted.{UndoingLeavesOut};
 
 /// Tells a proof that every run is serial: after each list of lines, unless the store has stopped,
 /// each entry of a committed transaction got the reply or the reason that it gets where the committed
@@ -13,4 +14,10 @@ pub fn runs_are_serial()
 /// the order of their commits, do again what these transactions did, each with a reply. It runs no code.
 pub fn log_is_enough()
     ensures { LogIsEnough }
+{}
+
+/// Tells a proof that taking back what a live transaction has done, under each name the last change
+/// first, leaves the objects as an abort of it leaves them. It runs no code.
+pub fn undoing_leaves_out()
+    ensures { UndoingLeavesOut }
 {}

@@ -4,10 +4,11 @@
 //!
 //! It stands on `sg_serial`, `sg_ops`, `sg_model` and `sg_words`. It promises that every list of
 //! lines, however its transactions are interleaved, leads to a run that is serial, in which an abort
-//! leaves out what its transaction did, and that a log of the changing operations which got a reply
-//! is enough to have its objects again.
+//! leaves out what its transaction did; that taking back what the transaction did, the last change
+//! first, is the same; and that a log of the changing operations which got a reply is enough to have
+//! its objects again.
 #![tactic(auto)]
 
 mod law;
 
-pub use law::{log_is_enough, runs_are_serial};
+pub use law::{log_is_enough, runs_are_serial, undoing_leaves_out};
