@@ -8,6 +8,7 @@ pub mod Steps
 pub mod Changes
 pub mod Saying
 pub mod Undoing
+pub mod TakenBack
 pub mod Locking
 pub mod Along
 pub mod Failing

@@ -31,6 +31,19 @@ pub found_among : (p : Opened → Bool) (ls : List Opened) (l : Opened) → find
 found_among p [] l e = absurd (cc)
 found_among p (m ∷ ls) l e = found_step (p m) l m ls (find p ls) (λ q. found_among p ls l q) e
 
+-- and is found by number
+among_numbered : (ls : List Opened) (l : Opened) → Among l ls → IsSome (opened_numbered ls l.transaction)
+among_numbered [] l i = absurd i
+among_numbered (m ∷ ls) l i = by (m.transaction == l.transaction) refl i (λ j. among_numbered ls l j)
+  where
+    by : (b : Bool) → (m.transaction == l.transaction) ≡ b → (l ≡ m) ⊎ Among l ls → (Among l ls → IsSome (opened_numbered ls l.transaction)) → IsSome (cond b (Some m) (opened_numbered ls l.transaction))
+    by true q i rest = refl
+    by false q (inl e) rest = absurd (eqb-false m.transaction l.transaction q (ap (λ (k : Opened). k.transaction) (sym e)))
+    by false q (inr j) rest = rest j
+
+pub named_numbered : (ls : List Opened) (name : List ℕ) (l : Opened) → opened_named ls name ≡ Some l → IsSome (opened_numbered ls l.transaction)
+named_numbered ls name l e = among_numbered ls l (found_among (λ (m : Opened). bytes_eq name m.name) ls l e)
+
 pub among_live : (ls : List Opened) (l : Opened) → Among l ls → is_live (map live_of ls) l.transaction ≡ true
 among_live [] l i = absurd i
 among_live (m ∷ ls) l i = elim i [

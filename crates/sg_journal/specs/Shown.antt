@@ -19,7 +19,7 @@ use Rattle.sg_journal.specs.declared.opening.OpenRefused as code_refused
 use Rattle.sg_journal.specs.declared.opening.OpenRefused.TheVariants as refusals
 use Rattle.sg_journal.specs.declared.live.Running as code_running
 use Rattle.sg_journal.specs.declared.live.Ongoing as code_ongoing
-use Rattle.sg_journal.specs.Live.{Opened, opened_numbered}
+use Rattle.sg_journal.specs.Live.{Opened, Undo, opened_numbered}
 
 abbrev pub opened_of : code_running.Running → Opened
 opened_of r = record { name = r.name; transaction = r.txn.0; last = r.last }
@@ -40,7 +40,7 @@ undo_by (Some o) name object = undo_in o.changes name object
 abbrev pub has_number : ℕ → code_ongoing.Ongoing → Bool
 has_number transaction o = o.running.txn.0 == transaction
 
-abbrev pub undo_of : List code_ongoing.Ongoing → ℕ → List ℕ → Option Object → Option Object
+abbrev pub undo_of : List code_ongoing.Ongoing → Undo
 undo_of live transaction name object = undo_by (find (has_number transaction) live) name object
 
 -- what is answered where the log fails, and why the store stops then

@@ -17,7 +17,7 @@ use Rattle.sg_run.specs.Run.{Run, live_objects}
 use Rattle.sg_run.specs.Noted.{NotedPast, IsNoted, notes_by}
 use Rattle.sg_run.specs.Serial.{IsSound}
 use Rattle.sg_journal.specs.Lines.{commits_in}
-use Rattle.sg_journal.specs.Live.{Opened, live_of}
+use Rattle.sg_journal.specs.Live.{Opened, Undo, live_of}
 use Rattle.sg_journal.specs.Stands.{StandsForFirst}
 use Rattle.sg_journal.specs.Logs.{Logs}
 
@@ -27,7 +27,7 @@ use Rattle.sg_journal.specs.Logs.{Logs}
 pub record Core : Type 0 where
   pub objects : Objects
   pub live : List Opened
-  pub undo : ℕ → List ℕ → Option Object → Option Object
+  pub undo : Undo
   pub held : List (Hold Resource)
   pub stopped : Option Stop
   pub log : Tail

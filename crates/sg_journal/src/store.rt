@@ -340,10 +340,10 @@ impl<D: Disk> Store<D> {
         if self.log.tail() > NEW_WORK_END {
             return self.refuse(ops, op, Answer::LogEnd);
         }
-        let done = self
+        let reply = match self
             .live
-            .change(live.txn, &mut self.objects, alloc, ops, op, into);
-        let reply = match done {
+            .change(live.txn, &mut self.objects, alloc, ops, op, into)
+        {
             Ok(Ok(reply)) => reply,
             Ok(Err(reason)) => return Answer::Refused(reason),
             Err(OutOfMemory) => return Answer::Memory,
