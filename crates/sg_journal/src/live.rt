@@ -177,7 +177,12 @@ impl Live {
 
     /// Takes back what the transaction with this number, which is live, has done to the objects. After
     /// `OutOfMemory` nothing has changed.
-    pub fn take_back(&mut self, txn: TxnId, objects: &mut Objects) -> Result<(), OutOfMemory>
+    pub fn take_back(
+        &mut self,
+        txn: TxnId,
+        objects: &mut Objects,
+        alloc: Global,
+    ) -> Result<(), OutOfMemory>
         requires { IsSome (opened_numbered (all_opened self.old.all.items) txn.0) }
         ensures back { OnOk result ((name : List ℕ) → finmap.get objects.new name ≡ undo_of self.old.all.items txn.0 name (finmap.get objects.old name)) }
         ensures others { OnOk result ((u : ℕ) (name : List ℕ) (object : Option Object) → undo_of self.new.all.items u name object ≡ (if u == txn.0 then object else undo_of self.old.all.items u name object)) }
@@ -189,6 +194,6 @@ impl Live {
             unreachable!();
         };
         let own = &mut self.all[at];
-        objects.take_back(&mut own.changes)
+        objects.take_back(alloc, &mut own.changes)
     }
 }

@@ -203,7 +203,7 @@ impl<D: Disk> Store<D> {
 
     /// Takes back what the transaction with this name did, if it is live, and it is no more. After
     /// `Memory` nothing has changed.
-    pub fn abort(&mut self, name: Name) -> Answer
+    pub fn abort(&mut self, alloc: Global, name: Name) -> Answer
         requires { self.old.stop ≡ None }
         ensures goes { (t : Operations) (into : List ℕ) (was : DiskState) (x : Run) → Shows t D.told was (D.view self.old.disk) (core_of self.old) x
             → Goes t D.told was (D.view self.old.disk) (core_of self.old) x (Of name Abort) (shown_answer into result) (D.view self.new.disk) (core_of self.new) }
@@ -213,7 +213,7 @@ impl<D: Disk> Store<D> {
         let Some(live) = self.live.named(name) else {
             return Answer::NoTransaction;
         };
-        match self.live.take_back(live.txn, &mut self.objects) {
+        match self.live.take_back(live.txn, &mut self.objects, alloc) {
             Ok(()) => {}
             Err(OutOfMemory) => return Answer::Memory,
         }
@@ -435,7 +435,7 @@ impl<D: Disk> Store<D> {
                 match request {
                     Request::Begin => self.begin(alloc, name),
                     Request::Commit => self.commit(name),
-                    Request::Abort => self.abort(name),
+                    Request::Abort => self.abort(alloc, name),
                     Request::Do(op) => self.perform(alloc, ops, name, &op, text, words, into),
                     Request::Keys(table) => self.keys(alloc, name, table),
                     Request::List => self.list(alloc, name),

@@ -395,7 +395,7 @@ impl Objects {
 
     /// Takes back all that `changes` notes, and then it notes nothing.
     /// After `OutOfMemory` the objects and the notes are unchanged.
-    pub fn take_back(&mut self, changes: &mut Changes) -> Result<(), OutOfMemory>
+    pub fn take_back(&mut self, alloc: Global, changes: &mut Changes) -> Result<(), OutOfMemory>
         ensures back { OnOk result ((name : List ℕ) → finmap.get self.new name ≡ undo_in changes.old name (finmap.get self.old name)) }
         ensures none { OnOk result ((name : List ℕ) (object : Option plain.Object) → undo_in changes.new name object ≡ object) }
         ensures err { OnErr result (self.new ≡ self.old) }
