@@ -193,7 +193,7 @@ impl Live {
         let Some(at) = self.place(txn) else {
             unreachable!();
         };
-        let own = &mut self.all[at];
-        objects.take_back(alloc, &mut own.changes)
+        let ending = &mut self.all[at];
+        objects.take_back(alloc, &mut ending.changes)
     }
 }
