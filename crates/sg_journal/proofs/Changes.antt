@@ -8,7 +8,7 @@ use Rattle.sg_base.specs.Ends.{HasRisen}
 use Rattle.sg_base.specs.declared.area.Area.TheVariants.{Log0}
 use Rattle.sg_disk.specs.Disk as disk
 use Rattle.sg_disk.proofs.Moments as moments
-use Rattle.std.specs.FinMap.{empty}
+use Rattle.std.specs.FinMap.{empty, get}
 use Rattle.sg_serial.specs.Machine.{Among, run}
 use Rattle.sg_serial.specs.Locks.{Hold, hold_all, released}
 use Rattle.sg_serial.specs.Runs.{Live, is_live, is_own, in_order, open_entries, without}
@@ -19,11 +19,12 @@ use Rattle.sg_serial.proofs.Lists.{filter_append, among_filter, append_nil}
 use Rattle.sg_ops.specs.Table.{Table as Operations}
 use Rattle.sg_model.specs.declared.stop.Stop.{Stop}
 use Rattle.sg_model.specs.declared.stop.Stop.TheVariants as stops
-use Rattle.sg_model.specs.Objects.{Objects}
+use Rattle.sg_model.specs.Objects.{Object, Objects}
 use Rattle.sg_model.specs.Verb.{Op, Outcome, Reply}
 use Rattle.sg_model.specs.Verb.Reply.{Done}
 use Rattle.sg_model.specs.Step.{step, is_changing}
 use Rattle.sg_model.specs.Touches.{Resource, touches, same_resource}
+use Rattle.sg_model.specs.Undo.{note_of_op, undo_on}
 use Rattle.sg_words.specs.Requests.{Asked}
 use Rattle.sg_words.specs.Requests.Asked.{Of}
 use Rattle.sg_words.specs.Requests.Request.{Begin, Commit, Abort, Do}
@@ -43,15 +44,16 @@ use Rattle.sg_run.proofs.Serial.{begin_stays, commit_stays, abort_stays, locks_s
 use Rattle.sg_journal.specs.Lines.{op_said, committed_lines}
 use Rattle.sg_journal.specs.Stands.{replay, OthersAsIn, StandsFor, StandsForFirst}
 use Rattle.sg_journal.specs.Logs.{NoneOf, Logs}
-use Rattle.sg_journal.specs.Live.{Opened, live_of, opened_named, with_last, opened_without, words_of_each}
-use Rattle.sg_journal.specs.Store.{Core, Keeps, Runs, Shows}
+use Rattle.sg_journal.specs.Live.{Opened, Undo, live_of, opened_named, with_last, opened_without}
+use Rattle.sg_journal.specs.Store.{Core, Keeps, Undoes, Runs, Shows}
 use Rattle.sg_journal.specs.Goes.{Goes, IsFull, NEW_WORK_END}
 use Rattle.sg_journal.proofs.Records.{map-append, replay-append}
 use Rattle.sg_journal.proofs.Fronts.{kept_ops-append}
 use Rattle.sg_journal.proofs.Logging.{no_entries, begin_logs, did_logs, commit_logs, abort_logs, lock_logs, event_of, record_of}
 use Rattle.sg_journal.proofs.Tails.{AreBelow, chained_below, last_or-above, tail-place, appended_place, forced_place, appended_short, begin-length, HoldsAfter, MomentsOf, Elsewhere, IsEither, appended_either, of_log, others_of, same_on, tail_forced}
 use Rattle.sg_journal.proofs.Standing.{first_same, first_others, first_all, stands_either, running_shows, stopped_shows, keeps_more, keeps_same, last_other, last_own, after_commits, stands, all_stand, new_after, durable_split, records_split, all_split}
-use Rattle.sg_journal.proofs.Listing.{found_among, among_live, live_with_last, among_with_last, live_without, open_committed, open_aborted, open_began, AreSaid, kept_but, among_last, abort_replay, commit_replay}
+use Rattle.sg_journal.proofs.Listing.{found_among, among_live, live_with_last, among_with_last, live_without, among_last}
+use Rattle.sg_journal.proofs.TakenBack.{reads_nothing, begun_undoes, committed_undoes, aborted_undoes, taken_back, locked_undoes, did_undoes}
 use Rattle.sg_journal.proofs.Steps.{going_turn, first_of, stays, going, runs, named_none, named_one, is_there, how_many}
 
 -- no record is of a number that is above all of theirs
@@ -100,25 +102,23 @@ module _ (t : Operations) (told : Bool) (was : disk.State) (v : disk.View) (k : 
       let free : nat_lt (length x.so_far.live) MOST_LIVE ≡ true = (let same = how_many t told was v k x shows running in grind (arith, nat_tests)) in
       going_turn t x n name Begin my_going ∙ (ap (λ (o : Option Live). turn_begin t x n name o) (named_none t told was v k x shows running name none) ∙ ap (λ b. cond {A = Answer × Run} b (Said Done, began x n name) (TooManyLive, x)) free)
 
-  pub begun : (name : List ℕ) (n last previous : ℕ) (w : disk.View) (new : Tail) → opened_named k.live name ≡ None → length k.live < MOST_LIVE → tail_of k.log ≤ NEW_WORK_END → n ≡ place_of k.log (BeginRecord n previous) → last ≡ place_of k.log (BeginRecord n previous) → previous ≡ 0
+  pub begun : (name : List ℕ) (n last previous : ℕ) (undo : Undo) (w : disk.View) (new : Tail) → ((u : ℕ) (s : List ℕ) (object : Option Object) → undo u s object ≡ k.undo u s object) → opened_named k.live name ≡ None → length k.live < MOST_LIVE → tail_of k.log ≤ NEW_WORK_END → n ≡ place_of k.log (BeginRecord n previous) → last ≡ place_of k.log (BeginRecord n previous) → previous ≡ 0
       → new ≡ appended k.log (BeginRecord n previous) → tail_of new ≡ end_of k.log (BeginRecord n previous)
       → HoldsAfter told v w k.log new (BeginRecord n previous) → MomentsOf told v w k.log → Elsewhere told v w k.log
-      → Goes t told was v k x (Of name Begin) (Said Done) w (record k { live = k.live ++ (record { name = name; transaction = n; last = last }) ∷ []; log = new })
-  begun name n last previous w new none few low place is_last first is_new tail holds call same =
+      → Goes t told was v k x (Of name Begin) (Said Done) w (record k { live = k.live ++ (record { name = name; transaction = n; last = last }) ∷ []; undo = undo; log = new })
+  begun name n last previous undo w new undone none few low place is_last first is_new tail holds call same =
       let y : Run = began x n name in
       let r : Record = BeginRecord n previous in
       let l : Opened = record { name = name; transaction = n; last = last } in
-      let m : Core = record k { live = k.live ++ l ∷ []; log = new } in
+      let m : Core = record k { live = k.live ++ l ∷ []; undo = undo; log = new } in
       let at : tail_of k.log ≤ n = omega (arith, tail-place k.log r, place) in
       let above : x.so_far.next ≤ n = omega (arith, my_runs.next, at) in
       let rises : n + 21 ≤ tail_of new = omega (arith, tail, place, begin-length n previous) in
-      let no_events : filter (is_own n) x.so_far.history ≡ [] = own_none n above in
       let after : Shows t told was w m y = running_shows t told was w m y running my_going (record {
         sound = begin_stays t x n name above my_runs.sound;
-        committed = my_runs.committed;
         objects = my_runs.objects;
         live = ap (λ (ls : List Live). ls ++ live_of l ∷ []) my_runs.live ∙ sym (map-append live_of k.live (l ∷ []));
-        kept = λ u. my_runs.kept u ∙ ap (λ (es : List Event). map Some (kept_ops (filter (is_own u) es))) (sym (open_began x n name no_events));
+        undoes = begun_undoes t k m x my_runs.undoes n name above undone;
         held = my_runs.held;
         next = omega (arith, rises);
         answered = my_runs.answered;
@@ -144,9 +144,6 @@ module _ (t : Operations) (told : Bool) (was : disk.State) (v : disk.View) (k : 
         moments = still y w refl refl call;
       }
     where
-      own_none : (n : ℕ) → x.so_far.next ≤ n → filter (is_own n) x.so_far.history ≡ []
-      own_none n above = no_entries x.so_far.next x.so_far.clock n x.so_far.history my_runs.sound.serial.below above
-
       by_begin : (h : Keeps t v k x) (j : Opened) → Among j k.live ⊎ (j ≡ record { name = name; transaction = n; last = last }) → j.last ≡ last_of j.transaction (((h.old ++ h.new) ++ h.waiting) ++ numbered k.log (BeginRecord n previous) ∷ [])
       by_begin h j (inl i) =
           let there : is_live x.so_far.live j.transaction ≡ true = ap (λ (ls : List Live). is_live ls j.transaction) my_runs.live ∙ among_live k.live j i in
@@ -178,10 +175,9 @@ module _ (t : Operations) (told : Bool) (was : disk.State) (v : disk.View) (k : 
     locked_shows : Shows t told was v (record k { held = held_then }) (with_locks t x l.transaction op)
     locked_shows = running_shows t told was v (record k { held = held_then }) (with_locks t x l.transaction op) running my_going (record {
       sound = locks_stay t x l.transaction op there free my_runs.sound;
-      committed = my_runs.committed;
       objects = my_runs.objects;
       live = my_runs.live;
-      kept = my_runs.kept;
+      undoes = locked_undoes t k (record k { held = held_then }) x my_runs.undoes l.transaction there op free my_runs.sound (λ v s object. refl);
       held = held_is;
       next = my_runs.next;
       answered = my_runs.answered;
@@ -227,51 +223,33 @@ module _ (t : Operations) (told : Bool) (was : disk.State) (v : disk.View) (k : 
     live_after : live_objects t (did t x l.transaction op) ≡ (step t k.objects op).1
     live_after = run-append (step t) x.so_far.first x.so_far.history (event_of t x l.transaction op ∷ []) ∙ ap (λ (s : Objects). (step t s op).1) (sym my_runs.objects)
 
-    -- the entries of the live transactions with it
-    opened_more : open_entries (did t x l.transaction op).so_far ≡ open_entries x.so_far ++ event_of t x l.transaction op ∷ []
-    opened_more =
-        filter_append (λ f. is_live x.so_far.live f.transaction) x.so_far.history (event_of t x l.transaction op ∷ [])
-        ∙ ap (λ c. open_entries x.so_far ++ cond c (event_of t x l.transaction op ∷ []) []) there
+    -- what takes it back is what was noted of it
+    undoes_after : (m : Core) → ((v : ℕ) (s : List ℕ) (object : Option Object) → m.undo v s object ≡ k.undo v s (cond (v == l.transaction) (undo_on s (note_of_op t k.objects op) object) object)) → Undoes t m (did t x l.transaction op)
+    undoes_after m noted = did_undoes t k m x my_runs.undoes l.transaction there op free my_runs.sound
+        (λ v s object. noted v s object ∙ ap (λ (before : Objects). k.undo v s (cond (v == l.transaction) (undo_on s (note_of_op t before op) object) object)) my_runs.objects)
 
-    -- what is kept of its transaction and of another one
-    kept_after : (words : List (List ℕ)) (b : Bool) → is_kept (event_of t x l.transaction op) ≡ b → map op_said words ≡ map Some (cond b (op ∷ []) []) → (kept : ℕ → List (List ℕ)) → ((u : ℕ) → kept u ≡ k.kept u ++ cond (l.transaction == u) words [])
-        → AreSaid kept (open_entries (did t x l.transaction op).so_far)
-    kept_after words b is e kept more u =
-        let new : Event = event_of t x l.transaction op in
-        let es : List Event = open_entries x.so_far in
-        let own : filter (is_own u) (es ++ new ∷ []) ≡ filter (is_own u) es ++ cond (l.transaction == u) (new ∷ []) [] = filter_append (is_own u) es (new ∷ []) in
-        ap (λ (ws : List (List ℕ)). map op_said ws) (more u) ∙ (map-append op_said (k.kept u) (cond (l.transaction == u) words [])
-        ∙ (ap (λ (os : List (Option Op)). os ++ map op_said (cond (l.transaction == u) words [])) (my_runs.kept u)
-        ∙ (ap (λ (os : List (Option Op)). map Some (kept_ops (filter (is_own u) es)) ++ os) (by_owner (l.transaction == u))
-        ∙ (sym (map-append Some (kept_ops (filter (is_own u) es)) (kept_ops (cond (l.transaction == u) (new ∷ []) [])))
-        ∙ ap (λ (os : List Op). map Some os) (sym (kept_ops-append (filter (is_own u) es) (cond (l.transaction == u) (new ∷ []) []))
-        ∙ ap (λ (fs : List Event). kept_ops fs) (sym own ∙ ap (λ (fs : List Event). filter (is_own u) fs) (sym opened_more)))))))
+    -- one that only reads leaves nothing to be taken back
+    pub read_noted : is_changing op ≡ false → (v : ℕ) (s : List ℕ) (object : Option Object) → k.undo v s object ≡ k.undo v s (cond (v == l.transaction) (undo_on s (note_of_op t k.objects op) object) object)
+    read_noted reads v s object = by (v == l.transaction)
       where
-        its_op : kept_ops (event_of t x l.transaction op ∷ []) ≡ cond b (op ∷ []) []
-        its_op = ap (λ d. map (λ (f : Event). f.op) (cond d (event_of t x l.transaction op ∷ []) [])) is ∙ by_kept b
-          where
-            by_kept : (d : Bool) → map (λ (f : Event). f.op) (cond d (event_of t x l.transaction op ∷ []) []) ≡ cond d (op ∷ []) []
-            by_kept true = refl
-            by_kept false = refl
-
-        by_owner : (c : Bool) → map op_said (cond c words []) ≡ map Some (kept_ops (cond c (event_of t x l.transaction op ∷ []) []))
-        by_owner true = e ∙ ap (λ (os : List Op). map Some os) (sym its_op)
-        by_owner false = refl
+        by : (b : Bool) → k.undo v s object ≡ k.undo v s (cond b (undo_on s (note_of_op t k.objects op) object) object)
+        by true = ap (λ (o : Option Object). k.undo v s o) (sym (reads_nothing t k.objects op reads s object))
+        by false = refl
 
     -- an operation that was refused, or only reads
-    pub op_unchanged : (r : Outcome) (o : Objects) → step t k.objects op ≡ (r, o) → (IsErr r) ⊎ (is_changing op ≡ false) → Goes t told was v k x (Of name (Do op)) (answer_of r) v (record k { held = held_then; objects = o })
-    op_unchanged r o e why =
+    pub op_unchanged : (r : Outcome) (o : Objects) (undo : Undo) → step t k.objects op ≡ (r, o) → ((u : ℕ) (s : List ℕ) (object : Option Object) → undo u s object ≡ k.undo u s (cond (u == l.transaction) (undo_on s (note_of_op t k.objects op) object) object))
+        → (IsErr r) ⊎ (is_changing op ≡ false) → Goes t told was v k x (Of name (Do op)) (answer_of r) v (record k { held = held_then; objects = o; undo = undo })
+    op_unchanged r o undo e noted why =
         let y : Run = did t x l.transaction op in
-        let m : Core = record k { held = held_then; objects = o } in
+        let m : Core = record k { held = held_then; objects = o; undo = undo } in
         let came : (step t k.objects op).0 ≡ r = first_of e in
         let same : (step t (live_objects t x) op).0 ≡ r = ap (λ (s : Objects). (step t s op).0) (sym my_runs.objects) ∙ came in
         let unkept : is_kept (event_of t x l.transaction op) ≡ false = ap (λ (a : Outcome). is_changing op && is_ok a) same ∙ not_kept r why in
         let after : Shows t told was v m y = running_shows t told was v m y running my_going (record {
           sound = did_stays t x l.transaction op there free my_runs.sound;
-          committed = my_runs.committed;
           objects = sym (ap (λ (p : Outcome × Objects). p.1) e) ∙ sym live_after;
           live = my_runs.live;
-          kept = kept_after [] false unkept refl k.kept (λ u. sym (append-nil (k.kept u)) ∙ ap (λ (ws : List (List ℕ)). k.kept u ++ ws) (none_either (l.transaction == u)));
+          undoes = undoes_after m noted;
           held = held_is;
           next = my_runs.next;
           answered = my_runs.answered;
@@ -294,10 +272,6 @@ module _ (t : Operations) (told : Bool) (was : disk.State) (v : disk.View) (k : 
           moments = λ is_told. moments.started v (StandsForFirst t was x.so_far.answered y) (after.images is_told);
         }
       where
-        none_either : (b : Bool) → [] ≡ cond {A = List (List ℕ)} b [] []
-        none_either true = refl
-        none_either false = refl
-
         not_kept : (r : Outcome) → (IsErr r) ⊎ (is_changing op ≡ false) → (is_changing op && is_ok r) ≡ false
         not_kept (Ok reply) (inl refused) = absurd (cc)
         not_kept (Err reason) (inl refused) = and_none (is_changing op)
@@ -309,17 +283,18 @@ module _ (t : Operations) (told : Bool) (was : disk.State) (v : disk.View) (k : 
         never_full r (inr reads) said work = absurd (cc (reads, work))
 
     -- an operation whose line the log keeps
-    pub op_logged : (reply : Reply) (o : Objects) (w : disk.View) (new : Tail) (words : List ℕ) (kept : ℕ → List (List ℕ)) → ((u : ℕ) → kept u ≡ k.kept u ++ cond (l.transaction == u) (words ∷ []) []) → o ≡ (step t k.objects op).1 → (step t k.objects op).0 ≡ Ok reply → is_changing op ≡ true → op_said words ≡ Some op
+    pub op_logged : (reply : Reply) (o : Objects) (w : disk.View) (new : Tail) (words : List ℕ) (undo : Undo)
+        → ((u : ℕ) (s : List ℕ) (object : Option Object) → undo u s object ≡ k.undo u s (cond (u == l.transaction) (undo_on s (note_of_op t k.objects op) object) object)) → o ≡ (step t k.objects op).1 → (step t k.objects op).0 ≡ Ok reply → is_changing op ≡ true → op_said words ≡ Some op
         → IsRecord (LineRecord l.transaction l.last words) → tail_of k.log ≤ NEW_WORK_END
         → new ≡ appended k.log (LineRecord l.transaction l.last words) → tail_of new ≡ end_of k.log (LineRecord l.transaction l.last words)
         → HoldsAfter told v w k.log new (LineRecord l.transaction l.last words) → MomentsOf told v w k.log → Elsewhere told v w k.log
-        → Goes t told was v k x (Of name (Do op)) (Said reply) w (record k { held = held_then; objects = o; live = with_last l.transaction (place_of k.log (LineRecord l.transaction l.last words)) k.live; kept = kept; log = new })
-    op_logged reply o w new words kept more is_objects came changing says fields low is_new tail holds call same =
+        → Goes t told was v k x (Of name (Do op)) (Said reply) w (record k { held = held_then; objects = o; live = with_last l.transaction (place_of k.log (LineRecord l.transaction l.last words)) k.live; undo = undo; log = new })
+    op_logged reply o w new words undo noted is_objects came changing says fields low is_new tail holds call same =
         let y : Run = did t x l.transaction op in
         let u : ℕ = l.transaction in
         let r : Record = LineRecord u l.last words in
         let last : ℕ = place_of k.log r in
-        let m : Core = record k { held = held_then; objects = o; live = with_last u last k.live; kept = kept; log = new } in
+        let m : Core = record k { held = held_then; objects = o; live = with_last u last k.live; undo = undo; log = new } in
         let out : (step t (live_objects t x) op).0 ≡ Ok reply = ap (λ (s : Objects). (step t s op).0) (sym my_runs.objects) ∙ came in
         let is : is_kept (event_of t x u op) ≡ true = ap (λ (a : Outcome). is_changing op && is_ok a) out ∙ ap (λ b. b && true) changing in
         let rises : tail_of k.log ≤ tail_of new = omega (arith, tail-place k.log r, tail) in
@@ -327,10 +302,9 @@ module _ (t : Operations) (told : Bool) (was : disk.State) (v : disk.View) (k : 
         let among : Among l k.live = found_among (λ (j : Opened). bytes_eq name j.name) k.live l one in
         let after : Shows t told was w m y = running_shows t told was w m y running my_going (record {
           sound = did_stays t x u op there free my_runs.sound;
-          committed = my_runs.committed;
           objects = is_objects ∙ sym live_after;
           live = my_runs.live ∙ sym (live_with_last u last k.live);
-          kept = kept_after (words ∷ []) true is (ap (λ (q : Option Op). q ∷ []) says) kept more;
+          undoes = undoes_after m noted;
           held = held_is;
           next = omega (arith, my_runs.next, rises);
           answered = my_runs.answered;
@@ -388,55 +362,28 @@ module _ (t : Operations) (told : Bool) (was : disk.State) (v : disk.View) (k : 
   abort_turn : (name : List ℕ) (l : Opened) → opened_named k.live name ≡ Some l → (n : ℕ) → turn t x n (Of name Abort) ≡ (Said Done, aborted x l.transaction)
   abort_turn name l one n = going_turn t x n name Abort my_going ∙ ap (λ (o : Option Live). turn_abort t x o) (named_one t told was v k x shows running name l one)
 
-  -- some lines that were due are done
-  module _ (c : Objects) (due : List (List ℕ)) (done : replay t due (Some c) ≡ replay t k.due (Some k.committed)) where
-    settled : Shows t told was v (record k { committed = c; due = due }) x
-    settled = running_shows t told was v (record k { committed = c; due = due }) x running my_going (record {
-      sound = my_runs.sound;
-      committed = done ∙ my_runs.committed;
-      objects = my_runs.objects;
-      live = my_runs.live;
-      kept = my_runs.kept;
-      held = my_runs.held;
-      next = my_runs.next;
-      answered = my_runs.answered;
-      area = my_runs.area;
-      base = my_runs.base;
-      short = my_runs.short;
-      keeps = λ is_told. (let h = my_runs.keeps is_told in keeps_same t v k (record k { committed = c; due = due }) x x h refl h.logs (λ j i. i));
-      elsewhere = my_runs.elsewhere;
-    })
+  -- there is no memory for what it puts back
+  pub abort_memory : (name : List ℕ) (l : Opened) → opened_named k.live name ≡ Some l → Goes t told was v k x (Of name Abort) Memory v k
+  abort_memory name l one =
+      stays t told was v k x shows (Of name Abort) Memory (record { after = refl; takes = tt; said = subst (λ (a : Answer). IsSaid a) (sym (first_of (abort_turn name l one x.so_far.next))) tt }) tt (λ full logged said. absurd full)
 
-    pub abort_memory : (name : List ℕ) (l : Opened) → opened_named k.live name ≡ Some l → Goes t told was v k x (Of name Abort) Memory v (record k { committed = c; due = due })
-    abort_memory name l one = record {
-      after = x;
-      line_goes = record { after = refl; takes = tt; said = subst (λ (a : Answer). IsSaid a) (sym (first_of (abort_turn name l one x.so_far.next))) tt };
-      caused = tt;
-      full = λ full logged said. absurd full;
-      shows = settled;
-      moments = λ is_told. moments.started v (StandsForFirst t was x.so_far.answered x) (shows.images is_told);
-    }
-
-  -- only these are live, and lines of these kept
+  -- only these are live
   without_is : (u : ℕ) → without u x.so_far.live ≡ map live_of (opened_without u k.live)
   without_is u = ap (λ (ls : List Live). without u ls) my_runs.live ∙ sym (live_without u k.live)
 
-  pub aborts : (name : List ℕ) (l : Opened) (c o : Objects) (left : ℕ → List (List ℕ)) → opened_named k.live name ≡ Some l → replay t [] (Some c) ≡ replay t k.due (Some k.committed)
-      → replay t (words_of_each k.kept (opened_without l.transaction k.live)) (Some c) ≡ Some o → ((u : ℕ) → left u ≡ cond (u == l.transaction) [] (k.kept u))
-      → Goes t told was v k x (Of name Abort) (Said Done) v (record k { committed = c; due = []; objects = o; live = opened_without l.transaction k.live; kept = left; held = released l.transaction k.held })
-  aborts name l c o left one done replayed others =
+  pub aborts : (name : List ℕ) (l : Opened) (o : Objects) (undo : Undo) → opened_named k.live name ≡ Some l → ((s : List ℕ) → get o s ≡ k.undo l.transaction s (get k.objects s))
+      → ((u : ℕ) (s : List ℕ) (object : Option Object) → undo u s object ≡ cond (u == l.transaction) object (k.undo u s object))
+      → Goes t told was v k x (Of name Abort) (Said Done) v (record k { objects = o; live = opened_without l.transaction k.live; undo = undo; held = released l.transaction k.held })
+  aborts name l o undo one back others =
       let u : ℕ = l.transaction in
       let y : Run = aborted x u in
-      let m : Core = record k { committed = c; due = []; objects = o; live = opened_without u k.live; kept = left; held = released u k.held } in
+      let m : Core = record k { objects = o; live = opened_without u k.live; undo = undo; held = released u k.held } in
       let there = is_there t told was v k x shows running name l one in
-      let all : Some c ≡ Some (committed_objects t x) = done ∙ my_runs.committed in
-      let is : Some o ≡ Some (live_objects t y) = sym replayed ∙ (ap (λ (s : Option Objects). replay t (words_of_each k.kept (opened_without u k.live)) s) all ∙ abort_replay t x u k.kept (opened_without u k.live) there my_runs.sound (without_is u) my_runs.kept) in
       let after : Shows t told was v m y = running_shows t told was v m y running my_going (record {
         sound = abort_stays t x u there my_runs.sound;
-        committed = all;
-        objects = cc;
+        objects = taken_back t k m x my_runs.undoes u there o my_runs.objects back;
         live = without_is u;
-        kept = subst (λ (es : List Event). AreSaid left es) (sym (open_aborted x u)) (kept_but u left k.kept (open_entries x.so_far) others my_runs.kept);
+        undoes = aborted_undoes t k m x my_runs.undoes u there others;
         held = ap (λ (hs : List (Hold Resource)). released u hs) my_runs.held;
         next = my_runs.next;
         answered = my_runs.answered;
@@ -476,9 +423,6 @@ module _ (t : Operations) (told : Bool) (was : disk.State) (v : disk.View) (k : 
 
     pub commit_past : IsFull k (Of name Commit) → LOG_END < end_of k.log commit_record
     commit_past high = subst (λ (o : Option Opened). MatchOption o ⊥ (λ j. LOG_END < end_of k.log (CommitRecord j.transaction j.last))) one high
-
-    pub commit_memory : (LOG_END < end_of k.log commit_record → ⊥) → Goes t told was v k x (Of name Commit) Memory v k
-    commit_memory fits = stays t told was v k x shows (Of name Commit) Memory (record { after = refl; takes = tt; said = would_commit }) tt (λ high logged said. absurd (fits (commit_past high)))
 
     -- the run once the store has stopped at it
     abbrev stopped_at : Stop → Run
@@ -599,29 +543,26 @@ module _ (t : Operations) (told : Bool) (was : disk.State) (v : disk.View) (k : 
     force_breaks w1 w mid m halted risen is_mid holds1 call1 same1 call2 fits = commit_fails w m halted risen fits (commit_moments (stopped_at stops.Disk) w1 w mid refl refl is_mid holds1 call1 same1 call2)
 
     -- it is durable
-    pub commits : (o : Objects) (due : List (List ℕ)) (left : ℕ → List (List ℕ)) (w1 w : disk.View) (mid new : Tail) → replay t due (Some o) ≡ replay t (k.due ++ k.kept l.transaction) (Some k.committed) → ((u : ℕ) → left u ≡ cond (u == l.transaction) [] (k.kept u))
+    pub commits : (undo : Undo) (w1 w : disk.View) (mid new : Tail) → ((u : ℕ) (s : List ℕ) (object : Option Object) → undo u s object ≡ cond (u == l.transaction) object (k.undo u s object))
         → mid ≡ appended k.log commit_record → tail_of mid ≡ end_of k.log commit_record → new ≡ forced mid
         → HoldsAfter told v w1 k.log mid commit_record → MomentsOf told v w1 k.log → Elsewhere told v w1 k.log
         → ((ds ps : List Numbered) → IsTrue told → Holds w1 mid ds ps → Holds w new (ds ++ ps) []) → MomentsOf told w1 w mid → Elsewhere told w1 w mid
         → (LOG_END < end_of k.log commit_record → ⊥)
-        → Goes t told was v k x (Of name Commit) (Said Done) w (record k { committed = o; due = due; live = opened_without l.transaction k.live; kept = left; held = released l.transaction k.held; log = new })
-    commits o due left w1 w mid new replayed others is_mid tail is_new holds1 call1 same1 holds2 call2 same2 fits =
+        → Goes t told was v k x (Of name Commit) (Said Done) w (record k { live = opened_without l.transaction k.live; undo = undo; held = released l.transaction k.held; log = new })
+    commits undo w1 w mid new others is_mid tail is_new holds1 call1 same1 holds2 call2 same2 fits =
         let u : ℕ = l.transaction in
         let y : Run = committed x u in
         let r : Record = commit_record in
-        let m : Core = record k { committed = o; due = due; live = opened_without u k.live; kept = left; held = released u k.held; log = new } in
+        let m : Core = record k { live = opened_without u k.live; undo = undo; held = released u k.held; log = new } in
         let rises : tail_of k.log ≤ tail_of mid = omega (arith, tail-place k.log r, tail) in
         let grows : tail_of mid ≤ tail_of new = omega (arith, tail_forced mid, ap tail_of is_new) in
-        let is : replay t due (Some o) ≡ Some (committed_objects t y) =
-        replayed ∙ (replay-append t k.due (k.kept u) (Some k.committed) ∙ (ap (λ (s : Option Objects). replay t (k.kept u) s) my_runs.committed ∙ commit_replay t x u (k.kept u) committer my_runs.sound (my_runs.kept u))) in
         let mid_area : mid.area ≡ Log0 = ap (λ (z : Tail). z.area) is_mid ∙ ((appended_place k.log r).0 ∙ my_runs.area) in
         let mid_base : mid.base ≡ 0 = ap (λ (z : Tail). z.base) is_mid ∙ ((appended_place k.log r).1 ∙ my_runs.base) in
         let after : Shows t told was w m y = running_shows t told was w m y running my_going (record {
           sound = commit_stays t x u committer my_runs.sound;
-          committed = is;
           objects = my_runs.objects;
           live = without_is u;
-          kept = subst (λ (es : List Event). AreSaid left es) (sym (open_committed x u)) (kept_but u left k.kept (open_entries x.so_far) others my_runs.kept);
+          undoes = committed_undoes t k m x my_runs.undoes u committer others;
           held = ap (λ (hs : List (Hold Resource)). released u hs) my_runs.held;
           next = omega (arith, my_runs.next, rises, grows);
           answered = omega (arith, one_more y refl, my_runs.answered);

@@ -6,7 +6,9 @@ pub mod Standing
 pub mod Listing
 pub mod Steps
 pub mod Changes
-pub mod Folding
+pub mod Saying
+pub mod Undoing
+pub mod TakenBack
 pub mod Locking
 pub mod Along
 pub mod Failing

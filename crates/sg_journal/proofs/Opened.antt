@@ -9,7 +9,9 @@ use Rattle.sg_disk.proofs.Images.{sync_keeps}
 use Rattle.sg_disk.proofs.Parts.{part_synced, other_synced, settled_byte}
 use Rattle.sg_model.specs.Objects.{Objects}
 use Rattle.sg_run.specs.Run.{start}
+use Rattle.sg_serial.specs.Runs as runs
 use Rattle.sg_run.proofs.Serial.{start_stays}
+use Rattle.sg_run.proofs.Noted.{start_noted}
 use Rattle.sg_log.specs.Following.{AreChained}
 use Rattle.sg_log.specs.Frames.{Numbered, records_of, HasRecords}
 use Rattle.sg_log.specs.Reads.{OnlyReads}
@@ -71,7 +73,7 @@ module _ (tb : Operations) where
 
   -- a store that has just opened
   abbrev pub opened_core : Objects → Tail → Core
-  opened_core objects log = record { committed = objects; due = []; objects = objects; live = []; kept = λ u. []; held = []; stopped = None; log = log }
+  opened_core objects log = record { objects = objects; live = []; undo = λ u name object. object; held = []; stopped = None; log = log }
 
   none_apart : (rs : List Record) → AreApart rs []
   none_apart [] = tt
@@ -97,10 +99,9 @@ module _ (tb : Operations) where
         gate = λ is_told ds gate there. HasRecords-gate (has is_told) there;
         shows = running_shows tb told v.now w (opened_core objects log) (start objects) refl refl (record {
           sound = start_stays tb objects;
-          committed = refl;
           objects = refl;
           live = refl;
-          kept = λ u. refl;
+          undoes = record { past = runs.start objects; is_noted = start_noted tb objects; own = λ u there. absurd (cc there); nothing = λ u gone name object. refl };
           held = refl;
           next = omega arith;
           answered = refl;

@@ -8,12 +8,15 @@ use Rattle.sg_serial.specs.Locks.{Touch, Hold, first_holder, hold_all}
 use Rattle.sg_ops.specs.Table.{Table as Operations}
 use Rattle.sg_model.specs.declared.op.Op as code_op
 use Rattle.sg_model.specs.SaidOps.{said_op}
-use Rattle.sg_model.specs.Objects.{Objects}
+use Rattle.sg_model.specs.declared.reason.Reason.{Reason}
+use Rattle.sg_model.specs.Objects.{Object, Objects}
 use Rattle.sg_model.specs.Verb.{Op, Outcome, Reply}
 use Rattle.sg_model.specs.Verb.Op.{Names}
-use Rattle.sg_model.specs.Step.{step, is_changing, Grows}
+use Rattle.sg_model.specs.Step.{step, is_changing}
 use Rattle.sg_model.specs.Touches.{Resource, touches, same_resource, conflict}
+use Rattle.sg_model.specs.Undo.{note_of_op, undo_on}
 use Rattle.sg_model.proofs.Refused.{step_refused, replied}
+use Rattle.sg_plain.proofs.Noting.{refused_notes}
 use Rattle.sg_words.specs.Parse.{words_of, is_transaction, most_line_bytes}
 use Rattle.sg_words.specs.Requests.{Asked, Request, request_of, asked, asked_by, asked_of}
 use Rattle.sg_words.specs.Requests.Asked.{Blank, Wrong, Of}
@@ -34,18 +37,18 @@ use Rattle.sg_locks.specs.declared.table.LockAnswer.{LockAnswer}
 use Rattle.sg_locks.specs.declared.table.LockAnswer.TheVariants as locks
 use Rattle.sg_locks.specs.Answers.{lock_answer, locks_after}
 use Rattle.sg_run.specs.Answer.{answer_of, IsSaid}
-use Rattle.sg_run.specs.Run.{Run, holder_of, held_with, MOST_HELD}
+use Rattle.sg_run.specs.Run.{Run, TakesMemory, holder_of, held_with, MOST_HELD}
 use Rattle.sg_journal.specs.Lines.{op_of, op_said}
-use Rattle.sg_journal.specs.Live.{Opened, opened_named}
+use Rattle.sg_journal.specs.Live.{Opened, Undo, opened_named}
 use Rattle.sg_journal.specs.Shown.{answer_at, stop_at, IsReasonOr, IsNotGranted}
 use Rattle.sg_journal.specs.Store.{Core, Shows}
 use Rattle.sg_journal.specs.Goes.{Goes, NEW_WORK_END}
 use Rattle.sg_journal.proofs.Tails.{MomentsOf, ends_within}
-use Rattle.sg_journal.proofs.Folding.{kept_said}
+use Rattle.sg_journal.proofs.Saying.{kept_said}
 use Rattle.sg_journal.proofs.Along.{goes_along}
 use Rattle.sg_journal.proofs.Steps.{op_busy, op_locks_full}
 use Rattle.sg_journal.proofs.Locking.{granted_is, busy_is, full_is, somebody, nobody, same_count}
-use Rattle.sg_journal.proofs.Changes.{op_end, op_memory, op_unchanged, op_breaks}
+use Rattle.sg_journal.proofs.Changes.{op_end, op_memory, read_noted, op_unchanged, op_breaks}
 
 -- the kept words of a line that says an operation say it too
 
@@ -122,12 +125,26 @@ module _ (t : Operations) (told : Bool) (was : disk.State) (v : disk.View) (k : 
         goes_along _ (shown_answer into a) _ v _ (record k { held = locks_after l.transaction wanted k.held }) refl refl (ap (λ (hs : List (Hold Resource)). record k { held = hs }) after) (in_the_way_or_full (lock_answer l.transaction wanted k.held) refl a into h)
 
   module _ (name : List ℕ) (op : Op) (l : Opened) (one : opened_named k.live name ≡ Some l) (held : List (Hold Resource)) (h : IsLocked l.transaction op held) where
-    along : (answer : Answer) (w : disk.View) (o : Objects) → Goes t told was v k x (Of name (Do op)) answer w (record k { held = hold_all same_resource l.transaction (touches k.objects op) k.held; objects = o }) → Goes t told was v k x (Of name (Do op)) answer w (record k { held = held; objects = o })
-    along answer w o g = subst (λ (hs : List (Hold Resource)). Goes t told was v k x (Of name (Do op)) answer w (record k { held = hs; objects = o })) (sym h.is) g
+    along : (answer : Answer) (w : disk.View) (o : Objects) (undo : Undo) → Goes t told was v k x (Of name (Do op)) answer w (record k { held = hold_all same_resource l.transaction (touches k.objects op) k.held; objects = o; undo = undo })
+        → Goes t told was v k x (Of name (Do op)) answer w (record k { held = held; objects = o; undo = undo })
+    along answer w o undo g = subst (λ (hs : List (Hold Resource)). Goes t told was v k x (Of name (Do op)) answer w (record k { held = hs; objects = o; undo = undo })) (sym h.is) g
 
     -- it was refused, or only reads
-    pub unchanged : (r : Outcome) (o : Objects) → step t k.objects op ≡ (r, o) → (IsErr r) ⊎ (is_changing op ≡ false) → Goes t told was v k x (Of name (Do op)) (answer_of r) v (record k { held = held; objects = o })
-    unchanged r o e why = along (answer_of r) v o (op_unchanged t told was v k x shows running name op l one h.free h.few r o e why)
+    pub unchanged : (r : Outcome) (o : Objects) (undo : Undo) → step t k.objects op ≡ (r, o) → ((u : ℕ) (s : List ℕ) (object : Option Object) → undo u s object ≡ k.undo u s (cond (u == l.transaction) (undo_on s (note_of_op t k.objects op) object) object))
+        → (IsErr r) ⊎ (is_changing op ≡ false) → Goes t told was v k x (Of name (Do op)) (answer_of r) v (record k { held = held; objects = o; undo = undo })
+    unchanged r o undo e noted why = along (answer_of r) v o undo (op_unchanged t told was v k x shows running name op l one h.free h.few r o undo e noted why)
+
+    -- it only reads
+    pub has_read : (r : Outcome) (o : Objects) → step t k.objects op ≡ (r, o) → is_changing op ≡ false → Goes t told was v k x (Of name (Do op)) (answer_of r) v (record k { held = held; objects = o })
+    has_read r o e reads = unchanged r o k.undo e (read_noted t told was v k x shows running name op l one h.free h.few reads) (inr reads)
+
+    -- it was refused before anything was noted
+    has_no_note : (reason : Reason) → (step t k.objects op).0 ≡ Err reason → (u : ℕ) (s : List ℕ) (object : Option Object) → k.undo u s object ≡ k.undo u s (cond (u == l.transaction) (undo_on s (note_of_op t k.objects op) object) object)
+    has_no_note reason e u s object = by (u == l.transaction)
+      where
+        by : (b : Bool) → k.undo u s object ≡ k.undo u s (cond b (undo_on s (note_of_op t k.objects op) object) object)
+        by true = ap (λ (o : Option Object). k.undo u s o) (sym (refused_notes t k.objects op reason e s object))
+        by false = refl
 
     -- it is refused, or else answered this
     reason_or : (other : code_answer.Answer) (answer : code_answer.Answer) (into : List ℕ) → (IsSaid (answer_of (step t k.objects op).0) → Goes t told was v k x (Of name (Do op)) (shown_answer into other) v (record k { held = held; objects = k.objects }))
@@ -139,20 +156,16 @@ module _ (t : Operations) (told : Bool) (was : disk.State) (v : disk.View) (k : 
         by_outcome (Err reason) e q =
             let same : (step t k.objects op).1 ≡ k.objects = step_refused t k.objects op (ap (λ (r : Outcome). replied r) e) in
             let both : step t k.objects op ≡ (Err reason, k.objects) = ap (λ (r : Outcome). (r, (step t k.objects op).1)) e ∙ ap (λ (s : Objects). (Err reason, s)) same in
-            subst (λ (a : code_answer.Answer). Goes t told was v k x (Of name (Do op)) (shown_answer into a) v (record k { held = held; objects = k.objects })) (sym q) (unchanged (Err reason) k.objects both (inl refl))
+            subst (λ (a : code_answer.Answer). Goes t told was v k x (Of name (Do op)) (shown_answer into a) v (record k { held = held; objects = k.objects })) (sym q) (unchanged (Err reason) k.objects k.undo both (has_no_note reason e) (inl refl))
 
     -- the log is full
     pub full_or : (answer : code_answer.Answer) (into : List ℕ) → is_changing op ≡ true → NEW_WORK_END < tail_of k.log → IsReasonOr (step t k.objects op).0 answers.LogEnd answer → Goes t told was v k x (Of name (Do op)) (shown_answer into answer) v (record k { held = held })
-    full_or answer into changing above is = reason_or answers.LogEnd answer into (λ said. along LogEnd v k.objects (op_end t told was v k x shows running name op l one h.free h.few changing said above)) is
+    full_or answer into changing above is = reason_or answers.LogEnd answer into (λ said. along LogEnd v k.objects k.undo (op_end t told was v k x shows running name op l one h.free h.few changing said above)) is
 
-    -- there is no memory for its words
-    pub short_or : (answer : code_answer.Answer) (into : List ℕ) → is_changing op ≡ true → tail_of k.log ≤ NEW_WORK_END → IsReasonOr (step t k.objects op).0 answers.Memory answer → Goes t told was v k x (Of name (Do op)) (shown_answer into answer) v (record k { held = held })
-    short_or answer into changing low is = reason_or answers.Memory answer into (λ said. along Memory v k.objects (op_memory t told was v k x shows running name op l one h.free h.few (inr changing) said (λ work. low))) is
-
-    -- there is none for what it leaves
-    pub starved : (o : Objects) → Grows op → IsOk (step t k.objects op).0 → (is_changing op ≡ true → tail_of k.log ≤ NEW_WORK_END) → o ≡ k.objects → Goes t told was v k x (Of name (Do op)) Memory v (record k { held = held; objects = o })
-    starved o grows fine low same = subst (λ (s : Objects). Goes t told was v k x (Of name (Do op)) Memory v (record k { held = held; objects = s })) (sym same)
-        (along Memory v k.objects (op_memory t told was v k x shows running name op l one h.free h.few (inl grows) (said_ok (step t k.objects op).0 fine) low))
+    -- there is no memory for what it leaves or answers, or for what takes it back
+    pub starved : (o : Objects) → TakesMemory op → IsOk (step t k.objects op).0 → (is_changing op ≡ true → tail_of k.log ≤ NEW_WORK_END) → o ≡ k.objects → Goes t told was v k x (Of name (Do op)) Memory v (record k { held = held; objects = o })
+    starved o takes fine low same = subst (λ (s : Objects). Goes t told was v k x (Of name (Do op)) Memory v (record k { held = held; objects = s })) (sym same)
+        (along Memory v k.objects k.undo (op_memory t told was v k x shows running name op l one h.free h.few takes (said_ok (step t k.objects op).0 fine) low))
       where
         said_ok : (r : Outcome) → IsOk r → IsSaid (answer_of r)
         said_ok (Ok reply) q = tt

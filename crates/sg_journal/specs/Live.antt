@@ -1,8 +1,9 @@
--- Live transactions, and the words of the lines that are kept of them.
+-- Live transactions.
 use Rattle.std.specs.Prelude.{ℕ, not, ◌==◌, cond, List, [], map, Option}
-use Rattle.std.specs.List.{filter, find, flat_map}
+use Rattle.std.specs.List.{filter, find}
 use Rattle.std.specs.Str.{bytes_eq}
 use Rattle.sg_serial.specs.Runs.{Live}
+use Rattle.sg_model.specs.Objects.{Object}
 
 -- a live transaction: its name, its number, and the number of its last record
 pub record Opened : Type 0 where
@@ -28,6 +29,6 @@ with_last transaction last live = map (λ l. cond (l.transaction == transaction)
 abbrev pub opened_without : ℕ → List Opened → List Opened
 opened_without transaction live = filter (λ l. not (l.transaction == transaction)) live
 
--- the words of the lines that are kept of these transactions, one whole transaction after another
-abbrev pub words_of_each : (ℕ → List (List ℕ)) → List Opened → List (List ℕ)
-words_of_each words live = flat_map (λ l. words l.transaction) live
+-- by the number of a transaction, what stood under a name before it did anything there, by what stands there now
+abbrev pub Undo : Type 0
+Undo = ℕ → List ℕ → Option Object → Option Object

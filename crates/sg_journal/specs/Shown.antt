@@ -1,9 +1,8 @@
 -- The code's values as definitions speak of them.
-use Rattle.std.specs.Prelude.{◌≡◌, ◌<◌, ◌==◌, if◌then◌else◌, ℕ, List, [], length, map, Option, Some, None, Ok, Err, vec_capacity}
-use Rattle.std.specs.Ordering.{nat_cmp}
-use Rattle.std.specs.BTreeMap.{get}
-use Rattle.std.specs.declared.vec.Vec.{Vec}
-use Rattle.std.specs.declared.alloc.Global.{Global}
+use Rattle.std.specs.Prelude.{◌≡◌, ◌==◌, if◌then◌else◌, ℕ, Bool, List, [], map, Option, Some, None, Ok, Err}
+use Rattle.std.specs.List.{find}
+use Rattle.sg_model.specs.Objects.{Object}
+use Rattle.sg_plain.specs.Undone.{undo_in}
 use Rattle.sg_model.specs.declared.stop.Stop.{Stop}
 use Rattle.sg_model.specs.declared.stop.Stop.TheVariants as stops
 use Rattle.sg_model.specs.Verb.{Outcome}
@@ -19,38 +18,30 @@ use Rattle.sg_base.specs.declared.area.Area.TheVariants.{Log0}
 use Rattle.sg_journal.specs.declared.opening.OpenRefused as code_refused
 use Rattle.sg_journal.specs.declared.opening.OpenRefused.TheVariants as refusals
 use Rattle.sg_journal.specs.declared.live.Running as code_running
-use Rattle.sg_journal.specs.declared.line.Kept as code_kept
-use Rattle.sg_journal.specs.declared.kept_lines.KeptLines as code_lines
-use Rattle.sg_journal.specs.Live.{Opened, opened_numbered}
+use Rattle.sg_journal.specs.declared.live.Ongoing as code_ongoing
+use Rattle.sg_journal.specs.Live.{Opened, Undo, opened_numbered}
 
 abbrev pub opened_of : code_running.Running → Opened
 opened_of r = record { name = r.name; transaction = r.txn.0; last = r.last }
 
-abbrev pub all_opened : List code_running.Running → List Opened
-all_opened live = map opened_of live
+abbrev pub all_opened : List code_ongoing.Ongoing → List Opened
+all_opened live = map (λ o. opened_of o.running) live
 
 -- a live transaction, with another last record if it has this number
-abbrev pub renewed_of : ℕ → ℕ → code_running.Running → code_running.Running
-renewed_of transaction last r = if r.txn.0 == transaction then record r { last = last } else r
+abbrev pub renewed_of : ℕ → ℕ → code_ongoing.Ongoing → code_ongoing.Ongoing
+renewed_of transaction last o = if o.running.txn.0 == transaction then record o { running = record o.running { last = last } } else o
 
-abbrev pub words_of_lines : List code_kept.Kept → List (List ℕ)
-words_of_lines lines = map (λ l. l.words.items) lines
+-- what stood under a name before a transaction, if it is one, did anything there, by what stands there now
+abbrev pub undo_by : Option code_ongoing.Ongoing → List ℕ → Option Object → Option Object
+undo_by None name object = object
+undo_by (Some o) name object = undo_in o.changes name object
 
-abbrev pub words_or_none : Option (Vec code_kept.Kept Global) → List (List ℕ)
-words_or_none None = []
-words_or_none (Some lines) = words_of_lines lines.items
+-- the same of the live transaction with this number
+abbrev pub has_number : ℕ → code_ongoing.Ongoing → Bool
+has_number transaction o = o.running.txn.0 == transaction
 
--- the words of the lines that are kept of a transaction
-abbrev pub words_in : code_lines.KeptLines → ℕ → List (List ℕ)
-words_in lines transaction = words_or_none (get nat_cmp lines.map transaction)
-
-abbrev pub FitsOneMore : Option (Vec code_kept.Kept Global) → Type 0
-FitsOneMore None = ⊥
-FitsOneMore (Some lines) = length lines.items < vec_capacity lines
-
--- there is room for one more line of a transaction
-abbrev pub HasRoom : code_lines.KeptLines → ℕ → Type 0
-HasRoom lines transaction = FitsOneMore (get nat_cmp lines.map transaction)
+abbrev pub undo_of : List code_ongoing.Ongoing → Undo
+undo_of live transaction name object = undo_by (find (has_number transaction) live) name object
 
 -- what is answered where the log fails, and why the store stops then
 abbrev pub answer_at : LogFault → code_answer.Answer

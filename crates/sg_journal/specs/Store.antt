@@ -1,35 +1,33 @@
 -- What a store over a disk shows of a run.
-use Rattle.std.specs.Prelude.{◌≡◌, ◌+◌, ◌≤◌, ℕ, Bool, IsTrue, List, [], ◌++◌, length, map, Option, Some, None}
-use Rattle.std.specs.List.{filter}
+use Rattle.std.specs.Prelude.{◌≡◌, ◌+◌, ◌≤◌, ℕ, Bool, true, false, IsTrue, List, [], ◌++◌, length, map, Option, None}
 use Rattle.sg_base.specs.declared.area.Area.TheVariants.{Log0}
 use Rattle.sg_disk.specs.Disk as disk
 use Rattle.sg_serial.specs.Machine.{Among}
 use Rattle.sg_serial.specs.Locks.{Hold}
-use Rattle.sg_serial.specs.Runs.{is_own, open_entries}
+use Rattle.sg_serial.specs.Runs.{is_live}
 use Rattle.sg_ops.specs.Table.{Table as Operations}
 use Rattle.sg_model.specs.declared.stop.Stop.{Stop}
-use Rattle.sg_model.specs.Objects.{Objects}
+use Rattle.sg_model.specs.Objects.{Object, Objects}
 use Rattle.sg_model.specs.Touches.{Resource}
+use Rattle.sg_model.specs.Undo.{undo_all_on}
 use Rattle.sg_log.specs.Following.{last_of, AreChained}
 use Rattle.sg_log.specs.Frames.{GREATEST_BODY, Numbered, records_of, SameElsewhere}
 use Rattle.sg_log.specs.Held.{Tail, tail_of, Holds}
-use Rattle.sg_run.specs.Run.{Run, live_objects, committed_objects}
-use Rattle.sg_run.specs.Kept.{kept_ops}
+use Rattle.sg_run.specs.Run.{Run, live_objects}
+use Rattle.sg_run.specs.Noted.{NotedPast, IsNoted, notes_by}
 use Rattle.sg_run.specs.Serial.{IsSound}
-use Rattle.sg_journal.specs.Lines.{op_said, commits_in}
-use Rattle.sg_journal.specs.Live.{Opened, live_of}
-use Rattle.sg_journal.specs.Stands.{replay, StandsForFirst}
+use Rattle.sg_journal.specs.Lines.{commits_in}
+use Rattle.sg_journal.specs.Live.{Opened, Undo, live_of}
+use Rattle.sg_journal.specs.Stands.{StandsForFirst}
 use Rattle.sg_journal.specs.Logs.{Logs}
 
--- A store without its disk: the objects after the first committed lines, the words of the committed lines behind these,
--- and the objects as they are now; the live transactions in order of begin, the words of the changing lines of each that
--- got a reply, and what they hold; why the store has stopped, if it has; and its log
+-- A store without its disk: the objects as they are now; the live transactions in order of begin, what stood under a name
+-- before one of them, by its number, did anything there, by what stands there now, and what they hold; why the store has
+-- stopped, if it has; and its log
 pub record Core : Type 0 where
-  pub committed : Objects
-  pub due : List (List ℕ)
   pub objects : Objects
   pub live : List Opened
-  pub kept : ℕ → List (List ℕ)
+  pub undo : Undo
   pub held : List (Hold Resource)
   pub stopped : Option Stop
   pub log : Tail
@@ -46,13 +44,20 @@ pub record Keeps (t : Operations) (v : disk.View) (k : Core) (x : Run) : Type 0 
   pub logs : Logs t x (records_of old) (records_of new ++ records_of waiting)
   pub no_commit : commits_in (records_of waiting) ≡ []
 
+-- What takes back a live transaction's changes in a store are the notes of its entries in a run; one that isn't live has
+-- nothing to be taken back
+pub record Undoes (t : Operations) (k : Core) (x : Run) : Type 0 where
+  pub past : NotedPast
+  pub is_noted : IsNoted t x past
+  pub own : (u : ℕ) → is_live x.so_far.live u ≡ true → (name : List ℕ) (object : Option Object) → k.undo u name object ≡ undo_all_on name (notes_by past u) object
+  pub nothing : (u : ℕ) → is_live x.so_far.live u ≡ false → (name : List ℕ) (object : Option Object) → k.undo u name object ≡ object
+
 -- A store that isn't stopped shows the run. The areas that it doesn't use are in this state
 pub record Runs (t : Operations) (told : Bool) (was : disk.State) (v : disk.View) (k : Core) (x : Run) : Type 0 where
   pub sound : IsSound t x
-  pub committed : replay t k.due (Some k.committed) ≡ Some (committed_objects t x)
   pub objects : k.objects ≡ live_objects t x
   pub live : x.so_far.live ≡ map live_of k.live
-  pub kept : (u : ℕ) → map op_said (k.kept u) ≡ map Some (kept_ops (filter (is_own u) (open_entries x.so_far)))
+  pub undoes : Undoes t k x
   pub held : k.held ≡ x.so_far.held
   pub next : x.so_far.next ≤ tail_of k.log
   pub answered : x.so_far.answered ≡ length x.so_far.commits

@@ -10,10 +10,7 @@
 mod found;
 mod found_line;
 mod hold;
-mod kept;
-mod kept_lines;
 mod law;
-mod line;
 mod lines;
 mod live;
 mod opening;

@@ -1,16 +1,18 @@
 // How the log of a store is read back when it opens.
 ghost use Rattle.std.specs.Prelude.{◌≡◌, ◌⊎◌, ◌≤◌, ◌<◌, ◌+◌, ◌^◌, ℕ, List, [], map, length, IsTrue, IfOk, IfErr, OnOk, MatchResult, Some};
 ghost use Rattle.std.specs.List.{flat_map};
+ghost use Rattle.std.specs.Option.{option_map};
 ghost use Rattle.std.specs.FinMap.{empty};
 ghost use Rattle.sg_base.specs.declared.area.Area.TheVariants.{Log0};
 ghost use Rattle.sg_ops.specs.Table.{table_of};
+ghost use Rattle.sg_model.specs.SaidOps.{said_op};
 ghost use Rattle.sg_record.specs.Plain.{Record, spelled_all, AreRecords};
 ghost use Rattle.sg_record.specs.Plain.{shown};
 ghost use Rattle.sg_log.specs.Following.{AreChainedBehind};
 ghost use Rattle.sg_log.specs.Frames.{Frames, Numbered, numbered_from, HasRecords, gate_after, GREATEST_BODY};
 ghost use Rattle.sg_log.specs.Held.{Holds};
 ghost use Rattle.sg_log.specs.Reads.{OnlyReads};
-ghost use Rattle.sg_journal.specs.Lines.{once, committed_lines};
+ghost use Rattle.sg_journal.specs.Lines.{op_said, once, committed_lines};
 ghost use Rattle.sg_journal.specs.Stands.{after_line, replay};
 ghost use Rattle.sg_journal.specs.Damage.{LineAt, words_of_all};
 ghost use Rattle.sg_journal.specs.Found.{line_of, lines_found, Finds, KnowsLasts, AreFound, EndsAt, IsReadBack, IsRefusedIn, IsNotFound, IsLineRefused, IsRefusedBy};
@@ -19,14 +21,15 @@ ghost use Rattle.sg_journal.specs.Shown.{refusal_at};
 
 use crate::found::Found;
 use crate::found_line::FoundLine;
-use crate::kept::operation;
 use crate::opening::OpenRefused;
 use sg_base::{Area, OutOfMemory};
 use sg_disk::Disk;
 use sg_log::{Log, LogFault};
+use sg_model::Op;
 use sg_ops::Ops;
 use sg_plain::Objects;
 use sg_record::plain::decode;
+use sg_words::{Request, parse_words};
 use std::alloc::Global;
 
 // The log's bytes stand for nothing, by what begins at this offset.
@@ -108,6 +111,23 @@ fn find_all<D: Disk>(
             Ok(None) => return Ok(found),
             Err(fault) => return Err(refusal(fault)),
         }
+    }
+}
+
+// The operation that the words of a line say, if they say one. `scratch` takes the bytes of its values.
+// Keys and names aren't listed by a line of a log.
+fn operation<'a>(words: &'a [u8], scratch: &'a mut [u8]) -> Option<Op<'a>>
+    requires { length words.now ≤ length scratch.old }
+    ensures { option_map said_op result ≡ op_said words.now }
+{
+    match parse_words(words, scratch) {
+        Some(Request::Do(op)) => Some(op),
+        Some(Request::Begin) => None,
+        Some(Request::Commit) => None,
+        Some(Request::Abort) => None,
+        Some(Request::Keys(_)) => None,
+        Some(Request::List) => None,
+        None => None,
     }
 }
 

@@ -1,8 +1,9 @@
-ghost use Rattle.std.specs.Prelude.{◌≡◌, ◌≤◌, ◌==◌, ◌++◌, ◌∷◌, [], List, ℕ, length, IfOk, IfErr, IsSome, OnOk, IsTrue, Some, None, if◌then◌else◌};
+ghost use Rattle.std.specs.Prelude.{◌≡◌, ◌≤◌, ◌==◌, [], List, ℕ, Option, length, IfOk, IfErr, IsSome, OnOk, IsTrue, Some, None, if◌then◌else◌};
 ghost use Rattle.sg_base.specs.Ends.{HasRisen};
 ghost use Rattle.sg_disk.specs.Disk.{LeavesOnly, State as DiskState};
 ghost use Rattle.sg_ops.specs.Table.{Table as Operations, table_of};
 ghost use Rattle.sg_serial.specs.Locks.{released};
+ghost use Rattle.sg_model.specs.Objects.{Object};
 ghost use Rattle.sg_model.specs.SaidOps.{said_op};
 ghost use Rattle.sg_model.specs.Verb.Op.{On, Names};
 ghost use Rattle.sg_model.specs.Verb.Verb.{Keys};
@@ -20,14 +21,11 @@ ghost use Rattle.sg_run.specs.Run.{Run};
 ghost use Rattle.sg_journal.specs.Store.{Shows};
 ghost use Rattle.sg_journal.specs.Goes.{Goes, Grows, Heeds, NEW_WORK_END};
 ghost use Rattle.sg_journal.specs.Live.{opened_without, with_last};
-ghost use Rattle.sg_journal.specs.Shown.{all_opened, words_of_lines, words_in, HasRoom, answer_at, stop_at, IsReasonOr};
+ghost use Rattle.sg_journal.specs.Shown.{all_opened, undo_of, answer_at, stop_at, IsReasonOr};
 ghost use Rattle.sg_journal.specs.Opening.{Opens, StaysShut};
 ghost use Rattle.sg_journal.specs.Seen.{core_of};
 
 use crate::hold::hold;
-use crate::kept::{folded, line_of, queue, settle};
-use crate::kept_lines::KeptLines;
-use crate::line::Kept;
 use crate::live::{Live, Running};
 use crate::opening::{OpenRefused, Unopened};
 use crate::replay::read_back;
@@ -41,9 +39,8 @@ use sg_model::{Op, Reply, Stop};
 use sg_ops::Ops;
 use sg_plain::Objects;
 use sg_record::plain::Rec;
-use sg_words::{Answer, Asked, Request, parse_request};
+use sg_words::{Answer, Asked, Request, join_words, parse_request};
 use std::alloc::Global;
-use std::collections::VecDeque;
 
 /// No new work begins once the log's tail is above this byte: 2^62.
 const NEW_WORK_END: u64 = 1 << 62;
@@ -54,32 +51,27 @@ const LOG_END: u64 = 1 << 63;
 /// How many bytes the record of a commit has.
 const COMMIT_BYTES: u64 = 21;
 
-/// Objects in memory and the log of the lines that made them, with up to 64 live transactions. Once it
-/// has stopped it makes no further call of the disk.
+/// Objects in memory and the log of the lines that made them, with up to 64 live transactions and what
+/// takes back what each of these has done. Once it has stopped it makes no further call of the disk.
 pub struct Store<D: Disk> {
     disk: D,
     log: Log,
     locks: Locks,
     live: Live,
-    // the changing lines of each live transaction that got a reply, in order
-    kept: KeptLines,
-    // the objects after the committed lines but for the last ones, which are due to them
-    committed: Objects,
-    due: VecDeque<Kept>,
     // the objects as the live transactions have left them
     objects: Objects,
     stop: Option<Stop>,
 }
 
-// What a store has in memory beside the committed objects: no live transactions, no locks, and the
-// objects as they are now.
-fn room_for(alloc: Global, committed: &Objects) -> Result<(Live, Locks, Objects), OutOfMemory>
-    ensures { IfOk result (λ p. (all_opened p.0.all.items ≡ []) × (p.1 ≡ []) × (p.2 ≡ committed.now)) }
+// What a store has in memory beside its objects: no live transactions, and no locks.
+fn room_for(alloc: Global) -> Result<(Live, Locks), OutOfMemory>
+    ensures live { IfOk result (λ p. all_opened p.0.all.items ≡ []) }
+    ensures nothing { IfOk result (λ p. (u : ℕ) (name : List ℕ) (object : Option Object) → undo_of p.0.all.items u name object ≡ object) }
+    ensures locks { IfOk result (λ p. p.1 ≡ []) }
 {
     let live = Live::new(alloc)?;
     let locks = Locks::new(alloc)?;
-    let objects = committed.copy()?;
-    Ok((live, locks, objects))
+    Ok((live, locks))
 }
 
 impl<D: Disk> Store<D> {
@@ -99,15 +91,12 @@ impl<D: Disk> Store<D> {
             }
         }
         match read_back(alloc, ops, &mut disk) {
-            Ok((log, committed)) => match room_for(alloc, &committed) {
-                Ok((live, locks, objects)) => Ok(Store {
+            Ok((log, objects)) => match room_for(alloc) {
+                Ok((live, locks)) => Ok(Store {
                     disk,
                     log,
                     locks,
                     live,
-                    kept: KeptLines::new(alloc),
-                    committed,
-                    due: VecDeque::new(alloc),
                     objects,
                     stop: None,
                 }),
@@ -136,18 +125,12 @@ impl<D: Disk> Store<D> {
             log,
             locks,
             live,
-            kept,
-            committed,
-            due,
             objects,
             stop: _,
         } = self;
         drop(log);
         drop(locks);
         drop(live);
-        drop(kept);
-        drop(committed);
-        drop(due);
         drop(objects);
         disk
     }
@@ -169,7 +152,7 @@ impl<D: Disk> Store<D> {
     }
 
     /// Begins a transaction with this name.
-    pub fn begin(&mut self, name: Name) -> Answer
+    pub fn begin(&mut self, alloc: Global, name: Name) -> Answer
         requires { self.old.stop ≡ None }
         ensures goes { (t : Operations) (into : List ℕ) (was : DiskState) (x : Run) → Shows t D.told was (D.view self.old.disk) (core_of self.old) x
             → Goes t D.told was (D.view self.old.disk) (core_of self.old) x (Of name Begin) (shown_answer into result) (D.view self.new.disk) (core_of self.new) }
@@ -196,7 +179,7 @@ impl<D: Disk> Store<D> {
             .append(&mut self.disk, &Rec::Begin { txn, prev: 0 })
         {
             Ok(last) => {
-                self.live.add(name, txn, last);
+                self.live.add(alloc, name, txn, last);
                 Answer::Said(Reply::Done)
             }
             Err(_) => {
@@ -206,88 +189,44 @@ impl<D: Disk> Store<D> {
         }
     }
 
-    // A transaction is no more, and it holds nothing. Its lines are handed out.
-    fn forget(&mut self, alloc: Global, txn: TxnId) -> Vec<Kept>
-        ensures core { core_of self.new ≡ record (core_of self.old) { live = opened_without txn.0 (core_of self.old).live; kept = words_in self.new.kept; held = released txn.0 (core_of self.old).held } }
-        ensures left { (u : ℕ) → words_in self.new.kept u ≡ (if u == txn.0 then [] else words_in self.old.kept u) }
-        ensures lines { words_of_lines result.items ≡ words_in self.old.kept txn.0 }
-        ensures due { self.new.due ≡ self.old.due }
-        ensures committed { self.new.committed ≡ self.old.committed }
+    // A transaction is no more: it holds nothing, and what it has done isn't known any more.
+    fn forget(&mut self, txn: TxnId)
+        ensures core { core_of self.new ≡ record (core_of self.old) { live = opened_without txn.0 (core_of self.old).live; undo = undo_of self.new.live.all.items; held = released txn.0 (core_of self.old).held } }
+        ensures others { (u : ℕ) (name : List ℕ) (object : Option Object) → undo_of self.new.live.all.items u name object ≡ (if u == txn.0 then object else undo_of self.old.live.all.items u name object) }
         ensures disk { self.new.disk ≡ self.old.disk }
         ensures log { self.new.log ≡ self.old.log }
         ensures stop { self.new.stop ≡ self.old.stop }
     {
         self.live.remove(txn);
         self.locks.release(txn);
-        self.kept.take(alloc, txn)
     }
 
-    /// Takes back what the transaction with this name did, if it is live, and it is no more. The lines of
-    /// the others are done over a copy of the committed objects. After `Memory` nothing has changed.
-    pub fn abort(
-        &mut self,
-        alloc: Global,
-        ops: &Ops,
-        name: Name,
-        scratch: &mut [u8],
-        into: &mut [u8],
-    ) -> Answer
-        requires running { self.old.stop ≡ None }
-        requires scratch { 32768 ≤ length scratch.old }
-        requires into { 8192 ≤ length into.old }
-        ensures goes { (was : DiskState) (x : Run) → Shows (table_of record_meaning range_meaning ops.now) D.told was (D.view self.old.disk) (core_of self.old) x
-            → Goes (table_of record_meaning range_meaning ops.now) D.told was (D.view self.old.disk) (core_of self.old) x (Of name Abort) (shown_answer into.new result) (D.view self.new.disk) (core_of self.new) }
+    /// Takes back what the transaction with this name did, if it is live, and it is no more. After
+    /// `Memory` nothing has changed.
+    pub fn abort(&mut self, alloc: Global, name: Name) -> Answer
+        requires { self.old.stop ≡ None }
+        ensures goes { (t : Operations) (into : List ℕ) (was : DiskState) (x : Run) → Shows t D.told was (D.view self.old.disk) (core_of self.old) x
+            → Goes t D.told was (D.view self.old.disk) (core_of self.old) x (Of name Abort) (shown_answer into result) (D.view self.new.disk) (core_of self.new) }
         // it makes no call of the disk
         ensures disk { (self.new.disk ≡ self.old.disk) × (self.new.log ≡ self.old.log) × (self.new.stop ≡ self.old.stop) }
     {
         let Some(live) = self.live.named(name) else {
             return Answer::NoTransaction;
         };
-        match settle(
-            alloc,
-            ops,
-            &mut self.committed,
-            &mut self.due,
-            scratch,
-            into,
-        ) {
+        match self.live.take_back(live.txn, &mut self.objects, alloc) {
             Ok(()) => {}
             Err(OutOfMemory) => return Answer::Memory,
         }
-        match folded(
-            alloc,
-            ops,
-            &self.committed,
-            self.live.all(),
-            &self.kept,
-            live.txn,
-            scratch,
-            into,
-        ) {
-            Ok(objects) => self.objects = objects,
-            Err(OutOfMemory) => return Answer::Memory,
-        }
-        drop(self.forget(alloc, live.txn));
+        self.forget(live.txn);
         Answer::Said(Reply::Done)
     }
 
-    /// Makes durable what the transaction with this name did, if it is live, and it is no more. Its lines
-    /// are then done to the committed objects, as far as memory goes, and the others later. After
-    /// `Memory`, which comes before anything is appended, nothing has changed; after `Disk` and `LogEnd`
-    /// the store has stopped.
-    pub fn commit(
-        &mut self,
-        alloc: Global,
-        ops: &Ops,
-        name: Name,
-        scratch: &mut [u8],
-        into: &mut [u8],
-    ) -> Answer
-        requires running { self.old.stop ≡ None }
-        requires scratch { 32768 ≤ length scratch.old }
-        requires into { 8192 ≤ length into.old }
-        ensures goes { (was : DiskState) (x : Run) → Shows (table_of record_meaning range_meaning ops.now) D.told was (D.view self.old.disk) (core_of self.old) x
-            → Goes (table_of record_meaning range_meaning ops.now) D.told was (D.view self.old.disk) (core_of self.old) x (Of name Commit) (shown_answer into.new result) (D.view self.new.disk) (core_of self.new) }
+    /// Makes durable what the transaction with this name did, if it is live, and it is no more. It takes
+    /// no memory. After `Disk` and `LogEnd` the store has stopped.
+    pub fn commit(&mut self, name: Name) -> Answer
+        requires { self.old.stop ≡ None }
+        ensures goes { (t : Operations) (into : List ℕ) (was : DiskState) (x : Run) → Shows t D.told was (D.view self.old.disk) (core_of self.old) x
+            → Goes t D.told was (D.view self.old.disk) (core_of self.old) x (Of name Commit) (shown_answer into result) (D.view self.new.disk) (core_of self.new) }
         ensures grown { Grows self.old.log self.new.log (D.view self.old.disk) (D.view self.new.disk) }
         ensures later { (D.view self.old.disk).faults ≤ (D.view self.new.disk).faults }
         ensures heeded { Heeds self.old.stop self.new.stop (D.view self.old.disk) (D.view self.new.disk) }
@@ -302,11 +241,6 @@ impl<D: Disk> Store<D> {
         if self.log.place(&record) + COMMIT_BYTES > LOG_END {
             return self.halt(LogFault::LogEnd);
         }
-        let count = self.kept.of(live.txn).len();
-        match self.due.reserve(count) {
-            Ok(()) => {}
-            Err(_) => return Answer::Memory,
-        }
         match self.log.append(&mut self.disk, &record) {
             Ok(_) => {}
             Err(fault) => return self.halt(fault),
@@ -315,17 +249,7 @@ impl<D: Disk> Store<D> {
             Ok(()) => {}
             Err(fault) => return self.halt(fault),
         }
-        let lines = self.forget(alloc, live.txn);
-        queue(&mut self.due, lines);
-        // those for which there is no memory now are done by a later commit or abort
-        let _ = settle(
-            alloc,
-            ops,
-            &mut self.committed,
-            &mut self.due,
-            scratch,
-            into,
-        );
+        self.forget(live.txn);
         Answer::Said(Reply::Done)
     }
 
@@ -339,18 +263,18 @@ impl<D: Disk> Store<D> {
         }
     }
 
-    // Appends the line of an operation that was done to the log, and keeps it.
-    fn keep(&mut self, live: Running, line: Kept) -> Result<(), LogFault>
-        requires { HasRoom self.old.kept live.txn.0 }
-        ensures log { OnOk result (self.new.log ≡ appended self.old.log (LineRecord live.txn.0 live.last line.words.items)) }
-        ensures tail { OnOk result (tail_of self.new.log ≡ end_of self.old.log (LineRecord live.txn.0 live.last line.words.items)) }
-        ensures core { OnOk result (core_of self.new ≡ record (core_of self.old) { live = with_last live.txn.0 (place_of self.old.log (LineRecord live.txn.0 live.last line.words.items)) (core_of self.old).live; kept = words_in self.new.kept; log = self.new.log }) }
-        ensures kept { (u : ℕ) → OnOk result (words_in self.new.kept u ≡ words_in self.old.kept u ++ (if live.txn.0 == u then line.words.items ∷ [] else [])) }
-        ensures range { IsRecord (LineRecord live.txn.0 live.last line.words.items) }
-        ensures faults { IfErr result (λ e. AppendFails (end_of self.old.log (LineRecord live.txn.0 live.last line.words.items)) (D.view self.old.disk) (D.view self.new.disk) e) }
+    // Appends the words of a line that was done to the log.
+    fn keep(&mut self, live: Running, words: &[u8]) -> Result<(), LogFault>
+        requires { length words.now ≤ 32768 }
+        ensures log { OnOk result (self.new.log ≡ appended self.old.log (LineRecord live.txn.0 live.last words.now)) }
+        ensures tail { OnOk result (tail_of self.new.log ≡ end_of self.old.log (LineRecord live.txn.0 live.last words.now)) }
+        ensures core { OnOk result (core_of self.new ≡ record (core_of self.old) { live = with_last live.txn.0 (place_of self.old.log (LineRecord live.txn.0 live.last words.now)) (core_of self.old).live; undo = undo_of self.new.live.all.items; log = self.new.log }) }
+        ensures same { OnOk result ((u : ℕ) (name : List ℕ) (object : Option Object) → undo_of self.new.live.all.items u name object ≡ undo_of self.old.live.all.items u name object) }
+        ensures range { IsRecord (LineRecord live.txn.0 live.last words.now) }
+        ensures faults { IfErr result (λ e. AppendFails (end_of self.old.log (LineRecord live.txn.0 live.last words.now)) (D.view self.old.disk) (D.view self.new.disk) e) }
         ensures holds { (ds ps : List Numbered) → IsTrue D.told → Holds (D.view self.old.disk) self.old.log ds ps →
-            OnOk result (Holds (D.view self.new.disk) self.new.log (durable_after self.old.log (LineRecord live.txn.0 live.last line.words.items) ds ps)
-            (waiting_after self.old.log (LineRecord live.txn.0 live.last line.words.items) ps)) }
+            OnOk result (Holds (D.view self.new.disk) self.new.log (durable_after self.old.log (LineRecord live.txn.0 live.last words.now) ds ps)
+            (waiting_after self.old.log (LineRecord live.txn.0 live.last words.now) ps)) }
         ensures any_moment { (ds ps : List Numbered) → IsTrue D.told → Holds (D.view self.old.disk) self.old.log ds ps →
             LeavesOnly (D.view self.old.disk) (D.view self.new.disk) (IsBeforeOrAfter (D.view self.old.disk).now self.old.log ds ps) }
         ensures elsewhere { IsTrue D.told → OnOk result (SameElsewhere self.old.log.area (D.view self.old.disk).now (D.view self.new.disk).now) }
@@ -362,12 +286,11 @@ impl<D: Disk> Store<D> {
         let record = Rec::Line {
             txn: live.txn,
             prev: live.last,
-            words: &line.words,
+            words,
         };
         match self.log.append(&mut self.disk, &record) {
             Ok(last) => {
                 self.live.set_last(live.txn, last);
-                self.kept.add(live.txn, line);
                 Ok(())
             }
             Err(fault) => Err(fault),
@@ -417,16 +340,16 @@ impl<D: Disk> Store<D> {
         if self.log.tail() > NEW_WORK_END {
             return self.refuse(ops, op, Answer::LogEnd);
         }
-        let line = match line_of(&mut self.kept, alloc, live.txn, text, scratch) {
-            Ok(line) => line,
-            Err(OutOfMemory) => return self.refuse(ops, op, Answer::Memory),
-        };
-        let reply = match self.objects.apply(alloc, ops, op, into) {
+        let reply = match self
+            .live
+            .change(live.txn, &mut self.objects, alloc, ops, op, into)
+        {
             Ok(Ok(reply)) => reply,
             Ok(Err(reason)) => return Answer::Refused(reason),
             Err(OutOfMemory) => return Answer::Memory,
         };
-        match self.keep(live, line) {
+        let size = join_words(text, scratch);
+        match self.keep(live, &scratch[..size]) {
             Ok(()) => Answer::Said(reply),
             Err(fault) => self.halt(fault),
         }
@@ -510,9 +433,9 @@ impl<D: Disk> Store<D> {
                     return Answer::Stopped;
                 }
                 match request {
-                    Request::Begin => self.begin(name),
-                    Request::Commit => self.commit(alloc, ops, name, words, into),
-                    Request::Abort => self.abort(alloc, ops, name, words, into),
+                    Request::Begin => self.begin(alloc, name),
+                    Request::Commit => self.commit(name),
+                    Request::Abort => self.abort(alloc, name),
                     Request::Do(op) => self.perform(alloc, ops, name, &op, text, words, into),
                     Request::Keys(table) => self.keys(alloc, name, table),
                     Request::List => self.list(alloc, name),
@@ -532,20 +455,16 @@ impl<D: Disk + Drop> Store<D> {
         log: Log,
         live: Option<(Name, TxnId, Lsn)>,
     ) -> Result<Store<D>, OutOfMemory> {
-        let committed = Objects::empty(alloc);
-        let (mut all, locks, objects) = room_for(alloc, &committed)?;
+        let (mut all, locks) = room_for(alloc)?;
         if let Some((name, txn, last)) = live {
-            all.add(name, txn, last);
+            all.add(alloc, name, txn, last);
         }
         Ok(Store {
             disk,
             log,
             locks,
             live: all,
-            kept: KeptLines::new(alloc),
-            committed,
-            due: VecDeque::new(alloc),
-            objects,
+            objects: Objects::empty(alloc),
             stop: None,
         })
     }

@@ -47,7 +47,7 @@ fn run(alloc: Global, disk: MemDisk, script: &[u8]) -> Result<(MemSink, MemDisk)
     Ok((out, disk))
 }
 
-// An array of two items, a blob, and a store with an object of each kind.
+// An array of two items, a blob, a store with an object of each kind, and one with more of them.
 const ITEMS: &str = "t begin\nt make array a 2\nt push a aa\nt push a bb\nt commit";
 
 const BLOB: &str = "t begin\nt make blob b\nt size b 5\nt write b 0 hello\nt commit";
@@ -55,9 +55,14 @@ const BLOB: &str = "t begin\nt make blob b\nt size b 5\nt write b 0 hello\nt com
 const KINDS: &str = "t begin\nt make array a 1\nt push a x:00\nt make blob b\nt size b 5\n\
     t write b 0 hello\nt make table t\nt put t b x:c3a9\nt put t a x:\nt put t c x:783a79\nt commit";
 
+const ALL: &str =
+    "s begin\ns make array a 2\ns push a aa\ns push a bb\ns push a cc\ns make table d\ns put d k v1\n\
+    s put d l v2\ns put d m v3\ns make blob b\ns write b 0 abcdef\ns make array e 1\ns push e x\ns make blob f\n\
+    s write f 0 fff\ns commit";
+
 // What a script is run behind, the script, and its replies. Then what a script over the disk that it left is, and its
 // replies.
-const ROWS: [[&str; 5]; 8] = [
+const ROWS: [[&str; 5]; 10] = [
     // an abort keeps what another one did to the same object
     [
         ITEMS,
@@ -125,6 +130,33 @@ const ROWS: [[&str; 5]; 8] = [
         "ok\nok\nok\nok\nok\nok\nok\nok\nok u1\nok\nok t1\nok\nok bb\n",
         "v begin\nv get a 0\nv get a 1",
         "ok\nok t1\nok bb\n",
+    ],
+    // an abort of one that made, dropped, set, popped, deleted, cut and painted, beside one that changed other items and
+    // keys of the same objects and other objects, and commits
+    [
+        ALL,
+        "t begin\nu begin\nt make blob n\nt write n 0 new\nt set a 2 tt\nu set a 0 uu\nt pop a\nt pop a\nt push a zz\n\
+            t del d k\nu put d l w2\nt put d k x\nt put d t y\nu del d m\nu put d u z\nt size b 4\nt paint b 1 2 1 z\n\
+            t write b 4 xyz\nt drop e\nt make table e\nt put e k v\nu write f 1 gg\nu make array o 1\nu push o p\nt abort\n\
+            u len a\nu get a 0\nu get a 1\nu get a 2\nu keys d\nu find d k\nu find d l\nu read b 0 6\nu get e 0\nu list\nu commit",
+        "ok\nok\nok\nok\nok\nok\nok tt\nok bb\nok 1\n\
+            ok\nok replaced\nok new\nok new\nok\nok new\nok\nok\n\
+            ok\nok\nok\nok new\nok\nok\nok 0\nok\n\
+            ok 3\nok uu\nok bb\nok cc\nok 3 k l u\nok v1\nok w2\nok abcdef\nok x\nok 6 a b d e f o\nok\n",
+        "v begin\nv len a\nv get a 0\nv get a 2\nv keys d\nv find d k\nv read b 0 6\nv read f 0 3\nv get o 0\nv list",
+        "ok\nok 3\nok uu\nok cc\nok 3 k l u\nok v1\nok abcdef\nok fgg\nok p\nok 6 a b d e f o\n",
+    ],
+    // both abort, the one after the other, and then one that only drops
+    [
+        ALL,
+        "t begin\nu begin\nt set a 1 tt\nu set a 2 uu\nt put d k x\nu del d l\nt write b 0 t\nu size f 0\nu abort\n\
+            t get a 1\nt get a 2\nt find d l\nt read f 0 3\nt abort\nx begin\nx drop a\nx drop b\nx drop d\nx list\nx abort\n\
+            y begin\ny get a 1\ny find d k\ny read b 0 6\ny list",
+        "ok\nok\nok\nok\nok replaced\nok\nok\nok\nok\n\
+            ok tt\nok cc\nok v2\nok fff\nok\nok\nok\nok\nok\nok 2 e f\nok\n\
+            ok\nok bb\nok v1\nok abcdef\nok 5 a b d e f\n",
+        "v begin\nv get a 1\nv keys d\nv read f 0 3",
+        "ok\nok bb\nok 3 k l m\nok fff\n",
     ],
 ];
 

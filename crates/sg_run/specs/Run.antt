@@ -49,7 +49,7 @@ MOST_HELD = 4096
 abbrev pub live_named : List Live → List ℕ → Option Live
 live_named live name = find (λ l. bytes_eq name l.name) live
 
--- the operations that take memory: for what they leave or answer, or for the words that are kept of their lines
+-- the operations that take memory: for what they leave or answer, or for what takes them back
 abbrev pub TakesMemory : Op → Type 0
 TakesMemory op = Grows op ⊎ IsTrue (is_changing op)
 

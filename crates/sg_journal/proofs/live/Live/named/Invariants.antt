@@ -3,5 +3,5 @@ use Rattle.sg_journal.specs.Live.{opened_named}
 use Rattle.sg_journal.specs.Shown.{all_opened}
 use Rattle.sg_journal.proofs.live.Live.named.Given as goal
 
-abbrev pub invariant-loop-r : goal.invariant-loop-r
-invariant-loop-r l = opened_named (all_opened (drop l.r-index l.self.all.items)) l.name ≡ opened_named (all_opened l.self.all.items) l.name
+abbrev pub invariant-loop-o : goal.invariant-loop-o
+invariant-loop-o l = opened_named (all_opened (drop l.o-index l.self.all.items)) l.name ≡ opened_named (all_opened l.self.all.items) l.name

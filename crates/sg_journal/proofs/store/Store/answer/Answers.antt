@@ -25,10 +25,10 @@ pub returns-in-Begin-clause-goes : goal.returns-in-Begin-clause-goes
 returns-in-Begin-clause-goes g c was x shows = goes_line _ (Of c.in-Of.name Begin) (sym c.in-Of.ensures ∙ ap (λ (r : code_request.Request). Of c.in-Of.name (shown r)) c.in-Begin.is) (c.begin.ensures.goes _ c.args.into.now was x shows)
 
 pub returns-in-Commit-clause-goes : goal.returns-in-Commit-clause-goes
-returns-in-Commit-clause-goes g c was x shows = goes_line _ (Of c.in-Of.name Commit) (sym c.in-Of.ensures ∙ ap (λ (r : code_request.Request). Of c.in-Of.name (shown r)) c.in-Commit.is) (c.commit.ensures.goes was x shows)
+returns-in-Commit-clause-goes g c was x shows = goes_line _ (Of c.in-Of.name Commit) (sym c.in-Of.ensures ∙ ap (λ (r : code_request.Request). Of c.in-Of.name (shown r)) c.in-Commit.is) (c.commit.ensures.goes _ c.args.into.now was x shows)
 
 pub returns-in-Abort-clause-goes : goal.returns-in-Abort-clause-goes
-returns-in-Abort-clause-goes g c was x shows = goes_line _ (Of c.in-Of.name Abort) (sym c.in-Of.ensures ∙ ap (λ (r : code_request.Request). Of c.in-Of.name (shown r)) c.in-Abort.is) (c.abort.ensures.goes was x shows)
+returns-in-Abort-clause-goes g c was x shows = goes_line _ (Of c.in-Of.name Abort) (sym c.in-Of.ensures ∙ ap (λ (r : code_request.Request). Of c.in-Of.name (shown r)) c.in-Abort.is) (c.abort.ensures.goes _ c.args.into.now was x shows)
 
 pub returns-in-Do-clause-goes : goal.returns-in-Do-clause-goes
 returns-in-Do-clause-goes g c was x shows = goes_line _ (Of c.in-Of.name (Do (said_op c.in-Do.op))) (sym c.in-Of.ensures ∙ ap (λ (r : code_request.Request). Of c.in-Of.name (shown r)) c.in-Do.is) (c.perform.ensures.goes was x shows)
@@ -48,11 +48,11 @@ perform-requires-clause-line g c = asked-short c.args.text.now _ _ (sym c.in-Of.
 pub begin-requires : goal.begin-requires
 begin-requires g c = none_of _ (sym c.is_some.ensures ∙ c.if-is_some.false)
 
-pub commit-requires-clause-running : goal.commit-requires-clause-running
-commit-requires-clause-running g c = none_of _ (sym c.is_some.ensures ∙ c.if-is_some.false)
+pub commit-requires : goal.commit-requires
+commit-requires g c = none_of _ (sym c.is_some.ensures ∙ c.if-is_some.false)
 
-pub abort-requires-clause-running : goal.abort-requires-clause-running
-abort-requires-clause-running g c = none_of _ (sym c.is_some.ensures ∙ c.if-is_some.false)
+pub abort-requires : goal.abort-requires
+abort-requires g c = none_of _ (sym c.is_some.ensures ∙ c.if-is_some.false)
 
 pub perform-requires-clause-running : goal.perform-requires-clause-running
 perform-requires-clause-running g c = none_of _ (sym c.is_some.ensures ∙ c.if-is_some.false)

@@ -5,7 +5,7 @@ use Rattle.sg_record.specs.Plain.Record.{Begin as BeginRecord}
 use Rattle.sg_log.specs.Held.{Tail, tail_of, end_of}
 use Rattle.sg_journal.specs.Live.{Opened}
 use Rattle.sg_journal.specs.Seen.{core_of}
-use Rattle.sg_journal.specs.Shown.{opened_of, all_opened}
+use Rattle.sg_journal.specs.Shown.{opened_of, all_opened, undo_of}
 use Rattle.sg_journal.specs.Goes.{NEW_WORK_END}
 use Rattle.sg_journal.proofs.Tails.{begin-place, ends_within, append_risen}
 use Rattle.sg_journal.proofs.Steps.{begin_live, begin_many, begin_end}
@@ -32,8 +32,8 @@ returns-in-Ok-clause-goes g c t into was x shows =
     let n = c.place.result in
     let k = core_of c.args.self.now in
     let few : length (all_opened c.args.self.now.live.all.items) < 64 = (let h = sym c.is_full.ensures ∙ c.if-is_full.false in grind (arith, nat_tests)) in
-    goes_along _ _ _ _ _ _ refl refl (ap (λ (ls : List Opened). record k { live = ls; log = c.append.new.self }) c.add.ensures)
-    (begun t g.D.Disk.told was (g.D.Disk.view c.args.self.now.disk) k x shows c.requires c.args.name n c.in-Ok.last 0 (g.D.Disk.view c.append.new.disk) c.append.new.self (sym c.in_default.ensures) few
+    goes_along _ _ _ _ _ _ refl refl (ap (λ (ls : List Opened). record k { live = ls; undo = undo_of c.add.new.self.all.items; log = c.append.new.self }) c.add.ensures.added)
+    (begun t g.D.Disk.told was (g.D.Disk.view c.args.self.now.disk) k x shows c.requires c.args.name n c.in-Ok.last 0 (undo_of c.add.new.self.all.items) (g.D.Disk.view c.append.new.disk) c.append.new.self c.add.ensures.same (sym c.in_default.ensures) few
     (omega (arith, c.tail.ensures, c.if-tail-gt-NEW_WORK_END.false)) (c.place.ensures.place ∙ begin-place c.args.self.now.log 0 0 n 0) c.in-Ok.ensures.lsn refl c.in-Ok.ensures.log c.in-Ok.ensures.tail c.in-Ok.ensures.holds c.append.ensures.any_moment c.in-Ok.ensures.elsewhere)
 
 pub returns-in-Err-clause-goes : goal.returns-in-Err-clause-goes

@@ -1,4 +1,4 @@
-use Rattle.std.proofs.Common.{Ok, inr, refl, sym}
+use Rattle.std.proofs.Common.{Ok, inl, refl, sym}
 use Rattle.sg_model.specs.Verb.Op.{Names}
 use Rattle.sg_model.specs.Verb.Reply.{Several}
 use Rattle.sg_journal.specs.Live.{Opened}
@@ -6,7 +6,7 @@ use Rattle.sg_journal.specs.Shown.{opened_of}
 use Rattle.sg_journal.specs.Store.{Core}
 use Rattle.sg_journal.specs.Seen.{core_of}
 use Rattle.sg_journal.proofs.Steps.{op_none}
-use Rattle.sg_journal.proofs.Performing.{not_granted, locked, unchanged, starved, names_said}
+use Rattle.sg_journal.proofs.Performing.{not_granted, locked, has_read, starved, names_said}
 use Rattle.sg_journal.proofs.store.Store.list.Goals as goal
 
 pub returns-in_default-clause-goes : goal.returns-in_default-clause-goes
@@ -23,7 +23,7 @@ returns-in-Ok-list-clause-goes g c t into was x shows =
     let v = g.D.Disk.view c.args.self.now.disk in
     let l : Opened = opened_of c.in-Some.live in
     let h = locked t g.D.Disk.told was v k x shows c.requires l.transaction Names _ c.hold.new.locks c.list_touches-touches.ensures c.in-Ok.ensures.granted c.in-Ok.ensures.after in
-    unchanged t g.D.Disk.told was v k x shows c.requires c.args.name Names l (sym c.in-Some.ensures) c.hold.new.locks h (Ok (Several c.in-Ok-list.names.items)) k.objects (c.in-Ok-list.ensures t) (inr refl)
+    has_read t g.D.Disk.told was v k x shows c.requires c.args.name Names l (sym c.in-Some.ensures) c.hold.new.locks h (Ok (Several c.in-Ok-list.names.items)) k.objects (c.in-Ok-list.ensures t) refl
 
 pub returns-in-Err-list-clause-goes : goal.returns-in-Err-list-clause-goes
 returns-in-Err-list-clause-goes g c t into was x shows =
@@ -31,4 +31,4 @@ returns-in-Err-list-clause-goes g c t into was x shows =
     let v = g.D.Disk.view c.args.self.now.disk in
     let l : Opened = opened_of c.in-Some.live in
     let h = locked t g.D.Disk.told was v k x shows c.requires l.transaction Names _ c.hold.new.locks c.list_touches-touches.ensures c.in-Ok.ensures.granted c.in-Ok.ensures.after in
-    starved t g.D.Disk.told was v k x shows c.requires c.args.name Names l (sym c.in-Some.ensures) c.hold.new.locks h k.objects tt (names_said t k.objects) (λ work. absurd (cc)) refl
+    starved t g.D.Disk.told was v k x shows c.requires c.args.name Names l (sym c.in-Some.ensures) c.hold.new.locks h k.objects (inl tt) (names_said t k.objects) (λ work. absurd (cc)) refl

@@ -1,13 +1,11 @@
-use mathlib.Core.Path.{fun_ext}
-use Rattle.std.proofs.Common.{ℕ, [], List, None, sym, ap, ◌∙◌, subst, arith}
+use Rattle.std.proofs.Common.{[], List, None, sym, ap, ◌∙◌, subst, arith}
 use Rattle.sg_ops.specs.Table.{table_of}
 use Rattle.sg_serial.specs.Locks.{Hold}
 use Rattle.sg_model.specs.Objects.{Objects}
 use Rattle.sg_model.specs.Touches.{Resource}
-use Rattle.sg_journal.specs.declared.line.Kept.{Kept}
-use Rattle.sg_journal.specs.Live.{Opened}
+use Rattle.sg_journal.specs.Live.{Opened, Undo}
 use Rattle.sg_journal.specs.Store.{Core}
-use Rattle.sg_journal.specs.Shown.{words_of_lines, words_in}
+use Rattle.sg_journal.specs.Shown.{undo_of}
 use Rattle.sg_journal.specs.Opening.{Opens}
 use Rattle.sg_journal.specs.declared.opening.OpenRefused.TheVariants as refusals
 use Rattle.sg_journal.proofs.Opened.{opened, shut, shut_unsynced, synced_settled}
@@ -19,17 +17,14 @@ returns-in-Ok-room_for-clause-opens g c =
     let v = g.D.Disk.view c.args.disk in
     let w = g.D.Disk.view c.read_back.new.disk in
     let p = c.in-Ok-room_for in
-    let committed : Objects = c.in-Ok-read_back.committed in
+    let objects : Objects = c.in-Ok-read_back.objects in
     let log = c.in-Ok-read_back.log in
-    let kept : ℕ → List (List ℕ) = words_in c.new.result in
     let core =
-    ap (λ (ls : List Opened). let k : Core = record { committed = committed; due = words_of_lines c.new-in-Ok-room_for.result.items; objects = p.objects; live = ls; kept = kept; held = p.locks; stopped = None; log = log } in k) p.ensures.0
-    ∙ (ap (λ (hs : List (Hold Resource)). let k : Core = record { committed = committed; due = words_of_lines c.new-in-Ok-room_for.result.items; objects = p.objects; live = []; kept = kept; held = hs; stopped = None; log = log } in k) p.ensures.1
-    ∙ (ap (λ (ls : List Kept). let k : Core = record { committed = committed; due = words_of_lines ls; objects = p.objects; live = []; kept = kept; held = []; stopped = None; log = log } in k) c.new-in-Ok-room_for.ensures.items
-    ∙ (ap (λ (f : ℕ → List (List ℕ)). let k : Core = record { committed = committed; due = []; objects = p.objects; live = []; kept = f; held = []; stopped = None; log = log } in k) (fun_ext c.new.ensures)
-    ∙ ap (λ (s : Objects). let k : Core = record { committed = committed; due = []; objects = s; live = []; kept = λ u. []; held = []; stopped = None; log = log } in k) p.ensures.2))) in
+    ap (λ (ls : List Opened). let k : Core = record { objects = objects; live = ls; undo = undo_of p.live.all.items; held = p.locks; stopped = None; log = log } in k) p.ensures.live
+    ∙ (ap (λ (hs : List (Hold Resource)). let k : Core = record { objects = objects; live = []; undo = undo_of p.live.all.items; held = hs; stopped = None; log = log } in k) p.ensures.locks
+    ∙ ap (λ (undo : Undo). let k : Core = record { objects = objects; live = []; undo = undo; held = []; stopped = None; log = log } in k) (λ i u name object. p.ensures.nothing u name object i)) in
     subst (λ (k : Core). Opens table g.D.Disk.told v w k) (sym core)
-    (opened table g.D.Disk.told v (g.D.Disk.view c.sync.new.self) w log committed c.in-Ok.field-0 c.in-Ok.ensures.does
+    (opened table g.D.Disk.told v (g.D.Disk.view c.sync.new.self) w log objects c.in-Ok.field-0 c.in-Ok.ensures.does
     (omega (arith, c.sync.ensures.counts.handed_most, c.sync.ensures.counts.handed_least)) c.in-Ok.ensures.counts.quiet (omega (arith, c.sync.ensures.counts.calls)) c.in-Ok-read_back.ensures.log c.in-Ok-read_back.ensures.found c.read_back.ensures.reads c.in-Ok-read_back.ensures.quiet)
 
 pub returns-in-Err-room_for-clause-refused : goal.returns-in-Err-room_for-clause-refused

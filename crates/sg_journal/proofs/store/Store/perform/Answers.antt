@@ -1,5 +1,5 @@
-use mathlib.Core.Path.{fun_ext}
-use Rattle.std.proofs.Common.{◌≡◌, ◌==◌, ◌++◌, ◌∷◌, [], ◌≤◌, inl, inr, ℕ, List, Ok, Err, cond, refl, sym, ap, ◌∙◌, arith}
+use Rattle.std.proofs.Common.{◌≡◌, ◌<◌, ◌≤◌, inl, inr, ℕ, List, Ok, Err, length, refl, sym, ap, ◌∙◌, arith}
+use Rattle.std.specs.Prelude.{take}
 use Rattle.sg_serial.specs.Locks.{Hold}
 use Rattle.sg_model.specs.Objects.{Objects}
 use Rattle.sg_model.specs.SaidOps.{said_op}
@@ -11,14 +11,15 @@ use Rattle.sg_words.specs.declared.answer.Answer as code_answer
 use Rattle.sg_words.specs.Answered.{shown_answer}
 use Rattle.sg_log.specs.Held.{Tail, tail_of, place_of}
 use Rattle.sg_journal.specs.Lines.{op_said}
-use Rattle.sg_journal.specs.Live.{Opened, with_last}
-use Rattle.sg_journal.specs.Shown.{opened_of, words_in, answer_at}
+use Rattle.sg_journal.specs.Live.{Opened, Undo, with_last}
+use Rattle.sg_journal.specs.Shown.{opened_of, undo_of, answer_at}
 use Rattle.sg_journal.specs.Store.{Core}
 use Rattle.sg_journal.specs.Seen.{core_of}
 use Rattle.sg_journal.specs.Goes.{NEW_WORK_END}
+use Rattle.sg_journal.proofs.Listing.{named_numbered}
 use Rattle.sg_journal.proofs.Steps.{op_none}
 use Rattle.sg_journal.proofs.Changes.{op_logged}
-use Rattle.sg_journal.proofs.Performing.{op_said-spoken, not_granted, locked, unchanged, full_or, short_or, starved, op_fault}
+use Rattle.sg_journal.proofs.Performing.{op_said-spoken, not_granted, locked, unchanged, has_read, full_or, starved, op_fault}
 use Rattle.sg_journal.proofs.Along.{goes_along}
 use Rattle.sg_journal.proofs.store.Store.perform.Goals as goal
 
@@ -37,8 +38,8 @@ returns-in-Ok-Ok-clause-goes g c was x shows =
     let op : Op = said_op c.args.op.now in
     let l : Opened = opened_of c.in-Some.live in
     let h = locked _ g.D.Disk.told was v k x shows c.requires.running l.transaction op _ c.hold.new.locks c.touches-touches.ensures c.in-Ok.ensures.granted c.in-Ok.ensures.after in
-    unchanged _ g.D.Disk.told was v k x shows c.requires.running c.args.name op l (sym c.in-Some.ensures) c.hold.new.locks h (Ok (said_reply c.apply.new.into c.in-Ok-Ok.reply)) c.apply.new.self
-    (rw c.in-Ok-Ok.field-0-is at c.in-Ok-Ok.ensures.done) (inr (sym c.is_changing.ensures ∙ c.if-not-is_changing.true))
+    has_read _ g.D.Disk.told was v k x shows c.requires.running c.args.name op l (sym c.in-Some.ensures) c.hold.new.locks h (Ok (said_reply c.apply.new.into c.in-Ok-Ok.reply)) c.apply.new.self
+    (rw c.in-Ok-Ok.field-0-is at c.in-Ok-Ok.ensures.done) (sym c.is_changing.ensures ∙ c.if-not-is_changing.true)
 
 pub returns-in-Ok-Err-clause-goes : goal.returns-in-Ok-Err-clause-goes
 returns-in-Ok-Err-clause-goes g c was x shows =
@@ -47,8 +48,8 @@ returns-in-Ok-Err-clause-goes g c was x shows =
     let op : Op = said_op c.args.op.now in
     let l : Opened = opened_of c.in-Some.live in
     let h = locked _ g.D.Disk.told was v k x shows c.requires.running l.transaction op _ c.hold.new.locks c.touches-touches.ensures c.in-Ok.ensures.granted c.in-Ok.ensures.after in
-    unchanged _ g.D.Disk.told was v k x shows c.requires.running c.args.name op l (sym c.in-Some.ensures) c.hold.new.locks h (Err c.in-Ok-Err.reason) c.apply.new.self
-    (rw c.in-Ok-Err.field-0-is at c.in-Ok-Err.ensures.done) (inl refl)
+    has_read _ g.D.Disk.told was v k x shows c.requires.running c.args.name op l (sym c.in-Some.ensures) c.hold.new.locks h (Err c.in-Ok-Err.reason) c.apply.new.self
+    (rw c.in-Ok-Err.field-0-is at c.in-Ok-Err.ensures.done) (sym c.is_changing.ensures ∙ c.if-not-is_changing.true)
 
 pub returns-in-Err-apply-clause-goes : goal.returns-in-Err-apply-clause-goes
 returns-in-Err-apply-clause-goes g c was x shows =
@@ -58,7 +59,7 @@ returns-in-Err-apply-clause-goes g c was x shows =
     let l : Opened = opened_of c.in-Some.live in
     let reads = sym c.is_changing.ensures ∙ c.if-not-is_changing.true in
     let h = locked _ g.D.Disk.told was v k x shows c.requires.running l.transaction op _ c.hold.new.locks c.touches-touches.ensures c.in-Ok.ensures.granted c.in-Ok.ensures.after in
-    starved _ g.D.Disk.told was v k x shows c.requires.running c.args.name op l (sym c.in-Some.ensures) c.hold.new.locks h c.apply.new.self c.in-Err-apply.ensures.memory c.in-Err-apply.ensures.cause (λ work. absurd (cc (work, reads))) c.in-Err-apply.ensures.err
+    starved _ g.D.Disk.told was v k x shows c.requires.running c.args.name op l (sym c.in-Some.ensures) c.hold.new.locks h c.apply.new.self (inl c.in-Err-apply.ensures.memory) c.in-Err-apply.ensures.cause (λ work. absurd (cc (work, reads))) c.in-Err-apply.ensures.err
 
 pub returns-then-tail-gt-NEW_WORK_END-clause-goes : goal.returns-then-tail-gt-NEW_WORK_END-clause-goes
 returns-then-tail-gt-NEW_WORK_END-clause-goes g c was x shows =
@@ -70,38 +71,30 @@ returns-then-tail-gt-NEW_WORK_END-clause-goes g c was x shows =
     full_or _ g.D.Disk.told was v k x shows c.requires.running c.args.name op l (sym c.in-Some.ensures) c.hold.new.locks h c.refuse.result c.args.into.now
     (sym c.is_changing.ensures ∙ c.if-not-is_changing.false) (omega (arith, c.tail.ensures, c.if-tail-gt-NEW_WORK_END.true)) c.refuse.ensures
 
-pub returns-in-Err-line_of-clause-goes : goal.returns-in-Err-line_of-clause-goes
-returns-in-Err-line_of-clause-goes g c was x shows =
+pub returns-in-Ok-Err-change-clause-goes : goal.returns-in-Ok-Err-change-clause-goes
+returns-in-Ok-Err-change-clause-goes g c was x shows =
     let k : Core = core_of c.args.self.now in
     let v = g.D.Disk.view c.args.self.now.disk in
     let op : Op = said_op c.args.op.now in
     let l : Opened = opened_of c.in-Some.live in
     let h = locked _ g.D.Disk.told was v k x shows c.requires.running l.transaction op _ c.hold.new.locks c.touches-touches.ensures c.in-Ok.ensures.granted c.in-Ok.ensures.after in
-    goes_along _ _ _ v _ _ refl refl (ap (λ (f : ℕ → List (List ℕ)). record k { held = c.hold.new.locks; kept = f }) (fun_ext c.in-Err-line_of.ensures.same))
-    (short_or _ g.D.Disk.told was v k x shows c.requires.running c.args.name op l (sym c.in-Some.ensures) c.hold.new.locks h c.refuse-in-Err-line_of.result c.args.into.now
-    (sym c.is_changing.ensures ∙ c.if-not-is_changing.false) (omega (arith, c.tail.ensures, c.if-tail-gt-NEW_WORK_END.false)) c.refuse-in-Err-line_of.ensures)
+    let undo : Undo = undo_of c.change.new.self.all.items in
+    goes_along _ _ _ v _ _ refl refl (ap (λ (ls : List Opened). record k { held = c.hold.new.locks; objects = c.change.new.objects; live = ls; undo = undo }) c.change.ensures.all)
+    (unchanged _ g.D.Disk.told was v k x shows c.requires.running c.args.name op l (sym c.in-Some.ensures) c.hold.new.locks h (Err c.in-Ok-Err-change.reason) c.change.new.objects undo
+    (rw c.in-Ok-Err-change.field-0-is at c.in-Ok-Err-change.ensures.done) c.in-Ok-Err-change.ensures.noted (inl refl))
 
-pub returns-in-Ok-Err-apply-clause-goes : goal.returns-in-Ok-Err-apply-clause-goes
-returns-in-Ok-Err-apply-clause-goes g c was x shows =
-    let k : Core = core_of c.args.self.now in
-    let v = g.D.Disk.view c.args.self.now.disk in
-    let op : Op = said_op c.args.op.now in
-    let l : Opened = opened_of c.in-Some.live in
-    let h = locked _ g.D.Disk.told was v k x shows c.requires.running l.transaction op _ c.hold.new.locks c.touches-touches.ensures c.in-Ok.ensures.granted c.in-Ok.ensures.after in
-    goes_along _ _ _ v _ _ refl refl (ap (λ (f : ℕ → List (List ℕ)). record k { held = c.hold.new.locks; objects = c.apply-2.new.self; kept = f }) (fun_ext c.in-Ok-line_of.ensures.same))
-    (unchanged _ g.D.Disk.told was v k x shows c.requires.running c.args.name op l (sym c.in-Some.ensures) c.hold.new.locks h (Err c.in-Ok-Err-apply.reason) c.apply-2.new.self
-    (rw c.in-Ok-Err-apply.field-0-is at c.in-Ok-Err-apply.ensures.done) (inl refl))
-
-pub returns-in-Err-apply-2-clause-goes : goal.returns-in-Err-apply-2-clause-goes
-returns-in-Err-apply-2-clause-goes g c was x shows =
+pub returns-in-Err-change-clause-goes : goal.returns-in-Err-change-clause-goes
+returns-in-Err-change-clause-goes g c was x shows =
     let k : Core = core_of c.args.self.now in
     let v = g.D.Disk.view c.args.self.now.disk in
     let op : Op = said_op c.args.op.now in
     let l : Opened = opened_of c.in-Some.live in
     let low : tail_of k.log ≤ NEW_WORK_END = omega (arith, c.tail.ensures, c.if-tail-gt-NEW_WORK_END.false) in
+    let changing = sym c.is_changing.ensures ∙ c.if-not-is_changing.false in
     let h = locked _ g.D.Disk.told was v k x shows c.requires.running l.transaction op _ c.hold.new.locks c.touches-touches.ensures c.in-Ok.ensures.granted c.in-Ok.ensures.after in
-    goes_along _ _ _ v _ _ refl refl (ap (λ (f : ℕ → List (List ℕ)). record k { held = c.hold.new.locks; objects = c.apply-2.new.self; kept = f }) (fun_ext c.in-Ok-line_of.ensures.same))
-    (starved _ g.D.Disk.told was v k x shows c.requires.running c.args.name op l (sym c.in-Some.ensures) c.hold.new.locks h c.apply-2.new.self c.in-Err-apply-2.ensures.memory c.in-Err-apply-2.ensures.cause (λ work. low) c.in-Err-apply-2.ensures.err)
+    goes_along _ _ _ v _ _ refl refl (ap (λ (ls : List Opened). record k { held = c.hold.new.locks; objects = c.change.new.objects; live = ls; undo = undo_of c.change.new.self.all.items }) c.change.ensures.all
+    ∙ ap (λ (undo : Undo). record k { held = c.hold.new.locks; objects = c.change.new.objects; undo = undo }) (λ i u s object. c.in-Err-change.ensures.same u s object i))
+    (starved _ g.D.Disk.told was v k x shows c.requires.running c.args.name op l (sym c.in-Some.ensures) c.hold.new.locks h c.change.new.objects (inr changing) c.in-Err-change.ensures.cause (λ work. low) c.in-Err-change.ensures.err)
 
 pub returns-in-Ok-keep-clause-goes : goal.returns-in-Ok-keep-clause-goes
 returns-in-Ok-keep-clause-goes g c was x shows =
@@ -109,21 +102,23 @@ returns-in-Ok-keep-clause-goes g c was x shows =
     let v = g.D.Disk.view c.args.self.now.disk in
     let op : Op = said_op c.args.op.now in
     let l : Opened = opened_of c.in-Some.live in
-    let words : List ℕ = c.in-Ok-line_of.line.words.items in
+    let words : List ℕ = take c.join_words-size.result c.join_words-size.new.into in
     let last : ℕ = place_of k.log (LineRecord l.transaction l.last words) in
     let new : Tail = c.keep.new.self.log in
-    let o : Objects = c.apply-2.new.self in
+    let o : Objects = c.change.new.objects in
+    let undo : Undo = undo_of c.keep.new.self.live.all.items in
     let low : tail_of k.log ≤ NEW_WORK_END = omega (arith, c.tail.ensures, c.if-tail-gt-NEW_WORK_END.false) in
     let changing = sym c.is_changing.ensures ∙ c.if-not-is_changing.false in
-    let e = rw c.in-Ok-Ok-apply.field-0-is at c.in-Ok-Ok-apply.ensures.done in
+    let e = rw c.in-Ok-Ok-change.field-0-is at c.in-Ok-Ok-change.ensures.done in
     let h = locked _ g.D.Disk.told was v k x shows c.requires.running l.transaction op _ c.hold.new.locks c.touches-touches.ensures c.in-Ok.ensures.granted c.in-Ok.ensures.after in
-    let says = ap op_said c.in-Ok-line_of.ensures.words ∙ op_said-spoken c.args.text.now c.args.name c.args.op.now c.requires.said in
+    let says = ap op_said c.join_words-size.ensures.words ∙ op_said-spoken c.args.text.now c.args.name c.args.op.now c.requires.said in
     let live : List Opened = with_last l.transaction last k.live in
-    let kept : ℕ → List (List ℕ) = words_in c.keep.new.self.kept in
-    let more : (u : ℕ) → kept u ≡ k.kept u ++ cond (l.transaction == u) (words ∷ []) [] = λ u. c.in-Ok-keep.ensures.kept u ∙ ap (λ (ws : List (List ℕ)). ws ++ cond (l.transaction == u) (words ∷ []) []) (c.in-Ok-line_of.ensures.same u) in
-    let core = c.in-Ok-keep.ensures.core ∙ ap (λ (hs : List (Hold Resource)). record k { held = hs; objects = o; live = live; kept = kept; log = new }) h.is in
+    let core = c.in-Ok-keep.ensures.core
+    ∙ (ap (λ (ls : List Opened). record k { held = c.hold.new.locks; objects = o; live = with_last l.transaction last ls; undo = undo; log = new }) c.change.ensures.all
+    ∙ ap (λ (hs : List (Hold Resource)). record k { held = hs; objects = o; live = live; undo = undo; log = new }) h.is) in
     goes_along _ _ _ _ _ _ refl refl core
-    (op_logged _ g.D.Disk.told was v k x shows c.requires.running c.args.name op l (sym c.in-Some.ensures) h.free h.few (said_reply c.apply-2.new.into c.in-Ok-Ok-apply.reply) o (g.D.Disk.view c.keep.new.self.disk) new words kept more
+    (op_logged _ g.D.Disk.told was v k x shows c.requires.running c.args.name op l (sym c.in-Some.ensures) h.free h.few (said_reply c.change.new.into c.in-Ok-Ok-change.reply) o (g.D.Disk.view c.keep.new.self.disk) new words undo
+    (λ u s object. c.in-Ok-keep.ensures.same u s object ∙ c.in-Ok-Ok-change.ensures.noted u s object)
     (sym (ap (λ (p : Outcome × Objects). p.1) e)) (ap (λ (p : Outcome × Objects). p.0) e) changing says c.keep.ensures.range low c.in-Ok-keep.ensures.log c.in-Ok-keep.ensures.tail c.in-Ok-keep.ensures.holds c.keep.ensures.any_moment c.in-Ok-keep.ensures.elsewhere)
 
 pub returns-in-Err-keep-clause-goes : goal.returns-in-Err-keep-clause-goes
@@ -132,11 +127,14 @@ returns-in-Err-keep-clause-goes g c was x shows =
     let v = g.D.Disk.view c.args.self.now.disk in
     let op : Op = said_op c.args.op.now in
     let l : Opened = opened_of c.in-Some.live in
-    let words : List ℕ = c.in-Ok-line_of.line.words.items in
+    let words : List ℕ = take c.join_words-size.result c.join_words-size.new.into in
     let low : tail_of k.log ≤ NEW_WORK_END = omega (arith, c.tail.ensures, c.if-tail-gt-NEW_WORK_END.false) in
     let changing = sym c.is_changing.ensures ∙ c.if-not-is_changing.false in
-    let e = rw c.in-Ok-Ok-apply.field-0-is at c.in-Ok-Ok-apply.ensures.done in
+    let e = rw c.in-Ok-Ok-change.field-0-is at c.in-Ok-Ok-change.ensures.done in
     let h = locked _ g.D.Disk.told was v k x shows c.requires.running l.transaction op _ c.hold.new.locks c.touches-touches.ensures c.in-Ok.ensures.granted c.in-Ok.ensures.after in
-    goes_along _ (shown_answer c.apply-2.new.into (answer_at c.in-Err-keep.fault)) _ (g.D.Disk.view c.keep.new.self.disk) _ _ (ap (λ (a : code_answer.Answer). shown_answer c.apply-2.new.into a) c.halt.ensures.answer) (ap g.D.Disk.view c.halt.ensures.disk) refl
-    (op_fault _ g.D.Disk.told was v k x shows c.requires.running c.args.name op l (sym c.in-Some.ensures) c.hold.new.locks h (said_reply c.apply-2.new.into c.in-Ok-Ok-apply.reply) c.in-Err-keep.fault (g.D.Disk.view c.keep.new.self.disk) (core_of c.halt.new.self)
-    (LineRecord l.transaction l.last words) c.apply-2.new.into (ap (λ (m : Core). m.stopped) c.halt.ensures.stopped) changing (ap (λ (p : Outcome × Objects). p.0) e) low c.keep.ensures.range c.in-Err-keep.ensures.faults c.keep.ensures.any_moment)
+    goes_along _ (shown_answer c.change.new.into (answer_at c.in-Err-keep.fault)) _ (g.D.Disk.view c.keep.new.self.disk) _ _ (ap (λ (a : code_answer.Answer). shown_answer c.change.new.into a) c.halt.ensures.answer) (ap g.D.Disk.view c.halt.ensures.disk) refl
+    (op_fault _ g.D.Disk.told was v k x shows c.requires.running c.args.name op l (sym c.in-Some.ensures) c.hold.new.locks h (said_reply c.change.new.into c.in-Ok-Ok-change.reply) c.in-Err-keep.fault (g.D.Disk.view c.keep.new.self.disk) (core_of c.halt.new.self)
+    (LineRecord l.transaction l.last words) c.change.new.into (ap (λ (m : Core). m.stopped) c.halt.ensures.stopped) changing (ap (λ (p : Outcome × Objects). p.0) e) low c.keep.ensures.range c.in-Err-keep.ensures.faults c.keep.ensures.any_moment)
+
+pub change-requires-clause-live : goal.change-requires-clause-live
+change-requires-clause-live g c = named_numbered (core_of c.args.self.now).live c.args.name (opened_of c.in-Some.live) (sym c.in-Some.ensures)

@@ -1,6 +1,6 @@
 use Rattle.std.proofs.Common.{None, refl}
-use Rattle.sg_journal.proofs.Folding.{says_op, says_none}
-use Rattle.sg_journal.proofs.kept.operation.Goals as goal
+use Rattle.sg_journal.proofs.Saying.{says_op, says_none}
+use Rattle.sg_journal.proofs.replay.operation.Goals as goal
 
 pub returns-in-Some-Do : goal.returns-in-Some-Do
 returns-in-Some-Do c = says_op c.args.words.now c.in-Some-Do.op (rw c.in-Some-Do.field-0-is at c.in-Some-Do.ensures)
