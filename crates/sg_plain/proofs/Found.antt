@@ -55,7 +55,7 @@ module _ {V W : Type 0} (f : V → W) where
       get_shown fs k ∙ (ap (option_map f) (h k) ∙ (sym (unmapped (at q k) (lookup (at k) es)) ∙ (ap (λ b. cond b None (option_map f (lookup (at k) es))) (same_at q k)
       ∙ sym (get-remove nat_list_cmp_total (shown_map es) q k ∙ ap (cond (eq_by_cmp (slice_cmp nat_cmp) k q) None) (get_shown es k))))))
 
-mapped_some : {V W : Type 0} (f : V → W) (o : Option V) → is_some (option_map f o) ≡ is_some o
+pub mapped_some : {V W : Type 0} (f : V → W) (o : Option V) → is_some (option_map f o) ≡ is_some o
 mapped_some f None = refl
 mapped_some f (Some x) = refl
 
@@ -63,7 +63,7 @@ mapped_some f (Some x) = refl
 pub has : {V W : Type 0} (f : V → W) (s : FinMap (slice_cmp nat_cmp) W) (es : List (List ℕ × V)) (q : List ℕ) (b : Bool) → shown_map f es ≡ s → b ≡ is_some (lookup (at q) es) → b ≡ is_some (get s q)
 has f s es q b is h = h ∙ sym (ap is_some (look f s es q (lookup (at q) es) is refl) ∙ mapped_some f (lookup (at q) es))
 
-none_of : {W : Type 0} (o : Option W) → false ≡ is_some o → o ≡ None
+pub none_of : {W : Type 0} (o : Option W) → false ≡ is_some o → o ≡ None
 none_of None e = refl
 none_of (Some x) e = absurd (cc)
 

@@ -3,5 +3,9 @@ pub mod Chunks
 pub mod Arrays
 pub mod Steps
 pub mod Sorted
-pub mod Copies
+pub mod Standing
+pub mod Taken
+pub mod Undoing
 pub mod Noting
+pub mod Ready
+pub mod Pasts

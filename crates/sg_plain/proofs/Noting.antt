@@ -1,5 +1,5 @@
 -- What is noted of an operation.
-use Rattle.std.proofs.Common.{◌≡◌, ℕ, Bool, true, false, cond, List, Option, Result, Ok, Err, refl, ap, ◌∙◌}
+use Rattle.std.proofs.Common.{◌≡◌, ℕ, Bool, true, false, cond, List, Option, Err, refl, ap, ◌∙◌}
 use Rattle.std.specs.Str.{bytes_eq}
 use Rattle.std.specs.FinMap.{get}
 use Rattle.sg_ops.specs.Table.{Table as Operations}
@@ -10,7 +10,7 @@ use Rattle.sg_model.specs.Verb.Op.{On, Names}
 use Rattle.sg_model.specs.Step.{step}
 use Rattle.sg_model.specs.Undo.{note_object, if_replied, note_of_op, undo_on}
 
-either : (b : Bool) (object : Option Object) → cond b object object ≡ object
+pub either : (b : Bool) (object : Option Object) → cond b object object ≡ object
 either true object = refl
 either false object = refl
 

@@ -212,3 +212,7 @@ keys_reply s n o (Err e) there h = λ t. subst (λ (x : Option Object). IsOk (on
 pub listed : (t : Operations) (s : Objects) (names : List (List ℕ)) → keys s ≡ names → step t s Names ≡ (Ok (Several names), s)
 unfolding step
 listed t s names e = let P : List (List ℕ) → Outcome × Objects = λ ks. (Ok (Several ks), s) in ap P e
+
+pub listed_all : {E : Type 0} (s : Objects) (names : List (List ℕ)) (result : Result (Vec (List ℕ) Global) E) → keys s ≡ names → IfOk result (λ v. v.items ≡ names) → IfOk result (λ v. (t : Operations) → step t s Names ≡ (Ok (Several v.items), s))
+listed_all s names (Ok v) e h = λ t. listed t s v.items (e ∙ sym h)
+listed_all s names (Err x) e h = tt

@@ -1,15 +1,20 @@
 -- The code's notes of what was done to objects, without where they lie in memory, and what takes it back.
-use Rattle.std.specs.Prelude.{ℕ, List, map, Option, Some, None}
+use Rattle.std.specs.Prelude.{ℕ, ◌<◌, List, map, Option, Some, None, vec_len, vec_capacity}
+use Rattle.std.specs.Option.{IsSomeAnd}
 use Rattle.std.specs.Ordering.{nat_cmp}
 use Rattle.std.specs.Cmp.Lexicographic.{slice_cmp}
 use Rattle.std.specs.BTreeMap.{get}
 use Rattle.sg_model.specs.Objects.{Object}
+use Rattle.sg_model.specs.Verb.{Verb}
+use Rattle.sg_model.specs.Verb.Verb.{MakeArray, MakeTable, MakeBlob}
 use Rattle.sg_model.specs.Undo.{Note, undo_each}
-use Rattle.sg_model.specs.Undo.Note.{WasPushed, WasPopped, WasSet, WasPut, HadValue, HadBytes}
+use Rattle.sg_model.specs.Undo.Note.{Nothing, WasMade, WasDropped, WasPushed, WasPopped, WasSet, WasPut, HadValue, HadBytes}
 use Rattle.sg_plain.specs.declared.undo.Undo as code_undo
 use Rattle.sg_plain.specs.declared.undo.Undo.TheVariants as undos
 use Rattle.sg_plain.specs.declared.undo.Past as code_past
 use Rattle.sg_plain.specs.declared.undo.Past.TheVariants as pasts
+use Rattle.sg_plain.specs.declared.undo.Change as code_change
+use Rattle.sg_plain.specs.declared.undo.Change.TheVariants as changes
 use Rattle.sg_plain.specs.declared.changes.Changes as code_changes
 use Rattle.sg_plain.specs.Shown.{shown}
 
@@ -20,6 +25,11 @@ shown_undo (undos.Set index item) = WasSet index item.items
 shown_undo (undos.New key) = WasPut key
 shown_undo (undos.Value key bytes) = HadValue key bytes.items
 shown_undo (undos.Bytes at bytes length) = HadBytes at bytes.items length
+
+-- what undoes an operation, if something does
+abbrev pub shown_undo_of : Option code_undo.Undo → Note
+shown_undo_of None = Nothing
+shown_undo_of (Some undo) = shown_undo undo
 
 abbrev pub undo_listed : List code_undo.Undo → Option Object → Option Object
 undo_listed undos object = undo_each (map shown_undo undos) object
@@ -32,6 +42,28 @@ before (Some pasts.Made) object = None
 before (Some (pasts.Changed undos)) object = undo_listed undos.items object
 before (Some (pasts.Dropped dropped undos)) object = undo_listed undos.items (Some (shown dropped))
 
+-- what an operation did to what stands under a name
+abbrev pub shown_change : code_change.Change → Note
+shown_change changes.Made = WasMade
+shown_change (changes.Edited undo) = shown_undo undo
+shown_change (changes.Dropped object) = WasDropped (shown object)
+
+-- there is memory for one more note
+abbrev pub HasRoom : code_past.Past → Type 0
+HasRoom (pasts.Changed undos) = vec_len undos < vec_capacity undos
+HasRoom other = Unit {0}
+
+-- there is memory to note one more change of what stands under a name
+abbrev pub IsReserved : code_changes.Changes → List ℕ → Type 0
+IsReserved changes name = IsSomeAnd (get (slice_cmp nat_cmp) changes.map name) HasRoom
+
 -- what stood under a name before the changes, by what stands there now
 abbrev pub undo_in : code_changes.Changes → List ℕ → Option Object → Option Object
 undo_in changes name object = before (get (slice_cmp nat_cmp) changes.map name) object
+
+-- the verbs that make an object
+abbrev pub Makes : Verb → Type 0
+Makes (MakeArray size) = Unit {0}
+Makes MakeTable = Unit {0}
+Makes MakeBlob = Unit {0}
+Makes other = ⊥

@@ -8,11 +8,13 @@
 #![tactic(auto)]
 
 mod array;
+mod back;
 mod blob;
 mod changes;
 mod front;
 mod object;
 mod objects;
+mod places;
 mod reach;
 mod table;
 mod undo;

@@ -1,4 +1,4 @@
-ghost use Rattle.std.specs.Prelude.{◌≡◌, ◌≤◌, length, IfOk, OnErr, IsOk, Ok, Some, ◌++◌, map};
+ghost use Rattle.std.specs.Prelude.{◌≡◌, ◌≤◌, length, IfOk, OnOk, OnErr, IsOk, Ok, Some, ◌++◌, map};
 ghost use Rattle.sg_ops.specs.Table.{Table as Operations, table_of};
 ghost use Rattle.sg_model.specs.Verb.Verb.{Keys};
 ghost use Rattle.sg_model.specs.SaidReplies.{said_reply};
@@ -13,10 +13,11 @@ use crate::array::Array;
 use crate::blob::Blob;
 use crate::reach::only_read;
 use crate::table::Table;
+use crate::undo::Undo;
 use sg_base::{Name, OutOfMemory};
 use sg_model::{Key, Op, Reason, Reply, Resource, Touches};
 use sg_ops::Ops;
-use std::alloc::{AllocError, Global};
+use std::alloc::Global;
 
 /// An object.
 #[derive(Drop)]
@@ -29,19 +30,11 @@ pub enum Object {
     Blob(Blob),
 }
 
-impl Clone for Object {
-    ghost is_clone = { λ a b. b ≡ a };
-
-    fn clone(&self) -> Result<Object, AllocError> {
-        match self {
-            Object::Array(array) => Ok(Object::Array(array.clone()?)),
-            Object::Table(table) => Ok(Object::Table(table.clone()?)),
-            Object::Blob(blob) => Ok(Object::Blob(blob.clone()?)),
-        }
-    }
-}
-
 impl Object {
+    ghost use Rattle.sg_model.specs.Undo.{note_there};
+    ghost use Rattle.sg_plain.specs.Undone.{shown_undo, shown_undo_of, undo_listed};
+    ghost use Rattle.sg_plain.specs.Ready.{IsReady};
+
     /// Why an operation that makes and drops no object would be refused.
     #[tactic(auto, using(crate::proofs::Steps::table_refuses))]
     pub fn refusal(&self, ops: &Ops, op: &Op<'_>) -> Option<Reason>
@@ -116,6 +109,56 @@ impl Object {
             Object::Array(array) => array.apply(ops, op, into),
             Object::Table(table) => table.apply(alloc, op, into),
             Object::Blob(blob) => blob.apply(ops, op, into),
+        }
+    }
+
+    /// What undoes an operation that isn't refused, and that makes and drops no object: nothing, where it changes nothing.
+    pub fn undo_of(&self, alloc: Global, op: &Op<'_>) -> Result<Option<Undo>, OutOfMemory>
+        requires in_place { IsInPlace (verb_of op.now) }
+        requires accepted { (t : Operations) × IsOk (on t (verb_of op.now) (Some (shown self.now))).0 }
+        ensures { IfOk result (λ undo. shown_undo_of undo ≡ note_there (verb_of op.now) (shown self.now)) }
+    {
+        match self {
+            Object::Array(array) => array.undo_of(alloc, op),
+            Object::Table(table) => table.undo_of(alloc, op),
+            Object::Blob(blob) => blob.undo_of(alloc, op),
+        }
+    }
+
+    /// Takes memory so that the notes can be undone without any more, and leaves the object as it is.
+    /// It answers `OutOfMemory` too where the notes aren't those of an object like this.
+    #[tactic(auto, unfolding(crate::specs::Ready::IsReady))]
+    pub fn make_ready(&mut self, undos: &[Undo]) -> Result<(), OutOfMemory>
+        ensures same { shown self.new ≡ shown self.old }
+        ensures ready { OnOk result (IsReady (map shown_undo undos.now) self.new) }
+    {
+        match self {
+            Object::Array(array) => array.make_ready(undos),
+            Object::Table(table) => table.make_ready(undos),
+            Object::Blob(blob) => blob.make_ready(undos),
+        }
+    }
+
+    /// Undoes what the notes say, the last one first. Takes no memory.
+    #[tactic(auto, unfolding(crate::specs::Ready::IsReady))]
+    pub fn undo_all(&mut self, undos: Vec<Undo>)
+        requires { IsReady (map shown_undo undos.items) self.old }
+        ensures { Some (shown self.new) ≡ undo_listed undos.items (Some (shown self.old)) }
+    {
+        match self {
+            Object::Array(array) => array.undo_all(undos),
+            Object::Table(table) => table.undo_all(undos),
+            Object::Blob(blob) => blob.undo_all(undos),
+        }
+    }
+
+    /// Takes away room that notes needed, where it is known to be empty. Takes no memory.
+    pub fn drop_places(&mut self)
+        ensures { shown self.new ≡ shown self.old }
+    {
+        match self {
+            Object::Table(table) => table.drop_places(),
+            Object::Array(_) | Object::Blob(_) => {}
         }
     }
 }

@@ -1,4 +1,5 @@
-ghost use Rattle.std.specs.Prelude.{◌≡◌, ◌≤◌, ℕ, List, IsTrue, Option, [], ◌∷◌, map, length, is_some, OnOk, IfOk, OnErr, IsOk, Ok};
+ghost use Rattle.std.specs.Prelude.{◌≡◌, ◌≤◌, ℕ, List, IsTrue, Option, [], ◌∷◌, map, length, is_some, option_copied, OnOk, IfOk, OnErr, IsOk, Ok};
+ghost use Rattle.std.specs.Option.{option_map};
 ghost use Rattle.std.specs.FinMap as finmap;
 ghost use Rattle.sg_ops.specs.Table.{Table as Operations, table_of};
 ghost use Rattle.sg_model.specs.Objects as plain;
@@ -16,11 +17,14 @@ ghost use Rattle.sg_model.specs.Touches.Region.{Just, Everything};
 ghost use Rattle.sg_model.specs.Step.{on, step, IsInPlace, GrowsBy, Refuses};
 
 use crate::array::Array;
+use crate::back::{drop_places, make_all_ready, take_all_back};
 use crate::blob::Blob;
 use crate::changes::Changes;
 use crate::object::Object;
+use crate::places::{at_place, filled_keys};
 use crate::reach::{only_read, written};
 use crate::table::Table;
+use crate::undo::{Change, Undo};
 use sg_base::{Name, OutOfMemory};
 use sg_model::{Key, Op, Reason, Reply, Resource, Touches};
 use sg_ops::Ops;
@@ -30,7 +34,7 @@ use std::marker::Model;
 
 // Does an operation that isn't refused to the object with its name.
 fn apply_in(
-    map: &mut BTreeMap<Name, Object>,
+    map: &mut BTreeMap<Name, Option<Object>>,
     alloc: Global,
     ops: &Ops,
     name: Name,
@@ -45,7 +49,10 @@ fn apply_in(
     ensures err { OnErr result (objects_of map.new.entries ≡ objects_of map.old.entries) }
     ensures memory { OnErr result (GrowsBy (verb_of op.now)) }
 {
-    let Some(object) = map.get_mut(&name) else {
+    let Some(place) = map.get_mut(&name) else {
+        unreachable!();
+    };
+    let Some(object) = place else {
         unreachable!();
     };
     object.apply(alloc, ops, op, into)
@@ -54,7 +61,8 @@ fn apply_in(
 /// Objects under names, which contracts see as a finite map.
 #[derive(Drop)]
 pub struct Objects {
-    map: BTreeMap<Name, Object>,
+    // a name may have a place with no object, where one can be put back without memory
+    map: BTreeMap<Name, Option<Object>>,
 }
 
 impl Model for Objects {
@@ -78,8 +86,11 @@ impl Model for Objects {
 
 impl Objects {
     ghost use Rattle.sg_model.specs.Step.{Grows, is_changing};
-    ghost use Rattle.sg_model.specs.Undo.{undo_on, note_of_op};
-    ghost use Rattle.sg_plain.specs.Undone.{undo_in};
+    ghost use Rattle.std.specs.Prelude.{IsSome};
+    ghost use Rattle.sg_model.specs.Verb.Verb.{Discard};
+    ghost use Rattle.sg_model.specs.declared.op.Reply.TheVariants as Reply;
+    ghost use Rattle.sg_model.specs.Undo.{undo_on, note_of_op, note_object};
+    ghost use Rattle.sg_plain.specs.Undone.{undo_in, shown_undo_of, Makes};
 
     /// No objects. Takes no memory.
     pub fn empty(alloc: Global) -> Objects
@@ -90,21 +101,18 @@ impl Objects {
         }
     }
 
-    /// An equal value that shares no memory with this one. It changes nothing.
-    pub fn copy(&self) -> Result<Objects, OutOfMemory>
-        ensures { IfOk result (λ copy. copy ≡ self.now) }
+    // The object with this name.
+    fn get(&self, name: Name) -> Option<&Object>
+        ensures { option_map shown (option_copied result) ≡ finmap.get self.now name }
     {
-        match self.map.clone() {
-            Ok(map) => Ok(Objects { map }),
-            Err(_) => Err(OutOfMemory),
-        }
+        at_place(self.map.get(&name))
     }
 
     // Whether there is an object with this name.
     fn has(&self, name: Name) -> bool
         ensures { result ≡ is_some (finmap.get self.now name) }
     {
-        self.map.contains_key(&name)
+        self.get(name).is_some()
     }
 
     // Puts a new object under a name.
@@ -112,7 +120,7 @@ impl Objects {
         ensures ok { OnOk result (self.new ≡ finmap.insert self.old name (shown object)) }
         ensures err { OnErr result (self.new ≡ self.old) }
     {
-        match self.map.insert(name, object) {
+        match self.map.insert(name, Some(object)) {
             Ok(_) => Ok(()),
             Err(_) => Err(OutOfMemory),
         }
@@ -125,12 +133,20 @@ impl Objects {
         let _ = self.map.remove(&name);
     }
 
+    // Takes the object with a name away, and gives it. Takes no memory.
+    fn take_out(&mut self, name: Name) -> Option<Object>
+        ensures there { option_map shown result ≡ finmap.get self.old name }
+        ensures after { self.new ≡ finmap.remove self.old name }
+    {
+        self.map.remove(&name).flatten()
+    }
+
     // Why an operation on an object that is there would be refused.
     fn refusal_in(&self, ops: &Ops, name: Name, op: &Op<'_>) -> Option<Reason>
         requires { IsInPlace (verb_of op.now) }
         ensures { Refuses (on (table_of record_meaning range_meaning ops.now) (verb_of op.now) (finmap.get self.now name)).0 result }
     {
-        match self.map.get(&name) {
+        match self.get(name) {
             None => Some(Reason::NoObject),
             Some(object) => object.refusal(ops, op),
         }
@@ -193,7 +209,7 @@ impl Objects {
         ensures done { IfOk result (λ r. (t : Operations) → step t self.now (On name Keys) ≡ (shown_keys r, self.now)) }
         ensures cause { OnErr result ((t : Operations) → IsOk (step t self.now (On name Keys)).0) }
     {
-        match self.map.get(&name) {
+        match self.get(name) {
             None => Ok(Err(Reason::NoObject)),
             Some(object) => object.keys(alloc),
         }
@@ -203,10 +219,7 @@ impl Objects {
     pub fn list(&self, alloc: Global) -> Result<Vec<Name>, OutOfMemory>
         ensures { IfOk result (λ names. (t : Operations) → step t self.now Names ≡ (Ok (Several names.items), self.now)) }
     {
-        match self.map.keys().copied().collect(alloc) {
-            Ok(names) => Ok(names),
-            Err(_) => Err(OutOfMemory),
-        }
+        filled_keys(alloc, &self.map)
     }
 
     // What an operation on an object that is there touches.
@@ -217,7 +230,7 @@ impl Objects {
     {
         let mut touches = Touches::new();
         touches.push(only_read(Resource::Name(name)));
-        match self.map.get(&name) {
+        match self.get(name) {
             None => {}
             Some(object) => object.reach(op, &mut touches),
         }
@@ -239,7 +252,7 @@ impl Objects {
     {
         let mut touches = Touches::new();
         touches.push(only_read(Resource::Name(name)));
-        match self.map.get(&name) {
+        match self.get(name) {
             None => {}
             Some(object) => object.reach_keys(name, &mut touches),
         }
@@ -366,6 +379,125 @@ impl Objects {
         }
     }
 
+    // What undoes an operation that isn't refused, and that makes and drops no object, where it has to be known.
+    fn undo_of(&self, alloc: Global, ops: &Ops, op: &Op<'_>, changes: &Changes) -> Result<Option<Undo>, OutOfMemory>
+        requires in_place { IsInPlace (verb_of op.now) }
+        requires accepted { IsOk (step (table_of record_meaning range_meaning ops.now) self.now (said_op op.now)).0 }
+        ensures { IfOk result (λ undo. (name : List ℕ) (object : Option plain.Object) → undo_in changes.now name (undo_on name (name_of op.now, shown_undo_of undo) object) ≡ undo_in changes.now name (undo_on name (note_of_op (table_of record_meaning range_meaning ops.now) self.now (said_op op.now)) object)) }
+    {
+        let name = op.name();
+        if !changes.keeps_notes(name) {
+            return Ok(None);
+        }
+        match self.get(name) {
+            None => unreachable!(),
+            Some(object) => object.undo_of(alloc, op),
+        }
+    }
+
+    // Makes an object, where that isn't refused, and notes it.
+    fn make_noted(
+        &mut self,
+        alloc: Global,
+        ops: &Ops,
+        op: &Op<'_>,
+        into: &mut [u8],
+        changes: &mut Changes,
+    ) -> Result<Reply, OutOfMemory>
+        requires room { 8192 ≤ length into.old }
+        requires accepted { IsOk (step (table_of record_meaning range_meaning ops.now) self.old (said_op op.now)).0 }
+        requires makes { Makes (verb_of op.now) }
+        ensures done { IfOk result (λ r. step (table_of record_meaning range_meaning ops.now) self.old (said_op op.now) ≡ (Ok (said_reply into.new r), self.new)) }
+        ensures noted { OnOk result ((name : List ℕ) (object : Option plain.Object) → undo_in changes.new name object ≡ undo_in changes.old name (undo_on name (note_of_op (table_of record_meaning range_meaning ops.now) self.old (said_op op.now)) object)) }
+        ensures err { OnErr result (self.new ≡ self.old) }
+        ensures same { OnErr result ((name : List ℕ) (object : Option plain.Object) → undo_in changes.new name object ≡ undo_in changes.old name object) }
+    {
+        let name = op.name();
+        changes.reserve(alloc, name)?;
+        let reply = self.perform(alloc, ops, op, into)?;
+        changes.add(name, Change::Made);
+        Ok(reply)
+    }
+
+    // Drops an object that is there, and notes it.
+    fn drop_noted(&mut self, alloc: Global, name: Name, changes: &mut Changes) -> Result<Reply, OutOfMemory>
+        requires { IsSome (finmap.get self.old name) }
+        ensures done { OnOk result (self.new ≡ finmap.remove self.old name) }
+        ensures reply { IfOk result (λ r. r ≡ Reply.Done) }
+        ensures noted { OnOk result ((other : List ℕ) (object : Option plain.Object) → undo_in changes.new other object ≡ undo_in changes.old other (undo_on other (name, note_object Discard (finmap.get self.old name)) object)) }
+        ensures err { OnErr result (self.new ≡ self.old) }
+        ensures same { OnErr result ((other : List ℕ) (object : Option plain.Object) → undo_in changes.new other object ≡ undo_in changes.old other object) }
+    {
+        changes.reserve(alloc, name)?;
+        let Some(object) = self.take_out(name) else {
+            unreachable!();
+        };
+        changes.add(name, Change::Dropped(object));
+        Ok(Reply::Done)
+    }
+
+    // Does an operation that isn't refused, and that makes and drops no object, and notes it.
+    fn edit_noted(
+        &mut self,
+        alloc: Global,
+        ops: &Ops,
+        op: &Op<'_>,
+        into: &mut [u8],
+        changes: &mut Changes,
+    ) -> Result<Reply, OutOfMemory>
+        requires room { 8192 ≤ length into.old }
+        requires in_place { IsInPlace (verb_of op.now) }
+        requires accepted { IsOk (step (table_of record_meaning range_meaning ops.now) self.old (said_op op.now)).0 }
+        ensures done { IfOk result (λ r. step (table_of record_meaning range_meaning ops.now) self.old (said_op op.now) ≡ (Ok (said_reply into.new r), self.new)) }
+        ensures noted { OnOk result ((name : List ℕ) (object : Option plain.Object) → undo_in changes.new name object ≡ undo_in changes.old name (undo_on name (note_of_op (table_of record_meaning range_meaning ops.now) self.old (said_op op.now)) object)) }
+        ensures err { OnErr result (self.new ≡ self.old) }
+        ensures same { OnErr result ((name : List ℕ) (object : Option plain.Object) → undo_in changes.new name object ≡ undo_in changes.old name object) }
+    {
+        let name = op.name();
+        let undo = self.undo_of(alloc, ops, op, changes)?;
+        changes.reserve(alloc, name)?;
+        let reply = self.perform(alloc, ops, op, into)?;
+        changes.add_undo(name, undo);
+        Ok(reply)
+    }
+
+    // Does an operation that isn't refused, and notes it.
+    fn perform_noted(
+        &mut self,
+        alloc: Global,
+        ops: &Ops,
+        op: &Op<'_>,
+        into: &mut [u8],
+        changes: &mut Changes,
+    ) -> Result<Reply, OutOfMemory>
+        requires room { 8192 ≤ length into.old }
+        requires accepted { IsOk (step (table_of record_meaning range_meaning ops.now) self.old (said_op op.now)).0 }
+        ensures done { IfOk result (λ r. step (table_of record_meaning range_meaning ops.now) self.old (said_op op.now) ≡ (Ok (said_reply into.new r), self.new)) }
+        ensures noted { OnOk result ((name : List ℕ) (object : Option plain.Object) → undo_in changes.new name object ≡ undo_in changes.old name (undo_on name (note_of_op (table_of record_meaning range_meaning ops.now) self.old (said_op op.now)) object)) }
+        ensures err { OnErr result (self.new ≡ self.old) }
+        ensures same { OnErr result ((name : List ℕ) (object : Option plain.Object) → undo_in changes.new name object ≡ undo_in changes.old name object) }
+    {
+        match *op {
+            Op::MakeArray { .. } | Op::MakeTable { .. } | Op::MakeBlob { .. } => {
+                self.make_noted(alloc, ops, op, into, changes)
+            }
+            Op::Discard { name } => self.drop_noted(alloc, name, changes),
+            Op::Push { .. }
+            | Op::Pop { .. }
+            | Op::Set { .. }
+            | Op::Get { .. }
+            | Op::Len { .. }
+            | Op::Apply { .. }
+            | Op::Put { .. }
+            | Op::Del { .. }
+            | Op::Find { .. }
+            | Op::Write { .. }
+            | Op::Read { .. }
+            | Op::Size { .. }
+            | Op::Paint { .. } => self.edit_noted(alloc, ops, op, into, changes),
+        }
+    }
+
     /// Does a changing operation as `apply` does, and notes in `changes` what takes it back, before what these note.
     ///
     /// After `OutOfMemory`, which comes only for an operation that would have got a reply, the objects
@@ -390,7 +522,10 @@ impl Objects {
         if let Some(reason) = self.refusal(ops, op) {
             return Ok(Err(reason));
         }
-        Err(OutOfMemory)
+        match self.perform_noted(alloc, ops, op, into, changes) {
+            Ok(reply) => Ok(Ok(reply)),
+            Err(fault) => Err(fault),
+        }
     }
 
     /// Takes back all that `changes` notes, and then it notes nothing.
@@ -401,6 +536,15 @@ impl Objects {
         ensures err { OnErr result (self.new ≡ self.old) }
         ensures same { OnErr result ((name : List ℕ) (object : Option plain.Object) → undo_in changes.new name object ≡ undo_in changes.old name object) }
     {
-        Err(OutOfMemory)
+        match make_all_ready(&mut self.map, alloc, changes) {
+            Ok(()) => {
+                take_all_back(&mut self.map, changes);
+                Ok(())
+            }
+            Err(fault) => {
+                drop_places(&mut self.map, changes);
+                Err(fault)
+            }
+        }
     }
 }

@@ -1,4 +1,4 @@
-ghost use Rattle.std.specs.Prelude.{◌≡◌, ◌≤◌, List, ℕ, length, is_some, option_copied, IfSome, IfOk, OnOk, OnErr, IsOk, MatchOption, Ok, Err, Some, vec_len, ◌++◌, map};
+ghost use Rattle.std.specs.Prelude.{◌≡◌, ◌≤◌, List, ℕ, length, is_some, IsSome, option_copied, IfSome, IfOk, OnOk, OnErr, IsOk, MatchOption, Ok, Err, None, Some, vec_len, ◌++◌, map};
 ghost use Rattle.std.specs.FinMap as finmap;
 ghost use Rattle.sg_ops.specs.Table.{fresh_table};
 ghost use Rattle.sg_model.specs.Keys.{key_checked};
@@ -7,14 +7,18 @@ ghost use Rattle.sg_model.specs.SaidReplies.{said_reply};
 ghost use Rattle.sg_model.specs.SaidOps.{verb_of, name_of};
 ghost use Rattle.sg_model.specs.TouchList.{shown_touches};
 ghost use Rattle.sg_model.specs.Touches.{table_touches, touch_of};
+ghost use Rattle.sg_model.specs.Undo.{undo};
+ghost use Rattle.sg_plain.specs.Places.{there, HasPlace, with_place};
 ghost use Rattle.sg_model.specs.Step.Update.{Stays};
 ghost use Rattle.sg_model.specs.Step.{at_key, put_value, del_value, found, on, IsInPlace, GrowsBy, Refuses};
 
 use crate::front::put_front;
+use crate::places::{at_place, filled_keys};
 use crate::reach::{only_read, written};
+use crate::undo::Undo;
 use sg_base::OutOfMemory;
 use sg_model::{Key, Op, Reason, Reply, Resource, Touches};
-use std::alloc::{AllocError, Global};
+use std::alloc::Global;
 use std::collections::BTreeMap;
 use std::marker::Model;
 
@@ -28,45 +32,29 @@ struct Entry {
     ghost short: { vec_len bytes ≤ 1024 },
 }
 
-impl Clone for Entry {
-    ghost is_clone = { λ a b. b.bytes.items ≡ a.bytes.items };
-
-    fn clone(&self) -> Result<Entry, AllocError> {
-        Ok(Entry {
-            bytes: self.bytes.clone()?,
-        })
-    }
-}
-
-/// Values of at most 1,024 bytes under keys, which contracts see as a finite map.
+/// Values of at most 1,024 bytes under keys, which contracts see as places of keys and what stands at them.
+/// A place is where an entry can be put without taking memory.
 #[derive(Drop)]
 pub struct Table {
-    map: BTreeMap<Key, Entry>,
+    map: BTreeMap<Key, Option<Entry>>,
+    // the keys that were given a place, which may be empty
+    given: Vec<Key>,
 }
 
 impl Model for Table {
-    ghost use Rattle.sg_model.specs.Objects.{Entries};
+    ghost use Rattle.std.specs.Prelude.{List, ℕ};
+    ghost use Rattle.sg_plain.specs.Places.{Places};
 
-    ghost Value = { Entries };
+    ghost Value = { Places (List ℕ) };
 
     ghost use Rattle.std.specs.FinMap.{code};
-    ghost use Rattle.std.specs.Coded.{coded_ℕ, coded_list};
+    ghost use Rattle.std.specs.Coded.{coded_ℕ, coded_list, coded_option};
 
-    ghost coded = { code (coded_list coded_ℕ) (coded_list coded_ℕ) };
+    ghost coded = { code (coded_list coded_ℕ) (coded_option (coded_list coded_ℕ)) };
 
-    ghost use Rattle.sg_plain.specs.Tables.{entries_of};
+    ghost use Rattle.sg_plain.specs.Tables.{places_of};
 
-    ghost view = { λ t. entries_of t.map.entries };
-}
-
-impl Clone for Table {
-    ghost is_clone = { λ a b. b ≡ a };
-
-    fn clone(&self) -> Result<Table, AllocError> {
-        Ok(Table {
-            map: self.map.clone()?,
-        })
-    }
+    ghost view = { λ t. places_of t.map.entries };
 }
 
 // The key of these bytes, or why they are none.
@@ -93,28 +81,30 @@ fn key_refusal(key: &[u8]) -> Option<Reason>
 }
 
 impl Table {
+    ghost use Rattle.sg_model.specs.Undo.{note_del, note_put, note_table};
+    ghost use Rattle.sg_plain.specs.Tables.{places_of, TakesBack, IsReadyTable};
+    ghost use Rattle.sg_plain.specs.Undone.{shown_undo, shown_undo_of, undo_listed};
+
     /// A table without entries. Takes no memory.
     pub fn new(alloc: Global) -> Table
-        ensures { result ≡ finmap.empty }
+        ensures { there result ≡ finmap.empty }
     {
         Table {
             map: BTreeMap::new(alloc),
+            given: Vec::new(alloc),
         }
     }
 
     /// Its keys, by their bytes.
     pub fn keys(&self, alloc: Global) -> Result<Vec<Key>, OutOfMemory>
-        ensures { IfOk result (λ keys. keys.items ≡ finmap.keys self.now) }
+        ensures { IfOk result (λ keys. keys.items ≡ finmap.keys (there self.now)) }
     {
-        match self.map.keys().copied().collect(alloc) {
-            Ok(keys) => Ok(keys),
-            Err(_) => Err(OutOfMemory),
-        }
+        filled_keys(alloc, &self.map)
     }
 
     // Why a value would not be put under a key.
     fn put_refusal(&self, key: &[u8], value: &[u8]) -> Option<Reason>
-        ensures { Refuses (at_key key.now (put_value value.now) self.now).0 result }
+        ensures { Refuses (at_key key.now (put_value value.now) (there self.now)).0 result }
     {
         if let Some(reason) = key_refusal(key) {
             return Some(reason);
@@ -128,7 +118,7 @@ impl Table {
     /// Why an operation that makes and drops no object would be refused.
     pub fn refusal(&self, op: &Op<'_>) -> Option<Reason>
         requires { IsInPlace (verb_of op.now) }
-        ensures { Refuses (on fresh_table (verb_of op.now) (Some (as_object self.now))).0 result }
+        ensures { Refuses (on fresh_table (verb_of op.now) (Some (as_object (there self.now)))).0 result }
     {
         match *op {
             Op::Put {
@@ -149,42 +139,83 @@ impl Table {
     // Puts a value under a key, and says whether there was one.
     fn put(&mut self, alloc: Global, key: Key, value: &[u8]) -> Result<bool, OutOfMemory>
         requires { length value.now ≤ 1024 }
-        ensures old { IfOk result (λ there. there ≡ is_some (finmap.get self.old key)) }
-        ensures after { OnOk result (self.new ≡ finmap.insert self.old key value.now) }
-        ensures err { OnErr result (self.new ≡ self.old) }
+        ensures old { IfOk result (λ was. was ≡ is_some (finmap.get (there self.old) key)) }
+        ensures after { OnOk result (there self.new ≡ finmap.insert (there self.old) key value.now) }
+        ensures err { OnErr result (there self.new ≡ there self.old) }
     {
         let Ok(bytes) = Vec::from_slice(alloc, value) else {
             return Err(OutOfMemory);
         };
-        match self.map.insert(key, Entry { bytes }) {
-            Ok(old) => Ok(old.is_some()),
+        match self.map.insert(key, Some(Entry { bytes })) {
+            Ok(old) => Ok(old.flatten().is_some()),
             Err(_) => Err(OutOfMemory),
         }
     }
 
     // Takes a key away, and says whether it was there. Takes no memory.
     fn del(&mut self, key: Key) -> bool
-        ensures there { result ≡ is_some (finmap.get self.old key) }
-        ensures after { self.new ≡ finmap.remove self.old key }
+        ensures there { result ≡ is_some (finmap.get (there self.old) key) }
+        ensures after { there self.new ≡ finmap.remove (there self.old) key }
     {
-        self.map.remove(&key).is_some()
+        self.map.remove(&key).flatten().is_some()
     }
 
-    // The value under a key.
-    fn find(&self, key: Key) -> Option<&[u8]>
-        ensures value { option_copied result ≡ finmap.get self.now key }
+    /// The value under a key.
+    pub fn find(&self, key: Key) -> Option<&[u8]>
+        ensures value { option_copied result ≡ finmap.get (there self.now) key }
         ensures short { IfSome result (λ value. length value.now ≤ 1024) }
     {
-        match self.map.get(&key) {
+        match at_place(self.map.get(&key)) {
             Some(entry) => Some(entry.bytes.as_slice()),
             None => None,
+        }
+    }
+
+    // What undoes that the value under a key is replaced or taken away: nothing, where there is none.
+    fn undo_of_value(&self, alloc: Global, key: Key) -> Result<Option<Undo>, OutOfMemory>
+        ensures { IfOk result (λ undo. shown_undo_of undo ≡ note_del key (finmap.get (there self.now) key)) }
+    {
+        match self.find(key) {
+            None => Ok(None),
+            Some(value) => match Vec::from_slice(alloc, value) {
+                Ok(bytes) => Ok(Some(Undo::Value { key, bytes })),
+                Err(_) => Err(OutOfMemory),
+            },
+        }
+    }
+
+    // What undoes that a value is put under a key.
+    fn undo_of_put(&self, alloc: Global, key: Key) -> Result<Option<Undo>, OutOfMemory>
+        ensures { IfOk result (λ undo. shown_undo_of undo ≡ note_put key (finmap.get (there self.now) key)) }
+    {
+        if self.find(key).is_none() {
+            return Ok(Some(Undo::New(key)));
+        }
+        self.undo_of_value(alloc, key)
+    }
+
+    /// What undoes an operation that isn't refused: nothing, where it changes nothing.
+    pub fn undo_of(&self, alloc: Global, op: &Op<'_>) -> Result<Option<Undo>, OutOfMemory>
+        requires { IsOk (on fresh_table (verb_of op.now) (Some (as_object (there self.now)))).0 }
+        ensures { IfOk result (λ undo. shown_undo_of undo ≡ note_table (verb_of op.now) (there self.now)) }
+    {
+        match *op {
+            Op::Put { key, .. } => match checked_key(key) {
+                Ok(key) => self.undo_of_put(alloc, key),
+                Err(_) => unreachable!(),
+            },
+            Op::Del { key, .. } => match checked_key(key) {
+                Ok(key) => self.undo_of_value(alloc, key),
+                Err(_) => unreachable!(),
+            },
+            _ => Ok(None),
         }
     }
 
     // Reads the value under a key.
     fn read(&self, key: Key, into: &mut [u8]) -> Reply
         requires { 8192 ≤ length into.old }
-        ensures { found (finmap.get self.now key) ≡ (Ok (said_reply into.new result), Stays) }
+        ensures { found (finmap.get (there self.now) key) ≡ (Ok (said_reply into.new result), Stays) }
     {
         match self.find(key) {
             None => Reply::Absent,
@@ -197,9 +228,9 @@ impl Table {
 
     // Puts a value under the key of these bytes.
     fn put_bytes(&mut self, alloc: Global, key: &[u8], value: &[u8]) -> Result<Reply, OutOfMemory>
-        requires { IsOk (at_key key.now (put_value value.now) self.old).0 }
-        ensures done { IfOk result (λ r. (bytes : List ℕ) → at_key key.now (put_value value.now) self.old ≡ (Ok (said_reply bytes r), self.new)) }
-        ensures err { OnErr result (self.new ≡ self.old) }
+        requires { IsOk (at_key key.now (put_value value.now) (there self.old)).0 }
+        ensures done { IfOk result (λ r. (bytes : List ℕ) → at_key key.now (put_value value.now) (there self.old) ≡ (Ok (said_reply bytes r), there self.new)) }
+        ensures err { OnErr result (there self.new ≡ there self.old) }
     {
         match checked_key(key) {
             Err(_) => Ok(Reply::Absent),
@@ -216,8 +247,8 @@ impl Table {
     // Takes the key of these bytes away. Takes no memory.
     #[tactic(auto, using(crate::proofs::Found::remove_absent))]
     fn del_bytes(&mut self, key: &[u8]) -> Reply
-        requires { IsOk (at_key key.now del_value self.old).0 }
-        ensures { (bytes : List ℕ) → at_key key.now del_value self.old ≡ (Ok (said_reply bytes result), self.new) }
+        requires { IsOk (at_key key.now del_value (there self.old)).0 }
+        ensures { (bytes : List ℕ) → at_key key.now del_value (there self.old) ≡ (Ok (said_reply bytes result), there self.new) }
     {
         match checked_key(key) {
             Err(_) => Reply::Absent,
@@ -234,8 +265,8 @@ impl Table {
     // Reads the value under the key of these bytes.
     fn find_bytes(&self, key: &[u8], into: &mut [u8]) -> Reply
         requires room { 8192 ≤ length into.old }
-        requires key { IsOk (at_key key.now found self.now).0 }
-        ensures { at_key key.now found self.now ≡ (Ok (said_reply into.new result), self.now) }
+        requires key { IsOk (at_key key.now found (there self.now)).0 }
+        ensures { at_key key.now found (there self.now) ≡ (Ok (said_reply into.new result), there self.now) }
     {
         match checked_key(key) {
             Err(_) => Reply::Absent,
@@ -284,9 +315,9 @@ impl Table {
     ) -> Result<Reply, OutOfMemory>
         requires room { 8192 ≤ length into.old }
         requires in_place { IsInPlace (verb_of op.now) }
-        requires accepted { IsOk (on fresh_table (verb_of op.now) (Some (as_object self.old))).0 }
-        ensures done { IfOk result (λ r. on fresh_table (verb_of op.now) (Some (as_object self.old)) ≡ (Ok (said_reply into.new r), Some (as_object self.new))) }
-        ensures err { OnErr result (self.new ≡ self.old) }
+        requires accepted { IsOk (on fresh_table (verb_of op.now) (Some (as_object (there self.old)))).0 }
+        ensures done { IfOk result (λ r. on fresh_table (verb_of op.now) (Some (as_object (there self.old))) ≡ (Ok (said_reply into.new r), Some (as_object (there self.new)))) }
+        ensures err { OnErr result (there self.new ≡ there self.old) }
         ensures memory { OnErr result (GrowsBy (verb_of op.now)) }
     {
         match *op {
@@ -299,5 +330,118 @@ impl Table {
             Op::Find { name: _, key } => Ok(self.find_bytes(key, into)),
             _ => unreachable!(),
         }
+    }
+
+    /// Gives a key a place. After `OutOfMemory` the table is unchanged.
+    pub fn make_place(&mut self, key: Key) -> Result<(), OutOfMemory>
+        ensures done { OnOk result (self.new ≡ with_place self.old key) }
+        ensures err { OnErr result (self.new ≡ self.old) }
+    {
+        if self.given.push(key).is_err() {
+            return Err(OutOfMemory);
+        }
+        if self.map.contains_key(&key) {
+            return Ok(());
+        }
+        match self.map.insert(key, None) {
+            Ok(_) => Ok(()),
+            Err(_) => Err(OutOfMemory),
+        }
+    }
+
+    // Empties the place of a key.
+    fn take_out(&mut self, key: Key)
+        requires { HasPlace self.old key }
+        ensures { self.new ≡ finmap.insert self.old key None }
+    {
+        let Some(place) = self.map.get_mut(&key) else {
+            unreachable!();
+        };
+        *place = None;
+    }
+
+    // Puts an entry at the place of its key. Takes no memory.
+    fn put_back(&mut self, key: Key, entry: Entry)
+        requires { HasPlace self.old key }
+        ensures { self.new ≡ finmap.insert self.old key (Some entry.bytes.items) }
+    {
+        let Some(place) = self.map.get_mut(&key) else {
+            unreachable!();
+        };
+        *place = Some(entry);
+    }
+
+    // Takes away the place of a key, if nothing stands at it. Takes no memory.
+    fn drop_place(map: &mut BTreeMap<Key, Option<Entry>>, key: Key)
+        ensures { there (places_of map.new.entries) ≡ there (places_of map.old.entries) }
+    {
+        if let Some(None) = map.get(&key) {
+            let _ = map.remove(&key);
+        }
+    }
+
+    /// Takes away the places at which nothing stands, of the keys that were given one. Takes no memory.
+    pub fn drop_places(&mut self)
+        ensures { there self.new ≡ there self.old }
+    {
+        while let Some(key) = self.given.pop() {
+            Table::drop_place(&mut self.map, key);
+        }
+        self.given.shrink_to_fit();
+    }
+
+    // Gives a key that a note names a place. It refuses what isn't a note of a table.
+    fn make_room_for(&mut self, undo: &Undo) -> Result<(), OutOfMemory>
+        ensures same { there self.new ≡ there self.old }
+        ensures kept { (key : List ℕ) → HasPlace self.old key → HasPlace self.new key }
+        ensures ready { OnOk result (TakesBack self.new (shown_undo undo.now)) }
+    {
+        match undo {
+            Undo::New(key) => self.make_place(*key),
+            Undo::Value { key, bytes } => {
+                if bytes.len() > MOST_VALUE_BYTES {
+                    return Err(OutOfMemory);
+                }
+                self.make_place(*key)
+            }
+            _ => Err(OutOfMemory),
+        }
+    }
+
+    /// Gives the keys that the notes name places, so that they can be taken back without memory.
+    /// After `OutOfMemory`, which comes too where a note isn't one of a table, the entries are unchanged.
+    pub fn make_ready(&mut self, undos: &[Undo]) -> Result<(), OutOfMemory>
+        ensures same { there self.new ≡ there self.old }
+        ensures ready { OnOk result (IsReadyTable (map shown_undo undos.now) self.new) }
+    {
+        for undo in undos {
+            self.make_room_for(undo)?;
+        }
+        Ok(())
+    }
+
+    // Takes back what a note says, which leaves the key's place. Takes no memory.
+    fn undo(&mut self, note: Undo)
+        requires { TakesBack self.old (shown_undo note) }
+        ensures done { Some (as_object (there self.new)) ≡ undo (shown_undo note) (Some (as_object (there self.old))) }
+        ensures kept { (key : List ℕ) → HasPlace self.old key → HasPlace self.new key }
+    {
+        match note {
+            Undo::New(key) => self.take_out(key),
+            Undo::Value { key, bytes } => self.put_back(key, Entry { bytes }),
+            _ => unreachable!(),
+        }
+    }
+
+    /// Takes back what the notes say, the last one first, and leaves no empty place. Takes no memory.
+    pub fn undo_all(&mut self, undos: Vec<Undo>)
+        requires { IsReadyTable (map shown_undo undos.items) self.old }
+        ensures { Some (as_object (there self.new)) ≡ undo_listed undos.items (Some (as_object (there self.old))) }
+    {
+        let mut undos = undos;
+        while let Some(note) = undos.pop() {
+            self.undo(note);
+        }
+        self.drop_places();
     }
 }

@@ -271,33 +271,3 @@ fn a_refusal_is_known_before(rt: HostRuntime) -> Result<(), Fail> {
     assert_eq!(rt; refused(&objects, &ops, &Op::Len { name }), None);
     Ok(())
 }
-
-// How many keys a table has, if there is one with this name.
-fn key_count(objects: &Objects, alloc: Global, name: Name) -> Result<Option<usize>, Fail> {
-    Ok(objects.keys(alloc, name)?.ok().map(|keys| keys.len()))
-}
-
-#[test]
-fn a_copy_stays_as_it_was(rt: HostRuntime) -> Result<(), Fail> {
-    let alloc = rt.alloc();
-    let ops = Ops::shipped(alloc)?;
-    let name = Name::new(b"t").ok_or("a name")?;
-    let key = b"k".as_slice();
-    let mut objects = Objects::empty(alloc);
-    let (made, _) = outcome(&mut objects, alloc, &ops, &Op::MakeTable { name });
-    assert_eq!(rt; made, DONE);
-    let put = Op::Put {
-        name,
-        key,
-        value: b"v",
-    };
-    let (new, _) = outcome(&mut objects, alloc, &ops, &put);
-    assert_eq!(rt; new, Came::Reply(Reply::New));
-    let copy = objects.copy()?;
-    let (gone, _) = outcome(&mut objects, alloc, &ops, &Op::Del { name, key });
-    assert_eq!(rt; gone, DONE);
-    assert_eq!(rt; key_count(&objects, alloc, name)?, Some(0));
-    assert_eq!(rt; key_count(&copy, alloc, name)?, Some(1));
-    assert_eq!(rt; copy.list(alloc)?.len(), 1);
-    Ok(())
-}

@@ -9,12 +9,11 @@ use Rattle.sg_model.specs.Touches.{Resource, touch_of, to_read, further}
 use Rattle.sg_model.specs.Touches.Part.{Kind}
 use Rattle.sg_model.specs.Touches.Region.{Just}
 use Rattle.sg_plain.specs.Shown.{shown}
-use Rattle.sg_plain.proofs.Found.{look}
 use Rattle.sg_plain.proofs.objects.Objects.reach_in.Goals as goal
 
 pub returns-in-None : goal.returns-in-None
 returns-in-None c =
-    let none : get c.args.self.now c.args.name ≡ None = look shown c.args.self.now c.self.inside.map.entries c.args.name None c.self.view_is c.in-None.ensures.value in
+    let none : get c.args.self.now c.args.name ≡ None = sym c.in-None.ensures in
     let first : shown_touches c.push.new.self ≡ touch_of (name_of c.args.op.now) (to_read (Just Kind)) ∷ [] =
     c.push.ensures ∙ (ap (λ (ts : List (Touch Resource)). ts ++ shown_touch c.only_read.result ∷ []) c.new-touches.ensures
     ∙ ap (λ (a : Touch Resource). a ∷ []) (c.only_read.ensures ∙ ap (λ (n : List ℕ). touch_of n (to_read (Just Kind))) c.requires.named)) in
@@ -22,7 +21,7 @@ returns-in-None c =
 
 pub returns-in-Some : goal.returns-in-Some
 returns-in-Some c =
-    let there : get c.args.self.now c.args.name ≡ Some (shown c.in-Some.object.now) = look shown c.args.self.now c.self.inside.map.entries c.args.name (Some c.in-Some.object.now) c.self.view_is c.in-Some.ensures.value in
+    let there : get c.args.self.now c.args.name ≡ Some (shown c.in-Some.object.now) = sym c.in-Some.ensures in
     let first : shown_touches c.push.new.self ≡ touch_of (name_of c.args.op.now) (to_read (Just Kind)) ∷ [] =
     c.push.ensures ∙ (ap (λ (ts : List (Touch Resource)). ts ++ shown_touch c.only_read.result ∷ []) c.new-touches.ensures
     ∙ ap (λ (a : Touch Resource). a ∷ []) (c.only_read.ensures ∙ ap (λ (n : List ℕ). touch_of n (to_read (Just Kind))) c.requires.named)) in

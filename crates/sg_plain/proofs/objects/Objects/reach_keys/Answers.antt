@@ -9,19 +9,18 @@ use Rattle.sg_model.specs.Touches.Part.{Kind}
 use Rattle.sg_model.specs.Touches.Region.{Just}
 use Rattle.sg_model.specs.Verb.Verb.{Keys}
 use Rattle.sg_plain.specs.Shown.{shown}
-use Rattle.sg_plain.proofs.Found.{look}
 use Rattle.sg_plain.proofs.objects.Objects.reach_keys.Goals as goal
 
 pub returns-in-None : goal.returns-in-None
 returns-in-None c =
-    let none : get c.args.self.now c.args.name ≡ None = look shown c.args.self.now c.self.inside.map.entries c.args.name None c.self.view_is c.in-None.ensures.value in
+    let none : get c.args.self.now c.args.name ≡ None = sym c.in-None.ensures in
     c.push.ensures ∙ (ap (λ (ts : List (Touch Resource)). ts ++ shown_touch c.only_read.result ∷ []) c.new-touches.ensures ∙ (ap (λ (a : Touch Resource). a ∷ []) c.only_read.ensures
     ∙ ap (λ (o : Option Object). touch_of c.args.name (to_read (Just Kind)) ∷ map (touch_of c.args.name) (further Keys o)) (sym none)))
 
 pub returns-in-Some : goal.returns-in-Some
 returns-in-Some c =
     let object : Object = shown c.in-Some.object.now in
-    let there : get c.args.self.now c.args.name ≡ Some object = look shown c.args.self.now c.self.inside.map.entries c.args.name (Some c.in-Some.object.now) c.self.view_is c.in-Some.ensures.value in
+    let there : get c.args.self.now c.args.name ≡ Some object = sym c.in-Some.ensures in
     let first : shown_touches c.push.new.self ≡ touch_of c.args.name (to_read (Just Kind)) ∷ [] =
     c.push.ensures ∙ (ap (λ (ts : List (Touch Resource)). ts ++ shown_touch c.only_read.result ∷ []) c.new-touches.ensures ∙ ap (λ (a : Touch Resource). a ∷ []) c.only_read.ensures) in
     c.reach_keys.ensures ∙ (ap (λ (ts : List (Touch Resource)). ts ++ map (touch_of c.args.name) (further Keys (Some object))) first
