@@ -53,10 +53,7 @@ fn length_back(undo: &Undo) -> Option<usize>
         Undo::Bytes { at, bytes, length }
             if *length as u64 <= MOST_BLOB_BYTES
                 && *at <= *length
-                && bytes.len() <= *length - *at =>
-        {
-            Some(*length)
-        }
+                && bytes.len() <= *length - *at => { Some(*length) }
         _ => None,
     }
 }
