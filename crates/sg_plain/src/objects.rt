@@ -420,9 +420,9 @@ impl Objects {
     {
         let name = op.name();
         changes.reserve(alloc, name)?;
-        let reply = self.perform(alloc, ops, op, into)?;
+        let made = self.perform(alloc, ops, op, into)?;
         changes.add(name, Change::Made);
-        Ok(reply)
+        Ok(made)
     }
 
     // Drops an object that is there, and notes it.
