@@ -1,10 +1,8 @@
 -- What is noted of what stands under names, and what an operation adds to it.
-use Rattle.std.proofs.Common.{◌≡◌, ℕ, Bool, true, false, cond, List, [], ◌∷◌, ◌++◌, map, Option, Some, None, Result, Ok, Err, IsOk, IfOk, refl, sym, ap, ◌∙◌, subst}
+use Rattle.std.proofs.Common.{◌≡◌, ℕ, Bool, true, false, cond, List, [], ◌∷◌, ◌++◌, Option, Some, None, Result, Ok, Err, IsOk, IfOk, refl, sym, ap, ◌∙◌, subst}
 use Rattle.std.specs.Prelude.{Vec, IsSome, OnOk}
 use Rattle.std.specs.declared.alloc.Global.{Global}
 use Rattle.std.specs.Str.{bytes_eq}
-use Rattle.std.specs.Ordering.{nat_cmp}
-use Rattle.std.specs.Cmp.Lexicographic.{slice_cmp}
 use Rattle.std.specs.Map.{lookup}
 use Rattle.std.specs.FinMap as finmap
 use Rattle.sg_ops.specs.Table.{Table as Operations}
@@ -19,7 +17,7 @@ use Rattle.sg_model.specs.declared.op.Reply.TheVariants as replies
 use Rattle.sg_model.specs.Verb.Verb.{MakeArray, MakeTable, MakeBlob, Discard, Push, Pop, Set, Get, Len, Apply, Put, Del, Find, Keys, Write, Read, Size, Paint}
 use Rattle.sg_model.specs.Step.{on, step, discard}
 use Rattle.sg_model.specs.Undo.{Note, OpNote, undo, undo_on, note_of, note_of_op, note_object, note_there, if_replied}
-use Rattle.sg_model.specs.Undo.Note.{Nothing, WasMade, WasDropped}
+use Rattle.sg_model.specs.Undo.Note.{Nothing, WasMade}
 use Rattle.sg_plain.specs.declared.undo.Undo as code_undo
 use Rattle.sg_plain.specs.declared.undo.Undo.TheVariants as undos
 use Rattle.sg_plain.specs.declared.undo.Change as code_change
@@ -27,8 +25,6 @@ use Rattle.sg_plain.specs.declared.undo.Change.TheVariants as changes
 use Rattle.sg_plain.specs.declared.undo.Past as code_past
 use Rattle.sg_plain.specs.declared.undo.Past.TheVariants as pasts
 use Rattle.sg_plain.specs.declared.changes.Changes as code_changes
-use Rattle.sg_plain.specs.declared.object.Object as code_object
-use Rattle.sg_plain.specs.Shown.{shown}
 use Rattle.sg_plain.specs.Undone.{shown_undo, shown_undo_of, shown_change, undo_listed, before, undo_in, Makes}
 use Rattle.sg_plain.proofs.Found.{at}
 use Rattle.sg_plain.proofs.Noting.{either}

@@ -536,9 +536,9 @@ impl Array {
         ensures room { self.new.room ≡ self.old.room }
     {
         if self.count > 0 {
-            let rest = self.count - 1;
-            self.bytes.truncate(rest * self.size);
-            self.count = rest;
+            let left = self.count - 1;
+            self.bytes.truncate(left * self.size);
+            self.count = left;
         }
     }
 

@@ -2,8 +2,7 @@ ghost use Rattle.std.specs.Prelude.{◌≡◌, List, ℕ, Option, Some, false, i
 ghost use Rattle.std.specs.FinMap as finmap;
 ghost use Rattle.std.specs.Str.{bytes_eq};
 ghost use Rattle.sg_model.specs.Objects as plain;
-ghost use Rattle.sg_plain.specs.Shown.{objects_of};
-ghost use Rattle.sg_plain.specs.Shown.{shown};
+ghost use Rattle.sg_plain.specs.Shown.{shown, objects_of};
 ghost use Rattle.sg_plain.specs.Undone.{before, undo_in, shown_undo, undo_listed};
 ghost use Rattle.sg_plain.specs.Back.{at_name, IsReadyAt, IsReadyPlace};
 

@@ -53,10 +53,7 @@ fn length_back(undo: &Undo) -> Option<usize>
         Undo::Bytes { at, bytes, length }
             if *length as u64 <= MOST_BLOB_BYTES
                 && *at <= *length
-                && bytes.len() <= *length - *at =>
-        {
-            Some(*length)
-        }
+                && bytes.len() <= *length - *at => { Some(*length) }
         _ => None,
     }
 }
@@ -355,13 +352,13 @@ impl Blob {
     fn undo_of_size(&self, alloc: Global, length: u64) -> Result<Option<Undo>, OutOfMemory>
         ensures { IfOk result (λ undo. shown_undo_of undo ≡ note_blob (Size length) self.now.bytes) }
     {
-        let len = self.len();
-        let at = min(length as usize, len);
+        let whole = self.len();
+        let at = min(length as usize, whole);
         match Vec::from_slice(alloc, &self.bytes[at..]) {
             Ok(bytes) => Ok(Some(Undo::Bytes {
                 at,
                 bytes,
-                length: len,
+                length: whole,
             })),
             Err(_) => Err(OutOfMemory),
         }

@@ -380,7 +380,13 @@ impl Objects {
     }
 
     // What undoes an operation that isn't refused, and that makes and drops no object, where it has to be known.
-    fn undo_of(&self, alloc: Global, ops: &Ops, op: &Op<'_>, changes: &Changes) -> Result<Option<Undo>, OutOfMemory>
+    fn undo_of(
+        &self,
+        alloc: Global,
+        ops: &Ops,
+        op: &Op<'_>,
+        changes: &Changes,
+    ) -> Result<Option<Undo>, OutOfMemory>
         requires in_place { IsInPlace (verb_of op.now) }
         requires accepted { IsOk (step (table_of record_meaning range_meaning ops.now) self.now (said_op op.now)).0 }
         ensures { IfOk result (λ undo. (name : List ℕ) (object : Option plain.Object) → undo_in changes.now name (undo_on name (name_of op.now, shown_undo_of undo) object) ≡ undo_in changes.now name (undo_on name (note_of_op (table_of record_meaning range_meaning ops.now) self.now (said_op op.now)) object)) }
@@ -414,13 +420,18 @@ impl Objects {
     {
         let name = op.name();
         changes.reserve(alloc, name)?;
-        let reply = self.perform(alloc, ops, op, into)?;
+        let made = self.perform(alloc, ops, op, into)?;
         changes.add(name, Change::Made);
-        Ok(reply)
+        Ok(made)
     }
 
     // Drops an object that is there, and notes it.
-    fn drop_noted(&mut self, alloc: Global, name: Name, changes: &mut Changes) -> Result<Reply, OutOfMemory>
+    fn drop_noted(
+        &mut self,
+        alloc: Global,
+        name: Name,
+        changes: &mut Changes,
+    ) -> Result<Reply, OutOfMemory>
         requires { IsSome (finmap.get self.old name) }
         ensures done { OnOk result (self.new ≡ finmap.remove self.old name) }
         ensures reply { IfOk result (λ r. r ≡ Reply.Done) }

@@ -8,3 +8,5 @@ mod locks;
 mod plain;
 #[cfg(test)]
 mod txns;
+#[cfg(test)]
+mod undo;

@@ -8,27 +8,27 @@ use std::test::Fail;
 
 const HIGHEST: &[u8] = b"\xff\xff\xff\xff\xff\xff\xff\xff";
 
-const ONE: &[u8] = b"\x01\0\0\0\0\0\0\0";
+pub(crate) const ONE: &[u8] = b"\x01\0\0\0\0\0\0\0";
 
 // The most bytes of a blob.
 const MOST: u64 = 16_384_000;
 
 /// What an operation came to.
 #[derive(Clone, Copy, Debug, PartialEq, Eq)]
-enum Came {
+pub(crate) enum Came {
     Reply(Reply),
     Reason(Reason),
     Memory,
 }
 
-const DONE: Came = Came::Reply(Reply::Done);
+pub(crate) const DONE: Came = Came::Reply(Reply::Done);
 
 // The front of a buffer into which nothing was put.
-const NONE: [u8; 8] = [0; 8];
+pub(crate) const NONE: [u8; 8] = [0; 8];
 
 // What is to be done to an object, without its name.
 #[derive(Clone, Copy)]
-enum Says {
+pub(crate) enum Says {
     MakeArray(u64),
     MakeTable,
     MakeBlob,
@@ -51,7 +51,7 @@ enum Says {
 // One operation, what it comes to, and the first bytes of the buffer after it.
 type Row = (Says, Came, [u8; 8]);
 
-fn named(name: Name, says: Says) -> Op<'static> {
+pub(crate) fn named(name: Name, says: Says) -> Op<'static> {
     match says {
         MakeArray(size) => Op::MakeArray { name, size },
         MakeTable => Op::MakeTable { name },

@@ -1,4 +1,4 @@
-use Rattle.std.proofs.Common.{◌≡◌, ℕ, ◌+◌, ◌<◌, length, get_or, take, sym, ap, ◌∙◌, subst, arith}
+use Rattle.std.proofs.Common.{◌≡◌, ℕ, ◌<◌, length, get_or, take, sym, ap, ◌∙◌, subst, arith}
 use Rattle.std.specs.List.{sum_by}
 use Rattle.std.proofs.lemmas.List.Elements.{All-more, All-map, All-same}
 use Rattle.std.proofs.lemmas.List.Sums.{sum_by_more}
@@ -17,9 +17,11 @@ loop-undo-preserved c =
     let is : u ≡ get_or c.args.undos.now c.loop-undo.undo-index u = c.undo-item.is in
     let below : c.loop-undo.undo-index < length c.args.undos.now = omega arith in
     let more = sum_by_more back c.args.undos.now c.loop-undo.undo-index u below in
-    let same = ap back is in
-    (omega (arith, c.in_ok-back.ensures.few), omega (arith, more, same, c.in_ok-back.ensures.count),
-    All-more P c.args.undos.now c.loop-undo.undo-index u below c.loop-undo.invariant.2 (subst P is c.in_ok-back.ensures.kind))
+    let same = ap back is in (
+      omega (arith, c.in_ok-back.ensures.few),
+      omega (arith, more, same, c.in_ok-back.ensures.count),
+      All-more P c.args.undos.now c.loop-undo.undo-index u below c.loop-undo.invariant.2 (subst P is c.in_ok-back.ensures.kind),
+    )
 
 pub returns-clause-kind : goal.returns-clause-kind
 returns-clause-kind c =

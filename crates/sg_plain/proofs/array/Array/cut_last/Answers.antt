@@ -1,7 +1,4 @@
-use Rattle.std.proofs.Common.{◌≡◌, ◌-◌, ◌*◌, suc, length, take, sym, ap, ◌∙◌, arith}
-use Rattle.std.specs.Simd.{first_chunks}
-use Rattle.sg_model.specs.Objects.{Row}
-use Rattle.sg_model.specs.Step.{pop}
+use Rattle.std.proofs.Common.{ap}
 use Rattle.sg_plain.specs.Rooms.{HeldRow}
 use Rattle.sg_plain.proofs.Ready.{cut_row}
 use Rattle.sg_plain.proofs.array.Array.cut_last.Goals as goal

@@ -1,4 +1,4 @@
-use Rattle.std.proofs.Common.{◌≡◌, ap, rules}
+use Rattle.std.proofs.Common.{ap}
 use Rattle.sg_plain.specs.Rooms.{HeldRow}
 use Rattle.sg_plain.proofs.Chunks.{row_pushed}
 use Rattle.sg_plain.proofs.array.Array.put_back.Goals as goal

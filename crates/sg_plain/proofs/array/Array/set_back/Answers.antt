@@ -1,4 +1,4 @@
-use Rattle.std.proofs.Common.{◌≡◌, ◌≤◌, List, ℕ, length, sym, ap, ◌∙◌, arith}
+use Rattle.std.proofs.Common.{◌≡◌, ◌≤◌, length, ap, arith}
 use Rattle.std.specs.Simd.{first_chunks}
 use Rattle.sg_plain.specs.Rooms.{HeldRow}
 use Rattle.sg_plain.proofs.Chunks.{length_chunks}

@@ -9,9 +9,10 @@ undo-requires c =
     record { kind = next.kind; fits = next.fits; few = next.few }
 
 pub loop-note-preserved : goal.loop-note-preserved
-loop-note-preserved c =
-    (row_rest c.loop-note.undos.items c.pop.new.self.items c.in-Some.note c.loop-note.self c.undo.new.self c.in-Some.ensures.items c.loop-note.invariant.0 c.undo.ensures.after c.undo.ensures.room,
-    undone_last c.loop-note.undos.items c.pop.new.self.items c.in-Some.note (Some (as_object c.loop-note.self.row)) (Some (as_object c.undo.new.self.row)) c.in-Some.ensures.items c.undo.ensures.after ∙ c.loop-note.invariant.1)
+loop-note-preserved c = (
+  row_rest c.loop-note.undos.items c.pop.new.self.items c.in-Some.note c.loop-note.self c.undo.new.self c.in-Some.ensures.items c.loop-note.invariant.0 c.undo.ensures.after c.undo.ensures.room,
+  undone_last c.loop-note.undos.items c.pop.new.self.items c.in-Some.note (Some (as_object c.loop-note.self.row)) (Some (as_object c.undo.new.self.row)) c.in-Some.ensures.items c.undo.ensures.after ∙ c.loop-note.invariant.1,
+)
 
 pub returns : goal.returns
 returns c =

@@ -8,9 +8,10 @@ undo-requires c =
     bytes_next c.loop-note.undos.items c.pop.new.self.items c.in-Some.note c.loop-note.self.room c.in-Some.ensures.items c.loop-note.invariant.0
 
 pub loop-note-preserved : goal.loop-note-preserved
-loop-note-preserved c =
-    (bytes_rest c.loop-note.undos.items c.pop.new.self.items c.in-Some.note c.loop-note.self.room c.undo.new.self.room c.in-Some.ensures.items c.loop-note.invariant.0 c.undo.ensures.room,
-    undone_last c.loop-note.undos.items c.pop.new.self.items c.in-Some.note (Some (as_object c.loop-note.self.bytes)) (Some (as_object c.undo.new.self.bytes)) c.in-Some.ensures.items c.undo.ensures.after ∙ c.loop-note.invariant.1)
+loop-note-preserved c = (
+  bytes_rest c.loop-note.undos.items c.pop.new.self.items c.in-Some.note c.loop-note.self.room c.undo.new.self.room c.in-Some.ensures.items c.loop-note.invariant.0 c.undo.ensures.room,
+  undone_last c.loop-note.undos.items c.pop.new.self.items c.in-Some.note (Some (as_object c.loop-note.self.bytes)) (Some (as_object c.undo.new.self.bytes)) c.in-Some.ensures.items c.undo.ensures.after ∙ c.loop-note.invariant.1,
+)
 
 pub returns : goal.returns
 returns c =

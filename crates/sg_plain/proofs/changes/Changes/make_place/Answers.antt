@@ -1,7 +1,5 @@
-use Rattle.std.proofs.Common.{◌≡◌, List, false, None, is_some, refl, sym, ap, ◌∙◌}
-use Rattle.sg_plain.specs.declared.changes.Changes as code_changes
+use Rattle.std.proofs.Common.{◌≡◌, List, None, sym, ap, ◌∙◌}
 use Rattle.sg_plain.specs.declared.undo.Undo as code_undo
-use Rattle.sg_plain.specs.declared.undo.Past as code_past
 use Rattle.sg_plain.specs.declared.undo.Past.TheVariants as pasts
 use Rattle.sg_plain.specs.Undone.{undo_listed}
 use Rattle.sg_plain.proofs.Found.{none_of}

@@ -1,4 +1,4 @@
-use Rattle.std.proofs.Common.{◌≡◌, Option, Some, ap, ◌∙◌}
+use Rattle.std.proofs.Common.{Option, Some, ap, ◌∙◌}
 use Rattle.sg_model.specs.Objects.{Object}
 use Rattle.sg_model.specs.Verb.Verb.{Discard}
 use Rattle.sg_model.specs.Undo.{undo_on, note_object}

@@ -1,4 +1,4 @@
-use Rattle.std.proofs.Common.{◌≡◌, List, ℕ, Option, ap, ◌∙◌}
+use Rattle.std.proofs.Common.{List, ℕ, Option, ap, ◌∙◌}
 use Rattle.sg_model.specs.Objects.{Object}
 use Rattle.sg_model.specs.Undo.{undo_on}
 use Rattle.sg_plain.specs.Undone.{undo_in, shown_undo_of}

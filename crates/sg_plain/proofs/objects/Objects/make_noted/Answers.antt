@@ -1,4 +1,4 @@
-use Rattle.std.proofs.Common.{◌≡◌, List, ℕ, Option, sym, ap, ◌∙◌}
+use Rattle.std.proofs.Common.{List, ℕ, Option, sym, ap, ◌∙◌}
 use Rattle.std.specs.FinMap.{get}
 use Rattle.sg_ops.specs.Table.{table_of}
 use Rattle.sg_model.specs.Objects.{Object}

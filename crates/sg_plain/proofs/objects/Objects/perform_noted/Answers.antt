@@ -1,7 +1,6 @@
 use Rattle.std.proofs.Common.{◌≡◌, ap}
 use Rattle.std.specs.FinMap.{get}
 use Rattle.sg_ops.specs.Table.{table_of}
-use Rattle.sg_model.specs.Verb.{Op}
 use Rattle.sg_model.specs.Verb.Op.{On}
 use Rattle.sg_model.specs.Verb.Verb.{Discard}
 use Rattle.sg_model.specs.SaidOps.{said_op}
