@@ -1,8 +1,9 @@
 -- The first place at which an element passes, and what is held once a touch has been added there.
-use Rattle.std.proofs.Common.{◌≡◌, ℕ, zero, suc, ◌+◌, ◌<◌, ◌≤◌, Bool, true, false, cond, not, List, [], ◌∷◌, ◌++◌, map, length, take, get_or, set, Option, Some, None, refl, sym, ap, ◌∙◌, subst, arith, add-one}
-use Rattle.std.specs.Prelude.{◌||◌}
+use Rattle.std.proofs.Common.{◌≡◌, ℕ, zero, suc, ◌+◌, ◌<◌, ◌≤◌, Bool, true, false, cond, not, List, [], ◌∷◌, ◌++◌, map, length, take, drop, get_or, set, Option, Some, None, refl, sym, ap, ◌∙◌, subst, arith, add-one}
+use Rattle.std.specs.Prelude.{◌||◌, ◌&&◌}
 use Rattle.std.specs.Option.{option_map, option_or, is_some}
-use Rattle.std.specs.List.{list_any, filter}
+use Rattle.std.specs.List.{list_any, list_all, filter}
+use Rattle.sg_serial.proofs.Kept.{and_true}
 use Rattle.sg_serial.specs.Locks.{Touch, Hold, hold_one, is_pair}
 use Rattle.sg_model.specs.Touches.{Resource, same_resource}
 use Rattle.sg_locks.specs.Places.{first_place, joined}
@@ -29,6 +30,15 @@ place_within p (x ∷ xs) i e = go (p x) (first_place p xs) e (place_within p xs
 pub none_found : (r : Option ℕ) → option_or r None ≡ r
 none_found None = refl
 none_found (Some n) = refl
+
+-- where all pass none is left
+none_left : {A : Type 0} (p : A → Bool) (xs : List A) → list_all p xs ≡ true → [] ≡ filter (λ x. not (p x)) xs
+none_left p [] h = refl
+none_left p (x ∷ xs) h = go (p x) h (none_left p xs)
+  where
+    go : (b : Bool) → (b && list_all p xs) ≡ true → (list_all p xs ≡ true → [] ≡ filter (λ x. not (p x)) xs) → [] ≡ cond (not b) (x ∷ filter (λ x. not (p x)) xs) (filter (λ x. not (p x)) xs)
+    go true h rest = rest h
+    go false h rest = absurd (cc)
 
 module _ {A B : Type 0} (f : B → A) (p : A → Bool) where
   -- one more element at the end of a front
@@ -93,6 +103,22 @@ module _ {A B : Type 0} (f : B → A) (p : A → Bool) where
       go false (Some m) e rest =
           let q : suc m ≡ n = cc in let h = rest m refl in let l = h.0 in
           (omega arith, subst (λ (k : ℕ). take k (x ∷ filter (λ x. not (p (f x))) xs) ≡ take k (x ∷ xs)) q (ap (λ ys. x ∷ ys) h.1))
+
+  -- where all pass from the first on, what stands before it is left
+  pub front_left : (xs : List B) (n : ℕ) → first_place p (map f xs) ≡ Some n → list_all p (map f (drop n xs)) ≡ true → map f (take n xs) ≡ filter (λ y. not (p y)) (map f xs)
+  front_left [] n e all = absurd (cc)
+  front_left (x ∷ xs) n e all = go (p (f x)) (first_place p (map f xs)) e (front_left xs)
+    where
+      go : (b : Bool) (r : Option ℕ) → cond b (Some 0) (option_map suc r) ≡ Some n
+          → ((m : ℕ) → r ≡ Some m → list_all p (map f (drop m xs)) ≡ true → map f (take m xs) ≡ filter (λ y. not (p y)) (map f xs))
+          → map f (take n (x ∷ xs)) ≡ cond (not b) (f x ∷ filter (λ y. not (p y)) (map f xs)) (filter (λ y. not (p y)) (map f xs))
+      go true r e rest =
+          let q : 0 ≡ n = cc in
+          subst (λ (k : ℕ). list_all p (map f (drop k (x ∷ xs))) ≡ true → map f (take k (x ∷ xs)) ≡ filter (λ y. not (p y)) (map f xs)) q (λ h. none_left p (map f xs) (and_true (p (f x)) (list_all p (map f xs)) h).1) all
+      go false None e rest = absurd (cc)
+      go false (Some m) e rest =
+          let q : suc m ≡ n = cc in
+          subst (λ (k : ℕ). list_all p (map f (drop k (x ∷ xs))) ≡ true → map f (take k (x ∷ xs)) ≡ f x ∷ filter (λ y. not (p y)) (map f xs)) q (λ h. ap (λ ys. f x ∷ ys) (rest m refl h)) all
 
 -- where none passes nothing is left out
 pub all_kept : {A : Type 0} (p : A → Bool) (xs : List A) → first_place p xs ≡ None → filter (λ x. not (p x)) xs ≡ xs

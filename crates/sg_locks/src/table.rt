@@ -1,5 +1,5 @@
-ghost use Rattle.std.specs.Prelude.{◌≡◌, ◌+◌, ◌<◌, ◌≤◌, ◌==◌, ℕ, [], ◌∷◌, ◌++◌, length, map, take, slice_index_or, IfOk, IfNone, IfSome, Option, Some, None, true, not, ◌||◌, ◌&&◌, cond, vec_capacity};
-ghost use Rattle.std.specs.List.{list_any};
+ghost use Rattle.std.specs.Prelude.{◌≡◌, ◌+◌, ◌<◌, ◌≤◌, ◌==◌, ℕ, [], ◌∷◌, ◌++◌, length, map, take, drop, slice_index_or, IfOk, IfNone, IfSome, Option, Some, None, true, not, ◌||◌, ◌&&◌, cond, vec_capacity};
+ghost use Rattle.std.specs.List.{list_any, list_all};
 ghost use Rattle.sg_serial.specs.Locks.{first_holder, lesser, hold_one, hold_all, released, is_pair};
 ghost use Rattle.sg_model.specs.Touches.{same_resource, conflict};
 ghost use Rattle.sg_model.specs.Resources.{shown_resource, shown_touch};
@@ -163,6 +163,18 @@ fn first_hold(holds: &[Hold], t: TxnId) -> Option<usize>
         }
     }
     None
+}
+
+// Whether all holds from the first place on are the transaction's.
+fn are_its(t: TxnId, holds: &[Hold], first: usize) -> bool
+    ensures { result ≡ list_all (λ h. h.transaction == t.0) (map shown_hold (drop first holds.now)) }
+{
+    for i in first..holds.len() {
+        if holds[i].transaction != t {
+            return false;
+        }
+    }
+    true
 }
 
 // A hold of a resource with these buckets goes to the end of its chains.
@@ -491,6 +503,10 @@ impl Table {
         };
         self.by_resource.truncate(first);
         self.by_name.truncate(first);
+        if are_its(t, self.holds.as_slice(), first) {
+            self.holds.truncate(first);
+            return;
+        }
         self.holds.retain(|hold| hold.transaction != t);
         link_from(
             finder,

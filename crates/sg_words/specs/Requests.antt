@@ -1,5 +1,5 @@
 -- What a line of a script asks for, with every verb.
-use Rattle.std.specs.Prelude.{ℕ, ◌==◌, nat_lt, if◌then◌else◌, List, [], ◌∷◌, length, Option, Some, None, codes, slice_index}
+use Rattle.std.specs.Prelude.{ℕ, Bool, ◌||◌, ◌==◌, nat_lt, if◌then◌else◌, List, [], ◌∷◌, length, Option, Some, None, codes, slice_index}
 use Rattle.std.specs.Str.{bytes_eq}
 use Rattle.std.specs.Str.Lines.{strip_carriage_return}
 use Rattle.sg_base.specs.Spelling.{is_name}
@@ -146,6 +146,12 @@ plain_request word args =
     else (if bytes_eq word (codes "keys") then keys_of args
     else (if bytes_eq word (codes "list") then alone (Do Names) args
     else None)))))))))))
+
+-- the verbs with a value among their words
+abbrev pub takes_value : List ℕ → Bool
+takes_value word =
+    bytes_eq word (codes "push") || bytes_eq word (codes "set") || bytes_eq word (codes "apply") || bytes_eq word (codes "put")
+    || bytes_eq word (codes "del") || bytes_eq word (codes "find") || bytes_eq word (codes "write") || bytes_eq word (codes "paint")
 
 abbrev pub either : Option Request → Option Request → Option Request
 either None other = other

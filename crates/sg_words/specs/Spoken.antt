@@ -1,8 +1,14 @@
 -- The words of a line that a log keeps.
-use Rattle.std.specs.Prelude.{ℕ, List, [], ◌∷◌}
+use Rattle.std.specs.Prelude.{ℕ, Bool, false, ◌==◌, ◌&&◌, ◌||◌, List, [], ◌∷◌}
 use Rattle.std.specs.List.{join_with_byte}
 use Rattle.std.specs.Str.Lines.{strip_carriage_return}
 use Rattle.sg_words.specs.Parse.{words_of}
+
+-- two spaces stand side by side
+abbrev pub has_gap : List ℕ → Bool
+has_gap [] = false
+has_gap (b ∷ []) = false
+has_gap (b ∷ c ∷ more) = ((b == 32) && (c == 32)) || has_gap (c ∷ more)
 
 -- the words but for the first
 abbrev pub later_words : List (List ℕ) → List (List ℕ)

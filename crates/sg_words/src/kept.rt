@@ -1,27 +1,32 @@
-ghost use Rattle.std.specs.Prelude.{◌≡◌, ◌≤◌, length, take, true};
+ghost use Rattle.std.specs.Prelude.{◌≡◌, ◌≤◌, length, take, true, not};
 ghost use Rattle.std.specs.List.{join_with_byte};
 ghost use Rattle.sg_words.specs.Parse.{words_of};
-ghost use Rattle.sg_words.specs.Spoken.{spoken};
+ghost use Rattle.sg_words.specs.Spoken.{has_gap, spoken};
 
 use crate::buffer::append;
-use crate::split::{cut, next_word, without_return};
+use crate::split::{next_word, without_return};
+
+// Whether no two spaces stand side by side. It looks at all bytes, so that several can be looked at at
+// once.
+fn has_no_gap(text: &[u8]) -> bool
+    ensures { result ≡ not (has_gap text.now) }
+{
+    let mut no_gap = true;
+    for i in 1..text.len() {
+        no_gap &= (text[i - 1] != b' ') | (text[i] != b' ');
+    }
+    no_gap
+}
 
 // Whether the words stand joined: with one space between each two, and none before the first or behind
 // the last.
 fn are_joined(text: &[u8]) -> bool
     ensures { result ≡ true → join_with_byte 32 (words_of text.now) ≡ text.now }
 {
-    let mut rest = text;
-    'words: loop {
-        let (word, more) = cut(rest, b' ');
-        if word.is_empty() {
-            return false;
-        }
-        let Some(after) = more else {
-            return true;
-        };
-        rest = after;
+    if text.is_empty() || text[0] == b' ' || text[text.len() - 1] == b' ' {
+        return false;
     }
+    has_no_gap(text)
 }
 
 // Puts words with one space between each two at the front of a buffer.

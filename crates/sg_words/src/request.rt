@@ -2,11 +2,12 @@ ghost use Rattle.std.specs.Prelude.{◌≡◌, ◌≤◌, length};
 ghost use Rattle.sg_model.specs.Verb.Op.{Names};
 ghost use Rattle.sg_words.specs.Parse.{words_of};
 ghost use Rattle.sg_words.specs.Requested.{shown_option, shown_asked};
-ghost use Rattle.sg_words.specs.Requests.{make_array_of, make_table_of, make_blob_of, discard_of, pop_of, get_of, len_of, read_of, size_of, push_of, set_of, apply_of, put_of, del_of, find_of, write_of, paint_of, keys_of, make_of, alone, plain_request, valued_request, either, asked_by, request_of, asked};
+ghost use Rattle.sg_words.specs.Requests.{make_array_of, make_table_of, make_blob_of, discard_of, pop_of, get_of, len_of, read_of, size_of, push_of, set_of, apply_of, put_of, del_of, find_of, write_of, paint_of, keys_of, make_of, alone, plain_request, valued_request, takes_value, either, asked_by, request_of, asked};
 ghost use Rattle.sg_words.specs.Requests.Request.{Begin, Commit, Abort, Do};
 
+use crate::counted::{five_words, four_words, three_words, two_words};
 use crate::number::parse_number;
-use crate::split::{next_word, without_return};
+use crate::split::{next_word, one_word, without_return};
 use crate::transaction::transaction;
 use crate::value;
 use sg_base::Name;
@@ -43,156 +44,121 @@ pub enum Asked<'a> {
     Of { name: Name, request: Request<'a> },
 }
 
+#[tactic(auto, using(crate::proofs::Counts::make_array_none))]
 fn make_array(rest: &[u8]) -> Option<Request<'_>>
     ensures { shown_option result ≡ make_array_of (words_of rest.now) }
 {
-    let (name, rest) = next_word(rest)?;
-    let (size, rest) = next_word(rest)?;
-    if next_word(rest).is_some() {
-        return None;
-    }
+    let (name, size) = two_words(rest)?;
     let size = parse_number(size)?;
     let name = Name::new(name)?;
     Some(Request::Do(Op::MakeArray { name, size }))
 }
 
+#[tactic(auto, using(crate::proofs::Counts::make_table_none))]
 fn make_table(rest: &[u8]) -> Option<Request<'_>>
     ensures { shown_option result ≡ make_table_of (words_of rest.now) }
 {
-    let (name, rest) = next_word(rest)?;
-    if next_word(rest).is_some() {
-        return None;
-    }
+    let name = one_word(rest)?;
     let name = Name::new(name)?;
     Some(Request::Do(Op::MakeTable { name }))
 }
 
+#[tactic(auto, using(crate::proofs::Counts::make_blob_none))]
 fn make_blob(rest: &[u8]) -> Option<Request<'_>>
     ensures { shown_option result ≡ make_blob_of (words_of rest.now) }
 {
-    let (name, rest) = next_word(rest)?;
-    if next_word(rest).is_some() {
-        return None;
-    }
+    let name = one_word(rest)?;
     let name = Name::new(name)?;
     Some(Request::Do(Op::MakeBlob { name }))
 }
 
+#[tactic(auto, using(crate::proofs::Counts::discard_none))]
 fn discard(rest: &[u8]) -> Option<Request<'_>>
     ensures { shown_option result ≡ discard_of (words_of rest.now) }
 {
-    let (name, rest) = next_word(rest)?;
-    if next_word(rest).is_some() {
-        return None;
-    }
+    let name = one_word(rest)?;
     let name = Name::new(name)?;
     Some(Request::Do(Op::Discard { name }))
 }
 
+#[tactic(auto, using(crate::proofs::Counts::pop_none))]
 fn pop(rest: &[u8]) -> Option<Request<'_>>
     ensures { shown_option result ≡ pop_of (words_of rest.now) }
 {
-    let (name, rest) = next_word(rest)?;
-    if next_word(rest).is_some() {
-        return None;
-    }
+    let name = one_word(rest)?;
     let name = Name::new(name)?;
     Some(Request::Do(Op::Pop { name }))
 }
 
+#[tactic(auto, using(crate::proofs::Counts::get_none))]
 fn get(rest: &[u8]) -> Option<Request<'_>>
     ensures { shown_option result ≡ get_of (words_of rest.now) }
 {
-    let (name, rest) = next_word(rest)?;
-    let (index, rest) = next_word(rest)?;
-    if next_word(rest).is_some() {
-        return None;
-    }
+    let (name, index) = two_words(rest)?;
     let index = parse_number(index)?;
     let name = Name::new(name)?;
     Some(Request::Do(Op::Get { name, index }))
 }
 
+#[tactic(auto, using(crate::proofs::Counts::len_none))]
 fn len(rest: &[u8]) -> Option<Request<'_>>
     ensures { shown_option result ≡ len_of (words_of rest.now) }
 {
-    let (name, rest) = next_word(rest)?;
-    if next_word(rest).is_some() {
-        return None;
-    }
+    let name = one_word(rest)?;
     let name = Name::new(name)?;
     Some(Request::Do(Op::Len { name }))
 }
 
+#[tactic(auto, using(crate::proofs::Counts::read_none))]
 fn read(rest: &[u8]) -> Option<Request<'_>>
     ensures { shown_option result ≡ read_of (words_of rest.now) }
 {
-    let (name, rest) = next_word(rest)?;
-    let (at, rest) = next_word(rest)?;
-    let (count, rest) = next_word(rest)?;
-    if next_word(rest).is_some() {
-        return None;
-    }
+    let (name, at, count) = three_words(rest)?;
     let at = parse_number(at)?;
     let count = parse_number(count)?;
     let name = Name::new(name)?;
     Some(Request::Do(Op::Read { name, at, count }))
 }
 
+#[tactic(auto, using(crate::proofs::Counts::size_none))]
 fn size(rest: &[u8]) -> Option<Request<'_>>
     ensures { shown_option result ≡ size_of (words_of rest.now) }
 {
-    let (name, rest) = next_word(rest)?;
-    let (length, rest) = next_word(rest)?;
-    if next_word(rest).is_some() {
-        return None;
-    }
+    let (name, length) = two_words(rest)?;
     let length = parse_number(length)?;
     let name = Name::new(name)?;
     Some(Request::Do(Op::Size { name, length }))
 }
 
+#[tactic(auto, using(crate::proofs::Counts::push_none))]
 fn push<'a>(rest: &'a [u8], scratch: &'a mut [u8]) -> Option<Request<'a>>
     requires { length rest.now ≤ length scratch.old }
     ensures { shown_option result ≡ push_of (words_of rest.now) }
 {
-    let (name, rest) = next_word(rest)?;
-    let (value, rest) = next_word(rest)?;
-    if next_word(rest).is_some() {
-        return None;
-    }
+    let (name, value) = two_words(rest)?;
     let value = value::value(value, scratch)?;
     let name = Name::new(name)?;
     Some(Request::Do(Op::Push { name, value }))
 }
 
+#[tactic(auto, using(crate::proofs::Counts::set_none))]
 fn set<'a>(rest: &'a [u8], scratch: &'a mut [u8]) -> Option<Request<'a>>
     requires { length rest.now ≤ length scratch.old }
     ensures { shown_option result ≡ set_of (words_of rest.now) }
 {
-    let (name, rest) = next_word(rest)?;
-    let (index, rest) = next_word(rest)?;
-    let (value, rest) = next_word(rest)?;
-    if next_word(rest).is_some() {
-        return None;
-    }
+    let (name, index, value) = three_words(rest)?;
     let index = parse_number(index)?;
     let value = value::value(value, scratch)?;
     let name = Name::new(name)?;
     Some(Request::Do(Op::Set { name, index, value }))
 }
 
+#[tactic(auto, using(crate::proofs::Counts::apply_none))]
 fn apply<'a>(rest: &'a [u8], scratch: &'a mut [u8]) -> Option<Request<'a>>
     requires { length rest.now ≤ length scratch.old }
     ensures { shown_option result ≡ apply_of (words_of rest.now) }
 {
-    let (name, rest) = next_word(rest)?;
-    let (index, rest) = next_word(rest)?;
-    let (code, rest) = next_word(rest)?;
-    let (arg, rest) = next_word(rest)?;
-    if next_word(rest).is_some() {
-        return None;
-    }
+    let (name, index, code, arg) = four_words(rest)?;
     let index = parse_number(index)?;
     let code = parse_number(code)?;
     let arg = value::value(arg, scratch)?;
@@ -205,16 +171,12 @@ fn apply<'a>(rest: &'a [u8], scratch: &'a mut [u8]) -> Option<Request<'a>>
     }))
 }
 
+#[tactic(auto, using(crate::proofs::Counts::put_none))]
 fn put<'a>(rest: &'a [u8], scratch: &'a mut [u8]) -> Option<Request<'a>>
     requires { length rest.now ≤ length scratch.old }
     ensures { shown_option result ≡ put_of (words_of rest.now) }
 {
-    let (name, rest) = next_word(rest)?;
-    let (key, rest) = next_word(rest)?;
-    let (value, rest) = next_word(rest)?;
-    if next_word(rest).is_some() {
-        return None;
-    }
+    let (name, key, value) = three_words(rest)?;
     let (first, second) = scratch.split_at_mut(key.len());
     let key = value::value(key, first)?;
     let value = value::value(value, second)?;
@@ -222,62 +184,46 @@ fn put<'a>(rest: &'a [u8], scratch: &'a mut [u8]) -> Option<Request<'a>>
     Some(Request::Do(Op::Put { name, key, value }))
 }
 
+#[tactic(auto, using(crate::proofs::Counts::del_none))]
 fn del<'a>(rest: &'a [u8], scratch: &'a mut [u8]) -> Option<Request<'a>>
     requires { length rest.now ≤ length scratch.old }
     ensures { shown_option result ≡ del_of (words_of rest.now) }
 {
-    let (name, rest) = next_word(rest)?;
-    let (key, rest) = next_word(rest)?;
-    if next_word(rest).is_some() {
-        return None;
-    }
+    let (name, key) = two_words(rest)?;
     let key = value::value(key, scratch)?;
     let name = Name::new(name)?;
     Some(Request::Do(Op::Del { name, key }))
 }
 
+#[tactic(auto, using(crate::proofs::Counts::find_none))]
 fn find<'a>(rest: &'a [u8], scratch: &'a mut [u8]) -> Option<Request<'a>>
     requires { length rest.now ≤ length scratch.old }
     ensures { shown_option result ≡ find_of (words_of rest.now) }
 {
-    let (name, rest) = next_word(rest)?;
-    let (key, rest) = next_word(rest)?;
-    if next_word(rest).is_some() {
-        return None;
-    }
+    let (name, key) = two_words(rest)?;
     let key = value::value(key, scratch)?;
     let name = Name::new(name)?;
     Some(Request::Do(Op::Find { name, key }))
 }
 
+#[tactic(auto, using(crate::proofs::Counts::write_none))]
 fn write<'a>(rest: &'a [u8], scratch: &'a mut [u8]) -> Option<Request<'a>>
     requires { length rest.now ≤ length scratch.old }
     ensures { shown_option result ≡ write_of (words_of rest.now) }
 {
-    let (name, rest) = next_word(rest)?;
-    let (at, rest) = next_word(rest)?;
-    let (bytes, rest) = next_word(rest)?;
-    if next_word(rest).is_some() {
-        return None;
-    }
+    let (name, at, bytes) = three_words(rest)?;
     let at = parse_number(at)?;
     let bytes = value::value(bytes, scratch)?;
     let name = Name::new(name)?;
     Some(Request::Do(Op::Write { name, at, bytes }))
 }
 
+#[tactic(auto, using(crate::proofs::Counts::paint_none))]
 fn paint<'a>(rest: &'a [u8], scratch: &'a mut [u8]) -> Option<Request<'a>>
     requires { length rest.now ≤ length scratch.old }
     ensures { shown_option result ≡ paint_of (words_of rest.now) }
 {
-    let (name, rest) = next_word(rest)?;
-    let (at, rest) = next_word(rest)?;
-    let (count, rest) = next_word(rest)?;
-    let (code, rest) = next_word(rest)?;
-    let (arg, rest) = next_word(rest)?;
-    if next_word(rest).is_some() {
-        return None;
-    }
+    let (name, at, count, code, arg) = five_words(rest)?;
     let at = parse_number(at)?;
     let count = parse_number(count)?;
     let code = parse_number(code)?;
@@ -292,13 +238,11 @@ fn paint<'a>(rest: &'a [u8], scratch: &'a mut [u8]) -> Option<Request<'a>>
     }))
 }
 
+#[tactic(auto, using(crate::proofs::Counts::keys_none))]
 fn keys(rest: &[u8]) -> Option<Request<'_>>
     ensures { shown_option result ≡ keys_of (words_of rest.now) }
 {
-    let (name, rest) = next_word(rest)?;
-    if next_word(rest).is_some() {
-        return None;
-    }
+    let name = one_word(rest)?;
     let name = Name::new(name)?;
     Some(Request::Keys(name))
 }
@@ -415,14 +359,30 @@ fn plain_request<'a>(word: &[u8], rest: &'a [u8]) -> Option<Request<'a>>
     }
 }
 
+// Whether a verb has a value among its words.
+fn takes_value(word: &[u8]) -> bool
+    ensures { result ≡ takes_value word.now }
+{
+    word == b"push".as_slice()
+        || word == b"set".as_slice()
+        || word == b"apply".as_slice()
+        || word == b"put".as_slice()
+        || word == b"del".as_slice()
+        || word == b"find".as_slice()
+        || word == b"write".as_slice()
+        || word == b"paint".as_slice()
+}
+
 // What a verb and the words after it ask for.
+#[tactic(auto, using(crate::proofs::Verbs::by_value, crate::proofs::Verbs::by_none))]
 fn read_request<'a>(word: &[u8], rest: &'a [u8], scratch: &'a mut [u8]) -> Option<Request<'a>>
     requires { length rest.now ≤ length scratch.old }
     ensures { shown_option result ≡ either (plain_request word.now (words_of rest.now)) (valued_request word.now (words_of rest.now)) }
 {
-    match plain_request(word, rest) {
-        Some(request) => Some(request),
-        None => valued_request(word, rest, scratch),
+    if takes_value(word) {
+        valued_request(word, rest, scratch)
+    } else {
+        plain_request(word, rest)
     }
 }
 

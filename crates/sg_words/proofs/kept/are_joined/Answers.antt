@@ -1,10 +1,11 @@
-use Rattle.std.proofs.Common.{◌≡◌, ◌<◌, length, [], ◌∷◌, refl, arith}
+use Rattle.std.proofs.Common.{◌<◌, length, sym, ◌∙◌, arith}
+use Rattle.std.proofs.lemmas.Bool.{ne_eqb, not-true}
 use Rattle.std.proofs.lemmas.Bool.Decides.{nat_tests}
-use Rattle.sg_words.proofs.Joined.{parts_of, words_more, joined}
+use Rattle.sg_words.specs.Spoken.{has_gap}
+use Rattle.sg_words.proofs.Joined.{joined}
 use Rattle.sg_words.proofs.kept.are_joined.Goals as goal
 
-pub returns-in_default : goal.returns-in_default
-returns-in_default c =
-    let some : 0 < length c.cut.result.0.now = grind (arith, nat_tests) in
-    let last : parts_of c.words.rest.now ≡ c.cut.result.0.now ∷ [] = rw c.in_default.is at c.cut.ensures.last in
-    λ _. joined c.args.text.now (c.words.invariant (words_more (parts_of c.words.rest.now) c.cut.result.0.now [] some last refl))
+pub returns : goal.returns
+returns c =
+    let some : 0 < length c.args.text.now = grind (arith, nat_tests) in
+    λ h. joined c.args.text.now 0 0 some (ne_eqb _ 32 c.if-text-eq32.false) (ne_eqb _ 32 c.if-text-eq32-2.false) (not-true (has_gap c.args.text.now) (sym c.has_no_gap.ensures ∙ h))
