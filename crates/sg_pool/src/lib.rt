@@ -21,6 +21,8 @@ mod least;
 mod making;
 mod order;
 mod pool;
+mod redo;
+mod repeat;
 mod settle;
 mod shelf;
 mod slot;

@@ -44,7 +44,7 @@ window_done t text places own u memory window marks since lent size is long done
     (oldest ∙ ap (λ (ps : List Place). since_replayed (window_records t text ps) u.since) is)))
 
 -- the loans stay where they are
-lent_same : (t : Table) (text : List ℕ) (places : List Place) (u : code.Unit) → lent_at (replayed_unit t text places u) ≡ lent_at u
+pub lent_same : (t : Table) (text : List ℕ) (places : List Place) (u : code.Unit) → lent_at (replayed_unit t text places u) ≡ lent_at u
 unfolding replayed_unit
 lent_same t text places u = either (is_page u)
   where
