@@ -4,7 +4,8 @@ use Rattle.sg_base.specs.declared.page.TheConstants.{BAND_SIZE}
 use Rattle.sg_redo.specs.declared.place.Place.{Place}
 use Rattle.sg_redo.specs.History.{OnPage, repeated, since_repeated, rewritten, is_covered}
 use Rattle.sg_redo.specs.Window.{OnWindow, on_byte, since_replayed}
-use Rattle.sg_pool.specs.Units.{Geometry, Units, IsCleaned}
+use Rattle.sg_disk.specs.Disk.{Part}
+use Rattle.sg_pool.specs.Units.{Geometry, Units, IsBacked, IsCleaned}
 
 -- the number of the last of some records
 abbrev pub lsn_in : Option Place → ℕ
@@ -25,9 +26,9 @@ pub record IsPageRepeated (p : ℕ) (rs : List OnPage) (m m' : Units) : Type 0 w
   pub band_since : (b : ℕ) → m'.band_since b ≡ m.band_since b
   pub marked : (b i : ℕ) → m'.marked b i ≡ m.marked b i
 
--- units may have gone home, and then the records were repeated on page p
-abbrev pub IsCleanedThenPageRepeated : Geometry → (p : ℕ) → List OnPage → Units → Units → Type 0
-IsCleanedThenPageRepeated g p rs m m' = (mid : Units) × IsCleaned g m mid × IsPageRepeated p rs mid m'
+-- units may have gone home, where this home area has them, and then the records were repeated on page p
+abbrev pub IsCleanedThenPageRepeated : Geometry → Part → (p : ℕ) → List OnPage → Units → Units → Type 0
+IsCleanedThenPageRepeated g home p rs m m' = (mid : Units) × IsCleaned g m mid × IsBacked g home mid × IsPageRepeated p rs mid m'
 
 -- THE UNITS ONCE CHANGES ARE REPEATED ON BAND b: each byte is that of the last change that covers it, or as it was; exactly those that are
 -- covered are marked besides; and the first change is the band's oldest that isn't on the disk where there was none. Nothing else changes
@@ -41,6 +42,6 @@ pub record IsBandRepeated (b : ℕ) (ws : List OnWindow) (m m' : Units) : Type 0
   pub page : (n : ℕ) → m'.page n ≡ m.page n
   pub page_since : (n : ℕ) → m'.page_since n ≡ m.page_since n
 
--- units may have gone home, and then the changes were repeated on band b
-abbrev pub IsCleanedThenBandRepeated : Geometry → (b : ℕ) → List OnWindow → Units → Units → Type 0
-IsCleanedThenBandRepeated g b ws m m' = (mid : Units) × IsCleaned g m mid × IsBandRepeated b ws mid m'
+-- units may have gone home, where this home area has them, and then the changes were repeated on band b
+abbrev pub IsCleanedThenBandRepeated : Geometry → Part → (b : ℕ) → List OnWindow → Units → Units → Type 0
+IsCleanedThenBandRepeated g home b ws m m' = (mid : Units) × IsCleaned g m mid × IsBacked g home mid × IsBandRepeated b ws mid m'

@@ -53,7 +53,7 @@ impl Pool {
         ensures backed { IsTrue D.told → log.old.area ≢ Home → Backs (sizes self.old) (D.view disk.old) self.old →
             OnTold result (Backs (sizes self.old) (D.view disk.new) self.new) }
         ensures repeated { IsTrue D.told → log.old.area ≢ Home → Backs (sizes self.old) (D.view disk.old) self.old →
-            OnOk result (IsCleanedThenPageRepeated (sizes self.old) p.0 (page_records (table_of record_meaning range_meaning ops.now) text.now places.now) (contents (D.view disk.old) self.old) (contents (D.view disk.new) self.new)) }
+            OnOk result (IsCleanedThenPageRepeated (sizes self.old) ((D.view disk.new).now Home) p.0 (page_records (table_of record_meaning range_meaning ops.now) text.now places.now) (contents (D.view disk.old) self.old) (contents (D.view disk.new) self.new)) }
         ensures refused { IsTrue D.told → log.old.area ≢ Home → Backs (sizes self.old) (D.view disk.old) self.old →
             OnErr result (OnTold result (SameContents (D.view disk.old) self.old (D.view disk.new) self.new)) }
         ensures log_kept { (log.new ≡ log.old) ⊎ (log.new ≡ forced log.old) }
@@ -103,7 +103,7 @@ impl Pool {
         ensures backed { IsTrue D.told → log.old.area ≢ Home → Backs (sizes self.old) (D.view disk.old) self.old →
             OnOk result (Backs (sizes self.old) (D.view disk.new) self.new) }
         ensures repeated { IsTrue D.told → log.old.area ≢ Home → Backs (sizes self.old) (D.view disk.old) self.old →
-            OnOk result (IsCleanedThenBandRepeated (sizes self.old) b.0 (window_records (table_of record_meaning range_meaning ops.now) text.now places.now) (contents (D.view disk.old) self.old) (contents (D.view disk.new) self.new)) }
+            OnOk result (IsCleanedThenBandRepeated (sizes self.old) ((D.view disk.new).now Home) b.0 (window_records (table_of record_meaning range_meaning ops.now) text.now places.now) (contents (D.view disk.old) self.old) (contents (D.view disk.new) self.new)) }
         ensures last { OnOk result (last_of self.new b.0 ≡ last_lsn places.now) }
         ensures log_kept { (log.new ≡ log.old) ⊎ (log.new ≡ forced log.old) }
         ensures log { (ds ps : List Numbered) → IsTrue D.told → log.old.area ≢ Home → Holds (D.view disk.old) log.old ds ps → OnTold result (IsSameOrForced (D.view disk.new) log.old log.new ds ps) }

@@ -57,6 +57,7 @@ returns-clause-repeated g c told apart backed =
     let w = g.D.Disk.view c.hold_band.new.disk in (
       units (w.now Home).seen s,
       c.in_ok-w.ensures.same told apart backed,
+      c.in_ok-w.ensures.backed told apart backed,
       values_replayed (geometry_of s) s.slots.items s.wins t.wins c.in_ok-w.w c.args.b.0 _ lt held c.repeat_band.ensures.wins c.repeat_band.ensures.marks s.frames t.frames
     (ap (λ (h : Held). h.pages) is) (λ v differ. ap (λ (h : Held). get_or h.windows v []) is ∙ get_or-set_other s.frames.windows c.in_ok-w.w v _ [] differ)
     (window_records t' c.args.text.now c.args.places.now) refl c.repeat_band.ensures.marked c.repeat_band.ensures.beyond (s.shelf.here.windows c.in_ok-w.w low) c.repeat_band.ensures.lie

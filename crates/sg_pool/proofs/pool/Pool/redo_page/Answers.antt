@@ -50,6 +50,7 @@ returns-clause-repeated g c told apart backed =
     let lt = (frame_some c.args.p.0 s.slots.items c.in_ok-f.f held).0 in let many = s.shelf.many in (
       units (w.now Home).seen s,
       c.in_ok-f.ensures.same told apart backed,
+      c.in_ok-f.ensures.backed told apart backed,
       repeat_is c.args.p.0 (page_records t' c.args.text.now c.args.places.now) s.slots.items s.frames c.in_ok-f.f lt (omega (arith, lt, many)) s.shelf.apart held (geometry_of s) s.wins (w.now Home).seen (geometry_of t) t.slots.items t.wins t.frames
           c.repeat_page.ensures.geometry c.repeat_page.ensures.slots c.repeat_page.ensures.wins c.repeat_page.ensures.frames,
     )
