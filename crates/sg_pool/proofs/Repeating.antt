@@ -1,5 +1,5 @@
 -- A unit that is lent, replayed and given back.
-use Rattle.std.proofs.Common.{◌≡◌, ◌≢◌, ◌<◌, ◌==◌, ℕ, Bool, true, false, List, [], length, take, drop, get_or, set, refl, sym, ◌∙◌, ap, subst, arith, get_or-set_same, length-set}
+use Rattle.std.proofs.Common.{◌≡◌, ◌≢◌, ◌<◌, ℕ, Bool, true, false, List, [], length, take, drop, get_or, set, sym, ◌∙◌, ap, subst, arith, get_or-set_same, length-set}
 use Rattle.std.proofs.Math.Seq.{take-length}
 use Rattle.std.proofs.lemmas.Bool.Decides.{nat_tests}
 use Rattle.sg_base.specs.declared.page.TheConstants.{BAND_SIZE}

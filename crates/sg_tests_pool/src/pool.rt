@@ -254,11 +254,10 @@ fn the_least_recently_used_page_that_is_not_pinned_goes(rt: HostRuntime) -> Resu
 // A part of a log: page 7 is formatted and its cell put, and a cell of band 3 written.
 const PART: [u8; 131] = [
     2, 36, 0, 0, 0, 5, 0, 0, 0, 0, 0, 0, 0, 26, 0, 0, 0, 0, 0, 0, 0, 7, 0, 0, 0, 1, 0, 0, 0, 0, 1,
-    0, 1, 0, 0, 1,
-    2, 46, 0, 0, 0, 5, 0, 0, 0, 0, 0, 0, 0, 26, 0, 0, 0, 0, 0, 0, 0, 7, 0, 0, 0, 2, 0, 0, 0, 0, 0,
-    0, 12, 0, 7, 0, 0, 0, 120, 0, 0, 0, 0, 0, 0, 0,
-    3, 49, 0, 0, 0, 5, 0, 0, 0, 0, 0, 0, 0, 26, 0, 0, 0, 0, 0, 0, 0, 3, 0, 0, 0, 232, 3, 0, 0, 8, 0,
-    0, 0, 0, 0, 0, 0, 0, 0, 0, 0, 130, 0, 0, 0, 0, 0, 0, 0,
+    0, 1, 0, 0, 1, 2, 46, 0, 0, 0, 5, 0, 0, 0, 0, 0, 0, 0, 26, 0, 0, 0, 0, 0, 0, 0, 7, 0, 0, 0, 2,
+    0, 0, 0, 0, 0, 0, 12, 0, 7, 0, 0, 0, 120, 0, 0, 0, 0, 0, 0, 0, 3, 49, 0, 0, 0, 5, 0, 0, 0, 0,
+    0, 0, 0, 26, 0, 0, 0, 0, 0, 0, 0, 3, 0, 0, 0, 232, 3, 0, 0, 8, 0, 0, 0, 0, 0, 0, 0, 0, 0, 0, 0,
+    130, 0, 0, 0, 0, 0, 0, 0,
 ];
 
 const OF_PAGE: [Place; 2] = [
@@ -665,12 +664,12 @@ fn is_crash_safe(alloc: Global, ops: Ops, passes: u64, pick: u64) -> Result<bool
 
 #[test]
 fn a_crash_leaves_whole_pages_and_bytes_of_durable_records(rt: HostRuntime) -> Result<(), Fail> {
-    for k in 0..320u64 {
+    for k in 0..430u64 {
         let ops = Ops::shipped(rt.alloc())?;
         let safe = is_crash_safe(
             rt.alloc(),
             ops,
-            k.wrapping_mul(4),
+            k.wrapping_mul(3),
             k.wrapping_mul(0x9e37_79b9),
         )?;
         assert!(rt; safe);

@@ -1,4 +1,4 @@
-use Rattle.std.proofs.Common.{ℕ, Option, List, [], get_or, ◌∙◌, ap}
+use Rattle.std.proofs.Common.{ℕ, Option, [], get_or, ◌∙◌, ap}
 use Rattle.sg_redo.specs.History.{since_repeated}
 use Rattle.sg_redo.specs.Places.{page_records}
 use Rattle.sg_ops.specs.Table.{Table, table_of}

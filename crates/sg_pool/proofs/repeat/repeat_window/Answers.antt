@@ -1,4 +1,4 @@
-use Rattle.std.proofs.Common.{◌≡◌, ℕ, Bool, Option, List, ◌∙◌, ap}
+use Rattle.std.proofs.Common.{ℕ, Bool, Option, List, ◌∙◌, ap}
 use Rattle.sg_ops.specs.Table.{Table, table_of}
 use Rattle.sg_redo.specs.Places.{window_records, marks_with}
 use Rattle.sg_redo.specs.Window.{since_replayed}

@@ -1,4 +1,4 @@
-use Rattle.std.proofs.Common.{◌≡◌, ◌∙◌, arith}
+use Rattle.std.proofs.Common.{◌∙◌, arith}
 use Rattle.std.proofs.lemmas.Grind.{common_steps}
 use Rattle.sg_ops.specs.Table.{Table, table_of}
 use Rattle.sg_redo.proofs.InTurn.{page_turn, page_since_turn}

@@ -25,7 +25,7 @@ returns-clause-brought g c =
       c.in_ok-w.w,
       record {
         held = written_held (geometry_of s) s.slots.items s.wins t.wins c.in_ok-w.w c.args.b.0 _ lt held c.write_band.ensures.wins c.write_band.ensures.marks s.frames t.frames
-    (ap (λ (h : Held). h.pages) is) (λ v differ. ap (λ (h : Held). get_or h.windows v []) is ∙ get_or-set_other s.frames.windows c.in_ok-w.w v _ [] differ);
+            (ap (λ (h : Held). h.pages) is) (λ v differ. ap (λ (h : Held). get_or h.windows v []) is ∙ get_or-set_other s.frames.windows c.in_ok-w.w v _ [] differ);
         others = λ v differ. ap (λ (l : List Slot). page_in l v) c.write_band.ensures.wins ∙ (page_there s.wins.slots.items c.in_ok-w.w _ lt v differ ∙ c.in_ok-w.ensures.brought.others v differ);
       },
     )
@@ -55,9 +55,9 @@ returns-clause-changed g c told apart backed =
       units (w.now Home).seen s,
       c.in_ok-w.ensures.same told apart backed,
       values_written (geometry_of s) s.slots.items s.wins t.wins c.in_ok-w.w c.args.b.0 _ lt held c.write_band.ensures.wins c.write_band.ensures.marks s.frames t.frames
-    (ap (λ (h : Held). h.pages) is) (λ v differ. ap (λ (h : Held). get_or h.windows v []) is ∙ get_or-set_other s.frames.windows c.in_ok-w.w v _ [] differ)
-    c.args.lsn c.args.at c.args.bytes.now refl c.write_band.ensures.marked (s.shelf.here.windows c.in_ok-w.w low) c.requires.fits
-    (ap (λ (h : Held). get_or h.windows c.in_ok-w.w []) is ∙ get_or-set_same s.frames.windows c.in_ok-w.w _ [] low) (w.now Home) (geometry_of t) t.slots.items c.write_band.ensures.geometry c.write_band.ensures.slots,
+          (ap (λ (h : Held). h.pages) is) (λ v differ. ap (λ (h : Held). get_or h.windows v []) is ∙ get_or-set_other s.frames.windows c.in_ok-w.w v _ [] differ)
+          c.args.lsn c.args.at c.args.bytes.now refl c.write_band.ensures.marked (s.shelf.here.windows c.in_ok-w.w low) c.requires.fits
+          (ap (λ (h : Held). get_or h.windows c.in_ok-w.w []) is ∙ get_or-set_same s.frames.windows c.in_ok-w.w _ [] low) (w.now Home) (geometry_of t) t.slots.items c.write_band.ensures.geometry c.write_band.ensures.slots,
     )
 
 pub returns-clause-last : goal.returns-clause-last

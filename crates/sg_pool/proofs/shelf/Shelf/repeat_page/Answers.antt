@@ -1,4 +1,4 @@
-use Rattle.std.proofs.Common.{◌≡◌, Some, List, [], length, get_or, set, sym, ◌∙◌, ap, subst, arith}
+use Rattle.std.proofs.Common.{◌≡◌, List, [], length, get_or, set, sym, ◌∙◌, ap, subst, arith}
 use Rattle.sg_frames.specs.Held.{Held}
 use Rattle.sg_ops.specs.Table.{Table, table_of}
 use Rattle.sg_redo.specs.History.{repeated}

@@ -1,8 +1,7 @@
-use Rattle.std.proofs.Common.{◌≡◌, ◌<◌, ℕ, length, get_or, set, ◌∙◌, ap, arith, length-set}
+use Rattle.std.proofs.Common.{◌≡◌, ◌<◌, length, get_or, ap, arith, length-set}
 use Rattle.sg_ops.specs.Table.{Table, table_of}
 use Rattle.sg_redo.specs.Places.{window_records}
 use Rattle.sg_pool.specs.declared.slot.Slot.{Slot}
-use Rattle.sg_pool.specs.declared.windows.Marks.{Marks}
 use Rattle.sg_pool.specs.Windows.{no_marks}
 use Rattle.sg_pool.proofs.Slots.{slot_at, item_at}
 use Rattle.sg_pool.proofs.Windowing.{windows_written}
