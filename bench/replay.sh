@@ -125,6 +125,7 @@ fn run<R: Print + Clock + Abort, L: Ledger>(
             number,
             loan,
             dirty: Dirty::new(),
+            since: None,
             first: number * EACH,
             count: EACH,
         });

@@ -1,6 +1,6 @@
 -- The units when a window gets another band, and when its band is written to.
-use Rattle.std.proofs.Common.{◌≡◌, ◌≢◌, ◌⊎◌, inl, inr, ⊎_elim, ◌<◌, ◌≤◌, ◌+◌, ◌-◌, ℕ, true, false, Option, Some, None, List, [], ◌++◌, length, take, drop, get_or, set, refl, sym, ◌∙◌, ap, subst, arith, length-set}
-use Rattle.std.specs.Prelude.{◌↔◌, unwrap_or}
+use Rattle.std.proofs.Common.{◌≡◌, ◌≢◌, ◌⊎◌, inl, inr, ⊎_elim, ◌<◌, ◌≤◌, ◌+◌, ◌-◌, ℕ, Bool, true, false, Option, Some, None, List, [], ◌∷◌, ◌++◌, length, take, drop, get_or, set, refl, sym, ◌∙◌, ap, subst, arith, length-set}
+use Rattle.std.specs.Prelude.{◌↔◌, ◌||◌, unwrap_or}
 use Rattle.std.proofs.lemmas.Bool.{cases_eq, cases_lt}
 use Rattle.std.proofs.lemmas.List.{length-take-le, get_or-take, get_or-drop, get_or_append_left, get_or-append_right, append_assoc}
 use Rattle.sg_base.specs.Overwritten.{overwritten}
@@ -14,7 +14,11 @@ use Rattle.sg_segment.specs.Runs.{IsWithin}
 use Rattle.sg_pool.specs.declared.slot.Slot.{Slot}
 use Rattle.sg_pool.specs.declared.windows.Windows.{Windows}
 use Rattle.sg_pool.specs.declared.windows.Marks.{Marks}
+use Rattle.sg_redo.proofs.Bytes.{replay_byte}
+use Rattle.sg_redo.specs.History.{OnByte, rewritten, is_covered}
+use Rattle.sg_redo.specs.Window.{OnWindow, on_byte, replayed, since_replayed, AllLie}
 use Rattle.sg_pool.specs.Changed.{IsWritten}
+use Rattle.sg_pool.specs.Repeated.{IsBandRepeated}
 use Rattle.sg_pool.specs.Held.{frame_of, page_in, since_of, AreApart, page_of}
 use Rattle.sg_pool.specs.Windows.{no_marks, marked_in, last_in}
 use Rattle.sg_pool.specs.Units.{Geometry, page_at, band_byte, IsBacked, IsCleaned}
@@ -168,14 +172,27 @@ written_byte xs ys at i fits =
     (cases_lt (i - at) (length ys)))
     (cases_lt i at)
 
--- A WINDOW'S BAND IS WRITTEN TO
-module _ (g : Geometry) (slots : List Slot) (wins wins' : Windows) (w b lsn at : ℕ) (new : List ℕ) (lt : w < length wins.slots.items) (held : frame_of wins.slots.items b ≡ Some w)
-    (is : wins'.slots.items ≡ set wins.slots.items w (record { number = page_in wins.slots.items w; since = Some (unwrap_or (since_of wins.slots.items (Some w)) lsn) }))
-    (marked : (k : ℕ) → marked_in wins'.marks.items (Some w) k ≡ true ↔ ((marked_in wins.marks.items (Some w) k ≡ true) ⊎ IsWithin at (length new) k)) (marks : (v : ℕ) → v ≢ w → get_or wins'.marks.items v no_marks ≡ get_or wins.marks.items v no_marks)
-    (frames frames' : Held) (pages : frames'.pages ≡ frames.pages) (others : (v : ℕ) → v ≢ w → get_or frames'.windows v [] ≡ get_or frames.windows v [])
-    (long : length (get_or frames.windows w []) ≡ BAND_SIZE) (fits : at + length new ≤ BAND_SIZE) (bytes : get_or frames'.windows w [] ≡ overwritten (get_or frames.windows w []) at new) where
+off_both : (m c : Bool) → (m || c) ≡ false → (m ≡ false) × (c ≡ false)
+off_both true c none = absurd cc
+off_both false c none = (refl, none)
+
+-- a byte that no change covers is as it was
+bare_rewritten : (ws : List OnByte) (x : ℕ) → is_covered ws ≡ false → rewritten ws x ≡ x
+bare_rewritten [] x bare = refl
+bare_rewritten (w ∷ ws) x bare = absurd cc
+
+-- changes that leave a window without an oldest change are none
+none_replayed : (ws : List OnWindow) (since : Option ℕ) → since_replayed ws since ≡ None → (since ≡ None) × (ws ≡ [])
+none_replayed [] since none = (none, refl)
+none_replayed (w ∷ ws) since none = absurd (none_is_some (unwrap_or since w.lsn) (sym (none_replayed ws (Some (unwrap_or since w.lsn)) none).0))
+
+-- A WINDOW'S BAND IS CHANGED, and has this oldest change
+module _ (g : Geometry) (slots : List Slot) (wins wins' : Windows) (w b : ℕ) (since : Option ℕ) (lt : w < length wins.slots.items) (held : frame_of wins.slots.items b ≡ Some w)
+    (is : wins'.slots.items ≡ set wins.slots.items w (record { number = page_in wins.slots.items w; since = since }))
+    (marks : (v : ℕ) → v ≢ w → get_or wins'.marks.items v no_marks ≡ get_or wins.marks.items v no_marks)
+    (frames frames' : Held) (pages : frames'.pages ≡ frames.pages) (others : (v : ℕ) → v ≢ w → get_or frames'.windows v [] ≡ get_or frames.windows v []) where
   abbrev marked_slot : Slot
-  marked_slot = record { number = page_in wins.slots.items w; since = Some (unwrap_or (since_of wins.slots.items (Some w)) lsn) }
+  marked_slot = record { number = page_in wins.slots.items w; since = since }
 
   window_same : (c : ℕ) → frame_of wins'.slots.items c ≡ frame_of wins.slots.items c
   window_same c = ap (λ (l : List Slot). frame_of l c) is ∙ frame_kept wins.slots.items w marked_slot lt refl c wins.windows.apart
@@ -183,13 +200,16 @@ module _ (g : Geometry) (slots : List Slot) (wins wins' : Windows) (w b lsn at :
   pub written_held : frame_of wins'.slots.items b ≡ Some w
   written_held = window_same b ∙ held
 
-  since_now : since_of wins'.slots.items (Some w) ≡ Some (unwrap_or (since_of wins.slots.items (Some w)) lsn)
+  since_now : since_of wins'.slots.items (Some w) ≡ since
   since_now = ap (λ (l : List Slot). since_of l (Some w)) is ∙ ap (λ (x : Slot). x.since) (set_here wins.slots.items w marked_slot lt)
+
+  band_since_now : since_of wins'.slots.items (frame_of wins'.slots.items b) ≡ since
+  band_since_now = ap (since_of wins'.slots.items) written_held ∙ since_now
 
   -- another band isn't in this window
   record IsOtherSame (c : ℕ) : Type 0 where
     pub byte : (i home : ℕ) → byte_in frames'.windows (frame_of wins'.slots.items c) i home ≡ byte_in frames.windows (frame_of wins.slots.items c) i home
-    pub since : since_of wins'.slots.items (frame_of wins'.slots.items c) ≡ since_of wins.slots.items (frame_of wins.slots.items c)
+    pub oldest : since_of wins'.slots.items (frame_of wins'.slots.items c) ≡ since_of wins.slots.items (frame_of wins.slots.items c)
     pub last : last_in wins'.marks.items (frame_of wins'.slots.items c) ≡ last_in wins.marks.items (frame_of wins.slots.items c)
     pub bits : (i : ℕ) → marked_in wins'.marks.items (frame_of wins'.slots.items c) i ≡ marked_in wins.marks.items (frame_of wins.slots.items c) i
 
@@ -198,7 +218,7 @@ module _ (g : Geometry) (slots : List Slot) (wins wins' : Windows) (w b lsn at :
       let now = window_same c ∙ e in
       record {
         byte = λ i home. ap (λ (x : Option ℕ). byte_in frames'.windows x i home) now ∙ sym (ap (λ (x : Option ℕ). byte_in frames.windows x i home) e);
-        since = ap (since_of wins'.slots.items) now ∙ sym (ap (since_of wins.slots.items) e);
+        oldest = ap (since_of wins'.slots.items) now ∙ sym (ap (since_of wins.slots.items) e);
         last = ap (last_in wins'.marks.items) now ∙ sym (ap (last_in wins.marks.items) e);
         bits = λ i. ap (λ (x : Option ℕ). marked_in wins'.marks.items x i) now ∙ sym (ap (λ (x : Option ℕ). marked_in wins.marks.items x i) e);
       }
@@ -207,7 +227,7 @@ module _ (g : Geometry) (slots : List Slot) (wins wins' : Windows) (w b lsn at :
       let apart : v ≢ w = λ same. differ (some_same c b (sym (frame_some c wins.slots.items v e).1 ∙ (ap (page_in wins.slots.items) same ∙ (frame_some b wins.slots.items w held).1))) in
       record {
         byte = λ i home. ap (λ (x : Option ℕ). byte_in frames'.windows x i home) now ∙ (ap (λ (x : List ℕ). get_or x i 0) (others v apart) ∙ sym (ap (λ (x : Option ℕ). byte_in frames.windows x i home) e));
-        since = ap (since_of wins'.slots.items) now ∙ (ap (λ (l : List Slot). since_of l (Some v)) is ∙ (ap (λ (x : Slot). x.since) (set_there wins.slots.items w marked_slot lt v apart) ∙ sym (ap (since_of wins.slots.items) e)));
+        oldest = ap (since_of wins'.slots.items) now ∙ (ap (λ (l : List Slot). since_of l (Some v)) is ∙ (ap (λ (x : Slot). x.since) (set_there wins.slots.items w marked_slot lt v apart) ∙ sym (ap (since_of wins.slots.items) e)));
         last = ap (last_in wins'.marks.items) now ∙ (ap (λ (x : Marks). x.last) (marks v apart) ∙ sym (ap (last_in wins.marks.items) e));
         bits = λ i. ap (λ (x : Option ℕ). marked_in wins'.marks.items x i) now ∙ (ap (λ (x : Marks). get_or x.dirty i false) (marks v apart) ∙ sym (ap (λ (x : Option ℕ). marked_in wins.marks.items x i) e));
       }
@@ -216,61 +236,125 @@ module _ (g : Geometry) (slots : List Slot) (wins wins' : Windows) (w b lsn at :
   other c differ = other_in c (frame_of wins.slots.items c) differ refl
 
   -- where the record is below the tail, so is each band's last change
-  pub written_below : last_in wins'.marks.items (Some w) ≡ lsn → (tail : ℕ) → lsn < tail → AreBelow tail wins → AreBelow tail wins'
-  written_below last tail small below c o since = ⊎_elim
+  pub written_below : (lsn : ℕ) → last_in wins'.marks.items (Some w) ≡ lsn → (tail : ℕ) → lsn < tail → AreBelow tail wins → AreBelow tail wins'
+  written_below lsn last tail small below c o at = ⊎_elim
       (λ same. subst (λ (x : Option ℕ). last_in wins'.marks.items x < tail) (sym (ap (frame_of wins'.slots.items) same ∙ written_held)) (subst (λ (n : ℕ). n < tail) (sym last) small))
-      (λ differ. let it = other c differ in subst (λ (n : ℕ). n < tail) (sym it.last) (below c o (sym it.since ∙ since)))
+      (λ differ. let it = other c differ in subst (λ (n : ℕ). n < tail) (sym it.last) (below c o (sym it.oldest ∙ at)))
       (cases_eq c b)
 
-  byte_now : (i home : ℕ) → byte_in frames'.windows (frame_of wins'.slots.items b) i home ≡ put at new (λ k. get_or (get_or frames.windows w []) k 0) i
-  byte_now i home = ap (λ (x : Option ℕ). byte_in frames'.windows x i home) written_held ∙ (ap (λ (x : List ℕ). get_or x i 0) bytes ∙ written_byte (get_or frames.windows w []) new at i (omega (arith, fits, long)))
-
-  marked_now : (i : ℕ) → marked_in wins'.marks.items (frame_of wins'.slots.items b) i ≡ true ↔ ((marked_in wins.marks.items (frame_of wins.slots.items b) i ≡ true) ⊎ IsWithin at (length new) i)
-  marked_now i = subst (λ (x : Option ℕ). marked_in wins'.marks.items x i ≡ true ↔ ((marked_in wins.marks.items (frame_of wins.slots.items b) i ≡ true) ⊎ IsWithin at (length new) i)) (sym written_held)
-      (subst (λ (x : Option ℕ). marked_in wins'.marks.items (Some w) i ≡ true ↔ ((marked_in wins.marks.items x i ≡ true) ⊎ IsWithin at (length new) i)) (sym held) (marked i))
-
   module _ (p : Part) where
-    pub written_is : IsWritten b lsn at new (units_of g p.seen slots wins frames) (units_of g p.seen slots wins' frames')
-    written_is = record {
-      byte = λ i small. byte_now i (p.seen (band_byte g b i)) ∙ ap (λ (o : Option ℕ). put at new (λ k. byte_in frames.windows o k (p.seen (band_byte g b k))) i) (sym held);
-      since = ap (since_of wins'.slots.items) written_held ∙ (since_now ∙ ap (λ (o : Option ℕ). Some (unwrap_or (since_of wins.slots.items o) lsn)) (sym held));
-      marked = marked_now;
-      other_bytes = λ c i differ. (other c differ).byte i (p.seen (band_byte g c i));
-      other_sinces = λ c differ. (other c differ).since;
-      other_marks = λ c i differ. (other c differ).bits i;
-      page = λ n. ap (λ (l : List (List ℕ)). page_of slots l n (page_at p.seen (home_at n))) pages;
-      page_since = λ n. refl;
-    }
-
-    -- a byte of the band that isn't marked is as it was
-    bare_same : (i : ℕ) → b < g.bands → i < BAND_SIZE → IsBacked g p (units_of g p.seen slots wins frames) → marked_in wins'.marks.items (frame_of wins'.slots.items b) i ≡ false → p.seen (band_byte g b i) ≡ byte_in frames'.windows (frame_of wins'.slots.items b) i (p.seen (band_byte g b i))
-    bare_same i is_band small backed none =
-        let not : (marked_in wins.marks.items (frame_of wins.slots.items b) i ≡ true) ⊎ IsWithin at (length new) i → ⊥ = λ it. let yes = (marked_now i).1 it in let no_true : false ≡ true = sym none ∙ yes in cc in
-        let before : marked_in wins.marks.items (frame_of wins.slots.items b) i ≡ false = ⊎_elim (λ yes. absurd (not (inl yes))) (λ off. off) (bool_cases (marked_in wins.marks.items (frame_of wins.slots.items b) i)) in
-        backed.bytes b i is_band small before ∙ (ap (λ (o : Option ℕ). byte_in frames.windows o i (p.seen (band_byte g b i))) held
-        ∙ sym (byte_now i (p.seen (band_byte g b i)) ∙ put_outside at new (λ k. get_or (get_or frames.windows w []) k 0) i (λ low high. absurd (not (inr (low, high))))))
-
-    pub written_backed : IsBacked g p (units_of g p.seen slots wins frames) → IsBacked g p (units_of g p.seen slots wins' frames')
-    written_backed backed = record {
+    -- what the band keeps where it isn't marked
+    pub changed_backed : ((i : ℕ) → b < g.bands → i < BAND_SIZE → marked_in wins'.marks.items (frame_of wins'.slots.items b) i ≡ false → p.seen (band_byte g b i) ≡ byte_in frames'.windows (frame_of wins'.slots.items b) i (p.seen (band_byte g b i)))
+        → (since ≡ None → (i : ℕ) → marked_in wins'.marks.items (frame_of wins'.slots.items b) i ≡ false) → IsBacked g p (units_of g p.seen slots wins frames) → IsBacked g p (units_of g p.seen slots wins' frames')
+    changed_backed bare clean backed = record {
       ready = backed.ready;
       pages = λ n small none. backed.pages n small none ∙ sym (ap (λ (l : List (List ℕ)). page_of slots l n (page_at p.seen (home_at n))) pages);
       bytes = λ c i is_band small none. ⊎_elim
           (λ same. subst (λ (x : ℕ). p.seen (band_byte g x i) ≡ byte_in frames'.windows (frame_of wins'.slots.items x) i (p.seen (band_byte g x i))) (sym same)
-          (bare_same i (subst (λ (x : ℕ). x < g.bands) same is_band) small backed (subst (λ (x : ℕ). marked_in wins'.marks.items (frame_of wins'.slots.items x) i ≡ false) same none)))
+          (bare i (subst (λ (x : ℕ). x < g.bands) same is_band) small (subst (λ (x : ℕ). marked_in wins'.marks.items (frame_of wins'.slots.items x) i ≡ false) same none)))
           (λ differ. let it = other c differ in backed.bytes c i is_band small (sym (it.bits i) ∙ none) ∙ sym (it.byte i (p.seen (band_byte g c i))))
           (cases_eq c b);
       clean = λ c i none. ⊎_elim
-          (λ same. let now : Some (unwrap_or (since_of wins.slots.items (Some w)) lsn) ≡ None = sym (ap (since_of wins'.slots.items) (ap (frame_of wins'.slots.items) same ∙ written_held) ∙ since_now) ∙ none in absurd (none_is_some _ (sym now)))
-          (λ differ. let it = other c differ in it.bits i ∙ backed.clean c i (sym it.since ∙ none))
+          (λ same. subst (λ (x : ℕ). marked_in wins'.marks.items (frame_of wins'.slots.items x) i ≡ false) (sym same) (clean (sym band_since_now ∙ (ap (λ (x : ℕ). since_of wins'.slots.items (frame_of wins'.slots.items x)) (sym same) ∙ none)) i))
+          (λ differ. let it = other c differ in it.bits i ∙ backed.clean c i (sym it.oldest ∙ none))
           (cases_eq c b);
     }
 
-    -- in what the code's values are
-    module _ (g' : Geometry) (slots' : List Slot) (same_g : g' ≡ g) (same_slots : slots' ≡ slots) where
-      pub values_written : IsWritten b lsn at new (units_of g p.seen slots wins frames) (units_of g' p.seen slots' wins' frames')
-      values_written = subst (λ (h : Geometry). IsWritten b lsn at new (units_of g p.seen slots wins frames) (units_of h p.seen slots' wins' frames')) (sym same_g)
-          (subst (λ (l : List Slot). IsWritten b lsn at new (units_of g p.seen slots wins frames) (units_of g p.seen l wins' frames')) (sym same_slots) written_is)
+  -- BYTES ARE WRITTEN TO IT
+  module _ (lsn at : ℕ) (new : List ℕ) (first : since ≡ Some (unwrap_or (since_of wins.slots.items (Some w)) lsn))
+      (marked : (k : ℕ) → marked_in wins'.marks.items (Some w) k ≡ true ↔ ((marked_in wins.marks.items (Some w) k ≡ true) ⊎ IsWithin at (length new) k))
+      (long : length (get_or frames.windows w []) ≡ BAND_SIZE) (fits : at + length new ≤ BAND_SIZE) (bytes : get_or frames'.windows w [] ≡ overwritten (get_or frames.windows w []) at new) where
+    byte_now : (i home : ℕ) → byte_in frames'.windows (frame_of wins'.slots.items b) i home ≡ put at new (λ k. get_or (get_or frames.windows w []) k 0) i
+    byte_now i home = ap (λ (x : Option ℕ). byte_in frames'.windows x i home) written_held ∙ (ap (λ (x : List ℕ). get_or x i 0) bytes ∙ written_byte (get_or frames.windows w []) new at i (omega (arith, fits, long)))
 
-      pub values_written_backed : IsBacked g p (units_of g p.seen slots wins frames) → IsBacked g p (units_of g' p.seen slots' wins' frames')
-      values_written_backed backed = subst (λ (h : Geometry). IsBacked g p (units_of h p.seen slots' wins' frames')) (sym same_g)
-          (subst (λ (l : List Slot). IsBacked g p (units_of g p.seen l wins' frames')) (sym same_slots) (written_backed backed))
+    marked_now : (i : ℕ) → marked_in wins'.marks.items (frame_of wins'.slots.items b) i ≡ true ↔ ((marked_in wins.marks.items (frame_of wins.slots.items b) i ≡ true) ⊎ IsWithin at (length new) i)
+    marked_now i = subst (λ (x : Option ℕ). marked_in wins'.marks.items x i ≡ true ↔ ((marked_in wins.marks.items (frame_of wins.slots.items b) i ≡ true) ⊎ IsWithin at (length new) i)) (sym written_held)
+        (subst (λ (x : Option ℕ). marked_in wins'.marks.items (Some w) i ≡ true ↔ ((marked_in wins.marks.items x i ≡ true) ⊎ IsWithin at (length new) i)) (sym held) (marked i))
+
+    module _ (p : Part) where
+      written_is : IsWritten b lsn at new (units_of g p.seen slots wins frames) (units_of g p.seen slots wins' frames')
+      written_is = record {
+        byte = λ i small. byte_now i (p.seen (band_byte g b i)) ∙ ap (λ (o : Option ℕ). put at new (λ k. byte_in frames.windows o k (p.seen (band_byte g b k))) i) (sym held);
+        since = band_since_now ∙ (first ∙ ap (λ (o : Option ℕ). Some (unwrap_or (since_of wins.slots.items o) lsn)) (sym held));
+        marked = marked_now;
+        other_bytes = λ c i differ. (other c differ).byte i (p.seen (band_byte g c i));
+        other_sinces = λ c differ. (other c differ).oldest;
+        other_marks = λ c i differ. (other c differ).bits i;
+        page = λ n. ap (λ (l : List (List ℕ)). page_of slots l n (page_at p.seen (home_at n))) pages;
+        page_since = λ n. refl;
+      }
+
+      -- a byte of the band that isn't marked is as it was
+      bare_same : IsBacked g p (units_of g p.seen slots wins frames) → (i : ℕ) → b < g.bands → i < BAND_SIZE → marked_in wins'.marks.items (frame_of wins'.slots.items b) i ≡ false → p.seen (band_byte g b i) ≡ byte_in frames'.windows (frame_of wins'.slots.items b) i (p.seen (band_byte g b i))
+      bare_same backed i is_band small none =
+          let not : (marked_in wins.marks.items (frame_of wins.slots.items b) i ≡ true) ⊎ IsWithin at (length new) i → ⊥ = λ it. let yes = (marked_now i).1 it in let no_true : false ≡ true = sym none ∙ yes in cc in
+          let before : marked_in wins.marks.items (frame_of wins.slots.items b) i ≡ false = ⊎_elim (λ yes. absurd (not (inl yes))) (λ off. off) (bool_cases (marked_in wins.marks.items (frame_of wins.slots.items b) i)) in
+          backed.bytes b i is_band small before ∙ (ap (λ (o : Option ℕ). byte_in frames.windows o i (p.seen (band_byte g b i))) held
+          ∙ sym (byte_now i (p.seen (band_byte g b i)) ∙ put_outside at new (λ k. get_or (get_or frames.windows w []) k 0) i (λ low high. absurd (not (inr (low, high))))))
+
+      written_backed : IsBacked g p (units_of g p.seen slots wins frames) → IsBacked g p (units_of g p.seen slots wins' frames')
+      written_backed backed = changed_backed p (bare_same backed) (λ none. absurd (none_is_some _ (sym none ∙ first))) backed
+
+      -- in what the code's values are
+      module _ (g' : Geometry) (slots' : List Slot) (same_g : g' ≡ g) (same_slots : slots' ≡ slots) where
+        pub values_written : IsWritten b lsn at new (units_of g p.seen slots wins frames) (units_of g' p.seen slots' wins' frames')
+        values_written = subst (λ (h : Geometry). IsWritten b lsn at new (units_of g p.seen slots wins frames) (units_of h p.seen slots' wins' frames')) (sym same_g)
+            (subst (λ (l : List Slot). IsWritten b lsn at new (units_of g p.seen slots wins frames) (units_of g p.seen l wins' frames')) (sym same_slots) written_is)
+
+        pub values_written_backed : IsBacked g p (units_of g p.seen slots wins frames) → IsBacked g p (units_of g' p.seen slots' wins' frames')
+        values_written_backed backed = subst (λ (h : Geometry). IsBacked g p (units_of h p.seen slots' wins' frames')) (sym same_g)
+            (subst (λ (l : List Slot). IsBacked g p (units_of g p.seen l wins' frames')) (sym same_slots) (written_backed backed))
+
+  -- CHANGES ARE REPEATED ON IT
+  module _ (ws : List OnWindow) (first : since ≡ since_replayed ws (since_of wins.slots.items (Some w)))
+      (marked : (k : ℕ) → k < BAND_SIZE → marked_in wins'.marks.items (Some w) k ≡ (marked_in wins.marks.items (Some w) k || is_covered (on_byte k ws)))
+      (beyond : (k : ℕ) → BAND_SIZE ≤ k → marked_in wins'.marks.items (Some w) k ≡ false)
+      (long : length (get_or frames.windows w []) ≡ BAND_SIZE) (lie : AllLie BAND_SIZE ws) (bytes : get_or frames'.windows w [] ≡ replayed ws (get_or frames.windows w [])) where
+    byte_then : (i home : ℕ) → byte_in frames'.windows (frame_of wins'.slots.items b) i home ≡ rewritten (on_byte i ws) (byte_in frames.windows (frame_of wins.slots.items b) i home)
+    byte_then i home = ap (λ (x : Option ℕ). byte_in frames'.windows x i home) written_held ∙ (ap (λ (x : List ℕ). get_or x i 0) bytes
+        ∙ (replay_byte ws (get_or frames.windows w []) i (subst (λ (n : ℕ). AllLie n ws) (sym long) lie) ∙ ap (λ (o : Option ℕ). rewritten (on_byte i ws) (byte_in frames.windows o i home)) (sym held)))
+
+    marked_then : (i : ℕ) → i < BAND_SIZE → marked_in wins'.marks.items (frame_of wins'.slots.items b) i ≡ (marked_in wins.marks.items (frame_of wins.slots.items b) i || is_covered (on_byte i ws))
+    marked_then i small = ap (λ (o : Option ℕ). marked_in wins'.marks.items o i) written_held ∙ (marked i small ∙ ap (λ (o : Option ℕ). marked_in wins.marks.items o i || is_covered (on_byte i ws)) (sym held))
+
+    module _ (p : Part) where
+      replayed_is : IsBandRepeated b ws (units_of g p.seen slots wins frames) (units_of g p.seen slots wins' frames')
+      replayed_is = record {
+        byte = λ i small. byte_then i (p.seen (band_byte g b i));
+        since = band_since_now ∙ (first ∙ ap (λ (o : Option ℕ). since_replayed ws (since_of wins.slots.items o)) (sym held));
+        marked = marked_then;
+        other_bytes = λ c i differ. (other c differ).byte i (p.seen (band_byte g c i));
+        other_sinces = λ c differ. (other c differ).oldest;
+        other_marks = λ c i differ. (other c differ).bits i;
+        page = λ n. ap (λ (l : List (List ℕ)). page_of slots l n (page_at p.seen (home_at n))) pages;
+        page_since = λ n. refl;
+      }
+
+      -- a byte of the band that isn't marked is as it was
+      bare_then : IsBacked g p (units_of g p.seen slots wins frames) → (i : ℕ) → b < g.bands → i < BAND_SIZE → marked_in wins'.marks.items (frame_of wins'.slots.items b) i ≡ false → p.seen (band_byte g b i) ≡ byte_in frames'.windows (frame_of wins'.slots.items b) i (p.seen (band_byte g b i))
+      bare_then backed i is_band small none =
+          let neither = off_both (marked_in wins.marks.items (frame_of wins.slots.items b) i) (is_covered (on_byte i ws)) (sym (marked_then i small) ∙ none) in
+          backed.bytes b i is_band small neither.0 ∙ sym (byte_then i (p.seen (band_byte g b i)) ∙ bare_rewritten (on_byte i ws) (byte_in frames.windows (frame_of wins.slots.items b) i (p.seen (band_byte g b i))) neither.1)
+
+      -- without an oldest change there was no change
+      clean_then : IsBacked g p (units_of g p.seen slots wins frames) → since ≡ None → (i : ℕ) → marked_in wins'.marks.items (frame_of wins'.slots.items b) i ≡ false
+      clean_then backed none i =
+          let it = none_replayed ws (since_of wins.slots.items (Some w)) (sym first ∙ none) in
+          let was : marked_in wins.marks.items (frame_of wins.slots.items b) i ≡ false = backed.clean b i (ap (since_of wins.slots.items) held ∙ it.0) in
+          ⊎_elim
+          (λ small. marked_then i small ∙ (ap (λ (m : Bool). m || is_covered (on_byte i ws)) was ∙ ap (λ (l : List OnWindow). is_covered (on_byte i l)) it.1))
+          (λ high. ap (λ (o : Option ℕ). marked_in wins'.marks.items o i) written_held ∙ beyond i high)
+          (cases_lt i BAND_SIZE)
+
+      replayed_backed : IsBacked g p (units_of g p.seen slots wins frames) → IsBacked g p (units_of g p.seen slots wins' frames')
+      replayed_backed backed = changed_backed p (bare_then backed) (clean_then backed) backed
+
+      -- in what the code's values are
+      module _ (g' : Geometry) (slots' : List Slot) (same_g : g' ≡ g) (same_slots : slots' ≡ slots) where
+        pub values_replayed : IsBandRepeated b ws (units_of g p.seen slots wins frames) (units_of g' p.seen slots' wins' frames')
+        values_replayed = subst (λ (h : Geometry). IsBandRepeated b ws (units_of g p.seen slots wins frames) (units_of h p.seen slots' wins' frames')) (sym same_g)
+            (subst (λ (l : List Slot). IsBandRepeated b ws (units_of g p.seen slots wins frames) (units_of g p.seen l wins' frames')) (sym same_slots) replayed_is)
+
+        pub values_replayed_backed : IsBacked g p (units_of g p.seen slots wins frames) → IsBacked g p (units_of g' p.seen slots' wins' frames')
+        values_replayed_backed backed = subst (λ (h : Geometry). IsBacked g p (units_of h p.seen slots' wins' frames')) (sym same_g)
+            (subst (λ (l : List Slot). IsBacked g p (units_of g p.seen l wins' frames')) (sym same_slots) (replayed_backed backed))

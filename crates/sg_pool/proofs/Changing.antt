@@ -317,3 +317,7 @@ module _ (g : Geometry) (slots : List Slot) {index : List (Option ℕ)} (wins : 
 -- the second of two sets counts
 pub twice : (slots t : List Slot) (f : ℕ) (a b : Slot) → t ≡ set slots f a → set t f b ≡ set slots f b
 twice slots t f a b is = ap (λ (u : List Slot). set u f b) is ∙ set-set slots f a b
+
+-- the bytes of a frame that is still here
+pub frame_long_after : (old new : Held) (f : ℕ) (bytes : List ℕ) → f < length old.pages → new ≡ record old { pages = set old.pages f bytes } → length (get_or new.pages f []) ≡ 4096 → length bytes ≡ 4096
+frame_long_after old new f bytes lt is here = sym (ap (λ (h : Held). length (get_or h.pages f [])) is ∙ ap (λ (l : List ℕ). length l) (get_or-set_same old.pages f bytes [] lt)) ∙ here

@@ -1,21 +1,12 @@
 -- A record is done to a page in its frame, or to a band in its window.
-use Rattle.std.specs.Prelude.{◌≡◌, ◌≢◌, ◌⊎◌, ◌↔◌, ◌<◌, ◌&&◌, ℕ, Bool, true, false, if◌then◌else◌, nat_lt, Option, Some, List, slice_set, unwrap_or, is_some, length}
-use Rattle.sg_base.specs.Page.{lsn_of}
+use Rattle.std.specs.Prelude.{◌≡◌, ◌≢◌, ◌⊎◌, ◌↔◌, ◌<◌, ℕ, Bool, true, false, Some, List, slice_set, unwrap_or, length}
 use Rattle.sg_base.specs.declared.page.TheConstants.{BAND_SIZE}
 use Rattle.sg_disk.specs.Disk.{put}
 use Rattle.sg_segment.specs.Runs.{IsWithin}
-use Rattle.sg_redo.specs.History.{OnPage, redone}
+use Rattle.sg_redo.specs.History.{OnPage, redone, since_after}
 use Rattle.sg_pool.specs.declared.slot.Slot.{Slot}
 use Rattle.sg_pool.specs.Held.{page_in, since_of}
 use Rattle.sg_pool.specs.Units.{Geometry, Units, IsCleaned}
-
--- the record is done to the page: its number is above the page's, and its operation fits
-abbrev pub applies : OnPage → List ℕ → Bool
-applies r page = nat_lt (lsn_of page) r.lsn && is_some (r.makes page)
-
--- the oldest change of the page that isn't on the disk, after the record: it is one, where the page had none
-abbrev pub since_after : OnPage → List ℕ → Option ℕ → Option ℕ
-since_after r page since = if applies r page then Some (unwrap_or since r.lsn) else since
 
 -- the frames once that was done to the page of one of them, or wasn't
 abbrev pub slots_after : (is_done : Bool) → List Slot → (f lsn : ℕ) → List Slot

@@ -8,6 +8,7 @@ pub mod Order
 pub mod Pools
 pub mod Oldest
 pub mod Changed
+pub mod Repeated
 pub mod Batches
 pub mod Bands
 pub mod Moments

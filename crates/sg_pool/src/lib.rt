@@ -3,12 +3,13 @@
 //! what was there goes home first where it was changed.
 //!
 //! It stands on `sg_frames` for the memory, on the kit's `lru` for the order of use, on `sg_redo` for what
-//! a record does to a page, on `sg_log` for the log, and on `sg_gate` and `sg_window` for the ways home,
+//! records do to a page and a band, on `sg_log` for the log, and on `sg_gate` and `sg_window` for the ways home,
 //! over any disk of `sg_disk`. It promises that a page and a band are what was last written to them,
 //! whatever was evicted; that none goes home before its last change is durable in the log, a page not but
 //! through the double-write area, up to 32 at once, and of a band exactly the bytes that were written,
-//! also where a call is stopped at any moment; which frame goes next; and which is the oldest change that
-//! isn't on the disk. After it is made it takes no memory, and no call looks for a page or a band.
+//! also where a call is stopped at any moment; that redo of a page or a band is its records repeated on
+//! it, through a loan that is back at the return; which frame goes next; and which is the oldest change
+//! that isn't on the disk. After it is made it takes no memory, and no call looks for a page or a band.
 #![tactic(auto)]
 
 mod bands;
@@ -21,6 +22,8 @@ mod least;
 mod making;
 mod order;
 mod pool;
+mod redo;
+mod repeat;
 mod settle;
 mod shelf;
 mod slot;

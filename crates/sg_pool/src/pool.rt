@@ -36,7 +36,7 @@ use std::num::NonZeroUsize;
 /// It has to be ended with `end`: it isn't `Drop`. After `PoolFault::Disk` nothing more is known of
 /// it, but that its calls return and are safe.
 pub struct Pool {
-    shelf: Shelf,
+    pub(crate) shelf: Shelf,
     // the frames by their last use, each with whether it is pinned
     order: LruCache<u32, bool>,
     ghost pool: { IsPool shelf.slots.items order.entries },
@@ -80,7 +80,12 @@ impl Pool {
     }
 
     // The frame of a page, which is brought into the victim's where it is in none.
-    fn hold<D: Disk>(&mut self, disk: &mut D, log: &mut Log, p: u32) -> Result<u32, PoolFault>
+    pub(crate) fn hold<D: Disk>(
+        &mut self,
+        disk: &mut D,
+        log: &mut Log,
+        p: u32,
+    ) -> Result<u32, PoolFault>
         requires page { p < (sizes self.old).pages }
         ensures held { IfOk result (λ f. frame_holding self.new p ≡ Some f) }
         ensures used { IfOk result (λ f. IsUsed f (uses self.old) (uses self.new)) }
@@ -195,7 +200,12 @@ impl Pool {
     }
 
     // The window of a band, which is brought into the next one where it is in none.
-    fn hold_band<D: Disk>(&mut self, disk: &mut D, log: &mut Log, b: u32) -> Result<u32, PoolFault>
+    pub(crate) fn hold_band<D: Disk>(
+        &mut self,
+        disk: &mut D,
+        log: &mut Log,
+        b: u32,
+    ) -> Result<u32, PoolFault>
         requires band { b < (sizes self.old).bands }
         ensures brought { IfOk result (λ w. IsBandBrought b self.old self.new w) }
         ensures bytes { IsTrue D.told → log.old.area ≢ Home → Backs (sizes self.old) (D.view disk.old) self.old →

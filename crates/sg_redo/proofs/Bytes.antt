@@ -43,7 +43,8 @@ part_out w i ws out = grind (arith, nat_tests)
 pub place_or : (w : OnWindow) (i : ℕ) → ((w.at ≤ i) × (i < w.at + length w.bytes)) ⊎ ((i < w.at) ⊎ (w.at + length w.bytes ≤ i))
 place_or w i = ⊎_elim (λ before. inr (inl before)) (λ low. ⊎_elim (λ high. inl (low, high)) (λ behind. inr (inr behind)) (cases_lt i (w.at + length w.bytes))) (cases_lt i w.at)
 
-replay_byte : (ws : List OnWindow) (xs : List ℕ) (i : ℕ) → AllLie (length xs) ws → get_or (replayed ws xs) i 0 ≡ rewritten (on_byte i ws) (get_or xs i 0)
+-- a byte of a window after the changes is what they make of it
+pub replay_byte : (ws : List OnWindow) (xs : List ℕ) (i : ℕ) → AllLie (length xs) ws → get_or (replayed ws xs) i 0 ≡ rewritten (on_byte i ws) (get_or xs i 0)
 replay_byte [] xs i lie = refl
 replay_byte (w ∷ ws) xs i lie =
     let next = replay_byte ws (overwritten xs w.at w.bytes) i (subst (λ (n : ℕ). AllLie n ws) (sym (over_size w xs lie.0)) lie.1) in
@@ -61,7 +62,7 @@ covered_any : (ws : List OnByte) (x y : ℕ) → IsCovered ws → rewritten ws x
 covered_any [] x y covered = absurd covered
 covered_any (w ∷ ws) x y covered = refl
 
-bare_or : (ws : List OnByte) → IsCovered ws ⊎ (IsCovered ws → ⊥)
+pub bare_or : (ws : List OnByte) → IsCovered ws ⊎ (IsCovered ws → ⊥)
 bare_or [] = inr (λ none. none)
 bare_or (w ∷ ws) = inl tt
 

@@ -26,7 +26,7 @@ pub length-marks_with : (ws : List OnWindow) (marks : List Bool) → length (mar
 unfolding marks_with
 length-marks_with ws marks = length-map-range_with_len _ 0 (length marks)
 
-mark_at : (ws : List OnWindow) (marks : List Bool) (k : ℕ) → k < length marks → get_or (marks_with ws marks) k false ≡ (get_or marks k false || is_covered (on_byte k ws))
+pub mark_at : (ws : List OnWindow) (marks : List Bool) (k : ℕ) → k < length marks → get_or (marks_with ws marks) k false ≡ (get_or marks k false || is_covered (on_byte k ws))
 unfolding marks_with
 mark_at ws marks k lt = get_or-map-range_with_len _ 0 (length marks) k k false lt (omega arith)
 

@@ -1,13 +1,13 @@
 -- What replay of a unit leaves of it, and of all units.
-use Rattle.std.proofs.Common.{◌≡◌, ◌≢◌, ◌<◌, ◌+◌, ◌-◌, ◌==◌, ℕ, suc, Bool, true, false, if◌then◌else◌, List, [], ◌∷◌, length, map, take, drop, slice_index_or, refl, ap, ◌∙◌, arith}
+use Rattle.std.proofs.Common.{◌≡◌, ◌≢◌, ◌<◌, ◌+◌, ◌-◌, ◌==◌, ℕ, suc, Bool, true, false, if◌then◌else◌, List, Option, [], ◌∷◌, length, map, take, drop, slice_index_or, refl, ap, ◌∙◌, arith}
 use Rattle.std.proofs.lemmas.Bool.Decides.{nat_tests}
 use Rattle.sg_frames.proofs.Lent.{rewritten_whole}
 use Rattle.sg_frames.specs.Pieces.{rewritten}
 use Rattle.sg_ops.specs.Table.{Table}
 use Rattle.sg_redo.specs.declared.place.Place.{Place}
 use Rattle.sg_redo.specs.declared.unit.Unit as code
-use Rattle.sg_redo.specs.History.{repeated}
-use Rattle.sg_redo.specs.Window.{replayed}
+use Rattle.sg_redo.specs.History.{repeated, since_repeated}
+use Rattle.sg_redo.specs.Window.{replayed, since_replayed}
 use Rattle.sg_redo.specs.Places.{page_records, window_records, marks_with}
 use Rattle.sg_redo.specs.Units.{own_places, with_bytes, lent_at, is_page, replayed_unit}
 
@@ -16,33 +16,44 @@ pub these : (u : code.Unit) (places : List Place) → take (u.first + u.count - 
 these u places = let many : u.first + u.count - u.first ≡ u.count = omega arith in ap (λ (n : ℕ). take n (drop u.first places)) many
 
 -- a page, whose bytes were lent as `memory`
-pub page_done : (t : Table) (text : List ℕ) (places own : List Place) (u : code.Unit) (memory page : List ℕ) → memory ≡ u.loan.bytes → length memory ≡ 4096 → own ≡ own_places places u → length page ≡ length memory
-    → page ≡ repeated (page_records t text own) memory → with_bytes u (rewritten u.loan.bytes page) ≡ replayed_unit t text places u
+pub page_done : (t : Table) (text : List ℕ) (places own : List Place) (u : code.Unit) (memory page : List ℕ) (since : Option ℕ) → memory ≡ u.loan.bytes → length memory ≡ 4096 → own ≡ own_places places u → length page ≡ length memory
+    → page ≡ repeated (page_records t text own) memory → since ≡ since_repeated (page_records t text own) memory u.since → record (with_bytes u (rewritten u.loan.bytes page)) { since = since } ≡ replayed_unit t text places u
 unfolding replayed_unit
-page_done t text places own u memory page lent size is long done =
+page_done t text places own u memory page since lent size is long done oldest =
     let same : length memory ≡ length u.loan.bytes = ap (λ (bytes : List ℕ). length bytes) lent in
     let test : (length u.loan.bytes == 4096) ≡ true = grind (arith, nat_tests, size, same) in
-    rw test (ap (with_bytes u) (rewritten_whole u.loan.bytes page (long ∙ same)
-    ∙ (done ∙ (ap (repeated (page_records t text own)) lent ∙ ap (λ (ps : List Place). repeated (page_records t text ps) u.loan.bytes) is))))
+    rw test
+    (ap (λ (bytes : List ℕ). record (with_bytes u bytes) { since = since })
+    (rewritten_whole u.loan.bytes page (long ∙ same) ∙ (done ∙ (ap (repeated (page_records t text own)) lent ∙ ap (λ (ps : List Place). repeated (page_records t text ps) u.loan.bytes) is)))
+    ∙ ap (λ (o : Option ℕ). record (with_bytes u (repeated (page_records t text (own_places places u)) u.loan.bytes)) { since = o })
+    (oldest ∙ (ap (λ (p : List ℕ). since_repeated (page_records t text own) p u.since) lent ∙ ap (λ (ps : List Place). since_repeated (page_records t text ps) u.loan.bytes u.since) is)))
 
 -- a window
-pub window_done : (t : Table) (text : List ℕ) (places own : List Place) (u : code.Unit) (memory window : List ℕ) (marks : List Bool) → memory ≡ u.loan.bytes → length memory ≢ 4096 → own ≡ own_places places u → length window ≡ length memory
-    → window ≡ replayed (window_records t text own) memory → marks ≡ marks_with (window_records t text own) u.dirty → record (with_bytes u (rewritten u.loan.bytes window)) { dirty = marks } ≡ replayed_unit t text places u
+pub window_done : (t : Table) (text : List ℕ) (places own : List Place) (u : code.Unit) (memory window : List ℕ) (marks : List Bool) (since : Option ℕ) → memory ≡ u.loan.bytes → length memory ≢ 4096 → own ≡ own_places places u → length window ≡ length memory
+    → window ≡ replayed (window_records t text own) memory → marks ≡ marks_with (window_records t text own) u.dirty → since ≡ since_replayed (window_records t text own) u.since
+    → record (with_bytes u (rewritten u.loan.bytes window)) { dirty = marks; since = since } ≡ replayed_unit t text places u
 unfolding replayed_unit
-window_done t text places own u memory window marks lent size is long done marked =
+window_done t text places own u memory window marks since lent size is long done marked oldest =
     let same : length memory ≡ length u.loan.bytes = ap (λ (bytes : List ℕ). length bytes) lent in
     let test : (length u.loan.bytes == 4096) ≡ false = grind (arith, nat_tests, size, same) in
     rw test
-    (ap (λ (bytes : List ℕ). record (with_bytes u bytes) { dirty = marks })
+    (ap (λ (bytes : List ℕ). record (with_bytes u bytes) { dirty = marks; since = since })
     (rewritten_whole u.loan.bytes window (long ∙ same) ∙ (done ∙ (ap (replayed (window_records t text own)) lent ∙ ap (λ (ps : List Place). replayed (window_records t text ps) u.loan.bytes) is)))
-    ∙ ap (λ (ms : List Bool). record (with_bytes u (replayed (window_records t text (own_places places u)) u.loan.bytes)) { dirty = ms }) (marked ∙ ap (λ (ps : List Place). marks_with (window_records t text ps) u.dirty) is))
+    ∙ (ap (λ (ms : List Bool). record (with_bytes u (replayed (window_records t text (own_places places u)) u.loan.bytes)) { dirty = ms; since = since }) (marked ∙ ap (λ (ps : List Place). marks_with (window_records t text ps) u.dirty) is)
+    ∙ ap (λ (o : Option ℕ). record (with_bytes u (replayed (window_records t text (own_places places u)) u.loan.bytes)) { dirty = marks_with (window_records t text (own_places places u)) u.dirty; since = o })
+    (oldest ∙ ap (λ (ps : List Place). since_replayed (window_records t text ps) u.since) is)))
 
 -- the loans stay where they are
-lent_same : (t : Table) (text : List ℕ) (places : List Place) (u : code.Unit) → lent_at (replayed_unit t text places u) ≡ lent_at u
+pub lent_same : (t : Table) (text : List ℕ) (places : List Place) (u : code.Unit) → lent_at (replayed_unit t text places u) ≡ lent_at u
 unfolding replayed_unit
 lent_same t text places u = either (is_page u)
   where
-    either : (b : Bool) → lent_at (if b then with_bytes u (repeated (page_records t text (own_places places u)) u.loan.bytes) else record (with_bytes u (replayed (window_records t text (own_places places u)) u.loan.bytes)) { dirty = marks_with (window_records t text (own_places places u)) u.dirty }) ≡ lent_at u
+    own : List Place
+    own = own_places places u
+
+    either : (b : Bool)
+        → lent_at (if b then record (with_bytes u (repeated (page_records t text own) u.loan.bytes)) { since = since_repeated (page_records t text own) u.loan.bytes u.since }
+        else record (with_bytes u (replayed (window_records t text own) u.loan.bytes)) { dirty = marks_with (window_records t text own) u.dirty; since = since_replayed (window_records t text own) u.since }) ≡ lent_at u
     either true = refl
     either false = refl
 

@@ -17,7 +17,7 @@ use Rattle.sg_base.proofs.Slots.{length-slots_below}
 use Rattle.sg_ops.proofs.Lookups.{after_long, before_long}
 use Rattle.sg_ops.specs.Laws.{IsLawful}
 use Rattle.sg_ops.specs.Steps.{item_after, item_before, change_in, step, BringsBytes}
-use Rattle.sg_ops.specs.Table.{Table, record_at, accepts_of, after_of, before_of}
+use Rattle.sg_ops.specs.Table.{Table, record_at}
 use Rattle.sg_slotted.specs.Layout.{with_u16, grown, filled, cleared, emptied, filled_with, rebuilt, compacted, roomy, store_layout, push_layout, lsn_layout, links_layout, format_layout, put_layout, remove_layout, set_layout}
 use Rattle.sg_slotted.specs.Writes.{KeepsOutside}
 use Rattle.sg_slotted.proofs.Changes as changes

@@ -1,5 +1,5 @@
 -- One page, and one byte of a band, as records of the log change them.
-use Rattle.std.specs.Prelude.{◌≡◌, ◌<◌, ◌≤◌, ℕ, suc, nat_lt, Bool, true, false, if◌then◌else◌, List, [], ◌∷◌, Option, Some, IfSome, unwrap_or}
+use Rattle.std.specs.Prelude.{◌≡◌, ◌<◌, ◌≤◌, ◌&&◌, ℕ, suc, nat_lt, Bool, true, false, if◌then◌else◌, List, [], ◌∷◌, Option, Some, IfSome, unwrap_or, is_some}
 use Rattle.sg_base.specs.Page.{lsn_of}
 
 -- a record of the log as one page has it: its number, and what its operation makes of a page that it fits
@@ -23,6 +23,19 @@ redone r page = if nat_lt (lsn_of page) r.lsn then unwrap_or (r.makes page) page
 abbrev pub repeated : List OnPage → List ℕ → List ℕ
 repeated [] page = page
 repeated (r ∷ rs) page = repeated rs (redone r page)
+
+-- the record is done to the page: its number is above the page's, and its operation fits
+abbrev pub applies : OnPage → List ℕ → Bool
+applies r page = nat_lt (lsn_of page) r.lsn && is_some (r.makes page)
+
+-- the oldest change of the page that isn't on the disk, after the record: it is one, where the page had none
+abbrev pub since_after : OnPage → List ℕ → Option ℕ → Option ℕ
+since_after r page since = if applies r page then Some (unwrap_or since r.lsn) else since
+
+-- and after the records one after another: the first of them that is done to the page, where it had none
+abbrev pub since_repeated : List OnPage → List ℕ → Option ℕ → Option ℕ
+since_repeated [] page since = since
+since_repeated (r ∷ rs) page since = since_repeated rs (redone r page) (since_after r page since)
 
 -- redo of a byte: the last record wins, whatever stood there
 abbrev pub rewritten : List OnByte → ℕ → ℕ

@@ -6,8 +6,8 @@ use Rattle.sg_frames.specs.declared.place.Place as frames
 use Rattle.sg_ops.specs.Table.{Table}
 use Rattle.sg_redo.specs.declared.place.Place.{Place}
 use Rattle.sg_redo.specs.declared.unit.Unit as code
-use Rattle.sg_redo.specs.History.{repeated}
-use Rattle.sg_redo.specs.Window.{replayed}
+use Rattle.sg_redo.specs.History.{repeated, since_repeated}
+use Rattle.sg_redo.specs.Window.{replayed, since_replayed}
 use Rattle.sg_redo.specs.Places.{change_at, page_records, window_records, marks_with, IsKnown}
 
 -- the places that a unit has as its own
@@ -35,9 +35,9 @@ abbrev pub is_page : code.Unit → Bool
 is_page u = length u.loan.bytes == 4096
 
 -- THE UNIT AFTER REPLAY: a page with the history of its places repeated; a window with their bytes written over it, and
--- these marked
+-- these marked. The first record that was done is its oldest change that isn't on the disk, where it had none
 unfoldable pub replayed_unit : Table → List ℕ → List Place → code.Unit → code.Unit
 replayed_unit t text places u =
     let own = own_places places u in
-    if is_page u then with_bytes u (repeated (page_records t text own) u.loan.bytes)
-    else record (with_bytes u (replayed (window_records t text own) u.loan.bytes)) { dirty = marks_with (window_records t text own) u.dirty }
+    if is_page u then record (with_bytes u (repeated (page_records t text own) u.loan.bytes)) { since = since_repeated (page_records t text own) u.loan.bytes u.since }
+    else record (with_bytes u (replayed (window_records t text own) u.loan.bytes)) { dirty = marks_with (window_records t text own) u.dirty; since = since_replayed (window_records t text own) u.since }

@@ -1,5 +1,5 @@
 -- Changes of a band in its window, a list of bytes.
-use Rattle.std.specs.Prelude.{◌≡◌, ◌≤◌, ◌+◌, ◌-◌, ◌&&◌, ℕ, nat_lt, nat_le, if◌then◌else◌, List, [], ◌∷◌, ◌++◌, length, IsTrue, is_some, slice_index}
+use Rattle.std.specs.Prelude.{◌≡◌, ◌≤◌, ◌+◌, ◌-◌, ◌&&◌, ℕ, nat_lt, nat_le, if◌then◌else◌, List, [], ◌∷◌, ◌++◌, length, IsTrue, is_some, slice_index, Option, Some, unwrap_or}
 use Rattle.sg_base.specs.Overwritten.{overwritten}
 use Rattle.sg_base.specs.declared.page.TheConstants.{BAND_SIZE}
 use Rattle.sg_ops.specs.Table.{Table, range_at, rendered}
@@ -32,6 +32,11 @@ IsPossible t (Paint at count code position arg) = (at + count ≤ BAND_SIZE) × 
 abbrev pub replayed : List OnWindow → List ℕ → List ℕ
 replayed [] window = window
 replayed (w ∷ ws) window = replayed ws (overwritten window w.at w.bytes)
+
+-- the oldest change of a window that isn't on the disk, after the changes: the first of them, where it had none
+abbrev pub since_replayed : List OnWindow → Option ℕ → Option ℕ
+since_replayed [] since = since
+since_replayed (w ∷ ws) since = since_replayed ws (Some (unwrap_or since w.lsn))
 
 -- as byte i has them
 abbrev pub on_byte : ℕ → List OnWindow → List OnByte

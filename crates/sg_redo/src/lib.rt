@@ -26,6 +26,6 @@ pub use laws::{
 };
 pub use page::apply_page;
 pub use place::Place;
-pub use replaying::replay;
+pub use replaying::{replay, replay_unit};
 pub use unit::Unit;
 pub use window::{BandChange, apply_window};

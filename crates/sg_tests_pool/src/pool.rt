@@ -1,11 +1,16 @@
-use sg_base::{BandNo, Lsn, PageNo, PageOp, TxnId, view};
+ghost use Rattle.std.specs.Prelude.{◌≡◌, ◌<◌};
+
+use sg_base::{BandNo, Lsn, PageNo, PageOp, Steps, TxnId, view};
 use sg_disk::{Area, Disk, Fuse, MemDisk};
 use sg_gate::{Super, band_start, lay_over, page_start};
 use sg_log::{Log, LogFault};
 use sg_ops::Ops;
 use sg_pool::{Pool, PoolFault};
 use sg_record::plain::Rec;
+use sg_redo::{Place, are_known};
 use std::alloc::Global;
+use std::marker::Brand;
+use std::sync::ledger::{Blank, Ledger};
 use std::test::Fail;
 
 const PAGES: u32 = 200;
@@ -53,6 +58,7 @@ enum Stop {
     Log(LogFault),
     NoPage,
     NoBand,
+    NoOperation,
 }
 
 impl From<PoolFault> for Stop {
@@ -242,6 +248,92 @@ fn the_least_recently_used_page_that_is_not_pinned_goes(rt: HostRuntime) -> Resu
     let (victims, same) = outcome?;
     assert_eq!(rt; victims, [2, 3, 4]);
     assert!(rt; same);
+    Ok(())
+}
+
+// A part of a log: page 7 is formatted and its cell put, and a cell of band 3 written.
+const PART: [u8; 131] = [
+    2, 36, 0, 0, 0, 5, 0, 0, 0, 0, 0, 0, 0, 26, 0, 0, 0, 0, 0, 0, 0, 7, 0, 0, 0, 1, 0, 0, 0, 0, 1,
+    0, 1, 0, 0, 1, 2, 46, 0, 0, 0, 5, 0, 0, 0, 0, 0, 0, 0, 26, 0, 0, 0, 0, 0, 0, 0, 7, 0, 0, 0, 2,
+    0, 0, 0, 0, 0, 0, 12, 0, 7, 0, 0, 0, 120, 0, 0, 0, 0, 0, 0, 0, 3, 49, 0, 0, 0, 5, 0, 0, 0, 0,
+    0, 0, 0, 26, 0, 0, 0, 0, 0, 0, 0, 3, 0, 0, 0, 232, 3, 0, 0, 8, 0, 0, 0, 0, 0, 0, 0, 0, 0, 0, 0,
+    130, 0, 0, 0, 0, 0, 0, 0,
+];
+
+const OF_PAGE: [Place; 2] = [
+    Place {
+        unit: 7,
+        lsn: 110,
+        at: 0,
+    },
+    Place {
+        unit: 7,
+        lsn: 120,
+        at: 36,
+    },
+];
+
+const OF_BAND: [Place; 1] = [Place {
+    unit: 203,
+    lsn: 130,
+    at: 82,
+}];
+
+impl Trial {
+    // Repeats the records of page 7 and band 3.
+    fn redo<L: Ledger>(&mut self, steps: &mut Steps<L>) -> Result<(), Stop> {
+        if !are_known(&OF_PAGE, &PART, &self.ops) || !are_known(&OF_BAND, &PART, &self.ops) {
+            return Err(Stop::NoOperation);
+        }
+        if self.pool.pages() <= 7 || self.pool.bands() <= 3 {
+            return Err(Stop::NoPage);
+        }
+        self.pool.redo_page(
+            &mut self.disk,
+            &mut self.log,
+            PageNo(7),
+            &PART,
+            &OF_PAGE,
+            &self.ops,
+            steps,
+        )?;
+        self.pool.redo_band(
+            &mut self.disk,
+            &mut self.log,
+            BandNo(3),
+            &PART,
+            &OF_BAND,
+            &self.ops,
+            steps,
+        )?;
+        Ok(())
+    }
+}
+
+// Whether the page and the band are what these records make of zeros, once and again; and the oldest change then.
+fn redone<L: Ledger>(trial: &mut Trial, blank: Blank) -> Result<(bool, Option<Lsn>), Stop>
+    requires name { blank.name ≡ L.name }
+    requires parts { blank.parts ≡ L.parts }
+    requires some { 0 < L.parts }
+{
+    let mut steps = Steps::<L>::open(blank);
+    let mut cells = [0; 16];
+    cells[0] = 130;
+    trial.redo(&mut steps)?;
+    let once = trial.has(7, 120)? && trial.has_cells(3, &cells)?;
+    trial.redo(&mut steps)?;
+    let again = trial.has(7, 120)? && trial.has_cells(3, &cells)?;
+    Ok((once && again, trial.pool.oldest()))
+}
+
+#[test]
+fn records_are_repeated_on_a_page_and_a_band(rt: HostRuntime) -> Result<(), Fail> {
+    let mut trial = Trial::new(rt.alloc(), Ops::shipped(rt.alloc())?, None)?;
+    let outcome = redone::<Brand>(&mut trial, Blank::new(1));
+    trial.end();
+    let (same, oldest) = outcome?;
+    assert!(rt; same);
+    assert_eq!(rt; oldest, Some(110));
     Ok(())
 }
 
@@ -572,12 +664,12 @@ fn is_crash_safe(alloc: Global, ops: Ops, passes: u64, pick: u64) -> Result<bool
 
 #[test]
 fn a_crash_leaves_whole_pages_and_bytes_of_durable_records(rt: HostRuntime) -> Result<(), Fail> {
-    for k in 0..100u64 {
+    for k in 0..430u64 {
         let ops = Ops::shipped(rt.alloc())?;
         let safe = is_crash_safe(
             rt.alloc(),
             ops,
-            k.wrapping_mul(11),
+            k.wrapping_mul(3),
             k.wrapping_mul(0x9e37_79b9),
         )?;
         assert!(rt; safe);

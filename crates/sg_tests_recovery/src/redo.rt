@@ -187,6 +187,7 @@ fn turn<L: Ledger>(loan: Loan, ops: &Ops, steps: &mut Steps<L>) -> Loan
         number: 3,
         loan,
         dirty: Dirty::new(),
+        since: None,
         first: 0,
         count: 1,
     }];
@@ -198,6 +199,7 @@ fn turn<L: Ledger>(loan: Loan, ops: &Ops, steps: &mut Steps<L>) -> Loan
         number: _,
         loan,
         dirty: _,
+        since: _,
         first: _,
         count: _,
     } = unit;

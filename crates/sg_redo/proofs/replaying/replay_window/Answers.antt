@@ -3,7 +3,7 @@ use Rattle.std.proofs.lemmas.Grind.{common_steps}
 use Rattle.sg_ops.specs.Table.{Table, table_of}
 use Rattle.sg_redo.specs.declared.place.Place.{Place}
 use Rattle.sg_redo.specs.Places.{window_records}
-use Rattle.sg_redo.proofs.InTurn.{Marks, window_turn, marks_turn}
+use Rattle.sg_redo.proofs.InTurn.{Marks, window_turn, marks_turn, window_since_turn, lie_turn}
 use Rattle.sg_redo.proofs.Marking.{marks_are}
 use Rattle.sg_redo.proofs.replaying.replay_window.Goals as goal
 
@@ -14,6 +14,8 @@ places-preserved g c =
       written = grind (arith, common_steps, window_turn);
       marked = marks_turn t c.args.text.now c.args.places.now c.places.k _ c.args.dirty.now c.places.dirty c.redo_window.new.dirty c.places-test.true c.places.invariant.marked c.redo_window.ensures.marked;
       marks = λ whole. c.redo_window.ensures.marks (c.places.invariant.marks whole);
+      since = c.redo_window.ensures.since ∙ window_since_turn t c.args.text.now c.args.places.now c.places.k _ c.args.since.now c.places.since c.places-test.true c.places.invariant.since;
+      lie = lie_turn t c.args.text.now c.args.places.now c.places.k _ c.places-test.true c.places.invariant.lie c.redo_window.ensures.lies;
       steps = omega arith;
     }
 

@@ -1,4 +1,4 @@
-use Rattle.std.proofs.Common.{◌≡◌, ◌<◌, List, [], length, get_or, sym, ◌∙◌, ap, subst, arith, get_or-set_same, get_or-set_other}
+use Rattle.std.proofs.Common.{◌≡◌, ◌<◌, List, [], length, get_or, refl, sym, ◌∙◌, ap, subst, arith, get_or-set_same, get_or-set_other}
 use Rattle.sg_base.specs.declared.area.Area.TheVariants.{Home}
 use Rattle.sg_frames.specs.Held.{Held}
 use Rattle.sg_pool.specs.declared.slot.Slot.{Slot}
@@ -24,9 +24,8 @@ returns-clause-brought g c =
     let is = c.write_band.ensures.frames in (
       c.in_ok-w.w,
       record {
-        held = written_held (geometry_of s) s.slots.items s.wins t.wins c.in_ok-w.w c.args.b.0 c.args.lsn c.args.at c.args.bytes.now lt held c.write_band.ensures.wins c.write_band.ensures.marked c.write_band.ensures.marks s.frames t.frames
-            (ap (λ (h : Held). h.pages) is) (λ v differ. ap (λ (h : Held). get_or h.windows v []) is ∙ get_or-set_other s.frames.windows c.in_ok-w.w v _ [] differ) (s.shelf.here.windows c.in_ok-w.w low) c.requires.fits
-            (ap (λ (h : Held). get_or h.windows c.in_ok-w.w []) is ∙ get_or-set_same s.frames.windows c.in_ok-w.w _ [] low);
+        held = written_held (geometry_of s) s.slots.items s.wins t.wins c.in_ok-w.w c.args.b.0 _ lt held c.write_band.ensures.wins c.write_band.ensures.marks s.frames t.frames
+            (ap (λ (h : Held). h.pages) is) (λ v differ. ap (λ (h : Held). get_or h.windows v []) is ∙ get_or-set_other s.frames.windows c.in_ok-w.w v _ [] differ);
         others = λ v differ. ap (λ (l : List Slot). page_in l v) c.write_band.ensures.wins ∙ (page_there s.wins.slots.items c.in_ok-w.w _ lt v differ ∙ c.in_ok-w.ensures.brought.others v differ);
       },
     )
@@ -41,8 +40,9 @@ returns-clause-backed g c told apart backed =
     let same : geometry_of s ≡ geometry_of o = c.hold_band.ensures.size in
     let now = subst (λ (h : Geometry). IsBacked h (w.now Home) (units (w.now Home).seen s)) (sym same) (c.in_ok-w.ensures.backed told apart backed) in
     subst (λ (h : Geometry). IsBacked h (w.now Home) (units (w.now Home).seen t)) same
-    (values_written_backed (geometry_of s) s.slots.items s.wins t.wins c.in_ok-w.w c.args.b.0 c.args.lsn c.args.at c.args.bytes.now lt held c.write_band.ensures.wins c.write_band.ensures.marked c.write_band.ensures.marks s.frames t.frames
-    (ap (λ (h : Held). h.pages) is) (λ v differ. ap (λ (h : Held). get_or h.windows v []) is ∙ get_or-set_other s.frames.windows c.in_ok-w.w v _ [] differ) (s.shelf.here.windows c.in_ok-w.w low) c.requires.fits
+    (values_written_backed (geometry_of s) s.slots.items s.wins t.wins c.in_ok-w.w c.args.b.0 _ lt held c.write_band.ensures.wins c.write_band.ensures.marks s.frames t.frames
+    (ap (λ (h : Held). h.pages) is) (λ v differ. ap (λ (h : Held). get_or h.windows v []) is ∙ get_or-set_other s.frames.windows c.in_ok-w.w v _ [] differ)
+    c.args.lsn c.args.at c.args.bytes.now refl c.write_band.ensures.marked (s.shelf.here.windows c.in_ok-w.w low) c.requires.fits
     (ap (λ (h : Held). get_or h.windows c.in_ok-w.w []) is ∙ get_or-set_same s.frames.windows c.in_ok-w.w _ [] low) (w.now Home) (geometry_of t) t.slots.items c.write_band.ensures.geometry c.write_band.ensures.slots now)
 
 pub returns-clause-changed : goal.returns-clause-changed
@@ -54,8 +54,9 @@ returns-clause-changed g c told apart backed =
     let w = g.D.Disk.view c.hold_band.new.disk in (
       units (w.now Home).seen s,
       c.in_ok-w.ensures.same told apart backed,
-      values_written (geometry_of s) s.slots.items s.wins t.wins c.in_ok-w.w c.args.b.0 c.args.lsn c.args.at c.args.bytes.now lt held c.write_band.ensures.wins c.write_band.ensures.marked c.write_band.ensures.marks s.frames t.frames
-          (ap (λ (h : Held). h.pages) is) (λ v differ. ap (λ (h : Held). get_or h.windows v []) is ∙ get_or-set_other s.frames.windows c.in_ok-w.w v _ [] differ) (s.shelf.here.windows c.in_ok-w.w low) c.requires.fits
+      values_written (geometry_of s) s.slots.items s.wins t.wins c.in_ok-w.w c.args.b.0 _ lt held c.write_band.ensures.wins c.write_band.ensures.marks s.frames t.frames
+          (ap (λ (h : Held). h.pages) is) (λ v differ. ap (λ (h : Held). get_or h.windows v []) is ∙ get_or-set_other s.frames.windows c.in_ok-w.w v _ [] differ)
+          c.args.lsn c.args.at c.args.bytes.now refl c.write_band.ensures.marked (s.shelf.here.windows c.in_ok-w.w low) c.requires.fits
           (ap (λ (h : Held). get_or h.windows c.in_ok-w.w []) is ∙ get_or-set_same s.frames.windows c.in_ok-w.w _ [] low) (w.now Home) (geometry_of t) t.slots.items c.write_band.ensures.geometry c.write_band.ensures.slots,
     )
 
@@ -65,9 +66,8 @@ returns-clause-last g c =
     let lt = (frame_some c.args.b.0 s.wins.slots.items c.in_ok-w.w held).0 in let wide = s.shelf.wide in
     let low : c.in_ok-w.w < length s.frames.windows = omega (arith, lt, wide) in
     let is = c.write_band.ensures.frames in
-    ap (last_in t.wins.marks.items) (written_held (geometry_of s) s.slots.items s.wins t.wins c.in_ok-w.w c.args.b.0 c.args.lsn c.args.at c.args.bytes.now lt held c.write_band.ensures.wins c.write_band.ensures.marked c.write_band.ensures.marks s.frames t.frames
-    (ap (λ (h : Held). h.pages) is) (λ v differ. ap (λ (h : Held). get_or h.windows v []) is ∙ get_or-set_other s.frames.windows c.in_ok-w.w v _ [] differ) (s.shelf.here.windows c.in_ok-w.w low) c.requires.fits
-    (ap (λ (h : Held). get_or h.windows c.in_ok-w.w []) is ∙ get_or-set_same s.frames.windows c.in_ok-w.w _ [] low)) ∙ c.write_band.ensures.last
+    ap (last_in t.wins.marks.items) (written_held (geometry_of s) s.slots.items s.wins t.wins c.in_ok-w.w c.args.b.0 _ lt held c.write_band.ensures.wins c.write_band.ensures.marks s.frames t.frames
+    (ap (λ (h : Held). h.pages) is) (λ v differ. ap (λ (h : Held). get_or h.windows v []) is ∙ get_or-set_other s.frames.windows c.in_ok-w.w v _ [] differ)) ∙ c.write_band.ensures.last
 
 pub returns-clause-logged : goal.returns-clause-logged
 returns-clause-logged g c tail below small =
@@ -75,9 +75,8 @@ returns-clause-logged g c tail below small =
     let lt = (frame_some c.args.b.0 s.wins.slots.items c.in_ok-w.w held).0 in let wide = s.shelf.wide in
     let low : c.in_ok-w.w < length s.frames.windows = omega (arith, lt, wide) in
     let is = c.write_band.ensures.frames in
-    written_below (geometry_of s) s.slots.items s.wins t.wins c.in_ok-w.w c.args.b.0 c.args.lsn c.args.at c.args.bytes.now lt held c.write_band.ensures.wins c.write_band.ensures.marked c.write_band.ensures.marks s.frames t.frames
-    (ap (λ (h : Held). h.pages) is) (λ v differ. ap (λ (h : Held). get_or h.windows v []) is ∙ get_or-set_other s.frames.windows c.in_ok-w.w v _ [] differ) (s.shelf.here.windows c.in_ok-w.w low) c.requires.fits
-    (ap (λ (h : Held). get_or h.windows c.in_ok-w.w []) is ∙ get_or-set_same s.frames.windows c.in_ok-w.w _ [] low) c.write_band.ensures.last tail small (c.hold_band.ensures.logged tail below)
+    written_below (geometry_of s) s.slots.items s.wins t.wins c.in_ok-w.w c.args.b.0 _ lt held c.write_band.ensures.wins c.write_band.ensures.marks s.frames t.frames
+    (ap (λ (h : Held). h.pages) is) (λ v differ. ap (λ (h : Held). get_or h.windows v []) is ∙ get_or-set_other s.frames.windows c.in_ok-w.w v _ [] differ) c.args.lsn c.write_band.ensures.last tail small (c.hold_band.ensures.logged tail below)
 
 pub returns-in_err-w-clause-logged : goal.returns-in_err-w-clause-logged
 returns-in_err-w-clause-logged g c tail below small = c.hold_band.ensures.logged tail below

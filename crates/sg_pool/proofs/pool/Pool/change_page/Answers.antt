@@ -1,9 +1,12 @@
-use Rattle.std.proofs.Common.{◌≡◌, sym, subst, arith}
+use Rattle.std.proofs.Common.{◌≡◌, ◌<◌, length, sym, subst, arith}
 use Rattle.sg_base.specs.declared.area.Area.TheVariants.{Home}
+use Rattle.sg_base.specs.Op.{op_of}
+use Rattle.sg_ops.specs.Table.{Table, table_of}
+use Rattle.sg_redo.specs.Page.{on_page}
 use Rattle.sg_pool.specs.Units.{Geometry, IsBacked}
 use Rattle.sg_pool.specs.Shelves.{geometry_of, units}
 use Rattle.sg_pool.proofs.Slots.{frame_some}
-use Rattle.sg_pool.proofs.Changes.{change_is, change_backed, still_held, others_still}
+use Rattle.sg_pool.proofs.Changes.{record_marked, change_is, change_backed, still_held, others_still}
 use Rattle.sg_pool.proofs.pool.Pool.change_page.Goals as goal
 
 pub change-requires : goal.change-requires
@@ -12,13 +15,16 @@ change-requires g c = let it = frame_some c.args.p.0 c.hold.new.self.shelf.slots
 pub returns-clause-brought : goal.returns-clause-brought
 returns-clause-brought g c =
     let s = c.hold.new.self.shelf in let held = c.in_ok-f.ensures.held in
-    let lt = (frame_some c.args.p.0 s.slots.items c.in_ok-f.f held).0 in let many = s.shelf.many in (
+    let lt = (frame_some c.args.p.0 s.slots.items c.in_ok-f.f held).0 in let many = s.shelf.many in
+    let long : c.in_ok-f.f < length s.frames.pages = omega (arith, lt, many) in
+    let t : Table = table_of (λ p. (goal.RecordOp-dyn g p).record_meaning p.1) (λ p. (goal.RangeOp-dyn g p).range_meaning p.1) c.args.ops.now in
+    let marked = record_marked c.args.p.0 (on_page t c.args.lsn (op_of c.args.op.now)) s.slots.items s.frames c.in_ok-f.f lt long s.shelf.apart held in (
       c.in_ok-f.f,
       record {
-        held = still_held c.args.p.0 _ s.slots.items s.frames c.in_ok-f.f lt (omega (arith, lt, many)) s.shelf.apart held c.change.new.self.slots.items c.change.new.self.frames c.change.ensures.frames c.change.ensures.slots;
+        held = still_held s.slots.items _ c.change.new.self.slots.items c.in_ok-f.f _ marked c.change.ensures.slots c.args.p.0 held;
         used = c.in_ok-f.ensures.used;
         victim = c.in_ok-f.ensures.victim;
-        others = others_still c.args.p.0 _ s.slots.items s.frames c.in_ok-f.f lt (omega (arith, lt, many)) s.shelf.apart held c.args.self.now.shelf.slots.items c.change.new.self.slots.items c.change.new.self.frames c.change.ensures.frames c.change.ensures.slots c.in_ok-f.ensures.others;
+        others = others_still s.slots.items _ c.change.new.self.slots.items c.in_ok-f.f _ marked c.change.ensures.slots c.args.self.now.shelf.slots.items c.in_ok-f.ensures.others;
       },
     )
 

@@ -1,0 +1,88 @@
+use Rattle.std.proofs.Common.{◌≡◌, ◌<◌, List, [], length, get_or, refl, sym, ◌∙◌, ap, subst, arith, get_or-set_same, get_or-set_other}
+use Rattle.sg_base.specs.declared.area.Area.TheVariants.{Home}
+use Rattle.sg_frames.specs.Held.{Held}
+use Rattle.sg_ops.specs.Table.{Table, table_of}
+use Rattle.sg_redo.specs.Places.{window_records}
+use Rattle.sg_pool.specs.Repeated.{last_lsn}
+use Rattle.sg_pool.specs.declared.slot.Slot.{Slot}
+use Rattle.sg_pool.specs.Held.{page_in}
+use Rattle.sg_pool.specs.Units.{Geometry, IsBacked}
+use Rattle.sg_pool.specs.Windows.{last_in}
+use Rattle.sg_pool.specs.Shelves.{geometry_of, units}
+use Rattle.sg_pool.proofs.BandsChanged.{written_held, written_below, values_replayed, values_replayed_backed}
+use Rattle.sg_pool.proofs.Slots.{frame_some, page_there}
+use Rattle.sg_pool.proofs.pool.Pool.redo_band.Goals as goal
+
+pub repeat_band-requires-clause-held : goal.repeat_band-requires-clause-held
+repeat_band-requires-clause-held g c = (c.args.b.0, (frame_some c.args.b.0 c.hold_band.new.self.shelf.wins.slots.items c.in_ok-w.w c.in_ok-w.ensures.brought.held).1)
+
+pub returns-clause-brought : goal.returns-clause-brought
+returns-clause-brought g c =
+    let s = c.hold_band.new.self.shelf in let t = c.repeat_band.new.self in let held = c.in_ok-w.ensures.brought.held in
+    let lt = (frame_some c.args.b.0 s.wins.slots.items c.in_ok-w.w held).0 in let wide = s.shelf.wide in
+    let low : c.in_ok-w.w < length s.frames.windows = omega (arith, lt, wide) in
+    let is = c.repeat_band.ensures.frames in
+    let t' : Table = table_of (λ p. (goal.RecordOp-dyn g p).record_meaning p.1) (λ p. (goal.RangeOp-dyn g p).range_meaning p.1) c.args.ops.now in (
+      c.in_ok-w.w,
+      record {
+        held = written_held (geometry_of s) s.slots.items s.wins t.wins c.in_ok-w.w c.args.b.0 _ lt held c.repeat_band.ensures.wins c.repeat_band.ensures.marks s.frames t.frames
+            (ap (λ (h : Held). h.pages) is) (λ v differ. ap (λ (h : Held). get_or h.windows v []) is ∙ get_or-set_other s.frames.windows c.in_ok-w.w v _ [] differ);
+        others = λ v differ. ap (λ (l : List Slot). page_in l v) c.repeat_band.ensures.wins ∙ (page_there s.wins.slots.items c.in_ok-w.w _ lt v differ ∙ c.in_ok-w.ensures.brought.others v differ);
+      },
+    )
+
+pub returns-clause-backed : goal.returns-clause-backed
+returns-clause-backed g c told apart backed =
+    let s = c.hold_band.new.self.shelf in let t = c.repeat_band.new.self in let held = c.in_ok-w.ensures.brought.held in
+    let lt = (frame_some c.args.b.0 s.wins.slots.items c.in_ok-w.w held).0 in let wide = s.shelf.wide in
+    let low : c.in_ok-w.w < length s.frames.windows = omega (arith, lt, wide) in
+    let is = c.repeat_band.ensures.frames in
+    let t' : Table = table_of (λ p. (goal.RecordOp-dyn g p).record_meaning p.1) (λ p. (goal.RangeOp-dyn g p).range_meaning p.1) c.args.ops.now in
+    let o = c.args.self.now.shelf in let w = g.D.Disk.view c.hold_band.new.disk in
+    let same : geometry_of s ≡ geometry_of o = c.hold_band.ensures.size in
+    let now = subst (λ (h : Geometry). IsBacked h (w.now Home) (units (w.now Home).seen s)) (sym same) (c.in_ok-w.ensures.backed told apart backed) in
+    subst (λ (h : Geometry). IsBacked h (w.now Home) (units (w.now Home).seen t)) same
+    (values_replayed_backed (geometry_of s) s.slots.items s.wins t.wins c.in_ok-w.w c.args.b.0 _ lt held c.repeat_band.ensures.wins c.repeat_band.ensures.marks s.frames t.frames
+    (ap (λ (h : Held). h.pages) is) (λ v differ. ap (λ (h : Held). get_or h.windows v []) is ∙ get_or-set_other s.frames.windows c.in_ok-w.w v _ [] differ)
+    (window_records t' c.args.text.now c.args.places.now) refl c.repeat_band.ensures.marked c.repeat_band.ensures.beyond (s.shelf.here.windows c.in_ok-w.w low) c.repeat_band.ensures.lie
+    (ap (λ (h : Held). get_or h.windows c.in_ok-w.w []) is ∙ get_or-set_same s.frames.windows c.in_ok-w.w _ [] low) (w.now Home) (geometry_of t) t.slots.items c.repeat_band.ensures.geometry c.repeat_band.ensures.slots now)
+
+pub returns-clause-repeated : goal.returns-clause-repeated
+returns-clause-repeated g c told apart backed =
+    let s = c.hold_band.new.self.shelf in let t = c.repeat_band.new.self in let held = c.in_ok-w.ensures.brought.held in
+    let lt = (frame_some c.args.b.0 s.wins.slots.items c.in_ok-w.w held).0 in let wide = s.shelf.wide in
+    let low : c.in_ok-w.w < length s.frames.windows = omega (arith, lt, wide) in
+    let is = c.repeat_band.ensures.frames in
+    let t' : Table = table_of (λ p. (goal.RecordOp-dyn g p).record_meaning p.1) (λ p. (goal.RangeOp-dyn g p).range_meaning p.1) c.args.ops.now in
+    let w = g.D.Disk.view c.hold_band.new.disk in (
+      units (w.now Home).seen s,
+      c.in_ok-w.ensures.same told apart backed,
+      c.in_ok-w.ensures.backed told apart backed,
+      values_replayed (geometry_of s) s.slots.items s.wins t.wins c.in_ok-w.w c.args.b.0 _ lt held c.repeat_band.ensures.wins c.repeat_band.ensures.marks s.frames t.frames
+          (ap (λ (h : Held). h.pages) is) (λ v differ. ap (λ (h : Held). get_or h.windows v []) is ∙ get_or-set_other s.frames.windows c.in_ok-w.w v _ [] differ)
+          (window_records t' c.args.text.now c.args.places.now) refl c.repeat_band.ensures.marked c.repeat_band.ensures.beyond (s.shelf.here.windows c.in_ok-w.w low) c.repeat_band.ensures.lie
+          (ap (λ (h : Held). get_or h.windows c.in_ok-w.w []) is ∙ get_or-set_same s.frames.windows c.in_ok-w.w _ [] low) (w.now Home) (geometry_of t) t.slots.items c.repeat_band.ensures.geometry c.repeat_band.ensures.slots,
+    )
+
+pub returns-clause-last : goal.returns-clause-last
+returns-clause-last g c =
+    let s = c.hold_band.new.self.shelf in let t = c.repeat_band.new.self in let held = c.in_ok-w.ensures.brought.held in
+    let lt = (frame_some c.args.b.0 s.wins.slots.items c.in_ok-w.w held).0 in let wide = s.shelf.wide in
+    let low : c.in_ok-w.w < length s.frames.windows = omega (arith, lt, wide) in
+    let is = c.repeat_band.ensures.frames in
+    let t' : Table = table_of (λ p. (goal.RecordOp-dyn g p).record_meaning p.1) (λ p. (goal.RangeOp-dyn g p).range_meaning p.1) c.args.ops.now in
+    ap (last_in t.wins.marks.items) (written_held (geometry_of s) s.slots.items s.wins t.wins c.in_ok-w.w c.args.b.0 _ lt held c.repeat_band.ensures.wins c.repeat_band.ensures.marks s.frames t.frames
+    (ap (λ (h : Held). h.pages) is) (λ v differ. ap (λ (h : Held). get_or h.windows v []) is ∙ get_or-set_other s.frames.windows c.in_ok-w.w v _ [] differ)) ∙ c.repeat_band.ensures.last
+
+pub returns-clause-logged : goal.returns-clause-logged
+returns-clause-logged g c tail below small =
+    let s = c.hold_band.new.self.shelf in let t = c.repeat_band.new.self in let held = c.in_ok-w.ensures.brought.held in
+    let lt = (frame_some c.args.b.0 s.wins.slots.items c.in_ok-w.w held).0 in let wide = s.shelf.wide in
+    let low : c.in_ok-w.w < length s.frames.windows = omega (arith, lt, wide) in
+    let is = c.repeat_band.ensures.frames in
+    let t' : Table = table_of (λ p. (goal.RecordOp-dyn g p).record_meaning p.1) (λ p. (goal.RangeOp-dyn g p).range_meaning p.1) c.args.ops.now in
+    written_below (geometry_of s) s.slots.items s.wins t.wins c.in_ok-w.w c.args.b.0 _ lt held c.repeat_band.ensures.wins c.repeat_band.ensures.marks s.frames t.frames
+    (ap (λ (h : Held). h.pages) is) (λ v differ. ap (λ (h : Held). get_or h.windows v []) is ∙ get_or-set_other s.frames.windows c.in_ok-w.w v _ [] differ) (last_lsn c.args.places.now) c.repeat_band.ensures.last tail small (c.hold_band.ensures.logged tail below)
+
+pub returns-in_err-w-clause-logged : goal.returns-in_err-w-clause-logged
+returns-in_err-w-clause-logged g c tail below small = c.hold_band.ensures.logged tail below

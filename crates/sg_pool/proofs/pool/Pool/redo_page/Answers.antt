@@ -1,0 +1,56 @@
+use Rattle.std.proofs.Common.{◌≡◌, ◌<◌, length, sym, subst, arith}
+use Rattle.sg_base.specs.declared.area.Area.TheVariants.{Home}
+use Rattle.sg_ops.specs.Table.{Table, table_of}
+use Rattle.sg_redo.specs.Places.{page_records}
+use Rattle.sg_pool.specs.Units.{Geometry, IsBacked}
+use Rattle.sg_pool.specs.Shelves.{geometry_of, units}
+use Rattle.sg_pool.proofs.Slots.{frame_some}
+use Rattle.sg_pool.proofs.Changes.{repeat_marked, repeat_is, repeat_backed, still_held, others_still}
+use Rattle.sg_pool.proofs.pool.Pool.redo_page.Goals as goal
+
+pub repeat_page-requires-clause-there : goal.repeat_page-requires-clause-there
+repeat_page-requires-clause-there g c = (frame_some c.args.p.0 c.hold.new.self.shelf.slots.items c.in_ok-f.f c.in_ok-f.ensures.held).0
+
+pub repeat_page-requires-clause-held : goal.repeat_page-requires-clause-held
+repeat_page-requires-clause-held g c = (c.args.p.0, (frame_some c.args.p.0 c.hold.new.self.shelf.slots.items c.in_ok-f.f c.in_ok-f.ensures.held).1)
+
+pub returns-clause-brought : goal.returns-clause-brought
+returns-clause-brought g c =
+    let s = c.hold.new.self.shelf in let held = c.in_ok-f.ensures.held in
+    let lt = (frame_some c.args.p.0 s.slots.items c.in_ok-f.f held).0 in let many = s.shelf.many in
+    let long : c.in_ok-f.f < length s.frames.pages = omega (arith, lt, many) in
+    let t : Table = table_of (λ p. (goal.RecordOp-dyn g p).record_meaning p.1) (λ p. (goal.RangeOp-dyn g p).range_meaning p.1) c.args.ops.now in
+    let marked = repeat_marked c.args.p.0 (page_records t c.args.text.now c.args.places.now) s.slots.items s.frames c.in_ok-f.f lt long s.shelf.apart held in (
+      c.in_ok-f.f,
+      record {
+        held = still_held s.slots.items _ c.repeat_page.new.self.slots.items c.in_ok-f.f _ marked c.repeat_page.ensures.slots c.args.p.0 held;
+        used = c.in_ok-f.ensures.used;
+        victim = c.in_ok-f.ensures.victim;
+        others = others_still s.slots.items _ c.repeat_page.new.self.slots.items c.in_ok-f.f _ marked c.repeat_page.ensures.slots c.args.self.now.shelf.slots.items c.in_ok-f.ensures.others;
+      },
+    )
+
+pub returns-clause-backed : goal.returns-clause-backed
+returns-clause-backed g c told apart backed =
+    let s = c.hold.new.self.shelf in let t = c.repeat_page.new.self in let o = c.args.self.now.shelf in let held = c.in_ok-f.ensures.held in
+    let w = g.D.Disk.view c.hold.new.disk in
+    let t' : Table = table_of (λ p. (goal.RecordOp-dyn g p).record_meaning p.1) (λ p. (goal.RangeOp-dyn g p).range_meaning p.1) c.args.ops.now in
+    let lt = (frame_some c.args.p.0 s.slots.items c.in_ok-f.f held).0 in let many = s.shelf.many in
+    let same : geometry_of s ≡ geometry_of o = c.hold.ensures.size in
+    let now = subst (λ (h : Geometry). IsBacked h (w.now Home) (units (w.now Home).seen s)) (sym same) (c.in_ok-f.ensures.backed told apart backed) in
+    subst (λ (h : Geometry). IsBacked h (w.now Home) (units (w.now Home).seen t)) same
+    (repeat_backed c.args.p.0 (page_records t' c.args.text.now c.args.places.now) s.slots.items s.frames c.in_ok-f.f lt (omega (arith, lt, many)) s.shelf.apart held (geometry_of s) s.wins (w.now Home).seen (geometry_of t) t.slots.items t.wins t.frames
+    c.repeat_page.ensures.geometry c.repeat_page.ensures.slots c.repeat_page.ensures.wins c.repeat_page.ensures.frames (w.now Home) now)
+
+pub returns-clause-repeated : goal.returns-clause-repeated
+returns-clause-repeated g c told apart backed =
+    let s = c.hold.new.self.shelf in let t = c.repeat_page.new.self in let held = c.in_ok-f.ensures.held in
+    let w = g.D.Disk.view c.hold.new.disk in
+    let t' : Table = table_of (λ p. (goal.RecordOp-dyn g p).record_meaning p.1) (λ p. (goal.RangeOp-dyn g p).range_meaning p.1) c.args.ops.now in
+    let lt = (frame_some c.args.p.0 s.slots.items c.in_ok-f.f held).0 in let many = s.shelf.many in (
+      units (w.now Home).seen s,
+      c.in_ok-f.ensures.same told apart backed,
+      c.in_ok-f.ensures.backed told apart backed,
+      repeat_is c.args.p.0 (page_records t' c.args.text.now c.args.places.now) s.slots.items s.frames c.in_ok-f.f lt (omega (arith, lt, many)) s.shelf.apart held (geometry_of s) s.wins (w.now Home).seen (geometry_of t) t.slots.items t.wins t.frames
+          c.repeat_page.ensures.geometry c.repeat_page.ensures.slots c.repeat_page.ensures.wins c.repeat_page.ensures.frames,
+    )
