@@ -62,7 +62,7 @@ impl Changes {
     {
         self.make_place(alloc, name)?;
         match self.map.get_mut(&name) {
-            None => Err(OutOfMemory),
+            None => unreachable!(),
             Some(past) => past.reserve(),
         }
     }

@@ -4,7 +4,8 @@
 //! It stands on `sg_base`, `sg_ops` and `sg_model`. It promises that `Objects::apply` answers and
 //! changes exactly as the definition of a step says, with the operations that are handed to it, that
 //! a refused operation changes nothing, and that memory runs out only where an operation that takes
-//! memory for what it leaves would have been done.
+//! memory for what it leaves would have been done. `Objects::change` does the same and notes what
+//! takes it back in `Changes`, and `Objects::take_back` takes back what is noted.
 #![tactic(auto)]
 
 mod array;
