@@ -110,11 +110,21 @@ const SEEN: [Row; 9] = [
     (b'a', Len, Came::Reply(Reply::Number(2)), NONE),
     (b'a', Get(0), Came::Reply(Reply::Bytes(8)), *b"aaaaaaaa"),
     (b'a', Get(1), Came::Reply(Reply::Bytes(8)), *b"bbbbbbbb"),
-    (b't', Find(b"k"), Came::Reply(Reply::Bytes(1)), *b"v\0\0\0\0\0\0\0"),
+    (
+        b't',
+        Find(b"k"),
+        Came::Reply(Reply::Bytes(1)),
+        *b"v\0\0\0\0\0\0\0",
+    ),
     (b't', Find(b"l"), Came::Reply(Reply::Absent), NONE),
     (b't', Find(b"m"), Came::Reply(Reply::Absent), NONE),
     (b'b', Len, Came::Reply(Reply::Number(5)), NONE),
-    (b'b', Read(0, 5), Came::Reply(Reply::Bytes(5)), *b"hello\0\0\0"),
+    (
+        b'b',
+        Read(0, 5),
+        Came::Reply(Reply::Bytes(5)),
+        *b"hello\0\0\0",
+    ),
     (b'n', Len, Came::Reason(Reason::NoObject), NONE),
 ];
 
@@ -145,9 +155,24 @@ const CHANGED: [Row; 29] = [
     (b'n', MakeTable, Came::Reason(Reason::Exists), NONE),
     (b'a', Len, Came::Reply(Reply::Number(1)), NONE),
     (b'a', Get(0), Came::Reply(Reply::Bytes(8)), *b"eeeeeeee"),
-    (b't', Find(b"k"), Came::Reply(Reply::Bytes(1)), *b"z\0\0\0\0\0\0\0"),
-    (b't', Find(b"l"), Came::Reply(Reply::Bytes(1)), *b"x\0\0\0\0\0\0\0"),
-    (b'b', Read(0, 7), Came::Reply(Reply::Bytes(7)), *b"Ze\0\0\0\0\0\0"),
+    (
+        b't',
+        Find(b"k"),
+        Came::Reply(Reply::Bytes(1)),
+        *b"z\0\0\0\0\0\0\0",
+    ),
+    (
+        b't',
+        Find(b"l"),
+        Came::Reply(Reply::Bytes(1)),
+        *b"x\0\0\0\0\0\0\0",
+    ),
+    (
+        b'b',
+        Read(0, 7),
+        Came::Reply(Reply::Bytes(7)),
+        *b"Ze\0\0\0\0\0\0",
+    ),
     (b'n', Len, Came::Reply(Reply::Number(1)), NONE),
 ];
 
@@ -174,16 +199,34 @@ fn what_a_transaction_did_is_taken_back(rt: HostRuntime) -> Result<(), Fail> {
     let ops = Ops::shipped(alloc)?;
     let mut objects = Objects::empty(alloc);
     let mut first = Changes::new(alloc);
-    assert_eq!(rt; first_wrong(&mut objects, alloc, &ops, &mut first, &MADE), None);
+    assert_eq!(rt;
+        first_wrong(&mut objects, alloc, &ops, &mut first, &MADE),
+        None
+    );
     let mut changes = Changes::new(alloc);
-    assert_eq!(rt; first_wrong(&mut objects, alloc, &ops, &mut changes, &SEEN), None);
-    assert_eq!(rt; first_wrong(&mut objects, alloc, &ops, &mut changes, &CHANGED), None);
+    assert_eq!(rt;
+        first_wrong(&mut objects, alloc, &ops, &mut changes, &SEEN),
+        None
+    );
+    assert_eq!(rt;
+        first_wrong(&mut objects, alloc, &ops, &mut changes, &CHANGED),
+        None
+    );
     take_back(&mut objects, alloc, &mut changes)?;
-    assert_eq!(rt; first_wrong(&mut objects, alloc, &ops, &mut changes, &SEEN), None);
-    assert_eq!(rt; first_wrong(&mut objects, alloc, &ops, &mut changes, &DROPPED), None);
+    assert_eq!(rt;
+        first_wrong(&mut objects, alloc, &ops, &mut changes, &SEEN),
+        None
+    );
+    assert_eq!(rt;
+        first_wrong(&mut objects, alloc, &ops, &mut changes, &DROPPED),
+        None
+    );
     take_back(&mut objects, alloc, &mut changes)?;
     take_back(&mut objects, alloc, &mut changes)?;
-    assert_eq!(rt; first_wrong(&mut objects, alloc, &ops, &mut changes, &SEEN), None);
+    assert_eq!(rt;
+        first_wrong(&mut objects, alloc, &ops, &mut changes, &SEEN),
+        None
+    );
     Ok(())
 }
 
@@ -197,17 +240,24 @@ const ONE_GOES_ON: [Row; 2] = [
     (b't', Put(b"k", b"w"), Came::Reply(Reply::Replaced), NONE),
 ];
 
-const OTHER_GOES_ON: [Row; 2] = [
-    (b'b', Size(1), DONE, NONE),
-    (b'n', MakeTable, DONE, NONE),
-];
+const OTHER_GOES_ON: [Row; 2] = [(b'b', Size(1), DONE, NONE), (b'n', MakeTable, DONE, NONE)];
 
 const OTHER_IS_BACK: [Row; 5] = [
-    (b'b', Read(0, 5), Came::Reply(Reply::Bytes(5)), *b"hello\0\0\0"),
+    (
+        b'b',
+        Read(0, 5),
+        Came::Reply(Reply::Bytes(5)),
+        *b"hello\0\0\0",
+    ),
     (b'n', Len, Came::Reason(Reason::NoObject), NONE),
     (b'a', Get(0), Came::Reply(Reply::Bytes(8)), *b"dddddddd"),
     (b'a', Get(2), Came::Reply(Reply::Bytes(8)), *b"cccccccc"),
-    (b't', Find(b"k"), Came::Reply(Reply::Bytes(1)), *b"w\0\0\0\0\0\0\0"),
+    (
+        b't',
+        Find(b"k"),
+        Came::Reply(Reply::Bytes(1)),
+        *b"w\0\0\0\0\0\0\0",
+    ),
 ];
 
 #[test]
@@ -216,16 +266,37 @@ fn one_of_two_transactions_is_taken_back(rt: HostRuntime) -> Result<(), Fail> {
     let ops = Ops::shipped(alloc)?;
     let mut objects = Objects::empty(alloc);
     let mut first = Changes::new(alloc);
-    assert_eq!(rt; first_wrong(&mut objects, alloc, &ops, &mut first, &MADE), None);
+    assert_eq!(rt;
+        first_wrong(&mut objects, alloc, &ops, &mut first, &MADE),
+        None
+    );
     let mut one = Changes::new(alloc);
     let mut other = Changes::new(alloc);
-    assert_eq!(rt; first_wrong(&mut objects, alloc, &ops, &mut one, &ONE_BEGINS), None);
-    assert_eq!(rt; first_wrong(&mut objects, alloc, &ops, &mut other, &OTHER_BEGINS), None);
-    assert_eq!(rt; first_wrong(&mut objects, alloc, &ops, &mut one, &ONE_GOES_ON), None);
-    assert_eq!(rt; first_wrong(&mut objects, alloc, &ops, &mut other, &OTHER_GOES_ON), None);
+    assert_eq!(rt;
+        first_wrong(&mut objects, alloc, &ops, &mut one, &ONE_BEGINS),
+        None
+    );
+    assert_eq!(rt;
+        first_wrong(&mut objects, alloc, &ops, &mut other, &OTHER_BEGINS),
+        None
+    );
+    assert_eq!(rt;
+        first_wrong(&mut objects, alloc, &ops, &mut one, &ONE_GOES_ON),
+        None
+    );
+    assert_eq!(rt;
+        first_wrong(&mut objects, alloc, &ops, &mut other, &OTHER_GOES_ON),
+        None
+    );
     take_back(&mut objects, alloc, &mut other)?;
-    assert_eq!(rt; first_wrong(&mut objects, alloc, &ops, &mut other, &OTHER_IS_BACK), None);
+    assert_eq!(rt;
+        first_wrong(&mut objects, alloc, &ops, &mut other, &OTHER_IS_BACK),
+        None
+    );
     take_back(&mut objects, alloc, &mut one)?;
-    assert_eq!(rt; first_wrong(&mut objects, alloc, &ops, &mut one, &SEEN), None);
+    assert_eq!(rt;
+        first_wrong(&mut objects, alloc, &ops, &mut one, &SEEN),
+        None
+    );
     Ok(())
 }
