@@ -11,11 +11,11 @@ use Rattle.sg_disk.proofs.Moments as moments
 use Rattle.std.specs.FinMap.{empty, get}
 use Rattle.sg_serial.specs.Machine.{Among, run}
 use Rattle.sg_serial.specs.Locks.{Hold, hold_all, released}
-use Rattle.sg_serial.specs.Runs.{Live, is_live, is_own, in_order, open_entries, without}
+use Rattle.sg_serial.specs.Runs.{Live, is_live, is_own, in_order, without}
 use Rattle.std.specs.Str.{bytes_eq}
 use Rattle.sg_serial.proofs.Kept.{and_none, not_both, not_true}
 use Rattle.sg_serial.proofs.Leaving.{run-append}
-use Rattle.sg_serial.proofs.Lists.{filter_append, among_filter, append_nil}
+use Rattle.sg_serial.proofs.Lists.{among_filter, append_nil}
 use Rattle.sg_ops.specs.Table.{Table as Operations}
 use Rattle.sg_model.specs.declared.stop.Stop.{Stop}
 use Rattle.sg_model.specs.declared.stop.Stop.TheVariants as stops
@@ -39,7 +39,7 @@ use Rattle.sg_words.specs.Answers.{Answer}
 use Rattle.sg_run.specs.Answer.{answer_of, IsSaid}
 use Rattle.sg_words.specs.Answers.Answer.{TooManyLive, LocksFull, Memory, LogEnd, Disk, Said}
 use Rattle.sg_run.specs.Run.{Event, Run, live_named, live_objects, committed_objects, began, committed, aborted, with_locks, did, holder_of, held_with, turn, turn_begin, turn_commit, turn_abort, turn_op, turn_held, WouldReply, LineBy, Turns, IsCaused, TakesMemory, stop, stop_at, with_commit, objects_after, only_locks, MOST_LIVE, MOST_HELD}
-use Rattle.sg_run.specs.Kept.{is_kept, kept_ops}
+use Rattle.sg_run.specs.Kept.{is_kept}
 use Rattle.sg_run.proofs.Serial.{begin_stays, commit_stays, abort_stays, locks_stay, did_stays}
 use Rattle.sg_journal.specs.Lines.{op_said, committed_lines}
 use Rattle.sg_journal.specs.Stands.{replay, OthersAsIn, StandsFor, StandsForFirst}
@@ -47,9 +47,8 @@ use Rattle.sg_journal.specs.Logs.{NoneOf, Logs}
 use Rattle.sg_journal.specs.Live.{Opened, Undo, live_of, opened_named, with_last, opened_without}
 use Rattle.sg_journal.specs.Store.{Core, Keeps, Undoes, Runs, Shows}
 use Rattle.sg_journal.specs.Goes.{Goes, IsFull, NEW_WORK_END}
-use Rattle.sg_journal.proofs.Records.{map-append, replay-append}
-use Rattle.sg_journal.proofs.Fronts.{kept_ops-append}
-use Rattle.sg_journal.proofs.Logging.{no_entries, begin_logs, did_logs, commit_logs, abort_logs, lock_logs, event_of, record_of}
+use Rattle.sg_journal.proofs.Records.{map-append}
+use Rattle.sg_journal.proofs.Logging.{begin_logs, did_logs, commit_logs, abort_logs, lock_logs, event_of, record_of}
 use Rattle.sg_journal.proofs.Tails.{AreBelow, chained_below, last_or-above, tail-place, appended_place, forced_place, appended_short, begin-length, HoldsAfter, MomentsOf, Elsewhere, IsEither, appended_either, of_log, others_of, same_on, tail_forced}
 use Rattle.sg_journal.proofs.Standing.{first_same, first_others, first_all, stands_either, running_shows, stopped_shows, keeps_more, keeps_same, last_other, last_own, after_commits, stands, all_stand, new_after, durable_split, records_split, all_split}
 use Rattle.sg_journal.proofs.Listing.{found_among, among_live, live_with_last, among_with_last, live_without, among_last}

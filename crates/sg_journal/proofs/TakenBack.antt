@@ -1,7 +1,7 @@
 -- What takes back the changes of live transactions, as a run goes on.
 use Rattle.std.proofs.Common.{◌≡◌, ℕ, ◌≤◌, Bool, true, false, cond, not, List, [], ◌∷◌, ◌++◌, Option, Some, None, Ok, Err, refl, sym, ap, ◌∙◌, subst, append-nil}
 use Rattle.std.specs.Prelude.{◌==◌, ◌&&◌, ◌||◌}
-use Rattle.std.proofs.lemmas.Bool.{eqb-true, eq-eqb, ne_eqb}
+use Rattle.std.proofs.lemmas.Bool.{eqb-true, eq-eqb}
 use Rattle.std.specs.FinMap.{get}
 use Rattle.std.specs.Str.{bytes_eq}
 use Rattle.sg_serial.specs.Runs.{Live, is_live, without}
@@ -15,7 +15,7 @@ use Rattle.sg_model.specs.Verb.{Verb, Op, Outcome}
 use Rattle.sg_model.specs.Verb.Verb.{MakeArray, MakeTable, MakeBlob, Discard, Push, Pop, Set, Get, Len, Apply, Put, Del, Find, Keys, Write, Read, Size, Paint}
 use Rattle.sg_model.specs.Verb.Op.{On, Names}
 use Rattle.sg_model.specs.Step.{on, is_changing_verb, is_changing}
-use Rattle.sg_model.specs.Undo.{Note, OpNote, if_replied, note_of, note_of_op, undo, undo_on, undo_all_on}
+use Rattle.sg_model.specs.Undo.{Note, OpNote, if_replied, note_of, note_of_op, undo_on, undo_all_on}
 use Rattle.sg_model.specs.Undo.Note.{Nothing}
 use Rattle.sg_run.specs.Run.{Run, live_objects, began, committed, aborted, with_locks, did, holder_of}
 use Rattle.sg_run.specs.Serial.{IsSound}

@@ -1,5 +1,5 @@
 -- The code's values as definitions speak of them.
-use Rattle.std.specs.Prelude.{◌≡◌, ◌==◌, if◌then◌else◌, ℕ, Bool, List, [], map, Option, Some, None, Ok, Err}
+use Rattle.std.specs.Prelude.{◌≡◌, ◌==◌, if◌then◌else◌, ℕ, Bool, List, map, Option, Some, None, Ok, Err}
 use Rattle.std.specs.List.{find}
 use Rattle.sg_model.specs.Objects.{Object}
 use Rattle.sg_plain.specs.Undone.{undo_in}
