@@ -1,5 +1,3 @@
-ghost use Rattle.std.specs.Prelude.{◌≤◌, ◌^◌};
-
 use crate::folder::Call::{Cut, Faults, Read, Sync, Write};
 use crate::folder::Step::{Begin, End, IsThere, On};
 use crate::folder::Which::{First, Second};
