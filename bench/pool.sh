@@ -4,48 +4,29 @@
 # a changed page, which goes home first, through the double-write area and behind a force of the log (changed misses). The
 # store has 16,384 pages, 64 MB, and the pool 1,024 frames. The hits go to drawn pages; the misses go through the store in its
 # order, which is longer than the frames, so that each of them misses.
-# The program is written here, into a copy of the crates that it stands on and with the folder's disk of the program, proved
+# The program is written here, into a copy of the crates that it stands on, `sg_folder` among them, proved
 # there, and built. The crates are to be checked before (`rt check` in each, or `.ci/run`).
 set -eu
 top="$(cd "$(dirname "$(readlink -f "${BASH_SOURCE[0]}")")/.." && pwd)"
 folder="$(mktemp -d)"
 trap 'rm -rf "$folder"' EXIT
 bench="$folder/crates/pool_bench"
-mkdir -p "$bench/src" "$bench/specs"
-libraries='base bits record segment slotted frames disk log gate ops step redo window pool'
+mkdir -p "$bench/src"
+libraries='base bits record segment slotted frames disk folder log gate ops step redo window pool'
 for name in $libraries; do
     cp -R "$top/crates/sg_$name" "$folder/crates/"
 done
 grep -E "^sg_(${libraries// /|}):" "$top/crates.txt" >"$folder/crates.txt"
-echo 'pool_bench: sg_base sg_disk sg_gate sg_log sg_ops sg_record sg_pool' >>"$folder/crates.txt"
+echo 'pool_bench: sg_base sg_disk sg_folder sg_gate sg_log sg_ops sg_record sg_pool' >>"$folder/crates.txt"
 cp "$top/HANDLES" "$folder"
-sed 's/Rattle\.sg_main\./Rattle.pool_bench./' "$top/crates/sg_main/src/folder.rt" >"$bench/src/folder.rt"
-cp "$top/crates/sg_main/specs/Streams.antt" "$bench/specs/"
-echo 'pub mod Streams' >"$bench/specs/Lib.antt"
-
-cat >"$bench/src/status.rt" <<'PROGRAM'
-use sg_base::Area;
-
-/// The name of the area's file.
-pub fn area_name(area: Area) -> &'static str {
-    match area {
-        Area::Home => "home",
-        Area::Log0 => "log0",
-        Area::Log1 => "log1",
-    }
-}
-PROGRAM
 
 cat >"$bench/src/main.rt" <<'PROGRAM'
 //! What hits and misses of the buffer manager cost over a folder.
 #![tactic(auto)]
 
-mod folder;
-mod status;
-
-use crate::folder::FolderDisk;
 use sg_base::{Lsn, PageNo, PageOp, TxnId};
 use sg_disk::{Area, Disk};
+use sg_folder::FolderDisk;
 use sg_gate::{Super, page_start};
 use sg_log::Log;
 use sg_ops::Ops;

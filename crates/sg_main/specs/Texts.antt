@@ -1,7 +1,6 @@
 -- The numbers and the texts of a status.
 use Rattle.std.specs.Prelude.{ℕ, List, [], ◌++◌, codes, decimal}
-use Rattle.sg_base.specs.declared.area.Area.{Area}
-use Rattle.sg_base.specs.declared.area.Area.TheVariants.{Home, Log0, Log1}
+use Rattle.sg_folder.specs.Names.{name_of}
 use Rattle.sg_top.specs.declared.status.Status.{Status}
 use Rattle.sg_top.specs.declared.status.Status.TheVariants.{Done, Usage, Memory, Disk, Read, Write, TooLong, Damaged, LogEnd}
 
@@ -16,11 +15,6 @@ number_of Write = 6
 number_of TooLong = 7
 number_of (Damaged area at) = 9
 number_of LogEnd = 12
-
-abbrev pub name_of : Area → List ℕ
-name_of Home = codes "home"
-name_of Log0 = codes "log0"
-name_of Log1 = codes "log1"
 
 -- what is printed behind the program's name, and nothing where all was done
 abbrev pub text_of : Status → List ℕ

@@ -1,7 +1,7 @@
 ghost use Rattle.std.specs.Prelude.{◌≡◌, ◌≢◌, ◌↔◌, ℕ, true, false};
 ghost use Rattle.std.specs.IoError.{error_kind};
 ghost use Rattle.std.specs.Process.{exit_status};
-ghost use Rattle.sg_ops.specs.Table.{shipped_table};
+ghost use Rattle.sg_ops.specs.Table.{shipped_table, table_of};
 ghost use Rattle.sg_top.specs.Top.{are_run, outside, HasGone};
 ghost use Rattle.sg_main.specs.Texts.{number_of};
 
@@ -46,20 +46,41 @@ impl Ended {
         ensures run { are_run words.now ≡ true → (after : D) × (refused : ℕ) × HasGone shipped_table D.told (outside (D.view disk) (S.left script.old) (S.faults script.old) (K.taken out.old) (K.faults out.old))
             (outside (D.view after) (S.left script.new) (S.faults script.new) (K.taken out.new) (K.faults out.new)) refused result }
     {
-        let Ok(ops) = Ops::shipped(alloc) else {
-            let status = if is_run(words) {
-                Status::Memory
-            } else {
-                Status::Usage
-            };
-            return Ended { status };
-        };
-        let Finish {
-            status: ended,
-            disk: _,
-            refused: _,
-        } = stasis(alloc, ops, words, disk, script, out);
+        match Ops::shipped(alloc) {
+            Ok(ops) => Ended::of_shipped(alloc, ops, words, disk, script, out),
+            Err(_) => Ended::without_memory(words),
+        }
+    }
+
+    // The same with operations that are the shipped ones.
+    fn of_shipped<D: Disk + Drop, S: Source, K: Sink>(
+        alloc: Global,
+        ops: Ops,
+        words: &[String],
+        disk: D,
+        script: &mut S,
+        out: &mut K,
+    ) -> Ended
+        requires shipped { table_of record_meaning range_meaning ops ≡ shipped_table }
+        ensures usage { result ≡ Status.Usage ↔ are_run words.now ≡ false }
+        ensures run { are_run words.now ≡ true → (after : D) × (refused : ℕ) × HasGone shipped_table D.told (outside (D.view disk) (S.left script.old) (S.faults script.old) (K.taken out.old) (K.faults out.old))
+            (outside (D.view after) (S.left script.new) (S.faults script.new) (K.taken out.new) (K.faults out.new)) refused result }
+    {
+        let Finish { status: ended, .. } = stasis(alloc, ops, words, disk, script, out);
         Ended { status: ended }
+    }
+
+    // Where there is no memory for the operations: of a run, or of words that are none.
+    fn without_memory(words: &[String]) -> Ended
+        ensures memory { are_run words.now ≡ true → result ≡ Status.Memory }
+        ensures usage { are_run words.now ≡ false → result ≡ Status.Usage }
+    {
+        let status = if is_run(words) {
+            Status::Memory
+        } else {
+            Status::Usage
+        };
+        Ended { status }
     }
 
     /// Where the words of the process couldn't be had.

@@ -2,10 +2,10 @@
 //! replies to standard output. It ends with a number for how that went, and says it in words on
 //! standard error.
 //!
-//! It stands on `sg_top`, which does the work over any disk, source and sink. This crate is the
-//! trusted edge: no proof says what a file, standard input or standard output gives or takes. It is
-//! proved that each failure of the system is counted as a fault of the disk, the source or the
-//! sink, and which number and text stand for each status.
+//! It stands on `sg_top`, which does the work over any disk, source and sink, on `sg_folder`, which is a
+//! disk over a folder's files, and on the source and the sink of `sg_base` over what std gives. No proof
+//! says what these give or take. It is proved how `stasis` ends over whatever they are, which words
+//! name the folder, and which number and text stand for each status.
 #![tactic(auto)]
 
 ghost use Rattle.std.specs.Prelude.{◌≡◌, ◌↔◌, false, map, string_bytes, option_copied};
@@ -14,12 +14,11 @@ ghost use Rattle.sg_top.specs.declared.status.Status.TheVariants.{Usage};
 ghost use Rattle.sg_main.specs.Words.{folder_in, are_stop};
 
 mod ended;
-mod folder;
 mod status;
 
 use crate::ended::Ended;
-use crate::folder::FolderDisk;
 use sg_base::{ReadSource, WriteSink};
+use sg_folder::FolderDisk;
 use std::fs::File;
 use std::os::fd::AsRawFd;
 use std::{env, io};
@@ -97,6 +96,3 @@ fn main(rt: HostRuntime) -> Ended {
         Err(e) => Ended::without_words(&e),
     }
 }
-
-#[cfg(test)]
-mod tests;

@@ -1,24 +1,13 @@
 ghost use Rattle.std.specs.Prelude.{◌≡◌, Some};
-ghost use Rattle.sg_main.specs.Texts.{number_of, text_of, name_of};
+ghost use Rattle.sg_main.specs.Texts.{number_of, text_of};
 
-use sg_base::Area;
+use sg_folder::area_name;
 use sg_top::Status;
 use std::fmt;
 
 /// A status as it is printed.
 #[derive(Clone, Copy, Drop)]
 pub struct Shown(pub Status);
-
-/// The name of the area: its file's, and as it is printed.
-pub fn area_name(area: Area) -> &'static str
-    ensures { result.now ≡ name_of area }
-{
-    match area {
-        Area::Home => "home",
-        Area::Log0 => "log0",
-        Area::Log1 => "log1",
-    }
-}
 
 /// The exit status of the process.
 pub fn exit_number(status: Status) -> u8
