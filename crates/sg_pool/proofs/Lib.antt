@@ -20,6 +20,7 @@ pub mod Oldest
 pub mod Ordering
 pub mod Placing
 pub mod Pooling
+pub mod Redone
 pub mod Repeating
 pub mod Settling
 pub mod Slots

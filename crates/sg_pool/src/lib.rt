@@ -21,6 +21,7 @@ mod index;
 mod least;
 mod making;
 mod order;
+mod part;
 mod pool;
 mod redo;
 mod repeat;
