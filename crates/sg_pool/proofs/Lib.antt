@@ -21,6 +21,7 @@ pub mod Ordering
 pub mod Placing
 pub mod Pooling
 pub mod Redone
+pub mod RedoMoments
 pub mod Repeating
 pub mod Settling
 pub mod Slots

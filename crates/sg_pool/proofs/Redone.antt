@@ -226,8 +226,8 @@ pub cleaned_then : (g : Geometry) (only : PartRecords) (m mid m' : Units) → ((
 cleaned_then g only m mid m' clean cleaned is = redone_then g only none only (record { page = λ n. inr (refl, refl); band = λ b. inr (refl, refl) }) m mid m' clean (cleaned_redone g m mid cleaned) is
 
 -- THE HOMES: units went home, where this home area has them, and then no page lost its oldest change
-pub homes_known : (g : Geometry) (home : Part) (m mid m' : Units) → IsCleaned g m mid → IsBacked g home mid → ((n x : ℕ) → n < g.pages → mid.page_since n ≡ Some x → m'.page_since n ≡ Some x) → AreHomesKnown g home m m'
-homes_known g home m mid m' cleaned backed kept n lt = ⊎_elim
+pub homes_known : (g : Geometry) (home : Part) (rs : PartRecords) (m mid m' : Units) → IsCleaned g m mid → IsBacked g home mid → ((n x : ℕ) → n < g.pages → mid.page_since n ≡ Some x → m'.page_since n ≡ Some x) → AreHomesKnown g home rs m m'
+homes_known g home rs m mid m' cleaned backed kept n lt = ⊎_elim
     (λ gone. inr (inl (backed.pages n lt gone ∙ cleaned.page n lt)))
     (λ some. ⊎_elim
     (λ same. inl (kept n some.0 lt some.1 ∙ (sym some.1 ∙ same)))

@@ -41,7 +41,7 @@ pub record AreRedone {T : Type 0} (g : Geometry) (t : Table) (text : List ℕ) (
 -- and where the part is durable
 pub record AreDurablyRedone {T : Type 0} (g : Geometry) (t : Table) (text : List ℕ) (places : List Place) (v w : View) (log : Tail) (ds : List Numbered) (old new : Pool) (result : Result T PoolFault) : Type 0 where
   pub logged : OnTold result (IsLogged (tail_of log) w new)
-  pub homes : OnTold result (AreHomesKnown g (w.now Home) (contents v old) (contents w new))
+  pub homes : OnTold result (AreHomesKnown g (w.now Home) (records_of g t text places) (contents v old) (contents w new))
   pub moments : LeavesOnly v w (IsRedoMoment g v log ds (lasts old.shelf) (records_of g t text places) (contents v old))
 
 -- A RUN OF REDO over these places: all that a call says which repeats them

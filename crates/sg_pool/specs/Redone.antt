@@ -74,13 +74,13 @@ pub record AreWhole (some rs : PartRecords) : Type 0 where
 abbrev pub ArePartlyRedone : Geometry → PartRecords → (m m' : Units) → Type 0
 ArePartlyRedone g rs m m' = (some : PartRecords) × AreWhole some rs × IsRedone g some m m'
 
--- THE HOMES OF PAGES: where a page's oldest change isn't the one that it had, its home has it as it was, or as it is
-abbrev pub AreHomesKnown : Geometry → (home : Part) → (m m' : Units) → Type 0
-AreHomesKnown g home m m' = EachPage g (λ n. (m'.page_since n ≡ m.page_since n) ⊎ ((page_at home.seen (home_at n) ≡ m.page n) ⊎ (page_at home.seen (home_at n) ≡ m'.page n)))
-
 -- the page as it was before its records, or as they make it
 abbrev pub IsVersion : List OnPage → (was page : List ℕ) → Type 0
 IsVersion rs was page = (page ≡ was) ⊎ (page ≡ repeated rs was)
+
+-- THE HOMES OF PAGES: where a page's oldest change isn't the one that it had, its home has it as it was, or as its records make it
+abbrev pub AreHomesKnown : Geometry → (home : Part) → PartRecords → (m m' : Units) → Type 0
+AreHomesKnown g home rs m m' = EachPage g (λ n. (m'.page_since n ≡ m.page_since n) ⊎ IsVersion (rs.page n) (m.page n) (page_at home.seen (home_at n)))
 
 -- each of these changes is a record below d
 abbrev pub AreChangesBelow : ℕ → List OnWindow → Type 0

@@ -133,8 +133,9 @@ impl Pool {
         ensures refused { let rs = records_of (sizes self.old) (table_of record_meaning range_meaning ops.now) text.now places.old in
             IsTrue D.told → log.old.area ≢ Home → Backs (sizes self.old) (D.view disk.old) self.old →
             OnErr result (OnTold result (ArePartlyRedone (sizes self.old) rs (contents (D.view disk.old) self.old) (contents (D.view disk.new) self.new))) }
-        ensures homes { (ds : List Numbered) → IsTrue D.told → log.old.area ≢ Home → Backs (sizes self.old) (D.view disk.old) self.old → IsDurable (D.view disk.old) log.old ds self.old places.old →
-            OnTold result (AreHomesKnown (sizes self.old) ((D.view disk.new).now Home) (contents (D.view disk.old) self.old) (contents (D.view disk.new) self.new)) }
+        ensures homes { let rs = records_of (sizes self.old) (table_of record_meaning range_meaning ops.now) text.now places.old in
+            (ds : List Numbered) → IsTrue D.told → log.old.area ≢ Home → Backs (sizes self.old) (D.view disk.old) self.old → IsDurable (D.view disk.old) log.old ds self.old places.old →
+            OnTold result (AreHomesKnown (sizes self.old) ((D.view disk.new).now Home) rs (contents (D.view disk.old) self.old) (contents (D.view disk.new) self.new)) }
         ensures logged { (ds : List Numbered) → IsTrue D.told → log.old.area ≢ Home → Backs (sizes self.old) (D.view disk.old) self.old → IsDurable (D.view disk.old) log.old ds self.old places.old →
             OnTold result (IsLogged (tail_of log.old) (D.view disk.new) self.new) }
         ensures log_kept { (log.new ≡ log.old) ⊎ (log.new ≡ forced log.old) }
