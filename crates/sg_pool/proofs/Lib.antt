@@ -18,10 +18,12 @@ pub mod Indexing
 pub mod Fresh
 pub mod Oldest
 pub mod Ordering
+pub mod Placed
 pub mod Placing
 pub mod Pooling
 pub mod Redone
 pub mod RedoMoments
+pub mod Redoing
 pub mod Repeating
 pub mod Settling
 pub mod Slots

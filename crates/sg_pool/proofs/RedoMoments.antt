@@ -13,7 +13,7 @@ use Rattle.sg_gate.specs.Batch.{laid, IsReady}
 use Rattle.sg_gate.proofs.Over.{laid_shut}
 use Rattle.sg_log.specs.Frames.{Numbered, HasRecords, numbered_from}
 use Rattle.sg_log.specs.Held.{Tail, Holds, tail_of, forced, IsBeforeOrAfter}
-use Rattle.sg_log.proofs.Holding.{tail_empty}
+use Rattle.sg_log.proofs.Holding.{tail_empty, forced_empty}
 use Rattle.sg_record.specs.Plain.{Record, spelled_all}
 use Rattle.sg_redo.specs.History.{OnPage, repeated, is_covered}
 use Rattle.sg_redo.specs.Window.{OnWindow, on_byte}
@@ -22,6 +22,13 @@ use Rattle.sg_pool.specs.Moments.{AreDurable, GoesHome, IsMoment}
 use Rattle.sg_pool.specs.Redone.{PartRecords, IsRedone, AreWhole, AreHomesKnown, IsVersion, AreChangesBelow, IsRedoing, IsRedoMoment}
 use Rattle.sg_pool.proofs.Homes.{page_same}
 use Rattle.sg_pool.proofs.Redone.{AreTogether, first_whole}
+
+-- a force of an empty buffer leaves the log as it is
+forced_none : (log : Tail) → length log.buffer ≡ 0 → forced log ≡ log
+forced_none log none = grind (arith, nat_tests, none)
+
+pub forced_twice : (log : Tail) → forced (forced log) ≡ forced log
+forced_twice log = forced_none (forced log) (forced_empty log)
 
 -- NO RECORD WAITS in a log that holds durable ones alone
 none_numbered : (lsn : ℕ) (body : List Record) → numbered_from lsn body ≡ [] → body ≡ []
@@ -36,7 +43,7 @@ module _ (v : View) (log : Tail) (ds : List Numbered) (holds : Holds v log ds []
   tail_is_gate = tail_empty log buffer_empty
 
   pub forced_same : forced log ≡ log
-  forced_same = let none = buffer_empty in grind (arith, nat_tests, none)
+  forced_same = forced_none log buffer_empty
 
 -- A MOMENT OF A CALL OF THE POOL is one of redo, whatever the records
 module _ (g : Geometry) (v : View) (log : Tail) (ds : List Numbered) (last : ℕ → ℕ) (rs : PartRecords) (m : Units) (apart : log.area ≡ Home → ⊥) (ready : IsReady (v.now Home)) (gate : tail_of log ≡ log.gate) (c : Image) where
