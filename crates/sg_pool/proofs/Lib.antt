@@ -24,6 +24,7 @@ pub mod Pooling
 pub mod Redone
 pub mod RedoMoments
 pub mod Redoing
+pub mod RedoRuns
 pub mod Repeating
 pub mod Settling
 pub mod Slots
