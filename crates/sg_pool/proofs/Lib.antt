@@ -12,6 +12,7 @@ pub mod Flushing
 pub mod FlushingAll
 pub mod Forcing
 pub mod GoingOn
+pub mod Grouped
 pub mod Homed
 pub mod Homes
 pub mod Indexing
