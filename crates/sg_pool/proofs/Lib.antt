@@ -29,5 +29,6 @@ pub mod RedoRuns
 pub mod Repeating
 pub mod Settling
 pub mod Slots
+pub mod Sorted
 pub mod Windowing
 pub mod Writing
