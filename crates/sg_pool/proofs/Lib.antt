@@ -26,6 +26,7 @@ pub mod Redone
 pub mod RedoMoments
 pub mod Redoing
 pub mod RedoRuns
+pub mod Regrouped
 pub mod Repeating
 pub mod Settling
 pub mod Slots

@@ -1,4 +1,3 @@
-use Rattle.sg_pool.proofs.Sorted.{sorted_same}
 use Rattle.std.proofs.Common.{◌≡◌, ◌≤◌, ◌<◌, ◌-◌, ℕ, List, length, get_or}
 use Rattle.sg_redo.specs.declared.place.Place.{Place}
 use Rattle.sg_pool.proofs.part.end_of_unit.Given as goal
