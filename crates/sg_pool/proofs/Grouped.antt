@@ -16,12 +16,9 @@ use Rattle.sg_pool.specs.Pooled.{sizes}
 use Rattle.sg_pool.specs.Redone.{places_of}
 use Rattle.sg_pool.specs.Redoing.{IsRun}
 use Rattle.sg_pool.specs.Units.{Geometry}
-use Rattle.sg_pool.proofs.Placed.{AreParts, none_of}
+use Rattle.sg_pool.proofs.Placed.{AreParts, no_place, none_of}
 use Rattle.sg_pool.proofs.Redoing.{run_then}
 use Rattle.sg_pool.proofs.RedoRuns.{run_cut, run_starts}
-
-abbrev pub no_place : Place
-no_place = record { unit = 0; lsn = 0; at = 0 }
 
 -- the places before `from` are of other units than those behind
 abbrev pub IsBorder : List Place → ℕ → Type 0

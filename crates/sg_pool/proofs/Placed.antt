@@ -14,6 +14,10 @@ use Rattle.sg_pool.specs.Units.{Geometry}
 use Rattle.sg_pool.specs.Redone.{places_of, records_of}
 use Rattle.sg_pool.proofs.Redone.{AreTogether, IsOfPage, IsOfBand}
 
+-- what stands for a place that isn't there
+abbrev pub no_place : Place
+no_place = record { unit = 0; lsn = 0; at = 0 }
+
 pub all_left : {X : Type 0} (P : X → Type 0) (xs ys : List X) → All P (xs ++ ys) → All P xs
 all_left P xs ys all k d lt = subst P (get_or-append xs ys d k lt) (all k d (let size = length-append xs ys in omega (arith, lt, size)))
 

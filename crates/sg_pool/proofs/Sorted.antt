@@ -14,6 +14,7 @@ use Rattle.std.proofs.lemmas.Map.Keys.{ge_from_not_lt, IsDistinct-IsPermutation}
 use Rattle.std.proofs.lemmas.Map.Made.{AllPairs-from_IsDistinct, IsDistinct-from_AllPairs}
 use Rattle.sg_redo.specs.declared.place.Place.{Place}
 use Rattle.sg_pool.specs.Redone.{AreInOrder, places_of}
+use Rattle.sg_pool.proofs.Placed.{no_place}
 
 -- ELEMENTS of a list
 head_in : (x : Place) (xs : List Place) → Contains (x ∷ xs) x
@@ -137,6 +138,24 @@ module _ (xs : List Place) (sorted : IsSortedByKey (λ (p : Place). (p.unit, p.l
 
 abbrev number : Place → ℕ
 number p = p.lsn
+
+-- the order of neighbours, by their numbers
+pub order_at : (places : List Place) → AreInOrder places → (k : ℕ) (d : Place) → k + 1 < length places → (get_or places k d).lsn < (get_or places (k + 1) d).lsn
+order_at places up k d lt =
+    let size = length-map places number in
+    let it = up k (omega (arith, lt, size)) in
+    let a = get_or-map number places k d 0 (omega (arith, lt)) in
+    let b = get_or-map number places (k + 1) d 0 lt in
+    omega (arith, it, a, b)
+
+pub order_of : (places : List Place) → ((k : ℕ) (d : Place) → k + 1 < length places → (get_or places k d).lsn < (get_or places (k + 1) d).lsn) → AreInOrder places
+order_of places up k lt =
+    let size = length-map places number in
+    let less : k + 1 < length places = omega (arith, lt, size) in
+    let it = up k no_place less in
+    let a = get_or-map number places k no_place 0 (omega (arith, less)) in
+    let b = get_or-map number places (k + 1) no_place 0 less in
+    omega (arith, it, a, b)
 
 in_order : (places : List Place) → AreInOrder places → Rises places
 in_order places up i j d less lt =

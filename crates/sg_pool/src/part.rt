@@ -1,5 +1,5 @@
 // Redo of a whole part of the log: its places are grouped by unit, and each unit's are done in one run.
-ghost use Rattle.std.specs.Prelude.{◌≡◌, ◌≢◌, ◌⊎◌, ◌≤◌, ◌<◌, ◌+◌, ◌^◌, ℕ, List, [], None, length, get_or, All, OnOk, OnErr, IfErr, IsTrue};
+ghost use Rattle.std.specs.Prelude.{◌≡◌, ◌≢◌, ◌↔◌, ◌⊎◌, ◌≤◌, ◌<◌, ◌+◌, ◌^◌, ℕ, List, [], None, length, get_or, All, OnOk, OnErr, IfErr, IsTrue};
 ghost use Rattle.std.specs.List.Sorted.{IsPermutation, IsNonDecreasingBy};
 ghost use Rattle.sg_base.specs.declared.area.Area.TheVariants.{Home};
 ghost use Rattle.sg_disk.specs.Disk.{LeavesOnly};
@@ -34,6 +34,18 @@ fn end_of_unit(places: &[Place], from: usize, unit: u32) -> usize
         to += 1;
     }
     to
+}
+
+// Whether the numbers of these places rise.
+fn are_in_order(places: &[Place]) -> bool
+    ensures { IsTrue result ↔ AreInOrder places.now }
+{
+    'places: for k in 1..places.len() {
+        if places[k].lsn <= places[k - 1].lsn {
+            return false;
+        }
+    }
+    true
 }
 
 impl Pool {
@@ -95,6 +107,15 @@ impl Pool {
             from = to;
         }
         Ok(())
+    }
+
+    /// Whether these may be the places of a part of the log: each is of a page or a band of the
+    /// store, and their numbers rise. `redo` asks for it.
+    pub fn can_redo(&self, places: &[Place]) -> bool
+        ensures { IsTrue result ↔ (All (λ p. p.unit < (sizes self.now).pages + (sizes self.now).bands) places.now × AreInOrder places.now) }
+    {
+        let units = self.shelf.pages + self.shelf.bands;
+        places.iter().all(|place| place.unit < units) && are_in_order(places)
     }
 
     /// Repeats a part of the log: the records at these places of the text, which come in the order of
