@@ -26,13 +26,14 @@ use Rattle.sg_pool.specs.Frames.{AreBelow}
 use Rattle.sg_pool.specs.Held.{no_slot, frame_of, page_in, AreApart}
 use Rattle.sg_pool.specs.Lending.{IsBrought}
 use Rattle.sg_pool.specs.Moments.{IsSameOrForced}
-use Rattle.sg_pool.specs.Pooled.{sizes, contents, frame_holding, Backs, SameContents, IsLogged, IsPoolMoment, SameWindows, SameFrames}
+use Rattle.sg_pool.specs.Pooled.{sizes, contents, frame_holding, Backs, SameContents, IsLogged, IsPoolMoment, SameWindows, SameFrames, last_of, OthersKeepLasts}
 use Rattle.sg_pool.specs.Redone.{ArePlacesBelow, PartRecords, places_of, records_of, IsRedone, ArePartlyRedone, AreHomesKnown, IsRedoMoment}
-use Rattle.sg_pool.specs.Redoing.{IsDurable, RedoFails, AreRedone, AreDurablyRedone, IsRun}
+use Rattle.sg_pool.specs.Redoing.{AreLastsRedone, IsDurable, RedoFails, AreRedone, AreDurablyRedone, IsRun}
 use Rattle.sg_pool.specs.Repeated.{lsn_in, last_lsn, IsCleanedThenPageRepeated, IsCleanedThenBandRepeated}
 use Rattle.sg_pool.specs.Shelves.{OnTold, BringFails, AreLogged, lasts}
 use Rattle.sg_pool.specs.Units.{Geometry, Units, IsBacked, IsCleaned, IsBelow}
 use Rattle.sg_pool.specs.Well.{IsWell}
+use Rattle.sg_pool.proofs.BandsHome.{lasts_same}
 use Rattle.sg_pool.proofs.Bringing.{on_told_weaker}
 use Rattle.sg_pool.proofs.Changing.{cleaned_refl}
 use Rattle.sg_pool.proofs.Placed.{AreParts, places_first, are_together, all_first, all_of, none_of, of_page, of_band}
@@ -58,6 +59,7 @@ module _ {T : Type 0} (g : Geometry) (told : Bool) (t : Table) (text : List ℕ)
     later = run.later;
     bytes = run.bytes;
     below = λ tail logged every. run.below tail logged (all_first all a b parts (λ p. p.lsn < tail) every);
+    lasts = tt;
     absent = tt;
     faults = fails_still e run.faults;
     units_are = λ is_told apart backs. let it = run.units_are is_told apart backs in record {
@@ -95,6 +97,7 @@ module _ {U : Type 0} (told : Bool) (t : Table) (text : List ℕ) (v : View) (lo
     later = omega arith;
     bytes = bytes;
     below = λ tail logged every. logged;
+    lasts = record { its = λ b o some since. absurd (no_named ((sizes p).pages + b) some); others = λ b o empty since. (since, refl) };
     absent = λ n empty away. away;
     faults = tt;
     units_are = λ is_told apart backs. record { backed = backs; redone = none_redone (sizes p) t text (contents v p); partly = tt; well = λ n lt some away. absurd (no_named n some) };
@@ -143,6 +146,10 @@ module _ {T : Type 0} (told : Bool) (t : Table) (text : List ℕ) (unit : ℕ) (
 
   its_named : places_of unit places ≢ []
   its_named empty = others_unnamed unit empty refl
+
+  always : {A : Type 0} (x : Result T PoolFault) → A → OnOk x A
+  always (Ok x) a = a
+  always (Err e) a = tt
 
   call_moments : (ds : List Numbered) → IsTrue told → log.area ≢ Home → Backs (sizes old) v old → IsDurable v log ds old places → LeavesOnly v w (IsRedoMoment (sizes old) v log ds (lasts old.shelf) (records_of (sizes old) t text places) (contents v old))
   call_moments ds is_told apart backs durable = weaker (moments ds [] is_told apart backs.ready durable.holds durable.logged)
@@ -230,6 +237,10 @@ module _ {T : Type 0} (told : Bool) (t : Table) (text : List ℕ) (unit : ℕ) (
       later = later;
       bytes = bytes;
       below = λ tail logged every. windows_below tail logged;
+      lasts = always r (record {
+        its = λ b o some_places since. let here = named ((sizes old).pages + b) some_places in absurd (omega (arith, here, lt));
+        others = λ b o empty since. lasts_same old.shelf.wins new.shelf.wins windows.windows b o since;
+      });
       absent = page_absent r brought;
       faults = if_err_weaker r (BringFails told log.area unit v w old.shelf) (RedoFails told log.area (sizes old) v w old places) page_fails faults;
       units_are = page_units;
@@ -245,7 +256,7 @@ module _ {T : Type 0} (told : Bool) (t : Table) (text : List ℕ) (unit : ℕ) (
   module _ (b : ℕ) (is_band : unit ≡ (sizes old).pages + b) (frames : SameFrames old new) (logged : (tail : ℕ) → AreLogged tail old.shelf → last_lsn places < tail → AreLogged tail new.shelf)
       (backed : IsTrue told → log.area ≢ Home → Backs (sizes old) v old → OnOk r (Backs (sizes old) w new))
       (repeated : IsTrue told → log.area ≢ Home → Backs (sizes old) v old → OnOk r (IsCleanedThenBandRepeated (sizes old) (w.now Home) b (window_records t text places) (contents v old) (contents w new)))
-      (fault : IfErr r (λ e. e ≡ Disk)) (failed : OnErr r (HasRisen v.faults w.faults)) where
+      (last : OnOk r (last_of new b ≡ last_lsn places)) (lasts : OthersKeepLasts b old new) (fault : IfErr r (λ e. e ≡ Disk)) (failed : OnErr r (HasRisen v.faults w.faults)) where
     told_ok : (x : Result T PoolFault) (P : Type 0) → IfErr x (λ e. e ≡ Disk) → OnOk x P → OnTold x P
     told_ok (Ok x) P is p = p
     told_ok (Err e) P is p = subst (λ (f : PoolFault). OnTold {T = T} (Err f) P) (sym is) tt
@@ -258,12 +269,20 @@ module _ {T : Type 0} (told : Bool) (t : Table) (text : List ℕ) (unit : ℕ) (
     band_partly (Ok x) P is = tt
     band_partly (Err e) P is = subst (λ (f : PoolFault). OnTold {T = T} (Err f) P) (sym is) tt
 
-    always : {A : Type 0} (x : Result T PoolFault) → A → OnOk x A
-    always (Ok x) a = a
-    always (Err e) a = tt
-
     band_logged : (tail : ℕ) → AreLogged tail old.shelf → ArePlacesBelow tail places → AreLogged tail new.shelf
     band_logged tail below every = logged tail below (last_below tail places some every)
+
+    band_lasts : (x : Result T PoolFault) → OnOk x (last_of new b ≡ last_lsn places) → OnOk x (AreLastsRedone (sizes old) places old new)
+    band_lasts (Ok x) is = record {
+      its = λ c o some_places since.
+          let here = named ((sizes old).pages + c) some_places in
+          let this : c ≡ b = omega (arith, here, is_band) in
+          ap (last_of new) this ∙ (is ∙ ap (λ (l : List Place). last_lsn l) (sym (ap (λ (n : ℕ). places_of n places) here ∙ all_of unit places same)));
+      others = λ c o empty since.
+          let differ = others_unnamed ((sizes old).pages + c) empty in
+          lasts c o (λ this. differ (ap (λ (n : ℕ). (sizes old).pages + n) this ∙ sym is_band)) since;
+    }
+    band_lasts (Err e) is = tt
 
     band_units : IsTrue told → log.area ≢ Home → Backs (sizes old) v old → AreRedone (sizes old) t text places v w old new r
     band_units is_told apart backs = record {
@@ -282,6 +301,7 @@ module _ {T : Type 0} (told : Bool) (t : Table) (text : List ℕ) (unit : ℕ) (
       later = later;
       bytes = bytes;
       below = band_logged;
+      lasts = band_lasts r last;
       absent = always r (λ n empty away. ap (λ (l : List Slot). frame_of l n) frames.slots ∙ away);
       faults = band_fails r fault failed;
       units_are = band_units;

@@ -21,7 +21,8 @@ use Rattle.sg_pool.specs.declared.pool.Pool.{Pool}
 use Rattle.sg_pool.specs.Moments.{IsSameOrForced}
 use Rattle.sg_pool.specs.Pooled.{sizes, contents, frame_holding, Backs, IsLogged}
 use Rattle.sg_pool.specs.Redone.{ArePlacesBelow, places_of, records_of, IsRedone, ArePartlyRedone, AreHomesKnown, AreChangesBelow, IsRedoMoment}
-use Rattle.sg_pool.specs.Redoing.{IsDurable, RedoFails, AreRedone, AreDurablyRedone, IsRun}
+use Rattle.sg_pool.specs.Redoing.{AreLastsRedone, IsDurable, RedoFails, AreRedone, AreDurablyRedone, IsRun}
+use Rattle.sg_pool.specs.Repeated.{last_lsn}
 use Rattle.sg_pool.specs.Shelves.{OnTold, AreLogged, lasts}
 use Rattle.sg_pool.specs.Units.{Geometry, Units}
 use Rattle.sg_pool.specs.Well.{IsWell}
@@ -89,15 +90,36 @@ module _ {U T : Type 0} (g : Geometry) (told : Bool) (t : Table) (text : List �
       (λ gone. ⊎_elim (λ e. inr (gone ∙ ap forced e)) (λ e. inr (gone ∙ (ap forced e ∙ forced_twice log))) first.log_kept)
       second.log_kept
 
+  neither : (n : ℕ) → places_of n all ≡ [] → (places_of n a ≡ []) × (places_of n b ≡ [])
+  neither n none = ⊎_elim
+      (λ no_b. (sym (places_first all a b parts n no_b) ∙ none, no_b))
+      (λ no_a. (no_a, sym (places_second all a b parts n no_a) ∙ none))
+      (parts.apart n)
+
   absent : OnOk r ((n : ℕ) → places_of n all ≡ [] → frame_holding p0 n ≡ None → frame_holding p2 n ≡ None)
   absent = on_ok_weaker r (λ (rest : (n : ℕ) → places_of n b ≡ [] → frame_holding p1 n ≡ None → frame_holding p2 n ≡ None) (n : ℕ) (none : places_of n all ≡ []) (away : frame_holding p0 n ≡ None).
-      let it = both_none n none in rest n it.1 (first.absent n it.0 away)) second.absent
+      let it = neither n none in rest n it.1 (first.absent n it.0 away)) second.absent
+
+  lasts_then : OnOk r (AreLastsRedone g all p0 p2)
+  lasts_then = on_ok_weaker r both second.lasts
     where
-      both_none : (n : ℕ) → places_of n all ≡ [] → (places_of n a ≡ []) × (places_of n b ≡ [])
-      both_none n none = ⊎_elim
-          (λ no_b. (sym (places_first all a b parts n no_b) ∙ none, no_b))
-          (λ no_a. (no_a, sym (places_second all a b parts n no_a) ∙ none))
-          (parts.apart n)
+      both : AreLastsRedone g b p1 p2 → AreLastsRedone g all p0 p2
+      both late = record {
+        its = λ n o some since. ⊎_elim
+            (λ no_b.
+            let same = places_first all a b parts (g.pages + n) no_b in
+            let kept = late.others n o no_b since in
+            kept.1 ∙ (first.lasts.its n o (λ no_a. some (same ∙ no_a)) kept.0 ∙ ap (λ (l : List Place). last_lsn l) (sym same)))
+            (λ no_a.
+            let same = places_second all a b parts (g.pages + n) no_a in
+            late.its n o (λ no_b. some (same ∙ no_b)) since ∙ ap (λ (l : List Place). last_lsn l) (sym same))
+            (parts.apart (g.pages + n));
+        others = λ n o none since.
+            let it = neither (g.pages + n) none in
+            let kept = late.others n o it.1 since in
+            let was = first.lasts.others n o it.0 kept.0 in
+            (was.0, kept.1 ∙ was.1);
+      }
 
   -- what is told
   module _ (is_told : IsTrue told) (apart : log.area ≢ Home) (backs : Backs g v p0) where
@@ -196,6 +218,7 @@ module _ {U T : Type 0} (g : Geometry) (told : Bool) (t : Table) (text : List �
     later = let x = first.later in let y = second.later in omega (arith, x, y);
     bytes = second.bytes;
     below = λ tail logged every. second.below tail (first.below tail logged (all_first all a b parts (λ p. p.lsn < tail) every)) (all_second all a b parts (λ p. p.lsn < tail) every);
+    lasts = lasts_then;
     absent = absent;
     faults = faults;
     units_are = units_then;

@@ -17,7 +17,8 @@ use Rattle.sg_pool.specs.declared.fault.PoolFault.TheVariants.{Disk, Damaged, Me
 use Rattle.sg_pool.specs.declared.pool.Pool.{Pool}
 use Rattle.sg_pool.specs.Pooled.{contents, frame_holding, Backs}
 use Rattle.sg_pool.specs.Redone.{PartRecords, ArePlacesBelow, places_of, records_of, IsRedone, ArePartlyRedone, AreHomesKnown, IsRedoMoment}
-use Rattle.sg_pool.specs.Redoing.{IsDurable, RedoFails, AreRedone, AreDurablyRedone, IsRun}
+use Rattle.sg_pool.specs.Redoing.{AreLastsRedone, IsDurable, RedoFails, AreRedone, AreDurablyRedone, IsRun}
+use Rattle.sg_pool.specs.Repeated.{last_lsn}
 use Rattle.sg_pool.specs.Shelves.{OnTold, lasts}
 use Rattle.sg_pool.specs.Units.{Geometry}
 use Rattle.sg_pool.specs.Well.{IsWell}
@@ -46,6 +47,10 @@ module _ {T : Type 0} (g : Geometry) (told : Bool) (t : Table) (text : List ℕ)
     later = run.later;
     bytes = run.bytes;
     below = λ tail logged every. run.below tail logged (below_sorted tail every);
+    lasts = on_ok_weaker r (λ (it : AreLastsRedone g sorted p0 p1). record {
+      its = λ b o some since. it.its b o (λ empty. some (sym (same (g.pages + b)) ∙ empty)) since ∙ ap (λ (l : List Place). last_lsn l) (same (g.pages + b));
+      others = λ b o empty since. it.others b o (same (g.pages + b) ∙ empty) since;
+    }) run.lasts;
     absent = on_ok_weaker r (λ (it : (n : ℕ) → places_of n sorted ≡ [] → frame_holding p0 n ≡ None → frame_holding p1 n ≡ None) (n : ℕ) (empty : places_of n places ≡ []) (away : frame_holding p0 n ≡ None). it n (same n ∙ empty) away) run.absent;
     faults = if_err_weaker r (RedoFails told log.area g v w p0 sorted) (RedoFails told log.area g v w p0 places) fails_same run.faults;
     units_are = λ is_told apart backs. let it = run.units_are is_told apart backs in record {

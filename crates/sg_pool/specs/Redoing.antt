@@ -1,5 +1,5 @@
 -- A call that repeats a part of the log.
-use Rattle.std.specs.Prelude.{◌≡◌, ◌≢◌, ◌⊎◌, ◌<◌, ◌≤◌, ℕ, Bool, IsTrue, None, List, [], Result, OnOk, OnErr, IfErr}
+use Rattle.std.specs.Prelude.{◌≡◌, ◌≢◌, ◌⊎◌, ◌<◌, ◌≤◌, ◌+◌, ℕ, Bool, IsTrue, Some, None, List, [], Result, OnOk, OnErr, IfErr}
 use Rattle.sg_base.specs.Ends.{HasRisen}
 use Rattle.sg_base.specs.declared.area.Area.{Area}
 use Rattle.sg_base.specs.declared.area.Area.TheVariants.{Home}
@@ -12,8 +12,9 @@ use Rattle.sg_pool.specs.declared.fault.PoolFault.{PoolFault}
 use Rattle.sg_pool.specs.declared.fault.PoolFault.TheVariants.{Disk, Damaged, Memory}
 use Rattle.sg_pool.specs.declared.pool.Pool.{Pool}
 use Rattle.sg_pool.specs.Moments.{IsSameOrForced}
-use Rattle.sg_pool.specs.Pooled.{sizes, contents, frame_holding, Backs, IsLogged}
+use Rattle.sg_pool.specs.Pooled.{sizes, contents, frame_holding, band_since_of, last_of, Backs, IsLogged}
 use Rattle.sg_pool.specs.Redone.{ArePlacesBelow, places_of, records_of, IsRedone, ArePartlyRedone, AreHomesKnown, IsRedoMoment}
+use Rattle.sg_pool.specs.Repeated.{last_lsn}
 use Rattle.sg_pool.specs.Shelves.{OnTold, AreLogged, lasts}
 use Rattle.sg_pool.specs.Units.{Geometry}
 use Rattle.sg_pool.specs.Well.{IsWell}
@@ -30,6 +31,12 @@ abbrev pub RedoFails : Bool → Area → Geometry → (old new : View) → Pool 
 RedoFails told area g old new pool places Disk = HasRisen old.faults new.faults
 RedoFails told area g old new pool places (Damaged page) = (page.0 < g.pages) × (places_of page.0 places ≢ []) × (IsTrue told → (area ≡ Home → ⊥) → Backs g old pool → IsWell ((contents old pool).page page.0) → ⊥)
 RedoFails told area g old new pool places Memory = ⊥
+
+-- THE LAST CHANGES OF BANDS that aren't on the disk: of each band with records in the part it is the last of these, and the others had such a
+-- change and the same last one
+pub record AreLastsRedone (g : Geometry) (places : List Place) (old new : Pool) : Type 0 where
+  pub its : (b o : ℕ) → places_of (g.pages + b) places ≢ [] → band_since_of new b ≡ Some o → last_of new b ≡ last_lsn (places_of (g.pages + b) places)
+  pub others : (b o : ℕ) → places_of (g.pages + b) places ≡ [] → band_since_of new b ≡ Some o → (band_since_of old b ≡ Some o) × (last_of new b ≡ last_of old b)
 
 -- what is known of the units
 pub record AreRedone {T : Type 0} (g : Geometry) (t : Table) (text : List ℕ) (places : List Place) (v w : View) (old new : Pool) (result : Result T PoolFault) : Type 0 where
@@ -52,6 +59,7 @@ pub record IsRun {T : Type 0} (g : Geometry) (told : Bool) (t : Table) (text : L
   pub bytes : IsTrue told → (a : Area) (i : ℕ) → (w.now a).seen i < 256
   -- where the part's records are below a number, the last change of each band stays so
   pub below : (tail : ℕ) → AreLogged tail old.shelf → ArePlacesBelow tail places → AreLogged tail new.shelf
+  pub lasts : OnOk result (AreLastsRedone g places old new)
   -- no other page has come into a frame
   pub absent : OnOk result ((n : ℕ) → places_of n places ≡ [] → frame_holding old n ≡ None → frame_holding new n ≡ None)
   pub faults : IfErr result (RedoFails told log.area g v w old places)

@@ -51,7 +51,7 @@ fn are_in_order(places: &[Place]) -> bool
 impl Pool {
     ghost use Rattle.sg_pool.specs.Pooled.{sizes, contents, frame_holding, Backs, IsLogged};
     ghost use Rattle.sg_pool.specs.Shelves.{OnTold, lasts};
-    ghost use Rattle.sg_pool.specs.Redoing.{IsDurable, RedoFails, IsRun};
+    ghost use Rattle.sg_pool.specs.Redoing.{AreLastsRedone, IsDurable, RedoFails, IsRun};
 
     // Repeats the records at these places, which are all of one unit.
     fn redo_unit<D: Disk, L: Ledger>(
@@ -159,6 +159,7 @@ impl Pool {
             OnTold result (AreHomesKnown (sizes self.old) ((D.view disk.new).now Home) rs (contents (D.view disk.old) self.old) (contents (D.view disk.new) self.new)) }
         ensures logged { (ds : List Numbered) → IsTrue D.told → log.old.area ≢ Home → Backs (sizes self.old) (D.view disk.old) self.old → IsDurable (D.view disk.old) log.old ds self.old places.old →
             OnTold result (IsLogged (tail_of log.old) (D.view disk.new) self.new) }
+        ensures lasts { OnOk result (AreLastsRedone (sizes self.old) places.old self.old self.new) }
         ensures log_kept { (log.new ≡ log.old) ⊎ (log.new ≡ forced log.old) }
         ensures log { (ds ps : List Numbered) → IsTrue D.told → log.old.area ≢ Home → Backs (sizes self.old) (D.view disk.old) self.old → Holds (D.view disk.old) log.old ds ps →
             OnTold result (IsSameOrForced (D.view disk.new) log.old log.new ds ps) }

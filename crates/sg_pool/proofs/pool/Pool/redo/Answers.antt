@@ -39,6 +39,7 @@ returns g c =
       refused = λ is_told apart backs. (run.units_are is_told apart backs).partly;
       homes = λ ds is_told apart backs durable. (run.durable ds is_told apart backs durable).homes;
       logged = λ ds is_told apart backs durable. (run.durable ds is_told apart backs durable).logged;
+      lasts = run.lasts;
       log_kept = run.log_kept;
       log = run.log_is;
       moments = λ ds is_told apart backs durable. (run.durable ds is_told apart backs durable).moments;

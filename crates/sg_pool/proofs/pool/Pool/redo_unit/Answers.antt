@@ -21,4 +21,4 @@ returns-else-unit-pages-clause-run g c =
     let high = c.if-unit-pages.false in
     let at : c.args.unit ≡ (sizes c.args.self.now).pages + (c.args.unit - c.pages-pages.result) = omega (arith, pages, high) in
     band_run g.D.Disk.told t c.args.text.now c.args.unit c.args.places.now c.requires.same c.requires.some (g.D.Disk.view c.args.disk.now) (g.D.Disk.view c.redo_band.new.disk) c.args.log.now c.redo_band.new.log c.args.self.now c.redo_band.new.self c.redo_band.result
-    (g.met.D.Disk.reads c.redo_band.new.disk) it.size it.log_kept it.later (λ ds ps is_told apart ready holds. it.log ds ps is_told apart holds) it.moments (c.args.unit - c.pages-pages.result) at it.frames it.logged it.backed it.repeated it.fault it.failed
+    (g.met.D.Disk.reads c.redo_band.new.disk) it.size it.log_kept it.later (λ ds ps is_told apart ready holds. it.log ds ps is_told apart holds) it.moments (c.args.unit - c.pages-pages.result) at it.frames it.logged it.backed it.repeated it.last it.lasts it.fault it.failed
