@@ -1,14 +1,13 @@
 -- The moments of runs of redo, one run after another.
-use Rattle.std.proofs.Common.{◌≡◌, ◌≢◌, ◌⊎◌, inl, inr, ⊎_elim, ◌<◌, ◌≤◌, ◌+◌, ℕ, true, false, Some, None, List, [], ◌∷◌, ◌++◌, length, refl, sym, ◌∙◌, ap, subst, arith, append-nil}
+use Rattle.std.proofs.Common.{◌≡◌, ◌⊎◌, inl, inr, ⊎_elim, ◌<◌, ◌≤◌, ◌+◌, ℕ, true, false, List, [], ◌∷◌, ◌++◌, length, refl, sym, ◌∙◌, ap, subst, arith, append-nil}
 use Rattle.std.proofs.lemmas.Bool.Decides.{nat_tests}
 use Rattle.sg_base.specs.Page.{lsn_of}
 use Rattle.sg_base.specs.declared.area.Area.{Area}
 use Rattle.sg_base.specs.declared.area.Area.TheVariants.{Home}
-use Rattle.sg_base.specs.declared.page.TheConstants.{BAND_SIZE}
 use Rattle.sg_disk.specs.Disk.{Bytes, Image, LeavesPart, Leaves, LeavesOnly, View, at_area}
 use Rattle.sg_disk.proofs.Images.{at_area_all, at_area_same}
 use Rattle.sg_disk.proofs.Moments.{seen_image, weaker, joined}
-use Rattle.sg_gate.specs.Layout.{PAGE, HEADER, HOMES, home_at}
+use Rattle.sg_gate.specs.Layout.{HEADER, HOMES, home_at}
 use Rattle.sg_gate.specs.Batch.{laid, IsReady}
 use Rattle.sg_gate.proofs.Over.{laid_shut}
 use Rattle.sg_log.specs.Frames.{Numbered, HasRecords, numbered_from}

@@ -1,17 +1,17 @@
 -- One call of redo is a run over its places, and so is none.
-use Rattle.std.proofs.Common.{◌≡◌, ◌≢◌, ◌⊎◌, inl, inr, ⊎_elim, ◌<◌, ◌≤◌, ◌+◌, ◌-◌, ◌^◌, ◌++◌, ℕ, zero, suc, Bool, true, false, IsTrue, Option, None, Some, Result, Ok, Err, List, [], ◌∷◌, length, get_or, refl, sym, ◌∙◌, ap, subst, arith, append-nil}
-use Rattle.std.specs.Prelude.{All, OnOk, OnErr, IfOk, IfErr, slice_get}
+use Rattle.std.proofs.Common.{◌≡◌, ◌≢◌, ◌⊎◌, inl, inr, ⊎_elim, ◌<◌, ◌≤◌, ◌+◌, ◌-◌, ◌^◌, ℕ, Bool, IsTrue, Option, None, Some, Result, Ok, Err, List, [], ◌∷◌, length, refl, sym, ◌∙◌, ap, subst, arith}
+use Rattle.std.specs.Prelude.{All, OnOk, OnErr, IfOk, IfErr}
 use Rattle.std.proofs.lemmas.Bool.{cases_eq, cases_lt}
 use Rattle.std.proofs.lemmas.List.{get_or_past}
 use Rattle.std.proofs.lemmas.Option.{slice_get-get_or}
-use Rattle.std.proofs.lemmas.Result.{on_ok_weaker, on_err_weaker}
+use Rattle.std.proofs.lemmas.Result.{on_ok_weaker}
 use Rattle.sg_base.specs.Ends.{HasRisen}
 use Rattle.sg_base.specs.declared.area.Area.{Area}
 use Rattle.sg_base.specs.declared.area.Area.TheVariants.{Home}
 use Rattle.sg_disk.specs.Disk.{Image, Leaves, View, LeavesOnly}
 use Rattle.sg_disk.proofs.Moments.{started, weaker}
 use Rattle.sg_gate.specs.Batch.{IsReady}
-use Rattle.sg_log.specs.Frames.{Numbered, LOG_END}
+use Rattle.sg_log.specs.Frames.{Numbered}
 use Rattle.sg_log.specs.Held.{Tail, Holds, tail_of, forced}
 use Rattle.sg_log.proofs.Holding.{holds_image}
 use Rattle.sg_ops.specs.Table.{Table}
@@ -23,15 +23,15 @@ use Rattle.sg_pool.specs.declared.pool.Pool.{Pool}
 use Rattle.sg_pool.specs.declared.slot.Slot.{Slot}
 use Rattle.sg_pool.specs.declared.windows.Windows.{Windows}
 use Rattle.sg_pool.specs.Frames.{AreBelow}
-use Rattle.sg_pool.specs.Held.{no_slot, frame_of, page_in, AreApart}
+use Rattle.sg_pool.specs.Held.{no_slot, frame_of, page_in}
 use Rattle.sg_pool.specs.Lending.{IsBrought}
 use Rattle.sg_pool.specs.Moments.{IsSameOrForced}
 use Rattle.sg_pool.specs.Pooled.{sizes, contents, frame_holding, Backs, SameContents, IsLogged, IsPoolMoment, SameWindows, SameFrames, last_of, OthersKeepLasts}
 use Rattle.sg_pool.specs.Redone.{ArePlacesBelow, PartRecords, places_of, records_of, IsRedone, ArePartlyRedone, AreHomesKnown, IsRedoMoment}
-use Rattle.sg_pool.specs.Redoing.{AreLastsRedone, IsDurable, RedoFails, AreRedone, AreDurablyRedone, IsRun}
+use Rattle.sg_pool.specs.Redoing.{AreLastsRedone, IsDurable, RedoFails, AreRedone, IsRun}
 use Rattle.sg_pool.specs.Repeated.{lsn_in, last_lsn, IsCleanedThenPageRepeated, IsCleanedThenBandRepeated}
 use Rattle.sg_pool.specs.Shelves.{OnTold, BringFails, AreLogged, lasts}
-use Rattle.sg_pool.specs.Units.{Geometry, Units, IsBacked, IsCleaned, IsBelow}
+use Rattle.sg_pool.specs.Units.{Geometry, Units, IsBelow}
 use Rattle.sg_pool.specs.Well.{IsWell}
 use Rattle.sg_pool.proofs.BandsHome.{lasts_same}
 use Rattle.sg_pool.proofs.Bringing.{on_told_weaker}

@@ -1,11 +1,10 @@
 -- Runs of redo, one after another.
-use Rattle.std.proofs.Common.{◌≡◌, ◌≢◌, ◌⊎◌, inl, inr, ⊎_elim, ◌<◌, ◌≤◌, ◌+◌, ◌++◌, ℕ, zero, suc, Bool, true, false, IsTrue, Option, None, Some, Result, Ok, Err, List, [], ◌∷◌, length, refl, sym, ◌∙◌, ap, subst, arith, append-nil}
-use Rattle.std.specs.Prelude.{All, OnOk, OnErr, IfErr}
+use Rattle.std.proofs.Common.{◌≡◌, ◌≢◌, ◌⊎◌, inl, inr, ⊎_elim, ◌<◌, ◌+◌, ◌++◌, ℕ, zero, suc, Bool, true, false, IsTrue, Option, None, Some, Result, Ok, Err, List, [], ◌∷◌, sym, ◌∙◌, ap, subst, arith, append-nil}
+use Rattle.std.specs.Prelude.{OnOk, OnErr, IfErr}
 use Rattle.std.proofs.lemmas.List.Elements.{All-filter, All-append}
-use Rattle.std.proofs.lemmas.Result.{on_ok_weaker, on_err_weaker}
-use Rattle.sg_base.specs.declared.area.Area.{Area}
+use Rattle.std.proofs.lemmas.Result.{on_ok_weaker}
 use Rattle.sg_base.specs.declared.area.Area.TheVariants.{Home}
-use Rattle.sg_disk.specs.Disk.{View, LeavesOnly}
+use Rattle.sg_disk.specs.Disk.{View}
 use Rattle.sg_log.specs.Frames.{Numbered}
 use Rattle.sg_log.specs.Held.{Tail, Holds, tail_of, forced}
 use Rattle.sg_ops.specs.Table.{Table}
@@ -19,19 +18,19 @@ use Rattle.sg_pool.specs.declared.fault.PoolFault.{PoolFault}
 use Rattle.sg_pool.specs.declared.fault.PoolFault.TheVariants.{Disk, Damaged, Memory}
 use Rattle.sg_pool.specs.declared.pool.Pool.{Pool}
 use Rattle.sg_pool.specs.Moments.{IsSameOrForced}
-use Rattle.sg_pool.specs.Pooled.{sizes, contents, frame_holding, Backs, IsLogged}
-use Rattle.sg_pool.specs.Redone.{ArePlacesBelow, places_of, records_of, IsRedone, ArePartlyRedone, AreHomesKnown, AreChangesBelow, IsRedoMoment}
+use Rattle.sg_pool.specs.Pooled.{contents, frame_holding, Backs}
+use Rattle.sg_pool.specs.Redone.{ArePlacesBelow, places_of, records_of, ArePartlyRedone, AreHomesKnown, AreChangesBelow}
 use Rattle.sg_pool.specs.Redoing.{AreLastsRedone, IsDurable, RedoFails, AreRedone, AreDurablyRedone, IsRun}
 use Rattle.sg_pool.specs.Repeated.{last_lsn}
 use Rattle.sg_pool.specs.Shelves.{OnTold, AreLogged, lasts}
-use Rattle.sg_pool.specs.Units.{Geometry, Units}
+use Rattle.sg_pool.specs.Units.{Geometry}
 use Rattle.sg_pool.specs.Well.{IsWell}
 use Rattle.sg_pool.proofs.Bringing.{on_told_weaker, risen_more}
 use Rattle.sg_pool.proofs.Forcing.{is_forced}
-use Rattle.sg_pool.proofs.Placed.{AreParts, places_sum, places_first, places_second, are_together, all_first, all_second, page_nothing}
-use Rattle.sg_pool.proofs.Redone.{redone_then, partly_then, second_whole, whole_of_whole, first_whole}
-use Rattle.sg_pool.proofs.RedoMoments.{tail_is_gate, forced_twice, forced_same, moments_then, moment_whole, homes_then}
-use Rattle.sg_pool.proofs.Slots.{none_is_some, none_or_some}
+use Rattle.sg_pool.proofs.Placed.{AreParts, places_first, places_second, are_together, all_first, all_second, page_nothing}
+use Rattle.sg_pool.proofs.Redone.{redone_then, partly_then}
+use Rattle.sg_pool.proofs.RedoMoments.{tail_is_gate, forced_twice, forced_same, moments_then, homes_then}
+use Rattle.sg_pool.proofs.Slots.{none_or_some}
 
 pub on_told_two : {T : Type 0} (r : Result T PoolFault) (P Q R : Type 0) → (P → Q → R) → OnTold r P → OnTold r Q → OnTold r R
 on_told_two (Ok x) P Q R f p q = f p q
@@ -199,7 +198,7 @@ module _ {U T : Type 0} (g : Geometry) (told : Bool) (t : Table) (text : List �
         let there = two is_told apart backs in
         let together = are_together all a b parts g t text in
         let marks : (n i : ℕ) → (contents v p0).marked n i ≡ true → lasts p0.shelf n < log.gate =
-            λ n i on. subst (λ (d : ℕ). lasts p0.shelf n < d) (tail_is_gate v log ds durable.holds) (marks_below v p0 g (tail_of log) backs durable.logged.bands n i on) in
+        λ n i on. subst (λ (d : ℕ). lasts p0.shelf n < d) (tail_is_gate v log ds durable.holds) (marks_below v p0 g (tail_of log) backs durable.logged.bands n i on) in
         let below : (n : ℕ) → AreChangesBelow log.gate ((records_of g t text all).band n) = λ n. window_below t text log.gate (places_of (g.pages + n) all) (All-filter _ (λ p. p.lsn < log.gate) all durable.below) in
         record {
           logged = second_durable.logged;

@@ -1,12 +1,10 @@
 -- What runs of redo leave of the units, one run after another.
-use Rattle.std.proofs.Common.{◌≡◌, ◌≢◌, ◌⊎◌, inl, inr, ⊎_elim, ◌<◌, ◌≤◌, ◌^◌, ℕ, suc, Bool, true, false, if◌then◌else◌, Option, Some, None, IfSome, List, [], ◌∷◌, ◌++◌, length, refl, sym, ◌∙◌, ap, subst, arith, append-nil}
-use Rattle.std.specs.Prelude.{◌&&◌, ◌||◌, nat_lt, is_some, unwrap_or, All}
-use Rattle.std.specs.List.{flat_map}
+use Rattle.std.proofs.Common.{◌≡◌, ◌≢◌, ◌⊎◌, inl, inr, ⊎_elim, ◌<◌, ◌≤◌, ◌^◌, ℕ, suc, Bool, true, false, if◌then◌else◌, Option, Some, None, IfSome, List, [], ◌∷◌, ◌++◌, refl, sym, ◌∙◌, ap, subst, arith, append-nil}
+use Rattle.std.specs.Prelude.{◌&&◌, ◌||◌, nat_lt, is_some, unwrap_or}
 use Rattle.std.proofs.lemmas.Bool.{cases_eq}
 use Rattle.sg_base.specs.Page.{lsn_of}
 use Rattle.sg_base.specs.declared.page.TheConstants.{BAND_SIZE}
 use Rattle.sg_disk.specs.Disk.{Part}
-use Rattle.sg_gate.specs.Layout.{home_at}
 use Rattle.sg_ops.specs.Table.{Table}
 use Rattle.sg_record.specs.Changes.{Change}
 use Rattle.sg_record.specs.Changes.Change.{Page, SegWrite, SegOp}
@@ -15,7 +13,7 @@ use Rattle.sg_redo.specs.History.{OnPage, redone, repeated, rewritten, applies, 
 use Rattle.sg_redo.specs.Places.{change_at, op_said, page_part, page_records}
 use Rattle.sg_redo.specs.Window.{OnWindow, on_byte, since_replayed}
 use Rattle.sg_redo.proofs.Numbers.{record_sets}
-use Rattle.sg_pool.specs.Units.{Geometry, Units, IsBacked, IsCleaned, IsBelow, page_at}
+use Rattle.sg_pool.specs.Units.{Geometry, Units, IsBacked, IsCleaned, IsBelow}
 use Rattle.sg_pool.specs.Repeated.{IsPageRepeated, IsBandRepeated}
 use Rattle.sg_pool.specs.Redone.{PartRecords, IsPageRedone, HasOnly, IsBandRedone, IsRedone, AreWhole, ArePartlyRedone, AreHomesKnown, ArePlacesBelow}
 use Rattle.sg_pool.proofs.Changes.{bool_cases, redone_same}
@@ -286,9 +284,9 @@ below_repeated : (tail : ℕ) (rs : List OnPage) (page : List ℕ) (since : Opti
 below_repeated tail [] page since numbered below o some = below o some
 below_repeated tail (r ∷ rs) page since numbered below o some =
     let next : (x : ℕ) → since_after r page since ≡ Some x → lsn_of (redone r page) < tail = λ x is. ⊎_elim
-        (λ done. subst (λ (n : ℕ). n < tail) (sym (done_number r page numbered.0.0 done)) numbered.0.1)
-        (λ not. subst (λ (p : List ℕ). lsn_of p < tail) (sym (redone_same r page not)) (below x (sym (ap (λ (b : Bool). if b then Some (unwrap_or since r.lsn) else since) not) ∙ is)))
-        (bool_cases (applies r page)) in
+    (λ done. subst (λ (n : ℕ). n < tail) (sym (done_number r page numbered.0.0 done)) numbered.0.1)
+    (λ not. subst (λ (p : List ℕ). lsn_of p < tail) (sym (redone_same r page not)) (below x (sym (ap (λ (b : Bool). if b then Some (unwrap_or since r.lsn) else since) not) ∙ is)))
+    (bool_cases (applies r page)) in
     below_repeated tail rs (redone r page) (since_after r page since) numbered.1 next o some
 
 pub cleaned_below : (g : Geometry) (tail : ℕ) (m m' : Units) → IsCleaned g m m' → IsBelow g tail m → IsBelow g tail m'

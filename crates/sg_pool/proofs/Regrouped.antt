@@ -1,23 +1,21 @@
 -- A run over places in another order, which keeps each unit's own.
-use Rattle.std.proofs.Common.{◌≡◌, ◌≢◌, ◌<◌, ◌+◌, ℕ, Bool, IsTrue, None, Result, List, [], sym, ◌∙◌, ap, subst}
-use Rattle.std.specs.Prelude.{IfErr, OnOk, OnErr}
+use Rattle.std.proofs.Common.{◌≡◌, ◌≢◌, ◌<◌, ◌+◌, ℕ, Bool, None, Result, List, [], sym, ◌∙◌, ap, subst}
+use Rattle.std.specs.Prelude.{OnOk, OnErr}
 use Rattle.std.specs.List.Sorted.{IsPermutation}
 use Rattle.std.proofs.lemmas.List.Sorted.{All-permutation}
 use Rattle.std.proofs.lemmas.Result.{on_ok_weaker}
-use Rattle.sg_base.specs.declared.area.Area.{Area}
 use Rattle.sg_base.specs.declared.area.Area.TheVariants.{Home}
 use Rattle.sg_disk.specs.Disk.{View, LeavesOnly}
-use Rattle.sg_log.specs.Frames.{Numbered}
-use Rattle.sg_log.specs.Held.{Tail, tail_of}
+use Rattle.sg_log.specs.Held.{Tail}
 use Rattle.sg_ops.specs.Table.{Table}
 use Rattle.sg_redo.specs.declared.place.Place.{Place}
 use Rattle.sg_redo.specs.Places.{page_records, window_records}
 use Rattle.sg_pool.specs.declared.fault.PoolFault.{PoolFault}
 use Rattle.sg_pool.specs.declared.fault.PoolFault.TheVariants.{Disk, Damaged, Memory}
 use Rattle.sg_pool.specs.declared.pool.Pool.{Pool}
-use Rattle.sg_pool.specs.Pooled.{contents, frame_holding, Backs}
+use Rattle.sg_pool.specs.Pooled.{contents, frame_holding}
 use Rattle.sg_pool.specs.Redone.{PartRecords, ArePlacesBelow, places_of, records_of, IsRedone, ArePartlyRedone, AreHomesKnown, IsRedoMoment}
-use Rattle.sg_pool.specs.Redoing.{AreLastsRedone, IsDurable, RedoFails, AreRedone, AreDurablyRedone, IsRun}
+use Rattle.sg_pool.specs.Redoing.{AreLastsRedone, RedoFails, IsRun}
 use Rattle.sg_pool.specs.Repeated.{last_lsn}
 use Rattle.sg_pool.specs.Shelves.{OnTold, lasts}
 use Rattle.sg_pool.specs.Units.{Geometry}

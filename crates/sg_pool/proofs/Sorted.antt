@@ -1,9 +1,9 @@
 -- Places that are sorted by unit, and those of one unit by their numbers.
 use Rattle.std.proofs.Common.{◌≡◌, ◌≢◌, ◌⊎◌, inl, inr, ⊎_elim, ◌<◌, ◌≤◌, ◌+◌, ◌-◌, ◌==◌, nat_lt, ℕ, zero, suc, Bool, true, false, List, [], ◌∷◌, length, get_or, refl, sym, ◌∙◌, ap, subst, arith}
-use Rattle.std.specs.Prelude.{All, AllPairs, Contains, filter, map, cond}
+use Rattle.std.specs.Prelude.{AllPairs, Contains, filter, map, cond}
 use Rattle.std.specs.List.{IsDistinct}
-use Rattle.std.specs.List.Sorted.{IsPermutation, IsSortedByKey, IsNonDecreasingBy, IsStrictlyIncreasing}
-use Rattle.std.specs.Ordering.{is_lt, nat_cmp, ordering_then, eq_by_cmp}
+use Rattle.std.specs.List.Sorted.{IsPermutation, IsSortedByKey, IsNonDecreasingBy}
+use Rattle.std.specs.Ordering.{is_lt, nat_cmp, ordering_then}
 use Rattle.std.proofs.lemmas.Bool.{cases_eq, cases_lt}
 use Rattle.std.proofs.lemmas.Bool.Decides.{nat_tests, Decides-eqb}
 use Rattle.std.proofs.lemmas.List.Elements.{filter_passes}
@@ -71,20 +71,20 @@ same_rising [] (y ∷ ys) up_x up_y to from = let lt = (from y (head_in y ys)).1
 same_rising (x ∷ xs) [] up_x up_y to from = let lt = (to x (head_in x xs)).1 in absurd (omega (arith, lt))
 same_rising (x ∷ xs) (y ∷ ys) up_x up_y to from =
     let heads : x ≡ y = ⊎_elim
-        (λ same. sym same)
-        (λ later. ⊎_elim
-        (λ same. same)
-        (λ after. let a = above_head y x ys up_y later in let b = above_head x y xs up_x after in absurd (omega (arith, a, b)))
-        (in_cons x y xs (from y (head_in y ys))))
-        (in_cons y x ys (to x (head_in x xs))) in
+    (λ same. sym same)
+    (λ later. ⊎_elim
+    (λ same. same)
+    (λ after. let a = above_head y x ys up_y later in let b = above_head x y xs up_x after in absurd (omega (arith, a, b)))
+    (in_cons x y xs (from y (head_in y ys))))
+    (in_cons y x ys (to x (head_in x xs))) in
     let to_tail : (p : Place) → Contains xs p → Contains ys p = λ p there. ⊎_elim
-        (λ same. let a = above_head x p xs up_x there in absurd (omega (arith, a, ap (λ (q : Place). q.lsn) (heads ∙ same))))
-        (λ later. later)
-        (in_cons y p ys (to p (tail_in x p xs there))) in
+    (λ same. let a = above_head x p xs up_x there in absurd (omega (arith, a, ap (λ (q : Place). q.lsn) (heads ∙ same))))
+    (λ later. later)
+    (in_cons y p ys (to p (tail_in x p xs there))) in
     let from_tail : (p : Place) → Contains ys p → Contains xs p = λ p there. ⊎_elim
-        (λ same. let a = above_head y p ys up_y there in absurd (omega (arith, a, ap (λ (q : Place). q.lsn) (sym heads ∙ same))))
-        (λ later. later)
-        (in_cons x p xs (from p (tail_in y p ys there))) in
+    (λ same. let a = above_head y p ys up_y there in absurd (omega (arith, a, ap (λ (q : Place). q.lsn) (sym heads ∙ same))))
+    (λ later. later)
+    (in_cons x p xs (from p (tail_in y p ys there))) in
     ap (λ (q : Place). q ∷ xs) heads ∙ ap (λ (l : List Place). y ∷ l) (same_rising xs ys (rises_tail x xs up_x) (rises_tail y ys up_y) to_tail from_tail)
 
 -- THE ORDER OF A SORT: by unit, and then by number

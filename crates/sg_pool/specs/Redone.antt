@@ -1,5 +1,5 @@
 -- The records of a part of the log are repeated on all the units that they change, and images of the moments of that.
-use Rattle.std.specs.Prelude.{◌≡◌, ◌≢◌, ◌⊎◌, ◌<◌, ◌+◌, ◌==◌, ℕ, true, None, List, [], All, filter, map}
+use Rattle.std.specs.Prelude.{◌≡◌, ◌⊎◌, ◌<◌, ◌+◌, ◌==◌, ℕ, true, None, List, [], All, filter, map}
 use Rattle.std.specs.List.Sorted.{IsStrictlyIncreasing}
 use Rattle.sg_base.specs.Page.{lsn_of}
 use Rattle.sg_base.specs.declared.area.Area.{Area}

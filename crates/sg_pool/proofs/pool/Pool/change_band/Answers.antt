@@ -89,7 +89,7 @@ returns-clause-lasts g c b o differ since =
     let low : c.in_ok-w.w < length s.frames.windows = omega (arith, lt, wide) in
     let is = c.write_band.ensures.frames in
     let it = written_lasts (geometry_of s) s.slots.items s.wins t.wins c.in_ok-w.w c.args.b.0 _ lt held c.write_band.ensures.wins c.write_band.ensures.marks s.frames t.frames
-        (ap (λ (h : Held). h.pages) is) (λ v other. ap (λ (h : Held). get_or h.windows v []) is ∙ get_or-set_other s.frames.windows c.in_ok-w.w v _ [] other) b o differ since in
+    (ap (λ (h : Held). h.pages) is) (λ v other. ap (λ (h : Held). get_or h.windows v []) is ∙ get_or-set_other s.frames.windows c.in_ok-w.w v _ [] other) b o differ since in
     let before = c.hold_band.ensures.lasts b o it.0 in
     (before.0, it.1 ∙ before.1)
 

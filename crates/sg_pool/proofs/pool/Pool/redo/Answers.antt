@@ -1,11 +1,10 @@
-use Rattle.std.proofs.Common.{rules, ◌≡◌, ◌≤◌, ◌<◌, ◌+◌, ℕ, List, length, ◌∙◌, ap, arith}
+use Rattle.std.proofs.Common.{rules, ◌≡◌, ◌≤◌, ◌<◌, ◌+◌, ℕ, length, ◌∙◌, ap, arith}
 use Rattle.std.proofs.lemmas.Result.{on_ok_weaker, on_err_weaker}
 use Rattle.std.proofs.lemmas.List.Sorted.{answers_always, All-permutation}
 use Rattle.sg_ops.specs.Table.{Table, table_of}
 use Rattle.sg_redo.specs.declared.place.Place.{Place}
 use Rattle.sg_redo.specs.Places.{change_at, IsKnown}
 use Rattle.sg_pool.specs.Pooled.{sizes}
-use Rattle.sg_pool.specs.Redoing.{IsRun}
 use Rattle.sg_pool.proofs.Regrouped.{run_regrouped}
 use Rattle.sg_pool.proofs.Sorted.{sorted_up, sorted_same}
 use Rattle.sg_pool.proofs.pool.Pool.redo.Goals as goal
@@ -30,7 +29,7 @@ returns g c =
     let sorted = c.sort_unstable_by_key.ensures.sorted key (answers_always _ _ _ (λ f a r h k. search rules)) in
     let long = c.sort_unstable_by_key.ensures.len in
     let run = run_regrouped (sizes c.args.self.now) g.D.Disk.told _ c.args.text.now c.args.places.now c.sort_unstable_by_key.new.self moved (sorted_same c.args.places.now c.sort_unstable_by_key.new.self c.requires.order moved sorted)
-        (g.D.Disk.view c.args.disk.now) (g.D.Disk.view c.redo_units.new.disk) c.args.log.now c.redo_units.new.log c.args.self.now c.redo_units.new.self c.redo_units.result c.redo_units.ensures.run in
+    (g.D.Disk.view c.args.disk.now) (g.D.Disk.view c.redo_units.new.disk) c.args.log.now c.redo_units.new.log c.args.self.now c.redo_units.new.self c.redo_units.result c.redo_units.ensures.run in
     record {
       places = moved;
       size = run.size;

@@ -96,7 +96,7 @@ returns-clause-lasts g c b o differ since =
     let is = c.repeat_band.ensures.frames in
     let t' : Table = table_of (λ p. (goal.RecordOp-dyn g p).record_meaning p.1) (λ p. (goal.RangeOp-dyn g p).range_meaning p.1) c.args.ops.now in
     let it = written_lasts (geometry_of s) s.slots.items s.wins t.wins c.in_ok-w.w c.args.b.0 _ lt held c.repeat_band.ensures.wins c.repeat_band.ensures.marks s.frames t.frames
-        (ap (λ (h : Held). h.pages) is) (λ v other. ap (λ (h : Held). get_or h.windows v []) is ∙ get_or-set_other s.frames.windows c.in_ok-w.w v _ [] other) b o differ since in
+    (ap (λ (h : Held). h.pages) is) (λ v other. ap (λ (h : Held). get_or h.windows v []) is ∙ get_or-set_other s.frames.windows c.in_ok-w.w v _ [] other) b o differ since in
     let before = c.hold_band.ensures.lasts b o it.0 in
     (before.0, it.1 ∙ before.1)
 

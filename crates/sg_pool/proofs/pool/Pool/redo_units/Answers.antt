@@ -1,4 +1,4 @@
-use Rattle.std.proofs.Common.{◌≡◌, arith}
+use Rattle.std.proofs.Common.{arith}
 use Rattle.std.proofs.lemmas.Result.{err_from_is_err_and}
 use Rattle.sg_ops.specs.Table.{Table, table_of}
 use Rattle.sg_pool.proofs.Grouped.{IsGroup, through_starts, through_next, through_cut, through_ends}

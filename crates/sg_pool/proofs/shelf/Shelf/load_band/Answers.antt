@@ -6,7 +6,6 @@ use Rattle.sg_pool.specs.Held.{page_in}
 use Rattle.sg_pool.proofs.Pooling.{held_new}
 use Rattle.sg_pool.proofs.Slots.{page_there}
 use Rattle.sg_pool.specs.declared.windows.Windows.{Windows}
-use Rattle.sg_pool.specs.Frames.{AreBelow}
 use Rattle.sg_pool.specs.Windows.{no_marks}
 use Rattle.sg_pool.specs.Shelves.{geometry_of}
 use Rattle.sg_pool.proofs.BandsHome.{lasts_same}
