@@ -634,7 +634,8 @@ impl Part {
     fn add(&mut self, page: u32, band: u32, cell: u32) -> Result<(), Fail> {
         let at = self.text.len() as u64;
         let lsn = at.saturating_add(1_000);
-        self.text.extend_from_slice(&part_for(page, band, cell, lsn))?;
+        self.text
+            .extend_from_slice(&part_for(page, band, cell, lsn))?;
         for (unit, offset) in [(page, 0u64), (page, 36), (PAGES.saturating_add(band), 82)] {
             self.places.push(Place {
                 unit,
@@ -732,7 +733,11 @@ fn a_part_of_a_log_is_repeated_on_all_its_units(rt: HostRuntime) -> Result<(), F
 
 // What redo of a part over a page that is no page answers, and whether the pages beside it have all their records or
 // none.
-fn damaged<L: Ledger>(trial: &mut Trial, part: &mut Part, blank: Blank) -> Result<(Option<PoolFault>, bool), Stop>
+fn damaged<L: Ledger>(
+    trial: &mut Trial,
+    part: &mut Part,
+    blank: Blank,
+) -> Result<(Option<PoolFault>, bool), Stop>
     requires name { blank.name ≡ L.name }
     requires parts { blank.parts ≡ L.parts }
     requires some { 0 < L.parts }
