@@ -53,8 +53,8 @@ module _ (g : Geometry) (slots : List Slot) (wins wins' : Windows) (w b : ℕ) (
   pub loaded_others : (v : ℕ) → v ≢ w → page_in wins'.slots.items v ≡ page_in wins.slots.items v
   loaded_others v differ = ap (λ (l : List Slot). page_in l v) is ∙ page_there wins.slots.items w s lt v differ
 
-  -- each band's last change is where it was
-  module _ (tail : ℕ) (below : AreBelow tail wins) (c o : ℕ) (since : since_of wins'.slots.items (frame_of wins'.slots.items c) ≡ Some o) where
+  -- each band that has a change keeps its last one
+  module _ (c o : ℕ) (since : since_of wins'.slots.items (frame_of wins'.slots.items c) ≡ Some o) where
     in_none : frame_of wins'.slots.items c ≡ None → ⊥
     in_none gone = none_is_some o (sym (ap (since_of wins'.slots.items) gone) ∙ since)
 
@@ -63,19 +63,21 @@ module _ (g : Geometry) (slots : List Slot) (wins wins' : Windows) (w b : ℕ) (
         let held : frame_of wins'.slots.items c ≡ Some w = ap (frame_of wins'.slots.items) (sym (some_same b c new)) ∙ here in
         none_is_some o (sym (ap (since_of wins'.slots.items) held ∙ (since_t (Some w) ∙ ap (λ (x : Slot). x.since) (set_here wins.slots.items w s lt))) ∙ since)
 
-    other_below : (x : Option ℕ) → (Some b ≡ Some c → ⊥) → (page_in wins.slots.items w ≡ Some c → ⊥) → frame_of wins.slots.items c ≡ x → last_in wins'.marks.items (frame_of wins'.slots.items c) < tail
-    other_below None not_new not_old e = absurd (in_none (at_t c ∙ (frame_other wins.slots.items w s lt c apart not_new not_old ∙ e)))
-    other_below (Some v) not_new not_old e =
+    abbrev Kept : Type 0
+    Kept = (since_of wins.slots.items (frame_of wins.slots.items c) ≡ Some o) × (last_in wins'.marks.items (frame_of wins'.slots.items c) ≡ last_in wins.marks.items (frame_of wins.slots.items c))
+
+    other_kept : (x : Option ℕ) → (Some b ≡ Some c → ⊥) → (page_in wins.slots.items w ≡ Some c → ⊥) → frame_of wins.slots.items c ≡ x → Kept
+    other_kept None not_new not_old e = absurd (in_none (at_t c ∙ (frame_other wins.slots.items w s lt c apart not_new not_old ∙ e)))
+    other_kept (Some v) not_new not_old e =
         let now = at_t c ∙ (frame_other wins.slots.items w s lt c apart not_new not_old ∙ e) in
         let differ : v ≢ w = λ same. not_old (ap (page_in wins.slots.items) (sym same) ∙ (frame_some c wins.slots.items v e).1) in
         let was : since_of wins.slots.items (Some v) ≡ Some o = sym (since_t (Some v) ∙ ap (λ (x : Slot). x.since) (set_there wins.slots.items w s lt v differ)) ∙ (sym (ap (since_of wins'.slots.items) now) ∙ since) in
-        subst (λ (x : Option ℕ). last_in wins'.marks.items x < tail) (sym now) (subst (λ (m : Marks). m.last < tail) (sym (marks v differ))
-        (subst (λ (x : Option ℕ). last_in wins.marks.items x < tail) e (below c o (ap (since_of wins.slots.items) e ∙ was))))
+        (ap (since_of wins.slots.items) e ∙ was, ap (last_in wins'.marks.items) now ∙ (ap (λ (m : Marks). m.last) (marks v differ) ∙ sym (ap (last_in wins.marks.items) e)))
 
-    pub loaded_below : last_in wins'.marks.items (frame_of wins'.slots.items c) < tail
-    loaded_below = ⊎_elim
+    pub loaded_lasts : Kept
+    loaded_lasts = ⊎_elim
         (λ new. absurd (fresh_none new.1))
-        (λ not_new. ⊎_elim (λ was. absurd (in_none (at_t c ∙ frame_gone wins.slots.items w s lt c wins.windows.apart was.1 not_new.1))) (λ not_old. other_below (frame_of wins.slots.items c) not_new.1 not_old.1 refl) (is_or_not (page_in wins.slots.items w) c))
+        (λ not_new. ⊎_elim (λ was. absurd (in_none (at_t c ∙ frame_gone wins.slots.items w s lt c wins.windows.apart was.1 not_new.1))) (λ not_old. other_kept (frame_of wins.slots.items c) not_new.1 not_old.1 refl) (is_or_not (page_in wins.slots.items w) c))
         (is_or_not (Some b) c)
 
   module _ (frames frames' : Held) (pages : frames'.pages ≡ frames.pages) (others : (v : ℕ) → v ≢ w → get_or frames'.windows v [] ≡ get_or frames.windows v []) (p : Part)
@@ -241,6 +243,11 @@ module _ (g : Geometry) (slots : List Slot) (wins wins' : Windows) (w b : ℕ) (
       (λ same. subst (λ (x : Option ℕ). last_in wins'.marks.items x < tail) (sym (ap (frame_of wins'.slots.items) same ∙ written_held)) (subst (λ (n : ℕ). n < tail) (sym last) small))
       (λ differ. let it = other c differ in subst (λ (n : ℕ). n < tail) (sym it.last) (below c o (sym it.oldest ∙ at)))
       (cases_eq c b)
+
+  -- the other bands keep theirs
+  pub written_lasts : (c o : ℕ) → c ≢ b → since_of wins'.slots.items (frame_of wins'.slots.items c) ≡ Some o
+      → (since_of wins.slots.items (frame_of wins.slots.items c) ≡ Some o) × (last_in wins'.marks.items (frame_of wins'.slots.items c) ≡ last_in wins.marks.items (frame_of wins.slots.items c))
+  written_lasts c o differ at = let it = other c differ in (sym it.oldest ∙ at, it.last)
 
   module _ (p : Part) where
     -- what the band keeps where it isn't marked

@@ -18,7 +18,7 @@ use Rattle.sg_pool.specs.declared.windows.Marks.{Marks}
 use Rattle.sg_pool.specs.Held.{frame_of, page_in, since_of, page_of}
 use Rattle.sg_pool.specs.Windows.{marked_in, last_in}
 use Rattle.sg_pool.specs.Units.{Geometry, page_at, band_byte, Units, IsBacked, IsCleaned, IsGoing}
-use Rattle.sg_pool.specs.Frames.{units_of, byte_in, lasts_of, AreBelow}
+use Rattle.sg_pool.specs.Frames.{units_of, byte_in, lasts_of, AreBelow, AreLastsKept}
 use Rattle.sg_pool.specs.Moments.{GoesHome}
 use Rattle.sg_pool.specs.Bands.{IsDirty, AreBandsHome, AreCleared}
 use Rattle.sg_pool.proofs.Banding.{dirty_is}
@@ -175,16 +175,28 @@ no_change g slots wins frames p w lt none backed x b k low high held marked =
     let here : frame_of wins.slots.items b ≡ Some w = frame_is wins.slots.items w b wins.windows.apart lt (ap (page_in wins.slots.items) (sym same) ∙ held) in
     not_both (sym (ap (λ (y : Option ℕ). marked_in wins.marks.items y k) (sym here) ∙ backed.clean b k (ap (since_of wins.slots.items) here ∙ none)) ∙ (ap (λ (y : ℕ). marked_in wins.marks.items (Some y) k) (sym same) ∙ marked))
 
--- windows that are clean leave each band's last change where it was
-module _ (wins wins' : Windows) (from to tail : ℕ) (clear : AreCleared wins wins' from to) (below : AreBelow tail wins) where
-  in_window : (b o : ℕ) (x : Option ℕ) → frame_of wins.slots.items b ≡ x → since_of wins'.slots.items x ≡ Some o → last_in wins'.marks.items x < tail
+-- windows that are clean leave each band's last change as it was
+module _ (wins wins' : Windows) (from to : ℕ) (clear : AreCleared wins wins' from to) where
+  in_window : (b o : ℕ) (x : Option ℕ) → frame_of wins.slots.items b ≡ x → since_of wins'.slots.items x ≡ Some o
+      → (since_of wins.slots.items (frame_of wins.slots.items b) ≡ Some o) × (last_in wins'.marks.items x ≡ last_in wins.marks.items (frame_of wins.slots.items b))
   in_window b o None e since = absurd (none_is_some o since)
   in_window b o (Some w) e since = ⊎_elim
       (λ within. absurd (none_is_some o (sym (clear.cleared w within.0 within.1) ∙ since)))
-      (λ out. subst (λ (m : Marks). m.last < tail) (sym (clear.other_marks w out)) (subst (λ (x : Option ℕ). last_in wins.marks.items x < tail) e (below b o (ap (since_of wins.slots.items) e ∙ (sym (clear.others w out) ∙ since)))))
+      (λ out. (ap (since_of wins.slots.items) e ∙ (sym (clear.others w out) ∙ since), ap (λ (m : Marks). m.last) (clear.other_marks w out) ∙ sym (ap (last_in wins.marks.items) e)))
       (in_or_out from to w)
 
-  pub cleared_below : AreBelow tail wins'
-  cleared_below b o since =
+  pub cleared_lasts : AreLastsKept wins wins'
+  cleared_lasts b o since =
       let same = frames_same wins.slots.items wins'.slots.items clear.count clear.numbers wins.windows.apart b in
-      subst (λ (x : Option ℕ). last_in wins'.marks.items x < tail) (sym same) (in_window b o (frame_of wins.slots.items b) refl (ap (since_of wins'.slots.items) (sym same) ∙ since))
+      let it = in_window b o (frame_of wins.slots.items b) refl (ap (since_of wins'.slots.items) (sym same) ∙ since) in
+      (it.0, ap (last_in wins'.marks.items) same ∙ it.1)
+
+pub lasts_same : (wins wins' : Windows) → wins' ≡ wins → AreLastsKept wins wins'
+lasts_same wins wins' same = subst (AreLastsKept wins) (sym same) (λ b o since. (since, refl))
+
+pub lasts_twice : (one two three : Windows) → AreLastsKept one two → AreLastsKept two three → AreLastsKept one three
+lasts_twice one two three first second b o since = let late = second b o since in let early = first b o late.0 in (early.0, late.1 ∙ early.1)
+
+-- where they are kept, they stay below a number
+pub lasts_below : (wins wins' : Windows) (tail : ℕ) → AreLastsKept wins wins' → AreBelow tail wins → AreBelow tail wins'
+lasts_below wins wins' tail kept below b o since = let it = kept b o since in subst (λ (n : ℕ). n < tail) (sym it.1) (below b o it.0)

@@ -59,7 +59,7 @@ backed_in g g' p m same backed = subst (λ (h : Geometry). IsBacked h p m) (sym 
 pub at_home : (slots : List Slot) (frames : List (List ℕ)) (n : ℕ) (home : List ℕ) → frame_of slots n ≡ None → bytes_of frames (frame_of slots n) home ≡ home
 at_home slots frames n home e = ap (λ (o : Option ℕ). bytes_of frames o home) e
 
-risen_more : (a b c : ℕ) → a ≤ b → HasRisen b c → HasRisen a c
+pub risen_more : (a b c : ℕ) → a ≤ b → HasRisen b c → HasRisen a c
 risen_more a b c le risen small = let lt = risen small in omega (arith, lt)
 
 module _ (told : Bool) (area : Area) (p : ℕ) (v w z : View) (s t : Shelf) (later : v.faults ≤ w.faults) (small : p < s.pages)

@@ -37,6 +37,10 @@ lasts_of wins b = last_in wins.marks.items (window_of wins b)
 abbrev pub AreBelow : ℕ → Windows → Type 0
 AreBelow tail wins = (b o : ℕ) → since_of wins.slots.items (window_of wins b) ≡ Some o → lasts_of wins b < tail
 
+-- THE LAST CHANGES ARE KEPT: each band that has a change which isn't on the disk had one, and its last change is what it was
+abbrev pub AreLastsKept : (old new : Windows) → Type 0
+AreLastsKept old new = (b o : ℕ) → since_of new.slots.items (window_of new b) ≡ Some o → (since_of old.slots.items (window_of old b) ≡ Some o) × (lasts_of new b ≡ lasts_of old b)
+
 -- THE FRAMES AND WHAT THEY HOLD AGREE: none is lent, no page is in two of them, each page is one of the store's, a frame without a page has
 -- no change, and the list by page number knows each page. There are as many windows as bands are kept in
 pub record IsShelf (pages bands : ℕ) (slots : List Slot) (index : List (Option ℕ)) (wins : Windows) (frames : Held) : Type 0 where

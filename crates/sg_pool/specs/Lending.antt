@@ -10,6 +10,7 @@ use Rattle.sg_pool.specs.declared.pool.Pool.{Pool}
 use Rattle.sg_pool.specs.contracts.pool.Pool.{the_row}
 use Rattle.sg_pool.specs.Order.{IsVictim, IsUsed}
 use Rattle.sg_pool.specs.Pooled.{sizes, frame_holding, uses, OthersKeep, Backs, SameContents, SameWindows, SameFrames, IsBandBrought}
+use Rattle.sg_pool.specs.Frames.{AreLastsKept}
 use Rattle.sg_pool.specs.Shelves.{OnTold, AreLogged}
 
 -- PAGE p IS IN FRAME f, which is the most recently used: it was the victim, where p was in no frame. The other frames keep their pages
@@ -41,6 +42,7 @@ pub record IsBandLent {T : Type 0} (told : Bool) (area : Area) (v w : View) (b :
   pub brought : IfOk result (λ _. (x : ℕ) × IsBandBrought b old new x)
   pub frames : SameFrames old new
   pub logged : (tail : ℕ) → AreLogged tail old.shelf → AreLogged tail new.shelf
+  pub lasts : AreLastsKept old.shelf.wins new.shelf.wins
   pub backed : IsTrue told → area ≢ Home → Backs (sizes old) v old → OnTold result (Backs (sizes old) w new)
   pub same : IsTrue told → area ≢ Home → Backs (sizes old) v old → OnTold result (SameContents v old w new)
 

@@ -15,3 +15,5 @@ pub mod Moments
 pub mod Shelves
 pub mod Pooled
 pub mod Lending
+pub mod Redone
+pub mod Redoing

@@ -67,6 +67,14 @@ band_held pool w = page_in pool.shelf.wins.slots.items w
 abbrev pub last_of : Pool → ℕ → ℕ
 last_of pool b = lasts pool.shelf b
 
+-- the number of a band's oldest change that isn't on the disk
+abbrev pub band_since_of : Pool → ℕ → Option ℕ
+band_since_of pool b = since_of pool.shelf.wins.slots.items (window_of pool.shelf.wins b)
+
+-- each band but this one that has a change which isn't on the disk had that change, and its last one is what it was
+abbrev pub OthersKeepLasts : ℕ → (old new : Pool) → Type 0
+OthersKeepLasts b old new = (c o : ℕ) → c ≢ b → band_since_of new c ≡ Some o → (band_since_of old c ≡ Some o) × (last_of new c ≡ last_of old c)
+
 -- the windows are as they were
 pub record SameWindows (old new : Pool) : Type 0 where
   pub windows : new.shelf.wins ≡ old.shelf.wins

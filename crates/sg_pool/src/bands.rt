@@ -8,6 +8,7 @@ ghost use Rattle.sg_log.specs.Held.{Holds, tail_of, forced};
 ghost use Rattle.sg_gate.specs.Batch.{IsReady, SameLogs};
 ghost use Rattle.sg_window.specs.Runs.{IsTorn};
 ghost use Rattle.sg_pool.specs.Units.{IsBacked, IsCleaned, band_byte};
+ghost use Rattle.sg_pool.specs.Frames.{AreLastsKept};
 ghost use Rattle.sg_pool.specs.Held.{frame_of, page_in, since_of};
 ghost use Rattle.sg_pool.specs.Windows.{no_marks, marked_in, last_in};
 ghost use Rattle.sg_pool.specs.Bands.{IsDirty, AreBandsWritten, AreBandsHome, AreCleared};
@@ -126,7 +127,7 @@ impl Shelf {
         ensures clear { OnOk result (AreCleared self.old.wins self.new.wins w (w + 1)) }
         ensures frames { self.new.frames ≡ self.old.frames }
         ensures slots { self.new.slots.items ≡ self.old.slots.items }
-        ensures logged { (tail : ℕ) → AreLogged tail self.old → AreLogged tail self.new }
+        ensures lasts { AreLastsKept self.old.wins self.new.wins }
         ensures geometry { geometry_of self.new ≡ geometry_of self.old }
         ensures backed { IsTrue D.told → log.old.area ≢ Home → IsBackedAt (geometry_of self.old) (D.view disk.old) self.old →
             OnOk result (IsBackedAt (geometry_of self.old) (D.view disk.new) self.new) }
@@ -172,7 +173,7 @@ impl Shelf {
         ensures held { OnOk result (frame_of self.new.wins.slots.items b ≡ Some w) }
         ensures others { OnOk result ((v : ℕ) → v ≢ w → page_in self.new.wins.slots.items v ≡ page_in self.old.wins.slots.items v) }
         ensures slots { self.new.slots.items ≡ self.old.slots.items }
-        ensures logged { (tail : ℕ) → AreLogged tail self.old → AreLogged tail self.new }
+        ensures lasts { AreLastsKept self.old.wins self.new.wins }
         ensures geometry { geometry_of self.new ≡ geometry_of self.old }
         ensures pages { self.new.frames.pages ≡ self.old.frames.pages }
         ensures backed { IsTrue D.told → IsBackedAt (geometry_of self.old) (D.view disk.old) self.old →
@@ -207,7 +208,7 @@ impl Shelf {
         ensures held { OnOk result (frame_of self.new.wins.slots.items b ≡ Some w) }
         ensures others { OnOk result ((v : ℕ) → v ≢ w → page_in self.new.wins.slots.items v ≡ page_in self.old.wins.slots.items v) }
         ensures slots { self.new.slots.items ≡ self.old.slots.items }
-        ensures logged { (tail : ℕ) → AreLogged tail self.old → AreLogged tail self.new }
+        ensures lasts { AreLastsKept self.old.wins self.new.wins }
         ensures geometry { geometry_of self.new ≡ geometry_of self.old }
         ensures pages { self.new.frames.pages ≡ self.old.frames.pages }
         ensures backed { IsTrue D.told → log.old.area ≢ Home → IsBackedAt (geometry_of self.old) (D.view disk.old) self.old →

@@ -7,9 +7,10 @@
 //! over any disk of `sg_disk`. It promises that a page and a band are what was last written to them,
 //! whatever was evicted; that none goes home before its last change is durable in the log, a page not but
 //! through the double-write area, up to 32 at once, and of a band exactly the bytes that were written,
-//! also where a call is stopped at any moment; that redo of a page or a band is its records repeated on
-//! it, through a loan that is back at the return; which frame goes next; and which is the oldest change
-//! that isn't on the disk. After it is made it takes no memory, and no call looks for a page or a band.
+//! also where a call is stopped at any moment; that redo of a page, of a band or of a whole part of the
+//! log is each unit's records repeated on it, through loans that are back at the return; which frame goes
+//! next; and which is the oldest change that isn't on the disk. After it is made it takes no memory, and
+//! no call looks for a page or a band.
 #![tactic(auto)]
 
 mod bands;
@@ -21,6 +22,7 @@ mod index;
 mod least;
 mod making;
 mod order;
+mod part;
 mod pool;
 mod redo;
 mod repeat;

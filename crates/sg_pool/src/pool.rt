@@ -12,6 +12,7 @@ ghost use Rattle.sg_log.specs.Held.{Holds, tail_of, forced};
 ghost use Rattle.sg_ops.specs.Table.{table_of};
 ghost use Rattle.sg_redo.specs.Page.{on_page};
 ghost use Rattle.sg_pool.specs.Changed.{IsCleanedThenChanged, IsCleanedThenWritten};
+ghost use Rattle.sg_pool.specs.Frames.{AreLastsKept};
 ghost use Rattle.sg_pool.specs.Moments.{IsSameOrForced};
 ghost use Rattle.sg_pool.specs.Order.{IsVictim, IsUsed, below, pins_of};
 ghost use Rattle.sg_pool.specs.Pools.{IsPool};
@@ -45,7 +46,7 @@ pub struct Pool {
 impl Pool {
     ghost use Rattle.std.specs.Borrow.{sem};
     ghost use Rattle.sg_pool.specs.Lending.{IsLent, IsBandLent, IsBrought, IsEmptied, ends_as};
-    ghost use Rattle.sg_pool.specs.Pooled.{sizes, contents, frame_holding, page_held, uses, OthersKeep, Backs, SameContents, IsLogged, IsPoolMoment, IsUnwritten, SameWindows, SameFrames, IsBandBrought, band_held, last_of};
+    ghost use Rattle.sg_pool.specs.Pooled.{sizes, contents, frame_holding, page_held, uses, OthersKeep, Backs, SameContents, IsLogged, IsPoolMoment, IsUnwritten, SameWindows, SameFrames, IsBandBrought, band_held, last_of, OthersKeepLasts};
     ghost use Rattle.sg_pool.specs.Shelves.{OnTold, BringFails, AreLogged};
 
     /// A pool for a store of this size, with as many frames as its superblock says. No page is in a
@@ -212,7 +213,7 @@ impl Pool {
             IfOk result (λ w. (i : ℕ) → i < BAND_SIZE → get_or (get_or self.new.shelf.frames.windows w []) i 0 ≡ (contents (D.view disk.old) self.old).byte b i) }
         ensures whole { IfOk result (λ w. length (get_or self.new.shelf.frames.windows w []) ≡ BAND_SIZE) }
         ensures frames { SameFrames self.old self.new }
-        ensures logged { (tail : ℕ) → AreLogged tail self.old.shelf → AreLogged tail self.new.shelf }
+        ensures lasts { AreLastsKept self.old.shelf.wins self.new.shelf.wins }
         ensures size { sizes self.new ≡ sizes self.old }
         ensures backed { IsTrue D.told → log.old.area ≢ Home → Backs (sizes self.old) (D.view disk.old) self.old →
             OnTold result (Backs (sizes self.old) (D.view disk.new) self.new) }
@@ -289,6 +290,8 @@ impl Pool {
         ensures changed { IsTrue D.told → log.old.area ≢ Home → Backs (sizes self.old) (D.view disk.old) self.old →
             OnOk result (IsCleanedThenWritten (sizes self.old) b.0 lsn at bytes.now (contents (D.view disk.old) self.old) (contents (D.view disk.new) self.new)) }
         ensures last { OnOk result (last_of self.new b.0 ≡ lsn) }
+        // No other band that has a change that isn't on the disk has another last one than before.
+        ensures lasts { OthersKeepLasts b.0 self.old self.new }
         ensures log_kept { (log.new ≡ log.old) ⊎ (log.new ≡ forced log.old) }
         ensures log { (ds ps : List Numbered) → IsTrue D.told → log.old.area ≢ Home → Holds (D.view disk.old) log.old ds ps → OnTold result (IsSameOrForced (D.view disk.new) log.old log.new ds ps) }
         // At each moment, faults included.

@@ -23,7 +23,7 @@ use std::sync::ledger::Ledger;
 
 impl Pool {
     ghost use Rattle.sg_pool.specs.Lending.{IsBrought, IsEmptied};
-    ghost use Rattle.sg_pool.specs.Pooled.{sizes, contents, frame_holding, uses, Backs, SameContents, IsLogged, IsPoolMoment, SameWindows, SameFrames, IsBandBrought, last_of};
+    ghost use Rattle.sg_pool.specs.Pooled.{sizes, contents, frame_holding, uses, Backs, SameContents, IsLogged, IsPoolMoment, SameWindows, SameFrames, IsBandBrought, last_of, OthersKeepLasts};
     ghost use Rattle.sg_pool.specs.Shelves.{OnTold, BringFails, AreLogged};
 
     /// Repeats the records at these places of the text on a page, in their order, through a loan of
@@ -105,6 +105,8 @@ impl Pool {
         ensures repeated { IsTrue D.told → log.old.area ≢ Home → Backs (sizes self.old) (D.view disk.old) self.old →
             OnOk result (IsCleanedThenBandRepeated (sizes self.old) ((D.view disk.new).now Home) b.0 (window_records (table_of record_meaning range_meaning ops.now) text.now places.now) (contents (D.view disk.old) self.old) (contents (D.view disk.new) self.new)) }
         ensures last { OnOk result (last_of self.new b.0 ≡ last_lsn places.now) }
+        // No other band that has a change that isn't on the disk has another last one than before.
+        ensures lasts { OthersKeepLasts b.0 self.old self.new }
         ensures log_kept { (log.new ≡ log.old) ⊎ (log.new ≡ forced log.old) }
         ensures log { (ds ps : List Numbered) → IsTrue D.told → log.old.area ≢ Home → Holds (D.view disk.old) log.old ds ps → OnTold result (IsSameOrForced (D.view disk.new) log.old log.new ds ps) }
         // At each moment, faults included.

@@ -591,6 +591,184 @@ fn a_page_and_a_band_are_what_was_last_written_to_them(rt: HostRuntime) -> Resul
     Ok(())
 }
 
+// Other bytes of a text, from one on.
+fn overwrite(text: &mut [u8], at: usize, bytes: &[u8]) {
+    for (to, from) in text.iter_mut().skip(at).zip(bytes.iter()) {
+        *to = *from;
+    }
+}
+
+// The same part of a log for another page and another cell of another band, where the first record has this number.
+fn part_for(page: u32, band: u32, cell: u32, lsn: Lsn) -> [u8; 131] {
+    let mut part = PART;
+    let number = page.to_le_bytes();
+    let put = lsn.saturating_add(36);
+    overwrite(&mut part, 21, &number);
+    overwrite(&mut part, 57, &number);
+    overwrite(&mut part, 70, &cell_of(page, put));
+    overwrite(&mut part, 103, &band.to_le_bytes());
+    let at = cell.saturating_mul(2_048).saturating_add(CELL_AT);
+    overwrite(&mut part, 107, &at.to_le_bytes());
+    overwrite(&mut part, 123, &lsn.saturating_add(82).to_le_bytes());
+    part
+}
+
+// A part of a log with the places of its records, and what its records make of a store of zeros.
+#[derive(Drop)]
+struct Part {
+    text: Vec<u8>,
+    places: Vec<Place>,
+    plain: Plain,
+}
+
+impl Part {
+    fn new(alloc: Global) -> Result<Part, Fail> {
+        Ok(Part {
+            text: Vec::new(alloc),
+            places: Vec::new(alloc),
+            plain: Plain::new(alloc, 3)?,
+        })
+    }
+
+    // Three records more: a page is formatted and its cell put, and a cell of a band written.
+    fn add(&mut self, page: u32, band: u32, cell: u32) -> Result<(), Fail> {
+        let at = self.text.len() as u64;
+        let lsn = at.saturating_add(1_000);
+        self.text
+            .extend_from_slice(&part_for(page, band, cell, lsn))?;
+        for (unit, offset) in [(page, 0u64), (page, 36), (PAGES.saturating_add(band), 82)] {
+            self.places.push(Place {
+                unit,
+                lsn: lsn.saturating_add(offset),
+                at: at.saturating_add(offset),
+            })?;
+        }
+        if let Some(row) = self.plain.rows.get_mut(page as usize) {
+            row.last = lsn.saturating_add(36);
+        }
+        if let Some(strip) = self.plain.strips.get_mut(band as usize) {
+            if let Some(number) = strip.cells.get_mut(cell as usize) {
+                *number = lsn.saturating_add(82);
+            }
+        }
+        Ok(())
+    }
+
+    // So many triples of records, of pages and bands that take turns.
+    fn drawn(alloc: Global, count: u32) -> Result<Part, Fail> {
+        let mut part = Part::new(alloc)?;
+        for _k in 0..count {
+            let page = part.plain.draw(60);
+            let band = part.plain.draw(9);
+            let cell = part.plain.draw(CELLS);
+            part.add(page, band, cell)?;
+        }
+        Ok(part)
+    }
+
+    fn redo<L: Ledger>(&mut self, trial: &mut Trial, steps: &mut Steps<L>) -> Result<(), Stop> {
+        if self.places.len() >= 65_536 || !trial.pool.can_redo(&self.places) {
+            return Err(Stop::NoPage);
+        }
+        if !are_known(&self.places, &self.text, &trial.ops) {
+            return Err(Stop::NoOperation);
+        }
+        trial.pool.redo(
+            &mut trial.disk,
+            &mut trial.log,
+            &self.text,
+            &mut self.places,
+            &trial.ops,
+            steps,
+        )?;
+        Ok(())
+    }
+
+    // Whether each page and each band of the store is what its records make of it.
+    fn is_redone(&self, trial: &mut Trial) -> Result<bool, Stop> {
+        let mut page = 0u32;
+        for row in self.plain.rows.iter() {
+            if !trial.has(page, row.last)? {
+                return Ok(false);
+            }
+            page = page.saturating_add(1);
+        }
+        let mut band = 0u32;
+        for strip in self.plain.strips.iter() {
+            if !trial.has_cells(band, &strip.cells)? {
+                return Ok(false);
+            }
+            band = band.saturating_add(1);
+        }
+        Ok(true)
+    }
+}
+
+// Whether each page and band is what the records of the part make of it, once, and again, and when all are home.
+fn part_redone<L: Ledger>(trial: &mut Trial, part: &mut Part, blank: Blank) -> Result<bool, Stop>
+    requires name { blank.name ≡ L.name }
+    requires parts { blank.parts ≡ L.parts }
+    requires some { 0 < L.parts }
+{
+    let mut steps = Steps::<L>::open(blank);
+    part.redo(trial, &mut steps)?;
+    let once = part.is_redone(trial)?;
+    part.places.sort_unstable_by_key(|place| place.lsn);
+    part.redo(trial, &mut steps)?;
+    let again = part.is_redone(trial)?;
+    trial.flush()?;
+    Ok(once && again && part.is_redone(trial)? && trial.pool.oldest().is_none())
+}
+
+// 150 triples, of 60 pages through 32 frames and 9 bands through 4 windows.
+#[test]
+fn a_part_of_a_log_is_repeated_on_all_its_units(rt: HostRuntime) -> Result<(), Fail> {
+    let mut part = Part::drawn(rt.alloc(), 150)?;
+    let mut trial = Trial::new(rt.alloc(), Ops::shipped(rt.alloc())?, None)?;
+    let outcome = part_redone::<Brand>(&mut trial, &mut part, Blank::new(1));
+    trial.end();
+    assert!(rt; outcome?);
+    Ok(())
+}
+
+// What redo of a part over a page that is no page answers, and whether the pages beside it have all their records or
+// none.
+fn damaged<L: Ledger>(
+    trial: &mut Trial,
+    part: &mut Part,
+    blank: Blank,
+) -> Result<(Option<PoolFault>, bool), Stop>
+    requires name { blank.name ≡ L.name }
+    requires parts { blank.parts ≡ L.parts }
+    requires some { 0 < L.parts }
+{
+    let mut steps = Steps::<L>::open(blank);
+    let fault = match part.redo(trial, &mut steps) {
+        Err(Stop::Pool(fault)) => Some(fault),
+        _ => None,
+    };
+    let before = trial.has(4, part.plain.last(4))? || trial.has(4, 0)?;
+    let behind = trial.has(6, part.plain.last(6))? || trial.has(6, 0)?;
+    Ok((fault, before && behind))
+}
+
+#[test]
+fn a_page_that_is_none_stops_redo(rt: HostRuntime) -> Result<(), Fail> {
+    let mut part = Part::new(rt.alloc())?;
+    for page in 4..7 {
+        part.add(page, page, 0)?;
+    }
+    let mut trial = Trial::new(rt.alloc(), Ops::shipped(rt.alloc())?, None)?;
+    let _written = trial.disk.write_at(Area::Home, page_start(PageNo(5)), &[1]);
+    let _synced = trial.disk.sync(Area::Home);
+    let outcome = damaged::<Brand>(&mut trial, &mut part, Blank::new(1));
+    trial.end();
+    let (fault, whole) = outcome?;
+    assert_eq!(rt; fault, Some(PoolFault::Damaged { page: PageNo(5) }));
+    assert!(rt; whole);
+    Ok(())
+}
+
 // Whether a page's home is one of its versions, not older than the last that went home, and below the durable
 // tail of the log.
 fn is_kept(bytes: &[u8], page: u32, home: Lsn, durable: Lsn) -> bool {

@@ -1,4 +1,5 @@
 use Rattle.std.proofs.Common.{ℕ, List, length, get_or, refl, ◌∙◌, ap, arith}
+use Rattle.sg_pool.proofs.BandsHome.{lasts_below}
 use Rattle.sg_pool.proofs.Slots.{frame_some}
 use Rattle.sg_pool.proofs.pool.Pool.band.Goals as goal
 
@@ -18,7 +19,8 @@ returns g c = (
       size = c.hold_band.ensures.size;
       brought = (c.in_ok-w.w, c.in_ok-w.ensures.brought);
       frames = c.hold_band.ensures.frames;
-      logged = c.hold_band.ensures.logged;
+      logged = λ tail below. lasts_below c.args.self.now.shelf.wins c.hold_band.new.self.shelf.wins tail c.hold_band.ensures.lasts below;
+      lasts = c.hold_band.ensures.lasts;
       backed = c.in_ok-w.ensures.backed;
       same = c.in_ok-w.ensures.same;
     },

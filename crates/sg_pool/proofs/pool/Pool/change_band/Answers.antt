@@ -6,7 +6,8 @@ use Rattle.sg_pool.specs.Held.{page_in}
 use Rattle.sg_pool.specs.Units.{Geometry, IsBacked}
 use Rattle.sg_pool.specs.Windows.{last_in}
 use Rattle.sg_pool.specs.Shelves.{geometry_of, units}
-use Rattle.sg_pool.proofs.BandsChanged.{written_held, written_below, values_written, values_written_backed}
+use Rattle.sg_pool.proofs.BandsHome.{lasts_below}
+use Rattle.sg_pool.proofs.BandsChanged.{written_lasts, written_held, written_below, values_written, values_written_backed}
 use Rattle.sg_pool.proofs.Slots.{frame_some, page_there}
 use Rattle.sg_pool.proofs.pool.Pool.change_band.Goals as goal
 
@@ -76,7 +77,21 @@ returns-clause-logged g c tail below small =
     let low : c.in_ok-w.w < length s.frames.windows = omega (arith, lt, wide) in
     let is = c.write_band.ensures.frames in
     written_below (geometry_of s) s.slots.items s.wins t.wins c.in_ok-w.w c.args.b.0 _ lt held c.write_band.ensures.wins c.write_band.ensures.marks s.frames t.frames
-    (ap (λ (h : Held). h.pages) is) (λ v differ. ap (λ (h : Held). get_or h.windows v []) is ∙ get_or-set_other s.frames.windows c.in_ok-w.w v _ [] differ) c.args.lsn c.write_band.ensures.last tail small (c.hold_band.ensures.logged tail below)
+    (ap (λ (h : Held). h.pages) is) (λ v differ. ap (λ (h : Held). get_or h.windows v []) is ∙ get_or-set_other s.frames.windows c.in_ok-w.w v _ [] differ) c.args.lsn c.write_band.ensures.last tail small (lasts_below c.args.self.now.shelf.wins c.hold_band.new.self.shelf.wins tail c.hold_band.ensures.lasts below)
 
 pub returns-in_err-w-clause-logged : goal.returns-in_err-w-clause-logged
-returns-in_err-w-clause-logged g c tail below small = c.hold_band.ensures.logged tail below
+returns-in_err-w-clause-logged g c tail below small = lasts_below c.args.self.now.shelf.wins c.hold_band.new.self.shelf.wins tail c.hold_band.ensures.lasts below
+
+pub returns-clause-lasts : goal.returns-clause-lasts
+returns-clause-lasts g c b o differ since =
+    let s = c.hold_band.new.self.shelf in let t = c.write_band.new.self in let held = c.in_ok-w.ensures.brought.held in
+    let lt = (frame_some c.args.b.0 s.wins.slots.items c.in_ok-w.w held).0 in let wide = s.shelf.wide in
+    let low : c.in_ok-w.w < length s.frames.windows = omega (arith, lt, wide) in
+    let is = c.write_band.ensures.frames in
+    let it = written_lasts (geometry_of s) s.slots.items s.wins t.wins c.in_ok-w.w c.args.b.0 _ lt held c.write_band.ensures.wins c.write_band.ensures.marks s.frames t.frames
+    (ap (λ (h : Held). h.pages) is) (λ v other. ap (λ (h : Held). get_or h.windows v []) is ∙ get_or-set_other s.frames.windows c.in_ok-w.w v _ [] other) b o differ since in
+    let before = c.hold_band.ensures.lasts b o it.0 in
+    (before.0, it.1 ∙ before.1)
+
+pub returns-in_err-w-clause-lasts : goal.returns-in_err-w-clause-lasts
+returns-in_err-w-clause-lasts g c b o differ since = c.hold_band.ensures.lasts b o since

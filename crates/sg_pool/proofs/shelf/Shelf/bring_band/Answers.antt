@@ -3,6 +3,7 @@ use Rattle.std.proofs.lemmas.Result.{on_ok_weaker}
 use Rattle.sg_base.specs.declared.area.Area.TheVariants.{Home}
 use Rattle.sg_pool.specs.Moments.{IsMoment}
 use Rattle.sg_pool.specs.Shelves.{geometry_of, units, lasts}
+use Rattle.sg_pool.proofs.BandsHome.{lasts_twice}
 use Rattle.sg_pool.proofs.Bringing.{log_now, then_reads, cleaned_more, backed_in}
 use Rattle.sg_pool.proofs.Clearing.{frames_same}
 use Rattle.sg_pool.proofs.shelf.Shelf.bring_band.Goals as goal
@@ -32,5 +33,5 @@ pub returns-clause-log : goal.returns-clause-log
 returns-clause-log g c ds ps told apart holds =
     on_ok_weaker c.load_band.result (λ held. log_now (g.D.Disk.view c.clean_window.new.disk) (g.D.Disk.view c.load_band.new.disk) c.args.log.now c.clean_window.new.log ds ps (c.load_band.ensures.unchanged told) (c.in_ok-clean_window.ensures.log ds ps told apart holds)) c.load_band.ensures.held
 
-pub returns-clause-logged : goal.returns-clause-logged
-returns-clause-logged g c tail below = c.load_band.ensures.logged tail (c.clean_window.ensures.logged tail below)
+pub returns-clause-lasts : goal.returns-clause-lasts
+returns-clause-lasts g c = lasts_twice c.args.self.now.wins c.clean_window.new.self.wins c.load_band.new.self.wins c.clean_window.ensures.lasts c.load_band.ensures.lasts

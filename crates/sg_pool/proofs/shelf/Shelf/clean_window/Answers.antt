@@ -2,7 +2,7 @@ use Rattle.std.proofs.Common.{◌+◌}
 use Rattle.sg_base.specs.declared.area.Area.TheVariants.{Home}
 use Rattle.sg_pool.specs.Bands.{AreCleared}
 use Rattle.sg_pool.specs.Shelves.{geometry_of}
-use Rattle.sg_pool.proofs.BandsHome.{bands_cleaned, bands_backed, cleared_below}
+use Rattle.sg_pool.proofs.BandsHome.{bands_cleaned, bands_backed, cleared_lasts}
 use Rattle.sg_pool.proofs.shelf.Shelf.clean_window.Goals as goal
 
 pub returns-clause-backed : goal.returns-clause-backed
@@ -17,7 +17,7 @@ returns-clause-units g c told apart backed =
     let clear : AreCleared s.wins c.clear.new.self c.args.w (c.args.w + 1) = record { count = c.clear.ensures.count; numbers = c.clear.ensures.numbers; cleared = c.clear.ensures.cleared; unmarked = c.clear.ensures.unmarked; others = c.clear.ensures.others; other_marks = c.clear.ensures.other_marks } in
     bands_cleaned (geometry_of s) s.wins c.args.w (c.args.w + 1) s.slots.items s.frames c.clear.new.self clear (v.now Home) (z.now Home) (c.in_ok-write_back_window.ensures.home told apart backed)
 
-pub returns-clause-logged : goal.returns-clause-logged
-returns-clause-logged g c tail below = let s = c.args.self.now in
+pub returns-clause-lasts : goal.returns-clause-lasts
+returns-clause-lasts g c = let s = c.args.self.now in
     let clear : AreCleared s.wins c.clear.new.self c.args.w (c.args.w + 1) = record { count = c.clear.ensures.count; numbers = c.clear.ensures.numbers; cleared = c.clear.ensures.cleared; unmarked = c.clear.ensures.unmarked; others = c.clear.ensures.others; other_marks = c.clear.ensures.other_marks } in
-    cleared_below s.wins c.clear.new.self c.args.w (c.args.w + 1) tail clear below
+    cleared_lasts s.wins c.clear.new.self c.args.w (c.args.w + 1) clear

@@ -1,7 +1,7 @@
 use Rattle.sg_base.specs.declared.area.Area.TheVariants.{Home}
 use Rattle.sg_pool.specs.Bands.{AreCleared}
 use Rattle.sg_pool.specs.Shelves.{geometry_of}
-use Rattle.sg_pool.proofs.BandsHome.{bands_cleaned, bands_backed, cleared_below}
+use Rattle.sg_pool.proofs.BandsHome.{bands_cleaned, bands_backed, cleared_lasts, lasts_below}
 use Rattle.sg_pool.proofs.shelf.Shelf.flush_windows.Goals as goal
 
 pub returns-clause-backed : goal.returns-clause-backed
@@ -19,4 +19,4 @@ returns-clause-units g c told ready =
 pub returns-clause-logged : goal.returns-clause-logged
 returns-clause-logged g c tail below = let s = c.args.self.now in
     let clear : AreCleared s.wins c.clear.new.self 0 c.len-count.result = record { count = c.clear.ensures.count; numbers = c.clear.ensures.numbers; cleared = c.clear.ensures.cleared; unmarked = c.clear.ensures.unmarked; others = c.clear.ensures.others; other_marks = c.clear.ensures.other_marks } in
-    cleared_below s.wins c.clear.new.self 0 c.len-count.result tail clear below
+    lasts_below s.wins c.clear.new.self tail (cleared_lasts s.wins c.clear.new.self 0 c.len-count.result clear) below

@@ -6,10 +6,10 @@ use Rattle.sg_pool.specs.Held.{page_in}
 use Rattle.sg_pool.proofs.Pooling.{held_new}
 use Rattle.sg_pool.proofs.Slots.{page_there}
 use Rattle.sg_pool.specs.declared.windows.Windows.{Windows}
-use Rattle.sg_pool.specs.Frames.{AreBelow}
 use Rattle.sg_pool.specs.Windows.{no_marks}
 use Rattle.sg_pool.specs.Shelves.{geometry_of}
-use Rattle.sg_pool.proofs.BandsChanged.{values_cleaned, values_backed, loaded_below}
+use Rattle.sg_pool.proofs.BandsHome.{lasts_same}
+use Rattle.sg_pool.proofs.BandsChanged.{values_cleaned, values_backed, loaded_lasts}
 use Rattle.sg_pool.proofs.shelf.Shelf.load_band.Goals as goal
 
 pub returns-clause-backed : goal.returns-clause-backed
@@ -41,12 +41,12 @@ returns-clause-others g c v differ =
     ap (λ (l : List Slot). page_in l v) (c.put.ensures.slots ∙ ap (λ (x : Windows). set x.slots.items c.args.w (record { number = Some c.args.b; since = None })) same)
     ∙ page_there s.wins.slots.items c.args.w (record { number = Some c.args.b; since = None }) c.requires.there v differ
 
-pub returns-in-Err-clause-logged : goal.returns-in-Err-clause-logged
-returns-in-Err-clause-logged g c tail below = subst (λ (x : Windows). AreBelow tail x) (sym c.read_band.ensures.wins) below
+pub returns-in-Err-clause-lasts : goal.returns-in-Err-clause-lasts
+returns-in-Err-clause-lasts g c = lasts_same c.args.self.now.wins c.read_band.new.self.wins c.read_band.ensures.wins
 
-pub returns-clause-logged : goal.returns-clause-logged
-returns-clause-logged g c tail below b o since =
+pub returns-clause-lasts : goal.returns-clause-lasts
+returns-clause-lasts g c b o since =
     let s = c.args.self.now in let same = c.read_band.ensures.wins in
-    loaded_below (geometry_of s) s.slots.items s.wins c.put.new.self c.args.w c.args.b c.requires.there
+    loaded_lasts (geometry_of s) s.slots.items s.wins c.put.new.self c.args.w c.args.b c.requires.there
     (c.put.ensures.slots ∙ ap (λ (x : Windows). set x.slots.items c.args.w (record { number = Some c.args.b; since = None })) same) c.requires.absent c.requires.clean c.put.ensures.unmarked
-    (λ x differ. c.put.ensures.others x differ ∙ ap (λ (y : Windows). get_or y.marks.items x no_marks) same) tail below b o since
+    (λ x differ. c.put.ensures.others x differ ∙ ap (λ (y : Windows). get_or y.marks.items x no_marks) same) b o since

@@ -1,0 +1,50 @@
+use Rattle.std.proofs.Common.{rules, ◌≡◌, ◌≤◌, ◌<◌, ◌+◌, ℕ, length, ◌∙◌, ap, arith}
+use Rattle.std.proofs.lemmas.Result.{on_ok_weaker, on_err_weaker}
+use Rattle.std.proofs.lemmas.List.Sorted.{answers_always, All-permutation}
+use Rattle.sg_ops.specs.Table.{Table, table_of}
+use Rattle.sg_redo.specs.declared.place.Place.{Place}
+use Rattle.sg_redo.specs.Places.{change_at, IsKnown}
+use Rattle.sg_pool.specs.Pooled.{sizes}
+use Rattle.sg_pool.proofs.Regrouped.{run_regrouped}
+use Rattle.sg_pool.proofs.Sorted.{sorted_up, sorted_same}
+use Rattle.sg_pool.proofs.pool.Pool.redo.Goals as goal
+
+pub redo_units-requires-clause-within : goal.redo_units-requires-clause-within
+redo_units-requires-clause-within g c = All-permutation (λ (p : Place). p.unit < c.args.self.now.shelf.pages + c.args.self.now.shelf.bands) c.args.places.now c.sort_unstable_by_key.new.self c.sort_unstable_by_key.ensures.permutation c.requires.within
+
+pub redo_units-requires-clause-known : goal.redo_units-requires-clause-known
+redo_units-requires-clause-known g c =
+    let t : Table = table_of (λ p. (goal.RecordOp-dyn g p).record_meaning p.1) (λ p. (goal.RangeOp-dyn g p).range_meaning p.1) c.args.ops.now in
+    All-permutation (λ (p : Place). IsKnown t (change_at c.args.text.now p.at)) c.args.places.now c.sort_unstable_by_key.new.self c.sort_unstable_by_key.ensures.permutation c.requires.known
+
+pub redo_units-requires-clause-grouped : goal.redo_units-requires-clause-grouped
+redo_units-requires-clause-grouped g c =
+    let key : Place → ℕ × ℕ = λ p. (p.unit, p.lsn) in
+    sorted_up c.sort_unstable_by_key.new.self (c.sort_unstable_by_key.ensures.sorted key (answers_always _ _ _ (λ f a r h k. search rules)))
+
+pub returns : goal.returns
+returns g c =
+    let key : Place → ℕ × ℕ = λ p. (p.unit, p.lsn) in
+    let moved = c.sort_unstable_by_key.ensures.permutation in
+    let sorted = c.sort_unstable_by_key.ensures.sorted key (answers_always _ _ _ (λ f a r h k. search rules)) in
+    let long = c.sort_unstable_by_key.ensures.len in
+    let run = run_regrouped (sizes c.args.self.now) g.D.Disk.told _ c.args.text.now c.args.places.now c.sort_unstable_by_key.new.self moved (sorted_same c.args.places.now c.sort_unstable_by_key.new.self c.requires.order moved sorted)
+    (g.D.Disk.view c.args.disk.now) (g.D.Disk.view c.redo_units.new.disk) c.args.log.now c.redo_units.new.log c.args.self.now c.redo_units.new.self c.redo_units.result c.redo_units.ensures.run in
+    record {
+      places = moved;
+      size = run.size;
+      backed = λ is_told apart backs. (run.units_are is_told apart backs).backed;
+      redone = λ is_told apart backs. (run.units_are is_told apart backs).redone;
+      refused = λ is_told apart backs. (run.units_are is_told apart backs).partly;
+      homes = λ ds is_told apart backs durable. (run.durable ds is_told apart backs durable).homes;
+      logged = λ ds is_told apart backs durable. (run.durable ds is_told apart backs durable).logged;
+      lasts = run.lasts;
+      log_kept = run.log_kept;
+      log = run.log_is;
+      moments = λ ds is_told apart backs durable. (run.durable ds is_told apart backs durable).moments;
+      well = λ is_told apart backs. (run.units_are is_told apart backs).well;
+      faults = run.faults;
+      later = run.later;
+      steps = on_ok_weaker c.redo_units.result (λ (e : c.redo_units.new.steps ≡ c.args.steps.now + length c.sort_unstable_by_key.new.self). e ∙ ap (λ (n : ℕ). c.args.steps.now + n) long) c.redo_units.ensures.steps;
+      fewer_steps = on_err_weaker c.redo_units.result (λ (e : (c.args.steps.now ≤ c.redo_units.new.steps) × (c.redo_units.new.steps < c.args.steps.now + length c.sort_unstable_by_key.new.self)). (e.0, let less = e.1 in omega (arith, less, long))) c.redo_units.ensures.fewer_steps;
+    }

@@ -1,0 +1,181 @@
+// Redo of a whole part of the log: its places are grouped by unit, and each unit's are done in one run.
+ghost use Rattle.std.specs.Prelude.{◌≡◌, ◌≢◌, ◌↔◌, ◌⊎◌, ◌≤◌, ◌<◌, ◌+◌, ◌^◌, ℕ, List, [], None, length, get_or, All, OnOk, OnErr, IfErr, IsTrue};
+ghost use Rattle.std.specs.List.Sorted.{IsPermutation, IsNonDecreasingBy};
+ghost use Rattle.sg_base.specs.declared.area.Area.TheVariants.{Home};
+ghost use Rattle.sg_disk.specs.Disk.{LeavesOnly};
+ghost use Rattle.sg_log.specs.Frames.{Numbered};
+ghost use Rattle.sg_log.specs.Held.{Holds, tail_of, forced};
+ghost use Rattle.sg_ops.specs.Table.{table_of};
+ghost use Rattle.sg_redo.specs.Units.{AreKnown};
+ghost use Rattle.sg_redo.specs.declared.place.Place.{Place};
+ghost use Rattle.sg_pool.specs.Moments.{IsSameOrForced};
+ghost use Rattle.sg_pool.specs.Redone.{AreInOrder, places_of, records_of, IsRedone, ArePartlyRedone, AreHomesKnown, IsRedoMoment};
+ghost use Rattle.sg_pool.specs.Well.{IsWell};
+
+use crate::{Pool, PoolFault};
+use sg_base::{BandNo, PageNo, Steps};
+use sg_disk::Disk;
+use sg_log::Log;
+use sg_ops::Ops;
+use sg_redo::Place;
+use std::sync::ledger::Ledger;
+
+// Where the places of this unit end that begin with the one at `from`.
+fn end_of_unit(places: &[Place], from: usize, unit: u32) -> usize
+    requires there { from < length places.now }
+    requires first { (d : Place) → (get_or places.now from d).unit ≡ unit }
+    ensures some { from < result }
+    ensures within { result ≤ length places.now }
+    ensures same { (k : ℕ) (d : Place) → from ≤ k → k < result → (get_or places.now k d).unit ≡ unit }
+    ensures border { (d : Place) → result < length places.now → (get_or places.now result d).unit ≢ unit }
+{
+    let mut to = from + 1;
+    'places: while to < places.len() && places[to].unit == unit {
+        to += 1;
+    }
+    to
+}
+
+// Whether the numbers of these places rise.
+fn are_in_order(places: &[Place]) -> bool
+    ensures { IsTrue result ↔ AreInOrder places.now }
+{
+    'places: for k in 1..places.len() {
+        if places[k].lsn <= places[k - 1].lsn {
+            return false;
+        }
+    }
+    true
+}
+
+impl Pool {
+    ghost use Rattle.sg_pool.specs.Pooled.{sizes, contents, frame_holding, Backs, IsLogged};
+    ghost use Rattle.sg_pool.specs.Shelves.{OnTold, lasts};
+    ghost use Rattle.sg_pool.specs.Redoing.{AreLastsRedone, IsDurable, RedoFails, IsRun};
+
+    // Repeats the records at these places, which are all of one unit.
+    fn redo_unit<D: Disk, L: Ledger>(
+        &mut self,
+        disk: &mut D,
+        log: &mut Log,
+        unit: u32,
+        text: &[u8],
+        places: &[Place],
+        ops: &Ops,
+        steps: &mut Steps<L>,
+    ) -> Result<(), PoolFault>
+        requires within { unit < (sizes self.old).pages + (sizes self.old).bands }
+        requires same { All (λ p. p.unit ≡ unit) places.now }
+        requires known { AreKnown (table_of record_meaning range_meaning ops.now) text.now places.now }
+        requires few { length places.now < 2 ^ 32 }
+        requires some { 0 < length places.now }
+        ensures run { IsRun (sizes self.old) D.told (table_of record_meaning range_meaning ops.now) text.now places.now (D.view disk.old) (D.view disk.new) log.old log.new self.old self.new result }
+        ensures steps { OnOk result (steps.new ≡ steps.old + length places.now) }
+        ensures no_steps { OnErr result (steps.new ≡ steps.old) }
+    {
+        let pages = self.pages();
+        if unit < pages {
+            self.redo_page(disk, log, PageNo(unit), text, places, ops, steps)
+        } else {
+            self.redo_band(disk, log, BandNo(unit - pages), text, places, ops, steps)
+        }
+    }
+
+    // Repeats the records at these places, of which those of one unit stand side by side.
+    fn redo_units<D: Disk, L: Ledger>(
+        &mut self,
+        disk: &mut D,
+        log: &mut Log,
+        text: &[u8],
+        places: &[Place],
+        ops: &Ops,
+        steps: &mut Steps<L>,
+    ) -> Result<(), PoolFault>
+        requires within { All (λ p. p.unit < (sizes self.old).pages + (sizes self.old).bands) places.now }
+        requires grouped { IsNonDecreasingBy (λ p. p.unit) places.now }
+        requires known { AreKnown (table_of record_meaning range_meaning ops.now) text.now places.now }
+        requires few { length places.now < 2 ^ 32 }
+        ensures run { IsRun (sizes self.old) D.told (table_of record_meaning range_meaning ops.now) text.now places.now (D.view disk.old) (D.view disk.new) log.old log.new self.old self.new result }
+        ensures steps { OnOk result (steps.new ≡ steps.old + length places.now) }
+        ensures fewer_steps { OnErr result ((steps.old ≤ steps.new) × (steps.new < steps.old + length places.now)) }
+    {
+        let mut from = 0;
+        'units: while from < places.len() {
+            let unit = places[from].unit;
+            let to = end_of_unit(places, from, unit);
+            self.redo_unit(disk, log, unit, text, &places[from..to], ops, steps)?;
+            from = to;
+        }
+        Ok(())
+    }
+
+    /// Whether these may be the places of a part of the log: each is of a page or a band of the
+    /// store, and their numbers rise. `redo` asks for it.
+    pub fn can_redo(&self, places: &[Place]) -> bool
+        ensures { IsTrue result ↔ (All (λ p. p.unit < (sizes self.now).pages + (sizes self.now).bands) places.now × AreInOrder places.now) }
+    {
+        let units = self.shelf.pages + self.shelf.bands;
+        places.iter().all(|place| place.unit < units) && are_in_order(places)
+    }
+
+    /// Repeats a part of the log: the records at these places of the text, which come in the order of
+    /// the log, on all the pages and bands that they change, each unit's in their order. How many
+    /// units these are isn't bounded by the frames: each comes into its frame or window as by `page`
+    /// and `band`, and what has to make room goes home. The places are put in another order, by unit.
+    /// Each place is one step. No frame is lent at any return.
+    ///
+    /// What is said of the moments of the call, and of the homes behind it, holds where the part is
+    /// durable: where the log's buffer is empty and each record is below its gate, as at an opening.
+    ///
+    /// `Damaged` comes where a page of the part that had to be read is neither a page of slots nor
+    /// all 0. Each unit is as it was then, or has all of its records repeated. `Disk` comes where the
+    /// disk fails, and then nothing more is known of the pool.
+    pub fn redo<D: Disk, L: Ledger>(
+        &mut self,
+        disk: &mut D,
+        log: &mut Log,
+        text: &[u8],
+        places: &mut [Place],
+        ops: &Ops,
+        steps: &mut Steps<L>,
+    ) -> Result<(), PoolFault>
+        requires within { All (λ p. p.unit < (sizes self.old).pages + (sizes self.old).bands) places.old }
+        requires order { AreInOrder places.old }
+        requires known { AreKnown (table_of record_meaning range_meaning ops.now) text.now places.old }
+        requires few { length places.old < 2 ^ 32 }
+        ensures places { IsPermutation places.old places.new }
+        ensures size { sizes self.new ≡ sizes self.old }
+        ensures backed { IsTrue D.told → log.old.area ≢ Home → Backs (sizes self.old) (D.view disk.old) self.old →
+            OnTold result (Backs (sizes self.old) (D.view disk.new) self.new) }
+        // Each page and each band is what its own records of the part make of it.
+        ensures redone { let rs = records_of (sizes self.old) (table_of record_meaning range_meaning ops.now) text.now places.old in
+            IsTrue D.told → log.old.area ≢ Home → Backs (sizes self.old) (D.view disk.old) self.old →
+            OnOk result (IsRedone (sizes self.old) rs (contents (D.view disk.old) self.old) (contents (D.view disk.new) self.new)) }
+        ensures refused { let rs = records_of (sizes self.old) (table_of record_meaning range_meaning ops.now) text.now places.old in
+            IsTrue D.told → log.old.area ≢ Home → Backs (sizes self.old) (D.view disk.old) self.old →
+            OnErr result (OnTold result (ArePartlyRedone (sizes self.old) rs (contents (D.view disk.old) self.old) (contents (D.view disk.new) self.new))) }
+        ensures homes { let rs = records_of (sizes self.old) (table_of record_meaning range_meaning ops.now) text.now places.old in
+            (ds : List Numbered) → IsTrue D.told → log.old.area ≢ Home → Backs (sizes self.old) (D.view disk.old) self.old → IsDurable (D.view disk.old) log.old ds self.old places.old →
+            OnTold result (AreHomesKnown (sizes self.old) ((D.view disk.new).now Home) rs (contents (D.view disk.old) self.old) (contents (D.view disk.new) self.new)) }
+        ensures logged { (ds : List Numbered) → IsTrue D.told → log.old.area ≢ Home → Backs (sizes self.old) (D.view disk.old) self.old → IsDurable (D.view disk.old) log.old ds self.old places.old →
+            OnTold result (IsLogged (tail_of log.old) (D.view disk.new) self.new) }
+        ensures lasts { OnOk result (AreLastsRedone (sizes self.old) places.old self.old self.new) }
+        ensures log_kept { (log.new ≡ log.old) ⊎ (log.new ≡ forced log.old) }
+        ensures log { (ds ps : List Numbered) → IsTrue D.told → log.old.area ≢ Home → Backs (sizes self.old) (D.view disk.old) self.old → Holds (D.view disk.old) log.old ds ps →
+            OnTold result (IsSameOrForced (D.view disk.new) log.old log.new ds ps) }
+        // At each moment, faults included.
+        ensures moments { let rs = records_of (sizes self.old) (table_of record_meaning range_meaning ops.now) text.now places.old in
+            (ds : List Numbered) → IsTrue D.told → log.old.area ≢ Home → Backs (sizes self.old) (D.view disk.old) self.old → IsDurable (D.view disk.old) log.old ds self.old places.old →
+            LeavesOnly (D.view disk.old) (D.view disk.new) (IsRedoMoment (sizes self.old) (D.view disk.old) log.old ds (lasts self.old.shelf) rs (contents (D.view disk.old) self.old)) }
+        // Where a page of the part was in no frame, `Ok` says that it is a page of slots or all 0, and `Damaged` that it is neither.
+        ensures well { IsTrue D.told → log.old.area ≢ Home → Backs (sizes self.old) (D.view disk.old) self.old →
+            OnOk result ((n : ℕ) → n < (sizes self.old).pages → places_of n places.old ≢ [] → frame_holding self.old n ≡ None → IsWell ((contents (D.view disk.old) self.old).page n)) }
+        ensures faults { IfErr result (RedoFails D.told log.old.area (sizes self.old) (D.view disk.old) (D.view disk.new) self.old places.old) }
+        ensures later { (D.view disk.old).faults ≤ (D.view disk.new).faults }
+        ensures steps { OnOk result (steps.new ≡ steps.old + length places.old) }
+        ensures fewer_steps { OnErr result ((steps.old ≤ steps.new) × (steps.new < steps.old + length places.old)) }
+    {
+        places.sort_unstable_by_key(|p| (p.unit, p.lsn));
+        self.redo_units(disk, log, text, places, ops, steps)
+    }
+}
