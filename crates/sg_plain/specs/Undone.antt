@@ -22,8 +22,8 @@ abbrev pub shown_undo : code_undo.Undo → Note
 shown_undo undos.Pushed = WasPushed
 shown_undo (undos.Popped item) = WasPopped item.items
 shown_undo (undos.Set index item) = WasSet index item.items
-shown_undo (undos.New key) = WasPut key
-shown_undo (undos.Value key bytes) = HadValue key bytes.items
+shown_undo (undos.New key) = WasPut key.value
+shown_undo (undos.Value key bytes) = HadValue key.value bytes.items
 shown_undo (undos.Bytes at bytes length) = HadBytes at bytes.items length
 
 -- what undoes an operation, if something does

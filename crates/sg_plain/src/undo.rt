@@ -22,10 +22,10 @@ pub enum Undo {
         item: Vec<u8>,
     },
     /// The key was put into a table, and is new.
-    New(Key),
+    New(Box<Key>),
     /// A table had these bytes under the key.
     Value {
-        key: Key,
+        key: Box<Key>,
         bytes: Vec<u8>,
     },
     /// A blob had these bytes from a position on, and this length.
