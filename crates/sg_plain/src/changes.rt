@@ -24,7 +24,7 @@ pub struct Changes {
 }
 
 impl Changes {
-    ghost use Rattle.std.specs.Prelude.{IsTrue, is_some};
+    ghost use Rattle.std.specs.Prelude.{IsTrue, is_some, None};
     ghost use Rattle.std.specs.BTreeMap.{get};
     ghost use Rattle.std.specs.Ordering.{nat_cmp};
     ghost use Rattle.std.specs.Cmp.Lexicographic.{slice_cmp};
@@ -38,6 +38,18 @@ impl Changes {
         }
     }
 
+    // Gives a name that has no place one, where nothing is noted. The changes stay, whatever the result.
+    fn put_place(&mut self, alloc: Global, name: Name) -> Result<(), OutOfMemory>
+        requires { get (slice_cmp nat_cmp) self.old.map name ≡ None }
+        ensures same { (other : List ℕ) (object : Option plain.Object) → undo_in self.new other object ≡ undo_in self.old other object }
+        ensures there { OnOk result (IsTrue (is_some (get (slice_cmp nat_cmp) self.new.map name))) }
+    {
+        match self.map.insert(name, Past::Changed(Vec::new(alloc))) {
+            Ok(_) => Ok(()),
+            Err(_) => Err(OutOfMemory),
+        }
+    }
+
     /// Gives a name a place, where nothing is noted. The changes stay, whatever the result.
     pub fn make_place(&mut self, alloc: Global, name: Name) -> Result<(), OutOfMemory>
         ensures same { (other : List ℕ) (object : Option plain.Object) → undo_in self.new other object ≡ undo_in self.old other object }
@@ -46,10 +58,7 @@ impl Changes {
         if self.map.contains_key(&name) {
             return Ok(());
         }
-        match self.map.insert(name, Past::Changed(Vec::new(alloc))) {
-            Ok(_) => Ok(()),
-            Err(_) => Err(OutOfMemory),
-        }
+        self.put_place(alloc, name)
     }
 
     /// Adds that what stands under a name was made or dropped. Takes no memory.
@@ -73,6 +82,7 @@ impl Changes {
         op: &Op<'_>,
         into: &mut [u8],
     ) -> Result<Reply, OutOfMemory>
+        requires absent { get (slice_cmp nat_cmp) self.old.map name.now ≡ None }
         requires room { 8192 ≤ length into.old }
         requires in_place { IsInPlace (verb_of op.now) }
         requires accepted { IsOk (on (table_of record_meaning range_meaning ops.now) (verb_of op.now) (Some (shown object.old))).0 }
@@ -81,7 +91,7 @@ impl Changes {
         ensures err { OnErr result (shown object.new ≡ shown object.old) }
         ensures same { OnErr result ((other : List ℕ) (was : Option plain.Object) → undo_in self.new other was ≡ undo_in self.old other was) }
     {
-        self.make_place(alloc, *name)?;
+        self.put_place(alloc, *name)?;
         match self.map.get_mut(name) {
             None => unreachable!(),
             Some(past) => past.edit(object, alloc, ops, op, into),
