@@ -106,9 +106,3 @@ row_pushed size n bytes more value row is put whole sized =
     let F : Row → Row = λ r. row_with r.size (r.items ++ value ∷ []) in
     let same : size ≡ row.size = ap (λ (r : Row). r.size) is in
     ap (row_with size) (ap (first_chunks size (n + 1)) put ∙ (ap (λ (k : ℕ). first_chunks size k (bytes ++ value)) (add-one n) ∙ chunks_pushed size n bytes value whole (sized ∙ sym same))) ∙ ap F is
-
--- the row with an item replaced
-pub row_set : (size i : ℕ) (items after : List (List ℕ)) (value : List ℕ) (row : Row) → row_with size items ≡ row → after ≡ slice_set items i value → row_with size after ≡ row_with row.size (slice_set row.items i value)
-row_set size i items after value row is put =
-    let F : Row → Row = λ r. row_with r.size (slice_set r.items i value) in
-    ap (row_with size) put ∙ ap F is

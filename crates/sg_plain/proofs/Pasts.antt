@@ -1,5 +1,5 @@
 -- What is noted of what stands under names, and what an operation adds to it.
-use Rattle.std.proofs.Common.{◌≡◌, ℕ, Bool, true, false, cond, List, [], ◌∷◌, ◌++◌, Option, Some, None, Result, Ok, Err, IsOk, IfOk, refl, sym, ap, ◌∙◌, subst}
+use Rattle.std.proofs.Common.{◌≡◌, ℕ, Bool, true, false, cond, List, [], ◌∷◌, Option, Some, None, Result, Ok, Err, IsOk, OnErr, refl, sym, ap, ◌∙◌, subst}
 use Rattle.std.specs.Prelude.{Vec, IsSome, OnOk}
 use Rattle.std.specs.declared.alloc.Global.{Global}
 use Rattle.std.specs.Str.{bytes_eq}
@@ -11,12 +11,9 @@ use Rattle.sg_model.specs.Objects.{Object, Objects}
 use Rattle.sg_model.specs.Verb.{Verb, Op, Outcome}
 use Rattle.sg_model.specs.Verb.Op.{On}
 use Rattle.sg_model.specs.Verb.Reply.{Done}
-use Rattle.sg_model.specs.SaidReplies.{said_reply}
-use Rattle.sg_model.specs.declared.op.Reply as code_reply
-use Rattle.sg_model.specs.declared.op.Reply.TheVariants as replies
 use Rattle.sg_model.specs.Verb.Verb.{MakeArray, MakeTable, MakeBlob, Discard, Push, Pop, Set, Get, Len, Apply, Put, Del, Find, Keys, Write, Read, Size, Paint}
 use Rattle.sg_model.specs.Step.{on, step, discard}
-use Rattle.sg_model.specs.Undo.{Note, OpNote, undo, undo_on, note_of, note_of_op, note_object, note_there, if_replied}
+use Rattle.sg_model.specs.Undo.{Note, OpNote, undo, undo_on, note_of, note_of_op, note_object, if_replied}
 use Rattle.sg_model.specs.Undo.Note.{Nothing, WasMade}
 use Rattle.sg_plain.specs.declared.undo.Undo as code_undo
 use Rattle.sg_plain.specs.declared.undo.Undo.TheVariants as undos
@@ -25,11 +22,10 @@ use Rattle.sg_plain.specs.declared.undo.Change.TheVariants as changes
 use Rattle.sg_plain.specs.declared.undo.Past as code_past
 use Rattle.sg_plain.specs.declared.undo.Past.TheVariants as pasts
 use Rattle.sg_plain.specs.declared.changes.Changes as code_changes
-use Rattle.sg_plain.specs.Undone.{shown_undo, shown_undo_of, shown_change, undo_listed, before, undo_in, Makes}
+use Rattle.sg_plain.specs.Undone.{shown_undo, shown_change, undo_listed, before, undo_in, Makes, MakesOrDrops}
 use Rattle.sg_plain.proofs.Found.{at}
 use Rattle.sg_plain.proofs.Noting.{either}
 use Rattle.sg_plain.proofs.Steps.{after_discard}
-use Rattle.sg_plain.proofs.Ready.{undone_last}
 
 -- where nothing is, the code's notes leave nothing
 undo_none : (u : code_undo.Undo) → undo (shown_undo u) None ≡ None
@@ -50,13 +46,6 @@ made_noted past us change is made object =
     sym (ap (λ (p : code_past.Past). before (Some p) (undo (shown_change change) object)) is
     ∙ (ap (λ (x : code_change.Change). undo_listed us.items (undo (shown_change x) object)) made ∙ none_undone us.items))
 
--- one more note of an object that is changed
-pub edited_noted : (past : code_past.Past) (us vs : Vec code_undo.Undo Global) (change : code_change.Change) (u : code_undo.Undo) → past ≡ pasts.Changed us → change ≡ changes.Edited u → vs.items ≡ us.items ++ u ∷ []
-    → (object : Option Object) → before (Some (pasts.Changed vs)) object ≡ before (Some past) (undo (shown_change change) object)
-edited_noted past us vs change u is edited pushed object =
-    sym (ap (λ (p : code_past.Past). before (Some p) (undo (shown_change change) object)) is
-    ∙ (ap (λ (x : code_change.Change). undo_listed us.items (undo (shown_change x) object)) edited ∙ undone_last vs.items us.items u object (undo (shown_undo u) object) pushed refl))
-
 -- changes with another past of one name
 abbrev pub past_of : code_changes.Changes → List ℕ → Option code_past.Past
 past_of c name = lookup (at name) c.map.entries
@@ -75,6 +64,17 @@ pub same_past : (old new : code_changes.Changes) (name : List ℕ) (past : code_
     → ((object : Option Object) → before (Some past) object ≡ before was object) → (other : List ℕ) (object : Option Object) → undo_in new other object ≡ undo_in old other object
 same_past old new name past was there put says other object = one_past old new name past was Nothing there put says other object ∙ ap (undo_in old other) (either (bytes_eq other name) object)
 
+-- an operation on the object with one name, by what is noted of it
+module _ {A E : Type 0} (start old new : code_changes.Changes) (name : List ℕ) (past : code_past.Past) (was : Option code_past.Past) (same : (other : List ℕ) (object : Option Object) → undo_in old other object ≡ undo_in start other object)
+    (there : was ≡ past_of old name) (put : (q : List ℕ) → past_of new q ≡ cond (at name q) (Some past) (past_of old q)) where
+  pub one_edit : (result : Result A E) (note : Note) → OnOk result ((object : Option Object) → before (Some past) object ≡ before was (undo note object)) → OnOk result ((other : List ℕ) (object : Option Object) → undo_in new other object ≡ undo_in start other (undo_on other (name, note) object))
+  one_edit (Ok x) note says = λ other object. one_past old new name past was note there put says other object ∙ same other (undo_on other (name, note) object)
+  one_edit (Err e) note says = tt
+
+  pub no_edit : (result : Result A E) → OnErr result ((object : Option Object) → before (Some past) object ≡ before was object) → OnErr result ((other : List ℕ) (object : Option Object) → undo_in new other object ≡ undo_in start other object)
+  no_edit (Ok x) says = tt
+  no_edit (Err e) says = λ other object. same_past old new name past was there put says other object ∙ same other object
+
 -- what an operation that isn't refused leaves to be known
 
 pub accepted_on : (t : Operations) (s : Objects) (n : List ℕ) (verb : Verb) → IsOk (step t s (On n verb)).0 → IsOk (on t verb (finmap.get s n)).0
@@ -87,9 +87,6 @@ replied_note (Err e) note h = absurd (cc)
 
 pub accepted_note : (t : Operations) (verb : Verb) (o : Option Object) → IsOk (on t verb o).0 → note_of t verb o ≡ note_object verb o
 accepted_note t verb o h = replied_note (on t verb o).0 (note_object verb o) h
-
-pub note_of_there : (t : Operations) (verb : Verb) (o : Option Object) (x : Object) → o ≡ Some x → IsOk (on t verb o).0 → note_of t verb o ≡ note_there verb x
-note_of_there t verb o x e h = accepted_note t verb o h ∙ ap (note_object verb) e
 
 pub note_of_made : (t : Operations) (verb : Verb) (o : Option Object) → Makes verb → IsOk (on t verb o).0 → note_of t verb o ≡ WasMade
 note_of_made t verb None makes h = accepted_note t verb None h
@@ -117,34 +114,47 @@ pub drop_there : (o : Option Object) → IsOk (discard o).0 → IsSome o
 drop_there None h = absurd (cc)
 drop_there (Some x) h = refl
 
--- the note that an operation is given, as it says
-pub noted_as : {E : Type 0} (c : code_changes.Changes) (n : List ℕ) (note : Note) (was : Note) (result : Result (Option code_undo.Undo) E) → was ≡ note → IfOk result (λ u. shown_undo_of u ≡ note)
-    → IfOk result (λ u. (name : List ℕ) (object : Option Object) → undo_in c name (undo_on name (n, shown_undo_of u) object) ≡ undo_in c name (undo_on name (n, was) object))
-noted_as c n note was (Ok u) e h = λ name object. ap (λ (k : Note). undo_in c name (undo_on name (n, k) object)) (h ∙ sym e)
-noted_as c n note was (Err x) e h = tt
+-- the same of what stands under a name, among all objects
+pub noted_in : {A E : Type 0} (t : Operations) (s : Objects) (n : List ℕ) (verb : Verb) (o : Object) (old new : code_changes.Changes) (result : Result A E) → finmap.get s n ≡ Some o
+    → OnOk result ((name : List ℕ) (object : Option Object) → undo_in new name object ≡ undo_in old name (undo_on name (n, note_of t verb (Some o)) object))
+    → OnOk result ((name : List ℕ) (object : Option Object) → undo_in new name object ≡ undo_in old name (undo_on name (note_of_op t s (On n verb)) object))
+noted_in t s n verb o old new (Ok r) there noted = λ name object. noted name object ∙ ap (λ (x : Option Object). undo_in old name (undo_on name (n, note_of t verb x) object)) (sym there)
+noted_in t s n verb o old new (Err e) there noted = tt
 
--- where no notes are kept of a name, all are as good
-pub any_note : (c : code_changes.Changes) (n : List ℕ) (note other_note : Note) → ((a b : Option Object) → undo_in c n a ≡ undo_in c n b) → (name : List ℕ) (object : Option Object) → undo_in c name (undo_on name (n, note) object) ≡ undo_in c name (undo_on name (n, other_note) object)
-any_note c n note other_note same name object = by (bytes_eq name n) refl
-  where
-    by : (b : Bool) → bytes_eq name n ≡ b → undo_in c name (cond b (undo note object) object) ≡ undo_in c name (cond b (undo other_note object) object)
-    by true e = subst (λ (k : List ℕ). undo_in c k (undo note object) ≡ undo_in c k (undo other_note object)) (sym (bytes_same name n e)) (same (undo note object) (undo other_note object))
-    by false e = refl
+pub whole : (verb : Verb) → Makes verb → MakesOrDrops verb
+whole (MakeArray size) h = h
+whole MakeTable h = h
+whole MakeBlob h = h
+whole Discard h = absurd h
+whole (Push value) h = absurd h
+whole Pop h = absurd h
+whole (Set index value) h = absurd h
+whole (Get index) h = absurd h
+whole Len h = absurd h
+whole (Apply index code arg) h = absurd h
+whole (Put key value) h = absurd h
+whole (Del key) h = absurd h
+whole (Find key) h = absurd h
+whole Keys h = absurd h
+whole (Write at bytes) h = absurd h
+whole (Read at count) h = absurd h
+whole (Size n) h = absurd h
+whole (Paint at count code arg) h = absurd h
 
+-- dropping, where it isn't refused
 -- dropping, where it isn't refused
 
 pub drop_accepted : (t : Operations) (s : Objects) (n : List ℕ) (op : Op) → op ≡ On n Discard → IsOk (step t s op).0 → IsOk (discard (finmap.get s n)).0
 drop_accepted t s n op is h = accepted_on t s n Discard (subst (λ (o : Op). IsOk (step t s o).0) is h)
 
-pub dropped_step : {E : Type 0} (t : Operations) (s m : Objects) (n : List ℕ) (op : Op) (bytes : List ℕ) (result : Result code_reply.Reply E) → op ≡ On n Discard → IsOk (step t s op).0
-    → IfOk result (λ r. r ≡ replies.Done) → OnOk result (m ≡ finmap.remove s n) → IfOk result (λ r. step t s op ≡ (Ok (said_reply bytes r), m))
+pub dropped_step : {A E : Type 0} (t : Operations) (s m : Objects) (n : List ℕ) (op : Op) (result : Result A E) → op ≡ On n Discard → IsOk (step t s op).0
+    → OnOk result (m ≡ finmap.remove s n) → OnOk result (step t s op ≡ (Ok Done, m))
 unfolding step
-dropped_step t s m n op bytes (Ok r) is h done after =
+dropped_step t s m n op (Ok r) is h after =
     let P : Op → Outcome × Objects = λ o. step t s o in
     let Q : Objects → Outcome × Objects = λ x. (Ok Done, x) in
-    let R : code_reply.Reply → Outcome × Objects = λ x. (Ok (said_reply bytes x), m) in
-    ap P is ∙ (after_discard s n (finmap.get s n) (drop_accepted t s n op is h) ∙ (ap Q (sym after) ∙ ap R (sym done)))
-dropped_step t s m n op bytes (Err e) is h done after = tt
+    ap P is ∙ (after_discard s n (finmap.get s n) (drop_accepted t s n op is h) ∙ ap Q (sym after))
+dropped_step t s m n op (Err e) is h after = tt
 
 pub dropped_note : {A E : Type 0} (t : Operations) (s : Objects) (n : List ℕ) (op : Op) (old new : code_changes.Changes) (result : Result A E) → op ≡ On n Discard → IsOk (step t s op).0
     → OnOk result ((name : List ℕ) (object : Option Object) → undo_in new name object ≡ undo_in old name (undo_on name (n, note_object Discard (finmap.get s n)) object))

@@ -17,7 +17,7 @@ use Rattle.sg_model.specs.Undo.Note.{Nothing, WasMade, WasDropped, WasPushed, Wa
 use Rattle.sg_plain.specs.declared.undo.Undo as code_undo
 use Rattle.sg_plain.specs.Rooms.{HeldRow}
 use Rattle.sg_plain.specs.Ready.{IsOfRow, items_back, most_items, IsReadyRow, IsOfBytes}
-use Rattle.sg_plain.specs.Undone.{shown_undo, undo_listed}
+use Rattle.sg_plain.specs.Undone.{shown_undo, shown_undo_of, undo_listed}
 use Rattle.sg_plain.proofs.Taken.{shown_pushed, undo_last}
 use Rattle.sg_plain.proofs.Arrays.{popped}
 use Rattle.sg_plain.proofs.Chunks.{row_with, last_taken}
@@ -30,6 +30,12 @@ listed_last us vs u e = ap (map shown_undo) e ∙ shown_pushed vs u
 pub undone_last : (us vs : List code_undo.Undo) (u : code_undo.Undo) (before after : Option Object) → us ≡ vs ++ u ∷ [] → after ≡ undo (shown_undo u) before → undo_listed vs after ≡ undo_listed us before
 undone_last us vs u before after e is =
     ap (undo_listed vs) is ∙ sym (ap (λ (xs : List code_undo.Undo). undo_listed xs before) e ∙ undo_last vs u before)
+
+-- one more note, of an operation that leaves this to be known
+pub one_noted : (us vs ws : List code_undo.Undo) (found : Option code_undo.Undo) (u : code_undo.Undo) (note : Note) → vs ≡ us → ws ≡ vs ++ u ∷ [] → found ≡ Some u → shown_undo_of found ≡ note → (was : Option Object) → undo_listed ws was ≡ undo_listed us (undo note was)
+one_noted us vs ws found u note kept pushed is says was =
+    let known : shown_undo u ≡ note = ap shown_undo_of (sym is) ∙ says in
+    sym (undone_last ws vs u was (undo (shown_undo u) was) pushed refl) ∙ (ap (λ (xs : List code_undo.Undo). undo_listed xs (undo (shown_undo u) was)) kept ∙ ap (λ (n : Note). undo_listed us (undo n was)) known)
 
 pub none_left : (us : List code_undo.Undo) (object : Option Object) → length us ≡ 0 → undo_listed us object ≡ object
 none_left [] object none = refl

@@ -11,7 +11,7 @@ use Rattle.sg_model.specs.declared.reason.Reason.{Reason}
 use Rattle.sg_model.specs.declared.reason.Reason.TheVariants.{NoObject, Exists, OutOfRange}
 use Rattle.sg_model.specs.Objects.{Entries, Object, Objects}
 use Rattle.sg_model.specs.Objects.Object.{Array, Table}
-use Rattle.sg_model.specs.SaidReplies.{said_reply}
+use Rattle.sg_model.specs.SaidReplies.{said_reply, said_outcome}
 use Rattle.sg_plain.specs.Replies.{shown_keys}
 use Rattle.sg_model.specs.Verb.{Verb, Op, Outcome}
 use Rattle.sg_model.specs.Verb.Op.{On, Names}
@@ -20,7 +20,7 @@ use Rattle.std.specs.Prelude.{Vec}
 use Rattle.std.specs.declared.alloc.Global.{Global}
 use Rattle.sg_model.specs.Verb.Verb.{MakeArray, MakeTable, MakeBlob, Discard, Push, Pop, Set, Get, Len, Apply, Put, Del, Find, Keys, Write, Read, Size, Paint}
 use Rattle.sg_model.specs.Step.{Change, make, make_array, discard, on, put_at, step, IsInPlace, Refuses}
-use Rattle.sg_model.proofs.Refused.{put_same, step_refused, replied}
+use Rattle.sg_model.proofs.Refused.{put_same, step_refused, verb_refused, replied}
 
 -- where there is no object, a verb on one that is there is refused
 pub refused_none : (t : Operations) (verb : Verb) → IsInPlace verb → (on t verb None).0 ≡ Err NoObject
@@ -48,12 +48,6 @@ refuses_none t verb o h e = ap (λ (p : Option Object). (on t verb p).0) e ∙ r
 
 pub refuses_there : (t : Operations) (verb : Verb) (o : Option Object) (x : Object) (r : Option Reason) → o ≡ Some x → Refuses (on t verb (Some x)).0 r → Refuses (on t verb o).0 r
 refuses_there t verb o x r e h = subst (λ (p : Option Object). Refuses (on t verb p).0 r) (sym e) h
-
-pub never_none : (t : Operations) (verb : Verb) (o : Option Object) → IsInPlace verb → o ≡ None → IsOk (on t verb o).0 → ⊥
-never_none t verb o h e k = let r : (on t verb o).0 ≡ Err NoObject = refuses_none t verb o h e in absurd (cc (r, k))
-
-pub accepted_there : (t : Operations) (verb : Verb) (o : Option Object) (x : Object) → o ≡ Some x → IsOk (on t verb o).0 → IsOk (on t verb (Some x)).0
-accepted_there t verb o x e h = subst (λ (p : Option Object). IsOk (on t verb p).0) e h
 
 -- making and dropping
 
@@ -130,18 +124,24 @@ after_discard s n None h = absurd (cc)
 after_discard s n (Some y) h = refl
 
 -- a verb on an object that is there, among all objects
-pub done_in : {E : Type 0} (t : Operations) (s m : Objects) (n : List ℕ) (verb : Verb) (o p : Object) (bytes : List ℕ) (result : Result code_reply.Reply E) → get s n ≡ Some o → m ≡ insert s n p
-    → IfOk result (λ r. on t verb (Some o) ≡ (Ok (said_reply bytes r), Some p)) → IfOk result (λ r. step t s (On n verb) ≡ (Ok (said_reply bytes r), m))
+pub done_in : {E : Type 0} (t : Operations) (s m : Objects) (n : List ℕ) (verb : Verb) (o p : Object) (bytes : List ℕ) (result : Result (Result code_reply.Reply Reason) E) → get s n ≡ Some o → m ≡ insert s n p
+    → IfOk result (λ r. on t verb (Some o) ≡ (said_outcome bytes r, Some p)) → IfOk result (λ r. step t s (On n verb) ≡ (said_outcome bytes r, m))
 unfolding step
 done_in t s m n verb o p bytes (Ok r) there is h =
     let P : Change → Outcome × Objects = λ c. (c.0, put_at s n c.1) in
-    let Q : Objects → Outcome × Objects = λ x. (Ok (said_reply bytes r), x) in
+    let Q : Objects → Outcome × Objects = λ x. (said_outcome bytes r, x) in
     ap (λ (x : Option Object). P (on t verb x)) there ∙ (ap P h ∙ ap Q (sym is))
 done_in t s m n verb o p bytes (Err e) there is h = tt
 
-pub unchanged : {E : Type 0} (s m : Objects) (n : List ℕ) (o p : Object) (result : Result code_reply.Reply E) → get s n ≡ Some o → m ≡ insert s n p → OnErr result (p ≡ o) → OnErr result (m ≡ s)
+pub unchanged : {A E : Type 0} (s m : Objects) (n : List ℕ) (o p : Object) (result : Result A E) → get s n ≡ Some o → m ≡ insert s n p → OnErr result (p ≡ o) → OnErr result (m ≡ s)
 unchanged s m n o p (Ok r) there is h = tt
 unchanged s m n o p (Err e) there is h = is ∙ (ap (insert s n) h ∙ (ap (put_at s n) (sym there) ∙ put_same s n))
+
+-- it would have got a reply
+pub replied_in : {A E : Type 0} (t : Operations) (s : Objects) (n : List ℕ) (verb : Verb) (o : Object) (result : Result A E) → get s n ≡ Some o → OnErr result (IsOk (on t verb (Some o)).0) → OnErr result (IsOk (step t s (On n verb)).0)
+unfolding step
+replied_in t s n verb o (Ok r) there h = tt
+replied_in t s n verb o (Err e) there h = subst (λ (x : Option Object). IsOk (on t verb x).0) (sym there) h
 
 not_replied : (r : Outcome) (reason : Reason) → r ≡ Err reason → replied r ≡ false
 not_replied (Ok x) reason e = absurd (cc)
@@ -154,6 +154,23 @@ refused t s op reason h =
     let P : Outcome → Outcome × Objects = λ r. (r, (step t s op).1) in
     let Q : Objects → Outcome × Objects = λ x. (Err reason, x) in
     ap P h ∙ ap Q stays
+
+pub on_refused : (t : Operations) (verb : Verb) (o : Option Object) (reason : Reason) → (on t verb o).0 ≡ Err reason → on t verb o ≡ (Err reason, o)
+on_refused t verb o reason h =
+    let P : Outcome → Change = λ r. (r, (on t verb o).1) in
+    let Q : Option Object → Change = λ x. (Err reason, x) in
+    ap P h ∙ ap Q (verb_refused t verb o (not_replied (on t verb o).0 reason h))
+
+-- where there is no object, a verb on one that is there is refused, and changes nothing
+
+pub refused_in : (t : Operations) (s : Objects) (n : List ℕ) (verb : Verb) → IsInPlace verb → get s n ≡ None → (step t s (On n verb)).0 ≡ Err NoObject
+unfolding step
+refused_in t s n verb h none = refuses_none t verb (get s n) h none
+
+pub none_in : (t : Operations) (s m : Objects) (n : List ℕ) (verb : Verb) → IsInPlace verb → get s n ≡ None → m ≡ s → step t s (On n verb) ≡ (Err NoObject, m)
+none_in t s m n verb h none same =
+    let Q : Objects → Outcome × Objects = λ x. (Err NoObject, x) in
+    refused t s (On n verb) NoObject (refused_in t s n verb h none) ∙ ap Q (sym same)
 
 -- what a table does is the same with any registered operations
 

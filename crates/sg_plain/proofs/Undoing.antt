@@ -23,16 +23,6 @@ use Rattle.sg_plain.proofs.Taken.{all_pushed}
 pub ready_place : {A E : Type 0} (r : Result A E) (notes : List Note) (place : Option (Option code.Object)) (object : code.Object) → place ≡ Some (Some object) → OnOk r (IsReady notes object) → OnOk r (IsReadyPlace notes place)
 ready_place r notes place object e h = subst (λ (p : Option (Option code.Object)). OnOk r (IsReadyPlace notes p)) (sym e) h
 
--- the object that is ready for notes
-pub object_ready : (notes : List Note) (place : Option (Option code.Object)) (object : code.Object) → place ≡ Some (Some object) → IsReadyPlace notes place → IsReady notes object
-object_ready notes place object e h = subst (λ (p : Option (Option code.Object)). IsReadyPlace notes p) e h
-
-pub not_ready : (notes : List Note) (place : Option (Option code.Object)) → place ≡ None → IsReadyPlace notes place → ⊥
-not_ready notes place e h = subst (λ (p : Option (Option code.Object)). IsReadyPlace notes p) e h
-
-pub not_ready_empty : (notes : List Note) (place : Option (Option code.Object)) → place ≡ Some None → IsReadyPlace notes place → ⊥
-not_ready_empty notes place e h = subst (λ (p : Option (Option code.Object)). IsReadyPlace notes p) e h
-
 -- what one new note at a name leaves
 module _ (es fs : List (List ℕ × code_past.Past)) (q : List ℕ) (old new : code_past.Past) (there : Some old ≡ lookup (at q) es) (put : (k : List ℕ) → lookup (at k) fs ≡ cond (at q k) (Some new) (lookup (at k) es)) where
   at_same : (k : List ℕ) → at q k ≡ true → Some old ≡ lookup (at k) es

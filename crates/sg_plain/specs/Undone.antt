@@ -1,12 +1,11 @@
 -- The code's notes of what was done to objects, without where they lie in memory, and what takes it back.
-use Rattle.std.specs.Prelude.{ℕ, ◌<◌, List, map, Option, Some, None, vec_len, vec_capacity}
-use Rattle.std.specs.Option.{IsSomeAnd}
+use Rattle.std.specs.Prelude.{ℕ, List, map, Option, Some, None}
 use Rattle.std.specs.Ordering.{nat_cmp}
 use Rattle.std.specs.Cmp.Lexicographic.{slice_cmp}
 use Rattle.std.specs.BTreeMap.{get}
 use Rattle.sg_model.specs.Objects.{Object}
 use Rattle.sg_model.specs.Verb.{Verb}
-use Rattle.sg_model.specs.Verb.Verb.{MakeArray, MakeTable, MakeBlob}
+use Rattle.sg_model.specs.Verb.Verb.{MakeArray, MakeTable, MakeBlob, Discard}
 use Rattle.sg_model.specs.Undo.{Note, undo_each}
 use Rattle.sg_model.specs.Undo.Note.{Nothing, WasMade, WasDropped, WasPushed, WasPopped, WasSet, WasPut, HadValue, HadBytes}
 use Rattle.sg_plain.specs.declared.undo.Undo as code_undo
@@ -22,8 +21,8 @@ abbrev pub shown_undo : code_undo.Undo → Note
 shown_undo undos.Pushed = WasPushed
 shown_undo (undos.Popped item) = WasPopped item.items
 shown_undo (undos.Set index item) = WasSet index item.items
-shown_undo (undos.New key) = WasPut key
-shown_undo (undos.Value key bytes) = HadValue key bytes.items
+shown_undo (undos.New key) = WasPut key.value
+shown_undo (undos.Value key bytes) = HadValue key.value bytes.items
 shown_undo (undos.Bytes at bytes length) = HadBytes at bytes.items length
 
 -- what undoes an operation, if something does
@@ -42,20 +41,10 @@ before (Some pasts.Made) object = None
 before (Some (pasts.Changed undos)) object = undo_listed undos.items object
 before (Some (pasts.Dropped dropped undos)) object = undo_listed undos.items (Some (shown dropped))
 
--- what an operation did to what stands under a name
+-- that what stands under a name was made or dropped
 abbrev pub shown_change : code_change.Change → Note
 shown_change changes.Made = WasMade
-shown_change (changes.Edited undo) = shown_undo undo
 shown_change (changes.Dropped object) = WasDropped (shown object)
-
--- there is memory for one more note
-abbrev pub HasRoom : code_past.Past → Type 0
-HasRoom (pasts.Changed undos) = vec_len undos < vec_capacity undos
-HasRoom other = Unit {0}
-
--- there is memory to note one more change of what stands under a name
-abbrev pub IsReserved : code_changes.Changes → List ℕ → Type 0
-IsReserved changes name = IsSomeAnd (get (slice_cmp nat_cmp) changes.map name) HasRoom
 
 -- what stood under a name before the changes, by what stands there now
 abbrev pub undo_in : code_changes.Changes → List ℕ → Option Object → Option Object
@@ -67,3 +56,8 @@ Makes (MakeArray size) = Unit {0}
 Makes MakeTable = Unit {0}
 Makes MakeBlob = Unit {0}
 Makes other = ⊥
+
+-- the verbs that make or drop an object
+abbrev pub MakesOrDrops : Verb → Type 0
+MakesOrDrops Discard = Unit {0}
+MakesOrDrops verb = Makes verb

@@ -1,11 +1,18 @@
-ghost use Rattle.std.specs.Prelude.{◌≡◌, ℕ, List, Option, OnOk};
-ghost use Rattle.std.specs.Bool.{OnFalse};
-ghost use Rattle.sg_model.specs.Objects.{Object};
-ghost use Rattle.sg_model.specs.Undo.{undo_on};
-ghost use Rattle.sg_plain.specs.Undone.{undo_in, shown_change, shown_undo_of, IsReserved};
+ghost use Rattle.std.specs.Prelude.{◌≡◌, ◌≤◌, ℕ, List, Option, length, IfOk, OnOk, OnErr, IsOk, Ok, Some};
+ghost use Rattle.sg_ops.specs.Table.{table_of};
+ghost use Rattle.sg_model.specs.Objects as plain;
+ghost use Rattle.sg_model.specs.SaidOps.{verb_of};
+ghost use Rattle.sg_model.specs.SaidReplies.{said_reply, said_outcome};
+ghost use Rattle.sg_model.specs.Step.{on, IsInPlace};
+ghost use Rattle.sg_model.specs.Undo.{undo_on, note_of, note_there};
+ghost use Rattle.sg_plain.specs.Shown.{shown};
+ghost use Rattle.sg_plain.specs.Undone.{undo_in, shown_change};
 
-use crate::undo::{Change, Past, Undo};
+use crate::object::Object;
+use crate::undo::{Change, Past};
 use sg_base::{Name, OutOfMemory};
+use sg_model::{Op, Reason, Reply};
+use sg_ops::Ops;
 use std::alloc::Global;
 use std::collections::BTreeMap;
 
@@ -17,60 +24,47 @@ pub struct Changes {
 }
 
 impl Changes {
-    ghost use Rattle.std.specs.Prelude.{IsTrue, is_some};
+    ghost use Rattle.std.specs.Prelude.{IsTrue, is_some, None};
     ghost use Rattle.std.specs.BTreeMap.{get};
     ghost use Rattle.std.specs.Ordering.{nat_cmp};
     ghost use Rattle.std.specs.Cmp.Lexicographic.{slice_cmp};
 
     /// No changes. Takes no memory.
     pub fn new(alloc: Global) -> Changes
-        ensures { (name : List ℕ) (object : Option Object) → undo_in result name object ≡ object }
+        ensures { (name : List ℕ) (object : Option plain.Object) → undo_in result name object ≡ object }
     {
         Changes {
             map: BTreeMap::new(alloc),
         }
     }
 
-    /// Whether what is done to what stands under a name has to be known, to take it back.
-    pub fn keeps_notes(&self, name: Name) -> bool
-        ensures { OnFalse result ((a b : Option Object) → undo_in self.now name a ≡ undo_in self.now name b) }
-    {
-        match self.map.get(&name) {
-            None => true,
-            Some(past) => past.keeps_notes(),
-        }
-    }
-
-    // Gives a name a place, where nothing is noted.
-    fn make_place(&mut self, alloc: Global, name: Name) -> Result<(), OutOfMemory>
-        ensures same { (other : List ℕ) (object : Option Object) → undo_in self.new other object ≡ undo_in self.old other object }
+    // Gives a name that has no place one, where nothing is noted. The changes stay, whatever the result.
+    fn put_place(&mut self, alloc: Global, name: Name) -> Result<(), OutOfMemory>
+        requires { get (slice_cmp nat_cmp) self.old.map name ≡ None }
+        ensures same { (other : List ℕ) (object : Option plain.Object) → undo_in self.new other object ≡ undo_in self.old other object }
         ensures there { OnOk result (IsTrue (is_some (get (slice_cmp nat_cmp) self.new.map name))) }
     {
-        if self.map.contains_key(&name) {
-            return Ok(());
-        }
         match self.map.insert(name, Past::Changed(Vec::new(alloc))) {
             Ok(_) => Ok(()),
             Err(_) => Err(OutOfMemory),
         }
     }
 
-    /// Takes memory so that one more change of what stands under a name can be added. The changes stay, whatever the result.
-    pub fn reserve(&mut self, alloc: Global, name: Name) -> Result<(), OutOfMemory>
-        ensures same { (other : List ℕ) (object : Option Object) → undo_in self.new other object ≡ undo_in self.old other object }
-        ensures place { OnOk result (IsReserved self.new name) }
+    /// Gives a name a place, where nothing is noted. The changes stay, whatever the result.
+    pub fn make_place(&mut self, alloc: Global, name: Name) -> Result<(), OutOfMemory>
+        ensures same { (other : List ℕ) (object : Option plain.Object) → undo_in self.new other object ≡ undo_in self.old other object }
+        ensures there { OnOk result (IsTrue (is_some (get (slice_cmp nat_cmp) self.new.map name))) }
     {
-        self.make_place(alloc, name)?;
-        match self.map.get_mut(&name) {
-            None => unreachable!(),
-            Some(past) => past.reserve(),
+        if self.map.contains_key(&name) {
+            return Ok(());
         }
+        self.put_place(alloc, name)
     }
 
-    /// Adds a change of what stands under a name. Takes no memory.
+    /// Adds that what stands under a name was made or dropped. Takes no memory.
     pub fn add(&mut self, name: Name, change: Change)
-        requires { IsReserved self.old name }
-        ensures { (other : List ℕ) (object : Option Object) → undo_in self.new other object ≡ undo_in self.old other (undo_on other (name, shown_change change) object) }
+        requires { IsTrue (is_some (get (slice_cmp nat_cmp) self.old.map name)) }
+        ensures { (other : List ℕ) (object : Option plain.Object) → undo_in self.new other object ≡ undo_in self.old other (undo_on other (name, shown_change change) object) }
     {
         match self.map.get_mut(&name) {
             None => unreachable!(),
@@ -78,13 +72,82 @@ impl Changes {
         }
     }
 
-    /// Adds a change in place of what stands under a name, where it has to be known. Takes no memory.
-    pub fn add_undo(&mut self, name: Name, undo: Option<Undo>)
-        requires { IsReserved self.old name }
-        ensures { (other : List ℕ) (object : Option Object) → undo_in self.new other object ≡ undo_in self.old other (undo_on other (name, shown_undo_of undo) object) }
+    // Does an operation that isn't refused to the object with a name of which nothing is noted yet, and notes it.
+    fn edit_first(
+        &mut self,
+        name: &Name,
+        object: &mut Object,
+        alloc: Global,
+        ops: &Ops,
+        op: &Op<'_>,
+        into: &mut [u8],
+    ) -> Result<Reply, OutOfMemory>
+        requires absent { get (slice_cmp nat_cmp) self.old.map name.now ≡ None }
+        requires room { 8192 ≤ length into.old }
+        requires in_place { IsInPlace (verb_of op.now) }
+        requires accepted { IsOk (on (table_of record_meaning range_meaning ops.now) (verb_of op.now) (Some (shown object.old))).0 }
+        ensures done { IfOk result (λ r. on (table_of record_meaning range_meaning ops.now) (verb_of op.now) (Some (shown object.old)) ≡ (Ok (said_reply into.new r), Some (shown object.new))) }
+        ensures noted { OnOk result ((other : List ℕ) (was : Option plain.Object) → undo_in self.new other was ≡ undo_in self.old other (undo_on other (name.now, note_there (verb_of op.now) (shown object.old)) was)) }
+        ensures err { OnErr result (shown object.new ≡ shown object.old) }
+        ensures same { OnErr result ((other : List ℕ) (was : Option plain.Object) → undo_in self.new other was ≡ undo_in self.old other was) }
     {
-        if let Some(undo) = undo {
-            self.add(name, Change::Edited(undo));
+        self.put_place(alloc, *name)?;
+        match self.map.get_mut(name) {
+            None => unreachable!(),
+            Some(past) => past.edit(object, alloc, ops, op, into),
+        }
+    }
+
+    // Does an operation that isn't refused to the object with a name, and notes it.
+    fn edit(
+        &mut self,
+        name: &Name,
+        object: &mut Object,
+        alloc: Global,
+        ops: &Ops,
+        op: &Op<'_>,
+        into: &mut [u8],
+    ) -> Result<Reply, OutOfMemory>
+        requires room { 8192 ≤ length into.old }
+        requires in_place { IsInPlace (verb_of op.now) }
+        requires accepted { IsOk (on (table_of record_meaning range_meaning ops.now) (verb_of op.now) (Some (shown object.old))).0 }
+        ensures done { IfOk result (λ r. on (table_of record_meaning range_meaning ops.now) (verb_of op.now) (Some (shown object.old)) ≡ (Ok (said_reply into.new r), Some (shown object.new))) }
+        ensures noted { OnOk result ((other : List ℕ) (was : Option plain.Object) → undo_in self.new other was ≡ undo_in self.old other (undo_on other (name.now, note_there (verb_of op.now) (shown object.old)) was)) }
+        ensures err { OnErr result (shown object.new ≡ shown object.old) }
+        ensures same { OnErr result ((other : List ℕ) (was : Option plain.Object) → undo_in self.new other was ≡ undo_in self.old other was) }
+    {
+        match self.map.get_mut(name) {
+            None => self.edit_first(name, object, alloc, ops, op, into),
+            Some(past) => past.edit(object, alloc, ops, op, into),
+        }
+    }
+
+    /// Does an operation that makes and drops no object to the object with this name, and notes what
+    /// takes it back, or answers the reason why it is refused, which changes nothing. After
+    /// `OutOfMemory` neither the object nor the changes have changed.
+    pub fn change(
+        &mut self,
+        name: &Name,
+        object: &mut Object,
+        alloc: Global,
+        ops: &Ops,
+        op: &Op<'_>,
+        into: &mut [u8],
+    ) -> Result<Result<Reply, Reason>, OutOfMemory>
+        requires room { 8192 ≤ length into.old }
+        requires in_place { IsInPlace (verb_of op.now) }
+        ensures done { IfOk result (λ r. on (table_of record_meaning range_meaning ops.now) (verb_of op.now) (Some (shown object.old)) ≡ (said_outcome into.new r, Some (shown object.new))) }
+        ensures noted { OnOk result ((other : List ℕ) (was : Option plain.Object) → undo_in self.new other was ≡ undo_in self.old other (undo_on other (name.now, note_of (table_of record_meaning range_meaning ops.now) (verb_of op.now) (Some (shown object.old))) was)) }
+        ensures err { OnErr result (shown object.new ≡ shown object.old) }
+        ensures same { OnErr result ((other : List ℕ) (was : Option plain.Object) → undo_in self.new other was ≡ undo_in self.old other was) }
+        ensures cause { OnErr result (IsOk (on (table_of record_meaning range_meaning ops.now) (verb_of op.now) (Some (shown object.old))).0) }
+    {
+        if let Some(reason) = object.refusal(ops, op) {
+            return Ok(Err(reason));
+        }
+        match self.edit(name, object, alloc, ops, op, into) {
+            Ok(reply) => Ok(Ok(reply)),
+            Err(fault) => Err(fault),
         }
     }
 }

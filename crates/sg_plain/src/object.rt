@@ -1,7 +1,7 @@
 ghost use Rattle.std.specs.Prelude.{◌≡◌, ◌≤◌, length, IfOk, OnOk, OnErr, IsOk, Ok, Some, ◌++◌, map};
 ghost use Rattle.sg_ops.specs.Table.{Table as Operations, table_of};
 ghost use Rattle.sg_model.specs.Verb.Verb.{Keys};
-ghost use Rattle.sg_model.specs.SaidReplies.{said_reply};
+ghost use Rattle.sg_model.specs.SaidReplies.{said_reply, said_outcome};
 ghost use Rattle.sg_plain.specs.Replies.{shown_keys};
 ghost use Rattle.sg_plain.specs.Shown.{shown};
 ghost use Rattle.sg_model.specs.SaidOps.{verb_of, name_of};
@@ -31,7 +31,9 @@ pub enum Object {
 }
 
 impl Object {
-    ghost use Rattle.sg_model.specs.Undo.{note_there};
+    ghost use Rattle.std.specs.Prelude.{Option};
+    ghost use Rattle.sg_model.specs.Objects as plain;
+    ghost use Rattle.sg_model.specs.Undo.{undo, note_there};
     ghost use Rattle.sg_plain.specs.Undone.{shown_undo, shown_undo_of, undo_listed};
     ghost use Rattle.sg_plain.specs.Ready.{IsReady};
 
@@ -112,6 +114,32 @@ impl Object {
         }
     }
 
+    /// Does an operation that makes and drops no object, or answers the reason why it is refused, which
+    /// changes nothing. After `OutOfMemory`, which comes only for an operation that takes memory for
+    /// what it leaves and would have got a reply, the object is unchanged.
+    pub fn attempt(
+        &mut self,
+        alloc: Global,
+        ops: &Ops,
+        op: &Op<'_>,
+        into: &mut [u8],
+    ) -> Result<Result<Reply, Reason>, OutOfMemory>
+        requires room { 8192 ≤ length into.old }
+        requires in_place { IsInPlace (verb_of op.now) }
+        ensures done { IfOk result (λ r. on (table_of record_meaning range_meaning ops.now) (verb_of op.now) (Some (shown self.old)) ≡ (said_outcome into.new r, Some (shown self.new))) }
+        ensures err { OnErr result (shown self.new ≡ shown self.old) }
+        ensures memory { OnErr result (GrowsBy (verb_of op.now)) }
+        ensures cause { OnErr result (IsOk (on (table_of record_meaning range_meaning ops.now) (verb_of op.now) (Some (shown self.old))).0) }
+    {
+        if let Some(reason) = self.refusal(ops, op) {
+            return Ok(Err(reason));
+        }
+        match self.apply(alloc, ops, op, into) {
+            Ok(reply) => Ok(Ok(reply)),
+            Err(fault) => Err(fault),
+        }
+    }
+
     /// What undoes an operation that isn't refused, and that makes and drops no object: nothing, where it changes nothing.
     pub fn undo_of(&self, alloc: Global, op: &Op<'_>) -> Result<Option<Undo>, OutOfMemory>
         requires in_place { IsInPlace (verb_of op.now) }
@@ -123,6 +151,35 @@ impl Object {
             Object::Table(table) => table.undo_of(alloc, op),
             Object::Blob(blob) => blob.undo_of(alloc, op),
         }
+    }
+
+    /// Does an operation that isn't refused, and that makes and drops no object, and adds what undoes it to the notes.
+    /// After `OutOfMemory` neither the object nor the notes have changed.
+    pub fn edit(
+        &mut self,
+        alloc: Global,
+        ops: &Ops,
+        op: &Op<'_>,
+        into: &mut [u8],
+        undos: &mut Vec<Undo>,
+    ) -> Result<Reply, OutOfMemory>
+        requires room { 8192 ≤ length into.old }
+        requires in_place { IsInPlace (verb_of op.now) }
+        requires accepted { IsOk (on (table_of record_meaning range_meaning ops.now) (verb_of op.now) (Some (shown self.old))).0 }
+        ensures done { IfOk result (λ r. on (table_of record_meaning range_meaning ops.now) (verb_of op.now) (Some (shown self.old)) ≡ (Ok (said_reply into.new r), Some (shown self.new))) }
+        ensures noted { OnOk result ((was : Option plain.Object) → undo_listed undos.new.items was ≡ undo_listed undos.old.items (undo (note_there (verb_of op.now) (shown self.old)) was)) }
+        ensures err { OnErr result (shown self.new ≡ shown self.old) }
+        ensures same { OnErr result (undos.new.items ≡ undos.old.items) }
+    {
+        let undo = self.undo_of(alloc, op)?;
+        if undos.reserve(1).is_err() {
+            return Err(OutOfMemory);
+        }
+        let reply = self.apply(alloc, ops, op, into)?;
+        if let Some(undo) = undo {
+            undos.push_reserved(undo);
+        }
+        Ok(reply)
     }
 
     /// Takes memory so that the notes can be undone without any more, and leaves the object as it is.

@@ -4,9 +4,9 @@ ghost use Rattle.std.specs.FinMap as finmap;
 ghost use Rattle.sg_ops.specs.Table.{Table as Operations, table_of};
 ghost use Rattle.sg_model.specs.Objects as plain;
 ghost use Rattle.sg_model.specs.Verb.Op.{On, Names};
-ghost use Rattle.sg_model.specs.Verb.Reply.{Several};
+ghost use Rattle.sg_model.specs.Verb.Reply.{Done, Several};
 ghost use Rattle.sg_model.specs.Verb.Verb.{Keys};
-ghost use Rattle.sg_model.specs.SaidReplies.{said_reply, said_outcome};
+ghost use Rattle.sg_model.specs.SaidReplies.{said_outcome};
 ghost use Rattle.sg_plain.specs.Replies.{shown_keys};
 ghost use Rattle.sg_plain.specs.Shown.{shown, objects_of};
 ghost use Rattle.sg_model.specs.SaidOps.{said_op, verb_of, name_of};
@@ -15,6 +15,8 @@ ghost use Rattle.sg_model.specs.Touches.{touches, touch_of, to_read, to_write, f
 ghost use Rattle.sg_model.specs.Touches.Part.{Kind};
 ghost use Rattle.sg_model.specs.Touches.Region.{Just, Everything};
 ghost use Rattle.sg_model.specs.Step.{on, step, IsInPlace, GrowsBy, Refuses};
+ghost use Rattle.sg_model.specs.Undo.{undo_on, note_of_op};
+ghost use Rattle.sg_plain.specs.Undone.{undo_in};
 
 use crate::array::Array;
 use crate::back::{drop_places, make_all_ready, take_all_back};
@@ -24,7 +26,7 @@ use crate::object::Object;
 use crate::places::{at_place, filled_keys};
 use crate::reach::{only_read, written};
 use crate::table::Table;
-use crate::undo::{Change, Undo};
+use crate::undo::Change;
 use sg_base::{Name, OutOfMemory};
 use sg_model::{Key, Op, Reason, Reply, Resource, Touches};
 use sg_ops::Ops;
@@ -32,30 +34,58 @@ use std::alloc::Global;
 use std::collections::BTreeMap;
 use std::marker::Model;
 
-// Does an operation that isn't refused to the object with its name.
+// Does an operation that makes and drops no object, or answers the reason why it is refused.
 fn apply_in(
     map: &mut BTreeMap<Name, Option<Object>>,
     alloc: Global,
     ops: &Ops,
-    name: Name,
+    name: &Name,
     op: &Op<'_>,
     into: &mut [u8],
-) -> Result<Reply, OutOfMemory>
+) -> Result<Result<Reply, Reason>, OutOfMemory>
     requires room { 8192 ≤ length into.old }
-    requires named { name ≡ name_of op.now }
+    requires named { name.now ≡ name_of op.now }
     requires in_place { IsInPlace (verb_of op.now) }
-    requires accepted { IsOk (on (table_of record_meaning range_meaning ops.now) (verb_of op.now) (finmap.get (objects_of map.old.entries) name)).0 }
-    ensures done { IfOk result (λ r. step (table_of record_meaning range_meaning ops.now) (objects_of map.old.entries) (said_op op.now) ≡ (Ok (said_reply into.new r), objects_of map.new.entries)) }
+    ensures done { IfOk result (λ r. step (table_of record_meaning range_meaning ops.now) (objects_of map.old.entries) (said_op op.now) ≡ (said_outcome into.new r, objects_of map.new.entries)) }
     ensures err { OnErr result (objects_of map.new.entries ≡ objects_of map.old.entries) }
     ensures memory { OnErr result (GrowsBy (verb_of op.now)) }
+    ensures cause { OnErr result (IsOk (step (table_of record_meaning range_meaning ops.now) (objects_of map.old.entries) (said_op op.now)).0) }
 {
-    let Some(place) = map.get_mut(&name) else {
-        unreachable!();
+    let Some(place) = map.get_mut(name) else {
+        return Ok(Err(Reason::NoObject));
     };
     let Some(object) = place else {
-        unreachable!();
+        return Ok(Err(Reason::NoObject));
     };
-    object.apply(alloc, ops, op, into)
+    object.attempt(alloc, ops, op, into)
+}
+
+// The same, and notes what takes it back.
+fn change_in(
+    map: &mut BTreeMap<Name, Option<Object>>,
+    alloc: Global,
+    ops: &Ops,
+    name: &Name,
+    op: &Op<'_>,
+    into: &mut [u8],
+    changes: &mut Changes,
+) -> Result<Result<Reply, Reason>, OutOfMemory>
+    requires room { 8192 ≤ length into.old }
+    requires named { name.now ≡ name_of op.now }
+    requires in_place { IsInPlace (verb_of op.now) }
+    ensures done { IfOk result (λ r. step (table_of record_meaning range_meaning ops.now) (objects_of map.old.entries) (said_op op.now) ≡ (said_outcome into.new r, objects_of map.new.entries)) }
+    ensures noted { OnOk result ((other : List ℕ) (object : Option plain.Object) → undo_in changes.new other object ≡ undo_in changes.old other (undo_on other (note_of_op (table_of record_meaning range_meaning ops.now) (objects_of map.old.entries) (said_op op.now)) object)) }
+    ensures err { OnErr result (objects_of map.new.entries ≡ objects_of map.old.entries) }
+    ensures same { OnErr result ((other : List ℕ) (object : Option plain.Object) → undo_in changes.new other object ≡ undo_in changes.old other object) }
+    ensures cause { OnErr result (IsOk (step (table_of record_meaning range_meaning ops.now) (objects_of map.old.entries) (said_op op.now)).0) }
+{
+    let Some(place) = map.get_mut(name) else {
+        return Ok(Err(Reason::NoObject));
+    };
+    let Some(object) = place else {
+        return Ok(Err(Reason::NoObject));
+    };
+    changes.change(name, object, alloc, ops, op, into)
 }
 
 /// Objects under names, which contracts see as a finite map.
@@ -88,9 +118,8 @@ impl Objects {
     ghost use Rattle.sg_model.specs.Step.{Grows, is_changing};
     ghost use Rattle.std.specs.Prelude.{IsSome};
     ghost use Rattle.sg_model.specs.Verb.Verb.{Discard};
-    ghost use Rattle.sg_model.specs.declared.op.Reply.TheVariants as Reply;
-    ghost use Rattle.sg_model.specs.Undo.{undo_on, note_of_op, note_object};
-    ghost use Rattle.sg_plain.specs.Undone.{undo_in, shown_undo_of, Makes};
+    ghost use Rattle.sg_model.specs.Undo.{note_object};
+    ghost use Rattle.sg_plain.specs.Undone.{Makes, MakesOrDrops};
 
     /// No objects. Takes no memory.
     pub fn empty(alloc: Global) -> Objects
@@ -303,37 +332,22 @@ impl Objects {
         }
     }
 
-    // Does an operation that isn't refused.
+    // Makes or drops an object, where that isn't refused.
     #[tactic(auto, unfolding(sg_model::specs::Step::step), using(crate::proofs::Steps::array_size, crate::proofs::Steps::after_make_array, crate::proofs::Steps::after_make, crate::proofs::Steps::after_discard))]
-    fn perform(
-        &mut self,
-        alloc: Global,
-        ops: &Ops,
-        op: &Op<'_>,
-        into: &mut [u8],
-    ) -> Result<Reply, OutOfMemory>
-        requires room { 8192 ≤ length into.old }
-        requires accepted { IsOk (step (table_of record_meaning range_meaning ops.now) self.old (said_op op.now)).0 }
-        ensures done { IfOk result (λ r. step (table_of record_meaning range_meaning ops.now) self.old (said_op op.now) ≡ (Ok (said_reply into.new r), self.new)) }
+    fn perform(&mut self, alloc: Global, op: &Op<'_>) -> Result<(), OutOfMemory>
+        requires whole { MakesOrDrops (verb_of op.now) }
+        requires accepted { (t : Operations) × IsOk (step t self.old (said_op op.now)).0 }
+        ensures done { OnOk result ((t : Operations) → step t self.old (said_op op.now) ≡ (Ok Done, self.new)) }
         ensures err { OnErr result (self.new ≡ self.old) }
         ensures memory { OnErr result (GrowsBy (verb_of op.now)) }
     {
         match *op {
-            Op::MakeArray { name, size } => {
-                self.put(name, Object::Array(Array::new(alloc, size)))?;
-                Ok(Reply::Done)
-            }
-            Op::MakeTable { name } => {
-                self.put(name, Object::Table(Table::new(alloc)))?;
-                Ok(Reply::Done)
-            }
-            Op::MakeBlob { name } => {
-                self.put(name, Object::Blob(Blob::new(alloc)))?;
-                Ok(Reply::Done)
-            }
+            Op::MakeArray { name, size } => self.put(name, Object::Array(Array::new(alloc, size))),
+            Op::MakeTable { name } => self.put(name, Object::Table(Table::new(alloc))),
+            Op::MakeBlob { name } => self.put(name, Object::Blob(Blob::new(alloc))),
             Op::Discard { name } => {
                 self.discard(name);
-                Ok(Reply::Done)
+                Ok(())
             }
             Op::Push { .. }
             | Op::Pop { .. }
@@ -347,7 +361,30 @@ impl Objects {
             | Op::Write { .. }
             | Op::Read { .. }
             | Op::Size { .. }
-            | Op::Paint { .. } => apply_in(&mut self.map, alloc, ops, op.name(), op, into),
+            | Op::Paint { .. } => unreachable!(),
+        }
+    }
+
+    // Makes or drops an object, or answers the reason why not.
+    #[tactic(auto, using(crate::proofs::Steps::refused))]
+    fn apply_whole(
+        &mut self,
+        alloc: Global,
+        ops: &Ops,
+        op: &Op<'_>,
+    ) -> Result<Result<Reply, Reason>, OutOfMemory>
+        requires { MakesOrDrops (verb_of op.now) }
+        ensures done { IfOk result (λ r. (bytes : List ℕ) → step (table_of record_meaning range_meaning ops.now) self.old (said_op op.now) ≡ (said_outcome bytes r, self.new)) }
+        ensures err { OnErr result (self.new ≡ self.old) }
+        ensures memory { OnErr result (GrowsBy (verb_of op.now)) }
+        ensures cause { OnErr result (IsOk (step (table_of record_meaning range_meaning ops.now) self.old (said_op op.now)).0) }
+    {
+        if let Some(reason) = self.refusal(ops, op) {
+            return Ok(Err(reason));
+        }
+        match self.perform(alloc, op) {
+            Ok(()) => Ok(Ok(Reply::Done)),
+            Err(fault) => Err(fault),
         }
     }
 
@@ -356,7 +393,6 @@ impl Objects {
     ///
     /// After `OutOfMemory`, which comes only for an operation that takes memory for what it leaves
     /// and would have got a reply, the objects are unchanged.
-    #[tactic(auto, using(crate::proofs::Steps::refused))]
     pub fn apply(
         &mut self,
         alloc: Global,
@@ -370,34 +406,24 @@ impl Objects {
         ensures memory { OnErr result (Grows (said_op op.now)) }
         ensures cause { OnErr result (IsOk (step (table_of record_meaning range_meaning ops.now) self.old (said_op op.now)).0) }
     {
-        if let Some(reason) = self.refusal(ops, op) {
-            return Ok(Err(reason));
-        }
-        match self.perform(alloc, ops, op, into) {
-            Ok(reply) => Ok(Ok(reply)),
-            Err(fault) => Err(fault),
-        }
-    }
-
-    // What undoes an operation that isn't refused, and that makes and drops no object, where it has to be known.
-    fn undo_of(
-        &self,
-        alloc: Global,
-        ops: &Ops,
-        op: &Op<'_>,
-        changes: &Changes,
-    ) -> Result<Option<Undo>, OutOfMemory>
-        requires in_place { IsInPlace (verb_of op.now) }
-        requires accepted { IsOk (step (table_of record_meaning range_meaning ops.now) self.now (said_op op.now)).0 }
-        ensures { IfOk result (λ undo. (name : List ℕ) (object : Option plain.Object) → undo_in changes.now name (undo_on name (name_of op.now, shown_undo_of undo) object) ≡ undo_in changes.now name (undo_on name (note_of_op (table_of record_meaning range_meaning ops.now) self.now (said_op op.now)) object)) }
-    {
-        let name = op.name();
-        if !changes.keeps_notes(name) {
-            return Ok(None);
-        }
-        match self.get(name) {
-            None => unreachable!(),
-            Some(object) => object.undo_of(alloc, op),
+        match *op {
+            Op::MakeArray { .. }
+            | Op::MakeTable { .. }
+            | Op::MakeBlob { .. }
+            | Op::Discard { .. } => self.apply_whole(alloc, ops, op),
+            Op::Push { .. }
+            | Op::Pop { .. }
+            | Op::Set { .. }
+            | Op::Get { .. }
+            | Op::Len { .. }
+            | Op::Apply { .. }
+            | Op::Put { .. }
+            | Op::Del { .. }
+            | Op::Find { .. }
+            | Op::Write { .. }
+            | Op::Read { .. }
+            | Op::Size { .. }
+            | Op::Paint { .. } => apply_in(&mut self.map, alloc, ops, &op.name(), op, into),
         }
     }
 
@@ -407,22 +433,20 @@ impl Objects {
         alloc: Global,
         ops: &Ops,
         op: &Op<'_>,
-        into: &mut [u8],
         changes: &mut Changes,
-    ) -> Result<Reply, OutOfMemory>
-        requires room { 8192 ≤ length into.old }
+    ) -> Result<(), OutOfMemory>
         requires accepted { IsOk (step (table_of record_meaning range_meaning ops.now) self.old (said_op op.now)).0 }
         requires makes { Makes (verb_of op.now) }
-        ensures done { IfOk result (λ r. step (table_of record_meaning range_meaning ops.now) self.old (said_op op.now) ≡ (Ok (said_reply into.new r), self.new)) }
+        ensures done { OnOk result (step (table_of record_meaning range_meaning ops.now) self.old (said_op op.now) ≡ (Ok Done, self.new)) }
         ensures noted { OnOk result ((name : List ℕ) (object : Option plain.Object) → undo_in changes.new name object ≡ undo_in changes.old name (undo_on name (note_of_op (table_of record_meaning range_meaning ops.now) self.old (said_op op.now)) object)) }
         ensures err { OnErr result (self.new ≡ self.old) }
         ensures same { OnErr result ((name : List ℕ) (object : Option plain.Object) → undo_in changes.new name object ≡ undo_in changes.old name object) }
     {
         let name = op.name();
-        changes.reserve(alloc, name)?;
-        let made = self.perform(alloc, ops, op, into)?;
+        changes.make_place(alloc, name)?;
+        self.perform(alloc, op)?;
         changes.add(name, Change::Made);
-        Ok(made)
+        Ok(())
     }
 
     // Drops an object that is there, and notes it.
@@ -431,66 +455,39 @@ impl Objects {
         alloc: Global,
         name: Name,
         changes: &mut Changes,
-    ) -> Result<Reply, OutOfMemory>
+    ) -> Result<(), OutOfMemory>
         requires { IsSome (finmap.get self.old name) }
         ensures done { OnOk result (self.new ≡ finmap.remove self.old name) }
-        ensures reply { IfOk result (λ r. r ≡ Reply.Done) }
         ensures noted { OnOk result ((other : List ℕ) (object : Option plain.Object) → undo_in changes.new other object ≡ undo_in changes.old other (undo_on other (name, note_object Discard (finmap.get self.old name)) object)) }
         ensures err { OnErr result (self.new ≡ self.old) }
         ensures same { OnErr result ((other : List ℕ) (object : Option plain.Object) → undo_in changes.new other object ≡ undo_in changes.old other object) }
     {
-        changes.reserve(alloc, name)?;
+        changes.make_place(alloc, name)?;
         let Some(object) = self.take_out(name) else {
             unreachable!();
         };
         changes.add(name, Change::Dropped(object));
-        Ok(Reply::Done)
+        Ok(())
     }
 
-    // Does an operation that isn't refused, and that makes and drops no object, and notes it.
-    fn edit_noted(
-        &mut self,
-        alloc: Global,
-        ops: &Ops,
-        op: &Op<'_>,
-        into: &mut [u8],
-        changes: &mut Changes,
-    ) -> Result<Reply, OutOfMemory>
-        requires room { 8192 ≤ length into.old }
-        requires in_place { IsInPlace (verb_of op.now) }
-        requires accepted { IsOk (step (table_of record_meaning range_meaning ops.now) self.old (said_op op.now)).0 }
-        ensures done { IfOk result (λ r. step (table_of record_meaning range_meaning ops.now) self.old (said_op op.now) ≡ (Ok (said_reply into.new r), self.new)) }
-        ensures noted { OnOk result ((name : List ℕ) (object : Option plain.Object) → undo_in changes.new name object ≡ undo_in changes.old name (undo_on name (note_of_op (table_of record_meaning range_meaning ops.now) self.old (said_op op.now)) object)) }
-        ensures err { OnErr result (self.new ≡ self.old) }
-        ensures same { OnErr result ((name : List ℕ) (object : Option plain.Object) → undo_in changes.new name object ≡ undo_in changes.old name object) }
-    {
-        let name = op.name();
-        let undo = self.undo_of(alloc, ops, op, changes)?;
-        changes.reserve(alloc, name)?;
-        let reply = self.perform(alloc, ops, op, into)?;
-        changes.add_undo(name, undo);
-        Ok(reply)
-    }
-
-    // Does an operation that isn't refused, and notes it.
+    // Makes or drops an object, where that isn't refused, and notes it.
     fn perform_noted(
         &mut self,
         alloc: Global,
         ops: &Ops,
         op: &Op<'_>,
-        into: &mut [u8],
         changes: &mut Changes,
-    ) -> Result<Reply, OutOfMemory>
-        requires room { 8192 ≤ length into.old }
+    ) -> Result<(), OutOfMemory>
+        requires whole { MakesOrDrops (verb_of op.now) }
         requires accepted { IsOk (step (table_of record_meaning range_meaning ops.now) self.old (said_op op.now)).0 }
-        ensures done { IfOk result (λ r. step (table_of record_meaning range_meaning ops.now) self.old (said_op op.now) ≡ (Ok (said_reply into.new r), self.new)) }
+        ensures done { OnOk result (step (table_of record_meaning range_meaning ops.now) self.old (said_op op.now) ≡ (Ok Done, self.new)) }
         ensures noted { OnOk result ((name : List ℕ) (object : Option plain.Object) → undo_in changes.new name object ≡ undo_in changes.old name (undo_on name (note_of_op (table_of record_meaning range_meaning ops.now) self.old (said_op op.now)) object)) }
         ensures err { OnErr result (self.new ≡ self.old) }
         ensures same { OnErr result ((name : List ℕ) (object : Option plain.Object) → undo_in changes.new name object ≡ undo_in changes.old name object) }
     {
         match *op {
             Op::MakeArray { .. } | Op::MakeTable { .. } | Op::MakeBlob { .. } => {
-                self.make_noted(alloc, ops, op, into, changes)
+                self.make_noted(alloc, ops, op, changes)
             }
             Op::Discard { name } => self.drop_noted(alloc, name, changes),
             Op::Push { .. }
@@ -505,7 +502,32 @@ impl Objects {
             | Op::Write { .. }
             | Op::Read { .. }
             | Op::Size { .. }
-            | Op::Paint { .. } => self.edit_noted(alloc, ops, op, into, changes),
+            | Op::Paint { .. } => unreachable!(),
+        }
+    }
+
+    // Makes or drops an object and notes it, or answers the reason why not.
+    #[tactic(auto, using(crate::proofs::Steps::refused, crate::proofs::Noting::refused_notes))]
+    fn change_whole(
+        &mut self,
+        alloc: Global,
+        ops: &Ops,
+        op: &Op<'_>,
+        changes: &mut Changes,
+    ) -> Result<Result<Reply, Reason>, OutOfMemory>
+        requires { MakesOrDrops (verb_of op.now) }
+        ensures done { IfOk result (λ r. (bytes : List ℕ) → step (table_of record_meaning range_meaning ops.now) self.old (said_op op.now) ≡ (said_outcome bytes r, self.new)) }
+        ensures noted { OnOk result ((name : List ℕ) (object : Option plain.Object) → undo_in changes.new name object ≡ undo_in changes.old name (undo_on name (note_of_op (table_of record_meaning range_meaning ops.now) self.old (said_op op.now)) object)) }
+        ensures err { OnErr result (self.new ≡ self.old) }
+        ensures same { OnErr result ((name : List ℕ) (object : Option plain.Object) → undo_in changes.new name object ≡ undo_in changes.old name object) }
+        ensures cause { OnErr result (IsOk (step (table_of record_meaning range_meaning ops.now) self.old (said_op op.now)).0) }
+    {
+        if let Some(reason) = self.refusal(ops, op) {
+            return Ok(Err(reason));
+        }
+        match self.perform_noted(alloc, ops, op, changes) {
+            Ok(()) => Ok(Ok(Reply::Done)),
+            Err(fault) => Err(fault),
         }
     }
 
@@ -513,7 +535,6 @@ impl Objects {
     ///
     /// After `OutOfMemory`, which comes only for an operation that would have got a reply, the objects
     /// and the notes are unchanged.
-    #[tactic(auto, using(crate::proofs::Steps::refused, crate::proofs::Noting::refused_notes))]
     pub fn change(
         &mut self,
         alloc: Global,
@@ -530,12 +551,26 @@ impl Objects {
         ensures same { OnErr result ((name : List ℕ) (object : Option plain.Object) → undo_in changes.new name object ≡ undo_in changes.old name object) }
         ensures cause { OnErr result (IsOk (step (table_of record_meaning range_meaning ops.now) self.old (said_op op.now)).0) }
     {
-        if let Some(reason) = self.refusal(ops, op) {
-            return Ok(Err(reason));
-        }
-        match self.perform_noted(alloc, ops, op, into, changes) {
-            Ok(reply) => Ok(Ok(reply)),
-            Err(fault) => Err(fault),
+        match *op {
+            Op::MakeArray { .. }
+            | Op::MakeTable { .. }
+            | Op::MakeBlob { .. }
+            | Op::Discard { .. } => self.change_whole(alloc, ops, op, changes),
+            Op::Push { .. }
+            | Op::Pop { .. }
+            | Op::Set { .. }
+            | Op::Get { .. }
+            | Op::Len { .. }
+            | Op::Apply { .. }
+            | Op::Put { .. }
+            | Op::Del { .. }
+            | Op::Find { .. }
+            | Op::Write { .. }
+            | Op::Read { .. }
+            | Op::Size { .. }
+            | Op::Paint { .. } => {
+                change_in(&mut self.map, alloc, ops, &op.name(), op, into, changes)
+            }
         }
     }
 

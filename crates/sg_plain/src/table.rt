@@ -175,12 +175,15 @@ impl Table {
     fn undo_of_value(&self, alloc: Global, key: Key) -> Result<Option<Undo>, OutOfMemory>
         ensures { IfOk result (λ undo. shown_undo_of undo ≡ note_del key (finmap.get (there self.now) key)) }
     {
-        match self.find(key) {
-            None => Ok(None),
-            Some(value) => match Vec::from_slice(alloc, value) {
-                Ok(bytes) => Ok(Some(Undo::Value { key, bytes })),
-                Err(_) => Err(OutOfMemory),
-            },
+        let Some(value) = self.find(key) else {
+            return Ok(None);
+        };
+        let Ok(bytes) = Vec::from_slice(alloc, value) else {
+            return Err(OutOfMemory);
+        };
+        match Box::new(alloc, key) {
+            Ok(key) => Ok(Some(Undo::Value { key, bytes })),
+            Err(_) => Err(OutOfMemory),
         }
     }
 
@@ -188,10 +191,13 @@ impl Table {
     fn undo_of_put(&self, alloc: Global, key: Key) -> Result<Option<Undo>, OutOfMemory>
         ensures { IfOk result (λ undo. shown_undo_of undo ≡ note_put key (finmap.get (there self.now) key)) }
     {
-        if self.find(key).is_none() {
-            return Ok(Some(Undo::New(key)));
+        if self.find(key).is_some() {
+            return self.undo_of_value(alloc, key);
         }
-        self.undo_of_value(alloc, key)
+        match Box::new(alloc, key) {
+            Ok(key) => Ok(Some(Undo::New(key))),
+            Err(_) => Err(OutOfMemory),
+        }
     }
 
     /// What undoes an operation that isn't refused: nothing, where it changes nothing.
@@ -397,12 +403,12 @@ impl Table {
         ensures ready { OnOk result (TakesBack self.new (shown_undo undo.now)) }
     {
         match undo {
-            Undo::New(key) => self.make_place(*key),
+            Undo::New(key) => self.make_place(**key),
             Undo::Value { key, bytes } => {
                 if bytes.len() > MOST_VALUE_BYTES {
                     return Err(OutOfMemory);
                 }
-                self.make_place(*key)
+                self.make_place(**key)
             }
             _ => Err(OutOfMemory),
         }
@@ -427,8 +433,8 @@ impl Table {
         ensures kept { (key : List ℕ) → HasPlace self.old key → HasPlace self.new key }
     {
         match note {
-            Undo::New(key) => self.take_out(key),
-            Undo::Value { key, bytes } => self.put_back(key, Entry { bytes }),
+            Undo::New(key) => self.take_out(Box::into_inner(key)),
+            Undo::Value { key, bytes } => self.put_back(Box::into_inner(key), Entry { bytes }),
             _ => unreachable!(),
         }
     }

@@ -1,12 +1,18 @@
-ghost use Rattle.std.specs.Prelude.{◌≡◌, Option, Some, OnOk};
-ghost use Rattle.std.specs.Bool.{OnFalse};
+ghost use Rattle.std.specs.Prelude.{◌≡◌, ◌≤◌, Option, Some, Ok, length, IfOk, OnOk, OnErr, IsOk};
+ghost use Rattle.sg_ops.specs.Table.{table_of};
 ghost use Rattle.sg_model.specs.Objects as plain;
-ghost use Rattle.sg_model.specs.Undo.{undo};
-ghost use Rattle.sg_plain.specs.Undone.{before, shown_change, HasRoom};
+ghost use Rattle.sg_model.specs.SaidOps.{verb_of};
+ghost use Rattle.sg_model.specs.SaidReplies.{said_reply};
+ghost use Rattle.sg_model.specs.Step.{on, IsInPlace};
+ghost use Rattle.sg_model.specs.Undo.{undo, note_there};
+ghost use Rattle.sg_plain.specs.Shown.{shown};
+ghost use Rattle.sg_plain.specs.Undone.{before, shown_change};
 
 use crate::object::Object;
 use sg_base::OutOfMemory;
-use sg_model::Key;
+use sg_model::{Key, Op, Reply};
+use sg_ops::Ops;
+use std::alloc::Global;
 use std::mem::replace;
 
 /// A change of an object that is there, with what stood there before: enough to take it back.
@@ -22,10 +28,10 @@ pub enum Undo {
         item: Vec<u8>,
     },
     /// The key was put into a table, and is new.
-    New(Key),
+    New(Box<Key>),
     /// A table had these bytes under the key.
     Value {
-        key: Key,
+        key: Box<Key>,
         bytes: Vec<u8>,
     },
     /// A blob had these bytes from a position on, and this length.
@@ -48,45 +54,43 @@ pub enum Past {
     Dropped { object: Object, undos: Vec<Undo> },
 }
 
-/// What an operation did to what stands under a name, with what stood there before.
+/// That a transaction made what stands under a name, or dropped it.
 #[derive(Drop)]
 pub enum Change {
     /// It made an object.
     Made,
-    /// It changed the object that is there.
-    Edited(Undo),
     /// It dropped this object.
     Dropped(Object),
 }
 
 impl Past {
-    /// Whether a change has to be known: not once an object was made or dropped.
-    pub fn keeps_notes(&self) -> bool
-        ensures { OnFalse result ((a b : Option plain.Object) → before (Some self.now) a ≡ before (Some self.now) b) }
+    /// Does an operation that isn't refused, and that makes and drops no object, to the object that
+    /// stands there, and notes what takes it back where that has to be known: not once an object was
+    /// made or dropped. After `OutOfMemory` neither the object nor what is noted has changed.
+    pub fn edit(
+        &mut self,
+        object: &mut Object,
+        alloc: Global,
+        ops: &Ops,
+        op: &Op<'_>,
+        into: &mut [u8],
+    ) -> Result<Reply, OutOfMemory>
+        requires room { 8192 ≤ length into.old }
+        requires in_place { IsInPlace (verb_of op.now) }
+        requires accepted { IsOk (on (table_of record_meaning range_meaning ops.now) (verb_of op.now) (Some (shown object.old))).0 }
+        ensures done { IfOk result (λ r. on (table_of record_meaning range_meaning ops.now) (verb_of op.now) (Some (shown object.old)) ≡ (Ok (said_reply into.new r), Some (shown object.new))) }
+        ensures noted { OnOk result ((was : Option plain.Object) → before (Some self.new) was ≡ before (Some self.old) (undo (note_there (verb_of op.now) (shown object.old)) was)) }
+        ensures err { OnErr result (shown object.new ≡ shown object.old) }
+        ensures same { OnErr result ((was : Option plain.Object) → before (Some self.new) was ≡ before (Some self.old) was) }
     {
         match self {
-            Past::Changed(_) => true,
-            Past::Made | Past::Dropped { .. } => false,
+            Past::Changed(undos) => object.edit(alloc, ops, op, into, undos),
+            Past::Made | Past::Dropped { .. } => object.apply(alloc, ops, op, into),
         }
     }
 
-    /// Takes memory for one more note. What was there before stays, whatever the result.
-    pub fn reserve(&mut self) -> Result<(), OutOfMemory>
-        ensures same { (object : Option plain.Object) → before (Some self.new) object ≡ before (Some self.old) object }
-        ensures room { OnOk result (HasRoom self.new) }
-    {
-        match self {
-            Past::Changed(undos) => match undos.reserve(1) {
-                Ok(()) => Ok(()),
-                Err(_) => Err(OutOfMemory),
-            },
-            Past::Made | Past::Dropped { .. } => Ok(()),
-        }
-    }
-
-    /// Adds a change. Takes no memory.
+    /// Adds that the object was made or dropped. Takes no memory.
     pub fn add(&mut self, change: Change)
-        requires { HasRoom self.old }
         ensures { (object : Option plain.Object) → before (Some self.new) object ≡ before (Some self.old) (undo (shown_change change) object) }
     {
         let Past::Changed(undos) = self else {
@@ -94,7 +98,6 @@ impl Past {
         };
         match change {
             Change::Made => *self = Past::Made,
-            Change::Edited(undo) => undos.push_reserved(undo),
             Change::Dropped(object) => {
                 let undos = replace(undos, Vec::new(*undos.allocator()));
                 *self = Past::Dropped { object, undos };

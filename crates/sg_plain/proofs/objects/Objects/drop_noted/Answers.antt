@@ -10,4 +10,4 @@ pub returns-clause-noted : goal.returns-clause-noted
 returns-clause-noted c = λ other object.
     let at : Option Object → Option Object = λ k. undo_in c.args.changes.now other (undo_on other (c.args.name, note_object Discard k) object) in
     c.add.ensures other object
-    ∙ (c.reserve.ensures.same other (undo_on other (c.args.name, note_object Discard (Some (shown c.in-Some.object))) object) ∙ ap at c.in-Some.ensures.there)
+    ∙ (c.make_place.ensures.same other (undo_on other (c.args.name, note_object Discard (Some (shown c.in-Some.object))) object) ∙ ap at c.in-Some.ensures.there)

@@ -17,7 +17,7 @@ pub returns-in-Discard-clause-done : goal.returns-in-Discard-clause-done
 returns-in-Discard-clause-done g c =
     let t = table_of (λ p. (goal.RecordOp-dyn g p).record_meaning p.1) (λ p. (goal.RangeOp-dyn g p).range_meaning p.1) c.args.ops.now in
     let is : said_op c.args.op.now ≡ On c.in-Discard.name Discard = ap said_op c.in-Discard.is in
-    dropped_step t c.args.self.now c.drop_noted.new.self c.in-Discard.name (said_op c.args.op.now) c.args.into.now c.drop_noted.result is c.requires.accepted c.drop_noted.ensures.reply c.drop_noted.ensures.done
+    dropped_step t c.args.self.now c.drop_noted.new.self c.in-Discard.name (said_op c.args.op.now) c.drop_noted.result is c.requires.accepted c.drop_noted.ensures.done
 
 pub returns-in-Discard-clause-noted : goal.returns-in-Discard-clause-noted
 returns-in-Discard-clause-noted g c =

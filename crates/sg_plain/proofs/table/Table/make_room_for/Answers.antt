@@ -1,5 +1,6 @@
-use Rattle.std.proofs.Common.{◌≤◌, length, arith, subst, sym, OnOk}
-use Rattle.sg_plain.specs.declared.undo.Undo as code_undo
+use Rattle.std.proofs.Common.{◌≡◌, ℕ, List, ◌≤◌, length, arith, subst, sym, ap, ◌∙◌, OnOk}
+use Rattle.sg_model.specs.Undo.{Note}
+use Rattle.sg_model.specs.Undo.Note.{WasPut, HadValue}
 use Rattle.sg_plain.specs.Tables.{TakesBack}
 use Rattle.sg_plain.specs.Undone.{shown_undo}
 use Rattle.sg_plain.proofs.Taken.{placed_same, placed_kept, placed_put, placed_value}
@@ -13,8 +14,9 @@ returns-in-New-clause-kept c = placed_kept c.args.self.now c.make_place.new.self
 
 pub returns-in-New-clause-ready : goal.returns-in-New-clause-ready
 returns-in-New-clause-ready c =
-    subst (λ (u : code_undo.Undo). OnOk c.make_place.result (TakesBack c.make_place.new.self (shown_undo u))) (sym c.in-New.is)
-    (placed_put c.args.self.now c.make_place.new.self c.in-New.key c.make_place.result c.make_place.ensures.done)
+    let n = c.make_place.new.self in
+    let is : WasPut c.deref.result.now ≡ shown_undo c.args.undo.now = ap WasPut c.deref.ensures ∙ ap shown_undo (sym c.in-New.is) in
+    subst (λ (note : Note). OnOk c.make_place.result (TakesBack n note)) is (placed_put c.args.self.now n c.deref.result.now c.make_place.result c.make_place.ensures.done)
 
 pub returns-else-len-gt-MOST_VALUE_BYTES-clause-same : goal.returns-else-len-gt-MOST_VALUE_BYTES-clause-same
 returns-else-len-gt-MOST_VALUE_BYTES-clause-same c = placed_same c.args.self.now c.make_place-in-Value.new.self _ c.make_place-in-Value.result c.make_place-in-Value.ensures.done c.make_place-in-Value.ensures.err
@@ -24,6 +26,9 @@ returns-else-len-gt-MOST_VALUE_BYTES-clause-kept c = placed_kept c.args.self.now
 
 pub returns-else-len-gt-MOST_VALUE_BYTES-clause-ready : goal.returns-else-len-gt-MOST_VALUE_BYTES-clause-ready
 returns-else-len-gt-MOST_VALUE_BYTES-clause-ready c =
-    let short : length c.in-Value.bytes.items ≤ 1024 = omega (arith, c.in-Value.bytes.ok.0) in
-    subst (λ (u : code_undo.Undo). OnOk c.make_place-in-Value.result (TakesBack c.make_place-in-Value.new.self (shown_undo u))) (sym c.in-Value.is)
-    (placed_value c.args.self.now c.make_place-in-Value.new.self c.in-Value.key c.in-Value.bytes.items short c.make_place-in-Value.result c.make_place-in-Value.ensures.done)
+    let n = c.make_place-in-Value.new.self in
+    let bytes : List ℕ = c.in-Value.bytes.items in
+    let short : length bytes ≤ 1024 = omega (arith, c.in-Value.bytes.ok.0) in
+    let note : List ℕ → Note = λ k. HadValue k bytes in
+    let is : HadValue c.deref-in-Value.result.now bytes ≡ shown_undo c.args.undo.now = ap note c.deref-in-Value.ensures ∙ ap shown_undo (sym c.in-Value.is) in
+    subst (λ (k : Note). OnOk c.make_place-in-Value.result (TakesBack n k)) is (placed_value c.args.self.now n c.deref-in-Value.result.now bytes short c.make_place-in-Value.result c.make_place-in-Value.ensures.done)
