@@ -2,10 +2,10 @@ ghost use Rattle.std.specs.Prelude.{◌≡◌, ◌+◌, ◌*◌, ◌≤◌, ◌<
 ghost use Rattle.sg_base.specs.Ends.{HasRisen, Takes, TakesFront};
 ghost use Rattle.sg_model.specs.SaidReplies.{said_reply};
 ghost use Rattle.sg_words.specs.Answers.{text_of_reply};
-ghost use Rattle.sg_words.specs.Text.{prints_plain, printed, text_of_reason};
+ghost use Rattle.sg_words.specs.Text.{printed, text_of_reason};
 
 use crate::buffer::{append, append_hex};
-use crate::value::are_plain;
+use crate::value::prints_plain;
 use itoa::Buffer;
 use sg_base::{Failed, Sink};
 use sg_model::{Reason, Reply};
@@ -15,16 +15,6 @@ const MOST_BYTES: usize = 8192;
 
 /// The most bytes of a value that the small buffer takes.
 const FEW_BYTES: usize = 256;
-
-/// Whether bytes are printed as themselves.
-pub fn prints_plain(bytes: &[u8]) -> bool
-    ensures { result ≡ prints_plain bytes.now }
-{
-    if let [b'x', b':', ..] = bytes {
-        return false;
-    }
-    !bytes.is_empty() && are_plain(bytes)
-}
 
 // Puts bytes as they are printed at `at` of a buffer, and gives their end.
 fn print(into: &mut [u8], at: usize, bytes: &[u8]) -> usize

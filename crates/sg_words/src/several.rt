@@ -6,7 +6,8 @@ ghost use Rattle.sg_words.specs.Text.{printed};
 ghost use Rattle.sg_words.specs.Waiting.{Passes};
 
 use crate::buffer::{append, append_hex};
-use crate::reply::{prints_plain, put_count};
+use crate::reply::put_count;
+use crate::value::prints_plain;
 use sg_base::{Failed, Name, Sink};
 use sg_model::Key;
 
