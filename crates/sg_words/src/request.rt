@@ -3,7 +3,7 @@ ghost use Rattle.sg_model.specs.SaidOps.{said_op};
 ghost use Rattle.sg_model.specs.Verb.Op.{On};
 ghost use Rattle.sg_words.specs.Parse.{words_of};
 ghost use Rattle.sg_words.specs.Requested.{shown, shown_option, shown_asked};
-ghost use Rattle.sg_words.specs.Requests.{put_of, make_of, plain_request, valued_request, either, asked_by, request_of, asked};
+ghost use Rattle.sg_words.specs.Requests.{put_of, make_of, plain_request, valued_request, either, request_of, asked};
 ghost use Rattle.sg_words.specs.Requests.Request.{Do};
 ghost use Rattle.sg_words.specs.Verbs.{of_alone, of_named, of_numbered, verb_on, verb_with};
 
@@ -203,25 +203,6 @@ fn read_request<'a>(word: &[u8], rest: &'a [u8], scratch: &'a mut [u8]) -> Optio
     }
 }
 
-fn asked_by<'a>(line: &'a [u8], scratch: &'a mut [u8]) -> Asked<'a>
-    requires { length line.now ≤ length scratch.old }
-    ensures { shown_asked result ≡ asked_by (words_of line.now) }
-{
-    let Some((name, rest)) = next_word(line) else {
-        return Asked::Blank;
-    };
-    let Some((word, rest)) = next_word(rest) else {
-        return Asked::Wrong;
-    };
-    let Some(name) = transaction(name) else {
-        return Asked::Wrong;
-    };
-    match read_request(word, rest, scratch) {
-        Some(request) => Asked::Of { name, request },
-        None => Asked::Wrong,
-    }
-}
-
 /// What a line without its LF asks for. `scratch` takes the bytes of values in hexadecimal digits.
 #[inline(never)]
 #[tactic(auto, unfolding(crate::specs::Requests::asked))]
@@ -235,7 +216,19 @@ pub fn parse_request<'a>(text: &'a [u8], scratch: &'a mut [u8]) -> Asked<'a>
     if let [b'#', ..] = text {
         return Asked::Blank;
     }
-    asked_by(without_return(text), scratch)
+    let Some((name, rest)) = next_word(without_return(text)) else {
+        return Asked::Blank;
+    };
+    let Some((word, rest)) = next_word(rest) else {
+        return Asked::Wrong;
+    };
+    let Some(name) = transaction(name) else {
+        return Asked::Wrong;
+    };
+    match read_request(word, rest, scratch) {
+        Some(request) => Asked::Of { name, request },
+        None => Asked::Wrong,
+    }
 }
 
 /// What the words kept of a line ask for, with every verb: a verb and its arguments. `scratch` takes
