@@ -27,6 +27,7 @@ of_numbered numbered.Find args = find_of args
 of_numbered numbered.Write args = write_of args
 of_numbered numbered.Paint args = paint_of args
 
+-- what a verb with a value among its words asks for
 abbrev pub of_valued : Valued → List (List ℕ) → Option Request
 of_valued valued.Put args = put_of args
 of_valued (valued.With verb) args = of_numbered verb args
@@ -51,12 +52,13 @@ of_alone lone.Commit args = alone Commit args
 of_alone lone.Abort args = alone Abort args
 of_alone lone.List args = alone (Do Names) args
 
+-- what a verb without a value asks for
 abbrev pub of_plain : Plain → List (List ℕ) → Option Request
 of_plain (plain.Alone verb) args = of_alone verb args
 of_plain plain.Make args = make_of args
 of_plain (plain.On verb) args = of_named verb args
 
--- the verbs with a first, a second and a third number before their value
+-- the verbs with a number before their value
 abbrev pub wants_one : Numbered → Bool
 wants_one numbered.Push = false
 wants_one numbered.Set = true
@@ -66,6 +68,7 @@ wants_one numbered.Find = false
 wants_one numbered.Write = true
 wants_one numbered.Paint = true
 
+-- the verbs with a second number before their value
 abbrev pub wants_two : Numbered → Bool
 wants_two numbered.Push = false
 wants_two numbered.Set = false
@@ -75,6 +78,7 @@ wants_two numbered.Find = false
 wants_two numbered.Write = false
 wants_two numbered.Paint = true
 
+-- the verb with a third number before its value
 abbrev pub wants_three : Numbered → Bool
 wants_three numbered.Push = false
 wants_three numbered.Set = false
@@ -84,7 +88,7 @@ wants_three numbered.Find = false
 wants_three numbered.Write = false
 wants_three numbered.Paint = true
 
--- the verbs with a first and a second number at their end
+-- the verbs with a number at their end
 abbrev pub has_number : Named → Bool
 has_number named.MakeArray = true
 has_number named.MakeTable = false
@@ -97,6 +101,7 @@ has_number named.Read = true
 has_number named.Size = true
 has_number named.Keys = false
 
+-- the verb with a second number at its end
 abbrev pub has_two : Named → Bool
 has_two named.MakeArray = false
 has_two named.MakeTable = false
@@ -109,7 +114,7 @@ has_two named.Read = true
 has_two named.Size = false
 has_two named.Keys = false
 
--- the verb of the model, with those of the numbers that it has
+-- the verb of the model that has a value, with those of the numbers that it has
 abbrev pub verb_with : Numbered → ℕ → ℕ → ℕ → List ℕ → Verb
 verb_with numbered.Push first second third value = Push value
 verb_with numbered.Set first second third value = Set first value
@@ -119,6 +124,7 @@ verb_with numbered.Find first second third value = Find value
 verb_with numbered.Write first second third value = Write first value
 verb_with numbered.Paint first second third value = Paint first second third value
 
+-- the verb of the model that has no value, with those of the numbers that it has
 abbrev pub verb_on : Named → ℕ → ℕ → Verb
 verb_on named.MakeArray first second = MakeArray first
 verb_on named.MakeTable first second = MakeTable
