@@ -1,76 +1,163 @@
--- A verb with fewer or more words after it than it takes asks for nothing.
-use Rattle.std.proofs.Common.{◌≡◌, ℕ, List, [], ◌∷◌, length, None, refl}
-use Rattle.std.specs.Prelude.{◌≢◌}
-use Rattle.sg_words.specs.Requests.{make_array_of, make_table_of, make_blob_of, discard_of, pop_of, get_of, len_of, read_of, size_of, push_of, set_of, apply_of, put_of, del_of, find_of, write_of, paint_of, keys_of}
+-- The words behind a verb, read one after another, and what the verb says of all of them.
+use Rattle.std.proofs.Common.{◌≡◌, ℕ, ◌==◌, Bool, true, false, cond, List, [], ◌∷◌, length, filter, Option, Some, None, refl, ap, ◌∙◌, arith}
+use Rattle.std.specs.Prelude.{◌≢◌, ◌&&◌, not, nat_lt}
+use Rattle.std.proofs.lemmas.Bool.Decides.{nat_tests}
+use Rattle.std.specs.List.{list_all}
+use Rattle.sg_model.specs.Verb.Verb.{Put}
+use Rattle.sg_words.specs.Parse.{words_of, is_word, is_plain, begins_hex, number_of, value_of}
+use Rattle.sg_words.specs.Text.{prints_plain}
+use Rattle.sg_words.specs.Requests.{Request, put_of, where_some, named}
+use Rattle.sg_words.specs.Verbs.{of_named, of_numbered, wants_one, wants_two, wants_three, has_number, has_two, verb_with, verb_on, before, number_if, one_value}
+use Rattle.sg_words.specs.declared.verb.Numbered.{Numbered}
+use Rattle.sg_words.specs.declared.verb.Numbered.TheVariants as numbered
+use Rattle.sg_words.specs.declared.verb.Named.{Named}
+use Rattle.sg_words.specs.declared.verb.Named.TheVariants as on
+use Rattle.sg_words.proofs.Said.{IsFree, split_one, kept}
 
-pub make_array_none : (words : List (List ℕ)) → length words ≢ 2 → make_array_of words ≡ None
-make_array_none (a ∷ b ∷ []) h = absurd (h refl)
-make_array_none words h = refl
+-- a request, where no words are left
+abbrev pub at_end : List (List ℕ) → Option Request → Option Request
+at_end [] request = request
+at_end (word ∷ words) request = None
 
-pub make_table_none : (words : List (List ℕ)) → length words ≢ 1 → make_table_of words ≡ None
-make_table_none (a ∷ []) h = absurd (h refl)
-make_table_none words h = refl
+-- what a verb makes of the words behind the name, one after another
+abbrev pub read_named : Named → List ℕ → List (List ℕ) → Option Request
+read_named verb name words = where_some (number_if (has_number verb) words) (λ p. where_some (number_if (has_two verb) p.1) (λ q. at_end q.1 (named name (verb_on verb p.0 q.0))))
 
-pub make_blob_none : (words : List (List ℕ)) → length words ≢ 1 → make_blob_of words ≡ None
-make_blob_none (a ∷ []) h = absurd (h refl)
-make_blob_none words h = refl
+abbrev pub read_numbered : Numbered → List ℕ → List (List ℕ) → Option Request
+read_numbered verb name words =
+    where_some (number_if (wants_one verb) words) (λ p. where_some (number_if (wants_two verb) p.1) (λ q. where_some (number_if (wants_three verb) q.1) (λ r.
+    where_some (one_value r.1) (λ value. named name (verb_with verb p.0 q.0 r.0 value)))))
 
-pub discard_none : (words : List (List ℕ)) → length words ≢ 1 → discard_of words ≡ None
-discard_none (a ∷ []) h = absurd (h refl)
-discard_none words h = refl
+-- a number is read, and what is done with it is done
+through : (words : List (List ℕ)) (o : Option ℕ) (f : (ℕ × List (List ℕ)) → Option Request) → where_some o (λ n. f (n, words)) ≡ where_some (before words o) f
+through words None f = refl
+through words (Some n) f = refl
 
-pub pop_none : (words : List (List ℕ)) → length words ≢ 1 → pop_of words ≡ None
-pop_none (a ∷ []) h = absurd (h refl)
-pop_none words h = refl
+under : {A : Type 0} (o : Option A) (f g : A → Option Request) → ((a : A) → f a ≡ g a) → where_some o f ≡ where_some o g
+under None f g e = refl
+under (Some a) f g e = e a
 
-pub get_none : (words : List (List ℕ)) → length words ≢ 2 → get_of words ≡ None
-get_none (a ∷ b ∷ []) h = absurd (h refl)
-get_none words h = refl
+nothing : {A : Type 0} (o : Option A) → None ≡ where_some o (λ a. None)
+nothing None = refl
+nothing (Some a) = refl
 
-pub len_none : (words : List (List ℕ)) → length words ≢ 1 → len_of words ≡ None
-len_none (a ∷ []) h = absurd (h refl)
-len_none words h = refl
+-- a number is read, and what follows it is refused
+refused : (words : List (List ℕ)) (o : Option ℕ) (f : (ℕ × List (List ℕ)) → Option Request) → ((n : ℕ) → None ≡ f (n, words)) → None ≡ where_some (before words o) f
+refused words o f e = nothing o ∙ (under o (λ n. None) (λ n. f (n, words)) e ∙ through words o f)
 
-pub read_none : (words : List (List ℕ)) → length words ≢ 3 → read_of words ≡ None
-read_none (a ∷ b ∷ c ∷ []) h = absurd (h refl)
-read_none words h = refl
+-- a number is read, and what follows it is as good
+followed : (words : List (List ℕ)) (o : Option ℕ) (g : ℕ → Option Request) (f : (ℕ × List (List ℕ)) → Option Request) → ((n : ℕ) → g n ≡ f (n, words)) → where_some o g ≡ where_some (before words o) f
+followed words o g f e = under o g (λ n. f (n, words)) e ∙ through words o f
 
-pub size_none : (words : List (List ℕ)) → length words ≢ 2 → size_of words ≡ None
-size_none (a ∷ b ∷ []) h = absurd (h refl)
-size_none words h = refl
+pub named_words : (verb : Named) (name : List ℕ) (words : List (List ℕ)) → of_named verb (name ∷ words) ≡ read_named verb name words
+named_words on.MakeTable name [] = refl
+named_words on.MakeTable name (a ∷ words) = refl
+named_words on.MakeBlob name [] = refl
+named_words on.MakeBlob name (a ∷ words) = refl
+named_words on.Discard name [] = refl
+named_words on.Discard name (a ∷ words) = refl
+named_words on.Pop name [] = refl
+named_words on.Pop name (a ∷ words) = refl
+named_words on.Len name [] = refl
+named_words on.Len name (a ∷ words) = refl
+named_words on.Keys name [] = refl
+named_words on.Keys name (a ∷ words) = refl
+named_words on.MakeArray name [] = refl
+named_words on.MakeArray name (a ∷ []) = through [] (number_of a) _
+named_words on.MakeArray name (a ∷ b ∷ words) = refused (b ∷ words) (number_of a) _ (λ n. refl)
+named_words on.Get name [] = refl
+named_words on.Get name (a ∷ []) = through [] (number_of a) _
+named_words on.Get name (a ∷ b ∷ words) = refused (b ∷ words) (number_of a) _ (λ n. refl)
+named_words on.Size name [] = refl
+named_words on.Size name (a ∷ []) = through [] (number_of a) _
+named_words on.Size name (a ∷ b ∷ words) = refused (b ∷ words) (number_of a) _ (λ n. refl)
+named_words on.Read name [] = refl
+named_words on.Read name (a ∷ []) = refused [] (number_of a) _ (λ n. refl)
+named_words on.Read name (a ∷ b ∷ []) = followed (b ∷ []) (number_of a) _ _ (λ n. through [] (number_of b) _)
+named_words on.Read name (a ∷ b ∷ c ∷ words) = refused (b ∷ c ∷ words) (number_of a) _ (λ n. refused (c ∷ words) (number_of b) _ (λ m. refl))
 
-pub push_none : (words : List (List ℕ)) → length words ≢ 2 → push_of words ≡ None
-push_none (a ∷ b ∷ []) h = absurd (h refl)
-push_none words h = refl
+pub named_none : (verb : Named) → of_named verb [] ≡ None
+named_none on.MakeArray = refl
+named_none on.MakeTable = refl
+named_none on.MakeBlob = refl
+named_none on.Discard = refl
+named_none on.Pop = refl
+named_none on.Get = refl
+named_none on.Len = refl
+named_none on.Read = refl
+named_none on.Size = refl
+named_none on.Keys = refl
 
-pub set_none : (words : List (List ℕ)) → length words ≢ 3 → set_of words ≡ None
-set_none (a ∷ b ∷ c ∷ []) h = absurd (h refl)
-set_none words h = refl
+pub numbered_words : (verb : Numbered) (name : List ℕ) (words : List (List ℕ)) → of_numbered verb (name ∷ words) ≡ read_numbered verb name words
+numbered_words numbered.Push name [] = refl
+numbered_words numbered.Push name (v ∷ []) = refl
+numbered_words numbered.Push name (v ∷ w ∷ words) = refl
+numbered_words numbered.Del name [] = refl
+numbered_words numbered.Del name (v ∷ []) = refl
+numbered_words numbered.Del name (v ∷ w ∷ words) = refl
+numbered_words numbered.Find name [] = refl
+numbered_words numbered.Find name (v ∷ []) = refl
+numbered_words numbered.Find name (v ∷ w ∷ words) = refl
+numbered_words numbered.Set name [] = refl
+numbered_words numbered.Set name (a ∷ []) = refused [] (number_of a) _ (λ n. refl)
+numbered_words numbered.Set name (a ∷ v ∷ []) = through (v ∷ []) (number_of a) _
+numbered_words numbered.Set name (a ∷ v ∷ w ∷ words) = refused (v ∷ w ∷ words) (number_of a) _ (λ n. refl)
+numbered_words numbered.Write name [] = refl
+numbered_words numbered.Write name (a ∷ []) = refused [] (number_of a) _ (λ n. refl)
+numbered_words numbered.Write name (a ∷ v ∷ []) = through (v ∷ []) (number_of a) _
+numbered_words numbered.Write name (a ∷ v ∷ w ∷ words) = refused (v ∷ w ∷ words) (number_of a) _ (λ n. refl)
+numbered_words numbered.Apply name [] = refl
+numbered_words numbered.Apply name (a ∷ []) = refused [] (number_of a) _ (λ n. refl)
+numbered_words numbered.Apply name (a ∷ b ∷ []) = refused (b ∷ []) (number_of a) _ (λ n. refused [] (number_of b) _ (λ m. refl))
+numbered_words numbered.Apply name (a ∷ b ∷ v ∷ []) = followed (b ∷ v ∷ []) (number_of a) _ _ (λ n. through (v ∷ []) (number_of b) _)
+numbered_words numbered.Apply name (a ∷ b ∷ v ∷ w ∷ words) = refused (b ∷ v ∷ w ∷ words) (number_of a) _ (λ n. refused (v ∷ w ∷ words) (number_of b) _ (λ m. refl))
+numbered_words numbered.Paint name [] = refl
+numbered_words numbered.Paint name (a ∷ []) = refused [] (number_of a) _ (λ n. refl)
+numbered_words numbered.Paint name (a ∷ b ∷ []) = refused (b ∷ []) (number_of a) _ (λ n. refused [] (number_of b) _ (λ m. refl))
+numbered_words numbered.Paint name (a ∷ b ∷ c ∷ []) = refused (b ∷ c ∷ []) (number_of a) _ (λ n. refused (c ∷ []) (number_of b) _ (λ m. refused [] (number_of c) _ (λ k. refl)))
+numbered_words numbered.Paint name (a ∷ b ∷ c ∷ v ∷ []) = followed (b ∷ c ∷ v ∷ []) (number_of a) _ _ (λ n. followed (c ∷ v ∷ []) (number_of b) _ _ (λ m. through (v ∷ []) (number_of c) _))
+numbered_words numbered.Paint name (a ∷ b ∷ c ∷ v ∷ w ∷ words) =
+    refused (b ∷ c ∷ v ∷ w ∷ words) (number_of a) _ (λ n. refused (c ∷ v ∷ w ∷ words) (number_of b) _ (λ m. refused (v ∷ w ∷ words) (number_of c) _ (λ k. refl)))
 
-pub apply_none : (words : List (List ℕ)) → length words ≢ 4 → apply_of words ≡ None
-apply_none (a ∷ b ∷ c ∷ d ∷ []) h = absurd (h refl)
-apply_none words h = refl
+pub numbered_none : (verb : Numbered) → of_numbered verb [] ≡ None
+numbered_none numbered.Push = refl
+numbered_none numbered.Set = refl
+numbered_none numbered.Apply = refl
+numbered_none numbered.Del = refl
+numbered_none numbered.Find = refl
+numbered_none numbered.Write = refl
+numbered_none numbered.Paint = refl
 
-pub put_none : (words : List (List ℕ)) → length words ≢ 3 → put_of words ≡ None
-put_none (a ∷ b ∷ c ∷ []) h = absurd (h refl)
-put_none words h = refl
+pub put_words : (name key : List ℕ) (words : List (List ℕ)) → put_of (name ∷ key ∷ words) ≡ where_some (value_of key) (λ the_key. where_some (one_value words) (λ value. named name (Put the_key value)))
+put_words name key [] = nothing (value_of key)
+put_words name key (v ∷ []) = refl
+put_words name key (v ∷ w ∷ words) = nothing (value_of key)
 
-pub del_none : (words : List (List ℕ)) → length words ≢ 2 → del_of words ≡ None
-del_none (a ∷ b ∷ []) h = absurd (h refl)
-del_none words h = refl
+pub no_value : (words : List (List ℕ)) → length words ≢ 1 → one_value words ≡ None
+no_value [] h = refl
+no_value (v ∷ []) h = absurd (h refl)
+no_value (v ∷ w ∷ words) h = refl
 
-pub find_none : (words : List (List ℕ)) → length words ≢ 2 → find_of words ≡ None
-find_none (a ∷ b ∷ []) h = absurd (h refl)
-find_none words h = refl
+-- bytes that are plain are one word, which stands for itself
 
-pub write_none : (words : List (List ℕ)) → length words ≢ 3 → write_of words ≡ None
-write_none (a ∷ b ∷ c ∷ []) h = absurd (h refl)
-write_none words h = refl
+not_space : (b : ℕ) → is_plain b ≡ true → (b == 32) ≡ false
+not_space b e = grind (arith, nat_tests, e)
 
-pub paint_none : (words : List (List ℕ)) → length words ≢ 5 → paint_of words ≡ None
-paint_none (a ∷ b ∷ c ∷ d ∷ e ∷ []) h = absurd (h refl)
-paint_none words h = refl
+halves : (a b : Bool) → (a && b) ≡ true → (a ≡ true) × (b ≡ true)
+halves true b e = (refl, e)
+halves false b e = absurd (cc)
 
-pub keys_none : (words : List (List ℕ)) → length words ≢ 1 → keys_of words ≡ None
-keys_none (a ∷ []) h = absurd (h refl)
-keys_none words h = refl
+free : (text : List ℕ) → list_all is_plain text ≡ true → IsFree text
+free [] e = tt
+free (b ∷ bs) e = let h = halves (is_plain b) (list_all is_plain bs) e in (not_space b h.0, free bs h.1)
+
+stands : (hex plain : Bool) (text : List ℕ) (decoded : Option (List ℕ)) → not hex ≡ true → plain ≡ true → cond hex decoded (cond plain (Some text) None) ≡ Some text
+stands true plain text decoded e f = absurd (cc)
+stands false plain text decoded e f = ap (λ b. cond b (Some text) None) f
+
+pub value_alone : (text : List ℕ) → prints_plain text ≡ true → one_value (words_of text) ≡ Some text
+value_alone text e =
+    let h = halves (nat_lt 0 (length text) && list_all is_plain text) (not (begins_hex text)) e in
+    let k = halves (nat_lt 0 (length text)) (list_all is_plain text) h.0 in
+    let words : words_of text ≡ text ∷ [] = ap (filter is_word) (split_one text (free text k.1)) ∙ kept text [] k.0 in
+    ap one_value words ∙ stands (begins_hex text) (list_all is_plain text) text _ h.1 k.1

@@ -9,7 +9,7 @@ abbrev is_space : ℕ → Bool
 is_space b = b == 32
 
 -- bytes without a space
-abbrev IsFree : List ℕ → Type 0
+abbrev pub IsFree : List ℕ → Type 0
 IsFree [] = Unit {0}
 IsFree (b ∷ bs) = ((b == 32) ≡ false) × IsFree bs
 
@@ -49,7 +49,7 @@ later : (words : List (List ℕ)) → AreWords words → AreWords (later_words w
 later [] h = tt
 later (word ∷ words) h = h.2
 
-split_one : (word : List ℕ) → IsFree word → slice_split is_space word ≡ word ∷ []
+pub split_one : (word : List ℕ) → IsFree word → slice_split is_space word ≡ word ∷ []
 split_one [] h = refl
 split_one (x ∷ word) h = ap (λ b. cond b ([] ∷ slice_split is_space word) (onto_first x (slice_split is_space word))) h.0 ∙ ap (onto_first x) (split_one word h.1)
 
@@ -57,7 +57,7 @@ split_more : (word rest : List ℕ) → IsFree word → slice_split is_space (wo
 split_more [] rest h = refl
 split_more (x ∷ word) rest h = ap (λ b. cond b ([] ∷ slice_split is_space (word ++ 32 ∷ rest)) (onto_first x (slice_split is_space (word ++ 32 ∷ rest)))) h.0 ∙ ap (onto_first x) (split_more word rest h.1)
 
-kept : (word : List ℕ) (words : List (List ℕ)) → is_word word ≡ true → cond (is_word word) (word ∷ words) words ≡ word ∷ words
+pub kept : (word : List ℕ) (words : List (List ℕ)) → is_word word ≡ true → cond (is_word word) (word ∷ words) words ≡ word ∷ words
 kept word words e = ap (λ b. cond b (word ∷ words) words) e
 
 -- words that are joined by spaces are those words again

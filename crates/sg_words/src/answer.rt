@@ -1,6 +1,6 @@
 ghost use Rattle.std.specs.Prelude.{◌≡◌, ◌≤◌, List, length, OnOk, OnErr};
 ghost use Rattle.sg_base.specs.Ends.{HasRisen, Takes, TakesFront};
-ghost use Rattle.sg_words.specs.Answered.{shown_answer};
+ghost use Rattle.sg_words.specs.Answered.{shown_answer, line_of};
 ghost use Rattle.sg_words.specs.Answers.{text_of};
 
 use crate::reply::{reason_text, write_reply};
@@ -43,6 +43,40 @@ pub enum Answer {
     Names(Vec<Name>),
 }
 
+// The line of an answer that has the same line each time, with its LF; of others nothing.
+fn line_of(answer: &Answer) -> &'static [u8]
+    ensures { result.now ≡ line_of answer.now }
+{
+    match answer {
+        Answer::BadSyntax => b"error syntax\n",
+        Answer::Stopped => b"error stopped\n",
+        Answer::NoTransaction => b"error no-transaction\n",
+        Answer::IsLive => b"error live\n",
+        Answer::TooManyLive => b"error too-many-live\n",
+        Answer::LocksFull => b"error locks-full\n",
+        Answer::Refused(reason) => reason_text(*reason),
+        Answer::LogEnd => b"error log-end\n",
+        Answer::Memory => b"error memory\n",
+        Answer::Disk => b"error disk\n",
+        Answer::Silent | Answer::Busy(_) | Answer::Said(_) | Answer::Keys(_) | Answer::Names(_) =>
+            b"",
+    }
+}
+
+// Writes a line in one call of the sink, and nothing where there is none.
+fn write_line<K: Sink>(line: &[u8], out: &mut K) -> Result<(), Failed>
+    ensures took { OnOk result (Takes (K.taken out.old) line.now (K.taken out.new)) }
+    ensures cut { OnErr result (TakesFront (K.taken out.old) line.now (K.taken out.new)) }
+    ensures later { K.faults out.old ≤ K.faults out.new }
+    ensures quiet { OnOk result (K.faults out.new ≡ K.faults out.old) }
+    ensures failed { OnErr result (HasRisen (K.faults out.old) (K.faults out.new)) }
+{
+    if line.is_empty() {
+        return Ok(());
+    }
+    out.write(line)
+}
+
 /// Writes the reply line with its LF, `bytes` having the bytes of a reply at their front. A silent
 /// answer writes nothing. Keys and names may take several calls of the sink, and each other line is
 /// handed to it in one. Where the sink fails, it took a front of the line.
@@ -55,20 +89,10 @@ pub fn write_answer<K: Sink>(answer: &Answer, bytes: &[u8], out: &mut K) -> Resu
     ensures failed { OnErr result (HasRisen (K.faults out.old) (K.faults out.new)) }
 {
     match answer {
-        Answer::Silent => Ok(()),
-        Answer::BadSyntax => out.write(b"error syntax\n"),
-        Answer::Stopped => out.write(b"error stopped\n"),
-        Answer::NoTransaction => out.write(b"error no-transaction\n"),
-        Answer::IsLive => out.write(b"error live\n"),
-        Answer::TooManyLive => out.write(b"error too-many-live\n"),
-        Answer::Busy(name) => write_busy(name.text(), out),
-        Answer::LocksFull => out.write(b"error locks-full\n"),
-        Answer::Refused(reason) => out.write(reason_text(*reason)),
-        Answer::LogEnd => out.write(b"error log-end\n"),
-        Answer::Memory => out.write(b"error memory\n"),
-        Answer::Disk => out.write(b"error disk\n"),
         Answer::Said(reply) => write_reply(reply, bytes, out),
+        Answer::Busy(name) => write_busy(name.text(), out),
         Answer::Keys(keys) => write_words(keys.as_slice(), out),
         Answer::Names(names) => write_words(names.as_slice(), out),
+        _ => write_line(line_of(answer), out),
     }
 }

@@ -2,10 +2,10 @@ ghost use Rattle.std.specs.Prelude.{◌≡◌, ◌+◌, ◌*◌, ◌≤◌, ◌<
 ghost use Rattle.sg_base.specs.Ends.{HasRisen, Takes, TakesFront};
 ghost use Rattle.sg_model.specs.SaidReplies.{said_reply};
 ghost use Rattle.sg_words.specs.Answers.{text_of_reply};
-ghost use Rattle.sg_words.specs.Text.{prints_plain, printed, text_of_reason};
+ghost use Rattle.sg_words.specs.Text.{printed, text_of_reason};
 
 use crate::buffer::{append, append_hex};
-use crate::value::are_plain;
+use crate::value::prints_plain;
 use itoa::Buffer;
 use sg_base::{Failed, Sink};
 use sg_model::{Reason, Reply};
@@ -15,16 +15,6 @@ const MOST_BYTES: usize = 8192;
 
 /// The most bytes of a value that the small buffer takes.
 const FEW_BYTES: usize = 256;
-
-/// Whether bytes are printed as themselves.
-pub fn prints_plain(bytes: &[u8]) -> bool
-    ensures { result ≡ prints_plain bytes.now }
-{
-    if let [b'x', b':', ..] = bytes {
-        return false;
-    }
-    !bytes.is_empty() && are_plain(bytes)
-}
 
 // Puts bytes as they are printed at `at` of a buffer, and gives their end.
 fn print(into: &mut [u8], at: usize, bytes: &[u8]) -> usize
@@ -67,6 +57,7 @@ fn put_reply(into: &mut [u8], reply: &Reply, value: &[u8]) -> usize
 }
 
 /// Puts `ok`, a space and a number at the front of a buffer, and gives their end.
+#[inline]
 pub fn put_count(into: &mut [u8], n: u64) -> usize
     requires { 64 ≤ length into.old }
     ensures end { result ≤ 43 }
@@ -111,6 +102,19 @@ fn write_by<const N: usize, K: Sink>(reply: &Reply, value: &[u8], out: &mut K) -
     out.write(&line[..end])
 }
 
+// Writes the line of a reply with a long value. Its buffer is large, so it has a frame of its own.
+#[inline(never)]
+fn write_long<K: Sink>(reply: &Reply, value: &[u8], out: &mut K) -> Result<(), Failed>
+    requires { length value.now ≤ 8192 }
+    ensures took { OnOk result (Takes (K.taken out.old) (text_of_reply (said_reply value.now reply.now)) (K.taken out.new)) }
+    ensures cut { OnErr result (TakesFront (K.taken out.old) (text_of_reply (said_reply value.now reply.now)) (K.taken out.new)) }
+    ensures later { K.faults out.old ≤ K.faults out.new }
+    ensures quiet { OnOk result (K.faults out.new ≡ K.faults out.old) }
+    ensures failed { OnErr result (HasRisen (K.faults out.old) (K.faults out.new)) }
+{
+    write_by::<16448, K>(reply, value, out)
+}
+
 /// Writes a reply's line with its LF, in one call of the sink. `bytes` has the bytes of an answer
 /// at its front. Where the sink fails, it took a front of the line.
 pub fn write_reply<K: Sink>(reply: &Reply, bytes: &[u8], out: &mut K) -> Result<(), Failed>
@@ -127,7 +131,7 @@ pub fn write_reply<K: Sink>(reply: &Reply, bytes: &[u8], out: &mut K) -> Result<
     } else if value.len() <= FEW_BYTES {
         write_by::<576, K>(reply, value, out)
     } else {
-        write_by::<16448, K>(reply, value, out)
+        write_long(reply, value, out)
     }
 }
 

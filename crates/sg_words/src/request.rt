@@ -1,15 +1,17 @@
 ghost use Rattle.std.specs.Prelude.{◌≡◌, ◌≤◌, length};
-ghost use Rattle.sg_model.specs.Verb.Op.{Names};
+ghost use Rattle.sg_model.specs.SaidOps.{said_op};
+ghost use Rattle.sg_model.specs.Verb.Op.{On};
 ghost use Rattle.sg_words.specs.Parse.{words_of};
-ghost use Rattle.sg_words.specs.Requested.{shown_option, shown_asked};
-ghost use Rattle.sg_words.specs.Requests.{make_array_of, make_table_of, make_blob_of, discard_of, pop_of, get_of, len_of, read_of, size_of, push_of, set_of, apply_of, put_of, del_of, find_of, write_of, paint_of, keys_of, make_of, alone, plain_request, valued_request, takes_value, either, asked_by, request_of, asked};
-ghost use Rattle.sg_words.specs.Requests.Request.{Begin, Commit, Abort, Do};
+ghost use Rattle.sg_words.specs.Requested.{shown, shown_option, shown_asked};
+ghost use Rattle.sg_words.specs.Requests.{put_of, make_of, plain_request, valued_request, either, request_of, asked};
+ghost use Rattle.sg_words.specs.Requests.Request.{Do};
+ghost use Rattle.sg_words.specs.Verbs.{of_alone, of_named, of_numbered, verb_on, verb_with};
 
-use crate::counted::{five_words, four_words, three_words, two_words};
-use crate::number::parse_number;
-use crate::split::{next_word, one_word, without_return};
+use crate::arguments::{number_if, one_value};
+use crate::split::{next_word, without_return};
 use crate::transaction::transaction;
 use crate::value;
+use crate::verb::{Alone, Named, Numbered, Plain, Valued, making_verb, plain_verb, valued_verb};
 use sg_base::Name;
 use sg_model::Op;
 
@@ -44,353 +46,177 @@ pub enum Asked<'a> {
     Of { name: Name, request: Request<'a> },
 }
 
-#[tactic(auto, using(crate::proofs::Counts::make_array_none))]
-fn make_array(rest: &[u8]) -> Option<Request<'_>>
-    ensures { shown_option result ≡ make_array_of (words_of rest.now) }
+// What a verb without words behind it asks for.
+fn alone(verb: Alone, rest: &[u8]) -> Option<Request<'_>>
+    ensures { shown_option result ≡ of_alone verb (words_of rest.now) }
 {
-    let (name, size) = two_words(rest)?;
-    let size = parse_number(size)?;
-    let name = Name::new(name)?;
-    Some(Request::Do(Op::MakeArray { name, size }))
+    if next_word(rest).is_some() {
+        return None;
+    }
+    Some(match verb {
+        Alone::Begin => Request::Begin,
+        Alone::Commit => Request::Commit,
+        Alone::Abort => Request::Abort,
+        Alone::List => Request::List,
+    })
 }
 
-#[tactic(auto, using(crate::proofs::Counts::make_table_none))]
-fn make_table(rest: &[u8]) -> Option<Request<'_>>
-    ensures { shown_option result ≡ make_table_of (words_of rest.now) }
+// The request that a verb on the object with this name makes of its numbers.
+fn request_on(verb: Named, name: Name, first: u64, second: u64) -> Request<'static>
+    ensures { shown result ≡ Do (On name (verb_on verb first second)) }
 {
-    let name = one_word(rest)?;
-    let name = Name::new(name)?;
-    Some(Request::Do(Op::MakeTable { name }))
+    Request::Do(match verb {
+        Named::MakeArray => Op::MakeArray { name, size: first },
+        Named::MakeTable => Op::MakeTable { name },
+        Named::MakeBlob => Op::MakeBlob { name },
+        Named::Discard => Op::Discard { name },
+        Named::Pop => Op::Pop { name },
+        Named::Get => Op::Get { name, index: first },
+        Named::Len => Op::Len { name },
+        Named::Read => Op::Read {
+            name,
+            at: first,
+            count: second,
+        },
+        Named::Size => Op::Size {
+            name,
+            length: first,
+        },
+        Named::Keys => return Request::Keys(name),
+    })
 }
 
-#[tactic(auto, using(crate::proofs::Counts::make_blob_none))]
-fn make_blob(rest: &[u8]) -> Option<Request<'_>>
-    ensures { shown_option result ≡ make_blob_of (words_of rest.now) }
+// What a verb on the object with a name asks for.
+#[inline(never)]
+#[tactic(auto, using(crate::proofs::Counts::named_words, crate::proofs::Counts::named_none))]
+fn on_name(verb: Named, rest: &[u8]) -> Option<Request<'_>>
+    ensures { shown_option result ≡ of_named verb (words_of rest.now) }
 {
-    let name = one_word(rest)?;
+    let (name, rest) = next_word(rest)?;
+    let (first, rest) = number_if(verb.has_number(), rest)?;
+    let (second, rest) = number_if(verb.has_two(), rest)?;
+    if next_word(rest).is_some() {
+        return None;
+    }
     let name = Name::new(name)?;
-    Some(Request::Do(Op::MakeBlob { name }))
+    Some(request_on(verb, name, first, second))
 }
 
-#[tactic(auto, using(crate::proofs::Counts::discard_none))]
-fn discard(rest: &[u8]) -> Option<Request<'_>>
-    ensures { shown_option result ≡ discard_of (words_of rest.now) }
-{
-    let name = one_word(rest)?;
-    let name = Name::new(name)?;
-    Some(Request::Do(Op::Discard { name }))
-}
-
-#[tactic(auto, using(crate::proofs::Counts::pop_none))]
-fn pop(rest: &[u8]) -> Option<Request<'_>>
-    ensures { shown_option result ≡ pop_of (words_of rest.now) }
-{
-    let name = one_word(rest)?;
-    let name = Name::new(name)?;
-    Some(Request::Do(Op::Pop { name }))
-}
-
-#[tactic(auto, using(crate::proofs::Counts::get_none))]
-fn get(rest: &[u8]) -> Option<Request<'_>>
-    ensures { shown_option result ≡ get_of (words_of rest.now) }
-{
-    let (name, index) = two_words(rest)?;
-    let index = parse_number(index)?;
-    let name = Name::new(name)?;
-    Some(Request::Do(Op::Get { name, index }))
-}
-
-#[tactic(auto, using(crate::proofs::Counts::len_none))]
-fn len(rest: &[u8]) -> Option<Request<'_>>
-    ensures { shown_option result ≡ len_of (words_of rest.now) }
-{
-    let name = one_word(rest)?;
-    let name = Name::new(name)?;
-    Some(Request::Do(Op::Len { name }))
-}
-
-#[tactic(auto, using(crate::proofs::Counts::read_none))]
-fn read(rest: &[u8]) -> Option<Request<'_>>
-    ensures { shown_option result ≡ read_of (words_of rest.now) }
-{
-    let (name, at, count) = three_words(rest)?;
-    let at = parse_number(at)?;
-    let count = parse_number(count)?;
-    let name = Name::new(name)?;
-    Some(Request::Do(Op::Read { name, at, count }))
-}
-
-#[tactic(auto, using(crate::proofs::Counts::size_none))]
-fn size(rest: &[u8]) -> Option<Request<'_>>
-    ensures { shown_option result ≡ size_of (words_of rest.now) }
-{
-    let (name, length) = two_words(rest)?;
-    let length = parse_number(length)?;
-    let name = Name::new(name)?;
-    Some(Request::Do(Op::Size { name, length }))
-}
-
-#[tactic(auto, using(crate::proofs::Counts::push_none))]
-fn push<'a>(rest: &'a [u8], scratch: &'a mut [u8]) -> Option<Request<'a>>
-    requires { length rest.now ≤ length scratch.old }
-    ensures { shown_option result ≡ push_of (words_of rest.now) }
-{
-    let (name, value) = two_words(rest)?;
-    let value = value::value(value, scratch)?;
-    let name = Name::new(name)?;
-    Some(Request::Do(Op::Push { name, value }))
-}
-
-#[tactic(auto, using(crate::proofs::Counts::set_none))]
-fn set<'a>(rest: &'a [u8], scratch: &'a mut [u8]) -> Option<Request<'a>>
-    requires { length rest.now ≤ length scratch.old }
-    ensures { shown_option result ≡ set_of (words_of rest.now) }
-{
-    let (name, index, value) = three_words(rest)?;
-    let index = parse_number(index)?;
-    let value = value::value(value, scratch)?;
-    let name = Name::new(name)?;
-    Some(Request::Do(Op::Set { name, index, value }))
-}
-
-#[tactic(auto, using(crate::proofs::Counts::apply_none))]
-fn apply<'a>(rest: &'a [u8], scratch: &'a mut [u8]) -> Option<Request<'a>>
-    requires { length rest.now ≤ length scratch.old }
-    ensures { shown_option result ≡ apply_of (words_of rest.now) }
-{
-    let (name, index, code, arg) = four_words(rest)?;
-    let index = parse_number(index)?;
-    let code = parse_number(code)?;
-    let arg = value::value(arg, scratch)?;
-    let name = Name::new(name)?;
-    Some(Request::Do(Op::Apply {
-        name,
-        index,
-        code,
-        arg,
-    }))
-}
-
-#[tactic(auto, using(crate::proofs::Counts::put_none))]
-fn put<'a>(rest: &'a [u8], scratch: &'a mut [u8]) -> Option<Request<'a>>
-    requires { length rest.now ≤ length scratch.old }
-    ensures { shown_option result ≡ put_of (words_of rest.now) }
-{
-    let (name, key, value) = three_words(rest)?;
-    let (first, second) = scratch.split_at_mut(key.len());
-    let key = value::value(key, first)?;
-    let value = value::value(value, second)?;
-    let name = Name::new(name)?;
-    Some(Request::Do(Op::Put { name, key, value }))
-}
-
-#[tactic(auto, using(crate::proofs::Counts::del_none))]
-fn del<'a>(rest: &'a [u8], scratch: &'a mut [u8]) -> Option<Request<'a>>
-    requires { length rest.now ≤ length scratch.old }
-    ensures { shown_option result ≡ del_of (words_of rest.now) }
-{
-    let (name, key) = two_words(rest)?;
-    let key = value::value(key, scratch)?;
-    let name = Name::new(name)?;
-    Some(Request::Do(Op::Del { name, key }))
-}
-
-#[tactic(auto, using(crate::proofs::Counts::find_none))]
-fn find<'a>(rest: &'a [u8], scratch: &'a mut [u8]) -> Option<Request<'a>>
-    requires { length rest.now ≤ length scratch.old }
-    ensures { shown_option result ≡ find_of (words_of rest.now) }
-{
-    let (name, key) = two_words(rest)?;
-    let key = value::value(key, scratch)?;
-    let name = Name::new(name)?;
-    Some(Request::Do(Op::Find { name, key }))
-}
-
-#[tactic(auto, using(crate::proofs::Counts::write_none))]
-fn write<'a>(rest: &'a [u8], scratch: &'a mut [u8]) -> Option<Request<'a>>
-    requires { length rest.now ≤ length scratch.old }
-    ensures { shown_option result ≡ write_of (words_of rest.now) }
-{
-    let (name, at, bytes) = three_words(rest)?;
-    let at = parse_number(at)?;
-    let bytes = value::value(bytes, scratch)?;
-    let name = Name::new(name)?;
-    Some(Request::Do(Op::Write { name, at, bytes }))
-}
-
-#[tactic(auto, using(crate::proofs::Counts::paint_none))]
-fn paint<'a>(rest: &'a [u8], scratch: &'a mut [u8]) -> Option<Request<'a>>
-    requires { length rest.now ≤ length scratch.old }
-    ensures { shown_option result ≡ paint_of (words_of rest.now) }
-{
-    let (name, at, count, code, arg) = five_words(rest)?;
-    let at = parse_number(at)?;
-    let count = parse_number(count)?;
-    let code = parse_number(code)?;
-    let arg = value::value(arg, scratch)?;
-    let name = Name::new(name)?;
-    Some(Request::Do(Op::Paint {
-        name,
-        at,
-        count,
-        code,
-        arg,
-    }))
-}
-
-#[tactic(auto, using(crate::proofs::Counts::keys_none))]
-fn keys(rest: &[u8]) -> Option<Request<'_>>
-    ensures { shown_option result ≡ keys_of (words_of rest.now) }
-{
-    let name = one_word(rest)?;
-    let name = Name::new(name)?;
-    Some(Request::Keys(name))
-}
-
+// What is made.
 fn make(rest: &[u8]) -> Option<Request<'_>>
     ensures { shown_option result ≡ make_of (words_of rest.now) }
 {
     let (kind, rest) = next_word(rest)?;
-    if kind == b"array".as_slice() {
-        make_array(rest)
-    } else if kind == b"table".as_slice() {
-        make_table(rest)
-    } else if kind == b"blob".as_slice() {
-        make_blob(rest)
-    } else {
-        None
-    }
+    let verb = making_verb(kind)?;
+    on_name(verb, rest)
 }
 
-fn begin(rest: &[u8]) -> Option<Request<'_>>
-    ensures { shown_option result ≡ alone Begin (words_of rest.now) }
-{
-    match next_word(rest) {
-        None => Some(Request::Begin),
-        Some(_) => None,
-    }
-}
-
-fn commit(rest: &[u8]) -> Option<Request<'_>>
-    ensures { shown_option result ≡ alone Commit (words_of rest.now) }
-{
-    match next_word(rest) {
-        None => Some(Request::Commit),
-        Some(_) => None,
-    }
-}
-
-fn abort(rest: &[u8]) -> Option<Request<'_>>
-    ensures { shown_option result ≡ alone Abort (words_of rest.now) }
-{
-    match next_word(rest) {
-        None => Some(Request::Abort),
-        Some(_) => None,
-    }
-}
-
-fn list(rest: &[u8]) -> Option<Request<'_>>
-    ensures { shown_option result ≡ alone (Do Names) (words_of rest.now) }
-{
-    match next_word(rest) {
-        None => Some(Request::List),
-        Some(_) => None,
-    }
-}
-
-// What a verb with a value among its words asks for.
-#[tactic(auto, unfolding(crate::specs::Requests::valued_request))]
-fn valued_request<'a>(word: &[u8], rest: &'a [u8], scratch: &'a mut [u8]) -> Option<Request<'a>>
-    requires { length rest.now ≤ length scratch.old }
-    ensures { shown_option result ≡ valued_request word.now (words_of rest.now) }
-{
-    if word == b"push".as_slice() {
-        push(rest, scratch)
-    } else if word == b"set".as_slice() {
-        set(rest, scratch)
-    } else if word == b"apply".as_slice() {
-        apply(rest, scratch)
-    } else if word == b"put".as_slice() {
-        put(rest, scratch)
-    } else if word == b"del".as_slice() {
-        del(rest, scratch)
-    } else if word == b"find".as_slice() {
-        find(rest, scratch)
-    } else if word == b"write".as_slice() {
-        write(rest, scratch)
-    } else if word == b"paint".as_slice() {
-        paint(rest, scratch)
-    } else {
-        None
-    }
-}
-
-// What another verb asks for.
-#[tactic(auto, unfolding(crate::specs::Requests::plain_request))]
+// What a verb without a value asks for.
+#[inline(never)]
 fn plain_request<'a>(word: &[u8], rest: &'a [u8]) -> Option<Request<'a>>
     ensures { shown_option result ≡ plain_request word.now (words_of rest.now) }
 {
-    if word == b"begin".as_slice() {
-        begin(rest)
-    } else if word == b"commit".as_slice() {
-        commit(rest)
-    } else if word == b"abort".as_slice() {
-        abort(rest)
-    } else if word == b"make".as_slice() {
-        make(rest)
-    } else if word == b"drop".as_slice() {
-        discard(rest)
-    } else if word == b"pop".as_slice() {
-        pop(rest)
-    } else if word == b"get".as_slice() {
-        get(rest)
-    } else if word == b"len".as_slice() {
-        len(rest)
-    } else if word == b"read".as_slice() {
-        read(rest)
-    } else if word == b"size".as_slice() {
-        size(rest)
-    } else if word == b"keys".as_slice() {
-        keys(rest)
-    } else if word == b"list".as_slice() {
-        list(rest)
-    } else {
-        None
+    match plain_verb(word)? {
+        Plain::Alone(verb) => alone(verb, rest),
+        Plain::Make => make(rest),
+        Plain::On(verb) => on_name(verb, rest),
     }
 }
 
-// Whether a verb has a value among its words.
-fn takes_value(word: &[u8]) -> bool
-    ensures { result ≡ takes_value word.now }
+// The operation that a verb with a value makes of its numbers.
+fn op_with<'a>(verb: Numbered, name: Name, numbers: (u64, u64, u64), value: &'a [u8]) -> Op<'a>
+    ensures { said_op result ≡ On name (verb_with verb numbers.0 numbers.1 numbers.2 value.now) }
 {
-    word == b"push".as_slice()
-        || word == b"set".as_slice()
-        || word == b"apply".as_slice()
-        || word == b"put".as_slice()
-        || word == b"del".as_slice()
-        || word == b"find".as_slice()
-        || word == b"write".as_slice()
-        || word == b"paint".as_slice()
+    let (first, second, third) = numbers;
+    match verb {
+        Numbered::Push => Op::Push { name, value },
+        Numbered::Set => Op::Set {
+            name,
+            index: first,
+            value,
+        },
+        Numbered::Apply => Op::Apply {
+            name,
+            index: first,
+            code: second,
+            arg: value,
+        },
+        Numbered::Del => Op::Del { name, key: value },
+        Numbered::Find => Op::Find { name, key: value },
+        Numbered::Write => Op::Write {
+            name,
+            at: first,
+            bytes: value,
+        },
+        Numbered::Paint => Op::Paint {
+            name,
+            at: first,
+            count: second,
+            code: third,
+            arg: value,
+        },
+    }
+}
+
+// What a verb with a value at its end asks for.
+#[tactic(auto, using(crate::proofs::Counts::numbered_words, crate::proofs::Counts::numbered_none))]
+fn with_value<'a>(verb: Numbered, rest: &'a [u8], scratch: &'a mut [u8]) -> Option<Request<'a>>
+    requires { length rest.now ≤ length scratch.old }
+    ensures { shown_option result ≡ of_numbered verb (words_of rest.now) }
+{
+    let (name, rest) = next_word(rest)?;
+    let (first, rest) = number_if(verb.wants_one(), rest)?;
+    let (second, rest) = number_if(verb.wants_two(), rest)?;
+    let (third, rest) = number_if(verb.wants_three(), rest)?;
+    let value = one_value(rest, scratch)?;
+    let name = Name::new(name)?;
+    Some(Request::Do(op_with(verb, name, (first, second, third), value)))
+}
+
+// What is put.
+#[inline(never)]
+#[tactic(auto, using(crate::proofs::Counts::put_words))]
+fn put<'a>(rest: &'a [u8], scratch: &'a mut [u8]) -> Option<Request<'a>>
+    requires { length rest.now ≤ length scratch.old }
+    ensures { shown_option result ≡ put_of (words_of rest.now) }
+{
+    let (name, rest) = next_word(rest)?;
+    let (key, rest) = next_word(rest)?;
+    let (first, second) = scratch.split_at_mut(key.len());
+    let key = value::value(key, first)?;
+    let value = one_value(rest, second)?;
+    let name = Name::new(name)?;
+    Some(Request::Do(Op::Put { name, key, value }))
 }
 
 // What a verb and the words after it ask for.
+#[inline(never)]
 #[tactic(auto, using(crate::proofs::Verbs::by_value, crate::proofs::Verbs::by_none))]
 fn read_request<'a>(word: &[u8], rest: &'a [u8], scratch: &'a mut [u8]) -> Option<Request<'a>>
     requires { length rest.now ≤ length scratch.old }
     ensures { shown_option result ≡ either (plain_request word.now (words_of rest.now)) (valued_request word.now (words_of rest.now)) }
 {
-    if takes_value(word) {
-        valued_request(word, rest, scratch)
-    } else {
-        plain_request(word, rest)
+    match valued_verb(word) {
+        Some(Valued::With(verb)) => with_value(verb, rest, scratch),
+        Some(Valued::Put) => put(rest, scratch),
+        None => plain_request(word, rest),
     }
 }
 
-fn asked_by<'a>(line: &'a [u8], scratch: &'a mut [u8]) -> Asked<'a>
-    requires { length line.now ≤ length scratch.old }
-    ensures { shown_asked result ≡ asked_by (words_of line.now) }
+/// What a line without its LF asks for. `scratch` takes the bytes of values in hexadecimal digits.
+#[inline(never)]
+#[tactic(auto, unfolding(crate::specs::Requests::asked))]
+pub fn parse_request<'a>(text: &'a [u8], scratch: &'a mut [u8]) -> Asked<'a>
+    requires { 32768 ≤ length scratch.old }
+    ensures { shown_asked result ≡ asked text.now }
 {
-    let Some((name, rest)) = next_word(line) else {
+    if text.len() > MOST_LINE_BYTES {
+        return Asked::Wrong;
+    }
+    if let [b'#', ..] = text {
+        return Asked::Blank;
+    }
+    let Some((name, rest)) = next_word(without_return(text)) else {
         return Asked::Blank;
     };
     let Some((word, rest)) = next_word(rest) else {
@@ -403,21 +229,6 @@ fn asked_by<'a>(line: &'a [u8], scratch: &'a mut [u8]) -> Asked<'a>
         Some(request) => Asked::Of { name, request },
         None => Asked::Wrong,
     }
-}
-
-/// What a line without its LF asks for. `scratch` takes the bytes of values in hexadecimal digits.
-#[tactic(auto, unfolding(crate::specs::Requests::asked))]
-pub fn parse_request<'a>(text: &'a [u8], scratch: &'a mut [u8]) -> Asked<'a>
-    requires { 32768 ≤ length scratch.old }
-    ensures { shown_asked result ≡ asked text.now }
-{
-    if text.len() > MOST_LINE_BYTES {
-        return Asked::Wrong;
-    }
-    if let [b'#', ..] = text {
-        return Asked::Blank;
-    }
-    asked_by(without_return(text), scratch)
 }
 
 /// What the words kept of a line ask for, with every verb: a verb and its arguments. `scratch` takes

@@ -6,7 +6,8 @@ ghost use Rattle.sg_words.specs.Text.{printed};
 ghost use Rattle.sg_words.specs.Waiting.{Passes};
 
 use crate::buffer::{append, append_hex};
-use crate::reply::{prints_plain, put_count};
+use crate::reply::put_count;
+use crate::value::prints_plain;
 use sg_base::{Failed, Name, Sink};
 use sg_model::Key;
 
@@ -152,6 +153,7 @@ fn finish<K: Sink>(waiting: &mut [u8], end: usize, out: &mut K) -> Result<(), Fa
 
 /// Writes the line that says how many words there are, and the words as they are printed. It makes
 /// as few calls of the sink as its buffer allows. Where the sink fails, it took a front of the line.
+#[inline(never)]
 pub fn write_words<W: Word, K: Sink>(words: &[W], out: &mut K) -> Result<(), Failed>
     ensures took { OnOk result (Takes (K.taken out.old) (text_of_words W.bytes_of words.now) (K.taken out.new)) }
     ensures cut { OnErr result (TakesFront (K.taken out.old) (text_of_words W.bytes_of words.now) (K.taken out.new)) }
@@ -172,6 +174,7 @@ pub fn write_words<W: Word, K: Sink>(words: &[W], out: &mut K) -> Result<(), Fai
 
 /// Writes the line that names a transaction which holds what another would touch, in one call of the
 /// sink where the name has at most 58 bytes. Where the sink fails, it took a front of the line.
+#[inline(never)]
 pub fn write_busy<K: Sink>(name: &[u8], out: &mut K) -> Result<(), Failed>
     ensures took { OnOk result (Takes (K.taken out.old) (codes "busy " ++ name.now ++ codes "\n") (K.taken out.new)) }
     ensures cut { OnErr result (TakesFront (K.taken out.old) (codes "busy " ++ name.now ++ codes "\n") (K.taken out.new)) }

@@ -2,6 +2,7 @@ ghost use Rattle.std.specs.Prelude.{◌≡◌, ◌*◌, ◌≤◌, ◌<◌, leng
 ghost use Rattle.std.specs.List.{list_all};
 ghost use Rattle.hex.specs.Hex.{decode_of};
 ghost use Rattle.sg_words.specs.Parse.{is_plain, if_decoded, value_of};
+ghost use Rattle.sg_words.specs.Text.{prints_plain};
 
 fn is_plain(b: u8) -> bool
     ensures { result ≡ is_plain b }
@@ -9,9 +10,9 @@ fn is_plain(b: u8) -> bool
     b >= 0x21 && b <= 0x7e
 }
 
-/// Whether all of the bytes stand for themselves. It looks at all of them, so that several can be
-/// looked at at once.
-pub fn are_plain(word: &[u8]) -> bool
+// Whether all of the bytes stand for themselves. It looks at all of them, so that several can be
+// looked at at once.
+fn are_plain(word: &[u8]) -> bool
     ensures { result ≡ list_all is_plain word.now }
 {
     let mut plain = true;
@@ -19,6 +20,16 @@ pub fn are_plain(word: &[u8]) -> bool
         plain &= is_plain(*b);
     }
     plain
+}
+
+/// Whether bytes are printed as themselves.
+pub fn prints_plain(bytes: &[u8]) -> bool
+    ensures { result ≡ prints_plain bytes.now }
+{
+    if let [b'x', b':', ..] = bytes {
+        return false;
+    }
+    !bytes.is_empty() && are_plain(bytes)
 }
 
 // The bytes of hexadecimal digits, put at the front of the scratch.
