@@ -224,6 +224,7 @@ impl Table {
     }
 
     // The last hold on the chain.
+    #[inline(always)]
     fn last(&self, chain: Chain) -> Option<usize>
         requires { IsChain chain }
         ensures { result ≡ last_place (is_on chain) (holds_of self.now.holds.items) }
@@ -236,6 +237,7 @@ impl Table {
     }
 
     // The hold before this one on the chain.
+    #[inline(always)]
     fn earlier(&self, chain: Chain, at: usize) -> Option<usize>
         requires within { at < length self.now.holds.items }
         requires on { (h : Hold) → is_on chain (shown_hold (slice_index_or self.now.holds.items at h)) ≡ true }
@@ -249,6 +251,7 @@ impl Table {
     }
 
     // The lesser of the number and the least transaction on the chain that is in the way of the touch.
+    #[inline(never)]
     fn least_along(&self, chain: Chain, t: TxnId, touch: &Touch, least: Option<u64>) -> Option<u64>
         requires { IsChain chain }
         ensures { result ≡ lesser_of least (least_of (λ h. is_on chain h && blocks t.0 (shown_touch touch.now) h) (holds_of self.now.holds.items)) }
@@ -262,11 +265,15 @@ impl Table {
         least
     }
 
-    // The same of the holds whose resource has the bucket.
+    // The same of the holds whose resource has the bucket: mostly there is none.
+    #[inline(always)]
     fn least_at(&self, bucket: usize, t: TxnId, touch: &Touch, least: Option<u64>) -> Option<u64>
         requires { bucket < 4096 }
         ensures { result ≡ lesser_of least (least_of (λ h. (resource_bucket h.touch.what == bucket) && blocks t.0 (shown_touch touch.now) h) (holds_of self.now.holds.items)) }
     {
+        if self.last(Chain::Resource(bucket)).is_none() {
+            return least;
+        }
         self.least_along(Chain::Resource(bucket), t, touch, least)
     }
 
@@ -280,6 +287,7 @@ impl Table {
 
     // The lesser of the number and the least transaction that is in the way of the touch. Only holds
     // on the chains that are walked here can be.
+    #[inline(always)]
     fn least_in_way(
         &self,
         buckets: Buckets,
@@ -327,6 +335,7 @@ impl Table {
     }
 
     // The first place that has the transaction's hold of the resource with these buckets.
+    #[inline(always)]
     fn place_of(&self, buckets: Buckets, t: TxnId, what: &Resource) -> Option<usize>
         requires { AreBucketsOf buckets (shown_resource what.now) }
         ensures { result ≡ first_place (is_pair same_resource t.0 (shown_resource what.now)) (holds_of self.now.holds.items) }
@@ -428,6 +437,7 @@ impl Table {
     }
 
     // A transaction asks for locks, of which it gets all or none.
+    #[inline(never)]
     fn lock_all(&mut self, finder: &mut Finder, t: TxnId, wanted: &[Touch]) -> LockAnswer
         ensures answer { result ≡ lock_answer t.0 (map shown_touch wanted.now) (holds_of self.old.holds.items) }
         ensures after { holds_of self.new.holds.items ≡ locks_after t.0 (map shown_touch wanted.now) (holds_of self.old.holds.items) }
