@@ -104,6 +104,17 @@ fn is_among(what: &Resource, touches: &[Touch]) -> bool
     false
 }
 
+// A hold of the touch.
+#[inline(always)]
+fn new_hold(t: TxnId, touch: &Touch) -> Hold
+    ensures { result ≡ record { transaction = t; touch = touch.now } }
+{
+    Hold {
+        transaction: t,
+        touch: *touch,
+    }
+}
+
 // The hold with one more touch of its resource.
 fn joined(hold: &Hold, touch: &Touch) -> Hold
     ensures { shown_hold result ≡ joined (shown_hold hold.now) (shown_touch touch.now) }
@@ -351,6 +362,7 @@ impl Table {
     }
 
     // The buckets of the resource, and the first place that has the transaction's hold of it.
+    #[inline(always)]
     fn spot(&self, finder: &mut Finder, t: TxnId, what: &Resource) -> Spot
         ensures buckets { AreBucketsOf result.buckets (shown_resource what.now) }
         ensures place { result.place ≡ first_place (is_pair same_resource t.0 (shown_resource what.now)) (holds_of self.now.holds.items) }
@@ -393,13 +405,8 @@ impl Table {
         ensures { holds_of self.new.holds.items ≡ hold_one same_resource t.0 (shown_touch touch.now) (holds_of self.old.holds.items) }
     {
         add_links(buckets, &mut self.by_resource, &mut self.by_name);
-        self.holds.push_reserved(Hold {
-            transaction: t,
-            touch: Touch {
-                what: touch.what,
-                write: touch.write,
-            },
-        });
+        let _what = &touch.what;
+        self.holds.push_reserved(new_hold(t, touch));
     }
 
     // The transaction's hold at this place is joined by a touch of its resource. Nobody is in the way.

@@ -35,14 +35,15 @@ pub struct Touch {
 
 impl Resource {
     /// Whether this resource and another are one.
+    #[inline(always)]
     pub fn is_same(&self, other: &Resource) -> bool
         ensures { result ≡ same_resource (shown_resource self.now) (shown_resource other.now) }
     {
         match (self, other) {
             (Resource::Name(m), Resource::Name(n)) => m == n,
             (Resource::Len(m), Resource::Len(n)) => m == n,
-            (Resource::Item(m, i), Resource::Item(n, j)) => m == n && i == j,
-            (Resource::Key(m, k), Resource::Key(n, l)) => m == n && k == l,
+            (Resource::Item(m, i), Resource::Item(n, j)) => i == j && m == n,
+            (Resource::Key(m, k), Resource::Key(n, l)) => k == l && m == n,
             (Resource::Body(m), Resource::Body(n)) => m == n,
             (Resource::Keys(m), Resource::Keys(n)) => m == n,
             (Resource::Names, Resource::Names) => true,
