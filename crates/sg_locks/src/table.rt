@@ -79,6 +79,7 @@ fn is_blocked(t: TxnId, touch: &Touch, hold: &Hold) -> bool
 }
 
 // Whether this is the transaction's hold of the resource.
+#[inline(always)]
 fn is_pair(t: TxnId, what: &Resource, hold: &Hold) -> bool
     ensures { result ≡ is_pair same_resource t.0 (shown_resource what.now) (shown_hold hold.now) }
 {
@@ -149,6 +150,7 @@ fn least_with(t: TxnId, touch: &Touch, hold: &Hold, least: Option<u64>) -> Optio
 }
 
 // This place, where it has the transaction's hold of the resource, and else the one that was found.
+#[inline(always)]
 fn place_with(
     t: TxnId,
     what: &Resource,
@@ -262,7 +264,7 @@ impl Table {
     }
 
     // The lesser of the number and the least transaction on the chain that is in the way of the touch.
-    #[inline(never)]
+    #[inline(always)]
     fn least_along(&self, chain: Chain, t: TxnId, touch: &Touch, least: Option<u64>) -> Option<u64>
         requires { IsChain chain }
         ensures { result ≡ lesser_of least (least_of (λ h. is_on chain h && blocks t.0 (shown_touch touch.now) h) (holds_of self.now.holds.items)) }
@@ -276,7 +278,16 @@ impl Table {
         least
     }
 
-    // The same of the holds whose resource has the bucket: mostly there is none.
+    // The same of the holds whose resource has the bucket.
+    #[inline(never)]
+    fn least_in(&self, bucket: usize, t: TxnId, touch: &Touch, least: Option<u64>) -> Option<u64>
+        requires { bucket < 4096 }
+        ensures { result ≡ lesser_of least (least_of (λ h. (resource_bucket h.touch.what == bucket) && blocks t.0 (shown_touch touch.now) h) (holds_of self.now.holds.items)) }
+    {
+        self.least_along(Chain::Resource(bucket), t, touch, least)
+    }
+
+    // The same: mostly no hold has the bucket, which costs no walk.
     #[inline(always)]
     fn least_at(&self, bucket: usize, t: TxnId, touch: &Touch, least: Option<u64>) -> Option<u64>
         requires { bucket < 4096 }
@@ -285,7 +296,7 @@ impl Table {
         if self.last(Chain::Resource(bucket)).is_none() {
             return least;
         }
-        self.least_along(Chain::Resource(bucket), t, touch, least)
+        self.least_in(bucket, t, touch, least)
     }
 
     // The same of the holds whose name has the bucket.
@@ -466,6 +477,7 @@ impl Table {
     }
 
     // A transaction asks for one lock, of which this is the spot.
+    #[inline(never)]
     fn lock_one(&mut self, spot: Spot, t: TxnId, touch: &Touch) -> LockAnswer
         requires { IsSpotOf spot t.0 (shown_touch touch.now) (holds_of self.old.holds.items) }
         ensures answer { result ≡ lock_answer t.0 (shown_touch touch.now ∷ []) (holds_of self.old.holds.items) }
@@ -483,6 +495,7 @@ impl Table {
 
     // The spot of a touch, unless the transaction holds what it is of already, to write it where the
     // touch does.
+    #[inline(always)]
     fn spot_to_hold(&self, finder: &mut Finder, t: TxnId, touch: &Touch) -> Option<Spot>
         ensures held { IfNone result (is_held t.0 (shown_touch touch.now) (holds_of self.now.holds.items) ≡ true) }
         ensures spot { IfSome result (λ s. IsSpotOf s t.0 (shown_touch touch.now) (holds_of self.now.holds.items)) }
