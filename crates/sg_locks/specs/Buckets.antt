@@ -18,8 +18,8 @@ mixed_all bucket ns = fold mixed bucket ns
 abbrev pub bucket_of : List ℕ → ℕ
 bucket_of name = mixed_all 0 name
 
--- the bucket of a region of the object whose name has this one: the last numbers are those of the parts that have none of their
--- own, so that no other item of an array before 4,089 falls into the bucket of its kind, its length or all of it
+-- the bucket of a region of the object whose name has this one: the last numbers are those of what has none of its own, so that
+-- none of the first 4,089 items of an array falls into the bucket of its kind, its length or all of it
 abbrev pub region_bucket : ℕ → Region → ℕ
 region_bucket bucket (Just (Item i)) = mixed bucket (i % 4096)
 region_bucket bucket (Just (Key k)) = mixed_all (mixed bucket 4089) k

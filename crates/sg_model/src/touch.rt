@@ -110,6 +110,7 @@ impl Touches {
     ghost use Rattle.sg_model.specs.TouchList.{shown_touches};
 
     /// No touches.
+    #[inline(always)]
     pub fn new() -> Touches
         ensures { shown_touches result ≡ [] }
     {
@@ -130,6 +131,7 @@ impl Touches {
     }
 
     /// Adds a touch, where there are fewer than three.
+    #[inline(always)]
     pub fn push(&mut self, touch: Touch)
         requires { length (shown_touches self.old) < MOST_TOUCHES }
         ensures { shown_touches self.new ≡ shown_touches self.old ++ shown_touch touch ∷ [] }
