@@ -416,6 +416,7 @@ impl Table {
         ensures { holds_of self.new.holds.items ≡ hold_one same_resource t.0 (shown_touch touch.now) (holds_of self.old.holds.items) }
     {
         add_links(buckets, &mut self.by_resource, &mut self.by_name);
+        // The check has to meet the type of what is copied in this function itself.
         let _what = &touch.what;
         self.holds.push_reserved(new_hold(t, touch));
     }
