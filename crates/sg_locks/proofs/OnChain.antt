@@ -1,7 +1,7 @@
 -- Walks along a chain of holds.
 use Rattle.std.proofs.Common.{◌≡◌, ℕ, zero, suc, ◌+◌, ◌-◌, ◌<◌, ◌≤◌, Bool, true, false, cond, List, [], ◌∷◌, map, length, take, get_or, Option, Some, None, refl, sym, ap, ◌∙◌, subst, arith}
 use Rattle.std.specs.Prelude.{◌&&◌, ◌==◌}
-use Rattle.std.specs.Option.{option_map, option_or, SomeIff}
+use Rattle.std.specs.Option.{option_map, option_or, SomeIff, is_some}
 use Rattle.std.proofs.lemmas.Bool.{eqb-true}
 use Rattle.std.proofs.lemmas.List.{length-map, get_or-map}
 use Rattle.sg_serial.specs.Locks.{Hold, lesser, is_pair}
@@ -111,6 +111,11 @@ module _ (chain : Chain) (items : List code.Hold) (from place : ℕ) (at : last_
       idle : (b : Bool) → (b ≡ true → ⊥) → cond {A = Option ℕ} b (Some 0) None ≡ None
       idle true h = absurd (h refl)
       idle false h = refl
+
+-- there is no last one
+pub no_last : (r : Option ℕ) → is_some r ≡ false → r ≡ None
+no_last None e = refl
+no_last (Some n) e = absurd (cc)
 
 -- where a walk ends there is nothing left
 module _ (chain : Chain) (hs : List (Hold Resource)) (at : last_place (is_on chain) hs ≡ None) where

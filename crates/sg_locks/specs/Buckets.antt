@@ -18,16 +18,17 @@ mixed_all bucket ns = fold mixed bucket ns
 abbrev pub bucket_of : List ℕ → ℕ
 bucket_of name = mixed_all 0 name
 
--- the bucket of a region of the object whose name has this one
+-- the bucket of a region of the object whose name has this one: the last numbers are those of what has none of its own, so that
+-- none of the first 4,089 items of an array falls into the bucket of its kind, its length or all of it
 abbrev pub region_bucket : ℕ → Region → ℕ
 region_bucket bucket (Just (Item i)) = mixed bucket (i % 4096)
-region_bucket bucket (Just (Key k)) = mixed_all (mixed bucket 1) k
-region_bucket bucket (Just Kind) = mixed bucket 2
-region_bucket bucket (Just Length) = mixed bucket 3
-region_bucket bucket (Just Body) = mixed bucket 4
-region_bucket bucket (Just (Buried r)) = mixed bucket 5
-region_bucket bucket EachKey = mixed bucket 6
-region_bucket bucket Everything = mixed bucket 7
+region_bucket bucket (Just (Key k)) = mixed_all (mixed bucket 4089) k
+region_bucket bucket (Just Kind) = mixed bucket 4090
+region_bucket bucket (Just Length) = mixed bucket 4091
+region_bucket bucket (Just Body) = mixed bucket 4092
+region_bucket bucket (Just (Buried r)) = mixed bucket 4093
+region_bucket bucket EachKey = mixed bucket 4094
+region_bucket bucket Everything = mixed bucket 4095
 
 -- the bucket of a resource, and that of the name which it is of
 abbrev pub resource_bucket : Resource → ℕ

@@ -28,6 +28,7 @@ fn mixed(bucket: usize, n: usize) -> usize
     (bucket * 31 + n) % BUCKETS
 }
 
+#[inline(never)]
 fn mixed_all(start: usize, bytes: &[u8]) -> usize
     requires { start < 4096 }
     ensures value { result ≡ mixed_all start bytes.now }
@@ -54,7 +55,7 @@ pub fn keys_bucket(name: usize) -> usize
     ensures value { result ≡ region_bucket name EachKey }
     ensures below { result < 4096 }
 {
-    mixed(name, 6)
+    mixed(name, 4094)
 }
 
 /// The bucket of all of the object whose name has this bucket.
@@ -63,10 +64,11 @@ pub fn whole_bucket(name: usize) -> usize
     ensures value { result ≡ region_bucket name Everything }
     ensures below { result < 4096 }
 {
-    mixed(name, 7)
+    mixed(name, 4095)
 }
 
 /// The bucket of a resource whose name has this bucket.
+#[inline(always)]
 pub fn resource_bucket(name: usize, what: &Resource) -> usize
     requires name { name ≡ name_bucket (shown_resource what.now) }
     requires below { name < 4096 }
@@ -75,10 +77,10 @@ pub fn resource_bucket(name: usize, what: &Resource) -> usize
 {
     match what {
         Resource::Item(_, index) => mixed(name, (*index % 4096) as usize),
-        Resource::Key(_, key) => mixed_all(mixed(name, 1), key.bytes()),
-        Resource::Name(_) => mixed(name, 2),
-        Resource::Len(_) => mixed(name, 3),
-        Resource::Body(_) => mixed(name, 4),
+        Resource::Key(_, key) => mixed_all(mixed(name, 4089), key.bytes()),
+        Resource::Name(_) => mixed(name, 4090),
+        Resource::Len(_) => mixed(name, 4091),
+        Resource::Body(_) => mixed(name, 4092),
         Resource::Keys(_) => keys_bucket(name),
         Resource::AllOf(_) => whole_bucket(name),
         Resource::Names => 0,

@@ -31,6 +31,7 @@ impl Finder {
 
     // The bucket of a name that isn't the last one.
     #[cold]
+    #[inline(never)]
     fn new_name(&mut self, name: &Name) -> usize
         ensures value { result ≡ bucket_of name.now }
         ensures below { result < 4096 }
@@ -44,6 +45,7 @@ impl Finder {
     }
 
     // The bucket of a name.
+    #[inline(always)]
     fn name_bucket(&mut self, name: &Name) -> usize
         ensures value { result ≡ bucket_of name.now }
         ensures below { result < 4096 }
@@ -55,6 +57,7 @@ impl Finder {
     }
 
     /// The buckets of a resource and of its name.
+    #[inline(always)]
     pub fn buckets(&mut self, what: &Resource) -> Buckets
         ensures { AreBucketsOf result (shown_resource what.now) }
     {

@@ -79,6 +79,7 @@ fn is_blocked(t: TxnId, touch: &Touch, hold: &Hold) -> bool
 }
 
 // Whether this is the transaction's hold of the resource.
+#[inline(always)]
 fn is_pair(t: TxnId, what: &Resource, hold: &Hold) -> bool
     ensures { result ≡ is_pair same_resource t.0 (shown_resource what.now) (shown_hold hold.now) }
 {
@@ -102,6 +103,17 @@ fn is_among(what: &Resource, touches: &[Touch]) -> bool
         }
     }
     false
+}
+
+// A hold of the touch.
+#[inline(always)]
+fn new_hold(t: TxnId, touch: &Touch) -> Hold
+    ensures { result ≡ record { transaction = t; touch = touch.now } }
+{
+    Hold {
+        transaction: t,
+        touch: *touch,
+    }
 }
 
 // The hold with one more touch of its resource.
@@ -138,6 +150,7 @@ fn least_with(t: TxnId, touch: &Touch, hold: &Hold, least: Option<u64>) -> Optio
 }
 
 // This place, where it has the transaction's hold of the resource, and else the one that was found.
+#[inline(always)]
 fn place_with(
     t: TxnId,
     what: &Resource,
@@ -224,6 +237,7 @@ impl Table {
     }
 
     // The last hold on the chain.
+    #[inline(always)]
     fn last(&self, chain: Chain) -> Option<usize>
         requires { IsChain chain }
         ensures { result ≡ last_place (is_on chain) (holds_of self.now.holds.items) }
@@ -236,6 +250,7 @@ impl Table {
     }
 
     // The hold before this one on the chain.
+    #[inline(always)]
     fn earlier(&self, chain: Chain, at: usize) -> Option<usize>
         requires within { at < length self.now.holds.items }
         requires on { (h : Hold) → is_on chain (shown_hold (slice_index_or self.now.holds.items at h)) ≡ true }
@@ -249,6 +264,7 @@ impl Table {
     }
 
     // The lesser of the number and the least transaction on the chain that is in the way of the touch.
+    #[inline(always)]
     fn least_along(&self, chain: Chain, t: TxnId, touch: &Touch, least: Option<u64>) -> Option<u64>
         requires { IsChain chain }
         ensures { result ≡ lesser_of least (least_of (λ h. is_on chain h && blocks t.0 (shown_touch touch.now) h) (holds_of self.now.holds.items)) }
@@ -263,11 +279,24 @@ impl Table {
     }
 
     // The same of the holds whose resource has the bucket.
-    fn least_at(&self, bucket: usize, t: TxnId, touch: &Touch, least: Option<u64>) -> Option<u64>
+    #[inline(never)]
+    fn least_in(&self, bucket: usize, t: TxnId, touch: &Touch, least: Option<u64>) -> Option<u64>
         requires { bucket < 4096 }
         ensures { result ≡ lesser_of least (least_of (λ h. (resource_bucket h.touch.what == bucket) && blocks t.0 (shown_touch touch.now) h) (holds_of self.now.holds.items)) }
     {
         self.least_along(Chain::Resource(bucket), t, touch, least)
+    }
+
+    // The same: mostly no hold has the bucket, which costs no walk.
+    #[inline(always)]
+    fn least_at(&self, bucket: usize, t: TxnId, touch: &Touch, least: Option<u64>) -> Option<u64>
+        requires { bucket < 4096 }
+        ensures { result ≡ lesser_of least (least_of (λ h. (resource_bucket h.touch.what == bucket) && blocks t.0 (shown_touch touch.now) h) (holds_of self.now.holds.items)) }
+    {
+        if self.last(Chain::Resource(bucket)).is_none() {
+            return least;
+        }
+        self.least_in(bucket, t, touch, least)
     }
 
     // The same of the holds whose name has the bucket.
@@ -280,6 +309,7 @@ impl Table {
 
     // The lesser of the number and the least transaction that is in the way of the touch. Only holds
     // on the chains that are walked here can be.
+    #[inline(always)]
     fn least_in_way(
         &self,
         buckets: Buckets,
@@ -327,6 +357,7 @@ impl Table {
     }
 
     // The first place that has the transaction's hold of the resource with these buckets.
+    #[inline(always)]
     fn place_of(&self, buckets: Buckets, t: TxnId, what: &Resource) -> Option<usize>
         requires { AreBucketsOf buckets (shown_resource what.now) }
         ensures { result ≡ first_place (is_pair same_resource t.0 (shown_resource what.now)) (holds_of self.now.holds.items) }
@@ -342,6 +373,7 @@ impl Table {
     }
 
     // The buckets of the resource, and the first place that has the transaction's hold of it.
+    #[inline(always)]
     fn spot(&self, finder: &mut Finder, t: TxnId, what: &Resource) -> Spot
         ensures buckets { AreBucketsOf result.buckets (shown_resource what.now) }
         ensures place { result.place ≡ first_place (is_pair same_resource t.0 (shown_resource what.now)) (holds_of self.now.holds.items) }
@@ -384,13 +416,9 @@ impl Table {
         ensures { holds_of self.new.holds.items ≡ hold_one same_resource t.0 (shown_touch touch.now) (holds_of self.old.holds.items) }
     {
         add_links(buckets, &mut self.by_resource, &mut self.by_name);
-        self.holds.push_reserved(Hold {
-            transaction: t,
-            touch: Touch {
-                what: touch.what,
-                write: touch.write,
-            },
-        });
+        // The check has to meet the type of what is copied in this function itself.
+        let _what = &touch.what;
+        self.holds.push_reserved(new_hold(t, touch));
     }
 
     // The transaction's hold at this place is joined by a touch of its resource. Nobody is in the way.
@@ -428,6 +456,7 @@ impl Table {
     }
 
     // A transaction asks for locks, of which it gets all or none.
+    #[inline(never)]
     fn lock_all(&mut self, finder: &mut Finder, t: TxnId, wanted: &[Touch]) -> LockAnswer
         ensures answer { result ≡ lock_answer t.0 (map shown_touch wanted.now) (holds_of self.old.holds.items) }
         ensures after { holds_of self.new.holds.items ≡ locks_after t.0 (map shown_touch wanted.now) (holds_of self.old.holds.items) }
@@ -449,6 +478,7 @@ impl Table {
     }
 
     // A transaction asks for one lock, of which this is the spot.
+    #[inline(never)]
     fn lock_one(&mut self, spot: Spot, t: TxnId, touch: &Touch) -> LockAnswer
         requires { IsSpotOf spot t.0 (shown_touch touch.now) (holds_of self.old.holds.items) }
         ensures answer { result ≡ lock_answer t.0 (shown_touch touch.now ∷ []) (holds_of self.old.holds.items) }
@@ -466,6 +496,7 @@ impl Table {
 
     // The spot of a touch, unless the transaction holds what it is of already, to write it where the
     // touch does.
+    #[inline(always)]
     fn spot_to_hold(&self, finder: &mut Finder, t: TxnId, touch: &Touch) -> Option<Spot>
         ensures held { IfNone result (is_held t.0 (shown_touch touch.now) (holds_of self.now.holds.items) ≡ true) }
         ensures spot { IfSome result (λ s. IsSpotOf s t.0 (shown_touch touch.now) (holds_of self.now.holds.items)) }

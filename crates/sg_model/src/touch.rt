@@ -35,14 +35,15 @@ pub struct Touch {
 
 impl Resource {
     /// Whether this resource and another are one.
+    #[inline(never)]
     pub fn is_same(&self, other: &Resource) -> bool
         ensures { result ≡ same_resource (shown_resource self.now) (shown_resource other.now) }
     {
         match (self, other) {
             (Resource::Name(m), Resource::Name(n)) => m == n,
             (Resource::Len(m), Resource::Len(n)) => m == n,
-            (Resource::Item(m, i), Resource::Item(n, j)) => m == n && i == j,
-            (Resource::Key(m, k), Resource::Key(n, l)) => m == n && k == l,
+            (Resource::Item(m, i), Resource::Item(n, j)) => i == j && m == n,
+            (Resource::Key(m, k), Resource::Key(n, l)) => k == l && m == n,
             (Resource::Body(m), Resource::Body(n)) => m == n,
             (Resource::Keys(m), Resource::Keys(n)) => m == n,
             (Resource::Names, Resource::Names) => true,
@@ -109,6 +110,7 @@ impl Touches {
     ghost use Rattle.sg_model.specs.TouchList.{shown_touches};
 
     /// No touches.
+    #[inline(always)]
     pub fn new() -> Touches
         ensures { shown_touches result ≡ [] }
     {
@@ -129,6 +131,7 @@ impl Touches {
     }
 
     /// Adds a touch, where there are fewer than three.
+    #[inline(always)]
     pub fn push(&mut self, touch: Touch)
         requires { length (shown_touches self.old) < MOST_TOUCHES }
         ensures { shown_touches self.new ≡ shown_touches self.old ++ shown_touch touch ∷ [] }

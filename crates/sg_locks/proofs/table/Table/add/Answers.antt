@@ -14,7 +14,8 @@ pub returns : goal.returns
 returns c =
     let items = c.args.self.now.holds.items in
     let hold : code.Hold = record { transaction = c.args.t; touch = c.args.touch.now } in
-    ap (map shown_hold) c.push_reserved.ensures.items
+    let pushed = c.push_reserved.ensures.items ∙ ap (λ (h : code.Hold). items ++ h ∷ []) c.new_hold.ensures in
+    ap (map shown_hold) pushed
     ∙ (map-append shown_hold items (hold ∷ []) ∙ hold_last c.args.t.0 (shown_touch c.args.touch.now) (map shown_hold items) c.requires.place)
 
 pub invariant_of-self : goal.invariant_of-self
@@ -22,15 +23,16 @@ invariant_of-self c =
     let items = c.args.self.now.holds.items in
     let hs = map shown_hold items in
     let hold : code.Hold = record { transaction = c.args.t; touch = c.args.touch.now } in
-    let held = ap (map shown_hold) c.push_reserved.ensures.items ∙ (map-append shown_hold items (hold ∷ []) ∙ hold_last c.args.t.0 (shown_touch c.args.touch.now) hs c.requires.place) in
+    let pushed = c.push_reserved.ensures.items ∙ ap (λ (h : code.Hold). items ++ h ∷ []) c.new_hold.ensures in
+    let held = ap (map shown_hold) pushed ∙ (map-append shown_hold items (hold ∷ []) ∙ hold_last c.args.t.0 (shown_touch c.args.touch.now) hs c.requires.place) in
     record {
       room = omega (arith, c.args.self.now.room, c.push_reserved.ensures.capacity);
-      few = omega (arith, c.requires.room, ap length c.push_reserved.ensures.items, length-append {A = code.Hold});
+      few = omega (arith, c.requires.room, ap length pushed, length-append {A = code.Hold});
       resources =
           c.add_links.ensures.resources ∙ (ap (λ (bs : List ℕ). bs ++ c.args.buckets.resource ∷ []) c.args.self.now.resources ∙ (ap (λ n. map (λ h. resource_bucket h.touch.what) hs ++ n ∷ []) c.requires.buckets.1
-          ∙ (sym (more_buckets (λ h. resource_bucket h.touch.what) items hold) ∙ ap (λ xs. map (λ h. resource_bucket h.touch.what) (map shown_hold xs)) (sym c.push_reserved.ensures.items))));
+          ∙ (sym (more_buckets (λ h. resource_bucket h.touch.what) items hold) ∙ ap (λ xs. map (λ h. resource_bucket h.touch.what) (map shown_hold xs)) (sym pushed))));
       names =
           c.add_links.ensures.names ∙ (ap (λ (bs : List ℕ). bs ++ c.args.buckets.name ∷ []) c.args.self.now.names ∙ (ap (λ n. map (λ h. name_bucket h.touch.what) hs ++ n ∷ []) c.requires.buckets.0
-          ∙ (sym (more_buckets (λ h. name_bucket h.touch.what) items hold) ∙ ap (λ xs. map (λ h. name_bucket h.touch.what) (map shown_hold xs)) (sym c.push_reserved.ensures.items))));
+          ∙ (sym (more_buckets (λ h. name_bucket h.touch.what) items hold) ∙ ap (λ xs. map (λ h. name_bucket h.touch.what) (map shown_hold xs)) (sym pushed))));
       compatible = subst AreCompatible (sym held) (compatible_kept c.args.t.0 (shown_touch c.args.touch.now) hs c.args.self.now.compatible c.requires.clear);
     }
