@@ -1,12 +1,10 @@
 -- Words that stand joined.
-use Rattle.std.proofs.Common.{◌≡◌, ℕ, zero, suc, ◌+◌, ◌-◌, ◌<◌, ◌≤◌, Bool, true, false, cond, not, ◌==◌, List, [], ◌∷◌, length, take, drop, get_or, filter, Option, Some, None, refl, sym, ap, ◌∙◌, subst, arith}
+use Rattle.std.proofs.Common.{◌≡◌, ℕ, zero, suc, ◌-◌, ◌<◌, ◌≤◌, Bool, true, false, cond, not, ◌==◌, List, [], ◌∷◌, length, drop, get_or, filter, Option, Some, None, refl, sym, ap, ◌∙◌, subst, arith}
 use Rattle.std.specs.Prelude.{◌&&◌, ◌||◌}
 use Rattle.std.specs.List.{slice_split, onto_first, join_with_byte, list_all, position}
 use Rattle.std.specs.Option.{is_some}
 use Rattle.std.proofs.lemmas.Bool.{lt-ltb}
-use Rattle.std.proofs.Math.Bool.{or_assoc}
-use Rattle.std.proofs.Math.Seq.{take_all}
-use Rattle.std.proofs.lemmas.List.{length-drop, drop-drop}
+use Rattle.std.proofs.lemmas.List.{length-drop}
 use Rattle.std.proofs.lemmas.List.Splits.{join_with_byte-slice_split}
 use Rattle.sg_words.specs.Parse.{words_of, is_word}
 use Rattle.sg_words.specs.Spoken.{has_gap}
@@ -119,52 +117,3 @@ gap_end text before ok whole h was =
 pub one_part : (text : List ℕ) (at : Option ℕ) → at ≡ position (λ b. b == 32) text → is_some at ≡ false → 0 < length text → words_of text ≡ text ∷ []
 one_part text None e none some = ap (filter is_word) (split_none (λ b. b == 32) text (sym e)) ∙ ap (λ (b : Bool). cond {A = List (List ℕ)} b (text ∷ []) []) (lt-ltb 0 (length text) some)
 one_part text (Some i) e none some = absurd (cc)
-
--- a text has a gap where its front has one, or what begins with the front's last byte
-gap_cut : (text : List ℕ) (n : ℕ) → has_gap text ≡ (has_gap (take (suc n) text) || has_gap (drop n text))
-gap_cut [] zero = refl
-gap_cut [] (suc n) = refl
-gap_cut (b ∷ []) zero = refl
-gap_cut (b ∷ []) (suc zero) = refl
-gap_cut (b ∷ []) (suc (suc n)) = refl
-gap_cut (b ∷ c ∷ more) zero = refl
-gap_cut (b ∷ c ∷ more) (suc n) =
-    ap (λ (g : Bool). ((b == 32) && (c == 32)) || g) (gap_cut (c ∷ more) n) ∙ sym (or_assoc ((b == 32) && (c == 32)) (has_gap (c ∷ take n more)) (has_gap (drop n (c ∷ more))))
-
--- a block more has been looked at
-pub gap_block : (text : List ℕ) (at size : ℕ) → size ≡ 33 → (ok here whole : Bool) → here ≡ not (has_gap (take size (drop at text))) → (ok && not (has_gap (drop at text))) ≡ whole
-    → ((ok && here) && not (has_gap (drop (at + 32) text))) ≡ whole
-gap_block text at size e ok here whole is was =
-    ap (λ (h : Bool). (ok && h) && not (has_gap (drop (at + 32) text))) (is ∙ ap (λ k. not (has_gap (take k (drop at text)))) e)
-    ∙ (ap (λ (t : List ℕ). (ok && not (has_gap (take 33 (drop at text)))) && not (has_gap t)) (sym (drop-drop 32 at text))
-    ∙ (combine ok (has_gap (take 33 (drop at text))) (has_gap (drop 32 (drop at text)))
-    ∙ (ap (λ (g : Bool). ok && not g) (sym (gap_cut (drop at text) 32)) ∙ was)))
-  where
-    combine : (ok a b : Bool) → ((ok && not a) && not b) ≡ (ok && not (a || b))
-    combine false a b = refl
-    combine true true b = refl
-    combine true false b = refl
-
-gap_drop : (text : List ℕ) (n : ℕ) → has_gap (drop n text) ≡ true → has_gap text ≡ true
-gap_drop text n e = gap_cut text n ∙ (ap (λ (g : Bool). has_gap (take (suc n) text) || g) e ∙ or_true (has_gap (take (suc n) text)))
-  where
-    or_true : (b : Bool) → (b || true) ≡ true
-    or_true true = refl
-    or_true false = refl
-
--- the last bytes, of which some have been looked at before
-pub gap_last : (text : List ℕ) (at from size : ℕ) → from ≤ at → length text - from ≤ size → (ok here : Bool) → here ≡ not (has_gap (take size (drop from text))) → (ok && not (has_gap (drop at text))) ≡ not (has_gap text)
-    → (ok && here) ≡ not (has_gap text)
-gap_last text at from size le all ok here is was =
-    let last : here ≡ not (has_gap (drop from text)) = is ∙ ap (λ (t : List ℕ). not (has_gap t)) (take_all size (drop from text) (rw length-drop all)) in
-    ap (λ (h : Bool). ok && h) last
-    ∙ go ok (has_gap (drop at text)) (has_gap (drop from text)) (has_gap text)
-    (λ e. gap_drop (drop from text) (at - from) (ap has_gap (drop-drop (at - from) from text ∙ ap (λ k. drop k text) (let q : from + (at - from) ≡ at = omega arith in q)) ∙ e))
-    (λ e. gap_drop text from e)
-    was
-  where
-    go : (ok d l w : Bool) → (d ≡ true → l ≡ true) → (l ≡ true → w ≡ true) → (ok && not d) ≡ not w → (ok && not l) ≡ not w
-    go false d true w f g e = sym (ap not (g refl))
-    go true d true w f g e = sym (ap not (g refl))
-    go ok false false w f g e = e
-    go ok true false w f g e = absurd (cc (f refl))

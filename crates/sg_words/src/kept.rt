@@ -6,13 +6,9 @@ ghost use Rattle.sg_words.specs.Spoken.{has_gap, spoken};
 use crate::buffer::append;
 use crate::split::{next_word, without_return};
 
-/// How many bytes are looked at together, with one more behind them.
-const BLOCK: usize = 32;
-
-// Whether no two spaces stand side by side among few bytes. It looks at all of them, so that several
-// can be looked at at once.
-#[inline(always)]
-fn has_no_near_gap(text: &[u8]) -> bool
+// Whether no two spaces stand side by side. It looks at all bytes, so that several can be looked at at
+// once.
+fn has_no_gap(text: &[u8]) -> bool
     ensures { result ≡ not (has_gap text.now) }
 {
     let mut no_gap = true;
@@ -20,32 +16,6 @@ fn has_no_near_gap(text: &[u8]) -> bool
         no_gap &= (text[i - 1] != b' ') | (text[i] != b' ');
     }
     no_gap
-}
-
-// Whether no two spaces stand side by side among many bytes: in none of the blocks, nor in the last
-// bytes, which may be in two of them.
-fn has_no_far_gap(text: &[u8]) -> bool
-    requires { 33 ≤ length text.now }
-    ensures { result ≡ not (has_gap text.now) }
-{
-    let mut no_gap = true;
-    let mut at = 0;
-    'pieces: while text.len() - at > BLOCK {
-        no_gap &= has_no_near_gap(&text[at..at + BLOCK + 1]);
-        at += BLOCK;
-    }
-    no_gap & has_no_near_gap(&text[text.len() - BLOCK - 1..])
-}
-
-// Whether no two spaces stand side by side.
-fn has_no_gap(text: &[u8]) -> bool
-    ensures { result ≡ not (has_gap text.now) }
-{
-    if text.len() > BLOCK {
-        has_no_far_gap(text)
-    } else {
-        has_no_near_gap(text)
-    }
 }
 
 // Whether the words stand joined: with one space between each two, and none before the first or behind

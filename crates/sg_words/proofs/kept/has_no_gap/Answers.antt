@@ -1,7 +1,7 @@
 use Rattle.std.proofs.Common.{◌-◌, ◌+◌, not, arith}
 use Rattle.sg_words.specs.Spoken.{has_gap}
 use Rattle.sg_words.proofs.Joined.{gap_more, gap_end}
-use Rattle.sg_words.proofs.kept.has_no_near_gap.Goals as goal
+use Rattle.sg_words.proofs.kept.has_no_gap.Goals as goal
 
 pub loop-i-preserved : goal.loop-i-preserved
 loop-i-preserved c = record {
