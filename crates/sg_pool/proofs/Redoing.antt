@@ -74,7 +74,7 @@ marks_below v pool g tail backed logged b i marked = ⊎_elim
     not_both : false ≡ true → ⊥
     not_both e = cc
 
--- no unit's places are without records of the part, and the other way round
+-- A RUN, AND THEN ANOTHER, over places of other units
 module _ {U T : Type 0} (g : Geometry) (told : Bool) (t : Table) (text : List ℕ) (all a b : List Place) (parts : AreParts all a b) (v w z : View) (log log1 log2 : Tail) (p0 p1 p2 : Pool) (u : U) (r : Result T PoolFault)
     (first : IsRun {T = U} g told t text a v w log log1 p0 p1 (Ok u)) (second : IsRun g told t text b w z log1 log2 p1 p2 r) where
   area : log1.area ≡ log.area

@@ -122,7 +122,8 @@ impl Pool {
     /// the log, on all the pages and bands that they change, each unit's in their order. How many
     /// units these are isn't bounded by the frames: each comes into its frame or window as by `page`
     /// and `band`, and what has to make room goes home. The places are put in another order, by unit.
-    /// Each place is one step. No frame is lent at any return.
+    /// Each place is one step. No frame is lent at any return. A place at which no whole record stands
+    /// that changes a unit of its sort changes nothing.
     ///
     /// What is said of the moments of the call, and of the homes behind it, holds where the part is
     /// durable: where the log's buffer is empty and each record is below its gate, as at an opening.
