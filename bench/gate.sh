@@ -1,27 +1,22 @@
 #!/usr/bin/env bash
 # Measures what the merge gate takes, crate by crate, in minutes of processor, and writes a table in markdown.
 #
-#   bench/gate.sh [--at COMMIT] [--edits N] [NAME..]
+#   bench/gate.sh [--at COMMIT] [NAME..]
 #
-# The names are the crates to be measured; where there are none, each one of crates.txt, lowest first. They are measured
-# as they stand, or as they stood at the commit. With --edits only so many of a crate's must-fail edits are tried, spread
-# over all of them, and the others are taken to be like these: such a row's figures are marked with `about`.
-#
-# Each crate goes through `rt ci NAME` alone, so what is measured is what the gate does: the crate's proof; where it has
-# tests, its proof once more together with them; a check of the crate as it stands, over which each edit is tried (the
-# seed), and once more over that seed at the end. The first column is the proof, the second the proof with the tests, the fourth
-# the edits with the seed, and the last one all that rt took, which is a little more than those three.
+# It runs `rt ci` once, on all processors, over a copy of the files as they stand, or as they stood at the commit: over all crates, or over
+# those that are named and those below them. So what is measured is what the gate does: each crate's proof; where a crate has tests in it, its
+# proof once more together with them; a check of the crate over which its must-fail edits are tried, and the edits. The tests of a crate
+# of tests are its second column too. What rt itself takes beside the prover, and the tests' runs, are in no row; they stand in the last line.
 #
 # Nothing that another copy of the repository kept on this machine is taken, and nothing is kept for others: rt keeps its work beside
-# the kit, and this works with a kit of its own, made of links. What stands below a crate is proved first, outside of what is
-# measured. The times are those of all processes together. A machine that has more to do than it has processors makes
-# each minute of work count as more than one, so compare only what was measured under the same load, old and new one side by side.
+# the kit, and this works with a kit of its own, made of links. The times are those of user and system of all processes of the prover.
+# A machine whose processors others use too makes each minute count as more than one: compare only what one machine measured.
 set -u
 top="$(cd "$(dirname "$(readlink -f "${BASH_SOURCE[0]}")")/.." && pwd)"
 room="$(mktemp -d)"
 copy="$room/copy"
 trap 'rm -rf "$room"' EXIT
-export RT_JOBS=1 GATE_TIMES="$room/times"
+export GATE_TIMES="$room/times"
 
 # A kit by links, in which each call of the prover writes down what it took.
 lay_kit() {
@@ -40,115 +35,57 @@ lay_kit() {
     chmod +x "$room/rattle/bin/rattle"
 }
 
-# The files that are measured, with the edits apart.
+# The files that are measured.
 lay_files() {
-    local folder
-    mkdir -p "$copy" "$room/edits"
+    mkdir -p "$copy"
     if [ -n "$commit" ]; then
-        git -C "$top" archive "$commit" | tar -x -C "$copy" || return 1
+        git -C "$top" archive "$commit" | tar -x -C "$copy"
     else
-        (cd "$top" && git ls-files -z | xargs -0 cp --parents -t "$copy") || return 1
+        (cd "$top" && git ls-files -z | xargs -0 cp --parents -t "$copy")
     fi
-    for folder in "$copy"/crates/*/must-fail; do
-        [ ! -d "$folder" ] || mv "$folder" "$room/edits/$(basename "$(dirname "$folder")")"
-    done
 }
 
-# The crates of crates.txt, in its order, and the ones of them that a crate stands on, those below them too.
+# The crates of crates.txt, in its order.
 crate_names() {
     sed -n 's/^\([a-z0-9_]*\)[^#]*:.*/\1/p' "$copy/crates.txt"
 }
 
-libraries_below() {
-    local name
-    for name in $(sed -n "s/^$1[^#]*: *//p" "$copy/crates.txt"); do
-        if [ -d "$copy/crates/$name" ]; then
-            libraries_below "$name"
-            echo "$name"
-        fi
-    done
-}
-
-# Runs rt ci over these crates and those below them, and leaves what it said and what it took in the room.
-pass() {
-    : >"$GATE_TIMES"
-    (cd "$copy" && /usr/bin/time -o "$room/whole" -f '%U %S' "$room/rattle/bin/rt" ci "$@") >"$room/said" 2>&1
-}
-
-# Lays out a crate's edits, or some of them.
-lay_edits() {
-    local to="$copy/crates/$1/must-fail" number="$2"
-    mkdir -p "$to"
-    find "$room/edits/$1" -name '*.edit' | sort |
-        awk -v all="$number" -v some="${some:-$number}" 'some >= all || int((NR - 1) * some / all) != int(NR * some / all)' |
-        xargs -r cp -t "$to"
-}
-
-# Adds up what the calls of the prover took on a crate, and prints the rest of its row.
+# Adds up what the calls of the prover took, and prints a row for each crate and one for all.
 add_up() {
-    awk -v name="$1" -v tests="$2" -v number="$3" -v whole="$(awk 'END { print $1 + $2 }' "$room/whole")" '
-        !/^[0-9.]+ [0-9.]+ / || !/ --crate-name / { next }
-        { crate = $0; sub(/.* --crate-name /, "", crate); sub(/ .*/, "", crate) }
-        crate != name { next }
-        / --incremental [^ ]*\/seed( |$)/ { seed += $1 + $2; next }
-        / --incremental / { edits += $1 + $2; tried++; next }
-        / --test / { with_tests += $1 + $2; next }
-        { proof += $1 + $2 }
+    awk -v names="$(crate_names | tr '\n' ' ')" -v whole="$(awk 'END { print $1 + $2 }' "$room/whole")" '
+        !/^[0-9.]+ [0-9.]+ / { next }
+        !/ --crate-name / { next }
+        { crate = $0; sub(/.* --crate-name /, "", crate); sub(/ .*/, "", crate); seen[crate] = 1; taken = $1 + $2 }
+        / --incremental [^ ]*\/seed( |$)/ { edits[crate] += taken; next }
+        / --incremental / { edits[crate] += taken; tried[crate]++; next }
+        / --test / { tests[crate] += taken; next }
+        { proof[crate] += taken }
         END {
-            about = tried < number ? "about " : ""
-            left = tried ? edits / tried * (number - tried) : 0
-            printf "%.1f | %s | %.1f | %d | %s%.1f | %s%.1f |\n", proof / 60, tests, with_tests / 60, number,
-                about, (seed + edits + left) / 60, about, (whole + left) / 60
+            print "| crate | proof | with tests | edits | they take | together |"
+            print "|---|---|---|---|---|---|"
+            count = split(names, order, " ")
+            for (i = 1; i <= count; i++) {
+                crate = order[i]
+                if (!(crate in seen)) continue
+                sum = proof[crate] + tests[crate] + edits[crate]
+                printf "| `%s` | %.1f | %.1f | %d | %.1f | %.1f |\n", crate, proof[crate] / 60, tests[crate] / 60, tried[crate], edits[crate] / 60, sum / 60
+                a += proof[crate]; b += tests[crate]; c += tried[crate]; d += edits[crate]
+            }
+            printf "| together | %.1f | %.1f | %d | %.1f | %.1f |\n\n", a / 60, b / 60, c, d / 60, (a + b + d) / 60
+            printf "All of the gate took %.1f minutes.\n", whole / 60
         }' "$GATE_TIMES"
 }
 
-# Measures a crate and prints its row.
-measure() {
-    local name="$1" tests number=0
-    mapfile -t below < <(libraries_below "$name" | awk '!seen[$0]++')
-    if [ "${#below[@]}" -gt 0 ] && ! pass "${below[@]}"; then
-        stopped "$name" "a library below it isn't proved"
-        return 1
-    fi
-    tests="$(cat "$copy/crates/$name"/src/*.rt | grep -c '^ *#\[test\]')"
-    if [ -d "$room/edits/$name" ]; then
-        number="$(find "$room/edits/$name" -name '*.edit' | wc -l)"
-        lay_edits "$name" "$number"
-    fi
-    if pass "$name"; then
-        echo "| \`$name\` | $(add_up "$name" "$tests" "$number")"
-    else
-        stopped "$name" "it isn't proved, or an edit isn't refused"
-        return 1
-    fi
-    rm -rf "$copy/crates/$name/must-fail"
-}
-
-# Says that a crate wasn't measured, with the last lines that were said.
-stopped() {
-    echo "| \`$1\` | $2 | | | | | |"
-    tail -n 5 "$room/said" >&2
-}
-
-commit="" some=""
-while [ "$#" -gt 0 ]; do
-    case "$1" in
-    --at) commit="$2" && shift 2 ;;
-    --edits) some="$2" && shift 2 ;;
-    *) break ;;
-    esac
-done
+commit=""
+if [ "${1:-}" = --at ]; then
+    commit="$2"
+    shift 2
+fi
 lay_kit
 lay_files || exit 1
-if [ "$#" -eq 0 ]; then
-    mapfile -t names < <(crate_names)
-else
-    names=("$@")
-fi
-echo "| crate | proof | tests | with them | edits | they take | in the gate |"
-echo "|---|---|---|---|---|---|---|"
-status=0
-for name in "${names[@]}"; do
-    measure "$name" || status=1
-done
+: >"$GATE_TIMES"
+(cd "$copy" && /usr/bin/time -o "$room/whole" -f '%U %S' "$room/rattle/bin/rt" ci "$@") >"$room/said" 2>&1
+status=$?
+tail -n 1 "$room/said"
+add_up
 exit "$status"
