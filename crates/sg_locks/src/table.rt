@@ -1,12 +1,12 @@
-ghost use Rattle.std.specs.Prelude.{◌≡◌, ◌+◌, ◌<◌, ◌≤◌, ◌==◌, ℕ, [], ◌∷◌, ◌++◌, length, map, take, drop, slice_index_or, IfOk, IfNone, IfSome, Option, Some, None, true, not, ◌||◌, ◌&&◌, cond, vec_capacity};
+ghost use Rattle.std.specs.Prelude.{◌≡◌, ◌+◌, ◌<◌, ◌≤◌, ◌==◌, ℕ, IsTrue, [], ◌∷◌, ◌++◌, length, map, take, drop, slice_index_or, IfOk, IfNone, IfSome, Option, Some, None, true, not, ◌||◌, ◌&&◌, cond, vec_capacity};
 ghost use Rattle.std.specs.List.{list_any, list_all};
-ghost use Rattle.sg_serial.specs.Locks.{first_holder, lesser, hold_one, hold_all, released, is_pair};
+ghost use Rattle.sg_serial.specs.Locks.{first_holder, lesser, hold_one, hold_all, released, is_pair, AreOnce};
 ghost use Rattle.sg_model.specs.Touches.{same_resource, conflict};
 ghost use Rattle.sg_model.specs.Resources.{shown_resource, shown_touch};
 ghost use Rattle.sg_locks.specs.Answers.{lock_answer, locks_after};
 ghost use Rattle.sg_locks.specs.Buckets.{resource_bucket, name_bucket, resource_buckets, name_buckets};
 ghost use Rattle.sg_locks.specs.Found.{AreBucketsOf};
-ghost use Rattle.sg_locks.specs.Held.{IsClear, is_held, AreCompatible};
+ghost use Rattle.sg_locks.specs.Held.{IsClear, is_held, AreCompatible, once_prop};
 ghost use Rattle.sg_locks.specs.Spots.{IsSpotOf};
 ghost use Rattle.sg_locks.specs.Chain.{is_on, IsChain};
 ghost use Rattle.sg_locks.specs.Places.{first_place, last_place, joined, blocks, lesser_of, least_of};
@@ -69,6 +69,7 @@ pub struct Table {
     ghost resources: { by_resource ≡ resource_buckets (holds_of holds.items) },
     ghost names: { by_name ≡ name_buckets (holds_of holds.items) },
     ghost compatible: { AreCompatible (holds_of holds.items) },
+    ghost once: { AreOnce same_resource (holds_of holds.items) } by { once_prop _ },
 }
 
 // Whether another transaction holds this, in conflict with the touch.
@@ -494,16 +495,51 @@ impl Table {
         LockAnswer::Granted
     }
 
-    // The spot of a touch, unless the transaction holds what it is of already, to write it where the
-    // touch does.
+    // Whether this place has the transaction's hold of what the touch is of, to write it where the touch does.
     #[inline(always)]
-    fn spot_to_hold(&self, finder: &mut Finder, t: TxnId, touch: &Touch) -> Option<Spot>
+    fn is_held_at(&self, place: usize, t: TxnId, touch: &Touch) -> bool
+        ensures { IsTrue result → is_held t.0 (shown_touch touch.now) (holds_of self.now.holds.items) ≡ true }
+    {
+        if place >= self.holds.len() {
+            return false;
+        }
+        let hold = &self.holds[place];
+        is_pair(t, &touch.what, hold) && is_enough(hold, touch)
+    }
+
+    // The same of the place where a touch with this index was held the last time, if that is known.
+    #[inline(always)]
+    fn is_still_held(&self, finder: &Finder, index: usize, t: TxnId, touch: &Touch) -> bool
+        ensures { IsTrue result → is_held t.0 (shown_touch touch.now) (holds_of self.now.holds.items) ≡ true }
+    {
+        match finder.likely_place(index) {
+            Some(place) => self.is_held_at(place, t, touch),
+            None => false,
+        }
+    }
+
+    // The spot of a touch with this index, unless the transaction holds what it is of already, to write it
+    // where the touch does.
+    #[inline(always)]
+    fn spot_to_hold(
+        &self,
+        finder: &mut Finder,
+        index: usize,
+        t: TxnId,
+        touch: &Touch,
+    ) -> Option<Spot>
         ensures held { IfNone result (is_held t.0 (shown_touch touch.now) (holds_of self.now.holds.items) ≡ true) }
         ensures spot { IfSome result (λ s. IsSpotOf s t.0 (shown_touch touch.now) (holds_of self.now.holds.items)) }
     {
+        if self.is_still_held(finder, index, t, touch) {
+            return None;
+        }
         let spot = self.spot(finder, t, &touch.what);
         match spot.place {
-            Some(at) if is_enough(&self.holds[at], touch) => None,
+            Some(at) if is_enough(&self.holds[at], touch) => {
+                finder.keep_place(index, at);
+                None
+            }
             _ => Some(spot),
         }
     }
@@ -515,7 +551,7 @@ impl Table {
         ensures after { holds_of self.new.holds.items ≡ locks_after t.0 (map shown_touch wanted.now) (holds_of self.old.holds.items) }
     {
         for i in 0..wanted.len() {
-            if let Some(spot) = self.spot_to_hold(finder, t, &wanted[i]) {
+            if let Some(spot) = self.spot_to_hold(finder, i, t, &wanted[i]) {
                 return match &wanted[i..] {
                     [touch] => self.lock_one(spot, t, touch),
                     rest => self.lock_all(finder, t, rest),

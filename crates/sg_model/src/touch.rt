@@ -123,6 +123,14 @@ impl Touches {
         }
     }
 
+    /// There are no touches any more.
+    #[inline(always)]
+    pub fn clear(&mut self)
+        ensures { shown_touches self.new ≡ [] }
+    {
+        self.len = 0;
+    }
+
     /// The touches, in the order in which they were added.
     pub fn list(&self) -> &[Touch]
         ensures { map shown_touch result.now ≡ shown_touches self.now }

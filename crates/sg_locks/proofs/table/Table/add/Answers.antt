@@ -6,6 +6,10 @@ use Rattle.sg_locks.specs.Buckets.{resource_bucket, name_bucket}
 use Rattle.sg_locks.specs.Held.{AreCompatible}
 use Rattle.sg_locks.specs.Shown.{shown_hold}
 use Rattle.sg_locks.proofs.Held.{compatible_kept}
+use Rattle.sg_serial.specs.Locks.{AreOnce}
+use Rattle.sg_serial.proofs.Once.{once_all}
+use Rattle.sg_model.specs.Touches.{same_resource}
+use Rattle.sg_model.proofs.Meeting.{resource_same, resource_self}
 use Rattle.sg_locks.proofs.Indexed.{more_buckets}
 use Rattle.sg_locks.proofs.Places.{hold_last}
 use Rattle.sg_locks.proofs.table.Table.add.Goals as goal
@@ -35,4 +39,5 @@ invariant_of-self c =
           c.add_links.ensures.names ∙ (ap (λ (bs : List ℕ). bs ++ c.args.buckets.name ∷ []) c.args.self.now.names ∙ (ap (λ n. map (λ h. name_bucket h.touch.what) hs ++ n ∷ []) c.requires.buckets.0
           ∙ (sym (more_buckets (λ h. name_bucket h.touch.what) items hold) ∙ ap (λ xs. map (λ h. name_bucket h.touch.what) (map shown_hold xs)) (sym pushed))));
       compatible = subst AreCompatible (sym held) (compatible_kept c.args.t.0 (shown_touch c.args.touch.now) hs c.args.self.now.compatible c.requires.clear);
+      once = subst (AreOnce same_resource) (sym held) (once_all same_resource resource_same resource_self c.args.t.0 (shown_touch c.args.touch.now ∷ []) hs c.args.self.now.once);
     }
