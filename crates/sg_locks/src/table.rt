@@ -117,6 +117,38 @@ fn new_hold(t: TxnId, touch: &Touch) -> Hold
     }
 }
 
+// One more hold, of the touch.
+#[inline(never)]
+fn push_copy(holds: &mut Vec<Hold>, t: TxnId, touch: &Touch)
+    requires { length holds.old.items < vec_capacity holds.old }
+    ensures items { holds.new.items ≡ holds.old.items ++ (record { transaction = t; touch = touch.now }) ∷ [] }
+    ensures capacity { vec_capacity holds.new ≡ vec_capacity holds.old }
+{
+    // The check has to meet the type of what is copied in this function itself.
+    let _what = &touch.what;
+    holds.push_reserved(new_hold(t, touch));
+}
+
+// The same. Most holds are of items: one of these is made anew, which leaves out the room for a key
+// that a copy takes along.
+#[inline(always)]
+fn push_hold(holds: &mut Vec<Hold>, t: TxnId, touch: &Touch)
+    requires { length holds.old.items < vec_capacity holds.old }
+    ensures items { holds.new.items ≡ holds.old.items ++ (record { transaction = t; touch = touch.now }) ∷ [] }
+    ensures capacity { vec_capacity holds.new ≡ vec_capacity holds.old }
+{
+    match &touch.what {
+        Resource::Item(name, index) => {
+            let item = Touch {
+                what: Resource::Item(*name, *index),
+                write: touch.write,
+            };
+            holds.push_reserved(new_hold(t, &item));
+        }
+        _ => push_copy(holds, t, touch),
+    }
+}
+
 // The hold with one more touch of its resource.
 fn joined(hold: &Hold, touch: &Touch) -> Hold
     ensures { shown_hold result ≡ joined (shown_hold hold.now) (shown_touch touch.now) }
@@ -417,9 +449,7 @@ impl Table {
         ensures { holds_of self.new.holds.items ≡ hold_one same_resource t.0 (shown_touch touch.now) (holds_of self.old.holds.items) }
     {
         add_links(buckets, &mut self.by_resource, &mut self.by_name);
-        // The check has to meet the type of what is copied in this function itself.
-        let _what = &touch.what;
-        self.holds.push_reserved(new_hold(t, touch));
+        push_hold(&mut self.holds, t, touch);
     }
 
     // The transaction's hold at this place is joined by a touch of its resource. Nobody is in the way.
@@ -434,6 +464,7 @@ impl Table {
 
     // The transaction holds one more touch, of which this is the spot. There is room, and nobody is in
     // the way.
+    #[inline(always)]
     fn hold_at(&mut self, spot: Spot, t: TxnId, touch: &Touch)
         requires spot { IsSpotOf spot t.0 (shown_touch touch.now) (holds_of self.old.holds.items) }
         requires room { length (hold_one same_resource t.0 (shown_touch touch.now) (holds_of self.old.holds.items)) ≤ 4096 }
@@ -479,7 +510,7 @@ impl Table {
     }
 
     // A transaction asks for one lock, of which this is the spot.
-    #[inline(never)]
+    #[inline(always)]
     fn lock_one(&mut self, spot: Spot, t: TxnId, touch: &Touch) -> LockAnswer
         requires { IsSpotOf spot t.0 (shown_touch touch.now) (holds_of self.old.holds.items) }
         ensures answer { result ≡ lock_answer t.0 (shown_touch touch.now ∷ []) (holds_of self.old.holds.items) }

@@ -18,7 +18,7 @@ pub returns : goal.returns
 returns c =
     let items = c.args.self.now.holds.items in
     let hold : code.Hold = record { transaction = c.args.t; touch = c.args.touch.now } in
-    let pushed = c.push_reserved.ensures.items ∙ ap (λ (h : code.Hold). items ++ h ∷ []) c.new_hold.ensures in
+    let pushed = c.push_hold.ensures.items in
     ap (map shown_hold) pushed
     ∙ (map-append shown_hold items (hold ∷ []) ∙ hold_last c.args.t.0 (shown_touch c.args.touch.now) (map shown_hold items) c.requires.place)
 
@@ -27,10 +27,10 @@ invariant_of-self c =
     let items = c.args.self.now.holds.items in
     let hs = map shown_hold items in
     let hold : code.Hold = record { transaction = c.args.t; touch = c.args.touch.now } in
-    let pushed = c.push_reserved.ensures.items ∙ ap (λ (h : code.Hold). items ++ h ∷ []) c.new_hold.ensures in
+    let pushed = c.push_hold.ensures.items in
     let held = ap (map shown_hold) pushed ∙ (map-append shown_hold items (hold ∷ []) ∙ hold_last c.args.t.0 (shown_touch c.args.touch.now) hs c.requires.place) in
     record {
-      room = omega (arith, c.args.self.now.room, c.push_reserved.ensures.capacity);
+      room = omega (arith, c.args.self.now.room, c.push_hold.ensures.capacity);
       few = omega (arith, c.requires.room, ap length pushed, length-append {A = code.Hold});
       resources =
           c.add_links.ensures.resources ∙ (ap (λ (bs : List ℕ). bs ++ c.args.buckets.resource ∷ []) c.args.self.now.resources ∙ (ap (λ n. map (λ h. resource_bucket h.touch.what) hs ++ n ∷ []) c.requires.buckets.1
