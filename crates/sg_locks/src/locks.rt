@@ -55,6 +55,7 @@ impl Locks {
     /// other transactions, by number, that hold a touch in conflict with one of these. `LocksFull`
     /// comes where the transaction's pairs with new resources would make more than 4,096 pairs; a
     /// resource that it holds already, to read or to write, is none of them. Nothing changes then.
+    #[inline(never)]
     pub fn try_lock(&mut self, t: TxnId, wanted: &[Touch]) -> LockAnswer
         ensures answer { result ≡ lock_answer t.0 (map shown_touch wanted.now) self.old }
         ensures after { self.new ≡ locks_after t.0 (map shown_touch wanted.now) self.old }

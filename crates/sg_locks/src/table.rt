@@ -183,7 +183,7 @@ fn least_with(t: TxnId, touch: &Touch, hold: &Hold, least: Option<u64>) -> Optio
 }
 
 // This place, where it has the transaction's hold of the resource, and else the one that was found.
-#[inline(always)]
+#[inline(never)]
 fn place_with(
     t: TxnId,
     what: &Resource,

@@ -35,7 +35,7 @@ pub struct Touch {
 
 impl Resource {
     /// Whether this resource and another are one.
-    #[inline(never)]
+    #[inline(always)]
     pub fn is_same(&self, other: &Resource) -> bool
         ensures { result ≡ same_resource (shown_resource self.now) (shown_resource other.now) }
     {
