@@ -59,7 +59,7 @@ pub next_touch : {B : Type 0} (f : B → Touch Resource) (xs : List B) (i : ℕ)
 next_touch f xs i x h at = ap (map f) (drop-cons xs i x h) ∙ (ap (λ y. f y ∷ map f (drop (suc i) xs)) (sym at) ∙ ap (λ n. f x ∷ map f (drop n xs)) (sym (add-one i)))
 
 -- nobody is in the way of its own
-own_passes : (t : ℕ) (b : Touch Resource) (h : Hold Resource) → h.transaction ≡ t → blocks t b h ≡ false
+pub own_passes : (t : ℕ) (b : Touch Resource) (h : Hold Resource) → h.transaction ≡ t → blocks t b h ≡ false
 own_passes t b h e = ap (λ x. not x && conflict h.touch b) (eq-eqb h.transaction t e)
 
 module _ (t : ℕ) (a : Touch Resource) where

@@ -72,6 +72,13 @@ pub struct Table {
     ghost once: { AreOnce same_resource (holds_of holds.items) } by { once_prop _ },
 }
 
+// Whether the transaction holds this itself.
+fn is_own(t: TxnId, hold: &Hold) -> bool
+    ensures { result ≡ ((shown_hold hold.now).transaction == t.0) }
+{
+    hold.transaction == t
+}
+
 // Whether another transaction holds this, in conflict with the touch.
 fn is_blocked(t: TxnId, touch: &Touch, hold: &Hold) -> bool
     ensures { result ≡ blocks t.0 (shown_touch touch.now) (shown_hold hold.now) }
@@ -320,13 +327,19 @@ impl Table {
         self.least_along(Chain::Resource(bucket), t, touch, least)
     }
 
-    // The same: mostly no hold has the bucket, which costs no walk.
+    // The same: mostly no hold has the bucket, or the only one that has it is the transaction's own, as where
+    // it made the object itself. These cost no walk.
     #[inline(always)]
     fn least_at(&self, bucket: usize, t: TxnId, touch: &Touch, least: Option<u64>) -> Option<u64>
         requires { bucket < 4096 }
         ensures { result ≡ lesser_of least (least_of (λ h. (resource_bucket h.touch.what == bucket) && blocks t.0 (shown_touch touch.now) h) (holds_of self.now.holds.items)) }
     {
-        if self.last(Chain::Resource(bucket)).is_none() {
+        let Some(place) = self.last(Chain::Resource(bucket)) else {
+            return least;
+        };
+        if is_own(t, &self.holds[place])
+            && self.earlier(Chain::Resource(bucket), place).is_none()
+        {
             return least;
         }
         self.least_in(bucket, t, touch, least)
