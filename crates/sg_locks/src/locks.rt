@@ -15,8 +15,9 @@ use std::marker::Model;
 ///
 /// A touch is held against the pairs in one bucket of 4,096, into which resources fall by their name
 /// and part, so that it costs about the same with thousands of pairs as with ten; one that the
-/// transaction holds already is found there, and nothing else is looked at. Three things go with
-/// what is held: a touch of all of an object or of all keys of a table looks at each pair on a
+/// transaction holds already is found there, and nothing else is looked at. The first two touches
+/// of an operation are looked for before that where such were held the last time. Three things go
+/// with what is held: a touch of all of an object or of all keys of a table looks at each pair on a
 /// name in the name's bucket, a touch of the names at each pair, and a release too.
 #[derive(Drop)]
 pub struct Locks {

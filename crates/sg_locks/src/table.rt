@@ -337,9 +337,7 @@ impl Table {
         let Some(place) = self.last(Chain::Resource(bucket)) else {
             return least;
         };
-        if is_own(t, &self.holds[place])
-            && self.earlier(Chain::Resource(bucket), place).is_none()
-        {
+        if is_own(t, &self.holds[place]) && self.earlier(Chain::Resource(bucket), place).is_none() {
             return least;
         }
         self.least_in(bucket, t, touch, least)

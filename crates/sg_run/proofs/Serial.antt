@@ -19,13 +19,10 @@ use Rattle.sg_model.specs.declared.stop.Stop.TheVariants as stops
 use Rattle.sg_model.specs.Verb.{Op}
 use Rattle.sg_model.specs.Verb.Reply.{Done}
 use Rattle.sg_model.specs.Step.{step}
-use Rattle.sg_model.specs.Touches.{Region, Resource, cell, touches, covers, same_region, same_resource, conflict}
+use Rattle.sg_model.specs.Touches.{cell, touches, covers, same_resource, conflict}
 use Rattle.sg_model.specs.Laws.{CellContents}
 use Rattle.sg_model.proofs.Footprint.{footprint}
-use Rattle.sg_model.specs.Touches.Region.{Just, EachKey, Everything}
-use Rattle.sg_model.specs.Touches.Resource.{Of as OfName, Names}
 use Rattle.sg_model.proofs.Meeting.{conflict_law, resource_same, resource_self}
-use Rattle.sg_model.proofs.Parts.{bytes_self}
 use Rattle.sg_words.specs.Requests.{Asked, Request, asked}
 use Rattle.sg_words.specs.Requests.Asked.{Blank, Wrong, Of}
 use Rattle.sg_words.specs.Requests.Request.{Begin, Commit, Abort, Do}
