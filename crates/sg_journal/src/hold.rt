@@ -27,6 +27,7 @@ fn busy(live: &Live, holder: TxnId) -> Answer
 
 /// A transaction holds these from now on, unless another one is in the way or too much would be held:
 /// then nothing has changed, and that is the line's answer.
+#[inline(always)]
 pub fn hold(locks: &mut Locks, live: &Live, txn: TxnId, touches: &Touches) -> Result<(), Answer>
     ensures granted { OnOk result (Granted ≡ lock_answer txn.0 (shown_touches touches.now) locks.old) }
     ensures refused { IfErr result (λ a. IsNotGranted (all_opened live.now.all.items) (lock_answer txn.0 (shown_touches touches.now) locks.old) a) }

@@ -35,7 +35,7 @@ use sg_base::{Area, Name, OutOfMemory, TxnId};
 use sg_disk::Disk;
 use sg_locks::Locks;
 use sg_log::{Log, LogFault};
-use sg_model::{Op, Reply, Stop};
+use sg_model::{Op, Reply, Stop, Touches};
 use sg_ops::Ops;
 use sg_plain::Objects;
 use sg_record::plain::Rec;
@@ -60,6 +60,8 @@ pub struct Store<D: Disk> {
     live: Live,
     // the objects as the live transactions have left them
     objects: Objects,
+    // what the last line touched: each line puts its own touches there
+    touches: Touches,
     stop: Option<Stop>,
 }
 
@@ -98,6 +100,7 @@ impl<D: Disk> Store<D> {
                     locks,
                     live,
                     objects,
+                    touches: Touches::new(),
                     stop: None,
                 }),
                 Err(OutOfMemory) => {
@@ -126,6 +129,7 @@ impl<D: Disk> Store<D> {
             locks,
             live,
             objects,
+            touches: _,
             stop: _,
         } = self;
         drop(log);
@@ -325,8 +329,8 @@ impl<D: Disk> Store<D> {
         let Some(live) = self.live.named(name) else {
             return Answer::NoTransaction;
         };
-        let touches = self.objects.touches(op);
-        match hold(&mut self.locks, &self.live, live.txn, &touches) {
+        self.objects.touches(op, &mut self.touches);
+        match hold(&mut self.locks, &self.live, live.txn, &self.touches) {
             Ok(()) => {}
             Err(answer) => return answer,
         }
@@ -366,8 +370,8 @@ impl<D: Disk> Store<D> {
         let Some(live) = self.live.named(name) else {
             return Answer::NoTransaction;
         };
-        let touches = self.objects.keys_touches(table);
-        match hold(&mut self.locks, &self.live, live.txn, &touches) {
+        self.objects.keys_touches(table, &mut self.touches);
+        match hold(&mut self.locks, &self.live, live.txn, &self.touches) {
             Ok(()) => {}
             Err(answer) => return answer,
         }
@@ -389,8 +393,8 @@ impl<D: Disk> Store<D> {
         let Some(live) = self.live.named(name) else {
             return Answer::NoTransaction;
         };
-        let touches = self.objects.list_touches();
-        match hold(&mut self.locks, &self.live, live.txn, &touches) {
+        self.objects.list_touches(&mut self.touches);
+        match hold(&mut self.locks, &self.live, live.txn, &self.touches) {
             Ok(()) => {}
             Err(answer) => return answer,
         }
@@ -465,6 +469,7 @@ impl<D: Disk + Drop> Store<D> {
             locks,
             live: all,
             objects: Objects::empty(alloc),
+            touches: Touches::new(),
             stop: None,
         })
     }

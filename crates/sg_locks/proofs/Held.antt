@@ -1,11 +1,11 @@
 -- What a transaction holds already changes nothing when it asks for it again, and holds stay compatible.
-use Rattle.std.proofs.Common.{◌≡◌, ℕ, suc, Bool, true, false, cond, not, List, [], ◌∷◌, map, drop, length, get_or, Option, Some, None, refl, sym, ap, ◌∙◌, subst, inl, inr, add-one, ◌+◌}
+use Rattle.std.proofs.Common.{◌≡◌, ℕ, zero, suc, Bool, true, false, cond, not, List, [], ◌∷◌, map, drop, length, get_or, Option, Some, None, refl, sym, ap, ◌∙◌, subst, inl, inr, add-one, ◌+◌, arith}
 use Rattle.std.specs.Prelude.{◌||◌, ◌&&◌, ◌==◌, ◌⊎◌, ◌<◌}
 use Rattle.std.specs.List.{list_any, filter}
-use Rattle.std.specs.Option.{option_map}
+use Rattle.std.specs.Option.{option_map, is_some}
 use Rattle.std.proofs.Math.Seq.{drop-cons}
 use Rattle.std.proofs.lemmas.Bool.{eqb-true, eq-eqb, ne_eqb, cases_eq}
-use Rattle.sg_serial.specs.Locks.{Touch, Hold, first_holder, is_in_way, lesser, hold_one, hold_all, released, is_pair}
+use Rattle.sg_serial.specs.Locks.{Touch, Hold, first_holder, is_in_way, lesser, hold_one, hold_all, released, is_pair, AreOnce}
 use Rattle.sg_serial.proofs.Commute.{true_or_false, or_false, or_left, or_right}
 use Rattle.sg_serial.proofs.Kept.{and_true, both_true, not_both}
 use Rattle.sg_serial.proofs.Lists.{or_assoc}
@@ -14,6 +14,7 @@ use Rattle.sg_model.proofs.Meeting.{resource_same, met_resources, common_cell}
 use Rattle.sg_locks.specs.Places.{first_place, joined, blocks, lesser_of, least_of}
 use Rattle.sg_locks.specs.Held.{IsClear, is_held, AreCompatible}
 use Rattle.sg_locks.proofs.Least.{first_more}
+use Rattle.sg_locks.proofs.Places.{any_placed}
 
 -- the same are in the way of these touches as of those, and the same is held after them
 abbrev pub AreAnsweredAlike : ℕ → List (Touch Resource) → List (Touch Resource) → List (Hold Resource) → Type 0
@@ -58,7 +59,7 @@ pub next_touch : {B : Type 0} (f : B → Touch Resource) (xs : List B) (i : ℕ)
 next_touch f xs i x h at = ap (map f) (drop-cons xs i x h) ∙ (ap (λ y. f y ∷ map f (drop (suc i) xs)) (sym at) ∙ ap (λ n. f x ∷ map f (drop n xs)) (sym (add-one i)))
 
 -- nobody is in the way of its own
-own_passes : (t : ℕ) (b : Touch Resource) (h : Hold Resource) → h.transaction ≡ t → blocks t b h ≡ false
+pub own_passes : (t : ℕ) (b : Touch Resource) (h : Hold Resource) → h.transaction ≡ t → blocks t b h ≡ false
 own_passes t b h e = ap (λ x. not x && conflict h.touch b) (eq-eqb h.transaction t e)
 
 module _ (t : ℕ) (a : Touch Resource) where
@@ -245,6 +246,20 @@ module _ (t : ℕ) (a : Touch Resource) where
       go true r e rest = let q : 0 ≡ i = cc in subst (λ (n : ℕ). ((get_or (h ∷ hs) n d).touch.write || not a.write) ≡ (h.touch.write || not a.write)) q refl
       go false None e rest = absurd (cc)
       go false (Some j) e rest = let q : suc j ≡ i = cc in subst (λ (n : ℕ). ((get_or (h ∷ hs) n d).touch.write || not a.write) ≡ is_held t a hs) q (rest j refl)
+
+  -- each pair is held once, so one hold of it is the first
+  pub found_once : (hs : List (Hold Resource)) (i : ℕ) (d : Hold Resource) → AreOnce same_resource hs → i < length hs → is_pair same_resource t a.what (get_or hs i d) ≡ true → first_place (is_pair same_resource t a.what) hs ≡ Some i
+  found_once [] i d once within on = absurd (omega arith)
+  found_once (h ∷ hs) zero d once within on = ap (λ b. cond b (Some 0) (option_map suc (first_place (is_pair same_resource t a.what) hs))) on
+  found_once (h ∷ hs) (suc i) d once within on = go (is_pair same_resource t a.what h) refl (found_once hs i d once.1 (omega arith) on)
+    where
+      go : (b : Bool) → is_pair same_resource t a.what h ≡ b → first_place (is_pair same_resource t a.what) hs ≡ Some i → cond b (Some 0) (option_map suc (first_place (is_pair same_resource t a.what) hs)) ≡ Some (suc i)
+      go true e rest =
+          let q = and_true (h.transaction == t) (same_resource h.touch.what a.what) e in
+          let there : list_any (is_pair same_resource t a.what) hs ≡ true = sym (any_placed (is_pair same_resource t a.what) hs) ∙ ap is_some rest in
+          absurd (not_both (list_any (is_pair same_resource h.transaction h.touch.what) hs)
+          (ap (λ (u : ℕ). list_any (is_pair same_resource u h.touch.what) hs) (eqb-true h.transaction t q.0) ∙ (ap (λ (r : Resource). list_any (is_pair same_resource t r) hs) (resource_same h.touch.what a.what q.1) ∙ there)) once.0)
+      go false e rest = ap (option_map suc) rest
 
   pub held_nowhere : (hs : List (Hold Resource)) → first_place (is_pair same_resource t a.what) hs ≡ None → is_held t a hs ≡ false
   held_nowhere [] e = refl

@@ -16,17 +16,42 @@ struct Known {
     ghost below: { bucket < 4096 },
 }
 
-/// Finds buckets. That of the name which was asked for last is kept, so that what one operation
-/// touches, and what many operations on one object do, costs the work on a name once.
+/// Finds buckets, and guesses places. The bucket of the name which was asked for last is kept, so that
+/// what one operation touches, and what many operations on one object do, costs the work on a name once.
+/// The places where the first touches of an operation were held are kept too: many operations on one
+/// object hold these already, and at the same places.
 #[derive(Clone, Copy)]
 pub struct Finder {
     last: Option<Known>,
+    places: [usize; 2],
 }
 
 impl Finder {
     /// Keeps no bucket yet.
     pub fn new() -> Finder {
-        Finder { last: None }
+        Finder {
+            last: None,
+            places: [0; 2],
+        }
+    }
+
+    /// A place that may have the hold of an operation's touch with this index. What stands there says
+    /// whether it does.
+    #[inline(always)]
+    pub fn likely_place(&self, index: usize) -> Option<usize> {
+        if index < self.places.len() {
+            Some(self.places[index])
+        } else {
+            None
+        }
+    }
+
+    /// This place has the hold of an operation's touch with this index.
+    #[inline(always)]
+    pub fn keep_place(&mut self, index: usize, place: usize) {
+        if index < self.places.len() {
+            self.places[index] = place;
+        }
     }
 
     // The bucket of a name that isn't the last one.

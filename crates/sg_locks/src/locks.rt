@@ -15,8 +15,9 @@ use std::marker::Model;
 ///
 /// A touch is held against the pairs in one bucket of 4,096, into which resources fall by their name
 /// and part, so that it costs about the same with thousands of pairs as with ten; one that the
-/// transaction holds already is found there, and nothing else is looked at. Three things go with
-/// what is held: a touch of all of an object or of all keys of a table looks at each pair on a
+/// transaction holds already is found there, and nothing else is looked at. The first two touches
+/// of an operation are looked for before that where such were held the last time. Three things go
+/// with what is held: a touch of all of an object or of all keys of a table looks at each pair on a
 /// name in the name's bucket, a touch of the names at each pair, and a release too.
 #[derive(Drop)]
 pub struct Locks {
@@ -55,6 +56,7 @@ impl Locks {
     /// other transactions, by number, that hold a touch in conflict with one of these. `LocksFull`
     /// comes where the transaction's pairs with new resources would make more than 4,096 pairs; a
     /// resource that it holds already, to read or to write, is none of them. Nothing changes then.
+    #[inline(never)]
     pub fn try_lock(&mut self, t: TxnId, wanted: &[Touch]) -> LockAnswer
         ensures answer { result ≡ lock_answer t.0 (map shown_touch wanted.now) self.old }
         ensures after { self.new ≡ locks_after t.0 (map shown_touch wanted.now) self.old }

@@ -1,12 +1,12 @@
-ghost use Rattle.std.specs.Prelude.{◌≡◌, ◌+◌, ◌<◌, ◌≤◌, ◌==◌, ℕ, [], ◌∷◌, ◌++◌, length, map, take, drop, slice_index_or, IfOk, IfNone, IfSome, Option, Some, None, true, not, ◌||◌, ◌&&◌, cond, vec_capacity};
+ghost use Rattle.std.specs.Prelude.{◌≡◌, ◌+◌, ◌<◌, ◌≤◌, ◌==◌, ℕ, IsTrue, [], ◌∷◌, ◌++◌, length, map, take, drop, slice_index_or, IfOk, IfNone, IfSome, Option, Some, None, true, not, ◌||◌, ◌&&◌, cond, vec_capacity};
 ghost use Rattle.std.specs.List.{list_any, list_all};
-ghost use Rattle.sg_serial.specs.Locks.{first_holder, lesser, hold_one, hold_all, released, is_pair};
+ghost use Rattle.sg_serial.specs.Locks.{first_holder, lesser, hold_one, hold_all, released, is_pair, AreOnce};
 ghost use Rattle.sg_model.specs.Touches.{same_resource, conflict};
 ghost use Rattle.sg_model.specs.Resources.{shown_resource, shown_touch};
 ghost use Rattle.sg_locks.specs.Answers.{lock_answer, locks_after};
 ghost use Rattle.sg_locks.specs.Buckets.{resource_bucket, name_bucket, resource_buckets, name_buckets};
 ghost use Rattle.sg_locks.specs.Found.{AreBucketsOf};
-ghost use Rattle.sg_locks.specs.Held.{IsClear, is_held, AreCompatible};
+ghost use Rattle.sg_locks.specs.Held.{IsClear, is_held, AreCompatible, once_prop};
 ghost use Rattle.sg_locks.specs.Spots.{IsSpotOf};
 ghost use Rattle.sg_locks.specs.Chain.{is_on, IsChain};
 ghost use Rattle.sg_locks.specs.Places.{first_place, last_place, joined, blocks, lesser_of, least_of};
@@ -69,6 +69,14 @@ pub struct Table {
     ghost resources: { by_resource ≡ resource_buckets (holds_of holds.items) },
     ghost names: { by_name ≡ name_buckets (holds_of holds.items) },
     ghost compatible: { AreCompatible (holds_of holds.items) },
+    ghost once: { AreOnce same_resource (holds_of holds.items) } by { once_prop _ },
+}
+
+// Whether the transaction holds this itself.
+fn is_own(t: TxnId, hold: &Hold) -> bool
+    ensures { result ≡ ((shown_hold hold.now).transaction == t.0) }
+{
+    hold.transaction == t
 }
 
 // Whether another transaction holds this, in conflict with the touch.
@@ -116,6 +124,38 @@ fn new_hold(t: TxnId, touch: &Touch) -> Hold
     }
 }
 
+// One more hold, of the touch.
+#[inline(never)]
+fn push_copy(holds: &mut Vec<Hold>, t: TxnId, touch: &Touch)
+    requires { length holds.old.items < vec_capacity holds.old }
+    ensures items { holds.new.items ≡ holds.old.items ++ (record { transaction = t; touch = touch.now }) ∷ [] }
+    ensures capacity { vec_capacity holds.new ≡ vec_capacity holds.old }
+{
+    // The check has to meet the type of what is copied in this function itself.
+    let _what = &touch.what;
+    holds.push_reserved(new_hold(t, touch));
+}
+
+// The same. Most holds are of items: one of these is made anew, which leaves out the room for a key
+// that a copy takes along.
+#[inline(always)]
+fn push_hold(holds: &mut Vec<Hold>, t: TxnId, touch: &Touch)
+    requires { length holds.old.items < vec_capacity holds.old }
+    ensures items { holds.new.items ≡ holds.old.items ++ (record { transaction = t; touch = touch.now }) ∷ [] }
+    ensures capacity { vec_capacity holds.new ≡ vec_capacity holds.old }
+{
+    match &touch.what {
+        Resource::Item(name, index) => {
+            let item = Touch {
+                what: Resource::Item(*name, *index),
+                write: touch.write,
+            };
+            holds.push_reserved(new_hold(t, &item));
+        }
+        _ => push_copy(holds, t, touch),
+    }
+}
+
 // The hold with one more touch of its resource.
 fn joined(hold: &Hold, touch: &Touch) -> Hold
     ensures { shown_hold result ≡ joined (shown_hold hold.now) (shown_touch touch.now) }
@@ -150,7 +190,7 @@ fn least_with(t: TxnId, touch: &Touch, hold: &Hold, least: Option<u64>) -> Optio
 }
 
 // This place, where it has the transaction's hold of the resource, and else the one that was found.
-#[inline(always)]
+#[inline(never)]
 fn place_with(
     t: TxnId,
     what: &Resource,
@@ -287,13 +327,17 @@ impl Table {
         self.least_along(Chain::Resource(bucket), t, touch, least)
     }
 
-    // The same: mostly no hold has the bucket, which costs no walk.
+    // The same: mostly no hold has the bucket, or the only one that has it is the transaction's own, as where
+    // it made the object itself. These cost no walk.
     #[inline(always)]
     fn least_at(&self, bucket: usize, t: TxnId, touch: &Touch, least: Option<u64>) -> Option<u64>
         requires { bucket < 4096 }
         ensures { result ≡ lesser_of least (least_of (λ h. (resource_bucket h.touch.what == bucket) && blocks t.0 (shown_touch touch.now) h) (holds_of self.now.holds.items)) }
     {
-        if self.last(Chain::Resource(bucket)).is_none() {
+        let Some(place) = self.last(Chain::Resource(bucket)) else {
+            return least;
+        };
+        if is_own(t, &self.holds[place]) && self.earlier(Chain::Resource(bucket), place).is_none() {
             return least;
         }
         self.least_in(bucket, t, touch, least)
@@ -416,9 +460,7 @@ impl Table {
         ensures { holds_of self.new.holds.items ≡ hold_one same_resource t.0 (shown_touch touch.now) (holds_of self.old.holds.items) }
     {
         add_links(buckets, &mut self.by_resource, &mut self.by_name);
-        // The check has to meet the type of what is copied in this function itself.
-        let _what = &touch.what;
-        self.holds.push_reserved(new_hold(t, touch));
+        push_hold(&mut self.holds, t, touch);
     }
 
     // The transaction's hold at this place is joined by a touch of its resource. Nobody is in the way.
@@ -433,6 +475,7 @@ impl Table {
 
     // The transaction holds one more touch, of which this is the spot. There is room, and nobody is in
     // the way.
+    #[inline(always)]
     fn hold_at(&mut self, spot: Spot, t: TxnId, touch: &Touch)
         requires spot { IsSpotOf spot t.0 (shown_touch touch.now) (holds_of self.old.holds.items) }
         requires room { length (hold_one same_resource t.0 (shown_touch touch.now) (holds_of self.old.holds.items)) ≤ 4096 }
@@ -478,7 +521,7 @@ impl Table {
     }
 
     // A transaction asks for one lock, of which this is the spot.
-    #[inline(never)]
+    #[inline(always)]
     fn lock_one(&mut self, spot: Spot, t: TxnId, touch: &Touch) -> LockAnswer
         requires { IsSpotOf spot t.0 (shown_touch touch.now) (holds_of self.old.holds.items) }
         ensures answer { result ≡ lock_answer t.0 (shown_touch touch.now ∷ []) (holds_of self.old.holds.items) }
@@ -494,16 +537,51 @@ impl Table {
         LockAnswer::Granted
     }
 
-    // The spot of a touch, unless the transaction holds what it is of already, to write it where the
-    // touch does.
+    // Whether this place has the transaction's hold of what the touch is of, to write it where the touch does.
     #[inline(always)]
-    fn spot_to_hold(&self, finder: &mut Finder, t: TxnId, touch: &Touch) -> Option<Spot>
+    fn is_held_at(&self, place: usize, t: TxnId, touch: &Touch) -> bool
+        ensures { IsTrue result → is_held t.0 (shown_touch touch.now) (holds_of self.now.holds.items) ≡ true }
+    {
+        if place >= self.holds.len() {
+            return false;
+        }
+        let hold = &self.holds[place];
+        is_pair(t, &touch.what, hold) && is_enough(hold, touch)
+    }
+
+    // The same of the place where a touch with this index was held the last time, if that is known.
+    #[inline(always)]
+    fn is_still_held(&self, finder: &Finder, index: usize, t: TxnId, touch: &Touch) -> bool
+        ensures { IsTrue result → is_held t.0 (shown_touch touch.now) (holds_of self.now.holds.items) ≡ true }
+    {
+        match finder.likely_place(index) {
+            Some(place) => self.is_held_at(place, t, touch),
+            None => false,
+        }
+    }
+
+    // The spot of a touch with this index, unless the transaction holds what it is of already, to write it
+    // where the touch does.
+    #[inline(always)]
+    fn spot_to_hold(
+        &self,
+        finder: &mut Finder,
+        index: usize,
+        t: TxnId,
+        touch: &Touch,
+    ) -> Option<Spot>
         ensures held { IfNone result (is_held t.0 (shown_touch touch.now) (holds_of self.now.holds.items) ≡ true) }
         ensures spot { IfSome result (λ s. IsSpotOf s t.0 (shown_touch touch.now) (holds_of self.now.holds.items)) }
     {
+        if self.is_still_held(finder, index, t, touch) {
+            return None;
+        }
         let spot = self.spot(finder, t, &touch.what);
         match spot.place {
-            Some(at) if is_enough(&self.holds[at], touch) => None,
+            Some(at) if is_enough(&self.holds[at], touch) => {
+                finder.keep_place(index, at);
+                None
+            }
             _ => Some(spot),
         }
     }
@@ -515,7 +593,7 @@ impl Table {
         ensures after { holds_of self.new.holds.items ≡ locks_after t.0 (map shown_touch wanted.now) (holds_of self.old.holds.items) }
     {
         for i in 0..wanted.len() {
-            if let Some(spot) = self.spot_to_hold(finder, t, &wanted[i]) {
+            if let Some(spot) = self.spot_to_hold(finder, i, t, &wanted[i]) {
                 return match &wanted[i..] {
                     [touch] => self.lock_one(spot, t, touch),
                     rest => self.lock_all(finder, t, rest),

@@ -120,3 +120,13 @@ pub resource_same : (a b : Resource) → same_resource a b ≡ true → a ≡ b
 resource_same (Of m r) (Of n s) h = let x = and_true (bytes_eq m n) (same_region r s) h in ap (λ (k : List ℕ). Of k r) (bytes_same m n x.0) ∙ ap (λ (q : Region). Of n q) (region_same r s x.1)
 resource_same Names Names h = refl
 resource_same a b h = absurd (cc)
+
+-- and a resource is the same as itself
+region_self : (r : Region) → same_region r r ≡ true
+region_self (Just p) = part_self p
+region_self EachKey = refl
+region_self Everything = refl
+
+pub resource_self : (a : Resource) → same_resource a a ≡ true
+resource_self (Of n r) = both_true (bytes_eq n n) (same_region r r) (bytes_self n) (region_self r)
+resource_self Names = refl

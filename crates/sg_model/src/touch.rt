@@ -35,7 +35,7 @@ pub struct Touch {
 
 impl Resource {
     /// Whether this resource and another are one.
-    #[inline(never)]
+    #[inline(always)]
     pub fn is_same(&self, other: &Resource) -> bool
         ensures { result ≡ same_resource (shown_resource self.now) (shown_resource other.now) }
     {
@@ -121,6 +121,14 @@ impl Touches {
             }; 3],
             len: 0,
         }
+    }
+
+    /// There are no touches any more.
+    #[inline(always)]
+    pub fn clear(&mut self)
+        ensures { shown_touches self.new ≡ [] }
+    {
+        self.len = 0;
     }
 
     /// The touches, in the order in which they were added.

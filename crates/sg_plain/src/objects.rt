@@ -251,71 +251,67 @@ impl Objects {
         filled_keys(alloc, &self.map)
     }
 
-    // What an operation on an object that is there touches.
-    fn reach_in(&self, name: Name, op: &Op<'_>) -> Touches
-        requires named { name ≡ name_of op.now }
+    // Puts what an operation on an object that is there touches in the place of other touches.
+    fn reach_in(&self, name: &Name, op: &Op<'_>, into: &mut Touches)
+        requires named { name.now ≡ name_of op.now }
         requires in_place { IsInPlace (verb_of op.now) }
-        ensures { shown_touches result ≡ map (touch_of (name_of op.now)) (to_read (Just Kind) ∷ further (verb_of op.now) (finmap.get self.now name)) }
+        ensures { shown_touches into.new ≡ map (touch_of (name_of op.now)) (to_read (Just Kind) ∷ further (verb_of op.now) (finmap.get self.now name.now)) }
     {
-        let mut touches = Touches::new();
-        touches.push(only_read(Resource::Name(name)));
+        into.clear();
+        into.push(only_read(Resource::Name(*name)));
+        match self.get(*name) {
+            None => {}
+            Some(object) => object.reach(op, into),
+        }
+    }
+
+    // Puts the touch of an operation that makes or drops an object in the place of other touches.
+    fn reach_all(&self, name: Name, into: &mut Touches)
+        ensures { shown_touches into.new ≡ map (touch_of name) (to_write Everything ∷ []) }
+    {
+        into.clear();
+        into.push(written(Resource::AllOf(name)));
+    }
+
+    // Puts what the keys of a table touch in the place of other touches.
+    fn reach_keys(&self, name: Name, into: &mut Touches)
+        ensures { shown_touches into.new ≡ map (touch_of name) (to_read (Just Kind) ∷ further Keys (finmap.get self.now name)) }
+    {
+        into.clear();
+        into.push(only_read(Resource::Name(name)));
         match self.get(name) {
             None => {}
-            Some(object) => object.reach(op, &mut touches),
+            Some(object) => object.reach_keys(name, into),
         }
-        touches
     }
 
-    // The touch of an operation that makes or drops an object.
-    fn reach_all(&self, name: Name) -> Touches
-        ensures { shown_touches result ≡ map (touch_of name) (to_write Everything ∷ []) }
-    {
-        let mut touches = Touches::new();
-        touches.push(written(Resource::AllOf(name)));
-        touches
-    }
-
-    // What the keys of a table touch.
-    fn reach_keys(&self, name: Name) -> Touches
-        ensures { shown_touches result ≡ map (touch_of name) (to_read (Just Kind) ∷ further Keys (finmap.get self.now name)) }
-    {
-        let mut touches = Touches::new();
-        touches.push(only_read(Resource::Name(name)));
-        match self.get(name) {
-            None => {}
-            Some(object) => object.reach_keys(name, &mut touches),
-        }
-        touches
-    }
-
-    /// What the keys of a table touch. It changes nothing and takes no memory.
+    /// Puts what the keys of a table touch in the place of other touches. It takes no memory.
     #[tactic(auto, unfolding(sg_model::specs::Touches::touches))]
-    pub fn keys_touches(&self, name: Name) -> Touches
-        ensures { shown_touches result ≡ touches self.now (On name Keys) }
+    pub fn keys_touches(&self, name: Name, into: &mut Touches)
+        ensures { shown_touches into.new ≡ touches self.now (On name Keys) }
     {
-        self.reach_keys(name)
+        self.reach_keys(name, into);
     }
 
-    /// What the names of all objects touch. It changes nothing and takes no memory.
+    /// Puts what the names of all objects touch in the place of other touches. It takes no memory.
     #[tactic(auto, unfolding(sg_model::specs::Touches::touches))]
-    pub fn list_touches(&self) -> Touches
-        ensures { shown_touches result ≡ touches self.now Names }
+    pub fn list_touches(&self, into: &mut Touches)
+        ensures { shown_touches into.new ≡ touches self.now Names }
     {
-        let mut touches = Touches::new();
-        touches.push(only_read(Resource::Names));
-        touches
+        into.clear();
+        into.push(only_read(Resource::Names));
     }
 
-    /// What an operation touches. It changes nothing and takes no memory.
+    /// Puts what an operation touches in the place of other touches. It takes no memory.
     #[tactic(auto, unfolding(sg_model::specs::Touches::touches))]
-    pub fn touches(&self, op: &Op<'_>) -> Touches
-        ensures { shown_touches result ≡ touches self.now (said_op op.now) }
+    pub fn touches(&self, op: &Op<'_>, into: &mut Touches)
+        ensures { shown_touches into.new ≡ touches self.now (said_op op.now) }
     {
         match *op {
-            Op::MakeArray { name, size: _ } => self.reach_all(name),
-            Op::MakeTable { name } => self.reach_all(name),
-            Op::MakeBlob { name } => self.reach_all(name),
-            Op::Discard { name } => self.reach_all(name),
+            Op::MakeArray { name, size: _ } => self.reach_all(name, into),
+            Op::MakeTable { name } => self.reach_all(name, into),
+            Op::MakeBlob { name } => self.reach_all(name, into),
+            Op::Discard { name } => self.reach_all(name, into),
             Op::Push { .. }
             | Op::Pop { .. }
             | Op::Set { .. }
@@ -328,7 +324,7 @@ impl Objects {
             | Op::Write { .. }
             | Op::Read { .. }
             | Op::Size { .. }
-            | Op::Paint { .. } => self.reach_in(op.name(), op),
+            | Op::Paint { .. } => self.reach_in(&op.name(), op, into),
         }
     }
 

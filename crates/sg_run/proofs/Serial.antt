@@ -19,13 +19,10 @@ use Rattle.sg_model.specs.declared.stop.Stop.TheVariants as stops
 use Rattle.sg_model.specs.Verb.{Op}
 use Rattle.sg_model.specs.Verb.Reply.{Done}
 use Rattle.sg_model.specs.Step.{step}
-use Rattle.sg_model.specs.Touches.{Region, Resource, cell, touches, covers, same_region, same_resource, conflict}
+use Rattle.sg_model.specs.Touches.{cell, touches, covers, same_resource, conflict}
 use Rattle.sg_model.specs.Laws.{CellContents}
 use Rattle.sg_model.proofs.Footprint.{footprint}
-use Rattle.sg_model.specs.Touches.Region.{Just, EachKey, Everything}
-use Rattle.sg_model.specs.Touches.Resource.{Of as OfName, Names}
-use Rattle.sg_model.proofs.Meeting.{conflict_law, resource_same, part_self}
-use Rattle.sg_model.proofs.Parts.{bytes_self}
+use Rattle.sg_model.proofs.Meeting.{conflict_law, resource_same, resource_self}
 use Rattle.sg_words.specs.Requests.{Asked, Request, asked}
 use Rattle.sg_words.specs.Requests.Asked.{Blank, Wrong, Of}
 use Rattle.sg_words.specs.Requests.Request.{Begin, Commit, Abort, Do}
@@ -43,16 +40,6 @@ found_live false m l ls r f e = or_right (m.transaction == l.transaction) (is_li
 pub find_live : (name : List ℕ) (ls : List Live) (l : Live) → live_named ls name ≡ Some l → is_live ls l.transaction ≡ true
 find_live name [] l h = absurd (cc)
 find_live name (m ∷ ls) l h = found_live (bytes_eq name m.name) m l ls (live_named ls name) (find_live name ls l) h
-
--- a resource is itself
-region_self : (r : Region) → same_region r r ≡ true
-region_self (Just p) = part_self p
-region_self EachKey = refl
-region_self Everything = refl
-
-resource_self : (a : Resource) → same_resource a a ≡ true
-resource_self (OfName n r) = both_true (bytes_eq n n) (same_region r r) (bytes_self n) (region_self r)
-resource_self Names = refl
 
 module _ (t : Operations) where
   -- a run that has stopped is left alone

@@ -16,7 +16,7 @@ returns-in_default-clause-goes g c t into was x shows = op_none t g.D.Disk.told 
 
 pub returns-in-Err-clause-goes : goal.returns-in-Err-clause-goes
 returns-in-Err-clause-goes g c t into was x shows =
-    not_granted t g.D.Disk.told was (g.D.Disk.view c.args.self.now.disk) (core_of c.args.self.now) x shows c.requires c.args.name (On c.args.table Keys) (opened_of c.in-Some.live) (sym c.in-Some.ensures) _ c.keys_touches-touches.ensures
+    not_granted t g.D.Disk.told was (g.D.Disk.view c.args.self.now.disk) (core_of c.args.self.now) x shows c.requires c.args.name (On c.args.table Keys) (opened_of c.in-Some.live) (sym c.in-Some.ensures) _ c.keys_touches.ensures
     _ c.in-Err.ensures.after c.in-Err.answer into c.in-Err.ensures.refused
 
 pub returns-in-Ok-Ok-clause-goes : goal.returns-in-Ok-Ok-clause-goes
@@ -25,7 +25,7 @@ returns-in-Ok-Ok-clause-goes g c t into was x shows =
     let v = g.D.Disk.view c.args.self.now.disk in
     let op : Op = On c.args.table Keys in
     let l : Opened = opened_of c.in-Some.live in
-    let h = locked t g.D.Disk.told was v k x shows c.requires l.transaction op _ c.hold.new.locks c.keys_touches-touches.ensures c.in-Ok.ensures.granted c.in-Ok.ensures.after in
+    let h = locked t g.D.Disk.told was v k x shows c.requires l.transaction op _ c.hold.new.locks c.keys_touches.ensures c.in-Ok.ensures.granted c.in-Ok.ensures.after in
     has_read t g.D.Disk.told was v k x shows c.requires c.args.name op l (sym c.in-Some.ensures) c.hold.new.locks h (Ok (Several c.in-Ok-Ok.keys.items)) k.objects (rw c.in-Ok-Ok.field-0-is at c.in-Ok-Ok.ensures.done t) refl
 
 pub returns-in-Ok-Err-clause-goes : goal.returns-in-Ok-Err-clause-goes
@@ -34,7 +34,7 @@ returns-in-Ok-Err-clause-goes g c t into was x shows =
     let v = g.D.Disk.view c.args.self.now.disk in
     let op : Op = On c.args.table Keys in
     let l : Opened = opened_of c.in-Some.live in
-    let h = locked t g.D.Disk.told was v k x shows c.requires l.transaction op _ c.hold.new.locks c.keys_touches-touches.ensures c.in-Ok.ensures.granted c.in-Ok.ensures.after in
+    let h = locked t g.D.Disk.told was v k x shows c.requires l.transaction op _ c.hold.new.locks c.keys_touches.ensures c.in-Ok.ensures.granted c.in-Ok.ensures.after in
     has_read t g.D.Disk.told was v k x shows c.requires c.args.name op l (sym c.in-Some.ensures) c.hold.new.locks h (Err c.in-Ok-Err.reason) k.objects (rw c.in-Ok-Err.field-0-is at c.in-Ok-Err.ensures.done t) refl
 
 pub returns-in-Err-keys-clause-goes : goal.returns-in-Err-keys-clause-goes
@@ -43,5 +43,5 @@ returns-in-Err-keys-clause-goes g c t into was x shows =
     let v = g.D.Disk.view c.args.self.now.disk in
     let op : Op = On c.args.table Keys in
     let l : Opened = opened_of c.in-Some.live in
-    let h = locked t g.D.Disk.told was v k x shows c.requires l.transaction op _ c.hold.new.locks c.keys_touches-touches.ensures c.in-Ok.ensures.granted c.in-Ok.ensures.after in
+    let h = locked t g.D.Disk.told was v k x shows c.requires l.transaction op _ c.hold.new.locks c.keys_touches.ensures c.in-Ok.ensures.granted c.in-Ok.ensures.after in
     starved t g.D.Disk.told was v k x shows c.requires c.args.name op l (sym c.in-Some.ensures) c.hold.new.locks h k.objects (inl tt) (c.in-Err-keys.ensures.cause t) (λ work. absurd (cc)) refl

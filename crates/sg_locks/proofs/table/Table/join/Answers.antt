@@ -1,6 +1,6 @@
-use Rattle.std.proofs.Common.{◌≡◌, arith, sym, ap, ◌∙◌, map, set, get_or, length, subst, ◌<◌}
+use Rattle.std.proofs.Common.{◌≡◌, [], ◌∷◌, arith, sym, ap, ◌∙◌, map, set, get_or, length, subst, ◌<◌}
 use Rattle.std.proofs.lemmas.List.{map-set, length-map, length-set, get_or-map}
-use Rattle.sg_serial.specs.Locks.{Hold, is_pair}
+use Rattle.sg_serial.specs.Locks.{Hold, is_pair, AreOnce}
 use Rattle.sg_model.specs.Touches.{Resource, same_resource}
 use Rattle.sg_model.specs.Resources.{shown_touch}
 use Rattle.sg_locks.specs.Buckets.{resource_bucket, name_bucket}
@@ -8,6 +8,8 @@ use Rattle.sg_locks.specs.Held.{AreCompatible}
 use Rattle.sg_locks.specs.Places.{joined}
 use Rattle.sg_locks.specs.Shown.{shown_hold}
 use Rattle.sg_locks.proofs.Held.{compatible_kept}
+use Rattle.sg_serial.proofs.Once.{once_all}
+use Rattle.sg_model.proofs.Meeting.{resource_same, resource_self}
 use Rattle.sg_locks.proofs.Indexed.{same_buckets}
 use Rattle.sg_locks.proofs.Places.{place_within, hold_at}
 use Rattle.sg_locks.proofs.table.Table.join.Goals as goal
@@ -51,4 +53,5 @@ invariant_of-self c =
       resources = c.args.self.now.resources ∙ sym (same_buckets by_resource items c.args.at c.index.result.now held within c.index.ensures (ap by_resource c.joined-held.ensures));
       names = c.args.self.now.names ∙ sym (same_buckets by_name items c.args.at c.index.result.now held within c.index.ensures (ap by_name c.joined-held.ensures));
       compatible = subst AreCompatible (sym now) (compatible_kept c.args.t.0 (shown_touch c.args.touch.now) hs c.args.self.now.compatible c.requires.clear);
+      once = subst (AreOnce same_resource) (sym now) (once_all same_resource resource_same resource_self c.args.t.0 (shown_touch c.args.touch.now ∷ []) hs c.args.self.now.once);
     }

@@ -7,8 +7,9 @@ use Rattle.sg_locks.specs.Places.{first_place}
 use Rattle.sg_locks.specs.Shown.{shown_hold}
 use Rattle.sg_locks.specs.Held.{AreCompatible}
 use Rattle.sg_locks.proofs.Held.{compatible_released}
-use Rattle.sg_serial.specs.Locks.{Hold}
-use Rattle.sg_model.specs.Touches.{Resource}
+use Rattle.sg_serial.specs.Locks.{Hold, AreOnce}
+use Rattle.sg_serial.proofs.Once.{once_released}
+use Rattle.sg_model.specs.Touches.{Resource, same_resource}
 use Rattle.sg_locks.proofs.Counting.{map_released}
 use Rattle.sg_locks.proofs.Indexed.{front_buckets}
 use Rattle.sg_locks.proofs.Places.{kept_front, front_left, all_kept}
@@ -47,6 +48,9 @@ invariant_of-self c =
       compatible =
           subst AreCompatible (sym (ap (map shown_hold) c.truncate-then-are_its.ensures.items ∙ front_left shown_hold p items c.in-Some.first placed all))
           (compatible_released c.args.t.0 (map shown_hold items) c.args.self.now.compatible);
+      once =
+          subst (AreOnce same_resource) (sym (ap (map shown_hold) c.truncate-then-are_its.ensures.items ∙ front_left shown_hold p items c.in-Some.first placed all))
+          (once_released same_resource c.args.t.0 (map shown_hold items) c.args.self.now.once);
     }
 
 pub link_from-requires-clause-within : goal.link_from-requires-clause-within
@@ -86,4 +90,7 @@ invariant_of-self-2 c = record {
   compatible =
       subst AreCompatible (sym (ap (map shown_hold) (filter_same _ (λ h. not (h.transaction.0 == c.args.t.0)) _ (λ x b f r. search rules) _ _ c.retain.ensures.filtered) ∙ map_released c.args.t.0 c.args.self.now.holds.items))
       (compatible_released c.args.t.0 (map shown_hold c.args.self.now.holds.items) c.args.self.now.compatible);
+  once =
+      subst (AreOnce same_resource) (sym (ap (map shown_hold) (filter_same _ (λ h. not (h.transaction.0 == c.args.t.0)) _ (λ x b f r. search rules) _ _ c.retain.ensures.filtered) ∙ map_released c.args.t.0 c.args.self.now.holds.items))
+      (once_released same_resource c.args.t.0 (map shown_hold c.args.self.now.holds.items) c.args.self.now.once);
 }

@@ -13,17 +13,17 @@ use Rattle.sg_plain.proofs.objects.Objects.reach_in.Goals as goal
 
 pub returns-in-None : goal.returns-in-None
 returns-in-None c =
-    let none : get c.args.self.now c.args.name ≡ None = sym c.in-None.ensures in
+    let none : get c.args.self.now c.args.name.now ≡ None = sym c.in-None.ensures in
     let first : shown_touches c.push.new.self ≡ touch_of (name_of c.args.op.now) (to_read (Just Kind)) ∷ [] =
-    c.push.ensures ∙ (ap (λ (ts : List (Touch Resource)). ts ++ shown_touch c.only_read.result ∷ []) c.new-touches.ensures
+    c.push.ensures ∙ (ap (λ (ts : List (Touch Resource)). ts ++ shown_touch c.only_read.result ∷ []) c.clear.ensures
     ∙ ap (λ (a : Touch Resource). a ∷ []) (c.only_read.ensures ∙ ap (λ (n : List ℕ). touch_of n (to_read (Just Kind))) c.requires.named)) in
     first ∙ ap (λ (o : Option Object). touch_of (name_of c.args.op.now) (to_read (Just Kind)) ∷ map (touch_of (name_of c.args.op.now)) (further (verb_of c.args.op.now) o)) (sym none)
 
 pub returns-in-Some : goal.returns-in-Some
 returns-in-Some c =
-    let there : get c.args.self.now c.args.name ≡ Some (shown c.in-Some.object.now) = sym c.in-Some.ensures in
+    let there : get c.args.self.now c.args.name.now ≡ Some (shown c.in-Some.object.now) = sym c.in-Some.ensures in
     let first : shown_touches c.push.new.self ≡ touch_of (name_of c.args.op.now) (to_read (Just Kind)) ∷ [] =
-    c.push.ensures ∙ (ap (λ (ts : List (Touch Resource)). ts ++ shown_touch c.only_read.result ∷ []) c.new-touches.ensures
+    c.push.ensures ∙ (ap (λ (ts : List (Touch Resource)). ts ++ shown_touch c.only_read.result ∷ []) c.clear.ensures
     ∙ ap (λ (a : Touch Resource). a ∷ []) (c.only_read.ensures ∙ ap (λ (n : List ℕ). touch_of n (to_read (Just Kind))) c.requires.named)) in
     c.reach.ensures ∙ (ap (λ (ts : List (Touch Resource)). ts ++ map (touch_of (name_of c.args.op.now)) (further (verb_of c.args.op.now) (Some (shown c.in-Some.object.now)))) first
     ∙ ap (λ (o : Option Object). touch_of (name_of c.args.op.now) (to_read (Just Kind)) ∷ map (touch_of (name_of c.args.op.now)) (further (verb_of c.args.op.now) o)) (sym there))

@@ -14,7 +14,7 @@ use Rattle.sg_plain.proofs.objects.Objects.reach_keys.Goals as goal
 pub returns-in-None : goal.returns-in-None
 returns-in-None c =
     let none : get c.args.self.now c.args.name ≡ None = sym c.in-None.ensures in
-    c.push.ensures ∙ (ap (λ (ts : List (Touch Resource)). ts ++ shown_touch c.only_read.result ∷ []) c.new-touches.ensures ∙ (ap (λ (a : Touch Resource). a ∷ []) c.only_read.ensures
+    c.push.ensures ∙ (ap (λ (ts : List (Touch Resource)). ts ++ shown_touch c.only_read.result ∷ []) c.clear.ensures ∙ (ap (λ (a : Touch Resource). a ∷ []) c.only_read.ensures
     ∙ ap (λ (o : Option Object). touch_of c.args.name (to_read (Just Kind)) ∷ map (touch_of c.args.name) (further Keys o)) (sym none)))
 
 pub returns-in-Some : goal.returns-in-Some
@@ -22,6 +22,6 @@ returns-in-Some c =
     let object : Object = shown c.in-Some.object.now in
     let there : get c.args.self.now c.args.name ≡ Some object = sym c.in-Some.ensures in
     let first : shown_touches c.push.new.self ≡ touch_of c.args.name (to_read (Just Kind)) ∷ [] =
-    c.push.ensures ∙ (ap (λ (ts : List (Touch Resource)). ts ++ shown_touch c.only_read.result ∷ []) c.new-touches.ensures ∙ ap (λ (a : Touch Resource). a ∷ []) c.only_read.ensures) in
+    c.push.ensures ∙ (ap (λ (ts : List (Touch Resource)). ts ++ shown_touch c.only_read.result ∷ []) c.clear.ensures ∙ ap (λ (a : Touch Resource). a ∷ []) c.only_read.ensures) in
     c.reach_keys.ensures ∙ (ap (λ (ts : List (Touch Resource)). ts ++ map (touch_of c.args.name) (further Keys (Some object))) first
     ∙ ap (λ (o : Option Object). touch_of c.args.name (to_read (Just Kind)) ∷ map (touch_of c.args.name) (further Keys o)) (sym there))
