@@ -155,6 +155,7 @@ impl Array {
     }
 
     // Adds an item of the right size.
+ #[inline(always)]
     fn add(&mut self, value: &[u8]) -> Result<(), AllocError>
         requires sized { length value.now ≡ self.old.row.size }
         requires room { length self.old.row.items < MOST_ITEMS }
@@ -282,6 +283,7 @@ impl Array {
     }
 
     // Why a record operation would not be done to the item at an index.
+ #[inline(never)]
     #[tactic(auto, unfolding(sg_ops::specs::Table::accepts_of))]
     fn change_refusal(&self, ops: &Ops, index: u64, code: u64, arg: &[u8]) -> Option<Reason>
         ensures { Refuses (apply (table_of record_meaning range_meaning ops.now) index code arg.now self.now.row).0 result }
@@ -305,6 +307,7 @@ impl Array {
     }
 
     /// Why an operation that makes and drops no object would be refused.
+ #[inline(always)]
     pub fn refusal(&self, ops: &Ops, op: &Op<'_>) -> Option<Reason>
         requires { IsInPlace (verb_of op.now) }
         ensures { Refuses (on (table_of record_meaning range_meaning ops.now) (verb_of op.now) (Some (as_object self.now.row))).0 result }
@@ -340,6 +343,7 @@ impl Array {
     }
 
     // Adds an item at the end, and gives its index.
+ #[inline(always)]
     fn push(&mut self, value: &[u8]) -> Result<u64, OutOfMemory>
         requires { IsOk (push value.now self.old.row).0 }
         ensures done { IfOk result (λ n. push value.now self.old.row ≡ (Ok (Number n), self.new.row)) }
@@ -353,6 +357,7 @@ impl Array {
     }
 
     // Takes the last item, and gives its length. Takes no memory.
+ #[inline(never)]
     fn pop(&mut self, into: &mut [u8]) -> usize
         requires room { 256 ≤ length into.old }
         requires some { IsOk (pop self.old.row).0 }
@@ -362,6 +367,7 @@ impl Array {
     }
 
     // Replaces the item at an index. Takes no memory.
+ #[inline(never)]
     fn set(&mut self, index: u64, value: &[u8])
         requires { IsOk (at_item index (set_to value.now) self.old.row).0 }
         ensures { at_item index (set_to value.now) self.old.row ≡ (Ok Done, self.new.row) }
@@ -370,6 +376,7 @@ impl Array {
     }
 
     // Reads the item at an index, and gives its length.
+ #[inline(never)]
     fn read(&self, index: u64, into: &mut [u8]) -> usize
         requires room { 256 ≤ length into.old }
         requires there { IsOk (at_item index got self.now.row).0 }
@@ -385,6 +392,7 @@ impl Array {
     }
 
     // Does a record operation to the item at an index. Takes no memory.
+ #[inline(never)]
     #[tactic(auto, unfolding(sg_ops::specs::Table::accepts_of, sg_ops::specs::Table::after_of))]
     fn change(&mut self, ops: &Ops, index: u64, code: u64, arg: &[u8])
         requires { IsOk (apply (table_of record_meaning range_meaning ops.now) index code arg.now self.old.row).0 }
@@ -430,6 +438,7 @@ impl Array {
 
     /// Does an operation that isn't refused, and that makes and drops no object. After
     /// `OutOfMemory`, which comes only for an item to be added, the array is unchanged.
+ #[inline(always)]
     pub fn apply(&mut self, ops: &Ops, op: &Op<'_>, into: &mut [u8]) -> Result<Reply, OutOfMemory>
         requires room { 8192 ≤ length into.old }
         requires in_place { IsInPlace (verb_of op.now) }

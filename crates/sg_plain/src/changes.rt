@@ -73,6 +73,7 @@ impl Changes {
     }
 
     // Does an operation that isn't refused to the object with a name of which nothing is noted yet, and notes it.
+ #[inline(never)]
     fn edit_first(
         &mut self,
         name: &Name,
@@ -99,6 +100,7 @@ impl Changes {
     }
 
     // Does an operation that isn't refused to the object with a name, and notes it.
+ #[inline(always)]
     fn edit(
         &mut self,
         name: &Name,
@@ -125,6 +127,7 @@ impl Changes {
     /// Does an operation that makes and drops no object to the object with this name, and notes what
     /// takes it back, or answers the reason why it is refused, which changes nothing. After
     /// `OutOfMemory` neither the object nor the changes have changed.
+ #[inline(always)]
     pub fn change(
         &mut self,
         name: &Name,

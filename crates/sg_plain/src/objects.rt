@@ -61,6 +61,7 @@ fn apply_in(
 }
 
 // The same, and notes what takes it back.
+#[inline(always)]
 fn change_in(
     map: &mut BTreeMap<Name, Option<Object>>,
     alloc: Global,
@@ -507,6 +508,7 @@ impl Objects {
     }
 
     // Makes or drops an object and notes it, or answers the reason why not.
+ #[inline(never)]
     #[tactic(auto, using(crate::proofs::Steps::refused, crate::proofs::Noting::refused_notes))]
     fn change_whole(
         &mut self,
@@ -535,6 +537,7 @@ impl Objects {
     ///
     /// After `OutOfMemory`, which comes only for an operation that would have got a reply, the objects
     /// and the notes are unchanged.
+ #[inline(always)]
     pub fn change(
         &mut self,
         alloc: Global,

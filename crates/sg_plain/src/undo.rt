@@ -67,6 +67,7 @@ impl Past {
     /// Does an operation that isn't refused, and that makes and drops no object, to the object that
     /// stands there, and notes what takes it back where that has to be known: not once an object was
     /// made or dropped. After `OutOfMemory` neither the object nor what is noted has changed.
+ #[inline(always)]
     pub fn edit(
         &mut self,
         object: &mut Object,
