@@ -127,6 +127,7 @@ impl Array {
     ghost use Rattle.sg_model.specs.Undo.{note_array, note_item, note_last, undo};
     ghost use Rattle.sg_plain.specs.Undone.{shown_undo_of, undo_listed};
     ghost use Rattle.sg_plain.specs.Ready.{IsReadyRow};
+    ghost use Rattle.sg_plain.specs.declared.undo.Undo.TheVariants.{Pushed};
 
     /// An array without items, for items of this many bytes. Takes no memory.
     pub fn new(alloc: Global, size: u64) -> Array
@@ -155,7 +156,6 @@ impl Array {
     }
 
     // Adds an item of the right size.
- #[inline(always)]
     fn add(&mut self, value: &[u8]) -> Result<(), AllocError>
         requires sized { length value.now ≡ self.old.row.size }
         requires room { length self.old.row.items < MOST_ITEMS }
@@ -236,8 +236,8 @@ impl Array {
         Some(item_in(&self.bytes, self.size, self.count, index as usize))
     }
 
-    // Why an item would not be added.
-    fn push_refusal(&self, value: &[u8]) -> Option<Reason>
+    /// Why an item would not be added.
+    pub fn push_refusal(&self, value: &[u8]) -> Option<Reason>
         ensures { Refuses (push value.now self.now.row).0 result }
     {
         if value.len() as u64 != self.size() {
@@ -283,7 +283,6 @@ impl Array {
     }
 
     // Why a record operation would not be done to the item at an index.
- #[inline(never)]
     #[tactic(auto, unfolding(sg_ops::specs::Table::accepts_of))]
     fn change_refusal(&self, ops: &Ops, index: u64, code: u64, arg: &[u8]) -> Option<Reason>
         ensures { Refuses (apply (table_of record_meaning range_meaning ops.now) index code arg.now self.now.row).0 result }
@@ -307,7 +306,6 @@ impl Array {
     }
 
     /// Why an operation that makes and drops no object would be refused.
- #[inline(always)]
     pub fn refusal(&self, ops: &Ops, op: &Op<'_>) -> Option<Reason>
         requires { IsInPlace (verb_of op.now) }
         ensures { Refuses (on (table_of record_meaning range_meaning ops.now) (verb_of op.now) (Some (as_object self.now.row))).0 result }
@@ -342,9 +340,9 @@ impl Array {
         }
     }
 
-    // Adds an item at the end, and gives its index.
- #[inline(always)]
-    fn push(&mut self, value: &[u8]) -> Result<u64, OutOfMemory>
+    /// Adds an item at the end, where that isn't refused, and gives its index. After `OutOfMemory` the
+    /// array is unchanged.
+    pub fn push(&mut self, value: &[u8]) -> Result<u64, OutOfMemory>
         requires { IsOk (push value.now self.old.row).0 }
         ensures done { IfOk result (λ n. push value.now self.old.row ≡ (Ok (Number n), self.new.row)) }
         ensures err { OnErr result (self.new.row ≡ self.old.row) }
@@ -356,8 +354,25 @@ impl Array {
         }
     }
 
+    /// The same, and adds what undoes it to the notes. After `OutOfMemory` neither the array nor the
+    /// notes have changed.
+    #[inline(always)]
+    pub fn push_noted(&mut self, value: &[u8], undos: &mut Vec<Undo>) -> Result<u64, OutOfMemory>
+        requires { IsOk (push value.now self.old.row).0 }
+        ensures done { IfOk result (λ n. push value.now self.old.row ≡ (Ok (Number n), self.new.row)) }
+        ensures noted { OnOk result (undos.new.items ≡ undos.old.items ++ Pushed ∷ []) }
+        ensures err { OnErr result (self.new.row ≡ self.old.row) }
+        ensures same { OnErr result (undos.new.items ≡ undos.old.items) }
+    {
+        if undos.reserve(1).is_err() {
+            return Err(OutOfMemory);
+        }
+        let index = self.push(value)?;
+        undos.push_reserved(Undo::Pushed);
+        Ok(index)
+    }
+
     // Takes the last item, and gives its length. Takes no memory.
- #[inline(never)]
     fn pop(&mut self, into: &mut [u8]) -> usize
         requires room { 256 ≤ length into.old }
         requires some { IsOk (pop self.old.row).0 }
@@ -367,7 +382,6 @@ impl Array {
     }
 
     // Replaces the item at an index. Takes no memory.
- #[inline(never)]
     fn set(&mut self, index: u64, value: &[u8])
         requires { IsOk (at_item index (set_to value.now) self.old.row).0 }
         ensures { at_item index (set_to value.now) self.old.row ≡ (Ok Done, self.new.row) }
@@ -376,7 +390,6 @@ impl Array {
     }
 
     // Reads the item at an index, and gives its length.
- #[inline(never)]
     fn read(&self, index: u64, into: &mut [u8]) -> usize
         requires room { 256 ≤ length into.old }
         requires there { IsOk (at_item index got self.now.row).0 }
@@ -392,7 +405,6 @@ impl Array {
     }
 
     // Does a record operation to the item at an index. Takes no memory.
- #[inline(never)]
     #[tactic(auto, unfolding(sg_ops::specs::Table::accepts_of, sg_ops::specs::Table::after_of))]
     fn change(&mut self, ops: &Ops, index: u64, code: u64, arg: &[u8])
         requires { IsOk (apply (table_of record_meaning range_meaning ops.now) index code arg.now self.old.row).0 }
@@ -438,7 +450,6 @@ impl Array {
 
     /// Does an operation that isn't refused, and that makes and drops no object. After
     /// `OutOfMemory`, which comes only for an item to be added, the array is unchanged.
- #[inline(always)]
     pub fn apply(&mut self, ops: &Ops, op: &Op<'_>, into: &mut [u8]) -> Result<Reply, OutOfMemory>
         requires room { 8192 ≤ length into.old }
         requires in_place { IsInPlace (verb_of op.now) }

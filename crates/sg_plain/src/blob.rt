@@ -196,7 +196,6 @@ impl Blob {
     }
 
     /// Why an operation that makes and drops no object would be refused.
- #[inline(never)]
     pub fn refusal(&self, ops: &Ops, op: &Op<'_>) -> Option<Reason>
         requires { IsInPlace (verb_of op.now) }
         ensures { Refuses (on (table_of record_meaning range_meaning ops.now) (verb_of op.now) (Some (as_object self.now.bytes))).0 result }
@@ -298,7 +297,6 @@ impl Blob {
 
     /// Does an operation that isn't refused, and that makes and drops no object. After
     /// `OutOfMemory`, which comes only for a write or a size, the blob is unchanged.
- #[inline(never)]
     pub fn apply(&mut self, ops: &Ops, op: &Op<'_>, into: &mut [u8]) -> Result<Reply, OutOfMemory>
         requires room { 8192 ≤ length into.old }
         requires in_place { IsInPlace (verb_of op.now) }

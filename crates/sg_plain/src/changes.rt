@@ -73,7 +73,6 @@ impl Changes {
     }
 
     // Does an operation that isn't refused to the object with a name of which nothing is noted yet, and notes it.
- #[inline(never)]
     fn edit_first(
         &mut self,
         name: &Name,
@@ -99,9 +98,10 @@ impl Changes {
         }
     }
 
-    // Does an operation that isn't refused to the object with a name, and notes it.
- #[inline(always)]
-    fn edit(
+    // Does an operation that makes and drops no object to the object with a name of which nothing is noted
+    // yet, as `change` does.
+    #[inline(never)]
+    fn change_first(
         &mut self,
         name: &Name,
         object: &mut Object,
@@ -109,25 +109,29 @@ impl Changes {
         ops: &Ops,
         op: &Op<'_>,
         into: &mut [u8],
-    ) -> Result<Reply, OutOfMemory>
+    ) -> Result<Result<Reply, Reason>, OutOfMemory>
+        requires absent { get (slice_cmp nat_cmp) self.old.map name.now ≡ None }
         requires room { 8192 ≤ length into.old }
         requires in_place { IsInPlace (verb_of op.now) }
-        requires accepted { IsOk (on (table_of record_meaning range_meaning ops.now) (verb_of op.now) (Some (shown object.old))).0 }
-        ensures done { IfOk result (λ r. on (table_of record_meaning range_meaning ops.now) (verb_of op.now) (Some (shown object.old)) ≡ (Ok (said_reply into.new r), Some (shown object.new))) }
-        ensures noted { OnOk result ((other : List ℕ) (was : Option plain.Object) → undo_in self.new other was ≡ undo_in self.old other (undo_on other (name.now, note_there (verb_of op.now) (shown object.old)) was)) }
+        ensures done { IfOk result (λ r. on (table_of record_meaning range_meaning ops.now) (verb_of op.now) (Some (shown object.old)) ≡ (said_outcome into.new r, Some (shown object.new))) }
+        ensures noted { OnOk result ((other : List ℕ) (was : Option plain.Object) → undo_in self.new other was ≡ undo_in self.old other (undo_on other (name.now, note_of (table_of record_meaning range_meaning ops.now) (verb_of op.now) (Some (shown object.old))) was)) }
         ensures err { OnErr result (shown object.new ≡ shown object.old) }
         ensures same { OnErr result ((other : List ℕ) (was : Option plain.Object) → undo_in self.new other was ≡ undo_in self.old other was) }
+        ensures cause { OnErr result (IsOk (on (table_of record_meaning range_meaning ops.now) (verb_of op.now) (Some (shown object.old))).0) }
     {
-        match self.map.get_mut(name) {
-            None => self.edit_first(name, object, alloc, ops, op, into),
-            Some(past) => past.edit(object, alloc, ops, op, into),
+        if let Some(reason) = object.refusal(ops, op) {
+            return Ok(Err(reason));
+        }
+        match self.edit_first(name, object, alloc, ops, op, into) {
+            Ok(reply) => Ok(Ok(reply)),
+            Err(fault) => Err(fault),
         }
     }
 
     /// Does an operation that makes and drops no object to the object with this name, and notes what
     /// takes it back, or answers the reason why it is refused, which changes nothing. After
     /// `OutOfMemory` neither the object nor the changes have changed.
- #[inline(always)]
+    #[inline(always)]
     pub fn change(
         &mut self,
         name: &Name,
@@ -145,12 +149,9 @@ impl Changes {
         ensures same { OnErr result ((other : List ℕ) (was : Option plain.Object) → undo_in self.new other was ≡ undo_in self.old other was) }
         ensures cause { OnErr result (IsOk (on (table_of record_meaning range_meaning ops.now) (verb_of op.now) (Some (shown object.old))).0) }
     {
-        if let Some(reason) = object.refusal(ops, op) {
-            return Ok(Err(reason));
-        }
-        match self.edit(name, object, alloc, ops, op, into) {
-            Ok(reply) => Ok(Ok(reply)),
-            Err(fault) => Err(fault),
+        match self.map.get_mut(name) {
+            None => self.change_first(name, object, alloc, ops, op, into),
+            Some(past) => past.change(object, alloc, ops, op, into),
         }
     }
 }

@@ -38,7 +38,6 @@ impl Object {
     ghost use Rattle.sg_plain.specs.Ready.{IsReady};
 
     /// Why an operation that makes and drops no object would be refused.
- #[inline(always)]
     #[tactic(auto, using(crate::proofs::Steps::table_refuses))]
     pub fn refusal(&self, ops: &Ops, op: &Op<'_>) -> Option<Reason>
         requires { IsInPlace (verb_of op.now) }
@@ -93,7 +92,6 @@ impl Object {
     /// Does an operation that isn't refused, and that makes and drops no object. After
     /// `OutOfMemory`, which comes only for an operation that takes memory for what it leaves, the
     /// object is unchanged.
- #[inline(always)]
     #[tactic(auto, using(crate::proofs::Steps::table_accepts, crate::proofs::Steps::table_does))]
     pub fn apply(
         &mut self,
@@ -157,7 +155,6 @@ impl Object {
 
     /// Does an operation that isn't refused, and that makes and drops no object, and adds what undoes it to the notes.
     /// After `OutOfMemory` neither the object nor the notes have changed.
- #[inline(never)]
     pub fn edit(
         &mut self,
         alloc: Global,

@@ -116,7 +116,6 @@ impl Table {
     }
 
     /// Why an operation that makes and drops no object would be refused.
- #[inline(never)]
     pub fn refusal(&self, op: &Op<'_>) -> Option<Reason>
         requires { IsInPlace (verb_of op.now) }
         ensures { Refuses (on fresh_table (verb_of op.now) (Some (as_object (there self.now)))).0 result }
@@ -314,7 +313,6 @@ impl Table {
 
     /// Does an operation that isn't refused, and that makes and drops no object. After
     /// `OutOfMemory`, which comes only for a value to be put, the table is unchanged.
- #[inline(never)]
     pub fn apply(
         &mut self,
         alloc: Global,
