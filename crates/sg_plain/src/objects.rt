@@ -585,13 +585,14 @@ impl Objects {
         ensures err { OnErr result (self.new ≡ self.old) }
         ensures same { OnErr result ((name : List ℕ) (object : Option plain.Object) → undo_in changes.new name object ≡ undo_in changes.old name object) }
     {
-        match make_all_ready(&mut self.map, alloc, changes) {
+        changes.gather()?;
+        match make_all_ready(&mut self.map, alloc, &mut changes.others) {
             Ok(()) => {
-                take_all_back(&mut self.map, changes);
+                take_all_back(&mut self.map, &mut changes.others);
                 Ok(())
             }
             Err(fault) => {
-                drop_places(&mut self.map, changes);
+                drop_places(&mut self.map, &changes.others);
                 Err(fault)
             }
         }

@@ -4,7 +4,7 @@ use Rattle.sg_ops.specs.Table.{table_of}
 use Rattle.sg_model.specs.Undo.{note_of}
 use Rattle.sg_plain.specs.Shown.{shown}
 use Rattle.sg_plain.proofs.Pasts.{one_edit, no_edit}
-use Rattle.sg_plain.proofs.changes.Changes.change.Goals as goal
+use Rattle.sg_plain.proofs.notes.Notes.change.Goals as goal
 
 pub returns-in-Some-clause-noted : goal.returns-in-Some-clause-noted
 returns-in-Some-clause-noted g c =
