@@ -508,7 +508,7 @@ impl Objects {
     }
 
     // Makes or drops an object and notes it, or answers the reason why not.
- #[inline(never)]
+    #[inline(never)]
     #[tactic(auto, using(crate::proofs::Steps::refused, crate::proofs::Noting::refused_notes))]
     fn change_whole(
         &mut self,
@@ -537,7 +537,7 @@ impl Objects {
     ///
     /// After `OutOfMemory`, which comes only for an operation that would have got a reply, the objects
     /// and the notes are unchanged.
- #[inline(always)]
+    #[inline(always)]
     pub fn change(
         &mut self,
         alloc: Global,
