@@ -122,6 +122,7 @@ impl Live {
     }
 
     /// The transaction with this number has another last record.
+    #[inline(always)]
     pub fn set_last(&mut self, txn: TxnId, last: Lsn)
         ensures last { all_opened self.new.all.items ≡ with_last txn.0 last (all_opened self.old.all.items) }
         ensures same { (u : ℕ) (name : List ℕ) (object : Option Object) → undo_of self.new.all.items u name object ≡ undo_of self.old.all.items u name object }
@@ -140,6 +141,7 @@ impl Live {
     }
 
     // Where the first transaction with this number stands, if one has it.
+    #[inline(always)]
     fn place(&self, txn: TxnId) -> Option<usize>
         ensures { result ≡ (if nat_lt (position_or_len (has_number txn.0) self.now.all.items) (length self.now.all.items) then Some (position_or_len (has_number txn.0) self.now.all.items) else None) }
     {
@@ -148,6 +150,7 @@ impl Live {
 
     /// Does a changing operation of the transaction with this number, which is live, to the objects, as
     /// `Objects::change` does, and notes what takes it back. After `OutOfMemory` nothing has changed.
+    #[inline(always)]
     pub fn change(
         &mut self,
         txn: TxnId,

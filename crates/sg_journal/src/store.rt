@@ -140,6 +140,7 @@ impl<D: Disk> Store<D> {
     }
 
     // Stops the store at a fault of the log.
+    #[inline(never)]
     fn halt(&mut self, fault: LogFault) -> Answer
         ensures stopped { core_of self.new ≡ record (core_of self.old) { stopped = Some (stop_at fault) } }
         ensures disk { self.new.disk ≡ self.old.disk }
@@ -258,6 +259,7 @@ impl<D: Disk> Store<D> {
     }
 
     // What an operation that isn't done is answered: the reason that it has anyway comes first.
+    #[inline(never)]
     fn refuse(&self, ops: &Ops, op: &Op<'_>, otherwise: Answer) -> Answer
         ensures { IsReasonOr (step (table_of record_meaning range_meaning ops.now) self.now.objects (said_op op.now)).0 otherwise result }
     {
@@ -268,6 +270,7 @@ impl<D: Disk> Store<D> {
     }
 
     // Appends the words of a line that was done to the log.
+    #[inline(always)]
     fn keep(&mut self, live: Running, words: &[u8]) -> Result<(), LogFault>
         requires { length words.now ≤ 32768 }
         ensures log { OnOk result (self.new.log ≡ appended self.old.log (LineRecord live.txn.0 live.last words.now)) }

@@ -405,6 +405,7 @@ impl Log {
 
     /// The number of the log's next byte, with the buffered records counted. Where there are none, it
     /// is that of the closed gate: the next record begins 5 bytes later, behind gate and length.
+    #[inline(always)]
     pub fn tail(&self) -> Lsn
         ensures { result ≡ tail_of self.now }
     {
@@ -416,6 +417,7 @@ impl Log {
     }
 
     /// The number that the record's first byte would have, if it were appended now.
+    #[inline(always)]
     #[tactic(auto, using(crate::proofs::Holding::spelled_most))]
     pub fn place(&self, r: &Rec<'_>) -> Lsn
         requires { IsRecord (shown r.now) }
@@ -428,6 +430,7 @@ impl Log {
     }
 
     // Whether it fits the buffer.
+    #[inline(always)]
     #[tactic(auto, using(crate::proofs::Holding::spelled_most))]
     fn has_room(&self, r: &Rec<'_>) -> bool
         requires { IsRecord (shown r.now) }
@@ -437,6 +440,7 @@ impl Log {
     }
 
     // Puts a record into the buffer.
+    #[inline(always)]
     fn buffer(&mut self, r: &Rec<'_>) -> Lsn
         requires room { length self.old.buffer + length (spelled (shown r.now)) ≤ GREATEST_BODY }
         requires within { self.old.gate + 5 + length self.old.buffer + length (spelled (shown r.now)) ≤ LOG_END }
@@ -457,6 +461,7 @@ impl Log {
     ///
     /// It answers `LogEnd` exactly where the record would end after byte 2^63 of the log. Nothing has
     /// changed then. After `Disk` nothing more is known of the log.
+    #[inline(always)]
     pub fn append<D: Disk>(&mut self, disk: &mut D, r: &Rec<'_>) -> Result<Lsn, LogFault>
         requires { IsRecord (shown r.now) }
         ensures lsn { IfOk result (λ lsn. lsn ≡ place_of self.old (shown r.now)) }
@@ -495,6 +500,7 @@ impl Log {
 
     /// Makes the buffered records durable, as one frame, and empties the buffer. Where it is empty no
     /// call of the disk is made. After `Disk` nothing more is known of the log.
+    #[inline(never)]
     pub fn force<D: Disk>(&mut self, disk: &mut D) -> Result<(), LogFault>
         ensures log { OnOk result (self.new ≡ forced self.old) }
         ensures same { OnErr result (self.new ≡ self.old) }

@@ -22,7 +22,8 @@ use Rattle.sg_plain.specs.declared.undo.Change.TheVariants as changes
 use Rattle.sg_plain.specs.declared.undo.Past as code_past
 use Rattle.sg_plain.specs.declared.undo.Past.TheVariants as pasts
 use Rattle.sg_plain.specs.declared.changes.Changes as code_changes
-use Rattle.sg_plain.specs.Undone.{shown_undo, shown_change, undo_listed, before, undo_in, Makes, MakesOrDrops}
+use Rattle.sg_plain.specs.declared.notes.Notes as code_notes
+use Rattle.sg_plain.specs.Undone.{shown_undo, shown_change, undo_listed, before, undo_in, undo_noted, Makes, MakesOrDrops}
 use Rattle.sg_plain.proofs.Found.{at}
 use Rattle.sg_plain.proofs.Noting.{either}
 use Rattle.sg_plain.proofs.Steps.{after_discard}
@@ -47,11 +48,11 @@ made_noted past us change is made object =
     ∙ (ap (λ (x : code_change.Change). undo_listed us.items (undo (shown_change x) object)) made ∙ none_undone us.items))
 
 -- changes with another past of one name
-abbrev pub past_of : code_changes.Changes → List ℕ → Option code_past.Past
+abbrev pub past_of : code_notes.Notes → List ℕ → Option code_past.Past
 past_of c name = lookup (at name) c.map.entries
 
-pub one_past : (old new : code_changes.Changes) (name : List ℕ) (past : code_past.Past) (was : Option code_past.Past) (note : Note) → was ≡ past_of old name → ((q : List ℕ) → past_of new q ≡ cond (at name q) (Some past) (past_of old q))
-    → ((object : Option Object) → before (Some past) object ≡ before was (undo note object)) → (other : List ℕ) (object : Option Object) → undo_in new other object ≡ undo_in old other (undo_on other (name, note) object)
+pub one_past : (old new : code_notes.Notes) (name : List ℕ) (past : code_past.Past) (was : Option code_past.Past) (note : Note) → was ≡ past_of old name → ((q : List ℕ) → past_of new q ≡ cond (at name q) (Some past) (past_of old q))
+    → ((object : Option Object) → before (Some past) object ≡ before was (undo note object)) → (other : List ℕ) (object : Option Object) → undo_noted new other object ≡ undo_noted old other (undo_on other (name, note) object)
 one_past old new name past was note there put says other object =
     ap (λ (p : Option code_past.Past). before p object) (put other ∙ ap (λ (b : Bool). cond b (Some past) (past_of old other)) (tied name other)) ∙ by (bytes_eq other name) refl
   where
@@ -59,19 +60,29 @@ one_past old new name past was note there put says other object =
     by true e = says object ∙ ap (λ (p : Option code_past.Past). before p (undo note object)) (there ∙ ap (past_of old) (sym (bytes_same other name e)))
     by false e = refl
 
+-- what stood there, by the other past
+pub put_past : (old new : code_notes.Notes) (name : List ℕ) (past : code_past.Past) → ((q : List ℕ) → past_of new q ≡ cond (at name q) (Some past) (past_of old q))
+    → (other : List ℕ) (object : Option Object) → undo_noted new other object ≡ cond (bytes_eq other name) (before (Some past) object) (undo_noted old other object)
+put_past old new name past put other object =
+    ap (λ (p : Option code_past.Past). before p object) (put other ∙ ap (λ (b : Bool). cond b (Some past) (past_of old other)) (tied name other)) ∙ by (bytes_eq other name)
+  where
+    by : (b : Bool) → before (cond b (Some past) (past_of old other)) object ≡ cond b (before (Some past) object) (before (past_of old other) object)
+    by true = refl
+    by false = refl
+
 -- the same where it says the same
-pub same_past : (old new : code_changes.Changes) (name : List ℕ) (past : code_past.Past) (was : Option code_past.Past) → was ≡ past_of old name → ((q : List ℕ) → past_of new q ≡ cond (at name q) (Some past) (past_of old q))
-    → ((object : Option Object) → before (Some past) object ≡ before was object) → (other : List ℕ) (object : Option Object) → undo_in new other object ≡ undo_in old other object
-same_past old new name past was there put says other object = one_past old new name past was Nothing there put says other object ∙ ap (undo_in old other) (either (bytes_eq other name) object)
+pub same_past : (old new : code_notes.Notes) (name : List ℕ) (past : code_past.Past) (was : Option code_past.Past) → was ≡ past_of old name → ((q : List ℕ) → past_of new q ≡ cond (at name q) (Some past) (past_of old q))
+    → ((object : Option Object) → before (Some past) object ≡ before was object) → (other : List ℕ) (object : Option Object) → undo_noted new other object ≡ undo_noted old other object
+same_past old new name past was there put says other object = one_past old new name past was Nothing there put says other object ∙ ap (undo_noted old other) (either (bytes_eq other name) object)
 
 -- an operation on the object with one name, by what is noted of it
-module _ {A E : Type 0} (start old new : code_changes.Changes) (name : List ℕ) (past : code_past.Past) (was : Option code_past.Past) (same : (other : List ℕ) (object : Option Object) → undo_in old other object ≡ undo_in start other object)
+module _ {A E : Type 0} (start old new : code_notes.Notes) (name : List ℕ) (past : code_past.Past) (was : Option code_past.Past) (same : (other : List ℕ) (object : Option Object) → undo_noted old other object ≡ undo_noted start other object)
     (there : was ≡ past_of old name) (put : (q : List ℕ) → past_of new q ≡ cond (at name q) (Some past) (past_of old q)) where
-  pub one_edit : (result : Result A E) (note : Note) → OnOk result ((object : Option Object) → before (Some past) object ≡ before was (undo note object)) → OnOk result ((other : List ℕ) (object : Option Object) → undo_in new other object ≡ undo_in start other (undo_on other (name, note) object))
+  pub one_edit : (result : Result A E) (note : Note) → OnOk result ((object : Option Object) → before (Some past) object ≡ before was (undo note object)) → OnOk result ((other : List ℕ) (object : Option Object) → undo_noted new other object ≡ undo_noted start other (undo_on other (name, note) object))
   one_edit (Ok x) note says = λ other object. one_past old new name past was note there put says other object ∙ same other (undo_on other (name, note) object)
   one_edit (Err e) note says = tt
 
-  pub no_edit : (result : Result A E) → OnErr result ((object : Option Object) → before (Some past) object ≡ before was object) → OnErr result ((other : List ℕ) (object : Option Object) → undo_in new other object ≡ undo_in start other object)
+  pub no_edit : (result : Result A E) → OnErr result ((object : Option Object) → before (Some past) object ≡ before was object) → OnErr result ((other : List ℕ) (object : Option Object) → undo_noted new other object ≡ undo_noted start other object)
   no_edit (Ok x) says = tt
   no_edit (Err e) says = λ other object. same_past old new name past was there put says other object ∙ same other object
 

@@ -1,5 +1,6 @@
 -- The code's notes of what was done to objects, without where they lie in memory, and what takes it back.
-use Rattle.std.specs.Prelude.{ℕ, List, map, Option, Some, None}
+use Rattle.std.specs.Prelude.{ℕ, Bool, ◌||◌, is_some, if◌then◌else◌, List, map, Option, Some, None}
+use Rattle.std.specs.Str.{bytes_eq}
 use Rattle.std.specs.Ordering.{nat_cmp}
 use Rattle.std.specs.Cmp.Lexicographic.{slice_cmp}
 use Rattle.std.specs.BTreeMap.{get}
@@ -14,6 +15,7 @@ use Rattle.sg_plain.specs.declared.undo.Past as code_past
 use Rattle.sg_plain.specs.declared.undo.Past.TheVariants as pasts
 use Rattle.sg_plain.specs.declared.undo.Change as code_change
 use Rattle.sg_plain.specs.declared.undo.Change.TheVariants as changes
+use Rattle.sg_plain.specs.declared.notes.Notes as code_notes
 use Rattle.sg_plain.specs.declared.changes.Changes as code_changes
 use Rattle.sg_plain.specs.Shown.{shown}
 
@@ -46,9 +48,26 @@ abbrev pub shown_change : code_change.Change → Note
 shown_change changes.Made = WasMade
 shown_change (changes.Dropped object) = WasDropped (shown object)
 
+-- what stood under a name before what is noted, by what stands there now
+abbrev pub undo_noted : code_notes.Notes → List ℕ → Option Object → Option Object
+undo_noted notes name object = before (get (slice_cmp nat_cmp) notes.map name) object
+
+-- the same where what is noted of the first object stands for what the others have of its name
+abbrev pub undo_first : Option (List ℕ × code_past.Past) → code_notes.Notes → List ℕ → Option Object → Option Object
+undo_first None others name object = undo_noted others name object
+undo_first (Some first) others name object = if bytes_eq name first.0 then before (Some first.1) object else undo_noted others name object
+
 -- what stood under a name before the changes, by what stands there now
 abbrev pub undo_in : code_changes.Changes → List ℕ → Option Object → Option Object
-undo_in changes name object = before (get (slice_cmp nat_cmp) changes.map name) object
+undo_in changes name object = undo_first changes.first changes.others name object
+
+-- a name has a place among the changes
+abbrev pub is_placed : Option (List ℕ × code_past.Past) → code_notes.Notes → List ℕ → Bool
+is_placed None others name = is_some (get (slice_cmp nat_cmp) others.map name)
+is_placed (Some first) others name = bytes_eq first.0 name || is_some (get (slice_cmp nat_cmp) others.map name)
+
+abbrev pub has_place : code_changes.Changes → List ℕ → Bool
+has_place changes name = is_placed changes.first changes.others name
 
 -- the verbs that make an object
 abbrev pub Makes : Verb → Type 0

@@ -127,6 +127,7 @@ impl Array {
     ghost use Rattle.sg_model.specs.Undo.{note_array, note_item, note_last, undo};
     ghost use Rattle.sg_plain.specs.Undone.{shown_undo_of, undo_listed};
     ghost use Rattle.sg_plain.specs.Ready.{IsReadyRow};
+    ghost use Rattle.sg_plain.specs.declared.undo.Undo.TheVariants.{Pushed};
 
     /// An array without items, for items of this many bytes. Takes no memory.
     pub fn new(alloc: Global, size: u64) -> Array
@@ -235,8 +236,8 @@ impl Array {
         Some(item_in(&self.bytes, self.size, self.count, index as usize))
     }
 
-    // Why an item would not be added.
-    fn push_refusal(&self, value: &[u8]) -> Option<Reason>
+    /// Why an item would not be added.
+    pub fn push_refusal(&self, value: &[u8]) -> Option<Reason>
         ensures { Refuses (push value.now self.now.row).0 result }
     {
         if value.len() as u64 != self.size() {
@@ -339,8 +340,9 @@ impl Array {
         }
     }
 
-    // Adds an item at the end, and gives its index.
-    fn push(&mut self, value: &[u8]) -> Result<u64, OutOfMemory>
+    /// Adds an item at the end, where that isn't refused, and gives its index. After `OutOfMemory` the
+    /// array is unchanged.
+    pub fn push(&mut self, value: &[u8]) -> Result<u64, OutOfMemory>
         requires { IsOk (push value.now self.old.row).0 }
         ensures done { IfOk result (λ n. push value.now self.old.row ≡ (Ok (Number n), self.new.row)) }
         ensures err { OnErr result (self.new.row ≡ self.old.row) }
@@ -350,6 +352,24 @@ impl Array {
             Ok(()) => Ok(at),
             Err(_) => Err(OutOfMemory),
         }
+    }
+
+    /// The same, and adds what undoes it to the notes. After `OutOfMemory` neither the array nor the
+    /// notes have changed.
+    #[inline(always)]
+    pub fn push_noted(&mut self, value: &[u8], undos: &mut Vec<Undo>) -> Result<u64, OutOfMemory>
+        requires { IsOk (push value.now self.old.row).0 }
+        ensures done { IfOk result (λ n. push value.now self.old.row ≡ (Ok (Number n), self.new.row)) }
+        ensures noted { OnOk result (undos.new.items ≡ undos.old.items ++ Pushed ∷ []) }
+        ensures err { OnErr result (self.new.row ≡ self.old.row) }
+        ensures same { OnErr result (undos.new.items ≡ undos.old.items) }
+    {
+        if undos.reserve(1).is_err() {
+            return Err(OutOfMemory);
+        }
+        let index = self.push(value)?;
+        undos.push_reserved(Undo::Pushed);
+        Ok(index)
     }
 
     // Takes the last item, and gives its length. Takes no memory.

@@ -3,10 +3,10 @@ ghost use Rattle.std.specs.FinMap as finmap;
 ghost use Rattle.std.specs.Str.{bytes_eq};
 ghost use Rattle.sg_model.specs.Objects as plain;
 ghost use Rattle.sg_plain.specs.Shown.{shown, objects_of};
-ghost use Rattle.sg_plain.specs.Undone.{before, undo_in, shown_undo, undo_listed};
+ghost use Rattle.sg_plain.specs.Undone.{before, undo_noted, shown_undo, undo_listed};
 ghost use Rattle.sg_plain.specs.Back.{at_name, IsReadyAt, IsReadyPlace};
 
-use crate::changes::Changes;
+use crate::notes::Notes;
 use crate::object::Object;
 use crate::undo::{Past, Undo};
 use sg_base::{Name, OutOfMemory};
@@ -68,42 +68,42 @@ fn make_past_ready(
     }
 }
 
-// The same, where the changes note something of the name.
+// The same, where something is noted of the name.
 fn make_ready_at(
     objects: &mut BTreeMap<Name, Option<Object>>,
-    changes: &mut Changes,
+    notes: &mut Notes,
     name: Name,
 ) -> Result<(), OutOfMemory>
-    ensures ready { OnOk result (IsReadyAt (at_name changes.new.map name) (at_name objects.new name)) }
+    ensures ready { OnOk result (IsReadyAt (at_name notes.new.map name) (at_name objects.new name)) }
     ensures others { (other : List ℕ) → bytes_eq name other ≡ false → at_name objects.new other ≡ at_name objects.old other }
-    ensures notes { (other : List ℕ) → bytes_eq name other ≡ false → at_name changes.new.map other ≡ at_name changes.old.map other }
-    ensures names { (other : List ℕ) → is_some (at_name changes.new.map other) ≡ is_some (at_name changes.old.map other) }
+    ensures notes { (other : List ℕ) → bytes_eq name other ≡ false → at_name notes.new.map other ≡ at_name notes.old.map other }
+    ensures names { (other : List ℕ) → is_some (at_name notes.new.map other) ≡ is_some (at_name notes.old.map other) }
     ensures objects { objects_of objects.new.entries ≡ objects_of objects.old.entries }
-    ensures same { (other : List ℕ) (object : Option plain.Object) → undo_in changes.new other object ≡ undo_in changes.old other object }
+    ensures same { (other : List ℕ) (object : Option plain.Object) → undo_noted notes.new other object ≡ undo_noted notes.old other object }
 {
-    match changes.map.get_mut(&name) {
+    match notes.map.get_mut(&name) {
         None => Ok(()),
         Some(past) => make_past_ready(objects, name, past),
     }
 }
 
-/// Makes room for all that the changes note, so that it can be taken back without memory. No object
+/// Makes room for all that is noted, so that it can be taken back without memory. No object
 /// and no note changes, and after `OutOfMemory` some of the room may be there.
 pub fn make_all_ready(
     objects: &mut BTreeMap<Name, Option<Object>>,
     alloc: Global,
-    changes: &mut Changes,
+    notes: &mut Notes,
 ) -> Result<(), OutOfMemory>
-    ensures ready { OnOk result ((name : List ℕ) → IsReadyAt (at_name changes.new.map name) (at_name objects.new name)) }
+    ensures ready { OnOk result ((name : List ℕ) → IsReadyAt (at_name notes.new.map name) (at_name objects.new name)) }
     ensures objects { objects_of objects.new.entries ≡ objects_of objects.old.entries }
-    ensures same { (name : List ℕ) (object : Option plain.Object) → undo_in changes.new name object ≡ undo_in changes.old name object }
+    ensures same { (name : List ℕ) (object : Option plain.Object) → undo_noted notes.new name object ≡ undo_noted notes.old name object }
 {
-    let names: Vec<Name> = match changes.map.keys().copied().collect(alloc) {
+    let names: Vec<Name> = match notes.map.keys().copied().collect(alloc) {
         Ok(names) => names,
         Err(_) => return Err(OutOfMemory),
     };
     for name in &names {
-        make_ready_at(objects, changes, *name)?;
+        make_ready_at(objects, notes, *name)?;
     }
     Ok(())
 }
@@ -153,13 +153,13 @@ fn take_back_at(objects: &mut BTreeMap<Name, Option<Object>>, name: Name, past: 
     }
 }
 
-/// Takes back all that the changes note, and then they note nothing. Takes no memory.
-pub fn take_all_back(objects: &mut BTreeMap<Name, Option<Object>>, changes: &mut Changes)
-    requires { (name : List ℕ) → IsReadyAt (at_name changes.old.map name) (at_name objects.old name) }
-    ensures back { (name : List ℕ) → finmap.get (objects_of objects.new.entries) name ≡ undo_in changes.old name (finmap.get (objects_of objects.old.entries) name) }
-    ensures none { (name : List ℕ) (object : Option plain.Object) → undo_in changes.new name object ≡ object }
+/// Takes back all that is noted, and then nothing is. Takes no memory.
+pub fn take_all_back(objects: &mut BTreeMap<Name, Option<Object>>, notes: &mut Notes)
+    requires { (name : List ℕ) → IsReadyAt (at_name notes.old.map name) (at_name objects.old name) }
+    ensures back { (name : List ℕ) → finmap.get (objects_of objects.new.entries) name ≡ undo_noted notes.old name (finmap.get (objects_of objects.old.entries) name) }
+    ensures none { (name : List ℕ) (object : Option plain.Object) → undo_noted notes.new name object ≡ object }
 {
-    while let Some((name, past)) = changes.map.pop_first() {
+    while let Some((name, past)) = notes.map.pop_first() {
         take_back_at(objects, name, past);
     }
 }
@@ -179,11 +179,11 @@ fn drop_places_at(objects: &mut BTreeMap<Name, Option<Object>>, name: Name)
     }
 }
 
-/// Takes away the empty places under the names that the changes note. Takes no memory.
-pub fn drop_places(objects: &mut BTreeMap<Name, Option<Object>>, changes: &Changes)
+/// Takes away the empty places under the names of which something is noted. Takes no memory.
+pub fn drop_places(objects: &mut BTreeMap<Name, Option<Object>>, notes: &Notes)
     ensures { objects_of objects.new.entries ≡ objects_of objects.old.entries }
 {
-    for name in changes.map.keys() {
+    for name in notes.map.keys() {
         drop_places_at(objects, *name);
     }
 }

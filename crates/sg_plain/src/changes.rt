@@ -2,78 +2,107 @@ ghost use Rattle.std.specs.Prelude.{◌≡◌, ◌≤◌, ℕ, List, Option, len
 ghost use Rattle.sg_ops.specs.Table.{table_of};
 ghost use Rattle.sg_model.specs.Objects as plain;
 ghost use Rattle.sg_model.specs.SaidOps.{verb_of};
-ghost use Rattle.sg_model.specs.SaidReplies.{said_reply, said_outcome};
+ghost use Rattle.sg_model.specs.SaidReplies.{said_outcome};
 ghost use Rattle.sg_model.specs.Step.{on, IsInPlace};
-ghost use Rattle.sg_model.specs.Undo.{undo_on, note_of, note_there};
+ghost use Rattle.sg_model.specs.Undo.{undo_on, note_of};
 ghost use Rattle.sg_plain.specs.Shown.{shown};
 ghost use Rattle.sg_plain.specs.Undone.{undo_in, shown_change};
 
+use crate::notes::Notes;
 use crate::object::Object;
 use crate::undo::{Change, Past};
 use sg_base::{Name, OutOfMemory};
 use sg_model::{Op, Reason, Reply};
 use sg_ops::Ops;
 use std::alloc::Global;
-use std::collections::BTreeMap;
 
 /// What a transaction has done to objects, by their names, with what stood there before.
 /// `Objects::change` adds to it, and `Objects::take_back` takes it back.
 #[derive(Drop)]
 pub struct Changes {
-    pub(crate) map: BTreeMap<Name, Past>,
+    // what was done to the object that was changed first, which most changes are of; it stands for what
+    // `others` has of the name
+    first: Option<(Name, Past)>,
+    pub(crate) others: Notes,
 }
 
 impl Changes {
-    ghost use Rattle.std.specs.Prelude.{IsTrue, is_some, None};
-    ghost use Rattle.std.specs.BTreeMap.{get};
-    ghost use Rattle.std.specs.Ordering.{nat_cmp};
-    ghost use Rattle.std.specs.Cmp.Lexicographic.{slice_cmp};
+    ghost use Rattle.std.specs.Prelude.{IsTrue, None};
+    ghost use Rattle.sg_plain.specs.Undone.{has_place};
 
     /// No changes. Takes no memory.
     pub fn new(alloc: Global) -> Changes
         ensures { (name : List ℕ) (object : Option plain.Object) → undo_in result name object ≡ object }
     {
         Changes {
-            map: BTreeMap::new(alloc),
+            first: None,
+            others: Notes::new(alloc),
         }
     }
 
-    // Gives a name that has no place one, where nothing is noted. The changes stay, whatever the result.
-    fn put_place(&mut self, alloc: Global, name: Name) -> Result<(), OutOfMemory>
-        requires { get (slice_cmp nat_cmp) self.old.map name ≡ None }
+    // Gives a name a place, where nothing is noted. The changes stay. Takes no memory.
+    fn make_first(&mut self, alloc: Global, name: Name)
+        requires { self.old.first ≡ None }
         ensures same { (other : List ℕ) (object : Option plain.Object) → undo_in self.new other object ≡ undo_in self.old other object }
-        ensures there { OnOk result (IsTrue (is_some (get (slice_cmp nat_cmp) self.new.map name))) }
+        ensures there { IsTrue (has_place self.new name) }
     {
-        match self.map.insert(name, Past::Changed(Vec::new(alloc))) {
-            Ok(_) => Ok(()),
-            Err(_) => Err(OutOfMemory),
+        if !self.others.has(name) {
+            self.first = Some((name, Past::Changed(Vec::new(alloc))));
         }
     }
 
     /// Gives a name a place, where nothing is noted. The changes stay, whatever the result.
     pub fn make_place(&mut self, alloc: Global, name: Name) -> Result<(), OutOfMemory>
         ensures same { (other : List ℕ) (object : Option plain.Object) → undo_in self.new other object ≡ undo_in self.old other object }
-        ensures there { OnOk result (IsTrue (is_some (get (slice_cmp nat_cmp) self.new.map name))) }
+        ensures there { OnOk result (IsTrue (has_place self.new name)) }
     {
-        if self.map.contains_key(&name) {
+        let Some((first, _)) = &self.first else {
+            self.make_first(alloc, name);
+            return Ok(());
+        };
+        if *first == name {
             return Ok(());
         }
-        self.put_place(alloc, name)
+        self.others.make_place(alloc, name)
     }
 
     /// Adds that what stands under a name was made or dropped. Takes no memory.
     pub fn add(&mut self, name: Name, change: Change)
-        requires { IsTrue (is_some (get (slice_cmp nat_cmp) self.old.map name)) }
+        requires { IsTrue (has_place self.old name) }
         ensures { (other : List ℕ) (object : Option plain.Object) → undo_in self.new other object ≡ undo_in self.old other (undo_on other (name, shown_change change) object) }
     {
-        match self.map.get_mut(&name) {
-            None => unreachable!(),
-            Some(past) => past.add(change),
+        let Some((first, past)) = &mut self.first else {
+            self.others.add(name, change);
+            return;
+        };
+        if *first == name {
+            past.add(change);
+            return;
+        }
+        self.others.add(name, change);
+    }
+
+    /// Notes what was done to the first object beside what was done to the others. After `OutOfMemory`
+    /// nothing has changed.
+    pub fn gather(&mut self) -> Result<(), OutOfMemory>
+        ensures same { (other : List ℕ) (object : Option plain.Object) → undo_in self.new other object ≡ undo_in self.old other object }
+        ensures gathered { OnOk result (self.new.first ≡ None) }
+    {
+        let Some((name, past)) = self.first.take() else {
+            return Ok(());
+        };
+        match self.others.put(name, past) {
+            Ok(()) => Ok(()),
+            Err(first) => {
+                self.first = Some(first);
+                Err(OutOfMemory)
+            }
         }
     }
 
-    // Does an operation that isn't refused to the object with a name of which nothing is noted yet, and notes it.
-    fn edit_first(
+    // Does an operation that makes and drops no object, as `change` does, where none is the first.
+    #[inline(never)]
+    fn change_new(
         &mut self,
         name: &Name,
         object: &mut Object,
@@ -81,50 +110,29 @@ impl Changes {
         ops: &Ops,
         op: &Op<'_>,
         into: &mut [u8],
-    ) -> Result<Reply, OutOfMemory>
-        requires absent { get (slice_cmp nat_cmp) self.old.map name.now ≡ None }
+    ) -> Result<Result<Reply, Reason>, OutOfMemory>
+        requires none { self.old.first ≡ None }
         requires room { 8192 ≤ length into.old }
         requires in_place { IsInPlace (verb_of op.now) }
-        requires accepted { IsOk (on (table_of record_meaning range_meaning ops.now) (verb_of op.now) (Some (shown object.old))).0 }
-        ensures done { IfOk result (λ r. on (table_of record_meaning range_meaning ops.now) (verb_of op.now) (Some (shown object.old)) ≡ (Ok (said_reply into.new r), Some (shown object.new))) }
-        ensures noted { OnOk result ((other : List ℕ) (was : Option plain.Object) → undo_in self.new other was ≡ undo_in self.old other (undo_on other (name.now, note_there (verb_of op.now) (shown object.old)) was)) }
+        ensures done { IfOk result (λ r. on (table_of record_meaning range_meaning ops.now) (verb_of op.now) (Some (shown object.old)) ≡ (said_outcome into.new r, Some (shown object.new))) }
+        ensures noted { OnOk result ((other : List ℕ) (was : Option plain.Object) → undo_in self.new other was ≡ undo_in self.old other (undo_on other (name.now, note_of (table_of record_meaning range_meaning ops.now) (verb_of op.now) (Some (shown object.old))) was)) }
         ensures err { OnErr result (shown object.new ≡ shown object.old) }
         ensures same { OnErr result ((other : List ℕ) (was : Option plain.Object) → undo_in self.new other was ≡ undo_in self.old other was) }
+        ensures cause { OnErr result (IsOk (on (table_of record_meaning range_meaning ops.now) (verb_of op.now) (Some (shown object.old))).0) }
     {
-        self.put_place(alloc, *name)?;
-        match self.map.get_mut(name) {
-            None => unreachable!(),
-            Some(past) => past.edit(object, alloc, ops, op, into),
+        if self.others.has(*name) {
+            return self.others.change(name, object, alloc, ops, op, into);
         }
-    }
-
-    // Does an operation that isn't refused to the object with a name, and notes it.
-    fn edit(
-        &mut self,
-        name: &Name,
-        object: &mut Object,
-        alloc: Global,
-        ops: &Ops,
-        op: &Op<'_>,
-        into: &mut [u8],
-    ) -> Result<Reply, OutOfMemory>
-        requires room { 8192 ≤ length into.old }
-        requires in_place { IsInPlace (verb_of op.now) }
-        requires accepted { IsOk (on (table_of record_meaning range_meaning ops.now) (verb_of op.now) (Some (shown object.old))).0 }
-        ensures done { IfOk result (λ r. on (table_of record_meaning range_meaning ops.now) (verb_of op.now) (Some (shown object.old)) ≡ (Ok (said_reply into.new r), Some (shown object.new))) }
-        ensures noted { OnOk result ((other : List ℕ) (was : Option plain.Object) → undo_in self.new other was ≡ undo_in self.old other (undo_on other (name.now, note_there (verb_of op.now) (shown object.old)) was)) }
-        ensures err { OnErr result (shown object.new ≡ shown object.old) }
-        ensures same { OnErr result ((other : List ℕ) (was : Option plain.Object) → undo_in self.new other was ≡ undo_in self.old other was) }
-    {
-        match self.map.get_mut(name) {
-            None => self.edit_first(name, object, alloc, ops, op, into),
-            Some(past) => past.edit(object, alloc, ops, op, into),
-        }
+        let mut past = Past::Changed(Vec::new(alloc));
+        let outcome = past.change(object, alloc, ops, op, into);
+        self.first = Some((*name, past));
+        outcome
     }
 
     /// Does an operation that makes and drops no object to the object with this name, and notes what
     /// takes it back, or answers the reason why it is refused, which changes nothing. After
     /// `OutOfMemory` neither the object nor the changes have changed.
+    #[inline(always)]
     pub fn change(
         &mut self,
         name: &Name,
@@ -142,12 +150,12 @@ impl Changes {
         ensures same { OnErr result ((other : List ℕ) (was : Option plain.Object) → undo_in self.new other was ≡ undo_in self.old other was) }
         ensures cause { OnErr result (IsOk (on (table_of record_meaning range_meaning ops.now) (verb_of op.now) (Some (shown object.old))).0) }
     {
-        if let Some(reason) = object.refusal(ops, op) {
-            return Ok(Err(reason));
+        let Some((first, past)) = &mut self.first else {
+            return self.change_new(name, object, alloc, ops, op, into);
+        };
+        if *first == *name {
+            return past.change(object, alloc, ops, op, into);
         }
-        match self.edit(name, object, alloc, ops, op, into) {
-            Ok(reply) => Ok(Ok(reply)),
-            Err(fault) => Err(fault),
-        }
+        self.others.change(name, object, alloc, ops, op, into)
     }
 }

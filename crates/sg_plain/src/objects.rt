@@ -61,6 +61,7 @@ fn apply_in(
 }
 
 // The same, and notes what takes it back.
+#[inline(always)]
 fn change_in(
     map: &mut BTreeMap<Name, Option<Object>>,
     alloc: Global,
@@ -503,6 +504,7 @@ impl Objects {
     }
 
     // Makes or drops an object and notes it, or answers the reason why not.
+    #[inline(never)]
     #[tactic(auto, using(crate::proofs::Steps::refused, crate::proofs::Noting::refused_notes))]
     fn change_whole(
         &mut self,
@@ -531,6 +533,7 @@ impl Objects {
     ///
     /// After `OutOfMemory`, which comes only for an operation that would have got a reply, the objects
     /// and the notes are unchanged.
+    #[inline(always)]
     pub fn change(
         &mut self,
         alloc: Global,
@@ -578,13 +581,14 @@ impl Objects {
         ensures err { OnErr result (self.new ≡ self.old) }
         ensures same { OnErr result ((name : List ℕ) (object : Option plain.Object) → undo_in changes.new name object ≡ undo_in changes.old name object) }
     {
-        match make_all_ready(&mut self.map, alloc, changes) {
+        changes.gather()?;
+        match make_all_ready(&mut self.map, alloc, &mut changes.others) {
             Ok(()) => {
-                take_all_back(&mut self.map, changes);
+                take_all_back(&mut self.map, &mut changes.others);
                 Ok(())
             }
             Err(fault) => {
-                drop_places(&mut self.map, changes);
+                drop_places(&mut self.map, &changes.others);
                 Err(fault)
             }
         }

@@ -1,12 +1,15 @@
 //! The records of the plain store: a log's records of three kinds.
 ghost use Rattle.std.specs.Prelude.{◌≡◌, ◌≤◌, ◌++◌, length, take, drop, List, ℕ, Some, IfOk};
-ghost use Rattle.sg_record.specs.Plain.{Record, spelled, IsRecord, full, plain_one, plain_read, shown, shown_read, shown_result};
+ghost use Rattle.sg_record.specs.Plain.{Record, spelled, IsRecord, kind_of, transaction_of, previous_of, body_of, plain_one, plain_read, shown, shown_read, shown_result};
 ghost use Rattle.sg_record.specs.Reading.{parse};
+ghost use Rattle.sg_record.specs.Records.{code_of};
 ghost use Rattle.sg_record.specs.Shown as log;
 
-use crate::RecError;
+use crate::kind::{Kind, code_of};
 use crate::reader::are_bytes;
-use sg_base::{Lsn, TxnId};
+use crate::writer::put_header;
+use crate::{HEADER_SIZE, RecError};
+use sg_base::{Lsn, TxnId, put_text};
 
 /// A record of the plain store's log. Each names its transaction and that transaction's record before
 /// it, 0 for its first.
@@ -31,37 +34,47 @@ pub enum Rec<'a> {
     },
 }
 
-// The log's record that it is.
-fn full<'a>(r: &Rec<'a>) -> crate::Rec<'a>
-    ensures { log.shown result ≡ full (shown r.now) }
+// Its kind, whose it is, that transaction's record before it, and what stands behind its header.
+#[inline(always)]
+fn parts<'a>(r: &Rec<'a>) -> (Kind, TxnId, Lsn, &'a [u8])
+    ensures kind { code_of result.0 ≡ kind_of (shown r.now) }
+    ensures transaction { result.1.0 ≡ transaction_of (shown r.now) }
+    ensures previous { result.2 ≡ previous_of (shown r.now) }
+    ensures body { result.3.now ≡ body_of (shown r.now) }
 {
     match *r {
-        Rec::Begin { txn, prev } => crate::Rec::Begin { txn, prev },
-        Rec::Commit { txn, prev } => crate::Rec::Commit { txn, prev },
-        Rec::Line { txn, prev, words } => crate::Rec::Line { txn, prev, words },
+        Rec::Begin { txn, prev } => (Kind::Begin, txn, prev, &[]),
+        Rec::Commit { txn, prev } => (Kind::Commit, txn, prev, &[]),
+        Rec::Line { txn, prev, words } => (Kind::Line, txn, prev, words),
     }
 }
 
 /// How many bytes the record has.
+#[inline(always)]
 #[tactic(auto, unfolding(crate::specs::Plain::spelled))]
 pub fn size(r: &Rec<'_>) -> usize
     ensures { result ≡ length (spelled (shown r.now)) }
 {
     match r {
-        Rec::Begin { .. } | Rec::Commit { .. } => crate::HEADER_SIZE,
-        Rec::Line { words, .. } => crate::HEADER_SIZE + words.len(),
+        Rec::Begin { .. } | Rec::Commit { .. } => HEADER_SIZE,
+        Rec::Line { words, .. } => HEADER_SIZE + words.len(),
     }
 }
 
 /// Writes the record at the front of `into`, and answers how many bytes it has. The bytes behind it
 /// stay.
+#[inline(always)]
+#[tactic(auto, unfolding(crate::specs::Plain::spelled))]
 pub fn encode(r: &Rec<'_>, into: &mut [u8]) -> usize
     requires room { length (spelled (shown r.now)) ≤ length into.old }
     requires range { IsRecord (shown r.now) }
     ensures bytes { into.new ≡ spelled (shown r.now) ++ drop (length (spelled (shown r.now))) into.old }
     ensures size { result ≡ length (spelled (shown r.now)) }
 {
-    crate::encode(&full(r), into)
+    let (kind, txn, prev, body) = parts(r);
+    let size = HEADER_SIZE + body.len();
+    let at = put_header(into, code_of(kind), size as u32, txn, prev);
+    put_text(into, at, body)
 }
 
 // The record that the log's one is, if it is of a kind that the plain store has.

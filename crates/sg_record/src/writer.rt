@@ -107,7 +107,10 @@ fn put_says(into: &mut [u8], at: usize, says: &Says<'_>) -> usize
     }
 }
 
-fn put_header(into: &mut [u8], kind: u8, size: u32, txn: TxnId, prev: Lsn) -> usize
+/// Writes a record's header, which begins with the byte of its kind, and answers the place behind it.
+/// The other bytes stay.
+#[inline(always)]
+pub fn put_header(into: &mut [u8], kind: u8, size: u32, txn: TxnId, prev: Lsn) -> usize
     requires { HEADER ≤ length into.old }
     ensures { Wrote into.old 0 (header kind size txn.0 prev) into.new result }
 {

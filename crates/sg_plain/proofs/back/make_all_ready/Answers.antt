@@ -17,7 +17,7 @@ loop-name-preserved c =
       objects = c.make_ready_at.ensures.objects ∙ c.loop-name.invariant.objects;
       same = λ name object. c.make_ready_at.ensures.same name object ∙ c.loop-name.invariant.same name object;
       names = λ name. c.make_ready_at.ensures.names name ∙ c.loop-name.invariant.names name;
-      ready = ready_step (at_name c.loop-name.changes.map) (at_name c.make_ready_at.new.changes.map) (at_name c.loop-name.objects) (at_name c.make_ready_at.new.objects) c.name-item.result
+      ready = ready_step (at_name c.loop-name.notes.map) (at_name c.make_ready_at.new.notes.map) (at_name c.loop-name.objects) (at_name c.make_ready_at.new.objects) c.name-item.result
           (take i names) (take (i + 1) names) (take_more names i c.name-item.result (omega arith) ∙ ap (λ (n : List ℕ). take i names ++ n ∷ []) (sym c.name-item.is))
           c.in_ok-make_ready_at.ensures.ready c.make_ready_at.ensures.notes c.make_ready_at.ensures.others c.loop-name.invariant.ready;
     }
@@ -25,9 +25,9 @@ loop-name-preserved c =
 pub returns-clause-ready : goal.returns-clause-ready
 returns-clause-ready c =
     let names : List (List ℕ) = c.deref-name-items.result.now in
-    let Ready : List ℕ → Type 0 = λ name. IsReadyAt (at_name c.loop-name.changes.map name) (at_name c.loop-name.objects name) in
-    let collected : c.in-Ok.names.items ≡ keys_of c.args.changes.now.map.entries = search rules in
+    let Ready : List ℕ → Type 0 = λ name. IsReadyAt (at_name c.loop-name.notes.map name) (at_name c.loop-name.objects name) in
+    let collected : c.in-Ok.names.items ≡ keys_of c.args.notes.now.map.entries = search rules in
     let listed : names ≡ c.keys.result = c.deref-name-items.ensures.value ∙ (collected ∙ sym c.keys.ensures.rest) in
     let all : AllByRecursion Ready names = subst (AllByRecursion Ready) (take_all c.loop-name.name-index names c.loop-name-test.false) c.loop-name.invariant.ready in
-    λ name. ready_or_absent (at_name c.loop-name.changes.map name) (at_name c.loop-name.objects name) (λ some.
+    λ name. ready_or_absent (at_name c.loop-name.notes.map name) (at_name c.loop-name.objects name) (λ some.
     member_has Ready names name all (ap (λ (ks : List (List ℕ)). is_member (eq_by_cmp (slice_cmp nat_cmp)) ks name) listed ∙ (sym (c.keys.ensures.has name) ∙ (sym (c.loop-name.invariant.names name) ∙ some))))

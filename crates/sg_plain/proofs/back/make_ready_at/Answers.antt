@@ -8,8 +8,8 @@ returns-in-Some-clause-notes c = λ other apart. ((c.get_mut.follows.holds c.mak
 
 pub returns-in-Some-clause-names : goal.returns-in-Some-clause-names
 returns-in-Some-clause-names c =
-    names_stay c.args.changes.now.map.entries (c.get_mut.follows.lender c.make_past_ready.new.past).entries c.args.name c.in-Some.past.now c.make_past_ready.new.past c.in-Some.ensures.value ((c.get_mut.follows.holds c.make_past_ready.new.past).3 (search rules)).0
+    names_stay c.args.notes.now.map.entries (c.get_mut.follows.lender c.make_past_ready.new.past).entries c.args.name c.in-Some.past.now c.make_past_ready.new.past c.in-Some.ensures.value ((c.get_mut.follows.holds c.make_past_ready.new.past).3 (search rules)).0
 
 pub returns-in-Some-clause-same : goal.returns-in-Some-clause-same
 returns-in-Some-clause-same c =
-    before_stays c.args.changes.now.map.entries (c.get_mut.follows.lender c.make_past_ready.new.past).entries c.args.name c.in-Some.past.now c.make_past_ready.new.past c.in-Some.ensures.value ((c.get_mut.follows.holds c.make_past_ready.new.past).3 (search rules)).0 c.make_past_ready.ensures.same
+    before_stays c.args.notes.now.map.entries (c.get_mut.follows.lender c.make_past_ready.new.past).entries c.args.name c.in-Some.past.now c.make_past_ready.new.past c.in-Some.ensures.value ((c.get_mut.follows.holds c.make_past_ready.new.past).3 (search rules)).0 c.make_past_ready.ensures.same

@@ -12,8 +12,8 @@ loop-name-preserved c =
     let fs = c.take_back_at.new.objects.entries in
     let left = c.in-Some.ensures.updates.0 in
     record {
-      ready = ready_rest (at_name c.loop-name.changes.map) (at_name c.pop_first.new.self) _ left (at_name c.loop-name.objects) (at_name c.take_back_at.new.objects) c.take_back_at.ensures.others c.loop-name.invariant.ready;
-      back = λ name. back_rest (at_name c.loop-name.changes.map) (at_name c.pop_first.new.self) _ left (get (objects_of fs)) (get (objects_of es)) _ c.in-Some.ensures.value c.take_back_at.ensures.back
+      ready = ready_rest (at_name c.loop-name.notes.map) (at_name c.pop_first.new.self) _ left (at_name c.loop-name.objects) (at_name c.take_back_at.new.objects) c.take_back_at.ensures.others c.loop-name.invariant.ready;
+      back = λ name. back_rest (at_name c.loop-name.notes.map) (at_name c.pop_first.new.self) _ left (get (objects_of fs)) (get (objects_of es)) _ c.in-Some.ensures.value c.take_back_at.ensures.back
           (λ other apart. same_at_key shown es fs other (c.take_back_at.ensures.others other apart)) name
           ∙ c.loop-name.invariant.back name;
     }

@@ -3,7 +3,7 @@ use Rattle.sg_plain.specs.declared.undo.Undo as code_undo
 use Rattle.sg_plain.specs.declared.undo.Past.TheVariants as pasts
 use Rattle.sg_plain.specs.Undone.{undo_listed}
 use Rattle.sg_plain.proofs.Pasts.{same_past, past_of}
-use Rattle.sg_plain.proofs.changes.Changes.put_place.Goals as goal
+use Rattle.sg_plain.proofs.notes.Notes.put_place.Goals as goal
 
 pub returns-in-Ok-clause-same : goal.returns-in-Ok-clause-same
 returns-in-Ok-clause-same c =

@@ -1,7 +1,7 @@
 use Rattle.std.proofs.Common.{Some, rules}
 use Rattle.sg_plain.specs.Undone.{shown_change}
 use Rattle.sg_plain.proofs.Pasts.{one_past}
-use Rattle.sg_plain.proofs.changes.Changes.add.Goals as goal
+use Rattle.sg_plain.proofs.notes.Notes.add.Goals as goal
 
 pub returns : goal.returns
 returns c =
