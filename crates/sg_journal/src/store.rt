@@ -423,25 +423,25 @@ impl<D: Disk> Store<D> {
         // where the disk fails, the store stops
         ensures heeded { Heeds self.old.stop self.new.stop (D.view self.old.disk) (D.view self.new.disk) }
     {
-        match parse_request(text, values) {
+        let mut request = Request::List;
+        match parse_request(text, values, &mut request) {
             Asked::Blank => Answer::Silent,
             Asked::Wrong => Answer::BadSyntax,
             Asked::Of {
                 name,
-                request,
                 words: spoken,
             } => {
                 if self.stop.is_some() {
                     return Answer::Stopped;
                 }
-                match request {
+                match &request {
                     Request::Begin => self.begin(alloc, name),
                     Request::Commit => self.commit(name),
                     Request::Abort => self.abort(alloc, name),
                     Request::Do(op) => {
-                        self.perform(alloc, ops, name, &op, spoken.joined(words), into)
+                        self.perform(alloc, ops, name, op, spoken.joined(words), into)
                     }
-                    Request::Keys(table) => self.keys(alloc, name, table),
+                    Request::Keys(table) => self.keys(alloc, name, *table),
                     Request::List => self.list(alloc, name),
                 }
             }

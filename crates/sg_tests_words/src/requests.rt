@@ -91,14 +91,11 @@ fn of_request(request: &Request<'_>) -> What {
 // What a line asks for.
 fn asked(text: &[u8]) -> What {
     let mut scratch = [0u8; 32768];
-    match parse_request(text, &mut scratch) {
+    let mut request = Request::List;
+    match parse_request(text, &mut scratch, &mut request) {
         Asked::Blank => Blank,
         Asked::Wrong => Wrong,
-        Asked::Of {
-            name: _,
-            request,
-            words: _,
-        } => of_request(&request),
+        Asked::Of { name: _, words: _ } => of_request(&request),
     }
 }
 
@@ -276,12 +273,9 @@ fn each_verb_takes_its_words(rt: HostRuntime) {
 // The value that a line pushes.
 fn is_pushed(text: &[u8], value: &[u8]) -> bool {
     let mut scratch = [0u8; 32768];
-    match parse_request(text, &mut scratch) {
-        Asked::Of {
-            name: _,
-            request,
-            words: _,
-        } => match request {
+    let mut request = Request::List;
+    match parse_request(text, &mut scratch, &mut request) {
+        Asked::Of { name: _, words: _ } => match request {
             Request::Do(Op::Push { name: _, value: v }) => v == value,
             _ => false,
         },
@@ -389,10 +383,10 @@ fn is_kept(text: &[u8], words: &[u8]) -> bool {
     if text.len() > 64 {
         return false;
     }
-    match parse_request(text, &mut scratch) {
+    let mut request = Request::List;
+    match parse_request(text, &mut scratch, &mut request) {
         Asked::Of {
             name: _,
-            request: _,
             words: spoken,
         } => spoken.joined(&mut into) == words,
         _ => words.is_empty(),

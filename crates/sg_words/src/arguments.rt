@@ -9,7 +9,7 @@ use crate::value::{self, prints_plain};
 
 /// The number that the first word is, and what follows it, where a number is wanted; else 0 and the
 /// whole text. And whether the words stand joined if those that follow do.
-#[inline]
+#[inline(always)]
 pub fn number_if(wanted: bool, text: &[u8]) -> Option<(u64, &[u8], bool)>
     ensures number { MatchOption result (number_if wanted (words_of text.now) ≡ None) (λ p. number_if wanted (words_of text.now) ≡ Some (p.0, words_of p.1.now)) }
     ensures within { IfSome result (λ p. length p.1.now ≤ length text.now) }
@@ -26,6 +26,7 @@ pub fn number_if(wanted: bool, text: &[u8]) -> Option<(u64, &[u8], bool)>
 /// The bytes that the only word of a text stands for as a value, and whether the word is known to be the
 /// whole text. One that stands for itself is looked at once: bytes that are plain have no space among
 /// them.
+#[inline(always)]
 #[tactic(auto, using(crate::proofs::Counts::value_alone, crate::proofs::Counts::no_value))]
 pub fn one_value<'a>(text: &'a [u8], scratch: &'a mut [u8]) -> Option<(&'a [u8], bool)>
     requires { length text.now ≤ length scratch.old }

@@ -1,4 +1,4 @@
-ghost use Rattle.std.specs.Prelude.{◌≡◌, ◌+◌, ◌*◌, ◌≤◌, ◌<◌, [], ◌++◌, List, ℕ, length, take, OnOk, OnErr, codes, decimal};
+ghost use Rattle.std.specs.Prelude.{◌≡◌, ◌+◌, ◌*◌, ◌≤◌, ◌<◌, [], ◌++◌, List, ℕ, length, take, IfSome, OnOk, OnErr, codes, decimal};
 ghost use Rattle.sg_base.specs.Ends.{HasRisen, Takes, TakesFront};
 ghost use Rattle.sg_model.specs.SaidReplies.{said_reply};
 ghost use Rattle.sg_words.specs.Answers.{text_of_reply};
@@ -115,9 +115,22 @@ fn write_long<K: Sink>(reply: &Reply, value: &[u8], out: &mut K) -> Result<(), F
     write_by::<16448, K>(reply, value, out)
 }
 
-/// Writes a reply's line with its LF, in one call of the sink. `bytes` has the bytes of an answer
-/// at its front. Where the sink fails, it took a front of the line.
-pub fn write_reply<K: Sink>(reply: &Reply, bytes: &[u8], out: &mut K) -> Result<(), Failed>
+// The line of a reply that has the same line each time, with its LF.
+fn fixed_line(reply: &Reply) -> Option<&'static [u8]>
+    ensures { IfSome result (λ line. (bytes : List ℕ) → line.now ≡ text_of_reply (said_reply bytes reply.now)) }
+{
+    match reply {
+        Reply::Done => Some(b"ok\n"),
+        Reply::New => Some(b"ok new\n"),
+        Reply::Replaced => Some(b"ok replaced\n"),
+        Reply::Absent => Some(b"none\n"),
+        Reply::Number(_) | Reply::Bytes(_) => None,
+    }
+}
+
+// Writes the line of a reply that has a number or bytes.
+#[inline(never)]
+fn write_value<K: Sink>(reply: &Reply, bytes: &[u8], out: &mut K) -> Result<(), Failed>
     requires { length bytes.now ≤ 8192 }
     ensures took { OnOk result (Takes (K.taken out.old) (text_of_reply (said_reply bytes.now reply.now)) (K.taken out.new)) }
     ensures cut { OnErr result (TakesFront (K.taken out.old) (text_of_reply (said_reply bytes.now reply.now)) (K.taken out.new)) }
@@ -132,6 +145,22 @@ pub fn write_reply<K: Sink>(reply: &Reply, bytes: &[u8], out: &mut K) -> Result<
         write_by::<576, K>(reply, value, out)
     } else {
         write_long(reply, value, out)
+    }
+}
+
+/// Writes a reply's line with its LF, in one call of the sink. `bytes` has the bytes of an answer
+/// at its front. Where the sink fails, it took a front of the line.
+pub fn write_reply<K: Sink>(reply: &Reply, bytes: &[u8], out: &mut K) -> Result<(), Failed>
+    requires { length bytes.now ≤ 8192 }
+    ensures took { OnOk result (Takes (K.taken out.old) (text_of_reply (said_reply bytes.now reply.now)) (K.taken out.new)) }
+    ensures cut { OnErr result (TakesFront (K.taken out.old) (text_of_reply (said_reply bytes.now reply.now)) (K.taken out.new)) }
+    ensures later { K.faults out.old ≤ K.faults out.new }
+    ensures quiet { OnOk result (K.faults out.new ≡ K.faults out.old) }
+    ensures failed { OnErr result (HasRisen (K.faults out.old) (K.faults out.new)) }
+{
+    match fixed_line(reply) {
+        Some(line) => out.write(line),
+        None => write_value(reply, bytes, out),
     }
 }
 

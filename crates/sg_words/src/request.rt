@@ -1,8 +1,8 @@
-ghost use Rattle.std.specs.Prelude.{◌≡◌, ◌≤◌, true, length, IfSome};
+ghost use Rattle.std.specs.Prelude.{◌≡◌, ◌≤◌, None, Some, true, length, IfSome, MatchOption};
 ghost use Rattle.sg_model.specs.SaidOps.{said_op};
 ghost use Rattle.sg_model.specs.Verb.Op.{On};
 ghost use Rattle.sg_words.specs.Parse.{words_of};
-ghost use Rattle.sg_words.specs.Requested.{shown, shown_option, shown_reading, shown_asked, HasWords};
+ghost use Rattle.sg_words.specs.Requested.{shown, shown_option, shown_asked, HasWords};
 ghost use Rattle.sg_words.specs.Spoken.{IsJoined};
 ghost use Rattle.sg_words.specs.Requests.{put_of, make_of, plain_request, valued_request, either, request_of, asked};
 ghost use Rattle.sg_words.specs.Requests.Request.{Do};
@@ -45,18 +45,7 @@ pub enum Asked<'a> {
     /// Nothing that is a line of a script.
     Wrong,
     /// A request of the transaction with this name, and the words that a log keeps of the line.
-    Of {
-        name: Name,
-        request: Request<'a>,
-        words: Words<'a>,
-    },
-}
-
-// What words ask for, and whether they are known to stand joined.
-#[derive(Clone, Copy)]
-struct Reading<'a> {
-    request: Request<'a>,
-    are_joined: bool,
+    Of { name: Name, words: Words<'a> },
 }
 
 // What a verb without words behind it asks for.
@@ -171,13 +160,17 @@ fn op_with<'a>(verb: Numbered, name: Name, numbers: (u64, u64, u64), value: &'a 
     }
 }
 
-// What a verb with a value at its end asks for.
-#[inline(always)]
+// Reads what a verb with a value at its end asks for, and gives whether the words are known to stand joined.
 #[tactic(auto, using(crate::proofs::Counts::numbered_words, crate::proofs::Counts::numbered_none))]
-fn with_value<'a>(verb: Numbered, rest: &'a [u8], scratch: &'a mut [u8]) -> Option<Reading<'a>>
+fn with_value<'a>(
+    verb: Numbered,
+    rest: &'a [u8],
+    scratch: &'a mut [u8],
+    request: &mut Request<'a>,
+) -> Option<bool>
     requires { length rest.now ≤ length scratch.old }
-    ensures request { shown_reading result ≡ of_numbered verb (words_of rest.now) }
-    ensures joined { IfSome result (λ r. r.are_joined ≡ true → IsJoined rest.now) }
+    ensures request { MatchOption result (of_numbered verb (words_of rest.now) ≡ None) (λ j. of_numbered verb (words_of rest.now) ≡ Some (shown request.new)) }
+    ensures joined { IfSome result (λ j. j ≡ true → IsJoined rest.now) }
 {
     let (word, numbers) = next_word(rest)?;
     let (first, behind_first, first_joined) = number_if(verb.wants_one(), numbers)?;
@@ -186,19 +179,17 @@ fn with_value<'a>(verb: Numbered, rest: &'a [u8], scratch: &'a mut [u8]) -> Opti
     let (value, is_last) = one_value(last, scratch)?;
     let name = Name::new(word)?;
     let numbers_joined = first_joined & second_joined & third_joined;
-    Some(Reading {
-        request: Request::Do(op_with(verb, name, (first, second, third), value)),
-        are_joined: is_next(rest, word, numbers) & numbers_joined & is_last,
-    })
+    *request = Request::Do(op_with(verb, name, (first, second, third), value));
+    Some(is_next(rest, word, numbers) & numbers_joined & is_last)
 }
 
-// What is put.
+// Reads what is put.
 #[inline(never)]
 #[tactic(auto, using(crate::proofs::Counts::put_words))]
-fn put<'a>(rest: &'a [u8], scratch: &'a mut [u8]) -> Option<Reading<'a>>
+fn put<'a>(rest: &'a [u8], scratch: &'a mut [u8], request: &mut Request<'a>) -> Option<bool>
     requires { length rest.now ≤ length scratch.old }
-    ensures request { shown_reading result ≡ put_of (words_of rest.now) }
-    ensures joined { IfSome result (λ r. r.are_joined ≡ true → IsJoined rest.now) }
+    ensures request { MatchOption result (put_of (words_of rest.now) ≡ None) (λ j. put_of (words_of rest.now) ≡ Some (shown request.new)) }
+    ensures joined { IfSome result (λ j. j ≡ true → IsJoined rest.now) }
 {
     let (word, words) = next_word(rest)?;
     let (key_word, last) = next_word(words)?;
@@ -206,48 +197,57 @@ fn put<'a>(rest: &'a [u8], scratch: &'a mut [u8]) -> Option<Reading<'a>>
     let key = value::value(key_word, first)?;
     let (value, is_last) = one_value(last, second)?;
     let name = Name::new(word)?;
-    Some(Reading {
-        request: Request::Do(Op::Put { name, key, value }),
-        are_joined: is_next(rest, word, words) & is_next(words, key_word, last) & is_last,
-    })
+    *request = Request::Do(Op::Put { name, key, value });
+    Some(is_next(rest, word, words) & is_next(words, key_word, last) & is_last)
 }
 
-// What a verb without a value asks for.
-fn without_value<'a>(word: &[u8], rest: &'a [u8]) -> Option<Reading<'a>>
-    ensures request { shown_reading result ≡ plain_request word.now (words_of rest.now) }
-    ensures joined { IfSome result (λ r. r.are_joined ≡ true → IsJoined rest.now) }
+// Reads what a verb without a value asks for.
+#[inline(never)]
+fn without_value<'a>(word: &[u8], rest: &'a [u8], request: &mut Request<'a>) -> Option<bool>
+    ensures request { MatchOption result (plain_request word.now (words_of rest.now) ≡ None) (λ j. plain_request word.now (words_of rest.now) ≡ Some (shown request.new)) }
+    ensures joined { IfSome result (λ j. j ≡ true → IsJoined rest.now) }
 {
     match plain_request(word, rest) {
-        Some(request) => Some(Reading {
-            request,
-            are_joined: false,
-        }),
+        Some(read) => {
+            *request = read;
+            Some(false)
+        }
         None => None,
     }
 }
 
-// What a verb and the words after it ask for.
+// Reads what a verb and the words after it ask for, and gives whether these are known to stand joined.
 #[inline(always)]
 #[tactic(auto, using(crate::proofs::Verbs::by_value, crate::proofs::Verbs::by_none))]
-fn read_request<'a>(word: &[u8], rest: &'a [u8], scratch: &'a mut [u8]) -> Option<Reading<'a>>
+fn read_request<'a>(
+    word: &[u8],
+    rest: &'a [u8],
+    scratch: &'a mut [u8],
+    request: &mut Request<'a>,
+) -> Option<bool>
     requires { length rest.now ≤ length scratch.old }
-    ensures request { shown_reading result ≡ either (plain_request word.now (words_of rest.now)) (valued_request word.now (words_of rest.now)) }
-    ensures joined { IfSome result (λ r. r.are_joined ≡ true → IsJoined rest.now) }
+    ensures request { MatchOption result (either (plain_request word.now (words_of rest.now)) (valued_request word.now (words_of rest.now)) ≡ None)
+        (λ j. either (plain_request word.now (words_of rest.now)) (valued_request word.now (words_of rest.now)) ≡ Some (shown request.new)) }
+    ensures joined { IfSome result (λ j. j ≡ true → IsJoined rest.now) }
 {
     match valued_verb(word) {
-        Some(Valued::With(verb)) => with_value(verb, rest, scratch),
-        Some(Valued::Put) => put(rest, scratch),
-        None => without_value(word, rest),
+        Some(Valued::With(verb)) => with_value(verb, rest, scratch, request),
+        Some(Valued::Put) => put(rest, scratch, request),
+        None => without_value(word, rest, request),
     }
 }
 
-/// What a line without its LF asks for, and the words that a log keeps of it. `scratch` takes the bytes of
-/// values in hexadecimal digits.
-#[inline(never)]
+/// What a line without its LF asks for, and the words that a log keeps of it. `request` takes what is asked
+/// of a transaction, and `scratch` the bytes of values in hexadecimal digits.
+#[inline(always)]
 #[tactic(auto, unfolding(crate::specs::Requests::asked))]
-pub fn parse_request<'a>(text: &'a [u8], scratch: &'a mut [u8]) -> Asked<'a>
+pub fn parse_request<'a>(
+    text: &'a [u8],
+    scratch: &'a mut [u8],
+    request: &mut Request<'a>,
+) -> Asked<'a>
     requires { 32768 ≤ length scratch.old }
-    ensures asked { shown_asked result ≡ asked text.now }
+    ensures asked { shown_asked result request.new ≡ asked text.now }
     ensures words { HasWords text.now result }
 {
     if text.len() > MOST_LINE_BYTES {
@@ -265,13 +265,12 @@ pub fn parse_request<'a>(text: &'a [u8], scratch: &'a mut [u8]) -> Asked<'a>
     let Some(name) = transaction(name) else {
         return Asked::Wrong;
     };
-    match read_request(word, rest, scratch) {
-        Some(reading) => Asked::Of {
+    match read_request(word, rest, scratch, request) {
+        Some(are_joined) => Asked::Of {
             name,
-            request: reading.request,
             words: Words {
                 text: words,
-                are_joined: is_next(words, word, rest) & reading.are_joined,
+                are_joined: is_next(words, word, rest) & are_joined,
             },
         },
         None => Asked::Wrong,
@@ -285,8 +284,9 @@ pub fn parse_words<'a>(words: &'a [u8], scratch: &'a mut [u8]) -> Option<Request
     ensures { shown_option result ≡ request_of (words_of words.now) }
 {
     let (word, rest) = next_word(words)?;
-    match read_request(word, rest, scratch) {
-        Some(reading) => Some(reading.request),
+    let mut request = Request::List;
+    match read_request(word, rest, scratch, &mut request) {
+        Some(_) => Some(request),
         None => None,
     }
 }
