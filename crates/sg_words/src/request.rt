@@ -262,18 +262,18 @@ pub fn parse_request<'a>(
     let Some((word, rest)) = next_word(words) else {
         return Asked::Wrong;
     };
+    let Some(are_joined) = read_request(word, rest, scratch, request) else {
+        return Asked::Wrong;
+    };
     let Some(name) = transaction(name) else {
         return Asked::Wrong;
     };
-    match read_request(word, rest, scratch, request) {
-        Some(are_joined) => Asked::Of {
-            name,
-            words: Words {
-                text: words,
-                are_joined: is_next(words, word, rest) & are_joined,
-            },
+    Asked::Of {
+        name,
+        words: Words {
+            text: words,
+            are_joined: is_next(words, word, rest) & are_joined,
         },
-        None => Asked::Wrong,
     }
 }
 

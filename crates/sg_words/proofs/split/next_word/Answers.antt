@@ -1,4 +1,4 @@
-use Rattle.std.proofs.Common.{sym, ap, ◌∙◌, arith}
+use Rattle.std.proofs.Common.{sym, ◌∙◌, arith}
 use Rattle.sg_words.proofs.Joined.{cut_apart}
 use Rattle.sg_words.proofs.split.next_word.Goals as goal
 
