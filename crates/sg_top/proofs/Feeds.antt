@@ -1,6 +1,6 @@
 -- How a piece of a script is executed.
 use Rattle.std.proofs.Common.{◌≡◌, ◌==◌, inl, inr, ⊎_elim, ℕ, ◌<◌, ◌≤◌, Bool, true, false, cond, nat_le, leb-true, List, [], ◌∷◌, ◌++◌, length, take, Option, refl, sym, ap, ◌∙◌, subst, arith, append_assoc, append-nil}
-use Rattle.std.specs.Prelude.{nat_lt, if◌then◌else◌, slice_index, OnOk, OnErr, Result}
+use Rattle.std.specs.Prelude.{nat_lt, slice_index, OnOk, OnErr, Result}
 use Rattle.std.specs.Str.Lines.{strip_carriage_return}
 use Rattle.std.proofs.Math.Seq.{take_all}
 use Rattle.std.proofs.lemmas.List.{length-take-le}
