@@ -20,6 +20,7 @@ ghost use Rattle.sg_log.specs.Held.{Holds, tail_of, place_of, end_of, appended, 
 ghost use Rattle.sg_run.specs.Run.{Run};
 ghost use Rattle.sg_journal.specs.Store.{Shows};
 ghost use Rattle.sg_journal.specs.Goes.{Goes, Grows, Heeds, NEW_WORK_END};
+ghost use Rattle.sg_journal.specs.Lines.{op_said};
 ghost use Rattle.sg_journal.specs.Live.{opened_without, with_last};
 ghost use Rattle.sg_journal.specs.Shown.{all_opened, undo_of, answer_at, stop_at, IsReasonOr};
 ghost use Rattle.sg_journal.specs.Opening.{Opens, StaysShut};
@@ -39,7 +40,7 @@ use sg_model::{Op, Reply, Stop, Touches};
 use sg_ops::Ops;
 use sg_plain::Objects;
 use sg_record::plain::Rec;
-use sg_words::{Answer, Asked, Request, join_words, parse_request};
+use sg_words::{Answer, Asked, Request, parse_request};
 use std::alloc::Global;
 
 /// No new work begins once the log's tail is above this byte: 2^62.
@@ -305,23 +306,21 @@ impl<D: Disk> Store<D> {
     }
 
     /// Does an operation of the transaction with this name, if it is live. It holds what the operation
-    /// touches from then on, unless another one is in the way or too much would be held. `text` is the
-    /// line that says it. After `Memory`, and after `LogEnd`, nothing but locks has changed; after `Disk` the store
-    /// has stopped.
+    /// touches from then on, unless another one is in the way or too much would be held. `words` are those
+    /// that say it, which the log keeps. After `Memory`, and after `LogEnd`, nothing but locks has changed;
+    /// after `Disk` the store has stopped.
     pub fn perform(
         &mut self,
         alloc: Global,
         ops: &Ops,
         name: Name,
         op: &Op<'_>,
-        text: &[u8],
-        scratch: &mut [u8],
+        words: &[u8],
         into: &mut [u8],
     ) -> Answer
         requires running { self.old.stop ≡ None }
-        requires said { asked text.now ≡ Of name (Do (said_op op.now)) }
-        requires line { length text.now ≤ 32768 }
-        requires scratch { 32768 ≤ length scratch.old }
+        requires said { op_said words.now ≡ Some (said_op op.now) }
+        requires line { length words.now ≤ 32768 }
         requires into { 8192 ≤ length into.old }
         ensures goes { (was : DiskState) (x : Run) → Shows (table_of record_meaning range_meaning ops.now) D.told was (D.view self.old.disk) (core_of self.old) x
             → Goes (table_of record_meaning range_meaning ops.now) D.told was (D.view self.old.disk) (core_of self.old) x (Of name (Do (said_op op.now))) (shown_answer into.new result) (D.view self.new.disk) (core_of self.new) }
@@ -355,8 +354,7 @@ impl<D: Disk> Store<D> {
             Ok(Err(reason)) => return Answer::Refused(reason),
             Err(OutOfMemory) => return Answer::Memory,
         };
-        let size = join_words(text, scratch);
-        match self.keep(live, &scratch[..size]) {
+        match self.keep(live, words) {
             Ok(()) => Answer::Said(reply),
             Err(fault) => self.halt(fault),
         }
@@ -432,19 +430,25 @@ impl<D: Disk> Store<D> {
         // where the disk fails, the store stops
         ensures heeded { Heeds self.old.stop self.new.stop (D.view self.old.disk) (D.view self.new.disk) }
     {
-        match parse_request(text, values) {
+        let mut request = Request::List;
+        match parse_request(text, values, &mut request) {
             Asked::Blank => Answer::Silent,
             Asked::Wrong => Answer::BadSyntax,
-            Asked::Of { name, request } => {
+            Asked::Of {
+                name,
+                words: spoken,
+            } => {
                 if self.stop.is_some() {
                     return Answer::Stopped;
                 }
-                match request {
+                match &request {
                     Request::Begin => self.begin(alloc, name),
                     Request::Commit => self.commit(name),
                     Request::Abort => self.abort(alloc, name),
-                    Request::Do(op) => self.perform(alloc, ops, name, &op, text, words, into),
-                    Request::Keys(table) => self.keys(alloc, name, table),
+                    Request::Do(op) => {
+                        self.perform(alloc, ops, name, op, spoken.joined(words), into)
+                    }
+                    Request::Keys(table) => self.keys(alloc, name, *table),
                     Request::List => self.list(alloc, name),
                 }
             }

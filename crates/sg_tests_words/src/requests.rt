@@ -1,6 +1,6 @@
 use What::*;
 use sg_model::Op;
-use sg_words::{Asked, Request, join_words, parse_request, parse_words};
+use sg_words::{Asked, Request, parse_request, parse_words};
 use std::alloc::{AllocError, Global};
 use std::test::Fail;
 
@@ -91,10 +91,11 @@ fn of_request(request: &Request<'_>) -> What {
 // What a line asks for.
 fn asked(text: &[u8]) -> What {
     let mut scratch = [0u8; 32768];
-    match parse_request(text, &mut scratch) {
+    let mut request = Request::List;
+    match parse_request(text, &mut scratch, &mut request) {
         Asked::Blank => Blank,
         Asked::Wrong => Wrong,
-        Asked::Of { name: _, request } => of_request(&request),
+        Asked::Of { name: _, words: _ } => of_request(&request),
     }
 }
 
@@ -272,8 +273,9 @@ fn each_verb_takes_its_words(rt: HostRuntime) {
 // The value that a line pushes.
 fn is_pushed(text: &[u8], value: &[u8]) -> bool {
     let mut scratch = [0u8; 32768];
-    match parse_request(text, &mut scratch) {
-        Asked::Of { name: _, request } => match request {
+    let mut request = Request::List;
+    match parse_request(text, &mut scratch, &mut request) {
+        Asked::Of { name: _, words: _ } => match request {
             Request::Do(Op::Push { name: _, value: v }) => v == value,
             _ => false,
         },
@@ -349,8 +351,15 @@ fn values_keys_and_lines_have_their_lengths(rt: HostRuntime) -> Result<(), Fail>
 }
 
 // Lines, the words that are kept of them, and what these ask for.
-const KEPT: [(&[u8], &[u8], What); 4] = [
+const KEPT: [(&[u8], &[u8], What); 11] = [
     (b"  t  set   a 7  x:4142 \r", b"set a 7 x:4142", Set(7, 2)),
+    (b"t set a 7 v", b"set a 7 v", Set(7, 1)),
+    (b"t push a abc\r", b"push a abc", Push(3)),
+    (b"t  push a abc", b"push a abc", Push(3)),
+    (b"t push  a abc", b"push a abc", Push(3)),
+    (b"t push a  abc", b"push a abc", Push(3)),
+    (b"t push a abc ", b"push a abc", Push(3)),
+    (b"t put a k  v", b"put a k v", Put(1, 1)),
     (b"t begin", b"begin", Begin),
     (b"t", b"", Wrong),
     (b"", b"", Wrong),
@@ -369,12 +378,19 @@ fn asked_again(words: &[u8]) -> What {
 }
 
 fn is_kept(text: &[u8], words: &[u8]) -> bool {
+    let mut scratch = [0u8; 32768];
     let mut into = [0u8; 64];
     if text.len() > 64 {
         return false;
     }
-    let end = join_words(text, &mut into);
-    &into[..end] == words
+    let mut request = Request::List;
+    match parse_request(text, &mut scratch, &mut request) {
+        Asked::Of {
+            name: _,
+            words: spoken,
+        } => spoken.joined(&mut into) == words,
+        _ => words.is_empty(),
+    }
 }
 
 // The first row that keeps or asks for something else.

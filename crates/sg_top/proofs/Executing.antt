@@ -1,5 +1,5 @@
 -- Lines are executed one after another.
-use Rattle.std.proofs.Common.{◌≡◌, inl, inr, ⊎_elim, ℕ, ◌+◌, ◌<◌, ◌≤◌, ◌==◌, Bool, true, false, cond, nat_le, IsTrue, List, [], ◌∷◌, ◌++◌, length, take, Option, Some, None, is_some, refl, sym, ap, ◌∙◌, subst, arith, append-nil, length-append}
+use Rattle.std.proofs.Common.{◌≡◌, inl, inr, ⊎_elim, ℕ, ◌+◌, ◌<◌, ◌≤◌, ◌==◌, Bool, true, false, cond, List, [], ◌∷◌, ◌++◌, length, take, Option, Some, None, is_some, refl, sym, ap, ◌∙◌, subst, arith, append-nil, length-append}
 use Rattle.std.specs.Prelude.{nat_lt, MatchOption}
 use Rattle.std.specs.List.{filter}
 use Rattle.std.proofs.lemmas.List.{take-append-le}
@@ -25,7 +25,7 @@ use Rattle.sg_record.specs.Plain.Record.{Commit as CommitRecord}
 use Rattle.sg_log.specs.Frames.{LOG_END}
 use Rattle.sg_log.specs.Held.{Tail, tail_of, place_of, end_of, has_room}
 use Rattle.sg_run.specs.Answer.{answer_of, IsSaid}
-use Rattle.sg_run.specs.Run.{Event, Run, MOST_LIVE, MOST_HELD, live_named, live_objects, objects_after, began, committed, aborted, did, with_locks, only_locks, lacking, holder_of, held_with, stop, stop_at, broken, full, turn, turn_request, turn_begin, turn_commit, turn_abort, turn_op, turn_held, IsLogged, WouldReply, Turns, LineBy, IsCaused}
+use Rattle.sg_run.specs.Run.{Event, Run, MOST_LIVE, MOST_HELD, live_named, live_objects, objects_after, began, aborted, did, with_locks, only_locks, lacking, holder_of, held_with, stop, stop_at, broken, full, turn, turn_request, turn_begin, turn_commit, turn_abort, turn_op, turn_held, IsLogged, WouldReply, Turns, LineBy, IsCaused}
 use Rattle.sg_journal.specs.Live.{Opened, opened_named}
 use Rattle.sg_journal.specs.Stands.{StandsFor, StandsForFirst}
 use Rattle.sg_journal.specs.Store.{Core, Shows}

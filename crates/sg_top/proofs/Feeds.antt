@@ -1,6 +1,6 @@
 -- How a piece of a script is executed.
 use Rattle.std.proofs.Common.{◌≡◌, ◌==◌, inl, inr, ⊎_elim, ℕ, ◌<◌, ◌≤◌, Bool, true, false, cond, nat_le, leb-true, List, [], ◌∷◌, ◌++◌, length, take, Option, refl, sym, ap, ◌∙◌, subst, arith, append_assoc, append-nil}
-use Rattle.std.specs.Prelude.{nat_lt, if◌then◌else◌, slice_index}
+use Rattle.std.specs.Prelude.{nat_lt, slice_index, OnOk, OnErr, Result}
 use Rattle.std.specs.Str.Lines.{strip_carriage_return}
 use Rattle.std.proofs.Math.Seq.{take_all}
 use Rattle.std.proofs.lemmas.List.{length-take-le}
@@ -22,6 +22,7 @@ use Rattle.sg_journal.specs.Goes.{Goes, Grows}
 use Rattle.sg_top.specs.Kept.{MOST_KEPT}
 use Rattle.sg_top.specs.Script.{TookAll, CutAtLast, Executed}
 use Rattle.sg_top.specs.Feeding.{Before, After, Broken}
+use Rattle.sg_top.specs.Lines.{AnswersAll}
 use Rattle.sg_top.proofs.Fronts.{kept_again}
 use Rattle.sg_top.proofs.Executing.{executed-more, takes_more, takes_cut}
 
@@ -43,9 +44,20 @@ asked-kept text = by_length (nat_le (length text) MOST_KEPT) refl
         let cut : length (take MOST_KEPT text) ≡ MOST_KEPT = length-take-le MOST_KEPT text (omega arith) in
         asked-long (take MOST_KEPT text) (omega arith) ∙ sym (asked-long text (omega arith))
 
+-- what has come of a line and a part of it, kept, ask for what both ask for
+pub asked-pending : (bytes had more part : List ℕ) → bytes ≡ more → more ≡ take MOST_KEPT (had ++ part) → asked bytes ≡ asked (had ++ part)
+asked-pending bytes had more part e is = ap asked (e ∙ is) ∙ asked-kept (had ++ part)
+
 -- a line goes as its bytes say, wherever they lie
 pub goes_at : {t : Operations} {told : Bool} {was : disk.State} {v : disk.View} {k : Core} {x : Run} {answer : Answer} {w : disk.View} {m : Core} (here there : List ℕ) → here ≡ there → Goes t told was v k x (asked here) answer w m → Goes t told was v k x (asked there) answer w m
 goes_at {t = t} {told = told} {was = was} {v = v} {k = k} {x = x} {answer = answer} {w = w} {m = m} here there e h = subst (λ (line : List ℕ). Goes t told was v k x (asked line) answer w m) e h
+
+-- a line is answered as what asks for the same
+pub answered_as : {R E : Type 0} (r : Result R E) (t : Operations) (told : Bool) (v : disk.View) (k : Core) (Took : Answer → Type 0) (w : disk.View) (m : Core) (here there : Asked) → here ≡ there → OnOk r (AnswersAll t told v k here Took w m) → OnOk r (AnswersAll t told v k there Took w m)
+answered_as r t told v k Took w m here there e h = subst (λ (line : Asked). OnOk r (AnswersAll t told v k line Took w m)) e h
+
+pub cut_as : {R E : Type 0} (r : Result R E) (t : Operations) (told : Bool) (v : disk.View) (k : Core) (Took : Answer → Type 0) (w : disk.View) (m : Core) (here there : Asked) → here ≡ there → OnErr r (AnswersAll t told v k here Took w m) → OnErr r (AnswersAll t told v k there Took w m)
+cut_as r t told v k Took w m here there e h = subst (λ (line : Asked). OnErr r (AnswersAll t told v k line Took w m)) e h
 
 pub grows_on : (a b c : Tail) (u v w : disk.View) → Grows a b u v → Grows b c v w → Grows a c u w
 grows_on a b c u v w h k = record { kept = omega (arith, h.kept, k.kept); grown = ⊎_elim (λ full. inl (omega (arith, full, k.kept))) (λ more. ⊎_elim (λ full. inl full) (λ again. inr (omega (arith, more, again, h.kept, k.kept))) k.grown) h.grown }
@@ -63,14 +75,17 @@ module _ (t : Operations) (told : Bool) (was : disk.State) (v : disk.View) (k : 
   kept_part : (rest part had more : List ℕ) → had ≡ take MOST_KEPT rest → more ≡ take MOST_KEPT (had ++ part) → more ≡ take MOST_KEPT (rest ++ part)
   kept_part rest part had more pending is = is ∙ (ap (λ (h : List ℕ). take MOST_KEPT (h ++ part)) pending ∙ kept_again MOST_KEPT rest part)
 
+  -- a line asks for what is kept of it and the part that ends it ask for
+  said : (rest part had : List ℕ) → had ≡ take MOST_KEPT rest → asked (rest ++ part) ≡ asked (had ++ part)
+  said rest part had pending = sym (asked-kept (rest ++ part)) ∙ (ap asked (sym (kept_part rest part had (take MOST_KEPT (had ++ part)) pending refl)) ∙ asked-kept (had ++ part))
+
   -- a line is over in the piece
-  pub feed_line : (mid now : Option (List ℕ)) (w u : disk.View) (m n : Core) (had more cleared left part after : List ℕ) (answer : Answer)
-      → (a : After t told was v k x lines first mid w m held piece left had) → more ≡ take MOST_KEPT (had ++ part) → cleared ≡ [] → ((behind_it : List ℕ) → lines_of (left ++ behind_it) ≡ part ∷ lines_of (after ++ behind_it))
-      → w.faults ≤ u.faults → Grows m.log n.log w u → Goes t told was w m a.so_far.executed.after (asked more) answer u n → Takes mid (text_of answer) now → After t told was v k x lines first now u n held piece after cleared
-  feed_line mid now w u m n had more cleared left part after answer a is nothing cut later grown goes takes =
+  pub feed_line : (mid now : Option (List ℕ)) (w u : disk.View) (m n : Core) (had cleared left part after : List ℕ) (answer : Answer)
+      → (a : After t told was v k x lines first mid w m held piece left had) → cleared ≡ [] → ((behind_it : List ℕ) → lines_of (left ++ behind_it) ≡ part ∷ lines_of (after ++ behind_it))
+      → w.faults ≤ u.faults → Grows m.log n.log w u → Goes t told was w m a.so_far.executed.after (asked (had ++ part)) answer u n → Takes mid (text_of answer) now → After t told was v k x lines first now u n held piece after cleared
+  feed_line mid now w u m n had cleared left part after answer a nothing cut later grown goes takes =
       let line : List ℕ = a.rest ++ part in
-      let said : asked line ≡ asked more = sym (asked-kept line) ∙ ap asked (sym (kept_part a.rest part had more a.so_far.pending is)) in
-      let done = executed-more t told was v k x (lines ++ a.over) _ (TookAll first now) w u m n line answer a.so_far.later later a.so_far.grown grown.kept a.so_far.executed (subst (λ (o : Asked). Goes t told was w m a.so_far.executed.after o answer u n) (sym said) goes) (takes_more first mid now answer takes) in
+      let done = executed-more t told was v k x (lines ++ a.over) _ (TookAll first now) w u m n line answer a.so_far.later later a.so_far.grown grown.kept a.so_far.executed (subst (λ (o : Asked). Goes t told was w m a.so_far.executed.after o answer u n) (sym (said a.rest part had a.so_far.pending)) goes) (takes_more first mid now answer takes) in
       record {
         over = a.over ++ line ∷ [];
         rest = [];
@@ -99,13 +114,12 @@ module _ (t : Operations) (told : Bool) (was : disk.State) (v : disk.View) (k : 
   }
 
   -- the sink fails at the reply of a line
-  pub feed_breaks : (mid now : Option (List ℕ)) (w u : disk.View) (m n : Core) (had more left part after : List ℕ) (answer : Answer)
-      → (a : After t told was v k x lines first mid w m held piece left had) → more ≡ take MOST_KEPT (had ++ part) → ((behind_it : List ℕ) → lines_of (left ++ behind_it) ≡ part ∷ lines_of (after ++ behind_it))
-      → w.faults ≤ u.faults → Grows m.log n.log w u → Goes t told was w m a.so_far.executed.after (asked more) answer u n → TakesFront mid (text_of answer) now → Broken t told was v k x lines first now u n held piece
-  feed_breaks mid now w u m n had more left part after answer a is cut later grown goes takes =
+  pub feed_breaks : (mid now : Option (List ℕ)) (w u : disk.View) (m n : Core) (had left part after : List ℕ) (answer : Answer)
+      → (a : After t told was v k x lines first mid w m held piece left had) → ((behind_it : List ℕ) → lines_of (left ++ behind_it) ≡ part ∷ lines_of (after ++ behind_it))
+      → w.faults ≤ u.faults → Grows m.log n.log w u → Goes t told was w m a.so_far.executed.after (asked (had ++ part)) answer u n → TakesFront mid (text_of answer) now → Broken t told was v k x lines first now u n held piece
+  feed_breaks mid now w u m n had left part after answer a cut later grown goes takes =
       let line : List ℕ = a.rest ++ part in
-      let said : asked line ≡ asked more = sym (asked-kept line) ∙ ap asked (sym (kept_part a.rest part had more a.so_far.pending is)) in
-      let done = executed-more t told was v k x (lines ++ a.over) _ (CutAtLast first now) w u m n line answer a.so_far.later later a.so_far.grown grown.kept a.so_far.executed (subst (λ (o : Asked). Goes t told was w m a.so_far.executed.after o answer u n) (sym said) goes) (takes_cut first mid now answer takes) in
+      let done = executed-more t told was v k x (lines ++ a.over) _ (CutAtLast first now) w u m n line answer a.so_far.later later a.so_far.grown grown.kept a.so_far.executed (subst (λ (o : Asked). Goes t told was w m a.so_far.executed.after o answer u n) (sym (said a.rest part had a.so_far.pending)) goes) (takes_cut first mid now answer takes) in
       record {
         over = a.over ++ line ∷ [];
         executed = subst (λ (ls : List (List ℕ)). Executed t told was v k x ls (CutAtLast first now) u n) (append_assoc lines a.over (line ∷ [])) done;

@@ -1,5 +1,5 @@
 -- Faults of the disk are heeded.
-use Rattle.std.proofs.Common.{◌≡◌, Option, ◌∙◌}
+use Rattle.std.proofs.Common.{Option, ◌∙◌}
 use Rattle.sg_disk.specs.Disk as disk
 use Rattle.sg_model.specs.declared.stop.Stop.{Stop}
 use Rattle.sg_journal.specs.Goes.{Heeds}

@@ -1,5 +1,5 @@
 -- Where there is no room for a session.
-use Rattle.std.proofs.Common.{◌≡◌, Bool, IsTrue, inl, refl, arith}
+use Rattle.std.proofs.Common.{Bool, inl, refl, arith}
 use Rattle.sg_disk.specs.Disk as disk
 use Rattle.sg_disk.proofs.Moments as moments
 use Rattle.sg_ops.specs.Table.{Table as Operations}

@@ -1,12 +1,12 @@
 -- The run of a session is serial.
-use Rattle.std.proofs.Common.{◌≡◌, ℕ, Bool, List, None, take, sym, ◌∙◌}
+use Rattle.std.proofs.Common.{◌≡◌, Bool, None, take, sym, ◌∙◌}
 use Rattle.sg_disk.specs.Disk as disk
 use Rattle.sg_ops.specs.Table.{Table as Operations}
 use Rattle.sg_words.specs.Requests.{Asked}
 use Rattle.sg_words.specs.Answers.{Answer}
-use Rattle.sg_run.specs.Run.{Run, start, Lines}
+use Rattle.sg_run.specs.Run.{Run}
 use Rattle.sg_run.proofs.Serial.{serial_run, serial_theorem}
-use Rattle.sg_journal.specs.Store.{Core, Shows, Runs}
+use Rattle.sg_journal.specs.Store.{Core, Runs}
 use Rattle.sg_journal.specs.Goes.{Goes}
 use Rattle.sg_top.specs.Lines.{Answers}
 use Rattle.sg_top.specs.Top.{Course, IsSerialThroughout}

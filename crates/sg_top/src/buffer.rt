@@ -1,4 +1,4 @@
-ghost use Rattle.std.specs.Prelude.{◌≡◌, ◌+◌, ◌≤◌, [], ◌++◌, List, length, take};
+ghost use Rattle.std.specs.Prelude.{◌≡◌, ◌+◌, ◌≤◌, [], ◌++◌, List, true, length, take};
 ghost use Rattle.sg_top.specs.Kept.{MOST_KEPT};
 
 use std::marker::Model;
@@ -58,6 +58,13 @@ impl LineBuffer {
         ensures { self.new ≡ [] }
     {
         self.len = 0;
+    }
+
+    /// Whether there are no bytes.
+    pub fn is_empty(&self) -> bool
+        ensures { result ≡ true → self.now ≡ [] }
+    {
+        self.len == 0
     }
 
     /// The bytes.

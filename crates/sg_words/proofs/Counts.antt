@@ -1,11 +1,12 @@
 -- The words behind a verb, read one after another, and what the verb says of all of them.
-use Rattle.std.proofs.Common.{◌≡◌, ℕ, ◌==◌, Bool, true, false, cond, List, [], ◌∷◌, length, filter, Option, Some, None, refl, ap, ◌∙◌, arith}
+use Rattle.std.proofs.Common.{◌≡◌, ℕ, ◌==◌, ◌<◌, Bool, true, false, cond, List, [], ◌∷◌, length, filter, Option, Some, None, refl, ap, ◌∙◌, arith}
 use Rattle.std.specs.Prelude.{◌≢◌, ◌&&◌, not, nat_lt}
 use Rattle.std.proofs.lemmas.Bool.Decides.{nat_tests}
-use Rattle.std.specs.List.{list_all}
+use Rattle.std.specs.List.{list_all, join_with_byte}
 use Rattle.sg_model.specs.Verb.Verb.{Put}
 use Rattle.sg_words.specs.Parse.{words_of, is_word, is_plain, begins_hex, number_of, value_of}
 use Rattle.sg_words.specs.Text.{prints_plain}
+use Rattle.sg_words.specs.Spoken.{IsJoined}
 use Rattle.sg_words.specs.Requests.{Request, put_of, where_some, named}
 use Rattle.sg_words.specs.Verbs.{of_named, of_numbered, wants_one, wants_two, wants_three, has_number, has_two, verb_with, verb_on, before, number_if, one_value}
 use Rattle.sg_words.specs.declared.verb.Numbered.{Numbered}
@@ -143,7 +144,7 @@ no_value (v ∷ w ∷ words) h = refl
 not_space : (b : ℕ) → is_plain b ≡ true → (b == 32) ≡ false
 not_space b e = grind (arith, nat_tests, e)
 
-halves : (a b : Bool) → (a && b) ≡ true → (a ≡ true) × (b ≡ true)
+pub halves : (a b : Bool) → (a && b) ≡ true → (a ≡ true) × (b ≡ true)
 halves true b e = (refl, e)
 halves false b e = absurd (cc)
 
@@ -155,9 +156,19 @@ stands : (hex plain : Bool) (text : List ℕ) (decoded : Option (List ℕ)) → 
 stands true plain text decoded e f = absurd (cc)
 stands false plain text decoded e f = ap (λ b. cond b (Some text) None) f
 
+-- they are one word
+alone : (text : List ℕ) → (nat_lt 0 (length text) && list_all is_plain text) ≡ true → words_of text ≡ text ∷ []
+alone text e = let k = halves (nat_lt 0 (length text)) (list_all is_plain text) e in ap (filter is_word) (split_one text (free text k.1)) ∙ kept text [] k.0
+
+pub plain_joined : (text : List ℕ) → prints_plain text ≡ true → IsJoined text
+plain_joined text e =
+    let h = halves (nat_lt 0 (length text) && list_all is_plain text) (not (begins_hex text)) e in
+    let k = halves (nat_lt 0 (length text)) (list_all is_plain text) h.0 in
+    let some : 0 < length text = grind (arith, nat_tests, k.0) in
+    record { some = some; joined = ap (join_with_byte 32) (alone text h.0) }
+
 pub value_alone : (text : List ℕ) → prints_plain text ≡ true → one_value (words_of text) ≡ Some text
 value_alone text e =
     let h = halves (nat_lt 0 (length text) && list_all is_plain text) (not (begins_hex text)) e in
     let k = halves (nat_lt 0 (length text)) (list_all is_plain text) h.0 in
-    let words : words_of text ≡ text ∷ [] = ap (filter is_word) (split_one text (free text k.1)) ∙ kept text [] k.0 in
-    ap one_value words ∙ stands (begins_hex text) (list_all is_plain text) text _ h.1 k.1
+    ap one_value (alone text h.0) ∙ stands (begins_hex text) (list_all is_plain text) text _ h.1 k.1

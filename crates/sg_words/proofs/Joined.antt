@@ -1,13 +1,13 @@
 -- Words that stand joined.
-use Rattle.std.proofs.Common.{◌≡◌, ℕ, zero, suc, ◌-◌, ◌<◌, ◌≤◌, Bool, true, false, cond, not, ◌==◌, List, [], ◌∷◌, length, drop, get_or, filter, Option, Some, None, refl, sym, ap, ◌∙◌, subst, arith}
+use Rattle.std.proofs.Common.{◌≡◌, ℕ, zero, suc, ◌+◌, ◌-◌, ◌<◌, ◌≤◌, Bool, true, false, cond, not, ◌==◌, List, [], ◌∷◌, ◌++◌, length, drop, get_or, filter, Option, Some, None, refl, sym, ap, ◌∙◌, subst, arith}
 use Rattle.std.specs.Prelude.{◌&&◌, ◌||◌}
 use Rattle.std.specs.List.{slice_split, onto_first, join_with_byte, list_all, position}
 use Rattle.std.specs.Option.{is_some}
 use Rattle.std.proofs.lemmas.Bool.{lt-ltb}
 use Rattle.std.proofs.lemmas.List.{length-drop}
-use Rattle.std.proofs.lemmas.List.Splits.{join_with_byte-slice_split}
+use Rattle.std.proofs.lemmas.List.Splits.{join_with_byte-slice_split, length-slice_split}
 use Rattle.sg_words.specs.Parse.{words_of, is_word}
-use Rattle.sg_words.specs.Spoken.{has_gap}
+use Rattle.sg_words.specs.Spoken.{IsJoined, has_gap}
 use Rattle.sg_words.proofs.Cuts.{split_none}
 
 abbrev parts_of : List ℕ → List (List ℕ)
@@ -117,3 +117,29 @@ gap_end text before ok whole h was =
 pub one_part : (text : List ℕ) (at : Option ℕ) → at ≡ position (λ b. b == 32) text → is_some at ≡ false → 0 < length text → words_of text ≡ text ∷ []
 one_part text None e none some = ap (filter is_word) (split_none (λ b. b == 32) text (sym e)) ∙ ap (λ (b : Bool). cond {A = List (List ℕ)} b (text ∷ []) []) (lt-ltb 0 (length text) some)
 one_part text (Some i) e none some = absurd (cc)
+
+-- a part and more parts, joined
+join_more : (part : List ℕ) (parts : List (List ℕ)) → 0 < length parts → join_with_byte 32 (part ∷ parts) ≡ part ++ 32 ∷ join_with_byte 32 parts
+join_more part [] some = absurd (omega arith)
+join_more part (next ∷ parts) some = refl
+
+-- a text that is cut at its first space
+pub cut_apart : (text part rest : List ℕ) → slice_split (λ b. b == 32) text ≡ part ∷ slice_split (λ b. b == 32) rest → text ≡ part ++ 32 ∷ rest
+cut_apart text part rest e =
+    let some : 0 < length (parts_of rest) = let n = length-slice_split (λ b. b == 32) rest in omega (arith, n) in
+    sym (join_with_byte-slice_split 32 text) ∙ (ap (join_with_byte 32) e ∙ (join_more part (parts_of rest) some ∙ ap (λ (t : List ℕ). part ++ 32 ∷ t) (join_with_byte-slice_split 32 rest)))
+
+some_words : (words : List (List ℕ)) (text : List ℕ) → join_with_byte 32 words ≡ text → 0 < length text → 0 < length words
+some_words [] text e some = let n : length {A = ℕ} [] ≡ length text = ap length e in absurd (omega (arith, n, some))
+some_words (word ∷ words) text e some = omega arith
+
+-- a word with one space behind it, before words that stand joined
+pub joined_on : (text word rest : List ℕ) → words_of text ≡ word ∷ words_of rest
+    → (0 < length rest → length word + length rest + 1 ≡ length text → text ≡ word ++ 32 ∷ rest) → length word + length rest + 1 ≡ length text → IsJoined rest → IsJoined text
+joined_on text word rest words next is j =
+    record {
+      some = omega (arith, is);
+      joined =
+          ap (join_with_byte 32) words ∙ (join_more word (words_of rest) (some_words (words_of rest) rest j.joined j.some)
+          ∙ (ap (λ (t : List ℕ). word ++ 32 ∷ t) j.joined ∙ sym (next j.some is)));
+    }

@@ -1,36 +1,42 @@
-ghost use Rattle.std.specs.Prelude.{◌≡◌, ◌≤◌, None, Some, length, option_copied, IfSome, MatchOption};
+ghost use Rattle.std.specs.Prelude.{◌≡◌, ◌≤◌, None, Some, true, length, IfSome, MatchOption};
 ghost use Rattle.sg_words.specs.Parse.{words_of};
+ghost use Rattle.sg_words.specs.Spoken.{IsJoined};
 ghost use Rattle.sg_words.specs.Verbs.{number_if, one_value};
 
 use crate::number::parse_number;
-use crate::split::{next_word, one_word};
-use crate::value::{prints_plain, value};
+use crate::split::{is_next, next_word, one_word};
+use crate::value::{self, prints_plain};
 
 /// The number that the first word is, and what follows it, where a number is wanted; else 0 and the
-/// whole text.
-#[inline]
-pub fn number_if(wanted: bool, text: &[u8]) -> Option<(u64, &[u8])>
+/// whole text. And whether the words stand joined if those that follow do.
+#[inline(always)]
+pub fn number_if(wanted: bool, text: &[u8]) -> Option<(u64, &[u8], bool)>
     ensures number { MatchOption result (number_if wanted (words_of text.now) ≡ None) (λ p. number_if wanted (words_of text.now) ≡ Some (p.0, words_of p.1.now)) }
     ensures within { IfSome result (λ p. length p.1.now ≤ length text.now) }
+    ensures joined { IfSome result (λ p. p.2 ≡ true → IsJoined p.1.now → IsJoined text.now) }
 {
     if !wanted {
-        return Some((0, text));
+        return Some((0, text, true));
     }
     let (word, rest) = next_word(text)?;
     let number = parse_number(word)?;
-    Some((number, rest))
+    Some((number, rest, is_next(text, word, rest)))
 }
 
-/// The bytes that the only word of a text stands for as a value. One that stands for itself is looked
-/// at once: bytes that are plain have no space among them.
+/// The bytes that the only word of a text stands for as a value, and whether the word is known to be the
+/// whole text. One that stands for itself is looked at once: bytes that are plain have no space among
+/// them.
+#[inline(always)]
 #[tactic(auto, using(crate::proofs::Counts::value_alone, crate::proofs::Counts::no_value))]
-pub fn one_value<'a>(text: &'a [u8], scratch: &'a mut [u8]) -> Option<&'a [u8]>
+pub fn one_value<'a>(text: &'a [u8], scratch: &'a mut [u8]) -> Option<(&'a [u8], bool)>
     requires { length text.now ≤ length scratch.old }
-    ensures { option_copied result ≡ one_value (words_of text.now) }
+    ensures value { MatchOption result (one_value (words_of text.now) ≡ None) (λ p. one_value (words_of text.now) ≡ Some p.0.now) }
+    ensures joined { IfSome result (λ p. p.1 ≡ true → IsJoined text.now) }
 {
     if prints_plain(text) {
-        return Some(text);
+        return Some((text, true));
     }
     let word = one_word(text)?;
-    value(word, scratch)
+    let value = value::value(word, scratch)?;
+    Some((value, false))
 }

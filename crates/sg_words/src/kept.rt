@@ -1,10 +1,10 @@
 ghost use Rattle.std.specs.Prelude.{◌≡◌, ◌≤◌, length, take, true, not};
 ghost use Rattle.std.specs.List.{join_with_byte};
 ghost use Rattle.sg_words.specs.Parse.{words_of};
-ghost use Rattle.sg_words.specs.Spoken.{has_gap, spoken};
+ghost use Rattle.sg_words.specs.Spoken.{IsJoined, has_gap};
 
 use crate::buffer::append;
-use crate::split::{next_word, without_return};
+use crate::split::next_word;
 
 // Whether no two spaces stand side by side. It looks at all bytes, so that several can be looked at at
 // once.
@@ -48,19 +48,27 @@ fn join(text: &[u8], into: &mut [u8]) -> usize
     end
 }
 
-/// Puts the words of a line but for the first, with one space between each two, at the front of a
-/// buffer, and gives how many bytes these are. A CR at the line's end is no part of its words.
-pub fn join_words(line: &[u8], into: &mut [u8]) -> usize
-    requires { length line.now ≤ length into.old }
-    ensures within { result ≤ length line.now }
-    ensures words { take result into.new ≡ spoken line.now }
-{
-    let Some((_, rest)) = next_word(without_return(line)) else {
-        return 0;
-    };
-    if are_joined(rest) {
-        append(into, 0, rest)
-    } else {
-        join(rest, into)
+/// The words that a log keeps of a line, where they stand in it.
+#[derive(Clone, Copy)]
+pub struct Words<'a> {
+    pub(crate) text: &'a [u8],
+    // whether they are known to stand joined
+    pub(crate) are_joined: bool,
+    ghost known: { are_joined ≡ true → IsJoined text.now },
+}
+
+impl<'a> Words<'a> {
+    /// The words with one space between each two. Where they stand so in the line, this is a part of it,
+    /// and else the front of a buffer.
+    pub fn joined(&self, into: &'a mut [u8]) -> &'a [u8]
+        requires { length self.now.text.now ≤ length into.old }
+        ensures within { length result.now ≤ length self.now.text.now }
+        ensures words { result.now ≡ join_with_byte 32 (words_of self.now.text.now) }
+    {
+        if self.are_joined || are_joined(self.text) {
+            return self.text;
+        }
+        let size = join(self.text, into);
+        &into[..size]
     }
 }

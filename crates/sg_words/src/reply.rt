@@ -10,9 +10,6 @@ use itoa::Buffer;
 use sg_base::{Failed, Sink};
 use sg_model::{Reason, Reply};
 
-/// The most bytes of a value.
-const MOST_BYTES: usize = 8192;
-
 /// The most bytes of a value that the small buffer takes.
 const FEW_BYTES: usize = 256;
 
@@ -27,33 +24,6 @@ fn print(into: &mut [u8], at: usize, bytes: &[u8]) -> usize
     }
     let digits = append(into, at, b"x:");
     append_hex(into, digits, bytes)
-}
-
-// The bytes of an answer, at the front of those that were handed in.
-fn value_of_reply<'a>(reply: &Reply, bytes: &'a [u8]) -> &'a [u8]
-    ensures same { said_reply result.now reply.now ≡ said_reply bytes.now reply.now }
-    ensures within { length result.now ≤ length bytes.now }
-{
-    match reply {
-        Reply::Bytes(n) => &bytes[..(*n).min(bytes.len())],
-        _ => &[],
-    }
-}
-
-// Puts a reply's line at the front of a buffer, and gives its end.
-fn put_reply(into: &mut [u8], reply: &Reply, value: &[u8]) -> usize
-    requires room { 64 + 2 * length value.now ≤ length into.old }
-    ensures end { result ≤ length into.new }
-    ensures line { take result into.new ≡ text_of_reply (said_reply value.now reply.now) }
-{
-    match reply {
-        Reply::Done => append(into, 0, b"ok\n"),
-        Reply::New => append(into, 0, b"ok new\n"),
-        Reply::Replaced => append(into, 0, b"ok replaced\n"),
-        Reply::Absent => append(into, 0, b"none\n"),
-        Reply::Number(n) => put_number(into, *n),
-        Reply::Bytes(n) => put_value(into, &value[..(*n).min(value.len())]),
-    }
 }
 
 /// Puts `ok`, a space and a number at the front of a buffer, and gives their end.
@@ -87,32 +57,62 @@ fn put_value(into: &mut [u8], value: &[u8]) -> usize
     append(into, end, b"\n")
 }
 
-// Writes a reply's line by a buffer of N bytes.
-fn write_by<const N: usize, K: Sink>(reply: &Reply, value: &[u8], out: &mut K) -> Result<(), Failed>
+// Writes the line of a number.
+fn write_number<K: Sink>(n: u64, out: &mut K) -> Result<(), Failed>
+    ensures took { OnOk result (Takes (K.taken out.old) (codes "ok " ++ decimal n ++ codes "\n") (K.taken out.new)) }
+    ensures cut { OnErr result (TakesFront (K.taken out.old) (codes "ok " ++ decimal n ++ codes "\n") (K.taken out.new)) }
+    ensures later { K.faults out.old ≤ K.faults out.new }
+    ensures quiet { OnOk result (K.faults out.new ≡ K.faults out.old) }
+    ensures failed { OnErr result (HasRisen (K.faults out.old) (K.faults out.new)) }
+{
+    let mut line = [0u8; 64];
+    let end = put_number(&mut line, n);
+    out.write(&line[..end])
+}
+
+// Writes the line of a value by a buffer of N bytes.
+fn write_by<const N: usize, K: Sink>(value: &[u8], out: &mut K) -> Result<(), Failed>
     requires room { 64 + 2 * length value.now ≤ N }
     requires most { N ≤ 16448 }
-    ensures took { OnOk result (Takes (K.taken out.old) (text_of_reply (said_reply value.now reply.now)) (K.taken out.new)) }
-    ensures cut { OnErr result (TakesFront (K.taken out.old) (text_of_reply (said_reply value.now reply.now)) (K.taken out.new)) }
+    ensures took { OnOk result (Takes (K.taken out.old) (codes "ok " ++ printed value.now ++ codes "\n") (K.taken out.new)) }
+    ensures cut { OnErr result (TakesFront (K.taken out.old) (codes "ok " ++ printed value.now ++ codes "\n") (K.taken out.new)) }
     ensures later { K.faults out.old ≤ K.faults out.new }
     ensures quiet { OnOk result (K.faults out.new ≡ K.faults out.old) }
     ensures failed { OnErr result (HasRisen (K.faults out.old) (K.faults out.new)) }
 {
     let mut line = [0u8; N];
-    let end = put_reply(&mut line, reply, value);
+    let end = put_value(&mut line, value);
     out.write(&line[..end])
 }
 
-// Writes the line of a reply with a long value. Its buffer is large, so it has a frame of its own.
+// Writes the line of a long value. Its buffer is large, so it has a frame of its own.
 #[inline(never)]
-fn write_long<K: Sink>(reply: &Reply, value: &[u8], out: &mut K) -> Result<(), Failed>
+fn write_long<K: Sink>(value: &[u8], out: &mut K) -> Result<(), Failed>
     requires { length value.now ≤ 8192 }
-    ensures took { OnOk result (Takes (K.taken out.old) (text_of_reply (said_reply value.now reply.now)) (K.taken out.new)) }
-    ensures cut { OnErr result (TakesFront (K.taken out.old) (text_of_reply (said_reply value.now reply.now)) (K.taken out.new)) }
+    ensures took { OnOk result (Takes (K.taken out.old) (codes "ok " ++ printed value.now ++ codes "\n") (K.taken out.new)) }
+    ensures cut { OnErr result (TakesFront (K.taken out.old) (codes "ok " ++ printed value.now ++ codes "\n") (K.taken out.new)) }
     ensures later { K.faults out.old ≤ K.faults out.new }
     ensures quiet { OnOk result (K.faults out.new ≡ K.faults out.old) }
     ensures failed { OnErr result (HasRisen (K.faults out.old) (K.faults out.new)) }
 {
-    write_by::<16448, K>(reply, value, out)
+    write_by::<16448, K>(value, out)
+}
+
+// Writes the line of a value.
+#[inline(never)]
+fn write_value<K: Sink>(value: &[u8], out: &mut K) -> Result<(), Failed>
+    requires { length value.now ≤ 8192 }
+    ensures took { OnOk result (Takes (K.taken out.old) (codes "ok " ++ printed value.now ++ codes "\n") (K.taken out.new)) }
+    ensures cut { OnErr result (TakesFront (K.taken out.old) (codes "ok " ++ printed value.now ++ codes "\n") (K.taken out.new)) }
+    ensures later { K.faults out.old ≤ K.faults out.new }
+    ensures quiet { OnOk result (K.faults out.new ≡ K.faults out.old) }
+    ensures failed { OnErr result (HasRisen (K.faults out.old) (K.faults out.new)) }
+{
+    if value.len() <= FEW_BYTES {
+        write_by::<576, K>(value, out)
+    } else {
+        write_long(value, out)
+    }
 }
 
 /// Writes a reply's line with its LF, in one call of the sink. `bytes` has the bytes of an answer
@@ -125,13 +125,13 @@ pub fn write_reply<K: Sink>(reply: &Reply, bytes: &[u8], out: &mut K) -> Result<
     ensures quiet { OnOk result (K.faults out.new ≡ K.faults out.old) }
     ensures failed { OnErr result (HasRisen (K.faults out.old) (K.faults out.new)) }
 {
-    let value = value_of_reply(reply, bytes);
-    if value.is_empty() {
-        write_by::<64, K>(reply, value, out)
-    } else if value.len() <= FEW_BYTES {
-        write_by::<576, K>(reply, value, out)
-    } else {
-        write_long(reply, value, out)
+    match reply {
+        Reply::Done => out.write(b"ok\n"),
+        Reply::New => out.write(b"ok new\n"),
+        Reply::Replaced => out.write(b"ok replaced\n"),
+        Reply::Absent => out.write(b"none\n"),
+        Reply::Number(n) => write_number(*n, out),
+        Reply::Bytes(n) => write_value(&bytes[..(*n).min(bytes.len())], out),
     }
 }
 

@@ -1,14 +1,16 @@
-ghost use Rattle.std.specs.Prelude.{◌≡◌, ◌≤◌, length};
+ghost use Rattle.std.specs.Prelude.{◌≡◌, ◌≤◌, None, Some, true, length, IfSome, MatchOption};
 ghost use Rattle.sg_model.specs.SaidOps.{said_op};
 ghost use Rattle.sg_model.specs.Verb.Op.{On};
 ghost use Rattle.sg_words.specs.Parse.{words_of};
-ghost use Rattle.sg_words.specs.Requested.{shown, shown_option, shown_asked};
+ghost use Rattle.sg_words.specs.Requested.{shown, shown_option, shown_asked, HasWords};
+ghost use Rattle.sg_words.specs.Spoken.{IsJoined};
 ghost use Rattle.sg_words.specs.Requests.{put_of, make_of, plain_request, valued_request, either, request_of, asked};
 ghost use Rattle.sg_words.specs.Requests.Request.{Do};
 ghost use Rattle.sg_words.specs.Verbs.{of_alone, of_named, of_numbered, verb_on, verb_with};
 
 use crate::arguments::{number_if, one_value};
-use crate::split::{next_word, without_return};
+use crate::kept::Words;
+use crate::split::{is_next, next_word, without_return};
 use crate::transaction::transaction;
 use crate::value;
 use crate::verb::{Alone, Named, Numbered, Plain, Valued, making_verb, plain_verb, valued_verb};
@@ -42,8 +44,8 @@ pub enum Asked<'a> {
     Blank,
     /// Nothing that is a line of a script.
     Wrong,
-    /// A request of the transaction with this name.
-    Of { name: Name, request: Request<'a> },
+    /// A request of the transaction with this name, and the words that a log keeps of the line.
+    Of { name: Name, words: Words<'a> },
 }
 
 // What a verb without words behind it asks for.
@@ -93,8 +95,8 @@ fn on_name(verb: Named, rest: &[u8]) -> Option<Request<'_>>
     ensures { shown_option result ≡ of_named verb (words_of rest.now) }
 {
     let (name, rest) = next_word(rest)?;
-    let (first, rest) = number_if(verb.has_number(), rest)?;
-    let (second, rest) = number_if(verb.has_two(), rest)?;
+    let (first, rest, _) = number_if(verb.has_number(), rest)?;
+    let (second, rest, _) = number_if(verb.has_two(), rest)?;
     if next_word(rest).is_some() {
         return None;
     }
@@ -158,57 +160,95 @@ fn op_with<'a>(verb: Numbered, name: Name, numbers: (u64, u64, u64), value: &'a 
     }
 }
 
-// What a verb with a value at its end asks for.
+// Reads what a verb with a value at its end asks for, and gives whether the words are known to stand joined.
 #[tactic(auto, using(crate::proofs::Counts::numbered_words, crate::proofs::Counts::numbered_none))]
-fn with_value<'a>(verb: Numbered, rest: &'a [u8], scratch: &'a mut [u8]) -> Option<Request<'a>>
+fn with_value<'a>(
+    verb: Numbered,
+    rest: &'a [u8],
+    scratch: &'a mut [u8],
+    request: &mut Request<'a>,
+) -> Option<bool>
     requires { length rest.now ≤ length scratch.old }
-    ensures { shown_option result ≡ of_numbered verb (words_of rest.now) }
+    ensures request { MatchOption result (of_numbered verb (words_of rest.now) ≡ None) (λ j. of_numbered verb (words_of rest.now) ≡ Some (shown request.new)) }
+    ensures joined { IfSome result (λ j. j ≡ true → IsJoined rest.now) }
 {
-    let (name, rest) = next_word(rest)?;
-    let (first, rest) = number_if(verb.wants_one(), rest)?;
-    let (second, rest) = number_if(verb.wants_two(), rest)?;
-    let (third, rest) = number_if(verb.wants_three(), rest)?;
-    let value = one_value(rest, scratch)?;
-    let name = Name::new(name)?;
-    Some(Request::Do(op_with(verb, name, (first, second, third), value)))
+    let (word, numbers) = next_word(rest)?;
+    let (first, behind_first, first_joined) = number_if(verb.wants_one(), numbers)?;
+    let (second, behind_second, second_joined) = number_if(verb.wants_two(), behind_first)?;
+    let (third, last, third_joined) = number_if(verb.wants_three(), behind_second)?;
+    let (value, is_last) = one_value(last, scratch)?;
+    let name = Name::new(word)?;
+    let numbers_joined = first_joined & second_joined & third_joined;
+    *request = Request::Do(op_with(verb, name, (first, second, third), value));
+    Some(is_next(rest, word, numbers) & numbers_joined & is_last)
 }
 
-// What is put.
+// Reads what is put.
 #[inline(never)]
 #[tactic(auto, using(crate::proofs::Counts::put_words))]
-fn put<'a>(rest: &'a [u8], scratch: &'a mut [u8]) -> Option<Request<'a>>
+fn put<'a>(rest: &'a [u8], scratch: &'a mut [u8], request: &mut Request<'a>) -> Option<bool>
     requires { length rest.now ≤ length scratch.old }
-    ensures { shown_option result ≡ put_of (words_of rest.now) }
+    ensures request { MatchOption result (put_of (words_of rest.now) ≡ None) (λ j. put_of (words_of rest.now) ≡ Some (shown request.new)) }
+    ensures joined { IfSome result (λ j. j ≡ true → IsJoined rest.now) }
 {
-    let (name, rest) = next_word(rest)?;
-    let (key, rest) = next_word(rest)?;
-    let (first, second) = scratch.split_at_mut(key.len());
-    let key = value::value(key, first)?;
-    let value = one_value(rest, second)?;
-    let name = Name::new(name)?;
-    Some(Request::Do(Op::Put { name, key, value }))
+    let (word, words) = next_word(rest)?;
+    let (key_word, last) = next_word(words)?;
+    let (first, second) = scratch.split_at_mut(key_word.len());
+    let key = value::value(key_word, first)?;
+    let (value, is_last) = one_value(last, second)?;
+    let name = Name::new(word)?;
+    *request = Request::Do(Op::Put { name, key, value });
+    Some(is_next(rest, word, words) & is_next(words, key_word, last) & is_last)
 }
 
-// What a verb and the words after it ask for.
+// Reads what a verb without a value asks for.
 #[inline(never)]
-#[tactic(auto, using(crate::proofs::Verbs::by_value, crate::proofs::Verbs::by_none))]
-fn read_request<'a>(word: &[u8], rest: &'a [u8], scratch: &'a mut [u8]) -> Option<Request<'a>>
-    requires { length rest.now ≤ length scratch.old }
-    ensures { shown_option result ≡ either (plain_request word.now (words_of rest.now)) (valued_request word.now (words_of rest.now)) }
+fn without_value<'a>(word: &[u8], rest: &'a [u8], request: &mut Request<'a>) -> Option<bool>
+    ensures request { MatchOption result (plain_request word.now (words_of rest.now) ≡ None) (λ j. plain_request word.now (words_of rest.now) ≡ Some (shown request.new)) }
+    ensures joined { IfSome result (λ j. j ≡ true → IsJoined rest.now) }
 {
-    match valued_verb(word) {
-        Some(Valued::With(verb)) => with_value(verb, rest, scratch),
-        Some(Valued::Put) => put(rest, scratch),
-        None => plain_request(word, rest),
+    match plain_request(word, rest) {
+        Some(read) => {
+            *request = read;
+            Some(false)
+        }
+        None => None,
     }
 }
 
-/// What a line without its LF asks for. `scratch` takes the bytes of values in hexadecimal digits.
-#[inline(never)]
+// Reads what a verb and the words after it ask for, and gives whether these are known to stand joined.
+#[inline(always)]
+#[tactic(auto, using(crate::proofs::Verbs::by_value, crate::proofs::Verbs::by_none))]
+fn read_request<'a>(
+    word: &[u8],
+    rest: &'a [u8],
+    scratch: &'a mut [u8],
+    request: &mut Request<'a>,
+) -> Option<bool>
+    requires { length rest.now ≤ length scratch.old }
+    ensures request { MatchOption result (either (plain_request word.now (words_of rest.now)) (valued_request word.now (words_of rest.now)) ≡ None)
+        (λ j. either (plain_request word.now (words_of rest.now)) (valued_request word.now (words_of rest.now)) ≡ Some (shown request.new)) }
+    ensures joined { IfSome result (λ j. j ≡ true → IsJoined rest.now) }
+{
+    match valued_verb(word) {
+        Some(Valued::With(verb)) => with_value(verb, rest, scratch, request),
+        Some(Valued::Put) => put(rest, scratch, request),
+        None => without_value(word, rest, request),
+    }
+}
+
+/// What a line without its LF asks for, and the words that a log keeps of it. `request` takes what is asked
+/// of a transaction, and `scratch` the bytes of values in hexadecimal digits.
+#[inline(always)]
 #[tactic(auto, unfolding(crate::specs::Requests::asked))]
-pub fn parse_request<'a>(text: &'a [u8], scratch: &'a mut [u8]) -> Asked<'a>
+pub fn parse_request<'a>(
+    text: &'a [u8],
+    scratch: &'a mut [u8],
+    request: &mut Request<'a>,
+) -> Asked<'a>
     requires { 32768 ≤ length scratch.old }
-    ensures { shown_asked result ≡ asked text.now }
+    ensures asked { shown_asked result request.new ≡ asked text.now }
+    ensures words { HasWords text.now result }
 {
     if text.len() > MOST_LINE_BYTES {
         return Asked::Wrong;
@@ -216,18 +256,24 @@ pub fn parse_request<'a>(text: &'a [u8], scratch: &'a mut [u8]) -> Asked<'a>
     if let [b'#', ..] = text {
         return Asked::Blank;
     }
-    let Some((name, rest)) = next_word(without_return(text)) else {
+    let Some((name, words)) = next_word(without_return(text)) else {
         return Asked::Blank;
     };
-    let Some((word, rest)) = next_word(rest) else {
+    let Some((word, rest)) = next_word(words) else {
+        return Asked::Wrong;
+    };
+    let Some(are_joined) = read_request(word, rest, scratch, request) else {
         return Asked::Wrong;
     };
     let Some(name) = transaction(name) else {
         return Asked::Wrong;
     };
-    match read_request(word, rest, scratch) {
-        Some(request) => Asked::Of { name, request },
-        None => Asked::Wrong,
+    Asked::Of {
+        name,
+        words: Words {
+            text: words,
+            are_joined: is_next(words, word, rest) & are_joined,
+        },
     }
 }
 
@@ -238,5 +284,9 @@ pub fn parse_words<'a>(words: &'a [u8], scratch: &'a mut [u8]) -> Option<Request
     ensures { shown_option result ≡ request_of (words_of words.now) }
 {
     let (word, rest) = next_word(words)?;
-    read_request(word, rest, scratch)
+    let mut request = Request::List;
+    match read_request(word, rest, scratch, &mut request) {
+        Some(_) => Some(request),
+        None => None,
+    }
 }

@@ -15,9 +15,8 @@ fn is_reserved(word: &[u8]) -> bool
 pub fn transaction(word: &[u8]) -> Option<Name>
     ensures { result ≡ (if is_transaction word.now then Some word.now else None) }
 {
-    let name = Name::new(word)?;
     if word.len() > 16 || is_reserved(word) {
         return None;
     }
-    Some(name)
+    Name::new(word)
 }

@@ -109,6 +109,7 @@ impl Named {
 }
 
 /// The verb with a value among its words that a word is.
+#[inline(always)]
 #[tactic(auto, unfolding(crate::specs::Requests::valued_request))]
 pub fn valued_verb(word: &[u8]) -> Option<Valued>
     ensures verb { MatchOption result ((args : List (List ℕ)) → valued_request word.now args ≡ None) (λ verb. (args : List (List ℕ)) → valued_request word.now args ≡ of_valued verb args) }

@@ -1,4 +1,4 @@
-use Rattle.std.proofs.Common.{List, ℕ, Bool, ◌||◌, is_none, arith, subst, refl, ap, ◌∙◌}
+use Rattle.std.proofs.Common.{ℕ, Bool, ◌||◌, is_none, arith, subst, refl, ap, ◌∙◌}
 use Rattle.sg_base.specs.Ends.{HasRisen}
 use Rattle.sg_top.specs.Sessions.{session_core, session_disk}
 use Rattle.sg_top.proofs.Heeding.{heeds_more}

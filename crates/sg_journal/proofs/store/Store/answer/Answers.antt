@@ -1,4 +1,5 @@
-use Rattle.std.proofs.Common.{sym, ap, ◌∙◌}
+use Rattle.std.proofs.Common.{sym, ap, ◌∙◌, arith}
+use Rattle.std.specs.List.{join_with_byte}
 use Rattle.sg_model.specs.SaidOps.{said_op}
 use Rattle.sg_model.specs.Verb.Op.{On, Names}
 use Rattle.sg_model.specs.Verb.Verb.{Keys}
@@ -6,44 +7,54 @@ use Rattle.sg_words.specs.Requests.Asked.{Blank, Wrong, Of}
 use Rattle.sg_words.specs.Requests.Request.{Begin, Commit, Abort, Do}
 use Rattle.sg_words.specs.Requested.{shown}
 use Rattle.sg_words.specs.declared.request.Request as code_request
+use Rattle.sg_journal.specs.Lines.{op_said}
 use Rattle.sg_journal.specs.Seen.{core_of}
 use Rattle.sg_journal.proofs.Steps.{silent, bad_syntax, is_stopped, none_of}
 use Rattle.sg_journal.proofs.Along.{goes_line}
-use Rattle.sg_journal.proofs.Performing.{asked-short}
+use Rattle.sg_journal.proofs.Performing.{op_said-spoken, asked-short}
 use Rattle.sg_journal.proofs.store.Store.answer.Goals as goal
 
 pub returns-in-Blank-clause-goes : goal.returns-in-Blank-clause-goes
-returns-in-Blank-clause-goes g c was x shows = goes_line _ Blank (sym c.in-Blank.ensures) (silent _ g.D.Disk.told was (g.D.Disk.view c.args.self.now.disk) (core_of c.args.self.now) x shows)
+returns-in-Blank-clause-goes g c was x shows = goes_line _ Blank (sym c.in-Blank.ensures.asked) (silent _ g.D.Disk.told was (g.D.Disk.view c.args.self.now.disk) (core_of c.args.self.now) x shows)
 
 pub returns-in-Wrong-clause-goes : goal.returns-in-Wrong-clause-goes
-returns-in-Wrong-clause-goes g c was x shows = goes_line _ Wrong (sym c.in-Wrong.ensures) (bad_syntax _ g.D.Disk.told was (g.D.Disk.view c.args.self.now.disk) (core_of c.args.self.now) x shows)
+returns-in-Wrong-clause-goes g c was x shows = goes_line _ Wrong (sym c.in-Wrong.ensures.asked) (bad_syntax _ g.D.Disk.told was (g.D.Disk.view c.args.self.now.disk) (core_of c.args.self.now) x shows)
 
 pub returns-then-is_some-clause-goes : goal.returns-then-is_some-clause-goes
-returns-then-is_some-clause-goes g c was x shows = goes_line _ _ (sym c.in-Of.ensures) (is_stopped _ g.D.Disk.told was (g.D.Disk.view c.args.self.now.disk) (core_of c.args.self.now) x shows _ _ (sym c.is_some.ensures ∙ c.if-is_some.true))
+returns-then-is_some-clause-goes g c was x shows = goes_line _ _ (sym c.in-Of.ensures.asked) (is_stopped _ g.D.Disk.told was (g.D.Disk.view c.args.self.now.disk) (core_of c.args.self.now) x shows _ _ (sym c.is_some.ensures ∙ c.if-is_some.true))
 
 pub returns-in-Begin-clause-goes : goal.returns-in-Begin-clause-goes
-returns-in-Begin-clause-goes g c was x shows = goes_line _ (Of c.in-Of.name Begin) (sym c.in-Of.ensures ∙ ap (λ (r : code_request.Request). Of c.in-Of.name (shown r)) c.in-Begin.is) (c.begin.ensures.goes _ c.args.into.now was x shows)
+returns-in-Begin-clause-goes g c was x shows = goes_line _ (Of c.in-Of.name Begin) (sym c.in-Of.ensures.asked ∙ ap (λ (r : code_request.Request). Of c.in-Of.name (shown r)) c.in-Begin.is) (c.begin.ensures.goes _ c.args.into.now was x shows)
 
 pub returns-in-Commit-clause-goes : goal.returns-in-Commit-clause-goes
-returns-in-Commit-clause-goes g c was x shows = goes_line _ (Of c.in-Of.name Commit) (sym c.in-Of.ensures ∙ ap (λ (r : code_request.Request). Of c.in-Of.name (shown r)) c.in-Commit.is) (c.commit.ensures.goes _ c.args.into.now was x shows)
+returns-in-Commit-clause-goes g c was x shows = goes_line _ (Of c.in-Of.name Commit) (sym c.in-Of.ensures.asked ∙ ap (λ (r : code_request.Request). Of c.in-Of.name (shown r)) c.in-Commit.is) (c.commit.ensures.goes _ c.args.into.now was x shows)
 
 pub returns-in-Abort-clause-goes : goal.returns-in-Abort-clause-goes
-returns-in-Abort-clause-goes g c was x shows = goes_line _ (Of c.in-Of.name Abort) (sym c.in-Of.ensures ∙ ap (λ (r : code_request.Request). Of c.in-Of.name (shown r)) c.in-Abort.is) (c.abort.ensures.goes _ c.args.into.now was x shows)
+returns-in-Abort-clause-goes g c was x shows = goes_line _ (Of c.in-Of.name Abort) (sym c.in-Of.ensures.asked ∙ ap (λ (r : code_request.Request). Of c.in-Of.name (shown r)) c.in-Abort.is) (c.abort.ensures.goes _ c.args.into.now was x shows)
 
 pub returns-in-Do-clause-goes : goal.returns-in-Do-clause-goes
-returns-in-Do-clause-goes g c was x shows = goes_line _ (Of c.in-Of.name (Do (said_op c.in-Do.op))) (sym c.in-Of.ensures ∙ ap (λ (r : code_request.Request). Of c.in-Of.name (shown r)) c.in-Do.is) (c.perform.ensures.goes was x shows)
+returns-in-Do-clause-goes g c was x shows = goes_line _ (Of c.in-Of.name (Do (said_op c.in-Do.op))) (sym c.in-Of.ensures.asked ∙ ap (λ (r : code_request.Request). Of c.in-Of.name (shown r)) c.in-Do.is) (c.perform.ensures.goes was x shows)
 
 pub returns-in-Keys-clause-goes : goal.returns-in-Keys-clause-goes
-returns-in-Keys-clause-goes g c was x shows = goes_line _ (Of c.in-Of.name (Do (On c.in-Keys.table Keys))) (sym c.in-Of.ensures ∙ ap (λ (r : code_request.Request). Of c.in-Of.name (shown r)) c.in-Keys.is) (c.keys.ensures.goes _ c.args.into.now was x shows)
+returns-in-Keys-clause-goes g c was x shows = goes_line _ (Of c.in-Of.name (Do (On c.in-Keys.table Keys))) (sym c.in-Of.ensures.asked ∙ ap (λ (r : code_request.Request). Of c.in-Of.name (shown r)) c.in-Keys.is) (c.keys.ensures.goes _ c.args.into.now was x shows)
 
 pub returns-in-List-clause-goes : goal.returns-in-List-clause-goes
-returns-in-List-clause-goes g c was x shows = goes_line _ (Of c.in-Of.name (Do Names)) (sym c.in-Of.ensures ∙ ap (λ (r : code_request.Request). Of c.in-Of.name (shown r)) c.in-List.is) (c.list.ensures.goes _ c.args.into.now was x shows)
+returns-in-List-clause-goes g c was x shows = goes_line _ (Of c.in-Of.name (Do Names)) (sym c.in-Of.ensures.asked ∙ ap (λ (r : code_request.Request). Of c.in-Of.name (shown r)) c.in-List.is) (c.list.ensures.goes _ c.args.into.now was x shows)
 
 pub perform-requires-clause-said : goal.perform-requires-clause-said
-perform-requires-clause-said g c = sym c.in-Of.ensures ∙ ap (λ (r : code_request.Request). Of c.in-Of.name (shown r)) c.in-Do.is
+perform-requires-clause-said g c =
+    ap op_said (c.joined.ensures.words ∙ ap (join_with_byte 32) c.in-Of.ensures.words.0)
+    ∙ op_said-spoken c.args.text.now c.in-Of.name c.in-Do.op (sym c.in-Of.ensures.asked ∙ ap (λ (r : code_request.Request). Of c.in-Of.name (shown r)) c.in-Do.is)
 
 pub perform-requires-clause-line : goal.perform-requires-clause-line
-perform-requires-clause-line g c = asked-short c.args.text.now _ _ (sym c.in-Of.ensures)
+perform-requires-clause-line g c =
+    let short = asked-short c.args.text.now _ _ (sym c.in-Of.ensures.asked) in
+    omega (arith, short, c.joined.ensures.within, c.in-Of.ensures.words.1)
+
+pub joined-requires : goal.joined-requires
+joined-requires g c =
+    let short = asked-short c.args.text.now _ _ (sym c.in-Of.ensures.asked) in
+    omega (arith, short, c.in-Of.ensures.words.1, c.requires.words)
 
 pub begin-requires : goal.begin-requires
 begin-requires g c = none_of _ (sym c.is_some.ensures ∙ c.if-is_some.false)

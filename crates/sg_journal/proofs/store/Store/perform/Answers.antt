@@ -1,5 +1,4 @@
 use Rattle.std.proofs.Common.{◌≤◌, inl, inr, ℕ, List, Ok, Err, refl, sym, ap, ◌∙◌, arith}
-use Rattle.std.specs.Prelude.{take}
 use Rattle.sg_serial.specs.Locks.{Hold}
 use Rattle.sg_model.specs.Objects.{Objects}
 use Rattle.sg_model.specs.SaidOps.{said_op}
@@ -10,7 +9,6 @@ use Rattle.sg_record.specs.Plain.Record.{Line as LineRecord}
 use Rattle.sg_words.specs.declared.answer.Answer as code_answer
 use Rattle.sg_words.specs.Answered.{shown_answer}
 use Rattle.sg_log.specs.Held.{Tail, tail_of, place_of}
-use Rattle.sg_journal.specs.Lines.{op_said}
 use Rattle.sg_journal.specs.Live.{Opened, Undo, with_last}
 use Rattle.sg_journal.specs.Shown.{opened_of, undo_of, answer_at}
 use Rattle.sg_journal.specs.Store.{Core}
@@ -19,7 +17,7 @@ use Rattle.sg_journal.specs.Goes.{NEW_WORK_END}
 use Rattle.sg_journal.proofs.Listing.{named_numbered}
 use Rattle.sg_journal.proofs.Steps.{op_none}
 use Rattle.sg_journal.proofs.Changes.{op_logged}
-use Rattle.sg_journal.proofs.Performing.{op_said-spoken, not_granted, locked, unchanged, has_read, full_or, starved, op_fault}
+use Rattle.sg_journal.proofs.Performing.{not_granted, locked, unchanged, has_read, full_or, starved, op_fault}
 use Rattle.sg_journal.proofs.Along.{goes_along}
 use Rattle.sg_journal.proofs.store.Store.perform.Goals as goal
 
@@ -102,7 +100,7 @@ returns-in-Ok-keep-clause-goes g c was x shows =
     let v = g.D.Disk.view c.args.self.now.disk in
     let op : Op = said_op c.args.op.now in
     let l : Opened = opened_of c.in-Some.live in
-    let words : List ℕ = take c.join_words-size.result c.join_words-size.new.into in
+    let words : List ℕ = c.args.words.now in
     let last : ℕ = place_of k.log (LineRecord l.transaction l.last words) in
     let new : Tail = c.keep.new.self.log in
     let o : Objects = c.change.new.objects in
@@ -111,7 +109,6 @@ returns-in-Ok-keep-clause-goes g c was x shows =
     let changing = sym c.is_changing.ensures ∙ c.if-not-is_changing.false in
     let e = rw c.in-Ok-Ok-change.field-0-is at c.in-Ok-Ok-change.ensures.done in
     let h = locked _ g.D.Disk.told was v k x shows c.requires.running l.transaction op _ c.hold.new.locks c.touches.ensures c.in-Ok.ensures.granted c.in-Ok.ensures.after in
-    let says = ap op_said c.join_words-size.ensures.words ∙ op_said-spoken c.args.text.now c.args.name c.args.op.now c.requires.said in
     let live : List Opened = with_last l.transaction last k.live in
     let core = c.in-Ok-keep.ensures.core
     ∙ (ap (λ (ls : List Opened). record k { held = c.hold.new.locks; objects = o; live = with_last l.transaction last ls; undo = undo; log = new }) c.change.ensures.all
@@ -119,7 +116,7 @@ returns-in-Ok-keep-clause-goes g c was x shows =
     goes_along _ _ _ _ _ _ refl refl core
     (op_logged _ g.D.Disk.told was v k x shows c.requires.running c.args.name op l (sym c.in-Some.ensures) h.free h.few (said_reply c.change.new.into c.in-Ok-Ok-change.reply) o (g.D.Disk.view c.keep.new.self.disk) new words undo
     (λ u s object. c.in-Ok-keep.ensures.same u s object ∙ c.in-Ok-Ok-change.ensures.noted u s object)
-    (sym (ap (λ (p : Outcome × Objects). p.1) e)) (ap (λ (p : Outcome × Objects). p.0) e) changing says c.keep.ensures.range low c.in-Ok-keep.ensures.log c.in-Ok-keep.ensures.tail c.in-Ok-keep.ensures.holds c.keep.ensures.any_moment c.in-Ok-keep.ensures.elsewhere)
+    (sym (ap (λ (p : Outcome × Objects). p.1) e)) (ap (λ (p : Outcome × Objects). p.0) e) changing c.requires.said c.keep.ensures.range low c.in-Ok-keep.ensures.log c.in-Ok-keep.ensures.tail c.in-Ok-keep.ensures.holds c.keep.ensures.any_moment c.in-Ok-keep.ensures.elsewhere)
 
 pub returns-in-Err-keep-clause-goes : goal.returns-in-Err-keep-clause-goes
 returns-in-Err-keep-clause-goes g c was x shows =
@@ -127,7 +124,7 @@ returns-in-Err-keep-clause-goes g c was x shows =
     let v = g.D.Disk.view c.args.self.now.disk in
     let op : Op = said_op c.args.op.now in
     let l : Opened = opened_of c.in-Some.live in
-    let words : List ℕ = take c.join_words-size.result c.join_words-size.new.into in
+    let words : List ℕ = c.args.words.now in
     let low : tail_of k.log ≤ NEW_WORK_END = omega (arith, c.tail.ensures, c.if-tail-gt-NEW_WORK_END.false) in
     let changing = sym c.is_changing.ensures ∙ c.if-not-is_changing.false in
     let e = rw c.in-Ok-Ok-change.field-0-is at c.in-Ok-Ok-change.ensures.done in
