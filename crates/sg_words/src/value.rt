@@ -1,13 +1,26 @@
-ghost use Rattle.std.specs.Prelude.{◌≡◌, ◌*◌, ◌≤◌, ◌<◌, length, option_copied};
+ghost use Rattle.std.specs.Prelude.{◌≡◌, ◌*◌, ◌≤◌, ◌<◌, ◌&&◌, nat_le, length, option_copied};
 ghost use Rattle.std.specs.List.{list_all};
 ghost use Rattle.hex.specs.Hex.{decode_of};
 ghost use Rattle.sg_words.specs.Parse.{is_plain, if_decoded, value_of};
 ghost use Rattle.sg_words.specs.Text.{prints_plain};
 
-fn is_plain(b: u8) -> bool
-    ensures { result ≡ is_plain b }
+/// The first byte that stands for itself.
+const FIRST_PLAIN: u8 = 0x21;
+
+/// How far the last byte that stands for itself is behind the first.
+const MOST_BEHIND: u8 = 0x7e - 0x21;
+
+// How far a byte is behind the first that stands for itself. The bytes before that one come last.
+fn behind_first(b: u8) -> u8
+    ensures { nat_le result 93 ≡ is_plain b }
 {
-    b >= 0x21 && b <= 0x7e
+    b.wrapping_sub(FIRST_PLAIN)
+}
+
+fn greater(a: u8, b: u8) -> u8
+    ensures { nat_le result 93 ≡ (nat_le a 93 && nat_le b 93) }
+{
+    a.max(b)
 }
 
 // Whether all of the bytes stand for themselves. It looks at all of them, so that several can be
@@ -15,11 +28,11 @@ fn is_plain(b: u8) -> bool
 fn are_plain(word: &[u8]) -> bool
     ensures { result ≡ list_all is_plain word.now }
 {
-    let mut plain = true;
+    let mut most = 0;
     'bytes: for b in word {
-        plain &= is_plain(*b);
+        most = greater(most, behind_first(*b));
     }
-    plain
+    most <= MOST_BEHIND
 }
 
 /// Whether bytes are printed as themselves.
