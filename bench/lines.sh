@@ -78,10 +78,11 @@ def run(build, number):
     with open(folder + "/script", "rb") as script, open(folder + "/replies", "wb") as replies:
         start = time.monotonic()
         process = subprocess.Popen([build, "run", f"{folder}/store{number}"], stdin=script, stdout=replies)
-        while process.poll() is None:
-            memory = most_memory(process, memory)
-            time.sleep(0.002)
-        seconds = time.monotonic() - start
+    # The files are the program's alone now: the system takes a lock for each write to one that two processes have open.
+    while process.poll() is None:
+        memory = most_memory(process, memory)
+        time.sleep(0.002)
+    seconds = time.monotonic() - start
     with open(folder + "/replies", "rb") as replies:
         errors = sum(1 for line in replies if line.startswith(b"error"))
     return seconds, processor_time() - before, memory, process.returncode, errors
