@@ -1,4 +1,4 @@
-ghost use Rattle.std.specs.Prelude.{◌≡◌, ◌+◌, ◌≤◌, [], ◌++◌, List, true, length, take};
+ghost use Rattle.std.specs.Prelude.{◌≡◌, ◌+◌, ◌≤◌, ◌==◌, [], ◌++◌, List, length, take};
 ghost use Rattle.sg_top.specs.Kept.{MOST_KEPT};
 
 use std::marker::Model;
@@ -62,7 +62,7 @@ impl LineBuffer {
 
     /// Whether there are no bytes.
     pub fn is_empty(&self) -> bool
-        ensures { result ≡ true → self.now ≡ [] }
+        ensures { result ≡ (length self.now == 0) }
     {
         self.len == 0
     }
