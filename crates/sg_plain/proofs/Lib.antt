@@ -9,3 +9,4 @@ pub mod Undoing
 pub mod Noting
 pub mod Ready
 pub mod Pasts
+pub mod Holding

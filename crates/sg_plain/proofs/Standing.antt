@@ -120,6 +120,11 @@ module _ {V W : Type 0} (f : V → W) where
   pub put_there : (s : FinMap (slice_cmp nat_cmp) W) (es fs : List (List ℕ × Option V)) (q : List ℕ) (o : V) → shown_there es ≡ s → ((k : List ℕ) → lookup (at k) fs ≡ cond (at q k) (Some (Some o)) (lookup (at k) es)) → shown_there fs ≡ insert s q (f o)
   put_there s es fs q o is h = ap there (one_put (option_map f) es fs q (Some o) h) ∙ (there_put (shown_places es) q (f o) ∙ ap (λ (m : FinMap (slice_cmp nat_cmp) W). insert m q (f o)) is)
 
+  pub emptied_there : (s : FinMap (slice_cmp nat_cmp) W) (es fs : List (List ℕ × Option V)) (q : List ℕ) (w : Option V) → shown_there es ≡ s → w ≡ None → ((k : List ℕ) → lookup (at k) fs ≡ cond (at q k) (Some w) (lookup (at k) es)) → shown_there fs ≡ remove s q
+  emptied_there s es fs q w is none h =
+      ap there (one_put (option_map f) es fs q None (λ k. h k ∙ ap (λ (o : Option V). cond (at q k) (Some o) (lookup (at k) es)) none))
+      ∙ (there_emptied (shown_places es) q ∙ ap (λ (m : FinMap (slice_cmp nat_cmp) W). remove m q) is)
+
   pub gone_there : (s : FinMap (slice_cmp nat_cmp) W) (es fs : List (List ℕ × Option V)) (q : List ℕ) → shown_there es ≡ s → ((k : List ℕ) → lookup (at k) fs ≡ cond (at q k) None (lookup (at k) es)) → shown_there fs ≡ remove s q
   gone_there s es fs q is h = ap there (one_gone (option_map f) es fs q h) ∙ (there_gone (shown_places es) q ∙ ap (λ (m : FinMap (slice_cmp nat_cmp) W). remove m q) is)
 

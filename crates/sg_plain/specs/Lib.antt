@@ -7,3 +7,4 @@ pub mod Replies
 pub mod Undone
 pub mod Ready
 pub mod Back
+pub mod Hand

@@ -123,8 +123,8 @@ fn undo_object(objects: &mut BTreeMap<Name, Option<Object>>, name: Name, undos: 
     object.undo_all(undos);
 }
 
-// Puts an object at the place of its name. Takes no memory.
-fn put_back(objects: &mut BTreeMap<Name, Option<Object>>, name: Name, object: Object)
+/// Puts an object at the place of its name. Takes no memory.
+pub fn put_back(objects: &mut BTreeMap<Name, Option<Object>>, name: Name, object: Object)
     requires { IsSome (at_name objects.old name) }
     ensures back { finmap.get (objects_of objects.new.entries) name ≡ Some (shown object) }
     ensures others { (other : List ℕ) → bytes_eq name other ≡ false → at_name objects.new other ≡ at_name objects.old other }

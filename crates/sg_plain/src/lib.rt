@@ -13,6 +13,7 @@ mod back;
 mod blob;
 mod changes;
 mod front;
+mod hand;
 mod notes;
 mod object;
 mod objects;

@@ -9,6 +9,7 @@ ghost use Rattle.sg_model.specs.Verb.Verb.{Keys};
 ghost use Rattle.sg_model.specs.SaidReplies.{said_outcome};
 ghost use Rattle.sg_plain.specs.Replies.{shown_keys};
 ghost use Rattle.sg_plain.specs.Shown.{shown, objects_of};
+ghost use Rattle.sg_plain.specs.Hand.{with_hand, IsPlaced};
 ghost use Rattle.sg_model.specs.SaidOps.{said_op, verb_of, name_of};
 ghost use Rattle.sg_model.specs.TouchList.{shown_touches};
 ghost use Rattle.sg_model.specs.Touches.{touches, touch_of, to_read, to_write, further};
@@ -22,8 +23,9 @@ use crate::array::Array;
 use crate::back::{drop_places, make_all_ready, take_all_back};
 use crate::blob::Blob;
 use crate::changes::Changes;
+use crate::hand::{bring, find, held_keys, stow};
 use crate::object::Object;
-use crate::places::{at_place, filled_keys};
+use crate::places::filled_keys;
 use crate::reach::{only_read, written};
 use crate::table::Table;
 use crate::undo::Change;
@@ -36,6 +38,7 @@ use std::marker::Model;
 
 // Does an operation that makes and drops no object, or answers the reason why it is refused.
 fn apply_in(
+    hand: &mut Option<(Name, Object)>,
     map: &mut BTreeMap<Name, Option<Object>>,
     alloc: Global,
     ops: &Ops,
@@ -43,18 +46,18 @@ fn apply_in(
     op: &Op<'_>,
     into: &mut [u8],
 ) -> Result<Result<Reply, Reason>, OutOfMemory>
+    requires placed { IsPlaced hand.old map.old }
     requires room { 8192 ≤ length into.old }
     requires named { name.now ≡ name_of op.now }
     requires in_place { IsInPlace (verb_of op.now) }
-    ensures done { IfOk result (λ r. step (table_of record_meaning range_meaning ops.now) (objects_of map.old.entries) (said_op op.now) ≡ (said_outcome into.new r, objects_of map.new.entries)) }
-    ensures err { OnErr result (objects_of map.new.entries ≡ objects_of map.old.entries) }
+    ensures placed { IsPlaced hand.new map.new }
+    ensures done { IfOk result (λ r. step (table_of record_meaning range_meaning ops.now) (with_hand hand.old (objects_of map.old.entries)) (said_op op.now) ≡ (said_outcome into.new r, with_hand hand.new (objects_of map.new.entries))) }
+    ensures err { OnErr result (with_hand hand.new (objects_of map.new.entries) ≡ with_hand hand.old (objects_of map.old.entries)) }
     ensures memory { OnErr result (GrowsBy (verb_of op.now)) }
-    ensures cause { OnErr result (IsOk (step (table_of record_meaning range_meaning ops.now) (objects_of map.old.entries) (said_op op.now)).0) }
+    ensures cause { OnErr result (IsOk (step (table_of record_meaning range_meaning ops.now) (with_hand hand.old (objects_of map.old.entries)) (said_op op.now)).0) }
 {
-    let Some(place) = map.get_mut(name) else {
-        return Ok(Err(Reason::NoObject));
-    };
-    let Some(object) = place else {
+    bring(hand, map, name);
+    let Some((_, object)) = hand else {
         return Ok(Err(Reason::NoObject));
     };
     object.attempt(alloc, ops, op, into)
@@ -63,6 +66,7 @@ fn apply_in(
 // The same, and notes what takes it back.
 #[inline(always)]
 fn change_in(
+    hand: &mut Option<(Name, Object)>,
     map: &mut BTreeMap<Name, Option<Object>>,
     alloc: Global,
     ops: &Ops,
@@ -71,19 +75,19 @@ fn change_in(
     into: &mut [u8],
     changes: &mut Changes,
 ) -> Result<Result<Reply, Reason>, OutOfMemory>
+    requires placed { IsPlaced hand.old map.old }
     requires room { 8192 ≤ length into.old }
     requires named { name.now ≡ name_of op.now }
     requires in_place { IsInPlace (verb_of op.now) }
-    ensures done { IfOk result (λ r. step (table_of record_meaning range_meaning ops.now) (objects_of map.old.entries) (said_op op.now) ≡ (said_outcome into.new r, objects_of map.new.entries)) }
-    ensures noted { OnOk result ((other : List ℕ) (object : Option plain.Object) → undo_in changes.new other object ≡ undo_in changes.old other (undo_on other (note_of_op (table_of record_meaning range_meaning ops.now) (objects_of map.old.entries) (said_op op.now)) object)) }
-    ensures err { OnErr result (objects_of map.new.entries ≡ objects_of map.old.entries) }
+    ensures placed { IsPlaced hand.new map.new }
+    ensures done { IfOk result (λ r. step (table_of record_meaning range_meaning ops.now) (with_hand hand.old (objects_of map.old.entries)) (said_op op.now) ≡ (said_outcome into.new r, with_hand hand.new (objects_of map.new.entries))) }
+    ensures noted { OnOk result ((other : List ℕ) (object : Option plain.Object) → undo_in changes.new other object ≡ undo_in changes.old other (undo_on other (note_of_op (table_of record_meaning range_meaning ops.now) (with_hand hand.old (objects_of map.old.entries)) (said_op op.now)) object)) }
+    ensures err { OnErr result (with_hand hand.new (objects_of map.new.entries) ≡ with_hand hand.old (objects_of map.old.entries)) }
     ensures same { OnErr result ((other : List ℕ) (object : Option plain.Object) → undo_in changes.new other object ≡ undo_in changes.old other object) }
-    ensures cause { OnErr result (IsOk (step (table_of record_meaning range_meaning ops.now) (objects_of map.old.entries) (said_op op.now)).0) }
+    ensures cause { OnErr result (IsOk (step (table_of record_meaning range_meaning ops.now) (with_hand hand.old (objects_of map.old.entries)) (said_op op.now)).0) }
 {
-    let Some(place) = map.get_mut(name) else {
-        return Ok(Err(Reason::NoObject));
-    };
-    let Some(object) = place else {
+    bring(hand, map, name);
+    let Some((_, object)) = hand else {
         return Ok(Err(Reason::NoObject));
     };
     changes.change(name, object, alloc, ops, op, into)
@@ -92,6 +96,9 @@ fn change_in(
 /// Objects under names, which contracts see as a finite map.
 #[derive(Drop)]
 pub struct Objects {
+    // the object that an operation was done to last, which most operations are of, and its name; its
+    // place in `map` is there, so that it can be put back without memory
+    hand: Option<(Name, Object)>,
     // a name may have a place with no object, where one can be put back without memory
     map: BTreeMap<Name, Option<Object>>,
 }
@@ -111,8 +118,11 @@ impl Model for Objects {
     ghost coded = { code (coded_list coded_ℕ) object_code };
 
     ghost use Rattle.sg_plain.specs.Shown.{objects_of};
+    ghost use Rattle.sg_plain.specs.Hand.{with_hand, IsPlaced};
 
-    ghost view = { λ a. objects_of a.map.entries };
+    ghost view = { λ a. with_hand a.hand (objects_of a.map.entries) };
+
+    ghost invariant = { λ a. IsPlaced a.hand a.map };
 }
 
 impl Objects {
@@ -127,6 +137,7 @@ impl Objects {
         ensures { result ≡ finmap.empty }
     {
         Objects {
+            hand: None,
             map: BTreeMap::new(alloc),
         }
     }
@@ -135,7 +146,7 @@ impl Objects {
     fn get(&self, name: Name) -> Option<&Object>
         ensures { option_map shown (option_copied result) ≡ finmap.get self.now name }
     {
-        at_place(self.map.get(&name))
+        find(&self.hand, &self.map, &name)
     }
 
     // Whether there is an object with this name.
@@ -150,6 +161,7 @@ impl Objects {
         ensures ok { OnOk result (self.new ≡ finmap.insert self.old name (shown object)) }
         ensures err { OnErr result (self.new ≡ self.old) }
     {
+        stow(&mut self.hand, &mut self.map);
         match self.map.insert(name, Some(object)) {
             Ok(_) => Ok(()),
             Err(_) => Err(OutOfMemory),
@@ -160,6 +172,7 @@ impl Objects {
     fn discard(&mut self, name: Name)
         ensures { self.new ≡ finmap.remove self.old name }
     {
+        stow(&mut self.hand, &mut self.map);
         let _ = self.map.remove(&name);
     }
 
@@ -168,6 +181,7 @@ impl Objects {
         ensures there { option_map shown result ≡ finmap.get self.old name }
         ensures after { self.new ≡ finmap.remove self.old name }
     {
+        stow(&mut self.hand, &mut self.map);
         self.map.remove(&name).flatten()
     }
 
@@ -249,7 +263,10 @@ impl Objects {
     pub fn list(&self, alloc: Global) -> Result<Vec<Name>, OutOfMemory>
         ensures { IfOk result (λ names. (t : Operations) → step t self.now Names ≡ (Ok (Several names.items), self.now)) }
     {
-        filled_keys(alloc, &self.map)
+        let Some((held, _)) = &self.hand else {
+            return filled_keys(alloc, &self.map);
+        };
+        held_keys(alloc, &self.map, *held)
     }
 
     // Puts what an operation on an object that is there touches in the place of other touches.
@@ -420,7 +437,15 @@ impl Objects {
             | Op::Write { .. }
             | Op::Read { .. }
             | Op::Size { .. }
-            | Op::Paint { .. } => apply_in(&mut self.map, alloc, ops, &op.name(), op, into),
+            | Op::Paint { .. } => apply_in(
+                &mut self.hand,
+                &mut self.map,
+                alloc,
+                ops,
+                &op.name(),
+                op,
+                into,
+            ),
         }
     }
 
@@ -568,7 +593,16 @@ impl Objects {
             | Op::Read { .. }
             | Op::Size { .. }
             | Op::Paint { .. } => {
-                change_in(&mut self.map, alloc, ops, &op.name(), op, into, changes)
+                change_in(
+                &mut self.hand,
+                &mut self.map,
+                alloc,
+                ops,
+                &op.name(),
+                op,
+                into,
+                changes,
+            )
             }
         }
     }
@@ -582,6 +616,7 @@ impl Objects {
         ensures same { OnErr result ((name : List ℕ) (object : Option plain.Object) → undo_in changes.new name object ≡ undo_in changes.old name object) }
     {
         changes.gather()?;
+        stow(&mut self.hand, &mut self.map);
         match make_all_ready(&mut self.map, alloc, &mut changes.others) {
             Ok(()) => {
                 take_all_back(&mut self.map, &mut changes.others);
