@@ -6,11 +6,23 @@ use sg_base::OutOfMemory;
 use std::alloc::Global;
 use std::marker::Model;
 
-// A place's bucket, and the place before it in that bucket.
+// A place's bucket, and the place before it in that bucket. Both are below 4,096, and thousands of links are gone through
+// between two uses of one: the less room they take, the more of all that is held stays near the processor.
 #[derive(Clone, Copy)]
 struct Link {
-    bucket: usize,
-    earlier: Option<usize>,
+    bucket: u16,
+    earlier: Option<u16>,
+}
+
+// The place, as places are counted.
+#[inline(always)]
+fn wide(place: Option<u16>) -> Option<usize>
+    ensures { result ≡ place }
+{
+    match place {
+        Some(place) => Some(place as usize),
+        None => None,
+    }
 }
 
 /// Places 0, 1, .. of a list, at most 4,096, each in a bucket. From the last place of a bucket one
@@ -18,7 +30,7 @@ struct Link {
 #[derive(Drop)]
 pub struct Chains {
     // The last place in each bucket.
-    last: Vec<Option<usize>>,
+    last: Vec<Option<u16>>,
     links: Vec<Link>,
 }
 
@@ -34,7 +46,7 @@ impl Model for Chains {
 }
 
 // No bucket has a place.
-fn no_places(alloc: Global) -> Result<Vec<Option<usize>>, OutOfMemory>
+fn no_places(alloc: Global) -> Result<Vec<Option<u16>>, OutOfMemory>
     ensures { IfOk result (λ v. v.items ≡ replicate 4096 None) }
 {
     let Ok(mut last) = Vec::with_capacity(alloc, BUCKETS) else {
@@ -70,7 +82,7 @@ impl Chains {
         requires { bucket < 4096 }
         ensures { result ≡ last_in bucket self.now }
     {
-        self.last[bucket]
+        wide(self.last[bucket])
     }
 
     /// The place before this one in its bucket.
@@ -78,7 +90,7 @@ impl Chains {
         requires { at < length self.now }
         ensures { result ≡ last_in (slice_index self.now at) (take at self.now) }
     {
-        self.links[at].earlier
+        wide(self.links[at].earlier)
     }
 
     /// One more place.
@@ -87,9 +99,12 @@ impl Chains {
         requires room { length self.old < 4096 }
         ensures { self.new ≡ self.old ++ bucket ∷ [] }
     {
-        let end = self.links.len();
+        let end = self.links.len() as u16;
         let earlier = self.last[bucket];
-        self.links.push_reserved(Link { bucket, earlier });
+        self.links.push_reserved(Link {
+            bucket: bucket as u16,
+            earlier,
+        });
         self.last[bucket] = Some(end);
     }
 
@@ -98,7 +113,7 @@ impl Chains {
         ensures { self.new ≡ take (length self.old - 1) self.old }
     {
         if let Some(link) = self.links.pop() {
-            self.last[link.bucket] = link.earlier;
+            self.last[link.bucket as usize] = link.earlier;
         }
     }
 
