@@ -143,6 +143,7 @@ impl Objects {
     }
 
     // The object with this name.
+    #[inline(always)]
     fn get(&self, name: Name) -> Option<&Object>
         ensures { option_map shown (option_copied result) ≡ finmap.get self.now name }
     {
