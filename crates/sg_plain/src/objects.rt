@@ -144,17 +144,17 @@ impl Objects {
 
     // The object with this name.
     #[inline(always)]
-    fn get(&self, name: Name) -> Option<&Object>
-        ensures { option_map shown (option_copied result) ≡ finmap.get self.now name }
+    fn get(&self, name: &Name) -> Option<&Object>
+        ensures { option_map shown (option_copied result) ≡ finmap.get self.now name.now }
     {
-        find(&self.hand, &self.map, &name)
+        find(&self.hand, &self.map, name)
     }
 
     // Whether there is an object with this name.
     fn has(&self, name: Name) -> bool
         ensures { result ≡ is_some (finmap.get self.now name) }
     {
-        self.get(name).is_some()
+        self.get(&name).is_some()
     }
 
     // Puts a new object under a name.
@@ -191,7 +191,7 @@ impl Objects {
         requires { IsInPlace (verb_of op.now) }
         ensures { Refuses (on (table_of record_meaning range_meaning ops.now) (verb_of op.now) (finmap.get self.now name)).0 result }
     {
-        match self.get(name) {
+        match self.get(&name) {
             None => Some(Reason::NoObject),
             Some(object) => object.refusal(ops, op),
         }
@@ -254,7 +254,7 @@ impl Objects {
         ensures done { IfOk result (λ r. (t : Operations) → step t self.now (On name Keys) ≡ (shown_keys r, self.now)) }
         ensures cause { OnErr result ((t : Operations) → IsOk (step t self.now (On name Keys)).0) }
     {
-        match self.get(name) {
+        match self.get(&name) {
             None => Ok(Err(Reason::NoObject)),
             Some(object) => object.keys(alloc),
         }
@@ -278,7 +278,7 @@ impl Objects {
     {
         into.clear();
         into.push(only_read(Resource::Name(*name)));
-        match self.get(*name) {
+        match self.get(name) {
             None => {}
             Some(object) => object.reach(op, into),
         }
@@ -298,7 +298,7 @@ impl Objects {
     {
         into.clear();
         into.push(only_read(Resource::Name(name)));
-        match self.get(name) {
+        match self.get(&name) {
             None => {}
             Some(object) => object.reach_keys(name, into),
         }
