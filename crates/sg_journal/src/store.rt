@@ -409,6 +409,7 @@ impl<D: Disk> Store<D> {
     /// written in hexadecimal digits, `words` the words that the log keeps of a line, and the first bytes
     /// of `into` are those of an answer `Said(Reply::Bytes(n))`. A store that has stopped answers
     /// `Stopped` to each line that asks for something.
+    #[inline(always)]
     pub fn answer(
         &mut self,
         alloc: Global,

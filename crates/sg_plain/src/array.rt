@@ -342,6 +342,7 @@ impl Array {
 
     /// Adds an item at the end, where that isn't refused, and gives its index. After `OutOfMemory` the
     /// array is unchanged.
+    #[inline(always)]
     pub fn push(&mut self, value: &[u8]) -> Result<u64, OutOfMemory>
         requires { IsOk (push value.now self.old.row).0 }
         ensures done { IfOk result (λ n. push value.now self.old.row ≡ (Ok (Number n), self.new.row)) }

@@ -161,6 +161,7 @@ fn op_with<'a>(verb: Numbered, name: Name, numbers: (u64, u64, u64), value: &'a 
 }
 
 // Reads what a verb with a value at its end asks for, and gives whether the words are known to stand joined.
+#[inline(always)]
 #[tactic(auto, using(crate::proofs::Counts::numbered_words, crate::proofs::Counts::numbered_none))]
 fn with_value<'a>(
     verb: Numbered,
