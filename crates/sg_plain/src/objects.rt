@@ -595,15 +595,15 @@ impl Objects {
             | Op::Size { .. }
             | Op::Paint { .. } => {
                 change_in(
-                &mut self.hand,
-                &mut self.map,
-                alloc,
-                ops,
-                &op.name(),
-                op,
-                into,
-                changes,
-            )
+                    &mut self.hand,
+                    &mut self.map,
+                    alloc,
+                    ops,
+                    &op.name(),
+                    op,
+                    into,
+                    changes,
+                )
             }
         }
     }

@@ -1,7 +1,6 @@
-use Rattle.std.proofs.Common.{rules, ◌≡◌, None, Some, Option, refl, sym, ap, ◌∙◌}
+use Rattle.std.proofs.Common.{rules, ◌≡◌, None, Some, refl, sym, ap, ◌∙◌}
 use Rattle.std.specs.FinMap.{get}
 use Rattle.std.specs.Option.{option_map, is_some}
-use Rattle.sg_model.specs.Objects.{Object}
 use Rattle.sg_plain.specs.Shown.{shown, objects_of}
 use Rattle.sg_plain.proofs.Found.{remove_absent}
 use Rattle.sg_plain.proofs.Standing.{stands, emptied_there}

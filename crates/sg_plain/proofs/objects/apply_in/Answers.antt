@@ -1,4 +1,4 @@
-use Rattle.std.proofs.Common.{◌≡◌, Some, None, ap, sym}
+use Rattle.std.proofs.Common.{◌≡◌, Some, None}
 use Rattle.std.specs.FinMap.{get, insert}
 use Rattle.sg_ops.specs.Table.{table_of}
 use Rattle.sg_model.specs.Objects.{Objects}
