@@ -1,7 +1,6 @@
 -- What is noted of what stands under names, and what an operation adds to it.
 use Rattle.std.proofs.Common.{◌≡◌, ℕ, Bool, true, false, cond, List, [], ◌∷◌, Option, Some, None, Result, Ok, Err, IsOk, OnErr, refl, sym, ap, ◌∙◌, subst}
-use Rattle.std.specs.Prelude.{Vec, IsSome, OnOk}
-use Rattle.std.specs.declared.alloc.Global.{Global}
+use Rattle.std.specs.Prelude.{IsSome, OnOk}
 use Rattle.std.specs.Str.{bytes_eq}
 use Rattle.std.specs.Map.{lookup}
 use Rattle.std.specs.FinMap as finmap
@@ -17,13 +16,14 @@ use Rattle.sg_model.specs.Undo.{Note, OpNote, undo, undo_on, note_of, note_of_op
 use Rattle.sg_model.specs.Undo.Note.{Nothing, WasMade}
 use Rattle.sg_plain.specs.declared.undo.Undo as code_undo
 use Rattle.sg_plain.specs.declared.undo.Undo.TheVariants as undos
+use Rattle.sg_plain.specs.declared.undos.Undos as code_undos
 use Rattle.sg_plain.specs.declared.undo.Change as code_change
 use Rattle.sg_plain.specs.declared.undo.Change.TheVariants as changes
 use Rattle.sg_plain.specs.declared.undo.Past as code_past
 use Rattle.sg_plain.specs.declared.undo.Past.TheVariants as pasts
 use Rattle.sg_plain.specs.declared.changes.Changes as code_changes
 use Rattle.sg_plain.specs.declared.notes.Notes as code_notes
-use Rattle.sg_plain.specs.Undone.{shown_undo, shown_change, undo_listed, before, undo_in, undo_noted, Makes, MakesOrDrops}
+use Rattle.sg_plain.specs.Undone.{shown_undo, shown_change, undo_listed, listed, before, undo_in, undo_noted, Makes, MakesOrDrops}
 use Rattle.sg_plain.proofs.Found.{at}
 use Rattle.sg_plain.proofs.Noting.{either}
 use Rattle.sg_plain.proofs.Steps.{after_discard}
@@ -42,10 +42,10 @@ none_undone [] = refl
 none_undone (u ∷ us) = ap (undo (shown_undo u)) (none_undone us) ∙ undo_none u
 
 -- an object made after it was dropped or where none was
-pub made_noted : (past : code_past.Past) (us : Vec code_undo.Undo Global) (change : code_change.Change) → past ≡ pasts.Changed us → change ≡ changes.Made → (object : Option Object) → None ≡ before (Some past) (undo (shown_change change) object)
+pub made_noted : (past : code_past.Past) (us : code_undos.Undos) (change : code_change.Change) → past ≡ pasts.Changed us → change ≡ changes.Made → (object : Option Object) → None ≡ before (Some past) (undo (shown_change change) object)
 made_noted past us change is made object =
     sym (ap (λ (p : code_past.Past). before (Some p) (undo (shown_change change) object)) is
-    ∙ (ap (λ (x : code_change.Change). undo_listed us.items (undo (shown_change x) object)) made ∙ none_undone us.items))
+    ∙ (ap (λ (x : code_change.Change). undo_listed (listed us) (undo (shown_change x) object)) made ∙ none_undone (listed us)))
 
 -- changes with another past of one name
 abbrev pub past_of : code_notes.Notes → List ℕ → Option code_past.Past

@@ -1,5 +1,5 @@
 -- When what changes note can be taken back without memory.
-use Rattle.std.specs.Prelude.{ℕ, List, map, Option, Some, None, IsSome}
+use Rattle.std.specs.Prelude.{◌≡◌, ℕ, List, map, Option, Some, None, IsSome}
 use Rattle.std.specs.Ordering.{nat_cmp}
 use Rattle.std.specs.Cmp.Lexicographic.{slice_cmp}
 use Rattle.std.specs.BTreeMap.{BTreeMap, get}
@@ -21,9 +21,9 @@ IsReadyPlace notes (Some None) = ⊥
 IsReadyPlace notes (Some (Some object)) = IsReady notes object
 
 -- what was done to what stands under a name can be taken back: an object that was changed is there and ready for its notes,
--- and one that was dropped is ready for them and has a place
+-- and one that was dropped is ready for them and has a place; each item that was added has its note
 abbrev pub IsReadyAt : Option code_past.Past → Option (Option code.Object) → Type 0
 IsReadyAt None place = Unit {0}
 IsReadyAt (Some pasts.Made) place = Unit {0}
-IsReadyAt (Some (pasts.Changed undos)) place = IsReadyPlace (map shown_undo undos.items) place
-IsReadyAt (Some (pasts.Dropped object undos)) place = IsSome place × IsReady (map shown_undo undos.items) object
+IsReadyAt (Some (pasts.Changed undos)) place = (undos.pushed ≡ 0) × IsReadyPlace (map shown_undo undos.notes.items) place
+IsReadyAt (Some (pasts.Dropped object undos)) place = (undos.pushed ≡ 0) × IsSome place × IsReady (map shown_undo undos.notes.items) object

@@ -1,5 +1,5 @@
 -- The code's notes of what was done to objects, without where they lie in memory, and what takes it back.
-use Rattle.std.specs.Prelude.{ℕ, Bool, ◌||◌, is_some, if◌then◌else◌, List, map, Option, Some, None}
+use Rattle.std.specs.Prelude.{ℕ, Bool, ◌||◌, is_some, if◌then◌else◌, List, ◌++◌, map, replicate, Option, Some, None}
 use Rattle.std.specs.Str.{bytes_eq}
 use Rattle.std.specs.Ordering.{nat_cmp}
 use Rattle.std.specs.Cmp.Lexicographic.{slice_cmp}
@@ -11,6 +11,7 @@ use Rattle.sg_model.specs.Undo.{Note, undo_each}
 use Rattle.sg_model.specs.Undo.Note.{Nothing, WasMade, WasDropped, WasPushed, WasPopped, WasSet, WasPut, HadValue, HadBytes}
 use Rattle.sg_plain.specs.declared.undo.Undo as code_undo
 use Rattle.sg_plain.specs.declared.undo.Undo.TheVariants as undos
+use Rattle.sg_plain.specs.declared.undos.Undos as code_undos
 use Rattle.sg_plain.specs.declared.undo.Past as code_past
 use Rattle.sg_plain.specs.declared.undo.Past.TheVariants as pasts
 use Rattle.sg_plain.specs.declared.undo.Change as code_change
@@ -35,13 +36,17 @@ shown_undo_of (Some undo) = shown_undo undo
 abbrev pub undo_listed : List code_undo.Undo → Option Object → Option Object
 undo_listed undos object = undo_each (map shown_undo undos) object
 
+-- the notes one by one: the items that were counted came last
+abbrev pub listed : code_undos.Undos → List code_undo.Undo
+listed noted = noted.notes.items ++ replicate noted.pushed undos.Pushed
+
 -- what stood under a name before a transaction's changes: an object that it made wasn't there, one that it changed was what
 -- its notes make of it now, and one that it dropped is what they make of the one that was kept
 abbrev pub before : Option code_past.Past → Option Object → Option Object
 before None object = object
 before (Some pasts.Made) object = None
-before (Some (pasts.Changed undos)) object = undo_listed undos.items object
-before (Some (pasts.Dropped dropped undos)) object = undo_listed undos.items (Some (shown dropped))
+before (Some (pasts.Changed noted)) object = undo_listed (listed noted) object
+before (Some (pasts.Dropped dropped noted)) object = undo_listed (listed noted) (Some (shown dropped))
 
 -- that what stands under a name was made or dropped
 abbrev pub shown_change : code_change.Change → Note

@@ -127,7 +127,6 @@ impl Array {
     ghost use Rattle.sg_model.specs.Undo.{note_array, note_item, note_last, undo};
     ghost use Rattle.sg_plain.specs.Undone.{shown_undo_of, undo_listed};
     ghost use Rattle.sg_plain.specs.Ready.{IsReadyRow};
-    ghost use Rattle.sg_plain.specs.declared.undo.Undo.TheVariants.{Pushed};
 
     /// An array without items, for items of this many bytes. Takes no memory.
     pub fn new(alloc: Global, size: u64) -> Array
@@ -353,24 +352,6 @@ impl Array {
             Ok(()) => Ok(at),
             Err(_) => Err(OutOfMemory),
         }
-    }
-
-    /// The same, and adds what undoes it to the notes. After `OutOfMemory` neither the array nor the
-    /// notes have changed.
-    #[inline(always)]
-    pub fn push_noted(&mut self, value: &[u8], undos: &mut Vec<Undo>) -> Result<u64, OutOfMemory>
-        requires { IsOk (push value.now self.old.row).0 }
-        ensures done { IfOk result (λ n. push value.now self.old.row ≡ (Ok (Number n), self.new.row)) }
-        ensures noted { OnOk result (undos.new.items ≡ undos.old.items ++ Pushed ∷ []) }
-        ensures err { OnErr result (self.new.row ≡ self.old.row) }
-        ensures same { OnErr result (undos.new.items ≡ undos.old.items) }
-    {
-        if undos.reserve(1).is_err() {
-            return Err(OutOfMemory);
-        }
-        let index = self.push(value)?;
-        undos.push_reserved(Undo::Pushed);
-        Ok(index)
     }
 
     // Takes the last item, and gives its length. Takes no memory.

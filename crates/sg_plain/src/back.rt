@@ -60,10 +60,14 @@ fn make_past_ready(
 {
     match past {
         Past::Made => Ok(()),
-        Past::Changed(undos) => make_object_ready(objects, name, undos),
+        Past::Changed(undos) => {
+            undos.settle()?;
+            make_object_ready(objects, name, &undos.notes)
+        }
         Past::Dropped { object, undos } => {
             make_place(objects, name)?;
-            object.make_ready(undos)
+            undos.settle()?;
+            object.make_ready(&undos.notes)
         }
     }
 }
@@ -145,9 +149,9 @@ fn take_back_at(objects: &mut BTreeMap<Name, Option<Object>>, name: Name, past: 
         Past::Made => {
             let _ = objects.remove(&name);
         }
-        Past::Changed(undos) => undo_object(objects, name, undos),
+        Past::Changed(undos) => undo_object(objects, name, undos.notes),
         Past::Dropped { mut object, undos } => {
-            object.undo_all(undos);
+            object.undo_all(undos.notes);
             put_back(objects, name, object);
         }
     }

@@ -11,6 +11,7 @@ ghost use Rattle.sg_plain.specs.Undone.{undo_in, shown_change};
 use crate::notes::Notes;
 use crate::object::Object;
 use crate::undo::{Change, Past};
+use crate::undos::Undos;
 use sg_base::{Name, OutOfMemory};
 use sg_model::{Op, Reason, Reply};
 use sg_ops::Ops;
@@ -47,7 +48,7 @@ impl Changes {
         ensures there { IsTrue (has_place self.new name) }
     {
         if !self.others.has(name) {
-            self.first = Some((name, Past::Changed(Vec::new(alloc))));
+            self.first = Some((name, Past::Changed(Undos::new(alloc))));
         }
     }
 
@@ -123,7 +124,7 @@ impl Changes {
         if self.others.has(*name) {
             return self.others.change(name, object, alloc, ops, op, into);
         }
-        let mut past = Past::Changed(Vec::new(alloc));
+        let mut past = Past::Changed(Undos::new(alloc));
         let outcome = past.change(object, alloc, ops, op, into);
         self.first = Some((*name, past));
         outcome

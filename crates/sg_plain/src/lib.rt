@@ -21,6 +21,7 @@ mod places;
 mod reach;
 mod table;
 mod undo;
+mod undos;
 
 pub use array::Array;
 pub use blob::Blob;
@@ -29,3 +30,4 @@ pub use object::Object;
 pub use objects::Objects;
 pub use table::Table;
 pub use undo::{Past, Undo};
+pub use undos::Undos;

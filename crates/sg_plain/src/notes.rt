@@ -10,6 +10,7 @@ ghost use Rattle.sg_plain.specs.Undone.{before, undo_noted, shown_change};
 
 use crate::object::Object;
 use crate::undo::{Change, Past};
+use crate::undos::Undos;
 use sg_base::{Name, OutOfMemory};
 use sg_model::{Op, Reason, Reply};
 use sg_ops::Ops;
@@ -44,7 +45,7 @@ impl Notes {
         ensures same { (other : List ℕ) (object : Option plain.Object) → undo_noted self.new other object ≡ undo_noted self.old other object }
         ensures there { OnOk result (IsTrue (is_some (get (slice_cmp nat_cmp) self.new.map name))) }
     {
-        match self.map.insert(name, Past::Changed(Vec::new(alloc))) {
+        match self.map.insert(name, Past::Changed(Undos::new(alloc))) {
             Ok(_) => Ok(()),
             Err(_) => Err(OutOfMemory),
         }

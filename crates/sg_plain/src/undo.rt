@@ -11,11 +11,11 @@ ghost use Rattle.sg_plain.specs.Undone.{before, shown_change};
 
 use crate::array::Array;
 use crate::object::Object;
+use crate::undos::Undos;
 use sg_base::OutOfMemory;
 use sg_model::{Key, Op, Reason, Reply};
 use sg_ops::Ops;
 use std::alloc::Global;
-use std::mem::replace;
 
 /// A change of an object that is there, with what stood there before: enough to take it back.
 #[derive(Drop)]
@@ -51,9 +51,9 @@ pub enum Past {
     /// It made the object. None was there before.
     Made,
     /// It changed the object that was there.
-    Changed(Vec<Undo>),
+    Changed(Undos),
     /// It changed the object that was there, and then dropped it.
-    Dropped { object: Object, undos: Vec<Undo> },
+    Dropped { object: Object, undos: Undos },
 }
 
 /// That a transaction made what stands under a name, or dropped it.
@@ -86,7 +86,10 @@ impl Past {
         ensures same { OnErr result ((was : Option plain.Object) → before (Some self.new) was ≡ before (Some self.old) was) }
     {
         match self {
-            Past::Changed(undos) => object.edit(alloc, ops, op, into, undos),
+            Past::Changed(undos) => {
+                undos.settle()?;
+                object.edit(alloc, ops, op, into, &mut undos.notes)
+            }
             Past::Made | Past::Dropped { .. } => object.apply(alloc, ops, op, into),
         }
     }
@@ -109,7 +112,7 @@ impl Past {
             return Ok(Err(reason));
         }
         let index = match self {
-            Past::Changed(undos) => array.push_noted(value, undos)?,
+            Past::Changed(undos) => undos.push(array, value)?,
             Past::Made | Past::Dropped { .. } => array.push(value)?,
         };
         Ok(Ok(Reply::Number(index)))
@@ -183,7 +186,7 @@ impl Past {
         match change {
             Change::Made => *self = Past::Made,
             Change::Dropped(object) => {
-                let undos = replace(undos, Vec::new(*undos.allocator()));
+                let undos = undos.take();
                 *self = Past::Dropped { object, undos };
             }
         }

@@ -9,4 +9,4 @@ pub returns-in-Ok-clause-same : goal.returns-in-Ok-clause-same
 returns-in-Ok-clause-same c =
     let none : past_of c.args.self.now c.args.name ≡ None = c.requires in
     same_past c.args.self.now (record { map = c.insert.new.self }) c.args.name (pasts.Changed c.new.result) None (sym none) c.in-Ok.ensures.updates.0
-    (λ object. ap (λ (us : List code_undo.Undo). undo_listed us object) c.new.ensures.items)
+    (λ object. ap (λ (us : List code_undo.Undo). undo_listed us object) c.new.ensures)
