@@ -117,12 +117,31 @@ impl Chains {
         }
     }
 
-    /// Keeps the first places alone.
-    pub fn truncate(&mut self, len: usize)
+    // Takes all places away.
+    fn clear(&mut self)
+        ensures { self.new ≡ [] }
+    {
+        self.last.fill(None);
+        self.links.clear();
+    }
+
+    // Takes the last places away, one after another, and keeps so many first ones.
+    fn pop_to(&mut self, len: usize)
         ensures { self.new ≡ take len self.old }
     {
         while self.len() > len {
             self.pop();
         }
+    }
+
+    /// Keeps the first places alone. Where none of very many is to be kept, all buckets are emptied at once.
+    pub fn truncate(&mut self, len: usize)
+        ensures { self.new ≡ take len self.old }
+    {
+        if len == 0 && self.len() > BUCKETS / 4 {
+            self.clear();
+            return;
+        }
+        self.pop_to(len);
     }
 }

@@ -1,5 +1,5 @@
 use Rattle.std.proofs.Common.{◌≡◌, take, length}
-use Rattle.sg_locks.proofs.chains.Chains.truncate.Given as goal
+use Rattle.sg_locks.proofs.chains.Chains.pop_to.Given as goal
 
 abbrev pub invariant-loop-self : goal.invariant-loop-self
 invariant-loop-self l = take l.len l.self ≡ take l.len l.initial.self
