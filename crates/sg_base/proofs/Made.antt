@@ -1,24 +1,17 @@
--- A text with zeros after it is a name.
-use Rattle.std.proofs.Common.{◌≡◌, ℕ, ◌-◌, ◌≤◌, true, List, ◌++◌, length, take, drop, replicate, sym, ap, ◌∙◌, arith, length-append}
-use Rattle.std.proofs.Math.Seq.{take-append_seam}
-use Rattle.std.proofs.Math.ListN.{length-replicate}
-use Rattle.std.proofs.lemmas.List.{drop-replicate}
-use Rattle.std.proofs.lemmas.Bool.Decides.{nat_tests}
-use Rattle.sg_base.specs.Spelling.{is_name}
-use Rattle.sg_base.specs.Padded.{IsPadded}
+-- A text with zeros behind it.
+use Rattle.std.proofs.Common.{◌≡◌, ℕ, suc, ◌+◌, ◌-◌, ◌<◌, ◌≤◌, List, [], ◌∷◌, ◌++◌, length, take, replicate, slice_set, sym, ap, ◌∙◌, arith}
+use Rattle.std.proofs.Math.Seq.{set-append_seam}
+use Rattle.std.proofs.lemmas.List.{length-take-le, append_assoc}
 
-short_name : (text : List ℕ) → is_name text ≡ true → length text ≤ 32
-short_name text h = grind (arith, nat_tests)
-
-pub made : (front text : List ℕ) → front ≡ text → is_name text ≡ true → IsPadded record { bytes = front ++ drop (length text) (replicate 32 0); len = length text }
-made front text same name =
-    let rest : drop (length text) (replicate 32 0) ≡ replicate (32 - length text) 0 = drop-replicate (length text) 32 0 in
-    let short : length text ≤ 32 = short_name text name in
-    let whole : front ++ drop (length text) (replicate 32 0) ≡ text ++ replicate (32 - length text) 0 = ap (λ (xs : List ℕ). xs ++ drop (length text) (replicate 32 0)) same ∙ ap (λ (xs : List ℕ). text ++ xs) rest in
-    let taken : take (length text) (front ++ drop (length text) (replicate 32 0)) ≡ text = ap (take (length text)) whole ∙ take-append_seam text (replicate (32 - length text) 0) in
-    record {
-      short = short;
-      full = ap length whole ∙ (length-append text (replicate (32 - length text) 0) ∙ omega (arith, length-replicate {A = ℕ} (32 - length text) 0));
-      padded = whole ∙ ap (λ (xs : List ℕ). xs ++ replicate (32 - length text) 0) (sym taken);
-      name = ap is_name taken ∙ name;
-    }
+-- one byte more of a text, before the zeros behind it
+pub byte_more : (text bytes : List ℕ) (i x : ℕ) → bytes ≡ take i text ++ replicate (32 - i) 0 → i < length text → length text ≤ 32 → take (i + 1) text ≡ take i text ++ x ∷ [] → slice_set bytes i x ≡ take (i + 1) text ++ replicate (32 - (i + 1)) 0
+byte_more text bytes i x is inside short more =
+    let rest : List ℕ = replicate (32 - (i + 1)) 0 in
+    let long : length (take i text) ≡ i = length-take-le i text (omega (arith, inside)) in
+    let next : 32 - i ≡ suc (32 - (i + 1)) = omega (arith, inside, short) in
+    ap (λ (bs : List ℕ). slice_set bs i x) is
+    ∙ (ap (λ (k : ℕ). slice_set (take i text ++ replicate k 0) i x) next
+    ∙ (ap (λ (k : ℕ). slice_set (take i text ++ 0 ∷ rest) k x) (sym long)
+    ∙ (set-append_seam (take i text) 0 rest x
+    ∙ (sym (append_assoc (take i text) (x ∷ []) rest)
+    ∙ ap (λ (front : List ℕ). front ++ rest) (sym more)))))

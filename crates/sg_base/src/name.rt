@@ -1,4 +1,4 @@
-ghost use Rattle.std.specs.Prelude.{◌≡◌, ◌<◌, ◌≤◌, ◌==◌, [], ◌∷◌, List, ℕ, length, IfNone, IfSome, MatchOption, IsTrue, true, false, IsSome, ◌↔◌, if◌then◌else◌, Some, None};
+ghost use Rattle.std.specs.Prelude.{◌≡◌, ◌<◌, ◌≤◌, ◌==◌, ◌-◌, [], ◌∷◌, ◌++◌, replicate, List, ℕ, length, IfNone, IfSome, MatchOption, IsTrue, true, false, IsSome, ◌↔◌, if◌then◌else◌, Some, None};
 ghost use Rattle.std.specs.List.{list_all};
 ghost use Rattle.std.specs.Ordering.{nat_cmp, as_partial_cmp};
 ghost use Rattle.std.specs.Cmp.Lexicographic.{slice_cmp, pointwise, nat_list_cmp_total, nat_list_eq_equiv, texts_po, texts_ties};
@@ -45,20 +45,19 @@ fn is_name_byte(b: u8) -> bool
     is_letter(b) || b.is_ascii_digit() || b == b'_'
 }
 
-fn has_name_bytes(word: &[u8]) -> bool
-    ensures { result ≡ list_all is_name_byte word.now }
+// The bytes of a text that may all stand in a name, and zeros behind them.
+fn name_bytes(text: &[u8]) -> Option<[u8; 32]>
+    requires { length text.now ≤ 32 }
+    ensures { result ≡ (if list_all is_name_byte text.now then Some (text.now ++ replicate (32 - length text.now) 0) else None) }
 {
-    word.iter().all(|b| is_name_byte(*b))
-}
-
-/// Whether the word is a name.
-fn is_name(word: &[u8]) -> bool
-    ensures { result ≡ is_name word.now }
-{
-    if word.is_empty() || word.len() > 32 {
-        return false;
+    let mut bytes = [0; 32];
+    for i in 0..text.len() {
+        if !is_name_byte(text[i]) {
+            return None;
+        }
+        bytes[i] = text[i];
     }
-    is_letter(word[0]) && has_name_bytes(word)
+    Some(bytes)
 }
 
 impl Name {
@@ -66,11 +65,10 @@ impl Name {
     pub fn new(text: &[u8]) -> Option<Name>
         ensures { result ≡ (if is_name text.now then Some text.now else None) }
     {
-        if !is_name(text) {
+        if text.is_empty() || text.len() > 32 || !is_letter(text[0]) {
             return None;
         }
-        let mut bytes = [0; 32];
-        bytes[..text.len()].copy_from_slice(text);
+        let bytes = name_bytes(text)?;
         Some(Name {
             bytes,
             len: text.len(),
