@@ -47,7 +47,7 @@ impl Changes {
         ensures there { IsTrue (has_place self.new name) }
     {
         if !self.others.has(name) {
-            self.first = Some((name, Past::Changed(Vec::new(alloc))));
+            drop(self.first.replace((name, Past::Changed(Vec::new(alloc)))));
         }
     }
 
@@ -94,7 +94,7 @@ impl Changes {
         match self.others.put(name, past) {
             Ok(()) => Ok(()),
             Err(first) => {
-                self.first = Some(first);
+                drop(self.first.replace(first));
                 Err(OutOfMemory)
             }
         }
@@ -125,7 +125,7 @@ impl Changes {
         }
         let mut past = Past::Changed(Vec::new(alloc));
         let outcome = past.change(object, alloc, ops, op, into);
-        self.first = Some((*name, past));
+        drop(self.first.replace((*name, past)));
         outcome
     }
 

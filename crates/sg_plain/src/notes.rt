@@ -45,8 +45,14 @@ impl Notes {
         ensures there { OnOk result (IsTrue (is_some (get (slice_cmp nat_cmp) self.new.map name))) }
     {
         match self.map.insert(name, Past::Changed(Vec::new(alloc))) {
-            Ok(_) => Ok(()),
-            Err(_) => Err(OutOfMemory),
+            Ok(old) => {
+                drop(old);
+                Ok(())
+            }
+            Err(failed) => {
+                drop(failed);
+                Err(OutOfMemory)
+            }
         }
     }
 

@@ -181,10 +181,10 @@ impl Past {
             return;
         };
         match change {
-            Change::Made => *self = Past::Made,
+            Change::Made => drop(replace(self, Past::Made)),
             Change::Dropped(object) => {
                 let undos = replace(undos, Vec::new(*undos.allocator()));
-                *self = Past::Dropped { object, undos };
+                drop(replace(self, Past::Dropped { object, undos }));
             }
         }
     }
