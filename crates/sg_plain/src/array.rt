@@ -441,7 +441,10 @@ impl Array {
         ensures memory { OnErr result (GrowsBy (verb_of op.now)) }
     {
         match *op {
-            Op::Push { name: _, value } => Ok(Reply::Number(self.push(value)?)),
+            Op::Push { name: _, value } => match self.push(value) {
+                Ok(index) => Ok(Reply::Number(index)),
+                Err(fault) => Err(fault),
+            },
             Op::Pop { name: _ } => Ok(Reply::Bytes(self.pop(into))),
             Op::Set {
                 name: _,

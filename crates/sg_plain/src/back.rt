@@ -23,8 +23,14 @@ fn make_place(objects: &mut BTreeMap<Name, Option<Object>>, name: Name) -> Resul
         return Ok(());
     }
     match objects.insert(name, None) {
-        Ok(_) => Ok(()),
-        Err(_) => Err(OutOfMemory),
+        Ok(old) => {
+            drop(old);
+            Ok(())
+        }
+        Err(failed) => {
+            drop(failed);
+            Err(OutOfMemory)
+        }
     }
 }
 
@@ -136,7 +142,7 @@ pub fn put_back(objects: &mut BTreeMap<Name, Option<Object>>, name: Name, object
     let Some(place) = objects.get_mut(&name) else {
         unreachable!();
     };
-    *place = Some(object);
+    drop(place.replace(object));
 }
 
 // Takes back what was done to what stands under a name. Takes no memory.
@@ -146,9 +152,7 @@ fn take_back_at(objects: &mut BTreeMap<Name, Option<Object>>, name: Name, past: 
     ensures others { (other : List ℕ) → bytes_eq name other ≡ false → at_name objects.new other ≡ at_name objects.old other }
 {
     match past {
-        Past::Made => {
-            let _ = objects.remove(&name);
-        }
+        Past::Made => drop(objects.remove(&name)),
         Past::Changed(undos) => undo_object(objects, name, undos.notes),
         Past::Dropped { mut object, undos } => {
             object.undo_all(undos.notes);
@@ -177,9 +181,7 @@ fn drop_places_at(objects: &mut BTreeMap<Name, Option<Object>>, name: Name)
     };
     match place {
         Some(object) => object.drop_places(),
-        None => {
-            let _ = objects.remove(&name);
-        }
+        None => drop(objects.remove(&name)),
     }
 }
 

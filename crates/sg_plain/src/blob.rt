@@ -307,15 +307,15 @@ impl Blob {
     {
         match *op {
             Op::Len { name: _ } => Ok(Reply::Number(self.len() as u64)),
-            Op::Write { name: _, at, bytes } => {
-                self.write(at, bytes)?;
-                Ok(Reply::Done)
-            }
+            Op::Write { name: _, at, bytes } => match self.write(at, bytes) {
+                Ok(()) => Ok(Reply::Done),
+                Err(fault) => Err(fault),
+            },
             Op::Read { name: _, at, count } => Ok(Reply::Bytes(self.read(at, count, into))),
-            Op::Size { name: _, length } => {
-                self.size(length)?;
-                Ok(Reply::Done)
-            }
+            Op::Size { name: _, length } => match self.size(length) {
+                Ok(()) => Ok(Reply::Done),
+                Err(fault) => Err(fault),
+            },
             Op::Paint {
                 name: _,
                 at,

@@ -48,7 +48,7 @@ impl Changes {
         ensures there { IsTrue (has_place self.new name) }
     {
         if !self.others.has(name) {
-            self.first = Some((name, Past::Changed(Undos::new(alloc))));
+            drop(self.first.replace((name, Past::Changed(Undos::new(alloc)))));
         }
     }
 
@@ -95,7 +95,7 @@ impl Changes {
         match self.others.put(name, past) {
             Ok(()) => Ok(()),
             Err(first) => {
-                self.first = Some(first);
+                drop(self.first.replace(first));
                 Err(OutOfMemory)
             }
         }
@@ -126,7 +126,7 @@ impl Changes {
         }
         let mut past = Past::Changed(Undos::new(alloc));
         let outcome = past.change(object, alloc, ops, op, into);
-        self.first = Some((*name, past));
+        drop(self.first.replace((*name, past)));
         outcome
     }
 

@@ -46,8 +46,14 @@ impl Notes {
         ensures there { OnOk result (IsTrue (is_some (get (slice_cmp nat_cmp) self.new.map name))) }
     {
         match self.map.insert(name, Past::Changed(Undos::new(alloc))) {
-            Ok(_) => Ok(()),
-            Err(_) => Err(OutOfMemory),
+            Ok(old) => {
+                drop(old);
+                Ok(())
+            }
+            Err(failed) => {
+                drop(failed);
+                Err(OutOfMemory)
+            }
         }
     }
 

@@ -171,15 +171,24 @@ impl Object {
         ensures err { OnErr result (shown self.new ≡ shown self.old) }
         ensures same { OnErr result (undos.new.items ≡ undos.old.items) }
     {
-        let undo = self.undo_of(alloc, op)?;
         if undos.reserve(1).is_err() {
             return Err(OutOfMemory);
         }
-        let reply = self.apply(alloc, ops, op, into)?;
-        if let Some(undo) = undo {
-            undos.push_reserved(undo);
+        let Ok(undo) = self.undo_of(alloc, op) else {
+            return Err(OutOfMemory);
+        };
+        match self.apply(alloc, ops, op, into) {
+            Ok(reply) => {
+                if let Some(undo) = undo {
+                    undos.push_reserved(undo);
+                }
+                Ok(reply)
+            }
+            Err(fault) => {
+                drop(undo);
+                Err(fault)
+            }
         }
-        Ok(reply)
     }
 
     /// Takes memory so that the notes can be undone without any more, and leaves the object as it is.

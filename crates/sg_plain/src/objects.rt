@@ -174,7 +174,7 @@ impl Objects {
         ensures { self.new ≡ finmap.remove self.old name }
     {
         stow(&mut self.hand, &mut self.map);
-        let _ = self.map.remove(&name);
+        drop(self.map.remove(&name));
     }
 
     // Takes the object with a name away, and gives it. Takes no memory.

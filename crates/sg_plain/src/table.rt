@@ -363,7 +363,7 @@ impl Table {
         let Some(place) = self.map.get_mut(&key) else {
             unreachable!();
         };
-        *place = None;
+        drop(place.take());
     }
 
     // Puts an entry at the place of its key. Takes no memory.
@@ -374,7 +374,7 @@ impl Table {
         let Some(place) = self.map.get_mut(&key) else {
             unreachable!();
         };
-        *place = Some(entry);
+        drop(place.replace(entry));
     }
 
     // Takes away the place of a key, if nothing stands at it. Takes no memory.

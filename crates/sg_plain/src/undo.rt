@@ -16,6 +16,7 @@ use sg_base::OutOfMemory;
 use sg_model::{Key, Op, Reason, Reply};
 use sg_ops::Ops;
 use std::alloc::Global;
+use std::mem::replace;
 
 /// A change of an object that is there, with what stood there before: enough to take it back.
 #[derive(Drop)]
@@ -184,10 +185,10 @@ impl Past {
             return;
         };
         match change {
-            Change::Made => *self = Past::Made,
+            Change::Made => drop(replace(self, Past::Made)),
             Change::Dropped(object) => {
                 let undos = undos.take();
-                *self = Past::Dropped { object, undos };
+                drop(replace(self, Past::Dropped { object, undos }));
             }
         }
     }

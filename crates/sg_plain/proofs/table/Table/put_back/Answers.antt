@@ -1,8 +1,9 @@
-use Rattle.std.proofs.Common.{rules, Some, None, sym, ap, ◌∙◌, ℕ, List}
+use Rattle.std.proofs.Common.{rules, Option, Some, None, sym, ap, ◌∙◌, ℕ, List}
 use Rattle.std.specs.Option.{is_some}
 use Rattle.std.specs.FinMap.{insert}
 use Rattle.sg_plain.specs.Places.{Places}
-use Rattle.sg_plain.specs.Tables.{shown_place}
+use Rattle.sg_plain.specs.declared.table.Entry.{Entry}
+use Rattle.sg_plain.specs.Tables.{shown_place, places_of}
 use Rattle.sg_plain.proofs.Found.{look, one_put}
 use Rattle.sg_plain.proofs.table.Table.put_back.Goals as goal
 
@@ -13,5 +14,6 @@ unreachable-requires c =
 
 pub returns : goal.returns
 returns c =
-    one_put shown_place c.self.inside.map.entries (c.get_mut.follows.lender (Some c.args.entry)).entries c.args.key (Some c.args.entry) ((c.get_mut.follows.holds (Some c.args.entry)).3 (search rules)).0
-    ∙ ap (λ (m : Places (List ℕ)). insert m c.args.key (Some c.args.entry.bytes.items)) c.self.view_is
+    one_put shown_place c.self.inside.map.entries (c.get_mut.follows.lender c.replace.new.self).entries c.args.key c.replace.new.self ((c.get_mut.follows.holds c.replace.new.self).3 (search rules)).0
+    ∙ (ap (λ (o : Option Entry). insert (places_of c.self.inside.map.entries) c.args.key (shown_place o)) c.replace.ensures.after
+    ∙ ap (λ (m : Places (List ℕ)). insert m c.args.key (Some c.args.entry.bytes.items)) c.self.view_is)

@@ -1,8 +1,9 @@
-use Rattle.std.proofs.Common.{rules, None, sym, ap, ◌∙◌, ℕ, List}
+use Rattle.std.proofs.Common.{rules, Option, None, sym, ap, ◌∙◌, ℕ, List}
 use Rattle.std.specs.Option.{is_some}
 use Rattle.std.specs.FinMap.{insert}
 use Rattle.sg_plain.specs.Places.{Places}
-use Rattle.sg_plain.specs.Tables.{shown_place}
+use Rattle.sg_plain.specs.declared.table.Entry.{Entry}
+use Rattle.sg_plain.specs.Tables.{shown_place, places_of}
 use Rattle.sg_plain.proofs.Found.{look, one_put}
 use Rattle.sg_plain.proofs.table.Table.take_out.Goals as goal
 
@@ -13,5 +14,6 @@ unreachable-requires c =
 
 pub returns : goal.returns
 returns c =
-    one_put shown_place c.self.inside.map.entries (c.get_mut.follows.lender None).entries c.args.key None ((c.get_mut.follows.holds None).3 (search rules)).0
-    ∙ ap (λ (m : Places (List ℕ)). insert m c.args.key None) c.self.view_is
+    one_put shown_place c.self.inside.map.entries (c.get_mut.follows.lender c.take.new.self).entries c.args.key c.take.new.self ((c.get_mut.follows.holds c.take.new.self).3 (search rules)).0
+    ∙ (ap (λ (o : Option Entry). insert (places_of c.self.inside.map.entries) c.args.key (shown_place o)) c.take.ensures.after
+    ∙ ap (λ (m : Places (List ℕ)). insert m c.args.key None) c.self.view_is)
