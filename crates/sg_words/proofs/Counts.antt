@@ -3,12 +3,13 @@ use Rattle.std.proofs.Common.{◌≡◌, ℕ, ◌==◌, ◌<◌, Bool, true, fal
 use Rattle.std.specs.Prelude.{◌≢◌, ◌&&◌, not, nat_lt}
 use Rattle.std.proofs.lemmas.Bool.Decides.{nat_tests}
 use Rattle.std.specs.List.{list_all, join_with_byte}
+use Rattle.std.specs.Option.{option_map, option_and_then}
 use Rattle.sg_model.specs.Verb.Verb.{Put}
 use Rattle.sg_words.specs.Parse.{words_of, is_word, is_plain, begins_hex, number_of, value_of}
 use Rattle.sg_words.specs.Text.{prints_plain}
 use Rattle.sg_words.specs.Spoken.{IsJoined}
 use Rattle.sg_words.specs.Requests.{Request, put_of, where_some, named}
-use Rattle.sg_words.specs.Verbs.{of_named, of_numbered, wants_one, wants_two, wants_three, has_number, has_two, verb_with, verb_on, before, number_if, one_value}
+use Rattle.sg_words.specs.Verbs.{of_named, of_numbered, wants_one, wants_two, wants_three, has_number, has_two, verb_with, verb_on, before, number_if, numbers_of, one_value}
 use Rattle.sg_words.specs.declared.verb.Numbered.{Numbered}
 use Rattle.sg_words.specs.declared.verb.Numbered.TheVariants as numbered
 use Rattle.sg_words.specs.declared.verb.Named.{Named}
@@ -89,36 +90,60 @@ named_none on.Read = refl
 named_none on.Size = refl
 named_none on.Keys = refl
 
-pub numbered_words : (verb : Numbered) (name : List ℕ) (words : List (List ℕ)) → of_numbered verb (name ∷ words) ≡ read_numbered verb name words
-numbered_words numbered.Push name [] = refl
-numbered_words numbered.Push name (v ∷ []) = refl
-numbered_words numbered.Push name (v ∷ w ∷ words) = refl
-numbered_words numbered.Del name [] = refl
-numbered_words numbered.Del name (v ∷ []) = refl
-numbered_words numbered.Del name (v ∷ w ∷ words) = refl
-numbered_words numbered.Find name [] = refl
-numbered_words numbered.Find name (v ∷ []) = refl
-numbered_words numbered.Find name (v ∷ w ∷ words) = refl
-numbered_words numbered.Set name [] = refl
-numbered_words numbered.Set name (a ∷ []) = refused [] (number_of a) _ (λ n. refl)
-numbered_words numbered.Set name (a ∷ v ∷ []) = through (v ∷ []) (number_of a) _
-numbered_words numbered.Set name (a ∷ v ∷ w ∷ words) = refused (v ∷ w ∷ words) (number_of a) _ (λ n. refl)
-numbered_words numbered.Write name [] = refl
-numbered_words numbered.Write name (a ∷ []) = refused [] (number_of a) _ (λ n. refl)
-numbered_words numbered.Write name (a ∷ v ∷ []) = through (v ∷ []) (number_of a) _
-numbered_words numbered.Write name (a ∷ v ∷ w ∷ words) = refused (v ∷ w ∷ words) (number_of a) _ (λ n. refl)
-numbered_words numbered.Apply name [] = refl
-numbered_words numbered.Apply name (a ∷ []) = refused [] (number_of a) _ (λ n. refl)
-numbered_words numbered.Apply name (a ∷ b ∷ []) = refused (b ∷ []) (number_of a) _ (λ n. refused [] (number_of b) _ (λ m. refl))
-numbered_words numbered.Apply name (a ∷ b ∷ v ∷ []) = followed (b ∷ v ∷ []) (number_of a) _ _ (λ n. through (v ∷ []) (number_of b) _)
-numbered_words numbered.Apply name (a ∷ b ∷ v ∷ w ∷ words) = refused (b ∷ v ∷ w ∷ words) (number_of a) _ (λ n. refused (v ∷ w ∷ words) (number_of b) _ (λ m. refl))
-numbered_words numbered.Paint name [] = refl
-numbered_words numbered.Paint name (a ∷ []) = refused [] (number_of a) _ (λ n. refl)
-numbered_words numbered.Paint name (a ∷ b ∷ []) = refused (b ∷ []) (number_of a) _ (λ n. refused [] (number_of b) _ (λ m. refl))
-numbered_words numbered.Paint name (a ∷ b ∷ c ∷ []) = refused (b ∷ c ∷ []) (number_of a) _ (λ n. refused (c ∷ []) (number_of b) _ (λ m. refused [] (number_of c) _ (λ k. refl)))
-numbered_words numbered.Paint name (a ∷ b ∷ c ∷ v ∷ []) = followed (b ∷ c ∷ v ∷ []) (number_of a) _ _ (λ n. followed (c ∷ v ∷ []) (number_of b) _ _ (λ m. through (v ∷ []) (number_of c) _))
-numbered_words numbered.Paint name (a ∷ b ∷ c ∷ v ∷ w ∷ words) =
+numbered_steps : (verb : Numbered) (name : List ℕ) (words : List (List ℕ)) → of_numbered verb (name ∷ words) ≡ read_numbered verb name words
+numbered_steps numbered.Push name [] = refl
+numbered_steps numbered.Push name (v ∷ []) = refl
+numbered_steps numbered.Push name (v ∷ w ∷ words) = refl
+numbered_steps numbered.Del name [] = refl
+numbered_steps numbered.Del name (v ∷ []) = refl
+numbered_steps numbered.Del name (v ∷ w ∷ words) = refl
+numbered_steps numbered.Find name [] = refl
+numbered_steps numbered.Find name (v ∷ []) = refl
+numbered_steps numbered.Find name (v ∷ w ∷ words) = refl
+numbered_steps numbered.Set name [] = refl
+numbered_steps numbered.Set name (a ∷ []) = refused [] (number_of a) _ (λ n. refl)
+numbered_steps numbered.Set name (a ∷ v ∷ []) = through (v ∷ []) (number_of a) _
+numbered_steps numbered.Set name (a ∷ v ∷ w ∷ words) = refused (v ∷ w ∷ words) (number_of a) _ (λ n. refl)
+numbered_steps numbered.Write name [] = refl
+numbered_steps numbered.Write name (a ∷ []) = refused [] (number_of a) _ (λ n. refl)
+numbered_steps numbered.Write name (a ∷ v ∷ []) = through (v ∷ []) (number_of a) _
+numbered_steps numbered.Write name (a ∷ v ∷ w ∷ words) = refused (v ∷ w ∷ words) (number_of a) _ (λ n. refl)
+numbered_steps numbered.Apply name [] = refl
+numbered_steps numbered.Apply name (a ∷ []) = refused [] (number_of a) _ (λ n. refl)
+numbered_steps numbered.Apply name (a ∷ b ∷ []) = refused (b ∷ []) (number_of a) _ (λ n. refused [] (number_of b) _ (λ m. refl))
+numbered_steps numbered.Apply name (a ∷ b ∷ v ∷ []) = followed (b ∷ v ∷ []) (number_of a) _ _ (λ n. through (v ∷ []) (number_of b) _)
+numbered_steps numbered.Apply name (a ∷ b ∷ v ∷ w ∷ words) = refused (b ∷ v ∷ w ∷ words) (number_of a) _ (λ n. refused (v ∷ w ∷ words) (number_of b) _ (λ m. refl))
+numbered_steps numbered.Paint name [] = refl
+numbered_steps numbered.Paint name (a ∷ []) = refused [] (number_of a) _ (λ n. refl)
+numbered_steps numbered.Paint name (a ∷ b ∷ []) = refused (b ∷ []) (number_of a) _ (λ n. refused [] (number_of b) _ (λ m. refl))
+numbered_steps numbered.Paint name (a ∷ b ∷ c ∷ []) = refused (b ∷ c ∷ []) (number_of a) _ (λ n. refused (c ∷ []) (number_of b) _ (λ m. refused [] (number_of c) _ (λ k. refl)))
+numbered_steps numbered.Paint name (a ∷ b ∷ c ∷ v ∷ []) = followed (b ∷ c ∷ v ∷ []) (number_of a) _ _ (λ n. followed (c ∷ v ∷ []) (number_of b) _ _ (λ m. through (v ∷ []) (number_of c) _))
+numbered_steps numbered.Paint name (a ∷ b ∷ c ∷ v ∷ w ∷ words) =
     refused (b ∷ c ∷ v ∷ w ∷ words) (number_of a) _ (λ n. refused (c ∷ v ∷ w ∷ words) (number_of b) _ (λ m. refused (v ∷ w ∷ words) (number_of c) _ (λ k. refl)))
+
+-- three numbers are read one after another, and what is done with them is done at the end
+third : (p q : ℕ) (o : Option (ℕ × List (List ℕ))) (f : ℕ → ℕ → ℕ → List (List ℕ) → Option Request)
+    → where_some o (λ r. f p q r.0 r.1) ≡ where_some (option_map {U = ℕ × ℕ × ℕ × List (List ℕ)} (λ r. (p, q, r.0, r.1)) o) (λ n. f n.0 n.1 n.2 n.3)
+third p q None f = refl
+third p q (Some r) f = refl
+
+second : (p : ℕ) (o : Option (ℕ × List (List ℕ))) (h : List (List ℕ) → Option (ℕ × List (List ℕ))) (f : ℕ → ℕ → ℕ → List (List ℕ) → Option Request)
+    → where_some o (λ q. where_some (h q.1) (λ r. f p q.0 r.0 r.1))
+      ≡ where_some (option_and_then {U = ℕ × ℕ × ℕ × List (List ℕ)} (λ q. option_map (λ r. (p, q.0, r.0, r.1)) (h q.1)) o) (λ n. f n.0 n.1 n.2 n.3)
+second p None h f = refl
+second p (Some q) h f = third p q.0 (h q.1) f
+
+first : (o : Option (ℕ × List (List ℕ))) (g h : List (List ℕ) → Option (ℕ × List (List ℕ))) (f : ℕ → ℕ → ℕ → List (List ℕ) → Option Request)
+    → where_some o (λ p. where_some (g p.1) (λ q. where_some (h q.1) (λ r. f p.0 q.0 r.0 r.1)))
+      ≡ where_some (option_and_then {U = ℕ × ℕ × ℕ × List (List ℕ)} (λ p. option_and_then (λ q. option_map (λ r. (p.0, q.0, r.0, r.1)) (h q.1)) (g p.1)) o) (λ n. f n.0 n.1 n.2 n.3)
+first None g h f = refl
+first (Some p) g h f = second p.0 (g p.1) h f
+
+pub numbered_words : (verb : Numbered) (name : List ℕ) (words : List (List ℕ))
+    → of_numbered verb (name ∷ words) ≡ where_some (numbers_of verb words) (λ n. where_some (one_value n.3) (λ value. named name (verb_with verb n.0 n.1 n.2 value)))
+numbered_words verb name words =
+    numbered_steps verb name words ∙ first (number_if (wants_one verb) words) (number_if (wants_two verb)) (number_if (wants_three verb))
+    (λ p q r rest. where_some (one_value rest) (λ value. named name (verb_with verb p q r value)))
 
 pub numbered_none : (verb : Numbered) → of_numbered verb [] ≡ None
 numbered_none numbered.Push = refl
