@@ -3,7 +3,7 @@ use Rattle.std.proofs.Common.{◌≡◌, ℕ, Bool, true, false, List, Option, S
 use Rattle.std.specs.Prelude.{◌||◌, codes, if◌then◌else◌}
 use Rattle.std.specs.Str.{bytes_eq}
 use Rattle.std.specs.Cmp.Lexicographic.{bytes_decides}
-use Rattle.sg_words.specs.Requests.{Request, push_of, set_of, apply_of, put_of, del_of, find_of, write_of, paint_of, plain_request, valued_request, takes_value, either}
+use Rattle.sg_words.specs.Requests.{Request, push_of, set_of, apply_of, put_of, del_of, find_of, write_of, paint_of, plain_request, object_request, span_request, valued_request, takes_value, either}
 
 second_none : (first : Option Request) → either first None ≡ first
 second_none None = refl
@@ -20,35 +20,35 @@ module _ (args : List (List ℕ)) where
   is verb word e none = ap (λ (w : List ℕ). plain_request w args) ((bytes_decides word verb).0 e) ∙ none
 
   push_alone : plain_request (codes "push") args ≡ None
-  unfolding plain_request
+  unfolding plain_request object_request span_request
   push_alone = refl
 
   set_alone : plain_request (codes "set") args ≡ None
-  unfolding plain_request
+  unfolding plain_request object_request span_request
   set_alone = refl
 
   apply_alone : plain_request (codes "apply") args ≡ None
-  unfolding plain_request
+  unfolding plain_request object_request span_request
   apply_alone = refl
 
   put_alone : plain_request (codes "put") args ≡ None
-  unfolding plain_request
+  unfolding plain_request object_request span_request
   put_alone = refl
 
   del_alone : plain_request (codes "del") args ≡ None
-  unfolding plain_request
+  unfolding plain_request object_request span_request
   del_alone = refl
 
   find_alone : plain_request (codes "find") args ≡ None
-  unfolding plain_request
+  unfolding plain_request object_request span_request
   find_alone = refl
 
   write_alone : plain_request (codes "write") args ≡ None
-  unfolding plain_request
+  unfolding plain_request object_request span_request
   write_alone = refl
 
   paint_alone : plain_request (codes "paint") args ≡ None
-  unfolding plain_request
+  unfolding plain_request object_request span_request
   paint_alone = refl
 
   plain_none : (word : List ℕ) → takes_value word ≡ true → plain_request word args ≡ None

@@ -1,5 +1,5 @@
 -- Bytes that wait in a buffer before a sink takes them.
-use Rattle.std.proofs.Common.{◌≡◌, ℕ, ◌+◌, ◌<◌, ◌≤◌, Bool, false, cond, drop, get_or, codes, Result, Ok, Err, IfOk, OnErr, List, [], ◌∷◌, ◌++◌, length, take, Option, Some, None, ◌/◌, ◌%◌, slice_index, refl, sym, ap, ◌∙◌, subst, append_assoc, append-nil, arith, length-append}
+use Rattle.std.proofs.Common.{◌≡◌, ℕ, ◌+◌, ◌<◌, ◌≤◌, Bool, false, cond, drop, get_or, codes, Result, Ok, Err, IfOk, OnOk, OnErr, List, [], ◌∷◌, ◌++◌, length, take, Option, Some, None, ◌/◌, ◌%◌, slice_index, refl, sym, ap, ◌∙◌, subst, append_assoc, append-nil, arith, length-append}
 use Rattle.std.proofs.lemmas.List.{take-append-le, take_more, take-append-drop}
 use Rattle.sg_base.specs.Ends.{Takes, TakesFront}
 use Rattle.sg_base.specs.declared.ends.Failed.{Failed}
@@ -86,6 +86,12 @@ last_cut (Err e) a x y z b waiting c h k = cut_then a x y z b waiting c h k
 pub end_cut : (r : Result (Unit {0}) Failed) (a : Option (List ℕ)) (bytes more : List ℕ) (b : Option (List ℕ)) (waiting : List ℕ) (c : Option (List ℕ)) → Passes a bytes b waiting → OnErr r (TakesFront b (waiting ++ more) c) → OnErr r (TakesFront a (bytes ++ more) c)
 end_cut (Ok u) a bytes more b waiting c h k = tt
 end_cut (Err e) a bytes more b waiting c h k = passes_cut_on a bytes b waiting more c h k
+
+pub end_took : (r : Result (Unit {0}) Failed) (a : Option (List ℕ)) (bytes more : List ℕ) (b : Option (List ℕ)) (waiting : List ℕ) (c : Option (List ℕ)) → Passes a bytes b waiting → OnOk r (Takes b (waiting ++ more) c) → OnOk r (Takes a (bytes ++ more) c)
+end_took (Ok u) a bytes more b waiting c h k =
+    let whole : h.front ++ (waiting ++ more) ≡ bytes ++ more = sym (append_assoc h.front waiting more) ∙ ap (λ (t : List ℕ). t ++ more) h.whole in
+    subst (λ (t : List ℕ). Takes a t c) whole (Takes-more a h.front b (waiting ++ more) c h.taken k)
+end_took (Err e) a bytes more b waiting c h k = tt
 
 pub written_cut : (r : Result (Unit {0}) Failed) (a : Option (List ℕ)) (bytes : List ℕ) (b : Option (List ℕ)) (waiting : List ℕ) (c : Option (List ℕ)) → Passes a bytes b waiting → OnErr r (TakesFront b waiting c) → OnErr r (TakesFront a bytes c)
 written_cut (Ok u) a bytes b waiting c h k = tt

@@ -131,21 +131,30 @@ valued_request word args =
     else None)))))))
 
 -- what another verb asks for, if it is one
+
+unfoldable pub span_request : List ℕ → List (List ℕ) → Option Request
+span_request word args =
+    if bytes_eq word (codes "read") then read_of args
+    else (if bytes_eq word (codes "size") then size_of args
+    else (if bytes_eq word (codes "keys") then keys_of args
+    else (if bytes_eq word (codes "list") then alone (Do Names) args
+    else None)))
+
+unfoldable pub object_request : List ℕ → List (List ℕ) → Option Request
+object_request word args =
+    if bytes_eq word (codes "drop") then discard_of args
+    else (if bytes_eq word (codes "pop") then pop_of args
+    else (if bytes_eq word (codes "get") then get_of args
+    else (if bytes_eq word (codes "len") then len_of args
+    else span_request word args)))
+
 unfoldable pub plain_request : List ℕ → List (List ℕ) → Option Request
 plain_request word args =
     if bytes_eq word (codes "begin") then alone Begin args
     else (if bytes_eq word (codes "commit") then alone Commit args
     else (if bytes_eq word (codes "abort") then alone Abort args
     else (if bytes_eq word (codes "make") then make_of args
-    else (if bytes_eq word (codes "drop") then discard_of args
-    else (if bytes_eq word (codes "pop") then pop_of args
-    else (if bytes_eq word (codes "get") then get_of args
-    else (if bytes_eq word (codes "len") then len_of args
-    else (if bytes_eq word (codes "read") then read_of args
-    else (if bytes_eq word (codes "size") then size_of args
-    else (if bytes_eq word (codes "keys") then keys_of args
-    else (if bytes_eq word (codes "list") then alone (Do Names) args
-    else None)))))))))))
+    else object_request word args)))
 
 -- the verbs with a value among their words
 abbrev pub takes_value : List ℕ → Bool

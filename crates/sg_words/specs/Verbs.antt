@@ -1,5 +1,6 @@
 -- The code's verbs: what each asks for with the words behind it.
 use Rattle.std.specs.Prelude.{ℕ, Bool, true, false, List, [], ◌∷◌, Option, Some, None}
+use Rattle.std.specs.Option.{option_map, option_and_then}
 use Rattle.sg_model.specs.Verb.{Verb}
 use Rattle.sg_model.specs.Verb.Op.{Names}
 use Rattle.sg_model.specs.Verb.Verb.{MakeArray, MakeTable, MakeBlob, Discard, Push, Pop, Set, Get, Len, Apply, Del, Find, Keys, Write, Read, Size, Paint}
@@ -147,6 +148,11 @@ abbrev pub number_if : Bool → List (List ℕ) → Option (ℕ × List (List �
 number_if false words = Some (0, words)
 number_if true [] = None
 number_if true (word ∷ words) = before words (number_of word)
+
+-- the numbers before the value of a verb, and the words behind them
+abbrev pub numbers_of : Numbered → List (List ℕ) → Option (ℕ × ℕ × ℕ × List (List ℕ))
+numbers_of verb words =
+    option_and_then (λ p. option_and_then (λ q. option_map (λ r. (p.0, q.0, r.0, r.1)) (number_if (wants_three verb) q.1)) (number_if (wants_two verb) p.1)) (number_if (wants_one verb) words)
 
 -- what the only word stands for as a value
 abbrev pub one_value : List (List ℕ) → Option (List ℕ)

@@ -1,11 +1,12 @@
 ghost use Rattle.std.specs.Prelude.{◌≡◌, ◌≤◌, None, Some, true, length, IfSome, MatchOption};
 ghost use Rattle.sg_words.specs.Parse.{words_of};
 ghost use Rattle.sg_words.specs.Spoken.{IsJoined};
-ghost use Rattle.sg_words.specs.Verbs.{number_if, one_value};
+ghost use Rattle.sg_words.specs.Verbs.{number_if, numbers_of, one_value};
 
 use crate::number::parse_number;
 use crate::split::{is_next, next_word, one_word};
 use crate::value::{self, prints_plain};
+use crate::verb::Numbered;
 
 /// The number that the first word is, and what follows it, where a number is wanted; else 0 and the
 /// whole text. And whether the words stand joined if those that follow do.
@@ -18,9 +19,31 @@ pub fn number_if(wanted: bool, text: &[u8]) -> Option<(u64, &[u8], bool)>
     if !wanted {
         return Some((0, text, true));
     }
-    let (word, rest) = next_word(text)?;
-    let number = parse_number(word)?;
-    Some((number, rest, is_next(text, word, rest)))
+    if let Some((word, rest)) = next_word(text)
+        && let Some(number) = parse_number(word)
+    {
+        return Some((number, rest, is_next(text, word, rest)));
+    }
+    None
+}
+
+/// The numbers before the value of a verb, 0 for each that it has not, and what follows them. And whether
+/// the words stand joined if those that follow do.
+#[inline(always)]
+pub fn numbers(verb: Numbered, text: &[u8]) -> Option<(u64, u64, u64, &[u8], bool)>
+    ensures numbers { MatchOption result (numbers_of verb (words_of text.now) ≡ None)
+        (λ p. numbers_of verb (words_of text.now) ≡ Some (p.0, p.1, p.2, words_of p.3.now)) }
+    ensures within { IfSome result (λ p. length p.3.now ≤ length text.now) }
+    ensures joined { IfSome result (λ p. p.4 ≡ true → IsJoined p.3.now → IsJoined text.now) }
+{
+    if let Some((first, rest, first_joined)) = number_if(verb.wants_one(), text)
+        && let Some((second, rest, second_joined)) = number_if(verb.wants_two(), rest)
+        && let Some((third, rest, third_joined)) = number_if(verb.wants_three(), rest)
+    {
+        let are_joined = first_joined & second_joined & third_joined;
+        return Some((first, second, third, rest, are_joined));
+    }
+    None
 }
 
 /// The bytes that the only word of a text stands for as a value, and whether the word is known to be the
@@ -36,7 +59,10 @@ pub fn one_value<'a>(text: &'a [u8], scratch: &'a mut [u8]) -> Option<(&'a [u8],
     if prints_plain(text) {
         return Some((text, true));
     }
-    let word = one_word(text)?;
-    let value = value::value(word, scratch)?;
-    Some((value, false))
+    if let Some(word) = one_word(text)
+        && let Some(value) = value::value(word, scratch)
+    {
+        return Some((value, false));
+    }
+    None
 }

@@ -8,7 +8,7 @@ ghost use Rattle.sg_words.specs.Requests.{put_of, make_of, plain_request, valued
 ghost use Rattle.sg_words.specs.Requests.Request.{Do};
 ghost use Rattle.sg_words.specs.Verbs.{of_alone, of_named, of_numbered, verb_on, verb_with};
 
-use crate::arguments::{number_if, one_value};
+use crate::arguments::{number_if, numbers, one_value};
 use crate::kept::Words;
 use crate::split::{is_next, next_word, without_return};
 use crate::transaction::transaction;
@@ -94,23 +94,27 @@ fn request_on(verb: Named, name: Name, first: u64, second: u64) -> Request<'stat
 fn on_name(verb: Named, rest: &[u8]) -> Option<Request<'_>>
     ensures { shown_option result ≡ of_named verb (words_of rest.now) }
 {
-    let (name, rest) = next_word(rest)?;
-    let (first, rest, _) = number_if(verb.has_number(), rest)?;
-    let (second, rest, _) = number_if(verb.has_two(), rest)?;
-    if next_word(rest).is_some() {
-        return None;
+    if let Some((name, rest)) = next_word(rest)
+        && let Some((first, rest, _)) = number_if(verb.has_number(), rest)
+        && let Some((second, rest, _)) = number_if(verb.has_two(), rest)
+        && next_word(rest).is_none()
+        && let Some(name) = Name::new(name)
+    {
+        return Some(request_on(verb, name, first, second));
     }
-    let name = Name::new(name)?;
-    Some(request_on(verb, name, first, second))
+    None
 }
 
 // What is made.
 fn make(rest: &[u8]) -> Option<Request<'_>>
     ensures { shown_option result ≡ make_of (words_of rest.now) }
 {
-    let (kind, rest) = next_word(rest)?;
-    let verb = making_verb(kind)?;
-    on_name(verb, rest)
+    if let Some((kind, rest)) = next_word(rest)
+        && let Some(verb) = making_verb(kind)
+    {
+        return on_name(verb, rest);
+    }
+    None
 }
 
 // What a verb without a value asks for.
@@ -118,10 +122,11 @@ fn make(rest: &[u8]) -> Option<Request<'_>>
 fn plain_request<'a>(word: &[u8], rest: &'a [u8]) -> Option<Request<'a>>
     ensures { shown_option result ≡ plain_request word.now (words_of rest.now) }
 {
-    match plain_verb(word)? {
-        Plain::Alone(verb) => alone(verb, rest),
-        Plain::Make => make(rest),
-        Plain::On(verb) => on_name(verb, rest),
+    match plain_verb(word) {
+        Some(Plain::Alone(verb)) => alone(verb, rest),
+        Some(Plain::Make) => make(rest),
+        Some(Plain::On(verb)) => on_name(verb, rest),
+        None => None,
     }
 }
 
@@ -173,15 +178,15 @@ fn with_value<'a>(
     ensures request { MatchOption result (of_numbered verb (words_of rest.now) ≡ None) (λ j. of_numbered verb (words_of rest.now) ≡ Some (shown request.new)) }
     ensures joined { IfSome result (λ j. j ≡ true → IsJoined rest.now) }
 {
-    let (word, numbers) = next_word(rest)?;
-    let (first, behind_first, first_joined) = number_if(verb.wants_one(), numbers)?;
-    let (second, behind_second, second_joined) = number_if(verb.wants_two(), behind_first)?;
-    let (third, last, third_joined) = number_if(verb.wants_three(), behind_second)?;
-    let (value, is_last) = one_value(last, scratch)?;
-    let name = Name::new(word)?;
-    let numbers_joined = first_joined & second_joined & third_joined;
-    *request = Request::Do(op_with(verb, name, (first, second, third), value));
-    Some(is_next(rest, word, numbers) & numbers_joined & is_last)
+    if let Some((word, behind)) = next_word(rest)
+        && let Some((first, second, third, last, are_joined)) = numbers(verb, behind)
+        && let Some((value, is_last)) = one_value(last, scratch)
+        && let Some(name) = Name::new(word)
+    {
+        *request = Request::Do(op_with(verb, name, (first, second, third), value));
+        return Some(is_next(rest, word, behind) & are_joined & is_last);
+    }
+    None
 }
 
 // Reads what is put.
@@ -192,14 +197,21 @@ fn put<'a>(rest: &'a [u8], scratch: &'a mut [u8], request: &mut Request<'a>) -> 
     ensures request { MatchOption result (put_of (words_of rest.now) ≡ None) (λ j. put_of (words_of rest.now) ≡ Some (shown request.new)) }
     ensures joined { IfSome result (λ j. j ≡ true → IsJoined rest.now) }
 {
-    let (word, words) = next_word(rest)?;
-    let (key_word, last) = next_word(words)?;
+    let Some((word, words)) = next_word(rest) else {
+        return None;
+    };
+    let Some((key_word, last)) = next_word(words) else {
+        return None;
+    };
     let (first, second) = scratch.split_at_mut(key_word.len());
-    let key = value::value(key_word, first)?;
-    let (value, is_last) = one_value(last, second)?;
-    let name = Name::new(word)?;
-    *request = Request::Do(Op::Put { name, key, value });
-    Some(is_next(rest, word, words) & is_next(words, key_word, last) & is_last)
+    if let Some(key) = value::value(key_word, first)
+        && let Some((value, is_last)) = one_value(last, second)
+        && let Some(name) = Name::new(word)
+    {
+        *request = Request::Do(Op::Put { name, key, value });
+        return Some(is_next(rest, word, words) & is_next(words, key_word, last) & is_last);
+    }
+    None
 }
 
 // Reads what a verb without a value asks for.
@@ -260,22 +272,20 @@ pub fn parse_request<'a>(
     let Some((name, words)) = next_word(without_return(text)) else {
         return Asked::Blank;
     };
-    let Some((word, rest)) = next_word(words) else {
-        return Asked::Wrong;
-    };
-    let Some(are_joined) = read_request(word, rest, scratch, request) else {
-        return Asked::Wrong;
-    };
-    let Some(name) = transaction(name) else {
-        return Asked::Wrong;
-    };
-    Asked::Of {
-        name,
-        words: Words {
-            text: words,
-            are_joined: is_next(words, word, rest) & are_joined,
-        },
+    if let Some((word, rest)) = next_word(words)
+        && let Some(are_joined) = read_request(word, rest, scratch, request)
+        && let Some(name) = transaction(name)
+    {
+        let are_joined = is_next(words, word, rest) & are_joined;
+        return Asked::Of {
+            name,
+            words: Words {
+                text: words,
+                are_joined,
+            },
+        };
     }
+    Asked::Wrong
 }
 
 /// What the words kept of a line ask for, with every verb: a verb and its arguments. `scratch` takes
@@ -284,7 +294,9 @@ pub fn parse_words<'a>(words: &'a [u8], scratch: &'a mut [u8]) -> Option<Request
     requires { length words.now ≤ length scratch.old }
     ensures { shown_option result ≡ request_of (words_of words.now) }
 {
-    let (word, rest) = next_word(words)?;
+    let Some((word, rest)) = next_word(words) else {
+        return None;
+    };
     let mut request = Request::List;
     match read_request(word, rest, scratch, &mut request) {
         Some(_) => Some(request),

@@ -1,6 +1,6 @@
 ghost use Rattle.std.specs.Prelude.{◌≡◌, List, ℕ, None, ◌∷◌, MatchOption};
 ghost use Rattle.std.specs.Option.{is_some};
-ghost use Rattle.sg_words.specs.Requests.{plain_request, valued_request, takes_value, make_of};
+ghost use Rattle.sg_words.specs.Requests.{plain_request, object_request, span_request, valued_request, takes_value, make_of};
 ghost use Rattle.sg_words.specs.Verbs.{of_named, of_plain, of_valued, wants_one, wants_two, wants_three, has_number, has_two};
 
 /// A verb with a name behind it, then up to three numbers, and at the end a value.
@@ -136,6 +136,42 @@ pub fn valued_verb(word: &[u8]) -> Option<Valued>
     }
 }
 
+// The same of the verbs that no other verb's words hold more of.
+#[tactic(auto, unfolding(crate::specs::Requests::span_request))]
+fn span_verb(word: &[u8]) -> Option<Plain>
+    ensures { MatchOption result ((args : List (List ℕ)) → span_request word.now args ≡ None) (λ verb. (args : List (List ℕ)) → span_request word.now args ≡ of_plain verb args) }
+{
+    if word == b"read".as_slice() {
+        Some(Plain::On(Named::Read))
+    } else if word == b"size".as_slice() {
+        Some(Plain::On(Named::Size))
+    } else if word == b"keys".as_slice() {
+        Some(Plain::On(Named::Keys))
+    } else if word == b"list".as_slice() {
+        Some(Plain::Alone(Alone::List))
+    } else {
+        None
+    }
+}
+
+// The verb that gives up, shortens or looks at an object.
+#[tactic(auto, unfolding(crate::specs::Requests::object_request))]
+fn object_verb(word: &[u8]) -> Option<Plain>
+    ensures { MatchOption result ((args : List (List ℕ)) → object_request word.now args ≡ None) (λ verb. (args : List (List ℕ)) → object_request word.now args ≡ of_plain verb args) }
+{
+    if word == b"drop".as_slice() {
+        Some(Plain::On(Named::Discard))
+    } else if word == b"pop".as_slice() {
+        Some(Plain::On(Named::Pop))
+    } else if word == b"get".as_slice() {
+        Some(Plain::On(Named::Get))
+    } else if word == b"len".as_slice() {
+        Some(Plain::On(Named::Len))
+    } else {
+        span_verb(word)
+    }
+}
+
 /// The verb without a value among its words that a word is.
 #[tactic(auto, unfolding(crate::specs::Requests::plain_request))]
 pub fn plain_verb(word: &[u8]) -> Option<Plain>
@@ -149,24 +185,8 @@ pub fn plain_verb(word: &[u8]) -> Option<Plain>
         Some(Plain::Alone(Alone::Abort))
     } else if word == b"make".as_slice() {
         Some(Plain::Make)
-    } else if word == b"drop".as_slice() {
-        Some(Plain::On(Named::Discard))
-    } else if word == b"pop".as_slice() {
-        Some(Plain::On(Named::Pop))
-    } else if word == b"get".as_slice() {
-        Some(Plain::On(Named::Get))
-    } else if word == b"len".as_slice() {
-        Some(Plain::On(Named::Len))
-    } else if word == b"read".as_slice() {
-        Some(Plain::On(Named::Read))
-    } else if word == b"size".as_slice() {
-        Some(Plain::On(Named::Size))
-    } else if word == b"keys".as_slice() {
-        Some(Plain::On(Named::Keys))
-    } else if word == b"list".as_slice() {
-        Some(Plain::Alone(Alone::List))
     } else {
-        None
+        object_verb(word)
     }
 }
 

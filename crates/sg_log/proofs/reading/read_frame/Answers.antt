@@ -7,6 +7,9 @@ use Rattle.sg_log.proofs.Windows.{read_there}
 use Rattle.sg_log.proofs.reading.read_frame.Goals as goal
 use Rattle.sg_log.proofs.reading.read_frame.Goals.{then-size-eq0-via-then-size-eq0, then-size-eq0-via-else-size-eq0+then-size-gt65536, then-size-eq0-via-else-size-eq0+else-size-gt65536+then-base-end}
 
+pub returns-in_err-read_at-clause-reads : goal.returns-in_err-read_at-clause-reads
+returns-in_err-read_at-clause-reads g c = reads_one c.read_at.ensures.counts c.read_at.ensures.does c.read_at.ensures.unchanged
+
 pub returns-then-head-ne1-clause-reads : goal.returns-then-head-ne1-clause-reads
 returns-then-head-ne1-clause-reads g c = reads_one c.read_at.ensures.counts c.read_at.ensures.does c.read_at.ensures.unchanged
 

@@ -4,7 +4,7 @@ use Rattle.std.proofs.lemmas.List.Concat.{flat_map-append}
 use Rattle.std.proofs.Math.Seq.{take_all}
 use Rattle.sg_words.specs.Answers.{behind_space}
 use Rattle.sg_words.specs.Waiting.{Passes}
-use Rattle.sg_words.proofs.Waits.{front_longer, passes_piece, cut_piece, piece_more, piece_rest, end_cut}
+use Rattle.sg_words.proofs.Waits.{front_longer, passes_piece, cut_piece, piece_more, piece_rest, end_cut, end_took}
 use Rattle.sg_words.proofs.several.write_words.Goals as goal
 
 pub words-preserved : goal.words-preserved
@@ -35,3 +35,11 @@ returns-clause-cut g c =
     let all : take c.words.word-index c.args.words.now ≡ c.args.words.now = take_all c.words.word-index c.args.words.now c.words-test.false in
     let P : List g.row.W.Denot → Type 0 = λ ws. Passes (g.K.Sink.taken c.args.out.now) (count ++ flat_map said ws) (g.K.Sink.taken c.words.out) (take c.words.end c.words.waiting) in
     end_cut c.finish.result (g.K.Sink.taken c.args.out.now) (count ++ flat_map said c.args.words.now) (codes "\n") (g.K.Sink.taken c.words.out) (take c.words.end c.words.waiting) (g.K.Sink.taken c.finish.new.out) (subst P all c.words.invariant.so_far) c.finish.ensures.cut
+
+pub returns-clause-took : goal.returns-clause-took
+returns-clause-took g c =
+    let said : g.row.W.Denot → List ℕ = λ w. behind_space (g.W.Word.bytes_of w) in
+    let count : List ℕ = codes "ok " ++ decimal (length c.args.words.now) in
+    let all : take c.words.word-index c.args.words.now ≡ c.args.words.now = take_all c.words.word-index c.args.words.now c.words-test.false in
+    let P : List g.row.W.Denot → Type 0 = λ ws. Passes (g.K.Sink.taken c.args.out.now) (count ++ flat_map said ws) (g.K.Sink.taken c.words.out) (take c.words.end c.words.waiting) in
+    end_took c.finish.result (g.K.Sink.taken c.args.out.now) (count ++ flat_map said c.args.words.now) (codes "\n") (g.K.Sink.taken c.words.out) (take c.words.end c.words.waiting) (g.K.Sink.taken c.finish.new.out) (subst P all c.words.invariant.so_far) c.finish.ensures.took

@@ -1,4 +1,4 @@
-use Rattle.std.proofs.Common.{◌≡◌}
+use Rattle.std.proofs.Common.{◌≡◌, ◌++◌, length, drop, ap, arith, length-take, length-append, length-drop}
 use Rattle.sg_log.specs.declared.fault.LogFault.TheVariants.{Damaged}
 use Rattle.sg_log.specs.Frames.{numbered_in}
 use Rattle.sg_log.specs.Held.{Tail}
@@ -37,3 +37,12 @@ returns-in-Err-clause-undamaged g c ds gate at told has is =
 
 pub returns-in-Err-clause-damaged : goal.returns-in-Err-clause-damaged
 returns-in-Err-clause-damaged g c at told damage = damage_found g.D.Disk.told c.args.area c.args.base (g.D.Disk.view c.args.disk.now) (g.D.Disk.view c.find_gate.new.disk) Tail c.in-Err.fault at c.in-Err.ensures.faults damage told
+
+pub invariant_of-result : goal.invariant_of-result
+invariant_of-result g c =
+    let frame = c.in_ok-frame.frame in
+    let text = c.find_gate.new.space in
+    (
+      record { front = omega arith; short = omega arith; gate_within = c.in-Ok.ensures.within; within = λ some. absurd (omega arith) },
+      omega (arith, length-take frame.len (text ++ drop (length text) frame.items), length-append text (drop (length text) frame.items), length-drop (length text) frame.items, c.find_gate.auto.space, ap length c.deref_mut.ensures.value, frame.ok.0, c.in_ok-frame.ensures.room),
+    )

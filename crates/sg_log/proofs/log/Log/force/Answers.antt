@@ -1,4 +1,4 @@
-use Rattle.std.proofs.Common.{◌≡◌, ℕ, ◌≤◌, ◌<◌, ◌+◌, ◌++◌, length, take, drop, subst, sym, ap, ◌∙◌, arith}
+use Rattle.std.proofs.Common.{◌≡◌, ℕ, List, Result, Ok, Err, OnErr, ◌≤◌, ◌<◌, ◌+◌, ◌++◌, length, take, drop, subst, sym, ap, ◌∙◌, arith}
 use Rattle.sg_disk.specs.Disk.{Image, Leaves, LeavesOnly}
 use Rattle.std.proofs.lemmas.List.{with_items_is}
 use Rattle.sg_disk.proofs.Moments.{weaker}
@@ -72,3 +72,15 @@ returns-clause-after g c ds ps told h0 =
 pub returns-clause-elsewhere : goal.returns-clause-elsewhere
 returns-clause-elsewhere g c told =
     subst (λ (t : Tail). SameElsewhere t.area (g.D.Disk.view c.args.disk.now).now (g.D.Disk.view c.write_frame.new.disk).now) c.self.view_is (c.in_ok-write_frame.ensures.elsewhere told)
+
+on_err : {T E P : Type 0} (r : Result T E) → P → OnErr r P
+on_err (Ok x) p = tt
+on_err (Err e) p = p
+
+pub returns-in_err-write_frame-clause-same : goal.returns-in_err-write_frame-clause-same
+returns-in_err-write_frame-clause-same g c =
+    let i = c.self.inside in
+    let log : List ℕ → Tail = λ body. record { area = i.area; base = i.base; gate = i.gate; buffer = body } in
+    let body : List ℕ → List ℕ = λ items. take i.used (drop 4 items) in
+    let items = with_items_is i.frame c.seal.new.frame (omega (arith, c.seal.auto.frame, ap length c.deref_mut.ensures.value, i.frame.ok.0)) in
+    on_err c.from_residual.result (ap log (ap body items ∙ (c.seal.ensures.body ∙ ap body c.deref_mut.ensures.value)) ∙ c.self.view_is)
