@@ -217,6 +217,26 @@ meet (Of m p) Names = has_kind p
 meet Names (Of n q) = has_kind q
 meet Names Names = true
 
+-- the object that a resource is of
+abbrev pub object_of : Resource → Option (List ℕ)
+object_of (Of name region) = Some name
+object_of Names = None
+
+-- whether a resource tells that an object is there
+abbrev pub tells_kind : Resource → Bool
+tells_kind (Of name region) = has_kind region
+tells_kind Names = true
+
+-- whether another resource of the same object lies within one, and is a lesser one or all of it
+abbrev pub is_over : Resource → Resource → Bool
+is_over (Of name Everything) other = true
+is_over (Of name EachKey) (Of n (Just p)) = is_key p
+is_over one other = false
+
+-- whether two resources of one object cover a common part of it
+abbrev pub overlap : Resource → Resource → Bool
+overlap a b = is_over a b || (is_over b a || same_resource b a)
+
 -- whether two touches are in conflict
 abbrev pub conflict : Touch Resource → Touch Resource → Bool
 conflict a b = (a.write || b.write) && meet a.what b.what

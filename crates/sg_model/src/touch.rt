@@ -1,5 +1,5 @@
-ghost use Rattle.std.specs.Prelude.{◌≡◌, ◌↔◌, ◌<◌, ◌≤◌, ◌||◌, true, [], ◌∷◌, ◌++◌, length, map, IsTrue};
-ghost use Rattle.sg_model.specs.Touches.{same_resource, meet, conflict, AreInConflict};
+ghost use Rattle.std.specs.Prelude.{◌≡◌, ◌↔◌, ◌<◌, ◌≤◌, ◌||◌, true, [], ◌∷◌, ◌++◌, length, map, IsTrue, option_copied};
+ghost use Rattle.sg_model.specs.Touches.{same_resource, object_of, tells_kind, is_over, overlap, meet, conflict, AreInConflict};
 ghost use Rattle.sg_model.specs.Resources.{shown_resource, shown_touch};
 
 use crate::Key;
@@ -52,30 +52,57 @@ impl Resource {
         }
     }
 
+    // The object that it is of, if it is of one.
+    fn object(&self) -> Option<&Name>
+        ensures { option_copied result ≡ object_of (shown_resource self.now) }
+    {
+        match self {
+            Resource::Name(name)
+            | Resource::Len(name)
+            | Resource::Item(name, _)
+            | Resource::Key(name, _)
+            | Resource::Body(name)
+            | Resource::Keys(name)
+            | Resource::AllOf(name) => Some(name),
+            Resource::Names => None,
+        }
+    }
+
+    // Whether it tells that an object is there.
+    fn tells_kind(&self) -> bool
+        ensures { result ≡ tells_kind (shown_resource self.now) }
+    {
+        matches!(
+            self,
+            Resource::Names | Resource::Name(_) | Resource::AllOf(_)
+        )
+    }
+
+    // Whether another resource of the same object lies within it and is a lesser one.
+    fn is_over(&self, other: &Resource) -> bool
+        ensures { result ≡ is_over (shown_resource self.now) (shown_resource other.now) }
+    {
+        match self {
+            Resource::AllOf(_) => true,
+            Resource::Keys(_) => matches!(other, Resource::Key(_, _)),
+            _ => false,
+        }
+    }
+
+    // Whether this resource and another of the same object cover a common part of it.
+    fn overlaps(&self, other: &Resource) -> bool
+        ensures { result ≡ overlap (shown_resource self.now) (shown_resource other.now) }
+    {
+        self.is_over(other) || other.is_over(self) || other.is_same(self)
+    }
+
     /// Whether this resource and another cover a common part of the objects.
     fn meets(&self, other: &Resource) -> bool
         ensures { result ≡ meet (shown_resource self.now) (shown_resource other.now) }
     {
-        match (self, other) {
-            (Resource::Names, Resource::Name(_)) => true,
-            (Resource::Names, Resource::AllOf(_)) => true,
-            (Resource::Name(_), Resource::Names) => true,
-            (Resource::AllOf(_), Resource::Names) => true,
-            (Resource::AllOf(m), Resource::Name(n)) => m == n,
-            (Resource::Name(m), Resource::AllOf(n)) => m == n,
-            (Resource::AllOf(m), Resource::Len(n)) => m == n,
-            (Resource::Len(m), Resource::AllOf(n)) => m == n,
-            (Resource::AllOf(m), Resource::Item(n, _)) => m == n,
-            (Resource::Item(m, _), Resource::AllOf(n)) => m == n,
-            (Resource::AllOf(m), Resource::Key(n, _)) => m == n,
-            (Resource::Key(m, _), Resource::AllOf(n)) => m == n,
-            (Resource::AllOf(m), Resource::Body(n)) => m == n,
-            (Resource::Body(m), Resource::AllOf(n)) => m == n,
-            (Resource::AllOf(m), Resource::Keys(n)) => m == n,
-            (Resource::Keys(m), Resource::AllOf(n)) => m == n,
-            (Resource::Keys(m), Resource::Key(n, _)) => m == n,
-            (Resource::Key(m, _), Resource::Keys(n)) => m == n,
-            _ => self.is_same(other),
+        match (self.object(), other.object()) {
+            (Some(m), Some(n)) => m == n && self.overlaps(other),
+            _ => self.tells_kind() && other.tells_kind(),
         }
     }
 }
