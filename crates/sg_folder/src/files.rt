@@ -11,7 +11,8 @@ use std::{fs, io};
 // Makes durable what names the folder contains.
 fn sync_folder<R: Files<File = File>>(rt: &R, path: &str) -> io::Result<()> {
     let path = if path.is_empty() { "." } else { path };
-    File::open(rt, path)?.sync_all()
+    let folder = File::open(rt, path)?;
+    folder.sync_all()
 }
 
 // How many of the folder and its parents aren't there.

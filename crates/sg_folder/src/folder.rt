@@ -165,11 +165,12 @@ impl<'a, R: Files<File = File> + Alloc> Folder<'a, R> {
 
     // Keeps the area's open file.
     fn keep(&mut self, area: Area, file: AreaFile) {
-        match area {
-            Area::Home => self.home = Some(file),
-            Area::Log0 => self.log0 = Some(file),
-            Area::Log1 => self.log1 = Some(file),
-        }
+        let kept = match area {
+            Area::Home => &mut self.home,
+            Area::Log0 => &mut self.log0,
+            Area::Log1 => &mut self.log1,
+        };
+        *kept = Some(file);
     }
 
     // The area's open file.
