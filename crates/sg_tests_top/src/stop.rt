@@ -39,7 +39,13 @@ fn words_go(alloc: Global, words: &str, status: Status, calls: u64, are_replies:
 }
 
 // How many of these words go so up to the first that go otherwise, and whether all do.
-fn all_go(alloc: Global, rows: &str, status: Status, calls: u64, are_replies: bool) -> (usize, bool) {
+fn all_go(
+    alloc: Global,
+    rows: &str,
+    status: Status,
+    calls: u64,
+    are_replies: bool,
+) -> (usize, bool) {
     let mut count = 0usize;
     for words in rows.split(',') {
         if !words_go(alloc, words, status, calls, are_replies) {
@@ -174,7 +180,8 @@ fn look_stopped(alloc: Global, log: &[u8], calls: u64, pick: u64) -> Option<(u64
 fn looks_go(alloc: Global, log: &[u8], least: usize, pick: u64) -> bool {
     for calls in 0..LOOK_CALLS + 1 {
         match look_stopped(alloc, log, calls, pick) {
-            Some((refused, shown)) if (calls < LOOK_CALLS || refused == 0) && is_next(least, shown) => {}
+            Some((refused, shown))
+                if (calls < LOOK_CALLS || refused == 0) && is_next(least, shown) => {}
             _ => return false,
         }
     }

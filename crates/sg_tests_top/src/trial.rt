@@ -140,7 +140,13 @@ pub fn goes(alloc: Global, log: &[u8], script: &[u8], status: Status, replies: &
 }
 
 /// Whether a script over this disk ends so, with these replies.
-pub fn run_goes(alloc: Global, disk: MemDisk, script: &[u8], status: Status, replies: &[u8]) -> bool {
+pub fn run_goes(
+    alloc: Global,
+    disk: MemDisk,
+    script: &[u8],
+    status: Status,
+    replies: &[u8],
+) -> bool {
     match run(alloc, disk, script) {
         Some(left) => left.is(status, replies),
         None => false,
