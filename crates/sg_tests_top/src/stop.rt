@@ -197,7 +197,8 @@ fn is_next(least: usize, shown: usize) -> bool {
 fn three_go(alloc: Global, calls: u64, pick: u64) -> bool {
     match three_stopped(alloc, calls, pick) {
         Some((least, disk)) => {
-            (calls < THREE_CALLS || least == 3) && looks_go(alloc, disk.log0(), least, pick + 1)
+            (calls < THREE_CALLS || least == 3)
+                && looks_go(alloc, disk.log0(), least, pick.saturating_add(1))
         }
         None => false,
     }
