@@ -100,50 +100,76 @@ fn long_value(alloc: Global) -> Result<String, AllocError> {
     Ok(value)
 }
 
-// A table whose second long entry is taken back.
-#[test]
-fn a_long_entry_is_taken_back(rt: HostRuntime) -> Result<(), Fail> {
-    let alloc = rt.alloc();
+// Whether a table's second long entry is taken back.
+fn long_entry_goes(alloc: Global) -> Result<bool, AllocError> {
     let value = long_value(alloc)?;
     let lines = format!(in alloc;
         "t begin\nt make table h\nt put h k1 {value}\nt commit\nu begin\nu put h k2 {value}\nu abort\nw begin\nw find h k2\nw find h k1"
     )?;
     let replies = format!(in alloc; "ok\nok\nok new\nok\nok\nok new\nok\nok\nnone\nok {value}\n")?;
-    assert!(rt; answers(alloc, &lines, &replies));
+    Ok(answers(alloc, &lines, &replies))
+}
+
+#[test]
+fn a_long_entry_is_taken_back(rt: HostRuntime) -> Result<(), Fail> {
+    assert!(rt; long_entry_goes(rt.alloc())?);
     Ok(())
 }
 
-// The lines of 64 transactions that begin and make an object each, of one more that can't, and then of an abort of each
-// second one and a commit of the others.
-fn lines_of_all(alloc: Global) -> Result<String, AllocError> {
-    let mut lines = String::new(alloc);
+// Pushes the lines of 64 transactions that begin and make an object each.
+fn push_begins(alloc: Global, lines: &mut String) -> Result<(), AllocError> {
     for n in 10..74u32 {
         lines.push_str(&format!(in alloc; "t{n} begin\nt{n} make array a{n} 1\n")?)?;
     }
-    lines.push_str("u begin\n")?;
+    Ok(())
+}
+
+// Pushes the lines of an abort of each second one and of a commit of the others.
+fn push_ends(alloc: Global, lines: &mut String) -> Result<(), AllocError> {
     for n in 10..74u32 {
         let end = if n % 2 == 0 { "abort" } else { "commit" };
         lines.push_str(&format!(in alloc; "t{n} {end}\n")?)?;
     }
+    Ok(())
+}
+
+// The lines of 64 transactions that begin, of one more that can't, of the ends of the 64, and of one that looks at what is
+// left.
+fn lines_of_all(alloc: Global) -> Result<String, AllocError> {
+    let mut lines = String::new(alloc);
+    push_begins(alloc, &mut lines)?;
+    lines.push_str("u begin\n")?;
+    push_ends(alloc, &mut lines)?;
     lines.push_str("u begin\nu list")?;
     Ok(lines)
+}
+
+// Pushes a reply so many times.
+fn push_times(replies: &mut String, count: u32, reply: &str) -> Result<(), AllocError> {
+    for _ in 0..count {
+        replies.push_str(reply)?;
+    }
+    Ok(())
+}
+
+// Pushes the names of the objects of those that committed, each behind a space.
+fn push_names(alloc: Global, replies: &mut String) -> Result<(), AllocError> {
+    for n in 10..74u32 {
+        if n % 2 == 1 {
+            replies.push_str(&format!(in alloc; " a{n}")?)?;
+        }
+    }
+    Ok(())
 }
 
 // What they are answered.
 fn replies_to_all(alloc: Global) -> Result<String, AllocError> {
     let mut replies = String::new(alloc);
-    for _ in 0..64u32 {
-        replies.push_str("ok\nok\n")?;
-    }
+    push_times(&mut replies, 128, "ok\n")?;
     replies.push_str("error too-many-live\n")?;
-    for _ in 0..64u32 {
-        replies.push_str("ok\n")?;
-    }
+    push_times(&mut replies, 64, "ok\n")?;
     replies.push_str("ok\nok 32")?;
-    for n in 5..37u32 {
-        let odd = 2 * n + 1;
-        replies.push_str(&format!(in alloc; " a{odd}")?)?;
-    }
+    push_names(alloc, &mut replies)?;
     replies.push_str("\n")?;
     Ok(replies)
 }
@@ -161,9 +187,7 @@ fn as_many_are_live_as_may_be(rt: HostRuntime) -> Result<(), Fail> {
 fn lines_of_many_locks(alloc: Global) -> Result<String, AllocError> {
     let mut lines = String::new(alloc);
     lines.push_str("t begin\nt make array a 1\n")?;
-    for _ in 0..4093u32 {
-        lines.push_str("t push a x\n")?;
-    }
+    push_times(&mut lines, 4093, "t push a x\n")?;
     lines.push_str("t push a x\nt len a")?;
     Ok(lines)
 }

@@ -38,29 +38,30 @@ fn words_go(alloc: Global, words: &str, status: Status, calls: u64, are_replies:
     }
 }
 
-// How many of these words go so up to the first that go otherwise, and whether all do.
+// How many rows of words these are, where all go so.
 fn all_go(
     alloc: Global,
     rows: &str,
     status: Status,
     calls: u64,
     are_replies: bool,
-) -> (usize, bool) {
+) -> Option<usize> {
     let mut count = 0usize;
     for words in rows.split(',') {
         if !words_go(alloc, words, status, calls, are_replies) {
-            return (count, false);
+            return None;
         }
         count = count.saturating_add(1);
     }
-    (count, true)
+    Some(count)
 }
 
 #[test]
 fn words_with_a_stop(rt: HostRuntime) {
     let alloc = rt.alloc();
-    assert_eq!(rt; all_go(alloc, RUNS, Status::Done, CALLS, true), (3, true));
-    assert_eq!(rt; all_go(alloc, NO_RUNS, Status::Usage, 0, false), (9, true));
+    let runs = all_go(alloc, RUNS, Status::Done, CALLS, true);
+    let no_runs = all_go(alloc, NO_RUNS, Status::Usage, 0, false);
+    assert_eq!(rt; [runs, no_runs], [Some(3), Some(9)]);
 }
 
 // What is answered where the disk makes so many calls.
