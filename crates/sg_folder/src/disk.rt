@@ -1,4 +1,4 @@
-ghost use Rattle.std.specs.Prelude.{MatchOption, None, ◌≡◌, ◌↔◌, IsErr, ◌≤◌, ◌+◌, ◌^◌, ◌-◌, min, false, [], OnErr, OnOk};
+ghost use Rattle.std.specs.Prelude.{MatchOption, None, ◌≡◌, ◌↔◌, IsErr, ◌≤◌, ◌+◌, ◌^◌, ◌-◌, min, false, length, [], OnErr, OnOk};
 ghost use Rattle.sg_base.specs.Ends.{HasRisen};
 
 use crate::folder::Folder;
@@ -89,6 +89,57 @@ fn note(answer: io::Result<()>, faults: &mut u64) -> Result<(), Failed>
     }
 }
 
+// Reads in the folder, and fails where there is none.
+fn read_in<R: Files<File = File> + Alloc>(
+    folder: &mut Option<Folder<'_, R>>,
+    area: Area,
+    at: u64,
+    into: &mut [u8],
+) -> io::Result<()>
+    ensures { length into.new ≡ length into.old }
+{
+    match folder {
+        Some(folder) => folder.read(area, at, into),
+        None => Err(ErrorKind::NotFound.into()),
+    }
+}
+
+// Writes in the folder, and fails where there is none.
+fn write_in<R: Files<File = File> + Alloc>(
+    folder: &mut Option<Folder<'_, R>>,
+    area: Area,
+    at: u64,
+    bytes: &[u8],
+) -> io::Result<()> {
+    match folder {
+        Some(folder) => folder.write(area, at, bytes),
+        None => Err(ErrorKind::NotFound.into()),
+    }
+}
+
+// Drops in the folder, and fails where there is none.
+fn drop_in<R: Files<File = File> + Alloc>(
+    folder: &mut Option<Folder<'_, R>>,
+    area: Area,
+    at: u64,
+) -> io::Result<()> {
+    match folder {
+        Some(folder) => folder.drop_from(area, at),
+        None => Err(ErrorKind::NotFound.into()),
+    }
+}
+
+// Syncs in the folder, and fails where there is none.
+fn sync_in<R: Files<File = File> + Alloc>(
+    folder: &mut Option<Folder<'_, R>>,
+    area: Area,
+) -> io::Result<()> {
+    match folder {
+        Some(folder) => folder.sync(area),
+        None => Err(ErrorKind::NotFound.into()),
+    }
+}
+
 impl<R: Files<File = File> + Alloc> Disk for FolderDisk<'_, R> {
     ghost told = { false };
 
@@ -98,38 +149,26 @@ impl<R: Files<File = File> + Alloc> Disk for FolderDisk<'_, R> {
 
     fn read_at(&mut self, area: Area, at: u64, into: &mut [u8]) -> Result<(), Failed> {
         count(&mut self.calls);
-        let answer = match &mut self.folder {
-            Some(folder) => folder.read(area, at, into),
-            None => Err(ErrorKind::NotFound.into()),
-        };
+        let answer = read_in(&mut self.folder, area, at, into);
         note(answer, &mut self.faults)
     }
 
     fn write_at(&mut self, area: Area, at: u64, bytes: &[u8]) -> Result<(), Failed> {
         count(&mut self.calls);
         self.handed = self.handed.saturating_add(bytes.len() as u64);
-        let answer = match &mut self.folder {
-            Some(folder) => folder.write(area, at, bytes),
-            None => Err(ErrorKind::NotFound.into()),
-        };
+        let answer = write_in(&mut self.folder, area, at, bytes);
         note(answer, &mut self.faults)
     }
 
     fn drop_from(&mut self, area: Area, at: u64) -> Result<(), Failed> {
         count(&mut self.calls);
-        let answer = match &mut self.folder {
-            Some(folder) => folder.drop_from(area, at),
-            None => Err(ErrorKind::NotFound.into()),
-        };
+        let answer = drop_in(&mut self.folder, area, at);
         note(answer, &mut self.faults)
     }
 
     fn sync(&mut self, area: Area) -> Result<(), Failed> {
         count(&mut self.calls);
-        let answer = match &mut self.folder {
-            Some(folder) => folder.sync(area),
-            None => Err(ErrorKind::NotFound.into()),
-        };
+        let answer = sync_in(&mut self.folder, area);
         note(answer, &mut self.faults)
     }
 }

@@ -1,7 +1,7 @@
 // What is asked of the files of the system.
 ghost use Rattle.std.specs.Prelude.{◌≡◌, length};
 
-use std::fs::File;
+use std::fs::{File, OpenOptions};
 use std::io::ErrorKind;
 use std::os::unix::fs::FileExt;
 use std::path::Path;
@@ -11,11 +11,12 @@ use std::{fs, io};
 // Makes durable what names the folder contains.
 fn sync_folder<R: Files<File = File>>(rt: &R, path: &str) -> io::Result<()> {
     let path = if path.is_empty() { "." } else { path };
-    File::open(rt, path)?.sync_all()
+    let folder = File::open(rt, path)?;
+    folder.sync_all()
 }
 
-/// Makes the folder where it isn't there, with its parents, and then makes the names of those durable.
-pub fn make_folder<R: Files<File = File>>(rt: &R, path: &str) -> io::Result<()> {
+// How many of the folder and its parents aren't there.
+fn count_missing<R: Files<File = File>>(rt: &R, path: &str) -> io::Result<usize> {
     let mut missing = 0usize;
     for folder in Path::new(path).ancestors() {
         if folder.as_str().is_empty() || fs::exists(rt, folder)? {
@@ -23,11 +24,37 @@ pub fn make_folder<R: Files<File = File>>(rt: &R, path: &str) -> io::Result<()> 
         }
         missing = missing.saturating_add(1);
     }
-    fs::create_dir_all(rt, path)?;
-    for folder in Path::new(path).ancestors().skip(1).take(missing) {
+    Ok(missing)
+}
+
+// Makes durable what names so many parents of the folder contain.
+fn sync_parents<R: Files<File = File>>(rt: &R, path: &str, count: usize) -> io::Result<()> {
+    for folder in Path::new(path).ancestors().skip(1).take(count) {
         sync_folder(rt, folder.as_str())?;
     }
     Ok(())
+}
+
+/// Makes the folder where it isn't there, with its parents, and then makes the names of those durable.
+pub fn make_folder<R: Files<File = File>>(rt: &R, path: &str) -> io::Result<()> {
+    let missing = count_missing(rt, path)?;
+    fs::create_dir_all(rt, path)?;
+    sync_parents(rt, path, missing)
+}
+
+/// Opens the folder and locks it against each other disk.
+pub fn open_locked<R: Files<File = File>>(rt: &R, path: Path<'_>) -> io::Result<File> {
+    let folder = File::open(rt, path)?;
+    folder.try_lock()?;
+    Ok(folder)
+}
+
+/// Opens the file. One that may not be written is opened for reading alone: a write of it fails.
+pub fn open_file<R: Files<File = File>>(rt: &R, path: Path<'_>) -> io::Result<File> {
+    match OpenOptions::new().read(true).write(true).open(rt, path) {
+        Err(e) if is_read_only(&e) => File::open(rt, path),
+        opened => opened,
+    }
 }
 
 /// Reads what the file has there, and zeros past its end.
@@ -52,6 +79,12 @@ pub fn read_all(file: &File, at: u64, into: &mut [u8]) -> io::Result<()>
     Ok(())
 }
 
+/// Makes the file's bytes and its length durable, and its name in the folder where that isn't yet.
+pub fn sync_file(file: &File, folder: &File, is_named: bool) -> io::Result<()> {
+    file.sync_data()?;
+    if is_named { Ok(()) } else { folder.sync_all() }
+}
+
 /// Cuts the file where it is longer.
 pub fn cut(file: &File, at: u64) -> io::Result<()> {
     if file.metadata()?.len() > at {
@@ -60,8 +93,8 @@ pub fn cut(file: &File, at: u64) -> io::Result<()> {
     Ok(())
 }
 
-/// Whether the file or its file system may only be read.
-pub fn is_read_only(e: &io::Error) -> bool {
+// Whether the file or its file system may only be read.
+fn is_read_only(e: &io::Error) -> bool {
     matches!(
         e.kind(),
         ErrorKind::PermissionDenied | ErrorKind::ReadOnlyFilesystem

@@ -2,10 +2,10 @@
 ghost use Rattle.std.specs.Prelude.{◌≡◌, length};
 ghost use Rattle.sg_folder.specs.Streams.{IsApart};
 
-use crate::files::{cut, is_read_only, make_folder, read_all};
+use crate::files::{cut, make_folder, open_file, open_locked, read_all, sync_file};
 use crate::names::area_name;
 use sg_base::Area;
-use std::fs::{File, OpenOptions};
+use std::fs::File;
 use std::io::ErrorKind;
 use std::os::fd::AsRawFd;
 use std::os::unix::fs::FileExt;
@@ -84,9 +84,14 @@ impl<'a, R: Files<File = File> + Alloc> Folder<'a, R> {
     // Opens the folder and locks it against each other disk.
     fn lock(&self) -> io::Result<File> {
         // By this name only a folder is opened: the open of a pipe would wait.
-        let folder = File::open(self.rt, self.path_of(".")?.as_path())?;
-        folder.try_lock()?;
-        Ok(folder)
+        let path = self.path_of(".")?;
+        open_locked(self.rt, path.as_path())
+    }
+
+    // Whether the area's file is there.
+    fn has_file(&self, area: Area) -> io::Result<bool> {
+        let path = self.path_of(area_name(area))?;
+        fs::exists(self.rt, path.as_path())
     }
 
     // Makes the folder and locks it, where no other disk has made a file in it.
@@ -94,21 +99,34 @@ impl<'a, R: Files<File = File> + Alloc> Folder<'a, R> {
         make_folder(self.rt, self.path)?;
         let folder = self.lock()?;
         for area in [Area::Home, Area::Log0, Area::Log1] {
-            if fs::exists(self.rt, self.path_of(area_name(area))?.as_path())? {
+            if self.has_file(area)? {
                 return Err(ErrorKind::AlreadyExists.into());
             }
         }
         Ok(folder)
     }
 
+    // How the folder is had at the first call.
+    fn first_hold(&self) -> Hold {
+        match self.lock() {
+            Ok(folder) => Hold::Locked(folder),
+            Err(e) if e.kind() == ErrorKind::NotFound => Hold::Absent,
+            Err(_) => Hold::Refused,
+        }
+    }
+
+    // How the folder is had that wasn't there at the first call, once it has to be.
+    fn made_hold(&self) -> Hold {
+        match self.make_locked() {
+            Ok(folder) => Hold::Locked(folder),
+            Err(_) => Hold::Refused,
+        }
+    }
+
     // Locks the folder at the first call, where it is there, and fails where it can't be had.
     fn enter(&mut self) -> io::Result<()> {
         if let Hold::Unasked = self.hold {
-            self.hold = match self.lock() {
-                Ok(folder) => Hold::Locked(folder),
-                Err(e) if e.kind() == ErrorKind::NotFound => Hold::Absent,
-                Err(_) => Hold::Refused,
-            };
+            self.hold = self.first_hold();
         }
         match self.hold {
             Hold::Absent | Hold::Locked(_) => Ok(()),
@@ -120,26 +138,15 @@ impl<'a, R: Files<File = File> + Alloc> Folder<'a, R> {
     fn enter_or_make(&mut self) -> io::Result<()> {
         self.enter()?;
         if let Hold::Absent = self.hold {
-            self.hold = match self.make_locked() {
-                Ok(folder) => Hold::Locked(folder),
-                Err(_) => Hold::Refused,
-            };
+            self.hold = self.made_hold();
         }
         self.enter()
     }
 
-    // Opens the area's file. One that may not be written is opened for reading alone: a write of it fails.
+    // Opens the area's file, which is there.
     fn open(&self, area: Area) -> io::Result<AreaFile> {
         let path = self.path_of(area_name(area))?;
-        let file = match OpenOptions::new()
-            .read(true)
-            .write(true)
-            .open(self.rt, path.as_path())
-        {
-            Err(e) if is_read_only(&e) => File::open(self.rt, path.as_path())?,
-            opened => opened?,
-        };
-        AreaFile::new(file)
+        AreaFile::new(open_file(self.rt, path.as_path())?)
     }
 
     // Makes the area's file, which isn't there.
@@ -148,31 +155,39 @@ impl<'a, R: Files<File = File> + Alloc> Folder<'a, R> {
         AreaFile::new(File::create_new(self.rt, path.as_path())?)
     }
 
+    // Makes the area's file, and keeps it.
+    fn take_new(&mut self, area: Area) -> io::Result<()> {
+        let file = self.create(area)?;
+        self.is_named = false;
+        self.keep(area, file);
+        Ok(())
+    }
+
     // Keeps the area's open file.
     fn keep(&mut self, area: Area, file: AreaFile) {
-        match area {
-            Area::Home => self.home = Some(file),
-            Area::Log0 => self.log0 = Some(file),
-            Area::Log1 => self.log1 = Some(file),
-        }
+        let kept = match area {
+            Area::Home => &mut self.home,
+            Area::Log0 => &mut self.log0,
+            Area::Log1 => &mut self.log1,
+        };
+        *kept = Some(file);
     }
 
     // The area's open file.
     fn kept(&self, area: Area) -> Option<&File> {
         let kept = match area {
-            Area::Home => self.home.as_ref()?,
-            Area::Log0 => self.log0.as_ref()?,
-            Area::Log1 => self.log1.as_ref()?,
+            Area::Home => &self.home,
+            Area::Log0 => &self.log0,
+            Area::Log1 => &self.log1,
         };
-        Some(&kept.file)
+        match kept {
+            Some(kept) => Some(&kept.file),
+            None => None,
+        }
     }
 
-    // Opens the area's file where the folder and the file are there and it isn't open.
-    fn find(&mut self, area: Area) -> io::Result<()> {
-        self.enter()?;
-        if matches!(self.hold, Hold::Absent) || self.kept(area).is_some() {
-            return Ok(());
-        }
+    // Opens the area's file where it is there, and keeps it.
+    fn take(&mut self, area: Area) -> io::Result<()> {
         match self.open(area) {
             Ok(file) => {
                 self.keep(area, file);
@@ -183,16 +198,25 @@ impl<'a, R: Files<File = File> + Alloc> Folder<'a, R> {
         }
     }
 
+    // Opens the area's file where the folder and the file are there and it isn't open.
+    fn find(&mut self, area: Area) -> io::Result<()> {
+        self.enter()?;
+        if matches!(self.hold, Hold::Absent) || self.kept(area).is_some() {
+            Ok(())
+        } else {
+            self.take(area)
+        }
+    }
+
     // Opens the area's file, and makes it and the folder where they aren't there.
     fn make(&mut self, area: Area) -> io::Result<()> {
         self.enter_or_make()?;
         self.find(area)?;
         if self.kept(area).is_none() {
-            let file = self.create(area)?;
-            self.is_named = false;
-            self.keep(area, file);
+            self.take_new(area)
+        } else {
+            Ok(())
         }
-        Ok(())
     }
 
     /// Reads what the area's file has there, and zeros where the file ends or isn't there.
@@ -232,16 +256,10 @@ impl<'a, R: Files<File = File> + Alloc> Folder<'a, R> {
     /// made and didn't sync.
     pub fn sync(&mut self, area: Area) -> io::Result<()> {
         self.find(area)?;
-        match (self.kept(area), &self.hold) {
-            (Some(file), Hold::Locked(folder)) => {
-                file.sync_data()?;
-                if !self.is_named {
-                    folder.sync_all()?;
-                }
-            }
-            _ => return Ok(()),
+        if let (Some(file), Hold::Locked(folder)) = (self.kept(area), &self.hold) {
+            sync_file(file, folder, self.is_named)?;
+            self.is_named = true;
         }
-        self.is_named = true;
         Ok(())
     }
 }

@@ -1,46 +1,67 @@
-use crate::trial::{disk_of, run, run_in_pieces, run_stopped};
+use crate::trial::{Left, disk_of, run, run_in_pieces, run_stopped};
 use sg_disk::MemDisk;
 use sg_top::Status;
 use std::alloc::Global;
-use std::test::Fail;
 
 // The opening makes three calls of an empty disk, and this commit four.
 const SCRIPT: &[u8] = b"t begin\nt make array a 3\nt push a abc\nt commit";
 
 const CALLS: u64 = 7;
 
-// Words, and whether they are those of a run.
-const WORDS: [(&str, bool); 12] = [
-    ("run d --stop-after 7", true),
-    ("run d --stop-after 00000000000000000007", true),
-    ("run d --stop-after 18446744073709551615", true),
-    ("run d --stop-after 18446744073709551616", false),
-    ("run d --stop-after 000000000000000000006", false),
-    ("run d --stop-after", false),
-    ("run d --stop-after x", false),
-    ("run d --stop-after -1", false),
-    ("run d --stop-after 6 6", false),
-    ("run d --stop 6", false),
-    ("run --stop-after 6 d", false),
-    ("--stop-after 6 run d", false),
-];
+// Words of runs, one behind another with a comma between.
+const RUNS: &str = "run d --stop-after 7,\
+    run d --stop-after 00000000000000000007,\
+    run d --stop-after 18446744073709551615";
+
+// And words that are none.
+const NO_RUNS: &str = "run d --stop-after 18446744073709551616,\
+    run d --stop-after 000000000000000000006,\
+    run d --stop-after,\
+    run d --stop-after x,\
+    run d --stop-after -1,\
+    run d --stop-after 6 6,\
+    run d --stop 6,\
+    run --stop-after 6 d,\
+    --stop-after 6 run d";
+
+// Whether the script goes so with these words: how it ends, how many calls the disk answers, and whether there is a reply.
+// No call is refused.
+fn words_go(alloc: Global, words: &str, status: Status, calls: u64, are_replies: bool) -> bool {
+    match run_in_pieces(alloc, words, MemDisk::new(alloc), SCRIPT, 65_536) {
+        Some(left) => {
+            left.status == status
+                && left.refused == 0
+                && left.disk.call_count() == calls
+                && left.replies().is_empty() != are_replies
+        }
+        None => false,
+    }
+}
+
+// How many rows of words these are, where all go so.
+fn all_go(
+    alloc: Global,
+    rows: &str,
+    status: Status,
+    calls: u64,
+    are_replies: bool,
+) -> Option<usize> {
+    let mut count = 0usize;
+    for words in rows.split(',') {
+        if !words_go(alloc, words, status, calls, are_replies) {
+            return None;
+        }
+        count = count.saturating_add(1);
+    }
+    Some(count)
+}
 
 #[test]
-fn words_with_a_stop(rt: HostRuntime) -> Result<(), Fail> {
+fn words_with_a_stop(rt: HostRuntime) {
     let alloc = rt.alloc();
-    for (words, are_run) in WORDS {
-        let left = run_in_pieces(alloc, words, MemDisk::new(alloc), SCRIPT, 65_536)?;
-        let (status, calls) = if are_run {
-            (Status::Done, CALLS)
-        } else {
-            (Status::Usage, 0)
-        };
-        assert_eq!(rt; left.status, status);
-        assert_eq!(rt; left.refused, 0);
-        assert_eq!(rt; left.disk.call_count(), calls);
-        assert_eq!(rt; left.replies.is_empty(), !are_run);
-    }
-    Ok(())
+    let runs = all_go(alloc, RUNS, Status::Done, CALLS, true);
+    let no_runs = all_go(alloc, NO_RUNS, Status::Usage, 0, false);
+    assert_eq!(rt; [runs, no_runs], [Some(3), Some(9)]);
 }
 
 // What is answered where the disk makes so many calls.
@@ -52,28 +73,52 @@ fn replies_with(calls: u64) -> &'static [u8] {
     }
 }
 
-// The frame of the commit is there whole, or its gate is closed, whatever a crash then leaves. It is there after all
-// calls, and after all but the last where the crash leaves the last write.
-#[test]
-fn a_stop_after_each_number_of_calls(rt: HostRuntime) -> Result<(), Fail> {
-    let alloc = rt.alloc();
+// Whether a run that was stopped after so many calls was left so.
+fn was_stopped(left: &Left, calls: u64) -> bool {
+    let (status, refused) = if calls < CALLS {
+        (Status::Disk, 1)
+    } else {
+        (Status::Done, 0)
+    };
+    left.is(status, replies_with(calls))
+        && left.refused == refused
+        && left.disk.call_count() == calls
+        && left.disk.fault_count() == 0
+}
+
+// Whether a run goes as it should that is stopped after so many calls, and whose disk then crashes. The frame of the commit is
+// there whole, or its gate is closed. It is there after all calls, and after all but the last where the crash leaves the last
+// write.
+fn stop_goes(alloc: Global, calls: u64, pick: u64) -> bool {
+    match run_stopped(alloc, MemDisk::new(alloc), SCRIPT, calls) {
+        Some(left) => {
+            let should_be = calls >= CALLS || calls + 1 == CALLS && pick == 0;
+            was_stopped(&left, calls) && has_frame(left.disk, pick) == should_be
+        }
+        None => false,
+    }
+}
+
+// Whether a crash leaves an open gate at the front of the log.
+fn has_frame(disk: MemDisk, pick: u64) -> bool {
+    disk.crash(pick).log0().first() == Some(&1)
+}
+
+// The first number of calls, and pick of a crash, that goes otherwise.
+fn first_wrong_stop(alloc: Global) -> Option<(u64, u64)> {
     for calls in 0..CALLS + 1 {
         for pick in 0..4u64 {
-            let left = run_stopped(alloc, MemDisk::new(alloc), SCRIPT, calls)?;
-            let stops = calls < CALLS;
-            assert_eq!(rt;
-                left.status,
-                if stops { Status::Disk } else { Status::Done }
-            );
-            assert_eq!(rt; left.refused, u64::from(stops));
-            assert_eq!(rt; left.disk.call_count(), calls);
-            assert_eq!(rt; left.disk.fault_count(), 0);
-            assert_eq!(rt; left.replies.as_slice(), replies_with(calls));
-            let is_there = left.disk.crash(pick).log0().first() == Some(&1);
-            assert_eq!(rt; is_there, !stops || calls + 1 == CALLS && pick == 0);
+            if !stop_goes(alloc, calls, pick) {
+                return Some((calls, pick));
+            }
         }
     }
-    Ok(())
+    None
+}
+
+#[test]
+fn a_stop_after_each_number_of_calls(rt: HostRuntime) {
+    assert_eq!(rt; first_wrong_stop(rt.alloc()), None);
 }
 
 // Transactions among one another: p commits, then u, and then t, which began before u. v aborts.
@@ -105,38 +150,76 @@ fn acknowledged(replies: &[u8]) -> usize {
 }
 
 // The number of commits whose objects a store over this disk shows.
-fn commits_shown(alloc: Global, disk: MemDisk) -> Result<Option<usize>, Fail> {
-    let left = run(alloc, disk, ITEMS)?;
-    Ok(
-        AFTER
-            .iter()
-            .position(|replies| *replies == left.replies.as_slice()),
-    )
+fn commits_shown(alloc: Global, disk: MemDisk) -> Option<usize> {
+    match run(alloc, disk, ITEMS) {
+        Some(left) => AFTER.iter().position(|replies| *replies == left.replies()),
+        None => None,
+    }
 }
 
 // An opening makes three calls, and four for each of up to three frames. The script behind it makes none.
 const LOOK_CALLS: u64 = 15;
 
-// A run is stopped, the store is opened again and that is stopped too, and then it is opened whole. Each time it shows
-// the objects after some first commits, all acknowledged ones among them.
-#[test]
-fn stopped_and_opened_twice(rt: HostRuntime) -> Result<(), Fail> {
-    let alloc = rt.alloc();
+// A run of the three that is stopped: how many commits were acknowledged, and what a crash leaves.
+fn three_stopped(alloc: Global, calls: u64, pick: u64) -> Option<(usize, MemDisk)> {
+    match run_stopped(alloc, MemDisk::new(alloc), THREE, calls) {
+        Some(left) => Some((acknowledged(left.replies()), left.disk.crash(pick))),
+        None => None,
+    }
+}
+
+// How many calls are refused where an opening of this log is stopped, and the number of commits that a store then shows.
+fn look_stopped(alloc: Global, log: &[u8], calls: u64, pick: u64) -> Option<(u64, usize)> {
+    let disk = disk_of(alloc, log)?;
+    let left = run_stopped(alloc, disk, ITEMS, calls)?;
+    let shown = commits_shown(alloc, left.disk.crash(pick))?;
+    Some((left.refused, shown))
+}
+
+// Whether a store with this log shows the objects after some first commits, however its opening was stopped before: so many
+// as were acknowledged, or one more. An opening that isn't stopped makes no more calls than it may.
+fn looks_go(alloc: Global, log: &[u8], least: usize, pick: u64) -> bool {
+    for calls in 0..LOOK_CALLS + 1 {
+        match look_stopped(alloc, log, calls, pick) {
+            Some((refused, shown))
+                if (calls < LOOK_CALLS || refused == 0) && is_next(least, shown) => {}
+            _ => return false,
+        }
+    }
+    true
+}
+
+// Whether the second number is the first, or one more.
+fn is_next(least: usize, shown: usize) -> bool {
+    least <= shown && shown - least <= 1
+}
+
+// Whether a run goes as it should that is stopped after so many calls, then opened and stopped again, and then opened whole.
+fn three_go(alloc: Global, calls: u64, pick: u64) -> bool {
+    match three_stopped(alloc, calls, pick) {
+        Some((least, disk)) => {
+            (calls < THREE_CALLS || least == 3)
+                && looks_go(alloc, disk.log0(), least, pick.saturating_add(1))
+        }
+        None => false,
+    }
+}
+
+// The first number of calls, and pick of a crash, that goes otherwise.
+fn first_wrong_of_three(alloc: Global) -> Option<(u64, u64)> {
     for calls in 0..THREE_CALLS + 1 {
         for pick in 0..4u64 {
-            let left = run_stopped(alloc, MemDisk::new(alloc), THREE, calls)?;
-            let least = acknowledged(&left.replies);
-            assert!(rt; calls < THREE_CALLS || least == 3);
-            let crashed = left.disk.crash(pick);
-            for again in 0..LOOK_CALLS + 1 {
-                let disk = disk_of(alloc, crashed.log0())?;
-                let left = run_stopped(alloc, disk, ITEMS, again)?;
-                assert!(rt; again < LOOK_CALLS || left.refused == 0);
-                let disk = left.disk.crash(pick + 1);
-                let shown = commits_shown(alloc, disk)?.ok_or("no first commits")?;
-                assert!(rt; least <= shown && shown - least <= 1);
+            if !three_go(alloc, calls, pick) {
+                return Some((calls, pick));
             }
         }
     }
-    Ok(())
+    None
+}
+
+// A run is stopped, the store is opened again and that is stopped too, and then it is opened whole. Each time it shows
+// the objects after some first commits, all acknowledged ones among them.
+#[test]
+fn stopped_and_opened_twice(rt: HostRuntime) {
+    assert_eq!(rt; first_wrong_of_three(rt.alloc()), None);
 }

@@ -1,10 +1,10 @@
-ghost use Rattle.std.specs.Prelude.{None};
+ghost use Rattle.std.specs.Prelude.{None, ◌<◌};
 
-use crate::trial::{answered, run, run_from, run_in_pieces};
+use crate::trial::{Left, answered, goes, run, run_from, run_in_pieces};
 use sg_base::{Failed, MemSource, Source};
-use sg_disk::{CallKind, Disk, MemDisk};
+use sg_disk::{CallKind, MemDisk};
 use sg_top::Status;
-use std::test::Fail;
+use std::alloc::{AllocError, Global};
 
 const FIRST: &str = "t begin\nt make array a 3\nt push a abc\nt set a 0 xyz\nt get a 0\nt commit";
 
@@ -18,19 +18,28 @@ const FIRST_LOG: &[u8] = b"\x01\x8c\0\0\0\
     \x0d\x20\0\0\0\x05\0\0\0\0\0\0\0\x3d\0\0\0\0\0\0\0set a 0 xyz\
     \x0a\x15\0\0\0\x05\0\0\0\0\0\0\0\x5c\0\0\0\0\0\0\0\0";
 
-#[test]
-fn the_first_script_in_any_pieces(rt: HostRuntime) -> Result<(), Fail> {
-    let alloc = rt.alloc();
-    for piece in [1usize, 2, 3, 7, 65_536] {
-        if piece > 0 {
-            let disk = MemDisk::new(alloc);
-            let left = run_in_pieces(alloc, "run store", disk, FIRST.as_bytes(), piece)?;
-            assert_eq!(rt; left.status, Status::Done);
-            assert_eq!(rt; left.replies.as_slice(), FIRST_REPLIES.as_bytes());
-            assert_eq!(rt; left.disk.log0(), FIRST_LOG);
-        }
+// Whether the first script leaves its replies and its log where it comes in pieces of so many bytes.
+fn pieces_go(alloc: Global, piece: usize) -> bool {
+    if piece == 0 {
+        return false;
     }
-    Ok(())
+    match run_in_pieces(
+        alloc,
+        "run store",
+        MemDisk::new(alloc),
+        FIRST.as_bytes(),
+        piece,
+    ) {
+        Some(left) => left.is(Status::Done, FIRST_REPLIES.as_bytes()) && left.log0() == FIRST_LOG,
+        None => false,
+    }
+}
+
+#[test]
+fn the_first_script_in_any_pieces(rt: HostRuntime) {
+    for piece in [1usize, 2, 3, 7, 65_536] {
+        assert!(rt; pieces_go(rt.alloc(), piece));
+    }
 }
 
 // Each script and its replies.
@@ -77,93 +86,138 @@ const HOSTILE: [(&str, &str); 16] = [
     ),
 ];
 
-#[test]
-fn hostile_lines(rt: HostRuntime) -> Result<(), Fail> {
-    let alloc = rt.alloc();
-    for (script, replies) in HOSTILE {
-        let left = run(alloc, MemDisk::new(alloc), script.as_bytes())?;
-        assert_eq!(rt; left.status, Status::Done);
-        assert_eq!(rt; left.replies.as_slice(), replies.as_bytes());
+// The number of the first script that is answered otherwise.
+fn first_wrong(alloc: Global) -> Option<usize> {
+    for (number, (script, replies)) in HOSTILE.iter().enumerate() {
+        if !goes(
+            alloc,
+            b"",
+            script.as_bytes(),
+            Status::Done,
+            replies.as_bytes(),
+        ) {
+            return Some(number);
+        }
     }
-    Ok(())
+    None
 }
 
 #[test]
-fn the_longest_line(rt: HostRuntime) -> Result<(), Fail> {
-    let alloc = rt.alloc();
-    let spaces = vec![in alloc; b' '; 32_768]?;
-    let left = run(alloc, MemDisk::new(alloc), &spaces)?;
-    assert_eq!(rt; left.replies.as_slice(), [].as_slice());
-    let mut script = vec![in alloc; b' '; 32_769]?;
-    script.extend_from_slice(b"\nt begin")?;
-    let left = run(alloc, MemDisk::new(alloc), &script)?;
-    assert_eq!(rt; left.status, Status::Done);
-    assert_eq!(rt; left.replies.as_slice(), b"error syntax\nok\n".as_slice());
-    Ok(())
+fn hostile_lines(rt: HostRuntime) {
+    assert_eq!(rt; first_wrong(rt.alloc()), None);
 }
 
-#[test]
-fn other_words_are_no_command(rt: HostRuntime) -> Result<(), Fail> {
-    let alloc = rt.alloc();
-    for words in ["run", "runs store", "run store more", "store run"] {
-        let left = run_in_pieces(alloc, words, MemDisk::new(alloc), b"t begin", 8)?;
-        assert_eq!(rt; left.status, Status::Usage);
-        assert_eq!(rt; left.disk.call_count(), 0);
+// So many spaces, and these bytes behind them.
+fn spaces(alloc: Global, count: usize, behind: &[u8]) -> Result<Vec<u8>, AllocError> {
+    let mut script = vec![in alloc; b' '; count]?;
+    script.extend_from_slice(behind)?;
+    Ok(script)
+}
+
+// Whether such a script is answered so.
+fn spaces_go(alloc: Global, count: usize, behind: &[u8], replies: &[u8]) -> bool {
+    match spaces(alloc, count, behind) {
+        Ok(script) => goes(alloc, b"", &script, Status::Done, replies),
+        Err(_) => false,
     }
-    Ok(())
 }
 
 #[test]
-fn a_source_that_fails(rt: HostRuntime) -> Result<(), Fail> {
+fn the_longest_line(rt: HostRuntime) {
     let alloc = rt.alloc();
-    let script = b"t begin\nt commit".to_vec(alloc)?;
-    let mut source = MemSource::new(script, 8, Some(3));
-    let left = run_from(alloc, "run store", MemDisk::new(alloc), &mut source, None)?;
-    assert_eq!(rt; left.status, Status::Read);
-    assert_eq!(rt; left.replies.as_slice(), b"ok\n".as_slice());
-    assert_eq!(rt; left.disk.log0(), [].as_slice());
-    Ok(())
+    let longest = spaces_go(alloc, 32_768, b"", b"");
+    let longer = spaces_go(alloc, 32_769, b"\nt begin", b"error syntax\nok\n");
+    assert_eq!(rt; [longest, longer], [true, true]);
+}
+
+// Whether the words are no command, and nothing is asked of the disk.
+fn are_no_command(alloc: Global, words: &str) -> bool {
+    match run_in_pieces(alloc, words, MemDisk::new(alloc), b"t begin", 8) {
+        Some(left) => left.status == Status::Usage && left.disk.call_count() == 0,
+        None => false,
+    }
 }
 
 #[test]
-fn a_sink_that_fails(rt: HostRuntime) -> Result<(), Fail> {
-    let alloc = rt.alloc();
-    let script = b"t begin\nt commit\nu begin\nu commit".to_vec(alloc)?;
-    let mut source = MemSource::new(script, 64, None);
-    let left = run_from(
+fn other_words_are_no_command(rt: HostRuntime) {
+    for words in "run,runs store,run store more,store run".split(',') {
+        assert!(rt; are_no_command(rt.alloc(), words));
+    }
+}
+
+// What a run leaves whose source comes in pieces of so many bytes, where a call of the source or of the sink fails.
+fn run_failing(
+    alloc: Global,
+    script: &[u8],
+    piece: usize,
+    source_fails: Option<u64>,
+    sink_fails: Option<u64>,
+) -> Option<Left>
+    requires { 0 < piece }
+{
+    match script.to_vec(alloc) {
+        Ok(text) => {
+            let mut source = MemSource::new(text, piece, source_fails);
+            run_from(
+                alloc,
+                "run store",
+                MemDisk::new(alloc),
+                &mut source,
+                sink_fails,
+            )
+        }
+        Err(_) => None,
+    }
+}
+
+// Whether a run ends so whose source fails at the third call.
+fn failing_source_goes(alloc: Global) -> bool {
+    match run_failing(alloc, b"t begin\nt commit", 8, Some(3), None) {
+        Some(left) => left.is(Status::Read, b"ok\n") && left.log0().is_empty(),
+        None => false,
+    }
+}
+
+#[test]
+fn a_source_that_fails(rt: HostRuntime) {
+    assert!(rt; failing_source_goes(rt.alloc()));
+}
+
+// Whether a run ends so whose sink fails at the second call. It leaves one frame of two records of 21 bytes, and a closed
+// gate.
+fn failing_sink_goes(alloc: Global) -> bool {
+    let script = b"t begin\nt commit\nu begin\nu commit";
+    match run_failing(alloc, script, 64, None, Some(2)) {
+        Some(left) => left.is(Status::Write, b"ok\n") && left.log0().len() == 48,
+        None => false,
+    }
+}
+
+#[test]
+fn a_sink_that_fails(rt: HostRuntime) {
+    assert!(rt; failing_sink_goes(rt.alloc()));
+}
+
+// Whether a run ends with one fault of the disk and these replies where the nth call of that kind fails.
+fn failing_disk_goes(alloc: Global, kind: CallKind, nth: u64, replies: &[u8]) -> bool {
+    let mut disk = MemDisk::new(alloc);
+    disk.fail(kind, nth);
+    match run(
         alloc,
-        "run store",
-        MemDisk::new(alloc),
-        &mut source,
-        Some(2),
-    )?;
-    assert_eq!(rt; left.status, Status::Write);
-    assert_eq!(rt; left.replies.as_slice(), b"ok\n".as_slice());
-    // one frame of two records of 21 bytes, and a closed gate
-    assert_eq!(rt; left.disk.log0().len(), 48);
-    Ok(())
+        disk,
+        b"t begin\nt commit\nu begin\nu commit\nv begin",
+    ) {
+        Some(left) => left.is(Status::Disk, replies) && left.disk.fault_count() == 1,
+        None => false,
+    }
 }
 
 #[test]
-fn a_disk_that_fails(rt: HostRuntime) -> Result<(), Fail> {
+fn a_disk_that_fails(rt: HostRuntime) {
     let alloc = rt.alloc();
-    let script = b"t begin\nt commit\nu begin\nu commit\nv begin";
-    for (kind, nth, replies) in [
-        (
-            CallKind::Write,
-            3,
-            "ok\nok\nok\nerror disk\nerror stopped\n",
-        ),
-        (CallKind::Sync, 1, ""),
-    ] {
-        let mut disk = MemDisk::new(alloc);
-        disk.fail(kind, nth);
-        let left = run(alloc, disk, script)?;
-        assert_eq!(rt; left.status, Status::Disk);
-        assert_eq!(rt; left.replies.as_slice(), replies.as_bytes());
-        assert_eq!(rt; left.disk.fault_count(), 1);
-    }
-    Ok(())
+    let replies = b"ok\nok\nok\nerror disk\nerror stopped\n";
+    assert!(rt; failing_disk_goes(alloc, CallKind::Write, 3, replies));
+    assert!(rt; failing_disk_goes(alloc, CallKind::Sync, 1, b""));
 }
 
 // A source of so many bytes that it doesn't hold, each piece of which ends a line.
@@ -188,28 +242,37 @@ impl Source for LongLines {
     }
 }
 
-#[test]
-fn a_script_has_a_greatest_length(rt: HostRuntime) -> Result<(), Fail> {
-    let alloc = rt.alloc();
-    for (left, status) in [(268_435_456, Status::Done), (268_435_457, Status::TooLong)] {
-        let mut source = LongLines { left };
-        let left = run_from(alloc, "run store", MemDisk::new(alloc), &mut source, None)?;
-        assert_eq!(rt; left.status, status);
+// How a script of so many bytes ends.
+fn end_of_long(alloc: Global, size: u64) -> Option<Status> {
+    let mut source = LongLines { left: size };
+    match run_from(alloc, "run store", MemDisk::new(alloc), &mut source, None) {
+        Some(left) => Some(left.status),
+        None => None,
     }
-    Ok(())
 }
 
 #[test]
-fn a_session_answers_each_line(rt: HostRuntime) -> Result<(), Fail> {
+fn a_script_has_a_greatest_length(rt: HostRuntime) {
     let alloc = rt.alloc();
-    let left = answered(alloc, MemDisk::new(alloc), FIRST, None)?;
-    assert_eq!(rt; left.status, Status::Done);
-    assert_eq!(rt; left.replies.as_slice(), FIRST_REPLIES.as_bytes());
-    assert_eq!(rt; left.disk.log0(), FIRST_LOG);
+    let ends = [
+        end_of_long(alloc, 268_435_456),
+        end_of_long(alloc, 268_435_457),
+    ];
+    assert_eq!(rt; ends, [Some(Status::Done), Some(Status::TooLong)]);
+}
+
+// Whether a session that answers the first script ends so, with these replies, and leaves its log.
+fn session_goes(alloc: Global, sink_fails: Option<u64>, status: Status, replies: &[u8]) -> bool {
+    match answered(alloc, FIRST, sink_fails) {
+        Some(left) => left.is(status, replies) && left.log0() == FIRST_LOG,
+        None => false,
+    }
+}
+
+#[test]
+fn a_session_answers_each_line(rt: HostRuntime) {
+    let alloc = rt.alloc();
+    assert!(rt; session_goes(alloc, None, Status::Done, FIRST_REPLIES.as_bytes()));
     // The sink fails at the third line, and later lines are answered to no one.
-    let left = answered(alloc, MemDisk::new(alloc), FIRST, Some(3))?;
-    assert_eq!(rt; left.status, Status::Write);
-    assert_eq!(rt; left.replies.as_slice(), b"ok\nok\n".as_slice());
-    assert_eq!(rt; left.disk.log0(), FIRST_LOG);
-    Ok(())
+    assert!(rt; session_goes(alloc, Some(3), Status::Write, b"ok\nok\n"));
 }

@@ -1,4 +1,6 @@
-// A run or a session over a disk in memory, and what is left of it as plain values.
+// A run or a session over a disk in memory, and what is left of it. All calls of the program stand in the functions below, which
+// promise nothing: a test sees plain values, and its proof carries none of the program's clauses. They give none where
+// memory is refused, or a session doesn't start.
 ghost use Rattle.std.specs.Prelude.{◌<◌};
 
 use sg_base::{MemSink, MemSource, Source};
@@ -6,20 +8,39 @@ use sg_disk::MemDisk;
 use sg_ops::Ops;
 use sg_top::{Finish, Session, Status, stasis};
 use std::alloc::{AllocError, Global};
-use std::test::Fail;
 
-/// What is left of a run: how it ended, the disk, the calls of it that were refused, and the replies.
+/// What is left of a run: how it ended, the disk, the calls of it that were refused, and the sink of its replies.
 #[derive(Drop)]
 pub struct Left {
     pub status: Status,
     pub disk: MemDisk,
     pub refused: u64,
-    pub replies: Vec<u8>,
+    out: MemSink,
+}
+
+impl Left {
+    /// Whether it ended so, with these replies.
+    pub fn is(&self, status: Status, replies: &[u8]) -> bool {
+        self.status == status && self.out.text() == replies
+    }
+
+    /// The replies.
+    pub fn replies(&self) -> &[u8] {
+        self.out.text()
+    }
+
+    /// The bytes of the first log area.
+    pub fn log0(&self) -> &[u8] {
+        self.disk.log0()
+    }
 }
 
 /// A disk whose first log area has these bytes, all of them stable.
-pub fn disk_of(alloc: Global, log: &[u8]) -> Result<MemDisk, AllocError> {
-    Ok(MemDisk::of(alloc, Vec::new(alloc), log.to_vec(alloc)?, Vec::new(alloc)))
+pub fn disk_of(alloc: Global, log: &[u8]) -> Option<MemDisk> {
+    match log.to_vec(alloc) {
+        Ok(log) => Some(MemDisk::of(alloc, Vec::new(alloc), log, Vec::new(alloc))),
+        Err(_) => None,
+    }
 }
 
 fn words_of(alloc: Global, text: &str) -> Result<Vec<String>, AllocError> {
@@ -30,6 +51,29 @@ fn words_of(alloc: Global, text: &str) -> Result<Vec<String>, AllocError> {
     Ok(words)
 }
 
+// Does what the words say, with these operations.
+fn run_words<S: Source>(
+    alloc: Global,
+    ops: Ops,
+    words: &[String],
+    disk: MemDisk,
+    script: &mut S,
+    sink_fails: Option<u64>,
+) -> Left {
+    let mut out = MemSink::new(alloc, sink_fails);
+    let Finish {
+        status,
+        disk,
+        refused,
+    } = stasis(alloc, ops, words, disk, script, &mut out);
+    Left {
+        status,
+        disk,
+        refused,
+        out,
+    }
+}
+
 /// Does what the words say, with the shipped operations. The sink's n-th call fails where n is given.
 pub fn run_from<S: Source>(
     alloc: Global,
@@ -37,22 +81,14 @@ pub fn run_from<S: Source>(
     disk: MemDisk,
     script: &mut S,
     sink_fails: Option<u64>,
-) -> Result<Left, Fail> {
-    let words = words_of(alloc, words)?;
-    let ops = Ops::shipped(alloc)?;
-    let mut out = MemSink::new(alloc, sink_fails);
-    let Finish {
-        status,
-        disk,
-        refused,
-    } = stasis(alloc, ops, &words, disk, script, &mut out);
-    let replies = out.text().to_vec(alloc)?;
-    Ok(Left {
-        status,
-        disk,
-        refused,
-        replies,
-    })
+) -> Option<Left> {
+    if let Ok(words) = words_of(alloc, words)
+        && let Ok(ops) = Ops::shipped(alloc)
+    {
+        Some(run_words(alloc, ops, &words, disk, script, sink_fails))
+    } else {
+        None
+    }
 }
 
 /// The same with a script that comes in pieces of so many bytes.
@@ -62,47 +98,112 @@ pub fn run_in_pieces(
     disk: MemDisk,
     script: &[u8],
     piece: usize,
-) -> Result<Left, Fail>
+) -> Option<Left>
     requires { 0 < piece }
 {
-    let mut source = MemSource::new(script.to_vec(alloc)?, piece, None);
-    run_from(alloc, words, disk, &mut source, None)
+    match script.to_vec(alloc) {
+        Ok(text) => {
+            let mut source = MemSource::new(text, piece, None);
+            run_from(alloc, words, disk, &mut source, None)
+        }
+        Err(_) => None,
+    }
 }
 
 /// Runs a script.
-pub fn run(alloc: Global, disk: MemDisk, script: &[u8]) -> Result<Left, Fail> {
+pub fn run(alloc: Global, disk: MemDisk, script: &[u8]) -> Option<Left> {
     run_in_pieces(alloc, "run store", disk, script, 65_536)
 }
 
 /// Runs a script over a disk that makes so many calls.
-pub fn run_stopped(alloc: Global, disk: MemDisk, script: &[u8], calls: u64) -> Result<Left, Fail> {
-    let words = format!(in alloc; "run store --stop-after {calls}")?;
-    run_in_pieces(alloc, words.as_str(), disk, script, 65_536)
+pub fn run_stopped(alloc: Global, disk: MemDisk, script: &[u8], calls: u64) -> Option<Left> {
+    match format!(in alloc; "run store --stop-after {calls}") {
+        Ok(words) => run_in_pieces(alloc, words.as_str(), disk, script, 65_536),
+        Err(_) => None,
+    }
 }
 
-/// What a session leaves that answers lines, which stand behind one another with an LF between. The
-/// sink's n-th call fails where n is given.
-pub fn answered(
+/// Runs a script, and hands back the disk where the run is done with these replies.
+pub fn done(alloc: Global, disk: MemDisk, script: &[u8], replies: &[u8]) -> Option<MemDisk> {
+    match run(alloc, disk, script) {
+        Some(left) if left.is(Status::Done, replies) => Some(left.disk),
+        _ => None,
+    }
+}
+
+/// Whether a script over a disk with these bytes in its first log area ends so, with these replies.
+pub fn goes(alloc: Global, log: &[u8], script: &[u8], status: Status, replies: &[u8]) -> bool {
+    match disk_of(alloc, log) {
+        Some(disk) => run_goes(alloc, disk, script, status, replies),
+        None => false,
+    }
+}
+
+/// Whether a script over this disk ends so, with these replies.
+pub fn run_goes(
     alloc: Global,
+    disk: MemDisk,
+    script: &[u8],
+    status: Status,
+    replies: &[u8],
+) -> bool {
+    match run(alloc, disk, script) {
+        Some(left) => left.is(status, replies),
+        None => false,
+    }
+}
+
+// Answers lines, which stand behind one another with an LF between.
+fn answer_lines(
+    alloc: Global,
+    ops: &Ops,
+    session: &mut Session<MemDisk>,
+    lines: &str,
+    out: &mut MemSink,
+) {
+    for line in lines.split('\n') {
+        let _ = session.line(alloc, ops, line.as_bytes(), out);
+    }
+}
+
+// What a session with these operations leaves that answers lines.
+fn answered_with(
+    alloc: Global,
+    ops: &Ops,
     disk: MemDisk,
     lines: &str,
     sink_fails: Option<u64>,
-) -> Result<Left, Fail> {
-    let ops = Ops::shipped(alloc)?;
-    let mut out = MemSink::new(alloc, sink_fails);
-    let Ok(session) = Session::start(alloc, &ops, disk) else {
-        return Err("the session didn't start".into());
-    };
-    let mut session = session;
-    for line in lines.split('\n') {
-        let _ = session.line(alloc, &ops, line.as_bytes(), &mut out);
+) -> Option<Left> {
+    match Session::start(alloc, ops, disk) {
+        Ok(session) => {
+            let mut session = session;
+            let mut out = MemSink::new(alloc, sink_fails);
+            answer_lines(alloc, ops, &mut session, lines, &mut out);
+            let (status, disk) = session.finish();
+            Some(Left {
+                status,
+                disk,
+                refused: 0,
+                out,
+            })
+        }
+        Err(_) => None,
     }
-    let (status, disk) = session.finish();
-    let replies = out.text().to_vec(alloc)?;
-    Ok(Left {
-        status,
-        disk,
-        refused: 0,
-        replies,
-    })
+}
+
+/// What a session over an empty disk leaves that answers lines, with the shipped operations. The sink's
+/// n-th call fails where n is given.
+pub fn answered(alloc: Global, lines: &str, sink_fails: Option<u64>) -> Option<Left> {
+    match Ops::shipped(alloc) {
+        Ok(ops) => answered_with(alloc, &ops, MemDisk::new(alloc), lines, sink_fails),
+        Err(_) => None,
+    }
+}
+
+/// Whether a session over an empty disk answers lines so, and has no fault.
+pub fn answers(alloc: Global, lines: &str, replies: &str) -> bool {
+    match answered(alloc, lines, None) {
+        Some(left) => left.is(Status::Done, replies.as_bytes()),
+        None => false,
+    }
 }

@@ -46,6 +46,12 @@ command_of (command ∷ folder ∷ []) = plain_run (string_bytes command)
 command_of (command ∷ folder ∷ option ∷ number ∷ []) = stopped_run (string_bytes command) (string_bytes option) (string_bytes number)
 command_of other = None
 
+-- the run that the words behind its folder ask for, if they do: none of them, or the option and a number
+abbrev pub run_of : List (String Global) → Option Command
+run_of [] = Some (record { stop_after = None })
+run_of (option ∷ number ∷ []) = if bytes_eq (string_bytes option) (codes "--stop-after") then run_with (number_of (string_bytes number)) else None
+run_of other = None
+
 abbrev pub are_run : List (String Global) → Bool
 are_run words = is_some (command_of words)
 

@@ -11,9 +11,27 @@ use crate::status::{Status, status_of_stop};
 use sg_base::{Failed, Sink};
 use sg_disk::Disk;
 use sg_journal::{OpenRefused, Store, Unopened};
+use sg_model::Stop;
 use sg_ops::Ops;
 use sg_words::write_answer;
 use std::alloc::Global;
+
+// Whether an answer was written, for a store that has stopped so or hasn't: where the sink failed before that, it is noted.
+fn heard(written: Result<(), Failed>, stop: Option<Stop>, unheard: &mut bool) -> Result<(), Failed>
+    ensures written { result ≡ written }
+    ensures heard { OnOk result (unheard.new ≡ unheard.old) }
+    ensures unheard { OnErr result (unheard.new ≡ (is_none stop || unheard.old)) }
+{
+    match written {
+        Ok(()) => Ok(()),
+        Err(Failed) => {
+            if stop.is_none() {
+                *unheard = true;
+            }
+            Err(Failed)
+        }
+    }
+}
 
 /// A store that answers the lines of a script, one at a time.
 pub struct Session<D: Disk> {
@@ -115,14 +133,6 @@ impl<D: Disk> Session<D> {
         );
         let written = write_answer(&answer, reply, out);
         drop(answer);
-        match written {
-            Ok(()) => Ok(()),
-            Err(Failed) => {
-                if self.store.stop().is_none() {
-                    self.unheard = true;
-                }
-                Err(Failed)
-            }
-        }
+        heard(written, self.store.stop(), &mut self.unheard)
     }
 }

@@ -1,6 +1,6 @@
 ghost use Rattle.std.specs.Prelude.{◌≡◌};
 ghost use Rattle.sg_words.specs.Parse.{number_of};
-ghost use Rattle.sg_top.specs.Top.{command_of, are_run, run_with};
+ghost use Rattle.sg_top.specs.Top.{command_of, are_run, run_of, run_with};
 
 use sg_words::parse_number;
 
@@ -23,17 +23,26 @@ fn run_stopped_after(number: &str) -> Option<Command>
     }
 }
 
+// The run that the words behind its folder ask for: none of them, or an option and a number.
+fn run_of(rest: &[String]) -> Option<Command>
+    ensures { result ≡ run_of rest.now }
+{
+    match rest {
+        [] => Some(Command { stop_after: None }),
+        [option, number] if option.as_str() == "--stop-after" => {
+            run_stopped_after(number.as_str())
+        }
+        _ => None,
+    }
+}
+
 /// Reads the words: `run` and a folder, or behind these `--stop-after` and a number of 1 to 20
 /// digits below 2^64. Other words ask for nothing.
 pub fn command_of(words: &[String]) -> Option<Command>
     ensures { result ≡ command_of words.now }
 {
     match words {
-        [command, _] if command.as_str() == "run" => Some(Command { stop_after: None }),
-        [command, _, option, number]
-            if command.as_str() == "run" && option.as_str() == "--stop-after" => {
-            run_stopped_after(number.as_str())
-        }
+        [command, _, rest @ ..] if command.as_str() == "run" => run_of(rest),
         _ => None,
     }
 }
