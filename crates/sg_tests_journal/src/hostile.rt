@@ -1,9 +1,7 @@
-//! Hostile lines, each answered by the refusal that it meets first.
-use crate::Store;
-use sg_base::MemSink;
+use crate::trial::{is_answered, open};
 use sg_disk::MemDisk;
+use sg_journal::Store;
 use sg_ops::Ops;
-use sg_words::write_answer;
 use std::alloc::{AllocError, Global};
 use std::test::Fail;
 
@@ -87,23 +85,7 @@ fn line_of(alloc: Global, front: &[u8], count: usize, back: &[u8]) -> Result<Vec
     Ok(line)
 }
 
-// Whether the store answers the line with this reply.
-fn is_answered(
-    alloc: Global,
-    ops: &Ops,
-    store: &mut Store<MemDisk>,
-    line: &[u8],
-    reply: &[u8],
-) -> bool {
-    let mut values = [0; 32_768];
-    let mut words = [0; 32_768];
-    let mut into = [0; 8_192];
-    let answer = store.answer(alloc, ops, line, &mut values, &mut words, &mut into);
-    let mut out = MemSink::new(alloc, None);
-    write_answer(&answer, &into, &mut out).is_ok() && out.text() == reply
-}
-
-// The first row that is answered otherwise.
+// The first row that this store answers otherwise.
 fn first_wrong(
     alloc: Global,
     ops: &Ops,
@@ -118,20 +100,20 @@ fn first_wrong(
     Ok(None)
 }
 
-fn open(alloc: Global, ops: &Ops) -> Result<Store<MemDisk>, Fail> {
-    match Store::open(alloc, ops, MemDisk::new(alloc)) {
-        Ok(store) => Ok(store),
-        Err(_) => Err("the store doesn't open")?,
-    }
+// The same of a store over an empty disk.
+fn first_wrong_in_a_store(alloc: Global) -> Result<Option<usize>, Fail> {
+    let ops = Ops::shipped(alloc)?;
+    let Some(store) = open(alloc, &ops, MemDisk::new(alloc)) else {
+        return Err("the store doesn't open".into());
+    };
+    let mut store = store;
+    let wrong = first_wrong(alloc, &ops, &mut store);
+    drop(store.close());
+    Ok(wrong?)
 }
 
 #[test]
 fn each_hostile_line_has_its_refusal(rt: HostRuntime) -> Result<(), Fail> {
-    let alloc = rt.alloc();
-    let ops = Ops::shipped(alloc)?;
-    let mut store = open(alloc, &ops)?;
-    let wrong = first_wrong(alloc, &ops, &mut store);
-    drop(store.close());
-    assert_eq!(rt; wrong?, None);
+    assert_eq!(rt; first_wrong_in_a_store(rt.alloc())?, None);
     Ok(())
 }
