@@ -19,6 +19,7 @@ use Rattle.sg_journal.proofs.Steps.{op_none}
 use Rattle.sg_journal.proofs.Changes.{op_logged}
 use Rattle.sg_journal.proofs.Performing.{not_granted, locked, unchanged, has_read, full_or, starved, op_fault}
 use Rattle.sg_journal.proofs.Along.{goes_along}
+use Rattle.sg_journal.proofs.Heeding.{later_none, grows_none, heeds_none}
 use Rattle.sg_journal.proofs.store.Store.perform.Goals as goal
 
 pub returns-in_default-clause-goes : goal.returns-in_default-clause-goes
@@ -135,3 +136,75 @@ returns-in-Err-keep-clause-goes g c was x shows =
 
 pub change-requires-clause-live : goal.change-requires-clause-live
 change-requires-clause-live g c = named_numbered (core_of c.args.self.now).live c.args.name (opened_of c.in-Some.live) (sym c.in-Some.ensures)
+
+pub returns-in_default-clause-grown : goal.returns-in_default-clause-grown
+returns-in_default-clause-grown g c = grows_none c.args.self.now.log _ (g.D.Disk.view c.args.self.now.disk) _ refl refl
+
+pub returns-in_default-clause-later : goal.returns-in_default-clause-later
+returns-in_default-clause-later g c = later_none (g.D.Disk.view c.args.self.now.disk) _ refl
+
+pub returns-in_default-clause-heeded : goal.returns-in_default-clause-heeded
+returns-in_default-clause-heeded g c = heeds_none c.args.self.now.stop _ (g.D.Disk.view c.args.self.now.disk) _ refl refl
+
+pub returns-in-Err-clause-grown : goal.returns-in-Err-clause-grown
+returns-in-Err-clause-grown g c = grows_none c.args.self.now.log _ (g.D.Disk.view c.args.self.now.disk) _ refl refl
+
+pub returns-in-Err-clause-later : goal.returns-in-Err-clause-later
+returns-in-Err-clause-later g c = later_none (g.D.Disk.view c.args.self.now.disk) _ refl
+
+pub returns-in-Err-clause-heeded : goal.returns-in-Err-clause-heeded
+returns-in-Err-clause-heeded g c = heeds_none c.args.self.now.stop _ (g.D.Disk.view c.args.self.now.disk) _ refl refl
+
+pub returns-in-Ok-Ok-clause-grown : goal.returns-in-Ok-Ok-clause-grown
+returns-in-Ok-Ok-clause-grown g c = grows_none c.args.self.now.log _ (g.D.Disk.view c.args.self.now.disk) _ refl refl
+
+pub returns-in-Ok-Ok-clause-later : goal.returns-in-Ok-Ok-clause-later
+returns-in-Ok-Ok-clause-later g c = later_none (g.D.Disk.view c.args.self.now.disk) _ refl
+
+pub returns-in-Ok-Ok-clause-heeded : goal.returns-in-Ok-Ok-clause-heeded
+returns-in-Ok-Ok-clause-heeded g c = heeds_none c.args.self.now.stop _ (g.D.Disk.view c.args.self.now.disk) _ refl refl
+
+pub returns-in-Ok-Err-clause-grown : goal.returns-in-Ok-Err-clause-grown
+returns-in-Ok-Err-clause-grown g c = grows_none c.args.self.now.log _ (g.D.Disk.view c.args.self.now.disk) _ refl refl
+
+pub returns-in-Ok-Err-clause-later : goal.returns-in-Ok-Err-clause-later
+returns-in-Ok-Err-clause-later g c = later_none (g.D.Disk.view c.args.self.now.disk) _ refl
+
+pub returns-in-Ok-Err-clause-heeded : goal.returns-in-Ok-Err-clause-heeded
+returns-in-Ok-Err-clause-heeded g c = heeds_none c.args.self.now.stop _ (g.D.Disk.view c.args.self.now.disk) _ refl refl
+
+pub returns-in-Err-apply-clause-grown : goal.returns-in-Err-apply-clause-grown
+returns-in-Err-apply-clause-grown g c = grows_none c.args.self.now.log _ (g.D.Disk.view c.args.self.now.disk) _ refl refl
+
+pub returns-in-Err-apply-clause-later : goal.returns-in-Err-apply-clause-later
+returns-in-Err-apply-clause-later g c = later_none (g.D.Disk.view c.args.self.now.disk) _ refl
+
+pub returns-in-Err-apply-clause-heeded : goal.returns-in-Err-apply-clause-heeded
+returns-in-Err-apply-clause-heeded g c = heeds_none c.args.self.now.stop _ (g.D.Disk.view c.args.self.now.disk) _ refl refl
+
+pub returns-then-tail-gt-NEW_WORK_END-clause-grown : goal.returns-then-tail-gt-NEW_WORK_END-clause-grown
+returns-then-tail-gt-NEW_WORK_END-clause-grown g c = grows_none c.args.self.now.log _ (g.D.Disk.view c.args.self.now.disk) _ refl refl
+
+pub returns-then-tail-gt-NEW_WORK_END-clause-later : goal.returns-then-tail-gt-NEW_WORK_END-clause-later
+returns-then-tail-gt-NEW_WORK_END-clause-later g c = later_none (g.D.Disk.view c.args.self.now.disk) _ refl
+
+pub returns-then-tail-gt-NEW_WORK_END-clause-heeded : goal.returns-then-tail-gt-NEW_WORK_END-clause-heeded
+returns-then-tail-gt-NEW_WORK_END-clause-heeded g c = heeds_none c.args.self.now.stop _ (g.D.Disk.view c.args.self.now.disk) _ refl refl
+
+pub returns-in-Ok-Err-change-clause-grown : goal.returns-in-Ok-Err-change-clause-grown
+returns-in-Ok-Err-change-clause-grown g c = grows_none c.args.self.now.log _ (g.D.Disk.view c.args.self.now.disk) _ refl refl
+
+pub returns-in-Ok-Err-change-clause-later : goal.returns-in-Ok-Err-change-clause-later
+returns-in-Ok-Err-change-clause-later g c = later_none (g.D.Disk.view c.args.self.now.disk) _ refl
+
+pub returns-in-Ok-Err-change-clause-heeded : goal.returns-in-Ok-Err-change-clause-heeded
+returns-in-Ok-Err-change-clause-heeded g c = heeds_none c.args.self.now.stop _ (g.D.Disk.view c.args.self.now.disk) _ refl refl
+
+pub returns-in-Err-change-clause-grown : goal.returns-in-Err-change-clause-grown
+returns-in-Err-change-clause-grown g c = grows_none c.args.self.now.log _ (g.D.Disk.view c.args.self.now.disk) _ refl refl
+
+pub returns-in-Err-change-clause-later : goal.returns-in-Err-change-clause-later
+returns-in-Err-change-clause-later g c = later_none (g.D.Disk.view c.args.self.now.disk) _ refl
+
+pub returns-in-Err-change-clause-heeded : goal.returns-in-Err-change-clause-heeded
+returns-in-Err-change-clause-heeded g c = heeds_none c.args.self.now.stop _ (g.D.Disk.view c.args.self.now.disk) _ refl refl
