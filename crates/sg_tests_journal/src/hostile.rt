@@ -5,84 +5,97 @@ use sg_ops::Ops;
 use std::alloc::{AllocError, Global};
 use std::test::Fail;
 
-// The front of a line, how many bytes `k` follow it, what follows these, and the reply.
-type Row = (&'static [u8], usize, &'static [u8], &'static [u8]);
+const SYNTAX: &str = "error syntax\n";
 
-const SYNTAX: &[u8] = b"error syntax\n";
+const RANGE: &str = "error out-of-range\n";
 
-const RANGE: &[u8] = b"error out-of-range\n";
+const LONG: &str = "error too-long\n";
 
-const LONG: &[u8] = b"error too-long\n";
+const DECLINED: &str = "error declined\n";
 
-const DECLINED: &[u8] = b"error declined\n";
-
-// One store's lines, one after another.
-const ROWS: [Row; 45] = [
-    (b"t begin", 0, b"", b"ok\n"),
-    (b"t make array a 8", 0, b"", b"ok\n"),
-    (b"t make table d", 0, b"", b"ok\n"),
-    (b"t make blob b", 0, b"", b"ok\n"),
+// One store's lines, one after another: the front of a line, how many letters `k` follow it, what follows these, and
+// the reply.
+const ROWS: [[&str; 4]; 45] = [
+    ["t begin", "0", "", "ok\n"],
+    ["t make array a 8", "0", "", "ok\n"],
+    ["t make table d", "0", "", "ok\n"],
+    ["t make blob b", "0", "", "ok\n"],
     // numbers at 2^64, of 20 digits and of 21
-    (b"t get a 18446744073709551615", 0, b"", RANGE),
-    (b"t get a 18446744073709551616", 0, b"", SYNTAX),
-    (b"t get a 99999999999999999999", 0, b"", SYNTAX),
-    (b"t get a 00000000000000000000", 0, b"", RANGE),
-    (b"t get a 000000000000000000000", 0, b"", SYNTAX),
-    (b"t make array z 0", 0, b"", RANGE),
-    (b"t make array z 257", 0, b"", RANGE),
-    (b"t make array z 18446744073709551615", 0, b"", RANGE),
-    (b"t make array z 18446744073709551616", 0, b"", SYNTAX),
+    ["t get a 18446744073709551615", "0", "", RANGE],
+    ["t get a 18446744073709551616", "0", "", SYNTAX],
+    ["t get a 99999999999999999999", "0", "", SYNTAX],
+    ["t get a 00000000000000000000", "0", "", RANGE],
+    ["t get a 000000000000000000000", "0", "", SYNTAX],
+    ["t make array z 0", "0", "", RANGE],
+    ["t make array z 257", "0", "", RANGE],
+    ["t make array z 18446744073709551615", "0", "", RANGE],
+    ["t make array z 18446744073709551616", "0", "", SYNTAX],
     // words in digits
-    (b"t push a x:", 0, b"", DECLINED),
-    (b"t push a x:0", 0, b"", SYNTAX),
-    (b"t push a x:0g", 0, b"", SYNTAX),
-    (b"t push a x:00112233445566", 0, b"", DECLINED),
-    (b"t push a x:0011223344556677", 0, b"", b"ok 0\n"),
+    ["t push a x:", "0", "", DECLINED],
+    ["t push a x:0", "0", "", SYNTAX],
+    ["t push a x:0g", "0", "", SYNTAX],
+    ["t push a x:00112233445566", "0", "", DECLINED],
+    ["t push a x:0011223344556677", "0", "", "ok 0\n"],
     // keys, values and arguments at their limits
-    (b"t put d x: v", 0, b"", RANGE),
-    (b"t find d x:", 0, b"", RANGE),
-    (b"t del d x:", 0, b"", RANGE),
-    (b"t put d ", 129, b" v", LONG),
-    (b"t find d ", 129, b"", LONG),
-    (b"t del d ", 129, b"", LONG),
-    (b"t put d ", 128, b" v", b"ok new\n"),
-    (b"t find d ", 128, b"", b"ok v\n"),
-    (b"t put d e ", 1025, b"", LONG),
-    (b"t put d e ", 1024, b"", b"ok new\n"),
-    (b"t apply a 0 1 ", 257, b"", LONG),
-    (b"t apply a 0 1 ", 256, b"", DECLINED),
-    (b"t apply a 0 65537 k", 0, b"", b"error no-operation\n"),
-    (b"t paint b 0 0 1 ", 257, b"", LONG),
+    ["t put d x: v", "0", "", RANGE],
+    ["t find d x:", "0", "", RANGE],
+    ["t del d x:", "0", "", RANGE],
+    ["t put d ", "129", " v", LONG],
+    ["t find d ", "129", "", LONG],
+    ["t del d ", "129", "", LONG],
+    ["t put d ", "128", " v", "ok new\n"],
+    ["t find d ", "128", "", "ok v\n"],
+    ["t put d e ", "1025", "", LONG],
+    ["t put d e ", "1024", "", "ok new\n"],
+    ["t apply a 0 1 ", "257", "", LONG],
+    ["t apply a 0 1 ", "256", "", DECLINED],
+    ["t apply a 0 65537 k", "0", "", "error no-operation\n"],
+    ["t paint b 0 0 1 ", "257", "", LONG],
     // places and lengths whose sum passes 2^64
-    (b"t read b 18446744073709551615 1", 0, b"", RANGE),
-    (b"t read b 18446744073709551615 8192", 0, b"", RANGE),
-    (b"t read b 0 18446744073709551615", 0, b"", LONG),
-    (b"t write b 18446744073709551615 z", 0, b"", LONG),
-    (b"t write b 1 z", 0, b"", RANGE),
-    (b"t size b 18446744073709551615", 0, b"", LONG),
-    (b"t paint b 1 18446744073709551615 1 z", 0, b"", RANGE),
-    (
-        b"t paint b 18446744073709551615 18446744073709551615 1 z",
-        0,
-        b"",
+    ["t read b 18446744073709551615 1", "0", "", RANGE],
+    ["t read b 18446744073709551615 8192", "0", "", RANGE],
+    ["t read b 0 18446744073709551615", "0", "", LONG],
+    ["t write b 18446744073709551615 z", "0", "", LONG],
+    ["t write b 1 z", "0", "", RANGE],
+    ["t size b 18446744073709551615", "0", "", LONG],
+    ["t paint b 1 18446744073709551615 1 z", "0", "", RANGE],
+    [
+        "t paint b 18446744073709551615 18446744073709551615 1 z",
+        "0",
+        "",
         RANGE,
-    ),
+    ],
     // a line of 32,768 bytes and one of 32,769
-    (b"t push a ", 32_759, b"", DECLINED),
-    (b"t push a ", 32_760, b"", SYNTAX),
+    ["t push a ", "32759", "", DECLINED],
+    ["t push a ", "32760", "", SYNTAX],
     // nothing of all this has changed more than it said
-    (b"t len a", 0, b"", b"ok 1\n"),
-    (b"t len b", 0, b"", b"ok 0\n"),
-    (b"t commit", 0, b"", b"ok\n"),
+    ["t len a", "0", "", "ok 1\n"],
+    ["t len b", "0", "", "ok 0\n"],
+    ["t commit", "0", "", "ok\n"],
 ];
 
-fn line_of(alloc: Global, front: &[u8], count: usize, back: &[u8]) -> Result<Vec<u8>, AllocError> {
-    let mut line = Vec::from_slice(alloc, front)?;
+fn line_of(alloc: Global, front: &str, count: usize, back: &str) -> Result<Vec<u8>, AllocError> {
+    let mut line = Vec::from_slice(alloc, front.as_bytes())?;
     for _ in 0..count {
         line.push(b'k')?;
     }
-    line.extend_from_slice(back)?;
+    line.extend_from_slice(back.as_bytes())?;
     Ok(line)
+}
+
+// Whether the store answers a row's line with its reply.
+fn is_so(
+    alloc: Global,
+    ops: &Ops,
+    store: &mut Store<MemDisk>,
+    row: &[&str; 4],
+) -> Result<bool, AllocError> {
+    let [front, count, back, reply] = row;
+    let Ok(count) = count.parse::<usize>() else {
+        return Ok(false);
+    };
+    let line = line_of(alloc, front, count, back)?;
+    Ok(is_answered(alloc, ops, store, &line, reply.as_bytes()))
 }
 
 // The first row that this store answers otherwise.
@@ -91,9 +104,8 @@ fn first_wrong(
     ops: &Ops,
     store: &mut Store<MemDisk>,
 ) -> Result<Option<usize>, AllocError> {
-    for (i, (front, count, back, reply)) in ROWS.iter().enumerate() {
-        let line = line_of(alloc, front, *count, back)?;
-        if !is_answered(alloc, ops, store, &line, reply) {
+    for (i, row) in ROWS.iter().enumerate() {
+        if !is_so(alloc, ops, store, row)? {
             return Ok(Some(i));
         }
     }
