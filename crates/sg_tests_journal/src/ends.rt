@@ -102,7 +102,8 @@ fn ends_of_a_log(rt: HostRuntime) {
 // for something are answered so.
 const BEHIND: &str = "t commit\nt commit\nt get a 0\nu begin\nt abort\nu list\nu\n";
 
-const STOPPED: &str = "error log-end\nerror stopped\nerror stopped\nerror stopped\nerror stopped\nerror stopped\nerror syntax\n";
+const STOPPED: &str =
+    "error log-end\nerror stopped\nerror stopped\nerror stopped\nerror stopped\nerror stopped\nerror syntax\n";
 
 // Whether that is answered so, how many bytes the log has then, and whether no call was made of its disk that writes.
 fn behind_the_last_end(alloc: Global) -> Option<(bool, usize, bool)> {

@@ -1,5 +1,5 @@
-use sg_base::MemSink;
-use sg_disk::MemDisk;
+use sg_base::{MemSink, Sink};
+use sg_disk::{Disk, MemDisk};
 use sg_journal::Store;
 use sg_ops::Ops;
 use sg_words::write_answer;
@@ -20,12 +20,12 @@ impl Left {
 }
 
 // Answers a line and writes its reply. Whether the sink took it.
-fn answer(
+fn answer<D: Disk, K: Sink>(
     alloc: Global,
     ops: &Ops,
-    store: &mut Store<MemDisk>,
+    store: &mut Store<D>,
     line: &[u8],
-    out: &mut MemSink,
+    out: &mut K,
 ) -> bool {
     let mut values = [0; 32_768];
     let mut words = [0; 32_768];
