@@ -1,9 +1,12 @@
 -- Faults of the disk are heeded.
-use Rattle.std.proofs.Common.{◌≡◌, Err, ◌∙◌}
+use Rattle.std.proofs.Common.{◌≡◌, inr, ◌≤◌, Option, Err, sym, ap, ◌∙◌, subst, arith}
 use Rattle.sg_disk.specs.Disk as disk
+use Rattle.sg_model.specs.declared.stop.Stop.{Stop}
 use Rattle.sg_log.specs.Faults.{HeedsFaults}
+use Rattle.sg_log.specs.Held.{Tail}
 use Rattle.sg_log.specs.declared.fault.LogFault.{LogFault}
 use Rattle.sg_log.specs.declared.fault.LogFault.TheVariants as faults
+use Rattle.sg_journal.specs.Goes.{Grows, Heeds}
 use Rattle.sg_journal.specs.Opening.{IsQuietFor}
 use Rattle.sg_journal.specs.Shown.{refusal_at}
 use Rattle.sg_journal.specs.declared.opening.OpenRefused as code_refused
@@ -21,3 +24,13 @@ pub quiet_later : (why : code_refused.OpenRefused) (u v w : disk.View) → v.fau
 quiet_later refusals.DiskFault u v w same h = tt
 quiet_later refusals.Memory u v w same h = h ∙ same
 quiet_later (refusals.Damaged area at) u v w same h = h ∙ same
+
+-- where no call is made of the disk the log doesn't grow, and no fault is to be heeded
+pub later_none : (v w : disk.View) → w ≡ v → v.faults ≤ w.faults
+later_none v w same = subst (λ (z : disk.View). v.faults ≤ z.faults) (sym same) (omega arith)
+
+pub grows_none : (log new : Tail) (v w : disk.View) → new ≡ log → w ≡ v → Grows log new v w
+grows_none log new v w is same = subst (λ (z : disk.View). Grows log new v z) (sym same) (subst (λ (n : Tail). Grows log n v v) (sym is) (record { kept = omega arith; grown = inr (omega arith) }))
+
+pub heeds_none : (before now : Option Stop) (v w : disk.View) → now ≡ before → w ≡ v → Heeds before now v w
+heeds_none before now v w is same = λ none. (λ stopped. none (is ∙ stopped), ap (λ (z : disk.View). z.faults) same)

@@ -18,11 +18,6 @@ mod replay;
 mod store;
 
 pub use law::fronts_stand;
-pub use live::MOST_LIVE;
+pub use live::{Live, MOST_LIVE};
 pub use opening::{OpenRefused, Unopened};
 pub use store::Store;
-
-#[cfg(test)]
-mod hostile_tests;
-#[cfg(test)]
-mod tests;

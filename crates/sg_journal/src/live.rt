@@ -80,7 +80,7 @@ impl Live {
     }
 
     /// The transaction with this name.
-    pub fn named(&self, name: Name) -> Option<Running>
+    pub(crate) fn named(&self, name: Name) -> Option<Running>
         ensures { option_map opened_of result ≡ opened_named (all_opened self.now.all.items) name }
     {
         for o in &self.all {
@@ -92,7 +92,7 @@ impl Live {
     }
 
     /// The transaction with this number.
-    pub fn numbered(&self, txn: TxnId) -> Option<Running>
+    pub(crate) fn numbered(&self, txn: TxnId) -> Option<Running>
         ensures { option_map opened_of result ≡ opened_numbered (all_opened self.now.all.items) txn.0 }
     {
         for o in &self.all {
@@ -104,7 +104,7 @@ impl Live {
     }
 
     /// Whether as many are live as may be.
-    pub fn is_full(&self) -> bool
+    pub(crate) fn is_full(&self) -> bool
         ensures { result ≡ nat_le 64 (length (all_opened self.now.all.items)) }
     {
         self.all.len() >= MOST_LIVE
@@ -123,7 +123,7 @@ impl Live {
 
     /// The transaction with this number has another last record.
     #[inline(always)]
-    pub fn set_last(&mut self, txn: TxnId, last: Lsn)
+    pub(crate) fn set_last(&mut self, txn: TxnId, last: Lsn)
         ensures last { all_opened self.new.all.items ≡ with_last txn.0 last (all_opened self.old.all.items) }
         ensures same { (u : ℕ) (name : List ℕ) (object : Option Object) → undo_of self.new.all.items u name object ≡ undo_of self.old.all.items u name object }
     {
@@ -133,7 +133,7 @@ impl Live {
     }
 
     /// The transaction with this number isn't live any more, and what it has done isn't known.
-    pub fn remove(&mut self, txn: TxnId)
+    pub(crate) fn remove(&mut self, txn: TxnId)
         ensures left { all_opened self.new.all.items ≡ opened_without txn.0 (all_opened self.old.all.items) }
         ensures others { (u : ℕ) (name : List ℕ) (object : Option Object) → undo_of self.new.all.items u name object ≡ (if u == txn.0 then object else undo_of self.old.all.items u name object) }
     {
@@ -151,7 +151,7 @@ impl Live {
     /// Does a changing operation of the transaction with this number, which is live, to the objects, as
     /// `Objects::change` does, and notes what takes it back. After `OutOfMemory` nothing has changed.
     #[inline(always)]
-    pub fn change(
+    pub(crate) fn change(
         &mut self,
         txn: TxnId,
         objects: &mut Objects,
@@ -180,7 +180,7 @@ impl Live {
 
     /// Takes back what the transaction with this number, which is live, has done to the objects. After
     /// `OutOfMemory` nothing has changed.
-    pub fn take_back(
+    pub(crate) fn take_back(
         &mut self,
         txn: TxnId,
         objects: &mut Objects,

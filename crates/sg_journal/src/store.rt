@@ -30,8 +30,6 @@ use crate::hold::hold;
 use crate::live::{Live, Running};
 use crate::opening::{OpenRefused, Unopened};
 use crate::replay::read_back;
-#[cfg(test)]
-use sg_base::Lsn;
 use sg_base::{Area, Name, OutOfMemory, TxnId};
 use sg_disk::Disk;
 use sg_locks::Locks;
@@ -110,6 +108,23 @@ impl<D: Disk> Store<D> {
                 }
             },
             Err(why) => Err(Unopened { why, disk }),
+        }
+    }
+
+    /// A store of these parts, which hasn't stopped. Its log may begin at any number, where `open` begins
+    /// one at 0, and these transactions are live already. Nothing is read or written.
+    pub fn over(disk: D, log: Log, objects: Objects, live: Live, locks: Locks) -> Store<D>
+        ensures core { core_of result ≡ record { objects = objects; live = all_opened live.all.items; undo = undo_of live.all.items; held = locks; stopped = None; log = log } }
+        ensures disk { result.disk ≡ disk }
+    {
+        Store {
+            disk,
+            log,
+            locks,
+            live,
+            objects,
+            touches: Touches::new(),
+            stop: None,
         }
     }
 
@@ -454,31 +469,5 @@ impl<D: Disk> Store<D> {
                 }
             }
         }
-    }
-}
-
-#[cfg(test)]
-impl<D: Disk + Drop> Store<D> {
-    /// A store without objects over this log, with a live transaction or none. Opening begins the log's
-    /// numbers at 0, so no test reaches their end by it.
-    pub(crate) fn over(
-        alloc: Global,
-        disk: D,
-        log: Log,
-        live: Option<(Name, TxnId, Lsn)>,
-    ) -> Result<Store<D>, OutOfMemory> {
-        let (mut all, locks) = room_for(alloc)?;
-        if let Some((name, txn, last)) = live {
-            all.add(alloc, name, txn, last);
-        }
-        Ok(Store {
-            disk,
-            log,
-            locks,
-            live: all,
-            objects: Objects::empty(alloc),
-            touches: Touches::new(),
-            stop: None,
-        })
     }
 }

@@ -11,15 +11,17 @@ use Rattle.sg_journal.proofs.replay.read_back.Goals as goal
 
 pub returns-in-Err-clause-refused : goal.returns-in-Err-clause-refused
 returns-in-Err-clause-refused g c settled =
+    let t = table_of (λ z. (goal.RecordOp-dyn g z).record_meaning z.1) (λ z. (goal.RangeOp-dyn g z).range_meaning z.1) c.args.ops.now in
     subst (λ (why : code_refused.OpenRefused). IsRefusedFor (table_of (λ z. (goal.RecordOp-dyn g z).record_meaning z.1) (λ z. (goal.RangeOp-dyn g z).range_meaning z.1) c.args.ops.now) why g.D.Disk.told (g.D.Disk.view c.args.disk.now) (g.D.Disk.view c.attach.new.disk)) (sym c.refusal.ensures)
-    (attach_refused _ g.D.Disk.told (g.D.Disk.view c.args.disk.now) (g.D.Disk.view c.attach.new.disk) c.in-Err.fault c.in-Err.ensures.faults)
+    (attach_refused t g.D.Disk.told (g.D.Disk.view c.args.disk.now) (g.D.Disk.view c.attach.new.disk) c.in-Err.fault c.in-Err.ensures.faults)
 
 pub returns-in-Err-find_all-clause-refused : goal.returns-in-Err-find_all-clause-refused
 returns-in-Err-find_all-clause-refused g c settled =
+    let t = table_of (λ z. (goal.RecordOp-dyn g z).record_meaning z.1) (λ z. (goal.RangeOp-dyn g z).range_meaning z.1) c.args.ops.now in
     let v = g.D.Disk.view c.args.disk.now in
     let u = g.D.Disk.view c.attach.new.disk in
     let reads : OnlyReads g.D.Disk.told v u = record { unchanged = c.attach.ensures.unchanged; any_moment = c.attach.ensures.any_moment; handed = c.attach.ensures.handed; later = c.attach.ensures.later } in
-    not_found _ g.D.Disk.told v u (g.D.Disk.view c.find_all.new.disk) c.in-Ok.log c.in-Err-find_all.why (ap (λ (t : Tail). t.area) c.in-Ok.ensures.log) reads (λ told. c.in-Ok.ensures.holds told (settled told)) c.in-Err-find_all.ensures.refused
+    not_found t g.D.Disk.told v u (g.D.Disk.view c.find_all.new.disk) c.in-Ok.log c.in-Err-find_all.why (ap (λ (t : Tail). t.area) c.in-Ok.ensures.log) reads (λ told. c.in-Ok.ensures.holds told (settled told)) c.in-Err-find_all.ensures.refused
 
 pub returns-in-Err-find_all-clause-reads : goal.returns-in-Err-find_all-clause-reads
 returns-in-Err-find_all-clause-reads g c =
@@ -30,10 +32,11 @@ returns-in-Err-find_all-clause-reads g c =
 
 pub returns-in-Ok-replay_all-clause-found : goal.returns-in-Ok-replay_all-clause-found
 returns-in-Ok-replay_all-clause-found g c told settled =
+    let t = table_of (λ z. (goal.RecordOp-dyn g z).record_meaning z.1) (λ z. (goal.RangeOp-dyn g z).range_meaning z.1) c.args.ops.now in
     let v = g.D.Disk.view c.args.disk.now in
     let u = g.D.Disk.view c.attach.new.disk in
     let reads : OnlyReads g.D.Disk.told v u = record { unchanged = c.attach.ensures.unchanged; any_moment = c.attach.ensures.any_moment; handed = c.attach.ensures.handed; later = c.attach.ensures.later } in
-    read_found _ g.D.Disk.told v u c.in-Ok.log (ap (λ (t : Tail). t.area) c.in-Ok.ensures.log) reads told (c.in-Ok.ensures.holds told settled) (g.D.Disk.view c.find_all.new.disk) c.in-Ok-find_all.found c.in-Ok-replay_all.objects c.find_all.ensures.reads
+    read_found t g.D.Disk.told v u c.in-Ok.log (ap (λ (t : Tail). t.area) c.in-Ok.ensures.log) reads told (c.in-Ok.ensures.holds told settled) (g.D.Disk.view c.find_all.new.disk) c.in-Ok-find_all.found c.in-Ok-replay_all.objects c.find_all.ensures.reads
     c.in-Ok-find_all.ensures.found c.in-Ok-replay_all.ensures.done
 
 pub returns-in-Ok-replay_all-clause-reads : goal.returns-in-Ok-replay_all-clause-reads
@@ -45,10 +48,11 @@ returns-in-Ok-replay_all-clause-reads g c =
 
 pub returns-clause-refused : goal.returns-clause-refused
 returns-clause-refused g c settled =
+    let t = table_of (λ z. (goal.RecordOp-dyn g z).record_meaning z.1) (λ z. (goal.RangeOp-dyn g z).range_meaning z.1) c.args.ops.now in
     let v = g.D.Disk.view c.args.disk.now in
     let u = g.D.Disk.view c.attach.new.disk in
     let reads : OnlyReads g.D.Disk.told v u = record { unchanged = c.attach.ensures.unchanged; any_moment = c.attach.ensures.any_moment; handed = c.attach.ensures.handed; later = c.attach.ensures.later } in
-    not_replayed _ g.D.Disk.told v u (g.D.Disk.view c.find_all.new.disk) c.in-Ok.log c.in-Err-replay_all.why c.in-Ok-find_all.found (ap (λ (t : Tail). t.area) c.in-Ok.ensures.log) reads (λ told. c.in-Ok.ensures.holds told (settled told))
+    not_replayed t g.D.Disk.told v u (g.D.Disk.view c.find_all.new.disk) c.in-Ok.log c.in-Err-replay_all.why c.in-Ok-find_all.found (ap (λ (t : Tail). t.area) c.in-Ok.ensures.log) reads (λ told. c.in-Ok.ensures.holds told (settled told))
     c.in-Ok-find_all.ensures.found c.in-Err-replay_all.ensures.refused
 
 pub returns-clause-reads : goal.returns-clause-reads

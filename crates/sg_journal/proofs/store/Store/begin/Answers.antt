@@ -11,6 +11,7 @@ use Rattle.sg_journal.proofs.Tails.{begin-place, ends_within, append_risen}
 use Rattle.sg_journal.proofs.Steps.{begin_live, begin_many, begin_end}
 use Rattle.sg_journal.proofs.Changes.{begun, begin_breaks}
 use Rattle.sg_journal.proofs.Along.{goes_along}
+use Rattle.sg_journal.proofs.Heeding.{later_none, grows_none, heeds_none}
 use Rattle.sg_journal.proofs.store.Store.begin.Goals as goal
 
 pub returns-in-Some-clause-goes : goal.returns-in-Some-clause-goes
@@ -45,3 +46,30 @@ returns-in-Err-clause-goes g c t into was x shows =
     let fields : IsRecord (BeginRecord n 0) = record { transaction = omega (arith, c.place.ensures.low); previous = omega arith; body = omega arith } in
     let risen = append_risen (end_of log (BeginRecord n 0)) (g.D.Disk.view c.args.self.now.disk) (g.D.Disk.view c.append.new.disk) c.in-Err.field-0 c.in-Err.ensures.faults (ends_within log (BeginRecord n 0) fields low) in
     begin_breaks t g.D.Disk.told was (g.D.Disk.view c.args.self.now.disk) (core_of c.args.self.now) x shows c.requires c.args.name _ _ refl (sym c.in_default.ensures) few low risen c.append.ensures.any_moment
+
+pub returns-in-Some-clause-grown : goal.returns-in-Some-clause-grown
+returns-in-Some-clause-grown g c = grows_none c.args.self.now.log _ (g.D.Disk.view c.args.self.now.disk) _ refl refl
+
+pub returns-in-Some-clause-later : goal.returns-in-Some-clause-later
+returns-in-Some-clause-later g c = later_none (g.D.Disk.view c.args.self.now.disk) _ refl
+
+pub returns-in-Some-clause-heeded : goal.returns-in-Some-clause-heeded
+returns-in-Some-clause-heeded g c = heeds_none c.args.self.now.stop _ (g.D.Disk.view c.args.self.now.disk) _ refl refl
+
+pub returns-then-is_full-clause-grown : goal.returns-then-is_full-clause-grown
+returns-then-is_full-clause-grown g c = grows_none c.args.self.now.log _ (g.D.Disk.view c.args.self.now.disk) _ refl refl
+
+pub returns-then-is_full-clause-later : goal.returns-then-is_full-clause-later
+returns-then-is_full-clause-later g c = later_none (g.D.Disk.view c.args.self.now.disk) _ refl
+
+pub returns-then-is_full-clause-heeded : goal.returns-then-is_full-clause-heeded
+returns-then-is_full-clause-heeded g c = heeds_none c.args.self.now.stop _ (g.D.Disk.view c.args.self.now.disk) _ refl refl
+
+pub returns-then-tail-gt-NEW_WORK_END-clause-grown : goal.returns-then-tail-gt-NEW_WORK_END-clause-grown
+returns-then-tail-gt-NEW_WORK_END-clause-grown g c = grows_none c.args.self.now.log _ (g.D.Disk.view c.args.self.now.disk) _ refl refl
+
+pub returns-then-tail-gt-NEW_WORK_END-clause-later : goal.returns-then-tail-gt-NEW_WORK_END-clause-later
+returns-then-tail-gt-NEW_WORK_END-clause-later g c = later_none (g.D.Disk.view c.args.self.now.disk) _ refl
+
+pub returns-then-tail-gt-NEW_WORK_END-clause-heeded : goal.returns-then-tail-gt-NEW_WORK_END-clause-heeded
+returns-then-tail-gt-NEW_WORK_END-clause-heeded g c = heeds_none c.args.self.now.stop _ (g.D.Disk.view c.args.self.now.disk) _ refl refl

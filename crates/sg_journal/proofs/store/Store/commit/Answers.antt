@@ -12,6 +12,7 @@ use Rattle.sg_journal.proofs.Steps.{commit_none}
 use Rattle.sg_journal.proofs.Changes.{commit_end, commits}
 use Rattle.sg_journal.proofs.Failing.{commit_fault, force_fault}
 use Rattle.sg_journal.proofs.Along.{goes_along}
+use Rattle.sg_journal.proofs.Heeding.{later_none, grows_none, heeds_none}
 use Rattle.sg_journal.proofs.store.Store.commit.Goals as goal
 
 pub returns-in_default-clause-goes : goal.returns-in_default-clause-goes
@@ -48,3 +49,12 @@ returns-clause-goes g c t into was x shows =
     (commits t g.D.Disk.told was (g.D.Disk.view c.args.self.now.disk) k x shows c.requires c.args.name (opened_of l) (sym c.in-Some.ensures) (undo_of c.forget.new.self.live.all.items) (g.D.Disk.view c.append.new.disk) (g.D.Disk.view c.force.new.disk) c.append.new.self c.force.new.self
     f.others c.in-Ok.ensures.log c.in-Ok.ensures.tail c.in-Ok-force.ensures.log c.in-Ok.ensures.holds c.append.ensures.any_moment c.in-Ok.ensures.elsewhere c.in-Ok-force.ensures.holds c.force.ensures.any_moment c.in-Ok-force.ensures.elsewhere
     (λ past. absurd (omega (arith, past, c.place.ensures.place, commit-length l.txn.0 l.last, c.if-place-gt-LOG_END.false))))
+
+pub returns-in_default-clause-grown : goal.returns-in_default-clause-grown
+returns-in_default-clause-grown g c = grows_none c.args.self.now.log _ (g.D.Disk.view c.args.self.now.disk) _ refl refl
+
+pub returns-in_default-clause-later : goal.returns-in_default-clause-later
+returns-in_default-clause-later g c = later_none (g.D.Disk.view c.args.self.now.disk) _ refl
+
+pub returns-in_default-clause-heeded : goal.returns-in_default-clause-heeded
+returns-in_default-clause-heeded g c = heeds_none c.args.self.now.stop _ (g.D.Disk.view c.args.self.now.disk) _ refl refl

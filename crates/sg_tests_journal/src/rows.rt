@@ -1,51 +1,8 @@
-//! Scripts through the store's answers: worked rows, limits, reopening, and where a log ends.
-ghost use Rattle.std.specs.Prelude.{◌≤◌};
-ghost use Rattle.sg_log.specs.Frames.{LOG_END};
-
-use crate::{MOST_LIVE, Store};
-use sg_base::{Area, Lsn, MemSink, Name, TxnId};
+use crate::trial::run;
 use sg_disk::MemDisk;
-use sg_log::Log;
-use sg_ops::Ops;
-use sg_words::write_answer;
-use std::alloc::Global;
+use sg_journal::MOST_LIVE;
+use std::alloc::{AllocError, Global};
 use std::test::Fail;
-
-// Answers the lines of a script, and writes the replies.
-fn answer_all(
-    alloc: Global,
-    store: &mut Store<MemDisk>,
-    script: &[u8],
-    out: &mut MemSink,
-) -> Result<(), Fail> {
-    let ops = Ops::shipped(alloc)?;
-    let mut values = [0; 32_768];
-    let mut words = [0; 32_768];
-    let mut into = [0; 8_192];
-    for line in script.split(|b| *b == b'\n') {
-        let answer = store.answer(alloc, &ops, line, &mut values, &mut words, &mut into);
-        write_answer(&answer, &into, out)?;
-    }
-    Ok(())
-}
-
-fn open(alloc: Global, disk: MemDisk) -> Result<Store<MemDisk>, Fail> {
-    let ops = Ops::shipped(alloc)?;
-    match Store::open(alloc, &ops, disk) {
-        Ok(store) => Ok(store),
-        Err(_) => Err("the store doesn't open")?,
-    }
-}
-
-// Runs a script over a disk, and hands back the replies and the disk.
-fn run(alloc: Global, disk: MemDisk, script: &[u8]) -> Result<(MemSink, MemDisk), Fail> {
-    let mut store = open(alloc, disk)?;
-    let mut out = MemSink::new(alloc, None);
-    let answered = answer_all(alloc, &mut store, script, &mut out);
-    let disk = store.close();
-    answered?;
-    Ok((out, disk))
-}
 
 // An array of two items, a blob, a store with an object of each kind, and one with more of them.
 const ITEMS: &str = "t begin\nt make array a 2\nt push a aa\nt push a bb\nt commit";
@@ -160,139 +117,97 @@ const ROWS: [[&str; 5]; 10] = [
     ],
 ];
 
-#[test]
-fn rows(rt: HostRuntime) -> Result<(), Fail> {
-    let alloc = rt.alloc();
-    for [before, script, replies, look, seen] in ROWS {
-        let (_, disk) = run(alloc, MemDisk::new(alloc), before.as_bytes())?;
-        let (out, disk) = run(alloc, disk, script.as_bytes())?;
-        assert_eq!(rt; out.text(), replies.as_bytes());
-        let (out, _) = run(alloc, disk, look.as_bytes())?;
-        assert_eq!(rt; out.text(), seen.as_bytes());
+// Whether a row is answered as it says, if each script ran.
+fn is_so(alloc: Global, row: &[&str; 5]) -> Option<bool> {
+    let [before, script, replies, look, seen] = row;
+    let first = run(alloc, MemDisk::new(alloc), before)?;
+    let second = run(alloc, first.disk, script)?;
+    let is_answered = second.is_answered(replies);
+    let third = run(alloc, second.disk, look)?;
+    Some(is_answered && third.is_answered(seen))
+}
+
+// The first row that is answered otherwise.
+fn first_wrong(alloc: Global) -> Option<usize> {
+    for (i, row) in ROWS.iter().enumerate() {
+        if is_so(alloc, row) != Some(true) {
+            return Some(i);
+        }
     }
-    Ok(())
+    None
+}
+
+#[test]
+fn scripts_and_what_they_leave(rt: HostRuntime) {
+    assert_eq!(rt; first_wrong(rt.alloc()), None);
+}
+
+// A script and its replies.
+#[derive(Drop)]
+struct Script {
+    lines: String,
+    replies: String,
+}
+
+impl Script {
+    fn new(alloc: Global, lines: &str, replies: &str) -> Result<Script, AllocError> {
+        Ok(Script {
+            lines: lines.to_string(alloc)?,
+            replies: replies.to_string(alloc)?,
+        })
+    }
+
+    fn add(&mut self, lines: &str, replies: &str) -> Result<(), AllocError> {
+        self.lines.push_str(lines)?;
+        self.replies.push_str(replies)
+    }
+
+    // Whether a store over an empty disk answers it so.
+    fn is_answered(&self, alloc: Global) -> bool {
+        match run(alloc, MemDisk::new(alloc), self.lines.as_str()) {
+            Some(left) => left.is_answered(self.replies.as_str()),
+            None => false,
+        }
+    }
 }
 
 // As many transactions as may be are live, each with a name of its own. None more begins until one has ended.
+fn live_ones(alloc: Global) -> Result<Script, Fail> {
+    let mut script = Script::new(alloc, "t begin\nt make array a 1", "ok\nok\n")?;
+    for i in 1..MOST_LIVE {
+        script.add(format!(in alloc; "\nt{i} begin")?.as_str(), "ok\n")?;
+    }
+    script.add(
+        "\nu begin\nt1 begin\nt7 abort\nu begin\nt9 len a\nt commit\nt9 len a",
+        "error too-many-live\nerror live\nok\nok\nbusy t\nok\nok 0\n",
+    )?;
+    Ok(script)
+}
+
 #[test]
 fn as_many_as_may_be_live(rt: HostRuntime) -> Result<(), Fail> {
     let alloc = rt.alloc();
-    let mut script = "t begin\nt make array a 1".to_string(alloc)?;
-    let mut replies = "ok\nok\n".to_string(alloc)?;
-    for i in 1..MOST_LIVE {
-        script.push_str(format!(in alloc; "\nt{i} begin")?.as_str())?;
-        replies.push_str("ok\n")?;
-    }
-    script.push_str("\nu begin\nt1 begin\nt7 abort\nu begin\nt9 len a\nt commit\nt9 len a")?;
-    replies.push_str("error too-many-live\nerror live\nok\nok\nbusy t\nok\nok 0\n")?;
-    let (out, _) = run(alloc, MemDisk::new(alloc), script.as_bytes())?;
-    assert_eq!(rt; out.text(), replies.as_bytes());
+    assert!(rt; live_ones(alloc)?.is_answered(alloc));
     Ok(())
 }
 
 // All of an array, the array's length, and an item for each push are held: of 4,096 pairs 4,093 are items. A drop of
 // the array holds nothing new.
+fn pushes(alloc: Global) -> Result<Script, Fail> {
+    let mut script = Script::new(alloc, "t begin\nt make array a 1", "ok\nok\n")?;
+    for i in 0..4_093u32 {
+        script.add("\nt push a x", format!(in alloc; "ok {i}\n")?.as_str())?;
+    }
+    script.add(
+        "\nt push a x\nt len a\nu begin\nu len b\nu len a\nt abort\nu len a",
+        "error locks-full\nok 4093\nok\nerror locks-full\nbusy t\nok\nerror no-object\n",
+    )?;
+    Ok(script)
+}
+
 #[test]
 fn as_many_locks_as_may_be(rt: HostRuntime) -> Result<(), Fail> {
     let alloc = rt.alloc();
-    let mut script = "t begin\nt make array a 1".to_string(alloc)?;
-    let mut replies = "ok\nok\n".to_string(alloc)?;
-    for i in 0..4_093u32 {
-        script.push_str("\nt push a x")?;
-        replies.push_str(format!(in alloc; "ok {i}\n")?.as_str())?;
-    }
-    script.push_str("\nt push a x\nt len a\nu begin\nu len b\nu len a\nt abort\nu len a")?;
-    replies.push_str(
-        "error locks-full\nok 4093\nok\nerror locks-full\nbusy t\nok\nerror no-object\n",
-    )?;
-    let (out, _) = run(alloc, MemDisk::new(alloc), script.as_bytes())?;
-    assert_eq!(rt; out.text(), replies.as_bytes());
-    Ok(())
-}
-
-// No work begins where the log's tail is above this byte, and no record ends above the other.
-const NEW_WORK_END: u64 = 4_611_686_018_427_387_904;
-
-const LAST_END: u64 = 9_223_372_036_854_775_808;
-
-// Answers a script over an empty log whose first byte has the number `base`, with this transaction live.
-fn run_at(
-    alloc: Global,
-    base: Lsn,
-    live: Option<(Name, TxnId, Lsn)>,
-    script: &str,
-) -> Result<(MemSink, MemDisk), Fail>
-    requires { base ≤ LOG_END }
-{
-    let mut disk = MemDisk::new(alloc);
-    let log = Log::attach(alloc, &mut disk, Area::Log0, base)?;
-    let mut store = Store::over(alloc, disk, log, live)?;
-    let mut out = MemSink::new(alloc, None);
-    let answered = answer_all(alloc, &mut store, script.as_bytes(), &mut out);
-    let disk = store.close();
-    answered?;
-    Ok((out, disk))
-}
-
-// The transaction `t`, with the number 7 and its last record at byte 9.
-fn live_transaction() -> Option<(Name, TxnId, Lsn)> {
-    Name::new(b"t").map(|name| (name, TxnId(7), 9))
-}
-
-// Where a log begins, whether t is live, a script, and its replies. A begin at the end of new work is done. It makes the
-// log longer, so that what changes an object is refused, and no more than that; a commit is done up to the last byte.
-const ENDS: [(u64, bool, &str, &str); 4] = [
-    (
-        NEW_WORK_END,
-        false,
-        "t begin\nt make array a 3\nt get a 0\nt list\nt commit\nu begin",
-        "ok\nerror log-end\nerror no-object\nok 0\nok\nerror log-end\n",
-    ),
-    (
-        NEW_WORK_END + 1,
-        false,
-        "t begin\nt begin\nt commit",
-        "error log-end\nerror log-end\nerror no-transaction\n",
-    ),
-    (
-        LAST_END - 26,
-        true,
-        "t commit\nu begin",
-        "ok\nerror log-end\n",
-    ),
-    (
-        LAST_END - 25,
-        true,
-        "t abort\nt commit\nt commit",
-        "ok\nerror no-transaction\nerror no-transaction\n",
-    ),
-];
-
-#[test]
-fn ends_of_a_log(rt: HostRuntime) -> Result<(), Fail> {
-    let alloc = rt.alloc();
-    for (base, is_live, script, replies) in ENDS {
-        if base <= LAST_END {
-            let live = if is_live { live_transaction() } else { None };
-            let (out, _) = run_at(alloc, base, live, script)?;
-            assert_eq!(rt; out.text(), replies.as_bytes());
-        }
-    }
-    Ok(())
-}
-
-// A commit whose record would end behind the last byte stops the store: nothing is written, and later lines that ask
-// for something are answered so.
-#[test]
-fn a_commit_behind_the_last_end(rt: HostRuntime) -> Result<(), Fail> {
-    let alloc = rt.alloc();
-    let script = "t commit\nt commit\nt get a 0\nu begin\nt abort\nu list\nu\n";
-    let (out, disk) = run_at(alloc, LAST_END - 25, live_transaction(), script)?;
-    assert_eq!(rt;
-        out.text(),
-        b"error log-end\nerror stopped\nerror stopped\nerror stopped\nerror stopped\nerror stopped\nerror syntax\n".as_slice()
-    );
-    assert_eq!(rt; disk.log0(), [].as_slice());
-    assert!(rt; disk.calls_made().is_empty());
+    assert!(rt; pushes(alloc)?.is_answered(alloc));
     Ok(())
 }
