@@ -473,15 +473,15 @@ impl Array {
     fn undo_of_item(&self, alloc: Global, index: u64) -> Result<Option<Undo>, OutOfMemory>
         ensures { IfOk result (λ undo. shown_undo_of undo ≡ note_item index (slice_get self.now.row.items index)) }
     {
-        match self.get(index) {
-            None => Ok(None),
-            Some(item) => match Vec::from_slice(alloc, item) {
-                Ok(item) => Ok(Some(Undo::Set {
-                    index: index as usize,
-                    item,
-                })),
-                Err(_) => Err(OutOfMemory),
-            },
+        let Some(item) = self.get(index) else {
+            return Ok(None);
+        };
+        match Vec::from_slice(alloc, item) {
+            Ok(item) => Ok(Some(Undo::Set {
+                index: index as usize,
+                item,
+            })),
+            Err(_) => Err(OutOfMemory),
         }
     }
 

@@ -272,25 +272,12 @@ impl Blob {
         ensures { shown_touches into.new ≡ shown_touches into.old ++ map (touch_of (name_of op.now)) (blob_touches (verb_of op.now)) }
     {
         match *op {
-            Op::Len { name } => into.push(only_read(Resource::Body(name))),
-            Op::Write {
-                name,
-                at: _,
-                bytes: _,
-            } => into.push(written(Resource::Body(name))),
-            Op::Read {
-                name,
-                at: _,
-                count: _,
-            } => into.push(only_read(Resource::Body(name))),
-            Op::Size { name, length: _ } => into.push(written(Resource::Body(name))),
-            Op::Paint {
-                name,
-                at: _,
-                count: _,
-                code: _,
-                arg: _,
-            } => into.push(written(Resource::Body(name))),
+            Op::Len { name } | Op::Read { name, .. } => {
+                into.push(only_read(Resource::Body(name)));
+            }
+            Op::Write { name, .. } | Op::Size { name, .. } | Op::Paint { name, .. } => {
+                into.push(written(Resource::Body(name)));
+            }
             _ => {}
         }
     }

@@ -73,7 +73,10 @@ impl Notes {
         ensures same { OnErr result ((other : List ℕ) (object : Option plain.Object) → undo_noted self.new other object ≡ undo_noted self.old other object) }
     {
         match self.map.insert(name, past) {
-            Ok(_) => Ok(()),
+            Ok(old) => {
+                drop(old);
+                Ok(())
+            }
             Err(failed) => Err(failed.value),
         }
     }

@@ -126,7 +126,7 @@ impl Model for Objects {
 }
 
 impl Objects {
-    ghost use Rattle.sg_model.specs.Step.{Grows, is_changing};
+    ghost use Rattle.sg_model.specs.Step.{Grows, is_changing, make_array, discard};
     ghost use Rattle.std.specs.Prelude.{IsSome};
     ghost use Rattle.sg_model.specs.Verb.Verb.{Discard};
     ghost use Rattle.sg_model.specs.Undo.{note_object};
@@ -197,21 +197,38 @@ impl Objects {
         }
     }
 
+    // Why an array would not be made.
+    #[tactic(auto, using(crate::proofs::Steps::exists_array, crate::proofs::Steps::empty_array, crate::proofs::Steps::wide_array, crate::proofs::Steps::fits_array))]
+    fn array_refusal(&self, name: Name, size: u64) -> Option<Reason>
+        ensures { Refuses (make_array size (finmap.get self.now name)).0 result }
+    {
+        if self.has(name) {
+            return Some(Reason::Exists);
+        }
+        if size < 1 || size > 256 {
+            return Some(Reason::OutOfRange);
+        }
+        None
+    }
+
+    // Why no object would be dropped.
+    #[tactic(auto, using(crate::proofs::Steps::nothing_there, crate::proofs::Steps::dropped))]
+    fn discard_refusal(&self, name: Name) -> Option<Reason>
+        ensures { Refuses (discard (finmap.get self.now name)).0 result }
+    {
+        if self.has(name) {
+            return None;
+        }
+        Some(Reason::NoObject)
+    }
+
     /// Why an operation would be refused, if it would. It changes nothing and takes no memory.
-    #[tactic(auto, unfolding(sg_model::specs::Step::step), using(crate::proofs::Steps::exists_array, crate::proofs::Steps::empty_array, crate::proofs::Steps::wide_array, crate::proofs::Steps::fits_array, crate::proofs::Steps::exists, crate::proofs::Steps::made, crate::proofs::Steps::nothing_there, crate::proofs::Steps::dropped))]
+    #[tactic(auto, unfolding(sg_model::specs::Step::step), using(crate::proofs::Steps::exists, crate::proofs::Steps::made))]
     pub fn refusal(&self, ops: &Ops, op: &Op<'_>) -> Option<Reason>
         ensures { Refuses (step (table_of record_meaning range_meaning ops.now) self.now (said_op op.now)).0 result }
     {
         match *op {
-            Op::MakeArray { name, size } => {
-                if self.has(name) {
-                    Some(Reason::Exists)
-                } else if size < 1 || size > 256 {
-                    Some(Reason::OutOfRange)
-                } else {
-                    None
-                }
-            }
+            Op::MakeArray { name, size } => self.array_refusal(name, size),
             Op::MakeTable { name } => {
                 if self.has(name) {
                     Some(Reason::Exists)
@@ -226,13 +243,7 @@ impl Objects {
                     None
                 }
             }
-            Op::Discard { name } => {
-                if self.has(name) {
-                    None
-                } else {
-                    Some(Reason::NoObject)
-                }
-            }
+            Op::Discard { name } => self.discard_refusal(name),
             Op::Push { .. }
             | Op::Pop { .. }
             | Op::Set { .. }
