@@ -1,5 +1,5 @@
 /// One change of a page of slots, as a record of the log says it.
-#[derive(Clone, Copy, Debug, PartialEq, Eq)]
+#[derive(Clone, Copy)]
 pub enum PageOp<'a> {
     /// Makes it an empty page of this kind, with links 0.
     Format { kind: u8 },

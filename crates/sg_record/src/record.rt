@@ -138,7 +138,7 @@ pub enum Rec<'a> {
 
 /// Why some bytes don't begin with a record. The first that holds is told, in the order: `Short` of
 /// the header, `BadKind`, `Short` of the stated length, `BadField`.
-#[derive(Clone, Copy, Debug, PartialEq, Eq)]
+#[derive(Clone, Copy)]
 pub enum RecError {
     /// The bytes end before the header or the stated length does.
     Short,

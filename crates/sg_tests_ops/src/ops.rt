@@ -142,15 +142,20 @@ const CHANGES: [(u16, &[u8], &[u8], &[u8]); 10] = [
     (3, &[], &[2], &[]),
 ];
 
+// The place of the first row that goes otherwise.
+fn changed_otherwise(ops: &Ops) -> Option<usize> {
+    for (i, (code, item, arg, want)) in CHANGES.iter().enumerate() {
+        if !leaves(ops, *code, item, arg, want) {
+            return Some(i);
+        }
+    }
+    None
+}
+
 #[test]
 fn items_are_changed_and_come_back(rt: HostRuntime) -> Result<(), Fail> {
     let ops = Ops::shipped(rt.alloc())?;
-    for (code, item, arg, want) in CHANGES {
-        assert!(rt;
-            leaves(&ops, code, item, arg, want),
-            "code {code} at {item:?} and {arg:?}"
-        );
-    }
+    assert!(rt; changed_otherwise(&ops).is_none());
     Ok(())
 }
 
@@ -165,18 +170,23 @@ const ACCEPTED: [(usize, usize, bool, bool, bool); 7] = [
     (1, 1, true, true, true),
 ];
 
+// The place of the first row that is accepted otherwise.
+fn accepted_otherwise(ops: &Ops) -> Option<usize> {
+    for (i, (item, arg, add, xor, rotate)) in ACCEPTED.iter().enumerate() {
+        let are_so = accepts(ops, 1, *item, *arg) == *add
+            && accepts(ops, 2, *item, *arg) == *xor
+            && accepts(ops, 3, *item, *arg) == *rotate;
+        if !are_so {
+            return Some(i);
+        }
+    }
+    None
+}
+
 #[test]
 fn accepts_by_lengths(rt: HostRuntime) -> Result<(), Fail> {
     let ops = Ops::shipped(rt.alloc())?;
-    for (item, arg, add, xor, rotate) in ACCEPTED {
-        assert_eq!(rt; accepts(&ops, 1, item, arg), add, "add at {item} and {arg}");
-        assert_eq!(rt; accepts(&ops, 2, item, arg), xor, "xor at {item} and {arg}");
-        assert_eq!(rt;
-            accepts(&ops, 3, item, arg),
-            rotate,
-            "rotate at {item} and {arg}"
-        );
-    }
+    assert!(rt; accepted_otherwise(&ops).is_none());
     Ok(())
 }
 
@@ -189,70 +199,158 @@ const RENDERED: [(u16, u32, &[u8], [u8; 4]); 4] = [
     (2, 16_383_996, &[], [252, 253, 254, 255]),
 ];
 
+// The place of the first row whose bytes are others.
+fn rendered_otherwise(ops: &Ops) -> Option<usize> {
+    for (i, (code, pos, arg, want)) in RENDERED.iter().enumerate() {
+        if !gives(ops, *code, *pos, arg, want) {
+            return Some(i);
+        }
+    }
+    None
+}
+
 #[test]
 fn bytes_by_position(rt: HostRuntime) -> Result<(), Fail> {
     let ops = Ops::shipped(rt.alloc())?;
-    for (code, pos, arg, want) in RENDERED {
-        assert!(rt;
-            gives(&ops, code, pos, arg, &want),
-            "code {code} at {pos} for {arg:?}"
-        );
-    }
+    assert!(rt; rendered_otherwise(&ops).is_none());
     Ok(())
+}
+
+// A new table has one range operation, and takes a record operation.
+fn begins_with_one(alloc: Global) -> Result<bool, Fail> {
+    let mut ops = Ops::new(alloc)?;
+    let has_one = ops.has_range(1) && !ops.has_range(2) && !ops.has_record(1);
+    let is_taken = ops.register_record(Box::new(alloc, Add)?).is_ok();
+    Ok(has_one && is_taken && leaves(&ops, 1, &[255, 0], &[2, 0], &[1, 1]))
+}
+
+fn has_the_shipped(ops: &Ops) -> bool {
+    let has_records = ops.has_record(1) && ops.has_record(2) && ops.has_record(3);
+    let has_ranges = ops.has_range(1) && ops.has_range(2);
+    let has_no_more = !ops.has_record(0)
+        && !ops.has_record(4)
+        && !ops.has_range(0)
+        && !ops.has_range(3);
+    has_records && has_ranges && has_no_more
+}
+
+// What a table of the shipped operations answers to a second one with the code of `ramp`.
+fn said_of_ramp(alloc: Global, ops: &mut Ops) -> Result<Result<(), OpsError>, Fail> {
+    Ok(ops.register_range(Box::new(alloc, Ramp)?))
 }
 
 #[test]
 fn five_are_shipped(rt: HostRuntime) -> Result<(), Fail> {
     let alloc = rt.alloc();
-    let mut ops = Ops::new(alloc)?;
-    assert!(rt; ops.has_range(1) && !ops.has_range(2) && !ops.has_record(1));
-    assert!(rt; ops.register_record(Box::new(alloc, Add)?).is_ok());
-    assert!(rt; leaves(&ops, 1, &[255, 0], &[2, 0], &[1, 1]));
+    assert!(rt; begins_with_one(alloc)?);
     let mut ops = Ops::shipped(alloc)?;
-    assert!(rt; ops.has_record(1) && ops.has_record(2) && ops.has_record(3));
-    assert!(rt; ops.has_range(1) && ops.has_range(2));
-    assert!(rt; !ops.has_record(0) && !ops.has_record(4) && !ops.has_range(0) && !ops.has_range(3));
-    assert_eq!(rt;
-        ops.register_range(Box::new(alloc, Ramp)?),
-        Err(OpsError::CodeTaken)
-    );
+    let has_them = has_the_shipped(&ops);
+    let said = said_of_ramp(alloc, &mut ops)?;
+    assert!(rt; has_them && said == Err(OpsError::CodeTaken));
     Ok(())
+}
+
+// What is answered to a record operation with this code.
+fn said_of_idle(
+    alloc: Global,
+    ops: &mut Ops,
+    code: u16,
+    drops: &Arc<AtomicU64, Global>,
+) -> Result<Result<(), OpsError>, Fail> {
+    let op = make_idle(code, drops)?;
+    Ok(ops.register_record(Box::new(alloc, op)?))
+}
+
+// What is answered to a range operation with this code.
+fn said_of_blank(
+    alloc: Global,
+    ops: &mut Ops,
+    code: u16,
+    drops: &Arc<AtomicU64, Global>,
+) -> Result<Result<(), OpsError>, Fail> {
+    let op = make_blank(code, drops)?;
+    Ok(ops.register_range(Box::new(alloc, op)?))
+}
+
+// The first of the record operations with codes 0 to 63 that is refused.
+fn refused_idle(
+    alloc: Global,
+    ops: &mut Ops,
+    drops: &Arc<AtomicU64, Global>,
+) -> Result<Option<u16>, Fail> {
+    for code in 0..64u16 {
+        if said_of_idle(alloc, ops, code, drops)? != Ok(()) {
+            return Ok(Some(code));
+        }
+    }
+    Ok(None)
+}
+
+// The first of the range operations with codes 2 to 64 that is refused.
+fn refused_blank(
+    alloc: Global,
+    ops: &mut Ops,
+    drops: &Arc<AtomicU64, Global>,
+) -> Result<Option<u16>, Fail> {
+    for code in 2..65u16 {
+        if said_of_blank(alloc, ops, code, drops)? != Ok(()) {
+            return Ok(Some(code));
+        }
+    }
+    Ok(None)
+}
+
+fn dropped(drops: &Arc<AtomicU64, Global>) -> u64 {
+    drops.load(Ordering::SeqCst)
+}
+
+// Whether 64 record operations are taken, and what has a code of theirs, or comes behind them, is refused and dropped.
+fn records_are_refused(alloc: Global) -> Result<bool, Fail> {
+    let drops = Arc::new(alloc, AtomicU64::new(0))?;
+    let mut ops = Ops::new(alloc)?;
+    let refused = refused_idle(alloc, &mut ops, &drops)?;
+    let dropped_first = dropped(&drops);
+    let again = said_of_idle(alloc, &mut ops, 63, &drops)?;
+    let more = said_of_idle(alloc, &mut ops, 64, &drops)?;
+    Ok(
+        refused.is_none()
+            && dropped_first == 0
+            && again == Err(OpsError::CodeTaken)
+            && more == Err(OpsError::TableFull)
+            && dropped(&drops) == 2
+            && ops.has_record(0)
+            && ops.has_record(63)
+            && !ops.has_record(64),
+    )
 }
 
 #[test]
 fn refuses_records(rt: HostRuntime) -> Result<(), Fail> {
-    let alloc = rt.alloc();
+    assert!(rt; records_are_refused(rt.alloc())?);
+    Ok(())
+}
+
+// The same of range operations, of which one is there at first.
+fn ranges_are_refused(alloc: Global) -> Result<bool, Fail> {
     let drops = Arc::new(alloc, AtomicU64::new(0))?;
     let mut ops = Ops::new(alloc)?;
-    for code in 0..64u16 {
-        let said = ops.register_record(Box::new(alloc, make_idle(code, &drops)?)?);
-        assert_eq!(rt; said, Ok(()), "code {code}");
-    }
-    assert_eq!(rt; drops.load(Ordering::SeqCst), 0);
-    let said = ops.register_record(Box::new(alloc, make_idle(63, &drops)?)?);
-    assert_eq!(rt; said, Err(OpsError::CodeTaken));
-    let said = ops.register_record(Box::new(alloc, make_idle(64, &drops)?)?);
-    assert_eq!(rt; said, Err(OpsError::TableFull));
-    assert_eq!(rt; drops.load(Ordering::SeqCst), 2);
-    assert!(rt; ops.has_record(0) && ops.has_record(63) && !ops.has_record(64));
-    Ok(())
+    let again = said_of_blank(alloc, &mut ops, 1, &drops)?;
+    let refused = refused_blank(alloc, &mut ops, &drops)?;
+    let dropped_first = dropped(&drops);
+    let more = said_of_blank(alloc, &mut ops, 0, &drops)?;
+    Ok(
+        again == Err(OpsError::CodeTaken)
+            && refused.is_none()
+            && dropped_first == 1
+            && more == Err(OpsError::TableFull)
+            && dropped(&drops) == 2
+            && ops.has_range(64)
+            && !ops.has_range(0),
+    )
 }
 
 #[test]
 fn refuses_ranges(rt: HostRuntime) -> Result<(), Fail> {
-    let alloc = rt.alloc();
-    let drops = Arc::new(alloc, AtomicU64::new(0))?;
-    let mut ops = Ops::new(alloc)?;
-    let said = ops.register_range(Box::new(alloc, make_blank(1, &drops)?)?);
-    assert_eq!(rt; said, Err(OpsError::CodeTaken));
-    for code in 2..65u16 {
-        let said = ops.register_range(Box::new(alloc, make_blank(code, &drops)?)?);
-        assert_eq!(rt; said, Ok(()), "code {code}");
-    }
-    assert_eq!(rt; drops.load(Ordering::SeqCst), 1);
-    let said = ops.register_range(Box::new(alloc, make_blank(0, &drops)?)?);
-    assert_eq!(rt; said, Err(OpsError::TableFull));
-    assert_eq!(rt; drops.load(Ordering::SeqCst), 2);
-    assert!(rt; ops.has_range(64) && !ops.has_range(0));
+    assert!(rt; ranges_are_refused(rt.alloc())?);
     Ok(())
 }

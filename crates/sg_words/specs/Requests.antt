@@ -130,8 +130,7 @@ valued_request word args =
     else (if bytes_eq word (codes "paint") then paint_of args
     else None)))))))
 
--- what another verb asks for, if it is one
-
+-- what a verb asks for that reads or sizes a blob, or asks for all keys or names
 unfoldable pub span_request : List ℕ → List (List ℕ) → Option Request
 span_request word args =
     if bytes_eq word (codes "read") then read_of args
@@ -140,6 +139,7 @@ span_request word args =
     else (if bytes_eq word (codes "list") then alone (Do Names) args
     else None)))
 
+-- the same with the verbs that drop, shorten or look at an object
 unfoldable pub object_request : List ℕ → List (List ℕ) → Option Request
 object_request word args =
     if bytes_eq word (codes "drop") then discard_of args
@@ -148,6 +148,7 @@ object_request word args =
     else (if bytes_eq word (codes "len") then len_of args
     else span_request word args)))
 
+-- what another verb than those with a value asks for, if it is one
 unfoldable pub plain_request : List ℕ → List (List ℕ) → Option Request
 plain_request word args =
     if bytes_eq word (codes "begin") then alone Begin args

@@ -136,7 +136,8 @@ pub fn valued_verb(word: &[u8]) -> Option<Valued>
     }
 }
 
-// The same of the verbs that no other verb's words hold more of.
+// The verb that reads or sizes a blob, or asks for all keys or names, that a word is.
+#[inline(always)]
 #[tactic(auto, unfolding(crate::specs::Requests::span_request))]
 fn span_verb(word: &[u8]) -> Option<Plain>
     ensures { MatchOption result ((args : List (List ℕ)) → span_request word.now args ≡ None) (λ verb. (args : List (List ℕ)) → span_request word.now args ≡ of_plain verb args) }
@@ -154,7 +155,8 @@ fn span_verb(word: &[u8]) -> Option<Plain>
     }
 }
 
-// The verb that gives up, shortens or looks at an object.
+// The verb that drops, shortens or looks at an object, or one of the former, that a word is.
+#[inline(always)]
 #[tactic(auto, unfolding(crate::specs::Requests::object_request))]
 fn object_verb(word: &[u8]) -> Option<Plain>
     ensures { MatchOption result ((args : List (List ℕ)) → object_request word.now args ≡ None) (λ verb. (args : List (List ℕ)) → object_request word.now args ≡ of_plain verb args) }
