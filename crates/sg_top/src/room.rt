@@ -1,4 +1,5 @@
 ghost use Rattle.std.specs.Prelude.{◌≡◌, IfOk, length};
+ghost use Rattle.sg_top.specs.Ending.{MOST_OF_PIECE};
 
 use sg_base::OutOfMemory;
 use std::alloc::Global;
@@ -17,14 +18,21 @@ pub struct Room {
     pub ghost reply_size: { length reply.items ≡ 8192 },
 }
 
-/// So many zeros, or `OutOfMemory` where memory is refused.
-pub fn zeros(alloc: Global, count: usize) -> Result<Vec<u8>, OutOfMemory>
+// So many zeros, or `OutOfMemory` where memory is refused.
+fn zeros(alloc: Global, count: usize) -> Result<Vec<u8>, OutOfMemory>
     ensures { IfOk result (λ v. length v.items ≡ count) }
 {
     match vec![in alloc; 0; count] {
         Ok(zeros) => Ok(zeros),
         Err(_) => Err(OutOfMemory),
     }
+}
+
+/// The room that takes a piece of a script, or `OutOfMemory` where memory is refused.
+pub fn piece_room(alloc: Global) -> Result<Vec<u8>, OutOfMemory>
+    ensures { IfOk result (λ v. length v.items ≡ MOST_OF_PIECE) }
+{
+    zeros(alloc, 65_536)
 }
 
 impl Room {

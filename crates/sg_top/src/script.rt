@@ -19,7 +19,7 @@ use std::alloc::Global;
 const MOST_BYTES: u64 = 268_435_456;
 
 /// How the run of a script ends.
-#[derive(Clone, Copy, Debug, PartialEq, Eq)]
+#[derive(Clone, Copy)]
 pub enum RunEnd {
     /// The script was read to its end.
     Done,

@@ -3,7 +3,7 @@ ghost use Rattle.sg_disk.specs.Disk.{FULL, refusing, Spent};
 ghost use Rattle.sg_ops.specs.Table.{table_of};
 ghost use Rattle.sg_top.specs.Top.{are_run, stop_after, outside, HasGone, Tells, IsUnhindered, Completes};
 
-use crate::room::zeros;
+use crate::room::piece_room;
 use crate::script::run_script;
 use crate::session::Session;
 use crate::status::{Status, first_fault, status_of_end, status_of_refusal};
@@ -57,7 +57,7 @@ fn run_behind_fuse<D: Disk, S: Source, K: Sink, O: Origin>(
     ensures heeded { (result.status ≡ Status.Disk → ⊥) → ((D.view result.disk).faults ≡ (D.view disk).faults) × (result.refused ≡ 0) }
     ensures spent { Spent calls (D.view disk).calls (D.view result.disk).calls result.refused }
 {
-    let Ok(piece) = zeros(alloc, 65_536) else {
+    let Ok(piece) = piece_room(alloc) else {
         return Finish {
             status: Status::Memory,
             disk,

@@ -5,7 +5,7 @@ ghost use Rattle.sg_top.specs.Top.{command_of, are_run, run_of, run_with};
 use sg_words::parse_number;
 
 /// What the words of a command ask for: a run.
-#[derive(Clone, Copy, Debug, PartialEq, Eq)]
+#[derive(Clone, Copy)]
 pub struct Command {
     /// How many calls the disk makes at most, if it is to stop.
     pub stop_after: Option<u64>,
