@@ -220,6 +220,7 @@ impl<D: Disk> Store<D> {
     fn forget(&mut self, txn: TxnId)
         ensures core { core_of self.new ≡ record (core_of self.old) { live = opened_without txn.0 (core_of self.old).live; undo = undo_of self.new.live.all.items; held = released txn.0 (core_of self.old).held } }
         ensures others { (u : ℕ) (name : List ℕ) (object : Option Object) → undo_of self.new.live.all.items u name object ≡ (if u == txn.0 then object else undo_of self.old.live.all.items u name object) }
+        ensures held { self.new.locks ≡ released txn.0 self.old.locks }
         ensures disk { self.new.disk ≡ self.old.disk }
         ensures log { self.new.log ≡ self.old.log }
         ensures stop { self.new.stop ≡ self.old.stop }

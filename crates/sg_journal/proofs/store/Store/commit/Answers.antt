@@ -1,4 +1,4 @@
-use Rattle.std.proofs.Common.{refl, sym, ap}
+use Rattle.std.proofs.Common.{refl, sym, ap, ◌∙◌, arith}
 use Rattle.sg_words.specs.declared.answer.Answer as code_answer
 use Rattle.sg_words.specs.Answered.{shown_answer}
 use Rattle.sg_journal.specs.Seen.{core_of}
@@ -8,7 +8,7 @@ use Rattle.sg_journal.proofs.Steps.{commit_none}
 use Rattle.sg_journal.proofs.Changes.{commits}
 use Rattle.sg_journal.proofs.Failing.{commit_fault, force_fault}
 use Rattle.sg_journal.proofs.Along.{goes_along}
-use Rattle.sg_journal.proofs.Heeding.{later_none, grows_none, heeds_none}
+use Rattle.sg_journal.proofs.Heeding.{later_none, grows_none, heeds_none, later_along, grows_along, heeds_along, grows_then}
 use Rattle.sg_journal.proofs.store.Store.commit.Goals as goal
 
 pub returns-in_default-clause-goes : goal.returns-in_default-clause-goes
@@ -47,3 +47,24 @@ returns-in_default-clause-later g c = later_none (g.D.Disk.view c.args.self.now.
 
 pub returns-in_default-clause-heeded : goal.returns-in_default-clause-heeded
 returns-in_default-clause-heeded g c = heeds_none c.args.self.now.stop _ (g.D.Disk.view c.args.self.now.disk) _ refl refl
+
+pub returns-in-Err-clause-grown : goal.returns-in-Err-clause-grown
+returns-in-Err-clause-grown g c = grows_along c.args.self.now.log c.append.new.self _ (g.D.Disk.view c.args.self.now.disk) (g.D.Disk.view c.append.new.disk) _ c.halt.ensures.log (ap g.D.Disk.view c.halt.ensures.disk) (record { kept = c.append.ensures.kept; grown = c.append.ensures.grown })
+
+pub returns-in-Err-clause-later : goal.returns-in-Err-clause-later
+returns-in-Err-clause-later g c = later_along (g.D.Disk.view c.args.self.now.disk) (g.D.Disk.view c.append.new.disk) _ (ap g.D.Disk.view c.halt.ensures.disk) c.append.ensures.later
+
+pub returns-in-Err-force-clause-grown : goal.returns-in-Err-force-clause-grown
+returns-in-Err-force-clause-grown g c = grows_along c.args.self.now.log c.force.new.self _ (g.D.Disk.view c.args.self.now.disk) (g.D.Disk.view c.force.new.disk) _ c.halt-in-Err-force.ensures.log (ap g.D.Disk.view c.halt-in-Err-force.ensures.disk) (grows_then c.args.self.now.log c.append.new.self c.force.new.self (g.D.Disk.view c.args.self.now.disk) (g.D.Disk.view c.append.new.disk) (g.D.Disk.view c.force.new.disk) (record { kept = c.append.ensures.kept; grown = c.append.ensures.grown }) (record { kept = c.force.ensures.kept; grown = c.force.ensures.grown }))
+
+pub returns-in-Err-force-clause-later : goal.returns-in-Err-force-clause-later
+returns-in-Err-force-clause-later g c = later_along (g.D.Disk.view c.args.self.now.disk) (g.D.Disk.view c.force.new.disk) _ (ap g.D.Disk.view c.halt-in-Err-force.ensures.disk) (omega (arith, c.append.ensures.later, c.force.ensures.later))
+
+pub returns-clause-grown : goal.returns-clause-grown
+returns-clause-grown g c = grows_along c.args.self.now.log c.force.new.self _ (g.D.Disk.view c.args.self.now.disk) (g.D.Disk.view c.force.new.disk) _ c.forget.ensures.log (ap g.D.Disk.view c.forget.ensures.disk) (grows_then c.args.self.now.log c.append.new.self c.force.new.self (g.D.Disk.view c.args.self.now.disk) (g.D.Disk.view c.append.new.disk) (g.D.Disk.view c.force.new.disk) (record { kept = c.append.ensures.kept; grown = c.append.ensures.grown }) (record { kept = c.force.ensures.kept; grown = c.force.ensures.grown }))
+
+pub returns-clause-later : goal.returns-clause-later
+returns-clause-later g c = later_along (g.D.Disk.view c.args.self.now.disk) (g.D.Disk.view c.force.new.disk) _ (ap g.D.Disk.view c.forget.ensures.disk) (omega (arith, c.append.ensures.later, c.force.ensures.later))
+
+pub returns-clause-heeded : goal.returns-clause-heeded
+returns-clause-heeded g c = heeds_along c.args.self.now.stop _ (g.D.Disk.view c.args.self.now.disk) (g.D.Disk.view c.force.new.disk) _ c.forget.ensures.stop (ap g.D.Disk.view c.forget.ensures.disk) (c.in-Ok-force.ensures.heeded ∙ c.in-Ok.ensures.heeded)

@@ -20,7 +20,7 @@ use Rattle.sg_journal.proofs.Steps.{op_none}
 use Rattle.sg_journal.proofs.Changes.{op_logged}
 use Rattle.sg_journal.proofs.Performing.{not_granted, locked, unchanged, looked, full_or, starved, op_fault}
 use Rattle.sg_journal.proofs.Along.{goes_along}
-use Rattle.sg_journal.proofs.Heeding.{later_none, grows_none, heeds_none}
+use Rattle.sg_journal.proofs.Heeding.{later_none, grows_none, heeds_none, later_along, grows_along, heeds_along}
 use Rattle.sg_journal.proofs.store.Store.perform.Goals as goal
 
 pub returns-in_default-clause-goes : goal.returns-in_default-clause-goes
@@ -180,3 +180,18 @@ returns-then-not-is_changing-clause-later g c = later_none (g.D.Disk.view c.args
 
 pub returns-then-not-is_changing-clause-heeded : goal.returns-then-not-is_changing-clause-heeded
 returns-then-not-is_changing-clause-heeded g c = heeds_none c.args.self.now.stop _ (g.D.Disk.view c.args.self.now.disk) _ refl refl
+
+pub returns-in-Ok-keep-clause-grown : goal.returns-in-Ok-keep-clause-grown
+returns-in-Ok-keep-clause-grown g c = c.keep.ensures.grown
+
+pub returns-in-Ok-keep-clause-later : goal.returns-in-Ok-keep-clause-later
+returns-in-Ok-keep-clause-later g c = c.keep.ensures.later
+
+pub returns-in-Ok-keep-clause-heeded : goal.returns-in-Ok-keep-clause-heeded
+returns-in-Ok-keep-clause-heeded g c = heeds_along c.args.self.now.stop _ (g.D.Disk.view c.args.self.now.disk) (g.D.Disk.view c.keep.new.self.disk) _ c.keep.ensures.stop refl c.in-Ok-keep.ensures.heeded
+
+pub returns-in-Err-keep-clause-grown : goal.returns-in-Err-keep-clause-grown
+returns-in-Err-keep-clause-grown g c = grows_along c.args.self.now.log c.keep.new.self.log _ (g.D.Disk.view c.args.self.now.disk) (g.D.Disk.view c.keep.new.self.disk) _ c.halt.ensures.log (ap g.D.Disk.view c.halt.ensures.disk) c.keep.ensures.grown
+
+pub returns-in-Err-keep-clause-later : goal.returns-in-Err-keep-clause-later
+returns-in-Err-keep-clause-later g c = later_along (g.D.Disk.view c.args.self.now.disk) (g.D.Disk.view c.keep.new.self.disk) _ (ap g.D.Disk.view c.halt.ensures.disk) c.keep.ensures.later
