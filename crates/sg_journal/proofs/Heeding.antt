@@ -1,5 +1,6 @@
 -- Faults of the disk are heeded.
-use Rattle.std.proofs.Common.{◌≡◌, ◌⊎◌, inl, inr, ◌+◌, ◌≤◌, Option, Err, sym, ap, ◌∙◌, subst, arith}
+use Rattle.std.proofs.Common.{◌≡◌, ◌⊎◌, inl, inr, ◌+◌, ◌≤◌, Bool, false, Option, Some, None, is_some, Err, sym, ap, ◌∙◌, subst, arith}
+use Rattle.std.specs.Prelude.{IsSome}
 use Rattle.sg_disk.specs.Disk as disk
 use Rattle.sg_model.specs.declared.stop.Stop.{Stop}
 use Rattle.sg_log.specs.Faults.{HeedsFaults}
@@ -18,6 +19,12 @@ quiet_at T v w faults.Disk h = tt
 quiet_at T v w faults.LogEnd h = tt
 quiet_at T v w (faults.Damaged at) h = h
 quiet_at T v w faults.Memory h = h
+
+-- where no call had a fault
+pub quiet_all : (why : code_refused.OpenRefused) (v w : disk.View) → w.faults ≡ v.faults → IsQuietFor why v w
+quiet_all refusals.DiskFault v w same = tt
+quiet_all refusals.Memory v w same = same
+quiet_all (refusals.Damaged area at) v w same = same
 
 -- after calls that had no fault
 pub quiet_later : (why : code_refused.OpenRefused) (u v w : disk.View) → v.faults ≡ u.faults → IsQuietFor why v w → IsQuietFor why u w
@@ -53,3 +60,8 @@ grows_then log mid new u v w g h = record { kept = omega (arith, g.kept, h.kept)
     both (inl full) later = inl (omega (arith, full, h.kept))
     both (inr first) (inl full) = inl full
     both (inr first) (inr next) = inr (omega (arith, first, next))
+
+-- a store that was seen to go on hasn't stopped
+pub not_stopped : {A : Type 0} (stop : Option Stop) (seen : Bool) → seen ≡ is_some stop → seen ≡ false → IsSome stop → A
+not_stopped None seen is off stopped = absurd (cc)
+not_stopped (Some why) seen is off stopped = absurd (cc)

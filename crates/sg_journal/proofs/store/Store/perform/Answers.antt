@@ -1,4 +1,4 @@
-use Rattle.std.proofs.Common.{◌≤◌, inl, inr, ℕ, List, Ok, Err, refl, sym, ap, ◌∙◌, arith}
+use Rattle.std.proofs.Common.{◌≤◌, inl, inr, ℕ, List, Err, refl, sym, ap, ◌∙◌, arith}
 use Rattle.sg_serial.specs.Locks.{Hold}
 use Rattle.sg_ops.specs.Table.{table_of}
 use Rattle.sg_model.specs.Objects.{Objects}
