@@ -88,6 +88,3 @@ returns-in-Err-clause-grown g c = record { kept = c.append.ensures.kept; grown =
 
 pub returns-in-Err-clause-later : goal.returns-in-Err-clause-later
 returns-in-Err-clause-later g c = c.append.ensures.later
-
-pub returns-in-Err-clause-heeded : goal.returns-in-Err-clause-heeded
-returns-in-Err-clause-heeded g c = λ none. absurd (none refl)
