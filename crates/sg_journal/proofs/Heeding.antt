@@ -1,5 +1,6 @@
 -- Faults of the disk are heeded.
-use Rattle.std.proofs.Common.{◌≡◌, inr, ◌≤◌, Option, Err, sym, ap, ◌∙◌, subst, arith}
+use Rattle.std.proofs.Common.{◌≡◌, ◌⊎◌, inl, inr, ◌+◌, ◌≤◌, Bool, false, Option, Some, None, is_some, Err, sym, ap, ◌∙◌, subst, arith}
+use Rattle.std.specs.Prelude.{IsSome}
 use Rattle.sg_disk.specs.Disk as disk
 use Rattle.sg_model.specs.declared.stop.Stop.{Stop}
 use Rattle.sg_log.specs.Faults.{HeedsFaults}
@@ -19,6 +20,12 @@ quiet_at T v w faults.LogEnd h = tt
 quiet_at T v w (faults.Damaged at) h = h
 quiet_at T v w faults.Memory h = h
 
+-- where no call had a fault
+pub quiet_all : (why : code_refused.OpenRefused) (v w : disk.View) → w.faults ≡ v.faults → IsQuietFor why v w
+quiet_all refusals.DiskFault v w same = tt
+quiet_all refusals.Memory v w same = same
+quiet_all (refusals.Damaged area at) v w same = same
+
 -- after calls that had no fault
 pub quiet_later : (why : code_refused.OpenRefused) (u v w : disk.View) → v.faults ≡ u.faults → IsQuietFor why v w → IsQuietFor why u w
 quiet_later refusals.DiskFault u v w same h = tt
@@ -34,3 +41,27 @@ grows_none log new v w is same = subst (λ (z : disk.View). Grows log new v z) (
 
 pub heeds_none : (before now : Option Stop) (v w : disk.View) → now ≡ before → w ≡ v → Heeds before now v w
 heeds_none before now v w is same = λ none. (λ stopped. none (is ∙ stopped), ap (λ (z : disk.View). z.faults) same)
+
+-- the same of a log, a disk and a stop that are known by equations
+pub later_along : (v w z : disk.View) → z ≡ w → v.faults ≤ w.faults → v.faults ≤ z.faults
+later_along v w z same h = subst (λ (y : disk.View). v.faults ≤ y.faults) (sym same) h
+
+pub grows_along : (log new other : Tail) (v w z : disk.View) → other ≡ new → z ≡ w → Grows log new v w → Grows log other v z
+grows_along log new other v w z is same h = subst (λ (y : disk.View). Grows log other v y) (sym same) (subst (λ (n : Tail). Grows log n v w) (sym is) h)
+
+pub heeds_along : (before now : Option Stop) (v w z : disk.View) → now ≡ before → z ≡ w → w.faults ≡ v.faults → Heeds before now v z
+heeds_along before now v w z is same quiet = λ none. (λ stopped. none (is ∙ stopped), ap (λ (y : disk.View). y.faults) same ∙ quiet)
+
+-- of two calls
+pub grows_then : (log mid new : Tail) (u v w : disk.View) → Grows log mid u v → Grows mid new v w → Grows log new u w
+grows_then log mid new u v w g h = record { kept = omega (arith, g.kept, h.kept); grown = both g.grown h.grown }
+  where
+    both : (disk.FULL ≤ v.handed) ⊎ (mid.gate + u.handed ≤ log.gate + v.handed) → (disk.FULL ≤ w.handed) ⊎ (new.gate + v.handed ≤ mid.gate + w.handed) → (disk.FULL ≤ w.handed) ⊎ (new.gate + u.handed ≤ log.gate + w.handed)
+    both (inl full) later = inl (omega (arith, full, h.kept))
+    both (inr first) (inl full) = inl full
+    both (inr first) (inr next) = inr (omega (arith, first, next))
+
+-- a store that was seen to go on hasn't stopped
+pub not_stopped : {A : Type 0} (stop : Option Stop) (seen : Bool) → seen ≡ is_some stop → seen ≡ false → IsSome stop → A
+not_stopped None seen is off stopped = absurd (cc)
+not_stopped (Some why) seen is off stopped = absurd (cc)

@@ -1,18 +1,21 @@
 -- How an operation goes, by what the code's calls came to.
 use Rattle.std.proofs.Common.{◌≡◌, ◌⊎◌, inl, inr, ℕ, ◌<◌, ◌≤◌, Bool, true, false, cond, List, [], ◌∷◌, length, Option, Some, None, Ok, Err, refl, sym, ap, ◌∙◌, subst, arith}
-use Rattle.std.specs.Prelude.{nat_lt, ◌==◌, slice_index, IsOk, IsErr}
+use Rattle.std.specs.Prelude.{nat_lt, ◌==◌, slice_index, Result, IfOk, OnErr, IsOk, IsErr}
 use Rattle.std.specs.Str.Lines.{strip_carriage_return}
 use Rattle.std.proofs.lemmas.Bool.Decides.{nat_tests}
 use Rattle.sg_disk.specs.Disk as disk
 use Rattle.sg_serial.specs.Locks.{Touch, Hold, first_holder, hold_all}
 use Rattle.sg_ops.specs.Table.{Table as Operations}
 use Rattle.sg_model.specs.declared.op.Op as code_op
+use Rattle.sg_base.specs.declared.ends.OutOfMemory.{OutOfMemory}
 use Rattle.sg_model.specs.SaidOps.{said_op}
+use Rattle.sg_model.specs.SaidReplies.{said_reply, said_outcome}
+use Rattle.sg_model.specs.declared.op.Reply as code_reply
 use Rattle.sg_model.specs.declared.reason.Reason.{Reason}
 use Rattle.sg_model.specs.Objects.{Object, Objects}
 use Rattle.sg_model.specs.Verb.{Op, Outcome, Reply}
 use Rattle.sg_model.specs.Verb.Op.{Names}
-use Rattle.sg_model.specs.Step.{step, is_changing}
+use Rattle.sg_model.specs.Step.{step, is_changing, Grows}
 use Rattle.sg_model.specs.Touches.{Resource, touches, same_resource, conflict}
 use Rattle.sg_model.specs.Undo.{note_of_op, undo_on}
 use Rattle.sg_model.proofs.Refused.{step_refused, replied}
@@ -40,7 +43,7 @@ use Rattle.sg_run.specs.Answer.{answer_of, IsSaid}
 use Rattle.sg_run.specs.Run.{Run, TakesMemory, holder_of, held_with, MOST_HELD}
 use Rattle.sg_journal.specs.Lines.{op_of, op_said}
 use Rattle.sg_journal.specs.Live.{Opened, Undo, opened_named}
-use Rattle.sg_journal.specs.Shown.{answer_at, stop_at, IsReasonOr, IsNotGranted}
+use Rattle.sg_journal.specs.Shown.{answer_at, answer_to, stop_at, IsReasonOr, IsNotGranted}
 use Rattle.sg_journal.specs.Store.{Core, Shows}
 use Rattle.sg_journal.specs.Goes.{Goes, NEW_WORK_END}
 use Rattle.sg_journal.proofs.Tails.{MomentsOf, ends_within}
@@ -170,6 +173,18 @@ module _ (t : Operations) (told : Bool) (was : disk.State) (v : disk.View) (k : 
         said_ok : (r : Outcome) → IsOk r → IsSaid (answer_of r)
         said_ok (Ok reply) q = tt
         said_ok (Err reason) q = absurd (cc)
+
+    -- what an operation that only reads came to
+    pub looked : (r : Result (Result code_reply.Reply Reason) OutOfMemory) (o : Objects) (into : List ℕ) (answer : code_answer.Answer) → answer ≡ answer_to r → is_changing op ≡ false
+        → IfOk r (λ came. step t k.objects op ≡ (said_outcome into came, o)) → OnErr r (o ≡ k.objects) → OnErr r (Grows op) → OnErr r (IsOk (step t k.objects op).0)
+        → Goes t told was v k x (Of name (Do op)) (shown_answer into answer) v (record k { held = held; objects = o })
+    looked r o into answer is reads done err memory cause = subst (λ (a : code_answer.Answer). Goes t told was v k x (Of name (Do op)) (shown_answer into a) v (record k { held = held; objects = o })) (sym is) (came_to r done err memory cause)
+      where
+        came_to : (r : Result (Result code_reply.Reply Reason) OutOfMemory) → IfOk r (λ came. step t k.objects op ≡ (said_outcome into came, o)) → OnErr r (o ≡ k.objects) → OnErr r (Grows op) → OnErr r (IsOk (step t k.objects op).0)
+            → Goes t told was v k x (Of name (Do op)) (shown_answer into (answer_to r)) v (record k { held = held; objects = o })
+        came_to (Ok (Ok reply)) done err memory cause = has_read (Ok (said_reply into reply)) o done reads
+        came_to (Ok (Err reason)) done err memory cause = has_read (Err reason) o done reads
+        came_to (Err e) done err memory cause = starved o (inl memory) cause (λ work. absurd (cc (work, reads))) err
 
     -- the log has failed as its line was appended
     pub op_fault : (reply : Reply) (e : LogFault) (w : disk.View) (m : Core) (r : Record) (into : List ℕ) → m.stopped ≡ Some (stop_at e) → is_changing op ≡ true → (step t k.objects op).0 ≡ Ok reply → tail_of k.log ≤ NEW_WORK_END → IsRecord r

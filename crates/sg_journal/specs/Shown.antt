@@ -1,7 +1,10 @@
 -- The code's values as definitions speak of them.
-use Rattle.std.specs.Prelude.{◌≡◌, ◌==◌, if◌then◌else◌, ℕ, Bool, List, map, Option, Some, None, Ok, Err}
+use Rattle.std.specs.Prelude.{◌≡◌, ◌==◌, if◌then◌else◌, ℕ, Bool, List, map, Option, Some, None, Result, Ok, Err}
 use Rattle.std.specs.List.{find}
+use Rattle.sg_base.specs.declared.ends.OutOfMemory.{OutOfMemory}
 use Rattle.sg_model.specs.Objects.{Object}
+use Rattle.sg_model.specs.declared.op.Reply as code_reply
+use Rattle.sg_model.specs.declared.reason.Reason.{Reason}
 use Rattle.sg_plain.specs.Undone.{undo_in}
 use Rattle.sg_model.specs.declared.stop.Stop.{Stop}
 use Rattle.sg_model.specs.declared.stop.Stop.TheVariants as stops
@@ -55,6 +58,12 @@ stop_at faults.LogEnd = stops.LogEnd
 stop_at faults.Disk = stops.Disk
 stop_at (faults.Damaged at) = stops.Disk
 stop_at faults.Memory = stops.Disk
+
+-- what an operation is answered, by what it came to
+abbrev pub answer_to : Result (Result code_reply.Reply Reason) OutOfMemory → code_answer.Answer
+answer_to (Ok (Ok reply)) = answers.Said reply
+answer_to (Ok (Err reason)) = answers.Refused reason
+answer_to (Err e) = answers.Memory
 
 -- what an operation that isn't done is answered, by what it would have got: its reason first
 abbrev pub IsReasonOr : Outcome → code_answer.Answer → code_answer.Answer → Type 0

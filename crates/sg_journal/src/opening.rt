@@ -1,7 +1,7 @@
 use sg_base::Area;
 
 /// Why a store doesn't open. Nothing was written then.
-#[derive(Clone, Copy, Debug, PartialEq, Eq)]
+#[derive(Clone, Copy)]
 pub enum OpenRefused {
     /// A call of the disk failed.
     DiskFault,

@@ -1,5 +1,5 @@
 // How the log of a store is read back when it opens.
-ghost use Rattle.std.specs.Prelude.{◌≡◌, ◌⊎◌, ◌≤◌, ◌<◌, ◌+◌, ◌^◌, ℕ, List, [], map, length, IsTrue, IfOk, IfErr, OnOk, MatchResult, Some};
+ghost use Rattle.std.specs.Prelude.{◌≡◌, ◌⊎◌, ◌≤◌, ◌<◌, ◌+◌, ◌^◌, ℕ, List, [], map, length, IsTrue, IfOk, IfErr, IfSome, OnOk, MatchResult, Some};
 ghost use Rattle.std.specs.List.{flat_map};
 ghost use Rattle.std.specs.Option.{option_map};
 ghost use Rattle.std.specs.FinMap.{empty};
@@ -205,6 +205,37 @@ fn replay_all(
     Ok(objects)
 }
 
+// The memory that a log is read back with: for a frame's body, for the bytes of a line's values, and for
+// those of a reply.
+#[derive(Drop)]
+struct Rooms {
+    body: Vec<u8>,
+    scratch: Vec<u8>,
+    into: Vec<u8>,
+}
+
+impl Rooms {
+    // All of it, or none where memory is refused.
+    fn new(alloc: Global) -> Option<Rooms>
+        ensures body { IfSome result (λ r. length r.body.items ≡ 65536) }
+        ensures scratch { IfSome result (λ r. length r.scratch.items ≡ 32768) }
+        ensures into { IfSome result (λ r. length r.into.items ≡ 8192) }
+    {
+        if let Ok(body) = vec![in alloc; 0; 65536]
+            && let Ok(scratch) = vec![in alloc; 0; 32768]
+            && let Ok(into) = vec![in alloc; 0; 8192]
+        {
+            Some(Rooms {
+                body,
+                scratch,
+                into,
+            })
+        } else {
+            None
+        }
+    }
+}
+
 /// The log in the first log area, which was synced, and the objects that its committed transactions
 /// leave, one after another in order of their first commit records. Nothing is written.
 pub fn read_back<D: Disk>(
@@ -218,23 +249,19 @@ pub fn read_back<D: Disk>(
     ensures quiet { MatchResult result (λ p. (D.view disk.new).faults ≡ (D.view disk.old).faults) (λ why. IsQuietFor why (D.view disk.old) (D.view disk.new)) }
     ensures reads { OnlyReads D.told (D.view disk.old) (D.view disk.new) }
 {
-    let (Ok(body), Ok(scratch), Ok(into)) = (
-        vec![in alloc; 0; 65536],
-        vec![in alloc; 0; 32768],
-        vec![in alloc; 0; 8192],
-    ) else {
+    let Some(rooms) = Rooms::new(alloc) else {
         return Err(OpenRefused::Memory);
     };
-    let (mut body, mut scratch, mut into) = (body, scratch, into);
+    let mut rooms = rooms;
     let log = match Log::attach(alloc, disk, Area::Log0, 0) {
         Ok(log) => log,
         Err(fault) => return Err(refusal(fault)),
     };
-    let found = match find_all(alloc, &log, disk, &mut body) {
+    let found = match find_all(alloc, &log, disk, &mut rooms.body) {
         Ok(found) => found,
         Err(why) => return Err(why),
     };
-    match replay_all(alloc, ops, found, &mut scratch, &mut into) {
+    match replay_all(alloc, ops, found, &mut rooms.scratch, &mut rooms.into) {
         Ok(objects) => Ok((log, objects)),
         Err(why) => Err(why),
     }

@@ -22,7 +22,7 @@ ghost use Rattle.sg_journal.specs.Store.{Shows};
 ghost use Rattle.sg_journal.specs.Goes.{Goes, Grows, Heeds, NEW_WORK_END};
 ghost use Rattle.sg_journal.specs.Lines.{op_said};
 ghost use Rattle.sg_journal.specs.Live.{opened_without, with_last};
-ghost use Rattle.sg_journal.specs.Shown.{all_opened, undo_of, answer_at, stop_at, IsReasonOr};
+ghost use Rattle.sg_journal.specs.Shown.{all_opened, undo_of, answer_at, answer_to, stop_at, IsReasonOr};
 ghost use Rattle.sg_journal.specs.Opening.{Opens, StaysShut};
 ghost use Rattle.sg_journal.specs.Seen.{core_of};
 
@@ -34,7 +34,7 @@ use sg_base::{Area, Name, OutOfMemory, TxnId};
 use sg_disk::Disk;
 use sg_locks::Locks;
 use sg_log::{Log, LogFault};
-use sg_model::{Op, Reply, Stop, Touches};
+use sg_model::{Op, Reason, Reply, Stop, Touches};
 use sg_ops::Ops;
 use sg_plain::Objects;
 use sg_record::plain::Rec;
@@ -43,12 +43,6 @@ use std::alloc::Global;
 
 /// No new work begins once the log's tail is above this byte: 2^62.
 const NEW_WORK_END: u64 = 1 << 62;
-
-/// The byte behind the last one of a log: 2^63.
-const LOG_END: u64 = 1 << 63;
-
-/// How many bytes the record of a commit has.
-const COMMIT_BYTES: u64 = 21;
 
 /// Objects in memory and the log of the lines that made them, with up to 64 live transactions and what
 /// takes back what each of these has done. Once it has stopped it makes no further call of the disk.
@@ -73,6 +67,18 @@ fn room_for(alloc: Global) -> Result<(Live, Locks), OutOfMemory>
     let live = Live::new(alloc)?;
     let locks = Locks::new(alloc)?;
     Ok((live, locks))
+}
+
+// What an operation is answered, by what it came to.
+#[inline(always)]
+fn said(came: Result<Result<Reply, Reason>, OutOfMemory>) -> Answer
+    ensures { result ≡ answer_to came }
+{
+    match came {
+        Ok(Ok(reply)) => Answer::Said(reply),
+        Ok(Err(reason)) => Answer::Refused(reason),
+        Err(OutOfMemory) => Answer::Memory,
+    }
 }
 
 impl<D: Disk> Store<D> {
@@ -214,6 +220,7 @@ impl<D: Disk> Store<D> {
     fn forget(&mut self, txn: TxnId)
         ensures core { core_of self.new ≡ record (core_of self.old) { live = opened_without txn.0 (core_of self.old).live; undo = undo_of self.new.live.all.items; held = released txn.0 (core_of self.old).held } }
         ensures others { (u : ℕ) (name : List ℕ) (object : Option Object) → undo_of self.new.live.all.items u name object ≡ (if u == txn.0 then object else undo_of self.old.live.all.items u name object) }
+        ensures held { self.new.locks ≡ released txn.0 self.old.locks }
         ensures disk { self.new.disk ≡ self.old.disk }
         ensures log { self.new.log ≡ self.old.log }
         ensures stop { self.new.stop ≡ self.old.stop }
@@ -259,9 +266,6 @@ impl<D: Disk> Store<D> {
             txn: live.txn,
             prev: live.last,
         };
-        if self.log.place(&record) + COMMIT_BYTES > LOG_END {
-            return self.halt(LogFault::LogEnd);
-        }
         match self.log.append(&mut self.disk, &record) {
             Ok(_) => {}
             Err(fault) => return self.halt(fault),
@@ -352,11 +356,7 @@ impl<D: Disk> Store<D> {
             Err(answer) => return answer,
         }
         if !op.is_changing() {
-            return match self.objects.apply(alloc, ops, op, into) {
-                Ok(Ok(reply)) => Answer::Said(reply),
-                Ok(Err(reason)) => Answer::Refused(reason),
-                Err(OutOfMemory) => Answer::Memory,
-            };
+            return said(self.objects.apply(alloc, ops, op, into));
         }
         if self.log.tail() > NEW_WORK_END {
             return self.refuse(ops, op, Answer::LogEnd);

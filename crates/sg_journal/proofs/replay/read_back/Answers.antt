@@ -1,11 +1,11 @@
-use Rattle.std.proofs.Common.{sym, ap, subst}
+use Rattle.std.proofs.Common.{refl, sym, ap, ◌∙◌, subst}
 use Rattle.sg_ops.specs.Table.{table_of}
 use Rattle.sg_log.specs.Held.{Tail}
 use Rattle.sg_log.specs.Reads.{OnlyReads}
-use Rattle.sg_log.proofs.Runs.{reads_more}
+use Rattle.sg_log.proofs.Runs.{reads_none, reads_more}
 use Rattle.sg_journal.specs.Opening.{IsRefusedFor, IsQuietFor}
 use Rattle.sg_journal.specs.declared.opening.OpenRefused as code_refused
-use Rattle.sg_journal.proofs.Heeding.{quiet_at, quiet_later}
+use Rattle.sg_journal.proofs.Heeding.{quiet_at, quiet_later, quiet_all}
 use Rattle.sg_journal.proofs.Reading.{attach_refused, read_found, not_found, not_replayed}
 use Rattle.sg_journal.proofs.replay.read_back.Goals as goal
 
@@ -70,3 +70,21 @@ returns-in-Err-clause-quiet g c =
 
 pub returns-in-Err-find_all-clause-quiet : goal.returns-in-Err-find_all-clause-quiet
 returns-in-Err-find_all-clause-quiet g c = quiet_later c.in-Err-find_all.why (g.D.Disk.view c.args.disk.now) (g.D.Disk.view c.attach.new.disk) (g.D.Disk.view c.find_all.new.disk) c.in-Ok.ensures.heeded c.in-Err-find_all.ensures.quiet
+
+pub returns-in_default-clause-quiet : goal.returns-in_default-clause-quiet
+returns-in_default-clause-quiet g c = refl
+
+pub returns-in_default-clause-reads : goal.returns-in_default-clause-reads
+returns-in_default-clause-reads g c = reads_none (g.D.Disk.view c.args.disk.now)
+
+pub returns-in-Err-clause-reads : goal.returns-in-Err-clause-reads
+returns-in-Err-clause-reads g c = record { unchanged = c.attach.ensures.unchanged; any_moment = c.attach.ensures.any_moment; handed = c.attach.ensures.handed; later = c.attach.ensures.later }
+
+pub returns-in-Ok-replay_all-clause-log : goal.returns-in-Ok-replay_all-clause-log
+returns-in-Ok-replay_all-clause-log g c = c.in-Ok.ensures.log
+
+pub returns-in-Ok-replay_all-clause-quiet : goal.returns-in-Ok-replay_all-clause-quiet
+returns-in-Ok-replay_all-clause-quiet g c = c.in-Ok-find_all.ensures.quiet ∙ c.in-Ok.ensures.heeded
+
+pub returns-clause-quiet : goal.returns-clause-quiet
+returns-clause-quiet g c = quiet_all c.in-Err-replay_all.why (g.D.Disk.view c.args.disk.now) (g.D.Disk.view c.find_all.new.disk) (c.in-Ok-find_all.ensures.quiet ∙ c.in-Ok.ensures.heeded)

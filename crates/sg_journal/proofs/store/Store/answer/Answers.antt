@@ -12,7 +12,7 @@ use Rattle.sg_journal.specs.Lines.{op_said}
 use Rattle.sg_journal.specs.Seen.{core_of}
 use Rattle.sg_journal.proofs.Steps.{silent, bad_syntax, is_stopped, none_of}
 use Rattle.sg_journal.proofs.Along.{goes_line}
-use Rattle.sg_journal.proofs.Heeding.{later_none, grows_none, heeds_none}
+use Rattle.sg_journal.proofs.Heeding.{later_none, grows_none, heeds_none, not_stopped}
 use Rattle.sg_journal.proofs.Performing.{op_said-spoken, asked-short}
 use Rattle.sg_journal.proofs.store.Store.answer.Goals as goal
 
@@ -162,3 +162,30 @@ returns-in-List-clause-later g c = later_none (g.D.Disk.view c.args.self.now.dis
 
 pub returns-in-List-clause-heeded : goal.returns-in-List-clause-heeded
 returns-in-List-clause-heeded g c = heeds_none c.args.self.now.stop _ (g.D.Disk.view c.args.self.now.disk) _ c.list.ensures.disk.2 (ap g.D.Disk.view c.list.ensures.disk.0)
+
+pub returns-in-Blank-clause-stopped : goal.returns-in-Blank-clause-stopped
+returns-in-Blank-clause-stopped g c = λ some. refl
+
+pub returns-in-Wrong-clause-stopped : goal.returns-in-Wrong-clause-stopped
+returns-in-Wrong-clause-stopped g c = λ some. refl
+
+pub returns-then-is_some-clause-stopped : goal.returns-then-is_some-clause-stopped
+returns-then-is_some-clause-stopped g c = λ some. refl
+
+pub returns-in-Begin-clause-stopped : goal.returns-in-Begin-clause-stopped
+returns-in-Begin-clause-stopped g c = not_stopped c.args.self.now.stop c.is_some.result c.is_some.ensures c.if-is_some.false
+
+pub returns-in-Commit-clause-stopped : goal.returns-in-Commit-clause-stopped
+returns-in-Commit-clause-stopped g c = not_stopped c.args.self.now.stop c.is_some.result c.is_some.ensures c.if-is_some.false
+
+pub returns-in-Abort-clause-stopped : goal.returns-in-Abort-clause-stopped
+returns-in-Abort-clause-stopped g c = not_stopped c.args.self.now.stop c.is_some.result c.is_some.ensures c.if-is_some.false
+
+pub returns-in-Do-clause-stopped : goal.returns-in-Do-clause-stopped
+returns-in-Do-clause-stopped g c = not_stopped c.args.self.now.stop c.is_some.result c.is_some.ensures c.if-is_some.false
+
+pub returns-in-Keys-clause-stopped : goal.returns-in-Keys-clause-stopped
+returns-in-Keys-clause-stopped g c = not_stopped c.args.self.now.stop c.is_some.result c.is_some.ensures c.if-is_some.false
+
+pub returns-in-List-clause-stopped : goal.returns-in-List-clause-stopped
+returns-in-List-clause-stopped g c = not_stopped c.args.self.now.stop c.is_some.result c.is_some.ensures c.if-is_some.false

@@ -11,7 +11,7 @@ use Rattle.sg_journal.proofs.Tails.{begin-place, ends_within, append_risen}
 use Rattle.sg_journal.proofs.Steps.{begin_live, begin_many, begin_end}
 use Rattle.sg_journal.proofs.Changes.{begun, begin_breaks}
 use Rattle.sg_journal.proofs.Along.{goes_along}
-use Rattle.sg_journal.proofs.Heeding.{later_none, grows_none, heeds_none}
+use Rattle.sg_journal.proofs.Heeding.{later_none, grows_none, heeds_none, heeds_along}
 use Rattle.sg_journal.proofs.store.Store.begin.Goals as goal
 
 pub returns-in-Some-clause-goes : goal.returns-in-Some-clause-goes
@@ -73,3 +73,18 @@ returns-then-tail-gt-NEW_WORK_END-clause-later g c = later_none (g.D.Disk.view c
 
 pub returns-then-tail-gt-NEW_WORK_END-clause-heeded : goal.returns-then-tail-gt-NEW_WORK_END-clause-heeded
 returns-then-tail-gt-NEW_WORK_END-clause-heeded g c = heeds_none c.args.self.now.stop _ (g.D.Disk.view c.args.self.now.disk) _ refl refl
+
+pub returns-in-Ok-clause-grown : goal.returns-in-Ok-clause-grown
+returns-in-Ok-clause-grown g c = record { kept = c.append.ensures.kept; grown = c.append.ensures.grown }
+
+pub returns-in-Ok-clause-later : goal.returns-in-Ok-clause-later
+returns-in-Ok-clause-later g c = c.append.ensures.later
+
+pub returns-in-Ok-clause-heeded : goal.returns-in-Ok-clause-heeded
+returns-in-Ok-clause-heeded g c = heeds_along c.args.self.now.stop _ (g.D.Disk.view c.args.self.now.disk) (g.D.Disk.view c.append.new.disk) _ refl refl c.in-Ok.ensures.heeded
+
+pub returns-in-Err-clause-grown : goal.returns-in-Err-clause-grown
+returns-in-Err-clause-grown g c = record { kept = c.append.ensures.kept; grown = c.append.ensures.grown }
+
+pub returns-in-Err-clause-later : goal.returns-in-Err-clause-later
+returns-in-Err-clause-later g c = c.append.ensures.later
