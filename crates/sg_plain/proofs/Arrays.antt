@@ -1,10 +1,14 @@
 -- What the verbs of an array come to.
-use Rattle.std.proofs.Common.{◌≡◌, ℕ, suc, List, [], ◌∷◌, ◌++◌, length, take, Ok, refl, ap, ◌∙◌}
-use Rattle.std.specs.Prelude.{slice_get}
+use Rattle.std.proofs.Common.{◌≡◌, ℕ, suc, ◌<◌, Bool, true, false, cond, List, [], ◌∷◌, ◌++◌, length, take, Option, Some, None, Ok, Err, IsOk, refl, ap, ◌∙◌, arith}
+use Rattle.std.specs.Prelude.{slice_get, nat_lt}
+use Rattle.std.proofs.lemmas.Bool.Decides.{nat_tests}
+use Rattle.std.proofs.lemmas.Option.{slice_get_within}
+use Rattle.sg_ops.specs.Table.{Table as Operations, record_at}
+use Rattle.sg_model.specs.declared.reason.Reason.TheVariants.{TooLong}
 use Rattle.sg_model.specs.Objects.{Row}
 use Rattle.sg_model.specs.Verb.{Outcome}
 use Rattle.sg_model.specs.Verb.Reply.{Bytes}
-use Rattle.sg_model.specs.Step.{pop, pop_at, pop_item}
+use Rattle.sg_model.specs.Step.{pop, pop_at, pop_item, apply, at_found, done_by}
 use Rattle.sg_model.proofs.Parts.{get_pushed, length_pushed}
 
 take_pushed : (xs : List (List ℕ)) (x : List ℕ) → take (length xs) (xs ++ x ∷ []) ≡ xs
@@ -19,3 +23,22 @@ popped_at row xs item n e k =
 pub popped : (row rest : Row) (item : List ℕ) → row ≡ record { size = rest.size; items = rest.items ++ item ∷ [] } → pop row ≡ (Ok (Bytes item), rest)
 popped row rest item e = ap pop e ∙ (popped_at (record { size = rest.size; items = rest.items ++ item ∷ [] }) rest.items item (length (rest.items ++ item ∷ [])) refl (length_pushed rest.items item)
     ∙ ap (λ (xs : List (List ℕ)). (let r : Outcome × Row = (Ok (Bytes item), record { size = rest.size; items = xs }) in r)) (take_pushed rest.items item))
+
+-- a record operation that isn't refused has a code of 16 bits, and an item that is there
+module _ (t : Operations) (index code : ℕ) (arg : List ℕ) (row : Row) where
+  by_code : (b : Bool) (o : Option (List ℕ)) (c : Bool) → nat_lt code 65536 ≡ c → IsOk (cond {A = Outcome × Row} b (Err TooLong, row) (at_found index (λ size item. done_by arg item (cond c (record_at t code) None)) row o)).0 → code < 65536
+  by_code true o c e h = absurd (cc)
+  by_code false None c e h = absurd (cc)
+  by_code false (Some item) true e h = grind (arith, nat_tests)
+  by_code false (Some item) false e h = absurd (cc)
+
+  pub code_small : IsOk (apply t index code arg row).0 → code < 65536
+  code_small h = by_code (nat_lt 256 (length arg)) (slice_get row.items index) (nat_lt code 65536) refl h
+
+  by_item : (b : Bool) (o : Option (List ℕ)) (c : Bool) → slice_get row.items index ≡ o → IsOk (cond {A = Outcome × Row} b (Err TooLong, row) (at_found index (λ size item. done_by arg item (cond c (record_at t code) None)) row o)).0 → index < length row.items
+  by_item true o c e h = absurd (cc)
+  by_item false None c e h = absurd (cc)
+  by_item false (Some item) c e h = slice_get_within row.items index item e
+
+  pub item_there : IsOk (apply t index code arg row).0 → index < length row.items
+  item_there h = by_item (nat_lt 256 (length arg)) (slice_get row.items index) (nat_lt code 65536) refl h

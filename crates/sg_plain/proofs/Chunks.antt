@@ -106,3 +106,11 @@ row_pushed size n bytes more value row is put whole sized =
     let F : Row → Row = λ r. row_with r.size (r.items ++ value ∷ []) in
     let same : size ≡ row.size = ap (λ (r : Row). r.size) is in
     ap (row_with size) (ap (first_chunks size (n + 1)) put ∙ (ap (λ (k : ℕ). first_chunks size k (bytes ++ value)) (add-one n) ∙ chunks_pushed size n bytes value whole (sized ∙ sym same))) ∙ ap F is
+
+-- the row has as many items as the bytes
+pub counted : (size n : ℕ) (bytes : List ℕ) (row : Row) → row_with size (first_chunks size n bytes) ≡ row → n ≡ length row.items
+counted size n bytes row is = omega (arith, ap (λ (r : Row). length r.items) is, length_chunks size n bytes)
+
+-- an item of the row is one of the bytes' items
+pub within : (size n i : ℕ) (bytes : List ℕ) (row : Row) → row_with size (first_chunks size n bytes) ≡ row → i < length row.items → i < n
+within size n i bytes row is there = omega (arith, ap (λ (r : Row). length r.items) is, length_chunks size n bytes, there)

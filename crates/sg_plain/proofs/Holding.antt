@@ -1,5 +1,5 @@
 -- What stands under names where one object is at hand.
-use Rattle.std.proofs.Common.{◌≡◌, ℕ, Bool, true, false, cond, List, [], ◌∷◌, map, Option, Some, None, refl, sym, ap, ◌∙◌, subst}
+use Rattle.std.proofs.Common.{◌≡◌, ℕ, Bool, true, false, cond, List, [], ◌∷◌, map, Option, Some, None, Result, Ok, Err, OnOk, refl, sym, ap, ◌∙◌, subst}
 use Rattle.std.specs.Prelude.{◌||◌}
 use Rattle.std.specs.Option.{is_some, IsSome, option_map}
 use Rattle.std.specs.List.{cons_option}
@@ -68,6 +68,11 @@ held_put {X = X} m q x y = same_entries _ _ (λ k. get_put m q y k ∙ (by (byte
 -- where none is at hand, there is what stands at the places
 pub unheld : (hand : Option (List ℕ × code.Object)) (m s : Objects) → hand ≡ None → m ≡ s → with_hand hand m ≡ s
 unheld hand m s none is = ap (λ (h : Option (List ℕ × code.Object)). with_hand h m) none ∙ is
+
+-- a new object beside them
+pub new_unheld : {A E : Type 0} (r : Result A E) (hand : Option (List ℕ × code.Object)) (m s n : Objects) (q : List ℕ) (x : Object) → hand ≡ None → m ≡ s → OnOk r (n ≡ insert m q x) → OnOk r (with_hand hand n ≡ insert s q x)
+new_unheld (Ok a) hand m s n q x none is h = unheld hand n (insert s q x) none (h ∙ ap (λ (k : Objects). insert k q x) is)
+new_unheld (Err e) hand m s n q x none is h = tt
 
 pub only_placed : (hand : Option (List ℕ × code.Object)) (m s : Objects) → hand ≡ None → with_hand hand m ≡ s → m ≡ s
 only_placed hand m s none is = ap (λ (h : Option (List ℕ × code.Object)). with_hand h m) (sym none) ∙ is

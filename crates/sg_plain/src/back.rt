@@ -1,4 +1,4 @@
-ghost use Rattle.std.specs.Prelude.{◌≡◌, List, ℕ, Option, Some, false, is_some, IsSome, OnOk, map};
+ghost use Rattle.std.specs.Prelude.{◌≡◌, List, ℕ, Option, Some, false, is_some, IsSome, OnOk, OnErr, map};
 ghost use Rattle.std.specs.FinMap as finmap;
 ghost use Rattle.std.specs.Str.{bytes_eq};
 ghost use Rattle.sg_model.specs.Objects as plain;
@@ -23,6 +23,27 @@ fn make_place(objects: &mut BTreeMap<Name, Option<Object>>, name: Name) -> Resul
         return Ok(());
     }
     match objects.insert(name, None) {
+        Ok(old) => {
+            drop(old);
+            Ok(())
+        }
+        Err(failed) => {
+            drop(failed);
+            Err(OutOfMemory)
+        }
+    }
+}
+
+/// Puts a new object under a name. After `OutOfMemory` nothing has changed.
+pub fn put_new(
+    objects: &mut BTreeMap<Name, Option<Object>>,
+    name: Name,
+    object: Object,
+) -> Result<(), OutOfMemory>
+    ensures put { OnOk result (objects_of objects.new.entries ≡ finmap.insert (objects_of objects.old.entries) name (shown object)) }
+    ensures err { OnErr result (objects_of objects.new.entries ≡ objects_of objects.old.entries) }
+{
+    match objects.insert(name, Some(object)) {
         Ok(old) => {
             drop(old);
             Ok(())
@@ -67,12 +88,18 @@ fn make_past_ready(
     match past {
         Past::Made => Ok(()),
         Past::Changed(undos) => {
-            undos.settle()?;
+            let Ok(()) = undos.settle() else {
+                return Err(OutOfMemory);
+            };
             make_object_ready(objects, name, &undos.notes)
         }
         Past::Dropped { object, undos } => {
-            make_place(objects, name)?;
-            undos.settle()?;
+            let Ok(()) = make_place(objects, name) else {
+                return Err(OutOfMemory);
+            };
+            let Ok(()) = undos.settle() else {
+                return Err(OutOfMemory);
+            };
             object.make_ready(&undos.notes)
         }
     }

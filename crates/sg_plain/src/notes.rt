@@ -122,7 +122,9 @@ impl Notes {
         ensures err { OnErr result (shown object.new ≡ shown object.old) }
         ensures same { OnErr result ((other : List ℕ) (was : Option plain.Object) → undo_noted self.new other was ≡ undo_noted self.old other was) }
     {
-        self.put_place(alloc, *name)?;
+        let Ok(()) = self.put_place(alloc, *name) else {
+            return Err(OutOfMemory);
+        };
         match self.map.get_mut(name) {
             None => unreachable!(),
             Some(past) => past.edit(object, alloc, ops, op, into),

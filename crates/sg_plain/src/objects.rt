@@ -20,7 +20,7 @@ ghost use Rattle.sg_model.specs.Undo.{undo_on, note_of_op};
 ghost use Rattle.sg_plain.specs.Undone.{undo_in};
 
 use crate::array::Array;
-use crate::back::{drop_places, make_all_ready, take_all_back};
+use crate::back::{drop_places, make_all_ready, put_new, take_all_back};
 use crate::blob::Blob;
 use crate::changes::Changes;
 use crate::hand::{bring, find, held_keys, stow};
@@ -163,10 +163,7 @@ impl Objects {
         ensures err { OnErr result (self.new ≡ self.old) }
     {
         stow(&mut self.hand, &mut self.map);
-        match self.map.insert(name, Some(object)) {
-            Ok(_) => Ok(()),
-            Err(_) => Err(OutOfMemory),
-        }
+        put_new(&mut self.map, name, object)
     }
 
     // Takes the object with a name away. Takes no memory.
@@ -477,8 +474,12 @@ impl Objects {
         ensures same { OnErr result ((name : List ℕ) (object : Option plain.Object) → undo_in changes.new name object ≡ undo_in changes.old name object) }
     {
         let name = op.name();
-        changes.make_place(alloc, name)?;
-        self.perform(alloc, op)?;
+        let Ok(()) = changes.make_place(alloc, name) else {
+            return Err(OutOfMemory);
+        };
+        let Ok(()) = self.perform(alloc, op) else {
+            return Err(OutOfMemory);
+        };
         changes.add(name, Change::Made);
         Ok(())
     }
@@ -496,7 +497,9 @@ impl Objects {
         ensures err { OnErr result (self.new ≡ self.old) }
         ensures same { OnErr result ((other : List ℕ) (object : Option plain.Object) → undo_in changes.new other object ≡ undo_in changes.old other object) }
     {
-        changes.make_place(alloc, name)?;
+        let Ok(()) = changes.make_place(alloc, name) else {
+            return Err(OutOfMemory);
+        };
         let Some(object) = self.take_out(name) else {
             unreachable!();
         };
@@ -627,7 +630,9 @@ impl Objects {
         ensures err { OnErr result (self.new ≡ self.old) }
         ensures same { OnErr result ((name : List ℕ) (object : Option plain.Object) → undo_in changes.new name object ≡ undo_in changes.old name object) }
     {
-        changes.gather()?;
+        let Ok(()) = changes.gather() else {
+            return Err(OutOfMemory);
+        };
         stow(&mut self.hand, &mut self.map);
         match make_all_ready(&mut self.map, alloc, &mut changes.others) {
             Ok(()) => {

@@ -14,7 +14,7 @@ pub(crate) const ONE: &[u8] = b"\x01\0\0\0\0\0\0\0";
 const MOST: u64 = 16_384_000;
 
 /// What an operation came to.
-#[derive(Clone, Copy, Debug, PartialEq, Eq)]
+#[derive(Clone, Copy, PartialEq, Eq)]
 pub(crate) enum Came {
     Reply(Reply),
     Reason(Reason),
@@ -102,25 +102,55 @@ fn refused(objects: &Objects, ops: &Ops, op: &Op<'_>) -> Option<Reason> {
     objects.refusal(ops, op)
 }
 
-// The first row that came to something else, the rows done one after another.
-fn first_wrong(
-    objects: &mut Objects,
+// Objects, one of which has this name. Each table below stands in a function of its own, which promises nothing, since
+// a function that names a table writes all of it, and its proof carries what it has written.
+#[derive(Drop)]
+struct Trial {
     alloc: Global,
-    ops: &Ops,
+    ops: Ops,
     name: Name,
-    rows: &[Row],
-) -> Option<usize> {
-    for (i, (says, want, bytes)) in rows.iter().enumerate() {
-        let (came, first) = outcome(objects, alloc, ops, &named(name, *says));
-        if came != *want || first != *bytes {
-            return Some(i);
-        }
+    objects: Objects,
+}
+
+impl Trial {
+    fn new(alloc: Global, name: &[u8]) -> Result<Trial, Fail> {
+        let name = Name::new(name).ok_or("a name")?;
+        let ops = Ops::shipped(alloc)?;
+        Ok(Trial {
+            alloc,
+            ops,
+            name,
+            objects: Objects::empty(alloc),
+        })
     }
-    None
+
+    fn outcome(&mut self, says: Says) -> (Came, [u8; 8]) {
+        outcome(
+            &mut self.objects,
+            self.alloc,
+            &self.ops,
+            &named(self.name, says),
+        )
+    }
+
+    // The first row that came to something else, the rows done one after another.
+    fn first_wrong(&mut self, rows: &[Row]) -> Option<usize> {
+        for (i, (says, want, bytes)) in rows.iter().enumerate() {
+            let (came, first) = self.outcome(*says);
+            if came != *want || first != *bytes {
+                return Some(i);
+            }
+        }
+        None
+    }
+
+    fn refusal(&self, says: Says) -> Option<Reason> {
+        refused(&self.objects, &self.ops, &named(self.name, says))
+    }
 }
 
 // An array from before it is made until after it is gone.
-const ARRAY: [Row; 29] = [
+const ARRAY_MADE: [Row; 8] = [
     (Push(HIGHEST), Came::Reason(Reason::NoObject), NONE),
     (MakeArray(0), Came::Reason(Reason::OutOfRange), NONE),
     (MakeArray(257), Came::Reason(Reason::OutOfRange), NONE),
@@ -129,6 +159,14 @@ const ARRAY: [Row; 29] = [
     (MakeTable, Came::Reason(Reason::Exists), NONE),
     (Pop, Came::Reason(Reason::OutOfRange), NONE),
     (Push(b"short"), Came::Reason(Reason::Declined), NONE),
+];
+
+fn array_made(trial: &mut Trial) -> Option<usize> {
+    trial.first_wrong(&ARRAY_MADE)
+}
+
+// Record operations, of which some are refused.
+const ARRAY_CHANGED: [Row; 8] = [
     (Push(HIGHEST), Came::Reply(Reply::Number(0)), NONE),
     (Apply(0, 1, ONE), DONE, NONE),
     (Get(0), Came::Reply(Reply::Bytes(8)), NONE),
@@ -141,12 +179,28 @@ const ARRAY: [Row; 29] = [
         Came::Reason(Reason::NoOperation),
         NONE,
     ),
+];
+
+fn array_changed(trial: &mut Trial) -> Option<usize> {
+    trial.first_wrong(&ARRAY_CHANGED)
+}
+
+// Places that are there, and some that are not.
+const ARRAY_SET: [Row; 6] = [
     (Apply(1, 9, b"1"), Came::Reason(Reason::OutOfRange), NONE),
     (Apply(1, 9, &[0; 257]), Came::Reason(Reason::TooLong), NONE),
     (Set(1, b"x"), Came::Reason(Reason::OutOfRange), NONE),
     (Set(0, b"x"), Came::Reason(Reason::Declined), NONE),
     (Set(0, b"abcdefgh"), DONE, NONE),
     (Apply(0, 3, &[1]), DONE, NONE),
+];
+
+fn array_set(trial: &mut Trial) -> Option<usize> {
+    trial.first_wrong(&ARRAY_SET)
+}
+
+// What it answers until it is gone.
+const ARRAY_GONE: [Row; 7] = [
     (Len, Came::Reply(Reply::Number(1)), NONE),
     (Find(b"k"), Came::Reason(Reason::WrongKind), NONE),
     (Read(0, 1), Came::Reason(Reason::WrongKind), NONE),
@@ -156,18 +210,31 @@ const ARRAY: [Row; 29] = [
     (Discard, Came::Reason(Reason::NoObject), NONE),
 ];
 
+fn array_gone(trial: &mut Trial) -> Option<usize> {
+    trial.first_wrong(&ARRAY_GONE)
+}
+
+// The first row of each table, the tables one after another, that came to something else.
+fn wrong_array(alloc: Global) -> Result<[Option<usize>; 4], Fail> {
+    let mut trial = Trial::new(alloc, b"n")?;
+    let wrong = [
+        array_made(&mut trial),
+        array_changed(&mut trial),
+        array_set(&mut trial),
+        array_gone(&mut trial),
+    ];
+    drop(trial);
+    Ok(wrong)
+}
+
 #[test]
 fn an_array_keeps_its_items(rt: HostRuntime) -> Result<(), Fail> {
-    let alloc = rt.alloc();
-    let ops = Ops::shipped(alloc)?;
-    let name = Name::new(b"n").ok_or("a name")?;
-    let mut objects = Objects::empty(alloc);
-    assert_eq!(rt; first_wrong(&mut objects, alloc, &ops, name, &ARRAY), None);
+    assert_eq!(rt; wrong_array(rt.alloc())?, [None; 4]);
     Ok(())
 }
 
 // A table, with keys and values at their limits.
-const TABLE: [Row; 18] = [
+const TABLE_FILLED: [Row; 8] = [
     (MakeTable, DONE, NONE),
     (Put(b"", b"v"), Came::Reason(Reason::OutOfRange), NONE),
     (Put(&[7; 129], b"v"), Came::Reason(Reason::TooLong), NONE),
@@ -176,6 +243,14 @@ const TABLE: [Row; 18] = [
     (Find(b"k"), Came::Reply(Reply::Bytes(1024)), [7; 8]),
     (Put(b"k", b""), Came::Reply(Reply::Replaced), NONE),
     (Find(b"k"), Came::Reply(Reply::Bytes(0)), NONE),
+];
+
+fn table_filled(trial: &mut Trial) -> Option<usize> {
+    trial.first_wrong(&TABLE_FILLED)
+}
+
+// Keys of other lengths, and keys that are taken away.
+const TABLE_EMPTIED: [Row; 10] = [
     (Put(&[7; 128], b"abcdefgh"), Came::Reply(Reply::New), NONE),
     (Find(&[7; 128]), Came::Reply(Reply::Bytes(8)), *b"abcdefgh"),
     (Find(&[7; 127]), Came::Reply(Reply::Absent), NONE),
@@ -188,18 +263,26 @@ const TABLE: [Row; 18] = [
     (Push(b"v"), Came::Reason(Reason::WrongKind), NONE),
 ];
 
+fn table_emptied(trial: &mut Trial) -> Option<usize> {
+    trial.first_wrong(&TABLE_EMPTIED)
+}
+
+// The first row of each table, the tables one after another, that came to something else.
+fn wrong_table(alloc: Global) -> Result<[Option<usize>; 2], Fail> {
+    let mut trial = Trial::new(alloc, b"t")?;
+    let wrong = [table_filled(&mut trial), table_emptied(&mut trial)];
+    drop(trial);
+    Ok(wrong)
+}
+
 #[test]
 fn a_table_keeps_its_values(rt: HostRuntime) -> Result<(), Fail> {
-    let alloc = rt.alloc();
-    let ops = Ops::shipped(alloc)?;
-    let name = Name::new(b"t").ok_or("a name")?;
-    let mut objects = Objects::empty(alloc);
-    assert_eq!(rt; first_wrong(&mut objects, alloc, &ops, name, &TABLE), None);
+    assert_eq!(rt; wrong_table(rt.alloc())?, [None; 2]);
     Ok(())
 }
 
 // A blob, with places and lengths at their limits.
-const BLOB: [Row; 27] = [
+const BLOB_WRITTEN: [Row; 9] = [
     (MakeBlob, DONE, NONE),
     (Write(1, b"x"), Came::Reason(Reason::OutOfRange), NONE),
     (Write(0, b"hello"), DONE, NONE),
@@ -209,6 +292,14 @@ const BLOB: [Row; 27] = [
     (Size(4), DONE, NONE),
     (Paint(0, 4, 2, b"\x0a"), DONE, NONE),
     (Paint(1, 2, 1, b"Z"), DONE, NONE),
+];
+
+fn blob_written(trial: &mut Trial) -> Option<usize> {
+    trial.first_wrong(&BLOB_WRITTEN)
+}
+
+// Bytes at the end and past it.
+const BLOB_READ: [Row; 9] = [
     (
         Read(0, 4),
         Came::Reply(Reply::Bytes(4)),
@@ -222,6 +313,14 @@ const BLOB: [Row; 27] = [
     (Write(u64::MAX, b"x"), Came::Reason(Reason::TooLong), NONE),
     (Write(MOST, b""), Came::Reason(Reason::OutOfRange), NONE),
     (Write(MOST, b"x"), Came::Reason(Reason::TooLong), NONE),
+];
+
+fn blob_read(trial: &mut Trial) -> Option<usize> {
+    trial.first_wrong(&BLOB_READ)
+}
+
+// What is too long or names no operation.
+const BLOB_REFUSED: [Row; 9] = [
     (Write(0, &[0; 8193]), Came::Reason(Reason::TooLong), NONE),
     (Size(MOST + 1), Came::Reason(Reason::TooLong), NONE),
     (
@@ -245,29 +344,51 @@ const BLOB: [Row; 27] = [
     (Apply(0, 1, b""), Came::Reason(Reason::WrongKind), NONE),
 ];
 
+fn blob_refused(trial: &mut Trial) -> Option<usize> {
+    trial.first_wrong(&BLOB_REFUSED)
+}
+
+// The first row of each table, the tables one after another, that came to something else.
+fn wrong_blob(alloc: Global) -> Result<[Option<usize>; 3], Fail> {
+    let mut trial = Trial::new(alloc, b"b")?;
+    let wrong = [
+        blob_written(&mut trial),
+        blob_read(&mut trial),
+        blob_refused(&mut trial),
+    ];
+    drop(trial);
+    Ok(wrong)
+}
+
 #[test]
 fn a_blob_keeps_its_bytes(rt: HostRuntime) -> Result<(), Fail> {
-    let alloc = rt.alloc();
-    let ops = Ops::shipped(alloc)?;
-    let name = Name::new(b"b").ok_or("a name")?;
-    let mut objects = Objects::empty(alloc);
-    assert_eq!(rt; first_wrong(&mut objects, alloc, &ops, name, &BLOB), None);
+    assert_eq!(rt; wrong_blob(rt.alloc())?, [None; 3]);
     Ok(())
+}
+
+// Why the length would not be said, and why a blob would not be made, before one is, what making it comes to, and
+// why its length would not be said.
+type Known = (Option<Reason>, Option<Reason>, bool, Option<Reason>);
+
+fn known_before(trial: &mut Trial) -> Known {
+    let length = trial.refusal(Len);
+    let blob = trial.refusal(MakeBlob);
+    let (made, _) = trial.outcome(MakeBlob);
+    (length, blob, made == DONE, trial.refusal(Len))
+}
+
+fn known_of(alloc: Global) -> Result<Known, Fail> {
+    let mut trial = Trial::new(alloc, b"b")?;
+    let known = known_before(&mut trial);
+    drop(trial);
+    Ok(known)
 }
 
 #[test]
 fn a_refusal_is_known_before(rt: HostRuntime) -> Result<(), Fail> {
-    let alloc = rt.alloc();
-    let ops = Ops::shipped(alloc)?;
-    let name = Name::new(b"b").ok_or("a name")?;
-    let mut objects = Objects::empty(alloc);
     assert_eq!(rt;
-        refused(&objects, &ops, &Op::Len { name }),
-        Some(Reason::NoObject)
+        known_of(rt.alloc())?,
+        (Some(Reason::NoObject), None, true, None)
     );
-    assert_eq!(rt; refused(&objects, &ops, &Op::MakeBlob { name }), None);
-    let (made, _) = outcome(&mut objects, alloc, &ops, &Op::MakeBlob { name });
-    assert_eq!(rt; made, DONE);
-    assert_eq!(rt; refused(&objects, &ops, &Op::Len { name }), None);
     Ok(())
 }

@@ -82,16 +82,76 @@ fn first_wrong(
     None
 }
 
-// Takes changes back, once more where memory runs out.
-fn take_back(
-    objects: &mut Objects,
+// Objects, and what three transactions change of them. Each table below stands in a function of its own, which promises
+// nothing, since a function that names a table writes all of it.
+#[derive(Drop)]
+struct Trial {
     alloc: Global,
-    changes: &mut Changes,
-) -> Result<(), OutOfMemory> {
-    if objects.take_back(alloc, changes).is_ok() {
-        return Ok(());
+    ops: Ops,
+    objects: Objects,
+    first: Changes,
+    one: Changes,
+    other: Changes,
+}
+
+impl Trial {
+    fn new(alloc: Global) -> Result<Trial, Fail> {
+        Ok(Trial {
+            alloc,
+            ops: Ops::shipped(alloc)?,
+            objects: Objects::empty(alloc),
+            first: Changes::new(alloc),
+            one: Changes::new(alloc),
+            other: Changes::new(alloc),
+        })
     }
-    objects.take_back(alloc, changes)
+
+    // The first row that came to something else where the first transaction does them.
+    fn first(&mut self, rows: &[Row]) -> Option<usize> {
+        first_wrong(
+            &mut self.objects,
+            self.alloc,
+            &self.ops,
+            &mut self.first,
+            rows,
+        )
+    }
+
+    // The same of the second and of the third one.
+    fn one(&mut self, rows: &[Row]) -> Option<usize> {
+        first_wrong(
+            &mut self.objects,
+            self.alloc,
+            &self.ops,
+            &mut self.one,
+            rows,
+        )
+    }
+
+    fn other(&mut self, rows: &[Row]) -> Option<usize> {
+        first_wrong(
+            &mut self.objects,
+            self.alloc,
+            &self.ops,
+            &mut self.other,
+            rows,
+        )
+    }
+
+    // Takes back what the one transaction did, once more where memory runs out, and says whether it is.
+    fn one_goes(&mut self) -> bool {
+        take_back(&mut self.objects, self.alloc, &mut self.one)
+            || take_back(&mut self.objects, self.alloc, &mut self.one)
+    }
+
+    fn other_goes(&mut self) -> bool {
+        take_back(&mut self.objects, self.alloc, &mut self.other)
+            || take_back(&mut self.objects, self.alloc, &mut self.other)
+    }
+}
+
+fn take_back(objects: &mut Objects, alloc: Global, changes: &mut Changes) -> bool {
+    objects.take_back(alloc, changes).is_ok()
 }
 
 // An array, a table and a blob.
@@ -104,6 +164,10 @@ const MADE: [Row; 7] = [
     (b'b', MakeBlob, DONE, NONE),
     (b'b', Write(0, b"hello"), DONE, NONE),
 ];
+
+fn made(trial: &mut Trial) -> Option<usize> {
+    trial.first(&MADE)
+}
 
 // What is seen of them before any change.
 const SEEN: [Row; 9] = [
@@ -128,8 +192,12 @@ const SEEN: [Row; 9] = [
     (b'n', Len, Came::Reason(Reason::NoObject), NONE),
 ];
 
+fn seen(trial: &mut Trial) -> Option<usize> {
+    trial.one(&SEEN)
+}
+
 // Each verb that changes an object, on several names, with what is seen then.
-const CHANGED: [Row; 29] = [
+const CHANGED: [Row; 8] = [
     (b'a', Push(b"cccccccc"), Came::Reply(Reply::Number(2)), NONE),
     (b'b', Write(3, b"ABC"), DONE, NONE),
     (b't', Put(b"k", b"w"), Came::Reply(Reply::Replaced), NONE),
@@ -138,6 +206,14 @@ const CHANGED: [Row; 29] = [
     (b'a', Apply(1, 1, ONE), DONE, NONE),
     (b'b', Size(2), DONE, NONE),
     (b'a', Pop, Came::Reply(Reply::Bytes(8)), *b"cccccccc"),
+];
+
+fn changed(trial: &mut Trial) -> Option<usize> {
+    trial.one(&CHANGED)
+}
+
+// The same objects once more.
+const CHANGED_MORE: [Row; 9] = [
     (b'a', Pop, Came::Reply(Reply::Bytes(8)), *b"cbbbbbbb"),
     (b't', Del(b"k"), DONE, NONE),
     (b't', Del(b"m"), Came::Reply(Reply::Absent), NONE),
@@ -147,12 +223,28 @@ const CHANGED: [Row; 29] = [
     (b'a', Pop, Came::Reason(Reason::OutOfRange), NONE),
     (b'a', Push(b"eeeeeeee"), Came::Reply(Reply::Number(0)), NONE),
     (b't', Put(b"k", b"z"), Came::Reply(Reply::New), NONE),
+];
+
+fn changed_more(trial: &mut Trial) -> Option<usize> {
+    trial.one(&CHANGED_MORE)
+}
+
+// Objects under a new name.
+const MADE_ANEW: [Row; 6] = [
     (b'n', MakeArray(1), DONE, NONE),
     (b'n', Push(b"x"), Came::Reply(Reply::Number(0)), NONE),
     (b'n', Discard, DONE, NONE),
     (b'n', MakeBlob, DONE, NONE),
     (b'n', Write(0, b"y"), DONE, NONE),
     (b'n', MakeTable, Came::Reason(Reason::Exists), NONE),
+];
+
+fn made_anew(trial: &mut Trial) -> Option<usize> {
+    trial.one(&MADE_ANEW)
+}
+
+// What is seen then.
+const SEEN_CHANGED: [Row; 6] = [
     (b'a', Len, Came::Reply(Reply::Number(1)), NONE),
     (b'a', Get(0), Came::Reply(Reply::Bytes(8)), *b"eeeeeeee"),
     (
@@ -176,14 +268,26 @@ const CHANGED: [Row; 29] = [
     (b'n', Len, Came::Reply(Reply::Number(1)), NONE),
 ];
 
+fn seen_changed(trial: &mut Trial) -> Option<usize> {
+    trial.one(&SEEN_CHANGED)
+}
+
 // Objects dropped, some of them made again under their names.
-const DROPPED: [Row; 13] = [
+const DROPPED: [Row; 6] = [
     (b'a', Pop, Came::Reply(Reply::Bytes(8)), *b"bbbbbbbb"),
     (b'a', Discard, DONE, NONE),
     (b'a', MakeTable, DONE, NONE),
     (b'a', Put(b"k", b"v"), Came::Reply(Reply::New), NONE),
     (b'a', Discard, DONE, NONE),
     (b't', Del(b"k"), DONE, NONE),
+];
+
+fn dropped(trial: &mut Trial) -> Option<usize> {
+    trial.one(&DROPPED)
+}
+
+// The others.
+const DROPPED_MORE: [Row; 7] = [
     (b't', Discard, DONE, NONE),
     (b't', MakeArray(2), DONE, NONE),
     (b'b', Size(0), DONE, NONE),
@@ -193,54 +297,93 @@ const DROPPED: [Row; 13] = [
     (b'b', Len, Came::Reason(Reason::NoObject), NONE),
 ];
 
+fn dropped_more(trial: &mut Trial) -> Option<usize> {
+    trial.one(&DROPPED_MORE)
+}
+
+fn all_changed(trial: &mut Trial) -> [Option<usize>; 4] {
+    [
+        changed(trial),
+        changed_more(trial),
+        made_anew(trial),
+        seen_changed(trial),
+    ]
+}
+
+fn all_dropped(trial: &mut Trial) -> [Option<usize>; 2] {
+    [dropped(trial), dropped_more(trial)]
+}
+
+// What the tables come to, and whether all is taken back each time.
+type BackOfOne = (
+    [Option<usize>; 4],
+    [Option<usize>; 4],
+    [Option<usize>; 2],
+    [bool; 3],
+);
+
+fn back_of_one(trial: &mut Trial) -> BackOfOne {
+    let made = made(trial);
+    let before = seen(trial);
+    let changed = all_changed(trial);
+    let gone = trial.one_goes();
+    let back = seen(trial);
+    let dropped = all_dropped(trial);
+    let dropped_gone = trial.one_goes();
+    let nothing_gone = trial.one_goes();
+    let last = seen(trial);
+    (
+        [made, before, back, last],
+        changed,
+        dropped,
+        [gone, dropped_gone, nothing_gone],
+    )
+}
+
+fn back_of_one_in(alloc: Global) -> Result<BackOfOne, Fail> {
+    let mut trial = Trial::new(alloc)?;
+    let came = back_of_one(&mut trial);
+    drop(trial);
+    Ok(came)
+}
+
 #[test]
 fn what_a_transaction_did_is_taken_back(rt: HostRuntime) -> Result<(), Fail> {
-    let alloc = rt.alloc();
-    let ops = Ops::shipped(alloc)?;
-    let mut objects = Objects::empty(alloc);
-    let mut first = Changes::new(alloc);
-    assert_eq!(rt;
-        first_wrong(&mut objects, alloc, &ops, &mut first, &MADE),
-        None
-    );
-    let mut changes = Changes::new(alloc);
-    assert_eq!(rt;
-        first_wrong(&mut objects, alloc, &ops, &mut changes, &SEEN),
-        None
-    );
-    assert_eq!(rt;
-        first_wrong(&mut objects, alloc, &ops, &mut changes, &CHANGED),
-        None
-    );
-    take_back(&mut objects, alloc, &mut changes)?;
-    assert_eq!(rt;
-        first_wrong(&mut objects, alloc, &ops, &mut changes, &SEEN),
-        None
-    );
-    assert_eq!(rt;
-        first_wrong(&mut objects, alloc, &ops, &mut changes, &DROPPED),
-        None
-    );
-    take_back(&mut objects, alloc, &mut changes)?;
-    take_back(&mut objects, alloc, &mut changes)?;
-    assert_eq!(rt;
-        first_wrong(&mut objects, alloc, &ops, &mut changes, &SEEN),
-        None
-    );
+    let (seen, changed, dropped, gone) = back_of_one_in(rt.alloc())?;
+    assert_eq!(rt; seen, [None; 4]);
+    assert_eq!(rt; changed, [None; 4]);
+    assert_eq!(rt; dropped, [None; 2]);
+    assert_eq!(rt; gone, [true; 3]);
     Ok(())
 }
 
 // Changes of one transaction, and of another one on other names, with what is seen once the other is taken back.
 const ONE_BEGINS: [Row; 1] = [(b'a', Push(b"cccccccc"), Came::Reply(Reply::Number(2)), NONE)];
 
+fn one_begins(trial: &mut Trial) -> Option<usize> {
+    trial.one(&ONE_BEGINS)
+}
+
 const OTHER_BEGINS: [Row; 1] = [(b'b', Write(5, b"!!"), DONE, NONE)];
+
+fn other_begins(trial: &mut Trial) -> Option<usize> {
+    trial.other(&OTHER_BEGINS)
+}
 
 const ONE_GOES_ON: [Row; 2] = [
     (b'a', Set(0, b"dddddddd"), DONE, NONE),
     (b't', Put(b"k", b"w"), Came::Reply(Reply::Replaced), NONE),
 ];
 
+fn one_goes_on(trial: &mut Trial) -> Option<usize> {
+    trial.one(&ONE_GOES_ON)
+}
+
 const OTHER_GOES_ON: [Row; 2] = [(b'b', Size(1), DONE, NONE), (b'n', MakeTable, DONE, NONE)];
+
+fn other_goes_on(trial: &mut Trial) -> Option<usize> {
+    trial.other(&OTHER_GOES_ON)
+}
 
 const OTHER_IS_BACK: [Row; 5] = [
     (
@@ -260,43 +403,38 @@ const OTHER_IS_BACK: [Row; 5] = [
     ),
 ];
 
+fn other_is_back(trial: &mut Trial) -> Option<usize> {
+    trial.other(&OTHER_IS_BACK)
+}
+
+// What the tables come to, and whether both are taken back.
+fn back_of_two(trial: &mut Trial) -> ([Option<usize>; 7], [bool; 2]) {
+    let made = made(trial);
+    let one = one_begins(trial);
+    let other = other_begins(trial);
+    let one_on = one_goes_on(trial);
+    let other_on = other_goes_on(trial);
+    let other_gone = trial.other_goes();
+    let other_back = other_is_back(trial);
+    let one_gone = trial.one_goes();
+    let last = seen(trial);
+    (
+        [made, one, other, one_on, other_on, other_back, last],
+        [other_gone, one_gone],
+    )
+}
+
+fn back_of_two_in(alloc: Global) -> Result<([Option<usize>; 7], [bool; 2]), Fail> {
+    let mut trial = Trial::new(alloc)?;
+    let came = back_of_two(&mut trial);
+    drop(trial);
+    Ok(came)
+}
+
 #[test]
 fn one_of_two_transactions_is_taken_back(rt: HostRuntime) -> Result<(), Fail> {
-    let alloc = rt.alloc();
-    let ops = Ops::shipped(alloc)?;
-    let mut objects = Objects::empty(alloc);
-    let mut first = Changes::new(alloc);
-    assert_eq!(rt;
-        first_wrong(&mut objects, alloc, &ops, &mut first, &MADE),
-        None
-    );
-    let mut one = Changes::new(alloc);
-    let mut other = Changes::new(alloc);
-    assert_eq!(rt;
-        first_wrong(&mut objects, alloc, &ops, &mut one, &ONE_BEGINS),
-        None
-    );
-    assert_eq!(rt;
-        first_wrong(&mut objects, alloc, &ops, &mut other, &OTHER_BEGINS),
-        None
-    );
-    assert_eq!(rt;
-        first_wrong(&mut objects, alloc, &ops, &mut one, &ONE_GOES_ON),
-        None
-    );
-    assert_eq!(rt;
-        first_wrong(&mut objects, alloc, &ops, &mut other, &OTHER_GOES_ON),
-        None
-    );
-    take_back(&mut objects, alloc, &mut other)?;
-    assert_eq!(rt;
-        first_wrong(&mut objects, alloc, &ops, &mut other, &OTHER_IS_BACK),
-        None
-    );
-    take_back(&mut objects, alloc, &mut one)?;
-    assert_eq!(rt;
-        first_wrong(&mut objects, alloc, &ops, &mut one, &SEEN),
-        None
-    );
+    let (wrong, gone) = back_of_two_in(rt.alloc())?;
+    assert_eq!(rt; wrong, [None; 7]);
+    assert_eq!(rt; gone, [true; 2]);
     Ok(())
 }
