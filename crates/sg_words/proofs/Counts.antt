@@ -150,13 +150,13 @@ third p q (Some r) f = refl
 
 second : (p : ℕ) (o : Option (ℕ × List (List ℕ))) (h : List (List ℕ) → Option (ℕ × List (List ℕ))) (f : ℕ → ℕ → ℕ → List (List ℕ) → Option Request)
     → where_some o (λ q. where_some (h q.1) (λ r. f p q.0 r.0 r.1))
-      ≡ where_some (option_and_then {U = ℕ × ℕ × ℕ × List (List ℕ)} (λ q. option_map (λ r. (p, q.0, r.0, r.1)) (h q.1)) o) (λ n. f n.0 n.1 n.2 n.3)
+    ≡ where_some (option_and_then {U = ℕ × ℕ × ℕ × List (List ℕ)} (λ q. option_map (λ r. (p, q.0, r.0, r.1)) (h q.1)) o) (λ n. f n.0 n.1 n.2 n.3)
 second p None h f = refl
 second p (Some q) h f = third p q.0 (h q.1) f
 
 first : (o : Option (ℕ × List (List ℕ))) (g h : List (List ℕ) → Option (ℕ × List (List ℕ))) (f : ℕ → ℕ → ℕ → List (List ℕ) → Option Request)
     → where_some o (λ p. where_some (g p.1) (λ q. where_some (h q.1) (λ r. f p.0 q.0 r.0 r.1)))
-      ≡ where_some (option_and_then {U = ℕ × ℕ × ℕ × List (List ℕ)} (λ p. option_and_then (λ q. option_map (λ r. (p.0, q.0, r.0, r.1)) (h q.1)) (g p.1)) o) (λ n. f n.0 n.1 n.2 n.3)
+    ≡ where_some (option_and_then {U = ℕ × ℕ × ℕ × List (List ℕ)} (λ p. option_and_then (λ q. option_map (λ r. (p.0, q.0, r.0, r.1)) (h q.1)) (g p.1)) o) (λ n. f n.0 n.1 n.2 n.3)
 first None g h f = refl
 first (Some p) g h f = second p.0 (g p.1) h f
 

@@ -1,4 +1,4 @@
-use Rattle.std.proofs.Common.{◌≡◌, List, [], ℕ, Bool, Some, rules, sym, ap, ◌∙◌}
+use Rattle.std.proofs.Common.{◌≡◌, [], Bool, Some, rules, sym, ap, ◌∙◌}
 use Rattle.sg_words.specs.Parse.{words_of}
 use Rattle.sg_words.specs.Verbs.{number_if}
 use Rattle.sg_words.proofs.Counts.{named_read}

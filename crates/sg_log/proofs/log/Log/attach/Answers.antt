@@ -41,8 +41,7 @@ returns-in-Err-clause-damaged g c at told damage = damage_found g.D.Disk.told c.
 pub invariant_of-result : goal.invariant_of-result
 invariant_of-result g c =
     let frame = c.in_ok-frame.frame in
-    let text = c.find_gate.new.space in
-    (
+    let text = c.find_gate.new.space in (
       record { front = omega arith; short = omega arith; gate_within = c.in-Ok.ensures.within; within = λ some. absurd (omega arith) },
       omega (arith, length-take frame.len (text ++ drop (length text) frame.items), length-append text (drop (length text) frame.items), length-drop (length text) frame.items, c.find_gate.auto.space, ap length c.deref_mut.ensures.value, frame.ok.0, c.in_ok-frame.ensures.room),
     )
