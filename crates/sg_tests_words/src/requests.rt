@@ -3,98 +3,103 @@ use sg_words::{Asked, Request, parse_request, parse_words};
 use std::alloc::{AllocError, Global};
 use std::test::Fail;
 
-// What a line asks for: the number of its verb, its numbers, and the lengths of its keys and values, filled up with 0.
-type What = [u64; 5];
+// What a line asks for, without its words: nothing, nothing that is a line of a script, or a verb.
+#[derive(Clone, Copy, PartialEq, Eq)]
+enum Verb {
+    Blank,
+    Wrong,
+    Begin,
+    Commit,
+    Abort,
+    Keys,
+    List,
+    MakeArray,
+    MakeTable,
+    MakeBlob,
+    Discard,
+    Push,
+    Pop,
+    Set,
+    Get,
+    Len,
+    Apply,
+    Put,
+    Del,
+    Find,
+    Write,
+    Read,
+    Size,
+    Paint,
+}
 
-const BLANK: What = [0, 0, 0, 0, 0];
+// A verb with its numbers, and with the lengths of its keys and values, filled up with 0.
+type What = (Verb, [u64; 4]);
 
-const WRONG: What = [1, 0, 0, 0, 0];
+const BLANK: What = (Verb::Blank, [0; 4]);
 
-const BEGIN: What = [2, 0, 0, 0, 0];
+const WRONG: What = (Verb::Wrong, [0; 4]);
 
-const COMMIT: What = [3, 0, 0, 0, 0];
+const BEGIN: What = (Verb::Begin, [0; 4]);
 
-const ABORT: What = [4, 0, 0, 0, 0];
+const COMMIT: What = (Verb::Commit, [0; 4]);
 
-const KEYS: What = [5, 0, 0, 0, 0];
+const ABORT: What = (Verb::Abort, [0; 4]);
 
-const LIST: What = [6, 0, 0, 0, 0];
+const KEYS: What = (Verb::Keys, [0; 4]);
 
-const MAKE_ARRAY: u64 = 7;
+const LIST: What = (Verb::List, [0; 4]);
 
-const MAKE_TABLE: What = [8, 0, 0, 0, 0];
+const MAKE_TABLE: What = (Verb::MakeTable, [0; 4]);
 
-const MAKE_BLOB: What = [9, 0, 0, 0, 0];
+const MAKE_BLOB: What = (Verb::MakeBlob, [0; 4]);
 
-const DISCARD: What = [10, 0, 0, 0, 0];
+const DISCARD: What = (Verb::Discard, [0; 4]);
 
-const PUSH: u64 = 11;
+const POP: What = (Verb::Pop, [0; 4]);
 
-const POP: What = [12, 0, 0, 0, 0];
-
-const SET: u64 = 13;
-
-const GET: u64 = 14;
-
-const LEN: What = [15, 0, 0, 0, 0];
-
-const APPLY: u64 = 16;
-
-const PUT: u64 = 17;
-
-const DEL: u64 = 18;
-
-const FIND: u64 = 19;
-
-const WRITE: u64 = 20;
-
-const READ: u64 = 21;
-
-const SIZE: u64 = 22;
-
-const PAINT: u64 = 23;
+const LEN: What = (Verb::Len, [0; 4]);
 
 // A line, and what it asks for.
 type Row = (&'static [u8], What);
 
 fn of_op(op: &Op<'_>) -> What {
     match *op {
-        Op::MakeArray { name: _, size } => [MAKE_ARRAY, size, 0, 0, 0],
+        Op::MakeArray { name: _, size } => (Verb::MakeArray, [size, 0, 0, 0]),
         Op::MakeTable { name: _ } => MAKE_TABLE,
         Op::MakeBlob { name: _ } => MAKE_BLOB,
         Op::Discard { name: _ } => DISCARD,
-        Op::Push { name: _, value } => [PUSH, value.len() as u64, 0, 0, 0],
+        Op::Push { name: _, value } => (Verb::Push, [value.len() as u64, 0, 0, 0]),
         Op::Pop { name: _ } => POP,
         Op::Set {
             name: _,
             index,
             value,
-        } => [SET, index, value.len() as u64, 0, 0],
-        Op::Get { name: _, index } => [GET, index, 0, 0, 0],
+        } => (Verb::Set, [index, value.len() as u64, 0, 0]),
+        Op::Get { name: _, index } => (Verb::Get, [index, 0, 0, 0]),
         Op::Len { name: _ } => LEN,
         Op::Apply {
             name: _,
             index,
             code,
             arg,
-        } => [APPLY, index, code, arg.len() as u64, 0],
+        } => (Verb::Apply, [index, code, arg.len() as u64, 0]),
         Op::Put {
             name: _,
             key,
             value,
-        } => [PUT, key.len() as u64, value.len() as u64, 0, 0],
-        Op::Del { name: _, key } => [DEL, key.len() as u64, 0, 0, 0],
-        Op::Find { name: _, key } => [FIND, key.len() as u64, 0, 0, 0],
-        Op::Write { name: _, at, bytes } => [WRITE, at, bytes.len() as u64, 0, 0],
-        Op::Read { name: _, at, count } => [READ, at, count, 0, 0],
-        Op::Size { name: _, length } => [SIZE, length, 0, 0, 0],
+        } => (Verb::Put, [key.len() as u64, value.len() as u64, 0, 0]),
+        Op::Del { name: _, key } => (Verb::Del, [key.len() as u64, 0, 0, 0]),
+        Op::Find { name: _, key } => (Verb::Find, [key.len() as u64, 0, 0, 0]),
+        Op::Write { name: _, at, bytes } => (Verb::Write, [at, bytes.len() as u64, 0, 0]),
+        Op::Read { name: _, at, count } => (Verb::Read, [at, count, 0, 0]),
+        Op::Size { name: _, length } => (Verb::Size, [length, 0, 0, 0]),
         Op::Paint {
             name: _,
             at,
             count,
             code,
             arg,
-        } => [PAINT, at, count, code, arg.len() as u64],
+        } => (Verb::Paint, [at, count, code, arg.len() as u64]),
     }
 }
 
@@ -181,13 +186,13 @@ const WORDS: [Row; 36] = [
     (b"t begin now", WRONG),
     (b"t commit now", WRONG),
     (b"t make array a", WRONG),
-    (b"t make array a 4", [MAKE_ARRAY, 4, 0, 0, 0]),
+    (b"t make array a 4", (Verb::MakeArray, [4, 0, 0, 0])),
     (b"t make a array 4", WRONG),
     (b"t make array a 4 4", WRONG),
     (b"t push a", WRONG),
     (b"t push a b c", WRONG),
     (b"t set a b 0", WRONG),
-    (b"t set a 0 b", [SET, 0, 1, 0, 0]),
+    (b"t set a 0 b", (Verb::Set, [0, 1, 0, 0])),
     (b"t set a 0 b c", WRONG),
     (b"t get a", WRONG),
     (b"t get a 0 0", WRONG),
@@ -197,22 +202,22 @@ const WORDS: [Row; 36] = [
 
 // A number has 1 to 20 digits and 64 bits, a value is its bytes or digits, and names have their lengths.
 const PARTS: [Row; 34] = [
-    (b"t get a 0", [GET, 0, 0, 0, 0]),
+    (b"t get a 0", (Verb::Get, [0, 0, 0, 0])),
     (
         b"t get a 18446744073709551615",
-        [GET, 18446744073709551615, 0, 0, 0],
+        (Verb::Get, [18446744073709551615, 0, 0, 0]),
     ),
     (b"t get a 18446744073709551616", WRONG),
     (b"t get a 99999999999999999999", WRONG),
-    (b"t get a 00000000000000000001", [GET, 1, 0, 0, 0]),
+    (b"t get a 00000000000000000001", (Verb::Get, [1, 0, 0, 0])),
     (b"t get a 000000000000000000001", WRONG),
     (b"t get a -1", WRONG),
     (b"t get a +1", WRONG),
     (b"t get a 1a", WRONG),
     (b"t get a 0x1", WRONG),
     (b"t get a x:01", WRONG),
-    (b"t make array a 0", [MAKE_ARRAY, 0, 0, 0, 0]),
-    (b"t make array a 257", [MAKE_ARRAY, 257, 0, 0, 0]),
+    (b"t make array a 0", (Verb::MakeArray, [0, 0, 0, 0])),
+    (b"t make array a 257", (Verb::MakeArray, [257, 0, 0, 0])),
     (b"t push a x:4", WRONG),
     (b"t push a x:414", WRONG),
     (b"t push a x:4g", WRONG),
@@ -223,7 +228,7 @@ const PARTS: [Row; 34] = [
     (b"t push a b\tc", WRONG),
     (
         b"t get abcdefghijklmnopqrstuvwxyz_01234 0",
-        [GET, 0, 0, 0, 0],
+        (Verb::Get, [0, 0, 0, 0]),
     ),
     (b"t get abcdefghijklmnopqrstuvwxyz_012345 0", WRONG),
     (b"abcdefghijkl_123 begin", BEGIN),
@@ -236,7 +241,7 @@ const PARTS: [Row; 34] = [
     (b"truncate get a 0", WRONG),
     (b"flushed begin", BEGIN),
     (b"begin begin", BEGIN),
-    (b"t get flush 0", [GET, 0, 0, 0, 0]),
+    (b"t get flush 0", (Verb::Get, [0, 0, 0, 0])),
 ];
 
 // The first row of each of these tables that asks for something else.
@@ -272,30 +277,30 @@ const VERBS: [Row; 42] = [
     (b"t list a", WRONG),
     (b"t keys a", KEYS),
     (b"t keys", WRONG),
-    (b"t make array a 4", [MAKE_ARRAY, 4, 0, 0, 0]),
+    (b"t make array a 4", (Verb::MakeArray, [4, 0, 0, 0])),
     (b"t make table a", MAKE_TABLE),
     (b"t make blob a", MAKE_BLOB),
     (b"t make blob a 4", WRONG),
     (b"t make heap a", WRONG),
     (b"t make", WRONG),
     (b"t drop a", DISCARD),
-    (b"t push a abc", [PUSH, 3, 0, 0, 0]),
+    (b"t push a abc", (Verb::Push, [3, 0, 0, 0])),
     (b"t pop a", POP),
     (b"t pop A", WRONG),
-    (b"t set a 1 x", [SET, 1, 1, 0, 0]),
-    (b"t get a 1", [GET, 1, 0, 0, 0]),
+    (b"t set a 1 x", (Verb::Set, [1, 1, 0, 0])),
+    (b"t get a 1", (Verb::Get, [1, 0, 0, 0])),
     (b"t len a", LEN),
-    (b"t apply a 1 2 x:0102", [APPLY, 1, 2, 2, 0]),
+    (b"t apply a 1 2 x:0102", (Verb::Apply, [1, 2, 2, 0])),
     (b"t apply a 1 x:0102", WRONG),
-    (b"t put a k v", [PUT, 1, 1, 0, 0]),
-    (b"t put a x:6b6b x:76", [PUT, 2, 1, 0, 0]),
+    (b"t put a k v", (Verb::Put, [1, 1, 0, 0])),
+    (b"t put a x:6b6b x:76", (Verb::Put, [2, 1, 0, 0])),
     (b"t put a k", WRONG),
-    (b"t del a x:", [DEL, 0, 0, 0, 0]),
-    (b"t find a key", [FIND, 3, 0, 0, 0]),
-    (b"t write a 0 x:00", [WRITE, 0, 1, 0, 0]),
-    (b"t read a 1 2", [READ, 1, 2, 0, 0]),
-    (b"t size a 7", [SIZE, 7, 0, 0, 0]),
-    (b"t paint a 1 2 3 Z", [PAINT, 1, 2, 3, 1]),
+    (b"t del a x:", (Verb::Del, [0, 0, 0, 0])),
+    (b"t find a key", (Verb::Find, [3, 0, 0, 0])),
+    (b"t write a 0 x:00", (Verb::Write, [0, 1, 0, 0])),
+    (b"t read a 1 2", (Verb::Read, [1, 2, 0, 0])),
+    (b"t size a 7", (Verb::Size, [7, 0, 0, 0])),
+    (b"t paint a 1 2 3 Z", (Verb::Paint, [1, 2, 3, 1])),
     (b"t paint a 1 2 3", WRONG),
     (b"t paint a 1 2 3 Z Z", WRONG),
 ];
@@ -304,25 +309,28 @@ const VERBS: [Row; 42] = [
 const LIMITS: [Row; 15] = [
     (
         b"t read a 18446744073709551615 18446744073709551615",
-        [READ, 18446744073709551615, 18446744073709551615, 0, 0],
+        (
+            Verb::Read,
+            [18446744073709551615, 18446744073709551615, 0, 0],
+        ),
     ),
     (b"t read a 18446744073709551616 1", WRONG),
     (b"t read a 1 18446744073709551616", WRONG),
-    (b"t size a 00000000000000000007", [SIZE, 7, 0, 0, 0]),
+    (b"t size a 00000000000000000007", (Verb::Size, [7, 0, 0, 0])),
     (b"t size a 000000000000000000007", WRONG),
     (b"t size a 99999999999999999999", WRONG),
     (b"t apply a 0 18446744073709551616 x", WRONG),
     (
         b"t paint a 0 1 18446744073709551615 x",
-        [PAINT, 0, 1, 18446744073709551615, 1],
+        (Verb::Paint, [0, 1, 18446744073709551615, 1]),
     ),
     (b"t size a -1", WRONG),
-    (b"t put a x: x:", [PUT, 0, 0, 0, 0]),
+    (b"t put a x: x:", (Verb::Put, [0, 0, 0, 0])),
     (b"t put a x:0 v", WRONG),
     (b"t put a k x:0", WRONG),
     (b"t put a x:0g v", WRONG),
     (b"t put a k\xff v", WRONG),
-    (b"t write a 0 x:Ff", [WRITE, 0, 1, 0, 0]),
+    (b"t write a 0 x:Ff", (Verb::Write, [0, 1, 0, 0])),
 ];
 
 // The first row of each of these tables that asks for something else.
@@ -367,13 +375,31 @@ fn first_pushed() -> Option<usize> {
 const LONG: [(&[u8], u8, usize, &[u8], What); 9] = [
     (b"", b' ', 32768, b"", BLANK),
     (b"", b' ', 32769, b"", WRONG),
-    (b"t push a x:", b'4', 32767, b"", [PUSH, 16378, 0, 0, 0]),
-    (b"t push a x:", b'4', 32767, b"\r", [PUSH, 16378, 0, 0, 0]),
+    (
+        b"t push a x:",
+        b'4',
+        32767,
+        b"",
+        (Verb::Push, [16378, 0, 0, 0]),
+    ),
+    (
+        b"t push a x:",
+        b'4',
+        32767,
+        b"\r",
+        (Verb::Push, [16378, 0, 0, 0]),
+    ),
     (b"t push a x:", b'4', 32767, b"\r\r", WRONG),
-    (b"t find a ", b'k', 137, b"", [FIND, 128, 0, 0, 0]),
-    (b"t find a ", b'k', 138, b"", [FIND, 129, 0, 0, 0]),
-    (b"t put a k ", b'k', 1035, b"", [PUT, 1, 1025, 0, 0]),
-    (b"t apply a 0 1 ", b'k', 271, b"", [APPLY, 0, 1, 257, 0]),
+    (b"t find a ", b'k', 137, b"", (Verb::Find, [128, 0, 0, 0])),
+    (b"t find a ", b'k', 138, b"", (Verb::Find, [129, 0, 0, 0])),
+    (b"t put a k ", b'k', 1035, b"", (Verb::Put, [1, 1025, 0, 0])),
+    (
+        b"t apply a 0 1 ",
+        b'k',
+        271,
+        b"",
+        (Verb::Apply, [0, 1, 257, 0]),
+    ),
 ];
 
 fn filled(
@@ -412,15 +438,15 @@ const KEPT: [(&[u8], &[u8], What); 11] = [
     (
         b"  t  set   a 7  x:4142 \r",
         b"set a 7 x:4142",
-        [SET, 7, 2, 0, 0],
+        (Verb::Set, [7, 2, 0, 0]),
     ),
-    (b"t set a 7 v", b"set a 7 v", [SET, 7, 1, 0, 0]),
-    (b"t push a abc\r", b"push a abc", [PUSH, 3, 0, 0, 0]),
-    (b"t  push a abc", b"push a abc", [PUSH, 3, 0, 0, 0]),
-    (b"t push  a abc", b"push a abc", [PUSH, 3, 0, 0, 0]),
-    (b"t push a  abc", b"push a abc", [PUSH, 3, 0, 0, 0]),
-    (b"t push a abc ", b"push a abc", [PUSH, 3, 0, 0, 0]),
-    (b"t put a k  v", b"put a k v", [PUT, 1, 1, 0, 0]),
+    (b"t set a 7 v", b"set a 7 v", (Verb::Set, [7, 1, 0, 0])),
+    (b"t push a abc\r", b"push a abc", (Verb::Push, [3, 0, 0, 0])),
+    (b"t  push a abc", b"push a abc", (Verb::Push, [3, 0, 0, 0])),
+    (b"t push  a abc", b"push a abc", (Verb::Push, [3, 0, 0, 0])),
+    (b"t push a  abc", b"push a abc", (Verb::Push, [3, 0, 0, 0])),
+    (b"t push a abc ", b"push a abc", (Verb::Push, [3, 0, 0, 0])),
+    (b"t put a k  v", b"put a k v", (Verb::Put, [1, 1, 0, 0])),
     (b"t begin", b"begin", BEGIN),
     (b"t", b"", WRONG),
     (b"", b"", WRONG),
