@@ -1,6 +1,7 @@
+use crate::answers::is_taken;
 use sg_base::{MemSink, Sink};
 use sg_model::{Reason, Reply};
-use sg_words::{Answer, cut, write_answer};
+use sg_words::{Answer, cut};
 use std::alloc::{AllocError, Global};
 use std::test::Fail;
 
@@ -25,20 +26,26 @@ const REPLIES: [(Reply, &[u8], &[u8]); 13] = [
     (Reply::Bytes(2), b"\xab\x7f", b"ok x:ab7f\n"),
 ];
 
-// Whether a reply is written as this text in one call of a sink whose second one fails.
-fn is_replied(alloc: Global, reply: &Reply, bytes: &[u8], text: &[u8]) -> bool {
+// Whether a sink takes more.
+fn is_more_taken(sink: &mut impl Sink) -> bool {
+    sink.write(b"more").is_ok()
+}
+
+// Whether an answer is written as this text in one call of a sink whose second one fails.
+fn is_one_call(alloc: Global, answer: &Answer, bytes: &[u8], text: &[u8]) -> bool {
     let mut sink = MemSink::new(alloc, Some(2));
-    if bytes.len() > 8192 {
-        return false;
-    }
-    let went = write_answer(&Answer::Said(*reply), bytes, &mut sink).is_ok();
-    went && sink.text() == text && sink.write(b"more").is_err()
+    is_taken(&mut sink, answer, bytes) && sink.text() == text && !is_more_taken(&mut sink)
+}
+
+// The same of a reply.
+fn is_replied(alloc: Global, reply: Reply, bytes: &[u8], text: &[u8]) -> bool {
+    is_one_call(alloc, &Answer::Said(reply), bytes, text)
 }
 
 // The first row that is written as something else.
 fn first_replied(alloc: Global) -> Option<usize> {
     for (i, (reply, bytes, text)) in REPLIES.iter().enumerate() {
-        if !is_replied(alloc, reply, bytes, text) {
+        if !is_replied(alloc, *reply, bytes, text) {
             return Some(i);
         }
     }
@@ -63,15 +70,22 @@ fn long_line(alloc: Global, count: usize) -> Result<Vec<u8>, AllocError> {
 // Whether a value of so many bytes 0xa5 is one line.
 fn is_one_line(alloc: Global, count: usize) -> Result<bool, AllocError> {
     let text = long_line(alloc, count)?;
-    Ok(is_replied(alloc, &Reply::Bytes(count), &[0xa5u8; 8192], &text))
+    Ok(is_replied(alloc, Reply::Bytes(count), &[0xa5u8; 8192], &text))
+}
+
+// The first count of such bytes that are another line.
+fn first_long_line(alloc: Global) -> Result<Option<usize>, AllocError> {
+    for count in [256, 257, 8192] {
+        if !is_one_line(alloc, count)? {
+            return Ok(Some(count));
+        }
+    }
+    Ok(None)
 }
 
 #[test]
 fn a_long_value_is_one_line(rt: HostRuntime) -> Result<(), Fail> {
-    let alloc = rt.alloc();
-    assert!(rt; is_one_line(alloc, 256)?);
-    assert!(rt; is_one_line(alloc, 257)?);
-    assert!(rt; is_one_line(alloc, 8192)?);
+    assert_eq!(rt; first_long_line(rt.alloc())?, None);
     Ok(())
 }
 
@@ -86,11 +100,9 @@ const REASONS: [(Reason, &[u8]); 8] = [
     (Reason::TooMany, b"error too-many\n"),
 ];
 
-// Whether a reason is written as this text in one call of a sink whose second one fails.
+// The same of a reason.
 fn is_told(alloc: Global, reason: Reason, text: &[u8]) -> bool {
-    let mut sink = MemSink::new(alloc, Some(2));
-    let went = write_answer(&Answer::Refused(reason), b"", &mut sink).is_ok();
-    went && sink.text() == text && sink.write(b"more").is_err()
+    is_one_call(alloc, &Answer::Refused(reason), b"", text)
 }
 
 // The first reason that has another line.
@@ -109,10 +121,15 @@ const CUTS: [(&[u8], &[u8], Option<&[u8]>); 2] = [
     (b"", b"", None),
 ];
 
+fn is_cut(text: &[u8], line: &[u8], rest: Option<&[u8]>) -> bool {
+    let (front, behind) = cut(text, b'\n');
+    front == line && behind == rest
+}
+
 // The first text that is cut otherwise.
 fn first_cut() -> Option<usize> {
     for (i, (text, line, rest)) in CUTS.iter().enumerate() {
-        if cut(text, b'\n') != (*line, *rest) {
+        if !is_cut(text, line, *rest) {
             return Some(i);
         }
     }
