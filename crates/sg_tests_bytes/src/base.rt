@@ -4,6 +4,7 @@ use sg_base::{
     MemSink, MemSource, Name, ReadSource, Sink, Source, Steps, WriteSink, read_u16, read_u32,
     read_u64, write_u16, write_u32, write_u64,
 };
+use std::alloc::{AllocError, Global};
 use std::io;
 use std::io::{ErrorKind, Read, Write};
 use std::marker::Brand;
@@ -25,15 +26,26 @@ fn three_numbers() -> [u8; 9] {
     bytes
 }
 
-#[test]
-fn fields_are_little_endian(rt: HostRuntime) {
+// What is read of the three.
+fn numbers_read() -> (u16, u32, u64) {
     let first = one_number();
     let second = three_numbers();
-    assert!(rt; first == [8, 7, 6, 5, 4, 3, 2, 1, 7]);
-    assert!(rt; second == [0x8c, 0, 0, 0, 0xe8, 0x0f, 2, 1, 7]);
-    assert!(rt; read_u16(&second[4..]) == 4072);
-    assert!(rt; read_u32(&second) == 140);
-    assert!(rt; read_u64(&first) == 0x0102_0304_0506_0708);
+    (read_u16(&second[4..]), read_u32(&second), read_u64(&first))
+}
+
+fn are_written() -> bool {
+    let first = one_number();
+    let second = three_numbers();
+    first == [8, 7, 6, 5, 4, 3, 2, 1, 7] && second == [0x8c, 0, 0, 0, 0xe8, 0x0f, 2, 1, 7]
+}
+
+fn are_read() -> bool {
+    numbers_read() == (4072, 140, 0x0102_0304_0506_0708)
+}
+
+#[test]
+fn fields_are_little_endian(rt: HostRuntime) {
+    assert!(rt; are_written() && are_read());
 }
 
 const TEXTS: [(&[u8], bool); 8] = [
@@ -47,11 +59,23 @@ const TEXTS: [(&[u8], bool); 8] = [
     (b"a-b", false),
 ];
 
+fn is_name(text: &[u8]) -> bool {
+    Name::new(text).is_some()
+}
+
+// The place of the first text that is told otherwise.
+fn told_otherwise() -> Option<usize> {
+    for (at, (text, wanted)) in TEXTS.iter().enumerate() {
+        if is_name(text) != *wanted {
+            return Some(at);
+        }
+    }
+    None
+}
+
 #[test]
 fn a_name_has_1_to_32_bytes(rt: HostRuntime) {
-    for (at, (text, is_name)) in TEXTS.iter().enumerate() {
-        assert!(rt; Name::new(text).is_some() == *is_name, "text {at}");
-    }
+    assert!(rt; told_otherwise().is_none());
 }
 
 // Whether a read of a source is answered so, and gives these bytes, with zeros behind them.
@@ -60,34 +84,68 @@ fn reads<S: Source>(source: &mut S, answer: Option<usize>, bytes: &[u8; 8]) -> b
     source.read(&mut into).ok() == answer && into == *bytes
 }
 
+// The place of the first of some reads that is answered otherwise, or gives other bytes.
+fn read_otherwise<S: Source>(source: &mut S, rows: &[(Option<usize>, [u8; 8])]) -> Option<usize> {
+    for (at, (answer, bytes)) in rows.iter().enumerate() {
+        if !reads(source, *answer, bytes) {
+            return Some(at);
+        }
+    }
+    None
+}
+
+// The same of a source in memory with these bytes, pieces and calls.
+fn memory_reads(
+    alloc: Global,
+    text: &[u8],
+    piece: usize,
+    calls: Option<u64>,
+    rows: &[(Option<usize>, [u8; 8])],
+) -> Result<Option<usize>, AllocError>
+    requires { 0 < piece }
+{
+    let mut source = MemSource::new(Vec::from_slice(alloc, text)?, piece, calls);
+    Ok(read_otherwise(&mut source, rows))
+}
+
+const PIECES: [(Option<usize>, [u8; 8]); 4] = [
+    (Some(3), *b"abc\0\0\0\0\0"),
+    (Some(2), *b"de\0\0\0\0\0\0"),
+    (None, [0; 8]),
+    (None, [0; 8]),
+];
+
 #[test]
 fn a_source_gives_pieces_and_fails_from_a_call_on(rt: HostRuntime) -> Result<(), Fail> {
-    let mut source = MemSource::new(Vec::from_slice(rt.alloc(), b"abcde")?, 3, Some(3));
-    assert!(rt; reads(&mut source, Some(3), b"abc\0\0\0\0\0"));
-    assert!(rt; reads(&mut source, Some(2), b"de\0\0\0\0\0\0"));
-    assert!(rt; reads(&mut source, None, &[0; 8]));
-    assert!(rt; reads(&mut source, None, &[0; 8]));
+    assert!(rt; memory_reads(rt.alloc(), b"abcde", 3, Some(3), &PIECES)?.is_none());
     Ok(())
 }
 
+const WHOLE: [(Option<usize>, [u8; 8]); 2] = [(Some(2), *b"ab\0\0\0\0\0\0"), (Some(0), [0; 8])];
+
 #[test]
 fn a_source_ends_with_0(rt: HostRuntime) -> Result<(), Fail> {
-    let mut source = MemSource::new(Vec::from_slice(rt.alloc(), b"ab")?, 9, None);
-    assert!(rt; reads(&mut source, Some(2), b"ab\0\0\0\0\0\0"));
-    assert!(rt; reads(&mut source, Some(0), &[0; 8]));
+    assert!(rt; memory_reads(rt.alloc(), b"ab", 9, None, &WHOLE)?.is_none());
     Ok(())
+}
+
+fn takes<S: Sink>(sink: &mut S, text: &[u8]) -> bool {
+    sink.write(text).is_ok()
+}
+
+// Which of three writes a sink takes that fails from the third call on, and whether the first two are what it has then.
+fn taken(alloc: Global) -> ([bool; 3], bool) {
+    let mut sink = MemSink::new(alloc, Some(3));
+    let first = takes(&mut sink, b"ok\n");
+    let second = takes(&mut sink, b"none\n");
+    let third = takes(&mut sink, b"ok\n");
+    let has_two = *sink.text() == *b"ok\nnone\n".as_slice();
+    ([first, second, third], has_two)
 }
 
 #[test]
 fn a_sink_takes_and_fails_from_a_call_on(rt: HostRuntime) {
-    let mut sink = MemSink::new(rt.alloc(), Some(3));
-    let taken = [
-        sink.write(b"ok\n").is_ok(),
-        sink.write(b"none\n").is_ok(),
-        sink.write(b"ok\n").is_ok(),
-    ];
-    assert!(rt; taken == [true, true, false]);
-    assert!(rt; sink.text() == b"ok\nnone\n".as_slice());
+    assert!(rt; taken(rt.alloc()) == ([true, true, false], true));
 }
 
 // A terminal of one byte a call, each second call of which a signal interrupts.
@@ -145,20 +203,35 @@ impl Write for Terminal {
     }
 }
 
+const BYTES: [(Option<usize>, [u8; 8]); 3] = [
+    (Some(1), *b"a\0\0\0\0\0\0\0"),
+    (Some(1), *b"b\0\0\0\0\0\0\0"),
+    (Some(0), [0; 8]),
+];
+
+// The place of the first of these reads through a terminal that is answered otherwise, or gives other bytes.
+fn terminal_reads(alloc: Global) -> Result<Option<usize>, AllocError> {
+    let bytes = Vec::from_slice(alloc, b"ab")?;
+    let mut source = ReadSource::new(Terminal::new(bytes));
+    Ok(read_otherwise(&mut source, &BYTES))
+}
+
 #[test]
 fn a_terminal_gives_a_byte_a_read(rt: HostRuntime) -> Result<(), Fail> {
-    let mut source = ReadSource::new(Terminal::new(Vec::from_slice(rt.alloc(), b"ab")?));
-    assert!(rt; reads(&mut source, Some(1), b"a\0\0\0\0\0\0\0"));
-    assert!(rt; reads(&mut source, Some(1), b"b\0\0\0\0\0\0\0"));
-    assert!(rt; reads(&mut source, Some(0), &[0; 8]));
+    assert!(rt; terminal_reads(rt.alloc())?.is_none());
     Ok(())
+}
+
+// Whether a write through a terminal is taken, and is what it has then.
+fn terminal_takes(alloc: Global) -> (bool, bool) {
+    let mut terminal = Terminal::new(Vec::new(alloc));
+    let is_taken = takes(&mut WriteSink::new(&mut terminal), b"ok\n");
+    (is_taken, *terminal.bytes.as_slice() == *b"ok\n".as_slice())
 }
 
 #[test]
 fn a_terminal_takes_a_byte_a_write(rt: HostRuntime) {
-    let mut terminal = Terminal::new(Vec::new(rt.alloc()));
-    assert!(rt; WriteSink::new(&mut terminal).write(b"ok\n").is_ok());
-    assert!(rt; terminal.bytes.as_slice() == b"ok\n".as_slice());
+    assert!(rt; terminal_takes(rt.alloc()) == (true, true));
 }
 
 // One step for each byte.
@@ -182,9 +255,12 @@ fn walk_from<L: Ledger>(bytes: &[u8], blank: Blank) -> usize
     bytes.len()
 }
 
+fn walked() -> usize {
+    walk_from::<Brand>(b"abc", Blank::new(1))
+}
+
 #[test]
-fn steps_are_counted_without_bytes(rt: HostRuntime) -> Result<(), Fail> {
-    assert_eq!(rt; walk_from::<Brand>(b"abc", Blank::new(1)), 3);
-    assert_eq!(rt; size_of::<Steps<Brand>>(), 0);
-    Ok(())
+fn steps_are_counted_without_bytes(rt: HostRuntime) {
+    assert!(rt; walked() == 3);
+    assert!(rt; size_of::<Steps<Brand>>() == 0);
 }

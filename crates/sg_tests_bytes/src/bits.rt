@@ -26,35 +26,68 @@ fn seen(words: &[u64; 3], from: u8) -> (usize, usize, bool, bool) {
     )
 }
 
+const ALL: u64 = u64::MAX;
+
+const LAST: u64 = 1 << 63;
+
+const LAST_FOUR: u64 = 0xf << 60;
+
+const ALL_BUT_FIRST: u64 = ALL - 1;
+
+const ALL_BUT_LAST: u64 = ALL >> 1;
+
+// The first bit and the end of a range, a bit that is cleared then, and what the words are.
+const RANGES: [([u8; 3], [u64; 3]); 6] = [
+    ([0, 0, 191], [0, 0, 0]),
+    ([0, 64, 191], [ALL, 0, 0]),
+    ([63, 65, 191], [LAST, 1, 0]),
+    ([60, 130, 64], [LAST_FOUR, ALL_BUT_FIRST, 3]),
+    ([0, 192, 191], [ALL, ALL, ALL_BUT_LAST]),
+    ([5, 3, 191], [0, 0, 0]),
+];
+
+// The place of the first row whose words are others.
+fn marked_otherwise() -> Option<usize> {
+    for (at, ([first, end, cleared], words)) in RANGES.iter().enumerate() {
+        if marked(*first, *end, *cleared) != *words {
+            return Some(at);
+        }
+    }
+    None
+}
+
 #[test]
 fn ranges_go_across_words(rt: HostRuntime) {
-    let all = u64::MAX;
-    let table = [
-        (0, 0, 191, [0, 0, 0]),
-        (0, 64, 191, [all, 0, 0]),
-        (63, 65, 191, [1 << 63, 1, 0]),
-        (60, 130, 64, [0xf << 60, all - 1, 3]),
-        (0, 192, 191, [all, all, all >> 1]),
-        (5, 3, 191, [0, 0, 0]),
-    ];
-    for (first, end, cleared, words) in table {
-        assert_eq!(rt; marked(first, end, cleared), words);
+    assert!(rt; marked_otherwise().is_none());
+}
+
+// A bit, and what is seen from there on.
+const SEEN: [(u8, (usize, usize, bool, bool)); 6] = [
+    (0, (3, 0, false, false)),
+    (3, (3, 70, true, false)),
+    (70, (71, 70, false, false)),
+    (71, (71, 130, true, false)),
+    (130, (192, 130, false, false)),
+    (191, (192, 191, false, false)),
+];
+
+// The place of the first row of which something else is seen.
+fn seen_otherwise(words: &[u64; 3]) -> Option<usize> {
+    for (at, (from, want)) in SEEN.iter().enumerate() {
+        if seen(words, *from) != *want {
+            return Some(at);
+        }
     }
+    None
+}
+
+fn are_seen() -> bool {
+    let other = seen_otherwise(&marked(3, 130, 70));
+    let full = seen(&marked(0, 128, 191), 64);
+    other.is_none() && full == (64, 128, true, true)
 }
 
 #[test]
 fn searches_pass_words(rt: HostRuntime) {
-    let words = marked(3, 130, 70);
-    let table = [
-        (0, (3, 0, false, false)),
-        (3, (3, 70, true, false)),
-        (70, (71, 70, false, false)),
-        (71, (71, 130, true, false)),
-        (130, (192, 130, false, false)),
-        (191, (192, 191, false, false)),
-    ];
-    for (from, want) in table {
-        assert!(rt; seen(&words, from) == want);
-    }
-    assert!(rt; seen(&marked(0, 128, 191), 64) == (64, 128, true, true));
+    assert!(rt; are_seen());
 }

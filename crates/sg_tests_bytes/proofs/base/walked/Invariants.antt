@@ -1,0 +1,4 @@
+use Rattle.sg_tests_bytes.proofs.base.walked.Given as goal
+
+abbrev pub ghosts-walk_from : goal.ghosts-walk_from
+ghosts-walk_from a = record { name = a.blank.name; parts = a.blank.parts }
