@@ -2,18 +2,58 @@ ghost use Rattle.std.specs.Prelude.{◌≡◌, ◌≢◌, ◌<◌, ℕ, List, Al
 ghost use Rattle.sg_frames.specs.Held.{IsHere, NoneLent, bytes_at, size_of};
 ghost use Rattle.sg_frames.specs.Lending.{with_pair};
 
+use sg_base::OutOfMemory;
 use sg_frames::{Frames, Loan, Place};
+use std::alloc::Global;
 use std::test::Fail;
 use std::thread::{Threads, join_mut};
 
 // Whether each byte is this one. It promises nothing, so that a test's proof carries no clause of what goes over bytes.
 fn are_all(bytes: &[u8], x: u8) -> bool {
-    bytes.iter().all(|b| *b == x)
+    for b in bytes {
+        if *b != x {
+            return false;
+        }
+    }
+    true
 }
 
-// Whether each byte but the one at this place is this one.
-fn are_all_but(bytes: &[u8], at: usize, x: u8) -> bool {
-    bytes.iter().enumerate().all(|(i, b)| i == at || *b == x)
+// Whether the first byte is this one, and each other one is 0.
+fn is_first(bytes: &[u8], x: u8) -> bool {
+    match bytes.split_first() {
+        Some((first, rest)) => *first == x && are_all(rest, 0),
+        None => false,
+    }
+}
+
+// Whether the last byte is this one, and each other one is 0.
+fn is_last(bytes: &[u8], x: u8) -> bool {
+    match bytes.split_last() {
+        Some((last, rest)) => *last == x && are_all(rest, 0),
+        None => false,
+    }
+}
+
+// Whether each byte of a page frame is this one.
+fn page_is(frames: &Frames, i: u32, x: u8) -> bool
+    requires { IsHere frames.now (Place.Page i) }
+{
+    are_all(frames.page(i), x)
+}
+
+// Whether each byte of a window is this one.
+fn window_is(frames: &Frames, w: u32, x: u8) -> bool
+    requires { IsHere frames.now (Place.Window w) }
+{
+    are_all(frames.window(w), x)
+}
+
+// How many bytes a page frame and a window have.
+fn sizes(frames: &Frames, i: u32, w: u32) -> (usize, usize)
+    requires page { IsHere frames.now (Place.Page i) }
+    requires window { IsHere frames.now (Place.Window w) }
+{
+    (frames.page(i).len(), frames.window(w).len())
 }
 
 // Writes one byte of a loan.
@@ -49,56 +89,92 @@ fn poke_in_threads<R: Threads>(rt: &R, frames: &mut Frames, i: u32, w: u32)
     frames.give(window);
 }
 
+// The sizes of the last page frame and the last window, and whether both have zeros.
+fn at_first(alloc: Global) -> Result<((usize, usize), bool), OutOfMemory> {
+    let frames = Frames::new(alloc, 32, 4)?;
+    let sizes = sizes(&frames, 31, 3);
+    let page = page_is(&frames, 31, 0);
+    let window = window_is(&frames, 3, 0);
+    frames.end();
+    Ok((sizes, page && window))
+}
+
 #[test]
 fn frames_begin_with_zeros(rt: HostRuntime) -> Result<(), Fail> {
-    let frames = Frames::new(rt.alloc(), 32, 4)?;
-    let page = frames.page(31);
-    assert_eq!(rt; page.len(), 4096);
-    assert!(rt; are_all(page, 0));
-    let window = frames.window(3);
-    assert_eq!(rt; window.len(), 32_768);
-    assert!(rt; are_all(window, 0));
-    frames.end();
+    assert!(rt; at_first(rt.alloc())? == ((4096, 32_768), true));
     Ok(())
+}
+
+// The sizes of the last ones where there are as many as there may be.
+fn most(alloc: Global) -> Result<(usize, usize), OutOfMemory> {
+    let frames = Frames::new(alloc, 16_384, 256)?;
+    let sizes = sizes(&frames, 16_383, 255);
+    frames.end();
+    Ok(sizes)
 }
 
 #[test]
 fn as_many_as_there_may_be(rt: HostRuntime) -> Result<(), Fail> {
-    let frames = Frames::new(rt.alloc(), 16_384, 256)?;
-    assert_eq!(rt; frames.page(16_383).len(), 4096);
-    assert_eq!(rt; frames.window(255).len(), 32_768);
-    frames.end();
+    assert!(rt; most(rt.alloc())? == (4096, 32_768));
     Ok(())
 }
 
-// A loan's bytes are changed, and another frame is read: each has its own.
-#[test]
-fn a_loan_beside_a_frame(rt: HostRuntime) -> Result<(), Fail> {
-    let mut frames = Frames::new(rt.alloc(), 32, 4)?;
+// Whether a loan has the 4,096 bytes of a page frame, each of which is this one.
+fn loan_is(loan: &Loan, x: u8) -> bool {
+    let bytes = loan.bytes();
+    bytes.len() == 4096 && are_all(bytes, x)
+}
+
+// Whether a loan's bytes are changed, and another frame is read: each has its own.
+fn has_its_own(alloc: Global) -> Result<bool, OutOfMemory> {
+    let mut frames = Frames::new(alloc, 32, 4)?;
     frames.page_mut(4).fill(7);
     let mut loan = frames.take(3);
     loan.bytes_mut().fill(9);
-    assert_eq!(rt; loan.bytes().len(), 4096);
-    assert!(rt; are_all(loan.bytes(), 9));
-    assert!(rt; are_all(frames.page(4), 7));
-    assert!(rt; are_all(frames.page(2), 0));
+    let lent = loan_is(&loan, 9);
+    let written = page_is(&frames, 4, 7);
+    let other = page_is(&frames, 2, 0);
     frames.give(loan);
-    assert!(rt; are_all(frames.page(3), 9));
-    assert!(rt; are_all(frames.page(4), 7));
+    let given = page_is(&frames, 3, 9);
+    let still = page_is(&frames, 4, 7);
     frames.end();
+    Ok(lent && written && other && given && still)
+}
+
+#[test]
+fn a_loan_beside_a_frame(rt: HostRuntime) -> Result<(), Fail> {
+    assert!(rt; has_its_own(rt.alloc())?);
     Ok(())
+}
+
+// Whether the first byte of a page frame is this one, and each other one is 0.
+fn page_begins(frames: &Frames, i: u32, x: u8) -> bool
+    requires { IsHere frames.now (Place.Page i) }
+{
+    is_first(frames.page(i), x)
+}
+
+// Whether the last byte of a window is this one, and each other one is 0.
+fn window_ends(frames: &Frames, w: u32, x: u8) -> bool
+    requires { IsHere frames.now (Place.Window w) }
+{
+    is_last(frames.window(w), x)
+}
+
+// Whether two threads leave what they wrote to two loans, and no more.
+fn are_written<R: Threads>(rt: &R, alloc: Global) -> Result<bool, OutOfMemory> {
+    let mut frames = Frames::new(alloc, 32, 4)?;
+    poke_in_threads(rt, &mut frames, 2, 3);
+    let page = page_begins(&frames, 2, 5);
+    let window = window_ends(&frames, 3, 6);
+    let other = page_is(&frames, 3, 0);
+    frames.end();
+    Ok(page && window && other)
 }
 
 #[test]
 fn two_threads_write_two_loans(rt: HostRuntime) -> Result<(), Fail> {
-    let mut frames = Frames::new(rt.alloc(), 32, 4)?;
-    poke_in_threads(&rt, &mut frames, 2, 3);
-    assert_eq!(rt; frames.page(2).first(), Some(&5));
-    assert!(rt; are_all_but(frames.page(2), 0, 0));
-    assert_eq!(rt; frames.window(3).last(), Some(&6));
-    assert!(rt; are_all_but(frames.window(3), 32_767, 0));
-    assert!(rt; are_all(frames.page(3), 0));
-    frames.end();
+    assert!(rt; are_written(&rt, rt.alloc())?);
     Ok(())
 }
 
@@ -144,26 +220,49 @@ fn fill_window(frames: &mut Frames, w: u32)
     frames.window_mut(w).fill(3);
 }
 
+// Whether the windows beside one that is filled, and the last page frame, stay as they were.
+fn is_filled_alone(alloc: Global) -> Result<bool, OutOfMemory> {
+    let mut frames = Frames::new(alloc, 32, 4)?;
+    fill_window(&mut frames, 2);
+    let filled = window_is(&frames, 2, 3);
+    let below = window_is(&frames, 1, 0);
+    let above = window_is(&frames, 3, 0);
+    let page = page_is(&frames, 31, 0);
+    frames.end();
+    Ok(filled && below && above && page)
+}
+
 #[test]
 fn windows_beside_each_other(rt: HostRuntime) -> Result<(), Fail> {
-    let mut frames = Frames::new(rt.alloc(), 32, 4)?;
-    fill_window(&mut frames, 2);
-    assert!(rt; are_all(frames.window(2), 3));
-    assert!(rt; are_all(frames.window(1), 0));
-    assert!(rt; are_all(frames.window(3), 0));
-    assert!(rt; are_all(frames.page(31), 0));
-    frames.end();
+    assert!(rt; is_filled_alone(rt.alloc())?);
     Ok(())
+}
+
+// The first of these page frames of which not each byte is this one.
+fn other_page(frames: &Frames, want: &[(u32, u8)]) -> Option<u32>
+    requires pages { length frames.now.pages ≡ 32 }
+    requires none_lent { NoneLent frames.now }
+{
+    for (i, x) in want {
+        if *i >= 32 || !page_is(frames, *i, *x) {
+            return Some(*i);
+        }
+    }
+    None
+}
+
+// The first page frame that isn't as two pairs of writes are to leave it.
+fn written_otherwise(alloc: Global) -> Result<Option<u32>, OutOfMemory> {
+    let mut frames = Frames::new(alloc, 32, 4)?;
+    write_two(&mut frames, 31, 0);
+    write_two(&mut frames, 7, 8);
+    let other = other_page(&frames, &[(31, 1), (0, 2), (7, 1), (8, 2), (30, 0), (9, 0)]);
+    frames.end();
+    Ok(other)
 }
 
 #[test]
 fn two_frames_at_once(rt: HostRuntime) -> Result<(), Fail> {
-    let mut frames = Frames::new(rt.alloc(), 32, 4)?;
-    write_two(&mut frames, 31, 0);
-    write_two(&mut frames, 7, 8);
-    for (i, want) in [(31, 1u8), (0, 2), (7, 1), (8, 2), (30, 0), (9, 0)] {
-        assert!(rt; are_all(frames.page(i), want), "frame {i}");
-    }
-    frames.end();
+    assert!(rt; written_otherwise(rt.alloc())?.is_none());
     Ok(())
 }

@@ -6,6 +6,7 @@ use std::alloc::{AllocError, Global};
 use std::sync::Arc;
 use std::sync::atomic::{AtomicU64, Ordering};
 use std::test::Fail;
+use std::thread::Threads;
 
 fn change(alloc: Global, item: u8, code: u16, arg: u8) -> Result<Change, AllocError> {
     Ok(Change {
@@ -53,73 +54,155 @@ impl RecordOp for Meeting {
     fn undo(&self, _item: &mut [u8], _arg: &[u8]) {}
 }
 
+// Two flags, and the count.
+#[derive(Drop)]
+struct Flags {
+    left: Arc<AtomicU64, Global>,
+    right: Arc<AtomicU64, Global>,
+    seen: Arc<AtomicU64, Global>,
+}
+
+fn zero(alloc: Global) -> Result<Arc<AtomicU64, Global>, Fail> {
+    Ok(Arc::new(alloc, AtomicU64::new(0))?)
+}
+
+impl Flags {
+    fn new(alloc: Global) -> Result<Flags, Fail> {
+        Ok(Flags {
+            left: zero(alloc)?,
+            right: zero(alloc)?,
+            seen: zero(alloc)?,
+        })
+    }
+
+    // Sets the left one and looks for the right one.
+    fn first(&self) -> Result<Meeting, Fail> {
+        meeting_of(7, &self.left, &self.right, &self.seen)
+    }
+
+    // The other way round.
+    fn second(&self) -> Result<Meeting, Fail> {
+        meeting_of(8, &self.right, &self.left, &self.seen)
+    }
+
+    fn count(&self) -> u64 {
+        self.seen.load(Ordering::SeqCst)
+    }
+}
+
+fn meeting_of(
+    code: u16,
+    mine: &Arc<AtomicU64, Global>,
+    other: &Arc<AtomicU64, Global>,
+    seen: &Arc<AtomicU64, Global>,
+) -> Result<Meeting, Fail> {
+    Ok(Meeting {
+        code,
+        mine: Arc::try_clone(mine)?,
+        other: Arc::try_clone(other)?,
+        seen: Arc::try_clone(seen)?,
+    })
+}
+
+fn is_taken(alloc: Global, ops: &mut Ops, meeting: Meeting) -> Result<bool, Fail> {
+    Ok(ops.register_record(Box::new(alloc, meeting)?).is_ok())
+}
+
+// Whether both operations are taken.
+fn are_taken(alloc: Global, ops: &mut Ops, flags: &Flags) -> Result<bool, Fail> {
+    let is_first = is_taken(alloc, ops, flags.first()?)?;
+    let is_second = is_taken(alloc, ops, flags.second()?)?;
+    Ok(is_first && is_second)
+}
+
+// Changes of an item of one byte, by a code, with an argument of one byte.
+fn changes_of(alloc: Global, rows: &[[u8; 3]]) -> Result<Vec<Change>, AllocError> {
+    let mut changes = Vec::new(alloc);
+    for [item, code, arg] in rows {
+        changes.push(change(alloc, *item, u16::from(*code), *arg)?)?;
+    }
+    Ok(changes)
+}
+
+// Whether all of them are made, in at most two threads.
+fn are_redone<R: Threads + Sync>(rt: &R, ops: &Ops, changes: &mut Vec<Change>) -> bool {
+    redo_all(rt, 2, ops, changes.as_mut_slice())
+}
+
+// How often a flag was seen, if both operations are taken and done.
+fn met<R: Threads + Sync>(rt: &R, alloc: Global) -> Result<Option<u64>, Fail> {
+    let flags = Flags::new(alloc)?;
+    let mut ops = Ops::new(alloc)?;
+    let are_taken = are_taken(alloc, &mut ops, &flags)?;
+    let mut changes = changes_of(alloc, &[[1, 7, 0], [2, 8, 0]])?;
+    let are_done = are_redone(rt, &ops, &mut changes);
+    Ok(if are_taken && are_done {
+        Some(flags.count())
+    } else {
+        None
+    })
+}
+
 // Two operations that run at once, in two threads, see each other's flag.
 #[test]
 fn two_threads_meet(rt: HostRuntime) -> Result<(), Fail> {
-    let alloc = rt.alloc();
-    let left = Arc::new(alloc, AtomicU64::new(0))?;
-    let right = Arc::new(alloc, AtomicU64::new(0))?;
-    let seen = Arc::new(alloc, AtomicU64::new(0))?;
-    let first = Meeting {
-        code: 7,
-        mine: Arc::try_clone(&left)?,
-        other: Arc::try_clone(&right)?,
-        seen: Arc::try_clone(&seen)?,
-    };
-    let second = Meeting {
-        code: 8,
-        mine: right,
-        other: left,
-        seen: Arc::try_clone(&seen)?,
-    };
-    let mut ops = Ops::new(alloc)?;
-    assert!(rt; ops.register_record(Box::new(alloc, first)?).is_ok());
-    assert!(rt; ops.register_record(Box::new(alloc, second)?).is_ok());
-    let mut changes = Vec::new(alloc);
-    changes.push(change(alloc, 1, 7, 0)?)?;
-    changes.push(change(alloc, 2, 8, 0)?)?;
-    assert!(rt; redo_all(&rt, 2, &ops, changes.as_mut_slice()));
-    assert_eq!(rt; seen.load(Ordering::SeqCst), 2);
+    assert!(rt; met(&rt, rt.alloc())? == Some(2));
     Ok(())
 }
 
 // Whether the items are of one byte each, and these.
 fn items_are(changes: &[Change], want: &[u8]) -> bool {
-    changes.len() == want.len()
-        && changes.iter().zip(want).all(|(change, byte)| change.item.as_slice()
-            == [*byte].as_slice())
+    if changes.len() != want.len() {
+        return false;
+    }
+    for (change, byte) in changes.iter().zip(want) {
+        if change.item.as_slice() != [*byte].as_slice() {
+            return false;
+        }
+    }
+    true
+}
+
+// Makes the changes one after the other, where all are accepted.
+fn redo_accepted(ops: &Ops, changes: &mut Vec<Change>) {
+    if are_accepted(ops, changes.as_slice()) {
+        redo_in_turn(ops, changes.as_mut_slice());
+    }
+}
+
+// Whether three changes are made in threads, and once more in turn, and none is where a fourth has a code that isn't.
+fn are_shared<R: Threads + Sync>(rt: &R, alloc: Global) -> Result<bool, Fail> {
+    let ops = Ops::shipped(alloc)?;
+    let mut changes = changes_of(alloc, &[[250, 1, 10], [0b1100, 2, 0b1010], [1, 1, 2]])?;
+    let in_threads = are_redone(rt, &ops, &mut changes) && items_are(&changes, &[4, 0b0110, 3]);
+    redo_accepted(&ops, &mut changes);
+    let in_turn = items_are(&changes, &[14, 0b1100, 5]);
+    changes.push(change(alloc, 9, 4, 1)?)?;
+    let are_refused = !are_redone(rt, &ops, &mut changes);
+    Ok(in_threads && in_turn && are_refused)
 }
 
 #[test]
 fn threads_share_the_operations(rt: HostRuntime) -> Result<(), Fail> {
-    let alloc = rt.alloc();
-    let ops = Ops::shipped(alloc)?;
-    let mut changes = Vec::new(alloc);
-    changes.push(change(alloc, 250, 1, 10)?)?;
-    changes.push(change(alloc, 0b1100, 2, 0b1010)?)?;
-    changes.push(change(alloc, 1, 1, 2)?)?;
-    assert!(rt; redo_all(&rt, 2, &ops, changes.as_mut_slice()));
-    assert!(rt; items_are(&changes, &[4, 0b0110, 3]));
-    if are_accepted(&ops, changes.as_slice()) {
-        redo_in_turn(&ops, changes.as_mut_slice());
-    }
-    assert!(rt; items_are(&changes, &[14, 0b1100, 5]));
-    changes.push(change(alloc, 9, 4, 1)?)?;
-    assert!(rt; !redo_all(&rt, 2, &ops, changes.as_mut_slice()));
+    assert!(rt; are_shared(&rt, rt.alloc())?);
     Ok(())
+}
+
+// What an addition leaves of an item, and what its undo leaves of that.
+fn undone(ops: &Ops) -> ([u8; 2], [u8; 2]) {
+    let mut item = [200, 1];
+    let arg = [100, 255];
+    let mut changed = [0; 2];
+    if ops.has_record(1) && ops.accepts(1, &item, &arg) {
+        redo_and_undo(ops, 1, &mut item, &arg, &mut changed);
+    }
+    (changed, item)
 }
 
 #[test]
 fn undone_at_once(rt: HostRuntime) -> Result<(), Fail> {
     let ops = Ops::shipped(rt.alloc())?;
-    let mut item = [200u8, 1];
-    let arg = [100u8, 255];
-    let mut changed = [0u8; 2];
-    if ops.has_record(1) && ops.accepts(1, &item, &arg) {
-        redo_and_undo(&ops, 1, &mut item, &arg, &mut changed);
-    }
-    assert_eq!(rt; item, [200, 1]);
     // 456 + 65,380 = 65,836 = 65,536 + 300
-    assert_eq!(rt; changed, [44, 1]);
+    assert!(rt; undone(&ops) == ([44, 1], [200, 1]));
     Ok(())
 }

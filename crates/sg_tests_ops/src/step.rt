@@ -12,113 +12,138 @@ fn step(page: &mut [u8], op: &PageOp<'_>, ops: &Ops) -> bool {
     apply(page, op, ops)
 }
 
-// The cell of a slot of a page.
-fn cell(page: &[u8], slot: u16) -> Option<&[u8]> {
+// Whether an operation is done exactly where it is to fit, and the page stays as it was where not.
+fn goes(page: &mut [u8; PAGE_SIZE], ops: &Ops, op: &PageOp<'_>, fits: bool) -> bool {
+    let before = *page;
+    let is_done = step(page, op, ops);
+    is_done == fits && (fits || *page == before)
+}
+
+// Whether a slot of a page has this cell. None is asked for as `None`.
+fn has_cell(page: &[u8], slot: u16, want: Option<&[u8]>) -> bool {
     match view(page) {
-        Some(view) => view.slot(slot),
-        None => None,
+        Some(view) => view.slot(slot) == want,
+        None => false,
     }
+}
+
+// Operations, and whether each fits the page that those before it leave.
+const TABLE: [(PageOp<'static>, bool); 13] = [
+    (PageOp::Format { kind: 4 }, true),
+    (
+        PageOp::Put {
+            slot: 1,
+            bytes: b"ab",
+        },
+        false,
+    ),
+    (
+        PageOp::Put {
+            slot: 0,
+            bytes: b"ab",
+        },
+        true,
+    ),
+    (
+        PageOp::Put {
+            slot: 0,
+            bytes: b"ab",
+        },
+        false,
+    ),
+    (
+        PageOp::Set {
+            slot: 1,
+            bytes: b"x",
+        },
+        false,
+    ),
+    (
+        PageOp::Set {
+            slot: 0,
+            bytes: b"\x01\x02",
+        },
+        true,
+    ),
+    (
+        PageOp::Item {
+            slot: 0,
+            code: 1,
+            arg: b"\xff\x01",
+        },
+        true,
+    ),
+    (
+        PageOp::Item {
+            slot: 0,
+            code: 1,
+            arg: b"\xff",
+        },
+        false,
+    ),
+    (
+        PageOp::Item {
+            slot: 0,
+            code: 9,
+            arg: b"\xff\x01",
+        },
+        false,
+    ),
+    (
+        PageOp::Item {
+            slot: 1,
+            code: 1,
+            arg: b"\xff\x01",
+        },
+        false,
+    ),
+    (
+        PageOp::ItemBack {
+            slot: 0,
+            code: 9,
+            arg: b"\xff\x01",
+        },
+        false,
+    ),
+    (PageOp::Links { a: 7, b: 8 }, true),
+    (PageOp::Remove { slot: 1 }, false),
+];
+
+// The place of the first of them that goes otherwise.
+fn first_wrong(page: &mut [u8; PAGE_SIZE], ops: &Ops) -> Option<usize> {
+    for (at, (op, fits)) in TABLE.iter().enumerate() {
+        if !goes(page, ops, op, *fits) {
+            return Some(at);
+        }
+    }
+    None
+}
+
+// Takes the last change of the cell off, and then the cell out.
+const BACK: PageOp<'static> = PageOp::ItemBack {
+    slot: 0,
+    code: 1,
+    arg: b"\xff\x01",
+};
+
+const REMOVE: PageOp<'static> = PageOp::Remove { slot: 0 };
+
+fn goes_back(page: &mut [u8; PAGE_SIZE], ops: &Ops) -> bool {
+    let is_back = goes(page, ops, &BACK, true) && has_cell(page, 0, Some(b"\x01\x02"));
+    let is_out = goes(page, ops, &REMOVE, true) && has_cell(page, 0, None);
+    is_back && is_out
+}
+
+fn is_done_where_it_fits(ops: &Ops) -> bool {
+    let mut page = [0xff; PAGE_SIZE];
+    format(&mut page, 0);
+    let wrong = first_wrong(&mut page, ops);
+    wrong.is_none() && has_cell(&page, 0, Some(b"\x00\x04")) && goes_back(&mut page, ops)
 }
 
 #[test]
 fn each_operation_is_done_where_it_fits(rt: HostRuntime) -> Result<(), Fail> {
     let ops = Ops::shipped(rt.alloc())?;
-    let mut page = [0xff; PAGE_SIZE];
-    format(&mut page, 0);
-    let table = [
-        (PageOp::Format { kind: 4 }, true),
-        (
-            PageOp::Put {
-                slot: 1,
-                bytes: b"ab",
-            },
-            false,
-        ),
-        (
-            PageOp::Put {
-                slot: 0,
-                bytes: b"ab",
-            },
-            true,
-        ),
-        (
-            PageOp::Put {
-                slot: 0,
-                bytes: b"ab",
-            },
-            false,
-        ),
-        (
-            PageOp::Set {
-                slot: 1,
-                bytes: b"x",
-            },
-            false,
-        ),
-        (
-            PageOp::Set {
-                slot: 0,
-                bytes: b"\x01\x02",
-            },
-            true,
-        ),
-        (
-            PageOp::Item {
-                slot: 0,
-                code: 1,
-                arg: b"\xff\x01",
-            },
-            true,
-        ),
-        (
-            PageOp::Item {
-                slot: 0,
-                code: 1,
-                arg: b"\xff",
-            },
-            false,
-        ),
-        (
-            PageOp::Item {
-                slot: 0,
-                code: 9,
-                arg: b"\xff\x01",
-            },
-            false,
-        ),
-        (
-            PageOp::Item {
-                slot: 1,
-                code: 1,
-                arg: b"\xff\x01",
-            },
-            false,
-        ),
-        (
-            PageOp::ItemBack {
-                slot: 0,
-                code: 9,
-                arg: b"\xff\x01",
-            },
-            false,
-        ),
-        (PageOp::Links { a: 7, b: 8 }, true),
-        (PageOp::Remove { slot: 1 }, false),
-    ];
-    for (at, (op, fits)) in table.iter().enumerate() {
-        let before = page;
-        assert_eq!(rt; step(&mut page, op, &ops), *fits, "operation {at}");
-        assert!(rt; *fits || page == before, "operation {at}");
-    }
-    assert!(rt; cell(&page, 0) == Some(b"\x00\x04".as_slice()));
-    let back = PageOp::ItemBack {
-        slot: 0,
-        code: 1,
-        arg: b"\xff\x01",
-    };
-    assert!(rt; step(&mut page, &back, &ops));
-    assert!(rt; cell(&page, 0) == Some(b"\x01\x02".as_slice()));
-    assert!(rt; step(&mut page, &PageOp::Remove { slot: 0 }, &ops));
-    assert!(rt; cell(&page, 0).is_none());
+    assert!(rt; is_done_where_it_fits(&ops));
     Ok(())
 }

@@ -4,15 +4,15 @@ use Rattle.sg_frames.specs.declared.place.Place.{Place}
 use Rattle.sg_frames.specs.declared.place.Place.TheVariants.{Page}
 use Rattle.sg_frames.specs.Held.{Held, HereBut, IsHere, bytes_at, with_bytes}
 use Rattle.sg_frames.proofs.Lent.{here_but-none, here_but-written, here_but-taken, here_but-given, none_lent-here_but}
-use Rattle.sg_tests_ops.proofs.frames.a_loan_beside_a_frame.Goals as goal
+use Rattle.sg_tests_ops.proofs.frames.has_its_own.Goals as goal
 
 -- a frame that is here stays so where the one before it is given other bytes
 kept : (old new : Held) (place : Place) (bytes : List ℕ) → new ≡ with_bytes old place bytes → place ≡ Page 3 → IsHere old (Page 4) → IsHere new (Page 4)
 kept old new place bytes is third here =
     ap (λ (h : Held). length (bytes_at h (Page 4))) (is ∙ ap (λ (p : Place). with_bytes old p bytes) third) ∙ ap length (get_or-set_other old.pages 3 4 bytes [] (λ same. omega (arith, same))) ∙ here
 
-pub page-requires-4 : goal.page-requires-4
-page-requires-4 g c =
+pub page_is-still-requires : goal.page_is-still-requires
+page_is-still-requires c =
     let made = c.in_ok-frames in
     let has : 4 < length made.frames.pages = subst (λ n. 4 < n) (sym made.ensures.pages) (lit< tt) in
     let written = here_but-written (λ _. ⊥) made.frames (Page 4) c.fill.new.self has (made.ensures.none_lent.pages 4 has) (here_but-none made.frames made.ensures.none_lent) in
@@ -21,7 +21,7 @@ page-requires-4 g c =
     (kept _ c.take-loan.new.self (Page 3) [] c.take-loan.ensures.left refl (elim (written (Page 4) still) [ inl lent ↦ absurd lent | inr stays ↦ stays ]))
 
 pub end-requires : goal.end-requires
-end-requires g c =
+end-requires c =
     let made = c.in_ok-frames in
     let has : 4 < length made.frames.pages = subst (λ n. 4 < n) (sym made.ensures.pages) (lit< tt) in
     let written = here_but-written (λ _. ⊥) made.frames (Page 4) c.fill.new.self has (made.ensures.none_lent.pages 4 has) (here_but-none made.frames made.ensures.none_lent) in
