@@ -17,3 +17,4 @@ pub mod Meeting
 pub mod ArrayLaws
 pub mod SystemTakeOff
 pub mod Unfinished
+pub mod Linked

@@ -8,7 +8,7 @@ use Rattle.sg_recovery.specs.Stands.{redo, all_undone, settled, stands_at, wante
 use Rattle.sg_recovery.specs.Laws.{Each, Note, bare, Carries, Laws, Swaps, Passes}
 use Rattle.sg_recovery.specs.Keeps.{top_of, HasUndone}
 use Rattle.sg_recovery.specs.Shows.{Entry, from_on, left, Shows, Ranks, Pairs, IsNote, Running, kept}
-use Rattle.sg_recovery.specs.Runs.{note_of, TakesPages, IsGranted, Locks, Goes}
+use Rattle.sg_recovery.specs.Runs.{note_of, TakesPages, IsGranted, Locks, Releases, Goes}
 use Rattle.sg_recovery.specs.Runs.Goes.{begins, saves, changes, does, undoes_last, ends, ends_over, frees}
 use Rattle.sg_recovery.proofs.Basic.{then_of, some_one, cond_true, cond_false, each_more, each_both, each_append, each_front, each_back, each_filter, each_kept, filter_all, filter_append, same_number, number_is, other_number, lt_true, lt_false, or_cases}
 use Rattle.sg_recovery.proofs.Pages.{wanted_less, wanted_but}
@@ -396,6 +396,35 @@ locks s first b t held new k x h i more = record {
           where
             clash : (c : Bool) → c ≡ false → c ≡ true → ⊥
             clash c a z = absurd (cc)
+
+bare_each : (s : Setting) (P : ℕ → Type 0) (ns : List (Note s)) (ts : List (Top s.C s.N)) → map (bare s) ns ≡ ts → Each (λ n. P n.transaction) ts → Each (λ n. P n.transaction) ns
+bare_each s P [] ts e h = tt
+bare_each s P (n ∷ ns) [] e h = absurd (cc)
+bare_each s P (n ∷ ns) (u ∷ us) e h =
+    let same : bare s n ≡ u = cc in
+    let rest : map (bare s) ns ≡ us = cc in
+    (subst P (ap (λ (x : Top s.C s.N). x.transaction) (sym same)) h.0, bare_each s P ns us rest h.1)
+
+with_held : (s : Setting) (held new : ℕ → s.W) (t : ℕ) (ns : List (Note s)) → ((u : ℕ) → (u ≡ t → ⊥) → new u ≡ held u) → Each (λ n. n.transaction ≡ t → ⊥) ns → Each (λ n. s.Within n.place (held n.transaction)) ns
+    → Each (λ n. s.Within n.place (new n.transaction)) ns
+with_held s held new t [] same none h = tt
+with_held s held new t (n ∷ ns) same none h = (subst (λ w. s.Within n.place w) (sym (same n.transaction none.0)) h.0, with_held s held new t ns same none.1 h.1)
+
+-- or gives them back, once no note of its stands
+pub releases : (s : Setting) (first : s.S) (b t : ℕ) (held new : ℕ → s.W) (k : Tally s.C s.N) (x : s.X) (h : List (Entry s.V)) → Running s first b held k x h → Releases s k.notes t held new → Running s first b new k x h
+releases s first b t held new k x h i less = record {
+  reading = i.reading;
+  reads = i.reads;
+  pages = i.pages;
+  placed = i.placed;
+  are = i.are;
+  shows = i.shows;
+  lives = i.lives;
+  notes = i.notes;
+  locked = with_held s held new t i.placed less.others (bare_each s (λ u. u ≡ t → ⊥) i.placed k.notes i.are less.none) i.locked;
+  ranks = i.ranks;
+  entries = i.entries;
+}
 
 -- the entries from an LSN on are forgotten, once no note of theirs stands
 pub forgets : (s : Setting) (first : s.S) (b t from : ℕ) (held : ℕ → s.W) (k : Tally s.C s.N) (x : s.X) (h : List (Entry s.V)) → Running s first b held k x h → is_in t k.live ≡ true → Each (λ n. n.transaction ≡ t → n.lsn < from) k.notes

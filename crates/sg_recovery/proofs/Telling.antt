@@ -9,7 +9,7 @@ use Rattle.sg_recovery.specs.Shows.{Entry, from_on, left, Running, kept}
 use Rattle.sg_recovery.specs.Runs.{AllStand}
 use Rattle.sg_recovery.specs.Chains.{next_lsn, Formed}
 use Rattle.sg_recovery.specs.Opens.{Run}
-use Rattle.sg_recovery.specs.Opens.Run.{starts, goes, commits, looks, forgets, locks}
+use Rattle.sg_recovery.specs.Opens.Run.{starts, goes, commits, looks, forgets, locks, releases}
 use Rattle.sg_recovery.proofs.Running as running
 use Rattle.sg_recovery.proofs.Showing.{kept_entry, kept_undone}
 
@@ -28,6 +28,8 @@ run_keeps s w first x more down held h (forgets ms d e g t from run live low) =
     running.forgets s first (next_lsn (ms ++ d)) t from e (tally (ms ++ d)) (made s x (ms ++ d)) g (run_keeps s w first x ms d e g run) live low
 run_keeps s w first x more down held h (locks ms d e new g t run more_locks) =
     running.locks s first (next_lsn (ms ++ d)) t e new (tally (ms ++ d)) (made s x (ms ++ d)) g (run_keeps s w first x ms d e g run) more_locks
+run_keeps s w first x more down held h (releases ms d e new g t run less) =
+    running.releases s first (next_lsn (ms ++ d)) t e new (tally (ms ++ d)) (made s x (ms ++ d)) g (run_keeps s w first x ms d e g run) less
 
 all_same : (s : Setting) (x : s.X) (m n : s.S) (more down : List (Numbered s.C s.N)) → n ≡ m → AllStand s x m more down → AllStand s x n more down
 all_same s x m n more down e h = subst (λ a. AllStand s x a more down) (sym e) h
@@ -55,6 +57,7 @@ run_stands s w first x more down held h (forgets ms d e g t from run live low) =
     all_same s x (kept s first (tally (ms ++ d)).live g) (kept s first (tally (ms ++ d)).live (left (from_on t from) g)) ms d
     (kept_undone s first (tally (ms ++ d)).live t from g live) (run_stands s w first x ms d e g run)
 run_stands s w first x more down held h (locks ms d e new g t run more_locks) = run_stands s w first x ms d e g run
+run_stands s w first x more down held h (releases ms d e new g t run less) = run_stands s w first x ms d e g run
 
 -- a store that has just been opened is running, with no history
 pub fresh_runs : (s : Setting) (x : s.X) (rs : List (Numbered s.C s.N)) (held : ℕ → s.W) (o : s.O) → Formed rs → (tally rs).opened ≡ [] → (tally rs).live ≡ [] → (tally rs).notes ≡ [] → s.reading (made s x rs) ≡ Some o

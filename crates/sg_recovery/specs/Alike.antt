@@ -17,7 +17,9 @@ pub record TakesTo (s : Setting) (R : s.X → s.X → Type 0) (begin : s.X) (ds 
   pub off : all_off s ds x ≡ Some end
   pub alike : R end begin
 
--- a setting, and which of its pages can't be told apart
+-- a setting, and for each action which states of the pages can't be told apart by what is read: what was free when the action
+-- began may differ
 pub record AlikePages : Type 1 where
   pub setting : Setting
-  pub alike : setting.X → setting.X → Type 0
+  pub Action : Type 0
+  pub alike : Action → setting.X → setting.X → Type 0

@@ -1,5 +1,5 @@
 -- What is proved of a log over any pages, readings and notes. Each is about a setting; those that rest on its laws say so.
-use Rattle.std.specs.Prelude.{◌≡◌, ℕ, ◌+◌, ◌<◌, ◌≤◌, true, false, List, [], ◌∷◌, ◌++◌, Option, Some, None}
+use Rattle.std.specs.Prelude.{◌≡◌, ◌⊎◌, ℕ, ◌+◌, ◌<◌, ◌≤◌, true, false, List, [], ◌∷◌, ◌++◌, Option, Some, None}
 use Rattle.sg_recovery.specs.Setting.{Setting}
 use Rattle.sg_recovery.specs.Log.{Record, Numbered, Open, Top, Tally, said, tally, is_in, open_not_of, open_up_to, notes_of, notes_not_of, notes_up_to}
 use Rattle.sg_recovery.specs.Log.Record.{Begin, Change, TopEnd, PhysComp, TopVoid, CompEnd, Save, Commit, End}
@@ -7,11 +7,12 @@ use Rattle.sg_recovery.specs.Stands.{redo, made, taken_off, all_off, settled, st
 use Rattle.sg_recovery.specs.Laws.{Each, Laws, Note, bare, all_gone_back}
 use Rattle.sg_recovery.specs.Keeps.{Keeps, Reverts, top_of, IsDone, HasUndone, IsAside}
 use Rattle.sg_recovery.specs.Shows.{Entry, from_on, left, live_after, behind, picked, Shows, Running, kept}
-use Rattle.sg_recovery.specs.Runs.{Goes, AllStand, IsGranted, Locks}
+use Rattle.sg_recovery.specs.Runs.{Goes, AllStand, IsGranted, Locks, Releases}
 use Rattle.sg_recovery.specs.Chains.{last_of, border_of, next_lsn, next_off, Formed, Sound, IsGone, IsLast, walk}
 use Rattle.sg_recovery.specs.Opens.{Opens, AreOpening, Run}
 use Rattle.sg_recovery.specs.TakeOff.{FindsOff}
 use Rattle.sg_recovery.specs.Formed.{IsUnfinished, IsLog}
+use Rattle.sg_recovery.specs.Linked.{AreLinked, LinkedSystem}
 use Rattle.sg_recovery.specs.Words.{standing_in}
 use Rattle.sg_recovery.specs.Alike.{AreAlike, TakesTo}
 
@@ -51,6 +52,11 @@ GreatestIsFound s = (rs : Log s) → Formed rs → (transaction : ℕ) (n : Top 
 abbrev pub TakeOffFindsAll : Setting → Type 0
 TakeOffFindsAll s = (base : ℕ) (rs : Log s) → IsLog base rs → (transaction : ℕ) → IsUnfinished rs transaction
     → FindsOff rs (last_of transaction rs) (tally rs).opened × Each (λ d. d.transaction ≡ transaction) (tally rs).opened
+
+-- and these are linked: each names the one before it, and the first one the record before the action
+abbrev pub OpenChangesAreLinked : Setting → Type 0
+OpenChangesAreLinked s = (base : ℕ) (rs : Log s) → IsLog base rs → (transaction : ℕ) → IsUnfinished rs transaction
+    → ((transaction ≡ 0) × LinkedSystem base rs (tally rs).opened) ⊎ ((is_in transaction (tally rs).live ≡ true) × AreLinked rs (border_of transaction rs) (tally rs).opened)
 
 -- where no action of the system or of a transaction that goes on lacks an end, no change is open
 abbrev pub NothingIsOpen : Setting → Type 0
@@ -180,6 +186,10 @@ RunningForgets s = (first : s.S) (bound transaction from : ℕ) (held : ℕ → 
 -- and where a transaction gets more locks
 abbrev pub RunningLocks : Setting → Type 0
 RunningLocks s = (first : s.S) (bound transaction : ℕ) (held new : ℕ → s.W) (k : Says s) (x : s.X) (h : History s) → Running s first bound held k x h → Locks s transaction held new → Running s first bound new k x h
+
+-- or gives them back, once no note of its stands
+abbrev pub RunningReleases : Setting → Type 0
+RunningReleases s = (first : s.S) (bound transaction : ℕ) (held new : ℕ → s.W) (k : Says s) (x : s.X) (h : History s) → Running s first bound held k x h → Releases s k.notes transaction held new → Running s first bound new k x h
 
 -- What a crash leaves stands for what the entries of the transactions that don't go on give,
 abbrev pub RunningStands : Setting → Type 0

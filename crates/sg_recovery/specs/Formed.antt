@@ -3,7 +3,7 @@ use Rattle.std.specs.Prelude.{◌≡◌, ◌⊎◌, ℕ, ◌<◌, ◌≤◌, tru
 use Rattle.sg_recovery.specs.Log.{Record, Numbered, Open, tally, is_in, open_of}
 use Rattle.sg_recovery.specs.Log.Record.{Begin, Change, TopEnd, PhysComp, TopVoid, CompEnd, Save, Commit, End}
 use Rattle.sg_recovery.specs.Laws.{Each}
-use Rattle.sg_recovery.specs.Chains.{last_of, border_of, Formed}
+use Rattle.sg_recovery.specs.Chains.{last_of, border_of, next_off, Formed}
 use Rattle.sg_recovery.specs.TakeOff.{AreOwned, FormedSystem}
 
 -- An action of the transaction has no end: the transaction's last record is none that ends an action. That it is, also where
@@ -32,6 +32,24 @@ abbrev pub AreBetween : {C N : Type 0} → List (Numbered C N) → Type 0
 AreBetween [] = Unit {0}
 AreBetween (r ∷ rs) = IsBetween rs r.is × AreBetween rs
 
+-- No change of an action is behind a phys-comp of that action: once it is being taken off, nothing else is done in it. Of a
+-- transaction whose begin isn't in the log nothing is asked.
+abbrev pub IsStraight : {C N : Type 0} → List (Numbered C N) → Record C N → Type 0
+IsStraight rs (Begin transaction previous) = Unit {0}
+IsStraight rs (Change transaction previous change) =
+    (transaction ≡ 0) ⊎ (is_in transaction (tally rs).live ≡ true) → last_of transaction rs ≡ next_off (border_of transaction rs) (open_of transaction (tally rs).opened)
+IsStraight rs (TopEnd transaction previous undo_next note) = Unit {0}
+IsStraight rs (PhysComp transaction previous undo_next change) = Unit {0}
+IsStraight rs (TopVoid transaction previous undo_next) = Unit {0}
+IsStraight rs (CompEnd transaction previous undo_next) = Unit {0}
+IsStraight rs (Save transaction previous mark) = Unit {0}
+IsStraight rs (Commit transaction previous) = Unit {0}
+IsStraight rs (End transaction previous) = Unit {0}
+
+abbrev pub AreStraight : {C N : Type 0} → List (Numbered C N) → Type 0
+AreStraight [] = Unit {0}
+AreStraight (r ∷ rs) = IsStraight rs r.is × AreStraight rs
+
 -- A formed log whose area begins at the number base.
 pub record IsLog {C N : Type 0} (base : ℕ) (rs : List (Numbered C N)) : Type 0 where
   pub above : Each (λ r. base ≤ r.lsn) rs
@@ -39,6 +57,7 @@ pub record IsLog {C N : Type 0} (base : ℕ) (rs : List (Numbered C N)) : Type 0
   pub chained : Formed rs
   pub system : FormedSystem base rs
   pub between : AreBetween rs
+  pub straight : AreStraight rs
   pub one_action : OneAction rs
 
 -- an open change is of its transaction's last action, which has no end

@@ -15,3 +15,4 @@ pub mod TakeOff
 pub mod Formed
 pub mod Alike
 pub mod ArrayCase
+pub mod Linked

@@ -7,7 +7,7 @@ use Rattle.sg_recovery.specs.Stands.{made, settled, wants_one}
 use Rattle.sg_recovery.specs.Laws.{Each}
 use Rattle.sg_recovery.specs.Keeps.{Reverts, HasUndone}
 use Rattle.sg_recovery.specs.Shows.{Entry, from_on, left, Running}
-use Rattle.sg_recovery.specs.Runs.{DoesFree, TakesPages, IsGranted, Locks, Goes}
+use Rattle.sg_recovery.specs.Runs.{DoesFree, TakesPages, IsGranted, Locks, Releases, Goes}
 use Rattle.sg_recovery.specs.Chains.{next_lsn}
 
 -- what opening appends, by what the log says so far and the pages: the last open change is taken off; all are; a change
@@ -40,3 +40,4 @@ pub data Run (s : Setting) (first : s.S) (x : s.X) : (more down : List (Numbered
   forgets : (more down : List (Numbered s.C s.N)) (held : ℕ → s.W) (h : List (Entry s.V)) (t from : ℕ) → Run s first x more down held h → is_in t (tally (more ++ down)).live ≡ true
       → Each (λ n. n.transaction ≡ t → n.lsn < from) (tally (more ++ down)).notes → Run s first x more down held (left (from_on t from) h)
   locks : (more down : List (Numbered s.C s.N)) (held new : ℕ → s.W) (h : List (Entry s.V)) (t : ℕ) → Run s first x more down held h → Locks s t held new → Run s first x more down new h
+  releases : (more down : List (Numbered s.C s.N)) (held new : ℕ → s.W) (h : List (Entry s.V)) (t : ℕ) → Run s first x more down held h → Releases s (tally (more ++ down)).notes t held new → Run s first x more down new h

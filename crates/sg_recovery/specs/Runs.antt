@@ -37,6 +37,11 @@ pub record Locks (s : Setting) (t : ℕ) (old new : ℕ → s.W) : Type 0 where
   pub others : (u : ℕ) → (u ≡ t → ⊥) → new u ≡ old u
   pub more : (p : s.W) → s.Within p (old t) → s.Within p (new t)
 
+-- a transaction of which no note stands gives back what it holds; the others hold what they held
+pub record Releases (s : Setting) (ns : List (Top s.C s.N)) (t : ℕ) (old new : ℕ → s.W) : Type 0 where
+  pub none : Each (λ n. n.transaction ≡ t → ⊥) ns
+  pub others : (u : ℕ) → (u ≡ t → ⊥) → new u ≡ old u
+
 -- an action takes at most so many of the free pages
 abbrev pub TakesPages : (s : Setting) → Tally s.C s.N → s.X → ℕ → Type 0
 TakesPages s k x most = (old now : s.O) → settled s k.opened x ≡ Some old → s.reading x ≡ Some now → s.free old ≤ s.free now + most

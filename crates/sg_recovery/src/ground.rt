@@ -7,7 +7,7 @@ pub trait Ground {
     ghost setting: { Setting };
 }
 
-/// The same, with which of the pages can't be told apart by what is read.
+/// The same, with which of the pages can't be told apart by what is read, for each action.
 pub trait Likeness {
     ghost pages: { AlikePages };
 }

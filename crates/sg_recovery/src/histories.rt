@@ -1,12 +1,13 @@
 // What a running store keeps at each front of its log.
-ghost use Rattle.sg_recovery.specs.Claims.{RunningGoesOn, RunningKeeps, RunningCommits, RunningLooks, RunningForgets, RunningLocks, RunningStands, RunStands, RunKeeps, FreshRuns};
+ghost use Rattle.sg_recovery.specs.Claims.{RunningGoesOn, RunningKeeps, RunningCommits, RunningLooks, RunningForgets, RunningLocks, RunningReleases, RunningStands, RunStands, RunKeeps, FreshRuns};
 ghost use Rattle.sg_recovery.specs.Claims.{LastCanBeUndone, LeftTwice, NobodyIsLeft, ReadingShows, MarksShow};
 
 use crate::Ground;
 
 /// Tells a proof that a store which keeps to its locks keeps, at each record, that any of its live
-/// transactions can be undone from any point on; and that each front of its log, down to the last
-/// commit, stands for what the transactions that aren't live have done. It runs no code.
+/// transactions can be undone from any point on, also where one of which no note stands gives its
+/// locks back; and that each front of its log, down to the last commit, stands for what the
+/// transactions that aren't live have done. It runs no code.
 pub fn runs_keep<G: Ground>()
     ensures goes_on { RunningGoesOn G.setting }
     ensures same { RunningKeeps G.setting }
@@ -14,6 +15,7 @@ pub fn runs_keep<G: Ground>()
     ensures looks { RunningLooks G.setting }
     ensures forgets { RunningForgets G.setting }
     ensures locks { RunningLocks G.setting }
+    ensures releases { RunningReleases G.setting }
     ensures stands { RunningStands G.setting }
     ensures fronts { RunStands G.setting }
     ensures run { RunKeeps G.setting }

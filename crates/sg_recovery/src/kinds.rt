@@ -33,14 +33,15 @@ pub fn pages_last<G: Ground>()
     ensures commit { CommitPages G.setting }
 {}
 
-/// Tells a proof that an open action is taken off to pages that can't be told from those at its
-/// begin, where each inverse fits and gives back pages alike to those before its change; and that
-/// what is read is then what was read at the begin. It runs no code.
+/// Tells a proof of any action, with what can't be told apart in it, that it is taken off to pages
+/// that can't be told from those at its begin, where each inverse fits and gives back pages alike to
+/// those before its change; and that what is read is then what was read at the begin. It runs no
+/// code.
 pub fn actions_are_taken_off<G: Likeness>()
-    ensures reverts { AlikeReverts G.pages.setting G.pages.alike }
-    ensures none { TakesNone G.pages.setting G.pages.alike }
-    ensures more { TakesMore G.pages.setting G.pages.alike }
-    ensures less { TakesLess G.pages.setting G.pages.alike }
-    ensures reads { TakesReads G.pages.setting G.pages.alike }
-    ensures each { TakesReverts G.pages.setting G.pages.alike }
+    ensures reverts { (action : G.pages.Action) → AlikeReverts G.pages.setting (G.pages.alike action) }
+    ensures none { (action : G.pages.Action) → TakesNone G.pages.setting (G.pages.alike action) }
+    ensures more { (action : G.pages.Action) → TakesMore G.pages.setting (G.pages.alike action) }
+    ensures less { (action : G.pages.Action) → TakesLess G.pages.setting (G.pages.alike action) }
+    ensures reads { (action : G.pages.Action) → TakesReads G.pages.setting (G.pages.alike action) }
+    ensures each { (action : G.pages.Action) → TakesReverts G.pages.setting (G.pages.alike action) }
 {}

@@ -1,5 +1,5 @@
 // What a formed log says, and what walks back over it find.
-ghost use Rattle.sg_recovery.specs.Claims.{FoldSaysTheSentence, ChainsHold, WalkFinds, WalkEnds, GreatestIsFound, TakeOffFindsAll, NothingIsOpen, TakesOffOne, GreatestGoes, NoneIsUndoneTwice, NotesAreBelow, LastOfOwn};
+ghost use Rattle.sg_recovery.specs.Claims.{FoldSaysTheSentence, ChainsHold, WalkFinds, WalkEnds, GreatestIsFound, TakeOffFindsAll, NothingIsOpen, TakesOffOne, OpenChangesAreLinked, GreatestGoes, NoneIsUndoneTwice, NotesAreBelow, LastOfOwn};
 
 use crate::Ground;
 
@@ -17,12 +17,14 @@ pub fn notes_are_found<G: Ground>()
 {}
 
 /// Tells a proof that a take-off finds all open changes of a formed log, from the last record of the
-/// one transaction whose action has no end, and that none is open where each action has one. It runs
-/// no code.
+/// one transaction whose action has no end; that each of these names the one before it, so that a
+/// take-off needs to keep no more than where it is; and that none is open where each action has an
+/// end. It runs no code.
 pub fn take_offs_find<G: Ground>()
     ensures all { TakeOffFindsAll G.setting }
     ensures none { NothingIsOpen G.setting }
     ensures one { TakesOffOne G.setting }
+    ensures linked { OpenChangesAreLinked G.setting }
 {}
 
 /// Tells a proof that no note is undone twice, however often an opening is stopped. It runs no code.

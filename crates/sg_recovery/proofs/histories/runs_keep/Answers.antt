@@ -20,6 +20,9 @@ returns-clause-forgets g c = running.forgets g.G.Ground.setting
 pub returns-clause-locks : goal.returns-clause-locks
 returns-clause-locks g c = running.locks g.G.Ground.setting
 
+pub returns-clause-releases : goal.returns-clause-releases
+returns-clause-releases g c = running.releases g.G.Ground.setting
+
 pub returns-clause-stands : goal.returns-clause-stands
 returns-clause-stands g c = running.running_stands g.G.Ground.setting
 
