@@ -1,0 +1,10 @@
+pub mod Reading
+pub mod Back
+pub mod Did
+pub mod Model
+pub mod Noted
+pub mod Strokes
+pub mod Possible
+pub mod Plainly
+pub mod Left
+pub mod Claims
