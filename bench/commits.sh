@@ -22,7 +22,7 @@ folder="$(mktemp -d ${3:+-p "$3"})"
 trap 'rm -rf "$folder"' EXIT
 
 # Builds the program where it must, outside of what is measured.
-"$top/stasis" </dev/null >/dev/null 2>"$folder/said" || [ -x "$top/crates/sg_main/out/sg_main" ] || {
+"$top/stasis" build 2>"$folder/said" || {
     cat "$folder/said" >&2
     exit 1
 }

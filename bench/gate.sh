@@ -1,12 +1,14 @@
 #!/usr/bin/env bash
-# Measures what the merge gate takes, crate by crate, in minutes of processor, and writes a table in markdown.
+# Measures what the merge gate takes, crate by crate, in minutes of processor, and writes it into bench/gate.txt: what a crate's proof takes,
+# its tests, how many edits it has and what these take, with the kit and the date. A row stands until its crate is measured again. With
+# --at the rows are printed alone.
 #
 #   bench/gate.sh [--at COMMIT] [NAME..]
 #
 # It runs `rt ci` once, on all processors, over a copy of the files as they stand, or as they stood at the commit: over all crates, or over
 # those that are named and those below them. So what is measured is what the gate does: each crate's proof; where a crate has tests in it, its
 # proof once more together with them; a check of the crate over which its must-fail edits are tried, and the edits. The tests of a crate
-# of tests are its second column too. What rt itself takes beside the prover, and the tests' runs, are in no row; they stand in the last line.
+# of tests are its second column too. What rt itself takes beside the prover, and the tests' runs, are in no row; they are in the last line that it prints.
 #
 # Nothing that another copy of the repository kept on this machine is taken, and nothing is kept for others: rt keeps its work beside
 # the kit, and this works with a kit of its own, made of links. The times are those of user and system of all processes of the prover.
@@ -45,14 +47,17 @@ lay_files() {
     fi
 }
 
-# The crates of crates.txt, in its order.
+# The crates of crates.txt in that folder, in its order.
 crate_names() {
-    sed -n 's/^\([a-z0-9_]*\)[^#]*:.*/\1/p' "$copy/crates.txt"
+    sed -n 's/^\([a-z0-9_]*\)[^#]*:.*/\1/p' "$1/crates.txt"
 }
 
-# Adds up what the calls of the prover took, and prints a row for each crate and one for all.
+# Adds up what the calls of the prover took, and prints a row for each crate that was measured.
 add_up() {
-    awk -v names="$(crate_names | tr '\n' ' ')" -v whole="$(awk 'END { print $1 + $2 }' "$room/whole")" '
+    awk -v names="$(crate_names "$copy" | tr '\n' ' ')" -v kit="$(rt version | cut -d ' ' -f 1)" -v date="$(date -u +%F)" '
+        function minutes(seconds) {
+            return seconds > 0 ? sprintf("%.1f", seconds / 60) : "-"
+        }
         !/^[0-9.]+ [0-9.]+ / { next }
         !/ --crate-name / { next }
         { crate = $0; sub(/.* --crate-name /, "", crate); sub(/ .*/, "", crate); seen[crate] = 1; taken = $1 + $2 }
@@ -61,19 +66,24 @@ add_up() {
         / --test / { tests[crate] += taken; next }
         { proof[crate] += taken }
         END {
-            print "| crate | proof | with tests | edits | they take | together |"
-            print "|---|---|---|---|---|---|"
             count = split(names, order, " ")
             for (i = 1; i <= count; i++) {
                 crate = order[i]
                 if (!(crate in seen)) continue
-                sum = proof[crate] + tests[crate] + edits[crate]
-                printf "| `%s` | %.1f | %.1f | %d | %.1f | %.1f |\n", crate, proof[crate] / 60, tests[crate] / 60, tried[crate], edits[crate] / 60, sum / 60
-                a += proof[crate]; b += tests[crate]; c += tried[crate]; d += edits[crate]
+                printf "%-20s %6s %6s %6d %6s  %-15s %s\n", crate, minutes(proof[crate]), minutes(tests[crate]), tried[crate], minutes(edits[crate]), kit, date
             }
-            printf "| together | %.1f | %.1f | %d | %.1f | %.1f |\n\n", a / 60, b / 60, c, d / 60, (a + b + d) / 60
-            printf "All of the gate took %.1f minutes.\n", whole / 60
         }' "$GATE_TIMES"
+}
+
+# Puts the rows that were measured in the place of the older ones of these crates. The rows stand in the order of crates.txt, and those of
+# crates that are gone go.
+put_rows() {
+    local table="$top/bench/gate.txt" crate row
+    grep '^#' "$table" >"$room/table"
+    for crate in $(crate_names "$top"); do
+        row="$(grep "^$crate " "$room/rows" || grep "^$crate " "$table")" && echo "$row" >>"$room/table"
+    done
+    cp "$room/table" "$table"
 }
 
 commit=""
@@ -87,5 +97,7 @@ lay_files || exit 1
 (cd "$copy" && /usr/bin/time -o "$room/whole" -f '%U %S' "$room/rattle/bin/rt" ci "$@") >"$room/said" 2>&1
 status=$?
 tail -n 1 "$room/said"
-add_up
+add_up | tee "$room/rows"
+awk '{ printf "All of it took %.1f minutes.\n", ($1 + $2) / 60 }' "$room/whole"
+if [ -z "$commit" ] && [ "$status" -eq 0 ]; then put_rows; fi
 exit "$status"

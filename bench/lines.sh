@@ -17,7 +17,7 @@ folder="$(mktemp -d)"
 trap 'rm -rf "$folder"' EXIT
 
 # Builds the program where it must, outside of what is measured.
-"$top/stasis" >/dev/null 2>&1 </dev/null || true
+"$top/stasis" build || exit 1
 
 python3 - "$folder" "$top/crates/sg_main/out/sg_main" "$@" <<'PYTHON'
 import resource, statistics, subprocess, sys, time
