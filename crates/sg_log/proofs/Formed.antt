@@ -4,8 +4,9 @@ use Rattle.std.proofs.Common.{◌≡◌, ℕ, ◌+◌, ◌-◌, ◌<◌, ◌≤�
 use Rattle.byteorder.specs.Endian.{little_bytes, little_number}
 use Rattle.byteorder.specs.Numbers.{little_number-reads_back}
 use Rattle.sg_disk.specs.Disk.{Bytes, window}
-use Rattle.sg_record.specs.Plain.{Record, spelled, spelled_all}
-use Rattle.sg_record.proofs.PlainLaws.{spelled-long}
+use Rattle.sg_record.specs.Records.{Record, spelled}
+use Rattle.sg_log.specs.Texts.{spelled_all}
+use Rattle.sg_log.proofs.Texts.{spelled-long}
 use Rattle.sg_log.specs.Formed.{IsWhole, IsFormed, IsUnformed}
 use Rattle.sg_log.specs.Frames.{GREATEST_BODY, LOG_END, gate_after}
 use Rattle.sg_log.proofs.Holding.{text-length}

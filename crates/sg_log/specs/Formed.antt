@@ -1,7 +1,8 @@
 -- Which frames are formed, and where a log can't be read on.
 use Rattle.std.specs.Prelude.{◌≡◌, ◌+◌, ◌≤◌, ℕ, List, [], ◌∷◌, length}
 use Rattle.sg_disk.specs.Disk.{Bytes, window}
-use Rattle.sg_record.specs.Plain.{Record, spelled_all, AreRecords}
+use Rattle.sg_record.specs.Records.{Record}
+use Rattle.sg_log.specs.Texts.{spelled_all, AreRecords}
 use Rattle.sg_log.specs.Frames.{LOG_END, IsFrame, text_of, gate_after}
 
 -- these bytes are whole records

@@ -1,5 +1,5 @@
+pub mod Texts
 pub mod Faults
-pub mod Following
 pub mod Formed
 pub mod Frames
 pub mod Held

@@ -4,7 +4,8 @@ ghost use Rattle.byteorder.specs.Endian.{little_bytes};
 ghost use Rattle.sg_base.specs.Ends.{HasRisen};
 ghost use Rattle.sg_disk.specs.Disk.{END, FULL, LeavesOnly};
 ghost use Rattle.sg_log.specs.Frames.{text_of, IsFrame, IsAtRest, IsWithOrWithout, SameElsewhere};
-ghost use Rattle.sg_record.specs.Plain.{Record, spelled_all};
+ghost use Rattle.sg_record.specs.Records.{Record};
+ghost use Rattle.sg_log.specs.Texts.{spelled_all};
 
 use sg_base::write_u32;
 use sg_disk::{Area, Disk, Failed};

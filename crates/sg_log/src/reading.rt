@@ -7,12 +7,14 @@ ghost use Rattle.sg_log.specs.Formed.{IsWhole, IsFormed, IsUnformed, IsDamagedAt
 ghost use Rattle.sg_log.specs.Frames.{Frames, LOG_END, GREATEST_BODY, gate_after};
 ghost use Rattle.sg_log.specs.Places.{IsRecordText};
 ghost use Rattle.sg_log.specs.Reads.{OnlyReads};
-ghost use Rattle.sg_record.specs.Plain.{Record, GREATEST, HEADER, spelled, spelled_all, IsRecord};
+ghost use Rattle.sg_record.specs.Records.{Record, HEADER, spelled};
+ghost use Rattle.sg_log.specs.Texts.{GREATEST, spelled_all};
+ghost use Rattle.sg_record.specs.Ranges.{IsRecord};
 
 use crate::LogFault;
 use sg_base::{Lsn, read_u32};
 use sg_disk::{Area, Disk, Failed};
-use sg_record::plain::decode;
+use sg_record::decode;
 
 /// Whether the bytes are whole records, one after another.
 pub fn is_whole(bytes: &[u8]) -> bool
