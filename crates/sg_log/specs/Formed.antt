@@ -11,6 +11,11 @@ pub record IsWhole (bytes : List ℕ) : Type 0 where
   pub fields : AreRecords records
   pub spelling : spelled_all records ≡ bytes
 
+-- At this offset a frame with this body stands: behind an open gate stand the body's length and the body.
+pub record HasBody (f : Bytes) (at : ℕ) (body : List ℕ) : Type 0 where
+  pub gate : f at ≡ 1
+  pub text : window f (at + 1) (length (text_of body)) ≡ text_of body
+
 -- At this offset a frame of these records is formed: behind an open gate stand its length and its body.
 pub record IsFormed (f : Bytes) (at : ℕ) (rs : List Record) : Type 0 where
   pub gate : f at ≡ 1

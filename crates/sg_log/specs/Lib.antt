@@ -4,4 +4,5 @@ pub mod Formed
 pub mod Frames
 pub mod Held
 pub mod Places
+pub mod Reading
 pub mod Reads

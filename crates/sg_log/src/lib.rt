@@ -10,10 +10,13 @@
 
 mod fault;
 mod frame;
+mod laws;
 mod log;
 mod place;
 mod reading;
 
 pub use fault::LogFault;
+pub use laws::records_are_read;
 pub use log::Log;
 pub use place::Place;
+pub use reading::read_body;
