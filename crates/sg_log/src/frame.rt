@@ -43,8 +43,8 @@ pub fn write_frame<D: Disk>(disk: &mut D, area: Area, at: u64, text: &[u8]) -> R
     ensures later { (D.view disk.old).faults ≤ (D.view disk.new).faults }
 {
     disk.write_at(area, at + 1, text)?;
-    disk.sync(area)?;
+    disk.sync(area)?; // the body, before its gate is opened
     disk.write_at(area, at, &[1])?;
-    disk.sync(area)?;
+    disk.sync(area)?; // the gate, before the frame is told to be there
     Ok(())
 }
