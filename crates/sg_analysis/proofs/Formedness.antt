@@ -5,7 +5,11 @@ use Rattle.std.proofs.lemmas.List.Sums.{length-filter}
 use Rattle.sg_disk.specs.Disk.{Bytes}
 use Rattle.sg_record.specs.Changes.{Change as Changing}
 use Rattle.sg_record.specs.Records.{Record}
-use Rattle.sg_log.specs.Frames.{LOG_END}
+use Rattle.sg_log.specs.Formed.{IsFormed}
+use Rattle.sg_log.specs.Frames.{LOG_END, Frames, HasRecords, Numbered, gate_after, numbered_from, numbered_in, text_of}
+use Rattle.sg_log.specs.Texts.{spelled_all}
+use Rattle.sg_log.proofs.Standing.{Frames-behind, gate_behind}
+use Rattle.sg_log.proofs.Steps.{gate_later, gate_shut}
 use Rattle.sg_recovery.specs.Log.{Open, Top, said, tally, is_in, open_of, notes_of, without}
 use Rattle.sg_recovery.specs.Log.Record.{Begin, Change, TopEnd, PhysComp, TopVoid, CompEnd, Save, Commit, End}
 use Rattle.sg_recovery.specs.Laws.{Each}
@@ -17,14 +21,13 @@ use Rattle.sg_recovery.proofs.Basic.{each_more, each_filter, each_kept, each_app
 use Rattle.sg_recovery.proofs.Running.{pairs_filter}
 use Rattle.sg_recovery.proofs.Chaining.{clash, sound}
 use Rattle.sg_recovery.proofs.TakeOff.{own_of, taken}
-use Rattle.sg_analysis.specs.Frames.{AreFormed, HasFrames, IsFormed, end_at, gate_after, Numbered, numbered_from, numbered_in}
 use Rattle.sg_analysis.specs.Sights.{Step, Steps, Sight, sight_of, with_step, steps_behind, steps_of}
 use Rattle.sg_analysis.specs.Sights.Sight.{Stepped, Estimated, Foreign}
 use Rattle.sg_analysis.specs.Analysis.{oldest_first, lacks_end, acting, unfinished_count}
 use Rattle.sg_analysis.specs.Standing.{goes_right, is_systems, precedes_system, goes_on, may_step, may_stand, all_stand_behind, all_stand, IsPlausible, ArePlausible, IsPageLog}
 use Rattle.sg_analysis.specs.Damage.{IsTorn, IsAmbiguous, IsDamagedAt}
 use Rattle.sg_analysis.proofs.Taking.{both_true, true_left, all_stand-both, append_none, append_assoc}
-use Rattle.sg_analysis.proofs.Walking.{front_of, formed_back, gate_both, gate_later}
+use Rattle.sg_analysis.proofs.Walking.{front_of}
 use Rattle.sg_analysis.proofs.GoingOn.{IsOn, may_step-on}
 
 -- what is known of the steps of a formed log, and of those before any of them
@@ -242,32 +245,43 @@ formed_one base ns h =
 
 numbered_both : (gate : ℕ) (lead rest : List (List Record)) → numbered_in gate (lead ++ rest) ≡ numbered_in gate lead ++ numbered_in (gate_after gate lead) rest
 numbered_both gate [] rest = refl
-numbered_both gate (rs ∷ lead) rest = ap (λ (ns : List Numbered). numbered_from (gate + 5) rs ++ ns) (numbered_both (end_at gate rs) lead rest) ∙ sym (append_assoc (numbered_from (gate + 5) rs) (numbered_in (end_at gate rs) lead) (numbered_in (gate_after (end_at gate rs) lead) rest))
+numbered_both gate (rs ∷ lead) rest =
+    let end = gate + 1 + length (text_of (spelled_all rs)) in
+    ap (λ (ns : List Numbered). numbered_from (gate + 5) rs ++ ns) (numbered_both end lead rest) ∙ sym (append_assoc (numbered_from (gate + 5) rs) (numbered_in end lead) (numbered_in (gate_after end lead) rest))
 
 -- where a formed log stands, it isn't damaged
-pub undamaged : {f : Bytes} {base at : ℕ} {frames : List (List Record)} → HasFrames f base frames → IsPageLog base (numbered_in base frames) → IsDamagedAt f base at → ⊥
-undamaged {f = f} {base = base} {at = at} {frames = frames} h log d = by_rest (front_of f 0 d.frames frames d.formed h.formed h.closed) d.cause
+pub undamaged : {f : Bytes} {base gate at : ℕ} {ns : List Numbered} → HasRecords f base gate ns → IsPageLog base ns → IsDamagedAt f base at → ⊥
+undamaged {f = f} {base = base} {at = at} {ns = ns} h log d = by_rest (front_of f 0 d.frames h.frames d.formed h.stand) d.cause
   where
-    torn : (rest : List (List Record)) → frames ≡ d.frames ++ rest → IsTorn f base at d.frames → ⊥
-    torn [] is t = h.closed (subst (λ (x : List (List Record)). f (gate_after 0 x) ≡ 1) (sym (is ∙ append_none d.frames)) (subst (λ n. f n ≡ 1) t.there t.gate))
-    torn (rs ∷ rest) is t =
-        let more : AreFormed f (gate_after 0 d.frames) (rs ∷ rest) = formed_back f 0 d.frames (rs ∷ rest) (subst (AreFormed f 0) is h.formed) in
-        let later : end_at (gate_after 0 d.frames) rs ≤ gate_after 0 frames = le_trans (gate_later (end_at (gate_after 0 d.frames) rs) rest) (le_of_eq (sym (ap (gate_after 0) is ∙ gate_both 0 d.frames (rs ∷ rest)))) in
-        let split : numbered_in base frames ≡ numbered_in base (d.frames ++ rs ∷ []) ++ numbered_in (gate_after base (d.frames ++ rs ∷ [])) rest =
-        ap (numbered_in base) (is ∙ sym (append_assoc d.frames (rs ∷ []) rest)) ∙ numbered_both base (d.frames ++ rs ∷ []) rest in
-        let all = sym (all_stand-both base [] (numbered_in base (d.frames ++ rs ∷ [])) (numbered_in (gate_after base (d.frames ++ rs ∷ [])) rest)) ∙ (sym (ap (all_stand base) split) ∙ formed_stands base (numbered_in base frames) log) in
-        t.none rs (subst (λ n. IsFormed f n rs) (sym t.there) more.0) (within later (ap (λ n. end_at n rs) t.there)) (true_left (all_stand base (numbered_in base (d.frames ++ rs ∷ []))) _ all)
-      where
-        within : end_at (gate_after 0 d.frames) rs ≤ gate_after 0 frames → end_at at rs ≡ end_at (gate_after 0 d.frames) rs → base + end_at at rs ≤ LOG_END
-        within le e = omega (arith, h.within, le, e)
+    formed : IsPageLog base (numbered_in base h.frames)
+    formed = subst (IsPageLog base) (sym h.all) log
 
-    two : (rest : List (List Record)) → frames ≡ d.frames ++ rest → IsAmbiguous f base at d.frames → ⊥
-    two [] is a = let less = formed_one base (numbered_in base frames) log in absurd (over less (subst (λ (x : List (List Record)). 1 < unfinished_count (steps_of (numbered_in base x))) (sym (is ∙ append_none d.frames)) a.more))
+    shut : f (gate_after 0 h.frames) ≡ 1 → ⊥
+    shut = gate_shut f 0 h.frames h.stand
+
+    torn : (rest : List (List Record)) → h.frames ≡ d.frames ++ rest → IsTorn f base at d.frames → ⊥
+    torn [] is t = shut (subst (λ (x : List (List Record)). f (gate_after 0 x) ≡ 1) (sym (is ∙ append_none d.frames)) (subst (λ n. f n ≡ 1) t.there t.gate))
+    torn (rs ∷ rest) is t =
+        let more : Frames f (gate_after 0 d.frames) (rs ∷ rest) = Frames-behind f 0 d.frames (rs ∷ rest) (subst (Frames f 0) is h.stand) in
+        let next : IsFormed f (gate_after 0 d.frames) rs = record { gate = more.0; frame = more.1; text = more.2 } in
+        let later = gate_later (gate_after (gate_after 0 d.frames) (rs ∷ [])) rest in
+        let all_behind : gate_after 0 h.frames ≡ gate_after (gate_after 0 d.frames) (rs ∷ rest) = ap (gate_after 0) is ∙ gate_behind 0 d.frames (rs ∷ rest) in
+        let split : numbered_in base h.frames ≡ numbered_in base (d.frames ++ rs ∷ []) ++ numbered_in (gate_after base (d.frames ++ rs ∷ [])) rest =
+        ap (numbered_in base) (is ∙ sym (append_assoc d.frames (rs ∷ []) rest)) ∙ numbered_both base (d.frames ++ rs ∷ []) rest in
+        let all = sym (all_stand-both base [] (numbered_in base (d.frames ++ rs ∷ [])) (numbered_in (gate_after base (d.frames ++ rs ∷ [])) rest)) ∙ (sym (ap (all_stand base) split) ∙ formed_stands base (numbered_in base h.frames) formed) in
+        t.none rs (subst (λ n. IsFormed f n rs) (sym t.there) next) (within later all_behind (ap (λ n. gate_after n (rs ∷ [])) t.there)) (true_left (all_stand base (numbered_in base (d.frames ++ rs ∷ []))) _ all)
+      where
+        within : gate_after (gate_after 0 d.frames) (rs ∷ []) ≤ gate_after (gate_after (gate_after 0 d.frames) (rs ∷ [])) rest → gate_after 0 h.frames ≡ gate_after (gate_after (gate_after 0 d.frames) (rs ∷ [])) rest
+            → gate_after at (rs ∷ []) ≡ gate_after (gate_after 0 d.frames) (rs ∷ []) → base + gate_after at (rs ∷ []) ≤ LOG_END
+        within le e same = omega (arith, h.within, h.at_gate, le, e, same)
+
+    two : (rest : List (List Record)) → h.frames ≡ d.frames ++ rest → IsAmbiguous f base at d.frames → ⊥
+    two [] is a = let less = formed_one base (numbered_in base h.frames) formed in absurd (over less (subst (λ (x : List (List Record)). 1 < unfinished_count (steps_of (numbered_in base x))) (sym (is ∙ append_none d.frames)) a.more))
       where
         over : {n : ℕ} → n ≤ 1 → 1 < n → ⊥
         over le lt = absurd (omega arith)
-    two (rs ∷ rest) is a = a.closed (formed_back f 0 d.frames (rs ∷ rest) (subst (AreFormed f 0) is h.formed)).0.body.gate
+    two (rs ∷ rest) is a = a.closed (Frames-behind f 0 d.frames (rs ∷ rest) (subst (Frames f 0) is h.stand)).0
 
-    by_rest : (rest : List (List Record)) × (frames ≡ d.frames ++ rest) → IsTorn f base at d.frames ⊎ IsAmbiguous f base at d.frames → ⊥
+    by_rest : (rest : List (List Record)) × (h.frames ≡ d.frames ++ rest) → IsTorn f base at d.frames ⊎ IsAmbiguous f base at d.frames → ⊥
     by_rest (rest, is) (inl t) = torn rest is t
     by_rest (rest, is) (inr a) = two rest is a

@@ -2,16 +2,25 @@
 use Rattle.std.proofs.Common.{◌≡◌, inl, inr, ℕ, min, ◌+◌, ◌*◌, ◌<◌, ◌≤◌, ◌&&◌, Bool, IsTrue, Result, Ok, Err, IfOk, OnOk, List, [], ◌∷◌, ◌++◌, length, refl, sym, ◌∙◌, ap, subst, arith, length-append}
 use Rattle.sg_base.specs.declared.area.Area.{Area}
 use Rattle.sg_disk.specs.Disk.{Bytes, State, View, FULL}
-use Rattle.sg_record.specs.Records.{Record, spelled}
-use Rattle.sg_record.proofs.Parsing.{spelled_first}
-use Rattle.sg_log.specs.Frames.{GREATEST_BODY, LOG_END}
+use Rattle.sg_record.specs.Records.{Record}
+use Rattle.sg_log.specs.Faults.{FrameFails}
+use Rattle.sg_log.specs.Formed.{HasBody, IsWhole, IsFormed, AreFormed, IsUnformed}
+use Rattle.sg_log.specs.Frames.{GREATEST_BODY, LOG_END, Frames, HasRecords, Numbered, gate_after, numbered_from, numbered_in, text_of}
 use Rattle.sg_log.specs.Reads.{OnlyReads}
+use Rattle.sg_log.specs.Texts.{spelled_all}
+use Rattle.sg_log.specs.declared.fault.LogFault.{LogFault}
+use Rattle.sg_log.specs.declared.fault.LogFault.TheVariants as log
+use Rattle.sg_log.proofs.Chain.{formed_closed, formed_more, formed_one}
+use Rattle.sg_log.proofs.Formed.{body_of_frame, body_one, formed_by}
+use Rattle.sg_log.proofs.Holding.{gate_moved, numbered_in-more, text-length}
 use Rattle.sg_log.proofs.Runs.{reads_none, reads_more}
-use Rattle.sg_analysis.specs.Frames.{AreRecords, spelled_all, HasBody, IsFormed, end_at, AreFormed, gate_after, HasFrames, Numbered, numbered_from, numbered_in}
+use Rattle.sg_log.proofs.Steps.{gate_more, gate_shut}
+use Rattle.sg_log.proofs.Unique.{Frames-one, HasRecords-one}
 use Rattle.sg_analysis.specs.Sights.{steps_of}
 use Rattle.sg_analysis.specs.Analysis.{unfinished_count}
 use Rattle.sg_analysis.specs.Standing.{all_stand, all_stand_behind}
-use Rattle.sg_analysis.specs.Damage.{IsUnformed, BodyFails, IsAmbiguous, AnalysisFails}
+use Rattle.sg_analysis.specs.Damage.{IsAmbiguous, AnalysisFails}
+use Rattle.sg_analysis.specs.Faults.{of_log}
 use Rattle.sg_analysis.specs.Rows.{Knows, AreTaken, RecordsFail}
 use Rattle.sg_analysis.specs.declared.fault.AnalysisFault.{AnalysisFault}
 use Rattle.sg_analysis.specs.declared.fault.AnalysisFault.TheVariants.{Disk, Damaged, Memory}
@@ -20,41 +29,12 @@ use Rattle.sg_analysis.specs.Walks.{IsLastGate, IsWalked, IsFound}
 use Rattle.sg_analysis.specs.Analysis.{analysis_of}
 use Rattle.sg_analysis.specs.Shown.{shown, IsAnalysed}
 use Rattle.sg_analysis.specs.declared.analysis.Analysis as code
-use Rattle.sg_analysis.proofs.Bodies.{body_one}
-use Rattle.sg_analysis.proofs.Taking.{spelled-long, append_assoc, all_stand-both, both_true, true_right}
-
-pub formed_more : (f : Bytes) (at : ℕ) (frames : List (List Record)) (rs : List Record) → AreFormed f at frames → IsFormed f (gate_after at frames) rs → AreFormed f at (frames ++ rs ∷ [])
-formed_more f at [] rs lead h = (h, tt)
-formed_more f at (ss ∷ frames) rs lead h = (lead.0, formed_more f (end_at at ss) frames rs lead.1 h)
-
-pub gate_more : (at : ℕ) (frames : List (List Record)) (rs : List Record) → gate_after at (frames ++ rs ∷ []) ≡ end_at (gate_after at frames) rs
-gate_more at [] rs = refl
-gate_more at (ss ∷ frames) rs = gate_more (end_at at ss) frames rs
-
-pub gate_later : (at : ℕ) (frames : List (List Record)) → at ≤ gate_after at frames
-gate_later at [] = omega arith
-gate_later at (rs ∷ frames) = let later = gate_later (end_at at rs) frames in omega arith
-
-pub gate_number : (base at : ℕ) (frames : List (List Record)) → gate_after (base + at) frames ≡ base + gate_after at frames
-gate_number base at [] = refl
-gate_number base at (rs ∷ frames) = ap (λ n. gate_after n frames) (moved (length (spelled_all rs))) ∙ gate_number base (end_at at rs) frames
-  where
-    moved : (n : ℕ) → base + at + 5 + n ≡ base + (at + 5 + n)
-    moved n = omega arith
-
-pub numbered_in-more : (gate : ℕ) (frames : List (List Record)) (rs : List Record) → numbered_in gate (frames ++ rs ∷ []) ≡ numbered_in gate frames ++ numbered_from (gate_after gate frames + 5) rs
-numbered_in-more gate [] rs = append_none (numbered_from (gate + 5) rs)
-  where
-    append_none : (xs : List Numbered) → xs ++ [] ≡ xs
-    append_none [] = refl
-    append_none (x ∷ xs) = ap (λ ys. x ∷ ys) (append_none xs)
-numbered_in-more gate (ss ∷ frames) rs =
-    ap (λ (ns : List Numbered). numbered_from (gate + 5) ss ++ ns) (numbered_in-more (end_at gate ss) frames rs) ∙ sym (append_assoc (numbered_from (gate + 5) ss) (numbered_in (end_at gate ss) frames) (numbered_from (gate_after (end_at gate ss) frames + 5) rs))
+use Rattle.sg_analysis.proofs.Taking.{all_stand-both, both_true, true_right}
 
 -- the numbers behind frames that end at an offset
 pub numbered_behind : (base at : ℕ) (frames : List (List Record)) (rs : List Record) → at ≡ gate_after 0 frames → numbered_in base (frames ++ rs ∷ []) ≡ numbered_in base frames ++ numbered_from (base + at + 5) rs
 numbered_behind base at frames rs there =
-    numbered_in-more base frames rs ∙ ap (λ n. numbered_in base frames ++ numbered_from (n + 5) rs) (ap (λ b. gate_after b frames) (zero_right base) ∙ (gate_number base 0 frames ∙ ap (λ n. base + n) (sym there)))
+    numbered_in-more base frames rs ∙ ap (λ n. numbered_in base frames ++ numbered_from (n + 5) rs) (ap (λ b. gate_after b frames) (zero_right base) ∙ (gate_moved base 0 frames ∙ ap (λ n. base + n) (sym there)))
   where
     zero_right : (b : ℕ) → b ≡ b + 0
     zero_right b = omega arith
@@ -68,6 +48,7 @@ pub walk_starts : (told : Bool) (area : Area) (base : ℕ) (v : View) (s : Scan)
 walk_starts told area base v s within k = record {
   within = omega arith;
   reads = reads_none v;
+  quiet = refl;
   kept = ([], k);
   lead = λ sure. record { frames = []; formed = tt; there = refl; stand = refl; knows = k; last_is = inl refl; calls = omega arith };
 }
@@ -76,29 +57,24 @@ walk_starts told area base v s within k = record {
 pub seen_same : {told : Bool} {v w : View} → OnlyReads told v w → IsTrue told → (area : Area) → (w.now area).seen ≡ (v.now area).seen
 seen_same h sure area = ap (λ (s : State). (s area).seen) (h.unchanged sure)
 
--- the frame of these records
-pub frame_of : (f : Bytes) (at : ℕ) (body : List ℕ) (rs : List Record) → HasBody f at body → AreRecords rs → spelled_all rs ≡ body → 0 < length body → length body ≤ GREATEST_BODY → IsFormed f at rs
-frame_of f at body rs h fields text some most = record {
-  frame = record { some = λ none. absurd (omega (arith, ap length (sym text ∙ ap spelled_all none))); most = omega (arith, ap length text); fields = fields };
-  body = subst (HasBody f at) (sym text) h;
-}
-
-pub walk_goes_on : {told : Bool} {area : Area} {base at last : ℕ} {old mid new : View} {s s' : Scan} (end : ℕ) (body : List ℕ) → IsWalked told area base at last old mid s → OnlyReads told mid new → end ≡ at + 5 + length body → base + end ≤ LOG_END
+pub walk_goes_on : {told : Bool} {area : Area} {base at last : ℕ} {old mid new : View} {s s' : Scan} (end : ℕ) (body : List ℕ) → IsWalked told area base at last old mid s → OnlyReads told mid new → new.faults ≡ mid.faults → end ≡ at + 5 + length body → base + end ≤ LOG_END
     → 0 < length body → length body ≤ GREATEST_BODY → (IsTrue told → HasBody (mid.now area).seen at body) → ((ns : List Numbered) → Knows s base ns → AreTaken s' base ns (base + at + 5) body) → new.calls ≡ min (mid.calls + 2) FULL
     → IsWalked told area base end at old new s'
-walk_goes_on {told = told} {area = area} {base = base} {at = at} {old = old} {mid = mid} {new = new} {s = s} {s' = s'} end body h more ends within some most stands taken calls = record {
+walk_goes_on {told = told} {area = area} {base = base} {at = at} {old = old} {mid = mid} {new = new} {s = s} {s' = s'} end body h more quiet ends within some most stands taken calls = record {
   within = within;
   reads = reads_more h.reads more;
+  quiet = quiet ∙ h.quiet;
   kept = let t = taken h.kept.0 h.kept.1 in (h.kept.0 ++ numbered_from (base + at + 5) t.records, t.knows);
   lead = λ sure.
       let l = h.lead sure in
       let t = taken (numbered_in base l.frames) l.knows in
       let f = (old.now area).seen in
-      let there : IsFormed f at t.records = frame_of f at body t.records (subst (λ (x : Bytes). HasBody x at body) (seen_same h.reads sure area) (stands sure)) t.fields t.text some most in
+      let stand : HasBody f at body = subst (λ (x : Bytes). HasBody x at body) (seen_same h.reads sure area) (stands sure) in
+      let there : IsFormed f at t.records = formed_by f at body stand some most (record { records = t.records; fields = t.fields; spelling = t.text }) in
       record {
         frames = l.frames ++ t.records ∷ [];
         formed = formed_more f 0 l.frames t.records l.formed (subst (λ n. IsFormed f n t.records) l.there there);
-        there = ends ∙ (ap (λ n. at + 5 + n) (ap length (sym t.text)) ∙ (ap (λ n. end_at n t.records) l.there ∙ sym (gate_more 0 l.frames t.records)));
+        there = omega (arith, ends, ap length t.text, l.there, gate_more 0 l.frames t.records, text-length (spelled_all t.records));
         stand = stand_more base at l.frames t.records l.there ∙ both_true (all_stand base (numbered_in base l.frames)) (all_stand_behind base (steps_of (numbered_in base l.frames)) (numbered_from (base + at + 5) t.records)) l.stand t.stand;
         knows = subst (Knows s' base) (sym (numbered_behind base at l.frames t.records l.there)) t.knows;
         last_is = inr (l.frames, t.records, refl, l.there);
@@ -106,69 +82,46 @@ walk_goes_on {told = told} {area = area} {base = base} {at = at} {old = old} {mi
       };
 }
 
--- the frames of an area are one list at most
-formed_one : (f : Bytes) (at : ℕ) (rs ss : List Record) → IsFormed f at rs → IsFormed f at ss → rs ≡ ss
-formed_one f at rs ss h k = records_one rs ss h.frame.fields k.frame.fields (body_one f at (spelled_all rs) (spelled_all ss) h.body k.body h.frame.most k.frame.most)
-  where
-    records_one : (rs ss : List Record) → AreRecords rs → AreRecords ss → spelled_all rs ≡ spelled_all ss → rs ≡ ss
-    records_one [] [] h k e = refl
-    records_one [] (s ∷ ss) h k e = absurd (omega (arith, ap length e, length-append (spelled s) (spelled_all ss), spelled-long s))
-    records_one (r ∷ rs) [] h k e = absurd (omega (arith, ap length e, length-append (spelled r) (spelled_all rs), spelled-long r))
-    records_one (r ∷ rs) (s ∷ ss) h k e =
-        let first = spelled_first r s (spelled_all rs) (spelled_all ss) h.0 k.0 e in
-        let P : Record → List Record → List Record = λ x xs. x ∷ xs in
-        ap (λ (x : Record). P x rs) first.0 ∙ ap (P s) (records_one rs ss h.1 k.1 first.1)
-
 -- frames that lead on are the first of all of a log
-pub front_of : (f : Bytes) (at : ℕ) (lead frames : List (List Record)) → AreFormed f at lead → AreFormed f at frames → (f (gate_after at frames) ≡ 1 → ⊥) → (rest : List (List Record)) × (frames ≡ lead ++ rest)
-front_of f at [] frames h k shut = (frames, refl)
-front_of f at (rs ∷ lead) [] h k shut = absurd (shut h.0.body.gate)
-front_of f at (rs ∷ lead) (ss ∷ frames) h k shut =
-    let same = formed_one f at ss rs k.0 h.0 in
-    let more = front_of f (end_at at rs) lead frames h.1 (subst (λ (x : List Record). AreFormed f (end_at at x) frames) same k.1) (subst (λ (x : List Record). f (gate_after (end_at at x) frames) ≡ 1 → ⊥) same shut) in
+pub front_of : (f : Bytes) (at : ℕ) (lead frames : List (List Record)) → AreFormed f at lead → Frames f at frames → (rest : List (List Record)) × (frames ≡ lead ++ rest)
+front_of f at [] frames h k = (frames, refl)
+front_of f at (rs ∷ lead) [] h k = absurd (k h.0.gate)
+front_of f at (rs ∷ lead) (ss ∷ frames) h k =
+    let same = formed_one f at ss rs (record { gate = k.0; frame = k.1; text = k.2 }) h.0 in
+    let more = front_of f (at + 1 + length (text_of (spelled_all rs))) lead frames h.1 (subst (λ (x : List Record). Frames f (at + 1 + length (text_of (spelled_all x))) frames) same k.3) in
     let P : List Record → List (List Record) → List (List Record) = λ x xs. x ∷ xs in
     (more.0, ap (λ (x : List Record). P x frames) same ∙ ap (P rs) more.1)
 
-pub formed_back : (f : Bytes) (at : ℕ) (lead rest : List (List Record)) → AreFormed f at (lead ++ rest) → AreFormed f (gate_after at lead) rest
-formed_back f at [] rest h = h
-formed_back f at (rs ∷ lead) rest h = formed_back f (end_at at rs) lead rest h.1
+-- frames up to a closed gate are formed
+pub frames_formed : (f : Bytes) (at : ℕ) (frames : List (List Record)) → Frames f at frames → AreFormed f at frames
+frames_formed f at [] h = tt
+frames_formed f at (rs ∷ frames) h = (record { gate = h.0; frame = h.1; text = h.2 }, frames_formed f (at + 1 + length (text_of (spelled_all rs))) frames h.3)
 
-pub gate_both : (at : ℕ) (lead rest : List (List Record)) → gate_after at (lead ++ rest) ≡ gate_after (gate_after at lead) rest
-gate_both at [] rest = refl
-gate_both at (rs ∷ lead) rest = gate_both (end_at at rs) lead rest
-
-pub frames_one : {f : Bytes} {base : ℕ} {frames others : List (List Record)} → HasFrames f base frames → HasFrames f base others → frames ≡ others
-frames_one {f = f} {frames = frames} {others = others} h k = by_rest (front_of f 0 frames others h.formed k.formed k.closed)
-  where
-    by_rest : (rest : List (List Record)) × (others ≡ frames ++ rest) → frames ≡ others
-    by_rest ([], is) = sym (is ∙ append_none frames)
-      where
-        append_none : (xs : List (List Record)) → xs ++ [] ≡ xs
-        append_none [] = refl
-        append_none (x ∷ xs) = ap (λ ys. x ∷ ys) (append_none xs)
-    by_rest (rs ∷ rest, is) = absurd (h.closed (formed_back f 0 frames (rs ∷ rest) (subst (AreFormed f 0) is k.formed)).0.body.gate)
-
-pub walk_ends : {told : Bool} {area : Area} {base at last : ℕ} {old mid new : View} {s : Scan} → IsWalked told area base at last old mid s → OnlyReads told mid new → (IsTrue told → (mid.now area).seen at ≡ 1 → ⊥) → new.calls ≡ min (mid.calls + 1) FULL → IsFound told area base last old new s
-walk_ends {told = told} {area = area} {base = base} {at = at} {old = old} {mid = mid} {new = new} {s = s} h more shut calls =
+pub walk_ends : {told : Bool} {area : Area} {base at last : ℕ} {old mid new : View} {s : Scan} → IsWalked told area base at last old mid s → OnlyReads told mid new → new.faults ≡ mid.faults → (IsTrue told → (mid.now area).seen at ≡ 1 → ⊥) → new.calls ≡ min (mid.calls + 1) FULL
+    → IsFound told area base last old new s
+walk_ends {told = told} {area = area} {base = base} {at = at} {old = old} {mid = mid} {new = new} {s = s} h more quiet shut calls =
     let f = (old.now area).seen in
-    let stand : (sure : IsTrue told) → HasFrames f base (h.lead sure).frames = λ sure.
-    let l = h.lead sure in
     record {
-      formed = l.formed;
-      closed = subst (λ (n : ℕ). f n ≡ 1 → ⊥) l.there (subst (λ (x : Bytes). x at ≡ 1 → ⊥) (seen_same h.reads sure area) (shut sure));
-      within = subst (λ n. base + n ≤ LOG_END) l.there h.within;
-    } in
-    record {
+      quiet = quiet ∙ h.quiet;
       kept = h.kept;
       found = λ sure.
           let l = h.lead sure in
-          record { frames = l.frames; has = stand sure; stand = l.stand; knows = l.knows; last_is = l.last_is; calls = omega (arith, calls, l.calls) };
+          record {
+            frames = l.frames;
+            has = formed_closed f 0 l.frames l.formed (subst (λ (n : ℕ). f n ≡ 1 → ⊥) l.there (subst (λ (x : Bytes). x at ≡ 1 → ⊥) (seen_same h.reads sure area) (shut sure)));
+            within = subst (λ n. base + n ≤ LOG_END) l.there h.within;
+            stand = l.stand;
+            knows = l.knows;
+            last_is = l.last_is;
+            calls = omega (arith, calls, l.calls);
+          };
     }
 
 -- a walk fails where a body can't be read,
-pub walk_fails : {told : Bool} {area : Area} {base at last : ℕ} {old mid new : View} {s : Scan} → IsWalked told area base at last old mid s → OnlyReads told mid new → (e : AnalysisFault) → BodyFails told area base at mid new e → AnalysisFails told area base old new e
-walk_fails h more Disk fails = λ top. let rose = fails top in omega (arith, h.reads.later)
-walk_fails {area = area} {base = base} {at = at} {old = old} h more (Damaged there) fails = λ sure.
+pub walk_fails : {told : Bool} {area : Area} {base at last : ℕ} {old mid new : View} {s : Scan} → IsWalked told area base at last old mid s → OnlyReads told mid new → (e : LogFault) → FrameFails told area base at mid new e → AnalysisFails told area base old new (of_log e)
+walk_fails h more log.Disk fails = λ top. let rose = fails top in omega (arith, h.reads.later)
+walk_fails h more log.LogEnd fails = absurd fails
+walk_fails {area = area} {base = base} {at = at} {old = old} h more (log.Damaged there) fails = λ sure.
     let l = h.lead sure in
     let f = (old.now area).seen in
     let u : IsUnformed f base at = subst (λ (x : Bytes). IsUnformed x base at) (seen_same h.reads sure area) (fails.1 sure) in
@@ -177,9 +130,13 @@ walk_fails {area = area} {base = base} {at = at} {old = old} h more (Damaged the
       formed = l.formed;
       within = subst (λ n. base + n ≤ LOG_END) l.there h.within;
       stand = l.stand;
-      cause = inl (record { there = fails.0 ∙ l.there; gate = subst (λ n. f n ≡ 1) (sym fails.0) u.gate; none = λ rs formed within stand. u.none rs (subst (λ n. IsFormed f n rs) fails.0 formed) (subst (λ n. base + end_at n rs ≤ LOG_END) fails.0 within) });
+      cause = inl (record {
+        there = fails.0 ∙ l.there;
+        gate = subst (λ n. f n ≡ 1) (sym fails.0) u.gate;
+        none = λ rs formed within stand. u.none rs (subst (λ n. IsFormed f n rs) fails.0 formed) (subst (λ n. base + gate_after n (rs ∷ []) ≤ LOG_END) fails.0 within);
+      });
     }
-walk_fails h more Memory fails = absurd fails
+walk_fails h more log.Memory fails = absurd fails
 
 -- where its records may not stand,
 pub records_fail : {told : Bool} {area : Area} {base at last : ℕ} {old mid new : View} {s : Scan} (body : List ℕ) → IsWalked told area base at last old mid s → OnlyReads told mid new → (IsTrue told → HasBody (mid.now area).seen at body) → length body ≤ GREATEST_BODY
@@ -200,7 +157,7 @@ records_fail {area = area} {base = base} {at = at} {old = old} body h more stand
         gate = subst (λ n. f n ≡ 1) (sym k.0) here.gate;
         none = λ rs formed within stand.
             let g : IsFormed f at rs = subst (λ n. IsFormed f n rs) k.0 formed in
-            k.1 rs g.frame.fields (body_one f at (spelled_all rs) body g.body here g.frame.most most)
+            k.1 rs g.frame.fields (body_one f at (spelled_all rs) body (body_of_frame g) here g.frame.most most)
             (true_right (all_stand base (numbered_in base l.frames)) (all_stand_behind base (steps_of (numbered_in base l.frames)) (numbered_from (base + at + 5) rs)) (sym (stand_more base at l.frames rs l.there) ∙ stand));
       });
     }
@@ -218,10 +175,10 @@ ending_fails {area = area} {base = base} {last = last} {old = old} h (Damaged th
     let f = (old.now area).seen in
     record {
       frames = l.frames;
-      formed = l.has.formed;
-      within = l.has.within;
+      formed = frames_formed f 0 l.frames l.has;
+      within = l.within;
       stand = l.stand;
-      cause = inr (by_last f l.frames l.has.closed (fails (numbered_in base l.frames) l.knows).1 l.last_is);
+      cause = inr (by_last f l.frames (gate_shut f 0 l.frames l.has) (fails (numbered_in base l.frames) l.knows).1 l.last_is);
     }
   where
     place : ◌≡◌ {A = AnalysisFault} (Damaged there) (Damaged last) → there ≡ last
@@ -240,15 +197,23 @@ pub found_analysed : {told : Bool} {area : Area} {base last : ℕ} {old new : Vi
     → ((ns : List Numbered) → Knows s base ns → OnOk r (unfinished_count (steps_of ns) ≤ 1)) → IfOk r (IsAnalysed (old.now area).seen base)
 found_analysed {base = base} h sure (Ok a) says one =
     let l = h.found sure in
-    record { frames = l.frames; has = l.has; stand = l.stand; one = one (numbered_in base l.frames) l.knows; says = says (numbered_in base l.frames) l.knows }
+    let records = numbered_in base l.frames in
+    record {
+      gate = base + gate_after 0 l.frames;
+      records = records;
+      has = record { frames = l.frames; stand = l.has; all = refl; at_gate = refl; within = l.within };
+      stand = l.stand;
+      one = one records l.knows;
+      says = says records l.knows;
+    }
 found_analysed h sure (Err e) says one = tt
 
-pub found_says : {told : Bool} {area : Area} {base last : ℕ} {old new : View} {s : Scan} → IsFound told area base last old new s → IsTrue told → (frames : List (List Record)) → HasFrames (old.now area).seen base frames → (r : Result code.Analysis AnalysisFault)
-    → ((ns : List Numbered) → Knows s base ns → IfOk r (λ a. shown a ≡ analysis_of base ns)) → IfOk r (λ a. shown a ≡ analysis_of base (numbered_in base frames))
-found_says {base = base} h sure frames has r says =
+pub found_says : {told : Bool} {area : Area} {base last : ℕ} {old new : View} {s : Scan} → IsFound told area base last old new s → IsTrue told → (gate : ℕ) (ns : List Numbered) → HasRecords (old.now area).seen base gate ns → (r : Result code.Analysis AnalysisFault)
+    → ((ns : List Numbered) → Knows s base ns → IfOk r (λ a. shown a ≡ analysis_of base ns)) → IfOk r (λ a. shown a ≡ analysis_of base ns)
+found_says {base = base} h sure gate ns has r says =
     let l = h.found sure in
-    let same = frames_one l.has has in
-    subst (λ (x : List (List Record)). IfOk r (λ a. shown a ≡ analysis_of base (numbered_in base x))) same (says (numbered_in base l.frames) l.knows)
+    let same = HasRecords-one (record { frames = l.frames; stand = l.has; all = refl; at_gate = refl; within = l.within }) has in
+    subst (λ (x : List Numbered). IfOk r (λ a. shown a ≡ analysis_of base x)) same (says (numbered_in base l.frames) l.knows)
 
-pub found_calls : {told : Bool} {area : Area} {base last : ℕ} {old new : View} {s : Scan} → IsFound told area base last old new s → IsTrue told → (frames : List (List Record)) → HasFrames (old.now area).seen base frames → new.calls ≡ min (old.calls + 1 + 2 * length frames) FULL
-found_calls {old = old} h sure frames has = let l = h.found sure in l.calls ∙ ap (λ (x : List (List Record)). min (old.calls + 1 + 2 * length x) FULL) (frames_one l.has has)
+pub found_calls : {told : Bool} {area : Area} {base last : ℕ} {old new : View} {s : Scan} → IsFound told area base last old new s → IsTrue told → (frames : List (List Record)) → Frames (old.now area).seen 0 frames → new.calls ≡ min (old.calls + 1 + 2 * length frames) FULL
+found_calls {area = area} {old = old} h sure frames has = let l = h.found sure in l.calls ∙ ap (λ (x : List (List Record)). min (old.calls + 1 + 2 * length x) FULL) (Frames-one (old.now area).seen 0 l.frames frames l.has has)

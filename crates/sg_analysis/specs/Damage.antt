@@ -1,33 +1,22 @@
 -- Where a log of page records can't be read on.
-use Rattle.std.specs.Prelude.{◌≡◌, ◌⊎◌, ◌+◌, ◌<◌, ◌≤◌, ℕ, Bool, true, List, [], ◌∷◌, ◌++◌, IsTrue}
+use Rattle.std.specs.Prelude.{◌≡◌, ◌⊎◌, ◌+◌, ◌<◌, ◌≤◌, ℕ, Bool, true, List, [], ◌∷◌, ◌++◌, IsTrue, Result, Ok, Err}
 use Rattle.sg_base.specs.Ends.{HasRisen}
 use Rattle.sg_base.specs.declared.area.Area.{Area}
 use Rattle.sg_disk.specs.Disk.{Bytes, View}
 use Rattle.sg_record.specs.Records.{Record}
-use Rattle.sg_log.specs.Frames.{LOG_END}
-use Rattle.sg_analysis.specs.Frames.{IsFormed, AreFormed, end_at, gate_after, numbered_in}
+use Rattle.sg_log.specs.Formed.{IsFormed, AreFormed}
+use Rattle.sg_log.specs.Frames.{LOG_END, gate_after, numbered_in}
 use Rattle.sg_analysis.specs.Sights.{steps_of}
 use Rattle.sg_analysis.specs.Analysis.{unfinished_count}
 use Rattle.sg_analysis.specs.Standing.{all_stand}
 use Rattle.sg_analysis.specs.declared.fault.AnalysisFault.{AnalysisFault}
 use Rattle.sg_analysis.specs.declared.fault.AnalysisFault.TheVariants.{Disk, Damaged, Memory}
 
--- the gate at this offset is open, and no frame that ends by the log's end is formed there
-pub record IsUnformed (f : Bytes) (base at : ℕ) : Type 0 where
-  pub gate : f at ≡ 1
-  pub none : (rs : List Record) → IsFormed f at rs → base + end_at at rs ≤ LOG_END → ⊥
-
--- a body can't be read only where the disk fails, or where no frame is formed
-abbrev pub BodyFails : Bool → Area → (base at : ℕ) → View → View → AnalysisFault → Type 0
-BodyFails told area base at old new Disk = HasRisen old.faults new.faults
-BodyFails told area base at old new (Damaged there) = (there ≡ at) × (IsTrue told → IsUnformed (old.now area).seen base at)
-BodyFails told area base at old new Memory = ⊥
-
 -- Behind these frames the gate is open, but no frame stands there whose records may follow, or it ends too late.
 pub record IsTorn (f : Bytes) (base at : ℕ) (frames : List (List Record)) : Type 0 where
   pub there : at ≡ gate_after 0 frames
   pub gate : f at ≡ 1
-  pub none : (rs : List Record) → IsFormed f at rs → base + end_at at rs ≤ LOG_END → all_stand base (numbered_in base (frames ++ rs ∷ [])) ≡ true → ⊥
+  pub none : (rs : List Record) → IsFormed f at rs → base + gate_after at (rs ∷ []) ≤ LOG_END → all_stand base (numbered_in base (frames ++ rs ∷ [])) ≡ true → ⊥
 
 -- these frames are the whole log, the gate of the last one is at this offset, and more than one action has no end
 pub record IsAmbiguous (f : Bytes) (base at : ℕ) (frames : List (List Record)) : Type 0 where
@@ -51,3 +40,10 @@ abbrev pub AnalysisFails : Bool → Area → ℕ → View → View → AnalysisF
 AnalysisFails told area base old new Disk = HasRisen old.faults new.faults
 AnalysisFails told area base old new (Damaged at) = IsTrue told → IsDamagedAt (old.now area).seen base at
 AnalysisFails told area base old new Memory = Unit {0}
+
+-- no fault of the disk is passed over: except where `Disk` is answered, its count of faults is as it was
+abbrev pub HeedsFaults : {T : Type 0} → Result T AnalysisFault → View → View → Type 0
+HeedsFaults (Ok answer) old new = new.faults ≡ old.faults
+HeedsFaults (Err Disk) old new = Unit {0}
+HeedsFaults (Err (Damaged at)) old new = new.faults ≡ old.faults
+HeedsFaults (Err Memory) old new = new.faults ≡ old.faults

@@ -3,9 +3,9 @@ use Rattle.std.specs.Prelude.{◌≡◌, ◌⊎◌, ◌+◌, ◌*◌, ◌≤◌,
 use Rattle.sg_base.specs.declared.area.Area.{Area}
 use Rattle.sg_disk.specs.Disk.{Bytes, View, FULL}
 use Rattle.sg_record.specs.Records.{Record}
-use Rattle.sg_log.specs.Frames.{LOG_END}
+use Rattle.sg_log.specs.Formed.{AreFormed}
+use Rattle.sg_log.specs.Frames.{LOG_END, Frames, Numbered, gate_after, numbered_in}
 use Rattle.sg_log.specs.Reads.{OnlyReads}
-use Rattle.sg_analysis.specs.Frames.{AreFormed, HasFrames, gate_after, Numbered, numbered_in}
 use Rattle.sg_analysis.specs.Standing.{all_stand}
 use Rattle.sg_analysis.specs.Rows.{Knows}
 use Rattle.sg_analysis.specs.declared.scan.Scan.{Scan}
@@ -28,18 +28,21 @@ pub record LeadTo (f : Bytes) (base at last : ℕ) (s : Scan) (before now : ℕ)
 pub record IsWalked (told : Bool) (area : Area) (base at last : ℕ) (old new : View) (s : Scan) : Type 0 where
   pub within : base + at ≤ LOG_END
   pub reads : OnlyReads told old new
+  pub quiet : new.faults ≡ old.faults
   pub kept : (ns : List Numbered) × Knows s base ns
   pub lead : IsTrue told → LeadTo (old.now area).seen base at last s old.calls new.calls
 
 -- the whole log was read: its frames, and the offset of the gate of the last one
 pub record HasFound (f : Bytes) (base last : ℕ) (s : Scan) (before now : ℕ) : Type 0 where
   pub frames : List (List Record)
-  pub has : HasFrames f base frames
+  pub has : Frames f 0 frames
+  pub within : base + gate_after 0 frames ≤ LOG_END
   pub stand : all_stand base (numbered_in base frames) ≡ true
   pub knows : Knows s base (numbered_in base frames)
   pub last_is : IsLastGate last frames
   pub calls : now ≡ min (before + 1 + 2 * length frames) FULL
 
 pub record IsFound (told : Bool) (area : Area) (base last : ℕ) (old new : View) (s : Scan) : Type 0 where
+  pub quiet : new.faults ≡ old.faults
   pub kept : (ns : List Numbered) × Knows s base ns
   pub found : IsTrue told → HasFound (old.now area).seen base last s old.calls new.calls

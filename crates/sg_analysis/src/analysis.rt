@@ -1,22 +1,21 @@
 ghost use Rattle.std.specs.Prelude.{◌≡◌, ◌≤◌, ◌+◌, ◌*◌, ℕ, List, [], length, min, Err, IfOk, IfErr, OnOk, IsTrue};
 ghost use Rattle.sg_disk.specs.Disk.{FULL};
 ghost use Rattle.sg_record.specs.Records.{Record};
-ghost use Rattle.sg_log.specs.Frames.{LOG_END, GREATEST_BODY};
+ghost use Rattle.sg_log.specs.Frames.{LOG_END, GREATEST_BODY, Frames, HasRecords, Numbered};
 ghost use Rattle.sg_log.specs.Reads.{OnlyReads};
-ghost use Rattle.sg_analysis.specs.Frames.{HasFrames, numbered_in};
 ghost use Rattle.sg_analysis.specs.Rows.{Knows};
 ghost use Rattle.sg_analysis.specs.Walks.{IsFound};
 ghost use Rattle.sg_analysis.specs.Standing.{IsPageLog};
-ghost use Rattle.sg_analysis.specs.Damage.{AnalysisFails};
+ghost use Rattle.sg_analysis.specs.Damage.{AnalysisFails, HeedsFaults};
 ghost use Rattle.sg_analysis.specs.Analysis.{analysis_of};
 ghost use Rattle.sg_analysis.specs.Shown.{shown, IsAnalysed};
 
 use crate::AnalysisFault;
-use crate::frame::read_body;
 use crate::losers::Losers;
 use crate::scan::Scan;
 use sg_base::{Lsn, TxnId};
 use sg_disk::{Area, Disk};
+use sg_log::read_body;
 use std::alloc::{AllocError, Global};
 
 /// What opening needs to know of a log.
@@ -53,13 +52,14 @@ fn walk<D: Disk>(
     requires scan { Knows scan.old base [] }
     ensures found { IfOk result (λ last. IsFound D.told area base last (D.view disk.old) (D.view disk.new) scan.new) }
     ensures faults { IfErr result (λ e. AnalysisFails D.told area base (D.view disk.old) (D.view disk.new) e) }
+    ensures heeded { HeedsFaults result (D.view disk.old) (D.view disk.new) }
     ensures reads { OnlyReads D.told (D.view disk.old) (D.view disk.new) }
 {
     let mut at = 0;
     let mut last = 0;
     'frames: loop {
         match read_body(disk, area, base, at, space) {
-            Err(fault) => return Err(fault),
+            Err(fault) => return Err(AnalysisFault::from(fault)),
             Ok(None) => return Ok(last),
             Ok(Some(size)) => {
                 match scan.take(base + at + 5, at, &space[..size]) {
@@ -90,13 +90,14 @@ pub fn analyse<D: Disk>(
 ) -> Result<Analysis, AnalysisFault>
     requires { base ≤ LOG_END }
     ensures analysed { IsTrue D.told → IfOk result (IsAnalysed ((D.view disk.old).now area).seen base) }
-    ensures says { (frames : List (List Record)) → IsTrue D.told → HasFrames ((D.view disk.old).now area).seen base frames →
-        IfOk result (λ a. shown a ≡ analysis_of base (numbered_in base frames)) }
-    ensures undamaged { (frames : List (List Record)) (at : ℕ) → IsTrue D.told → HasFrames ((D.view disk.old).now area).seen base frames →
-        IsPageLog base (numbered_in base frames) → result ≡ Err (AnalysisFault.Damaged at) → ⊥ }
+    ensures says { (gate : ℕ) (ns : List Numbered) → IsTrue D.told → HasRecords ((D.view disk.old).now area).seen base gate ns →
+        IfOk result (λ a. shown a ≡ analysis_of base ns) }
+    ensures undamaged { (gate : ℕ) (ns : List Numbered) (at : ℕ) → IsTrue D.told → HasRecords ((D.view disk.old).now area).seen base gate ns → IsPageLog base ns →
+        result ≡ Err (AnalysisFault.Damaged at) → ⊥ }
     ensures faults { IfErr result (λ e. AnalysisFails D.told area base (D.view disk.old) (D.view disk.new) e) }
+    ensures heeded { HeedsFaults result (D.view disk.old) (D.view disk.new) }
     ensures reads { OnlyReads D.told (D.view disk.old) (D.view disk.new) }
-    ensures calls { (frames : List (List Record)) → IsTrue D.told → HasFrames ((D.view disk.old).now area).seen base frames →
+    ensures calls { (frames : List (List Record)) → IsTrue D.told → Frames ((D.view disk.old).now area).seen 0 frames →
         OnOk result ((D.view disk.new).calls ≡ min ((D.view disk.old).calls + 1 + 2 * length frames) FULL) }
 {
     let mut space = room(alloc)?;

@@ -1,7 +1,7 @@
 //! The analysis of a log of page records, which opening begins with: which transactions go on and
 //! where each has its last record, which action has no end, and from where on history is repeated.
 //!
-//! It stands on `sg_base`, `sg_disk` and `sg_record`, on `sg_log` for the form of frames, and on the
+//! It stands on `sg_base`, `sg_disk` and `sg_record`, on `sg_log` for the frames, and on the
 //! definitions of `sg_recovery`. It promises that `analyse` reads the log once, frame by frame, and
 //! says of its records exactly what those definitions do; that it finds a log damaged only where it
 //! isn't formed, with the place; and that what it says is enough to take an action without an end off.
@@ -10,7 +10,6 @@
 mod analysis;
 mod ending;
 mod fault;
-mod frame;
 mod laws;
 mod losers;
 mod records;

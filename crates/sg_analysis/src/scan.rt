@@ -2,7 +2,7 @@ ghost use Rattle.std.specs.Prelude.{◌≡◌, ◌+◌, ◌++◌, ◌∷◌, ◌
 ghost use Rattle.std.specs.List.{find};
 ghost use Rattle.sg_record.specs.Shown.{shown};
 ghost use Rattle.sg_log.specs.Frames.{LOG_END};
-ghost use Rattle.sg_analysis.specs.Frames.{Numbered};
+ghost use Rattle.sg_log.specs.Frames.{Numbered};
 ghost use Rattle.sg_analysis.specs.Sights.{Step, sight_of, steps_of};
 ghost use Rattle.sg_analysis.specs.Sights.Sight.{Stepped};
 ghost use Rattle.sg_analysis.specs.Standing.{may_stand, goes_on};

@@ -30,11 +30,11 @@ use Rattle.sg_words.specs.Requests.Asked.{Of}
 use Rattle.sg_words.specs.Requests.Request.{Begin, Commit, Abort, Do}
 use Rattle.sg_record.specs.Plain.{Record, IsRecord}
 use Rattle.sg_record.specs.Plain.Record.{Begin as BeginRecord, Commit as CommitRecord, Line as LineRecord}
-use Rattle.sg_log.specs.Frames.{LOG_END, Numbered, records_of, HasRecords}
-use Rattle.sg_log.specs.Held.{Tail, tail_of, has_room, place_of, end_of, numbered, appended, forced, Holds, durable_after, waiting_after}
-use Rattle.sg_log.specs.Following.{last_of, AreChained}
-use Rattle.sg_log.proofs.Following.{records_of-append, held_low, chained-more}
-use Rattle.sg_log.proofs.Holding.{all_appended, spelled_most, forced_empty}
+use Rattle.sg_line_log.specs.Frames.{LOG_END, Numbered, records_of, HasRecords}
+use Rattle.sg_line_log.specs.Held.{Tail, tail_of, has_room, place_of, end_of, numbered, appended, forced, Holds, durable_after, waiting_after}
+use Rattle.sg_line_log.specs.Following.{last_of, AreChained}
+use Rattle.sg_line_log.proofs.Following.{records_of-append, held_low, chained-more}
+use Rattle.sg_line_log.proofs.Holding.{all_appended, spelled_most, forced_empty}
 use Rattle.sg_words.specs.Answers.{Answer}
 use Rattle.sg_run.specs.Answer.{answer_of, IsSaid}
 use Rattle.sg_words.specs.Answers.Answer.{TooManyLive, LocksFull, Memory, LogEnd, Disk, Said}

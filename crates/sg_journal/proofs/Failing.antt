@@ -7,11 +7,11 @@ use Rattle.sg_words.specs.Requests.Request.{Commit}
 use Rattle.sg_words.specs.Answered.{shown_answer}
 use Rattle.sg_words.specs.Answers.Answer.{LogEnd}
 use Rattle.sg_record.specs.Plain.Record.{Commit as CommitRecord}
-use Rattle.sg_log.specs.Frames.{LOG_END}
-use Rattle.sg_log.specs.Faults.{AppendFails, ForceFails}
-use Rattle.sg_log.specs.Held.{Tail, end_of, appended}
-use Rattle.sg_log.specs.declared.fault.LogFault.{LogFault}
-use Rattle.sg_log.specs.declared.fault.LogFault.TheVariants as faults
+use Rattle.sg_line_log.specs.Frames.{LOG_END}
+use Rattle.sg_line_log.specs.Faults.{AppendFails, ForceFails}
+use Rattle.sg_line_log.specs.Held.{Tail, end_of, appended}
+use Rattle.sg_line_log.specs.declared.fault.LogFault.{LogFault}
+use Rattle.sg_line_log.specs.declared.fault.LogFault.TheVariants as faults
 use Rattle.sg_run.specs.Run.{Run}
 use Rattle.sg_journal.specs.Live.{Opened, opened_named}
 use Rattle.sg_journal.specs.Shown.{answer_at, stop_at}

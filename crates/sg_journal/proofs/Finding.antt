@@ -5,12 +5,12 @@ use Rattle.std.proofs.lemmas.List.{drop-drop}
 use Rattle.std.proofs.Math.Seq.{drop-append_seam}
 use Rattle.sg_record.specs.Plain.{Record, spelled, spelled_all, IsRecord, AreRecords}
 use Rattle.sg_record.proofs.PlainLaws.{spelled-long}
-use Rattle.sg_log.specs.Following.{last_or, Follows, AreChainedBehind}
-use Rattle.sg_log.specs.Frames.{Numbered, numbered_from, records_of}
-use Rattle.sg_log.proofs.Following.{records_of-append, last_or-append, chained-append}
-use Rattle.sg_log.proofs.Holding.{numbered_from-append}
-use Rattle.sg_log.proofs.Standing.{spelled_all-append}
-use Rattle.sg_log.proofs.Whole.{rest_all}
+use Rattle.sg_line_log.specs.Following.{last_or, Follows, AreChainedBehind}
+use Rattle.sg_line_log.specs.Frames.{Numbered, numbered_from, records_of}
+use Rattle.sg_line_log.proofs.Following.{records_of-append, last_or-append, chained-append}
+use Rattle.sg_line_log.proofs.Holding.{numbered_from-append}
+use Rattle.sg_line_log.proofs.Standing.{spelled_all-append}
+use Rattle.sg_line_log.proofs.Whole.{rest_all}
 use Rattle.sg_journal.specs.Lines.{commits_in}
 use Rattle.sg_journal.specs.Damage.{line_at, lines_at, HasStray}
 use Rattle.sg_journal.specs.Found.{lines_found, last_found, Finds, KnowsLasts}

@@ -3,10 +3,10 @@ use Rattle.std.proofs.Common.{◌≡◌, ◌⊎◌, inl, inr, ◌+◌, ◌≤◌
 use Rattle.std.specs.Prelude.{IsSome}
 use Rattle.sg_disk.specs.Disk as disk
 use Rattle.sg_model.specs.declared.stop.Stop.{Stop}
-use Rattle.sg_log.specs.Faults.{HeedsFaults}
-use Rattle.sg_log.specs.Held.{Tail}
-use Rattle.sg_log.specs.declared.fault.LogFault.{LogFault}
-use Rattle.sg_log.specs.declared.fault.LogFault.TheVariants as faults
+use Rattle.sg_line_log.specs.Faults.{HeedsFaults}
+use Rattle.sg_line_log.specs.Held.{Tail}
+use Rattle.sg_line_log.specs.declared.fault.LogFault.{LogFault}
+use Rattle.sg_line_log.specs.declared.fault.LogFault.TheVariants as faults
 use Rattle.sg_journal.specs.Goes.{Grows, Heeds}
 use Rattle.sg_journal.specs.Opening.{IsQuietFor}
 use Rattle.sg_journal.specs.Shown.{refusal_at}

@@ -8,11 +8,11 @@ use Rattle.sg_disk.specs.Disk as disk
 use Rattle.sg_model.specs.Objects.{Objects}
 use Rattle.sg_record.specs.Plain.{Record, spelled_all}
 use Rattle.sg_record.specs.Plain.Record.{Begin, Commit, Line}
-use Rattle.sg_log.specs.Following.{Follows, AreChained}
-use Rattle.sg_log.specs.Frames.{Frames, Numbered, numbered_from, numbered_in, records_of, text_of, gate_after}
-use Rattle.sg_log.proofs.Chain.{undamaged}
-use Rattle.sg_log.proofs.Following.{chained-back}
-use Rattle.sg_log.proofs.Unique.{Frames-one, HasRecords-one}
+use Rattle.sg_line_log.specs.Following.{Follows, AreChained}
+use Rattle.sg_line_log.specs.Frames.{Frames, Numbered, numbered_from, numbered_in, records_of, text_of, gate_after}
+use Rattle.sg_line_log.proofs.Chain.{undamaged}
+use Rattle.sg_line_log.proofs.Following.{chained-back}
+use Rattle.sg_line_log.proofs.Unique.{Frames-one, HasRecords-one}
 use Rattle.sg_journal.specs.Lines.{lines_by, commits_in, once, committed_lines}
 use Rattle.sg_journal.specs.Stands.{replay, StandsFor}
 use Rattle.sg_journal.specs.Damage.{LineAt, line_at, lines_at, committed_at, words_of_all, IsStrayAt, IsUnansweredAt, StandsForNothing}

@@ -12,15 +12,15 @@ use Rattle.sg_run.specs.Run.{start}
 use Rattle.sg_serial.specs.Runs as runs
 use Rattle.sg_run.proofs.Serial.{start_stays}
 use Rattle.sg_run.proofs.Noted.{start_noted}
-use Rattle.sg_log.specs.Following.{AreChained}
-use Rattle.sg_log.specs.Frames.{Numbered, records_of, HasRecords}
-use Rattle.sg_log.specs.Reads.{OnlyReads}
+use Rattle.sg_line_log.specs.Following.{AreChained}
+use Rattle.sg_line_log.specs.Frames.{Numbered, records_of, HasRecords}
+use Rattle.sg_line_log.specs.Reads.{OnlyReads}
 use Rattle.sg_record.specs.Plain.{Record}
-use Rattle.sg_log.specs.Held.{Tail, Holds}
+use Rattle.sg_line_log.specs.Held.{Tail, Holds}
 use Rattle.sg_journal.specs.declared.opening.OpenRefused as code_refused
 use Rattle.sg_journal.specs.declared.opening.OpenRefused.TheVariants as refusals
-use Rattle.sg_log.proofs.Holding.{holds_seen}
-use Rattle.sg_log.proofs.Unique.{HasRecords-gate}
+use Rattle.sg_line_log.proofs.Holding.{holds_seen}
+use Rattle.sg_line_log.proofs.Unique.{HasRecords-gate}
 use Rattle.sg_base.specs.Ends.{HasRisen}
 use Rattle.sg_journal.specs.Stands.{OthersAsIn, StandsFor}
 use Rattle.sg_journal.specs.Damage.{StandsForNothing}

@@ -32,10 +32,10 @@ use Rattle.sg_words.specs.declared.answer.Answer as code_answer
 use Rattle.sg_words.specs.declared.answer.Answer.TheVariants as answers
 use Rattle.sg_words.specs.Answered.{shown_answer}
 use Rattle.sg_record.specs.Plain.{Record, IsRecord}
-use Rattle.sg_log.specs.Faults.{AppendFails}
-use Rattle.sg_log.specs.Held.{tail_of, end_of}
-use Rattle.sg_log.specs.declared.fault.LogFault.{LogFault}
-use Rattle.sg_log.specs.declared.fault.LogFault.TheVariants as faults
+use Rattle.sg_line_log.specs.Faults.{AppendFails}
+use Rattle.sg_line_log.specs.Held.{tail_of, end_of}
+use Rattle.sg_line_log.specs.declared.fault.LogFault.{LogFault}
+use Rattle.sg_line_log.specs.declared.fault.LogFault.TheVariants as faults
 use Rattle.sg_locks.specs.declared.table.LockAnswer.{LockAnswer}
 use Rattle.sg_locks.specs.declared.table.LockAnswer.TheVariants as locks
 use Rattle.sg_locks.specs.Answers.{lock_answer, locks_after}

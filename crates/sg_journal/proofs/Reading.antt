@@ -8,14 +8,14 @@ use Rattle.sg_base.specs.declared.area.Area.TheVariants.{Log0}
 use Rattle.sg_disk.specs.Disk as disk
 use Rattle.sg_model.specs.Objects.{Objects}
 use Rattle.sg_record.specs.Plain.{Record}
-use Rattle.sg_log.specs.Following.{AreChained}
-use Rattle.sg_log.specs.Frames.{Frames, Numbered, numbered_in, records_of, HasRecords}
-use Rattle.sg_log.specs.Held.{Tail, Holds}
-use Rattle.sg_log.specs.Faults.{AttachFails}
-use Rattle.sg_log.specs.Reads.{OnlyReads}
-use Rattle.sg_log.specs.declared.fault.LogFault.{LogFault}
-use Rattle.sg_log.specs.declared.fault.LogFault.TheVariants as faults
-use Rattle.sg_log.proofs.Holding.{holds_along}
+use Rattle.sg_line_log.specs.Following.{AreChained}
+use Rattle.sg_line_log.specs.Frames.{Frames, Numbered, numbered_in, records_of, HasRecords}
+use Rattle.sg_line_log.specs.Held.{Tail, Holds}
+use Rattle.sg_line_log.specs.Faults.{AttachFails}
+use Rattle.sg_line_log.specs.Reads.{OnlyReads}
+use Rattle.sg_line_log.specs.declared.fault.LogFault.{LogFault}
+use Rattle.sg_line_log.specs.declared.fault.LogFault.TheVariants as faults
+use Rattle.sg_line_log.proofs.Holding.{holds_along}
 use Rattle.sg_journal.specs.Lines.{commits_in, once, committed_lines}
 use Rattle.sg_journal.specs.Stands.{replay}
 use Rattle.sg_journal.specs.Damage.{lines_at, committed_at, words_of_all, HasStrayFrame, HasUnanswered}

@@ -12,11 +12,11 @@ use Rattle.sg_model.specs.declared.stop.Stop.{Stop}
 use Rattle.sg_model.specs.Objects.{Objects}
 use Rattle.sg_model.specs.Step.{step}
 use Rattle.sg_record.specs.Plain.{Record, transaction_of}
-use Rattle.sg_log.specs.Following.{last_of, Follows, AreChained}
-use Rattle.sg_log.specs.Frames.{Numbered, records_of, HasRecords}
-use Rattle.sg_log.specs.Held.{Tail, tail_of, has_room, numbered, Holds, waiting_after}
-use Rattle.sg_log.proofs.Following.{records_of-append, chained-front, last_of-own, last_or-append}
-use Rattle.sg_log.proofs.Holding.{all_appended, holds_image}
+use Rattle.sg_line_log.specs.Following.{last_of, Follows, AreChained}
+use Rattle.sg_line_log.specs.Frames.{Numbered, records_of, HasRecords}
+use Rattle.sg_line_log.specs.Held.{Tail, tail_of, has_room, numbered, Holds, waiting_after}
+use Rattle.sg_line_log.proofs.Following.{records_of-append, chained-front, last_of-own, last_or-append}
+use Rattle.sg_line_log.proofs.Holding.{all_appended, holds_image}
 use Rattle.sg_run.specs.Run.{Event, Run, objects_after, committed_objects}
 use Rattle.sg_run.specs.Serial.{IsSound}
 use Rattle.sg_run.proofs.Serial.{serial_run}

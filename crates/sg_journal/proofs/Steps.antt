@@ -19,7 +19,7 @@ use Rattle.sg_model.specs.Touches.{Resource, touches, conflict}
 use Rattle.sg_words.specs.Requests.{Asked, Request}
 use Rattle.sg_words.specs.Requests.Asked.{Blank, Wrong, Of}
 use Rattle.sg_words.specs.Requests.Request.{Begin, Commit, Abort, Do}
-use Rattle.sg_log.specs.Held.{tail_of}
+use Rattle.sg_line_log.specs.Held.{tail_of}
 use Rattle.sg_words.specs.Answers.{Answer}
 use Rattle.sg_run.specs.Answer.{answer_of, IsSaid}
 use Rattle.sg_words.specs.Answers.Answer.{Silent, BadSyntax, Stopped, NoTransaction, IsLive, TooManyLive, Busy, LocksFull, LogEnd, Said}

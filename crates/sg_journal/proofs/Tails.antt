@@ -8,14 +8,14 @@ use Rattle.sg_base.specs.declared.area.Area.TheVariants.{Log0}
 use Rattle.sg_disk.specs.Disk as disk
 use Rattle.sg_record.specs.Plain.{Record, spelled, transaction_of, IsRecord}
 use Rattle.sg_record.specs.Plain.Record.{Begin as BeginRecord, Commit as CommitRecord}
-use Rattle.sg_log.specs.Frames.{LOG_END, Numbered, records_of, HasRecords, SameElsewhere}
-use Rattle.sg_log.specs.Faults.{AppendFails}
-use Rattle.sg_log.specs.declared.fault.LogFault.{LogFault}
-use Rattle.sg_log.specs.declared.fault.LogFault.TheVariants as faults
-use Rattle.sg_log.specs.Held.{Tail, tail_of, has_room, place_of, end_of, numbered, buffered, appended, forced, Holds, durable_after, waiting_after, IsBeforeOrAfter}
-use Rattle.sg_log.proofs.Holding.{all_appended, spelled_most, forced_empty, tail_empty, tail_forced as tail_forced_same}
-use Rattle.sg_log.specs.Following.{last_or, Follows, AreChained, AreChainedBehind}
-use Rattle.sg_log.proofs.Following.{AreLow, owned_low, chained-more}
+use Rattle.sg_line_log.specs.Frames.{LOG_END, Numbered, records_of, HasRecords, SameElsewhere}
+use Rattle.sg_line_log.specs.Faults.{AppendFails}
+use Rattle.sg_line_log.specs.declared.fault.LogFault.{LogFault}
+use Rattle.sg_line_log.specs.declared.fault.LogFault.TheVariants as faults
+use Rattle.sg_line_log.specs.Held.{Tail, tail_of, has_room, place_of, end_of, numbered, buffered, appended, forced, Holds, durable_after, waiting_after, IsBeforeOrAfter}
+use Rattle.sg_line_log.proofs.Holding.{all_appended, spelled_most, forced_empty, tail_empty, tail_forced as tail_forced_same}
+use Rattle.sg_line_log.specs.Following.{last_or, Follows, AreChained, AreChainedBehind}
+use Rattle.sg_line_log.proofs.Following.{AreLow, owned_low, chained-more}
 use Rattle.sg_journal.specs.Stands.{OthersAsIn}
 use Rattle.sg_journal.specs.Goes.{NEW_WORK_END}
 

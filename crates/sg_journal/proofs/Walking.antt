@@ -2,20 +2,20 @@
 use Rattle.std.proofs.Common.{◌≡◌, ℕ, ◌+◌, ◌≤◌, Bool, IsTrue, List, [], ◌∷◌, ◌++◌, length, refl, sym, ap, ◌∙◌, subst, arith, append-nil, append_assoc}
 use Rattle.sg_disk.specs.Disk as disk
 use Rattle.sg_record.specs.Plain.{Record, spelled_all, AreRecords}
-use Rattle.sg_log.specs.Faults.{FrameFails}
-use Rattle.sg_log.specs.Following.{AreChained}
-use Rattle.sg_log.specs.Formed.{IsFormed, IsUnformed}
-use Rattle.sg_log.specs.Frames.{LOG_END, Numbered, numbered_from, numbered_in, text_of, Frames, gate_after, records_of}
-use Rattle.sg_log.specs.Held.{Tail}
-use Rattle.sg_log.specs.Reads.{OnlyReads}
-use Rattle.sg_log.specs.declared.fault.LogFault.{LogFault}
-use Rattle.sg_log.specs.declared.fault.LogFault.TheVariants as faults
-use Rattle.sg_log.proofs.Chain.{formed_one}
-use Rattle.sg_log.proofs.Following.{chained-append}
-use Rattle.sg_log.proofs.Holding.{numbered_in-more, text-length}
-use Rattle.sg_log.proofs.Runs.{reads_none, reads_more}
-use Rattle.sg_log.proofs.Standing.{gate_behind}
-use Rattle.sg_log.proofs.Steps.{gate_later}
+use Rattle.sg_line_log.specs.Faults.{FrameFails}
+use Rattle.sg_line_log.specs.Following.{AreChained}
+use Rattle.sg_line_log.specs.Formed.{IsFormed, IsUnformed}
+use Rattle.sg_line_log.specs.Frames.{LOG_END, Numbered, numbered_from, numbered_in, text_of, Frames, gate_after, records_of}
+use Rattle.sg_line_log.specs.Held.{Tail}
+use Rattle.sg_line_log.specs.Reads.{OnlyReads}
+use Rattle.sg_line_log.specs.declared.fault.LogFault.{LogFault}
+use Rattle.sg_line_log.specs.declared.fault.LogFault.TheVariants as faults
+use Rattle.sg_line_log.proofs.Chain.{formed_one}
+use Rattle.sg_line_log.proofs.Following.{chained-append}
+use Rattle.sg_line_log.proofs.Holding.{numbered_in-more, text-length}
+use Rattle.sg_line_log.proofs.Runs.{reads_none, reads_more}
+use Rattle.sg_line_log.proofs.Standing.{gate_behind}
+use Rattle.sg_line_log.proofs.Steps.{gate_later}
 use Rattle.sg_journal.specs.Lines.{commits_in}
 use Rattle.sg_journal.specs.Damage.{lines_at, HasStray}
 use Rattle.sg_journal.specs.Found.{lines_found, Finds, KnowsLasts, AreFound, EndsAt, IsRefusedIn, IsNotFound}

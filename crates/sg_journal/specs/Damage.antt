@@ -7,9 +7,9 @@ use Rattle.sg_disk.specs.Disk.{Bytes}
 use Rattle.sg_model.specs.Objects.{Objects}
 use Rattle.sg_record.specs.Plain.{Record}
 use Rattle.sg_record.specs.Plain.Record.{Begin, Commit, Line}
-use Rattle.sg_log.specs.Formed.{IsDamagedAt}
-use Rattle.sg_log.specs.Following.{Follows, AreChainedBehind, AreChained}
-use Rattle.sg_log.specs.Frames.{Numbered, numbered_from, numbered_in, records_of, Frames, gate_after}
+use Rattle.sg_line_log.specs.Formed.{IsDamagedAt}
+use Rattle.sg_line_log.specs.Following.{Follows, AreChainedBehind, AreChained}
+use Rattle.sg_line_log.specs.Frames.{Numbered, numbered_from, numbered_in, records_of, Frames, gate_after}
 use Rattle.sg_journal.specs.Lines.{commits_in, once}
 use Rattle.sg_journal.specs.Stands.{after_line, replay}
 

@@ -6,9 +6,9 @@ use Rattle.sg_disk.specs.Disk as disk
 use Rattle.sg_base.specs.declared.area.Area.TheVariants.{Log0}
 use Rattle.sg_model.specs.Objects.{Objects}
 use Rattle.sg_record.specs.Plain.{Record, AreRecords, spelled_all}
-use Rattle.sg_log.specs.Following.{last_or, last_of, AreChained}
-use Rattle.sg_log.specs.Frames.{LOG_END, Numbered, numbered_from, numbered_in, records_of, Frames, gate_after}
-use Rattle.sg_log.specs.Held.{Tail, Holds}
+use Rattle.sg_line_log.specs.Following.{last_or, last_of, AreChained}
+use Rattle.sg_line_log.specs.Frames.{LOG_END, Numbered, numbered_from, numbered_in, records_of, Frames, gate_after}
+use Rattle.sg_line_log.specs.Held.{Tail, Holds}
 use Rattle.sg_journal.specs.declared.opening.OpenRefused as code_refused
 use Rattle.sg_journal.specs.declared.opening.OpenRefused.TheVariants as refusals
 use Rattle.std.specs.Ordering.{nat_cmp}

@@ -9,8 +9,8 @@ use Rattle.sg_words.specs.Requests.{Asked}
 use Rattle.sg_words.specs.Requests.Asked.{Blank, Wrong, Of}
 use Rattle.sg_words.specs.Requests.Request.{Begin, Commit, Abort, Do}
 use Rattle.sg_record.specs.Plain.Record.{Commit as CommitRecord}
-use Rattle.sg_log.specs.Frames.{LOG_END}
-use Rattle.sg_log.specs.Held.{Tail, tail_of, end_of}
+use Rattle.sg_line_log.specs.Frames.{LOG_END}
+use Rattle.sg_line_log.specs.Held.{Tail, tail_of, end_of}
 use Rattle.sg_words.specs.Answers.{Answer}
 use Rattle.sg_words.specs.Answers.Answer.{LogEnd}
 use Rattle.sg_run.specs.Run.{Run, LineBy, WouldReply, IsLogged, IsCaused}

@@ -9,7 +9,7 @@ use Rattle.sg_model.specs.Objects.{Objects}
 use Rattle.sg_run.specs.Run.{start}
 use Rattle.sg_journal.specs.declared.opening.OpenRefused as code_refused
 use Rattle.sg_journal.specs.declared.opening.OpenRefused.TheVariants as refusals
-use Rattle.sg_log.specs.Frames.{Numbered, HasRecords}
+use Rattle.sg_line_log.specs.Frames.{Numbered, HasRecords}
 use Rattle.sg_journal.specs.Stands.{OthersAsIn, StandsFor}
 use Rattle.sg_journal.specs.Damage.{StandsForNothing}
 use Rattle.sg_journal.specs.Store.{Core, Shows}

@@ -9,8 +9,8 @@ use Rattle.sg_ops.specs.Table.{Table as Operations}
 use Rattle.sg_model.specs.Objects.{Objects}
 use Rattle.sg_model.specs.Verb.{Op}
 use Rattle.sg_model.specs.Step.{step}
-use Rattle.sg_log.specs.Following.{AreChained}
-use Rattle.sg_log.specs.Frames.{Numbered, records_of, HasRecords}
+use Rattle.sg_line_log.specs.Following.{AreChained}
+use Rattle.sg_line_log.specs.Frames.{Numbered, records_of, HasRecords}
 use Rattle.sg_run.specs.Run.{Run, objects_after}
 use Rattle.sg_run.specs.Kept.{if_replied}
 use Rattle.sg_journal.specs.Lines.{op_said, committed_lines}

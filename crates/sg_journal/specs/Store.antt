@@ -10,9 +10,9 @@ use Rattle.sg_model.specs.declared.stop.Stop.{Stop}
 use Rattle.sg_model.specs.Objects.{Object, Objects}
 use Rattle.sg_model.specs.Touches.{Resource}
 use Rattle.sg_model.specs.Undo.{undo_all_on}
-use Rattle.sg_log.specs.Following.{last_of, AreChained}
-use Rattle.sg_log.specs.Frames.{GREATEST_BODY, Numbered, records_of, SameElsewhere}
-use Rattle.sg_log.specs.Held.{Tail, tail_of, Holds}
+use Rattle.sg_line_log.specs.Following.{last_of, AreChained}
+use Rattle.sg_line_log.specs.Frames.{GREATEST_BODY, Numbered, records_of, SameElsewhere}
+use Rattle.sg_line_log.specs.Held.{Tail, tail_of, Holds}
 use Rattle.sg_run.specs.Run.{Run, live_objects}
 use Rattle.sg_run.specs.Noted.{NotedPast, IsNoted, notes_by}
 use Rattle.sg_run.specs.Serial.{IsSound}

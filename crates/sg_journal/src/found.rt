@@ -1,8 +1,8 @@
 // What a log says of its transactions.
 ghost use Rattle.std.specs.Prelude.{◌≡◌, ◌≤◌, ◌==◌, length, ℕ, List, [], ◌∷◌, ◌++◌, map, OnOk, MatchOption, IsTrue, ◌↔◌, if◌then◌else◌, true, None, option_copied};
 ghost use Rattle.sg_record.specs.Plain.{IsRecord, transaction_of, previous_of};
-ghost use Rattle.sg_log.specs.Following.{last_or, IsOwned, Follows};
-ghost use Rattle.sg_log.specs.Frames.{Numbered};
+ghost use Rattle.sg_line_log.specs.Following.{last_or, IsOwned, Follows};
+ghost use Rattle.sg_line_log.specs.Frames.{Numbered};
 ghost use Rattle.sg_record.specs.Plain.{shown};
 ghost use Rattle.sg_journal.specs.Lines.{commits_in};
 ghost use Rattle.sg_journal.specs.Damage.{LineAt, line_at};

@@ -2,7 +2,7 @@
 use Rattle.std.proofs.Common.{◌≡◌, ◌⊎◌, inl, inr, ℕ, ◌+◌, ◌≤◌, Bool, IsTrue, List, [], Result, Err, refl, ap, subst}
 use Rattle.sg_base.specs.declared.area.Area.{Area}
 use Rattle.sg_disk.specs.Disk.{View}
-use Rattle.sg_record.specs.Plain.{Record}
+use Rattle.sg_record.specs.Records.{Record}
 use Rattle.sg_log.specs.Faults.{WalkFails}
 use Rattle.sg_log.specs.declared.fault.LogFault.{LogFault}
 use Rattle.sg_log.specs.declared.fault.LogFault.TheVariants.{Disk, LogEnd, Damaged, Memory}

@@ -3,14 +3,15 @@ use Rattle.std.proofs.Common.{◌≡◌, ℕ, min, ◌+◌, ◌*◌, ◌≤◌, 
 use Rattle.byteorder.specs.Endian.{little_number}
 use Rattle.sg_base.specs.declared.area.Area.{Area}
 use Rattle.sg_disk.specs.Disk.{Bytes, State, View, FULL, window}
-use Rattle.sg_record.specs.Plain.{Record, spelled_all}
+use Rattle.sg_record.specs.Records.{Record}
+use Rattle.sg_log.specs.Texts.{spelled_all}
 use Rattle.sg_log.specs.Faults.{FrameFails, WalkFails}
 use Rattle.sg_log.specs.declared.fault.LogFault.{LogFault}
 use Rattle.sg_log.specs.declared.fault.LogFault.TheVariants.{Disk, LogEnd, Damaged, Memory}
 use Rattle.sg_log.specs.Formed.{IsFormed, AreFormed, IsUnformed, IsDamagedAt}
 use Rattle.sg_log.specs.Frames.{LOG_END, text_of, Frames, Numbered, gate_after, HasRecords}
 use Rattle.sg_log.specs.Reads.{OnlyReads}
-use Rattle.sg_record.proofs.PlainLaws.{spelled_all-one}
+use Rattle.sg_log.proofs.Texts.{spelled_all-one}
 use Rattle.sg_log.proofs.Formed.{formed_length, formed_body}
 use Rattle.sg_log.proofs.Holding.{text-length}
 use Rattle.sg_log.proofs.Runs.{reads_none, reads_more}

@@ -7,10 +7,13 @@ use Rattle.sg_base.specs.declared.area.Area.{Area}
 use Rattle.sg_disk.specs.Disk.{Bytes, Image, State, Leaves, View, LeavesOnly, ReadBytes}
 use Rattle.sg_disk.proofs.Moments.{started, goes_on}
 use Rattle.sg_record.specs.Records.{header}
-use Rattle.sg_record.specs.Plain.{Record, spelled, spelled_all, HEADER, GREATEST, kind_of, transaction_of, previous_of, body_of, IsRecord, AreRecords}
+use Rattle.sg_record.specs.Records.{Record, spelled, HEADER, kind_of, body_of, code_of}
+use Rattle.sg_log.specs.Texts.{spelled_all, GREATEST, AreRecords}
+use Rattle.sg_record.specs.Ranges.{IsRecord}
 use borrow.Rule.Slice.PartMut.{put_mid}
 use Rattle.sg_log.proofs.Laid.{placed}
-use Rattle.sg_record.proofs.PlainLaws.{spelled-long}
+use Rattle.sg_record.proofs.Parsing.{body_most}
+use Rattle.sg_log.proofs.Texts.{spelled-long}
 use Rattle.sg_log.specs.Frames.{GREATEST_BODY, LOG_END, Numbered, numbered_from, numbered_in, gate_after, text_of, IsFrame, Frames, IsAtRest, IsWithOrWithout, HasRecords}
 use Rattle.sg_log.specs.Held.{Tail, Holds, tail_of, has_room, place_of, end_of, numbered, forced, buffered, durable_after, waiting_after, IsBeforeOrAfter}
 use Rattle.sg_log.proofs.Steps.{frame_text, gate_more, rest_image}
@@ -18,7 +21,7 @@ use Rattle.sg_log.proofs.Steps.{frame_text, gate_more, rest_image}
 -- a record has at most these bytes
 pub spelled_most : (r : Record) → IsRecord r → length (spelled r) ≤ GREATEST
 unfolding spelled
-spelled_most r h = let size = length-append (header (kind_of r) (HEADER + length (body_of r)) (transaction_of r) (previous_of r)) (body_of r) in omega (arith, h.body)
+spelled_most r h = let size = length-append (header (code_of (kind_of r.says)) (HEADER + length (body_of r.says)) r.transaction r.previous) (body_of r.says) in omega (arith, body_most r h)
 
 pub numbered_in-more : (gate : ℕ) (frames : List (List Record)) (rs : List Record) → numbered_in gate (frames ++ rs ∷ []) ≡ numbered_in gate frames ++ numbered_from (gate_after gate frames + 5) rs
 numbered_in-more gate [] rs = append-nil (numbered_from (gate + 5) rs)

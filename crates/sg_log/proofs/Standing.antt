@@ -2,8 +2,10 @@
 use Rattle.std.proofs.Common.{add-zero, map, ◌≡◌, ◌⊎◌, inl, inr, ⊎_elim, ℕ, ◌+◌, ◌-◌, ◌<◌, ◌≤◌, List, [], ◌∷◌, ◌++◌, length, Option, Some, refl, sym, ◌∙◌, ap, subst, arith, length-append, append_assoc}
 use Rattle.std.proofs.lemmas.List.{map-append}
 use Rattle.sg_disk.specs.Disk.{Bytes, State, View, window}
-use Rattle.sg_record.specs.Plain.{Record, spelled, spelled_all, IsRecord, AreRecords}
-use Rattle.sg_record.proofs.PlainLaws.{spelled-long}
+use Rattle.sg_record.specs.Records.{Record, spelled}
+use Rattle.sg_log.specs.Texts.{spelled_all, AreRecords}
+use Rattle.sg_record.specs.Ranges.{IsRecord}
+use Rattle.sg_log.proofs.Texts.{spelled-long}
 use Rattle.sg_log.specs.Formed.{IsFormed}
 use Rattle.sg_log.specs.Frames.{Numbered, numbered_from, numbered_in, text_of, Frames, gate_after}
 use Rattle.sg_log.specs.Held.{Tail, Holds, tail_of}

@@ -8,7 +8,8 @@ use Rattle.sg_disk.specs.Disk.{Bytes, Image, Part, State, LeavesPart, Leaves, Vi
 use Rattle.sg_disk.proofs.Parts.{part_written, part_synced, leaves_written, settled_byte, other_byte, put_inside, window_agree, window_is, other_written, other_synced, leaves_other}
 use Rattle.sg_disk.proofs.Images.{put_outside}
 use Rattle.sg_disk.proofs.Moments.{started, goes_on}
-use Rattle.sg_record.specs.Plain.{Record, spelled_all}
+use Rattle.sg_record.specs.Records.{Record}
+use Rattle.sg_log.specs.Texts.{spelled_all}
 use Rattle.sg_log.specs.Frames.{text_of, IsFrame, Frames, gate_after, IsAtRest, IsWithOrWithout, SameElsewhere}
 
 -- a frame's bytes behind its gate

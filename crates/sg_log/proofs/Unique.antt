@@ -2,8 +2,9 @@
 use Rattle.std.proofs.Common.{◌≡◌, ℕ, zero, suc, ◌+◌, ◌<◌, ◌≤◌, List, [], ◌∷◌, ◌++◌, length, drop, get_or, refl, sym, ◌∙◌, ap, subst, arith, add-zero}
 use Rattle.byteorder.specs.Endian.{little_bytes}
 use Rattle.sg_disk.specs.Disk.{Bytes, window}
-use Rattle.sg_record.specs.Plain.{Record, spelled_all}
-use Rattle.sg_record.proofs.PlainLaws.{spelled_all-one}
+use Rattle.sg_record.specs.Records.{Record}
+use Rattle.sg_log.specs.Texts.{spelled_all}
+use Rattle.sg_log.proofs.Texts.{spelled_all-one}
 use Rattle.sg_log.specs.Frames.{GREATEST_BODY, text_of, Frames, Numbered, numbered_in, gate_after, HasRecords}
 
 -- the bytes of a window, one by one

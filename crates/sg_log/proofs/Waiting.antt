@@ -1,8 +1,9 @@
 -- The records of a buffer, and the lengths of records.
 use Rattle.std.proofs.Common.{◌≡◌, ℕ, ◌+◌, ◌-◌, ◌<◌, ◌≤◌, List, ◌++◌, Result, IsOk, OnErr, Ok, Err, length, take, drop, ◌∙◌, ap, arith, length-append, length-take, length-drop}
 use Rattle.std.proofs.Math.Seq.{drop-append_seam, take-append_seam}
-use Rattle.sg_record.specs.Plain.{Record, GREATEST, spelled}
-use Rattle.sg_record.proofs.PlainLaws.{spelled-long}
+use Rattle.sg_record.specs.Records.{Record, spelled}
+use Rattle.sg_log.specs.Texts.{GREATEST}
+use Rattle.sg_log.proofs.Texts.{spelled-long}
 use Rattle.sg_log.specs.Held.{Tail, tail_of}
 use Rattle.sg_log.specs.Places.{IsRecordText, IsWaiting}
 use Rattle.sg_log.proofs.Holding.{spelled_most, tail_behind}

@@ -2,8 +2,11 @@
 use Rattle.std.proofs.Common.{◌≡◌, ℕ, ◌+◌, ◌-◌, ◌<◌, ◌≤◌, List, [], ◌∷◌, ◌++◌, length, take, drop, refl, sym, ◌∙◌, ap, subst, arith, length-drop, length-take}
 use Rattle.std.proofs.lemmas.List.{take-append-drop, drop-drop, nil_from_length}
 use Rattle.std.proofs.Math.Seq.{take-length}
-use Rattle.sg_record.specs.Plain.{Record, spelled, spelled_all, IsRecord, AreRecords}
-use Rattle.sg_record.proofs.PlainLaws.{spelled_first, spelled-long}
+use Rattle.sg_record.specs.Records.{Record, spelled}
+use Rattle.sg_log.specs.Texts.{spelled_all, AreRecords}
+use Rattle.sg_record.specs.Ranges.{IsRecord}
+use Rattle.sg_log.proofs.Texts.{spelled-long}
+use Rattle.sg_record.proofs.Parsing.{spelled_first}
 use Rattle.sg_log.specs.Formed.{IsWhole}
 
 pub whole_none : IsWhole []

@@ -7,8 +7,10 @@ use Rattle.byteorder.specs.Endian.{little_bytes, little_number}
 use Rattle.byteorder.specs.Numbers.{little_number-reads_back}
 use Rattle.sg_disk.specs.Disk.{Bytes, State, window}
 use Rattle.sg_log.specs.Places.{IsRecordText}
+use Rattle.sg_record.proofs.Parsing.{body_most}
 use Rattle.sg_record.specs.Records.{header}
-use Rattle.sg_record.specs.Plain.{Record, HEADER, kind_of, transaction_of, previous_of, body_of, spelled, IsRecord}
+use Rattle.sg_record.specs.Records.{Record, HEADER, kind_of, body_of, spelled, code_of}
+use Rattle.sg_record.specs.Ranges.{IsRecord}
 
 pub window-length : (f : Bytes) (at n : ℕ) → length (window f at n) ≡ n
 window-length f at zero = refl
@@ -54,10 +56,10 @@ read_there {s = s} area at size space is same fits =
 pub size_read : (f : Bytes) (at : ℕ) (r : Record) (bytes : List ℕ) → IsRecord r → window f at (length (spelled r)) ≡ spelled r → bytes ≡ window f at 21 → little_number 4 (take 20 (drop 1 bytes)) ≡ length (spelled r)
 unfolding spelled
 size_read f at r bytes fields text is =
-    let front : List ℕ = header (kind_of r) (HEADER + length (body_of r)) (transaction_of r) (previous_of r) in
-    let read : bytes ≡ front = is ∙ window_front f at front (body_of r) text in
+    let front : List ℕ = header (code_of (kind_of r.says)) (HEADER + length (body_of r.says)) r.transaction r.previous in
+    let read : bytes ≡ front = is ∙ window_front f at front (body_of r.says) text in
     ap (λ (xs : List ℕ). little_number 4 (take 20 (drop 1 xs))) read
-    ∙ (little_number-reads_back 4 (HEADER + length (body_of r)) (little_bytes 8 (transaction_of r) ++ little_bytes 8 (previous_of r)) (omega (arith, fields.body)) ∙ sym (length-append front (body_of r)))
+    ∙ (little_number-reads_back 4 (HEADER + length (body_of r.says)) (little_bytes 8 r.transaction ++ little_bytes 8 r.previous) (omega (arith, body_most r fields)) ∙ sym (length-append front (body_of r.says)))
 
 -- bytes read to the front of a buffer
 pub front_read : (bytes more : List ℕ) (count : ℕ) → length bytes ≡ count → take count (bytes ++ more) ≡ bytes

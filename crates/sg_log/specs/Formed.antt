@@ -1,7 +1,8 @@
 -- Which frames are formed, and where a log can't be read on.
 use Rattle.std.specs.Prelude.{◌≡◌, ◌+◌, ◌≤◌, ℕ, List, [], ◌∷◌, length}
 use Rattle.sg_disk.specs.Disk.{Bytes, window}
-use Rattle.sg_record.specs.Plain.{Record, spelled_all, AreRecords}
+use Rattle.sg_record.specs.Records.{Record}
+use Rattle.sg_log.specs.Texts.{spelled_all, AreRecords}
 use Rattle.sg_log.specs.Frames.{LOG_END, IsFrame, text_of, gate_after}
 
 -- these bytes are whole records
@@ -9,6 +10,11 @@ pub record IsWhole (bytes : List ℕ) : Type 0 where
   pub records : List Record
   pub fields : AreRecords records
   pub spelling : spelled_all records ≡ bytes
+
+-- At this offset a frame with this body stands: behind an open gate stand the body's length and the body.
+pub record HasBody (f : Bytes) (at : ℕ) (body : List ℕ) : Type 0 where
+  pub gate : f at ≡ 1
+  pub text : window f (at + 1) (length (text_of body)) ≡ text_of body
 
 -- At this offset a frame of these records is formed: behind an open gate stand its length and its body.
 pub record IsFormed (f : Bytes) (at : ℕ) (rs : List Record) : Type 0 where

@@ -3,7 +3,8 @@ use Rattle.std.specs.Prelude.{◌≡◌, ◌⊎◌, ◌+◌, ◌^◌, ◌≤◌,
 use Rattle.byteorder.specs.Endian.{little_bytes}
 use Rattle.sg_base.specs.declared.area.Area.{Area}
 use Rattle.sg_disk.specs.Disk.{Bytes, Image, State, LeavesPart, window}
-use Rattle.sg_record.specs.Plain.{Record, spelled, spelled_all, AreRecords}
+use Rattle.sg_record.specs.Records.{Record, spelled}
+use Rattle.sg_log.specs.Texts.{spelled_all, AreRecords}
 
 -- the most bytes of a frame's body
 abbrev pub GREATEST_BODY : ℕ

@@ -2,7 +2,8 @@
 use Rattle.std.specs.Prelude.{◌≡◌, ◌⊎◌, ◌+◌, ◌≤◌, ◌<◌, ◌==◌, nat_le, if◌then◌else◌, ℕ, Bool, List, [], ◌∷◌, ◌++◌, length}
 use Rattle.sg_base.specs.declared.area.Area.{Area}
 use Rattle.sg_disk.specs.Disk.{Image, State, LeavesPart, View}
-use Rattle.sg_record.specs.Plain.{Record, spelled, spelled_all, AreRecords}
+use Rattle.sg_record.specs.Records.{Record, spelled}
+use Rattle.sg_log.specs.Texts.{spelled_all, AreRecords}
 use Rattle.sg_log.specs.Frames.{GREATEST_BODY, LOG_END, Numbered, numbered_from, numbered_in, Frames, gate_after, HasRecords}
 
 -- A log as its callers see it: where it stands, the number of its area's first byte, the number of the closed gate

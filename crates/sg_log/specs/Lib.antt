@@ -1,7 +1,8 @@
+pub mod Texts
 pub mod Faults
-pub mod Following
 pub mod Formed
 pub mod Frames
 pub mod Held
 pub mod Places
+pub mod Reading
 pub mod Reads

@@ -1,7 +1,9 @@
 -- Where the records of a log stand.
 use Rattle.std.specs.Prelude.{◌≡◌, ◌⊎◌, ◌<◌, ◌≤◌, ◌+◌, ◌-◌, ℕ, List, [], ◌∷◌, ◌++◌, length, Option, Some, None}
 use Rattle.sg_disk.specs.Disk.{View, window}
-use Rattle.sg_record.specs.Plain.{Record, spelled, spelled_all, IsRecord}
+use Rattle.sg_record.specs.Records.{Record, spelled}
+use Rattle.sg_log.specs.Texts.{spelled_all}
+use Rattle.sg_record.specs.Ranges.{IsRecord}
 use Rattle.sg_log.specs.Formed.{IsFormed}
 use Rattle.sg_log.specs.Frames.{Numbered, text_of, Frames, gate_after}
 use Rattle.sg_log.specs.Held.{Tail, Holds}

@@ -4,7 +4,8 @@ ghost use Rattle.byteorder.specs.Endian.{little_bytes};
 ghost use Rattle.sg_base.specs.Ends.{HasRisen};
 ghost use Rattle.sg_disk.specs.Disk.{END, FULL, LeavesOnly};
 ghost use Rattle.sg_log.specs.Frames.{text_of, IsFrame, IsAtRest, IsWithOrWithout, SameElsewhere};
-ghost use Rattle.sg_record.specs.Plain.{Record, spelled_all};
+ghost use Rattle.sg_record.specs.Records.{Record};
+ghost use Rattle.sg_log.specs.Texts.{spelled_all};
 
 use sg_base::write_u32;
 use sg_disk::{Area, Disk, Failed};
@@ -42,8 +43,8 @@ pub fn write_frame<D: Disk>(disk: &mut D, area: Area, at: u64, text: &[u8]) -> R
     ensures later { (D.view disk.old).faults ≤ (D.view disk.new).faults }
 {
     disk.write_at(area, at + 1, text)?;
-    disk.sync(area)?;
+    disk.sync(area)?; // the body, before its gate is opened
     disk.write_at(area, at, &[1])?;
-    disk.sync(area)?;
+    disk.sync(area)?; // the gate, before the frame is told to be there
     Ok(())
 }

@@ -1,5 +1,5 @@
-//! The log: records are appended to a buffer in memory, and a force makes them durable as a frame
-//! behind a gate.
+//! The log: records of every kind are appended to a buffer in memory, and a force makes them durable as
+//! a frame behind a gate. Which of them may follow which is said above it.
 //!
 //! It stands on `sg_disk` for the area that the frames stand in, and on `sg_record` for the records'
 //! bytes. It promises that the durable records are those appended, in order, and that each has the
@@ -10,10 +10,13 @@
 
 mod fault;
 mod frame;
+mod laws;
 mod log;
 mod place;
 mod reading;
 
 pub use fault::LogFault;
+pub use laws::records_are_read;
 pub use log::Log;
 pub use place::Place;
+pub use reading::read_body;

@@ -2,8 +2,10 @@ ghost use Rattle.std.specs.Prelude.{false, ◌≡◌, ◌⊎◌, ◌≤◌, ◌<
 ghost use Rattle.sg_base.specs.declared.area.Area.TheVariants.{Home, Log0, Log1};
 ghost use Rattle.sg_base.specs.Ends.{HasRisen};
 ghost use Rattle.sg_disk.specs.Disk.{FULL, Image, Leaves, LeavesOnly, window};
-ghost use Rattle.sg_record.specs.Plain.{Record, GREATEST, spelled, spelled_all, IsRecord};
-ghost use Rattle.sg_record.specs.Plain.{shown};
+ghost use Rattle.sg_record.specs.Records.{Record, spelled};
+ghost use Rattle.sg_log.specs.Texts.{GREATEST, spelled_all};
+ghost use Rattle.sg_record.specs.Ranges.{IsRecord};
+ghost use Rattle.sg_record.specs.Shown.{shown};
 ghost use Rattle.sg_log.specs.Faults.{ForceFails, AppendFails, AttachFails, FrameFails, HeedsFaults};
 ghost use Rattle.sg_log.specs.Formed.{IsFormed, IsDamagedAt};
 ghost use Rattle.sg_log.specs.Frames.{Frames, Numbered, HasRecords, SameElsewhere, LOG_END, GREATEST_BODY};
@@ -16,7 +18,7 @@ use crate::reading::{body_size, find_gate, read_frame, read_record, record_size,
 use crate::{LogFault, Place};
 use sg_base::{Area, Lsn};
 use sg_disk::Disk;
-use sg_record::plain::{Rec, encode, size};
+use sg_record::{Rec, encode, size};
 use std::alloc::{AllocError, Global};
 use std::marker::Model;
 

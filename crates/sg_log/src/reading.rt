@@ -3,16 +3,18 @@ ghost use Rattle.std.specs.Prelude.{◌≡◌, ◌⊎◌, ◌≤◌, ◌<◌, �
 ghost use Rattle.sg_base.specs.Ends.{HasRisen};
 ghost use Rattle.sg_disk.specs.Disk.{FULL, window};
 ghost use Rattle.sg_log.specs.Faults.{FrameFails, WalkFails, HeedsFaults};
-ghost use Rattle.sg_log.specs.Formed.{IsWhole, IsFormed, IsUnformed, IsDamagedAt};
+ghost use Rattle.sg_log.specs.Formed.{IsWhole, HasBody, IsFormed, IsUnformed, IsDamagedAt};
 ghost use Rattle.sg_log.specs.Frames.{Frames, LOG_END, GREATEST_BODY, gate_after};
 ghost use Rattle.sg_log.specs.Places.{IsRecordText};
 ghost use Rattle.sg_log.specs.Reads.{OnlyReads};
-ghost use Rattle.sg_record.specs.Plain.{Record, GREATEST, HEADER, spelled, spelled_all, IsRecord};
+ghost use Rattle.sg_record.specs.Records.{Record, HEADER, spelled};
+ghost use Rattle.sg_log.specs.Texts.{GREATEST, spelled_all};
+ghost use Rattle.sg_record.specs.Ranges.{IsRecord};
 
 use crate::LogFault;
 use sg_base::{Lsn, read_u32};
 use sg_disk::{Area, Disk, Failed};
-use sg_record::plain::decode;
+use sg_record::decode;
 
 /// Whether the bytes are whole records, one after another.
 pub fn is_whole(bytes: &[u8]) -> bool
@@ -26,6 +28,41 @@ pub fn is_whole(bytes: &[u8]) -> bool
         }
     }
     true
+}
+
+/// Reads the body of the frame whose gate is at this offset to the front of `space`, and answers how
+/// many bytes it has, or none where the gate is closed. It looks at no record. It answers `Damaged`
+/// where the length isn't 1 to 65,536, or the frame ends behind the log's end, and `Disk` only where
+/// the disk fails.
+pub fn read_body<D: Disk>(
+    disk: &mut D,
+    area: Area,
+    base: Lsn,
+    at: u64,
+    space: &mut [u8],
+) -> Result<Option<usize>, LogFault>
+    requires space { GREATEST_BODY ≤ length space.old }
+    requires within { base + at ≤ LOG_END }
+    ensures closed { IsTrue D.told → result ≡ Ok None → ((D.view disk.old).now area).seen at ≡ 1 → ⊥ }
+    ensures body { IsTrue D.told → IfOk result (λ r. IfSome r (λ n. HasBody ((D.view disk.old).now area).seen at (take n space.new))) }
+    ensures onward { IfOk result (λ r. IfSome r (λ n. (0 < n) × (n ≤ GREATEST_BODY) × (base + (at + 5 + n) ≤ LOG_END))) }
+    ensures faults { IfErr result (λ e. FrameFails D.told area base at (D.view disk.old) (D.view disk.new) e) }
+    ensures heeded { HeedsFaults result (D.view disk.old) (D.view disk.new) }
+    ensures reads { OnlyReads D.told (D.view disk.old) (D.view disk.new) }
+    ensures calls { IfOk result (λ r. (D.view disk.new).calls ≡ min ((D.view disk.old).calls + (if is_some r then 2 else 1)) FULL) }
+{
+    let mut head = [0; 5];
+    disk.read_at(area, at, &mut head)?;
+    if head[0] != 1 {
+        return Ok(None);
+    }
+    let size = read_u32(&head[1..]) as usize;
+    let end = at + 5 + size as u64;
+    if size == 0 || size > 65_536 || base + end > 1 << 63 {
+        return Err(LogFault::Damaged { at });
+    }
+    disk.read_at(area, at + 5, &mut space[..size])?;
+    Ok(Some(size))
 }
 
 /// The offset behind the frame whose gate is at this offset, or none where the gate is closed. The
@@ -48,20 +85,13 @@ pub fn read_frame<D: Disk>(
     ensures reads { OnlyReads D.told (D.view disk.old) (D.view disk.new) }
     ensures calls { IfOk result (λ r. (D.view disk.new).calls ≡ min ((D.view disk.old).calls + (if is_some r then 2 else 1)) FULL) }
 {
-    let mut head = [0; 5];
-    disk.read_at(area, at, &mut head)?;
-    if head[0] != 1 {
-        return Ok(None);
-    }
-    let size = read_u32(&head[1..]) as usize;
-    let end = at + 5 + size as u64;
-    if size == 0 || size > 65_536 || base + end > 1 << 63 {
-        return Err(LogFault::Damaged { at });
-    }
-    let body = &mut space[..size];
-    disk.read_at(area, at + 5, body)?;
-    if is_whole(body) {
-        Ok(Some(end))
+    let size = match read_body(disk, area, base, at, space) {
+        Ok(Some(size)) => size,
+        Ok(None) => return Ok(None),
+        Err(fault) => return Err(fault),
+    };
+    if is_whole(&space[..size]) {
+        Ok(Some(at + 5 + size as u64))
     } else {
         Err(LogFault::Damaged { at })
     }

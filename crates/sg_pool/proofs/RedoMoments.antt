@@ -13,7 +13,8 @@ use Rattle.sg_gate.proofs.Over.{laid_shut}
 use Rattle.sg_log.specs.Frames.{Numbered, HasRecords, numbered_from}
 use Rattle.sg_log.specs.Held.{Tail, Holds, tail_of, forced, IsBeforeOrAfter}
 use Rattle.sg_log.proofs.Holding.{tail_empty, forced_empty}
-use Rattle.sg_record.specs.Plain.{Record, spelled_all}
+use Rattle.sg_record.specs.Records.{Record}
+use Rattle.sg_log.specs.Texts.{spelled_all}
 use Rattle.sg_redo.specs.History.{OnPage, repeated, is_covered}
 use Rattle.sg_redo.specs.Window.{OnWindow, on_byte}
 use Rattle.sg_pool.specs.Units.{Geometry, Units, page_at, band_byte, IsGoing}

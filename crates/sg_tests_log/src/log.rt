@@ -1,13 +1,13 @@
 ghost use Rattle.std.specs.Prelude.{◌≡◌, ◌⊎◌, ◌≤◌, IfOk, length};
 ghost use Rattle.sg_base.specs.declared.area.Area.TheVariants.{Log0, Log1};
 ghost use Rattle.sg_log.specs.Frames.{LOG_END};
-ghost use Rattle.sg_record.specs.Plain.{IsRecord};
-ghost use Rattle.sg_record.specs.Plain.{shown};
+ghost use Rattle.sg_record.specs.Ranges.{IsRecord};
+ghost use Rattle.sg_record.specs.Shown.{shown};
 
-use sg_base::{Lsn, TxnId};
+use sg_base::{Lsn, PageNo, TxnId};
 use sg_disk::{Area, CallKind, Disk, Fuse, MemDisk};
 use sg_log::{Log, LogFault, Place};
-use sg_record::plain::Rec;
+use sg_record::{PageChange, Rec};
 use std::alloc::{AllocError, Global};
 use std::test::Fail;
 
@@ -30,6 +30,35 @@ const FRAME: [u8; 48] = [
 // A frame of a line of transaction 7, whose record before it is 5, with the words "xy".
 const LINE_FRAME: [u8; 28] = [
     1, 23, 0, 0, 0, 13, 23, 0, 0, 0, 7, 0, 0, 0, 0, 0, 0, 0, 5, 0, 0, 0, 0, 0, 0, 0, b'x', b'y',
+];
+
+// A change of slot 2 of page 7 from one byte to another, by transaction 5.
+const CHANGE: Rec<'static> = Rec::Page {
+    txn: TxnId(5),
+    prev: 5,
+    change: PageChange {
+        page: PageNo(7),
+        operation: 4,
+        slot: 2,
+        code: 0,
+        before: b"a",
+        after: b"b",
+    },
+};
+
+// The end of the action of which it is, with a note of one byte.
+const ACTION_END: Rec<'static> = Rec::TopEnd {
+    txn: TxnId(5),
+    prev: 26,
+    undo_next: 5,
+    note: &[0],
+};
+
+// Both as bytes.
+const ACTION: [u8; 68] = [
+    2, 36, 0, 0, 0, 5, 0, 0, 0, 0, 0, 0, 0, 5, 0, 0, 0, 0, 0, 0, 0, 7, 0, 0, 0, 4, 2, 0, 0, 0, 1,
+    0, 1, 0, b'a', b'b', 5, 32, 0, 0, 0, 5, 0, 0, 0, 0, 0, 0, 0, 26, 0, 0, 0, 0, 0, 0, 0, 5, 0, 0,
+    0, 0, 0, 0, 0, 1, 0, 0,
 ];
 
 // What a test has a log do: append a begin, a commit or a line of 32,700 letters, or force.
@@ -261,6 +290,47 @@ fn one_commit_is_one_frame(rt: HostRuntime) -> Result<(), Fail> {
     Ok(())
 }
 
+// Appends a begin and an action of a page, and answers their numbers.
+fn append_action(trial: &mut Trial) -> Result<[Option<Lsn>; 3], LogFault> {
+    let begin = trial.append(&BEGIN)?;
+    let change = trial.append(&CHANGE)?;
+    let end = trial.append(&ACTION_END)?;
+    Ok([begin, change, end])
+}
+
+// Whether each record of the action is read at its number.
+fn reads_the_action(trial: &mut Trial) -> Result<bool, LogFault> {
+    let change = trial.reads(26, &ACTION[..36])?;
+    let end = trial.reads(62, &ACTION[36..])?;
+    Ok(change && end)
+}
+
+// Whether an action of a page is read where it waits, and where it is a frame, and is found again.
+fn holds_an_action(alloc: Global) -> Result<bool, LogFault> {
+    let mut trial = Trial::new(alloc)?;
+    let numbers = append_action(&mut trial)?;
+    let waiting = reads_the_action(&mut trial)?;
+    trial.step(Step::Force)?;
+    let mut again = trial.again()?;
+    let durable = reads_the_action(&mut again)?;
+    Ok(
+        numbers == [Some(5), Some(26), Some(62)]
+            && waiting
+            && durable
+            && again.tail() == 94
+            && again.log0().starts_with(&[1, 89, 0, 0, 0, 1, 21])
+            && again
+                .log0()
+                .ends_with(&[5, 0, 0, 0, 0, 0, 0, 0, 1, 0, 0, 0]),
+    )
+}
+
+#[test]
+fn an_action_of_a_page_is_held(rt: HostRuntime) -> Result<(), Fail> {
+    assert!(rt; holds_an_action(rt.alloc())?);
+    Ok(())
+}
+
 // Appends a begin and forces: its number, and the log's end then.
 fn begun(trial: &mut Trial) -> Result<(Option<Lsn>, Lsn), LogFault> {
     let lsn = trial.step(Step::Begin)?;
@@ -384,10 +454,11 @@ fn a_walk_goes_through_the_buffer(rt: HostRuntime) -> Result<(), Fail> {
 }
 
 // The line's frame, which begins at offset 47, with another byte at an offset: each time it isn't formed.
-const SPOILT: [[u8; 2]; 7] = [
+const SPOILT: [[u8; 2]; 8] = [
     // no length
     [48, 0],
-    // a kind that isn't, and a record's length that its kind hasn't or that leads behind the body
+    // a kind that isn't, or whose fields these aren't, and a record's length that its kind hasn't or that leads behind the body
+    [52, 14],
     [52, 2],
     [52, 10],
     [53, 20],

@@ -11,7 +11,7 @@ use Rattle.sg_words.specs.Requests.{Asked}
 use Rattle.sg_words.specs.Requests.Asked.{Of}
 use Rattle.sg_words.specs.Requests.Request.{Commit}
 use Rattle.sg_words.specs.Answers.{Answer}
-use Rattle.sg_log.proofs.Holding.{holds_seen}
+use Rattle.sg_line_log.proofs.Holding.{holds_seen}
 use Rattle.sg_run.specs.Run.{Run, start, Lines, objects_after, committed_objects}
 use Rattle.sg_journal.specs.declared.opening.OpenRefused as code_refused
 use Rattle.sg_journal.specs.declared.opening.OpenRefused.TheVariants as refusals

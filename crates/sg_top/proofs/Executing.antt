@@ -22,8 +22,8 @@ use Rattle.sg_words.specs.Answers.{Answer, text_of, text_of_all}
 use Rattle.sg_words.specs.Answers.Answer.{Silent, BadSyntax, Stopped, NoTransaction, IsLive, TooManyLive, Busy, LocksFull, Refused, LogEnd, Memory, Disk, Said}
 use Rattle.sg_record.specs.Plain.{Record}
 use Rattle.sg_record.specs.Plain.Record.{Commit as CommitRecord}
-use Rattle.sg_log.specs.Frames.{LOG_END}
-use Rattle.sg_log.specs.Held.{Tail, tail_of, place_of, end_of, has_room}
+use Rattle.sg_line_log.specs.Frames.{LOG_END}
+use Rattle.sg_line_log.specs.Held.{Tail, tail_of, place_of, end_of, has_room}
 use Rattle.sg_run.specs.Answer.{answer_of, IsSaid}
 use Rattle.sg_run.specs.Run.{Event, Run, MOST_LIVE, MOST_HELD, live_named, live_objects, objects_after, began, aborted, did, with_locks, only_locks, lacking, holder_of, held_with, stop, stop_at, broken, full, turn, turn_request, turn_begin, turn_commit, turn_abort, turn_op, turn_held, IsLogged, WouldReply, Turns, LineBy, IsCaused}
 use Rattle.sg_journal.specs.Live.{Opened, opened_named}

@@ -15,7 +15,7 @@ use Rattle.sg_words.specs.Requests.Asked.{Blank, Wrong}
 use Rattle.sg_words.specs.Answers.{Answer, text_of}
 use Rattle.sg_words.proofs.Steps.{seam, kept}
 use Rattle.sg_words.proofs.Seams.{behind_nothing}
-use Rattle.sg_log.specs.Held.{Tail}
+use Rattle.sg_line_log.specs.Held.{Tail}
 use Rattle.sg_run.specs.Run.{Run}
 use Rattle.sg_journal.specs.Store.{Core}
 use Rattle.sg_journal.specs.Goes.{Goes, Grows}

@@ -11,7 +11,7 @@ use Rattle.sg_words.specs.Requests.Asked.{Of}
 use Rattle.sg_words.specs.Requests.Request.{Commit}
 use Rattle.sg_words.specs.Answers.{Answer, text_of, text_of_all}
 use Rattle.sg_words.specs.Answers.Answer.{Said}
-use Rattle.sg_log.specs.Frames.{LOG_END}
+use Rattle.sg_line_log.specs.Frames.{LOG_END}
 use Rattle.sg_run.specs.Run.{Run, Lines, AreCaused}
 use Rattle.sg_journal.specs.Stands.{StandsForFirst}
 use Rattle.sg_journal.specs.Store.{Core, Shows}

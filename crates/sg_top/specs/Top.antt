@@ -11,7 +11,7 @@ use Rattle.sg_words.specs.Parse.{number_of}
 use Rattle.sg_words.specs.Requests.Asked.{Of}
 use Rattle.sg_words.specs.Requests.Request.{Commit}
 use Rattle.sg_words.specs.Answers.{Answer}
-use Rattle.sg_log.specs.Frames.{Numbered, HasRecords}
+use Rattle.sg_line_log.specs.Frames.{Numbered, HasRecords}
 use Rattle.sg_run.specs.Run.{Run, start, Lines, AreCaused, committed_objects}
 use Rattle.sg_run.specs.Serial.{IsSerial}
 use Rattle.sg_journal.specs.declared.opening.OpenRefused as code_refused

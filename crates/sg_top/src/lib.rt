@@ -2,7 +2,7 @@
 //! the words takes a script from a source, executes it line by line over a disk and hands the
 //! replies to a sink. Where the words say so, the disk stops after a number of calls.
 //!
-//! It stands on `sg_journal`, which keeps up to 64 live transactions over `sg_log` and `sg_disk`, on
+//! It stands on `sg_journal`, which keeps up to 64 live transactions over `sg_line_log` and `sg_disk`, on
 //! `sg_run`, which says what a line of a run of transactions is answered, on `sg_words`, which reads and
 //! writes their text, and on `sg_ops` and `sg_model`, which say what an operation does to the objects. It
 //! promises that each reply follows from the lines so far, that committed transactions got the replies

@@ -1,5 +1,5 @@
 use Rattle.std.proofs.Common.{◌≡◌, ℕ, ◌-◌, take, Option, refl, sym, subst, arith}
-use Rattle.sg_log.proofs.Runs.{reads_more}
+use Rattle.sg_line_log.proofs.Runs.{reads_more}
 use Rattle.sg_journal.specs.Found.{IsNotFound}
 use Rattle.sg_journal.specs.Opening.{IsQuietFor}
 use Rattle.sg_journal.specs.Shown.{refusal_at}

@@ -1,5 +1,5 @@
 use Rattle.std.proofs.Common.{◌-◌}
-use Rattle.sg_log.specs.Frames.{LOG_END}
+use Rattle.sg_line_log.specs.Frames.{LOG_END}
 use Rattle.sg_journal.proofs.Walking.{IsWalking}
 use Rattle.sg_journal.proofs.replay.find_all.Given as goal
 

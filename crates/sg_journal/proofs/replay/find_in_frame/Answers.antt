@@ -1,7 +1,7 @@
 use Rattle.std.proofs.Common.{◌+◌, None, Some, refl, sym, subst, arith}
 use Rattle.sg_record.specs.Plain.{shown}
 use Rattle.sg_record.proofs.PlainLaws.{spelled-long}
-use Rattle.sg_log.specs.Frames.{Numbered}
+use Rattle.sg_line_log.specs.Frames.{Numbered}
 use Rattle.sg_journal.specs.Found.{IsRefusedIn}
 use Rattle.sg_journal.specs.declared.opening.OpenRefused as code_refused
 use Rattle.sg_journal.proofs.Finding.{so_far_none, so_far_all, so_far_read, so_far_stray, so_far_more, finds_one, reads_rest, reads_within}

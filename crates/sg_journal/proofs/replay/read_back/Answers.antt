@@ -1,8 +1,8 @@
 use Rattle.std.proofs.Common.{refl, sym, ap, ◌∙◌, subst}
 use Rattle.sg_ops.specs.Table.{table_of}
-use Rattle.sg_log.specs.Held.{Tail}
-use Rattle.sg_log.specs.Reads.{OnlyReads}
-use Rattle.sg_log.proofs.Runs.{reads_none, reads_more}
+use Rattle.sg_line_log.specs.Held.{Tail}
+use Rattle.sg_line_log.specs.Reads.{OnlyReads}
+use Rattle.sg_line_log.proofs.Runs.{reads_none, reads_more}
 use Rattle.sg_journal.specs.Opening.{IsRefusedFor, IsQuietFor}
 use Rattle.sg_journal.specs.declared.opening.OpenRefused as code_refused
 use Rattle.sg_journal.proofs.Heeding.{quiet_at, quiet_later, quiet_all}

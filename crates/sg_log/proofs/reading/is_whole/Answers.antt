@@ -1,6 +1,6 @@
 use Rattle.std.proofs.Common.{arith, refl}
-use Rattle.sg_record.proofs.PlainLaws.{spelled-long}
-use Rattle.sg_record.specs.Plain.{shown}
+use Rattle.sg_log.proofs.Texts.{spelled-long}
+use Rattle.sg_record.specs.Shown.{shown}
 use Rattle.sg_log.proofs.Whole.{from_front, one_further, next_begins, end_whole}
 use Rattle.sg_log.proofs.reading.is_whole.Goals as goal
 

@@ -1,6 +1,6 @@
 use Rattle.std.proofs.Common.{◌≡◌, ◌≤◌, ◌+◌, ◌-◌, ◌++◌, ◌∙◌, length, drop, refl, arith, length-take}
 use Rattle.sg_disk.specs.Disk.{window}
-use Rattle.sg_record.specs.Plain.{spelled}
+use Rattle.sg_record.specs.Records.{spelled}
 use Rattle.sg_log.proofs.Runs.{reads_one}
 use Rattle.sg_log.proofs.Windows.{longer_texts, found_there, read_there, text_there}
 use Rattle.std.proofs.lemmas.List.{length-take-le}

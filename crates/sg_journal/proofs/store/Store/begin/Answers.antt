@@ -2,7 +2,7 @@ use Rattle.std.proofs.Common.{◌<◌, ◌≤◌, leb-true, List, length, refl, 
 use Rattle.std.proofs.lemmas.Bool.Decides.{nat_tests}
 use Rattle.sg_record.specs.Plain.{IsRecord}
 use Rattle.sg_record.specs.Plain.Record.{Begin as BeginRecord}
-use Rattle.sg_log.specs.Held.{Tail, tail_of, end_of}
+use Rattle.sg_line_log.specs.Held.{Tail, tail_of, end_of}
 use Rattle.sg_journal.specs.Live.{Opened}
 use Rattle.sg_journal.specs.Seen.{core_of}
 use Rattle.sg_journal.specs.Shown.{opened_of, all_opened, undo_of}

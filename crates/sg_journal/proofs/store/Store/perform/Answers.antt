@@ -9,7 +9,7 @@ use Rattle.sg_model.specs.Touches.{Resource}
 use Rattle.sg_record.specs.Plain.Record.{Line as LineRecord}
 use Rattle.sg_words.specs.declared.answer.Answer as code_answer
 use Rattle.sg_words.specs.Answered.{shown_answer}
-use Rattle.sg_log.specs.Held.{Tail, tail_of, place_of}
+use Rattle.sg_line_log.specs.Held.{Tail, tail_of, place_of}
 use Rattle.sg_journal.specs.Live.{Opened, Undo, with_last}
 use Rattle.sg_journal.specs.Shown.{opened_of, undo_of, answer_at}
 use Rattle.sg_journal.specs.Store.{Core}

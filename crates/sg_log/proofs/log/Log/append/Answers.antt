@@ -1,5 +1,5 @@
 use Rattle.std.proofs.Common.{[], ◌++◌, ◌≤◌, ◌+◌, ◌^◌, length, subst, sym, ap, ◌∙◌, arith}
-use Rattle.sg_record.specs.Plain.{shown}
+use Rattle.sg_record.specs.Shown.{shown}
 use Rattle.sg_log.specs.Held.{Tail, Holds, tail_of, end_of, forced, buffered, durable_after, waiting_after}
 use Rattle.sg_log.proofs.Holding.{spelled_most, no_room, no_call_moments, tail_room, tail_no_room, place_forced, forced_empty, holds_room, holds_no_room}
 use Rattle.sg_log.proofs.log.Log.append.Goals as goal
@@ -50,3 +50,6 @@ returns-clause-holds g c ds ps told h =
     let mid : Holds (g.D.Disk.view c.force.new.disk) (forced log) (ds ++ ps) [] = subst (λ (t : Tail). Holds (g.D.Disk.view c.force.new.disk) t (ds ++ ps) []) c.in_ok-force.ensures.log (c.in_ok-force.ensures.holds ds ps told h) in
     subst (λ (t : Tail). Holds (g.D.Disk.view c.force.new.disk) t (durable_after log r ds ps) (waiting_after log r ps)) (sym (c.buffer-2.ensures.log ∙ ap (λ (t : Tail). buffered t r) c.in_ok-force.ensures.log))
     (holds_no_room (g.D.Disk.view c.force.new.disk) log ds ps r mid c.requires is within)
+
+pub size-requires : goal.size-requires
+size-requires g c = omega (arith, spelled_most (shown c.args.r.now) c.requires)

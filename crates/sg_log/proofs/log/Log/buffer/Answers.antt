@@ -1,8 +1,8 @@
 use Rattle.std.proofs.Common.{◌≡◌, ◌≤◌, ◌+◌, ◌-◌, ◌++◌, ℕ, List, length, take, drop, sym, ap, ◌∙◌, subst, arith}
 use Rattle.std.proofs.lemmas.List.{with_items_is}
 use borrow.Rule.Slice.PartMut.{put_mid}
-use Rattle.sg_record.specs.Plain.{spelled}
-use Rattle.sg_record.specs.Plain.{shown}
+use Rattle.sg_record.specs.Records.{spelled}
+use Rattle.sg_record.specs.Shown.{shown}
 use Rattle.sg_log.specs.Held.{Tail, buffered}
 use Rattle.sg_log.proofs.Holding.{size_stays, buffer_grows, buffer_size}
 use Rattle.sg_log.proofs.log.Log.buffer.Goals as goal

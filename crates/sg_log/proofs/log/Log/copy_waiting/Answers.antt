@@ -1,6 +1,6 @@
 use Rattle.std.proofs.Common.{◌≡◌, ◌≤◌, ◌++◌, length, drop, sym, ◌∙◌, arith}
 use Rattle.std.proofs.lemmas.List.{length-take-le}
-use Rattle.sg_record.specs.Plain.{spelled}
+use Rattle.sg_record.specs.Records.{spelled}
 use Rattle.sg_log.proofs.Waiting.{waiting_front, waiting_before, waiting_text, text_within, text_most, copied_text}
 use Rattle.sg_log.proofs.log.Log.copy_waiting.Goals as goal
 

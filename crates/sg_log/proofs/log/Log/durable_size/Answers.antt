@@ -1,6 +1,6 @@
 use Rattle.std.proofs.Common.{◌≡◌, ◌≤◌, ◌+◌, length, sym, subst, arith}
-use Rattle.sg_record.specs.Plain.{spelled}
-use Rattle.sg_record.proofs.PlainLaws.{spelled-long}
+use Rattle.sg_record.specs.Records.{spelled}
+use Rattle.sg_log.proofs.Texts.{spelled-long}
 use Rattle.sg_log.specs.Held.{Tail}
 use Rattle.sg_log.specs.Places.{IsDurable}
 use Rattle.sg_log.proofs.log.Log.durable_size.Goals as goal

@@ -1,5 +1,5 @@
 use Rattle.std.proofs.Common.{⊎_elim, ◌≡◌, ◌≤◌, ◌<◌, ◌+◌, ℕ, [], length, refl, subst, sym, ap, ◌∙◌, arith}
-use Rattle.sg_record.specs.Plain.{spelled}
+use Rattle.sg_record.specs.Records.{spelled}
 use Rattle.sg_log.specs.Held.{tail_of}
 use Rattle.sg_log.specs.Places.{StandBehind, first_of}
 use Rattle.sg_log.proofs.Runs.{reads_more, failed_later}

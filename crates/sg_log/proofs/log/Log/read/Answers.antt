@@ -1,6 +1,6 @@
 use Rattle.std.proofs.Common.{⊎_elim, ◌≡◌, ◌≤◌, ◌<◌, ◌+◌, length, true, arith}
-use Rattle.sg_record.specs.Plain.{spelled}
-use Rattle.sg_record.proofs.PlainLaws.{spelled-long}
+use Rattle.sg_record.specs.Records.{spelled}
+use Rattle.sg_log.proofs.Texts.{spelled-long}
 use Rattle.sg_log.proofs.Standing.{there}
 use Rattle.sg_log.proofs.Waiting.{ok_no_err, waiting_front}
 use Rattle.sg_log.proofs.log.Log.read.Goals as goal

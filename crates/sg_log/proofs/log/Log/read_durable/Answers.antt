@@ -1,5 +1,5 @@
 use Rattle.std.proofs.Common.{◌≤◌, ◌+◌, length, refl, sym, subst, arith}
-use Rattle.sg_record.specs.Plain.{spelled}
+use Rattle.sg_record.specs.Records.{spelled}
 use Rattle.sg_log.specs.Held.{Tail}
 use Rattle.sg_log.specs.Places.{IsDurable}
 use Rattle.sg_log.proofs.Holding.{spelled_most}

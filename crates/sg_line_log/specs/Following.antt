@@ -2,7 +2,7 @@
 use Rattle.std.specs.Prelude.{◌≡◌, ◌<◌, ◌==◌, if◌then◌else◌, ℕ, List, [], ◌∷◌, ◌++◌}
 use Rattle.sg_record.specs.Plain.{Record, transaction_of, previous_of}
 use Rattle.sg_record.specs.Plain.Record.{Begin, Commit, Line}
-use Rattle.sg_log.specs.Frames.{Numbered}
+use Rattle.sg_line_log.specs.Frames.{Numbered}
 
 -- the number of the last of these records that is of this transaction, or the one given where none is
 abbrev pub last_or : ℕ → ℕ → List Numbered → ℕ

@@ -1,11 +1,11 @@
 use Rattle.std.proofs.Common.{◌≡◌, ◌+◌, ◌≤◌, length, drop, refl, ◌∙◌, sym, subst, arith}
 use Rattle.std.proofs.lemmas.List.{length-take-le}
-use Rattle.sg_analysis.specs.Frames.{HasBody}
+use Rattle.sg_log.specs.Formed.{HasBody}
 use Rattle.sg_log.proofs.Runs.{reads_one, reads_more}
 use Rattle.sg_log.proofs.Windows.{read_there, front_read}
-use Rattle.sg_analysis.proofs.Bodies.{body_by, unformed_length}
-use Rattle.sg_analysis.proofs.frame.read_body.Goals as goal
-use Rattle.sg_analysis.proofs.frame.read_body.Goals.{then-size-eq0-via-then-size-eq0, then-size-eq0-via-else-size-eq0+then-size-gt65536, then-size-eq0-via-else-size-eq0+else-size-gt65536+then-base-end}
+use Rattle.sg_log.proofs.Formed.{body_by, unformed_length}
+use Rattle.sg_log.proofs.reading.read_body.Goals as goal
+use Rattle.sg_log.proofs.reading.read_body.Goals.{then-size-eq0-via-then-size-eq0, then-size-eq0-via-else-size-eq0+then-size-gt65536, then-size-eq0-via-else-size-eq0+else-size-gt65536+then-base-end}
 
 pub returns-then-head-ne1-clause-reads : goal.returns-then-head-ne1-clause-reads
 returns-then-head-ne1-clause-reads g c = reads_one c.read_at.ensures.counts c.read_at.ensures.does c.read_at.ensures.unchanged

@@ -6,11 +6,11 @@ use Rattle.sg_disk.specs.Disk.{View}
 use Rattle.sg_record.specs.Plain.{Record, spelled, spelled_all, transaction_of}
 use Rattle.sg_record.specs.Plain.Record.{Begin, Commit, Line}
 use Rattle.sg_record.proofs.PlainLaws.{spelled-long}
-use Rattle.sg_log.specs.Following.{last_or, last_of, IsOwned, Follows, AreChainedBehind, AreChained}
-use Rattle.sg_log.specs.Frames.{Numbered, records_of, numbered_from, numbered_in, text_of, gate_after}
-use Rattle.sg_log.specs.Held.{Tail, Holds, tail_of}
-use Rattle.sg_log.proofs.Holding.{tail_at_gate, tail_behind, gate_moved}
-use Rattle.sg_log.proofs.Steps.{gate_later}
+use Rattle.sg_line_log.specs.Following.{last_or, last_of, IsOwned, Follows, AreChainedBehind, AreChained}
+use Rattle.sg_line_log.specs.Frames.{Numbered, records_of, numbered_from, numbered_in, text_of, gate_after}
+use Rattle.sg_line_log.specs.Held.{Tail, Holds, tail_of}
+use Rattle.sg_line_log.proofs.Holding.{tail_at_gate, tail_behind, gate_moved}
+use Rattle.sg_line_log.proofs.Steps.{gate_later}
 
 pub records_of-append : (xs ys : List Numbered) → records_of (xs ++ ys) ≡ records_of xs ++ records_of ys
 records_of-append xs ys = map-append (λ (n : Numbered). n.is) xs ys

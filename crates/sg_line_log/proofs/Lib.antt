@@ -1,0 +1,12 @@
+pub mod Attached
+pub mod Chain
+pub mod Following
+pub mod Formed
+pub mod Holding
+pub mod Runs
+pub mod Standing
+pub mod Steps
+pub mod Unique
+pub mod Whole
+pub mod Windows
+pub mod Laid

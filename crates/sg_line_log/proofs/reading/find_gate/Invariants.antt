@@ -1,0 +1,10 @@
+use Rattle.std.proofs.Common.{◌+◌, ◌-◌}
+use Rattle.sg_line_log.specs.Frames.{LOG_END}
+use Rattle.sg_line_log.proofs.Chain.{IsWalked}
+use Rattle.sg_line_log.proofs.reading.find_gate.Given as goal
+
+abbrev pub invariant-frames : goal.invariant-frames
+invariant-frames g l = IsWalked g.D.Disk.told l.area l.base l.at (g.D.Disk.view l.fn.disk) (g.D.Disk.view l.disk)
+
+abbrev pub decreases-frames : goal.decreases-frames
+decreases-frames g l = LOG_END - (l.base + l.at)

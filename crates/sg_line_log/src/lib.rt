@@ -1,0 +1,18 @@
+//! The plain store's log, whose records are of three kinds: records are appended to a buffer in memory,
+//! and a force makes them durable as a frame behind a gate.
+//!
+//! It is `sg_log` as that was over these kinds alone, with the calls that the plain store makes, and
+//! goes with the plain store. It stands on `sg_disk` for the area that the frames stand in, and on
+//! `sg_record` for the records' bytes. It promises that the durable records are those appended, in
+//! order, and that each has the number that its append told: that of its first byte in the log. A force
+//! that succeeds makes all of them durable, and a crash at any moment leaves those that were durable
+//! before the call or all, with no record torn and no other area touched.
+#![tactic(auto)]
+
+mod fault;
+mod frame;
+mod log;
+mod reading;
+
+pub use fault::LogFault;
+pub use log::Log;
