@@ -3,7 +3,7 @@
 
 An edit changes one line of a crate, which the edit has as it stands, so a change of that line leaves the edit without a place. The gate
 tells of such an edit and passes it. Here it fails. docs/PROOF.md lists the bodies that have to be refused: each row names the crate and
-the edit that shows it (`sg_log/frame_left_closed`), or says which test does, or that there is none. A line for each thing that is wrong says
+the edit that shows it (`sg_log/gate_left_closed`), or says which test does, or that there is none. A line for each thing that is wrong says
 what to do. The status is 0 where none is.
 
     checks/edits.py [FOLDER]      the repository in FOLDER, and without it this one
