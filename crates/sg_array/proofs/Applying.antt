@@ -1,5 +1,5 @@
 -- An array of which one item is changed by a registered operation, or changed back.
-use Rattle.std.proofs.Common.{◌≡◌, ℕ, ◌/◌, List, Option, Some, IsSome, IfSome, true, false, refl, sym, ap, ◌∙◌, subst, set, slice_get}
+use Rattle.std.proofs.Common.{◌≡◌, ℕ, ◌/◌, ◌≤◌, List, length, Option, Some, IsSome, IfSome, true, false, refl, sym, ap, ◌∙◌, subst, set, slice_get}
 use Rattle.sg_base.specs.Bytes.{IsBytes}
 use Rattle.sg_base.specs.Op.Op.{Item, ItemBack}
 use Rattle.sg_base.specs.Page.{cell_in}
@@ -13,7 +13,7 @@ use Rattle.sg_space.specs.Units.{HasAt, IsChanged}
 use Rattle.sg_space.specs.View.{Space, View}
 use Rattle.sg_space.proofs.Known.{same_some}
 use Rattle.sg_array.specs.Array.{Array, IsArray, IsBuilt, IsItem, per_page}
-use Rattle.sg_array.specs.Calls.{Turns, MayUse, CanApply, IsApplied, CanApplyBack, IsAppliedBack}
+use Rattle.sg_array.specs.Calls.{Turns, CanApply, IsApplied, CanApplyBack, IsAppliedBack}
 use Rattle.sg_array.specs.Steps.{IsPlace}
 use Rattle.sg_array.proofs.Places.{item_cell}
 use Rattle.sg_array.proofs.Setting.{set_page, item_turns}
@@ -27,8 +27,8 @@ no e = cc
 cell_is : {pages : ℕ → Option Sheet} {root leaf slot size i : ℕ} {a : Array} (item : List ℕ) (h : IsBuilt pages root a) (at : IsPlace i leaf slot size a) → slice_get a.items i ≡ Some item → cell_in ((h.leaf (i / per_page a.size) leaf at.leaf_is).what).slots slot ≡ Some item
 cell_is item h at is = item_cell h at ∙ is
 
-pub apply_possible : (t : Table) (v : View) {root leaf slot size i code : ℕ} {arg : List ℕ} {a : Array} → IsBuilt v.space.pages.at root a → IsPlace i leaf slot size a → CanApply t i code arg a → MayUse t v arg → HasAt v.space.pages.at leaf (IsPossible t v leaf (Item slot code arg))
-apply_possible t v {leaf = leaf} {slot = slot} {i = i} {code = code} {arg = arg} {a = a} h at can may =
+pub apply_possible : (t : Table) (v : View) {root leaf slot size i code : ℕ} {arg : List ℕ} {a : Array} → IsBuilt v.space.pages.at root a → IsPlace i leaf slot size a → CanApply t i code arg a → length arg ≤ 256 → HasAt v.space.pages.at leaf (IsPossible t v leaf (Item slot code arg))
+apply_possible t v {leaf = leaf} {slot = slot} {i = i} {code = code} {arg = arg} {a = a} h at can short =
     let page = h.leaf (i / per_page a.size) leaf at.leaf_is in
     record {
       what = page.what;
@@ -37,8 +37,7 @@ apply_possible t v {leaf = leaf} {slot = slot} {i = i} {code = code} {arg = arg}
         plain = refl;
         fits = subst (λ (o : Option Sheet). IsSome o) (sym (item_step t page.what slot code arg can.item (cell_is can.item h at can.is) can.accepted)) refl;
         done = tt;
-        short = may.short;
-        means = λ u. may.means;
+        short = short;
         place = λ u. absurd (no u);
       };
     }
@@ -63,8 +62,8 @@ is_applied {t} {i} {code} {arg} {a} can = record {
   same = record { size = refl; peak = refl; index = refl; leaves = refl };
 }
 
-pub back_possible : (t : Table) (v : View) {root leaf slot size i code : ℕ} {arg : List ℕ} {a : Array} → IsBuilt v.space.pages.at root a → IsPlace i leaf slot size a → CanApplyBack t i code arg a → MayUse t v arg → HasAt v.space.pages.at leaf (IsPossible t v leaf (ItemBack slot code arg))
-back_possible t v {leaf = leaf} {slot = slot} {i = i} {code = code} {arg = arg} {a = a} h at can may =
+pub back_possible : (t : Table) (v : View) {root leaf slot size i code : ℕ} {arg : List ℕ} {a : Array} → IsBuilt v.space.pages.at root a → IsPlace i leaf slot size a → CanApplyBack t i code arg a → length arg ≤ 256 → HasAt v.space.pages.at leaf (IsPossible t v leaf (ItemBack slot code arg))
+back_possible t v {leaf = leaf} {slot = slot} {i = i} {code = code} {arg = arg} {a = a} h at can short =
     let page = h.leaf (i / per_page a.size) leaf at.leaf_is in
     let cell = cell_is can.item h at can.is in
     record {
@@ -74,8 +73,7 @@ back_possible t v {leaf = leaf} {slot = slot} {i = i} {code = code} {arg = arg} 
         plain = refl;
         fits = subst (λ (o : Option Sheet). IsSome o) (sym (item_back_step t page.what slot code arg can.item cell (known_if (record_at t code) arg can.left.item can.left.accepted))) refl;
         done = subst (λ (o : Option (List ℕ)). IfSome o (IsLeft (record_at t code) arg)) (sym cell) can.left;
-        short = may.short;
-        means = λ u. may.means;
+        short = short;
         place = λ u. absurd (no u);
       };
     }

@@ -27,7 +27,6 @@ frees_none v Is list = record {
     told = λ t. t;
     pages = λ t a h. freed_none (list a) refl;
     bands = λ t. refl;
-    table = λ t u h. h;
     may_have = λ t a h p n no m. m;
   };
 }
@@ -43,7 +42,6 @@ frees_on {u} {v} {w} {x} {Is} {list} j n i shows k back later back' later' f is 
         let now : AreFreed u.space.pages w.space.pages (list a) j = subst (λ (s : Space). AreFreed u.space.pages s.pages (list a) j) (sym (k.same (shows t))) (i.frees.pages t a h) in
         one_freed now (is t a h) (f.pages (k.keeps.told (i.frees.told t)));
     bands = λ t. f.bands (k.keeps.told (i.frees.told t)) ∙ (ap (λ (s : Space). s.bands) (k.same (shows t)) ∙ i.frees.bands t);
-    table = λ t y h. f.table y (k.keeps.table y (i.frees.table t y h));
     may_have = λ t a h p m no had. f.may_have p m (λ (same : p ≡ n). no (j, is t a h ∙ ap Some (sym same))) (k.keeps.may_have p m (i.frees.may_have t a h p m no had));
   };
 }
@@ -54,7 +52,6 @@ frees_all {v} {w} {Is} {list} done i so = record {
   told = i.frees.told;
   pages = λ t a h. subst (λ (n : ℕ). AreFreed v.space.pages w.space.pages (list a) n) (so a h) (i.frees.pages t a h);
   bands = i.frees.bands;
-  table = i.frees.table;
   may_have = i.frees.may_have;
 }
 

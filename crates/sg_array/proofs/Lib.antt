@@ -8,6 +8,7 @@ pub mod Growth
 pub mod Pushes
 pub mod Freed
 pub mod Wanting
+pub mod Bounds
 pub mod Applying
 pub mod Making
 pub mod Sides

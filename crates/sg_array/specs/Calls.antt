@@ -33,12 +33,12 @@ pub record DidIf (v w : View) (root : ℕ) (Can : Array → Type 0) (Is : Array 
 -- what a caller may rely on after a call that leaves fewer bytes in some of these pages
 pub record KeepsBut (v w : View) (own : ℕ → Type 0) : Type 0 where
   pub told : v.Told → w.Told
-  pub table : (t : Table) → v.IsTable t → w.IsTable t
   pub may_take : v.MayTake → w.MayTake
   pub may_have : (page slots : ℕ) → ¬ own page → v.MayHave page slots → w.MayHave page slots
 
 -- the same, of a call that leaves fewer bytes in pages of the array
 pub record DidBut (v w : View) (root : ℕ) (Can : Array → Type 0) (Is : Array → Array → Type 0) : Type 0 where
+  pub told : v.Told → w.Told
   pub keeps : v.Told → (a : Array) → IsArray v.space.pages.at root a → KeepsBut v w (Owns root a)
   pub turns : TurnsIf v w root Can Is
 
@@ -108,11 +108,6 @@ pub record IsPushed (w : View) (root : ℕ) (item : List ℕ) (a a' : Array) : T
   pub peak : a'.peak ≡ max a.peak (length a.items + 1)
   pub roomy : IsRoomy w root a'
 
--- a registered operation may be done or undone with this argument: it means what it meant before
-pub record MayUse (t : Table) (v : View) (arg : List ℕ) : Type 0 where
-  pub short : length arg ≤ 256
-  pub means : v.IsTable t
-
 -- the operation accepts the item at this index with this argument
 pub record CanApply (t : Table) (i code : ℕ) (arg : List ℕ) (a : Array) : Type 0 where
   pub item : List ℕ
@@ -144,5 +139,4 @@ pub record IsGone (old new : Space) (root : ℕ) (a : Array) : Type 0 where
 pub record Gone (v w : View) (root : ℕ) : Type 0 where
   pub told : v.Told → w.Told
   pub gone : v.Told → (a : Array) → IsArray v.space.pages.at root a → IsGone v.space w.space root a
-  pub table : v.Told → (t : Table) → v.IsTable t → w.IsTable t
   pub may_have : v.Told → (a : Array) → IsArray v.space.pages.at root a → (page slots : ℕ) → ¬ Owns root a page → v.MayHave page slots → w.MayHave page slots

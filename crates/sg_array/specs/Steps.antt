@@ -4,7 +4,6 @@ use Rattle.byteorder.specs.Endian.{little_bytes}
 use Rattle.sg_base.specs.Page.{bytes_of}
 use Rattle.sg_base.specs.Sheet.{Sheet}
 use Rattle.sg_base.specs.Slots.{IsFree, with_cell}
-use Rattle.sg_ops.specs.Table.{Table}
 use Rattle.sg_space.specs.Owned.{Grows, IsOneOf, AreFreed}
 use Rattle.sg_space.specs.Pages.{empty_sheet}
 use Rattle.sg_space.specs.Units.{Units, HasAt}
@@ -192,5 +191,4 @@ pub record Frees (v w : View) (Is : Array → Type 0) (list : Array → List ℕ
   pub told : v.Told → w.Told
   pub pages : v.Told → (a : Array) → Is a → AreFreed v.space.pages w.space.pages (list a) (done a)
   pub bands : v.Told → w.space.bands ≡ v.space.bands
-  pub table : v.Told → (t : Table) → v.IsTable t → w.IsTable t
   pub may_have : v.Told → (a : Array) → Is a → (page slots : ℕ) → ¬ IsOneOf (list a) page → v.MayHave page slots → w.MayHave page slots

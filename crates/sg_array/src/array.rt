@@ -1,6 +1,7 @@
 ghost use Rattle.std.specs.Prelude.{◌≡◌, ◌-◌, ◌<◌, ◌≤◌, length, take, drop, slice_get, Some, IfOk, OnOk, ⊤};
 ghost use Rattle.sg_array.specs.Array.{page_count, pages_for};
 ghost use Rattle.sg_array.specs.Calls.{HasArray, IfArray, DidIf, DidBut, Made, CanGet, CanSet, IsSet, CanPop, IsPopped, CanPush, IsPushed};
+ghost use Rattle.sg_ops.specs.Table.{Table, table_of};
 ghost use Rattle.sg_space.specs.Pages.{CanTake};
 ghost use Rattle.sg_space.specs.View.{Counts, OnlyReads};
 
@@ -15,11 +16,14 @@ use sg_space::{PageSpace, SpaceFault, read_cell, take_page_with};
 
 /// Makes an array without items, which will have `size` bytes each, in a page that is taken for its root.
 pub fn make<P: PageSpace>(space: &mut P, ops: &Ops, size: u16) -> Result<PageNo, SpaceFault>
+    requires means { P.means space.old (table_of record_meaning range_meaning ops.now) }
     requires some { 1 ≤ size }
     requires small { size ≤ 256 }
     requires free { CanTake (P.view space.old) (P.view space.old).space.pages }
     ensures counts { Counts (P.view space.old) (P.view space.new) result }
     ensures did { IfOk result (λ root. Made (P.view space.old) (P.view space.new) root.0 size) }
+    ensures later { P.later (table_of record_meaning range_meaning ops.now) space.old space.new }
+    ensures means { P.means space.new (table_of record_meaning range_meaning ops.now) }
 {
     let root = take_page_with(space, ops, ROOT_KIND, &spell_root(size, 0, 0))?;
     Ok(root)
@@ -31,6 +35,9 @@ pub fn size<P: PageSpace>(space: &mut P, root: PageNo) -> Result<u16, SpaceFault
     ensures counts { Counts (P.view space.old) (P.view space.new) result }
     ensures kept { OnOk result (OnlyReads (P.view space.old) (P.view space.new)) }
     ensures read { IfOk result (λ n. IfArray (P.view space.old) root.0 (λ a. n ≡ a.size)) }
+    ensures within { IfOk result (λ n. n ≤ 256) }
+    ensures later { (t : Table) → P.later t space.old space.new }
+    ensures means { (t : Table) → P.means space.old t → P.means space.new t }
 {
     let found = read_root(space, root)?;
     Ok(found.size)
@@ -42,6 +49,8 @@ pub fn len<P: PageSpace>(space: &mut P, root: PageNo) -> Result<u32, SpaceFault>
     ensures counts { Counts (P.view space.old) (P.view space.new) result }
     ensures kept { OnOk result (OnlyReads (P.view space.old) (P.view space.new)) }
     ensures read { IfOk result (λ n. IfArray (P.view space.old) root.0 (λ a. n ≡ length a.items)) }
+    ensures later { (t : Table) → P.later t space.old space.new }
+    ensures means { (t : Table) → P.means space.old t → P.means space.new t }
 {
     let found = read_root(space, root)?;
     Ok(found.count)
@@ -55,6 +64,8 @@ pub fn pages<P: PageSpace>(space: &mut P, root: PageNo) -> Result<u32, SpaceFaul
     ensures kept { OnOk result (OnlyReads (P.view space.old) (P.view space.new)) }
     ensures read { IfOk result (λ n. IfArray (P.view space.old) root.0 (λ a. n ≡ page_count a)) }
     ensures exact { IfOk result (λ n. IfArray (P.view space.old) root.0 (λ a. n ≡ pages_for a.size a.peak)) }
+    ensures later { (t : Table) → P.later t space.old space.new }
+    ensures means { (t : Table) → P.means space.old t → P.means space.new t }
 {
     let found = read_root(space, root)?;
     let wanted = wanted_pages(found);
@@ -75,6 +86,8 @@ pub fn get<P: PageSpace>(
         (λ a. slice_get a.items i ≡ Some (take a.size into.new))) }
     ensures rest { OnOk result (IfArray (P.view space.old) root.0
         (λ a. drop a.size into.new ≡ drop a.size into.old)) }
+    ensures later { (t : Table) → P.later t space.old space.new }
+    ensures means { (t : Table) → P.means space.old t → P.means space.new t }
 {
     let place = place_of(space, root, i)?;
     let size = place.size as usize;
@@ -93,11 +106,14 @@ pub fn set<P: PageSpace>(
     i: u32,
     item: &[u8],
 ) -> Result<(), SpaceFault>
-    requires { HasArray (P.view space.old) root.0 (CanSet i (length item.now)) }
+    requires means { P.means space.old (table_of record_meaning range_meaning ops.now) }
+    requires can { HasArray (P.view space.old) root.0 (CanSet i (length item.now)) }
     ensures counts { Counts (P.view space.old) (P.view space.new) result }
     ensures did { OnOk result (DidIf (P.view space.old) (P.view space.new) root.0
         (CanSet i (length item.now)) (IsSet i item.now)) }
     ensures within { OnOk result (IfArray (P.view space.old) root.0 (CanSet i (length item.now))) }
+    ensures later { P.later (table_of record_meaning range_meaning ops.now) space.old space.new }
+    ensures means { P.means space.new (table_of record_meaning range_meaning ops.now) }
 {
     let place = find_item(space, root, i)?;
     if item.len() != place.size as usize {
@@ -117,7 +133,8 @@ pub fn pop<P: PageSpace>(
     root: PageNo,
     into: &mut [u8],
 ) -> Result<(), SpaceFault>
-    requires { HasArray (P.view space.old) root.0 (CanPop (length into.old)) }
+    requires means { P.means space.old (table_of record_meaning range_meaning ops.now) }
+    requires can { HasArray (P.view space.old) root.0 (CanPop (length into.old)) }
     ensures counts { Counts (P.view space.old) (P.view space.new) result }
     ensures did { OnOk result (DidBut (P.view space.old) (P.view space.new) root.0
         (CanPop (length into.old)) IsPopped) }
@@ -126,6 +143,8 @@ pub fn pop<P: PageSpace>(
     ensures rest { OnOk result (IfArray (P.view space.old) root.0
         (λ a. drop a.size into.new ≡ drop a.size into.old)) }
     ensures within { OnOk result (IfArray (P.view space.old) root.0 (CanPop (length into.old))) }
+    ensures later { P.later (table_of record_meaning range_meaning ops.now) space.old space.new }
+    ensures means { P.means space.new (table_of record_meaning range_meaning ops.now) }
 {
     let last = last_of(space, root)?;
     let place = last.place;
@@ -145,7 +164,8 @@ pub fn push<P: PageSpace>(
     root: PageNo,
     item: &[u8],
 ) -> Result<u32, SpaceFault>
-    requires { HasArray (P.view space.old) root.0 (CanPush (P.view space.old) root.0 (length item.now)) }
+    requires means { P.means space.old (table_of record_meaning range_meaning ops.now) }
+    requires can { HasArray (P.view space.old) root.0 (CanPush (P.view space.old) root.0 (length item.now)) }
     ensures counts { Counts (P.view space.old) (P.view space.new) result }
     ensures did { OnOk result (DidIf (P.view space.old) (P.view space.new) root.0
         (CanPush (P.view space.old) root.0 (length item.now))
@@ -153,6 +173,8 @@ pub fn push<P: PageSpace>(
     ensures index { IfOk result (λ i. IfArray (P.view space.old) root.0 (λ a. i ≡ length a.items)) }
     ensures within { OnOk result (IfArray (P.view space.old) root.0
         (λ a. (length item.now ≡ a.size) × (length a.items < 1048576))) }
+    ensures later { P.later (table_of record_meaning range_meaning ops.now) space.old space.new }
+    ensures means { P.means space.new (table_of record_meaning range_meaning ops.now) }
 {
     let found = read_root(space, root)?;
     let count = found.count;

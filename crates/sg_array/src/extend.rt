@@ -3,6 +3,7 @@ ghost use Rattle.std.specs.Prelude.{◌≡◌, ◌≢◌, ◌/◌, ◌%◌, ◌<
 ghost use Rattle.sg_array.specs.Array.{per_page};
 ghost use Rattle.sg_array.specs.Calls.{HasArray};
 ghost use Rattle.sg_array.specs.Steps.{MakesIndex, MakesRoom, CanGrow, IsNext};
+ghost use Rattle.sg_ops.specs.Table.{Table, table_of};
 ghost use Rattle.sg_space.specs.View.{Counts};
 
 use crate::grow::link_new;
@@ -18,6 +19,8 @@ fn old_index<P: PageSpace>(space: &mut P, root: PageNo, d: u32) -> Result<PageNo
     requires there { HasArray (P.view space.old) root.0 (CanGrow (P.view space.old) root.0 d) }
     ensures counts { Counts (P.view space.old) (P.view space.new) result }
     ensures did { IfOk result (λ q. MakesIndex (P.view space.old) (P.view space.new) root.0 d q.0) }
+    ensures later { (t : Table) → P.later t space.old space.new }
+    ensures means { (t : Table) → P.means space.old t → P.means space.new t }
 {
     let index = index_at(space, root, d / LINKS)?;
     check_kind(space, index, INDEX_KIND)?;
@@ -31,11 +34,14 @@ fn new_index<P: PageSpace>(
     root: PageNo,
     d: u32,
 ) -> Result<PageNo, SpaceFault>
+    requires means { P.means space.old (table_of record_meaning range_meaning ops.now) }
     requires below { d < 70000 }
     requires full { d % 509 ≡ 0 }
     requires there { HasArray (P.view space.old) root.0 (CanGrow (P.view space.old) root.0 d) }
     ensures counts { Counts (P.view space.old) (P.view space.new) result }
     ensures did { IfOk result (λ q. MakesIndex (P.view space.old) (P.view space.new) root.0 d q.0) }
+    ensures later { P.later (table_of record_meaning range_meaning ops.now) space.old space.new }
+    ensures means { P.means space.new (table_of record_meaning range_meaning ops.now) }
 {
     let slot = (d / LINKS + 1) as u16;
     let found = link_new(space, ops, root, slot, INDEX_KIND)?;
@@ -49,10 +55,13 @@ fn index_for<P: PageSpace>(
     root: PageNo,
     d: u32,
 ) -> Result<PageNo, SpaceFault>
+    requires means { P.means space.old (table_of record_meaning range_meaning ops.now) }
     requires below { d < 70000 }
     requires there { HasArray (P.view space.old) root.0 (CanGrow (P.view space.old) root.0 d) }
     ensures counts { Counts (P.view space.old) (P.view space.new) result }
     ensures did { IfOk result (λ q. MakesIndex (P.view space.old) (P.view space.new) root.0 d q.0) }
+    ensures later { P.later (table_of record_meaning range_meaning ops.now) space.old space.new }
+    ensures means { P.means space.new (table_of record_meaning range_meaning ops.now) }
 {
     if d % LINKS != 0 {
         old_index(space, root, d)
@@ -68,6 +77,7 @@ fn new_leaf<P: PageSpace>(
     root: PageNo,
     found: Root,
 ) -> Result<PageNo, SpaceFault>
+    requires means { P.means space.old (table_of record_meaning range_meaning ops.now) }
     requires most { found.count < 1048576 }
     requires longest { found.count ≡ found.peak }
     requires full { found.count % per_page found.size ≡ 0 }
@@ -76,6 +86,8 @@ fn new_leaf<P: PageSpace>(
     ensures counts { Counts (P.view space.old) (P.view space.new) result }
     ensures did { IfOk result (λ p. MakesRoom (P.view space.old) (P.view space.new) root.0 p.0
         found.size found.count found.peak) }
+    ensures later { P.later (table_of record_meaning range_meaning ops.now) space.old space.new }
+    ensures means { P.means space.new (table_of record_meaning range_meaning ops.now) }
 {
     let d = found.count / per_page(found.size);
     let index = index_for(space, ops, root, d)?;
@@ -92,6 +104,8 @@ fn old_leaf<P: PageSpace>(space: &mut P, root: PageNo, found: Root) -> Result<Pa
     ensures counts { Counts (P.view space.old) (P.view space.new) result }
     ensures did { IfOk result (λ p. MakesRoom (P.view space.old) (P.view space.new) root.0 p.0
         found.size found.count found.peak) }
+    ensures later { (t : Table) → P.later t space.old space.new }
+    ensures means { (t : Table) → P.means space.old t → P.means space.new t }
 {
     let leaf = leaf_at(space, root, found.count / per_page(found.size))?;
     check_kind(space, leaf, LEAF_KIND)?;
@@ -105,12 +119,15 @@ pub fn leaf_for<P: PageSpace>(
     root: PageNo,
     found: Root,
 ) -> Result<PageNo, SpaceFault>
+    requires means { P.means space.old (table_of record_meaning range_meaning ops.now) }
     requires most { found.count < 1048576 }
     requires there { HasArray (P.view space.old) root.0
         (IsNext (P.view space.old) root.0 found.size found.count found.peak) }
     ensures counts { Counts (P.view space.old) (P.view space.new) result }
     ensures did { IfOk result (λ p. MakesRoom (P.view space.old) (P.view space.new) root.0 p.0
         found.size found.count found.peak) }
+    ensures later { P.later (table_of record_meaning range_meaning ops.now) space.old space.new }
+    ensures means { P.means space.new (table_of record_meaning range_meaning ops.now) }
 {
     if found.count < found.peak || found.count % per_page(found.size) != 0 {
         old_leaf(space, root, found)

@@ -3,6 +3,7 @@ ghost use Rattle.std.specs.Prelude.{◌≡◌, ◌<◌, ◌≤◌, length, OnOk,
 ghost use Rattle.sg_array.specs.Array.{IsArray};
 ghost use Rattle.sg_array.specs.Calls.{HasArray, Gone};
 ghost use Rattle.sg_array.specs.Steps.{NamesIndex, Frees};
+ghost use Rattle.sg_ops.specs.Table.{Table};
 ghost use Rattle.sg_space.specs.View.{Counts};
 
 use crate::walk::{
@@ -19,6 +20,8 @@ fn free_leaves<P: PageSpace>(space: &mut P, root: PageNo, count: u32) -> Result<
     ensures did { OnOk result (Frees (P.view space.old) (P.view space.new)
         (λ a. IsArray (P.view space.old).space.pages.at root.0 a × (length a.leaves ≡ count))
         (λ a. a.leaves) (λ a. length a.leaves)) }
+    ensures later { (t : Table) → P.later t space.old space.new }
+    ensures means { (t : Table) → P.means space.old t → P.means space.new t }
 {
     for d in 0..count {
         let leaf = leaf_at(space, root, d)?;
@@ -35,6 +38,8 @@ fn free_index<P: PageSpace>(space: &mut P, root: PageNo, count: u32) -> Result<(
     ensures counts { Counts (P.view space.old) (P.view space.new) result }
     ensures did { OnOk result (Frees (P.view space.old) (P.view space.new)
         (NamesIndex (P.view space.old).space.pages.at root.0 count) (λ a. a.index) (λ a. length a.index)) }
+    ensures later { (t : Table) → P.later t space.old space.new }
+    ensures means { (t : Table) → P.means space.old t → P.means space.new t }
 {
     for j in 0..count {
         let index = link_at(space, root, ROOT_KIND, (j + 1) as u16)?;
@@ -49,6 +54,8 @@ pub fn free_all<P: PageSpace>(space: &mut P, root: PageNo) -> Result<(), SpaceFa
     requires { HasArray (P.view space.old) root.0 (λ _. ⊤) }
     ensures counts { Counts (P.view space.old) (P.view space.new) result }
     ensures did { OnOk result (Gone (P.view space.old) (P.view space.new) root.0) }
+    ensures later { (t : Table) → P.later t space.old space.new }
+    ensures means { (t : Table) → P.means space.old t → P.means space.new t }
 {
     let found = read_root(space, root)?;
     let wanted = wanted_pages(found);

@@ -3,6 +3,7 @@ ghost use Rattle.std.specs.Prelude.{◌≡◌, ◌<◌, ◌≤◌, length, IfOk,
 ghost use Rattle.sg_array.specs.Array.{root_cell};
 ghost use Rattle.sg_array.specs.Calls.{HasArray};
 ghost use Rattle.sg_array.specs.Steps.{HasBuilt, HasRootPage, SetsRoot, CanLinkTo, Linked, CanPutLast, PutsLast, IsLast, TakesLast};
+ghost use Rattle.sg_ops.specs.Table.{table_of};
 ghost use Rattle.sg_space.specs.View.{Counts};
 
 use crate::walk::{Last, Root, per_page};
@@ -30,9 +31,12 @@ fn set_root<P: PageSpace>(
     count: u32,
     peak: u32,
 ) -> Result<(), SpaceFault>
-    requires { (P.view space.old).Told → HasRootPage (P.view space.old) root.0 }
+    requires means { P.means space.old (table_of record_meaning range_meaning ops.now) }
+    requires can { (P.view space.old).Told → HasRootPage (P.view space.old) root.0 }
     ensures counts { Counts (P.view space.old) (P.view space.new) result }
     ensures did { OnOk result (SetsRoot (P.view space.old) (P.view space.new) root.0 size count peak) }
+    ensures later { P.later (table_of record_meaning range_meaning ops.now) space.old space.new }
+    ensures means { P.means space.new (table_of record_meaning range_meaning ops.now) }
 {
     let cell = spell_root(size, count, peak);
     let op = PageOp::Set {
@@ -51,9 +55,12 @@ pub fn link_new<P: PageSpace>(
     slot: u16,
     kind: u8,
 ) -> Result<PageNo, SpaceFault>
-    requires { (P.view space.old).Told → CanLinkTo (P.view space.old) p.0 slot }
+    requires means { P.means space.old (table_of record_meaning range_meaning ops.now) }
+    requires can { (P.view space.old).Told → CanLinkTo (P.view space.old) p.0 slot }
     ensures counts { Counts (P.view space.old) (P.view space.new) result }
     ensures did { IfOk result (λ q. Linked (P.view space.old) (P.view space.new) kind q.0 p.0 slot) }
+    ensures later { P.later (table_of record_meaning range_meaning ops.now) space.old space.new }
+    ensures means { P.means space.new (table_of record_meaning range_meaning ops.now) }
 {
     let new = space.take_page(kind)?;
     let mut cell = [0; 4];
@@ -72,6 +79,7 @@ pub fn put_last<P: PageSpace>(
     found: Root,
     item: &[u8],
 ) -> Result<(), SpaceFault>
+    requires means { P.means space.old (table_of record_meaning range_meaning ops.now) }
     requires fits { length item.now ≡ found.size }
     requires few { found.count < 1048576 }
     requires there { HasBuilt (P.view space.old) root.0
@@ -79,6 +87,8 @@ pub fn put_last<P: PageSpace>(
     ensures counts { Counts (P.view space.old) (P.view space.new) result }
     ensures did { OnOk result (PutsLast (P.view space.old) (P.view space.new) root.0
         leaf.0 found.size found.count found.peak item.now) }
+    ensures later { P.later (table_of record_meaning range_meaning ops.now) space.old space.new }
+    ensures means { P.means space.new (table_of record_meaning range_meaning ops.now) }
 {
     are_bytes(item);
     let slot = (found.count % per_page(found.size)) as u16;
@@ -95,11 +105,14 @@ pub fn take_last<P: PageSpace>(
     root: PageNo,
     last: Last,
 ) -> Result<(), SpaceFault>
-    requires { HasBuilt (P.view space.old) root.0
+    requires means { P.means space.old (table_of record_meaning range_meaning ops.now) }
+    requires can { HasBuilt (P.view space.old) root.0
         (IsLast last.place.leaf.0 last.place.slot last.place.size last.count last.peak) }
     ensures counts { Counts (P.view space.old) (P.view space.new) result }
     ensures did { OnOk result (TakesLast (P.view space.old) (P.view space.new) root.0
         last.place.leaf.0 last.place.slot last.place.size last.count last.peak) }
+    ensures later { P.later (table_of record_meaning range_meaning ops.now) space.old space.new }
+    ensures means { P.means space.new (table_of record_meaning range_meaning ops.now) }
 {
     let place = last.place;
     let slot = place.slot;

@@ -1,6 +1,6 @@
 // Registered operations on an item.
-ghost use Rattle.std.specs.Prelude.{◌<◌, length, OnOk};
-ghost use Rattle.sg_array.specs.Calls.{HasArray, IfArray, DidIf, MayUse, CanApply, IsApplied, CanApplyBack, IsAppliedBack};
+ghost use Rattle.std.specs.Prelude.{◌<◌, ◌≤◌, length, OnOk};
+ghost use Rattle.sg_array.specs.Calls.{HasArray, IfArray, DidIf, CanApply, IsApplied, CanApplyBack, IsAppliedBack};
 ghost use Rattle.sg_ops.specs.Table.{table_of};
 ghost use Rattle.sg_space.specs.View.{Counts};
 
@@ -18,15 +18,17 @@ pub fn apply<P: PageSpace>(
     code: u16,
     arg: &[u8],
 ) -> Result<(), SpaceFault>
+    requires means { P.means space.old (table_of record_meaning range_meaning ops.now) }
     requires there { HasArray (P.view space.old) root.0
         (CanApply (table_of record_meaning range_meaning ops.now) i code arg.now) }
-    requires may { (P.view space.old).Told → MayUse (table_of record_meaning range_meaning ops.now)
-        (P.view space.old) arg.now }
+    requires short { (P.view space.old).Told → length arg.now ≤ 256 }
     ensures counts { Counts (P.view space.old) (P.view space.new) result }
     ensures did { OnOk result (DidIf (P.view space.old) (P.view space.new) root.0
         (CanApply (table_of record_meaning range_meaning ops.now) i code arg.now)
         (IsApplied (table_of record_meaning range_meaning ops.now) i code arg.now)) }
     ensures within { OnOk result (IfArray (P.view space.old) root.0 (λ a. i < length a.items)) }
+    ensures later { P.later (table_of record_meaning range_meaning ops.now) space.old space.new }
+    ensures means { P.means space.new (table_of record_meaning range_meaning ops.now) }
 {
     ops.laws();
     are_bytes(arg);
@@ -46,15 +48,17 @@ pub fn apply_back<P: PageSpace>(
     code: u16,
     arg: &[u8],
 ) -> Result<(), SpaceFault>
+    requires means { P.means space.old (table_of record_meaning range_meaning ops.now) }
     requires there { HasArray (P.view space.old) root.0
         (CanApplyBack (table_of record_meaning range_meaning ops.now) i code arg.now) }
-    requires may { (P.view space.old).Told → MayUse (table_of record_meaning range_meaning ops.now)
-        (P.view space.old) arg.now }
+    requires short { (P.view space.old).Told → length arg.now ≤ 256 }
     ensures counts { Counts (P.view space.old) (P.view space.new) result }
     ensures did { OnOk result (DidIf (P.view space.old) (P.view space.new) root.0
         (CanApplyBack (table_of record_meaning range_meaning ops.now) i code arg.now)
         (IsAppliedBack (table_of record_meaning range_meaning ops.now) i code arg.now)) }
     ensures within { OnOk result (IfArray (P.view space.old) root.0 (λ a. i < length a.items)) }
+    ensures later { P.later (table_of record_meaning range_meaning ops.now) space.old space.new }
+    ensures means { P.means space.new (table_of record_meaning range_meaning ops.now) }
 {
     ops.laws();
     are_bytes(arg);

@@ -15,6 +15,6 @@ mod items;
 mod walk;
 
 pub use array::{get, len, make, pages, pop, push, set, size};
-pub use beside::stand_apart;
+pub use beside::{keep_bound, stand_apart};
 pub use free::free_all;
 pub use items::{apply, apply_back};

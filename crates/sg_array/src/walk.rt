@@ -5,6 +5,7 @@ ghost use Rattle.sg_array.specs.Array.{per_page, root_cell, rounded_up};
 ghost use Rattle.sg_array.specs.Calls.{HasArray, IfArray};
 ghost use Rattle.sg_array.specs.Steps.{HasNames, IfNames, IsInRange, IsOfKind, IsPlace, IsLast};
 ghost use Rattle.sg_array.specs.Steps as spec;
+ghost use Rattle.sg_ops.specs.Table.{Table};
 ghost use Rattle.sg_space.specs.Reads.{CanRead, Reads};
 ghost use Rattle.sg_space.specs.Units.{HasAt};
 ghost use Rattle.sg_space.specs.View.{Counts, OnlyReads};
@@ -70,6 +71,8 @@ pub fn read_root<P: PageSpace>(space: &mut P, root: PageNo) -> Result<Root, Spac
     ensures kept { OnOk result (OnlyReads (P.view space.old) (P.view space.new)) }
     ensures read { IfOk result (λ r. IfArray (P.view space.old) root.0
         (λ a. (r.size ≡ a.size) × (r.count ≡ length a.items) × (r.peak ≡ a.peak))) }
+    ensures later { (t : Table) → P.later t space.old space.new }
+    ensures means { (t : Table) → P.means space.old t → P.means space.new t }
 {
     let mut cell = [0; 10];
     read_cell(space, root, ROOT_KIND, 0, &mut cell)?;
@@ -91,6 +94,8 @@ pub fn link_at<P: PageSpace>(
     ensures kept { OnOk result (OnlyReads (P.view space.old) (P.view space.new)) }
     ensures read { IfOk result (λ n. Reads (P.view space.old) p.0 kind slot (little_bytes 4 n.0)) }
     ensures small { IfOk result (λ n. n.0 < 2 ^ 32) }
+    ensures later { (t : Table) → P.later t space.old space.new }
+    ensures means { (t : Table) → P.means space.old t → P.means space.new t }
 {
     let mut cell = [0; 4];
     read_cell(space, p, kind, slot, &mut cell)?;
@@ -104,6 +109,8 @@ pub fn index_at<P: PageSpace>(space: &mut P, root: PageNo, j: u32) -> Result<Pag
     ensures counts { Counts (P.view space.old) (P.view space.new) result }
     ensures kept { OnOk result (OnlyReads (P.view space.old) (P.view space.new)) }
     ensures read { IfOk result (λ n. IfNames (P.view space.old) root.0 (λ a. slice_get a.index j ≡ Some n.0)) }
+    ensures later { (t : Table) → P.later t space.old space.new }
+    ensures means { (t : Table) → P.means space.old t → P.means space.new t }
 {
     let found = link_at(space, root, ROOT_KIND, (j + 1) as u16)?;
     Ok(found)
@@ -116,6 +123,8 @@ pub fn leaf_at<P: PageSpace>(space: &mut P, root: PageNo, d: u32) -> Result<Page
     ensures counts { Counts (P.view space.old) (P.view space.new) result }
     ensures kept { OnOk result (OnlyReads (P.view space.old) (P.view space.new)) }
     ensures read { IfOk result (λ n. IfNames (P.view space.old) root.0 (λ a. slice_get a.leaves d ≡ Some n.0)) }
+    ensures later { (t : Table) → P.later t space.old space.new }
+    ensures means { (t : Table) → P.means space.old t → P.means space.new t }
 {
     let index = index_at(space, root, d / LINKS)?;
     let found = link_at(space, index, INDEX_KIND, (d % LINKS) as u16)?;
@@ -127,6 +136,8 @@ pub fn check_kind<P: PageSpace>(space: &mut P, p: PageNo, kind: u8) -> Result<()
     requires { (P.view space.old).Told → HasAt (P.view space.old).space.pages.at p.0 (IsOfKind kind) }
     ensures counts { Counts (P.view space.old) (P.view space.new) result }
     ensures kept { OnOk result (OnlyReads (P.view space.old) (P.view space.new)) }
+    ensures later { (t : Table) → P.later t space.old space.new }
+    ensures means { (t : Table) → P.means space.old t → P.means space.new t }
 {
     let view = space.page(p)?;
     if view.kind() != kind {
@@ -150,6 +161,8 @@ pub fn place_of<P: PageSpace>(space: &mut P, root: PageNo, i: u32) -> Result<Pla
     ensures counts { Counts (P.view space.old) (P.view space.new) result }
     ensures kept { OnOk result (OnlyReads (P.view space.old) (P.view space.new)) }
     ensures read { IfOk result (λ r. IfArray (P.view space.old) root.0 (IsPlace i r.leaf.0 r.slot r.size)) }
+    ensures later { (t : Table) → P.later t space.old space.new }
+    ensures means { (t : Table) → P.means space.old t → P.means space.new t }
 {
     let found = read_root(space, root)?;
     if i >= found.count {
@@ -167,6 +180,8 @@ fn check_item<P: PageSpace>(space: &mut P, place: Place) -> Result<(), SpaceFaul
     requires { CanRead (P.view space.old) place.leaf.0 4 place.slot place.size }
     ensures counts { Counts (P.view space.old) (P.view space.new) result }
     ensures kept { OnOk result (OnlyReads (P.view space.old) (P.view space.new)) }
+    ensures later { (t : Table) → P.later t space.old space.new }
+    ensures means { (t : Table) → P.means space.old t → P.means space.new t }
 {
     let mut buffer = [0; 256];
     let item = &mut buffer[..place.size as usize];
@@ -180,6 +195,8 @@ pub fn find_item<P: PageSpace>(space: &mut P, root: PageNo, i: u32) -> Result<Pl
     ensures counts { Counts (P.view space.old) (P.view space.new) result }
     ensures kept { OnOk result (OnlyReads (P.view space.old) (P.view space.new)) }
     ensures read { IfOk result (λ r. IfArray (P.view space.old) root.0 (IsPlace i r.leaf.0 r.slot r.size)) }
+    ensures later { (t : Table) → P.later t space.old space.new }
+    ensures means { (t : Table) → P.means space.old t → P.means space.new t }
 {
     let place = place_of(space, root, i)?;
     check_item(space, place)?;
@@ -201,6 +218,8 @@ pub fn last_of<P: PageSpace>(space: &mut P, root: PageNo) -> Result<Last, SpaceF
     ensures kept { OnOk result (OnlyReads (P.view space.old) (P.view space.new)) }
     ensures read { IfOk result (λ r. IfArray (P.view space.old) root.0
         (IsLast r.place.leaf.0 r.place.slot r.place.size r.count r.peak)) }
+    ensures later { (t : Table) → P.later t space.old space.new }
+    ensures means { (t : Table) → P.means space.old t → P.means space.new t }
 {
     let found = read_root(space, root)?;
     if found.count == 0 {

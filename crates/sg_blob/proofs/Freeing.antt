@@ -11,6 +11,7 @@ use Rattle.sg_space.specs.Pages.{Freed}
 use Rattle.sg_space.specs.Units.{Units, HasAt, IsFreed}
 use Rattle.sg_space.specs.View.{Space, View, OnlyReads}
 use Rattle.sg_space.proofs.Known.{moved, same_some}
+use Rattle.sg_blob.proofs.Sides.{freed_becomes}
 use Rattle.sg_blob.specs.Blob.{Blob, IsBlob, raw_of, OwnsBand}
 use Rattle.sg_blob.specs.Calls.{IsGone, Gone}
 use Rattle.sg_blob.specs.Raw.{Raw, IsRaw, IsRoot}
@@ -27,7 +28,6 @@ pub record FreesTo (v w : View) (root done : ℕ) : Type 0 where
   pub later : v.faults ≤ w.faults
   pub told : v.Told → w.Told
   pub freed : v.Told → (b : Blob) → StandsBlob root b v.space → BandsFreed v.space w.space b.bands done
-  pub table : v.Told → (t : Table) → v.IsTable t → w.IsTable t
   pub may_have : v.Told → (page slots : ℕ) → v.MayHave page slots → w.MayHave page slots
 
 -- reads before and between
@@ -37,7 +37,6 @@ frees_none back later shows k = record {
   later = later;
   told = k.keeps.told;
   freed = λ t b h. record { pages = ap (λ (s : Space). s.pages) (k.same (shows t)); bands = freed_none b.bands (ap (λ (s : Space). s.bands) (k.same (shows t))) };
-  table = λ t u h. k.keeps.table u h;
   may_have = λ t p n h. k.keeps.may_have p n h;
 }
 
@@ -61,7 +60,6 @@ frees_on {u} {v} {w} {x} {root} {j} {n} i shows k back later back' later' f is =
         pages = f.pages (k.keeps.told (i.told t)) ∙ now.pages;
         bands = one_freed now.bands (is t b h) (f.bands (k.keeps.told (i.told t)));
       };
-  table = λ t y h. f.table y (k.keeps.table y (i.table t y h));
   may_have = λ t p m h. f.may_have p m (k.keeps.may_have p m (i.may_have t p m h));
 }
 
@@ -71,10 +69,9 @@ all_gone {v} {w} {x} {root} {done} i f so = record {
   gone = λ t b h.
       let all : BandsFreed v.space w.space b.bands (length b.bands) = subst (λ (n : ℕ). BandsFreed v.space w.space b.bands n) (so t b h) (i.freed t b h) in
       record {
-        pages = subst (λ (u : Units Sheet). IsFreed u x.space.pages root) all.pages (f.pages (i.told t));
+        pages = freed_becomes (subst (λ (u : Units Sheet). IsFreed u x.space.pages root) all.pages (f.pages (i.told t)));
         bands = subst (λ (u : Units (List ℕ)). Becomes v.space.bands u (OwnsBand b.bands) (λ _. ⊥) (length b.bands) 0) (sym (f.bands (i.told t))) (all_freed all.bands);
       };
-  table = λ t y h. f.table y (i.table t y h);
   may_have = λ t p n ne h. f.may_have p n ne (i.may_have t p n h);
 }
 

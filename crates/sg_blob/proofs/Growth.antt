@@ -1,5 +1,5 @@
 -- A blob gets more bands.
-use Rattle.std.proofs.Common.{◌≡◌, ◌≢◌, ℕ, ◌+◌, ◌-◌, ◌*◌, ◌<◌, ◌≤◌, ◌^◌, ◌++◌, ◌⊎◌, List, [], ◌∷◌, length, Option, Some, None, sym, ap, ◌∙◌, refl, arith, slice_get, slice_index, inl, inr, subst}
+use Rattle.std.proofs.Common.{◌≡◌, ◌≢◌, ℕ, ◌+◌, ◌-◌, ◌*◌, ◌<◌, ◌≤◌, ◌^◌, ◌++◌, ◌⊎◌, List, [], ◌∷◌, length, Option, Some, None, sym, ap, ◌∙◌, refl, arith, slice_get, slice_index, inl, inr, subst, append_assoc}
 use Rattle.std.proofs.lemmas.Bool.{cases_eq}
 use Rattle.std.proofs.lemmas.List.{length_push, get_or_past}
 use Rattle.std.proofs.lemmas.Option.{slice_get_within}
@@ -12,11 +12,11 @@ use Rattle.sg_space.specs.Bands.{IsEmptyBand}
 use Rattle.sg_space.specs.Owned.{Grows}
 use Rattle.sg_space.specs.Units.{Units, HasAt, IsChanged, IsTaken}
 use Rattle.sg_space.specs.View.{View, Space}
-use Rattle.sg_space.proofs.Known.{moved, same_some, keeps_same, keeps_then}
+use Rattle.sg_space.proofs.Known.{moved, same_some, keeps_same, keeps_then, writes_none, writes_then, writes_less}
 use Rattle.sg_space.proofs.Putting.{slice_get-push_same, slice_get-push_other}
 use Rattle.sg_blob.specs.Blob.{OwnsBand}
 use Rattle.sg_blob.specs.Raw.{Raw, IsRaw, IsRoot, IsPart}
-use Rattle.sg_blob.specs.Steps.{RawTurns, DidSome, CanAdd, CanGrow, IsGrown}
+use Rattle.sg_blob.specs.Steps.{RawTurns, DidSome, CanAdd, CanGrow, IsGrown, Extends}
 use Rattle.sg_blob.proofs.Roots.{root_with, band_step, sheet_with_band}
 use Rattle.sg_blob.proofs.Turned.{band_not_none, root_changed, turns_same, turns_then}
 
@@ -33,6 +33,10 @@ pub in_front : (ps : List ℕ) (q i p : ℕ) → slice_get ps i ≡ Some p → s
 in_front ps q i p e =
     let below : i < length ps = slice_get_within ps i p e in
     slice_get-push_other ps i q (λ is. omega arith) ∙ e
+
+-- the last one is one of them
+pub last_band : (ps : List ℕ) (n q : ℕ) → n ≡ q → OwnsBand (ps ++ (q ∷ [])) n
+last_band ps n q same = (length ps, slice_get-push_same ps (length ps) q refl ∙ ap (λ (m : ℕ). Some m) (sym same))
 
 -- an empty band has what is past the end
 empty_part : (bytes band : List ℕ) (j : ℕ) → length bytes ≤ 32768 * j → IsEmptyBand band → IsPart bytes j band
@@ -96,6 +100,13 @@ pub add_turns : {t : Table} {old mid new : Space} {root q j : ℕ} {r : Raw} (ce
 add_turns {t} {old} {mid} {new} {root} {q} {j} {r} cell e is below small h a =
     added t old mid new root q r h (omega arith) small (subst (λ (n : ℕ). AddsBand t old mid new root q (n + 1) (little_bytes 4 q)) (sym is) (subst (λ (c : List ℕ). AddsBand t old mid new root q (j + 1) c) e a))
 
+append_nil : (xs : List ℕ) → xs ≡ xs ++ []
+append_nil [] = refl
+append_nil (x ∷ xs) = ap (λ (ys : List ℕ). x ∷ ys) (append_nil xs)
+
+extends_then : {xs ys zs : List ℕ} → Extends xs ys → Extends ys zs → Extends xs zs
+extends_then {xs} f g = record { more = f.more ++ g.more; is = g.is ∙ (ap (λ (ys : List ℕ). ys ++ g.more) f.is ∙ append_assoc xs f.more g.more) }
+
 -- so many bands are there
 pub record GrowsTo (v w : View) (root have next want : ℕ) : Type 0 where
   pub back : w.Told → v.Told
@@ -112,7 +123,7 @@ grows_none {v} {root} {have} {want} order = record {
   within = order;
   did = record {
     keeps = λ t. keeps_same;
-    turns = λ t r h can. (r, turns_same refl h, record { same_count = refl; same_peak = refl; same_bytes = refl; long = can.behind });
+    turns = λ t r h can. (r, turns_same refl h, record { same_count = refl; same_peak = refl; same_bytes = refl; long = can.behind; extends = record { more = []; is = append_nil r.bands } }, writes_none (λ b was. was));
   };
 }
 
@@ -151,7 +162,9 @@ grows_on {u} {v} {w} {root} {have} {next} {want} i below told later d =
                 same_peak = (two.2).same_peak ∙ (one.2).same_peak;
                 same_bytes = (two.2).same_bytes ∙ (one.2).same_bytes;
                 long = (two.2).long;
+                extends = extends_then (one.2).extends (two.2).extends;
               },
+              writes_then (writes_less (two.1).bands.more one.3) two.3,
             );
       };
     }

@@ -9,3 +9,4 @@ pub mod Growth
 pub mod Wholes
 pub mod Making
 pub mod Freeing
+pub mod Sides

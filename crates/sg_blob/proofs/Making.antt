@@ -7,6 +7,7 @@ use Rattle.sg_space.specs.Units.{Units, HasAt, IsTaken}
 use Rattle.sg_space.specs.View.{Space}
 use Rattle.sg_blob.specs.Calls.{IsMade}
 use Rattle.sg_blob.specs.Raw.{IsRoot, root_cell}
+use Rattle.sg_blob.proofs.Sides.{taken_becomes}
 
 root_first : {cell : List ℕ} {sheet : Sheet} → cell ≡ root_cell 0 0 → sheet ≡ one_cell 7 cell → IsRoot 0 0 [] sheet
 root_first {cell} e is = subst (λ (s : Sheet). IsRoot 0 0 [] s) (sym is) (record { kind = refl; first = ap Some e; links = λ j. get_or_past (Some cell ∷ []) (j + 1) None (omega arith); few = omega arith })
@@ -26,6 +27,6 @@ made_is e k bands = record {
     least = omega arith;
     most = omega arith;
   };
-  pages = record { was_free = k.was_free; fresh = record { what = k.fresh.what; is = k.fresh.is; has = tt }; others = k.others; free = k.free; count = k.count };
+  pages = taken_becomes k;
   bands = bands;
 }

@@ -73,7 +73,6 @@ root_possible t v {root} {count} {peak} count' peak' cell e h = record {
     fits = subst IsSome (sym (root_step t count' peak' h.has)) refl;
     done = tt;
     short = omega arith;
-    means = λ u. absurd (no u);
     place = λ u. absurd (no u);
   });
 }
@@ -146,7 +145,6 @@ put_possible t v {root} {j = j} {bands = bands} q cell e is below may h = record
     fits = subst IsSome (sym (band_step t q (omega arith) h.has)) refl;
     done = tt;
     short = omega arith;
-    means = λ u. absurd (no u);
     place = λ u. may (length (h.what).slots + 1) (next u);
   }));
 }

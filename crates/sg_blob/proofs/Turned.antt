@@ -3,8 +3,8 @@ use Rattle.std.proofs.Common.{◌≡◌, ◌≢◌, ℕ, ◌+◌, List, length, 
 use Rattle.sg_base.specs.Sheet.{Sheet}
 use Rattle.sg_space.specs.Owned.{Grows}
 use Rattle.sg_space.specs.Units.{Units}
-use Rattle.sg_space.specs.View.{View, Space, Keeps, OnlyReads}
-use Rattle.sg_space.proofs.Known.{keeps_same, keeps_then, before}
+use Rattle.sg_space.specs.View.{View, WritesIn, Space, Keeps, OnlyReads}
+use Rattle.sg_space.proofs.Known.{keeps_same, keeps_then, before, writes_none, writes_then, writes_less}
 use Rattle.sg_space.proofs.Owners.{grows_same, grows_then}
 use Rattle.sg_blob.specs.Blob.{OwnsPage, OwnsBand}
 use Rattle.sg_blob.specs.Raw.{Raw, IsRaw}
@@ -41,7 +41,7 @@ pub bands_changed : {old new : Units (List ℕ)} (bands : List ℕ) → ((b : �
 bands_changed bands others free count = record { others = others; more = λ p o. o; taken = λ p o. inl o; exactly = ap (λ (n : ℕ). n + length bands) free; all = count }
 
 pub did_none : {v : View} {root : ℕ} {Can : Raw → Type 0} {f : Raw → Raw} → ((r : Raw) → Can r → f r ≡ r) → Did v v root Can f
-did_none same = record { keeps = λ t. keeps_same; turns = λ t r h can. turns_same (same r can) h }
+did_none same = record { keeps = λ t. keeps_same; turns = λ t r h can. turns_same (same r can) h; wrote = λ t r h can. writes_none (λ b was. was) }
 
 pub did_then : {u v w : View} {root : ℕ} {Can Then : Raw → Type 0} {f g h : Raw → Raw} → Did u v root Can f → Did v w root Then g → ((r : Raw) → Can r → Then (f r)) → ((r : Raw) → Can r → h r ≡ g (f r)) → Did u w root Can h
 did_then {u} {v} {w} {root} {Can} {Then} {f} {g} {h} a b so is = record {
@@ -49,4 +49,9 @@ did_then {u} {v} {w} {root} {Can} {Then} {f} {g} {h} a b so is = record {
   turns = λ t r raw can.
       let one = a.turns t r raw can in
       subst (λ (x : Raw). RawTurns u.space w.space root r x) (sym (is r can)) (turns_then one (b.turns ((a.keeps t).told t) (f r) one.raw (so r can)));
+  wrote = λ t r raw can.
+      let one = a.turns t r raw can in
+      let told = (a.keeps t).told t in
+      let two = b.turns told (f r) one.raw (so r can) in
+      subst (λ (x : Raw). WritesIn (OwnsBand x.bands) u w) (sym (is r can)) (writes_then (writes_less two.bands.more (a.wrote t r raw can)) (b.wrote told (f r) one.raw (so r can)));
 }

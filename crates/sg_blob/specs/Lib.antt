@@ -2,3 +2,4 @@ pub mod Blob
 pub mod Raw
 pub mod Steps
 pub mod Calls
+pub mod Beside

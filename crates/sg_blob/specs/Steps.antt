@@ -1,10 +1,10 @@
 -- What the steps of a change of a blob want and do. Between them the root may say another length than the bytes have.
-use Rattle.std.specs.Prelude.{◌≡◌, ◌≢◌, ℕ, ◌+◌, ◌*◌, ◌<◌, ◌≤◌, List, length, slice_index, IsSome}
+use Rattle.std.specs.Prelude.{◌≡◌, ◌≢◌, ℕ, ◌+◌, ◌*◌, ◌<◌, ◌≤◌, List, ◌++◌, length, slice_index, IsSome}
 use Rattle.sg_base.specs.Overwritten.{overwritten}
 use Rattle.sg_base.specs.declared.page.TheConstants.{BAND_SIZE}
 use Rattle.sg_ops.specs.Table.{Table, range_at}
 use Rattle.sg_space.specs.Owned.{Grows}
-use Rattle.sg_space.specs.View.{View, Space, Keeps, MayFill}
+use Rattle.sg_space.specs.View.{View, Space, Keeps, MayFill, WritesIn}
 use Rattle.sg_blob.specs.Blob.{OwnsPage, OwnsBand}
 use Rattle.sg_blob.specs.Raw.{Raw, IsRaw}
 
@@ -40,11 +40,12 @@ pub record RawTurns (old new : Space) (root : ℕ) (r r' : Raw) : Type 0 where
 pub record Did (v w : View) (root : ℕ) (Can : Raw → Type 0) (f : Raw → Raw) : Type 0 where
   pub keeps : v.Told → Keeps v w
   pub turns : v.Told → (r : Raw) → IsRaw v.space.pages.at v.space.bands.at root r → Can r → RawTurns v.space w.space root r (f r)
+  pub wrote : v.Told → (r : Raw) → IsRaw v.space.pages.at v.space.bands.at root r → Can r → WritesIn (OwnsBand (f r).bands) v w
 
 -- a step after which they say something with a relation to what they said
 pub record DidSome (v w : View) (root : ℕ) (Can : Raw → Type 0) (Is : Raw → Raw → Type 0) : Type 0 where
   pub keeps : v.Told → Keeps v w
-  pub turns : v.Told → (r : Raw) → IsRaw v.space.pages.at v.space.bands.at root r → Can r → (r' : Raw) × RawTurns v.space w.space root r r' × Is r r'
+  pub turns : v.Told → (r : Raw) → IsRaw v.space.pages.at v.space.bands.at root r → Can r → (r' : Raw) × RawTurns v.space w.space root r r' × Is r r' × WritesIn (OwnsBand r'.bands) v w
 
 -- so many bytes from byte `at` on are bytes of the bands, and follow those that are known
 pub record HasPlace (at count : ℕ) (r : Raw) : Type 0 where
@@ -60,11 +61,9 @@ abbrev pub with_root : (count peak : ℕ) → Raw → Raw
 with_root count peak r = record r { count = count; peak = peak }
 
 -- a range operation may paint with this argument
-pub record CanPaintBy (t : Table) (v : View) (code : ℕ) (arg : List ℕ) : Type 0 where
+pub record CanPaintBy (t : Table) (code : ℕ) (arg : List ℕ) : Type 0 where
   pub known : IsSome (range_at t code)
   pub short : length arg ≤ 256
-  -- a registered operation means what it meant before; `fill` always does
-  pub means : code ≢ 1 → v.IsTable t
 
 -- a band may be added behind so many
 pub record CanAdd (v : View) (root j : ℕ) (r : Raw) : Type 0 where
@@ -80,9 +79,15 @@ pub record CanGrow (v : View) (root have want : ℕ) (r : Raw) : Type 0 where
   pub may_take : have < want → v.MayTake
   pub may_fill : have < want → MayFill v root 501
 
+-- the second list has the elements of the first, and more behind them
+pub record Extends (old new : List ℕ) : Type 0 where
+  pub more : List ℕ
+  pub is : new ≡ old ++ more
+
 -- so many bands, and all else as before
 pub record IsGrown (count : ℕ) (r r' : Raw) : Type 0 where
   pub same_count : r'.count ≡ r.count
   pub same_peak : r'.peak ≡ r.peak
   pub same_bytes : r'.bytes ≡ r.bytes
   pub long : length r'.bands ≡ count
+  pub extends : Extends r.bands r'.bands

@@ -1,7 +1,7 @@
 ghost use Rattle.std.specs.Prelude.{◌≡◌, ◌+◌, ◌-◌, ◌*◌, ◌/◌, ◌%◌, ◌^◌, ◌<◌, ◌≤◌, length, take, drop, IfOk, OnOk, ⊤};
 ghost use Rattle.sg_blob.specs.Calls.{HasBlob, IfBlob, DidIf, HasBandsFor, CanWriteAt, IsPlaced, IsPaintedAt, IsResized, Made, CanRestore, Restored};
 ghost use Rattle.sg_blob.specs.Steps.{HasRaw, IfRaw, CanPaintBy};
-ghost use Rattle.sg_ops.specs.Table.{table_of};
+ghost use Rattle.sg_ops.specs.Table.{Table, table_of};
 ghost use Rattle.sg_space.specs.Pages.{CanTake};
 ghost use Rattle.sg_space.specs.View.{Counts, OnlyReads};
 
@@ -16,9 +16,12 @@ const FILL: u16 = 1;
 
 /// Makes a blob without bytes, in a page that is taken for its root.
 pub fn make<P: PageSpace>(space: &mut P, ops: &Ops) -> Result<PageNo, SpaceFault>
-    requires { CanTake (P.view space.old) (P.view space.old).space.pages }
+    requires means { P.means space.old (table_of record_meaning range_meaning ops.now) }
+    requires can { CanTake (P.view space.old) (P.view space.old).space.pages }
     ensures counts { Counts (P.view space.old) (P.view space.new) result }
     ensures did { IfOk result (λ root. Made (P.view space.old) (P.view space.new) root.0) }
+    ensures later { P.later (table_of record_meaning range_meaning ops.now) space.old space.new }
+    ensures means { P.means space.new (table_of record_meaning range_meaning ops.now) }
 {
     let root = take_page_with(space, ops, ROOT_KIND, &spell_root(0, 0))?;
     Ok(root)
@@ -30,6 +33,8 @@ pub fn len<P: PageSpace>(space: &mut P, root: PageNo) -> Result<u32, SpaceFault>
     ensures counts { Counts (P.view space.old) (P.view space.new) result }
     ensures kept { OnOk result (OnlyReads (P.view space.old) (P.view space.new)) }
     ensures read { IfOk result (λ n. IfBlob (P.view space.old) root.0 (λ b. n ≡ length b.bytes)) }
+    ensures later { (t : Table) → P.later t space.old space.new }
+    ensures means { (t : Table) → P.means space.old t → P.means space.new t }
 {
     let found = read_root(space, root)?;
     Ok(found.count)
@@ -41,6 +46,8 @@ pub fn bands<P: PageSpace>(space: &mut P, root: PageNo) -> Result<u32, SpaceFaul
     ensures counts { Counts (P.view space.old) (P.view space.new) result }
     ensures kept { OnOk result (OnlyReads (P.view space.old) (P.view space.new)) }
     ensures read { IfOk result (λ n. IfBlob (P.view space.old) root.0 (λ b. n ≡ length b.bands)) }
+    ensures later { (t : Table) → P.later t space.old space.new }
+    ensures means { (t : Table) → P.means space.old t → P.means space.new t }
 {
     let found = read_root(space, root)?;
     Ok(bands_for(found.peak))
@@ -58,6 +65,8 @@ pub fn read<P: PageSpace>(
     ensures kept { OnOk result (OnlyReads (P.view space.old) (P.view space.new)) }
     ensures read { OnOk result (IfBlob (P.view space.old) root.0
         (λ b. into.new ≡ take (length into.new) (drop at b.bytes))) }
+    ensures later { (t : Table) → P.later t space.old space.new }
+    ensures means { (t : Table) → P.means space.old t → P.means space.new t }
 {
     let found = read_root(space, root)?;
     if at > found.count || into.len() > (found.count - at) as usize {
@@ -82,6 +91,7 @@ pub fn write<P: PageSpace>(
     at: u32,
     bytes: &[u8],
 ) -> Result<(), SpaceFault>
+    requires means { P.means space.old (table_of record_meaning range_meaning ops.now) }
     requires small { at + length bytes.now ≤ 16384000 }
     requires there { HasBlob (P.view space.old) root.0
         (CanWriteAt (P.view space.old) root.0 at (length bytes.now)) }
@@ -89,6 +99,8 @@ pub fn write<P: PageSpace>(
     ensures did { OnOk result (DidIf (P.view space.old) (P.view space.new) root.0
         (CanWriteAt (P.view space.old) root.0 at (length bytes.now)) (IsPlaced at bytes.now)) }
     ensures within { OnOk result (IfBlob (P.view space.old) root.0 (λ b. at ≤ length b.bytes)) }
+    ensures later { P.later (table_of record_meaning range_meaning ops.now) space.old space.new }
+    ensures means { P.means space.new (table_of record_meaning range_meaning ops.now) }
 {
     let found = read_root(space, root)?;
     if at > found.count {
@@ -114,14 +126,17 @@ pub fn paint<P: PageSpace>(
     code: u16,
     arg: &[u8],
 ) -> Result<(), SpaceFault>
+    requires means { P.means space.old (table_of record_meaning range_meaning ops.now) }
     requires there { HasBlob (P.view space.old) root.0 (λ b. at + count ≤ length b.bytes) }
     requires can { (P.view space.old).Told → CanPaintBy (table_of record_meaning range_meaning ops.now)
-        (P.view space.old) code arg.now }
+        code arg.now }
     ensures counts { Counts (P.view space.old) (P.view space.new) result }
     ensures did { OnOk result (DidIf (P.view space.old) (P.view space.new) root.0
         (λ b. at + count ≤ length b.bytes)
         (IsPaintedAt (table_of record_meaning range_meaning ops.now) at count code arg.now)) }
     ensures within { OnOk result (IfBlob (P.view space.old) root.0 (λ b. at + count ≤ length b.bytes)) }
+    ensures later { P.later (table_of record_meaning range_meaning ops.now) space.old space.new }
+    ensures means { P.means space.new (table_of record_meaning range_meaning ops.now) }
 {
     let found = read_root(space, root)?;
     if at > found.count || count > found.count - at {
@@ -139,11 +154,14 @@ pub fn set_len<P: PageSpace>(
     root: PageNo,
     size: u32,
 ) -> Result<(), SpaceFault>
+    requires means { P.means space.old (table_of record_meaning range_meaning ops.now) }
     requires small { size ≤ 16384000 }
     requires there { HasBlob (P.view space.old) root.0 (HasBandsFor (P.view space.old) root.0 size) }
     ensures counts { Counts (P.view space.old) (P.view space.new) result }
     ensures did { OnOk result (DidIf (P.view space.old) (P.view space.new) root.0
         (HasBandsFor (P.view space.old) root.0 size) (IsResized size)) }
+    ensures later { P.later (table_of record_meaning range_meaning ops.now) space.old space.new }
+    ensures means { P.means space.new (table_of record_meaning range_meaning ops.now) }
 {
     let found = read_root(space, root)?;
     let from = found.count.min(size);
@@ -163,10 +181,13 @@ pub fn restore_len<P: PageSpace>(
     root: PageNo,
     size: u32,
 ) -> Result<(), SpaceFault>
-    requires { HasRaw (P.view space.old) root.0 (CanRestore size) }
+    requires means { P.means space.old (table_of record_meaning range_meaning ops.now) }
+    requires can { HasRaw (P.view space.old) root.0 (CanRestore size) }
     ensures counts { Counts (P.view space.old) (P.view space.new) result }
     ensures did { OnOk result (Restored (P.view space.old) (P.view space.new) root.0 size) }
     ensures within { OnOk result (IfRaw (P.view space.old) root.0 (λ r. size ≤ r.peak)) }
+    ensures later { P.later (table_of record_meaning range_meaning ops.now) space.old space.new }
+    ensures means { P.means space.new (table_of record_meaning range_meaning ops.now) }
 {
     let found = read_root(space, root)?;
     if size > found.peak {

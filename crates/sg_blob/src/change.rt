@@ -2,7 +2,7 @@
 ghost use Rattle.std.specs.Prelude.{◌≡◌, ◌+◌, ◌*◌, ◌/◌, ◌%◌, ◌^◌, ◌<◌, ◌≤◌, length, OnOk, ⊤};
 ghost use Rattle.sg_blob.specs.Raw.{root_cell};
 ghost use Rattle.sg_blob.specs.Steps.{HasRaw, HasPlace, Did, DidSome, with_bytes, with_root, CanPaintBy, CanAdd, CanGrow, IsGrown};
-ghost use Rattle.sg_ops.specs.Table.{table_of, range_at, rendered};
+ghost use Rattle.sg_ops.specs.Table.{Table, table_of, range_at, rendered};
 ghost use Rattle.sg_space.specs.Bands.{IsPiece};
 ghost use Rattle.sg_space.specs.View.{Counts};
 
@@ -24,6 +24,8 @@ pub fn write_in<P: PageSpace>(
     ensures counts { Counts (P.view space.old) (P.view space.new) result }
     ensures did { OnOk result (Did (P.view space.old) (P.view space.new) root.0
         (HasPlace at (length bytes.now)) (with_bytes at bytes.now)) }
+    ensures later { (t : Table) → P.later t space.old space.new }
+    ensures means { (t : Table) → P.means space.old t → P.means space.new t }
 {
     let b = band_at(space, root, at / BAND)?;
     space.write_band(b, at % BAND, bytes)?;
@@ -42,6 +44,8 @@ pub fn write_all<P: PageSpace>(
     ensures counts { Counts (P.view space.old) (P.view space.new) result }
     ensures did { OnOk result (Did (P.view space.old) (P.view space.new) root.0
         (HasPlace at (length bytes.now)) (with_bytes at bytes.now)) }
+    ensures later { (t : Table) → P.later t space.old space.new }
+    ensures means { (t : Table) → P.means space.old t → P.means space.new t }
 {
     let mut done = 0;
     'pieces: while done < bytes.len() {
@@ -71,11 +75,14 @@ pub fn set_root<P: PageSpace>(
     count: u32,
     peak: u32,
 ) -> Result<(), SpaceFault>
+    requires means { P.means space.old (table_of record_meaning range_meaning ops.now) }
     requires below { count ≤ peak }
     requires few { peak ≤ 16384000 }
     requires there { HasRaw (P.view space.old) root.0 (λ _. ⊤) }
     ensures counts { Counts (P.view space.old) (P.view space.new) result }
     ensures did { OnOk result (Did (P.view space.old) (P.view space.new) root.0 (λ _. ⊤) (with_root count peak)) }
+    ensures later { P.later (table_of record_meaning range_meaning ops.now) space.old space.new }
+    ensures means { P.means space.new (table_of record_meaning range_meaning ops.now) }
 {
     let cell = spell_root(count, peak);
     let op = PageOp::Set {
@@ -96,14 +103,17 @@ pub fn paint_in<P: PageSpace>(
     code: u16,
     arg: &[u8],
 ) -> Result<(), SpaceFault>
+    requires means { P.means space.old (table_of record_meaning range_meaning ops.now) }
     requires piece { IsPiece (at % BAND) count }
     requires small { at + count ≤ 16384000 }
     requires there { HasRaw (P.view space.old) root.0 (HasPlace at count) }
     requires can { (P.view space.old).Told → CanPaintBy (table_of record_meaning range_meaning ops.now)
-        (P.view space.old) code arg.now }
+        code arg.now }
     ensures counts { Counts (P.view space.old) (P.view space.new) result }
     ensures did { OnOk result (Did (P.view space.old) (P.view space.new) root.0 (HasPlace at count)
         (with_bytes at (rendered (range_at (table_of record_meaning range_meaning ops.now) code) arg.now at count))) }
+    ensures later { P.later (table_of record_meaning range_meaning ops.now) space.old space.new }
+    ensures means { P.means space.new (table_of record_meaning range_meaning ops.now) }
 {
     let b = band_at(space, root, at / BAND)?;
     space.paint_band(ops, b, at % BAND, count, code, at, arg)?;
@@ -120,13 +130,16 @@ pub fn paint_all<P: PageSpace>(
     code: u16,
     arg: &[u8],
 ) -> Result<(), SpaceFault>
+    requires means { P.means space.old (table_of record_meaning range_meaning ops.now) }
     requires small { at + count ≤ 16384000 }
     requires there { HasRaw (P.view space.old) root.0 (HasPlace at count) }
     requires can { (P.view space.old).Told → CanPaintBy (table_of record_meaning range_meaning ops.now)
-        (P.view space.old) code arg.now }
+        code arg.now }
     ensures counts { Counts (P.view space.old) (P.view space.new) result }
     ensures did { OnOk result (Did (P.view space.old) (P.view space.new) root.0 (HasPlace at count)
         (with_bytes at (rendered (range_at (table_of record_meaning range_meaning ops.now) code) arg.now at count))) }
+    ensures later { P.later (table_of record_meaning range_meaning ops.now) space.old space.new }
+    ensures means { P.means space.new (table_of record_meaning range_meaning ops.now) }
 {
     let mut done = 0;
     'pieces: while done < count {
@@ -140,11 +153,14 @@ pub fn paint_all<P: PageSpace>(
 
 // Takes a band, and puts its number behind those of the root.
 fn add_band<P: PageSpace>(space: &mut P, ops: &Ops, root: PageNo, j: u32) -> Result<(), SpaceFault>
+    requires means { P.means space.old (table_of record_meaning range_meaning ops.now) }
     requires below { j < 500 }
     requires there { HasRaw (P.view space.old) root.0 (CanAdd (P.view space.old) root.0 j) }
     ensures counts { Counts (P.view space.old) (P.view space.new) result }
     ensures did { OnOk result (DidSome (P.view space.old) (P.view space.new) root.0
         (CanAdd (P.view space.old) root.0 j) (IsGrown (j + 1))) }
+    ensures later { P.later (table_of record_meaning range_meaning ops.now) space.old space.new }
+    ensures means { P.means space.new (table_of record_meaning range_meaning ops.now) }
 {
     let band = space.take_band()?;
     let mut cell = [0; 4];
@@ -163,12 +179,15 @@ pub fn grow_to<P: PageSpace>(
     have: u32,
     want: u32,
 ) -> Result<(), SpaceFault>
+    requires means { P.means space.old (table_of record_meaning range_meaning ops.now) }
     requires order { have ≤ want }
     requires most { want ≤ 500 }
     requires there { HasRaw (P.view space.old) root.0 (CanGrow (P.view space.old) root.0 have want) }
     ensures counts { Counts (P.view space.old) (P.view space.new) result }
     ensures did { OnOk result (DidSome (P.view space.old) (P.view space.new) root.0
         (CanGrow (P.view space.old) root.0 have want) (IsGrown want)) }
+    ensures later { P.later (table_of record_meaning range_meaning ops.now) space.old space.new }
+    ensures means { P.means space.new (table_of record_meaning range_meaning ops.now) }
 {
     for j in have..want {
         add_band(space, ops, root, j)?;

@@ -1,6 +1,7 @@
 // A blob is freed.
 ghost use Rattle.std.specs.Prelude.{◌≡◌, ◌+◌, ◌<◌, ◌≤◌, OnOk, ⊤};
 ghost use Rattle.sg_blob.specs.Calls.{HasBlob, Gone};
+ghost use Rattle.sg_ops.specs.Table.{Table};
 ghost use Rattle.sg_space.specs.View.{Counts};
 
 use crate::walk::{bands_for, link_at, read_root};
@@ -12,6 +13,8 @@ pub fn free_all<P: PageSpace>(space: &mut P, root: PageNo) -> Result<(), SpaceFa
     requires { HasBlob (P.view space.old) root.0 (λ _. ⊤) }
     ensures counts { Counts (P.view space.old) (P.view space.new) result }
     ensures did { OnOk result (Gone (P.view space.old) (P.view space.new) root.0) }
+    ensures later { (t : Table) → P.later t space.old space.new }
+    ensures means { (t : Table) → P.means space.old t → P.means space.new t }
 {
     let found = read_root(space, root)?;
     for j in 0..bands_for(found.peak) {

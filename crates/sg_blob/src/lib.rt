@@ -6,10 +6,12 @@
 //! that reads answer only what the space shows.
 #![tactic(auto)]
 
+mod beside;
 mod blob;
 mod change;
 mod free;
 mod walk;
 
+pub use beside::keep_bound;
 pub use blob::{bands, len, make, paint, read, restore_len, set_len, write};
 pub use free::free_all;

@@ -4,6 +4,7 @@ ghost use Rattle.byteorder.specs.Endian.{little_bytes};
 ghost use Rattle.sg_blob.specs.Raw.{root_cell};
 ghost use Rattle.sg_blob.specs.Steps.{HasRaw, IfRaw, IsInRange, IsCopied};
 ghost use Rattle.sg_blob.specs.Steps as spec;
+ghost use Rattle.sg_ops.specs.Table.{Table};
 ghost use Rattle.sg_space.specs.Bands.{IsPiece};
 ghost use Rattle.sg_space.specs.Pages.{CanLook};
 ghost use Rattle.sg_space.specs.Reads.{CanRead, Reads};
@@ -55,6 +56,8 @@ pub fn read_root<P: PageSpace>(space: &mut P, root: PageNo) -> Result<Root, Spac
     ensures counts { Counts (P.view space.old) (P.view space.new) result }
     ensures kept { OnOk result (OnlyReads (P.view space.old) (P.view space.new)) }
     ensures read { IfOk result (λ n. IfRaw (P.view space.old) root.0 (λ r. (n.count ≡ r.count) × (n.peak ≡ r.peak))) }
+    ensures later { (t : Table) → P.later t space.old space.new }
+    ensures means { (t : Table) → P.means space.old t → P.means space.new t }
 {
     let mut cell = [0; 8];
     read_cell(space, root, ROOT_KIND, 0, &mut cell)?;
@@ -71,6 +74,8 @@ pub fn link_at<P: PageSpace>(space: &mut P, root: PageNo, slot: u16) -> Result<B
     ensures kept { OnOk result (OnlyReads (P.view space.old) (P.view space.new)) }
     ensures read { IfOk result (λ n. Reads (P.view space.old) root.0 7 slot (little_bytes 4 n.0)) }
     ensures small { IfOk result (λ n. n.0 < 2 ^ 32) }
+    ensures later { (t : Table) → P.later t space.old space.new }
+    ensures means { (t : Table) → P.means space.old t → P.means space.new t }
 {
     let mut cell = [0; 4];
     read_cell(space, root, ROOT_KIND, slot, &mut cell)?;
@@ -84,6 +89,8 @@ pub fn band_at<P: PageSpace>(space: &mut P, root: PageNo, j: u32) -> Result<Band
     ensures counts { Counts (P.view space.old) (P.view space.new) result }
     ensures kept { OnOk result (OnlyReads (P.view space.old) (P.view space.new)) }
     ensures read { IfOk result (λ n. IfRaw (P.view space.old) root.0 (λ r. slice_get r.bands j ≡ Some n.0)) }
+    ensures later { (t : Table) → P.later t space.old space.new }
+    ensures means { (t : Table) → P.means space.old t → P.means space.new t }
 {
     let found = link_at(space, root, (j + 1) as u16)?;
     Ok(found)
@@ -101,6 +108,8 @@ fn copy_band<P: PageSpace>(
     ensures counts { Counts (P.view space.old) (P.view space.new) result }
     ensures kept { OnOk result (OnlyReads (P.view space.old) (P.view space.new)) }
     ensures read { OnOk result ((P.view space.old).Shows → HasAt (P.view space.old).space.bands.at b.0 (λ band. IsCopied band at into.new)) }
+    ensures later { (t : Table) → P.later t space.old space.new }
+    ensures means { (t : Table) → P.means space.old t → P.means space.new t }
 {
     let band = space.band(b)?;
     let start = at as usize;
@@ -121,6 +130,8 @@ pub fn read_in<P: PageSpace>(
     ensures counts { Counts (P.view space.old) (P.view space.new) result }
     ensures kept { OnOk result (OnlyReads (P.view space.old) (P.view space.new)) }
     ensures read { OnOk result (IfRaw (P.view space.old) root.0 (λ r. IsCopied r.bytes at into.new)) }
+    ensures later { (t : Table) → P.later t space.old space.new }
+    ensures means { (t : Table) → P.means space.old t → P.means space.new t }
 {
     let b = band_at(space, root, at / BAND)?;
     copy_band(space, b, at % BAND, into)?;

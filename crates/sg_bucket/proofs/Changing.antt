@@ -31,7 +31,6 @@ use Rattle.sg_bucket.proofs.Linking.{part_changed, same_owned, appended, append_
 keeps_but : {t : Table} {v w : View} {p : ℕ} {op : Op} → Changed t v w p op → ((sheet : Sheet) → shrinks op sheet ≡ false) → Keeps v w
 keeps_but {t} {v} {w} {p} c same = record {
   told = c.told;
-  table = c.table;
   may_take = c.may_take;
   may_have = λ q n h. elim (cases_eq q p) as (λ _. w.MayHave q n) [
     | inl is ↦ subst (λ (k : ℕ). w.MayHave k n) (sym is) (c.may_still n (λ sheet e. same sheet) (subst (λ (k : ℕ). v.MayHave k n) is h))
@@ -96,7 +95,6 @@ put_can {t} {v} {p = p} {slot = slot} {b = b} {cell = cell} h k =
         fits = subst (λ (o : Option Sheet). IsSome o) (sym (put_step t part.what slot cell can.free (can.fits cell refl))) refl;
         done = tt;
         short = omega arith;
-        means = λ e. absurd (no e);
         place = λ e. k.may_fill p (k.index, k.there) (length part.what.slots + 1) (small_directory part.what.slots slot cell e can);
       };
     }
@@ -166,7 +164,6 @@ set_can {t} {v} {place = place} {b = b} {cell = cell} h k =
         fits = subst (λ (o : Option Sheet). IsSome o) (sym (set_step t part.what place.slot k.was cell is (set_fits part.what.slots place.slot k.was cell is fits))) refl;
         done = tt;
         short = omega arith;
-        means = λ e. absurd (no e);
         place = λ e. absurd (no e);
       };
     }
@@ -180,7 +177,6 @@ same_standing {b = b} {place = place} h s r =
 pub set_did : {t : Table} {v w : View} {first : ℕ} {place : Place} {cell : List ℕ} → IsEntryCell cell → Changed t v w place.page.0 (Set place.slot cell) → Did v w first (CanSet (length cell) place) (IsSet cell place)
 set_did {t} {v} {w} {first} {place} {cell} entry c = record {
   told = c.told;
-  table = λ told. c.table;
   turns = λ told b h k.
       let s = k.stands in
       let slots : Slots = part_at b.parts s.index in
@@ -223,7 +219,6 @@ remove_can {t} {v} {place = place} {b = b} h k =
         fits = subst (λ (o : Option Slots). IsSome (with_slots part.what o)) (sym (removes part.what.slots place.slot k.was is)) refl;
         done = tt;
         short = omega arith;
-        means = λ e. absurd (no e);
         place = λ e. absurd (no e);
       };
     }
@@ -231,7 +226,6 @@ remove_can {t} {v} {place = place} {b = b} h k =
 pub remove_did : {t : Table} {v w : View} {first : ℕ} {place : Place} → Changed t v w place.page.0 (Remove place.slot) → Did v w first (HasCellAt place) (IsRemoved place)
 remove_did {t} {v} {w} {first} {place} c = record {
   told = c.told;
-  table = λ told. c.table;
   turns = λ told b h k.
       let s = k.stands in
       let slots : Slots = part_at b.parts s.index in
@@ -257,7 +251,7 @@ pub links_can : {t : Table} {v : View} {p : ℕ} {links : ℕ × ℕ} {P : Sheet
 links_can h = record {
   what = h.what;
   is = h.is;
-  has = record { plain = refl; fits = refl; done = tt; short = omega arith; means = λ e. absurd (no e); place = λ e. absurd (no e) };
+  has = record { plain = refl; fits = refl; done = tt; short = omega arith; place = λ e. absurd (no e) };
 }
 
 -- the last page is still there after a page was taken
@@ -289,7 +283,7 @@ stays_more b q cell h place other s =
     }
 
 took_keeps : {v w : View} {kind p : ℕ} {cell : List ℕ} → TookWith v w kind cell p → Keeps v w
-took_keeps t = record { told = t.told; table = t.table; may_take = t.may_take; may_have = t.may_have }
+took_keeps t = record { told = t.told; may_take = t.may_take; may_have = t.may_have }
 
 pub append_did : {t : Table} {v x w : View} {first last q : ℕ} {cell : List ℕ} → IsEntryCell cell → TookWith v x 6 cell q → Changed t x w last (Links (q, 0)) → DidKeep v w first (CanAppend v last) (IsAppended w cell q)
 append_did {t} {v} {x} {w} {first} {last} {q} {cell} entry took c = record {
@@ -318,7 +312,6 @@ append_did {t} {v} {x} {w} {first} {last} {q} {cell} entry took c = record {
 pub cut_did : {t : Table} {v x w : View} {first before page next : ℕ} → Changed t v x before (Links (next, 0)) → Freed x w page → Did v w first (CanCut before page next) (IsCut page)
 cut_did {t} {v} {x} {w} {first} {before} {page} {next} c f = record {
   told = λ told. f.told (c.told told);
-  table = λ told u h. f.table u (c.table u h);
   turns = λ told b h k. (
     without (k.index + 1) b,
     record {

@@ -30,7 +30,6 @@ pub record FreesTo (v w : View) (first done page : ℕ) : Type 0 where
   pub next : v.Told → (b : Bucket) → IsLinked v.space.pages.at first b → slice_get b.pages done ≡ Some page
   pub freed : v.Told → (b : Bucket) → IsLinked v.space.pages.at first b → AreFreed v.space w.space b.pages done
   pub bands : v.Told → w.space.bands ≡ v.space.bands
-  pub table : v.Told → (t : Table) → v.IsTable t → w.IsTable t
   pub may_have : v.Told → (b : Bucket) → IsLinked v.space.pages.at first b → (page slots : ℕ) → ¬ OwnsPage b page → v.MayHave page slots → w.MayHave page slots
 
 pub frees_none : {v : View} {first : ℕ} → FreesTo v v first 0 first
@@ -41,7 +40,6 @@ frees_none = record {
   next = λ t b h. h.starts;
   freed = λ t b h. record { gone = λ p f. absurd (let less = f.1 in omega arith); others = λ p none. refl; free = omega arith; all = refl };
   bands = λ t. refl;
-  table = λ t u h. h;
   may_have = λ t b h p n none m. m;
 }
 
@@ -72,7 +70,6 @@ one_freed {b = b} {c = c} {pages = pages} {done = done} {p = p} apart e f g = re
 record OneMore (u x : View) (first done : ℕ) : Type 0 where
   freed : u.Told → (b : Bucket) → IsLinked u.space.pages.at first b → AreFreed u.space x.space b.pages (done + 1)
   bands : u.Told → x.space.bands ≡ u.space.bands
-  table : u.Told → (t : Table) → u.IsTable t → x.IsTable t
   may_have : u.Told → (b : Bucket) → IsLinked u.space.pages.at first b → (page slots : ℕ) → ¬ OwnsPage b page → u.MayHave page slots → x.MayHave page slots
 
 one_more : {u v w x : View} {first done page : ℕ} → FreesTo u v first done page → (u.Told → v.Shows) → OnlyReads v w → Freed w x page → OneMore u x first done
@@ -82,7 +79,6 @@ one_more {u} {v} {w} {x} {first} {done} {page} i shows k f = record {
       let told = k.keeps.told (i.told t) in
       one_freed h.apart (i.next t b h) now (f.pages told);
   bands = λ t. f.bands (k.keeps.told (i.told t)) ∙ (ap (λ (s : Space). s.bands) (k.same (shows t)) ∙ i.bands t);
-  table = λ t y h. f.table y (k.keeps.table y (i.table t y h));
   may_have = λ t b h p n none m. f.may_have p n (λ same. none (done, i.next t b h ∙ ap Some (sym same))) (k.keeps.may_have p n (i.may_have t b h p n none m));
 }
 
@@ -96,7 +92,6 @@ frees_on {done = done} {next = next} i shows k back later back' later' f is some
       next = λ t b h. index_there b.pages (done + 1) next (is t b h) some;
       freed = m.freed;
       bands = m.bands;
-      table = m.table;
       may_have = m.may_have;
     }
 
@@ -105,7 +100,6 @@ all_gone {u} {v} {w} {x} {first} {done} {page} i shows k f is =
     let m = one_more i shows k f in
     record {
       told = λ t. f.told (k.keeps.told (i.told t));
-      table = m.table;
       pages = λ t b h.
           let a = m.freed t b h in
           let past = index_past b.pages (done + 1) (is t b h) (h.behind done) in

@@ -163,7 +163,6 @@ turns_none {at} {at'} {first} {b} e h = subst (λ (s : Space). Turns at s first 
 pub did_none : {v w : View} {first : ℕ} {Can : Bucket → Type 0} {Is : Bucket → Bucket → Type 0} → (v.Told → v.Shows) → OnlyReads v w → (v.Told → (b : Bucket) → IsLinked v.space.pages.at first b → Can b → Is b b) → Did v w first Can Is
 did_none shows k so = record {
   told = λ told. k.keeps.told told;
-  table = λ told. k.keeps.table;
   turns = λ told b h can. (b, turns_none (k.same (shows told)) h, so told b h can);
   may_have = λ told b h can page n none there may. k.keeps.may_have page n may;
 }

@@ -74,7 +74,6 @@ still_other {x} {y} {q = q} {a = a} {b = b} f none there = (not_now, λ e. there
 pub did_of : {v w : View} {first : ℕ} {Can : Bucket → Type 0} {Is : Bucket → Bucket → Type 0} → DidKeep v w first Can Is → Did v w first Can Is
 did_of d = record {
   told = λ told. (d.keeps told).told told;
-  table = λ told. (d.keeps told).table;
   turns = d.turns;
   may_have = λ told b h can page n none there may. (d.keeps told).may_have page n may;
 }
@@ -83,7 +82,6 @@ did_of d = record {
 pub did_then : {u v w : View} {first : ℕ} {Can Then : Bucket → Type 0} {Is Next All : Bucket → Bucket → Type 0} → Did u v first Can Is → Did v w first Then Next → (u.Told → (b b' : Bucket) → IsLinked u.space.pages.at first b → Can b → Turns u.space v.space first b b' → Is b b' → Then b') → (u.Told → (b b' b'' : Bucket) → IsLinked u.space.pages.at first b → Can b → Turns u.space v.space first b b' → Is b b' → Next b' b'' → All b b'') → Did u w first Can All
 did_then {u} {v} {w} {first} f g so all = record {
   told = λ told. g.told (f.told told);
-  table = λ told t h. g.table (f.told told) t (f.table told t h);
   turns = λ told b h can.
       let one = f.turns told b h can in
       let two = g.turns (f.told told) one.0 one.1.linked (so told b one.0 h can one.1 one.2) in
@@ -98,7 +96,6 @@ did_then {u} {v} {w} {first} f g so all = record {
 pub did_as : {v w : View} {first : ℕ} {Can : Bucket → Type 0} {Is Now : Bucket → Bucket → Type 0} → Did v w first Can Is → (v.Told → (b b' : Bucket) → IsLinked v.space.pages.at first b → Can b → Turns v.space w.space first b b' → Is b b' → Now b b') → Did v w first Can Now
 did_as f so = record {
   told = f.told;
-  table = f.table;
   turns = λ told b h can. let one = f.turns told b h can in (one.0, one.1, so told b one.0 h can one.1 one.2);
   may_have = f.may_have;
 }
@@ -107,7 +104,6 @@ did_as f so = record {
 pub did_reads : {u v w : View} {first : ℕ} {Can : Bucket → Type 0} {Is : Bucket → Bucket → Type 0} → Did u v first Can Is → (v.Told → v.Shows) → OnlyReads v w → Did u w first Can Is
 did_reads {u} {v} {w} {first} f shows k = record {
   told = λ told. k.keeps.told (f.told told);
-  table = λ told t h. k.keeps.table t (f.table told t h);
   turns = λ told b h can. let one = f.turns told b h can in (one.0, still (λ (s : Space). Turns u.space s first b one.0) k (shows (f.told told)) one.1, one.2);
   may_have = λ told b h can page n none there may. k.keeps.may_have page n (f.may_have told b h can page n none there may);
 }
@@ -115,7 +111,6 @@ did_reads {u} {v} {w} {first} f shows k = record {
 pub reads_did : {u v w : View} {first : ℕ} {Can Then : Bucket → Type 0} {Is : Bucket → Bucket → Type 0} → (u.Told → u.Shows) → OnlyReads u v → Did v w first Then Is → (u.Told → (b : Bucket) → IsLinked u.space.pages.at first b → Can b → Then b) → Did u w first Can Is
 reads_did {u} {v} {w} {first} shows k f so = record {
   told = λ told. f.told (k.keeps.told told);
-  table = λ told t h. f.table (k.keeps.told told) t (k.keeps.table t h);
   turns = λ told b h can.
       let one = f.turns (k.keeps.told told) b (still (λ (s : Space). IsLinked s.pages.at first b) k (shows told) h) (so told b h can) in
       (one.0, before (λ (s : Space). Turns s w.space first b one.0) k (shows told) one.1, one.2);

@@ -72,7 +72,6 @@ strips_none shows k back later = record {
   later = later;
   did = record {
     told = λ told. k.keeps.told told;
-    table = λ told. k.keeps.table;
     turns = λ told b h behind. (
       b,
       turns_none (k.same (shows told)) h,
@@ -314,7 +313,6 @@ prunes_none = record {
   later = omega arith;
   did = record {
     told = λ told. told;
-    table = λ told t h. h;
     turns = λ told b h can. (
       b,
       turns_none refl h,

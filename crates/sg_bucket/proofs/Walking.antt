@@ -60,7 +60,7 @@ walk_end {b = b} {i = i} {page = page} {P = P} h w here is j less =
     ]
 
 pub reads_same : {v : View} → OnlyReads v v
-reads_same = record { keeps = keeps_same; shows = λ s. s; same = λ s. refl }
+reads_same = record { keeps = keeps_same; shows = λ s. s; same = λ s. refl; wrote = λ b h. h; still = λ s. s }
 
 -- what is read in between is what stood there
 pub still_linked : {v w : View} {first : ℕ} {b : Bucket} → OnlyReads v w → v.Shows → IsLinked v.space.pages.at first b → IsLinked w.space.pages.at first b

@@ -68,7 +68,6 @@ pub record Made (v w : View) (p : ℕ) : Type 0 where
 -- the bucket's pages are free, and no other has changed
 pub record Gone (v w : View) (first : ℕ) : Type 0 where
   pub told : v.Told → w.Told
-  pub table : v.Told → (t : Table) → v.IsTable t → w.IsTable t
   pub pages : v.Told → (b : Bucket) → IsLinked v.space.pages.at first b → Becomes v.space.pages w.space.pages (OwnsPage b) (λ _. ⊥) (length b.pages) 0
   pub bands : v.Told → w.space.bands ≡ v.space.bands
   pub may_have : v.Told → (b : Bucket) → IsLinked v.space.pages.at first b → (page slots : ℕ) → ¬ OwnsPage b page → v.MayHave page slots → w.MayHave page slots

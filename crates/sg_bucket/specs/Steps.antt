@@ -55,7 +55,6 @@ pub record Turns (old new : Space) (first : ℕ) (b b' : Bucket) : Type 0 where
 -- what a step does to each chain that stood there and of which it could be asked
 pub record Did (v w : View) (first : ℕ) (Can : Bucket → Type 0) (Is : Bucket → Bucket → Type 0) : Type 0 where
   pub told : v.Told → w.Told
-  pub table : v.Told → (t : Table) → v.IsTable t → w.IsTable t
   pub turns : v.Told → (b : Bucket) → IsLinked v.space.pages.at first b → Can b → (b' : Bucket) × Turns v.space w.space first b b' × Is b b'
   -- other taken pages may have the slots that they might have before
   pub may_have : v.Told → (b : Bucket) → IsLinked v.space.pages.at first b → Can b → (page slots : ℕ) → ¬ OwnsPage b page → v.space.pages.at page ≢ None → v.MayHave page slots → w.MayHave page slots

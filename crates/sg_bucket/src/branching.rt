@@ -5,6 +5,7 @@ ghost use Rattle.sg_bucket.specs.Branch.{CanExtend, IsExtended, CanCopy, IsPartC
 ghost use Rattle.sg_bucket.specs.Division.{CanBranch, Branched};
 ghost use Rattle.sg_bucket.specs.Entry.{IsEntryCell};
 ghost use Rattle.sg_bucket.specs.Steps.{DidKeep};
+ghost use Rattle.sg_ops.specs.Table.{table_of};
 ghost use Rattle.sg_space.specs.Units.{HasAt};
 ghost use Rattle.sg_space.specs.View.{Counts};
 
@@ -40,6 +41,7 @@ fn extend<P: PageSpace>(
     tail: Tail,
     cell: &[u8],
 ) -> Result<Tail, SpaceFault>
+    requires means { P.means space.old (table_of record_meaning range_meaning ops.now) }
     requires cell { IsEntryCell cell.now }
     requires slot { filled tail.slot < 65535 }
     requires there { HasLinked (P.view space.old) new.0 (CanExtend (P.view space.old) tail (length cell.now)) }
@@ -47,6 +49,8 @@ fn extend<P: PageSpace>(
     ensures did { IfOk result (λ end. DidKeep (P.view space.old) (P.view space.new) new.0
         (CanExtend (P.view space.old) tail (length cell.now)) (IsExtended (P.view space.new) cell.now tail end)) }
     ensures slot { IfOk result (λ end. filled end.slot ≤ filled tail.slot + 1) }
+    ensures later { P.later (table_of record_meaning range_meaning ops.now) space.old space.new }
+    ensures means { P.means space.new (table_of record_meaning range_meaning ops.now) }
 {
     match tail.slot {
         Some(slot) => {
@@ -76,12 +80,15 @@ fn copy_part<P: PageSpace>(
     from: PageNo,
     there: Address,
 ) -> Result<Copied, SpaceFault>
+    requires means { P.means space.old (table_of record_meaning range_meaning ops.now) }
     requires slot { filled tail.slot ≡ 0 }
     requires there { HasLinked (P.view space.old) new.0 (CanCopy (P.view space.old) tail from.0) }
     ensures counts { Counts (P.view space.old) (P.view space.new) result }
     ensures did { IfOk result (λ copied. DidKeep (P.view space.old) (P.view space.new) new.0
         (CanCopy (P.view space.old) tail from.0) (IsPartCopied (P.view space.old) (P.view space.new) there from.0 tail copied)) }
     ensures read { IfOk result (λ copied. (P.view space.old).Shows → HasAt (P.view space.old).space.pages.at from.0 (λ sheet. sheet.links.0 ≡ copied.next.0)) }
+    ensures later { P.later (table_of record_meaning range_meaning ops.now) space.old space.new }
+    ensures means { P.means space.new (table_of record_meaning range_meaning ops.now) }
 {
     let seen = outline_of(space, from)?;
     let mut tail = tail;
@@ -107,9 +114,12 @@ pub fn branch<P: PageSpace>(
     first: PageNo,
     there: Address,
 ) -> Result<PageNo, SpaceFault>
-    requires { HasLinked (P.view space.old) first.0 (CanBranch (P.view space.old)) }
+    requires means { P.means space.old (table_of record_meaning range_meaning ops.now) }
+    requires can { HasLinked (P.view space.old) first.0 (CanBranch (P.view space.old)) }
     ensures counts { Counts (P.view space.old) (P.view space.new) result }
     ensures did { IfOk result (λ new. Branched (P.view space.old) (P.view space.new) first.0 new.0 there) }
+    ensures later { P.later (table_of record_meaning range_meaning ops.now) space.old space.new }
+    ensures means { P.means space.new (table_of record_meaning range_meaning ops.now) }
 {
     let new = make(space)?;
     let mut tail = Tail {

@@ -3,6 +3,7 @@ ghost use Rattle.sg_bucket.specs.Bucket.{HasLinked};
 ghost use Rattle.sg_bucket.specs.Calls.{CanPutEntry, DidPut, IsSound, IsDeleted, Made};
 ghost use Rattle.sg_bucket.specs.Entry.{cell_of};
 ghost use Rattle.sg_bucket.specs.Steps.{Did};
+ghost use Rattle.sg_ops.specs.Table.{Table, table_of};
 ghost use Rattle.sg_space.specs.Pages.{CanTake};
 ghost use Rattle.sg_space.specs.View.{Counts};
 
@@ -20,6 +21,8 @@ pub fn make<P: PageSpace>(space: &mut P) -> Result<PageNo, SpaceFault>
     requires { CanTake (P.view space.old) (P.view space.old).space.pages }
     ensures counts { Counts (P.view space.old) (P.view space.new) result }
     ensures did { IfOk result (λ p. Made (P.view space.old) (P.view space.new) p.0) }
+    ensures later { (t : Table) → P.later t space.old space.new }
+    ensures means { (t : Table) → P.means space.old t → P.means space.new t }
 {
     let p = space.take_page(BUCKET_KIND)?;
     Ok(p)
@@ -34,11 +37,14 @@ pub fn put<P: PageSpace>(
     key: &[u8],
     value: &[u8],
 ) -> Result<Option<u16>, SpaceFault>
+    requires means { P.means space.old (table_of record_meaning range_meaning ops.now) }
     requires key { length key.now ≤ 128 }
     requires value { length value.now ≤ 1024 }
     requires there { HasLinked (P.view space.old) first.0 (CanPutEntry (P.view space.old)) }
     ensures counts { Counts (P.view space.old) (P.view space.new) result }
     ensures did { IfOk result (λ old. DidPut (P.view space.old) (P.view space.new) first.0 key.now value.now old) }
+    ensures later { P.later (table_of record_meaning range_meaning ops.now) space.old space.new }
+    ensures means { P.means space.new (table_of record_meaning range_meaning ops.now) }
 {
     let mut bytes = [0; MOST_CELL];
     let size = spell(&mut bytes, key, value);
@@ -62,9 +68,12 @@ pub fn del<P: PageSpace>(
     first: PageNo,
     key: &[u8],
 ) -> Result<Option<u16>, SpaceFault>
-    requires { HasLinked (P.view space.old) first.0 IsSound }
+    requires means { P.means space.old (table_of record_meaning range_meaning ops.now) }
+    requires can { HasLinked (P.view space.old) first.0 IsSound }
     ensures counts { Counts (P.view space.old) (P.view space.new) result }
     ensures did { IfOk result (λ old. Did (P.view space.old) (P.view space.new) first.0 IsSound (IsDeleted key.now old)) }
+    ensures later { P.later (table_of record_meaning range_meaning ops.now) space.old space.new }
+    ensures means { P.means space.new (table_of record_meaning range_meaning ops.now) }
 {
     match seek(space, first, key)? {
         None => Ok(None),

@@ -3,6 +3,7 @@ ghost use Rattle.std.specs.Prelude.{◌≡◌, ◌≤◌, length, IfOk, OnOk};
 ghost use Rattle.sg_bucket.specs.Bucket.{HasLinked};
 ghost use Rattle.sg_bucket.specs.Entry.{IsEntryCell};
 ghost use Rattle.sg_bucket.specs.Steps.{CanPutAt, CanAppend, CanAdd, IsAdded, IsPutAt, IsAppended, CanSet, IsSet, CanCut, IsCut, HasCellAt, IsRemoved, CanReplace, IsReplaced, IsTakenOut, Did, DidKeep};
+ghost use Rattle.sg_ops.specs.Table.{table_of};
 ghost use Rattle.sg_space.specs.View.{Counts};
 
 use crate::page::BUCKET_KIND;
@@ -21,11 +22,14 @@ pub fn put_at<P: PageSpace>(
     slot: u16,
     cell: &[u8],
 ) -> Result<(), SpaceFault>
+    requires means { P.means space.old (table_of record_meaning range_meaning ops.now) }
     requires cell { IsEntryCell cell.now }
     requires there { HasLinked (P.view space.old) first.0 (CanPutAt (P.view space.old) (length cell.now) p.0 slot) }
     ensures counts { Counts (P.view space.old) (P.view space.new) result }
     ensures did { OnOk result (DidKeep (P.view space.old) (P.view space.new) first.0
         (CanPutAt (P.view space.old) (length cell.now) p.0 slot) (IsPutAt cell.now p.0 slot)) }
+    ensures later { P.later (table_of record_meaning range_meaning ops.now) space.old space.new }
+    ensures means { P.means space.new (table_of record_meaning range_meaning ops.now) }
 {
     let op = PageOp::Put { slot, bytes: cell };
     space.change(ops, p, &op)?;
@@ -40,11 +44,14 @@ pub fn append<P: PageSpace>(
     last: PageNo,
     cell: &[u8],
 ) -> Result<PageNo, SpaceFault>
+    requires means { P.means space.old (table_of record_meaning range_meaning ops.now) }
     requires cell { IsEntryCell cell.now }
     requires there { HasLinked (P.view space.old) first.0 (CanAppend (P.view space.old) last.0) }
     ensures counts { Counts (P.view space.old) (P.view space.new) result }
     ensures did { IfOk result (λ p. DidKeep (P.view space.old) (P.view space.new) first.0
         (CanAppend (P.view space.old) last.0) (IsAppended (P.view space.new) cell.now p.0)) }
+    ensures later { P.later (table_of record_meaning range_meaning ops.now) space.old space.new }
+    ensures means { P.means space.new (table_of record_meaning range_meaning ops.now) }
 {
     let p = take_page_with(space, ops, BUCKET_KIND, cell)?;
     let op = PageOp::Links { a: p.0, b: 0 };
@@ -59,11 +66,14 @@ pub fn add<P: PageSpace>(
     first: PageNo,
     cell: &[u8],
 ) -> Result<(), SpaceFault>
+    requires means { P.means space.old (table_of record_meaning range_meaning ops.now) }
     requires cell { IsEntryCell cell.now }
     requires there { HasLinked (P.view space.old) first.0 (CanAdd (P.view space.old)) }
     ensures counts { Counts (P.view space.old) (P.view space.new) result }
     ensures did { OnOk result (DidKeep (P.view space.old) (P.view space.new) first.0
         (CanAdd (P.view space.old)) (IsAdded cell.now)) }
+    ensures later { P.later (table_of record_meaning range_meaning ops.now) space.old space.new }
+    ensures means { P.means space.new (table_of record_meaning range_meaning ops.now) }
 {
     let mut page = first;
     for _passed in 0..space.pages() {
@@ -92,11 +102,14 @@ pub fn set_over<P: PageSpace>(
     place: Place,
     cell: &[u8],
 ) -> Result<(), SpaceFault>
+    requires means { P.means space.old (table_of record_meaning range_meaning ops.now) }
     requires cell { IsEntryCell cell.now }
     requires there { HasLinked (P.view space.old) first.0 (CanSet (length cell.now) place) }
     ensures counts { Counts (P.view space.old) (P.view space.new) result }
     ensures did { OnOk result (Did (P.view space.old) (P.view space.new) first.0
         (CanSet (length cell.now) place) (IsSet cell.now place)) }
+    ensures later { P.later (table_of record_meaning range_meaning ops.now) space.old space.new }
+    ensures means { P.means space.new (table_of record_meaning range_meaning ops.now) }
 {
     let op = PageOp::Set {
         slot: place.slot,
@@ -115,10 +128,13 @@ pub fn cut<P: PageSpace>(
     page: PageNo,
     next: PageNo,
 ) -> Result<(), SpaceFault>
-    requires { HasLinked (P.view space.old) first.0 (CanCut before.0 page.0 next.0) }
+    requires means { P.means space.old (table_of record_meaning range_meaning ops.now) }
+    requires can { HasLinked (P.view space.old) first.0 (CanCut before.0 page.0 next.0) }
     ensures counts { Counts (P.view space.old) (P.view space.new) result }
     ensures did { OnOk result (Did (P.view space.old) (P.view space.new) first.0
         (CanCut before.0 page.0 next.0) (IsCut page.0)) }
+    ensures later { P.later (table_of record_meaning range_meaning ops.now) space.old space.new }
+    ensures means { P.means space.new (table_of record_meaning range_meaning ops.now) }
 {
     let op = PageOp::Links { a: next.0, b: 0 };
     space.change(ops, before, &op)?;
@@ -133,9 +149,12 @@ pub fn remove_at<P: PageSpace>(
     first: PageNo,
     place: Place,
 ) -> Result<(), SpaceFault>
-    requires { HasLinked (P.view space.old) first.0 (HasCellAt place) }
+    requires means { P.means space.old (table_of record_meaning range_meaning ops.now) }
+    requires can { HasLinked (P.view space.old) first.0 (HasCellAt place) }
     ensures counts { Counts (P.view space.old) (P.view space.new) result }
     ensures did { OnOk result (Did (P.view space.old) (P.view space.new) first.0 (HasCellAt place) (IsRemoved place)) }
+    ensures later { P.later (table_of record_meaning range_meaning ops.now) space.old space.new }
+    ensures means { P.means space.new (table_of record_meaning range_meaning ops.now) }
 {
     let op = PageOp::Remove { slot: place.slot };
     space.change(ops, place.page, &op)?;
@@ -150,9 +169,12 @@ pub fn take_out<P: PageSpace>(
     first: PageNo,
     place: Place,
 ) -> Result<(), SpaceFault>
-    requires { HasLinked (P.view space.old) first.0 (HasCellAt place) }
+    requires means { P.means space.old (table_of record_meaning range_meaning ops.now) }
+    requires can { HasLinked (P.view space.old) first.0 (HasCellAt place) }
     ensures counts { Counts (P.view space.old) (P.view space.new) result }
     ensures did { OnOk result (Did (P.view space.old) (P.view space.new) first.0 (HasCellAt place) (IsTakenOut place)) }
+    ensures later { P.later (table_of record_meaning range_meaning ops.now) space.old space.new }
+    ensures means { P.means space.new (table_of record_meaning range_meaning ops.now) }
 {
     remove_at(space, ops, first, place)?;
     if place.page.0 == first.0 {
@@ -176,11 +198,14 @@ pub fn replace<P: PageSpace>(
     place: Place,
     cell: &[u8],
 ) -> Result<u16, SpaceFault>
+    requires means { P.means space.old (table_of record_meaning range_meaning ops.now) }
     requires cell { IsEntryCell cell.now }
     requires there { HasLinked (P.view space.old) first.0 (CanReplace (P.view space.old) place) }
     ensures counts { Counts (P.view space.old) (P.view space.new) result }
     ensures did { IfOk result (λ old. Did (P.view space.old) (P.view space.new) first.0
         (CanReplace (P.view space.old) place) (IsReplaced cell.now place old)) }
+    ensures later { P.later (table_of record_meaning range_meaning ops.now) space.old space.new }
+    ensures means { P.means space.new (table_of record_meaning range_meaning ops.now) }
 {
     let held = held_at(space, place.page, place.slot)?;
     if cell.len() <= held.most as usize {

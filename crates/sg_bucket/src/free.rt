@@ -2,6 +2,7 @@
 ghost use Rattle.std.specs.Prelude.{OnOk, ⊤};
 ghost use Rattle.sg_bucket.specs.Bucket.{HasLinked};
 ghost use Rattle.sg_bucket.specs.Calls.{Gone};
+ghost use Rattle.sg_ops.specs.Table.{Table};
 ghost use Rattle.sg_space.specs.View.{Counts};
 
 use crate::page::next_of;
@@ -13,6 +14,8 @@ pub fn free_all<P: PageSpace>(space: &mut P, first: PageNo) -> Result<(), SpaceF
     requires { HasLinked (P.view space.old) first.0 (λ _. ⊤) }
     ensures counts { Counts (P.view space.old) (P.view space.new) result }
     ensures did { OnOk result (Gone (P.view space.old) (P.view space.new) first.0) }
+    ensures later { (t : Table) → P.later t space.old space.new }
+    ensures means { (t : Table) → P.means space.old t → P.means space.new t }
 {
     let mut page = first;
     for _passed in 0..space.pages() {

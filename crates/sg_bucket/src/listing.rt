@@ -6,6 +6,7 @@ ghost use Rattle.sg_bucket.specs.Division.{keys_of};
 ghost use Rattle.sg_bucket.specs.Entry.{IsEntryCell, entry_in};
 ghost use Rattle.sg_bucket.specs.Listing.{IsUnlisted, ListsPage};
 ghost use Rattle.sg_bucket.specs.Part.{CanLookInto, entries_in};
+ghost use Rattle.sg_ops.specs.Table.{Table};
 ghost use Rattle.sg_space.specs.Units.{HasAt};
 ghost use Rattle.sg_space.specs.Listing.{CountsList};
 ghost use Rattle.sg_space.specs.View.{OnlyReads};
@@ -73,6 +74,8 @@ fn gather<P: PageSpace>(
     ensures kept { OnOk result (OnlyReads (P.view space.old) (P.view space.new)) }
     ensures read { IfOk result (λ next. (P.view space.old).Shows → HasAt (P.view space.old).space.pages.at p.0
         (ListsPage keys.old.items keys.new.items next.0)) }
+    ensures later { (t : Table) → P.later t space.old space.new }
+    ensures means { (t : Table) → P.means space.old t → P.means space.new t }
 {
     let view = space.page(p)?;
     if view.kind() != BUCKET_KIND {
@@ -98,6 +101,8 @@ pub fn keys<P: PageSpace>(
     ensures counts { CountsList (P.view space.old) (P.view space.new) result }
     ensures kept { OnOk result (OnlyReads (P.view space.old) (P.view space.new)) }
     ensures read { OnOk result (IfLinked (P.view space.old) first.0 (λ b. into.new.items ≡ into.old.items ++ keys_of (entries_of b.parts))) }
+    ensures later { (t : Table) → P.later t space.old space.new }
+    ensures means { (t : Table) → P.means space.old t → P.means space.new t }
 {
     let mut page = first;
     for _passed in 0..space.pages() {

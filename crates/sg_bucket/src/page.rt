@@ -2,6 +2,7 @@
 ghost use Rattle.std.specs.Prelude.{◌≡◌, IfOk, OnOk, option_map};
 ghost use Rattle.sg_base.specs.Page.{slots_of};
 ghost use Rattle.sg_bucket.specs.Part.{CanLookInto, IsMatch, IsSought, IsLook};
+ghost use Rattle.sg_ops.specs.Table.{Table};
 ghost use Rattle.sg_space.specs.Units.{HasAt};
 ghost use Rattle.sg_space.specs.View.{Counts, OnlyReads};
 
@@ -69,6 +70,8 @@ pub fn look_for<P: PageSpace>(space: &mut P, p: PageNo, key: &[u8]) -> Result<Lo
     ensures counts { Counts (P.view space.old) (P.view space.new) result }
     ensures kept { OnOk result (OnlyReads (P.view space.old) (P.view space.new)) }
     ensures read { IfOk result (λ seen. (P.view space.old).Shows → HasAt (P.view space.old).space.pages.at p.0 (IsLook key.now seen)) }
+    ensures later { (t : Table) → P.later t space.old space.new }
+    ensures means { (t : Table) → P.means space.old t → P.means space.new t }
 {
     let view = space.page(p)?;
     if view.kind() != BUCKET_KIND {
@@ -88,6 +91,8 @@ pub fn next_of<P: PageSpace>(space: &mut P, p: PageNo) -> Result<PageNo, SpaceFa
     ensures counts { Counts (P.view space.old) (P.view space.new) result }
     ensures kept { OnOk result (OnlyReads (P.view space.old) (P.view space.new)) }
     ensures read { IfOk result (λ next. (P.view space.old).Shows → HasAt (P.view space.old).space.pages.at p.0 (λ sheet. sheet.links.0 ≡ next.0)) }
+    ensures later { (t : Table) → P.later t space.old space.new }
+    ensures means { (t : Table) → P.means space.old t → P.means space.new t }
 {
     let view = space.page(p)?;
     if view.kind() != BUCKET_KIND {

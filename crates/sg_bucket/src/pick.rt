@@ -3,6 +3,7 @@ ghost use Rattle.std.specs.Prelude.{◌≡◌, ◌≤◌, length, take, IfOk, On
 ghost use Rattle.sg_bucket.specs.Branch.{IsPick, IsOutline, IsPicked, IsTold};
 ghost use Rattle.sg_bucket.specs.Entry.{IsEntryCell};
 ghost use Rattle.sg_bucket.specs.Part.{CanLookInto};
+ghost use Rattle.sg_ops.specs.Table.{Table};
 ghost use Rattle.sg_space.specs.Units.{HasAt};
 ghost use Rattle.sg_space.specs.View.{Counts, OnlyReads};
 
@@ -49,6 +50,8 @@ pub fn outline_of<P: PageSpace>(space: &mut P, p: PageNo) -> Result<Outline, Spa
     ensures counts { Counts (P.view space.old) (P.view space.new) result }
     ensures kept { OnOk result (OnlyReads (P.view space.old) (P.view space.new)) }
     ensures read { IfOk result (λ seen. (P.view space.old).Shows → HasAt (P.view space.old).space.pages.at p.0 (IsOutline seen)) }
+    ensures later { (t : Table) → P.later t space.old space.new }
+    ensures means { (t : Table) → P.means space.old t → P.means space.new t }
 {
     let view = space.page(p)?;
     if view.kind() != BUCKET_KIND {
@@ -78,6 +81,8 @@ pub fn copy_entry<P: PageSpace>(
     ensures read { IfOk result (λ found. (P.view space.old).Shows → HasAt (P.view space.old).space.pages.at p.0 (IsPicked there slot found into.new)) }
     ensures entry { IfOk result (λ found. IfSome found (λ n. IsEntryCell (take n into.new))) }
     ensures within { IfOk result (λ found. IfSome found (λ n. n ≤ length into.new)) }
+    ensures later { (t : Table) → P.later t space.old space.new }
+    ensures means { (t : Table) → P.means space.old t → P.means space.new t }
 {
     let view = space.page(p)?;
     if view.kind() != BUCKET_KIND {
@@ -107,6 +112,8 @@ pub fn is_picked<P: PageSpace>(
     ensures counts { Counts (P.view space.old) (P.view space.new) result }
     ensures kept { OnOk result (OnlyReads (P.view space.old) (P.view space.new)) }
     ensures read { IfOk result (λ yes. (P.view space.old).Shows → HasAt (P.view space.old).space.pages.at p.0 (IsTold there slot yes)) }
+    ensures later { (t : Table) → P.later t space.old space.new }
+    ensures means { (t : Table) → P.means space.old t → P.means space.new t }
 {
     let view = space.page(p)?;
     if view.kind() != BUCKET_KIND {

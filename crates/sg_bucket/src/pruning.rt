@@ -5,6 +5,7 @@ ghost use Rattle.sg_bucket.specs.Calls.{IsSound};
 ghost use Rattle.sg_bucket.specs.Division.{IsPruned};
 ghost use Rattle.sg_bucket.specs.Prune.{IsBehind, IsStripped, IsPagePruned};
 ghost use Rattle.sg_bucket.specs.Steps.{Did};
+ghost use Rattle.sg_ops.specs.Table.{table_of};
 ghost use Rattle.sg_space.specs.View.{Counts};
 
 use crate::change::{cut, remove_at};
@@ -26,10 +27,13 @@ fn strip<P: PageSpace>(
     page: PageNo,
     there: Address,
 ) -> Result<(), SpaceFault>
-    requires { HasLinked (P.view space.old) first.0 (IsBehind before.0 page.0) }
+    requires means { P.means space.old (table_of record_meaning range_meaning ops.now) }
+    requires can { HasLinked (P.view space.old) first.0 (IsBehind before.0 page.0) }
     ensures counts { Counts (P.view space.old) (P.view space.new) result }
     ensures did { OnOk result (Did (P.view space.old) (P.view space.new) first.0
         (IsBehind before.0 page.0) (IsStripped there page.0)) }
+    ensures later { P.later (table_of record_meaning range_meaning ops.now) space.old space.new }
+    ensures means { P.means space.new (table_of record_meaning range_meaning ops.now) }
 {
     let seen = outline_of(space, page)?;
     for slot in 0..seen.slots {
@@ -53,10 +57,13 @@ fn prune_page<P: PageSpace>(
     page: PageNo,
     there: Address,
 ) -> Result<PageNo, SpaceFault>
-    requires { HasLinked (P.view space.old) first.0 (IsBehind before.0 page.0) }
+    requires means { P.means space.old (table_of record_meaning range_meaning ops.now) }
+    requires can { HasLinked (P.view space.old) first.0 (IsBehind before.0 page.0) }
     ensures counts { Counts (P.view space.old) (P.view space.new) result }
     ensures did { IfOk result (λ end. Did (P.view space.old) (P.view space.new) first.0
         (IsBehind before.0 page.0) (IsPagePruned there before.0 page.0 end.0)) }
+    ensures later { P.later (table_of record_meaning range_meaning ops.now) space.old space.new }
+    ensures means { P.means space.new (table_of record_meaning range_meaning ops.now) }
 {
     strip(space, ops, first, before, page, there)?;
     if page.0 == first.0 {
@@ -79,9 +86,12 @@ pub fn prune<P: PageSpace>(
     first: PageNo,
     there: Address,
 ) -> Result<(), SpaceFault>
-    requires { HasLinked (P.view space.old) first.0 IsSound }
+    requires means { P.means space.old (table_of record_meaning range_meaning ops.now) }
+    requires can { HasLinked (P.view space.old) first.0 IsSound }
     ensures counts { Counts (P.view space.old) (P.view space.new) result }
     ensures did { OnOk result (Did (P.view space.old) (P.view space.new) first.0 IsSound (IsPruned there)) }
+    ensures later { P.later (table_of record_meaning range_meaning ops.now) space.old space.new }
+    ensures means { P.means space.new (table_of record_meaning range_meaning ops.now) }
 {
     let mut before = first;
     let mut page = first;

@@ -3,6 +3,7 @@ ghost use Rattle.std.specs.Prelude.{◌≡◌, ◌+◌, ◌≤◌, length, take,
 ghost use Rattle.sg_bucket.specs.Bucket.{HasLinked, IfLinked, HasBucket, IfBucket, IsFound, IsAnswer, entries_of};
 ghost use Rattle.sg_bucket.specs.Entry.{value_of};
 ghost use Rattle.sg_bucket.specs.Part.{HasValueAt, IsCopied};
+ghost use Rattle.sg_ops.specs.Table.{Table};
 ghost use Rattle.sg_space.specs.Units.{HasAt};
 ghost use Rattle.sg_space.specs.View.{Counts, OnlyReads};
 
@@ -31,6 +32,8 @@ pub fn seek<P: PageSpace>(
     ensures counts { Counts (P.view space.old) (P.view space.new) result }
     ensures kept { OnOk result (OnlyReads (P.view space.old) (P.view space.new)) }
     ensures read { IfOk result (λ found. IfLinked (P.view space.old) first.0 (λ b. IsFound b key.now found)) }
+    ensures later { (t : Table) → P.later t space.old space.new }
+    ensures means { (t : Table) → P.means space.old t → P.means space.new t }
 {
     let mut before = first;
     let mut page = first;
@@ -62,6 +65,8 @@ fn copy_value<P: PageSpace>(
     ensures kept { OnOk result (OnlyReads (P.view space.old) (P.view space.new)) }
     ensures read { IfOk result (λ n. (P.view space.old).Shows → HasAt (P.view space.old).space.pages.at p.0 (IsCopied slot n into.new)) }
     ensures within { IfOk result (λ n. n ≤ length into.new) }
+    ensures later { (t : Table) → P.later t space.old space.new }
+    ensures means { (t : Table) → P.means space.old t → P.means space.new t }
 {
     let view = space.page(p)?;
     if view.kind() != BUCKET_KIND {
@@ -93,6 +98,8 @@ pub fn find<P: PageSpace>(
     ensures read { IfOk result (λ found. IfBucket (P.view space.old) first.0
         (λ b. IsAnswer (value_of (entries_of b.parts) key.now) found into.new)) }
     ensures within { IfOk result (λ found. IfSome found (λ n. n ≤ length into.new)) }
+    ensures later { (t : Table) → P.later t space.old space.new }
+    ensures means { (t : Table) → P.means space.old t → P.means space.new t }
 {
     match seek(space, first, key)? {
         None => Ok(None),
@@ -110,6 +117,8 @@ pub fn pages<P: PageSpace>(space: &mut P, first: PageNo) -> Result<u32, SpaceFau
     ensures kept { OnOk result (OnlyReads (P.view space.old) (P.view space.new)) }
     ensures read { IfOk result (λ n. IfBucket (P.view space.old) first.0 (λ b. n ≡ length b.pages)) }
     ensures few { IfOk result (λ n. IfBucket (P.view space.old) first.0 (λ b. n ≤ 1 + length (entries_of b.parts))) }
+    ensures later { (t : Table) → P.later t space.old space.new }
+    ensures means { (t : Table) → P.means space.old t → P.means space.new t }
 {
     let mut page = first;
     for passed in 0..space.pages() {

@@ -9,3 +9,6 @@ pub mod Rows
 pub mod Growth
 pub mod Adding
 pub mod Maps
+pub mod Spellings
+pub mod Sides
+pub mod Few

@@ -42,7 +42,6 @@ pub record DidIf (v w : View) (Can : Catalog → Type 0) (Is : Catalog → Catal
 -- the same, where a page of the catalogue may have shrunk
 pub record ShrankIf (v w : View) (Can : Catalog → Type 0) (Is : Catalog → Catalog → Type 0) : Type 0 where
   pub told : v.Told → w.Told
-  pub table : v.Told → (t : Table) → v.IsTable t → w.IsTable t
   pub may_take : v.Told → v.MayTake → w.MayTake
   pub may_have : v.Told → (c : Catalog) → IsCatalog v.space.pages.at c → (page slots : ℕ) → ¬ Owns c page → v.MayHave page slots → w.MayHave page slots
   pub turns : v.Told → (c : Catalog) → IsCatalog v.space.pages.at c → Can c → (c' : Catalog) × Turns v.space w.space c c' × Is c c'
@@ -130,7 +129,6 @@ pub record CanGrow (v : View) (c : Catalog) : Type 0 where
 -- an object may get this name
 pub record CanAdd (v : View) (name : List ℕ) (c : Catalog) : Type 0 where
   pub absent : there name (rows c) ≡ None
-  pub few : length (rows c) + 1 < 2 ^ 32
   pub grow : CanGrow v c
 
 -- an object under its name

@@ -1,5 +1,6 @@
 -- A row of the catalogue, and its bytes.
 use Rattle.std.specs.Prelude.{◌≡◌, ℕ, ◌^◌, ◌<◌, ◌==◌, if◌then◌else◌, List, Option, Some, None, option_map, option_and_then, IsTrue}
+use Rattle.sg_base.specs.Bytes.{IsBytes}
 use Rattle.sg_base.specs.Forms.{Form, number, counted, pair, read_all}
 use Rattle.sg_base.specs.Spelling.{is_name}
 use Rattle.sg_base.specs.declared.numbers.PageNo.{PageNo}
@@ -74,3 +75,9 @@ row_with f =
 -- the row that some bytes spell, if they are one's
 abbrev pub row_of : List ℕ → Option Row
 row_of cell = option_and_then row_with (read_all row_form cell)
+
+-- ONLY WHAT IS SPELLED IS READ: cells of bytes that are a row's are the bytes of it
+pub record AreSpelled : Type 0 where
+  pub only : (cell : List ℕ) (row : Row) → IsBytes cell → row_of cell ≡ Some row → cell ≡ row_cell row
+  pub formed : (cell : List ℕ) (row : Row) → IsBytes cell → row_of cell ≡ Some row → IsFormed row
+  pub bytes : (row : Row) → IsFormed row → IsBytes (row_cell row)

@@ -156,7 +156,6 @@ pub record CanPut (v : View) (spot : Spot) (c : Catalog) (i : ℕ) : Type 0 wher
 -- What a caller may rely on from one call to the next, where one page may have shrunk
 pub record KeepsBut (v w : View) (p : ℕ) : Type 0 where
   pub told : v.Told → w.Told
-  pub table : (t : Table) → v.IsTable t → w.IsTable t
   pub may_take : v.MayTake → w.MayTake
   pub may_have : (page slots : ℕ) → page ≢ p → v.MayHave page slots → w.MayHave page slots
 

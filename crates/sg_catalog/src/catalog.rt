@@ -5,6 +5,7 @@ ghost use Rattle.sg_catalog.specs.Calls.{HasCatalog, IfCatalog, DidIf, ShrankIf,
 ghost use Rattle.sg_catalog.specs.Catalog.{there, buried, rows, is_there, is_tomb_at};
 ghost use Rattle.sg_catalog.specs.Look.{fits, names_of};
 ghost use Rattle.sg_catalog.specs.Row.{entry_of};
+ghost use Rattle.sg_ops.specs.Table.{Table, table_of};
 ghost use Rattle.sg_space.specs.Listing.{CountsList};
 ghost use Rattle.sg_space.specs.View.{Counts, OnlyReads};
 
@@ -39,6 +40,8 @@ pub fn find<P: PageSpace>(space: &mut P, name: Name) -> Result<Option<Entry>, Sp
     ensures kept { OnOk result (OnlyReads (P.view space.old) (P.view space.new)) }
     ensures read { IfOk result (λ found. IfCatalog (P.view space.old)
         (λ c. found ≡ option_map entry_of (there name (rows c)))) }
+    ensures later { (t : Table) → P.later t space.old space.new }
+    ensures means { (t : Table) → P.means space.old t → P.means space.new t }
 {
     let found = search(space, &Wanted::There(name))?;
     Ok(entry_of(found))
@@ -54,6 +57,8 @@ pub fn next_buried<P: PageSpace>(
     ensures kept { OnOk result (OnlyReads (P.view space.old) (P.view space.new)) }
     ensures read { IfOk result (λ found. IfCatalog (P.view space.old)
         (λ c. found ≡ option_map entry_of (buried by (rows c)))) }
+    ensures later { (t : Table) → P.later t space.old space.new }
+    ensures means { (t : Table) → P.means space.old t → P.means space.new t }
 {
     let found = search(space, &Wanted::Buried(by))?;
     Ok(entry_of(found))
@@ -61,11 +66,14 @@ pub fn next_buried<P: PageSpace>(
 
 /// Makes the object of this name a tombstone of this transaction.
 pub fn bury<P: PageSpace>(space: &mut P, ops: &Ops, name: Name, by: TxnId) -> Result<(), SpaceFault>
-    requires { HasCatalog (P.view space.old) (HasOne (is_there name)) }
+    requires means { P.means space.old (table_of record_meaning range_meaning ops.now) }
+    requires can { HasCatalog (P.view space.old) (HasOne (is_there name)) }
     ensures counts { Counts (P.view space.old) (P.view space.new) result }
     ensures did { OnOk result (DidIf (P.view space.old) (P.view space.new)
         (HasOne (is_there name)) (IsBuried name by)) }
     ensures within { OnOk result (IfCatalog (P.view space.old) (HasOne (is_there name))) }
+    ensures later { P.later (table_of record_meaning range_meaning ops.now) space.old space.new }
+    ensures means { P.means space.new (table_of record_meaning range_meaning ops.now) }
 {
     let sought = search(space, &Wanted::There(name))?;
     let Some(found) = sought else {
@@ -86,11 +94,14 @@ pub fn unbury<P: PageSpace>(
     name: Name,
     root: PageNo,
 ) -> Result<(), SpaceFault>
-    requires { HasCatalog (P.view space.old) (CanRaise name root.0) }
+    requires means { P.means space.old (table_of record_meaning range_meaning ops.now) }
+    requires can { HasCatalog (P.view space.old) (CanRaise name root.0) }
     ensures counts { Counts (P.view space.old) (P.view space.new) result }
     ensures did { OnOk result (DidIf (P.view space.old) (P.view space.new)
         (CanRaise name root.0) (IsRaised name root.0)) }
     ensures within { OnOk result (IfCatalog (P.view space.old) (CanRaise name root.0)) }
+    ensures later { P.later (table_of record_meaning range_meaning ops.now) space.old space.new }
+    ensures means { P.means space.new (table_of record_meaning range_meaning ops.now) }
 {
     if search(space, &Wanted::There(name))?.is_some() {
         return Err(space.broken());
@@ -109,11 +120,14 @@ pub fn unbury<P: PageSpace>(
 
 // Takes the first row out that is wanted.
 fn take_out<P: PageSpace>(space: &mut P, ops: &Ops, wanted: &Wanted) -> Result<(), SpaceFault>
-    requires { HasCatalog (P.view space.old) (HasOne (fits wanted.now)) }
+    requires means { P.means space.old (table_of record_meaning range_meaning ops.now) }
+    requires can { HasCatalog (P.view space.old) (HasOne (fits wanted.now)) }
     ensures counts { Counts (P.view space.old) (P.view space.new) result }
     ensures did { OnOk result (ShrankIf (P.view space.old) (P.view space.new)
         (HasOne (fits wanted.now)) (IsLess (fits wanted.now))) }
     ensures within { OnOk result (IfCatalog (P.view space.old) (HasOne (fits wanted.now))) }
+    ensures later { P.later (table_of record_meaning range_meaning ops.now) space.old space.new }
+    ensures means { P.means space.new (table_of record_meaning range_meaning ops.now) }
 {
     let sought = search(space, wanted)?;
     let Some(found) = sought else {
@@ -125,11 +139,14 @@ fn take_out<P: PageSpace>(space: &mut P, ops: &Ops, wanted: &Wanted) -> Result<(
 
 /// Takes the object of this name out of the catalogue.
 pub fn remove<P: PageSpace>(space: &mut P, ops: &Ops, name: Name) -> Result<(), SpaceFault>
-    requires { HasCatalog (P.view space.old) (HasOne (is_there name)) }
+    requires means { P.means space.old (table_of record_meaning range_meaning ops.now) }
+    requires can { HasCatalog (P.view space.old) (HasOne (is_there name)) }
     ensures counts { Counts (P.view space.old) (P.view space.new) result }
     ensures did { OnOk result (ShrankIf (P.view space.old) (P.view space.new)
         (HasOne (is_there name)) (IsRemoved name)) }
     ensures within { OnOk result (IfCatalog (P.view space.old) (HasOne (is_there name))) }
+    ensures later { P.later (table_of record_meaning range_meaning ops.now) space.old space.new }
+    ensures means { P.means space.new (table_of record_meaning range_meaning ops.now) }
 {
     take_out(space, ops, &Wanted::There(name))?;
     Ok(())
@@ -137,11 +154,14 @@ pub fn remove<P: PageSpace>(space: &mut P, ops: &Ops, name: Name) -> Result<(), 
 
 /// Takes a tombstone with this root out of the catalogue, the one that stands first.
 pub fn forget<P: PageSpace>(space: &mut P, ops: &Ops, root: PageNo) -> Result<(), SpaceFault>
-    requires { HasCatalog (P.view space.old) (HasOne (is_tomb_at root.0)) }
+    requires means { P.means space.old (table_of record_meaning range_meaning ops.now) }
+    requires can { HasCatalog (P.view space.old) (HasOne (is_tomb_at root.0)) }
     ensures counts { Counts (P.view space.old) (P.view space.new) result }
     ensures did { OnOk result (ShrankIf (P.view space.old) (P.view space.new)
         (HasOne (is_tomb_at root.0)) (IsForgotten root.0)) }
     ensures within { OnOk result (IfCatalog (P.view space.old) (HasOne (is_tomb_at root.0))) }
+    ensures later { P.later (table_of record_meaning range_meaning ops.now) space.old space.new }
+    ensures means { P.means space.new (table_of record_meaning range_meaning ops.now) }
 {
     take_out(space, ops, &Wanted::TombAt(root))?;
     Ok(())
@@ -155,11 +175,14 @@ pub fn add<P: PageSpace>(
     name: Name,
     entry: Entry,
 ) -> Result<(), SpaceFault>
-    requires { HasCatalog (P.view space.old) (CanAdd (P.view space.old) name) }
+    requires means { P.means space.old (table_of record_meaning range_meaning ops.now) }
+    requires can { HasCatalog (P.view space.old) (CanAdd (P.view space.old) name) }
     ensures counts { Counts (P.view space.old) (P.view space.new) result }
     ensures did { OnOk result (DidIf (P.view space.old) (P.view space.new)
         (CanAdd (P.view space.old) name) (IsAdded (object name entry))) }
     ensures within { OnOk result (IfCatalog (P.view space.old) (λ c. there name (rows c) ≡ None)) }
+    ensures later { P.later (table_of record_meaning range_meaning ops.now) space.old space.new }
+    ensures means { P.means space.new (table_of record_meaning range_meaning ops.now) }
 {
     if search(space, &Wanted::There(name))?.is_some() {
         return Err(space.broken());
@@ -188,6 +211,8 @@ pub fn names<P: PageSpace>(space: &mut P, alloc: Global) -> Result<Vec<Name>, Li
     ensures read { IfOk result (λ v. IfCatalog (P.view space.old)
         (λ c. IsPermutation (names_of (rows c)) v.items)) }
     ensures order { IfOk result (λ v. IsSorted (slice_cmp nat_cmp) v.items) }
+    ensures later { (t : Table) → P.later t space.old space.new }
+    ensures means { (t : Table) → P.means space.old t → P.means space.new t }
 {
     let mut all = list_all(space, alloc)?;
     all.sort_unstable();

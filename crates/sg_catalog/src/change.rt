@@ -1,7 +1,7 @@
 // The steps of a change of the catalogue.
 ghost use Rattle.std.specs.Prelude.{◌≡◌, ◌+◌, ◌<◌, ◌≤◌, ◌^◌, IfOk, OnOk, Some, None, length, ⊤};
 ghost use Rattle.sg_catalog.specs.Steps.{HasPlace, HasRow, HasRowOf, CanPut, SetsPlace, KeepsBut, Relinks};
-ghost use Rattle.sg_ops.specs.Table.{table_of};
+ghost use Rattle.sg_ops.specs.Table.{Table, table_of};
 ghost use Rattle.sg_space.specs.Pages.{CanLook};
 ghost use Rattle.sg_space.specs.Units.{HasAt};
 ghost use Rattle.sg_space.specs.View.{Counts, Keeps, OnlyReads};
@@ -19,11 +19,14 @@ pub fn set_row<P: PageSpace>(
     spot: Spot,
     row: Row,
 ) -> Result<(), SpaceFault>
-    requires { HasPlace (P.view space.old) (HasRowOf spot (length row.name)) }
+    requires means { P.means space.old (table_of record_meaning range_meaning ops.now) }
+    requires can { HasPlace (P.view space.old) (HasRowOf spot (length row.name)) }
     ensures counts { Counts (P.view space.old) (P.view space.new) result }
     ensures keeps { OnOk result ((P.view space.old).Told → Keeps (P.view space.old) (P.view space.new)) }
     ensures did { OnOk result (SetsPlace (P.view space.old) (P.view space.new)
         (HasRowOf spot (length row.name)) (Some row)) }
+    ensures later { P.later (table_of record_meaning range_meaning ops.now) space.old space.new }
+    ensures means { P.means space.new (table_of record_meaning range_meaning ops.now) }
 {
     let mut cell = [0; LARGEST];
     let size = spell_row(row, &mut cell);
@@ -37,10 +40,13 @@ pub fn set_row<P: PageSpace>(
 
 /// Takes a row out of its place.
 pub fn clear_row<P: PageSpace>(space: &mut P, ops: &Ops, spot: Spot) -> Result<(), SpaceFault>
-    requires { HasPlace (P.view space.old) (HasRow spot) }
+    requires means { P.means space.old (table_of record_meaning range_meaning ops.now) }
+    requires can { HasPlace (P.view space.old) (HasRow spot) }
     ensures counts { Counts (P.view space.old) (P.view space.new) result }
     ensures keeps { OnOk result (KeepsBut (P.view space.old) (P.view space.new) spot.page.0) }
     ensures did { OnOk result (SetsPlace (P.view space.old) (P.view space.new) (HasRow spot) None) }
+    ensures later { P.later (table_of record_meaning range_meaning ops.now) space.old space.new }
+    ensures means { P.means space.new (table_of record_meaning range_meaning ops.now) }
 {
     let op = PageOp::Remove { slot: spot.slot };
     space.change(ops, spot.page, &op)?;
@@ -54,11 +60,14 @@ pub fn fill_place<P: PageSpace>(
     spot: Spot,
     row: Row,
 ) -> Result<(), SpaceFault>
-    requires { HasPlace (P.view space.old) (CanPut (P.view space.old) spot) }
+    requires means { P.means space.old (table_of record_meaning range_meaning ops.now) }
+    requires can { HasPlace (P.view space.old) (CanPut (P.view space.old) spot) }
     ensures counts { Counts (P.view space.old) (P.view space.new) result }
     ensures keeps { OnOk result ((P.view space.old).Told → Keeps (P.view space.old) (P.view space.new)) }
     ensures did { OnOk result (SetsPlace (P.view space.old) (P.view space.new)
         (CanPut (P.view space.old) spot) (Some row)) }
+    ensures later { P.later (table_of record_meaning range_meaning ops.now) space.old space.new }
+    ensures means { P.means space.new (table_of record_meaning range_meaning ops.now) }
 {
     let mut cell = [0; LARGEST];
     let size = spell_row(row, &mut cell);
@@ -77,6 +86,8 @@ fn links_at<P: PageSpace>(space: &mut P, p: PageNo) -> Result<(u32, u32), SpaceF
     ensures kept { OnOk result (OnlyReads (P.view space.old) (P.view space.new)) }
     ensures read { IfOk result (λ l. (P.view space.old).Shows →
         HasAt (P.view space.old).space.pages.at p.0 (λ sheet. sheet.links ≡ l)) }
+    ensures later { (t : Table) → P.later t space.old space.new }
+    ensures means { (t : Table) → P.means space.old t → P.means space.new t }
 {
     let view = space.page(p)?;
     Ok(view.links())
@@ -89,9 +100,12 @@ pub fn set_next<P: PageSpace>(
     p: PageNo,
     next: PageNo,
 ) -> Result<(), SpaceFault>
-    requires { CanLook (P.view space.old) (P.view space.old).space.pages p.0 }
+    requires means { P.means space.old (table_of record_meaning range_meaning ops.now) }
+    requires can { CanLook (P.view space.old) (P.view space.old).space.pages p.0 }
     ensures counts { Counts (P.view space.old) (P.view space.new) result }
     ensures did { OnOk result (Relinks (P.view space.old) (P.view space.new) p.0 (λ l. (next.0, l.1))) }
+    ensures later { P.later (table_of record_meaning range_meaning ops.now) space.old space.new }
+    ensures means { P.means space.new (table_of record_meaning range_meaning ops.now) }
 {
     let (_, peak) = links_at(space, p)?;
     let op = PageOp::Links { a: next.0, b: peak };
@@ -106,9 +120,12 @@ pub fn set_peak<P: PageSpace>(
     p: PageNo,
     peak: u32,
 ) -> Result<(), SpaceFault>
-    requires { CanLook (P.view space.old) (P.view space.old).space.pages p.0 }
+    requires means { P.means space.old (table_of record_meaning range_meaning ops.now) }
+    requires can { CanLook (P.view space.old) (P.view space.old).space.pages p.0 }
     ensures counts { Counts (P.view space.old) (P.view space.new) result }
     ensures did { OnOk result (Relinks (P.view space.old) (P.view space.new) p.0 (λ l. (l.0, peak))) }
+    ensures later { P.later (table_of record_meaning range_meaning ops.now) space.old space.new }
+    ensures means { P.means space.new (table_of record_meaning range_meaning ops.now) }
 {
     let (next, _) = links_at(space, p)?;
     let op = PageOp::Links { a: next, b: peak };

@@ -2,6 +2,7 @@
 ghost use Rattle.std.specs.Prelude.{◌≡◌, OnOk};
 ghost use Rattle.sg_catalog.specs.Calls.{HasCatalog, CanPlace, PlacesRow, CanLink, LinksPage, RaisesPeak};
 ghost use Rattle.sg_catalog.specs.Steps.{HasRaw};
+ghost use Rattle.sg_ops.specs.Table.{table_of};
 ghost use Rattle.sg_space.specs.View.{Counts};
 
 use crate::change::{fill_place, set_next, set_peak};
@@ -19,9 +20,12 @@ fn add_page<P: PageSpace>(
     last: PageNo,
     row: Row,
 ) -> Result<(), SpaceFault>
-    requires { HasRaw (P.view space.old) (CanLink (P.view space.old) last.0) }
+    requires means { P.means space.old (table_of record_meaning range_meaning ops.now) }
+    requires can { HasRaw (P.view space.old) (CanLink (P.view space.old) last.0) }
     ensures counts { Counts (P.view space.old) (P.view space.new) result }
     ensures did { OnOk result (LinksPage (P.view space.old) (P.view space.new) last.0 row) }
+    ensures later { P.later (table_of record_meaning range_meaning ops.now) space.old space.new }
+    ensures means { P.means space.new (table_of record_meaning range_meaning ops.now) }
 {
     let mut cell = [0; LARGEST];
     let size = spell_row(row, &mut cell);
@@ -37,9 +41,12 @@ pub fn place_row<P: PageSpace>(
     survey: Survey,
     row: Row,
 ) -> Result<(), SpaceFault>
-    requires { HasCatalog (P.view space.old) (CanPlace (P.view space.old) survey) }
+    requires means { P.means space.old (table_of record_meaning range_meaning ops.now) }
+    requires can { HasCatalog (P.view space.old) (CanPlace (P.view space.old) survey) }
     ensures counts { Counts (P.view space.old) (P.view space.new) result }
     ensures did { OnOk result (PlacesRow (P.view space.old) (P.view space.new) survey row) }
+    ensures later { P.later (table_of record_meaning range_meaning ops.now) space.old space.new }
+    ensures means { P.means space.new (table_of record_meaning range_meaning ops.now) }
 {
     match survey.free {
         Some(spot) => {
@@ -60,9 +67,12 @@ pub fn raise_peak<P: PageSpace>(
     peak: u32,
     rows: u32,
 ) -> Result<(), SpaceFault>
-    requires { HasRaw (P.view space.old) (λ c. c.peak ≡ peak) }
+    requires means { P.means space.old (table_of record_meaning range_meaning ops.now) }
+    requires can { HasRaw (P.view space.old) (λ c. c.peak ≡ peak) }
     ensures counts { Counts (P.view space.old) (P.view space.new) result }
     ensures did { OnOk result (RaisesPeak (P.view space.old) (P.view space.new) peak rows) }
+    ensures later { P.later (table_of record_meaning range_meaning ops.now) space.old space.new }
+    ensures means { P.means space.new (table_of record_meaning range_meaning ops.now) }
 {
     if rows <= peak {
         return Ok(());

@@ -13,8 +13,10 @@ mod grow;
 mod look;
 mod page;
 mod row;
+mod spelled;
 mod walk;
 mod wanted;
 
 pub use catalog::{add, bury, find, forget, names, next_buried, remove, unbury};
-pub use row::{Entry, ObjectKind};
+pub use row::{Entry, ObjectKind, Row, row_in};
+pub use spelled::rows_are_spelled;

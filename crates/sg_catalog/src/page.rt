@@ -3,6 +3,7 @@ ghost use Rattle.std.specs.Prelude.{◌≡◌, ◌<◌, ◌≤◌, IfOk, OnOk, l
 ghost use Rattle.sg_catalog.specs.Look.{fits};
 ghost use Rattle.sg_catalog.specs.Steps.{HasRaw, IfPage, SeesPage, MeasuresPage, GathersPage};
 ghost use Rattle.sg_catalog.specs.Catalog.{Owns};
+ghost use Rattle.sg_ops.specs.Table.{Table};
 ghost use Rattle.sg_space.specs.Listing.{CountsList};
 ghost use Rattle.sg_space.specs.View.{Counts, OnlyReads};
 
@@ -17,6 +18,8 @@ pub fn look<P: PageSpace>(space: &mut P, p: PageNo, wanted: &Wanted) -> Result<S
     ensures counts { Counts (P.view space.old) (P.view space.new) result }
     ensures kept { OnOk result (OnlyReads (P.view space.old) (P.view space.new)) }
     ensures read { IfOk result (λ s. IfPage (P.view space.old) p.0 (λ c j. SeesPage (fits wanted.now) c j s)) }
+    ensures later { (t : Table) → P.later t space.old space.new }
+    ensures means { (t : Table) → P.means space.old t → P.means space.new t }
 {
     let view = space.page(p)?;
     match see(&view, p, wanted) {
@@ -33,6 +36,8 @@ pub fn measure<P: PageSpace>(space: &mut P, p: PageNo) -> Result<Measured, Space
     ensures read { IfOk result (λ m. IfPage (P.view space.old) p.0
         (λ c j. MeasuresPage (P.view space.old).space.pages.at c j m)) }
     ensures few { IfOk result (λ m. m.measure.full ≤ 79) }
+    ensures later { (t : Table) → P.later t space.old space.new }
+    ensures means { (t : Table) → P.means space.old t → P.means space.new t }
 {
     let view = space.page(p)?;
     match read_measure(&view) {
@@ -53,6 +58,8 @@ pub fn gather<P: PageSpace>(
     ensures kept { OnOk result (OnlyReads (P.view space.old) (P.view space.new)) }
     ensures read { IfOk result (λ head. IfPage (P.view space.old) p.0
         (λ c j. GathersPage c j names.old.items names.new.items head)) }
+    ensures later { (t : Table) → P.later t space.old space.new }
+    ensures means { (t : Table) → P.means space.old t → P.means space.new t }
 {
     let view = space.page(p)?;
     match list_page(&view, names) {

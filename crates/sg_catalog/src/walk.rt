@@ -4,6 +4,7 @@ ghost use Rattle.sg_catalog.specs.Calls.{HasCatalog, IfCatalog};
 ghost use Rattle.sg_catalog.specs.Look.{fits, names_of};
 ghost use Rattle.sg_catalog.specs.Catalog.{rows};
 ghost use Rattle.sg_catalog.specs.Steps.{Searched, Surveyed, IsSurveyedOn};
+ghost use Rattle.sg_ops.specs.Table.{Table};
 ghost use Rattle.sg_space.specs.Listing.{CountsList};
 ghost use Rattle.sg_space.specs.View.{Counts, OnlyReads};
 
@@ -30,6 +31,8 @@ fn pages_wanted<P: PageSpace>(space: &mut P, peak: u32) -> Result<u32, SpaceFaul
     ensures counts { Counts (P.view space.old) (P.view space.new) result }
     ensures kept { OnOk result (OnlyReads (P.view space.old) (P.view space.new)) }
     ensures number { IfOk result (λ n. n ≡ 1 + (peak - 1) / 79) }
+    ensures later { (t : Table) → P.later t space.old space.new }
+    ensures means { (t : Table) → P.means space.old t → P.means space.new t }
 {
     let pages = pages_for(peak);
     if pages > space.pages() {
@@ -44,6 +47,8 @@ pub fn search<P: PageSpace>(space: &mut P, wanted: &Wanted) -> Result<Option<Fou
     ensures counts { Counts (P.view space.old) (P.view space.new) result }
     ensures kept { OnOk result (OnlyReads (P.view space.old) (P.view space.new)) }
     ensures read { IfOk result (λ found. IfCatalog (P.view space.old) (λ c. Searched (fits wanted.now) c found)) }
+    ensures later { (t : Table) → P.later t space.old space.new }
+    ensures means { (t : Table) → P.means space.old t → P.means space.new t }
 {
     let first = look(space, FIRST, wanted)?;
     if first.found.is_some() {
@@ -100,6 +105,8 @@ pub fn survey_pages<P: PageSpace>(space: &mut P) -> Result<Survey, SpaceFault>
     ensures counts { Counts (P.view space.old) (P.view space.new) result }
     ensures kept { OnOk result (OnlyReads (P.view space.old) (P.view space.new)) }
     ensures read { IfOk result (λ s. IfCatalog (P.view space.old) (λ c. Surveyed (P.view space.old).space.pages.at c s)) }
+    ensures later { (t : Table) → P.later t space.old space.new }
+    ensures means { (t : Table) → P.means space.old t → P.means space.new t }
 {
     let first = measure(space, FIRST)?;
     let none = Survey {
@@ -131,6 +138,8 @@ pub fn list_all<P: PageSpace>(space: &mut P, alloc: Global) -> Result<Vec<Name>,
     ensures counts { CountsList (P.view space.old) (P.view space.new) result }
     ensures kept { OnOk result (OnlyReads (P.view space.old) (P.view space.new)) }
     ensures read { IfOk result (λ v. IfCatalog (P.view space.old) (λ c. v.items ≡ names_of (rows c))) }
+    ensures later { (t : Table) → P.later t space.old space.new }
+    ensures means { (t : Table) → P.means space.old t → P.means space.new t }
 {
     let mut all = Vec::new(alloc);
     let first = gather(space, FIRST, &mut all)?;

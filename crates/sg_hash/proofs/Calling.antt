@@ -43,7 +43,6 @@ pub did_enter : {u v w x : View} {root page : ℕ} {key value : List ℕ} {split
 did_enter {u} {v} {w} {x} {root} {page} {key} {value} {split} {old} {n} shows k p s range first count = record {
   did = record {
     told = λ told. let there = p.did.told (k.keeps.told told) in (s.keeps there).told there;
-    ops = λ told y had. let there = k.keeps.told told in (s.keeps (p.did.told there)).table y (p.did.table there y (k.keeps.table y had));
     turns = λ told t h can.
         let there = k.keeps.told told in
         let f = first (shows told) t h in
@@ -78,7 +77,6 @@ pub did_delete : {u v w x : View} {root page : ℕ} {key : List ℕ} {old : Opti
     → Did u x root (λ _. Unit {0}) (IsDeleted key (is_some old))
 did_delete {u} {v} {w} {x} {root} {page} {key} {old} n shows k d keeps bands writes first ranges are_numbers peaks = record {
   told = λ told. let there = d.told (k.keeps.told told) in (keeps there).told there;
-  ops = λ told y had. let there = k.keeps.told told in (keeps (d.told there)).table y (d.table there y (k.keeps.table y had));
   turns = λ told t h can.
       let there = k.keeps.told told in
       let f = first (shows told) t h in

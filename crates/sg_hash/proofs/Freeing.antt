@@ -42,7 +42,6 @@ frees_none v root = record {
   frees = record {
     told = λ t. t;
     freed = λ t x h. record { gone = λ p o. absurd (none_first o); others = λ p no. refl; free = omega arith; all = refl; bands = refl };
-    ops = λ t u h. h;
     may_have = λ t x h p n no m. m;
   };
 }
@@ -96,7 +95,6 @@ frees_on {u} {v} {w} {x} {root} {i} {page} f shows k back later back' later' g f
         let linked = bucket_found h.built now at in
         let w_told = k.keeps.told (f.frees.told told) in
         one_freed h.built now at.is (g.pages w_told at.bucket linked) (g.bands w_told);
-    ops = λ told y had. g.table (k.keeps.told (f.frees.told told)) y (k.keeps.table y (f.frees.ops told y had));
     may_have = λ told t h p n no had.
         let at = first told t h in
         let linked = bucket_found h.built (mid told t h) at in
@@ -158,7 +156,6 @@ pub gone_calls : {u v w x y : View} {root p count : ℕ} → (u.Told → u.Shows
     → Gone u y root
 gone_calls {u} {v} {w} {x} {y} {root} {p} {count} shows k one two three directory many = record {
   told = λ told. three.told (two.told (one.told (k.keeps.told told)));
-  ops = λ told o had. let there = k.keeps.told told in three.table o (two.table (one.told there) o (one.ops there o (k.keeps.table o had)));
   gone = λ told t h.
       let there = k.keeps.told told in
       let now = still_table k (shows told) h in

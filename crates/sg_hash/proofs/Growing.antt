@@ -42,7 +42,6 @@ turns_same {root = root} {t = t} e h = record {
 pub did_same : {u w : View} {root : ℕ} {Can : HashTable → Type 0} {Is : HashTable → HashTable → Type 0} → (u.Told → u.Shows) → OnlyReads u w → (u.Told → (t : HashTable) → IsHashTable u.space.pages.at root t → Can t → Is t t) → Did u w root Can Is
 did_same shows k is = record {
   told = k.keeps.told;
-  ops = λ told. k.keeps.table;
   turns = λ told t h can. (t, turns_same (k.same (shows told)) h, is told t h can);
   may_have = λ told t h can p n no some had. k.keeps.may_have p n had;
 }
@@ -51,7 +50,6 @@ did_same shows k is = record {
 pub did_after : {u v w : View} {root : ℕ} {Can Then : HashTable → Type 0} {Is Now : HashTable → HashTable → Type 0} → (u.Told → u.Shows) → OnlyReads u v → Did v w root Then Is → (u.Told → (t : HashTable) → IsHashTable u.space.pages.at root t → Can t → Then t) → (u.Told → (t t' : HashTable) → IsHashTable u.space.pages.at root t → Can t → Is t t' → Now t t') → Did u w root Can Now
 did_after {u} {v} {w} {root} shows k d so is = record {
   told = λ told. d.told (k.keeps.told told);
-  ops = λ told o had. d.ops (k.keeps.told told) o (k.keeps.table o had);
   turns = λ told t h can.
       let one = d.turns (k.keeps.told told) t (still_table k (shows told) h) (so told t h can) in
       (one.0, before (λ (s : Space). Turns s w.space root t one.0) k (shows told) one.1, is told t one.0 h can one.2);
@@ -144,7 +142,6 @@ first_of {page} found t same f = subst (λ (k : ℕ). IsFirstOf t k page) (ap (�
 pub did_as : {v w : View} {root : ℕ} {Can : HashTable → Type 0} {Is Now : HashTable → HashTable → Type 0} → Did v w root Can Is → ((t t' : HashTable) → Is t t' → Now t t') → Did v w root Can Now
 did_as d is = record {
   told = d.told;
-  ops = d.ops;
   turns = λ told t h can. let one = d.turns told t h can in (one.0, one.1, is t one.0 one.2);
   may_have = d.may_have;
 }
@@ -230,7 +227,6 @@ other_still {v} {w} {root} {q} {t} {m} x none some = (apart, λ e. some (sym (x.
 pub put_grown : {v w x : View} {root : ℕ} {key value : List ℕ} → DidEnter v w root key value true true → Did w x root (CanGrow w) IsGrown → Did v x root (CanPut v key true) (IsPut key value true true)
 put_grown {v} {w} {x} {root} {key} {value} d g = record {
   told = λ told. g.told (d.did.told told);
-  ops = λ told o had. g.ops (d.did.told told) o (d.did.ops told o had);
   turns = λ told t h can.
       let one = d.did.turns told t h can in
       let two = g.turns (d.did.told told) one.0 one.1.table (can_grow (d.keeps refl told) h can one.1 one.2) in

@@ -16,3 +16,5 @@ pub mod Bounds
 pub mod Parting
 pub mod Growing
 pub mod Listing
+pub mod Onces
+pub mod Entries

@@ -280,7 +280,6 @@ pub did_split : {u v w x y z : View} {root first new directory size : ℕ} {item
     → Did u z root (CanSplit u found) IsSplit
 did_split {u} {v} {w} {x} {y} {z} {root} {first} {new} {directory} {size} {item} {there} {found} {n} shows k br p d s long item_is is begins next = record {
   told = λ told. (s.keeps (told_y told)).told (told_y told);
-  ops = λ told o had. (s.keeps (told_y told)).table o (d.table (told_x told) o ((p.keeps (told_w told)).table o ((br.keeps (told_v told)).table o (k.keeps.table o had))));
   turns = λ told t h can.
       let q = next (shows told) t h can.numbers in
       let f = begins (shows told) t h can.numbers in

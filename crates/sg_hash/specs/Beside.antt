@@ -1,6 +1,7 @@
 -- Hash tables side by side in one space, and what each of them is.
 use Rattle.std.specs.Prelude.{◌≡◌, ℕ, ◌≤◌, length, List, Option}
 use Rattle.sg_base.specs.Sheet.{Sheet}
+use Rattle.sg_bucket.specs.Entry.{AreOnce}
 use Rattle.sg_space.specs.View.{Space}
 use Rattle.sg_hash.specs.Calls.{Turns, IsMade, IsGone}
 use Rattle.sg_hash.specs.Table.{HashTable, IsHashTable, Owns, entries, most_pages, page_count}
@@ -20,3 +21,7 @@ pub record StandApart : Type 0 where
 -- A table has no more pages than its peak and its entries allow.
 abbrev pub KeepsBound : Type 0
 KeepsBound = (at : ℕ → Option Sheet) (root : ℕ) (t : HashTable) → IsHashTable at root t → page_count t ≤ most_pages t.peak (length (entries t))
+
+-- Each key is that of one entry of the whole table.
+abbrev pub KeepsOnce : Type 0
+KeepsOnce = (at : ℕ → Option Sheet) (root : ℕ) (t : HashTable) → IsHashTable at root t → AreOnce (entries t)

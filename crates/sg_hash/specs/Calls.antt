@@ -28,7 +28,6 @@ pub record Turns (old new : Space) (root : ℕ) (t t' : HashTable) : Type 0 wher
 -- what a call does to each table that stood there and of which it could be asked
 pub record Did (v w : View) (root : ℕ) (Can : HashTable → Type 0) (Is : HashTable → HashTable → Type 0) : Type 0 where
   pub told : v.Told → w.Told
-  pub ops : v.Told → (t : Table) → v.IsTable t → w.IsTable t
   pub turns : v.Told → (t : HashTable) → IsHashTable v.space.pages.at root t → Can t → (t' : HashTable) × Turns v.space w.space root t t' × Is t t'
   -- other taken pages may have the slots that they might have before
   pub may_have : v.Told → (t : HashTable) → IsHashTable v.space.pages.at root t → Can t → (page slots : ℕ) → ¬ Owns root t page → v.space.pages.at page ≢ None → v.MayHave page slots → w.MayHave page slots
@@ -46,7 +45,6 @@ pub record CanPut (v : View) (key : List ℕ) (split : Bool) (t : HashTable) : T
   pub may_grow : MayGrow v t
   -- page 0, whose number ends a chain, isn't free
   pub zero : IsSome (v.space.pages.at 0)
-  pub few : length (entries t) + 1 < 2 ^ 32
 
 -- The key is mapped to this value, and all others are mapped as before. No bucket has been split.
 pub record IsEntered (key value : List ℕ) (split new : Bool) (t t' : HashTable) : Type 0 where
@@ -120,6 +118,5 @@ pub record IsGone (old new : Space) (root : ℕ) (t : HashTable) : Type 0 where
 
 pub record Gone (v w : View) (root : ℕ) : Type 0 where
   pub told : v.Told → w.Told
-  pub ops : v.Told → (t : Table) → v.IsTable t → w.IsTable t
   pub gone : v.Told → (t : HashTable) → IsHashTable v.space.pages.at root t → IsGone v.space w.space root t
   pub may_have : v.Told → (t : HashTable) → IsHashTable v.space.pages.at root t → (page slots : ℕ) → ¬ Owns root t page → v.MayHave page slots → w.MayHave page slots

@@ -120,5 +120,4 @@ pub record AreFreed (old new : Space) (bs : List Bucket) (count : ℕ) : Type 0 
 pub record FreesBuckets (v w : View) (root count : ℕ) : Type 0 where
   pub told : v.Told → w.Told
   pub freed : v.Told → (t : HashTable) → IsHashTable v.space.pages.at root t → AreFreed v.space w.space t.buckets count
-  pub ops : v.Told → (u : Table) → v.IsTable u → w.IsTable u
   pub may_have : v.Told → (t : HashTable) → IsHashTable v.space.pages.at root t → (page slots : ℕ) → ¬ IsInBuckets t.buckets page → v.MayHave page slots → w.MayHave page slots

@@ -2,6 +2,7 @@
 ghost use Rattle.std.specs.Prelude.{◌≡◌, ◌≤◌, length, IfOk};
 ghost use Rattle.sg_hash.specs.Calls.{HasFive, Made};
 ghost use Rattle.sg_hash.specs.Steps.{Started, TookRoot, numbers_in};
+ghost use Rattle.sg_ops.specs.Table.{table_of};
 ghost use Rattle.sg_space.specs.Pages.{CanTake};
 ghost use Rattle.sg_space.specs.View.{Counts};
 
@@ -13,9 +14,12 @@ use sg_space::{PageSpace, SpaceFault, take_page_with};
 
 // Makes a directory that names one bucket, without entries.
 fn start<P: PageSpace>(space: &mut P, ops: &Ops) -> Result<PageNo, SpaceFault>
-    requires { (P.view space.old).Told → HasFive (P.view space.old) }
+    requires means { P.means space.old (table_of record_meaning range_meaning ops.now) }
+    requires can { (P.view space.old).Told → HasFive (P.view space.old) }
     ensures counts { Counts (P.view space.old) (P.view space.new) result }
     ensures did { IfOk result (λ directory. Started (P.view space.old) (P.view space.new) directory.0) }
+    ensures later { P.later (table_of record_meaning range_meaning ops.now) space.old space.new }
+    ensures means { P.means space.new (table_of record_meaning range_meaning ops.now) }
 {
     let directory = sg_array::make(space, ops, 4)?;
     let first = sg_bucket::make(space)?;
@@ -32,9 +36,12 @@ fn take_root<P: PageSpace>(
     numbers: Root,
     directory: PageNo,
 ) -> Result<PageNo, SpaceFault>
-    requires { CanTake (P.view space.old) (P.view space.old).space.pages }
+    requires means { P.means space.old (table_of record_meaning range_meaning ops.now) }
+    requires can { CanTake (P.view space.old) (P.view space.old).space.pages }
     ensures counts { Counts (P.view space.old) (P.view space.new) result }
     ensures did { IfOk result (λ root. TookRoot (P.view space.old) (P.view space.new) root.0 (numbers_in numbers) directory.0) }
+    ensures later { P.later (table_of record_meaning range_meaning ops.now) space.old space.new }
+    ensures means { P.means space.new (table_of record_meaning range_meaning ops.now) }
 {
     let root = take_page_with(space, ops, ROOT_KIND, &spell_root(numbers))?;
     let op = PageOp::Links {
@@ -47,9 +54,12 @@ fn take_root<P: PageSpace>(
 
 /// Makes a table without entries, of one bucket. Five pages are taken for it.
 pub fn make<P: PageSpace>(space: &mut P, ops: &Ops) -> Result<PageNo, SpaceFault>
-    requires { (P.view space.old).Told → HasFive (P.view space.old) }
+    requires means { P.means space.old (table_of record_meaning range_meaning ops.now) }
+    requires can { (P.view space.old).Told → HasFive (P.view space.old) }
     ensures counts { Counts (P.view space.old) (P.view space.new) result }
     ensures did { IfOk result (λ root. Made (P.view space.old) (P.view space.new) root.0) }
+    ensures later { P.later (table_of record_meaning range_meaning ops.now) space.old space.new }
+    ensures means { P.means space.new (table_of record_meaning range_meaning ops.now) }
 {
     let directory = start(space, ops)?;
     let numbers = Root {

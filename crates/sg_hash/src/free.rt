@@ -2,6 +2,7 @@
 ghost use Rattle.std.specs.Prelude.{◌≡◌, length, OnOk, ⊤};
 ghost use Rattle.sg_hash.specs.Calls.{HasHashTable, Gone};
 ghost use Rattle.sg_hash.specs.Steps.{FreesBuckets};
+ghost use Rattle.sg_ops.specs.Table.{Table};
 ghost use Rattle.sg_space.specs.View.{Counts};
 
 use crate::root::{directory_of, read_root};
@@ -14,6 +15,8 @@ fn free_buckets<P: PageSpace>(space: &mut P, root: PageNo, count: u32) -> Result
     requires { HasHashTable (P.view space.old) root.0 (λ t. length t.buckets ≡ count) }
     ensures counts { Counts (P.view space.old) (P.view space.new) result }
     ensures did { OnOk result (FreesBuckets (P.view space.old) (P.view space.new) root.0 count) }
+    ensures later { (t : Table) → P.later t space.old space.new }
+    ensures means { (t : Table) → P.means space.old t → P.means space.new t }
 {
     for i in 0..count {
         let first = bucket_at(space, root, i)?;
@@ -27,6 +30,8 @@ pub fn free_all<P: PageSpace>(space: &mut P, root: PageNo) -> Result<(), SpaceFa
     requires { HasHashTable (P.view space.old) root.0 (λ _. ⊤) }
     ensures counts { Counts (P.view space.old) (P.view space.new) result }
     ensures did { OnOk result (Gone (P.view space.old) (P.view space.new) root.0) }
+    ensures later { (t : Table) → P.later t space.old space.new }
+    ensures means { (t : Table) → P.means space.old t → P.means space.new t }
 {
     let found = read_root(space, root)?;
     let directory = directory_of(space, root)?;

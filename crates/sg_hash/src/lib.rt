@@ -16,7 +16,7 @@ mod split;
 mod table;
 mod walk;
 
-pub use beside::{keep_bound, stand_apart};
+pub use beside::{keep_bound, keep_once, stand_apart};
 pub use create::make;
 pub use free::free_all;
 pub use list::keys;

@@ -5,6 +5,7 @@ ghost use Rattle.std.specs.Ordering.{nat_cmp};
 ghost use Rattle.sg_bucket.specs.Division.{keys_of};
 ghost use Rattle.sg_hash.specs.Table.{entries};
 ghost use Rattle.sg_hash.specs.Calls.{HasHashTable, IfHashTable};
+ghost use Rattle.sg_ops.specs.Table.{Table};
 ghost use Rattle.sg_space.specs.Listing.{CountsList};
 ghost use Rattle.sg_space.specs.View.{OnlyReads};
 
@@ -25,6 +26,8 @@ fn list_keys<P: PageSpace>(
     ensures counts { CountsList (P.view space.old) (P.view space.new) result }
     ensures kept { OnOk result (OnlyReads (P.view space.old) (P.view space.new)) }
     ensures read { IfOk result (λ v. IfHashTable (P.view space.old) root.0 (λ t. v.items ≡ keys_of (entries t))) }
+    ensures later { (t : Table) → P.later t space.old space.new }
+    ensures means { (t : Table) → P.means space.old t → P.means space.new t }
 {
     let found = read_root(space, root)?;
     let mut all = Vec::new(alloc);
@@ -48,6 +51,8 @@ pub fn keys<P: PageSpace>(
     ensures read { IfOk result (λ v. IfHashTable (P.view space.old) root.0
         (λ t. IsPermutation (keys_of (entries t)) v.items)) }
     ensures order { IfOk result (λ v. IsSorted (slice_cmp nat_cmp) v.items) }
+    ensures later { (t : Table) → P.later t space.old space.new }
+    ensures means { (t : Table) → P.means space.old t → P.means space.new t }
 {
     let mut all = list_keys(space, root, alloc)?;
     all.sort_unstable();

@@ -2,6 +2,7 @@
 ghost use Rattle.std.specs.Prelude.{◌≡◌, ◌+◌, ◌<◌, ◌≤◌, ◌^◌, length, Some, None, IfOk, OnOk, IfSome, IsSome, ⊤};
 ghost use Rattle.sg_hash.specs.Table.{Numbers, IsInRange, root_cell};
 ghost use Rattle.sg_hash.specs.Steps.{HasTrunk, IfTrunk, HasRootPage, SetsRoot, numbers_in};
+ghost use Rattle.sg_ops.specs.Table.{Table, table_of};
 ghost use Rattle.sg_space.specs.View.{Counts, OnlyReads};
 
 use sg_base::{PageNo, PageOp, read_u32, read_u64, write_u32, write_u64};
@@ -125,6 +126,8 @@ pub fn read_root<P: PageSpace>(space: &mut P, root: PageNo) -> Result<Root, Spac
     ensures counts { Counts (P.view space.old) (P.view space.new) result }
     ensures kept { OnOk result (OnlyReads (P.view space.old) (P.view space.new)) }
     ensures read { IfOk result (λ r. IfTrunk (P.view space.old) root.0 (λ n _. numbers_in r ≡ n)) }
+    ensures later { (t : Table) → P.later t space.old space.new }
+    ensures means { (t : Table) → P.means space.old t → P.means space.new t }
 {
     let mut cell = [0; ROOT_CELL];
     read_cell(space, root, ROOT_KIND, 0, &mut cell)?;
@@ -140,6 +143,8 @@ pub fn directory_of<P: PageSpace>(space: &mut P, root: PageNo) -> Result<PageNo,
     ensures counts { Counts (P.view space.old) (P.view space.new) result }
     ensures kept { OnOk result (OnlyReads (P.view space.old) (P.view space.new)) }
     ensures read { IfOk result (λ p. IfTrunk (P.view space.old) root.0 (λ _ t. t.directory ≡ p.0)) }
+    ensures later { (t : Table) → P.later t space.old space.new }
+    ensures means { (t : Table) → P.means space.old t → P.means space.new t }
 {
     let view = space.page(root)?;
     if view.kind() != ROOT_KIND {
@@ -156,9 +161,12 @@ pub fn set_root<P: PageSpace>(
     root: PageNo,
     numbers: Root,
 ) -> Result<(), SpaceFault>
-    requires { (P.view space.old).Told → HasRootPage (P.view space.old) root.0 }
+    requires means { P.means space.old (table_of record_meaning range_meaning ops.now) }
+    requires can { (P.view space.old).Told → HasRootPage (P.view space.old) root.0 }
     ensures counts { Counts (P.view space.old) (P.view space.new) result }
     ensures did { OnOk result (SetsRoot (P.view space.old) (P.view space.new) root.0 (numbers_in numbers)) }
+    ensures later { P.later (table_of record_meaning range_meaning ops.now) space.old space.new }
+    ensures means { P.means space.new (table_of record_meaning range_meaning ops.now) }
 {
     let cell = spell_root(numbers);
     let op = PageOp::Set {

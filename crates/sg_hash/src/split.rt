@@ -3,6 +3,7 @@ ghost use Rattle.std.specs.Prelude.{◌≡◌, ◌+◌, ◌*◌, ◌<◌, ◌≤
 ghost use Rattle.sg_hash.specs.Calls.{HasHashTable, Did, IsGrown};
 ghost use Rattle.sg_hash.specs.Splits.{CanSplit, IsSplit, CanGrow};
 ghost use Rattle.sg_linear.specs.Extent.{buckets_of, shape_of};
+ghost use Rattle.sg_ops.specs.Table.{table_of};
 ghost use Rattle.sg_space.specs.View.{Counts};
 
 use crate::root::{Root, directory_of, read_root, set_root};
@@ -22,10 +23,13 @@ fn split_next<P: PageSpace>(
     root: PageNo,
     found: Root,
 ) -> Result<(), SpaceFault>
+    requires means { P.means space.old (table_of record_meaning range_meaning ops.now) }
     requires room { found.extent.low ≤ 524288 }
     requires there { HasHashTable (P.view space.old) root.0 (CanSplit (P.view space.old) found) }
     ensures counts { Counts (P.view space.old) (P.view space.new) result }
     ensures did { OnOk result (Did (P.view space.old) (P.view space.new) root.0 (CanSplit (P.view space.old) found) IsSplit) }
+    ensures later { P.later (table_of record_meaning range_meaning ops.now) space.old space.new }
+    ensures means { P.means space.new (table_of record_meaning range_meaning ops.now) }
 {
     let directory = directory_of(space, root)?;
     let first = bucket_at(space, root, found.extent.split)?;
@@ -61,9 +65,12 @@ fn is_crowded(found: Root) -> bool
 /// Splits the next bucket, where that is due: the entries have more than 2,048 bytes for each bucket, and its chain
 /// has at most 8 pages. At most 10 pages are taken.
 pub fn grow<P: PageSpace>(space: &mut P, ops: &Ops, root: PageNo) -> Result<(), SpaceFault>
-    requires { HasHashTable (P.view space.old) root.0 (CanGrow (P.view space.old)) }
+    requires means { P.means space.old (table_of record_meaning range_meaning ops.now) }
+    requires can { HasHashTable (P.view space.old) root.0 (CanGrow (P.view space.old)) }
     ensures counts { Counts (P.view space.old) (P.view space.new) result }
     ensures did { OnOk result (Did (P.view space.old) (P.view space.new) root.0 (CanGrow (P.view space.old)) IsGrown) }
+    ensures later { P.later (table_of record_meaning range_meaning ops.now) space.old space.new }
+    ensures means { P.means space.new (table_of record_meaning range_meaning ops.now) }
 {
     let found = read_root(space, root)?;
     if !is_crowded(found) {

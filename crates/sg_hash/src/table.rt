@@ -4,6 +4,7 @@ ghost use Rattle.sg_bucket.specs.Bucket.{IsAnswer};
 ghost use Rattle.sg_hash.specs.Table.{value_at};
 ghost use Rattle.sg_hash.specs.Calls.{HasHashTable, IfHashTable, Did, CanPut, IsPut, IsDeleted};
 ghost use Rattle.sg_hash.specs.Steps.{DidEnter};
+ghost use Rattle.sg_ops.specs.Table.{Table, table_of};
 ghost use Rattle.sg_space.specs.View.{Counts, OnlyReads};
 
 use crate::root::{read_root, set_root};
@@ -28,6 +29,8 @@ pub fn find<P: PageSpace>(
     ensures read { IfOk result (λ found. IfHashTable (P.view space.old) root.0
         (λ t. IsAnswer (value_at t key.now) found into.new)) }
     ensures within { IfOk result (λ found. IfSome found (λ n. n ≤ length into.new)) }
+    ensures later { (t : Table) → P.later t space.old space.new }
+    ensures means { (t : Table) → P.means space.old t → P.means space.new t }
 {
     let found = read_root(space, root)?;
     let first = bucket_of(space, root, found, key)?;
@@ -45,11 +48,14 @@ fn enter<P: PageSpace>(
     value: &[u8],
     split: bool,
 ) -> Result<bool, SpaceFault>
+    requires means { P.means space.old (table_of record_meaning range_meaning ops.now) }
     requires key { length key.now ≤ 128 }
     requires value { length value.now ≤ 1024 }
     requires there { HasHashTable (P.view space.old) root.0 (CanPut (P.view space.old) key.now split) }
     ensures counts { Counts (P.view space.old) (P.view space.new) result }
     ensures did { IfOk result (λ new. DidEnter (P.view space.old) (P.view space.new) root.0 key.now value.now split new) }
+    ensures later { P.later (table_of record_meaning range_meaning ops.now) space.old space.new }
+    ensures means { P.means space.new (table_of record_meaning range_meaning ops.now) }
 {
     let found = read_root(space, root)?;
     let first = bucket_of(space, root, found, key)?;
@@ -75,12 +81,15 @@ pub fn put<P: PageSpace>(
     value: &[u8],
     split: bool,
 ) -> Result<bool, SpaceFault>
+    requires means { P.means space.old (table_of record_meaning range_meaning ops.now) }
     requires key { length key.now ≤ 128 }
     requires value { length value.now ≤ 1024 }
     requires there { HasHashTable (P.view space.old) root.0 (CanPut (P.view space.old) key.now split) }
     ensures counts { Counts (P.view space.old) (P.view space.new) result }
     ensures did { IfOk result (λ new. Did (P.view space.old) (P.view space.new) root.0
         (CanPut (P.view space.old) key.now split) (IsPut key.now value.now split new)) }
+    ensures later { P.later (table_of record_meaning range_meaning ops.now) space.old space.new }
+    ensures means { P.means space.new (table_of record_meaning range_meaning ops.now) }
 {
     let new = enter(space, ops, root, key, value, split)?;
     if !split {
@@ -101,10 +110,13 @@ pub fn del<P: PageSpace>(
     root: PageNo,
     key: &[u8],
 ) -> Result<bool, SpaceFault>
+    requires means { P.means space.old (table_of record_meaning range_meaning ops.now) }
     requires key { length key.now ≤ 128 }
     requires there { HasHashTable (P.view space.old) root.0 (λ _. ⊤) }
     ensures counts { Counts (P.view space.old) (P.view space.new) result }
     ensures did { IfOk result (λ was. Did (P.view space.old) (P.view space.new) root.0 (λ _. ⊤) (IsDeleted key.now was)) }
+    ensures later { P.later (table_of record_meaning range_meaning ops.now) space.old space.new }
+    ensures means { P.means space.new (table_of record_meaning range_meaning ops.now) }
 {
     let found = read_root(space, root)?;
     let first = bucket_of(space, root, found, key)?;

@@ -3,6 +3,7 @@ ghost use Rattle.std.specs.Prelude.{◌≡◌, ◌+◌, ◌<◌, ◌≤◌, leng
 ghost use Rattle.sg_hash.specs.Table.{home_of, numbers_of};
 ghost use Rattle.sg_hash.specs.Calls.{HasHashTable, IfHashTable};
 ghost use Rattle.sg_hash.specs.Steps.{HasTrunk, IfTrunk, IsFirstOf, numbers_in};
+ghost use Rattle.sg_ops.specs.Table.{Table};
 ghost use Rattle.sg_space.specs.View.{Counts, OnlyReads};
 
 use crate::root::{Root, directory_of, read_root};
@@ -16,6 +17,8 @@ pub fn bucket_at<P: PageSpace>(space: &mut P, root: PageNo, i: u32) -> Result<Pa
     ensures counts { Counts (P.view space.old) (P.view space.new) result }
     ensures kept { OnOk result (OnlyReads (P.view space.old) (P.view space.new)) }
     ensures read { IfOk result (λ p. IfTrunk (P.view space.old) root.0 (λ _ t. i < length t.buckets → IsFirstOf t i p.0)) }
+    ensures later { (t : Table) → P.later t space.old space.new }
+    ensures means { (t : Table) → P.means space.old t → P.means space.new t }
 {
     let directory = directory_of(space, root)?;
     let mut cell = [0; 4];
@@ -35,6 +38,8 @@ pub fn bucket_of<P: PageSpace>(
     ensures kept { OnOk result (OnlyReads (P.view space.old) (P.view space.new)) }
     ensures read { IfOk result (λ p. IfHashTable (P.view space.old) root.0
         (λ t. numbers_in found ≡ numbers_of t → IsFirstOf t (home_of t.shape key.now) p.0)) }
+    ensures later { (t : Table) → P.later t space.old space.new }
+    ensures means { (t : Table) → P.means space.old t → P.means space.new t }
 {
     let index = found.extent.bucket_of(fnv_1a(key));
     let first = bucket_at(space, root, index)?;

@@ -22,8 +22,10 @@ home_view told disk pages breaks = record {
   Shows = IsTrue told;
   space = home_space disk.now pages;
   faults = disk.faults + breaks;
-  IsTable = λ t. ⊤;
+  records = 0;
   IsNearEnd = ⊥;
   MayTake = ⊤;
   MayHave = λ page slots. ⊤;
+  HasWritten = λ band. ⊥;
+  IsStill = ⊤;
 }

@@ -1,4 +1,4 @@
-ghost use Rattle.std.specs.Prelude.{◌≡◌, ◌≤◌, IfOk, vec_len};
+ghost use Rattle.std.specs.Prelude.{◌≡◌, ◌≤◌, Err, IfOk, vec_len};
 ghost use Rattle.sg_base.specs.Ends.{HasRisen};
 ghost use Rattle.sg_base.specs.declared.page.TheConstants.{BAND_SIZE};
 
@@ -66,9 +66,10 @@ impl<D: Disk + Drop> HomeSpace<D> {
 }
 
 impl<D: Disk> HomeSpace<D> {
-    ghost use Rattle.std.specs.Prelude.{◌≡◌, OnOk, length};
+    ghost use Rattle.std.specs.Prelude.{◌≡◌, OnOk, length, ⊤};
     ghost use Rattle.sg_base.specs.Page.{IsSlotted};
     ghost use Rattle.sg_base.specs.Sheet.{sheet_of};
+    ghost use Rattle.sg_ops.specs.Table.{Table};
     ghost use Rattle.sg_space.specs.Pages.{Looks, Looked};
     ghost use Rattle.sg_home.specs.Home.{home_view};
 
@@ -76,7 +77,8 @@ impl<D: Disk> HomeSpace<D> {
     fn load(&mut self, p: PageNo) -> Result<(), SpaceFault>
         ensures slotted { OnOk result (IsSlotted self.new.frame.items) }
         ensures looks { Looks (home_view D.told (D.view self.old.disk) self.old.pages self.old.breaks)
-            (home_view D.told (D.view self.new.disk) self.new.pages self.new.breaks) result }
+            (home_view D.told (D.view self.new.disk) self.new.pages self.new.breaks)
+            ((t : Table) → ⊤) ((t : Table) → ⊤ → ⊤) result }
         ensures looked { OnOk result (Looked (home_view D.told (D.view self.old.disk) self.old.pages self.old.breaks)
             (home_view D.told (D.view self.old.disk) self.old.pages self.old.breaks).space.pages p.0 (sheet_of self.new.frame.items)) }
     {
@@ -94,7 +96,8 @@ impl<D: Disk> HomeSpace<D> {
     // Reads a band into the window.
     fn load_band(&mut self, b: BandNo) -> Result<(), SpaceFault>
         ensures looks { Looks (home_view D.told (D.view self.old.disk) self.old.pages self.old.breaks)
-            (home_view D.told (D.view self.new.disk) self.new.pages self.new.breaks) result }
+            (home_view D.told (D.view self.new.disk) self.new.pages self.new.breaks)
+            ((t : Table) → ⊤) ((t : Table) → ⊤ → ⊤) result }
         ensures looked { OnOk result (Looked (home_view D.told (D.view self.old.disk) self.old.pages self.old.breaks)
             (home_view D.told (D.view self.old.disk) self.old.pages self.old.breaks).space.bands b.0 self.new.window.items) }
     {
@@ -127,9 +130,14 @@ impl<D: Disk> HomeSpace<D> {
 }
 
 impl<D: Disk> PageSpace for HomeSpace<D> {
+    ghost use Rattle.std.specs.Prelude.{⊤};
     ghost use Rattle.sg_home.specs.Home.{home_view};
 
     ghost view = { λ s. home_view D.told (D.view s.disk) s.pages s.breaks };
+
+    ghost later = { λ t a b. ⊤ };
+
+    ghost means = { λ s t. ⊤ };
 
     fn broken(&mut self) -> SpaceFault {
         count_break(&mut self.breaks)
@@ -156,11 +164,23 @@ impl<D: Disk> PageSpace for HomeSpace<D> {
         Err(count_break(&mut self.breaks))
     }
 
-    fn take_page(&mut self, _kind: u8) -> Result<PageNo, SpaceFault> {
+    fn take_page(&mut self, _kind: u8) -> Result<PageNo, SpaceFault>
+        ensures refused { result ≡ Err SpaceFault.Disk }
+        ensures untouched { self.new.disk ≡ self.old.disk }
+        ensures pages { self.new.pages ≡ self.old.pages }
+        ensures counted { HasRisen self.old.breaks self.new.breaks }
+        ensures later { self.old.breaks ≤ self.new.breaks }
+    {
         Err(count_break(&mut self.breaks))
     }
 
-    fn free_page(&mut self, _p: PageNo) -> Result<(), SpaceFault> {
+    fn free_page(&mut self, _p: PageNo) -> Result<(), SpaceFault>
+        ensures refused { result ≡ Err SpaceFault.Disk }
+        ensures untouched { self.new.disk ≡ self.old.disk }
+        ensures pages { self.new.pages ≡ self.old.pages }
+        ensures counted { HasRisen self.old.breaks self.new.breaks }
+        ensures later { self.old.breaks ≤ self.new.breaks }
+    {
         Err(count_break(&mut self.breaks))
     }
 
@@ -169,7 +189,13 @@ impl<D: Disk> PageSpace for HomeSpace<D> {
         Ok(self.shown_band())
     }
 
-    fn write_band(&mut self, _b: BandNo, _at: u32, _bytes: &[u8]) -> Result<(), SpaceFault> {
+    fn write_band(&mut self, _b: BandNo, _at: u32, _bytes: &[u8]) -> Result<(), SpaceFault>
+        ensures refused { result ≡ Err SpaceFault.Disk }
+        ensures untouched { self.new.disk ≡ self.old.disk }
+        ensures pages { self.new.pages ≡ self.old.pages }
+        ensures counted { HasRisen self.old.breaks self.new.breaks }
+        ensures later { self.old.breaks ≤ self.new.breaks }
+    {
         Err(count_break(&mut self.breaks))
     }
 
@@ -186,15 +212,35 @@ impl<D: Disk> PageSpace for HomeSpace<D> {
         Err(count_break(&mut self.breaks))
     }
 
-    fn take_band(&mut self) -> Result<BandNo, SpaceFault> {
+    fn take_band(&mut self) -> Result<BandNo, SpaceFault>
+        ensures refused { result ≡ Err SpaceFault.Disk }
+        ensures untouched { self.new.disk ≡ self.old.disk }
+        ensures pages { self.new.pages ≡ self.old.pages }
+        ensures counted { HasRisen self.old.breaks self.new.breaks }
+        ensures later { self.old.breaks ≤ self.new.breaks }
+    {
         Err(count_break(&mut self.breaks))
     }
 
-    fn free_band(&mut self, _b: BandNo) -> Result<(), SpaceFault> {
+    fn free_band(&mut self, _b: BandNo) -> Result<(), SpaceFault>
+        ensures refused { result ≡ Err SpaceFault.Disk }
+        ensures untouched { self.new.disk ≡ self.old.disk }
+        ensures pages { self.new.pages ≡ self.old.pages }
+        ensures counted { HasRisen self.old.breaks self.new.breaks }
+        ensures later { self.old.breaks ≤ self.new.breaks }
+    {
         Err(count_break(&mut self.breaks))
     }
+
+    ghost later_same = { λ t s. tt };
+
+    ghost later_then = { λ t a b c f g. tt };
 
     ghost told_shows = { λ s t. absurd t };
+
+    ghost few_pages = { λ s t. absurd t };
+
+    ghost pages_fit = { λ s t. absurd t };
 
     ghost pages_exact = { λ s t. absurd t };
 

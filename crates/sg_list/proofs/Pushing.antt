@@ -1,5 +1,5 @@
 -- An item behind the others of a list.
-use Rattle.std.proofs.Common.{◌≡◌, ℕ, zero, suc, ◌+◌, ◌≤◌, ◌==◌, if◌then◌else◌, Bool, true, false, List, [], ◌∷◌, ◌++◌, length, map, set, slice_get, Option, Some, None, IsSome, refl, sym, ap, subst, ◌∙◌, inl, inr, arith}
+use Rattle.std.proofs.Common.{◌≡◌, ℕ, zero, suc, ◌+◌, ◌≤◌, ◌==◌, if◌then◌else◌, Bool, true, List, [], ◌∷◌, ◌++◌, length, map, set, slice_get, Option, Some, None, IsSome, refl, sym, ap, subst, ◌∙◌, inl, inr, arith}
 use Rattle.std.proofs.lemmas.Bool.{cases_eq}
 use Rattle.std.proofs.lemmas.Bool.Decides.{nat_tests}
 use Rattle.std.proofs.lemmas.List.{length-map, map-append, get_or_past}
@@ -68,14 +68,10 @@ push_possible t v w root slot items item is reads shows stands can =
         fits = subst (λ (o : Option Sheet). IsSome o) (sym (push_step t items item stands.what stands.has can.fits)) refl;
         done = tt;
         short = omega arith;
-        means = λ e. absurd (no e);
         place = λ e. subst (λ (n : ℕ). w.MayHave root n) long (reads.keeps.may_have root (length items + 1) can.may);
       };
     })
   where
-    no : false ≡ true → ⊥
-    no e = cc
-
     long : length items + 1 ≡ length stands.what.slots + 1
     long = ap (λ (n : ℕ). n + 1) (sym (ap (λ (s : List (Option (List ℕ))). length s) stands.has.slots ∙ length-map items Some))
 
@@ -84,7 +80,6 @@ pub pushed : (t : Table) (u v w : View) (root slot : ℕ) (item : List ℕ) → 
 pushed t u v w root slot item reads shows is can did = record {
   keeps = λ told. keeps_then reads.keeps (record {
     told = did.told;
-    table = did.table;
     may_take = did.may_take;
     may_have = λ p n h. by_page p n h;
   });

@@ -1,5 +1,6 @@
 ghost use Rattle.std.specs.Prelude.{◌≡◌, ◌≤◌, length, slice_get, Some, IfOk, OnOk, ⊤};
 ghost use Rattle.sg_list.specs.Items.{HasList, IfList, HasSized, CanPush, Made, Pushed};
+ghost use Rattle.sg_ops.specs.Table.{Table, table_of};
 ghost use Rattle.sg_space.specs.Pages.{CanTake};
 ghost use Rattle.sg_space.specs.View.{Counts, OnlyReads};
 
@@ -15,6 +16,8 @@ pub fn make<P: PageSpace>(space: &mut P) -> Result<PageNo, SpaceFault>
     requires { CanTake (P.view space.old) (P.view space.old).space.pages }
     ensures counts { Counts (P.view space.old) (P.view space.new) result }
     ensures did { IfOk result (λ root. Made (P.view space.old) (P.view space.new) root.0) }
+    ensures later { (t : Table) → P.later t space.old space.new }
+    ensures means { (t : Table) → P.means space.old t → P.means space.new t }
 {
     let root = space.take_page(LIST_KIND)?;
     Ok(root)
@@ -26,6 +29,8 @@ pub fn count<P: PageSpace>(space: &mut P, root: PageNo) -> Result<u16, SpaceFaul
     ensures counts { Counts (P.view space.old) (P.view space.new) result }
     ensures kept { OnOk result (OnlyReads (P.view space.old) (P.view space.new)) }
     ensures read { IfOk result (λ n. IfList (P.view space.old) root.0 (λ items. n ≡ length items)) }
+    ensures later { (t : Table) → P.later t space.old space.new }
+    ensures means { (t : Table) → P.means space.old t → P.means space.new t }
 {
     let view = space.page(root)?;
     Ok(view.slots())
@@ -43,6 +48,8 @@ pub fn get<P: PageSpace>(
     ensures kept { OnOk result (OnlyReads (P.view space.old) (P.view space.new)) }
     ensures read { OnOk result (IfList (P.view space.old) root.0
         (λ items. slice_get items i ≡ Some into.new)) }
+    ensures later { (t : Table) → P.later t space.old space.new }
+    ensures means { (t : Table) → P.means space.old t → P.means space.new t }
 {
     read_cell(space, root, LIST_KIND, i, into)?;
     Ok(())
@@ -55,9 +62,12 @@ pub fn push<P: PageSpace>(
     root: PageNo,
     item: &[u8],
 ) -> Result<(), SpaceFault>
-    requires { HasList (P.view space.old) root.0 (CanPush (P.view space.old) root.0 item.now) }
+    requires means { P.means space.old (table_of record_meaning range_meaning ops.now) }
+    requires can { HasList (P.view space.old) root.0 (CanPush (P.view space.old) root.0 item.now) }
     ensures counts { Counts (P.view space.old) (P.view space.new) result }
     ensures did { OnOk result (Pushed (P.view space.old) (P.view space.new) root.0 item.now) }
+    ensures later { P.later (table_of record_meaning range_meaning ops.now) space.old space.new }
+    ensures means { P.means space.new (table_of record_meaning range_meaning ops.now) }
 {
     let slot = count(space, root)?;
     let op = PageOp::Put { slot, bytes: item };

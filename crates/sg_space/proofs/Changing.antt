@@ -1,5 +1,5 @@
 -- What may be done to a page that is known, and what a caller may rely on after it.
-use Rattle.std.proofs.Common.{◌≡◌, ℕ, ◌+◌, ◌==◌, ◌≤◌, List, length, Option, Some, IsSome, Bool, true, false, refl, sym, ap, subst, ◌∙◌, arith, inl, inr}
+use Rattle.std.proofs.Common.{◌≡◌, ℕ, ◌+◌, List, length, Option, Some, IsSome, true, false, refl, sym, subst, arith, inl, inr}
 use Rattle.std.proofs.lemmas.Bool.{cases_eq}
 use Rattle.std.proofs.lemmas.Bool.Decides.{nat_tests}
 use Rattle.sg_base.specs.Op.{Op, shrinks}
@@ -20,7 +20,6 @@ set_possible t v p slot cell e = record {
   fits = subst (λ (o : Option Sheet). IsSome o) (sym e) refl;
   done = tt;
   short = omega arith;
-  means = λ u. absurd (no u);
   place = λ u. absurd (no u);
 }
 
@@ -30,7 +29,6 @@ remove_possible t v p slot e = record {
   fits = subst (λ (o : Option Sheet). IsSome o) (sym e) refl;
   done = tt;
   short = omega arith;
-  means = λ u. absurd (no u);
   place = λ u. absurd (no u);
 }
 
@@ -41,7 +39,6 @@ put_possible t v p slot cell {sheet} may e = record {
   fits = subst (λ (o : Option Sheet). IsSome o) (sym e) refl;
   done = tt;
   short = omega arith;
-  means = λ u. absurd (no u);
   place = λ u. let last : slot ≡ length sheet.slots = grind (arith, nat_tests, u) in subst (λ (n : ℕ). v.MayHave p (n + 1)) last may;
 }
 
@@ -49,7 +46,6 @@ put_possible t v p slot cell {sheet} may e = record {
 pub keeps_but : {t : Table} {v w : View} {p : ℕ} {op : Op} → Changed t v w p op → ((sheet : Sheet) → v.space.pages.at p ≡ Some sheet → shrinks op sheet ≡ false) → Keeps v w
 keeps_but {t} {v} {w} {p} c same = record {
   told = c.told;
-  table = c.table;
   may_take = c.may_take;
   may_have = λ q n h. elim (cases_eq q p) as (λ _. w.MayHave q n) [
     | inl is ↦ subst (λ (k : ℕ). w.MayHave k n) (sym is) (c.may_still n same (subst (λ (k : ℕ). v.MayHave k n) is h))

@@ -35,7 +35,6 @@ possible_first t v p kind cell sheet fits may is = subst (λ (s : Sheet). IsPoss
   fits = subst (λ (o : Option Sheet). IsSome o) (sym (first_put t kind cell fits)) refl;
   done = tt;
   short = omega arith;
-  means = λ e. absurd (no e);
   place = λ e. may 1 (omega arith);
 })
   where
@@ -46,7 +45,6 @@ possible_first t v p kind cell sheet fits may is = subst (λ (s : Sheet). IsPoss
 pub took_with : (t : Table) (a b c : View) (kind : ℕ) (cell : List ℕ) (p : ℕ) → length cell ≤ 4068 → Took a b kind p → Changed t b c p (Put 0 cell) → TookWith a c kind cell p
 took_with t a b c kind cell p fits took did = record {
   told = λ h. did.told (took.keeps.told h);
-  table = λ u h. did.table u (took.keeps.table u h);
   may_take = λ h. did.may_take (took.keeps.may_take h);
   may_have = λ q n h. elim (cases_eq q p) as (λ _. c.MayHave q n) [
     | inl same ↦ subst (λ (k : ℕ). c.MayHave k n) (sym same) (did.may_still n (λ sheet e. refl) (subst (λ (k : ℕ). b.MayHave k n) same (took.keeps.may_have q n h)))
@@ -56,4 +54,5 @@ took_with t a b c kind cell p fits took did = record {
   bands = λ h. did.bands (took.keeps.told h) ∙ took.bands h;
   may_fill = λ h n le. did.may_still n (λ sheet e. refl) (took.may_fill h n le);
   small = took.small;
+  wrote = λ b h. took.wrote b (did.wrote b h);
 }

@@ -1,12 +1,10 @@
 -- What the calls of a space do to its bands.
-use Rattle.std.specs.Prelude.{◌≡◌, ◌≢◌, ℕ, ◌+◌, ◌<◌, ◌≤◌, ◌^◌, List, length, slice_index, Option, Some, IsSome, Result, IfOk, OnOk}
+use Rattle.std.specs.Prelude.{◌≡◌, ℕ, ◌+◌, ◌<◌, ◌≤◌, ◌^◌, List, length, slice_index, Some, IsSome}
 use Rattle.sg_base.specs.Overwritten.{overwritten}
-use Rattle.sg_base.specs.declared.numbers.BandNo.{BandNo}
 use Rattle.sg_base.specs.declared.page.TheConstants.{BAND_SIZE}
 use Rattle.sg_ops.specs.Table.{Table, range_at, rendered}
 use Rattle.sg_space.specs.Units.{IsChanged, IsTaken, IsFreed}
-use Rattle.sg_space.specs.View.{View, Counts, Keeps}
-use Rattle.sg_space.specs.declared.space.SpaceFault.{SpaceFault}
+use Rattle.sg_space.specs.View.{View, Keeps, WritesIn}
 
 -- a band that was just taken
 pub record IsEmptyBand (band : List ℕ) : Type 0 where
@@ -30,10 +28,7 @@ pub record Wrote (old new : View) (b at : ℕ) (bytes : List ℕ) : Type 0 where
   pub keeps : Keeps old new
   pub bands : old.Told → IsChanged old.space.bands new.space.bands b (λ band. Some (overwritten band at bytes))
   pub pages : old.Told → new.space.pages ≡ old.space.pages
-
-pub record Writes (old new : View) (b at : ℕ) (bytes : List ℕ) (result : Result (Unit {0}) SpaceFault) : Type 0 where
-  pub counts : Counts old new result
-  pub did : OnOk result (Wrote old new b at bytes)
+  pub writes : WritesIn (λ n. n ≡ b) old new
 
 -- a range operation may paint these bytes
 pub record IsPaintable (t : Table) (v : View) (b at count code position : ℕ) (arg : List ℕ) : Type 0 where
@@ -41,33 +36,24 @@ pub record IsPaintable (t : Table) (v : View) (b at count code position : ℕ) (
   pub known : IsSome (range_at t code)
   pub short : length arg ≤ 256
   pub ends : position + count ≤ 16384000
-  -- a registered operation means what it meant before; `fill` always does
-  pub means : code ≢ 1 → v.IsTable t
 
 abbrev pub CanPaint : Table → View → ℕ → ℕ → ℕ → ℕ → ℕ → List ℕ → Type 0
 CanPaint t v b at count code position arg = v.Told → IsPaintable t v b at count code position arg
 
 -- painting is writing what the range operation gives
-abbrev pub Paints : Table → View → View → ℕ → ℕ → ℕ → ℕ → ℕ → List ℕ → Result (Unit {0}) SpaceFault → Type 0
-Paints t old new b at count code position arg result = Writes old new b at (rendered (range_at t code) arg position count) result
+abbrev pub Painted : Table → View → View → ℕ → ℕ → ℕ → ℕ → ℕ → List ℕ → Type 0
+Painted t old new b at count code position arg = Wrote old new b at (rendered (range_at t code) arg position count)
 
 pub record TookBand (old new : View) (b : ℕ) : Type 0 where
   pub keeps : Keeps old new
   pub bands : old.Told → IsTaken old.space.bands new.space.bands b IsEmptyBand
   pub pages : old.Told → new.space.pages ≡ old.space.pages
   pub small : b < 2 ^ 32
-
-pub record TakesBand (old new : View) (result : Result BandNo SpaceFault) : Type 0 where
-  pub counts : Counts old new result
-  pub did : IfOk result (λ b. TookBand old new b.0)
+  pub writes : WritesIn (λ n. n ≡ b) old new
 
 pub record FreedBand (old new : View) (b : ℕ) : Type 0 where
   pub told : old.Told → new.Told
   pub bands : old.Told → IsFreed old.space.bands new.space.bands b
   pub pages : old.Told → new.space.pages ≡ old.space.pages
-  pub table : (t : Table) → old.IsTable t → new.IsTable t
   pub may_have : (page slots : ℕ) → old.MayHave page slots → new.MayHave page slots
-
-pub record FreesBand (old new : View) (b : ℕ) (result : Result (Unit {0}) SpaceFault) : Type 0 where
-  pub counts : Counts old new result
-  pub did : OnOk result (FreedBand old new b)
+  pub wrote : (n : ℕ) → new.HasWritten n → old.HasWritten n

@@ -11,8 +11,10 @@ guarded_view s = record {
   Shows = ⊤;
   space = space_of s.space;
   faults = s.faults;
-  IsTable = λ t. ⊤;
+  records = 0;
   IsNearEnd = ⊥;
   MayTake = ⊤;
   MayHave = λ page slots. ⊤;
+  HasWritten = λ band. ⊥;
+  IsStill = ⊤;
 }

@@ -9,3 +9,4 @@ pub mod Reads
 pub mod Links
 pub mod Guarded
 pub mod Listing
+pub mod Fit

@@ -31,10 +31,12 @@ memory_view s = record {
   Shows = ⊤;
   space = space_of s;
   faults = 0;
-  IsTable = λ t. ⊤;
+  records = 0;
   IsNearEnd = ⊥;
   MayTake = ⊤;
   MayHave = λ page slots. ⊤;
+  HasWritten = λ band. ⊥;
+  IsStill = ⊤;
 }
 
 -- a new space: page 0 is an empty catalogue page, the first bands are those of the allocation map, and all else is free

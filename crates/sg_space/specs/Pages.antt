@@ -1,10 +1,8 @@
 -- What the calls of a space do to its pages.
-use Rattle.std.specs.Prelude.{◌≡◌, ◌≢◌, ℕ, ◌+◌, ◌<◌, ◌≤◌, ◌⊎◌, ◌^◌, List, [], length, Option, Some, Bool, true, false, IsTrue, IsSome, is_some, Result, IfOk, OnOk}
+use Rattle.std.specs.Prelude.{◌≡◌, ◌≢◌, ℕ, ◌+◌, ◌<◌, ◌≤◌, ◌^◌, List, [], length, Some, true, false, IsSome, Result, IfErr, OnOk}
 use Rattle.sg_base.specs.Op.{Op, is_format, opens, shrinks}
-use Rattle.sg_base.specs.Ends.{HasRisen}
 use Rattle.sg_base.specs.Sheet.{Sheet, sheet_of}
-use Rattle.sg_base.specs.declared.numbers.PageNo.{PageNo}
-use Rattle.sg_ops.specs.Steps.{step, WasDone, uses_table}
+use Rattle.sg_ops.specs.Steps.{step, WasDone}
 use Rattle.sg_ops.specs.Table.{Table}
 use Rattle.sg_space.specs.Units.{Units, HasAt, IsChanged, IsTaken, IsFreed}
 use Rattle.sg_space.specs.View.{View, Counts, Keeps, OnlyReads}
@@ -15,12 +13,6 @@ use Rattle.sg_space.specs.declared.space.SpaceFault.TheVariants.{Disk}
 abbrev pub CanBreak : View → Type 0
 CanBreak v = v.Told → ⊥
 
-pub record Breaks (old new : View) (result : SpaceFault) : Type 0 where
-  pub answer : result ≡ Disk
-  pub told : new.Told → old.Told
-  pub risen : HasRisen old.faults new.faults
-  pub later : old.faults ≤ new.faults
-
 -- the page, or the band, is taken
 abbrev pub CanLook : {A : Type 0} → View → Units A → ℕ → Type 0
 CanLook v units n = v.Told → IsSome (units.at n)
@@ -29,10 +21,19 @@ CanLook v units n = v.Told → IsSome (units.at n)
 abbrev pub Looked : {A : Type 0} → View → Units A → ℕ → A → Type 0
 Looked v units n x = v.Shows → units.at n ≡ Some x
 
--- a look changes nothing
-pub record Looks {T : Type 0} (old new : View) (result : Result T SpaceFault) : Type 0 where
+-- a call that writes no record, so that none can pass the end of the log
+pub record WritesNone {T : Type 0} (old new : View) (result : Result T SpaceFault) : Type 0 where
+  pub only_disk : IfErr result (λ e. e ≡ Disk)
+  pub records : new.records ≡ old.records
+
+-- A look changes nothing. `Later` is what the space says of the state before and after, and `Means` that its records are still read by each
+-- table by which they were.
+pub record Looks {T : Type 0} (old new : View) (Later Means : Type 0) (result : Result T SpaceFault) : Type 0 where
   pub counts : Counts old new result
+  pub writes : WritesNone old new result
   pub kept : OnOk result (OnlyReads old new)
+  pub later : Later
+  pub means : Means
 
 -- how many bytes the argument has, where there is one
 abbrev pub arg_size : Op → ℕ
@@ -51,8 +52,6 @@ pub record IsPossible (t : Table) (v : View) (p : ℕ) (op : Op) (sheet : Sheet)
   pub fits : IsSome (step t op sheet)
   pub done : WasDone t op sheet
   pub short : arg_size op ≤ 256
-  -- a registered operation means what it meant before
-  pub means : uses_table op ≡ true → v.IsTable t
   -- Where it opens a slot, the open action may: so each operation of the action can be taken off again.
   pub place : opens op sheet ≡ true → v.MayHave p (length sheet.slots + 1)
 
@@ -63,15 +62,11 @@ pub record Changed (t : Table) (old new : View) (p : ℕ) (op : Op) : Type 0 whe
   pub told : old.Told → new.Told
   pub pages : old.Told → IsChanged old.space.pages new.space.pages p (step t op)
   pub bands : old.Told → new.space.bands ≡ old.space.bands
-  pub table : (t : Table) → old.IsTable t → new.IsTable t
   pub may_take : old.MayTake → new.MayTake
   pub may_have : (q n : ℕ) → q ≢ p → old.MayHave q n → new.MayHave q n
+  pub wrote : (b : ℕ) → new.HasWritten b → old.HasWritten b
   -- the page may have as many slots as before, unless it has shrunk
   pub may_still : (n : ℕ) → ((sheet : Sheet) → old.space.pages.at p ≡ Some sheet → shrinks op sheet ≡ false) → old.MayHave p n → new.MayHave p n
-
-pub record Changes (t : Table) (old new : View) (p : ℕ) (op : Op) (result : Result (Unit {0}) SpaceFault) : Type 0 where
-  pub counts : Counts old new result
-  pub did : OnOk result (Changed t old new p op)
 
 -- one is free, and the open action may take it
 pub record HasFree {A : Type 0} (v : View) (units : Units A) : Type 0 where
@@ -96,18 +91,11 @@ pub record Took (old new : View) (kind p : ℕ) : Type 0 where
   -- the page may have as many slots as a page has the bytes for
   pub may_fill : old.Told → (n : ℕ) → n ≤ 1018 → new.MayHave p n
   pub small : p < 2 ^ 32
-
-pub record Takes (old new : View) (kind : ℕ) (result : Result PageNo SpaceFault) : Type 0 where
-  pub counts : Counts old new result
-  pub did : IfOk result (λ p. Took old new kind p.0)
+  pub wrote : (b : ℕ) → new.HasWritten b → old.HasWritten b
 
 pub record Freed (old new : View) (p : ℕ) : Type 0 where
   pub told : old.Told → new.Told
   pub pages : old.Told → IsFreed old.space.pages new.space.pages p
   pub bands : old.Told → new.space.bands ≡ old.space.bands
-  pub table : (t : Table) → old.IsTable t → new.IsTable t
   pub may_have : (q n : ℕ) → q ≢ p → old.MayHave q n → new.MayHave q n
-
-pub record Frees (old new : View) (p : ℕ) (result : Result (Unit {0}) SpaceFault) : Type 0 where
-  pub counts : Counts old new result
-  pub did : OnOk result (Freed old new p)
+  pub wrote : (b : ℕ) → new.HasWritten b → old.HasWritten b

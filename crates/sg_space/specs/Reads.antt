@@ -2,7 +2,6 @@
 use Rattle.std.specs.Prelude.{◌≡◌, ℕ, ◌<◌, ◌≤◌, ◌^◌, List, [], ◌∷◌, length, Some}
 use Rattle.sg_base.specs.Page.{cell_in}
 use Rattle.sg_base.specs.Sheet.{Sheet}
-use Rattle.sg_ops.specs.Table.{Table}
 use Rattle.sg_space.specs.Units.{HasAt, IsTaken}
 use Rattle.sg_space.specs.View.{View}
 
@@ -31,10 +30,10 @@ one_cell kind cell = record { kind = kind; links = (0, 0); slots = Some cell ∷
 -- a page that was free has this cell, and nothing else has changed
 pub record TookWith (old new : View) (kind : ℕ) (cell : List ℕ) (p : ℕ) : Type 0 where
   pub told : old.Told → new.Told
-  pub table : (t : Table) → old.IsTable t → new.IsTable t
   pub may_take : old.MayTake → new.MayTake
   pub may_have : (q n : ℕ) → old.MayHave q n → new.MayHave q n
   pub pages : old.Told → IsTaken old.space.pages new.space.pages p (λ sheet. sheet ≡ one_cell kind cell)
   pub bands : old.Told → new.space.bands ≡ old.space.bands
   pub may_fill : old.Told → (n : ℕ) → n ≤ 1018 → new.MayHave p n
   pub small : p < 2 ^ 32
+  pub wrote : (b : ℕ) → new.HasWritten b → old.HasWritten b

@@ -1,7 +1,8 @@
 // What the structures read of a page.
-ghost use Rattle.std.specs.Prelude.{◌≡◌, ◌≢◌, ◌≤◌, length, Some, IfOk, OnOk, IsTrue, IsFalse};
+ghost use Rattle.std.specs.Prelude.{◌≡◌, ◌≢◌, ◌+◌, ◌≤◌, length, Some, IfOk, OnOk, IsTrue, IsFalse};
 ghost use Rattle.sg_base.specs.Page.{slots_of, cell_in};
-ghost use Rattle.sg_space.specs.Pages.{CanTake};
+ghost use Rattle.sg_ops.specs.Table.{Table, table_of};
+ghost use Rattle.sg_space.specs.Pages.{CanTake, WritesNone};
 ghost use Rattle.sg_space.specs.Reads.{CanRead, Reads, TookWith};
 ghost use Rattle.sg_space.specs.View.{Counts, OnlyReads};
 
@@ -37,6 +38,9 @@ pub fn read_cell<P: PageSpace>(
     ensures counts { Counts (P.view space.old) (P.view space.new) result }
     ensures kept { OnOk result (OnlyReads (P.view space.old) (P.view space.new)) }
     ensures read { OnOk result (Reads (P.view space.old) p.0 kind slot into.new) }
+    ensures later { (t : Table) → P.later t space.old space.new }
+    ensures means { (t : Table) → P.means space.old t → P.means space.new t }
+    ensures writes { WritesNone (P.view space.old) (P.view space.new) result }
 {
     let view = space.page(p)?;
     if view.kind() != kind {
@@ -57,8 +61,12 @@ pub fn take_page_with<P: PageSpace>(
 ) -> Result<PageNo, SpaceFault>
     requires free { CanTake (P.view space.old) (P.view space.old).space.pages }
     requires fits { length cell.now ≤ 4068 }
+    requires means { P.means space.old (table_of record_meaning range_meaning ops.now) }
     ensures counts { Counts (P.view space.old) (P.view space.new) result }
     ensures did { IfOk result (λ p. TookWith (P.view space.old) (P.view space.new) kind cell.now p.0) }
+    ensures later { P.later (table_of record_meaning range_meaning ops.now) space.old space.new }
+    ensures means { P.means space.new (table_of record_meaning range_meaning ops.now) }
+    ensures few { (P.view space.new).records ≤ (P.view space.old).records + 3 }
 {
     let p = space.take_page(kind)?;
     let op = PageOp::Put {

@@ -57,9 +57,14 @@ impl Guarded {
 }
 
 impl PageSpace for Guarded {
+    ghost use Rattle.std.specs.Prelude.{⊤};
     ghost use Rattle.sg_space.specs.Guarded.{guarded_view};
 
     ghost view = { guarded_view };
+
+    ghost later = { λ t a b. ⊤ };
+
+    ghost means = { λ s t. ⊤ };
 
     fn broken(&mut self) -> SpaceFault {
         count_fault(&mut self.faults)
@@ -153,7 +158,15 @@ impl PageSpace for Guarded {
         self.space.free_band(b)
     }
 
+    ghost later_same = { λ t s. tt };
+
+    ghost later_then = { λ t a b c f g. tt };
+
     ghost told_shows = { λ s t. tt };
+
+    ghost few_pages = { λ s t. absurd t };
+
+    ghost pages_fit = { λ s t. absurd t };
 
     ghost pages_exact = { λ s t. absurd t };
 

@@ -16,7 +16,7 @@ pub struct MemSpace {
     maps: Maps,
     ghost page_flags: { length maps.pages ≡ length pages.items },
     ghost band_flags: { length maps.bands ≡ length bands.items },
-    ghost few_pages: { length pages.items < 2 ^ 32 },
+    ghost few_pages: { length pages.items ≤ 1048576 },
     ghost few_bands: { length bands.items < 2 ^ 32 },
 }
 
@@ -44,6 +44,7 @@ impl MemSpace {
     /// refused; no later call takes any.
     pub fn new(alloc: Global, pages: u32, bands: u32) -> Result<MemSpace, OutOfMemory>
         requires page { 0 < pages }
+        requires few { pages ≤ 1048576 }
         requires bands { map_bands_of pages bands < bands }
         ensures { IfOk result (λ s. IsNew (space_of s) pages bands) }
     {
@@ -81,11 +82,16 @@ impl MemSpace {
 }
 
 impl PageSpace for MemSpace {
-    ghost use Rattle.std.specs.Prelude.{◌≡◌};
+    ghost use Rattle.std.specs.Prelude.{◌≡◌, ⊤};
     ghost use Rattle.sg_space.specs.Memory.{memory_view, space_of};
+    ghost use Rattle.sg_space.specs.Fit.{memory_fits};
     ghost use Rattle.sg_space.specs.Flagged.{units_exact};
 
     ghost view = { memory_view };
+
+    ghost later = { λ t a b. ⊤ };
+
+    ghost means = { λ s t. ⊤ };
 
     // It tells all, so that the trait's condition can't be met here: it wants nothing.
     fn broken(&mut self) -> SpaceFault
@@ -168,7 +174,15 @@ impl PageSpace for MemSpace {
         Ok(())
     }
 
+    ghost later_same = { λ t s. tt };
+
+    ghost later_then = { λ t a b c f g. tt };
+
     ghost told_shows = { λ s t. t };
+
+    ghost few_pages = { λ s t. s.few_pages };
+
+    ghost pages_fit = { λ s t p sheet is. memory_fits s p sheet is };
 
     ghost pages_exact = { λ s t. units_exact _ s.maps.pages s.pages.items s.page_flags };
 

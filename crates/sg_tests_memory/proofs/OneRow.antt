@@ -17,7 +17,7 @@ use Rattle.sg_tests_memory.proofs.Fresh.{empty_catalog}
 
 -- an object may get any name in a catalogue without rows
 pub can_add : (s : MemSpace) (name : List ℕ) → CanAdd (memory_view s) name empty_catalog
-can_add s name = record { absent = refl; few = omega arith; grow = record { may_fill = λ p o n le. tt; free = λ e. absurd (cc) } }
+can_add s name = record { absent = refl; grow = record { may_fill = λ p o n le. tt; free = λ e. absurd (cc) } }
 
 -- one row more than none
 pub one_more : {row : Row} {xs ys : List Row} → IsOneMore row xs ys → xs ≡ [] → ys ≡ row ∷ []

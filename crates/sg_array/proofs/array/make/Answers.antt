@@ -5,7 +5,7 @@ pub returns-clause-did : goal.returns-clause-did
 returns-clause-did g c =
     let took = c.in_ok-root.ensures.did in
     record {
-      keeps = λ t. record { told = took.told; table = took.table; may_take = took.may_take; may_have = took.may_have };
+      keeps = λ t. record { told = took.told; may_take = took.may_take; may_have = took.may_have };
       done = λ t. made_is c.requires.some c.requires.small c.spell_root.ensures (took.pages t) (took.bands t);
       may_fill = took.may_fill;
     }

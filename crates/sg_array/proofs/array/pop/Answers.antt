@@ -13,17 +13,17 @@ pub read_cell-requires : goal.read_cell-requires
 read_cell-requires g c = λ told.
     let back = c.last_of.ensures.counts.told told in
     let shows = g.met.P.PageSpace.told_shows _ back in
-    let h = c.requires back in
+    let h = c.requires.can back in
     let at = (c.in_ok-last.ensures.read shows h.0 h.1).place in
     let room = length-take-le c.in_ok-last.last.place.size c.args.into.now c.if-into-size.false ∙ at.size_is in
     still (λ (s : Space). HasAt s.pages.at c.in_ok-last.last.place.leaf.0 (HasSized 4 c.in_ok-last.last.place.slot (length (take c.in_ok-last.last.place.size c.args.into.now)))) c.in_ok-last.ensures.kept shows (rw room (item_sized h.1.built at))
 
-pub take_last-requires : goal.take_last-requires
-take_last-requires g c = λ told.
+pub take_last-requires-clause-can : goal.take_last-requires-clause-can
+take_last-requires-clause-can g c = λ told.
     let middle = c.read_cell.ensures.counts.told told in
     let back = c.last_of.ensures.counts.told middle in
     let shows = g.met.P.PageSpace.told_shows _ back in
-    let h = c.requires back in
+    let h = c.requires.can back in
     let kept = reads_then c.in_ok-last.ensures.kept c.in_ok-read_cell.ensures.kept in
     (h.0, (still_array kept shows h.1).built, c.in_ok-last.ensures.read shows h.0 h.1)
 
@@ -32,13 +32,13 @@ returns-clause-did g c =
     let kept = reads_then c.in_ok-last.ensures.kept c.in_ok-read_cell.ensures.kept in
     let did = c.in_ok-take_last.ensures.did in
     record {
+      told = λ t. (did.keeps (kept.keeps.told t)).told (kept.keeps.told t);
       keeps = λ t a h.
           let shows = g.met.P.PageSpace.told_shows _ t in
           let at = (c.in_ok-last.ensures.read shows a h).place in
           let rest = did.keeps (kept.keeps.told t) in
           record {
             told = λ x. rest.told (kept.keeps.told x);
-            table = λ u x. rest.table u (kept.keeps.table u x);
             may_take = λ x. rest.may_take (kept.keeps.may_take x);
             may_have = λ q n no x. rest.may_have q n (λ (is : q ≡ c.in_ok-last.last.place.leaf.0). no (inr (inr (_, at.leaf_is ∙ ap Some (sym is))))) (kept.keeps.may_have q n x);
           };

@@ -9,7 +9,7 @@ pub leaf_for-requires-clause-there : goal.leaf_for-requires-clause-there
 leaf_for-requires-clause-there g c = λ told.
     let back = c.read_root.ensures.counts.told told in
     let shows = g.met.P.PageSpace.told_shows _ back in
-    let h = c.requires back in
+    let h = c.requires.can back in
     let kept = c.in_ok-found.ensures.kept in
     let is = c.in_ok-found.ensures.read shows h.0 h.1 in
     (h.0, still_array kept shows h.1, push_still kept shows (sym c.if-item-found.false) is.1 is.2 h.2)
@@ -19,7 +19,7 @@ put_last-requires-clause-there g c = λ told.
     let middle = c.leaf_for.ensures.counts.told told in
     let back = c.read_root.ensures.counts.told middle in
     let shows = g.met.P.PageSpace.told_shows _ back in
-    let h = c.requires back in
+    let h = c.requires.can back in
     let kept = c.in_ok-found.ensures.kept in
     let is = c.in_ok-found.ensures.read shows h.0 h.1 in
     let next = push_still kept shows (sym c.if-item-found.false) is.1 is.2 h.2 in

@@ -6,11 +6,11 @@ use Rattle.sg_array.proofs.Turned.{after_reads}
 use Rattle.sg_array.proofs.Setting.{set_possible_at, set_turns, set_keeps}
 use Rattle.sg_array.proofs.array.set.Goals as goal
 
-pub change-requires : goal.change-requires
-change-requires g c = λ told.
+pub change-requires-clause-can : goal.change-requires-clause-can
+change-requires-clause-can g c = λ told.
     let back = c.find_item.ensures.counts.told told in
     let shows = g.met.P.PageSpace.told_shows _ back in
-    let h = c.requires back in
+    let h = c.requires.can back in
     set_possible_at (table_of (λ p. (goal.RecordOp-dyn g p).record_meaning p.1) (λ p. (goal.RangeOp-dyn g p).range_meaning p.1) c.args.ops.now) _ (still_array c.in_ok-place.ensures.kept shows h.1).built (c.in_ok-place.ensures.read shows h.0 h.1) (record { sized = h.2.1; bytes = c.are_bytes.ensures })
 
 pub returns-clause-did : goal.returns-clause-did
@@ -20,7 +20,7 @@ returns-clause-did g c =
     record {
       keeps = λ t.
           let shows = g.met.P.PageSpace.told_shows _ t in
-          let h = c.requires t in
+          let h = c.requires.can t in
           keeps_then kept.keeps (set_keeps {t = table_of (λ p. (goal.RecordOp-dyn g p).record_meaning p.1) (λ p. (goal.RangeOp-dyn g p).range_meaning p.1) c.args.ops.now} (still_array kept shows h.1).built (c.in_ok-place.ensures.read shows h.0 h.1) h.2.1 did);
       turns = λ t a h can.
           let shows = g.met.P.PageSpace.told_shows _ t in

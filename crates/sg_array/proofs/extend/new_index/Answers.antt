@@ -4,8 +4,8 @@ use Rattle.sg_array.proofs.Growth.{root_room}
 use Rattle.sg_array.proofs.Pushes.{new_index}
 use Rattle.sg_array.proofs.extend.new_index.Goals as goal
 
-pub link_new-requires : goal.link_new-requires
-link_new-requires g c = λ told.
+pub link_new-requires-clause-can : goal.link_new-requires-clause-can
+link_new-requires-clause-can g c = λ told.
     let h = c.requires.there told in
     let least = h.1.built.names.index_least in
     let most = h.1.index_most in

@@ -13,8 +13,8 @@ index_for-requires-clause-there g c = λ told.
     let d = same_quotient h.2.count_is c.per_page.ensures h.2.can.fits in
     (h.0, h.1, grow_ready _ h.1 h.2 c.requires.longest part d)
 
-pub link_new-requires : goal.link_new-requires
-link_new-requires g c = λ told.
+pub link_new-requires-clause-can : goal.link_new-requires-clause-can
+link_new-requires-clause-can g c = λ told.
     let back = c.index_for.ensures.counts.told told in
     let h = c.requires.there back in
     let part = sym (same_rest h.2.count_is refl h.2.can.fits) ∙ c.requires.full in

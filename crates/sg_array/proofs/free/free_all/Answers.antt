@@ -61,7 +61,6 @@ returns-clause-did g c =
             pages = subst (λ (s : Space). Becomes s.pages (g.P.PageSpace.view c.free_page.new.self).space.pages (Owns c.args.root.0 a) (λ _. ⊥) (page_count a) 0) (kept.same shows) gone;
             bands = three.bands (two.told last) ∙ (two.bands last ∙ (one.bands middle ∙ ap (λ (s : Space). s.bands) (kept.same shows)));
           };
-      table = λ t u x. three.table u (two.table (one.told (kept.keeps.told t)) u (one.table (kept.keeps.told t) u (kept.keeps.table u x)));
       may_have = λ t a h p n no x.
           let shows = g.met.P.PageSpace.told_shows _ t in
           let middle = kept.keeps.told t in
@@ -75,3 +74,23 @@ returns-clause-did g c =
           (two.may_have last a left p n (λ o. no (inr (inl o)))
           (one.may_have middle a (array, leaves) p n (λ o. no (inr (inr o))) (kept.keeps.may_have p n x)));
     }
+
+pub returns-in_err-free_leaves-clause-later : goal.returns-in_err-free_leaves-clause-later
+returns-in_err-free_leaves-clause-later g c = λ t.
+    let then = g.met.P.PageSpace.later_then t in
+    then _ _ _ (c.read_root.ensures.later t) (c.free_leaves.ensures.later t)
+
+pub returns-in_err-free_index-clause-later : goal.returns-in_err-free_index-clause-later
+returns-in_err-free_index-clause-later g c = λ t.
+    let then = g.met.P.PageSpace.later_then t in
+    then _ _ _ (c.read_root.ensures.later t) (then _ _ _ (c.free_leaves.ensures.later t) (c.free_index.ensures.later t))
+
+pub returns-in_err-free_page-clause-later : goal.returns-in_err-free_page-clause-later
+returns-in_err-free_page-clause-later g c = λ t.
+    let then = g.met.P.PageSpace.later_then t in
+    then _ _ _ (c.read_root.ensures.later t) (then _ _ _ (c.free_leaves.ensures.later t) (then _ _ _ (c.free_index.ensures.later t) (c.free_page.ensures.later t)))
+
+pub returns-clause-later : goal.returns-clause-later
+returns-clause-later g c = λ t.
+    let then = g.met.P.PageSpace.later_then t in
+    then _ _ _ (c.read_root.ensures.later t) (then _ _ _ (c.free_leaves.ensures.later t) (then _ _ _ (c.free_index.ensures.later t) (c.free_page.ensures.later t)))

@@ -1,4 +1,4 @@
-use Rattle.std.proofs.Common.{IsSome, arith, sym, subst}
+use Rattle.std.proofs.Common.{◌∙◌, refl, IsSome, arith, sym, subst}
 use Rattle.sg_space.specs.Units.{HasAt}
 use Rattle.sg_space.specs.View.{Space}
 use Rattle.sg_space.proofs.Known.{still, reads_then}
@@ -7,11 +7,11 @@ use Rattle.sg_array.proofs.Freed.{frees_none, frees_on, frees_all, names_still, 
 use Rattle.sg_array.proofs.free.free_leaves.Goals as goal
 
 pub loop-d-init : goal.loop-d-init
-loop-d-init g c = frees_none _ _ _
+loop-d-init g c = record { frees = frees_none _ _ _; later = λ t. g.met.P.PageSpace.later_same t _; means = λ t x. x; quiet = refl }
 
 pub leaf_at-requires-clause-there : goal.leaf_at-requires-clause-there
 leaf_at-requires-clause-there g c = λ told.
-    let i = c.loop-d.invariant in
+    let i = c.loop-d.invariant.frees in
     let back = i.back told in
     let h = c.requires.there back in
     let test = c.loop-d-test.true in
@@ -20,7 +20,7 @@ leaf_at-requires-clause-there g c = λ told.
 
 pub check_kind-requires : goal.check_kind-requires
 check_kind-requires g c = λ told.
-    let i = c.loop-d.invariant in
+    let i = c.loop-d.invariant.frees in
     let told_then = c.leaf_at.ensures.counts.told told in
     let back = i.back told_then in
     let shows = g.met.P.PageSpace.told_shows _ told_then in
@@ -31,7 +31,7 @@ check_kind-requires g c = λ told.
 
 pub free_page-requires : goal.free_page-requires
 free_page-requires g c = λ told.
-    let i = c.loop-d.invariant in
+    let i = c.loop-d.invariant.frees in
     let told_then = c.leaf_at.ensures.counts.told (c.check_kind.ensures.counts.told told) in
     let back = i.back told_then in
     let shows = g.met.P.PageSpace.told_shows _ told_then in
@@ -43,18 +43,29 @@ free_page-requires g c = λ told.
 
 pub loop-d-preserved : goal.loop-d-preserved
 loop-d-preserved g c =
-    let i = c.loop-d.invariant in
+    let i = c.loop-d.invariant.frees in
     let read = c.leaf_at.ensures.counts in
     let check = c.check_kind.ensures.counts in
     let first = read.later in
     let second = check.later in
     let counts = c.free_page.ensures.counts in
-    frees_on c.loop-d.d c.in_ok-leaf.leaf.0 i (λ t. g.met.P.PageSpace.told_shows _ (i.frees.told t)) (reads_then c.in_ok-leaf.ensures.kept c.in_ok-check_kind.ensures.kept) (λ t. read.told (check.told t)) (omega arith) counts.told counts.later c.in_ok-free_page.ensures.did
-    (λ t a h. c.in_ok-leaf.ensures.read (g.met.P.PageSpace.told_shows _ (i.frees.told t)) a (names_still h.0.built (i.frees.pages t a h)))
+    let then = g.met.P.PageSpace.later_then in
+    record {
+      frees = frees_on c.loop-d.d c.in_ok-leaf.leaf.0 i (λ t. g.met.P.PageSpace.told_shows _ (i.frees.told t)) (reads_then c.in_ok-leaf.ensures.kept c.in_ok-check_kind.ensures.kept) (λ t. read.told (check.told t)) (omega arith) counts.told counts.later c.in_ok-free_page.ensures.did
+          (λ t a h. c.in_ok-leaf.ensures.read (g.met.P.PageSpace.told_shows _ (i.frees.told t)) a (names_still h.0.built (i.frees.pages t a h)));
+      later = λ t. then t _ _ _ (c.loop-d.invariant.later t) (then t _ _ _ (c.leaf_at.ensures.later t) (then t _ _ _ (c.check_kind.ensures.later t) (c.free_page.ensures.later t)));
+      means = λ t x. c.free_page.ensures.means t (c.check_kind.ensures.means t (c.leaf_at.ensures.means t (c.loop-d.invariant.means t x)));
+      quiet = c.in_ok-free_page.ensures.counts.quiet ∙ c.in_ok-check_kind.ensures.counts.quiet ∙ c.in_ok-leaf.ensures.counts.quiet ∙ c.loop-d.invariant.quiet;
+    }
 
 pub returns-clause-did : goal.returns-clause-did
 returns-clause-did g c =
-    let i = c.loop-d.invariant in
+    let i = c.loop-d.invariant.frees in
     let test = c.loop-d-test.false in
     let end = c.loop-d.auto.d-end in
     frees_all c.loop-d.d i (λ a h. let many = h.1 in omega arith)
+
+pub returns-in_err-free_page-clause-later : goal.returns-in_err-free_page-clause-later
+returns-in_err-free_page-clause-later g c = λ t.
+    let then = g.met.P.PageSpace.later_then in
+    then t _ _ _ (c.loop-d.invariant.later t) (then t _ _ _ (c.leaf_at.ensures.later t) (then t _ _ _ (c.check_kind.ensures.later t) (c.free_page.ensures.later t)))

@@ -7,13 +7,13 @@ use Rattle.sg_array.proofs.Ends.{put_possible_at, root_there, put_builds, root_s
 use Rattle.sg_array.proofs.Places.{same_rest}
 use Rattle.sg_array.proofs.grow.put_last.Goals as goal
 
-pub change-requires : goal.change-requires
-change-requires g c = λ told.
+pub change-requires-clause-can : goal.change-requires-clause-can
+change-requires-clause-can g c = λ told.
     let h = c.requires.there told in
     put_possible_at _ _ c.args.item.now h.1 h.2 (same_rest h.2.count_is c.per_page.ensures h.2.size_is) (record { sized = c.requires.fits ∙ h.2.size_is; bytes = c.are_bytes.ensures })
 
-pub set_root-requires : goal.set_root-requires
-set_root-requires g c = λ told.
+pub set_root-requires-clause-can : goal.set_root-requires-clause-can
+set_root-requires-clause-can g c = λ told.
     let back = c.change.ensures.counts.told told in
     let h = c.requires.there back in
     root_there _ _ h.1 h.2.at (c.in_ok-change.ensures.did.pages back)

@@ -11,9 +11,9 @@ use Rattle.sg_array.proofs.Turned.{rewrites}
 use Rattle.sg_array.proofs.Sheets.{root_set, root_step, same_size, with_set}
 use Rattle.sg_array.proofs.grow.set_root.Goals as goal
 
-pub change-requires : goal.change-requires
-change-requires g c = λ told.
-    let h = c.requires told in
+pub change-requires-clause-can : goal.change-requires-clause-can
+change-requires-clause-can g c = λ told.
+    let h = c.requires.can told in
     let t = table_of (λ p. (goal.RecordOp-dyn g p).record_meaning p.1) (λ p. (goal.RangeOp-dyn g p).range_meaning p.1) c.args.ops.now in
     record {
       what = h.page.what;
@@ -27,7 +27,7 @@ returns-clause-did g c =
     let did = c.in_ok-change.ensures.did in
     record {
       keeps = λ told.
-          let h = c.requires told in
+          let h = c.requires.can told in
           let long : length c.spell_root-cell.result ≡ 10 = ap (λ (x : List ℕ). length x) c.spell_root-cell.ensures in
           keeps_but did (λ sheet is. subst (λ (s : Sheet). shrinks (Set 0 c.spell_root-cell.result) s ≡ false) (same_some _ _ (sym h.page.is ∙ is)) (same_size (h.page.what).slots 0 _ c.spell_root-cell.result h.page.has.first long));
       pages = λ told r index h. rewrites h (with_set h.what 0 (root_cell c.args.size c.args.count c.args.peak)) (did.pages told) (ap (λ (x : List ℕ). step t (Set 0 x) h.what) c.spell_root-cell.ensures ∙ root_step t c.args.size c.args.count c.args.peak h.has) (root_set c.args.size c.args.count c.args.peak h.has);

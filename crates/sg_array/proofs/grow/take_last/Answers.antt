@@ -3,13 +3,13 @@ use Rattle.sg_array.proofs.Ends.{take_possible, root_there, take_builds, root_st
 use Rattle.sg_array.specs.Steps.{root_of}
 use Rattle.sg_array.proofs.grow.take_last.Goals as goal
 
-pub change-requires : goal.change-requires
-change-requires g c = λ told. let h = c.requires told in take_possible _ _ h.1 h.2
+pub change-requires-clause-can : goal.change-requires-clause-can
+change-requires-clause-can g c = λ told. let h = c.requires.can told in take_possible _ _ h.1 h.2
 
-pub set_root-requires : goal.set_root-requires
-set_root-requires g c = λ told.
+pub set_root-requires-clause-can : goal.set_root-requires-clause-can
+set_root-requires-clause-can g c = λ told.
     let back = c.change.ensures.counts.told told in
-    let h = c.requires back in
+    let h = c.requires.can back in
     root_there _ _ h.1 h.2.place.leaf_is (c.in_ok-change.ensures.did.pages back)
 
 pub returns-clause-did : goal.returns-clause-did
@@ -22,7 +22,6 @@ returns-clause-did g c =
           let kept = then.keeps (first.told told) in
           record {
             told = λ h. kept.told (first.told h);
-            table = λ u h. kept.table u (first.table u h);
             may_take = λ h. kept.may_take (first.may_take h);
             may_have = λ q n ne h. kept.may_have q n (first.may_have q n ne h);
           };

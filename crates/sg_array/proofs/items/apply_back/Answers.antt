@@ -7,15 +7,14 @@ use Rattle.sg_array.proofs.Turned.{after_reads}
 use Rattle.sg_array.proofs.Applying.{back_possible, before_item, back_turns, is_applied_back}
 use Rattle.sg_array.proofs.items.apply_back.Goals as goal
 
-pub change-requires : goal.change-requires
-change-requires g c = λ told.
+pub change-requires-clause-can : goal.change-requires-clause-can
+change-requires-clause-can g c = λ told.
     let t : Table = table_of (λ p. (goal.RecordOp-dyn g p).record_meaning p.1) (λ p. (goal.RangeOp-dyn g p).range_meaning p.1) c.args.ops.now in
     let back = c.find_item.ensures.counts.told told in
     let shows = g.met.P.PageSpace.told_shows _ back in
     let h = c.requires.there back in
-    let may = c.requires.may back in
     let kept = c.in_ok-place.ensures.kept in
-    back_possible t _ (still_array kept shows h.1).built (c.in_ok-place.ensures.read shows h.0 h.1) h.2 (record { short = may.short; means = kept.keeps.table t may.means })
+    back_possible t _ (still_array kept shows h.1).built (c.in_ok-place.ensures.read shows h.0 h.1) h.2 (c.requires.short back)
 
 pub returns-clause-did : goal.returns-clause-did
 returns-clause-did g c =

@@ -1,7 +1,7 @@
 use Rattle.std.proofs.Common.{◌≡◌, ℕ, ◌+◌, ◌-◌, ◌<◌, ◌≤◌, Option, length, arith, refl, max}
 use Rattle.sg_ops.specs.Meaning.{RangeMeaning}
 use Rattle.sg_ops.specs.Table.{table_of, range_at, rendered}
-use Rattle.sg_space.proofs.Known.{keeps_then}
+use Rattle.sg_space.proofs.Known.{keeps_then, writes_none, writes_then}
 use Rattle.sg_ops.proofs.Rendering.{length-rendered}
 use Rattle.sg_blob.specs.Blob.{raw_of}
 use Rattle.sg_blob.specs.Steps.{with_bytes}
@@ -39,7 +39,7 @@ pub paint_all-requires-clause-can : goal.paint_all-requires-clause-can
 paint_all-requires-clause-can g c = λ told.
     let back = c.read_root.ensures.counts.told told in
     let can = c.requires.can back in
-    record { known = can.known; short = can.short; means = λ ne. c.in_ok-found.ensures.kept.keeps.table _ (can.means ne) }
+    record { known = can.known; short = can.short }
 
 pub returns-clause-did : goal.returns-clause-did
 returns-clause-did g c =
@@ -56,7 +56,7 @@ returns-clause-did g c =
           let size = length-rendered op c.args.arg.now c.args.at c.args.count in
           let long = length_over b.bytes (rendered op c.args.arg.now c.args.at c.args.count) c.args.at (omega arith) in
           let one = did.turns (kept.keeps.told t) (raw_of b) k.raw (record { from = omega arith; within = omega arith }) in
-          (blob_of (with_bytes c.args.at (rendered op c.args.arg.now c.args.at c.args.count) (raw_of b)), whole _ (after_reads kept shows one) (omega arith) h.least h.most, record { bytes = refl; peak = refl; bands = refl });
+          (blob_of (with_bytes c.args.at (rendered op c.args.arg.now c.args.at c.args.count) (raw_of b)), whole _ (after_reads kept shows one) (omega arith) h.least h.most, record { bytes = refl; peak = refl; bands = refl }, writes_then (writes_none kept.wrote) (did.wrote (kept.keeps.told t) (raw_of b) k.raw (record { from = omega arith; within = omega arith })));
     }
 
 pub returns-clause-within : goal.returns-clause-within

@@ -1,7 +1,7 @@
 use Rattle.std.proofs.Common.{◌≡◌, ℕ, ◌<◌, ◌≤◌, sym, ap, ◌∙◌, arith, subst, length}
 use Rattle.sg_blob.specs.Raw.{Raw, IsRaw}
 use Rattle.sg_blob.specs.Steps.{RawTurns, with_root}
-use Rattle.sg_space.proofs.Known.{keeps_then}
+use Rattle.sg_space.proofs.Known.{keeps_then, writes_none, writes_then}
 use Rattle.sg_blob.proofs.Parts.{still_raw, StandsRaw}
 use Rattle.sg_blob.proofs.Turned.{after_reads}
 use Rattle.sg_blob.proofs.Wholes.{restored_blob}
@@ -11,7 +11,7 @@ pub broken-requires : goal.broken-requires
 broken-requires g c = λ told.
     let back = c.read_root.ensures.counts.told told in
     let shows = g.met.P.PageSpace.told_shows _ back in
-    let h = c.requires back in
+    let h = c.requires.can back in
     let peak = (c.in_ok-found.ensures.read shows h.0 h.1).1 in
     let below = h.2.below in
     let test = c.if-size-found.true in
@@ -29,6 +29,7 @@ returns-clause-did g c =
             let peak = (c.in_ok-found.ensures.read shows r h).1 in
             subst (λ (n : ℕ). RawTurns (g.P.PageSpace.view c.args.space.now).space (g.P.PageSpace.view c.set_root.new.space).space c.args.root.0 r (with_root c.args.size n r)) peak
             (after_reads kept shows (set.turns (kept.keeps.told t) r (still_raw kept shows h) tt));
+        wrote = λ t r h can. writes_then (writes_none kept.wrote) (set.wrote (kept.keeps.told t) r (still_raw kept (g.met.P.PageSpace.told_shows _ t) h) tt);
       };
       blob = λ t r h can.
           let shows = g.met.P.PageSpace.told_shows _ t in

@@ -1,7 +1,7 @@
 use Rattle.std.proofs.Common.{◌≡◌, ℕ, ◌+◌, ◌-◌, ◌*◌, ◌/◌, ◌<◌, ◌≤◌, Option, IsSome, List, [], length, sym, ap, subst, ◌∙◌, arith, refl, max, min}
 use Rattle.sg_ops.specs.Meaning.{RangeMeaning}
 use Rattle.sg_ops.specs.Table.{table_of, range_at, rendered}
-use Rattle.sg_space.proofs.Known.{keeps_then}
+use Rattle.sg_space.proofs.Known.{keeps_then, writes_none, writes_then, writes_less}
 use Rattle.sg_blob.specs.Blob.{raw_of}
 use Rattle.sg_blob.specs.Calls.{resized}
 use Rattle.sg_blob.proofs.Parts.{still_blob}
@@ -23,7 +23,7 @@ paint_all-requires-clause-there g c = λ told.
     (raw_of h.0, b.raw, record { from = omega arith; within = omega arith })
 
 pub paint_all-requires-clause-can : goal.paint_all-requires-clause-can
-paint_all-requires-clause-can g c = λ told. record { known = subst IsSome (sym (fill_there _ _)) refl; short = omega arith; means = λ ne. absurd (ne refl) }
+paint_all-requires-clause-can g c = λ told. record { known = subst IsSome (sym (fill_there _ _)) refl; short = omega arith }
 
 pub grow_to-requires-clause-there : goal.grow_to-requires-clause-there
 grow_to-requires-clause-there g c = λ told.
@@ -102,6 +102,7 @@ returns-clause-did g c =
           let reads = cut_at op b.bytes (two.0).bytes c.args.size c.min-from.result c.in_ok-found.found.count (fill_there _ _) is.0 c.min-from.ensures (two.2).same_bytes in (
             blob_of (record { count = c.args.size; peak = c.max-peak.result; bands = (two.0).bands; bytes = resized c.args.size b.bytes }),
             whole _ (same_bytes (resized c.args.size b.bytes) reads (omega arith) all) (sym size) (omega arith) (omega arith),
-            record { bytes = refl; peak = omega arith },
+            record { bytes = refl; peak = omega arith; bands = (two.2).extends },
+            writes_then (writes_none kept.wrote) (writes_then (writes_less (two.1).bands.more (painted.wrote t1 (raw_of b) k.raw (record { from = omega arith; within = omega arith }))) (writes_then two.3 (set.wrote t3 two.0 (two.1).raw tt))),
           );
     }

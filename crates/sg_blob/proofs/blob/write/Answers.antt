@@ -1,6 +1,6 @@
 use Rattle.std.proofs.Common.{◌≡◌, ℕ, ◌+◌, ◌-◌, ◌*◌, ◌/◌, ◌<◌, ◌≤◌, List, length, sym, ap, ◌∙◌, arith, refl, max}
 use Rattle.sg_base.specs.Overwritten.{overwritten}
-use Rattle.sg_space.proofs.Known.{keeps_then}
+use Rattle.sg_space.proofs.Known.{keeps_then, writes_none, writes_then}
 use Rattle.sg_blob.specs.Blob.{raw_of}
 use Rattle.sg_blob.specs.Steps.{with_bytes, with_root}
 use Rattle.sg_blob.proofs.Over.{length_over}
@@ -95,7 +95,8 @@ returns-clause-did g c =
           let peak_is = c.max-peak.ensures in (
             blob_of (with_root c.max-count.result c.max-peak.result (with_bytes c.args.at c.args.bytes.now one.0)),
             whole _ all (omega arith) (omega arith) (omega arith),
-            record { bytes = ap (λ (xs : List ℕ). overwritten xs c.args.at c.args.bytes.now) (one.2).same_bytes; peak = omega arith },
+            record { bytes = ap (λ (xs : List ℕ). overwritten xs c.args.at c.args.bytes.now) (one.2).same_bytes; peak = omega arith; bands = (one.2).extends },
+            writes_then (writes_none kept.wrote) (writes_then one.3 (writes_then (wrote.wrote t2 one.0 (one.1).raw (place_grown b c.in_ok-found.found.peak one.2 want refl can.from)) (set.wrote t3 _ two.raw tt))),
           );
     }
 

@@ -8,12 +8,17 @@ use Rattle.sg_blob.proofs.change.paint_all.Goals as goal
 pub pieces-init : goal.pieces-init
 pieces-init g c =
     let op : Option RangeMeaning = range_at (table_of (λ p. (goal.RecordOp-dyn g p).record_meaning p.1) (λ p. (goal.RangeOp-dyn g p).range_meaning p.1) c.args.ops.now) c.args.code in
-    writes_none (rendered op c.args.arg.now c.args.at 0) (rendered_none op c.args.arg.now c.args.at)
+    record {
+      so_far = writes_none (rendered op c.args.arg.now c.args.at 0) (rendered_none op c.args.arg.now c.args.at);
+      later = g.met.P.PageSpace.later_same _ _;
+      means = c.requires.means;
+      quiet = refl;
+    }
 
 pub paint_in-requires-clause-there : goal.paint_in-requires-clause-there
 paint_in-requires-clause-there g c = λ told.
     let op : Option RangeMeaning = range_at (table_of (λ p. (goal.RecordOp-dyn g p).record_meaning p.1) (λ p. (goal.RangeOp-dyn g p).range_meaning p.1) c.args.ops.now) c.args.code in
-    let i = c.pieces.invariant in
+    let i = c.pieces.invariant.so_far in
     let back = i.back told in
     let h = c.requires.there back in
     let most = c.piece-n.ensures.most in
@@ -23,17 +28,22 @@ paint_in-requires-clause-there g c = λ told.
 
 pub paint_in-requires-clause-can : goal.paint_in-requires-clause-can
 paint_in-requires-clause-can g c = λ told.
-    let i = c.pieces.invariant in
+    let i = c.pieces.invariant.so_far in
     let back = i.back told in
     let can = c.requires.can back in
-    record { known = can.known; short = can.short; means = λ ne. (i.did.keeps back).table _ (can.means ne) }
+    record { known = can.known; short = can.short }
 
 pub pieces-preserved : goal.pieces-preserved
 pieces-preserved g c =
     let op : Option RangeMeaning = range_at (table_of (λ p. (goal.RecordOp-dyn g p).record_meaning p.1) (λ p. (goal.RangeOp-dyn g p).range_meaning p.1) c.args.ops.now) c.args.code in
-    let i = c.pieces.invariant in
+    let i = c.pieces.invariant.so_far in
     let most = c.piece-n.ensures.most in
     let test = c.pieces-test.true in
     let counts = c.paint_in.ensures.counts in
-    writes_on c.piece-n.result c.piece-n.result (rendered op c.args.arg.now c.args.at c.pieces.done) (rendered op c.args.arg.now (c.args.at + c.pieces.done) c.piece-n.result) (rendered op c.args.arg.now c.args.at (c.pieces.done + c.piece-n.result))
-    (length-rendered op c.args.arg.now c.args.at c.pieces.done) (omega arith) refl (rendered_on op c.args.arg.now c.args.at c.pieces.done c.piece-n.result) i counts.told counts.later c.in_ok-paint_in.ensures.did
+    record {
+      so_far = writes_on c.piece-n.result c.piece-n.result (rendered op c.args.arg.now c.args.at c.pieces.done) (rendered op c.args.arg.now (c.args.at + c.pieces.done) c.piece-n.result) (rendered op c.args.arg.now c.args.at (c.pieces.done + c.piece-n.result))
+          (length-rendered op c.args.arg.now c.args.at c.pieces.done) (omega arith) refl (rendered_on op c.args.arg.now c.args.at c.pieces.done c.piece-n.result) i counts.told counts.later c.in_ok-paint_in.ensures.did;
+      later = g.met.P.PageSpace.later_then _ _ _ _ c.pieces.invariant.later c.paint_in.ensures.later;
+      means = c.paint_in.ensures.means;
+      quiet = c.in_ok-paint_in.ensures.counts.quiet ∙ c.pieces.invariant.quiet;
+    }

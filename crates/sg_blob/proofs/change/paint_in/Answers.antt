@@ -1,15 +1,15 @@
-use Rattle.std.proofs.Common.{Option}
+use Rattle.std.proofs.Common.{ℕ, Option, Some, sym, ap, ◌∙◌}
 use Rattle.sg_ops.specs.Meaning.{RangeMeaning}
 use Rattle.sg_ops.specs.Table.{table_of, range_at}
-use Rattle.sg_space.proofs.Known.{keeps_then}
+use Rattle.sg_space.proofs.Known.{keeps_then, writes_none, writes_then, writes_less}
 use Rattle.sg_ops.proofs.Rendering.{length-rendered}
 use Rattle.sg_blob.proofs.Parts.{still_raw, band_there}
 use Rattle.sg_blob.proofs.Turned.{after_reads}
 use Rattle.sg_blob.proofs.Writes.{paint_turns}
 use Rattle.sg_blob.proofs.change.paint_in.Goals as goal
 
-pub paint_band-requires : goal.paint_band-requires
-paint_band-requires g c = λ told.
+pub paint_band-requires-clause-can : goal.paint_band-requires-clause-can
+paint_band-requires-clause-can g c = λ told.
     let back = c.band_at.ensures.counts.told told in
     let shows = g.met.P.PageSpace.told_shows _ back in
     let h = c.requires.there back in
@@ -19,7 +19,6 @@ paint_band-requires g c = λ told.
       known = can.known;
       short = can.short;
       ends = c.requires.small;
-      means = λ ne. c.in_ok-b.ensures.kept.keeps.table _ (can.means ne);
     }
 
 pub returns-clause-did : goal.returns-clause-did
@@ -33,4 +32,5 @@ returns-clause-did g c =
           let shows = g.met.P.PageSpace.told_shows _ t in
           let told = kept.keeps.told t in
           after_reads kept shows (paint_turns c.args.at c.args.count _ (length-rendered op c.args.arg.now c.args.at c.args.count) (still_raw kept shows h) (c.in_ok-b.ensures.read shows r h) can c.requires.piece (did.bands told) (did.pages told));
+      wrote = λ t r h can. writes_then (writes_none kept.wrote) (writes_less (λ n same. (_, c.in_ok-b.ensures.read (g.met.P.PageSpace.told_shows _ t) r h ∙ ap (λ (m : ℕ). Some m) (sym same))) did.writes);
     }

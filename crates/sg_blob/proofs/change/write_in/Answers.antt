@@ -1,4 +1,5 @@
-use Rattle.sg_space.proofs.Known.{keeps_then}
+use Rattle.std.proofs.Common.{ℕ, Some, sym, ap, ◌∙◌}
+use Rattle.sg_space.proofs.Known.{keeps_then, writes_none, writes_then, writes_less}
 use Rattle.sg_blob.proofs.Parts.{still_raw, band_there}
 use Rattle.sg_blob.proofs.Turned.{after_reads}
 use Rattle.sg_blob.proofs.Writes.{write_turns}
@@ -21,4 +22,5 @@ returns-clause-did g c =
           let shows = g.met.P.PageSpace.told_shows _ t in
           let told = kept.keeps.told t in
           after_reads kept shows (write_turns c.args.at c.args.bytes.now (still_raw kept shows h) (c.in_ok-b.ensures.read shows r h) can c.requires.piece (did.bands told) (did.pages told));
+      wrote = λ t r h can. writes_then (writes_none kept.wrote) (writes_less (λ n same. (_, c.in_ok-b.ensures.read (g.met.P.PageSpace.told_shows _ t) r h ∙ ap (λ (m : ℕ). Some m) (sym same))) did.writes);
     }

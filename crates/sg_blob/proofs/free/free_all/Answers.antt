@@ -8,11 +8,16 @@ use Rattle.sg_blob.proofs.free.free_all.Goals as goal
 pub loop-j-init : goal.loop-j-init
 loop-j-init g c =
     let counts = c.read_root.ensures.counts in
-    frees_none counts.told counts.later (λ t. g.met.P.PageSpace.told_shows _ t) c.in_ok-found.ensures.kept
+    record {
+      so_far = frees_none counts.told counts.later (λ t. g.met.P.PageSpace.told_shows _ t) c.in_ok-found.ensures.kept;
+      later = λ t. c.read_root.ensures.later t;
+      means = λ t m. c.read_root.ensures.means t m;
+      quiet = c.in_ok-found.ensures.counts.quiet;
+    }
 
 pub link_at-requires : goal.link_at-requires
 link_at-requires g c = λ told.
-    let i = c.loop-j.invariant in
+    let i = c.loop-j.invariant.so_far in
     let back = i.back told in
     let shows = g.met.P.PageSpace.told_shows _ back in
     let h = c.requires back in
@@ -24,7 +29,7 @@ link_at-requires g c = λ told.
 
 pub free_band-requires : goal.free_band-requires
 free_band-requires g c = λ told.
-    let i = c.loop-j.invariant in
+    let i = c.loop-j.invariant.so_far in
     let told_then = c.link_at.ensures.counts.told told in
     let back = i.back told_then in
     let shows = g.met.P.PageSpace.told_shows _ told_then in
@@ -36,22 +41,27 @@ free_band-requires g c = λ told.
 
 pub loop-j-preserved : goal.loop-j-preserved
 loop-j-preserved g c =
-    let i = c.loop-j.invariant in
+    let i = c.loop-j.invariant.so_far in
     let read = c.link_at.ensures.counts in
     let counts = c.free_band.ensures.counts in
-    frees_on i (λ t. g.met.P.PageSpace.told_shows _ (i.told t)) c.in_ok-b.ensures.kept read.told read.later counts.told counts.later c.in_ok-free_band.ensures.did
-    (λ t b h. link_read c.loop-j.j c.in_ok-b.b.0 (link_still i t h) h.raw.fit c.in_ok-b.ensures.small (c.in_ok-b.ensures.read (g.met.P.PageSpace.told_shows _ (i.told t))))
+    record {
+      so_far = frees_on i (λ t. g.met.P.PageSpace.told_shows _ (i.told t)) c.in_ok-b.ensures.kept read.told read.later counts.told counts.later c.in_ok-free_band.ensures.did
+          (λ t b h. link_read c.loop-j.j c.in_ok-b.b.0 (link_still i t h) h.raw.fit c.in_ok-b.ensures.small (c.in_ok-b.ensures.read (g.met.P.PageSpace.told_shows _ (i.told t))));
+      later = λ t. let then = g.met.P.PageSpace.later_then t in then _ _ _ (c.loop-j.invariant.later t) (then _ _ _ (c.link_at.ensures.later t) (c.free_band.ensures.later t));
+      means = λ t m. c.free_band.ensures.means t (c.link_at.ensures.means t (c.loop-j.invariant.means t m));
+      quiet = c.in_ok-free_band.ensures.counts.quiet ∙ c.in_ok-b.ensures.counts.quiet ∙ c.loop-j.invariant.quiet;
+    }
 
 pub free_page-requires : goal.free_page-requires
 free_page-requires g c = λ told.
-    let i = c.loop-j.invariant in
+    let i = c.loop-j.invariant.so_far in
     let back = i.back told in
     let h = c.requires back in
     subst IsSome (sym (link_still i back h.1).is) refl
 
 pub returns-clause-did : goal.returns-clause-did
 returns-clause-did g c =
-    let i = c.loop-j.invariant in
+    let i = c.loop-j.invariant.so_far in
     let test = c.loop-j-test.false in
     let for = c.bands_for-j-end.ensures in
     let end = c.loop-j.auto.j-end in
@@ -59,3 +69,12 @@ returns-clause-did g c =
     let peak = (c.in_ok-found.ensures.read (g.met.P.PageSpace.told_shows _ t) (raw_of b) h.raw).1 in
     let many = so_many b.bands b.peak c.in_ok-found.found.peak peak h.least h.most in
     omega arith)
+
+pub returns-in_err-b-clause-later : goal.returns-in_err-b-clause-later
+returns-in_err-b-clause-later g c = λ t. g.met.P.PageSpace.later_then t _ _ _ (c.loop-j.invariant.later t) (c.link_at.ensures.later t)
+
+pub returns-in_err-free_band-clause-later : goal.returns-in_err-free_band-clause-later
+returns-in_err-free_band-clause-later g c = λ t. let then = g.met.P.PageSpace.later_then t in then _ _ _ (c.loop-j.invariant.later t) (then _ _ _ (c.link_at.ensures.later t) (c.free_band.ensures.later t))
+
+pub returns-in_err-free_page-clause-later : goal.returns-in_err-free_page-clause-later
+returns-in_err-free_page-clause-later g c = λ t. g.met.P.PageSpace.later_then t _ _ _ (c.loop-j.invariant.later t) (c.free_page.ensures.later t)

@@ -9,14 +9,14 @@ pub held_at-requires : goal.held_at-requires
 held_at-requires g c = λ told.
     let back = c.seek.ensures.counts.told told in
     let shows = g.met.P.PageSpace.told_shows _ back in
-    let h = c.requires back in
+    let h = c.requires.can back in
     held_there (still_linked c.in_ok-seek.ensures.kept shows h.1) (place_has (found_place h.0 c.args.key.now c.in-Some.is (c.in_ok-seek.ensures.read shows h.0 h.1)))
 
-pub take_out-requires : goal.take_out-requires
-take_out-requires g c = λ told.
+pub take_out-requires-clause-can : goal.take_out-requires-clause-can
+take_out-requires-clause-can g c = λ told.
     let back = c.seek.ensures.counts.told (c.held_at.ensures.counts.told told) in
     let shows = g.met.P.PageSpace.told_shows _ back in
-    let h = c.requires back in (
+    let h = c.requires.can back in (
       h.0,
       still_linked (reads_then c.in_ok-seek.ensures.kept c.in_ok-held-in-Some.ensures.kept) shows h.1,
       place_has (found_place h.0 c.args.key.now c.in-Some.is (c.in_ok-seek.ensures.read shows h.0 h.1)),

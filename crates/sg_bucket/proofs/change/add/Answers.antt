@@ -1,4 +1,4 @@
-use Rattle.std.proofs.Common.{◌∙◌, arith}
+use Rattle.std.proofs.Common.{refl, ◌∙◌, arith}
 use Rattle.std.proofs.lemmas.Option.{slice_get_within}
 use Rattle.sg_bucket.proofs.Fuel.{few_pages}
 use Rattle.sg_bucket.proofs.Rooms.{room_at, room_next, can_add_still, keep_after, put_added, append_added, last_here}
@@ -6,18 +6,24 @@ use Rattle.sg_bucket.proofs.Walking.{walks_none, walks_on, part_seen, part_page,
 use Rattle.sg_bucket.proofs.change.add.Goals as goal
 
 pub loop-passed-init : goal.loop-passed-init
-loop-passed-init g c = (c.args.first.0, walks_none)
+loop-passed-init g c =
+    record {
+      so_far = (c.args.first.0, walks_none);
+      later = g.met.P.PageSpace.later_same _ _;
+      means = c.requires.means;
+      quiet = refl;
+    }
 
 pub room_on-requires : goal.room_on-requires
 room_on-requires g c = λ told.
-    let i = (c.loop-passed.invariant).1 in
+    let i = (c.loop-passed.invariant.so_far).1 in
     let back = i.back told in
     let h = c.requires.there back in
     part_page (part_seen i (g.met.P.PageSpace.told_shows _ back) h.1)
 
 pub put_at-requires-clause-there : goal.put_at-requires-clause-there
 put_at-requires-clause-there g c = λ told.
-    let i = (c.loop-passed.invariant).1 in
+    let i = (c.loop-passed.invariant.so_far).1 in
     let back = i.back (c.room_on.ensures.counts.told told) in
     let shows = g.met.P.PageSpace.told_shows _ back in
     let kept = c.in_ok-slot.ensures.kept in
@@ -34,7 +40,7 @@ put_at-requires-clause-there g c = λ told.
 
 pub returns-in-At-clause-did : goal.returns-in-At-clause-did
 returns-in-At-clause-did g c =
-    let i = (c.loop-passed.invariant).1 in
+    let i = (c.loop-passed.invariant.so_far).1 in
     let kept = c.in_ok-slot.ensures.kept in
     keep_after (λ t. g.met.P.PageSpace.told_shows _ t) (reads_on i kept) (put_added c.in_ok-put_at-in-At.ensures.did) (λ told b h can.
     let shows = g.met.P.PageSpace.told_shows _ told in
@@ -47,7 +53,7 @@ returns-in-At-clause-did g c =
 
 pub append-requires-clause-there : goal.append-requires-clause-there
 append-requires-clause-there g c = λ told.
-    let i = (c.loop-passed.invariant).1 in
+    let i = (c.loop-passed.invariant.so_far).1 in
     let back = i.back (c.room_on.ensures.counts.told told) in
     let shows = g.met.P.PageSpace.told_shows _ back in
     let kept = c.in_ok-slot.ensures.kept in
@@ -60,7 +66,7 @@ append-requires-clause-there g c = λ told.
 
 pub returns-then-next-eq0-clause-did : goal.returns-then-next-eq0-clause-did
 returns-then-next-eq0-clause-did g c =
-    let i = (c.loop-passed.invariant).1 in
+    let i = (c.loop-passed.invariant.so_far).1 in
     let kept = c.in_ok-slot.ensures.kept in
     keep_after (λ t. g.met.P.PageSpace.told_shows _ t) (reads_on i kept) (append_added c.in_ok-append-in-Full.ensures.did) (λ told b h can.
     let shows = g.met.P.PageSpace.told_shows _ told in
@@ -69,13 +75,18 @@ returns-then-next-eq0-clause-did g c =
 
 pub loop-passed-preserved : goal.loop-passed-preserved
 loop-passed-preserved g c =
-    let i = (c.loop-passed.invariant).1 in
+    let i = (c.loop-passed.invariant.so_far).1 in
     let counts = c.room_on.ensures.counts in
-    (c.loop-passed.page.0, walks_on i counts.told counts.later c.in_ok-slot.ensures.kept (λ shows b part. (tt, room_next _ c.in-Full.is part (c.in_ok-slot.ensures.read shows))) c.if-next-eq0.false)
+    record {
+      so_far = (c.loop-passed.page.0, walks_on i counts.told counts.later c.in_ok-slot.ensures.kept (λ shows b part. (tt, room_next _ c.in-Full.is part (c.in_ok-slot.ensures.read shows))) c.if-next-eq0.false);
+      later = g.met.P.PageSpace.later_then _ _ _ _ c.loop-passed.invariant.later (c.room_on.ensures.later _);
+      means = c.room_on.ensures.means _ c.loop-passed.invariant.means;
+      quiet = c.in_ok-slot.ensures.counts.quiet ∙ c.loop-passed.invariant.quiet;
+    }
 
 pub broken-requires : goal.broken-requires
 broken-requires g c = λ told.
-    let i = (c.loop-passed.invariant).1 in
+    let i = (c.loop-passed.invariant.so_far).1 in
     let back = i.back told in
     let h = c.requires.there back in
     let w = i.walked (g.met.P.PageSpace.told_shows _ back) h.0 h.1 in

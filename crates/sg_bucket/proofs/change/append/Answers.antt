@@ -4,8 +4,8 @@ use Rattle.sg_bucket.proofs.change.append.Goals as goal
 pub take_page_with-requires-clause-free : goal.take_page_with-requires-clause-free
 take_page_with-requires-clause-free g c = λ told. let h = c.requires.there told in record { some = h.2.add.free; may = h.2.add.may_take }
 
-pub change-requires : goal.change-requires
-change-requires g c = λ told.
+pub change-requires-clause-can : goal.change-requires-clause-can
+change-requires-clause-can g c = λ told.
     let back = c.take_page_with.ensures.counts.told told in
     let h = c.requires.there back in
     link_last h.1 h.2.ending ((c.in_ok-p.ensures.did).pages back)

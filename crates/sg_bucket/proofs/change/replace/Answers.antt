@@ -29,8 +29,8 @@ add-requires-clause-there g c = λ told.
     let h = c.requires.there back in
     (h.0, still_linked c.in_ok-held.ensures.kept shows h.1, can_add_still c.in_ok-held.ensures.kept shows h.2.add)
 
-pub take_out-requires : goal.take_out-requires
-take_out-requires g c = λ told.
+pub take_out-requires-clause-can : goal.take_out-requires-clause-can
+take_out-requires-clause-can g c = λ told.
     let mid = c.add.ensures.counts.told told in
     let back = c.held_at.ensures.counts.told mid in
     let shows = g.met.P.PageSpace.told_shows _ back in
@@ -44,3 +44,8 @@ returns-clause-did g c =
     did_then (reads_did (λ t. g.met.P.PageSpace.told_shows _ t) c.in_ok-held.ensures.kept (did_of c.in_ok-add.ensures.did) (λ told b h k. can_add_still c.in_ok-held.ensures.kept (g.met.P.PageSpace.told_shows _ told) k.add)) c.in_ok-take_out.ensures.did
     (λ told b b' h k t a. still_has a k.has)
     (λ told b b' b'' h k t a out. moved_replaces h (λ was stands. held_value h stands (c.in_ok-held.ensures.read (g.met.P.PageSpace.told_shows _ told))) a out)
+
+pub returns-clause-later : goal.returns-clause-later
+returns-clause-later g c =
+    let then = g.met.P.PageSpace.later_then _ in
+    then _ _ _ (c.held_at.ensures.later _) (then _ _ _ c.add.ensures.later c.take_out.ensures.later)

@@ -13,16 +13,16 @@ returns-then-place-first-clause-did g c = did_as c.in_ok-remove_at.ensures.did (
 pub emptied-requires : goal.emptied-requires
 emptied-requires g c = λ told.
     let back = c.remove_at.ensures.counts.told told in
-    let h = c.requires back in
+    let h = c.requires.can back in
     let one = c.in_ok-remove_at.ensures.did.turns back h.0 h.1 h.2 in
     removed_page h.2 one.2 one.1.linked
 
-pub cut-requires : goal.cut-requires
-cut-requires g c = λ told.
+pub cut-requires-clause-can : goal.cut-requires-clause-can
+cut-requires-clause-can g c = λ told.
     let mid = c.emptied.ensures.counts.told told in
     let back = c.remove_at.ensures.counts.told mid in
     let shows = g.met.P.PageSpace.told_shows _ mid in
-    let h = c.requires back in
+    let h = c.requires.can back in
     let one = c.in_ok-remove_at.ensures.did.turns back h.0 h.1 h.2 in (
       one.0,
       still_linked c.in_ok-emptied.ensures.kept shows one.1.linked,

@@ -8,17 +8,23 @@ use Rattle.sg_bucket.proofs.Walking.{part_page}
 use Rattle.sg_bucket.proofs.free.free_all.Goals as goal
 
 pub loop-passed-init : goal.loop-passed-init
-loop-passed-init g c = frees_none
+loop-passed-init g c =
+    record {
+      so_far = frees_none;
+      later = λ t. g.met.P.PageSpace.later_same t _;
+      means = λ t m. m;
+      quiet = refl;
+    }
 
 pub next_of-requires : goal.next_of-requires
 next_of-requires g c = λ told.
-    let i = c.loop-passed.invariant in
+    let i = c.loop-passed.invariant.so_far in
     let back = i.back told in
     part_page (next_part i back (c.requires back).1)
 
 pub free_page-requires : goal.free_page-requires
 free_page-requires g c = λ told.
-    let i = c.loop-passed.invariant in
+    let i = c.loop-passed.invariant.so_far in
     let told_then = c.next_of.ensures.counts.told told in
     let back = i.back told_then in
     let part = next_part i back (c.requires back).1 in
@@ -26,23 +32,28 @@ free_page-requires g c = λ told.
 
 pub returns-then-next-eq0-clause-did : goal.returns-then-next-eq0-clause-did
 returns-then-next-eq0-clause-did g c =
-    let i = c.loop-passed.invariant in
+    let i = c.loop-passed.invariant.so_far in
     all_gone i (λ t. g.met.P.PageSpace.told_shows _ (i.told t)) c.in_ok-next.ensures.kept c.in_ok-free_page.ensures.did (λ t b h.
     let part = next_part i t h in
     sym part.has.next_is ∙ (both part (c.in_ok-next.ensures.read (g.met.P.PageSpace.told_shows _ (i.told t))) ∙ c.if-next-eq0.true))
 
 pub loop-passed-preserved : goal.loop-passed-preserved
 loop-passed-preserved g c =
-    let i = c.loop-passed.invariant in
+    let i = c.loop-passed.invariant.so_far in
     let read = c.next_of.ensures.counts in
     let counts = c.free_page.ensures.counts in
-    frees_on i (λ t. g.met.P.PageSpace.told_shows _ (i.told t)) c.in_ok-next.ensures.kept read.told read.later counts.told counts.later c.in_ok-free_page.ensures.did (λ t b h.
-    let part = next_part i t h in
-    sym part.has.next_is ∙ both part (c.in_ok-next.ensures.read (g.met.P.PageSpace.told_shows _ (i.told t)))) c.if-next-eq0.false
+    record {
+      so_far = frees_on i (λ t. g.met.P.PageSpace.told_shows _ (i.told t)) c.in_ok-next.ensures.kept read.told read.later counts.told counts.later c.in_ok-free_page.ensures.did (λ t b h.
+          let part = next_part i t h in
+          sym part.has.next_is ∙ both part (c.in_ok-next.ensures.read (g.met.P.PageSpace.told_shows _ (i.told t)))) c.if-next-eq0.false;
+      later = λ t. let then = g.met.P.PageSpace.later_then t in then _ _ _ (c.loop-passed.invariant.later t) (then _ _ _ (c.next_of.ensures.later t) (c.free_page.ensures.later t));
+      means = λ t m. c.free_page.ensures.means t (c.next_of.ensures.means t (c.loop-passed.invariant.means t m));
+      quiet = c.in_ok-free_page.ensures.counts.quiet ∙ c.in_ok-next.ensures.counts.quiet ∙ c.loop-passed.invariant.quiet;
+    }
 
 pub broken-requires : goal.broken-requires
 broken-requires g c = λ told.
-    let i = c.loop-passed.invariant in
+    let i = c.loop-passed.invariant.so_far in
     let back = i.back told in
     let h = c.requires back in
     let few = few_pages (g.met.P.PageSpace.pages_exact _ back) h.1 in

@@ -1,4 +1,4 @@
-use Rattle.std.proofs.Common.{arith}
+use Rattle.std.proofs.Common.{◌∙◌, refl, arith}
 use Rattle.std.proofs.lemmas.Option.{slice_get_within}
 use Rattle.sg_bucket.proofs.Fuel.{few_pages}
 use Rattle.sg_bucket.proofs.Listed.{listed_none, listed_on, listed_all, next_listed}
@@ -6,28 +6,39 @@ use Rattle.sg_bucket.proofs.Walking.{walks_none, walks_on, part_seen, part_page}
 use Rattle.sg_bucket.proofs.listing.keys.Goals as goal
 
 pub loop-passed-init : goal.loop-passed-init
-loop-passed-init g c = ((c.args.first.0, walks_none), listed_none (g.P.PageSpace.view c.args.space.now) c.args.first.0 c.args.into.now.items)
+loop-passed-init g c =
+    record {
+      so_far = ((c.args.first.0, walks_none), listed_none (g.P.PageSpace.view c.args.space.now) c.args.first.0 c.args.into.now.items);
+      later = λ t. g.met.P.PageSpace.later_same t _;
+      means = λ t m. m;
+      quiet = refl;
+    }
 
 pub gather-requires : goal.gather-requires
 gather-requires g c = λ told.
-    let i = (c.loop-passed.invariant).0.1 in
+    let i = (c.loop-passed.invariant.so_far).0.1 in
     let back = i.back told in
     part_page (part_seen i (g.met.P.PageSpace.told_shows _ back) (c.requires back).1)
 
 pub returns-then-next-eq0-clause-read : goal.returns-then-next-eq0-clause-read
-returns-then-next-eq0-clause-read g c = let i = c.loop-passed.invariant in listed_all c.args.into.now.items i.0.1 i.1 c.in_ok-next.ensures.read c.if-next-eq0.true
+returns-then-next-eq0-clause-read g c = let i = c.loop-passed.invariant.so_far in listed_all c.args.into.now.items i.0.1 i.1 c.in_ok-next.ensures.read c.if-next-eq0.true
 
 pub loop-passed-preserved : goal.loop-passed-preserved
 loop-passed-preserved g c =
-    let i = c.loop-passed.invariant in
-    let counts = c.gather.ensures.counts in (
-      (c.loop-passed.page.0, walks_on i.0.1 counts.told counts.later c.in_ok-next.ensures.kept (λ shows b part. (tt, next_listed part (c.in_ok-next.ensures.read shows))) c.if-next-eq0.false),
-      listed_on c.args.into.now.items i.0.1 i.1 c.in_ok-next.ensures.read,
-    )
+    let i = c.loop-passed.invariant.so_far in
+    record {
+      so_far = let counts = c.gather.ensures.counts in (
+        (c.loop-passed.page.0, walks_on i.0.1 counts.told counts.later c.in_ok-next.ensures.kept (λ shows b part. (tt, next_listed part (c.in_ok-next.ensures.read shows))) c.if-next-eq0.false),
+        listed_on c.args.into.now.items i.0.1 i.1 c.in_ok-next.ensures.read,
+      );
+      later = λ t. g.met.P.PageSpace.later_then t _ _ _ (c.loop-passed.invariant.later t) (c.gather.ensures.later t);
+      means = λ t m. c.gather.ensures.means t (c.loop-passed.invariant.means t m);
+      quiet = c.in_ok-next.ensures.counts.quiet ∙ c.loop-passed.invariant.quiet;
+    }
 
 pub broken-requires : goal.broken-requires
 broken-requires g c = λ told.
-    let i = (c.loop-passed.invariant).0.1 in
+    let i = (c.loop-passed.invariant.so_far).0.1 in
     let back = i.back told in
     let h = c.requires back in
     let w = i.walked (g.met.P.PageSpace.told_shows _ back) h.0 h.1 in

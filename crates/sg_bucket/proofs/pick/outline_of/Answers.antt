@@ -13,3 +13,6 @@ returns-clause-read g c = λ shows. record {
     fits = bytes_fit c.in_ok-view.view.page.now c.in_ok-view.view.slotted;
   };
 }
+
+pub returns-then-kind-ne-BUCKET_KIND-clause-later : goal.returns-then-kind-ne-BUCKET_KIND-clause-later
+returns-then-kind-ne-BUCKET_KIND-clause-later g c = λ t. g.met.P.PageSpace.later_then t _ _ _ (c.page.follows.holds-at-none.later t) (c.broken.ensures.later t)

@@ -1,33 +1,44 @@
-use Rattle.std.proofs.Common.{arith}
+use Rattle.std.proofs.Common.{◌∙◌, refl, arith}
 use Rattle.sg_bucket.proofs.Stripping.{prune_page_there, prune_ready, prunes_none, prunes_on, pruned, still_pruning}
 use Rattle.sg_bucket.proofs.pruning.prune.Goals as goal
 
 pub loop-passed-init : goal.loop-passed-init
-loop-passed-init g c = prunes_none
+loop-passed-init g c =
+    record {
+      so_far = prunes_none;
+      later = g.met.P.PageSpace.later_same _ _;
+      means = c.requires.means;
+      quiet = refl;
+    }
 
 pub next_of-requires : goal.next_of-requires
-next_of-requires g c = λ told. let m = c.loop-passed.invariant in prune_page_there m c.requires (m.back told)
+next_of-requires g c = λ told. let m = c.loop-passed.invariant.so_far in prune_page_there m c.requires.can (m.back told)
 
-pub prune_page-requires : goal.prune_page-requires
-prune_page-requires g c = λ told.
-    let m = c.loop-passed.invariant in
+pub prune_page-requires-clause-can : goal.prune_page-requires-clause-can
+prune_page-requires-clause-can g c = λ told.
+    let m = c.loop-passed.invariant.so_far in
     let back = c.next_of.ensures.counts.told told in
-    prune_ready m (λ t. g.met.P.PageSpace.told_shows _ t) c.in_ok-next.ensures.kept c.requires (m.back back)
+    prune_ready m (λ t. g.met.P.PageSpace.told_shows _ t) c.in_ok-next.ensures.kept c.requires.can (m.back back)
 
 pub returns-then-next-eq0-clause-did : goal.returns-then-next-eq0-clause-did
-returns-then-next-eq0-clause-did g c = pruned c.loop-passed.invariant (λ t. g.met.P.PageSpace.told_shows _ t) c.in_ok-next.ensures.kept c.in_ok-before.ensures.did c.in_ok-next.ensures.read c.if-next-eq0.true
+returns-then-next-eq0-clause-did g c = pruned c.loop-passed.invariant.so_far (λ t. g.met.P.PageSpace.told_shows _ t) c.in_ok-next.ensures.kept c.in_ok-before.ensures.did c.in_ok-next.ensures.read c.if-next-eq0.true
 
 pub loop-passed-preserved : goal.loop-passed-preserved
 loop-passed-preserved g c =
     let read = c.next_of.ensures.counts in
     let counts = c.prune_page.ensures.counts in
-    prunes_on c.loop-passed.invariant (λ t. g.met.P.PageSpace.told_shows _ t) c.in_ok-next.ensures.kept read.told read.later counts.told counts.later c.in_ok-before.ensures.did c.in_ok-next.ensures.read c.if-next-eq0.false
+    record {
+      so_far = prunes_on c.loop-passed.invariant.so_far (λ t. g.met.P.PageSpace.told_shows _ t) c.in_ok-next.ensures.kept read.told read.later counts.told counts.later c.in_ok-before.ensures.did c.in_ok-next.ensures.read c.if-next-eq0.false;
+      later = let then = g.met.P.PageSpace.later_then _ in then _ _ _ c.loop-passed.invariant.later (then _ _ _ (c.next_of.ensures.later _) c.prune_page.ensures.later);
+      means = c.prune_page.ensures.means;
+      quiet = c.in_ok-before.ensures.counts.quiet ∙ c.in_ok-next.ensures.counts.quiet ∙ c.loop-passed.invariant.quiet;
+    }
 
 pub broken-requires : goal.broken-requires
 broken-requires g c = λ told.
-    let m = c.loop-passed.invariant in
+    let m = c.loop-passed.invariant.so_far in
     let back = m.back told in
-    let below = still_pruning m (g.met.P.PageSpace.pages_exact _ back) c.requires back in
+    let below = still_pruning m (g.met.P.PageSpace.pages_exact _ back) c.requires.can back in
     let end = c.loop-passed-test.false in
     let count = c.pages-passed-end.ensures in
     absurd (omega arith)

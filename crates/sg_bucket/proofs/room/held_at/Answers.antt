@@ -14,3 +14,12 @@ returns-clause-read g c = λ shows. record {
     most = let fits = bytes_fit c.in_ok-view.view.page.now c.in_ok-view.view.slotted in let room = c.room-room.ensures in omega arith;
   };
 }
+
+pub returns-then-kind-ne-BUCKET_KIND-clause-later : goal.returns-then-kind-ne-BUCKET_KIND-clause-later
+returns-then-kind-ne-BUCKET_KIND-clause-later g c = λ t. g.met.P.PageSpace.later_then t _ _ _ (c.page.follows.holds-at-none.later t) (c.broken.ensures.later t)
+
+pub returns-in_default-clause-later : goal.returns-in_default-clause-later
+returns-in_default-clause-later g c = λ t. g.met.P.PageSpace.later_then t _ _ _ (c.page.follows.holds-at-none.later t) (c.broken-in_default.ensures.later t)
+
+pub returns-then-not-is_entry-clause-later : goal.returns-then-not-is_entry-clause-later
+returns-then-not-is_entry-clause-later g c = λ t. g.met.P.PageSpace.later_then t _ _ _ (c.page.follows.holds-at-none.later t) (c.broken-then-not-is_entry.ensures.later t)

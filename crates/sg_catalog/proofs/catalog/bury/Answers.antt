@@ -12,14 +12,14 @@ use Rattle.sg_catalog.proofs.catalog.bury.Goals as goal
 pub broken-requires : goal.broken-requires
 broken-requires g c = λ told.
     let back = c.search.ensures.counts.told told in
-    let h = c.requires back in
+    let h = c.requires.can back in
     not_nothing (is_there c.args.name) h.0 h.2 (nothing_found (is_there c.args.name) h.0 c.in_ok-sought.sought c.in_default.is (c.in_ok-sought.ensures.read (g.met.P.PageSpace.told_shows _ back) h.0 h.1))
 
-pub set_row-requires : goal.set_row-requires
-set_row-requires g c = λ told.
+pub set_row-requires-clause-can : goal.set_row-requires-clause-can
+set_row-requires-clause-can g c = λ told.
     let back = c.search.ensures.counts.told told in
     let shows = g.met.P.PageSpace.told_shows _ back in
-    let h = c.requires back in
+    let h = c.requires.can back in
     let f = row_found (is_there c.args.name) h.0 c.in_ok-sought.sought c.in-Some.found c.in-Some.is (c.in_ok-sought.ensures.read shows h.0 h.1) in
     (h.0, (still_catalog c.in_ok-sought.ensures.kept shows h.1).raw, f.place, row_of_there f)
 
@@ -41,3 +41,12 @@ returns-clause-did g c =
 
 pub returns-clause-within : goal.returns-clause-within
 returns-clause-within g c = λ shows d h. found_some (is_there c.args.name) d c.in-Some.found (row_found (is_there c.args.name) d c.in_ok-sought.sought c.in-Some.found c.in-Some.is (c.in_ok-sought.ensures.read shows d h))
+
+pub returns-in_default-clause-later : goal.returns-in_default-clause-later
+returns-in_default-clause-later g c = g.met.P.PageSpace.later_then _ _ _ _ (c.search.ensures.later _) (c.broken.ensures.later _)
+
+pub returns-in_err-set_row-clause-later : goal.returns-in_err-set_row-clause-later
+returns-in_err-set_row-clause-later g c = g.met.P.PageSpace.later_then _ _ _ _ (c.search.ensures.later _) c.set_row.ensures.later
+
+pub returns-clause-later : goal.returns-clause-later
+returns-clause-later g c = g.met.P.PageSpace.later_then _ _ _ _ (c.search.ensures.later _) c.set_row.ensures.later

@@ -13,16 +13,16 @@ use Rattle.sg_catalog.proofs.catalog.unbury.Goals as goal
 pub search-requires-2 : goal.search-requires-2
 search-requires-2 g c = λ told.
     let back = c.search.ensures.counts.told told in
-    let h = c.requires back in
+    let h = c.requires.can back in
     (h.0, still_catalog c.in_ok-search.ensures.kept (g.met.P.PageSpace.told_shows _ back) h.1, tt)
 
-pub set_row-requires : goal.set_row-requires
-set_row-requires g c = λ told.
+pub set_row-requires-clause-can : goal.set_row-requires-clause-can
+set_row-requires-clause-can g c = λ told.
     let told1 = c.search-2.ensures.counts.told told in
     let told0 = c.search.ensures.counts.told told1 in
     let shows0 = g.met.P.PageSpace.told_shows _ told0 in
     let shows1 = g.met.P.PageSpace.told_shows _ told1 in
-    let h = c.requires told0 in
+    let h = c.requires.can told0 in
     let one = still_catalog c.in_ok-search.ensures.kept shows0 h.1 in
     let f = row_found (is_tomb_of c.args.name c.args.root.0) h.0 c.in_ok-sought.sought c.in-Some.found c.in-Some.is (c.in_ok-sought.ensures.read shows1 h.0 one) in
     (h.0, (still_catalog c.in_ok-sought.ensures.kept shows1 one).raw, f.place, row_of_there f)
@@ -59,3 +59,24 @@ returns-clause-within g c = λ shows d h.
       tomb = found_some (is_tomb_of c.args.name c.args.root.0) d c.in-Some.found (row_found (is_tomb_of c.args.name c.args.root.0) d c.in_ok-sought.sought c.in-Some.found c.in-Some.is (c.in_ok-sought.ensures.read (k1.shows shows) d one));
       absent = none_if (is_there c.args.name) d c.in_ok-search.field-0 (sym c.is_some.ensures ∙ c.if-is_some.false) (c.in_ok-search.ensures.read shows d h);
     }
+
+pub returns-then-is_some-clause-later : goal.returns-then-is_some-clause-later
+returns-then-is_some-clause-later g c = g.met.P.PageSpace.later_then _ _ _ _ (c.search.ensures.later _) (c.broken.ensures.later _)
+
+pub returns-in_err-sought-clause-later : goal.returns-in_err-sought-clause-later
+returns-in_err-sought-clause-later g c = g.met.P.PageSpace.later_then _ _ _ _ (c.search.ensures.later _) (c.search-2.ensures.later _)
+
+pub returns-in_default-clause-later : goal.returns-in_default-clause-later
+returns-in_default-clause-later g c =
+    let then = g.met.P.PageSpace.later_then _ in
+    then _ _ _ (c.search.ensures.later _) (then _ _ _ (c.search-2.ensures.later _) (c.broken-in_default.ensures.later _))
+
+pub returns-in_err-set_row-clause-later : goal.returns-in_err-set_row-clause-later
+returns-in_err-set_row-clause-later g c =
+    let then = g.met.P.PageSpace.later_then _ in
+    then _ _ _ (c.search.ensures.later _) (then _ _ _ (c.search-2.ensures.later _) c.set_row.ensures.later)
+
+pub returns-clause-later : goal.returns-clause-later
+returns-clause-later g c =
+    let then = g.met.P.PageSpace.later_then _ in
+    then _ _ _ (c.search.ensures.later _) (then _ _ _ (c.search-2.ensures.later _) c.set_row.ensures.later)

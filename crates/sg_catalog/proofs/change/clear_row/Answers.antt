@@ -2,8 +2,8 @@ use Rattle.sg_ops.specs.Table.{table_of}
 use Rattle.sg_catalog.proofs.Turned.{clear_row_can, clear_row_turns}
 use Rattle.sg_catalog.proofs.change.clear_row.Goals as goal
 
-pub change-requires : goal.change-requires
-change-requires g c = λ told. let h = c.requires told in clear_row_can _ _ h.1 h.3
+pub change-requires-clause-can : goal.change-requires-clause-can
+change-requires-clause-can g c = λ told. let h = c.requires.can told in clear_row_can _ _ h.1 h.3
 
 pub returns-clause-did : goal.returns-clause-did
 returns-clause-did g c = record {

@@ -3,8 +3,8 @@ use Rattle.sg_space.proofs.Changing.{put_keeps}
 use Rattle.sg_catalog.proofs.Turned.{fill_place_can, fill_place_turns}
 use Rattle.sg_catalog.proofs.change.fill_place.Goals as goal
 
-pub change-requires : goal.change-requires
-change-requires g c = λ told. let h = c.requires told in fill_place_can _ _ c.args.row _ c.spell_row-size.ensures.bytes c.spell_row-size.ensures.formed h.1 h.3
+pub change-requires-clause-can : goal.change-requires-clause-can
+change-requires-clause-can g c = λ told. let h = c.requires.can told in fill_place_can _ _ c.args.row _ c.spell_row-size.ensures.bytes c.spell_row-size.ensures.formed h.1 h.3
 
 pub returns-clause-keeps : goal.returns-clause-keeps
 returns-clause-keeps g c = λ told. put_keeps c.in_ok-change.ensures.did

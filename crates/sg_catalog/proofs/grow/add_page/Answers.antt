@@ -7,12 +7,12 @@ use Rattle.sg_catalog.proofs.Growth.{last_there, page_turns}
 use Rattle.sg_catalog.proofs.grow.add_page.Goals as goal
 
 pub take_page_with-requires-clause-free : goal.take_page_with-requires-clause-free
-take_page_with-requires-clause-free g c = λ told. (c.requires told).2.free
+take_page_with-requires-clause-free g c = λ told. (c.requires.can told).2.free
 
-pub set_next-requires : goal.set_next-requires
-set_next-requires g c = λ told.
+pub set_next-requires-clause-can : goal.set_next-requires-clause-can
+set_next-requires-clause-can g c = λ told.
     let back = c.take_page_with.ensures.counts.told told in
-    let h = c.requires back in
+    let h = c.requires.can back in
     last_there h.1 (h.2).at_last (c.in_ok-page.ensures.did.pages back)
 
 pub returns-clause-did : goal.returns-clause-did
@@ -20,7 +20,7 @@ returns-clause-did g c =
     let took = c.in_ok-page.ensures.did in
     let linked = c.in_ok-set_next.ensures.did in
     record {
-      keeps = λ t. keeps_then (record { told = took.told; table = took.table; may_take = took.may_take; may_have = took.may_have }) (linked.keeps (took.told t));
+      keeps = λ t. keeps_then (record { told = took.told; may_take = took.may_take; may_have = took.may_have }) (linked.keeps (took.told t));
       turns = λ t d h can. (
         c.in_ok-page.page.0,
         page_turns h (record {

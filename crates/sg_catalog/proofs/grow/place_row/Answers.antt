@@ -1,14 +1,14 @@
 use Rattle.sg_catalog.proofs.Adding.{can_put, free_found, can_link, placed_in, placed_behind}
 use Rattle.sg_catalog.proofs.grow.place_row.Goals as goal
 
-pub fill_place-requires : goal.fill_place-requires
-fill_place-requires g c = λ told.
-    let h = c.requires told in
+pub fill_place-requires-clause-can : goal.fill_place-requires-clause-can
+fill_place-requires-clause-can g c = λ told.
+    let h = c.requires.can told in
     let free = free_found c.in-Some.spot (h.2).survey c.in-Some.is in
     (h.0, (h.1).raw, free.place, can_put c.in-Some.spot free (h.2).grow)
 
-pub add_page-requires : goal.add_page-requires
-add_page-requires g c = λ told. let h = c.requires told in (h.0, (h.1).raw, can_link h.2 c.in-None.is)
+pub add_page-requires-clause-can : goal.add_page-requires-clause-can
+add_page-requires-clause-can g c = λ told. let h = c.requires.can told in (h.0, (h.1).raw, can_link h.2 c.in-None.is)
 
 pub returns-in_ok-fill_place-in-Some-clause-did : goal.returns-in_ok-fill_place-in-Some-clause-did
 returns-in_ok-fill_place-in-Some-clause-did g c = record {

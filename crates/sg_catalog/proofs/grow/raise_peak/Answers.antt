@@ -7,8 +7,8 @@ use Rattle.sg_catalog.proofs.Parts.{owned_there}
 use Rattle.sg_catalog.proofs.Turned.{turns_same}
 use Rattle.sg_catalog.proofs.grow.raise_peak.Goals as goal
 
-pub set_peak-requires : goal.set_peak-requires
-set_peak-requires g c = λ told. let h = c.requires told in owned_there 0 h.1 (0, (h.1).first)
+pub set_peak-requires-clause-can : goal.set_peak-requires-clause-can
+set_peak-requires-clause-can g c = λ told. let h = c.requires.can told in owned_there 0 h.1 (0, (h.1).first)
 
 pub returns-then-rows-peak-clause-did : goal.returns-then-rows-peak-clause-did
 returns-then-rows-peak-clause-did g c =

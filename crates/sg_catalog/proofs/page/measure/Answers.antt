@@ -13,3 +13,6 @@ broken-requires g c = λ told.
 
 pub returns-in-Ok-clause-read : goal.returns-in-Ok-clause-read
 returns-in-Ok-clause-read g c = λ shows d j h at. measures_here j c.args.p.0 _ h at (c.in_ok-view.ensures.looked shows) c.in-Ok.found c.in-Ok.ensures
+
+pub returns-in-Err-clause-later : goal.returns-in-Err-clause-later
+returns-in-Err-clause-later g c = λ t. g.met.P.PageSpace.later_then t _ _ _ (c.page.follows.holds-at-none.later t) (c.broken.ensures.later t)

@@ -1,11 +1,11 @@
-use Rattle.std.proofs.Common.{◌<◌, ◌≤◌, arith}
+use Rattle.std.proofs.Common.{◌∙◌, ◌<◌, ◌≤◌, arith}
 use Rattle.sg_catalog.proofs.Parts.{still_raw}
 use Rattle.sg_catalog.proofs.Walks.{next_owned, names_more, walks_on}
 use Rattle.sg_catalog.proofs.walk.list_all.Goals as goal
 
 pub gather-requires-in-pages : goal.gather-requires-in-pages
 gather-requires-in-pages g c = λ told.
-    let i = c.pages.invariant in
+    let i = c.pages.invariant.walk in
     let back = i.told told in
     let h = c.requires back in
     let test = c.pages-test.true in
@@ -14,8 +14,19 @@ gather-requires-in-pages g c = λ told.
 
 pub pages-preserved : goal.pages-preserved
 pages-preserved g c =
-    let i = c.pages.invariant in
+    let i = c.pages.invariant.walk in
     let test = c.pages-test.true in
     let counts = c.gather-in-pages.ensures.counts in
-    walks_on c.in_ok-head.head i (omega arith) counts.told counts.later c.in_ok-head.ensures.kept (λ shows d j h at. (c.in_ok-head.ensures.read shows d j h at).header) (λ shows d h at q.
-    names_more d.places c.pages.counter c.pages.all.items c.gather-in-pages.new.names.items q (c.in_ok-head.ensures.read (i.kept.shows shows) d c.pages.counter (still_raw i.kept shows h.raw) at).names)
+    record {
+      walk = walks_on c.in_ok-head.head i (omega arith) counts.told counts.later c.in_ok-head.ensures.kept (λ shows d j h at. (c.in_ok-head.ensures.read shows d j h at).header) (λ shows d h at q.
+          names_more d.places c.pages.counter c.pages.all.items c.gather-in-pages.new.names.items q (c.in_ok-head.ensures.read (i.kept.shows shows) d c.pages.counter (still_raw i.kept shows h.raw) at).names);
+      later = λ t. g.met.P.PageSpace.later_then t _ _ _ (c.pages.invariant.later t) (c.gather-in-pages.ensures.later t);
+      means = λ t m. c.gather-in-pages.ensures.means t (c.pages.invariant.means t m);
+      quiet = c.in_ok-head.ensures.counts.quiet ∙ c.pages.invariant.quiet;
+    }
+
+pub returns-in_err-head-clause-later : goal.returns-in_err-head-clause-later
+returns-in_err-head-clause-later g c = λ t. g.met.P.PageSpace.later_then t _ _ _ (c.pages.invariant.later t) (c.gather-in-pages.ensures.later t)
+
+pub returns-then-ne-clause-later : goal.returns-then-ne-clause-later
+returns-then-ne-clause-later g c = λ t. g.met.P.PageSpace.later_then t _ _ _ (c.pages.invariant.later t) (c.broken-then-ne.ensures.later t)

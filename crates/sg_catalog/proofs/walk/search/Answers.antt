@@ -11,7 +11,7 @@ returns-then-is_some-clause-read g c = λ shows d h.
 
 pub broken-requires : goal.broken-requires
 broken-requires g c = λ told.
-    let i = c.pages.invariant in
+    let i = c.pages.invariant.walk in
     let back = i.told told in
     let h = c.requires back in
     let a = i.at (g.met.P.PageSpace.told_shows _ back) h.0 h.1 in
@@ -22,7 +22,7 @@ broken-requires g c = λ told.
 
 pub look-requires-in-pages : goal.look-requires-in-pages
 look-requires-in-pages g c = λ told.
-    let i = c.pages.invariant in
+    let i = c.pages.invariant.walk in
     let back = i.told told in
     let h = c.requires back in
     let test = c.pages-test.true in
@@ -31,7 +31,7 @@ look-requires-in-pages g c = λ told.
 
 pub returns-then-is_some-2-clause-read : goal.returns-then-is_some-2-clause-read
 returns-then-is_some-2-clause-read g c = λ shows d h.
-    let i = c.pages.invariant in
+    let i = c.pages.invariant.walk in
     let a = i.at shows d h in
     let test = c.pages-test.true in
     let count = a.count in
@@ -41,10 +41,24 @@ returns-then-is_some-2-clause-read g c = λ shows d h.
 
 pub pages-preserved : goal.pages-preserved
 pages-preserved g c =
-    let i = c.pages.invariant in
+    let i = c.pages.invariant.walk in
     let test = c.pages-test.true in
     let counts = c.look-in-pages.ensures.counts in
-    walks_on c.in_ok-seen.seen.head i (omega arith) counts.told counts.later c.in_ok-seen.ensures.kept (λ shows d j h at. (c.in_ok-seen.ensures.read shows d j h at).header) (λ shows d h at q.
-    none_more (fits c.args.wanted.now) d c.pages.counter q
-    (searched_none (fits c.args.wanted.now) d c.pages.counter c.in_ok-seen.seen.found (sym c.is_some-in-pages.ensures ∙ c.if-is_some-2.false)
-    (c.in_ok-seen.ensures.read (i.kept.shows shows) d c.pages.counter (still_raw i.kept shows h.raw) at).found))
+    record {
+      walk = walks_on c.in_ok-seen.seen.head i (omega arith) counts.told counts.later c.in_ok-seen.ensures.kept (λ shows d j h at. (c.in_ok-seen.ensures.read shows d j h at).header) (λ shows d h at q.
+          none_more (fits c.args.wanted.now) d c.pages.counter q
+          (searched_none (fits c.args.wanted.now) d c.pages.counter c.in_ok-seen.seen.found (sym c.is_some-in-pages.ensures ∙ c.if-is_some-2.false)
+          (c.in_ok-seen.ensures.read (i.kept.shows shows) d c.pages.counter (still_raw i.kept shows h.raw) at).found));
+      later = λ t. g.met.P.PageSpace.later_then t _ _ _ (c.pages.invariant.later t) (c.look-in-pages.ensures.later t);
+      means = λ t m. c.look-in-pages.ensures.means t (c.pages.invariant.means t m);
+      quiet = c.in_ok-seen.ensures.counts.quiet ∙ c.pages.invariant.quiet;
+    }
+
+pub returns-then-is_some-2-clause-later : goal.returns-then-is_some-2-clause-later
+returns-then-is_some-2-clause-later g c = λ t. g.met.P.PageSpace.later_then t _ _ _ (c.pages.invariant.later t) (c.look-in-pages.ensures.later t)
+
+pub returns-then-ne-clause-later : goal.returns-then-ne-clause-later
+returns-then-ne-clause-later g c = λ t. g.met.P.PageSpace.later_then t _ _ _ (c.pages.invariant.later t) (c.broken-then-ne.ensures.later t)
+
+pub returns-in_err-seen-clause-later : goal.returns-in_err-seen-clause-later
+returns-in_err-seen-clause-later g c = λ t. g.met.P.PageSpace.later_then t _ _ _ (c.pages.invariant.later t) (c.look-in-pages.ensures.later t)

@@ -1,4 +1,4 @@
-use Rattle.std.proofs.Common.{◌≡◌, ℕ, ◌+◌, ◌*◌, ◌<◌, ◌≤◌, arith, refl}
+use Rattle.std.proofs.Common.{◌∙◌, ◌≡◌, ℕ, ◌+◌, ◌*◌, ◌<◌, ◌≤◌, arith, refl}
 use Rattle.std.proofs.lemmas.Bool.Decides.{nat_tests}
 use Rattle.sg_space.proofs.Known.{reads_then}
 use Rattle.sg_catalog.proofs.Parts.{still_raw}
@@ -20,6 +20,9 @@ pages-init g c =
             surveyed_more _ d 0 _ h.raw.first c.in_ok-first.first _ c.with_page-all.result few (surveyed_none _ d _ refl (m.header.peak refl) refl) m c.with_page-all.ensures,
           )) c.in_ok-pages.ensures.number;
       most = omega arith;
+      later = λ t. g.met.P.PageSpace.later_then t _ _ _ (c.measure.ensures.later t) (c.pages_wanted.ensures.later t);
+      means = λ t m. c.pages_wanted.ensures.means t (c.measure.ensures.means t m);
+      quiet = c.in_ok-pages.ensures.counts.quiet ∙ c.in_ok-first.ensures.counts.quiet;
     }
 
 pub broken-requires : goal.broken-requires
@@ -55,4 +58,13 @@ pages-preserved g c =
           surveyed_more _ d c.pages.counter c.pages.next at c.in_ok-found.found c.pages.all c.with_page-all-in-pages.result few q
           (measures_before i.kept shows (c.in_ok-found.ensures.read (i.kept.shows shows) d c.pages.counter (still_raw i.kept shows h.raw) at)) c.with_page-all-in-pages.ensures);
       most = omega arith;
+      later = λ t. g.met.P.PageSpace.later_then t _ _ _ (c.pages.invariant.later t) (c.measure-in-pages.ensures.later t);
+      means = λ t m. c.measure-in-pages.ensures.means t (c.pages.invariant.means t m);
+      quiet = c.in_ok-found.ensures.counts.quiet ∙ c.pages.invariant.quiet;
     }
+
+pub returns-in_err-found-clause-later : goal.returns-in_err-found-clause-later
+returns-in_err-found-clause-later g c = λ t. g.met.P.PageSpace.later_then t _ _ _ (c.pages.invariant.later t) (c.measure-in-pages.ensures.later t)
+
+pub returns-then-ne-clause-later : goal.returns-then-ne-clause-later
+returns-then-ne-clause-later g c = λ t. g.met.P.PageSpace.later_then t _ _ _ (c.pages.invariant.later t) (c.broken-then-ne.ensures.later t)

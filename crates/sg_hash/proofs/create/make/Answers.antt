@@ -6,10 +6,10 @@ use Rattle.sg_hash.proofs.Making.{first_table, made, may_grow, no_numbers}
 use Rattle.sg_hash.specs.Steps.{numbers_in}
 use Rattle.sg_hash.proofs.create.make.Goals as goal
 
-pub take_root-requires : goal.take_root-requires
-take_root-requires g c = λ told.
+pub take_root-requires-clause-can : goal.take_root-requires-clause-can
+take_root-requires-clause-can g c = λ told.
     let back = c.start.ensures.counts.told told in
-    let h = c.requires back in
+    let h = c.requires.can back in
     let did = c.in_ok-directory.ensures.did in
     let s = (did.done back).2 in
     record { some = (let f = h.free in let x = s.pages.exactly in omega arith); may = (did.keeps back).may_take h.may_take }

@@ -6,8 +6,8 @@ use Rattle.sg_bucket.proofs.Changing.{links_can}
 use Rattle.sg_hash.specs.Table.{root_cell, root_sheet}
 use Rattle.sg_hash.proofs.create.take_root.Goals as goal
 
-pub change-requires : goal.change-requires
-change-requires g c = λ told.
+pub change-requires-clause-can : goal.change-requires-clause-can
+change-requires-clause-can g c = λ told.
     let back = c.take_page_with.ensures.counts.told told in
     links_can ((c.in_ok-root.ensures.did.pages back).fresh)
 
@@ -18,7 +18,7 @@ returns-clause-did g c =
     record {
       keeps = λ told.
           let k = keeps_but did (λ sheet is. refl) in
-          record { told = λ t. k.told (took.told t); table = λ t h. k.table t (took.table t h); may_take = λ h. k.may_take (took.may_take h); may_have = λ p n h. k.may_have p n (took.may_have p n h) };
+          record { told = λ t. k.told (took.told t); may_take = λ h. k.may_take (took.may_take h); may_have = λ p n h. k.may_have p n (took.may_have p n h) };
       pages = λ told.
           let one = took.pages told in
           let two = did.pages (took.told told) in

@@ -65,3 +65,18 @@ returns-clause-did g c =
     gone_calls (λ t. g.met.P.PageSpace.told_shows _ t) both one two three
     (λ shows t h. c.in_ok-directory.ensures.read (kept.shows shows) _ t (still_trunk kept shows h.built.trunk))
     (λ shows t h. all_buckets c.in_ok-found.found h (c.in_ok-found.ensures.read shows _ t h.built.trunk) c.buckets.ensures)
+
+pub returns-in_err-free_all-clause-later : goal.returns-in_err-free_all-clause-later
+returns-in_err-free_all-clause-later g c = λ t.
+    let then = g.met.P.PageSpace.later_then t in
+    then _ _ _ (c.read_root.ensures.later t) (then _ _ _ (c.directory_of.ensures.later t) (then _ _ _ (c.free_buckets.ensures.later t) (c.free_all.ensures.later t)))
+
+pub returns-in_err-free_page-clause-later : goal.returns-in_err-free_page-clause-later
+returns-in_err-free_page-clause-later g c = λ t.
+    let then = g.met.P.PageSpace.later_then t in
+    then _ _ _ (c.read_root.ensures.later t) (then _ _ _ (c.directory_of.ensures.later t) (then _ _ _ (c.free_buckets.ensures.later t) (then _ _ _ (c.free_all.ensures.later t) (c.free_page.ensures.later t))))
+
+pub returns-clause-later : goal.returns-clause-later
+returns-clause-later g c = λ t.
+    let then = g.met.P.PageSpace.later_then t in
+    then _ _ _ (c.read_root.ensures.later t) (then _ _ _ (c.directory_of.ensures.later t) (then _ _ _ (c.free_buckets.ensures.later t) (then _ _ _ (c.free_all.ensures.later t) (c.free_page.ensures.later t))))

@@ -1,15 +1,21 @@
-use Rattle.std.proofs.Common.{◌≡◌, ◌≤◌, ◌<◌, ℕ, length, sym, ap, subst, arith}
+use Rattle.std.proofs.Common.{◌∙◌, refl, ◌≡◌, ◌≤◌, ◌<◌, ℕ, length, sym, ap, subst, arith}
 use Rattle.sg_space.specs.View.{Space}
 use Rattle.sg_hash.specs.Steps.{AreFreed, FreesBuckets}
 use Rattle.sg_hash.proofs.Freeing.{frees_none, frees_on, trunk_left, bucket_found, same_many}
 use Rattle.sg_hash.proofs.free.free_buckets.Goals as goal
 
 pub loop-i-init : goal.loop-i-init
-loop-i-init g c = frees_none _ _
+loop-i-init g c =
+    record {
+      so_far = frees_none _ _;
+      later = λ t. g.met.P.PageSpace.later_same t _;
+      means = λ t m. m;
+      quiet = refl;
+    }
 
 pub bucket_at-requires : goal.bucket_at-requires
 bucket_at-requires g c = λ told.
-    let i = c.loop-i.invariant in
+    let i = c.loop-i.invariant.so_far in
     let back = i.back told in
     let h = c.requires back in
     let test = c.loop-i-test.true in
@@ -18,7 +24,7 @@ bucket_at-requires g c = λ told.
 
 pub free_all-requires : goal.free_all-requires
 free_all-requires g c = λ told.
-    let i = c.loop-i.invariant in
+    let i = c.loop-i.invariant.so_far in
     let then = c.bucket_at.ensures.counts.told told in
     let back = i.back then in
     let shows = g.met.P.PageSpace.told_shows _ then in
@@ -32,16 +38,21 @@ free_all-requires g c = λ told.
 
 pub loop-i-preserved : goal.loop-i-preserved
 loop-i-preserved g c =
-    let i = c.loop-i.invariant in
+    let i = c.loop-i.invariant.so_far in
     let test = c.loop-i-test.true in
     let read = c.bucket_at.ensures.counts in
     let counts = c.free_all.ensures.counts in
-    frees_on i (λ t. g.met.P.PageSpace.told_shows _ t) c.in_ok-first.ensures.kept read.told read.later counts.told counts.later c.in_ok-free_all.ensures.did
-    (λ told t h. c.in_ok-first.ensures.read (g.met.P.PageSpace.told_shows _ (i.frees.told told)) _ t (trunk_left h.built (i.frees.freed told t h)) (let own = c.requires told in let same = same_many h own.1 in let many = own.2 in omega arith))
+    record {
+      so_far = frees_on i (λ t. g.met.P.PageSpace.told_shows _ t) c.in_ok-first.ensures.kept read.told read.later counts.told counts.later c.in_ok-free_all.ensures.did
+          (λ told t h. c.in_ok-first.ensures.read (g.met.P.PageSpace.told_shows _ (i.frees.told told)) _ t (trunk_left h.built (i.frees.freed told t h)) (let own = c.requires told in let same = same_many h own.1 in let many = own.2 in omega arith));
+      later = λ t. let then = g.met.P.PageSpace.later_then t in then _ _ _ (c.loop-i.invariant.later t) (then _ _ _ (c.bucket_at.ensures.later t) (c.free_all.ensures.later t));
+      means = λ t m. c.free_all.ensures.means t (c.bucket_at.ensures.means t (c.loop-i.invariant.means t m));
+      quiet = c.in_ok-free_all.ensures.counts.quiet ∙ c.in_ok-first.ensures.counts.quiet ∙ c.loop-i.invariant.quiet;
+    }
 
 pub returns-clause-did : goal.returns-clause-did
 returns-clause-did g c =
-    let i = c.loop-i.invariant in
+    let i = c.loop-i.invariant.so_far in
     let test = c.loop-i-test.false in
     let end = c.loop-i.auto.i-end in
     let same : c.loop-i.i ≡ c.args.count = omega arith in

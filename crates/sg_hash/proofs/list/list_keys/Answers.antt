@@ -12,11 +12,17 @@ pub read_root-requires : goal.read_root-requires
 read_root-requires g c = λ told. let h = c.requires told in (_, h.0, h.1.built.trunk, tt)
 
 pub loop-i-init : goal.loop-i-init
-loop-i-init g c = lists_start c.new-all.ensures.items c.in_ok-found.ensures.kept c.read_root.ensures.counts.told c.read_root.ensures.counts.later
+loop-i-init g c =
+    record {
+      so_far = lists_start c.new-all.ensures.items c.in_ok-found.ensures.kept c.read_root.ensures.counts.told c.read_root.ensures.counts.later;
+      later = λ t. c.read_root.ensures.later t;
+      means = λ t m. c.read_root.ensures.means t m;
+      quiet = c.in_ok-found.ensures.counts.quiet;
+    }
 
 pub bucket_at-requires : goal.bucket_at-requires
 bucket_at-requires g c = λ told.
-    let i = c.loop-i.invariant in
+    let i = c.loop-i.invariant.so_far in
     let back = i.back told in
     let shows = g.met.P.PageSpace.told_shows _ back in
     let h = c.requires back in
@@ -26,7 +32,7 @@ bucket_at-requires g c = λ told.
 
 pub keys-requires : goal.keys-requires
 keys-requires g c = λ told.
-    let i = c.loop-i.invariant in
+    let i = c.loop-i.invariant.so_far in
     let then = c.bucket_at.ensures.counts.told told in
     let back = i.back then in
     let shows = g.met.P.PageSpace.told_shows _ back in
@@ -39,22 +45,35 @@ keys-requires g c = λ told.
 
 pub loop-i-preserved : goal.loop-i-preserved
 loop-i-preserved g c =
-    let i = c.loop-i.invariant in
+    let i = c.loop-i.invariant.so_far in
     let test = c.loop-i-test.true in
     let read = c.bucket_at.ensures.counts in
     let counts = c.keys.ensures.counts in
     let one = read.later in
     let two = counts.later in
-    lists_on i (reads_then c.in_ok-first.ensures.kept c.in_ok-keys.ensures.kept) (λ told. read.told (counts.told told)) (omega arith) (λ shows t h.
-    let many = all_buckets c.in_ok-found.found h (c.in_ok-found.ensures.read shows _ t h.built.trunk) c.buckets-count.ensures in
-    let now = still_table i.kept shows h in
-    let there = i.kept.shows shows in
-    let first = c.in_ok-first.ensures.read there _ t now.built.trunk (omega arith) in
-    (first.bucket, first.is, c.in_ok-keys.ensures.read (c.in_ok-first.ensures.kept.shows there) first.bucket (found_bucket (still_table c.in_ok-first.ensures.kept there now) first).linked))
+    record {
+      so_far = lists_on i (reads_then c.in_ok-first.ensures.kept c.in_ok-keys.ensures.kept) (λ told. read.told (counts.told told)) (omega arith) (λ shows t h.
+          let many = all_buckets c.in_ok-found.found h (c.in_ok-found.ensures.read shows _ t h.built.trunk) c.buckets-count.ensures in
+          let now = still_table i.kept shows h in
+          let there = i.kept.shows shows in
+          let first = c.in_ok-first.ensures.read there _ t now.built.trunk (omega arith) in
+          (first.bucket, first.is, c.in_ok-keys.ensures.read (c.in_ok-first.ensures.kept.shows there) first.bucket (found_bucket (still_table c.in_ok-first.ensures.kept there now) first).linked));
+      later = λ t. let then = g.met.P.PageSpace.later_then t in then _ _ _ (c.loop-i.invariant.later t) (then _ _ _ (c.bucket_at.ensures.later t) (c.keys.ensures.later t));
+      means = λ t m. c.keys.ensures.means t (c.bucket_at.ensures.means t (c.loop-i.invariant.means t m));
+      quiet = c.in_ok-keys.ensures.counts.quiet ∙ c.in_ok-first.ensures.counts.quiet ∙ c.loop-i.invariant.quiet;
+    }
 
 pub returns-clause-read : goal.returns-clause-read
 returns-clause-read g c =
-    let i = c.loop-i.invariant in
+    let i = c.loop-i.invariant.so_far in
     let test = c.loop-i-test.false in
     let end = c.loop-i.auto.i-end in
     lists_all i (λ shows t h. let many = all_buckets c.in_ok-found.found h (c.in_ok-found.ensures.read shows _ t h.built.trunk) c.buckets-count.ensures in omega arith)
+
+pub returns-in_err-first-clause-later : goal.returns-in_err-first-clause-later
+returns-in_err-first-clause-later g c = λ t. g.met.P.PageSpace.later_then t _ _ _ (c.loop-i.invariant.later t) (c.bucket_at.ensures.later t)
+
+pub returns-in_err-keys-clause-later : goal.returns-in_err-keys-clause-later
+returns-in_err-keys-clause-later g c = λ t.
+    let then = g.met.P.PageSpace.later_then t in
+    then _ _ _ (c.loop-i.invariant.later t) (then _ _ _ (c.bucket_at.ensures.later t) (c.keys.ensures.later t))

@@ -21,3 +21,6 @@ returns-clause-read g c = λ shows n t h.
     let looked = c.in_ok-view.ensures.looked shows in
     let same = same_some _ _ (sym h.first ∙ looked) in
     ap (λ (s : Sheet). s.links.0) same ∙ sym (ap (λ (x : ℕ × ℕ). x.0) c.links-directory.ensures)
+
+pub returns-then-kind-ne-ROOT_KIND-clause-later : goal.returns-then-kind-ne-ROOT_KIND-clause-later
+returns-then-kind-ne-ROOT_KIND-clause-later g c = λ t. g.met.P.PageSpace.later_then t _ _ _ (c.page.follows.holds-at-none.later t) (c.broken.ensures.later t)

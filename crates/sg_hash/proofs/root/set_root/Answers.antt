@@ -11,9 +11,9 @@ use Rattle.sg_hash.specs.Steps.{numbers_in}
 use Rattle.sg_hash.proofs.Roots.{numbers_range, root_step, root_possible}
 use Rattle.sg_hash.proofs.root.set_root.Goals as goal
 
-pub change-requires : goal.change-requires
-change-requires g c = λ told.
-    let h = c.requires told in
+pub change-requires-clause-can : goal.change-requires-clause-can
+change-requires-clause-can g c = λ told.
+    let h = c.requires.can told in
     root_possible _ _ h.numbers c.spell_root-cell.result h.page (ap (λ (x : List ℕ). length x) c.spell_root-cell.ensures)
 
 pub returns-clause-did : goal.returns-clause-did
@@ -23,7 +23,7 @@ returns-clause-did g c =
     let long : length c.spell_root-cell.result ≡ 25 = ap (λ (x : List ℕ). length x) c.spell_root-cell.ensures in
     record {
       keeps = λ told.
-          let h = c.requires told in
+          let h = c.requires.can told in
           keeps_but did (λ sheet is. subst (λ (s : Sheet). shrinks (Set 0 c.spell_root-cell.result) s ≡ false) (same_some _ _ (sym h.page ∙ is)) (same_size (Some (root_cell h.numbers) ∷ []) 0 (root_cell h.numbers) c.spell_root-cell.result refl long));
       pages = λ told n directory is.
           let pages = did.pages told in

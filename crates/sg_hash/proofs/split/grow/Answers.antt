@@ -7,13 +7,13 @@ use Rattle.sg_hash.proofs.Trunks.{still_table, still_trunk}
 use Rattle.sg_hash.proofs.split.grow.Goals as goal
 
 pub read_root-requires : goal.read_root-requires
-read_root-requires g c = λ told. let h = c.requires told in (_, h.0, h.1.built.trunk, tt)
+read_root-requires g c = λ told. let h = c.requires.can told in (_, h.0, h.1.built.trunk, tt)
 
 pub bucket_at-requires : goal.bucket_at-requires
 bucket_at-requires g c = λ told.
     let back = c.read_root.ensures.counts.told told in
     let shows = g.met.P.PageSpace.told_shows _ back in
-    let h = c.requires back in
+    let h = c.requires.can back in
     let same = c.in_ok-found.ensures.read shows _ h.0 h.1.built.trunk in
     (_, h.0, still_trunk c.in_ok-found.ensures.kept shows h.1.built.trunk, split_below c.in_ok-found.found h.0 h.1 same)
 
@@ -21,7 +21,7 @@ pub pages-requires : goal.pages-requires
 pages-requires g c = λ told.
     let back = c.read_root.ensures.counts.told (c.bucket_at.ensures.counts.told told) in
     let shows = g.met.P.PageSpace.told_shows _ back in
-    let h = c.requires back in
+    let h = c.requires.can back in
     let kept = c.in_ok-found.ensures.kept in
     let same = c.in_ok-found.ensures.read shows _ h.0 h.1.built.trunk in
     let f = c.in_ok-first.ensures.read (kept.shows shows) _ h.0 (still_trunk kept shows h.1.built.trunk) (split_below c.in_ok-found.found h.0 h.1 same) in
@@ -34,7 +34,7 @@ pub split_next-requires-clause-there : goal.split_next-requires-clause-there
 split_next-requires-clause-there g c = λ told.
     let back = c.read_root.ensures.counts.told (c.bucket_at.ensures.counts.told (c.pages.ensures.counts.told told)) in
     let shows = g.met.P.PageSpace.told_shows _ back in
-    let h = c.requires back in
+    let h = c.requires.can back in
     let kept = c.in_ok-found.ensures.kept in
     let both = reads_then kept c.in_ok-first.ensures.kept in
     let same = c.in_ok-found.ensures.read shows _ h.0 h.1.built.trunk in

@@ -17,8 +17,8 @@ bucket_at-requires g c = λ told.
     let h = c.requires.there back in
     (_, h.0, still_trunk c.in_ok-directory.ensures.kept shows h.1.built.trunk, split_below c.args.found h.0 h.1 h.2.numbers)
 
-pub branch-space-requires : goal.branch-space-requires
-branch-space-requires g c = λ told.
+pub branch-space-requires-clause-can : goal.branch-space-requires-clause-can
+branch-space-requires-clause-can g c = λ told.
     let back = c.directory_of.ensures.counts.told (c.bucket_at.ensures.counts.told told) in
     let shows = g.met.P.PageSpace.told_shows _ back in
     let h = c.requires.there back in
@@ -27,8 +27,8 @@ branch-space-requires g c = λ told.
     let f = first_of c.args.found h.0 h.2.numbers (c.in_ok-first.ensures.read (kept.shows shows) _ h.0 (still_trunk kept shows h.1.built.trunk) (split_below c.args.found h.0 h.1 h.2.numbers)) in
     (f.bucket, (found_bucket (still_table both shows h.1) f).linked, can_branch both shows h.1 h.2 f)
 
-pub push-requires : goal.push-requires
-push-requires g c = λ told.
+pub push-requires-clause-can : goal.push-requires-clause-can
+push-requires-clause-can g c = λ told.
     let mid = c.branch-space.ensures.counts.told told in
     let back = c.directory_of.ensures.counts.told (c.bucket_at.ensures.counts.told mid) in
     let shows = g.met.P.PageSpace.told_shows _ back in
@@ -41,8 +41,8 @@ push-requires g c = λ told.
     let q = is_next c.args.found c.grown-extent.result c.buckets-bucket.result (record { extent = c.grown-extent.result; bucket = c.buckets-bucket.result }) h.1 h.2.numbers c.requires.room refl refl c.buckets-bucket.ensures c.grown-extent.ensures.value c.grown-extent.ensures.divides in
     (h.0.names, names_at both shows one.1 h.1 is, can_name both shows (c.in_ok-new.ensures.did.keeps mid) one.1 (h.2.short f.bucket f.is) h.1 h.2 q.few (ap (λ (x : List ℕ). length x) c.write_u32.ensures.bytes) is)
 
-pub prune-requires : goal.prune-requires
-prune-requires g c = λ told.
+pub prune-requires-clause-can : goal.prune-requires-clause-can
+prune-requires-clause-can g c = λ told.
     let last = c.push.ensures.counts.told told in
     let mid = c.branch-space.ensures.counts.told last in
     let back = c.directory_of.ensures.counts.told (c.bucket_at.ensures.counts.told mid) in
@@ -58,8 +58,8 @@ prune-requires g c = λ told.
     let b = kept_at both shows h.1 f one.1 two.1 two.2 c.write_u32.ensures.bytes is in
     (f.bucket, b.linked, record { once = b.once; full = b.full })
 
-pub set_root-requires : goal.set_root-requires
-set_root-requires g c = λ told.
+pub set_root-requires-clause-can : goal.set_root-requires-clause-can
+set_root-requires-clause-can g c = λ told.
     let end = c.prune.ensures.counts.told told in
     let last = c.push.ensures.counts.told end in
     let mid = c.branch-space.ensures.counts.told last in
@@ -84,3 +84,23 @@ returns-clause-did g c =
     (λ shows t h. c.in_ok-directory.ensures.read shows _ t h.built.trunk)
     (λ shows t h same. first_of c.args.found t same (c.in_ok-first.ensures.read (kept.shows shows) _ t (still_trunk kept shows h.built.trunk) (split_below c.args.found t h same)))
     (λ shows t h same. is_next c.args.found c.grown-extent.result c.buckets-bucket.result (record { extent = c.grown-extent.result; bucket = c.buckets-bucket.result }) h same c.requires.room refl refl c.buckets-bucket.ensures c.grown-extent.ensures.value c.grown-extent.ensures.divides)
+
+pub returns-in_err-push-clause-later : goal.returns-in_err-push-clause-later
+returns-in_err-push-clause-later g c =
+    let then = g.met.P.PageSpace.later_then _ in
+    then _ _ _ (c.directory_of.ensures.later _) (then _ _ _ (c.bucket_at.ensures.later _) (then _ _ _ c.branch-space.ensures.later c.push.ensures.later))
+
+pub returns-in_err-prune-clause-later : goal.returns-in_err-prune-clause-later
+returns-in_err-prune-clause-later g c =
+    let then = g.met.P.PageSpace.later_then _ in
+    then _ _ _ (c.directory_of.ensures.later _) (then _ _ _ (c.bucket_at.ensures.later _) (then _ _ _ c.branch-space.ensures.later (then _ _ _ c.push.ensures.later c.prune.ensures.later)))
+
+pub returns-in_err-set_root-clause-later : goal.returns-in_err-set_root-clause-later
+returns-in_err-set_root-clause-later g c =
+    let then = g.met.P.PageSpace.later_then _ in
+    then _ _ _ (c.directory_of.ensures.later _) (then _ _ _ (c.bucket_at.ensures.later _) (then _ _ _ c.branch-space.ensures.later (then _ _ _ c.push.ensures.later (then _ _ _ c.prune.ensures.later c.set_root.ensures.later))))
+
+pub returns-clause-later : goal.returns-clause-later
+returns-clause-later g c =
+    let then = g.met.P.PageSpace.later_then _ in
+    then _ _ _ (c.directory_of.ensures.later _) (then _ _ _ (c.bucket_at.ensures.later _) (then _ _ _ c.branch-space.ensures.later (then _ _ _ c.push.ensures.later (then _ _ _ c.prune.ensures.later c.set_root.ensures.later))))

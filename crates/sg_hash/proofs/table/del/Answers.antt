@@ -18,8 +18,8 @@ bucket_of-requires g c = λ told.
     let h = c.requires.there back in
     (h.0, still_table c.in_ok-found.ensures.kept shows h.1, c.in_ok-found.ensures.read shows _ h.0 h.1.built.trunk)
 
-pub del-requires : goal.del-requires
-del-requires g c = λ told.
+pub del-requires-clause-can : goal.del-requires-clause-can
+del-requires-clause-can g c = λ told.
     let mid = c.bucket_of.ensures.counts.told told in
     let back = c.read_root.ensures.counts.told mid in
     let shows = g.met.P.PageSpace.told_shows _ back in
@@ -30,8 +30,8 @@ del-requires g c = λ told.
     let b = found_bucket (still_table both shows h.1) first in
     (first.bucket, b.linked, record { once = b.once; full = b.full })
 
-pub set_root-requires : goal.set_root-requires
-set_root-requires g c = λ told.
+pub set_root-requires-clause-can : goal.set_root-requires-clause-can
+set_root-requires-clause-can g c = λ told.
     let last = c.del.ensures.counts.told told in
     let mid = c.bucket_of.ensures.counts.told last in
     let back = c.read_root.ensures.counts.told mid in

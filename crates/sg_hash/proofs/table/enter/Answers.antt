@@ -3,6 +3,7 @@ use Rattle.sg_hash.specs.Table.{HashTable, Numbers, home_of, numbers_of}
 use Rattle.sg_hash.specs.Steps.{DidEnter, IsCounted, numbers_in}
 use Rattle.sg_hash.proofs.Calling.{can_enter, did_enter, put_fits}
 use Rattle.sg_hash.proofs.Changing.{counted, found_bucket, root_there}
+use Rattle.sg_hash.proofs.Entries.{few_entries}
 use Rattle.sg_hash.proofs.Trunks.{still_table}
 use Rattle.sg_space.proofs.Known.{reads_then}
 use Rattle.sg_hash.proofs.table.enter.Goals as goal
@@ -33,8 +34,8 @@ put-requires-clause-there g c = λ told.
     let first = c.in_ok-first.ensures.read (kept.shows shows) h.0 table (c.in_ok-found.ensures.read shows _ h.0 h.1.built.trunk) in
     (first.bucket, (found_bucket (still_table both shows h.1) first).linked, can_enter both shows h.1 h.2 first)
 
-pub set_root-requires : goal.set_root-requires
-set_root-requires g c = λ told.
+pub set_root-requires-clause-can : goal.set_root-requires-clause-can
+set_root-requires-clause-can g c = λ told.
     let last = c.put.ensures.counts.told told in
     let mid = c.bucket_of.ensures.counts.told last in
     let back = c.read_root.ensures.counts.told mid in
@@ -63,7 +64,9 @@ broken-requires g c = λ told.
     let now = still_table both shows h.1 in
     let one = c.in_ok-old.ensures.did.did.turns last first.bucket (found_bucket now first).linked (can_enter both shows h.1 h.2 first) in
     let are = counted h.0.buckets (home_of h.0.shape c.args.key.now) first.is one.2.entries in
-    let fits = put_fits h.1 (ap (λ (n : Numbers). n.entries) is) (ap (λ (n : Numbers). n.bytes) is) h.2.few are in
+    let pages = g.met.P.PageSpace.few_pages _ back in
+    let entries = few_entries h.0 (g.met.P.PageSpace.pages_exact _ back) (g.met.P.PageSpace.pages_fit _ back) h.1.built in
+    let fits = put_fits h.1 (ap (λ (n : Numbers). n.entries) is) (ap (λ (n : Numbers). n.bytes) is) (omega arith) are in
     let some = c.in-None.ensures.all fits.0 fits.1.0 fits.1.1 in
     (cc)
 

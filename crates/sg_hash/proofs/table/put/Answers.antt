@@ -7,8 +7,8 @@ use Rattle.sg_hash.proofs.table.put.Goals as goal
 not_both : {b : Bool} → b ≡ true → b ≡ false → ⊥
 not_both e f = let both : true ≡ false = sym e ∙ f in cc
 
-pub grow-requires : goal.grow-requires
-grow-requires g c = λ told.
+pub grow-requires-clause-can : goal.grow-requires-clause-can
+grow-requires-clause-can g c = λ told.
     let back = c.enter.ensures.counts.told told in
     let h = c.requires.there back in
     let d =

@@ -21,3 +21,6 @@ returns-clause-read g c = λ shows n t h below.
     let trunk = still_trunk kept shows h in
     let read = c.in_ok-get.ensures.read (kept.shows shows) t.names (trunk_names trunk is) in
     name_read c.args.i _ c.get.new.into h below (omega arith) read c.read_u32.ensures.value
+
+pub returns-clause-later : goal.returns-clause-later
+returns-clause-later g c = λ t. g.met.P.PageSpace.later_then t _ _ _ (c.directory_of.ensures.later t) (c.get.ensures.later t)

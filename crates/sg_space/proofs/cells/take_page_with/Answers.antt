@@ -1,8 +1,8 @@
 use Rattle.sg_space.proofs.Placed.{possible_first, took_with}
 use Rattle.sg_space.proofs.cells.take_page_with.Goals as goal
 
-pub change-requires : goal.change-requires
-change-requires g c = λ told.
+pub change-requires-clause-can : goal.change-requires-clause-can
+change-requires-clause-can g c = λ told.
     let back = c.in_ok-p.ensures.counts.told told in
     let took = c.in_ok-p.ensures.did in
     let fresh = (took.pages back).fresh in

@@ -3,15 +3,15 @@ use Rattle.sg_array.specs.Calls.{empty_array}
 use Rattle.sg_tests_memory.proofs.Arrays.{can_push, can_again}
 use Rattle.sg_tests_memory.proofs.array.make_two.Goals as goal
 
-pub push-requires : goal.push-requires
-push-requires g c = λ t.
+pub push-requires-clause-can : goal.push-requires-clause-can
+push-requires-clause-can g c = λ t.
     let made = c.in_ok-root.ensures.did.done tt in
     let free = made.pages.exactly in
     let some = c.requires in
     (empty_array 2, made.array, can_push c.make.new.space _ _ (empty_array 2) refl (omega arith) (omega arith))
 
-pub push-requires-2 : goal.push-requires-2
-push-requires-2 g c = λ t.
+pub push-requires-2-clause-can : goal.push-requires-2-clause-can
+push-requires-2-clause-can g c = λ t.
     let made = c.in_ok-root.ensures.did.done tt in
     let free = made.pages.exactly in
     let some = c.requires in

@@ -6,11 +6,11 @@ use Rattle.sg_tests_memory.proofs.Fresh.{empty_catalog, new_catalog}
 use Rattle.sg_tests_memory.proofs.OneRow.{can_add, can_bury, can_raise, added_one, buried_one, raised_one, finds_tomb}
 use Rattle.sg_tests_memory.proofs.catalog.drop_and_undo.Goals as goal
 
-pub add-requires : goal.add-requires
-add-requires g c = λ t. (empty_catalog, new_catalog c.requires, can_add c.args.space.now c.args.name)
+pub add-requires-clause-can : goal.add-requires-clause-can
+add-requires-clause-can g c = λ t. (empty_catalog, new_catalog c.requires, can_add c.args.space.now c.args.name)
 
-pub bury-requires : goal.bury-requires
-bury-requires g c = λ t.
+pub bury-requires-clause-can : goal.bury-requires-clause-can
+bury-requires-clause-can g c = λ t.
     let a = c.in_ok-add.ensures.did.turns tt empty_catalog (new_catalog c.requires) (can_add c.args.space.now c.args.name) in
     (a.0, a.1.catalog, can_bury a.2)
 
@@ -26,8 +26,8 @@ next_buried-requires g c = λ t.
     let b = c.in_ok-bury.ensures.did.turns tt a.0 a.1.catalog (can_bury a.2) in
     (b.0, still_catalog c.in_ok-dropped.ensures.kept tt b.1.catalog, tt)
 
-pub unbury-requires : goal.unbury-requires
-unbury-requires g c = λ t.
+pub unbury-requires-clause-can : goal.unbury-requires-clause-can
+unbury-requires-clause-can g c = λ t.
     let a = c.in_ok-add.ensures.did.turns tt empty_catalog (new_catalog c.requires) (can_add c.args.space.now c.args.name) in
     let b = c.in_ok-bury.ensures.did.turns tt a.0 a.1.catalog (can_bury a.2) in
     let there = still_catalog c.in_ok-tomb.ensures.kept tt (still_catalog c.in_ok-dropped.ensures.kept tt b.1.catalog) in

@@ -1,4 +1,4 @@
-use Rattle.std.proofs.Common.{◌≡◌, ℕ, List, Some, length, ap, ◌∙◌}
+use Rattle.std.proofs.Common.{ℕ, List, Some, length, ap, ◌∙◌}
 use Rattle.sg_base.specs.Sheet.{sheet_of}
 use Rattle.sg_base.specs.declared.area.Area.TheVariants.{Home}
 use Rattle.sg_gate.specs.Layout.{home_at}
