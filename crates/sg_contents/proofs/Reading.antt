@@ -15,6 +15,7 @@ use Rattle.sg_catalog.specs.Catalog.{rows, there, is_tomb_of}
 use Rattle.sg_catalog.specs.declared.row.Row.{Row}
 use Rattle.sg_reading.specs.Reading.{Thing, Tomb}
 use Rattle.sg_contents.specs.Standing.{Body, Contents}
+pub use Rattle.sg_contents.specs.Meaning.{tomb_of, tomb_in}
 use Rattle.sg_contents.specs.Meaning.{pair_of, map_of, thing_at, tomb_at, if_object, if_tomb, things_of, tombs_of, reading}
 
 -- A TABLE: the map has what the table maps a key to
@@ -47,13 +48,6 @@ unfolding reading
 get_thing s name = get-from_entries nat_list_cmp_total (things_of s.body (rows s.catalog)) name ∙ find_thing s.body (rows s.catalog) name
 
 -- TOMBSTONES: under each root and name that of its row
-abbrev pub tomb_of : (ℕ → Body) → Row → Option TxnId → Option Tomb
-tomb_of body row None = None
-tomb_of body row (Some by) = Some (tomb_at body by row)
-
-abbrev pub tomb_in : (ℕ → Body) → Row → Option Tomb
-tomb_in body row = tomb_of body row row.dropper
-
 find_tomb : (body : ℕ → Body) (xs : List Row) (root : ℕ) (name : List ℕ) → finmap.find (slice_cmp nat_cmp) (root ∷ name) (tombs_of body xs) ≡ option_and_then (tomb_in body) (find (is_tomb_of name root) xs)
 find_tomb body [] root name = refl
 find_tomb body (row ∷ xs) root name = by (find_tomb body xs root name) row.dropper refl

@@ -44,6 +44,14 @@ thing_at body row = thing_of row.root.0 (body row.root.0)
 abbrev pub tomb_at : (ℕ → Body) → TxnId → Row → Tomb
 tomb_at body by row = record { dropper = by.0; thing = thing_at body row }
 
+-- a row as a tombstone, if it is one
+abbrev pub tomb_of : (ℕ → Body) → Row → Option TxnId → Option Tomb
+tomb_of body row None = None
+tomb_of body row (Some by) = Some (tomb_at body by row)
+
+abbrev pub tomb_in : (ℕ → Body) → Row → Option Tomb
+tomb_in body row = tomb_of body row row.dropper
+
 abbrev pub if_object : {A : Type 0} → A → Option TxnId → List A → List A
 if_object x None xs = x ∷ xs
 if_object x (Some by) xs = xs

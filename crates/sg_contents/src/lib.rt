@@ -7,3 +7,13 @@
 //! that where one of them changes all else stands and means what it did, how many pages and bands are free
 //! then, and how many slots each page may have.
 #![tactic(auto)]
+
+mod beside;
+mod counts;
+mod limits;
+mod meaning;
+
+pub use beside::all_else_stands;
+pub use counts::changes_are_counted;
+pub use limits::pages_have_limits;
+pub use meaning::{changes_keep_to_names, contents_mean_readings};
