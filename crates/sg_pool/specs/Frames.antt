@@ -41,6 +41,14 @@ AreBelow tail wins = (b o : ℕ) → since_of wins.slots.items (window_of wins b
 abbrev pub AreLastsKept : (old new : Windows) → Type 0
 AreLastsKept old new = (b o : ℕ) → since_of new.slots.items (window_of new b) ≡ Some o → (since_of old.slots.items (window_of old b) ≡ Some o) × (lasts_of new b ≡ lasts_of old b)
 
+-- each band's oldest change that isn't on the disk still isn't
+abbrev pub AreChangesKept : (old new : Windows) → Type 0
+AreChangesKept old new = (b o : ℕ) → since_of old.slots.items (window_of old b) ≡ Some o → since_of new.slots.items (window_of new b) ≡ Some o
+
+-- WHAT WENT HOME WAS DURABLE: each band that had a change which wasn't on the disk, and has none now, had its last one below this number
+abbrev pub HaveGone : (gate : ℕ) → (old new : Windows) → Type 0
+HaveGone gate old new = (b o : ℕ) → since_of old.slots.items (window_of old b) ≡ Some o → since_of new.slots.items (window_of new b) ≡ None → lasts_of old b < gate
+
 -- THE FRAMES AND WHAT THEY HOLD AGREE: none is lent, no page is in two of them, each page is one of the store's, a frame without a page has
 -- no change, and the list by page number knows each page. There are as many windows as bands are kept in
 pub record IsShelf (pages bands : ℕ) (slots : List Slot) (index : List (Option ℕ)) (wins : Windows) (frames : Held) : Type 0 where

@@ -94,9 +94,10 @@ pub record IsRedoing (g : Geometry) (d : ℕ) (last : ℕ → ℕ) (rs : PartRec
   pub bytes : EachByte g (λ b i. (now (band_byte g b i) ≡ seen (band_byte g b i)) ⊎ (((m.marked b i ≡ true) × (last b < d)) ⊎ ((is_covered (on_byte i (rs.band b)) ≡ true) × AreChangesBelow d (rs.band b))))
 
 -- AN IMAGE OF A MOMENT OF REDO: the log has the durable records, the header of an open batch is in range, the units are being repeated, and
--- the third area is as a crash could have left it before
+-- the third area is as a crash could have left it before. The superblock's slots are as they were
 pub record IsRedoMoment (g : Geometry) (v : View) (log : Tail) (ds : List Numbered) (last : ℕ → ℕ) (rs : PartRecords) (m : Units) (c : Image) : Type 0 where
   pub held : HasRecords (c log.area) log.base log.gate ds
   pub header : c Home HEADER ≡ 1 → IsBatch g.pages (numbers_of (c Home))
   pub going : IsRedoing g log.gate last rs (v.now Home).seen m (laid (c Home))
+  pub superblock : (i : ℕ) → i < HEADER → c Home i ≡ (v.now Home).seen i
   pub others : (b : Area) → (b ≡ Home → ⊥) → (b ≡ log.area → ⊥) → LeavesPart (v.now b) (c b)

@@ -8,7 +8,7 @@ ghost use Rattle.sg_log.specs.Held.{Holds, tail_of, forced};
 ghost use Rattle.sg_gate.specs.Batch.{IsReady, SameLogs};
 ghost use Rattle.sg_window.specs.Runs.{IsTorn};
 ghost use Rattle.sg_pool.specs.Units.{IsBacked, IsCleaned, band_byte};
-ghost use Rattle.sg_pool.specs.Frames.{AreLastsKept};
+ghost use Rattle.sg_pool.specs.Frames.{AreLastsKept, HaveGone, AreChangesKept};
 ghost use Rattle.sg_pool.specs.Held.{frame_of, page_in, since_of};
 ghost use Rattle.sg_pool.specs.Windows.{no_marks, marked_in, last_in};
 ghost use Rattle.sg_pool.specs.Bands.{IsDirty, AreBandsWritten, AreBandsHome, AreCleared};
@@ -103,6 +103,7 @@ impl Shelf {
         ensures log { (ds ps : List Numbered) → IsTrue D.told → log.old.area ≢ Home → Holds (D.view disk.old) log.old ds ps → OnOk result (IsSameOrForced (D.view disk.new) log.old log.new ds ps) }
         ensures moments { (ds ps : List Numbered) → IsTrue D.told → log.old.area ≢ Home → IsReady ((D.view disk.old).now Home) → Holds (D.view disk.old) log.old ds ps →
             AreLogged (tail_of log.old) self.now → LeavesOnly (D.view disk.old) (D.view disk.new) (IsMoment (geometry_of self.now) (D.view disk.old) log.old ds ps (lasts self.now) (units_at (D.view disk.old) self.now)) }
+        ensures gone { AreLogged (tail_of log.old) self.now → OnOk result ((o : ℕ) → since_of self.now.wins.slots.items (Some w) ≡ Some o → last_in self.now.wins.marks.items (Some w) < log.new.gate) }
         ensures log_kept { (log.new ≡ log.old) ⊎ (log.new ≡ forced log.old) }
         ensures later { (D.view disk.old).faults ≤ (D.view disk.new).faults }
         ensures failed { OnErr result (HasRisen (D.view disk.old).faults (D.view disk.new).faults) }
@@ -136,6 +137,7 @@ impl Shelf {
         ensures log { (ds ps : List Numbered) → IsTrue D.told → log.old.area ≢ Home → Holds (D.view disk.old) log.old ds ps → OnOk result (IsSameOrForced (D.view disk.new) log.old log.new ds ps) }
         ensures moments { (ds ps : List Numbered) → IsTrue D.told → log.old.area ≢ Home → IsReady ((D.view disk.old).now Home) → Holds (D.view disk.old) log.old ds ps →
             AreLogged (tail_of log.old) self.old → LeavesOnly (D.view disk.old) (D.view disk.new) (IsMoment (geometry_of self.old) (D.view disk.old) log.old ds ps (lasts self.old) (units_at (D.view disk.old) self.old)) }
+        ensures gone { AreLogged (tail_of log.old) self.old → OnOk result (HaveGone log.new.gate self.old.wins self.new.wins) }
         ensures log_kept { (log.new ≡ log.old) ⊎ (log.new ≡ forced log.old) }
         ensures later { (D.view disk.old).faults ≤ (D.view disk.new).faults }
         ensures failed { OnErr result (HasRisen (D.view disk.old).faults (D.view disk.new).faults) }
@@ -174,6 +176,7 @@ impl Shelf {
         ensures others { OnOk result ((v : ℕ) → v ≢ w → page_in self.new.wins.slots.items v ≡ page_in self.old.wins.slots.items v) }
         ensures slots { self.new.slots.items ≡ self.old.slots.items }
         ensures lasts { AreLastsKept self.old.wins self.new.wins }
+        ensures changes { OnOk result (AreChangesKept self.old.wins self.new.wins) }
         ensures geometry { geometry_of self.new ≡ geometry_of self.old }
         ensures pages { self.new.frames.pages ≡ self.old.frames.pages }
         ensures backed { IsTrue D.told → IsBackedAt (geometry_of self.old) (D.view disk.old) self.old →
@@ -218,6 +221,7 @@ impl Shelf {
         ensures log { (ds ps : List Numbered) → IsTrue D.told → log.old.area ≢ Home → Holds (D.view disk.old) log.old ds ps → OnOk result (IsSameOrForced (D.view disk.new) log.old log.new ds ps) }
         ensures moments { (ds ps : List Numbered) → IsTrue D.told → log.old.area ≢ Home → IsReady ((D.view disk.old).now Home) → Holds (D.view disk.old) log.old ds ps →
             AreLogged (tail_of log.old) self.old → LeavesOnly (D.view disk.old) (D.view disk.new) (IsMoment (geometry_of self.old) (D.view disk.old) log.old ds ps (lasts self.old) (units_at (D.view disk.old) self.old)) }
+        ensures gone { AreLogged (tail_of log.old) self.old → OnOk result (HaveGone log.new.gate self.old.wins self.new.wins) }
         ensures log_kept { (log.new ≡ log.old) ⊎ (log.new ≡ forced log.old) }
         ensures later { (D.view disk.old).faults ≤ (D.view disk.new).faults }
         ensures failed { OnErr result (HasRisen (D.view disk.old).faults (D.view disk.new).faults) }

@@ -6,13 +6,14 @@ ghost use Rattle.sg_base.specs.declared.area.Area.TheVariants.{Home};
 ghost use Rattle.sg_base.specs.declared.page.TheConstants.{BAND_SIZE};
 ghost use Rattle.sg_disk.specs.Disk.{View, LeavesOnly};
 ghost use Rattle.sg_gate.specs.Batch.{IsReady};
+ghost use Rattle.sg_gate.specs.Layout.{PAGE};
 ghost use Rattle.sg_gate.specs.Superblock.{IsSuper};
 ghost use Rattle.sg_log.specs.Frames.{Numbered};
 ghost use Rattle.sg_log.specs.Held.{Holds, tail_of, forced};
 ghost use Rattle.sg_ops.specs.Table.{table_of};
 ghost use Rattle.sg_redo.specs.Page.{on_page};
 ghost use Rattle.sg_pool.specs.Changed.{IsCleanedThenChanged, IsCleanedThenWritten};
-ghost use Rattle.sg_pool.specs.Frames.{AreLastsKept};
+ghost use Rattle.sg_pool.specs.Frames.{AreLastsKept, HaveGone};
 ghost use Rattle.sg_pool.specs.Moments.{IsSameOrForced};
 ghost use Rattle.sg_pool.specs.Order.{IsVictim, IsUsed, below, pins_of};
 ghost use Rattle.sg_pool.specs.Pools.{IsPool};
@@ -46,7 +47,7 @@ pub struct Pool {
 impl Pool {
     ghost use Rattle.std.specs.Borrow.{sem};
     ghost use Rattle.sg_pool.specs.Lending.{IsLent, IsBandLent, IsBrought, IsEmptied, ends_as};
-    ghost use Rattle.sg_pool.specs.Pooled.{sizes, contents, frame_holding, page_held, uses, OthersKeep, Backs, SameContents, IsLogged, IsPoolMoment, IsUnwritten, SameWindows, SameFrames, IsBandBrought, band_held, last_of, OthersKeepLasts};
+    ghost use Rattle.sg_pool.specs.Pooled.{sizes, contents, frame_holding, window_holding, page_held, uses, OthersKeep, Backs, SameContents, IsLogged, IsPoolMoment, IsUnwritten, SameWindows, SameFrames, IsBandBrought, band_held, last_of, band_since_of, OthersKeepLasts};
     ghost use Rattle.sg_pool.specs.Shelves.{OnTold, BringFails, AreLogged};
 
     /// A pool for a store of this size, with as many frames as its superblock says. No page is in a
@@ -138,6 +139,7 @@ impl Pool {
     ) -> Result<&[u8], PoolFault>
         requires page { p.0 < (sizes self.old).pages }
         ensures* ends { sem 𝓛 (ends_as self.entry (IsLent D.told log.old.area (D.view disk.old) (D.view disk.new) p.0 result self.old)) }
+        ensures size { IfOk result (λ bytes. length bytes.now ≡ PAGE) }
         ensures bytes { IsTrue D.told → log.old.area ≢ Home → Backs (sizes self.old) (D.view disk.old) self.old →
             IfOk result (λ bytes. bytes.now ≡ (contents (D.view disk.old) self.old).page p.0) }
         ensures log_kept { (log.new ≡ log.old) ⊎ (log.new ≡ forced log.old) }
@@ -154,6 +156,19 @@ impl Pool {
     {
         let f = self.hold(disk, log, p.0)?;
         Ok(self.shelf.frames.page(f))
+    }
+
+    /// The 4,096 bytes of a page that is in a frame, as `page` lent them: whatever the disk has.
+    pub fn held(&self, p: PageNo) -> &[u8]
+        requires page { p.0 < (sizes self.now).pages }
+        requires held { IsTrue (is_some (frame_holding self.now p.0)) }
+        ensures size { length result.now ≡ PAGE }
+        ensures bytes { (v : View) → result.now ≡ (contents v self.now).page p.0 }
+    {
+        match self.shelf.find(p.0) {
+            Some(f) => self.shelf.frames.page(f),
+            None => unreachable!(),
+        }
     }
 
     /// Does the operation of the record `lsn` to a page, where the page's number is smaller and the
@@ -180,7 +195,7 @@ impl Pool {
         ensures backed { IsTrue D.told → log.old.area ≢ Home → Backs (sizes self.old) (D.view disk.old) self.old →
             OnTold result (Backs (sizes self.old) (D.view disk.new) self.new) }
         ensures changed { IsTrue D.told → log.old.area ≢ Home → Backs (sizes self.old) (D.view disk.old) self.old →
-            OnOk result (IsCleanedThenChanged (sizes self.old) p.0 (on_page (table_of record_meaning range_meaning ops.now) lsn (op_of op.now)) (contents (D.view disk.old) self.old) (contents (D.view disk.new) self.new)) }
+            OnOk result (IsCleanedThenChanged (sizes self.old) ((D.view disk.new).now Home) p.0 (on_page (table_of record_meaning range_meaning ops.now) lsn (op_of op.now)) (contents (D.view disk.old) self.old) (contents (D.view disk.new) self.new)) }
         ensures refused { IsTrue D.told → log.old.area ≢ Home → Backs (sizes self.old) (D.view disk.old) self.old →
             OnErr result (OnTold result (SameContents (D.view disk.old) self.old (D.view disk.new) self.new)) }
         ensures log_kept { (log.new ≡ log.old) ⊎ (log.new ≡ forced log.old) }
@@ -214,6 +229,8 @@ impl Pool {
         ensures whole { IfOk result (λ w. length (get_or self.new.shelf.frames.windows w []) ≡ BAND_SIZE) }
         ensures frames { SameFrames self.old self.new }
         ensures lasts { AreLastsKept self.old.shelf.wins self.new.shelf.wins }
+        ensures gone { AreLogged (tail_of log.old) self.old.shelf → OnOk result (HaveGone log.new.gate self.old.shelf.wins self.new.shelf.wins) }
+        ensures own { OnOk result (band_since_of self.new b ≡ band_since_of self.old b) }
         ensures size { sizes self.new ≡ sizes self.old }
         ensures backed { IsTrue D.told → log.old.area ≢ Home → Backs (sizes self.old) (D.view disk.old) self.old →
             OnTold result (Backs (sizes self.old) (D.view disk.new) self.new) }
@@ -248,7 +265,7 @@ impl Pool {
         b: BandNo,
     ) -> Result<&[u8], PoolFault>
         requires band { b.0 < (sizes self.old).bands }
-        ensures* ends { sem 𝓛 (ends_as self.entry (IsBandLent D.told log.old.area (D.view disk.old) (D.view disk.new) b.0 result self.old)) }
+        ensures* ends { sem 𝓛 (ends_as self.entry (IsBandLent D.told log.old log.new (D.view disk.old) (D.view disk.new) b.0 result self.old)) }
         ensures size { IfOk result (λ bytes. length bytes.now ≡ BAND_SIZE) }
         ensures bytes { IsTrue D.told → log.old.area ≢ Home → Backs (sizes self.old) (D.view disk.old) self.old →
             IfOk result (λ bytes. (i : ℕ) → i < BAND_SIZE → get_or bytes.now i 0 ≡ (contents (D.view disk.old) self.old).byte b.0 i) }
@@ -263,6 +280,19 @@ impl Pool {
     {
         let w = self.hold_band(disk, log, b.0)?;
         Ok(self.shelf.frames.window(w))
+    }
+
+    /// The 32,768 bytes of a band that is in a window, as `band` lent them.
+    pub fn held_band(&self, b: BandNo) -> &[u8]
+        requires band { b.0 < (sizes self.now).bands }
+        requires held { IsTrue (is_some (window_holding self.now b.0)) }
+        ensures size { length result.now ≡ BAND_SIZE }
+        ensures bytes { (v : View) (i : ℕ) → i < BAND_SIZE → get_or result.now i 0 ≡ (contents v self.now).byte b.0 i }
+    {
+        match self.shelf.wins.find(b.0) {
+            Some(w) => self.shelf.frames.window(w),
+            None => unreachable!(),
+        }
     }
 
     /// Writes bytes to a band from byte `at` on, as the record `lsn` does. They stay in the band's
@@ -288,10 +318,12 @@ impl Pool {
         ensures backed { IsTrue D.told → log.old.area ≢ Home → Backs (sizes self.old) (D.view disk.old) self.old →
             OnOk result (Backs (sizes self.old) (D.view disk.new) self.new) }
         ensures changed { IsTrue D.told → log.old.area ≢ Home → Backs (sizes self.old) (D.view disk.old) self.old →
-            OnOk result (IsCleanedThenWritten (sizes self.old) b.0 lsn at bytes.now (contents (D.view disk.old) self.old) (contents (D.view disk.new) self.new)) }
+            OnOk result (IsCleanedThenWritten (sizes self.old) ((D.view disk.new).now Home) b.0 lsn at bytes.now (contents (D.view disk.old) self.old) (contents (D.view disk.new) self.new)) }
         ensures last { OnOk result (last_of self.new b.0 ≡ lsn) }
         // No other band that has a change that isn't on the disk has another last one than before.
         ensures lasts { OthersKeepLasts b.0 self.old self.new }
+        // The last change of a band that went home is durable.
+        ensures gone { AreLogged (tail_of log.old) self.old.shelf → OnOk result (HaveGone log.new.gate self.old.shelf.wins self.new.shelf.wins) }
         ensures log_kept { (log.new ≡ log.old) ⊎ (log.new ≡ forced log.old) }
         ensures log { (ds ps : List Numbered) → IsTrue D.told → log.old.area ≢ Home → Holds (D.view disk.old) log.old ds ps → OnTold result (IsSameOrForced (D.view disk.new) log.old log.new ds ps) }
         // At each moment, faults included.

@@ -21,6 +21,7 @@ returns g c = (
       frames = c.hold_band.ensures.frames;
       logged = λ tail below. lasts_below c.args.self.now.shelf.wins c.hold_band.new.self.shelf.wins tail c.hold_band.ensures.lasts below;
       lasts = c.hold_band.ensures.lasts;
+      gone = c.in_ok-w.ensures.gone;
       backed = c.in_ok-w.ensures.backed;
       same = c.in_ok-w.ensures.same;
     },

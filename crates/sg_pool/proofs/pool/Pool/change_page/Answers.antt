@@ -46,6 +46,7 @@ returns-clause-changed g c told apart backed =
     let lt = (frame_some c.args.p.0 s.slots.items c.in_ok-f.f held).0 in let many = s.shelf.many in (
       units (w.now Home).seen s,
       c.in_ok-f.ensures.same told apart backed,
+      c.in_ok-f.ensures.backed told apart backed,
       change_is c.args.p.0 _ s.slots.items s.frames c.in_ok-f.f lt (omega (arith, lt, many)) s.shelf.apart held (geometry_of s) s.wins (w.now Home).seen (geometry_of t) t.slots.items t.wins t.frames
           c.change.ensures.geometry c.change.ensures.slots c.change.ensures.wins c.change.ensures.frames,
     )

@@ -3,7 +3,7 @@ use Rattle.std.proofs.lemmas.Result.{on_ok_weaker}
 use Rattle.sg_base.specs.declared.area.Area.TheVariants.{Home}
 use Rattle.sg_pool.specs.Moments.{IsMoment}
 use Rattle.sg_pool.specs.Shelves.{geometry_of, units, lasts}
-use Rattle.sg_pool.proofs.BandsHome.{lasts_twice}
+use Rattle.sg_pool.proofs.BandsHome.{lasts_twice, gone_kept}
 use Rattle.sg_pool.proofs.Bringing.{log_now, then_reads, cleaned_more, backed_in}
 use Rattle.sg_pool.proofs.Clearing.{frames_same}
 use Rattle.sg_pool.proofs.shelf.Shelf.bring_band.Goals as goal
@@ -35,3 +35,6 @@ returns-clause-log g c ds ps told apart holds =
 
 pub returns-clause-lasts : goal.returns-clause-lasts
 returns-clause-lasts g c = lasts_twice c.args.self.now.wins c.clean_window.new.self.wins c.load_band.new.self.wins c.clean_window.ensures.lasts c.load_band.ensures.lasts
+
+pub returns-clause-gone : goal.returns-clause-gone
+returns-clause-gone g c logged = on_ok_weaker c.load_band.result (λ kept. gone_kept c.clean_window.new.log.gate c.args.self.now.wins c.clean_window.new.self.wins c.load_band.new.self.wins (c.in_ok-clean_window.ensures.gone logged) kept) c.load_band.ensures.changes
