@@ -85,9 +85,9 @@ module _ (g : Geometry) (slots : List Slot) (wins wins' : Windows) (w b : ℕ) (
   loaded_changes c o had = ⊎_elim
       (λ new. absurd (none_is_some o (sym (ap (since_of wins.slots.items) (ap (frame_of wins.slots.items) (sym (some_same b c new.1)) ∙ absent)) ∙ had)))
       (λ not_new. ⊎_elim
-        (λ was. absurd (none_is_some o (sym clean ∙ (ap (since_of wins.slots.items) (sym (frame_is wins.slots.items w c wins.windows.apart lt was.1)) ∙ had))))
-        (λ not_old. changes_at c o (frame_of wins.slots.items c) not_new.1 not_old.1 refl had)
-        (is_or_not (page_in wins.slots.items w) c))
+      (λ was. absurd (none_is_some o (sym clean ∙ (ap (since_of wins.slots.items) (sym (frame_is wins.slots.items w c wins.windows.apart lt was.1)) ∙ had))))
+      (λ not_old. changes_at c o (frame_of wins.slots.items c) not_new.1 not_old.1 refl had)
+      (is_or_not (page_in wins.slots.items w) c))
       (is_or_not (Some b) c)
     where
       changes_at : (c o : ℕ) (x : Option ℕ) → (Some b ≡ Some c → ⊥) → (page_in wins.slots.items w ≡ Some c → ⊥) → frame_of wins.slots.items c ≡ x → since_of wins.slots.items (frame_of wins.slots.items c) ≡ Some o → since_of wins'.slots.items (frame_of wins'.slots.items c) ≡ Some o
@@ -201,7 +201,7 @@ bare_rewritten [] x bare = refl
 bare_rewritten (w ∷ ws) x bare = absurd cc
 
 -- changes that leave a window without an oldest change are none
-none_replayed : (ws : List OnWindow) (since : Option ℕ) → since_replayed ws since ≡ None → (since ≡ None) × (ws ≡ [])
+pub none_replayed : (ws : List OnWindow) (since : Option ℕ) → since_replayed ws since ≡ None → (since ≡ None) × (ws ≡ [])
 none_replayed [] since none = (none, refl)
 none_replayed (w ∷ ws) since none = absurd (none_is_some (unwrap_or since w.lsn) (sym (none_replayed ws (Some (unwrap_or since w.lsn)) none).0))
 

@@ -25,6 +25,8 @@ pub record IsPlacing (told : Bool) (pages : ℕ) (slots : List Slot) (frames : L
   pub room : length numbers ≡ 32
   pub collected : AreCollected slots from f (take count numbers)
   pub later : v.faults ≤ w.faults
+  pub quiet : w.faults ≡ v.faults
+  pub kept : v.handed ≤ w.handed
   pub placed : IsTrue told → IsReady (v.now Home) → ArePlaced slots frames (take count numbers) (v.now Home) (w.now Home)
   pub logs : IsTrue told → IsReady (v.now Home) → SameLogs v.now w.now
   pub moments : IsTrue told → IsReady (v.now Home) → LeavesOnly v w (IsWhole v.now pages (v.now Home).seen)
@@ -37,6 +39,8 @@ placing_starts told pages slots frames from v numbers within long = record {
   room = long;
   collected = record { few = omega arith; each = λ j lt. absurd (omega arith); different = λ j k a b. absurd (omega arith); all = λ h a b. absurd (omega arith) };
   later = omega arith;
+  quiet = refl;
+  kept = omega arith;
   placed = λ t ready. record { ready = ready; store = λ i s. refl; pages = λ j lt. absurd (omega arith) };
   logs = λ t ready b other. refl;
   moments = λ t ready. none_whole pages v ready;

@@ -5,8 +5,12 @@ use Rattle.sg_disk.proofs.Moments.{weaker}
 use Rattle.sg_log.proofs.Holding.{no_call_moments}
 use Rattle.sg_pool.specs.Frames.{byte_in}
 use Rattle.sg_pool.specs.Held.{frame_of, since_of}
-use Rattle.sg_pool.specs.Shelves.{geometry_of}
+use Rattle.sg_pool.specs.Shelves.{geometry_of, units}
 use Rattle.sg_pool.specs.Units.{band_byte}
+use Rattle.sg_pool.proofs.Sparing.{nowhere}
+use Rattle.sg_pool.proofs.HomesKept.{untouched_same}
+use Rattle.sg_pool.proofs.Counting.{grown_same}
+use Rattle.sg_pool.proofs.BandsHome.{last_below}
 use Rattle.sg_pool.proofs.Slots.{frame_some, none_is_some, none_or_some}
 use Rattle.sg_pool.proofs.Pooling.{pool_same}
 use Rattle.sg_pool.proofs.pool.Pool.hold_band.Goals as goal
@@ -63,3 +67,33 @@ returns-clause-own g c = let s = c.args.self.now.shelf in let t = c.bring_band.n
     (λ clean. clean ∙ sym none)
     (λ some. absurd (none_is_some some.0 (sym none ∙ (c.bring_band.ensures.lasts c.args.b some.0 some.1).0)))
     (none_or_some (since_of t.wins.slots.items (frame_of t.wins.slots.items c.args.b)))
+
+pub returns-in-Some-clause-grown : goal.returns-in-Some-clause-grown
+returns-in-Some-clause-grown g c = grown_same c.args.log.now (g.D.Disk.view c.args.disk.now) (g.D.Disk.view c.args.disk.now) (omega arith)
+
+pub returns-in-Some-clause-hit : goal.returns-in-Some-clause-hit
+returns-in-Some-clause-hit g c held = (refl, refl)
+
+pub returns-in-Some-clause-turn : goal.returns-in-Some-clause-turn
+returns-in-Some-clause-turn g c none = absurd (none_is_some c.in-Some.w (sym none ∙ (sym c.find.ensures ∙ c.in-Some.is)))
+
+pub returns-in-Some-clause-untouched : goal.returns-in-Some-clause-untouched
+returns-in-Some-clause-untouched g c told apart backed = let s = c.args.self.now.shelf in let seen = ((g.D.Disk.view c.args.disk.now).now Home).seen in untouched_same (geometry_of s) seen seen (units seen s) refl
+
+pub returns-in-Some-clause-home : goal.returns-in-Some-clause-home
+returns-in-Some-clause-home g c told apart backed i small = refl
+
+pub returns-in_err-bring_band-clause-hit : goal.returns-in_err-bring_band-clause-hit
+returns-in_err-bring_band-clause-hit g c held = let s = c.args.self.now in absurd (held (nowhere c.find.result (frame_of s.shelf.wins.slots.items c.args.b) c.find.ensures c.in_default.not-Some))
+
+pub returns-clause-hit : goal.returns-clause-hit
+returns-clause-hit g c held = let s = c.args.self.now in absurd (held (nowhere c.find.result (frame_of s.shelf.wins.slots.items c.args.b) c.find.ensures c.in_default.not-Some))
+
+pub returns-clause-turn : goal.returns-clause-turn
+returns-clause-turn g c none = c.in_ok-bring_band.ensures.held
+
+pub returns-in_err-bring_band-clause-durable : goal.returns-in_err-bring_band-clause-durable
+returns-in_err-bring_band-clause-durable g c logged = let s = c.args.self.now.shelf in c.bring_band.ensures.spared (λ o since. last_below s.wins c.args.log.now.gate logged s.wins.next o s.wins.windows.next_there since)
+
+pub returns-clause-durable : goal.returns-clause-durable
+returns-clause-durable g c logged = let s = c.args.self.now.shelf in c.bring_band.ensures.spared (λ o since. last_below s.wins c.args.log.now.gate logged s.wins.next o s.wins.windows.next_there since)

@@ -29,6 +29,7 @@ returns g c =
           windows = c.hold.ensures.windows;
           backed = c.in_ok-f.ensures.backed;
           same = c.in_ok-f.ensures.same;
+          untouched = c.in_ok-f.ensures.untouched;
         },
       ),
       record {
@@ -42,5 +43,11 @@ returns g c =
         well = c.in_ok-f.ensures.well;
         faults = tt;
         later = c.hold.ensures.later;
+        heeded = c.in_ok-f.ensures.heeded;
+        kept = c.hold.ensures.kept;
+        grown = c.hold.ensures.grown;
+        hit = c.hold.ensures.hit;
+        spared = c.hold.ensures.spared;
+        durable = c.hold.ensures.durable;
       },
     )

@@ -1,4 +1,4 @@
-use Rattle.std.proofs.Common.{◌<◌, Some, None, List, length, get_or, set, sym, ◌∙◌, ap, subst}
+use Rattle.std.proofs.Common.{◌<◌, Some, None, List, length, get_or, set, sym, ◌∙◌, ap, subst, length-set}
 use Rattle.sg_base.specs.declared.area.Area.TheVariants.{Home}
 use Rattle.sg_disk.specs.Disk.{State}
 use Rattle.sg_pool.specs.declared.slot.Slot.{Slot}
@@ -57,3 +57,9 @@ returns-clause-changes g c b o had =
     loaded_changes (geometry_of s) s.slots.items s.wins c.put.new.self c.args.w c.args.b c.requires.there
     (c.put.ensures.slots ∙ ap (λ (x : Windows). set x.slots.items c.args.w (record { number = Some c.args.b; since = None })) same) c.requires.absent c.requires.clean c.put.ensures.unmarked
     (λ x differ. c.put.ensures.others x differ ∙ ap (λ (y : Windows). get_or y.marks.items x no_marks) same) b o had
+
+pub returns-in-Err-clause-count : goal.returns-in-Err-clause-count
+returns-in-Err-clause-count g c = ap (λ (x : Windows). length x.slots.items) c.read_band.ensures.wins
+
+pub returns-clause-count : goal.returns-clause-count
+returns-clause-count g c = ap length c.put.ensures.slots ∙ (length-set c.read_band.new.self.wins.slots.items c.args.w (record { number = Some c.args.b; since = None }) ∙ ap (λ (x : Windows). length x.slots.items) c.read_band.ensures.wins)

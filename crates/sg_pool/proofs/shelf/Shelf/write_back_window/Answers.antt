@@ -13,6 +13,7 @@ use Rattle.sg_pool.specs.Held.{since_of}
 use Rattle.sg_pool.specs.Windows.{no_marks, last_in}
 use Rattle.sg_pool.specs.Shelves.{geometry_of, units, lasts}
 use Rattle.sg_pool.specs.Units.{IsGoing}
+use Rattle.sg_pool.proofs.Counting.{grown_same, grown_more, heeds_then}
 use Rattle.sg_pool.proofs.BandsHome.{none_dirty, no_change, last_below, torn_goes, on_ok_all}
 use Rattle.sg_pool.proofs.Batching.{none_of}
 use Rattle.sg_pool.proofs.GoingOn.{going_starts}
@@ -78,3 +79,30 @@ returns-clause-gone g c logged = on_ok_all c.sync_windows.result _ (λ o had.
     let marks : c.index-2.result.now ≡ get_or s.wins.marks.items c.args.w no_marks = item_at s.wins.marks.items c.args.w c.index-2.result.now no_marks (omega (arith, many, there)) c.index-2.ensures in
     let last : last_in s.wins.marks.items (Some c.args.w) < tail_of c.args.log.now = last_below s.wins (tail_of c.args.log.now) logged c.args.w o there had in
     subst (λ (m : Marks). m.last < c.make_durable.new.log.gate) marks (c.in_ok-make_durable.ensures.durable (subst (λ (m : Marks). m.last < tail_of c.args.log.now) (sym marks) last)))
+
+pub returns-then-is_none-clause-grown : goal.returns-then-is_none-clause-grown
+returns-then-is_none-clause-grown g c = grown_same c.args.log.now (g.D.Disk.view c.args.disk.now) (g.D.Disk.view c.args.disk.now) (omega arith)
+
+pub returns-clause-grown : goal.returns-clause-grown
+returns-clause-grown g c = grown_more c.args.log.now c.make_durable.new.log (g.D.Disk.view c.args.disk.now) (g.D.Disk.view c.make_durable.new.disk) (g.D.Disk.view c.sync_windows.new.disk) c.make_durable.ensures.grown c.sync_windows.ensures.kept
+
+pub returns-clause-heeded : goal.returns-clause-heeded
+returns-clause-heeded g c = heeds_then {U = ℕ} 0 c.sync_windows.result (g.D.Disk.view c.args.disk.now) (g.D.Disk.view c.make_durable.new.disk) (g.D.Disk.view c.sync_windows.new.disk) c.in_ok-make_durable.ensures.heeded c.sync_windows.ensures.heeded
+
+pub returns-in_err-make_durable-clause-spared : goal.returns-in_err-make_durable-clause-spared
+returns-in_err-make_durable-clause-spared g c durable =
+    let s = c.args.self.now in
+    let many = s.wins.windows.marked in let there = c.requires.there in
+    let slot = slot_at s.wins.slots.items c.args.w c.index.result.now c.requires.there c.index.ensures in
+    let since = some_of c.index.result.now.since c.if-is_none.ensures in
+    let marks : c.index-2.result.now ≡ get_or s.wins.marks.items c.args.w no_marks = item_at s.wins.marks.items c.args.w c.index-2.result.now no_marks (omega (arith, many, there)) c.index-2.ensures in
+    c.make_durable.ensures.spared (subst (λ (m : Marks). m.last < c.args.log.now.gate) (sym marks) (durable since.0 (ap (λ (x : Slot). x.since) (sym slot) ∙ since.1)))
+
+pub returns-clause-spared : goal.returns-clause-spared
+returns-clause-spared g c durable =
+    let s = c.args.self.now in
+    let many = s.wins.windows.marked in let there = c.requires.there in
+    let slot = slot_at s.wins.slots.items c.args.w c.index.result.now c.requires.there c.index.ensures in
+    let since = some_of c.index.result.now.since c.if-is_none.ensures in
+    let marks : c.index-2.result.now ≡ get_or s.wins.marks.items c.args.w no_marks = item_at s.wins.marks.items c.args.w c.index-2.result.now no_marks (omega (arith, many, there)) c.index-2.ensures in
+    c.make_durable.ensures.spared (subst (λ (m : Marks). m.last < c.args.log.now.gate) (sym marks) (durable since.0 (ap (λ (x : Slot). x.since) (sym slot) ∙ since.1)))
