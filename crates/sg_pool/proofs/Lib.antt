@@ -37,3 +37,4 @@ pub mod Counting
 pub mod HomesKept
 pub mod RedoHomes
 pub mod Sparing
+pub mod Welling

@@ -158,6 +158,8 @@ impl Pool {
         requires page { p.0 < (sizes self.old).pages }
         ensures* ends { sem 𝓛 (ends_as self.entry (IsLent D.told log.old.area (D.view disk.old) (D.view disk.new) p.0 result self.old)) }
         ensures size { IfOk result (λ bytes. length bytes.now ≡ PAGE) }
+        // On any disk it is a page of slots, or zeros.
+        ensures is_page { IfOk result (λ bytes. IsWell bytes.now) }
         ensures bytes { IsTrue D.told → log.old.area ≢ Home → Backs (sizes self.old) (D.view disk.old) self.old →
             IfOk result (λ bytes. bytes.now ≡ (contents (D.view disk.old) self.old).page p.0) }
         ensures log_kept { (log.new ≡ log.old) ⊎ (log.new ≡ forced log.old) }
@@ -189,6 +191,7 @@ impl Pool {
         requires page { p.0 < (sizes self.now).pages }
         requires held { IsTrue (is_some (frame_holding self.now p.0)) }
         ensures size { length result.now ≡ PAGE }
+        ensures is_page { IsWell result.now }
         ensures bytes { (v : View) → result.now ≡ (contents v self.now).page p.0 }
     {
         match self.shelf.find(p.0) {

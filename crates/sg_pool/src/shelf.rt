@@ -118,6 +118,7 @@ impl Shelf {
         requires empty { page_in self.old.slots.items f ≡ None }
         requires page { p < self.old.pages }
         requires absent { frame_of self.old.slots.items p ≡ None }
+        requires well { IsWell (get_or self.old.frames.pages f []) }
         ensures slots { self.new.slots.items ≡ slice_set self.old.slots.items f (record { number = Some p; since = None }) }
         ensures frames { self.new.frames ≡ self.old.frames }
         ensures wins { self.new.wins ≡ self.old.wins }
@@ -303,10 +304,7 @@ impl Shelf {
         if !apply_page(self.frames.page_mut(f), lsn, op, ops) {
             return;
         }
-        self.slots[f as usize] = Slot {
-            number: slot.number,
-            since: Some(slot.since.unwrap_or(lsn)),
-        };
+        self.slots[f as usize] = slot.changed(lsn);
     }
 
     // Writes bytes to a window's band, and marks them, as the record of this number does.
