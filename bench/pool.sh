@@ -12,7 +12,7 @@ folder="$(mktemp -d)"
 trap 'rm -rf "$folder"' EXIT
 bench="$folder/crates/pool_bench"
 mkdir -p "$bench/src"
-libraries='base bits record segment slotted frames disk folder log gate ops step redo window pool'
+libraries='base bits record segment slotted frames disk folder log gate ops step action redo window pool'
 for name in $libraries; do
     cp -R "$top/crates/sg_$name" "$folder/crates/"
 done
@@ -31,7 +31,7 @@ use sg_gate::{Super, page_start};
 use sg_log::Log;
 use sg_ops::Ops;
 use sg_pool::Pool;
-use sg_record::plain::Rec;
+use sg_record::Rec;
 use std::io;
 use std::time::Instant;
 

@@ -1,4 +1,5 @@
 pub mod Areas
 pub mod Disk
 pub mod Due
+pub mod Heeds
 pub mod Memory

@@ -10,6 +10,7 @@ pub mod Placing
 pub mod Reading
 pub mod Renewing
 pub mod Settling
+pub mod Shutting
 pub mod Slots
 pub mod Texts
 pub mod Windows

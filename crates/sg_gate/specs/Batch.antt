@@ -128,3 +128,10 @@ pub record IsFirstUnfit (pages : ℕ) (f : Bytes) (at k : ℕ) : Type 0 where
 -- THE FIRST FIELD THAT IS OUT OF ITS RANGE, by its offset: the count, which is 1 to 32, or else one of the numbers
 abbrev pub IsWrongAt : (pages : ℕ) → Bytes → (at wrong : ℕ) → Type 0
 IsWrongAt pages f at wrong = ((wrong ≡ at) × ((count_at f at ≡ 0) ⊎ (32 < count_at f at))) ⊎ ((k : ℕ) × (wrong ≡ at + 4 + 4 * k) × IsFirstUnfit pages f at k)
+
+-- THE GATE IS CLOSED, and each other byte is as it was. Nothing is pending that wasn't before, and the other areas are in the same state
+pub record IsShut (s t : State) : Type 0 where
+  pub closed : (t Home).seen HEADER ≢ 1
+  pub bytes : (i : ℕ) → i ≢ HEADER → (t Home).seen i ≡ (s Home).seen i
+  pub settled : (i : ℕ) → Spoils (t Home).pending i → Spoils (s Home).pending i
+  pub logs : SameLogs s t

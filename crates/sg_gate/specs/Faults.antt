@@ -1,5 +1,5 @@
 -- When a call of a gate answers which fault.
-use Rattle.std.specs.Prelude.{◌≡◌, ◌≢◌, ◌+◌, Bool, IsTrue, ℕ, Err}
+use Rattle.std.specs.Prelude.{◌≡◌, ◌≢◌, ◌+◌, Bool, true, false, IsTrue, ℕ, Err}
 use Rattle.sg_base.specs.Ends.{HasRisen}
 use Rattle.sg_base.specs.declared.area.Area.TheVariants.{Home}
 use Rattle.sg_disk.specs.Disk.{View}
@@ -8,6 +8,12 @@ use Rattle.sg_gate.specs.Batch.{IsWrongAt}
 use Rattle.sg_gate.specs.Superblock.{superblock}
 use Rattle.sg_gate.specs.declared.fault.GateFault.{GateFault}
 use Rattle.sg_gate.specs.declared.fault.GateFault.TheVariants.{Disk, NotAStore, Damaged}
+
+-- whether the disk failed
+abbrev pub is_disk : GateFault → Bool
+is_disk Disk = true
+is_disk NotAStore = false
+is_disk (Damaged at) = false
 
 -- a call that writes fails only where the disk does
 abbrev pub WriteFails : View → View → GateFault → Type 0

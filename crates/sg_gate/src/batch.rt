@@ -3,7 +3,8 @@ ghost use Rattle.std.specs.Prelude.{◌≡◌, ◌≤◌, ◌<◌, ◌+◌, ◌*
 ghost use Rattle.sg_base.specs.Ends.{HasRisen};
 ghost use Rattle.sg_base.specs.declared.area.Area.TheVariants.{Home};
 ghost use Rattle.sg_disk.specs.Disk.{FULL, Leaves, LeavesOnly, Wrote, window, written};
-ghost use Rattle.sg_gate.specs.Faults.{WriteFails};
+ghost use Rattle.sg_disk.specs.Heeds.{Heeds};
+ghost use Rattle.sg_gate.specs.Faults.{WriteFails, is_disk};
 ghost use Rattle.sg_gate.specs.Layout.{PAGE, place_at, home_at};
 ghost use Rattle.sg_gate.specs.Batch.{homed, IsBatch, IsReady, IsSettled, IsOpen, IsOpened, IsDone, IsWhole, IsEither, SameLogs};
 
@@ -25,6 +26,7 @@ pub fn place<D: Disk>(disk: &mut D, k: u32, page: &[u8]) -> Result<(), GateFault
         LeavesOnly (D.view disk.old) (D.view disk.new) (IsWhole (D.view disk.old).now pages ((D.view disk.old).now Home).seen) }
     ensures faults { IfErr result (λ e. WriteFails (D.view disk.old) (D.view disk.new) e) }
     ensures later { (D.view disk.old).faults ≤ (D.view disk.new).faults }
+    ensures heeded { Heeds is_disk result (D.view disk.old) (D.view disk.new) }
     ensures calls { (D.view disk.new).calls ≡ min ((D.view disk.old).calls + 1) FULL }
     ensures handed { (D.view disk.new).handed ≤ (D.view disk.old).handed + PAGE }
     ensures kept { (D.view disk.old).handed ≤ (D.view disk.new).handed }
@@ -42,6 +44,7 @@ fn copy_page<D: Disk>(disk: &mut D, k: u32, n: u32, page: &mut [u8]) -> Result<(
     ensures done { IsTrue D.told → OnOk result ((D.view disk.new).now ≡ written Home (home_at n) (window ((D.view disk.old).now Home).seen (place_at k) (length page.old)) (D.view disk.old).now) }
     ensures failed { OnErr result (HasRisen (D.view disk.old).faults (D.view disk.new).faults) }
     ensures later { (D.view disk.old).faults ≤ (D.view disk.new).faults }
+    ensures quiet { OnOk result ((D.view disk.new).faults ≡ (D.view disk.old).faults) }
     ensures calls { OnOk result ((D.view disk.new).calls ≡ min ((D.view disk.old).calls + 2) FULL) }
     ensures calls_most { (D.view disk.new).calls ≤ (D.view disk.old).calls + 2 }
     ensures handed { (D.view disk.new).handed ≤ (D.view disk.old).handed + PAGE }
@@ -63,6 +66,7 @@ pub fn copy_home<D: Disk>(disk: &mut D, numbers: &[u32], page: &mut [u8]) -> Res
         LeavesOnly (D.view disk.old) (D.view disk.new) (IsWhole (D.view disk.old).now pages (homed numbers.now ((D.view disk.old).now Home).seen)) }
     ensures failed { OnErr result (HasRisen (D.view disk.old).faults (D.view disk.new).faults) }
     ensures later { (D.view disk.old).faults ≤ (D.view disk.new).faults }
+    ensures quiet { OnOk result ((D.view disk.new).faults ≡ (D.view disk.old).faults) }
     ensures calls { OnOk result ((D.view disk.new).calls ≡ min ((D.view disk.old).calls + 2 * length numbers.now + 3) FULL) }
     ensures calls_most { (D.view disk.new).calls ≤ (D.view disk.old).calls + 2 * length numbers.now + 3 }
     ensures handed { (D.view disk.new).handed ≤ (D.view disk.old).handed + PAGE * length numbers.now + 1 }
@@ -87,6 +91,7 @@ fn open_batch<D: Disk>(disk: &mut D, numbers: &[u32], text: &mut [u8]) -> Result
         LeavesOnly (D.view disk.old) (D.view disk.new) (IsEither (D.view disk.old).now pages ((D.view disk.old).now Home).seen (homed numbers.now ((D.view disk.old).now Home).seen)) }
     ensures failed { OnErr result (HasRisen (D.view disk.old).faults (D.view disk.new).faults) }
     ensures later { (D.view disk.old).faults ≤ (D.view disk.new).faults }
+    ensures quiet { OnOk result ((D.view disk.new).faults ≡ (D.view disk.old).faults) }
     ensures calls { OnOk result ((D.view disk.new).calls ≡ min ((D.view disk.old).calls + 4) FULL) }
     ensures calls_most { (D.view disk.new).calls ≤ (D.view disk.old).calls + 4 }
     ensures handed { (D.view disk.new).handed ≤ (D.view disk.old).handed + 4 * length numbers.now + 5 }
@@ -109,6 +114,7 @@ pub fn finish<D: Disk>(disk: &mut D, pages: u32, numbers: &[u32]) -> Result<(), 
         LeavesOnly (D.view disk.old) (D.view disk.new) (IsEither (D.view disk.old).now pages ((D.view disk.old).now Home).seen (homed numbers.now ((D.view disk.old).now Home).seen)) }
     ensures faults { IfErr result (λ e. WriteFails (D.view disk.old) (D.view disk.new) e) }
     ensures later { (D.view disk.old).faults ≤ (D.view disk.new).faults }
+    ensures heeded { Heeds is_disk result (D.view disk.old) (D.view disk.new) }
     ensures calls { OnOk result ((D.view disk.new).calls ≡ min ((D.view disk.old).calls + 2 * length numbers.now + 7) FULL) }
     ensures calls_most { (D.view disk.new).calls ≤ (D.view disk.old).calls + 2 * length numbers.now + 7 }
     ensures handed { (D.view disk.new).handed ≤ (D.view disk.old).handed + (PAGE + 4) * length numbers.now + 6 }

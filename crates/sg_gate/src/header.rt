@@ -32,6 +32,7 @@ pub fn stage_header<D: Disk>(disk: &mut D, numbers: &[u32], text: &mut [u8]) -> 
     ensures any_moment { IsTrue D.told → LeavesOnly (D.view disk.old) (D.view disk.new) (Leaves (written Home (HEADER + 1) (take (4 + 4 * length numbers.now) text.new) (D.view disk.old).now)) }
     ensures failed { OnErr result (HasRisen (D.view disk.old).faults (D.view disk.new).faults) }
     ensures later { (D.view disk.old).faults ≤ (D.view disk.new).faults }
+    ensures quiet { OnOk result ((D.view disk.new).faults ≡ (D.view disk.old).faults) }
     ensures calls { OnOk result ((D.view disk.new).calls ≡ min ((D.view disk.old).calls + 2) FULL) }
     ensures calls_most { (D.view disk.new).calls ≤ (D.view disk.old).calls + 2 }
     ensures handed { (D.view disk.new).handed ≤ (D.view disk.old).handed + 4 * length numbers.now + 4 }

@@ -2,7 +2,8 @@
 ghost use Rattle.std.specs.Prelude.{◌≡◌, ◌≢◌, ◌⊎◌, ◌≤◌, ◌+◌, ◌*◌, ℕ, length, take, min, OnOk, IfOk, IfErr, IfSome, IsTrue};
 ghost use Rattle.sg_base.specs.declared.area.Area.TheVariants.{Home};
 ghost use Rattle.sg_disk.specs.Disk.{FULL, LeavesOnly};
-ghost use Rattle.sg_gate.specs.Faults.{LayFails};
+ghost use Rattle.sg_disk.specs.Heeds.{Heeds};
+ghost use Rattle.sg_gate.specs.Faults.{LayFails, is_disk};
 ghost use Rattle.sg_gate.specs.Layout.{PAGE, HEADER};
 ghost use Rattle.sg_gate.specs.Reads.{OnlyReads};
 ghost use Rattle.sg_gate.specs.Batch.{numbers_of, laid, IsBatch, IsSettled, IsLaid, IsWhole, IsWrongAt, SameLogs};
@@ -30,6 +31,7 @@ fn read_batch<D: Disk>(
     ensures within { IfOk result (λ r. IfSome r (λ n. n ≤ 32)) }
     ensures faults { IfErr result (λ e. LayFails D.told pages (D.view disk.old) (D.view disk.new) e) }
     ensures reads { OnlyReads D.told (D.view disk.old) (D.view disk.new) }
+    ensures heeded { Heeds is_disk result (D.view disk.old) (D.view disk.new) }
     ensures calls { (D.view disk.new).calls ≡ min ((D.view disk.old).calls + 1) FULL }
 {
     disk.read_at(Area::Home, HEADER_START, header)?;
@@ -60,6 +62,7 @@ pub fn lay_over<D: Disk>(disk: &mut D, pages: u32) -> Result<(), GateFault>
         (result ≡ Err (GateFault.Damaged at)) ⊎ (result ≡ Err GateFault.Disk) }
     ensures unchanged { (at : ℕ) → result ≡ Err (GateFault.Damaged at) → OnlyReads D.told (D.view disk.old) (D.view disk.new) }
     ensures later { (D.view disk.old).faults ≤ (D.view disk.new).faults }
+    ensures heeded { Heeds is_disk result (D.view disk.old) (D.view disk.new) }
     ensures shut { IsTrue D.told → ((D.view disk.old).now Home).seen HEADER ≢ 1 → OnlyReads D.told (D.view disk.old) (D.view disk.new) }
     ensures shut_calls { IsTrue D.told → ((D.view disk.old).now Home).seen HEADER ≢ 1 → (D.view disk.new).calls ≡ min ((D.view disk.old).calls + 1) FULL }
     ensures calls { IsTrue D.told → ((D.view disk.old).now Home).seen HEADER ≡ 1 →

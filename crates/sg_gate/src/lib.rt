@@ -19,6 +19,7 @@ mod superblock;
 
 pub use batch::{finish, place};
 pub use fault::GateFault;
+pub use gate::shut_batch;
 pub use laying::lay_over;
 pub use layout::{band_start, page_start, place_start};
 pub use slot::{read_super, renew};

@@ -3,7 +3,8 @@ ghost use Rattle.std.specs.Prelude.{◌≡◌, ◌≢◌, ◌⊎◌, ◌≤◌, 
 ghost use Rattle.sg_base.specs.Ends.{HasRisen};
 ghost use Rattle.sg_base.specs.declared.area.Area.TheVariants.{Home};
 ghost use Rattle.sg_disk.specs.Disk.{FULL, LeavesOnly, View, window};
-ghost use Rattle.sg_gate.specs.Faults.{WriteFails, ReadFails};
+ghost use Rattle.sg_disk.specs.Heeds.{Heeds};
+ghost use Rattle.sg_gate.specs.Faults.{WriteFails, ReadFails, is_disk};
 ghost use Rattle.sg_gate.specs.Reads.{OnlyReads};
 ghost use Rattle.sg_gate.specs.declared.superblock.Super.{Super};
 ghost use Rattle.sg_gate.specs.Superblock.{start_of, SLOT, which, counting, superblock, read_text, sequence_of, spare, spare_of, IsSuper, IsText, IsNewer, AreSettled, IsSpare, IsCalm, IsWritten, IsRenewing, IsRenewed, renewing_calls, renewing_bytes};
@@ -78,6 +79,7 @@ fn read_slots<D: Disk>(
     ensures first { IsTrue D.told → OnOk result (first.new ≡ window ((D.view disk.old).now Home).seen 0 (length first.old)) }
     ensures second { IsTrue D.told → OnOk result (second.new ≡ window ((D.view disk.old).now Home).seen 4096 (length second.old)) }
     ensures reads { OnlyReads D.told (D.view disk.old) (D.view disk.new) }
+    ensures quiet { OnOk result ((D.view disk.new).faults ≡ (D.view disk.old).faults) }
     ensures failed { OnErr result (HasRisen (D.view disk.old).faults (D.view disk.new).faults) }
     ensures calls { OnOk result ((D.view disk.new).calls ≡ min ((D.view disk.old).calls + 2) FULL) }
     ensures calls_most { (D.view disk.new).calls ≤ (D.view disk.old).calls + 2 }
@@ -113,6 +115,7 @@ pub fn read_super<D: Disk>(disk: &mut D) -> Result<Super, GateFault>
     ensures range { IfOk result IsSuper }
     ensures faults { IfErr result (λ e. ReadFails D.told (D.view disk.old) (D.view disk.new) e) }
     ensures reads { OnlyReads D.told (D.view disk.old) (D.view disk.new) }
+    ensures heeded { Heeds is_disk result (D.view disk.old) (D.view disk.new) }
     ensures calls { OnOk result ((D.view disk.new).calls ≡ min ((D.view disk.old).calls + 2) FULL) }
     ensures calls_most { (D.view disk.new).calls ≤ (D.view disk.old).calls + 2 }
 {
@@ -135,6 +138,7 @@ fn close_slot<D: Disk>(disk: &mut D, at: u64) -> Result<(), Failed>
         LeavesOnly (D.view disk.old) (D.view disk.new) (IsRenewing (D.view disk.old).now new at) }
     ensures failed { OnErr result (HasRisen (D.view disk.old).faults (D.view disk.new).faults) }
     ensures later { (D.view disk.old).faults ≤ (D.view disk.new).faults }
+    ensures quiet { OnOk result ((D.view disk.new).faults ≡ (D.view disk.old).faults) }
     ensures calls { OnOk result ((D.view disk.new).calls ≡ min ((D.view disk.old).calls + 2) FULL) }
     ensures calls_most { (D.view disk.new).calls ≤ (D.view disk.old).calls + 2 }
     ensures handed { (D.view disk.new).handed ≤ (D.view disk.old).handed + 1 }
@@ -155,6 +159,7 @@ fn write_slot<D: Disk>(disk: &mut D, at: u64, text: &[u8]) -> Result<(), Failed>
         LeavesOnly v (D.view disk.new) (IsRenewing v.now new at) }
     ensures failed { OnErr result (HasRisen (D.view disk.old).faults (D.view disk.new).faults) }
     ensures later { (D.view disk.old).faults ≤ (D.view disk.new).faults }
+    ensures quiet { OnOk result ((D.view disk.new).faults ≡ (D.view disk.old).faults) }
     ensures calls { OnOk result ((D.view disk.new).calls ≡ min ((D.view disk.old).calls + 4) FULL) }
     ensures calls_most { (D.view disk.new).calls ≤ (D.view disk.old).calls + 4 }
     ensures handed { (D.view disk.new).handed ≤ (D.view disk.old).handed + 44 }
@@ -177,6 +182,7 @@ fn renew_slot<D: Disk>(disk: &mut D, at: u64, is_open: bool, text: &[u8]) -> Res
         (D.view disk.old).now ≡ v.now → (IsTrue is_open ↔ ((v.now Home).seen at ≡ 1)) → LeavesOnly v (D.view disk.new) (IsRenewing v.now new at) }
     ensures failed { OnErr result (HasRisen (D.view disk.old).faults (D.view disk.new).faults) }
     ensures later { (D.view disk.old).faults ≤ (D.view disk.new).faults }
+    ensures quiet { OnOk result ((D.view disk.new).faults ≡ (D.view disk.old).faults) }
     ensures calls { OnOk result ((D.view disk.new).calls ≡ min ((D.view disk.old).calls + (if is_open then 6 else 4)) FULL) }
     ensures calls_most { (D.view disk.new).calls ≤ (D.view disk.old).calls + 6 }
     ensures handed { (D.view disk.new).handed ≤ (D.view disk.old).handed + 45 }
@@ -202,6 +208,7 @@ pub fn renew<D: Disk>(disk: &mut D, s: &Super) -> Result<(), GateFault>
         LeavesOnly (D.view disk.old) (D.view disk.new) (IsRenewing (D.view disk.old).now s.now (spare_of ((D.view disk.old).now Home).seen)) }
     ensures faults { IfErr result (λ e. WriteFails (D.view disk.old) (D.view disk.new) e) }
     ensures later { (D.view disk.old).faults ≤ (D.view disk.new).faults }
+    ensures heeded { Heeds is_disk result (D.view disk.old) (D.view disk.new) }
     ensures calls { IsTrue D.told → OnOk result ((D.view disk.new).calls ≡ min ((D.view disk.old).calls + renewing_calls ((D.view disk.old).now Home).seen) FULL) }
     ensures calls_most { (D.view disk.new).calls ≤ (D.view disk.old).calls + 8 }
     ensures handed { (D.view disk.new).handed ≤ (D.view disk.old).handed + 45 }

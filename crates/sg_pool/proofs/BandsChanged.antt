@@ -80,6 +80,23 @@ module _ (g : Geometry) (slots : List Slot) (wins wins' : Windows) (w b : ℕ) (
         (λ not_new. ⊎_elim (λ was. absurd (in_none (at_t c ∙ frame_gone wins.slots.items w s lt c wins.windows.apart was.1 not_new.1))) (λ not_old. other_kept (frame_of wins.slots.items c) not_new.1 not_old.1 refl) (is_or_not (page_in wins.slots.items w) c))
         (is_or_not (Some b) c)
 
+  -- and each change
+  pub loaded_changes : (c o : ℕ) → since_of wins.slots.items (frame_of wins.slots.items c) ≡ Some o → since_of wins'.slots.items (frame_of wins'.slots.items c) ≡ Some o
+  loaded_changes c o had = ⊎_elim
+      (λ new. absurd (none_is_some o (sym (ap (since_of wins.slots.items) (ap (frame_of wins.slots.items) (sym (some_same b c new.1)) ∙ absent)) ∙ had)))
+      (λ not_new. ⊎_elim
+      (λ was. absurd (none_is_some o (sym clean ∙ (ap (since_of wins.slots.items) (sym (frame_is wins.slots.items w c wins.windows.apart lt was.1)) ∙ had))))
+      (λ not_old. changes_at c o (frame_of wins.slots.items c) not_new.1 not_old.1 refl had)
+      (is_or_not (page_in wins.slots.items w) c))
+      (is_or_not (Some b) c)
+    where
+      changes_at : (c o : ℕ) (x : Option ℕ) → (Some b ≡ Some c → ⊥) → (page_in wins.slots.items w ≡ Some c → ⊥) → frame_of wins.slots.items c ≡ x → since_of wins.slots.items (frame_of wins.slots.items c) ≡ Some o → since_of wins'.slots.items (frame_of wins'.slots.items c) ≡ Some o
+      changes_at c o None not_new not_old e had = absurd (none_is_some o (sym (ap (since_of wins.slots.items) e) ∙ had))
+      changes_at c o (Some v) not_new not_old e had =
+          let now = at_t c ∙ (frame_other wins.slots.items w s lt c apart not_new not_old ∙ e) in
+          let differ : v ≢ w = λ same. not_old (ap (page_in wins.slots.items) (sym same) ∙ (frame_some c wins.slots.items v e).1) in
+          ap (since_of wins'.slots.items) now ∙ (since_t (Some v) ∙ (ap (λ (x : Slot). x.since) (set_there wins.slots.items w s lt v differ) ∙ (ap (since_of wins.slots.items) (sym e) ∙ had)))
+
   module _ (frames frames' : Held) (pages : frames'.pages ≡ frames.pages) (others : (v : ℕ) → v ≢ w → get_or frames'.windows v [] ≡ get_or frames.windows v []) (p : Part)
       (bytes : (i : ℕ) → i < BAND_SIZE → get_or (get_or frames'.windows w []) i 0 ≡ p.seen (band_byte g b i)) where
     module _ (backed : IsBacked g p (units_of g p.seen slots wins frames)) where
@@ -184,7 +201,7 @@ bare_rewritten [] x bare = refl
 bare_rewritten (w ∷ ws) x bare = absurd cc
 
 -- changes that leave a window without an oldest change are none
-none_replayed : (ws : List OnWindow) (since : Option ℕ) → since_replayed ws since ≡ None → (since ≡ None) × (ws ≡ [])
+pub none_replayed : (ws : List OnWindow) (since : Option ℕ) → since_replayed ws since ≡ None → (since ≡ None) × (ws ≡ [])
 none_replayed [] since none = (none, refl)
 none_replayed (w ∷ ws) since none = absurd (none_is_some (unwrap_or since w.lsn) (sym (none_replayed ws (Some (unwrap_or since w.lsn)) none).0))
 

@@ -1,5 +1,5 @@
 -- The units when bands of windows go home.
-use Rattle.std.proofs.Common.{◌≡◌, ◌⊎◌, inl, inr, ⊎_elim, ◌<◌, ◌≤◌, ◌+◌, ℕ, true, false, Option, Some, None, List, length, get_or, refl, sym, ◌∙◌, ap, subst, arith}
+use Rattle.std.proofs.Common.{◌≡◌, ◌⊎◌, inl, inr, ⊎_elim, ◌<◌, ◌≤◌, ◌+◌, ℕ, true, false, Option, Some, None, Result, Ok, Err, OnOk, List, length, get_or, refl, sym, ◌∙◌, ap, subst, arith}
 use Rattle.std.proofs.lemmas.Bool.{cases_lt}
 use Rattle.sg_base.specs.declared.area.Area.{Area}
 use Rattle.sg_base.specs.declared.area.Area.TheVariants.{Home}
@@ -18,7 +18,7 @@ use Rattle.sg_pool.specs.declared.windows.Marks.{Marks}
 use Rattle.sg_pool.specs.Held.{frame_of, page_in, since_of, page_of}
 use Rattle.sg_pool.specs.Windows.{marked_in, last_in}
 use Rattle.sg_pool.specs.Units.{Geometry, page_at, band_byte, Units, IsBacked, IsCleaned, IsGoing}
-use Rattle.sg_pool.specs.Frames.{units_of, byte_in, lasts_of, AreBelow, AreLastsKept}
+use Rattle.sg_pool.specs.Frames.{units_of, byte_in, lasts_of, AreBelow, AreLastsKept, HaveGone, AreChangesKept}
 use Rattle.sg_pool.specs.Moments.{GoesHome}
 use Rattle.sg_pool.specs.Bands.{IsDirty, AreBandsHome, AreCleared}
 use Rattle.sg_pool.proofs.Banding.{dirty_is}
@@ -137,14 +137,15 @@ module _ (g : Geometry) (wins : Windows) (from to : ℕ) where
           (λ out. inl (bare (inl out)))
           (in_or_out from to x)
 
-      pub torn_goes : IsGoing g d (lasts_of wins) (v.now Home).seen m (w.now Home).seen → GoesHome g v log ds ps (lasts_of wins) m c
-      torn_goes going = record {
+      pub torn_goes : ((i : ℕ) → i < HEADER → (w.now Home).seen i ≡ (v.now Home).seen i) → IsGoing g d (lasts_of wins) (v.now Home).seen m (w.now Home).seen → GoesHome g v log ds ps (lasts_of wins) m c
+      torn_goes slots going = record {
         durable = d;
         records = log_stands.records;
         which = log_stands.which;
         held = log_stands.image (c log.area) (torn.others log.area apart);
         header = λ gate. absurd (shut gate);
         going = going_torn g d (lasts_of wins) (v.now Home).seen m (w.now Home).seen (laid (c Home)) (λ n lt k small. same (home_at n + k) (omega arith) (page_byte n k lt small)) (λ b i is_band small. byte_goes (frame_of wins.slots.items b) b i small refl) going;
+        superblock = λ i low. torn.home i (λ d. let e = d.is in absurd (omega (arith, e, low))) (ready.settled i (inl (omega (arith, low)))) ∙ slots i low;
         others = λ b not_home not_log. subst (λ (p : Part). LeavesPart p (c b)) (logs b not_home not_log) (torn.others b not_home);
       }
 
@@ -190,6 +191,30 @@ module _ (wins wins' : Windows) (from to : ℕ) (clear : AreCleared wins wins' f
       let same = frames_same wins.slots.items wins'.slots.items clear.count clear.numbers wins.windows.apart b in
       let it = in_window b o (frame_of wins.slots.items b) refl (ap (since_of wins'.slots.items) (sym same) ∙ since) in
       (it.0, ap (last_in wins'.marks.items) same ∙ it.1)
+
+  -- and what went home was durable
+  gone_at : (gate b o : ℕ) (x : Option ℕ) → ((v k : ℕ) → from ≤ v → v < to → since_of wins.slots.items (Some v) ≡ Some k → last_in wins.marks.items (Some v) < gate) → frame_of wins.slots.items b ≡ x → since_of wins.slots.items x ≡ Some o → since_of wins'.slots.items x ≡ None → last_in wins.marks.items x < gate
+  gone_at gate b o None durable e had none = absurd (none_is_some o had)
+  gone_at gate b o (Some w) durable e had none = ⊎_elim
+      (λ within. durable w o within.0 within.1 had)
+      (λ out. absurd (none_is_some o (sym none ∙ (clear.others w out ∙ had))))
+      (in_or_out from to w)
+
+  pub cleared_gone : (gate : ℕ) → ((v k : ℕ) → from ≤ v → v < to → since_of wins.slots.items (Some v) ≡ Some k → last_in wins.marks.items (Some v) < gate) → HaveGone gate wins wins'
+  cleared_gone gate durable b o had none =
+      let same = frames_same wins.slots.items wins'.slots.items clear.count clear.numbers wins.windows.apart b in
+      gone_at gate b o (frame_of wins.slots.items b) durable refl had (ap (since_of wins'.slots.items) (sym same) ∙ none)
+
+-- windows that lost no change lost none
+pub gone_kept : (gate : ℕ) (one two three : Windows) → HaveGone gate one two → AreChangesKept two three → HaveGone gate one three
+gone_kept gate one two three gone kept b o had none = ⊎_elim
+    (λ clean. gone b o had clean)
+    (λ some. absurd (none_is_some some.0 (sym none ∙ kept b some.0 some.1)))
+    (none_or_some (since_of two.slots.items (frame_of two.slots.items b)))
+
+pub on_ok_all : {T E : Type 0} (r : Result T E) (P : Type 0) → P → OnOk r P
+on_ok_all (Ok x) P p = p
+on_ok_all (Err e) P p = tt
 
 pub lasts_same : (wins wins' : Windows) → wins' ≡ wins → AreLastsKept wins wins'
 lasts_same wins wins' same = subst (AreLastsKept wins) (sym same) (λ b o since. (since, refl))

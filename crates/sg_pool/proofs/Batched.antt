@@ -3,12 +3,12 @@ use Rattle.std.proofs.Common.{◌≡◌, ◌⊎◌, inl, inr, ⊎_elim, ◌<◌,
 use Rattle.sg_base.specs.declared.area.Area.TheVariants.{Home}
 use Rattle.sg_disk.specs.Disk.{Bytes, Image, Part, State, LeavesOnly, View}
 use Rattle.sg_disk.proofs.Moments.{weaker, joined}
-use Rattle.sg_gate.specs.Layout.{home_at, IsStore}
+use Rattle.sg_gate.specs.Layout.{HEADER, home_at, IsStore}
 use Rattle.sg_gate.specs.Batch.{homed, IsReady, IsWhole, IsEither, IsBatch, SameLogs}
 use Rattle.sg_pool.specs.Going.{IsStored}
 use Rattle.sg_pool.specs.Units.{Geometry, page_at, band_byte}
 use Rattle.sg_pool.proofs.Homes.{page_same, batch_page, other_page, page_in_batch, homes_below}
-use Rattle.sg_gate.proofs.Over.{over_out}
+use Rattle.sg_gate.proofs.Over.{over_low, over_out}
 use Rattle.sg_pool.specs.declared.slot.Slot.{Slot}
 use Rattle.sg_pool.specs.Held.{page_in, since_of, page_of}
 use Rattle.sg_pool.specs.Batches.{AreCollected, ArePlaced, IsHeld, IsPartly, IsBatchMoment, AreHome}
@@ -25,6 +25,8 @@ pub record IsPlacing (told : Bool) (pages : ℕ) (slots : List Slot) (frames : L
   pub room : length numbers ≡ 32
   pub collected : AreCollected slots from f (take count numbers)
   pub later : v.faults ≤ w.faults
+  pub quiet : w.faults ≡ v.faults
+  pub kept : v.handed ≤ w.handed
   pub placed : IsTrue told → IsReady (v.now Home) → ArePlaced slots frames (take count numbers) (v.now Home) (w.now Home)
   pub logs : IsTrue told → IsReady (v.now Home) → SameLogs v.now w.now
   pub moments : IsTrue told → IsReady (v.now Home) → LeavesOnly v w (IsWhole v.now pages (v.now Home).seen)
@@ -37,6 +39,8 @@ placing_starts told pages slots frames from v numbers within long = record {
   room = long;
   collected = record { few = omega arith; each = λ j lt. absurd (omega arith); different = λ j k a b. absurd (omega arith); all = λ h a b. absurd (omega arith) };
   later = omega arith;
+  quiet = refl;
+  kept = omega arith;
   placed = λ t ready. record { ready = ready; store = λ i s. refl; pages = λ j lt. absurd (omega arith) };
   logs = λ t ready b other. refl;
   moments = λ t ready. none_whole pages v ready;
@@ -59,6 +63,7 @@ pub partly_same : (g : Geometry) (slots : List Slot) (frames : List (List ℕ)) 
 partly_same g slots frames before f same = record {
   page = λ n lt. inl (page_same f before (home_at n) (home_at n) (λ j small. same (home_at n + j) (inr (omega arith))));
   band = λ b i. same (band_byte g b i) (inr (omega arith));
+  superblock = λ i low. same i (inl low);
 }
 
 module _ (g : Geometry) (slots : List Slot) (frames : List (List ℕ)) (from f : ℕ) (ns : List ℕ) (v w : View) (are : AreCollected slots from f ns) (placed : ArePlaced slots frames ns (v.now Home) (w.now Home)) (logs : SameLogs v.now w.now) where
@@ -85,6 +90,7 @@ module _ (g : Geometry) (slots : List Slot) (frames : List (List ℕ)) (from f :
           (λ nowhere. inl (other_page ns seen batch.different n nowhere ∙ page_same seen (v.now Home).seen (home_at n) (home_at n) (λ j small. placed.store (home_at n + j) (inr (omega arith)))))
           (page_in_batch ns n);
       band = λ b i. over_out ns 0 seen seen (band_byte g b i) (λ is. let low = homes_below ns g.pages (band_byte g b i) batch.each is in absurd (omega arith)) ∙ placed.store (band_byte g b i) (inr (omega arith));
+      superblock = λ i low. over_low ns 0 seen seen i (omega arith) ∙ placed.store i (inl low);
     }
 
     later_moment : (c : Image) → IsEither w.now g.pages (w.now Home).seen later c → IsBatchMoment g slots frames v.now c
@@ -112,6 +118,7 @@ module _ (g : Geometry) (slots : List Slot) (frames : List (List ℕ)) (from f :
         partly = record {
           page = λ n lt. ⊎_elim (λ a. inl (page_there n ∙ a)) (λ a. inr (page_there n ∙ a.0, a.1)) (partly_over.page n lt);
           band = λ b i. done.bytes (band_byte g b i) (inr (omega arith)) ∙ partly_over.band b i;
+          superblock = λ i low. done.bytes i (inl low) ∙ partly_over.superblock i low;
         };
         written = written_after;
       }

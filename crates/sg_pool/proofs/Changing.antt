@@ -6,6 +6,7 @@ use Rattle.sg_gate.specs.Layout.{PAGE, home_at}
 use Rattle.sg_gate.specs.Batch.{IsReady}
 use Rattle.sg_pool.specs.Going.{IsStored, with_home}
 use Rattle.sg_pool.specs.Units.{Geometry, EachPage, page_at, band_byte, Units, IsBacked, IsCleaned}
+use Rattle.sg_pool.specs.Well.{IsWell}
 use Rattle.sg_pool.proofs.Homes.{page_same}
 use Rattle.sg_pool.specs.Frames.{units_of, window_of, byte_in, IsShelf, IsAtHome}
 use Rattle.sg_frames.specs.Held.{Held}
@@ -14,7 +15,7 @@ use Rattle.sg_pool.specs.declared.windows.Windows.{Windows}
 use Rattle.sg_pool.specs.Held.{frame_of, page_in, AreApart, IsIndex, bytes_of, since_of, page_of, page_since_of}
 use Rattle.sg_pool.proofs.Homed.{homed_page, homed_other, homed_band}
 use Rattle.std.proofs.lemmas.List.{set-set}
-use Rattle.sg_pool.proofs.Slots.{apart_new, apart_none, some_same, none_is_some, is_or_not, frame_some, frame_is, set_here, set_there, page_here, apart_kept, frame_kept, frame_other, frame_gone, within_set, owned_set}
+use Rattle.sg_pool.proofs.Slots.{apart_new, apart_none, some_same, none_is_some, is_or_not, frame_some, frame_is, set_here, set_there, page_here, apart_kept, frame_kept, frame_other, frame_gone, within_set, owned_set, page_there}
 
 pub done_ready : (p : Part) (f : Bytes) → IsStored p f → IsReady p
 done_ready p f done = record { closed = done.closed; settled = λ i out. done.settled i }
@@ -217,8 +218,9 @@ module _ (g : Geometry) (slots : List Slot) {index : List (Option ℕ)} (wins : 
 
 -- WHAT THE SHELF KEEPS
 module _ (pages bands : ℕ) (slots : List Slot) {index : List (Option ℕ)} (wins : Windows) (frames : Held) (shelf : IsShelf pages bands slots index wins frames) (f : ℕ) (lt : f < length slots) (s : Slot) where
-  pub shelf_slot : AreApart (set slots f s) → ((n : ℕ) → s.number ≡ Some n → n < pages) → (s.number ≡ None → s.since ≡ None) → (index' : List (Option ℕ)) → length index' ≡ length index → IsIndex (set slots f s) index' → IsShelf pages bands (set slots f s) index' wins frames
-  shelf_slot apart small fresh index' listed found = record {
+  pub shelf_slot : AreApart (set slots f s) → ((n : ℕ) → s.number ≡ Some n → n < pages) → (s.number ≡ None → s.since ≡ None) → ((n : ℕ) → s.number ≡ Some n → ∥ IsWell (get_or frames.pages f []) ∥₁) → (index' : List (Option ℕ)) → length index' ≡ length index → IsIndex (set slots f s) index'
+      → IsShelf pages bands (set slots f s) index' wins frames
+  shelf_slot apart small fresh well index' listed found = record {
     here = shelf.here;
     many = shelf.many ∙ sym (length-set slots f s);
     wide = shelf.wide;
@@ -231,13 +233,17 @@ module _ (pages bands : ℕ) (slots : List Slot) {index : List (Option ℕ)} (wi
     found = found;
     most_bands = shelf.most_bands;
     listed_bands = shelf.listed_bands;
+    well = λ h n less is. ⊎_elim
+        (λ same. subst (λ (j : ℕ). ∥ IsWell (get_or frames.pages j []) ∥₁) (sym same) (well n (sym (page_here slots f s lt) ∙ (ap (page_in (set slots f s)) (sym same) ∙ is))))
+        (λ differ. let e = length-set slots f s in shelf.well h n (omega (arith, e, less)) (sym (page_there slots f s lt h differ) ∙ is))
+        (cases_eq h f);
   }
 
   pub shelf_cleaned : s.number ≡ page_in slots f → (s.number ≡ None → s.since ≡ None) → IsShelf pages bands (set slots f s) index wins frames
-  shelf_cleaned same fresh = shelf_slot (apart_kept slots f s lt same shelf.apart) (λ n is. shelf.within f n lt (sym same ∙ is)) fresh index refl (λ n less. shelf.found n less ∙ sym (frame_kept slots f s lt same n shelf.apart))
+  shelf_cleaned same fresh = shelf_slot (apart_kept slots f s lt same shelf.apart) (λ n is. shelf.within f n lt (sym same ∙ is)) fresh (λ n is. shelf.well f n lt (sym same ∙ is)) index refl (λ n less. shelf.found n less ∙ sym (frame_kept slots f s lt same n shelf.apart))
 
-pub frame_bytes : (pages : List (List ℕ)) (f : ℕ) (bytes : List ℕ) → length bytes ≡ 4096 → ((i : ℕ) → i < length pages → length (get_or pages i []) ≡ 4096) → (i : ℕ) → i < length (set pages f bytes) → length (get_or (set pages f bytes) i []) ≡ 4096
-frame_bytes pages f bytes long each i less =
+pub frame_bytes : (size : ℕ) (pages : List (List ℕ)) (f : ℕ) (bytes : List ℕ) → length bytes ≡ size → ((i : ℕ) → i < length pages → length (get_or pages i []) ≡ size) → (i : ℕ) → i < length (set pages f bytes) → length (get_or (set pages f bytes) i []) ≡ size
+frame_bytes size pages f bytes long each i less =
     let low : i < length pages = let e = length-set pages f bytes in omega (arith, e) in
     ⊎_elim
     (λ same. ap (λ (j : ℕ). length (get_or (set pages f bytes) j [])) same ∙ (ap length (get_or-set_same pages f bytes [] (subst (λ (j : ℕ). j < length pages) same low)) ∙ long))
@@ -245,9 +251,9 @@ frame_bytes pages f bytes long each i less =
     (cases_eq i f)
 
 -- with a page frame's bytes set
-pub shelf_frame : (pages bands : ℕ) (slots : List Slot) {index : List (Option ℕ)} (wins : Windows) (frames : Held) (f : ℕ) (bytes : List ℕ) → length bytes ≡ 4096 → IsShelf pages bands slots index wins frames → IsShelf pages bands slots index wins (record frames { pages = set frames.pages f bytes })
-shelf_frame pages bands slots wins frames f bytes long shelf = record {
-  here = record { pages = frame_bytes frames.pages f bytes long shelf.here.pages; windows = shelf.here.windows };
+pub shelf_frame : (pages bands : ℕ) (slots : List Slot) {index : List (Option ℕ)} (wins : Windows) (frames : Held) (f : ℕ) (bytes : List ℕ) → length bytes ≡ 4096 → ((n : ℕ) → f < length slots → page_in slots f ≡ Some n → ∥ IsWell bytes ∥₁) → IsShelf pages bands slots index wins frames → IsShelf pages bands slots index wins (record frames { pages = set frames.pages f bytes })
+shelf_frame pages bands slots wins frames f bytes long well shelf = record {
+  here = record { pages = frame_bytes 4096 frames.pages f bytes long shelf.here.pages; windows = shelf.here.windows };
   many = length-set frames.pages f bytes ∙ shelf.many;
   wide = shelf.wide;
   few = shelf.few;
@@ -259,7 +265,34 @@ shelf_frame pages bands slots wins frames f bytes long shelf = record {
   found = shelf.found;
   most_bands = shelf.most_bands;
   listed_bands = shelf.listed_bands;
+  well = λ h n less is. ⊎_elim
+      (λ same. let many = shelf.many in
+      subst (λ (page : List ℕ). ∥ IsWell page ∥₁) (sym (ap (λ (j : ℕ). get_or (set frames.pages f bytes) j []) same ∙ get_or-set_same frames.pages f bytes [] (subst (λ (j : ℕ). j < length frames.pages) same (omega (arith, many, less)))))
+      (well n (subst (λ (j : ℕ). j < length slots) same less) (ap (page_in slots) (sym same) ∙ is)))
+      (λ differ. subst (λ (page : List ℕ). ∥ IsWell page ∥₁) (sym (get_or-set_other frames.pages f h bytes [] differ)) (shelf.well h n less is))
+      (cases_eq h f);
 }
+
+-- with other windows of as many bands, and a window's bytes set
+pub shelf_window : (pages bands : ℕ) (slots : List Slot) {index : List (Option ℕ)} (wins wins' : Windows) (frames frames' : Held) (w : ℕ) (bytes : List ℕ) → IsShelf pages bands slots index wins frames → w < length frames.windows
+    → frames' ≡ record frames { windows = set frames.windows w bytes } → length (get_or frames'.windows w []) ≡ 32768 → length wins'.slots.items ≡ length wins.slots.items → length wins'.index.items ≡ length wins.index.items → IsShelf pages bands slots index wins' frames'
+shelf_window pages bands slots {index = index} wins wins' frames frames' w bytes shelf lt is long count listed =
+    let sized : length bytes ≡ 32768 = sym (ap (λ (h : Held). length (get_or h.windows w [])) is ∙ ap (λ (l : List ℕ). length l) (get_or-set_same frames.windows w bytes [] lt)) ∙ long in
+    subst (λ (h : Held). IsShelf pages bands slots index wins' h) (sym is) (record {
+      here = record { pages = shelf.here.pages; windows = frame_bytes 32768 frames.windows w bytes sized shelf.here.windows };
+      many = shelf.many;
+      wide = length-set frames.windows w bytes ∙ (shelf.wide ∙ sym count);
+      few = shelf.few;
+      apart = shelf.apart;
+      within = shelf.within;
+      owned = shelf.owned;
+      most = shelf.most;
+      listed = shelf.listed;
+      found = shelf.found;
+      most_bands = shelf.most_bands;
+      listed_bands = listed ∙ shelf.listed_bands;
+      well = shelf.well;
+    })
 
 -- A CLEAN FRAME GETS A PAGE FROM ITS HOME, OR NONE
 module _ (g : Geometry) (slots : List Slot) {index : List (Option ℕ)} (wins : Windows) (frames : Held) (shelf : IsShelf g.pages g.bands slots index wins frames) (f : ℕ) (lt : f < length slots) (clean : since_of slots (Some f) ≡ None)

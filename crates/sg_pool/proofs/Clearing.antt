@@ -62,4 +62,5 @@ shelf_cleared p b old new wins frames shelf count pages sinces = record {
   found = λ n less. shelf.found n less ∙ sym (frames_same old new count pages shelf.apart n);
   most_bands = shelf.most_bands;
   listed_bands = shelf.listed_bands;
+  well = λ f n lt is. shelf.well f n (omega (arith, count, lt)) (sym (pages f) ∙ is);
 }

@@ -51,7 +51,7 @@ module _ (g : Geometry) (slots : List Slot) (wins : Windows) (frames : Held) (ap
   batch_goes v w log ds ps last d not_home else_where log_stands backed below home c moment =
       let partly = subst (λ (p : Part). IsPartly g slots frames.pages p.seen moment.0) home moment.1 in
       whole_goes g v w log ds ps last (units_of g (v.now Home).seen slots wins frames) d not_home else_where log_stands moment.0 c
-      (partly_goes (v.now Home) last d backed.pages below moment.0 partly) moment.2
+      (partly_goes (v.now Home) last d backed.pages below moment.0 partly) partly.superblock moment.2
 
   -- after it, the units with the frames from `from` to `to` marked clean
   module _ (from to : ℕ) (p q : Part) (home : AreHome g slots frames.pages from to p q) (slots' : List Slot) (same_frame : (n : ℕ) → frame_of slots' n ≡ frame_of slots n)
@@ -117,6 +117,7 @@ module _ (g : Geometry) (slots slots' : List Slot) (frames : List (List ℕ)) (c
   partly_same_slots f f' partly = record {
     page = λ n small. ⊎_elim (λ same. inl same) (λ gone. inr (gone.0 ∙ ap (λ (o : Option ℕ). bytes_of frames o []) (same_frame n), held_same n gone.1)) (partly.page n small);
     band = partly.band;
+    superblock = partly.superblock;
   }
 
   -- and of the first state
@@ -126,6 +127,7 @@ module _ (g : Geometry) (slots slots' : List Slot) (frames : List (List ℕ)) (c
       record {
         page = λ n small. ⊎_elim (λ same. ⊎_elim (λ was. inl (same ∙ was)) (λ gone. inr (same ∙ gone.0, gone.1)) (first.page n small)) (λ gone. inr gone) (more.page n small);
         band = λ b i. more.band b i ∙ first.band b i;
+        superblock = λ i low. more.superblock i low ∙ first.superblock i low;
       }
 
   pub moment_on : (s t : State) (c : Image) → SameLogs s t → IsPartly g slots frames (s Home).seen (t Home).seen → IsBatchMoment g slots' frames t c → IsBatchMoment g slots frames s c

@@ -24,6 +24,8 @@ pub record IsFlushing (told : Bool) (old new : Shelf) (v w : View) (from : ℕ) 
   pub kept : IsSameShelf old new
   pub cleared : (h : ℕ) → h < from → since_of new.slots.items (Some h) ≡ None
   pub later : v.faults ≤ w.faults
+  pub quiet : w.faults ≡ v.faults
+  pub handed : v.handed ≤ w.handed
   pub backed : IsTrue told → IsBacked (geometry_of old) (v.now Home) (units (v.now Home).seen old) → IsBacked (geometry_of old) (w.now Home) (units (w.now Home).seen new)
   pub units_are : IsTrue told → IsReady (v.now Home) → IsCleaned (geometry_of old) (units (v.now Home).seen old) (units (w.now Home).seen new)
   pub ready : IsTrue told → IsReady (v.now Home) → IsReady (w.now Home)
@@ -49,6 +51,8 @@ flushing_starts told s v = record {
   kept = same_shelf s;
   cleared = λ h lt. absurd (omega arith);
   later = omega arith;
+  quiet = refl;
+  handed = omega arith;
   backed = λ t b. b;
   units_are = λ t r. cleaned_refl (geometry_of s) (units (v.now Home).seen s);
   ready = λ t r. r;
@@ -83,6 +87,8 @@ pub record IsFlushed (told : Bool) (old new : Shelf) (v w : View) (from to : ℕ
   pub cleared : (h : ℕ) → from ≤ h → h < to → since_of new.slots.items (Some h) ≡ None
   pub others : (h : ℕ) → (h < from) ⊎ (to ≤ h) → since_of new.slots.items (Some h) ≡ since_of old.slots.items (Some h)
   pub later : v.faults ≤ w.faults
+  pub quiet : w.faults ≡ v.faults
+  pub handed : v.handed ≤ w.handed
   pub backed : IsTrue told → IsBacked (geometry_of old) (v.now Home) (units (v.now Home).seen old) → IsBacked (geometry_of old) (w.now Home) (units (w.now Home).seen new)
   pub units_are : IsTrue told → IsReady (v.now Home) → IsCleaned (geometry_of old) (units (v.now Home).seen old) (units (w.now Home).seen new)
   pub partly : IsTrue told → IsReady (v.now Home) → IsReady (w.now Home) × IsPartly (geometry_of old) old.slots.items old.frames.pages (v.now Home).seen (w.now Home).seen
@@ -95,6 +101,8 @@ flushing_next told old mid new v w z from to is next = record {
   kept = same_twice old mid new is.kept next.kept;
   cleared = λ h lt. ⊎_elim (λ low. next.others h (inl low) ∙ is.cleared h low) (λ high. next.cleared h high lt) (cases_lt h from);
   later = let a = is.later in let b = next.later in omega (arith, a, b);
+  quiet = next.quiet ∙ is.quiet;
+  handed = let a = is.handed in let b = next.handed in omega (arith, a, b);
   backed = λ t b. subst (λ (g : Geometry). IsBacked g (z.now Home) (units (z.now Home).seen new)) is.kept.geometry
       (next.backed t (subst (λ (g : Geometry). IsBacked g (w.now Home) (units (w.now Home).seen mid)) (sym is.kept.geometry) (is.backed t b)));
   units_are = λ t r. cleaned_twice (geometry_of old) (units (v.now Home).seen old) (units (w.now Home).seen mid) (units (z.now Home).seen new) (is.units_are t r)

@@ -48,4 +48,4 @@ module _ (g : Geometry) (slots : List Slot) (wins : Windows) (frames : Held) (ap
       let going = partly_goes g slots wins frames apart (v.now Home) (lasts_of wins) log'.gate backed.pages below_gate (z.now Home).seen from_v in
       let at_z = stands z log log' ds ps (along w z log log' ds ps not_home logs (inr (log_is, holds))) in
       joined so_far (weaker run (λ c torn. inr (torn_goes g wins 0 (length wins.slots.items) slots frames v z log ds ps log'.gate (v.now Home).seen not_home (λ b other not_log. logs b other ∙ same b not_log) at_z ready
-      (λ x b k low high held marked. subst (λ (n : ℕ). last_in wins.marks.items (Some x) < n) (sym d_is) (marked_below wins (tail_of log) logged backed.clean x b k high held marked)) c torn going)))
+      (λ x b k low high held marked. subst (λ (n : ℕ). last_in wins.marks.items (Some x) < n) (sym d_is) (marked_below wins (tail_of log) logged backed.clean x b k high held marked)) c torn from_v.superblock going)))

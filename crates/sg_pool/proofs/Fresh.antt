@@ -47,6 +47,7 @@ module _ (count : ℕ) where
         ∙ (sym (frame_none n) ∙ ap (λ (t : List Slot). frame_of t n) (sym same)));
     most_bands = few_bands;
     listed_bands = listed;
+    well = λ f n lt is. absurd (none_is_some n (sym (page_none f) ∙ (ap (λ (t : List Slot). page_in t f) (sym same) ∙ is)));
   }
 
 -- the disk has all of it

@@ -34,7 +34,7 @@ module _ (n : ℕ) (page : List ℕ) (long : length page ≡ PAGE) (f : Bytes) w
   pub homed_band : (g : Geometry) → n < g.pages → (b i : ℕ) → with_home n page f (band_byte g b i) ≡ f (band_byte g b i)
   homed_band g lt b i = homed_out (band_byte g b i) (inr (omega arith))
 
-rewritten_whole : (old new : List ℕ) → length new ≡ length old → refill (length old) old new ≡ new
+pub rewritten_whole : (old new : List ℕ) → length new ≡ length old → refill (length old) old new ≡ new
 rewritten_whole old new same = take_at new _ (length old) same
 
 -- a byte of a window of bytes

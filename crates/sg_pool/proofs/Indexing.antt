@@ -1,5 +1,5 @@
 -- The list by page number when a frame is emptied and filled.
-use Rattle.std.proofs.Common.{◌≡◌, ⊎_elim, ◌<◌, ℕ, Option, Some, None, List, length, get_or, set, refl, sym, ◌∙◌, ap, subst, arith, length-set, get_or-set_same, get_or-set_other}
+use Rattle.std.proofs.Common.{◌≡◌, ⊎_elim, ◌<◌, ℕ, Option, Some, None, List, [], length, get_or, set, refl, sym, ◌∙◌, ap, subst, arith, length-set, get_or-set_same, get_or-set_other}
 use Rattle.std.proofs.lemmas.Bool.{cases_eq}
 use Rattle.std.proofs.lemmas.List.{set-set}
 use Rattle.sg_frames.specs.Held.{Held}
@@ -7,6 +7,7 @@ use Rattle.sg_pool.specs.declared.slot.Slot.{Slot}
 use Rattle.sg_pool.specs.declared.windows.Windows.{Windows}
 use Rattle.sg_pool.specs.Held.{no_slot, frame_of, page_in, AreApart, IsIndex}
 use Rattle.sg_pool.specs.Frames.{IsShelf}
+use Rattle.sg_pool.specs.Well.{IsWell}
 use Rattle.sg_pool.proofs.Slots.{some_same, none_is_some, none_or_some, frame_is, frame_kept, frame_other, frame_gone, apart_new, apart_none, page_here}
 use Rattle.sg_pool.proofs.Changing.{shelf_slot}
 
@@ -52,12 +53,12 @@ module _ (pages bands : ℕ) (slots : List Slot) (index : List (Option ℕ)) (wi
   shelf_emptied new none some =
       let small : (n : ℕ) → page_in slots f ≡ Some n → n < length index = λ n is. (let low = shelf.within f n lt is in let e = shelf.listed in omega (arith, low, e)) in
       let it = emptied slots index f lt shelf.apart shelf.found new small none some in
-      shelf_slot pages bands slots wins frames shelf f lt no_slot (apart_none slots f no_slot lt refl shelf.apart) (λ n is. absurd (none_is_some n is)) (λ none. refl) new it.0 it.1
+      shelf_slot pages bands slots wins frames shelf f lt no_slot (apart_none slots f no_slot lt refl shelf.apart) (λ n is. absurd (none_is_some n is)) (λ none. refl) (λ n is. absurd (none_is_some n is)) new it.0 it.1
 
-  pub shelf_filled : (p : ℕ) → p < pages → page_in slots f ≡ None → frame_of slots p ≡ None → IsShelf pages bands (set slots f (record { number = Some p; since = None })) (set index p (Some f)) wins frames
-  shelf_filled p small none absent =
+  pub shelf_filled : (p : ℕ) → p < pages → page_in slots f ≡ None → frame_of slots p ≡ None → IsWell (get_or frames.pages f []) → IsShelf pages bands (set slots f (record { number = Some p; since = None })) (set index p (Some f)) wins frames
+  shelf_filled p small none absent well =
       let s : Slot = record { number = Some p; since = None } in
-      shelf_slot pages bands slots wins frames shelf f lt s (apart_new slots f s lt p refl absent shelf.apart) (λ n is. subst (λ (m : ℕ). m < pages) (some_same p n is) small) (λ none. refl)
+      shelf_slot pages bands slots wins frames shelf f lt s (apart_new slots f s lt p refl absent shelf.apart) (λ n is. subst (λ (m : ℕ). m < pages) (some_same p n is) small) (λ none. refl) (λ n is. ∣ well ∣₁)
       (set index p (Some f)) (length-set index p (Some f)) (filled slots index f lt shelf.apart shelf.found p (let e = shelf.listed in omega (arith, e)) none absent)
 
 -- emptying a frame brings no page into one

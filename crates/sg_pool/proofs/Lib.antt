@@ -33,3 +33,8 @@ pub mod Slots
 pub mod Sorted
 pub mod Windowing
 pub mod Writing
+pub mod Counting
+pub mod HomesKept
+pub mod RedoHomes
+pub mod Sparing
+pub mod Welling

@@ -1,5 +1,5 @@
 -- The order of the frames.
-use Rattle.std.proofs.Common.{◌≡◌, ◌≢◌, inl, inr, ⊎_elim, ◌<◌, ◌≤◌, ◌+◌, ◌-◌, ◌++◌, ℕ, zero, suc, Bool, true, false, cond, Option, Some, None, List, [], ◌∷◌, length, nat_eq, refl, ap, sym, ◌∙◌, subst, arith}
+use Rattle.std.proofs.Common.{◌≡◌, ◌≢◌, ◌⊎◌, inl, inr, ⊎_elim, ◌<◌, ◌≤◌, ◌+◌, ◌-◌, ◌++◌, ℕ, zero, suc, Bool, true, false, cond, Option, Some, None, List, [], ◌∷◌, length, nat_eq, refl, ap, sym, ◌∙◌, subst, arith}
 use Rattle.std.specs.Prelude.{Contains, IsSome, sum_by, IsTrue}
 use Rattle.std.specs.List.{All}
 use Rattle.std.specs.Option.{option_map_or}
@@ -223,3 +223,42 @@ below_pins (suc n) = let a : pins_of (below (suc n)) ≡ 0 + pins_of (below n) =
 
 pub order_below : (n : ℕ) → IsOrder n (below n)
 order_below n = record { size = length-below n; keys = below_keys n; each = below_each n; few = let none = below_pins n in omega (arith, none) }
+
+-- A USE KEEPS EACH PIN
+pub used_pins : (f : ℕ) (es es' : List (ℕ × Bool)) → IsUsed f es es' → (k : ℕ) → lookup (nat_eq k) es' ≡ lookup (nat_eq k) es
+used_pins f es es' used k = ap (lookup (nat_eq k)) used.first ∙ ⊎_elim
+    (λ same. let t : nat_eq k f ≡ true = grind (arith, nat_tests) in rw t (sym used.was ∙ ap (λ (j : ℕ). lookup (nat_eq j) es) (sym same)))
+    (λ differ. let t : nat_eq k f ≡ false = other_key k f differ in rw t (still_there f k differ es))
+    (cases_eq k f)
+
+-- ONE THAT IS PINNED IS PINNED AGAIN
+same_pin : (a : Bool) → Some a ≡ Some true → a ≡ true
+same_pin a is = cc
+
+pins_again : (k : ℕ) (es : List (ℕ × Bool)) → lookup (nat_eq k) es ≡ Some true → pins_of (set_value (nat_eq k) es true) ≡ pins_of es
+pins_again k [] is = refl
+pins_again k (x ∷ es) is = (elim (nat_eq k x.0) as (λ y. nat_eq k x.0 ≡ y → pins_of (set_value (nat_eq k) (x ∷ es) true) ≡ pins_of (x ∷ es)) [
+  | true ↦ λ t.
+      let high : x.1 ≡ true = same_pin x.1 (rw t at is) in
+      let one : pin x ≡ 1 = ap (λ (b : Bool). cond b 1 0) high in
+      let a : pins_of (set_value (nat_eq k) (x ∷ es) true) ≡ 1 + pins_of es = ap pins_of (set_first k true x es t) ∙ sum_by-cons pin (x.0, true) es in
+      let c : pins_of (x ∷ es) ≡ pin x + pins_of es = sum_by-cons pin x es in
+      omega (arith, a, c, one)
+  | false ↦ λ t.
+      let rest : pins_of (set_value (nat_eq k) es true) ≡ pins_of es = pins_again k es (rw t at is) in
+      let a : pins_of (set_value (nat_eq k) (x ∷ es) true) ≡ pin x + pins_of (set_value (nat_eq k) es true) = ap pins_of (set_later k true x es t) ∙ sum_by-cons pin x (set_value (nat_eq k) es true) in
+      let c : pins_of (x ∷ es) ≡ pin x + pins_of es = sum_by-cons pin x es in
+      omega (arith, a, c, rest)
+]) refl
+
+pub order_again : (k count : ℕ) (es : List (ℕ × Bool)) → lookup (nat_eq k) es ≡ Some true → IsOrder count es → IsOrder count (set_value (nat_eq k) es true)
+order_again k count es is order = record {
+  size = length-set_value (nat_eq k) es true ∙ order.size;
+  keys = keys_set k true count es order.keys;
+  each = λ j lt. each_set k true j es (order.each j lt);
+  few = let same = pins_again k es is in let few = order.few in omega (arith, same, few);
+}
+
+-- so a page may be pinned that is pinned, or where fewer are than may be
+pub order_pinned : (k count : ℕ) (es : List (ℕ × Bool)) → (lookup (nat_eq k) es ≡ Some true) ⊎ (pins_of es < 6) → IsOrder count es → IsOrder count (set_value (nat_eq k) es true)
+order_pinned k count es room order = ⊎_elim (λ is. order_again k count es is order) (λ few. order_set k true count es (omega (arith, few)) order) room

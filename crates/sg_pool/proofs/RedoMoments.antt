@@ -81,6 +81,7 @@ module _ (g : Geometry) (v : View) (log : Tail) (ds : List Numbered) (last : ℕ
         held = ⊎_elim (λ held. held) (λ held. (records_here (tail_of log) (ds ++ []) (inr (refl, refl)) held).1) before.held;
         header = λ open_gate. absurd (still_shut home open_gate);
         going = still_redoing home;
+        superblock = λ i low. home.rest i (ready.settled i (inl (omega arith)));
         others = λ b not_home not_log. before.others b not_log;
       })
       (λ (goes : GoesHome g v log ds [] last m c).
@@ -89,6 +90,7 @@ module _ (g : Geometry) (v : View) (log : Tail) (ds : List Numbered) (last : ℕ
         held = here.1;
         header = goes.header;
         going = going_redoing goes.durable here.0 (laid (c Home)) goes.going;
+        superblock = goes.superblock;
         others = goes.others;
       })
       moment
@@ -122,7 +124,7 @@ module _ (g : Geometry) (v : View) (log : Tail) (ds : List Numbered) (last : ℕ
   }
 
   pub moment_whole : (c : Image) → IsRedoMoment g v log ds last some m c → IsRedoMoment g v log ds last rs m c
-  moment_whole c moment = record { held = moment.held; header = moment.header; going = redoing_whole log.gate (v.now Home).seen (laid (c Home)) moment.going; others = moment.others }
+  moment_whole c moment = record { held = moment.held; header = moment.header; going = redoing_whole log.gate (v.now Home).seen (laid (c Home)) moment.going; superblock = moment.superblock; others = moment.others }
 
 -- WHAT A RUN HAS LEFT, by its moments: the last of them is that of the disk as it is
 module _ (g : Geometry) (v w : View) (log : Tail) (ds : List Numbered) (last : ℕ → ℕ) (rs : PartRecords) (m : Units) (bytes : (a : Area) (i : ℕ) → (w.now a).seen i < 256) (run : LeavesOnly v w (IsRedoMoment g v log ds last rs m)) where
@@ -188,6 +190,7 @@ module _ (g : Geometry) (v w z : View) (log : Tail) (ds : List Numbered) (last l
     held = moment.held;
     header = moment.header;
     going = redoing_then (laid (c Home)) moment.going;
+    superblock = λ i low. moment.superblock i low ∙ (first.each (λ x. (w.now x).seen) (inl (seen_image w bytes))).superblock i low;
     others = λ x not_home not_log. rest_others g v w log ds last a m bytes first x (c x) not_home not_log (moment.others x not_home not_log);
   }
 

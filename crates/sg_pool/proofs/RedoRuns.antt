@@ -1,6 +1,7 @@
 -- One call of redo is a run over its places, and so is none.
 use Rattle.std.proofs.Common.{◌≡◌, ◌≢◌, ◌⊎◌, inl, inr, ⊎_elim, ◌<◌, ◌≤◌, ◌+◌, ◌-◌, ◌^◌, ℕ, Bool, IsTrue, Option, None, Some, Result, Ok, Err, List, [], ◌∷◌, length, refl, sym, ◌∙◌, ap, subst, arith}
-use Rattle.std.specs.Prelude.{All, OnOk, OnErr, IfOk, IfErr}
+use Rattle.std.specs.Prelude.{All, nat_eq, OnOk, OnErr, IfOk, IfErr}
+use Rattle.std.specs.Map.{lookup}
 use Rattle.std.proofs.lemmas.Bool.{cases_eq, cases_lt}
 use Rattle.std.proofs.lemmas.List.{get_or_past}
 use Rattle.std.proofs.lemmas.Option.{slice_get-get_or}
@@ -9,6 +10,7 @@ use Rattle.sg_base.specs.Ends.{HasRisen}
 use Rattle.sg_base.specs.declared.area.Area.{Area}
 use Rattle.sg_base.specs.declared.area.Area.TheVariants.{Home}
 use Rattle.sg_disk.specs.Disk.{Image, Leaves, View, LeavesOnly}
+use Rattle.sg_disk.specs.Heeds.{Heeds}
 use Rattle.sg_disk.proofs.Moments.{started, weaker}
 use Rattle.sg_gate.specs.Batch.{IsReady}
 use Rattle.sg_log.specs.Frames.{Numbered}
@@ -22,20 +24,26 @@ use Rattle.sg_pool.specs.declared.fault.PoolFault.TheVariants.{Disk, Damaged, Me
 use Rattle.sg_pool.specs.declared.pool.Pool.{Pool}
 use Rattle.sg_pool.specs.declared.slot.Slot.{Slot}
 use Rattle.sg_pool.specs.declared.windows.Windows.{Windows}
+use Rattle.sg_pool.specs.Counts.{HasGrown, is_disk}
 use Rattle.sg_pool.specs.Frames.{AreBelow}
 use Rattle.sg_pool.specs.Held.{no_slot, frame_of, page_in}
 use Rattle.sg_pool.specs.Lending.{IsBrought}
 use Rattle.sg_pool.specs.Moments.{IsSameOrForced}
-use Rattle.sg_pool.specs.Pooled.{sizes, contents, frame_holding, Backs, SameContents, IsLogged, IsPoolMoment, SameWindows, SameFrames, last_of, OthersKeepLasts}
+use Rattle.sg_pool.specs.Pooled.{sizes, contents, frame_holding, uses, window_count, Backs, SameContents, IsLogged, IsPoolMoment, SameWindows, SameFrames, last_of, OthersKeepLasts}
 use Rattle.sg_pool.specs.Redone.{ArePlacesBelow, PartRecords, places_of, records_of, IsRedone, ArePartlyRedone, AreHomesKnown, IsRedoMoment}
 use Rattle.sg_pool.specs.Redoing.{AreLastsRedone, IsDurable, RedoFails, AreRedone, IsRun}
 use Rattle.sg_pool.specs.Repeated.{lsn_in, last_lsn, IsCleanedThenPageRepeated, IsCleanedThenBandRepeated}
 use Rattle.sg_pool.specs.Shelves.{OnTold, BringFails, AreLogged, lasts}
 use Rattle.sg_pool.specs.Units.{Geometry, Units, IsBelow}
+use Rattle.sg_pool.specs.Untouched.{IsUntouched}
 use Rattle.sg_pool.specs.Well.{IsWell}
 use Rattle.sg_pool.proofs.BandsHome.{lasts_same}
 use Rattle.sg_pool.proofs.Bringing.{on_told_weaker}
 use Rattle.sg_pool.proofs.Changing.{cleaned_refl}
+use Rattle.sg_pool.proofs.Counting.{grown_same}
+use Rattle.sg_pool.proofs.HomesKept.{untouched_same}
+use Rattle.sg_pool.proofs.Ordering.{used_pins}
+use Rattle.sg_pool.proofs.RedoHomes.{exact_here, exact_whole}
 use Rattle.sg_pool.proofs.Placed.{AreParts, places_first, are_together, all_first, all_of, none_of, of_page, of_band}
 use Rattle.sg_pool.proofs.Redone.{none, none_whole, first_whole, whole_of_whole, cleaned_redone, cleaned_then, page_redone, band_redone, homes_known, page_kept, records_numbered, cleaned_below, page_below, band_below}
 use Rattle.sg_pool.proofs.RedoMoments.{tail_is_gate, own_moment, moment_whole, version_whole}
@@ -57,6 +65,11 @@ module _ {T : Type 0} (g : Geometry) (told : Bool) (t : Table) (text : List ℕ)
     size = run.size;
     log_kept = run.log_kept;
     later = run.later;
+    heeded = run.heeded;
+    kept = run.kept;
+    grown = run.grown;
+    pins = run.pins;
+    count = run.count;
     bytes = run.bytes;
     below = λ tail logged every. run.below tail logged (all_first all a b parts (λ p. p.lsn < tail) every);
     lasts = tt;
@@ -67,6 +80,8 @@ module _ {T : Type 0} (g : Geometry) (told : Bool) (t : Table) (text : List ℕ)
       redone = tt;
       partly = on_err_told {T = T} (Err e) _ _ (λ (x : ArePartlyRedone g (records_of g t text a) (contents v p0) (contents w p1)).
           (x.0, whole_of_whole x.0 (records_of g t text a) (records_of g t text all) x.1 (first_whole (records_of g t text all) (records_of g t text a) (records_of g t text b) (are_together all a b parts g t text)), x.2)) it.partly;
+      untouched = on_told_weaker {T = T} (Err e) _ _ (exact_whole g (v.now Home).seen (w.now Home).seen (records_of g t text a) (records_of g t text all) (contents v p0) (contents w p1)
+          (first_whole (records_of g t text all) (records_of g t text a) (records_of g t text b) (are_together all a b parts g t text))) it.untouched;
       well = tt;
     };
     log_is = run.log_is;
@@ -95,12 +110,17 @@ module _ {U : Type 0} (told : Bool) (t : Table) (text : List ℕ) (v : View) (lo
     size = refl;
     log_kept = inl refl;
     later = omega arith;
+    heeded = refl;
+    kept = omega arith;
+    grown = grown_same log v v (omega arith);
+    pins = λ f. refl;
+    count = refl;
     bytes = bytes;
     below = λ tail logged every. logged;
     lasts = record { its = λ b o some since. absurd (no_named ((sizes p).pages + b) some); others = λ b o empty since. (since, refl) };
     absent = λ n empty away. away;
     faults = tt;
-    units_are = λ is_told apart backs. record { backed = backs; redone = none_redone (sizes p) t text (contents v p); partly = tt; well = λ n lt some away. absurd (no_named n some) };
+    units_are = λ is_told apart backs. record { backed = backs; redone = none_redone (sizes p) t text (contents v p); partly = tt; untouched = exact_here (sizes p) (v.now Home).seen (v.now Home).seen _ _ _ (untouched_same (sizes p) (v.now Home).seen (v.now Home).seen (contents v p) refl); well = λ n lt some away. absurd (no_named n some) };
     log_is = λ ds ps is_told apart backs holds. inl (refl, holds);
     durable = λ ds is_told apart backs durable. record {
       logged = durable.logged;
@@ -128,6 +148,7 @@ last_below tail (p ∷ places) some below =
 -- ONE CALL OF REDO
 module _ {T : Type 0} (told : Bool) (t : Table) (text : List ℕ) (unit : ℕ) (places : List Place) (same : All (λ p. p.unit ≡ unit) places) (some : 0 < length places) (v w : View) (log log' : Tail) (old new : Pool) (r : Result T PoolFault)
     (bytes : IsTrue told → (a : Area) (i : ℕ) → (w.now a).seen i < 256) (size : sizes new ≡ sizes old) (log_kept : (log' ≡ log) ⊎ (log' ≡ forced log)) (later : v.faults ≤ w.faults)
+    (heeded : Heeds is_disk r v w) (kept : v.handed ≤ w.handed) (grown : HasGrown log log' v w)
     (log_is : (ds ps : List Numbered) → IsTrue told → log.area ≢ Home → IsReady (v.now Home) → Holds v log ds ps → OnTold r (IsSameOrForced w log log' ds ps))
     (moments : (ds ps : List Numbered) → IsTrue told → log.area ≢ Home → IsReady (v.now Home) → Holds v log ds ps → IsLogged (tail_of log) v old → LeavesOnly v w (IsPoolMoment v old log ds ps)) where
   abbrev g : Geometry
@@ -159,7 +180,8 @@ module _ {T : Type 0} (told : Bool) (t : Table) (text : List ℕ) (unit : ℕ) (
   sized {tail} below = subst (λ (h : Geometry). IsBelow h tail (contents w new)) (sym size) below
 
   -- of a page
-  module _ (lt : unit < (sizes old).pages) (windows : SameWindows old new) (brought : IfOk r (λ _. (f : ℕ) × IsBrought unit old new f))
+  module _ (lt : unit < (sizes old).pages) (windows : SameWindows old new) (brought : IfOk r (λ _. (f : ℕ) × IsBrought unit old new f)) (unused : OnErr r (uses new ≡ uses old))
+      (untouched : IsTrue told → log.area ≢ Home → Backs (sizes old) v old → OnTold r (IsUntouched (sizes old) (v.now Home).seen (w.now Home).seen (contents w new)))
       (backed : IsTrue told → log.area ≢ Home → Backs (sizes old) v old → OnTold r (Backs (sizes old) w new))
       (repeated : IsTrue told → log.area ≢ Home → Backs (sizes old) v old → OnOk r (IsCleanedThenPageRepeated (sizes old) (w.now Home) unit (page_records t text places) (contents v old) (contents w new)))
       (refused : IsTrue told → log.area ≢ Home → Backs (sizes old) v old → OnErr r (OnTold r (SameContents v old w new)))
@@ -200,6 +222,7 @@ module _ {T : Type 0} (told : Bool) (t : Table) (text : List ℕ) (unit : ℕ) (
           cleaned_then (sizes old) (records_of (sizes old) t text places) (contents v old) it.0 (contents w new) it.2.clean it.1
           (page_redone (sizes old) unit (page_records t text places) (records_of (sizes old) t text places) it.0 (contents w new) (of_page (sizes old) t text unit places same lt) it.3)) (repeated is_told apart backs);
       partly = on_err_told r _ _ (λ (it : SameContents v old w new). (none, none_whole (records_of (sizes old) t text places), cleaned_redone (sizes old) (contents v old) (contents w new) it)) (refused is_told apart backs);
+      untouched = on_told_weaker r _ _ (exact_here (sizes old) (v.now Home).seen (w.now Home).seen (records_of (sizes old) t text places) (contents v old) (contents w new)) (untouched is_told apart backs);
       well = page_well is_told apart backs r (well is_told apart backs);
     }
       where
@@ -235,6 +258,11 @@ module _ {T : Type 0} (told : Bool) (t : Table) (text : List ℕ) (unit : ℕ) (
       size = size;
       log_kept = log_kept;
       later = later;
+      heeded = heeded;
+      kept = kept;
+      grown = grown;
+      pins = page_pins r brought unused;
+      count = ap (λ (x : Windows). length x.slots.items) windows.windows;
       bytes = bytes;
       below = λ tail logged every. windows_below tail logged;
       lasts = always r (record {
@@ -252,11 +280,16 @@ module _ {T : Type 0} (told : Bool) (t : Table) (text : List ℕ) (unit : ℕ) (
         page_absent (Ok x) is = λ n empty away. away_still is.0 is.1 n (others_unnamed n empty) away
         page_absent (Err e) is = tt
 
+        page_pins : (x : Result T PoolFault) → IfOk x (λ _. (f : ℕ) × IsBrought unit old new f) → OnErr x (uses new ≡ uses old) → (f : ℕ) → lookup (nat_eq f) (uses new) ≡ lookup (nat_eq f) (uses old)
+        page_pins (Ok x) is same f = used_pins is.0 (uses old) (uses new) is.1.used f
+        page_pins (Err e) is same f = ap (lookup (nat_eq f)) same
+
   -- of a band
   module _ (b : ℕ) (is_band : unit ≡ (sizes old).pages + b) (frames : SameFrames old new) (logged : (tail : ℕ) → AreLogged tail old.shelf → last_lsn places < tail → AreLogged tail new.shelf)
       (backed : IsTrue told → log.area ≢ Home → Backs (sizes old) v old → OnOk r (Backs (sizes old) w new))
       (repeated : IsTrue told → log.area ≢ Home → Backs (sizes old) v old → OnOk r (IsCleanedThenBandRepeated (sizes old) (w.now Home) b (window_records t text places) (contents v old) (contents w new)))
-      (last : OnOk r (last_of new b ≡ last_lsn places)) (lasts : OthersKeepLasts b old new) (fault : IfErr r (λ e. e ≡ Disk)) (failed : OnErr r (HasRisen v.faults w.faults)) where
+      (last : OnOk r (last_of new b ≡ last_lsn places)) (lasts : OthersKeepLasts b old new) (count : window_count new ≡ window_count old)
+      (untouched : IsTrue told → log.area ≢ Home → Backs (sizes old) v old → OnOk r (IsUntouched (sizes old) (v.now Home).seen (w.now Home).seen (contents w new))) (fault : IfErr r (λ e. e ≡ Disk)) (failed : OnErr r (HasRisen v.faults w.faults)) where
     told_ok : (x : Result T PoolFault) (P : Type 0) → IfErr x (λ e. e ≡ Disk) → OnOk x P → OnTold x P
     told_ok (Ok x) P is p = p
     told_ok (Err e) P is p = subst (λ (f : PoolFault). OnTold {T = T} (Err f) P) (sym is) tt
@@ -291,6 +324,7 @@ module _ {T : Type 0} (told : Bool) (t : Table) (text : List ℕ) (unit : ℕ) (
           cleaned_then (sizes old) (records_of (sizes old) t text places) (contents v old) it.0 (contents w new) it.2.clean it.1
           (band_redone (sizes old) b (window_records t text places) (records_of (sizes old) t text places) it.0 (contents w new) (of_band (sizes old) t text unit places same b is_band) it.3)) (repeated is_told apart backs);
       partly = band_partly r _ fault;
+      untouched = told_ok r _ fault (on_ok_weaker r (exact_here (sizes old) (v.now Home).seen (w.now Home).seen (records_of (sizes old) t text places) (contents v old) (contents w new)) (untouched is_told apart backs));
       well = always r (λ n small some_places away. let here = named n some_places in absurd (omega (arith, here, is_band, small)));
     }
 
@@ -299,6 +333,11 @@ module _ {T : Type 0} (told : Bool) (t : Table) (text : List ℕ) (unit : ℕ) (
       size = size;
       log_kept = log_kept;
       later = later;
+      heeded = heeded;
+      kept = kept;
+      grown = grown;
+      pins = λ f. ap (lookup (nat_eq f)) frames.uses;
+      count = count;
       bytes = bytes;
       below = band_logged;
       lasts = band_lasts r last;

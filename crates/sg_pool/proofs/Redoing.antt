@@ -19,15 +19,17 @@ use Rattle.sg_pool.specs.declared.fault.PoolFault.TheVariants.{Disk, Damaged, Me
 use Rattle.sg_pool.specs.declared.pool.Pool.{Pool}
 use Rattle.sg_pool.specs.Moments.{IsSameOrForced}
 use Rattle.sg_pool.specs.Pooled.{contents, frame_holding, Backs}
-use Rattle.sg_pool.specs.Redone.{ArePlacesBelow, places_of, records_of, ArePartlyRedone, AreHomesKnown, AreChangesBelow}
+use Rattle.sg_pool.specs.Redone.{ArePlacesBelow, places_of, records_of, ArePartlyRedone, AreHomesExact, AreHomesKnown, AreChangesBelow}
 use Rattle.sg_pool.specs.Redoing.{AreLastsRedone, IsDurable, RedoFails, AreRedone, AreDurablyRedone, IsRun}
 use Rattle.sg_pool.specs.Repeated.{last_lsn}
 use Rattle.sg_pool.specs.Shelves.{OnTold, AreLogged, lasts}
 use Rattle.sg_pool.specs.Units.{Geometry}
 use Rattle.sg_pool.specs.Well.{IsWell}
 use Rattle.sg_pool.proofs.Bringing.{on_told_weaker, risen_more}
+use Rattle.sg_pool.proofs.Counting.{grown_then, heeds_then}
 use Rattle.sg_pool.proofs.Forcing.{is_forced}
 use Rattle.sg_pool.proofs.Placed.{AreParts, places_first, places_second, are_together, all_first, all_second, page_nothing}
+use Rattle.sg_pool.proofs.RedoHomes.{exact_then, told_partly}
 use Rattle.sg_pool.proofs.Redone.{redone_then, partly_then}
 use Rattle.sg_pool.proofs.RedoMoments.{tail_is_gate, forced_twice, forced_same, moments_then, homes_then}
 use Rattle.sg_pool.proofs.Slots.{none_or_some}
@@ -138,6 +140,9 @@ module _ {U T : Type 0} (g : Geometry) (told : Bool) (t : Table) (text : List �
       redone = on_ok_weaker r (redone_then g (records_of g t text all) (records_of g t text a) (records_of g t text b) (are_together all a b parts g t text) (contents v p0) (contents w p1) (contents z p2) one.backed.clean one.redone) two.redone;
       partly = on_err_told r _ _ (λ (it : ArePartlyRedone g (records_of g t text b) (contents w p1) (contents z p2)).
           partly_then g (records_of g t text all) (records_of g t text a) (records_of g t text b) (are_together all a b parts g t text) it.0 it.1 (contents v p0) (contents w p1) (contents z p2) one.backed.clean one.redone it.2) two.partly;
+      untouched = on_told_two r (ArePartlyRedone g (records_of g t text b) (contents w p1) (contents z p2)) (AreHomesExact g (w.now Home).seen (z.now Home).seen (records_of g t text b) (contents w p1) (contents z p2)) (AreHomesExact g (v.now Home).seen (z.now Home).seen (records_of g t text all) (contents v p0) (contents z p2))
+          (λ it exact. exact_then g (v.now Home).seen (w.now Home) (z.now Home).seen (records_of g t text all) (records_of g t text a) (records_of g t text b) it.0 (are_together all a b parts g t text) it.1 (contents v p0) (contents w p1) (contents z p2) one.backed one.redone it.2 one.untouched exact)
+          (told_partly r g (records_of g t text b) (contents w p1) (contents z p2) two.redone two.partly) two.untouched;
       well = on_ok_weaker r (λ (rest : (n : ℕ) → n < g.pages → places_of n b ≢ [] → frame_holding p1 n ≡ None → IsWell ((contents w p1).page n)) (n : ℕ) (lt : n < g.pages) (some : places_of n all ≢ []) (away : frame_holding p0 n ≡ None).
           ⊎_elim
           (λ no_b. one.well n lt (λ no_a. some (places_first all a b parts n no_b ∙ no_a)) away)
@@ -215,6 +220,11 @@ module _ {U T : Type 0} (g : Geometry) (told : Bool) (t : Table) (text : List �
     size = second.size;
     log_kept = log_kept;
     later = let x = first.later in let y = second.later in omega (arith, x, y);
+    heeded = heeds_then u r v w z first.heeded second.heeded;
+    kept = let x = first.kept in let y = second.kept in omega (arith, x, y);
+    grown = grown_then log log1 log2 v w z first.grown second.grown second.kept;
+    pins = λ f. second.pins f ∙ first.pins f;
+    count = second.count ∙ first.count;
     bytes = second.bytes;
     below = λ tail logged every. second.below tail (first.below tail logged (all_first all a b parts (λ p. p.lsn < tail) every)) (all_second all a b parts (λ p. p.lsn < tail) every);
     lasts = lasts_then;

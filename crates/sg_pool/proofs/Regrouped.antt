@@ -14,7 +14,7 @@ use Rattle.sg_pool.specs.declared.fault.PoolFault.{PoolFault}
 use Rattle.sg_pool.specs.declared.fault.PoolFault.TheVariants.{Disk, Damaged, Memory}
 use Rattle.sg_pool.specs.declared.pool.Pool.{Pool}
 use Rattle.sg_pool.specs.Pooled.{contents, frame_holding}
-use Rattle.sg_pool.specs.Redone.{PartRecords, ArePlacesBelow, places_of, records_of, IsRedone, ArePartlyRedone, AreHomesKnown, IsRedoMoment}
+use Rattle.sg_pool.specs.Redone.{PartRecords, ArePlacesBelow, places_of, records_of, IsRedone, ArePartlyRedone, AreHomesExact, AreHomesKnown, IsRedoMoment}
 use Rattle.sg_pool.specs.Redoing.{AreLastsRedone, RedoFails, IsRun}
 use Rattle.sg_pool.specs.Repeated.{last_lsn}
 use Rattle.sg_pool.specs.Shelves.{OnTold, lasts}
@@ -43,6 +43,11 @@ module _ {T : Type 0} (g : Geometry) (told : Bool) (t : Table) (text : List ℕ)
     size = run.size;
     log_kept = run.log_kept;
     later = run.later;
+    heeded = run.heeded;
+    kept = run.kept;
+    grown = run.grown;
+    pins = run.pins;
+    count = run.count;
     bytes = run.bytes;
     below = λ tail logged every. run.below tail logged (below_sorted tail every);
     lasts = on_ok_weaker r (λ (it : AreLastsRedone g sorted p0 p1). record {
@@ -55,6 +60,7 @@ module _ {T : Type 0} (g : Geometry) (told : Bool) (t : Table) (text : List ℕ)
       backed = it.backed;
       redone = subst (λ (rs : PartRecords). OnOk r (IsRedone g rs (contents v p0) (contents w p1))) records_same it.redone;
       partly = subst (λ (rs : PartRecords). OnErr r (OnTold r (ArePartlyRedone g rs (contents v p0) (contents w p1)))) records_same it.partly;
+      untouched = subst (λ (rs : PartRecords). OnTold r (AreHomesExact g (v.now Home).seen (w.now Home).seen rs (contents v p0) (contents w p1))) records_same it.untouched;
       well = on_ok_weaker r (λ (all : (n : ℕ) → n < g.pages → places_of n sorted ≢ [] → frame_holding p0 n ≡ None → IsWell ((contents v p0).page n)) (n : ℕ) (lt : n < g.pages) (some : places_of n places ≢ []) (away : frame_holding p0 n ≡ None).
           all n lt (λ empty. some (sym (same n) ∙ empty)) away) it.well;
     };

@@ -1,4 +1,5 @@
 -- A unit that is lent, replayed and given back.
+use Rattle.sg_redo.proofs.InTurn.{IsWellDone}
 use Rattle.std.proofs.Common.{◌≡◌, ◌≢◌, ◌<◌, ℕ, Bool, true, false, List, [], length, take, drop, get_or, set, sym, ◌∙◌, ap, subst, arith, get_or-set_same, length-set}
 use Rattle.std.proofs.Math.Seq.{take-length}
 use Rattle.std.proofs.lemmas.Bool.Decides.{nat_tests}
@@ -82,6 +83,10 @@ module _ (t : Table) (text : List ℕ) (places : List Place) (u : code.Unit) (ow
 
         pub frame_here : (new : Held) → length (bytes_at new v.loan.place) ≡ size_of v.loan.place → length (bytes_at new (Page f)) ≡ 4096
         frame_here new is_here = subst (λ (p : frames.Place). length (bytes_at new p) ≡ size_of p) (place_is (Page f) there) is_here
+
+        pub frame_well : (length u.loan.bytes ≡ 4096 → IsWellDone (page_records t text (own_places places u)) u.loan.bytes) → IsWellDone (page_records t text places) (get_or old.pages f [])
+        frame_well well = subst (λ (ps : List Place). IsWellDone (page_records t text ps) (get_or old.pages f [])) own_all
+            (subst (λ (l : List ℕ). IsWellDone (page_records t text (own_places places u)) l) all (well (ap (λ (l : List ℕ). length l) all ∙ here)))
 
     module _ (w : ℕ) (lt : w < length old.windows) (left : taken ≡ with_bytes old (Window w) []) (spot : loan.spot ≡ spot_at old (Window w)) (there : loan.place ≡ Window w) where
       pub window_from : IsFrom taken v.loan

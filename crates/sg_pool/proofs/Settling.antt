@@ -1,5 +1,5 @@
 -- A page goes home, after a force where it isn't durable: what holds of the log, and each moment.
-use Rattle.std.proofs.Common.{◌≡◌, inl, inr, ⊎_elim, ◌<◌, ℕ, List, [], ◌++◌, length, refl, sym, ◌∙◌, ap, subst}
+use Rattle.std.proofs.Common.{◌≡◌, inl, inr, ⊎_elim, ◌<◌, ◌≤◌, ◌+◌, ◌*◌, ℕ, List, [], ◌++◌, length, refl, sym, ◌∙◌, ap, subst, arith}
 use Rattle.std.proofs.lemmas.Bool.{cases_eq}
 use Rattle.sg_base.specs.declared.area.Area.{Area}
 use Rattle.sg_base.specs.declared.area.Area.TheVariants.{Home}
@@ -9,8 +9,10 @@ use Rattle.sg_disk.proofs.Moments.{weaker, joined}
 use Rattle.sg_log.specs.Frames.{Numbered, HasRecords, Frames, SameElsewhere}
 use Rattle.sg_log.specs.Held.{Tail, Holds, tail_of, forced, IsBeforeOrAfter}
 use Rattle.sg_log.proofs.Holding.{holds_seen, tail_forced, tail_empty, forced_empty}
-use Rattle.sg_gate.specs.Layout.{PAGE, home_at}
-use Rattle.sg_gate.specs.Batch.{laid, IsWhole, IsEither, SameLogs}
+use Rattle.sg_gate.specs.Layout.{PAGE, HEADER, HOMES, home_at}
+use Rattle.sg_gate.proofs.Over.{laid_open, laid_shut, over_low}
+use Rattle.sg_disk.proofs.Images.{put_outside}
+use Rattle.sg_gate.specs.Batch.{laid, numbers_of, IsWhole, IsEither, SameLogs}
 use Rattle.sg_base.specs.Page.{lsn_of}
 use Rattle.sg_pool.specs.Units.{Geometry, page_at, Units, IsGoing}
 use Rattle.sg_pool.proofs.GoingOn.{going_starts, going_same}
@@ -73,19 +75,24 @@ stands w log log' ds ps is = ⊎_elim
     })
     is
 
+-- laid over or not, the bytes before the header are the same
+pub laid_low : (f : Bytes) (i : ℕ) → i < HEADER → laid f i ≡ f i
+laid_low f i low = ⊎_elim (λ is. laid_open f i is ∙ over_low (numbers_of f) 0 f f i (omega arith)) (λ not. laid_shut f i not) (cases_eq (f HEADER) 1)
+
 -- ONE PAGE GOES HOME
 module _ (g : Geometry) (v w : View) (log : Tail) (ds ps : List Numbered) (last : ℕ → ℕ) (m : Units) (d : ℕ) (apart : log.area ≡ Home → ⊥) (else_where : SameElsewhere log.area v.now w.now) (log_stands : Stands w log ds ps d) where
   home_same : w.now Home ≡ v.now Home
   home_same = else_where Home (λ is. apart (sym is))
 
-  pub whole_goes : (store : Bytes) (c : Image) → IsGoing g d last (v.now Home).seen m store → IsWhole w.now g.pages store c → GoesHome g v log ds ps last m c
-  whole_goes store c going whole = record {
+  pub whole_goes : (store : Bytes) (c : Image) → IsGoing g d last (v.now Home).seen m store → ((i : ℕ) → i < HEADER → store i ≡ (v.now Home).seen i) → IsWhole w.now g.pages store c → GoesHome g v log ds ps last m c
+  whole_goes store c going slots whole = record {
     durable = d;
     records = log_stands.records;
     which = log_stands.which;
     held = log_stands.image (c log.area) (whole.others log.area apart);
     header = whole.header;
     going = going_same g d last (v.now Home).seen m store (laid (c Home)) (λ i high. whole.home i (inr high)) going;
+    superblock = λ i low. sym (laid_low (c Home) i low) ∙ (whole.home i (inl low) ∙ slots i low);
     others = λ b not_home not_log. subst (λ (p : Part). LeavesPart p (c b)) (else_where b not_log) (whole.others b not_home);
   }
 
@@ -107,7 +114,7 @@ module _ (g : Geometry) (v w : View) (log : Tail) (ds ps : List Numbered) (last 
     either_goes c either =
         let same : (w.now Home).seen ≡ (v.now Home).seen = ap (λ (p : Part). p.seen) home_same in
         let there = subst (λ (f : Bytes). IsEither w.now g.pages f (with_home n page f) c) same either in
-        inr (⊎_elim (λ before. whole_goes (v.now Home).seen c (going_starts g d last (v.now Home).seen m) before) (λ after. whole_goes (with_home n page (v.now Home).seen) c homed_goes after) there)
+        inr (⊎_elim (λ before. whole_goes (v.now Home).seen c (going_starts g d last (v.now Home).seen m) (λ i low. refl) before) (λ after. whole_goes (with_home n page (v.now Home).seen) c homed_goes (λ i low. put_outside (home_at n) page (v.now Home).seen i (λ high within. absurd (omega arith))) after) there)
 
     pub page_goes : (z : View) → LeavesOnly v w (IsBeforeOrAfter v.now log ds ps) → LeavesOnly w z (IsEither w.now g.pages (w.now Home).seen (with_home n page (w.now Home).seen)) → LeavesOnly v z (IsMoment g v log ds ps last m)
     page_goes z force run = joined (weaker force (λ c before. inl before)) (weaker run either_goes)

@@ -3,7 +3,7 @@ use Rattle.std.specs.Prelude.{◌≡◌, ◌≢◌, ◌⊎◌, ◌<◌, ◌≤�
 use Rattle.sg_base.specs.declared.area.Area.TheVariants.{Home}
 use Rattle.sg_disk.specs.Disk.{Bytes, Image, Part, State}
 use Rattle.sg_pool.specs.Units.{Geometry, page_at, band_byte}
-use Rattle.sg_gate.specs.Layout.{place_at, home_at, IsStore}
+use Rattle.sg_gate.specs.Layout.{HEADER, place_at, home_at, IsStore}
 use Rattle.sg_gate.specs.Batch.{IsReady, IsWhole}
 use Rattle.sg_pool.specs.declared.slot.Slot.{Slot}
 use Rattle.sg_pool.specs.Held.{page_in, since_of, page_of}
@@ -37,6 +37,7 @@ IsHeld slots n = (h : ℕ) × (h < length slots) × (page_in slots h ≡ Some n)
 pub record IsPartly (g : Geometry) (slots : List Slot) (frames : List (List ℕ)) (before after : Bytes) : Type 0 where
   pub page : (n : ℕ) → n < g.pages → (page_at after (home_at n) ≡ page_at before (home_at n)) ⊎ ((page_at after (home_at n) ≡ page_of slots frames n []) × IsHeld slots n)
   pub band : (b i : ℕ) → after (band_byte g b i) ≡ before (band_byte g b i)
+  pub superblock : (i : ℕ) → i < HEADER → after i ≡ before i
 
 -- a moment at which pages of frames go home: each is home as a whole, or not at all
 abbrev pub IsBatchMoment : Geometry → List Slot → List (List ℕ) → State → Image → Type 0

@@ -1,12 +1,12 @@
 -- A record is done to a page in its frame, or to a band in its window.
 use Rattle.std.specs.Prelude.{◌≡◌, ◌≢◌, ◌⊎◌, ◌↔◌, ◌<◌, ℕ, Bool, true, false, Some, List, slice_set, unwrap_or, length}
 use Rattle.sg_base.specs.declared.page.TheConstants.{BAND_SIZE}
-use Rattle.sg_disk.specs.Disk.{put}
+use Rattle.sg_disk.specs.Disk.{Part, put}
 use Rattle.sg_segment.specs.Runs.{IsWithin}
 use Rattle.sg_redo.specs.History.{OnPage, redone, since_after}
 use Rattle.sg_pool.specs.declared.slot.Slot.{Slot}
 use Rattle.sg_pool.specs.Held.{page_in, since_of}
-use Rattle.sg_pool.specs.Units.{Geometry, Units, IsCleaned}
+use Rattle.sg_pool.specs.Units.{Geometry, Units, IsBacked, IsCleaned}
 
 -- the frames once that was done to the page of one of them, or wasn't
 abbrev pub slots_after : (is_done : Bool) → List Slot → (f lsn : ℕ) → List Slot
@@ -24,9 +24,9 @@ pub record IsChanged (p : ℕ) (r : OnPage) (m m' : Units) : Type 0 where
   pub band_since : (b : ℕ) → m'.band_since b ≡ m.band_since b
   pub marked : (b i : ℕ) → m'.marked b i ≡ m.marked b i
 
--- units may have gone home, and then the record r was done to page p
-abbrev pub IsCleanedThenChanged : Geometry → (p : ℕ) → OnPage → Units → Units → Type 0
-IsCleanedThenChanged g p r m m' = (mid : Units) × IsCleaned g m mid × IsChanged p r mid m'
+-- units may have gone home, where this home area has them, and then the record r was done to page p
+abbrev pub IsCleanedThenChanged : Geometry → (home : Part) → (p : ℕ) → OnPage → Units → Units → Type 0
+IsCleanedThenChanged g home p r m m' = (mid : Units) × IsCleaned g m mid × IsBacked g home mid × IsChanged p r mid m'
 
 -- THE UNITS ONCE BYTES ARE WRITTEN TO BAND b from byte `at` on, as record `lsn` does: they are there, and marked; the record is the band's
 -- oldest change that isn't on the disk where there was none. Nothing else changes
@@ -40,6 +40,6 @@ pub record IsWritten (b lsn at : ℕ) (bytes : List ℕ) (m m' : Units) : Type 0
   pub page : (n : ℕ) → m'.page n ≡ m.page n
   pub page_since : (n : ℕ) → m'.page_since n ≡ m.page_since n
 
--- units may have gone home, and then bytes were written to band b
-abbrev pub IsCleanedThenWritten : Geometry → (b lsn at : ℕ) → List ℕ → Units → Units → Type 0
-IsCleanedThenWritten g b lsn at bytes m m' = (mid : Units) × IsCleaned g m mid × IsWritten b lsn at bytes mid m'
+-- other units may have gone home, where this home area has them, and then bytes were written to band b
+abbrev pub IsCleanedThenWritten : Geometry → (home : Part) → (b lsn at : ℕ) → List ℕ → Units → Units → Type 0
+IsCleanedThenWritten g home b lsn at bytes m m' = (mid : Units) × IsCleaned g m mid × IsBacked g home mid × (mid.band_since b ≡ m.band_since b) × IsWritten b lsn at bytes mid m'

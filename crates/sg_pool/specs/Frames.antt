@@ -9,6 +9,7 @@ use Rattle.sg_pool.specs.Going.{with_home, IsStored}
 use Rattle.sg_pool.specs.Held.{frame_of, page_in, since_of, AreApart, IsIndex, page_of, page_since_of}
 use Rattle.sg_pool.specs.Windows.{last_in, marked_in}
 use Rattle.sg_pool.specs.Units.{Geometry, Units, page_at, band_byte}
+use Rattle.sg_pool.specs.Well.{IsWell}
 
 -- the window that holds the band
 abbrev pub window_of : Windows → ℕ → Option ℕ
@@ -41,8 +42,17 @@ AreBelow tail wins = (b o : ℕ) → since_of wins.slots.items (window_of wins b
 abbrev pub AreLastsKept : (old new : Windows) → Type 0
 AreLastsKept old new = (b o : ℕ) → since_of new.slots.items (window_of new b) ≡ Some o → (since_of old.slots.items (window_of old b) ≡ Some o) × (lasts_of new b ≡ lasts_of old b)
 
+-- each band's oldest change that isn't on the disk still isn't
+abbrev pub AreChangesKept : (old new : Windows) → Type 0
+AreChangesKept old new = (b o : ℕ) → since_of old.slots.items (window_of old b) ≡ Some o → since_of new.slots.items (window_of new b) ≡ Some o
+
+-- WHAT WENT HOME WAS DURABLE: each band that had a change which wasn't on the disk, and has none now, had its last one below this number
+abbrev pub HaveGone : (gate : ℕ) → (old new : Windows) → Type 0
+HaveGone gate old new = (b o : ℕ) → since_of old.slots.items (window_of old b) ≡ Some o → since_of new.slots.items (window_of new b) ≡ None → lasts_of old b < gate
+
 -- THE FRAMES AND WHAT THEY HOLD AGREE: none is lent, no page is in two of them, each page is one of the store's, a frame without a page has
--- no change, and the list by page number knows each page. There are as many windows as bands are kept in
+-- no change, and the list by page number knows each page. There are as many windows as bands are kept in.
+-- Each page in a frame is a page of slots, or zeros
 pub record IsShelf (pages bands : ℕ) (slots : List Slot) (index : List (Option ℕ)) (wins : Windows) (frames : Held) : Type 0 where
   pub here : NoneLent frames
   pub many : length frames.pages ≡ length slots
@@ -56,6 +66,7 @@ pub record IsShelf (pages bands : ℕ) (slots : List Slot) (index : List (Option
   pub found : IsIndex slots index
   pub most_bands : bands ≤ 65536
   pub listed_bands : length wins.index.items ≡ bands
+  pub well : (f n : ℕ) → f < length slots → page_in slots f ≡ Some n → ∥ IsWell (get_or frames.pages f []) ∥₁
 
 -- the frame's page has been written home, or it didn't need to be
 pub record IsWritten (slots : List Slot) (frames : Held) (f : ℕ) (p q : Part) : Type 0 where

@@ -1,5 +1,5 @@
 -- A pool as its callers see it.
-use Rattle.std.specs.Prelude.{◌≡◌, ◌≢◌, ◌⊎◌, ◌<◌, ℕ, Bool, Option, Some, List}
+use Rattle.std.specs.Prelude.{◌≡◌, ◌≢◌, ◌⊎◌, ◌<◌, ℕ, Bool, Option, Some, List, length}
 use Rattle.sg_base.specs.declared.area.Area.TheVariants.{Home}
 use Rattle.sg_disk.specs.Disk.{Image, View}
 use Rattle.sg_log.specs.Frames.{Numbered}
@@ -62,6 +62,13 @@ window_holding pool b = window_of pool.shelf.wins b
 
 abbrev pub band_held : Pool → ℕ → Option ℕ
 band_held pool w = page_in pool.shelf.wins.slots.items w
+
+-- how many windows there are, and the one into which the next band comes that is in none
+abbrev pub window_count : Pool → ℕ
+window_count pool = length pool.shelf.wins.slots.items
+
+abbrev pub next_window : Pool → ℕ
+next_window pool = pool.shelf.wins.next
 
 -- the number of a band's last change that isn't on the disk
 abbrev pub last_of : Pool → ℕ → ℕ

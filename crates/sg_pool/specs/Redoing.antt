@@ -1,19 +1,22 @@
 -- A call that repeats a part of the log.
-use Rattle.std.specs.Prelude.{◌≡◌, ◌≢◌, ◌⊎◌, ◌<◌, ◌≤◌, ◌+◌, ℕ, Bool, IsTrue, Some, None, List, [], Result, OnOk, OnErr, IfErr}
+use Rattle.std.specs.Prelude.{◌≡◌, ◌≢◌, ◌⊎◌, ◌<◌, ◌≤◌, ◌+◌, ℕ, Bool, IsTrue, Some, None, List, [], nat_eq, Result, OnOk, OnErr, IfErr}
+use Rattle.std.specs.Map.{lookup}
 use Rattle.sg_base.specs.Ends.{HasRisen}
 use Rattle.sg_base.specs.declared.area.Area.{Area}
 use Rattle.sg_base.specs.declared.area.Area.TheVariants.{Home}
 use Rattle.sg_disk.specs.Disk.{View, LeavesOnly}
+use Rattle.sg_disk.specs.Heeds.{Heeds}
 use Rattle.sg_log.specs.Frames.{Numbered}
 use Rattle.sg_log.specs.Held.{Tail, Holds, tail_of, forced}
 use Rattle.sg_ops.specs.Table.{Table}
 use Rattle.sg_redo.specs.declared.place.Place.{Place}
+use Rattle.sg_pool.specs.Counts.{HasGrown, is_disk}
 use Rattle.sg_pool.specs.declared.fault.PoolFault.{PoolFault}
 use Rattle.sg_pool.specs.declared.fault.PoolFault.TheVariants.{Disk, Damaged, Memory}
 use Rattle.sg_pool.specs.declared.pool.Pool.{Pool}
 use Rattle.sg_pool.specs.Moments.{IsSameOrForced}
-use Rattle.sg_pool.specs.Pooled.{sizes, contents, frame_holding, band_since_of, last_of, Backs, IsLogged}
-use Rattle.sg_pool.specs.Redone.{ArePlacesBelow, places_of, records_of, IsRedone, ArePartlyRedone, AreHomesKnown, IsRedoMoment}
+use Rattle.sg_pool.specs.Pooled.{sizes, contents, uses, window_count, frame_holding, band_since_of, last_of, Backs, IsLogged}
+use Rattle.sg_pool.specs.Redone.{ArePlacesBelow, places_of, records_of, IsRedone, ArePartlyRedone, AreHomesExact, AreHomesKnown, IsRedoMoment}
 use Rattle.sg_pool.specs.Repeated.{last_lsn}
 use Rattle.sg_pool.specs.Shelves.{OnTold, AreLogged, lasts}
 use Rattle.sg_pool.specs.Units.{Geometry}
@@ -43,6 +46,7 @@ pub record AreRedone {T : Type 0} (g : Geometry) (t : Table) (text : List ℕ) (
   pub backed : OnTold result (Backs g w new)
   pub redone : OnOk result (IsRedone g (records_of g t text places) (contents v old) (contents w new))
   pub partly : OnErr result (OnTold result (ArePartlyRedone g (records_of g t text places) (contents v old) (contents w new)))
+  pub untouched : OnTold result (AreHomesExact g (v.now Home).seen (w.now Home).seen (records_of g t text places) (contents v old) (contents w new))
   pub well : OnOk result ((n : ℕ) → n < g.pages → places_of n places ≢ [] → frame_holding old n ≡ None → IsWell ((contents v old).page n))
 
 -- and where the part is durable
@@ -56,6 +60,11 @@ pub record IsRun {T : Type 0} (g : Geometry) (told : Bool) (t : Table) (text : L
   pub size : sizes new ≡ g
   pub log_kept : (log' ≡ log) ⊎ (log' ≡ forced log)
   pub later : v.faults ≤ w.faults
+  pub heeded : Heeds is_disk result v w
+  pub kept : v.handed ≤ w.handed
+  pub grown : HasGrown log log' v w
+  pub pins : (f : ℕ) → lookup (nat_eq f) (uses new) ≡ lookup (nat_eq f) (uses old)
+  pub count : window_count new ≡ window_count old
   pub bytes : IsTrue told → (a : Area) (i : ℕ) → (w.now a).seen i < 256
   -- where the part's records are below a number, the last change of each band stays so
   pub below : (tail : ℕ) → AreLogged tail old.shelf → ArePlacesBelow tail places → AreLogged tail new.shelf

@@ -1,5 +1,5 @@
 -- The records of a part of the log are repeated on all the units that they change, and images of the moments of that.
-use Rattle.std.specs.Prelude.{◌≡◌, ◌⊎◌, ◌<◌, ◌+◌, ◌==◌, ℕ, true, None, List, [], All, filter, map}
+use Rattle.std.specs.Prelude.{◌≡◌, ◌⊎◌, ◌<◌, ◌+◌, ◌==◌, ℕ, true, Some, None, List, [], All, filter, map}
 use Rattle.std.specs.List.Sorted.{IsStrictlyIncreasing}
 use Rattle.sg_base.specs.Page.{lsn_of}
 use Rattle.sg_base.specs.declared.area.Area.{Area}
@@ -82,6 +82,16 @@ IsVersion rs was page = (page ≡ was) ⊎ (page ≡ repeated rs was)
 abbrev pub AreHomesKnown : Geometry → (home : Part) → PartRecords → (m m' : Units) → Type 0
 AreHomesKnown g home rs m m' = EachPage g (λ n. (m'.page_since n ≡ m.page_since n) ⊎ IsVersion (rs.page n) (m.page n) (page_at home.seen (home_at n)))
 
+-- THE HOME AREA BEHIND REDO: the superblock's slots are as they were. The home of a page that has a change which isn't on the disk is as it was,
+-- and the change may be the one that it had; or it has the page as it was before its records, and the change is the first of these that was
+-- done. The same of a band
+pub record AreHomesExact (g : Geometry) (before after : Bytes) (rs : PartRecords) (m m' : Units) : Type 0 where
+  pub superblock : (i : ℕ) → i < HEADER → after i ≡ before i
+  pub pages : (n o : ℕ) → n < g.pages → m'.page_since n ≡ Some o →
+      (page_at after (home_at n) ≡ page_at before (home_at n)) ⊎ ((m'.page_since n ≡ since_repeated (rs.page n) (m.page n) None) × (page_at after (home_at n) ≡ m.page n))
+  pub bands : (b o : ℕ) → b < g.bands → m'.band_since b ≡ Some o →
+      ((i : ℕ) → i < BAND_SIZE → after (band_byte g b i) ≡ before (band_byte g b i)) ⊎ ((m'.band_since b ≡ since_replayed (rs.band b) None) × ((i : ℕ) → i < BAND_SIZE → after (band_byte g b i) ≡ m.byte b i))
+
 -- each of these changes is a record below d
 abbrev pub AreChangesBelow : ℕ → List OnWindow → Type 0
 AreChangesBelow d ws = All (λ w. w.lsn < d) ws
@@ -94,9 +104,10 @@ pub record IsRedoing (g : Geometry) (d : ℕ) (last : ℕ → ℕ) (rs : PartRec
   pub bytes : EachByte g (λ b i. (now (band_byte g b i) ≡ seen (band_byte g b i)) ⊎ (((m.marked b i ≡ true) × (last b < d)) ⊎ ((is_covered (on_byte i (rs.band b)) ≡ true) × AreChangesBelow d (rs.band b))))
 
 -- AN IMAGE OF A MOMENT OF REDO: the log has the durable records, the header of an open batch is in range, the units are being repeated, and
--- the third area is as a crash could have left it before
+-- the third area is as a crash could have left it before. The superblock's slots are as they were
 pub record IsRedoMoment (g : Geometry) (v : View) (log : Tail) (ds : List Numbered) (last : ℕ → ℕ) (rs : PartRecords) (m : Units) (c : Image) : Type 0 where
   pub held : HasRecords (c log.area) log.base log.gate ds
   pub header : c Home HEADER ≡ 1 → IsBatch g.pages (numbers_of (c Home))
   pub going : IsRedoing g log.gate last rs (v.now Home).seen m (laid (c Home))
+  pub superblock : (i : ℕ) → i < HEADER → c Home i ≡ (v.now Home).seen i
   pub others : (b : Area) → (b ≡ Home → ⊥) → (b ≡ log.area → ⊥) → LeavesPart (v.now b) (c b)

@@ -1,5 +1,6 @@
 -- The units of a shelf.
-use Rattle.std.specs.Prelude.{◌≡◌, ℕ, Bool, IsTrue, Result, Ok, Err, length}
+use Rattle.std.specs.Prelude.{◌≡◌, ◌<◌, ℕ, Bool, IsTrue, Some, [], Result, Ok, Err, length, get_or}
+use Rattle.sg_base.specs.Page.{lsn_of}
 use Rattle.sg_base.specs.Ends.{HasRisen}
 use Rattle.sg_base.specs.declared.area.Area.{Area}
 use Rattle.sg_base.specs.declared.area.Area.TheVariants.{Home}
@@ -11,7 +12,8 @@ use Rattle.sg_pool.specs.Well.{IsWell}
 use Rattle.sg_pool.specs.declared.fault.PoolFault.{PoolFault}
 use Rattle.sg_pool.specs.declared.fault.PoolFault.TheVariants.{Disk, Damaged, Memory}
 use Rattle.sg_pool.specs.declared.shelf.Shelf.{Shelf}
-use Rattle.sg_pool.specs.Held.{page_in}
+use Rattle.sg_pool.specs.Held.{page_in, since_of}
+use Rattle.sg_pool.specs.Windows.{last_in}
 
 abbrev pub geometry_of : Shelf → Geometry
 geometry_of s = record { pages = s.pages; bands = s.bands }
@@ -25,6 +27,14 @@ lasts s = lasts_of s.wins
 -- the last change of each band that isn't on the disk is a record below this number
 abbrev pub AreLogged : ℕ → Shelf → Type 0
 AreLogged tail s = AreBelow tail s.wins
+
+-- the change of the page in frame f that isn't on the disk is durable in the log, if there is one: its number is below this
+abbrev pub IsFrameDurable : (gate : ℕ) → Shelf → ℕ → Type 0
+IsFrameDurable gate s f = (o : ℕ) → since_of s.slots.items (Some f) ≡ Some o → lsn_of (get_or s.frames.pages f []) < gate
+
+-- and the last one of the band in window w
+abbrev pub IsWindowDurable : (gate : ℕ) → Shelf → ℕ → Type 0
+IsWindowDurable gate s w = (o : ℕ) → since_of s.wins.slots.items (Some w) ≡ Some o → last_in s.wins.marks.items (Some w) < gate
 
 -- in a state of the disk
 abbrev pub units_at : View → Shelf → Units

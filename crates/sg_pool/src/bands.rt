@@ -3,16 +3,20 @@ ghost use Rattle.sg_base.specs.Ends.{HasRisen};
 ghost use Rattle.sg_base.specs.declared.area.Area.TheVariants.{Home};
 ghost use Rattle.sg_base.specs.declared.page.TheConstants.{BAND_SIZE};
 ghost use Rattle.sg_disk.specs.Disk.{Leaves, LeavesOnly, Counts, ReadBytes};
+ghost use Rattle.sg_disk.specs.Heeds.{Heeds};
 ghost use Rattle.sg_log.specs.Frames.{Numbered};
 ghost use Rattle.sg_log.specs.Held.{Holds, tail_of, forced};
 ghost use Rattle.sg_gate.specs.Batch.{IsReady, SameLogs};
+ghost use Rattle.sg_gate.specs.Layout.{HEADER};
 ghost use Rattle.sg_window.specs.Runs.{IsTorn};
+ghost use Rattle.sg_pool.specs.Counts.{HasGrown, is_disk};
 ghost use Rattle.sg_pool.specs.Units.{IsBacked, IsCleaned, band_byte};
-ghost use Rattle.sg_pool.specs.Frames.{AreLastsKept};
+ghost use Rattle.sg_pool.specs.Frames.{AreLastsKept, HaveGone, AreChangesKept};
 ghost use Rattle.sg_pool.specs.Held.{frame_of, page_in, since_of};
 ghost use Rattle.sg_pool.specs.Windows.{no_marks, marked_in, last_in};
 ghost use Rattle.sg_pool.specs.Bands.{IsDirty, AreBandsWritten, AreBandsHome, AreCleared};
 ghost use Rattle.sg_pool.specs.Moments.{IsSameOrForced, IsMoment};
+ghost use Rattle.sg_pool.specs.Untouched.{IsUntouched};
 
 use crate::PoolFault;
 use crate::settle::make_durable;
@@ -24,7 +28,7 @@ use sg_log::Log;
 use sg_window::write_runs;
 
 impl Shelf {
-    ghost use Rattle.sg_pool.specs.Shelves.{geometry_of, units_at, IsBackedAt, lasts, AreLogged};
+    ghost use Rattle.sg_pool.specs.Shelves.{geometry_of, units_at, IsBackedAt, lasts, AreLogged, IsWindowDurable};
 
     // Writes the marked bytes of a window's band home.
     fn write_window<D: Disk>(&self, disk: &mut D, w: u32) -> Result<(), PoolFault>
@@ -32,6 +36,8 @@ impl Shelf {
         ensures done { IsTrue D.told → OnOk result (AreBandsWritten (geometry_of self.now) self.now.wins self.now.frames.windows w (w + 1) (D.view disk.old).now (D.view disk.new).now) }
         ensures any_moment { IsTrue D.told → LeavesOnly (D.view disk.old) (D.view disk.new) (IsTorn (D.view disk.old).now (IsDirty (geometry_of self.now) self.now.wins w (w + 1))) }
         ensures later { (D.view disk.old).faults ≤ (D.view disk.new).faults }
+        ensures heeded { Heeds is_disk result (D.view disk.old) (D.view disk.new) }
+        ensures kept { (D.view disk.old).handed ≤ (D.view disk.new).handed }
         ensures failed { OnErr result (HasRisen (D.view disk.old).faults (D.view disk.new).faults) }
         ensures fault { IfErr result (λ e. e ≡ PoolFault.Disk) }
     {
@@ -58,6 +64,8 @@ impl Shelf {
         ensures done { IsTrue D.told → OnOk result (AreBandsWritten (geometry_of self.now) self.now.wins self.now.frames.windows from to (D.view disk.old).now (D.view disk.new).now) }
         ensures any_moment { IsTrue D.told → LeavesOnly (D.view disk.old) (D.view disk.new) (IsTorn (D.view disk.old).now (IsDirty (geometry_of self.now) self.now.wins from to)) }
         ensures later { (D.view disk.old).faults ≤ (D.view disk.new).faults }
+        ensures heeded { Heeds is_disk result (D.view disk.old) (D.view disk.new) }
+        ensures kept { (D.view disk.old).handed ≤ (D.view disk.new).handed }
         ensures failed { OnErr result (HasRisen (D.view disk.old).faults (D.view disk.new).faults) }
         ensures fault { IfErr result (λ e. e ≡ PoolFault.Disk) }
     {
@@ -80,6 +88,8 @@ impl Shelf {
         ensures logs { IsTrue D.told → OnOk result (SameLogs (D.view disk.old).now (D.view disk.new).now) }
         ensures any_moment { IsTrue D.told → LeavesOnly (D.view disk.old) (D.view disk.new) (IsTorn (D.view disk.old).now (IsDirty (geometry_of self.now) self.now.wins from to)) }
         ensures later { (D.view disk.old).faults ≤ (D.view disk.new).faults }
+        ensures heeded { Heeds is_disk result (D.view disk.old) (D.view disk.new) }
+        ensures kept { (D.view disk.old).handed ≤ (D.view disk.new).handed }
         ensures failed { OnErr result (HasRisen (D.view disk.old).faults (D.view disk.new).faults) }
         ensures fault { IfErr result (λ e. e ≡ PoolFault.Disk) }
     {
@@ -103,8 +113,14 @@ impl Shelf {
         ensures log { (ds ps : List Numbered) → IsTrue D.told → log.old.area ≢ Home → Holds (D.view disk.old) log.old ds ps → OnOk result (IsSameOrForced (D.view disk.new) log.old log.new ds ps) }
         ensures moments { (ds ps : List Numbered) → IsTrue D.told → log.old.area ≢ Home → IsReady ((D.view disk.old).now Home) → Holds (D.view disk.old) log.old ds ps →
             AreLogged (tail_of log.old) self.now → LeavesOnly (D.view disk.old) (D.view disk.new) (IsMoment (geometry_of self.now) (D.view disk.old) log.old ds ps (lasts self.now) (units_at (D.view disk.old) self.now)) }
+        ensures gone { AreLogged (tail_of log.old) self.now → OnOk result ((o : ℕ) → since_of self.now.wins.slots.items (Some w) ≡ Some o → last_in self.now.wins.marks.items (Some w) < log.new.gate) }
         ensures log_kept { (log.new ≡ log.old) ⊎ (log.new ≡ forced log.old) }
+        // A change that is durable needs no force.
+        ensures spared { IsWindowDurable log.old.gate self.now w → log.new ≡ log.old }
         ensures later { (D.view disk.old).faults ≤ (D.view disk.new).faults }
+        ensures heeded { Heeds is_disk result (D.view disk.old) (D.view disk.new) }
+        ensures kept { (D.view disk.old).handed ≤ (D.view disk.new).handed }
+        ensures grown { HasGrown log.old log.new (D.view disk.old) (D.view disk.new) }
         ensures failed { OnErr result (HasRisen (D.view disk.old).faults (D.view disk.new).faults) }
         ensures fault { IfErr result (λ e. e ≡ PoolFault.Disk) }
     {
@@ -136,8 +152,16 @@ impl Shelf {
         ensures log { (ds ps : List Numbered) → IsTrue D.told → log.old.area ≢ Home → Holds (D.view disk.old) log.old ds ps → OnOk result (IsSameOrForced (D.view disk.new) log.old log.new ds ps) }
         ensures moments { (ds ps : List Numbered) → IsTrue D.told → log.old.area ≢ Home → IsReady ((D.view disk.old).now Home) → Holds (D.view disk.old) log.old ds ps →
             AreLogged (tail_of log.old) self.old → LeavesOnly (D.view disk.old) (D.view disk.new) (IsMoment (geometry_of self.old) (D.view disk.old) log.old ds ps (lasts self.old) (units_at (D.view disk.old) self.old)) }
+        ensures gone { AreLogged (tail_of log.old) self.old → OnOk result (HaveGone log.new.gate self.old.wins self.new.wins) }
         ensures log_kept { (log.new ≡ log.old) ⊎ (log.new ≡ forced log.old) }
+        ensures spared { IsWindowDurable log.old.gate self.old w → log.new ≡ log.old }
+        ensures count { length self.new.wins.slots.items ≡ length self.old.wins.slots.items }
+        ensures untouched { IsTrue D.told → log.old.area ≢ Home → IsBackedAt (geometry_of self.old) (D.view disk.old) self.old →
+            OnOk result (IsUntouched (geometry_of self.old) ((D.view disk.old).now Home).seen ((D.view disk.new).now Home).seen (units_at (D.view disk.new) self.new)) }
         ensures later { (D.view disk.old).faults ≤ (D.view disk.new).faults }
+        ensures heeded { Heeds is_disk result (D.view disk.old) (D.view disk.new) }
+        ensures kept { (D.view disk.old).handed ≤ (D.view disk.new).handed }
+        ensures grown { HasGrown log.old log.new (D.view disk.old) (D.view disk.new) }
         ensures failed { OnErr result (HasRisen (D.view disk.old).faults (D.view disk.new).faults) }
         ensures fault { IfErr result (λ e. e ≡ PoolFault.Disk) }
     {
@@ -174,6 +198,8 @@ impl Shelf {
         ensures others { OnOk result ((v : ℕ) → v ≢ w → page_in self.new.wins.slots.items v ≡ page_in self.old.wins.slots.items v) }
         ensures slots { self.new.slots.items ≡ self.old.slots.items }
         ensures lasts { AreLastsKept self.old.wins self.new.wins }
+        ensures count { length self.new.wins.slots.items ≡ length self.old.wins.slots.items }
+        ensures changes { OnOk result (AreChangesKept self.old.wins self.new.wins) }
         ensures geometry { geometry_of self.new ≡ geometry_of self.old }
         ensures pages { self.new.frames.pages ≡ self.old.frames.pages }
         ensures backed { IsTrue D.told → IsBackedAt (geometry_of self.old) (D.view disk.old) self.old →
@@ -183,6 +209,8 @@ impl Shelf {
         ensures unchanged { IsTrue D.told → (D.view disk.new).now ≡ (D.view disk.old).now }
         ensures moments { IsTrue D.told → LeavesOnly (D.view disk.old) (D.view disk.new) (Leaves (D.view disk.old).now) }
         ensures later { (D.view disk.old).faults ≤ (D.view disk.new).faults }
+        ensures heeded { Heeds is_disk result (D.view disk.old) (D.view disk.new) }
+        ensures kept { (D.view disk.old).handed ≤ (D.view disk.new).handed }
         ensures failed { OnErr result (HasRisen (D.view disk.old).faults (D.view disk.new).faults) }
         ensures fault { IfErr result (λ e. e ≡ PoolFault.Disk) }
     {
@@ -218,8 +246,18 @@ impl Shelf {
         ensures log { (ds ps : List Numbered) → IsTrue D.told → log.old.area ≢ Home → Holds (D.view disk.old) log.old ds ps → OnOk result (IsSameOrForced (D.view disk.new) log.old log.new ds ps) }
         ensures moments { (ds ps : List Numbered) → IsTrue D.told → log.old.area ≢ Home → IsReady ((D.view disk.old).now Home) → Holds (D.view disk.old) log.old ds ps →
             AreLogged (tail_of log.old) self.old → LeavesOnly (D.view disk.old) (D.view disk.new) (IsMoment (geometry_of self.old) (D.view disk.old) log.old ds ps (lasts self.old) (units_at (D.view disk.old) self.old)) }
+        ensures gone { AreLogged (tail_of log.old) self.old → OnOk result (HaveGone log.new.gate self.old.wins self.new.wins) }
         ensures log_kept { (log.new ≡ log.old) ⊎ (log.new ≡ forced log.old) }
+        ensures home { IsTrue D.told → log.old.area ≢ Home → IsBackedAt (geometry_of self.old) (D.view disk.old) self.old →
+            OnOk result ((i : ℕ) → i < BAND_SIZE → ((D.view disk.new).now Home).seen (band_byte (geometry_of self.old) b i) ≡ ((D.view disk.old).now Home).seen (band_byte (geometry_of self.old) b i)) }
+        ensures spared { IsWindowDurable log.old.gate self.old w → log.new ≡ log.old }
+        ensures count { length self.new.wins.slots.items ≡ length self.old.wins.slots.items }
+        ensures untouched { IsTrue D.told → log.old.area ≢ Home → IsBackedAt (geometry_of self.old) (D.view disk.old) self.old →
+            OnOk result (IsUntouched (geometry_of self.old) ((D.view disk.old).now Home).seen ((D.view disk.new).now Home).seen (units_at (D.view disk.new) self.new)) }
         ensures later { (D.view disk.old).faults ≤ (D.view disk.new).faults }
+        ensures heeded { Heeds is_disk result (D.view disk.old) (D.view disk.new) }
+        ensures kept { (D.view disk.old).handed ≤ (D.view disk.new).handed }
+        ensures grown { HasGrown log.old log.new (D.view disk.old) (D.view disk.new) }
         ensures failed { OnErr result (HasRisen (D.view disk.old).faults (D.view disk.new).faults) }
         ensures fault { IfErr result (λ e. e ≡ PoolFault.Disk) }
     {
@@ -231,6 +269,7 @@ impl Shelf {
     pub(crate) fn flush_windows<D: Disk>(&mut self, disk: &mut D) -> Result<(), PoolFault>
         ensures clear { OnOk result (AreCleared self.old.wins self.new.wins 0 (length self.old.wins.slots.items)) }
         ensures bands { (w : ℕ) → page_in self.new.wins.slots.items w ≡ page_in self.old.wins.slots.items w }
+        ensures count { length self.new.wins.slots.items ≡ length self.old.wins.slots.items }
         ensures slots { self.new.slots.items ≡ self.old.slots.items }
         ensures frames { self.new.frames ≡ self.old.frames }
         ensures logged { (tail : ℕ) → AreLogged tail self.old → AreLogged tail self.new }
@@ -240,8 +279,11 @@ impl Shelf {
         ensures units { IsTrue D.told → IsReady ((D.view disk.old).now Home) →
             OnOk result (IsCleaned (geometry_of self.old) (units_at (D.view disk.old) self.old) (units_at (D.view disk.new) self.new)) }
         ensures logs { IsTrue D.told → OnOk result (SameLogs (D.view disk.old).now (D.view disk.new).now) }
+        ensures superblock { IsTrue D.told → IsReady ((D.view disk.old).now Home) → OnOk result ((i : ℕ) → i < HEADER → ((D.view disk.new).now Home).seen i ≡ ((D.view disk.old).now Home).seen i) }
         ensures any_moment { IsTrue D.told → LeavesOnly (D.view disk.old) (D.view disk.new) (IsTorn (D.view disk.old).now (IsDirty (geometry_of self.old) self.old.wins 0 (length self.old.wins.slots.items))) }
         ensures later { (D.view disk.old).faults ≤ (D.view disk.new).faults }
+        ensures heeded { Heeds is_disk result (D.view disk.old) (D.view disk.new) }
+        ensures kept { (D.view disk.old).handed ≤ (D.view disk.new).handed }
         ensures failed { OnErr result (HasRisen (D.view disk.old).faults (D.view disk.new).faults) }
         ensures fault { IfErr result (λ e. e ≡ PoolFault.Disk) }
     {

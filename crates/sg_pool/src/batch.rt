@@ -2,14 +2,17 @@ ghost use Rattle.std.specs.Prelude.{◌≡◌, ◌≢◌, ◌⊎◌, ◌≤◌, 
 ghost use Rattle.sg_base.specs.Ends.{HasRisen};
 ghost use Rattle.sg_base.specs.declared.area.Area.TheVariants.{Home};
 ghost use Rattle.sg_disk.specs.Disk.{LeavesOnly};
+ghost use Rattle.sg_disk.specs.Heeds.{Heeds};
 ghost use Rattle.sg_log.specs.Frames.{Numbered};
 ghost use Rattle.sg_log.specs.Held.{Holds, tail_of, forced};
 ghost use Rattle.sg_gate.specs.Batch.{IsReady, IsWhole, SameLogs};
+ghost use Rattle.sg_pool.specs.Counts.{HasGrown, is_disk};
 ghost use Rattle.sg_pool.specs.Units.{IsBacked, IsCleaned, IsBelow};
 ghost use Rattle.sg_pool.specs.Held.{frame_of, page_in, since_of};
 ghost use Rattle.sg_pool.specs.Bands.{AreCleared};
 ghost use Rattle.sg_pool.specs.Moments.{IsMoment};
 ghost use Rattle.sg_pool.specs.Batches.{AreCollected, ArePlaced, AreHome, IsPartly, IsBatchMoment};
+ghost use Rattle.sg_pool.specs.Untouched.{IsUntouched};
 
 use crate::PoolFault;
 use crate::clear::clear_since;
@@ -39,6 +42,8 @@ impl Shelf {
         ensures logs { IsTrue D.told → OnOk result (SameLogs (D.view disk.old).now (D.view disk.new).now) }
         ensures moments { (pages : ℕ) → IsTrue D.told → IsReady ((D.view disk.old).now Home) → LeavesOnly (D.view disk.old) (D.view disk.new) (IsWhole (D.view disk.old).now pages ((D.view disk.old).now Home).seen) }
         ensures later { (D.view disk.old).faults ≤ (D.view disk.new).faults }
+        ensures heeded { Heeds is_disk result (D.view disk.old) (D.view disk.new) }
+        ensures kept { (D.view disk.old).handed ≤ (D.view disk.new).handed }
         ensures failed { OnErr result (HasRisen (D.view disk.old).faults (D.view disk.new).faults) }
         ensures fault { IfErr result (λ e. e ≡ PoolFault.Disk) }
     {
@@ -65,6 +70,8 @@ impl Shelf {
         ensures logs { IsTrue D.told → IsReady ((D.view disk.old).now Home) → OnOk result (SameLogs (D.view disk.old).now (D.view disk.new).now) }
         ensures moments { IsTrue D.told → IsReady ((D.view disk.old).now Home) → LeavesOnly (D.view disk.old) (D.view disk.new) (IsBatchMoment (geometry_of self.now) self.now.slots.items self.now.frames.pages (D.view disk.old).now) }
         ensures later { (D.view disk.old).faults ≤ (D.view disk.new).faults }
+        ensures heeded { Heeds is_disk result (D.view disk.old) (D.view disk.new) }
+        ensures kept { (D.view disk.old).handed ≤ (D.view disk.new).handed }
         ensures failed { OnErr result (HasRisen (D.view disk.old).faults (D.view disk.new).faults) }
         ensures fault { IfErr result (λ e. e ≡ PoolFault.Disk) }
     {
@@ -106,6 +113,8 @@ impl Shelf {
         ensures logs { IsTrue D.told → IsReady ((D.view disk.old).now Home) → OnOk result (SameLogs (D.view disk.old).now (D.view disk.new).now) }
         ensures moments { IsTrue D.told → IsReady ((D.view disk.old).now Home) → LeavesOnly (D.view disk.old) (D.view disk.new) (IsBatchMoment (geometry_of self.old) self.old.slots.items self.old.frames.pages (D.view disk.old).now) }
         ensures later { (D.view disk.old).faults ≤ (D.view disk.new).faults }
+        ensures heeded { Heeds is_disk result (D.view disk.old) (D.view disk.new) }
+        ensures kept { (D.view disk.old).handed ≤ (D.view disk.new).handed }
         ensures failed { OnErr result (HasRisen (D.view disk.old).faults (D.view disk.new).faults) }
         ensures fault { IfErr result (λ e. e ≡ PoolFault.Disk) }
     {
@@ -127,6 +136,8 @@ impl Shelf {
         ensures logs { IsTrue D.told → IsReady ((D.view disk.old).now Home) → OnOk result (SameLogs (D.view disk.old).now (D.view disk.new).now) }
         ensures moments { IsTrue D.told → IsReady ((D.view disk.old).now Home) → LeavesOnly (D.view disk.old) (D.view disk.new) (IsBatchMoment (geometry_of self.old) self.old.slots.items self.old.frames.pages (D.view disk.old).now) }
         ensures later { (D.view disk.old).faults ≤ (D.view disk.new).faults }
+        ensures heeded { Heeds is_disk result (D.view disk.old) (D.view disk.new) }
+        ensures handed { (D.view disk.old).handed ≤ (D.view disk.new).handed }
         ensures failed { OnErr result (HasRisen (D.view disk.old).faults (D.view disk.new).faults) }
         ensures fault { IfErr result (λ e. e ≡ PoolFault.Disk) }
     {
@@ -153,11 +164,17 @@ impl Shelf {
         ensures units { IsTrue D.told → log.old.area ≢ Home → IsReady ((D.view disk.old).now Home) →
             OnOk result (IsCleaned (geometry_of self.old) (units_at (D.view disk.old) self.old) (units_at (D.view disk.new) self.new)) }
         ensures log { OnOk result (log.new ≡ forced log.old) }
+        ensures count_windows { length self.new.wins.slots.items ≡ length self.old.wins.slots.items }
+        ensures untouched { IsTrue D.told → log.old.area ≢ Home → IsReady ((D.view disk.old).now Home) →
+            OnOk result (IsUntouched (geometry_of self.old) ((D.view disk.old).now Home).seen ((D.view disk.new).now Home).seen (units_at (D.view disk.new) self.new)) }
         ensures holds { (ds ps : List Numbered) → IsTrue D.told → log.old.area ≢ Home → IsReady ((D.view disk.old).now Home) → Holds (D.view disk.old) log.old ds ps → OnOk result (Holds (D.view disk.new) log.new (ds ++ ps) []) }
         ensures moments { (ds ps : List Numbered) → IsTrue D.told → log.old.area ≢ Home → IsBackedAt (geometry_of self.old) (D.view disk.old) self.old → Holds (D.view disk.old) log.old ds ps →
             IsBelow (geometry_of self.old) (tail_of log.old) (units_at (D.view disk.old) self.old) → AreLogged (tail_of log.old) self.old →
             LeavesOnly (D.view disk.old) (D.view disk.new) (IsMoment (geometry_of self.old) (D.view disk.old) log.old ds ps (lasts self.old) (units_at (D.view disk.old) self.old)) }
         ensures later { (D.view disk.old).faults ≤ (D.view disk.new).faults }
+        ensures heeded { Heeds is_disk result (D.view disk.old) (D.view disk.new) }
+        ensures kept { (D.view disk.old).handed ≤ (D.view disk.new).handed }
+        ensures grown { HasGrown log.old log.new (D.view disk.old) (D.view disk.new) }
         ensures failed { OnErr result (HasRisen (D.view disk.old).faults (D.view disk.new).faults) }
         ensures fault { IfErr result (λ e. e ≡ PoolFault.Disk) }
     {

@@ -2,8 +2,10 @@ ghost use Rattle.std.specs.Prelude.{◌≡◌, ◌⊎◌, ◌≤◌, ◌<◌, �
 ghost use Rattle.sg_base.specs.Ends.{HasRisen};
 ghost use Rattle.sg_base.specs.declared.area.Area.TheVariants.{Home};
 ghost use Rattle.sg_disk.specs.Disk.{LeavesOnly};
+ghost use Rattle.sg_disk.specs.Heeds.{Heeds};
 ghost use Rattle.sg_gate.specs.Layout.{PAGE};
 ghost use Rattle.sg_gate.specs.Batch.{IsReady, IsEither, SameLogs};
+ghost use Rattle.sg_pool.specs.Counts.{is_disk};
 ghost use Rattle.sg_pool.specs.Going.{IsStored, with_home};
 
 use crate::PoolFault;
@@ -25,6 +27,8 @@ pub(crate) fn write_page<D: Disk>(
     ensures done { IsTrue D.told → IsReady ((D.view disk.old).now Home) → OnOk result (IsStored ((D.view disk.new).now Home) (with_home n page.now ((D.view disk.old).now Home).seen)) }
     ensures logs { IsTrue D.told → IsReady ((D.view disk.old).now Home) → OnOk result (SameLogs (D.view disk.old).now (D.view disk.new).now) }
     ensures later { (D.view disk.old).faults ≤ (D.view disk.new).faults }
+    ensures heeded { Heeds is_disk result (D.view disk.old) (D.view disk.new) }
+    ensures kept { (D.view disk.old).handed ≤ (D.view disk.new).handed }
     ensures failed { OnErr result (HasRisen (D.view disk.old).faults (D.view disk.new).faults) }
     ensures fault { IfErr result (λ e. e ≡ PoolFault.Disk) }
 {

@@ -1,5 +1,5 @@
 // The frames by their last use.
-ghost use Rattle.std.specs.Prelude.{◌≡◌, ◌≤◌, ◌<◌, ◌+◌, ℕ, Bool, Some, nat_eq, length, IfOk, IsSome};
+ghost use Rattle.std.specs.Prelude.{◌≡◌, ◌↔◌, ◌≤◌, ◌<◌, ◌+◌, ℕ, Bool, true, Some, nat_eq, length, IfOk, IsSome, IsTrue};
 ghost use Rattle.std.specs.List.{All};
 ghost use Rattle.std.specs.Map.{lookup, set_value};
 ghost use Rattle.std.specs.NonZero.{non_zero_usize_get};
@@ -40,6 +40,16 @@ pub(crate) fn set_pin(order: &mut LruCache<u32, bool>, frame: u32, is_pinned: bo
 {
     if let Some(pin) = order.peek_mut(&frame) {
         *pin = is_pinned;
+    }
+}
+
+// Whether a frame is pinned.
+pub(crate) fn is_pinned(order: &LruCache<u32, bool>, frame: u32) -> bool
+    ensures { IsTrue result ↔ (lookup (nat_eq frame) order.now.entries ≡ Some true) }
+{
+    match order.peek(&frame) {
+        Some(is_pinned) => *is_pinned,
+        None => false,
     }
 }
 

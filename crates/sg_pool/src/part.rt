@@ -1,15 +1,19 @@
 // Redo of a whole part of the log: its places are grouped by unit, and each unit's are done in one run.
-ghost use Rattle.std.specs.Prelude.{◌≡◌, ◌≢◌, ◌↔◌, ◌⊎◌, ◌≤◌, ◌<◌, ◌+◌, ◌^◌, ℕ, List, [], None, length, get_or, All, OnOk, OnErr, IfErr, IsTrue};
+ghost use Rattle.std.specs.Prelude.{◌≡◌, ◌≢◌, ◌↔◌, ◌⊎◌, ◌≤◌, ◌<◌, ◌+◌, ◌^◌, ℕ, List, [], None, nat_eq, length, get_or, All, OnOk, OnErr, IfErr, IsTrue};
+ghost use Rattle.std.specs.Map.{lookup};
 ghost use Rattle.std.specs.List.Sorted.{IsPermutation, IsNonDecreasingBy};
 ghost use Rattle.sg_base.specs.declared.area.Area.TheVariants.{Home};
 ghost use Rattle.sg_disk.specs.Disk.{LeavesOnly};
+ghost use Rattle.sg_disk.specs.Heeds.{Heeds};
 ghost use Rattle.sg_log.specs.Frames.{Numbered};
 ghost use Rattle.sg_log.specs.Held.{Holds, tail_of, forced};
 ghost use Rattle.sg_ops.specs.Table.{table_of};
 ghost use Rattle.sg_redo.specs.Units.{AreKnown};
 ghost use Rattle.sg_redo.specs.declared.place.Place.{Place};
+ghost use Rattle.sg_pool.specs.Counts.{HasGrown, is_disk};
+ghost use Rattle.sg_pool.specs.Frames.{HaveGone};
 ghost use Rattle.sg_pool.specs.Moments.{IsSameOrForced};
-ghost use Rattle.sg_pool.specs.Redone.{AreInOrder, places_of, records_of, IsRedone, ArePartlyRedone, AreHomesKnown, IsRedoMoment};
+ghost use Rattle.sg_pool.specs.Redone.{AreInOrder, places_of, records_of, IsRedone, ArePartlyRedone, AreHomesExact, AreHomesKnown, IsRedoMoment};
 ghost use Rattle.sg_pool.specs.Well.{IsWell};
 
 use crate::{Pool, PoolFault};
@@ -49,7 +53,7 @@ fn are_in_order(places: &[Place]) -> bool
 }
 
 impl Pool {
-    ghost use Rattle.sg_pool.specs.Pooled.{sizes, contents, frame_holding, Backs, IsLogged};
+    ghost use Rattle.sg_pool.specs.Pooled.{sizes, contents, frame_holding, uses, window_count, Backs, IsLogged};
     ghost use Rattle.sg_pool.specs.Shelves.{OnTold, lasts};
     ghost use Rattle.sg_pool.specs.Redoing.{AreLastsRedone, IsDurable, RedoFails, IsRun};
 
@@ -162,6 +166,16 @@ impl Pool {
             OnTold result (IsLogged (tail_of log.old) (D.view disk.new) self.new) }
         ensures lasts { OnOk result (AreLastsRedone (sizes self.old) places.old self.old self.new) }
         ensures log_kept { (log.new ≡ log.old) ⊎ (log.new ≡ forced log.old) }
+        // The pins are as they were.
+        ensures pins { (f : ℕ) → lookup (nat_eq f) (uses self.new) ≡ lookup (nat_eq f) (uses self.old) }
+        ensures count { window_count self.new ≡ window_count self.old }
+        // A change that isn't on the disk is the oldest since its unit went home last.
+        ensures untouched { let rs = records_of (sizes self.old) (table_of record_meaning range_meaning ops.now) text.now places.old in
+            IsTrue D.told → log.old.area ≢ Home → Backs (sizes self.old) (D.view disk.old) self.old →
+            OnTold result (AreHomesExact (sizes self.old) ((D.view disk.old).now Home).seen ((D.view disk.new).now Home).seen rs (contents (D.view disk.old) self.old) (contents (D.view disk.new) self.new)) }
+        // The last change of a band that went home is durable.
+        ensures gone { (ds : List Numbered) → IsTrue D.told → log.old.area ≢ Home → Backs (sizes self.old) (D.view disk.old) self.old → IsDurable (D.view disk.old) log.old ds self.old places.old →
+            HaveGone log.old.gate self.old.shelf.wins self.new.shelf.wins }
         ensures log { (ds ps : List Numbered) → IsTrue D.told → log.old.area ≢ Home → Backs (sizes self.old) (D.view disk.old) self.old → Holds (D.view disk.old) log.old ds ps →
             OnTold result (IsSameOrForced (D.view disk.new) log.old log.new ds ps) }
         // At each moment, faults included.
@@ -173,6 +187,9 @@ impl Pool {
             OnOk result ((n : ℕ) → n < (sizes self.old).pages → places_of n places.old ≢ [] → frame_holding self.old n ≡ None → IsWell ((contents (D.view disk.old) self.old).page n)) }
         ensures faults { IfErr result (RedoFails D.told log.old.area (sizes self.old) (D.view disk.old) (D.view disk.new) self.old places.old) }
         ensures later { (D.view disk.old).faults ≤ (D.view disk.new).faults }
+        ensures heeded { Heeds is_disk result (D.view disk.old) (D.view disk.new) }
+        ensures kept { (D.view disk.old).handed ≤ (D.view disk.new).handed }
+        ensures grown { HasGrown log.old log.new (D.view disk.old) (D.view disk.new) }
         ensures steps { OnOk result (steps.new ≡ steps.old + length places.old) }
         ensures fewer_steps { OnErr result ((steps.old ≤ steps.new) × (steps.new < steps.old + length places.old)) }
     {

@@ -1,5 +1,6 @@
 // The records of one page or band, repeated through a loan of its frame or window.
-ghost use Rattle.std.specs.Prelude.{◌≡◌, ◌≢◌, ◌<◌, ◌≤◌, ◌+◌, ◌^◌, ◌||◌, [], ℕ, false, Some, length, get_or, slice_set};
+ghost use Rattle.std.specs.Prelude.{◌≡◌, ◌≢◌, ◌⊎◌, ◌<◌, ◌≤◌, ◌+◌, ◌^◌, ◌||◌, [], ℕ, false, Some, length, get_or, slice_set};
+ghost use Rattle.sg_base.specs.Page.{IsSlotted};
 ghost use Rattle.sg_base.specs.declared.page.TheConstants.{BAND_SIZE};
 ghost use Rattle.sg_frames.specs.Held.{IsHere, with_bytes};
 ghost use Rattle.sg_frames.specs.declared.place.Place.TheVariants.{Page, Window};
@@ -71,6 +72,8 @@ fn repeat_frame<L: Ledger>(
     ensures here { IsHere frames.new (Page f) }
     ensures since { let rs = page_records (table_of record_meaning range_meaning ops.now) text.now places.now in
         result ≡ since_repeated rs (get_or frames.old.pages f []) since }
+    ensures well { let rs = page_records (table_of record_meaning range_meaning ops.now) text.now places.now in
+        (repeated rs (get_or frames.old.pages f []) ≡ get_or frames.old.pages f []) ⊎ IsSlotted (repeated rs (get_or frames.old.pages f [])) }
     ensures steps { steps.new ≡ steps.old + length places.now }
 {
     let loan = frames.take(f);

@@ -2,10 +2,12 @@ ghost use Rattle.std.specs.Prelude.{◌≡◌, ◌≢◌, ◌⊎◌, ◌≤◌, 
 ghost use Rattle.sg_base.specs.Ends.{HasRisen};
 ghost use Rattle.sg_base.specs.declared.area.Area.TheVariants.{Home};
 ghost use Rattle.sg_disk.specs.Disk.{LeavesOnly};
+ghost use Rattle.sg_disk.specs.Heeds.{Heeds};
 ghost use Rattle.sg_log.specs.Frames.{Numbered, SameElsewhere};
 ghost use Rattle.sg_log.specs.Held.{Holds, tail_of, forced, IsBeforeOrAfter};
 ghost use Rattle.sg_gate.specs.Layout.{PAGE};
 ghost use Rattle.sg_gate.specs.Batch.{IsReady};
+ghost use Rattle.sg_pool.specs.Counts.{HasGrown, is_disk};
 ghost use Rattle.sg_pool.specs.Going.{IsStored, with_home};
 ghost use Rattle.sg_base.specs.Page.{lsn_of};
 ghost use Rattle.sg_pool.specs.Units.{Geometry, Units};
@@ -24,7 +26,11 @@ pub(crate) fn make_durable<D: Disk>(disk: &mut D, log: &mut Log, lsn: u64) -> Re
     ensures elsewhere { IsTrue D.told → OnOk result (SameElsewhere log.old.area (D.view disk.old).now (D.view disk.new).now) }
     ensures any_moment { (ds ps : List Numbered) → IsTrue D.told → Holds (D.view disk.old) log.old ds ps → LeavesOnly (D.view disk.old) (D.view disk.new) (IsBeforeOrAfter (D.view disk.old).now log.old ds ps) }
     ensures log_kept { (log.new ≡ log.old) ⊎ (log.new ≡ forced log.old) }
+    ensures spared { lsn < log.old.gate → log.new ≡ log.old }
     ensures later { (D.view disk.old).faults ≤ (D.view disk.new).faults }
+    ensures heeded { Heeds is_disk result (D.view disk.old) (D.view disk.new) }
+    ensures kept { (D.view disk.old).handed ≤ (D.view disk.new).handed }
+    ensures grown { HasGrown log.old log.new (D.view disk.old) (D.view disk.new) }
     ensures failed { OnErr result (HasRisen (D.view disk.old).faults (D.view disk.new).faults) }
     ensures fault { IfErr result (λ e. e ≡ PoolFault.Disk) }
 {
@@ -53,7 +59,11 @@ pub(crate) fn settle<D: Disk>(
     ensures moments { (ds ps : List Numbered) (g : Geometry) (last : ℕ → ℕ) (m : Units) → IsTrue D.told → log.old.area ≢ Home → IsReady ((D.view disk.old).now Home) → Holds (D.view disk.old) log.old ds ps → g.pages ≡ pages → m.page n ≡ page.now → lsn_of page.now < tail_of log.old →
         LeavesOnly (D.view disk.old) (D.view disk.new) (IsMoment g (D.view disk.old) log.old ds ps last m) }
     ensures log_kept { (log.new ≡ log.old) ⊎ (log.new ≡ forced log.old) }
+    ensures spared { lsn_of page.now < log.old.gate → log.new ≡ log.old }
     ensures later { (D.view disk.old).faults ≤ (D.view disk.new).faults }
+    ensures heeded { Heeds is_disk result (D.view disk.old) (D.view disk.new) }
+    ensures kept { (D.view disk.old).handed ≤ (D.view disk.new).handed }
+    ensures grown { HasGrown log.old log.new (D.view disk.old) (D.view disk.new) }
     ensures failed { OnErr result (HasRisen (D.view disk.old).faults (D.view disk.new).faults) }
     ensures fault { IfErr result (λ e. e ≡ PoolFault.Disk) }
 {

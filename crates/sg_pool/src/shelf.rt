@@ -2,12 +2,14 @@ ghost use Rattle.std.specs.Prelude.{◌≡◌, ◌≢◌, ◌↔◌, ◌⊎◌, 
 ghost use Rattle.sg_base.specs.Ends.{HasRisen};
 ghost use Rattle.sg_base.specs.declared.area.Area.TheVariants.{Home};
 ghost use Rattle.sg_disk.specs.Disk.{Leaves, LeavesOnly, Counts, ReadBytes};
+ghost use Rattle.sg_disk.specs.Heeds.{Heeds};
 ghost use Rattle.sg_log.specs.Frames.{Numbered};
 ghost use Rattle.sg_log.specs.Held.{Holds, tail_of, forced, IsBeforeOrAfter};
 ghost use Rattle.sg_frames.specs.Held.{with_bytes};
 ghost use Rattle.sg_frames.specs.declared.place.Place.TheVariants.{Page, Window};
 ghost use Rattle.sg_gate.specs.Layout.{PAGE, home_at};
 ghost use Rattle.sg_gate.specs.Batch.{IsReady};
+ghost use Rattle.sg_pool.specs.Counts.{HasGrown, is_disk};
 ghost use Rattle.sg_pool.specs.Going.{IsStored};
 ghost use Rattle.sg_base.specs.Op.{op_of};
 ghost use Rattle.sg_ops.specs.Table.{table_of};
@@ -22,6 +24,7 @@ ghost use Rattle.sg_pool.specs.Windows.{no_marks, marked_in, last_in};
 ghost use Rattle.sg_pool.specs.Changed.{slots_after};
 ghost use Rattle.sg_pool.specs.Held.{frame_of, page_in, since_of};
 ghost use Rattle.sg_pool.specs.Moments.{IsSameOrForced, IsMoment};
+ghost use Rattle.sg_pool.specs.Untouched.{IsUntouched};
 ghost use Rattle.sg_pool.specs.Well.{IsWell};
 
 use crate::PoolFault;
@@ -53,7 +56,7 @@ pub struct Shelf {
 }
 
 impl Shelf {
-    ghost use Rattle.sg_pool.specs.Shelves.{geometry_of, units_at, IsBackedAt, lasts, OnTold, LoadFails, BringFails};
+    ghost use Rattle.sg_pool.specs.Shelves.{geometry_of, units_at, IsBackedAt, lasts, OnTold, LoadFails, BringFails, IsFrameDurable};
 
     // So many frames and windows, which hold nothing, for so many pages and bands.
     pub(crate) fn new(
@@ -70,6 +73,7 @@ impl Shelf {
         ensures geometry { IfOk result (λ s. geometry_of s ≡ record { pages = pages; bands = bands }) }
         ensures slots { IfOk result (λ s. s.slots.items ≡ replicate frames (record { number = None; since = None })) }
         ensures wins { IfOk result (λ s. (b : ℕ) → window_of s.wins b ≡ None) }
+        ensures windows { IfOk result (λ s. length s.wins.slots.items ≡ windows) }
     {
         let (slots, index) = empty_table(alloc, pages, frames)?;
         let wins = Windows::new(alloc, bands, windows)?;
@@ -114,6 +118,7 @@ impl Shelf {
         requires empty { page_in self.old.slots.items f ≡ None }
         requires page { p < self.old.pages }
         requires absent { frame_of self.old.slots.items p ≡ None }
+        requires well { IsWell (get_or self.old.frames.pages f []) }
         ensures slots { self.new.slots.items ≡ slice_set self.old.slots.items f (record { number = Some p; since = None }) }
         ensures frames { self.new.frames ≡ self.old.frames }
         ensures wins { self.new.wins ≡ self.old.wins }
@@ -134,7 +139,12 @@ impl Shelf {
         ensures moments { (ds ps : List Numbered) → IsTrue D.told → log.old.area ≢ Home → IsReady ((D.view disk.old).now Home) → Holds (D.view disk.old) log.old ds ps →
             IsBelow (geometry_of self.now) (tail_of log.old) (units_at (D.view disk.old) self.now) → LeavesOnly (D.view disk.old) (D.view disk.new) (IsMoment (geometry_of self.now) (D.view disk.old) log.old ds ps (lasts self.now) (units_at (D.view disk.old) self.now)) }
         ensures log_kept { (log.new ≡ log.old) ⊎ (log.new ≡ forced log.old) }
+        // A change that is durable needs no force.
+        ensures spared { IsFrameDurable log.old.gate self.now f → log.new ≡ log.old }
         ensures later { (D.view disk.old).faults ≤ (D.view disk.new).faults }
+        ensures heeded { Heeds is_disk result (D.view disk.old) (D.view disk.new) }
+        ensures kept { (D.view disk.old).handed ≤ (D.view disk.new).handed }
+        ensures grown { HasGrown log.old log.new (D.view disk.old) (D.view disk.new) }
         ensures failed { OnErr result (HasRisen (D.view disk.old).faults (D.view disk.new).faults) }
         ensures fault { IfErr result (λ e. e ≡ PoolFault.Disk) }
     {
@@ -166,10 +176,16 @@ impl Shelf {
         ensures units { IsTrue D.told → log.old.area ≢ Home → IsReady ((D.view disk.old).now Home) →
             OnOk result (IsCleaned (geometry_of self.old) (units_at (D.view disk.old) self.old) (units_at (D.view disk.new) self.new)) }
         ensures log { (ds ps : List Numbered) → IsTrue D.told → log.old.area ≢ Home → IsReady ((D.view disk.old).now Home) → Holds (D.view disk.old) log.old ds ps → OnOk result (IsSameOrForced (D.view disk.new) log.old log.new ds ps) }
+        ensures untouched { IsTrue D.told → log.old.area ≢ Home → IsReady ((D.view disk.old).now Home) →
+            OnOk result (IsUntouched (geometry_of self.old) ((D.view disk.old).now Home).seen ((D.view disk.new).now Home).seen (units_at (D.view disk.new) self.new)) }
         ensures moments { (ds ps : List Numbered) → IsTrue D.told → log.old.area ≢ Home → IsReady ((D.view disk.old).now Home) → Holds (D.view disk.old) log.old ds ps →
             IsBelow (geometry_of self.old) (tail_of log.old) (units_at (D.view disk.old) self.old) → LeavesOnly (D.view disk.old) (D.view disk.new) (IsMoment (geometry_of self.old) (D.view disk.old) log.old ds ps (lasts self.old) (units_at (D.view disk.old) self.old)) }
         ensures log_kept { (log.new ≡ log.old) ⊎ (log.new ≡ forced log.old) }
+        ensures spared { IsFrameDurable log.old.gate self.old f → log.new ≡ log.old }
         ensures later { (D.view disk.old).faults ≤ (D.view disk.new).faults }
+        ensures heeded { Heeds is_disk result (D.view disk.old) (D.view disk.new) }
+        ensures kept { (D.view disk.old).handed ≤ (D.view disk.new).handed }
+        ensures grown { HasGrown log.old log.new (D.view disk.old) (D.view disk.new) }
         ensures failed { OnErr result (HasRisen (D.view disk.old).faults (D.view disk.new).faults) }
         ensures fault { IfErr result (λ e. e ≡ PoolFault.Disk) }
     {
@@ -215,6 +231,8 @@ impl Shelf {
         ensures unchanged { IsTrue D.told → (D.view disk.new).now ≡ (D.view disk.old).now }
         ensures moments { IsTrue D.told → LeavesOnly (D.view disk.old) (D.view disk.new) (Leaves (D.view disk.old).now) }
         ensures later { (D.view disk.old).faults ≤ (D.view disk.new).faults }
+        ensures heeded { Heeds is_disk result (D.view disk.old) (D.view disk.new) }
+        ensures kept { (D.view disk.old).handed ≤ (D.view disk.new).handed }
         ensures faults { IfErr result (λ e. LoadFails D.told p (D.view disk.old) (D.view disk.new) e) }
     {
         match self.read_home(disk, f, p) {
@@ -256,7 +274,15 @@ impl Shelf {
         ensures well { IsTrue D.told → log.old.area ≢ Home → IsBackedAt (geometry_of self.old) (D.view disk.old) self.old →
             OnOk result (IsWell ((units_at (D.view disk.old) self.old).page p)) }
         ensures log_kept { (log.new ≡ log.old) ⊎ (log.new ≡ forced log.old) }
+        ensures home { IsTrue D.told → log.old.area ≢ Home → IsBackedAt (geometry_of self.old) (D.view disk.old) self.old →
+            OnTold result (page_at ((D.view disk.new).now Home).seen (home_at p) ≡ page_at ((D.view disk.old).now Home).seen (home_at p)) }
+        ensures untouched { IsTrue D.told → log.old.area ≢ Home → IsBackedAt (geometry_of self.old) (D.view disk.old) self.old →
+            OnTold result (IsUntouched (geometry_of self.old) ((D.view disk.old).now Home).seen ((D.view disk.new).now Home).seen (units_at (D.view disk.new) self.new)) }
+        ensures spared { IsFrameDurable log.old.gate self.old f → log.new ≡ log.old }
         ensures later { (D.view disk.old).faults ≤ (D.view disk.new).faults }
+        ensures heeded { Heeds is_disk result (D.view disk.old) (D.view disk.new) }
+        ensures kept { (D.view disk.old).handed ≤ (D.view disk.new).handed }
+        ensures grown { HasGrown log.old log.new (D.view disk.old) (D.view disk.new) }
         ensures faults { IfErr result (λ e. BringFails D.told log.old.area p (D.view disk.old) (D.view disk.new) self.old e) }
     {
         self.clean(disk, log, f)?;
@@ -278,10 +304,7 @@ impl Shelf {
         if !apply_page(self.frames.page_mut(f), lsn, op, ops) {
             return;
         }
-        self.slots[f as usize] = Slot {
-            number: slot.number,
-            since: Some(slot.since.unwrap_or(lsn)),
-        };
+        self.slots[f as usize] = slot.changed(lsn);
     }
 
     // Writes bytes to a window's band, and marks them, as the record of this number does.

@@ -98,10 +98,7 @@ impl Windows {
         ensures others { (v : ℕ) → v ≢ w → get_or self.new.marks.items v no_marks ≡ get_or self.old.marks.items v no_marks }
     {
         let slot = self.slots[w as usize];
-        self.slots[w as usize] = Slot {
-            number: slot.number,
-            since: Some(slot.since.unwrap_or(lsn)),
-        };
+        self.slots[w as usize] = slot.changed(lsn);
         let marks = &mut self.marks[w as usize];
         marks.last = lsn;
         blind_write(window, &mut marks.dirty, at, bytes);

@@ -5,6 +5,7 @@ use Rattle.std.specs.List.{flat_map}
 use Rattle.std.specs.Prelude.{unwrap_or, IfSome, None, option_map}
 use Rattle.sg_base.specs.declared.page.TheConstants.{BAND_SIZE}
 use Rattle.sg_base.specs.Overwritten.{overwritten}
+use Rattle.sg_base.specs.Page.{IsSlotted}
 use Rattle.sg_ops.specs.Table.{Table, range_at}
 use Rattle.sg_ops.proofs.Rendering.{length-rendered}
 use Rattle.sg_record.specs.Changes.{Change}
@@ -182,3 +183,16 @@ pub marks_turn : (t : Table) (text : List ℕ) (places : List Place) (k : ℕ) (
 marks_turn t text places k d old mid new lt first second =
     subst (λ (ws : List OnWindow). Marks ws old new) (window_more t text places k d lt)
     (marks_then (window_records t text (take k places)) (window_at t text (get_or places k d)) old mid new first second)
+
+-- what records leave of a page is as it was, or a page of slots
+pub well_more : (first page next : List ℕ) → (page ≡ first) ⊎ IsSlotted page → (next ≡ page) ⊎ IsSlotted next → (next ≡ first) ⊎ IsSlotted next
+well_more first page next before after = ⊎_elim
+    (λ same. ⊎_elim (λ was. inl (same ∙ was)) (λ slotted. inr (subst IsSlotted (sym same) slotted)) before)
+    (λ slotted. inr slotted)
+    after
+
+abbrev pub IsWellDone : List OnPage → List ℕ → Type 0
+IsWellDone rs page = (repeated rs page ≡ page) ⊎ IsSlotted (repeated rs page)
+
+pub well_done : (rs : List OnPage) (page done : List ℕ) → done ≡ repeated rs page → (done ≡ page) ⊎ IsSlotted done → IsWellDone rs page
+well_done rs page done is well = ⊎_elim (λ same. inl (sym is ∙ same)) (λ slotted. inr (subst IsSlotted is slotted)) well

@@ -11,3 +11,6 @@ pub mod Replayed
 pub mod Said
 pub mod Staying
 pub mod Wrote
+pub mod Layouts
+pub mod Naming
+pub mod Saying

@@ -1,351 +1,63 @@
 -- A page of slots stays one, whichever call's layout it gets.
-use Rattle.std.proofs.Common.{◌≡◌, ◌≢◌, ℕ, zero, suc, ◌+◌, ◌-◌, ◌*◌, ◌==◌, ◌^◌, ◌<◌, ◌≤◌, ◌⊎◌, inl, inr, ⊎_elim, ◌&&◌, Bool, true, false, nat_lt, List, [], ◌∷◌, ◌++◌, length, length-append, length-set, set, get_or, get_or-set_same, add-one, Option, Some, None, IfSome, is_some, option_and_then, refl, sym, ap, ◌∙◌, subst, arith}
-use Rattle.std.proofs.Math.Seq.{take-length}
-use Rattle.std.proofs.lemmas.Bool.{cases_Bool, cases_lt, cases_eq}
-use Rattle.std.proofs.lemmas.Bool.Decides.{nat_tests}
+use Rattle.std.proofs.Common.{◌≡◌, ℕ, ◌<◌, ◌≤◌, inl, inr, ⊎_elim, true, List, length, Option, Some, None, is_some, option_and_then, refl, sym, ap, ◌∙◌, subst, arith}
+use Rattle.std.proofs.lemmas.Bool.{cases_Bool, cases_lt}
 use Rattle.byteorder.specs.Endian.{little_bytes}
 use Rattle.sg_base.specs.Bytes.{IsBytes}
 use Rattle.sg_base.specs.Op.{Op}
 use Rattle.sg_base.specs.Op.Op.{Format, Put, Remove, Set, Links, Item, ItemBack}
 use Rattle.sg_base.specs.Overwritten.{overwritten}
-use Rattle.sg_base.specs.Page.{count_of, start_of, lost_of, offset_at, length_at, directory_end, slots_of, cell_in, lsn_of, cell_size, bytes_of, IsWhole, IsSlotted}
+use Rattle.sg_base.specs.Page.{slots_of, cell_in, lsn_of, IsSlotted}
 use Rattle.sg_base.specs.Sheet.{Sheet, sheet_of}
-use Rattle.sg_base.specs.Slots.{Slots, cell_bytes, with_cell, put_in, set_in, remove_in}
-use Rattle.sg_base.specs.Slotted.{is_slotted}
-use Rattle.sg_base.proofs.CellBytes.{has_bytes}
-use Rattle.sg_base.proofs.Slots.{length-slots_below}
+use Rattle.sg_base.specs.Slots.{put_in, set_in, remove_in}
 use Rattle.sg_ops.proofs.Lookups.{after_long, before_long}
 use Rattle.sg_ops.specs.Laws.{IsLawful}
 use Rattle.sg_ops.specs.Steps.{item_after, item_before, change_in, step, BringsBytes}
 use Rattle.sg_ops.specs.Table.{Table, record_at}
-use Rattle.sg_slotted.specs.Layout.{with_u16, grown, filled, cleared, emptied, filled_with, rebuilt, compacted, roomy, store_layout, push_layout, lsn_layout, links_layout, format_layout, put_layout, remove_layout, set_layout}
-use Rattle.sg_slotted.specs.Writes.{KeepsOutside}
-use Rattle.sg_slotted.proofs.Changes as changes
-use Rattle.sg_slotted.proofs.Changes.{IsChanged, has_cell, entry_within, lost_fits}
-use Rattle.sg_slotted.proofs.InPlace.{refilled}
-use Rattle.sg_slotted.proofs.Kept as kept
-use Rattle.sg_slotted.proofs.Kept.{slotted_kept}
-use Rattle.sg_slotted.proofs.Outside.{same_number, same_byte}
-use Rattle.sg_slotted.proofs.Refusals.{same_size_fits}
-use Rattle.sg_slotted.proofs.Room.{IsBegun, IsGrown, grow_room, fill_room, grown_there, grown_empty, next_full, next_empty, room_in_one_place, grown_room, bytes_of-set, bytes_of-push}
-use Rattle.sg_step.specs.Changed.{with_item, changed}
-use Rattle.sg_step.proofs.Steps.{put_is, set_is, remove_is, change_is, redone_is, undone_is, slots_some, full_there}
+use Rattle.sg_slotted.specs.Layout.{lsn_layout, links_layout}
+use Rattle.sg_step.specs.Changed.{changed}
+use Rattle.sg_step.proofs.Steps.{redone_is, undone_is, slots_some}
+use Rattle.sg_action.specs.States.{step_leaf}
 use Rattle.sg_redo.specs.History.{redone}
 use Rattle.sg_redo.specs.Page.{fits, on_page}
+use Rattle.sg_redo.proofs.Layouts.{put_says, set_says, remove_says, format_says, lsn_says, field}
 use Rattle.sg_redo.proofs.Redone.{had, unfit, done}
-use Rattle.sg_redo.proofs.Wrote.{wrote, found, wrote_u16, found_u16, wrote_u8}
+use Rattle.sg_redo.proofs.Saying.{item_changed, fits_leaf, leaf_slotted}
 
--- where the parts of a page lie
-record Lies (p : List ℕ) : Type 0 where
-  pub directory : 24 + 4 * count_of p ≤ start_of p
-  pub start : start_of p ≤ 4096
-  pub size : length p ≡ 4096
-  pub count : length (slots_of p) ≡ count_of p
-
-lies : (p : List ℕ) → IsSlotted p → Lies p
-lies p s = let directory = s.directory in let filled = s.filled in
-    record { directory = omega arith; start = omega arith; size = s.size; count = length-slots_below p (count_of p) }
-
--- one more slot
-grows : (p : List ℕ) → IsSlotted p → directory_end p + 4 ≤ start_of p → IsChanged p (grown p) (slots_of p ++ (None ∷ [])) × (lost_of (grown p) ≡ lost_of p)
-unfolding grown
-grows p s room =
-    let l = lies p s in
-    let start = l.start in
-    let size = l.size in
-    let n : ℕ = count_of p in
-    let one : List ℕ = with_u16 p (24 + 4 * n) 0 in
-    let kept = wrote_u16 p (24 + 4 * n) 0 (omega arith) in
-    let long = kept.size in
-    changes.grown p one (with_u16 one 10 (n + 1)) n refl s room
-    (found_u16 p (24 + 4 * n) 0 (omega arith) (omega arith)) kept
-    (found_u16 one 10 (n + 1) (omega arith) (omega arith)) (wrote_u16 one 10 (n + 1) (omega arith))
-
--- an entry of the directory
-enters : (p : List ℕ) (s top size : ℕ) → 28 + 4 * s ≤ length p → top < 2 ^ 16 → size < 2 ^ 16
-    → (offset_at (with_u16 (with_u16 p (24 + 4 * s) top) (26 + 4 * s) size) s ≡ top) × (length_at (with_u16 (with_u16 p (24 + 4 * s) top) (26 + 4 * s) size) s ≡ size) × KeepsOutside p (with_u16 (with_u16 p (24 + 4 * s) top) (26 + 4 * s) size) (24 + 4 * s) (28 + 4 * s)
-enters p s top size within small few =
-    let one : List ℕ = with_u16 p (24 + 4 * s) top in
-    let two : List ℕ = with_u16 one (26 + 4 * s) size in
-    let first = wrote_u16 p (24 + 4 * s) top (omega arith) in
-    let long = first.size in
-    let second = wrote_u16 one (26 + 4 * s) size (omega arith) in (
-      same_number one two (26 + 4 * s) (26 + 4 * s + 2) (24 + 4 * s) 2 second (inl (omega arith)) ∙ found_u16 p (24 + 4 * s) top (omega arith) small,
-      found_u16 one (26 + 4 * s) size (omega arith) few,
-      record {
-        size = second.size ∙ first.size;
-        same = λ a n outside. second.same a n (⊎_elim (λ b. inl (omega arith)) (λ b. inr (omega arith)) outside) ∙ first.same a n (⊎_elim (λ b. inl (omega arith)) (λ b. inr (omega arith)) outside);
-      },
-    )
-
--- a cell in an empty slot
-fills : (p : List ℕ) (s : ℕ) (cell : List ℕ) → IsSlotted p → s < length (slots_of p) → cell_in (slots_of p) s ≡ None → directory_end p + length cell ≤ start_of p
-    → IsChanged p (filled p s cell) (set (slots_of p) s (Some cell)) × (lost_of (filled p s cell) ≡ lost_of p)
-unfolding filled
-fills p s cell slotted there empty room =
-    let l = lies p slotted in
-    let start = l.start in
-    let size = l.size in
-    let count = l.count in
-    let directory = l.directory in
-    let top : ℕ = start_of p - length cell in
-    let one : List ℕ = overwritten p top cell in
-    let first = wrote p cell top (omega arith) in
-    let long = first.size in
-    let two : List ℕ = with_u16 one 12 top in
-    let second = wrote_u16 one 12 top (omega arith) in
-    let still = second.size in
-    let entry = enters two s top (length cell) (omega arith) (omega arith) (omega arith) in
-    changes.filled p one two (with_u16 (with_u16 two (24 + 4 * s) top) (26 + 4 * s) (length cell)) s top cell slotted there empty (omega arith) (omega arith)
-    (found p cell top (omega arith)) first (found_u16 one 12 top (omega arith) (omega arith)) second entry.0 entry.1 entry.2
-
--- no cell in a full slot any more
-clears : (p : List ℕ) (s : ℕ) → IsSlotted p → cell_in (slots_of p) s ≢ None → IsChanged p (cleared p s) (set (slots_of p) s None)
-unfolding cleared
-clears p s slotted full =
-    let l = lies p slotted in
-    let size = l.size in
-    let within = entry_within p s slotted (has_cell p s full).below in
-    let fits = lost_fits p s slotted full in
-    let one : List ℕ = with_u16 p 14 (lost_of p + length_at p s) in
-    let first = wrote_u16 p 14 (lost_of p + length_at p s) (omega arith) in
-    let long = first.size in
-    changes.cleared p one (with_u16 one (24 + 4 * s) 0) s slotted full (found_u16 p 14 (lost_of p + length_at p s) (omega arith) (omega arith)) first
-    (found_u16 one (24 + 4 * s) 0 (omega arith) (omega arith)) (wrote_u16 one (24 + 4 * s) 0 (omega arith))
-
--- a cell of as many bytes
-refills : (p : List ℕ) (s : ℕ) (cell : List ℕ) → IsSlotted p → cell_in (slots_of p) s ≢ None → length cell ≡ length_at p s → IsChanged p (overwritten p (offset_at p s) cell) (set (slots_of p) s (Some cell))
-refills p s cell slotted full same =
-    let has = has_cell p s full in
-    let whole : IsWhole p (start_of p) s = slotted.cells.whole s has in
-    let to = whole.to in
-    let size = slotted.size in
-    refilled p (overwritten p (offset_at p s) cell) s cell slotted has same refl (found p cell (offset_at p s) (omega arith)) (wrote p cell (offset_at p s) (omega arith))
-
--- no slots
-empties : (p : List ℕ) → length p ≡ 4096 → IsSlotted (emptied p) × (slots_of (emptied p) ≡ []) × (lost_of (emptied p) ≡ 0)
-unfolding emptied
-empties p size =
-    let one : List ℕ = set p 9 0 in
-    let k1 = wrote_u8 p 9 0 in
-    let l1 : length one ≡ 4096 = k1.size ∙ size in
-    let two : List ℕ = with_u16 one 10 0 in
-    let k2 = wrote_u16 one 10 0 (omega arith) in
-    let l2 : length two ≡ 4096 = k2.size ∙ l1 in
-    let three : List ℕ = with_u16 two 12 4096 in
-    let k3 = wrote_u16 two 12 4096 (omega arith) in
-    let l3 : length three ≡ 4096 = k3.size ∙ l2 in
-    let four : List ℕ = with_u16 three 14 0 in
-    let k4 = wrote_u16 three 14 0 (omega arith) in
-    let l4 : length four ≡ 4096 = k4.size ∙ l3 in
-    let unused : get_or four 9 0 ≡ 0 = same_byte three four 14 16 9 k4 (inl (omega arith)) ∙ (same_byte two three 12 14 9 k3 (inl (omega arith)) ∙ (same_byte one two 10 12 9 k2 (inl (omega arith)) ∙ byte_set p size)) in
-    let count : count_of four ≡ 0 = same_number three four 14 16 10 2 k4 (inl (omega arith)) ∙ (same_number two three 12 14 10 2 k3 (inl (omega arith)) ∙ found_u16 one 10 0 (omega arith) (omega arith)) in
-    let start : start_of four ≡ 4096 = same_number three four 14 16 12 2 k4 (inl (omega arith)) ∙ found_u16 two 12 4096 (omega arith) (omega arith) in
-    let lost : lost_of four ≡ 0 = found_u16 three 14 0 (omega arith) (omega arith) in
-    let all = kept.emptied four l4 unused count start lost in
-    (all.0, all.1, lost)
-  where
-    byte_set : (q : List ℕ) → length q ≡ 4096 → get_or (set q 9 0) 9 0 ≡ 0
-    byte_set q long = get_or-set_same q 9 0 0 (omega arith)
-
--- a slot of another page more
-begins_more : (page other : List ℕ) (n : ℕ) → IsSlotted other → IsBegun page other n → n < length (slots_of other) → IsBegun (filled_with (grown page) n (cell_in (slots_of other) n)) other (n + 1)
-begins_more page other n slotted so_far below = by_cell (cell_in (slots_of other) n) refl
-  where
-    more : IsChanged page (grown page) (slots_of page ++ (None ∷ [])) × (lost_of (grown page) ≡ lost_of page)
-    more = grows page so_far.slotted (grow_room page other n slotted so_far below)
-
-    one : IsGrown (grown page) other n
-    one = record { slotted = more.0.slotted; slots = more.0.slots ∙ ap (λ (xs : List (Option (List ℕ))). xs ++ (None ∷ [])) so_far.slots; lost = more.1 ∙ so_far.lost }
-
-    by_cell : (cell : Option (List ℕ)) → cell ≡ cell_in (slots_of other) n → IsBegun (filled_with (grown page) n cell) other (n + 1)
-    by_cell None is = record { slotted = one.slotted; slots = next_empty (grown page) other n one below is; lost = one.lost }
-    by_cell (Some cell) is =
-        let two = fills (grown page) n cell one.slotted (grown_there (grown page) other n one below) (grown_empty (grown page) other n one below) (fill_room (grown page) other n cell slotted one below is) in
-        record { slotted = two.0.slotted; slots = next_full (grown page) other n cell (slots_of (filled (grown page) n cell)) one below is two.0.slots; lost = two.1 ∙ one.lost }
-
--- and the first ones, one after the other
-begins : (other base : List ℕ) (n : ℕ) → IsSlotted other → IsBegun base other 0 → n ≤ length (slots_of other) → IsBegun (rebuilt base (slots_of other) n) other n
-unfolding rebuilt
-begins other base zero slotted start within = start
-begins other base (suc n) slotted start within =
-    subst (λ (m : ℕ). IsBegun (rebuilt base (slots_of other) (suc n)) other m) (add-one n)
-    (begins_more (rebuilt base (slots_of other) n) other n slotted (begins other base n slotted start (omega arith)) (omega arith))
-
--- the same slots with no lost byte
-compacts : (p : List ℕ) → IsSlotted p → IsSlotted (compacted p) × (slots_of (compacted p) ≡ slots_of p) × (lost_of (compacted p) ≡ 0)
-unfolding compacted
-compacts p slotted =
-    let none = empties p slotted.size in
-    let all = begins p (emptied p) (length (slots_of p)) slotted (record { slotted = none.0; slots = none.1; lost = none.2 }) (omega arith) in
-    (all.slotted, all.slots ∙ take-length (slots_of p), all.lost)
-
--- so many free bytes in front of the cells
-record HasRoom (p new : List ℕ) (need : ℕ) : Type 0 where
-  pub slotted : IsSlotted new
-  pub slots : slots_of new ≡ slots_of p
-  pub room : directory_end new + need ≤ start_of new
-
-has_room : (p : List ℕ) (need : ℕ) → IsSlotted p → bytes_of (slots_of p) + need ≤ 4072 → HasRoom p (roomy p need) need
-unfolding roomy
-has_room p need slotted enough = ⊎_elim
-    (λ lt. let test : nat_lt (start_of p) (directory_end p + need) ≡ true = grind (arith, nat_tests, lt) in
-    let all = compacts p slotted in
-    let same : bytes_of (slots_of (compacted p)) ≡ bytes_of (slots_of p) = ap bytes_of all.1 in
-    rw test (record { slotted = all.0; slots = all.1; room = room_in_one_place (compacted p) need all.0 all.2 (omega arith) }))
-    (λ le. let test : nat_lt (start_of p) (directory_end p + need) ≡ false = grind (arith, nat_tests, le) in
-    rw test (record { slotted = slotted; slots = refl; room = le }))
-    (cases_lt (start_of p) (directory_end p + need))
-
--- a cell in an empty slot, with room or without
-stores : (p : List ℕ) (s : ℕ) (cell : List ℕ) → IsSlotted p → s < length (slots_of p) → cell_in (slots_of p) s ≡ None → bytes_of (slots_of p) + length cell ≤ 4072 → IsSlotted (store_layout p s cell)
-unfolding store_layout
-stores p s cell slotted there empty fits =
-    let ready = has_room p (length cell) slotted fits in
-    let same : length (slots_of (roomy p (length cell))) ≡ length (slots_of p) = ap (λ (xs : List (Option (List ℕ))). length xs) ready.slots in
-    (fills (roomy p (length cell)) s cell ready.slotted (omega arith) (ap (λ (xs : List (Option (List ℕ))). cell_in xs s) ready.slots ∙ empty) ready.room).0.slotted
-
--- and in a new one
-pushes : (p : List ℕ) (cell : List ℕ) → IsSlotted p → bytes_of (slots_of p) + (4 + length cell) ≤ 4072 → IsSlotted (push_layout p cell)
-unfolding push_layout
-pushes p cell slotted fits =
-    let ready = has_room p (4 + length cell) slotted fits in
-    let page : List ℕ = roomy p (4 + length cell) in
-    let room = ready.room in
-    let more = grows page ready.slotted (omega arith) in
-    let less = grown_room page (grown page) ready.slotted more.0.slotted more.0.slots more.1 in
-    let directory = less.directory in
-    let start = less.start in
-    let long : length (slots_of (grown page)) ≡ length (slots_of page) + 1 = ap (λ (xs : List (Option (List ℕ))). length xs) more.0.slots ∙ length-append (slots_of page) (None ∷ []) in
-    let last : cell_in (slots_of (grown page)) (length (slots_of page)) ≡ None = ap (λ (xs : List (Option (List ℕ))). cell_in xs (length (slots_of page))) more.0.slots ∙ get_or-append_seam (slots_of page) None in
-    (fills (grown page) (length (slots_of page)) cell more.0.slotted (omega arith) last (omega arith)).0.slotted
-  where
-    get_or-append_seam : (xs : List (Option (List ℕ))) (x : Option (List ℕ)) → get_or (xs ++ (x ∷ [])) (length xs) None ≡ x
-    get_or-append_seam [] x = refl
-    get_or-append_seam (y ∷ xs) x = get_or-append_seam xs x
-
--- what stands in front of the first slot is written
-header : (p ys : List ℕ) (at : ℕ) → IsSlotted p → (at + length ys ≤ 8) ⊎ (16 ≤ at) → at + length ys ≤ 24 → IsSlotted (overwritten p at ys)
-header p ys at slotted outside before =
-    let size = slotted.size in
-    slotted_kept p (overwritten p at ys) at (at + length ys) slotted (wrote p ys at (omega arith)) (record { outside = ⊎_elim (λ a. inl (omega arith)) (λ b. inr b) outside; before = before })
-
-pub lsn_stays : (p : List ℕ) (lsn : ℕ) → IsSlotted p → IsSlotted (lsn_layout p lsn)
-unfolding lsn_layout
-lsn_stays p lsn slotted = header p (little_bytes 8 lsn) 0 slotted (inl (omega arith)) (omega arith)
-
+-- links of any size
 links_stay : (p : List ℕ) (a b : ℕ) → IsSlotted p → IsSlotted (links_layout p a b)
 unfolding links_layout
-links_stay p a b slotted = header (overwritten p 16 (little_bytes 4 a)) (little_bytes 4 b) 20 (header p (little_bytes 4 a) 16 slotted (inr (omega arith)) (omega arith)) (inr (omega arith)) (omega arith)
-
-format_stays : (p : List ℕ) (kind : ℕ) → length p ≡ 4096 → IsSlotted (format_layout p kind)
-unfolding format_layout
-format_stays p kind size =
-    let none = empties p size in
-    links_stay (set (emptied p) 8 kind) 0 0 (slotted_kept (emptied p) (set (emptied p) 8 kind) 8 9 none.0 (wrote_u8 (emptied p) 8 kind) (record { outside = inl (omega arith); before = omega arith }))
-
-put_stays : (p : List ℕ) (s : ℕ) (cell : List ℕ) (new : Slots) → IsSlotted p → put_in (slots_of p) s cell ≡ Some new → IsSlotted (put_layout p s cell)
-unfolding put_layout
-put_stays p s cell new slotted e =
-    let put = put_is (slots_of p) new s cell e in
-    let next = put.next in
-    let room : bytes_of (with_cell (slots_of p) s cell) ≤ 4072 = subst (λ (x : Slots). bytes_of x ≤ 4072) put.is put.room in
-    ⊎_elim
-    (λ below. let test : nat_lt s (length (slots_of p)) ≡ true = grind (arith, nat_tests, below) in
-    let other : (s == length (slots_of p)) ≡ false = grind (arith, nat_tests, below) in
-    let fits : bytes_of (set (slots_of p) s (Some cell)) ≤ 4072 = rw other at room in
-    let sums : bytes_of (set (slots_of p) s (Some cell)) + cell_size (cell_in (slots_of p) s) ≡ bytes_of (slots_of p) + length cell = bytes_of-set (slots_of p) s (Some cell) below in
-    let none : cell_size (cell_in (slots_of p) s) ≡ 0 = ap cell_size put.empty in
-    rw test (stores p s cell slotted below put.empty (omega arith)))
-    (λ past. let test : nat_lt s (length (slots_of p)) ≡ false = grind (arith, nat_tests, past) in
-    let last : s ≡ length (slots_of p) = omega arith in
-    let is : (s == length (slots_of p)) ≡ true = grind (arith, nat_tests, last) in
-    let fits : bytes_of (slots_of p ++ (Some cell ∷ [])) ≤ 4072 = rw is at room in
-    let sums : bytes_of (slots_of p ++ (Some cell ∷ [])) ≡ bytes_of (slots_of p) + (4 + length cell) = bytes_of-push (slots_of p) (Some cell) in
-    rw test (pushes p cell slotted (omega arith)))
-    (cases_lt s (length (slots_of p)))
-
-not_none : (o : Option (List ℕ)) (cell : List ℕ) → o ≡ Some cell → o ≢ None
-not_none o cell is none = let e : Some cell ≡ None = sym is ∙ none in absurd cc
-
-remove_stays : (p : List ℕ) (s : ℕ) (new : Slots) → IsSlotted p → remove_in (slots_of p) s ≡ Some new → IsSlotted (remove_layout p s)
-remove_stays p s new slotted e = (clears p s slotted (not_none (cell_in (slots_of p) s) (cell_bytes (cell_in (slots_of p) s)) (remove_is (slots_of p) new s e).full)).slotted
-
-set_stays : (p : List ℕ) (s : ℕ) (cell : List ℕ) (new : Slots) → IsSlotted p → set_in (slots_of p) s cell ≡ Some new → IsSlotted (set_layout p s cell)
-unfolding set_layout
-set_stays p s cell new slotted e =
-    let is_set = set_is (slots_of p) new s cell e in
-    let full : cell_in (slots_of p) s ≢ None = not_none (cell_in (slots_of p) s) (cell_bytes (cell_in (slots_of p) s)) is_set.full in
-    let below = full_there (slots_of p) s is_set.full in
-    let room : bytes_of (set (slots_of p) s (Some cell)) ≤ 4072 = subst (λ (x : Slots). bytes_of x ≤ 4072) is_set.is is_set.room in
-    ⊎_elim
-    (λ same. let test : (length cell == length_at p s) ≡ true = grind (arith, nat_tests, same) in
-    rw test (refills p s cell slotted full same).slotted)
-    (λ other. let test : (length cell == length_at p s) ≡ false = grind (arith, nat_tests, other) in
-    let one = clears p s slotted full in
-    let with : bytes_of (set (slots_of p) s (Some cell)) + cell_size (cell_in (slots_of p) s) ≡ bytes_of (slots_of p) + length cell = bytes_of-set (slots_of p) s (Some cell) below in
-    let without : bytes_of (set (slots_of p) s None) + cell_size (cell_in (slots_of p) s) ≡ bytes_of (slots_of p) + 0 = bytes_of-set (slots_of p) s None below in
-    let same : bytes_of (slots_of (cleared p s)) ≡ bytes_of (set (slots_of p) s None) = ap bytes_of one.slots in
-    let long : length (slots_of (cleared p s)) ≡ length (slots_of p) = ap (λ (xs : Slots). length xs) one.slots ∙ length-set (slots_of p) s None in
-    let empty : cell_in (slots_of (cleared p s)) s ≡ None = ap (λ (xs : Slots). cell_in xs s) one.slots ∙ get_or-set_same (slots_of p) s None None below in
-    rw test (stores (cleared p s) s cell one.slotted (omega arith) empty (omega arith)))
-    (cases_eq (length cell) (length_at p s))
-
--- another cell of as many bytes
-item_stays : (p : List ℕ) (s : ℕ) (old cell : List ℕ) → IsSlotted p → cell_in (slots_of p) s ≡ Some old → length cell ≡ length old → IsSlotted (set_layout p s cell)
-item_stays p s old cell slotted full same = set_stays p s cell (set (slots_of p) s (Some cell)) slotted (same_size_fits p s old cell slotted (sym full) same)
-
--- the page with a change of a cell that keeps its length
-with_item_stays : (p : List ℕ) (s : ℕ) (change : List ℕ → Option (List ℕ)) (new : Slots) → IsSlotted p → IsBytes p → change_in (slots_of p) s change ≡ Some new
-    → ((item cell : List ℕ) → IsBytes item → change item ≡ Some cell → length cell ≡ length item) → IsSlotted (with_item p s (option_and_then change (cell_in (slots_of p) s)))
-with_item_stays p s change new slotted bytes e keeps =
-    let is = change_is (slots_of p) new s change e in
-    let old : List ℕ = cell_bytes (cell_in (slots_of p) s) in
-    let has : IsBytes old = subst (λ (o : Option (List ℕ)). IfSome o IsBytes) is.full (has_bytes p bytes s) in
-    let there : option_and_then change (cell_in (slots_of p) s) ≡ Some is.cell = ap (option_and_then change) is.full ∙ is.made in
-    subst (λ (o : Option (List ℕ)). IsSlotted (with_item p s o)) (sym there) (item_stays p s old is.cell slotted is.full (keeps old is.cell has is.made))
+links_stay p a b slotted = (field (overwritten p 16 (little_bytes 4 a)) (little_bytes 4 b) 20 (field p (little_bytes 4 a) 16 slotted (inr (omega arith)) (omega arith)).0 (inr (omega arith)) (omega arith)).0
 
 changed_stays : (t : Table) (op : Op) (p : List ℕ) (new : Sheet) → IsLawful t → BringsBytes op → IsBytes p → IsSlotted p → step t op (sheet_of p) ≡ Some new → IsSlotted (changed t op p)
 unfolding changed
-changed_stays t (Format kind) p new lawful brings bytes slotted e = format_stays p kind slotted.size
-changed_stays t (Put slot cell) p new lawful brings bytes slotted e = put_stays p slot cell new.slots slotted (slots_some (sheet_of p) new (put_in (slots_of p) slot cell) e).slots
-changed_stays t (Remove slot) p new lawful brings bytes slotted e = remove_stays p slot new.slots slotted (slots_some (sheet_of p) new (remove_in (slots_of p) slot) e).slots
-changed_stays t (Set slot cell) p new lawful brings bytes slotted e = set_stays p slot cell new.slots slotted (slots_some (sheet_of p) new (set_in (slots_of p) slot cell) e).slots
+changed_stays t (Format kind) p new lawful brings bytes slotted e = (format_says p kind slotted.size).0
+changed_stays t (Put slot cell) p new lawful brings bytes slotted e = (put_says p slot cell new.slots slotted (slots_some (sheet_of p) new (put_in (slots_of p) slot cell) e).slots).slotted
+changed_stays t (Remove slot) p new lawful brings bytes slotted e = (remove_says p slot new.slots slotted (slots_some (sheet_of p) new (remove_in (slots_of p) slot) e).slots).slotted
+changed_stays t (Set slot cell) p new lawful brings bytes slotted e = (set_says p slot cell new.slots slotted (slots_some (sheet_of p) new (set_in (slots_of p) slot cell) e).slots).slotted
 changed_stays t (Links links) p new lawful brings bytes slotted e = links_stay p links.0 links.1 slotted
 changed_stays t (Item slot code arg) p new lawful brings bytes slotted e =
-    with_item_stays p slot (item_after (record_at t code) arg) new.slots slotted bytes (slots_some (sheet_of p) new (change_in (slots_of p) slot (item_after (record_at t code) arg)) e).slots
+    (item_changed p slot (item_after (record_at t code) arg) new.slots slotted bytes (slots_some (sheet_of p) new (change_in (slots_of p) slot (item_after (record_at t code) arg)) e).slots
     (λ item cell in_item made. let is = redone_is (record_at t code) arg item cell made in
-    ap (λ (xs : List ℕ). length xs) is.is ∙ after_long (record_at t code) item arg (lawful.undoable code) in_item brings is.accepted)
+    ap (λ (xs : List ℕ). length xs) is.is ∙ after_long (record_at t code) item arg (lawful.undoable code) in_item brings is.accepted)).slotted
 changed_stays t (ItemBack slot code arg) p new lawful brings bytes slotted e =
-    with_item_stays p slot (item_before (record_at t code) arg) new.slots slotted bytes (slots_some (sheet_of p) new (change_in (slots_of p) slot (item_before (record_at t code) arg)) e).slots
+    (item_changed p slot (item_before (record_at t code) arg) new.slots slotted bytes (slots_some (sheet_of p) new (change_in (slots_of p) slot (item_before (record_at t code) arg)) e).slots
     (λ item cell in_item made. let is = undone_is (record_at t code) arg item cell made in
-    ap (λ (xs : List ℕ). length xs) is.is ∙ before_long (record_at t code) item arg (lawful.undoable code) in_item brings)
+    ap (λ (xs : List ℕ). length xs) is.is ∙ before_long (record_at t code) item arg (lawful.undoable code) in_item brings)).slotted
 
 some_is : (o : Option Sheet) → is_some o ≡ true → (new : Sheet) × (o ≡ Some new)
 some_is None e = absurd cc
 some_is (Some new) e = (new, refl)
 
-right : (a b : Bool) → (a && b) ≡ true → b ≡ true
-right true b e = e
-right false b e = absurd cc
-
 -- an operation that fits has a step
-has_step : (t : Table) (op : Op) (p : List ℕ) → fits t op p ≡ true → (new : Sheet) × (step t op (sheet_of p) ≡ Some new)
-unfolding fits
-has_step t (Format kind) p e = some_is (step t (Format kind) (sheet_of p)) refl
-has_step t (Put slot cell) p e = some_is (step t (Put slot cell) (sheet_of p)) (right (is_slotted p) (is_some (step t (Put slot cell) (sheet_of p))) e)
-has_step t (Remove slot) p e = some_is (step t (Remove slot) (sheet_of p)) (right (is_slotted p) (is_some (step t (Remove slot) (sheet_of p))) e)
-has_step t (Set slot cell) p e = some_is (step t (Set slot cell) (sheet_of p)) (right (is_slotted p) (is_some (step t (Set slot cell) (sheet_of p))) e)
-has_step t (Links links) p e = some_is (step t (Links links) (sheet_of p)) refl
-has_step t (Item slot code arg) p e = some_is (step t (Item slot code arg) (sheet_of p)) (right (is_slotted p) (is_some (step t (Item slot code arg) (sheet_of p))) e)
-has_step t (ItemBack slot code arg) p e = some_is (step t (ItemBack slot code arg) (sheet_of p)) (right (is_slotted p) (is_some (step t (ItemBack slot code arg) (sheet_of p))) e)
+has_step : (t : Table) (op : Op) (p : List ℕ) → IsSlotted p → fits t op p ≡ true → (new : Sheet) × (step t op (sheet_of p) ≡ Some new)
+has_step t op p slotted e = some_is (step t op (sheet_of p)) (ap (λ (l : Option Sheet). is_some (step_leaf t op l)) (sym (leaf_slotted p slotted)) ∙ (sym (fits_leaf t op p) ∙ e))
 
 -- REDO KEEPS A PAGE OF SLOTS ONE, whatever the operation
 pub redone_stays : (t : Table) (lsn : ℕ) (op : Op) (p : List ℕ) → IsLawful t → BringsBytes op → IsBytes p → IsSlotted p → IsSlotted (redone (on_page t lsn op) p)
 redone_stays t lsn op p lawful brings bytes slotted = ⊎_elim
     (λ due. ⊎_elim
-    (λ fit. let has = has_step t op p fit in
-    subst IsSlotted (done t lsn op p (changed t op p) (lsn_layout (changed t op p) lsn) (sym fit) due refl refl) (lsn_stays (changed t op p) lsn (changed_stays t op p has.0 lawful brings bytes slotted has.1)))
+    (λ fit. let has = has_step t op p slotted fit in
+    subst IsSlotted (done t lsn op p (changed t op p) (lsn_layout (changed t op p) lsn) (sym fit) due refl refl) (lsn_says (changed t op p) lsn (changed_stays t op p has.0 lawful brings bytes slotted has.1)).0)
     (λ unfitting. subst IsSlotted (unfit t lsn op p p (sym unfitting) refl) slotted)
     (cases_Bool (fits t op p)))
     (λ has. subst IsSlotted (had t lsn op p has) slotted)

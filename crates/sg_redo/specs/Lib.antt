@@ -1,5 +1,7 @@
 pub mod History
+pub mod Leaf
+pub mod Named
 pub mod Page
-pub mod Window
 pub mod Places
 pub mod Units
+pub mod Window

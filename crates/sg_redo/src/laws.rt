@@ -1,14 +1,18 @@
 // What holds of redo as functions of bytes, whatever the pages and windows.
-ghost use Rattle.std.specs.Prelude.{◌≡◌, ◌<◌, ◌^◌, ℕ, List, length, true, false};
+ghost use Rattle.std.specs.Prelude.{◌≡◌, ◌<◌, ◌^◌, ◌==◌, ℕ, List, filter, length, true, false, Some, is_some, IsSomeAnd};
 ghost use Rattle.std.specs.List.{All};
 ghost use Rattle.sg_base.specs.Bytes.{IsBytes};
 ghost use Rattle.sg_base.specs.Op.{Op};
-ghost use Rattle.sg_base.specs.Page.{IsSlotted};
+ghost use Rattle.sg_action.specs.States.{step_leaf, or_same};
+ghost use Rattle.sg_base.specs.Page.{lsn_of, IsSlotted};
+ghost use Rattle.sg_base.specs.Sheet.{Sheet, sheet_of};
 ghost use Rattle.sg_ops.specs.Laws.{IsLawful};
 ghost use Rattle.sg_ops.specs.Steps.{BringsBytes};
 ghost use Rattle.sg_ops.specs.Table.{Table};
 ghost use Rattle.sg_redo.specs.History.{OnPage, redone, repeated, below, Rises, SetsNumber, AllSetNumber, AllFit};
-ghost use Rattle.sg_redo.specs.Page.{on_page};
+ghost use Rattle.sg_redo.specs.Leaf.{leaf_of, LinksFit};
+ghost use Rattle.sg_redo.specs.Named.{AreNamed, named};
+ghost use Rattle.sg_redo.specs.Page.{fits, made, on_page};
 ghost use Rattle.sg_redo.specs.Places.{page_records, window_records};
 ghost use Rattle.sg_redo.specs.Units.{own_places, is_page, replayed_unit};
 ghost use Rattle.sg_redo.specs.declared.place.Place.{Place};
@@ -55,4 +59,29 @@ pub fn replay_converges()
         → own_places places other ≡ own_places places one → AllLie (length one.loan.bytes) (window_records t text (own_places places one))
         → IsSameBut (window_records t text (own_places places one)) one.loan.bytes other.loan.bytes
         → (replayed_unit t text places other).loan.bytes ≡ (replayed_unit t text places one).loan.bytes }
+{}
+
+/// A law: where each place has the unit that the record there names, a unit's own places are those
+/// whose records name it. So what replay repeats on a unit are the text's records of that unit.
+pub fn places_name_units()
+    ensures { (pages : ℕ) (text : List ℕ) (places : List Place) (unit : ℕ) → AreNamed pages text places → filter (λ p. p.unit == unit) places ≡ named pages text unit places }
+{}
+
+/// A law: a record's operation fits the bytes of a page exactly where it fits what they say.
+pub fn records_fit_as_said()
+    ensures { (t : Table) (op : Op) (page : List ℕ) → fits t op page ≡ is_some (step_leaf t op (leaf_of page)) }
+{}
+
+/// A law: what a record makes of bytes that its operation fits is a page of slots that says the step
+/// of what they say.
+pub fn records_make_what_is_said()
+    ensures { (t : Table) (lsn : ℕ) (op : Op) (page : List ℕ) (new : Sheet) → IsLawful t → BringsBytes op → LinksFit op → IsBytes page → length page ≡ 4096 → step_leaf t op (leaf_of page) ≡ Some new
+        → IsSomeAnd (made t lsn op page) (λ bytes. IsSlotted bytes × (sheet_of bytes ≡ new)) }
+{}
+
+/// A law: redo of a page's bytes by a record with a number above the page's is the step of what they
+/// say, and nothing where the operation doesn't fit that.
+pub fn redo_is_the_step()
+    ensures { (t : Table) (lsn : ℕ) (op : Op) (page : List ℕ) → IsLawful t → BringsBytes op → LinksFit op → IsBytes page → length page ≡ 4096 → lsn_of page < lsn
+        → leaf_of (redone (on_page t lsn op) page) ≡ or_same (step_leaf t op (leaf_of page)) (leaf_of page) }
 {}

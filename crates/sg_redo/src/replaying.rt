@@ -1,6 +1,7 @@
 // Replay: the records of each unit, in their order, through its loan.
 ghost use Rattle.std.specs.Prelude.{◌≡◌, ◌≢◌, ◌+◌, ◌↔◌, ◌⊎◌, ◌≤◌, ℕ, length, map, sum_by, Some, unwrap_or, if◌then◌else◌};
 ghost use Rattle.std.specs.List.{All};
+ghost use Rattle.sg_base.specs.Page.{IsSlotted};
 ghost use Rattle.sg_ops.specs.Table.{table_of};
 ghost use Rattle.sg_redo.specs.History.{repeated, since_repeated, IsCovered};
 ghost use Rattle.sg_redo.specs.Places.{change_at, page_part, page_records, window_part, window_records, marks_with, IsKnown};
@@ -43,6 +44,8 @@ fn redo_page<L: Ledger>(
         page.new ≡ repeated (page_part t place.lsn (change_at text.now place.at)) page.old }
     ensures since { let t = table_of record_meaning range_meaning ops.now in
         since.new ≡ since_repeated (page_part t place.lsn (change_at text.now place.at)) page.old since.old }
+    // What a record leaves is as it was, or a page of slots.
+    ensures well { (page.new ≡ page.old) ⊎ IsSlotted page.new }
     ensures steps { steps.new ≡ steps.old + 1 }
 {
     steps.tick();
@@ -67,6 +70,7 @@ fn replay_page<L: Ledger>(
         page.new ≡ repeated (page_records t text.now places.now) page.old }
     ensures since { let t = table_of record_meaning range_meaning ops.now in
         since.new ≡ since_repeated (page_records t text.now places.now) page.old since.old }
+    ensures well { (page.new ≡ page.old) ⊎ IsSlotted page.new }
     ensures steps { steps.new ≡ steps.old + length places.now }
 {
     'places: for k in 0..places.len() {
@@ -164,6 +168,9 @@ pub fn replay_unit<L: Ledger>(
     ensures unit { unit.new ≡ replayed_unit (table_of record_meaning range_meaning ops.now) text.now places.now unit.old }
     // Each change of a band lies in it.
     ensures lie { length unit.old.loan.bytes ≢ PAGE_SIZE → AllLie BAND_SIZE (window_records (table_of record_meaning range_meaning ops.now) text.now (own_places places.now unit.old)) }
+    // A page is as it was then, or one of slots.
+    ensures well { length unit.old.loan.bytes ≡ PAGE_SIZE → let rs = page_records (table_of record_meaning range_meaning ops.now) text.now (own_places places.now unit.old) in
+        (repeated rs unit.old.loan.bytes ≡ unit.old.loan.bytes) ⊎ IsSlotted (repeated rs unit.old.loan.bytes) }
     ensures steps { steps.new ≡ steps.old + unit.old.count }
 {
     let first = unit.first as usize;

@@ -8,6 +8,7 @@ use Rattle.sg_gate.proofs.batch.copy_home.Goals as goal
 
 pub pages-init : goal.pages-init
 pages-init g c = record {
+  quiet = refl;
   later = omega arith;
   calls = (λ low. absurd (omega arith), λ none. refl);
   handed = (λ low. absurd (omega arith), λ none. refl);
@@ -30,6 +31,7 @@ pages-preserved g c =
     let two : 2 * k + 2 ≡ 2 * (k + 1) = omega arith in
     let page : PAGE * k + PAGE ≡ PAGE * (k + 1) = omega arith in
     record {
+      quiet = c.in_ok-copy_page.ensures.quiet ∙ c.pages.invariant.quiet;
       later = let a = c.pages.invariant.later in let b = c.copy_page.ensures.later in omega arith;
       calls = (λ low. raised_more v.calls w.calls z.calls k (2 * k) 2 FULL c.pages.invariant.calls.0 c.pages.invariant.calls.1 (λ none. omega arith) c.in_ok-copy_page.ensures.calls ∙ ap (λ (n : ℕ). min (v.calls + n) FULL) two, λ none. absurd (omega arith));
       handed = (λ low. raised_more v.handed w.handed z.handed k (PAGE * k) PAGE FULL c.pages.invariant.handed.0 c.pages.invariant.handed.1 (λ none. omega arith) c.in_ok-copy_page.ensures.all_handed ∙ ap (λ (n : ℕ). min (v.handed + n) FULL) page, λ none. absurd (omega arith));

@@ -9,6 +9,7 @@ use Rattle.sg_gate.proofs.batch.copy_home.Given as goal
 
 abbrev pub invariant-pages : goal.invariant-pages
 invariant-pages g l = record {
+  quiet : (g.D.Disk.view l.disk).faults ≡ (g.D.Disk.view l.fn.disk).faults;
   later : (g.D.Disk.view l.fn.disk).faults ≤ (g.D.Disk.view l.disk).faults;
   calls : (0 < l.k → (g.D.Disk.view l.disk).calls ≡ min ((g.D.Disk.view l.fn.disk).calls + 2 * l.k) FULL) × (l.k ≡ 0 → (g.D.Disk.view l.disk).calls ≡ (g.D.Disk.view l.fn.disk).calls);
   handed : (0 < l.k → (g.D.Disk.view l.disk).handed ≡ min ((g.D.Disk.view l.fn.disk).handed + PAGE * l.k) FULL) × (l.k ≡ 0 → (g.D.Disk.view l.disk).handed ≡ (g.D.Disk.view l.fn.disk).handed);

@@ -21,8 +21,12 @@ returns g c = (
       frames = c.hold_band.ensures.frames;
       logged = λ tail below. lasts_below c.args.self.now.shelf.wins c.hold_band.new.self.shelf.wins tail c.hold_band.ensures.lasts below;
       lasts = c.hold_band.ensures.lasts;
+      gone = c.in_ok-w.ensures.gone;
       backed = c.in_ok-w.ensures.backed;
       same = c.in_ok-w.ensures.same;
+      untouched = c.in_ok-w.ensures.untouched;
+      turn = c.in_ok-w.ensures.turn;
+      count = c.hold_band.ensures.count;
     },
   ),
   record {
@@ -35,5 +39,11 @@ returns g c = (
     fault = tt;
     failed = tt;
     later = c.hold_band.ensures.later;
+    heeded = c.in_ok-w.ensures.heeded;
+    kept = c.hold_band.ensures.kept;
+    grown = c.hold_band.ensures.grown;
+    hit = c.hold_band.ensures.hit;
+    spared = c.hold_band.ensures.spared;
+    durable = c.hold_band.ensures.durable;
   },
 )

@@ -1,14 +1,16 @@
-use Rattle.std.proofs.Common.{◌≡◌, ◌<◌, List, [], length, get_or, refl, sym, ◌∙◌, ap, subst, arith, get_or-set_same, get_or-set_other}
+use Rattle.std.proofs.Common.{◌≡◌, ◌<◌, ⊎_elim, ℕ, List, [], length, get_or, refl, sym, ◌∙◌, ap, subst, arith, get_or-set_same, get_or-set_other, length-set, None, Some}
 use Rattle.sg_base.specs.declared.area.Area.TheVariants.{Home}
 use Rattle.sg_frames.specs.Held.{Held}
 use Rattle.sg_pool.specs.declared.slot.Slot.{Slot}
-use Rattle.sg_pool.specs.Held.{page_in}
+use Rattle.std.proofs.lemmas.Bool.{cases_eq}
+use Rattle.sg_pool.specs.Held.{frame_of, page_in, since_of, page_since_of}
 use Rattle.sg_pool.specs.Units.{Geometry, IsBacked}
 use Rattle.sg_pool.specs.Windows.{last_in}
 use Rattle.sg_pool.specs.Shelves.{geometry_of, units}
+use Rattle.sg_pool.proofs.HomesKept.{band_untouched}
 use Rattle.sg_pool.proofs.BandsHome.{lasts_below}
 use Rattle.sg_pool.proofs.BandsChanged.{written_lasts, written_held, written_below, values_written, values_written_backed}
-use Rattle.sg_pool.proofs.Slots.{frame_some, page_there}
+use Rattle.sg_pool.proofs.Slots.{frame_some, page_there, none_is_some}
 use Rattle.sg_pool.proofs.pool.Pool.change_band.Goals as goal
 
 pub write_band-requires-clause-there : goal.write_band-requires-clause-there
@@ -55,6 +57,8 @@ returns-clause-changed g c told apart backed =
     let w = g.D.Disk.view c.hold_band.new.disk in (
       units (w.now Home).seen s,
       c.in_ok-w.ensures.same told apart backed,
+      c.in_ok-w.ensures.backed told apart backed,
+      c.in_ok-w.ensures.own,
       values_written (geometry_of s) s.slots.items s.wins t.wins c.in_ok-w.w c.args.b.0 _ lt held c.write_band.ensures.wins c.write_band.ensures.marks s.frames t.frames
           (ap (λ (h : Held). h.pages) is) (λ v differ. ap (λ (h : Held). get_or h.windows v []) is ∙ get_or-set_other s.frames.windows c.in_ok-w.w v _ [] differ)
           c.args.lsn c.args.at c.args.bytes.now refl c.write_band.ensures.marked (s.shelf.here.windows c.in_ok-w.w low) c.requires.fits
@@ -95,3 +99,38 @@ returns-clause-lasts g c b o differ since =
 
 pub returns-in_err-w-clause-lasts : goal.returns-in_err-w-clause-lasts
 returns-in_err-w-clause-lasts g c b o differ since = c.hold_band.ensures.lasts b o since
+
+pub returns-clause-gone : goal.returns-clause-gone
+returns-clause-gone g c logged b o had none =
+    let s = c.hold_band.new.self.shelf in let t = c.write_band.new.self in let held = c.in_ok-w.ensures.brought.held in
+    let lt = (frame_some c.args.b.0 s.wins.slots.items c.in_ok-w.w held).0 in let wide = s.shelf.wide in
+    let low : c.in_ok-w.w < length s.frames.windows = omega (arith, lt, wide) in
+    let is = c.write_band.ensures.frames in
+    let w = g.D.Disk.view c.hold_band.new.disk in
+    let it = values_written (geometry_of s) s.slots.items s.wins t.wins c.in_ok-w.w c.args.b.0 _ lt held c.write_band.ensures.wins c.write_band.ensures.marks s.frames t.frames
+    (ap (λ (h : Held). h.pages) is) (λ v differ. ap (λ (h : Held). get_or h.windows v []) is ∙ get_or-set_other s.frames.windows c.in_ok-w.w v _ [] differ)
+    c.args.lsn c.args.at c.args.bytes.now refl c.write_band.ensures.marked (s.shelf.here.windows c.in_ok-w.w low) c.requires.fits
+    (ap (λ (h : Held). get_or h.windows c.in_ok-w.w []) is ∙ get_or-set_same s.frames.windows c.in_ok-w.w _ [] low) (w.now Home) (geometry_of t) t.slots.items c.write_band.ensures.geometry c.write_band.ensures.slots in
+    ⊎_elim
+    (λ same. absurd (none_is_some _ (sym (ap (λ (k : ℕ). since_of t.wins.slots.items (frame_of t.wins.slots.items k)) (sym same) ∙ none) ∙ it.since)))
+    (λ differ. c.in_ok-w.ensures.gone logged b o had (sym (it.other_sinces b differ) ∙ none))
+    (cases_eq b c.args.b.0)
+
+pub returns-clause-turn : goal.returns-clause-turn
+unfolding returns-clause-brought
+returns-clause-turn g c none = (returns-clause-brought g c).1.held ∙ (sym c.in_ok-w.ensures.brought.held ∙ c.in_ok-w.ensures.turn none)
+
+pub returns-clause-count : goal.returns-clause-count
+returns-clause-count g c = ap length c.write_band.ensures.wins ∙ (length-set c.hold_band.new.self.shelf.wins.slots.items c.in_ok-w.w _ ∙ c.hold_band.ensures.count)
+
+pub returns-clause-untouched : goal.returns-clause-untouched
+returns-clause-untouched g c told apart backed =
+    let s = c.hold_band.new.self.shelf in let t = c.write_band.new.self in let held = c.in_ok-w.ensures.brought.held in
+    let lt = (frame_some c.args.b.0 s.wins.slots.items c.in_ok-w.w held).0 in let wide = s.shelf.wide in
+    let low : c.in_ok-w.w < length s.frames.windows = omega (arith, lt, wide) in
+    let is = c.write_band.ensures.frames in
+    let v = g.D.Disk.view c.args.disk.now in let w = g.D.Disk.view c.hold_band.new.disk in
+    band_untouched (geometry_of c.args.self.now.shelf) (v.now Home).seen (w.now Home).seen (units (w.now Home).seen s) (units (w.now Home).seen t) c.args.b.0 (c.in_ok-w.ensures.untouched told apart backed) (c.in_ok-w.ensures.home told apart backed)
+    (λ n. ap (λ (l : List Slot). page_since_of l n) c.write_band.ensures.slots)
+    (λ k o differ since. (written_lasts (geometry_of s) s.slots.items s.wins t.wins c.in_ok-w.w c.args.b.0 _ lt held c.write_band.ensures.wins c.write_band.ensures.marks s.frames t.frames
+    (ap (λ (h : Held). h.pages) is) (λ v other. ap (λ (h : Held). get_or h.windows v []) is ∙ get_or-set_other s.frames.windows c.in_ok-w.w v _ [] other) k o differ since).0)

@@ -5,6 +5,7 @@ use Rattle.sg_ops.specs.Table.{Table, table_of}
 use Rattle.sg_redo.specs.Page.{on_page}
 use Rattle.sg_pool.specs.Units.{Geometry, IsBacked}
 use Rattle.sg_pool.specs.Shelves.{geometry_of, units}
+use Rattle.sg_pool.proofs.HomesKept.{page_untouched}
 use Rattle.sg_pool.proofs.Slots.{frame_some}
 use Rattle.sg_pool.proofs.Changes.{record_marked, change_is, change_backed, still_held, others_still}
 use Rattle.sg_pool.proofs.pool.Pool.change_page.Goals as goal
@@ -46,6 +47,16 @@ returns-clause-changed g c told apart backed =
     let lt = (frame_some c.args.p.0 s.slots.items c.in_ok-f.f held).0 in let many = s.shelf.many in (
       units (w.now Home).seen s,
       c.in_ok-f.ensures.same told apart backed,
+      c.in_ok-f.ensures.backed told apart backed,
       change_is c.args.p.0 _ s.slots.items s.frames c.in_ok-f.f lt (omega (arith, lt, many)) s.shelf.apart held (geometry_of s) s.wins (w.now Home).seen (geometry_of t) t.slots.items t.wins t.frames
           c.change.ensures.geometry c.change.ensures.slots c.change.ensures.wins c.change.ensures.frames,
     )
+
+pub returns-clause-untouched : goal.returns-clause-untouched
+returns-clause-untouched g c told apart backed =
+    let s = c.hold.new.self.shelf in let t = c.change.new.self in let held = c.in_ok-f.ensures.held in
+    let v = g.D.Disk.view c.args.disk.now in let w = g.D.Disk.view c.hold.new.disk in
+    let lt = (frame_some c.args.p.0 s.slots.items c.in_ok-f.f held).0 in let many = s.shelf.many in
+    let is = change_is c.args.p.0 _ s.slots.items s.frames c.in_ok-f.f lt (omega (arith, lt, many)) s.shelf.apart held (geometry_of s) s.wins (w.now Home).seen (geometry_of t) t.slots.items t.wins t.frames
+    c.change.ensures.geometry c.change.ensures.slots c.change.ensures.wins c.change.ensures.frames in
+    page_untouched (geometry_of c.args.self.now.shelf) (v.now Home).seen (w.now Home).seen (units (w.now Home).seen s) (units (w.now Home).seen t) c.args.p.0 (c.in_ok-f.ensures.untouched told apart backed) (c.in_ok-f.ensures.home told apart backed) is.other_sinces is.band_since

@@ -8,3 +8,6 @@ returns-clause-written g c = let t = c.flush.new.self in
 
 pub returns-clause-moments : goal.returns-clause-moments
 returns-clause-moments g c ds ps told apart backed holds below = c.flush.ensures.moments ds ps told apart backed holds below.pages below.bands
+
+pub returns-clause-untouched : goal.returns-clause-untouched
+returns-clause-untouched g c told apart backed = c.flush.ensures.untouched told apart backed.ready

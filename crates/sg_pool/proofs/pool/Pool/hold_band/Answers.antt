@@ -1,12 +1,17 @@
-use Rattle.std.proofs.Common.{◌<◌, inl, ℕ, Option, length, sym, ◌∙◌, ap, subst, arith}
+use Rattle.std.proofs.Common.{◌≡◌, ◌<◌, None, inl, ⊎_elim, refl, ℕ, Option, length, sym, ◌∙◌, ap, subst, arith}
 use Rattle.sg_base.specs.declared.area.Area.TheVariants.{Home}
 use Rattle.sg_disk.specs.Disk.{Image}
 use Rattle.sg_disk.proofs.Moments.{weaker}
 use Rattle.sg_log.proofs.Holding.{no_call_moments}
 use Rattle.sg_pool.specs.Frames.{byte_in}
-use Rattle.sg_pool.specs.Shelves.{geometry_of}
+use Rattle.sg_pool.specs.Held.{frame_of, since_of}
+use Rattle.sg_pool.specs.Shelves.{geometry_of, units}
 use Rattle.sg_pool.specs.Units.{band_byte}
-use Rattle.sg_pool.proofs.Slots.{frame_some}
+use Rattle.sg_pool.proofs.Sparing.{nowhere}
+use Rattle.sg_pool.proofs.HomesKept.{untouched_same}
+use Rattle.sg_pool.proofs.Counting.{grown_same}
+use Rattle.sg_pool.proofs.BandsHome.{last_below}
+use Rattle.sg_pool.proofs.Slots.{frame_some, none_is_some, none_or_some}
 use Rattle.sg_pool.proofs.Pooling.{pool_same}
 use Rattle.sg_pool.proofs.pool.Pool.hold_band.Goals as goal
 
@@ -44,3 +49,51 @@ pub returns-clause-whole : goal.returns-clause-whole
 returns-clause-whole g c = let t = c.bring_band.new.self in
     let lt = (frame_some c.args.b t.wins.slots.items _ c.in_ok-bring_band.ensures.held).0 in let wide = t.shelf.wide in
     t.shelf.here.windows _ (omega (arith, lt, wide))
+
+pub returns-in-Some-clause-gone : goal.returns-in-Some-clause-gone
+returns-in-Some-clause-gone g c logged b o had none = absurd (none_is_some o (sym none ∙ had))
+
+pub returns-clause-gone : goal.returns-clause-gone
+returns-clause-gone g c logged = c.in_ok-bring_band.ensures.gone logged
+
+pub returns-in-Some-clause-own : goal.returns-in-Some-clause-own
+returns-in-Some-clause-own g c = refl
+
+pub returns-clause-own : goal.returns-clause-own
+returns-clause-own g c = let s = c.args.self.now.shelf in let t = c.bring_band.new.self in
+    let gone : frame_of s.wins.slots.items c.args.b ≡ None = ⊎_elim (λ none. none) (λ some. absurd (c.in_default.not-Some some.0 (c.find.ensures ∙ some.1))) (none_or_some (frame_of s.wins.slots.items c.args.b)) in
+    let none : since_of s.wins.slots.items (frame_of s.wins.slots.items c.args.b) ≡ None = ap (since_of s.wins.slots.items) gone in
+    ⊎_elim
+    (λ clean. clean ∙ sym none)
+    (λ some. absurd (none_is_some some.0 (sym none ∙ (c.bring_band.ensures.lasts c.args.b some.0 some.1).0)))
+    (none_or_some (since_of t.wins.slots.items (frame_of t.wins.slots.items c.args.b)))
+
+pub returns-in-Some-clause-grown : goal.returns-in-Some-clause-grown
+returns-in-Some-clause-grown g c = grown_same c.args.log.now (g.D.Disk.view c.args.disk.now) (g.D.Disk.view c.args.disk.now) (omega arith)
+
+pub returns-in-Some-clause-hit : goal.returns-in-Some-clause-hit
+returns-in-Some-clause-hit g c held = (refl, refl)
+
+pub returns-in-Some-clause-turn : goal.returns-in-Some-clause-turn
+returns-in-Some-clause-turn g c none = absurd (none_is_some c.in-Some.w (sym none ∙ (sym c.find.ensures ∙ c.in-Some.is)))
+
+pub returns-in-Some-clause-untouched : goal.returns-in-Some-clause-untouched
+returns-in-Some-clause-untouched g c told apart backed = let s = c.args.self.now.shelf in let seen = ((g.D.Disk.view c.args.disk.now).now Home).seen in untouched_same (geometry_of s) seen seen (units seen s) refl
+
+pub returns-in-Some-clause-home : goal.returns-in-Some-clause-home
+returns-in-Some-clause-home g c told apart backed i small = refl
+
+pub returns-in_err-bring_band-clause-hit : goal.returns-in_err-bring_band-clause-hit
+returns-in_err-bring_band-clause-hit g c held = let s = c.args.self.now in absurd (held (nowhere c.find.result (frame_of s.shelf.wins.slots.items c.args.b) c.find.ensures c.in_default.not-Some))
+
+pub returns-clause-hit : goal.returns-clause-hit
+returns-clause-hit g c held = let s = c.args.self.now in absurd (held (nowhere c.find.result (frame_of s.shelf.wins.slots.items c.args.b) c.find.ensures c.in_default.not-Some))
+
+pub returns-clause-turn : goal.returns-clause-turn
+returns-clause-turn g c none = c.in_ok-bring_band.ensures.held
+
+pub returns-in_err-bring_band-clause-durable : goal.returns-in_err-bring_band-clause-durable
+returns-in_err-bring_band-clause-durable g c logged = let s = c.args.self.now.shelf in c.bring_band.ensures.spared (λ o since. last_below s.wins c.args.log.now.gate logged s.wins.next o s.wins.windows.next_there since)
+
+pub returns-clause-durable : goal.returns-clause-durable
+returns-clause-durable g c logged = let s = c.args.self.now.shelf in c.bring_band.ensures.spared (λ o since. last_below s.wins c.args.log.now.gate logged s.wins.next o s.wins.windows.next_there since)

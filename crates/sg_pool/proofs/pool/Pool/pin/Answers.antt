@@ -1,6 +1,6 @@
 use Rattle.std.proofs.Common.{ℕ, Bool, true, List, length, sym, ◌∙◌, subst, arith}
 use Rattle.sg_pool.specs.Order.{IsOrder}
-use Rattle.sg_pool.proofs.Ordering.{order_set}
+use Rattle.sg_pool.proofs.Ordering.{order_pinned}
 use Rattle.sg_pool.proofs.Slots.{frame_some}
 use Rattle.sg_pool.proofs.pool.Pool.pin.Goals as goal
 
@@ -13,6 +13,6 @@ invariant_of-self c = let s = c.args.self.now in
     record {
       pool = record {
         many = s.pool.many;
-        order = subst (λ (es : List (ℕ × Bool)). IsOrder (length s.shelf.slots.items) es) (sym c.set_pin.ensures.entries) (order_set c.in-Some.f true (length s.shelf.slots.items) s.order.entries (let room = c.requires.room in omega (arith, room)) s.pool.order);
+        order = subst (λ (es : List (ℕ × Bool)). IsOrder (length s.shelf.slots.items) es) (sym c.set_pin.ensures.entries) (order_pinned c.in-Some.f (length s.shelf.slots.items) s.order.entries (c.requires.room c.in-Some.f (sym c.find.ensures ∙ c.in-Some.is)) s.pool.order);
       };
     }

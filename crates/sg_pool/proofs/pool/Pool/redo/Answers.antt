@@ -1,10 +1,11 @@
-use Rattle.std.proofs.Common.{rules, ◌≡◌, ◌≤◌, ◌<◌, ◌+◌, ℕ, length, ◌∙◌, ap, arith}
+use Rattle.std.proofs.Common.{rules, ◌≡◌, ◌≤◌, ◌<◌, ◌+◌, ℕ, length, ◌∙◌, ap, subst, arith}
 use Rattle.std.proofs.lemmas.Result.{on_ok_weaker, on_err_weaker}
 use Rattle.std.proofs.lemmas.List.Sorted.{answers_always, All-permutation}
 use Rattle.sg_ops.specs.Table.{Table, table_of}
 use Rattle.sg_redo.specs.declared.place.Place.{Place}
 use Rattle.sg_redo.specs.Places.{change_at, IsKnown}
-use Rattle.sg_pool.specs.Pooled.{sizes}
+use Rattle.sg_pool.specs.Pooled.{sizes, last_of}
+use Rattle.sg_pool.proofs.RedoMoments.{tail_is_gate}
 use Rattle.sg_pool.proofs.Regrouped.{run_regrouped}
 use Rattle.sg_pool.proofs.Sorted.{sorted_up, sorted_same}
 use Rattle.sg_pool.proofs.pool.Pool.redo.Goals as goal
@@ -40,11 +41,18 @@ returns g c =
       logged = λ ds is_told apart backs durable. (run.durable ds is_told apart backs durable).logged;
       lasts = run.lasts;
       log_kept = run.log_kept;
+      pins = run.pins;
+      count = run.count;
+      untouched = λ is_told apart backs. (run.units_are is_told apart backs).untouched;
+      gone = λ ds is_told apart backs durable b o had none. subst (λ (d : ℕ). last_of c.args.self.now b < d) (tail_is_gate (g.D.Disk.view c.args.disk.now) c.args.log.now ds durable.holds) (durable.logged.bands b o had);
       log = run.log_is;
       moments = λ ds is_told apart backs durable. (run.durable ds is_told apart backs durable).moments;
       well = λ is_told apart backs. (run.units_are is_told apart backs).well;
       faults = run.faults;
       later = run.later;
+      heeded = run.heeded;
+      kept = run.kept;
+      grown = run.grown;
       steps = on_ok_weaker c.redo_units.result (λ (e : c.redo_units.new.steps ≡ c.args.steps.now + length c.sort_unstable_by_key.new.self). e ∙ ap (λ (n : ℕ). c.args.steps.now + n) long) c.redo_units.ensures.steps;
       fewer_steps = on_err_weaker c.redo_units.result (λ (e : (c.args.steps.now ≤ c.redo_units.new.steps) × (c.redo_units.new.steps < c.args.steps.now + length c.sort_unstable_by_key.new.self)). (e.0, let less = e.1 in omega (arith, less, long))) c.redo_units.ensures.fewer_steps;
     }

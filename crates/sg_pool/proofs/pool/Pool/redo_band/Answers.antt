@@ -1,17 +1,20 @@
-use Rattle.std.proofs.Common.{◌≡◌, ◌<◌, List, [], length, get_or, refl, sym, ◌∙◌, ap, subst, arith, get_or-set_same, get_or-set_other}
+use Rattle.std.proofs.Common.{◌≡◌, ◌<◌, List, [], length, get_or, refl, sym, ◌∙◌, ap, subst, arith, get_or-set_same, get_or-set_other, length-set, ⊎_elim, None, Some, ℕ}
 use Rattle.sg_base.specs.declared.area.Area.TheVariants.{Home}
 use Rattle.sg_frames.specs.Held.{Held}
 use Rattle.sg_ops.specs.Table.{Table, table_of}
 use Rattle.sg_redo.specs.Places.{window_records}
 use Rattle.sg_pool.specs.Repeated.{last_lsn}
 use Rattle.sg_pool.specs.declared.slot.Slot.{Slot}
-use Rattle.sg_pool.specs.Held.{page_in}
+use Rattle.sg_pool.specs.Held.{page_in, page_since_of, frame_of, since_of}
 use Rattle.sg_pool.specs.Units.{Geometry, IsBacked}
 use Rattle.sg_pool.specs.Windows.{last_in}
 use Rattle.sg_pool.specs.Shelves.{geometry_of, units}
+use Rattle.std.proofs.lemmas.Bool.{cases_eq}
+use Rattle.sg_pool.specs.Pooled.{band_since_of}
+use Rattle.sg_pool.proofs.HomesKept.{band_untouched}
 use Rattle.sg_pool.proofs.BandsHome.{lasts_below}
-use Rattle.sg_pool.proofs.BandsChanged.{written_lasts, written_held, written_below, values_replayed, values_replayed_backed}
-use Rattle.sg_pool.proofs.Slots.{frame_some, page_there}
+use Rattle.sg_pool.proofs.BandsChanged.{written_lasts, written_held, written_below, values_replayed, values_replayed_backed, none_replayed}
+use Rattle.sg_pool.proofs.Slots.{frame_some, page_there, none_is_some}
 use Rattle.sg_pool.proofs.pool.Pool.redo_band.Goals as goal
 
 pub repeat_band-requires-clause-held : goal.repeat_band-requires-clause-held
@@ -102,3 +105,42 @@ returns-clause-lasts g c b o differ since =
 
 pub returns-in_err-w-clause-lasts : goal.returns-in_err-w-clause-lasts
 returns-in_err-w-clause-lasts g c b o differ since = c.hold_band.ensures.lasts b o since
+
+pub returns-clause-turn : goal.returns-clause-turn
+unfolding returns-clause-brought
+returns-clause-turn g c none = (returns-clause-brought g c).1.held ∙ (sym c.in_ok-w.ensures.brought.held ∙ c.in_ok-w.ensures.turn none)
+
+pub returns-clause-count : goal.returns-clause-count
+returns-clause-count g c = ap length c.repeat_band.ensures.wins ∙ (length-set c.hold_band.new.self.shelf.wins.slots.items c.in_ok-w.w _ ∙ c.hold_band.ensures.count)
+
+pub returns-clause-untouched : goal.returns-clause-untouched
+returns-clause-untouched g c told apart backed =
+    let s = c.hold_band.new.self.shelf in let t = c.repeat_band.new.self in let held = c.in_ok-w.ensures.brought.held in
+    let lt = (frame_some c.args.b.0 s.wins.slots.items c.in_ok-w.w held).0 in let wide = s.shelf.wide in
+    let low : c.in_ok-w.w < length s.frames.windows = omega (arith, lt, wide) in
+    let is = c.repeat_band.ensures.frames in
+    let v = g.D.Disk.view c.args.disk.now in let w = g.D.Disk.view c.hold_band.new.disk in
+    band_untouched (geometry_of c.args.self.now.shelf) (v.now Home).seen (w.now Home).seen (units (w.now Home).seen s) (units (w.now Home).seen t) c.args.b.0 (c.in_ok-w.ensures.untouched told apart backed) (c.in_ok-w.ensures.home told apart backed)
+    (λ n. ap (λ (l : List Slot). page_since_of l n) c.repeat_band.ensures.slots)
+    (λ k o differ since. (written_lasts (geometry_of s) s.slots.items s.wins t.wins c.in_ok-w.w c.args.b.0 _ lt held c.repeat_band.ensures.wins c.repeat_band.ensures.marks s.frames t.frames
+    (ap (λ (h : Held). h.pages) is) (λ v other. ap (λ (h : Held). get_or h.windows v []) is ∙ get_or-set_other s.frames.windows c.in_ok-w.w v _ [] other) k o differ since).0)
+
+pub returns-clause-gone : goal.returns-clause-gone
+returns-clause-gone g c logged b o had none =
+    let s = c.hold_band.new.self.shelf in let t = c.repeat_band.new.self in let held = c.in_ok-w.ensures.brought.held in
+    let lt = (frame_some c.args.b.0 s.wins.slots.items c.in_ok-w.w held).0 in let wide = s.shelf.wide in
+    let low : c.in_ok-w.w < length s.frames.windows = omega (arith, lt, wide) in
+    let is = c.repeat_band.ensures.frames in
+    let v = g.D.Disk.view c.args.disk.now in let w = g.D.Disk.view c.hold_band.new.disk in
+    let t' : Table = table_of (λ p. (goal.RecordOp-dyn g p).record_meaning p.1) (λ p. (goal.RangeOp-dyn g p).range_meaning p.1) c.args.ops.now in
+    let it = values_replayed (geometry_of s) s.slots.items s.wins t.wins c.in_ok-w.w c.args.b.0 _ lt held c.repeat_band.ensures.wins c.repeat_band.ensures.marks s.frames t.frames
+    (ap (λ (h : Held). h.pages) is) (λ v differ. ap (λ (h : Held). get_or h.windows v []) is ∙ get_or-set_other s.frames.windows c.in_ok-w.w v _ [] differ)
+    (window_records t' c.args.text.now c.args.places.now) refl c.repeat_band.ensures.marked c.repeat_band.ensures.beyond (s.shelf.here.windows c.in_ok-w.w low) c.repeat_band.ensures.lie
+    (ap (λ (h : Held). get_or h.windows c.in_ok-w.w []) is ∙ get_or-set_same s.frames.windows c.in_ok-w.w _ [] low) (w.now Home) (geometry_of t) t.slots.items c.repeat_band.ensures.geometry c.repeat_band.ensures.slots in
+    ⊎_elim
+    (λ same.
+    let before : since_of s.wins.slots.items (frame_of s.wins.slots.items c.args.b.0) ≡ Some o = c.in_ok-w.ensures.own ∙ subst (λ (k : ℕ). band_since_of c.args.self.now k ≡ Some o) same had in
+    let after : since_of t.wins.slots.items (frame_of t.wins.slots.items c.args.b.0) ≡ None = subst (λ (k : ℕ). since_of t.wins.slots.items (frame_of t.wins.slots.items k) ≡ None) same none in
+    absurd (none_is_some o (sym (none_replayed (window_records t' c.args.text.now c.args.places.now) _ (sym it.since ∙ after)).0 ∙ before)))
+    (λ differ. c.in_ok-w.ensures.gone logged b o had (sym (it.other_sinces b differ) ∙ none))
+    (cases_eq b c.args.b.0)

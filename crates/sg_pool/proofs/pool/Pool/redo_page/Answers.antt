@@ -4,6 +4,7 @@ use Rattle.sg_ops.specs.Table.{Table, table_of}
 use Rattle.sg_redo.specs.Places.{page_records}
 use Rattle.sg_pool.specs.Units.{Geometry, IsBacked}
 use Rattle.sg_pool.specs.Shelves.{geometry_of, units}
+use Rattle.sg_pool.proofs.HomesKept.{page_untouched}
 use Rattle.sg_pool.proofs.Slots.{frame_some}
 use Rattle.sg_pool.proofs.Changes.{repeat_marked, repeat_is, repeat_backed, still_held, others_still}
 use Rattle.sg_pool.proofs.pool.Pool.redo_page.Goals as goal
@@ -54,3 +55,13 @@ returns-clause-repeated g c told apart backed =
       repeat_is c.args.p.0 (page_records t' c.args.text.now c.args.places.now) s.slots.items s.frames c.in_ok-f.f lt (omega (arith, lt, many)) s.shelf.apart held (geometry_of s) s.wins (w.now Home).seen (geometry_of t) t.slots.items t.wins t.frames
           c.repeat_page.ensures.geometry c.repeat_page.ensures.slots c.repeat_page.ensures.wins c.repeat_page.ensures.frames,
     )
+
+pub returns-clause-untouched : goal.returns-clause-untouched
+returns-clause-untouched g c told apart backed =
+    let s = c.hold.new.self.shelf in let t = c.repeat_page.new.self in let held = c.in_ok-f.ensures.held in
+    let v = g.D.Disk.view c.args.disk.now in let w = g.D.Disk.view c.hold.new.disk in
+    let t' : Table = table_of (λ p. (goal.RecordOp-dyn g p).record_meaning p.1) (λ p. (goal.RangeOp-dyn g p).range_meaning p.1) c.args.ops.now in
+    let lt = (frame_some c.args.p.0 s.slots.items c.in_ok-f.f held).0 in let many = s.shelf.many in
+    let is = repeat_is c.args.p.0 (page_records t' c.args.text.now c.args.places.now) s.slots.items s.frames c.in_ok-f.f lt (omega (arith, lt, many)) s.shelf.apart held (geometry_of s) s.wins (w.now Home).seen (geometry_of t) t.slots.items t.wins t.frames
+    c.repeat_page.ensures.geometry c.repeat_page.ensures.slots c.repeat_page.ensures.wins c.repeat_page.ensures.frames in
+    page_untouched (geometry_of c.args.self.now.shelf) (v.now Home).seen (w.now Home).seen (units (w.now Home).seen s) (units (w.now Home).seen t) c.args.p.0 (c.in_ok-f.ensures.untouched told apart backed) (c.in_ok-f.ensures.home told apart backed) is.other_sinces is.band_since

@@ -11,7 +11,7 @@ returns-then-unit-pages-clause-run g c =
     let pages = c.pages-pages.ensures in
     let below = c.if-unit-pages.true in
     page_run g.D.Disk.told t c.args.text.now c.args.unit c.args.places.now c.requires.same c.requires.some (g.D.Disk.view c.args.disk.now) (g.D.Disk.view c.redo_page.new.disk) c.args.log.now c.redo_page.new.log c.args.self.now c.redo_page.new.self c.redo_page.result
-    (g.met.D.Disk.reads c.redo_page.new.disk) it.size it.log_kept it.later it.log it.moments (omega (arith, pages, below)) it.windows it.brought it.backed it.repeated it.refused it.well it.faults
+    (g.met.D.Disk.reads c.redo_page.new.disk) it.size it.log_kept it.later it.heeded it.kept it.grown it.log it.moments (omega (arith, pages, below)) it.windows it.brought it.unused it.untouched it.backed it.repeated it.refused it.well it.faults
 
 pub returns-else-unit-pages-clause-run : goal.returns-else-unit-pages-clause-run
 returns-else-unit-pages-clause-run g c =
@@ -21,4 +21,4 @@ returns-else-unit-pages-clause-run g c =
     let high = c.if-unit-pages.false in
     let at : c.args.unit ≡ (sizes c.args.self.now).pages + (c.args.unit - c.pages-pages.result) = omega (arith, pages, high) in
     band_run g.D.Disk.told t c.args.text.now c.args.unit c.args.places.now c.requires.same c.requires.some (g.D.Disk.view c.args.disk.now) (g.D.Disk.view c.redo_band.new.disk) c.args.log.now c.redo_band.new.log c.args.self.now c.redo_band.new.self c.redo_band.result
-    (g.met.D.Disk.reads c.redo_band.new.disk) it.size it.log_kept it.later (λ ds ps is_told apart ready holds. it.log ds ps is_told apart holds) it.moments (c.args.unit - c.pages-pages.result) at it.frames it.logged it.backed it.repeated it.last it.lasts it.fault it.failed
+    (g.met.D.Disk.reads c.redo_band.new.disk) it.size it.log_kept it.later it.heeded it.kept it.grown (λ ds ps is_told apart ready holds. it.log ds ps is_told apart holds) it.moments (c.args.unit - c.pages-pages.result) at it.frames it.logged it.backed it.repeated it.last it.lasts it.count it.untouched it.fault it.failed

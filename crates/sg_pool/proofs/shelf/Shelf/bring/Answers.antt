@@ -1,11 +1,14 @@
-use Rattle.std.proofs.Common.{Some, None, sym, ◌∙◌}
+use Rattle.std.proofs.Common.{ℕ, Some, None, sym, ◌∙◌, ap, subst}
 use Rattle.std.proofs.lemmas.Result.{on_ok_weaker, IfErr-weaker}
 use Rattle.sg_base.specs.declared.area.Area.TheVariants.{Home}
 use Rattle.sg_gate.specs.Layout.{home_at}
-use Rattle.sg_pool.specs.Units.{page_at, IsCleaned}
+use Rattle.sg_pool.specs.Units.{page_at, IsCleaned, Geometry}
 use Rattle.sg_pool.specs.Moments.{IsMoment, IsSameOrForced}
-use Rattle.sg_pool.specs.Held.{page_in}
+use Rattle.sg_pool.specs.Held.{page_in, since_of}
 use Rattle.sg_pool.specs.Shelves.{geometry_of, units, lasts, LoadFails, BringFails}
+use Rattle.sg_disk.specs.Disk.{State}
+use Rattle.sg_pool.proofs.HomesKept.{untouched_then, own_home}
+use Rattle.sg_pool.proofs.Counting.{grown_more, heeds_then}
 use Rattle.sg_pool.proofs.Changing.{twice}
 use Rattle.sg_pool.proofs.Bringing.{on_told, on_told_weaker, log_now, then_reads, absent_still, cleaned_more, backed_in, at_home, bring_fails}
 use Rattle.sg_pool.proofs.shelf.Shelf.bring.Goals as goal
@@ -52,3 +55,28 @@ returns-clause-others g c h differ = c.load.ensures.others h differ ∙ c.clean.
 
 pub returns-in_err-clean-clause-others : goal.returns-in_err-clean-clause-others
 returns-in_err-clean-clause-others g c h differ = c.clean.ensures.pages h
+
+pub returns-clause-grown : goal.returns-clause-grown
+returns-clause-grown g c = grown_more c.args.log.now c.clean.new.log (g.D.Disk.view c.args.disk.now) (g.D.Disk.view c.clean.new.disk) (g.D.Disk.view c.load.new.disk) c.clean.ensures.grown c.load.ensures.kept
+
+pub returns-clause-heeded : goal.returns-clause-heeded
+returns-clause-heeded g c = heeds_then {U = ℕ} 0 c.load.result (g.D.Disk.view c.args.disk.now) (g.D.Disk.view c.clean.new.disk) (g.D.Disk.view c.load.new.disk) c.in_ok-clean.ensures.heeded c.load.ensures.heeded
+
+pub returns-clause-untouched : goal.returns-clause-untouched
+returns-clause-untouched g c told apart backed =
+    let s = c.args.self.now in let t = c.clean.new.self in
+    let v = g.D.Disk.view c.args.disk.now in let w = g.D.Disk.view c.clean.new.disk in let z = g.D.Disk.view c.load.new.disk in
+    let now = backed_in (geometry_of s) (geometry_of t) (w.now Home) (units (w.now Home).seen t) c.clean.ensures.geometry (c.in_ok-clean.ensures.backed told apart backed) in
+    on_told_weaker c.load.result (IsCleaned (geometry_of t) (units (w.now Home).seen t) (units (z.now Home).seen c.load.new.self)) _
+    (λ cleaned. untouched_then (geometry_of s) (v.now Home).seen (w.now Home).seen (z.now Home).seen (units (w.now Home).seen t) (units (z.now Home).seen c.load.new.self) (c.in_ok-clean.ensures.untouched told apart backed.ready)
+    (ap (λ (u : State). (u Home).seen) (c.load.ensures.unchanged told)) (subst (λ (h : Geometry). IsCleaned h (units (w.now Home).seen t) (units (z.now Home).seen c.load.new.self)) c.clean.ensures.geometry cleaned))
+    (c.load.ensures.units told now)
+
+pub returns-clause-home : goal.returns-clause-home
+returns-clause-home g c told apart backed =
+    let s = c.args.self.now in let t = c.clean.new.self in
+    let v = g.D.Disk.view c.args.disk.now in let w = g.D.Disk.view c.clean.new.disk in let z = g.D.Disk.view c.load.new.disk in
+    on_told c.load.result _
+    (ap (λ (u : State). page_at (u Home).seen (home_at c.args.p)) (c.load.ensures.unchanged told)
+    ∙ own_home (geometry_of s) (v.now Home) (w.now Home) (units (v.now Home).seen s) (units (w.now Home).seen t) backed (c.in_ok-clean.ensures.backed told apart backed) (c.in_ok-clean.ensures.units told apart backed.ready) c.args.p c.requires.page
+    (ap (since_of s.slots.items) c.requires.absent))

@@ -5,6 +5,8 @@ use Rattle.sg_pool.specs.Frames.{units_of}
 use Rattle.sg_pool.specs.declared.slot.Slot.{Slot}
 use Rattle.sg_pool.specs.Held.{no_slot}
 use Rattle.sg_pool.specs.Shelves.{geometry_of, units}
+use Rattle.sg_pool.specs.Untouched.{IsUntouched}
+use Rattle.sg_pool.proofs.HomesKept.{home_untouched}
 use Rattle.sg_pool.proofs.Slots.{slot_at, page_kept}
 use Rattle.sg_pool.proofs.Changing.{home_cleaned, home_backed, shelf_cleaned}
 use Rattle.sg_pool.proofs.shelf.Shelf.clean.Goals as goal
@@ -38,3 +40,12 @@ returns-clause-pages g c h =
     let s = c.args.self.now in
     let is : c.index_mut.result.now ≡ get_or s.slots.items c.args.f no_slot = slot_at s.slots.items c.args.f c.index_mut.result.now c.requires.there c.index_mut.ensures.value in
     page_kept s.slots.items c.args.f (record { number = c.index_mut.result.now.number; since = None }) c.requires.there (ap (λ (x : Slot). x.number) is) h
+
+pub returns-clause-untouched : goal.returns-clause-untouched
+returns-clause-untouched g c told apart ready =
+    let s = c.args.self.now in
+    let v = g.D.Disk.view c.args.disk.now in
+    let w = g.D.Disk.view c.write_back.new.disk in
+    let is : c.index_mut.result.now ≡ get_or s.slots.items c.args.f no_slot = slot_at s.slots.items c.args.f c.index_mut.result.now c.requires.there c.index_mut.ensures.value in
+    subst (λ (o : Option ℕ). IsUntouched (geometry_of s) (v.now Home).seen (w.now Home).seen (units_of (geometry_of s) (w.now Home).seen (set s.slots.items c.args.f (record { number = o; since = None })) s.wins s.frames)) (sym (ap (λ (x : Slot). x.number) is))
+    (home_untouched (geometry_of s) s.slots.items s.wins s.frames s.shelf c.args.f c.requires.there (v.now Home) (w.now Home) (c.in_ok-write_back.ensures.home told apart ready))

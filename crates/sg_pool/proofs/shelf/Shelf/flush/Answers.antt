@@ -1,4 +1,4 @@
-use Rattle.std.proofs.Common.{◌≡◌, inl, ◌++◌, [], length, sym, ◌∙◌, ap, subst}
+use Rattle.std.proofs.Common.{◌≡◌, inl, ◌++◌, [], length, sym, ◌∙◌, ap, subst, ℕ, Some, List}
 use Rattle.std.proofs.lemmas.Result.{on_ok_weaker}
 use Rattle.sg_base.specs.declared.area.Area.TheVariants.{Home}
 use Rattle.sg_disk.specs.Disk.{Image, Part, LeavesOnly}
@@ -11,6 +11,11 @@ use Rattle.sg_pool.specs.Frames.{AreBelow}
 use Rattle.sg_pool.specs.declared.windows.Windows.{Windows}
 use Rattle.sg_pool.specs.Shelves.{geometry_of, units}
 use Rattle.sg_pool.specs.Units.{Geometry, IsCleaned}
+use Rattle.sg_pool.specs.declared.slot.Slot.{Slot}
+use Rattle.sg_pool.specs.Held.{since_of}
+use Rattle.sg_pool.proofs.Oldest.{on_ok_two}
+use Rattle.sg_pool.proofs.HomesKept.{all_untouched, all_cleared}
+use Rattle.sg_pool.proofs.Counting.{grown_more, heeds_then}
 use Rattle.sg_pool.proofs.Bringing.{cleaned_more}
 use Rattle.sg_pool.proofs.Forcing.{is_forced}
 use Rattle.sg_pool.proofs.Settling.{holds_at}
@@ -70,3 +75,31 @@ returns-in_err-flush_pages-clause-logged g c tail below = subst (λ (x : Windows
 
 pub returns-clause-logged : goal.returns-clause-logged
 returns-clause-logged g c tail below = c.flush_windows.ensures.logged tail (subst (λ (x : Windows). AreBelow tail x) (sym c.flush_pages.ensures.kept.wins) below)
+
+pub returns-in_err-flush_pages-clause-grown : goal.returns-in_err-flush_pages-clause-grown
+returns-in_err-flush_pages-clause-grown g c = grown_more c.args.log.now c.force.new.self (g.D.Disk.view c.args.disk.now) (g.D.Disk.view c.force.new.disk) (g.D.Disk.view c.flush_pages.new.disk) c.force.ensures.grown c.flush_pages.ensures.handed
+
+pub returns-clause-grown : goal.returns-clause-grown
+returns-clause-grown g c =
+    let v = g.D.Disk.view c.args.disk.now in let z = g.D.Disk.view c.flush_pages.new.disk in
+    grown_more c.args.log.now c.force.new.self v z (g.D.Disk.view c.flush_windows.new.disk) (grown_more c.args.log.now c.force.new.self v (g.D.Disk.view c.force.new.disk) z c.force.ensures.grown c.flush_pages.ensures.handed) c.flush_windows.ensures.kept
+
+pub returns-in_err-flush_pages-clause-count_windows : goal.returns-in_err-flush_pages-clause-count_windows
+returns-in_err-flush_pages-clause-count_windows g c = ap (λ (x : Windows). length x.slots.items) c.flush_pages.ensures.kept.wins
+
+pub returns-clause-count_windows : goal.returns-clause-count_windows
+returns-clause-count_windows g c = c.flush_windows.ensures.count ∙ ap (λ (x : Windows). length x.slots.items) c.flush_pages.ensures.kept.wins
+
+pub returns-clause-heeded : goal.returns-clause-heeded
+returns-clause-heeded g c = heeds_then {U = ℕ} 0 c.flush_windows.result (g.D.Disk.view c.args.disk.now) (g.D.Disk.view c.flush_pages.new.disk) (g.D.Disk.view c.flush_windows.new.disk) (c.in_ok-flush_pages.ensures.heeded ∙ c.in-Ok.ensures.heeded) c.flush_windows.ensures.heeded
+
+pub returns-clause-untouched : goal.returns-clause-untouched
+returns-clause-untouched g c told apart ready =
+    let s = c.args.self.now in let t = c.flush_pages.new.self in let u = c.flush_windows.new.self in
+    let v = g.D.Disk.view c.args.disk.now in let w = g.D.Disk.view c.force.new.disk in let z = g.D.Disk.view c.flush_pages.new.disk in let y = g.D.Disk.view c.flush_windows.new.disk in
+    let home : w.now Home ≡ v.now Home = c.in-Ok.ensures.elsewhere told Home (λ e. apart (sym e)) in
+    let partly = c.in_ok-flush_pages.ensures.partly told (subst IsReady (sym home) ready) in
+    on_ok_two c.flush_windows.result _ _ _ (λ clear superblock. all_untouched (geometry_of s) (geometry_of u) (v.now Home).seen (y.now Home).seen u.slots.items u.wins u.frames
+    (λ i low. superblock i low ∙ (partly.1.superblock i low ∙ ap (λ (p : Part). p.seen i) home))
+    (λ h. ap (λ (l : List Slot). since_of l (Some h)) c.flush_windows.ensures.slots ∙ c.in_ok-flush_pages.ensures.clean h) (all_cleared t.wins u.wins clear))
+    c.flush_windows.ensures.clear (c.flush_windows.ensures.superblock told partly.0)

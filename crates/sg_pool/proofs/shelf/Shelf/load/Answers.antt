@@ -3,6 +3,7 @@ use Rattle.sg_base.specs.declared.area.Area.TheVariants.{Home}
 use Rattle.sg_disk.specs.Disk.{State}
 use Rattle.sg_pool.specs.Units.{Geometry}
 use Rattle.sg_pool.specs.Shelves.{geometry_of}
+use Rattle.sg_pool.specs.Well.{IsWell}
 use Rattle.sg_pool.proofs.Changing.{empty_backed, empty_cleaned, loaded_backed, loaded_cleaned, twice}
 use Rattle.sg_pool.specs.declared.slot.Slot.{Slot}
 use Rattle.sg_pool.specs.Held.{no_slot, frame_of, page_in}
@@ -65,3 +66,6 @@ pub returns-clause-others : goal.returns-clause-others
 returns-clause-others g c h differ = let s = c.args.self.now in let t = c.read_home.new.self in
     ap (λ (l : List Slot). page_in l h) (c.fill.ensures.slots ∙ twice s.slots.items t.slots.items c.args.f (record { number = None; since = None }) (record { number = Some c.args.p; since = None }) c.read_home.ensures.slots)
     ∙ page_there s.slots.items c.args.f (record { number = Some c.args.p; since = None }) c.requires.there h differ
+
+pub fill-requires-clause-well : goal.fill-requires-clause-well
+fill-requires-clause-well g c = subst IsWell c.page.ensures (c.is_well.ensures.0 c.if-not-is_well.false)

@@ -1,4 +1,4 @@
-use Rattle.std.proofs.Common.{◌<◌, Some, None, List, length, get_or, set, sym, ◌∙◌, ap, subst}
+use Rattle.std.proofs.Common.{◌<◌, Some, None, List, length, get_or, set, sym, ◌∙◌, ap, subst, length-set}
 use Rattle.sg_base.specs.declared.area.Area.TheVariants.{Home}
 use Rattle.sg_disk.specs.Disk.{State}
 use Rattle.sg_pool.specs.declared.slot.Slot.{Slot}
@@ -9,7 +9,7 @@ use Rattle.sg_pool.specs.declared.windows.Windows.{Windows}
 use Rattle.sg_pool.specs.Windows.{no_marks}
 use Rattle.sg_pool.specs.Shelves.{geometry_of}
 use Rattle.sg_pool.proofs.BandsHome.{lasts_same}
-use Rattle.sg_pool.proofs.BandsChanged.{values_cleaned, values_backed, loaded_lasts}
+use Rattle.sg_pool.proofs.BandsChanged.{values_cleaned, values_backed, loaded_lasts, loaded_changes}
 use Rattle.sg_pool.proofs.shelf.Shelf.load_band.Goals as goal
 
 pub returns-clause-backed : goal.returns-clause-backed
@@ -50,3 +50,16 @@ returns-clause-lasts g c b o since =
     loaded_lasts (geometry_of s) s.slots.items s.wins c.put.new.self c.args.w c.args.b c.requires.there
     (c.put.ensures.slots ∙ ap (λ (x : Windows). set x.slots.items c.args.w (record { number = Some c.args.b; since = None })) same) c.requires.absent c.requires.clean c.put.ensures.unmarked
     (λ x differ. c.put.ensures.others x differ ∙ ap (λ (y : Windows). get_or y.marks.items x no_marks) same) b o since
+
+pub returns-clause-changes : goal.returns-clause-changes
+returns-clause-changes g c b o had =
+    let s = c.args.self.now in let same = c.read_band.ensures.wins in
+    loaded_changes (geometry_of s) s.slots.items s.wins c.put.new.self c.args.w c.args.b c.requires.there
+    (c.put.ensures.slots ∙ ap (λ (x : Windows). set x.slots.items c.args.w (record { number = Some c.args.b; since = None })) same) c.requires.absent c.requires.clean c.put.ensures.unmarked
+    (λ x differ. c.put.ensures.others x differ ∙ ap (λ (y : Windows). get_or y.marks.items x no_marks) same) b o had
+
+pub returns-in-Err-clause-count : goal.returns-in-Err-clause-count
+returns-in-Err-clause-count g c = ap (λ (x : Windows). length x.slots.items) c.read_band.ensures.wins
+
+pub returns-clause-count : goal.returns-clause-count
+returns-clause-count g c = ap length c.put.ensures.slots ∙ (length-set c.read_band.new.self.wins.slots.items c.args.w (record { number = Some c.args.b; since = None }) ∙ ap (λ (x : Windows). length x.slots.items) c.read_band.ensures.wins)

@@ -13,3 +13,6 @@ invariant_of-result c = record {
 
 pub returns-clause-wins : goal.returns-clause-wins
 returns-clause-wins c b = ap (λ (t : List Slot). frame_of t b) c.in_ok-wins.ensures.slots ∙ frame_none c.args.windows b
+
+pub returns-clause-windows : goal.returns-clause-windows
+returns-clause-windows c = ap length c.in_ok-wins.ensures.slots ∙ length-replicate c.args.windows no_slot

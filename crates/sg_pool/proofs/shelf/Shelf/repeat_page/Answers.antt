@@ -5,6 +5,7 @@ use Rattle.sg_redo.specs.History.{repeated}
 use Rattle.sg_redo.specs.Places.{page_records}
 use Rattle.sg_pool.specs.declared.slot.Slot.{Slot}
 use Rattle.sg_pool.specs.Frames.{IsShelf}
+use Rattle.sg_pool.proofs.Welling.{repeated_well, well_of}
 use Rattle.sg_pool.proofs.Slots.{slot_at, none_is_some}
 use Rattle.sg_pool.proofs.Changing.{shelf_cleaned, shelf_frame, frame_long_after}
 use Rattle.sg_pool.proofs.shelf.Shelf.repeat_page.Goals as goal
@@ -20,6 +21,6 @@ invariant_of-self g c =
     let slot : Slot = record { number = c.index-slot.result.now.number; since = c.repeat_frame-since.result } in
     record {
       shelf = subst (λ (h : Held). IsShelf s.pages s.bands (set s.slots.items c.args.f slot) s.index.items s.wins h) (sym c.repeat_frame-since.ensures.frames)
-          (shelf_frame s.pages s.bands (set s.slots.items c.args.f slot) s.wins s.frames c.args.f bytes long
+          (shelf_frame s.pages s.bands (set s.slots.items c.args.f slot) s.wins s.frames c.args.f bytes long (λ n less is. ∣ repeated_well (get_or s.frames.pages c.args.f []) bytes (well_of _ (s.shelf.well c.args.f c.requires.held.0 there c.requires.held.1)) c.repeat_frame-since.ensures.well ∣₁)
           (shelf_cleaned s.pages s.bands s.slots.items s.wins s.frames s.shelf c.args.f there slot page (λ none. absurd (none_is_some c.requires.held.0 (sym none ∙ (page ∙ c.requires.held.1))))));
     }

@@ -33,6 +33,8 @@ frames-preserved g c =
       room = let a = inv.room in omega (arith, a);
       collected = next.1;
       later = let a = inv.later in let b = c.place_frame.ensures.later in omega (arith, a, b);
+      quiet = c.in_ok-count.ensures.heeded ∙ inv.quiet;
+      kept = let a = inv.kept in let b = c.place_frame.ensures.kept in omega (arith, a, b);
       placed = λ told ready. let placed = inv.placed told ready in c.in_ok-count.ensures.placed c.args.from told inv.collected placed.ready (v.now Home) placed;
       logs = λ told ready b other. c.in_ok-count.ensures.logs told b other ∙ inv.logs told ready b other;
       moments = λ told ready.

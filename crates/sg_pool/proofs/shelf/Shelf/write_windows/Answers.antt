@@ -1,4 +1,4 @@
-use Rattle.std.proofs.Common.{◌≡◌, ◌≤◌, ◌<◌, ℕ, arith, subst}
+use Rattle.std.proofs.Common.{◌≡◌, ◌≤◌, ◌<◌, ℕ, refl, ◌∙◌, arith, subst}
 use Rattle.sg_disk.specs.Disk.{Image}
 use Rattle.sg_disk.proofs.Moments.{weaker, joined}
 use Rattle.sg_pool.specs.Bands.{AreBandsWritten}
@@ -10,6 +10,8 @@ pub windows-init : goal.windows-init
 windows-init g c = let s = c.args.self.now in let v = g.D.Disk.view c.args.disk.now in
     record {
       later = omega arith;
+      quiet = refl;
+      kept = omega arith;
       done = λ told. bands_start (geometry_of s) s.wins s.frames.windows v.now c.args.from c.args.from (λ w b low high held. absurd (omega arith));
       moments = λ told. none_torn (geometry_of s) s.wins s.frames.windows v c.args.from c.args.to;
     }
@@ -28,6 +30,8 @@ windows-preserved g c =
     let low : c.args.from ≤ c.windows.w = omega arith in let high : c.windows.w < c.args.to = omega arith in
     record {
       later = let a = inv.later in let b = c.write_window.ensures.later in omega (arith, a, b);
+      quiet = c.in_ok-write_window.ensures.heeded ∙ inv.quiet;
+      kept = let a = inv.kept in let b = c.write_window.ensures.kept in omega (arith, a, b);
       done = λ told. bands_more (geometry_of s) s.wins s.frames.windows v.now t.now u.now c.args.from c.windows.w low (inv.done told) (c.in_ok-write_window.ensures.done told);
       moments = λ told. joined (inv.moments told) (weaker (c.write_window.ensures.any_moment told) (λ (im : Image) torn. bands_torn (geometry_of s) s.wins s.frames.windows v.now t.now c.args.from c.windows.w c.args.to im low high (inv.done told).rest torn));
     }

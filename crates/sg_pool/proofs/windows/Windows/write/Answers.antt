@@ -13,7 +13,7 @@ invariant_of-self c =
     let page = ap (λ (x : Slot). x.number) is in
     record {
       windows = windows_written s.slots.items s.index.items s.marks.items _ s.next s.next s.windows (length-set s.marks.items c.args.w _) s.windows.next_there c.args.w c.requires.there
-          (record { number = c.index-slot.result.now.number; since = Some c.unwrap_or.result }) c.requires.held.0 page c.requires.held.1;
+          c.changed.result c.requires.held.0 (ap (λ (x : Slot). x.number) c.changed.ensures ∙ page) c.requires.held.1;
     }
 
 pub returns-clause-slots : goal.returns-clause-slots
@@ -21,5 +21,5 @@ returns-clause-slots c =
     let s = c.args.self.now in
     let slot = c.index-slot.result.now in
     let is : slot ≡ get_or s.slots.items c.args.w no_slot = slot_at s.slots.items c.args.w slot c.requires.there c.index-slot.ensures in
-    ap (λ (n : ℕ). set s.slots.items c.args.w (record { number = slot.number; since = Some n })) c.unwrap_or.ensures
+    ap (λ (x : Slot). set s.slots.items c.args.w x) c.changed.ensures
     ∙ ap (λ (x : Slot). set s.slots.items c.args.w (record { number = x.number; since = Some (unwrap_or x.since c.args.lsn) })) is
