@@ -20,6 +20,7 @@ mod replaying;
 mod unit;
 mod window;
 
+pub use change::page_op;
 pub use known::are_known;
 pub use laws::{
     records_keep_pages, records_set_numbers, replay_converges, versions_repeat, windows_converge,
