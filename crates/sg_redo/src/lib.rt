@@ -20,6 +20,7 @@ mod replaying;
 mod unit;
 mod window;
 
+pub use change::page_op;
 pub use known::are_known;
 pub use laws::{
     places_name_units, records_fit_as_said, records_keep_pages, records_make_what_is_said,

@@ -1,0 +1,17 @@
+pub mod Pages
+pub mod Bytes
+pub mod Units
+pub mod Steps
+pub mod Main
+pub mod Joined
+pub mod Logs
+pub mod Standing
+pub mod GoingOn
+pub mod Followed
+pub mod Calls
+pub mod Early
+pub mod Pools
+pub mod May
+pub mod Says
+pub mod Along
+pub mod Brought
