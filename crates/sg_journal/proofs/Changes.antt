@@ -138,7 +138,7 @@ module _ (t : Operations) (told : Bool) (was : disk.State) (v : disk.View) (k : 
         after = y;
         line_goes = record { number = n; above = above; turned = begin_turn name none few n };
         caused = tt;
-        full = λ high work said. absurd (omega arith);
+        log_end = λ high work said. absurd (omega arith);
         shows = after;
         moments = still y w refl refl call;
       }
@@ -202,7 +202,7 @@ module _ (t : Operations) (told : Bool) (was : disk.State) (v : disk.View) (k : 
       after = with_locks t x l.transaction op;
       line_goes = record { after = only_is; logged = changing; said = would said };
       caused = above;
-      full = λ high work s. refl;
+      log_end = λ high work s. refl;
       shows = locked_shows;
       moments = still_locked;
     }
@@ -213,7 +213,7 @@ module _ (t : Operations) (told : Bool) (was : disk.State) (v : disk.View) (k : 
       after = with_locks t x l.transaction op;
       line_goes = record { after = only_is; takes = takes; said = would said };
       caused = tt;
-      full = λ high work s. (let below_it : tail_of k.log ≤ NEW_WORK_END = low work in absurd (omega arith));
+      log_end = λ high work s. (let below_it : tail_of k.log ≤ NEW_WORK_END = low work in absurd (omega arith));
       shows = locked_shows;
       moments = still_locked;
     }
@@ -266,7 +266,7 @@ module _ (t : Operations) (told : Bool) (was : disk.State) (v : disk.View) (k : 
           after = y;
           line_goes = subst (λ (a : Outcome). LineBy t x (Of name (Do op)) (answer_of a) y) same (line_said t x (Of name (Do op)) (step t (live_objects t x) op).0 y (record { number = x.so_far.next; above = omega arith; turned = op_turn x.so_far.next }));
           caused = caused_said (HasRisen v.faults v.faults) (IsFull k) (Of name (Do op)) r;
-          full = λ high work said. absurd (never_full r why (subst (λ (a : Answer). IsSaid a) (first_of (op_turn x.so_far.next) ∙ ap (λ (a : Outcome). answer_of a) same) said) work);
+          log_end = λ high work said. absurd (never_full r why (subst (λ (a : Answer). IsSaid a) (first_of (op_turn x.so_far.next) ∙ ap (λ (a : Outcome). answer_of a) same) said) work);
           shows = after;
           moments = λ is_told. moments.started v (StandsForFirst t was x.so_far.answered y) (after.images is_told);
         }
@@ -323,7 +323,7 @@ module _ (t : Operations) (told : Bool) (was : disk.State) (v : disk.View) (k : 
           after = y;
           line_goes = record { number = x.so_far.next; above = omega arith; turned = op_turn x.so_far.next ∙ ap (λ (a : Outcome). (answer_of a, y)) out };
           caused = tt;
-          full = λ high work said. absurd (omega arith);
+          log_end = λ high work said. absurd (omega arith);
           shows = after;
           moments = still y w refl refl call;
         }
@@ -340,7 +340,7 @@ module _ (t : Operations) (told : Bool) (was : disk.State) (v : disk.View) (k : 
       after = stop stops.Disk x;
       line_goes = record { after = refl; logged = changing; said = would said };
       caused = risen;
-      full = λ high work s. absurd (omega arith);
+      log_end = λ high work s. absurd (omega arith);
       shows = stopped_shows t told was w m (stop stops.Disk x) stops.Disk halted refl (omega (arith, my_runs.answered)) (omega (arith, my_runs.answered)) (λ is_told c leaves. (still (stop stops.Disk x) w refl refl call is_told).each c (inl leaves));
       moments = still (stop stops.Disk x) w refl refl call;
     }
@@ -351,7 +351,7 @@ module _ (t : Operations) (told : Bool) (was : disk.State) (v : disk.View) (k : 
     after = stop stops.Disk x;
     line_goes = record { after = refl; logged = tt; said = subst (λ (a : Answer). IsSaid a) (sym (first_of (begin_turn name none few x.so_far.next))) tt };
     caused = risen;
-    full = λ high work s. absurd (omega arith);
+    log_end = λ high work s. absurd (omega arith);
     shows = stopped_shows t told was w m (stop stops.Disk x) stops.Disk halted refl (omega (arith, my_runs.answered)) (omega (arith, my_runs.answered)) (λ is_told c leaves. (still (stop stops.Disk x) w refl refl call is_told).each c (inl leaves));
     moments = still (stop stops.Disk x) w refl refl call;
   }
@@ -396,7 +396,7 @@ module _ (t : Operations) (told : Bool) (was : disk.State) (v : disk.View) (k : 
         after = y;
         line_goes = record { number = x.so_far.next; above = omega arith; turned = abort_turn name l one x.so_far.next };
         caused = tt;
-        full = λ high logged said. absurd high;
+        log_end = λ high logged said. absurd high;
         shows = after;
         moments = λ is_told. moments.started v (StandsForFirst t was x.so_far.answered y) (after.images is_told);
       }
@@ -455,7 +455,7 @@ module _ (t : Operations) (told : Bool) (was : disk.State) (v : disk.View) (k : 
           after = y;
           line_goes = record { after = stopped_is stops.LogEnd; logged = tt; said = would_commit };
           caused = commit_full past;
-          full = λ above work s. refl;
+          log_end = λ above work s. refl;
           shows = commit_stops stops.LogEnd v m halted images;
           moments = λ is_told. moments.started v (StandsForFirst t was x.so_far.answered y) (images is_told);
         }
@@ -465,7 +465,7 @@ module _ (t : Operations) (told : Bool) (was : disk.State) (v : disk.View) (k : 
       after = stopped_at stops.Disk;
       line_goes = record { after = stopped_is stops.Disk; logged = tt; said = would_commit };
       caused = risen;
-      full = λ high logged s. absurd (fits (commit_past high));
+      log_end = λ high logged s. absurd (fits (commit_past high));
       shows = commit_stops stops.Disk w m halted (λ is_told c leaves. (call is_told).each c (inl leaves));
       moments = call;
     }
@@ -575,7 +575,7 @@ module _ (t : Operations) (told : Bool) (was : disk.State) (v : disk.View) (k : 
           after = y;
           line_goes = record { number = x.so_far.next; above = omega arith; turned = commit_turn x.so_far.next };
           caused = tt;
-          full = λ high logged said. absurd (fits (commit_past high));
+          log_end = λ high logged said. absurd (fits (commit_past high));
           shows = after;
           moments = commit_moments y w1 w mid refl refl is_mid holds1 call1 same1 call2;
         }

@@ -17,7 +17,7 @@ use Rattle.sg_run.specs.Kept as run_kept
 use Rattle.sg_run.proofs.Log.{replay_front}
 use Rattle.sg_journal.specs.Lines.{op_said, lines_by, commits_in, committed_lines}
 use Rattle.sg_journal.specs.Stands.{after_op, after_line, replay}
-use Rattle.sg_journal.specs.Logs.{AreLogged, FrontsStand}
+use Rattle.sg_journal.specs.Logs.{HaveLines, FrontsStand}
 use Rattle.sg_journal.proofs.Records.{map-append, replay-append, lines_by-append, lines_none, commits_in-append, committed_before, apart-front, ends-front, committed_lines-apart}
 
 -- a replay by what the words say
@@ -43,7 +43,7 @@ replay-said t lines ops s e = by_said t lines s ∙ (ap (λ (os : List (Option O
 pub kept_ops-append : (xs ys : List Event) → kept_ops (xs ++ ys) ≡ kept_ops xs ++ kept_ops ys
 kept_ops-append xs ys = ap (λ (es : List Event). map (λ (e : Event). e.op) es) (filter_append is_kept xs ys) ∙ map-append (λ (e : Event). e.op) (filter is_kept xs) (filter is_kept ys)
 
-front_logged : (ds ps : List Record) (ts us : List ℕ) (ess : List (List Event)) → ((u : ℕ) → Among u ts → lines_by u ps ≡ []) → AreLogged (ds ++ ps) (ts ++ us) ess → AreLogged ds ts (take (length ts) ess)
+front_logged : (ds ps : List Record) (ts us : List ℕ) (ess : List (List Event)) → ((u : ℕ) → Among u ts → lines_by u ps ≡ []) → HaveLines (ds ++ ps) (ts ++ us) ess → HaveLines ds ts (take (length ts) ess)
 front_logged ds ps [] us ess n h = tt
 front_logged ds ps (t ∷ ts) us (es ∷ ess) n h = (
   ap (λ (ls : List (List ℕ)). map op_said ls) (sym (lines_by-append t ds ps ∙ (ap (λ (ls : List (List ℕ)). lines_by t ds ++ ls) (n t (inl refl)) ∙ append_nil (lines_by t ds)))) ∙ h.0,
@@ -51,7 +51,7 @@ front_logged ds ps (t ∷ ts) us (es ∷ ess) n h = (
 )
 front_logged ds ps (t ∷ ts) us [] n h = absurd h
 
-logged_lines : (rs : List Record) (ts : List ℕ) (ess : List (List Event)) → AreLogged rs ts ess → map op_said (flat_map (λ u. lines_by u rs) ts) ≡ map Some (kept_ops (in_order ess))
+logged_lines : (rs : List Record) (ts : List ℕ) (ess : List (List Event)) → HaveLines rs ts ess → map op_said (flat_map (λ u. lines_by u rs) ts) ≡ map Some (kept_ops (in_order ess))
 logged_lines rs [] [] h = refl
 logged_lines rs (t ∷ ts) (es ∷ ess) h =
     map-append op_said (lines_by t rs) (flat_map (λ u. lines_by u rs) ts)
@@ -64,8 +64,8 @@ logged_lines rs (t ∷ ts) [] h = absurd h
 pub fronts_stand : FrontsStand
 fronts_stand t x old ds ps k h =
     let n : ℕ = length (commits_in ds) in
-    let tied : AreLogged ds (commits_in ds) (take n x.so_far.commits) = front_logged ds ps (commits_in ds) (commits_in ps) x.so_far.commits
-    (λ u i. lines_none u ps (committed_before u ds ps h.ends i)) (subst (λ (ts : List ℕ). AreLogged (ds ++ ps) ts x.so_far.commits) (commits_in-append ds ps) h.committed) in
+    let tied : HaveLines ds (commits_in ds) (take n x.so_far.commits) = front_logged ds ps (commits_in ds) (commits_in ps) x.so_far.commits
+    (λ u i. lines_none u ps (committed_before u ds ps h.ends i)) (subst (λ (ts : List ℕ). HaveLines (ds ++ ps) ts x.so_far.commits) (commits_in-append ds ps) h.committed) in
     ap (λ (ls : List (List ℕ)). replay t ls (Some empty)) (committed_lines-apart old ds (apart-front old ds ps h.apart) (ends-front ds ps h.ends))
     ∙ (replay-append t (committed_lines old) (flat_map (λ u. lines_by u ds) (commits_in ds)) (Some empty)
     ∙ (ap (λ (s : Option Objects). replay t (flat_map (λ u. lines_by u ds) (commits_in ds)) s) h.found

@@ -7,14 +7,14 @@ use Rattle.sg_line_log.specs.Faults.{HeedsFaults}
 use Rattle.sg_line_log.specs.Held.{Tail}
 use Rattle.sg_line_log.specs.declared.fault.LogFault.{LogFault}
 use Rattle.sg_line_log.specs.declared.fault.LogFault.TheVariants as faults
-use Rattle.sg_journal.specs.Goes.{Grows, Heeds}
+use Rattle.sg_journal.specs.Goes.{LogGrows, Heeds}
 use Rattle.sg_journal.specs.Opening.{IsQuietFor}
-use Rattle.sg_journal.specs.Shown.{refusal_at}
+use Rattle.sg_journal.specs.Shown.{refusal_for}
 use Rattle.sg_journal.specs.declared.opening.OpenRefused as code_refused
 use Rattle.sg_journal.specs.declared.opening.OpenRefused.TheVariants as refusals
 
 -- a log that can't be opened or read
-pub quiet_at : (T : Type 0) (v w : disk.View) (e : LogFault) → HeedsFaults {T = T} (Err e) v w → IsQuietFor (refusal_at e) v w
+pub quiet_at : (T : Type 0) (v w : disk.View) (e : LogFault) → HeedsFaults {T = T} (Err e) v w → IsQuietFor (refusal_for e) v w
 quiet_at T v w faults.Disk h = tt
 quiet_at T v w faults.LogEnd h = tt
 quiet_at T v w (faults.Damaged at) h = h
@@ -36,8 +36,8 @@ quiet_later (refusals.Damaged area at) u v w same h = h ∙ same
 pub later_none : (v w : disk.View) → w ≡ v → v.faults ≤ w.faults
 later_none v w same = subst (λ (z : disk.View). v.faults ≤ z.faults) (sym same) (omega arith)
 
-pub grows_none : (log new : Tail) (v w : disk.View) → new ≡ log → w ≡ v → Grows log new v w
-grows_none log new v w is same = subst (λ (z : disk.View). Grows log new v z) (sym same) (subst (λ (n : Tail). Grows log n v v) (sym is) (record { kept = omega arith; grown = inr (omega arith) }))
+pub grows_none : (log new : Tail) (v w : disk.View) → new ≡ log → w ≡ v → LogGrows log new v w
+grows_none log new v w is same = subst (λ (z : disk.View). LogGrows log new v z) (sym same) (subst (λ (n : Tail). LogGrows log n v v) (sym is) (record { kept = omega arith; grown = inr (omega arith) }))
 
 pub heeds_none : (before now : Option Stop) (v w : disk.View) → now ≡ before → w ≡ v → Heeds before now v w
 heeds_none before now v w is same = λ none. (λ stopped. none (is ∙ stopped), ap (λ (z : disk.View). z.faults) same)
@@ -46,14 +46,14 @@ heeds_none before now v w is same = λ none. (λ stopped. none (is ∙ stopped),
 pub later_along : (v w z : disk.View) → z ≡ w → v.faults ≤ w.faults → v.faults ≤ z.faults
 later_along v w z same h = subst (λ (y : disk.View). v.faults ≤ y.faults) (sym same) h
 
-pub grows_along : (log new other : Tail) (v w z : disk.View) → other ≡ new → z ≡ w → Grows log new v w → Grows log other v z
-grows_along log new other v w z is same h = subst (λ (y : disk.View). Grows log other v y) (sym same) (subst (λ (n : Tail). Grows log n v w) (sym is) h)
+pub grows_along : (log new other : Tail) (v w z : disk.View) → other ≡ new → z ≡ w → LogGrows log new v w → LogGrows log other v z
+grows_along log new other v w z is same h = subst (λ (y : disk.View). LogGrows log other v y) (sym same) (subst (λ (n : Tail). LogGrows log n v w) (sym is) h)
 
 pub heeds_along : (before now : Option Stop) (v w z : disk.View) → now ≡ before → z ≡ w → w.faults ≡ v.faults → Heeds before now v z
 heeds_along before now v w z is same quiet = λ none. (λ stopped. none (is ∙ stopped), ap (λ (y : disk.View). y.faults) same ∙ quiet)
 
 -- of two calls
-pub grows_then : (log mid new : Tail) (u v w : disk.View) → Grows log mid u v → Grows mid new v w → Grows log new u w
+pub grows_then : (log mid new : Tail) (u v w : disk.View) → LogGrows log mid u v → LogGrows mid new v w → LogGrows log new u w
 grows_then log mid new u v w g h = record { kept = omega (arith, g.kept, h.kept); grown = both g.grown h.grown }
   where
     both : (disk.FULL ≤ v.handed) ⊎ (mid.gate + u.handed ≤ log.gate + v.handed) → (disk.FULL ≤ w.handed) ⊎ (new.gate + v.handed ≤ mid.gate + w.handed) → (disk.FULL ≤ w.handed) ⊎ (new.gate + u.handed ≤ log.gate + w.handed)

@@ -20,4 +20,5 @@ pub mod Walking
 pub mod Replaying
 pub mod Nothing
 pub mod Reading
+pub mod Syncs
 pub mod Opened

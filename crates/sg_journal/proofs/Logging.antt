@@ -18,12 +18,12 @@ use Rattle.sg_run.specs.Run.{Event, Run, live_objects, began, committed, aborted
 use Rattle.sg_run.specs.Kept.{is_kept, kept_ops}
 use Rattle.sg_run.specs.Serial.{IsSound}
 use Rattle.sg_journal.specs.Lines.{op_said, lines_by, commits_in}
-use Rattle.sg_journal.specs.Logs.{NoneOf, AreApart, EndsAtCommit, IsLogged, AreLogged, Logs}
+use Rattle.sg_journal.specs.Logs.{NoneOf, AreApart, EndsAtCommit, HasLines, HaveLines, Logs}
 use Rattle.sg_journal.proofs.Records.{map-append, lines_by-append, lines_none, commits_in-append, commits_none, none-front, none-back, apart-more, ends-more}
 use Rattle.sg_journal.proofs.Fronts.{kept_ops-append}
 
 -- what is logged of transactions stays so behind records that have no lines of theirs
-logged_more : (rs ss : List Record) (ts : List ℕ) (ess : List (List Event)) → ((u : ℕ) → Among u ts → lines_by u ss ≡ []) → AreLogged rs ts ess → AreLogged (rs ++ ss) ts ess
+logged_more : (rs ss : List Record) (ts : List ℕ) (ess : List (List Event)) → ((u : ℕ) → Among u ts → lines_by u ss ≡ []) → HaveLines rs ts ess → HaveLines (rs ++ ss) ts ess
 logged_more rs ss [] [] n h = tt
 logged_more rs ss (t ∷ ts) (es ∷ ess) n h = (
   ap (λ (ls : List (List ℕ)). map op_said ls) (lines_by-append t rs ss ∙ (ap (λ (ls : List (List ℕ)). lines_by t rs ++ ls) (n t (inl refl)) ∙ append_nil (lines_by t rs))) ∙ h.0,
@@ -32,7 +32,7 @@ logged_more rs ss (t ∷ ts) (es ∷ ess) n h = (
 logged_more rs ss [] (es ∷ ess) n h = absurd h
 logged_more rs ss (t ∷ ts) [] n h = absurd h
 
-logged_last : (rs : List Record) (ts : List ℕ) (ess : List (List Event)) (t : ℕ) (es : List Event) → AreLogged rs ts ess → IsLogged rs t es → AreLogged rs (ts ++ t ∷ []) (ess ++ es ∷ [])
+logged_last : (rs : List Record) (ts : List ℕ) (ess : List (List Event)) (t : ℕ) (es : List Event) → HaveLines rs ts ess → HasLines rs t es → HaveLines rs (ts ++ t ∷ []) (ess ++ es ∷ [])
 logged_last rs [] [] t es h e = (e, tt)
 logged_last rs (u ∷ ts) (fs ∷ ess) t es h e = (h.0, logged_last rs ts ess t es h.1 e)
 logged_last rs [] (fs ∷ ess) t es h e = absurd h
@@ -56,7 +56,7 @@ module _ (t : Operations) where
       record {
         found = h.found;
         apart = apart-more old new (Begin u previous) h.apart (none-front u old new none);
-        committed = subst (λ (ts : List ℕ). AreLogged (new ++ Begin u previous ∷ []) ts x.so_far.commits) (sym same) (logged_more new (Begin u previous ∷ []) (commits_in new) x.so_far.commits (λ v i. refl) h.committed);
+        committed = subst (λ (ts : List ℕ). HaveLines (new ++ Begin u previous ∷ []) ts x.so_far.commits) (sym same) (logged_more new (Begin u previous ∷ []) (commits_in new) x.so_far.commits (λ v i. refl) h.committed);
         open_lines = λ v y. ap (λ (ls : List (List ℕ)). map op_said ls) (lines v) ∙ (elim (either v y) [
           | inl a ↦ h.open_lines v a
           | inr q ↦ (let above_v : x.so_far.next ≤ v = omega (arith, q) in
@@ -108,7 +108,7 @@ module _ (t : Operations) where
       record {
         found = h.found;
         apart = apart_by b;
-        committed = subst (λ (ts : List ℕ). AreLogged (new ++ more) ts x.so_far.commits) (sym same) (logged_more new more (commits_in new) x.so_far.commits (λ v i. lines_record u v previous words b (λ q. h.uncommitted u there (subst (λ (w : ℕ). Among w (commits_in new)) (sym q) i))) h.committed);
+        committed = subst (λ (ts : List ℕ). HaveLines (new ++ more) ts x.so_far.commits) (sym same) (logged_more new more (commits_in new) x.so_far.commits (λ v i. lines_record u v previous words b (λ q. h.uncommitted u there (subst (λ (w : ℕ). Among w (commits_in new)) (sym q) i))) h.committed);
         open_lines = λ v y. ap (λ (ls : List (List ℕ)). map op_said ls) (lines_by-append v new more) ∙ (map-append op_said (lines_by v new) (lines_by v more)
             ∙ (ap (λ (os : List (Option Op)). os ++ map op_said (lines_by v more)) (h.open_lines v y) ∙ (ap (λ (os : List (Option Op)). map Some (kept_ops (filter (is_own v) x.so_far.history)) ++ os) (last v (u == v) refl)
             ∙ (sym (map-append Some (kept_ops (filter (is_own v) x.so_far.history)) (kept_ops (filter (is_own v) (e ∷ [])))) ∙ (ap (λ (ops : List Op). map Some ops) (sym (kept_ops-append (filter (is_own v) x.so_far.history) (filter (is_own v) (e ∷ []))))
@@ -141,7 +141,7 @@ module _ (t : Operations) where
       record {
         found = h.found;
         apart = apart-more old new (Commit u previous) h.apart (h.fresh u there);
-        committed = subst (λ (ts : List ℕ). AreLogged (new ++ more) ts (x.so_far.commits ++ filter (is_own u) x.so_far.history ∷ [])) (sym (commits_in-append new more))
+        committed = subst (λ (ts : List ℕ). HaveLines (new ++ more) ts (x.so_far.commits ++ filter (is_own u) x.so_far.history ∷ [])) (sym (commits_in-append new more))
             (logged_last (new ++ more) (commits_in new) x.so_far.commits u (filter (is_own u) x.so_far.history) (logged_more new more (commits_in new) x.so_far.commits (λ v i. refl) h.committed) (ap (λ (ls : List (List ℕ)). map op_said ls) (lines u) ∙ h.open_lines u there));
         open_lines = λ v y. ap (λ (ls : List (List ℕ)). map op_said ls) (lines v) ∙ h.open_lines v (still_live x u v y).0;
         uncommitted = λ v y i. (let s = still_live x u v y in elim (among_append v (commits_in new) (u ∷ []) (subst (λ (ts : List ℕ). Among v ts) (commits_in-append new more) i)) [

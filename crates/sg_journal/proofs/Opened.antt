@@ -9,7 +9,7 @@ use Rattle.sg_disk.proofs.Images.{sync_keeps}
 use Rattle.sg_disk.proofs.Parts.{part_synced, other_synced, settled_byte}
 use Rattle.sg_model.specs.Objects.{Objects}
 use Rattle.sg_run.specs.Run.{start}
-use Rattle.sg_serial.specs.Runs as runs
+use Rattle.sg_serial.specs.Runs as serial_runs
 use Rattle.sg_run.proofs.Serial.{start_stays}
 use Rattle.sg_run.proofs.Noted.{start_noted}
 use Rattle.sg_line_log.specs.Following.{AreChained}
@@ -31,6 +31,7 @@ use Rattle.sg_journal.proofs.Heeding.{quiet_later}
 use Rattle.sg_journal.proofs.Nothing.{stands_one, stands_not}
 use Rattle.sg_journal.specs.Store.{Core}
 use Rattle.sg_journal.proofs.Standing.{stands, running_shows}
+use Rattle.sg_journal.proofs.Syncs.{first_synced}
 
 -- what a read gives is the same after a sync
 pub synced_seen : {T E : Type 0} (v w : disk.View) (u : T) → disk.Synced {E = E} Log0 v w (Ok u) → (w.now Log0).seen ≡ (v.now Log0).seen
@@ -39,14 +40,10 @@ synced_seen v w u s = ap (λ (p : disk.Part). p.seen) (part_synced v.now Log0 s.
 pub synced_settled : {T E : Type 0} (v w : disk.View) (u : T) → disk.Synced {E = E} Log0 v w (Ok u) → (w.now Log0).pending ≡ []
 synced_settled v w u s = ap (λ (p : disk.Part). p.pending) (part_synced v.now Log0 s.ok)
 
--- until a sync has returned
-pub opening_before : {T E : Type 0} (v v1 : disk.View) (u : T) → disk.Synced {E = E} Log0 v v1 (Ok u) → disk.LeavesOnly v v1 (disk.Leaves v.now)
-opening_before v v1 u s = moments.goes_on (moments.started v (disk.Leaves v.now) (λ c leaves. leaves)) s (λ c leaves. leaves)
-
 -- a sync and then calls that change nothing
 opening_moments : {T E : Type 0} (v v1 w : disk.View) (u : T) → disk.Synced {E = E} Log0 v v1 (Ok u) → disk.LeavesOnly v1 w (disk.Leaves v1.now) → disk.LeavesOnly v w (disk.Leaves v.now)
 opening_moments v v1 w u s call =
-    moments.joined (opening_before v v1 u s)
+    moments.joined (first_synced Log0 v v1 u s).before
     (moments.weaker call (λ c leaves. sync_keeps v.now Log0 c (subst (λ (z : disk.State). disk.Leaves z c) s.ok leaves)))
 
 module _ (tb : Operations) where
@@ -80,9 +77,9 @@ module _ (tb : Operations) where
   none_apart (r ∷ rs) = (tt, none_apart rs)
 
   -- a store that has read its log back shows its objects
-  pub opened : {T E : Type 0} (told : Bool) (v v1 w : disk.View) (log : Tail) (objects : Objects) (u : T) → (IsTrue told → disk.Synced {E = E} Log0 v v1 (Ok u)) → v1.handed ≡ v.handed → v1.faults ≡ v.faults → v1.calls ≤ v.calls + 1
+  pub opened : {T E : Type 0} (told : Bool) (v v1 w : disk.View) (log : Tail) (objects : Objects) (u : T) → (IsTrue told → disk.Synced {E = E} Log0 v v1 (Ok u)) → v1.handed ≡ v.handed → v1.faults ≡ v.faults
       → log ≡ record { area = Log0; base = 0; gate = log.gate; buffer = [] } → (IsTrue told → (v1.now Log0).pending ≡ [] → IsReadBack tb w log objects) → OnlyReads told v1 w → w.faults ≡ v1.faults → Opens tb told v w (opened_core objects log)
-  opened told v v1 w log objects u synced handed1 quiet1 one_call is_log found reads quiet =
+  opened told v v1 w log objects u synced handed1 quiet1 is_log found reads quiet =
       let area : log.area ≡ Log0 = ap (λ (z : Tail). z.area) is_log in
       let base : log.base ≡ 0 = ap (λ (z : Tail). z.base) is_log in
       let empty_buffer : log.buffer ≡ [] = ap (λ (z : Tail). z.buffer) is_log in
@@ -101,7 +98,7 @@ module _ (tb : Operations) where
           sound = start_stays tb objects;
           objects = refl;
           live = refl;
-          undoes = record { past = runs.start objects; is_noted = start_noted tb objects; own = λ u there. absurd (cc there); nothing = λ u gone name object. refl };
+          undoes = record { past = serial_runs.start objects; is_noted = start_noted tb objects; own = λ u there. absurd (cc there); nothing = λ u gone name object. refl };
           held = refl;
           next = omega arith;
           answered = refl;
@@ -132,8 +129,7 @@ module _ (tb : Operations) where
         });
         synced = v1;
         moments = λ is_told. record {
-          one_call = one_call;
-          before = opening_before v v1 u (synced is_told);
+          until = first_synced Log0 v v1 u (synced is_told);
           behind = moments.weaker (reads.any_moment is_told) (λ c leaves. (synced_stands v v1 u (synced is_told) c leaves objects (stand is_told), synced_others v v1 u (synced is_told) c leaves));
         };
         handed = reads.handed ∙ handed1;
@@ -151,9 +147,9 @@ module _ (tb : Operations) where
   nothing_stands told v w why h area at is is_told s stand = stands_not tb (reads_of v) s at stand ((subst (λ (r : code_refused.OpenRefused). IsRefusedFor tb r told v w) is h).1 is_told)
 
   -- where the log can't be opened the store stays shut
-  pub shut : {T E : Type 0} (told : Bool) (v v1 w : disk.View) (why : code_refused.OpenRefused) (u : T) → (IsTrue told → disk.Synced {E = E} Log0 v v1 (Ok u)) → v1.handed ≡ v.handed → v1.faults ≡ v.faults → v1.calls ≤ v.calls + 1
+  pub shut : {T E : Type 0} (told : Bool) (v v1 w : disk.View) (why : code_refused.OpenRefused) (u : T) → (IsTrue told → disk.Synced {E = E} Log0 v v1 (Ok u)) → v1.handed ≡ v.handed → v1.faults ≡ v.faults
       → IsRefusedFor tb why told v1 w → OnlyReads told v1 w → IsQuietFor why v1 w → StaysShut tb told v w why
-  shut told v v1 w why u synced handed1 quiet1 one_call h reads quiet =
+  shut told v v1 w why u synced handed1 quiet1 h reads quiet =
       let reason = after_sync told v v1 w why (omega (arith, quiet1)) (λ is_told. synced_seen v v1 u (synced is_told)) h in
       record {
         reason = reason;
@@ -163,8 +159,7 @@ module _ (tb : Operations) where
           settled = inr (
             v1,
             record {
-              one_call = one_call;
-              before = opening_before v v1 u (synced is_told);
+              until = first_synced Log0 v v1 u (synced is_told);
               behind = moments.weaker (reads.any_moment is_told) (λ c leaves s stand. synced_stands v v1 u (synced is_told) c leaves s stand);
             },
           );
@@ -181,7 +176,7 @@ module _ (tb : Operations) where
     nothing = λ area at is. absurd (cc is);
     alone = λ is_told. record {
       moments = moments.goes_on (moments.started v (disk.Leaves v.now) (λ c leaves. leaves)) (failed is_told) (λ c leaves. leaves);
-      settled = inl (record { one_call = one_call; failed = inr risen });
+      settled = inl (record { calls = one_call; failed = inr risen });
     };
     handed = handed;
     later = later;

@@ -43,7 +43,7 @@ use Rattle.sg_run.specs.Answer.{answer_of, IsSaid}
 use Rattle.sg_run.specs.Run.{Run, TakesMemory, holder_of, held_with, MOST_HELD}
 use Rattle.sg_journal.specs.Lines.{op_of, op_said}
 use Rattle.sg_journal.specs.Live.{Opened, Undo, opened_named}
-use Rattle.sg_journal.specs.Shown.{answer_at, answer_to, stop_at, IsReasonOr, IsNotGranted}
+use Rattle.sg_journal.specs.Shown.{answer_for, answer_to, stop_for, IsReasonOr, IsNotGranted}
 use Rattle.sg_journal.specs.Store.{Core, Shows}
 use Rattle.sg_journal.specs.Goes.{Goes, NEW_WORK_END}
 use Rattle.sg_journal.proofs.Tails.{MomentsOf, ends_within}
@@ -187,8 +187,8 @@ module _ (t : Operations) (told : Bool) (was : disk.State) (v : disk.View) (k : 
         came_to (Err e) done err memory cause = starved o (inl memory) cause (λ work. absurd (cc (work, reads))) err
 
     -- the log has failed as its line was appended
-    pub op_fault : (reply : Reply) (e : LogFault) (w : disk.View) (m : Core) (r : Record) (into : List ℕ) → m.stopped ≡ Some (stop_at e) → is_changing op ≡ true → (step t k.objects op).0 ≡ Ok reply → tail_of k.log ≤ NEW_WORK_END → IsRecord r
-        → AppendFails (end_of k.log r) v w e → MomentsOf told v w k.log → Goes t told was v k x (Of name (Do op)) (shown_answer into (answer_at e)) w m
+    pub op_fault : (reply : Reply) (e : LogFault) (w : disk.View) (m : Core) (r : Record) (into : List ℕ) → m.stopped ≡ Some (stop_for e) → is_changing op ≡ true → (step t k.objects op).0 ≡ Ok reply → tail_of k.log ≤ NEW_WORK_END → IsRecord r
+        → AppendFails (end_of k.log r) v w e → MomentsOf told v w k.log → Goes t told was v k x (Of name (Do op)) (shown_answer into (answer_for e)) w m
     op_fault reply faults.Disk w m r into halted changing came low fields f call = op_breaks t told was v k x shows running name op l one h.free h.few w m halted changing (subst (λ (a : Outcome). IsSaid (answer_of a)) (sym came) tt) low f call
     op_fault reply faults.LogEnd w m r into halted changing came low fields f call = let within = ends_within k.log r fields low in absurd (omega arith)
     op_fault reply (faults.Damaged at) w m r into halted changing came low fields f call = absurd f

@@ -21,7 +21,7 @@ use Rattle.sg_journal.specs.Stands.{replay}
 use Rattle.sg_journal.specs.Damage.{lines_at, committed_at, words_of_all, HasStrayFrame, HasUnanswered}
 use Rattle.sg_journal.specs.Found.{lines_found, AreFound, EndsAt, IsReadBack, IsNotFound, IsRefusedBy}
 use Rattle.sg_journal.specs.Opening.{IsRefusedFor}
-use Rattle.sg_journal.specs.Shown.{refusal_at}
+use Rattle.sg_journal.specs.Shown.{refusal_for}
 use Rattle.sg_journal.specs.declared.found.Found as code_found
 use Rattle.sg_journal.specs.declared.opening.OpenRefused as code_refused
 use Rattle.sg_journal.specs.declared.opening.OpenRefused.TheVariants as refusals
@@ -34,7 +34,7 @@ found_lines found frames are =
 
 module _ (tb : Operations) where
   -- an attach fails
-  pub attach_refused : (told : Bool) (v w : disk.View) (e : LogFault) → AttachFails told Log0 0 v w e → IsRefusedFor tb (refusal_at e) told v w
+  pub attach_refused : (told : Bool) (v w : disk.View) (e : LogFault) → AttachFails told Log0 0 v w e → IsRefusedFor tb (refusal_for e) told v w
   attach_refused told v w faults.Disk h = h
   attach_refused told v w faults.LogEnd h = absurd h
   attach_refused told v w (faults.Damaged at) h = (refl, λ is_told. inl (h is_told))

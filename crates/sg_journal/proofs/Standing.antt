@@ -22,14 +22,14 @@ use Rattle.sg_run.specs.Serial.{IsSound}
 use Rattle.sg_run.proofs.Serial.{serial_run}
 use Rattle.sg_journal.specs.Lines.{commits_in, committed_lines}
 use Rattle.sg_journal.specs.Stands.{replay, OthersAsIn, StandsFor, StandsForFirst}
-use Rattle.sg_journal.specs.Logs.{AreLogged, Logs}
+use Rattle.sg_journal.specs.Logs.{HaveLines, Logs}
 use Rattle.sg_journal.specs.Live.{Opened}
 use Rattle.sg_journal.specs.Store.{Core, Keeps, Runs, Shows}
 use Rattle.sg_journal.proofs.Records.{commits_in-append}
 use Rattle.sg_journal.proofs.Fronts.{fronts_stand}
 use Rattle.sg_journal.proofs.Tails.{IsEither, HoldsAfter, others_leaves, chained_after}
 
-logged_length : (rs : List Record) (ts : List ℕ) (ess : List (List Event)) → AreLogged rs ts ess → length ts ≡ length ess
+logged_length : (rs : List Record) (ts : List ℕ) (ess : List (List Event)) → HaveLines rs ts ess → length ts ≡ length ess
 logged_length rs [] [] h = refl
 logged_length rs (t ∷ ts) (es ∷ ess) h = omega (arith, logged_length rs ts ess h.1)
 logged_length rs [] (es ∷ ess) h = absurd h

@@ -55,7 +55,7 @@ module _ (t : Operations) where
       after = x;
       line_goes = goes;
       caused = caused;
-      full = is_full;
+      log_end = is_full;
       shows = shows;
       moments = λ is_told. moments.started v (StandsForFirst t was x.so_far.answered x) (shows.images is_told);
     }

@@ -5,7 +5,7 @@ use Rattle.std.proofs.lemmas.Bool.{eqb-true, eq-eqb}
 use Rattle.std.specs.FinMap.{get}
 use Rattle.std.specs.Str.{bytes_eq}
 use Rattle.sg_serial.specs.Runs.{Live, is_live, without}
-use Rattle.sg_serial.specs.Runs as runs
+use Rattle.sg_serial.specs.Runs as serial_runs
 use Rattle.sg_serial.proofs.Kept.{and_true, not_both, not_true}
 use Rattle.sg_serial.proofs.Lists.{live-without, live-append}
 use Rattle.sg_ops.specs.Table.{Table as Operations}
@@ -86,7 +86,7 @@ module _ (t : Operations) (k m : Core) (x : Run) (h : Undoes t k x) where
   -- a transaction begins
   pub begun_undoes : (n : ℕ) (name : List ℕ) → x.so_far.next ≤ n → ((u : ℕ) (s : List ℕ) (object : Option Object) → m.undo u s object ≡ k.undo u s object) → Undoes t m (began x n name)
   begun_undoes n name above same = record {
-    past = runs.began h.past n name;
+    past = serial_runs.began h.past n name;
     is_noted = begin_noted t x h.past n name above h.is_noted;
     own = λ u there s object. same u s object ∙ (by_begin u (is_live x.so_far.live u) refl (sym (live-append x.so_far.live (new ∷ []) u) ∙ there) s object ∙ sym (ap (λ (ns : List OpNote). undo_all_on s ns object) (begin_notes h.past n name u)));
     nothing = λ u gone s object. same u s object ∙ h.nothing u (or_none (is_live x.so_far.live u) (is_live (new ∷ []) u) (sym (live-append x.so_far.live (new ∷ []) u) ∙ gone)) s object;
@@ -135,10 +135,10 @@ module _ (t : Operations) (k m : Core) (x : Run) (h : Undoes t k x) where
         by_gone v s object false false q gone = h.nothing v q s object
 
     pub committed_undoes : ((v : ℕ) (s : List ℕ) (object : Option Object) → m.undo v s object ≡ cond (v == u) object (k.undo v s object)) → Undoes t m (committed x u)
-    committed_undoes undone = ended_undoes (committed x u) (runs.committed h.past u) (commit_noted t x h.past u there h.is_noted) refl (λ v other. commit_notes h.past u v) undone
+    committed_undoes undone = ended_undoes (committed x u) (serial_runs.committed h.past u) (commit_noted t x h.past u there h.is_noted) refl (λ v other. commit_notes h.past u v) undone
 
     pub aborted_undoes : ((v : ℕ) (s : List ℕ) (object : Option Object) → m.undo v s object ≡ cond (v == u) object (k.undo v s object)) → Undoes t m (aborted x u)
-    aborted_undoes undone = ended_undoes (aborted x u) (runs.aborted h.past u) (abort_noted t x h.past u there h.is_noted) refl (λ v other. abort_notes h.past u v other) undone
+    aborted_undoes undone = ended_undoes (aborted x u) (serial_runs.aborted h.past u) (abort_noted t x h.past u there h.is_noted) refl (λ v other. abort_notes h.past u v other) undone
 
     -- the objects once what it has done is taken back
     pub taken_back : (o : Objects) → k.objects ≡ live_objects t x → ((name : List ℕ) → get o name ≡ k.undo u name (get k.objects name)) → o ≡ live_objects t (aborted x u)

@@ -19,7 +19,7 @@ use Rattle.sg_line_log.proofs.Steps.{gate_later}
 use Rattle.sg_journal.specs.Lines.{commits_in}
 use Rattle.sg_journal.specs.Damage.{lines_at, HasStray}
 use Rattle.sg_journal.specs.Found.{lines_found, Finds, KnowsLasts, AreFound, EndsAt, IsRefusedIn, IsNotFound}
-use Rattle.sg_journal.specs.Shown.{refusal_at}
+use Rattle.sg_journal.specs.Shown.{refusal_for}
 use Rattle.sg_journal.specs.declared.found.Found as code_found
 use Rattle.sg_journal.specs.declared.opening.OpenRefused as code_refused
 use Rattle.sg_journal.specs.declared.opening.OpenRefused.TheVariants as refusals
@@ -142,7 +142,7 @@ module _ (told : Bool) (v u : disk.View) (log : Tail) (now : code_found.Found) (
       subst (AreFound now) (sym (h.split ∙ (ap (λ (xs : List (List Record)). h.front ++ xs) none ∙ append-nil h.front))) h.are
 
   -- a frame can't be read
-  pub walking_fails : (w : disk.View) (base : ℕ) (e : LogFault) → base ≡ 0 → FrameFails told log.area base to u w e → IsNotFound (refusal_at e) told v w log
+  pub walking_fails : (w : disk.View) (base : ℕ) (e : LogFault) → base ≡ 0 → FrameFails told log.area base to u w e → IsNotFound (refusal_for e) told v w log
   walking_fails w base faults.Disk none h = λ room. omega (arith, h room, walking.reads.later)
   walking_fails w base faults.LogEnd none h = absurd h
   walking_fails w base (faults.Damaged there) none h = (

@@ -23,12 +23,12 @@ use Rattle.sg_journal.specs.declared.found_line.FoundLine as code_line
 use Rattle.sg_journal.specs.declared.found.Found as code_found
 use Rattle.sg_journal.specs.declared.lines.Lines as code_lines
 
-abbrev pub line_of : code_line.FoundLine → LineAt
-line_of l = record { lsn = l.at; words = l.words.items }
+abbrev pub shown_line : code_line.FoundLine → LineAt
+shown_line l = record { lsn = l.at; words = l.words.items }
 
 abbrev pub lines_or_none : Option (Vec code_line.FoundLine Global) → List LineAt
 lines_or_none None = []
-lines_or_none (Some lines) = map line_of lines.items
+lines_or_none (Some lines) = map shown_line lines.items
 
 abbrev pub number_or_none : Option ℕ → ℕ
 number_or_none None = 0

@@ -40,12 +40,12 @@ pub record Goes (t : Operations) (told : Bool) (was : disk.State) (v : disk.View
   -- a fault of the disk is answered only where its count rose, and the log's end only where it is full
   pub caused : IsCaused (HasRisen v.faults w.faults) (IsFull k) line answer
   -- and there it is answered to every line that the log keeps and that would have got a reply
-  pub full : IsFull k line → IsLogged line → WouldReply t x line → answer ≡ LogEnd
+  pub log_end : IsFull k line → IsLogged line → WouldReply t x line → answer ≡ LogEnd
   pub shows : Shows t told was w m after
   pub moments : IsTrue told → disk.LeavesOnly v w (StandsForFirst t was x.so_far.answered after)
 
 -- a log grows by no more than is handed to the disk, as far as that is counted
-pub record Grows (old new : Tail) (v w : disk.View) : Type 0 where
+pub record LogGrows (old new : Tail) (v w : disk.View) : Type 0 where
   pub kept : v.handed ≤ w.handed
   pub grown : (disk.FULL ≤ w.handed) ⊎ (new.gate + v.handed ≤ old.gate + w.handed)
 

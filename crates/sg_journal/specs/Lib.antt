@@ -8,4 +8,5 @@ pub mod Shown
 pub mod Seen
 pub mod Damage
 pub mod Found
+pub mod Syncs
 pub mod Opening

@@ -31,15 +31,15 @@ EndsAtCommit (Commit t previous ∷ rs) = NoneOf t rs × EndsAtCommit rs
 EndsAtCommit (Line t previous words ∷ rs) = EndsAtCommit rs
 
 -- a transaction's lines say the operations of these entries which can change objects and got a reply
-abbrev pub IsLogged : List Record → ℕ → List Event → Type 0
-IsLogged rs transaction es = map op_said (lines_by transaction rs) ≡ map Some (kept_ops es)
+abbrev pub HasLines : List Record → ℕ → List Event → Type 0
+HasLines rs transaction es = map op_said (lines_by transaction rs) ≡ map Some (kept_ops es)
 
 -- each of these transactions has lines that say those of its entries
-abbrev pub AreLogged : List Record → List ℕ → List (List Event) → Type 0
-AreLogged rs [] [] = Unit {0}
-AreLogged rs (t ∷ ts) (es ∷ ess) = IsLogged rs t es × AreLogged rs ts ess
-AreLogged rs [] (es ∷ ess) = ⊥
-AreLogged rs (t ∷ ts) [] = ⊥
+abbrev pub HaveLines : List Record → List ℕ → List (List Event) → Type 0
+HaveLines rs [] [] = Unit {0}
+HaveLines rs (t ∷ ts) (es ∷ ess) = HasLines rs t es × HaveLines rs ts ess
+HaveLines rs [] (es ∷ ess) = ⊥
+HaveLines rs (t ∷ ts) [] = ⊥
 
 -- A log that had the old records when a run began, and has the new ones since, keeps the run: the old ones stand for its
 -- first objects; the commit records among the new ones are the run's commits in order, each with its lines; each live
@@ -47,8 +47,8 @@ AreLogged rs (t ∷ ts) [] = ⊥
 pub record Logs (t : Operations) (x : Run) (old new : List Record) : Type 0 where
   pub found : replay t (committed_lines old) (Some empty) ≡ Some x.so_far.first
   pub apart : AreApart old new
-  pub committed : AreLogged new (commits_in new) x.so_far.commits
-  pub open_lines : (u : ℕ) → is_live x.so_far.live u ≡ true → IsLogged new u (filter (is_own u) x.so_far.history)
+  pub committed : HaveLines new (commits_in new) x.so_far.commits
+  pub open_lines : (u : ℕ) → is_live x.so_far.live u ≡ true → HasLines new u (filter (is_own u) x.so_far.history)
   pub uncommitted : (u : ℕ) → is_live x.so_far.live u ≡ true → Among u (commits_in new) → ⊥
   pub fresh : (u : ℕ) → is_live x.so_far.live u ≡ true → NoneOf u old
   pub ends : EndsAtCommit new

@@ -1,5 +1,5 @@
 -- How a store opens.
-use Rattle.std.specs.Prelude.{◌≡◌, ◌⊎◌, ◌+◌, ◌≤◌, ℕ, Bool, IsTrue, List}
+use Rattle.std.specs.Prelude.{◌≡◌, ◌⊎◌, ◌+◌, ◌≤◌, ℕ, Bool, IsTrue, List, [], ◌∷◌, length}
 use Rattle.sg_ops.specs.Table.{Table as Operations}
 use Rattle.sg_base.specs.Ends.{HasRisen}
 use Rattle.sg_base.specs.declared.area.Area.{Area}
@@ -12,32 +12,30 @@ use Rattle.sg_journal.specs.declared.opening.OpenRefused.TheVariants as refusals
 use Rattle.sg_line_log.specs.Frames.{Numbered, HasRecords}
 use Rattle.sg_journal.specs.Stands.{OthersAsIn, StandsFor}
 use Rattle.sg_journal.specs.Damage.{StandsForNothing}
+use Rattle.sg_journal.specs.Syncs.{SplitsAt}
 use Rattle.sg_journal.specs.Store.{Core, Shows}
 
 -- the image that reads give
 abbrev pub reads_of : disk.View → disk.Image
 reads_of v a = (v.now a).seen
 
--- At this moment opening's sync of the log's area had returned, the first call that was made. Until then each image is
--- one of those at the beginning, and from then on each has P
-pub record SplitsAt (synced v w : disk.View) (P : disk.Image → Type 0) : Type 0 where
-  pub one_call : synced.calls ≤ v.calls + 1
-  pub before : disk.LeavesOnly v synced (disk.Leaves v.now)
-  pub behind : disk.LeavesOnly synced w P
+-- the areas that opening syncs
+abbrev pub SYNCED : List Area
+SYNCED = Log0 ∷ []
 
--- no sync had returned: no call was made, or one, which failed
+-- not all of them had been synced: no call was made, or so many at most, the last of which failed
 pub record IsUnsynced (v w : disk.View) : Type 0 where
-  pub one_call : w.calls ≤ v.calls + 1
+  pub calls : w.calls ≤ v.calls + length SYNCED
   pub failed : (w.calls ≡ v.calls) ⊎ HasRisen v.faults w.faults
 
--- Each image of each moment is one of those at the beginning. Once a sync had returned each stands for the objects for
--- which the image stands that reads gave at the beginning, if there are any
+-- Each image of each moment is one of those at the beginning. Once opening's syncs had returned each stands for the
+-- objects for which the image stands that reads gave at the beginning, if there are any
 pub record IsLeftAlone (t : Operations) (v w : disk.View) : Type 0 where
   pub moments : disk.LeavesOnly v w (disk.Leaves v.now)
-  pub settled : IsUnsynced v w ⊎ ((synced : disk.View) × SplitsAt synced v w (λ c. (s : Objects) → StandsFor t (reads_of v) s → StandsFor t c s))
+  pub settled : IsUnsynced v w ⊎ ((synced : disk.View) × SplitsAt SYNCED synced v w (λ c. (s : Objects) → StandsFor t (reads_of v) s → StandsFor t c s))
 
 -- A store has opened: it shows a run that begins with the objects that the image read stands for, and those alone.
--- Nothing was written. From the return of its sync on each image stands for these objects, and has the other areas as
+-- Nothing was written. From the return of its syncs on each image stands for these objects, and has the other areas as
 -- they were
 pub record Opens (t : Operations) (told : Bool) (v w : disk.View) (k : Core) : Type 0 where
   pub first : Objects
@@ -47,7 +45,7 @@ pub record Opens (t : Operations) (told : Bool) (v w : disk.View) (k : Core) : T
   pub gate : IsTrue told → (ds : List Numbered) (gate : ℕ) → HasRecords (reads_of v Log0) 0 gate ds → k.log.gate ≡ gate
   pub shows : Shows t told v.now w k (start first)
   pub synced : disk.View
-  pub moments : IsTrue told → SplitsAt synced v w (λ c. StandsFor t c first × OthersAsIn v.now c)
+  pub moments : IsTrue told → SplitsAt SYNCED synced v w (λ c. StandsFor t c first × OthersAsIn v.now c)
   pub handed : w.handed ≡ v.handed
   pub quiet : w.faults ≡ v.faults
 

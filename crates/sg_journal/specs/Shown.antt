@@ -47,17 +47,17 @@ abbrev pub undo_of : List code_ongoing.Ongoing → Undo
 undo_of live transaction name object = undo_by (find (has_number transaction) live) name object
 
 -- what is answered where the log fails, and why the store stops then
-abbrev pub answer_at : LogFault → code_answer.Answer
-answer_at faults.LogEnd = answers.LogEnd
-answer_at faults.Disk = answers.Disk
-answer_at (faults.Damaged at) = answers.Disk
-answer_at faults.Memory = answers.Disk
+abbrev pub answer_for : LogFault → code_answer.Answer
+answer_for faults.LogEnd = answers.LogEnd
+answer_for faults.Disk = answers.Disk
+answer_for (faults.Damaged at) = answers.Disk
+answer_for faults.Memory = answers.Disk
 
-abbrev pub stop_at : LogFault → Stop
-stop_at faults.LogEnd = stops.LogEnd
-stop_at faults.Disk = stops.Disk
-stop_at (faults.Damaged at) = stops.Disk
-stop_at faults.Memory = stops.Disk
+abbrev pub stop_for : LogFault → Stop
+stop_for faults.LogEnd = stops.LogEnd
+stop_for faults.Disk = stops.Disk
+stop_for (faults.Damaged at) = stops.Disk
+stop_for faults.Memory = stops.Disk
 
 -- what an operation is answered, by what it came to
 abbrev pub answer_to : Result (Result code_reply.Reply Reason) OutOfMemory → code_answer.Answer
@@ -78,8 +78,8 @@ IsNotGranted live (locks.Busy holder) answer = (l : Opened) → opened_numbered 
 IsNotGranted live locks.LocksFull answer = answer ≡ answers.LocksFull
 
 -- why a store doesn't open where its log fails
-abbrev pub refusal_at : LogFault → code_refused.OpenRefused
-refusal_at faults.LogEnd = refusals.DiskFault
-refusal_at faults.Disk = refusals.DiskFault
-refusal_at (faults.Damaged at) = refusals.Damaged Log0 at
-refusal_at faults.Memory = refusals.Memory
+abbrev pub refusal_for : LogFault → code_refused.OpenRefused
+refusal_for faults.LogEnd = refusals.DiskFault
+refusal_for faults.Disk = refusals.DiskFault
+refusal_for (faults.Damaged at) = refusals.Damaged Log0 at
+refusal_for faults.Memory = refusals.Memory

@@ -17,7 +17,7 @@ mod opening;
 mod replay;
 mod store;
 
-pub use law::fronts_stand;
+pub use law::{fronts_stand, three_sync};
 pub use live::{Live, MOST_LIVE};
 pub use opening::{OpenRefused, Unopened};
 pub use store::Store;

@@ -1,7 +1,7 @@
 // The lines that a log has of its transactions.
 ghost use Rattle.std.specs.Prelude.{◌≡◌, ◌≤◌, ◌==◌, length, ℕ, List, [], ◌∷◌, ◌++◌, map, OnOk, if◌then◌else◌};
 ghost use Rattle.sg_journal.specs.Damage.{LineAt};
-ghost use Rattle.sg_journal.specs.Found.{line_of, lines_in};
+ghost use Rattle.sg_journal.specs.Found.{shown_line, lines_in};
 
 use crate::found_line::FoundLine;
 use sg_base::OutOfMemory;
@@ -49,7 +49,7 @@ impl Lines {
 
     /// Takes the lines of a transaction out: it has none then.
     pub fn take(&mut self, alloc: Global, txn: u64) -> Vec<FoundLine>
-        ensures taken { map line_of result.items ≡ lines_in self.old txn }
+        ensures taken { map shown_line result.items ≡ lines_in self.old txn }
         ensures left { (t : ℕ) → lines_in self.new t ≡ (if t == txn then [] else lines_in self.old t) }
     {
         match self.map.remove(&txn) {

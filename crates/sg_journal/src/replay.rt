@@ -15,9 +15,9 @@ ghost use Rattle.sg_line_log.specs.Reads.{OnlyReads};
 ghost use Rattle.sg_journal.specs.Lines.{op_said, once, committed_lines};
 ghost use Rattle.sg_journal.specs.Stands.{after_line, replay};
 ghost use Rattle.sg_journal.specs.Damage.{LineAt, words_of_all};
-ghost use Rattle.sg_journal.specs.Found.{line_of, lines_found, Finds, KnowsLasts, AreFound, EndsAt, IsReadBack, IsRefusedIn, IsNotFound, IsLineRefused, IsRefusedBy};
+ghost use Rattle.sg_journal.specs.Found.{shown_line, lines_found, Finds, KnowsLasts, AreFound, EndsAt, IsReadBack, IsRefusedIn, IsNotFound, IsLineRefused, IsRefusedBy};
 ghost use Rattle.sg_journal.specs.Opening.{IsRefusedFor, IsQuietFor};
-ghost use Rattle.sg_journal.specs.Shown.{refusal_at};
+ghost use Rattle.sg_journal.specs.Shown.{refusal_for};
 
 use crate::found::Found;
 use crate::found_line::FoundLine;
@@ -44,7 +44,7 @@ fn damaged(at: u64) -> OpenRefused
 
 // Why a store doesn't open where its log fails.
 fn refusal(fault: LogFault) -> OpenRefused
-    ensures { result ≡ refusal_at fault }
+    ensures { result ≡ refusal_for fault }
 {
     match fault {
         LogFault::Memory => OpenRefused::Memory,
@@ -144,7 +144,7 @@ fn replay_line(
     requires scratch { 32768 ≤ length scratch.old }
     requires into { 8192 ≤ length into.old }
     ensures done { OnOk result (after_line (table_of record_meaning range_meaning ops.now) objects.old line.now.words.items ≡ Some objects.new) }
-    ensures refused { IfErr result (λ why. IsLineRefused (table_of record_meaning range_meaning ops.now) why objects.old (line_of line.now)) }
+    ensures refused { IfErr result (λ why. IsLineRefused (table_of record_meaning range_meaning ops.now) why objects.old (shown_line line.now)) }
 {
     let Some(op) = operation(&line.words, scratch) else {
         return Err(damaged(line.at));
@@ -167,8 +167,8 @@ fn replay_lines(
 ) -> Result<(), OpenRefused>
     requires scratch { 32768 ≤ length scratch.old }
     requires into { 8192 ≤ length into.old }
-    ensures done { OnOk result (replay (table_of record_meaning range_meaning ops.now) (words_of_all (map line_of lines.now)) (Some objects.old) ≡ Some objects.new) }
-    ensures refused { IfErr result (λ why. IsRefusedBy (table_of record_meaning range_meaning ops.now) why objects.old (map line_of lines.now)) }
+    ensures done { OnOk result (replay (table_of record_meaning range_meaning ops.now) (words_of_all (map shown_line lines.now)) (Some objects.old) ≡ Some objects.new) }
+    ensures refused { IfErr result (λ why. IsRefusedBy (table_of record_meaning range_meaning ops.now) why objects.old (map shown_line lines.now)) }
 {
     for line in lines {
         match replay_line(alloc, ops, objects, line, scratch, into) {

@@ -19,10 +19,10 @@ ghost use Rattle.sg_line_log.specs.Frames.{Numbered, SameElsewhere};
 ghost use Rattle.sg_line_log.specs.Held.{Holds, tail_of, place_of, end_of, appended, durable_after, waiting_after, IsBeforeOrAfter};
 ghost use Rattle.sg_run.specs.Run.{Run};
 ghost use Rattle.sg_journal.specs.Store.{Shows};
-ghost use Rattle.sg_journal.specs.Goes.{Goes, Grows, Heeds, NEW_WORK_END};
+ghost use Rattle.sg_journal.specs.Goes.{Goes, LogGrows, Heeds, NEW_WORK_END};
 ghost use Rattle.sg_journal.specs.Lines.{op_said};
 ghost use Rattle.sg_journal.specs.Live.{opened_without, with_last};
-ghost use Rattle.sg_journal.specs.Shown.{all_opened, undo_of, answer_at, answer_to, stop_at, IsReasonOr};
+ghost use Rattle.sg_journal.specs.Shown.{all_opened, undo_of, answer_for, answer_to, stop_for, IsReasonOr};
 ghost use Rattle.sg_journal.specs.Opening.{Opens, StaysShut};
 ghost use Rattle.sg_journal.specs.Seen.{core_of};
 
@@ -164,9 +164,9 @@ impl<D: Disk> Store<D> {
     // Stops the store at a fault of the log.
     #[inline(never)]
     fn halt(&mut self, fault: LogFault) -> Answer
-        ensures stopped { core_of self.new ≡ record (core_of self.old) { stopped = Some (stop_at fault) } }
+        ensures stopped { core_of self.new ≡ record (core_of self.old) { stopped = Some (stop_for fault) } }
         ensures disk { self.new.disk ≡ self.old.disk }
-        ensures answer { result ≡ answer_at fault }
+        ensures answer { result ≡ answer_for fault }
         ensures log { self.new.log ≡ self.old.log }
     {
         if fault == LogFault::LogEnd {
@@ -183,7 +183,7 @@ impl<D: Disk> Store<D> {
         requires { self.old.stop ≡ None }
         ensures goes { (t : Operations) (into : List ℕ) (was : DiskState) (x : Run) → Shows t D.told was (D.view self.old.disk) (core_of self.old) x
             → Goes t D.told was (D.view self.old.disk) (core_of self.old) x (Of name Begin) (shown_answer into result) (D.view self.new.disk) (core_of self.new) }
-        ensures grown { Grows self.old.log self.new.log (D.view self.old.disk) (D.view self.new.disk) }
+        ensures grown { LogGrows self.old.log self.new.log (D.view self.old.disk) (D.view self.new.disk) }
         ensures later { (D.view self.old.disk).faults ≤ (D.view self.new.disk).faults }
         ensures heeded { Heeds self.old.stop self.new.stop (D.view self.old.disk) (D.view self.new.disk) }
     {
@@ -255,7 +255,7 @@ impl<D: Disk> Store<D> {
         requires { self.old.stop ≡ None }
         ensures goes { (t : Operations) (into : List ℕ) (was : DiskState) (x : Run) → Shows t D.told was (D.view self.old.disk) (core_of self.old) x
             → Goes t D.told was (D.view self.old.disk) (core_of self.old) x (Of name Commit) (shown_answer into result) (D.view self.new.disk) (core_of self.new) }
-        ensures grown { Grows self.old.log self.new.log (D.view self.old.disk) (D.view self.new.disk) }
+        ensures grown { LogGrows self.old.log self.new.log (D.view self.old.disk) (D.view self.new.disk) }
         ensures later { (D.view self.old.disk).faults ≤ (D.view self.new.disk).faults }
         ensures heeded { Heeds self.old.stop self.new.stop (D.view self.old.disk) (D.view self.new.disk) }
     {
@@ -305,7 +305,7 @@ impl<D: Disk> Store<D> {
         ensures any_moment { (ds ps : List Numbered) → IsTrue D.told → Holds (D.view self.old.disk) self.old.log ds ps →
             LeavesOnly (D.view self.old.disk) (D.view self.new.disk) (IsBeforeOrAfter (D.view self.old.disk).now self.old.log ds ps) }
         ensures elsewhere { IsTrue D.told → OnOk result (SameElsewhere self.old.log.area (D.view self.old.disk).now (D.view self.new.disk).now) }
-        ensures grown { Grows self.old.log self.new.log (D.view self.old.disk) (D.view self.new.disk) }
+        ensures grown { LogGrows self.old.log self.new.log (D.view self.old.disk) (D.view self.new.disk) }
         ensures later { (D.view self.old.disk).faults ≤ (D.view self.new.disk).faults }
         ensures heeded { HeedsFaults result (D.view self.old.disk) (D.view self.new.disk) }
         ensures stop { self.new.stop ≡ self.old.stop }
@@ -343,7 +343,7 @@ impl<D: Disk> Store<D> {
         requires into { 8192 ≤ length into.old }
         ensures goes { (was : DiskState) (x : Run) → Shows (table_of record_meaning range_meaning ops.now) D.told was (D.view self.old.disk) (core_of self.old) x
             → Goes (table_of record_meaning range_meaning ops.now) D.told was (D.view self.old.disk) (core_of self.old) x (Of name (Do (said_op op.now))) (shown_answer into.new result) (D.view self.new.disk) (core_of self.new) }
-        ensures grown { Grows self.old.log self.new.log (D.view self.old.disk) (D.view self.new.disk) }
+        ensures grown { LogGrows self.old.log self.new.log (D.view self.old.disk) (D.view self.new.disk) }
         ensures later { (D.view self.old.disk).faults ≤ (D.view self.new.disk).faults }
         ensures heeded { Heeds self.old.stop self.new.stop (D.view self.old.disk) (D.view self.new.disk) }
     {
@@ -441,7 +441,7 @@ impl<D: Disk> Store<D> {
         ensures stopped { IsSome self.old.stop → self.new ≡ self.old }
         ensures goes { (was : DiskState) (x : Run) → Shows (table_of record_meaning range_meaning ops.now) D.told was (D.view self.old.disk) (core_of self.old) x
             → Goes (table_of record_meaning range_meaning ops.now) D.told was (D.view self.old.disk) (core_of self.old) x (asked text.now) (shown_answer into.new result) (D.view self.new.disk) (core_of self.new) }
-        ensures grown { Grows self.old.log self.new.log (D.view self.old.disk) (D.view self.new.disk) }
+        ensures grown { LogGrows self.old.log self.new.log (D.view self.old.disk) (D.view self.new.disk) }
         ensures later { (D.view self.old.disk).faults ≤ (D.view self.new.disk).faults }
         // where the disk fails, the store stops
         ensures heeded { Heeds self.old.stop self.new.stop (D.view self.old.disk) (D.view self.new.disk) }

@@ -5,25 +5,25 @@ use Rattle.sg_top.specs.declared.status.Status.{Status}
 use Rattle.sg_top.specs.declared.status.Status.TheVariants.{Done, Usage, Memory, Disk, Read, Write, TooLong, Damaged, LogEnd}
 
 -- the exit status of the process
-abbrev pub number_of : Status → ℕ
-number_of Done = 0
-number_of Usage = 2
-number_of Memory = 3
-number_of Disk = 4
-number_of Read = 5
-number_of Write = 6
-number_of TooLong = 7
-number_of (Damaged area at) = 9
-number_of LogEnd = 12
+abbrev pub number_of_status : Status → ℕ
+number_of_status Done = 0
+number_of_status Usage = 2
+number_of_status Memory = 3
+number_of_status Disk = 4
+number_of_status Read = 5
+number_of_status Write = 6
+number_of_status TooLong = 7
+number_of_status (Damaged area at) = 9
+number_of_status LogEnd = 12
 
 -- what is printed behind the program's name, and nothing where all was done
-abbrev pub text_of : Status → List ℕ
-text_of Done = []
-text_of Usage = codes "usage"
-text_of Memory = codes "out of memory"
-text_of Disk = codes "disk fault"
-text_of Read = codes "read fault"
-text_of Write = codes "write fault"
-text_of TooLong = codes "script too long"
-text_of (Damaged area at) = codes "damaged " ++ name_of area ++ codes " " ++ decimal at
-text_of LogEnd = codes "log end"
+abbrev pub text_of_status : Status → List ℕ
+text_of_status Done = []
+text_of_status Usage = codes "usage"
+text_of_status Memory = codes "out of memory"
+text_of_status Disk = codes "disk fault"
+text_of_status Read = codes "read fault"
+text_of_status Write = codes "write fault"
+text_of_status TooLong = codes "script too long"
+text_of_status (Damaged area at) = codes "damaged " ++ name_of area ++ codes " " ++ decimal at
+text_of_status LogEnd = codes "log end"

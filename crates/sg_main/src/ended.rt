@@ -1,9 +1,11 @@
-ghost use Rattle.std.specs.Prelude.{◌≡◌, ◌≢◌, ◌↔◌, ℕ, true, false};
+ghost use Rattle.std.specs.Prelude.{◌≡◌, ◌≢◌, ◌↔◌, true, false};
 ghost use Rattle.std.specs.IoError.{error_kind};
 ghost use Rattle.std.specs.Process.{exit_status};
+ghost use Rattle.sg_disk.specs.Disk.{Spent};
 ghost use Rattle.sg_ops.specs.Table.{shipped_table, table_of};
-ghost use Rattle.sg_top.specs.Top.{are_run, outside, HasGone};
-ghost use Rattle.sg_main.specs.Texts.{number_of};
+ghost use Rattle.sg_top.specs.Words.{are_run, stop_after};
+ghost use Rattle.sg_top.specs.Top.{outside, Account};
+ghost use Rattle.sg_main.specs.Texts.{number_of_status};
 
 use crate::status::{Shown, exit_number};
 use sg_base::{Sink, Source};
@@ -32,55 +34,76 @@ impl Model for Ended {
 }
 
 impl Ended {
-    /// Does what the words say over this disk, with the shipped operations, and keeps how `stasis` ended.
-    /// Without the memory for these no run begins.
-    pub fn of_run<D: Disk + Drop, S: Source, K: Sink>(
+    /// Does what the words say over this disk, with the shipped operations, and answers how it ended beside
+    /// all that `stasis` left. Without the memory for these no run begins.
+    pub fn of_run<D: Disk, S: Source, K: Sink>(
         alloc: Global,
         words: &[String],
         disk: D,
         script: &mut S,
         out: &mut K,
-    ) -> Ended
-        ensures usage { result ≡ Status.Usage ↔ are_run words.now ≡ false }
-        // Some disk was left, and so many calls of it were refused.
-        ensures run { are_run words.now ≡ true → (after : D) × (refused : ℕ) × HasGone shipped_table D.told (outside (D.view disk) (S.left script.old) (S.faults script.old) (K.taken out.old) (K.faults out.old))
-            (outside (D.view after) (S.left script.new) (S.faults script.new) (K.taken out.new) (K.faults out.new)) refused result }
+    ) -> (Ended, Finish<D>)
+        ensures ended { result.0 ≡ result.1.status }
+        ensures usage { result.1.status ≡ Status.Usage ↔ are_run words.now ≡ false }
+        ensures unused { are_run words.now ≡ false → (result.1.disk ≡ disk) × (result.1.refused ≡ 0) × (script.new ≡ script.old) × (out.new ≡ out.old) }
+        // All that `stasis` says, of the very disk that it left.
+        ensures run { are_run words.now ≡ true → Account shipped_table D.told (outside (D.view disk) (S.left script.old) (S.faults script.old) (K.taken out.old) (K.faults out.old))
+            (outside (D.view result.1.disk) (S.left script.new) (S.faults script.new) (K.taken out.new) (K.faults out.new)) result.1.refused result.1.status }
+        ensures heeded { (result.1.status ≡ Status.Disk → ⊥) → ((D.view result.1.disk).faults ≡ (D.view disk).faults) × (result.1.refused ≡ 0) }
+        ensures spent { Spent (stop_after words.now) (D.view disk).calls (D.view result.1.disk).calls result.1.refused }
     {
         match Ops::shipped(alloc) {
             Ok(ops) => Ended::of_shipped(alloc, ops, words, disk, script, out),
-            Err(_) => Ended::without_memory(words),
+            Err(_) => Ended::beside(Ended::without_memory(words, disk)),
         }
     }
 
     // The same with operations that are the shipped ones.
-    fn of_shipped<D: Disk + Drop, S: Source, K: Sink>(
+    fn of_shipped<D: Disk, S: Source, K: Sink>(
         alloc: Global,
         ops: Ops,
         words: &[String],
         disk: D,
         script: &mut S,
         out: &mut K,
-    ) -> Ended
+    ) -> (Ended, Finish<D>)
         requires shipped { table_of record_meaning range_meaning ops ≡ shipped_table }
-        ensures usage { result ≡ Status.Usage ↔ are_run words.now ≡ false }
-        ensures run { are_run words.now ≡ true → (after : D) × (refused : ℕ) × HasGone shipped_table D.told (outside (D.view disk) (S.left script.old) (S.faults script.old) (K.taken out.old) (K.faults out.old))
-            (outside (D.view after) (S.left script.new) (S.faults script.new) (K.taken out.new) (K.faults out.new)) refused result }
+        ensures ended { result.0 ≡ result.1.status }
+        ensures usage { result.1.status ≡ Status.Usage ↔ are_run words.now ≡ false }
+        ensures unused { are_run words.now ≡ false → (result.1.disk ≡ disk) × (result.1.refused ≡ 0) × (script.new ≡ script.old) × (out.new ≡ out.old) }
+        ensures run { are_run words.now ≡ true → Account shipped_table D.told (outside (D.view disk) (S.left script.old) (S.faults script.old) (K.taken out.old) (K.faults out.old))
+            (outside (D.view result.1.disk) (S.left script.new) (S.faults script.new) (K.taken out.new) (K.faults out.new)) result.1.refused result.1.status }
+        ensures heeded { (result.1.status ≡ Status.Disk → ⊥) → ((D.view result.1.disk).faults ≡ (D.view disk).faults) × (result.1.refused ≡ 0) }
+        ensures spent { Spent (stop_after words.now) (D.view disk).calls (D.view result.1.disk).calls result.1.refused }
     {
-        let Finish { status: ended, .. } = stasis(alloc, ops, words, disk, script, out);
-        Ended { status: ended }
+        Ended::beside(stasis(alloc, ops, words, disk, script, out))
+    }
+
+    // How a command ended, beside what it left.
+    fn beside<D: Disk>(left: Finish<D>) -> (Ended, Finish<D>)
+        ensures ended { result.0 ≡ left.status }
+        ensures left { result.1 ≡ left }
+    {
+        let status = left.status;
+        (Ended { status }, left)
     }
 
     // Where there is no memory for the operations: of a run, or of words that are none.
-    fn without_memory(words: &[String]) -> Ended
-        ensures memory { are_run words.now ≡ true → result ≡ Status.Memory }
-        ensures usage { are_run words.now ≡ false → result ≡ Status.Usage }
+    fn without_memory<D: Disk>(words: &[String], disk: D) -> Finish<D>
+        ensures memory { are_run words.now ≡ true → result.status ≡ Status.Memory }
+        ensures usage { are_run words.now ≡ false → result.status ≡ Status.Usage }
+        ensures same { (result.disk ≡ disk) × (result.refused ≡ 0) }
     {
         let status = if is_run(words) {
             Status::Memory
         } else {
             Status::Usage
         };
-        Ended { status }
+        Finish {
+            status,
+            disk,
+            refused: 0,
+        }
     }
 
     /// Where the words of the process couldn't be had.
@@ -99,7 +122,7 @@ impl Ended {
 impl Termination for Ended {
     /// Says on standard error how the program ended, and answers the number for it.
     fn report<R: Eprint>(self, rt: &R) -> ExitCode
-        ensures { exit_status result ≡ number_of self }
+        ensures { exit_status result ≡ number_of_status self }
     {
         if self.status != Status::Done {
             let text = Shown(self.status);

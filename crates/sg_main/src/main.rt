@@ -8,10 +8,10 @@
 //! name the folder, and which number and text stand for each status.
 #![tactic(auto)]
 
-ghost use Rattle.std.specs.Prelude.{◌≡◌, ◌↔◌, false, map, string_bytes, option_copied};
-ghost use Rattle.sg_top.specs.Top.{are_run};
+ghost use Rattle.std.specs.Prelude.{◌≡◌, ◌↔◌, false, option_copied};
+ghost use Rattle.sg_top.specs.Words.{are_run};
 ghost use Rattle.sg_top.specs.declared.status.Status.TheVariants.{Usage};
-ghost use Rattle.sg_main.specs.Words.{folder_in, are_stop};
+ghost use Rattle.sg_main.specs.Words.{folder_in};
 
 mod ended;
 mod status;
@@ -19,6 +19,7 @@ mod status;
 use crate::ended::Ended;
 use sg_base::{ReadSource, WriteSink};
 use sg_folder::FolderDisk;
+use sg_top::command_of;
 use std::fs::File;
 use std::os::fd::AsRawFd;
 use std::{env, io};
@@ -29,27 +30,12 @@ fn given_words(rt: &HostRuntime) -> io::Result<Vec<String>> {
     Ok(words)
 }
 
-// Whether the words behind the folder are those of a stop, whatever the number is.
-fn are_stop(rest: &[String]) -> bool
-    ensures { result ≡ are_stop (map string_bytes rest.now) }
-{
-    match rest {
-        [] => true,
-        [option, _] => option.as_str() == "--stop-after",
-        _ => false,
-    }
-}
-
-// The word for the folder, where the words are those of a run, with a stop or without. An empty word
-// names none.
+// The word for the folder, where the words are those of a run. An empty word names none.
 fn folder_of(words: &[String]) -> Option<&str>
-    ensures { option_copied result ≡ folder_in (map string_bytes words.now) }
+    ensures { option_copied result ≡ folder_in words.now }
 {
-    match words {
-        [command, folder, rest @ ..]
-            if command.as_str() == "run" && !folder.as_str().is_empty() && are_stop(rest) => {
-            Some(folder.as_str())
-        }
+    match command_of(words) {
+        Some(command) if !command.folder.is_empty() => Some(command.folder),
         _ => None,
     }
 }
@@ -81,11 +67,13 @@ fn run(rt: &HostRuntime, words: &[String]) -> Ended
     match folder_of(words) {
         Some(path) if streams.is_ok() => {
             let disk = FolderDisk::new(rt, path);
-            Ended::of_run(rt.alloc(), words, disk, &mut script, &mut out)
+            let (ended, _) = Ended::of_run(rt.alloc(), words, disk, &mut script, &mut out);
+            ended
         }
         _ => {
             let disk = FolderDisk::<HostRuntime>::none();
-            Ended::of_run(rt.alloc(), words, disk, &mut script, &mut out)
+            let (ended, _) = Ended::of_run(rt.alloc(), words, disk, &mut script, &mut out);
+            ended
         }
     }
 }

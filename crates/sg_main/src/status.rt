@@ -1,5 +1,5 @@
 ghost use Rattle.std.specs.Prelude.{◌≡◌, Some};
-ghost use Rattle.sg_main.specs.Texts.{number_of, text_of};
+ghost use Rattle.sg_main.specs.Texts.{number_of_status, text_of_status};
 
 use sg_folder::area_name;
 use sg_top::Status;
@@ -11,7 +11,7 @@ pub struct Shown(pub Status);
 
 /// The exit status of the process.
 pub fn exit_number(status: Status) -> u8
-    ensures { result ≡ number_of status }
+    ensures { result ≡ number_of_status status }
 {
     match status {
         Status::Done => 0,
@@ -27,7 +27,7 @@ pub fn exit_number(status: Status) -> u8
 }
 
 impl fmt::Display for Shown {
-    ghost output = { λ shown. Some (text_of shown.0) };
+    ghost output = { λ shown. Some (text_of_status shown.0) };
 
     fn fmt<W: fmt::Write>(&self, f: &mut fmt::Formatter<W>) -> fmt::Result {
         match self.0 {

@@ -5,6 +5,7 @@ pub mod Places
 pub mod Tables
 pub mod Replies
 pub mod Undone
+pub mod Changed
 pub mod Ready
 pub mod Back
 pub mod Hand

@@ -2,11 +2,11 @@ ghost use Rattle.std.specs.Prelude.{◌≡◌, ◌≤◌, ℕ, List, Option, len
 ghost use Rattle.sg_ops.specs.Table.{table_of};
 ghost use Rattle.sg_model.specs.Objects as plain;
 ghost use Rattle.sg_model.specs.SaidOps.{verb_of};
-ghost use Rattle.sg_model.specs.SaidReplies.{said_outcome};
-ghost use Rattle.sg_model.specs.Step.{on, IsInPlace};
-ghost use Rattle.sg_model.specs.Undo.{undo_on, note_of};
+ghost use Rattle.sg_model.specs.Step.{IsInPlace};
+ghost use Rattle.sg_model.specs.Undo.{undo_on};
 ghost use Rattle.sg_plain.specs.Shown.{shown};
 ghost use Rattle.sg_plain.specs.Undone.{undo_in, shown_change};
+ghost use Rattle.sg_plain.specs.Changed.{HasNoted, NotesSame, ChangesObject};
 
 use crate::notes::Notes;
 use crate::object::Object;
@@ -115,11 +115,8 @@ impl Changes {
         requires none { self.old.first ≡ None }
         requires room { 8192 ≤ length into.old }
         requires in_place { IsInPlace (verb_of op.now) }
-        ensures done { IfOk result (λ r. on (table_of record_meaning range_meaning ops.now) (verb_of op.now) (Some (shown object.old)) ≡ (said_outcome into.new r, Some (shown object.new))) }
-        ensures noted { OnOk result ((other : List ℕ) (was : Option plain.Object) → undo_in self.new other was ≡ undo_in self.old other (undo_on other (name.now, note_of (table_of record_meaning range_meaning ops.now) (verb_of op.now) (Some (shown object.old))) was)) }
-        ensures err { OnErr result (shown object.new ≡ shown object.old) }
-        ensures same { OnErr result ((other : List ℕ) (was : Option plain.Object) → undo_in self.new other was ≡ undo_in self.old other was) }
-        ensures cause { OnErr result (IsOk (on (table_of record_meaning range_meaning ops.now) (verb_of op.now) (Some (shown object.old))).0) }
+        ensures { ChangesObject (table_of record_meaning range_meaning ops.now) (verb_of op.now) (shown object.old) (shown object.new) into.new
+            (HasNoted (undo_in self.old) (undo_in self.new) name.now) (NotesSame (undo_in self.old) (undo_in self.new)) result }
     {
         if self.others.has(*name) {
             return self.others.change(name, object, alloc, ops, op, into);
@@ -145,11 +142,8 @@ impl Changes {
     ) -> Result<Result<Reply, Reason>, OutOfMemory>
         requires room { 8192 ≤ length into.old }
         requires in_place { IsInPlace (verb_of op.now) }
-        ensures done { IfOk result (λ r. on (table_of record_meaning range_meaning ops.now) (verb_of op.now) (Some (shown object.old)) ≡ (said_outcome into.new r, Some (shown object.new))) }
-        ensures noted { OnOk result ((other : List ℕ) (was : Option plain.Object) → undo_in self.new other was ≡ undo_in self.old other (undo_on other (name.now, note_of (table_of record_meaning range_meaning ops.now) (verb_of op.now) (Some (shown object.old))) was)) }
-        ensures err { OnErr result (shown object.new ≡ shown object.old) }
-        ensures same { OnErr result ((other : List ℕ) (was : Option plain.Object) → undo_in self.new other was ≡ undo_in self.old other was) }
-        ensures cause { OnErr result (IsOk (on (table_of record_meaning range_meaning ops.now) (verb_of op.now) (Some (shown object.old))).0) }
+        ensures { ChangesObject (table_of record_meaning range_meaning ops.now) (verb_of op.now) (shown object.old) (shown object.new) into.new
+            (HasNoted (undo_in self.old) (undo_in self.new) name.now) (NotesSame (undo_in self.old) (undo_in self.new)) result }
     {
         let Some((first, past)) = &mut self.first else {
             return self.change_new(name, object, alloc, ops, op, into);

@@ -2,11 +2,12 @@ ghost use Rattle.std.specs.Prelude.{◌≡◌, ◌≤◌, ℕ, List, Option, len
 ghost use Rattle.sg_ops.specs.Table.{table_of};
 ghost use Rattle.sg_model.specs.Objects as plain;
 ghost use Rattle.sg_model.specs.SaidOps.{verb_of};
-ghost use Rattle.sg_model.specs.SaidReplies.{said_reply, said_outcome};
+ghost use Rattle.sg_model.specs.SaidReplies.{said_reply};
 ghost use Rattle.sg_model.specs.Step.{on, IsInPlace};
-ghost use Rattle.sg_model.specs.Undo.{undo_on, note_of, note_there};
+ghost use Rattle.sg_model.specs.Undo.{undo_on, note_there};
 ghost use Rattle.sg_plain.specs.Shown.{shown};
 ghost use Rattle.sg_plain.specs.Undone.{before, undo_noted, shown_change};
+ghost use Rattle.sg_plain.specs.Changed.{HasNoted, NotesSame, ChangesObject};
 
 use crate::object::Object;
 use crate::undo::{Change, Past};
@@ -146,11 +147,8 @@ impl Notes {
         requires absent { get (slice_cmp nat_cmp) self.old.map name.now ≡ None }
         requires room { 8192 ≤ length into.old }
         requires in_place { IsInPlace (verb_of op.now) }
-        ensures done { IfOk result (λ r. on (table_of record_meaning range_meaning ops.now) (verb_of op.now) (Some (shown object.old)) ≡ (said_outcome into.new r, Some (shown object.new))) }
-        ensures noted { OnOk result ((other : List ℕ) (was : Option plain.Object) → undo_noted self.new other was ≡ undo_noted self.old other (undo_on other (name.now, note_of (table_of record_meaning range_meaning ops.now) (verb_of op.now) (Some (shown object.old))) was)) }
-        ensures err { OnErr result (shown object.new ≡ shown object.old) }
-        ensures same { OnErr result ((other : List ℕ) (was : Option plain.Object) → undo_noted self.new other was ≡ undo_noted self.old other was) }
-        ensures cause { OnErr result (IsOk (on (table_of record_meaning range_meaning ops.now) (verb_of op.now) (Some (shown object.old))).0) }
+        ensures { ChangesObject (table_of record_meaning range_meaning ops.now) (verb_of op.now) (shown object.old) (shown object.new) into.new
+            (HasNoted (undo_noted self.old) (undo_noted self.new) name.now) (NotesSame (undo_noted self.old) (undo_noted self.new)) result }
     {
         if let Some(reason) = object.refusal(ops, op) {
             return Ok(Err(reason));
@@ -176,11 +174,8 @@ impl Notes {
     ) -> Result<Result<Reply, Reason>, OutOfMemory>
         requires room { 8192 ≤ length into.old }
         requires in_place { IsInPlace (verb_of op.now) }
-        ensures done { IfOk result (λ r. on (table_of record_meaning range_meaning ops.now) (verb_of op.now) (Some (shown object.old)) ≡ (said_outcome into.new r, Some (shown object.new))) }
-        ensures noted { OnOk result ((other : List ℕ) (was : Option plain.Object) → undo_noted self.new other was ≡ undo_noted self.old other (undo_on other (name.now, note_of (table_of record_meaning range_meaning ops.now) (verb_of op.now) (Some (shown object.old))) was)) }
-        ensures err { OnErr result (shown object.new ≡ shown object.old) }
-        ensures same { OnErr result ((other : List ℕ) (was : Option plain.Object) → undo_noted self.new other was ≡ undo_noted self.old other was) }
-        ensures cause { OnErr result (IsOk (on (table_of record_meaning range_meaning ops.now) (verb_of op.now) (Some (shown object.old))).0) }
+        ensures { ChangesObject (table_of record_meaning range_meaning ops.now) (verb_of op.now) (shown object.old) (shown object.new) into.new
+            (HasNoted (undo_noted self.old) (undo_noted self.new) name.now) (NotesSame (undo_noted self.old) (undo_noted self.new)) result }
     {
         match self.map.get_mut(name) {
             None => self.change_first(name, object, alloc, ops, op, into),

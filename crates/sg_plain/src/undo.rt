@@ -4,10 +4,11 @@ ghost use Rattle.sg_model.specs.Objects as plain;
 ghost use Rattle.sg_model.specs.SaidOps.{verb_of};
 ghost use Rattle.sg_model.specs.SaidReplies.{said_reply, said_outcome};
 ghost use Rattle.sg_model.specs.Step.{on, push, IsInPlace};
-ghost use Rattle.sg_model.specs.Undo.{undo, if_replied, note_of, note_there};
+ghost use Rattle.sg_model.specs.Undo.{undo, if_replied, note_there};
 ghost use Rattle.sg_model.specs.Undo.Note.{WasPushed};
 ghost use Rattle.sg_plain.specs.Shown.{shown};
 ghost use Rattle.sg_plain.specs.Undone.{before, shown_change};
+ghost use Rattle.sg_plain.specs.Changed.{HasNotedHere, NotesSameHere, ChangesObject};
 
 use crate::array::Array;
 use crate::object::Object;
@@ -131,11 +132,8 @@ impl Past {
     ) -> Result<Result<Reply, Reason>, OutOfMemory>
         requires room { 8192 ≤ length into.old }
         requires in_place { IsInPlace (verb_of op.now) }
-        ensures done { IfOk result (λ r. on (table_of record_meaning range_meaning ops.now) (verb_of op.now) (Some (shown object.old)) ≡ (said_outcome into.new r, Some (shown object.new))) }
-        ensures noted { OnOk result ((was : Option plain.Object) → before (Some self.new) was ≡ before (Some self.old) (undo (note_of (table_of record_meaning range_meaning ops.now) (verb_of op.now) (Some (shown object.old))) was)) }
-        ensures err { OnErr result (shown object.new ≡ shown object.old) }
-        ensures same { OnErr result ((was : Option plain.Object) → before (Some self.new) was ≡ before (Some self.old) was) }
-        ensures cause { OnErr result (IsOk (on (table_of record_meaning range_meaning ops.now) (verb_of op.now) (Some (shown object.old))).0) }
+        ensures { ChangesObject (table_of record_meaning range_meaning ops.now) (verb_of op.now) (shown object.old) (shown object.new) into.new
+            (HasNotedHere (before (Some self.old)) (before (Some self.new))) (NotesSameHere (before (Some self.old)) (before (Some self.new))) result }
     {
         if let Some(reason) = object.refusal(ops, op) {
             return Ok(Err(reason));
@@ -163,11 +161,8 @@ impl Past {
     ) -> Result<Result<Reply, Reason>, OutOfMemory>
         requires room { 8192 ≤ length into.old }
         requires in_place { IsInPlace (verb_of op.now) }
-        ensures done { IfOk result (λ r. on (table_of record_meaning range_meaning ops.now) (verb_of op.now) (Some (shown object.old)) ≡ (said_outcome into.new r, Some (shown object.new))) }
-        ensures noted { OnOk result ((was : Option plain.Object) → before (Some self.new) was ≡ before (Some self.old) (undo (note_of (table_of record_meaning range_meaning ops.now) (verb_of op.now) (Some (shown object.old))) was)) }
-        ensures err { OnErr result (shown object.new ≡ shown object.old) }
-        ensures same { OnErr result ((was : Option plain.Object) → before (Some self.new) was ≡ before (Some self.old) was) }
-        ensures cause { OnErr result (IsOk (on (table_of record_meaning range_meaning ops.now) (verb_of op.now) (Some (shown object.old))).0) }
+        ensures { ChangesObject (table_of record_meaning range_meaning ops.now) (verb_of op.now) (shown object.old) (shown object.new) into.new
+            (HasNotedHere (before (Some self.old)) (before (Some self.new))) (NotesSameHere (before (Some self.old)) (before (Some self.new))) result }
     {
         if let Op::Push { name: _, value } = *op
             && let Object::Array(array) = object

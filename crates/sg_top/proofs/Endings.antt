@@ -12,7 +12,7 @@ use Rattle.sg_words.specs.Requests.Asked.{Of}
 use Rattle.sg_words.specs.Requests.Request.{Commit}
 use Rattle.sg_words.specs.Answers.{Answer}
 use Rattle.sg_line_log.proofs.Holding.{holds_seen}
-use Rattle.sg_run.specs.Run.{Run, start, Lines, objects_after, committed_objects}
+use Rattle.sg_run.specs.Run.{Run, start, Lines, committed_objects}
 use Rattle.sg_journal.specs.declared.opening.OpenRefused as code_refused
 use Rattle.sg_journal.specs.declared.opening.OpenRefused.TheVariants as refusals
 use Rattle.sg_journal.specs.Stands.{OthersAsIn, StandsFor, StandsForFirst}
@@ -20,15 +20,15 @@ use Rattle.sg_journal.specs.Store.{Core, Runs}
 use Rattle.sg_journal.specs.Opening.{Opens, StaysShut, IsRefusedFor, IsQuietFor, reads_of}
 use Rattle.sg_journal.proofs.Opened.{at_log0}
 use Rattle.sg_journal.proofs.Nothing.{stands_not}
-use Rattle.sg_journal.proofs.Standing.{after_commits, stands_either}
+use Rattle.sg_journal.proofs.Standing.{stands_either}
 use Rattle.sg_top.specs.declared.script.RunEnd as code_end
 use Rattle.sg_top.specs.declared.script.RunEnd.TheVariants as ends
 use Rattle.sg_top.specs.declared.status.Status as code_status
 use Rattle.sg_top.specs.declared.status.Status.TheVariants as statuses
 use Rattle.sg_top.specs.Script.{acknowledged, HasRead, MayBeFull}
-use Rattle.sg_top.specs.Ending.{MOST_BYTES, AreExecuted, HasCause, TookBy, RunsTo}
+use Rattle.sg_top.specs.Ending.{MOST_BYTES, AreExecuted, IsHeard, HasCause, RunsTo}
 use Rattle.sg_top.specs.Statuses.{status_of, status_of_end, status_of_stop, status_of_refusal, first_fault}
-use Rattle.sg_top.specs.Top.{Outside, at_first, at_end, Course, IsHeard, Ran, NeverRan, HasGone, Tells, IsUnhindered, Completes}
+use Rattle.sg_top.specs.Top.{Outside, at_first, at_end, Course, Ran, NeverRan, HasGone, Tells, IsUnhindered, Completes, Account}
 use Rattle.sg_top.proofs.Lines.{all_caused-weaker}
 use Rattle.sg_top.proofs.Acknowledged.{all_but_one, all_but_last, StopCause, stop_cause}
 use Rattle.sg_top.proofs.Rooms.{alone}
@@ -64,39 +64,25 @@ ended_memory ends.TooLong None h = cc h
 ended_memory end (Some stops.Disk) h = cc h
 ended_memory end (Some stops.LogEnd) h = cc h
 
--- where all commits were answered, an image stands for the objects after all of them
-all_stand : (t : Operations) (was : disk.State) (x : Run) (c : disk.Image) → x.so_far.answered ≡ length x.so_far.commits → StandsForFirst t was x.so_far.answered x c → StandsFor t c (committed_objects t x)
-all_stand t was x c all h =
-    let whole : h.commits ≡ length x.so_far.commits = omega (arith, h.enough, h.most, all) in
-    subst (StandsFor t c) (ap (λ (n : ℕ). objects_after t n x) whole ∙ after_commits t x) h.stands
-
--- and so does what reads give
+-- what reads give stands for the objects after all commits, where all were answered
 read_stands : (t : Operations) (told : Bool) (was : disk.State) (w : disk.View) (k : Core) (x : Run) → Runs t told was w k x → IsTrue told → StandsFor t (reads_of w) (committed_objects t x)
 read_stands t told was w k x r is_told =
     let kept = r.keeps is_told in
     stands_either kept r.sound (reads_of w) (inl (at_log0 t w k.log (kept.old ++ kept.new) r.area r.base (holds_seen kept.holds)))
 
--- the answers that the sink took whole
-heard_of : (end : code_end.RunEnd) (first now : Option (List ℕ)) (answers : List Answer) → TookBy end first now answers → List Answer
-heard_of ends.Done first now answers took = answers
-heard_of ends.Read first now answers took = answers
-heard_of ends.TooLong first now answers took = answers
-heard_of ends.Write first now answers took = took.told
+-- all commits but one were acknowledged
+heard_bound : (t : Operations) (end : code_end.RunEnd) (first now : Option (List ℕ)) (lines : List (List ℕ)) (answers heard : List Answer) (x y : Run) → Lines t x lines answers y → IsHeard end first now answers heard
+    → length y.so_far.commits ≤ length x.so_far.commits + acknowledged lines heard + 1
+heard_bound t end first now lines answers heard x y h took = by_end end took
+  where
+    whole : heard ≡ answers → length y.so_far.commits ≤ length x.so_far.commits + acknowledged lines heard + 1
+    whole same = subst (λ (told : List Answer). length y.so_far.commits ≤ length x.so_far.commits + acknowledged lines told + 1) (sym same) (all_but_one t lines answers x y h)
 
-is_heard : (end : code_end.RunEnd) (first now : Option (List ℕ)) (answers : List Answer) (took : TookBy end first now answers) → IsHeard end first now answers (heard_of end first now answers took)
-unfolding heard_of
-is_heard ends.Done first now answers took = (refl, took)
-is_heard ends.Read first now answers took = (refl, took)
-is_heard ends.TooLong first now answers took = (refl, took)
-is_heard ends.Write first now answers took = (took, refl)
-
-heard_bound : (t : Operations) (end : code_end.RunEnd) (first now : Option (List ℕ)) (lines : List (List ℕ)) (answers : List Answer) (x y : Run) → Lines t x lines answers y → (took : TookBy end first now answers)
-    → length y.so_far.commits ≤ length x.so_far.commits + acknowledged lines (heard_of end first now answers took) + 1
-unfolding heard_of
-heard_bound t ends.Done first now lines answers x y h took = all_but_one t lines answers x y h
-heard_bound t ends.Read first now lines answers x y h took = all_but_one t lines answers x y h
-heard_bound t ends.TooLong first now lines answers x y h took = all_but_one t lines answers x y h
-heard_bound t ends.Write first now lines answers x y h took = all_but_last t lines took.told took.last x y (subst (λ (a : List Answer). Lines t x lines a y) took.all h)
+    by_end : (e : code_end.RunEnd) → IsHeard e first now answers heard → length y.so_far.commits ≤ length x.so_far.commits + acknowledged lines heard + 1
+    by_end ends.Done took = whole took.0
+    by_end ends.Read took = whole took.0
+    by_end ends.TooLong took = whole took.0
+    by_end ends.Write took = all_but_last t lines heard took.last x y (subst (λ (a : List Answer). Lines t x lines a y) took.all h)
 
 -- an image of the opening, as a prefix of the run's commits
 opening_stands : (t : Operations) (was : disk.State) (first : Objects) (y : Run) (c : disk.Image) → y.so_far.first ≡ first → StandsFor t c first × OthersAsIn was c → StandsForFirst t was 0 y c
@@ -118,7 +104,7 @@ module _ (t : Operations) (told : Bool) (old new : Outside) (refused : ℕ) (sta
         text = runs.text;
         lines = runs.lines;
         answers = done.answers;
-        heard = heard_of end old.taken new.taken done.answers done.took;
+        heard = done.heard;
         after = after;
       } in
       record {
@@ -130,30 +116,27 @@ module _ (t : Operations) (told : Bool) (old new : Outside) (refused : ℕ) (sta
           executed = runs.ended;
           ended = cause;
           goes = done.goes;
-          took = is_heard end old.taken new.taken done.answers done.took;
+          took = done.took;
           gate = opens.gate;
           caused = all_caused-weaker (HasRisen u.faults (at_end new refused).faults) (HasRisen (at_first old).faults (at_end new refused).faults) (MayBeFull k.log.gate u (at_end new refused)) (MayBeFull k.log.gate (at_first old) (at_end new refused)) runs.lines done.answers risen handed done.caused;
         };
         exit = record {
           images = done.shows.images;
-          one_more = omega (arith, heard_bound t end old.taken new.taken runs.lines done.answers (start opens.first) after done.goes done.took);
+          one_more = omega (arith, heard_bound t end old.taken new.taken runs.lines done.answers done.heard (start opens.first) after done.goes done.took);
         };
         moments = λ is_told.
             let opening = opens.moments is_told in
             record {
-              one_call = opening.one_call;
-              before = opening.before;
+              until = opening.until;
               behind = moments.joined (moments.weaker opening.behind (λ c h. opening_stands t old.disk.now opens.first after c done.first h)) (done.moments is_told);
             };
         done = λ is.
             let e = ended_done end m.stopped (sym status_is ∙ is) in
             let running = done.shows.runs (sym done.shows.stopped ∙ e.1) in
             record {
-              executed = subst (λ (z : code_end.RunEnd). AreExecuted z old.left runs.text runs.lines) e.0 runs.ended;
-              took = subst (λ (z : code_end.RunEnd). TookBy z old.taken new.taken done.answers) e.0 done.took;
+              ended = e.0;
               answered = running.answered;
               reads = read_stands t told old.disk.now (at_end new refused) m after running;
-              images = λ is_told c leaves. all_stand t old.disk.now after c running.answered (done.shows.images is_told c leaves);
             };
         serial = throughout t run;
         status_is = status_is ∙ ap (status_of end) done.shows.stopped;
@@ -172,11 +155,7 @@ pub never_of : (t : Operations) (told : Bool) (old new : Outside) (refused : ℕ
 never_of t told old new refused status why unread unwritten quiet is shut = record {
   why = why;
   reason = shut.reason;
-  unread = unread;
-  unwritten = unwritten;
-  quiet = quiet;
-  unhanded = shut.handed;
-  moments = shut.alone;
+  untouched = record { unread = unread; unwritten = unwritten; quiet = quiet; unhanded = shut.handed; alone = shut.alone };
   status_is = is;
 }
 
@@ -185,11 +164,7 @@ pub never_began : (t : Operations) (told : Bool) (old : Outside) → NeverRan t 
 never_began t told old = record {
   why = refusals.Memory;
   reason = tt;
-  unread = refl;
-  unwritten = refl;
-  quiet = (refl, refl);
-  unhanded = refl;
-  moments = λ is_told. alone t (at_first old);
+  untouched = record { unread = refl; unwritten = refl; quiet = (refl, refl); unhanded = refl; alone = λ is_told. alone t (at_first old) };
   status_is = refl;
 }
 
@@ -208,7 +183,7 @@ tells_never t told old new refused status h = subst (λ (s : code_status.Status)
   where
     by_why : (why : code_refused.OpenRefused) → IsRefusedFor t why told (at_first old) (at_end new refused) → Tells (status_of_refusal why) t told old new refused
     by_why refusals.DiskFault r = risen_or_refused old.disk.faults new.disk.faults refused r
-    by_why refusals.Memory r = (h.unread, h.unwritten)
+    by_why refusals.Memory r = (h.untouched.unread, h.untouched.unwritten)
     by_why (refusals.Damaged area at) r = (r.0, λ is_told. (r.1 is_told, λ s stand. stands_not t (reads_of old.disk) s at stand (r.1 is_told)))
 
 tells_ran : (t : Operations) (told : Bool) (old new : Outside) (refused : ℕ) (status : code_status.Status) → Ran t told old new refused status → Tells status t told old new refused
@@ -238,20 +213,28 @@ pub never_usage : (t : Operations) (told : Bool) (old new : Outside) (refused : 
 never_usage t told old new refused status gone is = subst (λ (s : code_status.Status). Tells s t told old new refused) is (tells_of t told old new refused status gone)
 
 -- and so does how one ends that nothing hinders
-pub completes_of : (t : Operations) (told : Bool) (old new : Outside) (refused : ℕ) (status : code_status.Status) → HasGone t told old new refused status → IsUnhindered t told old new refused → Completes status t told old new refused
+pub completes_of : (t : Operations) (told : Bool) (old new : Outside) (refused : ℕ) (status : code_status.Status) → HasGone t told old new refused status → IsUnhindered t told old new refused → Completes t told old new refused status
 completes_of t told old new refused status gone u = by_status status gone (tells_of t told old new refused status gone)
   where
-    by_status : (s : code_status.Status) → HasGone t told old new refused s → Tells s t told old new refused → Completes s t told old new refused
-    by_status statuses.Done h t = tt
-    by_status statuses.Usage h t = t
-    by_status statuses.Memory (inl never) t = (never.unread, never.unwritten, never.unhanded, never.moments)
+    by_status : (s : code_status.Status) → HasGone t told old new refused s → Tells s t told old new refused → Completes t told old new refused s
+    by_status statuses.Done h t = inl refl
+    by_status statuses.Usage h t = absurd t
+    by_status statuses.Memory (inl never) t = inr (inl (refl, never.untouched))
     by_status statuses.Memory (inr ran) t = absurd (ended_memory ran.run.end ran.run.after.stopped (sym ran.status_is))
-    by_status statuses.Disk h t = ⊎_elim u.disk (λ some. omega (arith, some, u.passed)) t
-    by_status statuses.Read h t = u.source t
-    by_status statuses.Write h t = u.sink t
-    by_status statuses.TooLong h t = let long = subst (λ (o : Option (List ℕ)). IfSome o (λ text. MOST_BYTES < length text)) u.script t in omega (arith, long, u.short)
-    by_status (statuses.Damaged area at) h t = (t.1 u.is_told).1 u.objects u.stands
-    by_status statuses.LogEnd h t = t
+    by_status statuses.Disk h t = absurd (⊎_elim u.disk (λ some. omega (arith, some, u.passed)) t)
+    by_status statuses.Read h t = absurd (u.source t)
+    by_status statuses.Write h t = absurd (u.sink t)
+    by_status statuses.TooLong h t = let long = subst (λ (o : Option (List ℕ)). IfSome o (λ text. MOST_BYTES < length text)) u.script t in absurd (omega (arith, long, u.short))
+    by_status (statuses.Damaged area at) h t = absurd ((t.1 u.is_told).1 u.objects u.stands)
+    by_status statuses.LogEnd h t = inr (inr (refl, t))
+
+-- the account of a run by how it went
+pub account_of : (t : Operations) (told : Bool) (old new : Outside) (refused : ℕ) (status : code_status.Status) → HasGone t told old new refused status → Account t told old new refused status
+account_of t told old new refused status gone = record {
+  gone = gone;
+  tells = tells_of t told old new refused status gone;
+  completes = completes_of t told old new refused status gone;
+}
 
 -- where the count behind a fuse didn't rise, neither did that of the disk inside, and no call was refused
 unspent : (before now r : ℕ) → now + r ≡ before + 0 → before ≤ now → (now ≡ before) × (r ≡ 0)

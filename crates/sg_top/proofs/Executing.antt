@@ -18,7 +18,7 @@ use Rattle.sg_model.specs.Step.{step}
 use Rattle.sg_words.specs.Requests.{Asked, Request, asked}
 use Rattle.sg_words.specs.Requests.Asked.{Blank, Wrong, Of}
 use Rattle.sg_words.specs.Requests.Request.{Begin, Commit, Abort, Do}
-use Rattle.sg_words.specs.Answers.{Answer, text_of, text_of_all}
+use Rattle.sg_words.specs.Answers.{Answer, text_of_answer}
 use Rattle.sg_words.specs.Answers.Answer.{Silent, BadSyntax, Stopped, NoTransaction, IsLive, TooManyLive, Busy, LocksFull, Refused, LogEnd, Memory, Disk, Said}
 use Rattle.sg_record.specs.Plain.{Record}
 use Rattle.sg_record.specs.Plain.Record.{Commit as CommitRecord}
@@ -29,7 +29,7 @@ use Rattle.sg_run.specs.Run.{Event, Run, MOST_LIVE, MOST_HELD, live_named, live_
 use Rattle.sg_journal.specs.Live.{Opened, opened_named}
 use Rattle.sg_journal.specs.Stands.{StandsFor, StandsForFirst}
 use Rattle.sg_journal.specs.Store.{Core, Shows}
-use Rattle.sg_journal.specs.Goes.{Goes, Grows, IsFull}
+use Rattle.sg_journal.specs.Goes.{Goes, LogGrows, IsFull}
 use Rattle.sg_journal.proofs.Steps.{none_of}
 use Rattle.sg_journal.proofs.Tails.{commit-length}
 use Rattle.sg_top.specs.Script.{Executed, MayBeFull, end_for, reach_of, TookAll, CutAtLast}
@@ -209,9 +209,10 @@ module _ (t : Operations) (told : Bool) (was : disk.State) where
   near_full v k x y line (Said reply) R shows goes h = tt
 
   -- before the first line
-  pub executed-none : (v : disk.View) (k : Core) (x : Run) (Took : List Answer → Type 0) → Took [] → Shows t told was v k x → Executed t told was v k x [] Took v k
+  pub executed-none : (v : disk.View) (k : Core) (x : Run) (Took : List Answer → List Answer → Type 0) → Took [] [] → Shows t told was v k x → Executed t told was v k x [] Took v k
   executed-none v k x Took nothing shows = record {
     answers = [];
+    heard = [];
     after = x;
     goes = refl;
     first = refl;
@@ -223,16 +224,18 @@ module _ (t : Operations) (told : Bool) (was : disk.State) where
   }
 
   -- one line more
-  pub executed-more : (v : disk.View) (k : Core) (x : Run) (lines : List (List ℕ)) (Before After : List Answer → Type 0) (w u : disk.View) (m n : Core) (line : List ℕ) (answer : Answer)
-      → v.faults ≤ w.faults → w.faults ≤ u.faults → Grows k.log m.log v w → w.handed ≤ u.handed
-      → (e : Executed t told was v k x lines Before w m) → Goes t told was w m e.after (asked line) answer u n → ((answers : List Answer) → Before answers → After (answers ++ answer ∷ [])) → Executed t told was v k x (lines ++ line ∷ []) After u n
+  pub executed-more : (v : disk.View) (k : Core) (x : Run) (lines : List (List ℕ)) (Before After : List Answer → List Answer → Type 0) (w u : disk.View) (m n : Core) (line : List ℕ) (answer : Answer)
+      → v.faults ≤ w.faults → w.faults ≤ u.faults → LogGrows k.log m.log v w → w.handed ≤ u.handed
+      → (e : Executed t told was v k x lines Before w m) → Goes t told was w m e.after (asked line) answer u n → ((answers heard : List Answer) → Before answers heard → (more : List Answer) × After (answers ++ answer ∷ []) more) → Executed t told was v k x (lines ++ line ∷ []) After u n
   executed-more v k x lines Before After w u m n line answer later more_later grows kept e h takes =
       let ext : Extends e.after h.after = extends_line t e.after h.after (asked line) answer e.shows.answered h.line_goes in
       let near = near_full w m e.after h.after (asked line) answer (HasRisen w.faults u.faults) e.shows h.line_goes h.caused in
       let risen_on : HasRisen v.faults w.faults → HasRisen v.faults u.faults = λ risen room. omega (arith, risen (omega (arith, room, more_later)), more_later) in
       let risen_here : HasRisen w.faults u.faults → HasRisen v.faults u.faults = λ risen room. omega (arith, risen room, later) in
+      let hears = takes e.answers e.heard e.took in
       record {
         answers = e.answers ++ answer ∷ [];
+        heard = hears.0;
         after = h.after;
         goes = Lines-more t x lines e.answers e.after line answer h.after e.goes h.line_goes;
         first = ext.first ∙ e.first;
@@ -241,7 +244,7 @@ module _ (t : Operations) (told : Bool) (was : disk.State) where
             (all_caused-weaker (HasRisen v.faults w.faults) (HasRisen v.faults u.faults) (MayBeFull k.log.gate v w) (MayBeFull k.log.gate v u) lines e.answers risen_on fuller e.caused)
             (caused-weaker (HasRisen w.faults u.faults) (HasRisen v.faults u.faults) (IsNear m.log.gate) (MayBeFull k.log.gate v u) (asked line) answer risen_here full_here near);
         shows = h.shows;
-        took = takes e.answers e.took;
+        took = hears.1;
         moments = λ is_told. moments.joined
             (moments.weaker (e.moments is_told) (λ c. first_along t was e.after h.after x.so_far.answered c ext))
             (moments.weaker (h.moments is_told) (λ c. fewer t was h.after x.so_far.answered e.after.so_far.answered c e.answered));
@@ -255,8 +258,8 @@ module _ (t : Operations) (told : Bool) (was : disk.State) where
       full_here l high = ⊎_elim (λ counted. inl (omega (arith, counted, kept))) (λ grown. inr (omega (arith, high, grown, kept))) grows.grown
 
 -- what the sink took so far, and of the next reply
-pub takes_more : (before mid now : Option (List ℕ)) (answer : Answer) → Takes mid (text_of answer) now → (answers : List Answer) → Takes before (text_of_all answers) mid → Takes before (text_of_all (answers ++ answer ∷ [])) now
-takes_more before mid now answer takes answers took = told-more before answers mid answer now took takes
+pub takes_more : (before mid now : Option (List ℕ)) (answer : Answer) → Takes mid (text_of_answer answer) now → (answers heard : List Answer) → TookAll before mid answers heard → (more : List Answer) × TookAll before now (answers ++ answer ∷ []) more
+takes_more before mid now answer takes answers heard took = (answers ++ answer ∷ [], (refl, told-more before answers mid answer now took.1 takes))
 
-pub takes_cut : (before mid now : Option (List ℕ)) (answer : Answer) → TakesFront mid (text_of answer) now → (answers : List Answer) → TookAll before mid answers → CutAtLast before now (answers ++ answer ∷ [])
-takes_cut before mid now answer takes answers took = record { told = answers; last = answer; all = refl; mid = mid; took = took; cut = takes }
+pub takes_cut : (before mid now : Option (List ℕ)) (answer : Answer) → TakesFront mid (text_of_answer answer) now → (answers heard : List Answer) → TookAll before mid answers heard → (more : List Answer) × CutAtLast before now (answers ++ answer ∷ []) more
+takes_cut before mid now answer takes answers heard took = (answers, record { last = answer; all = refl; mid = mid; took = took.1; cut = takes })

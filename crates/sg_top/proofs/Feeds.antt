@@ -12,13 +12,13 @@ use Rattle.sg_words.specs.Parse.{lines_of, words_of, most_line_bytes}
 use Rattle.sg_words.specs.Pieces.{behind}
 use Rattle.sg_words.specs.Requests.{Asked, asked, asked_by}
 use Rattle.sg_words.specs.Requests.Asked.{Blank, Wrong}
-use Rattle.sg_words.specs.Answers.{Answer, text_of}
+use Rattle.sg_words.specs.Answers.{Answer, text_of_answer}
 use Rattle.sg_words.proofs.Steps.{seam, kept}
 use Rattle.sg_words.proofs.Seams.{behind_nothing}
 use Rattle.sg_line_log.specs.Held.{Tail}
 use Rattle.sg_run.specs.Run.{Run}
 use Rattle.sg_journal.specs.Store.{Core}
-use Rattle.sg_journal.specs.Goes.{Goes, Grows}
+use Rattle.sg_journal.specs.Goes.{Goes, LogGrows}
 use Rattle.sg_top.specs.Kept.{MOST_KEPT}
 use Rattle.sg_top.specs.Script.{TookAll, CutAtLast, Executed}
 use Rattle.sg_top.specs.Feeding.{Before, After, Broken}
@@ -59,7 +59,7 @@ answered_as r t told v k Took w m here there e h = subst (λ (line : Asked). OnO
 pub cut_as : {R E : Type 0} (r : Result R E) (t : Operations) (told : Bool) (v : disk.View) (k : Core) (Took : Answer → Type 0) (w : disk.View) (m : Core) (here there : Asked) → here ≡ there → OnErr r (AnswersAll t told v k here Took w m) → OnErr r (AnswersAll t told v k there Took w m)
 cut_as r t told v k Took w m here there e h = subst (λ (line : Asked). OnErr r (AnswersAll t told v k line Took w m)) e h
 
-pub grows_on : (a b c : Tail) (u v w : disk.View) → Grows a b u v → Grows b c v w → Grows a c u w
+pub grows_on : (a b c : Tail) (u v w : disk.View) → LogGrows a b u v → LogGrows b c v w → LogGrows a c u w
 grows_on a b c u v w h k = record { kept = omega (arith, h.kept, k.kept); grown = ⊎_elim (λ full. inl (omega (arith, full, k.kept))) (λ more. ⊎_elim (λ full. inl full) (λ again. inr (omega (arith, more, again, h.kept, k.kept))) k.grown) h.grown }
 
 module _ (t : Operations) (told : Bool) (was : disk.State) (v : disk.View) (k : Core) (x : Run) (lines : List (List ℕ)) (first : Option (List ℕ)) (held piece : List ℕ) where
@@ -82,7 +82,7 @@ module _ (t : Operations) (told : Bool) (was : disk.State) (v : disk.View) (k : 
   -- a line is over in the piece
   pub feed_line : (mid now : Option (List ℕ)) (w u : disk.View) (m n : Core) (had cleared left part after : List ℕ) (answer : Answer)
       → (a : After t told was v k x lines first mid w m held piece left had) → cleared ≡ [] → ((behind_it : List ℕ) → lines_of (left ++ behind_it) ≡ part ∷ lines_of (after ++ behind_it))
-      → w.faults ≤ u.faults → Grows m.log n.log w u → Goes t told was w m a.so_far.executed.after (asked (had ++ part)) answer u n → Takes mid (text_of answer) now → After t told was v k x lines first now u n held piece after cleared
+      → w.faults ≤ u.faults → LogGrows m.log n.log w u → Goes t told was w m a.so_far.executed.after (asked (had ++ part)) answer u n → Takes mid (text_of_answer answer) now → After t told was v k x lines first now u n held piece after cleared
   feed_line mid now w u m n had cleared left part after answer a nothing cut later grown goes takes =
       let line : List ℕ = a.rest ++ part in
       let done = executed-more t told was v k x (lines ++ a.over) _ (TookAll first now) w u m n line answer a.so_far.later later a.so_far.grown grown.kept a.so_far.executed (subst (λ (o : Asked). Goes t told was w m a.so_far.executed.after o answer u n) (sym (said a.rest part had a.so_far.pending)) goes) (takes_more first mid now answer takes) in
@@ -116,7 +116,7 @@ module _ (t : Operations) (told : Bool) (was : disk.State) (v : disk.View) (k : 
   -- the sink fails at the reply of a line
   pub feed_breaks : (mid now : Option (List ℕ)) (w u : disk.View) (m n : Core) (had left part after : List ℕ) (answer : Answer)
       → (a : After t told was v k x lines first mid w m held piece left had) → ((behind_it : List ℕ) → lines_of (left ++ behind_it) ≡ part ∷ lines_of (after ++ behind_it))
-      → w.faults ≤ u.faults → Grows m.log n.log w u → Goes t told was w m a.so_far.executed.after (asked (had ++ part)) answer u n → TakesFront mid (text_of answer) now → Broken t told was v k x lines first now u n held piece
+      → w.faults ≤ u.faults → LogGrows m.log n.log w u → Goes t told was w m a.so_far.executed.after (asked (had ++ part)) answer u n → TakesFront mid (text_of_answer answer) now → Broken t told was v k x lines first now u n held piece
   feed_breaks mid now w u m n had left part after answer a cut later grown goes takes =
       let line : List ℕ = a.rest ++ part in
       let done = executed-more t told was v k x (lines ++ a.over) _ (CutAtLast first now) w u m n line answer a.so_far.later later a.so_far.grown grown.kept a.so_far.executed (subst (λ (o : Asked). Goes t told was w m a.so_far.executed.after o answer u n) (sym (said a.rest part had a.so_far.pending)) goes) (takes_cut first mid now answer takes) in

@@ -4,8 +4,10 @@ pub mod Executing
 pub mod Heeding
 pub mod Fronts
 pub mod Feeds
+pub mod UnderWay
 pub mod Scripts
 pub mod Acknowledged
 pub mod OneLines
 pub mod Endings
+pub mod AllDone
 pub mod Rooms

@@ -3,7 +3,7 @@ use Rattle.std.proofs.Common.{◌≡◌, ℕ, List, [], ◌∷◌, ◌++◌, Opt
 use Rattle.sg_base.specs.Ends.{Takes}
 use Rattle.sg_ops.specs.Table.{Table as Operations}
 use Rattle.sg_words.specs.Requests.{Asked, asked}
-use Rattle.sg_words.specs.Answers.{Answer, text_of, text_of_all}
+use Rattle.sg_words.specs.Answers.{Answer, text_of_answer, text_of_all}
 use Rattle.sg_words.specs.Answers.Answer.{Silent, BadSyntax, Stopped, NoTransaction, IsLive, TooManyLive, Busy, LocksFull, Refused, LogEnd, Memory, Disk, Said}
 use Rattle.sg_words.proofs.Steps.{Takes-more}
 use Rattle.sg_run.specs.Run.{Run, Line, Lines, IsCaused, AreCaused}
@@ -15,13 +15,13 @@ Lines-more t x [] (a ∷ answers) y line answer z ls l = absurd ls
 Lines-more t x (l1 ∷ lines) [] y line answer z ls l = absurd ls
 Lines-more t x (l1 ∷ lines) (a ∷ answers) y line answer z ls l = (ls.0, ls.1, Lines-more t ls.0 lines answers y line answer z ls.2 l)
 
-text-more : (answers : List Answer) (answer : Answer) → text_of_all (answers ++ answer ∷ []) ≡ text_of_all answers ++ text_of answer
-text-more [] answer = append-nil (text_of answer)
-text-more (a ∷ answers) answer = ap (λ (t : List ℕ). text_of a ++ t) (text-more answers answer) ∙ sym (append_assoc (text_of a) (text_of_all answers) (text_of answer))
+text-more : (answers : List Answer) (answer : Answer) → text_of_all (answers ++ answer ∷ []) ≡ text_of_all answers ++ text_of_answer answer
+text-more [] answer = append-nil (text_of_answer answer)
+text-more (a ∷ answers) answer = ap (λ (t : List ℕ). text_of_answer a ++ t) (text-more answers answer) ∙ sym (append_assoc (text_of_answer a) (text_of_all answers) (text_of_answer answer))
 
 -- the replies that a sink took, and one more
-pub told-more : (a : Option (List ℕ)) (answers : List Answer) (b : Option (List ℕ)) (answer : Answer) (c : Option (List ℕ)) → Takes a (text_of_all answers) b → Takes b (text_of answer) c → Takes a (text_of_all (answers ++ answer ∷ [])) c
-told-more a answers b answer c h k = subst (λ (t : List ℕ). Takes a t c) (sym (text-more answers answer)) (Takes-more a (text_of_all answers) b (text_of answer) c h k)
+pub told-more : (a : Option (List ℕ)) (answers : List Answer) (b : Option (List ℕ)) (answer : Answer) (c : Option (List ℕ)) → Takes a (text_of_all answers) b → Takes b (text_of_answer answer) c → Takes a (text_of_all (answers ++ answer ∷ [])) c
+told-more a answers b answer c h k = subst (λ (t : List ℕ). Takes a t c) (sym (text-more answers answer)) (Takes-more a (text_of_all answers) b (text_of_answer answer) c h k)
 
 -- a cause goes on, where what it says goes on
 pub caused-weaker : (R S : Type 0) (F G : Asked → Type 0) (line : Asked) (answer : Answer) → (R → S) → ((l : Asked) → F l → G l) → IsCaused R F line answer → IsCaused S G line answer

@@ -1,5 +1,5 @@
 -- What one line leaves on the disk.
-use Rattle.std.proofs.Common.{◌≡◌, ◌⊎◌, inl, inr, ℕ, ◌+◌, ◌≤◌, nat_le, leb-true, Bool, true, false, cond, IsTrue, List, [], ◌∷◌, ◌++◌, length, take, Option, Some, None, is_some, refl, sym, ap, ◌∙◌, subst, arith, length-append}
+use Rattle.std.proofs.Common.{◌≡◌, ◌⊎◌, inl, inr, ⊎_elim, ℕ, ◌+◌, ◌≤◌, nat_le, leb-true, Bool, true, false, cond, IsTrue, List, [], ◌∷◌, length, take, Option, Some, None, is_some, refl, sym, ap, ◌∙◌, subst, arith, length-append}
 use Rattle.std.specs.Prelude.{nat_lt}
 use Rattle.std.specs.List.{filter}
 use Rattle.std.proofs.lemmas.Bool.Decides.{nat_tests}
@@ -21,7 +21,7 @@ use Rattle.sg_words.specs.Requests.Request.{Begin, Commit, Abort, Do}
 use Rattle.sg_words.specs.Answers.{Answer}
 use Rattle.sg_words.specs.Answers.Answer.{Silent, BadSyntax, Stopped, NoTransaction, IsLive, TooManyLive, Busy, LocksFull, Refused, LogEnd, Memory, Disk, Said}
 use Rattle.sg_run.specs.Answer.{answer_of}
-use Rattle.sg_run.specs.Run.{Event, Run, MOST_LIVE, MOST_HELD, live_named, live_objects, committed_objects, objects_after, began, committed, did, holder_of, held_with, only_locks, lacking, stop_at, broken, full, turn, turn_request, turn_begin, turn_commit, turn_abort, turn_op, turn_held, Turns, LineBy}
+use Rattle.sg_run.specs.Run.{Event, Run, MOST_LIVE, MOST_HELD, live_named, live_objects, committed_objects, objects_after, began, did, holder_of, held_with, only_locks, lacking, stop_at, broken, full, turn, turn_request, turn_begin, turn_commit, turn_abort, turn_op, turn_held, Turns, LineBy}
 use Rattle.sg_journal.specs.Stands.{StandsFor, StandsForFirst}
 use Rattle.sg_journal.specs.Store.{Core, Shows}
 use Rattle.sg_journal.specs.Goes.{Goes}
@@ -144,14 +144,42 @@ module _ (t : Operations) where
   either_line x y line (Refused reason) h = turned x y line (Refused reason) h
   either_line x y line (Said reply) h = turned x y line (Said reply) h
 
-  -- a commit that was done
-  done_commit : (x y : Run) (l : Option Live) → turn_commit t x l ≡ (Said Done, y) → (y.so_far.commits ≡ (with_commit_of x l).so_far.commits) × (y.so_far.answered ≡ length y.so_far.commits)
-  done_commit x y None e = absurd (cc (ap (λ (p : Answer × Run). p.0) e))
-  done_commit x y (Some l) e =
-      let same : committed x l.transaction ≡ y = ap (λ (p : Answer × Run). p.1) e in
-      let commits : y.so_far.commits ≡ x.so_far.commits ++ filter (is_own l.transaction) x.so_far.history ∷ [] = ap (λ (z : Run). z.so_far.commits) (sym same) in
-      let answered : y.so_far.answered ≡ length x.so_far.commits + 1 = ap (λ (z : Run). z.so_far.answered) (sym same) in
-      (commits, omega (arith, answered, ap length commits, length-append x.so_far.commits (filter (is_own l.transaction) x.so_far.history ∷ [])))
+  -- a commit line whose turn it is
+  turned_commit : (x y : Run) (name : List ℕ) (answer : Answer) → x.stopped ≡ None → Turns t x (Of name Commit) answer y → y.so_far.commits ≡ (with_its_commit x (Of name Commit)).so_far.commits
+  turned_commit x y name answer going h = by_live (live_named x.so_far.live name) (sym (going_turn t x h.number name Commit going) ∙ h.turned)
+    where
+      by_live : (l : Option Live) → turn_commit t x l ≡ (answer, y) → y.so_far.commits ≡ (with_commit_of x l).so_far.commits
+      by_live None e = ap (λ (p : Answer × Run). p.1.so_far.commits) (sym e)
+      by_live (Some l) e = ap (λ (p : Answer × Run). p.1.so_far.commits) (sym e)
+
+  no_more : (why : Stop) (x : Run) (l : Option Live) → (stop_at why x l).stopped ≡ None → ⊥
+  no_more why x None e = cc e
+  no_more why x (Some l) e = cc e
+
+  -- one after which the store hasn't stopped has its commit
+  commit_goes : (x y : Run) (name : List ℕ) (answer : Answer) → x.stopped ≡ None → y.stopped ≡ None → LineBy t x (Of name Commit) answer y → y.so_far.commits ≡ (with_its_commit x (Of name Commit)).so_far.commits
+  commit_goes x y name Memory going on h = absurd h.takes
+  commit_goes x y name LogEnd going on h = absurd (no_more stops.LogEnd x (live_named x.so_far.live name) (ap (λ (z : Run). z.stopped) (sym h.after) ∙ on))
+  commit_goes x y name Disk going on h = absurd (no_more stops.Disk x (live_named x.so_far.live name) (ap (λ (z : Run). z.stopped) (sym h.after) ∙ on))
+  commit_goes x y name Silent going on h = turned_commit x y name Silent going h
+  commit_goes x y name BadSyntax going on h = turned_commit x y name BadSyntax going h
+  commit_goes x y name Stopped going on h = turned_commit x y name Stopped going h
+  commit_goes x y name NoTransaction going on h = turned_commit x y name NoTransaction going h
+  commit_goes x y name IsLive going on h = turned_commit x y name IsLive going h
+  commit_goes x y name TooManyLive going on h = turned_commit x y name TooManyLive going h
+  commit_goes x y name (Busy holder) going on h = turned_commit x y name (Busy holder) going h
+  commit_goes x y name LocksFull going on h = turned_commit x y name LocksFull going h
+  commit_goes x y name (Refused reason) going on h = turned_commit x y name (Refused reason) going h
+  commit_goes x y name (Said reply) going on h = turned_commit x y name (Said reply) going h
+
+  -- and so has each line
+  line_goes_on : (x y : Run) (line : Asked) (answer : Answer) → x.stopped ≡ None → y.stopped ≡ None → LineBy t x line answer y → y.so_far.commits ≡ (with_its_commit x line).so_far.commits
+  line_goes_on x y Blank answer going on h = ⊎_elim (λ same. same) (λ same. same) (either_line x y Blank answer h)
+  line_goes_on x y Wrong answer going on h = ⊎_elim (λ same. same) (λ same. same) (either_line x y Wrong answer h)
+  line_goes_on x y (Of name Begin) answer going on h = ⊎_elim (λ same. same) (λ same. same) (either_line x y (Of name Begin) answer h)
+  line_goes_on x y (Of name Commit) answer going on h = commit_goes x y name answer going on h
+  line_goes_on x y (Of name Abort) answer going on h = ⊎_elim (λ same. same) (λ same. same) (either_line x y (Of name Abort) answer h)
+  line_goes_on x y (Of name (Do op)) answer going on h = ⊎_elim (λ same. same) (λ same. same) (either_line x y (Of name (Do op)) answer h)
 
   -- the objects by the first ones and the commits
   same_objects : (x y : Run) → y.so_far.first ≡ x.so_far.first → y.so_far.commits ≡ x.so_far.commits → committed_objects t y ≡ committed_objects t x
@@ -197,18 +225,11 @@ module _ (t : Operations) (told : Bool) (was : disk.State) (v : disk.View) (k : 
           inl (subst (StandsFor t c) (ap (λ (i : ℕ). objects_after t i h.after) here ∙ as_before t x h.after goes_on) s.stands)
       by_commits (inr same) = by_count same (nat_le s.commits (length x.so_far.commits)) refl
 
-  acknowledged_there : IsTrue told → (name : List ℕ) → line ≡ Of name Commit → answer ≡ Said Done → (c : disk.Image) → disk.Leaves w.now c → StandsFor t c (committed_objects t (with_its_commit x line))
-  acknowledged_there is_told name is_commit is_done c leaves =
-      let goes : LineBy t x (Of name Commit) (Said Done) h.after = subst (λ (a : Answer). LineBy t x (Of name Commit) a h.after) is_done (subst (λ (l : Asked). LineBy t x l answer h.after) is_commit h.line_goes) in
-      let done = done_commit t x h.after (live_named x.so_far.live name) (sym (going_turn t x goes.number name Commit going) ∙ goes.turned) in
-      let same : h.after.so_far.commits ≡ (with_its_commit x line).so_far.commits = done.0 ∙ ap (λ (l : Asked). (with_its_commit x l).so_far.commits) (sym is_commit) in
+  own_there : IsTrue told → m.stopped ≡ None → (c : disk.Image) → disk.Leaves w.now c → StandsFor t c (committed_objects t (with_its_commit x line))
+  own_there is_told on c leaves =
+      let still : h.after.stopped ≡ None = sym h.shows.stopped ∙ on in
       let s : StandsForFirst t was h.after.so_far.answered h.after c = h.shows.images is_told c leaves in
-      subst (StandsFor t c) (with_its same) (whole c s.commits (omega (arith, s.enough, s.most, done.1)) s.stands)
+      subst (StandsFor t c) (with_its (line_goes_on t x h.after line answer going still h.line_goes)) (whole c s.commits (omega (arith, s.enough, s.most, (h.shows.runs still).answered)) s.stands)
 
-  pub one_line : IsTrue told → (Took : Answer → Type 0) → Took answer → OneLine t v x line Took w
-  one_line is_told Took took = record {
-    moments = moments.weaker (h.moments is_told) before_or_with;
-    answer = answer;
-    took = took;
-    kept = acknowledged_there is_told;
-  }
+  pub one_line : IsTrue told → OneLine t v x line w m.stopped
+  one_line is_told = record { moments = moments.weaker (h.moments is_told) before_or_with; kept = own_there is_told }

@@ -10,7 +10,7 @@ use Rattle.sg_journal.specs.Opening.{IsLeftAlone, StaysShut}
 pub alone : (t : Operations) (v : disk.View) → IsLeftAlone t v v
 alone t v = record {
   moments = moments.started v (disk.Leaves v.now) (λ c leaves. leaves);
-  settled = inl (record { one_call = omega arith; failed = inl refl });
+  settled = inl (record { calls = omega arith; failed = inl refl });
 }
 
 pub no_room : (t : Operations) (told : Bool) (v : disk.View) → StaysShut t told v v refusals.Memory

@@ -7,17 +7,18 @@ use Rattle.sg_ops.specs.Table.{Table as Operations}
 use Rattle.sg_words.specs.Parse.{lines_of}
 use Rattle.sg_words.specs.Pieces.{behind}
 use Rattle.sg_words.specs.Requests.{Asked, asked}
-use Rattle.sg_words.specs.Answers.{Answer, text_of}
+use Rattle.sg_words.specs.Answers.{Answer, text_of_answer}
 use Rattle.sg_words.proofs.Steps.{Takes-nothing}
 use Rattle.sg_words.proofs.Seams.{behind_nothing}
 use Rattle.sg_run.specs.Run.{Run}
 use Rattle.sg_journal.specs.Store.{Core, Shows}
-use Rattle.sg_journal.specs.Goes.{Goes, Grows}
+use Rattle.sg_journal.specs.Goes.{Goes, LogGrows}
 use Rattle.sg_top.specs.Kept.{MOST_KEPT}
 use Rattle.sg_top.specs.Script.{TookAll, CutAtLast, Executed, HasRead}
-use Rattle.sg_top.specs.Feeding.{Feeds, Breaks}
+use Rattle.sg_top.specs.Feeding.{Feeds, BreaksOff}
 use Rattle.sg_top.specs.declared.script.RunEnd.TheVariants as ends
-use Rattle.sg_top.specs.Ending.{MOST_BYTES, RunsTo, IsUnderWay}
+use Rattle.sg_top.specs.Ending.{MOST_BYTES, RunsTo}
+use Rattle.sg_top.proofs.UnderWay.{IsUnderWay}
 use Rattle.sg_top.proofs.Executing.{executed-none, executed-more, takes_more, takes_cut}
 use Rattle.sg_top.proofs.Feeds.{asked-kept}
 
@@ -49,7 +50,7 @@ module _ (t : Operations) (told : Bool) (was : disk.State) (v : disk.View) (k : 
     rest = [];
     over = λ after. behind_nothing (λ b. b == 10) after;
     before = record {
-      executed = executed-none t told was v k x (TookAll first first) (Takes-nothing first) shows;
+      executed = executed-none t told was v k x (TookAll first first) (refl, Takes-nothing first) shows;
       later = omega arith;
       grown = record { kept = omega arith; grown = inr (omega arith) };
       pending = nothing;
@@ -79,7 +80,7 @@ module _ (t : Operations) (told : Bool) (was : disk.State) (v : disk.View) (k : 
   last_said rest had pending = ap asked (append-nil rest) ∙ (sym (asked-kept rest) ∙ ap asked (sym pending))
 
   pub way_ends : (mid left now next : Option (List ℕ)) (w u : disk.View) (m n : Core) (had into : List ℕ) (total : ℕ) (answer : Answer) → (h : IsUnderWay t told was v k x source mid first now w m had total) → total ≤ MOST_BYTES → 0 < length into → Gives mid into 0 left
-      → w.faults ≤ u.faults → Grows m.log n.log w u → Goes t told was w m h.before.executed.after (asked had) answer u n → Takes now (text_of answer) next → RunsTo ends.Done t told was v k x source left first next u n
+      → w.faults ≤ u.faults → LogGrows m.log n.log w u → Goes t told was w m h.before.executed.after (asked had) answer u n → Takes now (text_of_answer answer) next → RunsTo ends.Done t told was v k x source left first next u n
   way_ends mid left now next w u m n had into total answer h short some given later grown goes takes =
       let ended = HasRead-end source h.text mid into left some h.read given in
       record {
@@ -94,7 +95,7 @@ module _ (t : Operations) (told : Bool) (was : disk.State) (v : disk.View) (k : 
 
   -- the sink fails at it
   pub way_unwritten : (mid left now next : Option (List ℕ)) (w u : disk.View) (m n : Core) (had into : List ℕ) (total : ℕ) (answer : Answer) → (h : IsUnderWay t told was v k x source mid first now w m had total) → total ≤ MOST_BYTES → 0 < length into → Gives mid into 0 left
-      → w.faults ≤ u.faults → Grows m.log n.log w u → Goes t told was w m h.before.executed.after (asked had) answer u n → TakesFront now (text_of answer) next → RunsTo ends.Write t told was v k x source left first next u n
+      → w.faults ≤ u.faults → LogGrows m.log n.log w u → Goes t told was w m h.before.executed.after (asked had) answer u n → TakesFront now (text_of_answer answer) next → RunsTo ends.Write t told was v k x source left first next u n
   way_unwritten mid left now next w u m n had into total answer h short some given later grown goes takes =
       let ended = HasRead-end source h.text mid into left some h.read given in
       record {
@@ -108,7 +109,7 @@ module _ (t : Operations) (told : Bool) (was : disk.State) (v : disk.View) (k : 
 
   -- the sink fails within a piece
   pub way_broken : (mid left now next : Option (List ℕ)) (w u : disk.View) (m n : Core) (had into piece : List ℕ) (total count : ℕ) → (h : IsUnderWay t told was v k x source mid first now w m had total) → total + count ≤ MOST_BYTES → Gives mid into count left → count ≤ length into → piece ≡ take count into
-      → Breaks t told w m u n now next had piece → RunsTo ends.Write t told was v k x source left first next u n
+      → BreaksOff t told w m u n now next had piece → RunsTo ends.Write t told was v k x source left first next u n
   way_broken mid left now next w u m n had into piece total count h short given within is breaks =
       let b = breaks was v k x h.lines first h.rest h.before in
       record {

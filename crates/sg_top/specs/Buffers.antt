@@ -8,4 +8,4 @@ front_of b = take b.len b.bytes
 
 pub record IsFront (b : Inside) : Type 0 where
   pub within : b.len ≤ MOST_KEPT
-  pub full : length b.bytes ≡ MOST_KEPT
+  pub size : length b.bytes ≡ MOST_KEPT

@@ -9,8 +9,7 @@ use Rattle.sg_run.specs.Run.{Run}
 use Rattle.sg_journal.specs.Store.{Core}
 use Rattle.sg_top.specs.declared.script.RunEnd as code_end
 use Rattle.sg_top.specs.declared.script.RunEnd.TheVariants as ends
-use Rattle.sg_top.specs.Script.{AreFirst, TookAll, CutAtLast, Executed, Ends, HasRead}
-use Rattle.sg_top.specs.Feeding.{Before}
+use Rattle.sg_top.specs.Script.{AreFirst, TookAll, CutAtLast, Executed, HasEnded, HasRead}
 
 -- the most bytes of a script
 abbrev pub MOST_BYTES : ℕ
@@ -30,7 +29,7 @@ pub record AreAll (source : Option (List ℕ)) (text : List ℕ) (lines : List (
 pub record AreAllOver (text : List ℕ) (lines : List (List ℕ)) : Type 0 where
   pub short : length text ≤ MOST_BYTES
   pub rest : List ℕ
-  pub over : Ends text lines rest
+  pub over : HasEnded text lines rest
 
 -- with its last piece a text is longer than a script may be, and these lines were over before that
 pub record AreOverBefore (text : List ℕ) (lines : List (List ℕ)) : Type 0 where
@@ -41,7 +40,7 @@ pub record AreOverBefore (text : List ℕ) (lines : List (List ℕ)) : Type 0 wh
   pub long : MOST_BYTES < length text
   pub small : length piece ≤ MOST_OF_PIECE
   pub rest : List ℕ
-  pub over : Ends before lines rest
+  pub over : HasEnded before lines rest
 
 -- the first lines of what was read
 pub record AreSome (source : Option (List ℕ)) (text : List ℕ) (lines : List (List ℕ)) : Type 0 where
@@ -55,12 +54,11 @@ AreExecuted ends.Read source text lines = AreAllOver text lines
 AreExecuted ends.TooLong source text lines = AreOverBefore text lines
 AreExecuted ends.Write source text lines = AreSome source text lines
 
--- what the sink took of the replies: all of them, but for the end of the last one where it failed there
-abbrev pub TookBy : code_end.RunEnd → Option (List ℕ) → Option (List ℕ) → List Answer → Type 0
-TookBy ends.Done first now answers = TookAll first now answers
-TookBy ends.Read first now answers = TookAll first now answers
-TookBy ends.TooLong first now answers = TookAll first now answers
-TookBy ends.Write first now answers = CutAtLast first now answers
+-- which replies the sink took whole, and what of the others: all of them, but for the end of the last one where it failed
+-- there
+abbrev pub IsHeard : code_end.RunEnd → Option (List ℕ) → Option (List ℕ) → (answers heard : List Answer) → Type 0
+IsHeard ends.Write first now answers heard = CutAtLast first now answers heard
+IsHeard end first now answers heard = TookAll first now answers heard
 
 -- A script is left, or replies are, only where the source or the sink failed, which the counts of faults before and now
 -- show. Each other count is as it was
@@ -76,14 +74,4 @@ pub record RunsTo (end : code_end.RunEnd) (t : Operations) (told : Bool) (was : 
   pub read : HasRead source text left
   pub lines : List (List ℕ)
   pub ended : AreExecuted end source text lines
-  pub executed : Executed t told was v k x lines (TookBy end first now) w m
-
--- a run so far: what was read, which lines are over, and what is held of the next
-pub record IsUnderWay (t : Operations) (told : Bool) (was : disk.State) (v : disk.View) (k : Core) (x : Run) (source left first now : Option (List ℕ)) (w : disk.View) (m : Core) (kept : List ℕ) (total : ℕ) : Type 0 where
-  pub text : List ℕ
-  pub read : HasRead source text left
-  pub size : total ≡ length text
-  pub lines : List (List ℕ)
-  pub rest : List ℕ
-  pub over : Ends text lines rest
-  pub before : Before t told was v k x lines first now w m rest kept
+  pub executed : Executed t told was v k x lines (IsHeard end first now) w m

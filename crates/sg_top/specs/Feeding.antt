@@ -6,7 +6,7 @@ use Rattle.sg_words.specs.Parse.{lines_of}
 use Rattle.sg_words.specs.Pieces.{behind}
 use Rattle.sg_run.specs.Run.{Run}
 use Rattle.sg_journal.specs.Store.{Core}
-use Rattle.sg_journal.specs.Goes.{Grows}
+use Rattle.sg_journal.specs.Goes.{LogGrows}
 use Rattle.sg_top.specs.Kept.{MOST_KEPT}
 use Rattle.sg_top.specs.Script.{TookAll, CutAtLast, Executed}
 
@@ -14,7 +14,7 @@ use Rattle.sg_top.specs.Script.{TookAll, CutAtLast, Executed}
 pub record Before (t : Operations) (told : Bool) (was : disk.State) (v : disk.View) (k : Core) (x : Run) (lines : List (List ℕ)) (first now : Option (List ℕ)) (w : disk.View) (m : Core) (held kept : List ℕ) : Type 0 where
   pub executed : Executed t told was v k x lines (TookAll first now) w m
   pub later : v.faults ≤ w.faults
-  pub grown : Grows k.log m.log v w
+  pub grown : LogGrows k.log m.log v w
   -- what is kept of the line that hasn't ended yet
   pub pending : kept ≡ take MOST_KEPT held
 
@@ -35,5 +35,5 @@ pub record Broken (t : Operations) (told : Bool) (was : disk.State) (v : disk.Vi
   pub executed : Executed t told was v k x (lines ++ over) (CutAtLast first now) w m
   pub front : (after : List ℕ) → (more : List (List ℕ)) × (over ++ more ≡ behind held (lines_of (piece ++ after)))
 
-abbrev pub Breaks : Operations → Bool → disk.View → Core → disk.View → Core → Option (List ℕ) → Option (List ℕ) → List ℕ → List ℕ → Type 0
-Breaks t told w m u n mid now had piece = (was : disk.State) (v : disk.View) (k : Core) (x : Run) (lines : List (List ℕ)) (first : Option (List ℕ)) (held : List ℕ) → Before t told was v k x lines first mid w m held had → Broken t told was v k x lines first now u n held piece
+abbrev pub BreaksOff : Operations → Bool → disk.View → Core → disk.View → Core → Option (List ℕ) → Option (List ℕ) → List ℕ → List ℕ → Type 0
+BreaksOff t told w m u n mid now had piece = (was : disk.State) (v : disk.View) (k : Core) (x : Run) (lines : List (List ℕ)) (first : Option (List ℕ)) (held : List ℕ) → Before t told was v k x lines first mid w m held had → Broken t told was v k x lines first now u n held piece

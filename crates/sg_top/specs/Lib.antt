@@ -5,6 +5,8 @@ pub mod Kept
 pub mod Buffers
 pub mod Feeding
 pub mod Ending
+pub mod Words
 pub mod Top
+pub mod Done
 pub mod Statuses
 pub mod OneLine

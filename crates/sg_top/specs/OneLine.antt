@@ -1,14 +1,12 @@
 -- What one line of a session leaves on the disk.
-use Rattle.std.specs.Prelude.{◌≡◌, ◌⊎◌, ℕ, List, Option, Some, None}
+use Rattle.std.specs.Prelude.{◌≡◌, ◌⊎◌, Option, Some, None}
 use Rattle.sg_disk.specs.Disk as disk
 use Rattle.sg_serial.specs.Runs.{Live}
 use Rattle.sg_ops.specs.Table.{Table as Operations}
-use Rattle.sg_model.specs.Verb.Reply.{Done}
+use Rattle.sg_model.specs.declared.stop.Stop.{Stop}
 use Rattle.sg_words.specs.Requests.{Asked}
 use Rattle.sg_words.specs.Requests.Asked.{Of}
 use Rattle.sg_words.specs.Requests.Request.{Commit}
-use Rattle.sg_words.specs.Answers.{Answer}
-use Rattle.sg_words.specs.Answers.Answer.{Said}
 use Rattle.sg_run.specs.Run.{Run, live_named, with_commit, committed_objects}
 use Rattle.sg_journal.specs.Stands.{StandsFor}
 
@@ -23,10 +21,7 @@ with_its_commit x (Of name Commit) = with_commit_of x (live_named x.so_far.live 
 with_its_commit x other = x
 
 -- Each image of each moment in the line stands for the committed objects as they were, or with the line's own commit.
--- The sink took of its answer what Took says, and where that says that a commit was done each image behind the line has
--- it
-pub record OneLine (t : Operations) (v : disk.View) (x : Run) (line : Asked) (Took : Answer → Type 0) (w : disk.View) : Type 0 where
+-- Unless the store has stopped in it, each image behind the line stands for those with its commit
+pub record OneLine (t : Operations) (v : disk.View) (x : Run) (line : Asked) (w : disk.View) (stopped : Option Stop) : Type 0 where
   pub moments : disk.LeavesOnly v w (λ c. StandsFor t c (committed_objects t x) ⊎ StandsFor t c (committed_objects t (with_its_commit x line)))
-  pub answer : Answer
-  pub took : Took answer
-  pub kept : (name : List ℕ) → line ≡ Of name Commit → answer ≡ Said Done → (c : disk.Image) → disk.Leaves w.now c → StandsFor t c (committed_objects t (with_its_commit x line))
+  pub kept : stopped ≡ None → (c : disk.Image) → disk.Leaves w.now c → StandsFor t c (committed_objects t (with_its_commit x line))

@@ -9,7 +9,7 @@ use Rattle.sg_words.specs.Pieces.{behind}
 use Rattle.sg_words.specs.Requests.{Asked, asked}
 use Rattle.sg_words.specs.Requests.Asked.{Of}
 use Rattle.sg_words.specs.Requests.Request.{Commit}
-use Rattle.sg_words.specs.Answers.{Answer, text_of, text_of_all}
+use Rattle.sg_words.specs.Answers.{Answer, text_of_answer, text_of_all}
 use Rattle.sg_words.specs.Answers.Answer.{Said}
 use Rattle.sg_line_log.specs.Frames.{LOG_END}
 use Rattle.sg_run.specs.Run.{Run, Lines, AreCaused}
@@ -43,34 +43,34 @@ acknowledged [] answers = 0
 acknowledged (line ∷ lines) [] = 0
 acknowledged (line ∷ lines) (answer ∷ answers) = acks (asked line) answer + acknowledged lines answers
 
--- the sink took the replies to all lines
-abbrev pub TookAll : Option (List ℕ) → Option (List ℕ) → List Answer → Type 0
-TookAll first now answers = Takes first (text_of_all answers) now
+-- the sink took the replies to all lines whole
+abbrev pub TookAll : Option (List ℕ) → Option (List ℕ) → (answers heard : List Answer) → Type 0
+TookAll first now answers heard = (heard ≡ answers) × Takes first (text_of_all answers) now
 
--- the sink took the replies to all lines but the last, and a front of the reply to that one
-pub record CutAtLast (first now : Option (List ℕ)) (answers : List Answer) : Type 0 where
-  pub told : List Answer
+-- the sink took the replies to all lines but the last whole, and a front of the reply to that one
+pub record CutAtLast (first now : Option (List ℕ)) (answers heard : List Answer) : Type 0 where
   pub last : Answer
-  pub all : answers ≡ told ++ last ∷ []
+  pub all : answers ≡ heard ++ last ∷ []
   pub mid : Option (List ℕ)
-  pub took : TookAll first mid told
-  pub cut : TakesFront mid (text_of last) now
+  pub took : Takes first (text_of_all heard) mid
+  pub cut : TakesFront mid (text_of_answer last) now
 
--- From x, these lines were executed, and a sink took of the replies to them what Took says
-pub record Executed (t : Operations) (told : Bool) (was : disk.State) (v : disk.View) (k : Core) (x : Run) (lines : List (List ℕ)) (Took : List Answer → Type 0) (w : disk.View) (m : Core) : Type 0 where
+-- From x, these lines were executed. A sink took some of the replies to them whole, and what Took says of all and these
+pub record Executed (t : Operations) (told : Bool) (was : disk.State) (v : disk.View) (k : Core) (x : Run) (lines : List (List ℕ)) (Took : (answers heard : List Answer) → Type 0) (w : disk.View) (m : Core) : Type 0 where
   pub answers : List Answer
+  pub heard : List Answer
   pub after : Run
   pub goes : Lines t x lines answers after
   pub first : after.so_far.first ≡ x.so_far.first
   pub answered : x.so_far.answered ≤ after.so_far.answered
   pub caused : AreCaused (HasRisen v.faults w.faults) (MayBeFull k.log.gate v w) lines answers
   pub shows : Shows t told was w m after
-  pub took : Took answers
+  pub took : Took answers heard
   pub moments : IsTrue told → disk.LeavesOnly v w (StandsForFirst t was x.so_far.answered after)
 
 -- However a text goes on, so many of its lines are over, and this is the front of the next one
-abbrev pub Ends : List ℕ → List (List ℕ) → List ℕ → Type 0
-Ends text over rest = (after : List ℕ) → over ++ behind rest (lines_of after) ≡ lines_of (text ++ after)
+abbrev pub HasEnded : List ℕ → List (List ℕ) → List ℕ → Type 0
+HasEnded text over rest = (after : List ℕ) → over ++ behind rest (lines_of after) ≡ lines_of (text ++ after)
 
 -- Of all that was left of a source, this was read, and that is left now. Nothing is said of a source that doesn't tell
 abbrev pub HasRead : Option (List ℕ) → List ℕ → Option (List ℕ) → Type 0

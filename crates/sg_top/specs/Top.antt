@@ -1,13 +1,10 @@
--- The program's words, and how a run of it ends.
-use Rattle.std.specs.Prelude.{◌≡◌, ◌⊎◌, ◌≤◌, ◌<◌, ◌+◌, ◌&&◌, if◌then◌else◌, ℕ, Bool, IsTrue, List, [], ◌∷◌, codes, string_bytes, String, Option, Some, None, is_some, IfSome, length, take}
-use Rattle.std.specs.Str.{bytes_eq}
-use Rattle.std.specs.declared.alloc.Global.{Global}
+-- How a run of the program goes and ends.
+use Rattle.std.specs.Prelude.{◌≡◌, ◌⊎◌, ◌≤◌, ◌<◌, ◌+◌, ℕ, Bool, IsTrue, List, Option, Some, None, IfSome, length, take}
 use Rattle.sg_base.specs.Ends.{HasRisen}
 use Rattle.sg_base.specs.declared.area.Area.TheVariants.{Log0}
 use Rattle.sg_disk.specs.Disk as disk
 use Rattle.sg_ops.specs.Table.{Table as Operations}
 use Rattle.sg_model.specs.Objects.{Objects}
-use Rattle.sg_words.specs.Parse.{number_of}
 use Rattle.sg_words.specs.Requests.Asked.{Of}
 use Rattle.sg_words.specs.Requests.Request.{Commit}
 use Rattle.sg_words.specs.Answers.{Answer}
@@ -17,51 +14,15 @@ use Rattle.sg_run.specs.Serial.{IsSerial}
 use Rattle.sg_journal.specs.declared.opening.OpenRefused as code_refused
 use Rattle.sg_journal.specs.Damage.{StandsForNothing}
 use Rattle.sg_journal.specs.Stands.{StandsFor, StandsForFirst}
-use Rattle.sg_journal.specs.Opening.{SplitsAt, IsLeftAlone, IsRefusedFor, reads_of}
+use Rattle.sg_journal.specs.Syncs.{SplitsAt}
+use Rattle.sg_journal.specs.Opening.{SYNCED, IsLeftAlone, IsRefusedFor, reads_of}
 use Rattle.sg_top.specs.declared.script.RunEnd as code_end
 use Rattle.sg_top.specs.declared.script.RunEnd.TheVariants as ends
 use Rattle.sg_top.specs.declared.status.Status as code_status
 use Rattle.sg_top.specs.declared.status.Status.TheVariants as statuses
-use Rattle.sg_top.specs.declared.words.Command.{Command}
-use Rattle.sg_top.specs.Script.{acknowledged, HasRead, MayBeFull, TookAll, CutAtLast}
-use Rattle.sg_top.specs.Ending.{MOST_BYTES, AreAll, AreExecuted, HasCause}
+use Rattle.sg_top.specs.Script.{acknowledged, HasRead, MayBeFull}
+use Rattle.sg_top.specs.Ending.{MOST_BYTES, AreExecuted, IsHeard, HasCause}
 use Rattle.sg_top.specs.Statuses.{status_of, status_of_refusal}
-
--- `run` and a folder: a run whose disk isn't stopped
-abbrev pub plain_run : List ℕ → Option Command
-plain_run command = if bytes_eq command (codes "run") then Some (record { stop_after = None }) else None
-
--- a run whose disk makes so many calls at most, where the number is one
-abbrev pub run_with : Option ℕ → Option Command
-run_with None = None
-run_with (Some n) = Some (record { stop_after = Some n })
-
--- `run`, a folder, `--stop-after` and a number
-abbrev pub stopped_run : List ℕ → List ℕ → List ℕ → Option Command
-stopped_run command option number = if bytes_eq command (codes "run") && bytes_eq option (codes "--stop-after") then run_with (number_of number) else None
-
--- what the words ask for, if they are those of a run
-abbrev pub command_of : List (String Global) → Option Command
-command_of (command ∷ folder ∷ []) = plain_run (string_bytes command)
-command_of (command ∷ folder ∷ option ∷ number ∷ []) = stopped_run (string_bytes command) (string_bytes option) (string_bytes number)
-command_of other = None
-
--- the run that the words behind its folder ask for, if they do: none of them, or the option and a number
-abbrev pub run_of : List (String Global) → Option Command
-run_of [] = Some (record { stop_after = None })
-run_of (option ∷ number ∷ []) = if bytes_eq (string_bytes option) (codes "--stop-after") then run_with (number_of (string_bytes number)) else None
-run_of other = None
-
-abbrev pub are_run : List (String Global) → Bool
-are_run words = is_some (command_of words)
-
-abbrev pub stop_in : Option Command → Option ℕ
-stop_in None = None
-stop_in (Some command) = command.stop_after
-
--- how many calls the disk may make, where the words say so
-abbrev pub stop_after : List (String Global) → Option ℕ
-stop_after words = stop_in (command_of words)
 
 -- what is seen of the disk, the source and the sink at a moment: the disk, what is left of the script, what the sink has
 -- taken, and how often the source and the sink have failed
@@ -87,7 +48,7 @@ pub record Course : Type 0 where
   -- the objects that it began with, and where the log ended
   pub objects : Objects
   pub gate : ℕ
-  -- the disk as opening's sync had returned
+  -- the disk as opening's syncs had returned
   pub synced : disk.View
   -- how the script ended, what was read of it, and which lines of it were executed
   pub end : code_end.RunEnd
@@ -98,13 +59,6 @@ pub record Course : Type 0 where
   pub heard : List Answer
   -- the run after them
   pub after : Run
-
--- what the sink took whole: all replies, but for the last one where it failed there
-abbrev pub IsHeard : (end : code_end.RunEnd) → (first now : Option (List ℕ)) → (answers heard : List Answer) → Type 0
-IsHeard ends.Done first now answers heard = (heard ≡ answers) × TookAll first now answers
-IsHeard ends.Read first now answers heard = (heard ≡ answers) × TookAll first now answers
-IsHeard ends.TooLong first now answers heard = (heard ≡ answers) × TookAll first now answers
-IsHeard ends.Write first now answers heard = (cut : CutAtLast first now answers) × (heard ≡ cut.told)
 
 -- What was executed and answered. The run begins with the objects for which the image read at entry stands, and those
 -- alone. As far as the script's end says, its lines are executed, each is answered by what a line may be answered, and
@@ -127,14 +81,12 @@ pub record Exit (t : Operations) (told : Bool) (old new : Outside) (run : Course
   pub images : IsTrue told → (c : disk.Image) → disk.Leaves new.disk.now c → StandsForFirst t old.disk.now run.after.so_far.answered run.after c
   pub one_more : length run.after.so_far.commits ≤ acknowledged run.lines run.heard + 1
 
--- with status Done all commits were answered, and what reads give and what a crash leaves stands for the objects after
--- all of them
+-- With status Done the script ended so as well: it was read and executed to its end, and all replies were taken. All
+-- commits were answered, so that each image stands for the objects after all of them, and so does what reads give
 pub record IsDone (t : Operations) (told : Bool) (old new : Outside) (run : Course) : Type 0 where
-  pub executed : AreAll old.left run.text run.lines
-  pub took : TookAll old.taken new.taken run.answers
+  pub ended : run.end ≡ ends.Done
   pub answered : run.after.so_far.answered ≡ length run.after.so_far.commits
   pub reads : IsTrue told → StandsFor t (reads_of new.disk) (committed_objects t run.after)
-  pub images : IsTrue told → (c : disk.Image) → disk.Leaves new.disk.now c → StandsFor t c (committed_objects t run.after)
 
 -- Each run to which so many first lines lead with these answers is serial, unless the store has stopped there: each entry
 -- of a committed transaction got the reply or the reason that it gets where the committed transactions run one whole
@@ -149,20 +101,24 @@ pub record Ran (t : Operations) (told : Bool) (old new : Outside) (refused : ℕ
   pub run : Course
   pub output : Output t told old new refused run
   pub exit : Exit t told old new run
-  pub moments : IsTrue told → SplitsAt run.synced (at_first old) (at_end new refused) (StandsForFirst t old.disk.now 0 run.after)
+  pub moments : IsTrue told → SplitsAt SYNCED run.synced (at_first old) (at_end new refused) (StandsForFirst t old.disk.now 0 run.after)
   pub done : status ≡ statuses.Done → IsDone t told old new run
   pub serial : IsSerialThroughout t run
   pub status_is : status ≡ status_of run.end run.after.stopped
 
--- A run that didn't begin: nothing was read, answered or handed to the disk, and neither source nor sink failed
-pub record NeverRan (t : Operations) (told : Bool) (old new : Outside) (refused : ℕ) (status : code_status.Status) : Type 0 where
-  pub why : code_refused.OpenRefused
-  pub reason : IsRefusedFor t why told (at_first old) (at_end new refused)
+-- nothing was read, answered or handed to the disk, which is left alone, and neither source nor sink failed
+pub record IsUntouched (t : Operations) (told : Bool) (old new : Outside) (refused : ℕ) : Type 0 where
   pub unread : new.left ≡ old.left
   pub unwritten : new.taken ≡ old.taken
   pub quiet : (new.source_faults ≡ old.source_faults) × (new.sink_faults ≡ old.sink_faults)
   pub unhanded : new.disk.handed ≡ old.disk.handed
-  pub moments : IsTrue told → IsLeftAlone t (at_first old) (at_end new refused)
+  pub alone : IsTrue told → IsLeftAlone t (at_first old) (at_end new refused)
+
+-- a run that didn't begin
+pub record NeverRan (t : Operations) (told : Bool) (old new : Outside) (refused : ℕ) (status : code_status.Status) : Type 0 where
+  pub why : code_refused.OpenRefused
+  pub reason : IsRefusedFor t why told (at_first old) (at_end new refused)
+  pub untouched : IsUntouched t told old new refused
   pub status_is : status ≡ status_of_refusal why
 
 -- how the words of a run went
@@ -200,13 +156,13 @@ pub record IsUnhindered (t : Operations) (told : Bool) (old new : Outside) (refu
   pub sink : HasRisen old.sink_faults new.sink_faults → ⊥
 
 -- and so it ends: done, or for want of memory before it began, or at the log's end
-abbrev pub Completes : code_status.Status → Operations → Bool → Outside → Outside → ℕ → Type 0
-Completes statuses.Done t told old new refused = Unit {0}
-Completes statuses.Usage t told old new refused = ⊥
-Completes statuses.Memory t told old new refused = (new.left ≡ old.left) × (new.taken ≡ old.taken) × (new.disk.handed ≡ old.disk.handed) × (IsTrue told → IsLeftAlone t (at_first old) (at_end new refused))
-Completes statuses.Disk t told old new refused = ⊥
-Completes statuses.Read t told old new refused = ⊥
-Completes statuses.Write t told old new refused = ⊥
-Completes statuses.TooLong t told old new refused = ⊥
-Completes (statuses.Damaged area at) t told old new refused = ⊥
-Completes statuses.LogEnd t told old new refused = IsLogSpent told old new
+abbrev pub Completes : Operations → Bool → Outside → Outside → ℕ → code_status.Status → Type 0
+Completes t told old new refused status = (status ≡ statuses.Done)
+    ⊎ (((status ≡ statuses.Memory) × IsUntouched t told old new refused)
+    ⊎ ((status ≡ statuses.LogEnd) × IsLogSpent told old new))
+
+-- The account of a run: how it went, what its status tells, and how it ends where nothing hinders it
+pub record Account (t : Operations) (told : Bool) (old new : Outside) (refused : ℕ) (status : code_status.Status) : Type 0 where
+  pub gone : HasGone t told old new refused status
+  pub tells : Tells status t told old new refused
+  pub completes : IsUnhindered t told old new refused → Completes t told old new refused status

@@ -1,11 +1,11 @@
 ghost use Rattle.std.specs.Prelude.{◌≡◌, ◌≤◌, ◌||◌, [], ◌++◌, OnOk, OnErr, is_none};
 ghost use Rattle.sg_base.specs.Ends.{HasRisen, Takes, TakesFront};
 ghost use Rattle.sg_top.specs.Sessions.{session_core, session_disk, session_unheard};
-ghost use Rattle.sg_top.specs.Feeding.{Feeds, Breaks};
+ghost use Rattle.sg_top.specs.Feeding.{Feeds, BreaksOff};
 ghost use Rattle.sg_ops.specs.Table.{table_of};
 ghost use Rattle.sg_words.specs.Requests.{asked};
-ghost use Rattle.sg_words.specs.Answers.{text_of};
-ghost use Rattle.sg_journal.specs.Goes.{Grows, Heeds};
+ghost use Rattle.sg_words.specs.Answers.{text_of_answer};
+ghost use Rattle.sg_journal.specs.Goes.{LogGrows, Heeds};
 ghost use Rattle.sg_top.specs.Lines.{AnswersAll};
 
 use crate::buffer::LineBuffer;
@@ -27,11 +27,11 @@ fn end_line<D: Disk, K: Sink>(
     out: &mut K,
 ) -> Result<(), Failed>
     ensures line { OnOk result (AnswersAll (table_of record_meaning range_meaning ops.now) D.told (D.view (session_disk session.old)) (session_core session.old) (asked (pending.old ++ part.now))
-        (λ answer. Takes (K.taken out.old) (text_of answer) (K.taken out.new)) (D.view (session_disk session.new)) (session_core session.new)) }
+        (λ answer. Takes (K.taken out.old) (text_of_answer answer) (K.taken out.new)) (D.view (session_disk session.new)) (session_core session.new)) }
     ensures cut { OnErr result (AnswersAll (table_of record_meaning range_meaning ops.now) D.told (D.view (session_disk session.old)) (session_core session.old) (asked (pending.old ++ part.now))
-        (λ answer. TakesFront (K.taken out.old) (text_of answer) (K.taken out.new)) (D.view (session_disk session.new)) (session_core session.new)) }
+        (λ answer. TakesFront (K.taken out.old) (text_of_answer answer) (K.taken out.new)) (D.view (session_disk session.new)) (session_core session.new)) }
     ensures over { pending.new ≡ [] }
-    ensures grown { Grows (session_core session.old).log (session_core session.new).log (D.view (session_disk session.old)) (D.view (session_disk session.new)) }
+    ensures grown { LogGrows (session_core session.old).log (session_core session.new).log (D.view (session_disk session.old)) (D.view (session_disk session.new)) }
     ensures later { (D.view (session_disk session.old)).faults ≤ (D.view (session_disk session.new)).faults }
     ensures heeded { Heeds (session_core session.old).stopped (session_core session.new).stopped (D.view (session_disk session.old)) (D.view (session_disk session.new)) }
     ensures quiet { OnOk result (K.faults out.new ≡ K.faults out.old) }
@@ -59,7 +59,7 @@ pub fn feed<D: Disk, K: Sink>(
 ) -> Result<(), Failed>
     ensures fed { OnOk result (Feeds (table_of record_meaning range_meaning ops.now) D.told (D.view (session_disk session.old)) (session_core session.old) (D.view (session_disk session.new)) (session_core session.new)
         (K.taken out.old) (K.taken out.new) pending.old piece.now pending.new) }
-    ensures broken { OnErr result (Breaks (table_of record_meaning range_meaning ops.now) D.told (D.view (session_disk session.old)) (session_core session.old) (D.view (session_disk session.new)) (session_core session.new)
+    ensures broken { OnErr result (BreaksOff (table_of record_meaning range_meaning ops.now) D.told (D.view (session_disk session.old)) (session_core session.old) (D.view (session_disk session.new)) (session_core session.new)
         (K.taken out.old) (K.taken out.new) pending.old piece.now) }
     ensures heeded { Heeds (session_core session.old).stopped (session_core session.new).stopped (D.view (session_disk session.old)) (D.view (session_disk session.new)) }
     ensures quiet { OnOk result (K.faults out.new ≡ K.faults out.old) }

@@ -13,6 +13,7 @@
 
 mod buffer;
 mod feed;
+mod law;
 mod room;
 mod script;
 mod session;
@@ -20,8 +21,9 @@ mod status;
 mod top;
 mod words;
 
+pub use law::done_tells_all;
 pub use session::Session;
 pub use sg_journal::{OpenRefused, Unopened};
 pub use status::Status;
 pub use top::{Finish, stasis};
-pub use words::is_run;
+pub use words::{Command, command_of, is_run};

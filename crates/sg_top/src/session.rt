@@ -1,9 +1,9 @@
-ghost use Rattle.std.specs.Prelude.{◌≡◌, ◌≤◌, ◌||◌, OnOk, OnErr, IfOk, IfErr, MatchResult, IsSome, IsTrue, None, false, is_none};
+ghost use Rattle.std.specs.Prelude.{◌≡◌, ◌≤◌, ◌||◌, OnOk, OnErr, IfOk, IfErr, IsSome, IsTrue, None, false, is_none};
 ghost use Rattle.sg_base.specs.Ends.{HasRisen, Takes, TakesFront};
 ghost use Rattle.sg_disk.specs.Disk.{State as DiskState};
 ghost use Rattle.sg_ops.specs.Table.{table_of};
 ghost use Rattle.sg_words.specs.Requests.{asked};
-ghost use Rattle.sg_words.specs.Answers.{text_of};
+ghost use Rattle.sg_words.specs.Answers.{text_of_answer};
 ghost use Rattle.sg_run.specs.Run.{Run};
 
 use crate::room::Room;
@@ -43,7 +43,7 @@ pub struct Session<D: Disk> {
 
 impl<D: Disk> Session<D> {
     ghost use Rattle.sg_journal.specs.Store.{Shows};
-    ghost use Rattle.sg_journal.specs.Goes.{Grows, Heeds};
+    ghost use Rattle.sg_journal.specs.Goes.{LogGrows, Heeds};
     ghost use Rattle.sg_journal.specs.Opening.{Opens, StaysShut};
     ghost use Rattle.sg_top.specs.Lines.{AnswersAll};
     ghost use Rattle.sg_top.specs.OneLine.{OneLine};
@@ -102,17 +102,15 @@ impl<D: Disk> Session<D> {
     ) -> Result<(), Failed>
         // For each run that the session shows: what is answered, and which run it then shows.
         ensures line { OnOk result (AnswersAll (table_of record_meaning range_meaning ops.now) D.told (D.view (session_disk self.old)) (session_core self.old) (asked text.now)
-            (λ answer. Takes (K.taken out.old) (text_of answer) (K.taken out.new)) (D.view (session_disk self.new)) (session_core self.new)) }
+            (λ answer. Takes (K.taken out.old) (text_of_answer answer) (K.taken out.new)) (D.view (session_disk self.new)) (session_core self.new)) }
         ensures cut { OnErr result (AnswersAll (table_of record_meaning range_meaning ops.now) D.told (D.view (session_disk self.old)) (session_core self.old) (asked text.now)
-            (λ answer. TakesFront (K.taken out.old) (text_of answer) (K.taken out.new)) (D.view (session_disk self.new)) (session_core self.new)) }
+            (λ answer. TakesFront (K.taken out.old) (text_of_answer answer) (K.taken out.new)) (D.view (session_disk self.new)) (session_core self.new)) }
         // What a crash leaves of one line, where the store hasn't stopped.
         ensures one_line { (was : DiskState) (x : Run) → Shows (table_of record_meaning range_meaning ops.now) D.told was (D.view (session_disk self.old)) (session_core self.old) x → (session_core self.old).stopped ≡ None → IsTrue D.told →
-            OneLine (table_of record_meaning range_meaning ops.now) (D.view (session_disk self.old)) x (asked text.now)
-            (λ answer. MatchResult result (λ u. Takes (K.taken out.old) (text_of answer) (K.taken out.new)) (λ e. TakesFront (K.taken out.old) (text_of answer) (K.taken out.new)))
-            (D.view (session_disk self.new)) }
+            OneLine (table_of record_meaning range_meaning ops.now) (D.view (session_disk self.old)) x (asked text.now) (D.view (session_disk self.new)) (session_core self.new).stopped }
         // A store that has stopped stays so, and makes no call of the disk.
         ensures stopped { IsSome (session_core self.old).stopped → (session_disk self.new ≡ session_disk self.old) × ((session_core self.new).stopped ≡ (session_core self.old).stopped) }
-        ensures grown { Grows (session_core self.old).log (session_core self.new).log (D.view (session_disk self.old)) (D.view (session_disk self.new)) }
+        ensures grown { LogGrows (session_core self.old).log (session_core self.new).log (D.view (session_disk self.old)) (D.view (session_disk self.new)) }
         ensures disk { (D.view (session_disk self.old)).faults ≤ (D.view (session_disk self.new)).faults }
         // Where the disk fails, the store stops.
         ensures heeded { Heeds (session_core self.old).stopped (session_core self.new).stopped (D.view (session_disk self.old)) (D.view (session_disk self.new)) }

@@ -1,7 +1,8 @@
-ghost use Rattle.std.specs.Prelude.{◌≡◌, ◌≤◌, ◌<◌, ◌+◌, ℕ, true, false, IsTrue, Some, IfSome};
-ghost use Rattle.sg_disk.specs.Disk.{FULL, refusing, Spent};
+ghost use Rattle.std.specs.Prelude.{◌≡◌, ◌≤◌, true, false, IsTrue};
+ghost use Rattle.sg_disk.specs.Disk.{refusing, Spent};
 ghost use Rattle.sg_ops.specs.Table.{table_of};
-ghost use Rattle.sg_top.specs.Top.{are_run, stop_after, outside, HasGone, Tells, IsUnhindered, Completes};
+ghost use Rattle.sg_top.specs.Words.{are_run, stop_after};
+ghost use Rattle.sg_top.specs.Top.{outside, HasGone, Account};
 
 use crate::room::piece_room;
 use crate::script::run_script;
@@ -96,23 +97,16 @@ pub fn stasis<D: Disk, S: Source, K: Sink>(
     ensures usage { result.status ≡ Status.Usage → are_run words.now ≡ false }
     ensures unused { are_run words.now ≡ false → (result.status ≡ Status.Usage) × (result.disk ≡ disk) × (result.refused ≡ 0) × (script.new ≡ script.old) × (out.new ≡ out.old) }
 
-    // The headline: one course of the run, its replies, and what a crash leaves of it.
-    ensures run { are_run words.now ≡ true → HasGone (table_of record_meaning range_meaning ops) D.told (outside (D.view disk) (S.left script.old) (S.faults script.old) (K.taken out.old) (K.faults out.old))
+    // The headline: one course of the run, its replies, what a crash leaves of it, the cause of its status, and that it is
+    // done where nothing hinders it.
+    ensures run { are_run words.now ≡ true → Account (table_of record_meaning range_meaning ops) D.told (outside (D.view disk) (S.left script.old) (S.faults script.old) (K.taken out.old) (K.faults out.old))
         (outside (D.view result.disk) (S.left script.new) (S.faults script.new) (K.taken out.new) (K.faults out.new)) result.refused result.status }
 
-    // The cause of each status, that a fault of the disk and a call that is refused give theirs, and how a run ends that
-    // nothing hinders.
-    ensures cause { are_run words.now ≡ true → Tells result.status (table_of record_meaning range_meaning ops) D.told (outside (D.view disk) (S.left script.old) (S.faults script.old) (K.taken out.old) (K.faults out.old))
-        (outside (D.view result.disk) (S.left script.new) (S.faults script.new) (K.taken out.new) (K.faults out.new)) result.refused }
+    // A fault of the disk, and a call that is refused, give their status.
     ensures heeded { (result.status ≡ Status.Disk → ⊥) → ((D.view result.disk).faults ≡ (D.view disk).faults) × (result.refused ≡ 0) }
-    ensures complete { are_run words.now ≡ true → IsUnhindered (table_of record_meaning range_meaning ops) D.told (outside (D.view disk) (S.left script.old) (S.faults script.old) (K.taken out.old) (K.faults out.old))
-        (outside (D.view result.disk) (S.left script.new) (S.faults script.new) (K.taken out.new) (K.faults out.new)) result.refused →
-        Completes result.status (table_of record_meaning range_meaning ops) D.told (outside (D.view disk) (S.left script.old) (S.faults script.old) (K.taken out.old) (K.faults out.old))
-        (outside (D.view result.disk) (S.left script.new) (S.faults script.new) (K.taken out.new) (K.faults out.new)) result.refused }
 
-    // The stop.
-    ensures refused { 0 < result.refused → (n : ℕ) × (stop_after words.now ≡ Some n) × ((D.view result.disk).calls < FULL → (D.view result.disk).calls ≡ (D.view disk).calls + n) }
-    ensures passed { IfSome (stop_after words.now) (λ n. (D.view result.disk).calls ≤ (D.view disk).calls + n) }
+    // The stop: no more calls than it lets pass, and one refused only behind exactly so many.
+    ensures spent { Spent (stop_after words.now) (D.view disk).calls (D.view result.disk).calls result.refused }
 {
     let Some(command) = command_of(words) else {
         return Finish {

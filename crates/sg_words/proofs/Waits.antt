@@ -93,6 +93,10 @@ end_took (Ok u) a bytes more b waiting c h k =
     subst (λ (t : List ℕ). Takes a t c) whole (Takes-more a h.front b (waiting ++ more) c h.taken k)
 end_took (Err e) a bytes more b waiting c h k = tt
 
+pub written_took : (r : Result (Unit {0}) Failed) (a : Option (List ℕ)) (bytes : List ℕ) (b : Option (List ℕ)) (waiting : List ℕ) (c : Option (List ℕ)) → Passes a bytes b waiting → OnOk r (Takes b waiting c) → OnOk r (Takes a bytes c)
+written_took (Ok u) a bytes b waiting c h k = subst (λ (t : List ℕ). Takes a t c) h.whole (Takes-more a h.front b waiting c h.taken k)
+written_took (Err e) a bytes b waiting c h k = tt
+
 pub written_cut : (r : Result (Unit {0}) Failed) (a : Option (List ℕ)) (bytes : List ℕ) (b : Option (List ℕ)) (waiting : List ℕ) (c : Option (List ℕ)) → Passes a bytes b waiting → OnErr r (TakesFront b waiting c) → OnErr r (TakesFront a bytes c)
 written_cut (Ok u) a bytes b waiting c h k = tt
 written_cut (Err e) a bytes b waiting c h k = passes_cut a bytes b waiting c h k

@@ -40,21 +40,21 @@ text_of_reply (Bytes bytes) = codes "ok " ++ printed bytes ++ codes "\n"
 text_of_reply (Several words) = text_of_words (λ word. word) words
 
 -- a reply line with its LF, or nothing
-abbrev pub text_of : Answer → List ℕ
-text_of Silent = []
-text_of BadSyntax = codes "error syntax\n"
-text_of Stopped = codes "error stopped\n"
-text_of NoTransaction = codes "error no-transaction\n"
-text_of IsLive = codes "error live\n"
-text_of TooManyLive = codes "error too-many-live\n"
-text_of (Busy name) = codes "busy " ++ name ++ codes "\n"
-text_of LocksFull = codes "error locks-full\n"
-text_of (Refused reason) = text_of_reason reason
-text_of LogEnd = codes "error log-end\n"
-text_of Memory = codes "error memory\n"
-text_of Disk = codes "error disk\n"
-text_of (Said reply) = text_of_reply reply
+abbrev pub text_of_answer : Answer → List ℕ
+text_of_answer Silent = []
+text_of_answer BadSyntax = codes "error syntax\n"
+text_of_answer Stopped = codes "error stopped\n"
+text_of_answer NoTransaction = codes "error no-transaction\n"
+text_of_answer IsLive = codes "error live\n"
+text_of_answer TooManyLive = codes "error too-many-live\n"
+text_of_answer (Busy name) = codes "busy " ++ name ++ codes "\n"
+text_of_answer LocksFull = codes "error locks-full\n"
+text_of_answer (Refused reason) = text_of_reason reason
+text_of_answer LogEnd = codes "error log-end\n"
+text_of_answer Memory = codes "error memory\n"
+text_of_answer Disk = codes "error disk\n"
+text_of_answer (Said reply) = text_of_reply reply
 
 -- the reply lines, one after another
 abbrev pub text_of_all : List Answer → List ℕ
-text_of_all answers = flat_map text_of answers
+text_of_all answers = flat_map text_of_answer answers

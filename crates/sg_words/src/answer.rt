@@ -1,7 +1,7 @@
-ghost use Rattle.std.specs.Prelude.{◌≡◌, ◌≤◌, List, length, OnOk, OnErr};
-ghost use Rattle.sg_base.specs.Ends.{HasRisen, Takes, TakesFront};
+ghost use Rattle.std.specs.Prelude.{◌≡◌, ◌≤◌, List, length};
 ghost use Rattle.sg_words.specs.Answered.{shown_answer, line_of};
-ghost use Rattle.sg_words.specs.Answers.{text_of};
+ghost use Rattle.sg_words.specs.Answers.{text_of_answer};
+ghost use Rattle.sg_words.specs.Writing.{Writes};
 
 use crate::reply::{reason_text, write_reply};
 use crate::several::{write_busy, write_words};
@@ -65,11 +65,7 @@ fn line_of(answer: &Answer) -> &'static [u8]
 
 // Writes a line in one call of the sink, and nothing where there is none.
 fn write_line<K: Sink>(line: &[u8], out: &mut K) -> Result<(), Failed>
-    ensures took { OnOk result (Takes (K.taken out.old) line.now (K.taken out.new)) }
-    ensures cut { OnErr result (TakesFront (K.taken out.old) line.now (K.taken out.new)) }
-    ensures later { K.faults out.old ≤ K.faults out.new }
-    ensures quiet { OnOk result (K.faults out.new ≡ K.faults out.old) }
-    ensures failed { OnErr result (HasRisen (K.faults out.old) (K.faults out.new)) }
+    ensures { Writes (K.taken out.old) line.now (K.taken out.new) (K.faults out.old) (K.faults out.new) result }
 {
     if line.is_empty() {
         return Ok(());
@@ -82,11 +78,7 @@ fn write_line<K: Sink>(line: &[u8], out: &mut K) -> Result<(), Failed>
 /// handed to it in one. Where the sink fails, it took a front of the line.
 pub fn write_answer<K: Sink>(answer: &Answer, bytes: &[u8], out: &mut K) -> Result<(), Failed>
     requires { length bytes.now ≤ 8192 }
-    ensures took { OnOk result (Takes (K.taken out.old) (text_of (shown_answer bytes.now answer.now)) (K.taken out.new)) }
-    ensures cut { OnErr result (TakesFront (K.taken out.old) (text_of (shown_answer bytes.now answer.now)) (K.taken out.new)) }
-    ensures later { K.faults out.old ≤ K.faults out.new }
-    ensures quiet { OnOk result (K.faults out.new ≡ K.faults out.old) }
-    ensures failed { OnErr result (HasRisen (K.faults out.old) (K.faults out.new)) }
+    ensures { Writes (K.taken out.old) (text_of_answer (shown_answer bytes.now answer.now)) (K.taken out.new) (K.faults out.old) (K.faults out.new) result }
 {
     match answer {
         Answer::Said(reply) => write_reply(reply, bytes, out),

@@ -1,8 +1,8 @@
-ghost use Rattle.std.specs.Prelude.{◌≡◌, ◌+◌, ◌*◌, ◌≤◌, ◌<◌, [], ◌++◌, List, ℕ, length, take, OnOk, OnErr, codes, decimal};
-ghost use Rattle.sg_base.specs.Ends.{HasRisen, Takes, TakesFront};
+ghost use Rattle.std.specs.Prelude.{◌≡◌, ◌+◌, ◌*◌, ◌≤◌, ◌<◌, [], ◌++◌, List, ℕ, length, take, codes, decimal};
 ghost use Rattle.sg_model.specs.SaidReplies.{said_reply};
 ghost use Rattle.sg_words.specs.Answers.{text_of_reply};
 ghost use Rattle.sg_words.specs.Text.{printed, text_of_reason};
+ghost use Rattle.sg_words.specs.Writing.{Writes};
 
 use crate::buffer::{append, append_hex};
 use crate::value::prints_plain;
@@ -59,11 +59,7 @@ fn put_value(into: &mut [u8], value: &[u8]) -> usize
 
 // Writes the line of a number.
 fn write_number<K: Sink>(n: u64, out: &mut K) -> Result<(), Failed>
-    ensures took { OnOk result (Takes (K.taken out.old) (codes "ok " ++ decimal n ++ codes "\n") (K.taken out.new)) }
-    ensures cut { OnErr result (TakesFront (K.taken out.old) (codes "ok " ++ decimal n ++ codes "\n") (K.taken out.new)) }
-    ensures later { K.faults out.old ≤ K.faults out.new }
-    ensures quiet { OnOk result (K.faults out.new ≡ K.faults out.old) }
-    ensures failed { OnErr result (HasRisen (K.faults out.old) (K.faults out.new)) }
+    ensures { Writes (K.taken out.old) (codes "ok " ++ decimal n ++ codes "\n") (K.taken out.new) (K.faults out.old) (K.faults out.new) result }
 {
     let mut line = [0u8; 64];
     let end = put_number(&mut line, n);
@@ -74,11 +70,7 @@ fn write_number<K: Sink>(n: u64, out: &mut K) -> Result<(), Failed>
 fn write_by<const N: usize, K: Sink>(value: &[u8], out: &mut K) -> Result<(), Failed>
     requires room { 64 + 2 * length value.now ≤ N }
     requires most { N ≤ 16448 }
-    ensures took { OnOk result (Takes (K.taken out.old) (codes "ok " ++ printed value.now ++ codes "\n") (K.taken out.new)) }
-    ensures cut { OnErr result (TakesFront (K.taken out.old) (codes "ok " ++ printed value.now ++ codes "\n") (K.taken out.new)) }
-    ensures later { K.faults out.old ≤ K.faults out.new }
-    ensures quiet { OnOk result (K.faults out.new ≡ K.faults out.old) }
-    ensures failed { OnErr result (HasRisen (K.faults out.old) (K.faults out.new)) }
+    ensures { Writes (K.taken out.old) (codes "ok " ++ printed value.now ++ codes "\n") (K.taken out.new) (K.faults out.old) (K.faults out.new) result }
 {
     let mut line = [0u8; N];
     let end = put_value(&mut line, value);
@@ -89,11 +81,7 @@ fn write_by<const N: usize, K: Sink>(value: &[u8], out: &mut K) -> Result<(), Fa
 #[inline(never)]
 fn write_long<K: Sink>(value: &[u8], out: &mut K) -> Result<(), Failed>
     requires { length value.now ≤ 8192 }
-    ensures took { OnOk result (Takes (K.taken out.old) (codes "ok " ++ printed value.now ++ codes "\n") (K.taken out.new)) }
-    ensures cut { OnErr result (TakesFront (K.taken out.old) (codes "ok " ++ printed value.now ++ codes "\n") (K.taken out.new)) }
-    ensures later { K.faults out.old ≤ K.faults out.new }
-    ensures quiet { OnOk result (K.faults out.new ≡ K.faults out.old) }
-    ensures failed { OnErr result (HasRisen (K.faults out.old) (K.faults out.new)) }
+    ensures { Writes (K.taken out.old) (codes "ok " ++ printed value.now ++ codes "\n") (K.taken out.new) (K.faults out.old) (K.faults out.new) result }
 {
     write_by::<16448, K>(value, out)
 }
@@ -102,11 +90,7 @@ fn write_long<K: Sink>(value: &[u8], out: &mut K) -> Result<(), Failed>
 #[inline(never)]
 fn write_value<K: Sink>(value: &[u8], out: &mut K) -> Result<(), Failed>
     requires { length value.now ≤ 8192 }
-    ensures took { OnOk result (Takes (K.taken out.old) (codes "ok " ++ printed value.now ++ codes "\n") (K.taken out.new)) }
-    ensures cut { OnErr result (TakesFront (K.taken out.old) (codes "ok " ++ printed value.now ++ codes "\n") (K.taken out.new)) }
-    ensures later { K.faults out.old ≤ K.faults out.new }
-    ensures quiet { OnOk result (K.faults out.new ≡ K.faults out.old) }
-    ensures failed { OnErr result (HasRisen (K.faults out.old) (K.faults out.new)) }
+    ensures { Writes (K.taken out.old) (codes "ok " ++ printed value.now ++ codes "\n") (K.taken out.new) (K.faults out.old) (K.faults out.new) result }
 {
     if value.len() <= FEW_BYTES {
         write_by::<576, K>(value, out)
@@ -119,11 +103,7 @@ fn write_value<K: Sink>(value: &[u8], out: &mut K) -> Result<(), Failed>
 /// at its front. Where the sink fails, it took a front of the line.
 pub fn write_reply<K: Sink>(reply: &Reply, bytes: &[u8], out: &mut K) -> Result<(), Failed>
     requires { length bytes.now ≤ 8192 }
-    ensures took { OnOk result (Takes (K.taken out.old) (text_of_reply (said_reply bytes.now reply.now)) (K.taken out.new)) }
-    ensures cut { OnErr result (TakesFront (K.taken out.old) (text_of_reply (said_reply bytes.now reply.now)) (K.taken out.new)) }
-    ensures later { K.faults out.old ≤ K.faults out.new }
-    ensures quiet { OnOk result (K.faults out.new ≡ K.faults out.old) }
-    ensures failed { OnErr result (HasRisen (K.faults out.old) (K.faults out.new)) }
+    ensures { Writes (K.taken out.old) (text_of_reply (said_reply bytes.now reply.now)) (K.taken out.new) (K.faults out.old) (K.faults out.new) result }
 {
     match reply {
         Reply::Done => out.write(b"ok\n"),

@@ -1,9 +1,8 @@
-ghost use Rattle.std.specs.Prelude.{◌≡◌, ◌≤◌, ◌++◌, List, ℕ, length, take, codes, IfOk, OnOk, OnErr};
+ghost use Rattle.std.specs.Prelude.{◌≡◌, ◌≤◌, ◌++◌, List, ℕ, length, take, codes};
 ghost use Rattle.hex.specs.Hex.{encode_lower};
-ghost use Rattle.sg_base.specs.Ends.{HasRisen, Takes, TakesFront};
 ghost use Rattle.sg_words.specs.Answers.{behind_space, text_of_words};
 ghost use Rattle.sg_words.specs.Text.{printed};
-ghost use Rattle.sg_words.specs.Waiting.{Passes};
+ghost use Rattle.sg_words.specs.Writing.{Writes, Adds};
 
 use crate::buffer::{append, append_hex};
 use crate::reply::put_count;
@@ -41,12 +40,7 @@ impl Word for Name {
 // Where they have no room, those that wait are written first.
 fn add<K: Sink>(waiting: &mut [u8], end: usize, bytes: &[u8], out: &mut K) -> Result<usize, Failed>
     requires { end ≤ length waiting.old }
-    ensures within { IfOk result (λ n. n ≤ length waiting.new) }
-    ensures added { IfOk result (λ n. Passes (K.taken out.old) (take end waiting.old ++ bytes.now) (K.taken out.new) (take n waiting.new)) }
-    ensures cut { OnErr result (TakesFront (K.taken out.old) (take end waiting.old ++ bytes.now) (K.taken out.new)) }
-    ensures later { K.faults out.old ≤ K.faults out.new }
-    ensures quiet { OnOk result (K.faults out.new ≡ K.faults out.old) }
-    ensures failed { OnErr result (HasRisen (K.faults out.old) (K.faults out.new)) }
+    ensures { Adds (K.taken out.old) (take end waiting.old ++ bytes.now) (K.taken out.new) waiting.new (K.faults out.old) (K.faults out.new) result }
 {
     if bytes.len() <= waiting.len() - end {
         return Ok(append(waiting, end, bytes));
@@ -72,12 +66,7 @@ fn add_digits<K: Sink>(
     out: &mut K,
 ) -> Result<usize, Failed>
     requires { end ≤ length waiting.old }
-    ensures within { IfOk result (λ n. n ≤ length waiting.new) }
-    ensures added { IfOk result (λ n. Passes (K.taken out.old) (take end waiting.old ++ encode_lower bytes.now) (K.taken out.new) (take n waiting.new)) }
-    ensures cut { OnErr result (TakesFront (K.taken out.old) (take end waiting.old ++ encode_lower bytes.now) (K.taken out.new)) }
-    ensures later { K.faults out.old ≤ K.faults out.new }
-    ensures quiet { OnOk result (K.faults out.new ≡ K.faults out.old) }
-    ensures failed { OnErr result (HasRisen (K.faults out.old) (K.faults out.new)) }
+    ensures { Adds (K.taken out.old) (take end waiting.old ++ encode_lower bytes.now) (K.taken out.new) waiting.new (K.faults out.old) (K.faults out.new) result }
 {
     let mut count = end;
     'bytes: for byte in bytes {
@@ -99,12 +88,7 @@ fn add_printed<K: Sink>(
     out: &mut K,
 ) -> Result<usize, Failed>
     requires { end ≤ length waiting.old }
-    ensures within { IfOk result (λ n. n ≤ length waiting.new) }
-    ensures added { IfOk result (λ n. Passes (K.taken out.old) (take end waiting.old ++ printed bytes.now) (K.taken out.new) (take n waiting.new)) }
-    ensures cut { OnErr result (TakesFront (K.taken out.old) (take end waiting.old ++ printed bytes.now) (K.taken out.new)) }
-    ensures later { K.faults out.old ≤ K.faults out.new }
-    ensures quiet { OnOk result (K.faults out.new ≡ K.faults out.old) }
-    ensures failed { OnErr result (HasRisen (K.faults out.old) (K.faults out.new)) }
+    ensures { Adds (K.taken out.old) (take end waiting.old ++ printed bytes.now) (K.taken out.new) waiting.new (K.faults out.old) (K.faults out.new) result }
 {
     if prints_plain(bytes) {
         return add(waiting, end, bytes, out);
@@ -123,12 +107,7 @@ fn add_word<K: Sink>(
     out: &mut K,
 ) -> Result<usize, Failed>
     requires { end ≤ length waiting.old }
-    ensures within { IfOk result (λ n. n ≤ length waiting.new) }
-    ensures added { IfOk result (λ n. Passes (K.taken out.old) (take end waiting.old ++ behind_space word.now) (K.taken out.new) (take n waiting.new)) }
-    ensures cut { OnErr result (TakesFront (K.taken out.old) (take end waiting.old ++ behind_space word.now) (K.taken out.new)) }
-    ensures later { K.faults out.old ≤ K.faults out.new }
-    ensures quiet { OnOk result (K.faults out.new ≡ K.faults out.old) }
-    ensures failed { OnErr result (HasRisen (K.faults out.old) (K.faults out.new)) }
+    ensures { Adds (K.taken out.old) (take end waiting.old ++ behind_space word.now) (K.taken out.new) waiting.new (K.faults out.old) (K.faults out.new) result }
 {
     match add(waiting, end, b" ", out) {
         Ok(end) => add_printed(waiting, end, word, out),
@@ -139,11 +118,7 @@ fn add_word<K: Sink>(
 // Writes what waits with an LF behind it.
 fn finish<K: Sink>(waiting: &mut [u8], end: usize, out: &mut K) -> Result<(), Failed>
     requires { end ≤ length waiting.old }
-    ensures took { OnOk result (Takes (K.taken out.old) (take end waiting.old ++ codes "\n") (K.taken out.new)) }
-    ensures cut { OnErr result (TakesFront (K.taken out.old) (take end waiting.old ++ codes "\n") (K.taken out.new)) }
-    ensures later { K.faults out.old ≤ K.faults out.new }
-    ensures quiet { OnOk result (K.faults out.new ≡ K.faults out.old) }
-    ensures failed { OnErr result (HasRisen (K.faults out.old) (K.faults out.new)) }
+    ensures { Writes (K.taken out.old) (take end waiting.old ++ codes "\n") (K.taken out.new) (K.faults out.old) (K.faults out.new) result }
 {
     match add(waiting, end, b"\n", out) {
         Ok(end) => out.write(&waiting[..end]),
@@ -155,11 +130,7 @@ fn finish<K: Sink>(waiting: &mut [u8], end: usize, out: &mut K) -> Result<(), Fa
 /// as few calls of the sink as its buffer allows. Where the sink fails, it took a front of the line.
 #[inline(never)]
 pub fn write_words<W: Word, K: Sink>(words: &[W], out: &mut K) -> Result<(), Failed>
-    ensures took { OnOk result (Takes (K.taken out.old) (text_of_words W.bytes_of words.now) (K.taken out.new)) }
-    ensures cut { OnErr result (TakesFront (K.taken out.old) (text_of_words W.bytes_of words.now) (K.taken out.new)) }
-    ensures later { K.faults out.old ≤ K.faults out.new }
-    ensures quiet { OnOk result (K.faults out.new ≡ K.faults out.old) }
-    ensures failed { OnErr result (HasRisen (K.faults out.old) (K.faults out.new)) }
+    ensures { Writes (K.taken out.old) (text_of_words W.bytes_of words.now) (K.taken out.new) (K.faults out.old) (K.faults out.new) result }
 {
     let mut waiting = [0u8; 8192];
     let mut end = put_count(&mut waiting, words.len() as u64);
@@ -176,11 +147,7 @@ pub fn write_words<W: Word, K: Sink>(words: &[W], out: &mut K) -> Result<(), Fai
 /// sink where the name has at most 58 bytes. Where the sink fails, it took a front of the line.
 #[inline(never)]
 pub fn write_busy<K: Sink>(name: &[u8], out: &mut K) -> Result<(), Failed>
-    ensures took { OnOk result (Takes (K.taken out.old) (codes "busy " ++ name.now ++ codes "\n") (K.taken out.new)) }
-    ensures cut { OnErr result (TakesFront (K.taken out.old) (codes "busy " ++ name.now ++ codes "\n") (K.taken out.new)) }
-    ensures later { K.faults out.old ≤ K.faults out.new }
-    ensures quiet { OnOk result (K.faults out.new ≡ K.faults out.old) }
-    ensures failed { OnErr result (HasRisen (K.faults out.old) (K.faults out.new)) }
+    ensures { Writes (K.taken out.old) (codes "busy " ++ name.now ++ codes "\n") (K.taken out.new) (K.faults out.old) (K.faults out.new) result }
 {
     let mut waiting = [0u8; 64];
     let end = append(&mut waiting, 0, b"busy ");

@@ -2,7 +2,7 @@ use Rattle.std.proofs.Common.{◌≡◌, ℕ, ◌-◌, take, Option, refl, sym, 
 use Rattle.sg_line_log.proofs.Runs.{reads_more}
 use Rattle.sg_journal.specs.Found.{IsNotFound}
 use Rattle.sg_journal.specs.Opening.{IsQuietFor}
-use Rattle.sg_journal.specs.Shown.{refusal_at}
+use Rattle.sg_journal.specs.Shown.{refusal_for}
 use Rattle.sg_journal.specs.declared.opening.OpenRefused as code_refused
 use Rattle.sg_journal.proofs.Heeding.{quiet_at, quiet_later}
 use Rattle.sg_journal.proofs.Walking.{walking_none, walking_more, walking_done, walking_fails, walking_refused}
@@ -57,4 +57,4 @@ returns-in-Err-clause-quiet g c =
     let v = g.D.Disk.view c.args.disk.now in
     let u = g.D.Disk.view c.frames.disk in
     let w = g.D.Disk.view c.frame.new.disk in
-    subst (λ (why : code_refused.OpenRefused). IsQuietFor why v w) (sym c.refusal.ensures) (quiet_later (refusal_at c.in-Err.fault) v u w c.frames.invariant.quiet (quiet_at (Option ℕ) u w c.in-Err.fault c.in-Err.ensures.heeded))
+    subst (λ (why : code_refused.OpenRefused). IsQuietFor why v w) (sym c.refusal.ensures) (quiet_later (refusal_for c.in-Err.fault) v u w c.frames.invariant.quiet (quiet_at (Option ℕ) u w c.in-Err.fault c.in-Err.ensures.heeded))

@@ -5,7 +5,7 @@ use Rattle.sg_run.specs.Run.{Run}
 use Rattle.sg_journal.specs.Store.{Shows}
 use Rattle.sg_journal.specs.Goes.{Heeds}
 use Rattle.sg_top.specs.Sessions.{session_core, session_disk, session_unheard}
-use Rattle.sg_top.specs.Ending.{IsUnderWay}
+use Rattle.sg_top.proofs.UnderWay.{IsUnderWay}
 use Rattle.sg_top.proofs.script.run_script.Given as goal
 
 abbrev pub invariant-pieces : goal.invariant-pieces

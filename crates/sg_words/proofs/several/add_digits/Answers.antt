@@ -1,5 +1,6 @@
-use Rattle.std.proofs.Common.{ℕ, ◌+◌, List, take, drop, get_or, refl, sym, ◌∙◌, arith, append-nil}
+use Rattle.std.proofs.Common.{ℕ, ◌+◌, List, take, drop, get_or, refl, sym, ◌∙◌, arith, append-nil, subst, rules}
 use Rattle.hex.specs.Hex.{encode_with, encode_lower}
+use Rattle.sg_base.specs.Ends.{HasRisen}
 use Rattle.sg_words.proofs.Waits.{passes_none, passes_piece, cut_piece, piece_more, piece_rest, encode-append}
 use Rattle.sg_words.proofs.several.add_digits.Goals as goal
 
@@ -22,9 +23,16 @@ bytes-preserved g c =
       quiet = c.in-Ok.ensures.quiet ∙ c.bytes.invariant.quiet;
     }
 
-pub returns-in-Err-clause-cut : goal.returns-in-Err-clause-cut
-returns-in-Err-clause-cut g c =
+pub returns-in-Err : goal.returns-in-Err
+returns-in-Err g c =
     let bytes : List ℕ = c.args.bytes.now in
     let i : ℕ = c.bytes.byte-index in
     let rest = piece_rest encode_lower encode-append bytes i (get_or bytes i 0) 0 (take c.append_hex-written.result c.append_hex-written.new.into) (omega arith) refl c.append_hex-written.ensures.front in
-    cut_piece (g.K.Sink.taken c.args.out.now) (take c.args.end c.args.waiting.now) (encode_lower (take i bytes)) (take c.append_hex-written.result c.append_hex-written.new.into) (encode_lower (drop (i + 1) bytes)) (encode_lower bytes) (g.K.Sink.taken c.bytes.out) (take c.bytes.count c.bytes.waiting) (g.K.Sink.taken c.add.new.out) rest c.bytes.invariant.so_far c.in-Err.ensures.cut
+    record {
+      within = tt;
+      added = tt;
+      cut = cut_piece (g.K.Sink.taken c.args.out.now) (take c.args.end c.args.waiting.now) (encode_lower (take i bytes)) (take c.append_hex-written.result c.append_hex-written.new.into) (encode_lower (drop (i + 1) bytes)) (encode_lower bytes) (g.K.Sink.taken c.bytes.out) (take c.bytes.count c.bytes.waiting) (g.K.Sink.taken c.add.new.out) rest c.bytes.invariant.so_far c.in-Err.ensures.cut;
+      later = search rules;
+      quiet = tt;
+      failed = subst (λ (n : ℕ). HasRisen n (g.K.Sink.faults c.add.new.out)) c.bytes.invariant.quiet c.in-Err.ensures.failed;
+    }

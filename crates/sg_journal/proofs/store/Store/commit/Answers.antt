@@ -2,7 +2,7 @@ use Rattle.std.proofs.Common.{refl, sym, ap, ◌∙◌, arith}
 use Rattle.sg_words.specs.declared.answer.Answer as code_answer
 use Rattle.sg_words.specs.Answered.{shown_answer}
 use Rattle.sg_journal.specs.Seen.{core_of}
-use Rattle.sg_journal.specs.Shown.{opened_of, undo_of, answer_at}
+use Rattle.sg_journal.specs.Shown.{opened_of, undo_of, answer_for}
 use Rattle.sg_journal.specs.Store.{Core}
 use Rattle.sg_journal.proofs.Steps.{commit_none}
 use Rattle.sg_journal.proofs.Changes.{commits}
@@ -17,14 +17,14 @@ returns-in_default-clause-goes g c t into was x shows = commit_none t g.D.Disk.t
 pub returns-in-Err-clause-goes : goal.returns-in-Err-clause-goes
 returns-in-Err-clause-goes g c t into was x shows =
     let l = c.in-Some.live in
-    goes_along _ (shown_answer into (answer_at c.in-Err.fault)) _ (g.D.Disk.view c.append.new.disk) _ _ (ap (λ (a : code_answer.Answer). shown_answer into a) c.halt.ensures.answer) (ap g.D.Disk.view c.halt.ensures.disk) refl
+    goes_along _ (shown_answer into (answer_for c.in-Err.fault)) _ (g.D.Disk.view c.append.new.disk) _ _ (ap (λ (a : code_answer.Answer). shown_answer into a) c.halt.ensures.answer) (ap g.D.Disk.view c.halt.ensures.disk) refl
     (commit_fault t g.D.Disk.told was (g.D.Disk.view c.args.self.now.disk) (core_of c.args.self.now) x shows c.requires c.args.name (opened_of l) (sym c.in-Some.ensures) c.in-Err.fault (g.D.Disk.view c.append.new.disk) (core_of c.halt.new.self) into
     (ap (λ k. k.stopped) c.halt.ensures.stopped) c.in-Err.ensures.faults (λ past. cc (c.append.ensures.full past, c.in-Err.is)) (λ end. ap g.D.Disk.view (c.append.ensures.unchanged (cc (c.in-Err.is, end))).1) c.append.ensures.any_moment)
 
 pub returns-in-Err-force-clause-goes : goal.returns-in-Err-force-clause-goes
 returns-in-Err-force-clause-goes g c t into was x shows =
     let l = c.in-Some.live in
-    goes_along _ (shown_answer into (answer_at c.in-Err-force.fault)) _ (g.D.Disk.view c.force.new.disk) _ _ (ap (λ (a : code_answer.Answer). shown_answer into a) c.halt-in-Err-force.ensures.answer) (ap g.D.Disk.view c.halt-in-Err-force.ensures.disk) refl
+    goes_along _ (shown_answer into (answer_for c.in-Err-force.fault)) _ (g.D.Disk.view c.force.new.disk) _ _ (ap (λ (a : code_answer.Answer). shown_answer into a) c.halt-in-Err-force.ensures.answer) (ap g.D.Disk.view c.halt-in-Err-force.ensures.disk) refl
     (force_fault t g.D.Disk.told was (g.D.Disk.view c.args.self.now.disk) (core_of c.args.self.now) x shows c.requires c.args.name (opened_of l) (sym c.in-Some.ensures) c.in-Err-force.fault (g.D.Disk.view c.append.new.disk) (g.D.Disk.view c.force.new.disk) c.append.new.self (core_of c.halt-in-Err-force.new.self) into
     (ap (λ k. k.stopped) c.halt-in-Err-force.ensures.stopped) c.in-Err-force.ensures.faults c.append.ensures.later c.in-Ok.ensures.log c.in-Ok.ensures.holds c.append.ensures.any_moment c.in-Ok.ensures.elsewhere c.force.ensures.any_moment
     (λ past. absurd (cc (c.append.ensures.full past, c.in-Ok.is))))

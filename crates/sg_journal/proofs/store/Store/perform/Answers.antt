@@ -11,7 +11,7 @@ use Rattle.sg_words.specs.declared.answer.Answer as code_answer
 use Rattle.sg_words.specs.Answered.{shown_answer}
 use Rattle.sg_line_log.specs.Held.{Tail, tail_of, place_of}
 use Rattle.sg_journal.specs.Live.{Opened, Undo, with_last}
-use Rattle.sg_journal.specs.Shown.{opened_of, undo_of, answer_at}
+use Rattle.sg_journal.specs.Shown.{opened_of, undo_of, answer_for}
 use Rattle.sg_journal.specs.Store.{Core}
 use Rattle.sg_journal.specs.Seen.{core_of}
 use Rattle.sg_journal.specs.Goes.{NEW_WORK_END}
@@ -120,7 +120,7 @@ returns-in-Err-keep-clause-goes g c was x shows =
     let changing = sym c.is_changing.ensures ∙ c.if-not-is_changing.false in
     let e = rw c.in-Ok-Ok.field-0-is at c.in-Ok-Ok.ensures.done in
     let h = locked t g.D.Disk.told was v k x shows c.requires.running l.transaction op _ c.hold.new.locks c.touches.ensures c.in-Ok.ensures.granted c.in-Ok.ensures.after in
-    goes_along _ (shown_answer c.change.new.into (answer_at c.in-Err-keep.fault)) _ (g.D.Disk.view c.keep.new.self.disk) _ _ (ap (λ (a : code_answer.Answer). shown_answer c.change.new.into a) c.halt.ensures.answer) (ap g.D.Disk.view c.halt.ensures.disk) refl
+    goes_along _ (shown_answer c.change.new.into (answer_for c.in-Err-keep.fault)) _ (g.D.Disk.view c.keep.new.self.disk) _ _ (ap (λ (a : code_answer.Answer). shown_answer c.change.new.into a) c.halt.ensures.answer) (ap g.D.Disk.view c.halt.ensures.disk) refl
     (op_fault t g.D.Disk.told was v k x shows c.requires.running c.args.name op l (sym c.in-Some.ensures) c.hold.new.locks h (said_reply c.change.new.into c.in-Ok-Ok.reply) c.in-Err-keep.fault (g.D.Disk.view c.keep.new.self.disk) (core_of c.halt.new.self)
     (LineRecord l.transaction l.last words) c.change.new.into (ap (λ (m : Core). m.stopped) c.halt.ensures.stopped) changing (ap (λ (p : Outcome × Objects). p.0) e) low c.keep.ensures.range c.in-Err-keep.ensures.faults c.keep.ensures.any_moment)
 

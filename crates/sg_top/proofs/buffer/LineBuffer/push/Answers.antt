@@ -5,5 +5,5 @@ use Rattle.sg_top.proofs.buffer.LineBuffer.push.Goals as goal
 
 pub returns : goal.returns
 returns c =
-    let long : length c.args.self.now ≡ c.self.inside.len = ap length (sym c.self.view_is) ∙ length-take-le c.self.inside.len c.self.inside.bytes (omega (arith, c.self.invariant.within, c.self.invariant.full)) in
+    let long : length c.args.self.now ≡ c.self.inside.len = ap length (sym c.self.view_is) ∙ length-take-le c.self.inside.len c.self.inside.bytes (omega (arith, c.self.invariant.within, c.self.invariant.size)) in
     c.add.ensures ∙ kept_front c.args.self.now c.args.part.now c.self.inside.len c.min-count.result long c.self.invariant.within c.min-count.ensures

@@ -1,5 +1,4 @@
 use Rattle.std.proofs.Common.{Result, Ok, Err, OnOk, OnErr}
-use Rattle.std.specs.Prelude.{MatchResult}
 use Rattle.sg_words.specs.Answered.{shown_answer}
 use Rattle.sg_top.proofs.OneLines.{one_line}
 use Rattle.sg_top.proofs.Serial.{answered}
@@ -13,10 +12,6 @@ on_err : {T E A B : Type 0} (r : Result T E) → (A → B) → OnErr r A → OnE
 on_err (Ok u) f is = tt
 on_err (Err e) f is = f is
 
-either : {T E : Type 0} (A B : Type 0) (r : Result T E) → OnOk r A → OnErr r B → MatchResult r (λ u. A) (λ e. B)
-either A B (Ok u) ok err = ok
-either A B (Err e) ok err = err
-
 pub returns-clause-line : goal.returns-clause-line
 returns-clause-line g c = on_ok c.heard.result (λ took was x shows. answered _ g.D.Disk.told was _ _ x _ _ _ _ (shown_answer c.answer-answer.new.into c.answer-answer.result) (c.answer-answer.ensures.goes was x shows) took) (rw c.heard.ensures.written c.write_answer-written.ensures.took)
 
@@ -25,8 +20,7 @@ returns-clause-cut g c = on_err c.heard.result (λ took was x shows. answered _ 
 
 pub returns-clause-one_line : goal.returns-clause-one_line
 returns-clause-one_line g c was x shows running is_told =
-    one_line _ g.D.Disk.told was _ _ x _ (shown_answer c.answer-answer.new.into c.answer-answer.result) _ _ shows running (c.answer-answer.ensures.goes was x shows) is_told _
-    (rw c.heard.ensures.written (either _ _ c.write_answer-written.result c.write_answer-written.ensures.took c.write_answer-written.ensures.cut))
+    one_line _ g.D.Disk.told was _ _ x _ (shown_answer c.answer-answer.new.into c.answer-answer.result) _ _ shows running (c.answer-answer.ensures.goes was x shows) is_told
 
 pub returns-clause-quiet : goal.returns-clause-quiet
 returns-clause-quiet g c = rw c.heard.ensures.written c.write_answer-written.ensures.quiet
