@@ -1,10 +1,10 @@
 -- The operations that an opening needs.
-use Rattle.std.proofs.Common.{◌≡◌, ◌⊎◌, inl, inr, ℕ, ◌≤◌, ◌==◌, ◌||◌, nat_le, Bool, true, false, not, ◌&&◌, nat_lt, List, [], ◌∷◌, ◌++◌, refl, sym, ap, ◌∙◌, subst}
+use Rattle.std.proofs.Common.{◌≡◌, ◌⊎◌, inl, inr, ℕ, ◌≤◌, ◌==◌, ◌||◌, nat_le, true, not, ◌&&◌, nat_lt, List, [], ◌∷◌, ◌++◌, refl, sym, subst}
 use Rattle.std.specs.Prelude.{if◌then◌else◌}
 use Rattle.sg_record.specs.Changes.{Change as Changing}
-use Rattle.sg_record.specs.Records.{Record, Says}
+use Rattle.sg_record.specs.Records.{Says}
 use Rattle.sg_record.specs.Records.Says.{Begin as SaysBegin, Changed as SaysChanged, TopEnd as SaysTopEnd, PhysComp as SaysPhysComp, TopVoid as SaysTopVoid, CompEnd as SaysCompEnd, Save as SaysSave, Commit as SaysCommit, End as SaysEnd, Checkpoint as SaysCheckpoint, Line as SaysLine}
-use Rattle.sg_recovery.specs.Log.{Open, said, tally, is_in}
+use Rattle.sg_recovery.specs.Log.{Open, tally, is_in}
 use Rattle.sg_recovery.specs.Laws.{Each}
 use Rattle.sg_recovery.proofs.Basic.{each_more, each_filter, same_number, le_true, or_left, or_right}
 use Rattle.sg_log.specs.Frames.{Numbered}

@@ -1,5 +1,5 @@
 -- How actions and transactions end in a formed log.
-use Rattle.std.specs.Prelude.{◌≡◌, ◌⊎◌, ◌<◌, ◌==◌, if◌then◌else◌, ℕ, Bool, true, false, List, [], ◌∷◌, Option, Some, None}
+use Rattle.std.specs.Prelude.{◌≡◌, ◌⊎◌, ◌<◌, ◌==◌, if◌then◌else◌, ℕ, Bool, true, false, [], ◌∷◌, Option, Some, None}
 use Rattle.sg_recovery.specs.Log.{tally, is_in, open_of}
 use Rattle.sg_recovery.specs.Log.Record.{Begin, Change, TopEnd, PhysComp, TopVoid, CompEnd, Save, Commit, End}
 use Rattle.sg_recovery.specs.Chains.{txn_of, previous_of, last_of, border_of, next_off}
