@@ -1,5 +1,5 @@
 -- A formed log isn't damaged.
-use Rattle.std.proofs.Common.{◌≡◌, ◌⊎◌, inl, inr, ℕ, ◌+◌, ◌<◌, ◌≤◌, ◌==◌, ◌&&◌, ◌||◌, nat_lt, nat_le, arith, Bool, true, false, cond, not, List, [], ◌∷◌, ◌++◌, length, filter, refl, sym, ap, ◌∙◌, subst, le_trans, le_of_eq, le_of_lt, lt_of_lt_of_le, lt_of_le_of_lt}
+use Rattle.std.proofs.Common.{◌≡◌, ◌⊎◌, inl, inr, ℕ, ◌+◌, ◌<◌, ◌≤◌, ◌==◌, ◌&&◌, ◌||◌, nat_lt, nat_le, arith, Bool, true, false, cond, not, List, [], ◌∷◌, ◌++◌, length, filter, Option, Some, None, refl, sym, ap, ◌∙◌, subst, le_trans, le_of_eq, le_of_lt, lt_of_lt_of_le, lt_of_le_of_lt}
 use Rattle.std.specs.Bool.{MatchBool}
 use Rattle.std.proofs.lemmas.List.Sums.{length-filter}
 use Rattle.sg_disk.specs.Disk.{Bytes}
@@ -24,7 +24,8 @@ use Rattle.sg_recovery.proofs.TakeOff.{own_of, taken}
 use Rattle.sg_analysis.specs.Sights.{Step, Steps, Sight, sight_of, with_step, steps_behind, steps_of}
 use Rattle.sg_analysis.specs.Sights.Sight.{Stepped, Estimated, Foreign}
 use Rattle.sg_analysis.specs.Analysis.{oldest_first, lacks_end, acting, unfinished_count}
-use Rattle.sg_analysis.specs.Standing.{goes_right, is_systems, precedes_system, goes_on, may_step, may_stand, all_stand_behind, all_stand, IsPlausible, ArePlausible, IsPageLog}
+use Rattle.sg_analysis.specs.Ending.{is_end, newest, EndsWell, AllEndWell, MayBeBehind, OverBy, IsOver, AllOver}
+use Rattle.sg_analysis.specs.Standing.{goes_right, is_systems, precedes_system, may_be_over, goes_on, may_step, may_stand, all_stand_behind, all_stand, IsPlausible, ArePlausible, IsPageLog}
 use Rattle.sg_analysis.specs.Damage.{IsTorn, IsAmbiguous, IsDamagedAt}
 use Rattle.sg_analysis.proofs.Taking.{both_true, true_left, all_stand-both, append_none, append_assoc}
 use Rattle.sg_analysis.proofs.Walking.{front_of}
@@ -36,13 +37,15 @@ record AreFacts (base : ℕ) (rs : Steps) : Type 0 where
   pub owned : AreOwned rs
   pub chained : Formed rs
   pub system : FormedSystem base rs
+  pub ended : AllEndWell rs
+  pub over : AllOver base rs
 
 facts_back : (base : ℕ) (ns : List Numbered) (rs : Steps) → AreFacts base (steps_behind rs ns) → AreFacts base rs
 facts_back base [] rs h = h
 facts_back base (n ∷ ns) rs h = by_sight (sight_of n.is) (facts_back base ns (with_step rs n.lsn (sight_of n.is)) h)
   where
     by_sight : (v : Sight) → AreFacts base (with_step rs n.lsn v) → AreFacts base rs
-    by_sight (Stepped x) k = record { above = k.above.1; owned = k.owned.1; chained = k.chained.2; system = k.system.1 }
+    by_sight (Stepped x) k = record { above = k.above.1; owned = k.owned.1; chained = k.chained.2; system = k.system.1; ended = k.ended.1; over = k.over.1 }
     by_sight (Estimated e) k = k
     by_sight Foreign k = k
 
@@ -99,21 +102,21 @@ before_border rs t u n ns h is undo =
 same : (a b : ℕ) → a ≡ b → (a == b) ≡ true
 same a b e = ap (λ n. n == b) e ∙ same_number b
 
-own_step : (base : ℕ) (rs : Steps) (lsn : ℕ) (x : Step) → IsOn x → Sound rs → Taken rs → is_in (txn_of x) (tally rs).live ≡ true → (IsKnown (tally rs) x → Follows rs lsn x)
+own_step : (base : ℕ) (rs : Steps) (lsn : ℕ) (x : Step) → IsOn x → Sound rs → Taken rs → is_in (txn_of x) (tally rs).live ≡ true → (IsKnown (tally rs) x → Follows rs lsn x) → EndsWell rs x
     → (previous_of x == last_of (txn_of x) rs && goes_right (border_of (txn_of x) rs) x) ≡ true
-own_step base rs lsn (Begin t p) on h k live f = absurd on
-own_step base rs lsn (Change t p c) on h k live f = both_true (p == last_of t rs) true (same p (last_of t rs) (f live)) refl
-own_step base rs lsn (TopEnd t p u n) on h k live f = both_true (p == last_of t rs) (u == border_of t rs) (same p (last_of t rs) (f live).0) (same u (border_of t rs) (f live).1)
-own_step base rs lsn (PhysComp t p u c) on h k live f =
+own_step base rs lsn (Begin t p) on h k live f z = absurd on
+own_step base rs lsn (Change t p c) on h k live f z = both_true (p == last_of t rs) true (same p (last_of t rs) (f live)) refl
+own_step base rs lsn (TopEnd t p u n) on h k live f z = both_true (p == last_of t rs) (u == border_of t rs) (same p (last_of t rs) (f live).0) (same u (border_of t rs) (f live).1)
+own_step base rs lsn (PhysComp t p u c) on h k live f z =
     let g = (f live).1 in
     both_true (p == last_of t rs) (nat_le (border_of t rs) u) (same p (last_of t rs) (f live).0) (le_true (border_of t rs) u (not_before rs t u g.0 g.1 k live g.2 g.3))
-own_step base rs lsn (TopVoid t p u) on h k live f = both_true (p == last_of t rs) (u == border_of t rs) (same p (last_of t rs) (f live).0) (same u (border_of t rs) (f live).2)
-own_step base rs lsn (CompEnd t p u) on h k live f =
+own_step base rs lsn (TopVoid t p u) on h k live f z = both_true (p == last_of t rs) (u == border_of t rs) (same p (last_of t rs) (f live).0) (same u (border_of t rs) (f live).2)
+own_step base rs lsn (CompEnd t p u) on h k live f z =
     let g = (f live).1 in
     both_true (p == last_of t rs) (nat_lt u (border_of t rs)) (same p (last_of t rs) (f live).0) (lt_true u (border_of t rs) (before_border rs t u g.0 g.1 h g.2 g.3))
-own_step base rs lsn (Save t p m) on h k live f = both_true (p == last_of t rs) (p == border_of t rs) (same p (last_of t rs) (f live).0) (same p (border_of t rs) (f live).2)
-own_step base rs lsn (Commit t p) on h k live f = both_true (p == last_of t rs) true (same p (last_of t rs) (f live).0) refl
-own_step base rs lsn (End t p) on h k live f = both_true (p == last_of t rs) true (same p (last_of t rs) (f live).0) refl
+own_step base rs lsn (Save t p m) on h k live f z = both_true (p == last_of t rs) (p == border_of t rs) (same p (last_of t rs) (f live).0) (same p (border_of t rs) (f live).2)
+own_step base rs lsn (Commit t p) on h k live f z = both_true (p == last_of t rs) (p == border_of t rs) (same p (last_of t rs) (f live).0) (same p (border_of t rs) ((f live).0 ∙ z live))
+own_step base rs lsn (End t p) on h k live f z = both_true (p == last_of t rs) (p == border_of t rs) (same p (last_of t rs) (f live).0) (same p (border_of t rs) ((f live).0 ∙ z live))
 
 on_low : (lsn : ℕ) (x : Step) → IsOn x → IsOwned lsn x → txn_of x < lsn
 on_low lsn (Begin t p) on h = absurd on
@@ -126,6 +129,31 @@ on_low lsn (Save t p m) on h = h
 on_low lsn (Commit t p) on h = h
 on_low lsn (End t p) on h = h
 
+-- what is asked of a record whose transaction doesn't go on
+over_on : (base : ℕ) (rs : Steps) (x : Step) → IsOn x → IsOver base rs x → OverBy base rs x
+over_on base rs (Begin t p) on h = absurd on
+over_on base rs (Change t p c) on h = h
+over_on base rs (TopEnd t p u n) on h = h
+over_on base rs (PhysComp t p u c) on h = h
+over_on base rs (TopVoid t p u) on h = h
+over_on base rs (CompEnd t p u) on h = h
+over_on base rs (Save t p m) on h = h
+over_on base rs (Commit t p) on h = h
+over_on base rs (End t p) on h = h
+
+-- is told
+over_told : (base last : ℕ) (x : Step) (o : Option Step) → MayBeBehind base last x o → may_be_over base x ≡ true
+over_told base last x None h = or_left (nat_lt (txn_of x) base) (is_end x) (lt_true (txn_of x) base h.0)
+over_told base last x (Some (Begin t p)) h = or_left (nat_lt (txn_of x) base) (is_end x) (lt_true (txn_of x) base h.0)
+over_told base last x (Some (Change t p c)) h = or_left (nat_lt (txn_of x) base) (is_end x) (lt_true (txn_of x) base h.0)
+over_told base last x (Some (TopEnd t p u n)) h = or_left (nat_lt (txn_of x) base) (is_end x) (lt_true (txn_of x) base h.0)
+over_told base last x (Some (PhysComp t p u c)) h = or_left (nat_lt (txn_of x) base) (is_end x) (lt_true (txn_of x) base h.0)
+over_told base last x (Some (TopVoid t p u)) h = or_left (nat_lt (txn_of x) base) (is_end x) (lt_true (txn_of x) base h.0)
+over_told base last x (Some (CompEnd t p u)) h = or_left (nat_lt (txn_of x) base) (is_end x) (lt_true (txn_of x) base h.0)
+over_told base last x (Some (Save t p m)) h = or_left (nat_lt (txn_of x) base) (is_end x) (lt_true (txn_of x) base h.0)
+over_told base last x (Some (Commit t p)) h = or_right (nat_lt (txn_of x) base) (is_end x) h.0
+over_told base last x (Some (End t p)) h = absurd h
+
 stands_on : (base : ℕ) (rs : Steps) (lsn : ℕ) (x : Step) → IsOn x → AreFacts base (record { lsn = lsn; is = x } ∷ rs) → may_step base rs lsn x ≡ true
 stands_on base rs lsn x on h =
     may_step-on base rs lsn x on ∙ both_true (nat_lt (txn_of x) lsn) (goes_on base rs x) (lt_true (txn_of x) lsn (on_low lsn x on h.owned.0)) (by_system (txn_of x == 0) refl)
@@ -133,14 +161,14 @@ stands_on base rs lsn x on h =
     own : Bool
     own = previous_of x == last_of (txn_of x) rs && goes_right (border_of (txn_of x) rs) x
 
-    by_live : (b : Bool) → is_in (txn_of x) (tally rs).live ≡ b → cond b (previous_of x == last_of (txn_of x) rs && goes_right (border_of (txn_of x) rs) x) true ≡ true
-    by_live true e = own_step base rs lsn x on (sound rs h.chained.2) (taken rs h.chained.2 h.owned.1) e h.chained.1
-    by_live false e = refl
+    by_live : (b : Bool) → is_in (txn_of x) (tally rs).live ≡ b → (txn_of x ≡ 0 → ⊥) → cond b (previous_of x == last_of (txn_of x) rs && goes_right (border_of (txn_of x) rs) x) (may_be_over base x) ≡ true
+    by_live true e some = own_step base rs lsn x on (sound rs h.chained.2) (taken rs h.chained.2 h.owned.1) e h.chained.1 h.ended.0
+    by_live false e some = over_told base (last_of (txn_of x) rs) x (newest (txn_of x) rs) (over_on base rs x on h.over.0 some e)
 
     by_system : (b : Bool) → (txn_of x == 0) ≡ b
-        → cond b (precedes_system base (last_of 0 rs) (border_of 0 rs) (previous_of x) && is_systems x) (cond (is_in (txn_of x) (tally rs).live) (previous_of x == last_of (txn_of x) rs && goes_right (border_of (txn_of x) rs) x) true) ≡ true
+        → cond b (precedes_system base (last_of 0 rs) (border_of 0 rs) (previous_of x) && is_systems x) (cond (is_in (txn_of x) (tally rs).live) (previous_of x == last_of (txn_of x) rs && goes_right (border_of (txn_of x) rs) x) (may_be_over base x)) ≡ true
     by_system true e = systems_step base rs x (h.system.0 (number_is (txn_of x) 0 e))
-    by_system false e = by_live (is_in (txn_of x) (tally rs).live) refl
+    by_system false e = by_live (is_in (txn_of x) (tally rs).live) refl (λ is. clash (txn_of x == 0) e (same (txn_of x) 0 is))
 
 stands : (base : ℕ) (rs : Steps) (lsn : ℕ) (x : Step) → AreFacts base (record { lsn = lsn; is = x } ∷ rs) → may_step base rs lsn x ≡ true
 stands base rs lsn (Begin t p) h = let f = h.chained.1 tt in both_true (t == lsn) (p == 0) (same t lsn f.0) (same p 0 f.1)
@@ -166,7 +194,7 @@ all_stands base (n ∷ ns) rs h p =
 
 -- each record of a formed log may stand where it does
 pub formed_stands : (base : ℕ) (ns : List Numbered) → IsPageLog base ns → all_stand base ns ≡ true
-formed_stands base ns h = all_stands base ns [] (record { above = h.steps.above; owned = h.steps.owned; chained = h.steps.chained; system = h.steps.system }) h.plausible
+formed_stands base ns h = all_stands base ns [] (record { above = h.steps.above; owned = h.steps.owned; chained = h.steps.chained; system = h.steps.system; ended = h.ended; over = h.over }) h.plausible
 
 -- the transactions that go on have different numbers, none of them 0
 abbrev Differ : ℕ → ℕ → Type 0

@@ -4,7 +4,7 @@ use Rattle.sg_base.specs.declared.area.Area.{Area}
 use Rattle.sg_disk.specs.Disk.{Bytes, State, View, FULL}
 use Rattle.sg_record.specs.Records.{Record}
 use Rattle.sg_log.specs.Faults.{FrameFails}
-use Rattle.sg_log.specs.Formed.{HasBody, IsWhole, IsFormed, AreFormed, IsUnformed}
+use Rattle.sg_log.specs.Formed.{HasBody, IsFormed, AreFormed, IsUnformed}
 use Rattle.sg_log.specs.Frames.{GREATEST_BODY, LOG_END, Frames, HasRecords, Numbered, gate_after, numbered_from, numbered_in, text_of}
 use Rattle.sg_log.specs.Reads.{OnlyReads}
 use Rattle.sg_log.specs.Texts.{spelled_all}

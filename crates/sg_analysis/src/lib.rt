@@ -18,5 +18,5 @@ mod scan;
 
 pub use analysis::{Analysis, analyse};
 pub use fault::AnalysisFault;
-pub use laws::{analyses_suffice, formed_logs_exist};
+pub use laws::{analyses_suffice, codes_suffice, formed_logs_exist};
 pub use losers::Losers;

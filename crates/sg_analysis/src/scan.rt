@@ -9,7 +9,7 @@ ghost use Rattle.sg_analysis.specs.Standing.{may_stand, goes_on};
 ghost use Rattle.sg_analysis.specs.Rows.{touched, rows_by, Knows, AreTaken, RecordsFail};
 
 use crate::AnalysisFault;
-use crate::records::{ends_action, goes_right, is_systems, precedes_system};
+use crate::records::{ends_action, goes_right, is_systems, may_be_over, precedes_system};
 use crate::row::{Row, touch_all};
 use sg_base::{Lsn, TxnId};
 use sg_record::{Rec, decode};
@@ -65,7 +65,7 @@ impl Scan {
             return precedes_system(self.base, self.system, rec.prev()) && is_systems(rec);
         }
         match self.row(txn) {
-            None => true,
+            None => may_be_over(self.base, txn, rec),
             Some(row) => rec.prev() == row.last && goes_right(row.border, rec),
         }
     }

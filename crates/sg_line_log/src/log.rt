@@ -10,9 +10,9 @@ ghost use Rattle.sg_line_log.specs.Frames.{Frames, Numbered, HasRecords, SameEls
 ghost use Rattle.sg_line_log.specs.Held.{Tail, IsTail, Holds, tail_of, place_of, end_of, has_room, forced, buffered, appended, durable_after, waiting_after, IsBeforeOrAfter};
 ghost use Rattle.sg_line_log.specs.Reads.{OnlyReads};
 
+use crate::LogFault;
 use crate::frame::{seal, write_frame};
 use crate::reading::{find_gate, read_frame};
-use crate::LogFault;
 use sg_base::{Area, Lsn};
 use sg_disk::Disk;
 use sg_record::plain::{Rec, encode, size};

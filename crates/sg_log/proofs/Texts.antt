@@ -1,7 +1,6 @@
 -- The bytes of records.
-use Rattle.std.proofs.Common.{◌≡◌, ◌≤◌, ◌+◌, ℕ, List, [], ◌∷◌, ◌++◌, length, refl, ◌∙◌, ap, arith, length-append}
+use Rattle.std.proofs.Common.{◌≡◌, ◌≤◌, ◌+◌, List, [], ◌∷◌, length, refl, ◌∙◌, ap, arith, length-append}
 use Rattle.sg_record.specs.Records.{Record, HEADER, header, code_of, kind_of, body_of, spelled}
-use Rattle.sg_record.specs.Ranges.{IsRecord}
 use Rattle.sg_record.proofs.Parsing.{spelled_first}
 use Rattle.sg_log.specs.Texts.{spelled_all, AreRecords}
 

@@ -1,5 +1,5 @@
 -- Which records a log holds, read from its bytes.
-use Rattle.std.specs.Prelude.{◌≡◌, ◌+◌, ◌==◌, ℕ, zero, suc, if◌then◌else◌, List, [], ◌∷◌, ◌++◌, length, drop, Ok, Err}
+use Rattle.std.specs.Prelude.{◌+◌, ◌==◌, ℕ, zero, suc, if◌then◌else◌, List, [], ◌∷◌, ◌++◌, length, drop, Ok, Err}
 use Rattle.byteorder.specs.Endian.{little_number}
 use Rattle.sg_disk.specs.Disk.{Bytes, View, window}
 use Rattle.sg_record.specs.Reading.{Parsed, parse}

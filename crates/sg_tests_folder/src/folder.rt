@@ -1,9 +1,10 @@
-use crate::folder::Call::{Cut, Faults, Read, Sync, Write};
-use crate::folder::Step::{Begin, End, IsThere, On};
+use crate::folder::Call::{Cut, Faults, Last, Read, Sync, Write};
+use crate::folder::Step::{Begin, End, IsThere, MakeFolder, On};
 use crate::folder::Which::{First, Second};
 use sg_base::Area::{self, Home, Log0, Log1};
 use sg_disk::Disk;
 use sg_folder::FolderDisk;
+use std::io::ErrorKind;
 use std::path::{Path, PathBuf};
 use std::test::Fail;
 use std::{env, fs, mem, process};
@@ -24,15 +25,18 @@ enum Call {
     Sync(Area, bool),
     // how many calls have failed
     Faults(u64),
+    // what kind of error the last failure was
+    Last(Option<ErrorKind>),
 }
 
-// What is done in a trial: a disk begins, one ends, one is called, or it is looked whether the folder has a file of this
-// name, where `.` is the folder itself.
+// What is done in a trial: a disk begins, one ends, one is called, the folder gets a folder of this name, or it is looked
+// whether it has a file of this name, where `.` is the folder itself.
 #[derive(Clone, Copy)]
 enum Step {
     Begin(Which),
     End(Which),
     On(Which, Call),
+    MakeFolder(&'static str),
     IsThere(&'static str, bool),
 }
 
@@ -66,6 +70,10 @@ fn faults(disk: &FolderDisk<'_, HostRuntime>) -> u64 {
     disk.faults()
 }
 
+fn last_fault(disk: &FolderDisk<'_, HostRuntime>) -> Option<ErrorKind> {
+    disk.last_fault()
+}
+
 // Whether a call that each disk has gives what it should.
 fn disk_goes(disk: &mut impl Disk, call: Call) -> bool {
     match call {
@@ -73,7 +81,7 @@ fn disk_goes(disk: &mut impl Disk, call: Call) -> bool {
         Write(area, at, bytes, well) => write(disk, area, at, &bytes) == well,
         Cut(area, at, well) => cut(disk, area, at) == well,
         Sync(area, well) => sync(disk, area) == well,
-        Faults(_) => false,
+        Faults(_) | Last(_) => false,
     }
 }
 
@@ -81,6 +89,7 @@ fn disk_goes(disk: &mut impl Disk, call: Call) -> bool {
 fn call_goes(disk: &mut FolderDisk<'_, HostRuntime>, call: Call) -> bool {
     match call {
         Faults(count) => faults(disk) == count,
+        Last(kind) => last_fault(disk) == kind,
         _ => disk_goes(disk, call),
     }
 }
@@ -99,6 +108,12 @@ impl<'a> Trial<'a> {
     fn is_there(&self, name: &str) -> Option<bool> {
         let path = Path::new(self.path).join(self.rt.alloc(), name).ok()?;
         Some(path.exists(self.rt))
+    }
+
+    // Whether a folder of this name could be made in the folder.
+    fn make_folder(&self, name: &str) -> Option<()> {
+        let path = Path::new(self.path).join(self.rt.alloc(), name).ok()?;
+        fs::create_dir(self.rt, path.as_path()).ok()
     }
 
     // The place of a disk.
@@ -135,6 +150,7 @@ impl<'a> Trial<'a> {
                 true
             }
             On(which, call) => self.call_goes(which, call),
+            MakeFolder(name) => self.make_folder(name).is_some(),
             IsThere(name, there) => self.is_there(name) == Some(there),
         }
     }
@@ -246,17 +262,45 @@ const RACE: [Step; 16] = [
     End(Second),
 ];
 
-const NO_FOLDER: [Call; 5] = [
+// After a sync has failed, here of a file that can't be opened since it is a folder, the disk refuses each call, with that
+// error's kind. Another disk over the folder doesn't.
+const FAILED_SYNC: [Step; 17] = [
+    Begin(First),
+    On(First, Write(Log0, 0, *b"abc", true)),
+    On(First, Sync(Log0, true)),
+    On(First, Last(None)),
+    On(First, Write(Log0, FAR, *b"abc", false)),
+    On(First, Last(Some(ErrorKind::InvalidInput))),
+    On(First, Read(Log0, 0, Some(*b"abc\0\0\0"))),
+    MakeFolder("home"),
+    On(First, Sync(Home, false)),
+    On(First, Read(Log0, 0, None)),
+    On(First, Write(Log0, 0, *b"xyz", false)),
+    On(First, Cut(Log0, 0, false)),
+    On(First, Sync(Log0, false)),
+    On(First, Last(Some(ErrorKind::IsADirectory))),
+    End(First),
+    Begin(First),
+    On(First, Read(Log0, 0, Some(*b"abc\0\0\0"))),
+];
+
+const NO_FOLDER: [Call; 7] = [
+    Last(None),
     Read(Home, 0, None),
     Write(Log0, 0, *b"abc", false),
     Cut(Log1, 0, false),
     Sync(Home, false),
     Faults(4),
+    Last(Some(ErrorKind::NotFound)),
 ];
 
 // The number of the first step of each of these tables that gives otherwise than it should.
 fn first_wrong_file(rt: &HostRuntime) -> Result<Option<usize>, Fail> {
     first_wrong_in(rt, "files", &FILES)
+}
+
+fn first_wrong_sync(rt: &HostRuntime) -> Result<Option<usize>, Fail> {
+    first_wrong_in(rt, "sync", &FAILED_SYNC)
 }
 
 fn first_wrong_race(rt: &HostRuntime) -> Result<Option<usize>, Fail> {
@@ -278,6 +322,12 @@ fn keeps_bytes_in_files(rt: HostRuntime) -> Result<(), Fail> {
 #[test]
 fn a_folder_that_was_made_since_is_refused(rt: HostRuntime) -> Result<(), Fail> {
     assert_eq!(rt; first_wrong_race(&rt)?, None);
+    Ok(())
+}
+
+#[test]
+fn a_failed_sync_stays_failed(rt: HostRuntime) -> Result<(), Fail> {
+    assert_eq!(rt; first_wrong_sync(&rt)?, None);
     Ok(())
 }
 

@@ -323,7 +323,7 @@ fn the_system_checkpoints_and_cuts(rt: HostRuntime) -> Result<(), Fail> {
 #[test]
 fn hostile_records(rt: HostRuntime) -> Result<(), Fail> {
     let alloc = rt.alloc();
-    let rows: [&[Made]; 28] = [
+    let rows: [&[Made]; 34] = [
         &[(1, 0, 0, 0)],
         &[(1, BEHIND, 0, 0)],
         &[(1, 1, 0, 0), (1, 1, 0, 0)],
@@ -347,6 +347,13 @@ fn hostile_records(rt: HostRuntime) -> Result<(), Fail> {
         &[(1, 1, 0, 0), (2, 1, 1, 0), (9, 1, 2, 0)],
         &[(1, 1, 0, 0), (10, 1, 0, 0)],
         &[(1, 1, 0, 0), (11, 1, 0, 0)],
+        // of a transaction that has no begin, within an action, behind a commit, and behind an end
+        &[(12, 0, 0, 1), (2, 1, 0, 0)],
+        &[(1, 1, 0, 0), (2, 1, 1, 0), (10, 1, 2, 0)],
+        &[(1, 1, 0, 0), (2, 1, 1, 0), (6, 1, 2, 1), (10, 1, 3, 0)],
+        &[(1, 1, 0, 0), (2, 1, 1, 0), (6, 1, 2, 1), (11, 1, 3, 0)],
+        &[(1, 1, 0, 0), (10, 1, 1, 0), (2, 1, 2, 0)],
+        &[(1, 1, 0, 0), (11, 1, 1, 0), (2, 1, 2, 0)],
         &[(8, 0, 0, 0)],
         &[(9, 0, 0, 0)],
         &[(10, 0, 0, 0)],
