@@ -19,7 +19,8 @@ use Rattle.sg_store.specs.Engine.{View, Action, IsEngine, Changes, Changed, Appe
 use Rattle.sg_store.specs.Verbs.{CanPerform, HasPerformed, LeftAlone, IsNoted, IsNotedBy}
 use Rattle.sg_store.specs.Store.{IsKept}
 use Rattle.sg_store.specs.Stands.{StandsFor}
-use Rattle.sg_store.specs.Calls.{Stays, IsGranted, HasRoom}
+use Rattle.sg_run.specs.Numbers.{IsGranted}
+use Rattle.sg_store.specs.Calls.{Stays, HasRoom}
 use Rattle.sg_store.proofs.Lines.{reads}
 use Rattle.sg_store.proofs.Actions.{reads_now}
 use Rattle.sg_store.proofs.Performing as performing

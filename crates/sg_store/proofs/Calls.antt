@@ -29,7 +29,8 @@ use Rattle.sg_store.specs.Ground.{Ground, IsLawful, setting}
 use Rattle.sg_store.specs.Engine.{View, IsImageOf, Appends, Appended, IsNearEnd, IsDiskFault}
 use Rattle.sg_store.specs.Stands.{StandsFor, StandsForFirst}
 use Rattle.sg_store.specs.Store.{Core, Shows, Runs, IsKept, Logs, AreReserved}
-use Rattle.sg_store.specs.Calls.{Goes, Begins, NEW_WORK_END}
+use Rattle.sg_run.specs.Numbers.{NEW_WORK_END}
+use Rattle.sg_store.specs.Calls.{Goes, Begins}
 use Rattle.sg_recovery.specs.Shows.{IsNote}
 use Rattle.sg_recovery.proofs.Basic.{each_more}
 use Rattle.sg_store.proofs.Live.{reserved_begun, each_bare}

@@ -30,7 +30,8 @@ use Rattle.sg_store.specs.Ground.{Ground, IsLawful, setting}
 use Rattle.sg_store.specs.Engine.{View, Appends, Appended, IsDiskFault, pages_of}
 use Rattle.sg_store.specs.Stands.{StandsFor, StandsForFirst}
 use Rattle.sg_store.specs.Store.{Core, Shows, Runs, IsKept, IsLeaving, Logs, AreReserved}
-use Rattle.sg_store.specs.Calls.{Goes, Commits, Stays, stopped_in, at_log_end}
+use Rattle.sg_run.specs.Numbers.{stopped_in, at_log_end}
+use Rattle.sg_store.specs.Calls.{Goes, Commits, Stays}
 use Rattle.sg_store.specs.Stops.{refused_at, stop_at}
 use Rattle.sg_store.proofs.Ending.{IsNear}
 use Rattle.sg_store.proofs.Images.{image_either}

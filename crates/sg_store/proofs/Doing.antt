@@ -18,7 +18,8 @@ use Rattle.sg_store.specs.declared.fault.Needed.{Needed}
 use Rattle.sg_store.specs.Ground.{Ground, IsLawful}
 use Rattle.sg_store.specs.Engine.{View}
 use Rattle.sg_store.specs.Store.{Core, Shows, Runs, IsKept}
-use Rattle.sg_store.specs.Calls.{NEW_WORK_END, Goes, Does, Stays, Holds, IsGranted, Rooms, HasRoom, Acts, Broke}
+use Rattle.sg_run.specs.Numbers.{NEW_WORK_END, IsGranted}
+use Rattle.sg_store.specs.Calls.{Goes, Does, Stays, Holds, Rooms, HasRoom, Acts, Broke}
 use Rattle.sg_store.proofs.Lines.{locks_logs}
 use Rattle.sg_store.proofs.Actions.{no_holder, looks_logs}
 use Rattle.sg_store.proofs.Live.{same_live}

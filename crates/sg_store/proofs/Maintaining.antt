@@ -15,7 +15,7 @@ use Rattle.sg_store.specs.declared.fault.Refused.TheVariants as refusals
 use Rattle.sg_store.specs.Ground.{Ground, IsLawful}
 use Rattle.sg_store.specs.Engine.{View, Rests, Rested, IsNearEnd, IsDiskFault, IsOldest}
 use Rattle.sg_store.specs.Store.{Core, Shows, Runs}
-use Rattle.sg_store.specs.Calls.{Goes, Maintains, Marks}
+use Rattle.sg_store.specs.Calls.{Goes, Flushes, Checkpoints}
 use Rattle.sg_store.specs.Stops.{stop_at, refused_at}
 use Rattle.sg_store.proofs.Calls.{goes_same, goes_on, goes_down, call_stands, some_stop, no_stop}
 use Rattle.sg_recovery.proofs.Basic.{number_is}
@@ -23,11 +23,11 @@ use Rattle.sg_serial.specs.Runs.{AreAbove}
 use Rattle.sg_store.proofs.Holding.{rested_kept}
 
 module _ (t : Operations) (g : Ground) (lawful : IsLawful t g) (v : View g) (k : Core) (x : Run) (now : ℕ) (s : Shows t g v k x) where
-  pub keeps_stopped : is_some k.stopped ≡ true → Goes t g v x (Maintains v.faults now x (Err refusals.Stopped)) v k
-  keeps_stopped e = goes_same t g v k x (Maintains v.faults now x (Err refusals.Stopped)) s (some_stop t g k x e s.stopped, refl)
+  pub keeps_stopped : is_some k.stopped ≡ true → Goes t g v x (Flushes v.faults now x (Err refusals.Stopped)) v k
+  keeps_stopped e = goes_same t g v k x (Flushes v.faults now x (Err refusals.Stopped)) s (some_stop t g k x e s.stopped, refl)
 
-  pub marks_stopped : is_some k.stopped ≡ true → Goes t g v x (Marks v.tail v.faults now x (Err refusals.Stopped)) v k
-  marks_stopped e = goes_same t g v k x (Marks v.tail v.faults now x (Err refusals.Stopped)) s (some_stop t g k x e s.stopped, refl)
+  pub marks_stopped : is_some k.stopped ≡ true → Goes t g v x (Checkpoints v.tail v.faults now x (Err refusals.Stopped)) v k
+  marks_stopped e = goes_same t g v k x (Checkpoints v.tail v.faults now x (Err refusals.Stopped)) s (some_stop t g k x e s.stopped, refl)
 
   module _ (e : is_some k.stopped ≡ false) where
     none : x.stopped ≡ None
@@ -40,21 +40,21 @@ module _ (t : Operations) (g : Ground) (lawful : IsLawful t g) (v : View g) (k :
     stays Line w line r did = goes_on t g v w k k x x Line s none (no_stop t g k.stopped e) (no_stop t g k.stopped e) none refl refl
         (record { is_kept = rested_kept t g lawful v x k.live runs.is_kept w did; held = runs.held }) line (call_stands t g v w v.log x runs.is_kept.logs r.moments)
 
-    pub keeps_done : (w : View g) → Rests t g v w → Rested t g v w → Goes t g v x (Maintains v.faults now x (Ok tt)) w k
-    keeps_done w r did = stays (Maintains v.faults now x (Ok tt)) w (none, refl) r did
+    pub keeps_done : (w : View g) → Rests t g v w → Rested t g v w → Goes t g v x (Flushes v.faults now x (Ok tt)) w k
+    keeps_done w r did = stays (Flushes v.faults now x (Ok tt)) w (none, refl) r did
 
-    pub marks_done : (w : View g) → Rests t g v w → Rested t g v w → Goes t g v x (Marks v.tail v.faults now x (Ok tt)) w k
-    marks_done w r did = stays (Marks v.tail v.faults now x (Ok tt)) w (none, refl) r did
+    pub marks_done : (w : View g) → Rests t g v w → Rested t g v w → Goes t g v x (Checkpoints v.tail v.faults now x (Ok tt)) w k
+    marks_done w r did = stays (Checkpoints v.tail v.faults now x (Ok tt)) w (none, refl) r did
 
-    pub keeps_fails : (w : View g) (m : Core) (f : SpaceFault) → m ≡ record k { stopped = Some (stop_at f) } → Rests t g v w → IsDiskFault f → (IsDiskFault f → HasRisen v.faults now) → Goes t g v x (Maintains v.faults now x (Err (refused_at f))) w m
-    keeps_fails w m spaces.Disk same r is risen = goes_down t g v w k m x (Maintains v.faults now x (Err refusals.DiskFault)) stops.Disk s (ap (λ (c : Core). c.stopped) same)
+    pub keeps_fails : (w : View g) (m : Core) (f : SpaceFault) → m ≡ record k { stopped = Some (stop_at f) } → Rests t g v w → IsDiskFault f → (IsDiskFault f → HasRisen v.faults now) → Goes t g v x (Flushes v.faults now x (Err (refused_at f))) w m
+    keeps_fails w m spaces.Disk same r is risen = goes_down t g v w k m x (Flushes v.faults now x (Err refusals.DiskFault)) stops.Disk s (ap (λ (c : Core). c.stopped) same)
         (none, record { after = refl; risen = risen tt }) (call_stands t g v w v.log x runs.is_kept.logs r.moments)
     keeps_fails w m spaces.LogEnd same r is risen = absurd is
 
-    pub marks_fails : (w : View g) (m : Core) (f : SpaceFault) → m ≡ record k { stopped = Some (stop_at f) } → Rests t g v w → (IsDiskFault f → HasRisen v.faults now) → IsNearEnd v f → Goes t g v x (Marks v.tail v.faults now x (Err (refused_at f))) w m
-    marks_fails w m spaces.Disk same r risen near = goes_down t g v w k m x (Marks v.tail v.faults now x (Err refusals.DiskFault)) stops.Disk s (ap (λ (c : Core). c.stopped) same)
+    pub marks_fails : (w : View g) (m : Core) (f : SpaceFault) → m ≡ record k { stopped = Some (stop_at f) } → Rests t g v w → (IsDiskFault f → HasRisen v.faults now) → IsNearEnd v f → Goes t g v x (Checkpoints v.tail v.faults now x (Err (refused_at f))) w m
+    marks_fails w m spaces.Disk same r risen near = goes_down t g v w k m x (Checkpoints v.tail v.faults now x (Err refusals.DiskFault)) stops.Disk s (ap (λ (c : Core). c.stopped) same)
         (none, record { after = refl; risen = risen tt }) (call_stands t g v w v.log x runs.is_kept.logs r.moments)
-    marks_fails w m spaces.LogEnd same r risen near = goes_down t g v w k m x (Marks v.tail v.faults now x (Err refusals.LogEnd)) stops.LogEnd s (ap (λ (c : Core). c.stopped) same)
+    marks_fails w m spaces.LogEnd same r risen near = goes_down t g v w k m x (Checkpoints v.tail v.faults now x (Err refusals.LogEnd)) stops.LogEnd s (ap (λ (c : Core). c.stopped) same)
         (none, refl, near) (call_stands t g v w v.log x runs.is_kept.logs r.moments)
 
 -- the live transaction that began first, as a store has it, is the oldest of the log's

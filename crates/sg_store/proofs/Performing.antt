@@ -25,7 +25,8 @@ use Rattle.sg_store.specs.Ground.{Ground, IsLawful, setting}
 use Rattle.sg_store.specs.Engine.{View, Action, Changes, Changed, Appends, Appended, pages_of, IsActing}
 use Rattle.sg_store.specs.Verbs.{LeftAlone, IsNotedBy}
 use Rattle.sg_store.specs.Store.{IsKept, Logs, AreReserved, AreOwned}
-use Rattle.sg_store.specs.Calls.{Stays, IsGranted, HasRoom}
+use Rattle.sg_run.specs.Numbers.{IsGranted}
+use Rattle.sg_store.specs.Calls.{Stays, HasRoom}
 use Rattle.sg_store.proofs.Images.{image_stands}
 use Rattle.sg_store.proofs.Actions.{changes_live, changes_notes, changes_next, touched_now, looks_logs, does_logs, changes_keep, reads_now}
 use Rattle.sg_store.proofs.Lines.{reads}

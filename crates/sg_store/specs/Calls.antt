@@ -1,5 +1,5 @@
 -- How a call of a store goes.
-use Rattle.std.specs.Prelude.{◌≡◌, ◌⊎◌, [], Bool, sum_by, ◌+◌, ◌<◌, ◌≤◌, ◌^◌, ℕ, true, false, IsTrue, IsOk, length, nat_lt, List, Option, Some, None, IsSome, Result, Ok, Err}
+use Rattle.std.specs.Prelude.{◌≡◌, ◌⊎◌, [], Bool, sum_by, ◌+◌, ◌<◌, ◌≤◌, ℕ, true, false, IsTrue, IsOk, nat_lt, List, Option, Some, None, Result, Ok, Err}
 use Rattle.sg_base.specs.declared.numbers.TxnId.{TxnId}
 use Rattle.sg_base.specs.Ends.{HasRisen}
 use Rattle.sg_disk.specs.Disk.{LeavesOnly}
@@ -10,7 +10,10 @@ use Rattle.sg_model.specs.declared.stop.Stop.TheVariants as stops
 use Rattle.sg_model.specs.Verb.{Op}
 use Rattle.sg_model.specs.Step.{step, is_changing}
 use Rattle.sg_model.specs.Touches.{touches, conflict}
-use Rattle.sg_run.specs.Run.{Run, MOST_LIVE, MOST_HELD, began, committed, aborted, did, with_locks, held_with, live_objects, stop, with_commit, committed_objects}
+use Rattle.sg_run.specs.Numbers as numbers
+use Rattle.sg_run.specs.Numbers.{NEW_WORK_END, IsGranted}
+use Rattle.sg_store.specs.Refusals.{said_number, said_done, said_outcome}
+use Rattle.sg_run.specs.Run.{Run, MOST_HELD, committed, did, with_locks, held_with, live_objects, committed_objects}
 use Rattle.sg_store.specs.declared.fault.Refused.{Refused}
 use Rattle.sg_store.specs.declared.fault.Refused.TheVariants as refusals
 use Rattle.sg_store.specs.declared.fault.Needed.{Needed}
@@ -25,10 +28,6 @@ use Rattle.sg_store.specs.Store.{Core, IsKept, IsUndoing, IsLeaving, HasNone, Sh
 use Rattle.sg_recovery.specs.Log.{tally, notes_of}
 use Rattle.sg_space.specs.declared.space.SpaceFault.{SpaceFault}
 
--- no new work begins once the log's tail is above this byte
-abbrev pub NEW_WORK_END : ℕ
-NEW_WORK_END = 2 ^ 62
-
 -- A store that shows x goes on to a run that is related so, and shows that. In the call and after it a crash leaves what stands
 -- for the commits from before it, or with its own
 pub record Goes (t : Operations) (g : Ground) (v : View g) (x : Run) (Line : Run → Type 0) (w : View g) (m : Core) : Type 0 where
@@ -37,94 +36,25 @@ pub record Goes (t : Operations) (g : Ground) (v : View g) (x : Run) (Line : Run
   pub shows : Shows t g w m after
   pub moments : LeavesOnly v.disk w.disk (StandsForFirst t g x.so_far.answered after)
 
--- the store has stopped for a fault of the disk, whose count rose
-pub record IsBroken (before now : ℕ) (x y : Run) : Type 0 where
-  pub after : y ≡ stop stops.Disk x
-  pub risen : HasRisen before now
+-- What each call is answered, and the run after it
 
--- a begin, of a transaction with any name
 abbrev pub Begins : (tail before now : ℕ) → (name : List ℕ) → Run → Result TxnId Refused → Run → Type 0
-Begins tail before now name x (Ok n) y = (x.stopped ≡ None) × (x.so_far.next ≤ n.0) × (length x.so_far.live < MOST_LIVE)
-    × (y ≡ began x n.0 name)
-Begins tail before now name x (Err refusals.Stopped) y = IsSome x.stopped × (y ≡ x)
-Begins tail before now name x (Err refusals.TooManyLive) y = (x.stopped ≡ None) × (MOST_LIVE ≤ length x.so_far.live) × (y ≡ x)
-Begins tail before now name x (Err refusals.LogEnd) y = (x.stopped ≡ None) × (NEW_WORK_END < tail)
-    × (length x.so_far.live < MOST_LIVE) × (y ≡ x)
-Begins tail before now name x (Err refusals.DiskFault) y = (x.stopped ≡ None) × (length x.so_far.live < MOST_LIVE) × IsBroken before now x y
-Begins tail before now name x (Err other) y = ⊥
+Begins tail before now name x r y = numbers.Begins tail before now name x (said_number r) y
 
--- the store has stopped in a commit, which may be durable
-abbrev pub stopped_in : Run → ℕ → Run
-stopped_in x u = record { so_far = with_commit x.so_far u; stopped = Some stops.Disk }
-
-abbrev pub at_log_end : Run → ℕ → Run
-at_log_end x u = record { so_far = with_commit x.so_far u; stopped = Some stops.LogEnd }
-
--- a commit, with the tail at its return: the record of the commit, or one of the freeing behind it, may come to the log's end
 abbrev pub Commits : (tail before now : ℕ) → (u : ℕ) → Run → Result (Unit {0}) Refused → Run → Type 0
-Commits tail before now u x (Ok done) y = (x.stopped ≡ None) × (is_live x.so_far.live u ≡ true) × (y ≡ committed x u)
-Commits tail before now u x (Err refusals.Stopped) y = IsSome x.stopped × (y ≡ x)
-Commits tail before now u x (Err refusals.NoTxn) y = (x.stopped ≡ None) × (is_live x.so_far.live u ≡ false) × (y ≡ x)
-Commits tail before now u x (Err refusals.DiskFault) y = (x.stopped ≡ None) × (is_live x.so_far.live u ≡ true)
-    × (y ≡ stopped_in x u) × HasRisen before now
-Commits tail before now u x (Err refusals.LogEnd) y = (x.stopped ≡ None) × (is_live x.so_far.live u ≡ true) × (y ≡ at_log_end x u)
-    × (2 ^ 63 < tail + 131072)
-Commits tail before now u x (Err other) y = ⊥
+Commits tail before now u x r y = numbers.Commits tail before now u x (said_done r) y
 
--- an abort, with the tail at its return: a record of what undoes it may come to the log's end
 abbrev pub Aborts : (tail before now : ℕ) → (u : ℕ) → Run → Result (Unit {0}) Refused → Run → Type 0
-Aborts tail before now u x (Ok done) y = (x.stopped ≡ None) × (is_live x.so_far.live u ≡ true) × (y ≡ aborted x u)
-Aborts tail before now u x (Err refusals.Stopped) y = IsSome x.stopped × (y ≡ x)
-Aborts tail before now u x (Err refusals.NoTxn) y = (x.stopped ≡ None) × (is_live x.so_far.live u ≡ false) × (y ≡ x)
-Aborts tail before now u x (Err refusals.DiskFault) y = (x.stopped ≡ None) × (is_live x.so_far.live u ≡ true) × IsBroken before now x y
-Aborts tail before now u x (Err refusals.LogEnd) y = (x.stopped ≡ None) × (is_live x.so_far.live u ≡ true) × (y ≡ stop stops.LogEnd x) × (2 ^ 63 < tail + 131072)
-Aborts tail before now u x (Err other) y = ⊥
+Aborts tail before now u x r y = numbers.Aborts tail before now u x (said_done r) y
 
--- a flush or a truncation
-abbrev pub Maintains : (before now : ℕ) → Run → Result (Unit {0}) Refused → Run → Type 0
-Maintains before now x (Ok done) y = (x.stopped ≡ None) × (y ≡ x)
-Maintains before now x (Err refusals.Stopped) y = IsSome x.stopped × (y ≡ x)
-Maintains before now x (Err refusals.DiskFault) y = (x.stopped ≡ None) × IsBroken before now x y
-Maintains before now x (Err other) y = ⊥
+abbrev pub Flushes : (before now : ℕ) → Run → Result (Unit {0}) Refused → Run → Type 0
+Flushes before now x r y = numbers.Flushes before now x (said_done r) y
 
--- a checkpoint, which appends a record
-abbrev pub Marks : (tail before now : ℕ) → Run → Result (Unit {0}) Refused → Run → Type 0
-Marks tail before now x (Ok done) y = (x.stopped ≡ None) × (y ≡ x)
-Marks tail before now x (Err refusals.Stopped) y = IsSome x.stopped × (y ≡ x)
-Marks tail before now x (Err refusals.DiskFault) y = (x.stopped ≡ None) × IsBroken before now x y
-Marks tail before now x (Err refusals.LogEnd) y = (x.stopped ≡ None) × (y ≡ stop stops.LogEnd x) × (2 ^ 63 < tail + 131072)
-Marks tail before now x (Err other) y = ⊥
+abbrev pub Checkpoints : (tail before now : ℕ) → Run → Result (Unit {0}) Refused → Run → Type 0
+Checkpoints tail before now x r y = numbers.Checkpoints tail before now x (said_done r) y
 
--- no live transaction is in the way of an operation, and it may hold what it touches
-pub record IsGranted (t : Operations) (x : Run) (u : ℕ) (op : Op) : Type 0 where
-  pub live : is_live x.so_far.live u ≡ true
-  pub none : first_holder conflict u (touches (live_objects t x) op) x.so_far.held ≡ None
-  pub few : nat_lt MOST_HELD (held_with t x u op) ≡ false
-
--- an operation, with the tail at its begin and at its return
-abbrev pub Does : (t : Operations) → (begin tail before now : ℕ) → (u : ℕ) → Op → Run → (into : List ℕ)
-    → Result code_reply.Reply Refused → Run → Type 0
-Does t begin tail before now u op x into (Ok reply) y = (x.stopped ≡ None) × IsGranted t x u op
-    × ((step t (live_objects t x) op).0 ≡ Ok (said_reply into reply)) × (is_changing op ≡ true → begin ≤ NEW_WORK_END)
-    × (y ≡ did t x u op)
-Does t begin tail before now u op x into (Err refusals.Stopped) y = IsSome x.stopped × (y ≡ x)
-Does t begin tail before now u op x into (Err refusals.NoTxn) y = (x.stopped ≡ None) × (is_live x.so_far.live u ≡ false) × (y ≡ x)
-Does t begin tail before now u op x into (Err (refusals.Busy holder)) y = (x.stopped ≡ None) × (is_live x.so_far.live u ≡ true)
-    × (first_holder conflict u (touches (live_objects t x) op) x.so_far.held ≡ Some holder.0) × (y ≡ x)
-Does t begin tail before now u op x into (Err refusals.LocksFull) y = (x.stopped ≡ None) × (is_live x.so_far.live u ≡ true)
-    × (first_holder conflict u (touches (live_objects t x) op) x.so_far.held ≡ None)
-    × (nat_lt MOST_HELD (held_with t x u op) ≡ true) × (y ≡ x)
-Does t begin tail before now u op x into (Err (refusals.Model reason)) y = (x.stopped ≡ None) × IsGranted t x u op
-    × ((step t (live_objects t x) op).0 ≡ Err reason) × (y ≡ did t x u op)
-Does t begin tail before now u op x into (Err (refusals.NoSpace free reserved need)) y = (x.stopped ≡ None) × IsGranted t x u op
-    × IsOk (step t (live_objects t x) op).0 × (0 < need) × (free < reserved + need) × (y ≡ with_locks t x u op)
-Does t begin tail before now u op x into (Err (refusals.NoBands free need)) y = (x.stopped ≡ None) × IsGranted t x u op
-    × IsOk (step t (live_objects t x) op).0 × (free < need) × (y ≡ with_locks t x u op)
-Does t begin tail before now u op x into (Err refusals.LogEnd) y = (x.stopped ≡ None) × IsGranted t x u op
-    × IsOk (step t (live_objects t x) op).0 × IsTrue (is_changing op) × (NEW_WORK_END < tail) × (y ≡ with_locks t x u op)
-Does t begin tail before now u op x into (Err refusals.DiskFault) y = (x.stopped ≡ None) × (is_live x.so_far.live u ≡ true)
-    × IsBroken before now x y
-Does t begin tail before now u op x into (Err other) y = ⊥
+abbrev pub Does : (t : Operations) → (begin tail before now : ℕ) → (u : ℕ) → Op → Run → (into : List ℕ) → Result code_reply.Reply Refused → Run → Type 0
+Does t begin tail before now u op x into r y = numbers.Does t begin tail before now u op x (said_outcome into r) y
 
 -- A part of a call: in it and after it each image stands for the committed objects
 abbrev pub Stays : (t : Operations) (g : Ground) → (v w : View g) → Run → Type 0

@@ -58,7 +58,8 @@ impl<E: Objects> Store<E> {
     ghost use Rattle.sg_store.specs.Store.{Shows, IsKept, IsUndoing, IsLeaving, HasNone};
     ghost use Rattle.sg_store.specs.Engine.{IsDiskFault, IsNearEnd};
     ghost use Rattle.sg_base.specs.Ends.{HasRisen};
-    ghost use Rattle.sg_store.specs.Calls.{Goes, Begins, Commits, Maintains, Marks, Stays, Holds, Rooms, HasRoom, Acts, IsGranted, Does, Undid, IsUndone, Aborts, Frees, Numbers, SameRoom};
+    ghost use Rattle.sg_run.specs.Numbers.{IsGranted};
+    ghost use Rattle.sg_store.specs.Calls.{Goes, Begins, Commits, Flushes, Checkpoints, Stays, Holds, Rooms, HasRoom, Acts, Does, Undid, IsUndone, Aborts, Frees, Numbers, SameRoom};
     ghost use Rattle.std.specs.Prelude.{Some, IsTrue, true, ◌≤◌, ◌⊎◌, IfOk, IfErr, IfSome, OnOk, sum_by, length};
     ghost use Rattle.sg_serial.specs.Runs as serial;
     ghost use Rattle.sg_serial.specs.Locks.{released};
@@ -222,7 +223,7 @@ impl<E: Objects> Store<E> {
     pub fn flush(&mut self) -> Result<(), Refused>
         ensures flushes { let v = E.view self.old.engine in let w = E.view self.new.engine in
             (t : Operations) (x : Run) → IsLawful t E.basis → Shows t E.basis v (core_of self.old) x
-            → Goes t E.basis v x (Maintains v.faults w.faults x result) w (core_of self.new) }
+            → Goes t E.basis v x (Flushes v.faults w.faults x result) w (core_of self.new) }
     {
         if self.stop.is_some() {
             return Err(Refused::Stopped);
@@ -237,7 +238,7 @@ impl<E: Objects> Store<E> {
     pub fn checkpoint(&mut self) -> Result<(), Refused>
         ensures marks { let v = E.view self.old.engine in let w = E.view self.new.engine in
             (t : Operations) (x : Run) → IsLawful t E.basis → Shows t E.basis v (core_of self.old) x
-            → Goes t E.basis v x (Marks v.tail v.faults w.faults x result) w (core_of self.new) }
+            → Goes t E.basis v x (Checkpoints v.tail v.faults w.faults x result) w (core_of self.new) }
     {
         if self.stop.is_some() {
             return Err(Refused::Stopped);
@@ -252,7 +253,7 @@ impl<E: Objects> Store<E> {
     pub fn truncate(&mut self) -> Result<(), Refused>
         ensures truncates { let v = E.view self.old.engine in let w = E.view self.new.engine in
             (t : Operations) (x : Run) → IsLawful t E.basis → Shows t E.basis v (core_of self.old) x
-            → Goes t E.basis v x (Maintains v.faults w.faults x result) w (core_of self.new) }
+            → Goes t E.basis v x (Flushes v.faults w.faults x result) w (core_of self.new) }
     {
         if self.stop.is_some() {
             return Err(Refused::Stopped);

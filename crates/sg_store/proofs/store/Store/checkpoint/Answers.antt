@@ -1,5 +1,5 @@
 use Rattle.std.proofs.Common.{sym, ◌∙◌, subst, Err}
-use Rattle.sg_store.specs.Calls.{Goes, Marks}
+use Rattle.sg_store.specs.Calls.{Goes, Checkpoints}
 use Rattle.sg_store.specs.Seen.{core_of}
 use Rattle.sg_store.specs.Store.{Core}
 use Rattle.sg_store.proofs.Calls.{no_stop}
@@ -29,7 +29,7 @@ returns-in-Err g c = record {
       let stop = sym c.is_some.ensures ∙ c.if-is_some.false in
       let runs = shows.runs (sym shows.stopped ∙ no_stop t g.E.Engine.basis c.args.self.now.stop stop) in
       let b = c.checkpoint.ensures.rests t runs.is_kept.engine runs.is_kept.idle in
-      subst (λ e. Goes t g.E.Engine.basis (g.E.Engine.view c.args.self.now.engine) x (Marks (g.E.Engine.view c.args.self.now.engine).tail (g.E.Engine.view c.args.self.now.engine).faults (g.E.Engine.view e).faults x (Err c.halt.result)) (g.E.Engine.view e) (core_of c.halt.new.self)) (sym c.halt.ensures.engine)
-      (subst (λ r. Goes t g.E.Engine.basis (g.E.Engine.view c.args.self.now.engine) x (Marks (g.E.Engine.view c.args.self.now.engine).tail (g.E.Engine.view c.args.self.now.engine).faults (g.E.Engine.view c.checkpoint.new.self).faults x (Err r)) (g.E.Engine.view c.checkpoint.new.self) (core_of c.halt.new.self)) (sym c.halt.ensures.answer)
+      subst (λ e. Goes t g.E.Engine.basis (g.E.Engine.view c.args.self.now.engine) x (Checkpoints (g.E.Engine.view c.args.self.now.engine).tail (g.E.Engine.view c.args.self.now.engine).faults (g.E.Engine.view e).faults x (Err c.halt.result)) (g.E.Engine.view e) (core_of c.halt.new.self)) (sym c.halt.ensures.engine)
+      (subst (λ r. Goes t g.E.Engine.basis (g.E.Engine.view c.args.self.now.engine) x (Checkpoints (g.E.Engine.view c.args.self.now.engine).tail (g.E.Engine.view c.args.self.now.engine).faults (g.E.Engine.view c.checkpoint.new.self).faults x (Err r)) (g.E.Engine.view c.checkpoint.new.self) (core_of c.halt.new.self)) (sym c.halt.ensures.answer)
       (maintaining.marks_fails t g.E.Engine.basis lawful (g.E.Engine.view c.args.self.now.engine) k x (g.E.Engine.view c.checkpoint.new.self).faults shows stop (g.E.Engine.view c.checkpoint.new.self) (core_of c.halt.new.self) c.in-Err.fault c.halt.ensures.core b.0 c.in-Err.ensures.counts.failed c.in-Err.ensures.log_end)));
 }
