@@ -1,3 +1,4 @@
 pub mod Serial
 pub mod Log
 pub mod Noted
+pub mod Numbers

@@ -3,3 +3,5 @@ pub mod Run
 pub mod Serial
 pub mod Kept
 pub mod Noted
+pub mod Numbers
+pub mod Stocked

@@ -1,6 +1,7 @@
 ghost use Rattle.sg_run.specs.Serial.{RunsAreSerial};
 ghost use Rattle.sg_run.specs.Kept.{LogIsEnough};
 ghost use Rattle.sg_run.specs.Noted.{UndoingLeavesOut};
+ghost use Rattle.sg_run.specs.Numbers.{CallsAreSerial};
 
 /// Tells a proof that every run is serial: after each list of lines, unless the store has stopped,
 /// each entry of a committed transaction got the reply or the reason that it gets where the committed
@@ -20,4 +21,10 @@ pub fn log_is_enough()
 /// first, leaves the objects as an abort of it leaves them. It runs no code.
 pub fn undoing_leaves_out()
     ensures { UndoingLeavesOut }
+{}
+
+/// Tells a proof that every run of a store's calls by number is serial, as `runs_are_serial` says of lines:
+/// whatever each call was answered, unless the store has stopped. It runs no code.
+pub fn calls_are_serial()
+    ensures { CallsAreSerial }
 {}

@@ -11,4 +11,4 @@
 
 mod law;
 
-pub use law::{log_is_enough, runs_are_serial, undoing_leaves_out};
+pub use law::{calls_are_serial, log_is_enough, runs_are_serial, undoing_leaves_out};

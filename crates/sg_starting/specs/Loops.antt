@@ -1,0 +1,63 @@
+-- What the loops over losers keep.
+use Rattle.std.specs.Prelude.{◌≡◌, ◌≤◌, ◌+◌, ℕ, List, Option, Some}
+use Rattle.sg_base.specs.declared.numbers.TxnId.{TxnId}
+use Rattle.sg_ops.specs.Table.{Table as Operations}
+use Rattle.sg_model.specs.Objects.{Objects}
+use Rattle.sg_recovery.specs.Log.{tally}
+use Rattle.sg_recovery.specs.Claims.{Log}
+use Rattle.sg_store.specs.Ground.{Ground, IsLawful, setting}
+use Rattle.sg_recovery.specs.Log.{Top}
+use Rattle.sg_store.specs.Engine.{View, Action, pages_of}
+use Rattle.sg_starting.specs.declared.losers.Greatest.{Greatest}
+use Rattle.sg_starting.specs.Starting.{IsStarting, AllStandFor, AreBelow, AreLosers, IsUndone, IsSettled, IsBest, AreBuried}
+
+-- these losers' notes have been looked at, and this is the greatest
+pub record IsFinding (g : Ground) (v w : View g) (done : List TxnId) (found : Option Greatest) : Type 0 where
+  pub stands : (t : Operations) (down : Log (setting t g)) (m : Objects) → IsLawful t g → IsStarting t g v down m → AllStandFor t g v w m
+  pub starts : (t : Operations) (down : Log (setting t g)) (m : Objects) → IsLawful t g → IsStarting t g v down m → IsStarting t g w down m
+  pub log : (t : Operations) (down : Log (setting t g)) (m : Objects) → IsLawful t g → IsStarting t g v down m → w.log ≡ v.log
+  pub best : (t : Operations) (down : Log (setting t g)) (m : Objects) → IsLawful t g → IsStarting t g v down m
+      → IsBest (tally v.log).notes done found
+  pub later : v.faults ≤ w.faults
+  pub tail : v.tail ≤ w.tail
+
+-- some notes have been undone, and those that are left are below a number
+pub record IsUndoing (t : Operations) (g : Ground) (v w : View g) (those : List TxnId) (at : ℕ) : Type 0 where
+  pub stands : (down : Log (setting t g)) (m : Objects) → IsLawful t g → IsStarting t g v down m
+      → AreLosers (tally v.log).live those → AllStandFor t g v w m
+  pub starts : (down : Log (setting t g)) (m : Objects) → IsLawful t g → IsStarting t g v down m
+      → AreLosers (tally v.log).live those → IsStarting t g w down m
+  pub below : (down : Log (setting t g)) (m : Objects) → IsLawful t g → IsStarting t g v down m
+      → AreLosers (tally v.log).live those → AreBelow at (tally w.log).notes
+  pub losers : (down : Log (setting t g)) (m : Objects) → IsLawful t g → IsStarting t g v down m
+      → AreLosers (tally v.log).live those → AreLosers (tally w.log).live those
+  pub later : v.faults ≤ w.faults
+  pub tail : v.tail ≤ w.tail
+
+-- the losers but these have been ended
+pub record IsEnding (g : Ground) (v w : View g) (those left : List TxnId) : Type 0 where
+  pub stands : (t : Operations) (down : Log (setting t g)) (m : Objects) → IsLawful t g → IsStarting t g v down m → IsUndone v
+      → AllStandFor t g v w m
+  pub starts : (t : Operations) (down : Log (setting t g)) (m : Objects) → IsLawful t g → IsStarting t g v down m → IsUndone v
+      → IsStarting t g w down m
+  pub undone : (t : Operations) (down : Log (setting t g)) (m : Objects) → IsLawful t g → IsStarting t g v down m → IsUndone v → IsUndone w
+  pub losers : (t : Operations) (down : Log (setting t g)) (m : Objects) → IsLawful t g → IsStarting t g v down m → IsUndone v
+      → AreLosers (tally v.log).live those → AreLosers (tally w.log).live left
+  pub later : v.faults ≤ w.faults
+  pub tail : v.tail ≤ w.tail
+
+-- the step back of a note has begun
+pub record IsStepped (t : Operations) (g : Ground) (n : Top g.C g.N) (a : Action g) (w : View g) (into : List ℕ) (after : ℕ) : Type 0 where
+  pub next : n.undo_next ≡ after
+  pub said : g.note into ≡ n.note
+  pub back : g.PutsBack t n.note n.changes a.pages (pages_of t g w)
+
+-- so many things that were buried have been freed
+pub record IsFreeing (t : Operations) (g : Ground) (v w : View g) (most freed : ℕ) : Type 0 where
+  pub stands : (down : Log (setting t g)) (m : Objects) → IsLawful t g → IsStarting t g v down m → IsSettled v → AllStandFor t g v w m
+  pub starts : (down : Log (setting t g)) (m : Objects) → IsLawful t g → IsStarting t g v down m → IsSettled v
+      → IsStarting t g w down m × IsSettled w
+  pub fewer : (down : Log (setting t g)) (m : Objects) → IsLawful t g → IsStarting t g v down m → IsSettled v
+      → AreBuried t g v most → (p : g.O) → g.reading (pages_of t g w) ≡ Some p → g.buried p + freed ≤ most
+  pub later : v.faults ≤ w.faults
+  pub tail : v.tail ≤ w.tail

@@ -1,0 +1,90 @@
+use Rattle.std.proofs.Common.{◌≡◌, ◌≤◌, ◌+◌, ◌⊎◌, refl, sym, ap, ◌∙◌, subst, arith}
+use Rattle.std.specs.Prelude.{nat_lt, ◌&&◌, ◌^◌}
+use Rattle.sg_model.specs.SaidOps.{said_op}
+use Rattle.sg_model.specs.Step.{is_changing}
+use Rattle.sg_store.specs.Seen.{core_of}
+use Rattle.sg_store.proofs.Holding as holding
+use Rattle.sg_store.proofs.Rooming as rooming
+use Rattle.sg_store.proofs.store.Store.room_for.Goals as goal
+
+pub returns-in-Err-Model-clause-stays : goal.returns-in-Err-Model-clause-stays
+returns-in-Err-Model-clause-stays g c x lawful kept =
+    let o = holding.reading _ g.E.Engine.basis lawful (g.E.Engine.view c.args.self.now.engine) x c.args.self.now.txns kept in
+    let b = c.needs.ensures.needs o kept.engine (holding.reads_so _ g.E.Engine.basis lawful (g.E.Engine.view c.args.self.now.engine) x c.args.self.now.txns kept) in
+    (holding.rests_stays _ g.E.Engine.basis lawful (g.E.Engine.view c.args.self.now.engine) x c.args.self.now.txns kept (g.E.Engine.view c.needs.new.self) b.0)
+
+pub returns-then-lacks-clause-stays : goal.returns-then-lacks-clause-stays
+returns-then-lacks-clause-stays g c x lawful kept =
+    let o = holding.reading _ g.E.Engine.basis lawful (g.E.Engine.view c.args.self.now.engine) x c.args.self.now.txns kept in
+    let b = c.needs.ensures.needs o kept.engine (holding.reads_so _ g.E.Engine.basis lawful (g.E.Engine.view c.args.self.now.engine) x c.args.self.now.txns kept) in
+    (holding.rests_stays _ g.E.Engine.basis lawful (g.E.Engine.view c.args.self.now.engine) x c.args.self.now.txns kept (g.E.Engine.view c.needs.new.self) b.0)
+
+pub returns-then-bands-needs-clause-stays : goal.returns-then-bands-needs-clause-stays
+returns-then-bands-needs-clause-stays g c x lawful kept =
+    let o = holding.reading _ g.E.Engine.basis lawful (g.E.Engine.view c.args.self.now.engine) x c.args.self.now.txns kept in
+    let b = c.needs.ensures.needs o kept.engine (holding.reads_so _ g.E.Engine.basis lawful (g.E.Engine.view c.args.self.now.engine) x c.args.self.now.txns kept) in
+    (holding.rests_stays _ g.E.Engine.basis lawful (g.E.Engine.view c.args.self.now.engine) x c.args.self.now.txns kept (g.E.Engine.view c.needs.new.self) b.0)
+
+pub returns-then-is_over-clause-stays : goal.returns-then-is_over-clause-stays
+returns-then-is_over-clause-stays g c x lawful kept =
+    let o = holding.reading _ g.E.Engine.basis lawful (g.E.Engine.view c.args.self.now.engine) x c.args.self.now.txns kept in
+    let b = c.needs.ensures.needs o kept.engine (holding.reads_so _ g.E.Engine.basis lawful (g.E.Engine.view c.args.self.now.engine) x c.args.self.now.txns kept) in
+    (holding.rests_stays _ g.E.Engine.basis lawful (g.E.Engine.view c.args.self.now.engine) x c.args.self.now.txns kept (g.E.Engine.view c.needs.new.self) b.0)
+
+pub returns-clause-stays : goal.returns-clause-stays
+returns-clause-stays g c x lawful kept =
+    let o = holding.reading _ g.E.Engine.basis lawful (g.E.Engine.view c.args.self.now.engine) x c.args.self.now.txns kept in
+    let b = c.needs.ensures.needs o kept.engine (holding.reads_so _ g.E.Engine.basis lawful (g.E.Engine.view c.args.self.now.engine) x c.args.self.now.txns kept) in
+    (holding.rests_stays _ g.E.Engine.basis lawful (g.E.Engine.view c.args.self.now.engine) x c.args.self.now.txns kept (g.E.Engine.view c.needs.new.self) b.0)
+
+pub returns-in-Err-Space-clause-stays : goal.returns-in-Err-Space-clause-stays
+returns-in-Err-Space-clause-stays g c x lawful kept =
+    let o = holding.reading _ g.E.Engine.basis lawful (g.E.Engine.view c.args.self.now.engine) x c.args.self.now.txns kept in
+    let b = c.needs.ensures.needs o kept.engine (holding.reads_so _ g.E.Engine.basis lawful (g.E.Engine.view c.args.self.now.engine) x c.args.self.now.txns kept) in
+    rooming.stays_at _ g.E.Engine.basis lawful (g.E.Engine.view c.args.self.now.engine) x (core_of c.args.self.now) kept (g.E.Engine.view c.needs.new.self) (said_op c.args.op.now) (g.E.Engine.view c.halt.new.self.engine) (ap (λ e. g.E.Engine.view e) (sym c.halt.ensures.engine)) (holding.rests_stays _ g.E.Engine.basis lawful (g.E.Engine.view c.args.self.now.engine) x c.args.self.now.txns kept (g.E.Engine.view c.needs.new.self) b.0)
+
+pub returns-in-Err-Model-clause-rooms : goal.returns-in-Err-Model-clause-rooms
+returns-in-Err-Model-clause-rooms g c x lawful kept =
+    let o = holding.reading _ g.E.Engine.basis lawful (g.E.Engine.view c.args.self.now.engine) x c.args.self.now.txns kept in
+    let b = c.in-Err-Model.ensures.needs o kept.engine (holding.reads_so _ g.E.Engine.basis lawful (g.E.Engine.view c.args.self.now.engine) x c.args.self.now.txns kept) in
+    rooming.rooms_refused _ g.E.Engine.basis lawful (g.E.Engine.view c.args.self.now.engine) x (core_of c.args.self.now) kept (g.E.Engine.view c.needs.new.self) (said_op c.args.op.now) c.in-Err-Model.reason c.in-Err-Model.field-0 c.in-Err-Model.field-0-is b.1
+
+pub returns-then-lacks-clause-rooms : goal.returns-then-lacks-clause-rooms
+returns-then-lacks-clause-rooms g c x lawful kept =
+    let o = holding.reading _ g.E.Engine.basis lawful (g.E.Engine.view c.args.self.now.engine) x c.args.self.now.txns kept in
+    let b = c.in-Ok.ensures.needs o kept.engine (holding.reads_so _ g.E.Engine.basis lawful (g.E.Engine.view c.args.self.now.engine) x c.args.self.now.txns kept) in
+    let h = b.1 in
+    rooming.rooms_space _ g.E.Engine.basis lawful (g.E.Engine.view c.args.self.now.engine) x (core_of c.args.self.now) kept (g.E.Engine.view c.needs.new.self) (said_op c.args.op.now) c.in-Ok.needs c.free_pages-free.result c.reserved-reserved.result c.in-Ok.needs.pages refl c.free_pages-free.ensures c.reserved-reserved.ensures h.0 h.1 (rooming.lacking c.free_pages-free.result c.reserved-reserved.result c.in-Ok.needs.pages (sym c.lacks.ensures ∙ c.if-lacks.true))
+
+pub returns-then-bands-needs-clause-rooms : goal.returns-then-bands-needs-clause-rooms
+returns-then-bands-needs-clause-rooms g c x lawful kept =
+    let o = holding.reading _ g.E.Engine.basis lawful (g.E.Engine.view c.args.self.now.engine) x c.args.self.now.txns kept in
+    let b = c.in-Ok.ensures.needs o kept.engine (holding.reads_so _ g.E.Engine.basis lawful (g.E.Engine.view c.args.self.now.engine) x c.args.self.now.txns kept) in
+    let h = b.1 in
+    rooming.rooms_bands _ g.E.Engine.basis lawful (g.E.Engine.view c.args.self.now.engine) x (core_of c.args.self.now) kept (g.E.Engine.view c.needs.new.self) (said_op c.args.op.now) c.in-Ok.needs c.free_bands-bands.result c.in-Ok.needs.bands refl c.free_bands-bands.ensures h.0 h.1 c.if-bands-needs.true
+
+pub returns-then-is_over-clause-rooms : goal.returns-then-is_over-clause-rooms
+returns-then-is_over-clause-rooms g c x lawful kept =
+    let o = holding.reading _ g.E.Engine.basis lawful (g.E.Engine.view c.args.self.now.engine) x c.args.self.now.txns kept in
+    let b = c.in-Ok.ensures.needs o kept.engine (holding.reads_so _ g.E.Engine.basis lawful (g.E.Engine.view c.args.self.now.engine) x c.args.self.now.txns kept) in
+    let h = b.1 in
+    rooming.rooms_end _ g.E.Engine.basis lawful (g.E.Engine.view c.args.self.now.engine) x (core_of c.args.self.now) kept (g.E.Engine.view c.needs.new.self) (said_op c.args.op.now) c.in-Ok.needs h.0 h.1 (rooming.over (said_op c.args.op.now) (g.E.Engine.view c.needs.new.self).tail (ap (λ n. is_changing (said_op c.args.op.now) && nat_lt (2 ^ 62) n) (sym c.tail.ensures) ∙ (sym c.is_over.ensures ∙ c.if-is_over.true)))
+
+pub returns-clause-rooms : goal.returns-clause-rooms
+returns-clause-rooms g c x lawful kept =
+    let o = holding.reading _ g.E.Engine.basis lawful (g.E.Engine.view c.args.self.now.engine) x c.args.self.now.txns kept in
+    let b = c.in-Ok.ensures.needs o kept.engine (holding.reads_so _ g.E.Engine.basis lawful (g.E.Engine.view c.args.self.now.engine) x c.args.self.now.txns kept) in
+    let h = b.1 in
+    rooming.rooms_ok _ g.E.Engine.basis lawful (g.E.Engine.view c.args.self.now.engine) x (core_of c.args.self.now) kept (g.E.Engine.view c.needs.new.self) (said_op c.args.op.now) c.in-Ok.needs h.0 h.1
+    (subst (λ n. (c.in-Ok.needs.pages ≡ 0) ⊎ (n + c.in-Ok.needs.pages ≤ (g.E.Engine.view c.needs.new.self).free_pages)) c.reserved-reserved.ensures (subst (λ n. (c.in-Ok.needs.pages ≡ 0) ⊎ (c.reserved-reserved.result + c.in-Ok.needs.pages ≤ n)) c.free_pages-free.ensures (rooming.enough c.free_pages-free.result c.reserved-reserved.result c.in-Ok.needs.pages (sym c.lacks.ensures ∙ c.if-lacks.false))))
+    (omega (arith, c.if-bands-needs.false, c.free_bands-bands.ensures))
+
+pub returns-clause-tested : goal.returns-clause-tested
+returns-clause-tested g c =
+    rooming.not_over (said_op c.args.op.now) (g.E.Engine.view c.needs.new.self).tail (ap (λ n. is_changing (said_op c.args.op.now) && nat_lt (2 ^ 62) n) (sym c.tail.ensures) ∙ (sym c.is_over.ensures ∙ c.if-is_over.false))
+
+pub returns-clause-same : goal.returns-clause-same
+returns-clause-same g c x lawful kept =
+    let o = holding.reading _ g.E.Engine.basis lawful (g.E.Engine.view c.args.self.now.engine) x c.args.self.now.txns kept in
+    let b = c.in-Ok.ensures.needs o kept.engine (holding.reads_so _ g.E.Engine.basis lawful (g.E.Engine.view c.args.self.now.engine) x c.args.self.now.txns kept) in
+    holding.rested_same _ g.E.Engine.basis (g.E.Engine.view c.args.self.now.engine) (g.E.Engine.view c.needs.new.self) b.1.0

@@ -1,0 +1,36 @@
+-- What a store's answers say, in the words of its run.
+use Rattle.std.specs.Prelude.{ℕ, List, Result, Ok, Err}
+use Rattle.sg_base.specs.declared.numbers.TxnId.{TxnId}
+use Rattle.sg_model.specs.declared.op.Reply as code_reply
+use Rattle.sg_model.specs.SaidReplies.{said_reply}
+use Rattle.sg_model.specs.Verb.{Reply}
+use Rattle.sg_run.specs.Numbers.{Refusal}
+use Rattle.sg_run.specs.Numbers.Refusal.{NoTransaction, TooManyLive, Busy, LocksFull, Because, NoSpace, NoBands, LogEnd, Disk, Stopped}
+use Rattle.sg_store.specs.declared.fault.Refused.{Refused}
+use Rattle.sg_store.specs.declared.fault.Refused.TheVariants as refusals
+
+abbrev pub said_refusal : Refused → Refusal
+said_refusal refusals.NoTxn = NoTransaction
+said_refusal refusals.TooManyLive = TooManyLive
+said_refusal (refusals.Busy holder) = Busy holder.0
+said_refusal refusals.LocksFull = LocksFull
+said_refusal (refusals.Model reason) = Because reason
+said_refusal (refusals.NoSpace free reserved need) = NoSpace free reserved need
+said_refusal (refusals.NoBands free need) = NoBands free need
+said_refusal refusals.LogEnd = LogEnd
+said_refusal refusals.DiskFault = Disk
+said_refusal refusals.Stopped = Stopped
+
+-- of a begin, the number of the transaction
+abbrev pub said_number : Result TxnId Refused → Result ℕ Refusal
+said_number (Ok n) = Ok n.0
+said_number (Err e) = Err (said_refusal e)
+
+abbrev pub said_done : Result (Unit {0}) Refused → Result (Unit {0}) Refusal
+said_done (Ok done) = Ok done
+said_done (Err e) = Err (said_refusal e)
+
+-- of an operation, the reply with its bytes
+abbrev pub said_outcome : List ℕ → Result code_reply.Reply Refused → Result Reply Refusal
+said_outcome into (Ok reply) = Ok (said_reply into reply)
+said_outcome into (Err e) = Err (said_refusal e)

@@ -1,0 +1,19 @@
+//! A store of objects over a page engine, for several transactions at a time: what it is answered, what
+//! the run of its transactions is, and what each image stands for that a crash may leave.
+//!
+//! It stands on `sg_run`, whose runs it shows, on `sg_recovery` and `sg_join`, which say what a log of
+//! pages stands for, on `sg_locks` and `sg_core`. Of pages it knows two traits: `Engine`, an engine with a
+//! log in which actions are done and undone, and `Objects`, what operations on objects do in it. It
+//! promises that each call of a store leads its run on as a line may, with the cause of each refusal;
+//! that in each call and after it every image stands for the objects after the transactions that were
+//! committed, or with the call's own commit; and that a store that has stopped makes no call. It says so
+//! of an engine that tells its contents, and of a ground whose laws hold (`IsLawful`).
+#![tactic(auto)]
+
+mod engine;
+mod fault;
+mod store;
+
+pub use engine::{Engine, Objects};
+pub use fault::{Needed, ObjFault, Refused};
+pub use store::Store;
