@@ -1,0 +1,7 @@
+//! Tests of what the words of the command line ask for, and of the workload.
+#![tactic(auto)]
+
+#[cfg(test)]
+mod table;
+#[cfg(test)]
+mod workload;

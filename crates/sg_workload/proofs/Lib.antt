@@ -1,0 +1,5 @@
+pub mod Opening
+pub mod Copies
+pub mod Drawing
+pub mod Left
+pub mod Taken
