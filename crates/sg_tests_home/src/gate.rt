@@ -2,7 +2,7 @@ use sg_base::{BandNo, PageNo};
 use sg_disk::{Area, Disk, Fuse, MemDisk};
 use sg_gate::{
     GateFault, Super, band_start, finish, lay_over, page_start, place, place_start, read_super,
-    renew,
+    renew, shut_batch,
 };
 use std::alloc::Global;
 use std::test::Fail;
@@ -92,6 +92,31 @@ fn a_stopped_laying_over_can_be_done_again(rt: HostRuntime) -> Result<(), Fail> 
             assert_eq!(rt; seen(&mut left)?, NEW);
         }
     }
+    Ok(())
+}
+
+// What a crash leaves of an open batch after so many calls of `shut_batch`, and whether that had ended.
+fn stopped_shutting(alloc: Global, passes: u64, pick: u64) -> Result<(MemDisk, bool), Fail> {
+    let (open, _done) = stopped(alloc, 4, 0)?;
+    let mut fuse = Fuse::new(open, Some(passes));
+    let done = shut_batch(&mut fuse).is_ok();
+    Ok((fuse.into_inner().crash(pick), done))
+}
+
+// It makes 3 calls, of which the second closes the gate: from its sync on no batch is there.
+#[test]
+fn a_batch_is_shut_by_three_calls(rt: HostRuntime) -> Result<(), Fail> {
+    let alloc = rt.alloc();
+    for passes in 0..4u64 {
+        for pick in 0..4u64 {
+            let (mut left, done) = stopped_shutting(alloc, passes, pick)?;
+            assert_eq!(rt; done, passes == 3);
+            let found = seen(&mut left)?;
+            assert!(rt; found == OLD && passes > 1 || found == NEW && passes < 3);
+        }
+    }
+    let mut shut = Fuse::new(with_places(alloc)?, Some(1));
+    assert!(rt; shut_batch(&mut shut).is_ok());
     Ok(())
 }
 

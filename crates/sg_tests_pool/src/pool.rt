@@ -6,7 +6,7 @@ use sg_gate::{Super, band_start, lay_over, page_start};
 use sg_log::{Log, LogFault};
 use sg_ops::Ops;
 use sg_pool::{Pool, PoolFault};
-use sg_record::plain::Rec;
+use sg_record::Rec;
 use sg_redo::{Place, are_known};
 use std::alloc::Global;
 use std::marker::Brand;
@@ -201,6 +201,33 @@ impl Trial {
         Ok(cells_differ(bytes, cells) == 0)
     }
 
+    // Whether a page that may be pinned, since it is in a frame, is that version without a call of the disk.
+    fn has_held(&self, p: u32, lsn: Lsn) -> bool {
+        if p >= self.pool.pages() || !self.pool.can_pin(PageNo(p)) {
+            return false;
+        }
+        is_version(self.pool.held(PageNo(p)), p, lsn)
+    }
+
+    // Gives the first cell of a band a new record's number, and whether it is there without a call of the disk.
+    fn has_held_cell(&mut self, b: u32) -> Result<bool, Stop> {
+        let lsn = self.log.append(&mut self.disk, &RECORD)?;
+        if b >= self.pool.bands() {
+            return Err(Stop::NoBand);
+        }
+        let bytes = lsn.to_le_bytes();
+        self.pool.change_band(
+            &mut self.disk,
+            &mut self.log,
+            BandNo(b),
+            lsn,
+            CELL_AT,
+            &bytes,
+        )?;
+        let held = self.pool.held_band(BandNo(b));
+        Ok(held[1_000..1_008] == bytes[0..8])
+    }
+
     // Pins a page, if it may be pinned.
     fn pin(&mut self, p: u32) -> bool {
         if p >= self.pool.pages() || !self.pool.can_pin(PageNo(p)) {
@@ -248,6 +275,29 @@ fn the_least_recently_used_page_that_is_not_pinned_goes(rt: HostRuntime) -> Resu
     let (victims, same) = outcome?;
     assert_eq!(rt; victims, [2, 3, 4]);
     assert!(rt; same);
+    Ok(())
+}
+
+// Whether a page in its frame and a band in its window are what was written; and, where six pages are pinned,
+// whether one of them may be pinned again, and a seventh.
+fn held_and_pinned(trial: &mut Trial) -> Result<[bool; 4], Stop> {
+    let (_first, last) = trial.write(5, true)?;
+    let page = trial.has_held(5, last);
+    let band = trial.has_held_cell(2)?;
+    for p in 0..6 {
+        trial.has(p, 0)?;
+        trial.pin(p);
+    }
+    trial.has(6, 0)?;
+    Ok([page, band, trial.pin(3), trial.pin(6)])
+}
+
+#[test]
+fn what_is_held_is_lent_without_the_disk_and_pinned_again(rt: HostRuntime) -> Result<(), Fail> {
+    let mut trial = Trial::new(rt.alloc(), Ops::shipped(rt.alloc())?, None)?;
+    let outcome = held_and_pinned(&mut trial);
+    trial.end();
+    assert_eq!(rt; outcome?, [true, true, true, false]);
     Ok(())
 }
 
