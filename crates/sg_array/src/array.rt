@@ -1,8 +1,8 @@
-ghost use Rattle.std.specs.Prelude.{◌≡◌, ◌-◌, ◌<◌, ◌≤◌, length, take, drop, slice_get, Some, IfOk, OnOk, ⊤};
+ghost use Rattle.std.specs.Prelude.{◌≡◌, ◌-◌, ◌<◌, ◌≤◌, length, take, drop, slice_get, Some, IfOk, OnOk, ⊤, ◌+◌};
 ghost use Rattle.sg_array.specs.Array.{page_count, pages_for};
 ghost use Rattle.sg_array.specs.Calls.{HasArray, IfArray, DidIf, DidBut, Made, CanGet, CanSet, IsSet, CanPop, IsPopped, CanPush, IsPushed};
 ghost use Rattle.sg_ops.specs.Table.{Table, table_of};
-ghost use Rattle.sg_space.specs.Pages.{CanTake};
+ghost use Rattle.sg_space.specs.Pages.{CanTake, WritesNone};
 ghost use Rattle.sg_space.specs.View.{Counts, OnlyReads};
 
 use crate::extend::leaf_for;
@@ -24,6 +24,7 @@ pub fn make<P: PageSpace>(space: &mut P, ops: &Ops, size: u16) -> Result<PageNo,
     ensures did { IfOk result (λ root. Made (P.view space.old) (P.view space.new) root.0 size) }
     ensures later { P.later (table_of record_meaning range_meaning ops.now) space.old space.new }
     ensures means { P.means space.new (table_of record_meaning range_meaning ops.now) }
+    ensures few { (P.view space.new).records ≤ (P.view space.old).records + 3 }
 {
     let root = take_page_with(space, ops, ROOT_KIND, &spell_root(size, 0, 0))?;
     Ok(root)
@@ -38,6 +39,7 @@ pub fn size<P: PageSpace>(space: &mut P, root: PageNo) -> Result<u16, SpaceFault
     ensures within { IfOk result (λ n. n ≤ 256) }
     ensures later { (t : Table) → P.later t space.old space.new }
     ensures means { (t : Table) → P.means space.old t → P.means space.new t }
+    ensures writes { WritesNone (P.view space.old) (P.view space.new) result }
 {
     let found = read_root(space, root)?;
     Ok(found.size)
@@ -49,8 +51,10 @@ pub fn len<P: PageSpace>(space: &mut P, root: PageNo) -> Result<u32, SpaceFault>
     ensures counts { Counts (P.view space.old) (P.view space.new) result }
     ensures kept { OnOk result (OnlyReads (P.view space.old) (P.view space.new)) }
     ensures read { IfOk result (λ n. IfArray (P.view space.old) root.0 (λ a. n ≡ length a.items)) }
+    ensures within { IfOk result (λ n. n ≤ 1048576) }
     ensures later { (t : Table) → P.later t space.old space.new }
     ensures means { (t : Table) → P.means space.old t → P.means space.new t }
+    ensures writes { WritesNone (P.view space.old) (P.view space.new) result }
 {
     let found = read_root(space, root)?;
     Ok(found.count)
@@ -66,6 +70,7 @@ pub fn pages<P: PageSpace>(space: &mut P, root: PageNo) -> Result<u32, SpaceFaul
     ensures exact { IfOk result (λ n. IfArray (P.view space.old) root.0 (λ a. n ≡ pages_for a.size a.peak)) }
     ensures later { (t : Table) → P.later t space.old space.new }
     ensures means { (t : Table) → P.means space.old t → P.means space.new t }
+    ensures writes { WritesNone (P.view space.old) (P.view space.new) result }
 {
     let found = read_root(space, root)?;
     let wanted = wanted_pages(found);
@@ -88,6 +93,7 @@ pub fn get<P: PageSpace>(
         (λ a. drop a.size into.new ≡ drop a.size into.old)) }
     ensures later { (t : Table) → P.later t space.old space.new }
     ensures means { (t : Table) → P.means space.old t → P.means space.new t }
+    ensures writes { WritesNone (P.view space.old) (P.view space.new) result }
 {
     let place = place_of(space, root, i)?;
     let size = place.size as usize;
@@ -114,6 +120,7 @@ pub fn set<P: PageSpace>(
     ensures within { OnOk result (IfArray (P.view space.old) root.0 (CanSet i (length item.now))) }
     ensures later { P.later (table_of record_meaning range_meaning ops.now) space.old space.new }
     ensures means { P.means space.new (table_of record_meaning range_meaning ops.now) }
+    ensures few { (P.view space.new).records ≤ (P.view space.old).records + 1 }
 {
     let place = find_item(space, root, i)?;
     if item.len() != place.size as usize {
@@ -145,6 +152,7 @@ pub fn pop<P: PageSpace>(
     ensures within { OnOk result (IfArray (P.view space.old) root.0 (CanPop (length into.old))) }
     ensures later { P.later (table_of record_meaning range_meaning ops.now) space.old space.new }
     ensures means { P.means space.new (table_of record_meaning range_meaning ops.now) }
+    ensures few { (P.view space.new).records ≤ (P.view space.old).records + 2 }
 {
     let last = last_of(space, root)?;
     let place = last.place;
@@ -175,6 +183,7 @@ pub fn push<P: PageSpace>(
         (λ a. (length item.now ≡ a.size) × (length a.items < 1048576))) }
     ensures later { P.later (table_of record_meaning range_meaning ops.now) space.old space.new }
     ensures means { P.means space.new (table_of record_meaning range_meaning ops.now) }
+    ensures few { (P.view space.new).records ≤ (P.view space.old).records + 8 }
 {
     let found = read_root(space, root)?;
     let count = found.count;

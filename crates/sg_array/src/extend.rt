@@ -1,5 +1,5 @@
 // A page for one more item.
-ghost use Rattle.std.specs.Prelude.{◌≡◌, ◌≢◌, ◌/◌, ◌%◌, ◌<◌, ◌≤◌, ◌⊎◌, IfOk};
+ghost use Rattle.std.specs.Prelude.{◌≡◌, ◌≢◌, ◌/◌, ◌%◌, ◌<◌, ◌≤◌, ◌⊎◌, IfOk, ◌+◌};
 ghost use Rattle.sg_array.specs.Array.{per_page};
 ghost use Rattle.sg_array.specs.Calls.{HasArray};
 ghost use Rattle.sg_array.specs.Steps.{MakesIndex, MakesRoom, CanGrow, IsNext};
@@ -21,6 +21,7 @@ fn old_index<P: PageSpace>(space: &mut P, root: PageNo, d: u32) -> Result<PageNo
     ensures did { IfOk result (λ q. MakesIndex (P.view space.old) (P.view space.new) root.0 d q.0) }
     ensures later { (t : Table) → P.later t space.old space.new }
     ensures means { (t : Table) → P.means space.old t → P.means space.new t }
+    ensures few { (P.view space.new).records ≤ (P.view space.old).records + 3 }
 {
     let index = index_at(space, root, d / LINKS)?;
     check_kind(space, index, INDEX_KIND)?;
@@ -42,6 +43,7 @@ fn new_index<P: PageSpace>(
     ensures did { IfOk result (λ q. MakesIndex (P.view space.old) (P.view space.new) root.0 d q.0) }
     ensures later { P.later (table_of record_meaning range_meaning ops.now) space.old space.new }
     ensures means { P.means space.new (table_of record_meaning range_meaning ops.now) }
+    ensures few { (P.view space.new).records ≤ (P.view space.old).records + 3 }
 {
     let slot = (d / LINKS + 1) as u16;
     let found = link_new(space, ops, root, slot, INDEX_KIND)?;
@@ -62,6 +64,7 @@ fn index_for<P: PageSpace>(
     ensures did { IfOk result (λ q. MakesIndex (P.view space.old) (P.view space.new) root.0 d q.0) }
     ensures later { P.later (table_of record_meaning range_meaning ops.now) space.old space.new }
     ensures means { P.means space.new (table_of record_meaning range_meaning ops.now) }
+    ensures few { (P.view space.new).records ≤ (P.view space.old).records + 3 }
 {
     if d % LINKS != 0 {
         old_index(space, root, d)
@@ -88,6 +91,7 @@ fn new_leaf<P: PageSpace>(
         found.size found.count found.peak) }
     ensures later { P.later (table_of record_meaning range_meaning ops.now) space.old space.new }
     ensures means { P.means space.new (table_of record_meaning range_meaning ops.now) }
+    ensures few { (P.view space.new).records ≤ (P.view space.old).records + 6 }
 {
     let d = found.count / per_page(found.size);
     let index = index_for(space, ops, root, d)?;
@@ -106,6 +110,7 @@ fn old_leaf<P: PageSpace>(space: &mut P, root: PageNo, found: Root) -> Result<Pa
         found.size found.count found.peak) }
     ensures later { (t : Table) → P.later t space.old space.new }
     ensures means { (t : Table) → P.means space.old t → P.means space.new t }
+    ensures few { (P.view space.new).records ≤ (P.view space.old).records + 6 }
 {
     let leaf = leaf_at(space, root, found.count / per_page(found.size))?;
     check_kind(space, leaf, LEAF_KIND)?;
@@ -128,6 +133,7 @@ pub fn leaf_for<P: PageSpace>(
         found.size found.count found.peak) }
     ensures later { P.later (table_of record_meaning range_meaning ops.now) space.old space.new }
     ensures means { P.means space.new (table_of record_meaning range_meaning ops.now) }
+    ensures few { (P.view space.new).records ≤ (P.view space.old).records + 6 }
 {
     if found.count < found.peak || found.count % per_page(found.size) != 0 {
         old_leaf(space, root, found)

@@ -1,5 +1,5 @@
 // An array is freed.
-ghost use Rattle.std.specs.Prelude.{◌≡◌, ◌<◌, ◌≤◌, length, OnOk, ⊤};
+ghost use Rattle.std.specs.Prelude.{◌≡◌, ◌+◌, ◌<◌, ◌≤◌, length, OnOk, ⊤};
 ghost use Rattle.sg_array.specs.Array.{IsArray};
 ghost use Rattle.sg_array.specs.Calls.{HasArray, Gone};
 ghost use Rattle.sg_array.specs.Steps.{NamesIndex, Frees};
@@ -22,6 +22,7 @@ fn free_leaves<P: PageSpace>(space: &mut P, root: PageNo, count: u32) -> Result<
         (λ a. a.leaves) (λ a. length a.leaves)) }
     ensures later { (t : Table) → P.later t space.old space.new }
     ensures means { (t : Table) → P.means space.old t → P.means space.new t }
+    ensures few { (P.view space.new).records ≤ (P.view space.old).records + count }
 {
     for d in 0..count {
         let leaf = leaf_at(space, root, d)?;
@@ -40,6 +41,7 @@ fn free_index<P: PageSpace>(space: &mut P, root: PageNo, count: u32) -> Result<(
         (NamesIndex (P.view space.old).space.pages.at root.0 count) (λ a. a.index) (λ a. length a.index)) }
     ensures later { (t : Table) → P.later t space.old space.new }
     ensures means { (t : Table) → P.means space.old t → P.means space.new t }
+    ensures few { (P.view space.new).records ≤ (P.view space.old).records + count }
 {
     for j in 0..count {
         let index = link_at(space, root, ROOT_KIND, (j + 1) as u16)?;
@@ -49,16 +51,20 @@ fn free_index<P: PageSpace>(space: &mut P, root: PageNo, count: u32) -> Result<(
     Ok(())
 }
 
-/// Frees the array's pages: its root, its index pages and its item pages.
+/// Frees the array's pages: its root, its index pages and its item pages. A space with fewer pages than these has no such array.
 pub fn free_all<P: PageSpace>(space: &mut P, root: PageNo) -> Result<(), SpaceFault>
     requires { HasArray (P.view space.old) root.0 (λ _. ⊤) }
     ensures counts { Counts (P.view space.old) (P.view space.new) result }
     ensures did { OnOk result (Gone (P.view space.old) (P.view space.new) root.0) }
     ensures later { (t : Table) → P.later t space.old space.new }
     ensures means { (t : Table) → P.means space.old t → P.means space.new t }
+    ensures few { (P.view space.new).records ≤ (P.view space.old).records + 70138 }
 {
     let found = read_root(space, root)?;
     let wanted = wanted_pages(found);
+    if wanted.leaves > space.pages() {
+        return Err(space.broken());
+    }
     free_leaves(space, root, wanted.leaves)?;
     free_index(space, root, wanted.index)?;
     space.free_page(root)?;

@@ -1,5 +1,5 @@
 // How the pages of an array are written.
-ghost use Rattle.std.specs.Prelude.{◌≡◌, ◌<◌, ◌≤◌, length, IfOk, OnOk};
+ghost use Rattle.std.specs.Prelude.{◌≡◌, ◌<◌, ◌≤◌, length, IfOk, OnOk, ◌+◌};
 ghost use Rattle.sg_array.specs.Array.{root_cell};
 ghost use Rattle.sg_array.specs.Calls.{HasArray};
 ghost use Rattle.sg_array.specs.Steps.{HasBuilt, HasRootPage, SetsRoot, CanLinkTo, Linked, CanPutLast, PutsLast, IsLast, TakesLast};
@@ -37,6 +37,7 @@ fn set_root<P: PageSpace>(
     ensures did { OnOk result (SetsRoot (P.view space.old) (P.view space.new) root.0 size count peak) }
     ensures later { P.later (table_of record_meaning range_meaning ops.now) space.old space.new }
     ensures means { P.means space.new (table_of record_meaning range_meaning ops.now) }
+    ensures few { (P.view space.new).records ≤ (P.view space.old).records + 1 }
 {
     let cell = spell_root(size, count, peak);
     let op = PageOp::Set {
@@ -61,6 +62,7 @@ pub fn link_new<P: PageSpace>(
     ensures did { IfOk result (λ q. Linked (P.view space.old) (P.view space.new) kind q.0 p.0 slot) }
     ensures later { P.later (table_of record_meaning range_meaning ops.now) space.old space.new }
     ensures means { P.means space.new (table_of record_meaning range_meaning ops.now) }
+    ensures few { (P.view space.new).records ≤ (P.view space.old).records + 3 }
 {
     let new = space.take_page(kind)?;
     let mut cell = [0; 4];
@@ -89,6 +91,7 @@ pub fn put_last<P: PageSpace>(
         leaf.0 found.size found.count found.peak item.now) }
     ensures later { P.later (table_of record_meaning range_meaning ops.now) space.old space.new }
     ensures means { P.means space.new (table_of record_meaning range_meaning ops.now) }
+    ensures few { (P.view space.new).records ≤ (P.view space.old).records + 2 }
 {
     are_bytes(item);
     let slot = (found.count % per_page(found.size)) as u16;
@@ -113,6 +116,7 @@ pub fn take_last<P: PageSpace>(
         last.place.leaf.0 last.place.slot last.place.size last.count last.peak) }
     ensures later { P.later (table_of record_meaning range_meaning ops.now) space.old space.new }
     ensures means { P.means space.new (table_of record_meaning range_meaning ops.now) }
+    ensures few { (P.view space.new).records ≤ (P.view space.old).records + 2 }
 {
     let place = last.place;
     let slot = place.slot;

@@ -1,5 +1,5 @@
 // Registered operations on an item.
-ghost use Rattle.std.specs.Prelude.{◌<◌, ◌≤◌, length, OnOk};
+ghost use Rattle.std.specs.Prelude.{◌<◌, ◌≤◌, length, OnOk, ◌+◌};
 ghost use Rattle.sg_array.specs.Calls.{HasArray, IfArray, DidIf, CanApply, IsApplied, CanApplyBack, IsAppliedBack};
 ghost use Rattle.sg_ops.specs.Table.{table_of};
 ghost use Rattle.sg_space.specs.View.{Counts};
@@ -29,6 +29,7 @@ pub fn apply<P: PageSpace>(
     ensures within { OnOk result (IfArray (P.view space.old) root.0 (λ a. i < length a.items)) }
     ensures later { P.later (table_of record_meaning range_meaning ops.now) space.old space.new }
     ensures means { P.means space.new (table_of record_meaning range_meaning ops.now) }
+    ensures few { (P.view space.new).records ≤ (P.view space.old).records + 1 }
 {
     ops.laws();
     are_bytes(arg);
@@ -59,6 +60,7 @@ pub fn apply_back<P: PageSpace>(
     ensures within { OnOk result (IfArray (P.view space.old) root.0 (λ a. i < length a.items)) }
     ensures later { P.later (table_of record_meaning range_meaning ops.now) space.old space.new }
     ensures means { P.means space.new (table_of record_meaning range_meaning ops.now) }
+    ensures few { (P.view space.new).records ≤ (P.view space.old).records + 1 }
 {
     ops.laws();
     are_bytes(arg);

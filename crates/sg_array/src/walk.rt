@@ -8,6 +8,7 @@ ghost use Rattle.sg_array.specs.Steps as spec;
 ghost use Rattle.sg_ops.specs.Table.{Table};
 ghost use Rattle.sg_space.specs.Reads.{CanRead, Reads};
 ghost use Rattle.sg_space.specs.Units.{HasAt};
+ghost use Rattle.sg_space.specs.Pages.{WritesNone};
 ghost use Rattle.sg_space.specs.View.{Counts, OnlyReads};
 
 use sg_base::{PageNo, read_u16, read_u32};
@@ -73,6 +74,7 @@ pub fn read_root<P: PageSpace>(space: &mut P, root: PageNo) -> Result<Root, Spac
         (λ a. (r.size ≡ a.size) × (r.count ≡ length a.items) × (r.peak ≡ a.peak))) }
     ensures later { (t : Table) → P.later t space.old space.new }
     ensures means { (t : Table) → P.means space.old t → P.means space.new t }
+    ensures writes { WritesNone (P.view space.old) (P.view space.new) result }
 {
     let mut cell = [0; 10];
     read_cell(space, root, ROOT_KIND, 0, &mut cell)?;
@@ -96,6 +98,7 @@ pub fn link_at<P: PageSpace>(
     ensures small { IfOk result (λ n. n.0 < 2 ^ 32) }
     ensures later { (t : Table) → P.later t space.old space.new }
     ensures means { (t : Table) → P.means space.old t → P.means space.new t }
+    ensures writes { WritesNone (P.view space.old) (P.view space.new) result }
 {
     let mut cell = [0; 4];
     read_cell(space, p, kind, slot, &mut cell)?;
@@ -111,6 +114,7 @@ pub fn index_at<P: PageSpace>(space: &mut P, root: PageNo, j: u32) -> Result<Pag
     ensures read { IfOk result (λ n. IfNames (P.view space.old) root.0 (λ a. slice_get a.index j ≡ Some n.0)) }
     ensures later { (t : Table) → P.later t space.old space.new }
     ensures means { (t : Table) → P.means space.old t → P.means space.new t }
+    ensures writes { WritesNone (P.view space.old) (P.view space.new) result }
 {
     let found = link_at(space, root, ROOT_KIND, (j + 1) as u16)?;
     Ok(found)
@@ -125,6 +129,7 @@ pub fn leaf_at<P: PageSpace>(space: &mut P, root: PageNo, d: u32) -> Result<Page
     ensures read { IfOk result (λ n. IfNames (P.view space.old) root.0 (λ a. slice_get a.leaves d ≡ Some n.0)) }
     ensures later { (t : Table) → P.later t space.old space.new }
     ensures means { (t : Table) → P.means space.old t → P.means space.new t }
+    ensures writes { WritesNone (P.view space.old) (P.view space.new) result }
 {
     let index = index_at(space, root, d / LINKS)?;
     let found = link_at(space, index, INDEX_KIND, (d % LINKS) as u16)?;
@@ -138,6 +143,7 @@ pub fn check_kind<P: PageSpace>(space: &mut P, p: PageNo, kind: u8) -> Result<()
     ensures kept { OnOk result (OnlyReads (P.view space.old) (P.view space.new)) }
     ensures later { (t : Table) → P.later t space.old space.new }
     ensures means { (t : Table) → P.means space.old t → P.means space.new t }
+    ensures writes { WritesNone (P.view space.old) (P.view space.new) result }
 {
     let view = space.page(p)?;
     if view.kind() != kind {
@@ -163,6 +169,7 @@ pub fn place_of<P: PageSpace>(space: &mut P, root: PageNo, i: u32) -> Result<Pla
     ensures read { IfOk result (λ r. IfArray (P.view space.old) root.0 (IsPlace i r.leaf.0 r.slot r.size)) }
     ensures later { (t : Table) → P.later t space.old space.new }
     ensures means { (t : Table) → P.means space.old t → P.means space.new t }
+    ensures writes { WritesNone (P.view space.old) (P.view space.new) result }
 {
     let found = read_root(space, root)?;
     if i >= found.count {
@@ -182,6 +189,7 @@ fn check_item<P: PageSpace>(space: &mut P, place: Place) -> Result<(), SpaceFaul
     ensures kept { OnOk result (OnlyReads (P.view space.old) (P.view space.new)) }
     ensures later { (t : Table) → P.later t space.old space.new }
     ensures means { (t : Table) → P.means space.old t → P.means space.new t }
+    ensures writes { WritesNone (P.view space.old) (P.view space.new) result }
 {
     let mut buffer = [0; 256];
     let item = &mut buffer[..place.size as usize];
@@ -197,6 +205,7 @@ pub fn find_item<P: PageSpace>(space: &mut P, root: PageNo, i: u32) -> Result<Pl
     ensures read { IfOk result (λ r. IfArray (P.view space.old) root.0 (IsPlace i r.leaf.0 r.slot r.size)) }
     ensures later { (t : Table) → P.later t space.old space.new }
     ensures means { (t : Table) → P.means space.old t → P.means space.new t }
+    ensures writes { WritesNone (P.view space.old) (P.view space.new) result }
 {
     let place = place_of(space, root, i)?;
     check_item(space, place)?;
@@ -220,6 +229,7 @@ pub fn last_of<P: PageSpace>(space: &mut P, root: PageNo) -> Result<Last, SpaceF
         (IsLast r.place.leaf.0 r.place.slot r.place.size r.count r.peak)) }
     ensures later { (t : Table) → P.later t space.old space.new }
     ensures means { (t : Table) → P.means space.old t → P.means space.new t }
+    ensures writes { WritesNone (P.view space.old) (P.view space.new) result }
 {
     let found = read_root(space, root)?;
     if found.count == 0 {

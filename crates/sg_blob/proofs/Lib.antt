@@ -4,6 +4,7 @@ pub mod Turned
 pub mod Writes
 pub mod Reading
 pub mod Writing
+pub mod Pieces
 pub mod Roots
 pub mod Growth
 pub mod Wholes

@@ -2,7 +2,7 @@ ghost use Rattle.std.specs.Prelude.{◌≡◌, ◌+◌, ◌-◌, ◌*◌, ◌/�
 ghost use Rattle.sg_blob.specs.Calls.{HasBlob, IfBlob, DidIf, HasBandsFor, CanWriteAt, IsPlaced, IsPaintedAt, IsResized, Made, CanRestore, Restored};
 ghost use Rattle.sg_blob.specs.Steps.{HasRaw, IfRaw, CanPaintBy};
 ghost use Rattle.sg_ops.specs.Table.{Table, table_of};
-ghost use Rattle.sg_space.specs.Pages.{CanTake};
+ghost use Rattle.sg_space.specs.Pages.{CanTake, WritesNone};
 ghost use Rattle.sg_space.specs.View.{Counts, OnlyReads};
 
 use crate::change::{grow_to, paint_all, set_root, spell_root, write_all};
@@ -22,6 +22,7 @@ pub fn make<P: PageSpace>(space: &mut P, ops: &Ops) -> Result<PageNo, SpaceFault
     ensures did { IfOk result (λ root. Made (P.view space.old) (P.view space.new) root.0) }
     ensures later { P.later (table_of record_meaning range_meaning ops.now) space.old space.new }
     ensures means { P.means space.new (table_of record_meaning range_meaning ops.now) }
+    ensures few { (P.view space.new).records ≤ (P.view space.old).records + 3 }
 {
     let root = take_page_with(space, ops, ROOT_KIND, &spell_root(0, 0))?;
     Ok(root)
@@ -33,8 +34,10 @@ pub fn len<P: PageSpace>(space: &mut P, root: PageNo) -> Result<u32, SpaceFault>
     ensures counts { Counts (P.view space.old) (P.view space.new) result }
     ensures kept { OnOk result (OnlyReads (P.view space.old) (P.view space.new)) }
     ensures read { IfOk result (λ n. IfBlob (P.view space.old) root.0 (λ b. n ≡ length b.bytes)) }
+    ensures within { IfOk result (λ n. n ≤ 16384000) }
     ensures later { (t : Table) → P.later t space.old space.new }
     ensures means { (t : Table) → P.means space.old t → P.means space.new t }
+    ensures writes { WritesNone (P.view space.old) (P.view space.new) result }
 {
     let found = read_root(space, root)?;
     Ok(found.count)
@@ -48,6 +51,7 @@ pub fn bands<P: PageSpace>(space: &mut P, root: PageNo) -> Result<u32, SpaceFaul
     ensures read { IfOk result (λ n. IfBlob (P.view space.old) root.0 (λ b. n ≡ length b.bands)) }
     ensures later { (t : Table) → P.later t space.old space.new }
     ensures means { (t : Table) → P.means space.old t → P.means space.new t }
+    ensures writes { WritesNone (P.view space.old) (P.view space.new) result }
 {
     let found = read_root(space, root)?;
     Ok(bands_for(found.peak))
@@ -67,6 +71,7 @@ pub fn read<P: PageSpace>(
         (λ b. into.new ≡ take (length into.new) (drop at b.bytes))) }
     ensures later { (t : Table) → P.later t space.old space.new }
     ensures means { (t : Table) → P.means space.old t → P.means space.new t }
+    ensures writes { WritesNone (P.view space.old) (P.view space.new) result }
 {
     let found = read_root(space, root)?;
     if at > found.count || into.len() > (found.count - at) as usize {
@@ -101,6 +106,7 @@ pub fn write<P: PageSpace>(
     ensures within { OnOk result (IfBlob (P.view space.old) root.0 (λ b. at ≤ length b.bytes)) }
     ensures later { P.later (table_of record_meaning range_meaning ops.now) space.old space.new }
     ensures means { P.means space.new (table_of record_meaning range_meaning ops.now) }
+    ensures few { (P.view space.new).records ≤ (P.view space.old).records + (length bytes.now / 8192 + 3003) }
 {
     let found = read_root(space, root)?;
     if at > found.count {
@@ -137,6 +143,7 @@ pub fn paint<P: PageSpace>(
     ensures within { OnOk result (IfBlob (P.view space.old) root.0 (λ b. at + count ≤ length b.bytes)) }
     ensures later { P.later (table_of record_meaning range_meaning ops.now) space.old space.new }
     ensures means { P.means space.new (table_of record_meaning range_meaning ops.now) }
+    ensures few { (P.view space.new).records ≤ (P.view space.old).records + (count / 8192 + 2) }
 {
     let found = read_root(space, root)?;
     if at > found.count || count > found.count - at {
@@ -162,6 +169,7 @@ pub fn set_len<P: PageSpace>(
         (HasBandsFor (P.view space.old) root.0 size) (IsResized size)) }
     ensures later { P.later (table_of record_meaning range_meaning ops.now) space.old space.new }
     ensures means { P.means space.new (table_of record_meaning range_meaning ops.now) }
+    ensures few { (P.view space.new).records ≤ (P.view space.old).records + 5003 }
 {
     let found = read_root(space, root)?;
     let from = found.count.min(size);
@@ -188,6 +196,7 @@ pub fn restore_len<P: PageSpace>(
     ensures within { OnOk result (IfRaw (P.view space.old) root.0 (λ r. size ≤ r.peak)) }
     ensures later { P.later (table_of record_meaning range_meaning ops.now) space.old space.new }
     ensures means { P.means space.new (table_of record_meaning range_meaning ops.now) }
+    ensures few { (P.view space.new).records ≤ (P.view space.old).records + 1 }
 {
     let found = read_root(space, root)?;
     if size > found.peak {

@@ -1,5 +1,5 @@
 // The steps of a change of a blob.
-ghost use Rattle.std.specs.Prelude.{◌≡◌, ◌+◌, ◌*◌, ◌/◌, ◌%◌, ◌^◌, ◌<◌, ◌≤◌, length, OnOk, ⊤};
+ghost use Rattle.std.specs.Prelude.{◌≡◌, ◌+◌, ◌-◌, ◌*◌, ◌/◌, ◌%◌, ◌^◌, ◌<◌, ◌≤◌, length, OnOk, ⊤};
 ghost use Rattle.sg_blob.specs.Raw.{root_cell};
 ghost use Rattle.sg_blob.specs.Steps.{HasRaw, HasPlace, Did, DidSome, with_bytes, with_root, CanPaintBy, CanAdd, CanGrow, IsGrown};
 ghost use Rattle.sg_ops.specs.Table.{Table, table_of, range_at, rendered};
@@ -26,6 +26,7 @@ pub fn write_in<P: PageSpace>(
         (HasPlace at (length bytes.now)) (with_bytes at bytes.now)) }
     ensures later { (t : Table) → P.later t space.old space.new }
     ensures means { (t : Table) → P.means space.old t → P.means space.new t }
+    ensures few { (P.view space.new).records ≤ (P.view space.old).records + 1 }
 {
     let b = band_at(space, root, at / BAND)?;
     space.write_band(b, at % BAND, bytes)?;
@@ -46,6 +47,7 @@ pub fn write_all<P: PageSpace>(
         (HasPlace at (length bytes.now)) (with_bytes at bytes.now)) }
     ensures later { (t : Table) → P.later t space.old space.new }
     ensures means { (t : Table) → P.means space.old t → P.means space.new t }
+    ensures few { (P.view space.new).records ≤ (P.view space.old).records + (length bytes.now / 8192 + 2) }
 {
     let mut done = 0;
     'pieces: while done < bytes.len() {
@@ -83,6 +85,7 @@ pub fn set_root<P: PageSpace>(
     ensures did { OnOk result (Did (P.view space.old) (P.view space.new) root.0 (λ _. ⊤) (with_root count peak)) }
     ensures later { P.later (table_of record_meaning range_meaning ops.now) space.old space.new }
     ensures means { P.means space.new (table_of record_meaning range_meaning ops.now) }
+    ensures few { (P.view space.new).records ≤ (P.view space.old).records + 1 }
 {
     let cell = spell_root(count, peak);
     let op = PageOp::Set {
@@ -114,6 +117,7 @@ pub fn paint_in<P: PageSpace>(
         (with_bytes at (rendered (range_at (table_of record_meaning range_meaning ops.now) code) arg.now at count))) }
     ensures later { P.later (table_of record_meaning range_meaning ops.now) space.old space.new }
     ensures means { P.means space.new (table_of record_meaning range_meaning ops.now) }
+    ensures few { (P.view space.new).records ≤ (P.view space.old).records + 1 }
 {
     let b = band_at(space, root, at / BAND)?;
     space.paint_band(ops, b, at % BAND, count, code, at, arg)?;
@@ -140,6 +144,7 @@ pub fn paint_all<P: PageSpace>(
         (with_bytes at (rendered (range_at (table_of record_meaning range_meaning ops.now) code) arg.now at count))) }
     ensures later { P.later (table_of record_meaning range_meaning ops.now) space.old space.new }
     ensures means { P.means space.new (table_of record_meaning range_meaning ops.now) }
+    ensures few { (P.view space.new).records ≤ (P.view space.old).records + (count / 8192 + 2) }
 {
     let mut done = 0;
     'pieces: while done < count {
@@ -161,6 +166,7 @@ fn add_band<P: PageSpace>(space: &mut P, ops: &Ops, root: PageNo, j: u32) -> Res
         (CanAdd (P.view space.old) root.0 j) (IsGrown (j + 1))) }
     ensures later { P.later (table_of record_meaning range_meaning ops.now) space.old space.new }
     ensures means { P.means space.new (table_of record_meaning range_meaning ops.now) }
+    ensures few { (P.view space.new).records ≤ (P.view space.old).records + 6 }
 {
     let band = space.take_band()?;
     let mut cell = [0; 4];
@@ -188,6 +194,7 @@ pub fn grow_to<P: PageSpace>(
         (CanGrow (P.view space.old) root.0 have want) (IsGrown want)) }
     ensures later { P.later (table_of record_meaning range_meaning ops.now) space.old space.new }
     ensures means { P.means space.new (table_of record_meaning range_meaning ops.now) }
+    ensures few { (P.view space.new).records ≤ (P.view space.old).records + 6 * (want - have) }
 {
     for j in have..want {
         add_band(space, ops, root, j)?;

@@ -15,6 +15,7 @@ pub fn free_all<P: PageSpace>(space: &mut P, root: PageNo) -> Result<(), SpaceFa
     ensures did { OnOk result (Gone (P.view space.old) (P.view space.new) root.0) }
     ensures later { (t : Table) → P.later t space.old space.new }
     ensures means { (t : Table) → P.means space.old t → P.means space.new t }
+    ensures few { (P.view space.new).records ≤ (P.view space.old).records + 501 }
 {
     let found = read_root(space, root)?;
     for j in 0..bands_for(found.peak) {

@@ -12,6 +12,6 @@ mod change;
 mod free;
 mod walk;
 
-pub use beside::keep_bound;
+pub use beside::{keep_bound, stay_in_place};
 pub use blob::{bands, len, make, paint, read, restore_len, set_len, write};
 pub use free::free_all;

@@ -1,12 +1,12 @@
 // From the root of a blob to its bands.
-ghost use Rattle.std.specs.Prelude.{◌≡◌, ◌+◌, ◌-◌, ◌*◌, ◌/◌, ◌%◌, ◌^◌, ◌<◌, ◌≤◌, length, slice_get, Some, IfOk, OnOk, IfSome, IsSome, ⊤};
+ghost use Rattle.std.specs.Prelude.{◌≡◌, ◌+◌, ◌-◌, ◌*◌, ◌/◌, ◌%◌, ◌^◌, ◌<◌, ◌≤◌, min, length, slice_get, Some, IfOk, OnOk, IfSome, IsSome, ⊤};
 ghost use Rattle.byteorder.specs.Endian.{little_bytes};
 ghost use Rattle.sg_blob.specs.Raw.{root_cell};
 ghost use Rattle.sg_blob.specs.Steps.{HasRaw, IfRaw, IsInRange, IsCopied};
 ghost use Rattle.sg_blob.specs.Steps as spec;
 ghost use Rattle.sg_ops.specs.Table.{Table};
 ghost use Rattle.sg_space.specs.Bands.{IsPiece};
-ghost use Rattle.sg_space.specs.Pages.{CanLook};
+ghost use Rattle.sg_space.specs.Pages.{CanLook, WritesNone};
 ghost use Rattle.sg_space.specs.Reads.{CanRead, Reads};
 ghost use Rattle.sg_space.specs.Units.{HasAt};
 ghost use Rattle.sg_space.specs.View.{Counts, OnlyReads};
@@ -58,6 +58,7 @@ pub fn read_root<P: PageSpace>(space: &mut P, root: PageNo) -> Result<Root, Spac
     ensures read { IfOk result (λ n. IfRaw (P.view space.old) root.0 (λ r. (n.count ≡ r.count) × (n.peak ≡ r.peak))) }
     ensures later { (t : Table) → P.later t space.old space.new }
     ensures means { (t : Table) → P.means space.old t → P.means space.new t }
+    ensures writes { WritesNone (P.view space.old) (P.view space.new) result }
 {
     let mut cell = [0; 8];
     read_cell(space, root, ROOT_KIND, 0, &mut cell)?;
@@ -76,6 +77,7 @@ pub fn link_at<P: PageSpace>(space: &mut P, root: PageNo, slot: u16) -> Result<B
     ensures small { IfOk result (λ n. n.0 < 2 ^ 32) }
     ensures later { (t : Table) → P.later t space.old space.new }
     ensures means { (t : Table) → P.means space.old t → P.means space.new t }
+    ensures writes { WritesNone (P.view space.old) (P.view space.new) result }
 {
     let mut cell = [0; 4];
     read_cell(space, root, ROOT_KIND, slot, &mut cell)?;
@@ -91,6 +93,7 @@ pub fn band_at<P: PageSpace>(space: &mut P, root: PageNo, j: u32) -> Result<Band
     ensures read { IfOk result (λ n. IfRaw (P.view space.old) root.0 (λ r. slice_get r.bands j ≡ Some n.0)) }
     ensures later { (t : Table) → P.later t space.old space.new }
     ensures means { (t : Table) → P.means space.old t → P.means space.new t }
+    ensures writes { WritesNone (P.view space.old) (P.view space.new) result }
 {
     let found = link_at(space, root, (j + 1) as u16)?;
     Ok(found)
@@ -110,6 +113,7 @@ fn copy_band<P: PageSpace>(
     ensures read { OnOk result ((P.view space.old).Shows → HasAt (P.view space.old).space.bands.at b.0 (λ band. IsCopied band at into.new)) }
     ensures later { (t : Table) → P.later t space.old space.new }
     ensures means { (t : Table) → P.means space.old t → P.means space.new t }
+    ensures writes { WritesNone (P.view space.old) (P.view space.new) result }
 {
     let band = space.band(b)?;
     let start = at as usize;
@@ -132,6 +136,7 @@ pub fn read_in<P: PageSpace>(
     ensures read { OnOk result (IfRaw (P.view space.old) root.0 (λ r. IsCopied r.bytes at into.new)) }
     ensures later { (t : Table) → P.later t space.old space.new }
     ensures means { (t : Table) → P.means space.old t → P.means space.new t }
+    ensures writes { WritesNone (P.view space.old) (P.view space.new) result }
 {
     let b = band_at(space, root, at / BAND)?;
     copy_band(space, b, at % BAND, into)?;
@@ -144,6 +149,7 @@ pub fn piece(at: u32, left: usize) -> usize
     requires { 1 ≤ left }
     ensures piece { IsPiece (at % BAND) result }
     ensures most { result ≤ left }
+    ensures value { result ≡ min (min (BAND - at % BAND) 8192) left }
 {
     let room = (BAND - at % BAND).min(MOST_AT_ONCE) as usize;
     room.min(left)

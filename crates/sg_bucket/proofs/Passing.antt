@@ -258,6 +258,10 @@ copy_ready m can told =
     let h = can told in
     (here.0, here.1.linked, can_copy (m.keeps told) h.1 h.2 here.1)
 
+-- the page that is next is one of the bucket's
+pub passing_within : {u v : View} {first new i page : ℕ} {there : Address} {tail : Tail} → Branches u v first new there i page tail → u.Told → (b : Bucket) → IsLinked u.space.pages.at first b → i < length b.pages
+passing_within {i = i} {page = page} m told b h = slice_get_within b.pages i page ((m.stands told).1.passed b h).next
+
 -- a bucket has no more pages than its space
 pub still_passing : {u v : View} {first new i page : ℕ} {there : Address} {tail : Tail} → Branches u v first new there i page tail → IsExact u.space.pages → (b : Bucket) → IsLinked u.space.pages.at first b → u.Told → i < u.space.pages.count
 still_passing {i = i} {page = page} m exact b h told =

@@ -485,6 +485,15 @@ prune_ready m shows k can told =
     let one = m.did.turns told h.0 h.1 h.2 in
     (one.0, still_linked k (shows (m.did.told told)) one.1.linked, pruning_behind one.2)
 
+-- the page that is next is one of the bucket's
+pub pruning_within : {u v : View} {first before page passed : ℕ} {there : Address} → Prunes u v first before page there passed → u.Told → (b : Bucket) → IsLinked u.space.pages.at first b → IsSound b → passed < length b.pages
+pruning_within {page = page} m told b h sound =
+    let one = m.did.turns told b h sound in
+    let r = one.2 in
+    let long = r.to.long in
+    let within = slice_get_within (one.0).pages r.left page r.page_is in
+    omega arith
+
 -- a bucket has no more pages than its space
 pub still_pruning : {u v : View} {first before page passed : ℕ} {there : Address} → Prunes u v first before page there passed → IsExact u.space.pages → (u.Told → (b : Bucket) × IsLinked u.space.pages.at first b × IsSound b) → u.Told → passed < u.space.pages.count
 still_pruning {page = page} m exact can told =

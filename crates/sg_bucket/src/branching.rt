@@ -1,6 +1,6 @@
 // The entries of a bucket at an address are copied to a new bucket.
-ghost use Rattle.std.specs.Prelude.{◌≡◌, ◌+◌, ◌<◌, ◌≤◌, length, IfOk};
-ghost use Rattle.sg_bucket.specs.Bucket.{HasLinked};
+ghost use Rattle.std.specs.Prelude.{◌≡◌, ◌+◌, ◌*◌, ◌<◌, ◌≤◌, length, IfOk};
+ghost use Rattle.sg_bucket.specs.Bucket.{Bucket, HasLinked, IsLinked};
 ghost use Rattle.sg_bucket.specs.Branch.{CanExtend, IsExtended, CanCopy, IsPartCopied, filled};
 ghost use Rattle.sg_bucket.specs.Division.{CanBranch, Branched};
 ghost use Rattle.sg_bucket.specs.Entry.{IsEntryCell};
@@ -51,6 +51,7 @@ fn extend<P: PageSpace>(
     ensures slot { IfOk result (λ end. filled end.slot ≤ filled tail.slot + 1) }
     ensures later { P.later (table_of record_meaning range_meaning ops.now) space.old space.new }
     ensures means { P.means space.new (table_of record_meaning range_meaning ops.now) }
+    ensures few { (P.view space.new).records ≤ (P.view space.old).records + 4 }
 {
     match tail.slot {
         Some(slot) => {
@@ -89,6 +90,7 @@ fn copy_part<P: PageSpace>(
     ensures read { IfOk result (λ copied. (P.view space.old).Shows → HasAt (P.view space.old).space.pages.at from.0 (λ sheet. sheet.links.0 ≡ copied.next.0)) }
     ensures later { P.later (table_of record_meaning range_meaning ops.now) space.old space.new }
     ensures means { P.means space.new (table_of record_meaning range_meaning ops.now) }
+    ensures few { (P.view space.new).records ≤ (P.view space.old).records + 4072 }
 {
     let seen = outline_of(space, from)?;
     let mut tail = tail;
@@ -120,14 +122,18 @@ pub fn branch<P: PageSpace>(
     ensures did { IfOk result (λ new. Branched (P.view space.old) (P.view space.new) first.0 new.0 there) }
     ensures later { P.later (table_of record_meaning range_meaning ops.now) space.old space.new }
     ensures means { P.means space.new (table_of record_meaning range_meaning ops.now) }
+    ensures few { (P.view space.new).records ≤ (P.view space.old).records + (2 + 4072 * (P.view space.old).space.pages.count) }
+    ensures few_told { (P.view space.old).Told → (b : Bucket) → IsLinked (P.view space.old).space.pages.at first.0 b →
+        (P.view space.new).records ≤ (P.view space.old).records + (2 + 4072 * length b.pages) }
 {
+    let most = space.pages();
     let new = make(space)?;
     let mut tail = Tail {
         page: new,
         slot: Some(0),
     };
     let mut page = first;
-    for _passed in 0..space.pages() {
+    for _passed in 0..most {
         let copied = copy_part(space, ops, new, tail, page, there)?;
         if copied.next.0 == 0 {
             return Ok(new);

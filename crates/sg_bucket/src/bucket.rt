@@ -1,11 +1,11 @@
-ghost use Rattle.std.specs.Prelude.{◌≡◌, ◌≤◌, length, take, IfOk, ⊤};
+ghost use Rattle.std.specs.Prelude.{◌≡◌, ◌≤◌, length, take, IfOk, None, ⊤, ◌+◌};
 ghost use Rattle.sg_bucket.specs.Bucket.{HasLinked};
 ghost use Rattle.sg_bucket.specs.Calls.{CanPutEntry, DidPut, IsSound, IsDeleted, Made};
 ghost use Rattle.sg_bucket.specs.Entry.{cell_of};
 ghost use Rattle.sg_bucket.specs.Steps.{Did};
 ghost use Rattle.sg_ops.specs.Table.{Table, table_of};
 ghost use Rattle.sg_space.specs.Pages.{CanTake};
-ghost use Rattle.sg_space.specs.View.{Counts};
+ghost use Rattle.sg_space.specs.View.{Counts, OnlyReads};
 
 use crate::change::{add, replace, take_out};
 use crate::entry::{MOST_CELL, spell};
@@ -23,6 +23,7 @@ pub fn make<P: PageSpace>(space: &mut P) -> Result<PageNo, SpaceFault>
     ensures did { IfOk result (λ p. Made (P.view space.old) (P.view space.new) p.0) }
     ensures later { (t : Table) → P.later t space.old space.new }
     ensures means { (t : Table) → P.means space.old t → P.means space.new t }
+    ensures few { (P.view space.new).records ≤ (P.view space.old).records + 2 }
 {
     let p = space.take_page(BUCKET_KIND)?;
     Ok(p)
@@ -45,6 +46,7 @@ pub fn put<P: PageSpace>(
     ensures did { IfOk result (λ old. DidPut (P.view space.old) (P.view space.new) first.0 key.now value.now old) }
     ensures later { P.later (table_of record_meaning range_meaning ops.now) space.old space.new }
     ensures means { P.means space.new (table_of record_meaning range_meaning ops.now) }
+    ensures few { (P.view space.new).records ≤ (P.view space.old).records + 7 }
 {
     let mut bytes = [0; MOST_CELL];
     let size = spell(&mut bytes, key, value);
@@ -72,8 +74,10 @@ pub fn del<P: PageSpace>(
     requires can { HasLinked (P.view space.old) first.0 IsSound }
     ensures counts { Counts (P.view space.old) (P.view space.new) result }
     ensures did { IfOk result (λ old. Did (P.view space.old) (P.view space.new) first.0 IsSound (IsDeleted key.now old)) }
+    ensures absent { IfOk result (λ old. old ≡ None → OnlyReads (P.view space.old) (P.view space.new)) }
     ensures later { P.later (table_of record_meaning range_meaning ops.now) space.old space.new }
     ensures means { P.means space.new (table_of record_meaning range_meaning ops.now) }
+    ensures few { (P.view space.new).records ≤ (P.view space.old).records + 3 }
 {
     match seek(space, first, key)? {
         None => Ok(None),

@@ -1,5 +1,5 @@
 // The steps of a change of a bucket.
-ghost use Rattle.std.specs.Prelude.{◌≡◌, ◌≤◌, length, IfOk, OnOk};
+ghost use Rattle.std.specs.Prelude.{◌≡◌, ◌≤◌, length, IfOk, OnOk, ◌+◌};
 ghost use Rattle.sg_bucket.specs.Bucket.{HasLinked};
 ghost use Rattle.sg_bucket.specs.Entry.{IsEntryCell};
 ghost use Rattle.sg_bucket.specs.Steps.{CanPutAt, CanAppend, CanAdd, IsAdded, IsPutAt, IsAppended, CanSet, IsSet, CanCut, IsCut, HasCellAt, IsRemoved, CanReplace, IsReplaced, IsTakenOut, Did, DidKeep};
@@ -30,6 +30,7 @@ pub fn put_at<P: PageSpace>(
         (CanPutAt (P.view space.old) (length cell.now) p.0 slot) (IsPutAt cell.now p.0 slot)) }
     ensures later { P.later (table_of record_meaning range_meaning ops.now) space.old space.new }
     ensures means { P.means space.new (table_of record_meaning range_meaning ops.now) }
+    ensures few { (P.view space.new).records ≤ (P.view space.old).records + 1 }
 {
     let op = PageOp::Put { slot, bytes: cell };
     space.change(ops, p, &op)?;
@@ -52,6 +53,7 @@ pub fn append<P: PageSpace>(
         (CanAppend (P.view space.old) last.0) (IsAppended (P.view space.new) cell.now p.0)) }
     ensures later { P.later (table_of record_meaning range_meaning ops.now) space.old space.new }
     ensures means { P.means space.new (table_of record_meaning range_meaning ops.now) }
+    ensures few { (P.view space.new).records ≤ (P.view space.old).records + 4 }
 {
     let p = take_page_with(space, ops, BUCKET_KIND, cell)?;
     let op = PageOp::Links { a: p.0, b: 0 };
@@ -74,6 +76,7 @@ pub fn add<P: PageSpace>(
         (CanAdd (P.view space.old)) (IsAdded cell.now)) }
     ensures later { P.later (table_of record_meaning range_meaning ops.now) space.old space.new }
     ensures means { P.means space.new (table_of record_meaning range_meaning ops.now) }
+    ensures few { (P.view space.new).records ≤ (P.view space.old).records + 4 }
 {
     let mut page = first;
     for _passed in 0..space.pages() {
@@ -110,6 +113,7 @@ pub fn set_over<P: PageSpace>(
         (CanSet (length cell.now) place) (IsSet cell.now place)) }
     ensures later { P.later (table_of record_meaning range_meaning ops.now) space.old space.new }
     ensures means { P.means space.new (table_of record_meaning range_meaning ops.now) }
+    ensures few { (P.view space.new).records ≤ (P.view space.old).records + 1 }
 {
     let op = PageOp::Set {
         slot: place.slot,
@@ -135,6 +139,7 @@ pub fn cut<P: PageSpace>(
         (CanCut before.0 page.0 next.0) (IsCut page.0)) }
     ensures later { P.later (table_of record_meaning range_meaning ops.now) space.old space.new }
     ensures means { P.means space.new (table_of record_meaning range_meaning ops.now) }
+    ensures few { (P.view space.new).records ≤ (P.view space.old).records + 2 }
 {
     let op = PageOp::Links { a: next.0, b: 0 };
     space.change(ops, before, &op)?;
@@ -155,6 +160,7 @@ pub fn remove_at<P: PageSpace>(
     ensures did { OnOk result (Did (P.view space.old) (P.view space.new) first.0 (HasCellAt place) (IsRemoved place)) }
     ensures later { P.later (table_of record_meaning range_meaning ops.now) space.old space.new }
     ensures means { P.means space.new (table_of record_meaning range_meaning ops.now) }
+    ensures few { (P.view space.new).records ≤ (P.view space.old).records + 1 }
 {
     let op = PageOp::Remove { slot: place.slot };
     space.change(ops, place.page, &op)?;
@@ -175,6 +181,7 @@ pub fn take_out<P: PageSpace>(
     ensures did { OnOk result (Did (P.view space.old) (P.view space.new) first.0 (HasCellAt place) (IsTakenOut place)) }
     ensures later { P.later (table_of record_meaning range_meaning ops.now) space.old space.new }
     ensures means { P.means space.new (table_of record_meaning range_meaning ops.now) }
+    ensures few { (P.view space.new).records ≤ (P.view space.old).records + 3 }
 {
     remove_at(space, ops, first, place)?;
     if place.page.0 == first.0 {
@@ -206,6 +213,7 @@ pub fn replace<P: PageSpace>(
         (CanReplace (P.view space.old) place) (IsReplaced cell.now place old)) }
     ensures later { P.later (table_of record_meaning range_meaning ops.now) space.old space.new }
     ensures means { P.means space.new (table_of record_meaning range_meaning ops.now) }
+    ensures few { (P.view space.new).records ≤ (P.view space.old).records + 7 }
 {
     let held = held_at(space, place.page, place.slot)?;
     if cell.len() <= held.most as usize {

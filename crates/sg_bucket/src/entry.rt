@@ -1,6 +1,6 @@
 // The cells of entries.
 ghost use Rattle.std.specs.Prelude.{◌≡◌, ◌≤◌, ◌↔◌, IsTrue, length, take};
-ghost use Rattle.sg_bucket.specs.Entry.{IsEntryCell, entry_in, value_size, cell_of};
+ghost use Rattle.sg_bucket.specs.Entry.{IsEntryCell, entry_in, key_size, value_size, cell_of};
 
 use sg_base::{put_text, put_u16, read_u16};
 
@@ -10,7 +10,7 @@ pub const MOST_KEY: usize = 128;
 /// The most bytes of a value.
 pub const MOST_VALUE: usize = 1_024;
 
-/// Whether a cell holds an entry.
+/// Whether a cell holds an entry: the lengths of a key and of a value, 2 bytes each, the key and the value, and no more.
 pub fn is_entry(cell: &[u8]) -> bool
     ensures { IsTrue result ↔ IsEntryCell cell.now }
 {
@@ -25,7 +25,9 @@ pub fn is_entry(cell: &[u8]) -> bool
 /// The key of the entry in a cell.
 pub fn key_in(cell: &[u8]) -> &[u8]
     requires { IsEntryCell cell.now }
-    ensures { result.now ≡ (entry_in cell.now).key }
+    ensures key { result.now ≡ (entry_in cell.now).key }
+    ensures size { length result.now ≡ key_size cell.now }
+    ensures few { length result.now ≤ 128 }
 {
     let end = 4 + read_u16(cell) as usize;
     &cell[4..end]

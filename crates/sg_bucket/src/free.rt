@@ -1,6 +1,6 @@
 // A bucket is freed.
-ghost use Rattle.std.specs.Prelude.{OnOk, ⊤};
-ghost use Rattle.sg_bucket.specs.Bucket.{HasLinked};
+ghost use Rattle.std.specs.Prelude.{◌+◌, ◌≤◌, length, OnOk, ⊤};
+ghost use Rattle.sg_bucket.specs.Bucket.{Bucket, HasLinked, IsLinked};
 ghost use Rattle.sg_bucket.specs.Calls.{Gone};
 ghost use Rattle.sg_ops.specs.Table.{Table};
 ghost use Rattle.sg_space.specs.View.{Counts};
@@ -16,6 +16,9 @@ pub fn free_all<P: PageSpace>(space: &mut P, first: PageNo) -> Result<(), SpaceF
     ensures did { OnOk result (Gone (P.view space.old) (P.view space.new) first.0) }
     ensures later { (t : Table) → P.later t space.old space.new }
     ensures means { (t : Table) → P.means space.old t → P.means space.new t }
+    ensures few { (P.view space.new).records ≤ (P.view space.old).records + (P.view space.old).space.pages.count }
+    ensures few_told { (P.view space.old).Told → (b : Bucket) → IsLinked (P.view space.old).space.pages.at first.0 b →
+        (P.view space.new).records ≤ (P.view space.old).records + length b.pages }
 {
     let mut page = first;
     for _passed in 0..space.pages() {

@@ -24,7 +24,7 @@ mod walk;
 pub use branching::branch;
 pub use bucket::{del, make, put};
 pub use bytes::Bytes;
-pub use entry::{MOST_KEY, MOST_VALUE};
+pub use entry::{MOST_KEY, MOST_VALUE, is_entry, key_in};
 pub use free::free_all;
 pub use listing::keys;
 pub use pruning::prune;

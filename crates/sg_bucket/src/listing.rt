@@ -8,7 +8,7 @@ ghost use Rattle.sg_bucket.specs.Listing.{IsUnlisted, ListsPage};
 ghost use Rattle.sg_bucket.specs.Part.{CanLookInto, entries_in};
 ghost use Rattle.sg_ops.specs.Table.{Table};
 ghost use Rattle.sg_space.specs.Units.{HasAt};
-ghost use Rattle.sg_space.specs.Listing.{CountsList};
+ghost use Rattle.sg_space.specs.Listing.{CountsList, WritesNoneList};
 ghost use Rattle.sg_space.specs.View.{OnlyReads};
 
 use crate::bytes::Bytes;
@@ -76,6 +76,7 @@ fn gather<P: PageSpace>(
         (ListsPage keys.old.items keys.new.items next.0)) }
     ensures later { (t : Table) → P.later t space.old space.new }
     ensures means { (t : Table) → P.means space.old t → P.means space.new t }
+    ensures writes { WritesNoneList (P.view space.old) (P.view space.new) result }
 {
     let view = space.page(p)?;
     if view.kind() != BUCKET_KIND {
@@ -103,6 +104,7 @@ pub fn keys<P: PageSpace>(
     ensures read { OnOk result (IfLinked (P.view space.old) first.0 (λ b. into.new.items ≡ into.old.items ++ keys_of (entries_of b.parts))) }
     ensures later { (t : Table) → P.later t space.old space.new }
     ensures means { (t : Table) → P.means space.old t → P.means space.new t }
+    ensures writes { WritesNoneList (P.view space.old) (P.view space.new) result }
 {
     let mut page = first;
     for _passed in 0..space.pages() {

@@ -4,6 +4,7 @@ ghost use Rattle.sg_base.specs.Page.{slots_of};
 ghost use Rattle.sg_bucket.specs.Part.{CanLookInto, IsMatch, IsSought, IsLook};
 ghost use Rattle.sg_ops.specs.Table.{Table};
 ghost use Rattle.sg_space.specs.Units.{HasAt};
+ghost use Rattle.sg_space.specs.Pages.{WritesNone};
 ghost use Rattle.sg_space.specs.View.{Counts, OnlyReads};
 
 use crate::entry::{is_entry, key_in};
@@ -72,6 +73,7 @@ pub fn look_for<P: PageSpace>(space: &mut P, p: PageNo, key: &[u8]) -> Result<Lo
     ensures read { IfOk result (λ seen. (P.view space.old).Shows → HasAt (P.view space.old).space.pages.at p.0 (IsLook key.now seen)) }
     ensures later { (t : Table) → P.later t space.old space.new }
     ensures means { (t : Table) → P.means space.old t → P.means space.new t }
+    ensures writes { WritesNone (P.view space.old) (P.view space.new) result }
 {
     let view = space.page(p)?;
     if view.kind() != BUCKET_KIND {
@@ -93,6 +95,7 @@ pub fn next_of<P: PageSpace>(space: &mut P, p: PageNo) -> Result<PageNo, SpaceFa
     ensures read { IfOk result (λ next. (P.view space.old).Shows → HasAt (P.view space.old).space.pages.at p.0 (λ sheet. sheet.links.0 ≡ next.0)) }
     ensures later { (t : Table) → P.later t space.old space.new }
     ensures means { (t : Table) → P.means space.old t → P.means space.new t }
+    ensures writes { WritesNone (P.view space.old) (P.view space.new) result }
 {
     let view = space.page(p)?;
     if view.kind() != BUCKET_KIND {

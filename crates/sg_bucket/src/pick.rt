@@ -5,6 +5,7 @@ ghost use Rattle.sg_bucket.specs.Entry.{IsEntryCell};
 ghost use Rattle.sg_bucket.specs.Part.{CanLookInto};
 ghost use Rattle.sg_ops.specs.Table.{Table};
 ghost use Rattle.sg_space.specs.Units.{HasAt};
+ghost use Rattle.sg_space.specs.Pages.{WritesNone};
 ghost use Rattle.sg_space.specs.View.{Counts, OnlyReads};
 
 use crate::entry::{is_entry, key_in};
@@ -50,8 +51,10 @@ pub fn outline_of<P: PageSpace>(space: &mut P, p: PageNo) -> Result<Outline, Spa
     ensures counts { Counts (P.view space.old) (P.view space.new) result }
     ensures kept { OnOk result (OnlyReads (P.view space.old) (P.view space.new)) }
     ensures read { IfOk result (λ seen. (P.view space.old).Shows → HasAt (P.view space.old).space.pages.at p.0 (IsOutline seen)) }
+    ensures most { IfOk result (λ seen. seen.slots ≤ 1018) }
     ensures later { (t : Table) → P.later t space.old space.new }
     ensures means { (t : Table) → P.means space.old t → P.means space.new t }
+    ensures writes { WritesNone (P.view space.old) (P.view space.new) result }
 {
     let view = space.page(p)?;
     if view.kind() != BUCKET_KIND {
@@ -83,6 +86,7 @@ pub fn copy_entry<P: PageSpace>(
     ensures within { IfOk result (λ found. IfSome found (λ n. n ≤ length into.new)) }
     ensures later { (t : Table) → P.later t space.old space.new }
     ensures means { (t : Table) → P.means space.old t → P.means space.new t }
+    ensures writes { WritesNone (P.view space.old) (P.view space.new) result }
 {
     let view = space.page(p)?;
     if view.kind() != BUCKET_KIND {
@@ -114,6 +118,7 @@ pub fn is_picked<P: PageSpace>(
     ensures read { IfOk result (λ yes. (P.view space.old).Shows → HasAt (P.view space.old).space.pages.at p.0 (IsTold there slot yes)) }
     ensures later { (t : Table) → P.later t space.old space.new }
     ensures means { (t : Table) → P.means space.old t → P.means space.new t }
+    ensures writes { WritesNone (P.view space.old) (P.view space.new) result }
 {
     let view = space.page(p)?;
     if view.kind() != BUCKET_KIND {

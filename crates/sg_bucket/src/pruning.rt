@@ -1,6 +1,6 @@
 // The entries of a bucket at an address are removed.
-ghost use Rattle.std.specs.Prelude.{IfOk, OnOk};
-ghost use Rattle.sg_bucket.specs.Bucket.{HasLinked};
+ghost use Rattle.std.specs.Prelude.{◌+◌, ◌*◌, ◌≤◌, length, IfOk, OnOk};
+ghost use Rattle.sg_bucket.specs.Bucket.{Bucket, HasLinked, IsLinked};
 ghost use Rattle.sg_bucket.specs.Calls.{IsSound};
 ghost use Rattle.sg_bucket.specs.Division.{IsPruned};
 ghost use Rattle.sg_bucket.specs.Prune.{IsBehind, IsStripped, IsPagePruned};
@@ -34,6 +34,7 @@ fn strip<P: PageSpace>(
         (IsBehind before.0 page.0) (IsStripped there page.0)) }
     ensures later { P.later (table_of record_meaning range_meaning ops.now) space.old space.new }
     ensures means { P.means space.new (table_of record_meaning range_meaning ops.now) }
+    ensures few { (P.view space.new).records ≤ (P.view space.old).records + 1018 }
 {
     let seen = outline_of(space, page)?;
     for slot in 0..seen.slots {
@@ -64,6 +65,7 @@ fn prune_page<P: PageSpace>(
         (IsBehind before.0 page.0) (IsPagePruned there before.0 page.0 end.0)) }
     ensures later { P.later (table_of record_meaning range_meaning ops.now) space.old space.new }
     ensures means { P.means space.new (table_of record_meaning range_meaning ops.now) }
+    ensures few { (P.view space.new).records ≤ (P.view space.old).records + 1020 }
 {
     strip(space, ops, first, before, page, there)?;
     if page.0 == first.0 {
@@ -92,6 +94,9 @@ pub fn prune<P: PageSpace>(
     ensures did { OnOk result (Did (P.view space.old) (P.view space.new) first.0 IsSound (IsPruned there)) }
     ensures later { P.later (table_of record_meaning range_meaning ops.now) space.old space.new }
     ensures means { P.means space.new (table_of record_meaning range_meaning ops.now) }
+    ensures few { (P.view space.new).records ≤ (P.view space.old).records + 1020 * (P.view space.old).space.pages.count }
+    ensures few_told { (P.view space.old).Told → (b : Bucket) → IsLinked (P.view space.old).space.pages.at first.0 b → IsSound b →
+        (P.view space.new).records ≤ (P.view space.old).records + 1020 * length b.pages }
 {
     let mut before = first;
     let mut page = first;

@@ -6,6 +6,7 @@ ghost use Rattle.sg_bucket.specs.Part.{CanLookInto, HasValueAt};
 ghost use Rattle.sg_bucket.specs.Steps.{CanPut, IsRoom, IsHeld, IsBare, IsEmptied};
 ghost use Rattle.sg_ops.specs.Table.{Table};
 ghost use Rattle.sg_space.specs.Units.{HasAt};
+ghost use Rattle.sg_space.specs.Pages.{WritesNone};
 ghost use Rattle.sg_space.specs.View.{Counts, OnlyReads};
 
 use crate::entry::{is_entry, value_in};
@@ -76,6 +77,7 @@ pub fn room_on<P: PageSpace>(space: &mut P, p: PageNo, size: usize) -> Result<Ro
     ensures read { IfOk result (λ seen. (P.view space.old).Shows → HasAt (P.view space.old).space.pages.at p.0 (IsRoom size seen)) }
     ensures later { (t : Table) → P.later t space.old space.new }
     ensures means { (t : Table) → P.means space.old t → P.means space.new t }
+    ensures writes { WritesNone (P.view space.old) (P.view space.new) result }
 {
     let view = space.page(p)?;
     if view.kind() != BUCKET_KIND {
@@ -96,6 +98,7 @@ pub fn held_at<P: PageSpace>(space: &mut P, p: PageNo, slot: u16) -> Result<Held
     ensures read { IfOk result (λ held. (P.view space.old).Shows → HasAt (P.view space.old).space.pages.at p.0 (IsHeld slot held)) }
     ensures later { (t : Table) → P.later t space.old space.new }
     ensures means { (t : Table) → P.means space.old t → P.means space.new t }
+    ensures writes { WritesNone (P.view space.old) (P.view space.new) result }
 {
     let view = space.page(p)?;
     if view.kind() != BUCKET_KIND {
@@ -121,6 +124,7 @@ pub fn emptied<P: PageSpace>(space: &mut P, p: PageNo) -> Result<Option<PageNo>,
     ensures read { IfOk result (λ next. (P.view space.old).Shows → HasAt (P.view space.old).space.pages.at p.0 (IsEmptied next)) }
     ensures later { (t : Table) → P.later t space.old space.new }
     ensures means { (t : Table) → P.means space.old t → P.means space.new t }
+    ensures writes { WritesNone (P.view space.old) (P.view space.new) result }
 {
     let view = space.page(p)?;
     if view.kind() != BUCKET_KIND {

@@ -1,10 +1,11 @@
 // Along the chain of a bucket.
-ghost use Rattle.std.specs.Prelude.{◌≡◌, ◌+◌, ◌≤◌, length, take, IfOk, OnOk, IfSome, Some, ⊤};
+ghost use Rattle.std.specs.Prelude.{◌≡◌, ◌+◌, ◌≤◌, length, take, IfOk, OnOk, IfSome, Some, ⊤, drop, unwrap_or};
 ghost use Rattle.sg_bucket.specs.Bucket.{HasLinked, IfLinked, HasBucket, IfBucket, IsFound, IsAnswer, entries_of};
 ghost use Rattle.sg_bucket.specs.Entry.{value_of};
 ghost use Rattle.sg_bucket.specs.Part.{HasValueAt, IsCopied};
 ghost use Rattle.sg_ops.specs.Table.{Table};
 ghost use Rattle.sg_space.specs.Units.{HasAt};
+ghost use Rattle.sg_space.specs.Pages.{WritesNone};
 ghost use Rattle.sg_space.specs.View.{Counts, OnlyReads};
 
 use crate::entry::{is_entry, value_in};
@@ -34,6 +35,7 @@ pub fn seek<P: PageSpace>(
     ensures read { IfOk result (λ found. IfLinked (P.view space.old) first.0 (λ b. IsFound b key.now found)) }
     ensures later { (t : Table) → P.later t space.old space.new }
     ensures means { (t : Table) → P.means space.old t → P.means space.new t }
+    ensures writes { WritesNone (P.view space.old) (P.view space.new) result }
 {
     let mut before = first;
     let mut page = first;
@@ -65,8 +67,10 @@ fn copy_value<P: PageSpace>(
     ensures kept { OnOk result (OnlyReads (P.view space.old) (P.view space.new)) }
     ensures read { IfOk result (λ n. (P.view space.old).Shows → HasAt (P.view space.old).space.pages.at p.0 (IsCopied slot n into.new)) }
     ensures within { IfOk result (λ n. n ≤ length into.new) }
+    ensures rest { IfOk result (λ n. drop n into.new ≡ drop n into.old) }
     ensures later { (t : Table) → P.later t space.old space.new }
     ensures means { (t : Table) → P.means space.old t → P.means space.new t }
+    ensures writes { WritesNone (P.view space.old) (P.view space.new) result }
 {
     let view = space.page(p)?;
     if view.kind() != BUCKET_KIND {
@@ -98,8 +102,10 @@ pub fn find<P: PageSpace>(
     ensures read { IfOk result (λ found. IfBucket (P.view space.old) first.0
         (λ b. IsAnswer (value_of (entries_of b.parts) key.now) found into.new)) }
     ensures within { IfOk result (λ found. IfSome found (λ n. n ≤ length into.new)) }
+    ensures rest { IfOk result (λ found. drop (unwrap_or found 0) into.new ≡ drop (unwrap_or found 0) into.old) }
     ensures later { (t : Table) → P.later t space.old space.new }
     ensures means { (t : Table) → P.means space.old t → P.means space.new t }
+    ensures writes { WritesNone (P.view space.old) (P.view space.new) result }
 {
     match seek(space, first, key)? {
         None => Ok(None),
@@ -119,6 +125,7 @@ pub fn pages<P: PageSpace>(space: &mut P, first: PageNo) -> Result<u32, SpaceFau
     ensures few { IfOk result (λ n. IfBucket (P.view space.old) first.0 (λ b. n ≤ 1 + length (entries_of b.parts))) }
     ensures later { (t : Table) → P.later t space.old space.new }
     ensures means { (t : Table) → P.means space.old t → P.means space.new t }
+    ensures writes { WritesNone (P.view space.old) (P.view space.new) result }
 {
     let mut page = first;
     for passed in 0..space.pages() {

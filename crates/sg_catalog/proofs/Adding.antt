@@ -1,5 +1,5 @@
 -- A catalogue with one row more.
-use Rattle.std.proofs.Common.{◌≡◌, ℕ, ◌+◌, ◌-◌, ◌*◌, ◌/◌, ◌<◌, ◌≤◌, max, List, length, set, Option, true, is_none, subst, Some, None, sym, ap, ◌∙◌, refl, arith, inl, inr}
+use Rattle.std.proofs.Common.{◌≡◌, ℕ, ◌+◌, ◌-◌, ◌*◌, ◌/◌, ◌<◌, ◌≤◌, max, length, set, Option, true, is_none, subst, Some, None, sym, ap, ◌∙◌, refl, arith, inl, inr}
 use Rattle.std.specs.List.{find}
 use Rattle.std.proofs.lemmas.List.{length_push, length-set}
 use Rattle.std.proofs.lemmas.Option.{slice_get_within, MatchOption-at_some, MatchOption-at_none}
@@ -8,8 +8,8 @@ use Rattle.sg_base.specs.Sheet.{Sheet}
 use Rattle.sg_space.specs.View.{Space, View, OnlyReads}
 use Rattle.sg_space.proofs.Known.{still}
 use Rattle.sg_space.proofs.Owners.{grown}
-use Rattle.sg_catalog.specs.Calls.{IsPlaced, IsOneMore, IsAdded, Turns, CanGrow, CanPlace, CanLink, LinksPage}
-use Rattle.sg_catalog.specs.Catalog.{Catalog, IsRaw, IsCatalog, rows, is_there}
+use Rattle.sg_catalog.specs.Calls.{IsPlaced, IsAdded, Turns, CanGrow, CanPlace, CanLink, LinksPage}
+use Rattle.sg_catalog.specs.Catalog.{Catalog, IsCatalog, rows, is_there}
 use Rattle.sg_catalog.specs.Steps.{RawTurns, SetsPlace, CanPut, IsFreeSpot, Surveyed, with_place, with_page}
 use Rattle.sg_catalog.specs.declared.look.Spot.{Spot}
 use Rattle.sg_catalog.specs.declared.row.Row.{Row}

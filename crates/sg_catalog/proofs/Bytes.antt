@@ -1,10 +1,8 @@
 -- A row is told from its bytes.
-use Rattle.std.proofs.Common.{◌≡◌, ℕ, ◌+◌, ◌^◌, ◌<◌, ◌≤◌, ◌==◌, ◌&&◌, nat_le, Bool, true, false, if◌then◌else◌, IsTrue, List, ◌++◌, length, Option, Some, None, option_map, option_and_then, sym, ap, ◌∙◌, refl, arith}
-use Rattle.std.specs.List.{list_all}
+use Rattle.std.proofs.Common.{◌≡◌, ℕ, ◌+◌, ◌<◌, ◌≤◌, Bool, if◌then◌else◌, IsTrue, List, length, Option, Some, None, option_map, option_and_then, ap, ◌∙◌, refl, arith}
 use Rattle.std.proofs.lemmas.Bool.Decides.{nat_tests}
-use Rattle.sg_base.specs.Forms.{Form, IsExact, number, counted, pair, read_all}
-use Rattle.sg_base.specs.Spelling.{is_name, is_letter, is_name_byte}
-use Rattle.sg_base.specs.declared.numbers.PageNo.{PageNo}
+use Rattle.sg_base.specs.Forms.{IsExact, number, read_all}
+use Rattle.sg_base.specs.Spelling.{is_name}
 use Rattle.sg_base.specs.declared.numbers.TxnId.{TxnId}
 use Rattle.sg_base.proofs.Forms.{number_exact, counted_exact, pair_exact, read_all-back}
 use Rattle.sg_catalog.specs.Row.{RowFields, row_form, fields_of, row_cell, IsFormed, code_of, state_of, dropper_of, kind_with, dropper_in, name_in, row_with, row_of}

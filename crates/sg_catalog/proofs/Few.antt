@@ -1,5 +1,5 @@
 -- A catalogue has few rows, as a space has few pages.
-use Rattle.std.proofs.Common.{◌≡◌, ℕ, ◌+◌, ◌<◌, ◌≤◌, length, arith}
+use Rattle.std.proofs.Common.{◌≤◌, length, arith}
 use Rattle.sg_base.specs.Sheet.{Sheet}
 use Rattle.sg_space.specs.Units.{Units, IsExact}
 use Rattle.sg_space.proofs.Few.{few_units}

@@ -1,6 +1,5 @@
 -- The catalogue gets another page, or another peak.
-use Rattle.std.proofs.Common.{◌≡◌, ◌≢◌, ℕ, zero, suc, ◌+◌, ◌-◌, ◌*◌, ◌/◌, ◌<◌, ◌≤◌, ◌^◌, List, [], ◌∷◌, ◌++◌, length, get_or, option_map, replicate, max, Option, Some, None, IsSome, sym, ap, ◌∙◌, refl, arith, subst, inl, inr, ◌⊎◌, slice_get, length-append}
-use Rattle.std.specs.List.{filter_map, cons_option}
+use Rattle.std.proofs.Common.{◌≡◌, ◌≢◌, ℕ, zero, suc, ◌+◌, ◌-◌, ◌*◌, ◌<◌, ◌≤◌, ◌^◌, List, [], ◌∷◌, ◌++◌, length, get_or, option_map, replicate, Option, Some, None, IsSome, sym, ap, ◌∙◌, refl, arith, subst, inl, inr, ◌⊎◌, slice_get, length-append}
 use Rattle.std.proofs.Math.ListN.{get_or-append}
 use Rattle.std.proofs.lemmas.Bool.{cases_lt, cases_eq}
 use Rattle.std.proofs.lemmas.List.{get_or-append-add, get_or_past, length_push}
@@ -9,7 +8,6 @@ use Rattle.std.proofs.lemmas.Option.{slice_get_within}
 use Rattle.sg_base.specs.Page.{cell_in}
 use Rattle.sg_base.specs.Sheet.{Sheet}
 use Rattle.sg_space.specs.Reads.{one_cell}
-use Rattle.sg_space.specs.Owned.{Grows}
 use Rattle.sg_space.specs.Units.{Units, HasAt, IsChanged, IsTaken}
 use Rattle.sg_space.specs.View.{Space}
 use Rattle.sg_space.proofs.Known.{same_some}

@@ -1,6 +1,6 @@
 -- What is picked from a list, and the first of it that passes a test.
-use Rattle.std.proofs.Common.{◌≡◌, ℕ, zero, suc, ◌+◌, ◌<◌, ◌≤◌, Bool, true, false, cond, List, [], ◌∷◌, ◌++◌, length, take, drop, set, get_or, Option, Some, None, sym, ap, ◌∙◌, refl, arith, append_assoc, add-one}
-use Rattle.std.specs.List.{find, filter_map, cons_option, count_by}
+use Rattle.std.proofs.Common.{◌≡◌, ℕ, suc, ◌+◌, ◌<◌, Bool, true, false, cond, List, [], ◌∷◌, ◌++◌, length, take, drop, set, get_or, Option, Some, None, sym, ap, ◌∙◌, refl}
+use Rattle.std.specs.List.{find, filter_map, cons_option}
 use Rattle.std.specs.Option.{option_or}
 use Rattle.std.proofs.lemmas.List.{take_more, set_split, set-get_or}
 use Rattle.std.proofs.lemmas.List.Elements.{filter_map-append}

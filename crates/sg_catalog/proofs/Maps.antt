@@ -1,6 +1,6 @@
 -- The rows of a catalogue as a map of names and a list of tombstones.
-use Rattle.std.proofs.Common.{◌≡◌, ◌≢◌, ℕ, ◌+◌, ◌≤◌, ◌&&◌, ◌==◌, Bool, true, false, cond, List, [], ◌∷◌, ◌++◌, Option, Some, None, IsSome, is_some, is_none, sym, ap, ◌∙◌, refl, arith, subst}
-use Rattle.std.specs.List.{find, filter, count_by}
+use Rattle.std.proofs.Common.{◌≡◌, ◌≢◌, ℕ, ◌+◌, ◌≤◌, ◌&&◌, ◌==◌, Bool, true, false, cond, List, [], ◌∷◌, ◌++◌, Option, Some, None, is_some, is_none, sym, ap, ◌∙◌, refl, arith, subst}
+use Rattle.std.specs.List.{find, count_by}
 use Rattle.std.specs.Option.{option_or}
 use Rattle.std.specs.Str.{bytes_eq}
 use Rattle.std.proofs.lemmas.List.Elements.{filter-append}
@@ -13,7 +13,7 @@ use Rattle.sg_catalog.specs.Calls.{IsOneMore, IsInPlace, IsMapWith, IsOther, IsL
 use Rattle.sg_catalog.specs.Catalog.{Catalog, IsCatalog, rows, there, tombs, is_there, is_tomb, is_tomb_at, is_tomb_of}
 use Rattle.sg_catalog.specs.declared.row.Row.{Row}
 use Rattle.sg_catalog.proofs.Lists.{find_none, find_first, find_behind, found_passes}
-use Rattle.sg_catalog.proofs.Rows.{count_place, count_more, count_none}
+use Rattle.sg_catalog.proofs.Rows.{count_place, count_more}
 
 -- the test of a name on a row of another one
 pub other_name : (row : Row) (other : List ℕ) → other ≢ row.name → is_there other row ≡ false

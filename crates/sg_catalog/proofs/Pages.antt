@@ -1,11 +1,11 @@
 -- What is read of one page of the catalogue.
-use Rattle.std.proofs.Common.{◌≡◌, ℕ, zero, suc, ◌+◌, ◌<◌, ◌≤◌, Bool, true, false, List, [], ◌∷◌, ◌++◌, length, take, drop, get_or, cond, option_map, Option, Some, None, is_some, map, append_assoc, append-nil, sym, ap, ◌∙◌, refl, arith, MatchOption}
-use Rattle.std.specs.List.{find, filter, filter_map, cons_option, count_by}
+use Rattle.std.proofs.Common.{◌≡◌, ℕ, suc, ◌+◌, ◌<◌, ◌≤◌, Bool, true, false, List, [], ◌∷◌, ◌++◌, length, take, drop, get_or, cond, option_map, Option, Some, None, is_some, map, append_assoc, append-nil, sym, ap, ◌∙◌, refl, arith}
+use Rattle.std.specs.List.{find, filter, cons_option, count_by}
 use Rattle.std.proofs.lemmas.List.{take_all, map-append}
 use Rattle.std.proofs.lemmas.List.Elements.{filter-append}
 use Rattle.std.proofs.lemmas.List.Sums.{sum_by-cons}
 use Rattle.sg_base.specs.Page.{cell_in}
-use Rattle.sg_base.specs.Slots.{Slots, IsFree}
+use Rattle.sg_base.specs.Slots.{Slots}
 use Rattle.sg_catalog.specs.Catalog.{filled}
 use Rattle.sg_catalog.specs.Row.{row_cell, IsFormed}
 use Rattle.sg_catalog.specs.Look.{row_in, read_rows, is_object, names_of}

@@ -1,19 +1,19 @@
 -- What is known of one page of a catalogue, and what is read of it.
-use Rattle.std.proofs.Common.{◌≡◌, ◌⊎◌, inl, inr, ℕ, zero, suc, ◌+◌, ◌-◌, ◌*◌, ◌<◌, ◌≤◌, Bool, true, false, List, [], ◌∷◌, ◌++◌, length, take, drop, get_or, option_map, Option, Some, None, IsSome, is_some, sym, ap, ◌∙◌, refl, arith, subst, MatchOption, slice_get, length-take, length-drop}
-use Rattle.std.specs.List.{find, count_by}
+use Rattle.std.proofs.Common.{◌≡◌, inl, inr, ℕ, ◌+◌, ◌*◌, ◌<◌, ◌≤◌, Bool, List, ◌++◌, length, drop, get_or, option_map, Option, Some, None, IsSome, sym, ap, ◌∙◌, refl, arith, subst, MatchOption, slice_get, length-drop}
+use Rattle.std.specs.List.{find}
 use Rattle.std.proofs.lemmas.List.{get_or-take, get_or-drop, get_or_past, length-take-le}
 use Rattle.std.proofs.lemmas.Bool.{cases_lt}
 use Rattle.std.proofs.lemmas.Option.{slice_get_within}
 use Rattle.sg_base.specs.Page.{cell_in}
 use Rattle.sg_base.specs.Sheet.{Sheet}
-use Rattle.sg_base.specs.Slots.{Slots, IsFree}
+use Rattle.sg_base.specs.Slots.{IsFree}
 use Rattle.sg_base.specs.declared.numbers.PageNo.{PageNo}
 use Rattle.sg_slotted.proofs.Room.{full_below}
 use Rattle.sg_space.specs.Units.{HasAt}
 use Rattle.sg_space.specs.View.{Space, View, OnlyReads}
-use Rattle.sg_space.proofs.Known.{same_some, both, still}
-use Rattle.sg_catalog.specs.Catalog.{Catalog, IsRaw, IsCatalog, IsPage, SaysPeak, Owns, row_at, filled}
-use Rattle.sg_catalog.specs.Look.{IsHeaderOf, IsUnread, HasUnformed, SeenIn, IsSeen, Sees, IsMeasured, Measures, ListsPage, row_in, read_rows, names_of}
+use Rattle.sg_space.proofs.Known.{same_some, still}
+use Rattle.sg_catalog.specs.Catalog.{Catalog, IsRaw, IsCatalog, IsPage, Owns, row_at, filled}
+use Rattle.sg_catalog.specs.Look.{IsHeaderOf, IsUnread, HasUnformed, SeenIn, IsSeen, Sees, Measures, ListsPage, row_in, names_of}
 use Rattle.sg_catalog.specs.Row.{row_cell, row_of, IsFormed}
 use Rattle.sg_catalog.specs.Steps.{part, IsHeader, IsFoundIn, SeesPage, MeasuresPage, GathersPage}
 use Rattle.sg_catalog.specs.declared.look.Found.{Found}

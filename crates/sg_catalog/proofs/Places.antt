@@ -1,23 +1,17 @@
 -- One place of the catalogue gets another row, or none.
-use Rattle.std.proofs.Common.{◌≡◌, ◌≢◌, ℕ, zero, suc, ◌+◌, ◌-◌, ◌*◌, ◌<◌, ◌≤◌, Bool, true, false, List, [], ◌∷◌, ◌++◌, length, set, get_or, option_map, Option, Some, None, IsSome, sym, ap, ◌∙◌, refl, arith, subst, slice_get, inl, inr, ◌⊎◌}
+use Rattle.std.proofs.Common.{◌≡◌, ◌≢◌, ℕ, ◌+◌, ◌*◌, ◌<◌, ◌≤◌, List, length, set, get_or, option_map, Option, Some, None, sym, ap, ◌∙◌, refl, arith, subst, slice_get, inl, inr}
 use Rattle.std.proofs.lemmas.Bool.{cases_lt, cases_eq}
 use Rattle.std.proofs.lemmas.List.{get_or-set_same, get_or-set_other, get_or_past, length-set}
-use Rattle.sg_base.specs.Op.{Op}
-use Rattle.sg_base.specs.Op.Op.{Put, Set, Remove}
 use Rattle.sg_base.specs.Page.{cell_in, cell_size, bytes_of}
 use Rattle.sg_base.specs.Sheet.{Sheet}
-use Rattle.sg_base.specs.Slots.{Slots, IsFree, with_cell}
-use Rattle.sg_ops.specs.Steps.{step}
-use Rattle.sg_ops.specs.Table.{Table}
-use Rattle.sg_slotted.proofs.Room.{full_below}
+use Rattle.sg_base.specs.Slots.{with_cell}
 use Rattle.sg_space.specs.Owned.{Grows}
-use Rattle.sg_space.specs.Units.{Units, HasAt, IsChanged}
-use Rattle.sg_space.specs.View.{Space, View}
-use Rattle.sg_space.proofs.Known.{moved, same_some}
-use Rattle.sg_space.proofs.Putting.{cell-set_same, cell-set_other, cell-with_same, cell-with_other, length-with, put_step, set_step}
+use Rattle.sg_space.specs.Units.{Units, HasAt}
+use Rattle.sg_space.proofs.Known.{same_some}
+use Rattle.sg_space.proofs.Putting.{cell-set_same, cell-set_other, cell-with_same, cell-with_other, length-with}
 use Rattle.sg_catalog.specs.Catalog.{Catalog, IsRaw, IsPage, SaysPeak, Owns, row_at}
 use Rattle.sg_catalog.specs.Row.{row_cell, IsFormed}
-use Rattle.sg_catalog.specs.Steps.{IsSpot, RawTurns, with_place}
+use Rattle.sg_catalog.specs.Steps.{IsSpot, with_place}
 use Rattle.sg_catalog.specs.declared.look.Spot.{Spot}
 use Rattle.sg_catalog.specs.declared.row.Row.{Row}
 use Rattle.sg_catalog.proofs.Bytes.{length-row, name_short}

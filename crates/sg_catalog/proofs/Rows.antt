@@ -1,18 +1,17 @@
 -- The rows of a catalogue of which one place has changed.
-use Rattle.std.proofs.Common.{◌≡◌, ◌≢◌, ℕ, zero, suc, ◌+◌, ◌-◌, ◌*◌, ◌/◌, ◌<◌, ◌≤◌, ◌&&◌, Bool, true, false, cond, List, [], ◌∷◌, ◌++◌, length, take, drop, set, get_or, Option, Some, None, IsSome, IsTrue, is_some, is_none, sym, ap, ◌∙◌, refl, arith, subst, inl, inr, slice_get, length-append}
-use Rattle.std.specs.List.{find, filter_map, cons_option, count_by}
+use Rattle.std.proofs.Common.{◌≡◌, ℕ, suc, ◌+◌, ◌<◌, ◌≤◌, ◌&&◌, Bool, true, false, cond, List, [], ◌∷◌, ◌++◌, length, take, drop, get_or, Option, Some, None, IsSome, IsTrue, is_some, is_none, sym, ap, ◌∙◌, refl, arith, subst, inl, inr, length-append}
+use Rattle.std.specs.List.{find, cons_option, count_by}
 use Rattle.std.specs.Str.{bytes_eq}
 use Rattle.std.proofs.lemmas.Bool.{cases_lt}
 use Rattle.std.proofs.lemmas.List.{get_or_past}
 use Rattle.std.proofs.lemmas.List.Sums.{sum_by-append, sum_by-cons}
 use Rattle.std.proofs.lemmas.Slice.Eq.{bytes_eq-Decides}
-use Rattle.sg_base.specs.Sheet.{Sheet}
 use Rattle.sg_space.specs.View.{Space}
 use Rattle.sg_space.proofs.Known.{same_some}
 use Rattle.sg_space.specs.Owned.{Becomes, AreApart}
 use Rattle.sg_space.proofs.Owners.{grown, stays, two_stay}
-use Rattle.sg_catalog.specs.Calls.{IsOneMore, IsInPlace, IsOther, IsLess, Turns, StandsBeside, tomb_by, raised}
-use Rattle.sg_catalog.specs.Catalog.{Catalog, IsRaw, IsCatalog, Owns, row_at, filled, rows, there, is_there, is_tomb, is_tomb_of}
+use Rattle.sg_catalog.specs.Calls.{IsOneMore, IsInPlace, Turns, StandsBeside}
+use Rattle.sg_catalog.specs.Catalog.{Catalog, IsCatalog, Owns, row_at, filled, rows, is_there, is_tomb_of}
 use Rattle.sg_catalog.specs.Steps.{RawTurns, with_place, Searched, IsFound, HasRow, HasRowOf}
 use Rattle.sg_catalog.specs.declared.look.Found.{Found}
 use Rattle.sg_catalog.specs.declared.row.Row.{Row}

@@ -1,8 +1,8 @@
 -- What a cell that spells a row is.
-use Rattle.std.proofs.Common.{◌≡◌, ℕ, zero, suc, ◌+◌, ◌^◌, ◌<◌, ◌≤◌, ◌==◌, ◌⊎◌, inl, inr, Bool, true, false, if◌then◌else◌, IsTrue, List, ◌∷◌, ◌++◌, length, get_or, slice_index_or, Option, Some, None, option_map, option_and_then, sym, ap, subst, ◌∙◌, refl, arith}
+use Rattle.std.proofs.Common.{◌≡◌, ℕ, zero, suc, ◌<◌, ◌==◌, ◌⊎◌, inl, inr, Bool, true, false, if◌then◌else◌, IsTrue, List, ◌∷◌, ◌++◌, length, get_or, slice_index_or, Option, Some, None, option_map, option_and_then, sym, ap, subst, ◌∙◌, refl, arith}
 use Rattle.std.proofs.lemmas.Bool.Decides.{nat_tests}
 use Rattle.sg_base.specs.Bytes.{IsBytes}
-use Rattle.sg_base.specs.Forms.{Form, IsExact, number, counted, pair, read_all}
+use Rattle.sg_base.specs.Forms.{IsExact, number, read_all}
 use Rattle.sg_base.specs.Spelling.{is_name, is_name_byte}
 use Rattle.std.specs.List.{list_all}
 use Rattle.std.specs.Int.{byte_at, bytes_low_first}

@@ -1,18 +1,18 @@
 -- Changes of the catalogue's pages, one after another.
-use Rattle.std.proofs.Common.{◌≡◌, ◌≢◌, ℕ, ◌+◌, ◌*◌, ◌<◌, ◌≤◌, nat_lt, Bool, true, false, List, [], ◌∷◌, ◌++◌, length, set, get_or, option_map, Option, Some, None, IsSome, is_some, if◌then◌else◌, sym, ap, ◌∙◌, refl, arith, subst, slice_get, inl, inr}
+use Rattle.std.proofs.Common.{◌≡◌, ℕ, ◌+◌, ◌<◌, ◌≤◌, nat_lt, false, List, length, set, option_map, Option, Some, None, is_some, if◌then◌else◌, sym, ap, ◌∙◌, refl, arith, subst}
 use Rattle.std.proofs.lemmas.Bool.Decides.{nat_tests}
 use Rattle.sg_base.specs.Op.{Op, shrinks}
 use Rattle.sg_base.specs.Op.Op.{Put, Set, Remove}
-use Rattle.sg_base.specs.Page.{cell_in, cell_size, bytes_of}
+use Rattle.sg_base.specs.Page.{cell_in, cell_size}
 use Rattle.sg_base.specs.Sheet.{Sheet}
-use Rattle.sg_base.specs.Slots.{IsFree, with_cell, remove_in}
+use Rattle.sg_base.specs.Slots.{IsFree, with_cell}
 use Rattle.sg_ops.specs.Steps.{step, with_slots}
 use Rattle.sg_ops.specs.Table.{Table}
 use Rattle.sg_slotted.proofs.Room.{full_below}
 use Rattle.sg_space.specs.Pages.{IsPossible, Changed}
-use Rattle.sg_space.specs.Units.{Units, HasAt, IsChanged}
-use Rattle.sg_space.specs.View.{Space, View, Keeps, MayFill, OnlyReads}
-use Rattle.sg_space.proofs.Known.{both, same_some, before}
+use Rattle.sg_space.specs.Units.{HasAt, IsChanged}
+use Rattle.sg_space.specs.View.{Space, View, Keeps, OnlyReads}
+use Rattle.sg_space.proofs.Known.{same_some, before}
 use Rattle.sg_space.proofs.Owners.{grows_same, grows_then}
 use Rattle.sg_space.proofs.Putting.{put_step, set_step}
 use Rattle.sg_catalog.specs.Catalog.{Catalog, IsRaw, Owns, row_at}
@@ -22,7 +22,6 @@ use Rattle.sg_catalog.specs.declared.look.Spot.{Spot}
 use Rattle.sg_catalog.specs.declared.row.Row.{Row}
 use Rattle.sg_catalog.proofs.Bytes.{length-row}
 use Rattle.sg_space.proofs.Changing.{set_possible, put_possible, remove_possible, keeps_but}
-use Rattle.sg_catalog.proofs.Parts.{page_here}
 use Rattle.sg_catalog.proofs.Places.{IsPlaced, place_raw, page_changed, placed_bytes, page_sizes, set_placed, clear_placed, put_placed}
 
 -- what is known of a slot whose place has this row, or none

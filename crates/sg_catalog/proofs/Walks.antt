@@ -1,6 +1,6 @@
 -- A walk over the pages of the catalogue.
-use Rattle.std.proofs.Common.{◌≡◌, ℕ, ◌+◌, ◌-◌, ◌*◌, ◌/◌, ◌<◌, ◌≤◌, Bool, true, false, is_some, List, [], ◌∷◌, ◌++◌, length, take, drop, get_or, Option, Some, None, sym, ap, ◌∙◌, refl, arith, subst, MatchOption, slice_get, length-append}
-use Rattle.std.specs.List.{find, filter_map}
+use Rattle.std.proofs.Common.{◌≡◌, ℕ, ◌+◌, ◌-◌, ◌*◌, ◌/◌, ◌<◌, ◌≤◌, Bool, true, false, is_some, List, ◌++◌, length, take, drop, get_or, Option, Some, None, sym, ap, ◌∙◌, refl, arith, subst, MatchOption, slice_get, length-append}
+use Rattle.std.specs.List.{find}
 use Rattle.std.proofs.Math.Seq.{take-add}
 use Rattle.std.proofs.lemmas.List.{take-append-drop, take_all, get_or_past}
 use Rattle.std.proofs.lemmas.List.Elements.{filter_map-append}
@@ -13,7 +13,7 @@ use Rattle.sg_space.specs.View.{Space, View, OnlyReads}
 use Rattle.sg_space.proofs.Few.{few_units}
 use Rattle.sg_space.proofs.Known.{before, reads_then}
 use Rattle.sg_catalog.specs.Catalog.{Catalog, IsRaw, IsCatalog, Owns, filled, rows}
-use Rattle.sg_catalog.specs.Steps.{part, IfPage, IsHeader, IsFoundIn, IsFound, Searched, SeesPage, MeasuresPage, IsFreeSpot, SurveyedTo, Surveyed, IsSurveyedOn, free_on}
+use Rattle.sg_catalog.specs.Steps.{part, IfPage, IsHeader, IsFoundIn, IsFound, Searched, MeasuresPage, IsFreeSpot, SurveyedTo, Surveyed, IsSurveyedOn, free_on}
 use Rattle.sg_catalog.specs.declared.look.Found.{Found}
 use Rattle.sg_catalog.specs.declared.look.Header.{Header}
 use Rattle.sg_catalog.specs.declared.look.Measured.{Measured}
@@ -23,7 +23,7 @@ use Rattle.sg_catalog.specs.declared.walk.Survey.{Survey}
 use Rattle.sg_catalog.proofs.Lists.{find_behind, find_front}
 use Rattle.sg_catalog.specs.Look.{names_of}
 use Rattle.sg_catalog.proofs.Pages.{names_both}
-use Rattle.sg_catalog.proofs.Parts.{Stands, StandsRaw, still_raw, still_catalog}
+use Rattle.sg_catalog.proofs.Parts.{still_raw}
 
 -- the places of the first j pages, and of one more
 pub filled_more : (places : List (Option Row)) (j : ℕ) → filled (take (79 * (j + 1)) places) ≡ filled (take (79 * j) places) ++ filled (part j places)

@@ -1,8 +1,7 @@
 -- What the calls on the catalogue want and do.
-use Rattle.std.specs.Prelude.{◌≡◌, ◌≢◌, ℕ, ◌+◌, ◌-◌, ◌*◌, ◌<◌, ◌^◌, max, slice_get, Bool, IsTrue, List, ◌++◌, ◌∷◌, length, Option, Some, None, IsSome}
+use Rattle.std.specs.Prelude.{◌≡◌, ◌≢◌, ℕ, ◌+◌, ◌-◌, ◌*◌, ◌<◌, max, slice_get, Bool, IsTrue, List, ◌++◌, ◌∷◌, length, Option, Some, None, IsSome}
 use Rattle.std.specs.List.{find}
 use Rattle.sg_base.specs.declared.numbers.TxnId.{TxnId}
-use Rattle.sg_ops.specs.Table.{Table}
 use Rattle.sg_space.specs.Owned.{Becomes, AreApart}
 use Rattle.sg_space.specs.Pages.{HasFree}
 use Rattle.sg_space.specs.View.{View, Space, Keeps, MayFill}

@@ -1,5 +1,5 @@
 -- THE CATALOGUE: what callers see of it, and how it stands in pages.
-use Rattle.std.specs.Prelude.{◌≡◌, ℕ, ◌+◌, ◌-◌, ◌*◌, ◌/◌, ◌<◌, ◌≤◌, ◌^◌, ◌==◌, ◌&&◌, Bool, true, false, List, [], ◌∷◌, length, slice_get, slice_index, slice_index_or, Option, Some, None, is_some, is_none, option_map}
+use Rattle.std.specs.Prelude.{◌≡◌, ℕ, ◌+◌, ◌-◌, ◌*◌, ◌/◌, ◌<◌, ◌≤◌, ◌^◌, ◌==◌, ◌&&◌, Bool, false, List, length, slice_get, slice_index, slice_index_or, Option, Some, None, is_some, is_none, option_map}
 use Rattle.std.specs.List.{find, filter, filter_map, count_by}
 use Rattle.std.specs.Str.{bytes_eq}
 use Rattle.sg_base.specs.Page.{cell_in}

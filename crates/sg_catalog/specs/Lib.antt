@@ -3,3 +3,4 @@ pub mod Catalog
 pub mod Look
 pub mod Steps
 pub mod Calls
+pub mod Beside

@@ -5,7 +5,7 @@ use Rattle.sg_base.specs.Page.{cell_in}
 use Rattle.sg_base.specs.Sheet.{Sheet}
 use Rattle.sg_base.specs.Slots.{Slots, IsFree}
 use Rattle.sg_base.specs.declared.numbers.PageNo.{PageNo}
-use Rattle.sg_catalog.specs.Catalog.{is_there, is_tomb, is_buried, is_tomb_at, is_tomb_of}
+use Rattle.sg_catalog.specs.Catalog.{is_there, is_buried, is_tomb_at, is_tomb_of}
 use Rattle.sg_catalog.specs.Row.{row_of}
 use Rattle.sg_catalog.specs.declared.look.Found.{Found}
 use Rattle.sg_catalog.specs.declared.look.Header.{Header}

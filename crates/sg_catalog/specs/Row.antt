@@ -3,7 +3,6 @@ use Rattle.std.specs.Prelude.{◌≡◌, ℕ, ◌^◌, ◌<◌, ◌==◌, if◌t
 use Rattle.sg_base.specs.Bytes.{IsBytes}
 use Rattle.sg_base.specs.Forms.{Form, number, counted, pair, read_all}
 use Rattle.sg_base.specs.Spelling.{is_name}
-use Rattle.sg_base.specs.declared.numbers.PageNo.{PageNo}
 use Rattle.sg_base.specs.declared.numbers.TxnId.{TxnId}
 use Rattle.sg_catalog.specs.declared.row.Entry.{Entry}
 use Rattle.sg_catalog.specs.declared.row.Fields.{Fields}

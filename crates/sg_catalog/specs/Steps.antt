@@ -4,12 +4,11 @@ use Rattle.std.specs.List.{find}
 use Rattle.sg_base.specs.Sheet.{Sheet}
 use Rattle.sg_base.specs.Slots.{IsFree}
 use Rattle.sg_base.specs.declared.numbers.PageNo.{PageNo}
-use Rattle.sg_ops.specs.Table.{Table}
 use Rattle.sg_space.specs.Owned.{Grows}
 use Rattle.sg_space.specs.Units.{HasAt, IsChanged}
 use Rattle.sg_space.specs.View.{View, Space, Keeps, MayFill}
 use Rattle.sg_catalog.specs.Look.{names_of}
-use Rattle.sg_catalog.specs.Catalog.{Catalog, IsRaw, IsCatalog, Owns, row_at, filled, rows}
+use Rattle.sg_catalog.specs.Catalog.{Catalog, IsRaw, Owns, row_at, filled, rows}
 use Rattle.sg_catalog.specs.declared.look.Header.{Header}
 use Rattle.sg_catalog.specs.declared.look.Measure.{Measure}
 use Rattle.sg_catalog.specs.declared.look.Measured.{Measured}

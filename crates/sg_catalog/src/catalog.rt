@@ -1,4 +1,4 @@
-ghost use Rattle.std.specs.Prelude.{◌≡◌, IfOk, OnOk, IsPermutation, IsSorted, None, option_map, ⊤};
+ghost use Rattle.std.specs.Prelude.{◌≡◌, IfOk, OnOk, IsPermutation, IsSorted, None, option_map, ⊤, ◌+◌, ◌≤◌};
 ghost use Rattle.std.specs.Ordering.{nat_cmp};
 ghost use Rattle.std.specs.Cmp.Lexicographic.{slice_cmp};
 ghost use Rattle.sg_catalog.specs.Calls.{HasCatalog, IfCatalog, DidIf, ShrankIf, HasOne, IsLess, IsBuried, IsRaised, IsRemoved, IsForgotten, CanRaise, CanAdd, IsAdded, object};
@@ -6,7 +6,8 @@ ghost use Rattle.sg_catalog.specs.Catalog.{there, buried, rows, is_there, is_tom
 ghost use Rattle.sg_catalog.specs.Look.{fits, names_of};
 ghost use Rattle.sg_catalog.specs.Row.{entry_of};
 ghost use Rattle.sg_ops.specs.Table.{Table, table_of};
-ghost use Rattle.sg_space.specs.Listing.{CountsList};
+ghost use Rattle.sg_space.specs.Listing.{CountsList, WritesNoneList};
+ghost use Rattle.sg_space.specs.Pages.{WritesNone};
 ghost use Rattle.sg_space.specs.View.{Counts, OnlyReads};
 
 use crate::change::{clear_row, set_row};
@@ -42,6 +43,7 @@ pub fn find<P: PageSpace>(space: &mut P, name: Name) -> Result<Option<Entry>, Sp
         (λ c. found ≡ option_map entry_of (there name (rows c)))) }
     ensures later { (t : Table) → P.later t space.old space.new }
     ensures means { (t : Table) → P.means space.old t → P.means space.new t }
+    ensures writes { WritesNone (P.view space.old) (P.view space.new) result }
 {
     let found = search(space, &Wanted::There(name))?;
     Ok(entry_of(found))
@@ -59,6 +61,7 @@ pub fn next_buried<P: PageSpace>(
         (λ c. found ≡ option_map entry_of (buried by (rows c)))) }
     ensures later { (t : Table) → P.later t space.old space.new }
     ensures means { (t : Table) → P.means space.old t → P.means space.new t }
+    ensures writes { WritesNone (P.view space.old) (P.view space.new) result }
 {
     let found = search(space, &Wanted::Buried(by))?;
     Ok(entry_of(found))
@@ -74,6 +77,7 @@ pub fn bury<P: PageSpace>(space: &mut P, ops: &Ops, name: Name, by: TxnId) -> Re
     ensures within { OnOk result (IfCatalog (P.view space.old) (HasOne (is_there name))) }
     ensures later { P.later (table_of record_meaning range_meaning ops.now) space.old space.new }
     ensures means { P.means space.new (table_of record_meaning range_meaning ops.now) }
+    ensures few { (P.view space.new).records ≤ (P.view space.old).records + 1 }
 {
     let sought = search(space, &Wanted::There(name))?;
     let Some(found) = sought else {
@@ -102,6 +106,7 @@ pub fn unbury<P: PageSpace>(
     ensures within { OnOk result (IfCatalog (P.view space.old) (CanRaise name root.0)) }
     ensures later { P.later (table_of record_meaning range_meaning ops.now) space.old space.new }
     ensures means { P.means space.new (table_of record_meaning range_meaning ops.now) }
+    ensures few { (P.view space.new).records ≤ (P.view space.old).records + 1 }
 {
     if search(space, &Wanted::There(name))?.is_some() {
         return Err(space.broken());
@@ -128,6 +133,7 @@ fn take_out<P: PageSpace>(space: &mut P, ops: &Ops, wanted: &Wanted) -> Result<(
     ensures within { OnOk result (IfCatalog (P.view space.old) (HasOne (fits wanted.now))) }
     ensures later { P.later (table_of record_meaning range_meaning ops.now) space.old space.new }
     ensures means { P.means space.new (table_of record_meaning range_meaning ops.now) }
+    ensures few { (P.view space.new).records ≤ (P.view space.old).records + 1 }
 {
     let sought = search(space, wanted)?;
     let Some(found) = sought else {
@@ -147,6 +153,7 @@ pub fn remove<P: PageSpace>(space: &mut P, ops: &Ops, name: Name) -> Result<(), 
     ensures within { OnOk result (IfCatalog (P.view space.old) (HasOne (is_there name))) }
     ensures later { P.later (table_of record_meaning range_meaning ops.now) space.old space.new }
     ensures means { P.means space.new (table_of record_meaning range_meaning ops.now) }
+    ensures few { (P.view space.new).records ≤ (P.view space.old).records + 1 }
 {
     take_out(space, ops, &Wanted::There(name))?;
     Ok(())
@@ -162,6 +169,7 @@ pub fn forget<P: PageSpace>(space: &mut P, ops: &Ops, root: PageNo) -> Result<()
     ensures within { OnOk result (IfCatalog (P.view space.old) (HasOne (is_tomb_at root.0))) }
     ensures later { P.later (table_of record_meaning range_meaning ops.now) space.old space.new }
     ensures means { P.means space.new (table_of record_meaning range_meaning ops.now) }
+    ensures few { (P.view space.new).records ≤ (P.view space.old).records + 1 }
 {
     take_out(space, ops, &Wanted::TombAt(root))?;
     Ok(())
@@ -183,6 +191,7 @@ pub fn add<P: PageSpace>(
     ensures within { OnOk result (IfCatalog (P.view space.old) (λ c. there name (rows c) ≡ None)) }
     ensures later { P.later (table_of record_meaning range_meaning ops.now) space.old space.new }
     ensures means { P.means space.new (table_of record_meaning range_meaning ops.now) }
+    ensures few { (P.view space.new).records ≤ (P.view space.old).records + 5 }
 {
     if search(space, &Wanted::There(name))?.is_some() {
         return Err(space.broken());
@@ -213,6 +222,7 @@ pub fn names<P: PageSpace>(space: &mut P, alloc: Global) -> Result<Vec<Name>, Li
     ensures order { IfOk result (λ v. IsSorted (slice_cmp nat_cmp) v.items) }
     ensures later { (t : Table) → P.later t space.old space.new }
     ensures means { (t : Table) → P.means space.old t → P.means space.new t }
+    ensures writes { WritesNoneList (P.view space.old) (P.view space.new) result }
 {
     let mut all = list_all(space, alloc)?;
     all.sort_unstable();

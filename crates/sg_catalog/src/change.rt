@@ -2,7 +2,7 @@
 ghost use Rattle.std.specs.Prelude.{◌≡◌, ◌+◌, ◌<◌, ◌≤◌, ◌^◌, IfOk, OnOk, Some, None, length, ⊤};
 ghost use Rattle.sg_catalog.specs.Steps.{HasPlace, HasRow, HasRowOf, CanPut, SetsPlace, KeepsBut, Relinks};
 ghost use Rattle.sg_ops.specs.Table.{Table, table_of};
-ghost use Rattle.sg_space.specs.Pages.{CanLook};
+ghost use Rattle.sg_space.specs.Pages.{CanLook, WritesNone};
 ghost use Rattle.sg_space.specs.Units.{HasAt};
 ghost use Rattle.sg_space.specs.View.{Counts, Keeps, OnlyReads};
 
@@ -27,6 +27,7 @@ pub fn set_row<P: PageSpace>(
         (HasRowOf spot (length row.name)) (Some row)) }
     ensures later { P.later (table_of record_meaning range_meaning ops.now) space.old space.new }
     ensures means { P.means space.new (table_of record_meaning range_meaning ops.now) }
+    ensures few { (P.view space.new).records ≤ (P.view space.old).records + 1 }
 {
     let mut cell = [0; LARGEST];
     let size = spell_row(row, &mut cell);
@@ -47,6 +48,7 @@ pub fn clear_row<P: PageSpace>(space: &mut P, ops: &Ops, spot: Spot) -> Result<(
     ensures did { OnOk result (SetsPlace (P.view space.old) (P.view space.new) (HasRow spot) None) }
     ensures later { P.later (table_of record_meaning range_meaning ops.now) space.old space.new }
     ensures means { P.means space.new (table_of record_meaning range_meaning ops.now) }
+    ensures few { (P.view space.new).records ≤ (P.view space.old).records + 1 }
 {
     let op = PageOp::Remove { slot: spot.slot };
     space.change(ops, spot.page, &op)?;
@@ -68,6 +70,7 @@ pub fn fill_place<P: PageSpace>(
         (CanPut (P.view space.old) spot) (Some row)) }
     ensures later { P.later (table_of record_meaning range_meaning ops.now) space.old space.new }
     ensures means { P.means space.new (table_of record_meaning range_meaning ops.now) }
+    ensures few { (P.view space.new).records ≤ (P.view space.old).records + 1 }
 {
     let mut cell = [0; LARGEST];
     let size = spell_row(row, &mut cell);
@@ -88,6 +91,7 @@ fn links_at<P: PageSpace>(space: &mut P, p: PageNo) -> Result<(u32, u32), SpaceF
         HasAt (P.view space.old).space.pages.at p.0 (λ sheet. sheet.links ≡ l)) }
     ensures later { (t : Table) → P.later t space.old space.new }
     ensures means { (t : Table) → P.means space.old t → P.means space.new t }
+    ensures writes { WritesNone (P.view space.old) (P.view space.new) result }
 {
     let view = space.page(p)?;
     Ok(view.links())
@@ -106,6 +110,7 @@ pub fn set_next<P: PageSpace>(
     ensures did { OnOk result (Relinks (P.view space.old) (P.view space.new) p.0 (λ l. (next.0, l.1))) }
     ensures later { P.later (table_of record_meaning range_meaning ops.now) space.old space.new }
     ensures means { P.means space.new (table_of record_meaning range_meaning ops.now) }
+    ensures few { (P.view space.new).records ≤ (P.view space.old).records + 1 }
 {
     let (_, peak) = links_at(space, p)?;
     let op = PageOp::Links { a: next.0, b: peak };
@@ -126,6 +131,7 @@ pub fn set_peak<P: PageSpace>(
     ensures did { OnOk result (Relinks (P.view space.old) (P.view space.new) p.0 (λ l. (l.0, peak))) }
     ensures later { P.later (table_of record_meaning range_meaning ops.now) space.old space.new }
     ensures means { P.means space.new (table_of record_meaning range_meaning ops.now) }
+    ensures few { (P.view space.new).records ≤ (P.view space.old).records + 1 }
 {
     let (next, _) = links_at(space, p)?;
     let op = PageOp::Links { a: next, b: peak };

@@ -1,5 +1,5 @@
 // The catalogue gets another row.
-ghost use Rattle.std.specs.Prelude.{◌≡◌, OnOk};
+ghost use Rattle.std.specs.Prelude.{◌≡◌, OnOk, ◌+◌, ◌≤◌};
 ghost use Rattle.sg_catalog.specs.Calls.{HasCatalog, CanPlace, PlacesRow, CanLink, LinksPage, RaisesPeak};
 ghost use Rattle.sg_catalog.specs.Steps.{HasRaw};
 ghost use Rattle.sg_ops.specs.Table.{table_of};
@@ -26,6 +26,7 @@ fn add_page<P: PageSpace>(
     ensures did { OnOk result (LinksPage (P.view space.old) (P.view space.new) last.0 row) }
     ensures later { P.later (table_of record_meaning range_meaning ops.now) space.old space.new }
     ensures means { P.means space.new (table_of record_meaning range_meaning ops.now) }
+    ensures few { (P.view space.new).records ≤ (P.view space.old).records + 4 }
 {
     let mut cell = [0; LARGEST];
     let size = spell_row(row, &mut cell);
@@ -47,6 +48,7 @@ pub fn place_row<P: PageSpace>(
     ensures did { OnOk result (PlacesRow (P.view space.old) (P.view space.new) survey row) }
     ensures later { P.later (table_of record_meaning range_meaning ops.now) space.old space.new }
     ensures means { P.means space.new (table_of record_meaning range_meaning ops.now) }
+    ensures few { (P.view space.new).records ≤ (P.view space.old).records + 4 }
 {
     match survey.free {
         Some(spot) => {
@@ -73,6 +75,7 @@ pub fn raise_peak<P: PageSpace>(
     ensures did { OnOk result (RaisesPeak (P.view space.old) (P.view space.new) peak rows) }
     ensures later { P.later (table_of record_meaning range_meaning ops.now) space.old space.new }
     ensures means { P.means space.new (table_of record_meaning range_meaning ops.now) }
+    ensures few { (P.view space.new).records ≤ (P.view space.old).records + 1 }
 {
     if rows <= peak {
         return Ok(());

@@ -7,6 +7,7 @@
 //! answer only what the space shows.
 #![tactic(auto)]
 
+mod beside;
 mod catalog;
 mod change;
 mod grow;
@@ -17,6 +18,7 @@ mod spelled;
 mod walk;
 mod wanted;
 
+pub use beside::stay_in_place;
 pub use catalog::{add, bury, find, forget, names, next_buried, remove, unbury};
 pub use row::{Entry, ObjectKind, Row, row_in};
 pub use spelled::rows_are_spelled;

@@ -4,7 +4,8 @@ ghost use Rattle.sg_catalog.specs.Look.{fits};
 ghost use Rattle.sg_catalog.specs.Steps.{HasRaw, IfPage, SeesPage, MeasuresPage, GathersPage};
 ghost use Rattle.sg_catalog.specs.Catalog.{Owns};
 ghost use Rattle.sg_ops.specs.Table.{Table};
-ghost use Rattle.sg_space.specs.Listing.{CountsList};
+ghost use Rattle.sg_space.specs.Listing.{CountsList, WritesNoneList};
+ghost use Rattle.sg_space.specs.Pages.{WritesNone};
 ghost use Rattle.sg_space.specs.View.{Counts, OnlyReads};
 
 use crate::look::{Broken, Header, Measured, Seen, Unlisted, list_page, read_measure, see};
@@ -20,6 +21,7 @@ pub fn look<P: PageSpace>(space: &mut P, p: PageNo, wanted: &Wanted) -> Result<S
     ensures read { IfOk result (λ s. IfPage (P.view space.old) p.0 (λ c j. SeesPage (fits wanted.now) c j s)) }
     ensures later { (t : Table) → P.later t space.old space.new }
     ensures means { (t : Table) → P.means space.old t → P.means space.new t }
+    ensures writes { WritesNone (P.view space.old) (P.view space.new) result }
 {
     let view = space.page(p)?;
     match see(&view, p, wanted) {
@@ -38,6 +40,7 @@ pub fn measure<P: PageSpace>(space: &mut P, p: PageNo) -> Result<Measured, Space
     ensures few { IfOk result (λ m. m.measure.full ≤ 79) }
     ensures later { (t : Table) → P.later t space.old space.new }
     ensures means { (t : Table) → P.means space.old t → P.means space.new t }
+    ensures writes { WritesNone (P.view space.old) (P.view space.new) result }
 {
     let view = space.page(p)?;
     match read_measure(&view) {
@@ -60,6 +63,7 @@ pub fn gather<P: PageSpace>(
         (λ c j. GathersPage c j names.old.items names.new.items head)) }
     ensures later { (t : Table) → P.later t space.old space.new }
     ensures means { (t : Table) → P.means space.old t → P.means space.new t }
+    ensures writes { WritesNoneList (P.view space.old) (P.view space.new) result }
 {
     let view = space.page(p)?;
     match list_page(&view, names) {

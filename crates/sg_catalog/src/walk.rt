@@ -5,7 +5,8 @@ ghost use Rattle.sg_catalog.specs.Look.{fits, names_of};
 ghost use Rattle.sg_catalog.specs.Catalog.{rows};
 ghost use Rattle.sg_catalog.specs.Steps.{Searched, Surveyed, IsSurveyedOn};
 ghost use Rattle.sg_ops.specs.Table.{Table};
-ghost use Rattle.sg_space.specs.Listing.{CountsList};
+ghost use Rattle.sg_space.specs.Listing.{CountsList, WritesNoneList};
+ghost use Rattle.sg_space.specs.Pages.{WritesNone};
 ghost use Rattle.sg_space.specs.View.{Counts, OnlyReads};
 
 use crate::look::{Found, Measure, Spot};
@@ -33,6 +34,7 @@ fn pages_wanted<P: PageSpace>(space: &mut P, peak: u32) -> Result<u32, SpaceFaul
     ensures number { IfOk result (λ n. n ≡ 1 + (peak - 1) / 79) }
     ensures later { (t : Table) → P.later t space.old space.new }
     ensures means { (t : Table) → P.means space.old t → P.means space.new t }
+    ensures writes { WritesNone (P.view space.old) (P.view space.new) result }
 {
     let pages = pages_for(peak);
     if pages > space.pages() {
@@ -49,6 +51,7 @@ pub fn search<P: PageSpace>(space: &mut P, wanted: &Wanted) -> Result<Option<Fou
     ensures read { IfOk result (λ found. IfCatalog (P.view space.old) (λ c. Searched (fits wanted.now) c found)) }
     ensures later { (t : Table) → P.later t space.old space.new }
     ensures means { (t : Table) → P.means space.old t → P.means space.new t }
+    ensures writes { WritesNone (P.view space.old) (P.view space.new) result }
 {
     let first = look(space, FIRST, wanted)?;
     if first.found.is_some() {
@@ -107,6 +110,7 @@ pub fn survey_pages<P: PageSpace>(space: &mut P) -> Result<Survey, SpaceFault>
     ensures read { IfOk result (λ s. IfCatalog (P.view space.old) (λ c. Surveyed (P.view space.old).space.pages.at c s)) }
     ensures later { (t : Table) → P.later t space.old space.new }
     ensures means { (t : Table) → P.means space.old t → P.means space.new t }
+    ensures writes { WritesNone (P.view space.old) (P.view space.new) result }
 {
     let first = measure(space, FIRST)?;
     let none = Survey {
@@ -140,6 +144,7 @@ pub fn list_all<P: PageSpace>(space: &mut P, alloc: Global) -> Result<Vec<Name>,
     ensures read { IfOk result (λ v. IfCatalog (P.view space.old) (λ c. v.items ≡ names_of (rows c))) }
     ensures later { (t : Table) → P.later t space.old space.new }
     ensures means { (t : Table) → P.means space.old t → P.means space.new t }
+    ensures writes { WritesNoneList (P.view space.old) (P.view space.new) result }
 {
     let mut all = Vec::new(alloc);
     let first = gather(space, FIRST, &mut all)?;

@@ -1,6 +1,7 @@
 -- A table has few entries, as a space has few pages and a page few bytes.
 use Rattle.std.proofs.Common.{◌≡◌, ℕ, zero, suc, ◌+◌, ◌*◌, ◌<◌, ◌≤◌, ◌⊎◌, List, [], ◌∷◌, ◌++◌, length, Option, Some, None, refl, sym, ap, subst, arith, slice_get, length-append, inl, inr}
 use Rattle.std.proofs.lemmas.List.Sums.{sum_by-cons}
+use Rattle.std.proofs.lemmas.Option.{slice_get_within}
 use Rattle.sg_base.specs.Page.{bytes_of}
 use Rattle.sg_base.specs.Sheet.{Sheet}
 use Rattle.sg_base.specs.Slots.{Slots}
@@ -103,14 +104,36 @@ pages_apart (b ∷ bs) each apart =
     (pages_apart bs (λ i. each (suc i)) (λ i j c d p e f o q. let same : suc i ≡ suc j = apart (suc i) (suc j) c d p e f o q in omega arith))
     (λ i j x e f. let o = owned bs j x f in let same : 0 ≡ suc o.place = apart 0 (suc o.place) b o.bucket x refl o.is (i, e) o.owns in omega arith)
 
--- A TABLE HAS AT MOST 1,018 ENTRIES FOR EACH PAGE OF THE SPACE
-pub few_entries : {units : Units Sheet} {root : ℕ} {n : Numbers} (t : HashTable) → IsExact units → ((p : ℕ) (sheet : Sheet) → units.at p ≡ Some sheet → bytes_of sheet.slots ≤ 4072) → IsBuilt units.at root n t → length (entries t) ≤ 1018 * units.count
-few_entries {units} t exact fits h =
-    let chains = chains_few t.buckets (λ i b e. bucket_few b fits (h.bucket i b e).linked) in
+-- the buckets have no more pages than the space
+pub few_chains : {units : Units Sheet} {root : ℕ} {n : Numbers} (t : HashTable) → IsExact units → IsBuilt units.at root n t → chain_pages t.buckets ≤ units.count
+few_chains {units} t exact h =
     let apart = pages_apart t.buckets (λ i b e. (h.bucket i b e).linked.apart) h.apart in
     let few : length (all_pages t.buckets) ≤ units.count = few_units (all_pages t.buckets) exact apart (λ i p e none.
     let o = owned t.buckets i p e in
     let there = ((h.bucket o.place o.bucket o.is).linked.part o.owns.0 p o.owns.1).is in
     (cc)) in
     let long = length-all_pages t.buckets in
+    omega arith
+
+-- each bucket has a page
+each_has_one : (bs : List Bucket) → ((i : ℕ) (b : Bucket) → slice_get bs i ≡ Some b → 1 ≤ length b.pages) → length bs ≤ chain_pages bs
+each_has_one [] h = omega arith
+each_has_one (b ∷ bs) h =
+    let one = h 0 b refl in
+    let rest = each_has_one bs (λ i. h (suc i)) in
+    let pages : chain_pages (b ∷ bs) ≡ length b.pages + chain_pages bs = sum_by-cons (λ (c : Bucket). length c.pages) b bs in
+    omega arith
+
+-- A TABLE HAS NO MORE BUCKETS THAN THE SPACE HAS PAGES
+pub few_buckets : {units : Units Sheet} {root : ℕ} {n : Numbers} (t : HashTable) → IsExact units → IsBuilt units.at root n t → length t.buckets ≤ units.count
+few_buckets t exact h =
+    let chains = few_chains t exact h in
+    let one = each_has_one t.buckets (λ i b e. let first = slice_get_within b.pages 0 _ (h.bucket i b e).linked.starts in omega arith) in
+    omega arith
+
+-- A TABLE HAS AT MOST 1,018 ENTRIES FOR EACH PAGE OF THE SPACE
+pub few_entries : {units : Units Sheet} {root : ℕ} {n : Numbers} (t : HashTable) → IsExact units → ((p : ℕ) (sheet : Sheet) → units.at p ≡ Some sheet → bytes_of sheet.slots ≤ 4072) → IsBuilt units.at root n t → length (entries t) ≤ 1018 * units.count
+few_entries {units} t exact fits h =
+    let chains = chains_few t.buckets (λ i b e. bucket_few b fits (h.bucket i b e).linked) in
+    let few = few_chains t exact h in
     omega arith

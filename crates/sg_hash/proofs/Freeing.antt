@@ -1,8 +1,8 @@
 -- The buckets of a table are freed, one after another, and then the directory and the root.
-use Rattle.std.proofs.Common.{◌≡◌, ◌≢◌, ℕ, ◌+◌, ◌<◌, ◌≤◌, ◌⊎◌, List, [], ◌∷◌, length, take, Option, Some, None, IsSome, sym, ap, subst, ◌∙◌, refl, arith, get_or, slice_get, inl, inr}
+use Rattle.std.proofs.Common.{◌≡◌, ◌≢◌, ℕ, ◌+◌, ◌<◌, ◌≤◌, ◌⊎◌, List, [], ◌∷◌, length, take, Option, Some, None, IsSome, sym, ap, subst, ◌∙◌, refl, arith, get_or, slice_get, inl, inr, zero, suc}
 use Rattle.std.specs.List.{sum_by}
 use Rattle.std.proofs.lemmas.Bool.{cases_eq}
-use Rattle.std.proofs.lemmas.List.Sums.{sum_by_more}
+use Rattle.std.proofs.lemmas.List.Sums.{sum_by_more, sum_by-cons}
 use Rattle.std.proofs.lemmas.Option.{slice_get_within, slice_get-get_or}
 use Rattle.std.proofs.Math.Seq.{take-length}
 use Rattle.sg_base.specs.Sheet.{Sheet}
@@ -57,6 +57,25 @@ bucket_left {i = i} {b = b} h f e = bucket_stays (h.bucket i b e) (λ p o. f.oth
 pub bucket_found : {old new : Space} {root i page : ℕ} {n : Numbers} {t : HashTable} → IsBuilt old.pages.at root n t → AreFreed old new t.buckets i → (f : IsFirstOf t i page) → IsLinked new.pages.at page f.bucket
 bucket_found {new = new} h f first = subst (λ (p : ℕ). IsLinked new.pages.at p first.bucket) first.first (bucket_left h f first.is).linked
 
+-- the pages of one bucket more
+pub chain_step : (bs : List Bucket) (i : ℕ) (b : Bucket) → slice_get bs i ≡ Some b → chain_pages (take (i + 1) bs) ≡ chain_pages (take i bs) + length b.pages
+chain_step bs i b e =
+    let below : i < length bs = slice_get_within bs i b e in
+    let is : get_or bs i b ≡ b = same_some _ _ (sym (slice_get-get_or bs i b below) ∙ e) in
+    let long : length (get_or bs i b).pages ≡ length b.pages = ap (λ (c : Bucket). length c.pages) is in
+    let sum : chain_pages (take (i + 1) bs) ≡ chain_pages (take i bs) + length (get_or bs i b).pages = sum_by_more (λ (c : Bucket). length c.pages) bs i b below in
+    omega arith
+
+-- the first buckets have no more pages than all
+pub chain_take : (bs : List Bucket) (i : ℕ) → chain_pages (take i bs) ≤ chain_pages bs
+chain_take bs zero = let none : chain_pages [] ≡ 0 = refl in omega arith
+chain_take [] (suc i) = let none : chain_pages [] ≡ 0 = refl in omega arith
+chain_take (b ∷ bs) (suc i) =
+    let rest = chain_take bs i in
+    let some : chain_pages (b ∷ take i bs) ≡ length b.pages + chain_pages (take i bs) = sum_by-cons (λ (c : Bucket). length c.pages) b (take i bs) in
+    let all : chain_pages (b ∷ bs) ≡ length b.pages + chain_pages bs = sum_by-cons (λ (c : Bucket). length c.pages) b bs in
+    omega arith
+
 -- one more
 one_freed : {old mid new : Space} {root i : ℕ} {b : Bucket} {n : Numbers} {t : HashTable} → IsBuilt old.pages.at root n t → AreFreed old mid t.buckets i → slice_get t.buckets i ≡ Some b → Becomes mid.pages new.pages (OwnsPage b) (λ _. ⊥) (length b.pages) 0 → new.bands ≡ mid.bands → AreFreed old new t.buckets (i + 1)
 one_freed {old} {mid} {new} {root} {i} {b} {n} {t} h f e g bands = record {
@@ -74,10 +93,7 @@ one_freed {old} {mid} {new} {root} {i} {b} {n} {t} h f e g bands = record {
   free =
       let x = f.free in
       let y = g.exactly in
-      let below : i < length t.buckets = slice_get_within t.buckets i b e in
-      let is : get_or t.buckets i b ≡ b = same_some _ _ (sym (slice_get-get_or t.buckets i b below) ∙ e) in
-      let long : length (get_or t.buckets i b).pages ≡ length b.pages = ap (λ (c : Bucket). length c.pages) is in
-      let sum : chain_pages (take (i + 1) t.buckets) ≡ chain_pages (take i t.buckets) + length (get_or t.buckets i b).pages = sum_by_more (λ (c : Bucket). length c.pages) t.buckets i b below in
+      let sum = chain_step t.buckets i b e in
       omega arith;
   all = g.all ∙ f.all;
   bands = bands ∙ f.bands;

@@ -1,5 +1,5 @@
 // A hash table is made.
-ghost use Rattle.std.specs.Prelude.{◌≡◌, ◌≤◌, length, IfOk};
+ghost use Rattle.std.specs.Prelude.{◌≡◌, ◌≤◌, length, IfOk, ◌+◌};
 ghost use Rattle.sg_hash.specs.Calls.{HasFive, Made};
 ghost use Rattle.sg_hash.specs.Steps.{Started, TookRoot, numbers_in};
 ghost use Rattle.sg_ops.specs.Table.{table_of};
@@ -20,6 +20,7 @@ fn start<P: PageSpace>(space: &mut P, ops: &Ops) -> Result<PageNo, SpaceFault>
     ensures did { IfOk result (λ directory. Started (P.view space.old) (P.view space.new) directory.0) }
     ensures later { P.later (table_of record_meaning range_meaning ops.now) space.old space.new }
     ensures means { P.means space.new (table_of record_meaning range_meaning ops.now) }
+    ensures few { (P.view space.new).records ≤ (P.view space.old).records + 13 }
 {
     let directory = sg_array::make(space, ops, 4)?;
     let first = sg_bucket::make(space)?;
@@ -42,6 +43,7 @@ fn take_root<P: PageSpace>(
     ensures did { IfOk result (λ root. TookRoot (P.view space.old) (P.view space.new) root.0 (numbers_in numbers) directory.0) }
     ensures later { P.later (table_of record_meaning range_meaning ops.now) space.old space.new }
     ensures means { P.means space.new (table_of record_meaning range_meaning ops.now) }
+    ensures few { (P.view space.new).records ≤ (P.view space.old).records + 4 }
 {
     let root = take_page_with(space, ops, ROOT_KIND, &spell_root(numbers))?;
     let op = PageOp::Links {
@@ -60,6 +62,7 @@ pub fn make<P: PageSpace>(space: &mut P, ops: &Ops) -> Result<PageNo, SpaceFault
     ensures did { IfOk result (λ root. Made (P.view space.old) (P.view space.new) root.0) }
     ensures later { P.later (table_of record_meaning range_meaning ops.now) space.old space.new }
     ensures means { P.means space.new (table_of record_meaning range_meaning ops.now) }
+    ensures few { (P.view space.new).records ≤ (P.view space.old).records + 17 }
 {
     let directory = start(space, ops)?;
     let numbers = Root {

@@ -1,5 +1,5 @@
 // A hash table is freed.
-ghost use Rattle.std.specs.Prelude.{◌≡◌, length, OnOk, ⊤};
+ghost use Rattle.std.specs.Prelude.{◌≡◌, ◌+◌, ◌≤◌, length, OnOk, ⊤};
 ghost use Rattle.sg_hash.specs.Calls.{HasHashTable, Gone};
 ghost use Rattle.sg_hash.specs.Steps.{FreesBuckets};
 ghost use Rattle.sg_ops.specs.Table.{Table};
@@ -17,6 +17,8 @@ fn free_buckets<P: PageSpace>(space: &mut P, root: PageNo, count: u32) -> Result
     ensures did { OnOk result (FreesBuckets (P.view space.old) (P.view space.new) root.0 count) }
     ensures later { (t : Table) → P.later t space.old space.new }
     ensures means { (t : Table) → P.means space.old t → P.means space.new t }
+    ensures few { (P.view space.old).Told → (P.view space.new).records ≤ (P.view space.old).records
+        + (P.view space.old).space.pages.count }
 {
     for i in 0..count {
         let first = bucket_at(space, root, i)?;
@@ -32,10 +34,16 @@ pub fn free_all<P: PageSpace>(space: &mut P, root: PageNo) -> Result<(), SpaceFa
     ensures did { OnOk result (Gone (P.view space.old) (P.view space.new) root.0) }
     ensures later { (t : Table) → P.later t space.old space.new }
     ensures means { (t : Table) → P.means space.old t → P.means space.new t }
+    ensures few { (P.view space.old).Told → (P.view space.new).records ≤ (P.view space.old).records
+        + ((P.view space.old).space.pages.count + 70139) }
 {
     let found = read_root(space, root)?;
+    let count = found.extent.buckets();
+    if count > space.pages() {
+        return Err(space.broken());
+    }
     let directory = directory_of(space, root)?;
-    free_buckets(space, root, found.extent.buckets())?;
+    free_buckets(space, root, count)?;
     sg_array::free_all(space, directory)?;
     space.free_page(root)?;
     Ok(())

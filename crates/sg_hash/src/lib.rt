@@ -20,4 +20,5 @@ pub use beside::{keep_bound, keep_once, stand_apart};
 pub use create::make;
 pub use free::free_all;
 pub use list::keys;
+pub use root::{Root, root_in};
 pub use table::{del, find, put};

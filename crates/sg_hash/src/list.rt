@@ -6,7 +6,7 @@ ghost use Rattle.sg_bucket.specs.Division.{keys_of};
 ghost use Rattle.sg_hash.specs.Table.{entries};
 ghost use Rattle.sg_hash.specs.Calls.{HasHashTable, IfHashTable};
 ghost use Rattle.sg_ops.specs.Table.{Table};
-ghost use Rattle.sg_space.specs.Listing.{CountsList};
+ghost use Rattle.sg_space.specs.Listing.{CountsList, WritesNoneList};
 ghost use Rattle.sg_space.specs.View.{OnlyReads};
 
 use crate::root::read_root;
@@ -16,7 +16,7 @@ use sg_bucket::Bytes;
 use sg_space::{ListFault, PageSpace};
 use std::alloc::Global;
 
-// The keys of all entries, bucket by bucket.
+// The keys of all entries, bucket by bucket. Each bucket has a page of its own, so a space with fewer pages has no such table.
 fn list_keys<P: PageSpace>(
     space: &mut P,
     root: PageNo,
@@ -28,10 +28,14 @@ fn list_keys<P: PageSpace>(
     ensures read { IfOk result (λ v. IfHashTable (P.view space.old) root.0 (λ t. v.items ≡ keys_of (entries t))) }
     ensures later { (t : Table) → P.later t space.old space.new }
     ensures means { (t : Table) → P.means space.old t → P.means space.new t }
+    ensures writes { WritesNoneList (P.view space.old) (P.view space.new) result }
 {
     let found = read_root(space, root)?;
     let mut all = Vec::new(alloc);
     let count = found.extent.buckets();
+    if count > space.pages() {
+        return Err(space.broken().into());
+    }
     for i in 0..count {
         let first = bucket_at(space, root, i)?;
         sg_bucket::keys(space, alloc, first, &mut all)?;
@@ -53,6 +57,7 @@ pub fn keys<P: PageSpace>(
     ensures order { IfOk result (λ v. IsSorted (slice_cmp nat_cmp) v.items) }
     ensures later { (t : Table) → P.later t space.old space.new }
     ensures means { (t : Table) → P.means space.old t → P.means space.new t }
+    ensures writes { WritesNoneList (P.view space.old) (P.view space.new) result }
 {
     let mut all = list_keys(space, root, alloc)?;
     all.sort_unstable();

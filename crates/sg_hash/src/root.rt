@@ -3,6 +3,7 @@ ghost use Rattle.std.specs.Prelude.{◌≡◌, ◌+◌, ◌<◌, ◌≤◌, ◌^
 ghost use Rattle.sg_hash.specs.Table.{Numbers, IsInRange, root_cell};
 ghost use Rattle.sg_hash.specs.Steps.{HasTrunk, IfTrunk, HasRootPage, SetsRoot, numbers_in};
 ghost use Rattle.sg_ops.specs.Table.{Table, table_of};
+ghost use Rattle.sg_space.specs.Pages.{WritesNone};
 ghost use Rattle.sg_space.specs.View.{Counts, OnlyReads};
 
 use sg_base::{PageNo, PageOp, read_u32, read_u64, write_u32, write_u64};
@@ -101,8 +102,8 @@ pub fn spell_root(root: Root) -> [u8; ROOT_CELL]
     cell
 }
 
-// The numbers that the root's cell spells, if they are in their ranges.
-fn root_in(cell: &[u8]) -> Option<Root>
+/// The numbers that a root's cell of 25 bytes spells, if they are in their ranges.
+pub fn root_in(cell: &[u8]) -> Option<Root>
     requires { length cell.now ≡ 25 }
     ensures found { IfSome result (λ r. cell.now ≡ root_cell (numbers_in r)) }
     ensures fits { IfSome result (λ r. IsInRange (numbers_in r)) }
@@ -128,6 +129,7 @@ pub fn read_root<P: PageSpace>(space: &mut P, root: PageNo) -> Result<Root, Spac
     ensures read { IfOk result (λ r. IfTrunk (P.view space.old) root.0 (λ n _. numbers_in r ≡ n)) }
     ensures later { (t : Table) → P.later t space.old space.new }
     ensures means { (t : Table) → P.means space.old t → P.means space.new t }
+    ensures writes { WritesNone (P.view space.old) (P.view space.new) result }
 {
     let mut cell = [0; ROOT_CELL];
     read_cell(space, root, ROOT_KIND, 0, &mut cell)?;
@@ -145,6 +147,7 @@ pub fn directory_of<P: PageSpace>(space: &mut P, root: PageNo) -> Result<PageNo,
     ensures read { IfOk result (λ p. IfTrunk (P.view space.old) root.0 (λ _ t. t.directory ≡ p.0)) }
     ensures later { (t : Table) → P.later t space.old space.new }
     ensures means { (t : Table) → P.means space.old t → P.means space.new t }
+    ensures writes { WritesNone (P.view space.old) (P.view space.new) result }
 {
     let view = space.page(root)?;
     if view.kind() != ROOT_KIND {
@@ -167,6 +170,7 @@ pub fn set_root<P: PageSpace>(
     ensures did { OnOk result (SetsRoot (P.view space.old) (P.view space.new) root.0 (numbers_in numbers)) }
     ensures later { P.later (table_of record_meaning range_meaning ops.now) space.old space.new }
     ensures means { P.means space.new (table_of record_meaning range_meaning ops.now) }
+    ensures few { (P.view space.new).records ≤ (P.view space.old).records + 1 }
 {
     let cell = spell_root(numbers);
     let op = PageOp::Set {

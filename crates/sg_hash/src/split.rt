@@ -30,6 +30,7 @@ fn split_next<P: PageSpace>(
     ensures did { OnOk result (Did (P.view space.old) (P.view space.new) root.0 (CanSplit (P.view space.old) found) IsSplit) }
     ensures later { P.later (table_of record_meaning range_meaning ops.now) space.old space.new }
     ensures means { P.means space.new (table_of record_meaning range_meaning ops.now) }
+    ensures few { (P.view space.old).Told → (P.view space.new).records ≤ (P.view space.old).records + 40747 }
 {
     let directory = directory_of(space, root)?;
     let first = bucket_at(space, root, found.extent.split)?;
@@ -71,6 +72,7 @@ pub fn grow<P: PageSpace>(space: &mut P, ops: &Ops, root: PageNo) -> Result<(), 
     ensures did { OnOk result (Did (P.view space.old) (P.view space.new) root.0 (CanGrow (P.view space.old)) IsGrown) }
     ensures later { P.later (table_of record_meaning range_meaning ops.now) space.old space.new }
     ensures means { P.means space.new (table_of record_meaning range_meaning ops.now) }
+    ensures few { (P.view space.old).Told → (P.view space.new).records ≤ (P.view space.old).records + 40747 }
 {
     let found = read_root(space, root)?;
     if !is_crowded(found) {

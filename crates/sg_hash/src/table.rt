@@ -1,10 +1,11 @@
 // The calls on a hash table that look for a key, put one or remove one.
-ghost use Rattle.std.specs.Prelude.{◌≡◌, ◌+◌, ◌<◌, ◌≤◌, ◌^◌, length, IfOk, OnOk, IfSome, Some, ⊤};
+ghost use Rattle.std.specs.Prelude.{◌≡◌, ◌+◌, ◌<◌, ◌≤◌, ◌^◌, length, IfOk, OnOk, IfSome, Some, false, ⊤, drop, unwrap_or};
 ghost use Rattle.sg_bucket.specs.Bucket.{IsAnswer};
 ghost use Rattle.sg_hash.specs.Table.{value_at};
 ghost use Rattle.sg_hash.specs.Calls.{HasHashTable, IfHashTable, Did, CanPut, IsPut, IsDeleted};
 ghost use Rattle.sg_hash.specs.Steps.{DidEnter};
 ghost use Rattle.sg_ops.specs.Table.{Table, table_of};
+ghost use Rattle.sg_space.specs.Pages.{WritesNone};
 ghost use Rattle.sg_space.specs.View.{Counts, OnlyReads};
 
 use crate::root::{read_root, set_root};
@@ -15,7 +16,7 @@ use sg_ops::Ops;
 use sg_space::{PageSpace, SpaceFault};
 
 /// Copies the value of this key to the front of the buffer, which has room for 1,024 bytes, and says how many bytes
-/// it has. There is none where the table has no entry with the key.
+/// it has; the bytes behind it stay. There is none where the table has no entry with the key.
 pub fn find<P: PageSpace>(
     space: &mut P,
     root: PageNo,
@@ -29,8 +30,10 @@ pub fn find<P: PageSpace>(
     ensures read { IfOk result (λ found. IfHashTable (P.view space.old) root.0
         (λ t. IsAnswer (value_at t key.now) found into.new)) }
     ensures within { IfOk result (λ found. IfSome found (λ n. n ≤ length into.new)) }
+    ensures rest { IfOk result (λ found. drop (unwrap_or found 0) into.new ≡ drop (unwrap_or found 0) into.old) }
     ensures later { (t : Table) → P.later t space.old space.new }
     ensures means { (t : Table) → P.means space.old t → P.means space.new t }
+    ensures writes { WritesNone (P.view space.old) (P.view space.new) result }
 {
     let found = read_root(space, root)?;
     let first = bucket_of(space, root, found, key)?;
@@ -56,6 +59,7 @@ fn enter<P: PageSpace>(
     ensures did { IfOk result (λ new. DidEnter (P.view space.old) (P.view space.new) root.0 key.now value.now split new) }
     ensures later { P.later (table_of record_meaning range_meaning ops.now) space.old space.new }
     ensures means { P.means space.new (table_of record_meaning range_meaning ops.now) }
+    ensures few { (P.view space.new).records ≤ (P.view space.old).records + 8 }
 {
     let found = read_root(space, root)?;
     let first = bucket_of(space, root, found, key)?;
@@ -90,6 +94,8 @@ pub fn put<P: PageSpace>(
         (CanPut (P.view space.old) key.now split) (IsPut key.now value.now split new)) }
     ensures later { P.later (table_of record_meaning range_meaning ops.now) space.old space.new }
     ensures means { P.means space.new (table_of record_meaning range_meaning ops.now) }
+    ensures few { split ≡ false → (P.view space.new).records ≤ (P.view space.old).records + 8 }
+    ensures few_split { (P.view space.old).Told → (P.view space.new).records ≤ (P.view space.old).records + 40755 }
 {
     let new = enter(space, ops, root, key, value, split)?;
     if !split {
@@ -115,8 +121,10 @@ pub fn del<P: PageSpace>(
     requires there { HasHashTable (P.view space.old) root.0 (λ _. ⊤) }
     ensures counts { Counts (P.view space.old) (P.view space.new) result }
     ensures did { IfOk result (λ was. Did (P.view space.old) (P.view space.new) root.0 (λ _. ⊤) (IsDeleted key.now was)) }
+    ensures absent { IfOk result (λ was. was ≡ false → OnlyReads (P.view space.old) (P.view space.new)) }
     ensures later { P.later (table_of record_meaning range_meaning ops.now) space.old space.new }
     ensures means { P.means space.new (table_of record_meaning range_meaning ops.now) }
+    ensures few { (P.view space.new).records ≤ (P.view space.old).records + 4 }
 {
     let found = read_root(space, root)?;
     let first = bucket_of(space, root, found, key)?;

@@ -1,7 +1,7 @@
-ghost use Rattle.std.specs.Prelude.{◌≡◌, ◌≤◌, length, slice_get, Some, IfOk, OnOk, ⊤};
+ghost use Rattle.std.specs.Prelude.{◌≡◌, ◌≤◌, length, slice_get, Some, IfOk, OnOk, ⊤, ◌+◌};
 ghost use Rattle.sg_list.specs.Items.{HasList, IfList, HasSized, CanPush, Made, Pushed};
 ghost use Rattle.sg_ops.specs.Table.{Table, table_of};
-ghost use Rattle.sg_space.specs.Pages.{CanTake};
+ghost use Rattle.sg_space.specs.Pages.{CanTake, WritesNone};
 ghost use Rattle.sg_space.specs.View.{Counts, OnlyReads};
 
 use sg_base::{PageNo, PageOp};
@@ -18,6 +18,7 @@ pub fn make<P: PageSpace>(space: &mut P) -> Result<PageNo, SpaceFault>
     ensures did { IfOk result (λ root. Made (P.view space.old) (P.view space.new) root.0) }
     ensures later { (t : Table) → P.later t space.old space.new }
     ensures means { (t : Table) → P.means space.old t → P.means space.new t }
+    ensures few { (P.view space.new).records ≤ (P.view space.old).records + 2 }
 {
     let root = space.take_page(LIST_KIND)?;
     Ok(root)
@@ -31,6 +32,7 @@ pub fn count<P: PageSpace>(space: &mut P, root: PageNo) -> Result<u16, SpaceFaul
     ensures read { IfOk result (λ n. IfList (P.view space.old) root.0 (λ items. n ≡ length items)) }
     ensures later { (t : Table) → P.later t space.old space.new }
     ensures means { (t : Table) → P.means space.old t → P.means space.new t }
+    ensures writes { WritesNone (P.view space.old) (P.view space.new) result }
 {
     let view = space.page(root)?;
     Ok(view.slots())
@@ -50,6 +52,7 @@ pub fn get<P: PageSpace>(
         (λ items. slice_get items i ≡ Some into.new)) }
     ensures later { (t : Table) → P.later t space.old space.new }
     ensures means { (t : Table) → P.means space.old t → P.means space.new t }
+    ensures writes { WritesNone (P.view space.old) (P.view space.new) result }
 {
     read_cell(space, root, LIST_KIND, i, into)?;
     Ok(())
@@ -68,6 +71,7 @@ pub fn push<P: PageSpace>(
     ensures did { OnOk result (Pushed (P.view space.old) (P.view space.new) root.0 item.now) }
     ensures later { P.later (table_of record_meaning range_meaning ops.now) space.old space.new }
     ensures means { P.means space.new (table_of record_meaning range_meaning ops.now) }
+    ensures few { (P.view space.new).records ≤ (P.view space.old).records + 1 }
 {
     let slot = count(space, root)?;
     let op = PageOp::Put { slot, bytes: item };

@@ -1,11 +1,25 @@
-use Rattle.std.proofs.Common.{◌≡◌, IsSome, sym, ap, subst, refl, ◌∙◌, inl, inr}
+use Rattle.std.proofs.Common.{◌≡◌, ◌≤◌, ◌<◌, arith, IsSome, sym, ap, subst, refl, ◌∙◌, inl, inr}
 use Rattle.sg_array.proofs.Links.{still_array}
 use Rattle.sg_array.proofs.Freed.{index_left, root_left, all_gone}
 use Rattle.sg_array.proofs.Wanting.{leaves_wanted, index_wanted}
+use Rattle.sg_space.proofs.Few.{few_units}
 use Rattle.sg_space.specs.Owned.{Becomes}
 use Rattle.sg_space.specs.View.{Space}
 use Rattle.sg_array.specs.Array.{Owns, page_count}
 use Rattle.sg_array.proofs.free.free_all.Goals as goal
+
+pub broken-requires : goal.broken-requires
+broken-requires g c = λ told.
+    let back = c.read_root.ensures.counts.told told in
+    let shows = g.met.P.PageSpace.told_shows _ back in
+    let h = c.requires back in
+    let is = c.in_ok-found.ensures.read shows h.0 h.1 in
+    let leaves = leaves_wanted h.1 is.0 is.2 c.wanted_pages-wanted.ensures.leaves in
+    let array = still_array c.in_ok-found.ensures.kept shows h.1 in
+    let few = few_units (h.0).leaves (g.met.P.PageSpace.pages_exact _ told) array.built.names.leaf_pages.apart (λ d p e none. let there = (array.built.leaf d p e).is in (cc)) in
+    let there = c.pages.ensures in
+    let test = c.if-wanted-pages.true in
+    omega arith
 
 pub free_leaves-requires-clause-there : goal.free_leaves-requires-clause-there
 free_leaves-requires-clause-there g c = λ told.
@@ -94,3 +108,6 @@ pub returns-clause-later : goal.returns-clause-later
 returns-clause-later g c = λ t.
     let then = g.met.P.PageSpace.later_then t in
     then _ _ _ (c.read_root.ensures.later t) (then _ _ _ (c.free_leaves.ensures.later t) (then _ _ _ (c.free_index.ensures.later t) (c.free_page.ensures.later t)))
+
+pub returns-then-wanted-pages-clause-later : goal.returns-then-wanted-pages-clause-later
+returns-then-wanted-pages-clause-later g c = λ t. g.met.P.PageSpace.later_then t _ _ _ (c.read_root.ensures.later t) (c.broken.ensures.later t)

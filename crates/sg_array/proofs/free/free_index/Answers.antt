@@ -8,7 +8,7 @@ use Rattle.sg_array.proofs.Links.{index_link, index_read}
 use Rattle.sg_array.proofs.free.free_index.Goals as goal
 
 pub loop-j-init : goal.loop-j-init
-loop-j-init g c = record { frees = frees_none _ _ _; later = λ t. g.met.P.PageSpace.later_same t _; means = λ t x. x; quiet = refl }
+loop-j-init g c = record { frees = frees_none _ _ _; later = λ t. g.met.P.PageSpace.later_same t _; means = λ t x. x; quiet = refl; few = omega arith }
 
 pub link_at-requires : goal.link_at-requires
 link_at-requires g c = λ told.
@@ -57,6 +57,7 @@ loop-j-preserved g c =
       later = λ t. then t _ _ _ (c.loop-j.invariant.later t) (then t _ _ _ (c.link_at.ensures.later t) (then t _ _ _ (c.check_kind.ensures.later t) (c.free_page.ensures.later t)));
       means = λ t x. c.free_page.ensures.means t (c.check_kind.ensures.means t (c.link_at.ensures.means t (c.loop-j.invariant.means t x)));
       quiet = c.in_ok-free_page.ensures.counts.quiet ∙ c.in_ok-check_kind.ensures.counts.quiet ∙ c.in_ok-index.ensures.counts.quiet ∙ c.loop-j.invariant.quiet;
+      few = let r0 = c.loop-j.invariant.few in let r1 = c.link_at.ensures.writes.records in let r2 = c.check_kind.ensures.writes.records in let r3 = c.free_page.ensures.few in omega arith;
     }
 
 pub returns-clause-did : goal.returns-clause-did

@@ -1,8 +1,14 @@
-use Rattle.std.proofs.Common.{◌≡◌}
+use Rattle.std.proofs.Common.{◌≤◌, ◌+◌, ◌≡◌}
 use Rattle.sg_array.specs.Steps.{NamesIndex}
 use Rattle.sg_ops.specs.Table.{Table}
 use Rattle.sg_array.proofs.Freed.{FreesTo}
 use Rattle.sg_array.proofs.free.free_index.Given as goal
 
 abbrev pub invariant-loop-j : goal.invariant-loop-j
-invariant-loop-j g l = record { frees : FreesTo (g.P.PageSpace.view l.fn.space) (g.P.PageSpace.view l.space) (NamesIndex (g.P.PageSpace.view l.fn.space).space.pages.at l.root.0 l.count) (λ a. a.index) (λ _. l.j); later : (t : Table) → g.P.PageSpace.later t l.fn.space l.space; means : (t : Table) → g.P.PageSpace.means l.fn.space t → g.P.PageSpace.means l.space t; quiet : (g.P.PageSpace.view l.space).faults ≡ (g.P.PageSpace.view l.fn.space).faults }
+invariant-loop-j g l = record {
+  frees : FreesTo (g.P.PageSpace.view l.fn.space) (g.P.PageSpace.view l.space) (NamesIndex (g.P.PageSpace.view l.fn.space).space.pages.at l.root.0 l.count) (λ a. a.index) (λ _. l.j);
+  later : (t : Table) → g.P.PageSpace.later t l.fn.space l.space;
+  means : (t : Table) → g.P.PageSpace.means l.fn.space t → g.P.PageSpace.means l.space t;
+  quiet : (g.P.PageSpace.view l.space).faults ≡ (g.P.PageSpace.view l.fn.space).faults;
+  few : (g.P.PageSpace.view l.space).records ≤ (g.P.PageSpace.view l.fn.space).records + l.j;
+}

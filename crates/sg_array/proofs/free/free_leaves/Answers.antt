@@ -7,7 +7,7 @@ use Rattle.sg_array.proofs.Freed.{frees_none, frees_on, frees_all, names_still, 
 use Rattle.sg_array.proofs.free.free_leaves.Goals as goal
 
 pub loop-d-init : goal.loop-d-init
-loop-d-init g c = record { frees = frees_none _ _ _; later = λ t. g.met.P.PageSpace.later_same t _; means = λ t x. x; quiet = refl }
+loop-d-init g c = record { frees = frees_none _ _ _; later = λ t. g.met.P.PageSpace.later_same t _; means = λ t x. x; quiet = refl; few = omega arith }
 
 pub leaf_at-requires-clause-there : goal.leaf_at-requires-clause-there
 leaf_at-requires-clause-there g c = λ told.
@@ -56,6 +56,7 @@ loop-d-preserved g c =
       later = λ t. then t _ _ _ (c.loop-d.invariant.later t) (then t _ _ _ (c.leaf_at.ensures.later t) (then t _ _ _ (c.check_kind.ensures.later t) (c.free_page.ensures.later t)));
       means = λ t x. c.free_page.ensures.means t (c.check_kind.ensures.means t (c.leaf_at.ensures.means t (c.loop-d.invariant.means t x)));
       quiet = c.in_ok-free_page.ensures.counts.quiet ∙ c.in_ok-check_kind.ensures.counts.quiet ∙ c.in_ok-leaf.ensures.counts.quiet ∙ c.loop-d.invariant.quiet;
+      few = let r0 = c.loop-d.invariant.few in let r1 = c.leaf_at.ensures.writes.records in let r2 = c.check_kind.ensures.writes.records in let r3 = c.free_page.ensures.few in omega arith;
     }
 
 pub returns-clause-did : goal.returns-clause-did

@@ -9,6 +9,7 @@ loop-j-init g c =
       later = g.met.P.PageSpace.later_same _ _;
       means = c.requires.means;
       quiet = refl;
+      few = omega arith;
     }
 
 pub add_band-requires-clause-there : goal.add_band-requires-clause-there
@@ -28,4 +29,5 @@ loop-j-preserved g c =
       later = g.met.P.PageSpace.later_then _ _ _ _ c.loop-j.invariant.later c.add_band.ensures.later;
       means = c.add_band.ensures.means;
       quiet = c.in_ok-add_band.ensures.counts.quiet ∙ c.loop-j.invariant.quiet;
+      few = let r0 = c.loop-j.invariant.few in let r1 = c.add_band.ensures.few in omega arith;
     }

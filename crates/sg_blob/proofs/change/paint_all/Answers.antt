@@ -2,6 +2,7 @@ use Rattle.std.proofs.Common.{◌≡◌, ℕ, ◌+◌, ◌-◌, ◌<◌, ◌≤�
 use Rattle.sg_ops.specs.Meaning.{RangeMeaning}
 use Rattle.sg_ops.specs.Table.{table_of, range_at, rendered}
 use Rattle.sg_ops.proofs.Rendering.{length-rendered}
+use Rattle.sg_blob.proofs.Pieces.{pieces_none, pieces_on, pieces_all, pieces_one}
 use Rattle.sg_blob.proofs.Writing.{writes_none, writes_on, place_on, rendered_none, rendered_on}
 use Rattle.sg_blob.proofs.change.paint_all.Goals as goal
 
@@ -13,6 +14,7 @@ pieces-init g c =
       later = g.met.P.PageSpace.later_same _ _;
       means = c.requires.means;
       quiet = refl;
+      few = pieces_none _ _ _;
     }
 
 pub paint_in-requires-clause-there : goal.paint_in-requires-clause-there
@@ -46,4 +48,11 @@ pieces-preserved g c =
       later = g.met.P.PageSpace.later_then _ _ _ _ c.pieces.invariant.later c.paint_in.ensures.later;
       means = c.paint_in.ensures.means;
       quiet = c.in_ok-paint_in.ensures.counts.quiet ∙ c.pieces.invariant.quiet;
+      few = pieces_on _ _ _ _ c.pieces.done _ c.piece-n.result c.pieces.invariant.few c.pieces-test.true c.piece-n.ensures.value c.paint_in.ensures.few;
     }
+
+pub returns-in_err-paint_in-clause-few : goal.returns-in_err-paint_in-clause-few
+returns-in_err-paint_in-clause-few g c = pieces_one _ _ _ _ c.pieces.done _ c.pieces.invariant.few c.pieces-test.true c.paint_in.ensures.few
+
+pub returns-clause-few : goal.returns-clause-few
+returns-clause-few g c = pieces_all _ _ _ c.pieces.done _ c.pieces.invariant.few c.pieces.invariant.so_far.within

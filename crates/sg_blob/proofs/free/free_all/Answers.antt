@@ -13,6 +13,7 @@ loop-j-init g c =
       later = λ t. c.read_root.ensures.later t;
       means = λ t m. c.read_root.ensures.means t m;
       quiet = c.in_ok-found.ensures.counts.quiet;
+      few = let r0 = c.read_root.ensures.writes.records in omega arith;
     }
 
 pub link_at-requires : goal.link_at-requires
@@ -50,6 +51,7 @@ loop-j-preserved g c =
       later = λ t. let then = g.met.P.PageSpace.later_then t in then _ _ _ (c.loop-j.invariant.later t) (then _ _ _ (c.link_at.ensures.later t) (c.free_band.ensures.later t));
       means = λ t m. c.free_band.ensures.means t (c.link_at.ensures.means t (c.loop-j.invariant.means t m));
       quiet = c.in_ok-free_band.ensures.counts.quiet ∙ c.in_ok-b.ensures.counts.quiet ∙ c.loop-j.invariant.quiet;
+      few = let r0 = c.loop-j.invariant.few in let r1 = c.link_at.ensures.writes.records in let r2 = c.free_band.ensures.few in omega arith;
     }
 
 pub free_page-requires : goal.free_page-requires

@@ -1,6 +1,6 @@
-use Rattle.std.proofs.Common.{◌∙◌, refl, arith}
+use Rattle.std.proofs.Common.{◌≤◌, ◌<◌, length, ◌∙◌, refl, arith}
 use Rattle.std.proofs.lemmas.Option.{slice_get_within}
-use Rattle.sg_bucket.proofs.Passing.{branches_none, branches_on, branched, copy_ready, still_passing}
+use Rattle.sg_bucket.proofs.Passing.{branches_none, branches_on, branched, copy_ready, passing_within, still_passing}
 use Rattle.sg_bucket.proofs.branching.branch.Goals as goal
 
 pub make-requires : goal.make-requires
@@ -17,6 +17,7 @@ loop-passed-init g c =
       later = c.make.ensures.later _;
       means = c.make.ensures.means _ c.requires.means;
       quiet = c.in_ok-new.ensures.counts.quiet;
+      few = let made = c.make.ensures.few in omega arith;
     }
 
 pub copy_part-requires-clause-slot : goal.copy_part-requires-clause-slot
@@ -39,6 +40,7 @@ loop-passed-preserved g c =
       later = g.met.P.PageSpace.later_then _ _ _ _ c.loop-passed.invariant.later c.copy_part.ensures.later;
       means = c.copy_part.ensures.means;
       quiet = c.in_ok-copied.ensures.counts.quiet ∙ c.loop-passed.invariant.quiet;
+      few = let before = c.loop-passed.invariant.few in let part = c.copy_part.ensures.few in omega arith;
     }
 
 pub broken-requires : goal.broken-requires
@@ -47,7 +49,27 @@ broken-requires g c = λ told.
     let back = m.back told in
     let h = c.requires.can back in
     let below = still_passing m (g.met.P.PageSpace.pages_exact _ back) h.0 h.1 back in
-    let same = (c.in_ok-new.ensures.did.pages back).count in
     let end = c.loop-passed-test.false in
-    let count = c.pages-passed-end.ensures in
+    let count = c.pages-most.ensures in
     absurd (omega arith)
+
+pub returns-in_err-copied-clause-few_told : goal.returns-in_err-copied-clause-few_told
+returns-in_err-copied-clause-few_told g c = λ told b h.
+    let within = passing_within c.loop-passed.invariant.so_far told b h in
+    let before = c.loop-passed.invariant.few in
+    let part = c.copy_part.ensures.few in
+    omega arith
+
+pub returns-then-copied-eq0-clause-few_told : goal.returns-then-copied-eq0-clause-few_told
+returns-then-copied-eq0-clause-few_told g c = λ told b h.
+    let within = passing_within c.loop-passed.invariant.so_far told b h in
+    let before = c.loop-passed.invariant.few in
+    let part = c.copy_part.ensures.few in
+    omega arith
+
+pub returns-clause-few_told : goal.returns-clause-few_told
+returns-clause-few_told g c = λ told b h.
+    let within = passing_within c.loop-passed.invariant.so_far told b h in
+    let before = c.loop-passed.invariant.few in
+    let broken = c.broken.ensures.writes_none in
+    omega arith

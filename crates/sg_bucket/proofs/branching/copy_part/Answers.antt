@@ -13,6 +13,7 @@ loop-slot-init g c =
       later = c.outline_of.ensures.later _;
       means = c.outline_of.ensures.means _ c.requires.means;
       quiet = c.in_ok-seen.ensures.counts.quiet;
+      few = let seen = c.outline_of.ensures.writes.records in omega arith;
     }
 
 pub copy_entry-requires-clause-page : goal.copy_entry-requires-clause-page
@@ -35,6 +36,7 @@ loop-slot-preserved-in-None g c =
       later = g.met.P.PageSpace.later_then _ _ _ _ c.loop-slot.invariant.later (c.copy_entry.ensures.later _);
       means = c.copy_entry.ensures.means _ c.loop-slot.invariant.means;
       quiet = c.in_ok-copy_entry.ensures.counts.quiet ∙ c.loop-slot.invariant.quiet;
+      few = let before = c.loop-slot.invariant.few in let copied = c.copy_entry.ensures.writes.records in omega arith;
     }
 
 pub loop-slot-preserved : goal.loop-slot-preserved
@@ -48,6 +50,7 @@ loop-slot-preserved g c =
       later = let then = g.met.P.PageSpace.later_then _ in then _ _ _ c.loop-slot.invariant.later (then _ _ _ (c.copy_entry.ensures.later _) c.extend.ensures.later);
       means = c.extend.ensures.means;
       quiet = c.in_ok-tail-in-Some.ensures.counts.quiet ∙ c.in_ok-copy_entry.ensures.counts.quiet ∙ c.loop-slot.invariant.quiet;
+      few = let before = c.loop-slot.invariant.few in let copied = c.copy_entry.ensures.writes.records in let more = c.extend.ensures.few in omega arith;
     }
 
 pub returns-clause-did : goal.returns-clause-did

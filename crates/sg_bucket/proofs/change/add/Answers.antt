@@ -12,6 +12,7 @@ loop-passed-init g c =
       later = g.met.P.PageSpace.later_same _ _;
       means = c.requires.means;
       quiet = refl;
+      records = refl;
     }
 
 pub room_on-requires : goal.room_on-requires
@@ -82,6 +83,7 @@ loop-passed-preserved g c =
       later = g.met.P.PageSpace.later_then _ _ _ _ c.loop-passed.invariant.later (c.room_on.ensures.later _);
       means = c.room_on.ensures.means _ c.loop-passed.invariant.means;
       quiet = c.in_ok-slot.ensures.counts.quiet ∙ c.loop-passed.invariant.quiet;
+      records = c.room_on.ensures.writes.records ∙ c.loop-passed.invariant.records;
     }
 
 pub broken-requires : goal.broken-requires

@@ -1,4 +1,4 @@
-use Rattle.std.proofs.Common.{IsSome, subst, sym, ◌∙◌, refl, arith}
+use Rattle.std.proofs.Common.{◌≤◌, ◌<◌, length, IsSome, subst, sym, ◌∙◌, refl, arith}
 use Rattle.std.proofs.lemmas.Option.{slice_get_within}
 use Rattle.sg_space.proofs.Known.{both, still}
 use Rattle.sg_space.specs.View.{Space}
@@ -14,6 +14,7 @@ loop-passed-init g c =
       later = λ t. g.met.P.PageSpace.later_same t _;
       means = λ t m. m;
       quiet = refl;
+      few = omega arith;
     }
 
 pub next_of-requires : goal.next_of-requires
@@ -49,6 +50,7 @@ loop-passed-preserved g c =
       later = λ t. let then = g.met.P.PageSpace.later_then t in then _ _ _ (c.loop-passed.invariant.later t) (then _ _ _ (c.next_of.ensures.later t) (c.free_page.ensures.later t));
       means = λ t m. c.free_page.ensures.means t (c.next_of.ensures.means t (c.loop-passed.invariant.means t m));
       quiet = c.in_ok-free_page.ensures.counts.quiet ∙ c.in_ok-next.ensures.counts.quiet ∙ c.loop-passed.invariant.quiet;
+      few = let r0 = c.loop-passed.invariant.few in let r1 = c.next_of.ensures.writes.records in let r2 = c.free_page.ensures.few in omega arith;
     }
 
 pub broken-requires : goal.broken-requires
@@ -61,3 +63,33 @@ broken-requires g c = λ told.
     let end = c.loop-passed-test.false in
     let count = c.pages-passed-end.ensures in
     absurd (omega arith)
+
+pub returns-in_err-next-clause-few_told : goal.returns-in_err-next-clause-few_told
+returns-in_err-next-clause-few_told g c = λ told b h.
+    let within = slice_get_within b.pages _ _ (c.loop-passed.invariant.so_far.next told b h) in
+    let before = c.loop-passed.invariant.few in
+    let next = c.next_of.ensures.writes.records in
+    omega arith
+
+pub returns-in_err-free_page-clause-few_told : goal.returns-in_err-free_page-clause-few_told
+returns-in_err-free_page-clause-few_told g c = λ told b h.
+    let within = slice_get_within b.pages _ _ (c.loop-passed.invariant.so_far.next told b h) in
+    let before = c.loop-passed.invariant.few in
+    let next = c.next_of.ensures.writes.records in
+    let freed = c.free_page.ensures.few in
+    omega arith
+
+pub returns-then-next-eq0-clause-few_told : goal.returns-then-next-eq0-clause-few_told
+returns-then-next-eq0-clause-few_told g c = λ told b h.
+    let within = slice_get_within b.pages _ _ (c.loop-passed.invariant.so_far.next told b h) in
+    let before = c.loop-passed.invariant.few in
+    let next = c.next_of.ensures.writes.records in
+    let freed = c.free_page.ensures.few in
+    omega arith
+
+pub returns-clause-few_told : goal.returns-clause-few_told
+returns-clause-few_told g c = λ told b h.
+    let within = slice_get_within b.pages _ _ (c.loop-passed.invariant.so_far.next told b h) in
+    let before = c.loop-passed.invariant.few in
+    let broken = c.broken.ensures.writes_none in
+    omega arith

@@ -1,7 +1,13 @@
-use Rattle.std.proofs.Common.{◌≡◌}
+use Rattle.std.proofs.Common.{◌≤◌, ◌+◌, ◌≡◌}
 use Rattle.sg_bucket.proofs.Freeing.{FreesTo}
 use Rattle.sg_ops.specs.Table.{Table}
 use Rattle.sg_bucket.proofs.free.free_all.Given as goal
 
 abbrev pub invariant-loop-passed : goal.invariant-loop-passed
-invariant-loop-passed g l = record { so_far : FreesTo (g.P.PageSpace.view l.fn.space) (g.P.PageSpace.view l.space) l.fn.first.0 l._passed l.page.0; later : (t : Table) → g.P.PageSpace.later t l.fn.space l.space; means : (t : Table) → g.P.PageSpace.means l.fn.space t → g.P.PageSpace.means l.space t; quiet : (g.P.PageSpace.view l.space).faults ≡ (g.P.PageSpace.view l.fn.space).faults }
+invariant-loop-passed g l = record {
+  so_far : FreesTo (g.P.PageSpace.view l.fn.space) (g.P.PageSpace.view l.space) l.fn.first.0 l._passed l.page.0;
+  later : (t : Table) → g.P.PageSpace.later t l.fn.space l.space;
+  means : (t : Table) → g.P.PageSpace.means l.fn.space t → g.P.PageSpace.means l.space t;
+  quiet : (g.P.PageSpace.view l.space).faults ≡ (g.P.PageSpace.view l.fn.space).faults;
+  few : (g.P.PageSpace.view l.space).records ≤ (g.P.PageSpace.view l.fn.space).records + l._passed;
+}

@@ -12,6 +12,7 @@ loop-passed-init g c =
       later = λ t. g.met.P.PageSpace.later_same t _;
       means = λ t m. m;
       quiet = refl;
+      records = refl;
     }
 
 pub gather-requires : goal.gather-requires
@@ -34,6 +35,7 @@ loop-passed-preserved g c =
       later = λ t. g.met.P.PageSpace.later_then t _ _ _ (c.loop-passed.invariant.later t) (c.gather.ensures.later t);
       means = λ t m. c.gather.ensures.means t (c.loop-passed.invariant.means t m);
       quiet = c.in_ok-next.ensures.counts.quiet ∙ c.loop-passed.invariant.quiet;
+      records = c.gather.ensures.writes.records ∙ c.loop-passed.invariant.records;
     }
 
 pub broken-requires : goal.broken-requires

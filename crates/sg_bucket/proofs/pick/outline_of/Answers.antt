@@ -1,4 +1,4 @@
-use Rattle.std.proofs.Common.{ℕ, sym, ap}
+use Rattle.std.proofs.Common.{ℕ, ◌≤◌, sym, ap, arith}
 use Rattle.sg_base.specs.Sheet.{sheet_of}
 use Rattle.sg_slotted.proofs.Room.{bytes_fit}
 use Rattle.sg_bucket.proofs.pick.outline_of.Goals as goal
@@ -13,6 +13,12 @@ returns-clause-read g c = λ shows. record {
     fits = bytes_fit c.in_ok-view.view.page.now c.in_ok-view.view.slotted;
   };
 }
+
+pub returns-clause-most : goal.returns-clause-most
+returns-clause-most g c =
+    let fit = bytes_fit c.in_ok-view.view.page.now c.in_ok-view.view.slotted in
+    let slots = c.slots-slots.ensures in
+    omega arith
 
 pub returns-then-kind-ne-BUCKET_KIND-clause-later : goal.returns-then-kind-ne-BUCKET_KIND-clause-later
 returns-then-kind-ne-BUCKET_KIND-clause-later g c = λ t. g.met.P.PageSpace.later_then t _ _ _ (c.page.follows.holds-at-none.later t) (c.broken.ensures.later t)

@@ -1,5 +1,5 @@
-use Rattle.std.proofs.Common.{◌∙◌, refl, arith}
-use Rattle.sg_bucket.proofs.Stripping.{prune_page_there, prune_ready, prunes_none, prunes_on, pruned, still_pruning}
+use Rattle.std.proofs.Common.{◌≤◌, ◌<◌, length, ◌∙◌, refl, arith}
+use Rattle.sg_bucket.proofs.Stripping.{prune_page_there, prune_ready, prunes_none, prunes_on, pruned, pruning_within, still_pruning}
 use Rattle.sg_bucket.proofs.pruning.prune.Goals as goal
 
 pub loop-passed-init : goal.loop-passed-init
@@ -9,6 +9,7 @@ loop-passed-init g c =
       later = g.met.P.PageSpace.later_same _ _;
       means = c.requires.means;
       quiet = refl;
+      few = omega arith;
     }
 
 pub next_of-requires : goal.next_of-requires
@@ -32,6 +33,7 @@ loop-passed-preserved g c =
       later = let then = g.met.P.PageSpace.later_then _ in then _ _ _ c.loop-passed.invariant.later (then _ _ _ (c.next_of.ensures.later _) c.prune_page.ensures.later);
       means = c.prune_page.ensures.means;
       quiet = c.in_ok-before.ensures.counts.quiet ∙ c.in_ok-next.ensures.counts.quiet ∙ c.loop-passed.invariant.quiet;
+      few = let before = c.loop-passed.invariant.few in let next = c.next_of.ensures.writes.records in let page = c.prune_page.ensures.few in omega arith;
     }
 
 pub broken-requires : goal.broken-requires
@@ -42,3 +44,33 @@ broken-requires g c = λ told.
     let end = c.loop-passed-test.false in
     let count = c.pages-passed-end.ensures in
     absurd (omega arith)
+
+pub returns-in_err-next-clause-few_told : goal.returns-in_err-next-clause-few_told
+returns-in_err-next-clause-few_told g c = λ told b h sound.
+    let within = pruning_within c.loop-passed.invariant.so_far told b h sound in
+    let before = c.loop-passed.invariant.few in
+    let next = c.next_of.ensures.writes.records in
+    omega arith
+
+pub returns-in_err-before-clause-few_told : goal.returns-in_err-before-clause-few_told
+returns-in_err-before-clause-few_told g c = λ told b h sound.
+    let within = pruning_within c.loop-passed.invariant.so_far told b h sound in
+    let before = c.loop-passed.invariant.few in
+    let next = c.next_of.ensures.writes.records in
+    let page = c.prune_page.ensures.few in
+    omega arith
+
+pub returns-then-next-eq0-clause-few_told : goal.returns-then-next-eq0-clause-few_told
+returns-then-next-eq0-clause-few_told g c = λ told b h sound.
+    let within = pruning_within c.loop-passed.invariant.so_far told b h sound in
+    let before = c.loop-passed.invariant.few in
+    let next = c.next_of.ensures.writes.records in
+    let page = c.prune_page.ensures.few in
+    omega arith
+
+pub returns-clause-few_told : goal.returns-clause-few_told
+returns-clause-few_told g c = λ told b h sound.
+    let within = pruning_within c.loop-passed.invariant.so_far told b h sound in
+    let before = c.loop-passed.invariant.few in
+    let broken = c.broken.ensures.writes_none in
+    omega arith

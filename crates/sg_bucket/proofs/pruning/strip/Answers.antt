@@ -13,6 +13,7 @@ loop-slot-init g c =
       later = c.outline_of.ensures.later _;
       means = c.outline_of.ensures.means _ c.requires.means;
       quiet = c.in_ok-seen.ensures.counts.quiet;
+      few = let seen = c.outline_of.ensures.writes.records in omega arith;
     }
 
 pub is_picked-requires : goal.is_picked-requires
@@ -33,6 +34,7 @@ loop-slot-preserved-then-not-picked g c =
       later = g.met.P.PageSpace.later_then _ _ _ _ c.loop-slot.invariant.later (c.is_picked.ensures.later _);
       means = c.is_picked.ensures.means _ c.loop-slot.invariant.means;
       quiet = c.in_ok-picked.ensures.counts.quiet ∙ c.loop-slot.invariant.quiet;
+      few = let before = c.loop-slot.invariant.few in let picked = c.is_picked.ensures.writes.records in omega arith;
     }
 
 pub loop-slot-preserved : goal.loop-slot-preserved
@@ -45,6 +47,7 @@ loop-slot-preserved g c =
       later = let then = g.met.P.PageSpace.later_then _ in then _ _ _ c.loop-slot.invariant.later (then _ _ _ (c.is_picked.ensures.later _) c.remove_at.ensures.later);
       means = c.remove_at.ensures.means;
       quiet = c.in_ok-remove_at.ensures.counts.quiet ∙ c.in_ok-picked.ensures.counts.quiet ∙ c.loop-slot.invariant.quiet;
+      few = let before = c.loop-slot.invariant.few in let picked = c.is_picked.ensures.writes.records in let one = c.remove_at.ensures.few in omega arith;
     }
 
 pub returns-clause-did : goal.returns-clause-did

@@ -14,6 +14,7 @@ loop-passed-init g c =
       later = λ t. g.met.P.PageSpace.later_same t _;
       means = λ t m. m;
       quiet = refl;
+      records = refl;
     }
 
 pub next_of-requires : goal.next_of-requires
@@ -49,6 +50,7 @@ loop-passed-preserved g c =
       later = λ t. g.met.P.PageSpace.later_then t _ _ _ (c.loop-passed.invariant.later t) (c.next_of.ensures.later t);
       means = λ t m. c.next_of.ensures.means t (c.loop-passed.invariant.means t m);
       quiet = c.in_ok-next.ensures.counts.quiet ∙ c.loop-passed.invariant.quiet;
+      records = c.next_of.ensures.writes.records ∙ c.loop-passed.invariant.records;
     }
 
 pub broken-requires : goal.broken-requires

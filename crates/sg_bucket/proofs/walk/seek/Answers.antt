@@ -11,6 +11,7 @@ loop-passed-init g c =
       later = λ t. g.met.P.PageSpace.later_same t _;
       means = λ t m. m;
       quiet = refl;
+      records = refl;
     }
 
 pub look_for-requires : goal.look_for-requires
@@ -46,6 +47,7 @@ loop-passed-preserved g c =
       later = λ t. g.met.P.PageSpace.later_then t _ _ _ (c.loop-passed.invariant.later t) (c.look_for.ensures.later t);
       means = λ t m. c.look_for.ensures.means t (c.loop-passed.invariant.means t m);
       quiet = c.in_ok-slot.ensures.counts.quiet ∙ c.loop-passed.invariant.quiet;
+      records = c.look_for.ensures.writes.records ∙ c.loop-passed.invariant.records;
     }
 
 pub broken-requires : goal.broken-requires

@@ -1,4 +1,4 @@
-use Rattle.std.proofs.Common.{◌≡◌, ℕ, ◌+◌, max, length, refl, ap, sym, ◌∙◌, subst, arith}
+use Rattle.std.proofs.Common.{ℕ, ◌+◌, max, length, refl, sym, ◌∙◌, subst, arith}
 use Rattle.sg_space.proofs.Known.{keeps_then, reads_then}
 use Rattle.sg_catalog.specs.Catalog.{rows}
 use Rattle.sg_catalog.specs.Steps.{RawTurns}

@@ -1,8 +1,7 @@
-use Rattle.std.proofs.Common.{◌≡◌, refl}
+use Rattle.std.proofs.Common.{refl}
 use Rattle.sg_space.proofs.Known.{keeps_then}
 use Rattle.sg_catalog.specs.Calls.{tomb_by}
 use Rattle.sg_catalog.specs.Catalog.{is_there}
-use Rattle.sg_catalog.specs.Steps.{with_place}
 use Rattle.sg_catalog.proofs.Maps.{buried_is}
 use Rattle.sg_catalog.proofs.Parts.{still_catalog}
 use Rattle.sg_catalog.proofs.Rows.{nothing_found, row_found, not_nothing, found_some, row_of_there, buried_turns, in_place}

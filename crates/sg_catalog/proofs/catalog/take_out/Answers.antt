@@ -1,4 +1,4 @@
-use Rattle.std.proofs.Common.{◌≡◌, Some, refl, sym, ap, ◌∙◌}
+use Rattle.std.proofs.Common.{Some, refl, sym, ap, ◌∙◌}
 use Rattle.sg_catalog.specs.Look.{fits}
 use Rattle.sg_catalog.proofs.Parts.{still_catalog}
 use Rattle.sg_catalog.proofs.Rows.{nothing_found, row_found, not_nothing, found_some, row_there, less_turns, one_less}

@@ -1,12 +1,11 @@
-use Rattle.std.proofs.Common.{◌≡◌, true, false, refl, sym, ap, ◌∙◌, List, ℕ, subst, Option, None}
+use Rattle.std.proofs.Common.{refl, sym, ap, ◌∙◌, List, ℕ}
 use Rattle.std.specs.List.{find}
 use Rattle.sg_space.proofs.Known.{keeps_then, reads_then}
 use Rattle.sg_catalog.specs.Calls.{raised}
 use Rattle.sg_catalog.specs.Catalog.{is_there, is_tomb_of, rows}
-use Rattle.sg_catalog.specs.declared.row.Row.{Row}
 use Rattle.sg_catalog.proofs.Maps.{raised_is}
 use Rattle.sg_catalog.proofs.Parts.{still_catalog}
-use Rattle.sg_catalog.proofs.Rows.{nothing_found, row_found, not_nothing, found_some, row_of_there, raised_turns, in_place, tomb_named, none_if}
+use Rattle.sg_catalog.proofs.Rows.{row_found, found_some, row_of_there, raised_turns, in_place, tomb_named, none_if}
 use Rattle.sg_catalog.proofs.Turned.{after_reads}
 use Rattle.sg_catalog.proofs.catalog.unbury.Goals as goal
 

@@ -1,4 +1,4 @@
-use Rattle.std.proofs.Common.{◌≡◌, ℕ, ◌<◌, ◌≤◌, max, arith, subst, sym, ap, ◌∙◌}
+use Rattle.std.proofs.Common.{◌≡◌, ℕ, max, arith, subst, sym, ap, ◌∙◌}
 use Rattle.sg_catalog.specs.Catalog.{Catalog}
 use Rattle.sg_catalog.specs.Steps.{RawTurns}
 use Rattle.sg_space.proofs.Known.{keeps_same}

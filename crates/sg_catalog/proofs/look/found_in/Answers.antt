@@ -1,7 +1,6 @@
-use Rattle.std.proofs.Common.{◌≡◌, ◌≤◌, ◌<◌, List, ℕ, Option, length, arith, ap, sym, refl, ◌∙◌}
+use Rattle.std.proofs.Common.{List, ℕ, Option, arith, ap, sym, refl, ◌∙◌}
 use Rattle.sg_base.specs.Page.{slots_of}
 use Rattle.sg_catalog.specs.Look.{fits, row_in}
-use Rattle.sg_catalog.specs.Row.{row_of}
 use Rattle.sg_catalog.proofs.Pages.{none_empty, none_other, first_here}
 use Rattle.sg_catalog.proofs.look.found_in.Goals as goal
 

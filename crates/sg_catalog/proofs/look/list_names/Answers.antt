@@ -1,4 +1,4 @@
-use Rattle.std.proofs.Common.{◌≡◌, ◌≤◌, ◌<◌, List, ℕ, Option, length, not, arith, ap, sym, ◌∙◌}
+use Rattle.std.proofs.Common.{List, ℕ, Option, not, arith, ap, sym, ◌∙◌}
 use Rattle.sg_base.specs.Page.{slots_of}
 use Rattle.sg_catalog.specs.Look.{row_in}
 use Rattle.sg_catalog.proofs.Pages.{names_empty, names_tomb, names_object}

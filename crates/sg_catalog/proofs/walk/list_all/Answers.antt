@@ -1,4 +1,4 @@
-use Rattle.std.proofs.Common.{◌∙◌, ◌<◌, ◌≤◌, arith}
+use Rattle.std.proofs.Common.{◌∙◌, arith}
 use Rattle.sg_catalog.proofs.Parts.{still_raw}
 use Rattle.sg_catalog.proofs.Walks.{next_owned, names_more, walks_on}
 use Rattle.sg_catalog.proofs.walk.list_all.Goals as goal
@@ -23,6 +23,7 @@ pages-preserved g c =
       later = λ t. g.met.P.PageSpace.later_then t _ _ _ (c.pages.invariant.later t) (c.gather-in-pages.ensures.later t);
       means = λ t m. c.gather-in-pages.ensures.means t (c.pages.invariant.means t m);
       quiet = c.in_ok-head.ensures.counts.quiet ∙ c.pages.invariant.quiet;
+      records = c.gather-in-pages.ensures.writes.records ∙ c.pages.invariant.records;
     }
 
 pub returns-in_err-head-clause-later : goal.returns-in_err-head-clause-later

@@ -1,4 +1,4 @@
-use Rattle.std.proofs.Common.{◌≡◌, ℕ, ◌+◌, ◌-◌, ◌/◌, ◌≤◌, subst, arith}
+use Rattle.std.proofs.Common.{ℕ, ◌+◌, ◌-◌, ◌/◌, ◌≤◌, subst, arith}
 use Rattle.sg_catalog.proofs.Walks.{few_pages}
 use Rattle.sg_catalog.proofs.walk.pages_wanted.Goals as goal
 

@@ -1,4 +1,4 @@
-use Rattle.std.proofs.Common.{◌≡◌, ◌+◌, ◌<◌, ◌≤◌, arith, refl, sym, ◌∙◌}
+use Rattle.std.proofs.Common.{◌≡◌, arith, refl, sym, ◌∙◌}
 use Rattle.std.proofs.lemmas.Bool.Decides.{nat_tests}
 use Rattle.sg_catalog.specs.Look.{fits}
 use Rattle.sg_catalog.proofs.Parts.{still_raw}
@@ -52,6 +52,7 @@ pages-preserved g c =
       later = λ t. g.met.P.PageSpace.later_then t _ _ _ (c.pages.invariant.later t) (c.look-in-pages.ensures.later t);
       means = λ t m. c.look-in-pages.ensures.means t (c.pages.invariant.means t m);
       quiet = c.in_ok-seen.ensures.counts.quiet ∙ c.pages.invariant.quiet;
+      records = c.look-in-pages.ensures.writes.records ∙ c.pages.invariant.records;
     }
 
 pub returns-then-is_some-2-clause-later : goal.returns-then-is_some-2-clause-later

@@ -1,8 +1,8 @@
-use Rattle.std.proofs.Common.{◌∙◌, ◌≡◌, ℕ, ◌+◌, ◌*◌, ◌<◌, ◌≤◌, arith, refl}
+use Rattle.std.proofs.Common.{◌∙◌, ◌≡◌, arith, refl}
 use Rattle.std.proofs.lemmas.Bool.Decides.{nat_tests}
 use Rattle.sg_space.proofs.Known.{reads_then}
 use Rattle.sg_catalog.proofs.Parts.{still_raw}
-use Rattle.sg_catalog.proofs.Walks.{next_some, next_at, next_owned, walks_start, walks_on, measures_before, surveyed_none, surveyed_more}
+use Rattle.sg_catalog.proofs.Walks.{next_some, next_owned, walks_start, walks_on, measures_before, surveyed_none, surveyed_more}
 use Rattle.sg_catalog.proofs.walk.survey_pages.Goals as goal
 
 pub pages-init : goal.pages-init
@@ -23,6 +23,7 @@ pages-init g c =
       later = λ t. g.met.P.PageSpace.later_then t _ _ _ (c.measure.ensures.later t) (c.pages_wanted.ensures.later t);
       means = λ t m. c.pages_wanted.ensures.means t (c.measure.ensures.means t m);
       quiet = c.in_ok-pages.ensures.counts.quiet ∙ c.in_ok-first.ensures.counts.quiet;
+      records = c.pages_wanted.ensures.writes.records ∙ c.measure.ensures.writes.records;
     }
 
 pub broken-requires : goal.broken-requires
@@ -61,6 +62,7 @@ pages-preserved g c =
       later = λ t. g.met.P.PageSpace.later_then t _ _ _ (c.pages.invariant.later t) (c.measure-in-pages.ensures.later t);
       means = λ t m. c.measure-in-pages.ensures.means t (c.pages.invariant.means t m);
       quiet = c.in_ok-found.ensures.counts.quiet ∙ c.pages.invariant.quiet;
+      records = c.measure-in-pages.ensures.writes.records ∙ c.pages.invariant.records;
     }
 
 pub returns-in_err-found-clause-later : goal.returns-in_err-found-clause-later

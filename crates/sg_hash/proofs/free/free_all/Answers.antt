@@ -1,13 +1,26 @@
-use Rattle.std.proofs.Common.{◌≡◌, ◌+◌, ℕ, length, IsSome, refl, sym, ap, subst, arith, ◌∙◌, inl, inr}
+use Rattle.std.proofs.Common.{◌≡◌, ◌+◌, ◌≤◌, ◌<◌, ℕ, length, IsSome, refl, sym, ap, subst, arith, ◌∙◌, inl, inr}
 use Rattle.sg_space.proofs.Known.{reads_then, still}
 use Rattle.sg_space.specs.View.{Space}
 use Rattle.sg_hash.specs.Table.{Numbers}
+use Rattle.sg_hash.proofs.Entries.{few_buckets}
 use Rattle.sg_hash.proofs.Freeing.{all_buckets, array_left, gone_calls, root_left}
 use Rattle.sg_hash.proofs.Trunks.{still_table, still_trunk}
 use Rattle.sg_hash.proofs.free.free_all.Goals as goal
 
 pub read_root-requires : goal.read_root-requires
 read_root-requires g c = λ told. let h = c.requires told in (_, h.0, h.1.built.trunk, tt)
+
+pub broken-requires : goal.broken-requires
+broken-requires g c = λ told.
+    let back = c.read_root.ensures.counts.told told in
+    let shows = g.met.P.PageSpace.told_shows _ back in
+    let h = c.requires back in
+    let now = still_table c.in_ok-found.ensures.kept shows h.1 in
+    let many = all_buckets c.in_ok-found.found h.1 (c.in_ok-found.ensures.read shows _ h.0 h.1.built.trunk) c.buckets-count.ensures in
+    let few = few_buckets h.0 (g.met.P.PageSpace.pages_exact _ told) now.built in
+    let there = c.pages.ensures in
+    let test = c.if-count-pages.true in
+    omega arith
 
 pub directory_of-requires : goal.directory_of-requires
 directory_of-requires g c = λ told.
@@ -24,7 +37,7 @@ free_buckets-requires g c = λ told.
     let h = c.requires back in
     let both = reads_then c.in_ok-found.ensures.kept c.in_ok-directory.ensures.kept in
     let same = c.in_ok-found.ensures.read shows _ h.0 h.1.built.trunk in
-    (h.0, still_table both shows h.1, all_buckets c.in_ok-found.found h.1 same c.buckets.ensures)
+    (h.0, still_table both shows h.1, all_buckets c.in_ok-found.found h.1 same c.buckets-count.ensures)
 
 pub free_all-requires : goal.free_all-requires
 free_all-requires g c = λ told.
@@ -64,7 +77,7 @@ returns-clause-did g c =
     let three = c.in_ok-free_page.ensures.did in
     gone_calls (λ t. g.met.P.PageSpace.told_shows _ t) both one two three
     (λ shows t h. c.in_ok-directory.ensures.read (kept.shows shows) _ t (still_trunk kept shows h.built.trunk))
-    (λ shows t h. all_buckets c.in_ok-found.found h (c.in_ok-found.ensures.read shows _ t h.built.trunk) c.buckets.ensures)
+    (λ shows t h. all_buckets c.in_ok-found.found h (c.in_ok-found.ensures.read shows _ t h.built.trunk) c.buckets-count.ensures)
 
 pub returns-in_err-free_all-clause-later : goal.returns-in_err-free_all-clause-later
 returns-in_err-free_all-clause-later g c = λ t.
@@ -80,3 +93,51 @@ pub returns-clause-later : goal.returns-clause-later
 returns-clause-later g c = λ t.
     let then = g.met.P.PageSpace.later_then t in
     then _ _ _ (c.read_root.ensures.later t) (then _ _ _ (c.directory_of.ensures.later t) (then _ _ _ (c.free_buckets.ensures.later t) (then _ _ _ (c.free_all.ensures.later t) (c.free_page.ensures.later t))))
+
+pub returns-in_err-free_buckets-clause-few : goal.returns-in_err-free_buckets-clause-few
+returns-in_err-free_buckets-clause-few g c = λ told.
+    let shows = g.met.P.PageSpace.told_shows _ told in
+    let both = reads_then c.in_ok-found.ensures.kept c.in_ok-directory.ensures.kept in
+    let same = ap (λ (s : Space). s.pages.count) (both.same shows) in
+    let root = c.read_root.ensures.writes.records in
+    let names = c.directory_of.ensures.writes.records in
+    let buckets = c.free_buckets.ensures.few (both.keeps.told told) in
+    omega arith
+
+pub returns-in_err-free_all-clause-few : goal.returns-in_err-free_all-clause-few
+returns-in_err-free_all-clause-few g c = λ told.
+    let shows = g.met.P.PageSpace.told_shows _ told in
+    let both = reads_then c.in_ok-found.ensures.kept c.in_ok-directory.ensures.kept in
+    let same = ap (λ (s : Space). s.pages.count) (both.same shows) in
+    let root = c.read_root.ensures.writes.records in
+    let names = c.directory_of.ensures.writes.records in
+    let buckets = c.free_buckets.ensures.few (both.keeps.told told) in
+    let directory = c.free_all.ensures.few in
+    omega arith
+
+pub returns-in_err-free_page-clause-few : goal.returns-in_err-free_page-clause-few
+returns-in_err-free_page-clause-few g c = λ told.
+    let shows = g.met.P.PageSpace.told_shows _ told in
+    let both = reads_then c.in_ok-found.ensures.kept c.in_ok-directory.ensures.kept in
+    let same = ap (λ (s : Space). s.pages.count) (both.same shows) in
+    let root = c.read_root.ensures.writes.records in
+    let names = c.directory_of.ensures.writes.records in
+    let buckets = c.free_buckets.ensures.few (both.keeps.told told) in
+    let directory = c.free_all.ensures.few in
+    let last = c.free_page.ensures.few in
+    omega arith
+
+pub returns-clause-few : goal.returns-clause-few
+returns-clause-few g c = λ told.
+    let shows = g.met.P.PageSpace.told_shows _ told in
+    let both = reads_then c.in_ok-found.ensures.kept c.in_ok-directory.ensures.kept in
+    let same = ap (λ (s : Space). s.pages.count) (both.same shows) in
+    let root = c.read_root.ensures.writes.records in
+    let names = c.directory_of.ensures.writes.records in
+    let buckets = c.free_buckets.ensures.few (both.keeps.told told) in
+    let directory = c.free_all.ensures.few in
+    let last = c.free_page.ensures.few in
+    omega arith
+
+pub returns-then-count-pages-clause-later : goal.returns-then-count-pages-clause-later
+returns-then-count-pages-clause-later g c = λ t. g.met.P.PageSpace.later_then t _ _ _ (c.read_root.ensures.later t) (c.broken.ensures.later t)

@@ -2,6 +2,7 @@ use Rattle.std.proofs.Common.{◌≡◌, ◌≤◌, ◌<◌, ◌++◌, ℕ, List
 use Rattle.sg_bucket.specs.Bucket.{entries_of}
 use Rattle.sg_bucket.specs.Division.{keys_of}
 use Rattle.sg_hash.proofs.Changing.{found_bucket}
+use Rattle.sg_hash.proofs.Entries.{few_buckets}
 use Rattle.sg_hash.proofs.Freeing.{all_buckets}
 use Rattle.sg_hash.proofs.Listing.{lists_start, lists_on, lists_all}
 use Rattle.sg_hash.proofs.Trunks.{still_table}
@@ -11,6 +12,18 @@ use Rattle.sg_hash.proofs.list.list_keys.Goals as goal
 pub read_root-requires : goal.read_root-requires
 read_root-requires g c = λ told. let h = c.requires told in (_, h.0, h.1.built.trunk, tt)
 
+pub broken-requires : goal.broken-requires
+broken-requires g c = λ told.
+    let back = c.read_root.ensures.counts.told told in
+    let shows = g.met.P.PageSpace.told_shows _ back in
+    let h = c.requires back in
+    let now = still_table c.in_ok-found.ensures.kept shows h.1 in
+    let many = all_buckets c.in_ok-found.found h.1 (c.in_ok-found.ensures.read shows _ h.0 h.1.built.trunk) c.buckets-count.ensures in
+    let few = few_buckets h.0 (g.met.P.PageSpace.pages_exact _ told) now.built in
+    let there = c.pages.ensures in
+    let test = c.if-count-pages.true in
+    omega arith
+
 pub loop-i-init : goal.loop-i-init
 loop-i-init g c =
     record {
@@ -18,6 +31,7 @@ loop-i-init g c =
       later = λ t. c.read_root.ensures.later t;
       means = λ t m. c.read_root.ensures.means t m;
       quiet = c.in_ok-found.ensures.counts.quiet;
+      records = c.read_root.ensures.writes.records;
     }
 
 pub bucket_at-requires : goal.bucket_at-requires
@@ -61,6 +75,7 @@ loop-i-preserved g c =
       later = λ t. let then = g.met.P.PageSpace.later_then t in then _ _ _ (c.loop-i.invariant.later t) (then _ _ _ (c.bucket_at.ensures.later t) (c.keys.ensures.later t));
       means = λ t m. c.keys.ensures.means t (c.bucket_at.ensures.means t (c.loop-i.invariant.means t m));
       quiet = c.in_ok-keys.ensures.counts.quiet ∙ c.in_ok-first.ensures.counts.quiet ∙ c.loop-i.invariant.quiet;
+      records = c.keys.ensures.writes.records ∙ c.bucket_at.ensures.writes.records ∙ c.loop-i.invariant.records;
     }
 
 pub returns-clause-read : goal.returns-clause-read
@@ -77,3 +92,6 @@ pub returns-in_err-keys-clause-later : goal.returns-in_err-keys-clause-later
 returns-in_err-keys-clause-later g c = λ t.
     let then = g.met.P.PageSpace.later_then t in
     then _ _ _ (c.loop-i.invariant.later t) (then _ _ _ (c.bucket_at.ensures.later t) (c.keys.ensures.later t))
+
+pub returns-then-count-pages-clause-later : goal.returns-then-count-pages-clause-later
+returns-then-count-pages-clause-later g c = λ t. g.met.P.PageSpace.later_then t _ _ _ (c.read_root.ensures.later t) (c.broken.ensures.later t)

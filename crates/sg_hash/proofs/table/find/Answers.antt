@@ -35,3 +35,8 @@ returns-clause-read g c = λ shows t h.
     let first = c.in_ok-first.ensures.read (kept.shows shows) t table (c.in_ok-found.ensures.read shows _ t h.built.trunk) in
     let both = c.in_ok-first.ensures.kept in
     own_value c.args.key.now h first ∙ c.in_ok-value.ensures.read (both.shows (kept.shows shows)) first.bucket (found_bucket (still_table both (kept.shows shows) table) first)
+
+pub returns-clause-later : goal.returns-clause-later
+returns-clause-later g c = λ t.
+    let then = g.met.P.PageSpace.later_then t in
+    then _ _ _ (c.read_root.ensures.later t) (then _ _ _ (c.bucket_of.ensures.later t) (c.find.ensures.later t))
