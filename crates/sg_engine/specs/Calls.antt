@@ -1,9 +1,10 @@
 -- WHAT A CALL OF THE ENGINE KEEPS: of the disk, the log and the pool before it, v, log and pool, and after it, w, log' and pool'.
-use Rattle.std.specs.Prelude.{◌≡◌, ◌++◌, ◌∷◌, ℕ, Bool, IsTrue, List, [], Result, Err, OnOk}
+use Rattle.std.specs.Prelude.{◌≡◌, ◌≤◌, ◌++◌, ◌∷◌, ℕ, Bool, IsTrue, List, [], Result, Err, OnOk}
 use Rattle.sg_base.specs.Ends.{HasRisen}
 use Rattle.sg_disk.specs.Disk.{View, LeavesOnly}
 use Rattle.sg_log.specs.Frames.{Numbered}
 use Rattle.sg_log.specs.Held.{Tail}
+use Rattle.sg_pool.specs.Counts.{HasGrown}
 use Rattle.sg_pool.specs.declared.pool.Pool.{Pool}
 use Rattle.sg_engine.specs.declared.fault.EngineFault.{EngineFault}
 use Rattle.sg_engine.specs.declared.fault.EngineFault.TheVariants.{Disk}
@@ -38,3 +39,9 @@ GoesOnWith told v log pool w log' pool' x May result = (o : Origin) (ds ps : Lis
 -- and each image of each moment stands with it or without it
 abbrev pub StandsWith : Bool → View → Tail → Pool → View → Numbered → (May : Origin → List Numbered → Type 0) → Type 0
 StandsWith told v log pool w x May = (o : Origin) (ds ps : List Numbered) (k : ℕ) → IsTrue told → IsEngine o v log ds ps pool → IsAllowed o v log pool k → May o (ds ++ ps) → LeavesOnly v w (IsStanding o ds ((ds ++ ps) ++ x ∷ []) k)
+
+-- WHAT IT HANDS TO THE DISK: the bytes handed over never fall, and the log's durable part grows by no more than these, as far as they are
+-- counted
+pub record Hands (v : View) (log : Tail) (w : View) (log' : Tail) : Type 0 where
+  pub rising : v.handed ≤ w.handed
+  pub grown : HasGrown log log' v w

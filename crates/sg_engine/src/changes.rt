@@ -12,7 +12,7 @@ ghost use Rattle.sg_redo.specs.Places.{changed_by};
 ghost use Rattle.sg_pool.specs.Pooled.{sizes, contents};
 ghost use Rattle.sg_engine.specs.Effects.{logged, taken_off, IsBy, FitsPage};
 ghost use Rattle.sg_engine.specs.Faults.{is_disk};
-ghost use Rattle.sg_engine.specs.Calls.{FailsByDisk, KeepsAllowed, GoesOnWith, StandsWith};
+ghost use Rattle.sg_engine.specs.Calls.{FailsByDisk, KeepsAllowed, GoesOnWith, StandsWith, Hands};
 
 use crate::{Engine, EngineFault};
 use sg_base::{Lsn, TxnId};
@@ -44,6 +44,7 @@ impl<D: Disk> Engine<D> {
         ensures allowed { KeepsAllowed D.told (D.view self.old.disk) self.old.log self.old.pool (D.view self.new.disk) self.new.log self.new.pool result }
         ensures moments { StandsWith D.told (D.view self.old.disk) self.old.log self.old.pool (D.view self.new.disk) (numbered self.old.log (shown r.now)) (λ o ns. IsBy (table_of record_meaning range_meaning ops.now) o × FitsPage (table_of record_meaning range_meaning ops.now) (place_of self.old.log (shown r.now)) (shown_page change.now) ((contents (D.view self.old.disk) self.old.pool).page change.now.page.0)) }
         ensures later { (D.view self.old.disk).faults ≤ (D.view self.new.disk).faults }
+        ensures grown { Hands (D.view self.old.disk) self.old.log (D.view self.new.disk) self.new.log }
     {
         let op = page_op(change);
         self.change_page(r, change.page, &op, ops)
@@ -66,6 +67,7 @@ impl<D: Disk> Engine<D> {
         ensures allowed { KeepsAllowed D.told (D.view self.old.disk) self.old.log self.old.pool (D.view self.new.disk) self.new.log self.new.pool result }
         ensures moments { StandsWith D.told (D.view self.old.disk) self.old.log self.old.pool (D.view self.new.disk) (numbered self.old.log (shown r.now)) (λ o ns. (t : Table) × IsBy t o) }
         ensures later { (D.view self.old.disk).faults ≤ (D.view self.new.disk).faults }
+        ensures grown { Hands (D.view self.old.disk) self.old.log (D.view self.new.disk) self.new.log }
     {
         self.change_band(r, change.band, change.at, change.after)
     }
@@ -88,6 +90,7 @@ impl<D: Disk> Engine<D> {
         ensures allowed { KeepsAllowed D.told (D.view self.old.disk) self.old.log self.old.pool (D.view self.new.disk) self.new.log self.new.pool result }
         ensures moments { StandsWith D.told (D.view self.old.disk) self.old.log self.old.pool (D.view self.new.disk) (numbered self.old.log (shown r.now)) (λ o ns. IsBy (table_of record_meaning range_meaning ops.now) o) }
         ensures later { (D.view self.old.disk).faults ≤ (D.view self.new.disk).faults }
+        ensures grown { Hands (D.view self.old.disk) self.old.log (D.view self.new.disk) self.new.log }
     {
         let mut bytes = [0; 32_768];
         let part = &mut bytes[..change.count as usize];
@@ -120,6 +123,7 @@ impl<D: Disk> Engine<D> {
         ensures allowed { KeepsAllowed D.told (D.view self.old.disk) self.old.log self.old.pool (D.view self.new.disk) self.new.log self.new.pool result }
         ensures moments { StandsWith D.told (D.view self.old.disk) self.old.log self.old.pool (D.view self.new.disk) (numbered self.old.log (logged txn.0 prev (Page (shown_page change.entry)))) (λ o ns. IsBy (table_of record_meaning range_meaning ops.now) o × FitsPage (table_of record_meaning range_meaning ops.now) (place_of self.old.log (logged txn.0 prev (Page (shown_page change.entry)))) (shown_page change.entry) ((contents (D.view self.old.disk) self.old.pool).page change.entry.page.0)) }
         ensures later { (D.view self.old.disk).faults ≤ (D.view self.new.disk).faults }
+        ensures grown { Hands (D.view self.old.disk) self.old.log (D.view self.new.disk) self.new.log }
     {
         let rec = Rec::Page { txn, prev, change };
         self.do_page(&rec, &change, ops)
@@ -149,6 +153,7 @@ impl<D: Disk> Engine<D> {
         ensures allowed { KeepsAllowed D.told (D.view self.old.disk) self.old.log self.old.pool (D.view self.new.disk) self.new.log self.new.pool result }
         ensures moments { StandsWith D.told (D.view self.old.disk) self.old.log self.old.pool (D.view self.new.disk) (numbered self.old.log (logged txn.0 prev (SegWrite (shown_bytes change.entry)))) (λ o ns. (t : Table) × IsBy t o) }
         ensures later { (D.view self.old.disk).faults ≤ (D.view self.new.disk).faults }
+        ensures grown { Hands (D.view self.old.disk) self.old.log (D.view self.new.disk) self.new.log }
     {
         let rec = Rec::SegWrite { txn, prev, change };
         self.do_write(&rec, &change)
@@ -180,6 +185,7 @@ impl<D: Disk> Engine<D> {
         ensures allowed { KeepsAllowed D.told (D.view self.old.disk) self.old.log self.old.pool (D.view self.new.disk) self.new.log self.new.pool result }
         ensures moments { StandsWith D.told (D.view self.old.disk) self.old.log self.old.pool (D.view self.new.disk) (numbered self.old.log (logged txn.0 prev (SegOp (shown_op change.entry)))) (λ o ns. IsBy (table_of record_meaning range_meaning ops.now) o) }
         ensures later { (D.view self.old.disk).faults ≤ (D.view self.new.disk).faults }
+        ensures grown { Hands (D.view self.old.disk) self.old.log (D.view self.new.disk) self.new.log }
     {
         let rec = Rec::SegOp { txn, prev, change };
         self.do_op(&rec, &change, ops)
@@ -211,6 +217,7 @@ impl<D: Disk> Engine<D> {
         ensures allowed { KeepsAllowed D.told (D.view self.old.disk) self.old.log self.old.pool (D.view self.new.disk) self.new.log self.new.pool result }
         ensures moments { StandsWith D.told (D.view self.old.disk) self.old.log self.old.pool (D.view self.new.disk) (numbered self.old.log (taken_off txn.0 prev undo_next (Page (shown_page change.entry)))) (λ o ns. IsBy (table_of record_meaning range_meaning ops.now) o × FitsPage (table_of record_meaning range_meaning ops.now) (place_of self.old.log (taken_off txn.0 prev undo_next (Page (shown_page change.entry)))) (shown_page change.entry) ((contents (D.view self.old.disk) self.old.pool).page change.entry.page.0)) }
         ensures later { (D.view self.old.disk).faults ≤ (D.view self.new.disk).faults }
+        ensures grown { Hands (D.view self.old.disk) self.old.log (D.view self.new.disk) self.new.log }
     {
         let rec = Rec::PhysComp {
             txn,
@@ -246,6 +253,7 @@ impl<D: Disk> Engine<D> {
         ensures allowed { KeepsAllowed D.told (D.view self.old.disk) self.old.log self.old.pool (D.view self.new.disk) self.new.log self.new.pool result }
         ensures moments { StandsWith D.told (D.view self.old.disk) self.old.log self.old.pool (D.view self.new.disk) (numbered self.old.log (taken_off txn.0 prev undo_next (SegWrite (shown_bytes change.entry)))) (λ o ns. (t : Table) × IsBy t o) }
         ensures later { (D.view self.old.disk).faults ≤ (D.view self.new.disk).faults }
+        ensures grown { Hands (D.view self.old.disk) self.old.log (D.view self.new.disk) self.new.log }
     {
         let rec = Rec::PhysComp {
             txn,
@@ -283,6 +291,7 @@ impl<D: Disk> Engine<D> {
         ensures allowed { KeepsAllowed D.told (D.view self.old.disk) self.old.log self.old.pool (D.view self.new.disk) self.new.log self.new.pool result }
         ensures moments { StandsWith D.told (D.view self.old.disk) self.old.log self.old.pool (D.view self.new.disk) (numbered self.old.log (taken_off txn.0 prev undo_next (SegOp (shown_op change.entry)))) (λ o ns. IsBy (table_of record_meaning range_meaning ops.now) o) }
         ensures later { (D.view self.old.disk).faults ≤ (D.view self.new.disk).faults }
+        ensures grown { Hands (D.view self.old.disk) self.old.log (D.view self.new.disk) self.new.log }
     {
         let rec = Rec::PhysComp {
             txn,

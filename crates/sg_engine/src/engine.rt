@@ -11,7 +11,7 @@ ghost use Rattle.sg_ops.specs.Table.{table_of};
 ghost use Rattle.sg_pool.specs.Pooled.{sizes, IsUnwritten};
 ghost use Rattle.sg_engine.specs.Engine.{Origin};
 ghost use Rattle.sg_engine.specs.Running.{IsEngine, IsAllowed, DoesToPage, DoesToBand, DoesNothing};
-ghost use Rattle.sg_engine.specs.Calls.{FailsByDisk, MakesDurable, KeepsAllowed, StandsMeanwhile, GoesOnWith, StandsWith};
+ghost use Rattle.sg_engine.specs.Calls.{FailsByDisk, MakesDurable, KeepsAllowed, StandsMeanwhile, GoesOnWith, StandsWith, Hands};
 ghost use Rattle.sg_engine.specs.Faults.{is_disk};
 
 use crate::EngineFault;
@@ -74,6 +74,7 @@ impl<D: Disk> Engine<D> {
         ensures moments { StandsMeanwhile D.told (D.view self.old.disk) self.old.log self.old.pool (D.view self.new.disk) }
         ensures handed { (D.view self.new.disk).handed ≤ (D.view self.old.disk).handed + length self.old.log.buffer + 6 }
         ensures later { (D.view self.old.disk).faults ≤ (D.view self.new.disk).faults }
+        ensures grown { Hands (D.view self.old.disk) self.old.log (D.view self.new.disk) self.new.log }
     {
         match self.log.append(&mut self.disk, r) {
             Ok(lsn) => Ok(lsn),
@@ -93,6 +94,7 @@ impl<D: Disk> Engine<D> {
         ensures moments { StandsMeanwhile D.told (D.view self.old.disk) self.old.log self.old.pool (D.view self.new.disk) }
         ensures handed { (D.view self.new.disk).handed ≤ (D.view self.old.disk).handed + length self.old.log.buffer + 6 }
         ensures later { (D.view self.old.disk).faults ≤ (D.view self.new.disk).faults }
+        ensures grown { Hands (D.view self.old.disk) self.old.log (D.view self.new.disk) self.new.log }
     {
         match self.log.force(&mut self.disk) {
             Ok(()) => Ok(()),
@@ -125,6 +127,7 @@ impl<D: Disk> Engine<D> {
         ensures allowed { KeepsAllowed D.told (D.view self.old.disk) self.old.log self.old.pool (D.view self.new.disk) self.new.log self.new.pool result }
         ensures moments { StandsWith D.told (D.view self.old.disk) self.old.log self.old.pool (D.view self.new.disk) (numbered self.old.log (shown r.now)) (λ o ns. DoesToPage o (table_of record_meaning range_meaning ops.now) ns (numbered self.old.log (shown r.now)) p.0 (op_of op.now)) }
         ensures later { (D.view self.old.disk).faults ≤ (D.view self.new.disk).faults }
+        ensures grown { Hands (D.view self.old.disk) self.old.log (D.view self.new.disk) self.new.log }
     {
         let lsn = match self.log.append(&mut self.disk, r) {
             Ok(lsn) => lsn,
@@ -165,6 +168,7 @@ impl<D: Disk> Engine<D> {
         ensures allowed { KeepsAllowed D.told (D.view self.old.disk) self.old.log self.old.pool (D.view self.new.disk) self.new.log self.new.pool result }
         ensures moments { StandsWith D.told (D.view self.old.disk) self.old.log self.old.pool (D.view self.new.disk) (numbered self.old.log (shown r.now)) (λ o ns. DoesToBand o ns (numbered self.old.log (shown r.now)) b.0 at bytes.now) }
         ensures later { (D.view self.old.disk).faults ≤ (D.view self.new.disk).faults }
+        ensures grown { Hands (D.view self.old.disk) self.old.log (D.view self.new.disk) self.new.log }
     {
         let lsn = match self.log.append(&mut self.disk, r) {
             Ok(lsn) => lsn,
@@ -192,6 +196,7 @@ impl<D: Disk> Engine<D> {
         ensures allowed { KeepsAllowed D.told (D.view self.old.disk) self.old.log self.old.pool (D.view self.new.disk) self.new.log self.new.pool result }
         ensures moments { StandsMeanwhile D.told (D.view self.old.disk) self.old.log self.old.pool (D.view self.new.disk) }
         ensures later { (D.view self.old.disk).faults ≤ (D.view self.new.disk).faults }
+        ensures grown { Hands (D.view self.old.disk) self.old.log (D.view self.new.disk) self.new.log }
     {
         match self.pool.flush(&mut self.disk, &mut self.log) {
             Ok(()) => Ok(()),

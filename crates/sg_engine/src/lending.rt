@@ -12,7 +12,7 @@ ghost use Rattle.sg_engine.specs.History.{made};
 ghost use Rattle.sg_engine.specs.Engine.{Origin, entries};
 ghost use Rattle.sg_engine.specs.Running.{IsEngine};
 ghost use Rattle.sg_engine.specs.Faults.{is_disk};
-ghost use Rattle.sg_engine.specs.Calls.{FailsByDisk, GoesOn, KeepsAllowed, StandsMeanwhile};
+ghost use Rattle.sg_engine.specs.Calls.{FailsByDisk, GoesOn, KeepsAllowed, StandsMeanwhile, Hands};
 
 use crate::{Engine, EngineFault};
 use sg_base::{BandNo, PageNo};
@@ -32,6 +32,7 @@ impl<D: Disk> Engine<D> {
         ensures allowed { KeepsAllowed D.told (D.view self.old.disk) self.old.log self.old.pool (D.view self.new.disk) self.new.log self.new.pool result }
         ensures moments { StandsMeanwhile D.told (D.view self.old.disk) self.old.log self.old.pool (D.view self.new.disk) }
         ensures later { (D.view self.old.disk).faults ≤ (D.view self.new.disk).faults }
+        ensures grown { Hands (D.view self.old.disk) self.old.log (D.view self.new.disk) self.new.log }
     {
         match self.pool.page(&mut self.disk, &mut self.log, p) {
             Ok(_bytes) => Ok(()),
@@ -64,6 +65,7 @@ impl<D: Disk> Engine<D> {
         ensures allowed { KeepsAllowed D.told (D.view self.old.disk) self.old.log self.old.pool (D.view self.new.disk) self.new.log self.new.pool result }
         ensures moments { StandsMeanwhile D.told (D.view self.old.disk) self.old.log self.old.pool (D.view self.new.disk) }
         ensures later { (D.view self.old.disk).faults ≤ (D.view self.new.disk).faults }
+        ensures grown { Hands (D.view self.old.disk) self.old.log (D.view self.new.disk) self.new.log }
     {
         match self.pool.band(&mut self.disk, &mut self.log, b) {
             Ok(_bytes) => Ok(()),
@@ -98,6 +100,7 @@ impl<D: Disk> Engine<D> {
         ensures allowed { KeepsAllowed D.told (D.view self.old.disk) self.old.log self.old.pool (D.view self.new.disk) self.new.log self.new.pool result }
         ensures moments { StandsMeanwhile D.told (D.view self.old.disk) self.old.log self.old.pool (D.view self.new.disk) }
         ensures later { (D.view self.old.disk).faults ≤ (D.view self.new.disk).faults }
+        ensures grown { Hands (D.view self.old.disk) self.old.log (D.view self.new.disk) self.new.log }
     {
         match self.load_page(p) {
             Ok(()) => {
@@ -123,6 +126,7 @@ impl<D: Disk> Engine<D> {
         ensures allowed { KeepsAllowed D.told (D.view self.old.disk) self.old.log self.old.pool (D.view self.new.disk) self.new.log self.new.pool result }
         ensures moments { StandsMeanwhile D.told (D.view self.old.disk) self.old.log self.old.pool (D.view self.new.disk) }
         ensures later { (D.view self.old.disk).faults ≤ (D.view self.new.disk).faults }
+        ensures grown { Hands (D.view self.old.disk) self.old.log (D.view self.new.disk) self.new.log }
     {
         match self.load_band(b) {
             Ok(()) => {
