@@ -10,16 +10,9 @@ use Rattle.sg_catalog.specs.declared.row.Row.{Row}
 use Rattle.sg_catalog.proofs.Lists.{found_passes}
 use Rattle.sg_catalog.proofs.Maps.{find_without, find_new}
 use Rattle.sg_catalog.proofs.Rows.{count_more}
+pub use Rattle.sg_recovery.proofs.Basic.{and_left, and_right}
 use Rattle.sg_contents.specs.Standing.{IsAmong, is_at}
 use Rattle.sg_contents.proofs.Among.{eq_self, found_among, counted}
-
-pub and_left : (a b : Bool) → (a && b) ≡ true → a ≡ true
-and_left true b e = refl
-and_left false b e = absurd (cc)
-
-pub and_right : (a b : Bool) → (a && b) ≡ true → b ≡ true
-and_right true b e = e
-and_right false b e = absurd (cc)
 
 no_left : (a b : Bool) → a ≡ false → (a && b) ≡ false
 no_left true b e = absurd (cc)

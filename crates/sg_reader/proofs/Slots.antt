@@ -1,5 +1,5 @@
 -- Each slot of what contents mean is formed.
-use Rattle.std.proofs.Common.{◌≡◌, ℕ, ◌&&◌, Bool, true, false, List, ◌∷◌, Option, Some, None, option_map, is_some, is_none, refl, sym, ap, ◌∙◌, subst}
+use Rattle.std.proofs.Common.{◌≡◌, ℕ, true, List, ◌∷◌, Option, Some, None, option_map, is_some, is_none, refl, sym, ap, ◌∙◌, subst}
 use Rattle.std.specs.Prelude.{option_and_then}
 use Rattle.std.specs.List.{find}
 use Rattle.std.specs.FinMap.{get}
@@ -17,14 +17,10 @@ use Rattle.sg_contents.specs.Standing.Body.{AnArray, ATable, ABlob}
 use Rattle.sg_contents.specs.Meaning.{thing_of, thing_at, reading}
 use Rattle.sg_contents.proofs.Among.{found_among, only_one}
 use Rattle.sg_contents.proofs.Reading.{tomb_in, get_thing, get_tomb}
-use Rattle.sg_contents.proofs.Finding.{tomb_root, tomb_is}
+use Rattle.sg_contents.proofs.Finding.{and_left, tomb_root, tomb_is}
 use Rattle.sg_reader.proofs.Formed.{contents_formed}
 
 -- NO TOMBSTONE of a name has the root of the object that is there
-first_true : (a b : Bool) → (a && b) ≡ true → a ≡ true
-first_true true b e = refl
-first_true false b e = absurd (cc)
-
 not_both : (d : Option TxnId) → is_none d ≡ true → is_some d ≡ true → ⊥
 not_both None e f = cc
 not_both (Some by) e f = cc
@@ -41,7 +37,7 @@ module _ (space : Space) (s : Contents) (h : IsContents space s) (name : List �
       let passed : is_tomb_of name row.root.0 y ≡ true = found_passes (is_tomb_of name row.root.0) (rows s.catalog) y f in
       let same : row ≡ y = only_one (is_at row.root.0) (rows s.catalog) row y (h.once row.root.0) (found_among (is_there name) (rows s.catalog) row e) (found_among (is_tomb_of name row.root.0) (rows s.catalog) y f)
       (eq-eqb row.root.0 row.root.0 refl) (eq-eqb y.root.0 row.root.0 (tomb_root name row.root.0 y passed)) in
-      absurd (not_both row.dropper (first_true (is_none row.dropper) (bytes_eq row.name name) (found_passes (is_there name) (rows s.catalog) row e)) (ap is_tomb same ∙ tomb_is name row.root.0 y passed))
+      absurd (not_both row.dropper (and_left (is_none row.dropper) (bytes_eq row.name name) (found_passes (is_there name) (rows s.catalog) row e)) (ap is_tomb same ∙ tomb_is name row.root.0 y passed))
 
   root_is_free : (o : Option Row) → there name (rows s.catalog) ≡ o → IsRootFree (option_map (thing_at s.body) o) (slot (reading s) name).buried
   root_is_free None e = tt
