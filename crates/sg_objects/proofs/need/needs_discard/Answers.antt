@@ -1,0 +1,15 @@
+use Rattle.std.proofs.Common.{◌≡◌, ◌≢◌, ◌∙◌, ◌<◌, ◌≤◌, ◌⊎◌, ℕ, List, Bool, true, false, sym, ap, refl, subst, Result, Option, Some, None, Ok, Err, length, take, option_map, inl, inr, arith}
+use Rattle.sg_model.specs.declared.reason.Reason.{Reason}
+use Rattle.sg_catalog.specs.Catalog.{rows, there}
+use Rattle.sg_model.specs.declared.reason.Reason.TheVariants.{Exists, OutOfRange, NoObject}
+use Rattle.sg_objects.proofs.Applying.{checked_ok, checked_err}
+use Rattle.sg_objects.proofs.Making.{is_found, not_there, exists_under, unfit_under}
+use Rattle.sg_objects.proofs.Tabled.{table_exists}
+use Rattle.sg_objects.proofs.Needing.{checked_all, array_need, table_need, discard_need, discard_refused}
+use Rattle.sg_objects.proofs.need.needs_discard.Goals as goal
+
+pub returns-then-branch-clause-read : goal.returns-then-branch-clause-read
+returns-then-branch-clause-read g c = λ shows s h. checked_ok _ (discard_need _ (is_found (there c.args.name (rows s.catalog)) c.in_ok-is_there.field-0 (c.in_ok-is_there.ensures.read shows s h) c.if-branch.true) c.of_pages.ensures)
+
+pub returns-clause-read : goal.returns-clause-read
+returns-clause-read g c = λ shows s h. checked_all NoObject (λ u. discard_refused s c.args.name u (not_there (there c.args.name (rows s.catalog)) c.in_ok-is_there.field-0 (c.in_ok-is_there.ensures.read shows s h) c.if-branch.false))
