@@ -1,5 +1,5 @@
 -- BEFORE BYTES AND A BLOB'S BYTES: at the end of an action they put back what there was, and where they are put back its bands hold that.
-use Rattle.std.proofs.Common.{◌≡◌, ◌≢◌, ℕ, zero, suc, ◌+◌, ◌*◌, ◌<◌, ◌≤◌, ◌==◌, Bool, true, false, cond, List, [], ◌∷◌, ◌++◌, length, drop, replicate, Option, Some, None, slice_get, refl, sym, ap, ◌∙◌, subst, arith, length-append}
+use Rattle.std.proofs.Common.{◌≡◌, ℕ, zero, suc, ◌+◌, ◌*◌, ◌≤◌, ◌==◌, Bool, true, false, cond, List, [], ◌∷◌, ◌++◌, length, drop, Option, Some, None, slice_get, refl, sym, ap, ◌∙◌, subst, arith, length-append}
 use Rattle.std.proofs.lemmas.Bool.{eqb-true, eq-eqb}
 use Rattle.sg_action.specs.States.{State, Change, Kept, made}
 use Rattle.sg_action.specs.Opened.{IsOpened}
@@ -9,11 +9,11 @@ use Rattle.sg_reading.specs.Back.{Before, Patch, place_of, next_place, one_more,
 use Rattle.sg_reading.specs.Strokes.{Alike, contents, byte_at, AreDistinct, AreWhole, overwrite}
 use Rattle.sg_reading.specs.Noted.{PutsBack}
 use Rattle.sg_before.specs.Laying.{put_on, back_to, AreWithin}
-use Rattle.sg_before.specs.Befores.{befores, IsTakenBy, AreFilled, AreWholeBands, IsOneOf, AreOn}
+use Rattle.sg_before.specs.Befores.{befores, IsTakenBy, AreFilled, AreWholeBands, AreOn}
 use Rattle.sg_before.proofs.Laying.{back_is, laid_back, all_alike, puts_back_by, located_one, whole_back, padded_alike, byte_past}
-use Rattle.sg_before.proofs.Parted.{AreHeld, IsHeld, held_all, held_at, held_whole, held_bytes, bytes_held}
+use Rattle.sg_before.proofs.Parted.{AreHeld, IsHeld, held_whole, held_bytes, bytes_held}
 use Rattle.sg_before.proofs.Written.{kept_back}
-use Rattle.sg_before.proofs.Fresh.{IsZeros, fresh_back, still_whole, found_within}
+use Rattle.sg_before.proofs.Fresh.{IsZeros, fresh_back, found_within}
 
 -- PLACES of bands
 
@@ -49,8 +49,7 @@ pub located_on : (bs : List ℕ) (cs : List Before) → AreOn bs cs → (ps : Li
 located_on bs [] a = ([], refl)
 located_on bs (c ∷ cs) a =
     let one = place_there bs c.band a.0.0 a.0.1 in
-    let rest = located_on bs cs a.1 in
-    (
+    let rest = located_on bs cs a.1 in (
       (record { from = 32768 * one.0 + c.at; bytes = c.bytes }) ∷ rest.0,
       ap (λ (o : Option ℕ). one_more c o (located bs cs)) one.1 ∙ ap (λ (o : Option (List Patch)). one_more c (Some one.0) o) rest.1,
     )
@@ -126,9 +125,9 @@ action_puts_back t kept map ds x bs more old new whole opened filled had took ap
     let held : AreHeld v old 0 all = held_both v old 0 bs more first last in
     let enough : length old ≤ 32768 * length all = (let both = length-append bs more in omega (arith, enough_old, both)) in
     puts_back_by all cs places.0 new old places.1 (λ i.
-      all_alike places.0 new (contents s all) (λ k. sym (held_alike s new all held_new enough_new k)) i
-      ∙ (laid_back s all cs places.0 places.1 (distinct all apart) (held_whole s new 0 all held_new) (found_within t kept map ds x whole opened filled) i
-      ∙ held_alike v old all held enough i))
+    all_alike places.0 new (contents s all) (λ k. sym (held_alike s new all held_new enough_new k)) i
+    ∙ (laid_back s all cs places.0 places.1 (distinct all apart) (held_whole s new 0 all held_new) (found_within t kept map ds x whole opened filled) i
+    ∙ held_alike v old all held enough i))
 
 -- WHERE THEY ARE PUT BACK the bands hold what the model says
 pub put_bytes : (s : ℕ → List ℕ) (bs : List ℕ) (cs : List Before) (ps : List Patch) (xs : List ℕ) (n : ℕ) → located bs cs ≡ Some ps → AreDistinct bs → AreWithin cs → AreHeld s xs 0 bs → length xs ≤ 32768 * length bs → all_zero (drop n (all_laid ps xs)) ≡ true
@@ -138,9 +137,9 @@ put_bytes s bs cs ps xs n e apart within held enough zeros =
     let whole = held_whole s xs 0 bs held in
     held_same v (λ b. put_on cs b (s b)) (padded n (all_laid ps xs)) 0 bs (λ j b f. sym (back_is s cs b))
     (alike_held v (padded n (all_laid ps xs)) bs (whole_back s cs bs within whole) (λ i.
-      sym (laid_back s bs cs ps e apart whole within i)
-      ∙ (all_alike ps (contents s bs) xs (held_alike s xs bs held enough) i
-      ∙ sym (padded_alike n (all_laid ps xs) zeros i))))
+    sym (laid_back s bs cs ps e apart whole within i)
+    ∙ (all_alike ps (contents s bs) xs (held_alike s xs bs held enough) i
+    ∙ sym (padded_alike n (all_laid ps xs) zeros i))))
 
 -- a band on which none of them is stays as it is
 pub none_on : (bs : List ℕ) (cs : List Before) (ps : List Patch) (b : ℕ) (xs : List ℕ) → located bs cs ≡ Some ps → ((j : ℕ) → slice_get bs j ≡ Some b → ⊥) → put_on cs b xs ≡ xs

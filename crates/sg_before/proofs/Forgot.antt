@@ -1,18 +1,16 @@
 -- A tombstone that is forgotten has freed its cell, and nothing else.
-use Rattle.std.proofs.Common.{◌≡◌, ◌≢◌, ℕ, ◌==◌, ◌&&◌, Bool, true, false, List, ◌∷◌, Option, Some, None, refl, sym, ap, ◌∙◌, subst}
-use Rattle.std.specs.Prelude.{◌||◌, not}
-use Rattle.std.specs.FinMap.{get}
+use Rattle.std.proofs.Common.{◌≡◌, ℕ, ◌&&◌, Bool, true, false, List, Option, Some, refl, ap, ◌∙◌}
+use Rattle.std.specs.Prelude.{◌||◌}
 use Rattle.std.specs.Str.{bytes_eq}
-use Rattle.std.proofs.lemmas.Bool.{eqb-true, eq-eqb}
+use Rattle.std.proofs.lemmas.Bool.{eq-eqb}
 use Rattle.sg_ops.specs.Table.{Table as Operations}
-use Rattle.sg_model.specs.Touches.{Part, Cell, same_part, seen, covers_part}
+use Rattle.sg_model.specs.Touches.{Part, Cell, same_part, seen}
 use Rattle.sg_model.specs.Touches.Part.{Kind, Length, Item, Key, Body, Buried}
-use Rattle.sg_model.proofs.Parts.{bytes_same, bytes_self}
+use Rattle.sg_model.proofs.Parts.{bytes_self}
 use Rattle.sg_recovery.specs.Cells.{setting_of}
 use Rattle.sg_recovery.specs.Runs.{DoesFree}
-use Rattle.sg_reading.specs.Reading.{Thing, Tomb, Reading, plain, Slot, slot, shown, at, extra, bared_tomb}
-use Rattle.sg_reading.specs.Back.{without_tomb}
-use Rattle.sg_reading.specs.Model.{Ground, model_cells, is_tomb}
+use Rattle.sg_reading.specs.Reading.{Thing, Reading, plain, Slot, slot, shown, at, bared_tomb}
+use Rattle.sg_reading.specs.Model.{Ground, model_cells}
 use Rattle.sg_reading.specs.Left.{tomb_cell}
 use Rattle.sg_reading.proofs.Joins.{is_freed}
 use Rattle.sg_before.specs.Forgot.{Forgets}

@@ -1,8 +1,7 @@
 -- The bands that an action took hold zeros again where its before bytes are put back.
-use Rattle.std.proofs.Common.{◌≡◌, ◌≢◌, ℕ, zero, suc, ◌+◌, ◌-◌, ◌*◌, ◌<◌, ◌≤◌, ◌==◌, ◌⊎◌, inl, inr, Bool, true, false, cond, List, [], ◌∷◌, ◌++◌, length, take, drop, replicate, Option, Some, None, slice_get, refl, sym, ap, ◌∙◌, subst, arith}
+use Rattle.std.proofs.Common.{◌≡◌, ◌≢◌, ℕ, zero, suc, ◌+◌, ◌-◌, ◌<◌, ◌≤◌, ◌==◌, ◌⊎◌, inl, inr, Bool, true, false, cond, List, [], ◌∷◌, ◌++◌, length, take, drop, replicate, refl, sym, ap, ◌∙◌, subst, arith}
 use Rattle.std.specs.Prelude.{nat_le, ◌||◌}
 use Rattle.std.proofs.lemmas.Bool.{eqb-true, eq-eqb}
-use Rattle.std.proofs.lemmas.Bool.Decides.{nat_tests}
 use Rattle.std.proofs.lemmas.List.{length-take-le, length-drop}
 use Rattle.sg_base.specs.Overwritten.{overwritten}
 use Rattle.sg_action.specs.States.{State, Change, Kept, with_one, made}
@@ -10,13 +9,11 @@ use Rattle.sg_action.specs.States.Change.{Page, Write, Paint}
 use Rattle.sg_action.specs.Opened.{StoodThere, IsOpened}
 use Rattle.sg_ops.specs.Table.{Table, range_at, rendered}
 use Rattle.sg_ops.proofs.Rendering.{length-rendered}
-use Rattle.sg_recovery.proofs.Basic.{some_one}
 use Rattle.sg_reading.specs.Back.{Before, laid}
 use Rattle.sg_reading.proofs.Bytes.{laid_low, laid_in, laid_high, by_place}
-use Rattle.sg_reading.specs.Strokes.{Alike, contents, overwrite, byte_at, AreDistinct}
-use Rattle.sg_reading.specs.Noted.{PutsBack}
-use Rattle.sg_before.specs.Laying.{put_on, back_to, AreWithin}
-use Rattle.sg_before.specs.Befores.{found_in, befores, written_on, IsFilledAt, IsTakenBy, IsFill, AreFilled, AreWholeBands}
+use Rattle.sg_reading.specs.Strokes.{overwrite, byte_at}
+use Rattle.sg_before.specs.Laying.{put_on, AreWithin}
+use Rattle.sg_before.specs.Befores.{found_in, befores, written_on, IsFilledAt, IsTakenBy, AreFilled, AreWholeBands}
 use Rattle.sg_before.proofs.Laying.{length_over}
 use Rattle.sg_before.proofs.Written.{found_step, found_other, found_none, one_is, one_other, written_back}
 

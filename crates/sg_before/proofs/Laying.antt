@@ -3,10 +3,10 @@ use Rattle.std.proofs.Common.{◌≡◌, ℕ, zero, suc, ◌+◌, ◌-◌, ◌*�
 use Rattle.std.specs.Prelude.{◌==◌, ◌&&◌, nat_lt, replicate}
 use Rattle.std.proofs.lemmas.Bool.{eqb-true, eq-eqb}
 use Rattle.sg_recovery.proofs.Basic.{lt_is, lt_not, some_one}
-use Rattle.sg_reading.specs.Back.{Before, Patch, next_place, place_of, one_more, located, padded, laid, all_laid, all_zero}
+use Rattle.sg_reading.specs.Back.{Before, Patch, place_of, one_more, located, padded, laid, all_laid, all_zero}
 use Rattle.sg_reading.specs.Strokes.{byte_at, Alike, contents, overwrite, written, AreDistinct, AreWhole}
 use Rattle.sg_reading.specs.Noted.{PutsBack}
-use Rattle.sg_reading.proofs.Bytes.{byte_left, length_padded, laid_low, laid_in, laid_high, by_place}
+use Rattle.sg_reading.proofs.Bytes.{length_padded, laid_low, laid_in, laid_high, by_place}
 use Rattle.sg_reading.proofs.Bands.{on_band}
 use Rattle.sg_before.specs.Laying.{put_on, back_to, AreWithin}
 

@@ -1,5 +1,5 @@
 -- Why what was found leaves out the map's bands: with them the map of an action that took a band would come back too.
-use Rattle.std.proofs.Common.{◌≡◌, ℕ, List, [], ◌∷◌, Option, None, refl}
+use Rattle.std.proofs.Common.{◌≡◌, [], ◌∷◌, None, refl}
 use Rattle.sg_action.specs.States.{State}
 use Rattle.sg_action.specs.States.Change.{Write}
 use Rattle.sg_action.specs.Opened.{put_back}

@@ -1,7 +1,7 @@
 -- The before bytes of an action, put back on its bands.
-use Rattle.std.proofs.Common.{◌≡◌, ◌≢◌, ℕ, ◌+◌, ◌<◌, ◌≤◌, ◌==◌, ◌⊎◌, inl, inr, Bool, true, false, cond, List, [], ◌∷◌, ◌++◌, length, take, drop, replicate, refl, sym, ap, ◌∙◌, subst, arith}
-use Rattle.std.specs.Prelude.{nat_le, ◌||◌}
-use Rattle.std.proofs.lemmas.Bool.{eqb-true, eq-eqb, cases_lt}
+use Rattle.std.proofs.Common.{◌≡◌, ◌≢◌, ℕ, ◌+◌, ◌≤◌, ◌==◌, Bool, true, false, cond, List, [], ◌∷◌, ◌++◌, length, take, drop, refl, sym, ap, ◌∙◌, arith}
+use Rattle.std.specs.Prelude.{nat_le}
+use Rattle.std.proofs.lemmas.Bool.{eqb-true, eq-eqb}
 use Rattle.std.proofs.lemmas.Bool.Decides.{nat_tests}
 use Rattle.std.proofs.lemmas.List.{append_assoc, take-append-drop}
 use Rattle.sg_base.specs.Overwritten.{overwritten}
@@ -15,7 +15,6 @@ use Rattle.sg_reading.specs.Back.{Before}
 use Rattle.sg_reading.specs.Strokes.{overwrite}
 use Rattle.sg_before.specs.Laying.{put_on}
 use Rattle.sg_before.specs.Befores.{found_in, befores}
-use Rattle.sg_before.proofs.Laying.{length_over}
 
 over_same : (xs : List ℕ) (at : ℕ) (bytes : List ℕ) → overwritten xs at bytes ≡ overwrite at bytes xs
 over_same xs at bytes = append_assoc (take at xs) bytes (drop (at + length bytes) xs)

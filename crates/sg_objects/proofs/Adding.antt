@@ -1,5 +1,5 @@
 -- Making any object: its body stands, and then its row comes. And how many pages the catalogue takes.
-use Rattle.std.proofs.Common.{◌≡◌, ◌≢◌, ℕ, suc, ◌+◌, ◌-◌, ◌*◌, ◌/◌, ◌<◌, ◌≤◌, max, List, [], ◌∷◌, ◌++◌, length, Option, Some, None, Ok, Err, refl, sym, ap, ◌∙◌, subst, arith, length-append}
+use Rattle.std.proofs.Common.{◌≡◌, ℕ, suc, ◌+◌, ◌-◌, ◌/◌, ◌≤◌, max, List, [], ◌∷◌, length, Option, Some, None, Ok, refl, sym, ap, ◌∙◌, subst, arith, length-append}
 use Rattle.std.specs.FinMap.{get}
 use Rattle.sg_base.specs.Sheet.{Sheet}
 use Rattle.sg_ops.specs.Table.{Table as Operations}
@@ -10,10 +10,9 @@ use Rattle.sg_catalog.specs.declared.row.Entry.{Entry}
 use Rattle.sg_catalog.specs.declared.row.ObjectKind.{ObjectKind}
 use Rattle.sg_catalog.specs.declared.row.Row.{Row}
 use Rattle.sg_model.specs.Step.{on}
-use Rattle.sg_model.specs.Verb.{Verb, Outcome, Reply}
+use Rattle.sg_model.specs.Verb.{Verb, Reply}
 use Rattle.sg_space.specs.Units.{Units}
 use Rattle.sg_space.specs.View.{View, Space, Keeps}
-use Rattle.sg_space.specs.Pages.{HasFree}
 use Rattle.sg_reading.specs.Reading.{Thing, plain, slot}
 use Rattle.sg_reading.specs.Did.{slot_after}
 use Rattle.sg_reading.specs.Back.Undoing.{WasMake}
@@ -89,11 +88,13 @@ object_made {old} {mid} {new} {s} {c} {b} t by name verb reply note entry n h no
 pub may_add : {v w : View} {s : Contents} {name : List ℕ} {kind : ObjectKind} {root : ℕ} (b : Body) → there name (rows s.catalog) ≡ None → IsContents v.space s → IsFresh v → Keeps v w → BodyMade v.space w.space kind root b → 1 ≤ w.space.pages.free → IsCatalog w.space.pages.at s.catalog × CanAdd w name s.catalog
 may_add {v} {w} {s} {name} {kind} {root} b none h fresh keeps m free =
     let row = object name (record { kind = kind; root = record { 0 = root } }) in
-    let holds = body_made row b h m in
-    (holds.catalog, record {
-      absent = none;
-      grow = record {
-        may_fill = λ p owned n le. keeps.may_have p n (fresh_catalog fresh h p owned n le);
-        free = λ full. record { some = free; may = keeps.may_take fresh.may_take };
-      };
-    })
+    let holds = body_made row b h m in (
+      holds.catalog,
+      record {
+        absent = none;
+        grow = record {
+          may_fill = λ p owned n le. keeps.may_have p n (fresh_catalog fresh h p owned n le);
+          free = λ full. record { some = free; may = keeps.may_take fresh.may_take };
+        };
+      },
+    )

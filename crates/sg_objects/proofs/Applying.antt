@@ -1,5 +1,5 @@
 -- What a registered operation on an item comes to.
-use Rattle.std.proofs.Common.{◌≡◌, ◌≢◌, ℕ, ◌<◌, ◌≤◌, max, Bool, true, false, cond, List, [], ◌∷◌, length, Option, Some, None, Ok, Err, Result, IsTrue, is_some, refl, sym, ap, ◌∙◌, subst, arith, slice_get, slice_set, length-set}
+use Rattle.std.proofs.Common.{◌≡◌, ℕ, ◌<◌, ◌≤◌, Bool, true, false, cond, List, [], length, Option, Some, None, Ok, Err, IsTrue, is_some, refl, sym, ap, ◌∙◌, subst, arith, slice_get, slice_set, length-set}
 use Rattle.std.specs.Prelude.{nat_lt}
 use Rattle.std.specs.FinMap.{get}
 use Rattle.std.proofs.lemmas.Bool.Decides.{nat_tests}
@@ -9,20 +9,18 @@ use Rattle.sg_array.specs.Array.{Array, IsArray}
 use Rattle.sg_array.specs.Calls as array
 use Rattle.sg_model.specs.declared.reason.Reason.{Reason}
 use Rattle.sg_model.specs.declared.reason.Reason.TheVariants.{Declined, NoOperation, OutOfRange, TooLong}
-use Rattle.sg_model.specs.Objects.{Row as Items, Object}
-use Rattle.sg_model.specs.Objects.Object.{Array as AsArray}
+use Rattle.sg_model.specs.Objects.{Row as Items}
 use Rattle.sg_model.specs.Step.{on, apply, at_item, at_found, done_by, record_named, put_item}
 use Rattle.sg_model.specs.Verb.{Verb, Outcome}
 use Rattle.sg_model.specs.Verb.Verb.{Apply}
 use Rattle.sg_model.specs.Verb.Reply.{Done}
 use Rattle.sg_space.specs.View.{View, Space, OnlyReads}
-use Rattle.sg_reading.specs.Reading.{Thing, plain}
+use Rattle.sg_reading.specs.Reading.{plain}
 use Rattle.sg_reading.specs.Back.Undoing.{WasApply}
-use Rattle.sg_reading.specs.Noted.{noted}
 use Rattle.sg_contents.specs.Standing.{Contents, IsContents}
 use Rattle.sg_contents.specs.Standing.Body.{AnArray}
 use Rattle.sg_contents.specs.Changes.{with_body}
-use Rattle.sg_contents.specs.Meaning.{reading, thing_of}
+use Rattle.sg_contents.specs.Meaning.{reading}
 use Rattle.sg_objects.specs.Done.{Did, IsDone}
 use Rattle.sg_space.proofs.Known.{same_some}
 use Rattle.sg_objects.specs.Found.{IsArrayAt, CanApplyTo, CheckedBy}

@@ -1,8 +1,7 @@
 -- Making blobs.
-use Rattle.std.proofs.Common.{◌≡◌, ◌≢◌, ℕ, ◌+◌, ◌<◌, ◌≤◌, List, [], ◌∷◌, length, Option, Some, None, option_map, Ok, Err, refl, sym, ap, ◌∙◌, subst, arith}
+use Rattle.std.proofs.Common.{◌≡◌, ℕ, ◌+◌, ◌≤◌, List, [], Option, Some, None, option_map, Ok, Err, refl, sym, ap, ◌∙◌, subst, arith}
 use Rattle.std.specs.Prelude.{is_ok}
 use Rattle.std.specs.FinMap.{get}
-use Rattle.sg_blob.specs.Blob.{Blob, IsBlob}
 use Rattle.sg_blob.specs.Calls as blob
 use Rattle.sg_blob.specs.Calls.{empty_blob}
 use Rattle.sg_catalog.specs.Calls as catalog
@@ -17,19 +16,17 @@ use Rattle.sg_model.specs.declared.reason.Reason.TheVariants.{Exists}
 use Rattle.sg_model.specs.Step.{on, Change}
 use Rattle.sg_model.specs.Verb.Verb.{MakeBlob}
 use Rattle.sg_model.specs.Verb.Reply.{Done}
-use Rattle.sg_space.specs.Owned.{Becomes}
 use Rattle.sg_space.specs.Pages.{HasFree}
 use Rattle.sg_space.specs.View.{View, Space, Keeps}
-use Rattle.sg_reading.specs.Reading.{Thing, plain, slot}
-use Rattle.sg_reading.specs.Did.{slot_after, grown}
+use Rattle.sg_reading.specs.Reading.{Thing, plain}
+use Rattle.sg_reading.specs.Did.{grown}
 use Rattle.sg_reading.specs.Back.Undoing.{WasMake}
-use Rattle.sg_contents.specs.Standing.{Body, Contents, IsContents, IsBody, OwnsBand}
+use Rattle.sg_contents.specs.Standing.{Contents, IsContents, OwnsBand}
 use Rattle.sg_contents.specs.Standing.Body.{ABlob}
 use Rattle.sg_contents.specs.Changes.{with_body, BodyMade}
-use Rattle.sg_contents.specs.Meaning.{reading, thing_of, thing_at}
+use Rattle.sg_contents.specs.Meaning.{reading, thing_at}
 use Rattle.sg_contents.proofs.Reading.{get_thing}
 use Rattle.sg_objects.specs.Done.{IsDone, IsFresh, HasRoomFor, done_by}
-use Rattle.sg_objects.specs.Needs.{needed, IsFree}
 use Rattle.sg_objects.specs.Notes.{note_bytes}
 use Rattle.sg_objects.proofs.Adding.{object_made, may_add}
 use Rattle.sg_objects.proofs.Doing.{ok_is}

@@ -1,6 +1,5 @@
 -- What verbs on blobs need, and that they are accepted.
-use Rattle.std.proofs.Common.{◌≡◌, ℕ, ◌+◌, ◌-◌, ◌/◌, ◌<◌, ◌≤◌, max, List, length, take, drop, Option, Some, None, Ok, Err, refl, sym, ap, ◌∙◌, subst, inl, inr, arith}
-use Rattle.std.specs.FinMap.{get}
+use Rattle.std.proofs.Common.{◌≡◌, ℕ, ◌+◌, ◌-◌, ◌/◌, ◌≤◌, max, List, length, take, drop, Some, None, Ok, sym, ap, ◌∙◌, inl, inr, arith}
 use Rattle.std.proofs.lemmas.Bool.{cases_lt}
 use Rattle.std.proofs.lemmas.Bool.Decides.{nat_tests}
 use Rattle.sg_ops.specs.Table.{Table as Operations}
@@ -16,7 +15,7 @@ use Rattle.sg_contents.specs.Standing.{Contents, IsContents}
 use Rattle.sg_contents.specs.Standing.Body.{ABlob}
 use Rattle.sg_contents.specs.Meaning.{thing_of}
 use Rattle.sg_objects.specs.Blobs.{IsBlobAt, CanWriteTo, CanReadFrom, CanSizeTo, CanPaintOn}
-use Rattle.sg_objects.specs.Needs.{Needed, needed, pages_alone, bands_alone, bands_for}
+use Rattle.sg_objects.specs.Needs.{needed, pages_alone, bands_alone, bands_for}
 use Rattle.sg_objects.specs.Needing.{HasNeed, needed_of}
 use Rattle.sg_objects.specs.declared.blob.BlobAt.{BlobAt}
 use Rattle.sg_objects.specs.declared.need.Needs as code
@@ -25,7 +24,6 @@ use Rattle.sg_objects.proofs.BlobMade.{blob_accepted}
 use Rattle.sg_objects.proofs.BlobVerbs.{accepted_on, write_on, read_on, size_on, paint_on}
 use Rattle.sg_objects.proofs.Doing.{ok_is}
 use Rattle.sg_objects.proofs.Items.{max_same}
-use Rattle.sg_objects.proofs.Needing.{need_by}
 
 pub blob_need : {s : Contents} {name : List ℕ} {n : code.Needs} (t : Operations) → there name (rows s.catalog) ≡ None → needed_of n ≡ pages_alone 2 → HasNeed t name MakeBlob s n
 blob_need {s} {name} t none e = record { accepted = ok_is _ _ (blob_accepted s name t none); needs = e }

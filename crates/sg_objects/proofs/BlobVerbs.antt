@@ -1,28 +1,24 @@
 -- Writing, reading, resizing and painting a blob.
-use Rattle.std.proofs.Common.{◌≡◌, ◌≢◌, ℕ, ◌+◌, ◌-◌, ◌*◌, ◌/◌, ◌<◌, ◌≤◌, max, Bool, true, false, cond, List, [], ◌∷◌, ◌++◌, length, take, drop, replicate, Option, Some, None, Ok, Err, IsOk, IsSome, is_some, ◌⊎◌, refl, sym, ap, ◌∙◌, subst, inl, inr, arith, length-append}
+use Rattle.std.proofs.Common.{◌≡◌, ℕ, ◌+◌, ◌-◌, ◌*◌, ◌/◌, ◌<◌, ◌≤◌, max, Bool, true, false, cond, List, [], ◌∷◌, ◌++◌, length, take, drop, Option, Some, None, Ok, Err, IsSome, is_some, ◌⊎◌, refl, sym, ap, ◌∙◌, subst, inl, inr, arith, length-append}
 use Rattle.std.specs.Prelude.{nat_lt, ◌||◌}
 use Rattle.std.specs.FinMap.{get}
 use Rattle.std.proofs.lemmas.Bool.{cases_lt}
 use Rattle.std.proofs.lemmas.Bool.Decides.{nat_tests}
 use Rattle.std.proofs.lemmas.List.{append_assoc, length-take-le, length-drop}
 use Rattle.std.proofs.Math.Seq.{take-append_seam}
-use Rattle.sg_base.specs.Sheet.{Sheet}
-use Rattle.sg_base.specs.Overwritten.{overwritten}
 use Rattle.sg_ops.specs.Meaning.{RangeMeaning}
 use Rattle.sg_ops.specs.Table.{Table as Operations, range_at, rendered}
 use Rattle.sg_ops.proofs.Rendering.{length-rendered}
-use Rattle.sg_blob.specs.Blob.{Blob, IsBlob}
+use Rattle.sg_blob.specs.Blob.{Blob}
 use Rattle.sg_blob.specs.Calls as blob
-use Rattle.sg_model.specs.declared.reason.Reason.{Reason}
 use Rattle.sg_model.specs.declared.reason.Reason.TheVariants.{OutOfRange, NoOperation, TooLong}
 use Rattle.sg_model.specs.Objects.{Object}
 use Rattle.sg_model.specs.Objects.Object.{Blob as AsBlob}
-use Rattle.sg_model.specs.Step.{on, on_blob, Change, overlaid, write, read, resize, resized, paint, paint_by, range_named}
+use Rattle.sg_model.specs.Step.{on, Change, overlaid, write, read, resize, resized, paint, paint_by, range_named}
 use Rattle.sg_model.specs.Verb.{Verb, Outcome, Reply}
 use Rattle.sg_model.specs.Verb.Verb.{Write, Read, Size, Paint}
 use Rattle.sg_model.specs.Verb.Reply.{Done, Bytes}
-use Rattle.sg_space.specs.View.{View, Space, MayFill}
-use Rattle.sg_space.specs.Units.{HasAt}
+use Rattle.sg_space.specs.View.{View, Space}
 use Rattle.sg_reading.specs.Reading.{Thing, plain, slot}
 use Rattle.sg_reading.specs.Noted.{noted}
 use Rattle.sg_reading.proofs.Bytes.{length_padded}

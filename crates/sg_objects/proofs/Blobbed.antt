@@ -1,14 +1,12 @@
 -- What the verbs on blobs come to.
-use Rattle.std.proofs.Common.{◌≡◌, ◌≢◌, ℕ, ◌+◌, ◌-◌, ◌*◌, ◌/◌, ◌<◌, ◌≤◌, max, Bool, true, false, cond, List, [], ◌∷◌, ◌++◌, length, take, drop, Option, Some, None, option_map, Ok, Err, IsOk, ◌⊎◌, refl, sym, ap, ◌∙◌, subst, inl, inr, arith, length-append}
+use Rattle.std.proofs.Common.{◌≡◌, ◌≢◌, ℕ, ◌+◌, ◌-◌, ◌/◌, ◌≤◌, max, List, [], ◌∷◌, ◌++◌, length, Option, Some, option_map, Ok, Err, ◌⊎◌, refl, sym, ap, ◌∙◌, subst, inl, inr, arith}
 use Rattle.std.specs.Prelude.{is_ok}
 use Rattle.std.specs.FinMap.{get}
-use Rattle.std.proofs.lemmas.List.{append_assoc}
-use Rattle.sg_base.specs.Overwritten.{overwritten}
 use Rattle.sg_ops.specs.Table.{Table as Operations}
 use Rattle.sg_blob.specs.Blob.{Blob, IsBlob}
 use Rattle.sg_blob.specs.Calls as blob
 use Rattle.sg_blob.proofs.Sides.{exact}
-use Rattle.sg_catalog.specs.Catalog.{rows, there, is_there}
+use Rattle.sg_catalog.specs.Catalog.{rows, is_there}
 use Rattle.sg_catalog.specs.declared.row.ObjectKind.{ObjectKind}
 use Rattle.sg_catalog.specs.declared.row.ObjectKind.TheVariants as kinds
 use Rattle.sg_model.specs.declared.reason.Reason.{Reason}
@@ -17,8 +15,7 @@ use Rattle.sg_model.specs.Objects.{Object}
 use Rattle.sg_model.specs.Objects.Object.{Blob as AsBlob}
 use Rattle.sg_model.specs.Step.{on, on_blob, Change}
 use Rattle.sg_model.specs.Verb.{Verb, Outcome, Reply}
-use Rattle.sg_space.specs.View.{View, Space, MayFill}
-use Rattle.sg_space.proofs.Owners.{grown}
+use Rattle.sg_space.specs.View.{Space}
 use Rattle.sg_reading.specs.Reading.{Thing, Reading, plain, slot}
 use Rattle.sg_reading.specs.Reading.Thing.{There}
 use Rattle.sg_reading.specs.Did.{slot_after, grown as left_grown}

@@ -1,5 +1,5 @@
 -- What any verb comes to, whatever its body is: it was refused, it only read, or a body turned.
-use Rattle.std.proofs.Common.{◌≡◌, ◌≢◌, ℕ, ◌+◌, ◌≤◌, max, List, [], ◌∷◌, ◌++◌, length, Option, Some, None, Ok, Err, refl, sym, ap, ◌∙◌, subst, arith}
+use Rattle.std.proofs.Common.{◌≡◌, ℕ, ◌+◌, ◌≤◌, List, [], ◌∷◌, Option, Some, None, Ok, refl, sym, ap, ◌∙◌, subst, arith}
 use Rattle.std.specs.FinMap.{get}
 use Rattle.sg_ops.specs.Table.{Table as Operations}
 use Rattle.sg_catalog.specs.declared.row.ObjectKind.{ObjectKind}
@@ -17,7 +17,7 @@ use Rattle.sg_contents.specs.Standing.{Body, Contents, IsContents}
 use Rattle.sg_contents.specs.Changes.{with_body, BodyTurns}
 use Rattle.sg_contents.specs.Meaning.{reading, thing_of, IsCounted}
 use Rattle.sg_contents.proofs.After.{same_peak}
-use Rattle.sg_objects.specs.Done.{Did, IsDone, done_by}
+use Rattle.sg_objects.specs.Done.{IsDone, done_by}
 use Rattle.sg_objects.specs.Found.{IsAt}
 use Rattle.sg_objects.specs.Needs.{Needed, needed, needed_back, HasTaken}
 use Rattle.sg_objects.specs.Notes.{note_bytes}

@@ -1,5 +1,5 @@
 -- THE BRIDGE to the laws of cells: what each cell of the reading shows after a verb, and after a note was undone.
-use Rattle.std.proofs.Common.{◌≡◌, ◌≢◌, ℕ, ◌==◌, ◌&&◌, Bool, true, false, cond, List, [], ◌∷◌, Option, Some, None, refl, sym, ap, ◌∙◌, subst}
+use Rattle.std.proofs.Common.{◌≡◌, ◌≢◌, ℕ, ◌==◌, ◌&&◌, Bool, true, false, cond, List, [], ◌∷◌, Option, Some, None, refl, sym, ap, ◌∙◌}
 use Rattle.std.specs.Str.{bytes_eq}
 use Rattle.std.specs.FinMap.{get}
 use Rattle.sg_ops.specs.Table.{Table as Operations}
@@ -10,10 +10,10 @@ use Rattle.sg_model.proofs.Parts.{get_put, get_del, bytes_same, bytes_self}
 use Rattle.sg_space.specs.View.{Space}
 use Rattle.sg_reading.specs.Reading.{Thing, Tomb, Reading, Slot, slot, shown, at}
 use Rattle.sg_reading.specs.Did.{slot_after, result, IsAt}
-use Rattle.sg_reading.specs.Back.{Undoing, UndoNote, back, raises, with_thing, without_tomb, put_back, unstep}
+use Rattle.sg_reading.specs.Back.{Undoing, back, raises, with_thing, without_tomb, put_back, unstep}
 use Rattle.sg_contents.specs.Standing.{Contents}
 use Rattle.sg_contents.specs.Meaning.{reading}
-use Rattle.sg_objects.specs.Done.{Leaves, IsLeft, done_by}
+use Rattle.sg_objects.specs.Done.{IsLeft, done_by}
 use Rattle.sg_objects.specs.Undone.{IsUndone, left_buried}
 
 -- slots with the same thing and the same tombstones show the same

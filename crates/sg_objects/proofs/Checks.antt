@@ -1,5 +1,5 @@
 -- Why a verb on an array is refused, and the bytes of a note.
-use Rattle.std.proofs.Common.{◌≡◌, ◌≢◌, ℕ, ◌+◌, ◌<◌, ◌≤◌, Bool, true, false, cond, not, List, [], ◌∷◌, ◌++◌, length, take, Option, Some, None, Ok, Err, refl, sym, ap, ◌∙◌, subst, arith}
+use Rattle.std.proofs.Common.{◌≡◌, ◌≢◌, ℕ, ◌≤◌, Bool, false, cond, not, List, [], ◌∷◌, ◌++◌, length, take, Option, Ok, Err, ap, ◌∙◌, arith}
 use Rattle.std.specs.Prelude.{nat_lt, ◌==◌}
 use Rattle.std.specs.FinMap.{get}
 use Rattle.std.proofs.Math.Seq.{take-append_seam}
@@ -9,12 +9,12 @@ use Rattle.sg_base.proofs.Overwriting.{wrote_front}
 use Rattle.sg_array.specs.Array.{Array, IsArray}
 use Rattle.sg_catalog.specs.declared.row.ObjectKind.TheVariants as kinds
 use Rattle.sg_model.specs.declared.reason.Reason.{Reason}
-use Rattle.sg_model.specs.declared.reason.Reason.TheVariants.{Declined, TooMany, OutOfRange}
+use Rattle.sg_model.specs.declared.reason.Reason.TheVariants.{Declined, TooMany}
 use Rattle.sg_model.specs.Objects.{Row as Items}
-use Rattle.sg_model.specs.Step.{push, pop, on_array, at_item, set_to}
+use Rattle.sg_model.specs.Step.{push, on_array}
 use Rattle.sg_model.specs.Verb.{Outcome}
 use Rattle.sg_model.specs.Verb.Reply.{Number}
-use Rattle.sg_space.specs.View.{View, Space, OnlyReads}
+use Rattle.sg_space.specs.View.{Space}
 use Rattle.sg_reading.specs.Reading.{Thing, plain}
 use Rattle.sg_contents.specs.Standing.{Contents, IsContents}
 use Rattle.sg_contents.specs.Standing.Body.{AnArray}
@@ -23,7 +23,6 @@ use Rattle.sg_objects.specs.Found.{IsAt, IsArrayAt}
 use Rattle.sg_objects.specs.declared.find.ArrayAt.{ArrayAt}
 use Rattle.sg_objects.proofs.Located.{body_at, array_body, array_under}
 use Rattle.sg_objects.proofs.Pushing.{items_of, same_size}
-use Rattle.sg_objects.proofs.Items.{at_none, pop_none, unfit_row, some_there}
 
 -- bytes that were written at the front are the first
 pub wrote_taken : {old new bytes : List ℕ} {next : ℕ} → Wrote old 0 bytes new next → take next new ≡ bytes

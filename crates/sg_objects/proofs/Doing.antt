@@ -1,5 +1,5 @@
 -- What the verbs on arrays do to all that stands there.
-use Rattle.std.proofs.Common.{◌≡◌, ◌≢◌, ℕ, ◌+◌, ◌-◌, ◌<◌, ◌≤◌, max, List, [], ◌∷◌, ◌++◌, length, take, Option, Some, None, Ok, Err, IsOk, refl, sym, ap, ◌∙◌, subst, arith, slice_get, slice_set, length-append}
+use Rattle.std.proofs.Common.{◌≡◌, ℕ, ◌+◌, max, List, [], ◌∷◌, ◌++◌, length, Option, Some, Ok, Err, IsOk, refl, sym, ap, ◌∙◌, subst, arith, length-append}
 use Rattle.std.specs.FinMap.{get}
 use Rattle.sg_ops.specs.Table.{Table as Operations}
 use Rattle.sg_array.specs.Array.{Array, IsArray, page_count, pages_for}
@@ -11,9 +11,9 @@ use Rattle.sg_model.specs.Objects.{Row as Items, Object}
 use Rattle.sg_model.specs.Objects.Object.{Array as AsArray}
 use Rattle.sg_model.specs.Step.{on}
 use Rattle.sg_model.specs.Verb.{Verb, Outcome, Reply}
-use Rattle.sg_model.specs.Verb.Verb.{Push, Pop, Set, Get}
+use Rattle.sg_model.specs.Verb.Verb.{Push}
 use Rattle.sg_model.specs.Verb.Reply.{Number}
-use Rattle.sg_space.specs.View.{View, Space, OnlyReads, Keeps}
+use Rattle.sg_space.specs.View.{View, Space, OnlyReads}
 use Rattle.sg_space.proofs.Known.{still}
 use Rattle.sg_reading.specs.Reading.{Thing, plain, slot}
 use Rattle.sg_reading.specs.Did.{slot_after}
@@ -23,16 +23,16 @@ use Rattle.sg_contents.specs.Standing.{Body, Contents, IsContents}
 use Rattle.sg_contents.specs.Standing.Body.{AnArray}
 use Rattle.sg_contents.specs.Changes.{with_body, BodyTurns}
 use Rattle.sg_contents.specs.Meaning.{reading, thing_of}
-use Rattle.sg_objects.specs.Done.{Did, IsDone, IsFresh, IsLeft, Leaves, HasRoomFor, done_by}
+use Rattle.sg_objects.specs.Done.{Did, IsDone, IsFresh, HasRoomFor, done_by}
 use Rattle.sg_objects.specs.Found.{IsArrayAt, CanPushTo}
 use Rattle.sg_objects.specs.Notes.{note_bytes}
 use Rattle.sg_objects.specs.declared.find.ArrayAt.{ArrayAt}
 use Rattle.sg_objects.specs.Needs.{needed, pages_alone, IsFree, HasTaken}
 use Rattle.sg_objects.proofs.Fresh.{fresh_roomy}
 use Rattle.sg_objects.proofs.Bodies.{body_done, noted_some, pages_taken}
-use Rattle.sg_objects.proofs.Located.{still_contents, array_at, array_turns, array_under}
+use Rattle.sg_objects.proofs.Located.{array_at, array_turns, array_under}
 use Rattle.sg_objects.proofs.Refused.{refused}
-use Rattle.sg_objects.proofs.Pushing.{items_of, push_on, array_left, push_left}
+use Rattle.sg_objects.proofs.Pushing.{items_of, push_on, array_left}
 
 -- a verb that was refused
 pub refused_did : {v w : View} {Can : Contents → Type 0} (t : Operations) (by : ℕ) (name : List ℕ) (verb : Verb) (reason : Reason) (note : List ℕ) → (v.Told → v.Shows) → OnlyReads v w → note ≡ [] → (v.Shows → (s : Contents) → IsContents v.space s → (t : Operations) → (on t verb (plain (get (reading s).things name))).0 ≡ Err reason) → Did v w Can (IsDone t by name verb (Err reason) note v.space w.space)

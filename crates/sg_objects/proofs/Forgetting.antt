@@ -1,8 +1,8 @@
 -- What undoes a put of a new key.
-use Rattle.std.proofs.Common.{◌≡◌, ◌≢◌, Bool, ℕ, ◌<◌, ◌≤◌, List, [], ◌∷◌, length, Option, Some, None, Ok, Err, refl, sym, ap, ◌∙◌, subst, arith, inl, inr}
+use Rattle.std.proofs.Common.{◌≡◌, Bool, ℕ, List, [], length, Option, Some, None, Ok, refl, sym, ap, ◌∙◌, subst, arith, inl, inr}
 use Rattle.std.specs.FinMap.{get, remove}
 use Rattle.std.proofs.lemmas.Bool.{cases_lt, cases_eq}
-use Rattle.sg_hash.specs.Table.{HashTable, IsHashTable, value_at, page_count}
+use Rattle.sg_hash.specs.Table.{HashTable, value_at, page_count}
 use Rattle.sg_hash.specs.Calls as table
 use Rattle.sg_catalog.specs.declared.row.ObjectKind.TheVariants as kinds
 use Rattle.sg_model.specs.declared.reason.Reason.{Reason}
@@ -45,8 +45,8 @@ forgot key m reply ok = elim (cases_eq (length key) 0) [
   | inr ne ↦ elim (cases_lt 128 (length key)) [
     | inl long ↦ absurd (not_both (at_key key forget m).0 reply TooLong ok (long_key key forget m long))
     | inr short ↦ (
-      let all = at_this_key key forget m (omega (arith, ne)) short in
-      ap (λ (r : Outcome × Entries). r.1) all ∙ forgotten (get m key) m key reply (sym (ap (λ (r : Outcome × Entries). r.0) all) ∙ ok))
+        let all = at_this_key key forget m (omega (arith, ne)) short in
+        ap (λ (r : Outcome × Entries). r.1) all ∙ forgotten (get m key) m key reply (sym (ap (λ (r : Outcome × Entries). r.0) all) ∙ ok))
   ]
 ]
 

@@ -1,19 +1,16 @@
 -- WHAT THE RECORDS OF A VERB ON A BLOB FOUND puts back what there was; and where it is put back, the note can be undone.
-use Rattle.std.proofs.Common.{◌≡◌, ℕ, ◌+◌, ◌*◌, ◌<◌, ◌≤◌, List, [], ◌∷◌, ◌++◌, length, slice_get, Option, Some, None, option_map, refl, sym, ap, ◌∙◌, subst, arith}
+use Rattle.std.proofs.Common.{◌≡◌, ℕ, ◌+◌, ◌*◌, ◌≤◌, List, [], ◌++◌, length, slice_get, Option, Some, None, option_map, refl, sym, ap, ◌∙◌, subst, arith}
 use Rattle.std.specs.Prelude.{slice_index, is_ok}
 use Rattle.std.specs.FinMap.{get}
-use Rattle.sg_base.specs.Sheet.{Sheet}
 use Rattle.sg_action.specs.States.{State, Change, Kept, made}
 use Rattle.sg_action.specs.Opened.{IsOpened}
 use Rattle.sg_ops.specs.Table.{Table as Operations}
 use Rattle.sg_blob.specs.Blob.{Blob, IsBlob}
-use Rattle.sg_blob.specs.Raw.{IsPart}
 use Rattle.sg_model.specs.Objects.{Object}
 use Rattle.sg_model.specs.Objects.Object.{Array as AsArray, Table as AsTable, Blob as AsBlob}
 use Rattle.sg_model.specs.Step.{on, on_blob, write, resize, paint, Change as Outcomes}
 use Rattle.sg_model.specs.Verb.{Verb, Outcome}
 use Rattle.sg_model.specs.Verb.Verb.{Write, Size, Paint}
-use Rattle.sg_space.specs.Units.{HasAt}
 use Rattle.sg_space.specs.View.{Space}
 use Rattle.sg_reading.specs.Back.{Before}
 use Rattle.sg_reading.specs.Noted.{PutsBack, PutsBackOf}

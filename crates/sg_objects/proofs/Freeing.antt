@@ -1,13 +1,12 @@
 -- What frees bodies, and what was dropped.
-use Rattle.std.proofs.Common.{◌≡◌, ◌≢◌, ℕ, suc, ◌+◌, ◌≤◌, ◌==◌, ◌&&◌, Bool, true, false, cond, List, [], ◌∷◌, ◌++◌, length, Option, Some, None, option_map, is_some, IsSome, refl, sym, ap, ◌∙◌, subst, inl, inr, arith, length-append}
+use Rattle.std.proofs.Common.{◌≡◌, ℕ, suc, ◌+◌, ◌==◌, ◌&&◌, Bool, true, false, cond, List, [], ◌∷◌, length, Option, Some, None, option_map, is_some, IsSome, refl, sym, ap, ◌∙◌, subst, inl, inr, arith, length-append}
 use Rattle.std.specs.Prelude.{option_and_then}
-use Rattle.std.specs.List.{find, count_by}
-use Rattle.std.specs.FinMap.{get}
+use Rattle.std.specs.List.{find}
 use Rattle.std.proofs.lemmas.Bool.{eqb-true, eq-eqb}
 use Rattle.sg_base.specs.declared.numbers.TxnId.{TxnId}
 use Rattle.sg_catalog.specs.Calls as catalog
 use Rattle.sg_catalog.specs.Calls.{IsForgotten, IsOneMore, HasOne}
-use Rattle.sg_catalog.specs.Catalog.{Catalog, rows, tombs, buried, is_buried, is_by, is_tomb, is_tomb_at, is_tomb_of}
+use Rattle.sg_catalog.specs.Catalog.{Catalog, rows, buried, is_buried, is_by, is_tomb, is_tomb_at, is_tomb_of}
 use Rattle.sg_catalog.specs.Row.{entry_of}
 use Rattle.sg_catalog.specs.declared.row.Entry.{Entry}
 use Rattle.sg_catalog.specs.declared.row.ObjectKind.{ObjectKind}
@@ -18,15 +17,13 @@ use Rattle.sg_array.specs.Calls as array
 use Rattle.sg_hash.specs.Calls as table
 use Rattle.sg_blob.specs.Calls as blob
 use Rattle.sg_catalog.specs.declared.row.ObjectKind.TheVariants as kinds
-use Rattle.sg_reading.specs.Reading.{Thing, Tomb}
-use Rattle.sg_before.specs.Forgot.{Forgets}
-use Rattle.sg_contents.specs.Standing.{Body, Contents, Holds, IsContents, IsBody, IsAmong, is_at, map_bands}
+use Rattle.sg_contents.specs.Standing.{Body, Contents, Holds, IsContents, IsBody, IsAmong, map_bands}
 use Rattle.sg_contents.specs.Changes.{BodyGone}
 use Rattle.sg_contents.specs.Meaning.{reading, thing_at}
 use Rattle.sg_contents.proofs.Among.{found_among, one_at}
 use Rattle.sg_contents.proofs.Catalogued.{within_less}
 use Rattle.sg_contents.proofs.Counted.{counted_unmade}
-use Rattle.sg_contents.proofs.Finding.{and_left, and_right, tomb_root, tomb_name, own_passes, tomb_gone}
+use Rattle.sg_contents.proofs.Finding.{and_right, tomb_root, tomb_name, own_passes, tomb_gone}
 use Rattle.sg_contents.proofs.Framing.{catalog_turned, holds_within, body_gone, map_same}
 use Rattle.sg_contents.proofs.Reading.{get_thing, get_tomb, tomb_in}
 use Rattle.sg_objects.specs.Freed.{HasFreed, FreesBody}
@@ -134,9 +131,9 @@ module _ {by : Option TxnId} {s : Contents} {entry : Entry} (w : WasBuried by s 
         forgets = record {
           things = λ other. get_thing now other ∙ (ap (option_map (thing_at s.body)) (a.map other) ∙ sym (get_thing s other));
           gone = get_tomb now row.root.0 row.name ∙ (ap (option_and_then (tomb_in s.body)) (tomb_gone row.name row.root.0 less h.once)
-          ∙ ap (λ (b : Bool). option_and_then (tomb_in s.body) (cond b None (find (is_tomb_of row.name row.root.0) (rows s.catalog)))) (own_passes row row_tomb));
+              ∙ ap (λ (b : Bool). option_and_then (tomb_in s.body) (cond b None (find (is_tomb_of row.name row.root.0) (rows s.catalog)))) (own_passes row row_tomb));
           tombs = λ r other far. get_tomb now r other ∙ (ap (option_and_then (tomb_in s.body)) (tomb_gone other r less h.once)
-          ∙ (ap (λ (b : Bool). option_and_then (tomb_in s.body) (cond b None (find (is_tomb_of other r) (rows s.catalog)))) (not_it r other (is_tomb_of other r row) refl far) ∙ sym (get_tomb s r other)));
+              ∙ (ap (λ (b : Bool). option_and_then (tomb_in s.body) (cond b None (find (is_tomb_of other r) (rows s.catalog)))) (not_it r other (is_tomb_of other r row) refl far) ∙ sym (get_tomb s r other)));
           peak = catalog_peak s c a.change.peak;
         };
         counted = λ was. counted_unmade was t less gone;

@@ -1,5 +1,5 @@
 -- What an action that has only begun may open.
-use Rattle.std.proofs.Common.{◌≡◌, ℕ, ◌≤◌, List, Option, Some, None, refl, sym, ap, ◌∙◌, subst}
+use Rattle.std.proofs.Common.{◌≡◌, ℕ, ◌≤◌, List, refl, sym, ap, ◌∙◌, subst}
 use Rattle.sg_base.specs.Sheet.{Sheet}
 use Rattle.sg_array.specs.Array.{Array, IsArray, per_page}
 use Rattle.sg_array.specs.Calls.{IsRoomy}
@@ -12,12 +12,12 @@ use Rattle.sg_blob.specs.Blob.{Blob, IsBlob}
 use Rattle.sg_space.specs.Units.{HasAt}
 use Rattle.sg_space.specs.View.{View, Space, OnlyReads, MayFill}
 use Rattle.sg_contents.specs.Limits.{limit, ArrayLimits, BodyLimits}
-use Rattle.sg_contents.specs.Standing.{Body, Contents, IsContents, IsBody}
+use Rattle.sg_contents.specs.Standing.{Body, Contents, IsContents}
 use Rattle.sg_contents.specs.Standing.Body.{AnArray, ATable, ABlob}
 use Rattle.sg_contents.proofs.Limited.{body_limits, catalog_limits}
 use Rattle.sg_objects.specs.Done.{IsFresh}
 use Rattle.sg_objects.specs.Found.{IsAt}
-use Rattle.sg_objects.proofs.Located.{at_among, body_at}
+use Rattle.sg_objects.proofs.Located.{at_among}
 
 -- the same after reads
 pub still_fresh : {v w : View} → OnlyReads v w → v.Shows → IsFresh v → IsFresh w

@@ -1,8 +1,7 @@
 -- What the other verbs on arrays come to.
-use Rattle.std.proofs.Common.{◌≡◌, ◌≢◌, ℕ, zero, suc, ◌+◌, ◌-◌, ◌<◌, ◌≤◌, max, Bool, true, false, cond, not, List, [], ◌∷◌, ◌++◌, length, take, Option, Some, None, Ok, Err, IsOk, refl, sym, ap, ◌∙◌, subst, arith, slice_get, slice_set}
-use Rattle.std.specs.Prelude.{nat_lt, ◌==◌}
+use Rattle.std.proofs.Common.{◌≡◌, ◌≢◌, ℕ, zero, suc, ◌-◌, ◌<◌, ◌≤◌, max, Bool, false, cond, List, [], ◌∷◌, length, take, Option, Some, None, Ok, Err, refl, sym, ap, ◌∙◌, arith, slice_get, slice_set}
+use Rattle.std.specs.Prelude.{◌==◌}
 use Rattle.std.proofs.lemmas.Bool.Decides.{nat_tests}
-use Rattle.sg_ops.specs.Table.{Table as Operations}
 use Rattle.sg_model.specs.declared.reason.Reason.TheVariants.{Declined, OutOfRange}
 use Rattle.sg_model.specs.Objects.{Row as Items}
 use Rattle.sg_model.specs.Step.{pop, pop_at, pop_item, at_item, at_found, set_to, got, Decision, put_item}

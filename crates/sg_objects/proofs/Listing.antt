@@ -1,30 +1,29 @@
 -- The keys of tables, and the names of objects, in order.
-use Rattle.std.proofs.Common.{◌≡◌, ℕ, ◌+◌, ◌≤◌, Bool, true, false, cond, ◌&&◌, List, [], ◌∷◌, map, Option, Some, None, is_some, is_none, sum_by, count_by, filter, refl, arith, sym, ap, ◌∙◌, subst, Ok, Err, IsPermutation, IsSorted, option_map}
+use Rattle.std.proofs.Common.{◌≡◌, ℕ, ◌+◌, ◌≤◌, cond, ◌&&◌, List, [], ◌∷◌, map, Option, Some, None, is_some, is_none, sum_by, count_by, filter, refl, arith, sym, ap, ◌∙◌, subst, Ok, Err, IsPermutation, IsSorted}
 use Rattle.std.specs.Str.{bytes_eq}
-use Rattle.std.specs.Cmp.Lexicographic.{slice_cmp, nat_list_cmp_total}
+use Rattle.std.specs.Cmp.Lexicographic.{nat_list_cmp_total}
 use Rattle.std.specs.FinMap.{get, keys, find, get-from_entries}
 use Rattle.std.proofs.lemmas.List.Sums.{sum_by-cons}
 use Rattle.sg_base.specs.declared.numbers.TxnId.{TxnId}
 use Rattle.sg_ops.specs.Table.{Table as Operations}
 use Rattle.sg_bucket.specs.Division.{keys_of}
 use Rattle.sg_bucket.specs.Entry.{Entry, AreOnce}
-use Rattle.sg_catalog.specs.Catalog.{Catalog, rows, is_there}
+use Rattle.sg_catalog.specs.Catalog.{rows, is_there}
 use Rattle.sg_catalog.specs.Look.{names_of, is_object}
 use Rattle.sg_catalog.specs.declared.row.ObjectKind.TheVariants as kinds
 use Rattle.sg_catalog.specs.declared.row.Row.{Row}
 use Rattle.sg_hash.specs.Table.{HashTable, entries}
-use Rattle.sg_model.specs.Objects.{Entries}
-use Rattle.sg_model.specs.Step.{on, on_table}
-use Rattle.sg_model.specs.Verb.{Outcome, Reply}
+use Rattle.sg_model.specs.Step.{on}
+use Rattle.sg_model.specs.Verb.{Outcome}
 use Rattle.sg_model.specs.Verb.Verb.{Keys}
 use Rattle.sg_model.specs.Verb.Reply.{Several}
-use Rattle.sg_reading.specs.Reading.{Thing, objects, plain, slot}
+use Rattle.sg_reading.specs.Reading.{Thing, objects, plain}
 use Rattle.sg_reading.proofs.Slotted.{get_objects}
 use Rattle.sg_model.specs.declared.reason.Reason.{Reason}
 use Rattle.sg_space.specs.View.{Space}
 use Rattle.sg_contents.specs.Standing.{Body, Contents, IsContents}
 use Rattle.sg_contents.specs.Standing.Body.{ATable}
-use Rattle.sg_contents.specs.Meaning.{pair_of, map_of, thing_of, thing_at, if_object, things_of, reading}
+use Rattle.sg_contents.specs.Meaning.{pair_of, map_of, thing_at, if_object, things_of, reading}
 use Rattle.sg_objects.specs.Found.{IsAt, IsMissing}
 use Rattle.sg_objects.proofs.Ordered.{order, named, sorted_keys}
 use Rattle.sg_objects.proofs.Tables.{table_under, missing_table}

@@ -1,20 +1,17 @@
 -- The body under a name.
-use Rattle.std.proofs.Common.{◌≡◌, ◌≢◌, ◌≤◌, ℕ, max, length, List, [], ◌∷◌, Option, Some, None, option_map, Ok, Err, IsOk, refl, sym, ap, ◌∙◌, subst, inl, inr, arith}
-use Rattle.std.specs.List.{count_by}
+use Rattle.std.proofs.Common.{◌≡◌, ℕ, max, length, List, ◌∷◌, Option, Some, option_map, refl, sym, ap, ◌∙◌, subst, arith}
 use Rattle.std.specs.FinMap.{get}
-use Rattle.sg_ops.specs.Table.{Table as Operations}
 use Rattle.sg_array.specs.Array.{Array, IsArray}
 use Rattle.sg_array.specs.Calls as array
 use Rattle.std.proofs.lemmas.Bool.Decides.{nat_tests}
 use Rattle.sg_base.specs.Sheet.{Sheet}
-use Rattle.sg_catalog.specs.Catalog.{Catalog, IsCatalog, rows, there, is_there}
-use Rattle.sg_catalog.specs.declared.row.Row.{Row}
+use Rattle.sg_catalog.specs.Catalog.{Catalog, IsCatalog, rows, is_there}
 use Rattle.sg_catalog.specs.declared.row.ObjectKind.{ObjectKind}
 use Rattle.sg_catalog.specs.declared.row.ObjectKind.TheVariants as kinds
 use Rattle.sg_space.specs.View.{View, Space, OnlyReads}
 use Rattle.sg_space.proofs.Known.{still}
-use Rattle.sg_reading.specs.Reading.{Thing, Tomb, Reading}
-use Rattle.sg_contents.specs.Standing.{Body, Contents, Holds, IsContents, IsBody, IsAmong, map_bands, is_at}
+use Rattle.sg_reading.specs.Reading.{Thing, Tomb}
+use Rattle.sg_contents.specs.Standing.{Body, Contents, Holds, IsContents, IsBody, IsAmong, map_bands}
 use Rattle.sg_contents.specs.Standing.Body.{AnArray, ATable, ABlob}
 use Rattle.sg_contents.specs.Changes.{with_body, BodyTurns}
 use Rattle.sg_contents.specs.Meaning.{thing_of, thing_at, reading, IsCounted}

@@ -1,43 +1,37 @@
 -- Making arrays, and dropping objects.
-use Rattle.std.proofs.Common.{◌≡◌, ◌≢◌, ◌⊎◌, inl, inr, ℕ, ◌+◌, ◌*◌, ◌<◌, ◌≤◌, max, ◌==◌, ◌&&◌, Bool, true, false, cond, List, [], ◌∷◌, ◌++◌, length, Option, Some, None, option_map, is_some, IsSome, Ok, Err, IsOk, refl, sym, ap, ◌∙◌, subst, arith}
+use Rattle.std.proofs.Common.{◌≡◌, ◌⊎◌, inl, inr, ℕ, ◌<◌, ◌≤◌, max, ◌==◌, ◌&&◌, Bool, true, false, cond, List, [], ◌∷◌, length, Option, Some, None, option_map, is_some, Ok, Err, refl, sym, ap, ◌∙◌, subst, arith}
 use Rattle.std.specs.Prelude.{nat_le, is_ok}
 use Rattle.std.specs.FinMap.{get}
 use Rattle.std.proofs.lemmas.Bool.Decides.{nat_tests}
 use Rattle.sg_base.specs.declared.numbers.TxnId.{TxnId}
 use Rattle.sg_ops.specs.Table.{Table as Operations}
-use Rattle.sg_array.specs.Array.{Array, IsArray}
 use Rattle.sg_array.specs.Calls as array
 use Rattle.sg_array.specs.Calls.{empty_array}
 use Rattle.sg_catalog.specs.Calls as catalog
 use Rattle.sg_catalog.specs.Calls.{IsBuried, IsAdded, CanAdd, object}
 use Rattle.sg_catalog.specs.Catalog.{Catalog, IsCatalog, rows, there}
-use Rattle.sg_catalog.specs.Catalog as listing
 use Rattle.sg_catalog.specs.Row.{entry_of}
 use Rattle.sg_catalog.specs.declared.row.Entry.{Entry}
 use Rattle.sg_catalog.specs.declared.row.ObjectKind.{ObjectKind}
 use Rattle.sg_catalog.specs.declared.row.ObjectKind.TheVariants as kinds
 use Rattle.sg_catalog.specs.declared.row.Row.{Row}
-use Rattle.sg_model.specs.declared.reason.Reason.TheVariants.{OutOfRange, NoObject, Exists}
-use Rattle.sg_model.specs.Objects.{Object}
+use Rattle.sg_model.specs.declared.reason.Reason.TheVariants.{OutOfRange, Exists}
 use Rattle.sg_model.specs.Objects.Object.{Array as AsArray}
-use Rattle.sg_model.specs.Step.{on, make_array, Change}
-use Rattle.sg_model.specs.Verb.{Verb, Outcome}
+use Rattle.sg_model.specs.Step.{on, Change}
 use Rattle.sg_model.specs.Verb.Verb.{MakeArray, Discard}
 use Rattle.sg_model.specs.Verb.Reply.{Done}
-use Rattle.sg_space.specs.Units.{Units}
-use Rattle.sg_space.specs.View.{View, Space, Keeps, MayFill}
+use Rattle.sg_space.specs.View.{View, Space, Keeps}
 use Rattle.sg_space.specs.Pages.{HasFree}
-use Rattle.sg_reading.specs.Reading.{Thing, Tomb, plain, slot}
-use Rattle.sg_reading.specs.Did.{slot_after, grown, entombed}
+use Rattle.sg_reading.specs.Reading.{Thing, Tomb, plain}
+use Rattle.sg_reading.specs.Did.{grown, entombed}
 use Rattle.sg_reading.specs.Back.Undoing.{WasMake, WasDrop}
 use Rattle.sg_reading.specs.Noted.{noted}
-use Rattle.sg_contents.specs.Standing.{Body, Contents, Holds, IsContents, map_bands}
+use Rattle.sg_contents.specs.Standing.{Body, Contents, Holds, IsContents}
 use Rattle.sg_contents.specs.Standing.Body.{AnArray, ATable, ABlob}
 use Rattle.sg_contents.specs.Changes.{with_body, BodyMade}
-use Rattle.sg_contents.specs.Meaning.{reading, thing_of, thing_at, around_of}
+use Rattle.sg_contents.specs.Meaning.{reading, thing_at, around_of}
 use Rattle.sg_contents.proofs.Standing.{nothing_owned}
-use Rattle.sg_contents.proofs.Framing.{map_same, body_made}
-use Rattle.sg_contents.proofs.Catalogued.{row_made, made_thing, made_others, made_tombs, row_buried, buried_thing, buried_others, buried_tomb, buried_tombs}
+use Rattle.sg_contents.proofs.Catalogued.{row_buried, buried_thing, buried_others, buried_tomb, buried_tombs}
 use Rattle.sg_contents.proofs.Reading.{get_thing}
 use Rattle.sg_objects.specs.Done.{IsDone, IsFresh, HasRoomFor, done_by}
 use Rattle.sg_objects.specs.Needs.{needed, pages_alone, HasTaken}
@@ -120,7 +114,7 @@ make_accepted s name t size none some few = ap (λ (x : Option Thing). (on t (Ma
 pub make_done : {old mid new : Space} {s : Contents} {c : Catalog} (t : Operations) (by : ℕ) (name note : List ℕ) (size root : ℕ) (entry : Entry) → IsContents old s → there name (rows s.catalog) ≡ None → 1 ≤ size → size ≤ 256 → array.IsMade old mid root size → catalog.Turns mid new s.catalog c → IsAdded (object name entry) s.catalog c → entry.kind ≡ kinds.Array → entry.root.0 ≡ root → note ≡ note_bytes name WasMake → IsDone t by name (MakeArray size) (Ok Done) note old new s (record { catalog = c; body = (with_body entry.root.0 (AnArray (empty_array size)) s).body })
 make_done {old} {mid} {new} {s} {c} t by name note size root entry h none some few made turns a kind_is root_is noted_is =
     let m : BodyMade old mid entry.kind entry.root.0 (AnArray (empty_array size)) =
-        subst (λ (r : ℕ). BodyMade old mid entry.kind r (AnArray (empty_array size))) (sym root_is) (subst (λ (k : ObjectKind). BodyMade old mid k root (AnArray (empty_array size))) (sym kind_is) (array_made made)) in
+    subst (λ (r : ℕ). BodyMade old mid entry.kind r (AnArray (empty_array size))) (sym root_is) (subst (λ (k : ObjectKind). BodyMade old mid k root (AnArray (empty_array size))) (sym kind_is) (array_made made)) in
     let under = nothing_under s name none in
     object_made t by name (MakeArray size) Done note entry 2 h none m turns a (make_accepted s name t size none some few)
     (ap (λ (x : Option Thing). (let k : Change = on t (MakeArray size) (plain x) in grown (done_by (reading s) by name (MakeArray size) entry.root.0 []) (MakeArray size) (is_ok k.0) x k.1)) under

@@ -1,9 +1,8 @@
 -- The lengths of objects.
-use Rattle.std.proofs.Common.{◌≡◌, ◌≢◌, ℕ, ◌≤◌, max, Bool, List, [], ◌∷◌, ◌++◌, length, Option, Some, None, option_map, Ok, Err, refl, sym, ap, ◌∙◌, subst, arith}
+use Rattle.std.proofs.Common.{◌≡◌, ℕ, Bool, List, [], ◌∷◌, ◌++◌, length, Option, Some, None, option_map, Ok, Err, refl, sym, ap, ◌∙◌, subst}
 use Rattle.std.specs.Prelude.{is_ok}
 use Rattle.std.specs.FinMap.{get}
 use Rattle.sg_ops.specs.Table.{Table as Operations}
-use Rattle.sg_array.specs.Array.{Array, IsArray}
 use Rattle.sg_blob.specs.Blob.{Blob, IsBlob}
 use Rattle.sg_catalog.specs.Catalog.{rows, there, is_there}
 use Rattle.sg_catalog.specs.Row.{entry_of}
@@ -11,10 +10,10 @@ use Rattle.sg_catalog.specs.declared.row.Entry.{Entry}
 use Rattle.sg_catalog.specs.declared.row.ObjectKind.{ObjectKind}
 use Rattle.sg_catalog.specs.declared.row.ObjectKind.TheVariants as kinds
 use Rattle.sg_catalog.specs.declared.row.Row.{Row}
-use Rattle.sg_model.specs.declared.reason.Reason.TheVariants.{NoObject, WrongKind}
+use Rattle.sg_model.specs.declared.reason.Reason.TheVariants.{NoObject}
 use Rattle.sg_model.specs.Objects.Object.{Array as AsArray, Table as AsTable, Blob as AsBlob}
-use Rattle.sg_model.specs.Step.{on, len}
-use Rattle.sg_model.specs.Verb.{Outcome, Reply}
+use Rattle.sg_model.specs.Step.{len}
+use Rattle.sg_model.specs.Verb.{Outcome}
 use Rattle.sg_model.specs.Verb.Verb.{Len}
 use Rattle.sg_model.specs.Verb.Reply.{Number}
 use Rattle.sg_space.specs.View.{Space}
@@ -36,7 +35,6 @@ use Rattle.sg_objects.proofs.Items.{max_same}
 use Rattle.sg_objects.proofs.Located.{thing_under, body_at}
 use Rattle.sg_objects.proofs.Making.{entry_found}
 use Rattle.sg_objects.proofs.Refused.{nothing_under}
-use Rattle.sg_objects.proofs.Tables.{table_body}
 
 -- what a search found is an object there
 pub found_at : (s : Contents) (name : List ℕ) (e : Entry) → Some e ≡ option_map entry_of (there name (rows s.catalog)) → IsAt e.kind s name e.root.0

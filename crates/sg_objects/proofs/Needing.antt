@@ -1,15 +1,14 @@
 -- What verbs need, and that they are accepted.
-use Rattle.std.proofs.Common.{◌≡◌, ℕ, ◌+◌, ◌-◌, ◌<◌, ◌≤◌, Bool, true, false, List, [], length, Option, Some, None, option_map, is_some, Result, Ok, Err, IsOk, IfOk, refl, sym, ap, ◌∙◌, subst, arith}
+use Rattle.std.proofs.Common.{◌≡◌, ℕ, ◌-◌, ◌<◌, ◌≤◌, true, false, List, length, Option, Some, None, option_map, is_some, Result, Ok, Err, IsOk, IfOk, refl, sym, ap, ◌∙◌, subst, arith}
 use Rattle.std.specs.FinMap.{get}
 use Rattle.sg_ops.specs.Table.{Table as Operations}
-use Rattle.sg_array.specs.Array.{Array}
 use Rattle.sg_catalog.specs.Catalog.{rows, there}
 use Rattle.sg_catalog.specs.declared.row.ObjectKind.TheVariants as kinds
 use Rattle.sg_catalog.specs.declared.row.Row.{Row}
 use Rattle.sg_hash.specs.Table.{HashTable, value_at}
 use Rattle.sg_model.specs.declared.reason.Reason.TheVariants.{NoObject}
 use Rattle.sg_model.specs.Objects.{Row as Items, Entries}
-use Rattle.sg_model.specs.Step.{on, pop, at_item, set_to, got, apply, at_key, found, del_value, put_value, len, Update, updated}
+use Rattle.sg_model.specs.Step.{on, found, del_value, len}
 use Rattle.sg_model.specs.Verb.{Verb, Outcome, Reply}
 use Rattle.sg_model.specs.Verb.Verb.{MakeArray, MakeTable, Discard, Push, Pop, Set, Get, Len, Apply, Put, Del, Find}
 use Rattle.sg_model.specs.Verb.Reply.{Number}
@@ -24,7 +23,7 @@ use Rattle.sg_contents.specs.Standing.Body.{AnArray, ATable}
 use Rattle.sg_contents.specs.Meaning.{reading, thing_of, thing_at, map_of}
 use Rattle.sg_contents.proofs.Reading.{get_map, get_thing}
 use Rattle.sg_objects.specs.Found.{IsAt, IsArrayAt, CanPushTo, CanPopOf, HasItem, CanSetIn, CanApplyTo, CheckedBy}
-use Rattle.sg_objects.specs.Needs.{Needed, needed, needed_put, needed_del, pages_alone}
+use Rattle.sg_objects.specs.Needs.{needed, needed_put, needed_del, pages_alone}
 use Rattle.sg_objects.specs.Needing.{HasNeed, needed_of}
 use Rattle.sg_objects.specs.declared.need.Needs as code
 use Rattle.sg_objects.proofs.Applying.{apply_row, can_apply, checked_err}

@@ -1,37 +1,33 @@
 -- Popping, reading and setting items.
-use Rattle.std.proofs.Common.{◌≡◌, ◌≢◌, ℕ, zero, suc, ◌+◌, ◌-◌, ◌<◌, ◌≤◌, max, List, [], ◌∷◌, ◌++◌, length, take, Option, Some, None, Ok, Err, IsOk, refl, sym, ap, ◌∙◌, subst, arith, slice_get, slice_set, length-set}
-use Rattle.std.specs.FinMap.{get}
+use Rattle.std.proofs.Common.{◌≡◌, ℕ, zero, suc, ◌-◌, ◌<◌, ◌≤◌, List, [], length, take, Option, Some, Ok, refl, sym, ap, ◌∙◌, subst, arith, slice_get, slice_set, length-set}
 use Rattle.std.proofs.lemmas.List.{length-take-le}
 use Rattle.sg_ops.specs.Table.{Table as Operations}
 use Rattle.sg_array.specs.Array.{Array, IsArray}
 use Rattle.sg_array.specs.Calls as array
-use Rattle.sg_model.specs.Objects.{Row as Items, Object}
+use Rattle.sg_model.specs.Objects.{Row as Items}
 use Rattle.sg_model.specs.Objects.Object.{Array as AsArray}
 use Rattle.sg_model.specs.Step.{on, pop, at_item, got, set_to, Change}
-use Rattle.sg_model.specs.Verb.{Verb, Outcome, Reply}
+use Rattle.sg_model.specs.Verb.{Outcome}
 use Rattle.sg_model.specs.Verb.Verb.{Pop, Set, Get}
 use Rattle.sg_model.specs.Verb.Reply.{Done, Bytes}
-use Rattle.sg_space.specs.View.{View, Space, OnlyReads}
-use Rattle.sg_reading.specs.Reading.{Thing, plain, slot}
-use Rattle.sg_reading.specs.Did.{slot_after}
-use Rattle.sg_reading.specs.Back.{Undoing}
+use Rattle.sg_space.specs.View.{Space}
+use Rattle.sg_reading.specs.Reading.{Thing, plain}
 use Rattle.sg_reading.specs.Back.Undoing.{WasPop, WasSet}
 use Rattle.sg_reading.specs.Noted.{noted, noted_last, noted_popped, noted_item}
 use Rattle.sg_contents.specs.Standing.{Contents, IsContents}
 use Rattle.sg_contents.specs.Standing.Body.{AnArray}
 use Rattle.sg_contents.specs.Changes.{with_body}
 use Rattle.sg_contents.specs.Meaning.{reading, thing_of}
-use Rattle.sg_objects.specs.Done.{IsDone, Leaves, done_by}
-use Rattle.sg_objects.specs.Found.{IsArrayAt, CanPopOf, HasItem, CanSetIn}
+use Rattle.sg_objects.specs.Done.{IsDone, done_by}
+use Rattle.sg_objects.specs.Found.{CanPopOf, HasItem, CanSetIn}
 use Rattle.sg_objects.specs.Notes.{note_bytes}
 use Rattle.sg_objects.specs.declared.find.ArrayAt.{ArrayAt}
-use Rattle.sg_objects.proofs.Located.{array_under, array_at}
+use Rattle.sg_objects.proofs.Located.{array_under}
 use Rattle.sg_objects.proofs.Pushing.{items_of, array_left}
 use Rattle.sg_objects.proofs.Items.{max_same, pop_row, get_row, set_row}
 use Rattle.sg_objects.specs.Needs.{needed, HasTaken}
 use Rattle.sg_objects.proofs.Bodies.{read_done, noted_some, none_taken}
 use Rattle.sg_objects.proofs.Doing.{array_done, same_taken}
-
 
 -- what a change of an array gives, as a change of an object
 pub changed : (r : Outcome × Items) (o : Outcome) (row : Items) → r ≡ (o, row) → ◌≡◌ {A = Change} (r.0, Some (AsArray r.1)) (o, Some (AsArray row))

@@ -1,6 +1,6 @@
 -- The bytes of a note say it.
-use Rattle.std.proofs.Common.{◌≡◌, ℕ, suc, ◌+◌, ◌<◌, ◌≤◌, ◌^◌, ◌%◌, ◌&&◌, Bool, true, false, List, [], ◌∷◌, ◌++◌, length, take, drop, refl, sym, ap, ◌∙◌, subst, arith, length-append}
-use Rattle.std.specs.Prelude.{nat_le, slice_index, slice_index_or}
+use Rattle.std.proofs.Common.{◌≡◌, ℕ, ◌+◌, ◌<◌, ◌≤◌, ◌^◌, ◌%◌, ◌&&◌, Bool, true, false, List, [], ◌∷◌, ◌++◌, length, take, drop, refl, sym, ap, ◌∙◌, arith, length-append}
+use Rattle.std.specs.Prelude.{nat_le, slice_index}
 use Rattle.std.specs.List.{list_all}
 use Rattle.std.proofs.lemmas.List.{append_assoc}
 use Rattle.std.proofs.lemmas.Bool.Decides.{nat_tests}
@@ -8,9 +8,9 @@ use Rattle.std.proofs.Math.Nat.{mod-eq_of_lt}
 use Rattle.byteorder.specs.Endian.{little_bytes, little_number}
 use Rattle.byteorder.specs.Numbers.{little_number-reads_back}
 use Rattle.sg_base.specs.Spelling.{is_name, is_letter, is_name_byte}
-use Rattle.sg_reading.specs.Back.{Undoing, UndoNote}
+use Rattle.sg_reading.specs.Back.{Undoing}
 use Rattle.sg_reading.specs.Back.Undoing.{WasNothing, WasMake, WasDrop, WasPush, WasPop, WasSet, WasApply, WasPut, WasOver, WasBytes}
-use Rattle.sg_objects.specs.Notes.{head_bytes, note_bytes, byte_at, over_said, undoing_said, note_said, AreFields, IsNote}
+use Rattle.sg_objects.specs.Notes.{head_bytes, note_bytes, byte_at, over_said, undoing_said, AreFields, IsNote}
 use Rattle.sg_objects.specs.Reversing.{IsWhole}
 
 taken : (xs ys : List ℕ) → take (length xs) (xs ++ ys) ≡ xs

@@ -1,19 +1,19 @@
 -- One verb as any.
-use Rattle.std.proofs.Common.{◌≡◌, ℕ, Bool, List, [], ◌∷◌, Option, Some, None, Result, Ok, Err, IfOk, refl, sym, ap, ◌∙◌, subst}
+use Rattle.std.proofs.Common.{◌≡◌, ℕ, Bool, List, Option, Some, None, Result, Ok, Err, IfOk, refl, ◌∙◌, subst}
 use Rattle.std.specs.Prelude.{is_ok}
 use Rattle.std.specs.FinMap.{get}
 use Rattle.sg_ops.specs.Table.{Table as Operations}
 use Rattle.sg_model.specs.Objects.{Object}
 use Rattle.sg_model.specs.Step.{on}
-use Rattle.sg_model.specs.Verb.{Verb, Outcome, Reply}
+use Rattle.sg_model.specs.Verb.{Verb, Outcome}
 use Rattle.sg_model.specs.Verb.Verb.{MakeArray, MakeTable, MakeBlob, Discard, Push, Pop, Set, Get, Len, Apply, Put, Del, Find, Keys, Write, Read, Size, Paint}
 use Rattle.sg_model.specs.declared.op.Reply as code_reply
 use Rattle.sg_model.specs.declared.reason.Reason.{Reason}
 use Rattle.sg_model.specs.SaidReplies.{said_outcome}
 use Rattle.sg_space.specs.declared.space.SpaceFault.{SpaceFault}
 use Rattle.sg_space.specs.View.{View, Space}
-use Rattle.sg_reading.specs.Reading.{Thing, Tomb, Reading, plain, Slot, slot}
-use Rattle.sg_reading.specs.Did.{Did as Doing, grown, slot_after, buried_by}
+use Rattle.sg_reading.specs.Reading.{Thing, Reading, plain, Slot, slot}
+use Rattle.sg_reading.specs.Did.{Did as Doing, grown, buried_by}
 use Rattle.sg_model.specs.SaidOps.{name_of, verb_of}
 use Rattle.sg_model.specs.declared.op.Op.{Op}
 use Rattle.sg_contents.specs.Standing.{Contents, HasContents}

@@ -1,30 +1,26 @@
 -- What pushing an item comes to.
-use Rattle.std.proofs.Common.{◌≡◌, ◌≢◌, ℕ, zero, suc, ◌+◌, ◌/◌, ◌*◌, ◌<◌, ◌≤◌, max, Bool, true, false, cond, not, List, [], ◌∷◌, ◌++◌, length, Option, Some, None, Ok, Err, IsOk, refl, sym, ap, ◌∙◌, subst, arith, length-append, slice_get}
+use Rattle.std.proofs.Common.{◌≡◌, ℕ, ◌<◌, max, Bool, true, cond, not, List, [], ◌∷◌, ◌++◌, length, Option, Some, Ok, Err, sym, ap, ◌∙◌, arith, length-append}
 use Rattle.std.specs.Prelude.{nat_lt, ◌==◌, is_ok}
 use Rattle.std.specs.FinMap.{get}
 use Rattle.std.proofs.lemmas.Bool.Decides.{nat_tests}
 use Rattle.sg_ops.specs.Table.{Table as Operations}
-use Rattle.sg_array.specs.Array.{Array, IsArray, per_page}
-use Rattle.sg_array.specs.Calls.{IsPushed, IsRoomy}
-use Rattle.sg_array.proofs.Pushes.{per_page-most}
+use Rattle.sg_array.specs.Array.{Array}
+use Rattle.sg_array.specs.Calls.{IsPushed}
 use Rattle.sg_model.specs.declared.reason.Reason.TheVariants.{Declined, TooMany}
-use Rattle.sg_model.specs.Objects.{Row as Items, Object}
+use Rattle.sg_model.specs.Objects.{Row as Items}
 use Rattle.sg_model.specs.Objects.Object.{Array as AsArray}
 use Rattle.sg_model.specs.Step.{on, push, Change}
 use Rattle.sg_model.specs.Verb.{Verb, Outcome, Reply}
 use Rattle.sg_model.specs.Verb.Verb.{Push}
 use Rattle.sg_model.specs.Verb.Reply.{Number}
-use Rattle.sg_space.specs.View.{View, MayFill}
-use Rattle.sg_base.specs.Sheet.{Sheet}
-use Rattle.sg_space.specs.Units.{HasAt}
-use Rattle.sg_reading.specs.Reading.{Thing, Reading, plain, Slot, slot}
+use Rattle.sg_space.specs.View.{View}
+use Rattle.sg_reading.specs.Reading.{Thing, Reading, plain, slot}
 use Rattle.sg_reading.specs.Reading.Thing.{There}
 use Rattle.sg_reading.specs.Did.{slot_after, grown}
 use Rattle.sg_reading.specs.Did as model
 use Rattle.sg_contents.specs.Standing.Body.{AnArray}
 use Rattle.sg_contents.specs.Meaning.{thing_of}
 use Rattle.sg_contents.proofs.Among.{eq_self}
-use Rattle.sg_objects.specs.Done.{IsFresh}
 
 pub same_size : (m n : ℕ) → m ≡ n → (m == n) ≡ true
 same_size m n e = ap (λ (k : ℕ). m == k) (sym e) ∙ eq_self m

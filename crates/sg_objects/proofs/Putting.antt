@@ -1,11 +1,11 @@
 -- What putting an entry comes to, and putting one back.
-use Rattle.std.proofs.Common.{◌≡◌, ◌≢◌, ℕ, ◌+◌, ◌<◌, ◌≤◌, max, Bool, true, false, cond, List, [], ◌∷◌, length, map, Option, Some, None, IsSome, Ok, Err, refl, sym, ap, ◌∙◌, subst, arith, inl, inr}
+use Rattle.std.proofs.Common.{◌≡◌, ℕ, ◌+◌, ◌<◌, ◌≤◌, max, Bool, true, false, cond, List, [], ◌∷◌, length, map, Option, Some, None, IsSome, Ok, Err, refl, sym, ap, ◌∙◌, subst, arith, inl, inr}
 use Rattle.std.specs.Prelude.{nat_lt, is_none}
-use Rattle.std.specs.List.{count_by, sum_by}
+use Rattle.std.specs.List.{count_by}
 use Rattle.std.specs.Ordering.{nat_cmp, is_eq}
 use Rattle.std.specs.declared.cmp.Ordering.TheVariants.{Less, Equal, Greater}
 use Rattle.std.specs.Cmp.Lexicographic.{slice_cmp, nat_list_cmp_total}
-use Rattle.std.specs.FinMap.{FinMap, get, insert, empty, entries, from_entries, get-from_entries, entries-insert, get-entries, len-entries, len-empty}
+use Rattle.std.specs.FinMap.{get, insert, empty, entries, from_entries, get-from_entries, entries-insert, get-entries, len-entries, len-empty}
 use Rattle.std.specs.FinMap as finmap
 use Rattle.std.specs.FinMap.Entries.{by_order}
 use Rattle.std.specs.Str.{bytes_eq}
@@ -24,7 +24,7 @@ use Rattle.sg_hash.proofs.Onces.{once}
 use Rattle.sg_model.specs.declared.reason.Reason.TheVariants.{TooLong, OutOfRange}
 use Rattle.sg_model.specs.Objects.{Entries}
 use Rattle.sg_model.specs.Objects.Object.{Table as AsTable}
-use Rattle.sg_model.specs.Step.{on, on_table, at_key, put_value, put_reply, Update, updated, Change}
+use Rattle.sg_model.specs.Step.{on, at_key, put_value, put_reply, Update, updated, Change}
 use Rattle.sg_model.specs.Step.Update.{Stays, Becomes}
 use Rattle.sg_model.specs.Verb.{Outcome, Reply}
 use Rattle.sg_model.specs.Verb.Verb.{Put}
@@ -33,10 +33,9 @@ use Rattle.sg_space.specs.View.{View, Space}
 use Rattle.sg_reading.specs.Reading.{Thing, plain}
 use Rattle.sg_reading.specs.Reading.Thing.{There}
 use Rattle.sg_reading.specs.Did.{bytes_of, entry_bytes}
-use Rattle.sg_reading.specs.Back.{rebuilt, if_done}
 use Rattle.sg_reading.specs.Back.Undoing.{WasPut, WasOver}
 use Rattle.sg_reading.specs.Noted.{noted_put}
-use Rattle.sg_contents.specs.Standing.{Body, Contents, IsContents, IsTable}
+use Rattle.sg_contents.specs.Standing.{Body, Contents, IsContents}
 use Rattle.sg_contents.specs.Standing.Body.{ATable}
 use Rattle.sg_contents.specs.Changes.{with_body, BodyTurns}
 use Rattle.sg_contents.specs.Meaning.{reading, thing_of, pair_of, map_of}

@@ -1,5 +1,5 @@
 -- Undoing a note of bytes: the length comes back behind the bytes.
-use Rattle.std.proofs.Common.{◌≡◌, ◌≢◌, ℕ, zero, suc, ◌+◌, ◌*◌, ◌<◌, ◌≤◌, Bool, true, false, cond, List, [], ◌∷◌, ◌++◌, length, drop, slice_get, Option, Some, None, option_map, Ok, Err, refl, sym, ap, ◌∙◌, subst, inl, inr, arith}
+use Rattle.std.proofs.Common.{◌≡◌, ◌≢◌, ℕ, ◌+◌, ◌*◌, ◌≤◌, Bool, true, false, cond, List, [], length, drop, slice_get, Option, Some, None, option_map, Ok, Err, refl, sym, ap, ◌∙◌, subst, inl, arith}
 use Rattle.std.specs.Prelude.{nat_le, slice_index}
 use Rattle.std.specs.FinMap.{get}
 use Rattle.std.proofs.lemmas.Bool.Decides.{nat_tests}
@@ -7,33 +7,29 @@ use Rattle.sg_base.specs.Sheet.{Sheet}
 use Rattle.sg_ops.specs.Table.{Table as Operations}
 use Rattle.sg_blob.specs.Blob.{Blob, IsBlob, OwnsBand, OwnsPage}
 use Rattle.sg_blob.specs.Raw.{Raw, IsRaw, IsRoot, IsPart}
-use Rattle.sg_blob.specs.Calls as blob
 use Rattle.sg_blob.specs.Calls.{CanRestore}
 use Rattle.sg_blob.specs.Steps.{RawTurns, with_root}
-use Rattle.sg_catalog.specs.Catalog.{Catalog, IsCatalog, rows, there}
+use Rattle.sg_catalog.specs.Catalog.{IsCatalog, rows, there}
 use Rattle.sg_catalog.specs.Row.{entry_of}
 use Rattle.sg_catalog.specs.declared.row.Entry.{Entry}
-use Rattle.sg_catalog.specs.declared.row.ObjectKind.{ObjectKind}
 use Rattle.sg_catalog.specs.declared.row.ObjectKind.TheVariants as kinds
 use Rattle.sg_catalog.specs.declared.row.Row.{Row}
 use Rattle.sg_model.specs.declared.reason.Reason.{Reason}
 use Rattle.sg_model.specs.declared.reason.Reason.TheVariants.{NoObject, WrongKind, OutOfRange}
-use Rattle.sg_model.specs.Objects.{Object}
 use Rattle.sg_model.specs.Objects.Object.{Blob as AsBlob}
 use Rattle.sg_model.specs.Step.{on_blob}
 use Rattle.sg_model.specs.Verb.{Outcome}
 use Rattle.sg_model.specs.Verb.Reply.{Done}
-use Rattle.sg_space.specs.Owned.{Becomes, Grows}
+use Rattle.sg_space.specs.Owned.{Becomes}
 use Rattle.sg_space.specs.Units.{Units, HasAt}
 use Rattle.sg_space.specs.View.{Space}
 use Rattle.sg_space.proofs.Owners.{grown}
 use Rattle.sg_reading.specs.Reading.{Thing, Around, plain, slot}
 use Rattle.sg_reading.specs.Reading.Thing.{There}
 use Rattle.sg_reading.specs.Back.{Before, Patch, back, carried_out, planned, lay_plan, located, padded, all_laid, all_zero, lay, if_done, rebuilt}
-use Rattle.sg_reading.specs.Back.Plan.{Lay}
 use Rattle.sg_reading.specs.Back.Undoing.{WasBytes}
 use Rattle.sg_reading.proofs.Bytes.{length_padded}
-use Rattle.sg_before.specs.Laying.{put_on, AreWithin}
+use Rattle.sg_before.specs.Laying.{put_on}
 use Rattle.sg_before.proofs.Parted.{IsHeld, AreHeld, held_all, held_at, byte_index}
 use Rattle.sg_before.proofs.Bytes.{distinct, put_bytes, none_on}
 use Rattle.sg_contents.specs.Standing.{Body, Contents, IsContents}
@@ -43,7 +39,7 @@ use Rattle.sg_contents.specs.Meaning.{reading, thing_of}
 use Rattle.sg_objects.specs.Found.{IsAt, IsMissing}
 use Rattle.sg_objects.specs.PutBack.{HasBack}
 use Rattle.sg_objects.specs.Undone.{IsUndone}
-use Rattle.sg_objects.proofs.Blobbed.{blob_there, missing_blob}
+use Rattle.sg_objects.proofs.Blobbed.{missing_blob}
 use Rattle.sg_objects.proofs.Bodies.{body_undone}
 use Rattle.sg_objects.proofs.Located.{thing_under}
 

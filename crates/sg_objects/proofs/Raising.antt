@@ -1,9 +1,8 @@
 -- What undoes the making and the dropping of objects.
-use Rattle.std.proofs.Common.{◌≡◌, ◌≢◌, ℕ, ◌+◌, ◌≤◌, ◌==◌, length, arith, Bool, true, false, cond, List, [], ◌∷◌, Option, Some, None, option_map, is_some, IsSome, refl, sym, ap, ◌∙◌, subst, inl}
+use Rattle.std.proofs.Common.{◌≡◌, ℕ, length, arith, List, ◌∷◌, Option, Some, None, option_map, IsSome, refl, sym, ap, ◌∙◌, subst, inl}
 use Rattle.std.specs.Prelude.{option_and_then}
 use Rattle.std.specs.List.{find}
 use Rattle.std.specs.FinMap.{get}
-use Rattle.sg_ops.specs.Table.{Table as Operations}
 use Rattle.sg_array.specs.Array.{Array, IsArray}
 use Rattle.sg_array.specs.Calls as array
 use Rattle.sg_catalog.specs.Calls as catalog
@@ -16,13 +15,13 @@ use Rattle.sg_base.specs.declared.numbers.TxnId.{TxnId}
 use Rattle.sg_space.specs.Units.{Units}
 use Rattle.sg_space.specs.View.{Space}
 use Rattle.sg_space.proofs.Known.{same_some}
-use Rattle.sg_reading.specs.Reading.{Thing, Tomb, slot}
-use Rattle.sg_reading.specs.Back.{back, raised, unmade}
+use Rattle.sg_reading.specs.Reading.{Thing, Tomb}
+use Rattle.sg_reading.specs.Back.{raised, unmade}
 use Rattle.sg_reading.specs.Back.Undoing.{WasMake, WasDrop}
 use Rattle.sg_contents.specs.Standing.{Body, Contents, Holds, IsContents, IsBody, map_bands}
 use Rattle.sg_contents.specs.Standing.Body.{AnArray}
 use Rattle.sg_contents.specs.Changes.{BodyGone}
-use Rattle.sg_contents.specs.Meaning.{reading, thing_of, thing_at, tomb_at}
+use Rattle.sg_contents.specs.Meaning.{reading, thing_at, tomb_at}
 use Rattle.sg_contents.proofs.Standing.{nothing_owned}
 use Rattle.sg_contents.proofs.Framing.{map_same}
 use Rattle.sg_contents.proofs.Reading.{get_thing, get_tomb, tomb_of, tomb_in}

@@ -1,5 +1,5 @@
 -- What undoes a registered operation on an item.
-use Rattle.std.proofs.Common.{◌≡◌, ◌≢◌, ℕ, ◌<◌, ◌≤◌, ◌&&◌, Bool, true, false, cond, List, [], ◌∷◌, length, Option, Some, None, Ok, Err, IsTrue, IfSome, refl, sym, ap, ◌∙◌, subst, arith, inl, inr, slice_get, slice_set}
+use Rattle.std.proofs.Common.{◌≡◌, ℕ, ◌≤◌, ◌&&◌, Bool, true, false, cond, List, [], length, Option, Some, None, Ok, Err, IsTrue, IfSome, refl, sym, ap, ◌∙◌, subst, arith, inl, inr, slice_get, slice_set}
 use Rattle.std.specs.Prelude.{nat_lt}
 use Rattle.std.specs.Str.{bytes_eq}
 use Rattle.std.specs.FinMap.{get}
@@ -9,7 +9,6 @@ use Rattle.std.proofs.lemmas.Slice.Eq.{bytes_eq-Decides}
 use Rattle.sg_base.specs.Bytes.{IsBytes}
 use Rattle.sg_base.specs.Sheet.{Sheet}
 use Rattle.sg_ops.specs.Meaning.{RecordMeaning, IsUndoable}
-use Rattle.sg_ops.specs.Steps.{IsLeft}
 use Rattle.sg_ops.specs.Table.{Table as Operations, record_at, accepts_of, after_of, before_of}
 use Rattle.sg_array.specs.Array.{Array, IsArray}
 use Rattle.sg_array.specs.Calls as array
@@ -34,8 +33,7 @@ use Rattle.sg_objects.specs.Found.{IsAt}
 use Rattle.sg_objects.specs.Undone.{IsUndone}
 use Rattle.sg_objects.proofs.Doing.{same_taken}
 use Rattle.sg_objects.proofs.Pushing.{items_of}
-use Rattle.sg_objects.proofs.Items.{none_past, some_there}
-use Rattle.sg_objects.proofs.Undoing.{WasCarried, carried, carried_at, array_undone}
+use Rattle.sg_objects.proofs.Undoing.{carried, carried_at, array_undone}
 
 -- the operation's undo was accepted: it gives the item from which this one was left
 pub record WasLeft (t : Operations) (i code : ℕ) (arg : List ℕ) (row : Items) : Type 0 where
@@ -63,7 +61,12 @@ module _ (t : Operations) (i code : ℕ) (arg : List ℕ) (row : Items) (reply :
   by_tests short item is m reg all true e ok =
       let two = both_are (m.accepts (m.before item arg) arg) (bytes_eq (m.after (m.before item arg) arg) item) e in
       record {
-        short = short; item = item; is = is; by = m; registered = reg; accepted = two.0;
+        short = short;
+        item = item;
+        is = is;
+        by = m;
+        registered = reg;
+        accepted = two.0;
         left = (bytes_eq-Decides (m.after (m.before item arg) arg) item).0 two.1;
         after = ap (λ (r : Outcome × Items). r.1) all ∙ ap (λ (b : Bool). (let r : Outcome × Option (List ℕ) = cond b (Ok Done, Some (m.before item arg)) (Err Declined, None) in put_item row i r.1)) e;
       }
@@ -81,11 +84,11 @@ module _ (t : Operations) (i code : ℕ) (arg : List ℕ) (row : Items) (reply :
   pub was_left : (unapply t i code arg row).0 ≡ Ok reply → WasLeft t i code arg row
   was_left ok = elim (cases_lt 256 (length arg)) [
     | inl long ↦ (
-      let test : nat_lt 256 (length arg) ≡ true = grind (arith, nat_tests) in
-      not_err reply TooLong (sym (ap (λ (b : Bool). (cond {A = Outcome × Items} b (Err TooLong, row) (at_item i (λ size item. undone_by arg item (record_at t code)) row)).0) test) ∙ ok))
+        let test : nat_lt 256 (length arg) ≡ true = grind (arith, nat_tests) in
+        not_err reply TooLong (sym (ap (λ (b : Bool). (cond {A = Outcome × Items} b (Err TooLong, row) (at_item i (λ size item. undone_by arg item (record_at t code)) row)).0) test) ∙ ok))
     | inr short ↦ (
-      let test : nat_lt 256 (length arg) ≡ false = grind (arith, nat_tests) in
-      by_item short (slice_get row.items i) refl (ap (λ (b : Bool). cond {A = Outcome × Items} b (Err TooLong, row) (at_item i (λ size item. undone_by arg item (record_at t code)) row)) test) ok)
+        let test : nat_lt 256 (length arg) ≡ false = grind (arith, nat_tests) in
+        by_item short (slice_get row.items i) refl (ap (λ (b : Bool). cond {A = Outcome × Items} b (Err TooLong, row) (at_item i (λ size item. undone_by arg item (record_at t code)) row)) test) ok)
   ]
 
 accepted_by : (o : Option RecordMeaning) (m : RecordMeaning) (item arg : List ℕ) → o ≡ Some m → m.accepts item arg ≡ true → IsTrue (accepts_of o item arg)

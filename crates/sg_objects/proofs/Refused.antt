@@ -1,5 +1,5 @@
 -- A verb that is refused.
-use Rattle.std.proofs.Common.{◌≡◌, ◌≢◌, ℕ, List, [], Option, Some, None, option_map, Ok, Err, refl, sym, ap, ◌∙◌, subst}
+use Rattle.std.proofs.Common.{◌≡◌, ◌≢◌, ℕ, List, [], Option, Some, None, option_map, Err, refl, sym, ap, ◌∙◌, subst}
 use Rattle.std.specs.FinMap.{get}
 use Rattle.sg_ops.specs.Table.{Table as Operations}
 use Rattle.sg_catalog.specs.Catalog.{rows, there, is_there}
@@ -14,7 +14,7 @@ use Rattle.sg_space.specs.View.{View, Space, OnlyReads}
 use Rattle.sg_reading.specs.Reading.{Thing, plain}
 use Rattle.sg_contents.specs.Standing.{Body, Contents, IsContents, IsBody}
 use Rattle.sg_contents.specs.Standing.Body.{AnArray, ATable, ABlob}
-use Rattle.sg_contents.specs.Meaning.{thing_at, thing_of, object_of, reading, IsCounted}
+use Rattle.sg_contents.specs.Meaning.{thing_at, object_of, reading, IsCounted}
 use Rattle.sg_contents.proofs.Among.{found_among}
 use Rattle.sg_contents.proofs.Reading.{get_thing}
 use Rattle.sg_objects.specs.Done.{IsDone}

@@ -1,5 +1,5 @@
 -- Notes that are undone.
-use Rattle.std.proofs.Common.{◌≡◌, ℕ, zero, suc, ◌+◌, ◌-◌, ◌<◌, ◌≤◌, Bool, true, false, cond, List, [], ◌∷◌, length, take, drop, Option, Some, None, Result, Ok, Err, OnOk, refl, sym, ap, ◌∙◌, subst, arith, inl, inr}
+use Rattle.std.proofs.Common.{◌≡◌, ℕ, zero, suc, ◌-◌, ◌≤◌, Bool, true, false, cond, List, [], ◌∷◌, length, take, drop, Option, Some, None, Result, Ok, Err, OnOk, refl, sym, ap, ◌∙◌, subst, arith, inl, inr}
 use Rattle.std.specs.FinMap.{get}
 use Rattle.std.proofs.lemmas.Bool.{cases_lt, cases_eq}
 use Rattle.sg_ops.specs.Table.{Table as Operations}
@@ -12,20 +12,20 @@ use Rattle.sg_space.specs.View.{View, Space}
 use Rattle.byteorder.specs.Endian.{little_number}
 use Rattle.sg_reading.specs.Reading.{Thing, plain, Slot, slot}
 use Rattle.sg_reading.specs.Reading.Thing.{There}
-use Rattle.sg_reading.specs.Back.{Undoing, UndoNote, Before, forget, back}
+use Rattle.sg_reading.specs.Back.{Undoing, Before, forget, back}
 use Rattle.sg_reading.specs.Back.Undoing.{WasNothing, WasMake, WasDrop, WasPush, WasPop, WasSet, WasApply, WasPut, WasOver, WasBytes}
 use Rattle.sg_contents.specs.Meaning.{reading}
 use Rattle.std.specs.Prelude.{⊤, if◌then◌else◌}
 use Rattle.sg_base.specs.Spelling.{is_name}
 use Rattle.sg_space.specs.declared.space.SpaceFault.{SpaceFault}
 use Rattle.sg_contents.specs.Standing.{Contents, IsContents, HasContents}
-use Rattle.sg_objects.specs.Notes.{IsNote, note_said, undoing_said, byte_at}
+use Rattle.sg_objects.specs.Notes.{IsNote, undoing_said, byte_at}
 use Rattle.sg_objects.specs.Needs.{needed_back, IsFree}
-use Rattle.sg_objects.specs.PutBack.{HasBack, CanUndoBytes, UndoesBytes}
+use Rattle.sg_objects.specs.PutBack.{CanUndoBytes, UndoesBytes}
 use Rattle.sg_objects.specs.Reversing.{IsWhole, CanReverseBy, IsPutBack, IsPossible, HasNote, UndoesAny, Reverses}
 use Rattle.sg_objects.specs.Undone.{CanUndo, Undoes, IsUndone}
 use Rattle.sg_objects.proofs.Forgetting.{carried_table}
-use Rattle.sg_objects.proofs.Parsing.{HasParts, parts, name_read, rest_read, said, code_of, rest_of, whole, IsPlainNote, plain_of, bytes_long}
+use Rattle.sg_objects.proofs.Parsing.{parts, name_read, rest_read, said, code_of, whole, IsPlainNote, plain_of, bytes_long}
 use Rattle.sg_objects.proofs.Putting.{put_long}
 use Rattle.sg_objects.proofs.Tables.{empty_key, long_key}
 use Rattle.sg_objects.proofs.Undoing.{was_done, not_both}

@@ -1,7 +1,6 @@
 -- How far tables have grown.
-use Rattle.std.proofs.Common.{◌≡◌, ℕ, Bool, true, List, Option, Some, None, Result, Ok, Err, IfOk, refl, sym, ap, ◌∙◌, subst}
+use Rattle.std.proofs.Common.{◌≡◌, ℕ, Bool, true, List, Option, Some, Result, Ok, Err, IfOk, sym, ap, ◌∙◌, subst}
 use Rattle.sg_base.specs.Sheet.{Sheet}
-use Rattle.sg_catalog.specs.Catalog.{rows, there}
 use Rattle.sg_catalog.specs.declared.row.ObjectKind.TheVariants as kinds
 use Rattle.sg_catalog.specs.declared.row.Row.{Row}
 use Rattle.sg_hash.specs.Calls.{IsPut}

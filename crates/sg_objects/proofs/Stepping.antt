@@ -1,12 +1,12 @@
 -- THE STEP: what a call did to all that stands there is the model's step on the objects, with its outcome.
-use Rattle.std.proofs.Common.{◌≡◌, ◌≢◌, ℕ, Bool, true, false, cond, List, [], ◌∷◌, ◌++◌, map, Option, Some, None, Result, Ok, Err, refl, sym, ap, ◌∙◌, subst}
+use Rattle.std.proofs.Common.{◌≡◌, ℕ, Bool, true, false, cond, List, [], ◌∷◌, map, Option, Some, None, Ok, Err, refl, sym, ap, ◌∙◌}
 use Rattle.std.specs.Prelude.{is_ok}
 use Rattle.std.specs.Str.{bytes_eq}
 use Rattle.std.specs.Ordering.{nat_cmp, eq_by_cmp}
 use Rattle.std.specs.Cmp.Lexicographic.{slice_cmp, nat_list_cmp_total}
-use Rattle.std.specs.FinMap.{get, from_entries, entries, get-entries, get-from_entries, find}
+use Rattle.std.specs.FinMap.{get, entries, get-entries, get-from_entries, find}
 use Rattle.sg_ops.specs.Table.{Table as Operations}
-use Rattle.sg_model.specs.Objects.{Object, Objects}
+use Rattle.sg_model.specs.Objects.{Object}
 use Rattle.sg_model.specs.Step.{on, step, put_at}
 use Rattle.sg_model.specs.Verb.{Verb, Outcome}
 use Rattle.sg_model.specs.Verb.Op.{On}
@@ -14,11 +14,11 @@ use Rattle.sg_model.proofs.Footprint.{get_put_at}
 use Rattle.sg_model.proofs.Parts.{same_entries, bytes_same, bytes_self}
 use Rattle.sg_model.proofs.Refused.{step_refused, replied}
 use Rattle.sg_space.specs.View.{Space}
-use Rattle.sg_reading.specs.Reading.{Thing, Reading, objects, object_of, plain, plain_entry, slot}
-use Rattle.sg_reading.specs.Did.{Did, grown, slot_after}
-use Rattle.sg_contents.specs.Standing.{Contents, IsContents}
+use Rattle.sg_reading.specs.Reading.{Thing, Reading, objects, object_of, plain, plain_entry}
+use Rattle.sg_reading.specs.Did.{Did, grown}
+use Rattle.sg_contents.specs.Standing.{Contents}
 use Rattle.sg_contents.specs.Meaning.{reading}
-use Rattle.sg_objects.specs.Done.{IsDone, IsLeft, Effect, done_by}
+use Rattle.sg_objects.specs.Done.{IsDone, IsLeft, done_by}
 
 -- THE OBJECTS OF A READING, name by name
 plain_cond : (b : Bool) (th : Thing) (r : Option Thing) (m : Option Object) → m ≡ plain r → cond b (Some (object_of th)) m ≡ plain (cond b (Some th) r)

@@ -1,47 +1,38 @@
 -- Making tables.
-use Rattle.std.proofs.Common.{◌≡◌, ◌≢◌, ℕ, ◌+◌, ◌<◌, ◌≤◌, ◌^◌, List, [], ◌∷◌, map, Option, Some, None, option_map, Ok, Err, refl, sym, ap, ◌∙◌, subst, arith}
+use Rattle.std.proofs.Common.{◌≡◌, ℕ, List, [], map, Option, Some, None, option_map, Ok, Err, refl, sym, ap, ◌∙◌, subst, arith}
 use Rattle.std.specs.Prelude.{is_ok}
 use Rattle.std.specs.FinMap.{get, from_entries, empty}
 use Rattle.sg_bucket.specs.Entry.{value_of}
-use Rattle.sg_hash.specs.Table.{HashTable, entries, value_at, page_count}
-use Rattle.sg_hash.specs.Table as hash
+use Rattle.sg_hash.specs.Table.{HashTable, entries}
 use Rattle.sg_hash.specs.Calls as table
 use Rattle.sg_catalog.specs.Calls as catalog
 use Rattle.sg_catalog.specs.Calls.{IsAdded, CanAdd, object}
 use Rattle.sg_catalog.specs.Catalog.{Catalog, IsCatalog, rows, there}
-use Rattle.sg_catalog.specs.Catalog as listing
 use Rattle.sg_catalog.specs.declared.row.Entry.{Entry}
 use Rattle.sg_catalog.specs.declared.row.ObjectKind.{ObjectKind}
 use Rattle.sg_catalog.specs.declared.row.ObjectKind.TheVariants as kinds
 use Rattle.sg_catalog.specs.declared.row.Row.{Row}
 use Rattle.sg_ops.specs.Table.{Table as Operations}
 use Rattle.sg_model.specs.declared.reason.Reason.TheVariants.{Exists}
-use Rattle.sg_model.specs.Objects.{Entries, Object}
-use Rattle.sg_model.specs.Objects.Object.{Table as AsTable}
 use Rattle.sg_model.specs.Step.{on, Change}
 use Rattle.sg_model.specs.Verb.Verb.{MakeTable}
 use Rattle.sg_model.specs.Verb.Reply.{Done}
 use Rattle.sg_space.specs.Owned.{Becomes}
-use Rattle.sg_space.specs.Units.{Units}
-use Rattle.sg_space.specs.View.{View, Space, Keeps, MayFill}
-use Rattle.sg_reading.specs.Reading.{Thing, plain, slot}
-use Rattle.sg_reading.specs.Did.{slot_after, grown}
+use Rattle.sg_space.specs.View.{View, Space, Keeps}
+use Rattle.sg_reading.specs.Reading.{Thing, plain}
+use Rattle.sg_reading.specs.Did.{grown}
 use Rattle.sg_reading.specs.Back.Undoing.{WasMake}
-use Rattle.sg_reading.specs.Noted.{noted}
-use Rattle.sg_contents.specs.Standing.{Body, Contents, Holds, IsContents, OwnsPage, map_bands}
+use Rattle.sg_contents.specs.Standing.{Contents, IsContents, OwnsPage}
 use Rattle.sg_contents.specs.Standing.Body.{ATable}
 use Rattle.sg_contents.specs.Changes.{with_body, BodyMade}
-use Rattle.sg_contents.specs.Meaning.{reading, thing_of, thing_at, map_of, pair_of}
+use Rattle.sg_contents.specs.Meaning.{reading, thing_at, map_of, pair_of}
 use Rattle.sg_contents.proofs.Standing.{nothing_owned}
-use Rattle.sg_contents.proofs.Framing.{map_same, body_made}
-use Rattle.sg_contents.proofs.Catalogued.{row_made, made_thing, made_others, made_tombs}
 use Rattle.sg_contents.proofs.Reading.{get_thing}
 use Rattle.sg_objects.specs.Done.{IsDone, IsFresh, HasRoomFor, done_by}
 use Rattle.sg_objects.specs.Notes.{note_bytes}
 use Rattle.sg_objects.proofs.Adding.{object_made, may_add}
 use Rattle.sg_objects.proofs.Doing.{ok_is}
 use Rattle.sg_objects.proofs.Refused.{nothing_under}
-
 use Rattle.sg_objects.proofs.Tables.{table_thing}
 
 no_entries : (t : HashTable) → entries t ≡ [] → map_of t ≡ empty

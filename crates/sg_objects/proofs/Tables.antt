@@ -1,32 +1,29 @@
 -- What the verbs on tables come to.
-use Rattle.std.proofs.Common.{◌≡◌, ◌≢◌, ℕ, ◌<◌, ◌≤◌, ◌==◌, Bool, true, false, cond, List, [], ◌∷◌, length, take, Option, Some, None, option_map, Ok, Err, refl, sym, ap, ◌∙◌, subst, arith, ◌+◌}
+use Rattle.std.proofs.Common.{◌≡◌, ◌≢◌, ℕ, ◌<◌, ◌≤◌, ◌==◌, Bool, true, false, cond, List, [], ◌∷◌, length, Option, Some, None, option_map, Ok, Err, refl, sym, ap, ◌∙◌, subst, arith}
 use Rattle.std.specs.Prelude.{nat_lt, is_ok}
 use Rattle.std.specs.Str.{bytes_eq}
 use Rattle.std.specs.FinMap.{get, remove}
 use Rattle.std.proofs.lemmas.Bool.Decides.{nat_tests}
 use Rattle.sg_ops.specs.Table.{Table as Operations}
-use Rattle.sg_bucket.specs.Bucket.{IsAnswer}
-use Rattle.sg_hash.specs.Table.{HashTable, IsHashTable, value_at, page_count}
+use Rattle.sg_hash.specs.Table.{HashTable, value_at, page_count}
 use Rattle.sg_hash.specs.Calls as table
-use Rattle.sg_catalog.specs.Catalog.{rows, there, is_there}
+use Rattle.sg_catalog.specs.Catalog.{rows, is_there}
 use Rattle.sg_catalog.specs.declared.row.ObjectKind.{ObjectKind}
 use Rattle.sg_catalog.specs.declared.row.ObjectKind.TheVariants as kinds
 use Rattle.sg_model.specs.declared.reason.Reason.{Reason}
 use Rattle.sg_model.specs.declared.reason.Reason.TheVariants.{NoObject, WrongKind, Exists, OutOfRange, NoOperation, Declined, TooLong, TooMany}
-use Rattle.sg_model.specs.Objects.{Entries, Object}
+use Rattle.sg_model.specs.Objects.{Entries}
 use Rattle.sg_model.specs.Objects.Object.{Table as AsTable}
 use Rattle.sg_model.specs.Step.{on, on_table, at_key, Update, updated, found, del_value, Change}
-use Rattle.sg_model.specs.Step.Update.{Stays, Goes}
 use Rattle.sg_model.specs.Verb.{Verb, Outcome, Reply}
 use Rattle.sg_model.specs.Verb.Verb.{Find, Del}
 use Rattle.sg_model.specs.Verb.Reply.{Done, Absent, Bytes}
 use Rattle.sg_model.proofs.Parts.{get_del, same_entries}
 use Rattle.sg_space.specs.View.{Space}
-use Rattle.sg_reading.specs.Reading.{Thing, Tomb, Reading, plain, slot}
+use Rattle.sg_reading.specs.Reading.{Thing, Reading, plain, slot}
 use Rattle.sg_reading.specs.Reading.Thing.{There}
 use Rattle.sg_reading.specs.Did.{slot_after, grown, risen}
 use Rattle.sg_reading.specs.Did as model
-use Rattle.sg_reading.specs.Back.{Undoing}
 use Rattle.sg_reading.specs.Back.Undoing.{WasOver}
 use Rattle.sg_reading.specs.Noted.{noted, noted_del}
 use Rattle.sg_contents.specs.Standing.{Body, Contents, IsContents, IsBody, IsTable}
@@ -36,12 +33,12 @@ use Rattle.sg_contents.specs.Meaning.{reading, thing_of, thing_at, object_of, ma
 use Rattle.sg_contents.proofs.Among.{found_among}
 use Rattle.sg_contents.proofs.Reading.{get_thing, get_map}
 use Rattle.sg_contents.proofs.Standing.{nothing_owned}
-use Rattle.sg_objects.specs.Done.{IsDone, Leaves, done_by}
-use Rattle.sg_objects.specs.Found.{IsAt, IsMissing, IsOther, KeyChecked}
+use Rattle.sg_objects.specs.Done.{IsDone, done_by}
+use Rattle.sg_objects.specs.Found.{IsAt, IsMissing}
 use Rattle.sg_objects.specs.Needs.{needed, needed_del, HasTaken}
 use Rattle.sg_objects.specs.Notes.{note_bytes}
 use Rattle.sg_objects.proofs.Bodies.{read_done, body_done, none_taken, noted_some, pages_taken}
-use Rattle.sg_objects.proofs.Located.{thing_under, body_at, body_changes, body_leaves}
+use Rattle.sg_objects.proofs.Located.{thing_under, body_at}
 use Rattle.sg_objects.proofs.Refused.{nothing_under}
 
 -- THE TABLE UNDER A NAME

@@ -1,5 +1,5 @@
 -- What stands there says what is touched.
-use Rattle.std.proofs.Common.{◌≡◌, ℕ, ◌<◌, ◌≤◌, Bool, true, false, cond, List, [], ◌∷◌, ◌++◌, length, map, Option, Some, None, refl, sym, ap, ◌∙◌, subst, arith, inl, inr}
+use Rattle.std.proofs.Common.{◌≡◌, ℕ, Bool, true, false, cond, List, [], ◌∷◌, length, map, Option, Some, None, refl, sym, ap, ◌∙◌, subst, arith}
 use Rattle.std.specs.Prelude.{nat_lt, ◌==◌, if◌then◌else◌}
 use Rattle.std.specs.FinMap.{get}
 use Rattle.std.proofs.lemmas.Bool.Decides.{nat_tests}
@@ -10,17 +10,17 @@ use Rattle.sg_model.specs.Keys.{is_table_key}
 use Rattle.sg_model.specs.Objects.{Row, Entries, Object, Objects}
 use Rattle.sg_model.specs.Objects.Object.{Array as AsArray, Table as AsTable, Blob as AsBlob}
 use Rattle.sg_model.specs.SaidOps.{name_of, verb_of, said_op}
-use Rattle.sg_model.specs.Touches.{Reach, Resource, to_read, on_key, array_touches, table_touches, blob_touches, further, reach_of, touch_of, touches}
+use Rattle.sg_model.specs.Touches.{Reach, Resource, on_key, reach_of, touch_of, touches}
 use Rattle.sg_model.specs.Verb.{Verb}
 use Rattle.sg_model.specs.Verb.Op.{On}
 use Rattle.sg_model.specs.Verb.Verb.{MakeArray, MakeTable, MakeBlob, Discard, Push, Pop, Set, Get, Len, Apply, Put, Del, Find, Keys, Write, Read, Size, Paint}
 use Rattle.sg_model.specs.declared.op.Op.{Op}
-use Rattle.sg_reading.specs.Reading.{Thing, objects, plain, slot}
+use Rattle.sg_reading.specs.Reading.{Thing, objects, plain}
 use Rattle.sg_reading.proofs.Slotted.{get_objects}
 use Rattle.sg_contents.specs.Standing.{Body, Contents}
 use Rattle.sg_contents.specs.Meaning.{reading, thing_of, object_of}
 use Rattle.sg_objects.specs.Found.{IsAt}
-use Rattle.sg_objects.specs.Touching.{IsSeen, push_at, pop_at, len_at, item_at, key_at, body_at, reach_at}
+use Rattle.sg_objects.specs.Touching.{IsSeen, reach_at}
 use Rattle.sg_objects.specs.declared.touch.Seen.{Seen}
 use Rattle.sg_objects.specs.declared.touch.Seen.TheVariants as seen
 use Rattle.sg_objects.proofs.Located.{thing_under}

@@ -1,5 +1,5 @@
 -- What the notes of verbs on arrays come to.
-use Rattle.std.proofs.Common.{◌≡◌, ◌≢◌, ℕ, zero, suc, ◌+◌, ◌-◌, ◌<◌, ◌≤◌, max, Bool, true, false, cond, List, [], ◌∷◌, ◌++◌, length, take, Option, Some, None, Ok, Err, refl, sym, ap, ◌∙◌, subst, arith, inl, inr, slice_get, slice_set}
+use Rattle.std.proofs.Common.{◌≡◌, ℕ, ◌+◌, ◌-◌, ◌<◌, Bool, true, false, cond, List, [], ◌∷◌, ◌++◌, length, take, Option, Some, None, Ok, Err, refl, sym, ap, ◌∙◌, subst, arith, inl, inr, slice_set}
 use Rattle.std.specs.Prelude.{nat_lt}
 use Rattle.std.specs.FinMap.{get}
 use Rattle.std.proofs.lemmas.Bool.{cases_lt, cases_eq}
@@ -10,18 +10,17 @@ use Rattle.sg_array.proofs.Bounds.{array_exact}
 use Rattle.sg_array.specs.Calls as array
 use Rattle.sg_catalog.specs.declared.row.ObjectKind.TheVariants as kinds
 use Rattle.sg_model.specs.declared.reason.Reason.{Reason}
-use Rattle.sg_model.specs.Objects.{Row as Items, Object}
+use Rattle.sg_model.specs.Objects.{Row as Items}
 use Rattle.sg_model.specs.Objects.Object.{Array as AsArray}
-use Rattle.sg_model.specs.Step.{on_array, push, pop, at_item, set_to, Change}
+use Rattle.sg_model.specs.Step.{on_array, push, pop, at_item, set_to}
 use Rattle.sg_model.specs.Verb.{Outcome, Reply}
-use Rattle.sg_model.specs.Verb.Reply.{Done}
 use Rattle.sg_space.specs.View.{View, Space}
 use Rattle.sg_base.specs.Sheet.{Sheet}
 use Rattle.sg_model.specs.Touches.{seen}
 use Rattle.sg_model.specs.Touches.Part.{Length}
-use Rattle.sg_reading.specs.Reading.{Thing, Tomb, Reading, plain, slot, thing_extra}
+use Rattle.sg_reading.specs.Reading.{Thing, plain, slot, thing_extra}
 use Rattle.sg_reading.specs.Reading.Thing.{There}
-use Rattle.sg_reading.specs.Back.{Undoing, Plan, rebuilt, if_done, back, carried_out, planned, raises}
+use Rattle.sg_reading.specs.Back.{Undoing, rebuilt, if_done, back, carried_out, raises}
 use Rattle.sg_reading.specs.Back.Plan.{Append}
 use Rattle.sg_reading.specs.Back.Undoing.{WasPush, WasPop, WasSet}
 use Rattle.sg_contents.specs.Standing.{Body, Contents, IsContents}
@@ -35,7 +34,7 @@ use Rattle.sg_objects.specs.Undone.{IsUndone}
 use Rattle.sg_objects.proofs.Bodies.{body_undone, pages_taken}
 use Rattle.sg_objects.proofs.Doing.{same_taken}
 use Rattle.sg_objects.proofs.Located.{thing_under, array_turns}
-use Rattle.sg_objects.proofs.Checks.{array_there, push_unfit, push_full}
+use Rattle.sg_objects.proofs.Checks.{push_unfit}
 use Rattle.sg_objects.proofs.Items.{max_same, pop_none, at_none, unfit_row, some_there, set_row, pop_row}
 use Rattle.sg_objects.proofs.Pushing.{items_of, array_thing, push_row}
 use Rattle.sg_objects.proofs.Fresh.{fresh_roomy}
@@ -156,10 +155,13 @@ undo_pop_done {old} {new} {w} {s} {root} {a} {a'} t name item th h f is arr e tu
 -- UNDO OF A SET
 pub set_below : {root : ℕ} {a : Array} {th : Option Thing} (i : ℕ) (item : List ℕ) → WasCarried (at_item i (set_to item)) root a th → array.CanSet i (length item) a
 set_below {root} {a} {th} i item w = elim (cases_lt i (length a.items)) [
-  | inl low ↦ (low, elim (cases_eq (length item) a.size) [
-    | inl e ↦ e
-    | inr ne ↦ (let one = some_there a.items i low in absurd (not_both (at_item i (set_to item) (items_of a)).0 w.reply _ w.replied (ap (λ (r : Outcome × Items). r.0) (unfit_row (items_of a) i one.0 item one.1 ne))))
-  ])
+  | inl low ↦ (
+    low,
+    elim (cases_eq (length item) a.size) [
+      | inl e ↦ e
+      | inr ne ↦ (let one = some_there a.items i low in absurd (not_both (at_item i (set_to item) (items_of a)).0 w.reply _ w.replied (ap (λ (r : Outcome × Items). r.0) (unfit_row (items_of a) i one.0 item one.1 ne))))
+    ],
+  )
   | inr past ↦ absurd (not_both (at_item i (set_to item) (items_of a)).0 w.reply _ w.replied (ap (λ (r : Outcome × Items). r.0) (at_none (items_of a) i (set_to item) past)))
 ]
 

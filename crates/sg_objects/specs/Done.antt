@@ -1,18 +1,12 @@
 -- What a verb on an object makes of all that stands in pages and bands.
-use Rattle.std.specs.Prelude.{◌≡◌, ◌≢◌, ℕ, ◌+◌, ◌≤◌, max, IsOk, List, [], ◌∷◌, length, Option, Some, None, Result, Ok, Err}
+use Rattle.std.specs.Prelude.{◌≡◌, ℕ, ◌≤◌, max, IsOk, List, [], length, Option, None, Ok, Err}
 use Rattle.std.specs.FinMap.{get}
-use Rattle.sg_serial.specs.Locks.{Touch}
 use Rattle.sg_ops.specs.Table.{Table as Operations}
 use Rattle.sg_model.specs.Step.{on}
-use Rattle.sg_model.specs.Touches.{touches}
 use Rattle.sg_model.specs.Verb.{Verb, Outcome}
-use Rattle.sg_model.specs.Verb.Op.{On}
 use Rattle.sg_catalog.specs.Catalog.{rows}
 use Rattle.sg_space.specs.View.{View, Space}
-use Rattle.sg_reading.specs.Reading.{Thing, Tomb, Reading, objects, plain, Slot, slot}
-use Rattle.sg_reading.specs.Did.{slot_after}
-use Rattle.sg_reading.specs.Did as model
-use Rattle.sg_reading.specs.Back.{Undoing}
+use Rattle.sg_reading.specs.Reading.{Thing, plain}
 use Rattle.sg_reading.specs.Noted.{noted}
 pub use Rattle.sg_reading.specs.Left.{Leaves, done_by, IsLeft}
 use Rattle.sg_contents.specs.Standing.{Contents, IsContents}

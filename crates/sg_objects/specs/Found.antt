@@ -1,6 +1,6 @@
 -- What a search for the object of a name tells.
-use Rattle.std.specs.Prelude.{◌≡◌, ◌≢◌, ◌⊎◌, ◌<◌, ◌≤◌, IsTrue, slice_get, ℕ, List, length, Option, Some, None, Result, Ok, Err}
-use Rattle.sg_array.specs.Array.{Array, IsArray}
+use Rattle.std.specs.Prelude.{◌≡◌, ◌≢◌, ◌<◌, ◌≤◌, IsTrue, slice_get, ℕ, List, length, Option, Some, None, Result, Ok, Err}
+use Rattle.sg_array.specs.Array.{Array}
 use Rattle.sg_base.specs.declared.numbers.PageNo.{PageNo}
 use Rattle.sg_catalog.specs.Catalog.{rows, there}
 use Rattle.sg_catalog.specs.declared.row.ObjectKind.{ObjectKind}
@@ -15,7 +15,7 @@ use Rattle.sg_model.specs.Verb.Reply.{Number}
 use Rattle.sg_model.specs.Verb.{Verb, Outcome}
 use Rattle.sg_reading.specs.Reading.{plain}
 use Rattle.sg_contents.specs.Meaning.{reading}
-use Rattle.sg_contents.specs.Standing.{Body, Contents}
+use Rattle.sg_contents.specs.Standing.{Contents}
 use Rattle.sg_contents.specs.Standing.Body.{AnArray}
 use Rattle.sg_objects.specs.declared.find.ArrayAt.{ArrayAt}
 

@@ -1,5 +1,5 @@
 -- WHAT FREES OBJECTS: the body of one, and what was dropped.
-use Rattle.std.specs.Prelude.{◌≡◌, ℕ, ◌+◌, length, Bool, true, false, List, Option, Some, None}
+use Rattle.std.specs.Prelude.{◌≡◌, ℕ, ◌+◌, length, Bool, true, false, Option, Some, None}
 use Rattle.sg_base.specs.declared.numbers.TxnId.{TxnId}
 use Rattle.sg_catalog.specs.Catalog.{rows, buried, tombs}
 use Rattle.sg_catalog.specs.declared.row.ObjectKind.{ObjectKind}

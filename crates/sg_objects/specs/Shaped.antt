@@ -1,5 +1,5 @@
 -- How far a table has grown after a verb: a put of a new key splits a bucket where that is due, and a removal none.
-use Rattle.std.specs.Prelude.{◌≡◌, ℕ, Bool, true, List, Ok, Err}
+use Rattle.std.specs.Prelude.{◌≡◌, ℕ, Bool, true, List, Ok}
 use Rattle.sg_catalog.specs.declared.row.ObjectKind.TheVariants as kinds
 use Rattle.sg_hash.specs.Calls.{IsPut}
 use Rattle.sg_hash.specs.Table.{HashTable, IsHashTable}

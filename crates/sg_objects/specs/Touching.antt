@@ -1,6 +1,6 @@
 -- What an operation touches, by what stands under its name.
 use Rattle.std.specs.Prelude.{◌≡◌, ℕ, Bool, true, false, List, [], ◌∷◌, length, Option, Some, None}
-use Rattle.sg_model.specs.Objects.{Row, Object}
+use Rattle.sg_model.specs.Objects.{Object}
 use Rattle.sg_model.specs.Objects.Object.{Array as AsArray, Table as AsTable, Blob as AsBlob}
 use Rattle.sg_model.specs.Touches.{Reach, to_read, to_write, last_item, on_key}
 use Rattle.sg_model.specs.Touches.Part.{Kind, Length, Item, Key, Body}

@@ -1,8 +1,8 @@
 -- What undoes a verb in all that stands in pages and bands.
-use Rattle.std.specs.Prelude.{◌≡◌, ℕ, ◌==◌, cond, List, [], Option, Some, None}
+use Rattle.std.specs.Prelude.{◌≡◌, ℕ, List, [], Option, Some}
 use Rattle.sg_ops.specs.Table.{Table as Operations}
 use Rattle.sg_space.specs.View.{View, Space}
-use Rattle.sg_reading.specs.Reading.{Thing, Tomb, Reading, slot}
+use Rattle.sg_reading.specs.Reading.{Thing, slot}
 use Rattle.sg_reading.specs.Back.{Undoing, back, raises}
 use Rattle.sg_contents.specs.Standing.{Contents, IsContents}
 use Rattle.sg_contents.specs.Meaning.{reading, IsCounted}

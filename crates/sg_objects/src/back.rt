@@ -100,11 +100,7 @@ pub fn undo_drop<P: PageSpace>(
 }
 
 /// Takes an array out that was made.
-pub fn undo_make_array<P: PageSpace>(
-    space: &mut P,
-    ops: &Ops,
-    name: Name,
-) -> Result<(), SpaceFault>
+pub fn undo_make_array<P: PageSpace>(space: &mut P, ops: &Ops, name: Name) -> Result<(), SpaceFault>
     requires means { P.means space.old (table_of record_meaning range_meaning ops.now) }
     requires can { HasContents (P.view space.old) (λ s. (root : _) × IsAt ObjectKind.Array s name root) }
     ensures counts { Counts (P.view space.old) (P.view space.new) result }

@@ -84,7 +84,15 @@ pub fn paint<P: PageSpace>(
     match check_paint(space, ops, name, at, count, code, arg)? {
         Err(reason) => Ok(Err(reason)),
         Ok(found) => {
-            sg_blob::paint(space, ops, found.root, at as u32, count as u32, code as u16, arg)?;
+            sg_blob::paint(
+                space,
+                ops,
+                found.root,
+                at as u32,
+                count as u32,
+                code as u16,
+                arg,
+            )?;
             note_size(undo, name, found.len);
             Ok(Ok(Reply::Done))
         }

@@ -15,11 +15,7 @@ use sg_ops::Ops;
 use sg_space::{PageSpace, SpaceFault};
 
 /// Takes a table out that was made.
-pub fn undo_make_table<P: PageSpace>(
-    space: &mut P,
-    ops: &Ops,
-    name: Name,
-) -> Result<(), SpaceFault>
+pub fn undo_make_table<P: PageSpace>(space: &mut P, ops: &Ops, name: Name) -> Result<(), SpaceFault>
     requires means { P.means space.old (table_of record_meaning range_meaning ops.now) }
     requires can { HasContents (P.view space.old) (λ s. (root : _) × IsAt ObjectKind.Table s name root) }
     ensures counts { Counts (P.view space.old) (P.view space.new) result }
@@ -38,11 +34,7 @@ pub fn undo_make_table<P: PageSpace>(
 }
 
 /// Takes a blob out that was made.
-pub fn undo_make_blob<P: PageSpace>(
-    space: &mut P,
-    ops: &Ops,
-    name: Name,
-) -> Result<(), SpaceFault>
+pub fn undo_make_blob<P: PageSpace>(space: &mut P, ops: &Ops, name: Name) -> Result<(), SpaceFault>
     requires means { P.means space.old (table_of record_meaning range_meaning ops.now) }
     requires can { HasContents (P.view space.old) (λ s. (root : _) × IsAt ObjectKind.Blob s name root) }
     ensures counts { Counts (P.view space.old) (P.view space.new) result }

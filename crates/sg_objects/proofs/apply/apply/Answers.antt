@@ -1,8 +1,4 @@
-use Rattle.std.proofs.Common.{◌≡◌, ◌<◌, ◌≤◌, ℕ, Result, subst, length, IfOk}
-use Rattle.sg_model.specs.declared.reason.Reason.{Reason}
 use Rattle.sg_model.specs.Verb.Verb.{Apply}
-use Rattle.sg_objects.specs.Found.{CheckedBy, CanApplyTo}
-use Rattle.sg_objects.specs.declared.find.ArrayAt.{ArrayAt}
 use Rattle.sg_objects.proofs.Located.{still_contents, array_at}
 use Rattle.sg_objects.proofs.Applying.{refused_by, can_apply, apply_done}
 use Rattle.sg_objects.proofs.Bodies.{from_start}

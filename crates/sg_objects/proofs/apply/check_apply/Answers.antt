@@ -1,8 +1,6 @@
-use Rattle.std.proofs.Common.{◌≡◌, ◌∙◌, ◌<◌, ◌≤◌, ℕ, List, sym, ap, subst, Result, Some, length, take, IfOk, IsTrue, arith}
+use Rattle.std.proofs.Common.{◌∙◌, ◌≤◌, ℕ, sym, ap, subst, Result, Some, take, IfOk, arith}
 use Rattle.sg_model.specs.declared.reason.Reason.{Reason}
 use Rattle.sg_model.specs.Step.{apply}
-use Rattle.sg_ops.specs.Table.{record_at, accepts_of}
-use Rattle.sg_space.proofs.Known.{same_some}
 use Rattle.sg_objects.specs.Found.{IsArrayFound}
 use Rattle.sg_objects.specs.declared.find.ArrayAt.{ArrayAt}
 use Rattle.sg_objects.proofs.Located.{still_contents, array_at}

@@ -1,9 +1,6 @@
-use Rattle.std.proofs.Common.{◌≡◌, ◌∙◌, sym, ap, Result, subst, length}
-use Rattle.sg_space.proofs.Known.{keeps_then, still}
-use Rattle.sg_space.specs.View.{Space}
+use Rattle.std.proofs.Common.{Result, subst, length}
 use Rattle.sg_model.specs.declared.reason.Reason.{Reason}
 use Rattle.sg_model.specs.Verb.Verb.{Push}
-use Rattle.sg_objects.specs.Done.{HasRoomFor}
 use Rattle.sg_objects.specs.Found.{Checked, CanPushTo}
 use Rattle.sg_objects.specs.declared.find.ArrayAt.{ArrayAt}
 use Rattle.sg_objects.proofs.Located.{still_contents, array_at}

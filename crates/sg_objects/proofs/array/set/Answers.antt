@@ -1,4 +1,4 @@
-use Rattle.std.proofs.Common.{◌≡◌, ◌<◌, ◌≤◌, ℕ, sym, ap, Result, subst, length, IfOk, arith}
+use Rattle.std.proofs.Common.{◌≤◌, Result, subst, length, IfOk}
 use Rattle.sg_array.proofs.Links.{still_array}
 use Rattle.sg_model.specs.declared.reason.Reason.{Reason}
 use Rattle.sg_model.specs.Verb.Verb.{Set}

@@ -1,4 +1,3 @@
-use Rattle.std.proofs.Common.{◌≡◌}
 use Rattle.sg_objects.proofs.Raising.{was_tomb, can_raise, undo_drop_done}
 use Rattle.sg_objects.proofs.back.undo_drop.Goals as goal
 

@@ -1,13 +1,12 @@
-use Rattle.std.proofs.Common.{◌≡◌, ◌∙◌, ◌≤◌, ℕ, sym, ap, Result, Some, subst, length, arith}
+use Rattle.std.proofs.Common.{Result, subst}
 use Rattle.sg_base.specs.declared.numbers.PageNo.{PageNo}
 use Rattle.sg_catalog.specs.declared.row.ObjectKind.TheVariants as kinds
 use Rattle.sg_model.specs.declared.reason.Reason.{Reason}
-use Rattle.sg_model.specs.Step.{pop, push, at_item, set_to}
+use Rattle.sg_model.specs.Step.{pop}
 use Rattle.sg_objects.specs.Found.{IsLocated}
 use Rattle.sg_objects.proofs.Located.{still_contents}
 use Rattle.sg_objects.proofs.Checks.{array_there}
-use Rattle.sg_objects.proofs.Fresh.{still_fresh}
-use Rattle.sg_objects.proofs.Undoing.{not_missing, carried_at, can_unpush, undo_push_done, pop_planned, lower, can_repush, undo_pop_done, set_below, undo_set_done}
+use Rattle.sg_objects.proofs.Undoing.{not_missing, carried_at, can_unpush, undo_push_done}
 use Rattle.sg_objects.proofs.Bodies.{undone_from}
 use Rattle.sg_objects.proofs.back.undo_push.Goals as goal
 

@@ -1,8 +1,7 @@
-use Rattle.std.proofs.Common.{◌≡◌, ◌∙◌, ℕ, sym, ap, subst, refl}
+use Rattle.std.proofs.Common.{◌∙◌, sym}
 use Rattle.sg_model.specs.declared.reason.Reason.TheVariants.{NoObject, WrongKind}
 use Rattle.sg_blob.proofs.Parts.{still_raw}
 use Rattle.sg_blob.proofs.Turned.{after_reads}
-use Rattle.sg_blob.specs.Raw.{Raw}
 use Rattle.sg_objects.proofs.Blobbed.{blob_there}
 use Rattle.sg_objects.proofs.PuttingBack.{back_catalog, bytes_not_missing, missing_none, missing_other, found_blob, was_laid, back_raw, can_restore, raw_back, undo_bytes_done}
 use Rattle.sg_objects.proofs.blob_back.undo_bytes.Goals as goal

@@ -1,4 +1,4 @@
-use Rattle.std.proofs.Common.{◌≡◌, ◌∙◌, ℕ, sym, ap, subst, refl}
+use Rattle.std.proofs.Common.{refl}
 use Rattle.sg_catalog.specs.Catalog.{rows, there}
 use Rattle.sg_model.specs.declared.reason.Reason.TheVariants.{Exists}
 use Rattle.sg_model.specs.Verb.Verb.{MakeBlob}

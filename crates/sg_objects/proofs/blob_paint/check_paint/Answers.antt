@@ -1,4 +1,4 @@
-use Rattle.std.proofs.Common.{◌≡◌, ◌∙◌, ◌+◌, ◌<◌, ◌≤◌, ℕ, sym, ap, subst, Result, length, arith}
+use Rattle.std.proofs.Common.{◌∙◌, sym, subst, Result, arith}
 use Rattle.sg_model.specs.declared.reason.Reason.{Reason}
 use Rattle.sg_model.specs.Step.{paint}
 use Rattle.sg_objects.specs.Blobs.{IsBlobFound}

@@ -1,9 +1,7 @@
-use Rattle.std.proofs.Common.{◌≡◌, ◌∙◌, ◌≤◌, sym, ap, Result, subst, length, arith}
-use Rattle.sg_model.specs.declared.reason.Reason.{Reason}
+use Rattle.std.proofs.Common.{◌∙◌, ap}
 use Rattle.sg_model.specs.Verb.Verb.{Paint}
 use Rattle.sg_reading.specs.Back.Undoing.{WasBytes}
 use Rattle.sg_objects.specs.Notes.{note_bytes}
-use Rattle.sg_objects.specs.declared.blob.BlobAt.{BlobAt}
 use Rattle.sg_objects.proofs.Located.{still_contents}
 use Rattle.sg_objects.proofs.Blobbed.{blob_at}
 use Rattle.sg_objects.proofs.BlobVerbs.{can_paint, paint_done}

@@ -1,8 +1,5 @@
-use Rattle.std.proofs.Common.{◌≡◌, ℕ, ◌+◌, ◌<◌, ◌≤◌, length, Result, sym, ap, ◌∙◌, subst, arith}
+use Rattle.std.proofs.Common.{Result, subst, arith}
 use Rattle.sg_model.specs.declared.reason.Reason.{Reason}
-use Rattle.sg_model.specs.Step.{read}
-use Rattle.sg_model.specs.Verb.{Outcome}
-use Rattle.std.specs.Prelude.{List}
 use Rattle.sg_objects.specs.Blobs.{IsBlobFound}
 use Rattle.sg_objects.specs.declared.blob.BlobAt.{BlobAt}
 use Rattle.sg_objects.proofs.Blobbed.{refuses_blob, missing_blob}

@@ -1,4 +1,4 @@
-use Rattle.std.proofs.Common.{◌≡◌, ◌∙◌, ◌+◌, ◌<◌, ◌≤◌, sym, ap, Result, subst, length, take, drop, arith}
+use Rattle.std.proofs.Common.{◌∙◌, Result, subst, drop, arith}
 use Rattle.std.proofs.lemmas.List.{length-take-le}
 use Rattle.sg_model.specs.declared.reason.Reason.{Reason}
 use Rattle.sg_model.specs.Verb.Verb.{Read}

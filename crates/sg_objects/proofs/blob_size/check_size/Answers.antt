@@ -1,4 +1,4 @@
-use Rattle.std.proofs.Common.{◌≡◌, ℕ, ◌+◌, ◌≤◌, length, Result, sym, ap, ◌∙◌, subst, arith}
+use Rattle.std.proofs.Common.{Result, subst, arith}
 use Rattle.sg_model.specs.declared.reason.Reason.{Reason}
 use Rattle.sg_model.specs.Step.{resize}
 use Rattle.sg_objects.specs.Blobs.{IsBlobFound}

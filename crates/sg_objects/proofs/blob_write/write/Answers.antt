@@ -1,4 +1,4 @@
-use Rattle.std.proofs.Common.{◌≡◌, ◌∙◌, sym, ap, Result, subst, length}
+use Rattle.std.proofs.Common.{◌∙◌, ap, Result, subst, length}
 use Rattle.sg_model.specs.declared.reason.Reason.{Reason}
 use Rattle.sg_model.specs.Verb.Verb.{Write}
 use Rattle.sg_reading.specs.Back.Undoing.{WasBytes}

@@ -1,10 +1,10 @@
-use Rattle.std.proofs.Common.{◌≡◌, ◌≢◌, ℕ, ◌≤◌, length, Result, sym, ap, ◌∙◌, subst, arith}
+use Rattle.std.proofs.Common.{Result, sym, ap, ◌∙◌, subst}
 use Rattle.sg_model.specs.declared.reason.Reason.{Reason}
-use Rattle.sg_model.specs.Step.{push, pop, at_item, got, set_to}
+use Rattle.sg_model.specs.Step.{pop}
 use Rattle.sg_objects.specs.Found.{IsArrayFound}
 use Rattle.sg_objects.specs.declared.find.ArrayAt.{ArrayAt}
-use Rattle.sg_objects.proofs.Checks.{refuses_array, push_unfit, push_full}
-use Rattle.sg_objects.proofs.Items.{at_none, pop_none, unfit_row, some_there}
+use Rattle.sg_objects.proofs.Checks.{refuses_array}
+use Rattle.sg_objects.proofs.Items.{pop_none}
 use Rattle.sg_objects.proofs.Pushing.{items_of}
 use Rattle.sg_objects.proofs.Refused.{missing_array}
 use Rattle.sg_objects.proofs.check.check_pop.Goals as goal

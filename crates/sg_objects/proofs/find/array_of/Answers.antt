@@ -1,4 +1,4 @@
-use Rattle.std.proofs.Common.{◌≡◌, Result, subst}
+use Rattle.std.proofs.Common.{Result, subst}
 use Rattle.sg_array.proofs.Links.{still_array}
 use Rattle.sg_base.specs.declared.numbers.PageNo.{PageNo}
 use Rattle.sg_catalog.specs.declared.row.ObjectKind.TheVariants as kinds

@@ -1,4 +1,3 @@
-use Rattle.std.proofs.Common.{◌≡◌}
 use Rattle.sg_objects.proofs.Freeing.{array_frees, table_frees, blob_frees}
 use Rattle.sg_objects.proofs.free.free_body.Goals as goal
 

@@ -1,4 +1,4 @@
-use Rattle.std.proofs.Common.{◌≡◌, ◌∙◌, sym}
+use Rattle.std.proofs.Common.{◌∙◌, sym}
 use Rattle.sg_objects.proofs.Located.{still_contents}
 use Rattle.sg_objects.proofs.Freeing.{was_buried, can_forget, body_kept, freed_done, freed_from}
 use Rattle.sg_objects.proofs.free.free_next.Goals as goal

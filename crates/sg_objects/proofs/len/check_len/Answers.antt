@@ -1,9 +1,6 @@
-use Rattle.std.proofs.Common.{◌≡◌, ◌∙◌, ℕ, refl, sym, ap, Option, Some, None, Ok, option_map, subst}
+use Rattle.std.proofs.Common.{◌∙◌, ℕ, refl, sym, ap, Ok}
 use Rattle.sg_catalog.specs.Catalog.{rows, there}
-use Rattle.sg_catalog.specs.Row.{entry_of}
-use Rattle.sg_catalog.specs.declared.row.Entry.{Entry}
 use Rattle.sg_catalog.specs.declared.row.ObjectKind.TheVariants as kinds
-use Rattle.sg_model.specs.declared.reason.Reason.TheVariants.{WrongKind}
 use Rattle.sg_model.specs.Verb.Reply.{Number}
 use Rattle.sg_model.specs.Verb.{Outcome}
 use Rattle.sg_contents.specs.Standing.Body.{AnArray, ATable, ABlob}

@@ -1,4 +1,4 @@
-use Rattle.std.proofs.Common.{◌≡◌, ℕ, Result, subst}
+use Rattle.std.proofs.Common.{ℕ, Result, subst}
 use Rattle.sg_model.specs.declared.reason.Reason.{Reason}
 use Rattle.sg_model.specs.Verb.Verb.{Len}
 use Rattle.sg_objects.specs.Found.{LenChecked}

@@ -1,6 +1,5 @@
-use Rattle.std.proofs.Common.{◌≡◌, ◌∙◌, ℕ, sym, ap, subst, Option, Some, None, option_map, IsSome, refl}
+use Rattle.std.proofs.Common.{◌∙◌, sym, ap, subst, Option, IsSome, refl}
 use Rattle.sg_catalog.specs.Catalog.{rows, there}
-use Rattle.sg_catalog.specs.Row.{entry_of}
 use Rattle.sg_catalog.specs.declared.row.Entry.{Entry}
 use Rattle.sg_catalog.specs.declared.row.Row.{Row}
 use Rattle.sg_model.specs.declared.reason.Reason.TheVariants.{NoObject}

@@ -1,12 +1,7 @@
-use Rattle.std.proofs.Common.{◌≡◌, ◌≢◌, ◌∙◌, ◌<◌, ◌≤◌, ◌^◌, ◌⊎◌, ℕ, Bool, true, false, cond, sym, ap, subst, Option, Some, None, Err, refl, inl, inr, arith}
-use Rattle.std.specs.Prelude.{nat_le, ◌&&◌}
-use Rattle.std.proofs.lemmas.Bool.Decides.{nat_tests}
+use Rattle.std.proofs.Common.{refl, arith}
 use Rattle.sg_catalog.specs.Catalog.{rows, there}
-use Rattle.sg_catalog.specs.declared.row.Row.{Row}
 use Rattle.sg_model.specs.declared.reason.Reason.TheVariants.{Exists, OutOfRange}
-use Rattle.sg_model.specs.Step.{on, make_array}
 use Rattle.sg_model.specs.Verb.Verb.{MakeArray}
-use Rattle.sg_reading.specs.Reading.{Thing, plain}
 use Rattle.sg_objects.proofs.Located.{still_contents}
 use Rattle.sg_objects.proofs.Doing.{refused_did, still_room}
 use Rattle.sg_objects.proofs.Fresh.{still_fresh}

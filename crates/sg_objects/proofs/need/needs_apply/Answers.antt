@@ -1,5 +1,3 @@
-use Rattle.std.proofs.Common.{◌≡◌, ◌≢◌, ◌∙◌, ◌<◌, ◌≤◌, ◌⊎◌, ℕ, List, Bool, true, false, sym, ap, refl, subst, Result, Option, Some, None, Ok, Err, length, take, option_map, inl, inr, arith}
-use Rattle.sg_model.specs.declared.reason.Reason.{Reason}
 use Rattle.sg_objects.proofs.Applying.{checked_ok, checked_err}
 use Rattle.sg_objects.proofs.Needing.{apply_need}
 use Rattle.sg_objects.proofs.need.needs_apply.Goals as goal

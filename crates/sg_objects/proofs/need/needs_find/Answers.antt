@@ -1,4 +1,4 @@
-use Rattle.std.proofs.Common.{◌≡◌, ◌≢◌, ◌∙◌, ◌<◌, ◌≤◌, ◌⊎◌, ℕ, List, Bool, true, false, sym, ap, refl, subst, Result, Option, Some, None, Ok, Err, length, take, option_map, inl, inr, arith}
+use Rattle.std.proofs.Common.{subst, Result}
 use Rattle.sg_model.specs.declared.reason.Reason.{Reason}
 use Rattle.sg_base.specs.declared.numbers.PageNo.{PageNo}
 use Rattle.sg_model.specs.Step.{found}

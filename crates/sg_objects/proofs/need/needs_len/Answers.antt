@@ -1,4 +1,4 @@
-use Rattle.std.proofs.Common.{◌≡◌, ◌≢◌, ◌∙◌, ◌<◌, ◌≤◌, ◌⊎◌, ℕ, List, Bool, true, false, sym, ap, refl, subst, Result, Option, Some, None, Ok, Err, length, take, option_map, inl, inr, arith}
+use Rattle.std.proofs.Common.{ℕ, subst, Result}
 use Rattle.sg_model.specs.declared.reason.Reason.{Reason}
 use Rattle.sg_objects.specs.Found.{LenChecked}
 use Rattle.sg_objects.proofs.Applying.{checked_ok, checked_err}

@@ -1,5 +1,3 @@
-use Rattle.std.proofs.Common.{◌≡◌, ◌∙◌, ◌+◌, ◌<◌, ◌≤◌, ℕ, List, sym, ap, refl, subst, Result, Option, Some, None, Ok, Err, length, arith}
-use Rattle.sg_model.specs.declared.reason.Reason.{Reason}
 use Rattle.sg_catalog.specs.Catalog.{rows, there}
 use Rattle.sg_model.specs.declared.reason.Reason.TheVariants.{Exists}
 use Rattle.sg_objects.proofs.Applying.{checked_ok}

@@ -1,5 +1,3 @@
-use Rattle.std.proofs.Common.{◌≡◌, ◌∙◌, ◌+◌, ◌<◌, ◌≤◌, ℕ, List, sym, ap, refl, subst, Result, Option, Some, None, Ok, Err, length, arith}
-use Rattle.sg_model.specs.declared.reason.Reason.{Reason}
 use Rattle.sg_objects.proofs.Applying.{checked_ok, checked_err}
 use Rattle.sg_objects.proofs.BlobNeeds.{paint_need}
 use Rattle.sg_objects.proofs.need.needs_paint.Goals as goal

@@ -1,7 +1,6 @@
-use Rattle.std.proofs.Common.{◌≡◌, ◌≢◌, ◌∙◌, ◌<◌, ◌≤◌, ◌⊎◌, ℕ, List, Bool, true, false, sym, ap, refl, subst, Result, Option, Some, None, Ok, Err, length, take, option_map, inl, inr, arith}
+use Rattle.std.proofs.Common.{◌∙◌, sym, subst, Result, take}
 use Rattle.sg_model.specs.declared.reason.Reason.{Reason}
 use Rattle.sg_base.specs.declared.numbers.PageNo.{PageNo}
-use Rattle.sg_model.specs.Step.{del_value}
 use Rattle.sg_objects.specs.Found.{PutChecked}
 use Rattle.sg_objects.proofs.Applying.{checked_ok, checked_err}
 use Rattle.sg_objects.proofs.Located.{still_contents}

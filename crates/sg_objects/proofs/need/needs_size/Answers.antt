@@ -1,4 +1,4 @@
-use Rattle.std.proofs.Common.{◌≡◌, ◌∙◌, ◌+◌, ◌<◌, ◌≤◌, ℕ, List, sym, ap, refl, subst, Result, Option, Some, None, Ok, Err, length, arith}
+use Rattle.std.proofs.Common.{refl, subst, Result}
 use Rattle.sg_model.specs.declared.reason.Reason.{Reason}
 use Rattle.sg_objects.specs.declared.blob.BlobAt.{BlobAt}
 use Rattle.sg_model.specs.Verb.Verb.{Size}

@@ -1,4 +1,4 @@
-use Rattle.std.proofs.Common.{◌≡◌, sym}
+use Rattle.std.proofs.Common.{sym}
 use Rattle.sg_objects.proofs.Needing.{need_as}
 use Rattle.sg_objects.proofs.need.needs_verb.Goals as goal
 

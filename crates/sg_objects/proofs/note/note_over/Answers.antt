@@ -1,4 +1,4 @@
-use Rattle.std.proofs.Common.{◌≡◌, ◌∙◌, ℕ, ◌≤◌, length, arith}
+use Rattle.std.proofs.Common.{◌∙◌, arith}
 use Rattle.sg_base.proofs.Overwriting.{wrote_on}
 use Rattle.sg_objects.proofs.Checks.{wrote_taken}
 use Rattle.sg_objects.proofs.note.note_over.Goals as goal

@@ -1,5 +1,4 @@
-use Rattle.std.proofs.Common.{◌≡◌, ◌∙◌, ℕ, ◌≤◌, length, arith}
-use Rattle.sg_base.proofs.Overwriting.{wrote_on}
+use Rattle.std.proofs.Common.{◌∙◌}
 use Rattle.sg_objects.proofs.Checks.{wrote_taken}
 use Rattle.sg_objects.proofs.note.note_push.Goals as goal
 

@@ -1,5 +1,4 @@
 use Rattle.std.proofs.Common.{ℕ, ◌≤◌, List, length, arith, subst}
-use Rattle.byteorder.specs.Endian.{little_bytes}
 use Rattle.sg_base.specs.Overwritten.{Wrote}
 use Rattle.sg_base.proofs.Overwriting.{wrote_on}
 use Rattle.sg_objects.specs.Notes.{head_bytes}

@@ -1,4 +1,4 @@
-use Rattle.std.proofs.Common.{◌≡◌, ◌<◌, ℕ, length, Result, subst}
+use Rattle.std.proofs.Common.{Result, subst}
 use Rattle.sg_base.specs.declared.numbers.PageNo.{PageNo}
 use Rattle.sg_model.specs.declared.reason.Reason.{Reason}
 use Rattle.sg_model.specs.Step.{at_key, put_value}

@@ -1,6 +1,6 @@
-use Rattle.std.proofs.Common.{◌≡◌, ◌∙◌, ◌≤◌, ℕ, List, sym, ap, Result, Option, Some, None, Err, option_map, subst, length, take, IfOk}
+use Rattle.std.proofs.Common.{◌∙◌, ap, Result, Some, None, option_map, subst, take}
 use Rattle.sg_base.specs.declared.numbers.PageNo.{PageNo}
-use Rattle.sg_hash.specs.Table.{HashTable, IsHashTable}
+use Rattle.sg_hash.specs.Table.{IsHashTable}
 use Rattle.sg_model.specs.declared.reason.Reason.{Reason}
 use Rattle.sg_model.specs.Verb.Verb.{Put}
 use Rattle.sg_space.specs.View.{Space}
@@ -102,31 +102,35 @@ pub returns-in-Err-clause-splits : goal.returns-in-Err-clause-splits
 returns-in-Err-clause-splits g c = record { shaped = λ told s h can. tt }
 
 pub returns-in_default-clause-splits : goal.returns-in_default-clause-splits
-returns-in_default-clause-splits g c = record { shaped = λ told s h can.
-    let k = c.in_ok-reason.ensures.kept in
-    let k2 = c.in_ok-sought-in-Ok.ensures.kept in
-    let shows = g.met.P.PageSpace.told_shows _ told in
-    let mid = k.keeps.told told in
-    let shows1 = g.met.P.PageSpace.told_shows _ mid in
-    let f = subst (λ (r : Result PageNo Reason). PutChecked c.args.name c.args.key.now c.args.value.now s r) c.in-Ok.is (c.in_ok-reason.ensures.read shows s h) in
-    let now = still_contents k shows h in
-    let t = table_there now f.0 in
-    let later = still_contents k2 shows1 now in
-    let stood = still (λ (x : Space). IsHashTable x.pages.at c.in-Ok.root.0 t.0) k2 shows1 (t.2).table in
-    let one = (c.in_ok-put-in-Ok.ensures.did).turns (k2.keeps.told mid) t.0 stood (can_put _ c.args.key.now c.args.value.now later f.0 t.1 stood (f.1).0 (f.1).1 f.2 (still_fresh k2 shows1 (still_fresh k shows (c.requires.fresh told))) (still_room k2 shows1 (still_room k shows can))) in
-    put_shapes c.args.key.now c.args.value.now _ f.0 t.1 (one.1).table one.2 }
+returns-in_default-clause-splits g c = record {
+  shaped = λ told s h can.
+      let k = c.in_ok-reason.ensures.kept in
+      let k2 = c.in_ok-sought-in-Ok.ensures.kept in
+      let shows = g.met.P.PageSpace.told_shows _ told in
+      let mid = k.keeps.told told in
+      let shows1 = g.met.P.PageSpace.told_shows _ mid in
+      let f = subst (λ (r : Result PageNo Reason). PutChecked c.args.name c.args.key.now c.args.value.now s r) c.in-Ok.is (c.in_ok-reason.ensures.read shows s h) in
+      let now = still_contents k shows h in
+      let t = table_there now f.0 in
+      let later = still_contents k2 shows1 now in
+      let stood = still (λ (x : Space). IsHashTable x.pages.at c.in-Ok.root.0 t.0) k2 shows1 (t.2).table in
+      let one = (c.in_ok-put-in-Ok.ensures.did).turns (k2.keeps.told mid) t.0 stood (can_put _ c.args.key.now c.args.value.now later f.0 t.1 stood (f.1).0 (f.1).1 f.2 (still_fresh k2 shows1 (still_fresh k shows (c.requires.fresh told))) (still_room k2 shows1 (still_room k shows can))) in
+      put_shapes c.args.key.now c.args.value.now _ f.0 t.1 (one.1).table one.2;
+}
 
 pub returns-in-Some-clause-splits : goal.returns-in-Some-clause-splits
-returns-in-Some-clause-splits g c = record { shaped = λ told s h can.
-    let k = c.in_ok-reason.ensures.kept in
-    let k2 = c.in_ok-sought-in-Ok.ensures.kept in
-    let shows = g.met.P.PageSpace.told_shows _ told in
-    let mid = k.keeps.told told in
-    let shows1 = g.met.P.PageSpace.told_shows _ mid in
-    let f = subst (λ (r : Result PageNo Reason). PutChecked c.args.name c.args.key.now c.args.value.now s r) c.in-Ok.is (c.in_ok-reason.ensures.read shows s h) in
-    let now = still_contents k shows h in
-    let t = table_there now f.0 in
-    let later = still_contents k2 shows1 now in
-    let stood = still (λ (x : Space). IsHashTable x.pages.at c.in-Ok.root.0 t.0) k2 shows1 (t.2).table in
-    let one = (c.in_ok-put-in-Ok.ensures.did).turns (k2.keeps.told mid) t.0 stood (can_put _ c.args.key.now c.args.value.now later f.0 t.1 stood (f.1).0 (f.1).1 f.2 (still_fresh k2 shows1 (still_fresh k shows (c.requires.fresh told))) (still_room k2 shows1 (still_room k shows can))) in
-    put_shapes c.args.key.now c.args.value.now _ f.0 t.1 (one.1).table one.2 }
+returns-in-Some-clause-splits g c = record {
+  shaped = λ told s h can.
+      let k = c.in_ok-reason.ensures.kept in
+      let k2 = c.in_ok-sought-in-Ok.ensures.kept in
+      let shows = g.met.P.PageSpace.told_shows _ told in
+      let mid = k.keeps.told told in
+      let shows1 = g.met.P.PageSpace.told_shows _ mid in
+      let f = subst (λ (r : Result PageNo Reason). PutChecked c.args.name c.args.key.now c.args.value.now s r) c.in-Ok.is (c.in_ok-reason.ensures.read shows s h) in
+      let now = still_contents k shows h in
+      let t = table_there now f.0 in
+      let later = still_contents k2 shows1 now in
+      let stood = still (λ (x : Space). IsHashTable x.pages.at c.in-Ok.root.0 t.0) k2 shows1 (t.2).table in
+      let one = (c.in_ok-put-in-Ok.ensures.did).turns (k2.keeps.told mid) t.0 stood (can_put _ c.args.key.now c.args.value.now later f.0 t.1 stood (f.1).0 (f.1).1 f.2 (still_fresh k2 shows1 (still_fresh k shows (c.requires.fresh told))) (still_room k2 shows1 (still_room k shows can))) in
+      put_shapes c.args.key.now c.args.value.now _ f.0 t.1 (one.1).table one.2;
+}

@@ -1,6 +1,6 @@
-use Rattle.std.proofs.Common.{◌≡◌, ◌∙◌, ℕ, List, sym, ap, take, drop, arith}
+use Rattle.std.proofs.Common.{◌∙◌, ℕ, List, ap}
 use Rattle.sg_objects.specs.Notes.{byte_at}
-use Rattle.sg_objects.proofs.Reversing.{read_from, can_by, did_by, can_bytes, did_bytes, bytes_whole}
+use Rattle.sg_objects.proofs.Reversing.{read_from, can_by, did_by, can_bytes, did_bytes}
 use Rattle.sg_objects.proofs.reversal.reverse.Goals as goal
 
 pub reverse_by-requires-clause-there : goal.reverse_by-requires-clause-there

@@ -1,7 +1,6 @@
-use Rattle.std.proofs.Common.{◌≡◌, ℕ, List, sym, ap}
-use Rattle.sg_reading.specs.Back.Undoing.{WasDrop}
+use Rattle.std.proofs.Common.{ℕ, sym, ap}
 use Rattle.sg_objects.specs.Notes.{undoing_said}
-use Rattle.sg_objects.proofs.Reversing.{can_as, undo_as, did_as}
+use Rattle.sg_objects.proofs.Reversing.{can_as, did_as}
 use Rattle.sg_objects.proofs.reversal.reverse_by.Goals as goal
 
 pub undo_make-requires-clause-can : goal.undo_make-requires-clause-can

@@ -1,16 +1,15 @@
-use Rattle.std.proofs.Common.{◌≡◌, ◌∙◌, ◌≤◌, ℕ, List, refl, sym, ap, Result, Option, Some, None, Err, option_map, subst, length, take, IfOk}
+use Rattle.std.proofs.Common.{◌∙◌, refl, ap, Result, option_map, subst, take}
 use Rattle.sg_base.specs.declared.numbers.PageNo.{PageNo}
-use Rattle.sg_hash.proofs.Sides.{table_stays}
-use Rattle.sg_hash.specs.Table.{HashTable, IsHashTable}
+use Rattle.sg_hash.specs.Table.{IsHashTable}
 use Rattle.sg_model.specs.declared.reason.Reason.{Reason}
 use Rattle.sg_model.specs.Step.{del_value}
-use Rattle.sg_model.specs.Verb.Verb.{Find, Del}
+use Rattle.sg_model.specs.Verb.Verb.{Del}
 use Rattle.sg_space.specs.View.{Space}
 use Rattle.sg_space.proofs.Known.{still}
 use Rattle.sg_objects.specs.Found.{KeyChecked}
 use Rattle.sg_objects.proofs.Located.{still_contents}
 use Rattle.sg_objects.proofs.Doing.{refused_did}
-use Rattle.sg_objects.proofs.Tables.{table_there, found_none, found_some, deleted_none, deleted_done}
+use Rattle.sg_objects.proofs.Tables.{table_there, deleted_none, deleted_done}
 use Rattle.sg_objects.proofs.Bodies.{from_start}
 use Rattle.sg_objects.proofs.table.del.Goals as goal
 use Rattle.sg_objects.proofs.Shaping.{del_shapes}
@@ -96,26 +95,30 @@ pub returns-in-Err-clause-splits : goal.returns-in-Err-clause-splits
 returns-in-Err-clause-splits g c = record { shaped = λ told s h can. tt }
 
 pub returns-in_default-clause-splits : goal.returns-in_default-clause-splits
-returns-in_default-clause-splits g c = record { shaped = λ told s h can.
-    let k = c.in_ok-reason.ensures.kept in
-    let k2 = c.in_ok-sought-in-Ok.ensures.kept in
-    let shows = g.met.P.PageSpace.told_shows _ told in
-    let mid = k.keeps.told told in
-    let shows1 = g.met.P.PageSpace.told_shows _ mid in
-    let f = subst (λ (r : Result PageNo Reason). KeyChecked c.args.name c.args.key.now s r) c.in-Ok.is (c.in_ok-reason.ensures.read shows s h) in
-    let t = table_there (still_contents k shows h) f.0 in
-    let stood = still (λ (x : Space). IsHashTable x.pages.at c.in-Ok.root.0 t.0) k2 shows1 (t.2).table in
-    del_shapes f.0 t.1 stood refl }
+returns-in_default-clause-splits g c = record {
+  shaped = λ told s h can.
+      let k = c.in_ok-reason.ensures.kept in
+      let k2 = c.in_ok-sought-in-Ok.ensures.kept in
+      let shows = g.met.P.PageSpace.told_shows _ told in
+      let mid = k.keeps.told told in
+      let shows1 = g.met.P.PageSpace.told_shows _ mid in
+      let f = subst (λ (r : Result PageNo Reason). KeyChecked c.args.name c.args.key.now s r) c.in-Ok.is (c.in_ok-reason.ensures.read shows s h) in
+      let t = table_there (still_contents k shows h) f.0 in
+      let stood = still (λ (x : Space). IsHashTable x.pages.at c.in-Ok.root.0 t.0) k2 shows1 (t.2).table in
+      del_shapes f.0 t.1 stood refl;
+}
 
 pub returns-in_ok-del-in-Ok-clause-splits : goal.returns-in_ok-del-in-Ok-clause-splits
-returns-in_ok-del-in-Ok-clause-splits g c = record { shaped = λ told s h can.
-    let k = c.in_ok-reason.ensures.kept in
-    let k2 = c.in_ok-sought-in-Ok.ensures.kept in
-    let shows = g.met.P.PageSpace.told_shows _ told in
-    let mid = k.keeps.told told in
-    let shows1 = g.met.P.PageSpace.told_shows _ mid in
-    let f = subst (λ (r : Result PageNo Reason). KeyChecked c.args.name c.args.key.now s r) c.in-Ok.is (c.in_ok-reason.ensures.read shows s h) in
-    let t = table_there (still_contents k shows h) f.0 in
-    let stood = still (λ (x : Space). IsHashTable x.pages.at c.in-Ok.root.0 t.0) k2 shows1 (t.2).table in
-    let one = (c.in_ok-del-in-Ok.ensures.did).turns (k2.keeps.told mid) t.0 stood tt in
-    del_shapes f.0 t.1 (one.1).table (one.2).shape }
+returns-in_ok-del-in-Ok-clause-splits g c = record {
+  shaped = λ told s h can.
+      let k = c.in_ok-reason.ensures.kept in
+      let k2 = c.in_ok-sought-in-Ok.ensures.kept in
+      let shows = g.met.P.PageSpace.told_shows _ told in
+      let mid = k.keeps.told told in
+      let shows1 = g.met.P.PageSpace.told_shows _ mid in
+      let f = subst (λ (r : Result PageNo Reason). KeyChecked c.args.name c.args.key.now s r) c.in-Ok.is (c.in_ok-reason.ensures.read shows s h) in
+      let t = table_there (still_contents k shows h) f.0 in
+      let stood = still (λ (x : Space). IsHashTable x.pages.at c.in-Ok.root.0 t.0) k2 shows1 (t.2).table in
+      let one = (c.in_ok-del-in-Ok.ensures.did).turns (k2.keeps.told mid) t.0 stood tt in
+      del_shapes f.0 t.1 (one.1).table (one.2).shape;
+}

@@ -1,16 +1,12 @@
-use Rattle.std.proofs.Common.{◌≡◌, ◌∙◌, ◌≤◌, ℕ, List, sym, ap, Result, Option, Some, None, Err, option_map, subst, length, take, IfOk}
+use Rattle.std.proofs.Common.{◌∙◌, ap, Result, option_map, subst, take}
 use Rattle.sg_base.specs.declared.numbers.PageNo.{PageNo}
-use Rattle.sg_hash.proofs.Sides.{table_stays}
-use Rattle.sg_hash.specs.Table.{HashTable, IsHashTable}
 use Rattle.sg_model.specs.declared.reason.Reason.{Reason}
 use Rattle.sg_model.specs.Step.{found}
-use Rattle.sg_model.specs.Verb.Verb.{Find, Del}
-use Rattle.sg_space.specs.View.{Space}
-use Rattle.sg_space.proofs.Known.{still}
+use Rattle.sg_model.specs.Verb.Verb.{Find}
 use Rattle.sg_objects.specs.Found.{KeyChecked}
 use Rattle.sg_objects.proofs.Located.{still_contents}
 use Rattle.sg_objects.proofs.Doing.{refused_did}
-use Rattle.sg_objects.proofs.Tables.{table_there, found_none, found_some, deleted_none, deleted_done}
+use Rattle.sg_objects.proofs.Tables.{table_there, found_none, found_some}
 use Rattle.sg_objects.proofs.Bodies.{from_start}
 use Rattle.sg_objects.proofs.table.find.Goals as goal
 

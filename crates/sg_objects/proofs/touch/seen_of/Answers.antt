@@ -1,4 +1,4 @@
-use Rattle.std.proofs.Common.{◌≡◌, ◌∙◌, ℕ, refl, sym, ap, Option, Some, None, Ok, option_map, subst}
+use Rattle.std.proofs.Common.{◌∙◌, sym}
 use Rattle.sg_catalog.specs.Catalog.{rows, there}
 use Rattle.sg_catalog.specs.declared.row.ObjectKind.TheVariants as kinds
 use Rattle.sg_contents.specs.Standing.Body.{AnArray, ATable, ABlob}

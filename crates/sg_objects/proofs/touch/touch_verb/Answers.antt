@@ -1,4 +1,4 @@
-use Rattle.std.proofs.Common.{◌≡◌, sym}
+use Rattle.std.proofs.Common.{sym}
 use Rattle.sg_objects.proofs.Touching.{touch_as}
 use Rattle.sg_objects.proofs.touch.touch_verb.Goals as goal
 

@@ -1,4 +1,3 @@
-use Rattle.std.proofs.Common.{◌≡◌, ◌∙◌, sym}
 use Rattle.sg_objects.proofs.Touching.{touched_by}
 use Rattle.sg_objects.proofs.touch.touches.Goals as goal
 

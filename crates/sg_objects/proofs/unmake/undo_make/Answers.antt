@@ -1,6 +1,5 @@
-use Rattle.std.proofs.Common.{◌≡◌, ◌∙◌, ℕ, sym, ap, refl, Option, Some, None, option_map, subst}
+use Rattle.std.proofs.Common.{◌∙◌, sym}
 use Rattle.sg_catalog.specs.Catalog.{rows, there}
-use Rattle.sg_catalog.specs.Row.{entry_of}
 use Rattle.sg_catalog.specs.declared.row.ObjectKind.TheVariants as kinds
 use Rattle.sg_objects.proofs.Unmaking.{undone_after}
 use Rattle.sg_objects.proofs.Located.{still_contents}

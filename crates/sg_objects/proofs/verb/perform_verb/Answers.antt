@@ -1,9 +1,4 @@
-use Rattle.std.proofs.Common.{◌≡◌, ℕ, List, Result, sym, subst, IfOk}
-use Rattle.sg_model.specs.SaidOps.{name_of, verb_of}
-use Rattle.sg_model.specs.SaidReplies.{said_outcome}
-use Rattle.sg_model.specs.declared.op.Op.{Op}
-use Rattle.sg_contents.specs.Standing.{HasContents}
-use Rattle.sg_objects.specs.Done.{Did, IsDone, HasRoomFor}
+use Rattle.std.proofs.Common.{sym}
 use Rattle.sg_objects.proofs.Performing.{ok_any, as_op, room_as}
 use Rattle.sg_objects.proofs.verb.perform_verb.Goals as goal
 use Rattle.sg_objects.proofs.Shaping.{shapes_as, neither}

@@ -1,9 +1,7 @@
-use Rattle.std.proofs.Common.{◌≡◌, ℕ, List, Result, subst}
+use Rattle.std.proofs.Common.{Result, subst}
 use Rattle.sg_base.specs.declared.numbers.PageNo.{PageNo}
 use Rattle.sg_catalog.specs.declared.row.ObjectKind.TheVariants as kinds
-use Rattle.sg_hash.specs.Table.{IsHashTable, entries}
 use Rattle.sg_model.specs.declared.reason.Reason.{Reason}
-use Rattle.sg_model.specs.Step.{on_table}
 use Rattle.sg_hash.proofs.Onces.{once}
 use Rattle.sg_objects.specs.Found.{IsLocated}
 use Rattle.sg_objects.proofs.Listing.{table_keys, keys_said, keys_refused}

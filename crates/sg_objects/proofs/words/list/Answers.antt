@@ -1,4 +1,3 @@
-use Rattle.std.proofs.Common.{◌≡◌, ℕ, List}
 use Rattle.sg_objects.proofs.Listing.{object_names}
 use Rattle.sg_objects.proofs.words.list.Goals as goal
 
