@@ -1,0 +1,59 @@
+use Rattle.std.proofs.Common.{Result, subst}
+use Rattle.sg_base.specs.declared.numbers.PageNo.{PageNo}
+use Rattle.sg_catalog.specs.declared.row.ObjectKind.TheVariants as kinds
+use Rattle.sg_model.specs.declared.reason.Reason.{Reason}
+use Rattle.sg_reading.specs.Back.{unapply}
+use Rattle.sg_objects.specs.Found.{IsLocated}
+use Rattle.sg_objects.proofs.Located.{still_contents}
+use Rattle.sg_objects.proofs.Checks.{array_there}
+use Rattle.sg_objects.proofs.Pushing.{items_of}
+use Rattle.sg_objects.proofs.Undoing.{not_missing, carried_at}
+use Rattle.sg_objects.proofs.Reapplying.{was_left, can_reapply, law_at, undo_apply_done}
+use Rattle.sg_objects.proofs.Bodies.{undone_from}
+use Rattle.sg_objects.proofs.back.undo_apply.Goals as goal
+
+pub broken-requires : goal.broken-requires
+broken-requires g c = λ told.
+    let back = c.root_of.ensures.counts.told told in
+    let shows = g.met.P.PageSpace.told_shows _ back in
+    let h = c.requires.there back in
+    let m = subst (λ (r : Result PageNo Reason). IsLocated kinds.Array c.args.name h.0 r) c.in-Err.is (c.in_ok-root_of.ensures.read shows h.0 h.1) in
+    not_missing c.args.name (unapply _ c.args.index c.args.code c.args.arg.now) _ _ h.1 m (h.2).possible
+
+pub apply_back-requires-clause-there : goal.apply_back-requires-clause-there
+apply_back-requires-clause-there g c = λ told.
+    let back = c.root_of.ensures.counts.told told in
+    let shows = g.met.P.PageSpace.told_shows _ back in
+    let h = c.requires.there back in
+    let f = subst (λ (r : Result PageNo Reason). IsLocated kinds.Array c.args.name h.0 r) c.in-Ok.is (c.in_ok-root_of.ensures.read shows h.0 h.1) in
+    let a = array_there (still_contents c.in_ok-root_of.ensures.kept shows h.1) f in
+    let w = carried_at (unapply _ c.args.index c.args.code c.args.arg.now) (h.2).th f a.1 (h.2).possible in
+    (a.0, a.2, can_reapply a.2 (law_at _ c.args.code (c.laws.ensures.undoable c.args.code)) c.are_bytes.ensures (was_left _ c.args.index c.args.code c.args.arg.now (items_of a.0) w.reply w.replied))
+
+pub returns-in_ok-apply_back-in-Ok-clause-did : goal.returns-in_ok-apply_back-in-Ok-clause-did
+returns-in_ok-apply_back-in-Ok-clause-did g c =
+    let k = c.in_ok-root_of.ensures.kept in
+    let did = c.in_ok-apply_back-in-Ok.ensures.did in
+    record {
+      told = λ told. (did.keeps (k.keeps.told told)).told (k.keeps.told told);
+      done = λ told s h th e.
+          let shows = g.met.P.PageSpace.told_shows _ told in
+          let mid = k.keeps.told told in
+          let f = subst (λ (r : Result PageNo Reason). IsLocated kinds.Array c.args.name s r) c.in-Ok.is (c.in_ok-root_of.ensures.read shows s h) in
+          let now = still_contents k shows h in
+          let a = array_there now f in
+          let w = carried_at (unapply _ c.args.index c.args.code c.args.arg.now) th f a.1 e in
+          let left = was_left _ c.args.index c.args.code c.args.arg.now (items_of a.0) w.reply w.replied in
+          let one = did.turns mid a.0 a.2 (can_reapply a.2 (law_at _ c.args.code (c.laws.ensures.undoable c.args.code)) c.are_bytes.ensures left) in
+          (_, undone_from k shows (undo_apply_done _ c.args.name c.args.index c.args.code c.args.arg.now th now f a.1 e left one.1 one.2));
+    }
+
+-- later
+pub returns-in_err-apply_back-in-Ok-clause-later : goal.returns-in_err-apply_back-in-Ok-clause-later
+returns-in_err-apply_back-in-Ok-clause-later g c = let then = g.met.P.PageSpace.later_then _ in then _ _ _ (c.root_of.ensures.later _) c.apply_back.ensures.later
+
+pub returns-in-Err-clause-later : goal.returns-in-Err-clause-later
+returns-in-Err-clause-later g c = let then = g.met.P.PageSpace.later_then _ in then _ _ _ (c.root_of.ensures.later _) (c.broken.ensures.later _)
+
+pub returns-in_ok-apply_back-in-Ok-clause-later : goal.returns-in_ok-apply_back-in-Ok-clause-later
+returns-in_ok-apply_back-in-Ok-clause-later g c = let then = g.met.P.PageSpace.later_then _ in then _ _ _ (c.root_of.ensures.later _) c.apply_back.ensures.later

@@ -1,0 +1,51 @@
+use Rattle.std.proofs.Common.{Result, subst}
+use Rattle.sg_base.specs.declared.numbers.PageNo.{PageNo}
+use Rattle.sg_catalog.specs.declared.row.ObjectKind.TheVariants as kinds
+use Rattle.sg_model.specs.declared.reason.Reason.{Reason}
+use Rattle.sg_objects.specs.Found.{IsLocated}
+use Rattle.sg_objects.proofs.Located.{still_contents}
+use Rattle.sg_objects.proofs.Raising.{left_array, array_went, has_row, undo_make_done}
+use Rattle.sg_objects.proofs.Bodies.{undone_from}
+use Rattle.sg_objects.proofs.back.undo_make_array.Goals as goal
+
+pub free_all-requires : goal.free_all-requires
+free_all-requires g c = λ told.
+    let mid = c.remove.ensures.counts.told told in
+    let back = c.root_of.ensures.counts.told mid in
+    let shows = g.met.P.PageSpace.told_shows _ back in
+    let h = c.requires.can back in
+    let f = subst (λ (r : Result PageNo Reason). IsLocated kinds.Array c.args.name h.0 r) c.in-Ok.is (c.in_ok-root_of.ensures.read shows h.0 h.1) in
+    let now = still_contents c.in_ok-root_of.ensures.kept shows h.1 in
+    let one = c.in_ok-remove-in-Ok.ensures.did.turns mid (h.0).catalog now.catalog (has_row f) in
+    let a = left_array now one.1 one.2 f in
+    (a.0, a.2, tt)
+
+pub returns-in_ok-free_all-in-Ok-clause-did : goal.returns-in_ok-free_all-in-Ok-clause-did
+returns-in_ok-free_all-in-Ok-clause-did g c =
+    let k = c.in_ok-root_of.ensures.kept in
+    let removed = c.in_ok-remove-in-Ok.ensures.did in
+    let freed = c.in_ok-free_all-in-Ok.ensures.did in
+    record {
+      told = λ told. freed.told (removed.told (k.keeps.told told));
+      done = λ told s h th e.
+          let shows = g.met.P.PageSpace.told_shows _ told in
+          let mid = k.keeps.told told in
+          let f = subst (λ (r : Result PageNo Reason). IsLocated kinds.Array c.args.name s r) c.in-Ok.is (c.in_ok-root_of.ensures.read shows s h) in
+          let now = still_contents k shows h in
+          let one = removed.turns mid s.catalog now.catalog (has_row f) in
+          let a = left_array now one.1 one.2 f in
+          (_, undone_from k shows (undo_make_done c.args.name th now one.1 one.2 (array_went one.2 f a.1 (freed.gone (removed.told mid) a.0 a.2)) e));
+    }
+
+-- later
+pub returns-in_err-remove-in-Ok-clause-later : goal.returns-in_err-remove-in-Ok-clause-later
+returns-in_err-remove-in-Ok-clause-later g c = let then = g.met.P.PageSpace.later_then _ in then _ _ _ (c.root_of.ensures.later _) c.remove.ensures.later
+
+pub returns-in_err-free_all-in-Ok-clause-later : goal.returns-in_err-free_all-in-Ok-clause-later
+returns-in_err-free_all-in-Ok-clause-later g c = let then = g.met.P.PageSpace.later_then _ in then _ _ _ (c.root_of.ensures.later _) (then _ _ _ c.remove.ensures.later (c.free_all.ensures.later _))
+
+pub returns-in-Err-clause-later : goal.returns-in-Err-clause-later
+returns-in-Err-clause-later g c = let then = g.met.P.PageSpace.later_then _ in then _ _ _ (c.root_of.ensures.later _) (c.broken.ensures.later _)
+
+pub returns-in_ok-free_all-in-Ok-clause-later : goal.returns-in_ok-free_all-in-Ok-clause-later
+returns-in_ok-free_all-in-Ok-clause-later g c = let then = g.met.P.PageSpace.later_then _ in then _ _ _ (c.root_of.ensures.later _) (then _ _ _ c.remove.ensures.later (c.free_all.ensures.later _))

@@ -1,0 +1,61 @@
+use Rattle.std.proofs.Common.{Result, subst}
+use Rattle.sg_base.specs.declared.numbers.PageNo.{PageNo}
+use Rattle.sg_catalog.specs.declared.row.ObjectKind.TheVariants as kinds
+use Rattle.sg_model.specs.declared.reason.Reason.{Reason}
+use Rattle.sg_model.specs.Step.{push}
+use Rattle.sg_objects.specs.Found.{IsLocated}
+use Rattle.sg_objects.proofs.Located.{still_contents}
+use Rattle.sg_objects.proofs.Checks.{array_there}
+use Rattle.sg_objects.proofs.Fresh.{still_fresh}
+use Rattle.sg_objects.proofs.Undoing.{not_missing, carried_at, pop_planned, lower, can_repush, undo_pop_done}
+use Rattle.sg_objects.proofs.Bodies.{undone_from}
+use Rattle.sg_objects.proofs.back.undo_pop.Goals as goal
+
+pub broken-requires : goal.broken-requires
+broken-requires g c = λ told.
+    let back = c.root_of.ensures.counts.told told in
+    let shows = g.met.P.PageSpace.told_shows _ back in
+    let h = c.requires.there back in
+    let m = subst (λ (r : Result PageNo Reason). IsLocated kinds.Array c.args.name h.0 r) c.in-Err.is (c.in_ok-root_of.ensures.read shows h.0 h.1) in
+    not_missing c.args.name (push c.args.item.now) _ _ h.1 m (pop_planned h.0 c.args.name _ c.args.item.now (h.2).th (h.2).possible)
+
+pub push-requires-clause-can : goal.push-requires-clause-can
+push-requires-clause-can g c = λ told.
+    let back = c.root_of.ensures.counts.told told in
+    let shows = g.met.P.PageSpace.told_shows _ back in
+    let h = c.requires.there back in
+    let k = c.in_ok-root_of.ensures.kept in
+    let f = subst (λ (r : Result PageNo Reason). IsLocated kinds.Array c.args.name h.0 r) c.in-Ok.is (c.in_ok-root_of.ensures.read shows h.0 h.1) in
+    let now = still_contents k shows h.1 in
+    let a = array_there now f in
+    let w = carried_at (push c.args.item.now) (h.2).th f a.1 (pop_planned h.0 c.args.name _ c.args.item.now (h.2).th (h.2).possible) in
+    (a.0, a.2, can_repush c.args.item.now now f a.1 a.2 (still_fresh k shows (c.requires.fresh back)) w (lower _ c.args.item.now (h.2).th f a.1 (h.2).possible))
+
+pub returns-in_ok-push-in-Ok-clause-did : goal.returns-in_ok-push-in-Ok-clause-did
+returns-in_ok-push-in-Ok-clause-did g c =
+    let k = c.in_ok-root_of.ensures.kept in
+    let did = c.in_ok-push-in-Ok.ensures.did in
+    record {
+      told = λ told.
+          let mid = k.keeps.told told in
+          (did.keeps mid).told mid;
+      done = λ told s h th e.
+          let shows = g.met.P.PageSpace.told_shows _ told in
+          let mid = k.keeps.told told in
+          let f = subst (λ (r : Result PageNo Reason). IsLocated kinds.Array c.args.name s r) c.in-Ok.is (c.in_ok-root_of.ensures.read shows s h) in
+          let now = still_contents k shows h in
+          let a = array_there now f in
+          let w = carried_at (push c.args.item.now) th f a.1 (pop_planned s c.args.name _ c.args.item.now th e) in
+          let one = did.turns mid a.0 a.2 (can_repush c.args.item.now now f a.1 a.2 (still_fresh k shows (c.requires.fresh told)) w (lower _ c.args.item.now th f a.1 e)) in
+          (_, undone_from k shows (undo_pop_done _ c.args.name c.args.item.now th now f a.1 a.2 e one.1 one.2));
+    }
+
+-- later
+pub returns-in_err-push-in-Ok-clause-later : goal.returns-in_err-push-in-Ok-clause-later
+returns-in_err-push-in-Ok-clause-later g c = let then = g.met.P.PageSpace.later_then _ in then _ _ _ (c.root_of.ensures.later _) c.push.ensures.later
+
+pub returns-in-Err-clause-later : goal.returns-in-Err-clause-later
+returns-in-Err-clause-later g c = let then = g.met.P.PageSpace.later_then _ in then _ _ _ (c.root_of.ensures.later _) (c.broken.ensures.later _)
+
+pub returns-in_ok-push-in-Ok-clause-later : goal.returns-in_ok-push-in-Ok-clause-later
+returns-in_ok-push-in-Ok-clause-later g c = let then = g.met.P.PageSpace.later_then _ in then _ _ _ (c.root_of.ensures.later _) c.push.ensures.later

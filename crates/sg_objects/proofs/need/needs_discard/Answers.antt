@@ -1,0 +1,12 @@
+use Rattle.sg_catalog.specs.Catalog.{rows, there}
+use Rattle.sg_model.specs.declared.reason.Reason.TheVariants.{NoObject}
+use Rattle.sg_objects.proofs.Applying.{checked_ok}
+use Rattle.sg_objects.proofs.Making.{is_found, not_there}
+use Rattle.sg_objects.proofs.Needing.{checked_all, discard_need, discard_refused}
+use Rattle.sg_objects.proofs.need.needs_discard.Goals as goal
+
+pub returns-then-branch-clause-read : goal.returns-then-branch-clause-read
+returns-then-branch-clause-read g c = λ shows s h. checked_ok _ (discard_need _ (is_found (there c.args.name (rows s.catalog)) c.in_ok-is_there.field-0 (c.in_ok-is_there.ensures.read shows s h) c.if-branch.true) c.of_pages.ensures)
+
+pub returns-clause-read : goal.returns-clause-read
+returns-clause-read g c = λ shows s h. checked_all NoObject (λ u. discard_refused s c.args.name u (not_there (there c.args.name (rows s.catalog)) c.in_ok-is_there.field-0 (c.in_ok-is_there.ensures.read shows s h) c.if-branch.false))

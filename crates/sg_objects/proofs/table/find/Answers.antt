@@ -1,0 +1,69 @@
+use Rattle.std.proofs.Common.{◌∙◌, ap, Result, option_map, subst, take}
+use Rattle.sg_base.specs.declared.numbers.PageNo.{PageNo}
+use Rattle.sg_model.specs.declared.reason.Reason.{Reason}
+use Rattle.sg_model.specs.Step.{found}
+use Rattle.sg_model.specs.Verb.Verb.{Find}
+use Rattle.sg_objects.specs.Found.{KeyChecked}
+use Rattle.sg_objects.proofs.Located.{still_contents}
+use Rattle.sg_objects.proofs.Doing.{refused_did}
+use Rattle.sg_objects.proofs.Tables.{table_there, found_none, found_some}
+use Rattle.sg_objects.proofs.Bodies.{from_start}
+use Rattle.sg_objects.proofs.table.find.Goals as goal
+
+pub returns-in-Err-clause-did : goal.returns-in-Err-clause-did
+returns-in-Err-clause-did g c =
+    refused_did _ 0 c.args.name (Find c.args.key.now) c.in-Err.reason _ (g.met.P.PageSpace.told_shows _) c.in_ok-reason.ensures.kept c.set.ensures
+    (λ shows s h t. subst (λ (r : Result PageNo Reason). KeyChecked c.args.name c.args.key.now s r) c.in-Err.is (c.in_ok-reason.ensures.read shows s h) found)
+
+pub find-requires-clause-there : goal.find-requires-clause-there
+find-requires-clause-there g c = λ told.
+    let back = c.check_key.ensures.counts.told told in
+    let shows = g.met.P.PageSpace.told_shows _ back in
+    let h = c.requires.there back in
+    let f = subst (λ (r : Result PageNo Reason). KeyChecked c.args.name c.args.key.now h.0 r) c.in-Ok.is (c.in_ok-reason.ensures.read shows h.0 h.1) in
+    let t = table_there (still_contents c.in_ok-reason.ensures.kept shows h.1) f.0 in
+    (t.0, (t.2).table, tt)
+
+pub returns-in_default-clause-did : goal.returns-in_default-clause-did
+returns-in_default-clause-did g c =
+    let k = c.in_ok-reason.ensures.kept in
+    let k2 = c.in_ok-sought-in-Ok.ensures.kept in
+    record {
+      told = λ told. k2.keeps.told (k.keeps.told told);
+      done = λ told s h can.
+          let shows = g.met.P.PageSpace.told_shows _ told in
+          let mid = k.keeps.told told in
+          let shows1 = g.met.P.PageSpace.told_shows _ mid in
+          let f = subst (λ (r : Result PageNo Reason). KeyChecked c.args.name c.args.key.now s r) c.in-Ok.is (c.in_ok-reason.ensures.read shows s h) in
+          let now = still_contents k shows h in
+          let t = table_there now f.0 in
+          let answer = c.in_ok-sought-in-Ok.ensures.read shows1 t.0 (t.2).table in
+          (s, from_start k shows (found_none _ 0 c.args.name c.args.key.now _ (k2.same shows1) now f.0 t.1 f.1 f.2 (answer ∙ ap (option_map (λ n. take n c.find.new.into)) c.in_default.is) c.set.ensures));
+    }
+
+pub returns-in-Some-clause-did : goal.returns-in-Some-clause-did
+returns-in-Some-clause-did g c =
+    let k = c.in_ok-reason.ensures.kept in
+    let k2 = c.in_ok-sought-in-Ok.ensures.kept in
+    record {
+      told = λ told. k2.keeps.told (k.keeps.told told);
+      done = λ told s h can.
+          let shows = g.met.P.PageSpace.told_shows _ told in
+          let mid = k.keeps.told told in
+          let shows1 = g.met.P.PageSpace.told_shows _ mid in
+          let f = subst (λ (r : Result PageNo Reason). KeyChecked c.args.name c.args.key.now s r) c.in-Ok.is (c.in_ok-reason.ensures.read shows s h) in
+          let now = still_contents k shows h in
+          let t = table_there now f.0 in
+          let answer = c.in_ok-sought-in-Ok.ensures.read shows1 t.0 (t.2).table in
+          (s, from_start k shows (found_some _ 0 c.args.name c.args.key.now (take c.in-Some.n c.find.new.into) _ (k2.same shows1) now f.0 t.1 f.1 f.2 (answer ∙ ap (option_map (λ n. take n c.find.new.into)) c.in-Some.is) c.set.ensures));
+    }
+
+-- later
+pub returns-in_err-sought-in-Ok-clause-later : goal.returns-in_err-sought-in-Ok-clause-later
+returns-in_err-sought-in-Ok-clause-later g c = let then = g.met.P.PageSpace.later_then _ in then _ _ _ (c.check_key.ensures.later _) (c.find.ensures.later _)
+
+pub returns-in_default-clause-later : goal.returns-in_default-clause-later
+returns-in_default-clause-later g c = let then = g.met.P.PageSpace.later_then _ in then _ _ _ (c.check_key.ensures.later _) (c.find.ensures.later _)
+
+pub returns-in-Some-clause-later : goal.returns-in-Some-clause-later
+returns-in-Some-clause-later g c = let then = g.met.P.PageSpace.later_then _ in then _ _ _ (c.check_key.ensures.later _) (c.find.ensures.later _)

@@ -1,0 +1,55 @@
+use Rattle.std.proofs.Common.{Result, subst}
+use Rattle.sg_base.specs.declared.numbers.PageNo.{PageNo}
+use Rattle.sg_catalog.specs.declared.row.ObjectKind.TheVariants as kinds
+use Rattle.sg_model.specs.declared.reason.Reason.{Reason}
+use Rattle.sg_model.specs.Step.{at_key}
+use Rattle.sg_reading.specs.Back.{forget}
+use Rattle.sg_objects.specs.Found.{IsLocated}
+use Rattle.sg_objects.proofs.Located.{still_contents}
+use Rattle.sg_objects.proofs.Tables.{table_there}
+use Rattle.sg_objects.proofs.Forgetting.{no_table, undo_put_done}
+use Rattle.sg_objects.proofs.Bodies.{undone_from}
+use Rattle.sg_objects.proofs.table.undo_put.Goals as goal
+
+pub broken-requires : goal.broken-requires
+broken-requires g c = λ told.
+    let back = c.root_of.ensures.counts.told told in
+    let shows = g.met.P.PageSpace.told_shows _ back in
+    let h = c.requires.there back in
+    let m = subst (λ (r : Result PageNo Reason). IsLocated kinds.Table c.args.name h.0 r) c.in-Err.is (c.in_ok-root_of.ensures.read shows h.0 h.1) in
+    no_table c.args.name (at_key c.args.key.now forget) _ _ h.1 m (h.2).possible
+
+pub del-requires-clause-there : goal.del-requires-clause-there
+del-requires-clause-there g c = λ told.
+    let back = c.root_of.ensures.counts.told told in
+    let shows = g.met.P.PageSpace.told_shows _ back in
+    let h = c.requires.there back in
+    let f = subst (λ (r : Result PageNo Reason). IsLocated kinds.Table c.args.name h.0 r) c.in-Ok.is (c.in_ok-root_of.ensures.read shows h.0 h.1) in
+    let t = table_there (still_contents c.in_ok-root_of.ensures.kept shows h.1) f in
+    (t.0, (t.2).table, tt)
+
+pub returns-in_ok-del-in-Ok-clause-did : goal.returns-in_ok-del-in-Ok-clause-did
+returns-in_ok-del-in-Ok-clause-did g c =
+    let k = c.in_ok-root_of.ensures.kept in
+    let did = c.in_ok-del-in-Ok.ensures.did in
+    record {
+      told = λ told. did.told (k.keeps.told told);
+      done = λ told s h th e.
+          let shows = g.met.P.PageSpace.told_shows _ told in
+          let mid = k.keeps.told told in
+          let f = subst (λ (r : Result PageNo Reason). IsLocated kinds.Table c.args.name s r) c.in-Ok.is (c.in_ok-root_of.ensures.read shows s h) in
+          let now = still_contents k shows h in
+          let t = table_there now f in
+          let one = did.turns mid t.0 (t.2).table tt in
+          (_, undone_from k shows (undo_put_done c.args.name c.args.key.now _ th now f t.1 (t.2).no_empty_key e one.1 one.2));
+    }
+
+-- later
+pub returns-in_err-del-in-Ok-clause-later : goal.returns-in_err-del-in-Ok-clause-later
+returns-in_err-del-in-Ok-clause-later g c = let then = g.met.P.PageSpace.later_then _ in then _ _ _ (c.root_of.ensures.later _) c.del.ensures.later
+
+pub returns-in-Err-clause-later : goal.returns-in-Err-clause-later
+returns-in-Err-clause-later g c = let then = g.met.P.PageSpace.later_then _ in then _ _ _ (c.root_of.ensures.later _) (c.broken.ensures.later _)
+
+pub returns-in_ok-del-in-Ok-clause-later : goal.returns-in_ok-del-in-Ok-clause-later
+returns-in_ok-del-in-Ok-clause-later g c = let then = g.met.P.PageSpace.later_then _ in then _ _ _ (c.root_of.ensures.later _) c.del.ensures.later

@@ -1,0 +1,37 @@
+use Rattle.std.proofs.Common.{Result, subst}
+use Rattle.sg_base.specs.declared.numbers.PageNo.{PageNo}
+use Rattle.sg_catalog.specs.declared.row.ObjectKind.TheVariants as kinds
+use Rattle.sg_model.specs.declared.reason.Reason.{Reason}
+use Rattle.sg_hash.proofs.Onces.{once}
+use Rattle.sg_objects.specs.Found.{IsLocated}
+use Rattle.sg_objects.proofs.Listing.{table_keys, keys_said, keys_refused}
+use Rattle.sg_objects.proofs.Located.{still_contents}
+use Rattle.sg_objects.proofs.Tables.{table_there}
+use Rattle.sg_objects.proofs.words.keys.Goals as goal
+
+pub returns-in-Err-clause-read : goal.returns-in-Err-clause-read
+returns-in-Err-clause-read g c = λ shows s h t.
+    keys_refused t c.args.name c.in-Err.reason h (subst (λ (r : Result PageNo Reason). IsLocated kinds.Table c.args.name s r) c.in-Err.is (c.in_ok-reason.ensures.read shows s h))
+
+pub keys-requires : goal.keys-requires
+keys-requires g c = λ told.
+    let back = c.root_of.ensures.counts.told told in
+    let shows = g.met.P.PageSpace.told_shows _ back in
+    let h = c.requires back in
+    let f = subst (λ (r : Result PageNo Reason). IsLocated kinds.Table c.args.name h.0 r) c.in-Ok.is (c.in_ok-reason.ensures.read shows h.0 h.1) in
+    let t = table_there (still_contents c.in_ok-reason.ensures.kept shows h.1) f in
+    (t.0, (t.2).table, tt)
+
+pub returns-in_ok-all-in-Ok-clause-read : goal.returns-in_ok-all-in-Ok-clause-read
+returns-in_ok-all-in-Ok-clause-read g c = λ shows s h t.
+    let k = c.in_ok-reason.ensures.kept in
+    let f = subst (λ (r : Result PageNo Reason). IsLocated kinds.Table c.args.name s r) c.in-Ok.is (c.in_ok-reason.ensures.read shows s h) in
+    let a = table_there (still_contents k shows h) f in
+    keys_said t _ f a.1 (table_keys a.0 _ (once (a.2).table) (c.in_ok-all-in-Ok.ensures.read (k.shows shows) a.0 (a.2).table) c.in_ok-all-in-Ok.ensures.order)
+
+-- later
+pub returns-in_err-all-in-Ok-clause-later : goal.returns-in_err-all-in-Ok-clause-later
+returns-in_err-all-in-Ok-clause-later g c = λ t. let then = g.met.P.PageSpace.later_then t in then _ _ _ (c.root_of.ensures.later t) (c.keys.ensures.later t)
+
+pub returns-in_ok-all-in-Ok-clause-later : goal.returns-in_ok-all-in-Ok-clause-later
+returns-in_ok-all-in-Ok-clause-later g c = λ t. let then = g.met.P.PageSpace.later_then t in then _ _ _ (c.root_of.ensures.later t) (c.keys.ensures.later t)

@@ -1,0 +1,71 @@
+// The length of a blob becomes another one.
+ghost use Rattle.std.specs.Prelude.{◌≡◌, ◌≤◌, OnOk, IfOk, ⊤};
+ghost use Rattle.sg_ops.specs.Table.{Table as Operations, table_of};
+ghost use Rattle.sg_model.specs.SaidReplies.{said_outcome};
+ghost use Rattle.sg_model.specs.Verb.Verb.{Size};
+ghost use Rattle.sg_space.specs.View.{Counts, OnlyReads};
+ghost use Rattle.sg_contents.specs.Standing.{HasContents, IfContents};
+ghost use Rattle.sg_objects.specs.Blobs.{CanSizeTo};
+ghost use Rattle.sg_objects.specs.Done.{Did, IsDone, IsFresh, HasRoomFor};
+ghost use Rattle.sg_objects.specs.Found.{Checked};
+
+use crate::blob::{BlobAt, MOST, blob_of, note_size};
+use sg_base::Name;
+use sg_model::{Reason, Reply};
+use sg_ops::Ops;
+use sg_space::{PageSpace, SpaceFault, UndoNote};
+
+/// The blob that may have so many bytes.
+pub fn check_size<P: PageSpace>(
+    space: &mut P,
+    name: Name,
+    size: u64,
+) -> Result<Result<BlobAt, Reason>, SpaceFault>
+    requires { HasContents (P.view space.old) (λ _. ⊤) }
+    ensures counts { Counts (P.view space.old) (P.view space.new) result }
+    ensures kept { OnOk result (OnlyReads (P.view space.old) (P.view space.new)) }
+    ensures read { IfOk result (λ r. IfContents (P.view space.old) (λ s.
+        Checked name (Size size) s (CanSizeTo name size s) r)) }
+    ensures small { IfOk result (λ r. IfOk r (λ x. size ≤ 16384000)) }
+    ensures later { (t : Operations) → P.later t space.old space.new }
+    ensures means { (t : Operations) → P.means space.old t → P.means space.new t }
+{
+    match blob_of(space, name)? {
+        Err(reason) => Ok(Err(reason)),
+        Ok(found) => {
+            if size > MOST {
+                return Ok(Err(Reason::TooLong));
+            }
+            Ok(Ok(found))
+        }
+    }
+}
+
+/// Makes a blob so many bytes long. Those that it gains are 0.
+pub fn resize<P: PageSpace>(
+    space: &mut P,
+    ops: &Ops,
+    name: Name,
+    size: u64,
+    into: &mut [u8],
+    undo: &mut UndoNote,
+) -> Result<Result<Reply, Reason>, SpaceFault>
+    requires means { P.means space.old (table_of record_meaning range_meaning ops.now) }
+    requires there { HasContents (P.view space.old) (HasRoomFor (table_of record_meaning range_meaning ops.now) (P.view space.old) name (Size size)) }
+    requires fresh { (P.view space.old).Told → IsFresh (P.view space.old) }
+    ensures counts { Counts (P.view space.old) (P.view space.new) result }
+    ensures did { IfOk result (λ r. Did (P.view space.old) (P.view space.new) (HasRoomFor (table_of record_meaning range_meaning ops.now) (P.view space.old) name (Size size))
+        (IsDone (table_of record_meaning range_meaning ops.now) 0 name (Size size) (said_outcome into.new r) undo.new (P.view space.old).space (P.view space.new).space)) }
+    ensures later { P.later (table_of record_meaning range_meaning ops.now) space.old space.new }
+    ensures means { P.means space.new (table_of record_meaning range_meaning ops.now) }
+{
+    undo.set(&[]);
+    match check_size(space, name, size)? {
+        Err(reason) => Ok(Err(reason)),
+        Ok(found) => {
+            sg_blob::set_len(space, ops, found.root, size as u32)?;
+            note_size(undo, name, found.len);
+            Ok(Ok(Reply::Done))
+        }
+    }
+}
