@@ -11,4 +11,6 @@
 
 mod law;
 
-pub use law::{calls_are_serial, log_is_enough, runs_are_serial, undoing_leaves_out};
+pub use law::{
+    calls_are_serial, log_is_enough, named_lines_are_serial, runs_are_serial, undoing_leaves_out,
+};
