@@ -2,3 +2,4 @@ pub mod Serial
 pub mod Log
 pub mod Noted
 pub mod Numbers
+pub mod Named

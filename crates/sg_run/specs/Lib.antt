@@ -5,3 +5,4 @@ pub mod Kept
 pub mod Noted
 pub mod Numbers
 pub mod Stocked
+pub mod Named

@@ -2,6 +2,7 @@ ghost use Rattle.sg_run.specs.Serial.{RunsAreSerial};
 ghost use Rattle.sg_run.specs.Kept.{LogIsEnough};
 ghost use Rattle.sg_run.specs.Noted.{UndoingLeavesOut};
 ghost use Rattle.sg_run.specs.Numbers.{CallsAreSerial};
+ghost use Rattle.sg_run.specs.Named.{NamedLinesAreSerial};
 
 /// Tells a proof that every run is serial: after each list of lines, unless the store has stopped,
 /// each entry of a committed transaction got the reply or the reason that it gets where the committed
@@ -27,4 +28,10 @@ pub fn undoing_leaves_out()
 /// whatever each call was answered, unless the store has stopped. It runs no code.
 pub fn calls_are_serial()
     ensures { CallsAreSerial }
+{}
+
+/// Tells a proof the same of the lines of a script over pages, with a stock: each list of them leads to a
+/// run that is serial, unless the store has stopped. It runs no code.
+pub fn named_lines_are_serial()
+    ensures { NamedLinesAreSerial }
 {}

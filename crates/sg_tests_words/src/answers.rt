@@ -26,7 +26,7 @@ fn is_text(alloc: Global, answer: &Answer, text: &[u8]) -> bool {
 }
 
 // How many of these answers there are.
-const ANSWERS: usize = 15;
+const ANSWERS: usize = 17;
 
 // An answer and its line, by number.
 fn answer(alloc: Global, name: Name, number: usize) -> (Answer, &'static [u8]) {
@@ -45,6 +45,18 @@ fn answer(alloc: Global, name: Name, number: usize) -> (Answer, &'static [u8]) {
         11 => (Answer::Disk, b"error disk\n"),
         12 => (Answer::Said(Reply::New), b"ok new\n"),
         13 => (Answer::Said(Reply::Bytes(2)), b"ok ab\n"),
+        14 => {
+            let answer = Answer::NoSpace {
+                free: 0,
+                reserved: 10,
+                need: u32::MAX,
+            };
+            (answer, b"error no-space 0 10 4294967295\n")
+        }
+        15 => (
+            Answer::NoBands { free: 7, need: 500 },
+            b"error no-bands 7 500\n",
+        ),
         _ => (Answer::Names(Vec::new(alloc)), b"ok 0\n"),
     }
 }

@@ -13,7 +13,7 @@ use Rattle.sg_words.specs.Requests.{Asked, Request, asked}
 use Rattle.sg_words.specs.Requests.Asked.{Blank, Wrong, Of}
 use Rattle.sg_words.specs.Requests.Request.{Begin, Commit, Abort, Do}
 use Rattle.sg_words.specs.Answers.{Answer}
-use Rattle.sg_words.specs.Answers.Answer.{Silent, BadSyntax, Stopped, NoTransaction, IsLive, TooManyLive, Busy, LocksFull, Refused, LogEnd, Memory, Disk, Said}
+use Rattle.sg_words.specs.Answers.Answer.{Silent, BadSyntax, Stopped, NoTransaction, IsLive, TooManyLive, Busy, LocksFull, Refused, NoSpace, NoBands, LogEnd, Memory, Disk, Said}
 use Rattle.sg_run.specs.Answer.{answer_of}
 use Rattle.sg_run.specs.Run.{Run, MOST_LIVE, MOST_HELD, live_named, live_objects, began, aborted, did, with_locks, only_locks, lacking, holder_of, held_with, stop, stop_at, broken, full, turn, turn_request, turn_begin, turn_commit, turn_abort, turn_op, turn_held, Turns, LineBy, Lines, IsCaused, AreCaused}
 use Rattle.sg_top.specs.Script.{acks, acknowledged}
@@ -126,6 +126,8 @@ module _ (t : Operations) where
   step_line x m line (Busy name) h = turned x m line (Busy name) h
   step_line x m line LocksFull h = turned x m line LocksFull h
   step_line x m line (Refused reason) h = turned x m line (Refused reason) h
+  step_line x m line (NoSpace free reserved need) h = turned x m line (NoSpace free reserved need) h
+  step_line x m line (NoBands free need) h = turned x m line (NoBands free need) h
   step_line x m line (Said reply) h = turned x m line (Said reply) h
 
   -- a stopped run commits no more
@@ -251,6 +253,8 @@ module _ (t : Operations) (Risen : Type 0) (IsFull : Asked → Type 0) where
   line_cause x m line (Busy name) h k c = turned_cause x m line (Busy name) h c
   line_cause x m line LocksFull h k c = turned_cause x m line LocksFull h c
   line_cause x m line (Refused reason) h k c = turned_cause x m line (Refused reason) h c
+  line_cause x m line (NoSpace free reserved need) h k c = turned_cause x m line (NoSpace free reserved need) h c
+  line_cause x m line (NoBands free need) h k c = turned_cause x m line (NoBands free need) h c
   line_cause x m line (Said reply) h k c = turned_cause x m line (Said reply) h c
 
   -- the reason follows from the answers

@@ -19,7 +19,7 @@ use Rattle.sg_words.specs.Requests.{Asked, Request, asked}
 use Rattle.sg_words.specs.Requests.Asked.{Blank, Wrong, Of}
 use Rattle.sg_words.specs.Requests.Request.{Begin, Commit, Abort, Do}
 use Rattle.sg_words.specs.Answers.{Answer, text_of_answer}
-use Rattle.sg_words.specs.Answers.Answer.{Silent, BadSyntax, Stopped, NoTransaction, IsLive, TooManyLive, Busy, LocksFull, Refused, LogEnd, Memory, Disk, Said}
+use Rattle.sg_words.specs.Answers.Answer.{Silent, BadSyntax, Stopped, NoTransaction, IsLive, TooManyLive, Busy, LocksFull, Refused, NoSpace, NoBands, LogEnd, Memory, Disk, Said}
 use Rattle.sg_record.specs.Plain.{Record}
 use Rattle.sg_record.specs.Plain.Record.{Commit as CommitRecord}
 use Rattle.sg_line_log.specs.Frames.{LOG_END}
@@ -130,6 +130,8 @@ module _ (t : Operations) where
   extends_line x y line (Busy name) le h = turned x y line (Busy name) le h
   extends_line x y line LocksFull le h = turned x y line LocksFull le h
   extends_line x y line (Refused reason) le h = turned x y line (Refused reason) le h
+  extends_line x y line (NoSpace free reserved need) le h = turned x y line (NoSpace free reserved need) le h
+  extends_line x y line (NoBands free need) le h = turned x y line (NoBands free need) le h
   extends_line x y line (Said reply) le h = turned x y line (Said reply) le h
 
   -- an image that stands for a prefix goes on standing for one
@@ -206,6 +208,8 @@ module _ (t : Operations) (told : Bool) (was : disk.State) where
   near_full v k x y line (Busy name) R shows goes h = tt
   near_full v k x y line LocksFull R shows goes h = tt
   near_full v k x y line (Refused reason) R shows goes h = tt
+  near_full v k x y line (NoSpace free reserved need) R shows goes h = tt
+  near_full v k x y line (NoBands free need) R shows goes h = tt
   near_full v k x y line (Said reply) R shows goes h = tt
 
   -- before the first line

@@ -4,7 +4,7 @@ use Rattle.sg_base.specs.Ends.{Takes}
 use Rattle.sg_ops.specs.Table.{Table as Operations}
 use Rattle.sg_words.specs.Requests.{Asked, asked}
 use Rattle.sg_words.specs.Answers.{Answer, text_of_answer, text_of_all}
-use Rattle.sg_words.specs.Answers.Answer.{Silent, BadSyntax, Stopped, NoTransaction, IsLive, TooManyLive, Busy, LocksFull, Refused, LogEnd, Memory, Disk, Said}
+use Rattle.sg_words.specs.Answers.Answer.{Silent, BadSyntax, Stopped, NoTransaction, IsLive, TooManyLive, Busy, LocksFull, Refused, NoSpace, NoBands, LogEnd, Memory, Disk, Said}
 use Rattle.sg_words.proofs.Steps.{Takes-more}
 use Rattle.sg_run.specs.Run.{Run, Line, Lines, IsCaused, AreCaused}
 
@@ -36,6 +36,8 @@ caused-weaker R S F G line TooManyLive r f h = tt
 caused-weaker R S F G line (Busy name) r f h = tt
 caused-weaker R S F G line LocksFull r f h = tt
 caused-weaker R S F G line (Refused reason) r f h = tt
+caused-weaker R S F G line (NoSpace free reserved need) r f h = tt
+caused-weaker R S F G line (NoBands free need) r f h = tt
 caused-weaker R S F G line Memory r f h = tt
 caused-weaker R S F G line (Said reply) r f h = tt
 

@@ -19,7 +19,7 @@ use Rattle.sg_words.specs.Requests.{Asked, Request}
 use Rattle.sg_words.specs.Requests.Asked.{Blank, Wrong, Of}
 use Rattle.sg_words.specs.Requests.Request.{Begin, Commit, Abort, Do}
 use Rattle.sg_words.specs.Answers.{Answer}
-use Rattle.sg_words.specs.Answers.Answer.{Silent, BadSyntax, Stopped, NoTransaction, IsLive, TooManyLive, Busy, LocksFull, Refused, LogEnd, Memory, Disk, Said}
+use Rattle.sg_words.specs.Answers.Answer.{Silent, BadSyntax, Stopped, NoTransaction, IsLive, TooManyLive, Busy, LocksFull, Refused, NoSpace, NoBands, LogEnd, Memory, Disk, Said}
 use Rattle.sg_run.specs.Answer.{answer_of}
 use Rattle.sg_run.specs.Run.{Event, Run, MOST_LIVE, MOST_HELD, live_named, live_objects, committed_objects, objects_after, began, did, holder_of, held_with, only_locks, lacking, stop_at, broken, full, turn, turn_request, turn_begin, turn_commit, turn_abort, turn_op, turn_held, Turns, LineBy}
 use Rattle.sg_journal.specs.Stands.{StandsFor, StandsForFirst}
@@ -142,6 +142,8 @@ module _ (t : Operations) where
   either_line x y line (Busy name) h = turned x y line (Busy name) h
   either_line x y line LocksFull h = turned x y line LocksFull h
   either_line x y line (Refused reason) h = turned x y line (Refused reason) h
+  either_line x y line (NoSpace free reserved need) h = turned x y line (NoSpace free reserved need) h
+  either_line x y line (NoBands free need) h = turned x y line (NoBands free need) h
   either_line x y line (Said reply) h = turned x y line (Said reply) h
 
   -- a commit line whose turn it is
@@ -170,6 +172,8 @@ module _ (t : Operations) where
   commit_goes x y name (Busy holder) going on h = turned_commit x y name (Busy holder) going h
   commit_goes x y name LocksFull going on h = turned_commit x y name LocksFull going h
   commit_goes x y name (Refused reason) going on h = turned_commit x y name (Refused reason) going h
+  commit_goes x y name (NoSpace free reserved need) going on h = turned_commit x y name (NoSpace free reserved need) going h
+  commit_goes x y name (NoBands free need) going on h = turned_commit x y name (NoBands free need) going h
   commit_goes x y name (Said reply) going on h = turned_commit x y name (Said reply) going h
 
   -- and so has each line

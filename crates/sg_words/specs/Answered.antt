@@ -6,7 +6,7 @@ use Rattle.sg_words.specs.declared.answer.Answer as code
 use Rattle.sg_words.specs.declared.answer.Answer.TheVariants as answers
 use Rattle.sg_words.specs.Answers.{Answer}
 use Rattle.sg_words.specs.Text.{text_of_reason}
-use Rattle.sg_words.specs.Answers.Answer.{Silent, BadSyntax, Stopped, NoTransaction, IsLive, TooManyLive, Busy, LocksFull, Refused, LogEnd, Memory, Disk, Said}
+use Rattle.sg_words.specs.Answers.Answer.{Silent, BadSyntax, Stopped, NoTransaction, IsLive, TooManyLive, Busy, LocksFull, Refused, NoSpace, NoBands, LogEnd, Memory, Disk, Said}
 
 -- an answer, where the bytes of a reply stand at the front of a buffer
 abbrev pub shown_answer : List ℕ → code.Answer → Answer
@@ -19,6 +19,8 @@ shown_answer into answers.TooManyLive = TooManyLive
 shown_answer into (answers.Busy name) = Busy name
 shown_answer into answers.LocksFull = LocksFull
 shown_answer into (answers.Refused reason) = Refused reason
+shown_answer into (answers.NoSpace free reserved need) = NoSpace free reserved need
+shown_answer into (answers.NoBands free need) = NoBands free need
 shown_answer into answers.LogEnd = LogEnd
 shown_answer into answers.Memory = Memory
 shown_answer into answers.Disk = Disk
@@ -37,6 +39,8 @@ line_of answers.TooManyLive = codes "error too-many-live\n"
 line_of (answers.Busy name) = []
 line_of answers.LocksFull = codes "error locks-full\n"
 line_of (answers.Refused reason) = text_of_reason reason
+line_of (answers.NoSpace free reserved need) = []
+line_of (answers.NoBands free need) = []
 line_of answers.LogEnd = codes "error log-end\n"
 line_of answers.Memory = codes "error memory\n"
 line_of answers.Disk = codes "error disk\n"

@@ -17,6 +17,8 @@ pub data Answer : Type 0 where
   Busy : (name : List ℕ) → Answer
   LocksFull : Answer
   Refused : (reason : Reason) → Answer
+  NoSpace : (free reserved need : ℕ) → Answer
+  NoBands : (free need : ℕ) → Answer
   LogEnd : Answer
   Memory : Answer
   Disk : Answer
@@ -50,6 +52,8 @@ text_of_answer TooManyLive = codes "error too-many-live\n"
 text_of_answer (Busy name) = codes "busy " ++ name ++ codes "\n"
 text_of_answer LocksFull = codes "error locks-full\n"
 text_of_answer (Refused reason) = text_of_reason reason
+text_of_answer (NoSpace free reserved need) = codes "error no-space" ++ codes " " ++ decimal free ++ codes " " ++ decimal reserved ++ codes " " ++ decimal need ++ codes "\n"
+text_of_answer (NoBands free need) = codes "error no-bands" ++ codes " " ++ decimal free ++ codes " " ++ decimal need ++ codes "\n"
 text_of_answer LogEnd = codes "error log-end\n"
 text_of_answer Memory = codes "error memory\n"
 text_of_answer Disk = codes "error disk\n"

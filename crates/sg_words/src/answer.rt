@@ -4,6 +4,7 @@ ghost use Rattle.sg_words.specs.Answers.{text_of_answer};
 ghost use Rattle.sg_words.specs.Writing.{Writes};
 
 use crate::reply::{reason_text, write_reply};
+use crate::room::{write_no_bands, write_no_space};
 use crate::several::{write_busy, write_words};
 use sg_base::{Failed, Name, Sink};
 use sg_model::{Key, Reason, Reply};
@@ -29,6 +30,10 @@ pub enum Answer {
     LocksFull,
     /// Why nothing was done.
     Refused(Reason),
+    /// Fewer pages are free than are reserved and needed.
+    NoSpace { free: u32, reserved: u32, need: u32 },
+    /// Fewer bands are free than are needed.
+    NoBands { free: u32, need: u32 },
     /// The log has no room for more.
     LogEnd,
     /// There was not enough memory.
@@ -58,8 +63,13 @@ fn line_of(answer: &Answer) -> &'static [u8]
         Answer::LogEnd => b"error log-end\n",
         Answer::Memory => b"error memory\n",
         Answer::Disk => b"error disk\n",
-        Answer::Silent | Answer::Busy(_) | Answer::Said(_) | Answer::Keys(_) | Answer::Names(_) =>
-            b"",
+        Answer::Silent
+        | Answer::Busy(_)
+        | Answer::NoSpace { .. }
+        | Answer::NoBands { .. }
+        | Answer::Said(_)
+        | Answer::Keys(_)
+        | Answer::Names(_) => b"",
     }
 }
 
@@ -83,6 +93,12 @@ pub fn write_answer<K: Sink>(answer: &Answer, bytes: &[u8], out: &mut K) -> Resu
     match answer {
         Answer::Said(reply) => write_reply(reply, bytes, out),
         Answer::Busy(name) => write_busy(name.text(), out),
+        Answer::NoSpace {
+            free,
+            reserved,
+            need,
+        } => write_no_space(*free, *reserved, *need, out),
+        Answer::NoBands { free, need } => write_no_bands(*free, *need, out),
         Answer::Keys(keys) => write_words(keys.as_slice(), out),
         Answer::Names(names) => write_words(names.as_slice(), out),
         _ => write_line(line_of(answer), out),
