@@ -1,19 +1,16 @@
 -- The bands of a blob are freed, one after another, and then its root.
-use Rattle.std.proofs.Common.{◌≡◌, ◌≢◌, ℕ, ◌+◌, ◌*◌, ◌/◌, ◌<◌, ◌≤◌, List, length, Option, Some, None, IsSome, sym, ap, subst, ◌∙◌, refl, arith, slice_get, inl, inr}
-use Rattle.std.proofs.lemmas.Bool.{cases_eq, cases_lt}
-use Rattle.std.proofs.lemmas.Option.{slice_get_within}
+use Rattle.std.proofs.Common.{◌≡◌, ℕ, ◌+◌, ◌*◌, ◌/◌, ◌<◌, ◌≤◌, List, length, Some, IsSome, sym, ap, subst, ◌∙◌, refl, arith, slice_get}
 use Rattle.sg_base.specs.Sheet.{Sheet}
-use Rattle.sg_ops.specs.Table.{Table}
 use Rattle.sg_space.specs.Bands.{FreedBand}
 use Rattle.sg_space.specs.Owned.{Becomes, AreFreed}
 use Rattle.sg_space.proofs.Freeing.{freed_none, next_stays, one_freed, all_freed}
 use Rattle.sg_space.specs.Pages.{Freed}
 use Rattle.sg_space.specs.Units.{Units, HasAt, IsFreed}
 use Rattle.sg_space.specs.View.{Space, View, OnlyReads}
-use Rattle.sg_space.proofs.Known.{moved, same_some}
+use Rattle.sg_space.proofs.Known.{moved}
 use Rattle.sg_blob.proofs.Sides.{freed_becomes}
-use Rattle.sg_blob.specs.Blob.{Blob, IsBlob, raw_of, OwnsBand}
-use Rattle.sg_blob.specs.Calls.{IsGone, Gone}
+use Rattle.sg_blob.specs.Blob.{Blob, OwnsBand}
+use Rattle.sg_blob.specs.Calls.{Gone}
 use Rattle.sg_blob.specs.Raw.{Raw, IsRaw, IsRoot}
 use Rattle.sg_blob.proofs.Parts.{StandsBlob}
 

@@ -1,5 +1,5 @@
 -- A blob gets more bands.
-use Rattle.std.proofs.Common.{◌≡◌, ◌≢◌, ℕ, ◌+◌, ◌-◌, ◌*◌, ◌<◌, ◌≤◌, ◌^◌, ◌++◌, ◌⊎◌, List, [], ◌∷◌, length, Option, Some, None, sym, ap, ◌∙◌, refl, arith, slice_get, slice_index, inl, inr, subst, append_assoc}
+use Rattle.std.proofs.Common.{◌≡◌, ◌≢◌, ℕ, ◌+◌, ◌*◌, ◌<◌, ◌≤◌, ◌^◌, ◌++◌, ◌⊎◌, List, [], ◌∷◌, length, Some, sym, ap, ◌∙◌, refl, arith, slice_get, inl, inr, subst, append_assoc}
 use Rattle.std.proofs.lemmas.Bool.{cases_eq}
 use Rattle.std.proofs.lemmas.List.{length_push, get_or_past}
 use Rattle.std.proofs.lemmas.Option.{slice_get_within}
@@ -9,7 +9,6 @@ use Rattle.sg_base.specs.Sheet.{Sheet}
 use Rattle.sg_ops.specs.Steps.{step}
 use Rattle.sg_ops.specs.Table.{Table}
 use Rattle.sg_space.specs.Bands.{IsEmptyBand}
-use Rattle.sg_space.specs.Owned.{Grows}
 use Rattle.sg_space.specs.Units.{Units, HasAt, IsChanged, IsTaken}
 use Rattle.sg_space.specs.View.{View, Space}
 use Rattle.sg_space.proofs.Known.{moved, same_some, keeps_same, keeps_then, writes_none, writes_then, writes_less}

@@ -1,9 +1,9 @@
 -- A blob is made.
-use Rattle.std.proofs.Common.{◌≡◌, ℕ, ◌+◌, ◌*◌, ◌<◌, ◌≤◌, List, [], ◌∷◌, length, Option, Some, None, sym, ap, ◌∙◌, refl, arith, subst}
+use Rattle.std.proofs.Common.{◌≡◌, ℕ, ◌+◌, List, [], ◌∷◌, Some, None, sym, ap, refl, arith, subst}
 use Rattle.std.proofs.lemmas.List.{get_or_past}
 use Rattle.sg_base.specs.Sheet.{Sheet}
 use Rattle.sg_space.specs.Reads.{one_cell}
-use Rattle.sg_space.specs.Units.{Units, HasAt, IsTaken}
+use Rattle.sg_space.specs.Units.{IsTaken}
 use Rattle.sg_space.specs.View.{Space}
 use Rattle.sg_blob.specs.Calls.{IsMade}
 use Rattle.sg_blob.specs.Raw.{IsRoot, root_cell}

@@ -1,8 +1,8 @@
 -- The bytes of a list of which some were written over.
-use Rattle.std.proofs.Common.{◌≡◌, ℕ, ◌+◌, ◌-◌, ◌*◌, ◌<◌, ◌≤◌, List, [], ◌++◌, length, slice_index, take, drop, sym, ap, ◌∙◌, refl, arith, inl, inr, max}
+use Rattle.std.proofs.Common.{◌≡◌, ℕ, ◌+◌, ◌-◌, ◌<◌, ◌≤◌, List, [], ◌++◌, length, slice_index, take, drop, sym, ap, ◌∙◌, refl, arith, inl, inr, max}
 use Rattle.std.proofs.lemmas.Bool.{cases_lt}
 use Rattle.std.proofs.lemmas.Grind.{same_number_lists}
-use Rattle.std.proofs.lemmas.List.{length-take, length-take-le, length-drop, length-append, get_or-take, get_or-drop, get_or_append_left, get_or-append_right, get_or_past, append_assoc}
+use Rattle.std.proofs.lemmas.List.{length-take-le, length-drop, length-append, get_or-take, get_or-drop, get_or_append_left, get_or-append_right, append_assoc}
 use Rattle.sg_base.specs.Overwritten.{overwritten}
 
 shape : (xs ys : List ℕ) (at : ℕ) → overwritten xs at ys ≡ take at xs ++ (ys ++ drop (at + length ys) xs)

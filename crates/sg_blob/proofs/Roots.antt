@@ -1,12 +1,12 @@
 -- The root page of a blob.
-use Rattle.std.proofs.Common.{◌≡◌, ◌≢◌, ℕ, zero, suc, ◌+◌, ◌-◌, ◌*◌, ◌<◌, ◌≤◌, ◌==◌, nat_lt, ◌++◌, Bool, true, false, List, [], ◌∷◌, length, Option, Some, None, IsSome, sym, ap, ◌∙◌, refl, arith, set, get_or, slice_get, inl, inr, subst, add-one}
-use Rattle.std.proofs.lemmas.Bool.{cases_lt, cases_eq}
+use Rattle.std.proofs.Common.{◌≡◌, ℕ, suc, ◌+◌, ◌-◌, ◌*◌, ◌<◌, ◌≤◌, ◌==◌, nat_lt, ◌++◌, true, false, List, [], ◌∷◌, length, Option, Some, IsSome, sym, ap, ◌∙◌, refl, arith, set, get_or, slice_get, inl, inr, subst, add-one}
+use Rattle.std.proofs.lemmas.Bool.{cases_eq}
 use Rattle.std.proofs.lemmas.Bool.Decides.{nat_tests}
 use Rattle.std.proofs.lemmas.List.{length-set}
 use Rattle.std.proofs.lemmas.List.Sums.{sum_by-cons}
 use Rattle.std.proofs.lemmas.Option.{slice_get-get_or, slice_get_past}
 use Rattle.byteorder.specs.Endian.{little_bytes}
-use Rattle.sg_base.specs.Op.{Op, opens, shrinks}
+use Rattle.sg_base.specs.Op.{shrinks}
 use Rattle.sg_base.specs.Op.Op.{Set, Put}
 use Rattle.sg_base.specs.Page.{cell_in, cell_size, stored, bytes_of}
 use Rattle.sg_base.specs.Sheet.{Sheet}

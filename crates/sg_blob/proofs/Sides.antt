@@ -1,5 +1,5 @@
 -- A root that was taken or freed, what is beside a blob, and how many bands one has.
-use Rattle.std.proofs.Common.{◌≡◌, ◌≢◌, ℕ, ◌+◌, ◌-◌, ◌*◌, ◌/◌, ◌<◌, ◌≤◌, length, None, sym, ap, ◌∙◌, arith, inl, inr, Option, List}
+use Rattle.std.proofs.Common.{◌≡◌, ℕ, ◌+◌, ◌/◌, length, ap, ◌∙◌, arith, inr, Option, List}
 use Rattle.sg_base.specs.Sheet.{Sheet}
 use Rattle.sg_space.specs.Owned.{Becomes}
 use Rattle.sg_space.specs.Units.{Units, IsTaken, IsFreed}

@@ -1,9 +1,9 @@
 -- Changes of what a root and its bands say, one after another.
-use Rattle.std.proofs.Common.{◌≡◌, ◌≢◌, ℕ, ◌+◌, List, length, Option, Some, None, sym, ap, subst, ◌∙◌, refl, arith, inl, slice_get}
+use Rattle.std.proofs.Common.{◌≡◌, ◌≢◌, ℕ, ◌+◌, List, length, Option, None, sym, ap, subst, refl, inl}
 use Rattle.sg_base.specs.Sheet.{Sheet}
 use Rattle.sg_space.specs.Owned.{Grows}
 use Rattle.sg_space.specs.Units.{Units}
-use Rattle.sg_space.specs.View.{View, WritesIn, Space, Keeps, OnlyReads}
+use Rattle.sg_space.specs.View.{View, WritesIn, Space, OnlyReads}
 use Rattle.sg_space.proofs.Known.{keeps_same, keeps_then, before, writes_none, writes_then, writes_less}
 use Rattle.sg_space.proofs.Owners.{grows_same, grows_then}
 use Rattle.sg_blob.specs.Blob.{OwnsPage, OwnsBand}

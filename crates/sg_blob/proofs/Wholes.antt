@@ -1,5 +1,5 @@
 -- From what a root and its bands say to a blob, and back.
-use Rattle.std.proofs.Common.{◌≡◌, ◌≢◌, ℕ, ◌+◌, ◌-◌, ◌*◌, ◌/◌, ◌<◌, ◌≤◌, ◌++◌, List, [], ◌∷◌, length, slice_index, Option, Some, take, replicate, sym, ap, subst, ◌∙◌, refl, arith, inl, inr, max, min}
+use Rattle.std.proofs.Common.{◌≡◌, ℕ, ◌+◌, ◌-◌, ◌*◌, ◌/◌, ◌<◌, ◌≤◌, List, [], ◌∷◌, length, slice_index, Option, Some, take, replicate, sym, ap, subst, ◌∙◌, refl, arith, inl, inr, max, min}
 use Rattle.std.proofs.lemmas.Bool.{cases_lt}
 use Rattle.std.proofs.lemmas.List.{length-append, length-take-le, length-replicate, take_all, get_or-replicate, get_or-take, get_or_past, get_or_append_left, get_or-append_right}
 use Rattle.sg_base.specs.Overwritten.{overwritten}
@@ -15,7 +15,7 @@ use Rattle.sg_blob.specs.Blob.{Blob, raw_of, IsBlob}
 use Rattle.sg_blob.specs.Calls.{Turns, HasBandsFor, resized, CanRestore}
 use Rattle.sg_blob.specs.Raw.{Raw, IsRaw}
 use Rattle.sg_blob.specs.Steps.{HasPlace, CanGrow, IsGrown, RawTurns, with_root}
-use Rattle.sg_blob.proofs.Over.{length_over, over_before, over_inside, over_after}
+use Rattle.sg_blob.proofs.Over.{over_before, over_inside, over_after}
 use Rattle.sg_blob.proofs.Writing.{rendered_at}
 
 abbrev pub blob_of : Raw → Blob

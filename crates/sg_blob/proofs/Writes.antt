@@ -1,14 +1,13 @@
 -- One band is written.
-use Rattle.std.proofs.Common.{◌≡◌, ◌≢◌, ℕ, ◌+◌, ◌-◌, ◌*◌, ◌/◌, ◌%◌, ◌<◌, ◌≤◌, List, length, Option, Some, sym, ap, ◌∙◌, refl, arith, slice_get, slice_index, subst, inl, inr, max}
+use Rattle.std.proofs.Common.{◌≡◌, ◌≢◌, ℕ, ◌+◌, ◌-◌, ◌*◌, ◌/◌, ◌%◌, ◌<◌, ◌≤◌, List, length, Some, sym, ap, ◌∙◌, arith, slice_get, slice_index, subst, inl, inr}
 use Rattle.std.proofs.lemmas.Bool.{cases_lt, cases_eq}
 use Rattle.sg_base.specs.Overwritten.{overwritten}
 use Rattle.sg_base.specs.Sheet.{Sheet}
 use Rattle.sg_space.specs.Bands.{IsPiece}
-use Rattle.sg_space.specs.Units.{Units, HasAt, IsChanged}
+use Rattle.sg_space.specs.Units.{Units, IsChanged}
 use Rattle.sg_space.specs.View.{Space}
 use Rattle.sg_space.proofs.Known.{moved, same_some}
 use Rattle.sg_space.proofs.Owners.{grows_same}
-use Rattle.sg_blob.specs.Blob.{OwnsBand}
 use Rattle.sg_blob.specs.Raw.{Raw, IsRaw, IsPart}
 use Rattle.sg_blob.specs.Steps.{RawTurns, HasPlace, with_bytes}
 use Rattle.sg_blob.proofs.Over.{length_over, over_before, over_inside, over_after}

@@ -2,7 +2,6 @@
 use Rattle.std.proofs.Common.{◌≡◌, ◌≢◌, ℕ, ◌+◌, ◌<◌, ◌≤◌, List, Some, None, slice_get, slice_index, sym, ap, subst, ◌∙◌, refl, arith, inl, inr}
 use Rattle.std.proofs.lemmas.Bool.{cases_eq}
 use Rattle.std.proofs.lemmas.Option.{slice_get_within}
-use Rattle.sg_ops.specs.Table.{Table}
 use Rattle.sg_space.specs.Pages.{Freed}
 use Rattle.sg_space.specs.Units.{HasAt, IsFreed}
 use Rattle.sg_space.specs.View.{View, Space, OnlyReads}

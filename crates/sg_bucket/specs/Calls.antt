@@ -1,6 +1,5 @@
 -- What the calls on a bucket want and do.
 use Rattle.std.specs.Prelude.{◌≡◌, ℕ, ◌+◌, ◌<◌, ◌≤◌, ◌^◌, List, [], ◌∷◌, length, Option, Some, None, option_map}
-use Rattle.sg_ops.specs.Table.{Table}
 use Rattle.sg_space.specs.Owned.{Becomes}
 use Rattle.sg_space.specs.Units.{IsTaken}
 use Rattle.sg_space.specs.View.{View, Keeps, MayFill}

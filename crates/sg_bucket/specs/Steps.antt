@@ -6,7 +6,6 @@ use Rattle.sg_base.specs.Page.{cell_in, bytes_of}
 use Rattle.sg_base.specs.Sheet.{Sheet}
 use Rattle.sg_base.specs.Slots.{Slots, IsFree, with_cell}
 use Rattle.sg_base.specs.declared.numbers.PageNo.{PageNo}
-use Rattle.sg_ops.specs.Table.{Table}
 use Rattle.sg_space.specs.Owned.{Becomes}
 use Rattle.sg_space.specs.View.{View, Space, Keeps, MayFill}
 use Rattle.sg_bucket.specs.Bucket.{Bucket, IsLinked, OwnsPage, entries_of, part_at, HasEntry}

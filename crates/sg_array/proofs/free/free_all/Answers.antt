@@ -1,4 +1,4 @@
-use Rattle.std.proofs.Common.{◌≡◌, ◌≤◌, ◌<◌, arith, IsSome, sym, ap, subst, refl, ◌∙◌, inl, inr}
+use Rattle.std.proofs.Common.{◌≡◌, arith, IsSome, sym, ap, subst, refl, ◌∙◌, inl, inr}
 use Rattle.sg_array.proofs.Links.{still_array}
 use Rattle.sg_array.proofs.Freed.{index_left, root_left, all_gone}
 use Rattle.sg_array.proofs.Wanting.{leaves_wanted, index_wanted}

@@ -1,4 +1,4 @@
-use Rattle.std.proofs.Common.{◌≡◌, ℕ, ap, ◌∙◌, arith}
+use Rattle.std.proofs.Common.{arith}
 use Rattle.sg_blob.specs.Blob.{raw_of}
 use Rattle.sg_blob.proofs.blob.bands.Goals as goal
 

@@ -1,4 +1,4 @@
-use Rattle.std.proofs.Common.{◌≡◌, ℕ, ◌+◌, ◌-◌, ◌<◌, ◌≤◌, Option, length, arith, refl, max}
+use Rattle.std.proofs.Common.{Option, arith, refl}
 use Rattle.sg_ops.specs.Meaning.{RangeMeaning}
 use Rattle.sg_ops.specs.Table.{table_of, range_at, rendered}
 use Rattle.sg_space.proofs.Known.{keeps_then, writes_none, writes_then}

@@ -1,5 +1,4 @@
-use Rattle.std.proofs.Common.{◌≡◌, ℕ, ◌<◌, ◌≤◌, sym, ap, ◌∙◌, arith, subst, length}
-use Rattle.sg_blob.specs.Raw.{Raw, IsRaw}
+use Rattle.std.proofs.Common.{ℕ, arith, subst}
 use Rattle.sg_blob.specs.Steps.{RawTurns, with_root}
 use Rattle.sg_space.proofs.Known.{keeps_then, writes_none, writes_then}
 use Rattle.sg_blob.proofs.Parts.{still_raw, StandsRaw}

@@ -1,6 +1,6 @@
-use Rattle.std.proofs.Common.{◌≡◌, ℕ, ◌+◌, ◌-◌, ◌*◌, ◌/◌, ◌<◌, ◌≤◌, Option, IsSome, List, [], length, sym, ap, subst, ◌∙◌, arith, refl, max, min}
+use Rattle.std.proofs.Common.{ℕ, ◌+◌, ◌/◌, Option, IsSome, sym, ap, subst, ◌∙◌, arith, refl}
 use Rattle.sg_ops.specs.Meaning.{RangeMeaning}
-use Rattle.sg_ops.specs.Table.{table_of, range_at, rendered}
+use Rattle.sg_ops.specs.Table.{table_of, range_at}
 use Rattle.sg_space.proofs.Known.{keeps_then, writes_none, writes_then, writes_less}
 use Rattle.sg_blob.specs.Blob.{raw_of}
 use Rattle.sg_blob.specs.Calls.{resized}

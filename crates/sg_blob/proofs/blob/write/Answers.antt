@@ -1,4 +1,4 @@
-use Rattle.std.proofs.Common.{◌≡◌, ℕ, ◌+◌, ◌-◌, ◌*◌, ◌/◌, ◌<◌, ◌≤◌, List, length, sym, ap, ◌∙◌, arith, refl, max}
+use Rattle.std.proofs.Common.{◌≡◌, ℕ, ◌+◌, ◌/◌, ◌≤◌, List, length, ap, ◌∙◌, arith, refl}
 use Rattle.sg_base.specs.Overwritten.{overwritten}
 use Rattle.sg_space.proofs.Known.{keeps_then, writes_none, writes_then}
 use Rattle.sg_blob.specs.Blob.{raw_of}

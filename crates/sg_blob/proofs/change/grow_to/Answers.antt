@@ -1,4 +1,4 @@
-use Rattle.std.proofs.Common.{◌∙◌, refl, ◌<◌, ◌≤◌, arith}
+use Rattle.std.proofs.Common.{◌∙◌, refl, arith}
 use Rattle.sg_blob.proofs.Growth.{grows_none, grows_on, can_add}
 use Rattle.sg_blob.proofs.change.grow_to.Goals as goal
 

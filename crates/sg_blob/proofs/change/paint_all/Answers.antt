@@ -1,4 +1,4 @@
-use Rattle.std.proofs.Common.{◌≡◌, ℕ, ◌+◌, ◌-◌, ◌<◌, ◌≤◌, length, sym, ap, ◌∙◌, arith, refl, Option}
+use Rattle.std.proofs.Common.{◌+◌, ◌∙◌, arith, refl, Option}
 use Rattle.sg_ops.specs.Meaning.{RangeMeaning}
 use Rattle.sg_ops.specs.Table.{table_of, range_at, rendered}
 use Rattle.sg_ops.proofs.Rendering.{length-rendered}

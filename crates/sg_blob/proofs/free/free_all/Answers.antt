@@ -1,4 +1,4 @@
-use Rattle.std.proofs.Common.{◌≡◌, ℕ, ◌<◌, ◌≤◌, IsSome, arith, refl, subst, sym, ◌∙◌}
+use Rattle.std.proofs.Common.{IsSome, arith, refl, subst, sym, ◌∙◌}
 use Rattle.sg_space.specs.View.{Space}
 use Rattle.sg_blob.specs.Blob.{raw_of}
 use Rattle.sg_blob.proofs.Freeing.{BandsFreed, frees_none, frees_on, link_still, next_some, all_gone, so_many}

@@ -1,4 +1,4 @@
-use Rattle.std.proofs.Common.{◌≡◌, ℕ, ◌%◌, List, length, arith}
+use Rattle.std.proofs.Common.{◌%◌, arith}
 use Rattle.sg_space.proofs.Known.{before}
 use Rattle.sg_space.specs.Units.{HasAt}
 use Rattle.sg_space.specs.View.{Space}

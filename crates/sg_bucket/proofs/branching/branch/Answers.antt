@@ -1,4 +1,4 @@
-use Rattle.std.proofs.Common.{◌≤◌, ◌<◌, length, ◌∙◌, refl, arith}
+use Rattle.std.proofs.Common.{◌∙◌, refl, arith}
 use Rattle.std.proofs.lemmas.Option.{slice_get_within}
 use Rattle.sg_bucket.proofs.Passing.{branches_none, branches_on, branched, copy_ready, passing_within, still_passing}
 use Rattle.sg_bucket.proofs.branching.branch.Goals as goal

@@ -1,4 +1,4 @@
-use Rattle.std.proofs.Common.{◌≤◌, ◌<◌, length, IsSome, subst, sym, ◌∙◌, refl, arith}
+use Rattle.std.proofs.Common.{IsSome, subst, sym, ◌∙◌, refl, arith}
 use Rattle.std.proofs.lemmas.Option.{slice_get_within}
 use Rattle.sg_space.proofs.Known.{both, still}
 use Rattle.sg_space.specs.View.{Space}

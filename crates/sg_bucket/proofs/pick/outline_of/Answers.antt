@@ -1,4 +1,4 @@
-use Rattle.std.proofs.Common.{ℕ, ◌≤◌, sym, ap, arith}
+use Rattle.std.proofs.Common.{ℕ, sym, ap, arith}
 use Rattle.sg_base.specs.Sheet.{sheet_of}
 use Rattle.sg_slotted.proofs.Room.{bytes_fit}
 use Rattle.sg_bucket.proofs.pick.outline_of.Goals as goal

@@ -1,4 +1,4 @@
-use Rattle.std.proofs.Common.{◌≤◌, ◌<◌, length, ◌∙◌, refl, arith}
+use Rattle.std.proofs.Common.{◌∙◌, refl, arith}
 use Rattle.sg_bucket.proofs.Stripping.{prune_page_there, prune_ready, prunes_none, prunes_on, pruned, pruning_within, still_pruning}
 use Rattle.sg_bucket.proofs.pruning.prune.Goals as goal
 

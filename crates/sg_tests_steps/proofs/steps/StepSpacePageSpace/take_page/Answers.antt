@@ -1,0 +1,10 @@
+use Rattle.std.proofs.Common.{◌≤◌, ◌-◌, arith}
+use Rattle.sg_tests_steps.proofs.Going.{taken_goes}
+use Rattle.sg_tests_steps.specs.Steps.Goes.{stays}
+use Rattle.sg_tests_steps.proofs.steps.StepSpacePageSpace.take_page.Goals as goal
+
+pub returns-then-self-eq0-clause-later : goal.returns-then-self-eq0-clause-later
+returns-then-self-eq0-clause-later c = λ t. record { pages = λ p. stays; left = omega arith; faults = c.count_fault.ensures.later }
+
+pub returns-clause-later : goal.returns-clause-later
+returns-clause-later c = λ t. record { pages = λ p. taken_goes (c.in_ok-found.ensures.did.pages tt) p; left = omega arith; faults = omega arith }
