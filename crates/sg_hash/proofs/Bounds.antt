@@ -1,14 +1,13 @@
 -- How many pages a table has at most.
-use Rattle.std.proofs.Common.{◌≡◌, ℕ, ◌+◌, ◌-◌, ◌*◌, ◌/◌, ◌<◌, ◌≤◌, max, List, [], ◌∷◌, ◌++◌, length, Option, Some, sym, ap, subst, ◌∙◌, refl, arith, slice_get, length-append, suc}
-use Rattle.std.specs.List.{sum_by}
+use Rattle.std.proofs.Common.{◌≡◌, ℕ, ◌+◌, ◌-◌, ◌/◌, ◌≤◌, List, [], ◌∷◌, ◌++◌, length, Option, Some, sym, refl, arith, slice_get, length-append, suc}
 use Rattle.std.proofs.lemmas.List.Sums.{sum_by-cons}
 use Rattle.sg_array.specs.Array.{Array, IsArray, pages_for}
 use Rattle.sg_array.specs.Array as array
 use Rattle.sg_array.proofs.Wanting.{leaves_wanted, index_wanted}
 use Rattle.sg_base.specs.Sheet.{Sheet}
-use Rattle.sg_bucket.specs.Bucket.{Bucket, IsBucket, entries_of}
+use Rattle.sg_bucket.specs.Bucket.{Bucket, entries_of}
 use Rattle.sg_bucket.proofs.Few.{few_more}
-use Rattle.sg_hash.specs.Table.{HashTable, IsHashTable, all_entries, chain_pages, entries, first_page, most_buckets, most_pages, page_count}
+use Rattle.sg_hash.specs.Table.{HashTable, IsHashTable, all_entries, chain_pages, entries, most_buckets, most_pages, page_count}
 use Rattle.sg_hash.proofs.Trunks.{names_long}
 
 -- a chain has at most one page more than entries

@@ -1,5 +1,5 @@
 -- The calls that put an entry or remove one, after they have found its bucket.
-use Rattle.std.proofs.Common.{◌≡◌, ◌≢◌, ℕ, ◌+◌, ◌*◌, ◌<◌, ◌≤◌, ◌^◌, List, [], length, Option, Some, None, IsSome, is_none, is_some, Bool, true, false, sym, ap, subst, ◌∙◌, refl, arith, set, inr}
+use Rattle.std.proofs.Common.{◌≡◌, ◌≢◌, ℕ, ◌+◌, ◌<◌, ◌≤◌, ◌^◌, List, [], length, Option, Some, None, IsSome, is_none, is_some, Bool, true, ap, refl, arith, set, inr}
 use Rattle.sg_base.specs.Sheet.{Sheet}
 use Rattle.sg_bucket.specs.Bucket.{Bucket, OwnsPage}
 use Rattle.sg_bucket.specs.Calls.{IsSound, CanPutEntry, DidPut}
@@ -8,7 +8,7 @@ use Rattle.sg_bucket.specs.Entry.{Entry}
 use Rattle.sg_bucket.specs.Steps as bucket
 use Rattle.sg_space.specs.View.{Space, View, Keeps, OnlyReads}
 use Rattle.sg_space.proofs.Known.{before, still, keeps_then}
-use Rattle.sg_hash.specs.Table.{HashTable, Numbers, IsInRange, IsHashTable, Owns, entries, byte_count, all_entries, home_of, numbers_of, root_cell, root_sheet}
+use Rattle.sg_hash.specs.Table.{HashTable, Numbers, IsInRange, IsHashTable, Owns, entries, byte_count, home_of, numbers_of, root_cell, root_sheet}
 use Rattle.sg_hash.specs.Calls.{Turns, Did, CanPut, IsDeleted}
 use Rattle.sg_hash.specs.Steps.{Rewrites, SetsRoot, IsFirstOf, IsCounted, DidEnter, gone_bytes}
 use Rattle.sg_hash.proofs.Changing.{AreCounted, AreNumbers, gone_count, changed_turns, counted, found_bucket, found_turns, is_deleted, is_entered, put_numbers, root_there, with_change}

@@ -1,22 +1,21 @@
 -- A table of which one bucket has changed at a key that belongs there, and then the root.
-use Rattle.std.proofs.Common.{◌≡◌, ◌≢◌, ℕ, ◌+◌, ◌*◌, ◌<◌, ◌≤◌, ◌^◌, max, List, [], ◌∷◌, length, Option, Some, None, is_none, is_some, option_map, Bool, true, false, if◌then◌else◌, sym, ap, subst, ◌∙◌, refl, arith, set, slice_get, inl, inr}
+use Rattle.std.proofs.Common.{◌≡◌, ℕ, ◌+◌, ◌<◌, ◌≤◌, max, List, [], ◌∷◌, length, Option, Some, None, is_none, is_some, option_map, Bool, true, false, if◌then◌else◌, sym, ap, subst, ◌∙◌, refl, arith, set, slice_get, inl}
 use Rattle.std.specs.List.{sum_by}
 use Rattle.std.proofs.lemmas.List.{length-set}
 use Rattle.std.proofs.lemmas.List.Sums.{sum_by-cons}
 use Rattle.sg_base.specs.Sheet.{Sheet}
-use Rattle.sg_bucket.specs.Bucket.{Bucket, IsBucket, OwnsPage, entries_of}
+use Rattle.sg_bucket.specs.Bucket.{Bucket, IsBucket, entries_of}
 use Rattle.sg_bucket.specs.Calls.{IsSound, IsGone, LosesEntry, IsMapped, IsPut}
 use Rattle.sg_bucket.specs.Calls as bucket_calls
-use Rattle.sg_bucket.specs.Entry.{Entry, AreExchanged, entry_size, value_of, with_value}
+use Rattle.sg_bucket.specs.Entry.{Entry, entry_size, value_of, with_value}
 use Rattle.sg_bucket.specs.Steps as bucket
-use Rattle.sg_linear.specs.Extent.{Shape}
 use Rattle.sg_linear.specs.Fnv.{fnv_1a}
 use Rattle.sg_linear.proofs.Growing.{bucket_there}
 use Rattle.sg_space.specs.View.{Space}
-use Rattle.sg_hash.specs.Table.{HashTable, Numbers, IsInRange, IsBuilt, IsHashTable, AreHome, Owns, all_entries, entries, byte_count, value_at, home_of, first_page, most_buckets, numbers_of, page_count, root_cell, root_sheet}
+use Rattle.sg_hash.specs.Table.{HashTable, Numbers, IsInRange, IsBuilt, IsHashTable, all_entries, byte_count, value_at, home_of, first_page, most_buckets, numbers_of, root_cell, root_sheet}
 use Rattle.sg_hash.specs.Calls.{Turns, IsEntered, IsDeleted}
 use Rattle.sg_hash.specs.Steps.{Rewrites, IsCounted, IsUncounted, IsFirstOf, gone_bytes}
-use Rattle.sg_hash.proofs.Owning.{with_bucket, turned_built, turned_pages, root_built, root_pages, other_stays, trunk_not_bucket, owns_there}
+use Rattle.sg_hash.proofs.Owning.{turned_built, turned_pages, root_built, root_pages, other_stays, trunk_not_bucket, owns_there}
 use Rattle.sg_hash.proofs.Sums.{all_exchanged, length_sum, set_pages}
 use Rattle.sg_hash.proofs.Values.{home_set, value_home, value_set}
 

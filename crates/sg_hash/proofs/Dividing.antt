@@ -1,15 +1,14 @@
 -- The entries of a bucket that is split are divided: each key keeps its value, in the bucket where it belongs then.
-use Rattle.std.proofs.Common.{◌≡◌, ◌≢◌, ℕ, ◌+◌, ◌<◌, ◌≤◌, ◌⊎◌, ◌++◌, Bool, true, false, not, if◌then◌else◌, List, [], ◌∷◌, length, Option, Some, None, sym, ap, subst, ◌∙◌, refl, arith, set, slice_get, inl, inr}
+use Rattle.std.proofs.Common.{◌≡◌, ◌≢◌, ℕ, ◌+◌, ◌<◌, ◌⊎◌, ◌++◌, Bool, true, false, not, if◌then◌else◌, List, [], ◌∷◌, length, Some, None, sym, ap, ◌∙◌, refl, arith, set, slice_get, inl, inr}
 use Rattle.std.proofs.lemmas.Bool.{cases_eq}
 use Rattle.std.proofs.lemmas.List.{length-set, length_push}
 use Rattle.std.proofs.lemmas.Option.{slice_get_within}
 use Rattle.sg_bucket.specs.Bucket.{Bucket, entries_of}
-use Rattle.sg_bucket.specs.Entry.{Entry, value_of}
+use Rattle.sg_bucket.specs.Entry.{value_of}
 use Rattle.sg_linear.specs.Extent.{Shape, Divides, buckets_of}
 use Rattle.sg_linear.specs.Fnv.{fnv_1a}
 use Rattle.sg_space.proofs.InMemory.{slice_get-set_same, slice_get-set_other}
 use Rattle.sg_space.proofs.Known.{same_some}
-use Rattle.sg_space.proofs.Putting.{slice_get-push_same, slice_get-push_other}
 use Rattle.sg_hash.specs.Table.{AreHome, all_entries, home_of}
 use Rattle.sg_hash.proofs.Splitting.{in_pushed}
 use Rattle.sg_hash.proofs.Trunks.{one_there}

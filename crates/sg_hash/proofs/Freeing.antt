@@ -1,6 +1,5 @@
 -- The buckets of a table are freed, one after another, and then the directory and the root.
-use Rattle.std.proofs.Common.{◌≡◌, ◌≢◌, ℕ, ◌+◌, ◌<◌, ◌≤◌, ◌⊎◌, List, [], ◌∷◌, length, take, Option, Some, None, IsSome, sym, ap, subst, ◌∙◌, refl, arith, get_or, slice_get, inl, inr, zero, suc}
-use Rattle.std.specs.List.{sum_by}
+use Rattle.std.proofs.Common.{◌≡◌, ℕ, ◌+◌, ◌<◌, ◌≤◌, List, [], ◌∷◌, length, take, Option, Some, None, sym, ap, subst, ◌∙◌, refl, arith, get_or, slice_get, inl, inr, zero, suc}
 use Rattle.std.proofs.lemmas.Bool.{cases_eq}
 use Rattle.std.proofs.lemmas.List.Sums.{sum_by_more, sum_by-cons}
 use Rattle.std.proofs.lemmas.Option.{slice_get_within, slice_get-get_or}
@@ -12,19 +11,18 @@ use Rattle.sg_array.specs.Calls as array_calls
 use Rattle.sg_linear.specs.Extent.{buckets_of, shape_of}
 use Rattle.sg_bucket.specs.Bucket.{Bucket, IsBucket, IsLinked, OwnsPage}
 use Rattle.sg_bucket.specs.Calls as bucket
-use Rattle.sg_ops.specs.Table.{Table}
 use Rattle.sg_space.specs.Owned.{Becomes}
-use Rattle.sg_space.specs.Units.{HasAt, IsFreed}
+use Rattle.sg_space.specs.Units.{IsFreed}
 use Rattle.sg_space.specs.View.{Space, View, OnlyReads}
 use Rattle.sg_space.proofs.Known.{before, same_some}
 use Rattle.sg_space.specs.Pages.{Freed}
 use Rattle.sg_hash.specs.Calls.{IsGone, Gone}
 use Rattle.sg_hash.specs.declared.root.Root.{Root}
-use Rattle.sg_hash.specs.Table.{HashTable, Numbers, IsTrunk, IsBuilt, IsHashTable, IsInBuckets, Owns, chain_pages, first_page, numbers_of, page_count, root_cell, root_sheet}
+use Rattle.sg_hash.specs.Table.{HashTable, Numbers, IsTrunk, IsBuilt, IsHashTable, chain_pages, first_page, numbers_of, root_cell, root_sheet}
 use Rattle.sg_hash.specs.Steps.{IsInFirst, AreFreed, FreesBuckets, IsFirstOf, numbers_in}
 use Rattle.sg_hash.proofs.Roots.{same_numbers}
 use Rattle.sg_hash.proofs.Trunks.{trunk_names, still_table}
-use Rattle.sg_hash.proofs.Owning.{trunk_stays, bucket_stays, trunk_not_bucket, root_not_array, in_bucket, bucket_kind, OwnsTrunk}
+use Rattle.sg_hash.proofs.Owning.{trunk_stays, bucket_stays, trunk_not_bucket, root_not_array}
 
 -- so many buckets are free
 pub record FreesTo (v w : View) (root count : ℕ) : Type 0 where

@@ -1,5 +1,5 @@
 -- The split of a bucket where it is due, and a put that may lead to one.
-use Rattle.std.proofs.Common.{◌≡◌, ◌≢◌, ℕ, zero, suc, ◌+◌, ◌*◌, ◌<◌, ◌≤◌, ◌⊎◌, ◌^◌, max, Bool, true, false, if◌then◌else◌, List, length, Option, Some, None, IsSome, sym, ap, subst, ◌∙◌, refl, arith, slice_get, inl, inr}
+use Rattle.std.proofs.Common.{◌≡◌, ◌≢◌, ℕ, zero, suc, ◌+◌, ◌*◌, ◌<◌, ◌≤◌, ◌⊎◌, ◌^◌, max, Bool, true, List, length, Option, Some, None, IsSome, sym, ap, subst, ◌∙◌, refl, arith, slice_get, inl, inr}
 use Rattle.std.proofs.Math.Pow.{pow_mono}
 use Rattle.std.proofs.lemmas.Bool.{cases_lt}
 use Rattle.sg_base.specs.Sheet.{Sheet}
@@ -9,7 +9,7 @@ use Rattle.sg_array.specs.Array as array
 use Rattle.sg_array.specs.Calls.{IsRoomy}
 use Rattle.sg_bucket.specs.Bucket.{Bucket, IsLinked, OwnsPage}
 use Rattle.sg_bucket.specs.Entry.{entry_size}
-use Rattle.sg_linear.specs.Extent.{Shape, buckets_of, shape_of}
+use Rattle.sg_linear.specs.Extent.{buckets_of, shape_of}
 use Rattle.sg_space.specs.View.{Space, View, Keeps, OnlyReads}
 use Rattle.std.proofs.lemmas.Option.{slice_get_within}
 use Rattle.sg_space.proofs.Known.{before, same_some, still}

@@ -1,12 +1,12 @@
 -- The keys of a table's entries are listed, bucket by bucket.
-use Rattle.std.proofs.Common.{◌≡◌, ℕ, zero, suc, ◌+◌, ◌<◌, ◌≤◌, List, [], ◌∷◌, ◌++◌, length, map, take, Option, Some, sym, ap, subst, ◌∙◌, refl, arith, slice_get, get_or}
+use Rattle.std.proofs.Common.{◌≡◌, ℕ, ◌+◌, ◌<◌, ◌≤◌, List, [], ◌∷◌, ◌++◌, length, take, Some, sym, ap, ◌∙◌, refl, arith, slice_get, get_or}
 use Rattle.std.proofs.lemmas.List.{append-nil, append_assoc, take_more}
 use Rattle.std.proofs.lemmas.Option.{slice_get_within, slice_get-get_or}
 use Rattle.std.proofs.Math.Seq.{take-length}
 use Rattle.sg_bucket.specs.Bucket.{Bucket, entries_of}
 use Rattle.sg_bucket.specs.Division.{keys_of}
 use Rattle.sg_bucket.specs.Entry.{Entry}
-use Rattle.sg_space.specs.View.{Space, View, OnlyReads}
+use Rattle.sg_space.specs.View.{View, OnlyReads}
 use Rattle.sg_space.proofs.Known.{reads_then, same_some}
 use Rattle.sg_hash.specs.Table.{HashTable, IsHashTable, all_entries, entries}
 

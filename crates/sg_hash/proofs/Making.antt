@@ -1,5 +1,5 @@
 -- A table is made.
-use Rattle.std.proofs.Common.{◌≡◌, ◌≢◌, ℕ, zero, suc, ◌+◌, ◌-◌, ◌*◌, ◌/◌, ◌<◌, ◌≤◌, ◌⊎◌, ◌^◌, List, [], ◌∷◌, ◌++◌, length, Option, Some, None, sym, ap, subst, ◌∙◌, refl, arith, slice_get, inl, inr}
+use Rattle.std.proofs.Common.{◌≡◌, ◌≢◌, ℕ, zero, suc, ◌<◌, ◌⊎◌, ◌^◌, List, [], ◌∷◌, length, Option, Some, None, sym, ap, subst, ◌∙◌, refl, arith, slice_get, inl, inr}
 use Rattle.byteorder.specs.Endian.{little_bytes}
 use Rattle.sg_base.specs.Sheet.{Sheet}
 use Rattle.sg_array.specs.Array.{Array, IsArray}
@@ -13,11 +13,10 @@ use Rattle.sg_bucket.specs.Bucket.{Bucket, IsBucket, OwnsPage, entries_of}
 use Rattle.sg_bucket.specs.Entry.{value_of}
 use Rattle.sg_bucket.specs.Calls.{empty_bucket}
 use Rattle.sg_bucket.specs.Calls as bucket_calls
-use Rattle.sg_space.specs.Owned.{Becomes}
-use Rattle.sg_space.specs.Units.{Units, HasAt, IsTaken}
+use Rattle.sg_space.specs.Units.{Units, IsTaken}
 use Rattle.sg_space.specs.View.{Space, View, Keeps, MayFill}
 use Rattle.sg_space.proofs.Known.{same_some}
-use Rattle.sg_hash.specs.Table.{HashTable, Numbers, IsInRange, IsHashTable, IsInBuckets, Owns, first_page, name_of, page_count, root_cell, root_sheet}
+use Rattle.sg_hash.specs.Table.{HashTable, Numbers, IsInBuckets, first_page, name_of, root_cell, root_sheet}
 use Rattle.sg_hash.specs.Calls.{IsMade, MayGrow, HasFive}
 use Rattle.sg_hash.specs.Steps.{IsStarted}
 use Rattle.sg_hash.proofs.Owning.{bucket_stays}

@@ -1,7 +1,7 @@
 -- What a table owns, and what a change of one of its pages or of one of its buckets leaves.
-use Rattle.std.proofs.Common.{◌≡◌, ◌≢◌, ℕ, ◌+◌, ◌<◌, ◌≤◌, ◌⊎◌, ◌^◌, List, [], ◌∷◌, length, Option, Some, None, sym, ap, subst, ◌∙◌, refl, arith, set, slice_get, slice_index, inl, inr}
+use Rattle.std.proofs.Common.{◌≡◌, ◌≢◌, ℕ, ◌<◌, ◌⊎◌, ◌^◌, List, [], ◌∷◌, Option, Some, None, sym, ap, subst, ◌∙◌, refl, arith, set, slice_get, slice_index, inl, inr}
 use Rattle.std.proofs.lemmas.Bool.{cases_eq}
-use Rattle.std.proofs.lemmas.Option.{slice_get_within, slice_get-get_or}
+use Rattle.std.proofs.lemmas.Option.{slice_get_within}
 use Rattle.byteorder.specs.Endian.{little_bytes}
 use Rattle.sg_base.specs.Sheet.{Sheet}
 use Rattle.sg_array.specs.Array.{Array, IsArray}
@@ -15,7 +15,7 @@ use Rattle.sg_space.specs.Units.{Units, HasAt}
 use Rattle.sg_space.specs.View.{Space}
 use Rattle.sg_space.proofs.InMemory.{slice_get-set_same, slice_get-set_other}
 use Rattle.sg_space.proofs.Known.{moved, same_some}
-use Rattle.sg_hash.specs.Table.{HashTable, Numbers, IsInRange, IsTrunk, IsBuilt, IsInBuckets, AreApart, Owns, first_page, name_of, page_count, root_cell, root_sheet}
+use Rattle.sg_hash.specs.Table.{HashTable, Numbers, IsInRange, IsTrunk, IsBuilt, IsInBuckets, Owns, first_page, name_of, page_count, root_cell, root_sheet}
 use Rattle.sg_hash.specs.Steps.{Rewrites}
 use Rattle.sg_hash.proofs.Sums.{set_pages}
 

@@ -1,16 +1,15 @@
 -- A bucket of a table is split: its entries are copied to a new one, which the directory names then, and are removed from it.
-use Rattle.std.proofs.Common.{◌≡◌, ◌≢◌, ℕ, ◌+◌, ◌*◌, ◌-◌, ◌/◌, ◌<◌, ◌≤◌, ◌==◌, ◌^◌, ◌++◌, max, Bool, true, false, not, if◌then◌else◌, List, [], ◌∷◌, length, Option, Some, None, IsSome, sym, ap, subst, ◌∙◌, refl, arith, set, slice_get, slice_index, inl, inr}
-use Rattle.std.specs.List.{filter, sum_by}
+use Rattle.std.proofs.Common.{◌≡◌, ◌≢◌, ℕ, ◌+◌, ◌*◌, ◌<◌, ◌≤◌, ◌^◌, ◌++◌, max, true, false, not, List, [], ◌∷◌, length, Option, Some, None, IsSome, sym, ap, subst, ◌∙◌, refl, arith, set, slice_get, inl, inr}
+use Rattle.std.specs.List.{sum_by}
 use Rattle.std.proofs.lemmas.Bool.Decides.{nat_tests}
 use Rattle.std.proofs.lemmas.List.{length-set, length_push}
 use Rattle.std.proofs.lemmas.List.Sums.{sum_by_push}
-use Rattle.std.proofs.lemmas.Option.{slice_get_within}
 use Rattle.byteorder.specs.Endian.{little_bytes}
 use Rattle.sg_array.specs.Array.{Array, IsArray}
 use Rattle.sg_array.specs.Calls.{IsRoomy, CanPush, IsPushed}
 use Rattle.sg_array.specs.Calls as array_calls
 use Rattle.sg_base.specs.Sheet.{Sheet}
-use Rattle.sg_bucket.specs.Bucket.{Bucket, IsLinked, IsBucket, OwnsPage, entries_of}
+use Rattle.sg_bucket.specs.Bucket.{Bucket, IsLinked, IsBucket, entries_of}
 use Rattle.sg_bucket.specs.Calls.{IsSound}
 use Rattle.sg_bucket.specs.Division.{CanBranch, IsBranch, Branched, IsPruned, those_at, those_not_at}
 use Rattle.sg_bucket.specs.Entry.{Entry, entry_size, value_of}
@@ -19,14 +18,14 @@ use Rattle.sg_bucket.proofs.Filters.{value_of-filter, sums-filter}
 use Rattle.sg_bucket.proofs.Owning.{becomes_then}
 use Rattle.sg_linear.specs.Address.{is_at}
 use Rattle.sg_linear.specs.declared.address.Address.{Address}
-use Rattle.sg_linear.specs.Extent.{Shape, Divides, bucket_at, buckets_of, next_of, shape_of}
+use Rattle.sg_linear.specs.Extent.{Shape, Divides, buckets_of, next_of, shape_of}
 use Rattle.sg_linear.specs.declared.extent.Extent.{Extent}
 use Rattle.sg_linear.specs.Fnv.{fnv_1a}
 use Rattle.sg_linear.proofs.Growing.{bucket_there, next_buckets}
 use Rattle.sg_space.specs.Owned.{Becomes}
 use Rattle.sg_space.specs.View.{Space, View, Keeps, OnlyReads}
 use Rattle.sg_space.proofs.Known.{before, still}
-use Rattle.sg_hash.specs.Table.{HashTable, Numbers, IsInRange, IsBuilt, IsHashTable, Owns, all_entries, byte_count, entries, first_page, home_of, most_buckets, numbers_of, page_count, chain_pages, root_cell, root_sheet, value_at}
+use Rattle.sg_hash.specs.Table.{HashTable, Numbers, IsInRange, IsBuilt, IsHashTable, Owns, all_entries, byte_count, entries, first_page, home_of, most_buckets, numbers_of, page_count, chain_pages, root_cell, root_sheet}
 use Rattle.sg_hash.specs.Calls.{Turns, Did}
 use Rattle.sg_hash.specs.Steps.{Rewrites, SetsRoot, IsFirstOf, numbers_in}
 use Rattle.sg_hash.specs.Splits.{CanSplit, IsSplit}

@@ -1,5 +1,5 @@
 -- The root's page.
-use Rattle.std.proofs.Common.{◌≡◌, ◌≢◌, ℕ, ◌+◌, ◌<◌, ◌≤◌, ◌^◌, List, [], ◌∷◌, ◌++◌, length, drop, Option, Some, subst, inl, inr, refl, sym, ap, ◌∙◌, arith}
+use Rattle.std.proofs.Common.{◌≡◌, ℕ, ◌<◌, ◌≤◌, ◌^◌, List, [], ◌++◌, length, drop, Option, Some, subst, inl, inr, refl, sym, ap, ◌∙◌, arith}
 use Rattle.byteorder.specs.Endian.{little_bytes, little_number}
 use Rattle.byteorder.specs.Numbers.{little_number-reads_back}
 use Rattle.sg_base.specs.Page.{cell_in}
@@ -15,12 +15,11 @@ use Rattle.sg_linear.proofs.Growing.{low_fits}
 use Rattle.sg_space.specs.Pages.{IsPossible}
 use Rattle.sg_space.specs.Reads.{HasCell, HasSized}
 use Rattle.sg_space.proofs.Known.{same_some}
-use Rattle.sg_space.specs.Units.{Units, HasAt, IsChanged}
+use Rattle.sg_space.specs.Units.{HasAt}
 use Rattle.sg_space.specs.View.{View}
 use Rattle.sg_space.proofs.Changing.{set_possible}
 use Rattle.sg_space.proofs.Putting.{set_step}
 use Rattle.sg_hash.specs.Table.{Numbers, IsInRange, root_cell, root_sheet}
-use Rattle.sg_hash.specs.Steps.{Rewrites}
 
 -- another cell of 25 bytes in the root
 pub root_step : (t : Table) (n : Numbers) (cell : List ℕ) (directory : ℕ) → length cell ≡ 25 → step t (Set 0 cell) (root_sheet (root_cell n) directory) ≡ Some (root_sheet cell directory)

@@ -1,14 +1,12 @@
 -- The bytes of a table's entries are few enough to be counted.
-use Rattle.std.proofs.Common.{◌≡◌, ℕ, zero, suc, ◌+◌, ◌-◌, ◌*◌, ◌<◌, ◌≤◌, ◌^◌, min, List, [], ◌∷◌, ◌++◌, length, take, drop, Option, Some, None, sym, ap, ◌∙◌, refl, arith, subst, slice_get, length-append, length-drop}
+use Rattle.std.proofs.Common.{◌≡◌, ℕ, suc, ◌+◌, ◌-◌, ◌*◌, ◌<◌, ◌≤◌, min, List, [], ◌∷◌, ◌++◌, length, take, drop, Option, Some, None, ap, refl, arith, subst, slice_get, length-append, length-drop}
 use Rattle.std.specs.List.{sum_by}
 use Rattle.std.proofs.lemmas.List.{length-take}
 use Rattle.std.proofs.lemmas.List.Sums.{sum_by-cons, sum_by-append}
-use Rattle.sg_base.specs.Page.{cell_in}
 use Rattle.sg_base.specs.Sheet.{Sheet}
 use Rattle.sg_base.specs.Slots.{Slots}
-use Rattle.sg_space.specs.Units.{HasAt}
 use Rattle.sg_bucket.specs.Bucket.{Bucket, IsLinked, entries_of, part_at}
-use Rattle.sg_bucket.specs.Entry.{Entry, IsEntryCell, entry_in, entry_size, key_size, value_size}
+use Rattle.sg_bucket.specs.Entry.{Entry, IsEntryCell, entry_in, entry_size, key_size}
 use Rattle.sg_bucket.specs.Part.{AreEntries, entries_in}
 use Rattle.sg_hash.proofs.Trunks.{one_there}
 use Rattle.sg_hash.specs.Table.{HashTable, IsBuilt, Numbers, all_entries, byte_count}

@@ -1,6 +1,5 @@
 -- A bucket of a table is split: what its pages leave.
-use Rattle.std.proofs.Common.{◌≡◌, ◌≢◌, ℕ, ◌+◌, ◌*◌, ◌/◌, ◌<◌, ◌≤◌, ◌⊎◌, ◌^◌, max, ◌++◌, List, [], ◌∷◌, length, Option, Some, None, sym, ap, subst, ◌∙◌, refl, arith, slice_get, inl, inr}
-use Rattle.std.specs.List.{sum_by}
+use Rattle.std.proofs.Common.{◌≡◌, ◌≢◌, ℕ, ◌+◌, ◌*◌, ◌<◌, ◌≤◌, ◌⊎◌, ◌^◌, ◌++◌, List, [], ◌∷◌, length, Option, Some, None, sym, ap, subst, ◌∙◌, refl, arith, slice_get, inl, inr}
 use Rattle.std.proofs.lemmas.Bool.{cases_eq}
 use Rattle.std.proofs.lemmas.List.Sums.{sum_by_push}
 use Rattle.std.proofs.lemmas.Option.{slice_get_within}
@@ -9,14 +8,13 @@ use Rattle.sg_base.specs.Sheet.{Sheet}
 use Rattle.sg_array.specs.Array.{Array, IsArray}
 use Rattle.sg_array.specs.Array as array
 use Rattle.sg_array.specs.Calls as array_calls
-use Rattle.sg_bucket.specs.Bucket.{Bucket, IsLinked, IsBucket, OwnsPage}
+use Rattle.sg_bucket.specs.Bucket.{Bucket, IsBucket, OwnsPage}
 use Rattle.sg_space.specs.Owned.{Becomes}
-use Rattle.sg_space.specs.Units.{HasAt}
 use Rattle.sg_space.specs.View.{Space}
 use Rattle.sg_space.proofs.Known.{same_some}
 use Rattle.sg_space.proofs.Putting.{slice_get-push_same, slice_get-push_other}
-use Rattle.sg_hash.specs.Table.{HashTable, Numbers, IsTrunk, IsBuilt, IsInBuckets, Owns, chain_pages, first_page, name_of, page_count}
-use Rattle.sg_hash.proofs.Owning.{trunk_stays, bucket_stays, owns_there, root_not_array, trunk_not_bucket, bucket_there, in_bucket}
+use Rattle.sg_hash.specs.Table.{HashTable, Numbers, IsTrunk, IsBuilt, Owns, chain_pages, first_page, name_of, page_count}
+use Rattle.sg_hash.proofs.Owning.{trunk_stays, bucket_stays, owns_there, root_not_array, trunk_not_bucket, bucket_there}
 use Rattle.sg_hash.proofs.Trunks.{names_long}
 
 -- a table none of whose pages has changed

@@ -1,5 +1,5 @@
 -- Hash tables side by side in one space, and what each of them is.
-use Rattle.std.specs.Prelude.{◌≡◌, ℕ, ◌≤◌, length, List, Option}
+use Rattle.std.specs.Prelude.{ℕ, ◌≤◌, length, Option}
 use Rattle.sg_base.specs.Sheet.{Sheet}
 use Rattle.sg_bucket.specs.Entry.{AreOnce}
 use Rattle.sg_space.specs.View.{Space}

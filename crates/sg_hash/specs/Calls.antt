@@ -1,11 +1,10 @@
 -- What the calls on a hash table want and do.
-use Rattle.std.specs.Prelude.{◌≡◌, ◌≢◌, ℕ, ◌+◌, ◌*◌, ◌<◌, ◌≤◌, ◌^◌, max, if◌then◌else◌, List, [], ◌∷◌, length, slice_get, Option, Some, None, IsSome, is_none, is_some, Bool, true, false}
+use Rattle.std.specs.Prelude.{◌≡◌, ◌≢◌, ℕ, ◌+◌, ◌*◌, ◌<◌, ◌≤◌, max, if◌then◌else◌, List, [], length, slice_get, Some, None, IsSome, is_none, is_some, Bool, true}
 use Rattle.std.specs.List.{sum_by}
-use Rattle.sg_ops.specs.Table.{Table}
 use Rattle.sg_array.specs.Calls.{IsRoomy}
-use Rattle.sg_bucket.specs.Bucket.{Bucket, OwnsPage}
+use Rattle.sg_bucket.specs.Bucket.{Bucket}
 use Rattle.sg_bucket.specs.Entry.{Entry, with_value}
-use Rattle.sg_linear.specs.Extent.{Shape, next_of}
+use Rattle.sg_linear.specs.Extent.{next_of}
 use Rattle.sg_space.specs.Owned.{Becomes}
 use Rattle.sg_space.specs.View.{View, Space, Keeps, MayFill}
 use Rattle.sg_hash.specs.Table.{HashTable, IsHashTable, IsInBuckets, Owns, entries, byte_count, value_at, page_count}

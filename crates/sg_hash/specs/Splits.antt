@@ -1,5 +1,5 @@
 -- What the split of a bucket wants and does.
-use Rattle.std.specs.Prelude.{◌≡◌, ℕ, ◌+◌, ◌*◌, ◌<◌, ◌≤◌, length, slice_get, Option, Some, IsSome}
+use Rattle.std.specs.Prelude.{◌≡◌, ℕ, ◌+◌, ◌*◌, ◌<◌, ◌≤◌, length, slice_get, Some, IsSome}
 use Rattle.std.specs.List.{sum_by}
 use Rattle.sg_array.specs.Calls.{IsRoomy}
 use Rattle.sg_bucket.specs.Bucket.{Bucket}

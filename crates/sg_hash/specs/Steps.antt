@@ -1,5 +1,5 @@
 -- What the steps of a call on a hash table want and do.
-use Rattle.std.specs.Prelude.{◌≡◌, ◌≢◌, ℕ, ◌+◌, ◌<◌, ◌≤◌, ◌⊎◌, ◌^◌, max, if◌then◌else◌, List, [], ◌∷◌, length, take, slice_get, Option, Some, None, is_none, Bool, true}
+use Rattle.std.specs.Prelude.{◌≡◌, ◌≢◌, ℕ, ◌+◌, ◌<◌, ◌⊎◌, ◌^◌, max, if◌then◌else◌, List, [], ◌∷◌, take, slice_get, Option, Some, None, is_none, Bool, true}
 use Rattle.byteorder.specs.Endian.{little_bytes}
 use Rattle.sg_array.specs.Array.{Array, IsArray}
 use Rattle.sg_array.specs.Array as array
@@ -11,7 +11,6 @@ use Rattle.sg_linear.specs.Extent.{shape_of}
 use Rattle.sg_space.specs.Owned.{Becomes}
 use Rattle.sg_space.specs.Units.{Units, IsTaken}
 use Rattle.sg_space.specs.View.{View, Space, Keeps, MayFill}
-use Rattle.sg_ops.specs.Table.{Table}
 use Rattle.sg_hash.specs.Table.{HashTable, Numbers, IsInRange, IsTrunk, IsHashTable, IsInBuckets, chain_pages, first_page, root_cell, root_sheet}
 use Rattle.sg_hash.specs.Calls.{CanPut, IsEntered, Did}
 use Rattle.sg_hash.specs.declared.root.Root.{Root}

@@ -1,6 +1,6 @@
 -- What each call asks follows from what is known before the first call of an action.
-use Rattle.std.proofs.Common.{◌≡◌, ℕ, ◌+◌, ◌*◌, ◌<◌, ◌≤◌, List, length, Bool, true, Option, Some, None, IsSome, sym, subst, refl, arith}
-use Rattle.sg_array.specs.Array.{Array, per_page}
+use Rattle.std.proofs.Common.{ℕ, ◌≤◌, List, Bool, Option, IsSome, sym, subst, refl, arith}
+use Rattle.sg_array.specs.Array.{Array}
 use Rattle.sg_array.specs.Calls.{CanPush, IsRoomy}
 use Rattle.sg_array.proofs.Pushes.{per_page-most}
 use Rattle.sg_base.specs.Sheet.{Sheet}

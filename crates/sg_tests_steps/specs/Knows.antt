@@ -1,5 +1,5 @@
 -- What one knows before the first call of an action: what the pages read as, how many are free, and that nothing was freed.
-use Rattle.std.specs.Prelude.{◌≡◌, ℕ, ◌+◌, ◌*◌, ◌<◌, ◌≤◌, List, length, Bool, true, false, Option, None, Result, IfErr, OnOk}
+use Rattle.std.specs.Prelude.{◌≡◌, ℕ, ◌+◌, ◌*◌, ◌<◌, ◌≤◌, List, length, Bool, true, false, None, Result, IfErr, OnOk}
 use Rattle.sg_array.specs.Array.{Array}
 use Rattle.sg_base.specs.declared.page.TheConstants.{BAND_SIZE}
 use Rattle.sg_blob.specs.Blob.{Blob, IsBlob, OwnsBand}

@@ -1,5 +1,5 @@
 -- A space of which each page goes on by operations of a table.
-use Rattle.std.specs.Prelude.{◌≡◌, ℕ, ◌+◌, ◌≤◌, Option, Some, None, IsSome, IfSome, false, ⊤}
+use Rattle.std.specs.Prelude.{◌≡◌, ℕ, ◌≤◌, Option, Some, None, IsSome, IfSome, false, ⊤}
 use Rattle.std.proofs.Common.{arith}
 use Rattle.sg_base.specs.Op.{Op}
 use Rattle.sg_base.specs.Sheet.{Sheet}

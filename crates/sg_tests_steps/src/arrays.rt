@@ -26,12 +26,7 @@ pub fn make(space: &mut StepSpace, ops: &Ops, size: u16) -> Result<PageNo, Space
 }
 
 /// Reads the size, the length and the number of pages, and an item.
-pub fn look(
-    space: &mut StepSpace,
-    root: PageNo,
-    i: u32,
-    into: &mut [u8],
-) -> Result<u32, SpaceFault>
+pub fn look(space: &mut StepSpace, root: PageNo, i: u32, into: &mut [u8]) -> Result<u32, SpaceFault>
     requires { HasArray (steps_view space.old) root.0 (CanGet i (length into.old)) }
     ensures later { (t : Table) → Later t space.old space.new }
     ensures means { (t : Table) → Means space.old t → Means space.new t }
@@ -83,12 +78,7 @@ pub fn pop(
 }
 
 /// Pushes an item.
-pub fn push(
-    space: &mut StepSpace,
-    ops: &Ops,
-    root: PageNo,
-    item: &[u8],
-) -> Result<u32, SpaceFault>
+pub fn push(space: &mut StepSpace, ops: &Ops, root: PageNo, item: &[u8]) -> Result<u32, SpaceFault>
     requires there { HasArray (steps_view space.old) root.0 (KnowsPush (steps_view space.old) (length item.now)) }
     requires means { Means space.old (table_of record_meaning range_meaning ops.now) }
     ensures later { Later (table_of record_meaning range_meaning ops.now) space.old space.new }

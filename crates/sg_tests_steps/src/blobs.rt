@@ -89,12 +89,7 @@ pub fn paint(
 }
 
 /// Makes the length another one.
-pub fn set_len(
-    space: &mut StepSpace,
-    ops: &Ops,
-    root: PageNo,
-    size: u32,
-) -> Result<(), SpaceFault>
+pub fn set_len(space: &mut StepSpace, ops: &Ops, root: PageNo, size: u32) -> Result<(), SpaceFault>
     requires small { size ≤ 16384000 }
     requires there { HasBlob (steps_view space.old) root.0 (KnowsBands (steps_view space.old) size) }
     requires means { Means space.old (table_of record_meaning range_meaning ops.now) }

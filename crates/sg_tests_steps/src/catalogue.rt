@@ -39,12 +39,7 @@ pub fn names(space: &mut StepSpace, alloc: Global) -> Result<Vec<Name>, ListFaul
 }
 
 /// Gives an object a name.
-pub fn add(
-    space: &mut StepSpace,
-    ops: &Ops,
-    name: Name,
-    object: Entry,
-) -> Result<(), SpaceFault>
+pub fn add(space: &mut StepSpace, ops: &Ops, name: Name, object: Entry) -> Result<(), SpaceFault>
     requires there { HasCatalog (steps_view space.old) (KnowsAdd (steps_view space.old) name) }
     requires means { Means space.old (table_of record_meaning range_meaning ops.now) }
     ensures later { Later (table_of record_meaning range_meaning ops.now) space.old space.new }
@@ -70,12 +65,7 @@ pub fn bury(space: &mut StepSpace, ops: &Ops, name: Name, by: TxnId) -> Result<(
 }
 
 /// Makes a tombstone the object again.
-pub fn unbury(
-    space: &mut StepSpace,
-    ops: &Ops,
-    name: Name,
-    root: PageNo,
-) -> Result<(), SpaceFault>
+pub fn unbury(space: &mut StepSpace, ops: &Ops, name: Name, root: PageNo) -> Result<(), SpaceFault>
     requires there { HasCatalog (steps_view space.old) (CanRaise name root.0) }
     requires means { Means space.old (table_of record_meaning range_meaning ops.now) }
     ensures later { Later (table_of record_meaning range_meaning ops.now) space.old space.new }

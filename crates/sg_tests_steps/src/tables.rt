@@ -78,12 +78,7 @@ pub fn put(
 }
 
 /// Removes an entry. Where there was none nothing is changed.
-pub fn del(
-    space: &mut StepSpace,
-    ops: &Ops,
-    root: PageNo,
-    key: &[u8],
-) -> Result<bool, SpaceFault>
+pub fn del(space: &mut StepSpace, ops: &Ops, root: PageNo, key: &[u8]) -> Result<bool, SpaceFault>
     requires key { length key.now ≤ 128 }
     requires there { HasHashTable (steps_view space.old) root.0 (λ _. ⊤) }
     requires means { Means space.old (table_of record_meaning range_meaning ops.now) }

@@ -1,9 +1,7 @@
-use Rattle.std.proofs.Common.{◌≡◌, ◌+◌, ◌≤◌, ℕ, refl, sym, ap, subst, arith, ◌∙◌}
+use Rattle.std.proofs.Common.{refl, arith}
 use Rattle.sg_space.proofs.Known.{keeps_then}
-use Rattle.sg_linear.specs.Extent.{Shape}
 use Rattle.sg_hash.proofs.Changing.{numbers_are}
 use Rattle.sg_hash.proofs.Making.{first_table, made, may_grow, no_numbers}
-use Rattle.sg_hash.specs.Steps.{numbers_in}
 use Rattle.sg_hash.proofs.create.make.Goals as goal
 
 pub take_root-requires-clause-can : goal.take_root-requires-clause-can

@@ -1,5 +1,4 @@
-use Rattle.std.proofs.Common.{◌≡◌, ◌+◌, ◌≤◌, ℕ, List, [], ◌∷◌, ◌++◌, length, refl, sym, ap, subst, arith, ◌∙◌}
-use Rattle.byteorder.specs.Endian.{little_bytes}
+use Rattle.std.proofs.Common.{ℕ, List, [], ◌∷◌, length, ap, arith, ◌∙◌}
 use Rattle.sg_array.specs.Calls.{empty_array}
 use Rattle.sg_space.proofs.Known.{keeps_then}
 use Rattle.sg_hash.proofs.Making.{push_ready, started, array_taken}

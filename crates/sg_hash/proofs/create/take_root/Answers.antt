@@ -1,9 +1,8 @@
-use Rattle.std.proofs.Common.{◌≡◌, ◌+◌, ℕ, List, refl, sym, ap, subst, ◌∙◌}
+use Rattle.std.proofs.Common.{◌+◌, ℕ, List, refl, ap, ◌∙◌}
 use Rattle.sg_base.specs.Sheet.{Sheet}
-use Rattle.sg_space.specs.Reads.{one_cell}
 use Rattle.sg_space.proofs.Changing.{keeps_but}
 use Rattle.sg_bucket.proofs.Changing.{links_can}
-use Rattle.sg_hash.specs.Table.{root_cell, root_sheet}
+use Rattle.sg_hash.specs.Table.{root_sheet}
 use Rattle.sg_hash.proofs.create.take_root.Goals as goal
 
 pub change-requires-clause-can : goal.change-requires-clause-can

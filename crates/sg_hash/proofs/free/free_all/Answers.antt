@@ -1,7 +1,6 @@
-use Rattle.std.proofs.Common.{◌≡◌, ◌+◌, ◌≤◌, ◌<◌, ℕ, length, IsSome, refl, sym, ap, subst, arith, ◌∙◌, inl, inr}
-use Rattle.sg_space.proofs.Known.{reads_then, still}
+use Rattle.std.proofs.Common.{IsSome, refl, sym, ap, subst, arith}
+use Rattle.sg_space.proofs.Known.{reads_then}
 use Rattle.sg_space.specs.View.{Space}
-use Rattle.sg_hash.specs.Table.{Numbers}
 use Rattle.sg_hash.proofs.Entries.{few_buckets}
 use Rattle.sg_hash.proofs.Freeing.{all_buckets, array_left, gone_calls, root_left}
 use Rattle.sg_hash.proofs.Trunks.{still_table, still_trunk}

@@ -1,4 +1,4 @@
-use Rattle.std.proofs.Common.{◌∙◌, refl, ◌≡◌, ◌≤◌, ◌<◌, ℕ, length, sym, ap, subst, arith, ◌+◌}
+use Rattle.std.proofs.Common.{◌∙◌, refl, ◌≡◌, ℕ, sym, subst, arith, ◌+◌}
 use Rattle.sg_space.specs.View.{Space}
 use Rattle.sg_hash.proofs.Entries.{few_chains}
 use Rattle.sg_hash.specs.Steps.{AreFreed, FreesBuckets}

@@ -1,6 +1,4 @@
-use Rattle.std.proofs.Common.{◌≡◌, ◌≤◌, ◌<◌, ◌++◌, ℕ, List, length, refl, sym, ap, subst, arith, ◌∙◌}
-use Rattle.sg_bucket.specs.Bucket.{entries_of}
-use Rattle.sg_bucket.specs.Division.{keys_of}
+use Rattle.std.proofs.Common.{arith, ◌∙◌}
 use Rattle.sg_hash.proofs.Changing.{found_bucket}
 use Rattle.sg_hash.proofs.Entries.{few_buckets}
 use Rattle.sg_hash.proofs.Freeing.{all_buckets}

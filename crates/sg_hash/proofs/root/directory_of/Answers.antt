@@ -1,7 +1,6 @@
-use Rattle.std.proofs.Common.{◌≡◌, ℕ, IsSome, refl, subst, sym, ap, arith, ◌∙◌}
+use Rattle.std.proofs.Common.{ℕ, IsSome, refl, subst, sym, ap, arith, ◌∙◌}
 use Rattle.sg_base.specs.Sheet.{Sheet}
 use Rattle.sg_space.proofs.Known.{same_some}
-use Rattle.sg_hash.specs.Table.{root_cell, root_sheet}
 use Rattle.sg_hash.proofs.root.directory_of.Goals as goal
 
 pub page-requires : goal.page-requires

@@ -1,4 +1,4 @@
-use Rattle.std.proofs.Common.{◌≡◌, ℕ, List, [], ◌∷◌, length, Some, false, ◌<◌, ◌^◌, refl, sym, ap, subst, arith, ◌∙◌}
+use Rattle.std.proofs.Common.{◌≡◌, ℕ, List, [], ◌∷◌, length, Some, false, refl, sym, ap, subst, arith, ◌∙◌}
 use Rattle.sg_base.specs.Op.{shrinks}
 use Rattle.sg_base.specs.Op.Op.{Set}
 use Rattle.sg_base.specs.Sheet.{Sheet}
@@ -7,7 +7,6 @@ use Rattle.sg_space.proofs.Changing.{keeps_but}
 use Rattle.sg_space.proofs.Known.{same_some}
 use Rattle.sg_array.proofs.Sheets.{same_size}
 use Rattle.sg_hash.specs.Table.{root_cell, root_sheet}
-use Rattle.sg_hash.specs.Steps.{numbers_in}
 use Rattle.sg_hash.proofs.Roots.{numbers_range, root_step, root_possible}
 use Rattle.sg_hash.proofs.root.set_root.Goals as goal
 

@@ -1,4 +1,4 @@
-use Rattle.std.proofs.Common.{◌≡◌, ◌≤◌, ◌<◌, ℕ, length, refl, sym, ap, arith, ◌∙◌}
+use Rattle.std.proofs.Common.{refl}
 use Rattle.sg_space.proofs.Known.{reads_then}
 use Rattle.sg_hash.specs.Table.{HashTable, IsHashTable}
 use Rattle.sg_hash.proofs.Changing.{found_bucket}

@@ -1,9 +1,9 @@
-use Rattle.std.proofs.Common.{◌≡◌, ℕ, List, length, refl, ap, ◌≤◌, arith}
+use Rattle.std.proofs.Common.{ℕ, List, length, refl, ap, arith}
 use Rattle.sg_space.proofs.Known.{reads_then}
 use Rattle.sg_hash.specs.Table.{numbers_of}
 use Rattle.sg_hash.proofs.Changing.{found_bucket}
 use Rattle.sg_hash.proofs.Growing.{first_of, split_below}
-use Rattle.sg_hash.proofs.Parting.{IsNext, branch_at, can_branch, can_name, did_split, is_next, kept_at, names_at, root_at}
+use Rattle.sg_hash.proofs.Parting.{branch_at, can_branch, can_name, did_split, is_next, kept_at, names_at, root_at}
 use Rattle.sg_hash.proofs.Trunks.{still_table, still_trunk}
 use Rattle.sg_hash.proofs.split.split_next.Goals as goal
 

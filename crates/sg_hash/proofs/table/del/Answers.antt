@@ -1,4 +1,4 @@
-use Rattle.std.proofs.Common.{◌≡◌, ◌+◌, ◌≤◌, ℕ, Bool, List, [], length, Option, Some, None, is_some, refl, sym, ap, subst, arith, ◌∙◌}
+use Rattle.std.proofs.Common.{ℕ, Bool, [], length, Option, is_some, refl, ap, subst, ◌∙◌}
 use Rattle.sg_hash.specs.Calls.{Did, IsDeleted}
 use Rattle.sg_hash.specs.Table.{HashTable, IsHashTable, Numbers, home_of, numbers_of}
 use Rattle.sg_hash.specs.Steps.{IsUncounted, numbers_in}

@@ -1,5 +1,5 @@
-use Rattle.std.proofs.Common.{◌≡◌, ◌+◌, ℕ, Bool, true, false, not, List, length, is_none, refl, sym, ap, subst, arith, ◌∙◌}
-use Rattle.sg_hash.specs.Table.{HashTable, Numbers, home_of, numbers_of}
+use Rattle.std.proofs.Common.{◌≡◌, Bool, true, false, not, length, is_none, ap, subst, arith}
+use Rattle.sg_hash.specs.Table.{Numbers, home_of, numbers_of}
 use Rattle.sg_hash.specs.Steps.{DidEnter, IsCounted, numbers_in}
 use Rattle.sg_hash.proofs.Calling.{can_enter, did_enter, put_fits}
 use Rattle.sg_hash.proofs.Changing.{counted, found_bucket, root_there}

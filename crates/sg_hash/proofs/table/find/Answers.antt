@@ -1,10 +1,6 @@
-use Rattle.std.proofs.Common.{◌≡◌, ℕ, Option, option_map, refl, sym, ap, subst, ◌∙◌}
-use Rattle.sg_bucket.specs.Bucket.{Bucket, IsBucket}
-use Rattle.sg_hash.specs.Table.{home_of}
-use Rattle.sg_hash.specs.Steps.{IsFirstOf}
+use Rattle.std.proofs.Common.{◌∙◌}
 use Rattle.sg_hash.proofs.Changing.{found_bucket, own_value}
 use Rattle.sg_hash.proofs.Trunks.{still_table}
-use Rattle.sg_space.proofs.Known.{reads_then}
 use Rattle.sg_hash.proofs.table.find.Goals as goal
 
 pub read_root-requires : goal.read_root-requires

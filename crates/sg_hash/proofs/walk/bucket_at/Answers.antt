@@ -1,4 +1,4 @@
-use Rattle.std.proofs.Common.{◌≡◌, ◌<◌, ◌≤◌, ℕ, length, arith}
+use Rattle.std.proofs.Common.{arith}
 use Rattle.sg_hash.proofs.Trunks.{still_trunk, names_long, name_read, trunk_names}
 use Rattle.sg_hash.proofs.walk.bucket_at.Goals as goal
 

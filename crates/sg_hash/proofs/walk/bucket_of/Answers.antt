@@ -1,15 +1,8 @@
-use Rattle.std.proofs.Common.{◌≡◌, ◌<◌, ℕ, length, sym, subst}
+use Rattle.std.proofs.Common.{◌<◌, ℕ, length, sym, subst}
 use Rattle.sg_hash.specs.Table.{numbers_of}
 use Rattle.sg_hash.specs.Steps.{IsFirstOf}
 use Rattle.sg_hash.proofs.Changing.{home_there}
 use Rattle.sg_hash.proofs.Trunks.{home_index}
-use Rattle.sg_hash.proofs.Small.{table_small}
-use Rattle.sg_hash.proofs.Making.{may_grow}
-use Rattle.sg_hash.proofs.Freeing.{frees_on}
-use Rattle.sg_hash.proofs.Splitting.{two_more}
-use Rattle.sg_hash.proofs.Dividing.{divided_values}
-use Rattle.sg_hash.proofs.Calling.{did_enter}
-use Rattle.sg_hash.proofs.Roots.{same_numbers}
 use Rattle.sg_hash.proofs.walk.bucket_of.Goals as goal
 
 pub bucket_at-requires : goal.bucket_at-requires

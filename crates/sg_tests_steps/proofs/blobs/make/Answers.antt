@@ -1,4 +1,4 @@
-use Rattle.std.proofs.Common.{◌≤◌, arith}
+use Rattle.std.proofs.Common.{arith}
 use Rattle.sg_tests_steps.proofs.Knowing.{can_take}
 use Rattle.sg_tests_steps.proofs.blobs.make.Goals as goal
 

@@ -1,4 +1,3 @@
-
 use Rattle.sg_tests_steps.proofs.blobs.paint.Goals as goal
 
 pub returns-clause-own : goal.returns-clause-own

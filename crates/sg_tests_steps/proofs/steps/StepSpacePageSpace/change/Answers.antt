@@ -1,4 +1,4 @@
-use Rattle.std.proofs.Common.{◌≤◌, ◌-◌, arith}
+use Rattle.std.proofs.Common.{arith}
 use Rattle.sg_tests_steps.proofs.Going.{changed_goes}
 use Rattle.sg_tests_steps.specs.Steps.Goes.{stays}
 use Rattle.sg_tests_steps.proofs.steps.StepSpacePageSpace.change.Goals as goal

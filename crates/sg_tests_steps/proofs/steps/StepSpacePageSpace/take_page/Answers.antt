@@ -1,4 +1,4 @@
-use Rattle.std.proofs.Common.{◌≤◌, ◌-◌, arith}
+use Rattle.std.proofs.Common.{arith}
 use Rattle.sg_tests_steps.proofs.Going.{taken_goes}
 use Rattle.sg_tests_steps.specs.Steps.Goes.{stays}
 use Rattle.sg_tests_steps.proofs.steps.StepSpacePageSpace.take_page.Goals as goal
