@@ -50,6 +50,7 @@ awk -v layers="Ground,Disk and log,Pages,Spaces,Structures,Objects and transacti
         sub(/[ :].*/, "", crate)
         sub(/^[^:]*:?/, "", line)
         if (layer == "") wrong(file ": " crate " stands above the first layer")
+        if (crate in line_of) wrong(file ": " crate " has two lines: keep one")
         layer_of[crate] = layer
         uses[crate] = line
         order[++crates] = crate

@@ -1,1 +1,4 @@
 pub mod Keys
+pub mod Apps
+pub mod Values
+pub mod Simple

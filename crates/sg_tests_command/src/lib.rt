@@ -2,6 +2,10 @@
 #![tactic(auto)]
 
 #[cfg(test)]
+mod sizes;
+#[cfg(test)]
 mod table;
+#[cfg(test)]
+mod words;
 #[cfg(test)]
 mod workload;
