@@ -1,7 +1,6 @@
 -- A command that gains a subcommand.
-use Rattle.std.proofs.Common.{◌≡◌, ◌||◌, Bool, false, refl, ap, ap₂, sym, ◌∙◌}
-use Rattle.clap.specs.Words.{App, AddsSubcommand, shape_of, with_subcommand}
-use Rattle.clap.specs.Simple.{Shape}
+use Rattle.std.proofs.Common.{◌||◌, ap, ap₂, ◌∙◌}
+use Rattle.clap.specs.Words.{App, AddsSubcommand, with_subcommand}
 use Rattle.clap.specs.declared.builder.command.Command.{Command}
 use Rattle.sg_command.specs.Words.{IsApp}
 

@@ -1,9 +1,9 @@
 -- The first value of an id, by the rows and by the entries of what a parse found.
-use Rattle.std.proofs.Common.{◌≡◌, ◌∙◌, List, Option, Some, None, option_map, option_and_then, refl, ap, sym, map}
+use Rattle.std.proofs.Common.{◌≡◌, ◌∙◌, Option, Some, None, option_map, option_and_then, refl, ap, sym}
 use Rattle.std.specs.List.{find, slice_get}
 use Rattle.std.specs.Str.{bytes_eq}
 use Rattle.std.proofs.lemmas.Option.{slice_get-map}
-use Rattle.clap.specs.Words.{Row, Text, first_of, first_value, rows_of}
+use Rattle.clap.specs.Words.{Text, first_of, first_value, rows_of}
 use Rattle.clap.specs.Walk.{row_of}
 use Rattle.clap.specs.Facts.{Entry}
 use Rattle.clap.specs.declared.parser.matches.Found.{Found}

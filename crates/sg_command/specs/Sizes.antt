@@ -1,6 +1,6 @@
 -- The sizes that the text of a geometry file says.
 use Rattle.std.specs.Str.{bytes_eq}
-use Rattle.std.specs.Prelude.{◌≡◌, ℕ, ℤ, pos, negsuc, ◌≤◌, ◌^◌, ◌==◌, ◌||◌, ◌&&◌, nat_lt, Bool, true, if◌then◌else◌, List, length, codes, IsUtf8, Option, Some, None, option_and_then}
+use Rattle.std.specs.Prelude.{◌≡◌, ℕ, ℤ, pos, negsuc, ◌≤◌, ◌^◌, ◌||◌, ◌&&◌, nat_lt, Bool, true, if◌then◌else◌, List, length, codes, IsUtf8, Option, Some, None, option_and_then}
 use Rattle.toml.specs.Data.{Data, Members, no_members, member, as_integer, get_member}
 use Rattle.toml.specs.Parse.{parse_document}
 use Rattle.sg_geometry.specs.declared.geometry.Geometry.{Geometry}
@@ -37,9 +37,9 @@ abbrev pub sizes_in : Members → Option Geometry
 sizes_in members =
     if are_sizes members
     then option_and_then (λ pages. option_and_then (λ bands. option_and_then (λ frames. option_and_then (λ windows.
-        fitting (record { pages = pages; bands = bands; frames = frames; windows = windows }))
-        (number_at (codes "windows") 32 members)) (number_at (codes "frames") 256 members))
-        (number_at (codes "bands") 1024 members)) (number_at (codes "pages") 16384 members)
+    fitting (record { pages = pages; bands = bands; frames = frames; windows = windows }))
+    (number_at (codes "windows") 32 members)) (number_at (codes "frames") 256 members))
+    (number_at (codes "bands") 1024 members)) (number_at (codes "pages") 16384 members)
     else None
 
 -- THE SIZES THAT A TEXT SAYS: it has at most 65,536 bytes, and is a document of TOML with such a table

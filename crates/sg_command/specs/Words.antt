@@ -1,5 +1,5 @@
 -- The command line as `clap` reads it: one command with a level of subcommands.
-use Rattle.std.specs.Prelude.{◌≡◌, ℕ, Bool, true, false, List, codes, Some}
+use Rattle.std.specs.Prelude.{◌≡◌, true, false, codes, Some}
 use Rattle.clap.specs.Words.{App, Rule, Text, app_of, new_app, new_rule, with_rule, with_subcommand}
 use Rattle.clap.specs.Simple.{on_top}
 use Rattle.clap.specs.declared.builder.command.Command.{Command}
@@ -34,7 +34,7 @@ bare_app = on_top (λ s. record s { no_binary_name = true; subcommand_required =
 abbrev pub stasis_app : App
 stasis_app =
     with_subcommand (with_subcommand (with_subcommand (with_subcommand (with_subcommand (with_subcommand bare_app
-      init_app.top) run_app.top) (folder_app (codes "dump")).top) (folder_app (codes "check")).top) (folder_app (codes "log")).top) gen_app.top
+    init_app.top) run_app.top) (folder_app (codes "dump")).top) (folder_app (codes "check")).top) (folder_app (codes "log")).top) gen_app.top
 
 -- the command is this one, and none of its arguments is global
 abbrev pub IsApp : App → Command → Type 0

@@ -16,7 +16,12 @@ const ASKED: [(&str, Command); 14] = [
     ("init d --geometry=f", Command::Init { geometry: true }),
     ("run d", A_RUN),
     ("run run", A_RUN),
-    ("run d --stop-after 0", Command::Run { stop_after: Some(0) }),
+    (
+        "run d --stop-after 0",
+        Command::Run {
+            stop_after: Some(0),
+        },
+    ),
     ("run d --stop-after 18446744073709551615", TO_THE_LAST),
     ("run -- -d", A_RUN),
     ("dump d", Command::Dump),
@@ -133,7 +138,14 @@ fn are_named(
 fn paths_are_named(rt: HostRuntime) -> Result<(), Fail> {
     let alloc = rt.alloc();
     assert!(rt; are_named(alloc, "run store", Some("store"), None)?);
-    assert!(rt; are_named(alloc, "init store --geometry sizes", Some("store"), Some("sizes"))?);
+    assert!(rt;
+        are_named(
+            alloc,
+            "init store --geometry sizes",
+            Some("store"),
+            Some("sizes")
+        )?
+    );
     assert!(rt; are_named(alloc, "gen 1 2", None, None)?);
     Ok(())
 }

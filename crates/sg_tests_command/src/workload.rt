@@ -4,7 +4,8 @@ use sg_workload::{Gen, write_workload};
 use std::alloc::{AllocError, Global};
 use std::test::Fail;
 
-const MAKING: &[u8] = b"s begin\ns make array a 8\ns make table h\ns make blob b\ns size b 100000\n";
+const MAKING: &[u8] =
+    b"s begin\ns make array a 8\ns make table h\ns make blob b\ns size b 100000\n";
 
 // The first 200 lines of a workload, with those of the opening before the lines of a table.
 fn wanted(alloc: Global, drawn: &[u8]) -> Result<Vec<u8>, AllocError> {
@@ -70,7 +71,8 @@ fn a_workload_ends(rt: HostRuntime) {
 // Whether a sink whose third call fails has the first two lines then, and the workload answers so.
 fn is_cut(alloc: Global) -> bool {
     let mut sink = MemSink::new(alloc, Some(3));
-    write_workload(7, 1, &mut sink).is_err() && sink.text() == b"s begin\ns make array a 8\n".as_slice()
+    write_workload(7, 1, &mut sink).is_err()
+        && sink.text() == b"s begin\ns make array a 8\n".as_slice()
 }
 
 #[test]

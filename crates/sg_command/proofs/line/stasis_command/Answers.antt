@@ -1,7 +1,6 @@
 use Rattle.std.proofs.Common.{codes}
 use Rattle.std.proofs.lemmas.Result.{IfOk-weaker}
-use Rattle.sg_command.specs.Words.{folder_app, init_app, run_app, gen_app, bare_app, stasis_app, IsApp}
-use Rattle.clap.specs.Words.{with_subcommand}
+use Rattle.sg_command.specs.Words.{folder_app, init_app, run_app, gen_app, bare_app}
 use Rattle.sg_command.proofs.Apps.{adds}
 use Rattle.sg_command.proofs.line.stasis_command.Goals as goal
 

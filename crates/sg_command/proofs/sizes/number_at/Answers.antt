@@ -1,7 +1,6 @@
-use Rattle.std.proofs.Common.{rules, ◌≡◌, ◌∙◌, sym, ap, option_and_then, w64, to_z, of_z, FitsSigned}
+use Rattle.std.proofs.Common.{rules, ◌≡◌, ◌∙◌, sym, ap, option_and_then, w64, to_z, of_z}
 use Rattle.std.proofs.lemmas.Int.{to_z-of_z}
 use Rattle.toml.proofs.Views.{table_get}
-use Rattle.toml.specs.View.{view}
 use Rattle.sg_command.specs.Sizes.{in_field, number_or}
 use Rattle.sg_command.proofs.sizes.number_at.Goals as goal
 

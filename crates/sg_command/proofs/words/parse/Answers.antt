@@ -1,4 +1,4 @@
-use Rattle.std.proofs.Common.{◌≡◌, ◌∙◌, ap, sym, true}
+use Rattle.std.proofs.Common.{◌∙◌, ap, sym}
 use Rattle.clap.specs.Words.{App, fault_of, subcommand_of, is_simple, is_simple_and_free}
 use Rattle.sg_command.specs.Asked.{texts_of}
 use Rattle.sg_command.proofs.Simple.{stasis-simple, stasis-free}
