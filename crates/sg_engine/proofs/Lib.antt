@@ -15,3 +15,4 @@ pub mod May
 pub mod Says
 pub mod Along
 pub mod Brought
+pub mod Cut

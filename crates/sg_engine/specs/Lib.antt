@@ -6,3 +6,4 @@ pub mod Engine
 pub mod Running
 pub mod Calls
 pub mod Faults
+pub mod Cut

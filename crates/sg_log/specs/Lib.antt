@@ -6,3 +6,4 @@ pub mod Held
 pub mod Places
 pub mod Reading
 pub mod Reads
+pub mod Cut

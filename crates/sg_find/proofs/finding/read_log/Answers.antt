@@ -1,0 +1,38 @@
+use Rattle.std.proofs.Common.{◌≡◌, ◌≤◌, ℕ, [], sym, ap, ◌∙◌, subst}
+use Rattle.sg_base.specs.declared.area.Area.{Area}
+use Rattle.sg_disk.specs.Disk.{State}
+use Rattle.sg_log.specs.Frames.{HasRecords, Frames, LOG_END}
+use Rattle.sg_log.specs.Reads.{OnlyReads}
+use Rattle.sg_log.proofs.Holding.{holds_along}
+use Rattle.sg_log.proofs.Runs.{reads_more}
+use Rattle.sg_analysis.specs.Analysis.{analysis_of}
+use Rattle.sg_find.proofs.finding.read_log.Goals as goal
+
+pub returns-in-Ok-analyse-clause-records : goal.returns-in-Ok-analyse-clause-records
+returns-in-Ok-analyse-clause-records g c ds gate told settled has =
+    let v = g.D.Disk.view c.args.disk.now in
+    let s = c.args.s.now in
+    let area = c.log_area-area.ensures.area in
+    let settled' = subst (λ (a : Area). (v.now a).pending ≡ []) (sym area) settled in
+    let has' = subst (λ (a : Area). HasRecords (v.now a).seen s.base gate ds) (sym area) has in
+    let found = c.in-Ok.ensures.records ds gate told settled' has' in
+    (found.0, holds_along (c.analyse.ensures.reads.unchanged told) found.1)
+
+pub returns-in-Ok-analyse-clause-says : goal.returns-in-Ok-analyse-clause-says
+returns-in-Ok-analyse-clause-says g c ds gate told has =
+    let v = g.D.Disk.view c.args.disk.now in
+    let s = c.args.s.now in
+    let area = c.log_area-area.ensures.area in
+    let has' = subst (λ (a : Area). HasRecords (v.now a).seen s.base gate ds) (sym area) has in
+    let there = subst (λ (x : State). HasRecords (x c.log_area-area.result).seen s.base gate ds) (sym (c.attach.ensures.unchanged told)) has' in
+    c.in-Ok-analyse.ensures.says gate ds told there
+
+pub returns-in-Ok-analyse-clause-reads : goal.returns-in-Ok-analyse-clause-reads
+returns-in-Ok-analyse-clause-reads g c =
+    let a = c.attach.ensures in
+    reads_more (record { unchanged = a.unchanged; any_moment = a.any_moment; handed = a.handed; later = a.later }) c.analyse.ensures.reads
+
+pub returns-in-Err-analyse-clause-reads : goal.returns-in-Err-analyse-clause-reads
+returns-in-Err-analyse-clause-reads g c =
+    let a = c.attach.ensures in
+    reads_more (record { unchanged = a.unchanged; any_moment = a.any_moment; handed = a.handed; later = a.later }) c.analyse.ensures.reads

@@ -1,0 +1,26 @@
+-- Areas that were synced, and images that are read.
+use Rattle.std.specs.Prelude.{◌≡◌, ◌≤◌, ◌==◌, if◌then◌else◌, ℕ, max, List, []}
+use Rattle.sg_base.specs.declared.area.Area.TheVariants.{Log0, Log1}
+use Rattle.sg_gate.specs.declared.superblock.Super.{Super}
+use Rattle.sg_base.specs.declared.area.Area.{Area}
+use Rattle.sg_disk.specs.Disk.{Image, State, View}
+use Rattle.sg_log.specs.Frames.{Numbered}
+use Rattle.sg_analysis.specs.Sights.{last_checkpoint}
+use Rattle.sg_analysis.specs.Analysis.{estimate_or}
+
+-- each area reads as before, and nothing of it is pending
+pub record AreSynced (s t : State) : Type 0 where
+  pub seen : (a : Area) → (t a).seen ≡ (s a).seen
+  pub settled : (a : Area) → (t a).pending ≡ []
+
+-- THE IMAGE THAT READS GIVE
+abbrev pub reads : View → Image
+reads v a = (v.now a).seen
+
+-- THE REDO POINT of a log whose first byte has the number base: the later of that and of what the last checkpoint estimates
+abbrev pub redo_point : (base : ℕ) → List Numbered → ℕ
+redo_point base ns = max base (estimate_or base (last_checkpoint ns))
+
+-- where the log stands, by the superblock
+abbrev pub log_area : Super → Area
+log_area s = if s.log == 0 then Log0 else Log1

@@ -1,0 +1,60 @@
+// What opening reads of a store.
+ghost use Rattle.std.specs.Prelude.{◌≡◌, ◌≢◌, ◌⊎◌, ℕ, List, [], IsTrue, IfOk, IfErr};
+ghost use Rattle.sg_base.specs.declared.area.Area.TheVariants.{Home};
+ghost use Rattle.sg_gate.specs.Superblock.{IsSuper};
+ghost use Rattle.sg_ops.specs.Table.{table_of};
+ghost use Rattle.sg_record.specs.Records.{Record};
+ghost use Rattle.sg_log.specs.Frames.{Numbered};
+ghost use Rattle.sg_log.specs.Reads.{OnlyReads};
+ghost use Rattle.sg_engine.specs.Effects.{effect_in};
+ghost use Rattle.sg_engine.specs.Engine.{Origin};
+ghost use Rattle.sg_open.specs.Refusals.{StoreRefused};
+ghost use Rattle.sg_open.specs.Found.{IsSettledAll, Opens, IsFound};
+
+use sg_analysis::Analysis;
+use sg_disk::Disk;
+use sg_find::{Gathered, OpenFault, gather, of_gate, read_log};
+use sg_gate::{Super, read_super};
+use sg_log::Log;
+use sg_ops::Ops;
+use std::alloc::Global;
+
+/// What is read of a store before anything is written.
+#[derive(Drop)]
+pub struct Found {
+    pub geometry: Super,
+    pub log: Log,
+    pub analysis: Analysis,
+    pub gathered: Gathered,
+}
+
+/// Reads a store: its superblock, its log, and what is to be repeated. It writes nothing.
+pub fn find<D: Disk>(alloc: Global, disk: &mut D, ops: &Ops) -> Result<Found, OpenFault>
+    ensures range { IfOk result (λ f. IsSuper f.geometry) }
+    ensures found { (o : Origin) (tail : ℕ) (ds : List Numbered) → IsTrue D.told → IsSettledAll (D.view disk.old) → Opens o tail ds (D.view disk.old) →
+        IfOk result (IsFound (table_of record_meaning range_meaning ops.now) (D.view disk.new) o tail ds) }
+    ensures refused { (o : Origin) (tail : ℕ) (ds : List Numbered) → IsTrue D.told → IsSettledAll (D.view disk.old) → Opens o tail ds (D.view disk.old) →
+        IfErr result (StoreRefused D.told (table_of record_meaning range_meaning ops.now) o ds (D.view disk.old) (D.view disk.new)) }
+    // The gates of both superblock slots are closed.
+    ensures not_a_store { IsTrue D.told → result ≡ Err OpenFault.NotAStore → ((((D.view disk.old).now Home).seen 0 ≢ 1) × (((D.view disk.old).now Home).seen 4096 ≢ 1)) }
+    ensures shut { IsTrue D.told → ((D.view disk.old).now Home).seen 0 ≢ 1 → ((D.view disk.old).now Home).seen 4096 ≢ 1 → (result ≡ Err OpenFault.NotAStore) ⊎ (result ≡ Err OpenFault.Disk) }
+    ensures reads { OnlyReads D.told (D.view disk.old) (D.view disk.new) }
+{
+    let geometry = match read_super(disk) {
+        Ok(geometry) => geometry,
+        Err(fault) => return Err(of_gate(fault)),
+    };
+    let (log, analysis) = match read_log(alloc, disk, &geometry) {
+        Ok(read) => read,
+        Err(fault) => return Err(fault),
+    };
+    match gather(alloc, disk, &geometry, log.durable(), &analysis, ops) {
+        Ok(gathered) => Ok(Found {
+            geometry,
+            log,
+            analysis,
+            gathered,
+        }),
+        Err(fault) => Err(fault),
+    }
+}

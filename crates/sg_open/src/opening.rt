@@ -1,0 +1,140 @@
+// Opening.
+ghost use Rattle.std.specs.Prelude.{◌≡◌, ◌≢◌, ◌⊎◌, ◌+◌, ◌<◌, ◌≤◌, ◌^◌, ℕ, List, [], All, length, IsTrue, IfOk, IfErr, OnOk};
+ghost use Rattle.sg_base.specs.declared.area.Area.TheVariants.{Home};
+ghost use Rattle.sg_gate.specs.Superblock.{IsSuper};
+ghost use Rattle.sg_ops.specs.Table.{table_of};
+ghost use Rattle.sg_pool.specs.Pooled.{sizes};
+ghost use Rattle.sg_pool.specs.Redone.{AreInOrder};
+ghost use Rattle.sg_redo.specs.Units.{AreKnown};
+ghost use Rattle.sg_record.specs.Records.{Record};
+ghost use Rattle.sg_log.specs.Frames.{Numbered};
+ghost use Rattle.sg_engine.specs.Effects.{effect_in};
+ghost use Rattle.sg_engine.specs.Engine.{Origin};
+ghost use Rattle.sg_engine.specs.Running.{IsEngine, IsAllowed};
+ghost use Rattle.sg_find.specs.Synced.{redo_point};
+ghost use Rattle.sg_open.specs.Repeatable.{IsNew};
+ghost use Rattle.sg_open.specs.Refusals.{StoreRefused, IsUnwrittenAt};
+ghost use Rattle.sg_open.specs.Found.{Opens, AreOpening};
+
+use crate::found::{Found, find};
+use crate::repeating::repeat;
+use sg_analysis::Analysis;
+use sg_base::Steps;
+use sg_disk::Disk;
+use sg_find::{OpenFault, sync_all};
+use sg_gate::Super;
+use sg_log::Log;
+use sg_ops::Ops;
+use sg_pool::Pool;
+use sg_redo::{Place, are_known};
+use std::alloc::Global;
+use std::sync::ledger::Ledger;
+
+/// The running engine of a store that was opened. Its pool has to be ended.
+pub struct Opened {
+    pub geometry: Super,
+    pub log: Log,
+    pub pool: Pool,
+    pub analysis: Analysis,
+}
+
+// A new pool, which can repeat the records at these places.
+fn take_pool(
+    alloc: Global,
+    geometry: &Super,
+    text: &[u8],
+    places: &[Place],
+    ops: &Ops,
+) -> Result<Pool, OpenFault>
+    requires { IsSuper geometry.now }
+    ensures new { IfOk result (IsNew geometry.now) }
+    ensures within { IfOk result (λ pool. All (λ p. p.unit < (sizes pool).pages + (sizes pool).bands) places.now) }
+    ensures order { OnOk result (AreInOrder places.now) }
+    ensures known { OnOk result (AreKnown (table_of record_meaning range_meaning ops.now) text.now places.now) }
+    ensures few { OnOk result (length places.now < 2 ^ 32) }
+    ensures store { result ≡ Err OpenFault.NotAStore → ⊥ }
+    ensures able { All (λ p. p.unit < geometry.now.pages + geometry.now.bands) places.now → AreInOrder places.now → AreKnown (table_of record_meaning range_meaning ops.now) text.now places.now →
+        IfErr result (λ e. e ≡ OpenFault.Memory) }
+{
+    let pool = match Pool::new(alloc, geometry) {
+        Ok(pool) => pool,
+        Err(_) => return Err(OpenFault::Memory),
+    };
+    if places.len() >= 4_294_967_296 {
+        pool.end();
+        return Err(OpenFault::Memory);
+    }
+    if !pool.can_redo(places) || !are_known(places, text, ops) {
+        pool.end();
+        return Err(OpenFault::Disk);
+    }
+    Ok(pool)
+}
+
+/// Opens a store: what a crash left is made durable and read, an open batch is laid over, and history is
+/// repeated from the redo point on. All memory is taken before the first write.
+///
+/// Where what was read can be opened, `Ok` is a running engine: its pages and bands are what the
+/// log's records make of the home area. Until the three areas are synced a crash leaves what it could
+/// have left before, and from then on an image that stands for the same records.
+pub fn open<D: Disk, L: Ledger>(
+    alloc: Global,
+    disk: &mut D,
+    ops: &Ops,
+    steps: &mut Steps<L>,
+) -> Result<Opened, OpenFault>
+    ensures opens { (o : Origin) (tail : ℕ) (ds : List Numbered) → IsTrue D.told → ((lsn : ℕ) (x : Record) → o.effect lsn x ≡ effect_in (table_of record_meaning range_meaning ops.now) lsn x) → Opens o tail ds (D.view disk.old) →
+        IfOk result (λ e. IsEngine o (D.view disk.new) e.log ds [] e.pool) }
+    // Its redo point is allowed from then on.
+    ensures allowed { (o : Origin) (tail : ℕ) (ds : List Numbered) → IsTrue D.told → ((lsn : ℕ) (x : Record) → o.effect lsn x ≡ effect_in (table_of record_meaning range_meaning ops.now) lsn x) → Opens o tail ds (D.view disk.old) →
+        redo_point o.super.base ds ≤ tail → IfOk result (λ e. IsAllowed o (D.view disk.new) e.log e.pool (redo_point o.super.base ds)) }
+    // Where what was read can be opened, a refusal is one of these.
+    ensures refused { (o : Origin) (tail : ℕ) (ds : List Numbered) → IsTrue D.told → ((lsn : ℕ) (x : Record) → o.effect lsn x ≡ effect_in (table_of record_meaning range_meaning ops.now) lsn x) → Opens o tail ds (D.view disk.old) →
+        IfErr result (StoreRefused D.told (table_of record_meaning range_meaning ops.now) o ds (D.view disk.old) (D.view disk.new)) }
+    // The gates of both superblock slots are closed.
+    ensures not_a_store { IsTrue D.told → result ≡ Err OpenFault.NotAStore → ((((D.view disk.old).now Home).seen 0 ≢ 1) × (((D.view disk.old).now Home).seen 4096 ≢ 1)) }
+    ensures shut { IsTrue D.told → ((D.view disk.old).now Home).seen 0 ≢ 1 → ((D.view disk.old).now Home).seen 4096 ≢ 1 → (result ≡ Err OpenFault.NotAStore) ⊎ (result ≡ Err OpenFault.Disk) }
+    // Nothing was written before such a refusal.
+    ensures unwritten { IfErr result (λ e. IsUnwrittenAt e (D.view disk.old) (D.view disk.new)) }
+    // At each moment, faults included.
+    ensures moments { (o : Origin) (tail : ℕ) (ds : List Numbered) → IsTrue D.told → ((lsn : ℕ) (x : Record) → o.effect lsn x ≡ effect_in (table_of record_meaning range_meaning ops.now) lsn x) → Opens o tail ds (D.view disk.old) →
+        AreOpening o ds (D.view disk.old) (D.view disk.new) }
+{
+    if sync_all(disk).is_err() {
+        return Err(OpenFault::Disk);
+    }
+    let Found {
+        geometry,
+        mut log,
+        analysis,
+        mut gathered,
+    } = match find(alloc, disk, ops) {
+        Ok(found) => found,
+        Err(fault) => return Err(fault),
+    };
+    let mut pool = match take_pool(alloc, &geometry, &gathered.text, &gathered.places, ops) {
+        Ok(pool) => pool,
+        Err(fault) => return Err(fault),
+    };
+    match repeat(
+        disk,
+        geometry.pages,
+        &mut log,
+        &mut pool,
+        &gathered.text,
+        &mut gathered.places,
+        ops,
+        steps,
+    ) {
+        Ok(()) => Ok(Opened {
+            geometry,
+            log,
+            pool,
+            analysis,
+        }),
+        Err(fault) => {
+            pool.end();
+            Err(fault)
+        }
+    }
+}

@@ -1,0 +1,5 @@
+pub mod Again
+pub mod Lives
+pub mod Running
+pub mod Making
+pub mod Over
