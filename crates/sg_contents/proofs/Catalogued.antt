@@ -86,7 +86,7 @@ twice r xs once j x e f =
     let most = once x in
     omega arith
 
-roots_apart : (xs : List Row) → ((root : ℕ) → count_by (is_at root) xs ≤ 1) → AreApart (map (λ (r : Row). r.root.0) xs)
+pub roots_apart : (xs : List Row) → ((root : ℕ) → count_by (is_at root) xs ≤ 1) → AreApart (map (λ (r : Row). r.root.0) xs)
 roots_apart [] once i j x e f = absurd (cc)
 roots_apart (r ∷ xs) once zero zero x e f = refl
 roots_apart (r ∷ xs) once zero (suc j) x e f = absurd (twice r xs once j x e f)

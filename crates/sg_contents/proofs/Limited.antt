@@ -68,7 +68,7 @@ module _ {kept : ℕ} {space : Space} {s : Contents} {all : List Row} (h : Holds
       by_size None f (inr m) rest = ap (λ o. or_else o (size_among s.body xs page)) f ∙ rest m
 
 -- LIMITS by kinds
-kind_is : {at : ℕ → Option Sheet} {p : ℕ} {P : Sheet → Type 0} (n : ℕ) → HasAt at p P → ((x : Sheet) → P x → x.kind ≡ n) → kind_at (at p) ≡ n
+pub kind_is : {at : ℕ → Option Sheet} {p : ℕ} {P : Sheet → Type 0} (n : ℕ) → HasAt at p P → ((x : Sheet) → P x → x.kind ≡ n) → kind_at (at p) ≡ n
 kind_is n h f = ap kind_at h.is ∙ f h.what h.has
 
 module _ {space : Space} {s : Contents} (h : IsContents space s) where

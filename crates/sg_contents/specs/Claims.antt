@@ -16,7 +16,7 @@ use Rattle.sg_space.specs.View.{Space}
 use Rattle.sg_contents.specs.Changes.{with_body, BodyTurns, BodyMade, BodyGone, AreWithin}
 use Rattle.sg_contents.specs.Limits.{limit, BodyLimits}
 use Rattle.sg_contents.specs.Meaning.{map_of, thing_of, thing_at, tomb_at, tomb_in, reading, IsCounted}
-use Rattle.sg_contents.specs.Standing.{Body, Contents, Holds, IsContents, IsAmong}
+use Rattle.sg_contents.specs.Standing.{Body, Contents, Holds, IsContents, IsAmong, NoneIsLost}
 
 -- with another catalogue
 abbrev pub with_catalog : Catalog → Contents → Contents
@@ -119,6 +119,10 @@ MadeIsCounted = (old mid new : Space) (s : Contents) (row : Row) (b : Body) (c :
 abbrev pub UnmadeIsCounted : Type 0
 UnmadeIsCounted = (old mid new : Space) (s : Contents) (row : Row) (c : Catalog) → IsCounted old s → Turns old mid s.catalog c
     → IsOneMore row (rows c) (rows s.catalog) → BodyGone mid new row.root.0 (s.body row.root.0) → IsCounted new (with_catalog c s)
+
+-- So nothing is taken that isn't reached, but for the map's bands: where as much isn't free as they and the contents have
+abbrev pub NothingIsLost : Type 0
+NothingIsLost = (space : Space) (s : Contents) → IsContents space s → IsCounted space s → IsExact space.pages → IsExact space.bands → NoneIsLost space s
 
 -- HOW MANY SLOTS a page may have. Each page of a body has the limit of what it is to the body,
 abbrev pub BodyIsLimited : Type 0
