@@ -12,8 +12,10 @@
 
 mod engine;
 mod fault;
+mod laws;
 mod store;
 
 pub use engine::{Engine, Objects};
 pub use fault::{Needed, ObjFault, Refused};
+pub use laws::breaks_dont_count;
 pub use store::Store;
