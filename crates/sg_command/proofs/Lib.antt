@@ -2,3 +2,4 @@ pub mod Keys
 pub mod Apps
 pub mod Values
 pub mod Simple
+pub mod Taken

@@ -1,5 +1,5 @@
 -- What the words of the command line ask for.
-use Rattle.std.specs.Prelude.{ℕ, ◌&&◌, nat_le, is_some, if◌then◌else◌, List, String, codes, string_bytes, map, Option, Some, None, option_map, option_and_then}
+use Rattle.std.specs.Prelude.{◌==◌, Bool, false, not, [], ◌∷◌, ℕ, ◌&&◌, nat_le, is_some, if◌then◌else◌, List, String, codes, string_bytes, map, Option, Some, None, option_map, option_and_then}
 use Rattle.std.specs.Str.{bytes_eq}
 use Rattle.std.specs.declared.alloc.Global.{Global}
 use Rattle.clap.specs.Walk.{is_empty}
@@ -42,6 +42,11 @@ asked words =
     if is_empty (fault_of stasis_app words)
     then option_and_then (λ p. asked_of p.0 p.1) (subcommand_of stasis_app words)
     else None
+
+-- a word that has a byte, and begins with no minus
+abbrev pub begins_plain : Text → Bool
+begins_plain [] = false
+begins_plain (x ∷ rest) = not (x == 45)
 
 -- the bytes of each word
 abbrev pub texts_of : List (String Global) → List Text

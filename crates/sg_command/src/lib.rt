@@ -4,9 +4,11 @@
 //! command that `clap` reads them by, and that a text says exactly the sizes of the TOML document that it is; want of memory aside.
 #![tactic(auto)]
 
+mod law;
 mod line;
 mod sizes;
 mod words;
 
+pub use law::written_words_are_taken;
 pub use sizes::{GeometryError, parse_geometry};
 pub use words::{Command, Paths, WordsError, read_command, read_paths};
