@@ -1,6 +1,7 @@
 pub mod Changes
 pub mod Records
 pub mod Ranges
+pub mod Texts
 pub mod Reading
 pub mod Shown
 pub mod Plain

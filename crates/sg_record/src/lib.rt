@@ -7,6 +7,7 @@
 #![tactic(auto)]
 
 mod bodies;
+mod fits;
 mod kind;
 pub mod plain;
 mod ranges;
@@ -15,6 +16,7 @@ mod record;
 mod says;
 mod writer;
 
+pub use fits::is_record;
 pub use reader::decode;
 pub use record::{BandBytes, BandOp, Change, PageChange, Rec, RecError};
 pub use writer::{encode, size};

@@ -133,7 +133,7 @@ fn change_size(change: &Change<'_>) -> usize
 }
 
 // How many bytes stand behind the header.
-fn body_size(says: &Says<'_>) -> usize
+pub(crate) fn body_size(says: &Says<'_>) -> usize
     requires { length (body_of (shown_says says.now)) < 2 ^ 64 }
     ensures { result ≡ length (body_of (shown_says says.now)) }
 {

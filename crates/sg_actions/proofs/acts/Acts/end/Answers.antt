@@ -1,0 +1,35 @@
+use Rattle.std.proofs.Common.{◌≡◌, sym, ap, ◌∙◌, List, length, refl}
+use Rattle.sg_actions.proofs.Closing.{closed, done_appends, has_gone, fails, no_row}
+use Rattle.sg_actions.proofs.InRange.{end_in}
+use Rattle.sg_actions.proofs.Placing.{front_is, length-placed}
+use Rattle.sg_actions.specs.Rows.{last_in, placed}
+use Rattle.sg_actions.specs.Ending.{vacant}
+use Rattle.sg_actions.specs.declared.rows.Row.{Row}
+use Rattle.sg_record.specs.Records.Says.{End as SaysEnd}
+use Rattle.sg_record.specs.Shown.{by}
+use Rattle.sg_recovery.specs.Log.Record.{End}
+use Rattle.sg_actions.proofs.acts.Acts.end.Goals as goal
+
+pub log-requires-clause-range : goal.log-requires-clause-range
+log-requires-clause-range g c = end_in _ _ c.is_number.ensures c.is_number-2.ensures
+
+pub returns-clause-did : goal.returns-clause-did
+returns-clause-did g c =
+    let txn = c.args.txn in
+    let row : Row = vacant in
+    let long : length c.place.new.rows ≡ c.args.self.now.rows.len = ap length c.place.ensures ∙ (length-placed c.as_mut_slice.result.now txn.0 row ∙ c.as_mut_slice.ensures.len) in
+    let rows = front_is c.args.self.now.rows.len c.place.new.rows _ long ∙ (c.place.ensures ∙ ap (λ (rs : List Row). placed rs txn.0 row) c.as_mut_slice.ensures.value) in
+    let was = sym (ap (λ (rs : List Row). last_in rs c.args.txn.0) c.as_slice.ensures.value) ∙ (sym c.last_in.ensures ∙ c.in-Some.is) in
+    closed g.E.Engine.table g.E.Engine.limits (g.E.Engine.view c.args.self.now.engine) (g.E.Engine.view c.log.new.self) c.args.self.now.maps c.args.self.now.unfreed c.args.self.now.rows.items _ c.args.self.now.actor txn c.in-Some.prev c.in_ok-log.field-0 c.requires was c.in_ok-log.ensures.logs.did rows
+
+pub returns-clause-appends : goal.returns-clause-appends
+returns-clause-appends g c =
+    let was = sym (ap (λ (rs : List Row). last_in rs c.args.txn.0) c.as_slice.ensures.value) ∙ (sym c.last_in.ensures ∙ c.in-Some.is) in
+    done_appends g.E.Engine.recovers g.E.Engine.table g.E.Engine.limits (g.E.Engine.view c.args.self.now.engine) (g.E.Engine.view c.log.new.self) c.args.self.now.maps c.args.self.now.unfreed c.args.self.now.rows.items c.args.self.now.actor c.args.txn.0 c.in-Some.prev _ c.requires was c.in_ok-log.ensures.logs
+    (has_gone (g.E.Engine.view c.args.self.now.engine) (g.E.Engine.view c.log.new.self) (by c.args.txn.0 c.in-Some.prev SaysEnd) (End c.args.txn.0 c.in-Some.prev) c.in_ok-log.field-0 refl c.in_ok-log.ensures.logs.did c.in_ok-log.ensures.logs.counts.told)
+
+pub returns-in_err-log-clause-appends : goal.returns-in_err-log-clause-appends
+returns-in_err-log-clause-appends g c =
+    let was = sym (ap (λ (rs : List Row). last_in rs c.args.txn.0) c.as_slice.ensures.value) ∙ (sym c.last_in.ensures ∙ c.in-Some.is) in
+    done_appends g.E.Engine.recovers g.E.Engine.table g.E.Engine.limits (g.E.Engine.view c.args.self.now.engine) (g.E.Engine.view c.log.new.self) c.args.self.now.maps c.args.self.now.unfreed c.args.self.now.rows.items c.args.self.now.actor c.args.txn.0 c.in-Some.prev _ c.requires was c.in_err-log.ensures.logs
+    (λ told. fails (g.E.Engine.view c.log.new.self) (λ z. g.met.E.Engine.told_whole _ z) c.in_err-log.ensures.logs.counts.failed told)

@@ -1,0 +1,36 @@
+use Rattle.std.proofs.Common.{◌≡◌, ℕ, ◌≤◌, Bool, true, false, refl, arith}
+use Rattle.std.specs.Bool.{MatchBool}
+use Rattle.sg_actions.proofs.Reverting.{reverts}
+use Rattle.sg_actions.proofs.Calling.{later_log}
+use Rattle.sg_actions.proofs.InRange.{format_in}
+use Rattle.sg_actions.proofs.Writing.{shows_write}
+use Rattle.sg_actions.proofs.Freeing.{shows_free}
+use Rattle.sg_actions.proofs.Ended.{action_ended}
+use Rattle.sg_actions.proofs.Beginning.{begun_is}
+use Rattle.sg_actions.proofs.Offing.{took_off}
+use Rattle.sg_actions.proofs.Finishing.{all_off_now}
+use Rattle.sg_actions.proofs.laws.fresh_is_chained.Goals as goal
+
+no : false ≡ true → ⊥
+no e = cc
+
+pub returns : goal.returns
+returns c = λ base tail some low. record {
+  running = record {
+    log = record { above = tt; owned = tt; chained = tt; system = tt; between = tt; straight = tt; one_action = record { one = λ t u f g. absurd (f refl); whose = λ t f. absurd (f refl) } };
+    based = low;
+    below = some;
+    system = refl;
+    owned = tt;
+    last_is = λ e. absurd (no e);
+    before_is = λ e. absurd (no e);
+    system_is = λ e. (refl, refl);
+    acting = λ ne. absurd (ne refl);
+    alone = λ u ne. refl;
+    linked = tt;
+    before_low = omega (arith, some);
+  };
+  rows_are = record { own = λ ne. absurd (ne refl); low = λ u far. refl; others = λ u ne e. absurd (no e) };
+  closed = refl;
+  at = refl;
+}

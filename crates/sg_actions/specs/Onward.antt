@@ -1,0 +1,168 @@
+-- The laws of the relation that a space over an engine hands through every call: of no call, and of one after another.
+use Rattle.std.proofs.Common.{◌≡◌, ℕ, ◌+◌, ◌<◌, ◌≤◌, List, [], ◌∷◌, ◌++◌, Bool, true, false, sym, ap, subst, ◌∙◌, refl, append_assoc, arith}
+use Rattle.std.specs.Prelude.{map, Result, Ok, Err, OnOk, OnErr, IfOk}
+use Rattle.sg_alloc.specs.declared.maps.Maps.{Maps}
+use Rattle.sg_ops.specs.Laws.{IsLawful}
+use Rattle.sg_ops.specs.Table.{Table}
+use Rattle.sg_record.specs.Changes.{Change as Changing}
+use Rattle.sg_record.specs.Records.Says.{Changed as SaysChanged}
+use Rattle.sg_record.specs.Shown.{by}
+use Rattle.sg_base.specs.declared.numbers.TxnId.{TxnId}
+use Rattle.sg_space.specs.declared.space.SpaceFault.{SpaceFault}
+use Rattle.sg_recovery.specs.Chains.{next_lsn}
+use Rattle.sg_recovery.specs.Formed.{IsLog}
+use Rattle.sg_recovery.specs.Log.{tally, changes_of}
+use Rattle.sg_recovery.specs.Log.Record.{Change}
+use Rattle.sg_action.specs.Opened.{TakesTo}
+use Rattle.sg_action.specs.States.{State, Kept}
+use Rattle.sg_actions.specs.Acting.{IsChained}
+use Rattle.sg_actions.specs.Changes.{meaning}
+use Rattle.sg_actions.specs.Engine.{EngineView, Logged, HasLogged, Logs, Stays, HasStayed, EngineLooks, Moments, StandsNow}
+use Rattle.sg_actions.specs.Images.{Grows, Recovering}
+use Rattle.sg_actions.specs.Later.{At, at_kept, kept_at, begin_at, AreChanges, HasGone, Went, Later}
+use Rattle.sg_actions.specs.Steps.{Step, Steps, stepped, opened, begin_of, repeated}
+use Rattle.sg_actions.specs.Taken.{kept_of}
+use Rattle.sg_actions.specs.TakingOff.{IsRunning, AreRows}
+use Rattle.sg_actions.specs.View.{IsActing, IsKept}
+use Rattle.sg_actions.specs.declared.rows.Actor.{Actor}
+use Rattle.sg_actions.specs.declared.rows.Row.{Row}
+use Rattle.sg_actions.specs.Growing.{grows_same, grows_by, grows_then, moments_then, moments_same, moments_stop}
+
+no : {P : Type 0} (b : Bool) → b ≡ true → b ≡ false → P
+no b t f = absurd cc
+
+-- WHO ACTS, at a later tail
+running_later : {base : ℕ} {rs : Steps} {tail next : ℕ} {actor : Actor} → tail ≤ next → IsRunning base rs tail actor → IsRunning base rs next actor
+running_later {base} {rs} {tail} {next} {actor} le h = record {
+  log = h.log;
+  based = omega (arith, h.based, le);
+  below = omega (arith, h.below, le);
+  system = h.system;
+  owned = h.owned;
+  last_is = h.last_is;
+  before_is = h.before_is;
+  system_is = h.system_is;
+  acting = h.acting;
+  alone = h.alone;
+  linked = h.linked;
+  before_low = omega (arith, h.before_low, le);
+}
+
+rows_later : {rs : Steps} {tail next : ℕ} {rows : List Row} {actor : Actor} → tail ≤ next → AreRows rs tail rows actor → AreRows rs next rows actor
+rows_later {rs} {tail} {next} {rows} {actor} le h = record { own = h.own; low = λ u far. h.low u (omega (arith, far, le)); others = h.others }
+
+chain_later : {base : ℕ} {rs : Steps} {tail next : ℕ} {rows : List Row} {actor : Actor} → IsChained base rs tail rows actor → tail ≤ next → IsChained base rs next rows actor
+chain_later {base} {rs} {tail} {next} {rows} {actor} h le = record { running = running_later le h.running; rows_are = rows_later le h.rows_are; closed = h.closed; at = h.at }
+
+-- the same, of a log that is this
+pub acting_to : {t : Table} {limits : State → ℕ → ℕ} {base base' : ℕ} {first first' : State} {rs rs' : Steps} {tail : ℕ} {pages bands : List Bool} {rows : List Row} {actor : Actor} → base' ≡ base → first' ≡ first → rs' ≡ rs
+    → IsActing t limits base first rs tail pages bands rows actor → IsActing t limits base' first' rs' tail pages bands rows actor
+acting_to {t} {limits} {base} {base'} {first} {first'} {rs} {rs'} {tail} {pages} {bands} {rows} {actor} e f g h =
+    subst (λ (b : ℕ). IsActing t limits b first' rs' tail pages bands rows actor) (sym e)
+    (subst (λ (x : State). IsActing t limits base x rs' tail pages bands rows actor) (sym f)
+    (subst (λ (xs : Steps). IsActing t limits base first xs tail pages bands rows actor) (sym g) h))
+
+-- and at a later tail
+pub acting_later : {t : Table} {limits : State → ℕ → ℕ} {base : ℕ} {first : State} {rs : Steps} {tail next : ℕ} {pages bands : List Bool} {rows : List Row} {actor : Actor} → tail ≤ next
+    → IsActing t limits base first rs tail pages bands rows actor → IsActing t limits base first rs next pages bands rows actor
+acting_later le h = record { chain = chain_later h.chain le; well = h.well }
+
+-- changes behind changes
+pub changes_then : (t : Table) (kept : Kept) (begin first : State) (txn : ℕ) (more made log : Steps) → AreChanges t kept begin first txn made log → AreChanges t kept begin first txn more (made ++ log) → AreChanges t kept begin first txn (more ++ made) log
+changes_then t kept begin first txn [] made log h k = h
+changes_then t kept begin first txn (r ∷ more) made log h k =
+    let e : more ++ (made ++ log) ≡ (more ++ made) ++ log = sym (append_assoc more made log) in (
+      k.0,
+      subst (λ (rs : Steps). next_lsn rs ≤ r.lsn) e k.1,
+      subst (λ (rs : Steps). TakesTo t kept begin (map meaning (changes_of (tally (r ∷ rs)).opened)) (repeated t first (r ∷ rs))) e k.2,
+      changes_then t kept begin first txn more made log h k.3,
+    )
+
+abbrev pub at : EngineView → Maps → List Row → Actor → (begun : Bool) → At
+at e maps rows actor begun = record { engine = e; maps = maps; rows = rows; actor = actor; begun = begun }
+
+-- a call that appends nothing
+pub went_rest : (recovers : Recovering) (t : Table) (limits : State → ℕ → ℕ) (e e' : EngineView) (maps : Maps) (rows : List Row) (actor : Actor) (begun : Bool) → IsKept t limits e maps rows actor → Moments recovers t e e' e.steps
+    → (e'.failed ≡ false → e'.Told × Stays e e') → Went recovers t limits (at e maps rows actor begun) (at e' maps rows actor begun)
+went_rest recovers t limits e e' maps rows actor begun k m g = record {
+  made = [];
+  rests = λ o. refl;
+  are = tt;
+  formed = k.chain.running.log;
+  moments = m;
+  gone = λ w. let s = (g w).1 in record {
+    told = (g w).0;
+    kept = acting_to s.base s.first s.steps (acting_later s.tail k);
+    base = s.base;
+    first = s.first;
+    steps = s.steps;
+    durable = s.durable;
+    txn = refl;
+    before = refl;
+    rows = refl;
+    same = λ j. kept_of limits maps.pages maps.bands (begin_of t (s.first j) (s.steps j)) (opened (s.steps j));
+    begin = λ j. begin_of t (s.first j) (s.steps j);
+  };
+}
+
+-- ONE RUN BEHIND ANOTHER
+pub went_then : (recovers : Recovering) (t : Table) (limits : State → ℕ → ℕ) (a b c : At) → Went recovers t limits a b → b.begun ≡ a.begun → (b.engine.failed ≡ true → (c.engine.failed ≡ true) × (c.engine.disk ≡ b.engine.disk))
+    → (b.engine.Told → at_kept t limits b → Went recovers t limits b c) → Went recovers t limits a c
+went_then recovers t limits a b c w same_open stops next = by_failed b.engine.failed refl
+  where
+    went_on : (h : HasGone t limits a b w.made) → Went recovers t limits b c → Went recovers t limits a c
+    went_on h n =
+        let all : n.made ++ b.engine.steps ≡ (n.made ++ w.made) ++ a.engine.steps = ap (λ (xs : Steps). n.made ++ xs) h.steps ∙ sym (append_assoc n.made w.made a.engine.steps) in
+        record {
+          made = n.made ++ w.made;
+          rests = λ o j. n.rests (same_open ∙ o) j ++ w.rests o j;
+          are = changes_then t (kept_at t limits a) (begin_at t a) a.engine.first a.actor.txn.0 n.made w.made a.engine.steps w.are
+              (subst (λ (q : Kept). AreChanges t q (begin_at t a) a.engine.first a.actor.txn.0 n.made (w.made ++ a.engine.steps)) h.same
+              (subst (λ (x : State). AreChanges t (kept_at t limits b) x a.engine.first a.actor.txn.0 n.made (w.made ++ a.engine.steps)) h.begin
+              (subst (λ (x : State). AreChanges t (kept_at t limits b) (begin_at t b) x a.actor.txn.0 n.made (w.made ++ a.engine.steps)) h.first
+              (subst (λ (u : TxnId). AreChanges t (kept_at t limits b) (begin_at t b) b.engine.first u.0 n.made (w.made ++ a.engine.steps)) h.txn
+              (subst (λ (rs : Steps). AreChanges t (kept_at t limits b) (begin_at t b) b.engine.first b.actor.txn.0 n.made rs) h.steps n.are)))));
+          formed = subst (λ (rs : Steps). IsLog a.engine.base rs) all (subst (λ (k : ℕ). IsLog k (n.made ++ b.engine.steps)) h.base n.formed);
+          moments = moments_then a.engine b.engine c.engine h.first h.durable (record { since = n.made; all = append_assoc n.made w.made a.engine.steps }) w.moments (subst (λ (rs : Steps). Moments recovers t b.engine c.engine rs) all n.moments);
+          gone = λ f. let q = n.gone f in record {
+            told = q.told;
+            kept = q.kept;
+            base = q.base ∙ h.base;
+            first = q.first ∙ h.first;
+            steps = q.steps ∙ all;
+            durable = grows_then h.durable q.durable;
+            txn = q.txn ∙ h.txn;
+            before = q.before ∙ h.before;
+            rows = q.rows ∙ h.rows;
+            same = q.same ∙ h.same;
+            begin = q.begin ∙ h.begin;
+          };
+        }
+
+    by_failed : (f : Bool) → b.engine.failed ≡ f → Went recovers t limits a c
+    by_failed true is =
+        let st = stops is in
+        record { made = w.made; rests = w.rests; are = w.are; formed = w.formed; moments = moments_stop a.engine b.engine c.engine st.1 w.moments; gone = λ f. no c.engine.failed st.0 f }
+    by_failed false is = let h = w.gone is in went_on h (next h.told h.kept)
+
+-- THE LAWS of the relation
+pub later_same : (recovers : Recovering) (own : Table) (limits : State → ℕ → ℕ) (t : Table) (a : At) → (a.engine.Told → StandsNow recovers own a.engine) → Later recovers own limits t a a
+later_same recovers own limits t a stands = record {
+  told = λ h. h;
+  tail = omega arith;
+  faults = omega arith;
+  begun = refl;
+  stops = λ h. (h, refl);
+  goes = λ is law told k. went_rest recovers own limits a.engine a.engine a.maps a.rows a.actor a.begun k (moments_same a.engine (stands told)) (λ w. (told, record { base = refl; first = refl; steps = refl; tail = omega arith; durable = grows_same a.engine.durable }));
+}
+
+pub later_then : (recovers : Recovering) (own : Table) (limits : State → ℕ → ℕ) (t : Table) (a b c : At) → Later recovers own limits t a b → Later recovers own limits t b c → Later recovers own limits t a c
+later_then recovers own limits t a b c f g = record {
+  told = λ h. f.told (g.told h);
+  tail = let x = f.tail in let y = g.tail in omega (arith, x, y);
+  faults = let x = f.faults in let y = g.faults in omega (arith, x, y);
+  begun = g.begun ∙ f.begun;
+  stops = λ h. (let x = f.stops h in let y = g.stops x.0 in (y.0, y.1 ∙ x.1));
+  goes = λ is law told k. went_then recovers own limits a b c (f.goes is law told k) f.begun g.stops (λ told' k'. g.goes is law told' k');
+}
+

@@ -1,0 +1,336 @@
+ghost use Rattle.std.specs.Prelude.{◌≡◌, ◌<◌, ◌≤◌, true, false, length, slice_get, Some, OnErr, OnOk, IfOk, IfErr, IsTrue};
+ghost use Rattle.sg_base.specs.Ends.{HasRisen};
+ghost use Rattle.sg_actions.specs.Engine.{now_of};
+ghost use Rattle.sg_actions.specs.Taken.{AreFlags, AreSaid};
+
+use crate::Engine;
+use crate::painting::spell_op;
+use crate::rows::{Actor, Row};
+use crate::spelling::{
+    after_of, code_of, copy_piece, is_number, is_piece, links_of, spell, spell_bytes, take_away,
+};
+use sg_alloc::Maps;
+use sg_base::{BandNo, PAGE_SIZE, PageNo, PageOp, SlotView, TxnId};
+use sg_ops::Ops;
+use sg_record::{Rec, is_record};
+use sg_space::{PageSpace, SpaceFault};
+use sg_step::brings_bytes;
+
+/// Transactions and their actions over an engine, and the pages and bands that they change.
+pub struct Acts<E: Engine> {
+    pub(crate) engine: E,
+    // those that are taken, with those that the open action has freed
+    pub(crate) maps: Maps,
+    // a flag that is clear for each that the open action has freed
+    pub(crate) unfreed: Maps,
+    pub(crate) actor: Actor,
+    // the last record of each transaction but of who acts
+    pub(crate) rows: Vec<Row>,
+    pub(crate) breaks: u64,
+    // an action was begun, and may change pages and bands
+    pub(crate) begun: bool,
+    count: u32,
+    ghost count_is: { count ≡ length maps.pages },
+    ghost few: { count ≤ 1048576 },
+    ghost page_flags: { AreFlags maps.pages unfreed.pages },
+    ghost band_flags: { AreFlags maps.bands unfreed.bands },
+    ghost pages_said: { (E.view engine).Told → AreSaid maps.pages (now_of E.table (E.view engine)).pages },
+}
+
+// One more break is counted.
+pub(crate) fn count_break(breaks: &mut u64) -> SpaceFault
+    ensures answer { result ≡ SpaceFault.Disk }
+    ensures risen { HasRisen breaks.old breaks.new }
+    ensures later { breaks.old ≤ breaks.new }
+{
+    *breaks = breaks.saturating_add(1);
+    SpaceFault::Disk
+}
+
+impl<E: Engine> Acts<E> {
+    ghost use Rattle.std.specs.Prelude.{◌≡◌, IsTrue, IsFalse, Some, ◌≤◌, length};
+    ghost use Rattle.sg_actions.specs.Rows.{at_rest};
+    ghost use Rattle.sg_actions.specs.Taken.{is_there};
+
+    /// Over an engine, with what is taken, nothing freed, and a row for each transaction that goes on or
+    /// may begin. The system acts.
+    pub fn new(engine: E, maps: Maps, unfreed: Maps, rows: Vec<Row>, count: u32) -> Acts<E>
+        requires count { count ≡ length maps.pages }
+        requires few { count ≤ 1048576 }
+        requires pages { AreFlags maps.pages unfreed.pages }
+        requires bands { AreFlags maps.bands unfreed.bands }
+        requires said { (E.view engine).Told → AreSaid maps.pages (now_of E.table (E.view engine)).pages }
+        ensures engine { result.engine ≡ engine }
+        ensures maps { result.maps ≡ maps }
+        ensures unfreed { result.unfreed ≡ unfreed }
+        ensures rows { result.rows ≡ rows }
+        ensures actor { result.actor ≡ at_rest }
+    {
+        Acts {
+            engine,
+            maps,
+            unfreed,
+            actor: Actor {
+                txn: TxnId(0),
+                last: 0,
+                before: 0,
+            },
+            rows,
+            breaks: 0,
+            begun: false,
+            count,
+        }
+    }
+
+    /// The engine. What the maps and the rows say is said by its log.
+    pub fn into_engine(self) -> E
+        ensures { result ≡ self.engine }
+    {
+        let Acts {
+            engine,
+            maps,
+            unfreed,
+            actor,
+            rows,
+            breaks,
+            begun,
+            count,
+        } = self;
+        drop(maps);
+        drop(unfreed);
+        drop(rows);
+        engine
+    }
+
+    // Whether the page is taken, and the open action hasn't freed it.
+    #[tactic(auto, using(crate::proofs::Flags::set_is))]
+    fn has_page(&self, p: PageNo) -> bool
+        ensures { result ≡ is_there self.now.maps.pages self.now.unfreed.pages p.0 }
+    {
+        self.maps.page_taken(p).unwrap_or(false) && self.unfreed.page_taken(p).unwrap_or(false)
+    }
+
+    // The same of a band.
+    #[tactic(auto, using(crate::proofs::Flags::set_is))]
+    fn has_band(&self, b: BandNo) -> bool
+        ensures { result ≡ is_there self.now.maps.bands self.now.unfreed.bands b.0 }
+    {
+        self.maps.band_taken(b).unwrap_or(false) && self.unfreed.band_taken(b).unwrap_or(false)
+    }
+}
+
+impl<E: Engine> PageSpace for Acts<E> {
+    ghost use Rattle.sg_actions.specs.View.{acts_view};
+    ghost use Rattle.sg_actions.specs.Later.{At, Later};
+    ghost use Rattle.std.specs.Prelude.{◌≡◌, refl};
+    ghost use Rattle.sg_actions.specs.Exact.{units_exact, pages_within, few_there};
+    ghost use Rattle.sg_actions.specs.Onward.{later_same, later_then};
+
+    ghost view = { λ s. acts_view E.table E.limits (E.view s.engine) s.breaks s.maps s.unfreed };
+
+    ghost later = { λ t a b. Later E.recovers E.table E.limits t
+        (record { engine = E.view a.engine; maps = a.maps; rows = a.rows.items; actor = a.actor; begun = a.begun })
+        (record { engine = E.view b.engine; maps = b.maps; rows = b.rows.items; actor = b.actor; begun = b.begun }) };
+
+    ghost means = { λ s t. t ≡ E.table };
+
+    fn broken(&mut self) -> SpaceFault {
+        count_break(&mut self.breaks)
+    }
+
+    fn pages(&self) -> u32 {
+        self.count
+    }
+
+    fn free_pages(&self) -> u32 {
+        self.maps.free_pages() + self.unfreed.free_pages()
+    }
+
+    fn free_bands(&self) -> u32 {
+        self.maps.free_bands() + self.unfreed.free_bands()
+    }
+
+    fn page(&mut self, p: PageNo) -> Result<SlotView<'_>, SpaceFault> {
+        if !self.has_page(p) {
+            return Err(count_break(&mut self.breaks));
+        }
+        self.engine.load(p)?;
+        Ok(self.engine.page(p))
+    }
+
+    fn change(&mut self, ops: &Ops, p: PageNo, op: &PageOp<'_>) -> Result<(), SpaceFault> {
+        if !self.begun {
+            return Err(count_break(&mut self.breaks));
+        }
+        if !self.has_page(p) {
+            return Err(count_break(&mut self.breaks));
+        }
+        let mut before = [0u8; PAGE_SIZE];
+        let mut links = [0u8; 8];
+        self.engine.load(p)?;
+        let Some(size) = take_away(&self.engine.page(p), op, &mut before) else {
+            return Err(count_break(&mut self.breaks));
+        };
+        brings_bytes(op);
+        links_of(op, &mut links);
+        let record = Rec::Page {
+            txn: self.actor.txn,
+            prev: self.actor.last,
+            change: spell(
+                p,
+                code_of(op),
+                &before[..size],
+                after_of(op).unwrap_or(&links),
+            ),
+        };
+        if !is_record(&record) {
+            return Err(count_break(&mut self.breaks));
+        }
+        self.actor.last = self.engine.log_by(ops, &record)?;
+        Ok(())
+    }
+
+    fn take_page(&mut self, kind: u8) -> Result<PageNo, SpaceFault> {
+        if !self.begun {
+            return Err(count_break(&mut self.breaks));
+        }
+        if self.maps.free_pages() == 0 {
+            return Err(count_break(&mut self.breaks));
+        }
+        let p = self.maps.take_page();
+        let kinds = [kind];
+        is_number(self.actor.txn.0);
+        is_number(self.actor.last);
+        let record = Rec::Page {
+            txn: self.actor.txn,
+            prev: self.actor.last,
+            change: spell(p, (1, 0, 0), &[0], &kinds),
+        };
+        self.actor.last = self.engine.log(&record)?;
+        Ok(p)
+    }
+
+    fn free_page(&mut self, p: PageNo) -> Result<(), SpaceFault> {
+        if !self.has_page(p) {
+            return Err(count_break(&mut self.breaks));
+        }
+        self.unfreed.free_page(p);
+        Ok(())
+    }
+
+    fn band(&mut self, b: BandNo) -> Result<&[u8], SpaceFault> {
+        if !self.has_band(b) {
+            return Err(count_break(&mut self.breaks));
+        }
+        self.engine.load_band(b)?;
+        Ok(self.engine.band(b))
+    }
+
+    fn write_band(&mut self, b: BandNo, at: u32, bytes: &[u8]) -> Result<(), SpaceFault> {
+        if !self.begun {
+            return Err(count_break(&mut self.breaks));
+        }
+        if !self.has_band(b) {
+            return Err(count_break(&mut self.breaks));
+        }
+        let count = bytes.len();
+        if !is_piece(at, count) {
+            return Err(count_break(&mut self.breaks));
+        }
+        let mut before = [0u8; 8192];
+        let stood = &mut before[..count];
+        self.engine.load_band(b)?;
+        copy_piece(self.engine.band(b), at, count, stood);
+        let record = Rec::SegWrite {
+            txn: self.actor.txn,
+            prev: self.actor.last,
+            change: spell_bytes(b, at, count as u32, stood, bytes),
+        };
+        if !is_record(&record) {
+            return Err(count_break(&mut self.breaks));
+        }
+        self.actor.last = self.engine.log(&record)?;
+        Ok(())
+    }
+
+    fn paint_band(
+        &mut self,
+        ops: &Ops,
+        b: BandNo,
+        at: u32,
+        count: u32,
+        code: u16,
+        position: u32,
+        arg: &[u8],
+    ) -> Result<(), SpaceFault> {
+        if !self.begun {
+            return Err(count_break(&mut self.breaks));
+        }
+        if !self.has_band(b) {
+            return Err(count_break(&mut self.breaks));
+        }
+        if count > 8_192 {
+            return Err(count_break(&mut self.breaks));
+        }
+        if !is_piece(at, count as usize) {
+            return Err(count_break(&mut self.breaks));
+        }
+        let mut before = [0u8; 8192];
+        let stood = &mut before[..count as usize];
+        self.engine.load_band(b)?;
+        copy_piece(self.engine.band(b), at, count as usize, stood);
+        let record = Rec::SegOp {
+            txn: self.actor.txn,
+            prev: self.actor.last,
+            change: spell_op(b, at, count, code, position, arg, stood),
+        };
+        if !is_record(&record) {
+            return Err(count_break(&mut self.breaks));
+        }
+        self.actor.last = self.engine.log_by(ops, &record)?;
+        Ok(())
+    }
+
+    fn take_band(&mut self) -> Result<BandNo, SpaceFault> {
+        if !self.begun {
+            return Err(count_break(&mut self.breaks));
+        }
+        if self.maps.free_bands() == 0 {
+            return Err(count_break(&mut self.breaks));
+        }
+        // a record has room for fewer bands
+        if self.maps.band_taken(BandNo(65_536)).is_some() {
+            return Err(count_break(&mut self.breaks));
+        }
+        let b = self.maps.take_band();
+        self.fill(b, 0)?;
+        let mut at = 8_192;
+        'fills: while at < 32_768 {
+            self.fill(b, at)?;
+            at += 8_192;
+        }
+        Ok(b)
+    }
+
+    fn free_band(&mut self, b: BandNo) -> Result<(), SpaceFault> {
+        if !self.has_band(b) {
+            return Err(count_break(&mut self.breaks));
+        }
+        self.unfreed.free_band(b);
+        Ok(())
+    }
+
+    ghost later_same = { λ t s. later_same E.recovers E.table E.limits t _ (λ told. E.images s.engine told) };
+
+    ghost later_then = { λ t a b c f g. later_then E.recovers E.table E.limits t _ _ _ f g };
+
+    ghost told_shows = { λ s t. t };
+
+    ghost few_pages = { λ s t. few_there s.maps.pages s.few s.count_is };
+
+    ghost pages_fit = { λ s t p sheet is. pages_within s.maps.pages s.unfreed.pages _ (E.pages_fit s.engine t) p sheet is };
+
+    ghost pages_exact = { λ s t. units_exact s.maps.pages s.unfreed.pages _ s.page_flags (s.pages_said t) };
+
+    ghost bands_exact = { λ s t. units_exact s.maps.bands s.unfreed.bands _ s.band_flags (λ n h. refl) };
+}

@@ -1,0 +1,91 @@
+// The records of a transaction that are outside of its actions: marks, its commit and its end.
+use crate::acts::count_break;
+use crate::rows::{Row, last_in, place};
+use crate::spelling::is_number;
+use crate::{Acts, Engine};
+use sg_base::{Lsn, TxnId};
+use sg_record::Rec;
+use sg_space::SpaceFault;
+
+impl<E: Engine> Acts<E> {
+    ghost use Rattle.std.specs.Prelude.{◌≡◌, IfOk, OnOk};
+    ghost use Rattle.sg_recovery.specs.Log.Record.{Save, Commit, End};
+    ghost use Rattle.sg_actions.specs.Counts.{ActsCounts, MayAppend};
+    ghost use Rattle.sg_actions.specs.Ending.{CanMark, IsMark, Marked, Committed, CanClose, Closed};
+    ghost use Rattle.sg_actions.specs.View.{IsKept};
+
+    /// Sets a mark of a transaction, to which it can be rolled back, and answers the number of its record.
+    pub fn save(&mut self, txn: TxnId, mark: u16) -> Result<Lsn, SpaceFault>
+        requires can { CanMark (E.view self.old.engine) self.old.unfreed self.old.rows.items self.old.actor txn.0 }
+        requires mark { IsMark mark }
+        ensures counts { ActsCounts (E.view self.old.engine) (E.view self.new.engine) self.old.breaks self.new.breaks result }
+        ensures did { IfOk result (Marked E.table E.limits (E.view self.old.engine) (E.view self.new.engine) self.old.maps self.old.rows.items self.new.rows.items self.old.actor txn mark) }
+        ensures maps { self.new.maps ≡ self.old.maps }
+        ensures unfreed { self.new.unfreed ≡ self.old.unfreed }
+        ensures actor { self.new.actor ≡ self.old.actor }
+        ensures begun { self.new.begun ≡ self.old.begun }
+        // also of a call that fails
+        ensures appends { (E.view self.old.engine).Told → IsKept E.table E.limits (E.view self.old.engine) self.old.maps self.old.rows.items self.old.actor →
+            MayAppend E.recovers E.table (E.view self.old.engine) (E.view self.new.engine) self.old.rows.items txn.0 (λ last. Save txn.0 last mark) }
+    {
+        let Some(prev) = last_in(self.rows.as_slice(), txn) else {
+            return Err(count_break(&mut self.breaks));
+        };
+        is_number(txn.0);
+        is_number(prev);
+        let lsn = self.engine.log(&Rec::Save { txn, prev, mark })?;
+        place(self.rows.as_mut_slice(), txn, Row { txn, last: lsn });
+        Ok(lsn)
+    }
+
+    /// Commits a transaction: at `Ok` its commit and all records before it are durable. It has a row until
+    /// it ends.
+    pub fn commit(&mut self, txn: TxnId) -> Result<(), SpaceFault>
+        requires { CanMark (E.view self.old.engine) self.old.unfreed self.old.rows.items self.old.actor txn.0 }
+        ensures counts { ActsCounts (E.view self.old.engine) (E.view self.new.engine) self.old.breaks self.new.breaks result }
+        ensures did { OnOk result (Committed E.table E.limits (E.view self.old.engine) (E.view self.new.engine) self.old.maps self.old.rows.items self.new.rows.items self.old.actor txn) }
+        ensures maps { self.new.maps ≡ self.old.maps }
+        ensures unfreed { self.new.unfreed ≡ self.old.unfreed }
+        ensures actor { self.new.actor ≡ self.old.actor }
+        ensures begun { self.new.begun ≡ self.old.begun }
+        // also of a call that fails
+        ensures appends { (E.view self.old.engine).Told → IsKept E.table E.limits (E.view self.old.engine) self.old.maps self.old.rows.items self.old.actor →
+            MayAppend E.recovers E.table (E.view self.old.engine) (E.view self.new.engine) self.old.rows.items txn.0 (λ last. Commit txn.0 last) }
+    {
+        let Some(prev) = last_in(self.rows.as_slice(), txn) else {
+            return Err(count_break(&mut self.breaks));
+        };
+        is_number(txn.0);
+        is_number(prev);
+        let lsn = self.engine.log(&Rec::Commit { txn, prev })?;
+        place(self.rows.as_mut_slice(), txn, Row { txn, last: lsn });
+        self.engine.force()
+    }
+
+    /// Ends a transaction that has committed, or of which all is undone. Its row is vacant then.
+    pub fn end(&mut self, txn: TxnId) -> Result<(), SpaceFault>
+        requires { CanClose (E.view self.old.engine) self.old.unfreed self.old.rows.items self.old.actor txn.0 }
+        ensures counts { ActsCounts (E.view self.old.engine) (E.view self.new.engine) self.old.breaks self.new.breaks result }
+        ensures did { OnOk result (Closed E.table E.limits (E.view self.old.engine) (E.view self.new.engine) self.old.maps self.old.rows.items self.new.rows.items self.old.actor txn) }
+        ensures maps { self.new.maps ≡ self.old.maps }
+        ensures unfreed { self.new.unfreed ≡ self.old.unfreed }
+        ensures actor { self.new.actor ≡ self.old.actor }
+        ensures begun { self.new.begun ≡ self.old.begun }
+        // also of a call that fails
+        ensures appends { (E.view self.old.engine).Told → IsKept E.table E.limits (E.view self.old.engine) self.old.maps self.old.rows.items self.old.actor →
+            MayAppend E.recovers E.table (E.view self.old.engine) (E.view self.new.engine) self.old.rows.items txn.0 (λ last. End txn.0 last) }
+    {
+        let Some(prev) = last_in(self.rows.as_slice(), txn) else {
+            return Err(count_break(&mut self.breaks));
+        };
+        is_number(txn.0);
+        is_number(prev);
+        self.engine.log(&Rec::End { txn, prev })?;
+        let vacant = Row {
+            txn: TxnId(0),
+            last: 0,
+        };
+        place(self.rows.as_mut_slice(), txn, vacant);
+        Ok(())
+    }
+}

@@ -1,0 +1,124 @@
+// Transactions and the ends of their actions.
+ghost use Rattle.std.specs.Prelude.{◌≡◌, ◌<◌, ◌≤◌, length, IfOk, OnOk};
+
+use crate::rows::{Actor, Row, keep_row, last_in, place};
+use crate::settling::{settle_bands, settle_pages};
+use crate::spelling::is_number;
+use crate::{Acts, Engine};
+use sg_base::{Lsn, TxnId};
+use sg_record::Rec;
+use sg_space::{SpaceFault, UndoNote};
+
+impl<E: Engine> Acts<E> {
+    ghost use Rattle.std.specs.Prelude.{◌≡◌, true, false, IfOk, OnOk};
+    ghost use Rattle.sg_actions.specs.Engine.{EngineCounts, EngineLooks, IsForced};
+    ghost use Rattle.sg_actions.specs.Calls.{Appends, CanBegin, Begun, CanAct, NowActs, CanEnd, ActionEnded};
+    ghost use Rattle.sg_actions.specs.View.{IsKept};
+    ghost use Rattle.sg_recovery.specs.Log.Record.{Begin, TopEnd};
+
+    /// The number of the log's next byte.
+    pub fn tail(&self) -> Lsn
+        ensures { result ≡ (E.view self.now.engine).tail }
+    {
+        self.engine.tail()
+    }
+
+    /// Makes the log durable, and writes each changed page and band home.
+    pub fn flush(&mut self) -> Result<(), SpaceFault>
+        ensures looks { EngineLooks E.recovers E.table (E.view self.old.engine) (E.view self.new.engine) result }
+        ensures forced { OnOk result (IsForced (E.view self.new.engine)) }
+        ensures kept { OnOk result ((E.view self.old.engine).Told → IsKept E.table E.limits (E.view self.old.engine) self.old.maps self.old.rows.items self.old.actor →
+            IsKept E.table E.limits (E.view self.new.engine) self.new.maps self.new.rows.items self.new.actor) }
+        ensures maps { self.new.maps ≡ self.old.maps }
+        ensures unfreed { self.new.unfreed ≡ self.old.unfreed }
+        ensures begun { self.new.begun ≡ self.old.begun }
+        ensures breaks { self.new.breaks ≡ self.old.breaks }
+    {
+        self.engine.flush()?;
+        Ok(())
+    }
+
+    /// Begins a transaction, whose number is that of its record.
+    pub fn begin(&mut self) -> Result<TxnId, SpaceFault>
+        requires { CanBegin (E.view self.old.engine) self.old.unfreed self.old.rows.items self.old.actor }
+        ensures counts { EngineCounts (E.view self.old.engine) (E.view self.new.engine) result }
+        ensures did { IfOk result (Begun E.table E.limits (E.view self.old.engine) (E.view self.new.engine) self.old.maps self.old.rows.items self.new.rows.items self.old.actor) }
+        ensures maps { self.new.maps ≡ self.old.maps }
+        ensures unfreed { self.new.unfreed ≡ self.old.unfreed }
+        ensures actor { self.new.actor ≡ self.old.actor }
+        ensures begun { self.new.begun ≡ self.old.begun }
+        ensures breaks { self.new.breaks ≡ self.old.breaks }
+        // also of a call that fails
+        ensures appends { (E.view self.old.engine).Told → IsKept E.table E.limits (E.view self.old.engine) self.old.maps self.old.rows.items self.old.actor →
+            Appends E.recovers E.table (E.view self.old.engine) (E.view self.new.engine) (Begin (E.view self.new.engine).tried 0) }
+    {
+        let txn = TxnId(
+            self.engine.next(&Rec::Begin {
+                txn: TxnId(0),
+                prev: 0,
+            }),
+        );
+        self.engine.log(&Rec::Begin { txn, prev: 0 })?;
+        place(self.rows.as_mut_slice(), TxnId(0), Row { txn, last: txn.0 });
+        Ok(txn)
+    }
+
+    /// The transaction acts, or the system, which is 0: the records that follow are its.
+    pub fn act(&mut self, txn: TxnId)
+        requires { CanAct (E.view self.old.engine) self.old.unfreed self.old.rows.items self.old.actor txn.0 }
+        ensures acts { NowActs E.table E.limits (E.view self.old.engine) self.old.maps self.old.rows.items self.old.actor self.new.actor txn.0 }
+        ensures engine { self.new.engine ≡ self.old.engine }
+        ensures maps { self.new.maps ≡ self.old.maps }
+        ensures unfreed { self.new.unfreed ≡ self.old.unfreed }
+        ensures begun { self.new.begun ≡ true }
+        ensures breaks { self.new.breaks ≡ self.old.breaks }
+        ensures rows { self.new.rows.items ≡ self.old.rows.items }
+    {
+        self.begun = true;
+        if txn.0 == 0 {
+            return;
+        }
+        if let Some(last) = last_in(self.rows.as_slice(), txn) {
+            self.actor = Actor {
+                txn,
+                last,
+                before: last,
+            };
+        }
+    }
+
+    /// Ends the action of who acts, with a note that says how it is undone. No action is open then, and
+    /// the system acts.
+    pub fn end_action(&mut self, txn: TxnId, note: &UndoNote) -> Result<(), SpaceFault>
+        requires { CanEnd (E.view self.old.engine) self.old.actor txn.0 }
+        ensures counts { EngineCounts (E.view self.old.engine) (E.view self.new.engine) result }
+        ensures did { OnOk result (ActionEnded E.table E.limits (E.view self.old.engine) (E.view self.new.engine) self.old.maps self.new.maps self.old.unfreed self.new.unfreed self.old.rows.items self.new.rows.items self.old.actor self.new.actor note.now) }
+        ensures begun { OnOk result (self.new.begun ≡ false) }
+        ensures breaks { self.new.breaks ≡ self.old.breaks }
+        // also of a call that fails
+        ensures appends { (E.view self.old.engine).Told → IsKept E.table E.limits (E.view self.old.engine) self.old.maps self.old.rows.items self.old.actor →
+            Appends E.recovers E.table (E.view self.old.engine) (E.view self.new.engine) (TopEnd self.old.actor.txn.0 self.old.actor.last self.old.actor.before note.now) }
+    {
+        let actor = self.actor;
+        is_number(actor.txn.0);
+        is_number(actor.last);
+        is_number(actor.before);
+        note.size();
+        let lsn = self.engine.log(&Rec::TopEnd {
+            txn: actor.txn,
+            prev: actor.last,
+            undo_next: actor.before,
+            note: note.bytes(),
+        })?;
+        keep_row(&mut self.rows, actor.txn, lsn);
+        self.actor = Actor {
+            txn: TxnId(0),
+            last: 0,
+            before: 0,
+        };
+        self.begun = false;
+        settle_pages(&mut self.maps, &mut self.unfreed);
+        settle_bands(&mut self.maps, &mut self.unfreed);
+        Ok(())
+    }
+}
