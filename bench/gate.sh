@@ -10,31 +10,25 @@
 # proof once more together with them; a check of the crate over which its must-fail edits are tried, and the edits. The tests of a crate
 # of tests are its second column too. What rt itself takes beside the prover, and the tests' runs, are in no row; they are in the last line that it prints.
 #
-# Nothing that another copy of the repository kept on this machine is taken, and nothing is kept for others: rt keeps its work beside
-# the kit, and this works with a kit of its own, made of links. The times are those of user and system of all processes of the prover.
+# It measures from nothing, whatever was kept on this machine (bench/kit.sh). The times are those of user and system of all processes of the prover.
 # A machine whose processors others use too makes each minute count as more than one: compare only what one machine measured.
 set -u
 top="$(cd "$(dirname "$(readlink -f "${BASH_SOURCE[0]}")")/.." && pwd)"
+# shellcheck source=bench/kit.sh
+. "$top/bench/kit.sh"
 room="$(mktemp -d)"
 copy="$room/copy"
 trap 'rm -rf "$room"' EXIT
 export GATE_TIMES="$room/times"
 
-# A kit by links, in which each call of the prover writes down what it took.
-lay_kit() {
-    local kit file
-    kit="$(dirname "$(dirname "$(readlink -f "$(command -v rt)")")")"
-    mkdir -p "$room/rattle/bin"
-    for file in "$kit"/*; do
-        [ "${file##*/}" = bin ] || ln -s "$file" "$room/rattle/"
-    done
-    for file in "$kit"/bin/*; do
-        ln -s "$file" "$room/rattle/bin/"
-    done
-    rm "$room/rattle/bin/"{rt,rtlib.py,rattle}
-    cp -a "$kit/bin/rt" "$kit/bin/rtlib.py" "$room/rattle/bin/"
-    printf '#!/bin/sh\nexec /usr/bin/time -a -o "$GATE_TIMES" -f "%%U %%S %%C" %s "$@"\n' "$kit/bin/rattle" >"$room/rattle/bin/rattle"
-    chmod +x "$room/rattle/bin/rattle"
+# Has each call of the prover write down what it took.
+note_calls() {
+    local rattle="$room/rattle/bin/rattle" real
+    real="$(readlink -f "$rattle")"
+    rm "$rattle"
+    # shellcheck disable=SC2016
+    printf '#!/bin/sh\nexec /usr/bin/time -a -o "$GATE_TIMES" -f "%%U %%S %%C" %s "$@"\n' "$real" >"$rattle"
+    chmod +x "$rattle"
 }
 
 # The files that are measured.
@@ -91,7 +85,8 @@ if [ "${1:-}" = --at ]; then
     commit="$2"
     shift 2
 fi
-lay_kit
+lay_kit "$room"
+note_calls
 lay_files || exit 1
 : >"$GATE_TIMES"
 (cd "$copy" && /usr/bin/time -o "$room/whole" -f '%U %S' "$room/rattle/bin/rt" ci "$@") >"$room/said" 2>&1
