@@ -55,7 +55,7 @@ module _ (t : Operations) where
   down_end x y u e = along (at_log_end x u) y e (λ none. absurd (cc))
 
   pub begin_keeps : (x y : Run) (tail before now : ℕ) (name : List ℕ) (r : Result ℕ Refusal) → Begins tail before now name x r y → UnlessStopped t x → UnlessStopped t y
-  begin_keeps x y tail before now name (Ok n) h k = along (began x n name) y h.3 (λ none. begin_stays t x n name h.1 (k h.0))
+  begin_keeps x y tail before now name (Ok n) h k = along (began x n name) y h.4 (λ none. begin_stays t x n name h.1 (k h.0))
   begin_keeps x y tail before now name (Err Stopped) h k = along x y h.1 k
   begin_keeps x y tail before now name (Err TooManyLive) h k = along x y h.2 k
   begin_keeps x y tail before now name (Err LogEnd) h k = along x y h.3 k

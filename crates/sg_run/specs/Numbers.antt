@@ -47,7 +47,7 @@ pub record IsBroken (before now : ℕ) (x y : Run) : Type 0 where
 
 -- a begin, of a transaction with this name: with the log's tail, and the counts of faults before the call and now
 abbrev pub Begins : (tail before now : ℕ) → (name : List ℕ) → Run → Result ℕ Refusal → Run → Type 0
-Begins tail before now name x (Ok n) y = (x.stopped ≡ None) × (x.so_far.next ≤ n) × (length x.so_far.live < MOST_LIVE) × (y ≡ began x n name)
+Begins tail before now name x (Ok n) y = (x.stopped ≡ None) × (x.so_far.next ≤ n) × (length x.so_far.live < MOST_LIVE) × (tail ≤ NEW_WORK_END) × (y ≡ began x n name)
 Begins tail before now name x (Err Stopped) y = IsSome x.stopped × (y ≡ x)
 Begins tail before now name x (Err TooManyLive) y = (x.stopped ≡ None) × (MOST_LIVE ≤ length x.so_far.live) × (y ≡ x)
 Begins tail before now name x (Err LogEnd) y = (x.stopped ≡ None) × (NEW_WORK_END < tail) × (length x.so_far.live < MOST_LIVE) × (y ≡ x)

@@ -1,6 +1,6 @@
 -- A run of a store over pages with its stock: how much room the objects and what is buried may take, and what each call makes of
 -- that. Of the free pages and bands a call is told; they obey the stock.
-use Rattle.std.specs.Prelude.{◌≡◌, ◌⊎◌, ℕ, ◌+◌, ◌≤◌, ◌==◌, List, [], Result, Ok, Err}
+use Rattle.std.specs.Prelude.{◌≡◌, ◌⊎◌, ℕ, ◌+◌, ◌≤◌, ◌==◌, List, [], None, Result, Ok, Err}
 use Rattle.std.specs.FinMap.{get}
 use Rattle.sg_ops.specs.Table.{Table as Operations}
 use Rattle.sg_model.specs.Objects.{Objects}
@@ -74,7 +74,7 @@ StockAfter t x u op (Err why) r = r ≡ x.stock
 -- an operation in a store of these sizes
 pub record DoesStocked (t : Operations) (z : Sizes) (a : Around) (u : ℕ) (op : Op) (x : Stocked) (r : Result Reply Refusal) (y : Stocked) : Type 0 where
   pub line : Does t a.begin a.tail a.before a.now u op x.run r y.run
-  pub obeys : ObeysStock z a.pages a.bands (stock_now t x)
+  pub obeys : x.run.stopped ≡ None → ObeysStock z a.pages a.bands (stock_now t x)
   pub numbers : AreNumbers t a x op r
   pub stock : StockAfter t x u op r y.stock
 

@@ -158,13 +158,13 @@ module _ (t : Operations) (g : Ground) where
           let low : next_lsn v.log ≤ n = omega (arith, a.above, begin_runs.is_kept.engine.below) in
           begin_logs t g lawful v.first v.durable v.log x n name begin_runs.is_kept.logs low (omega (arith, begin_runs.is_kept.logs.next, low))
 
-      pub begun_goes : (m : Core) → m ≡ record k { live = k.live ++ begun n ∷ [] } → Appended t g v w (record { lsn = n; is = Begin n 0 }) → (u : TxnId) → u.0 ≡ n → Goes t g v x (Begins v.tail v.faults now name x (Ok u)) w m
-      begun_goes m is did u number =
+      pub begun_goes : (m : Core) → m ≡ record k { live = k.live ++ begun n ∷ [] } → Appended t g v w (record { lsn = n; is = Begin n 0 }) → (u : TxnId) → u.0 ≡ n → v.tail ≤ NEW_WORK_END → Goes t g v x (Begins v.tail v.faults now name x (Ok u)) w m
+      begun_goes m is did u number room =
           let none : x.stopped ≡ None = sym s.stopped ∙ no_stop k.stopped e in
           let low : next_lsn v.log ≤ n = omega (arith, a.above, begin_runs.is_kept.engine.below) in
           goes_on v w k m x (began x n name) (Begins v.tail v.faults now name x (Ok u)) s none (no_stop k.stopped e) (ap (λ (c : Core). c.stopped) is ∙ no_stop k.stopped e) none refl refl
           (subst (λ c. Runs t g w c (began x n name)) (sym is) (record { is_kept = begin_kept lawful v w k.live x n name begin_runs.is_kept did begin_logged low; held = begin_runs.held }))
-          (none, omega (arith, begin_runs.is_kept.logs.next, low, number), subst (λ i. i < MOST_LIVE) (count_live v k x s (no_stop k.stopped e)) few, ap (λ (i : ℕ). began x i name) (sym number))
+          (none, omega (arith, begin_runs.is_kept.logs.next, low, number), subst (λ i. i < MOST_LIVE) (count_live v k x s (no_stop k.stopped e)) few, room, ap (λ (i : ℕ). began x i name) (sym number))
           (call_stands v w (record { lsn = n; is = Begin n 0 } ∷ v.log) (began x n name) begin_logged a.moments)
 
       pub begin_breaks : (m : Core) → m ≡ record k { stopped = Some stops.Disk } → HasRisen v.faults now → Goes t g v x (Begins v.tail v.faults now name x (Err refusals.DiskFault)) w m

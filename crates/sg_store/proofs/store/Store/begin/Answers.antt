@@ -20,7 +20,7 @@ returns-in-Ok g c = record {
       let stop = sym c.is_some.ensures ∙ c.if-is_some.false in
       let runs = shows.runs (sym shows.stopped ∙ calls.no_stop t g.E.Engine.basis c.args.self.now.stop stop) in
       let b = c.in-Ok.ensures.begins t runs.is_kept.engine runs.is_kept.idle in
-      calls.begun_goes t g.E.Engine.basis old (core_of c.args.self.now) x name (g.E.Engine.view c.begin.new.self).faults shows lawful stop (omega (arith, c.count.ensures, c.if-count-ge-MOST_LIVE.false)) (g.E.Engine.view c.begin.new.self) b.0 b.1 _ (ap (λ (ls : List Txn). record (core_of c.args.self.now) { live = ls }) c.add.ensures ∙ ap (λ (n : ℕ). record (core_of c.args.self.now) { live = c.args.self.now.txns ++ begun n ∷ [] }) b.2.0) b.2.1 c.in-Ok.txn b.2.0);
+      calls.begun_goes t g.E.Engine.basis old (core_of c.args.self.now) x name (g.E.Engine.view c.begin.new.self).faults shows lawful stop (omega (arith, c.count.ensures, c.if-count-ge-MOST_LIVE.false)) (g.E.Engine.view c.begin.new.self) b.0 b.1 _ (ap (λ (ls : List Txn). record (core_of c.args.self.now) { live = ls }) c.add.ensures ∙ ap (λ (n : ℕ). record (core_of c.args.self.now) { live = c.args.self.now.txns ++ begun n ∷ [] }) b.2.0) b.2.1 c.in-Ok.txn b.2.0 (omega (arith, c.tail.ensures, c.if-tail-gt-NEW_WORK_END.false)));
 }
 
 pub returns-in-Err : goal.returns-in-Err
