@@ -3,6 +3,7 @@ ghost use Rattle.std.specs.Prelude.{◌≡◌, ◌⊎◌, ◌≤◌, ◌+◌, ma
 ghost use Rattle.sg_base.specs.Ends.{HasRisen};
 ghost use Rattle.sg_base.specs.declared.area.Area.TheVariants.{Log0, Log1};
 ghost use Rattle.sg_disk.specs.Disk.{window};
+ghost use Rattle.sg_disk.specs.Heeds.{Heeds};
 ghost use Rattle.sg_gate.specs.Superblock.{IsSuper};
 ghost use Rattle.sg_ops.specs.Table.{table_of};
 ghost use Rattle.sg_record.specs.Records.{Record};
@@ -12,6 +13,7 @@ ghost use Rattle.sg_log.specs.Reads.{OnlyReads};
 ghost use Rattle.sg_analysis.specs.Analysis.{analysis_of};
 ghost use Rattle.sg_analysis.specs.Shown.{shown};
 ghost use Rattle.sg_places.specs.Text.{IsText};
+ghost use Rattle.sg_find.specs.Faults.{is_disk};
 ghost use Rattle.sg_find.specs.Prepared.{IsPrepared};
 ghost use Rattle.sg_find.specs.Refused.{LogRefused, RecordsRefused, TextRefused, of_log, of_analysis, of_gate};
 ghost use Rattle.sg_find.specs.Synced.{log_area};
@@ -90,6 +92,7 @@ pub fn read_log<D: Disk>(
     ensures says { (ds : List Numbered) (gate : ℕ) → IsTrue D.told → HasRecords ((D.view disk.old).now (log_area s.now)).seen s.now.base gate ds →
         IfOk result (λ r. shown r.1 ≡ analysis_of s.now.base ds) }
     ensures refused { IfErr result (LogRefused D.told (log_area s.now) s.now.base (D.view disk.old) (D.view disk.new)) }
+    ensures heeded { Heeds is_disk result (D.view disk.old) (D.view disk.new) }
     ensures reads { OnlyReads D.told (D.view disk.old) (D.view disk.new) }
 {
     let area = log_area(s);
@@ -114,6 +117,7 @@ fn read_text<D: Disk>(
     ensures text { IsTrue D.told → IfOk result (λ text. text.items ≡ window ((D.view disk.old).now area).seen 0 size) }
     ensures long { IfOk result (λ text. length text.items ≡ size) }
     ensures refused { IfErr result (λ e. (e ≡ OpenFault.Memory) ⊎ ((e ≡ OpenFault.Disk) × HasRisen (D.view disk.old).faults (D.view disk.new).faults)) }
+    ensures heeded { Heeds is_disk result (D.view disk.old) (D.view disk.new) }
     ensures reads { OnlyReads D.told (D.view disk.old) (D.view disk.new) }
 {
     match vec![in alloc; 0u8; size as usize] {
@@ -174,6 +178,7 @@ pub fn gather<D: Disk>(
     ensures refused { (frames : List (List Record)) → IsTrue D.told → Frames ((D.view disk.old).now (log_area s.now)).seen 0 frames → gate ≡ s.now.base + gate_after 0 frames → gate ≤ LOG_END →
         IfErr result (TextRefused (table_of record_meaning range_meaning ops.now) (log_area s.now) s.now.pages s.now.bands s.now.base (max s.now.base analysis.now.estimate) analysis.now.losers frames (D.view disk.old) (D.view disk.new)) }
     ensures store { result ≡ Err OpenFault.NotAStore → ⊥ }
+    ensures heeded { Heeds is_disk result (D.view disk.old) (D.view disk.new) }
     ensures reads { OnlyReads D.told (D.view disk.old) (D.view disk.new) }
 {
     let area = log_area(s);

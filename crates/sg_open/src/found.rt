@@ -1,6 +1,7 @@
 // What opening reads of a store.
 ghost use Rattle.std.specs.Prelude.{◌≡◌, ◌≢◌, ◌⊎◌, ℕ, List, [], IsTrue, IfOk, IfErr};
 ghost use Rattle.sg_base.specs.declared.area.Area.TheVariants.{Home};
+ghost use Rattle.sg_disk.specs.Heeds.{Heeds};
 ghost use Rattle.sg_gate.specs.Superblock.{IsSuper};
 ghost use Rattle.sg_ops.specs.Table.{table_of};
 ghost use Rattle.sg_record.specs.Records.{Record};
@@ -8,6 +9,7 @@ ghost use Rattle.sg_log.specs.Frames.{Numbered};
 ghost use Rattle.sg_log.specs.Reads.{OnlyReads};
 ghost use Rattle.sg_engine.specs.Effects.{effect_in};
 ghost use Rattle.sg_engine.specs.Engine.{Origin};
+ghost use Rattle.sg_find.specs.Faults.{is_disk};
 ghost use Rattle.sg_open.specs.Refusals.{StoreRefused};
 ghost use Rattle.sg_open.specs.Found.{IsSettledAll, Opens, IsFound};
 
@@ -38,6 +40,7 @@ pub fn find<D: Disk>(alloc: Global, disk: &mut D, ops: &Ops) -> Result<Found, Op
     // The gates of both superblock slots are closed.
     ensures not_a_store { IsTrue D.told → result ≡ Err OpenFault.NotAStore → ((((D.view disk.old).now Home).seen 0 ≢ 1) × (((D.view disk.old).now Home).seen 4096 ≢ 1)) }
     ensures shut { IsTrue D.told → ((D.view disk.old).now Home).seen 0 ≢ 1 → ((D.view disk.old).now Home).seen 4096 ≢ 1 → (result ≡ Err OpenFault.NotAStore) ⊎ (result ≡ Err OpenFault.Disk) }
+    ensures heeded { Heeds is_disk result (D.view disk.old) (D.view disk.new) }
     ensures reads { OnlyReads D.told (D.view disk.old) (D.view disk.new) }
 {
     let geometry = match read_super(disk) {

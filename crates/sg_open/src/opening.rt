@@ -2,6 +2,7 @@
 ghost use Rattle.std.specs.Prelude.{◌≡◌, ◌≢◌, ◌⊎◌, ◌+◌, ◌<◌, ◌≤◌, ◌^◌, ℕ, List, [], All, length, IsTrue, IfOk, IfErr, OnOk};
 ghost use Rattle.sg_base.specs.declared.area.Area.TheVariants.{Home};
 ghost use Rattle.sg_gate.specs.Superblock.{IsSuper};
+ghost use Rattle.sg_disk.specs.Heeds.{Heeds};
 ghost use Rattle.sg_ops.specs.Table.{table_of};
 ghost use Rattle.sg_pool.specs.Pooled.{sizes};
 ghost use Rattle.sg_pool.specs.Redone.{AreInOrder};
@@ -11,7 +12,9 @@ ghost use Rattle.sg_log.specs.Frames.{Numbered};
 ghost use Rattle.sg_engine.specs.Effects.{effect_in};
 ghost use Rattle.sg_engine.specs.Engine.{Origin};
 ghost use Rattle.sg_engine.specs.Running.{IsEngine, IsAllowed};
+ghost use Rattle.sg_find.specs.Faults.{is_disk};
 ghost use Rattle.sg_find.specs.Synced.{redo_point};
+ghost use Rattle.sg_places.specs.Placed.{places_in};
 ghost use Rattle.sg_open.specs.Repeatable.{IsNew};
 ghost use Rattle.sg_open.specs.Refusals.{StoreRefused, IsUnwrittenAt};
 ghost use Rattle.sg_open.specs.Found.{Opens, AreOpening};
@@ -96,6 +99,10 @@ pub fn open<D: Disk, L: Ledger>(
     ensures shut { IsTrue D.told → ((D.view disk.old).now Home).seen 0 ≢ 1 → ((D.view disk.old).now Home).seen 4096 ≢ 1 → (result ≡ Err OpenFault.NotAStore) ⊎ (result ≡ Err OpenFault.Disk) }
     // Nothing was written before such a refusal.
     ensures unwritten { IfErr result (λ e. IsUnwrittenAt e (D.view disk.old) (D.view disk.new)) }
+    ensures heeded { Heeds is_disk result (D.view disk.old) (D.view disk.new) }
+    // History is repeated from the redo point on alone: each record from there on that makes a change is one step.
+    ensures steps { (o : Origin) (tail : ℕ) (ds : List Numbered) → IsTrue D.told → ((lsn : ℕ) (x : Record) → o.effect lsn x ≡ effect_in (table_of record_meaning range_meaning ops.now) lsn x) → Opens o tail ds (D.view disk.old) →
+        OnOk result (steps.new ≡ steps.old + length (places_in o.super.pages o.super.base (redo_point o.super.base ds) ds)) }
     // At each moment, faults included.
     ensures moments { (o : Origin) (tail : ℕ) (ds : List Numbered) → IsTrue D.told → ((lsn : ℕ) (x : Record) → o.effect lsn x ≡ effect_in (table_of record_meaning range_meaning ops.now) lsn x) → Opens o tail ds (D.view disk.old) →
         AreOpening o ds (D.view disk.old) (D.view disk.new) }

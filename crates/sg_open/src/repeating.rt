@@ -1,7 +1,8 @@
 // History is repeated over what an open batch left.
-ghost use Rattle.std.specs.Prelude.{◌≡◌, ◌+◌, ◌<◌, ◌≤◌, ◌^◌, ℕ, List, [], All, length, IsTrue, OnOk, IfErr};
+ghost use Rattle.std.specs.Prelude.{◌≡◌, ◌+◌, ◌<◌, ◌≤◌, ◌^◌, ℕ, List, [], All, length, IsTrue, OnOk, OnErr, IfErr};
 ghost use Rattle.sg_base.specs.Ends.{HasRisen};
 ghost use Rattle.sg_disk.specs.Disk.{LeavesOnly};
+ghost use Rattle.sg_disk.specs.Heeds.{Heeds};
 ghost use Rattle.sg_ops.specs.Table.{table_of};
 ghost use Rattle.sg_pool.specs.Redone.{AreInOrder};
 ghost use Rattle.sg_redo.specs.Units.{AreKnown};
@@ -10,6 +11,7 @@ ghost use Rattle.sg_engine.specs.Engine.{Origin, IsStanding};
 ghost use Rattle.sg_engine.specs.Running.{IsEngine, IsAllowed};
 ghost use Rattle.sg_pool.specs.Pooled.{sizes};
 ghost use Rattle.sg_open.specs.Repeatable.{IsRepeatable};
+ghost use Rattle.sg_find.specs.Faults.{is_disk};
 ghost use Rattle.sg_open.specs.Refusals.{IsLate, of_pool};
 
 use sg_base::{Area, PageNo, Steps};
@@ -65,6 +67,10 @@ pub fn repeat<D: Disk, L: Ledger>(
         IfErr result (λ e. (e ≡ OpenFault.Disk) × HasRisen (D.view disk.old).faults (D.view disk.new).faults) }
     // It is refused by the disk, or for what stands in the home area.
     ensures late { IfErr result (λ e. IsLate e) }
+    ensures heeded { Heeds is_disk result (D.view disk.old) (D.view disk.new) }
+    // Each place is one step.
+    ensures steps { OnOk result (steps.new ≡ steps.old + length places.old) }
+    ensures fewer_steps { OnErr result ((steps.old ≤ steps.new) × (steps.new ≤ steps.old + length places.old)) }
     // At each moment, faults included.
     ensures moments { (o : Origin) (r : ℕ) (ds : List Numbered) → IsTrue D.told → o.super.pages ≡ pages → IsRepeatable (table_of record_meaning range_meaning ops.now) o r ds (D.view disk.old) log.old pool.old text.now places.old →
         LeavesOnly (D.view disk.old) (D.view disk.new) (IsStanding o ds ds r) }

@@ -9,6 +9,7 @@ use Rattle.sg_find.specs.Prepared.{IsPrepared}
 use Rattle.sg_find.specs.Refused.{RecordsRefused}
 use Rattle.sg_find.specs.Synced.{log_area}
 use Rattle.sg_find.proofs.Reading.{text_read, text_refused}
+use Rattle.sg_find.proofs.Heeding.{heeds_none}
 use Rattle.sg_find.proofs.finding.gather.Goals as goal
 
 pub returns-in-Ok-prepare-clause-text : goal.returns-in-Ok-prepare-clause-text
@@ -44,3 +45,6 @@ returns-in-Err-prepare-clause-refused g c frames told stand is within =
     text_refused t (log_area s) s.pages s.bands s.base (max s.base c.args.analysis.now.estimate) c.args.analysis.now.losers frames v w e
     (subst (λ (k : ℕ). RecordsRefused t (log_area s) s.pages s.bands s.base k c.args.analysis.now.losers frames e) c.max-point.ensures
     (subst (λ (a : Area). RecordsRefused t a s.pages s.bands s.base c.max-point.result c.args.analysis.now.losers frames e) c.log_area-area.ensures.area says))
+
+pub returns-in-Err-prepare-clause-heeded : goal.returns-in-Err-prepare-clause-heeded
+returns-in-Err-prepare-clause-heeded g c = heeds_none c.in-Err-prepare.fault (g.D.Disk.view c.args.disk.now) (g.D.Disk.view c.read_text.new.disk) c.in-Ok.ensures.heeded

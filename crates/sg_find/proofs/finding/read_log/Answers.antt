@@ -6,6 +6,11 @@ use Rattle.sg_log.specs.Reads.{OnlyReads}
 use Rattle.sg_log.proofs.Holding.{holds_along}
 use Rattle.sg_log.proofs.Runs.{reads_more}
 use Rattle.sg_analysis.specs.Analysis.{analysis_of}
+use Rattle.std.specs.Bool.{OnFalse}
+use Rattle.std.specs.Prelude.{Result, Ok, Err}
+use Rattle.sg_find.specs.declared.fault.OpenFault.{OpenFault}
+use Rattle.sg_find.specs.Faults.{is_disk}
+use Rattle.sg_find.proofs.Heeding.{heeds_then, on_false_then, log_heeds, analysis_heeds}
 use Rattle.sg_find.proofs.finding.read_log.Goals as goal
 
 pub returns-in-Ok-analyse-clause-records : goal.returns-in-Ok-analyse-clause-records
@@ -36,3 +41,18 @@ pub returns-in-Err-analyse-clause-reads : goal.returns-in-Err-analyse-clause-rea
 returns-in-Err-analyse-clause-reads g c =
     let a = c.attach.ensures in
     reads_more (record { unchanged = a.unchanged; any_moment = a.any_moment; handed = a.handed; later = a.later }) c.analyse.ensures.reads
+
+pub returns-in-Err-clause-heeded : goal.returns-in-Err-clause-heeded
+returns-in-Err-clause-heeded g c =
+    let v = g.D.Disk.view c.args.disk.now in
+    let w = g.D.Disk.view c.attach.new.disk in
+    subst (λ (e : OpenFault). OnFalse (is_disk e) (w.faults ≡ v.faults)) (sym c.of_log.ensures) (log_heeds (Unit {0}) c.log_area-area.result c.in-Err.fault v w c.in-Err.ensures.heeded)
+
+pub returns-in-Err-analyse-clause-heeded : goal.returns-in-Err-analyse-clause-heeded
+returns-in-Err-analyse-clause-heeded g c =
+    let v = g.D.Disk.view c.args.disk.now in
+    let w = g.D.Disk.view c.attach.new.disk in
+    let z = g.D.Disk.view c.analyse.new.disk in
+    let same : w.faults ≡ v.faults = c.in-Ok.ensures.heeded in
+    on_false_then (is_disk c.of_analysis.result) _ _ (λ (e : z.faults ≡ w.faults). e ∙ same)
+    (subst (λ (e : OpenFault). OnFalse (is_disk e) (z.faults ≡ w.faults)) (sym c.of_analysis.ensures) (analysis_heeds (Unit {0}) c.log_area-area.result c.in-Err-analyse.fault w z c.in-Err-analyse.ensures.heeded))

@@ -10,6 +10,11 @@ use Rattle.sg_find.specs.Synced.{log_area}
 use Rattle.sg_analysis.specs.Shown.{shown}
 use Rattle.sg_log.specs.Frames.{Frames}
 use Rattle.sg_disk.specs.Disk.{State}
+use Rattle.std.specs.Bool.{OnFalse}
+use Rattle.std.specs.Prelude.{Result, Ok, Err}
+use Rattle.sg_find.specs.declared.fault.OpenFault.{OpenFault}
+use Rattle.sg_find.specs.Faults.{is_disk}
+use Rattle.sg_find.proofs.Heeding.{on_false_then, gate_heeds}
 use Rattle.sg_open.proofs.found.find.Goals as goal
 
 as_log : {told : Bool} {v w : View} → gate.OnlyReads told v w → OnlyReads told v w
@@ -51,3 +56,27 @@ returns-in-Err-gather-clause-refused g c o tail ds told settled opens =
     text_refused_then g.D.Disk.told t o tail ds v v2 (g.D.Disk.view c.gather.new.disk) s (shown c.in-Ok-read_log.read.1) has.frames c.in-Err-gather.fault opens same
     (omega (arith, c.read_super.ensures.reads.later, c.read_log.ensures.reads.later)) has.all (c.in-Ok-read_log.ensures.says ds tail told has)
     (c.in-Err-gather.ensures.refused has.frames told stand (gate ∙ has.at_gate) (omega (arith, gate, has.within)))
+
+pub returns-in-Err-clause-heeded : goal.returns-in-Err-clause-heeded
+returns-in-Err-clause-heeded g c =
+    let v = g.D.Disk.view c.args.disk.now in
+    let w = g.D.Disk.view c.read_super.new.disk in
+    subst (λ (e : OpenFault). OnFalse (is_disk e) (w.faults ≡ v.faults)) (sym c.of_gate.ensures) (gate_heeds c.in-Err.fault v w c.in-Err.ensures.heeded)
+
+pub returns-in-Err-read_log-clause-heeded : goal.returns-in-Err-read_log-clause-heeded
+returns-in-Err-read_log-clause-heeded g c =
+    let v = g.D.Disk.view c.args.disk.now in
+    let w = g.D.Disk.view c.read_super.new.disk in
+    let z = g.D.Disk.view c.read_log.new.disk in
+    let same : w.faults ≡ v.faults = c.in-Ok.ensures.heeded in
+    on_false_then (is_disk c.in-Err-read_log.fault) _ _ (λ (e : z.faults ≡ w.faults). e ∙ same) c.in-Err-read_log.ensures.heeded
+
+pub returns-in-Err-gather-clause-heeded : goal.returns-in-Err-gather-clause-heeded
+returns-in-Err-gather-clause-heeded g c =
+    let v = g.D.Disk.view c.args.disk.now in
+    let w = g.D.Disk.view c.read_super.new.disk in
+    let y = g.D.Disk.view c.read_log.new.disk in
+    let z = g.D.Disk.view c.gather.new.disk in
+    let one : w.faults ≡ v.faults = c.in-Ok.ensures.heeded in
+    let two : y.faults ≡ w.faults = c.in-Ok-read_log.ensures.heeded in
+    on_false_then (is_disk c.in-Err-gather.fault) _ _ (λ (e : z.faults ≡ y.faults). e ∙ (two ∙ one)) c.in-Err-gather.ensures.heeded

@@ -12,6 +12,8 @@ use Rattle.sg_find.specs.Synced.{redo_point}
 use Rattle.sg_open.proofs.Whole.{on_ok, opens1, opening_reads, opening_all, at_hand, not_found}
 use Rattle.sg_find.specs.declared.fault.OpenFault.TheVariants.{Disk, NotAStore}
 use Rattle.sg_open.proofs.Able.{able_places, refused_synced, refused_memory, refused_disk}
+use Rattle.sg_find.specs.Faults.{is_disk}
+use Rattle.sg_find.proofs.Heeding.{on_false_then, heeds_none}
 use Rattle.sg_open.proofs.opening.open.Goals as goal
 
 pub returns-in-Err-clause-moments : goal.returns-in-Err-clause-moments
@@ -126,3 +128,51 @@ returns-in-Err-repeat-clause-refused g c o tail ds told effect opens =
     refused_disk g.D.Disk.told t o ds v v2 (g.D.Disk.view c.repeat.new.disk) c.in-Err-repeat.fault (omega (arith, c.sync_all.ensures.later, c.find.ensures.reads.later))
     (c.in-Err-repeat.ensures.refused o (redo_point o.super.base ds) ds told (ap (λ (s : Super). s.pages) (sym found.super))
     (at_hand t o tail ds v v1 v2 synced opens c.in-Ok.found c.in-Ok-take_pool.pool c.deref-3.result.now c.deref_mut.result.now (c.find.ensures.reads.unchanged told) effect found c.in-Ok-take_pool.ensures.new c.deref-3.ensures.value c.deref_mut.ensures.value))
+
+pub returns-in-Err-clause-heeded : goal.returns-in-Err-clause-heeded
+returns-in-Err-clause-heeded g c =
+    let v = g.D.Disk.view c.args.disk.now in
+    let v1 = g.D.Disk.view c.sync_all.new.disk in
+    let v2 = g.D.Disk.view c.find.new.disk in
+    let one : v1.faults ≡ v.faults = on_ok c.sync_all.result c.if-is_err.ensures.value c.sync_all.ensures.quiet in
+    on_false_then (is_disk c.in-Err.fault) _ _ (λ (e : v2.faults ≡ v1.faults). e ∙ one) c.in-Err.ensures.heeded
+
+pub returns-in-Err-take_pool-clause-heeded : goal.returns-in-Err-take_pool-clause-heeded
+returns-in-Err-take_pool-clause-heeded g c =
+    let v = g.D.Disk.view c.args.disk.now in
+    let v1 = g.D.Disk.view c.sync_all.new.disk in
+    let v2 = g.D.Disk.view c.find.new.disk in
+    let one : v1.faults ≡ v.faults = on_ok c.sync_all.result c.if-is_err.ensures.value c.sync_all.ensures.quiet in
+    let two : v2.faults ≡ v1.faults = c.in-Ok.ensures.heeded in
+    heeds_none c.in-Err-take_pool.fault v v2 (two ∙ one)
+
+pub returns-in-Err-repeat-clause-heeded : goal.returns-in-Err-repeat-clause-heeded
+returns-in-Err-repeat-clause-heeded g c =
+    let v = g.D.Disk.view c.args.disk.now in
+    let v1 = g.D.Disk.view c.sync_all.new.disk in
+    let v2 = g.D.Disk.view c.find.new.disk in
+    let v3 = g.D.Disk.view c.repeat.new.disk in
+    let one : v1.faults ≡ v.faults = on_ok c.sync_all.result c.if-is_err.ensures.value c.sync_all.ensures.quiet in
+    let two : v2.faults ≡ v1.faults = c.in-Ok.ensures.heeded in
+    on_false_then (is_disk c.in-Err-repeat.fault) _ _ (λ (e : v3.faults ≡ v2.faults). e ∙ (two ∙ one)) c.in-Err-repeat.ensures.heeded
+
+pub returns-in-Ok-repeat-clause-heeded : goal.returns-in-Ok-repeat-clause-heeded
+returns-in-Ok-repeat-clause-heeded g c =
+    let v = g.D.Disk.view c.args.disk.now in
+    let v1 = g.D.Disk.view c.sync_all.new.disk in
+    let v2 = g.D.Disk.view c.find.new.disk in
+    let v3 = g.D.Disk.view c.repeat.new.disk in
+    let one : v1.faults ≡ v.faults = on_ok c.sync_all.result c.if-is_err.ensures.value c.sync_all.ensures.quiet in
+    let two : v2.faults ≡ v1.faults = c.in-Ok.ensures.heeded in
+    let three : v3.faults ≡ v2.faults = c.in-Ok-repeat.ensures.heeded in
+    three ∙ (two ∙ one)
+
+pub returns-in-Ok-repeat-clause-steps : goal.returns-in-Ok-repeat-clause-steps
+returns-in-Ok-repeat-clause-steps g c o tail ds told effect opens =
+    let t : Table = table_of (λ p. (goal.RecordOp-dyn g p).record_meaning p.1) (λ p. (goal.RangeOp-dyn g p).range_meaning p.1) c.args.ops.now in
+    let v = g.D.Disk.view c.args.disk.now in
+    let v1 = g.D.Disk.view c.sync_all.new.disk in
+    let v2 = g.D.Disk.view c.find.new.disk in
+    let synced = on_ok c.sync_all.result c.if-is_err.ensures.value (c.sync_all.ensures.synced told) in
+    let found = c.in-Ok.ensures.found o tail ds told synced.settled (opens1 t o tail ds v v1 v2 synced opens) in
+    c.in-Ok-repeat.ensures.steps ∙ ap (λ (l : List Place). c.args.steps.now + length l) (c.deref_mut.ensures.value ∙ found.places_are)

@@ -1,4 +1,4 @@
-use Rattle.std.proofs.Common.{◌≡◌, ℕ, List, [], IsTrue, subst, sym}
+use Rattle.std.proofs.Common.{◌≡◌, ◌∙◌, ℕ, List, [], IsTrue, subst, sym}
 use Rattle.sg_disk.specs.Disk.{Image, View, LeavesOnly}
 use Rattle.sg_disk.proofs.Moments.{weaker, joined}
 use Rattle.sg_base.specs.declared.area.Area.TheVariants.{Home}
@@ -14,6 +14,12 @@ use Rattle.sg_engine.specs.Running.{IsEngine}
 use Rattle.sg_open.specs.Repeatable.{IsRepeatable}
 use Rattle.sg_open.proofs.Over as over
 use Rattle.sg_open.proofs.Late.{lay_refused, redo_refused}
+use Rattle.std.specs.Bool.{OnFalse}
+use Rattle.std.specs.Prelude.{Result, Ok, Err}
+use Rattle.sg_find.specs.declared.fault.OpenFault.{OpenFault}
+use Rattle.sg_find.specs.Faults.{is_disk}
+use Rattle.sg_find.proofs.Heeding.{on_false_then, gate_heeds}
+use Rattle.sg_open.proofs.Heeding.{pool_heeds}
 use Rattle.sg_open.proofs.repeating.repeat.Goals as goal
 
 -- the moments of the pages that are laid over
@@ -105,3 +111,18 @@ returns-in-Err-redo-clause-refused g c o r ds told same is =
     let t : Table = table_of (λ p. (goal.RecordOp-dyn g p).record_meaning p.1) (λ p. (goal.RangeOp-dyn g p).range_meaning p.1) c.args.ops.now in
     redo_refused t o r ds (g.D.Disk.view c.args.disk.now) c.args.log.now c.args.pool.now c.args.text.now c.args.places.now is (g.D.Disk.view c.lay_over.new.disk) (c.in_default.ensures.done told)
     (g.D.Disk.view c.redo.new.disk) g.D.Disk.told c.in-Err-redo.fault c.of_pool.result c.of_pool.ensures told c.lay_over.ensures.later c.in-Err-redo.ensures.faults
+
+pub returns-in-Err-clause-heeded : goal.returns-in-Err-clause-heeded
+returns-in-Err-clause-heeded g c =
+    let v = g.D.Disk.view c.args.disk.now in
+    let w = g.D.Disk.view c.lay_over.new.disk in
+    subst (λ (e : OpenFault). OnFalse (is_disk e) (w.faults ≡ v.faults)) (sym c.of_gate.ensures) (gate_heeds c.in-Err.fault v w c.in-Err.ensures.heeded)
+
+pub returns-in-Err-redo-clause-heeded : goal.returns-in-Err-redo-clause-heeded
+returns-in-Err-redo-clause-heeded g c =
+    let v = g.D.Disk.view c.args.disk.now in
+    let w = g.D.Disk.view c.lay_over.new.disk in
+    let z = g.D.Disk.view c.redo.new.disk in
+    let same : w.faults ≡ v.faults = c.in_default.ensures.heeded in
+    on_false_then (is_disk c.of_pool.result) _ _ (λ (e : z.faults ≡ w.faults). e ∙ same)
+    (subst (λ (e : OpenFault). OnFalse (is_disk e) (z.faults ≡ w.faults)) (sym c.of_pool.ensures) (pool_heeds c.in-Err-redo.fault w z c.in-Err-redo.ensures.heeded))
