@@ -1,6 +1,7 @@
 -- How far tables have grown.
 use Rattle.std.proofs.Common.{◌≡◌, ℕ, Bool, true, List, Option, Some, Result, Ok, Err, IfOk, sym, ap, ◌∙◌, subst}
 use Rattle.sg_base.specs.Sheet.{Sheet}
+use Rattle.sg_catalog.specs.declared.row.ObjectKind.{ObjectKind}
 use Rattle.sg_catalog.specs.declared.row.ObjectKind.TheVariants as kinds
 use Rattle.sg_catalog.specs.declared.row.Row.{Row}
 use Rattle.sg_hash.specs.Calls.{IsPut}
@@ -21,11 +22,11 @@ use Rattle.sg_objects.specs.Done.{HasRoomFor}
 use Rattle.sg_objects.specs.Found.{IsAt}
 use Rattle.sg_objects.specs.Shaped.{ShapesTable, Shapes}
 
--- a name has one root, and a root one table
+-- a name has one root of a kind, and a root one table
 same_row : {o : Option Row} {x y : Row} → o ≡ Some x → o ≡ Some y → x ≡ y
 same_row {o} {x} {y} e f = (let g : Some x ≡ Some y = sym e ∙ f in cc)
 
-pub same_root : {s : Contents} {name : List ℕ} {root root' : ℕ} → IsAt kinds.Table s name root → IsAt kinds.Table s name root' → root ≡ root'
+pub same_root : {kind : ObjectKind} {s : Contents} {name : List ℕ} {root root' : ℕ} → IsAt kind s name root → IsAt kind s name root' → root ≡ root'
 same_root f f' = sym f.root_is ∙ (ap (λ (r : Row). r.root.0) (same_row f.found f'.found) ∙ f'.root_is)
 
 abbrev table_in : HashTable → Body → HashTable

@@ -1,5 +1,5 @@
 // A registered operation on an item.
-ghost use Rattle.std.specs.Prelude.{◌≡◌, ◌<◌, ◌≤◌, length, OnOk, IfOk, ⊤};
+ghost use Rattle.std.specs.Prelude.{◌≡◌, ◌<◌, ◌≤◌, length, OnOk, IfOk, ⊤, [], ◌+◌};
 ghost use Rattle.sg_ops.specs.Table.{Table, table_of};
 ghost use Rattle.sg_model.specs.SaidReplies.{said_outcome};
 ghost use Rattle.sg_model.specs.Verb.Verb.{Apply};
@@ -7,6 +7,8 @@ ghost use Rattle.sg_space.specs.View.{Counts, OnlyReads};
 ghost use Rattle.sg_contents.specs.Standing.{HasContents, IfContents};
 ghost use Rattle.sg_objects.specs.Done.{Did, IsDone, HasRoomFor};
 ghost use Rattle.sg_objects.specs.Found.{CheckedBy, CanApplyTo};
+ghost use Rattle.sg_space.specs.Pages.{WritesNone};
+ghost use Rattle.sg_objects.specs.Quiet.{IsQuiet};
 
 use crate::find::{ArrayAt, array_of};
 use crate::note::note_apply;
@@ -35,6 +37,7 @@ pub fn check_apply<P: PageSpace>(
     ensures code { IfOk result (λ r. IfOk r (λ x. (code < 65536))) }
     ensures later { (t : Table) → P.later t space.old space.new }
     ensures means { (t : Table) → P.means space.old t → P.means space.new t }
+    ensures writes { WritesNone (P.view space.old) (P.view space.new) result }
 {
     match array_of(space, name)? {
         Err(reason) => Ok(Err(reason)),
@@ -79,6 +82,8 @@ pub fn apply<P: PageSpace>(
         (IsDone (table_of record_meaning range_meaning ops.now) 0 name (Apply index code arg.now) (said_outcome into.new r) undo.new (P.view space.old).space (P.view space.new).space)) }
     ensures later { P.later (table_of record_meaning range_meaning ops.now) space.old space.new }
     ensures means { P.means space.new (table_of record_meaning range_meaning ops.now) }
+    ensures few { (P.view space.new).records ≤ (P.view space.old).records + 1 }
+    ensures quiet { IfOk result (λ _. undo.new ≡ [] → IsQuiet (P.view space.old) (P.view space.new)) }
 {
     undo.set(&[]);
     match check_apply(space, ops, name, index, code, arg)? {

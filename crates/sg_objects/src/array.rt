@@ -1,11 +1,12 @@
 // The verbs on arrays.
-ghost use Rattle.std.specs.Prelude.{◌≡◌, ◌≤◌, length, OnOk, IfOk, ⊤};
+ghost use Rattle.std.specs.Prelude.{◌≡◌, ◌≤◌, length, OnOk, IfOk, ⊤, [], ◌+◌};
 ghost use Rattle.sg_ops.specs.Table.{table_of};
 ghost use Rattle.sg_model.specs.SaidReplies.{said_outcome};
 ghost use Rattle.sg_model.specs.Verb.Verb.{Push, Pop, Set, Get};
 ghost use Rattle.sg_space.specs.View.{Counts};
 ghost use Rattle.sg_contents.specs.Standing.{HasContents};
 ghost use Rattle.sg_objects.specs.Done.{Did, IsDone, IsFresh, HasRoomFor};
+ghost use Rattle.sg_objects.specs.Quiet.{IsQuiet, LooksAlone};
 
 use crate::check::{check_get, check_pop, check_push, check_set};
 use crate::note::{note_pop, note_push, note_set};
@@ -31,6 +32,8 @@ pub fn push<P: PageSpace>(
         (IsDone (table_of record_meaning range_meaning ops.now) 0 name (Push value.now) (said_outcome into.new r) undo.new (P.view space.old).space (P.view space.new).space)) }
     ensures later { P.later (table_of record_meaning range_meaning ops.now) space.old space.new }
     ensures means { P.means space.new (table_of record_meaning range_meaning ops.now) }
+    ensures few { (P.view space.new).records ≤ (P.view space.old).records + 8 }
+    ensures quiet { IfOk result (λ _. undo.new ≡ [] → IsQuiet (P.view space.old) (P.view space.new)) }
 {
     undo.set(&[]);
     match check_push(space, name, value)? {
@@ -59,6 +62,8 @@ pub fn pop<P: PageSpace>(
         (IsDone (table_of record_meaning range_meaning ops.now) 0 name Pop (said_outcome into.new r) undo.new (P.view space.old).space (P.view space.new).space)) }
     ensures later { P.later (table_of record_meaning range_meaning ops.now) space.old space.new }
     ensures means { P.means space.new (table_of record_meaning range_meaning ops.now) }
+    ensures few { (P.view space.new).records ≤ (P.view space.old).records + 2 }
+    ensures quiet { IfOk result (λ _. undo.new ≡ [] → IsQuiet (P.view space.old) (P.view space.new)) }
 {
     undo.set(&[]);
     match check_pop(space, name)? {
@@ -89,6 +94,8 @@ pub fn get<P: PageSpace>(
         (IsDone (table_of record_meaning range_meaning ops.now) 0 name (Get index) (said_outcome into.new r) undo.new (P.view space.old).space (P.view space.new).space)) }
     ensures later { P.later (table_of record_meaning range_meaning ops.now) space.old space.new }
     ensures means { P.means space.new (table_of record_meaning range_meaning ops.now) }
+    ensures looks { LooksAlone (P.view space.old) (P.view space.new) result undo.new }
+    ensures quiet { IfOk result (λ _. undo.new ≡ [] → IsQuiet (P.view space.old) (P.view space.new)) }
 {
     undo.set(&[]);
     match check_get(space, name, index)? {
@@ -117,6 +124,8 @@ pub fn set<P: PageSpace>(
         (IsDone (table_of record_meaning range_meaning ops.now) 0 name (Set index value.now) (said_outcome into.new r) undo.new (P.view space.old).space (P.view space.new).space)) }
     ensures later { P.later (table_of record_meaning range_meaning ops.now) space.old space.new }
     ensures means { P.means space.new (table_of record_meaning range_meaning ops.now) }
+    ensures few { (P.view space.new).records ≤ (P.view space.old).records + 1 }
+    ensures quiet { IfOk result (λ _. undo.new ≡ [] → IsQuiet (P.view space.old) (P.view space.new)) }
 {
     undo.set(&[]);
     match check_set(space, name, index, value)? {

@@ -6,6 +6,7 @@ ghost use Rattle.sg_reading.specs.Back.Undoing.{WasBytes};
 ghost use Rattle.sg_contents.specs.Standing.{HasContents, IfContents};
 ghost use Rattle.sg_objects.specs.Blobs.{IsBlobFound};
 ghost use Rattle.sg_objects.specs.Notes.{note_bytes};
+ghost use Rattle.sg_space.specs.Pages.{WritesNone};
 
 use crate::find::root_of;
 use crate::note::put_head;
@@ -38,6 +39,8 @@ pub fn blob_of<P: PageSpace>(
     ensures read { IfOk result (λ r. IfContents (P.view space.old) (λ s. IsBlobFound name s r)) }
     ensures later { (t : Operations) → P.later t space.old space.new }
     ensures means { (t : Operations) → P.means space.old t → P.means space.new t }
+    ensures writes { WritesNone (P.view space.old) (P.view space.new) result }
+    ensures small { IfOk result (λ r. IfOk r (λ x. x.len ≤ 16384000)) }
 {
     match root_of(space, name, ObjectKind::Blob)? {
         Err(reason) => Ok(Err(reason)),

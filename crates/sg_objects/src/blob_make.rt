@@ -1,11 +1,12 @@
 // Blobs are made.
-ghost use Rattle.std.specs.Prelude.{◌≡◌, ◌≤◌, OnOk, IfOk, ⊤};
+ghost use Rattle.std.specs.Prelude.{◌≡◌, ◌≤◌, OnOk, IfOk, ⊤, [], ◌+◌};
 ghost use Rattle.sg_ops.specs.Table.{table_of};
 ghost use Rattle.sg_model.specs.SaidReplies.{said_outcome};
 ghost use Rattle.sg_model.specs.Verb.Verb.{MakeBlob};
 ghost use Rattle.sg_space.specs.View.{Counts};
 ghost use Rattle.sg_contents.specs.Standing.{HasContents};
 ghost use Rattle.sg_objects.specs.Done.{Did, IsDone, IsFresh, HasRoomFor};
+ghost use Rattle.sg_objects.specs.Quiet.{IsQuiet};
 
 use crate::make::is_there;
 use crate::note::note_make;
@@ -31,6 +32,8 @@ pub fn make_blob<P: PageSpace>(
         (IsDone (table_of record_meaning range_meaning ops.now) 0 name MakeBlob (said_outcome into.new r) undo.new (P.view space.old).space (P.view space.new).space)) }
     ensures later { P.later (table_of record_meaning range_meaning ops.now) space.old space.new }
     ensures means { P.means space.new (table_of record_meaning range_meaning ops.now) }
+    ensures few { (P.view space.new).records ≤ (P.view space.old).records + 8 }
+    ensures quiet { IfOk result (λ _. undo.new ≡ [] → IsQuiet (P.view space.old) (P.view space.new)) }
 {
     undo.set(&[]);
     if is_there(space, name)? {

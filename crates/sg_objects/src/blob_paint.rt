@@ -1,5 +1,5 @@
 // A registered range operation writes bytes of a blob.
-ghost use Rattle.std.specs.Prelude.{◌≡◌, ◌+◌, ◌≤◌, ◌<◌, length, OnOk, IfOk, ⊤};
+ghost use Rattle.std.specs.Prelude.{◌≡◌, ◌+◌, ◌≤◌, ◌<◌, length, OnOk, IfOk, ⊤, []};
 ghost use Rattle.sg_ops.specs.Table.{Table as Operations, table_of};
 ghost use Rattle.sg_model.specs.SaidReplies.{said_outcome};
 ghost use Rattle.sg_model.specs.Verb.Verb.{Paint};
@@ -8,6 +8,8 @@ ghost use Rattle.sg_contents.specs.Standing.{HasContents, IfContents};
 ghost use Rattle.sg_objects.specs.Blobs.{CanPaintOn};
 ghost use Rattle.sg_objects.specs.Done.{Did, IsDone, HasRoomFor};
 ghost use Rattle.sg_objects.specs.Found.{CheckedBy};
+ghost use Rattle.sg_space.specs.Pages.{WritesNone};
+ghost use Rattle.sg_objects.specs.Quiet.{IsQuiet, Wrote};
 
 use crate::blob::{BlobAt, blob_of, note_size};
 use sg_base::Name;
@@ -33,9 +35,11 @@ pub fn check_paint<P: PageSpace>(
         (CanPaintOn (table_of record_meaning range_meaning ops.now) name at count code arg.now s) r)) }
     ensures within { IfOk result (λ r. IfOk r (λ x. at + count ≤ x.len)) }
     ensures short { IfOk result (λ r. IfOk r (λ x. (length arg.now ≤ 256))) }
+    ensures most { IfOk result (λ r. IfOk r (λ x. (count ≤ 16384000))) }
     ensures code { IfOk result (λ r. IfOk r (λ x. (code < 65536))) }
     ensures later { (t : Operations) → P.later t space.old space.new }
     ensures means { (t : Operations) → P.means space.old t → P.means space.new t }
+    ensures writes { WritesNone (P.view space.old) (P.view space.new) result }
 {
     match blob_of(space, name)? {
         Err(reason) => Ok(Err(reason)),
@@ -79,6 +83,9 @@ pub fn paint<P: PageSpace>(
         (IsDone (table_of record_meaning range_meaning ops.now) 0 name (Paint at count code arg.now) (said_outcome into.new r) undo.new (P.view space.old).space (P.view space.new).space)) }
     ensures later { P.later (table_of record_meaning range_meaning ops.now) space.old space.new }
     ensures means { P.means space.new (table_of record_meaning range_meaning ops.now) }
+    ensures few { (P.view space.new).records ≤ (P.view space.old).records + 2002 }
+    ensures quiet { IfOk result (λ _. undo.new ≡ [] → IsQuiet (P.view space.old) (P.view space.new)) }
+    ensures wrote { IfOk result (λ r. Wrote (P.view space.old) (P.view space.new) (HasRoomFor (table_of record_meaning range_meaning ops.now) (P.view space.old) name (Paint at count code arg.now)) name (Paint at count code arg.now) (said_outcome into.new r)) }
 {
     undo.set(&[]);
     match check_paint(space, ops, name, at, count, code, arg)? {

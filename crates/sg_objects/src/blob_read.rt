@@ -1,5 +1,5 @@
 // Bytes of a blob are read.
-ghost use Rattle.std.specs.Prelude.{◌≡◌, ◌+◌, ◌≤◌, length, OnOk, IfOk, ⊤};
+ghost use Rattle.std.specs.Prelude.{◌≡◌, ◌+◌, ◌≤◌, length, OnOk, IfOk, ⊤, []};
 ghost use Rattle.sg_ops.specs.Table.{Table as Operations, table_of};
 ghost use Rattle.sg_model.specs.SaidReplies.{said_outcome};
 ghost use Rattle.sg_model.specs.Verb.Verb.{Read};
@@ -8,6 +8,8 @@ ghost use Rattle.sg_contents.specs.Standing.{HasContents, IfContents};
 ghost use Rattle.sg_objects.specs.Blobs.{CanReadFrom};
 ghost use Rattle.sg_objects.specs.Done.{Did, IsDone, HasRoomFor};
 ghost use Rattle.sg_objects.specs.Found.{Checked};
+ghost use Rattle.sg_space.specs.Pages.{WritesNone};
+ghost use Rattle.sg_objects.specs.Quiet.{IsQuiet, LooksAlone};
 
 use crate::blob::{BlobAt, MOST_AT_ONCE, blob_of};
 use sg_base::Name;
@@ -31,6 +33,7 @@ pub fn check_read<P: PageSpace>(
     ensures within { IfOk result (λ r. IfOk r (λ x. at + count ≤ x.len)) }
     ensures later { (t : Operations) → P.later t space.old space.new }
     ensures means { (t : Operations) → P.means space.old t → P.means space.new t }
+    ensures writes { WritesNone (P.view space.old) (P.view space.new) result }
 {
     match blob_of(space, name)? {
         Err(reason) => Ok(Err(reason)),
@@ -67,6 +70,8 @@ pub fn read<P: PageSpace>(
         (IsDone (table_of record_meaning range_meaning ops.now) 0 name (Read at count) (said_outcome into.new r) undo.new (P.view space.old).space (P.view space.new).space)) }
     ensures later { P.later (table_of record_meaning range_meaning ops.now) space.old space.new }
     ensures means { P.means space.new (table_of record_meaning range_meaning ops.now) }
+    ensures looks { LooksAlone (P.view space.old) (P.view space.new) result undo.new }
+    ensures quiet { IfOk result (λ _. undo.new ≡ [] → IsQuiet (P.view space.old) (P.view space.new)) }
 {
     undo.set(&[]);
     match check_read(space, name, at, count)? {

@@ -1,5 +1,5 @@
 // Bytes of a blob are written.
-ghost use Rattle.std.specs.Prelude.{◌≡◌, ◌+◌, ◌≤◌, length, OnOk, IfOk, ⊤};
+ghost use Rattle.std.specs.Prelude.{◌≡◌, ◌+◌, ◌≤◌, length, OnOk, IfOk, ⊤, []};
 ghost use Rattle.sg_ops.specs.Table.{Table as Operations, table_of};
 ghost use Rattle.sg_model.specs.SaidReplies.{said_outcome};
 ghost use Rattle.sg_model.specs.Verb.Verb.{Write};
@@ -8,6 +8,8 @@ ghost use Rattle.sg_contents.specs.Standing.{HasContents, IfContents};
 ghost use Rattle.sg_objects.specs.Blobs.{CanWriteTo};
 ghost use Rattle.sg_objects.specs.Done.{Did, IsDone, IsFresh, HasRoomFor};
 ghost use Rattle.sg_objects.specs.Found.{Checked};
+ghost use Rattle.sg_space.specs.Pages.{WritesNone};
+ghost use Rattle.sg_objects.specs.Quiet.{IsQuiet, Wrote};
 
 use crate::blob::{BlobAt, MOST, MOST_AT_ONCE, blob_of, note_size};
 use sg_base::Name;
@@ -30,6 +32,7 @@ pub fn check_write<P: PageSpace>(
     ensures small { IfOk result (λ r. IfOk r (λ x. at + length bytes.now ≤ 16384000)) }
     ensures later { (t : Operations) → P.later t space.old space.new }
     ensures means { (t : Operations) → P.means space.old t → P.means space.new t }
+    ensures writes { WritesNone (P.view space.old) (P.view space.new) result }
 {
     match blob_of(space, name)? {
         Err(reason) => Ok(Err(reason)),
@@ -66,6 +69,9 @@ pub fn write<P: PageSpace>(
         (IsDone (table_of record_meaning range_meaning ops.now) 0 name (Write at bytes.now) (said_outcome into.new r) undo.new (P.view space.old).space (P.view space.new).space)) }
     ensures later { P.later (table_of record_meaning range_meaning ops.now) space.old space.new }
     ensures means { P.means space.new (table_of record_meaning range_meaning ops.now) }
+    ensures few { (P.view space.new).records ≤ (P.view space.old).records + 5003 }
+    ensures quiet { IfOk result (λ _. undo.new ≡ [] → IsQuiet (P.view space.old) (P.view space.new)) }
+    ensures wrote { IfOk result (λ r. Wrote (P.view space.old) (P.view space.new) (HasRoomFor (table_of record_meaning range_meaning ops.now) (P.view space.old) name (Write at bytes.now)) name (Write at bytes.now) (said_outcome into.new r)) }
 {
     undo.set(&[]);
     match check_write(space, name, at, bytes)? {

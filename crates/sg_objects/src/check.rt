@@ -5,6 +5,7 @@ ghost use Rattle.sg_model.specs.Verb.Verb.{Push, Pop, Set, Get};
 ghost use Rattle.sg_space.specs.View.{Counts, OnlyReads};
 ghost use Rattle.sg_contents.specs.Standing.{HasContents, IfContents};
 ghost use Rattle.sg_objects.specs.Found.{Checked, CanPushTo, CanPopOf, HasItem, CanSetIn};
+ghost use Rattle.sg_space.specs.Pages.{WritesNone};
 
 use crate::find::{ArrayAt, array_of};
 use sg_base::Name;
@@ -27,6 +28,7 @@ pub fn check_push<P: PageSpace>(
     ensures small { IfOk result (λ r. IfOk r (λ x. x.size ≤ 256)) }
     ensures later { (t : Operations) → P.later t space.old space.new }
     ensures means { (t : Operations) → P.means space.old t → P.means space.new t }
+    ensures writes { WritesNone (P.view space.old) (P.view space.new) result }
 {
     match array_of(space, name)? {
         Err(reason) => Ok(Err(reason)),
@@ -54,6 +56,7 @@ pub fn check_pop<P: PageSpace>(
     ensures small { IfOk result (λ r. IfOk r (λ x. x.size ≤ 256)) }
     ensures later { (t : Operations) → P.later t space.old space.new }
     ensures means { (t : Operations) → P.means space.old t → P.means space.new t }
+    ensures writes { WritesNone (P.view space.old) (P.view space.new) result }
 {
     match array_of(space, name)? {
         Err(reason) => Ok(Err(reason)),
@@ -80,6 +83,7 @@ pub fn check_get<P: PageSpace>(
     ensures below { IfOk result (λ r. IfOk r (λ x. index < x.len)) }
     ensures later { (t : Operations) → P.later t space.old space.new }
     ensures means { (t : Operations) → P.means space.old t → P.means space.new t }
+    ensures writes { WritesNone (P.view space.old) (P.view space.new) result }
 {
     match array_of(space, name)? {
         Err(reason) => Ok(Err(reason)),
@@ -107,6 +111,7 @@ pub fn check_set<P: PageSpace>(
     ensures below { IfOk result (λ r. IfOk r (λ x. index < x.len)) }
     ensures later { (t : Operations) → P.later t space.old space.new }
     ensures means { (t : Operations) → P.means space.old t → P.means space.new t }
+    ensures writes { WritesNone (P.view space.old) (P.view space.new) result }
 {
     match array_of(space, name)? {
         Err(reason) => Ok(Err(reason)),

@@ -4,6 +4,7 @@ ghost use Rattle.sg_ops.specs.Table.{Table as Operations};
 ghost use Rattle.sg_space.specs.View.{Counts, OnlyReads};
 ghost use Rattle.sg_contents.specs.Standing.{HasContents, IfContents};
 ghost use Rattle.sg_objects.specs.Found.{IsLocated, IsArrayFound};
+ghost use Rattle.sg_space.specs.Pages.{WritesNone};
 
 use sg_base::{Name, PageNo};
 use sg_catalog::ObjectKind;
@@ -30,6 +31,7 @@ pub fn root_of<P: PageSpace>(
     ensures read { IfOk result (λ r. IfContents (P.view space.old) (λ s. IsLocated kind name s r)) }
     ensures later { (t : Operations) → P.later t space.old space.new }
     ensures means { (t : Operations) → P.means space.old t → P.means space.new t }
+    ensures writes { WritesNone (P.view space.old) (P.view space.new) result }
 {
     match sg_catalog::find(space, name)? {
         None => Ok(Err(Reason::NoObject)),
@@ -55,6 +57,7 @@ pub fn array_of<P: PageSpace>(
     ensures small { IfOk result (λ r. IfOk r (λ x. x.size ≤ 256)) }
     ensures later { (t : Operations) → P.later t space.old space.new }
     ensures means { (t : Operations) → P.means space.old t → P.means space.new t }
+    ensures writes { WritesNone (P.view space.old) (P.view space.new) result }
 {
     match root_of(space, name, ObjectKind::Array)? {
         Err(reason) => Ok(Err(reason)),

@@ -1,9 +1,10 @@
 // The bodies of objects are freed, and what was dropped.
-ghost use Rattle.std.specs.Prelude.{◌≡◌, OnOk, IfOk, ⊤};
+ghost use Rattle.std.specs.Prelude.{◌≡◌, OnOk, IfOk, ⊤, false};
 ghost use Rattle.sg_ops.specs.Table.{Table as Operations, table_of};
 ghost use Rattle.sg_space.specs.View.{Counts};
 ghost use Rattle.sg_contents.specs.Standing.{HasContents};
 ghost use Rattle.sg_objects.specs.Freed.{HasBody, FreesBody, FreesNext};
+ghost use Rattle.sg_objects.specs.Quiet.{IsQuiet};
 
 use sg_base::{PageNo, TxnId};
 use sg_catalog::ObjectKind;
@@ -50,6 +51,7 @@ pub fn free_next<P: PageSpace>(
     ensures did { IfOk result (λ was. FreesNext (P.view space.old) (P.view space.new) by was) }
     ensures later { P.later (table_of record_meaning range_meaning ops.now) space.old space.new }
     ensures means { P.means space.new (table_of record_meaning range_meaning ops.now) }
+    ensures quiet { IfOk result (λ was. was ≡ false → IsQuiet (P.view space.old) (P.view space.new)) }
 {
     let sought = sg_catalog::next_buried(space, by)?;
     let Some(entry) = sought else {

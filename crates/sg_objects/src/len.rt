@@ -1,5 +1,5 @@
 // The length of an object.
-ghost use Rattle.std.specs.Prelude.{◌≡◌, ◌≤◌, length, OnOk, IfOk, ⊤};
+ghost use Rattle.std.specs.Prelude.{◌≡◌, ◌≤◌, length, OnOk, IfOk, ⊤, []};
 ghost use Rattle.sg_ops.specs.Table.{Table as Operations, table_of};
 ghost use Rattle.sg_model.specs.SaidReplies.{said_outcome};
 ghost use Rattle.sg_model.specs.Verb.Verb.{Len};
@@ -7,6 +7,8 @@ ghost use Rattle.sg_space.specs.View.{Counts, OnlyReads};
 ghost use Rattle.sg_contents.specs.Standing.{HasContents, IfContents};
 ghost use Rattle.sg_objects.specs.Done.{Did, IsDone, HasRoomFor};
 ghost use Rattle.sg_objects.specs.Found.{LenChecked};
+ghost use Rattle.sg_space.specs.Pages.{WritesNone};
+ghost use Rattle.sg_objects.specs.Quiet.{IsQuiet, LooksAlone};
 
 use sg_base::Name;
 use sg_catalog::ObjectKind;
@@ -22,6 +24,7 @@ pub fn check_len<P: PageSpace>(space: &mut P, name: Name) -> Result<Result<u32, 
     ensures read { IfOk result (λ r. IfContents (P.view space.old) (λ s. LenChecked name s r)) }
     ensures later { (t : Operations) → P.later t space.old space.new }
     ensures means { (t : Operations) → P.means space.old t → P.means space.new t }
+    ensures writes { WritesNone (P.view space.old) (P.view space.new) result }
 {
     let sought = sg_catalog::find(space, name)?;
     let Some(found) = sought else {
@@ -55,6 +58,8 @@ pub fn len<P: PageSpace>(
         (IsDone (table_of record_meaning range_meaning ops.now) 0 name Len (said_outcome into.new r) undo.new (P.view space.old).space (P.view space.new).space)) }
     ensures later { P.later (table_of record_meaning range_meaning ops.now) space.old space.new }
     ensures means { P.means space.new (table_of record_meaning range_meaning ops.now) }
+    ensures looks { LooksAlone (P.view space.old) (P.view space.new) result undo.new }
+    ensures quiet { IfOk result (λ _. undo.new ≡ [] → IsQuiet (P.view space.old) (P.view space.new)) }
 {
     undo.set(&[]);
     match check_len(space, name)? {

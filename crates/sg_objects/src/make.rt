@@ -1,5 +1,5 @@
 // Objects are made and dropped.
-ghost use Rattle.std.specs.Prelude.{◌≡◌, ◌≤◌, ◌<◌, ◌^◌, length, is_some, OnOk, IfOk, ⊤};
+ghost use Rattle.std.specs.Prelude.{◌≡◌, ◌≤◌, ◌<◌, ◌^◌, length, is_some, OnOk, IfOk, ⊤, [], ◌+◌};
 ghost use Rattle.sg_catalog.specs.Catalog.{there, rows};
 ghost use Rattle.sg_ops.specs.Table.{Table as Operations, table_of};
 ghost use Rattle.sg_model.specs.SaidReplies.{said_outcome};
@@ -7,6 +7,8 @@ ghost use Rattle.sg_model.specs.Verb.Verb.{MakeArray, MakeTable, Discard};
 ghost use Rattle.sg_space.specs.View.{Counts, OnlyReads};
 ghost use Rattle.sg_contents.specs.Standing.{HasContents, IfContents};
 ghost use Rattle.sg_objects.specs.Done.{Did, IsDone, IsFresh, HasRoomFor};
+ghost use Rattle.sg_space.specs.Pages.{WritesNone};
+ghost use Rattle.sg_objects.specs.Quiet.{IsQuiet};
 
 use crate::note::{note_drop, note_make};
 use sg_base::{Name, PageNo, TxnId};
@@ -23,6 +25,7 @@ pub fn is_there<P: PageSpace>(space: &mut P, name: Name) -> Result<bool, SpaceFa
     ensures read { IfOk result (λ b. IfContents (P.view space.old) (λ s. b ≡ is_some (there name (rows s.catalog)))) }
     ensures later { (t : Operations) → P.later t space.old space.new }
     ensures means { (t : Operations) → P.means space.old t → P.means space.new t }
+    ensures writes { WritesNone (P.view space.old) (P.view space.new) result }
 {
     let found = sg_catalog::find(space, name)?;
     Ok(found.is_some())
@@ -45,6 +48,8 @@ pub fn make_array<P: PageSpace>(
         (IsDone (table_of record_meaning range_meaning ops.now) 0 name (MakeArray size) (said_outcome into.new r) undo.new (P.view space.old).space (P.view space.new).space)) }
     ensures later { P.later (table_of record_meaning range_meaning ops.now) space.old space.new }
     ensures means { P.means space.new (table_of record_meaning range_meaning ops.now) }
+    ensures few { (P.view space.new).records ≤ (P.view space.old).records + 8 }
+    ensures quiet { IfOk result (λ _. undo.new ≡ [] → IsQuiet (P.view space.old) (P.view space.new)) }
 {
     undo.set(&[]);
     if is_there(space, name)? {
@@ -76,6 +81,8 @@ pub fn discard<P: PageSpace>(
         (IsDone (table_of record_meaning range_meaning ops.now) by.0 name Discard (said_outcome into.new r) undo.new (P.view space.old).space (P.view space.new).space)) }
     ensures later { P.later (table_of record_meaning range_meaning ops.now) space.old space.new }
     ensures means { P.means space.new (table_of record_meaning range_meaning ops.now) }
+    ensures few { (P.view space.new).records ≤ (P.view space.old).records + 1 }
+    ensures quiet { IfOk result (λ _. undo.new ≡ [] → IsQuiet (P.view space.old) (P.view space.new)) }
 {
     undo.set(&[]);
     let sought = sg_catalog::find(space, name)?;
@@ -103,6 +110,8 @@ pub fn make_table<P: PageSpace>(
         (IsDone (table_of record_meaning range_meaning ops.now) 0 name MakeTable (said_outcome into.new r) undo.new (P.view space.old).space (P.view space.new).space)) }
     ensures later { P.later (table_of record_meaning range_meaning ops.now) space.old space.new }
     ensures means { P.means space.new (table_of record_meaning range_meaning ops.now) }
+    ensures few { (P.view space.new).records ≤ (P.view space.old).records + 22 }
+    ensures quiet { IfOk result (λ _. undo.new ≡ [] → IsQuiet (P.view space.old) (P.view space.new)) }
 {
     undo.set(&[]);
     if is_there(space, name)? {

@@ -9,6 +9,8 @@ ghost use Rattle.sg_objects.specs.Calls.{CountsObject, IfAnswered};
 ghost use Rattle.sg_objects.specs.Found.{CheckedBy};
 ghost use Rattle.sg_objects.specs.Needing.{HasNeed, needed_of};
 ghost use Rattle.sg_objects.specs.Needs.{bands_alone, bands_for, pages_alone};
+ghost use Rattle.sg_space.specs.Pages.{WritesNone};
+ghost use Rattle.sg_objects.specs.Quiet.{WritesNoneObject};
 
 use crate::apply::check_apply;
 use crate::blob_paint::check_paint;
@@ -72,6 +74,7 @@ fn needs_make_array<P: PageSpace>(
     ensures read { IfOk result (λ r. IfContents (P.view space.old) (λ s. CheckedBy (table_of record_meaning range_meaning ops.now) name (MakeArray size) s (HasNeed (table_of record_meaning range_meaning ops.now) name (MakeArray size) s) r)) }
     ensures later { (t : Operations) → P.later t space.old space.new }
     ensures means { (t : Operations) → P.means space.old t → P.means space.new t }
+    ensures writes { WritesNone (P.view space.old) (P.view space.new) result }
 {
     if is_there(space, name)? {
         return Ok(Err(Reason::Exists));
@@ -94,6 +97,7 @@ fn needs_make_table<P: PageSpace>(
     ensures read { IfOk result (λ r. IfContents (P.view space.old) (λ s. CheckedBy (table_of record_meaning range_meaning ops.now) name MakeTable s (HasNeed (table_of record_meaning range_meaning ops.now) name MakeTable s) r)) }
     ensures later { (t : Operations) → P.later t space.old space.new }
     ensures means { (t : Operations) → P.means space.old t → P.means space.new t }
+    ensures writes { WritesNone (P.view space.old) (P.view space.new) result }
 {
     if is_there(space, name)? {
         return Ok(Err(Reason::Exists));
@@ -113,6 +117,7 @@ fn needs_discard<P: PageSpace>(
     ensures read { IfOk result (λ r. IfContents (P.view space.old) (λ s. CheckedBy (table_of record_meaning range_meaning ops.now) name Discard s (HasNeed (table_of record_meaning range_meaning ops.now) name Discard s) r)) }
     ensures later { (t : Operations) → P.later t space.old space.new }
     ensures means { (t : Operations) → P.means space.old t → P.means space.new t }
+    ensures writes { WritesNone (P.view space.old) (P.view space.new) result }
 {
     if is_there(space, name)? {
         return Ok(Ok(of_pages(0)));
@@ -133,6 +138,7 @@ fn needs_push<P: PageSpace>(
     ensures read { IfOk result (λ r. IfContents (P.view space.old) (λ s. CheckedBy (table_of record_meaning range_meaning ops.now) name (Push value.now) s (HasNeed (table_of record_meaning range_meaning ops.now) name (Push value.now) s) r)) }
     ensures later { (t : Operations) → P.later t space.old space.new }
     ensures means { (t : Operations) → P.means space.old t → P.means space.new t }
+    ensures writes { WritesNone (P.view space.old) (P.view space.new) result }
 {
     match check_push(space, name, value)? {
         Err(reason) => Ok(Err(reason)),
@@ -152,6 +158,7 @@ fn needs_pop<P: PageSpace>(
     ensures read { IfOk result (λ r. IfContents (P.view space.old) (λ s. CheckedBy (table_of record_meaning range_meaning ops.now) name Pop s (HasNeed (table_of record_meaning range_meaning ops.now) name Pop s) r)) }
     ensures later { (t : Operations) → P.later t space.old space.new }
     ensures means { (t : Operations) → P.means space.old t → P.means space.new t }
+    ensures writes { WritesNone (P.view space.old) (P.view space.new) result }
 {
     match check_pop(space, name)? {
         Err(reason) => Ok(Err(reason)),
@@ -173,6 +180,7 @@ fn needs_set<P: PageSpace>(
     ensures read { IfOk result (λ r. IfContents (P.view space.old) (λ s. CheckedBy (table_of record_meaning range_meaning ops.now) name (Set index value.now) s (HasNeed (table_of record_meaning range_meaning ops.now) name (Set index value.now) s) r)) }
     ensures later { (t : Operations) → P.later t space.old space.new }
     ensures means { (t : Operations) → P.means space.old t → P.means space.new t }
+    ensures writes { WritesNone (P.view space.old) (P.view space.new) result }
 {
     match check_set(space, name, index, value)? {
         Err(reason) => Ok(Err(reason)),
@@ -193,6 +201,7 @@ fn needs_get<P: PageSpace>(
     ensures read { IfOk result (λ r. IfContents (P.view space.old) (λ s. CheckedBy (table_of record_meaning range_meaning ops.now) name (Get index) s (HasNeed (table_of record_meaning range_meaning ops.now) name (Get index) s) r)) }
     ensures later { (t : Operations) → P.later t space.old space.new }
     ensures means { (t : Operations) → P.means space.old t → P.means space.new t }
+    ensures writes { WritesNone (P.view space.old) (P.view space.new) result }
 {
     match check_get(space, name, index)? {
         Err(reason) => Ok(Err(reason)),
@@ -212,6 +221,7 @@ fn needs_len<P: PageSpace>(
     ensures read { IfOk result (λ r. IfContents (P.view space.old) (λ s. CheckedBy (table_of record_meaning range_meaning ops.now) name Len s (HasNeed (table_of record_meaning range_meaning ops.now) name Len s) r)) }
     ensures later { (t : Operations) → P.later t space.old space.new }
     ensures means { (t : Operations) → P.means space.old t → P.means space.new t }
+    ensures writes { WritesNone (P.view space.old) (P.view space.new) result }
 {
     match check_len(space, name)? {
         Err(reason) => Ok(Err(reason)),
@@ -234,6 +244,7 @@ fn needs_apply<P: PageSpace>(
     ensures read { IfOk result (λ r. IfContents (P.view space.old) (λ s. CheckedBy (table_of record_meaning range_meaning ops.now) name (Apply index code arg.now) s (HasNeed (table_of record_meaning range_meaning ops.now) name (Apply index code arg.now) s) r)) }
     ensures later { (t : Operations) → P.later t space.old space.new }
     ensures means { (t : Operations) → P.means space.old t → P.means space.new t }
+    ensures writes { WritesNone (P.view space.old) (P.view space.new) result }
 {
     match check_apply(space, ops, name, index, code, arg)? {
         Err(reason) => Ok(Err(reason)),
@@ -255,6 +266,7 @@ fn needs_put<P: PageSpace>(
     ensures read { IfOk result (λ r. IfContents (P.view space.old) (λ s. CheckedBy (table_of record_meaning range_meaning ops.now) name (Put key.now value.now) s (HasNeed (table_of record_meaning range_meaning ops.now) name (Put key.now value.now) s) r)) }
     ensures later { (t : Operations) → P.later t space.old space.new }
     ensures means { (t : Operations) → P.means space.old t → P.means space.new t }
+    ensures writes { WritesNone (P.view space.old) (P.view space.new) result }
 {
     match check_put(space, name, key, value)? {
         Err(reason) => Ok(Err(reason)),
@@ -282,6 +294,7 @@ fn needs_del<P: PageSpace>(
     ensures read { IfOk result (λ r. IfContents (P.view space.old) (λ s. CheckedBy (table_of record_meaning range_meaning ops.now) name (Del key.now) s (HasNeed (table_of record_meaning range_meaning ops.now) name (Del key.now) s) r)) }
     ensures later { (t : Operations) → P.later t space.old space.new }
     ensures means { (t : Operations) → P.means space.old t → P.means space.new t }
+    ensures writes { WritesNone (P.view space.old) (P.view space.new) result }
 {
     match check_key(space, name, key)? {
         Err(reason) => Ok(Err(reason)),
@@ -309,6 +322,7 @@ fn needs_find<P: PageSpace>(
     ensures read { IfOk result (λ r. IfContents (P.view space.old) (λ s. CheckedBy (table_of record_meaning range_meaning ops.now) name (Find key.now) s (HasNeed (table_of record_meaning range_meaning ops.now) name (Find key.now) s) r)) }
     ensures later { (t : Operations) → P.later t space.old space.new }
     ensures means { (t : Operations) → P.means space.old t → P.means space.new t }
+    ensures writes { WritesNone (P.view space.old) (P.view space.new) result }
 {
     match check_key(space, name, key)? {
         Err(reason) => Ok(Err(reason)),
@@ -348,6 +362,7 @@ fn needs_make_blob<P: PageSpace>(
     ensures read { IfOk result (λ r. IfContents (P.view space.old) (λ s. CheckedBy (table_of record_meaning range_meaning ops.now) name MakeBlob s (HasNeed (table_of record_meaning range_meaning ops.now) name MakeBlob s) r)) }
     ensures later { (t : Operations) → P.later t space.old space.new }
     ensures means { (t : Operations) → P.means space.old t → P.means space.new t }
+    ensures writes { WritesNone (P.view space.old) (P.view space.new) result }
 {
     if is_there(space, name)? {
         return Ok(Err(Reason::Exists));
@@ -369,6 +384,7 @@ fn needs_write<P: PageSpace>(
     ensures read { IfOk result (λ r. IfContents (P.view space.old) (λ s. CheckedBy (table_of record_meaning range_meaning ops.now) name (Write at bytes.now) s (HasNeed (table_of record_meaning range_meaning ops.now) name (Write at bytes.now) s) r)) }
     ensures later { (t : Operations) → P.later t space.old space.new }
     ensures means { (t : Operations) → P.means space.old t → P.means space.new t }
+    ensures writes { WritesNone (P.view space.old) (P.view space.new) result }
 {
     match check_write(space, name, at, bytes)? {
         Err(reason) => Ok(Err(reason)),
@@ -393,6 +409,7 @@ fn needs_read<P: PageSpace>(
     ensures read { IfOk result (λ r. IfContents (P.view space.old) (λ s. CheckedBy (table_of record_meaning range_meaning ops.now) name (Read at count) s (HasNeed (table_of record_meaning range_meaning ops.now) name (Read at count) s) r)) }
     ensures later { (t : Operations) → P.later t space.old space.new }
     ensures means { (t : Operations) → P.means space.old t → P.means space.new t }
+    ensures writes { WritesNone (P.view space.old) (P.view space.new) result }
 {
     match check_read(space, name, at, count)? {
         Err(reason) => Ok(Err(reason)),
@@ -413,6 +430,7 @@ fn needs_size<P: PageSpace>(
     ensures read { IfOk result (λ r. IfContents (P.view space.old) (λ s. CheckedBy (table_of record_meaning range_meaning ops.now) name (Size size) s (HasNeed (table_of record_meaning range_meaning ops.now) name (Size size) s) r)) }
     ensures later { (t : Operations) → P.later t space.old space.new }
     ensures means { (t : Operations) → P.means space.old t → P.means space.new t }
+    ensures writes { WritesNone (P.view space.old) (P.view space.new) result }
 {
     match check_size(space, name, size)? {
         Err(reason) => Ok(Err(reason)),
@@ -439,6 +457,7 @@ fn needs_paint<P: PageSpace>(
     ensures read { IfOk result (λ r. IfContents (P.view space.old) (λ s. CheckedBy (table_of record_meaning range_meaning ops.now) name (Paint at count code arg.now) s (HasNeed (table_of record_meaning range_meaning ops.now) name (Paint at count code arg.now) s) r)) }
     ensures later { (t : Operations) → P.later t space.old space.new }
     ensures means { (t : Operations) → P.means space.old t → P.means space.new t }
+    ensures writes { WritesNone (P.view space.old) (P.view space.new) result }
 {
     match check_paint(space, ops, name, at, count, code, arg)? {
         Err(reason) => Ok(Err(reason)),
@@ -458,6 +477,7 @@ fn needs_verb<P: PageSpace>(
     ensures read { IfOk result (λ r. IfContents (P.view space.old) (λ s. CheckedBy (table_of record_meaning range_meaning ops.now) (name_of op.now) (verb_of op.now) s (HasNeed (table_of record_meaning range_meaning ops.now) (name_of op.now) (verb_of op.now) s) r)) }
     ensures later { (t : Operations) → P.later t space.old space.new }
     ensures means { (t : Operations) → P.means space.old t → P.means space.new t }
+    ensures writes { WritesNone (P.view space.old) (P.view space.new) result }
 {
     match *op {
         Op::MakeArray { name, size } => needs_make_array(space, ops, name, size),
@@ -499,6 +519,7 @@ pub fn needs_of<P: PageSpace>(space: &mut P, ops: &Ops, op: &Op<'_>) -> Result<N
     ensures read { IfAnswered result (λ r. IfContents (P.view space.old) (λ s. CheckedBy (table_of record_meaning range_meaning ops.now) (name_of op.now) (verb_of op.now) s (HasNeed (table_of record_meaning range_meaning ops.now) (name_of op.now) (verb_of op.now) s) r)) }
     ensures later { (t : Operations) → P.later t space.old space.new }
     ensures means { (t : Operations) → P.means space.old t → P.means space.new t }
+    ensures writes { WritesNoneObject (P.view space.old) (P.view space.new) result }
 {
     match needs_verb(space, ops, op) {
         Err(fault) => Err(ObjFault::Space(fault)),

@@ -1,5 +1,5 @@
 // Entries are put into tables, and put back.
-ghost use Rattle.std.specs.Prelude.{◌≡◌, ◌≤◌, length, OnOk, IfOk, ⊤};
+ghost use Rattle.std.specs.Prelude.{◌≡◌, ◌≤◌, length, OnOk, IfOk, ⊤, [], ◌+◌};
 ghost use Rattle.sg_ops.specs.Table.{Table as Operations, table_of};
 ghost use Rattle.sg_model.specs.SaidReplies.{said_outcome};
 ghost use Rattle.sg_model.specs.Verb.Verb.{Put};
@@ -10,6 +10,8 @@ ghost use Rattle.sg_objects.specs.Found.{PutChecked};
 ghost use Rattle.sg_objects.specs.Undone.{CanUndo, Undoes};
 ghost use Rattle.sg_reading.specs.Back.Undoing.{WasOver};
 ghost use Rattle.sg_objects.specs.Shaped.{Shapes};
+ghost use Rattle.sg_space.specs.Pages.{WritesNone};
+ghost use Rattle.sg_objects.specs.Quiet.{IsQuiet, most_records};
 
 use crate::find::root_of;
 use crate::note::{note_over, note_put};
@@ -35,6 +37,7 @@ pub fn check_put<P: PageSpace>(
     ensures small { IfOk result (λ r. IfOk r (λ _. (length value.now ≤ 1024))) }
     ensures later { (t : Operations) → P.later t space.old space.new }
     ensures means { (t : Operations) → P.means space.old t → P.means space.new t }
+    ensures writes { WritesNone (P.view space.old) (P.view space.new) result }
 {
     match check_key(space, name, key)? {
         Err(reason) => Ok(Err(reason)),
@@ -66,6 +69,8 @@ pub fn put<P: PageSpace>(
     ensures splits { IfOk result (λ r. Shapes (P.view space.old) (P.view space.new) (HasRoomFor (table_of record_meaning range_meaning ops.now) (P.view space.old) name (Put key.now value.now)) name (Put key.now value.now) (said_outcome into.new r)) }
     ensures later { P.later (table_of record_meaning range_meaning ops.now) space.old space.new }
     ensures means { P.means space.new (table_of record_meaning range_meaning ops.now) }
+    ensures few { (P.view space.old).Told → (P.view space.new).records ≤ (P.view space.old).records + most_records }
+    ensures quiet { IfOk result (λ _. undo.new ≡ [] → IsQuiet (P.view space.old) (P.view space.new)) }
 {
     undo.set(&[]);
     match check_put(space, name, key, value)? {

@@ -1,5 +1,5 @@
 // The verbs on tables that look for a key and remove one.
-ghost use Rattle.std.specs.Prelude.{◌≡◌, ◌≤◌, length, OnOk, IfOk, ⊤};
+ghost use Rattle.std.specs.Prelude.{◌≡◌, ◌≤◌, length, OnOk, IfOk, ⊤, [], ◌+◌};
 ghost use Rattle.sg_ops.specs.Table.{Table as Operations, table_of};
 ghost use Rattle.sg_model.specs.SaidReplies.{said_outcome};
 ghost use Rattle.sg_model.specs.Verb.Verb.{Find, Del};
@@ -10,6 +10,8 @@ ghost use Rattle.sg_objects.specs.Found.{KeyChecked};
 ghost use Rattle.sg_objects.specs.Undone.{CanUndo, Undoes};
 ghost use Rattle.sg_reading.specs.Back.Undoing.{WasPut};
 ghost use Rattle.sg_objects.specs.Shaped.{Shapes};
+ghost use Rattle.sg_space.specs.Pages.{WritesNone};
+ghost use Rattle.sg_objects.specs.Quiet.{IsQuiet, LooksAlone};
 
 use crate::find::root_of;
 use crate::note::note_over;
@@ -32,6 +34,7 @@ pub fn check_key<P: PageSpace>(
     ensures short { IfOk result (λ r. IfOk r (λ _. (length key.now ≤ 128))) }
     ensures later { (t : Operations) → P.later t space.old space.new }
     ensures means { (t : Operations) → P.means space.old t → P.means space.new t }
+    ensures writes { WritesNone (P.view space.old) (P.view space.new) result }
 {
     match root_of(space, name, ObjectKind::Table)? {
         Err(reason) => Ok(Err(reason)),
@@ -64,6 +67,8 @@ pub fn find<P: PageSpace>(
         (IsDone (table_of record_meaning range_meaning ops.now) 0 name (Find key.now) (said_outcome into.new r) undo.new (P.view space.old).space (P.view space.new).space)) }
     ensures later { P.later (table_of record_meaning range_meaning ops.now) space.old space.new }
     ensures means { P.means space.new (table_of record_meaning range_meaning ops.now) }
+    ensures looks { LooksAlone (P.view space.old) (P.view space.new) result undo.new }
+    ensures quiet { IfOk result (λ _. undo.new ≡ [] → IsQuiet (P.view space.old) (P.view space.new)) }
 {
     undo.set(&[]);
     match check_key(space, name, key)? {
@@ -95,6 +100,8 @@ pub fn del<P: PageSpace>(
     ensures splits { IfOk result (λ r. Shapes (P.view space.old) (P.view space.new) (HasRoomFor (table_of record_meaning range_meaning ops.now) (P.view space.old) name (Del key.now)) name (Del key.now) (said_outcome into.new r)) }
     ensures later { P.later (table_of record_meaning range_meaning ops.now) space.old space.new }
     ensures means { P.means space.new (table_of record_meaning range_meaning ops.now) }
+    ensures few { (P.view space.new).records ≤ (P.view space.old).records + 4 }
+    ensures quiet { IfOk result (λ _. undo.new ≡ [] → IsQuiet (P.view space.old) (P.view space.new)) }
 {
     undo.set(&[]);
     match check_key(space, name, key)? {

@@ -13,6 +13,7 @@ ghost use Rattle.sg_space.specs.View.{Counts, OnlyReads};
 ghost use Rattle.sg_contents.specs.Meaning.{reading};
 ghost use Rattle.sg_contents.specs.Standing.{HasContents, IfContents};
 ghost use Rattle.sg_objects.specs.Touching.{IsSeen, push_at, pop_at, len_at, item_at, key_at, body_at, reach_at};
+ghost use Rattle.sg_space.specs.Pages.{WritesNone};
 
 use sg_base::Name;
 use sg_catalog::ObjectKind;
@@ -40,6 +41,7 @@ fn seen_of<P: PageSpace>(space: &mut P, name: Name) -> Result<Seen, SpaceFault>
     ensures read { IfOk result (λ x. IfContents (P.view space.old) (λ s. IsSeen x (plain (get (reading s).things name)))) }
     ensures later { (t : Operations) → P.later t space.old space.new }
     ensures means { (t : Operations) → P.means space.old t → P.means space.new t }
+    ensures writes { WritesNone (P.view space.old) (P.view space.new) result }
 {
     let sought = sg_catalog::find(space, name)?;
     let Some(found) = sought else {
@@ -218,6 +220,7 @@ pub fn touches<P: PageSpace>(
     ensures read { OnOk result (IfContents (P.view space.old) (λ s. shown_touches into.new ≡ touches (objects (reading s)) (said_op op.now))) }
     ensures later { (t : Operations) → P.later t space.old space.new }
     ensures means { (t : Operations) → P.means space.old t → P.means space.new t }
+    ensures writes { WritesNone (P.view space.old) (P.view space.new) result }
 {
     let seen = seen_of(space, op.name())?;
     touch_verb(op, seen, into);

@@ -1,5 +1,5 @@
 // Any verb, done to the object of a name.
-ghost use Rattle.std.specs.Prelude.{◌≡◌, ◌≤◌, length, IfOk};
+ghost use Rattle.std.specs.Prelude.{◌≡◌, ◌≤◌, length, IfOk, [], false, ◌+◌};
 ghost use Rattle.sg_model.specs.SaidOps.{name_of, verb_of};
 ghost use Rattle.sg_model.specs.SaidReplies.{said_outcome};
 ghost use Rattle.sg_ops.specs.Table.{table_of};
@@ -8,6 +8,8 @@ ghost use Rattle.sg_contents.specs.Standing.{HasContents};
 ghost use Rattle.sg_objects.specs.Calls.{CountsObject, IfSaid};
 ghost use Rattle.sg_objects.specs.Done.{Did, IsDone, IsFresh, HasRoomFor};
 ghost use Rattle.sg_objects.specs.Shaped.{Shapes};
+ghost use Rattle.sg_objects.specs.Quiet.{IsQuiet, LooksAlone, LooksAtObjects, Wrote, most_records};
+ghost use Rattle.sg_model.specs.Step.{is_changing_verb};
 
 use crate::apply::apply;
 use crate::array::{get, pop, push, set};
@@ -53,6 +55,10 @@ fn perform_verb<P: PageSpace>(
     ensures splits { IfOk result (λ r. Shapes (P.view space.old) (P.view space.new) (HasRoomFor (table_of record_meaning range_meaning ops.now) (P.view space.old) (name_of op.now) (verb_of op.now)) (name_of op.now) (verb_of op.now) (said_outcome into.new r)) }
     ensures later { P.later (table_of record_meaning range_meaning ops.now) space.old space.new }
     ensures means { P.means space.new (table_of record_meaning range_meaning ops.now) }
+    ensures few { (P.view space.old).Told → (P.view space.new).records ≤ (P.view space.old).records + most_records }
+    ensures looks { is_changing_verb (verb_of op.now) ≡ false → LooksAlone (P.view space.old) (P.view space.new) result undo.new }
+    ensures quiet { IfOk result (λ _. undo.new ≡ [] → IsQuiet (P.view space.old) (P.view space.new)) }
+    ensures wrote { IfOk result (λ r. Wrote (P.view space.old) (P.view space.new) (HasRoomFor (table_of record_meaning range_meaning ops.now) (P.view space.old) (name_of op.now) (verb_of op.now)) (name_of op.now) (verb_of op.now) (said_outcome into.new r)) }
 {
     match *op {
         Op::MakeArray { name, size } => make_array(space, ops, name, size, into, undo),
@@ -106,6 +112,10 @@ pub fn perform<P: PageSpace>(
     ensures splits { IfSaid into.new result (λ outcome. Shapes (P.view space.old) (P.view space.new) (HasRoomFor (table_of record_meaning range_meaning ops.now) (P.view space.old) (name_of op.now) (verb_of op.now)) (name_of op.now) (verb_of op.now) outcome) }
     ensures later { P.later (table_of record_meaning range_meaning ops.now) space.old space.new }
     ensures means { P.means space.new (table_of record_meaning range_meaning ops.now) }
+    ensures few { (P.view space.old).Told → (P.view space.new).records ≤ (P.view space.old).records + most_records }
+    ensures looks { is_changing_verb (verb_of op.now) ≡ false → LooksAtObjects (P.view space.old) (P.view space.new) result undo.new }
+    ensures quiet { IfSaid into.new result (λ _. undo.new ≡ [] → IsQuiet (P.view space.old) (P.view space.new)) }
+    ensures wrote { IfSaid into.new result (λ outcome. Wrote (P.view space.old) (P.view space.new) (HasRoomFor (table_of record_meaning range_meaning ops.now) (P.view space.old) (name_of op.now) (verb_of op.now)) (name_of op.now) (verb_of op.now) outcome) }
 {
     match perform_verb(space, ops, by, op, into, undo) {
         Err(fault) => Err(ObjFault::Space(fault)),

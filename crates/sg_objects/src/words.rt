@@ -5,7 +5,7 @@ ghost use Rattle.sg_ops.specs.Table.{Table as Operations};
 ghost use Rattle.sg_model.specs.Step.{on};
 ghost use Rattle.sg_model.specs.Verb.Verb.{Keys};
 ghost use Rattle.sg_reading.specs.Reading.{objects, plain};
-ghost use Rattle.sg_space.specs.Listing.{CountsList};
+ghost use Rattle.sg_space.specs.Listing.{CountsList, WritesNoneList};
 ghost use Rattle.sg_space.specs.View.{OnlyReads};
 ghost use Rattle.sg_contents.specs.Meaning.{reading};
 ghost use Rattle.sg_contents.specs.Standing.{HasContents, IfContents};
@@ -31,6 +31,7 @@ pub fn keys<P: PageSpace>(
     ensures read { IfOk result (λ r. IfContents (P.view space.old) (λ s. (t : Operations) → (on t Keys (plain (get (reading s).things name))).0 ≡ said_keys r)) }
     ensures later { (t : Operations) → P.later t space.old space.new }
     ensures means { (t : Operations) → P.means space.old t → P.means space.new t }
+    ensures writes { WritesNoneList (P.view space.old) (P.view space.new) result }
 {
     match root_of(space, name, ObjectKind::Table)? {
         Err(reason) => Ok(Err(reason)),
@@ -49,6 +50,7 @@ pub fn list<P: PageSpace>(space: &mut P, alloc: Global) -> Result<Vec<Name>, Lis
     ensures read { IfOk result (λ v. IfContents (P.view space.old) (λ s. v.items ≡ keys (objects (reading s)))) }
     ensures later { (t : Operations) → P.later t space.old space.new }
     ensures means { (t : Operations) → P.means space.old t → P.means space.new t }
+    ensures writes { WritesNoneList (P.view space.old) (P.view space.new) result }
 {
     let all = sg_catalog::names(space, alloc)?;
     Ok(all)

@@ -7,6 +7,7 @@ use Rattle.sg_objects.proofs.Blobbed.{blob_at}
 use Rattle.sg_objects.proofs.BlobVerbs.{can_paint, paint_done}
 use Rattle.sg_objects.proofs.Bodies.{from_start}
 use Rattle.sg_objects.proofs.Applying.{refused_by}
+use Rattle.sg_objects.proofs.Writing.{wrote_body}
 use Rattle.sg_objects.proofs.blob_paint.paint.Goals as goal
 
 pub returns-in-Err-clause-did : goal.returns-in-Err-clause-did
@@ -50,3 +51,17 @@ returns-in_err-paint-in-Ok-clause-later g c = g.met.P.PageSpace.later_then _ _ _
 
 pub returns-in_ok-paint-in-Ok-clause-later : goal.returns-in_ok-paint-in-Ok-clause-later
 returns-in_ok-paint-in-Ok-clause-later g c = g.met.P.PageSpace.later_then _ _ _ _ (c.check_paint.ensures.later _) c.paint.ensures.later
+
+pub returns-in_ok-paint-in-Ok-clause-wrote : goal.returns-in_ok-paint-in-Ok-clause-wrote
+returns-in_ok-paint-in-Ok-clause-wrote g c =
+    let k = c.in_ok-reason.ensures.kept in
+    let did = c.in_ok-paint-in-Ok.ensures.did in
+    record {
+      bands = λ told s h can.
+          let shows = g.met.P.PageSpace.told_shows _ told in
+          let mid = k.keeps.told told in
+          let f = (c.in_ok-reason.ensures.read shows s h).ok c.in-Ok.found c.in-Ok.is in
+          let now = still_contents k shows h in
+          let one = did.turns mid f.found.blob (blob_at now f.found) (can_paint f) in
+          wrote_body one.0 k f.found.at (one.1).blob one.3;
+    }

@@ -12,6 +12,7 @@ use Rattle.sg_objects.proofs.BlobVerbs.{can_size, size_done}
 use Rattle.sg_objects.proofs.Bodies.{from_start}
 use Rattle.sg_objects.proofs.Doing.{refused_did, still_room}
 use Rattle.sg_objects.proofs.Fresh.{still_fresh}
+use Rattle.sg_objects.proofs.Writing.{wrote_body}
 use Rattle.sg_objects.proofs.blob_size.resize.Goals as goal
 
 pub returns-in-Err-clause-did : goal.returns-in-Err-clause-did
@@ -49,3 +50,17 @@ returns-in_err-set_len-in-Ok-clause-later g c = g.met.P.PageSpace.later_then _ _
 
 pub returns-in_ok-set_len-in-Ok-clause-later : goal.returns-in_ok-set_len-in-Ok-clause-later
 returns-in_ok-set_len-in-Ok-clause-later g c = g.met.P.PageSpace.later_then _ _ _ _ (c.check_size.ensures.later _) c.set_len.ensures.later
+
+pub returns-in_ok-set_len-in-Ok-clause-wrote : goal.returns-in_ok-set_len-in-Ok-clause-wrote
+returns-in_ok-set_len-in-Ok-clause-wrote g c =
+    let k = c.in_ok-reason.ensures.kept in
+    let did = c.in_ok-set_len-in-Ok.ensures.did in
+    record {
+      bands = λ told s h can.
+          let shows = g.met.P.PageSpace.told_shows _ told in
+          let mid = k.keeps.told told in
+          let f = subst (λ (r : Result BlobAt Reason). Checked c.args.name (Size c.args.size) s (CanSizeTo c.args.name c.args.size s) r) c.in-Ok.is (c.in_ok-reason.ensures.read shows s h) in
+          let now = still_contents k shows h in
+          let one = did.turns mid f.found.blob (blob_at now f.found) (can_size _ c.args.size now f (still_fresh k shows (c.requires.fresh told)) (still_room k shows can)) in
+          wrote_body one.0 k f.found.at (one.1).blob one.3;
+    }

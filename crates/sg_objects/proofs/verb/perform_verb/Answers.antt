@@ -1,5 +1,6 @@
-use Rattle.std.proofs.Common.{sym}
+use Rattle.std.proofs.Common.{sym, refl}
 use Rattle.sg_objects.proofs.Performing.{ok_any, as_op, room_as}
+use Rattle.sg_objects.proofs.Writing.{on_no_bytes, wrote_as, not_looking}
 use Rattle.sg_objects.proofs.verb.perform_verb.Goals as goal
 use Rattle.sg_objects.proofs.Shaping.{shapes_as, neither}
 
@@ -155,3 +156,105 @@ returns-in-Size-clause-splits g c = shapes_as _ _ _ _ _ (sym c.in-Size.is) (neit
 
 pub returns-in-Paint-clause-splits : goal.returns-in-Paint-clause-splits
 returns-in-Paint-clause-splits g c = shapes_as _ _ _ _ _ (sym c.in-Paint.is) (neither _ _ _ _ _ _ _ tt)
+
+pub returns-in-MakeArray-clause-wrote : goal.returns-in-MakeArray-clause-wrote
+returns-in-MakeArray-clause-wrote g c = wrote_as _ _ _ _ _ (sym c.in-MakeArray.is) (on_no_bytes _ _ _ _ _ _ _ tt)
+
+pub returns-in-MakeTable-clause-wrote : goal.returns-in-MakeTable-clause-wrote
+returns-in-MakeTable-clause-wrote g c = wrote_as _ _ _ _ _ (sym c.in-MakeTable.is) (on_no_bytes _ _ _ _ _ _ _ tt)
+
+pub returns-in-MakeBlob-clause-wrote : goal.returns-in-MakeBlob-clause-wrote
+returns-in-MakeBlob-clause-wrote g c = wrote_as _ _ _ _ _ (sym c.in-MakeBlob.is) (on_no_bytes _ _ _ _ _ _ _ tt)
+
+pub returns-in-Discard-clause-wrote : goal.returns-in-Discard-clause-wrote
+returns-in-Discard-clause-wrote g c = wrote_as _ _ _ _ _ (sym c.in-Discard.is) (on_no_bytes _ _ _ _ _ _ _ tt)
+
+pub returns-in-Push-clause-wrote : goal.returns-in-Push-clause-wrote
+returns-in-Push-clause-wrote g c = wrote_as _ _ _ _ _ (sym c.in-Push.is) (on_no_bytes _ _ _ _ _ _ _ tt)
+
+pub returns-in-Pop-clause-wrote : goal.returns-in-Pop-clause-wrote
+returns-in-Pop-clause-wrote g c = wrote_as _ _ _ _ _ (sym c.in-Pop.is) (on_no_bytes _ _ _ _ _ _ _ tt)
+
+pub returns-in-Set-clause-wrote : goal.returns-in-Set-clause-wrote
+returns-in-Set-clause-wrote g c = wrote_as _ _ _ _ _ (sym c.in-Set.is) (on_no_bytes _ _ _ _ _ _ _ tt)
+
+pub returns-in-Get-clause-wrote : goal.returns-in-Get-clause-wrote
+returns-in-Get-clause-wrote g c = wrote_as _ _ _ _ _ (sym c.in-Get.is) (on_no_bytes _ _ _ _ _ _ _ tt)
+
+pub returns-in-Len-clause-wrote : goal.returns-in-Len-clause-wrote
+returns-in-Len-clause-wrote g c = wrote_as _ _ _ _ _ (sym c.in-Len.is) (on_no_bytes _ _ _ _ _ _ _ tt)
+
+pub returns-in-Apply-clause-wrote : goal.returns-in-Apply-clause-wrote
+returns-in-Apply-clause-wrote g c = wrote_as _ _ _ _ _ (sym c.in-Apply.is) (on_no_bytes _ _ _ _ _ _ _ tt)
+
+pub returns-in-Put-clause-wrote : goal.returns-in-Put-clause-wrote
+returns-in-Put-clause-wrote g c = wrote_as _ _ _ _ _ (sym c.in-Put.is) (on_no_bytes _ _ _ _ _ _ _ tt)
+
+pub returns-in-Del-clause-wrote : goal.returns-in-Del-clause-wrote
+returns-in-Del-clause-wrote g c = wrote_as _ _ _ _ _ (sym c.in-Del.is) (on_no_bytes _ _ _ _ _ _ _ tt)
+
+pub returns-in-Find-clause-wrote : goal.returns-in-Find-clause-wrote
+returns-in-Find-clause-wrote g c = wrote_as _ _ _ _ _ (sym c.in-Find.is) (on_no_bytes _ _ _ _ _ _ _ tt)
+
+pub returns-in-Write-clause-wrote : goal.returns-in-Write-clause-wrote
+returns-in-Write-clause-wrote g c = wrote_as _ _ _ _ _ (sym c.in-Write.is) c.write.ensures.wrote
+
+pub returns-in-Read-clause-wrote : goal.returns-in-Read-clause-wrote
+returns-in-Read-clause-wrote g c = wrote_as _ _ _ _ _ (sym c.in-Read.is) (on_no_bytes _ _ _ _ _ _ _ tt)
+
+pub returns-in-Size-clause-wrote : goal.returns-in-Size-clause-wrote
+returns-in-Size-clause-wrote g c = wrote_as _ _ _ _ _ (sym c.in-Size.is) c.resize.ensures.wrote
+
+pub returns-in-Paint-clause-wrote : goal.returns-in-Paint-clause-wrote
+returns-in-Paint-clause-wrote g c = wrote_as _ _ _ _ _ (sym c.in-Paint.is) c.paint.ensures.wrote
+
+pub returns-in-MakeArray-clause-looks : goal.returns-in-MakeArray-clause-looks
+returns-in-MakeArray-clause-looks g c = not_looking _ _ c.in-MakeArray.is refl
+
+pub returns-in-MakeTable-clause-looks : goal.returns-in-MakeTable-clause-looks
+returns-in-MakeTable-clause-looks g c = not_looking _ _ c.in-MakeTable.is refl
+
+pub returns-in-MakeBlob-clause-looks : goal.returns-in-MakeBlob-clause-looks
+returns-in-MakeBlob-clause-looks g c = not_looking _ _ c.in-MakeBlob.is refl
+
+pub returns-in-Discard-clause-looks : goal.returns-in-Discard-clause-looks
+returns-in-Discard-clause-looks g c = not_looking _ _ c.in-Discard.is refl
+
+pub returns-in-Push-clause-looks : goal.returns-in-Push-clause-looks
+returns-in-Push-clause-looks g c = not_looking _ _ c.in-Push.is refl
+
+pub returns-in-Pop-clause-looks : goal.returns-in-Pop-clause-looks
+returns-in-Pop-clause-looks g c = not_looking _ _ c.in-Pop.is refl
+
+pub returns-in-Set-clause-looks : goal.returns-in-Set-clause-looks
+returns-in-Set-clause-looks g c = not_looking _ _ c.in-Set.is refl
+
+pub returns-in-Get-clause-looks : goal.returns-in-Get-clause-looks
+returns-in-Get-clause-looks g c = λ _. c.get.ensures.looks
+
+pub returns-in-Len-clause-looks : goal.returns-in-Len-clause-looks
+returns-in-Len-clause-looks g c = λ _. c.len.ensures.looks
+
+pub returns-in-Apply-clause-looks : goal.returns-in-Apply-clause-looks
+returns-in-Apply-clause-looks g c = not_looking _ _ c.in-Apply.is refl
+
+pub returns-in-Put-clause-looks : goal.returns-in-Put-clause-looks
+returns-in-Put-clause-looks g c = not_looking _ _ c.in-Put.is refl
+
+pub returns-in-Del-clause-looks : goal.returns-in-Del-clause-looks
+returns-in-Del-clause-looks g c = not_looking _ _ c.in-Del.is refl
+
+pub returns-in-Find-clause-looks : goal.returns-in-Find-clause-looks
+returns-in-Find-clause-looks g c = λ _. c.find.ensures.looks
+
+pub returns-in-Write-clause-looks : goal.returns-in-Write-clause-looks
+returns-in-Write-clause-looks g c = not_looking _ _ c.in-Write.is refl
+
+pub returns-in-Read-clause-looks : goal.returns-in-Read-clause-looks
+returns-in-Read-clause-looks g c = λ _. c.read.ensures.looks
+
+pub returns-in-Size-clause-looks : goal.returns-in-Size-clause-looks
+returns-in-Size-clause-looks g c = not_looking _ _ c.in-Size.is refl
+
+pub returns-in-Paint-clause-looks : goal.returns-in-Paint-clause-looks
+returns-in-Paint-clause-looks g c = not_looking _ _ c.in-Paint.is refl

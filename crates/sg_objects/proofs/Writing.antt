@@ -1,0 +1,72 @@
+-- What verbs write of the log, and in bands.
+use Rattle.std.proofs.Common.{◌≡◌, ◌⊎◌, inl, inr, ℕ, List, true, false, Result, Ok, Err, IfOk, subst, ap}
+use Rattle.sg_blob.specs.Blob.{Blob, IsBlob, OwnsBand}
+use Rattle.sg_catalog.specs.declared.row.ObjectKind.TheVariants as kinds
+use Rattle.sg_model.specs.Step.{is_changing_verb}
+use Rattle.sg_model.specs.Verb.{Verb, Outcome}
+use Rattle.sg_model.specs.Verb.Verb.{MakeArray, MakeTable, MakeBlob, Discard, Push, Pop, Set, Get, Len, Apply, Put, Del, Find, Keys, Write, Read, Size, Paint}
+use Rattle.sg_model.specs.declared.op.Op.{Op}
+use Rattle.sg_model.specs.declared.op.Reply as code_reply
+use Rattle.sg_model.specs.declared.reason.Reason.{Reason}
+use Rattle.sg_model.specs.SaidOps.{name_of, verb_of}
+use Rattle.sg_model.specs.SaidReplies.{said_outcome}
+use Rattle.sg_ops.specs.Table.{Table as Operations}
+use Rattle.sg_space.specs.declared.space.SpaceFault.{SpaceFault}
+use Rattle.sg_space.specs.View.{View, OnlyReads, WritesIn}
+use Rattle.sg_contents.specs.Standing.{Contents}
+use Rattle.sg_objects.specs.Done.{HasRoomFor}
+use Rattle.sg_objects.specs.Found.{IsAt}
+use Rattle.sg_objects.specs.Quiet.{WritesBody, WritesBands, Wrote}
+use Rattle.sg_objects.proofs.Shaping.{same_root}
+
+first_by : {A B C : Type 0} → (A → C) → A ⊎ B → C ⊎ B
+first_by f (inl a) = inl (f a)
+first_by f (inr b) = inr b
+
+-- the calls before it only read
+from_before : {v m w : View} {own : ℕ → Type 0} → OnlyReads v m → WritesIn own m w → WritesIn own v w
+from_before k x = record { wrote = λ b h. first_by (k.wrote b) (x.wrote b h) }
+
+-- A BLOB'S BYTES were written on its own bands
+pub wrote_body : {v m w : View} {s : Contents} {name : List ℕ} {root : ℕ} (b : Blob) → OnlyReads v m → IsAt kinds.Blob s name root → IsBlob w.space.pages.at w.space.bands.at root b → WritesIn (OwnsBand b.bands) m w → WritesBody name s v w
+wrote_body {v} {m} {w} {s} {name} {root} b k at there wrote other is =
+    (b, subst (λ (n : ℕ). IsBlob w.space.pages.at w.space.bands.at n b) (same_root at is) there, from_before k wrote)
+
+-- A VERB THAT IS ON NO BLOB'S BYTES
+abbrev pub IsOnNoBytes : Verb → Type 0
+IsOnNoBytes (Write at bytes) = ⊥
+IsOnNoBytes (Size n) = ⊥
+IsOnNoBytes (Paint at count code arg) = ⊥
+IsOnNoBytes other = Unit {0}
+
+unwritten : (verb : Verb) → IsOnNoBytes verb → (o : Outcome) (name : List ℕ) (s : Contents) (v w : View) → WritesBands verb o name s v w
+unwritten (Put key value) n o name s v w = tt
+unwritten (Del key) n o name s v w = tt
+unwritten (MakeArray size) n o name s v w = tt
+unwritten MakeTable n o name s v w = tt
+unwritten MakeBlob n o name s v w = tt
+unwritten Discard n o name s v w = tt
+unwritten (Push value) n o name s v w = tt
+unwritten Pop n o name s v w = tt
+unwritten (Set index value) n o name s v w = tt
+unwritten (Get index) n o name s v w = tt
+unwritten Len n o name s v w = tt
+unwritten (Apply index code arg) n o name s v w = tt
+unwritten (Find key) n o name s v w = tt
+unwritten Keys n o name s v w = tt
+unwritten (Write at bytes) n o name s v w = absurd n
+unwritten (Read at count) n o name s v w = tt
+unwritten (Size m) n o name s v w = absurd n
+unwritten (Paint at count code arg) n o name s v w = absurd n
+
+pub on_no_bytes : (v w : View) (Can : Contents → Type 0) (name : List ℕ) (verb : Verb) (into : List ℕ) (r : Result (Result code_reply.Reply Reason) SpaceFault) → IsOnNoBytes verb → IfOk r (λ x. Wrote v w Can name verb (said_outcome into x))
+on_no_bytes v w Can name verb into (Ok x) n = record { bands = λ told s h can. unwritten verb n (said_outcome into x) name s v w }
+on_no_bytes v w Can name verb into (Err e) n = tt
+
+-- the same of an operation that is another way to say the verb and its name
+pub wrote_as : (v w : View) (t : Operations) (into : List ℕ) (r : Result (Result code_reply.Reply Reason) SpaceFault) {o p : Op} → o ≡ p → IfOk r (λ x. Wrote v w (HasRoomFor t v (name_of o) (verb_of o)) (name_of o) (verb_of o) (said_outcome into x)) → IfOk r (λ x. Wrote v w (HasRoomFor t v (name_of p) (verb_of p)) (name_of p) (verb_of p) (said_outcome into x))
+wrote_as v w t into r e d = subst (λ (x : Op). IfOk r (λ y. Wrote v w (HasRoomFor t v (name_of x) (verb_of x)) (name_of x) (verb_of x) (said_outcome into y))) e d
+
+-- an operation that changes objects isn't one that only looks
+pub not_looking : {A : Type 0} (o p : Op) → o ≡ p → is_changing_verb (verb_of p) ≡ true → is_changing_verb (verb_of o) ≡ false → A
+not_looking o p e changes looks = let same = ap (λ (x : Op). is_changing_verb (verb_of x)) e in cc
