@@ -97,6 +97,7 @@ pub acts_now : (t : Table) (limits : State → ℕ → ℕ) (e : EngineView) (ma
     → NowActs t limits e maps rows actor new new.txn.0
 acts_now t limits e maps unfreed rows actor new can nonzero row both = record {
   is = λ told. refl;
+  chain = λ told h. chain_act e.base e.steps e.tail rows actor new (can told).rest.idle (can told).rest.system ((can told).row nonzero).1 row both h;
   kept = λ told k. record {
     chain = chain_act e.base e.steps e.tail rows actor new (can told).rest.idle (can told).rest.system ((can told).row nonzero).1 row both k.chain;
     well = k.well;
@@ -105,11 +106,11 @@ acts_now t limits e maps unfreed rows actor new can nonzero row both = record {
 
 -- the system acts already
 pub system_acts : (t : Table) (limits : State → ℕ → ℕ) (e : EngineView) (maps unfreed : Maps) (rows : List Row) (actor : Actor) (txn : ℕ) → CanAct e unfreed rows actor txn → txn ≡ 0 → NowActs t limits e maps rows actor actor txn
-system_acts t limits e maps unfreed rows actor txn can zero = record { is = λ told. (can told).rest.system ∙ sym zero; kept = λ told k. k }
+system_acts t limits e maps unfreed rows actor txn can zero = record { is = λ told. (can told).rest.system ∙ sym zero; chain = λ told h. h; kept = λ told k. k }
 
 -- a transaction without a row doesn't go on
 pub nobody_acts : (t : Table) (limits : State → ℕ → ℕ) (e : EngineView) (maps unfreed : Maps) (rows : List Row) (actor : Actor) (txn : ℕ) → CanAct e unfreed rows actor txn → txn ≢ 0 → last_in rows txn ≡ None → NowActs t limits e maps rows actor actor txn
-nobody_acts t limits e maps unfreed rows actor txn can nonzero none = record { is = λ told. absurd (no (can told)); kept = λ told k. k }
+nobody_acts t limits e maps unfreed rows actor txn can nonzero none = record { is = λ told. absurd (no (can told)); chain = λ told h. h; kept = λ told k. k }
   where
     no : IsActable e.steps unfreed rows actor txn → ⊥
     no c = let some = some_of (last_in rows txn) (c.row nonzero).0 in (let e : None ≡ Some some.0 = sym none ∙ some.1 in cc)

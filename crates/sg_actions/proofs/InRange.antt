@@ -3,15 +3,17 @@ use Rattle.std.proofs.Common.{rules, ◌≡◌, ℕ, ◌+◌, ◌*◌, ◌/◌, 
 use Rattle.std.specs.Prelude.{nat_le, nat_lt, ◌&&◌}
 use Rattle.std.proofs.lemmas.Bool.Decides.{nat_tests}
 use Rattle.byteorder.specs.Endian.{little_bytes}
+use Rattle.std.proofs.lemmas.List.{length-append}
 use Rattle.byteorder.specs.Numbers.{length-bytes_low_first}
 use Rattle.sg_record.specs.Ranges.{IsRecord, first_out, out_of_range}
 use Rattle.sg_record.specs.Records.{body_of}
 use Rattle.sg_record.specs.Records.Says.{Begin, TopEnd, TopVoid, Changed, Save, Commit, End, CompEnd, Checkpoint}
-use Rattle.sg_record.specs.Changes.{PageChange}
-use Rattle.sg_record.specs.Changes.Change.{Page, SegOp}
+use Rattle.sg_record.specs.Changes.{PageChange, BandBytes}
+use Rattle.sg_record.specs.Changes.Change.{Page, SegWrite, SegOp}
 use Rattle.sg_actions.specs.Painting.{fill_with}
 use Rattle.sg_record.specs.Shown.{by}
-use Rattle.sg_actions.specs.Changes.{change_with}
+use Rattle.sg_space.specs.Bands.{IsPiece}
+use Rattle.sg_actions.specs.Changes.{change_with, bytes_with}
 
 le_true : (a b : ℕ) → a ≤ b → nat_le a b ≡ true
 le_true a b h = grind (arith, nat_tests)
@@ -122,3 +124,26 @@ fill_in t p b at small low few within = record {
   ranges = fill_fields (nat_le (21 + length (body_of (Changed (SegOp (fill_with b at))))) 16417) (nat_lt b 65536) (nat_lt at 32768) (nat_le (at + 8192) 32768)
       (let s = size_fill b at in le_true (21 + length (body_of (Changed (SegOp (fill_with b at))))) 16417 (omega (arith, s))) (lt_true b 65536 few) (lt_true at 32768 (omega (arith, within))) (le_true (at + 8192) 32768 (omega (arith, within)));
 }
+
+size_write : (b at count : ℕ) (before after : List ℕ) → length (body_of (Changed (SegWrite (bytes_with b at count before after)))) ≡ 12 + length (before ++ after)
+size_write b at count before after = search rules
+
+write_fields : (a b c d e f : Bool) → a ≡ true → b ≡ true → c ≡ true → d ≡ true → e ≡ true → f ≡ true → first_out ((1, a) ∷ (21, b) ∷ (25, c) ∷ (29, d && (e && f)) ∷ []) ≡ None
+write_fields a b c d e f g h i j k l = λ n. first_out ((1, g n) ∷ (21, h n) ∷ (25, i n) ∷ (29, j n && (k n && l n)) ∷ [])
+
+-- a write of a piece of a band, with as many bytes before
+write_of : (t p b at count : ℕ) (before after : List ℕ) → t < 2 ^ 64 → p < 2 ^ 64 → b < 65536 → IsPiece at count → length before ≡ count → length after ≡ count → IsRecord (by t p (Changed (SegWrite (bytes_with b at count before after))))
+write_of t p b at count before after small low few piece m n =
+    let some = piece.some in
+    let most = piece.most in
+    let within = piece.within in
+    record {
+      transaction = small;
+      previous = low;
+      fits = ((omega (arith, few), (omega (arith, within, some), omega (arith, most))), (m, n));
+      ranges = write_fields (nat_le (21 + length (body_of (Changed (SegWrite (bytes_with b at count before after))))) 16417) (nat_lt b 65536) (nat_lt at 32768) (nat_le 1 count) (nat_le count 8192) (nat_le (at + count) 32768)
+          (let s = size_write b at count before after in let l = length-append before after in le_true (21 + length (body_of (Changed (SegWrite (bytes_with b at count before after))))) 16417 (omega (arith, s, l, m, n, most))) (lt_true b 65536 few) (lt_true at 32768 (omega (arith, within, some))) (le_true 1 count some) (le_true count 8192 most) (le_true (at + count) 32768 within);
+    }
+
+pub write_in : (t p b at count : ℕ) (before after : List ℕ) (c : BandBytes) → c ≡ bytes_with b at count before after → t < 2 ^ 64 → p < 2 ^ 64 → b < 65536 → IsPiece at count → length before ≡ count → length after ≡ count → IsRecord (by t p (Changed (SegWrite c)))
+write_in t p b at count before after c is small low few piece m n = subst (λ (x : BandBytes). IsRecord (by t p (Changed (SegWrite x)))) (sym is) (write_of t p b at count before after small low few piece m n)

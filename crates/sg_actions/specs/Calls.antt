@@ -11,6 +11,7 @@ use Rattle.sg_action.specs.States.{State}
 use Rattle.sg_recovery.specs.Log.{tally, is_in}
 use Rattle.sg_space.specs.declared.space.SpaceFault.{SpaceFault}
 use Rattle.sg_recovery.specs.Formed.{IsLog}
+use Rattle.sg_actions.specs.Acting.{IsChained}
 use Rattle.sg_actions.specs.Engine.{EngineView, EngineCounts, Logged, Moments}
 use Rattle.sg_actions.specs.Images.{Recovering}
 use Rattle.sg_actions.specs.Rows.{HasRow, placed, rows_after, at_rest}
@@ -62,6 +63,7 @@ CanAct e unfreed rows actor txn = e.Told → IsActable e.steps unfreed rows acto
 -- it acts
 pub record NowActs (t : Table) (limits : State → ℕ → ℕ) (e : EngineView) (maps : Maps) (rows : List Row) (actor actor' : Actor) (txn : ℕ) : Type 0 where
   pub is : e.Told → actor'.txn.0 ≡ txn
+  pub chain : e.Told → IsChained e.base e.steps e.tail rows actor → IsChained e.base e.steps e.tail rows actor'
   pub kept : e.Told → IsKept t limits e maps rows actor → IsKept t limits e maps rows actor'
 
 -- what was freed is no longer taken, and nothing is freed

@@ -19,3 +19,4 @@ pub mod Checkpoints
 pub mod Painting
 pub mod Undoing
 pub mod Notes
+pub mod PuttingBack

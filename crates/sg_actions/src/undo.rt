@@ -1,16 +1,18 @@
 // The undo of a transaction.
+ghost use Rattle.std.specs.Prelude.{◌≡◌, option_map};
 ghost use Rattle.sg_record.specs.Ranges.{IsRecord};
-ghost use Rattle.sg_record.specs.Shown.{shown};
+ghost use Rattle.sg_record.specs.Shown.{shown, shown_change};
+ghost use Rattle.sg_actions.specs.PuttingBack.{shown_hop, shown_stood};
 ghost use Rattle.sg_actions.specs.Steps.{step_of};
-ghost use Rattle.sg_actions.specs.Undoing.{SeesBy};
+ghost use Rattle.sg_actions.specs.Undoing.{SeesBy, hop_in, stood_in, stood_by, is_of_bytes};
 
 use crate::acts::count_break;
 use crate::rows::{Actor, keep_row, last_in};
 use crate::settling::{settle_bands, settle_pages};
-use crate::spelling::is_number;
+use crate::spelling::{copy_piece, is_number, spell_bytes};
 use crate::{Acts, Engine};
-use sg_base::{Lsn, TxnId};
-use sg_record::{Rec, decode};
+use sg_base::{BandNo, Lsn, TxnId};
+use sg_record::{BandBytes, Change, Rec, decode};
 use sg_space::{SpaceFault, UndoNote};
 
 // The bytes of the greatest record.
@@ -66,8 +68,64 @@ fn see(r: &Rec<'_>, into: &mut UndoNote) -> Option<Seen>
     }
 }
 
+// What a way back over an action meets at a record: the change that it makes, if it takes none off, and
+// where the way goes on.
+fn hop_at<'a>(r: &Rec<'a>) -> Option<(Option<Change<'a>>, Lsn)>
+    ensures { option_map shown_hop result ≡ hop_in (step_of (shown r.now)) }
+{
+    match *r {
+        Rec::Page { prev, change, .. } => Some((Some(Change::Page(change)), prev)),
+        Rec::SegWrite { prev, change, .. } => Some((Some(Change::SegWrite(change)), prev)),
+        Rec::SegOp { prev, change, .. } => Some((Some(Change::SegOp(change)), prev)),
+        Rec::PhysComp { undo_next, .. } => Some((None, undo_next)),
+        _ => None,
+    }
+}
+
+// The bytes that stood where a change wrote into a band, as ones to be written there, where it keeps some.
+fn stood_at<'a>(change: &Change<'a>) -> Option<BandBytes<'a>>
+    ensures { option_map shown_stood result ≡ stood_in (shown_change change.now) }
+{
+    let (band, at, count, before) = match *change {
+        Change::Page(_) => return None,
+        Change::SegWrite(c) => (c.band, c.at, c.count, c.before),
+        Change::SegOp(c) => (c.band, c.at, c.count, c.before),
+    };
+    if before.is_empty() {
+        return None;
+    }
+    Some(BandBytes {
+        band,
+        at,
+        count,
+        before: &[],
+        after: before,
+    })
+}
+
+// The same of what a way back meets at a record.
+fn part_of<'a>(change: Option<Change<'a>>) -> Option<BandBytes<'a>>
+    ensures { option_map shown_stood result ≡ stood_by (option_map shown_change change.entry) }
+{
+    match change {
+        None => None,
+        Some(change) => stood_at(&change),
+    }
+}
+
+// Whether a note says that bytes of bands come back.
+fn is_of_bytes(note: &[u8]) -> bool
+    ensures { result ≡ is_of_bytes note.now }
+{
+    !note.is_empty() && note[0] == 9
+}
+
 impl<E: Engine> Acts<E> {
-    ghost use Rattle.std.specs.Prelude.{◌≡◌, false, IfOk, OnOk};
+    ghost use Rattle.std.specs.Prelude.{◌≡◌, ◌<◌, true, false, length, IfOk, OnOk};
+    ghost use Rattle.sg_ops.specs.Table.{Table};
+    ghost use Rattle.sg_space.specs.Bands.{IsPiece};
+    ghost use Rattle.sg_actions.specs.Later.{Later};
+    ghost use Rattle.sg_actions.specs.PuttingBack.{moment, HasHop, PutBytes, PutOne, CanPutBack, PutAll, UndoStepped, MayUndo};
     ghost use Rattle.sg_recovery.specs.Log.Record.{CompEnd};
     ghost use Rattle.sg_actions.specs.Calls.{Appends};
     ghost use Rattle.sg_actions.specs.Ending.{CanEndUndo, UndoEnded};
@@ -159,6 +217,116 @@ impl<E: Engine> Acts<E> {
         let mut note = UndoNote::new();
         let found = self.find_note(txn, stop, &mut note)?;
         Ok(found.map(|f| f.at))
+    }
+
+    // Writes bytes into a part of a band, as a change of who acts.
+    fn put_bytes(&mut self, b: BandNo, at: u32, bytes: &[u8]) -> Result<(), SpaceFault>
+        requires band { b.0 < 65536 }
+        requires piece { IsPiece at (length bytes.now) }
+        requires begun { self.old.begun ≡ true }
+        ensures counts { ActsCounts (E.view self.old.engine) (E.view self.new.engine) self.old.breaks self.new.breaks result }
+        ensures did { OnOk result (PutBytes E.table (E.view self.old.engine) (E.view self.new.engine) self.old.rows.items self.old.actor self.new.actor (b.0, (at, bytes.now))) }
+        ensures maps { self.new.maps ≡ self.old.maps }
+        ensures unfreed { self.new.unfreed ≡ self.old.unfreed }
+        ensures rows { self.new.rows.items ≡ self.old.rows.items }
+        ensures begun { self.new.begun ≡ self.old.begun }
+        // also of a call that fails
+        ensures later { (u : Table) → Later E.recovers E.table E.limits u (moment (E.view self.old.engine) self.old.maps self.old.rows.items self.old.actor self.old.begun)
+            (moment (E.view self.new.engine) self.new.maps self.new.rows.items self.new.actor self.new.begun) }
+    {
+        let count = bytes.len();
+        let mut before = [0u8; 8192];
+        let stood = &mut before[..count];
+        self.engine.load_band(b)?;
+        copy_piece(self.engine.band(b), at, count, stood);
+        is_number(self.actor.txn.0);
+        is_number(self.actor.last);
+        let record = Rec::SegWrite {
+            txn: self.actor.txn,
+            prev: self.actor.last,
+            change: spell_bytes(b, at, count as u32, stood, bytes),
+        };
+        self.actor.last = self.engine.log(&record)?;
+        Ok(())
+    }
+
+    // Puts the bytes back that stood where a change wrote into a band, and answers at which record the
+    // way back over its action goes on.
+    fn put_one_back(&mut self, at: Lsn) -> Result<Lsn, SpaceFault>
+        requires hop { (E.view self.old.engine).Told → HasHop (E.view self.old.engine).steps at }
+        requires begun { self.old.begun ≡ true }
+        ensures counts { ActsCounts (E.view self.old.engine) (E.view self.new.engine) self.old.breaks self.new.breaks result }
+        ensures did { IfOk result (PutOne E.table (E.view self.old.engine) (E.view self.new.engine) self.old.rows.items self.old.actor self.new.actor at) }
+        ensures maps { self.new.maps ≡ self.old.maps }
+        ensures unfreed { self.new.unfreed ≡ self.old.unfreed }
+        ensures rows { self.new.rows.items ≡ self.old.rows.items }
+        ensures begun { self.new.begun ≡ self.old.begun }
+        // also of a call that fails
+        ensures later { (u : Table) → Later E.recovers E.table E.limits u (moment (E.view self.old.engine) self.old.maps self.old.rows.items self.old.actor self.old.begun)
+            (moment (E.view self.new.engine) self.new.maps self.new.rows.items self.new.actor self.new.begun) }
+    {
+        let mut text = [0u8; GREATEST];
+        let size = self.engine.read(at, &mut text)?;
+        let Ok((r, _)) = decode(&text[..size]) else {
+            return Err(count_break(&mut self.breaks));
+        };
+        let Some((change, next)) = hop_at(&r) else {
+            return Err(count_break(&mut self.breaks));
+        };
+        if next >= at {
+            return Err(count_break(&mut self.breaks));
+        }
+        let Some(part) = part_of(change) else {
+            return Ok(next);
+        };
+        self.put_bytes(part.band, part.at, part.after)?;
+        Ok(next)
+    }
+
+    // Puts the bytes back of all changes on a way back over an action, those of the last one first.
+    fn put_back(&mut self, from: Lsn, to: Lsn) -> Result<(), SpaceFault>
+        requires can { (E.view self.old.engine).Told → CanPutBack (E.view self.old.engine) self.old.rows.items self.old.actor to from }
+        requires begun { self.old.begun ≡ true }
+        ensures counts { ActsCounts (E.view self.old.engine) (E.view self.new.engine) self.old.breaks self.new.breaks result }
+        ensures did { OnOk result (PutAll E.table (E.view self.old.engine) (E.view self.new.engine) self.old.rows.items self.old.actor self.new.actor to from) }
+        ensures maps { self.new.maps ≡ self.old.maps }
+        ensures unfreed { self.new.unfreed ≡ self.old.unfreed }
+        ensures rows { self.new.rows.items ≡ self.old.rows.items }
+        ensures begun { self.new.begun ≡ self.old.begun }
+        // also of a call that fails
+        ensures later { (u : Table) → Later E.recovers E.table E.limits u (moment (E.view self.old.engine) self.old.maps self.old.rows.items self.old.actor self.old.begun)
+            (moment (E.view self.new.engine) self.new.maps self.new.rows.items self.new.actor self.new.begun) }
+    {
+        let mut at = from;
+        'back: while at != to {
+            at = self.put_one_back(at)?;
+        }
+        Ok(())
+    }
+
+    /// Comes to the transaction's last note that isn't undone, hands it out, and answers where undoing
+    /// goes on behind it; there is none where it isn't behind the record at which to stop. Where it is a
+    /// note of bytes, those come back that stood where its action wrote into bands. The transaction acts
+    /// then, and what undoes the note is to follow as changes of its action.
+    pub fn undo_step(&mut self, txn: TxnId, stop: Lsn, into: &mut UndoNote) -> Result<Option<Lsn>, SpaceFault>
+        requires { CanUndo (E.view self.old.engine) self.old.unfreed self.old.rows.items self.old.actor txn.0 stop }
+        ensures counts { ActsCounts (E.view self.old.engine) (E.view self.new.engine) self.old.breaks self.new.breaks result }
+        ensures did { IfOk result (UndoStepped E.table (E.view self.old.engine) (E.view self.new.engine) self.old.rows.items self.old.actor self.new.actor txn.0 stop into.new) }
+        ensures maps { self.new.maps ≡ self.old.maps }
+        ensures unfreed { self.new.unfreed ≡ self.old.unfreed }
+        ensures rows { self.new.rows.items ≡ self.old.rows.items }
+        // also of a call that fails
+        ensures undoes { (E.view self.old.engine).Told → IsKept E.table E.limits (E.view self.old.engine) self.old.maps self.old.rows.items self.old.actor →
+            MayUndo E.recovers E.table E.limits (E.view self.old.engine) (E.view self.new.engine) self.old.maps self.new.rows.items self.new.actor txn.0 }
+    {
+        let Some(found) = self.find_note(txn, stop, into)? else {
+            return Ok(None);
+        };
+        self.act(txn);
+        if is_of_bytes(into.bytes()) {
+            self.put_back(found.prev, found.undo_next)?;
+        }
+        Ok(Some(found.undo_next))
     }
 
     /// Ends the action that undid the note to which `undo_step` came, with where it answered that undoing

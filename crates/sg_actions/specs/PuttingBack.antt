@@ -1,0 +1,116 @@
+-- The undo of a note: the bytes that stood where its changes wrote into bands come back, as changes of who acts.
+use Rattle.std.specs.Prelude.{◌≡◌, ℕ, ◌<◌, Bool, List, [], ◌∷◌, ◌++◌, Option, Some, None, option_map}
+use Rattle.sg_alloc.specs.declared.maps.Maps.{Maps}
+use Rattle.sg_ops.specs.Table.{Table}
+use Rattle.sg_action.specs.States.{State}
+use Rattle.sg_record.specs.Changes.{Change as Changing}
+use Rattle.sg_record.specs.Shown.{shown_change}
+use Rattle.sg_record.specs.declared.record.BandBytes.{BandBytes as CodeBytes}
+use Rattle.sg_record.specs.declared.record.Change.{Change as CodeChange}
+use Rattle.sg_recovery.specs.Formed.{IsLog}
+use Rattle.sg_recovery.specs.Laws.{Each}
+use Rattle.sg_recovery.specs.Log.{tally, changes_of}
+use Rattle.sg_recovery.specs.Log.Record.{Change}
+use Rattle.sg_actions.specs.Acting.{IsChained}
+use Rattle.sg_actions.specs.Counts.{Note}
+use Rattle.sg_actions.specs.Engine.{EngineView, HasStayed, Moments, now_of}
+use Rattle.sg_actions.specs.Images.{Recovering}
+use Rattle.sg_actions.specs.Later.{At, AreChanges}
+use Rattle.sg_actions.specs.Offed.{kept_in}
+use Rattle.sg_actions.specs.Steps.{Steps, step_at}
+use Rattle.sg_actions.specs.Undoing.{Hop, Stood, hop_in, hopped, Leads, with_stood, given_by, all_given_back, put_by, next_note}
+use Rattle.sg_actions.specs.View.{IsKept}
+use Rattle.sg_actions.specs.declared.rows.Actor.{Actor}
+use Rattle.sg_actions.specs.declared.rows.Row.{Row}
+
+-- a space over an engine at one moment
+abbrev pub moment : EngineView → Maps → List Row → Actor → (begun : Bool) → At
+moment e maps rows actor begun = record { engine = e; maps = maps; rows = rows; actor = actor; begun = begun }
+
+-- a hop, and a part of a band, as the code hands them out
+abbrev pub shown_hop : Option CodeChange × ℕ → Hop
+shown_hop p = (option_map shown_change p.0, p.1)
+
+abbrev pub shown_stood : CodeBytes → Stood
+shown_stood c = (c.band.0, (c.at, c.after.now))
+
+-- changes of the transaction alone, the last one first
+abbrev pub AreOf : (txn : ℕ) → Steps → Type 0
+AreOf txn made = Each (λ r. (p : ℕ) × (c : Changing) × (r.is ≡ Change txn p c)) made
+
+-- some changes of who acts are appended, and they make this
+pub record HasPutBack (t : Table) (e e' : EngineView) (txn : ℕ) (x : State) : Type 0 where
+  pub first : e'.first ≡ e.first
+  pub made : Steps
+  pub steps : e'.steps ≡ made ++ e.steps
+  pub are : AreOf txn made
+  pub now : now_of t e' ≡ x
+
+-- AN UNDO OF A NOTE HAS BEGUN: the note, where undoing goes on behind it, and the bytes of its changes back; the transaction acts
+pub record UndoBegun (t : Table) (e e' : EngineView) (rows : List Row) (actor' : Actor) (txn stop : ℕ) (note : List ℕ) (next : ℕ) : Type 0 where
+  pub n : Note
+  pub is_next : next_note txn stop e.steps ≡ Some n
+  pub note_is : n.note ≡ note
+  pub goes_on : n.undo_next ≡ next
+  pub acts : actor'.txn.0 ≡ txn
+  pub puts : HasPutBack t e e' txn (put_by note n.changes (now_of t e))
+  pub notes : (tally e'.steps).notes ≡ (tally e.steps).notes
+  pub chain : IsChained e'.base e'.steps e'.tail rows actor'
+
+-- nothing of the transaction is left to undo: nobody acts, and nothing is appended
+pub record NoneLeft (e e' : EngineView) (actor actor' : Actor) (txn stop : ℕ) : Type 0 where
+  pub none : e.Told → next_note txn stop e.steps ≡ None
+  pub stays : HasStayed e e'
+  pub actor_is : actor' ≡ actor
+
+abbrev pub UndoStepped : Table → (e e' : EngineView) → List Row → (actor actor' : Actor) → (txn stop : ℕ) → (note : List ℕ) → Option ℕ → Type 0
+UndoStepped t e e' rows actor actor' txn stop note None = NoneLeft e e' actor actor' txn stop
+UndoStepped t e e' rows actor actor' txn stop note (Some next) = e'.Told → UndoBegun t e e' rows actor' txn stop note next
+
+-- WHAT AN UNDO HAS LOGGED so far, also where the call fails: changes of the transaction, in an action that begins with them, and each image of
+-- each moment has a front of the log with them, with all that was durable at first
+pub record MayUndo (recovers : Recovering) (t : Table) (limits : State → ℕ → ℕ) (e e' : EngineView) (maps : Maps) (rows : List Row) (actor' : Actor) (txn : ℕ) : Type 0 where
+  pub made : Steps
+  pub are : AreChanges t (kept_in limits t e maps) (now_of t e) e.first txn made e.steps
+  pub formed : IsLog e.base (made ++ e.steps)
+  pub moments : Moments recovers t e e' (made ++ e.steps)
+  -- they are, where the engine still tells
+  pub gone : e'.Told → (e'.steps ≡ made ++ e.steps) × IsKept t limits e' maps rows actor'
+
+-- a record of an action stands there, and the way back goes on lower
+pub record HasHop (rs : Steps) (at : ℕ) : Type 0 where
+  pub hop : Hop
+  pub is : hop_in (step_at rs at) ≡ Some hop
+  pub low : hop.1 < at
+
+-- WHO ACTS GOES ON with changes of its own
+pub record GoesOn (e e' : EngineView) (rows : List Row) (actor actor' : Actor) : Type 0 where
+  pub told : e.Told → e'.Told
+  pub back : e'.Told → e.Told
+  pub who : actor'.txn ≡ actor.txn
+  pub chain : e.Told → IsChained e.base e.steps e.tail rows actor → IsChained e'.base e'.steps e'.tail rows actor'
+
+-- BYTES ARE WRITTEN into a part of a band
+pub record PutBytes (t : Table) (e e' : EngineView) (rows : List Row) (actor actor' : Actor) (s : Stood) : Type 0 where
+  pub goes : GoesOn e e' rows actor actor'
+  pub put : e.Told → HasPutBack t e e' actor.txn.0 (with_stood (Some s) (now_of t e))
+
+-- ONE CHANGE IS PUT BACK, and the way back goes on at another record
+pub record PutOne (t : Table) (e e' : EngineView) (rows : List Row) (actor actor' : Actor) (at next : ℕ) : Type 0 where
+  pub low : next < at
+  pub goes : GoesOn e e' rows actor actor'
+  pub hop : e.Told → (h : Hop) → hop_in (step_at e.steps at) ≡ Some h → (next ≡ h.1) × HasPutBack t e e' actor.txn.0 (given_by h.0 (now_of t e))
+
+-- a way back leads there
+pub record HasWay (rs : Steps) (to from : ℕ) : Type 0 where
+  pub hops : List Hop
+  pub leads : Leads rs to from hops
+
+pub record CanPutBack (e : EngineView) (rows : List Row) (actor : Actor) (to from : ℕ) : Type 0 where
+  pub chain : IsChained e.base e.steps e.tail rows actor
+  pub way : HasWay e.steps to from
+
+-- ALL CHANGES on a way back ARE PUT BACK
+pub record PutAll (t : Table) (e e' : EngineView) (rows : List Row) (actor actor' : Actor) (to from : ℕ) : Type 0 where
+  pub goes : GoesOn e e' rows actor actor'
+  pub all : e.Told → (hs : List Hop) → Leads e.steps to from hs → HasPutBack t e e' actor.txn.0 (all_given_back (changes_of (hopped actor.txn.0 from hs)) (now_of t e))
