@@ -1,10 +1,10 @@
 -- The log and the open action with one change more.
-use Rattle.std.proofs.Common.{◌≡◌, ℕ, ◌<◌, ◌≤◌, List, [], ◌∷◌, Bool, sym, subst, refl}
+use Rattle.std.proofs.Common.{ℕ, ◌<◌, ◌≤◌, List, ◌∷◌, Bool}
 use Rattle.sg_ops.specs.Table.{Table}
 use Rattle.sg_record.specs.Changes.{Change as Changing}
 use Rattle.sg_recovery.specs.Log.Record.{Change}
-use Rattle.sg_action.specs.States.{State, Change as Changed}
-use Rattle.sg_actions.specs.Acting.{IsWell, IsChained}
+use Rattle.sg_action.specs.States.{State}
+use Rattle.sg_actions.specs.Acting.{IsWell}
 use Rattle.sg_actions.specs.Changes.{meaning}
 use Rattle.sg_actions.specs.Steps.{Steps, stepped, opened, begin_of}
 use Rattle.sg_actions.specs.View.{IsActing}

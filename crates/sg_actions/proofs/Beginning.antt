@@ -1,24 +1,22 @@
 -- What is kept at the begin of a transaction, and where one acts.
-use Rattle.std.proofs.Common.{◌≡◌, ◌≢◌, ℕ, ◌+◌, ◌<◌, ◌≤◌, List, [], ◌∷◌, length, Option, Some, None, IsSome, Bool, true, false, sym, ap, subst, ◌∙◌, refl, arith}
+use Rattle.std.proofs.Common.{◌≡◌, ◌≢◌, ℕ, ◌+◌, ◌<◌, ◌≤◌, List, [], ◌∷◌, length, Some, None, Bool, sym, ap, subst, ◌∙◌, refl, arith}
 use Rattle.std.specs.Prelude.{map, Result}
 use Rattle.sg_alloc.specs.declared.maps.Maps.{Maps}
 use Rattle.sg_base.specs.declared.numbers.TxnId.{TxnId}
 use Rattle.sg_ops.specs.Table.{Table}
-use Rattle.sg_record.specs.Changes.{Change as Changing}
 use Rattle.sg_record.specs.Records.Says.{Begin as SaysBegin}
 use Rattle.sg_record.specs.Shown.{by}
-use Rattle.sg_recovery.specs.Log.{tally, is_in}
 use Rattle.sg_recovery.specs.Log.Record.{Begin, Change, TopEnd, PhysComp, TopVoid, CompEnd, Save, Commit, End}
 use Rattle.sg_action.specs.States.{State, Change as Changed}
 use Rattle.sg_actions.specs.Acting.{IsWell, IsChained}
-use Rattle.sg_actions.specs.Calls.{Appends, IsAtRest, IsRoomy, IsActable, CanBegin, Begun, CanAct, NowActs}
+use Rattle.sg_actions.specs.Calls.{Appends, IsRoomy, IsActable, CanBegin, Begun, CanAct, NowActs}
 use Rattle.sg_actions.specs.Changes.{meaning}
-use Rattle.sg_actions.specs.Engine.{EngineView, now_of, Logged, HasLogged, HasStayed, Logs, Moments}
+use Rattle.sg_actions.specs.Engine.{EngineView, Logged, HasLogged, HasStayed, Logs, Moments}
 use Rattle.sg_actions.specs.Images.{Recovering}
 use Rattle.sg_actions.specs.Onward.{acting_to, acting_later}
 use Rattle.sg_space.specs.declared.space.SpaceFault.{SpaceFault}
-use Rattle.sg_actions.specs.Rows.{last_in, placed, HasRow}
-use Rattle.sg_actions.specs.Steps.{Step, Steps, stepped, redo, repeated, with_change, logged, opened, but_change, ended, begin_of}
+use Rattle.sg_actions.specs.Rows.{last_in, placed}
+use Rattle.sg_actions.specs.Steps.{Step, Steps, stepped, repeated, with_change, logged, opened, but_change, ended, begin_of}
 use Rattle.sg_actions.specs.View.{IsKept}
 use Rattle.sg_actions.specs.declared.rows.Actor.{Actor}
 use Rattle.sg_actions.specs.declared.rows.Row.{Row}

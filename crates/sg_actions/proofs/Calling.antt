@@ -1,5 +1,5 @@
 -- What one call hands through.
-use Rattle.std.proofs.Common.{◌≡◌, ℕ, ◌+◌, ◌<◌, ◌≤◌, List, [], ◌∷◌, ◌++◌, Bool, true, false, sym, ap, subst, ◌∙◌, refl, append_assoc, arith}
+use Rattle.std.proofs.Common.{◌≡◌, ℕ, ◌+◌, ◌<◌, ◌≤◌, List, [], ◌∷◌, Bool, true, false, sym, ap, subst, ◌∙◌, refl, arith}
 use Rattle.std.specs.Prelude.{map, Result, Ok, Err, OnOk, OnErr, IfOk}
 use Rattle.sg_alloc.specs.declared.maps.Maps.{Maps}
 use Rattle.sg_ops.specs.Laws.{IsLawful}
@@ -7,27 +7,22 @@ use Rattle.sg_ops.specs.Table.{Table}
 use Rattle.sg_record.specs.Changes.{Change as Changing}
 use Rattle.sg_record.specs.Records.Says.{Changed as SaysChanged}
 use Rattle.sg_record.specs.Shown.{by}
-use Rattle.sg_base.specs.declared.numbers.TxnId.{TxnId}
 use Rattle.sg_space.specs.declared.space.SpaceFault.{SpaceFault}
-use Rattle.sg_recovery.specs.Chains.{next_lsn}
-use Rattle.sg_recovery.specs.Formed.{IsLog}
 use Rattle.sg_recovery.specs.Log.{tally, changes_of}
 use Rattle.sg_recovery.specs.Log.Record.{Change}
 use Rattle.sg_action.specs.Opened.{TakesTo}
 use Rattle.sg_action.specs.States.{State, Kept}
-use Rattle.sg_actions.specs.Acting.{IsChained}
 use Rattle.sg_actions.specs.Changes.{meaning}
-use Rattle.sg_actions.specs.Engine.{EngineView, Logged, HasLogged, Logs, Stays, HasStayed, EngineLooks, Moments, StandsNow}
-use Rattle.sg_actions.specs.Images.{Grows, Recovering}
-use Rattle.sg_actions.specs.Later.{At, at_kept, kept_at, begin_at, AreChanges, HasGone, Went, Later}
-use Rattle.sg_actions.specs.Steps.{Step, Steps, stepped, opened, begin_of, repeated}
+use Rattle.sg_actions.specs.Engine.{EngineView, Logged, HasLogged, Logs, Stays, HasStayed, EngineLooks, Moments}
+use Rattle.sg_actions.specs.Images.{Recovering}
+use Rattle.sg_actions.specs.Later.{Went, Later}
+use Rattle.sg_actions.specs.Steps.{Steps, stepped, opened, begin_of, repeated}
 use Rattle.sg_actions.specs.Taken.{kept_of}
 use Rattle.sg_actions.specs.View.{IsActing, IsKept}
 use Rattle.sg_actions.specs.declared.rows.Actor.{Actor}
 use Rattle.sg_actions.specs.declared.rows.Row.{Row}
 use Rattle.sg_actions.specs.Onward.{at, went_rest, acting_to}
 use Rattle.sg_actions.proofs.Chained.{later}
-use Rattle.sg_actions.specs.Growing.{grows_same, grows_by, grows_then, moments_then, moments_same, moments_stop}
 use Rattle.sg_actions.proofs.TakenOff.{take_off_begins}
 
 no : {P : Type 0} (b : Bool) → b ≡ true → b ≡ false → P
@@ -55,7 +50,7 @@ went_log recovers t limits e e' maps maps' rows actor new begun c opens law k ab
     (actor.last, c, refl),
     (let below = k.chain.running.below in omega (arith, below, above)),
     subst (λ (q : Kept). TakesTo t q (begin_of t e.first e.steps) (map meaning (changes_of (tally rs).opened)) (repeated t e.first rs)) same
-    (take_off_begins t law limits e.base e.first rs maps'.pages maps'.bands (e'.tried + 1) rows (later actor e'.tried) then.chain then.well).takes,
+        (take_off_begins t law limits e.base e.first rs maps'.pages maps'.bands (e'.tried + 1) rows (later actor e'.tried) then.chain then.well).takes,
     tt,
   );
   formed = then.chain.running.log;

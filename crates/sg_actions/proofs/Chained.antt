@@ -1,12 +1,12 @@
 -- The chain with one record more.
-use Rattle.std.proofs.Common.{◌≡◌, ◌≢◌, ◌⊎◌, ℕ, ◌+◌, ◌==◌, ◌<◌, ◌≤◌, List, [], ◌∷◌, Option, Some, None, IsSome, Bool, true, false, not, sym, ap, subst, ◌∙◌, refl, arith, inl, inr}
-use Rattle.std.specs.Prelude.{◌&&◌, ◌||◌, if◌then◌else◌, filter}
+use Rattle.std.proofs.Common.{◌≡◌, ◌≢◌, ◌⊎◌, ℕ, ◌==◌, ◌<◌, ◌≤◌, List, [], ◌∷◌, Option, Some, IsSome, Bool, true, false, not, sym, ap, subst, ◌∙◌, refl, arith, inl, inr}
+use Rattle.std.specs.Prelude.{◌&&◌, ◌||◌, if◌then◌else◌}
 use Rattle.std.proofs.lemmas.Bool.{cases_Bool, cases_eq}
 use Rattle.std.proofs.lemmas.Bool.Decides.{nat_tests}
 use Rattle.sg_record.specs.Changes.{Change as Changing}
 use Rattle.sg_recovery.specs.Laws.{Each}
-use Rattle.sg_recovery.specs.Log.{Numbered, Open, Tally, said, tally, is_in, open_of, open_up_to, open_not_of}
-use Rattle.sg_recovery.specs.Log.Record.{Begin, Change, TopEnd, PhysComp, TopVoid, CompEnd, Save, Commit, End}
+use Rattle.sg_recovery.specs.Log.{Open, said, tally, is_in, open_of, open_up_to, open_not_of}
+use Rattle.sg_recovery.specs.Log.Record.{Begin, Change, TopEnd, PhysComp, TopVoid}
 use Rattle.sg_recovery.specs.Chains.{txn_of, is_border, last_of, border_of, next_lsn, next_off, Formed, Follows, IsKnown}
 use Rattle.sg_recovery.specs.Formed.{IsUnfinished, OneAction, IsBetween, IsLog}
 use Rattle.sg_recovery.specs.TakeOff.{IsOwned, IsBefore, PrecedesSystem, GoesOnSystem, FollowsSystem}
@@ -98,7 +98,6 @@ no_zero rs u none live e = absurd (let f : false ≡ true = sym none ∙ (ap (λ
 pub own_gone : {C : Type 0} (t : ℕ) (ds : List (Open C)) → Each (λ d. d.transaction ≡ t) ds → open_not_of t ds ≡ []
 own_gone t [] h = refl
 own_gone t (d ∷ ds) h = ap (λ (b : Bool). if not b then d ∷ open_not_of t ds else open_not_of t ds) (let e : (d.transaction == t) ≡ true = grind (arith, nat_tests, h.0) in e) ∙ own_gone t ds h.1
-
 
 -- WHO ACTS
 

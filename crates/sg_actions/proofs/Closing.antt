@@ -4,7 +4,6 @@ use Rattle.std.specs.Prelude.{if◌then◌else◌, option_map, Result, Ok, Err, 
 use Rattle.std.specs.Bool.{MatchBool}
 use Rattle.std.specs.List.{find}
 use Rattle.std.proofs.lemmas.Bool.{cases_Bool, cases_eq}
-use Rattle.std.proofs.lemmas.Bool.Decides.{nat_tests}
 use Rattle.sg_alloc.specs.declared.maps.Maps.{Maps}
 use Rattle.sg_base.specs.declared.numbers.TxnId.{TxnId}
 use Rattle.sg_ops.specs.Laws.{IsLawful}
@@ -15,7 +14,7 @@ use Rattle.sg_record.specs.Records.{Record}
 use Rattle.sg_record.specs.Shown.{by}
 use Rattle.sg_recovery.specs.Formed.{IsBetween as Between}
 use Rattle.sg_recovery.specs.Laws.{Each}
-use Rattle.sg_recovery.specs.Log.{Open, said, tally, is_in, without, open_of, open_not_of, notes_of}
+use Rattle.sg_recovery.specs.Log.{Open, said, tally, is_in, without, open_of, notes_of}
 use Rattle.sg_recovery.specs.Log.Record.{CompEnd, Save, Commit, End}
 use Rattle.sg_recovery.specs.TakeOff.{IsOwned}
 use Rattle.sg_recovery.specs.Chains.{txn_of, is_border, last_of, border_of, next_off, Formed, Follows, IsKnown, IsStanding}
@@ -35,7 +34,7 @@ use Rattle.sg_actions.specs.Onward.{acting_to}
 use Rattle.sg_actions.specs.Rows.{last_in, HasRow, placed, rows_after, at_rest}
 use Rattle.sg_actions.specs.Steps.{Step, Steps, step_of, with_step, stepped, repeated, opened, ended, begin_of}
 use Rattle.sg_recovery.specs.Formed.{IsStraight}
-use Rattle.sg_actions.specs.TakingOff.{AreLinked, IsRunning, AreRows}
+use Rattle.sg_actions.specs.TakingOff.{AreLinked, IsRunning}
 use Rattle.sg_actions.specs.View.{IsKept}
 use Rattle.sg_actions.specs.declared.rows.Actor.{Actor}
 use Rattle.sg_actions.specs.declared.rows.Row.{Row}
@@ -199,7 +198,7 @@ kept_between t limits e e' maps rows rows' actor r x lsn is begin none g idle ch
     acting_to g.base g.first (g.steps ∙ ap (with_step e.steps lsn) is) (record {
       chain = chain (chain_later k.chain g.number);
       well = subst (λ (ds : List Changed). IsWell t limits (begin_of t e.first (stepped e.steps lsn x)) ds maps.pages maps.bands) (sym none)
-      (well_idle t limits (begin_of t e.first e.steps) (begin_of t e.first (stepped e.steps lsn x)) (opened e.steps) maps.pages maps.bands now (idle_opened e.steps idle) k.well);
+          (well_idle t limits (begin_of t e.first e.steps) (begin_of t e.first (stepped e.steps lsn x)) (opened e.steps) maps.pages maps.bands now (idle_opened e.steps idle) k.well);
     })
 
 -- a look behind what is appended

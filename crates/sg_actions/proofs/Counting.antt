@@ -1,12 +1,11 @@
 -- The counts of a run of calls, and its images.
-use Rattle.std.proofs.Common.{◌≡◌, ℕ, ◌+◌, ◌≤◌, ◌<◌, true, false, Bool, List, sym, ap, subst, ◌∙◌, refl, arith, Ok, Err}
-use Rattle.std.specs.Prelude.{Result}
+use Rattle.std.proofs.Common.{◌≡◌, ℕ, ◌+◌, ◌≤◌, ◌<◌, true, List, sym, subst, ◌∙◌, refl, arith, Ok, Err}
 use Rattle.sg_base.specs.Ends.{HasRisen}
 use Rattle.sg_ops.specs.Table.{Table}
 use Rattle.sg_space.specs.declared.space.SpaceFault.{SpaceFault}
 use Rattle.sg_space.specs.declared.space.SpaceFault.TheVariants.{Disk, LogEnd}
 use Rattle.sg_actions.specs.Counts.{ActsCounts}
-use Rattle.sg_actions.specs.Engine.{EngineView, Stays, HasStayed, Moments}
+use Rattle.sg_actions.specs.Engine.{EngineView, HasStayed, Moments}
 use Rattle.sg_actions.specs.Growing.{grows_same, grows_then, moments_then}
 use Rattle.sg_actions.specs.Images.{Recovering}
 use Rattle.sg_actions.specs.Steps.{Steps}

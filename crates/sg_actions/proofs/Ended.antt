@@ -1,31 +1,30 @@
 -- The end of an action.
-use Rattle.std.proofs.Common.{◌≡◌, ◌≢◌, ℕ, ◌+◌, ◌*◌, ◌==◌, ◌<◌, ◌≤◌, List, [], ◌∷◌, length, Option, Some, None, IsSome, Bool, true, false, not, sym, ap, subst, ◌∙◌, refl, arith, inl, inr}
-use Rattle.std.specs.Prelude.{◌&&◌, ◌||◌, if◌then◌else◌, Result}
+use Rattle.std.proofs.Common.{◌≡◌, ℕ, ◌+◌, ◌*◌, ◌==◌, ◌≤◌, List, [], ◌∷◌, length, Some, Bool, true, false, sym, ap, subst, ◌∙◌, refl, arith, inl, inr}
+use Rattle.std.specs.Prelude.{◌&&◌, if◌then◌else◌, Result}
 use Rattle.std.proofs.lemmas.Bool.{cases_Bool, cases_eq}
 use Rattle.std.proofs.lemmas.Bool.Decides.{nat_tests}
 use Rattle.sg_alloc.specs.declared.maps.Maps.{Maps}
-use Rattle.sg_base.specs.Op.{Op, is_format}
+use Rattle.sg_base.specs.Op.{is_format}
 use Rattle.sg_base.specs.Page.{stored}
-use Rattle.sg_base.specs.Sheet.{Sheet, HasBytes}
 use Rattle.sg_ops.specs.Laws.{IsLawful}
 use Rattle.sg_ops.specs.Table.{Table}
 use Rattle.sg_record.specs.Records.Says.{TopEnd as SaysTopEnd}
 use Rattle.sg_record.specs.Shown.{by}
 use Rattle.sg_recovery.specs.Log.Record.{TopEnd}
-use Rattle.sg_action.specs.States.{State, Change, Kept, apply, made, step_leaf, leaf_count, leaf_stored}
+use Rattle.sg_action.specs.States.{State, Change, Kept, made, step_leaf, leaf_count, leaf_stored}
 use Rattle.sg_action.specs.States.Change.{Page, Write, Paint}
-use Rattle.sg_action.specs.Opened.{formats, in_use, IsOpened, IsBegun, AreFit, OpenWell}
-use Rattle.sg_action.proofs.Opened.{formatted, made_here, made_there, use_there, use_here, good, formats_here}
+use Rattle.sg_action.specs.Opened.{in_use, IsOpened, IsBegun, AreFit}
+use Rattle.sg_action.proofs.Opened.{formatted, made_here, made_there, use_there, good}
 use Rattle.sg_step.proofs.Sizes.{sizes}
 use Rattle.sg_actions.specs.Acting.{IsWell, IsChained}
 use Rattle.sg_actions.specs.Calls.{Appends, AreSettled, ActionEnded}
-use Rattle.sg_actions.specs.Engine.{EngineView, now_of, Logged, HasLogged, Logs, Moments}
+use Rattle.sg_actions.specs.Engine.{EngineView, Logged, HasLogged, Logs, Moments}
 use Rattle.sg_actions.specs.Images.{Recovering}
 use Rattle.sg_actions.specs.Onward.{acting_to}
 use Rattle.sg_space.specs.declared.space.SpaceFault.{SpaceFault}
 use Rattle.sg_actions.specs.Rows.{placed, rows_after, at_rest}
-use Rattle.sg_actions.specs.Steps.{Steps, stepped, repeated, opened, begin_of}
-use Rattle.sg_actions.specs.Taken.{is_set, is_there, kept_of}
+use Rattle.sg_actions.specs.Steps.{stepped, opened, begin_of}
+use Rattle.sg_actions.specs.Taken.{is_set, kept_of}
 use Rattle.sg_actions.specs.View.{IsKept}
 use Rattle.sg_actions.specs.declared.rows.Actor.{Actor}
 use Rattle.sg_actions.specs.declared.rows.Row.{Row}

@@ -1,5 +1,5 @@
 -- The walk of an undo comes to the note that is undone next.
-use Rattle.std.proofs.Common.{◌≡◌, ◌≢◌, ℕ, ◌+◌, ◌<◌, ◌≤◌, List, Some, None, sym, ap, subst, ◌∙◌, refl, arith, inl, inr}
+use Rattle.std.proofs.Common.{◌≡◌, ◌≢◌, ℕ, ◌<◌, ◌≤◌, List, Some, None, sym, ap, subst, ◌∙◌, refl, arith, inl, inr}
 use Rattle.sg_record.specs.Changes.{Change as Changing}
 use Rattle.sg_recovery.specs.Log.{Open, tally, open_of, changes_of}
 use Rattle.sg_recovery.specs.Log.Record.{TopEnd}
@@ -74,4 +74,3 @@ module _ {base : ℕ} {rs : Steps} {tail : ℕ} {unfreed : Maps} {rows : List Ro
   -- at the begin there is none
   pub walk_over : (at : ℕ) (note : List ℕ) → IsUndoable base rs tail unfreed rows actor txn stop → IsWalking rs txn stop at → SeesAt rs at note seen.Begin → next_note txn stop rs ≡ None
   walk_over at note h w s = sym w.comes ∙ walk_begin rs stop at s.sees.0 s.sees.1 h.chain.running.log.chained (s.there ∙ ap Some s.sees.2)
-

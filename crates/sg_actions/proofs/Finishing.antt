@@ -1,19 +1,18 @@
 -- The begin and the end of a take-off.
-use Rattle.std.proofs.Common.{◌≡◌, ◌≢◌, ℕ, ◌+◌, ◌*◌, ◌==◌, ◌<◌, ◌≤◌, List, [], ◌∷◌, length, Option, Some, None, Bool, true, false, not, sym, ap, subst, ◌∙◌, refl, arith, inl, inr}
-use Rattle.std.specs.Prelude.{◌&&◌, ◌||◌, if◌then◌else◌, map, Result, Ok, Err, OnOk}
-use Rattle.std.proofs.lemmas.Bool.{cases_Bool, cases_eq}
+use Rattle.std.proofs.Common.{◌≡◌, ℕ, ◌+◌, ◌*◌, ◌==◌, ◌≤◌, List, [], ◌∷◌, length, Option, Some, None, Bool, true, false, not, sym, ap, subst, ◌∙◌, refl, arith, inl, inr}
+use Rattle.std.specs.Prelude.{◌&&◌, if◌then◌else◌, map, Result, Ok, Err, OnOk}
+use Rattle.std.proofs.lemmas.Bool.{cases_Bool}
 use Rattle.std.proofs.lemmas.Bool.Decides.{nat_tests}
 use Rattle.sg_alloc.specs.Flags.{free_of}
 use Rattle.sg_alloc.specs.declared.maps.Maps.{Maps}
-use Rattle.sg_base.specs.Op.{Op, is_format}
+use Rattle.sg_base.specs.Op.{is_format}
 use Rattle.sg_base.specs.Page.{stored}
-use Rattle.sg_base.specs.Sheet.{Sheet, HasBytes}
+use Rattle.sg_base.specs.Sheet.{Sheet}
 use Rattle.sg_ops.specs.Table.{Table}
 use Rattle.sg_record.specs.Changes.{Change as Changing}
 use Rattle.sg_recovery.specs.Log.{Open, tally, changes_of}
-use Rattle.sg_recovery.specs.Log.Record.{TopVoid}
 use Rattle.sg_recovery.specs.Chains.{next_off}
-use Rattle.sg_action.specs.States.{State, Kept, Change, Alike, made, leaf_count, leaf_stored}
+use Rattle.sg_action.specs.States.{State, Kept, Change, Alike, leaf_count, leaf_stored}
 use Rattle.sg_action.specs.States.Change.{Page, Write, Paint}
 use Rattle.sg_action.specs.Opened.{IsOpened, IsBegun, formats, in_use}
 use Rattle.sg_action.proofs.Taking.{begun_again}
@@ -24,9 +23,9 @@ use Rattle.sg_record.specs.Shown.{by}
 use Rattle.sg_actions.specs.Engine.{EngineView, now_of, Logged, ArePagesFit}
 use Rattle.sg_actions.specs.Offed.{kept_in, CanTakeOff, TakenOff, IsResumable, AllOff}
 use Rattle.sg_actions.specs.Rows.{placed, rows_after, at_rest}
-use Rattle.sg_actions.specs.Steps.{Steps, stepped, opened, logged, begin_of, repeated}
-use Rattle.sg_actions.specs.Taken.{is_set, takes_page, takes_band, kept_of}
-use Rattle.sg_actions.specs.TakingOff.{IsTakingOff, AreLinked, AreOnce, IsOff, Voided, left_of}
+use Rattle.sg_actions.specs.Steps.{Steps, stepped, opened, begin_of, repeated}
+use Rattle.sg_actions.specs.Taken.{is_set, takes_page, takes_band}
+use Rattle.sg_actions.specs.TakingOff.{AreLinked, AreOnce, IsOff, Voided, left_of}
 use Rattle.sg_actions.specs.declared.rows.Actor.{Actor}
 use Rattle.sg_actions.specs.declared.rows.Row.{Row}
 use Rattle.sg_actions.proofs.Flags.{and_left, and_right}

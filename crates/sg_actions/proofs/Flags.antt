@@ -1,11 +1,10 @@
 -- Flags, and what is there by them.
-use Rattle.std.proofs.Common.{◌≡◌, ◌≢◌, ◌⊎◌, ℕ, zero, suc, ◌+◌, ◌==◌, ◌<◌, ◌≤◌, List, [], ◌∷◌, length, Option, Some, None, IsSome, Bool, true, false, not, sym, ap, subst, ◌∙◌, refl, arith, slice_index_or, slice_get, slice_set, inl, inr}
+use Rattle.std.proofs.Common.{◌≡◌, ◌⊎◌, ℕ, zero, suc, ◌==◌, List, [], ◌∷◌, Option, Some, None, IsSome, Bool, true, false, sym, ap, subst, ◌∙◌, refl, arith, slice_get, inl, inr}
 use Rattle.std.specs.Prelude.{◌&&◌, ◌||◌, if◌then◌else◌, unwrap_or}
 use Rattle.std.proofs.lemmas.Bool.{cases_Bool, cases_eq}
 use Rattle.std.proofs.lemmas.Bool.Decides.{nat_tests}
 use Rattle.sg_action.specs.States.{Change}
-use Rattle.sg_space.specs.Units.{Units, HasAt}
-use Rattle.sg_actions.specs.Taken.{is_set, is_there, units_there, writes_band, AreFlags, AreSaid}
+use Rattle.sg_actions.specs.Taken.{is_set, is_there, units_there, writes_band}
 
 -- behind a change of bytes of one band, the bands with changed bytes are those of before, and it
 pub written_in : {T : Type 0} (b n : ℕ) (ds : List Change) → T → ((n == b) || writes_band ds n) ≡ true → (T × (writes_band ds n ≡ true)) ⊎ (n ≡ b)

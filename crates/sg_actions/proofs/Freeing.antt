@@ -1,15 +1,13 @@
 -- Flags of what is freed.
-use Rattle.std.proofs.Common.{◌≡◌, ◌≢◌, ℕ, zero, suc, ◌+◌, ◌<◌, ◌≤◌, ◌^◌, List, [], ◌∷◌, length, Option, Some, None, Bool, true, false, not, sym, ap, subst, ◌∙◌, refl, arith, slice_get, slice_set, inl, inr, cond, count_by}
+use Rattle.std.proofs.Common.{◌≡◌, ℕ, suc, ◌+◌, ◌<◌, ◌≤◌, ◌^◌, List, [], ◌∷◌, length, Option, Some, None, Bool, true, false, not, sym, ap, subst, ◌∙◌, refl, arith, slice_get, slice_set, inl, inr, cond}
 use Rattle.std.specs.Prelude.{◌&&◌, if◌then◌else◌}
-use Rattle.std.specs.List.{range_with_len}
-use Rattle.std.proofs.lemmas.Bool.{cases_eq, cases_Bool}
+use Rattle.std.proofs.lemmas.Bool.{cases_eq}
 use Rattle.std.proofs.lemmas.List.{length-set}
 use Rattle.std.proofs.lemmas.List.Sums.{sum_by-cons}
 use Rattle.std.proofs.lemmas.Option.{slice_get_within}
 use Rattle.sg_alloc.specs.Flags.{free_of}
 use Rattle.sg_alloc.specs.declared.maps.Maps.{Maps}
 use Rattle.sg_alloc.proofs.Counted.{one_more}
-use Rattle.sg_base.specs.Sheet.{Sheet}
 use Rattle.sg_ops.specs.Table.{Table}
 use Rattle.sg_action.specs.States.{State}
 use Rattle.sg_space.specs.Pages.{Freed}
@@ -18,7 +16,7 @@ use Rattle.sg_space.specs.Units.{IsFreed}
 use Rattle.sg_actions.specs.Engine.{EngineView, now_of}
 use Rattle.sg_actions.specs.Taken.{is_set, is_there, units_there, AreFlags}
 use Rattle.sg_actions.specs.View.{acts_view}
-use Rattle.sg_actions.proofs.Flags.{set_by, get_set, and_left, and_right}
+use Rattle.sg_actions.proofs.Flags.{get_set, and_left, and_right}
 use Rattle.sg_actions.proofs.Taking.{set_here, set_there}
 
 free_cons : (x : Bool) (xs : List Bool) → free_of (x ∷ xs) ≡ cond {A = ℕ} (not x) 1 0 + free_of xs

@@ -1,19 +1,17 @@
 -- The open action with one change more.
-use Rattle.std.proofs.Common.{◌≡◌, ◌≢◌, ℕ, ◌+◌, ◌==◌, ◌<◌, ◌≤◌, List, [], ◌∷◌, length, Option, Some, None, IsSome, Bool, true, false, not, sym, ap, subst, ◌∙◌, refl, arith, slice_get, slice_set, inl, inr}
+use Rattle.std.proofs.Common.{◌≡◌, ◌≢◌, ℕ, ◌+◌, ◌==◌, ◌≤◌, List, [], ◌∷◌, length, Some, Bool, true, false, not, sym, ap, subst, ◌∙◌, refl, arith, inl, inr}
 use Rattle.std.specs.Prelude.{◌&&◌, ◌||◌, if◌then◌else◌}
-use Rattle.std.proofs.lemmas.Bool.{cases_Bool, cases_eq}
+use Rattle.std.proofs.lemmas.Bool.{cases_Bool}
 use Rattle.std.proofs.lemmas.Bool.Decides.{nat_tests}
 use Rattle.sg_base.specs.Op.{Op, is_format, opens, shrinks}
-use Rattle.sg_base.specs.Op.Op.{Format}
 use Rattle.sg_base.specs.Sheet.{Sheet}
 use Rattle.sg_ops.specs.Steps.{step, inverse, IsProper}
 use Rattle.sg_ops.specs.Table.{Table}
 use Rattle.sg_action.specs.States.{State, Change, Kept, made}
-use Rattle.sg_action.specs.States.Change.{Page, Write, Paint}
-use Rattle.sg_action.specs.Opened.{formats, in_use, IsLogged, IsOpened, IsBegun, AreFit, IsPageChange, OpensWell, OpenWell, shrunk, shrinks_at, leaf_shrinks}
-use Rattle.sg_action.proofs.Opened.{formats_here, formats_there}
+use Rattle.sg_action.specs.States.Change.{Page}
+use Rattle.sg_action.specs.Opened.{formats, in_use, IsLogged, IsOpened, IsBegun, AreFit, OpensWell, OpenWell, shrunk, shrinks_at, leaf_shrinks}
 use Rattle.sg_actions.specs.Acting.{IsWell}
-use Rattle.sg_actions.specs.Taken.{is_set, takes_page, takes_band, fills, kept_of}
+use Rattle.sg_actions.specs.Taken.{is_set, takes_page, takes_band, kept_of}
 use Rattle.sg_actions.specs.View.{MayGive}
 
 -- what is kept is the same, where it is for each page and each band

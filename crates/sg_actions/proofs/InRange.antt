@@ -1,13 +1,13 @@
 -- Records that are in their ranges by what they are.
-use Rattle.std.proofs.Common.{rules, ◌≡◌, ℕ, ◌+◌, ◌*◌, ◌/◌, ◌<◌, ◌≤◌, ◌^◌, List, [], ◌∷◌, ◌++◌, length, Bool, true, false, Option, Some, None, refl, sym, ap, subst, ◌∙◌, arith}
+use Rattle.std.proofs.Common.{rules, ◌≡◌, ℕ, ◌+◌, ◌*◌, ◌/◌, ◌<◌, ◌≤◌, ◌^◌, List, [], ◌∷◌, ◌++◌, length, Bool, true, None, refl, sym, subst, ◌∙◌, arith}
 use Rattle.std.specs.Prelude.{nat_le, nat_lt, ◌&&◌}
 use Rattle.std.proofs.lemmas.Bool.Decides.{nat_tests}
 use Rattle.byteorder.specs.Endian.{little_bytes}
 use Rattle.std.proofs.lemmas.List.{length-append}
 use Rattle.byteorder.specs.Numbers.{length-bytes_low_first}
-use Rattle.sg_record.specs.Ranges.{IsRecord, first_out, out_of_range}
+use Rattle.sg_record.specs.Ranges.{IsRecord, first_out}
 use Rattle.sg_record.specs.Records.{body_of}
-use Rattle.sg_record.specs.Records.Says.{Begin, TopEnd, TopVoid, Changed, Save, Commit, End, CompEnd, Checkpoint}
+use Rattle.sg_record.specs.Records.Says.{TopEnd, TopVoid, Changed, Save, Commit, End, CompEnd, Checkpoint}
 use Rattle.sg_record.specs.Changes.{PageChange, BandBytes}
 use Rattle.sg_record.specs.Changes.Change.{Page, SegWrite, SegOp}
 use Rattle.sg_actions.specs.Painting.{fill_with}

@@ -67,7 +67,9 @@ own_leads rs l t (Change a p c) f o le k own live more =
     let last : last_of t (stepped rs l x) ≡ l = sym (ap (λ (n : ℕ). last_of n (stepped rs l x)) own) ∙ last_here l x rs in
     let border : border_of t (stepped rs l x) ≡ border_of t rs = border_stays l x rs t refl in
     let leads : Leads (stepped rs l x) (border_of t rs) l ((Some c, p) ∷ w.hops) = (
-      ap hop_in (step_here rs l x), omega (arith, borders, le), omega (arith, is, low, le),
+      ap hop_in (step_here rs l x),
+      omega (arith, borders, le),
+      omega (arith, is, low, le),
       leads_more rs l x (border_of t rs) p w.hops (omega (arith, is, low, le)) (subst (λ (n : ℕ). Leads rs (border_of t rs) n w.hops) (sym is) w.leads),
     ) in
     let now : open_of t (said l x (tally rs)).opened ≡ record { lsn = l; transaction = t; change = c } ∷ open_of t (tally rs).opened =
@@ -101,7 +103,9 @@ own_leads rs l t (PhysComp a p u c) f o le k own live more =
     let last : last_of t (stepped rs l x) ≡ l = sym (ap (λ (n : ℕ). last_of n (stepped rs l x)) own) ∙ last_here l x rs in
     let stays : border_of t (stepped rs l x) ≡ border_of t rs = border_stays l x rs t refl in
     let leads : Leads (stepped rs l x) (border_of t rs) l ((None, u) ∷ r.hops) = (
-      ap hop_in (step_here rs l x), omega (arith, borders, le), less,
+      ap hop_in (step_here rs l x),
+      omega (arith, borders, le),
+      less,
       leads_more rs l x (border_of t rs) u r.hops less (subst (λ (n : ℕ). Leads rs (border_of t rs) n r.hops) (sym undo) r.leads),
     ) in
     record {

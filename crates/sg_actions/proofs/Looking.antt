@@ -1,11 +1,11 @@
 -- What a look leaves.
-use Rattle.std.proofs.Common.{◌≡◌, ℕ, ◌+◌, ◌<◌, ◌≤◌, List, Bool, Some, Result, Ok, Err, sym, ap, subst, ◌∙◌, refl, arith}
+use Rattle.std.proofs.Common.{◌≡◌, ℕ, ◌+◌, ◌<◌, List, Bool, Some, Result, Ok, Err, sym, ap, subst, ◌∙◌, arith}
 use Rattle.std.specs.Prelude.{IfOk}
 use Rattle.sg_alloc.specs.declared.maps.Maps.{Maps}
 use Rattle.sg_ops.specs.Table.{Table}
 use Rattle.sg_action.specs.States.{State}
 use Rattle.sg_space.specs.Pages.{Looks}
-use Rattle.sg_space.specs.View.{Counts, OnlyReads}
+use Rattle.sg_space.specs.View.{OnlyReads}
 use Rattle.sg_space.specs.declared.space.SpaceFault.{SpaceFault}
 use Rattle.sg_actions.specs.Engine.{EngineView, now_of, HasStayed, Stays, EngineLooks}
 use Rattle.sg_actions.specs.Images.{Recovering}

@@ -1,15 +1,14 @@
 -- A take-off that goes on.
-use Rattle.std.proofs.Common.{◌≡◌, ◌≢◌, ℕ, ◌+◌, ◌==◌, ◌<◌, ◌≤◌, List, [], ◌∷◌, length, Option, Some, None, IsSome, Bool, true, false, not, sym, ap, subst, ◌∙◌, refl, arith, inl, inr}
+use Rattle.std.proofs.Common.{◌≡◌, ◌≢◌, ℕ, ◌+◌, ◌<◌, List, [], ◌∷◌, Option, Some, IsSome, Bool, true, false, not, sym, ap, subst, ◌∙◌, refl, arith, inl, inr}
 use Rattle.std.specs.Prelude.{◌&&◌, ◌||◌, map, Result, Ok}
-use Rattle.std.proofs.lemmas.Bool.{cases_Bool, cases_eq}
+use Rattle.std.proofs.lemmas.Bool.{cases_Bool}
 use Rattle.std.proofs.lemmas.Option.{slice_get_within}
 use Rattle.sg_alloc.specs.Flags.{free_of}
 use Rattle.sg_alloc.specs.declared.maps.Maps.{Maps}
 use Rattle.sg_ops.specs.Table.{Table}
 use Rattle.sg_record.specs.Changes.{Change as Changing}
 use Rattle.sg_record.specs.Records.{Record}
-use Rattle.sg_record.specs.Records.Says.{PhysComp as SaysPhysComp, Changed as SaysChanged}
-use Rattle.sg_record.specs.Reading.{parse}
+use Rattle.sg_record.specs.Records.Says.{PhysComp as SaysPhysComp}
 use Rattle.sg_record.specs.Shown.{by}
 use Rattle.sg_recovery.specs.Log.{Open, tally, changes_of}
 use Rattle.sg_recovery.specs.Log.Record.{Change, PhysComp}
@@ -17,7 +16,7 @@ use Rattle.sg_recovery.specs.Chains.{next_off}
 use Rattle.sg_action.specs.States.{State, Kept, Change as Changed, apply, fits}
 use Rattle.sg_action.specs.Opened.{formats}
 use Rattle.sg_actions.specs.Changes.{meaning, comp_of, IsChangeOf}
-use Rattle.sg_actions.specs.Engine.{EngineView, now_of, Logged, HasLogged, Stays, HasStayed, IsStepAt, IsLoggable}
+use Rattle.sg_actions.specs.Engine.{EngineView, now_of, Logged, HasLogged, Stays, HasStayed, IsLoggable}
 use Rattle.sg_actions.specs.Steps.{Step, Steps, stepped, step_at, step_of, step_by, repeated}
 use Rattle.sg_actions.specs.Taken.{is_set, is_there, takes_page, takes_band, fills, AreFlags, IsUntaken, IsUntakenBand}
 use Rattle.sg_actions.specs.TakingOff.{IsTakingOff, AreLinked, AreOnce, IsOff, CanGoOff, NextStep, TookOff, left_of}

@@ -1,7 +1,6 @@
 -- What a space over an engine shows once a piece of a band is painted.
-use Rattle.std.proofs.Common.{◌≡◌, ◌≢◌, ℕ, ◌+◌, ◌≤◌, List, [], ◌∷◌, length, take, drop, Option, Some, None, Bool, true, sym, ap, subst, ◌∙◌, refl, arith, inl, inr}
+use Rattle.std.proofs.Common.{◌≡◌, ℕ, ◌+◌, ◌≤◌, List, [], ◌∷◌, length, take, drop, Option, Some, None, Bool, true, sym, ap, subst, ◌∙◌, refl, arith}
 use Rattle.std.specs.Prelude.{if◌then◌else◌, IsSome}
-use Rattle.std.proofs.lemmas.Bool.{cases_eq}
 use Rattle.std.proofs.lemmas.List.{length-take-le, length-drop}
 use Rattle.sg_alloc.specs.declared.maps.Maps.{Maps}
 use Rattle.sg_base.specs.Overwritten.{overwritten}

@@ -14,12 +14,10 @@ use Rattle.sg_record.specs.Records.Says.{Begin as SaysBegin, Changed as SaysChan
 use Rattle.sg_record.specs.Shown.{by}
 use Rattle.sg_recovery.specs.Laws.{Each}
 use Rattle.sg_recovery.specs.Log.{tally, said, changes_of}
-use Rattle.sg_recovery.proofs.Chaining.{sound, live_below}
 use Rattle.sg_recovery.specs.Log.Record.{Change}
-use Rattle.sg_recovery.specs.Chains.{next_lsn, Formed}
+use Rattle.sg_recovery.specs.Chains.{Formed}
 use Rattle.sg_recovery.proofs.Basic.{each_append}
-use Rattle.sg_action.specs.States.{State, Change as Changed, apply, made}
-use Rattle.sg_action.specs.Opened.{StoodThere}
+use Rattle.sg_action.specs.States.{State, apply, made}
 use Rattle.sg_space.specs.Bands.{IsPiece}
 use Rattle.sg_actions.specs.Acting.{IsChained}
 use Rattle.sg_actions.specs.Changes.{meaning, bytes_with}
@@ -299,8 +297,7 @@ put_one t e e1 e' rows actor actor' at next c r low s back step hop g put = reco
   hop = λ told h is.
       let same : (c, next) ≡ h = same_some (c, next) h (hop ∙ (sym (ap hop_in (step told)) ∙ is)) in
       let p = s.stays told in
-      let now : now_of t e1 ≡ now_of t e = (λ j. repeated t (p.first j) (p.steps j)) in
-      (
+      let now : now_of t e1 ≡ now_of t e = (λ j. repeated t (p.first j) (p.steps j)) in (
         ap (λ (k : Hop). k.1) same,
         subst (λ (k : Hop). HasPutBack t e e' actor.txn.0 (given_by k.0 (now_of t e))) same
             (subst (λ (x : State). HasPutBack t e e' actor.txn.0 (given_by c x)) now (puts_then t (puts_stay t {e = e} {e' = e1} actor.txn.0 (now_of t e) p.first p.steps refl) (put (s.told told)))),

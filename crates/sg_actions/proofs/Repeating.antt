@@ -1,18 +1,15 @@
 -- History repeated, and the open action in it.
-use Rattle.std.proofs.Common.{◌≡◌, ◌≢◌, ℕ, ◌==◌, List, [], ◌∷◌, Option, Some, None, IsSome, Bool, true, false, sym, ap, subst, ◌∙◌, refl, arith, inl, inr}
-use Rattle.std.specs.Prelude.{map, if◌then◌else◌}
+use Rattle.std.proofs.Common.{◌≡◌, ℕ, [], ◌∷◌, Option, Some, None, IsSome, sym, ap, subst, ◌∙◌, refl, inl, inr}
+use Rattle.std.specs.Prelude.{map}
 use Rattle.std.proofs.lemmas.Bool.{cases_eq}
-use Rattle.sg_base.specs.Op.{Op}
 use Rattle.sg_base.specs.Sheet.{Sheet}
 use Rattle.sg_ops.specs.Table.{Table}
-use Rattle.sg_record.specs.Changes.{Change as Changing}
-use Rattle.sg_recovery.specs.Log.{Numbered}
 use Rattle.sg_recovery.specs.Log.Record.{Begin, Change, TopEnd, PhysComp, TopVoid, CompEnd, Save, Commit, End}
-use Rattle.sg_action.specs.States.{State, Change as Changed, apply, made, or_same, step_leaf, with_one}
+use Rattle.sg_action.specs.States.{State, Change as Changed, apply, made, or_same, step_leaf}
 use Rattle.sg_action.specs.States.Change.{Page, Write, Paint}
 use Rattle.sg_action.proofs.Opened.{one_here, one_there}
 use Rattle.sg_actions.specs.Changes.{meaning}
-use Rattle.sg_actions.specs.Steps.{Step, Steps, stepped, redo, repeated, with_change, logged, opened, but_change, ended, begin_of}
+use Rattle.sg_actions.specs.Steps.{Step, Steps, redo, repeated, with_change, logged, opened, but_change, ended, begin_of}
 
 -- what the open action made of the pages at its begin
 pub made_opened : (t : Table) (x : State) (rs : Steps) → made t (begin_of t x rs) (opened rs) ≡ repeated t x rs

@@ -1,5 +1,5 @@
 -- What the recovery of a log takes from pages and bands: each change of an open action reverts.
-use Rattle.std.proofs.Common.{◌≡◌, ℕ, List, [], ◌∷◌, Option, Some, None, Bool, true, false, sym, ap, subst, ◌∙◌, refl}
+use Rattle.std.proofs.Common.{◌≡◌, List, [], ◌∷◌, Option, Some, None, Bool, true, false, ap, ◌∙◌, refl}
 use Rattle.std.specs.Prelude.{if◌then◌else◌, map}
 use Rattle.sg_ops.specs.Table.{Table}
 use Rattle.sg_record.specs.Changes.{Change as Changing}

@@ -1,13 +1,12 @@
 -- Giving back what was freed.
-use Rattle.std.proofs.Common.{◌≡◌, ◌≢◌, ℕ, zero, suc, ◌+◌, ◌<◌, ◌≤◌, ◌^◌, List, [], ◌∷◌, length, Option, Some, None, Bool, true, false, not, sym, ap, subst, ◌∙◌, refl, arith, slice_get, slice_set, inl, inr}
+use Rattle.std.proofs.Common.{◌≡◌, ℕ, ◌+◌, ◌<◌, List, length, Some, Bool, true, false, sym, ap, subst, ◌∙◌, refl, arith, slice_get, slice_set, inl, inr}
 use Rattle.std.specs.Prelude.{◌&&◌}
-use Rattle.std.proofs.lemmas.Bool.{cases_eq, cases_Bool}
+use Rattle.std.proofs.lemmas.Bool.{cases_eq}
 use Rattle.std.proofs.lemmas.List.{length-set}
 use Rattle.std.proofs.lemmas.Option.{slice_get_within}
 use Rattle.sg_alloc.specs.Flags.{free_of}
 use Rattle.sg_alloc.proofs.Counted.{one_less, one_more}
 use Rattle.sg_actions.specs.Calls.{AreSettled}
-use Rattle.sg_actions.specs.Exact.{past}
 use Rattle.sg_actions.specs.Taken.{is_set, is_there, AreFlags}
 use Rattle.sg_actions.proofs.Flags.{set_by, get_set}
 use Rattle.sg_actions.proofs.Taking.{set_here, set_there, none_freed}

@@ -1,35 +1,29 @@
 -- Taking the open action off, one change after another.
-use Rattle.std.proofs.Common.{◌≡◌, ◌≢◌, ℕ, ◌+◌, ◌*◌, ◌==◌, ◌<◌, ◌≤◌, List, [], ◌∷◌, length, Option, Some, None, IsSome, Bool, true, false, not, sym, ap, subst, ◌∙◌, refl, arith, inl, inr}
-use Rattle.std.specs.Prelude.{◌&&◌, ◌||◌, if◌then◌else◌, map, is_some}
-use Rattle.std.proofs.lemmas.Bool.{cases_Bool, cases_eq}
-use Rattle.std.proofs.lemmas.Bool.Decides.{nat_tests}
-use Rattle.sg_base.specs.Op.{Op}
+use Rattle.std.proofs.Common.{◌≡◌, ◌≢◌, ℕ, ◌==◌, ◌<◌, ◌≤◌, List, [], ◌∷◌, Some, Bool, true, sym, ap, subst, ◌∙◌, refl, arith, inl, inr}
+use Rattle.std.specs.Prelude.{map, is_some}
+use Rattle.std.proofs.lemmas.Bool.{cases_Bool}
 use Rattle.sg_ops.specs.Laws.{IsLawful}
 use Rattle.sg_ops.specs.Table.{Table}
-use Rattle.sg_record.specs.Changes.{Change as Changing, PageChange, BandOp}
+use Rattle.sg_record.specs.Changes.{Change as Changing, PageChange}
 use Rattle.sg_record.specs.Changes.Change.{Page, SegWrite, SegOp}
 use Rattle.sg_recovery.specs.Laws.{Each}
-use Rattle.sg_recovery.specs.Log.{Numbered, Open, Tally, said, tally, is_in, open_of, open_not_of, open_up_to, changes_of}
+use Rattle.sg_recovery.specs.Log.{Open, said, tally, open_up_to, changes_of}
 use Rattle.sg_recovery.specs.Log.Record.{Begin, Change, TopEnd, PhysComp, TopVoid, CompEnd, Save, Commit, End}
-use Rattle.sg_recovery.specs.Chains.{last_of, border_of, next_lsn, next_off, Formed, Behind}
+use Rattle.sg_recovery.specs.Chains.{next_off, Behind}
 use Rattle.sg_recovery.specs.Shows.{Pairs}
-use Rattle.sg_recovery.proofs.Chaining.{sound, takes_first, clash}
-use Rattle.sg_recovery.proofs.TakeOff.{all_own}
+use Rattle.sg_recovery.proofs.Chaining.{sound, takes_first}
 use Rattle.sg_action.specs.States.{State, Change as Changed, Kept, apply, fits, inverse_of, made, step_leaf, or_same, with_one, Alike}
-use Rattle.sg_action.specs.States.Change.{Page as PageBy}
 use Rattle.sg_action.specs.Opened.{TakesTo, GoesOn}
 use Rattle.sg_action.proofs.TakenOff.{takes_off, goes_on}
 use Rattle.sg_actions.specs.Acting.{IsWell, IsChained}
-use Rattle.sg_actions.specs.Changes.{op_said, back_said, meaning, comp_of, page_off, op_off, instead}
-use Rattle.sg_actions.specs.Rows.{last_in, placed, at_rest}
+use Rattle.sg_actions.specs.Changes.{op_said, back_said, meaning, comp_of, page_off}
+use Rattle.sg_actions.specs.Rows.{placed, at_rest}
 use Rattle.sg_actions.specs.Steps.{Step, Steps, stepped, with_change, logged, opened, but_change, ended, begin_of, repeated}
 use Rattle.sg_actions.specs.Taken.{kept_of}
 use Rattle.sg_actions.specs.TakingOff.{IsTakingOff, AreLinked}
 use Rattle.sg_actions.specs.declared.rows.Actor.{Actor}
 use Rattle.sg_actions.specs.declared.rows.Row.{Row}
 use Rattle.sg_actions.proofs.Chained.{later, running_comp, running_void, running_later, rows_step, rows_top, rows_top_system, rows_later, own_low, none_open}
-use Rattle.sg_actions.proofs.Flags.{some_of}
-use Rattle.sg_actions.proofs.Placing.{placed_other, placed_self}
 use Rattle.sg_actions.proofs.Repeating.{made_opened}
 
 -- what a record says that takes a change of a page off

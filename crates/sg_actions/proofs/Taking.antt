@@ -1,5 +1,5 @@
 -- The open action, and what a space shows, once a page is taken.
-use Rattle.std.proofs.Common.{◌≡◌, ◌≢◌, ℕ, zero, suc, ◌+◌, ◌==◌, ◌<◌, ◌≤◌, ◌^◌, List, [], ◌∷◌, length, Option, Some, None, IsSome, Bool, true, false, not, sym, ap, subst, ◌∙◌, refl, arith, slice_get, slice_set, inl, inr, cond}
+use Rattle.std.proofs.Common.{◌≡◌, ◌≢◌, ℕ, zero, suc, ◌+◌, ◌<◌, ◌≤◌, List, [], ◌∷◌, length, Option, Some, None, Bool, true, false, not, sym, ap, subst, ◌∙◌, refl, arith, slice_get, slice_set, inl, inr, cond}
 use Rattle.std.specs.Prelude.{◌&&◌, ◌||◌, if◌then◌else◌, is_some, unwrap_or}
 use Rattle.std.proofs.lemmas.Bool.{cases_Bool, cases_eq}
 use Rattle.std.proofs.lemmas.Bool.Decides.{nat_tests}
@@ -12,27 +12,26 @@ use Rattle.sg_alloc.proofs.Counted.{one_less}
 use Rattle.sg_base.specs.Op.{Op}
 use Rattle.sg_base.specs.Op.Op.{Format}
 use Rattle.sg_base.specs.Sheet.{Sheet}
-use Rattle.sg_ops.specs.Steps.{step, uses_table}
+use Rattle.sg_ops.specs.Steps.{uses_table}
 use Rattle.sg_ops.specs.Table.{Table}
 use Rattle.sg_record.specs.Changes.{PageChange}
 use Rattle.sg_record.specs.Changes.Change.{Page as PageHeld}
 use Rattle.sg_record.specs.Records.Says.{Changed as SaysChanged}
 use Rattle.sg_record.specs.Shown.{by}
 use Rattle.sg_recovery.specs.Log.Record.{Change as ChangeStep}
-use Rattle.sg_action.specs.States.{State, Change, Kept, apply, made, or_same, step_leaf, fits}
+use Rattle.sg_action.specs.States.{State, Change, Kept, apply, made, or_same, step_leaf}
 use Rattle.sg_action.specs.States.Change.{Page}
-use Rattle.sg_action.specs.Opened.{formats, in_use, IsLogged, IsOpened, IsBegun, AreFit, OpenWell, shrunk, shrinks_at, leaf_shrinks}
+use Rattle.sg_action.specs.Opened.{formats, in_use, IsLogged, IsOpened, IsBegun, AreFit, OpenWell, shrunk, shrinks_at}
 use Rattle.sg_action.proofs.Opened.{one_here, one_there}
-use Rattle.sg_space.specs.Pages.{Took, HasFree, empty_sheet}
-use Rattle.sg_space.specs.Units.{HasAt, IsTaken}
+use Rattle.sg_space.specs.Pages.{Took, empty_sheet}
 use Rattle.sg_space.proofs.InMemory.{slice_get-set_same, slice_get-set_other}
 use Rattle.sg_actions.specs.Acting.{IsWell}
-use Rattle.sg_actions.specs.Changes.{op_said, back_said, meaning, change_with}
+use Rattle.sg_actions.specs.Changes.{back_said, meaning}
 use Rattle.sg_actions.specs.Engine.{EngineView, now_of, Logged, IsLoggable}
-use Rattle.sg_actions.specs.Steps.{Steps, repeated, opened, begin_of}
+use Rattle.sg_actions.specs.Steps.{opened, begin_of}
 use Rattle.sg_actions.specs.Taken.{is_set, is_there, takes_page, kept_of, units_there, AreFlags}
 use Rattle.sg_actions.specs.View.{IsKept, acts_view, MayGive, HasFreedNone}
-use Rattle.sg_actions.proofs.Flags.{set_is, set_by, there_is, at_there, and_both}
+use Rattle.sg_actions.proofs.Flags.{set_is, set_by, at_there, and_both}
 use Rattle.sg_actions.proofs.Going.{kept_same, not_in, shrinks_other}
 use Rattle.sg_actions.proofs.Said.{IsSaid}
 use Rattle.sg_actions.proofs.Acting.{acting_change}

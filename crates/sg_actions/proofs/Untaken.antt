@@ -1,19 +1,19 @@
 -- A page that was taken, and isn't any more.
-use Rattle.std.proofs.Common.{◌≡◌, ◌≢◌, ℕ, ◌+◌, ◌==◌, ◌<◌, ◌≤◌, ◌^◌, List, [], ◌∷◌, length, Option, Some, None, Bool, true, false, not, sym, ap, subst, ◌∙◌, refl, arith, slice_get, slice_set, inl, inr}
-use Rattle.std.specs.Prelude.{◌&&◌, ◌||◌, if◌then◌else◌}
+use Rattle.std.proofs.Common.{◌≡◌, ◌≢◌, ℕ, ◌==◌, ◌<◌, List, [], ◌∷◌, length, Some, Bool, true, false, sym, ap, subst, ◌∙◌, refl, arith, slice_get, slice_set, inl, inr}
+use Rattle.std.specs.Prelude.{◌&&◌}
 use Rattle.std.proofs.lemmas.Bool.{cases_eq, cases_Bool}
 use Rattle.std.proofs.lemmas.Bool.Decides.{nat_tests}
 use Rattle.std.proofs.lemmas.List.{length-set}
 use Rattle.std.proofs.lemmas.Option.{slice_get_within}
 use Rattle.sg_base.specs.Op.{is_format}
-use Rattle.sg_record.specs.Changes.{Change as Changing, PageChange, BandOp}
+use Rattle.sg_record.specs.Changes.{PageChange, BandOp}
 use Rattle.sg_record.specs.Changes.Change.{Page, SegOp}
 use Rattle.sg_action.specs.States.{Change}
 use Rattle.sg_action.specs.States.Change.{Paint}
 use Rattle.sg_action.specs.Opened.{formats}
 use Rattle.sg_actions.specs.Changes.{meaning, op_said}
 use Rattle.sg_actions.specs.Taken.{is_set, is_there, fills, AreFlags, IsUntaken, IsUntakenBand}
-use Rattle.sg_actions.proofs.Flags.{set_by, set_is, and_left, and_right}
+use Rattle.sg_actions.proofs.Flags.{and_right}
 use Rattle.sg_actions.proofs.Taking.{set_here, set_there}
 
 -- only the first operation takes a page

@@ -1,7 +1,6 @@
 -- What a space over an engine shows once a change of a page is logged.
-use Rattle.std.proofs.Common.{◌≡◌, ◌≢◌, ℕ, ◌+◌, ◌<◌, ◌≤◌, List, [], ◌∷◌, length, Option, Some, None, ◌==◌, IsSome, Bool, true, false, not, sym, ap, subst, ◌∙◌, refl, arith, inl, inr}
+use Rattle.std.proofs.Common.{◌≡◌, ◌≢◌, ℕ, ◌+◌, List, ◌∷◌, length, Option, Some, None, ◌==◌, true, false, sym, ap, subst, ◌∙◌, refl, arith}
 use Rattle.std.specs.Prelude.{is_some, if◌then◌else◌}
-use Rattle.std.proofs.lemmas.Bool.{cases_Bool}
 use Rattle.sg_alloc.specs.declared.maps.Maps.{Maps}
 use Rattle.sg_base.specs.Op.{Op, is_format, opens, shrinks}
 use Rattle.sg_base.specs.Op.Op.{Format, Put, Remove, Set, Links, Item, ItemBack}
@@ -14,21 +13,21 @@ use Rattle.sg_record.specs.Records.Says.{Changed as SaysChanged}
 use Rattle.sg_record.specs.Records.{Record}
 use Rattle.sg_record.specs.Shown.{by}
 use Rattle.sg_recovery.specs.Log.Record.{Change as ChangeStep}
-use Rattle.sg_action.specs.States.{State, Change, Kept, apply, made, or_same, step_leaf, fits}
+use Rattle.sg_action.specs.States.{State, Change, apply, made, or_same, step_leaf, fits}
 use Rattle.sg_action.specs.States.Change.{Page}
 use Rattle.sg_action.specs.Opened.{shrinks_at, leaf_shrinks}
 use Rattle.sg_action.proofs.Opened.{one_here, one_there}
-use Rattle.sg_space.specs.Pages.{Changed, CanChange, IsPossible}
-use Rattle.sg_space.specs.Units.{HasAt, IsChanged}
+use Rattle.sg_space.specs.Pages.{Changed, IsPossible}
+use Rattle.sg_space.specs.Units.{HasAt}
 use Rattle.sg_actions.specs.Acting.{IsWell}
 use Rattle.sg_actions.specs.declared.rows.Actor.{Actor}
 use Rattle.sg_actions.specs.declared.rows.Row.{Row}
 use Rattle.sg_actions.proofs.Acting.{acting_change}
 use Rattle.sg_actions.proofs.Calling.{MayGoOn}
 use Rattle.sg_actions.specs.Growing.{grows_then}
-use Rattle.sg_actions.specs.Changes.{op_said, back_said, meaning}
-use Rattle.sg_actions.specs.Engine.{EngineView, now_of, Logged, Stays, Fits, IsLoggable}
-use Rattle.sg_actions.specs.Steps.{Steps, Step, stepped, step_of, with_step, redo, repeated, opened, begin_of}
+use Rattle.sg_actions.specs.Changes.{back_said, meaning}
+use Rattle.sg_actions.specs.Engine.{EngineView, now_of, Logged, Stays, IsLoggable}
+use Rattle.sg_actions.specs.Steps.{Steps, step_of, with_step, repeated, opened, begin_of}
 use Rattle.sg_actions.specs.Taken.{is_set, is_there, kept_of, units_there, writes_band}
 use Rattle.sg_actions.specs.View.{IsKept, acts_view, MayGive, MayGiveNow}
 use Rattle.sg_actions.proofs.Flags.{there_is, at_there, some_of}

@@ -1,14 +1,13 @@
 -- What a space over an engine shows once a piece of a band is written.
-use Rattle.std.proofs.Common.{◌≡◌, ◌≢◌, ℕ, ◌+◌, ◌<◌, ◌≤◌, List, [], ◌∷◌, length, take, drop, Option, Some, None, Bool, true, false, sym, ap, subst, ◌∙◌, refl, arith}
+use Rattle.std.proofs.Common.{◌≡◌, ℕ, List, ◌∷◌, length, Some, None, Bool, true, sym, ap, subst, ◌∙◌, refl}
 use Rattle.std.specs.Prelude.{if◌then◌else◌}
 use Rattle.sg_alloc.specs.declared.maps.Maps.{Maps}
 use Rattle.sg_base.specs.Overwritten.{overwritten}
 use Rattle.sg_ops.specs.Table.{Table}
-use Rattle.sg_record.specs.Changes.{Change as Changing, BandBytes}
+use Rattle.sg_record.specs.Changes.{Change as Changing}
 use Rattle.sg_record.specs.Changes.Change.{SegWrite}
 use Rattle.sg_record.specs.Records.Says.{Changed as SaysChanged}
 use Rattle.sg_record.specs.Shown.{by}
-use Rattle.sg_recovery.specs.Log.Record.{Change as ChangeStep}
 use Rattle.sg_action.specs.States.{State, Change, apply, made}
 use Rattle.sg_action.specs.States.Change.{Write}
 use Rattle.sg_action.specs.Opened.{StoodThere}
@@ -17,7 +16,7 @@ use Rattle.sg_space.specs.Bands.{Wrote}
 use Rattle.sg_actions.specs.Acting.{IsWell}
 use Rattle.sg_actions.specs.Changes.{meaning, bytes_with}
 use Rattle.sg_actions.specs.Engine.{EngineView, now_of, Logged}
-use Rattle.sg_actions.specs.Steps.{Steps, stepped, repeated, opened, begin_of}
+use Rattle.sg_actions.specs.Steps.{Steps, repeated, opened, begin_of}
 use Rattle.sg_actions.specs.Taken.{is_there, kept_of, units_there, writes_band}
 use Rattle.sg_actions.specs.View.{IsKept, acts_view, MayGive}
 use Rattle.sg_actions.specs.declared.rows.Actor.{Actor}

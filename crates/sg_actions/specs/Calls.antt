@@ -1,5 +1,5 @@
 -- What the calls of transactions do.
-use Rattle.std.specs.Prelude.{◌≡◌, ◌≢◌, ◌⊎◌, ℕ, ◌+◌, ◌<◌, ◌≤◌, Bool, true, List, length, Result, IfOk, OnOk}
+use Rattle.std.specs.Prelude.{◌≡◌, ◌≢◌, ℕ, ◌+◌, ◌<◌, ◌≤◌, Bool, true, List, length}
 use Rattle.sg_alloc.specs.Flags.{free_of}
 use Rattle.sg_alloc.specs.declared.maps.Maps.{Maps}
 use Rattle.sg_base.specs.declared.numbers.TxnId.{TxnId}
@@ -9,10 +9,9 @@ use Rattle.sg_record.specs.Records.Says.{Begin, TopEnd}
 use Rattle.sg_record.specs.Shown.{by}
 use Rattle.sg_action.specs.States.{State}
 use Rattle.sg_recovery.specs.Log.{tally, is_in}
-use Rattle.sg_space.specs.declared.space.SpaceFault.{SpaceFault}
 use Rattle.sg_recovery.specs.Formed.{IsLog}
 use Rattle.sg_actions.specs.Acting.{IsChained}
-use Rattle.sg_actions.specs.Engine.{EngineView, EngineCounts, Logged, Moments}
+use Rattle.sg_actions.specs.Engine.{EngineView, Logged, Moments}
 use Rattle.sg_actions.specs.Images.{Recovering}
 use Rattle.sg_actions.specs.Rows.{HasRow, placed, rows_after, at_rest}
 use Rattle.sg_actions.specs.Steps.{Step, Steps, stepped, ended}

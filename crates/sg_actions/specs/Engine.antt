@@ -1,7 +1,6 @@
 -- All that is known of an engine: a log of records, and the pages and bands that its records make.
-use Rattle.std.specs.Prelude.{◌≡◌, ◌≢◌, ℕ, ◌+◌, ◌<◌, ◌≤◌, ◌^◌, Bool, true, false, IsSome, List, [], ◌∷◌, length, Option, Some, None, Result, Ok, ◌*◌, IfOk, IfErr, OnOk, OnErr, ⊤}
+use Rattle.std.specs.Prelude.{◌≡◌, ◌≢◌, ℕ, ◌+◌, ◌<◌, ◌≤◌, ◌^◌, Bool, true, IsSome, List, length, Option, Some, None, Result, Ok, ◌*◌, IfOk, IfErr, OnOk, OnErr, ⊤}
 use Rattle.sg_base.specs.Ends.{HasRisen}
-use Rattle.sg_base.specs.Op.{Op}
 use Rattle.sg_base.specs.Sheet.{Sheet}
 use Rattle.sg_disk.specs.Disk as disk
 use Rattle.sg_disk.specs.Disk.{Image, Leaves, LeavesOnly}
@@ -12,7 +11,7 @@ use Rattle.sg_record.specs.Changes.Change.{Page, SegWrite, SegOp}
 use Rattle.sg_record.specs.Records.{Record, Says}
 use Rattle.sg_record.specs.Reading.{parse}
 use Rattle.sg_base.specs.Page.{stored}
-use Rattle.sg_recovery.specs.Log.Record.{Begin, Change, TopEnd, PhysComp, TopVoid, CompEnd, Save, Commit, End}
+use Rattle.sg_recovery.specs.Log.Record.{Change, PhysComp}
 use Rattle.sg_action.specs.States.{State, fits}
 use Rattle.sg_space.specs.declared.space.SpaceFault.{SpaceFault}
 use Rattle.sg_space.specs.declared.space.SpaceFault.TheVariants.{Disk, LogEnd}

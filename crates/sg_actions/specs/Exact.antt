@@ -1,12 +1,12 @@
 -- That the count of free ones is exact.
 use Rattle.sg_base.specs.Page.{bytes_of, stored}
 use Rattle.sg_base.specs.Sheet.{Sheet}
-use Rattle.std.proofs.Common.{◌≡◌, ℕ, zero, suc, ◌+◌, ◌*◌, ◌<◌, ◌≤◌, List, [], ◌∷◌, length, Option, Some, None, IsSome, is_none, Bool, true, false, not, sym, ap, ◌∙◌, refl, arith, slice_index_or, cond, count_by}
+use Rattle.std.proofs.Common.{◌≡◌, ℕ, zero, suc, ◌+◌, ◌*◌, ◌<◌, ◌≤◌, List, [], ◌∷◌, length, Option, Some, None, IsSome, is_none, Bool, true, false, not, sym, ap, ◌∙◌, refl, arith, cond, count_by}
 use Rattle.std.specs.Prelude.{◌&&◌, if◌then◌else◌}
 use Rattle.std.specs.List.{range_with_len}
 use Rattle.std.proofs.lemmas.List.Sums.{sum_by-cons}
 use Rattle.sg_alloc.specs.Flags.{free_of}
-use Rattle.sg_space.specs.Units.{Units, IsExact}
+use Rattle.sg_space.specs.Units.{IsExact}
 use Rattle.sg_actions.specs.Taken.{is_set, is_there, units_there, AreFlags, AreSaid}
 
 -- a flag past the last is clear

@@ -1,12 +1,12 @@
 -- Logs that grow, and the images of a run of calls.
-use Rattle.std.proofs.Common.{◌≡◌, ℕ, List, [], ◌∷◌, ◌++◌, sym, ap, subst, ◌∙◌, refl, append_assoc}
+use Rattle.std.proofs.Common.{◌≡◌, [], ◌++◌, sym, ap, subst, ◌∙◌, refl, append_assoc}
 use Rattle.sg_disk.specs.Disk as disk
 use Rattle.sg_disk.specs.Disk.{Image, LeavesOnly}
 use Rattle.sg_disk.proofs.Moments.{started, joined, weaker}
 use Rattle.sg_ops.specs.Table.{Table}
 use Rattle.sg_action.specs.States.{State}
 use Rattle.sg_actions.specs.Engine.{EngineView, Moments, StandsNow}
-use Rattle.sg_actions.specs.Images.{Grows, IsFront, Recovering, IsImageOf}
+use Rattle.sg_actions.specs.Images.{Grows, Recovering, IsImageOf}
 use Rattle.sg_actions.specs.Steps.{Steps, repeated}
 
 pub grows_same : (rs : Steps) → Grows rs rs

@@ -1,32 +1,26 @@
 -- The laws of the relation that a space over an engine hands through every call: of no call, and of one after another.
-use Rattle.std.proofs.Common.{◌≡◌, ℕ, ◌+◌, ◌<◌, ◌≤◌, List, [], ◌∷◌, ◌++◌, Bool, true, false, sym, ap, subst, ◌∙◌, refl, append_assoc, arith}
-use Rattle.std.specs.Prelude.{map, Result, Ok, Err, OnOk, OnErr, IfOk}
+use Rattle.std.proofs.Common.{◌≡◌, ℕ, ◌≤◌, List, [], ◌∷◌, ◌++◌, Bool, true, false, sym, ap, subst, ◌∙◌, refl, append_assoc, arith}
+use Rattle.std.specs.Prelude.{map}
 use Rattle.sg_alloc.specs.declared.maps.Maps.{Maps}
-use Rattle.sg_ops.specs.Laws.{IsLawful}
 use Rattle.sg_ops.specs.Table.{Table}
-use Rattle.sg_record.specs.Changes.{Change as Changing}
-use Rattle.sg_record.specs.Records.Says.{Changed as SaysChanged}
-use Rattle.sg_record.specs.Shown.{by}
 use Rattle.sg_base.specs.declared.numbers.TxnId.{TxnId}
-use Rattle.sg_space.specs.declared.space.SpaceFault.{SpaceFault}
 use Rattle.sg_recovery.specs.Chains.{next_lsn}
 use Rattle.sg_recovery.specs.Formed.{IsLog}
 use Rattle.sg_recovery.specs.Log.{tally, changes_of}
-use Rattle.sg_recovery.specs.Log.Record.{Change}
 use Rattle.sg_action.specs.Opened.{TakesTo}
 use Rattle.sg_action.specs.States.{State, Kept}
 use Rattle.sg_actions.specs.Acting.{IsChained}
 use Rattle.sg_actions.specs.Changes.{meaning}
-use Rattle.sg_actions.specs.Engine.{EngineView, Logged, HasLogged, Logs, Stays, HasStayed, EngineLooks, Moments, StandsNow}
-use Rattle.sg_actions.specs.Images.{Grows, Recovering}
+use Rattle.sg_actions.specs.Engine.{EngineView, Stays, Moments, StandsNow}
+use Rattle.sg_actions.specs.Images.{Recovering}
 use Rattle.sg_actions.specs.Later.{At, at_kept, kept_at, begin_at, AreChanges, HasGone, Went, Later}
-use Rattle.sg_actions.specs.Steps.{Step, Steps, stepped, opened, begin_of, repeated}
+use Rattle.sg_actions.specs.Steps.{Steps, opened, begin_of, repeated}
 use Rattle.sg_actions.specs.Taken.{kept_of}
 use Rattle.sg_actions.specs.TakingOff.{IsRunning, AreRows}
 use Rattle.sg_actions.specs.View.{IsActing, IsKept}
 use Rattle.sg_actions.specs.declared.rows.Actor.{Actor}
 use Rattle.sg_actions.specs.declared.rows.Row.{Row}
-use Rattle.sg_actions.specs.Growing.{grows_same, grows_by, grows_then, moments_then, moments_same, moments_stop}
+use Rattle.sg_actions.specs.Growing.{grows_same, grows_then, moments_then, moments_same, moments_stop}
 
 no : {P : Type 0} (b : Bool) → b ≡ true → b ≡ false → P
 no b t f = absurd cc
@@ -165,4 +159,3 @@ later_then recovers own limits t a b c f g = record {
   stops = λ h. (let x = f.stops h in let y = g.stops x.0 in (y.0, y.1 ∙ x.1));
   goes = λ is law told k. went_then recovers own limits a b c (f.goes is law told k) f.begun g.stops (λ told' k'. g.goes is law told' k');
 }
-

@@ -1,5 +1,5 @@
 -- The last record of each transaction.
-use Rattle.std.specs.Prelude.{◌≡◌, ℕ, ◌==◌, Bool, if◌then◌else◌, List, [], ◌∷◌, Option, Some, None, option_map, IsSome}
+use Rattle.std.specs.Prelude.{ℕ, ◌==◌, if◌then◌else◌, List, [], ◌∷◌, Option, option_map, IsSome}
 use Rattle.std.specs.List.{find}
 use Rattle.sg_base.specs.declared.numbers.TxnId.{TxnId}
 use Rattle.sg_actions.specs.declared.rows.Actor.{Actor}

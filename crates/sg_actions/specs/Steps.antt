@@ -6,7 +6,7 @@ use Rattle.sg_record.specs.Records.{Record, Says}
 use Rattle.sg_record.specs.Records.Says.{Begin as SaysBegin, Changed as SaysChanged, TopEnd as SaysTopEnd, PhysComp as SaysPhysComp, TopVoid as SaysTopVoid, CompEnd as SaysCompEnd, Save as SaysSave, Commit as SaysCommit, End as SaysEnd, Checkpoint as SaysCheckpoint, Line as SaysLine}
 use Rattle.sg_recovery.specs.Log as recovery
 use Rattle.sg_recovery.specs.Log.Record.{Begin, Change, TopEnd, PhysComp, TopVoid, CompEnd, Save, Commit, End}
-use Rattle.sg_action.specs.States.{State, Change as Changed, apply, made}
+use Rattle.sg_action.specs.States.{State, Change as Changed, apply}
 use Rattle.sg_actions.specs.Changes.{meaning}
 
 -- a step of a transaction or of the system, with the change or the bytes of the note that it holds

@@ -1,6 +1,5 @@
 -- Which pages and bands are taken, and which of these the open action has freed.
-use Rattle.std.specs.Prelude.{◌≡◌, ◌<◌, ◌^◌, ℕ, ◌+◌, ◌==◌, ◌&&◌, ◌||◌, Bool, true, false, not, if◌then◌else◌, List, [], ◌∷◌, length, slice_index_or, Option, Some, None, IsSome}
-use Rattle.sg_base.specs.Sheet.{Sheet}
+use Rattle.std.specs.Prelude.{◌≡◌, ◌<◌, ◌^◌, ℕ, ◌+◌, ◌==◌, ◌&&◌, ◌||◌, Bool, true, false, not, if◌then◌else◌, List, [], ◌∷◌, length, slice_index_or, Option, None, IsSome}
 use Rattle.sg_alloc.specs.Flags.{free_of}
 use Rattle.sg_action.specs.States.{State, Change, Kept}
 use Rattle.sg_action.specs.States.Change.{Page, Write, Paint}

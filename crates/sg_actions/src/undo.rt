@@ -161,7 +161,12 @@ impl<E: Engine> Acts<E> {
 
     // Walks back over a transaction's records to its last note that isn't undone, where it is behind
     // the record at which to stop. Each record is below the last one.
-    fn find_note(&mut self, txn: TxnId, stop: Lsn, into: &mut UndoNote) -> Result<Option<Found>, SpaceFault>
+    fn find_note(
+        &mut self,
+        txn: TxnId,
+        stop: Lsn,
+        into: &mut UndoNote,
+    ) -> Result<Option<Found>, SpaceFault>
         requires { CanUndo (E.view self.old.engine) self.old.unfreed self.old.rows.items self.old.actor txn.0 stop }
         ensures counts { ActsCounts (E.view self.old.engine) (E.view self.new.engine) self.old.breaks self.new.breaks result }
         ensures stays { OnOk result (HasStayed (E.view self.old.engine) (E.view self.new.engine)) }
@@ -308,7 +313,12 @@ impl<E: Engine> Acts<E> {
     /// goes on behind it; there is none where it isn't behind the record at which to stop. Where it is a
     /// note of bytes, those come back that stood where its action wrote into bands. The transaction acts
     /// then, and what undoes the note is to follow as changes of its action.
-    pub fn undo_step(&mut self, txn: TxnId, stop: Lsn, into: &mut UndoNote) -> Result<Option<Lsn>, SpaceFault>
+    pub fn undo_step(
+        &mut self,
+        txn: TxnId,
+        stop: Lsn,
+        into: &mut UndoNote,
+    ) -> Result<Option<Lsn>, SpaceFault>
         requires { CanUndo (E.view self.old.engine) self.old.unfreed self.old.rows.items self.old.actor txn.0 stop }
         ensures counts { ActsCounts (E.view self.old.engine) (E.view self.new.engine) self.old.breaks self.new.breaks result }
         ensures did { IfOk result (UndoStepped E.table (E.view self.old.engine) (E.view self.new.engine) self.old.rows.items self.old.actor self.new.actor txn.0 stop into.new) }

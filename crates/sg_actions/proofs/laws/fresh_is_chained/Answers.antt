@@ -1,14 +1,4 @@
-use Rattle.std.proofs.Common.{◌≡◌, ℕ, ◌≤◌, Bool, true, false, refl, arith}
-use Rattle.std.specs.Bool.{MatchBool}
-use Rattle.sg_actions.proofs.Reverting.{reverts}
-use Rattle.sg_actions.proofs.Calling.{later_log}
-use Rattle.sg_actions.proofs.InRange.{format_in}
-use Rattle.sg_actions.proofs.Writing.{shows_write}
-use Rattle.sg_actions.proofs.Freeing.{shows_free}
-use Rattle.sg_actions.proofs.Ended.{action_ended}
-use Rattle.sg_actions.proofs.Beginning.{begun_is}
-use Rattle.sg_actions.proofs.Offing.{took_off}
-use Rattle.sg_actions.proofs.Finishing.{all_off_now}
+use Rattle.std.proofs.Common.{◌≡◌, true, false, refl, arith}
 use Rattle.sg_actions.proofs.laws.fresh_is_chained.Goals as goal
 
 no : false ≡ true → ⊥

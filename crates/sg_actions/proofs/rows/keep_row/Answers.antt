@@ -1,4 +1,4 @@
-use Rattle.std.proofs.Common.{◌≡◌, ℕ, sym, ap, ◌∙◌, List, length}
+use Rattle.std.proofs.Common.{◌≡◌, ap, ◌∙◌, List, length}
 use Rattle.sg_actions.specs.Rows.{placed}
 use Rattle.sg_actions.specs.declared.rows.Row.{Row}
 use Rattle.sg_actions.proofs.Placing.{front_is, length-placed, after_none, after_one}

@@ -1,4 +1,4 @@
-use Rattle.std.proofs.Common.{◌≡◌, ℕ, ◌+◌, ◌<◌, true, sym, ap, length, ◌∙◌, arith}
+use Rattle.std.proofs.Common.{true, ap, length, ◌∙◌, arith}
 use Rattle.std.proofs.lemmas.List.{length-set}
 use Rattle.sg_alloc.specs.Flags.{free_of}
 use Rattle.sg_alloc.proofs.Counted.{one_less}

@@ -1,4 +1,4 @@
-use Rattle.std.proofs.Common.{◌≡◌, ℕ, length}
+use Rattle.std.proofs.Common.{◌≡◌, length}
 use Rattle.sg_alloc.specs.Flags.{free_of}
 use Rattle.sg_actions.proofs.settling.forget_pages.Given as goal
 

@@ -1,4 +1,4 @@
-use Rattle.std.proofs.Common.{◌≡◌, ℕ, ◌+◌, ◌<◌, sym, ap, ◌∙◌, arith}
+use Rattle.std.proofs.Common.{ap, ◌∙◌, arith}
 use Rattle.sg_alloc.specs.Flags.{free_of}
 use Rattle.sg_alloc.proofs.Counted.{one_less}
 use Rattle.sg_actions.proofs.Settled.{settling_one}

@@ -1,4 +1,4 @@
-use Rattle.std.proofs.Common.{◌≡◌, ℕ}
+use Rattle.std.proofs.Common.{◌≡◌}
 use Rattle.sg_alloc.specs.Flags.{free_of}
 use Rattle.sg_actions.proofs.Settled.{AreSettling}
 use Rattle.sg_actions.proofs.settling.settle_pages.Given as goal

@@ -1,4 +1,4 @@
-use Rattle.std.proofs.Common.{◌≡◌, ℕ, Bool, List, false, true, sym, ap, ◌∙◌}
+use Rattle.std.proofs.Common.{◌≡◌, false, true, sym, ap, ◌∙◌}
 use Rattle.sg_record.specs.Shown.{shown_page}
 use Rattle.sg_record.specs.Changes.Change.{Page}
 use Rattle.sg_actions.specs.Changes.{meaning}

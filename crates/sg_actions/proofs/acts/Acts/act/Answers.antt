@@ -1,4 +1,4 @@
-use Rattle.std.proofs.Common.{◌≡◌, ℕ, sym, ap, ◌∙◌, List, refl}
+use Rattle.std.proofs.Common.{sym, ap, ◌∙◌, List, refl}
 use Rattle.sg_actions.specs.Rows.{last_in}
 use Rattle.sg_actions.specs.declared.rows.Row.{Row}
 use Rattle.sg_actions.proofs.Beginning.{acts_now, system_acts, nobody_acts}

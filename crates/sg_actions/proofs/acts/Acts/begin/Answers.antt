@@ -1,4 +1,4 @@
-use Rattle.std.proofs.Common.{◌≡◌, ℕ, refl, sym, ap, ◌∙◌, List, length, arith}
+use Rattle.std.proofs.Common.{◌≡◌, refl, sym, ap, ◌∙◌, List, length}
 use Rattle.sg_actions.proofs.Beginning.{begun_is, begin_appends}
 use Rattle.sg_actions.proofs.Placing.{front_is, length-placed}
 use Rattle.sg_actions.specs.Rows.{placed}

@@ -1,7 +1,5 @@
-use Rattle.std.proofs.Common.{◌≡◌, ◌≤◌, ◌*◌, sym, ap, subst, ◌∙◌, List, length, take, ℕ, arith}
-use Rattle.sg_record.specs.Records.{Record}
+use Rattle.std.proofs.Common.{◌≡◌, ◌*◌, ap, subst, ◌∙◌, List, length, take, ℕ}
 use Rattle.sg_record.specs.Records.Says.{Checkpoint}
-use Rattle.sg_record.specs.Ranges.{IsRecord}
 use Rattle.sg_record.specs.Shown.{by}
 use Rattle.sg_actions.specs.Checkpoints.{rows_bytes}
 use Rattle.sg_actions.specs.Engine.{HasLogged}

@@ -1,9 +1,8 @@
 use Rattle.std.proofs.Common.{◌≡◌, sym, ap, ◌∙◌, List, length, refl}
-use Rattle.sg_actions.proofs.Closing.{committed, commit_appends, has_gone, fails, no_row, appends_look, stays_of, on_ok2}
+use Rattle.sg_actions.proofs.Closing.{committed, commit_appends, has_gone, fails, appends_look, stays_of, on_ok2}
 use Rattle.sg_actions.proofs.InRange.{commit_in}
 use Rattle.sg_actions.proofs.Placing.{front_is, length-placed}
 use Rattle.sg_actions.specs.Rows.{last_in, placed}
-use Rattle.sg_actions.specs.Ending.{vacant}
 use Rattle.sg_actions.specs.declared.rows.Row.{Row}
 use Rattle.sg_record.specs.Records.Says.{Commit as SaysCommit}
 use Rattle.sg_record.specs.Shown.{by}

@@ -1,5 +1,5 @@
 use Rattle.std.proofs.Common.{◌≡◌, sym, ap, ◌∙◌, List, length, refl}
-use Rattle.sg_actions.proofs.Closing.{closed, done_appends, has_gone, fails, no_row}
+use Rattle.sg_actions.proofs.Closing.{closed, done_appends, has_gone, fails}
 use Rattle.sg_actions.proofs.InRange.{end_in}
 use Rattle.sg_actions.proofs.Placing.{front_is, length-placed}
 use Rattle.sg_actions.specs.Rows.{last_in, placed}

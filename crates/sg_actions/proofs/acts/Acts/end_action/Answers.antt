@@ -1,4 +1,4 @@
-use Rattle.std.proofs.Common.{◌≡◌, ◌≤◌, ℕ, length, sym, ap, ◌∙◌, subst, List, Bool, arith}
+use Rattle.std.proofs.Common.{ℕ, length, sym, ap, subst, List, Bool, arith}
 use Rattle.sg_actions.specs.Calls.{AreSettled}
 use Rattle.sg_actions.specs.Engine.{HasLogged}
 use Rattle.sg_record.specs.Records.Says.{TopEnd}

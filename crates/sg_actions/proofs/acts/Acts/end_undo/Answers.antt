@@ -1,4 +1,4 @@
-use Rattle.std.proofs.Common.{◌≡◌, sym, subst, List, Bool}
+use Rattle.std.proofs.Common.{sym, subst, List, Bool}
 use Rattle.sg_actions.specs.Calls.{AreSettled}
 use Rattle.sg_actions.proofs.Closing.{undo_ended, undo_end_appends}
 use Rattle.sg_actions.proofs.InRange.{comp_end_in}

@@ -1,4 +1,4 @@
-use Rattle.std.proofs.Common.{◌≡◌, ◌<◌, ◌≤◌, ℕ, sym, subst}
+use Rattle.std.proofs.Common.{sym, subst}
 use Rattle.sg_record.specs.Changes.{BandOp}
 use Rattle.sg_record.specs.Changes.Change.{SegOp}
 use Rattle.sg_record.specs.Ranges.{IsRecord}

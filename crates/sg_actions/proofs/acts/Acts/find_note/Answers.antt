@@ -6,7 +6,7 @@ use Rattle.sg_actions.specs.declared.rows.Row.{Row}
 use Rattle.sg_actions.specs.declared.undo.Seen.{Seen}
 use Rattle.sg_actions.specs.declared.undo.Seen.TheVariants as seen
 use Rattle.sg_actions.specs.Growing.{moments_same}
-use Rattle.sg_actions.proofs.Counting.{looked_none, looked_then, looked_ok, looked_err, looked_break, look_moments, stayed_then}
+use Rattle.sg_actions.proofs.Counting.{looked_none, looked_then, looked_break, look_moments, stayed_then}
 use Rattle.sg_actions.proofs.Finding.{walk_begins, walk_goes, walk_finds, walk_over}
 use Rattle.sg_actions.proofs.acts.Acts.find_note.Goals as goal
 

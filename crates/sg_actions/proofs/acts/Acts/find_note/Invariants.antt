@@ -1,4 +1,4 @@
-use Rattle.std.proofs.Common.{◌≡◌, ◌+◌, ◌≤◌}
+use Rattle.std.proofs.Common.{◌≡◌}
 use Rattle.sg_actions.proofs.Counting.{HasLooked}
 use Rattle.sg_actions.proofs.Walking.{IsWalking}
 use Rattle.sg_actions.proofs.acts.Acts.find_note.Given as goal

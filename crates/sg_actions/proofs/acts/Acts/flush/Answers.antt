@@ -1,4 +1,3 @@
-use Rattle.std.proofs.Common.{◌≡◌, ℕ}
 use Rattle.sg_actions.proofs.Beginning.{rest_kept}
 use Rattle.sg_actions.proofs.acts.Acts.flush.Goals as goal
 

@@ -1,4 +1,3 @@
-use Rattle.std.proofs.Common.{◌≡◌, ℕ}
 use Rattle.sg_actions.proofs.Counting.{kept_looked}
 use Rattle.sg_actions.proofs.acts.Acts.next_undo.Goals as goal
 

@@ -1,4 +1,4 @@
-use Rattle.std.proofs.Common.{◌≡◌, subst, ◌∙◌, refl, arith, List, Some}
+use Rattle.std.proofs.Common.{◌≡◌, subst, ◌∙◌, refl, List, Some}
 use Rattle.std.proofs.lemmas.Result.{err_from_is_err_and}
 use Rattle.sg_base.specs.declared.numbers.TxnId.{TxnId}
 use Rattle.sg_actions.specs.Engine.{now_of}

@@ -1,4 +1,4 @@
-use Rattle.std.proofs.Common.{◌≡◌, ◌≤◌, ℕ, List}
+use Rattle.std.proofs.Common.{◌≡◌, List}
 use Rattle.sg_ops.specs.Table.{Table}
 use Rattle.sg_recovery.specs.Log.{changes_of}
 use Rattle.sg_actions.specs.Engine.{now_of}

@@ -1,4 +1,4 @@
-use Rattle.std.proofs.Common.{◌≡◌, ℕ, ◌+◌, ◌≤◌, List, length, take, drop, refl, sym, ap, subst, ◌∙◌, arith}
+use Rattle.std.proofs.Common.{ℕ, List, length, take, drop, refl, sym, ap, subst, ◌∙◌, arith}
 use Rattle.sg_record.specs.Changes.{BandBytes}
 use Rattle.sg_record.specs.Changes.Change.{SegWrite}
 use Rattle.sg_record.specs.Records.Says.{Changed}
@@ -9,7 +9,7 @@ use Rattle.sg_actions.specs.Onward.{later_then}
 use Rattle.sg_actions.proofs.Calling.{later_look, later_log_as}
 use Rattle.sg_actions.proofs.InRange.{write_in}
 use Rattle.sg_actions.proofs.PuttingBack.{put_bytes, stood_long}
-use Rattle.sg_actions.proofs.Viewed.{now_stays, logged_after}
+use Rattle.sg_actions.proofs.Viewed.{logged_after}
 use Rattle.sg_actions.proofs.Writing.{write_on}
 use Rattle.sg_actions.proofs.acts.Acts.put_bytes.Goals as goal
 
@@ -34,12 +34,12 @@ returns-clause-later g c = λ t. later_then g.E.Engine.recovers g.E.Engine.table
     (later_look g.E.Engine.recovers g.E.Engine.table g.E.Engine.limits _ (g.E.Engine.view c.args.self.now.engine) (g.E.Engine.view c.load_band.new.self) c.args.self.now.maps c.args.self.now.rows.items c.args.self.now.actor c.args.self.now.begun _ c.in_ok-load_band.ensures.looks)
     (later_log_as g.E.Engine.recovers g.E.Engine.table g.E.Engine.limits _ (g.E.Engine.view c.load_band.new.self) (g.E.Engine.view c.log.new.self) c.args.self.now.maps c.args.self.now.maps c.args.self.now.rows.items c.args.self.now.actor _ c.args.self.now.begun (SegWrite (shown_bytes c.spell_bytes.result)) (SegWrite (bytes_with c.args.b.0 c.args.at _ _ c.args.bytes.now)) _ c.requires.begun (ap SegWrite c.spell_bytes.ensures) c.in_ok-self.ensures.logs refl
     (λ told k.
-        let told0 = c.in_ok-load_band.ensures.looks.counts.told told in
-        let stays = c.in_ok-load_band.ensures.looks.stays.stays told0 in
-        let same = c.band.ensures.looked (g.met.E.Engine.told_shows _ told) in
-        let long = ap length same ∙ c.band.ensures.size in
-        let piece = c.requires.piece in
-        write_on g.E.Engine.table g.E.Engine.limits (g.E.Engine.view c.load_band.new.self) c.args.self.now.maps _ _ c.args.b.0 c.args.at _ _ c.args.bytes.now (record { within = omega (arith, long, piece.within); is = c.copy_piece.ensures ∙ ap (λ (xs : List ℕ). take (length c.args.bytes.now) (drop c.args.at xs)) (sym same) }) k)
+    let told0 = c.in_ok-load_band.ensures.looks.counts.told told in
+    let stays = c.in_ok-load_band.ensures.looks.stays.stays told0 in
+    let same = c.band.ensures.looked (g.met.E.Engine.told_shows _ told) in
+    let long = ap length same ∙ c.band.ensures.size in
+    let piece = c.requires.piece in
+    write_on g.E.Engine.table g.E.Engine.limits (g.E.Engine.view c.load_band.new.self) c.args.self.now.maps _ _ c.args.b.0 c.args.at _ _ c.args.bytes.now (record { within = omega (arith, long, piece.within); is = c.copy_piece.ensures ∙ ap (λ (xs : List ℕ). take (length c.args.bytes.now) (drop c.args.at xs)) (sym same) }) k)
     refl)
 
 pub returns-in_err-self-clause-later : goal.returns-in_err-self-clause-later
@@ -47,12 +47,12 @@ returns-in_err-self-clause-later g c = λ t. later_then g.E.Engine.recovers g.E.
     (later_look g.E.Engine.recovers g.E.Engine.table g.E.Engine.limits _ (g.E.Engine.view c.args.self.now.engine) (g.E.Engine.view c.load_band.new.self) c.args.self.now.maps c.args.self.now.rows.items c.args.self.now.actor c.args.self.now.begun _ c.in_ok-load_band.ensures.looks)
     (later_log_as g.E.Engine.recovers g.E.Engine.table g.E.Engine.limits _ (g.E.Engine.view c.load_band.new.self) (g.E.Engine.view c.log.new.self) c.args.self.now.maps c.args.self.now.maps c.args.self.now.rows.items c.args.self.now.actor _ c.args.self.now.begun (SegWrite (shown_bytes c.spell_bytes.result)) (SegWrite (bytes_with c.args.b.0 c.args.at _ _ c.args.bytes.now)) _ c.requires.begun (ap SegWrite c.spell_bytes.ensures) c.in_err-self.ensures.logs tt
     (λ told k.
-        let told0 = c.in_ok-load_band.ensures.looks.counts.told told in
-        let stays = c.in_ok-load_band.ensures.looks.stays.stays told0 in
-        let same = c.band.ensures.looked (g.met.E.Engine.told_shows _ told) in
-        let long = ap length same ∙ c.band.ensures.size in
-        let piece = c.requires.piece in
-        write_on g.E.Engine.table g.E.Engine.limits (g.E.Engine.view c.load_band.new.self) c.args.self.now.maps _ _ c.args.b.0 c.args.at _ _ c.args.bytes.now (record { within = omega (arith, long, piece.within); is = c.copy_piece.ensures ∙ ap (λ (xs : List ℕ). take (length c.args.bytes.now) (drop c.args.at xs)) (sym same) }) k)
+    let told0 = c.in_ok-load_band.ensures.looks.counts.told told in
+    let stays = c.in_ok-load_band.ensures.looks.stays.stays told0 in
+    let same = c.band.ensures.looked (g.met.E.Engine.told_shows _ told) in
+    let long = ap length same ∙ c.band.ensures.size in
+    let piece = c.requires.piece in
+    write_on g.E.Engine.table g.E.Engine.limits (g.E.Engine.view c.load_band.new.self) c.args.self.now.maps _ _ c.args.b.0 c.args.at _ _ c.args.bytes.now (record { within = omega (arith, long, piece.within); is = c.copy_piece.ensures ∙ ap (λ (xs : List ℕ). take (length c.args.bytes.now) (drop c.args.at xs)) (sym same) }) k)
     refl)
 
 pub returns-in_err-load_band-clause-later : goal.returns-in_err-load_band-clause-later

@@ -1,6 +1,5 @@
-use Rattle.std.proofs.Common.{◌≡◌, ℕ, List, sym, ap, subst, ◌∙◌, refl}
+use Rattle.std.proofs.Common.{List, sym, subst}
 use Rattle.sg_alloc.specs.declared.maps.Maps.{Maps}
-use Rattle.sg_action.specs.States.{State, Kept}
 use Rattle.sg_actions.specs.Offed.{AllOff}
 use Rattle.sg_actions.specs.TakingOff.{IsOff}
 use Rattle.sg_actions.specs.declared.rows.Row.{Row}

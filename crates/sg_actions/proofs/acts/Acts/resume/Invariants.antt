@@ -1,4 +1,3 @@
-use Rattle.std.proofs.Common.{◌≡◌, ℕ}
 use Rattle.sg_action.specs.States.{State, Kept}
 use Rattle.sg_actions.specs.TakingOff.{IsOff}
 use Rattle.sg_actions.proofs.acts.Acts.resume.Given as goal

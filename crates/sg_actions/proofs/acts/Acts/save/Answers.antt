@@ -1,9 +1,8 @@
 use Rattle.std.proofs.Common.{◌≡◌, sym, ap, ◌∙◌, List, length, refl}
-use Rattle.sg_actions.proofs.Closing.{marked, save_appends, has_gone, fails, no_row}
+use Rattle.sg_actions.proofs.Closing.{marked, save_appends, has_gone, fails}
 use Rattle.sg_actions.proofs.InRange.{save_in}
 use Rattle.sg_actions.proofs.Placing.{front_is, length-placed}
 use Rattle.sg_actions.specs.Rows.{last_in, placed}
-use Rattle.sg_actions.specs.Ending.{vacant}
 use Rattle.sg_actions.specs.declared.rows.Row.{Row}
 use Rattle.sg_record.specs.Records.Says.{Save as SaysSave}
 use Rattle.sg_record.specs.Shown.{by}

@@ -1,9 +1,9 @@
-use Rattle.std.proofs.Common.{◌≡◌, ℕ, List, Bool, sym, ap, subst, ◌∙◌, refl}
+use Rattle.std.proofs.Common.{List, sym, ap, subst, ◌∙◌, refl}
 use Rattle.sg_alloc.specs.Flags.{free_of}
 use Rattle.sg_alloc.specs.declared.maps.Maps.{Maps}
 use Rattle.sg_actions.specs.Offed.{kept_in, TakenOff}
 use Rattle.sg_actions.specs.Steps.{begin_of}
-use Rattle.sg_actions.specs.TakingOff.{IsOff, Voided}
+use Rattle.sg_actions.specs.TakingOff.{IsOff}
 use Rattle.sg_actions.specs.declared.rows.Row.{Row}
 use Rattle.sg_actions.proofs.Finishing.{off_begins, taken_off, on_ok}
 use Rattle.sg_actions.proofs.acts.Acts.take_off.Goals as goal

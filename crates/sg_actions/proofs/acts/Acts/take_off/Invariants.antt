@@ -1,4 +1,4 @@
-use Rattle.std.proofs.Common.{◌≡◌, ℕ}
+use Rattle.std.proofs.Common.{◌≡◌}
 use Rattle.sg_alloc.specs.Flags.{free_of}
 use Rattle.sg_actions.specs.Offed.{kept_in}
 use Rattle.sg_actions.specs.Steps.{begin_of}

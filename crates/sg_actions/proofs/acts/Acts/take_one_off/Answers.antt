@@ -1,18 +1,11 @@
-use Rattle.std.proofs.Common.{◌≡◌, ℕ, sym, ap, subst, ◌∙◌, refl, Ok}
+use Rattle.std.proofs.Common.{sym, ap, subst, ◌∙◌}
 use Rattle.std.specs.Option.{IsSome}
 use Rattle.sg_action.specs.States.{State}
-use Rattle.sg_record.specs.Changes.{Change}
-use Rattle.sg_record.specs.Records.{Record}
-use Rattle.sg_record.specs.Records.Says.{PhysComp}
-use Rattle.sg_record.specs.Shown.{by, shown, shown_change}
-use Rattle.sg_actions.specs.Changes.{comp_of}
-use Rattle.sg_actions.specs.Engine.{Logged, IsLoggable, now_of}
+use Rattle.sg_record.specs.Shown.{shown, shown_change}
 use Rattle.sg_actions.specs.Steps.{step_at, step_of}
-use Rattle.sg_actions.specs.Taken.{AreFlags}
-use Rattle.sg_recovery.specs.Log.Record.{PhysComp as PhysStep}
 use Rattle.sg_actions.proofs.Flags.{some_is}
-use Rattle.sg_actions.proofs.Viewed.{now_stays, logged_after}
-use Rattle.sg_actions.proofs.Offing.{next_one, off_stays, read_is, off_goes_on, off_loggable, says_after, shown_is, took_off}
+use Rattle.sg_actions.proofs.Viewed.{now_stays}
+use Rattle.sg_actions.proofs.Offing.{next_one, off_stays, read_is, off_loggable, says_after, shown_is, took_off}
 use Rattle.sg_actions.proofs.acts.Acts.take_one_off.Goals as goal
 
 pub read-requires-clause-there : goal.read-requires-clause-there

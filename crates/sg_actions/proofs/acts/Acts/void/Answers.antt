@@ -1,4 +1,3 @@
-use Rattle.std.proofs.Common.{◌≡◌, ℕ}
 use Rattle.sg_actions.proofs.InRange.{top_void_in}
 use Rattle.sg_actions.proofs.acts.Acts.void.Goals as goal
 

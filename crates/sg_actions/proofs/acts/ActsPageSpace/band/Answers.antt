@@ -1,4 +1,4 @@
-use Rattle.std.proofs.Common.{◌≡◌, ℕ, Option, Some, sym, ap, ◌∙◌, refl}
+use Rattle.std.proofs.Common.{Some, sym, ap, ◌∙◌, refl}
 use Rattle.sg_actions.specs.Engine.{now_of}
 use Rattle.sg_actions.proofs.Flags.{at_there}
 use Rattle.sg_actions.proofs.Looking.{looks_ok}

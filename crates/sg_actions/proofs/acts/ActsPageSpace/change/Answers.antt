@@ -1,7 +1,6 @@
-use Rattle.std.proofs.Common.{◌≡◌, ℕ, List, Option, ◌+◌, ◌≤◌, refl, sym, ap, ◌∙◌, arith}
+use Rattle.std.proofs.Common.{ℕ, List, Option, refl, sym, ap, ◌∙◌, arith}
 use Rattle.std.specs.Prelude.{unwrap_or}
 use Rattle.sg_actions.specs.Engine.{now_of}
-use Rattle.sg_actions.specs.Changes.{brought}
 use Rattle.sg_record.specs.Changes.Change.{Page}
 use Rattle.sg_actions.proofs.Flags.{there_is, some_is}
 use Rattle.sg_actions.proofs.Calling.{later_look, later_log}
@@ -52,10 +51,10 @@ returns g c =
           (later_look g.E.Engine.recovers g.E.Engine.table g.E.Engine.limits _ (g.E.Engine.view c.args.self.now.engine) (g.E.Engine.view c.load.new.self) c.args.self.now.maps c.args.self.now.rows.items c.args.self.now.actor c.args.self.now.begun _ looks)
           (later_log g.E.Engine.recovers g.E.Engine.table g.E.Engine.limits _ (g.E.Engine.view c.load.new.self) (g.E.Engine.view c.log_by.new.self) c.args.self.now.maps c.args.self.now.maps c.args.self.now.rows.items c.args.self.now.actor _ c.args.self.now.begun (Page _) _ c.if-not-self.false c.in_ok-self.ensures.logs refl
           (λ told k.
-              let told0 = first.told told in
-              let stays = looks.stays.stays told0 in
-              let shown = ap (λ x. x.pages c.args.p.0) (sym (now_stays g.E.Engine.table stays)) ∙ c.page.ensures (g.met.E.Engine.told_shows _ told) in
-              change_on g.E.Engine.table _ g.E.Engine.limits (g.E.Engine.view c.args.self.now.engine) (g.E.Engine.view c.load.new.self) c.args.self.now.breaks c.args.self.now.maps c.args.self.now.unfreed _ _ c.args.p.0 _ _ _ plain said told0 stays shown back c.brings_bytes.ensures c.requires.means (c.requires.can told0) k)
+          let told0 = first.told told in
+          let stays = looks.stays.stays told0 in
+          let shown = ap (λ x. x.pages c.args.p.0) (sym (now_stays g.E.Engine.table stays)) ∙ c.page.ensures (g.met.E.Engine.told_shows _ told) in
+          change_on g.E.Engine.table _ g.E.Engine.limits (g.E.Engine.view c.args.self.now.engine) (g.E.Engine.view c.load.new.self) c.args.self.now.breaks c.args.self.now.maps c.args.self.now.unfreed _ _ c.args.p.0 _ _ _ plain said told0 stays shown back c.brings_bytes.ensures c.requires.means (c.requires.can told0) k)
           (page_same g.E.Engine.table g.E.Engine.limits (g.E.Engine.view c.load.new.self) c.args.self.now.maps c.args.p.0 _ _ plain said));
     }
 
@@ -76,10 +75,10 @@ returns-in_err-self-clause-later g c =
     (later_look g.E.Engine.recovers g.E.Engine.table g.E.Engine.limits _ (g.E.Engine.view c.args.self.now.engine) (g.E.Engine.view c.load.new.self) c.args.self.now.maps c.args.self.now.rows.items c.args.self.now.actor c.args.self.now.begun _ looks)
     (later_log g.E.Engine.recovers g.E.Engine.table g.E.Engine.limits _ (g.E.Engine.view c.load.new.self) (g.E.Engine.view c.log_by.new.self) c.args.self.now.maps c.args.self.now.maps c.args.self.now.rows.items c.args.self.now.actor _ c.args.self.now.begun (Page _) _ c.if-not-self.false c.in_err-self.ensures.logs tt
     (λ told k.
-        let told0 = looks.counts.told told in
-        let stays = looks.stays.stays told0 in
-        let shown = ap (λ x. x.pages c.args.p.0) (sym (now_stays g.E.Engine.table stays)) ∙ c.page.ensures (g.met.E.Engine.told_shows _ told) in
-        change_on g.E.Engine.table _ g.E.Engine.limits (g.E.Engine.view c.args.self.now.engine) (g.E.Engine.view c.load.new.self) c.args.self.now.breaks c.args.self.now.maps c.args.self.now.unfreed _ _ c.args.p.0 _ _ _ plain said told0 stays shown back c.brings_bytes.ensures c.requires.means (c.requires.can told0) k)
+    let told0 = looks.counts.told told in
+    let stays = looks.stays.stays told0 in
+    let shown = ap (λ x. x.pages c.args.p.0) (sym (now_stays g.E.Engine.table stays)) ∙ c.page.ensures (g.met.E.Engine.told_shows _ told) in
+    change_on g.E.Engine.table _ g.E.Engine.limits (g.E.Engine.view c.args.self.now.engine) (g.E.Engine.view c.load.new.self) c.args.self.now.breaks c.args.self.now.maps c.args.self.now.unfreed _ _ c.args.p.0 _ _ _ plain said told0 stays shown back c.brings_bytes.ensures c.requires.means (c.requires.can told0) k)
     (page_same g.E.Engine.table g.E.Engine.limits (g.E.Engine.view c.load.new.self) c.args.self.now.maps c.args.p.0 _ _ plain said))
 
 pub returns-then-not-self-clause-later : goal.returns-then-not-self-clause-later

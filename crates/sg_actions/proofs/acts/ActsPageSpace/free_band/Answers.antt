@@ -1,5 +1,5 @@
-use Rattle.std.proofs.Common.{◌≡◌, ℕ, ◌≤◌, sym, arith}
-use Rattle.sg_actions.proofs.Freeing.{there_flag, shows_free_band}
+use Rattle.std.proofs.Common.{sym}
+use Rattle.sg_actions.proofs.Freeing.{there_flag}
 use Rattle.sg_actions.specs.Onward.{later_same}
 use Rattle.sg_actions.proofs.acts.ActsPageSpace.free_band.Goals as goal
 

@@ -1,4 +1,4 @@
-use Rattle.std.proofs.Common.{◌≡◌, ℕ, ◌+◌, ◌<◌, ◌≤◌, arith}
+use Rattle.std.proofs.Common.{arith}
 use Rattle.sg_actions.proofs.Freeing.{few_free}
 use Rattle.sg_actions.proofs.acts.ActsPageSpace.free_bands.Goals as goal
 

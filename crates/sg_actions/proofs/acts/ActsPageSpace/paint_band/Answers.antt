@@ -1,16 +1,14 @@
-use Rattle.std.proofs.Common.{◌≡◌, ℕ, ◌+◌, ◌≤◌, List, length, take, drop, refl, sym, ap, subst, ◌∙◌, arith}
-use Rattle.std.specs.Prelude.{IsSome}
-use Rattle.sg_ops.specs.Table.{Table, range_at}
+use Rattle.std.proofs.Common.{ℕ, List, length, take, drop, refl, sym, ap, subst, ◌∙◌, arith}
 use Rattle.sg_record.specs.Changes.{BandOp}
 use Rattle.sg_record.specs.Changes.Change.{SegOp}
 use Rattle.sg_record.specs.Records.Says.{Changed}
 use Rattle.sg_record.specs.Shown.{by, shown_op}
-use Rattle.sg_actions.specs.Engine.{HasLogged, CanLog}
+use Rattle.sg_actions.specs.Engine.{HasLogged}
 use Rattle.sg_actions.specs.Painting.{op_with}
 use Rattle.sg_actions.specs.Steps.{opened, begin_of}
 use Rattle.sg_actions.specs.Onward.{later_same, later_then}
 use Rattle.sg_actions.proofs.Calling.{later_look, later_log_as}
-use Rattle.sg_actions.proofs.Viewed.{now_stays, logged_after}
+use Rattle.sg_actions.proofs.Viewed.{logged_after}
 use Rattle.sg_actions.proofs.Painted.{shows_paint, stood_some, paint_on, paint_same, known_by}
 use Rattle.sg_actions.proofs.acts.ActsPageSpace.paint_band.Goals as goal
 
@@ -39,16 +37,16 @@ returns g c =
           (sym c.if-not-has_band.ensures) (stood_some _ _ c.args.at c.args.count c.copy_piece.ensures (omega (arith, c.band.ensures.size, piece.within)) piece.some) c.requires.means
           (λ told. did.told (stays.told told)) (λ told. logged_after (stays.stays told) (did.logged (stays.told told))) (λ t. first.told (second.told t));
       later = later_then g.E.Engine.recovers g.E.Engine.table g.E.Engine.limits _ _ _ _
-    (later_look g.E.Engine.recovers g.E.Engine.table g.E.Engine.limits _ (g.E.Engine.view c.args.self.now.engine) (g.E.Engine.view c.load_band.new.self) c.args.self.now.maps c.args.self.now.rows.items c.args.self.now.actor c.args.self.now.begun _ c.in_ok-load_band.ensures.looks)
-    (later_log_as g.E.Engine.recovers g.E.Engine.table g.E.Engine.limits _ (g.E.Engine.view c.load_band.new.self) (g.E.Engine.view c.log_by.new.self) c.args.self.now.maps c.args.self.now.maps c.args.self.now.rows.items c.args.self.now.actor _ c.args.self.now.begun (SegOp (shown_op c.spell_op.result)) (SegOp (op_with c.args.b.0 c.args.at c.args.count c.args.code c.args.position c.args.arg.now _)) _ c.if-not-self.false (ap SegOp c.spell_op.ensures) c.in_ok-self.ensures.logs refl
-    (λ told k.
-        let told0 = c.in_ok-load_band.ensures.looks.counts.told told in
-        let same = c.band.ensures.looked (g.met.E.Engine.told_shows _ told) in
-        let long = ap length same ∙ c.band.ensures.size in
-        let piece = c.if-not-is_piece.ensures refl in
-        paint_on g.E.Engine.table g.E.Engine.limits (g.E.Engine.view c.load_band.new.self) c.args.self.now.maps _ _ c.args.b.0 c.args.at c.args.count c.args.code c.args.position c.args.arg.now _ (record { within = omega (arith, long, piece.within); is = c.copy_piece.ensures ∙ ap (λ (xs : List ℕ). take c.args.count (drop c.args.at xs)) (sym same) })
-        (stood_some _ _ c.args.at c.args.count c.copy_piece.ensures (omega (arith, c.band.ensures.size, piece.within)) piece.some) k)
-    (paint_same g.E.Engine.limits (begin_of g.E.Engine.table (g.E.Engine.view c.load_band.new.self).first (g.E.Engine.view c.load_band.new.self).steps) (opened (g.E.Engine.view c.load_band.new.self).steps) _ _ c.args.b.0 c.args.at c.args.count c.args.code c.args.position c.args.arg.now _ (stood_some _ _ c.args.at c.args.count c.copy_piece.ensures (let piece = c.if-not-is_piece.ensures refl in omega (arith, c.band.ensures.size, piece.within)) (let piece = c.if-not-is_piece.ensures refl in piece.some))));
+          (later_look g.E.Engine.recovers g.E.Engine.table g.E.Engine.limits _ (g.E.Engine.view c.args.self.now.engine) (g.E.Engine.view c.load_band.new.self) c.args.self.now.maps c.args.self.now.rows.items c.args.self.now.actor c.args.self.now.begun _ c.in_ok-load_band.ensures.looks)
+          (later_log_as g.E.Engine.recovers g.E.Engine.table g.E.Engine.limits _ (g.E.Engine.view c.load_band.new.self) (g.E.Engine.view c.log_by.new.self) c.args.self.now.maps c.args.self.now.maps c.args.self.now.rows.items c.args.self.now.actor _ c.args.self.now.begun (SegOp (shown_op c.spell_op.result)) (SegOp (op_with c.args.b.0 c.args.at c.args.count c.args.code c.args.position c.args.arg.now _)) _ c.if-not-self.false (ap SegOp c.spell_op.ensures) c.in_ok-self.ensures.logs refl
+          (λ told k.
+          let told0 = c.in_ok-load_band.ensures.looks.counts.told told in
+          let same = c.band.ensures.looked (g.met.E.Engine.told_shows _ told) in
+          let long = ap length same ∙ c.band.ensures.size in
+          let piece = c.if-not-is_piece.ensures refl in
+          paint_on g.E.Engine.table g.E.Engine.limits (g.E.Engine.view c.load_band.new.self) c.args.self.now.maps _ _ c.args.b.0 c.args.at c.args.count c.args.code c.args.position c.args.arg.now _ (record { within = omega (arith, long, piece.within); is = c.copy_piece.ensures ∙ ap (λ (xs : List ℕ). take c.args.count (drop c.args.at xs)) (sym same) })
+          (stood_some _ _ c.args.at c.args.count c.copy_piece.ensures (omega (arith, c.band.ensures.size, piece.within)) piece.some) k)
+          (paint_same g.E.Engine.limits (begin_of g.E.Engine.table (g.E.Engine.view c.load_band.new.self).first (g.E.Engine.view c.load_band.new.self).steps) (opened (g.E.Engine.view c.load_band.new.self).steps) _ _ c.args.b.0 c.args.at c.args.count c.args.code c.args.position c.args.arg.now _ (stood_some _ _ c.args.at c.args.count c.copy_piece.ensures (let piece = c.if-not-is_piece.ensures refl in omega (arith, c.band.ensures.size, piece.within)) (let piece = c.if-not-is_piece.ensures refl in piece.some))));
     }
 
 pub returns-in_err-self-clause-later : goal.returns-in_err-self-clause-later
@@ -56,12 +54,12 @@ returns-in_err-self-clause-later g c = later_then g.E.Engine.recovers g.E.Engine
     (later_look g.E.Engine.recovers g.E.Engine.table g.E.Engine.limits _ (g.E.Engine.view c.args.self.now.engine) (g.E.Engine.view c.load_band.new.self) c.args.self.now.maps c.args.self.now.rows.items c.args.self.now.actor c.args.self.now.begun _ c.in_ok-load_band.ensures.looks)
     (later_log_as g.E.Engine.recovers g.E.Engine.table g.E.Engine.limits _ (g.E.Engine.view c.load_band.new.self) (g.E.Engine.view c.log_by.new.self) c.args.self.now.maps c.args.self.now.maps c.args.self.now.rows.items c.args.self.now.actor _ c.args.self.now.begun (SegOp (shown_op c.spell_op.result)) (SegOp (op_with c.args.b.0 c.args.at c.args.count c.args.code c.args.position c.args.arg.now _)) _ c.if-not-self.false (ap SegOp c.spell_op.ensures) c.in_err-self.ensures.logs tt
     (λ told k.
-        let told0 = c.in_ok-load_band.ensures.looks.counts.told told in
-        let same = c.band.ensures.looked (g.met.E.Engine.told_shows _ told) in
-        let long = ap length same ∙ c.band.ensures.size in
-        let piece = c.if-not-is_piece.ensures refl in
-        paint_on g.E.Engine.table g.E.Engine.limits (g.E.Engine.view c.load_band.new.self) c.args.self.now.maps _ _ c.args.b.0 c.args.at c.args.count c.args.code c.args.position c.args.arg.now _ (record { within = omega (arith, long, piece.within); is = c.copy_piece.ensures ∙ ap (λ (xs : List ℕ). take c.args.count (drop c.args.at xs)) (sym same) })
-        (stood_some _ _ c.args.at c.args.count c.copy_piece.ensures (omega (arith, c.band.ensures.size, piece.within)) piece.some) k)
+    let told0 = c.in_ok-load_band.ensures.looks.counts.told told in
+    let same = c.band.ensures.looked (g.met.E.Engine.told_shows _ told) in
+    let long = ap length same ∙ c.band.ensures.size in
+    let piece = c.if-not-is_piece.ensures refl in
+    paint_on g.E.Engine.table g.E.Engine.limits (g.E.Engine.view c.load_band.new.self) c.args.self.now.maps _ _ c.args.b.0 c.args.at c.args.count c.args.code c.args.position c.args.arg.now _ (record { within = omega (arith, long, piece.within); is = c.copy_piece.ensures ∙ ap (λ (xs : List ℕ). take c.args.count (drop c.args.at xs)) (sym same) })
+    (stood_some _ _ c.args.at c.args.count c.copy_piece.ensures (omega (arith, c.band.ensures.size, piece.within)) piece.some) k)
     (paint_same g.E.Engine.limits (begin_of g.E.Engine.table (g.E.Engine.view c.load_band.new.self).first (g.E.Engine.view c.load_band.new.self).steps) (opened (g.E.Engine.view c.load_band.new.self).steps) _ _ c.args.b.0 c.args.at c.args.count c.args.code c.args.position c.args.arg.now _ (stood_some _ _ c.args.at c.args.count c.copy_piece.ensures (let piece = c.if-not-is_piece.ensures refl in omega (arith, c.band.ensures.size, piece.within)) (let piece = c.if-not-is_piece.ensures refl in piece.some))))
 
 pub returns-then-not-is_record-clause-later : goal.returns-then-not-is_record-clause-later

@@ -1,10 +1,9 @@
-use Rattle.std.proofs.Common.{◌≡◌, ℕ, ◌+◌, ◌<◌, ◌≤◌, List, Bool, sym, ap, subst, ◌∙◌, refl, arith}
+use Rattle.std.proofs.Common.{ℕ, ◌+◌, List, Bool, sym, ap, subst, ◌∙◌, refl, arith}
 use Rattle.sg_alloc.specs.declared.maps.Maps.{Maps}
 use Rattle.sg_space.specs.Bands.{TookBand}
 use Rattle.sg_actions.specs.Later.{Later}
 use Rattle.sg_actions.specs.Onward.{at as moment, later_same}
 use Rattle.sg_actions.specs.View.{acts_view}
-use Rattle.sg_actions.specs.declared.rows.Actor.{Actor}
 use Rattle.sg_actions.specs.declared.rows.Row.{Row}
 use Rattle.sg_actions.proofs.Filled.{Filling, filling_first, filling_next, first_later, next_later, shows_take_band, few_band}
 use Rattle.sg_actions.proofs.acts.ActsPageSpace.take_band.Goals as goal
@@ -103,9 +102,9 @@ returns-in_err-fill-clause-later g c =
     let bands = ap (λ (m : Maps). m.bands) k.maps ∙ c.take_band-b.ensures.bands in
     let pages = ap (λ (m : Maps). m.pages) k.maps ∙ c.take_band-b.ensures.pages in
     λ u.
-        subst (λ (rs : List Row). Later g.E.Engine.recovers g.E.Engine.table g.E.Engine.limits u (moment e s.maps s.rows.items s.actor s.begun) (moment e1 c.fill.new.self.maps rs c.fill.new.self.actor c.fill.new.self.begun)) (sym k.rows)
-        (subst (λ (b : Bool). Later g.E.Engine.recovers g.E.Engine.table g.E.Engine.limits u (moment e s.maps s.rows.items s.actor s.begun) (moment e1 c.fill.new.self.maps s.rows.items c.fill.new.self.actor b)) (sym k.begun)
-        (first_later g.E.Engine.recovers g.E.Engine.table g.E.Engine.limits u s.rows.items s.begun c.take_band-b.result.0 e e1 s.maps c.fill.new.self.maps s.actor c.fill.new.self.actor _ c.if-not-self.false k.logs tt c.take_band-b.ensures.least.free bands pages))
+    subst (λ (rs : List Row). Later g.E.Engine.recovers g.E.Engine.table g.E.Engine.limits u (moment e s.maps s.rows.items s.actor s.begun) (moment e1 c.fill.new.self.maps rs c.fill.new.self.actor c.fill.new.self.begun)) (sym k.rows)
+    (subst (λ (b : Bool). Later g.E.Engine.recovers g.E.Engine.table g.E.Engine.limits u (moment e s.maps s.rows.items s.actor s.begun) (moment e1 c.fill.new.self.maps s.rows.items c.fill.new.self.actor b)) (sym k.begun)
+    (first_later g.E.Engine.recovers g.E.Engine.table g.E.Engine.limits u s.rows.items s.begun c.take_band-b.result.0 e e1 s.maps c.fill.new.self.maps s.actor c.fill.new.self.actor _ c.if-not-self.false k.logs tt c.take_band-b.ensures.least.free bands pages))
 
 pub returns-in_err-fill-2-clause-later : goal.returns-in_err-fill-2-clause-later
 returns-in_err-fill-2-clause-later g c =
@@ -117,7 +116,7 @@ returns-in_err-fill-2-clause-later g c =
     let s = c.args.self.now in
     let n = c.fill-in-fills.new.self in
     λ u.
-        subst (λ (m : Maps). Later g.E.Engine.recovers g.E.Engine.table g.E.Engine.limits u (moment e s.maps s.rows.items s.actor s.begun) (moment e2 m n.rows.items n.actor n.begun)) (sym k.maps)
-        (subst (λ (rs : List Row). Later g.E.Engine.recovers g.E.Engine.table g.E.Engine.limits u (moment e s.maps s.rows.items s.actor s.begun) (moment e2 c.fills.self.maps rs n.actor n.begun)) (sym (k.rows ∙ i.rows))
-        (subst (λ (b : Bool). Later g.E.Engine.recovers g.E.Engine.table g.E.Engine.limits u (moment e s.maps s.rows.items s.actor s.begun) (moment e2 c.fills.self.maps s.rows.items n.actor b)) (sym (k.begun ∙ i.begun))
-        (next_later g.E.Engine.recovers g.E.Engine.table g.E.Engine.limits u s.rows.items s.begun c.take_band-b.result.0 e e1 e2 s.maps c.fills.self.maps s.actor c.fills.self.actor n.actor c.fills.at _ c.if-not-self.false k.logs tt i.filling)))
+    subst (λ (m : Maps). Later g.E.Engine.recovers g.E.Engine.table g.E.Engine.limits u (moment e s.maps s.rows.items s.actor s.begun) (moment e2 m n.rows.items n.actor n.begun)) (sym k.maps)
+    (subst (λ (rs : List Row). Later g.E.Engine.recovers g.E.Engine.table g.E.Engine.limits u (moment e s.maps s.rows.items s.actor s.begun) (moment e2 c.fills.self.maps rs n.actor n.begun)) (sym (k.rows ∙ i.rows))
+    (subst (λ (b : Bool). Later g.E.Engine.recovers g.E.Engine.table g.E.Engine.limits u (moment e s.maps s.rows.items s.actor s.begun) (moment e2 c.fills.self.maps s.rows.items n.actor b)) (sym (k.begun ∙ i.begun))
+    (next_later g.E.Engine.recovers g.E.Engine.table g.E.Engine.limits u s.rows.items s.begun c.take_band-b.result.0 e e1 e2 s.maps c.fills.self.maps s.actor c.fills.self.actor n.actor c.fills.at _ c.if-not-self.false k.logs tt i.filling)))

@@ -1,4 +1,4 @@
-use Rattle.std.proofs.Common.{◌≡◌, ℕ, ◌+◌, ◌≤◌, false, refl, ap, arith}
+use Rattle.std.proofs.Common.{false, refl, ap, arith}
 use Rattle.sg_actions.specs.Changes.{op_said, back_said}
 use Rattle.sg_record.specs.Changes.Change.{Page}
 use Rattle.sg_record.specs.Shown.{shown_page}

@@ -1,0 +1,50 @@
+-- An engine that was opened, or made.
+use Rattle.std.proofs.Common.{◌≡◌, ◌≤◌, ℕ, max, List, [], ◌∷◌, ◌++◌, refl, sym, ap, ◌∙◌, subst, arith}
+use Rattle.sg_disk.specs.Disk.{Image, View}
+use Rattle.sg_log.specs.Frames.{Numbered}
+use Rattle.sg_log.specs.Held.{Tail}
+use Rattle.sg_ops.specs.Table.{Table}
+use Rattle.sg_pool.specs.declared.pool.Pool.{Pool}
+use Rattle.sg_action.specs.States.{State}
+use Rattle.sg_engine.specs.Engine.{Origin}
+use Rattle.sg_engine.specs.Running.{IsEngine, IsAllowed}
+use Rattle.sg_actions.specs.Steps.{Steps}
+use Rattle.sg_engine.specs.History.{Homes}
+use Rattle.sg_phys_laws.specs.Poised.{IsPoised, AreSaid}
+use Rattle.sg_phys_laws.specs.Points.{redo_point, last_estimate, AreMarked, ArePoints}
+use Rattle.sg_phys_laws.specs.Reading.{durable_in, waiting_in}
+use Rattle.sg_phys_laws.specs.Recovers.{Recovers}
+use Rattle.sg_phys_laws.specs.States.{AllAgree, at_home}
+use Rattle.sg_phys_laws.proofs.Agreeing.{all_agree_none}
+use Rattle.sg_phys_laws.proofs.Reading.{held_are}
+use Rattle.sg_phys_laws.proofs.Wrapped.{now_again, all_are, append_none}
+
+-- a lower point is allowed too
+pub allowed_less : (o : Origin) (v : View) (log : Tail) (pool : Pool) (j k : ℕ) → j ≤ k → IsAllowed o v log pool k → IsAllowed o v log pool j
+allowed_less o v log pool j k le allowed = record {
+  pages = λ n lt. let more = allowed.pages n lt in omega arith;
+  bands = λ b lt. let more = allowed.bands b lt in omega arith;
+}
+
+pub opened_poised : (t : Table) (o : Origin) (h : Homes) (v : View) (log : Tail) (rs : List Numbered) (pool : Pool) → IsEngine (at_home o h) v log rs [] pool → AreSaid t o h rs → AreMarked (λ k. Unit {0}) rs → IsAllowed (at_home o h) v log pool (redo_point o.super.base rs) → IsPoised t o v log pool
+opened_poised t o h v log rs pool e said low allowed =
+    let held = held_are v log rs [] e.engine.held in
+    let whole : durable_in v log ++ waiting_in log ≡ rs = all_are (at_home o h) v log rs [] pool e ∙ append_none rs in
+    let points : ArePoints (at_home o h) (IsAllowed (at_home o h) v log pool) rs rs = record {
+      more = [];
+      is_all = sym (append_none rs);
+      low = low;
+      start = allowed_less (at_home o h) v log pool o.super.base (redo_point o.super.base rs) (omega arith) allowed;
+      now = allowed;
+      marked = tt;
+    } in
+    record {
+      home = h;
+      now = now_again t (at_home o h) v log rs [] pool e (subst (AllAgree t (at_home o h) rs) (sym (append_none rs)) (all_agree_none t (at_home o h) rs));
+      points = subst (λ (l : List Numbered). ArePoints (at_home o h) (IsAllowed (at_home o h) v log pool) (durable_in v log) l) (sym whole) (subst (λ (l : List Numbered). ArePoints (at_home o h) (IsAllowed (at_home o h) v log pool) l rs) (sym held.0) points);
+      said = subst (AreSaid t o h) (sym held.0) said;
+    }
+
+-- an image holds one list of steps, and one state
+pub recovers_same : (o : Origin) (c : Image) (l m : Steps) (x y : State) → Recovers o c l x → Recovers o c m y → (l ≡ m) × (x ≡ y)
+recovers_same o c l m x y a b = (a.records ∙ sym b.records, a.state ∙ sym b.state)

@@ -1,0 +1,9 @@
+pub mod Listed
+pub mod States
+pub mod Reading
+pub mod Points
+pub mod Logged
+pub mod Images
+pub mod Recovers
+pub mod Poised
+pub mod Faults

@@ -1,0 +1,52 @@
+// How the engine's records are read above it.
+ghost use Rattle.std.specs.Prelude.{◌≡◌, ◌++◌, ◌∷◌, [], ℕ, List};
+ghost use Rattle.sg_disk.specs.Disk.{Image, View};
+ghost use Rattle.sg_log.specs.Frames.{Numbered};
+ghost use Rattle.sg_log.specs.Held.{Tail, Holds};
+ghost use Rattle.sg_ops.specs.Table.{Table};
+ghost use Rattle.sg_pool.specs.declared.pool.Pool.{Pool};
+ghost use Rattle.sg_action.specs.States.{State};
+ghost use Rattle.sg_engine.specs.Effects.{IsBy};
+ghost use Rattle.sg_engine.specs.Engine.{Origin};
+ghost use Rattle.sg_engine.specs.Running.{IsEngine, IsAllowed};
+ghost use Rattle.sg_actions.specs.Images.{IsImageOf};
+ghost use Rattle.sg_actions.specs.Steps.{Steps};
+ghost use Rattle.sg_engine.specs.History.{Homes};
+ghost use Rattle.sg_phys_laws.specs.Poised.{IsPoised, AreSaid};
+ghost use Rattle.sg_phys_laws.specs.Points.{redo_point, AreMarked};
+ghost use Rattle.sg_phys_laws.specs.Reading.{durable_in, waiting_in};
+ghost use Rattle.sg_phys_laws.specs.Recovers.{cut_at, Recovers, StandsOwn};
+ghost use Rattle.sg_phys_laws.specs.States.{AllAgree, IsNext, at_home, state_of, steps_of};
+
+/// A law: what more records make of pages and bands, without the pages' numbers, is what their steps
+/// make of what these said. It holds without a record more, and with one more whose change may be made.
+pub fn records_are_steps()
+    ensures none { (t : Table) (o : Origin) (ds : List Numbered) → AllAgree t o ds ds }
+    ensures more { (t : Table) (o : Origin) (ds ps : List Numbered) (x : Numbered) → IsBy t o → IsNext t o (ds ++ ps) x → AllAgree t o ds (ds ++ ps) → AllAgree t o ds ((ds ++ ps) ++ x ∷ []) }
+{}
+
+/// A law: the records that a log holds are those that its bytes read as, so they are a function of the
+/// disk and the log.
+pub fn records_are_read()
+    ensures { (v : View) (log : Tail) (ds ps : List Numbered) → Holds v log ds ps → (durable_in v log ≡ ds) × (waiting_in log ≡ ps) }
+{}
+
+/// A law: an image that stands from its own redo point holds a front of the steps with all that were
+/// durable, and its pages and bands come to what these make.
+pub fn images_recover()
+    ensures { (t : Table) (o : Origin) (h : Homes) (ds all : List Numbered) (c : Image) → IsBy t o → AllAgree t (at_home o h) ds all → AreSaid t o h ds → StandsOwn (at_home o h) ds all c
+        → IsImageOf (Recovers o) t (cut_at o.super (state_of o.first)) (steps_of ds) (steps_of all) c }
+{}
+
+/// A law: an image holds one list of steps, and comes to one state.
+pub fn recovers_one()
+    ensures { (o : Origin) (c : Image) (l m : Steps) (x y : State) → Recovers o c l x → Recovers o c m y → (l ≡ m) × (x ≡ y) }
+{}
+
+/// A law: an engine that was opened, or made, can be the engine under the actions: what its records made
+/// of the home area that was read is what their steps make of what the store first said, and the redo
+/// point of its log is allowed.
+pub fn opened_is_poised()
+    ensures { (t : Table) (o : Origin) (h : Homes) (v : View) (log : Tail) (rs : List Numbered) (pool : Pool) → IsEngine (at_home o h) v log rs [] pool → AreSaid t o h rs → AreMarked (λ k. Unit {0}) rs
+        → IsAllowed (at_home o h) v log pool (redo_point o.super.base rs) → IsPoised t o v log pool }
+{}

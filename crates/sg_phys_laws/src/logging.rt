@@ -1,0 +1,299 @@
+// Records that are logged where what the pages say allows it.
+ghost use Rattle.std.specs.Prelude.{◌≡◌, ◌<◌, ◌≤◌, ◌+◌, ◌++◌, ℕ, List, length, Some, None, Err, IfOk, OnOk, IsTrue, option_map};
+ghost use Rattle.sg_base.specs.Op.{op_of};
+ghost use Rattle.sg_base.specs.declared.page.TheConstants.{BAND_SIZE};
+ghost use Rattle.sg_log.specs.Frames.{Numbered, LOG_END};
+ghost use Rattle.sg_log.specs.Held.{tail_of, place_of};
+ghost use Rattle.sg_ops.specs.Table.{Table, table_of};
+ghost use Rattle.sg_record.specs.Changes.Change.{Page, SegWrite, SegOp};
+ghost use Rattle.sg_record.specs.Ranges.{IsRecord, after_fits};
+ghost use Rattle.sg_engine.specs.declared.fault.EngineFault.{EngineFault};
+ghost use Rattle.sg_record.specs.Shown.{shown, shown_change, shown_page, shown_bytes, shown_op};
+ghost use Rattle.sg_redo.specs.Places.{changed_by, op_said};
+ghost use Rattle.sg_engine.specs.Engine.{Origin};
+ghost use Rattle.sg_redo.specs.Leaf.{LinksFit};
+ghost use Rattle.sg_phys_laws.specs.Logged.{SaysPage, IsAsked, IsWrite, HasLogged, HasRun};
+
+use sg_base::{BandNo, Lsn, PageNo, PageOp, read_u32};
+use sg_disk::Disk;
+use sg_engine::{Engine, EngineFault};
+use sg_ops::{Ops, are_bytes};
+use sg_record::{BandBytes, BandOp, Change, PageChange, Rec};
+use sg_step::brings_bytes;
+use std::alloc::Global;
+
+/// Tells a proof that the links that an operation brings have 4 bytes each. It runs no code.
+pub fn links_fit(op: &PageOp<'_>)
+    ensures { LinksFit (op_of op.now) }
+{
+    match *op {
+        PageOp::Links { a, b } => {
+            let _a = a;
+            let _b = b;
+        }
+        PageOp::Format { .. }
+        | PageOp::Put { .. }
+        | PageOp::Remove { .. }
+        | PageOp::Set { .. }
+        | PageOp::Item { .. }
+        | PageOp::ItemBack { .. } => {}
+    }
+}
+
+// The change of a page or of a band that a record makes.
+fn change_of<'a>(rec: &Rec<'a>) -> Option<Change<'a>>
+    ensures { option_map shown_change result ≡ changed_by (shown rec.now).says }
+{
+    match *rec {
+        Rec::Page { change, .. } => Some(Change::Page(change)),
+        Rec::SegWrite { change, .. } => Some(Change::SegWrite(change)),
+        Rec::SegOp { change, .. } => Some(Change::SegOp(change)),
+        Rec::PhysComp { change, .. } => Some(change),
+        _ => None,
+    }
+}
+
+// The operation that a change of a page says.
+fn page_op<'a>(change: &PageChange<'a>) -> PageOp<'a>
+    requires { IsTrue (after_fits change.now.operation (length change.now.after.now)) }
+    ensures { op_of result ≡ op_said (shown_page change.now) }
+{
+    let PageChange {
+        operation,
+        slot,
+        code,
+        after,
+        ..
+    } = *change;
+    match operation {
+        1 => PageOp::Format { kind: after[0] },
+        2 => PageOp::Put { slot, bytes: after },
+        3 => PageOp::Remove { slot },
+        4 => PageOp::Set { slot, bytes: after },
+        5 => PageOp::Links {
+            a: read_u32(after),
+            b: read_u32(&after[4..]),
+        },
+        6 => PageOp::Item {
+            slot,
+            code,
+            arg: after,
+        },
+        _ => PageOp::ItemBack {
+            slot,
+            code,
+            arg: after,
+        },
+    }
+}
+
+/// Appends a record that changes no page and no band.
+pub fn log_plain<D: Disk>(
+    engine: &mut Engine<D>,
+    r: &Rec<'_>,
+    tried: &mut Lsn,
+) -> Result<Lsn, EngineFault>
+    requires range { IsRecord (shown r.now) }
+    requires says { changed_by (shown r.now).says ≡ None }
+    ensures above { tail_of engine.old.log ≤ tried.new }
+    ensures number { IfOk result (λ lsn. lsn ≡ tried.new) }
+    ensures below { OnOk result (tried.new < tail_of engine.new.log) }
+    ensures near { result ≡ Err EngineFault.LogEnd → LOG_END < tail_of engine.old.log + 131072 }
+    ensures place { tried.new ≡ place_of engine.old.log (shown r.now) }
+    ensures logs { (own given : Table) (o : Origin) (ds ps : List Numbered) → IsTrue D.told → IsAsked own given o (D.view engine.old.disk) engine.old.log ds ps engine.old.pool (shown r.now)
+        → OnOk result (HasLogged own o (D.view engine.new.disk) engine.new.log ds (ds ++ ps) (shown r.now) tried.new engine.new.pool) }
+    ensures runs { (own given : Table) (o : Origin) (ds ps : List Numbered) → IsTrue D.told → IsAsked own given o (D.view engine.old.disk) engine.old.log ds ps engine.old.pool (shown r.now)
+        → HasRun own o (D.view engine.old.disk) (D.view engine.new.disk) engine.old.log engine.new.log engine.old.pool engine.new.pool ds (ds ++ ps) (shown r.now) tried.new result }
+{
+    *tried = engine.place(r);
+    engine.append(r)
+}
+
+// Appends the record of an operation on a page and does it to the page.
+fn log_to_page<D: Disk>(
+    engine: &mut Engine<D>,
+    ops: &Ops,
+    r: &Rec<'_>,
+    p: PageNo,
+    op: &PageOp<'_>,
+    tried: &mut Lsn,
+) -> Result<Lsn, EngineFault>
+    requires range { IsRecord (shown r.now) }
+    requires says { SaysPage (shown r.now) p.0 (op_of op.now) }
+    ensures above { tail_of engine.old.log ≤ tried.new }
+    ensures number { IfOk result (λ lsn. lsn ≡ tried.new) }
+    ensures below { OnOk result (tried.new < tail_of engine.new.log) }
+    ensures near { result ≡ Err EngineFault.LogEnd → LOG_END < tail_of engine.old.log + 131072 }
+    ensures logs { (own : Table) (o : Origin) (ds ps : List Numbered) → IsTrue D.told → IsAsked own (table_of record_meaning range_meaning ops.now) o (D.view engine.old.disk) engine.old.log ds ps engine.old.pool (shown r.now)
+        → OnOk result (HasLogged own o (D.view engine.new.disk) engine.new.log ds (ds ++ ps) (shown r.now) tried.new engine.new.pool) }
+    ensures runs { (own : Table) (o : Origin) (ds ps : List Numbered) → IsTrue D.told → IsAsked own (table_of record_meaning range_meaning ops.now) o (D.view engine.old.disk) engine.old.log ds ps engine.old.pool (shown r.now)
+        → HasRun own o (D.view engine.old.disk) (D.view engine.new.disk) engine.old.log engine.new.log engine.old.pool engine.new.pool ds (ds ++ ps) (shown r.now) tried.new result }
+{
+    *tried = engine.place(r);
+    brings_bytes(op);
+    links_fit(op);
+    if p.0 >= engine.pages() {
+        return Err(EngineFault::Disk);
+    }
+    match engine.load_page(p) {
+        Ok(()) => {}
+        Err(fault) => return Err(fault),
+    }
+    are_bytes(engine.page(p));
+    *tried = engine.place(r);
+    engine.change_page(r, p, op, ops)
+}
+
+// Appends the record of a change of a page, and makes the change.
+fn log_page<D: Disk>(
+    engine: &mut Engine<D>,
+    ops: &Ops,
+    r: &Rec<'_>,
+    change: &PageChange<'_>,
+    tried: &mut Lsn,
+) -> Result<Lsn, EngineFault>
+    requires range { IsRecord (shown r.now) }
+    requires says { changed_by (shown r.now).says ≡ Some (Page (shown_page change.now)) }
+    ensures above { tail_of engine.old.log ≤ tried.new }
+    ensures number { IfOk result (λ lsn. lsn ≡ tried.new) }
+    ensures below { OnOk result (tried.new < tail_of engine.new.log) }
+    ensures near { result ≡ Err EngineFault.LogEnd → LOG_END < tail_of engine.old.log + 131072 }
+    ensures logs { (own : Table) (o : Origin) (ds ps : List Numbered) → IsTrue D.told → IsAsked own (table_of record_meaning range_meaning ops.now) o (D.view engine.old.disk) engine.old.log ds ps engine.old.pool (shown r.now)
+        → OnOk result (HasLogged own o (D.view engine.new.disk) engine.new.log ds (ds ++ ps) (shown r.now) tried.new engine.new.pool) }
+    ensures runs { (own : Table) (o : Origin) (ds ps : List Numbered) → IsTrue D.told → IsAsked own (table_of record_meaning range_meaning ops.now) o (D.view engine.old.disk) engine.old.log ds ps engine.old.pool (shown r.now)
+        → HasRun own o (D.view engine.old.disk) (D.view engine.new.disk) engine.old.log engine.new.log engine.old.pool engine.new.pool ds (ds ++ ps) (shown r.now) tried.new result }
+{
+    let op = page_op(change);
+    log_to_page(engine, ops, r, change.page, &op, tried)
+}
+
+// Appends the record of a write to a band, and makes it.
+fn log_to_band<D: Disk>(
+    engine: &mut Engine<D>,
+    r: &Rec<'_>,
+    b: BandNo,
+    at: u32,
+    bytes: &[u8],
+    tried: &mut Lsn,
+) -> Result<Lsn, EngineFault>
+    requires range { IsRecord (shown r.now) }
+    requires fits { at + length bytes.now ≤ BAND_SIZE }
+    ensures above { tail_of engine.old.log ≤ tried.new }
+    ensures number { IfOk result (λ lsn. lsn ≡ tried.new) }
+    ensures below { OnOk result (tried.new < tail_of engine.new.log) }
+    ensures near { result ≡ Err EngineFault.LogEnd → LOG_END < tail_of engine.old.log + 131072 }
+    ensures logs { (own : Table) (o : Origin) (ds ps : List Numbered) → IsTrue D.told → IsWrite own o (D.view engine.old.disk) engine.old.log ds ps engine.old.pool (shown r.now) b.0 at bytes.now
+        → OnOk result (HasLogged own o (D.view engine.new.disk) engine.new.log ds (ds ++ ps) (shown r.now) tried.new engine.new.pool) }
+    ensures runs { (own : Table) (o : Origin) (ds ps : List Numbered) → IsTrue D.told → IsWrite own o (D.view engine.old.disk) engine.old.log ds ps engine.old.pool (shown r.now) b.0 at bytes.now
+        → HasRun own o (D.view engine.old.disk) (D.view engine.new.disk) engine.old.log engine.new.log engine.old.pool engine.new.pool ds (ds ++ ps) (shown r.now) tried.new result }
+{
+    *tried = engine.place(r);
+    if b.0 >= engine.bands() {
+        return Err(EngineFault::Disk);
+    }
+    engine.change_band(r, b, at, bytes)
+}
+
+// Appends the record of bytes of a band, and writes them.
+fn log_bytes<D: Disk>(
+    engine: &mut Engine<D>,
+    r: &Rec<'_>,
+    change: &BandBytes<'_>,
+    tried: &mut Lsn,
+) -> Result<Lsn, EngineFault>
+    requires range { IsRecord (shown r.now) }
+    requires says { changed_by (shown r.now).says ≡ Some (SegWrite (shown_bytes change.now)) }
+    ensures above { tail_of engine.old.log ≤ tried.new }
+    ensures number { IfOk result (λ lsn. lsn ≡ tried.new) }
+    ensures below { OnOk result (tried.new < tail_of engine.new.log) }
+    ensures near { result ≡ Err EngineFault.LogEnd → LOG_END < tail_of engine.old.log + 131072 }
+    ensures logs { (own given : Table) (o : Origin) (ds ps : List Numbered) → IsTrue D.told → IsAsked own given o (D.view engine.old.disk) engine.old.log ds ps engine.old.pool (shown r.now)
+        → OnOk result (HasLogged own o (D.view engine.new.disk) engine.new.log ds (ds ++ ps) (shown r.now) tried.new engine.new.pool) }
+    ensures runs { (own given : Table) (o : Origin) (ds ps : List Numbered) → IsTrue D.told → IsAsked own given o (D.view engine.old.disk) engine.old.log ds ps engine.old.pool (shown r.now)
+        → HasRun own o (D.view engine.old.disk) (D.view engine.new.disk) engine.old.log engine.new.log engine.old.pool engine.new.pool ds (ds ++ ps) (shown r.now) tried.new result }
+{
+    log_to_band(engine, r, change.band, change.at, change.after, tried)
+}
+
+// Appends the record of an operation on bytes of a band, and does it.
+fn log_op<D: Disk>(
+    engine: &mut Engine<D>,
+    ops: &Ops,
+    r: &Rec<'_>,
+    change: &BandOp<'_>,
+    tried: &mut Lsn,
+) -> Result<Lsn, EngineFault>
+    requires range { IsRecord (shown r.now) }
+    requires says { changed_by (shown r.now).says ≡ Some (SegOp (shown_op change.now)) }
+    ensures above { tail_of engine.old.log ≤ tried.new }
+    ensures number { IfOk result (λ lsn. lsn ≡ tried.new) }
+    ensures below { OnOk result (tried.new < tail_of engine.new.log) }
+    ensures near { result ≡ Err EngineFault.LogEnd → LOG_END < tail_of engine.old.log + 131072 }
+    ensures logs { (own : Table) (o : Origin) (ds ps : List Numbered) → IsTrue D.told → IsAsked own (table_of record_meaning range_meaning ops.now) o (D.view engine.old.disk) engine.old.log ds ps engine.old.pool (shown r.now)
+        → OnOk result (HasLogged own o (D.view engine.new.disk) engine.new.log ds (ds ++ ps) (shown r.now) tried.new engine.new.pool) }
+    ensures runs { (own : Table) (o : Origin) (ds ps : List Numbered) → IsTrue D.told → IsAsked own (table_of record_meaning range_meaning ops.now) o (D.view engine.old.disk) engine.old.log ds ps engine.old.pool (shown r.now)
+        → HasRun own o (D.view engine.old.disk) (D.view engine.new.disk) engine.old.log engine.new.log engine.old.pool engine.new.pool ds (ds ++ ps) (shown r.now) tried.new result }
+{
+    *tried = engine.place(r);
+    ops.laws();
+    if !ops.has_range(change.code) {
+        return Err(EngineFault::Disk);
+    }
+    let mut bytes = [0; 32_768];
+    let part = &mut bytes[..change.count as usize];
+    ops.render(change.code, change.position, change.arg, part);
+    log_to_band(engine, r, change.band, change.at, part, tried)
+}
+
+/// Appends a record, whatever it says, and makes its change. `tried` is the number that the record has,
+/// or would have had.
+pub fn log_record<D: Disk>(
+    engine: &mut Engine<D>,
+    ops: &Ops,
+    r: &Rec<'_>,
+    tried: &mut Lsn,
+) -> Result<Lsn, EngineFault>
+    requires range { IsRecord (shown r.now) }
+    ensures above { tail_of engine.old.log ≤ tried.new }
+    ensures number { IfOk result (λ lsn. lsn ≡ tried.new) }
+    ensures below { OnOk result (tried.new < tail_of engine.new.log) }
+    ensures near { result ≡ Err EngineFault.LogEnd → LOG_END < tail_of engine.old.log + 131072 }
+    ensures place { changed_by (shown r.now).says ≡ None → tried.new ≡ place_of engine.old.log (shown r.now) }
+    ensures logs { (own : Table) (o : Origin) (ds ps : List Numbered) → IsTrue D.told → IsAsked own (table_of record_meaning range_meaning ops.now) o (D.view engine.old.disk) engine.old.log ds ps engine.old.pool (shown r.now)
+        → OnOk result (HasLogged own o (D.view engine.new.disk) engine.new.log ds (ds ++ ps) (shown r.now) tried.new engine.new.pool) }
+    ensures runs { (own : Table) (o : Origin) (ds ps : List Numbered) → IsTrue D.told → IsAsked own (table_of record_meaning range_meaning ops.now) o (D.view engine.old.disk) engine.old.log ds ps engine.old.pool (shown r.now)
+        → HasRun own o (D.view engine.old.disk) (D.view engine.new.disk) engine.old.log engine.new.log engine.old.pool engine.new.pool ds (ds ++ ps) (shown r.now) tried.new result }
+{
+    match change_of(r) {
+        None => log_plain(engine, r, tried),
+        Some(Change::Page(change)) => log_page(engine, ops, r, &change, tried),
+        Some(Change::SegWrite(change)) => log_bytes(engine, r, &change, tried),
+        Some(Change::SegOp(change)) => log_op(engine, ops, r, &change, tried),
+    }
+}
+
+/// The same of a record that uses no registered operation.
+pub fn log_without<D: Disk>(
+    engine: &mut Engine<D>,
+    alloc: Global,
+    r: &Rec<'_>,
+    tried: &mut Lsn,
+) -> Result<Lsn, EngineFault>
+    requires range { IsRecord (shown r.now) }
+    ensures above { tail_of engine.old.log ≤ tried.new }
+    ensures number { IfOk result (λ lsn. lsn ≡ tried.new) }
+    ensures below { OnOk result (tried.new < tail_of engine.new.log) }
+    ensures near { result ≡ Err EngineFault.LogEnd → LOG_END < tail_of engine.old.log + 131072 }
+    ensures place { changed_by (shown r.now).says ≡ None → tried.new ≡ place_of engine.old.log (shown r.now) }
+    ensures logs { (own : Table) (o : Origin) (ds ps : List Numbered) → IsTrue D.told → ((given : Table) → IsAsked own given o (D.view engine.old.disk) engine.old.log ds ps engine.old.pool (shown r.now))
+        → OnOk result (HasLogged own o (D.view engine.new.disk) engine.new.log ds (ds ++ ps) (shown r.now) tried.new engine.new.pool) }
+    ensures runs { (own : Table) (o : Origin) (ds ps : List Numbered) → IsTrue D.told → ((given : Table) → IsAsked own given o (D.view engine.old.disk) engine.old.log ds ps engine.old.pool (shown r.now))
+        → HasRun own o (D.view engine.old.disk) (D.view engine.new.disk) engine.old.log engine.new.log engine.old.pool engine.new.pool ds (ds ++ ps) (shown r.now) tried.new result }
+{
+    *tried = engine.place(r);
+    // A table without a registered operation takes no memory.
+    let Ok(none) = Ops::new(alloc) else {
+        return Err(EngineFault::Disk);
+    };
+    log_record(engine, &none, r, tried)
+}
