@@ -151,7 +151,7 @@ module _ (o : Origin) (gone kept : List Numbered) where
         let us = of_page n (entries o gone) in
         subst (λ (l : List OnPage). IsNumbered d (repeated l (o.first.page n))) (under_below number_of p d (of_page n (entries o gone)) (page_low n) le)
         (number_within d d (of_page n (entries o gone)) (o.first.page n) (sets_first (of_page n (entries o gone)) (of_page n (entries o kept)) (subst (λ (l : List OnPage). AllSetNumber l) (page_split n) (h.sets n lt)))
-          (under_durable number_of d d (of_page n (entries o gone)) (under_more p d (of_page n (entries o gone)) le (page_low n))) (start n lt))
+        (under_durable number_of d d (of_page n (entries o gone)) (under_more p d (of_page n (entries o gone)) le (page_low n))) (start n lt))
       where
         sets_first : (xs ys : List OnPage) → AllSetNumber (xs ++ ys) → AllSetNumber xs
         sets_first [] ys h = tt
@@ -171,7 +171,7 @@ module _ (o : Origin) (gone kept : List Numbered) where
           started = started_cut gate le h.history h.started;
           joined = subst (λ (l : List Entry). IsJoined (geometry o.super) (made (entries o gone) o.first) l gate q.seen m) same (joined_cut gate gate q.seen m early h.joined);
           lasts = subst (λ (l : List Entry). AreLast (geometry o.super) l last m) same
-            (λ b e is_band is d lt. (under_split window_number d (of_band b (entries o gone)) (of_band b (entries o kept)) (subst (λ (l : List OnWindow). AllUnder window_number d l) (band_split b) (h.lasts b e is_band is d lt))).1);
+              (λ b e is_band is d lt. (under_split window_number d (of_band b (entries o gone)) (of_band b (entries o kept)) (subst (λ (l : List OnWindow). AllUnder window_number d l) (band_split b) (h.lasts b e is_band is d lt))).1);
           below = h.below;
           behind = h.behind;
         }

@@ -66,4 +66,4 @@ IsCutting o v log pool point ds c = StandsAs o v log pool ds c
 abbrev pub IsCutOff : Origin → View → Tail → Pool → (base point : ℕ) → List Numbered → Super → Type 0
 IsCutOff o w log pool base point ds t = (s : IsSplit base point ds)
     × (((gate_of s ≡ base) × (t ≡ o.super) × IsEngine o w log ds [] pool)
-      ⊎ ((t ≡ super_at o.super (next_stand o.super (gate_of s))) × IsEngine (cut_at o (next_stand o.super (gate_of s)) (gone_of s)) w log (kept_of s) [] pool))
+    ⊎ ((t ≡ super_at o.super (next_stand o.super (gate_of s))) × IsEngine (cut_at o (next_stand o.super (gate_of s)) (gone_of s)) w log (kept_of s) [] pool))

@@ -177,7 +177,7 @@ front_or (f ∷ front) more (n ∷ ns) x e =
 pub all_agree_more : (o : Origin) (ds rest ns : List Numbered) (x : Numbered) (t : Table) → ns ≡ ds ++ rest → IsBy t o → IsNext t o ns x → AllAgree t o ds ns → AllAgree t o ds (ns ++ x ∷ [])
 all_agree_more o ds rest ns x t has by next all front more e = ⊎_elim
     (λ is_all. subst (Agrees t o ds) (sym (append_cancel_left ds front (rest ++ x ∷ []) (is_all ∙ (ap (λ (l : List Numbered). l ++ x ∷ []) has ∙ append_assoc ds rest (x ∷ [])))))
-        (agrees_more o ns x t ds rest has by next (all rest [] (append_none (ds ++ rest) ∙ sym has))))
+    (agrees_more o ns x t ds rest has by next (all rest [] (append_none (ds ++ rest) ∙ sym has))))
     (λ less. all front less.0 less.1)
     (front_or (ds ++ front) more ns x e)
 

@@ -177,9 +177,12 @@ page_run own o v m w log log' log'' ds ps pool pool' pool'' r lsn result h numbe
     let y : Numbered = at_number lsn r in
     let same = one_list o m log' ds all pool' r lsn h number in
     record {
-      moments = inr (subst (AllAgree own o ds) same agree, λ k early. joined
-          (weaker (first k early) (λ c stands. standing_weaker o ds (all ++ y ∷ []) ds all [] (y ∷ []) k c (sym (append_none ds)) refl stands))
-          (weaker (second k (still k early)) (λ c stands. standing_weaker o ds (all ++ y ∷ []) h.durable ((h.durable ++ h.waiting) ++ numbered log' r ∷ []) h.since [] k c h.later (sym same ∙ sym (append_none ((h.durable ++ h.waiting) ++ numbered log' r ∷ []))) stands)));
+      moments = inr (
+        subst (AllAgree own o ds) same agree,
+        λ k early. joined
+            (weaker (first k early) (λ c stands. standing_weaker o ds (all ++ y ∷ []) ds all [] (y ∷ []) k c (sym (append_none ds)) refl stands))
+            (weaker (second k (still k early)) (λ c stands. standing_weaker o ds (all ++ y ∷ []) h.durable ((h.durable ++ h.waiting) ++ numbered log' r ∷ []) h.since [] k c h.later (sym same ∙ sym (append_none ((h.durable ++ h.waiting) ++ numbered log' r ∷ []))) stands)),
+      );
       allowed = each_ok (IsAllowed o v log pool) (IsAllowed o w log'' pool'') result (λ k early. allowed k (still k early));
     }
 

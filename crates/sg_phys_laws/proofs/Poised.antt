@@ -99,7 +99,7 @@ pub behind_record : (t : Table) (o : Origin) (v w : View) (log log' : Tail) (poo
 behind_record t o v w log log' pool pool' r lsn by p mark h still =
     behind t o p.home v w log log' pool' (all_in_log v log ++ at_number lsn r ∷ []) by h.gone h.agrees p.said
     (points_append (IsAllowed (at_home o p.home) w log' pool') (at_home o p.home) (durable_in v log) (all_in_log v log) (at_number lsn r)
-      (points_allow (IsAllowed (at_home o p.home) v log pool) (IsAllowed (at_home o p.home) w log' pool') (at_home o p.home) (durable_in v log) (all_in_log v log) still p.points) mark)
+    (points_allow (IsAllowed (at_home o p.home) v log pool) (IsAllowed (at_home o p.home) w log' pool') (at_home o p.home) (durable_in v log) (all_in_log v log) still p.points) mark)
 
 -- THE IMAGES of a call that appends nothing
 pub rest_images : (t : Table) (o : Origin) (v w : View) (log : Tail) (pool : Pool) → IsBy t o → (p : IsPoised t o v log pool) → Stood (at_home o p.home) v w log pool (durable_in v log) (all_in_log v log)
@@ -115,9 +115,9 @@ record_images t o v w log log' pool pool' r lsn result by p mark h =
     let all : List Numbered = all_in_log v log in
     ⊎_elim
     (λ early. weaker (rest_images t o v w log pool by p early)
-        (λ c m. image_more o t first (steps_of (durable_in v log)) (steps_of all) (with_step (steps_of all) lsn (step_of r)) c (one_more (steps_of all) lsn (step_of r)) m))
+    (λ c m. image_more o t first (steps_of (durable_in v log)) (steps_of all) (with_step (steps_of all) lsn (step_of r)) c (one_more (steps_of all) lsn (step_of r)) m))
     (λ late. subst (λ (rs : Steps). LeavesOnly v w (IsImageOf (Recovers o) t first (steps_of (durable_in v log)) rs)) (steps_more all (at_number lsn r))
-        (moments_are t o p.home v w log pool (durable_in v log) (all ++ at_number lsn r ∷ []) by late.0 p.said (points_append (IsAllowed (at_home o p.home) v log pool) (at_home o p.home) (durable_in v log) all (at_number lsn r) p.points mark) late.1))
+    (moments_are t o p.home v w log pool (durable_in v log) (all ++ at_number lsn r ∷ []) by late.0 p.said (points_append (IsAllowed (at_home o p.home) v log pool) (at_home o p.home) (durable_in v log) all (at_number lsn r) p.points mark) late.1))
     h.moments
 
 -- no call of the disk

@@ -25,7 +25,10 @@ fn change_texts(taking_off: bool, change: &Change<'_>) -> bool
 fn page_texts(taking_off: bool, c: &PageChange<'_>) -> bool
     ensures { IsTrue result → HasTexts taking_off (Page (shown_page c.now)) }
 {
-    let numbers = c.page.0 < 1_048_576 && c.operation <= 7 && c.slot <= u16::MAX && c.code <= u16::MAX;
+    let numbers = c.page.0 < 1_048_576
+        && c.operation <= 7
+        && c.slot <= u16::MAX
+        && c.code <= u16::MAX;
     numbers && c.before.len() <= 65_535 && c.after.len() <= 65_535
 }
 
@@ -53,7 +56,8 @@ pub fn is_record(r: &Rec<'_>) -> bool
     let says = r.says();
     let texts = match &says {
         Says::Changed(change) => change_texts(false, change),
-        Says::PhysComp { undo_next, change } => *undo_next <= u64::MAX && change_texts(true, change),
+        Says::PhysComp { undo_next, change } => *undo_next <= u64::MAX
+            && change_texts(true, change),
         _ => false,
     };
     if !texts || r.txn().0 > u64::MAX || r.prev() > u64::MAX {
