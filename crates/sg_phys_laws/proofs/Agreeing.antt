@@ -1,6 +1,5 @@
 -- THE JOINT of pages with numbers and pages without.
-use Rattle.std.proofs.Common.{◌≡◌, ◌≢◌, ℕ, ◌+◌, ◌<◌, ◌≤◌, ◌==◌, ◌⊎◌, inl, inr, ⊎_elim, Bool, true, false, cond, List, [], ◌∷◌, ◌++◌, length, Option, Some, None, refl, sym, ap, ◌∙◌, subst, arith}
-use Rattle.std.specs.Prelude.{if◌then◌else◌}
+use Rattle.std.proofs.Common.{◌≡◌, ◌≢◌, ℕ, ◌+◌, ◌≤◌, ◌==◌, ◌⊎◌, inl, inr, ⊎_elim, true, false, List, [], ◌∷◌, ◌++◌, length, Option, Some, None, refl, sym, ap, ◌∙◌, subst, arith}
 use Rattle.std.proofs.lemmas.Bool.{cases_eq}
 use Rattle.std.proofs.lemmas.List.{append_assoc, append_cancel_left}
 use Rattle.std.proofs.lemmas.Bool.Decides.{nat_tests}
@@ -12,22 +11,21 @@ use Rattle.sg_log.specs.Frames.{Numbered}
 use Rattle.sg_ops.specs.Table.{Table, range_at, rendered}
 use Rattle.sg_record.specs.Changes.{Change as Changing}
 use Rattle.sg_record.specs.Changes.Change.{Page as PageChanged, SegWrite, SegOp}
-use Rattle.sg_record.specs.Records.{Record, Says}
+use Rattle.sg_record.specs.Records.{Says}
 use Rattle.sg_record.specs.Records.Says.{Begin, Changed, TopEnd, PhysComp, TopVoid, CompEnd, Save, Commit, End, Checkpoint, Line}
 use Rattle.sg_redo.specs.History.{OnPage, OnByte, redone, repeated as page_repeated, rewritten}
 use Rattle.sg_redo.specs.Page.{made, on_page}
 use Rattle.sg_redo.specs.Places.{op_said, changed_by}
 use Rattle.sg_redo.specs.Window.{OnWindow, on_byte}
 use Rattle.sg_action.specs.States.{State, apply, step_leaf, or_same, with_one}
-use Rattle.sg_action.specs.States.Change.{Page, Write, Paint}
+use Rattle.sg_action.specs.States.Change.{Page}
 use Rattle.sg_engine.specs.Effects.{IsBy, effect_of}
 use Rattle.sg_engine.specs.Engine.{Origin, entry_of, entries}
 use Rattle.sg_engine.specs.History.{Effect, ChangesPage, ChangesBand, ChangesNothing, Entry, Homes, of_page, of_byte, page_change, byte_change}
-use Rattle.sg_engine.specs.History as history
 use Rattle.sg_engine.proofs.Logs.{entries_append}
 use Rattle.sg_engine.proofs.Steps.{split_page, split_byte, repeated_append, rewritten_append}
 use Rattle.sg_actions.specs.Changes.{meaning, back_said}
-use Rattle.sg_actions.specs.Steps.{Step, Steps, step_of, step_by, with_step, redo, repeated}
+use Rattle.sg_actions.specs.Steps.{Step, Steps, step_of, step_by, with_step, repeated}
 use Rattle.sg_redo.specs.Leaf.{leaf_of}
 use Rattle.sg_redo.proofs.Saying.{leaf_follows}
 use Rattle.sg_phys_laws.specs.Listed.{listed}

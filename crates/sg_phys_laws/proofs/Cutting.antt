@@ -1,7 +1,7 @@
 -- Pages and bands of a store's size, and the steps that change them.
-use Rattle.std.proofs.Common.{◌≡◌, ◌≢◌, ◌⊎◌, inl, inr, ⊎_elim, ◌<◌, ◌==◌, ℕ, Bool, true, false, nat_lt, List, [], ◌∷◌, Option, Some, None, is_some, refl, sym, ap, ◌∙◌, subst, arith}
+use Rattle.std.proofs.Common.{◌≡◌, ◌≢◌, ⊎_elim, ◌<◌, ◌==◌, ℕ, Bool, true, false, nat_lt, List, [], ◌∷◌, Option, Some, None, is_some, refl, ap, ◌∙◌, subst, arith}
 use Rattle.std.specs.Prelude.{if◌then◌else◌}
-use Rattle.std.proofs.lemmas.Bool.{cases_lt, cases_eq}
+use Rattle.std.proofs.lemmas.Bool.{cases_eq}
 use Rattle.std.proofs.lemmas.Bool.Decides.{nat_tests}
 use Rattle.sg_base.specs.Op.{Op}
 use Rattle.sg_base.specs.Op.Op.{Format, Put, Remove, Set, Links, Item, ItemBack}
@@ -12,15 +12,15 @@ use Rattle.sg_log.specs.Frames.{Numbered}
 use Rattle.sg_ops.specs.Table.{Table, range_at, rendered}
 use Rattle.sg_record.specs.Changes.{Change as Changing}
 use Rattle.sg_record.specs.Changes.Change.{Page as PageChanged, SegWrite, SegOp}
-use Rattle.sg_record.specs.Records.{Record, Says}
+use Rattle.sg_record.specs.Records.{Says}
 use Rattle.sg_record.specs.Records.Says.{Begin, Changed, TopEnd, PhysComp, TopVoid, CompEnd, Save, Commit, End, Checkpoint, Line}
 use Rattle.sg_redo.specs.Places.{op_said, changed_by}
 use Rattle.sg_recovery.specs.Log.Record.{Begin as StepBegin, Change as StepChange, TopEnd as StepTopEnd, PhysComp as StepPhysComp, TopVoid as StepTopVoid, CompEnd as StepCompEnd, Save as StepSave, Commit as StepCommit, End as StepEnd}
 use Rattle.sg_action.specs.States.{State, apply, step_leaf, or_same, with_one}
 use Rattle.sg_engine.specs.Effects.{IsBy, effect_of}
 use Rattle.sg_engine.specs.Engine.{Origin, geometry, entries}
-use Rattle.sg_engine.specs.History.{Effect, AllThere, IsThere}
-use Rattle.sg_actions.specs.Changes.{meaning, back_said}
+use Rattle.sg_engine.specs.History.{AllThere, IsThere}
+use Rattle.sg_actions.specs.Changes.{meaning}
 use Rattle.sg_actions.specs.Steps.{Step, Steps, step_of, step_by, with_step, redo, repeated}
 use Rattle.sg_phys_laws.specs.Logged.{IsFor, IsPageFor}
 use Rattle.sg_phys_laws.specs.Recovers.{cut_at, IsIn, StepIn, AllIn}

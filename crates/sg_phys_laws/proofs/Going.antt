@@ -14,9 +14,8 @@ use Rattle.sg_actions.specs.Steps.{Steps, repeated}
 use Rattle.sg_actions.specs.Images.{IsImageOf}
 use mathlib.Core.Logic.{∥∥₁_elim, ∥∥₁_prop}
 use Rattle.sg_phys_laws.specs.Images.{homes_in}
-use Rattle.sg_phys_laws.specs.Poised.{AreSaid}
-use Rattle.sg_phys_laws.specs.Recovers.{cut_at, AllIn, records_in, point_in, said_in, IsSoundImage, Recovers}
-use Rattle.sg_phys_laws.specs.States.{state_of, steps_of, homes_of, at_home, Agrees, AllAgree}
+use Rattle.sg_phys_laws.specs.Recovers.{cut_at, records_in, point_in, IsSoundImage, Recovers}
+use Rattle.sg_phys_laws.specs.States.{state_of, steps_of, homes_of, at_home, Agrees}
 use Rattle.sg_phys_laws.proofs.Agreeing.{repeated_both}
 use Rattle.sg_phys_laws.proofs.Cutting.{repeated_cut, all_in}
 

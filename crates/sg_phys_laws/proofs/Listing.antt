@@ -1,11 +1,11 @@
 -- Bytes by their places, as a list.
-use Rattle.std.proofs.Common.{◌≡◌, ℕ, ◌+◌, ◌<◌, ◌≤◌, List, [], ◌∷◌, length, get_or, refl, sym, ◌∙◌, ap, arith}
+use Rattle.std.proofs.Common.{◌≡◌, ℕ, ◌+◌, ◌<◌, ◌≤◌, [], ◌∷◌, length, get_or, sym, ◌∙◌, ap, arith}
 use Rattle.std.proofs.lemmas.List.{ext_get_or}
 use Rattle.std.proofs.lemmas.List.FromFn.{length-map-range_with_len, get_or-map-range_with_len}
 use Rattle.sg_base.specs.Overwritten.{overwritten}
 use Rattle.sg_base.proofs.Overwriting.{length-overwritten}
-use Rattle.sg_redo.specs.History.{OnByte, rewritten}
-use Rattle.sg_redo.specs.Window.{OnWindow, on_byte, replayed}
+use Rattle.sg_redo.specs.History.{rewritten}
+use Rattle.sg_redo.specs.Window.{OnWindow, on_byte}
 use Rattle.sg_redo.proofs.Bytes.{replay_byte}
 use Rattle.sg_phys_laws.specs.Listed.{listed}
 

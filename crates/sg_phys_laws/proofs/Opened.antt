@@ -1,5 +1,5 @@
 -- An engine that was opened, or made.
-use Rattle.std.proofs.Common.{◌≡◌, ◌≤◌, ℕ, max, List, [], ◌∷◌, ◌++◌, refl, sym, ap, ◌∙◌, subst, arith}
+use Rattle.std.proofs.Common.{◌≡◌, ◌≤◌, ℕ, List, [], ◌++◌, sym, ◌∙◌, subst, arith}
 use Rattle.sg_disk.specs.Disk.{Image, View}
 use Rattle.sg_log.specs.Frames.{Numbered}
 use Rattle.sg_log.specs.Held.{Tail}
@@ -11,7 +11,7 @@ use Rattle.sg_engine.specs.Running.{IsEngine, IsAllowed}
 use Rattle.sg_actions.specs.Steps.{Steps}
 use Rattle.sg_engine.specs.History.{Homes}
 use Rattle.sg_phys_laws.specs.Poised.{IsPoised, AreSaid}
-use Rattle.sg_phys_laws.specs.Points.{redo_point, last_estimate, AreMarked, ArePoints}
+use Rattle.sg_phys_laws.specs.Points.{redo_point, AreMarked, ArePoints}
 use Rattle.sg_phys_laws.specs.Reading.{durable_in, waiting_in}
 use Rattle.sg_phys_laws.specs.Recovers.{Recovers}
 use Rattle.sg_phys_laws.specs.States.{AllAgree, at_home}

@@ -1,5 +1,5 @@
 -- The record of an operation on a page, from what the page says.
-use Rattle.std.proofs.Common.{◌≡◌, ◌⊎◌, inl, inr, ⊎_elim, ◌<◌, ◌≤◌, ◌+◌, ◌^◌, ℕ, Bool, true, false, Option, Some, None, is_some, List, [], ◌∷◌, ◌++◌, length, refl, sym, ◌∙◌, ap, subst, arith}
+use Rattle.std.proofs.Common.{◌≡◌, inl, inr, ⊎_elim, ◌<◌, ◌≤◌, ◌+◌, ℕ, Bool, true, false, Option, Some, None, is_some, List, [], ◌∷◌, ◌++◌, length, refl, sym, ◌∙◌, ap, subst, arith}
 use Rattle.std.specs.Prelude.{Result, Ok, Err, OnOk, IfOk}
 use Rattle.std.proofs.lemmas.List.{append_assoc}
 use Rattle.sg_base.specs.Bytes.{IsBytes}
@@ -7,18 +7,17 @@ use Rattle.sg_base.specs.Op.{Op}
 use Rattle.sg_base.specs.Op.Op.{Format, Put, Remove, Set, Links, Item, ItemBack}
 use Rattle.sg_base.specs.Page.{lsn_of}
 use Rattle.sg_base.specs.Sheet.{Sheet}
-use Rattle.sg_disk.specs.Disk.{View, Image, LeavesOnly}
+use Rattle.sg_disk.specs.Disk.{View}
 use Rattle.sg_disk.proofs.Moments.{joined, weaker}
 use Rattle.sg_log.specs.Frames.{Numbered}
-use Rattle.sg_log.specs.Held.{Tail, place_of, has_room, numbered, tail_of}
+use Rattle.sg_log.specs.Held.{Tail, place_of, has_room, numbered}
 use Rattle.sg_log.proofs.Holding.{end_near}
 use Rattle.sg_ops.specs.Laws.{IsLawful}
 use Rattle.sg_ops.specs.Steps.{BringsBytes, uses_table}
 use Rattle.sg_ops.specs.Table.{Table}
 use Rattle.sg_pool.specs.declared.pool.Pool.{Pool}
-use Rattle.sg_pool.specs.Pooled.{sizes, contents}
+use Rattle.sg_pool.specs.Pooled.{sizes}
 use Rattle.sg_record.specs.Changes.{Change}
-use Rattle.sg_record.specs.Changes.Change.{Page}
 use Rattle.sg_record.specs.Records.{Record}
 use Rattle.sg_record.specs.Ranges.{IsRecord}
 use Rattle.sg_redo.specs.Page.{made, fits}
@@ -27,9 +26,9 @@ use Rattle.sg_slotted.specs.Layout.{lsn_layout}
 use Rattle.sg_step.specs.Changed.{changed}
 use Rattle.sg_action.specs.States.{State, step_leaf}
 use Rattle.sg_engine.specs.Effects.{IsBy, effect_of}
-use Rattle.sg_engine.specs.Engine.{Origin, entries, IsStanding}
+use Rattle.sg_engine.specs.Engine.{Origin, entries}
 use Rattle.sg_engine.specs.Numbers.{AllUnder}
-use Rattle.sg_engine.specs.History.{Effect, ChangesPage, IsNumbered, entry_number}
+use Rattle.sg_engine.specs.History.{ChangesPage, IsNumbered, entry_number}
 use Rattle.sg_engine.specs.Running.{IsEngine, IsAllowed, HasGoneOn, DoesToPage}
 use Rattle.sg_engine.specs.declared.fault.EngineFault.{EngineFault}
 use Rattle.sg_engine.proofs.Calls.{standing_weaker}

@@ -1,8 +1,7 @@
 -- What the engine holds behind a call.
-use Rattle.std.proofs.Common.{◌≡◌, ◌⊎◌, inl, inr, ⊎_elim, ◌<◌, ◌≤◌, ℕ, Bool, true, false, IsTrue, List, [], ◌∷◌, ◌++◌, refl, sym, ap, ◌∙◌, subst}
-use Rattle.std.specs.Prelude.{Result, OnOk}
-use mathlib.Core.Logic.{∥∥₁_elim, ∥∥₁_prop}
-use Rattle.sg_disk.specs.Disk.{View, Image, Leaves, LeavesOnly}
+use Rattle.std.proofs.Common.{◌≡◌, ⊎_elim, ℕ, false, List, [], ◌∷◌, ◌++◌, refl, sym, ap, ◌∙◌, subst}
+use Rattle.std.specs.Prelude.{Result}
+use Rattle.sg_disk.specs.Disk.{View, LeavesOnly}
 use Rattle.sg_disk.proofs.Moments.{weaker}
 use Rattle.sg_log.specs.Frames.{Numbered}
 use Rattle.sg_log.specs.Held.{Tail}
@@ -18,9 +17,9 @@ use Rattle.sg_engine.specs.Running.{IsEngine, IsAllowed, HasGoneOn}
 use Rattle.sg_engine.specs.declared.fault.EngineFault.{EngineFault}
 use Rattle.sg_engine.proofs.Pools.{rest_moments}
 use Rattle.sg_actions.specs.Images.{Grows, IsImageOf}
-use Rattle.sg_actions.specs.Steps.{Steps, step_of, with_step, stepped}
-use Rattle.sg_phys_laws.specs.Logged.{IsPhys, HasLogged, HasRun, HasRested, Stood, StillAllowed, at_number, is_checkpoint}
-use Rattle.sg_phys_laws.specs.Poised.{IsNow, AreSaid, IsPoised}
+use Rattle.sg_actions.specs.Steps.{Steps, step_of, with_step}
+use Rattle.sg_phys_laws.specs.Logged.{HasLogged, HasRun, HasRested, Stood, StillAllowed, at_number, is_checkpoint}
+use Rattle.sg_phys_laws.specs.Poised.{AreSaid, IsPoised}
 use Rattle.sg_phys_laws.specs.Points.{IsMarked, ArePoints}
 use Rattle.sg_phys_laws.specs.Reading.{durable_in, waiting_in}
 use Rattle.sg_phys_laws.specs.Recovers.{cut_at, Recovers}
@@ -30,7 +29,7 @@ use Rattle.sg_phys_laws.proofs.Going.{by_at, said_more}
 use Rattle.sg_phys_laws.proofs.Fronting.{front_grows, one_more}
 use Rattle.sg_phys_laws.proofs.Points.{points_allow, points_append, points_durable}
 use Rattle.sg_phys_laws.proofs.Reading.{held_are}
-use Rattle.sg_phys_laws.proofs.Recovered.{moments_are, image_more, leaves_fix, image_fix}
+use Rattle.sg_phys_laws.proofs.Recovered.{moments_are, image_more}
 use Rattle.sg_phys_laws.proofs.Stepping.{steps_more}
 use Rattle.sg_phys_laws.proofs.Wrapped.{now_again, all_are, append_none}
 

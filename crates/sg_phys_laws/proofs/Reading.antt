@@ -1,16 +1,15 @@
 -- The records that a log holds are those that are read from its bytes.
-use Rattle.std.proofs.Common.{◌≡◌, ℕ, zero, suc, ◌+◌, ◌<◌, ◌≤◌, ◌==◌, ◌^◌, Bool, true, false, List, [], ◌∷◌, ◌++◌, length, drop, refl, sym, ap, ◌∙◌, subst, arith, length-append, add-zero}
-use Rattle.std.specs.Prelude.{if◌then◌else◌, Ok, Err}
+use Rattle.std.proofs.Common.{◌≡◌, ℕ, zero, suc, ◌+◌, ◌<◌, ◌≤◌, ◌==◌, ◌^◌, true, false, List, [], ◌∷◌, ◌++◌, length, drop, refl, sym, ap, ◌∙◌, subst, arith, length-append}
 use Rattle.std.proofs.Math.Seq.{drop-append_seam}
 use Rattle.std.proofs.lemmas.Bool.Decides.{nat_tests}
 use Rattle.byteorder.specs.Endian.{little_bytes, little_number}
 use Rattle.byteorder.specs.Numbers.{little_number-reads_back}
 use Rattle.sg_disk.specs.Disk.{Bytes, View, window}
 use Rattle.sg_record.specs.Records.{Record, spelled}
-use Rattle.sg_record.specs.Reading.{Parsed, parse}
+use Rattle.sg_record.specs.Reading.{Parsed}
 use Rattle.sg_record.proofs.Parsing.{parse_back}
 use Rattle.sg_log.specs.Texts.{spelled_all, AreRecords}
-use Rattle.sg_log.specs.Frames.{Numbered, GREATEST_BODY, text_of, numbered_from, numbered_in, Frames, gate_after}
+use Rattle.sg_log.specs.Frames.{Numbered, text_of, numbered_from, numbered_in, Frames, gate_after}
 use Rattle.sg_log.specs.Held.{Tail, Holds}
 use Rattle.sg_log.proofs.Texts.{spelled-long}
 use Rattle.sg_log.proofs.Holding.{text-length}

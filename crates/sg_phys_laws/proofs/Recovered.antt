@@ -1,5 +1,5 @@
 -- What an image holds, and that truncated facts of images are facts.
-use Rattle.std.proofs.Common.{◌≡◌, ◌≤◌, ◌<◌, ◌+◌, ◌-◌, ℕ, List, [], ◌∷◌, ◌++◌, length, take, refl, sym, ap, ◌∙◌, subst, arith, length-append, add-zero}
+use Rattle.std.proofs.Common.{◌≡◌, ◌<◌, ◌+◌, ◌-◌, ℕ, List, ◌∷◌, ◌++◌, length, take, refl, sym, ap, ◌∙◌, subst, arith, length-append}
 use Rattle.std.proofs.Math.Seq.{take-append_seam}
 use Rattle.std.proofs.lemmas.List.{append_cancel_right, append_assoc}
 use mathlib.Core.Logic.{∥∥₁_elim, ∥∥₁_prop}
@@ -17,15 +17,15 @@ use Rattle.sg_action.specs.States.{State}
 use Rattle.sg_engine.specs.Effects.{IsBy}
 use Rattle.sg_engine.specs.History.{Homes, IsSound, AllThere}
 use Rattle.sg_engine.specs.Kept.{home_in}
-use Rattle.sg_engine.specs.Engine.{Origin, entries, geometry, log_area, IsStanding}
+use Rattle.sg_engine.specs.Engine.{Origin, entries, geometry, log_area}
 use Rattle.sg_engine.specs.Running.{IsAllowed}
 use Rattle.sg_redo.specs.Leaf.{leaf_of}
-use Rattle.sg_actions.specs.Images.{Grows, IsFront, IsImageOf}
+use Rattle.sg_actions.specs.Images.{Grows, IsImageOf}
 use Rattle.sg_actions.specs.Steps.{Steps, repeated}
 use Rattle.sg_phys_laws.specs.Images.{homes_in}
 use Rattle.sg_phys_laws.specs.Logged.{Stood}
 use Rattle.sg_phys_laws.specs.Points.{redo_point, ArePoints}
-use Rattle.sg_phys_laws.specs.Recovers.{cut_at, records_in, point_in, said_in, IsSoundImage, Recovers, StandsOwn}
+use Rattle.sg_phys_laws.specs.Recovers.{cut_at, records_in, said_in, IsSoundImage, Recovers, StandsOwn}
 use Rattle.sg_phys_laws.specs.Poised.{AreSaid}
 use Rattle.sg_phys_laws.specs.States.{state_of, steps_of, homes_of, at_home, AllAgree}
 use Rattle.sg_phys_laws.proofs.Cutting.{cut_same}

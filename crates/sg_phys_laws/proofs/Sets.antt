@@ -2,7 +2,7 @@
 use Rattle.std.proofs.Common.{ℕ, List, Option}
 use Rattle.std.proofs.Props.{props}
 use mathlib.Core.List.{is_set as List-set}
-use Rattle.sg_record.specs.Changes.{Change, PageChange, BandBytes, BandOp}
+use Rattle.sg_record.specs.Changes.{Change}
 use Rattle.sg_recovery.specs.Log as recovery
 use Rattle.sg_base.specs.Sheet.{Sheet}
 use Rattle.sg_disk.specs.Disk as disk

@@ -1,5 +1,5 @@
 -- The steps of a log with one record more.
-use Rattle.std.proofs.Common.{◌≡◌, ℕ, List, [], ◌∷◌, ◌++◌, refl}
+use Rattle.std.proofs.Common.{◌≡◌, List, [], ◌∷◌, ◌++◌, refl}
 use Rattle.sg_log.specs.Frames.{Numbered}
 use Rattle.sg_actions.specs.Steps.{Steps, step_of, with_step}
 use Rattle.sg_phys_laws.specs.States.{steps_on, steps_of}

@@ -1,6 +1,6 @@
 -- What holds of the engine as the actions see it.
-use Rattle.std.proofs.Common.{◌≡◌, ◌<◌, ◌≤◌, ◌+◌, ℕ, Bool, false, IsTrue, List, [], ◌∷◌, ◌++◌, refl, sym, ◌∙◌, ap, subst, arith}
-use Rattle.std.specs.Prelude.{Result, OnOk, Option, Some, None, ◌⊎◌}
+use Rattle.std.proofs.Common.{◌≡◌, ◌<◌, ◌≤◌, ◌+◌, ℕ, List, [], ◌∷◌, ◌++◌, refl, sym, ◌∙◌, ap, subst, arith}
+use Rattle.std.specs.Prelude.{Result, OnOk, Option, Some, None}
 use Rattle.std.proofs.Common.{inr}
 use Rattle.sg_disk.specs.Disk.{View}
 use Rattle.sg_engine.specs.Effects.{IsBy, effect_of}
@@ -24,13 +24,11 @@ use Rattle.sg_record.specs.Records.{Record}
 use Rattle.sg_engine.specs.Engine.{Origin, entries}
 use Rattle.sg_engine.specs.declared.fault.EngineFault.{EngineFault}
 use Rattle.sg_engine.specs.Running.{IsEngine, IsAllowed, HasGoneOn, DoesNothing, DoesToBand}
-use Rattle.sg_actions.specs.Steps.{step_of, with_step}
-use Rattle.sg_phys_laws.specs.Logged.{IsPhys, IsWrite, Writes, HasLogged, HasRun, Stood, StillAllowed, at_number}
+use Rattle.sg_phys_laws.specs.Logged.{IsPhys, IsWrite, Writes, HasLogged, HasRun, Stood, at_number}
 use Rattle.sg_phys_laws.specs.Poised.{IsNow}
 use Rattle.sg_phys_laws.specs.Reading.{durable_in, waiting_in}
-use Rattle.sg_phys_laws.specs.States.{AllAgree, IsChangeable, IsNext, homes_of, steps_of}
+use Rattle.sg_phys_laws.specs.States.{AllAgree, IsChangeable, IsNext, homes_of}
 use Rattle.sg_phys_laws.proofs.Reading.{held_are}
-use Rattle.sg_phys_laws.proofs.Stepping.{steps_more}
 
 -- an engine of these records is one of those that its log's bytes say
 pub now_again : (t : Table) (o : Origin) (w : View) (log : Tail) (ds ps : List Numbered) (pool : Pool) → IsEngine o w log ds ps pool → AllAgree t o ds (ds ++ ps) → IsNow t o w log pool

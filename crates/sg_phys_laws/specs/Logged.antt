@@ -2,7 +2,7 @@
 use Rattle.std.specs.Prelude.{◌≡◌, ◌≢◌, ◌⊎◌, ℕ, Bool, true, false, List, [], ◌∷◌, ◌++◌, Option, Some, None, is_some, Result, OnOk, ⊤}
 use Rattle.sg_disk.specs.Disk.{View, LeavesOnly}
 use Rattle.sg_log.specs.Frames.{Numbered}
-use Rattle.sg_log.specs.Held.{Tail, tail_of}
+use Rattle.sg_log.specs.Held.{Tail}
 use Rattle.sg_ops.specs.Laws.{IsLawful}
 use Rattle.sg_ops.specs.Steps.{uses_table}
 use Rattle.sg_ops.specs.Table.{Table, range_at, rendered}
@@ -11,7 +11,7 @@ use Rattle.sg_base.specs.Op.{Op}
 use Rattle.sg_record.specs.Changes.{Change, PageChange}
 use Rattle.sg_record.specs.Changes.Change.{Page, SegWrite, SegOp}
 use Rattle.sg_record.specs.Records.{Record, Says}
-use Rattle.sg_record.specs.Records.Says.{Begin, Changed, TopEnd, PhysComp, TopVoid, CompEnd, Save, Commit, End, Checkpoint, Line}
+use Rattle.sg_record.specs.Records.Says.{Checkpoint}
 use Rattle.sg_redo.specs.Places.{op_said, changed_by}
 use Rattle.sg_action.specs.States.{State, step_leaf}
 use Rattle.sg_engine.specs.Effects.{IsBy}

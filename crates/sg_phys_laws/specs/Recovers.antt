@@ -1,5 +1,5 @@
 -- What an image of the disk holds, as the store has it: functions of the image.
-use Rattle.std.specs.Prelude.{◌≡◌, ◌<◌, ℕ, nat_lt, if◌then◌else◌, Result, Ok, Err, Some, None, List, [], ◌∷◌, ⊤}
+use Rattle.std.specs.Prelude.{◌≡◌, ◌<◌, ℕ, nat_lt, if◌then◌else◌, Result, Ok, Err, None, List, [], ◌∷◌, ⊤}
 use Rattle.sg_base.specs.declared.area.Area.TheVariants.{Home}
 use Rattle.sg_disk.specs.Disk.{Image}
 use Rattle.sg_gate.specs.Batch.{laid, IsBatch, numbers_of}
@@ -10,7 +10,7 @@ use Rattle.sg_gate.specs.declared.fault.GateFault.{GateFault}
 use Rattle.sg_log.specs.Frames.{Numbered, HasRecords, LOG_END}
 use Rattle.sg_record.specs.Changes.{Change as Changing}
 use Rattle.sg_record.specs.Changes.Change.{Page, SegWrite, SegOp}
-use Rattle.sg_recovery.specs.Log.Record.{Begin, Change, TopEnd, PhysComp, TopVoid, CompEnd, Save, Commit, End}
+use Rattle.sg_recovery.specs.Log.Record.{Change, PhysComp}
 use Rattle.sg_ops.specs.Table.{Table}
 use Rattle.sg_action.specs.States.{State}
 use Rattle.sg_engine.specs.History.{IsHistory, IsSound}

@@ -1,4 +1,3 @@
-use Rattle.std.proofs.Common.{◌≡◌}
 use Rattle.sg_record.specs.Shown.{shown, shown_bytes}
 use Rattle.sg_phys_laws.proofs.Lies.{bytes_lie, bytes_asked}
 use Rattle.sg_phys_laws.proofs.logging.log_bytes.Goals as goal

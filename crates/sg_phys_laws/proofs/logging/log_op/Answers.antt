@@ -1,4 +1,4 @@
-use Rattle.std.proofs.Common.{rules, ◌≡◌, ◌≤◌, ◌<◌, ◌+◌, ℕ, length, take, length-take, inl, arith}
+use Rattle.std.proofs.Common.{rules, ◌≡◌, inl, arith}
 use Rattle.sg_ops.specs.Table.{Table, table_of, range_at, rendered}
 use Rattle.sg_record.specs.Shown.{shown, shown_op}
 use Rattle.sg_phys_laws.proofs.Lies.{op_lies, op_asked}

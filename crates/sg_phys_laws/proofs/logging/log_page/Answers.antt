@@ -1,4 +1,3 @@
-use Rattle.std.proofs.Common.{◌≡◌}
 use Rattle.sg_base.specs.Op.{op_of}
 use Rattle.sg_record.specs.Shown.{shown, shown_page}
 use Rattle.sg_phys_laws.proofs.Lies.{page_lies, page_says}

@@ -1,4 +1,4 @@
-use Rattle.std.proofs.Common.{◌≡◌, ◌≤◌, ◌<◌, ◌∙◌, inl, sym, ap, subst, arith, refl}
+use Rattle.std.proofs.Common.{inl, arith}
 use Rattle.sg_record.specs.Shown.{shown}
 use Rattle.sg_phys_laws.proofs.Numbers.{place_late, placed_below, near}
 use Rattle.sg_phys_laws.proofs.Paging.{on_ok, each_ok, number_ok}

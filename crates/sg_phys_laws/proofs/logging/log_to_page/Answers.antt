@@ -1,13 +1,13 @@
-use Rattle.std.proofs.Common.{◌≡◌, ◌<◌, ◌≤◌, ◌+◌, ◌∙◌, inl, sym, ap, subst, arith, refl}
+use Rattle.std.proofs.Common.{◌<◌, ◌∙◌, inl, sym, ap, subst, arith}
 use Rattle.sg_base.specs.Op.{op_of}
 use Rattle.sg_record.specs.Shown.{shown}
-use Rattle.std.proofs.Common.{List, ◌++◌}
+use Rattle.std.proofs.Common.{List}
 use Rattle.sg_log.specs.Frames.{Numbered}
 use Rattle.sg_phys_laws.specs.States.{homes_of}
 use Rattle.sg_pool.specs.Pooled.{sizes}
 use Rattle.sg_pool.specs.Units.{Geometry}
 use Rattle.sg_phys_laws.proofs.Numbers.{place_late, placed_above, placed_below, near_kept}
-use Rattle.sg_phys_laws.proofs.Paging.{may_go, gone_further, page_run, on_ok, each_ok, number_ok}
+use Rattle.sg_phys_laws.proofs.Paging.{may_go, gone_further, page_run, on_ok, number_ok}
 use Rattle.sg_phys_laws.proofs.Poised.{none_stood}
 use Rattle.sg_phys_laws.proofs.logging.log_to_page.Goals as goal
 use Rattle.sg_phys_laws.proofs.logging.log_to_page.Goals.{In-Ok}

@@ -1,6 +1,5 @@
-use Rattle.std.proofs.Common.{◌≡◌, ◌≤◌, ◌<◌, ◌+◌, inl, arith}
+use Rattle.std.proofs.Common.{inl, arith}
 use Rattle.sg_record.specs.Shown.{shown}
-use Rattle.sg_ops.specs.Table.{Table, table_of}
 use Rattle.sg_phys_laws.proofs.Numbers.{place_late}
 use Rattle.sg_phys_laws.proofs.Poised.{none_stood}
 use Rattle.sg_phys_laws.proofs.logging.log_without.Goals as goal
