@@ -1,4 +1,4 @@
-// What a blob reaches.
+// The walk over a blob.
 ghost use Rattle.std.specs.Prelude.{◌≡◌, ℕ, ◌-◌, ◌*◌, ◌≤◌, ◌<◌, length, IfSome, IsSome, IfOk, IfErr, OnOk};
 ghost use Rattle.sg_base.specs.Sheet.{sheet_of};
 ghost use Rattle.sg_base.specs.declared.page.TheConstants.{BAND_SIZE};
@@ -135,7 +135,11 @@ fn reach_bands<P: PageSpace>(
     Ok(())
 }
 
-/// Sets the page of the blob whose root page `from` names, and its bands. It is looked that they are a blob's.
+/// Sets the page of the blob whose root page `from` names, and its bands. It is looked that they are a blob's: as many
+/// bands as its peak wants, and zeros behind its bytes.
+///
+/// An error is the space's own, or `Broken` with the root, or with `from` where the root can't be set; the page and
+/// some bands may be set then.
 pub fn reach_blob<P: PageSpace>(
     space: &mut P,
     from: PageNo,

@@ -1,4 +1,4 @@
-// Along the chain of a bucket.
+// The walk along the chain of a bucket.
 ghost use Rattle.std.specs.Prelude.{◌≡◌, ◌<◌, ◌^◌, IfOk, IfErr, OnOk};
 ghost use Rattle.sg_chains.specs.Reached.{CanReachChain, ReachesChain, AreFew};
 ghost use Rattle.sg_ops.specs.Table.{Table};
@@ -12,7 +12,7 @@ use sg_linear::Address;
 use sg_reach::{ReachFault, set_page};
 use sg_space::PageSpace;
 
-/// How many pages a chain has, and how many entries, of how many bytes.
+/// How many pages a chain has, and how many entries, of how many bytes, 4 of each entry for its lengths.
 #[derive(Clone, Copy)]
 pub struct Chain {
     pub pages: u32,
@@ -20,8 +20,11 @@ pub struct Chain {
     pub bytes: u64,
 }
 
-/// Sets the pages of the chain whose first page `from` names. It is looked that each of its entries belongs
-/// there, and that each page but the first has one.
+/// Sets the pages of the chain whose first page `from` names. It is looked that each of its entries belongs there, with
+/// a key of 1 to 128 bytes, and that each page but the first has one.
+///
+/// An error is the space's own, or `Broken` with a page of the chain that is wrong or names a page that can't be set;
+/// some pages may be set then.
 pub fn reach_chain<P: PageSpace>(
     space: &mut P,
     from: PageNo,
@@ -43,6 +46,7 @@ pub fn reach_chain<P: PageSpace>(
     ensures later { (t : Table) → P.later t space.old space.new }
     ensures means { (t : Table) → P.means space.old t → P.means space.new t }
 {
+    // Each page that is set was free, which bounds the sums.
     let _most = into.free_pages();
     set_page(into, from, first)?;
     let seen = look(space, first, there)?;

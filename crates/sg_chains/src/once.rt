@@ -8,7 +8,7 @@ ghost use Rattle.sg_reach.specs.Fault.{CountsReach, IfBroken};
 ghost use Rattle.sg_space.specs.Pages.{CanLook};
 ghost use Rattle.sg_space.specs.View.{OnlyReads};
 
-use crate::entry::MOST_KEY;
+use sg_bucket::MOST_KEY;
 use crate::tally::{count, key_at, outline_of};
 use sg_base::PageNo;
 use sg_reach::ReachFault;
@@ -41,7 +41,8 @@ fn check_page<P: PageSpace>(space: &mut P, first: PageNo, pages: u32, p: PageNo)
     Ok(outline.next)
 }
 
-/// Looks that the key of each entry of a chain of so many pages is that of no other.
+/// Looks that the key of each entry of a chain of so many pages is that of no other. `Broken` names the page of the
+/// first of two.
 pub fn check_once<P: PageSpace>(space: &mut P, first: PageNo, pages: u32) -> Result<(), ReachFault>
     requires { HasChain (P.view space.old) first.0 pages }
     ensures counts { CountsReach (P.view space.old) (P.view space.new) result }

@@ -9,7 +9,7 @@ ghost use Rattle.sg_space.specs.Pages.{CanLook};
 ghost use Rattle.sg_space.specs.Units.{HasAt};
 ghost use Rattle.sg_space.specs.View.{Counts, OnlyReads};
 
-use crate::entry::{MOST_KEY, is_entry, key_in};
+use sg_bucket::{MOST_KEY, is_entry, key_in};
 use sg_base::{PageNo, SlotView};
 use sg_space::{PageSpace, SpaceFault};
 

@@ -16,9 +16,13 @@ use sg_space::PageSpace;
 
 const FIRST: PageNo = PageNo(0);
 
-/// Sets the pages of the catalogue but the first, which is set already, and looks that they are a catalogue's.
-/// Answers how many there are. The marks, which are clear, are the caller's: the more there are the fewer names are
-/// counted.
+/// Sets the pages of the catalogue but the first, page 0, which is set already, and looks that they are a catalogue's:
+/// each cell spells a row, there are no more rows than the peak says, and no more pages than it wants, and each name of
+/// an object stands once. Answers how many pages there are, with the first. The marks, which are clear, are the
+/// caller's: the more there are the fewer names are counted.
+///
+/// An error is the space's own, or `Broken` with a page of the catalogue that is wrong or names a page that can't be
+/// set; some pages may be set then.
 pub fn reach_names<P: PageSpace>(
     space: &mut P,
     into: &mut Maps,

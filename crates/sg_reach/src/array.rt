@@ -1,4 +1,4 @@
-// What an array reaches.
+// The walk over an array.
 ghost use Rattle.std.specs.Prelude.{◌≡◌, ℕ, ◌+◌, ◌-◌, ◌*◌, ◌<◌, ◌≤◌, min, length, IfSome, IsSome, IfOk, IfErr, OnOk};
 ghost use Rattle.sg_array.specs.Array.{per_page, root_cell, rounded_up};
 ghost use Rattle.sg_array.specs.Steps.{Root, IsInRange};
@@ -130,7 +130,8 @@ fn numbers_on(view: &SlotView<'_>) -> Option<Numbers>
     numbers_of(cell)
 }
 
-/// What the root's first cell says.
+/// Reads the numbers of an array's root: the size of an item in bytes, how many items there are, and the most that
+/// there were. `Broken` names the root where its first cell spells no such numbers.
 pub fn read_numbers<P: PageSpace>(space: &mut P, root: PageNo) -> Result<Numbers, ReachFault>
     requires { CanLook (P.view space.old) (P.view space.old).space.pages root.0 }
     ensures counts { CountsReach (P.view space.old) (P.view space.new) result }
@@ -204,8 +205,12 @@ fn reach_leaves<P: PageSpace>(
     Ok(())
 }
 
-/// Sets the pages of the array whose root page `from` names: its root, its index pages and its item pages.
-/// It is looked that they are an array's.
+/// Sets the pages of the array whose root page `from` names: its root, its index pages and its item pages. It is
+/// looked that they are an array's: each page of its kind, with as many cells as the root's numbers say, of the
+/// items' size, and nothing behind them.
+///
+/// An error is the space's own, or `Broken` with a page that is wrong or names a page that can't be set; some pages
+/// may be set then.
 pub fn reach_array<P: PageSpace>(
     space: &mut P,
     from: PageNo,

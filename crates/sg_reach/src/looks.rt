@@ -15,8 +15,8 @@ use sg_base::{PageNo, SlotView, read_u32};
 use sg_ops::are_bytes;
 use sg_space::{PageSpace, SpaceFault, read_cell};
 
-/// What a page is to look like: it is of this kind and has `most` slots at most, and of those from slot
-/// `first` on the first `count` have a cell of `size` bytes each, and all others are empty.
+/// What a page is to look like: it is of this kind and has `most` slots at most, and of those from slot `first` on the
+/// first `count` have a cell of `size` bytes each, and all others are empty. Nothing is asked of the slots before.
 #[derive(Clone, Copy)]
 pub struct Form {
     pub kind: u8,
@@ -69,7 +69,7 @@ fn has_form(view: &SlotView<'_>, form: Form) -> bool
     true
 }
 
-/// Looks that a page is of a form.
+/// Looks that a page is of a form. `Broken` names the page where it isn't.
 pub fn check<P: PageSpace>(space: &mut P, p: PageNo, form: Form) -> Result<(), ReachFault>
     requires fits { form.first + form.count ≤ form.most }
     requires there { CanLook (P.view space.old) (P.view space.old).space.pages p.0 }
@@ -88,7 +88,7 @@ pub fn check<P: PageSpace>(space: &mut P, p: PageNo, form: Form) -> Result<(), R
     Ok(())
 }
 
-/// The number of the page that a slot names.
+/// Reads the number of the page, or of the band, that a slot names in 4 bytes. An error is the space's own.
 pub fn link_at<P: PageSpace>(
     space: &mut P,
     p: PageNo,

@@ -11,6 +11,7 @@ use Rattle.sg_base.specs.Sheet.{Sheet}
 use Rattle.sg_bucket.specs.Bucket.{Bucket, entries_of}
 use Rattle.sg_bucket.specs.Entry.{Entry, entry_size, value_of}
 use Rattle.sg_bucket.proofs.Values.{has_key, none_of}
+use Rattle.sg_hash.specs.Steps.{numbers_in}
 use Rattle.sg_hash.specs.Table.{HashTable, Numbers, IsInRange, IsHashTable, numbers_of, root_cell, root_sheet, name_of, first_page, all_entries, most_buckets, AreHome}
 use Rattle.sg_hash.proofs.Roots.{same_numbers}
 use Rattle.sg_hash.proofs.Trunks.{names_long}
@@ -26,7 +27,7 @@ use Rattle.sg_reach.proofs.Whole.{same_root, array_is}
 use Rattle.sg_tables.specs.declared.root.Trunk.{Trunk}
 use Rattle.sg_contents.specs.Standing.{IsTable}
 use Rattle.sg_tables.specs.Table.{IsBucketOf, chains, table_pages}
-use Rattle.sg_tables.specs.Trunk.{numbers_in, IsTrunkSheet, IsRootSheet, IsDirectory}
+use Rattle.sg_tables.specs.Trunk.{IsTrunkSheet, IsRootSheet, IsDirectory}
 use Rattle.sg_tables.specs.Reached.{CanReachBuckets, ReachesBuckets, CanReachTable, ReachesTable}
 use Rattle.sg_tables.proofs.Gathering.{all_buckets}
 use Rattle.sg_tables.proofs.Homes.{there_of, none_elsewhere, none_empty, all_lack}

@@ -72,6 +72,7 @@ pub fn reach_buckets<P: PageSpace>(
     ensures later { (t : Table) → P.later t space.old space.new }
     ensures means { (t : Table) → P.means space.old t → P.means space.new t }
 {
+    // Each page that is set was free, which bounds the sums.
     let _most = into.free_pages();
     let mut entries = 0u64;
     let mut bytes = 0u64;

@@ -1,17 +1,17 @@
 // The root of a table.
-ghost use Rattle.std.specs.Prelude.{◌≡◌, ◌+◌, ◌*◌, ◌<◌, ◌≤◌, ◌^◌, length, IsTrue, IsFalse, IfSome, IsSome, IfOk, IfErr, OnOk};
+ghost use Rattle.std.specs.Prelude.{◌≡◌, ◌+◌, ◌*◌, ◌≤◌, IsTrue, IsFalse, IfSome, IsSome, IfOk, IfErr, OnOk};
 ghost use Rattle.sg_base.specs.Sheet.{sheet_of};
-ghost use Rattle.sg_hash.specs.Table.{Numbers, IsInRange, root_cell};
+ghost use Rattle.sg_hash.specs.Steps.{numbers_in};
 ghost use Rattle.sg_ops.specs.Table.{Table};
 ghost use Rattle.sg_reach.specs.Fault.{CountsReach, IfBroken};
 ghost use Rattle.sg_reach.specs.Reached.{numbers_in as array_root};
 ghost use Rattle.sg_space.specs.Pages.{CanLook};
 ghost use Rattle.sg_space.specs.Units.{HasAt};
 ghost use Rattle.sg_space.specs.View.{OnlyReads};
-ghost use Rattle.sg_tables.specs.Trunk.{numbers_in, IsTrunkSheet, IsRootSheet, IsDirectory};
+ghost use Rattle.sg_tables.specs.Trunk.{IsTrunkSheet, IsRootSheet, IsDirectory};
 
-use sg_base::{PageNo, SlotView, read_u32, read_u64};
-use sg_linear::Extent;
+use sg_base::{PageNo, SlotView};
+use sg_hash::{Root, root_in};
 use sg_reach::{Numbers as ArrayNumbers, ReachFault};
 use sg_space::PageSpace;
 
@@ -19,40 +19,11 @@ const KIND: u8 = 5;
 
 const CELL: usize = 25;
 
-/// What the root's cell says: how far the table has grown, how many entries it has, how many bytes these
-/// have, and the peak of these bytes.
-#[derive(Clone, Copy)]
-pub struct Root {
-    pub extent: Extent,
-    pub entries: u32,
-    pub bytes: u64,
-    pub peak: u64,
-}
-
 /// What the root's page says: its numbers, and where its directory is.
 #[derive(Clone, Copy)]
 pub struct Trunk {
     pub root: Root,
     pub directory: PageNo,
-}
-
-// The numbers that the root's cell spells, if they are in their ranges.
-fn root_in(cell: &[u8]) -> Option<Root>
-    requires { length cell.now ≡ 25 }
-    ensures found { IfSome result (λ r. cell.now ≡ root_cell (numbers_in r)) }
-    ensures fits { IfSome result (λ r. IsInRange (numbers_in r)) }
-    ensures all { (n : Numbers) → IsInRange n → cell.now ≡ root_cell n → IsSome result }
-{
-    let extent = Extent::new(cell[0], read_u32(&cell[1..]))?;
-    let entries = read_u32(&cell[5..]);
-    let bytes = read_u64(&cell[9..]);
-    let peak = read_u64(&cell[17..]);
-    Some(Root {
-        extent,
-        entries,
-        bytes,
-        peak,
-    })
 }
 
 // What a page says, if it is the root of a table and says nothing else.

@@ -13,7 +13,12 @@ use sg_reach::{ReachFault, reach_array, read_numbers, set_page};
 use sg_space::PageSpace;
 
 /// Sets the pages of the table whose root page `from` names: its root, those of its directory and those of its
-/// buckets. It is looked that they are a table's, of which no key is empty.
+/// buckets. It is looked that they are a table's, of which no key is empty: the directory is an array of one name for
+/// each bucket, each entry is in the bucket of its key, each key stands once, and the root counts entries and bytes.
+///
+/// An error is the space's own, or `Broken`: with the root where its page or a count is wrong, with the directory where
+/// that is none for such a table, and else with a page that is wrong or names a page that can't be set. Some pages
+/// may be set then.
 pub fn reach_table<P: PageSpace>(
     space: &mut P,
     from: PageNo,

@@ -13,8 +13,8 @@ use sg_reach::{ReachFault, reach_array};
 use sg_space::PageSpace;
 use sg_tables::reach_table;
 
-/// Sets the pages and bands of the object of this kind whose root page `from` names. It is looked that they are
-/// such an object's.
+/// Sets the pages and bands of the object of this kind whose root page `from` names. It is looked that they are such an
+/// object's. Errors are those of the walk over its kind.
 pub fn reach_body<P: PageSpace>(
     space: &mut P,
     from: PageNo,

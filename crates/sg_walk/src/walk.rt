@@ -73,6 +73,9 @@ fn reach_rows<P: PageSpace>(
 /// Sets the pages and bands that the objects of a space reach, page 0 aside, which is set already: those of the
 /// catalogue, and those of each array, table and blob that it names, tombstones' too. It is looked that they are
 /// theirs. The marks, which are clear, are the caller's, for the names: the more there are the fewer names are counted.
+///
+/// An error is the space's own, or `Broken` with a page that is wrong, names what can't be set, or has a name or a
+/// key twice. Some pages and bands may be set then.
 pub fn reach<P: PageSpace>(
     space: &mut P,
     into: &mut Maps,

@@ -1,4 +1,4 @@
-use Rattle.std.proofs.Common.{◌≡◌, arith}
+use Rattle.std.proofs.Common.{◌≡◌, ◌∙◌, arith}
 use Rattle.sg_space.proofs.Known.{before}
 use Rattle.sg_space.specs.Units.{HasAt}
 use Rattle.sg_space.specs.View.{Space}
@@ -25,6 +25,7 @@ pages-preserved g c =
           (t.0, counts_more c.args.key.now c.pages.n c.in_ok-found.found.count b c.pages.counter h (omega arith) q t.1));
       few = omega arith;
       later = λ t. g.met.P.PageSpace.later_then t _ _ _ (c.pages.invariant.later t) (c.tally_page.ensures.later t);
+      quiet = c.in_ok-found.ensures.counts.quiet ∙ c.pages.invariant.quiet;
       means = λ t m. c.tally_page.ensures.means t (c.pages.invariant.means t m);
     }
 

@@ -81,3 +81,6 @@ returns-clause-reached g c = λ shows.
     let zero_next : c.pages.next.0 ≡ 0 = grind (arith, nat_tests, c.ne.ensures, c.if-ne.false) in
     walks_names (g.P.PageSpace.view c.args.space.now).space.pages.at c.in_ok-first.first c.args.into.now.pages c.pages.into.pages (c.in_ok-first.ensures.read shows) (walk_end c.pages.counter ((c.in_ok-first.first.peak - 1) / 79) i.0 same shows)
     (subst (λ (n : ℕ). later_no (g.P.PageSpace.view c.args.space.now).space.pages.at n ≡ 0) same (i.2 shows ∙ zero_next))
+
+pub returns-in_err-seen-clause-later : goal.returns-in_err-seen-clause-later
+returns-in_err-seen-clause-later g c = λ t. g.met.P.PageSpace.later_then t _ _ _ (c.pages.invariant.later t) (c.look-in-pages.ensures.later t)

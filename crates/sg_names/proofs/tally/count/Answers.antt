@@ -1,4 +1,4 @@
-use Rattle.std.proofs.Common.{◌≡◌, arith, rules}
+use Rattle.std.proofs.Common.{◌≡◌, ◌∙◌, arith, rules}
 use Rattle.sg_space.proofs.Known.{before}
 use Rattle.sg_space.specs.Units.{HasAt}
 use Rattle.sg_space.specs.View.{Space}
@@ -26,5 +26,6 @@ pages-preserved g c = record {
         (t.0, counts_more c.args.what.now c.pages.n c.in_ok-found.found.count cat c.pages.counter q t.1)),
      omega arith);
   later = λ t. g.met.P.PageSpace.later_then t _ _ _ (c.pages.invariant.later t) (c.tally_page.ensures.later t);
+  quiet = c.in_ok-found.ensures.counts.quiet ∙ c.pages.invariant.quiet;
   means = λ t m. c.tally_page.ensures.means t (c.pages.invariant.means t m);
 }
