@@ -62,3 +62,12 @@ returns-clause-read g c = λ shows b h j at slot.
     let end = c.loop-slot.auto.slot-end in
     let long = (slots_here b j c.args.p.0 h at (c.in_ok-outline.ensures.read shows)).0 in
     once_page b j c.loop-slot.slot (omega (arith, long, test, end)) (i.so shows b h j at) slot
+
+pub returns-in_err-n-clause-later : goal.returns-in_err-n-clause-later
+returns-in_err-n-clause-later g c = λ t. g.met.P.PageSpace.later_then t _ _ _ (c.loop-slot.invariant.later t) (c.key_at.ensures.later t)
+
+pub returns-in_err-count-clause-later : goal.returns-in_err-count-clause-later
+returns-in_err-count-clause-later g c = λ t. g.met.P.PageSpace.later_then t _ _ _ (c.loop-slot.invariant.later t) (g.met.P.PageSpace.later_then t _ _ _ (c.key_at.ensures.later t) (c.count.ensures.later t))
+
+pub returns-then-branch-gt1-clause-later : goal.returns-then-branch-gt1-clause-later
+returns-then-branch-gt1-clause-later g c = λ t. g.met.P.PageSpace.later_then t _ _ _ (c.loop-slot.invariant.later t) (g.met.P.PageSpace.later_then t _ _ _ (c.key_at.ensures.later t) (c.count.ensures.later t))

@@ -45,3 +45,6 @@ loop-i-preserved g c =
       later = λ t. g.met.P.PageSpace.later_then t _ _ _ (c.loop-i.invariant.later t) (c.reach_bucket.ensures.later t);
       means = λ t m. c.reach_bucket.ensures.means t (c.loop-i.invariant.means t m);
     }
+
+pub returns-in_err-chain-clause-later : goal.returns-in_err-chain-clause-later
+returns-in_err-chain-clause-later g c = λ t. g.met.P.PageSpace.later_then t _ _ _ (c.loop-i.invariant.later t) (c.reach_bucket.ensures.later t)

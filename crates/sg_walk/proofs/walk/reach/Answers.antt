@@ -114,3 +114,8 @@ pages-init g c = record {
   means = c.reach_names.ensures.means;
 }
 
+pub returns-in_err-reach_rows-clause-later : goal.returns-in_err-reach_rows-clause-later
+returns-in_err-reach_rows-clause-later g c = λ t. g.met.P.PageSpace.later_then t _ _ _ (c.pages.invariant.later t) (c.reach_rows.ensures.later t)
+
+pub returns-in_err-found-clause-later : goal.returns-in_err-found-clause-later
+returns-in_err-found-clause-later g c = λ t. g.met.P.PageSpace.later_then t _ _ _ (c.pages.invariant.later t) (g.met.P.PageSpace.later_then t _ _ _ (c.reach_rows.ensures.later t) (c.tally_page.ensures.later t))
