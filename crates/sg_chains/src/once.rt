@@ -8,14 +8,19 @@ ghost use Rattle.sg_reach.specs.Fault.{CountsReach, IfBroken};
 ghost use Rattle.sg_space.specs.Pages.{CanLook};
 ghost use Rattle.sg_space.specs.View.{OnlyReads};
 
-use sg_bucket::MOST_KEY;
 use crate::tally::{count, key_at, outline_of};
 use sg_base::PageNo;
+use sg_bucket::MOST_KEY;
 use sg_reach::ReachFault;
 use sg_space::PageSpace;
 
 // Looks that the key of each entry on a page is that of no other. Answers which page follows.
-fn check_page<P: PageSpace>(space: &mut P, first: PageNo, pages: u32, p: PageNo) -> Result<PageNo, ReachFault>
+fn check_page<P: PageSpace>(
+    space: &mut P,
+    first: PageNo,
+    pages: u32,
+    p: PageNo,
+) -> Result<PageNo, ReachFault>
     requires chain { HasChain (P.view space.old) first.0 pages }
     requires there { CanLook (P.view space.old) (P.view space.old).space.pages p.0 }
     ensures counts { CountsReach (P.view space.old) (P.view space.new) result }

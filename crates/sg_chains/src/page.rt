@@ -10,8 +10,8 @@ ghost use Rattle.sg_space.specs.Pages.{CanLook};
 ghost use Rattle.sg_space.specs.Units.{HasAt};
 ghost use Rattle.sg_space.specs.View.{OnlyReads};
 
-use sg_bucket::{is_entry, key_in};
 use sg_base::{PageNo, SlotView};
+use sg_bucket::{is_entry, key_in};
 use sg_linear::Address;
 use sg_reach::ReachFault;
 use sg_space::PageSpace;

@@ -9,8 +9,8 @@ ghost use Rattle.sg_space.specs.Pages.{CanLook};
 ghost use Rattle.sg_space.specs.Units.{HasAt};
 ghost use Rattle.sg_space.specs.View.{Counts, OnlyReads};
 
-use sg_bucket::{MOST_KEY, is_entry, key_in};
 use sg_base::{PageNo, SlotView};
+use sg_bucket::{MOST_KEY, is_entry, key_in};
 use sg_space::{PageSpace, SpaceFault};
 
 /// How many entries of a page have a key, and which page follows, 0 for none.
@@ -101,7 +101,12 @@ fn key_on(view: &SlotView<'_>, slot: u16, into: &mut [u8]) -> Option<usize>
 }
 
 /// Copies the key of the entry in a slot to the front of the buffer, if there is one, and says how long it is.
-pub fn key_at<P: PageSpace>(space: &mut P, p: PageNo, slot: u16, into: &mut [u8]) -> Result<Option<usize>, SpaceFault>
+pub fn key_at<P: PageSpace>(
+    space: &mut P,
+    p: PageNo,
+    slot: u16,
+    into: &mut [u8],
+) -> Result<Option<usize>, SpaceFault>
     requires room { 128 ≤ length into.old }
     requires there { CanLook (P.view space.old) (P.view space.old).space.pages p.0 }
     ensures counts { Counts (P.view space.old) (P.view space.new) result }
@@ -117,7 +122,12 @@ pub fn key_at<P: PageSpace>(space: &mut P, p: PageNo, slot: u16, into: &mut [u8]
 }
 
 /// How many entries have a key, on all pages of a chain, of which there are so many.
-pub fn count<P: PageSpace>(space: &mut P, first: PageNo, pages: u32, key: &[u8]) -> Result<u64, SpaceFault>
+pub fn count<P: PageSpace>(
+    space: &mut P,
+    first: PageNo,
+    pages: u32,
+    key: &[u8],
+) -> Result<u64, SpaceFault>
     requires { HasChain (P.view space.old) first.0 pages }
     ensures counts { Counts (P.view space.old) (P.view space.new) result }
     ensures kept { OnOk result (OnlyReads (P.view space.old) (P.view space.new)) }

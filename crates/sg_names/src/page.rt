@@ -16,6 +16,7 @@ use sg_reach::ReachFault;
 use sg_space::PageSpace;
 
 const KIND: u8 = 1;
+
 const MOST_SLOTS: u16 = 79;
 
 /// What a page of the catalogue says beside its rows: the page that follows, 0 for none, and on page 0 the

@@ -59,7 +59,11 @@ fn count_on(view: &SlotView<'_>, what: &Counted) -> u64
 }
 
 /// How many rows of a page count, and which page follows.
-pub fn tally_page<P: PageSpace>(space: &mut P, p: PageNo, what: &Counted) -> Result<Tally, SpaceFault>
+pub fn tally_page<P: PageSpace>(
+    space: &mut P,
+    p: PageNo,
+    what: &Counted,
+) -> Result<Tally, SpaceFault>
     requires { CanLook (P.view space.old) (P.view space.old).space.pages p.0 }
     ensures counts { Counts (P.view space.old) (P.view space.new) result }
     ensures kept { OnOk result (OnlyReads (P.view space.old) (P.view space.new)) }
@@ -91,7 +95,11 @@ fn name_on(view: &SlotView<'_>, slot: u16) -> Option<Name>
 }
 
 /// The name of the object in a slot, if there is one.
-pub fn name_at<P: PageSpace>(space: &mut P, p: PageNo, slot: u16) -> Result<Option<Name>, SpaceFault>
+pub fn name_at<P: PageSpace>(
+    space: &mut P,
+    p: PageNo,
+    slot: u16,
+) -> Result<Option<Name>, SpaceFault>
     requires { CanLook (P.view space.old) (P.view space.old).space.pages p.0 }
     ensures counts { Counts (P.view space.old) (P.view space.new) result }
     ensures kept { OnOk result (OnlyReads (P.view space.old) (P.view space.new)) }

@@ -21,7 +21,9 @@ use sg_base::{PageNo, SlotView, read_u16, read_u32};
 use sg_space::PageSpace;
 
 const ROOT_KIND: u8 = 2;
+
 const INDEX_KIND: u8 = 3;
+
 const LEAF_KIND: u8 = 4;
 
 // The most items.

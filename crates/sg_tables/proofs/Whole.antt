@@ -131,9 +131,10 @@ module _ {at : ℕ → Option Sheet} {root : ℕ} {t : Trunk} {taken : List Bool
   unfolding may_buckets
   sums_are {mid} {more} {new} {entries} {bytes} set r found =
       let f = found (k.table).names names_there k.is.table.built.trunk.size in
-      let same : (k.table).buckets ≡ f.buckets = all_buckets (may_buckets set r) f in
-      (f.entries_are ∙ (ap (λ (bs : List Bucket). length (all_entries bs)) (sym same) ∙ ap (λ (n : Numbers). n.entries) k.numbers),
-       f.bytes_are ∙ (ap (λ (bs : List Bucket). sum_by entry_size (all_entries bs)) (sym same) ∙ ap (λ (n : Numbers). n.bytes) k.numbers))
+      let same : (k.table).buckets ≡ f.buckets = all_buckets (may_buckets set r) f in (
+        f.entries_are ∙ (ap (λ (bs : List Bucket). length (all_entries bs)) (sym same) ∙ ap (λ (n : Numbers). n.entries) k.numbers),
+        f.bytes_are ∙ (ap (λ (bs : List Bucket). sum_by entry_size (all_entries bs)) (sym same) ∙ ap (λ (n : Numbers). n.bytes) k.numbers),
+      )
 
 -- THE PARTS ARE A TABLE'S
 abbrev pub table_of : Trunk → Array → List Bucket → HashTable

@@ -93,7 +93,12 @@ impl Trial {
     }
 
     // Copies a cell, if there is one, and says how long it is.
-    fn cell(&mut self, page: PageNo, slot: u16, into: &mut [u8; 1_200]) -> Result<Option<usize>, SpaceFault> {
+    fn cell(
+        &mut self,
+        page: PageNo,
+        slot: u16,
+        into: &mut [u8; 1_200],
+    ) -> Result<Option<usize>, SpaceFault> {
         let view = self.space.page(page)?;
         let Some(cell) = view.slot(slot) else {
             return Ok(None);
@@ -158,14 +163,38 @@ fn a_damaged_array_is_broken(rt: HostRuntime) -> Result<(), Fail> {
     let index = trial.number(root, 1)?;
     let first = trial.number(index, 0)?;
     let last = trial.number(index, 1)?;
-    trial.spoil(index, &PageOp::Set { slot: 1, bytes: &first.0.to_le_bytes() })?;
+    trial.spoil(
+        index,
+        &PageOp::Set {
+            slot: 1,
+            bytes: &first.0.to_le_bytes(),
+        },
+    )?;
     assert_eq!(rt; trial.walk()?, Walked::Broken(first.0));
-    trial.spoil(index, &PageOp::Set { slot: 1, bytes: &last.0.to_le_bytes() })?;
-    trial.spoil(last, &PageOp::Put { slot: 1, bytes: &[7; 256] })?;
+    trial.spoil(
+        index,
+        &PageOp::Set {
+            slot: 1,
+            bytes: &last.0.to_le_bytes(),
+        },
+    )?;
+    trial.spoil(
+        last,
+        &PageOp::Put {
+            slot: 1,
+            bytes: &[7; 256],
+        },
+    )?;
     assert_eq!(rt; trial.walk()?, Walked::Broken(last.0));
     trial.spoil(last, &PageOp::Remove { slot: 1 })?;
     assert_eq!(rt; trial.walk()?, Walked::Reached(4, 0));
-    trial.spoil(root, &PageOp::Set { slot: 0, bytes: &[0, 1, 16, 0, 0, 0, 15, 0, 0, 0] })?;
+    trial.spoil(
+        root,
+        &PageOp::Set {
+            slot: 0,
+            bytes: &[0, 1, 16, 0, 0, 0, 15, 0, 0, 0],
+        },
+    )?;
     assert_eq!(rt; trial.walk()?, Walked::Broken(root.0));
     Ok(())
 }
@@ -178,7 +207,13 @@ fn a_damaged_catalogue_is_broken(rt: HostRuntime) -> Result<(), Fail> {
     let root = trial.add_array(b"a")?;
     let blob = trial.add_blob(b"b")?;
     let count = trial.cell(PageNo(0), 0, &mut row)?.ok_or("no row")?;
-    trial.spoil(PageNo(0), &PageOp::Set { slot: 1, bytes: &row[..count] })?;
+    trial.spoil(
+        PageNo(0),
+        &PageOp::Set {
+            slot: 1,
+            bytes: &row[..count],
+        },
+    )?;
     assert_eq!(rt; trial.walk()?, Walked::Broken(0));
     trial.spoil(PageNo(0), &PageOp::Remove { slot: 1 })?;
     trial.add(b"b", ObjectKind::Array, blob)?;
@@ -221,19 +256,41 @@ fn a_damaged_root_of_a_table_is_broken(rt: HostRuntime) -> Result<(), Fail> {
     assert_eq!(rt; trial.walk()?, Walked::Broken(root.0));
     trial.spoil(root, &PageOp::Links { a: directory, b: 0 })?;
     trial.cell(root, 0, &mut cell)?;
-    for (place, lie, answer) in [(5, 2, Walked::Broken(root.0)), (9, 0, Walked::Broken(root.0)), (5, 3, Walked::Reached(6, 0))] {
+    for (place, lie, answer) in [
+        (5, 2, Walked::Broken(root.0)),
+        (9, 0, Walked::Broken(root.0)),
+        (5, 3, Walked::Reached(6, 0)),
+    ] {
         let right = cell[place];
         cell[place] = lie;
-        trial.spoil(root, &PageOp::Set { slot: 0, bytes: &cell[..25] })?;
+        trial.spoil(
+            root,
+            &PageOp::Set {
+                slot: 0,
+                bytes: &cell[..25],
+            },
+        )?;
         cell[place] = right;
         assert_eq!(rt; trial.walk()?, answer);
     }
     cell[17] = 0;
     cell[18] = 8;
-    trial.spoil(root, &PageOp::Set { slot: 0, bytes: &cell[..25] })?;
+    trial.spoil(
+        root,
+        &PageOp::Set {
+            slot: 0,
+            bytes: &cell[..25],
+        },
+    )?;
     assert_eq!(rt; trial.walk()?, Walked::Broken(directory));
     cell[17] = 1;
-    trial.spoil(root, &PageOp::Set { slot: 0, bytes: &cell[..25] })?;
+    trial.spoil(
+        root,
+        &PageOp::Set {
+            slot: 0,
+            bytes: &cell[..25],
+        },
+    )?;
     assert_eq!(rt; trial.walk()?, Walked::Reached(6, 0));
     Ok(())
 }
@@ -255,15 +312,31 @@ fn a_damaged_bucket_is_broken(rt: HostRuntime) -> Result<(), Fail> {
     let mut cell = [0; 1_200];
     let root = trial.add_table(b"t", 3)?;
     let (first, second) = buckets(&mut trial, root)?;
-    let (from, to) = if trial.cell(first, 0, &mut cell)?.is_some() { (first, second) } else { (second, first) };
+    let (from, to) = if trial.cell(first, 0, &mut cell)?.is_some() {
+        (first, second)
+    } else {
+        (second, first)
+    };
     let count = trial.cell(from, 0, &mut cell)?.ok_or("no entry")?;
     let free = trial.slots(to)?;
-    trial.spoil(to, &PageOp::Put { slot: free, bytes: &cell[..count] })?;
+    trial.spoil(
+        to,
+        &PageOp::Put {
+            slot: free,
+            bytes: &cell[..count],
+        },
+    )?;
     assert_eq!(rt; trial.walk()?, Walked::Broken(to.0));
     trial.spoil(to, &PageOp::Remove { slot: free })?;
     assert_eq!(rt; trial.walk()?, Walked::Reached(6, 0));
     let free = trial.slots(from)?;
-    trial.spoil(from, &PageOp::Put { slot: free, bytes: &cell[..count] })?;
+    trial.spoil(
+        from,
+        &PageOp::Put {
+            slot: free,
+            bytes: &cell[..count],
+        },
+    )?;
     assert_eq!(rt; trial.walk()?, Walked::Broken(from.0));
     trial.spoil(from, &PageOp::Remove { slot: free })?;
     trial.spoil(from, &PageOp::Links { a: from.0, b: 0 })?;

@@ -80,7 +80,7 @@ reaches_then {s} {old} {mid} {new} xs ys a b =
       bodies = a.bodies ++ b.bodies;
       are = are_both s xs ys a.bodies b.bodies a.are b.are;
       set = subst (λ (ns : List ℕ). AreSetBoth old new ns (all_bands (a.bodies ++ b.bodies))) (sym (pages_both s xs ys a.bodies b.bodies a.are))
-        (subst (AreSetBoth old new (all_pages xs a.bodies ++ all_pages ys b.bodies)) (sym (bands_both a.bodies b.bodies)) set);
+          (subst (AreSetBoth old new (all_pages xs a.bodies ++ all_pages ys b.bodies)) (sym (bands_both a.bodies b.bodies)) set);
     }
 
 pub reaches_row : {s : Space} {old new : Maps} (row : Row) → ReachesBody s row.kind row.root.0 old new → ReachesRows s old new (row ∷ [])
@@ -88,7 +88,7 @@ reaches_row {s} {old} {new} row h = record {
   bodies = h.body ∷ [];
   are = (h.is, tt);
   set = subst (λ (ns : List ℕ). AreSetBoth old new ns (body_bands h.body ++ [])) (sym (append-nil (body_pages row.root.0 h.body)))
-    (subst (AreSetBoth old new (body_pages row.root.0 h.body)) (sym (append-nil (body_bands h.body))) h.set);
+      (subst (AreSetBoth old new (body_pages row.root.0 h.body)) (sym (append-nil (body_bands h.body))) h.set);
 }
 
 both_lists : (s : Space) (taken : Maps) (xs ys : List Row) (ds bs : List Body) → AreBodies s xs ds → CanSetBoth taken (all_pages (xs ++ ys) (ds ++ bs)) (all_bands (ds ++ bs)) → CanSetBoth taken (all_pages xs ds ++ all_pages ys bs) (all_bands ds ++ all_bands bs)

@@ -50,11 +50,12 @@ root_in s (x ∷ xs) (b ∷ bs) row h a = elim a [
 pub roots_apart : (s : Space) (xs : List Row) (bs : List Body) (taken : List Bool) → AreBodies s xs bs → CanSet taken (all_pages xs bs) → AreApart xs
 roots_apart s [] bs taken h can = tt
 roots_apart s (x ∷ xs) [] taken h can = absurd h
-roots_apart s (x ∷ xs) (b ∷ bs) taken h can =
-    (λ row a e.
-        let k = root_in s xs bs row h.1 a in
-        never (body_pages x.root.0 b) (all_pages xs bs) can 0 k.0 x.root.0 (first_root x.root.0 b) (k.1 ∙ ap (λ (n : ℕ). Some n) e),
-     roots_apart s xs bs taken h.1 (rest_apart (body_pages x.root.0 b) (all_pages xs bs) can))
+roots_apart s (x ∷ xs) (b ∷ bs) taken h can = (
+  λ row a e.
+      let k = root_in s xs bs row h.1 a in
+      never (body_pages x.root.0 b) (all_pages xs bs) can 0 k.0 x.root.0 (first_root x.root.0 b) (k.1 ∙ ap (λ (n : ℕ). Some n) e),
+  roots_apart s xs bs taken h.1 (rest_apart (body_pages x.root.0 b) (all_pages xs bs) can),
+)
 
 -- functions that say the same at the roots
 same_on : (xs : List Row) (f g : ℕ → Body) → ((row : Row) → IsAmong xs row → f row.root.0 ≡ g row.root.0) → map (λ (row : Row). f row.root.0) xs ≡ map (λ (row : Row). g row.root.0) xs
@@ -83,8 +84,8 @@ bodies_named s (x ∷ xs) [] h apart = absurd h
 bodies_named s (x ∷ xs) (b ∷ bs) h apart =
     ap (λ (c : Body). c ∷ map (λ (row : Row). body_at (x ∷ xs) (b ∷ bs) row.root.0) xs) (ap (λ (t : Bool). cond t b (body_at xs bs x.root.0)) (is_same x.root.0))
     ∙ ap (λ (cs : List Body). b ∷ cs)
-      (same_on xs (body_at (x ∷ xs) (b ∷ bs)) (body_at xs bs) (λ row a. ap (λ (t : Bool). cond t b (body_at xs bs row.root.0)) (is_other x.root.0 row.root.0 (λ e. apart.0 row a (sym e))))
-      ∙ bodies_named s xs bs h.1 apart.1)
+    (same_on xs (body_at (x ∷ xs) (b ∷ bs)) (body_at xs bs) (λ row a. ap (λ (t : Bool). cond t b (body_at xs bs row.root.0)) (is_other x.root.0 row.root.0 (λ e. apart.0 row a (sym e))))
+    ∙ bodies_named s xs bs h.1 apart.1)
 
 pub named_so : (s : Space) (c : Catalog) (bs : List Body) (taken : List Bool) → AreBodies s (rows c) bs → CanSet taken (all_pages (rows c) bs) → bodies_of (contents_for c bs) ≡ bs
 named_so s c bs taken h can = bodies_named s (rows c) bs h (roots_apart s (rows c) bs taken h can)

@@ -155,11 +155,11 @@ array_once {at} {root} a h =
     both_once (root ∷ []) (a.index ++ a.leaves) (one_once root)
     (both_once a.index a.leaves h.built.names.index_pages.apart h.built.names.leaf_pages.apart (λ i j n e f. other_kinds (index_kind h i n e) (leaf_kind h j n f) (omega arith)))
     (λ i j n e f.
-        let mine : HasKind at n 2 = subst (λ (x : ℕ). HasKind at x 2) (sym ((one_is root n i e).1)) (root_kind h) in
-        elim (in_both a.index a.leaves j n f) [
-          | inl k ↦ other_kinds mine (index_kind h j n k.1) (omega arith)
-          | inr k ↦ other_kinds mine (leaf_kind h k.0 n k.2) (omega arith)
-        ])
+    let mine : HasKind at n 2 = subst (λ (x : ℕ). HasKind at x 2) (sym ((one_is root n i e).1)) (root_kind h) in
+    elim (in_both a.index a.leaves j n f) [
+      | inl k ↦ other_kinds mine (index_kind h j n k.1) (omega arith)
+      | inr k ↦ other_kinds mine (leaf_kind h k.0 n k.2) (omega arith)
+    ])
 
 chains_once : (bs : List Bucket) → ((i : ℕ) (b : Bucket) → slice_get bs i ≡ Some b → IsOnceEach b.pages) → table.AreApart bs → IsOnceEach (chains bs)
 chains_once [] each apart = none_twice
@@ -167,22 +167,22 @@ chains_once (b ∷ bs) each apart =
     both_once b.pages (chains bs) (each 0 b refl)
     (chains_once bs (λ i c e. each (suc i) c e) (λ i j c d p e f o q. let same : suc i ≡ suc j = apart (suc i) (suc j) c d p e f o q in omega arith))
     (λ i j n e f.
-        let r = chains_owned bs j n f in
-        let same : 0 ≡ suc r.index = apart 0 (suc r.index) b r.bucket n refl r.is (i, e) r.owns in
-        omega arith)
+    let r = chains_owned bs j n f in
+    let same : 0 ≡ suc r.index = apart 0 (suc r.index) b r.bucket n refl r.is (i, e) r.owns in
+    omega arith)
 
 table_once : {at : ℕ → Option Sheet} {root : ℕ} (t : HashTable) → IsHashTable at root t → IsOnceEach (table_pages root t)
 table_once {at} {root} t h =
     both_once (root ∷ []) (array_pages t.directory t.names ++ chains t.buckets) (one_once root)
     (both_once (array_pages t.directory t.names) (chains t.buckets) (array_once t.names names)
-        (chains_once t.buckets (λ i b e. (h.built.bucket i b e).linked.apart) h.built.apart)
-        (λ i j n e f. not_array n (bucket_there t n h (chains_owned t.buckets j n f)) (array_owned t.directory t.names i n e) (omega arith) (omega arith) (omega arith)))
+    (chains_once t.buckets (λ i b e. (h.built.bucket i b e).linked.apart) h.built.apart)
+    (λ i j n e f. not_array n (bucket_there t n h (chains_owned t.buckets j n f)) (array_owned t.directory t.names i n e) (omega arith) (omega arith) (omega arith)))
     (λ i j n e f.
-        let mine : HasKind at n 5 = subst (λ (x : ℕ). HasKind at x 5) (sym ((one_is root n i e).1)) (record { what = _; is = h.built.trunk.first; has = refl }) in
-        elim (in_both (array_pages t.directory t.names) (chains t.buckets) j n f) [
-          | inl k ↦ not_array n mine (array_owned t.directory t.names j n k.1) (omega arith) (omega arith) (omega arith)
-          | inr k ↦ other_kinds mine (bucket_there t n h (chains_owned t.buckets k.0 n k.2)) (omega arith)
-        ])
+    let mine : HasKind at n 5 = subst (λ (x : ℕ). HasKind at x 5) (sym ((one_is root n i e).1)) (record { what = _; is = h.built.trunk.first; has = refl }) in
+    elim (in_both (array_pages t.directory t.names) (chains t.buckets) j n f) [
+      | inl k ↦ not_array n mine (array_owned t.directory t.names j n k.1) (omega arith) (omega arith) (omega arith)
+      | inr k ↦ other_kinds mine (bucket_there t n h (chains_owned t.buckets k.0 n k.2)) (omega arith)
+    ])
   where
     names : IsArray at t.directory t.names
     names = h.built.trunk.names
@@ -259,8 +259,8 @@ joined_once g (x ∷ xs) each few apart =
     both_once (g x) (joined g xs) (each x (inl refl))
     (joined_once g xs (λ row a. each row (inr a)) (λ root. fewer_rows root x xs (few root)) (λ row other a b. apart row other (inr a) (inr b)))
     (λ i j n e f.
-        let r = joined_from g xs j n f in
-        apart x r.0 (inl refl) (inr r.1) (λ same. others_apart x xs r.0 (few x.root.0) r.1 (sym same)) i r.2.0 n e r.2.1)
+    let r = joined_from g xs j n f in
+    apart x r.0 (inl refl) (inr r.1) (λ same. others_apart x xs r.0 (few x.root.0) r.1 (sym same)) i r.2.0 n e r.2.1)
 
 -- WHAT HOLDS THE OBJECTS MAY BE REACHED
 are_bodies : (space : Space) (f : ℕ → Body) (xs : List Row) → ((row : Row) → IsAmong xs row → IsBody space row.kind row.root.0 (f row.root.0)) → AreBodies space xs (map (λ (row : Row). f row.root.0) xs)

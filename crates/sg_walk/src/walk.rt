@@ -19,6 +19,7 @@ use sg_reach::ReachFault;
 use sg_space::{PageSpace, SpaceFault};
 
 const FIRST: PageNo = PageNo(0);
+
 const SLOTS: u16 = 79;
 
 // The row in a slot, if one is spelled there.

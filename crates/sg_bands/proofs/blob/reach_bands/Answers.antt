@@ -27,8 +27,8 @@ check_band-requires g c = λ told.
     let test = c.loop-j-test.true in
     let count = c.bands-j-end.ensures.bands in
     let at : (g.P.PageSpace.view c.args.space.now).Shows → band_no (g.P.PageSpace.view c.args.space.now).space.pages.at c.args.root.0 c.loop-j.j ≡ c.in_ok-band.band.0 = λ shows.
-        let read = before (λ (s : Space). HasAt s.pages.at c.args.root.0 (HasCell 7 (c.loop-j.j + 1) (little_bytes 4 c.in_ok-band.band.0))) i.kept shows (c.in_ok-band.ensures.read (i.kept.shows shows)) in
-        link_read (g.P.PageSpace.view c.args.space.now).space.pages.at c.args.root.0 7 (c.loop-j.j + 1) c.in_ok-band.band.0 read c.in_ok-band.ensures.small in
+    let read = before (λ (s : Space). HasAt s.pages.at c.args.root.0 (HasCell 7 (c.loop-j.j + 1) (little_bytes 4 c.in_ok-band.band.0))) i.kept shows (c.in_ok-band.ensures.read (i.kept.shows shows)) in
+    link_read (g.P.PageSpace.view c.args.space.now).space.pages.at c.args.root.0 7 (c.loop-j.j + 1) c.in_ok-band.band.0 read c.in_ok-band.ensures.small in
     let kept = reads_then i.kept c.in_ok-band.ensures.kept in
     let back = i.told (c.link_at.ensures.counts.told told) in
     let shows = g.met.P.PageSpace.told_shows _ back in
@@ -43,11 +43,11 @@ returns-in_err-set_band-clause-broken g c =
     let test = c.loop-j-test.true in
     let count = c.bands-j-end.ensures.bands in
     let at : (g.P.PageSpace.view c.args.space.now).Shows → band_no (g.P.PageSpace.view c.args.space.now).space.pages.at c.args.root.0 c.loop-j.j ≡ c.in_ok-band.band.0 = λ shows.
-        let read = before (λ (s : Space). HasAt s.pages.at c.args.root.0 (HasCell 7 (c.loop-j.j + 1) (little_bytes 4 c.in_ok-band.band.0))) i.kept shows (c.in_ok-band.ensures.read (i.kept.shows shows)) in
-        link_read (g.P.PageSpace.view c.args.space.now).space.pages.at c.args.root.0 7 (c.loop-j.j + 1) c.in_ok-band.band.0 read c.in_ok-band.ensures.small in
+    let read = before (λ (s : Space). HasAt s.pages.at c.args.root.0 (HasCell 7 (c.loop-j.j + 1) (little_bytes 4 c.in_ok-band.band.0))) i.kept shows (c.in_ok-band.ensures.read (i.kept.shows shows)) in
+    link_read (g.P.PageSpace.view c.args.space.now).space.pages.at c.args.root.0 7 (c.loop-j.j + 1) c.in_ok-band.band.0 read c.in_ok-band.ensures.small in
     let p = err_from_is_err_and c.from_residual-in_err-set_band.result c.from_residual-in_err-set_band.ensures.1 in
     rw (p.1, p.2) (broken_by c.in_err-set_band.field-0.0 (λ no_more shows can.
-        no_more (walk_free (band_no (g.P.PageSpace.view c.args.space.now).space.pages.at c.args.root.0) c.in_ok-band.band.0 (band_count (numbers_in c.args.found)) i can.walk (omega arith) shows (at shows))) c.in_err-set_band.ensures.broken)
+    no_more (walk_free (band_no (g.P.PageSpace.view c.args.space.now).space.pages.at c.args.root.0) c.in_ok-band.band.0 (band_count (numbers_in c.args.found)) i can.walk (omega arith) shows (at shows))) c.in_err-set_band.ensures.broken)
 
 pub returns-in_err-check_band-clause-broken : goal.returns-in_err-check_band-clause-broken
 returns-in_err-check_band-clause-broken g c =
@@ -55,37 +55,38 @@ returns-in_err-check_band-clause-broken g c =
     let test = c.loop-j-test.true in
     let count = c.bands-j-end.ensures.bands in
     let at : (g.P.PageSpace.view c.args.space.now).Shows → band_no (g.P.PageSpace.view c.args.space.now).space.pages.at c.args.root.0 c.loop-j.j ≡ c.in_ok-band.band.0 = λ shows.
-        let read = before (λ (s : Space). HasAt s.pages.at c.args.root.0 (HasCell 7 (c.loop-j.j + 1) (little_bytes 4 c.in_ok-band.band.0))) i.kept shows (c.in_ok-band.ensures.read (i.kept.shows shows)) in
-        link_read (g.P.PageSpace.view c.args.space.now).space.pages.at c.args.root.0 7 (c.loop-j.j + 1) c.in_ok-band.band.0 read c.in_ok-band.ensures.small in
+    let read = before (λ (s : Space). HasAt s.pages.at c.args.root.0 (HasCell 7 (c.loop-j.j + 1) (little_bytes 4 c.in_ok-band.band.0))) i.kept shows (c.in_ok-band.ensures.read (i.kept.shows shows)) in
+    link_read (g.P.PageSpace.view c.args.space.now).space.pages.at c.args.root.0 7 (c.loop-j.j + 1) c.in_ok-band.band.0 read c.in_ok-band.ensures.small in
     let kept = reads_then i.kept c.in_ok-band.ensures.kept in
     let p = err_from_is_err_and c.from_residual-in_err-check_band.result c.from_residual-in_err-check_band.ensures.1 in
     rw (p.1, p.2) (broken_so c.in_err-check_band.field-0.0 (λ no_tail shows can.
-        let band = can.walk.is c.loop-j.j (omega arith) in
-        let there = subst (λ (n : ℕ). HasAt (g.P.PageSpace.view c.args.space.now).space.bands.at n (HasTail ((numbers_in c.args.found).count - BAND_SIZE * c.loop-j.j))) (at shows) band in
-        let now = still (λ (s : Space). HasAt s.bands.at c.in_ok-band.band.0 (HasTail ((numbers_in c.args.found).count - BAND_SIZE * c.loop-j.j))) kept shows there in
-        no_tail (kept.shows shows) (subst (λ (n : ℕ). HasAt (g.P.PageSpace.view c.link_at.new.space).space.bands.at c.in_ok-band.band.0 (HasTail n)) (sym c.tail_from.ensures) now)) c.in_err-check_band.ensures.broken)
+    let band = can.walk.is c.loop-j.j (omega arith) in
+    let there = subst (λ (n : ℕ). HasAt (g.P.PageSpace.view c.args.space.now).space.bands.at n (HasTail ((numbers_in c.args.found).count - BAND_SIZE * c.loop-j.j))) (at shows) band in
+    let now = still (λ (s : Space). HasAt s.bands.at c.in_ok-band.band.0 (HasTail ((numbers_in c.args.found).count - BAND_SIZE * c.loop-j.j))) kept shows there in
+    no_tail (kept.shows shows) (subst (λ (n : ℕ). HasAt (g.P.PageSpace.view c.link_at.new.space).space.bands.at c.in_ok-band.band.0 (HasTail n)) (sym c.tail_from.ensures) now)) c.in_err-check_band.ensures.broken)
 
 pub loop-j-preserved : goal.loop-j-preserved
 loop-j-preserved g c = record {
   so_far =
-    let i = c.loop-j.invariant.so_far.0 in
-    let test = c.loop-j-test.true in
-    let count = c.bands-j-end.ensures.bands in
-    let at : (g.P.PageSpace.view c.args.space.now).Shows → band_no (g.P.PageSpace.view c.args.space.now).space.pages.at c.args.root.0 c.loop-j.j ≡ c.in_ok-band.band.0 = λ shows.
-        let read = before (λ (s : Space). HasAt s.pages.at c.args.root.0 (HasCell 7 (c.loop-j.j + 1) (little_bytes 4 c.in_ok-band.band.0))) i.kept shows (c.in_ok-band.ensures.read (i.kept.shows shows)) in
-        link_read (g.P.PageSpace.view c.args.space.now).space.pages.at c.args.root.0 7 (c.loop-j.j + 1) c.in_ok-band.band.0 read c.in_ok-band.ensures.small in
-    let kept = reads_then i.kept c.in_ok-band.ensures.kept in
-    let first = c.link_at.ensures.counts in
-    let second = c.check_band.ensures.counts in
-    let one = first.later in
-    let two = second.later in
-    (walk_on (band_no (g.P.PageSpace.view c.args.space.now).space.pages.at c.args.root.0) c.in_ok-band.band.0 i (λ t. first.told (second.told t)) (omega arith) (reads_then c.in_ok-band.ensures.kept c.in_ok-check_band.ensures.kept) at c.in_ok-set_band.ensures.set
-        (λ shows.
+      let i = c.loop-j.invariant.so_far.0 in
+      let test = c.loop-j-test.true in
+      let count = c.bands-j-end.ensures.bands in
+      let at : (g.P.PageSpace.view c.args.space.now).Shows → band_no (g.P.PageSpace.view c.args.space.now).space.pages.at c.args.root.0 c.loop-j.j ≡ c.in_ok-band.band.0 = λ shows.
+      let read = before (λ (s : Space). HasAt s.pages.at c.args.root.0 (HasCell 7 (c.loop-j.j + 1) (little_bytes 4 c.in_ok-band.band.0))) i.kept shows (c.in_ok-band.ensures.read (i.kept.shows shows)) in
+      link_read (g.P.PageSpace.view c.args.space.now).space.pages.at c.args.root.0 7 (c.loop-j.j + 1) c.in_ok-band.band.0 read c.in_ok-band.ensures.small in
+      let kept = reads_then i.kept c.in_ok-band.ensures.kept in
+      let first = c.link_at.ensures.counts in
+      let second = c.check_band.ensures.counts in
+      let one = first.later in
+      let two = second.later in (
+        walk_on (band_no (g.P.PageSpace.view c.args.space.now).space.pages.at c.args.root.0) c.in_ok-band.band.0 i (λ t. first.told (second.told t)) (omega arith) (reads_then c.in_ok-band.ensures.kept c.in_ok-check_band.ensures.kept) at c.in_ok-set_band.ensures.set
+            (λ shows.
             let now = c.in_ok-check_band.ensures.read (kept.shows shows) in
             let tail = subst (λ (n : ℕ). HasAt (g.P.PageSpace.view c.link_at.new.space).space.bands.at c.in_ok-band.band.0 (HasTail n)) c.tail_from.ensures now in
             let then = before (λ (s : Space). HasAt s.bands.at c.in_ok-band.band.0 (HasTail ((numbers_in c.args.found).count - BAND_SIZE * c.loop-j.j))) kept shows tail in
             subst (λ (n : ℕ). HasAt (g.P.PageSpace.view c.args.space.now).space.bands.at n (HasTail ((numbers_in c.args.found).count - BAND_SIZE * c.loop-j.j))) (sym (at shows)) then),
-     search rules);
+        search rules,
+      );
   later = λ t. g.met.P.PageSpace.later_then t _ _ _ (c.loop-j.invariant.later t) (g.met.P.PageSpace.later_then t _ _ _ (c.link_at.ensures.later t) (c.check_band.ensures.later t));
   means = λ t m. c.check_band.ensures.means t (c.link_at.ensures.means t (c.loop-j.invariant.means t m));
 }

@@ -26,9 +26,9 @@ returns-in_err-check-clause-broken g c =
     let kept = c.in_ok-found.ensures.kept in
     let p = err_from_is_err_and c.from_residual-in_err-check.result c.from_residual-in_err-check.ensures.1 in
     rw (p.1, p.2) (broken_so c.in_err-check.field-0.0 (λ no_form shows can.
-        let w = whole_is (g.P.PageSpace.view c.args.space.now).space c.args.root.0 c.args.into.now.pages c.args.into.now.bands (numbers_in c.in_ok-found.found) can (in_range c.in_ok-found.found) (c.in_ok-found.ensures.read shows) in
-        let now = still (λ (s : Space). HasAt s.pages.at c.args.root.0 (HasForm (root_form (numbers_in c.in_ok-found.found)))) kept shows (w.parts.first.links) in
-        no_form (kept.shows shows) (subst (λ f. HasAt (g.P.PageSpace.view c.read_numbers.new.space).space.pages.at c.args.root.0 (HasForm f)) (sym c.root_form.ensures) now)) c.in_err-check.ensures.broken)
+    let w = whole_is (g.P.PageSpace.view c.args.space.now).space c.args.root.0 c.args.into.now.pages c.args.into.now.bands (numbers_in c.in_ok-found.found) can (in_range c.in_ok-found.found) (c.in_ok-found.ensures.read shows) in
+    let now = still (λ (s : Space). HasAt s.pages.at c.args.root.0 (HasForm (root_form (numbers_in c.in_ok-found.found)))) kept shows (w.parts.first.links) in
+    no_form (kept.shows shows) (subst (λ f. HasAt (g.P.PageSpace.view c.read_numbers.new.space).space.pages.at c.args.root.0 (HasForm f)) (sym c.root_form.ensures) now)) c.in_err-check.ensures.broken)
 
 pub reach_bands-requires : goal.reach_bands-requires
 reach_bands-requires g c = λ told.
@@ -44,9 +44,9 @@ returns-in_err-reach_bands-clause-broken g c =
     let kept = reads_then c.in_ok-found.ensures.kept c.in_ok-check.ensures.kept in
     let p = err_from_is_err_and c.from_residual-in_err-reach_bands.result c.from_residual-in_err-reach_bands.ensures.1 in
     rw (p.1, p.2) (broken_so c.in_err-reach_bands.field-0.0 (λ never shows can.
-        let w = whole_is (g.P.PageSpace.view c.args.space.now).space c.args.root.0 c.args.into.now.pages c.args.into.now.bands (numbers_in c.in_ok-found.found) can (in_range c.in_ok-found.found) (c.in_ok-found.ensures.read shows) in
-        never (kept.shows shows) (subst (λ (flags : List Bool). CanWalkBands (g.P.PageSpace.view c.check.new.space).space c.args.root.0 (numbers_in c.in_ok-found.found) flags) (sym c.set_page.ensures.bands)
-        (still (λ (s : Space). CanWalkBands s c.args.root.0 (numbers_in c.in_ok-found.found) c.args.into.now.bands) kept shows (may_walk (g.P.PageSpace.view c.args.space.now).space c.args.root.0 (numbers_in c.in_ok-found.found) c.args.into.now.bands w)))) c.in_err-reach_bands.ensures.broken)
+    let w = whole_is (g.P.PageSpace.view c.args.space.now).space c.args.root.0 c.args.into.now.pages c.args.into.now.bands (numbers_in c.in_ok-found.found) can (in_range c.in_ok-found.found) (c.in_ok-found.ensures.read shows) in
+    never (kept.shows shows) (subst (λ (flags : List Bool). CanWalkBands (g.P.PageSpace.view c.check.new.space).space c.args.root.0 (numbers_in c.in_ok-found.found) flags) (sym c.set_page.ensures.bands)
+    (still (λ (s : Space). CanWalkBands s c.args.root.0 (numbers_in c.in_ok-found.found) c.args.into.now.bands) kept shows (may_walk (g.P.PageSpace.view c.args.space.now).space c.args.root.0 (numbers_in c.in_ok-found.found) c.args.into.now.bands w)))) c.in_err-reach_bands.ensures.broken)
 
 pub returns-clause-reached : goal.returns-clause-reached
 returns-clause-reached g c = λ shows.

@@ -51,9 +51,9 @@ returns-in_err-set_page-2-clause-broken g c =
     let some : 0 < c.links.next.0 = omega arith in
     let p = err_from_is_err_and c.from_residual-in_err-set_page-2.result c.from_residual-in_err-set_page-2.ensures.1 in
     rw (p.1, p.2) (broken_by c.in_err-set_page-2.field-0.0 (λ no_more shows can.
-        let at = (c.links.invariant.passed shows).leads in
-        let below = goes_on can.bucket can.linked c.links.pages c.links.next.0 (λ k b s. ((i.walks shows).is k b).behind s) at (not_zero c.links.next.0 some) in
-        no_more (walk_free (chain_no (g.P.PageSpace.view c.args.space.now).space.pages.at c.args.first.0) c.links.next.0 (length (can.bucket).pages) i (can_walk can) below shows at)) c.in_err-set_page-2.ensures.broken)
+    let at = (c.links.invariant.passed shows).leads in
+    let below = goes_on can.bucket can.linked c.links.pages c.links.next.0 (λ k b s. ((i.walks shows).is k b).behind s) at (not_zero c.links.next.0 some) in
+    no_more (walk_free (chain_no (g.P.PageSpace.view c.args.space.now).space.pages.at c.args.first.0) c.links.next.0 (length (can.bucket).pages) i (can_walk can) below shows at)) c.in_err-set_page-2.ensures.broken)
 
 pub look-requires-in-links : goal.look-requires-in-links
 look-requires-in-links g c = λ told.
@@ -74,10 +74,10 @@ returns-in_err-more-clause-broken g c =
     let some : 0 < c.links.next.0 = omega arith in
     let p = err_from_is_err_and c.from_residual-in_err-more.result c.from_residual-in_err-more.ensures.1 in
     rw (p.1, p.2) (broken_so c.in_err-more.field-0.0 (λ none shows can.
-        let at = (c.links.invariant.passed shows).leads in
-        let below = goes_on can.bucket can.linked c.links.pages c.links.next.0 (λ k b s. ((i.walks shows).is k b).behind s) at (not_zero c.links.next.0 some) in
-        let there = subst (λ (n : ℕ). HasAt (g.P.PageSpace.view c.args.space.now).space.pages.at n (IsChainPage c.args.there)) at (((can_walk can).is c.links.pages below).page) in
-        none (i.kept.shows shows) (still (λ (s : Space). HasAt s.pages.at c.links.next.0 (IsChainPage c.args.there)) i.kept shows there)) c.in_err-more.ensures.broken)
+    let at = (c.links.invariant.passed shows).leads in
+    let below = goes_on can.bucket can.linked c.links.pages c.links.next.0 (λ k b s. ((i.walks shows).is k b).behind s) at (not_zero c.links.next.0 some) in
+    let there = subst (λ (n : ℕ). HasAt (g.P.PageSpace.view c.args.space.now).space.pages.at n (IsChainPage c.args.there)) at (((can_walk can).is c.links.pages below).page) in
+    none (i.kept.shows shows) (still (λ (s : Space). HasAt s.pages.at c.links.next.0 (IsChainPage c.args.there)) i.kept shows there)) c.in_err-more.ensures.broken)
 
 pub returns-in_err-more-clause-later : goal.returns-in_err-more-clause-later
 returns-in_err-more-clause-later g c = λ t. g.met.P.PageSpace.later_then t _ _ _ (c.links.invariant.later t) (c.look-in-links.ensures.later t)

@@ -23,8 +23,8 @@ returns-in_err-set_page-clause-broken g c =
     let count = c.later_pages-later.ensures in
     let p = err_from_is_err_and c.from_residual-in_err-set_page.result c.from_residual-in_err-set_page.ensures.1 in
     rw (p.1, p.2) (broken_by c.in_err-set_page.field-0.0 (λ no_more shows can.
-        let k = known (g.P.PageSpace.view c.args.space.now).space.pages.at c.args.into.now.pages c.in_ok-first.first can (c.in_ok-first.ensures.read shows) in
-        no_more (walk_free (later_no (g.P.PageSpace.view c.args.space.now).space.pages.at) c.pages.next.0 ((c.in_ok-first.first.peak - 1) / 79) i.0 k.walk (omega arith) shows (i.2 shows))) c.in_err-set_page.ensures.broken)
+    let k = known (g.P.PageSpace.view c.args.space.now).space.pages.at c.args.into.now.pages c.in_ok-first.first can (c.in_ok-first.ensures.read shows) in
+    no_more (walk_free (later_no (g.P.PageSpace.view c.args.space.now).space.pages.at) c.pages.next.0 ((c.in_ok-first.first.peak - 1) / 79) i.0 k.walk (omega arith) shows (i.2 shows))) c.in_err-set_page.ensures.broken)
 
 pub look-requires-in-pages : goal.look-requires-in-pages
 look-requires-in-pages g c = λ told.
@@ -43,20 +43,21 @@ returns-in_err-seen-clause-broken g c =
     let count = c.later_pages-later.ensures in
     let p = err_from_is_err_and c.from_residual-in_err-seen.result c.from_residual-in_err-seen.ensures.1 in
     rw (p.1, p.2) (broken_so c.in_err-seen.field-0.0 (λ none shows can.
-        let k = known (g.P.PageSpace.view c.args.space.now).space.pages.at c.args.into.now.pages c.in_ok-first.first can (c.in_ok-first.ensures.read shows) in
-        let there = subst (λ (n : ℕ). HasAt (g.P.PageSpace.view c.args.space.now).space.pages.at n IsNamePage) (i.2 shows) (k.walk.is c.pages.counter (omega arith)) in
-        none (i.0.kept.shows shows) (still (λ (s : Space). HasAt s.pages.at c.pages.next.0 IsNamePage) i.0.kept shows there)) c.in_err-seen.ensures.broken)
+    let k = known (g.P.PageSpace.view c.args.space.now).space.pages.at c.args.into.now.pages c.in_ok-first.first can (c.in_ok-first.ensures.read shows) in
+    let there = subst (λ (n : ℕ). HasAt (g.P.PageSpace.view c.args.space.now).space.pages.at n IsNamePage) (i.2 shows) (k.walk.is c.pages.counter (omega arith)) in
+    none (i.0.kept.shows shows) (still (λ (s : Space). HasAt s.pages.at c.pages.next.0 IsNamePage) i.0.kept shows there)) c.in_err-seen.ensures.broken)
 
 pub pages-preserved : goal.pages-preserved
 pages-preserved g c = record {
   so_far =
-    let i = c.pages.invariant.so_far in
-    let counts = c.look-in-pages.ensures.counts in
-    let seen : (g.P.PageSpace.view c.args.space.now).Shows → HasAt (g.P.PageSpace.view c.args.space.now).space.pages.at c.pages.next.0 (IsSeen c.in_ok-seen.seen) = λ shows. before (λ (s : Space). HasAt s.pages.at c.pages.next.0 (IsSeen c.in_ok-seen.seen)) i.0.kept shows (c.in_ok-seen.ensures.read (i.0.kept.shows shows)) in
-    (walk_on (later_no (g.P.PageSpace.view c.args.space.now).space.pages.at) c.pages.next.0 i.0 counts.told counts.later c.in_ok-seen.ensures.kept i.2 c.in_ok-set_page.ensures.set
-        (λ shows. subst (λ (n : ℕ). HasAt (g.P.PageSpace.view c.args.space.now).space.pages.at n IsNamePage) (sym (i.2 shows)) (seen_page (seen shows))),
-     search rules,
-     λ shows. leads (g.P.PageSpace.view c.args.space.now).space.pages.at c.pages.next.0 c.pages.counter c.in_ok-seen.seen (i.2 shows) (seen shows));
+      let i = c.pages.invariant.so_far in
+      let counts = c.look-in-pages.ensures.counts in
+      let seen : (g.P.PageSpace.view c.args.space.now).Shows → HasAt (g.P.PageSpace.view c.args.space.now).space.pages.at c.pages.next.0 (IsSeen c.in_ok-seen.seen) = λ shows. before (λ (s : Space). HasAt s.pages.at c.pages.next.0 (IsSeen c.in_ok-seen.seen)) i.0.kept shows (c.in_ok-seen.ensures.read (i.0.kept.shows shows)) in (
+        walk_on (later_no (g.P.PageSpace.view c.args.space.now).space.pages.at) c.pages.next.0 i.0 counts.told counts.later c.in_ok-seen.ensures.kept i.2 c.in_ok-set_page.ensures.set
+            (λ shows. subst (λ (n : ℕ). HasAt (g.P.PageSpace.view c.args.space.now).space.pages.at n IsNamePage) (sym (i.2 shows)) (seen_page (seen shows))),
+        search rules,
+        λ shows. leads (g.P.PageSpace.view c.args.space.now).space.pages.at c.pages.next.0 c.pages.counter c.in_ok-seen.seen (i.2 shows) (seen shows),
+      );
   later = λ t. g.met.P.PageSpace.later_then t _ _ _ (c.pages.invariant.later t) (c.look-in-pages.ensures.later t);
   means = λ t m. c.look-in-pages.ensures.means t (c.pages.invariant.means t m);
 }

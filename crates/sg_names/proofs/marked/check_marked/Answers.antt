@@ -70,9 +70,9 @@ loop-slot-preserved-then-not-marks-mark g c =
           one_further cat j c.loop-slot.slot (set c.loop-slot.marks c.mark_of-mark.result true)
           (subst (λ (n : ℕ). IsMarked cat (79 * j + c.loop-slot.slot + 1) (set c.loop-slot.marks n true)) (sym value)
           (marked_new cat (79 * j + c.loop-slot.slot) c.loop-slot.marks c.in-Some.name (place_in cat j c.args.p.0 c.loop-slot.slot h at (omega arith)) (sym name ∙ c.in-Some.is)
-            (subst (λ (n : ℕ). n < length c.loop-slot.marks) value c.mark_of-mark.ensures.within)
-            (ap (λ (n : ℕ). get_or c.loop-slot.marks n false) (sym value) ∙ c.if-not-marks-mark.true)
-            (all cat h j at m))));
+          (subst (λ (n : ℕ). n < length c.loop-slot.marks) value c.mark_of-mark.ensures.within)
+          (ap (λ (n : ℕ). get_or c.loop-slot.marks n false) (sym value) ∙ c.if-not-marks-mark.true)
+          (all cat h j at m))));
       long = length-set c.loop-slot.marks c.mark_of-mark.result true ∙ c.loop-slot.invariant.long;
       later = λ t. g.met.P.PageSpace.later_then t _ _ _ (c.loop-slot.invariant.later t) (c.name_at.ensures.later t);
       means = λ t m. c.name_at.ensures.means t (c.loop-slot.invariant.means t m);
@@ -97,9 +97,9 @@ loop-slot-preserved g c =
           let counted = c.in_ok-count.ensures.read (kept.shows shows) cat now in
           one_further cat j c.loop-slot.slot c.loop-slot.marks
           (marked_counted cat (79 * j + c.loop-slot.slot) c.loop-slot.marks c.in-Some.name (place_in cat j c.args.p.0 c.loop-slot.slot h at (omega arith)) (sym name ∙ c.in-Some.is)
-            (ap (λ (n : ℕ). get_or c.loop-slot.marks n false) (sym value) ∙ c.if-not-marks-mark.false)
-            (omega (arith, counted, few))
-            (all cat h j at m)));
+          (ap (λ (n : ℕ). get_or c.loop-slot.marks n false) (sym value) ∙ c.if-not-marks-mark.false)
+          (omega (arith, counted, few))
+          (all cat h j at m)));
       long = c.loop-slot.invariant.long;
       later = λ t. g.met.P.PageSpace.later_then t _ _ _ (c.loop-slot.invariant.later t) (g.met.P.PageSpace.later_then t _ _ _ (c.name_at.ensures.later t) (c.count.ensures.later t));
       means = λ t m. c.count.ensures.means t (c.name_at.ensures.means t (c.loop-slot.invariant.means t m));

@@ -26,9 +26,9 @@ returns-in_err-check-clause-broken g c =
     let kept = c.in_ok-found.ensures.kept in
     let p = err_from_is_err_and c.from_residual-in_err-check.result c.from_residual-in_err-check.ensures.1 in
     rw (p.1, p.2) (broken_so c.in_err-check.field-0.0 (λ no_form shows can.
-        let w = whole_is (g.P.PageSpace.view c.args.space.now).space.pages.at c.args.root.0 c.args.into.now.pages (numbers_in c.in_ok-found.found) can (in_range c.in_ok-found.found) (c.in_ok-found.ensures.read shows) in
-        let now = still (λ (s : Space). HasAt s.pages.at c.args.root.0 (HasForm (root_form (numbers_in c.in_ok-found.found)))) kept shows (w.parts.first.links) in
-        no_form (kept.shows shows) (subst (λ f. HasAt (g.P.PageSpace.view c.read_numbers.new.space).space.pages.at c.args.root.0 (HasForm f)) (sym c.root_form.ensures) now)) c.in_err-check.ensures.broken)
+    let w = whole_is (g.P.PageSpace.view c.args.space.now).space.pages.at c.args.root.0 c.args.into.now.pages (numbers_in c.in_ok-found.found) can (in_range c.in_ok-found.found) (c.in_ok-found.ensures.read shows) in
+    let now = still (λ (s : Space). HasAt s.pages.at c.args.root.0 (HasForm (root_form (numbers_in c.in_ok-found.found)))) kept shows (w.parts.first.links) in
+    no_form (kept.shows shows) (subst (λ f. HasAt (g.P.PageSpace.view c.read_numbers.new.space).space.pages.at c.args.root.0 (HasForm f)) (sym c.root_form.ensures) now)) c.in_err-check.ensures.broken)
 
 pub reach_index-requires : goal.reach_index-requires
 reach_index-requires g c = λ told.
@@ -43,8 +43,8 @@ returns-in_err-reach_index-clause-broken g c =
     let kept = reads_then c.in_ok-found.ensures.kept c.in_ok-check.ensures.kept in
     let p = err_from_is_err_and c.from_residual-in_err-reach_index.result c.from_residual-in_err-reach_index.ensures.1 in
     rw (p.1, p.2) (broken_so c.in_err-reach_index.field-0.0 (λ never shows can.
-        let w = whole_is (g.P.PageSpace.view c.args.space.now).space.pages.at c.args.root.0 c.args.into.now.pages (numbers_in c.in_ok-found.found) can (in_range c.in_ok-found.found) (c.in_ok-found.ensures.read shows) in
-        never (kept.shows shows) (still (λ (s : Space). CanWalkIndex s.pages.at c.args.root.0 (numbers_in c.in_ok-found.found) c.set_page.new.into.pages) kept shows (may_index (g.P.PageSpace.view c.args.space.now).space.pages.at c.args.root.0 (numbers_in c.in_ok-found.found) c.args.into.now.pages c.set_page.new.into.pages w c.in_ok-set_page.ensures.set))) c.in_err-reach_index.ensures.broken)
+    let w = whole_is (g.P.PageSpace.view c.args.space.now).space.pages.at c.args.root.0 c.args.into.now.pages (numbers_in c.in_ok-found.found) can (in_range c.in_ok-found.found) (c.in_ok-found.ensures.read shows) in
+    never (kept.shows shows) (still (λ (s : Space). CanWalkIndex s.pages.at c.args.root.0 (numbers_in c.in_ok-found.found) c.set_page.new.into.pages) kept shows (may_index (g.P.PageSpace.view c.args.space.now).space.pages.at c.args.root.0 (numbers_in c.in_ok-found.found) c.args.into.now.pages c.set_page.new.into.pages w c.in_ok-set_page.ensures.set))) c.in_err-reach_index.ensures.broken)
 
 pub reach_leaves-requires : goal.reach_leaves-requires
 reach_leaves-requires g c = λ told.
@@ -62,9 +62,9 @@ returns-in_err-reach_leaves-clause-broken g c =
     let kept = reads_then first c.in_ok-reach_index.ensures.kept in
     let p = err_from_is_err_and c.from_residual-in_err-reach_leaves.result c.from_residual-in_err-reach_leaves.ensures.1 in
     rw (p.1, p.2) (broken_so c.in_err-reach_leaves.field-0.0 (λ never shows can.
-        let w = whole_is (g.P.PageSpace.view c.args.space.now).space.pages.at c.args.root.0 c.args.into.now.pages (numbers_in c.in_ok-found.found) can (in_range c.in_ok-found.found) (c.in_ok-found.ensures.read shows) in
-        let index = before (λ (s : Space). WalksIndex s.pages.at c.args.root.0 (numbers_in c.in_ok-found.found) c.set_page.new.into.pages c.reach_index.new.into.pages) first shows (c.in_ok-reach_index.ensures.reached (first.shows shows)) in
-        never (kept.shows shows) (still (λ (s : Space). CanWalkLeaves s.pages.at c.args.root.0 (numbers_in c.in_ok-found.found) c.reach_index.new.into.pages) kept shows (may_leaves (g.P.PageSpace.view c.args.space.now).space.pages.at c.args.root.0 (numbers_in c.in_ok-found.found) c.args.into.now.pages c.set_page.new.into.pages c.reach_index.new.into.pages w c.in_ok-set_page.ensures.set index))) c.in_err-reach_leaves.ensures.broken)
+    let w = whole_is (g.P.PageSpace.view c.args.space.now).space.pages.at c.args.root.0 c.args.into.now.pages (numbers_in c.in_ok-found.found) can (in_range c.in_ok-found.found) (c.in_ok-found.ensures.read shows) in
+    let index = before (λ (s : Space). WalksIndex s.pages.at c.args.root.0 (numbers_in c.in_ok-found.found) c.set_page.new.into.pages c.reach_index.new.into.pages) first shows (c.in_ok-reach_index.ensures.reached (first.shows shows)) in
+    never (kept.shows shows) (still (λ (s : Space). CanWalkLeaves s.pages.at c.args.root.0 (numbers_in c.in_ok-found.found) c.reach_index.new.into.pages) kept shows (may_leaves (g.P.PageSpace.view c.args.space.now).space.pages.at c.args.root.0 (numbers_in c.in_ok-found.found) c.args.into.now.pages c.set_page.new.into.pages c.reach_index.new.into.pages w c.in_ok-set_page.ensures.set index))) c.in_err-reach_leaves.ensures.broken)
 
 pub returns-clause-reached : goal.returns-clause-reached
 returns-clause-reached g c = λ shows.

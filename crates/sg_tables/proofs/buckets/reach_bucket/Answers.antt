@@ -28,8 +28,8 @@ returns-in_err-chain-clause-broken g c =
     let kept = c.in_ok-get.ensures.kept in
     let p = err_from_is_err_and c.from_residual-in_err-chain.result c.from_residual-in_err-chain.ensures.1 in
     rw (p.1, p.2) (broken_so c.in_err-chain.field-0.0 (λ never shows h.
-        let same = first_is (slice_get (h.names).items c.args.i) c.get.new.into (h.names).size c.read_u32.result (first_page h.bucket) (c.in_ok-get.ensures.read shows h.names h.stands) h.size (omega arith) c.read_u32.ensures.value h.of.named h.of.fit in
-        never (kept.shows shows) (still (λ (s : Space). CanReachChain s.pages.at (address c.args.extent c.args.i) c.read_u32.result c.args.into.now.pages) kept shows (chain_may h same))) c.in_err-chain.ensures.broken)
+    let same = first_is (slice_get (h.names).items c.args.i) c.get.new.into (h.names).size c.read_u32.result (first_page h.bucket) (c.in_ok-get.ensures.read shows h.names h.stands) h.size (omega arith) c.read_u32.ensures.value h.of.named h.of.fit in
+    never (kept.shows shows) (still (λ (s : Space). CanReachChain s.pages.at (address c.args.extent c.args.i) c.read_u32.result c.args.into.now.pages) kept shows (chain_may h same))) c.in_err-chain.ensures.broken)
 
 pub returns-in_err-chain-clause-later : goal.returns-in_err-chain-clause-later
 returns-in_err-chain-clause-later g c = λ t. g.met.P.PageSpace.later_then t _ _ _ (c.get.ensures.later t) (c.reach_chain.ensures.later t)
@@ -50,9 +50,9 @@ returns-in_err-check_once-clause-broken g c =
     let two = reads_then one c.in_ok-chain.ensures.kept in
     let p = err_from_is_err_and c.from_residual-in_err-check_once.result c.from_residual-in_err-check_once.ensures.1 in
     rw (p.1, p.2) (broken_so c.in_err-check_once.field-0.0 (λ never shows h.
-        let same = first_is (slice_get (h.names).items c.args.i) c.get.new.into (h.names).size c.read_u32.result (first_page h.bucket) (c.in_ok-get.ensures.read shows h.names h.stands) h.size (omega arith) c.read_u32.ensures.value h.of.named h.of.fit in
-        let r = before (λ (s : Space). ReachesChain s.pages.at (address c.args.extent c.args.i) c.read_u32.result c.args.into.now.pages c.reach_chain.new.into.pages c.in_ok-chain.chain) one shows (c.in_ok-chain.ensures.reached (one.shows shows)) in
-        chain_once c.in_ok-chain.chain h same r (λ b chain. never (two.shows shows) b (still (λ (s : Space). IsChain s.pages.at c.read_u32.result c.in_ok-chain.chain.pages b) two shows chain))) c.in_err-check_once.ensures.broken)
+    let same = first_is (slice_get (h.names).items c.args.i) c.get.new.into (h.names).size c.read_u32.result (first_page h.bucket) (c.in_ok-get.ensures.read shows h.names h.stands) h.size (omega arith) c.read_u32.ensures.value h.of.named h.of.fit in
+    let r = before (λ (s : Space). ReachesChain s.pages.at (address c.args.extent c.args.i) c.read_u32.result c.args.into.now.pages c.reach_chain.new.into.pages c.in_ok-chain.chain) one shows (c.in_ok-chain.ensures.reached (one.shows shows)) in
+    chain_once c.in_ok-chain.chain h same r (λ b chain. never (two.shows shows) b (still (λ (s : Space). IsChain s.pages.at c.read_u32.result c.in_ok-chain.chain.pages b) two shows chain))) c.in_err-check_once.ensures.broken)
 
 pub returns-in_err-check_once-clause-later : goal.returns-in_err-check_once-clause-later
 returns-in_err-check_once-clause-later g c = λ t. g.met.P.PageSpace.later_then t _ _ _ (c.get.ensures.later t) (g.met.P.PageSpace.later_then t _ _ _ (c.reach_chain.ensures.later t) (c.check_once.ensures.later t))

@@ -43,8 +43,8 @@ returns-in_err-names-clause-broken g c =
     let two = reads_then one c.in_ok-reach_array.ensures.kept in
     let p = err_from_is_err_and c.from_residual-in_err-names.result c.from_residual-in_err-names.ensures.1 in
     rw (p.1, p.2) (broken_so c.in_err-names.field-0.0 (λ none shows can.
-        root_said (g.P.PageSpace.view c.args.space.now).space.pages.at c.in_ok-trunk.trunk.directory.0 c.set_page.new.into.pages (may_array (known c.in_ok-trunk.trunk can (c.in_ok-trunk.ensures.read shows)) c.in_ok-set_page.ensures.set) ⊥
-        (λ r range first. none (two.shows shows) r range (still (λ (s : Space). HasAt s.pages.at c.in_ok-trunk.trunk.directory.0 (HasCell 2 0 (array_cell r.size r.count r.peak))) two shows first))) c.in_err-names.ensures.broken)
+    root_said (g.P.PageSpace.view c.args.space.now).space.pages.at c.in_ok-trunk.trunk.directory.0 c.set_page.new.into.pages (may_array (known c.in_ok-trunk.trunk can (c.in_ok-trunk.ensures.read shows)) c.in_ok-set_page.ensures.set) ⊥
+    (λ r range first. none (two.shows shows) r range (still (λ (s : Space). HasAt s.pages.at c.in_ok-trunk.trunk.directory.0 (HasCell 2 0 (array_cell r.size r.count r.peak))) two shows first))) c.in_err-names.ensures.broken)
 
 pub returns-then-not-is_directory-clause-broken : goal.returns-then-not-is_directory-clause-broken
 returns-then-not-is_directory-clause-broken g c = λ shows can.
@@ -130,3 +130,6 @@ returns-clause-later g c = λ t. g.met.P.PageSpace.later_then t _ _ _ (c.read_tr
 
 pub returns-clause-means : goal.returns-clause-means
 returns-clause-means g c = λ t m. c.reach_buckets.ensures.means t (c.read_numbers.ensures.means t (c.reach_array.ensures.means t (c.read_trunk.ensures.means t m)))
+
+pub returns-in_err-names-clause-later : goal.returns-in_err-names-clause-later
+returns-in_err-names-clause-later g c = λ t. g.met.P.PageSpace.later_then t _ _ _ (c.read_trunk.ensures.later t) (g.met.P.PageSpace.later_then t _ _ _ (c.reach_array.ensures.later t) (c.read_numbers.ensures.later t))

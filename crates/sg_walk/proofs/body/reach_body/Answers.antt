@@ -33,4 +33,3 @@ returns-in_ok-reach_blob-in-Blob-clause-reached g c = λ shows.
       is = subst (λ (k : ObjectKind). IsBody (g.P.PageSpace.view c.args.space.now).space k c.args.root.0 (ABlob (blob_at (g.P.PageSpace.view c.args.space.now).space.pages.at (g.P.PageSpace.view c.args.space.now).space.bands.at c.args.root.0))) (sym c.in-Blob.is) r.is;
       set = record { pages_set = r.page; bands_set = r.set };
     }
-

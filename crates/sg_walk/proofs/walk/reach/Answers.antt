@@ -56,13 +56,13 @@ returns-in_err-reach_rows-clause-broken g c =
     let test = c.pages-test.true in
     let p = err_from_is_err_and c.from_residual-in_err-reach_rows.result c.from_residual-in_err-reach_rows.ensures.1 in
     rw (p.1, p.2) (broken_so c.in_err-reach_rows.field-0.0 (λ never shows h.
-        let chain = chain_of (h.contents).catalog h.reads.catalog (c.in_ok-pages.ensures.many shows (h.contents).catalog h.reads.catalog) in
-        let a = i.at shows (h.contents).catalog chain in
-        let page = chain_page (h.contents).catalog c.pages.counter c.pages.page.0 chain a.0 (omega arith) in
-        let may = page_may (h.contents).catalog c.pages.counter (rows_may h (c.in_ok-pages.ensures.reached shows) c.in_ok-pages.ensures.bands) a.1 in
-        never (i.kept.shows shows) (h.contents).catalog c.pages.counter
-            (still (λ (s : Space). IsChain s.pages.at c.in_ok-pages.pages (h.contents).catalog) i.kept shows chain) page
-            (still (λ (s : Space). CanReachRows s c.pages.into (filled (part c.pages.counter (h.contents).catalog.places))) i.kept shows may)) c.in_err-reach_rows.ensures.broken)
+    let chain = chain_of (h.contents).catalog h.reads.catalog (c.in_ok-pages.ensures.many shows (h.contents).catalog h.reads.catalog) in
+    let a = i.at shows (h.contents).catalog chain in
+    let page = chain_page (h.contents).catalog c.pages.counter c.pages.page.0 chain a.0 (omega arith) in
+    let may = page_may (h.contents).catalog c.pages.counter (rows_may h (c.in_ok-pages.ensures.reached shows) c.in_ok-pages.ensures.bands) a.1 in
+    never (i.kept.shows shows) (h.contents).catalog c.pages.counter
+    (still (λ (s : Space). IsChain s.pages.at c.in_ok-pages.pages (h.contents).catalog) i.kept shows chain) page
+    (still (λ (s : Space). CanReachRows s c.pages.into (filled (part c.pages.counter (h.contents).catalog.places))) i.kept shows may)) c.in_err-reach_rows.ensures.broken)
 
 pub tally_page-requires : goal.tally_page-requires
 tally_page-requires g c = λ told.
@@ -76,19 +76,19 @@ tally_page-requires g c = λ told.
 pub pages-preserved : goal.pages-preserved
 pages-preserved g c = record {
   so_far =
-    let i = c.pages.invariant.so_far in
-    let test = c.pages-test.true in
-    let first = c.reach_rows.ensures.counts in
-    let second = c.tally_page.ensures.counts in
-    let one = first.later in
-    let two = second.later in
-    chain_on c.in_ok-found.found.next.0 i (omega arith) (λ t. first.told (second.told t)) (omega arith) (reads_then c.in_ok-reach_rows.ensures.kept c.in_ok-found.ensures.kept) (λ shows cat h at done.
-        let now = still (λ (s : Space). IsChain s.pages.at c.in_ok-pages.pages cat) i.kept shows h in
-        let here = before (λ (s : Space). ReachesRows s c.pages.into c.reach_rows.new.into (filled (part c.pages.counter cat.places))) i.kept shows (c.in_ok-reach_rows.ensures.reached (i.kept.shows shows) cat c.pages.counter now at) in
-        let kept = reads_then i.kept c.in_ok-reach_rows.ensures.kept in
-        let seen = before (λ (s : Space). HasAt s.pages.at c.pages.page.0 (IsTally Every c.in_ok-found.found)) kept shows (c.in_ok-found.ensures.read (kept.shows shows)) in
-        let t = tally_here cat c.pages.counter c.pages.page.0 Every c.in_ok-found.found h at seen in
-        (t.0, page_done cat c.pages.counter done here));
+      let i = c.pages.invariant.so_far in
+      let test = c.pages-test.true in
+      let first = c.reach_rows.ensures.counts in
+      let second = c.tally_page.ensures.counts in
+      let one = first.later in
+      let two = second.later in
+      chain_on c.in_ok-found.found.next.0 i (omega arith) (λ t. first.told (second.told t)) (omega arith) (reads_then c.in_ok-reach_rows.ensures.kept c.in_ok-found.ensures.kept) (λ shows cat h at done.
+      let now = still (λ (s : Space). IsChain s.pages.at c.in_ok-pages.pages cat) i.kept shows h in
+      let here = before (λ (s : Space). ReachesRows s c.pages.into c.reach_rows.new.into (filled (part c.pages.counter cat.places))) i.kept shows (c.in_ok-reach_rows.ensures.reached (i.kept.shows shows) cat c.pages.counter now at) in
+      let kept = reads_then i.kept c.in_ok-reach_rows.ensures.kept in
+      let seen = before (λ (s : Space). HasAt s.pages.at c.pages.page.0 (IsTally Every c.in_ok-found.found)) kept shows (c.in_ok-found.ensures.read (kept.shows shows)) in
+      let t = tally_here cat c.pages.counter c.pages.page.0 Every c.in_ok-found.found h at seen in
+      (t.0, page_done cat c.pages.counter done here));
   later = λ t. g.met.P.PageSpace.later_then t _ _ _ (c.pages.invariant.later t) (g.met.P.PageSpace.later_then t _ _ _ (c.reach_rows.ensures.later t) (c.tally_page.ensures.later t));
   means = λ t m. c.tally_page.ensures.means t (c.reach_rows.ensures.means t (c.pages.invariant.means t m));
 }
