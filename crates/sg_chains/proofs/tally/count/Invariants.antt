@@ -1,0 +1,13 @@
+use Rattle.std.proofs.Common.{◌≡◌, ℕ, ◌*◌, ◌≤◌}
+use Rattle.sg_ops.specs.Table.{Table}
+use Rattle.sg_chains.proofs.Keys.{ChainTo, CountsSo}
+use Rattle.sg_chains.proofs.tally.count.Given as goal
+
+abbrev pub invariant-pages : goal.invariant-pages
+invariant-pages g l = record {
+  so_far : ChainTo (g.P.PageSpace.view l.fn.space) (g.P.PageSpace.view l.space) l.fn.first.0 l.pages (CountsSo l.key l.n) l.counter l.page.0;
+  few : l.n ≤ 65536 * l.counter;
+  later : (t : Table) → g.P.PageSpace.later t l.fn.space l.space;
+  quiet : (g.P.PageSpace.view l.space).faults ≡ (g.P.PageSpace.view l.fn.space).faults;
+  means : (t : Table) → g.P.PageSpace.means l.fn.space t → g.P.PageSpace.means l.space t;
+}

@@ -1,0 +1,13 @@
+use Rattle.std.proofs.Common.{◌≡◌, ℕ, ◌*◌, length}
+use Rattle.sg_ops.specs.Table.{Table}
+use Rattle.sg_names.specs.Marked.{IsMarked}
+use Rattle.sg_names.proofs.Tallies.{ChainTo}
+use Rattle.sg_names.proofs.marked.check_names_by.Given as goal
+
+abbrev pub invariant-pages : goal.invariant-pages
+invariant-pages g l = record {
+  so_far : ChainTo (g.P.PageSpace.view l.fn.space) (g.P.PageSpace.view l.space) l.pages (λ c j. IsMarked c (79 * j) l.marks) l.counter l.page.0;
+  long : length l.marks ≡ length l.fn.marks;
+  later : (t : Table) → g.P.PageSpace.later t l.fn.space l.space;
+  means : (t : Table) → g.P.PageSpace.means l.fn.space t → g.P.PageSpace.means l.space t;
+}

@@ -1,0 +1,11 @@
+use Rattle.sg_ops.specs.Table.{Table}
+use Rattle.sg_names.proofs.Tallies.{ChainTo}
+use Rattle.sg_walk.proofs.All.{SetsSo}
+use Rattle.sg_walk.proofs.walk.reach.Given as goal
+
+abbrev pub invariant-pages : goal.invariant-pages
+invariant-pages g l = record {
+  so_far : ChainTo (g.P.PageSpace.view l.fn.space) (g.P.PageSpace.view l.space) l.pages (SetsSo (g.P.PageSpace.view l.fn.space).space l.initial.into l.into) l.counter l.page.0;
+  later : (t : Table) → g.P.PageSpace.later t l.fn.space l.space;
+  means : (t : Table) → g.P.PageSpace.means l.fn.space t → g.P.PageSpace.means l.space t;
+}
