@@ -15,7 +15,7 @@ struct Trial {
 
 impl Trial {
     fn new(alloc: Global, ops: Ops, pages: u32, bands: u32) -> Result<Trial, Fail> {
-        if pages == 0 || map_bands(pages, bands) >= bands {
+        if pages == 0 || pages > 1_048_576 || map_bands(pages, bands) >= bands {
             return Err("no such space".into());
         }
         Ok(Trial {
