@@ -1,5 +1,5 @@
 -- Formed frames one after another, up to a closed gate or a damage.
-use Rattle.std.proofs.Common.{◌≡◌, inl, inr, ℕ, min, ◌+◌, ◌*◌, ◌<◌, ◌≤◌, ◌&&◌, Bool, IsTrue, Result, Ok, Err, IfOk, OnOk, List, [], ◌∷◌, ◌++◌, length, refl, sym, ◌∙◌, ap, subst, arith, length-append}
+use Rattle.std.proofs.Common.{◌≡◌, inl, inr, ℕ, min, ◌+◌, ◌*◌, ◌<◌, ◌≤◌, ◌&&◌, Bool, IsTrue, Result, Ok, Err, None, IfOk, OnOk, List, [], ◌∷◌, ◌++◌, length, refl, sym, ◌∙◌, ap, subst, arith, length-append}
 use Rattle.sg_base.specs.declared.area.Area.{Area}
 use Rattle.sg_disk.specs.Disk.{Bytes, State, View, FULL}
 use Rattle.sg_record.specs.Records.{Record}
@@ -16,20 +16,26 @@ use Rattle.sg_log.proofs.Holding.{gate_moved, numbered_in-more, text-length}
 use Rattle.sg_log.proofs.Runs.{reads_none, reads_more}
 use Rattle.sg_log.proofs.Steps.{gate_more, gate_shut}
 use Rattle.sg_log.proofs.Unique.{Frames-one, HasRecords-one}
+use Rattle.sg_recovery.specs.Chains.{next_lsn}
 use Rattle.sg_analysis.specs.Sights.{steps_of}
-use Rattle.sg_analysis.specs.Analysis.{unfinished_count}
+use Rattle.sg_analysis.specs.Unended.{stray}
+use Rattle.sg_analysis.specs.Placed.{AreInFrames, ArePlaced, TellsStray}
 use Rattle.sg_analysis.specs.Standing.{all_stand, all_stand_behind}
-use Rattle.sg_analysis.specs.Damage.{IsAmbiguous, AnalysisFails}
+use Rattle.sg_analysis.specs.Damage.{AnalysisFails}
 use Rattle.sg_analysis.specs.Faults.{of_log}
 use Rattle.sg_analysis.specs.Rows.{Knows, AreTaken, RecordsFail}
 use Rattle.sg_analysis.specs.declared.fault.AnalysisFault.{AnalysisFault}
 use Rattle.sg_analysis.specs.declared.fault.AnalysisFault.TheVariants.{Disk, Damaged, Memory}
 use Rattle.sg_analysis.specs.declared.scan.Scan.{Scan}
-use Rattle.sg_analysis.specs.Walks.{IsLastGate, IsWalked, IsFound}
+use Rattle.sg_analysis.specs.Walks.{IsWalked, IsFound}
 use Rattle.sg_analysis.specs.Analysis.{analysis_of}
 use Rattle.sg_analysis.specs.Shown.{shown, IsAnalysed}
 use Rattle.sg_analysis.specs.declared.analysis.Analysis as code
 use Rattle.sg_analysis.proofs.Taking.{all_stand-both, both_true, true_right}
+use Rattle.sg_analysis.proofs.Acting.{in_frames}
+use Rattle.sg_analysis.proofs.Following.{in_order}
+use Rattle.sg_analysis.proofs.Formedness.{ordered_stands}
+use Rattle.sg_analysis.proofs.Strays.{one_action}
 
 -- the numbers behind frames that end at an offset
 pub numbered_behind : (base at : ℕ) (frames : List (List Record)) (rs : List Record) → at ≡ gate_after 0 frames → numbered_in base (frames ++ rs ∷ []) ≡ numbered_in base frames ++ numbered_from (base + at + 5) rs
@@ -44,30 +50,31 @@ pub stand_more : (base at : ℕ) (frames : List (List Record)) (rs : List Record
     → all_stand base (numbered_in base (frames ++ rs ∷ [])) ≡ (all_stand base (numbered_in base frames) && all_stand_behind base (steps_of (numbered_in base frames)) (numbered_from (base + at + 5) rs))
 stand_more base at frames rs there = ap (all_stand base) (numbered_behind base at frames rs there) ∙ all_stand-both base [] (numbered_in base frames) (numbered_from (base + at + 5) rs)
 
-pub walk_starts : (told : Bool) (area : Area) (base : ℕ) (v : View) (s : Scan) → base ≤ LOG_END → Knows s base [] → IsWalked told area base 0 0 v v s
-walk_starts told area base v s within k = record {
+pub walk_starts : (told : Bool) (area : Area) (base : ℕ) (v : View) (s : Scan) → base ≤ LOG_END → Knows s base [] → s.unended.actions.items ≡ [] → IsWalked told area base 0 v v s
+walk_starts told area base v s within k none = record {
   within = omega arith;
   reads = reads_none v;
   quiet = refl;
-  kept = ([], k);
-  lead = λ sure. record { frames = []; formed = tt; there = refl; stand = refl; knows = k; last_is = inl refl; calls = omega arith };
+  kept = ([], k, omega arith);
+  lead = λ sure. record { frames = []; formed = tt; there = refl; stand = refl; knows = k; low = omega arith; placed = subst (AreInFrames base []) (sym none) tt; calls = omega arith };
 }
 
 -- the bytes there are those of the start
 pub seen_same : {told : Bool} {v w : View} → OnlyReads told v w → IsTrue told → (area : Area) → (w.now area).seen ≡ (v.now area).seen
 seen_same h sure area = ap (λ (s : State). (s area).seen) (h.unchanged sure)
 
-pub walk_goes_on : {told : Bool} {area : Area} {base at last : ℕ} {old mid new : View} {s s' : Scan} (end : ℕ) (body : List ℕ) → IsWalked told area base at last old mid s → OnlyReads told mid new → new.faults ≡ mid.faults → end ≡ at + 5 + length body → base + end ≤ LOG_END
-    → 0 < length body → length body ≤ GREATEST_BODY → (IsTrue told → HasBody (mid.now area).seen at body) → ((ns : List Numbered) → Knows s base ns → AreTaken s' base ns (base + at + 5) body) → new.calls ≡ min (mid.calls + 2) FULL
-    → IsWalked told area base end at old new s'
-walk_goes_on {told = told} {area = area} {base = base} {at = at} {old = old} {mid = mid} {new = new} {s = s} {s' = s'} end body h more quiet ends within some most stands taken calls = record {
+pub walk_goes_on : {told : Bool} {area : Area} {base at : ℕ} {old mid new : View} {s s' : Scan} (end : ℕ) (body : List ℕ) → IsWalked told area base at old mid s → OnlyReads told mid new → new.faults ≡ mid.faults → end ≡ at + 5 + length body → base + end ≤ LOG_END
+    → 0 < length body → length body ≤ GREATEST_BODY → (IsTrue told → HasBody (mid.now area).seen at body) → ((ns : List Numbered) → Knows s base ns → next_lsn (steps_of ns) ≤ base + at + 5 → AreTaken s' base ns (base + at + 5) body)
+    → ((frames : List (List Record)) → AreInFrames base frames s.unended.actions.items → ArePlaced base frames at (base + at + 5) (base + at + 5 + length body) s'.unended.actions.items) → new.calls ≡ min (mid.calls + 2) FULL
+    → IsWalked told area base end old new s'
+walk_goes_on {told = told} {area = area} {base = base} {at = at} {old = old} {mid = mid} {new = new} {s = s} {s' = s'} end body h more quiet ends within some most stands taken placed calls = record {
   within = within;
   reads = reads_more h.reads more;
   quiet = quiet ∙ h.quiet;
-  kept = let t = taken h.kept.0 h.kept.1 in (h.kept.0 ++ numbered_from (base + at + 5) t.records, t.knows);
+  kept = let t = taken h.kept.0 h.kept.1 h.kept.2 in (h.kept.0 ++ numbered_from (base + at + 5) t.records, t.knows, omega (arith, t.low, ends));
   lead = λ sure.
       let l = h.lead sure in
-      let t = taken (numbered_in base l.frames) l.knows in
+      let t = taken (numbered_in base l.frames) l.knows l.low in
       let f = (old.now area).seen in
       let stand : HasBody f at body = subst (λ (x : Bytes). HasBody x at body) (seen_same h.reads sure area) (stands sure) in
       let there : IsFormed f at t.records = formed_by f at body stand some most (record { records = t.records; fields = t.fields; spelling = t.text }) in
@@ -77,7 +84,9 @@ walk_goes_on {told = told} {area = area} {base = base} {at = at} {old = old} {mi
         there = omega (arith, ends, ap length t.text, l.there, gate_more 0 l.frames t.records, text-length (spelled_all t.records));
         stand = stand_more base at l.frames t.records l.there ∙ both_true (all_stand base (numbered_in base l.frames)) (all_stand_behind base (steps_of (numbered_in base l.frames)) (numbered_from (base + at + 5) t.records)) l.stand t.stand;
         knows = subst (Knows s' base) (sym (numbered_behind base at l.frames t.records l.there)) t.knows;
-        last_is = inr (l.frames, t.records, refl, l.there);
+        low = subst (λ (x : List Numbered). next_lsn (steps_of x) ≤ base + end + 5) (sym (numbered_behind base at l.frames t.records l.there)) (omega (arith, t.low, ends));
+        placed =
+            in_frames base at l.frames t.records (base + at + 5) (base + at + 5 + length body) s'.unended.actions.items l.there (omega arith) (omega (arith, ap length t.text, text-length (spelled_all t.records))) (placed l.frames l.placed);
         calls = omega (arith, calls, l.calls, length-append l.frames (t.records ∷ []));
       };
 }
@@ -97,13 +106,13 @@ pub frames_formed : (f : Bytes) (at : ℕ) (frames : List (List Record)) → Fra
 frames_formed f at [] h = tt
 frames_formed f at (rs ∷ frames) h = (record { gate = h.0; frame = h.1; text = h.2 }, frames_formed f (at + 1 + length (text_of (spelled_all rs))) frames h.3)
 
-pub walk_ends : {told : Bool} {area : Area} {base at last : ℕ} {old mid new : View} {s : Scan} → IsWalked told area base at last old mid s → OnlyReads told mid new → new.faults ≡ mid.faults → (IsTrue told → (mid.now area).seen at ≡ 1 → ⊥) → new.calls ≡ min (mid.calls + 1) FULL
-    → IsFound told area base last old new s
+pub walk_ends : {told : Bool} {area : Area} {base at : ℕ} {old mid new : View} {s : Scan} → IsWalked told area base at old mid s → OnlyReads told mid new → new.faults ≡ mid.faults → (IsTrue told → (mid.now area).seen at ≡ 1 → ⊥) → new.calls ≡ min (mid.calls + 1) FULL
+    → IsFound told area base old new s
 walk_ends {told = told} {area = area} {base = base} {at = at} {old = old} {mid = mid} {new = new} {s = s} h more quiet shut calls =
     let f = (old.now area).seen in
     record {
       quiet = quiet ∙ h.quiet;
-      kept = h.kept;
+      kept = (h.kept.0, h.kept.1);
       found = λ sure.
           let l = h.lead sure in
           record {
@@ -112,13 +121,13 @@ walk_ends {told = told} {area = area} {base = base} {at = at} {old = old} {mid =
             within = subst (λ n. base + n ≤ LOG_END) l.there h.within;
             stand = l.stand;
             knows = l.knows;
-            last_is = l.last_is;
+            placed = l.placed;
             calls = omega (arith, calls, l.calls);
           };
     }
 
 -- a walk fails where a body can't be read,
-pub walk_fails : {told : Bool} {area : Area} {base at last : ℕ} {old mid new : View} {s : Scan} → IsWalked told area base at last old mid s → OnlyReads told mid new → (e : LogFault) → FrameFails told area base at mid new e → AnalysisFails told area base old new (of_log e)
+pub walk_fails : {told : Bool} {area : Area} {base at : ℕ} {old mid new : View} {s : Scan} → IsWalked told area base at old mid s → OnlyReads told mid new → (e : LogFault) → FrameFails told area base at mid new e → AnalysisFails told area base old new (of_log e)
 walk_fails h more log.Disk fails = λ top. let rose = fails top in omega (arith, h.reads.later)
 walk_fails h more log.LogEnd fails = absurd fails
 walk_fails {area = area} {base = base} {at = at} {old = old} h more (log.Damaged there) fails = λ sure.
@@ -129,91 +138,91 @@ walk_fails {area = area} {base = base} {at = at} {old = old} h more (log.Damaged
       frames = l.frames;
       formed = l.formed;
       within = subst (λ n. base + n ≤ LOG_END) l.there h.within;
-      stand = l.stand;
+      order = in_order base l.frames l.stand;
       cause = inl (record {
         there = fails.0 ∙ l.there;
         gate = subst (λ n. f n ≡ 1) (sym fails.0) u.gate;
-        none = λ rs formed within stand. u.none rs (subst (λ n. IsFormed f n rs) fails.0 formed) (subst (λ n. base + gate_after n (rs ∷ []) ≤ LOG_END) fails.0 within);
+        none = λ rs formed within order. u.none rs (subst (λ n. IsFormed f n rs) fails.0 formed) (subst (λ n. base + gate_after n (rs ∷ []) ≤ LOG_END) fails.0 within);
       });
     }
 walk_fails h more log.Memory fails = absurd fails
 
 -- where its records may not stand,
-pub records_fail : {told : Bool} {area : Area} {base at last : ℕ} {old mid new : View} {s : Scan} (body : List ℕ) → IsWalked told area base at last old mid s → OnlyReads told mid new → (IsTrue told → HasBody (mid.now area).seen at body) → length body ≤ GREATEST_BODY
-    → (e : AnalysisFault) → ((ns : List Numbered) → Knows s base ns → RecordsFail base ns (base + at + 5) at body e) → AnalysisFails told area base old new e
-records_fail body h more stands most Disk fails = absurd (fails h.kept.0 h.kept.1)
+pub records_fail : {told : Bool} {area : Area} {base at : ℕ} {old mid new : View} {s : Scan} (body : List ℕ) → IsWalked told area base at old mid s → OnlyReads told mid new → (IsTrue told → HasBody (mid.now area).seen at body) → length body ≤ GREATEST_BODY
+    → (e : AnalysisFault) → ((ns : List Numbered) → Knows s base ns → next_lsn (steps_of ns) ≤ base + at + 5 → RecordsFail base ns (base + at + 5) at body e) → AnalysisFails told area base old new e
+records_fail body h more stands most Disk fails = absurd (fails h.kept.0 h.kept.1 h.kept.2)
 records_fail {area = area} {base = base} {at = at} {old = old} body h more stands most (Damaged there) fails = λ sure.
     let l = h.lead sure in
     let f = (old.now area).seen in
-    let k = fails (numbered_in base l.frames) l.knows in
+    let k = fails (numbered_in base l.frames) l.knows l.low in
     let here : HasBody f at body = subst (λ (x : Bytes). HasBody x at body) (seen_same h.reads sure area) (stands sure) in
     record {
       frames = l.frames;
       formed = l.formed;
       within = subst (λ n. base + n ≤ LOG_END) l.there h.within;
-      stand = l.stand;
+      order = in_order base l.frames l.stand;
       cause = inl (record {
         there = k.0 ∙ l.there;
         gate = subst (λ n. f n ≡ 1) (sym k.0) here.gate;
-        none = λ rs formed within stand.
+        none = λ rs formed within order.
             let g : IsFormed f at rs = subst (λ n. IsFormed f n rs) k.0 formed in
             k.1 rs g.frame.fields (body_one f at (spelled_all rs) body (body_of_frame g) here g.frame.most most)
-            (true_right (all_stand base (numbered_in base l.frames)) (all_stand_behind base (steps_of (numbered_in base l.frames)) (numbered_from (base + at + 5) rs)) (sym (stand_more base at l.frames rs l.there) ∙ stand));
+            (true_right (all_stand base (numbered_in base l.frames)) (all_stand_behind base (steps_of (numbered_in base l.frames)) (numbered_from (base + at + 5) rs)) (sym (stand_more base at l.frames rs l.there) ∙ ordered_stands base (numbered_in base (l.frames ++ rs ∷ [])) order));
       });
     }
 records_fail body h more stands most Memory fails = tt
 
--- and where more than one action has no end
-pub ending_fails : {told : Bool} {area : Area} {base last : ℕ} {old new : View} {s : Scan} → IsFound told area base last old new s → (e : AnalysisFault) → ((ns : List Numbered) → Knows s base ns → (e ≡ Damaged last) × (1 < unfinished_count (steps_of ns)))
-    → AnalysisFails told area base old new e
-ending_fails h Disk fails = absurd (never (fails h.kept.0 h.kept.1).0)
-  where
-    never : {n : ℕ} → ◌≡◌ {A = AnalysisFault} Disk (Damaged n) → ⊥
-    never e = absurd (cc)
-ending_fails {area = area} {base = base} {last = last} {old = old} h (Damaged there) fails = λ sure.
+-- and where an action may not be without an end
+pub ending_fails : {told : Bool} {area : Area} {base : ℕ} {old new : View} {s : Scan} → IsFound told area base old new s → (e : AnalysisFault) → ((frames : List (List Record)) → Knows s base (numbered_in base frames) → AreInFrames base frames s.unended.actions.items → TellsStray base frames e)
+    → (e ≡ Disk → ⊥) → AnalysisFails told area base old new e
+ending_fails h Disk fails no_disk = absurd (no_disk refl)
+ending_fails {area = area} {base = base} {old = old} h (Damaged there) fails no_disk = λ sure.
     let l = h.found sure in
     let f = (old.now area).seen in
     record {
       frames = l.frames;
       formed = frames_formed f 0 l.frames l.has;
       within = l.within;
-      stand = l.stand;
-      cause = inr (by_last f l.frames (gate_shut f 0 l.frames l.has) (fails (numbered_in base l.frames) l.knows).1 l.last_is);
+      order = in_order base l.frames l.stand;
+      cause = inr (record { closed = gate_shut f 0 l.frames l.has; stray = fails l.frames l.knows l.placed });
     }
-  where
-    place : ◌≡◌ {A = AnalysisFault} (Damaged there) (Damaged last) → there ≡ last
-    place e = cc
-
-    by_last : (f : Bytes) (frames : List (List Record)) → (f (gate_after 0 frames) ≡ 1 → ⊥) → 1 < unfinished_count (steps_of (numbered_in base frames)) → IsLastGate last frames → IsAmbiguous f base there frames
-    by_last f frames closed count (inl none) = absurd (few (subst (λ (x : List (List Record)). 1 < unfinished_count (steps_of (numbered_in base x))) none count))
-      where
-        few : 1 < 0 → ⊥
-        few lt = omega arith
-    by_last f frames closed count (inr (front, rs, is, gate)) = record { front = front; last = rs; all = is; there = place (fails h.kept.0 h.kept.1).0 ∙ gate; closed = closed; more = count }
-ending_fails h Memory fails = tt
+ending_fails h Memory fails no_disk = tt
 
 -- what was found is what an analysis says
-pub found_analysed : {told : Bool} {area : Area} {base last : ℕ} {old new : View} {s : Scan} → IsFound told area base last old new s → IsTrue told → (r : Result code.Analysis AnalysisFault) → ((ns : List Numbered) → Knows s base ns → IfOk r (λ a. shown a ≡ analysis_of base ns))
-    → ((ns : List Numbered) → Knows s base ns → OnOk r (unfinished_count (steps_of ns) ≤ 1)) → IfOk r (IsAnalysed (old.now area).seen base)
-found_analysed {base = base} h sure (Ok a) says one =
+pub found_analysed : {told : Bool} {area : Area} {base : ℕ} {old new : View} {s : Scan} → IsFound told area base old new s → IsTrue told → (r : Result code.Analysis AnalysisFault) → ((ns : List Numbered) → Knows s base ns → IfOk r (λ a. shown a ≡ analysis_of base ns))
+    → ((ns : List Numbered) → Knows s base ns → OnOk r (stray (steps_of ns) ≡ None)) → IfOk r (IsAnalysed (old.now area).seen base)
+found_analysed {base = base} h sure (Ok a) says none =
     let l = h.found sure in
     let records = numbered_in base l.frames in
+    let order = in_order base l.frames l.stand in
     record {
       gate = base + gate_after 0 l.frames;
       records = records;
       has = record { frames = l.frames; stand = l.has; all = refl; at_gate = refl; within = l.within };
-      stand = l.stand;
-      one = one records l.knows;
+      formed = record {
+        steps = record {
+          above = order.above;
+          owned = order.owned;
+          chained = order.chained;
+          system = order.system;
+          between = order.between;
+          straight = order.straight;
+          one_action = one_action (steps_of records) (none records l.knows);
+        };
+        ended = order.ended;
+        over = order.over;
+        plausible = order.plausible;
+      };
       says = says records l.knows;
     }
-found_analysed h sure (Err e) says one = tt
+found_analysed h sure (Err e) says none = tt
 
-pub found_says : {told : Bool} {area : Area} {base last : ℕ} {old new : View} {s : Scan} → IsFound told area base last old new s → IsTrue told → (gate : ℕ) (ns : List Numbered) → HasRecords (old.now area).seen base gate ns → (r : Result code.Analysis AnalysisFault)
+pub found_says : {told : Bool} {area : Area} {base : ℕ} {old new : View} {s : Scan} → IsFound told area base old new s → IsTrue told → (gate : ℕ) (ns : List Numbered) → HasRecords (old.now area).seen base gate ns → (r : Result code.Analysis AnalysisFault)
     → ((ns : List Numbered) → Knows s base ns → IfOk r (λ a. shown a ≡ analysis_of base ns)) → IfOk r (λ a. shown a ≡ analysis_of base ns)
 found_says {base = base} h sure gate ns has r says =
     let l = h.found sure in
     let same = HasRecords-one (record { frames = l.frames; stand = l.has; all = refl; at_gate = refl; within = l.within }) has in
     subst (λ (x : List Numbered). IfOk r (λ a. shown a ≡ analysis_of base x)) same (says (numbered_in base l.frames) l.knows)
 
-pub found_calls : {told : Bool} {area : Area} {base last : ℕ} {old new : View} {s : Scan} → IsFound told area base last old new s → IsTrue told → (frames : List (List Record)) → Frames (old.now area).seen 0 frames → new.calls ≡ min (old.calls + 1 + 2 * length frames) FULL
+pub found_calls : {told : Bool} {area : Area} {base : ℕ} {old new : View} {s : Scan} → IsFound told area base old new s → IsTrue told → (frames : List (List Record)) → Frames (old.now area).seen 0 frames → new.calls ≡ min (old.calls + 1 + 2 * length frames) FULL
 found_calls {area = area} {old = old} h sure frames has = let l = h.found sure in l.calls ∙ ap (λ (x : List (List Record)). min (old.calls + 1 + 2 * length x) FULL) (Frames-one (old.now area).seen 0 l.frames frames l.has has)

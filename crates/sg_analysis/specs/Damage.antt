@@ -1,38 +1,35 @@
 -- Where a log of page records can't be read on.
-use Rattle.std.specs.Prelude.{◌≡◌, ◌⊎◌, ◌+◌, ◌<◌, ◌≤◌, ℕ, Bool, true, List, [], ◌∷◌, ◌++◌, IsTrue, Result, Ok, Err}
+use Rattle.std.specs.Prelude.{◌≡◌, ◌⊎◌, ◌+◌, ◌≤◌, ℕ, Bool, List, [], ◌∷◌, ◌++◌, IsTrue, Result, Ok, Err}
 use Rattle.sg_base.specs.Ends.{HasRisen}
 use Rattle.sg_base.specs.declared.area.Area.{Area}
 use Rattle.sg_disk.specs.Disk.{Bytes, View}
 use Rattle.sg_record.specs.Records.{Record}
 use Rattle.sg_log.specs.Formed.{IsFormed, AreFormed}
 use Rattle.sg_log.specs.Frames.{LOG_END, gate_after, numbered_in}
-use Rattle.sg_analysis.specs.Sights.{steps_of}
-use Rattle.sg_analysis.specs.Analysis.{unfinished_count}
-use Rattle.sg_analysis.specs.Standing.{all_stand}
+use Rattle.sg_analysis.specs.Placed.{IsStray}
+use Rattle.sg_analysis.specs.Standing.{AreInOrder}
 use Rattle.sg_analysis.specs.declared.fault.AnalysisFault.{AnalysisFault}
 use Rattle.sg_analysis.specs.declared.fault.AnalysisFault.TheVariants.{Disk, Damaged, Memory}
 
--- Behind these frames the gate is open, but no frame stands there whose records may follow, or it ends too late.
+-- Behind these frames the gate is open, but no frame stands there whose records follow as in a formed log, or it ends too late.
 pub record IsTorn (f : Bytes) (base at : ℕ) (frames : List (List Record)) : Type 0 where
   pub there : at ≡ gate_after 0 frames
   pub gate : f at ≡ 1
-  pub none : (rs : List Record) → IsFormed f at rs → base + gate_after at (rs ∷ []) ≤ LOG_END → all_stand base (numbered_in base (frames ++ rs ∷ [])) ≡ true → ⊥
+  pub none : (rs : List Record) → IsFormed f at rs → base + gate_after at (rs ∷ []) ≤ LOG_END → AreInOrder base (numbered_in base (frames ++ rs ∷ [])) → ⊥
 
--- these frames are the whole log, the gate of the last one is at this offset, and more than one action has no end
+-- These frames are the whole log, and an action began in the one with this gate that may not be without an end: one of a
+-- transaction that doesn't go on, or the second one of the log.
 pub record IsAmbiguous (f : Bytes) (base at : ℕ) (frames : List (List Record)) : Type 0 where
-  pub front : List (List Record)
-  pub last : List Record
-  pub all : frames ≡ front ++ last ∷ []
-  pub there : at ≡ gate_after 0 front
   pub closed : f (gate_after 0 frames) ≡ 1 → ⊥
-  pub more : 1 < unfinished_count (steps_of (numbered_in base frames))
+  pub stray : IsStray base at frames
 
--- The log is damaged in the frame whose gate is at this offset: formed frames lead there, whose records may follow one another.
+-- The log is damaged in the frame whose gate is at this offset: formed frames lead there, whose records follow one another as in a
+-- formed log.
 pub record IsDamagedAt (f : Bytes) (base at : ℕ) : Type 0 where
   pub frames : List (List Record)
   pub formed : AreFormed f 0 frames
   pub within : base + gate_after 0 frames ≤ LOG_END
-  pub stand : all_stand base (numbered_in base frames) ≡ true
+  pub order : AreInOrder base (numbered_in base frames)
   pub cause : IsTorn f base at frames ⊎ IsAmbiguous f base at frames
 
 -- an analysis fails only where the disk does, where the log is damaged, or for want of memory

@@ -12,6 +12,7 @@ ghost use Rattle.sg_analysis.specs.Shown.{shown, IsAnalysed};
 
 use crate::AnalysisFault;
 use crate::losers::Losers;
+use crate::opened::Opened;
 use crate::scan::Scan;
 use sg_base::{Lsn, TxnId};
 use sg_disk::{Area, Disk};
@@ -30,6 +31,8 @@ pub struct Analysis {
     pub last_checkpoint: Option<Lsn>,
     /// The system, which is 0, or the loser whose action has no end, with the number of its last record.
     pub unfinished: Option<(TxnId, Lsn)>,
+    /// The system's changes that are open, where its action has no end.
+    pub opened: Opened,
 }
 
 // Room for the greatest body of a frame.
@@ -39,33 +42,32 @@ fn room(alloc: Global) -> Result<Vec<u8>, AllocError>
     vec![in alloc; 0; 65_536]
 }
 
-// Takes all records of the log in, and answers the offset of the gate of its last frame.
+// Takes all records of the log in.
 fn walk<D: Disk>(
     disk: &mut D,
     area: Area,
     base: Lsn,
     space: &mut [u8],
     scan: &mut Scan,
-) -> Result<u64, AnalysisFault>
+) -> Result<(), AnalysisFault>
     requires base { base ≤ LOG_END }
     requires space { GREATEST_BODY ≤ length space.old }
     requires scan { Knows scan.old base [] }
-    ensures found { IfOk result (λ last. IsFound D.told area base last (D.view disk.old) (D.view disk.new) scan.new) }
+    requires unended { scan.old.unended.actions.items ≡ [] }
+    ensures found { OnOk result (IsFound D.told area base (D.view disk.old) (D.view disk.new) scan.new) }
     ensures faults { IfErr result (λ e. AnalysisFails D.told area base (D.view disk.old) (D.view disk.new) e) }
     ensures heeded { HeedsFaults result (D.view disk.old) (D.view disk.new) }
     ensures reads { OnlyReads D.told (D.view disk.old) (D.view disk.new) }
 {
     let mut at = 0;
-    let mut last = 0;
     'frames: loop {
         match read_body(disk, area, base, at, space) {
             Err(fault) => return Err(AnalysisFault::from(fault)),
-            Ok(None) => return Ok(last),
+            Ok(None) => return Ok(()),
             Ok(Some(size)) => {
                 match scan.take(base + at + 5, at, &space[..size]) {
                     Err(fault) => return Err(fault),
                     Ok(()) => {
-                        last = at;
                         at += 5 + size as u64;
                     }
                 }
@@ -76,12 +78,15 @@ fn walk<D: Disk>(
 
 /// Analyses the log in this area, whose first byte has the number `base`. It reads the log once, frame
 /// by frame, up to the first closed gate, and writes nothing. Beside room for one frame it takes memory
-/// for the transactions that go on at one time, however long the log is.
+/// for the transactions that go on at one time, for those that have committed and have no end, and for
+/// those that had begun before the log; and a number for each change that is open at one time, and for
+/// each note that stands, however long the log is.
 ///
-/// It answers `Damaged`, with the offset of a frame's gate, exactly where that frame isn't formed, or a
-/// record of it may not stand behind those before it, as far as the last record of its transaction and
-/// the last one that ended an action tell; or where it is the last one and more than one action has no
-/// end. A formed log is never damaged. It answers `Disk` only where the disk fails.
+/// Its Ok says that the log is formed. It answers `Damaged`, with the offset of a frame's gate, exactly
+/// where that frame isn't formed, or a record of it doesn't stand as a formed log has it behind those
+/// before it; or where an action began in it that has no end and may not be without one: the second of
+/// the log, or one of a transaction that doesn't go on. A formed log is never damaged. It answers `Disk`
+/// only where the disk fails.
 pub fn analyse<D: Disk>(
     alloc: Global,
     disk: &mut D,
@@ -103,7 +108,7 @@ pub fn analyse<D: Disk>(
     let mut space = room(alloc)?;
     let mut scan = Scan::new(alloc, base);
     match walk(disk, area, base, &mut space, &mut scan) {
-        Ok(last) => scan.finish(last),
+        Ok(()) => scan.finish(),
         Err(fault) => Err(fault),
     }
 }

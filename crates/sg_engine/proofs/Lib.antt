@@ -16,3 +16,5 @@ pub mod Says
 pub mod Along
 pub mod Brought
 pub mod Cut
+pub mod Renewed
+pub mod Blocks

@@ -6,6 +6,7 @@
 #![tactic(auto)]
 
 mod changes;
+mod cutting;
 mod engine;
 mod fault;
 mod laws;

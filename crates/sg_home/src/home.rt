@@ -66,21 +66,26 @@ impl<D: Disk + Drop> HomeSpace<D> {
 }
 
 impl<D: Disk> HomeSpace<D> {
-    ghost use Rattle.std.specs.Prelude.{◌≡◌, OnOk, length, ⊤};
+    ghost use Rattle.std.specs.Prelude.{◌≡◌, ◌⊎◌, IsTrue, OnOk, OnErr, length, ⊤};
+    ghost use Rattle.sg_base.specs.declared.area.Area.TheVariants.{Home};
+    ghost use Rattle.sg_disk.specs.Disk.{window};
+    ghost use Rattle.sg_gate.specs.Layout.{PAGE, home_at};
     ghost use Rattle.sg_base.specs.Page.{IsSlotted};
     ghost use Rattle.sg_base.specs.Sheet.{sheet_of};
     ghost use Rattle.sg_ops.specs.Table.{Table};
     ghost use Rattle.sg_space.specs.Pages.{Looks, Looked};
-    ghost use Rattle.sg_home.specs.Home.{home_view};
+    ghost use Rattle.sg_home.specs.Home.{home_view, IsOnlyLookedAt};
 
     // Reads a page into the frame.
     fn load(&mut self, p: PageNo) -> Result<(), SpaceFault>
         ensures slotted { OnOk result (IsSlotted self.new.frame.items) }
         ensures looks { Looks (home_view D.told (D.view self.old.disk) self.old.pages self.old.breaks)
             (home_view D.told (D.view self.new.disk) self.new.pages self.new.breaks)
-            ((t : Table) → ⊤) ((t : Table) → ⊤ → ⊤) result }
+            ((t : Table) → IsOnlyLookedAt D.told (D.view self.old.disk) (D.view self.new.disk) self.old.pages self.new.pages) ((t : Table) → ⊤ → ⊤) result }
         ensures looked { OnOk result (Looked (home_view D.told (D.view self.old.disk) self.old.pages self.old.breaks)
             (home_view D.told (D.view self.old.disk) self.old.pages self.old.breaks).space.pages p.0 (sheet_of self.new.frame.items)) }
+        ensures failed { OnErr result (HasRisen (D.view self.old.disk).faults (D.view self.new.disk).faults
+            ⊎ (IsTrue D.told → IsSlotted (window ((D.view self.old.disk).now Home).seen (home_at p.0) PAGE) → ⊥)) }
     {
         let at = HOMES + PAGE_SIZE as u64 * p.0 as u64;
         match self.disk.read_at(Area::Home, at, self.frame.as_mut_slice()) {
@@ -97,9 +102,10 @@ impl<D: Disk> HomeSpace<D> {
     fn load_band(&mut self, b: BandNo) -> Result<(), SpaceFault>
         ensures looks { Looks (home_view D.told (D.view self.old.disk) self.old.pages self.old.breaks)
             (home_view D.told (D.view self.new.disk) self.new.pages self.new.breaks)
-            ((t : Table) → ⊤) ((t : Table) → ⊤ → ⊤) result }
+            ((t : Table) → IsOnlyLookedAt D.told (D.view self.old.disk) (D.view self.new.disk) self.old.pages self.new.pages) ((t : Table) → ⊤ → ⊤) result }
         ensures looked { OnOk result (Looked (home_view D.told (D.view self.old.disk) self.old.pages self.old.breaks)
             (home_view D.told (D.view self.old.disk) self.old.pages self.old.breaks).space.bands b.0 self.new.window.items) }
+        ensures failed { OnErr result (HasRisen (D.view self.old.disk).faults (D.view self.new.disk).faults) }
     {
         let bands = HOMES + PAGE_SIZE as u64 * self.pages as u64;
         let at = bands + BAND_SIZE as u64 * b.0 as u64;
@@ -131,11 +137,11 @@ impl<D: Disk> HomeSpace<D> {
 
 impl<D: Disk> PageSpace for HomeSpace<D> {
     ghost use Rattle.std.specs.Prelude.{⊤};
-    ghost use Rattle.sg_home.specs.Home.{home_view};
+    ghost use Rattle.sg_home.specs.Home.{home_view, IsOnlyLookedAt, looked_same, looked_then};
 
     ghost view = { λ s. home_view D.told (D.view s.disk) s.pages s.breaks };
 
-    ghost later = { λ t a b. ⊤ };
+    ghost later = { λ t a b. IsOnlyLookedAt D.told (D.view a.disk) (D.view b.disk) a.pages b.pages };
 
     ghost means = { λ s t. ⊤ };
 
@@ -232,9 +238,9 @@ impl<D: Disk> PageSpace for HomeSpace<D> {
         Err(count_break(&mut self.breaks))
     }
 
-    ghost later_same = { λ t s. tt };
+    ghost later_same = { λ t s. looked_same D.told (D.view s.disk) s.pages };
 
-    ghost later_then = { λ t a b c f g. tt };
+    ghost later_then = { λ t a b c f g. looked_then f g };
 
     ghost told_shows = { λ s t. absurd t };
 

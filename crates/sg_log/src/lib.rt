@@ -8,6 +8,7 @@
 //! call or all, with no record torn and no other area touched.
 #![tactic(auto)]
 
+mod copying;
 mod fault;
 mod frame;
 mod laws;

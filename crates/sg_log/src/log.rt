@@ -12,7 +12,9 @@ ghost use Rattle.sg_log.specs.Frames.{Frames, Numbered, HasRecords, SameElsewher
 ghost use Rattle.sg_log.specs.Held.{Tail, IsTail, Holds, tail_of, place_of, end_of, has_room, forced, buffered, appended, durable_after, waiting_after, IsBeforeOrAfter};
 ghost use Rattle.sg_log.specs.Places.{Placed, HoldsAt, StandsAt, first_of, IsRecordText, IsDurable, IsWaiting, IsThere, IsSizeBehind, StandBehind};
 ghost use Rattle.sg_log.specs.Reads.{OnlyReads};
+ghost use Rattle.sg_log.specs.Cut.{IsSplit, gate_of, kept_of, Spares, other_log, cut_to};
 
+use crate::copying::{copy, find_holding, other_area};
 use crate::frame::{seal, write_frame};
 use crate::reading::{body_size, find_gate, read_frame, read_record, record_size, size_of_first};
 use crate::{LogFault, Place};
@@ -498,6 +500,48 @@ impl Log {
         }
         self.force(disk)?;
         Ok(self.buffer(r))
+    }
+
+    /// Cuts the log at a durable byte: copies the frames from the one on that holds it to the other area,
+    /// with the closed gate behind them, and is there from then on. Where that frame is the first one,
+    /// nothing is done. The buffer stays as it is.
+    ///
+    /// It writes nothing to the area in which the log stood, and renews no superblock. After `Disk`
+    /// nothing more is known of the log.
+    pub fn cut<D: Disk>(&mut self, disk: &mut D, point: Lsn) -> Result<(), LogFault>
+        requires front { self.old.base ≤ point }
+        requires before { point < self.old.gate }
+        ensures log { OnOk result ((self.new ≡ self.old) ⊎ (self.new ≡ cut_to self.new.base self.old)) }
+        ensures base { OnOk result ((self.old.base ≤ self.new.base) × (self.new.base ≤ point)) }
+        ensures within { OnOk result (self.new.base ≤ LOG_END) }
+        ensures fault { IfErr result (λ e. e ≡ LogFault.Disk) }
+        // It holds the records from the frame on that holds the point.
+        ensures holds { OnOk result ((ds ps : List Numbered) → IsTrue D.told → Holds (D.view disk.old) self.old ds ps →
+            (s : IsSplit self.old.base point ds) × (self.new.base ≡ gate_of s) × Holds (D.view disk.new) self.new (kept_of s) ps) }
+        ensures none { self.new.base ≡ self.old.base → OnOk result (self.new ≡ self.old) }
+        ensures unwritten { self.new.base ≡ self.old.base → OnOk result ((D.view disk.new).handed ≡ (D.view disk.old).handed) }
+        ensures unchanged { IsTrue D.told → self.new.base ≡ self.old.base → OnOk result ((D.view disk.new).now ≡ (D.view disk.old).now) }
+        // At each moment, faults included, only the other area is touched.
+        ensures any_moment { IsTrue D.told → LeavesOnly (D.view disk.old) (D.view disk.new) (Spares (other_log self.old.area) (D.view disk.old).now) }
+        ensures elsewhere { IsTrue D.told → OnOk result (SameElsewhere (other_log self.old.area) (D.view disk.old).now (D.view disk.new).now) }
+        ensures failed { (ds ps : List Numbered) → IsTrue D.told → Holds (D.view disk.old) self.old ds ps → OnErr result (HasRisen (D.view disk.old).faults (D.view disk.new).faults) }
+        ensures heeded { HeedsFaults result (D.view disk.old) (D.view disk.new) }
+        ensures later { (D.view disk.old).faults ≤ (D.view disk.new).faults }
+        ensures handed { (D.view disk.new).handed + self.old.base ≤ (D.view disk.old).handed + self.old.gate + 1 }
+        ensures kept { (D.view disk.old).handed ≤ (D.view disk.new).handed }
+    {
+        let at = find_holding(disk, self.area, self.base, self.gate, point)?;
+        if at == 0 {
+            return Ok(());
+        }
+        let to = other_area(self.area);
+        let count = self.gate - self.base - at + 1;
+        disk.drop_from(to, 0)?;
+        copy(disk, self.area, at, to, count)?;
+        disk.sync(to)?;
+        self.area = to;
+        self.base += at;
+        Ok(())
     }
 
     /// Makes the buffered records durable, as one frame, and empties the buffer. Where it is empty no

@@ -1,25 +1,21 @@
 -- What is found of a store.
-use Rattle.std.proofs.Common.{◌≡◌, ◌⊎◌, ⊎_elim, ◌≤◌, ◌+◌, max, ℕ, None, Ok, Err, Result, List, [], refl, sym, ◌∙◌, ap, subst}
-use Rattle.sg_base.specs.declared.area.Area.{Area}
+use Rattle.std.proofs.Common.{◌≡◌, ◌⊎◌, ⊎_elim, ◌+◌, max, ℕ, None, Ok, Err, Result, List, [], refl, sym, ◌∙◌, ap, subst}
 use Rattle.sg_base.specs.declared.area.Area.TheVariants.{Home}
-use Rattle.sg_disk.specs.Disk.{View, State, Part, Range}
+use Rattle.sg_disk.specs.Disk.{View, State}
 use Rattle.sg_gate.specs.declared.superblock.Super.{Super}
 use Rattle.sg_gate.specs.declared.fault.GateFault.{GateFault}
 use Rattle.sg_gate.specs.declared.fault.GateFault.TheVariants.{Disk}
 use Rattle.sg_gate.specs.Superblock.{superblock}
 use Rattle.sg_ops.specs.Table.{Table}
 use Rattle.sg_record.specs.Records.{Record}
-use Rattle.sg_log.specs.Frames.{Frames, Numbered, HasRecords, gate_after, numbered_in}
+use Rattle.sg_log.specs.Frames.{Frames, Numbered, HasRecords, gate_after}
 use Rattle.sg_log.specs.Held.{Tail, Holds}
 use Rattle.sg_analysis.specs.Analysis.{Analysis, analysis_of}
 use Rattle.sg_analysis.specs.Shown.{shown}
-use Rattle.sg_places.specs.Asked.{first_unknown}
-use Rattle.sg_places.specs.Text.{IsText}
-use Rattle.sg_places.specs.Placed.{places_in}
+use Rattle.sg_places.specs.Asked.{undone_of, first_unknown}
 use Rattle.sg_find.specs.Prepared.{IsPrepared}
-use Rattle.sg_find.specs.Synced.{reads, redo_point, log_area}
+use Rattle.sg_find.specs.Synced.{redo_point, log_area}
 use Rattle.sg_engine.specs.Engine.{Origin}
-use Rattle.sg_opening.specs.Opening.{IsOpenable}
 use Rattle.sg_open.specs.declared.found.Found.{Found}
 use Rattle.sg_open.specs.Found.{IsSettledAll, Opens, IsFound}
 use Rattle.sg_open.proofs.Over.{held_same}
@@ -39,9 +35,8 @@ module _ (t : Table) (o : Origin) (tail : ℕ) (ds : List Numbered) (v v1 v2 v3 
     (is_log : f.log ≡ record { area = log_area f.geometry; base = f.geometry.base; gate = f.log.gate; buffer = [] })
     (holds : (ns : List Numbered) (g : ℕ) → (v1.now (log_area f.geometry)).pending ≡ [] → HasRecords (v1.now (log_area f.geometry)).seen f.geometry.base g ns → (f.log.gate ≡ g) × Holds v2 f.log ns [])
     (says : (ns : List Numbered) (g : ℕ) → HasRecords (v1.now (log_area f.geometry)).seen f.geometry.base g ns → shown f.analysis ≡ analysis_of f.geometry.base ns)
-    (text : (frames : List (List Record)) → Frames (v2.now (log_area f.geometry)).seen 0 frames → gate ≡ f.geometry.base + gate_after 0 frames → IsText frames f.gathered.text.items)
     (prepared : (frames : List (List Record)) → Frames (v2.now (log_area f.geometry)).seen 0 frames → gate ≡ f.geometry.base + gate_after 0 frames →
-    IsPrepared t f.geometry.pages f.geometry.bands f.geometry.base (max f.geometry.base f.analysis.estimate) f.analysis.losers frames f.gathered.places.items) where
+    IsPrepared t f.geometry.pages f.geometry.bands f.geometry.base (max f.geometry.base f.analysis.estimate) (f.analysis.losers, f.analysis.opened) frames) where
   abbrev s : Super
   s = f.geometry
 
@@ -60,12 +55,9 @@ module _ (t : Table) (o : Origin) (tail : ℕ) (ds : List Numbered) (v v1 v2 v3 
   point : max s.base f.analysis.estimate ≡ redo_point s.base ds
   point = ap (λ (a : Analysis). max s.base a.estimate) (says ds tail has)
 
-  places : f.gathered.places.items ≡ places_in s.pages s.base (redo_point s.base ds) ds
-  places = (prepared has.frames stand at_gate).are ∙ (ap (λ (k : ℕ). places_in s.pages s.base k (numbered_in s.base has.frames)) point ∙ ap (places_in s.pages s.base (redo_point s.base ds)) has.all)
-
-  known : first_unknown t (redo_point s.base ds) ((analysis_of s.base ds).losers) ds ≡ None
-  known = subst (λ (x : Analysis). first_unknown t (max s.base x.estimate) x.losers ds ≡ None) (says ds tail has)
-      (subst (λ (l : List Numbered). first_unknown t (max s.base f.analysis.estimate) f.analysis.losers l ≡ None) has.all (prepared has.frames stand at_gate).known)
+  known : first_unknown t (redo_point s.base ds) (undone_of (analysis_of s.base ds)) ds ≡ None
+  known = subst (λ (x : Analysis). first_unknown t (max s.base x.estimate) (x.losers, x.opened) ds ≡ None) (says ds tail has)
+      (subst (λ (l : List Numbered). first_unknown t (max s.base f.analysis.estimate) (f.analysis.losers, f.analysis.opened) l ≡ None) has.all (prepared has.frames stand at_gate).known)
 
   pub found_is : IsFound t v3 o tail ds f
   found_is = record {
@@ -76,11 +68,8 @@ module _ (t : Table) (o : Origin) (tail : ℕ) (ds : List Numbered) (v v1 v2 v3 
       base = ap (λ (l : Tail). l.base) is_log ∙ ap (λ (x : Super). x.base) same;
     };
     held = held_same v2 v3 f.log ds (ap (λ (st : State). st f.log.area) e3) found_holds.1;
-    frames = has.frames;
-    all = ap (λ (x : Super). numbered_in x.base has.frames) (sym same) ∙ has.all;
-    known = subst (λ (x : Super). first_unknown t (redo_point x.base ds) ((analysis_of x.base ds).losers) ds ≡ None) same known;
-    text_is = text has.frames stand at_gate;
-    places_are = subst (λ (x : Super). f.gathered.places.items ≡ places_in x.pages x.base (redo_point x.base ds) ds) same places;
+    point = point ∙ ap (λ (x : Super). redo_point x.base ds) same;
+    known = subst (λ (x : Super). first_unknown t (redo_point x.base ds) (undone_of (analysis_of x.base ds)) ds ≡ None) same known;
   }
 
 -- the log is there where the superblock that was read says so

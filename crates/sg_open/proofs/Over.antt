@@ -1,45 +1,32 @@
--- Each image of repeating stands, and at the end the engine runs.
-use Rattle.std.proofs.Common.{◌≡◌, ◌≢◌, ◌⊎◌, inl, inr, ⊎_elim, ◌<◌, ◌≤◌, ◌+◌, ℕ, Bool, true, false, Option, Some, None, Ok, List, [], ◌∷◌, ◌++◌, length, refl, sym, ◌∙◌, ap, subst, arith, append-nil, add-zero}
-use Rattle.sg_base.specs.declared.area.Area.{Area}
-use Rattle.sg_base.specs.declared.area.Area.TheVariants.{Home, Log0, Log1}
-use Rattle.sg_base.specs.declared.page.TheConstants.{BAND_SIZE}
-use Rattle.sg_disk.specs.Disk.{Bytes, Image, Part, State, LeavesPart, Leaves, View, LeavesOnly, Range, Spoils}
-use Rattle.sg_disk.proofs.Moments.{seen_image, weaker, joined}
-use Rattle.sg_gate.specs.Layout.{HEADER, PLACES, HOMES, home_at}
+-- An open batch is laid over: each image stands, and then nothing is repeated yet. Once all is, the engine runs.
+use Rattle.std.proofs.Common.{◌≡◌, inl, inr, ◌<◌, ◌≤◌, ◌+◌, ℕ, Option, Some, None, Ok, List, [], refl, sym, ◌∙◌, ap, subst, arith}
+use Rattle.sg_base.specs.declared.area.Area.TheVariants.{Home}
+use Rattle.sg_disk.specs.Disk.{Bytes, Image, Part, LeavesPart, View, LeavesOnly, Range, Spoils}
+use Rattle.sg_gate.specs.Layout.{HOMES}
 use Rattle.sg_gate.specs.Batch.{laid, IsReady, IsLaid, IsWhole, IsSettled}
-use Rattle.sg_gate.specs.declared.superblock.Super.{Super}
 use Rattle.sg_gate.specs.Superblock.{superblock}
 use Rattle.sg_gate.proofs.Slots.{superblock_agree}
 use Rattle.sg_ops.specs.Table.{Table}
-use Rattle.sg_redo.specs.declared.place.Place.{Place}
 use Rattle.sg_record.specs.Records.{Record}
 use Rattle.sg_log.specs.Frames.{Numbered, Frames, HasRecords, gate_after, numbered_in}
-use Rattle.sg_log.specs.Held.{Tail, Holds, tail_of, forced}
+use Rattle.sg_log.specs.Held.{Tail, Holds, tail_of}
 use Rattle.sg_log.proofs.Steps.{closed, gate_shut}
-use Rattle.sg_log.proofs.Holding.{gate_moved}
 use Rattle.sg_pool.specs.declared.pool.Pool.{Pool}
-use Rattle.sg_pool.specs.Units.{Geometry, Units, EachPage, IsBacked, IsBelow, page_at, band_byte}
-use Rattle.sg_pool.specs.Pooled.{sizes, contents, Backs, IsLogged, last_of, band_since_of}
-use Rattle.sg_pool.specs.Shelves.{lasts, AreLogged}
-use Rattle.sg_pool.specs.Moments.{IsSameOrForced}
-use Rattle.sg_pool.specs.Repeated.{last_lsn}
-use Rattle.sg_pool.specs.Redone.{PartRecords, places_of, records_of, IsRedone, AreHomesKnown, IsRedoMoment, ArePlacesBelow}
-use Rattle.sg_pool.specs.Redoing.{IsDurable, AreLastsRedone}
-use Rattle.sg_pool.proofs.RedoMoments.{tail_is_gate, forced_same}
-use Rattle.sg_engine.specs.Engine.{Origin, entries, geometry, log_area, IsLogOf, IsStanding, IsEngineOf}
-use Rattle.sg_engine.specs.Numbers.{AllUnder}
-use Rattle.sg_redo.specs.Places.{window_records}
+use Rattle.sg_pool.specs.Units.{Geometry, IsBacked, IsBelow}
+use Rattle.sg_pool.specs.Pooled.{sizes, contents, Backs}
+use Rattle.sg_pool.specs.Shelves.{lasts}
+use Rattle.sg_pool.proofs.RedoMoments.{tail_is_gate}
+use Rattle.sg_engine.specs.Engine.{Origin, entries, geometry, log_area, IsStanding}
 use Rattle.sg_engine.specs.Running.{IsEngine, IsAllowed}
-use Rattle.sg_engine.specs.Kept.{IsEarly}
-use Rattle.sg_engine.proofs.Logs.{home_apart}
-use Rattle.sg_places.specs.Placed.{places_in}
+use Rattle.sg_engine.proofs.Logs.{home_apart, none_more}
 use Rattle.sg_find.specs.Synced.{reads}
-use Rattle.sg_opening.specs.Opening.{IsOpenable, IsFresh, AreFrom, AreThere, last_number}
+use Rattle.sg_opening.specs.Opening.{IsFresh}
+use Rattle.sg_opening.specs.Parts.{AreRepeated}
 use Rattle.sg_opening.proofs.Opened as opened
 use Rattle.sg_opening.proofs.Opened.{laid_low}
-use Rattle.sg_opening.proofs.Placed.{AreInText, text_holds, are_from, last_of_places, none_of_places, some_or_none}
-use Rattle.sg_opening.proofs.Asked.{places_below, frames_under, record_number}
-use Rattle.sg_open.specs.Repeatable.{IsNew, IsRepeatable}
+use Rattle.sg_opening.proofs.Parts as parts
+use Rattle.sg_opening.proofs.Parts.{none_repeated}
+use Rattle.sg_open.specs.Repeatable.{MayRepeat, IsRepeatable, IsRepeating}
 
 -- the same bytes hold the same frames
 pub same_frames : (f g : Bytes) (at : ℕ) (frames : List (List Record)) → ((i : ℕ) → g i ≡ f i) → Frames f at frames → Frames g at frames
@@ -72,15 +59,12 @@ held_same v w log ds same h = record {
   within = h.within;
 }
 
-module _ (t : Table) (o : Origin) (r : ℕ) (ds : List Numbered) (v : View) (log : Tail) (pool : Pool) (text : List ℕ) (places : List Place) (is : IsRepeatable t o r ds v log pool text places) where
+module _ (t : Table) (o : Origin) (r : ℕ) (ds : List Numbered) (v : View) (log : Tail) (pool : Pool) (is : IsRepeatable t o r ds v log pool) where
   abbrev g : Geometry
   g = geometry o.super
 
   pub apart : log.area ≡ Home → ⊥
   apart at = home_apart o (sym at ∙ is.place.area)
-
-  abbrev of : PartRecords
-  of = records_of g t text places
 
   -- while an open batch is laid over
   pub laid_stands : (c : Image) → IsWhole v.now o.super.pages (laid (v.now Home).seen) c → IsStanding o ds ds r c
@@ -132,82 +116,64 @@ module _ (t : Table) (o : Origin) (r : ℕ) (ds : List Numbered) (v : View) (log
           marked = λ b i is_band is_byte. backs_here.clean b i (is.new.bands w0 b);
         }
 
-    in_text : AreInText text o.super.base ds
-    in_text = subst (λ (l : List Numbered). AreInText text o.super.base l) is.all (text_holds text o.super.base is.frames is.text_is)
+    -- NOTHING IS REPEATED YET
+    pub begins : LeavesOnly v w0 (IsStanding o ds ds r) → IsRepeating o r ds [] held.frames w0 log pool
+    begins run =
+        let base : log.base ≡ o.super.base = is.place.base in
+        record {
+          rests = λ c leaves. run.each c (inl leaves);
+          super = super_is;
+          place = is.place;
+          all = ap (λ (n : ℕ). numbered_in n held.frames) (sym base) ∙ held.all;
+          stand = held.stand;
+          at_gate = held.at_gate ∙ ap (λ (n : ℕ). n + gate_after 0 held.frames) base;
+          held = held;
+          size = is.new.size;
+          backed = backs;
+          logged = record {
+            pages = λ n l lt e. absurd (is.new.written l (inl (n, lt, e)));
+            bands = λ b l e. absurd (nothing l (sym (is.new.bands w0 b) ∙ e));
+          };
+          units = none_repeated o r log.gate ds (reads v) is.openable (o.super.base + 0) (w0.now Home).seen (lasts pool.shelf) (contents w0 pool) fresh;
+        }
 
-    from : AreFrom g r (entries o ds) of
-    from = subst (λ (l : List Place). AreFrom g r (entries o ds) (records_of g t text l)) (sym is.places_are) (are_from o t text o.super.base r ds is.effect is.openable.there in_text)
+    pub may_repeat : MayRepeat t o r log.gate ds
+    may_repeat = record { read = reads v; openable = is.openable; effect = is.effect; undone = is.undone; known = is.known }
 
-    -- each number is below the log's gate, as its frames say
-    under : AllUnder record_number log.gate ds
-    under = subst (λ (l : List Numbered). AllUnder record_number log.gate l) held.all (frames_under log.base log.gate held.frames (omega (arith, at_end)))
-      where
-        at_end : gate_after log.base held.frames ≡ log.gate
-        at_end = ap (λ (n : ℕ). gate_after n held.frames) (sym (add-zero log.base)) ∙ gate_moved log.base 0 held.frames ∙ sym held.at_gate
+    -- ALL IS REPEATED
+    module _ (w : View) (log' : Tail) (new : Pool) (same : log' ≡ log) (frames : List (List Record)) (now : IsRepeating o r ds frames [] w log' new) where
+      last_part : IsRepeating o r ds frames [] w log new
+      last_part = subst (λ (x : Tail). IsRepeating o r ds frames [] w x new) same now
 
-    pub durable : IsDurable w0 log ds pool places
-    durable = record {
-      holds = held;
-      logged = record {
-        pages = λ n l lt e. absurd (is.new.written l (inl (n, lt, e)));
-        bands = λ b l e. absurd (nothing l (sym (is.new.bands w0 b) ∙ e));
-      };
-      below = subst (λ (l : List Place). ArePlacesBelow log.gate l) (sym is.places_are) (places_below o.super.pages o.super.bands o.super.base r log.gate ds under);
-    }
+      all_is : numbered_in o.super.base frames ≡ ds
+      all_is = ap (numbered_in o.super.base) (none_more frames) ∙ last_part.all
 
-    pub part_stands : (c : Image) → IsRedoMoment (sizes pool) w0 log ds (lasts pool.shelf) (records_of (sizes pool) t text places) (contents w0 pool) c → IsStanding o ds ds r c
-    part_stands c moment = opened.redo_stands o r log.gate ds (reads v) is.openable w0 log is.place refl super_is (lasts pool.shelf) of (contents w0 pool) fresh from c
-        (subst (λ (x : Geometry). IsRedoMoment x w0 log ds (lasts pool.shelf) (records_of x t text places) (contents w0 pool) c) is.new.size moment)
+      to : ℕ
+      to = o.super.base + gate_after 0 frames
 
-    -- AT THE END
-    module _ (w : View) (bytes : (a : Area) (i : ℕ) → (w.now a).seen i < 256) (moments : LeavesOnly w0 w (IsRedoMoment (sizes pool) w0 log ds (lasts pool.shelf) (records_of (sizes pool) t text places) (contents w0 pool)))
-        (log' : Tail) (log_is : IsSameOrForced w log log' ds []) (new : Pool) (size : sizes new ≡ sizes pool) (backed : Backs (sizes pool) w new)
-        (redone : IsRedone (sizes pool) (records_of (sizes pool) t text places) (contents w0 pool) (contents w new))
-        (homes : AreHomesKnown (sizes pool) (w.now Home) (records_of (sizes pool) t text places) (contents w0 pool) (contents w new))
-        (logged : IsLogged (tail_of log) w new) (last_ones : AreLastsRedone (sizes pool) places pool new) where
-      log_same : (log' ≡ log) × Holds w log ds []
-      log_same = ⊎_elim
-          (λ same. same)
-          (λ more. (more.0 ∙ forced_same w0 log ds held, subst (λ (x : Tail). Holds w x ds []) (forced_same w0 log ds held) (subst (λ (l : List Numbered). Holds w (forced log) l []) (append-nil ds) more.1)))
-          log_is
+      reached : o.super.base + gate_after 0 frames ≤ log.gate
+      reached =
+          let whole : log.gate ≡ o.super.base + gate_after 0 frames = last_part.at_gate ∙ ap (λ (l : List (List Record)). o.super.base + gate_after 0 l) (sym (none_more frames)) in
+          omega (arith, whole)
 
-      super_then : superblock (w.now Home).seen ≡ Ok o.super
-      super_then = superblock_agree (w0.now Home).seen (w.now Home).seen (moments.each (reads w) (inl (seen_image w bytes))).superblock ∙ super_is
+      backed_here : IsBacked g (w.now Home) (contents w new)
+      backed_here = subst (λ (x : Geometry). IsBacked x (w.now Home) (contents w new)) last_part.size last_part.backed
 
-      its_last : (b l : ℕ) → b < g.bands → (contents w new).band_since b ≡ Some l → lasts new.shelf b ≡ last_number (of.band b)
-      its_last b l lt some = ⊎_elim
-          (λ none. absurd (nothing l (sym (is.new.bands w0 b) ∙ (one.others b l none some).0)))
-          (λ there. one.its b l there some ∙ subst (λ (ps : List Place). last_lsn (places_of (g.pages + b) ps) ≡ last_number (window_records t text (places_of (g.pages + b) ps))) (sym is.places_are) (last_of_places t text o.super.pages o.super.bands o.super.base r b ds is.openable.there in_text))
-          (some_or_none (places_of (g.pages + b) places))
-        where
-          one : AreLastsRedone g places pool new
-          one = subst (λ (x : Geometry). AreLastsRedone x places pool new) is.new.size last_ones
+      units_all : AreRepeated g o.first (entries o ds) (entries o ds) r (o.super.base + gate_after 0 frames) log.gate (w.now Home).seen (lasts new.shelf) (contents w new)
+      units_all = subst (λ (l : List Numbered). AreRepeated g o.first (entries o ds) (entries o l) r (o.super.base + gate_after 0 frames) log.gate (w.now Home).seen (lasts new.shelf) (contents w new)) all_is last_part.units
 
-      runs_same : IsEngineOf o w log ds [] (lasts new.shelf) (contents w new)
-      runs_same = opened.runs o r log.gate ds (reads v) is.openable w0 log is.place refl super_is (lasts pool.shelf) of (contents w0 pool) fresh from
-          w log is.place refl (tail_is_gate w0 log ds held) super_then log_same.1 (lasts new.shelf) (contents w new)
-          (subst (λ (x : Geometry). IsBacked x (w.now Home) (contents w new)) is.new.size backed)
-          (subst (λ (x : Geometry). IsRedone x (records_of x t text places) (contents w0 pool) (contents w new)) is.new.size redone)
-          (subst (λ (x : Geometry). AreHomesKnown x (w.now Home) (records_of x t text places) (contents w0 pool) (contents w new)) is.new.size homes)
-          (subst (λ (x : Geometry). IsBelow x (tail_of log) (contents w new)) (size ∙ is.new.size) logged.pages)
-          its_last
-
-      early_same : r ≤ log.gate → IsEarly g (tail_of log) r (contents w new)
-      early_same = opened.early o r log.gate ds (reads v) is.openable w0 log is.place refl super_is (lasts pool.shelf) of (contents w0 pool) fresh from
-          w log is.place refl (tail_is_gate w0 log ds held) super_then log_same.1 (lasts new.shelf) (contents w new)
-          (subst (λ (x : Geometry). IsBacked x (w.now Home) (contents w new)) is.new.size backed)
-          (subst (λ (x : Geometry). IsRedone x (records_of x t text places) (contents w0 pool) (contents w new)) is.new.size redone)
-          (subst (λ (x : Geometry). AreHomesKnown x (w.now Home) (records_of x t text places) (contents w0 pool) (contents w new)) is.new.size homes)
-          (subst (λ (x : Geometry). IsBelow x (tail_of log) (contents w new)) (size ∙ is.new.size) logged.pages)
-          its_last
+      low : IsBelow g (tail_of log) (contents w new)
+      low = subst (λ (x : Geometry). IsBelow x (tail_of log) (contents w new)) last_part.size last_part.logged.pages
 
       -- the redo point is allowed from then on
       pub early : r ≤ log.gate → IsAllowed o w log' new r
-      early le = subst (λ (x : Tail). IsAllowed o w x new r) (sym log_same.0) (early_same le)
+      early le = subst (λ (x : Tail). IsAllowed o w x new r) (sym same) (parts.early o r log.gate ds (reads v) is.openable (o.super.base + gate_after 0 frames) reached w (lasts new.shelf) (contents w new) backed_here units_all
+          log is.place refl (tail_is_gate w log ds last_part.held) last_part.super last_part.held low le)
 
       pub runs : IsEngine o w log' ds [] new
-      runs = subst (λ (x : Tail). IsEngine o w x ds [] new) (sym log_same.0) (record {
-        sizes = size ∙ is.new.size;
-        engine = runs_same;
-        logged = logged.bands;
+      runs = subst (λ (x : Tail). IsEngine o w x ds [] new) (sym same) (record {
+        sizes = last_part.size;
+        engine = parts.runs o r log.gate ds (reads v) is.openable (o.super.base + gate_after 0 frames) reached w (lasts new.shelf) (contents w new) backed_here units_all
+            log is.place refl (tail_is_gate w log ds last_part.held) last_part.super last_part.held low;
+        logged = last_part.logged.bands;
       })

@@ -1,31 +1,23 @@
 -- Why a store isn't opened whose image can be opened.
-use Rattle.std.proofs.Common.{◌≡◌, ◌⊎◌, inl, inr, ⊎_elim, ◌<◌, ◌≤◌, ◌+◌, ◌&&◌, max, ℕ, Bool, true, false, Option, Some, None, Ok, Err, Result, List, [], ◌∷◌, ◌++◌, length, IsTrue, refl, sym, ◌∙◌, ap, subst, arith, cond}
+use Rattle.std.proofs.Common.{◌≡◌, ◌≤◌, ◌+◌, ◌&&◌, max, ℕ, Bool, true, Option, Some, None, List, [], ◌∷◌, ◌++◌, length, refl, sym, ◌∙◌, ap, subst, arith, cond}
 use Rattle.sg_base.specs.Ends.{HasRisen}
-use Rattle.sg_base.specs.declared.area.Area.{Area}
-use Rattle.sg_base.specs.declared.area.Area.TheVariants.{Home}
-use Rattle.sg_disk.specs.Disk.{View, State}
+use Rattle.sg_disk.specs.Disk.{View}
 use Rattle.sg_gate.specs.declared.superblock.Super.{Super}
-use Rattle.sg_gate.specs.declared.fault.GateFault.{GateFault}
-use Rattle.sg_gate.specs.declared.fault.GateFault.TheVariants as gates
-use Rattle.sg_gate.specs.Superblock.{superblock}
-use Rattle.sg_gate.specs.Faults.{ReadFails}
 use Rattle.sg_ops.specs.Table.{Table}
 use Rattle.sg_redo.specs.Places.{changed_by}
 use Rattle.sg_record.specs.Records.{Record, spelled}
 use Rattle.sg_log.specs.Texts.{spelled_all}
-use Rattle.sg_log.specs.Frames.{Frames, Numbered, HasRecords, text_of, gate_after, numbered_from, numbered_in}
-use Rattle.sg_log.specs.Formed as log
-use Rattle.sg_analysis.specs.Damage as damage
+use Rattle.sg_log.specs.Frames.{Numbered, text_of, numbered_from, numbered_in}
 use Rattle.sg_analysis.specs.Analysis.{Analysis, analysis_of}
-use Rattle.sg_places.specs.Asked.{is_there, all_there, first_outside, first_unknown}
+use Rattle.sg_places.specs.Asked.{undone_of, is_there, all_there, first_outside, first_unknown}
 use Rattle.sg_engine.specs.Engine.{Origin, log_area}
 use Rattle.sg_find.specs.Synced.{redo_point}
-use Rattle.sg_find.specs.Refused.{LogRefused, TextRefused, of_gate}
+use Rattle.sg_find.specs.Refused.{TextRefused}
 use Rattle.sg_find.specs.declared.fault.OpenFault.{OpenFault}
 use Rattle.sg_find.specs.declared.fault.OpenFault.TheVariants.{Disk, Memory, NotAStore, Damaged, UnknownOperation}
-use Rattle.sg_opening.specs.Opening.{IsOpenable, AreThere}
+use Rattle.sg_opening.specs.Opening.{AreThere}
 use Rattle.sg_open.specs.Found.{Opens}
-use Rattle.sg_open.specs.Refusals.{StoreRefused, is_missing}
+use Rattle.sg_open.specs.Refusals.{StoreRefused}
 
 rise : (a b c : ℕ) → a ≤ b → HasRisen b c → HasRisen a c
 rise a b c le risen = λ few. omega (arith, le, risen few)
@@ -34,7 +26,7 @@ rise a b c le risen = λ few. omega (arith, le, risen few)
 both_true : (a b : Bool) → a ≡ true → b ≡ true → (a && b) ≡ true
 both_true a b x y = ap (λ c. c && b) x ∙ y
 
-there_first : (pages bands : ℕ) (ns ms : List Numbered) → AreThere pages bands (ns ++ ms) → AreThere pages bands ns × AreThere pages bands ms
+pub there_first : (pages bands : ℕ) (ns ms : List Numbered) → AreThere pages bands (ns ++ ms) → AreThere pages bands ns × AreThere pages bands ms
 there_first pages bands [] ms all = (tt, all)
 there_first pages bands (n ∷ ns) ms all = let more = there_first pages bands ns ms all.1 in ((all.0, more.0), more.1)
 
@@ -42,7 +34,7 @@ body_all : (pages bands lsn : ℕ) (rs : List Record) → AreThere pages bands (
 body_all pages bands lsn [] all = refl
 body_all pages bands lsn (r ∷ rs) all = both_true (is_there pages bands (changed_by r.says)) (all_there pages bands rs) all.0 (body_all pages bands (lsn + length (spelled r)) rs all.1)
 
-none_out : (pages bands at gate : ℕ) (frames : List (List Record)) → AreThere pages bands (numbered_in gate frames) → first_outside pages bands at frames ≡ None
+pub none_out : (pages bands at gate : ℕ) (frames : List (List Record)) → AreThere pages bands (numbered_in gate frames) → first_outside pages bands at frames ≡ None
 none_out pages bands at gate [] all = refl
 none_out pages bands at gate (rs ∷ frames) all =
     let size = length (text_of (spelled_all rs)) in
@@ -53,7 +45,7 @@ some_none : (at : ℕ) (x : Option ℕ) → x ≡ None → x ≡ Some at → ⊥
 some_none at x none some = cc
 
 pub text_refused_then : (told : Bool) (t : Table) (o : Origin) (tail : ℕ) (ds : List Numbered) (v v2 w : View) (s : Super) (a : Analysis) (frames : List (List Record)) (e : OpenFault) → Opens o tail ds v → s ≡ o.super → v.faults ≤ v2.faults
-    → numbered_in s.base frames ≡ ds → a ≡ analysis_of s.base ds → TextRefused t (log_area s) s.pages s.bands s.base (max s.base a.estimate) a.losers frames v2 w e → StoreRefused told t o ds v w e
+    → numbered_in s.base frames ≡ ds → a ≡ analysis_of s.base ds → TextRefused t (log_area s) s.pages s.bands s.base (max s.base a.estimate) (a.losers, a.opened) frames v2 w e → StoreRefused told t o ds v w e
 text_refused_then told t o tail ds v v2 w s a frames Disk opens same later all says h = rise v.faults v2.faults w.faults later h
 text_refused_then told t o tail ds v v2 w s a frames Memory opens same later all says h = tt
 text_refused_then told t o tail ds v v2 w s a frames NotAStore opens same later all says h = absurd h
@@ -61,6 +53,6 @@ text_refused_then told t o tail ds v v2 w s a frames (Damaged there at) opens sa
     let there : AreThere s.pages s.bands (numbered_in s.base frames) = subst (λ (l : List Numbered). AreThere s.pages s.bands l) (sym all) (subst (λ (x : Super). AreThere x.pages x.bands ds) (sym same) opens.there) in
     absurd (some_none at (first_outside s.pages s.bands 0 frames) (none_out s.pages s.bands 0 s.base frames there) h.1)
 text_refused_then told t o tail ds v v2 w s a frames (UnknownOperation code) opens same later all says h =
-    let here : first_unknown t (max s.base a.estimate) a.losers ds ≡ Some code = ap (λ (l : List Numbered). first_unknown t (max s.base a.estimate) a.losers l) (sym all) ∙ h.1 in
-    let then : first_unknown t (max s.base ((analysis_of s.base ds).estimate)) ((analysis_of s.base ds).losers) ds ≡ Some code = subst (λ (x : Analysis). first_unknown t (max s.base x.estimate) x.losers ds ≡ Some code) says here in
-    subst (λ (x : Super). first_unknown t (redo_point x.base ds) ((analysis_of x.base ds).losers) ds ≡ Some code) same then
+    let here : first_unknown t (max s.base a.estimate) (a.losers, a.opened) ds ≡ Some code = ap (λ (l : List Numbered). first_unknown t (max s.base a.estimate) (a.losers, a.opened) l) (sym all) ∙ h.1 in
+    let then : first_unknown t (max s.base ((analysis_of s.base ds).estimate)) (undone_of (analysis_of s.base ds)) ds ≡ Some code = subst (λ (x : Analysis). first_unknown t (max s.base x.estimate) (x.losers, x.opened) ds ≡ Some code) says here in
+    subst (λ (x : Super). first_unknown t (redo_point x.base ds) (undone_of (analysis_of x.base ds)) ds ≡ Some code) same then

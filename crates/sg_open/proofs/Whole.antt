@@ -1,23 +1,22 @@
 -- From what was found to a running engine.
-use Rattle.std.proofs.Common.{◌≡◌, ◌⊎◌, inl, inr, ⊎_elim, ◌≤◌, ◌+◌, ℕ, Bool, true, false, Ok, Err, Result, OnOk, List, [], refl, sym, ◌∙◌, ap, subst}
+use Rattle.std.proofs.Common.{◌≡◌, ◌⊎◌, inr, ⊎_elim, max, ℕ, true, false, Ok, Err, Result, OnOk, List, refl, sym, ◌∙◌, ap, subst}
 use Rattle.std.specs.Result.{is_err}
-use Rattle.sg_base.specs.declared.area.Area.{Area}
+use Rattle.sg_places.specs.Asked.{undone_of}
 use Rattle.sg_base.specs.declared.area.Area.TheVariants.{Home}
-use Rattle.sg_disk.specs.Disk.{Bytes, Image, State, View, Leaves, LeavesOnly, LeavesPart, Range, Spoils}
+use Rattle.sg_disk.specs.Disk.{Bytes, Image, State, View, Leaves, LeavesOnly, Range, Spoils}
 use Rattle.sg_disk.proofs.Moments.{weaker, joined}
 use Rattle.sg_gate.specs.Layout.{HEADER}
-use Rattle.sg_gate.specs.Batch.{laid, IsBatch, IsWhole, numbers_of}
+use Rattle.sg_gate.specs.Batch.{laid, IsBatch, numbers_of}
 use Rattle.sg_gate.specs.Superblock.{superblock}
 use Rattle.sg_gate.specs.declared.superblock.Super.{Super}
 use Rattle.sg_gate.proofs.Laid.{rest_moments}
 use Rattle.sg_ops.specs.Table.{Table}
 use Rattle.sg_record.specs.Records.{Record}
 use Rattle.sg_log.specs.Frames.{Numbered, HasRecords}
-use Rattle.sg_redo.specs.declared.place.Place.{Place}
+use Rattle.sg_analysis.specs.Analysis.{analysis_of}
 use Rattle.sg_pool.specs.declared.pool.Pool.{Pool}
 use Rattle.sg_engine.specs.Effects.{effect_in}
-use Rattle.sg_engine.specs.Engine.{Origin, entries, geometry, log_area, IsStanding}
-use Rattle.sg_engine.specs.History.{IsSound, Homes}
+use Rattle.sg_engine.specs.Engine.{Origin, geometry, log_area, IsStanding}
 use Rattle.sg_engine.specs.Kept.{home_in}
 use Rattle.sg_engine.proofs.Logs.{home_apart}
 use Rattle.sg_find.specs.Synced.{AreSynced, reads, redo_point}
@@ -62,18 +61,16 @@ reading_stands o tail ds v w settled opens run =
 
 -- what was found can be repeated over a new pool
 pub repeatable : (t : Table) (o : Origin) (tail : ℕ) (ds : List Numbered) (v : View) (f : Found) (pool : Pool) → IsSettledAll v → Opens o tail ds v → ((lsn : ℕ) (x : Record) → o.effect lsn x ≡ effect_in t lsn x)
-    → IsFound t v o tail ds f → IsNew f.geometry pool → IsRepeatable t o (redo_point o.super.base ds) ds v f.log pool f.gathered.text.items f.gathered.places.items
+    → IsFound t v o tail ds f → IsNew f.geometry pool → IsRepeatable t o (redo_point o.super.base ds) ds v f.log pool
 repeatable t o tail ds v f pool settled opens effect found new = record {
   settled = settled;
   openable = subst (λ (n : ℕ). IsOpenable o (redo_point o.super.base ds) n ds (reads v)) (sym found.gate) opens;
   effect = effect;
+  undone = undone_of (analysis_of o.super.base ds);
+  known = found.known;
   place = found.place;
   held = found.held;
   new = subst (λ (s : Super). IsNew s pool) found.super new;
-  frames = found.frames;
-  all = found.all;
-  text_is = found.text_is;
-  places_are = found.places_are;
 }
 
 -- what a call gave that succeeded
@@ -97,13 +94,11 @@ module _ (t : Table) (o : Origin) (tail : ℕ) (ds : List Numbered) (v v1 v2 : V
   pub opening_all : (w : View) → LeavesOnly v v1 (Leaves v.now) → LeavesOnly v1 v2 (Leaves v1.now) → LeavesOnly v2 w (IsStanding o ds ds (redo_point o.super.base ds)) → AreOpening o ds v w
   opening_all w first run more = inr (v1, synced, first, joined (reading_stands o tail ds v1 v2 synced.settled opens1 run) more)
 
-  pub at_hand : (f : Found) (pool : Pool) (text : List ℕ) (places : List Place) → v2.now ≡ v1.now → ((lsn : ℕ) (x : Record) → o.effect lsn x ≡ effect_in t lsn x)
-      → IsFound t v2 o tail ds f → IsNew f.geometry pool → text ≡ f.gathered.text.items → places ≡ f.gathered.places.items
-      → IsRepeatable t o (redo_point o.super.base ds) ds v2 f.log pool text places
-  at_hand f pool text places same effect found new text_is places_is =
-      subst (λ (l : List ℕ). IsRepeatable t o (redo_point o.super.base ds) ds v2 f.log pool l places) (sym text_is)
-      (subst (λ (l : List Place). IsRepeatable t o (redo_point o.super.base ds) ds v2 f.log pool f.gathered.text.items l) (sym places_is)
-      (repeatable t o tail ds v2 f pool (settled_same v1 v2 same synced.settled) (opens_same o tail ds v1 v2 same opens1) effect found new))
+  pub at_hand : (f : Found) (pool : Pool) (point : ℕ) → v2.now ≡ v1.now → ((lsn : ℕ) (x : Record) → o.effect lsn x ≡ effect_in t lsn x)
+      → IsFound t v2 o tail ds f → IsNew f.geometry pool → point ≡ max f.geometry.base f.analysis.estimate → IsRepeatable t o point ds v2 f.log pool
+  at_hand f pool point same effect found new at =
+      subst (λ (k : ℕ). IsRepeatable t o k ds v2 f.log pool) (sym (at ∙ found.point))
+      (repeatable t o tail ds v2 f pool (settled_same v1 v2 same synced.settled) (opens_same o tail ds v1 v2 same opens1) effect found new)
 
 ok_err : {T E : Type 0} (x : T) (e : E) → Ok x ≡ Err e → ⊥
 ok_err x e is = cc

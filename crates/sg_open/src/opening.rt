@@ -1,22 +1,19 @@
 // Opening.
-ghost use Rattle.std.specs.Prelude.{◌≡◌, ◌≢◌, ◌⊎◌, ◌+◌, ◌<◌, ◌≤◌, ◌^◌, ℕ, List, [], All, length, IsTrue, IfOk, IfErr, OnOk};
+ghost use Rattle.std.specs.Prelude.{◌≡◌, ◌≢◌, ◌⊎◌, ◌+◌, ◌≤◌, ℕ, List, [], length, IsTrue, IfOk, IfErr, OnOk};
 ghost use Rattle.sg_base.specs.declared.area.Area.TheVariants.{Home};
 ghost use Rattle.sg_gate.specs.Superblock.{IsSuper};
 ghost use Rattle.sg_disk.specs.Heeds.{Heeds};
 ghost use Rattle.sg_ops.specs.Table.{table_of};
-ghost use Rattle.sg_pool.specs.Pooled.{sizes};
-ghost use Rattle.sg_pool.specs.Redone.{AreInOrder};
-ghost use Rattle.sg_redo.specs.Units.{AreKnown};
 ghost use Rattle.sg_record.specs.Records.{Record};
 ghost use Rattle.sg_log.specs.Frames.{Numbered};
 ghost use Rattle.sg_engine.specs.Effects.{effect_in};
 ghost use Rattle.sg_engine.specs.Engine.{Origin};
 ghost use Rattle.sg_engine.specs.Running.{IsEngine, IsAllowed};
 ghost use Rattle.sg_find.specs.Faults.{is_disk};
-ghost use Rattle.sg_find.specs.Synced.{redo_point};
+ghost use Rattle.sg_find.specs.Synced.{reads, redo_point};
 ghost use Rattle.sg_places.specs.Placed.{places_in};
 ghost use Rattle.sg_open.specs.Repeatable.{IsNew};
-ghost use Rattle.sg_open.specs.Refusals.{StoreRefused, IsUnwrittenAt};
+ghost use Rattle.sg_open.specs.Refusals.{StoreRefused, IsUnwrittenAt, IsCause, IsLateCause, IsAccepted};
 ghost use Rattle.sg_open.specs.Found.{Opens, AreOpening};
 
 use crate::found::{Found, find};
@@ -24,12 +21,11 @@ use crate::repeating::repeat;
 use sg_analysis::Analysis;
 use sg_base::Steps;
 use sg_disk::Disk;
-use sg_find::{OpenFault, sync_all};
+use sg_find::{OpenFault, Room, sync_all};
 use sg_gate::Super;
 use sg_log::Log;
 use sg_ops::Ops;
 use sg_pool::Pool;
-use sg_redo::{Place, are_known};
 use std::alloc::Global;
 use std::sync::ledger::Ledger;
 
@@ -41,41 +37,21 @@ pub struct Opened {
     pub analysis: Analysis,
 }
 
-// A new pool, which can repeat the records at these places.
-fn take_pool(
-    alloc: Global,
-    geometry: &Super,
-    text: &[u8],
-    places: &[Place],
-    ops: &Ops,
-) -> Result<Pool, OpenFault>
+// A new pool.
+fn take_pool(alloc: Global, geometry: &Super) -> Result<Pool, OpenFault>
     requires { IsSuper geometry.now }
     ensures new { IfOk result (IsNew geometry.now) }
-    ensures within { IfOk result (λ pool. All (λ p. p.unit < (sizes pool).pages + (sizes pool).bands) places.now) }
-    ensures order { OnOk result (AreInOrder places.now) }
-    ensures known { OnOk result (AreKnown (table_of record_meaning range_meaning ops.now) text.now places.now) }
-    ensures few { OnOk result (length places.now < 2 ^ 32) }
-    ensures store { result ≡ Err OpenFault.NotAStore → ⊥ }
-    ensures able { All (λ p. p.unit < geometry.now.pages + geometry.now.bands) places.now → AreInOrder places.now → AreKnown (table_of record_meaning range_meaning ops.now) text.now places.now →
-        IfErr result (λ e. e ≡ OpenFault.Memory) }
+    ensures memory { IfErr result (λ e. e ≡ OpenFault.Memory) }
 {
-    let pool = match Pool::new(alloc, geometry) {
-        Ok(pool) => pool,
-        Err(_) => return Err(OpenFault::Memory),
-    };
-    if places.len() >= 4_294_967_296 {
-        pool.end();
-        return Err(OpenFault::Memory);
+    match Pool::new(alloc, geometry) {
+        Ok(pool) => Ok(pool),
+        Err(_) => Err(OpenFault::Memory),
     }
-    if !pool.can_redo(places) || !are_known(places, text, ops) {
-        pool.end();
-        return Err(OpenFault::Disk);
-    }
-    Ok(pool)
 }
 
 /// Opens a store: what a crash left is made durable and read, an open batch is laid over, and history is
-/// repeated from the redo point on. All memory is taken before the first write.
+/// repeated from the redo point on. All memory is taken before the first write, and none of it is for
+/// the whole log: that is read three times, first frame by frame and then in stretches.
 ///
 /// Where what was read can be opened, `Ok` is a running engine: its pages and bands are what the
 /// log's records make of the home area. Until the three areas are synced a crash leaves what it could
@@ -94,6 +70,9 @@ pub fn open<D: Disk, L: Ledger>(
     // Where what was read can be opened, a refusal is one of these.
     ensures refused { (o : Origin) (tail : ℕ) (ds : List Numbered) → IsTrue D.told → ((lsn : ℕ) (x : Record) → o.effect lsn x ≡ effect_in (table_of record_meaning range_meaning ops.now) lsn x) → Opens o tail ds (D.view disk.old) →
         IfErr result (StoreRefused D.told (table_of record_meaning range_meaning ops.now) o ds (D.view disk.old) (D.view disk.new)) }
+    // Of any image: why it is refused, with the place that is damaged or the code that is missing; and what is true of one that isn't.
+    ensures cause { IsTrue D.told → IfErr result (λ e. IsCause (table_of record_meaning range_meaning ops.now) (reads (D.view disk.old)) e ⊎ IsLateCause (reads (D.view disk.old)) e) }
+    ensures accepted { IsTrue D.told → IfOk result (λ e. IsAccepted (table_of record_meaning range_meaning ops.now) (reads (D.view disk.old)) e.geometry) }
     // The gates of both superblock slots are closed.
     ensures not_a_store { IsTrue D.told → result ≡ Err OpenFault.NotAStore → ((((D.view disk.old).now Home).seen 0 ≢ 1) × (((D.view disk.old).now Home).seen 4096 ≢ 1)) }
     ensures shut { IsTrue D.told → ((D.view disk.old).now Home).seen 0 ≢ 1 → ((D.view disk.old).now Home).seen 4096 ≢ 1 → (result ≡ Err OpenFault.NotAStore) ⊎ (result ≡ Err OpenFault.Disk) }
@@ -114,22 +93,27 @@ pub fn open<D: Disk, L: Ledger>(
         geometry,
         mut log,
         analysis,
-        mut gathered,
+        room: Room {
+            mut text,
+            mut places,
+        },
     } = match find(alloc, disk, ops) {
         Ok(found) => found,
         Err(fault) => return Err(fault),
     };
-    let mut pool = match take_pool(alloc, &geometry, &gathered.text, &gathered.places, ops) {
+    let mut pool = match take_pool(alloc, &geometry) {
         Ok(pool) => pool,
         Err(fault) => return Err(fault),
     };
+    let point = geometry.base.max(analysis.estimate);
     match repeat(
         disk,
-        geometry.pages,
+        &geometry,
+        point,
         &mut log,
         &mut pool,
-        &gathered.text,
-        &mut gathered.places,
+        &mut text,
+        &mut places,
         ops,
         steps,
     ) {

@@ -14,7 +14,7 @@ use Rattle.sg_log.specs.Frames.{IsFrame, text_of, Numbered, numbered_from, numbe
 use Rattle.sg_record.proofs.Parsing.{spelled_first}
 use Rattle.sg_log.proofs.Texts.{spelled-long}
 use Rattle.sg_places.specs.Text.{framed, framed_all, AreFrames, IsText}
-use Rattle.sg_places.specs.Asked.{is_there, all_there, first_outside, unknown_by, first_unknown, or_else}
+use Rattle.sg_places.specs.Asked.{is_there, all_there, first_outside, Undone, unknown_by, first_unknown, or_else}
 use Rattle.sg_places.specs.Placed.{place_in, places_in}
 
 -- RECORDS ARE LEFT behind an offset of some bytes
@@ -102,11 +102,11 @@ first_frame text at (rs ∷ more) left lt =
     assoc (x ∷ xs) ys zs = ap (λ l. x ∷ l) (assoc xs ys zs)
 
 -- THE CHECK SO FAR, of the records of a body
-pub record IsChecked (t : Table) (pages bands point : ℕ) (losers : List (ℕ × ℕ)) (lsn : ℕ) (bytes : List ℕ) (rs : List Record) (at : ℕ) (unknown : Option ℕ) : Type 0 where
+pub record IsChecked (t : Table) (pages bands point : ℕ) (undone : Undone) (lsn : ℕ) (bytes : List ℕ) (rs : List Record) (at : ℕ) (unknown : Option ℕ) : Type 0 where
   pub rest : List Record
   pub left : AreLeft bytes at rest
   pub there : all_there pages bands rs ≡ all_there pages bands rest
-  pub codes : first_unknown t point losers (numbered_from lsn rs) ≡ or_else unknown (first_unknown t point losers (numbered_from (lsn + at) rest))
+  pub codes : first_unknown t point undone (numbered_from lsn rs) ≡ or_else unknown (first_unknown t point undone (numbered_from (lsn + at) rest))
 
 pub or_else_assoc : (a b c : Option ℕ) → or_else a (or_else b c) ≡ or_else (or_else a b) c
 or_else_assoc None b c = refl
@@ -116,18 +116,18 @@ pub or_else_none : (a : Option ℕ) → or_else a None ≡ a
 or_else_none None = refl
 or_else_none (Some x) = refl
 
-pub check_starts : (t : Table) (pages bands point : ℕ) (losers : List (ℕ × ℕ)) (lsn : ℕ) (bytes : List ℕ) (rs : List Record) → AreRecords rs → spelled_all rs ≡ bytes → IsChecked t pages bands point losers lsn bytes rs 0 None
-check_starts t pages bands point losers lsn bytes rs fields text = record {
+pub check_starts : (t : Table) (pages bands point : ℕ) (undone : Undone) (lsn : ℕ) (bytes : List ℕ) (rs : List Record) → AreRecords rs → spelled_all rs ≡ bytes → IsChecked t pages bands point undone lsn bytes rs 0 None
+check_starts t pages bands point undone lsn bytes rs fields text = record {
   rest = rs;
   left = record { fields = fields; text = text };
   there = refl;
-  codes = ap (λ n. first_unknown t point losers (numbered_from n rs)) (zero lsn);
+  codes = ap (λ n. first_unknown t point undone (numbered_from n rs)) (zero lsn);
 }
   where
     zero : (n : ℕ) → n ≡ n + 0
     zero n = omega arith
 
-module _ (t : Table) (pages bands point : ℕ) (losers : List (ℕ × ℕ)) (lsn : ℕ) (bytes : List ℕ) (rs : List Record) (at : ℕ) (unknown : Option ℕ) (h : IsChecked t pages bands point losers lsn bytes rs at unknown)
+module _ (t : Table) (pages bands point : ℕ) (undone : Undone) (lsn : ℕ) (bytes : List ℕ) (rs : List Record) (at : ℕ) (unknown : Option ℕ) (h : IsChecked t pages bands point undone lsn bytes rs at unknown)
     (size : ℕ) (r : Record) (lt : at < length bytes) (fields : IsRecord r) (text : take size (drop at bytes) ≡ spelled r) where
   next : IsFirst bytes at r h.rest
   next = first_left bytes at size r h.rest h.left lt fields text
@@ -135,7 +135,7 @@ module _ (t : Table) (pages bands point : ℕ) (losers : List (ℕ × ℕ)) (lsn
   pub outside : is_there pages bands (changed_by r.says) ≡ false → all_there pages bands rs ≡ false
   outside out = h.there ∙ (ap (all_there pages bands) next.is ∙ ap (λ b. b && all_there pages bands next.more) out)
 
-  pub check_goes_on : (code : Option ℕ) → is_there pages bands (changed_by r.says) ≡ true → code ≡ unknown_by t point losers (lsn + at) r → size ≡ length (spelled r) → IsChecked t pages bands point losers lsn bytes rs (at + size) (or_else unknown code)
+  pub check_goes_on : (code : Option ℕ) → is_there pages bands (changed_by r.says) ≡ true → code ≡ unknown_by t point undone (lsn + at) r → size ≡ length (spelled r) → IsChecked t pages bands point undone lsn bytes rs (at + size) (or_else unknown code)
   check_goes_on code inside is long =
       let ends : at + length (spelled r) ≡ at + size = ap (λ n. at + n) (sym long) in
       let place : lsn + at + length (spelled r) ≡ lsn + (at + size) = omega (arith, long) in
@@ -143,21 +143,21 @@ module _ (t : Table) (pages bands point : ℕ) (losers : List (ℕ × ℕ)) (lsn
         rest = next.more;
         left = subst (λ n. AreLeft bytes n next.more) ends next.left;
         there = h.there ∙ (ap (all_there pages bands) next.is ∙ ap (λ b. b && all_there pages bands next.more) inside);
-        codes = h.codes ∙ (ap (λ (l : List Record). or_else unknown (first_unknown t point losers (numbered_from (lsn + at) l))) next.is
-            ∙ (ap (λ (o : Option ℕ). or_else unknown (or_else o (first_unknown t point losers (numbered_from (lsn + at + length (spelled r)) next.more)))) (sym is)
-            ∙ (or_else_assoc unknown code _ ∙ ap (λ n. or_else (or_else unknown code) (first_unknown t point losers (numbered_from n next.more))) place)));
+        codes = h.codes ∙ (ap (λ (l : List Record). or_else unknown (first_unknown t point undone (numbered_from (lsn + at) l))) next.is
+            ∙ (ap (λ (o : Option ℕ). or_else unknown (or_else o (first_unknown t point undone (numbered_from (lsn + at + length (spelled r)) next.more)))) (sym is)
+            ∙ (or_else_assoc unknown code _ ∙ ap (λ n. or_else (or_else unknown code) (first_unknown t point undone (numbered_from n next.more))) place)));
       }
 
-pub check_ends : {t : Table} {pages bands point : ℕ} {losers : List (ℕ × ℕ)} {lsn : ℕ} {bytes : List ℕ} {rs : List Record} {at : ℕ} {unknown : Option ℕ} → (h : IsChecked t pages bands point losers lsn bytes rs at unknown) → length bytes ≤ at
-    → (all_there pages bands rs ≡ true) × (unknown ≡ first_unknown t point losers (numbered_from lsn rs))
-check_ends {t = t} {pages = pages} {bands = bands} {point = point} {losers = losers} {lsn = lsn} {bytes = bytes} {at = at} {unknown = unknown} h end =
+pub check_ends : {t : Table} {pages bands point : ℕ} {undone : Undone} {lsn : ℕ} {bytes : List ℕ} {rs : List Record} {at : ℕ} {unknown : Option ℕ} → (h : IsChecked t pages bands point undone lsn bytes rs at unknown) → length bytes ≤ at
+    → (all_there pages bands rs ≡ true) × (unknown ≡ first_unknown t point undone (numbered_from lsn rs))
+check_ends {t = t} {pages = pages} {bands = bands} {point = point} {undone = undone} {lsn = lsn} {bytes = bytes} {at = at} {unknown = unknown} h end =
     let none = none_left bytes at h.rest h.left end in
-    (h.there ∙ ap (all_there pages bands) none, sym (h.codes ∙ (ap (λ (l : List Record). or_else unknown (first_unknown t point losers (numbered_from (lsn + at) l))) none ∙ or_else_none unknown)))
+    (h.there ∙ ap (all_there pages bands) none, sym (h.codes ∙ (ap (λ (l : List Record). or_else unknown (first_unknown t point undone (numbered_from (lsn + at) l))) none ∙ or_else_none unknown)))
 
 -- one list of records and then another
-pub first_unknown-append : (t : Table) (point : ℕ) (losers : List (ℕ × ℕ)) (ns ms : List Numbered) → first_unknown t point losers (ns ++ ms) ≡ or_else (first_unknown t point losers ns) (first_unknown t point losers ms)
-first_unknown-append t point losers [] ms = refl
-first_unknown-append t point losers (n ∷ ns) ms = ap (or_else (unknown_by t point losers n.lsn n.is)) (first_unknown-append t point losers ns ms) ∙ or_else_assoc (unknown_by t point losers n.lsn n.is) (first_unknown t point losers ns) (first_unknown t point losers ms)
+pub first_unknown-append : (t : Table) (point : ℕ) (undone : Undone) (ns ms : List Numbered) → first_unknown t point undone (ns ++ ms) ≡ or_else (first_unknown t point undone ns) (first_unknown t point undone ms)
+first_unknown-append t point undone [] ms = refl
+first_unknown-append t point undone (n ∷ ns) ms = ap (or_else (unknown_by t point undone n.lsn n.is)) (first_unknown-append t point undone ns ms) ∙ or_else_assoc (unknown_by t point undone n.lsn n.is) (first_unknown t point undone ns) (first_unknown t point undone ms)
 
 pub places_in-append : (pages base point : ℕ) (ns ms : List Numbered) → places_in pages base point (ns ++ ms) ≡ places_in pages base point ns ++ places_in pages base point ms
 places_in-append pages base point [] ms = refl
@@ -180,58 +180,62 @@ behind : (gate : ℕ) (rs : List Record) → gate + 1 + length (text_of (spelled
 behind gate rs = omega (arith, length-append (little_bytes 4 (length (spelled_all rs))) (spelled_all rs))
 
 -- THE CHECK SO FAR, of the frames of a text
-pub record AreFramesChecked (t : Table) (pages bands base point : ℕ) (losers : List (ℕ × ℕ)) (text : List ℕ) (frames : List (List Record)) (at : ℕ) (unknown : Option ℕ) : Type 0 where
+pub record AreFramesChecked (t : Table) (pages bands start base point : ℕ) (undone : Undone) (text : List ℕ) (frames : List (List Record)) (at : ℕ) (unknown : Option ℕ) : Type 0 where
   pub rest : List (List Record)
   pub left : FramesLeft text at rest
-  pub there : first_outside pages bands 0 frames ≡ first_outside pages bands at rest
-  pub codes : first_unknown t point losers (numbered_in base frames) ≡ or_else unknown (first_unknown t point losers (numbered_in (base + at) rest))
+  pub there : first_outside pages bands start frames ≡ first_outside pages bands (start + at) rest
+  pub codes : first_unknown t point undone (numbered_in base frames) ≡ or_else unknown (first_unknown t point undone (numbered_in (base + at) rest))
 
-pub frames_start : (t : Table) (pages bands base point : ℕ) (losers : List (ℕ × ℕ)) (text : List ℕ) (frames : List (List Record)) → IsText frames text → AreFramesChecked t pages bands base point losers text frames 0 None
-frames_start t pages bands base point losers text frames is = record {
+pub frames_start : (t : Table) (pages bands start base point : ℕ) (undone : Undone) (text : List ℕ) (frames : List (List Record)) → IsText frames text → AreFramesChecked t pages bands start base point undone text frames 0 None
+frames_start t pages bands start base point undone text frames is = record {
   rest = frames;
   left = all_left frames text is;
-  there = refl;
-  codes = ap (λ n. first_unknown t point losers (numbered_in n frames)) (zero base);
+  there = ap (λ n. first_outside pages bands n frames) (zero start);
+  codes = ap (λ n. first_unknown t point undone (numbered_in n frames)) (zero base);
 }
   where
     zero : (n : ℕ) → n ≡ n + 0
     zero n = omega arith
 
-module _ (t : Table) (pages bands base point : ℕ) (losers : List (ℕ × ℕ)) (text : List ℕ) (frames : List (List Record)) (at : ℕ) (unknown : Option ℕ) (h : AreFramesChecked t pages bands base point losers text frames at unknown) (lt : at < length text) where
+module _ (t : Table) (pages bands start base point : ℕ) (undone : Undone) (text : List ℕ) (frames : List (List Record)) (at : ℕ) (unknown : Option ℕ) (h : AreFramesChecked t pages bands start base point undone text frames at unknown) (lt : at < length text) where
   pub frame : IsFirstFrame text at h.rest
   frame = first_frame text at h.rest h.left lt
 
-  pub frame_outside : all_there pages bands frame.rs ≡ false → first_outside pages bands 0 frames ≡ Some at
+  pub frame_outside : all_there pages bands frame.rs ≡ false → first_outside pages bands start frames ≡ Some (start + at)
   frame_outside out =
-      let e : first_outside pages bands at (frame.rs ∷ frame.more) ≡ Some at = ap (λ b. cond b (first_outside pages bands (at + 1 + length (text_of (spelled_all frame.rs))) frame.more) (Some at)) out in
-      h.there ∙ (ap (first_outside pages bands at) frame.is ∙ e)
+      let e : first_outside pages bands (start + at) (frame.rs ∷ frame.more) ≡ Some (start + at) = ap (λ b. cond b (first_outside pages bands (start + at + 1 + length (text_of (spelled_all frame.rs))) frame.more) (Some (start + at))) out in
+      h.there ∙ (ap (first_outside pages bands (start + at)) frame.is ∙ e)
 
-  pub frames_go_on : (code : Option ℕ) (end : ℕ) → end ≡ at + 5 + length (spelled_all frame.rs) → all_there pages bands frame.rs ≡ true → code ≡ first_unknown t point losers (numbered_from (base + (at + 5)) frame.rs)
-      → AreFramesChecked t pages bands base point losers text frames end (or_else unknown code)
+  pub frames_go_on : (code : Option ℕ) (end : ℕ) → end ≡ at + 5 + length (spelled_all frame.rs) → all_there pages bands frame.rs ≡ true → code ≡ first_unknown t point undone (numbered_from (base + (at + 5)) frame.rs)
+      → AreFramesChecked t pages bands start base point undone text frames end (or_else unknown code)
   frames_go_on code end is inside found =
-      let e : first_outside pages bands at (frame.rs ∷ frame.more) ≡ first_outside pages bands (at + 1 + length (text_of (spelled_all frame.rs))) frame.more
-      = ap (λ b. cond b (first_outside pages bands (at + 1 + length (text_of (spelled_all frame.rs))) frame.more) (Some at)) inside in
-      let place : at + 1 + length (text_of (spelled_all frame.rs)) ≡ end = behind at frame.rs ∙ sym is in
+      let e : first_outside pages bands (start + at) (frame.rs ∷ frame.more) ≡ first_outside pages bands (start + at + 1 + length (text_of (spelled_all frame.rs))) frame.more
+      = ap (λ b. cond b (first_outside pages bands (start + at + 1 + length (text_of (spelled_all frame.rs))) frame.more) (Some (start + at))) inside in
+      let place : start + at + 1 + length (text_of (spelled_all frame.rs)) ≡ start + end = behind (start + at) frame.rs ∙ omega (arith, is) in
       let first : base + at + 5 ≡ base + (at + 5) = omega arith in
       let last : base + at + 1 + length (text_of (spelled_all frame.rs)) ≡ base + end = behind (base + at) frame.rs ∙ omega (arith, is) in
-      let both = first_unknown-append t point losers (numbered_from (base + at + 5) frame.rs) (numbered_in (base + at + 1 + length (text_of (spelled_all frame.rs))) frame.more) in
+      let both = first_unknown-append t point undone (numbered_from (base + at + 5) frame.rs) (numbered_in (base + at + 1 + length (text_of (spelled_all frame.rs))) frame.more) in
       record {
         rest = frame.more;
         left = subst (λ n. FramesLeft text n frame.more) (sym is) frame.left;
-        there = h.there ∙ (ap (first_outside pages bands at) frame.is ∙ (e ∙ ap (λ n. first_outside pages bands n frame.more) place));
-        codes = h.codes ∙ (ap (λ (l : List (List Record)). or_else unknown (first_unknown t point losers (numbered_in (base + at) l))) frame.is
+        there = h.there ∙ (ap (first_outside pages bands (start + at)) frame.is ∙ (e ∙ ap (λ n. first_outside pages bands n frame.more) place));
+        codes = h.codes ∙ (ap (λ (l : List (List Record)). or_else unknown (first_unknown t point undone (numbered_in (base + at) l))) frame.is
             ∙ (ap (or_else unknown) both
-            ∙ (ap (λ n. or_else unknown (or_else (first_unknown t point losers (numbered_from n frame.rs)) (first_unknown t point losers (numbered_in (base + at + 1 + length (text_of (spelled_all frame.rs))) frame.more)))) first
-            ∙ (ap (λ n. or_else unknown (or_else (first_unknown t point losers (numbered_from (base + (at + 5)) frame.rs)) (first_unknown t point losers (numbered_in n frame.more)))) last
-            ∙ (ap (λ (o : Option ℕ). or_else unknown (or_else o (first_unknown t point losers (numbered_in (base + end) frame.more)))) (sym found)
+            ∙ (ap (λ n. or_else unknown (or_else (first_unknown t point undone (numbered_from n frame.rs)) (first_unknown t point undone (numbered_in (base + at + 1 + length (text_of (spelled_all frame.rs))) frame.more)))) first
+            ∙ (ap (λ n. or_else unknown (or_else (first_unknown t point undone (numbered_from (base + (at + 5)) frame.rs)) (first_unknown t point undone (numbered_in n frame.more)))) last
+            ∙ (ap (λ (o : Option ℕ). or_else unknown (or_else o (first_unknown t point undone (numbered_in (base + end) frame.more)))) (sym found)
             ∙ or_else_assoc unknown code _)))));
       }
 
-pub frames_end : {t : Table} {pages bands base point : ℕ} {losers : List (ℕ × ℕ)} {text : List ℕ} {frames : List (List Record)} {at : ℕ} {unknown : Option ℕ} → (h : AreFramesChecked t pages bands base point losers text frames at unknown) → length text ≤ at
-    → (first_outside pages bands 0 frames ≡ None) × (unknown ≡ first_unknown t point losers (numbered_in base frames))
-frames_end {t = t} {pages = pages} {bands = bands} {base = base} {point = point} {losers = losers} {text = text} {at = at} {unknown = unknown} h end =
+pub frames_end : {t : Table} {pages bands start base point : ℕ} {undone : Undone} {text : List ℕ} {frames : List (List Record)} {at : ℕ} {unknown : Option ℕ} → (h : AreFramesChecked t pages bands start base point undone text frames at unknown) → length text ≤ at
+    → (first_outside pages bands start frames ≡ None) × (unknown ≡ first_unknown t point undone (numbered_in base frames))
+frames_end {t = t} {pages = pages} {bands = bands} {start = start} {base = base} {point = point} {undone = undone} {text = text} {at = at} {unknown = unknown} h end =
     let none = no_frames_left text at h.rest h.left end in
-    (h.there ∙ ap (first_outside pages bands at) none, sym (h.codes ∙ (ap (λ (l : List (List Record)). or_else unknown (first_unknown t point losers (numbered_in (base + at) l))) none ∙ or_else_none unknown)))
+    (h.there ∙ ap (first_outside pages bands (start + at)) none, sym (h.codes ∙ (ap (λ (l : List (List Record)). or_else unknown (first_unknown t point undone (numbered_in (base + at) l))) none ∙ or_else_none unknown)))
+
+-- a record lies in the bytes where it was read
+pub lies : (bytes : List ℕ) (at size : ℕ) (r : Record) → at < length bytes → take size (drop at bytes) ≡ spelled r → size ≡ length (spelled r) → at + size ≤ length bytes
+lies bytes at size r lt text long = omega (arith, ap length text, length-take size (drop at bytes), length-drop at bytes, long)
 
 -- THE PLACES SO FAR, of the records of a body
 pub record AreBodyPlaced (pages bands base point lsn : ℕ) (bytes : List ℕ) (rs : List Record) (before now : List Place) (at : ℕ) : Type 0 where

@@ -6,6 +6,7 @@ use Rattle.sg_record.specs.Changes.{Change}
 use Rattle.sg_record.specs.Changes.Change.{Page, SegWrite, SegOp}
 use Rattle.sg_redo.specs.Places.{changed_by}
 use Rattle.sg_record.specs.Records.{Record}
+use Rattle.sg_analysis.specs.Analysis.{Analysis, is_number}
 use Rattle.sg_log.specs.Texts.{spelled_all}
 use Rattle.sg_log.specs.Frames.{Numbered, text_of}
 
@@ -37,18 +38,27 @@ abbrev pub is_among : (transaction : ℕ) → List (ℕ × ℕ) → Bool
 is_among transaction [] = false
 is_among transaction (loser ∷ losers) = loser.0 == transaction || is_among transaction losers
 
--- the record's operation will be needed: history is repeated from the point on, and losers are undone
-abbrev pub is_needed : (point : ℕ) (losers : List (ℕ × ℕ)) → (lsn : ℕ) → Record → Bool
-is_needed point losers lsn r = nat_le point lsn || is_among r.transaction losers
+-- what opening takes back: losers, each with its last record, and the system's open changes, by their numbers
+abbrev pub Undone : Type 0
+Undone = (List (ℕ × ℕ)) × List ℕ
 
-abbrev pub unknown_by : Table → (point : ℕ) (losers : List (ℕ × ℕ)) → (lsn : ℕ) → Record → Option ℕ
-unknown_by t point losers lsn r = if is_needed point losers lsn r then unknown_in t (changed_by r.says) else None
+-- what an analysis says of it
+abbrev pub undone_of : Analysis → Undone
+undone_of a = (a.losers, a.opened)
+
+-- The record's operation will be needed: history is repeated from the point on, losers are undone, and the system's open changes are
+-- taken off, which may stand before that point.
+abbrev pub is_needed : (point : ℕ) (undone : Undone) → (lsn : ℕ) → Record → Bool
+is_needed point undone lsn r = nat_le point lsn || (is_among r.transaction undone.0 || (r.transaction == 0 && is_number lsn undone.1))
+
+abbrev pub unknown_by : Table → (point : ℕ) (undone : Undone) → (lsn : ℕ) → Record → Option ℕ
+unknown_by t point undone lsn r = if is_needed point undone lsn r then unknown_in t (changed_by r.says) else None
 
 abbrev pub or_else : Option ℕ → Option ℕ → Option ℕ
 or_else None o = o
 or_else (Some x) o = Some x
 
 -- the first code that isn't registered, of those that will be needed
-abbrev pub first_unknown : Table → (point : ℕ) (losers : List (ℕ × ℕ)) → List Numbered → Option ℕ
-first_unknown t point losers [] = None
-first_unknown t point losers (n ∷ ns) = or_else (unknown_by t point losers n.lsn n.is) (first_unknown t point losers ns)
+abbrev pub first_unknown : Table → (point : ℕ) (undone : Undone) → List Numbered → Option ℕ
+first_unknown t point undone [] = None
+first_unknown t point undone (n ∷ ns) = or_else (unknown_by t point undone n.lsn n.is) (first_unknown t point undone ns)

@@ -1,5 +1,5 @@
 -- The text of a log: frames one behind another.
-use Rattle.std.specs.Prelude.{◌≡◌, ◌+◌, ℕ, List, [], ◌∷◌, ◌++◌, length}
+use Rattle.std.specs.Prelude.{◌≡◌, ◌+◌, ◌<◌, ℕ, List, [], ◌∷◌, ◌++◌, length, take}
 use Rattle.sg_record.specs.Records.{Record}
 use Rattle.sg_log.specs.Texts.{spelled_all}
 use Rattle.sg_log.specs.Frames.{IsFrame, text_of}
@@ -21,3 +21,11 @@ AreFrames (rs ∷ frames) = IsFrame rs × AreFrames frames
 pub record IsText (frames : List (List Record)) (text : List ℕ) : Type 0 where
   pub all : AreFrames frames
   pub bytes : text ≡ framed_all frames
+
+-- A STRETCH: of a text that begins with these frames, so many bytes are those that it has whole, and the next one isn't
+pub record IsStretch (frames : List (List Record)) (text : List ℕ) (size : ℕ) : Type 0 where
+  pub part : List (List Record)
+  pub rest : List (List Record)
+  pub is_all : frames ≡ part ++ rest
+  pub whole : IsText part (take size text)
+  pub most : (rs : List Record) (more : List (List Record)) → rest ≡ rs ∷ more → length text < size + length (framed rs)

@@ -3,10 +3,10 @@ ghost use Rattle.std.specs.Prelude.{◌≡◌, ◌+◌, ◌<◌, ◌^◌, ℕ, f
 ghost use Rattle.sg_ops.specs.Table.{table_of};
 ghost use Rattle.sg_record.specs.Shown.{shown, shown_change};
 ghost use Rattle.sg_redo.specs.Places.{changed_by};
-ghost use Rattle.sg_places.specs.Asked.{is_there, unknown_in, is_among, unknown_by};
+ghost use Rattle.sg_places.specs.Asked.{is_there, unknown_in, is_among, is_needed, unknown_by};
 ghost use Rattle.sg_places.specs.Placed.{unit_of};
 
-use sg_analysis::Losers;
+use sg_analysis::{Losers, Opened};
 use sg_base::{Lsn, TxnId};
 use sg_ops::Ops;
 use sg_record::{Change, Rec};
@@ -72,12 +72,27 @@ fn is_among(txn: TxnId, losers: &Losers) -> bool
     false
 }
 
+// Whether opening needs the operation of the record with this number.
+fn is_needed(rec: &Rec<'_>, lsn: Lsn, point: Lsn, losers: &Losers, opened: &Opened) -> bool
+    ensures { result ≡ is_needed point (losers.now, opened.now) lsn (shown rec.now) }
+{
+    let txn = rec.txn();
+    lsn >= point || is_among(txn, losers) || txn.0 == 0 && opened.has(lsn)
+}
+
 /// The code of the operation that the record with this number names, where opening needs it and it
 /// isn't registered.
-pub fn unknown_by(rec: &Rec<'_>, lsn: Lsn, point: Lsn, losers: &Losers, ops: &Ops) -> Option<u16>
-    ensures { result ≡ unknown_by (table_of record_meaning range_meaning ops.now) point losers.now lsn (shown rec.now) }
+pub fn unknown_by(
+    rec: &Rec<'_>,
+    lsn: Lsn,
+    point: Lsn,
+    losers: &Losers,
+    opened: &Opened,
+    ops: &Ops,
+) -> Option<u16>
+    ensures { result ≡ unknown_by (table_of record_meaning range_meaning ops.now) point (losers.now, opened.now) lsn (shown rec.now) }
 {
-    if lsn >= point || is_among(rec.txn(), losers) {
+    if is_needed(rec, lsn, point, losers, opened) {
         unknown_in(rec, ops)
     } else {
         None

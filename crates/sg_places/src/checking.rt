@@ -6,11 +6,11 @@ ghost use Rattle.sg_record.specs.Records.{Record};
 ghost use Rattle.sg_log.specs.Texts.{AreRecords, spelled_all};
 ghost use Rattle.sg_places.specs.Text.{IsText};
 ghost use Rattle.sg_places.specs.Asked.{all_there, first_outside, first_unknown, or_else};
-ghost use Rattle.sg_places.specs.Refused.{BodyRefused, Refuses};
+ghost use Rattle.sg_places.specs.Refused.{Refuses};
 
 use crate::body::body_size;
 use crate::change::{is_there, unknown_by};
-use sg_analysis::Losers;
+use sg_analysis::{Losers, Opened};
 use sg_base::Lsn;
 use sg_ops::Ops;
 use sg_record::decode;
@@ -21,14 +21,12 @@ pub enum Refusal {
     /// A record of the frame whose gate is at this offset is of a page or a band that the store
     /// doesn't have.
     Outside { gate: u64 },
-    /// No operation is registered with this code, which a record names.
-    Unknown(u16),
     /// The text isn't whole frames of records.
     Torn,
 }
 
-// The first of two codes that is there.
-fn or_else(first: Option<u16>, second: Option<u16>) -> Option<u16>
+/// The first of two codes that is there.
+pub fn or_else(first: Option<u16>, second: Option<u16>) -> Option<u16>
     ensures { result ≡ or_else first second }
 {
     match first {
@@ -47,12 +45,13 @@ fn check_body(
     bands: u32,
     point: Lsn,
     losers: &Losers,
+    opened: &Opened,
     ops: &Ops,
 ) -> Result<Option<u16>, Refusal>
     requires { lsn + length body.now ≤ LOG_END }
     ensures there { (rs : List Record) → AreRecords rs → spelled_all rs ≡ body.now → OnOk result (all_there pages bands rs ≡ true) }
     ensures unknown { (rs : List Record) → AreRecords rs → spelled_all rs ≡ body.now →
-        IfOk result (λ code. code ≡ first_unknown (table_of record_meaning range_meaning ops.now) point losers.now (numbered_from lsn rs)) }
+        IfOk result (λ code. code ≡ first_unknown (table_of record_meaning range_meaning ops.now) point (losers.now, opened.now) (numbered_from lsn rs)) }
     ensures refused { (rs : List Record) → AreRecords rs → spelled_all rs ≡ body.now → IfErr result (λ e. (e ≡ Refusal.Outside gate) × (all_there pages bands rs ≡ false)) }
 {
     let mut from = 0;
@@ -64,28 +63,36 @@ fn check_body(
         if !is_there(&rec, pages, bands) {
             return Err(Refusal::Outside { gate });
         }
-        let code = unknown_by(&rec, lsn + from as u64, point, losers, ops);
+        let code = unknown_by(&rec, lsn + from as u64, point, losers, opened, ops);
         unknown = or_else(unknown, code);
         from += size;
     }
     Ok(unknown)
 }
 
-// The first code that isn't registered, of those that are needed of a whole text.
-fn check_frames(
+/// Whether the records of a stretch of a log may be repeated over a store of so many pages and bands:
+/// each that makes a change is of one of these. The text begins at this offset of the log's area,
+/// whose first byte has the number `base`.
+///
+/// It answers the first code that isn't registered, of those that records from the redo point on name,
+/// those of the transactions that are undone, and the system's open changes; and `Outside` exactly where a record isn't of one of
+/// these pages and bands, with the first such frame.
+pub fn check(
     text: &[u8],
+    start: u64,
     base: Lsn,
     pages: u32,
     bands: u32,
     point: Lsn,
     losers: &Losers,
+    opened: &Opened,
     ops: &Ops,
 ) -> Result<Option<u16>, Refusal>
-    requires { base + length text.now ≤ LOG_END }
-    ensures there { (frames : List (List Record)) → IsText frames text.now → OnOk result (first_outside pages bands 0 frames ≡ None) }
+    requires { base + (start + length text.now) ≤ LOG_END }
+    ensures there { (frames : List (List Record)) → IsText frames text.now → OnOk result (first_outside pages bands start frames ≡ None) }
     ensures unknown { (frames : List (List Record)) → IsText frames text.now →
-        IfOk result (λ code. code ≡ first_unknown (table_of record_meaning range_meaning ops.now) point losers.now (numbered_in base frames)) }
-    ensures refused { (frames : List (List Record)) → IsText frames text.now → IfErr result (BodyRefused pages bands frames) }
+        IfOk result (λ code. code ≡ first_unknown (table_of record_meaning range_meaning ops.now) point (losers.now, opened.now) (numbered_in (base + start) frames)) }
+    ensures refused { (frames : List (List Record)) → IsText frames text.now → IfErr result (Refuses pages bands start frames) }
 {
     let mut at = 0;
     let mut unknown = None;
@@ -94,10 +101,10 @@ fn check_frames(
             return Err(Refusal::Torn);
         };
         let from = at + 5;
-        let gate = at as u64;
+        let gate = start + at as u64;
         let body = &text[from..from + size];
-        let lsn = base + from as u64;
-        match check_body(body, gate, lsn, pages, bands, point, losers, ops) {
+        let lsn = base + start + from as u64;
+        match check_body(body, gate, lsn, pages, bands, point, losers, opened, ops) {
             Ok(code) => {
                 unknown = or_else(unknown, code);
                 at = from + size;
@@ -106,34 +113,4 @@ fn check_frames(
         }
     }
     Ok(unknown)
-}
-
-/// Whether the records of a log may be repeated over a store of so many pages and bands with these
-/// operations: each that makes a change is of one of these, and the codes are registered that records
-/// from the redo point on name, and those of the transactions that are undone. The text is the log's,
-/// whose first byte has the number `base`.
-///
-/// It answers `Outside` exactly where a record isn't, with the first such frame, and else `Unknown`
-/// exactly where a code isn't, with the first such.
-pub fn check(
-    text: &[u8],
-    base: Lsn,
-    pages: u32,
-    bands: u32,
-    point: Lsn,
-    losers: &Losers,
-    ops: &Ops,
-) -> Result<(), Refusal>
-    requires { base + length text.now ≤ LOG_END }
-    ensures there { (frames : List (List Record)) → IsText frames text.now → OnOk result (first_outside pages bands 0 frames ≡ None) }
-    ensures known { (frames : List (List Record)) → IsText frames text.now →
-        OnOk result (first_unknown (table_of record_meaning range_meaning ops.now) point losers.now (numbered_in base frames) ≡ None) }
-    ensures refused { (frames : List (List Record)) → IsText frames text.now →
-        IfErr result (Refuses (table_of record_meaning range_meaning ops.now) pages bands base point losers.now frames) }
-{
-    match check_frames(text, base, pages, bands, point, losers, ops) {
-        Err(refusal) => Err(refusal),
-        Ok(Some(code)) => Err(Refusal::Unknown(code)),
-        Ok(None) => Ok(()),
-    }
 }

@@ -1,5 +1,5 @@
 // The places of the records that are repeated.
-ghost use Rattle.std.specs.Prelude.{◌≡◌, ◌+◌, ◌≤◌, ◌<◌, ◌^◌, ◌++◌, [], true, ℕ, List, length, Some, None, Ok, IfOk, IfErr, OnOk};
+ghost use Rattle.std.specs.Prelude.{◌≡◌, ◌+◌, ◌*◌, ◌≤◌, ◌<◌, ◌^◌, ◌++◌, [], true, ℕ, List, length, Some, None, Ok, OnOk, OnErr, vec_len, vec_capacity};
 ghost use Rattle.sg_record.specs.Shown.{shown};
 ghost use Rattle.sg_log.specs.Frames.{LOG_END, numbered_from, numbered_in};
 ghost use Rattle.sg_record.specs.Records.{Record};
@@ -14,16 +14,10 @@ use crate::change::{change_of, unit_of};
 use sg_base::Lsn;
 use sg_record::{Rec, decode};
 use sg_redo::Place;
-use std::alloc::Global;
 
-/// Why there are no places.
+/// The text isn't whole frames of records of the store's pages and bands.
 #[derive(Clone, Copy, Debug, PartialEq, Eq)]
-pub enum Unplaced {
-    /// The text isn't whole frames of records.
-    Torn,
-    /// There was not enough memory.
-    Memory,
-}
+pub struct Torn;
 
 // Adds the place of a record from the point on that makes a change.
 fn add_place(
@@ -34,11 +28,14 @@ fn add_place(
     bands: u32,
     point: Lsn,
     places: &mut Vec<Place>,
-) -> Result<(), Unplaced>
+) -> Result<(), Torn>
     requires low { base ≤ lsn }
     requires few { pages + bands < 2 ^ 32 }
+    requires room { vec_len places.old < vec_capacity places.old }
     ensures places { OnOk result (places.new.items ≡ places.old.items ++ place_in pages base point (record { lsn = lsn; is = shown rec.now })) }
-    ensures memory { is_there pages bands (changed_by (shown rec.now).says) ≡ true → IfErr result (λ e. e ≡ Unplaced.Memory) }
+    ensures there { is_there pages bands (changed_by (shown rec.now).says) ≡ true → OnErr result ⊥ }
+    ensures most { vec_len places.new ≤ vec_len places.old + 1 }
+    ensures room { vec_capacity places.new ≡ vec_capacity places.old }
 {
     if lsn < point {
         return Ok(());
@@ -47,16 +44,15 @@ fn add_place(
         return Ok(());
     };
     let Some(unit) = unit_of(&change, pages, bands) else {
-        return Err(Unplaced::Torn);
+        return Err(Torn);
     };
     let at = lsn - base;
-    match places.push(Place { unit, lsn, at }) {
-        Ok(()) => Ok(()),
-        Err(_) => Err(Unplaced::Memory),
-    }
+    places.push_reserved(Place { unit, lsn, at });
+    Ok(())
 }
 
-// Adds the places of the records that these bytes are. The first of them has the number `lsn`.
+// Adds the places of the records that these bytes are. The first of them has the number `lsn`. Each
+// record has 21 bytes at least.
 fn collect_body(
     body: &[u8],
     lsn: Lsn,
@@ -65,63 +61,63 @@ fn collect_body(
     bands: u32,
     point: Lsn,
     places: &mut Vec<Place>,
-) -> Result<(), Unplaced>
+) -> Result<(), Torn>
     requires within { lsn + length body.now ≤ LOG_END }
     requires low { base ≤ lsn }
     requires few { pages + bands < 2 ^ 32 }
+    requires room { length body.now + 21 * vec_len places.old ≤ 21 * vec_capacity places.old }
     ensures places { (rs : List Record) → AreRecords rs → spelled_all rs ≡ body.now → OnOk result (places.new.items ≡ places.old.items ++ places_in pages base point (numbered_from lsn rs)) }
-    ensures memory { (rs : List Record) → AreRecords rs → spelled_all rs ≡ body.now → all_there pages bands rs ≡ true → IfErr result (λ e. e ≡ Unplaced.Memory) }
+    ensures there { (rs : List Record) → AreRecords rs → spelled_all rs ≡ body.now → all_there pages bands rs ≡ true → OnErr result ⊥ }
+    ensures most { 21 * vec_len places.new ≤ 21 * vec_len places.old + length body.now }
+    ensures room { vec_capacity places.new ≡ vec_capacity places.old }
 {
     let mut from = 0;
     'records: while from < body.len() {
         let Ok((rec, size)) = decode(&body[from..]) else {
-            return Err(Unplaced::Torn);
+            return Err(Torn);
         };
         let here = lsn + from as u64;
         match add_place(&rec, here, base, pages, bands, point, places) {
             Ok(()) => from += size,
-            Err(fault) => return Err(fault),
+            Err(torn) => return Err(torn),
         }
     }
     Ok(())
 }
 
-/// The places of the records of a log from the redo point on that make a change, in their order. The
-/// text is the log's, whose first byte has the number `base`; its records are of pages and bands of
-/// the store.
+/// Puts the places of the records of a stretch from the redo point on that make a change into the
+/// list, in their order, instead of what it had. The text's first byte has the number `base`; its
+/// records are of pages and bands of the store. It takes no memory: the list has room for one place for
+/// each 21 bytes of the text but the 5 before the first frame's body, and no record has fewer.
 pub fn collect(
-    alloc: Global,
     text: &[u8],
     base: Lsn,
     pages: u32,
     bands: u32,
     point: Lsn,
-) -> Result<Vec<Place>, Unplaced>
+    places: &mut Vec<Place>,
+) -> Result<(), Torn>
     requires within { base + length text.now ≤ LOG_END }
     requires few { pages + bands < 2 ^ 32 }
-    ensures places { (frames : List (List Record)) → IsText frames text.now → IfOk result (λ places. places.items ≡ places_in pages base point (numbered_in base frames)) }
-    ensures memory { (frames : List (List Record)) → IsText frames text.now → first_outside pages bands 0 frames ≡ None → IfErr result (λ e. e ≡ Unplaced.Memory) }
+    requires room { length text.now ≤ 21 * vec_capacity places.old + 5 }
+    ensures places { (frames : List (List Record)) → IsText frames text.now → OnOk result (places.new.items ≡ places_in pages base point (numbered_in base frames)) }
+    ensures there { (frames : List (List Record)) → IsText frames text.now → first_outside pages bands 0 frames ≡ None → OnErr result ⊥ }
+    ensures most { 21 * vec_len places.new ≤ length text.now }
+    ensures room { vec_capacity places.new ≡ vec_capacity places.old }
 {
-    let mut places = Vec::new(alloc);
+    places.clear();
     let mut at = 0;
     'frames: while at < text.len() {
         let Some(size) = body_size(text, at) else {
-            return Err(Unplaced::Torn);
+            return Err(Torn);
         };
         let from = at + 5;
         let body = &text[from..from + size];
-        match collect_body(
-            body,
-            base + from as u64,
-            base,
-            pages,
-            bands,
-            point,
-            &mut places,
-        ) {
+        let lsn = base + from as u64;
+        match collect_body(body, lsn, base, pages, bands, point, places) {
             Ok(()) => at = from + size,
-            Err(fault) => return Err(fault),
+            Err(torn) => return Err(torn),
         }
     }
-    Ok(places)
+    Ok(())
 }

@@ -18,3 +18,4 @@ pub mod ArrayLaws
 pub mod SystemTakeOff
 pub mod Unfinished
 pub mod Linked
+pub mod Renaming

@@ -16,3 +16,4 @@ pub mod Formed
 pub mod Alike
 pub mod ArrayCase
 pub mod Linked
+pub mod Renaming

@@ -1,6 +1,7 @@
 -- What replay of a unit leaves of it, and of all units.
-use Rattle.std.proofs.Common.{◌≡◌, ◌≢◌, ◌<◌, ◌+◌, ◌-◌, ◌==◌, ℕ, suc, Bool, true, false, if◌then◌else◌, List, Option, [], ◌∷◌, length, map, take, drop, slice_index_or, refl, ap, ◌∙◌, arith}
+use Rattle.std.proofs.Common.{◌≡◌, ◌≢◌, ◌<◌, ◌+◌, ◌-◌, ◌==◌, ℕ, suc, Bool, true, false, if◌then◌else◌, List, Option, [], ◌∷◌, length, map, sum_by, take, drop, slice_index_or, refl, sym, ap, ◌∙◌, arith}
 use Rattle.std.proofs.lemmas.Bool.Decides.{nat_tests}
+use Rattle.std.proofs.lemmas.List.Sums.{sum_by-cons}
 use Rattle.sg_frames.proofs.Lent.{rewritten_whole}
 use Rattle.sg_frames.specs.Pieces.{rewritten}
 use Rattle.sg_ops.specs.Table.{Table}
@@ -63,6 +64,30 @@ lent_kept t text places old new is = ap (map lent_at) is ∙ each old
     each : (us : List code.Unit) → map lent_at (map (replayed_unit t text places) us) ≡ map lent_at us
     each [] = refl
     each (u ∷ us) = λ i. lent_same t text places u i ∷ each us i
+
+-- and so do the counts of their places
+pub count_same : (t : Table) (text : List ℕ) (places : List Place) (u : code.Unit) → (replayed_unit t text places u).count ≡ u.count
+unfolding replayed_unit
+count_same t text places u = either (is_page u)
+  where
+    own : List Place
+    own = own_places places u
+
+    either : (b : Bool)
+        → (if b then record (with_bytes u (repeated (page_records t text own) u.loan.bytes)) { since = since_repeated (page_records t text own) u.loan.bytes u.since }
+        else record (with_bytes u (replayed (window_records t text own) u.loan.bytes)) { dirty = marks_with (window_records t text own) u.dirty; since = since_replayed (window_records t text own) u.since }).count ≡ u.count
+    either true = refl
+    either false = refl
+
+pub counts_kept : (t : Table) (text : List ℕ) (places : List Place) (old new : List code.Unit) → new ≡ map (replayed_unit t text places) old → sum_by (λ (u : code.Unit). u.count) new ≡ sum_by (λ (u : code.Unit). u.count) old
+counts_kept t text places old new is = ap (sum_by (λ (u : code.Unit). u.count)) is ∙ each old
+  where
+    each : (us : List code.Unit) → sum_by (λ (u : code.Unit). u.count) (map (replayed_unit t text places) us) ≡ sum_by (λ (u : code.Unit). u.count) us
+    each [] = refl
+    each (u ∷ us) =
+        let count : code.Unit → ℕ = λ (u : code.Unit). u.count in
+        sum_by-cons count (replayed_unit t text places u) (map (replayed_unit t text places) us)
+        ∙ (ap (λ n. n + sum_by count (map (replayed_unit t text places) us)) (count_same t text places u) ∙ (ap (λ n. u.count + n) (each us) ∙ sym (sum_by-cons count u us)))
 
 -- units that were each replayed are all replayed
 pub all_done : (f : code.Unit → code.Unit) (old new : List code.Unit) → length new ≡ length old → ((i : ℕ) (d : code.Unit) → i < length old → slice_index_or new i d ≡ f (slice_index_or old i d)) → new ≡ map f old

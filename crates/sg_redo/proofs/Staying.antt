@@ -1,12 +1,12 @@
 -- A page of slots stays one, whichever call's layout it gets.
-use Rattle.std.proofs.Common.{◌≡◌, ℕ, ◌<◌, ◌≤◌, inl, inr, ⊎_elim, true, List, length, Option, Some, None, is_some, option_and_then, refl, sym, ap, ◌∙◌, subst, arith}
+use Rattle.std.proofs.Common.{◌≡◌, ℕ, inr, ⊎_elim, true, List, length, Option, Some, None, is_some, refl, sym, ap, ◌∙◌, subst, arith}
 use Rattle.std.proofs.lemmas.Bool.{cases_Bool, cases_lt}
 use Rattle.byteorder.specs.Endian.{little_bytes}
 use Rattle.sg_base.specs.Bytes.{IsBytes}
 use Rattle.sg_base.specs.Op.{Op}
 use Rattle.sg_base.specs.Op.Op.{Format, Put, Remove, Set, Links, Item, ItemBack}
 use Rattle.sg_base.specs.Overwritten.{overwritten}
-use Rattle.sg_base.specs.Page.{slots_of, cell_in, lsn_of, IsSlotted}
+use Rattle.sg_base.specs.Page.{slots_of, lsn_of, IsSlotted}
 use Rattle.sg_base.specs.Sheet.{Sheet, sheet_of}
 use Rattle.sg_base.specs.Slots.{put_in, set_in, remove_in}
 use Rattle.sg_ops.proofs.Lookups.{after_long, before_long}

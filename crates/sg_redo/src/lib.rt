@@ -17,6 +17,7 @@ mod laws;
 mod page;
 mod place;
 mod replaying;
+mod threads;
 mod unit;
 mod window;
 
@@ -29,5 +30,6 @@ pub use laws::{
 pub use page::apply_page;
 pub use place::Place;
 pub use replaying::{replay, replay_unit};
+pub use threads::replay_all;
 pub use unit::Unit;
 pub use window::{BandChange, apply_window};

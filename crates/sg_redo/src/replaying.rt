@@ -31,14 +31,7 @@ fn note(since: &mut Option<Lsn>, lsn: Lsn, is_done: bool)
 
 // The record at one place, done to a page where it is due there.
 #[tactic(auto, unfolding(crate::specs::Places::page_part), using(crate::proofs::Redone::applies_is))]
-fn redo_page<L: Ledger>(
-    page: &mut [u8],
-    since: &mut Option<Lsn>,
-    place: Place,
-    text: &[u8],
-    ops: &Ops,
-    steps: &mut Steps<L>,
-)
+fn redo_page(page: &mut [u8], since: &mut Option<Lsn>, place: Place, text: &[u8], ops: &Ops)
     requires { length page.old ≡ PAGE_SIZE }
     ensures page { let t = table_of record_meaning range_meaning ops.now in
         page.new ≡ repeated (page_part t place.lsn (change_at text.now place.at)) page.old }
@@ -46,9 +39,7 @@ fn redo_page<L: Ledger>(
         since.new ≡ since_repeated (page_part t place.lsn (change_at text.now place.at)) page.old since.old }
     // What a record leaves is as it was, or a page of slots.
     ensures well { (page.new ≡ page.old) ⊎ IsSlotted page.new }
-    ensures steps { steps.new ≡ steps.old + 1 }
 {
-    steps.tick();
     if let Some(Change::Page(change)) = change_at(text, place.at) {
         let is_done = apply_page(page, place.lsn, &page_op(&change), ops);
         note(since, place.lsn, is_done);
@@ -57,37 +48,28 @@ fn redo_page<L: Ledger>(
 
 // The records at these places, done to a page in turn.
 #[tactic(auto, using(crate::proofs::InTurn::page_none, crate::proofs::InTurn::page_turn, crate::proofs::InTurn::page_since_none))]
-fn replay_page<L: Ledger>(
-    page: &mut [u8],
-    since: &mut Option<Lsn>,
-    places: &[Place],
-    text: &[u8],
-    ops: &Ops,
-    steps: &mut Steps<L>,
-)
+fn replay_page(page: &mut [u8], since: &mut Option<Lsn>, places: &[Place], text: &[u8], ops: &Ops)
     requires { length page.old ≡ PAGE_SIZE }
     ensures page { let t = table_of record_meaning range_meaning ops.now in
         page.new ≡ repeated (page_records t text.now places.now) page.old }
     ensures since { let t = table_of record_meaning range_meaning ops.now in
         since.new ≡ since_repeated (page_records t text.now places.now) page.old since.old }
     ensures well { (page.new ≡ page.old) ⊎ IsSlotted page.new }
-    ensures steps { steps.new ≡ steps.old + length places.now }
 {
     'places: for k in 0..places.len() {
-        redo_page(page, since, places[k], text, ops, steps);
+        redo_page(page, since, places[k], text, ops);
     }
 }
 
 // The record at one place, written over a window.
 #[tactic(auto, unfolding(crate::specs::Places::window_part), using(crate::proofs::InTurn::part_lies))]
-fn redo_window<L: Ledger>(
+fn redo_window(
     window: &mut [u8],
     dirty: &mut Dirty,
     since: &mut Option<Lsn>,
     place: Place,
     text: &[u8],
     ops: &Ops,
-    steps: &mut Steps<L>,
 )
     requires size { length window.old ≡ BAND_SIZE }
     requires known { IsKnown (table_of record_meaning range_meaning ops.now) (change_at text.now place.at) }
@@ -99,9 +81,7 @@ fn redo_window<L: Ledger>(
     ensures since { let t = table_of record_meaning range_meaning ops.now in
         since.new ≡ since_replayed (window_part t place.lsn (change_at text.now place.at)) since.old }
     ensures lies { AllLie BAND_SIZE (window_part (table_of record_meaning range_meaning ops.now) place.lsn (change_at text.now place.at)) }
-    ensures steps { steps.new ≡ steps.old + 1 }
 {
-    steps.tick();
     match change_at(text, place.at) {
         Some(Change::SegWrite(change)) => {
             let write = BandChange::Write {
@@ -128,14 +108,13 @@ fn redo_window<L: Ledger>(
 
 // The records at these places, written over a window in turn.
 #[tactic(auto, using(crate::proofs::InTurn::window_none, crate::proofs::InTurn::window_turn, crate::proofs::InTurn::marks_start, crate::proofs::InTurn::marks_turn, crate::proofs::InTurn::window_since_none, crate::proofs::InTurn::lie_none))]
-fn replay_window<L: Ledger>(
+fn replay_window(
     window: &mut [u8],
     dirty: &mut Dirty,
     since: &mut Option<Lsn>,
     places: &[Place],
     text: &[u8],
     ops: &Ops,
-    steps: &mut Steps<L>,
 )
     requires size { length window.old ≡ BAND_SIZE }
     requires known { AreKnown (table_of record_meaning range_meaning ops.now) text.now places.now }
@@ -146,12 +125,39 @@ fn replay_window<L: Ledger>(
     ensures since { let t = table_of record_meaning range_meaning ops.now in
         since.new ≡ since_replayed (window_records t text.now places.now) since.old }
     ensures lie { AllLie BAND_SIZE (window_records (table_of record_meaning range_meaning ops.now) text.now places.now) }
-    ensures steps { steps.new ≡ steps.old + length places.now }
 {
     let count = places.len();
     dirty.covers_window();
     'places: for k in 0..count {
-        redo_window(window, dirty, since, places[k], text, ops, steps);
+        redo_window(window, dirty, since, places[k], text, ops);
+    }
+}
+
+// Repeats one unit's records through its loan.
+pub fn repeat_unit(unit: &mut Unit, places: &[Place], text: &[u8], ops: &Ops)
+    requires lies { Lies places.now unit.old }
+    requires known { AreKnown (table_of record_meaning range_meaning ops.now) text.now places.now }
+    ensures unit { unit.new ≡ replayed_unit (table_of record_meaning range_meaning ops.now) text.now places.now unit.old }
+    ensures lie { length unit.old.loan.bytes ≢ PAGE_SIZE → AllLie BAND_SIZE (window_records (table_of record_meaning range_meaning ops.now) text.now (own_places places.now unit.old)) }
+    ensures well { length unit.old.loan.bytes ≡ PAGE_SIZE → let rs = page_records (table_of record_meaning range_meaning ops.now) text.now (own_places places.now unit.old) in
+        (repeated rs unit.old.loan.bytes ≡ unit.old.loan.bytes) ⊎ IsSlotted (repeated rs unit.old.loan.bytes) }
+{
+    let first = unit.first as usize;
+    let own = &places[first..first + unit.count as usize];
+    let memory = unit.loan.bytes_mut();
+    if memory.len() == PAGE_SIZE {
+        replay_page(memory, &mut unit.since, own, text, ops);
+    } else {
+        replay_window(memory, &mut unit.dirty, &mut unit.since, own, text, ops);
+    }
+}
+
+// So many steps more.
+pub fn tick_all<L: Ledger>(steps: &mut Steps<L>, count: u32)
+    ensures { steps.new ≡ steps.old + count }
+{
+    'steps: for _step in 0..count {
+        steps.tick();
     }
 }
 
@@ -173,22 +179,9 @@ pub fn replay_unit<L: Ledger>(
         (repeated rs unit.old.loan.bytes ≡ unit.old.loan.bytes) ⊎ IsSlotted (repeated rs unit.old.loan.bytes) }
     ensures steps { steps.new ≡ steps.old + unit.old.count }
 {
-    let first = unit.first as usize;
-    let own = &places[first..first + unit.count as usize];
-    let memory = unit.loan.bytes_mut();
-    if memory.len() == PAGE_SIZE {
-        replay_page(memory, &mut unit.since, own, text, ops, steps);
-    } else {
-        replay_window(
-            memory,
-            &mut unit.dirty,
-            &mut unit.since,
-            own,
-            text,
-            ops,
-            steps,
-        );
-    }
+    let count = unit.count;
+    repeat_unit(unit, places, text, ops);
+    tick_all(steps, count);
 }
 
 /// Replays each unit's records, in the order of its places, through its loan. A page has its history

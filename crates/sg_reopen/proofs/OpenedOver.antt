@@ -33,7 +33,7 @@ only_these xs ys zs e =
     ap (λ (l : List Numbered). xs ++ l) (none_left ys zs (sym none)) ∙ sym (none_more xs)
 
 -- an image of opening stands from its own point
-own_point : (o : Origin) (rs : List Numbered) (c : Image) → AreMarked (λ k. Unit {0}) rs → IsStanding o rs rs (redo_point o.super.base rs) c → StandsAgain o rs rs c
+pub own_point : (o : Origin) (rs : List Numbered) (c : Image) → AreMarked (λ k. Unit {0}) rs → IsStanding o rs rs (redo_point o.super.base rs) c → StandsAgain o rs rs c
 own_point o rs c low s =
     let same : s.records ≡ rs = s.later ∙ only_these rs s.since s.more (s.front ∙ ap (λ (l : List Numbered). l ++ s.more) s.later) in
     record {

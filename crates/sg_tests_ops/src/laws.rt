@@ -56,7 +56,7 @@ impl RecordOp for Meeting {
 
 // Two flags, and the count.
 #[derive(Drop)]
-struct Flags {
+pub struct Flags {
     left: Arc<AtomicU64, Global>,
     right: Arc<AtomicU64, Global>,
     seen: Arc<AtomicU64, Global>,
@@ -67,7 +67,7 @@ fn zero(alloc: Global) -> Result<Arc<AtomicU64, Global>, Fail> {
 }
 
 impl Flags {
-    fn new(alloc: Global) -> Result<Flags, Fail> {
+    pub fn new(alloc: Global) -> Result<Flags, Fail> {
         Ok(Flags {
             left: zero(alloc)?,
             right: zero(alloc)?,
@@ -85,7 +85,7 @@ impl Flags {
         meeting_of(8, &self.right, &self.left, &self.seen)
     }
 
-    fn count(&self) -> u64 {
+    pub fn count(&self) -> u64 {
         self.seen.load(Ordering::SeqCst)
     }
 }
@@ -109,7 +109,7 @@ fn is_taken(alloc: Global, ops: &mut Ops, meeting: Meeting) -> Result<bool, Fail
 }
 
 // Whether both operations are taken.
-fn are_taken(alloc: Global, ops: &mut Ops, flags: &Flags) -> Result<bool, Fail> {
+pub fn are_taken(alloc: Global, ops: &mut Ops, flags: &Flags) -> Result<bool, Fail> {
     let is_first = is_taken(alloc, ops, flags.first()?)?;
     let is_second = is_taken(alloc, ops, flags.second()?)?;
     Ok(is_first && is_second)

@@ -1,5 +1,5 @@
 //! Tests of what is done to pages, items and ranges: the registered operations and what callers rest on, one operation on a
-//! page, a write that is taken off, and the frames and loans through which threads do them.
+//! page, a write that is taken off, the frames and loans through which threads do them, and records that two threads replay.
 //! Each module has those of one crate.
 #![tactic(auto)]
 
@@ -11,5 +11,7 @@ mod frames;
 mod laws;
 #[cfg(test)]
 mod ops;
+#[cfg(test)]
+mod replay;
 #[cfg(test)]
 mod step;

@@ -1,17 +1,20 @@
-use Rattle.std.proofs.Common.{◌≡◌, ◌+◌, ◌<◌, ℕ, List, [], All, length, IsTrue, sym, ◌∙◌, ap, subst, inl, inr, arith, ◌≤◌}
-use Rattle.sg_disk.specs.Disk.{View}
-use Rattle.sg_ops.specs.Table.{Table, table_of}
+use Rattle.std.proofs.Common.{◌≡◌, ◌+◌, ℕ, length, sym, ◌∙◌, ap, subst, arith, Ok, inl, inr}
+use Rattle.sg_base.specs.declared.area.Area.TheVariants.{Home}
+use Rattle.sg_disk.specs.Disk.{State, LeavesOnly}
+use Rattle.sg_gate.specs.Superblock.{superblock}
 use Rattle.sg_gate.specs.declared.superblock.Super.{Super}
-use Rattle.sg_redo.specs.declared.place.Place.{Place}
-use Rattle.sg_redo.specs.Units.{AreKnown}
 use Rattle.sg_pool.specs.Pooled.{sizes}
-use Rattle.sg_pool.specs.Redone.{AreInOrder}
-use Rattle.sg_log.specs.Frames.{Numbered}
-use Rattle.sg_engine.specs.Engine.{Origin}
-use Rattle.sg_find.specs.Synced.{redo_point}
+use Rattle.sg_find.specs.Synced.{reads}
+use Rattle.sg_find.specs.declared.fault.OpenFault.{OpenFault}
+use Rattle.sg_open.specs.Refusals.{IsCause}
+use Rattle.sg_open.proofs.Causes.{cause_same, accepted_same, late_cause}
+use Rattle.sg_ops.specs.Table.{Table, table_of}
+use Rattle.sg_engine.specs.Engine.{IsStanding}
+use Rattle.sg_engine.specs.Running.{IsAllowed}
+use Rattle.sg_places.specs.Placed.{places_in}
 use Rattle.sg_open.proofs.Whole.{on_ok, opens1, opening_reads, opening_all, at_hand, not_found}
 use Rattle.sg_find.specs.declared.fault.OpenFault.TheVariants.{Disk, NotAStore}
-use Rattle.sg_open.proofs.Able.{able_places, refused_synced, refused_memory, refused_disk}
+use Rattle.sg_open.proofs.Able.{refused_synced, refused_memory, refused_disk}
 use Rattle.sg_find.specs.Faults.{is_disk}
 use Rattle.sg_find.proofs.Heeding.{on_false_then, heeds_none}
 use Rattle.sg_open.proofs.opening.open.Goals as goal
@@ -28,18 +31,17 @@ returns-in-Err-take_pool-clause-moments g c o tail ds told effect opens =
     opening_reads t o tail ds (g.D.Disk.view c.args.disk.now) (g.D.Disk.view c.sync_all.new.disk) (g.D.Disk.view c.find.new.disk)
     (on_ok c.sync_all.result c.if-is_err.ensures.value (c.sync_all.ensures.synced told)) opens (c.sync_all.ensures.moments told) (c.find.ensures.reads.any_moment told)
 
-pub repeat-requires-clause-within : goal.repeat-requires-clause-within
-repeat-requires-clause-within g c =
-    subst (λ (l : List Place). All (λ p. p.unit < (sizes c.in-Ok-take_pool.pool).pages + (sizes c.in-Ok-take_pool.pool).bands) l) (c.deref-2.ensures.value ∙ sym c.deref_mut.ensures.value) c.in-Ok-take_pool.ensures.within
+pub repeat-requires-clause-great : goal.repeat-requires-clause-great
+repeat-requires-clause-great g c = let long = c.in-Ok.ensures.room.text in omega (arith, long, ap length c.deref_mut.ensures.value)
 
-pub repeat-requires-clause-order : goal.repeat-requires-clause-order
-repeat-requires-clause-order g c = subst (λ (l : List Place). AreInOrder l) (c.deref-2.ensures.value ∙ sym c.deref_mut.ensures.value) c.in-Ok-take_pool.ensures.order
+pub repeat-requires-clause-few : goal.repeat-requires-clause-few
+repeat-requires-clause-few g c = let long = c.in-Ok.ensures.room.text in omega (arith, long, ap length c.deref_mut.ensures.value)
 
-pub repeat-requires-clause-known : goal.repeat-requires-clause-known
-repeat-requires-clause-known g c =
-    let t : Table = table_of (λ p. (goal.RecordOp-dyn g p).record_meaning p.1) (λ p. (goal.RangeOp-dyn g p).range_meaning p.1) c.args.ops.now in
-    subst (λ (l : List Place). AreKnown t c.deref-3.result.now l) (c.deref-2.ensures.value ∙ sym c.deref_mut.ensures.value)
-    (subst (λ (l : List ℕ). AreKnown t l c.deref-2.result.now) (c.deref.ensures.value ∙ sym c.deref-3.ensures.value) c.in-Ok-take_pool.ensures.known)
+pub repeat-requires-clause-room : goal.repeat-requires-clause-room
+repeat-requires-clause-room g c =
+    let long = c.in-Ok.ensures.room.text in
+    let many = c.in-Ok.ensures.room.places in
+    omega (arith, long, many, ap length c.deref_mut.ensures.value)
 
 pub returns-in-Ok-repeat-clause-opens : goal.returns-in-Ok-repeat-clause-opens
 returns-in-Ok-repeat-clause-opens g c o tail ds told effect opens =
@@ -49,8 +51,8 @@ returns-in-Ok-repeat-clause-opens g c o tail ds told effect opens =
     let v2 = g.D.Disk.view c.find.new.disk in
     let synced = on_ok c.sync_all.result c.if-is_err.ensures.value (c.sync_all.ensures.synced told) in
     let found = c.in-Ok.ensures.found o tail ds told synced.settled (opens1 t o tail ds v v1 v2 synced opens) in
-    c.in-Ok-repeat.ensures.runs o (redo_point o.super.base ds) ds told (ap (λ (s : Super). s.pages) (sym found.super))
-    (at_hand t o tail ds v v1 v2 synced opens c.in-Ok.found c.in-Ok-take_pool.pool c.deref-3.result.now c.deref_mut.result.now (c.find.ensures.reads.unchanged told) effect found c.in-Ok-take_pool.ensures.new c.deref-3.ensures.value c.deref_mut.ensures.value)
+    c.in-Ok-repeat.ensures.runs o ds told (sym found.super)
+    (at_hand t o tail ds v v1 v2 synced opens c.in-Ok.found c.in-Ok-take_pool.pool c.max-point.result (c.find.ensures.reads.unchanged told) effect found c.in-Ok-take_pool.ensures.new c.max-point.ensures)
 
 pub returns-in-Ok-repeat-clause-allowed : goal.returns-in-Ok-repeat-clause-allowed
 returns-in-Ok-repeat-clause-allowed g c o tail ds told effect opens le =
@@ -60,8 +62,10 @@ returns-in-Ok-repeat-clause-allowed g c o tail ds told effect opens le =
     let v2 = g.D.Disk.view c.find.new.disk in
     let synced = on_ok c.sync_all.result c.if-is_err.ensures.value (c.sync_all.ensures.synced told) in
     let found = c.in-Ok.ensures.found o tail ds told synced.settled (opens1 t o tail ds v v1 v2 synced opens) in
-    c.in-Ok-repeat.ensures.allowed o (redo_point o.super.base ds) ds told (ap (λ (s : Super). s.pages) (sym found.super))
-    (at_hand t o tail ds v v1 v2 synced opens c.in-Ok.found c.in-Ok-take_pool.pool c.deref-3.result.now c.deref_mut.result.now (c.find.ensures.reads.unchanged told) effect found c.in-Ok-take_pool.ensures.new c.deref-3.ensures.value c.deref_mut.ensures.value) (subst (λ (n : ℕ). redo_point o.super.base ds ≤ n) (sym found.gate) le)
+    let e = c.max-point.ensures ∙ found.point in
+    let gate = found.gate in
+    subst (λ (k : ℕ). IsAllowed o (g.D.Disk.view c.repeat.new.disk) c.repeat.new.log c.repeat.new.pool k) e
+    (c.in-Ok-repeat.ensures.allowed o ds told (sym found.super) (at_hand t o tail ds v v1 v2 synced opens c.in-Ok.found c.in-Ok-take_pool.pool c.max-point.result (c.find.ensures.reads.unchanged told) effect found c.in-Ok-take_pool.ensures.new c.max-point.ensures) (omega (arith, e, gate, le)))
 
 pub returns-in-Ok-repeat-clause-moments : goal.returns-in-Ok-repeat-clause-moments
 returns-in-Ok-repeat-clause-moments g c o tail ds told effect opens =
@@ -72,8 +76,8 @@ returns-in-Ok-repeat-clause-moments g c o tail ds told effect opens =
     let synced = on_ok c.sync_all.result c.if-is_err.ensures.value (c.sync_all.ensures.synced told) in
     let found = c.in-Ok.ensures.found o tail ds told synced.settled (opens1 t o tail ds v v1 v2 synced opens) in
     opening_all t o tail ds v v1 v2 synced opens (g.D.Disk.view c.repeat.new.disk) (c.sync_all.ensures.moments told) (c.find.ensures.reads.any_moment told)
-    (c.repeat.ensures.moments o (redo_point o.super.base ds) ds told (ap (λ (s : Super). s.pages) (sym found.super))
-    (at_hand t o tail ds v v1 v2 synced opens c.in-Ok.found c.in-Ok-take_pool.pool c.deref-3.result.now c.deref_mut.result.now (c.find.ensures.reads.unchanged told) effect found c.in-Ok-take_pool.ensures.new c.deref-3.ensures.value c.deref_mut.ensures.value))
+    (subst (λ (k : ℕ). LeavesOnly v2 (g.D.Disk.view c.repeat.new.disk) (IsStanding o ds ds k)) (c.max-point.ensures ∙ found.point) (c.repeat.ensures.moments o ds told (sym found.super)
+    (at_hand t o tail ds v v1 v2 synced opens c.in-Ok.found c.in-Ok-take_pool.pool c.max-point.result (c.find.ensures.reads.unchanged told) effect found c.in-Ok-take_pool.ensures.new c.max-point.ensures)))
 
 pub returns-in-Err-repeat-clause-moments : goal.returns-in-Err-repeat-clause-moments
 returns-in-Err-repeat-clause-moments g c o tail ds told effect opens =
@@ -84,8 +88,8 @@ returns-in-Err-repeat-clause-moments g c o tail ds told effect opens =
     let synced = on_ok c.sync_all.result c.if-is_err.ensures.value (c.sync_all.ensures.synced told) in
     let found = c.in-Ok.ensures.found o tail ds told synced.settled (opens1 t o tail ds v v1 v2 synced opens) in
     opening_all t o tail ds v v1 v2 synced opens (g.D.Disk.view c.repeat.new.disk) (c.sync_all.ensures.moments told) (c.find.ensures.reads.any_moment told)
-    (c.repeat.ensures.moments o (redo_point o.super.base ds) ds told (ap (λ (s : Super). s.pages) (sym found.super))
-    (at_hand t o tail ds v v1 v2 synced opens c.in-Ok.found c.in-Ok-take_pool.pool c.deref-3.result.now c.deref_mut.result.now (c.find.ensures.reads.unchanged told) effect found c.in-Ok-take_pool.ensures.new c.deref-3.ensures.value c.deref_mut.ensures.value))
+    (subst (λ (k : ℕ). LeavesOnly v2 (g.D.Disk.view c.repeat.new.disk) (IsStanding o ds ds k)) (c.max-point.ensures ∙ found.point) (c.repeat.ensures.moments o ds told (sym found.super)
+    (at_hand t o tail ds v v1 v2 synced opens c.in-Ok.found c.in-Ok-take_pool.pool c.max-point.result (c.find.ensures.reads.unchanged told) effect found c.in-Ok-take_pool.ensures.new c.max-point.ensures)))
 
 pub returns-in-Ok-repeat-clause-shut : goal.returns-in-Ok-repeat-clause-shut
 returns-in-Ok-repeat-clause-shut g c told first second =
@@ -114,8 +118,7 @@ returns-in-Err-take_pool-clause-refused g c o tail ds told effect opens =
     let v2 = g.D.Disk.view c.find.new.disk in
     let synced = on_ok c.sync_all.result c.if-is_err.ensures.value (c.sync_all.ensures.synced told) in
     let found = c.in-Ok.ensures.found o tail ds told synced.settled (opens1 t o tail ds v v1 v2 synced opens) in
-    let able = able_places t o tail ds v2 c.in-Ok.found c.deref.result.now c.deref-2.result.now found opens.there c.deref.ensures.value c.deref-2.ensures.value in
-    refused_memory g.D.Disk.told t o ds v v2 c.in-Err-take_pool.fault (c.in-Err-take_pool.ensures.able able.0 able.1 able.2)
+    refused_memory g.D.Disk.told t o ds v v2 c.in-Err-take_pool.fault c.in-Err-take_pool.ensures.memory
 
 pub returns-in-Err-repeat-clause-refused : goal.returns-in-Err-repeat-clause-refused
 returns-in-Err-repeat-clause-refused g c o tail ds told effect opens =
@@ -126,8 +129,8 @@ returns-in-Err-repeat-clause-refused g c o tail ds told effect opens =
     let synced = on_ok c.sync_all.result c.if-is_err.ensures.value (c.sync_all.ensures.synced told) in
     let found = c.in-Ok.ensures.found o tail ds told synced.settled (opens1 t o tail ds v v1 v2 synced opens) in
     refused_disk g.D.Disk.told t o ds v v2 (g.D.Disk.view c.repeat.new.disk) c.in-Err-repeat.fault (omega (arith, c.sync_all.ensures.later, c.find.ensures.reads.later))
-    (c.in-Err-repeat.ensures.refused o (redo_point o.super.base ds) ds told (ap (λ (s : Super). s.pages) (sym found.super))
-    (at_hand t o tail ds v v1 v2 synced opens c.in-Ok.found c.in-Ok-take_pool.pool c.deref-3.result.now c.deref_mut.result.now (c.find.ensures.reads.unchanged told) effect found c.in-Ok-take_pool.ensures.new c.deref-3.ensures.value c.deref_mut.ensures.value))
+    (c.in-Err-repeat.ensures.refused o ds told (sym found.super)
+    (at_hand t o tail ds v v1 v2 synced opens c.in-Ok.found c.in-Ok-take_pool.pool c.max-point.result (c.find.ensures.reads.unchanged told) effect found c.in-Ok-take_pool.ensures.new c.max-point.ensures))
 
 pub returns-in-Err-clause-heeded : goal.returns-in-Err-clause-heeded
 returns-in-Err-clause-heeded g c =
@@ -175,4 +178,44 @@ returns-in-Ok-repeat-clause-steps g c o tail ds told effect opens =
     let v2 = g.D.Disk.view c.find.new.disk in
     let synced = on_ok c.sync_all.result c.if-is_err.ensures.value (c.sync_all.ensures.synced told) in
     let found = c.in-Ok.ensures.found o tail ds told synced.settled (opens1 t o tail ds v v1 v2 synced opens) in
-    c.in-Ok-repeat.ensures.steps ∙ ap (λ (l : List Place). c.args.steps.now + length l) (c.deref_mut.ensures.value ∙ found.places_are)
+    subst (λ (k : ℕ). c.repeat.new.steps ≡ c.args.steps.now + length (places_in o.super.pages o.super.base k ds)) (c.max-point.ensures ∙ found.point)
+    (c.in-Ok-repeat.ensures.steps o ds told (sym found.super) (at_hand t o tail ds v v1 v2 synced opens c.in-Ok.found c.in-Ok-take_pool.pool c.max-point.result (c.find.ensures.reads.unchanged told) effect found c.in-Ok-take_pool.ensures.new c.max-point.ensures))
+
+pub returns-in-Err-clause-cause : goal.returns-in-Err-clause-cause
+returns-in-Err-clause-cause g c told =
+    let t : Table = table_of (λ p. (goal.RecordOp-dyn g p).record_meaning p.1) (λ p. (goal.RangeOp-dyn g p).range_meaning p.1) c.args.ops.now in
+    let v = g.D.Disk.view c.args.disk.now in
+    let v1 = g.D.Disk.view c.sync_all.new.disk in
+    let v2 = g.D.Disk.view c.find.new.disk in
+    let synced = on_ok c.sync_all.result c.if-is_err.ensures.value (c.sync_all.ensures.synced told) in
+    inl (cause_same t (reads v1) (reads v) c.in-Err.fault synced.seen (c.in-Err.ensures.cause told synced.settled))
+
+pub returns-in-Err-take_pool-clause-cause : goal.returns-in-Err-take_pool-clause-cause
+returns-in-Err-take_pool-clause-cause g c told =
+    let t : Table = table_of (λ p. (goal.RecordOp-dyn g p).record_meaning p.1) (λ p. (goal.RangeOp-dyn g p).range_meaning p.1) c.args.ops.now in
+    let v = g.D.Disk.view c.args.disk.now in
+    let v1 = g.D.Disk.view c.sync_all.new.disk in
+    let v2 = g.D.Disk.view c.find.new.disk in
+    let synced = on_ok c.sync_all.result c.if-is_err.ensures.value (c.sync_all.ensures.synced told) in
+    inl (subst (λ (e : OpenFault). IsCause t (reads v) e) (sym c.in-Err-take_pool.ensures.memory) tt)
+
+pub returns-in-Err-repeat-clause-cause : goal.returns-in-Err-repeat-clause-cause
+returns-in-Err-repeat-clause-cause g c told =
+    let t : Table = table_of (λ p. (goal.RecordOp-dyn g p).record_meaning p.1) (λ p. (goal.RangeOp-dyn g p).range_meaning p.1) c.args.ops.now in
+    let v = g.D.Disk.view c.args.disk.now in
+    let v1 = g.D.Disk.view c.sync_all.new.disk in
+    let v2 = g.D.Disk.view c.find.new.disk in
+    let synced = on_ok c.sync_all.result c.if-is_err.ensures.value (c.sync_all.ensures.synced told) in
+    let accepted = accepted_same t (reads v1) (reads v) c.in-Ok.found.geometry synced.seen (c.in-Ok.ensures.accepted told synced.settled) in
+    let super = subst (λ (s : Super). superblock (reads v Home) ≡ Ok s) accepted.1 accepted.0.counts in
+    inr (late_cause g.D.Disk.told c.in-Ok.found.geometry (sizes c.in-Ok-take_pool.pool) (reads v) v2 c.in-Err-repeat.fault told
+    (λ a. ap (λ (st : State). (st a).seen) (c.find.ensures.reads.unchanged told) ∙ synced.seen a) super c.in-Ok-take_pool.ensures.new.size c.in-Err-repeat.ensures.late)
+
+pub returns-in-Ok-repeat-clause-accepted : goal.returns-in-Ok-repeat-clause-accepted
+returns-in-Ok-repeat-clause-accepted g c told =
+    let t : Table = table_of (λ p. (goal.RecordOp-dyn g p).record_meaning p.1) (λ p. (goal.RangeOp-dyn g p).range_meaning p.1) c.args.ops.now in
+    let v = g.D.Disk.view c.args.disk.now in
+    let v1 = g.D.Disk.view c.sync_all.new.disk in
+    let v2 = g.D.Disk.view c.find.new.disk in
+    let synced = on_ok c.sync_all.result c.if-is_err.ensures.value (c.sync_all.ensures.synced told) in
+    accepted_same t (reads v1) (reads v) c.in-Ok.found.geometry synced.seen (c.in-Ok.ensures.accepted told synced.settled)

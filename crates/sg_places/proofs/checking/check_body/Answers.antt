@@ -8,7 +8,7 @@ use Rattle.sg_places.proofs.Rest.{IsChecked, check_starts, check_goes_on, outsid
 use Rattle.sg_places.proofs.checking.check_body.Goals as goal
 
 pub records-init : goal.records-init
-records-init g c rs fields text = check_starts (table_of (λ p. (goal.RecordOp-dyn g p).record_meaning p.1) (λ p. (goal.RangeOp-dyn g p).range_meaning p.1) c.args.ops.now) c.args.pages c.args.bands c.args.point c.args.losers.now c.args.lsn c.args.body.now rs fields text
+records-init g c rs fields text = check_starts (table_of (λ p. (goal.RecordOp-dyn g p).record_meaning p.1) (λ p. (goal.RangeOp-dyn g p).range_meaning p.1) c.args.ops.now) c.args.pages c.args.bands c.args.point (c.args.losers.now, c.args.opened.now) c.args.lsn c.args.body.now rs fields text
 
 pub records-smaller : goal.records-smaller
 records-smaller g c = omega (arith, c.in-Ok.ensures.size, spelled-long (shown c.in-Ok.rec))
@@ -17,8 +17,8 @@ pub records-preserved : goal.records-preserved
 records-preserved g c rs fields text =
     let t : Table = table_of (λ p. (goal.RecordOp-dyn g p).record_meaning p.1) (λ p. (goal.RangeOp-dyn g p).range_meaning p.1) c.args.ops.now in
     let bytes = c.args.body.now in
-    subst (λ (o : Option ℕ). IsChecked t c.args.pages c.args.bands c.args.point c.args.losers.now c.args.lsn bytes rs (c.records.from + c.in-Ok.size) o) (sym c.or_else-unknown.ensures)
-    (check_goes_on t c.args.pages c.args.bands c.args.point c.args.losers.now c.args.lsn bytes rs c.records.from c.records.unknown (c.records.invariant rs fields text)
+    subst (λ (o : Option ℕ). IsChecked t c.args.pages c.args.bands c.args.point (c.args.losers.now, c.args.opened.now) c.args.lsn bytes rs (c.records.from + c.in-Ok.size) o) (sym c.or_else-unknown.ensures)
+    (check_goes_on t c.args.pages c.args.bands c.args.point (c.args.losers.now, c.args.opened.now) c.args.lsn bytes rs c.records.from c.records.unknown (c.records.invariant rs fields text)
     c.in-Ok.size (shown c.in-Ok.rec) c.records-test.true c.in-Ok.ensures.range (ap (take c.in-Ok.size) (sym (take_rest bytes c.records.from)) ∙ c.in-Ok.ensures.spelling)
     c.unknown_by-code.result (sym c.is_there.ensures ∙ c.if-not-is_there.false) c.unknown_by-code.ensures c.in-Ok.ensures.size)
 
@@ -34,7 +34,7 @@ returns-then-not-is_there-clause-refused g c rs fields text =
     let t : Table = table_of (λ p. (goal.RecordOp-dyn g p).record_meaning p.1) (λ p. (goal.RangeOp-dyn g p).range_meaning p.1) c.args.ops.now in
     let bytes = c.args.body.now in (
       refl,
-      outside t c.args.pages c.args.bands c.args.point c.args.losers.now c.args.lsn bytes rs c.records.from c.records.unknown (c.records.invariant rs fields text)
+      outside t c.args.pages c.args.bands c.args.point (c.args.losers.now, c.args.opened.now) c.args.lsn bytes rs c.records.from c.records.unknown (c.records.invariant rs fields text)
           c.in-Ok.size (shown c.in-Ok.rec) c.records-test.true c.in-Ok.ensures.range (ap (take c.in-Ok.size) (sym (take_rest bytes c.records.from)) ∙ c.in-Ok.ensures.spelling)
           (sym c.is_there.ensures ∙ c.if-not-is_there.true),
     )

@@ -11,5 +11,4 @@ places-preserved g c =
       page = grind (arith, common_steps, page_turn);
       since = c.redo_page.ensures.since ∙ page_since_turn t c.args.text.now c.args.places.now c.places.k _ c.args.page.now c.places.page c.args.since.now c.places.since c.places-test.true c.places.invariant.page c.places.invariant.since;
       well = well_more c.args.page.now c.places.page c.redo_page.new.page c.places.invariant.well c.redo_page.ensures.well;
-      steps = omega arith;
     }

@@ -16,7 +16,6 @@ places-preserved g c =
       marks = λ whole. c.redo_window.ensures.marks (c.places.invariant.marks whole);
       since = c.redo_window.ensures.since ∙ window_since_turn t c.args.text.now c.args.places.now c.places.k _ c.args.since.now c.places.since c.places-test.true c.places.invariant.since;
       lie = lie_turn t c.args.text.now c.args.places.now c.places.k _ c.places-test.true c.places.invariant.lie c.redo_window.ensures.lies;
-      steps = omega arith;
     }
 
 pub returns-clause-marked : goal.returns-clause-marked

@@ -1,4 +1,4 @@
-use Rattle.std.proofs.Common.{◌≡◌, ◌+◌, ◌⊎◌, ◌↔◌, ℕ, length, take}
+use Rattle.std.proofs.Common.{◌≡◌, ◌⊎◌, ◌↔◌, ℕ, length, take}
 use Rattle.sg_ops.specs.Table.{table_of}
 use Rattle.sg_segment.specs.Runs.{IsMarked}
 use Rattle.sg_redo.specs.History.{IsCovered}
@@ -14,5 +14,4 @@ invariant-places g l = record {
   marks : length l.initial.dirty ≡ 32768 → length l.dirty ≡ 32768;
   since : l.since ≡ since_replayed (window_records (table_of (λ p. (goal.RecordOp-dyn g p).record_meaning p.1) (λ p. (goal.RangeOp-dyn g p).range_meaning p.1) l.ops) l.text (take l.k l.places)) l.initial.since;
   lie : AllLie 32768 (window_records (table_of (λ p. (goal.RecordOp-dyn g p).record_meaning p.1) (λ p. (goal.RangeOp-dyn g p).range_meaning p.1) l.ops) l.text (take l.k l.places));
-  steps : l.steps ≡ l.initial.steps + l.k;
 }

@@ -30,3 +30,9 @@ returns-clause-moments g c o ds all told is each =
     let over = each (reads v) (seen_image v (g.met.D.Disk.reads c.args.disk.now told)) in
     again.opening_over t o ds all v is over (g.D.Disk.view c.open.new.disk) each
     (c.open.ensures.moments (origin_at (cut_at o over.stand over.gone) (reads v)) over.again.stands.tail over.again.stands.records told is.says (again.opens t o ds all v is over))
+
+pub returns-clause-steps : goal.returns-clause-steps
+returns-clause-steps g c o ds all told is over =
+    let t : Table = table_of (λ p. (goal.RecordOp-dyn g p).record_meaning p.1) (λ p. (goal.RangeOp-dyn g p).range_meaning p.1) c.args.ops.now in
+    let v = g.D.Disk.view c.args.disk.now in
+    c.open.ensures.steps (origin_at (cut_at o over.stand over.gone) (reads v)) over.again.stands.tail over.again.stands.records told is.says (again.opens t o ds all v is over)

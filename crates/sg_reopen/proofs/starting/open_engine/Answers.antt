@@ -11,3 +11,8 @@ pub returns-in-Ok-clause-opened : goal.returns-in-Ok-clause-opened
 returns-in-Ok-clause-opened g c o ds all told is each =
     let d = c.of_parts-engine.ensures.disk in
     rw d (c.reopen.ensures.moments o ds all told is each)
+
+pub returns-in-Ok-clause-heeded : goal.returns-in-Ok-clause-heeded
+returns-in-Ok-clause-heeded g c =
+    let d = c.of_parts-engine.ensures.disk in
+    rw d c.in-Ok.ensures.heeded

@@ -1,0 +1,87 @@
+-- What an opening leaves.
+use Rattle.std.proofs.Common.{◌≡◌, ◌≤◌, ℕ, Bool, true, false, IsTrue, List, [], ◌++◌, refl, ap, ◌∙◌}
+use mathlib.Core.Logic.{∥∥₁_elim, ∥∥₁_prop}
+use Rattle.sg_disk.specs.Disk.{Image, View, Leaves, LeavesOnly}
+use Rattle.sg_log.specs.Frames.{Numbered}
+use Rattle.sg_log.specs.Held.{Tail}
+use Rattle.sg_ops.specs.Laws.{IsLawful}
+use Rattle.sg_ops.specs.Table.{Table}
+use Rattle.sg_pool.specs.declared.pool.Pool.{Pool}
+use Rattle.sg_record.specs.Records.{Record}
+use Rattle.sg_action.specs.States.{State}
+use Rattle.sg_engine.specs.Effects.{effect_in}
+use Rattle.sg_engine.specs.Engine.{Origin}
+use Rattle.sg_engine.specs.Running.{IsEngine, IsAllowed}
+use Rattle.sg_find.specs.Synced.{reads, redo_point}
+use Rattle.sg_find.specs.declared.fault.OpenFault.{OpenFault}
+use Rattle.sg_open.specs.Found.{Opens, AreOpening}
+use Rattle.sg_open.specs.Refusals.{StoreRefused}
+use Rattle.sg_actions.specs.Steps.{Steps}
+use Rattle.sg_phys_laws.specs.Poised.{IsPoised}
+use Rattle.sg_phys_laws.specs.Reading.{durable_in, waiting_in}
+use Rattle.sg_phys_laws.specs.Recovers.{origin_of, records_in, point_in, IsSoundImage}
+use Rattle.sg_phys_laws.specs.States.{steps_of}
+use Rattle.sg_phys_laws.proofs.Reading.{held_are}
+use Rattle.sg_phys_laws.proofs.Sets.{steps_set}
+use Rattle.sg_phys_laws.proofs.Wrapped.{all_are, append_none}
+use Rattle.sg_phys.specs.Phys.{Stands, StandsForSome}
+use Rattle.sg_attach.specs.Attached.{IsStoreImage, IsLeftOrStoreImage}
+use Rattle.sg_attach.proofs.Opens.{sound_opens, point_below, image_is_said, opens_poised, attach_either}
+
+-- an origin's records do what these operations say
+abbrev pub DoesBy : Table → Origin → Type 0
+DoesBy t o = (lsn : ℕ) (x : Record) → o.effect lsn x ≡ effect_in t lsn x
+
+-- what is known where the disk tells
+told_known : (told : Bool) (P : Type 0) → (IsTrue told → ∥ P ∥₁) → ∥ (IsTrue told → P) ∥₁
+told_known true P has = ∥∥₁_elim (has refl) ∥∥₁_prop (λ p. ∣ (λ told. p) ∣₁)
+told_known false P has = ∣ (λ told. (let bad : ⊥ = cc in absurd bad)) ∣₁
+
+-- WHAT OPENING PROMISES of a disk that tells
+module _ (told : Bool) (t : Table) (v w : View) (log : Tail) (pool : Pool)
+    (runs : (q : Origin) (tail : ℕ) (ds : List Numbered) → IsTrue told → DoesBy t q → Opens q tail ds v → IsEngine q w log ds [] pool) where
+  abbrev o : Origin
+  o = origin_of t (reads v)
+
+  abbrev ns : List Numbered
+  ns = records_in o (reads v)
+
+  engine_of : IsTrue told → IsSoundImage o (point_in o (reads v)) ns (reads v) → IsEngine o w log ns [] pool
+  engine_of is s = runs o s.tail ns is (λ lsn x. refl) (sound_opens t v s)
+
+  -- it holds the steps that the image held
+  pub attach_steps : (from : State) (durable all : Steps) → IsTrue told → IsStoreImage t from durable all (reads v) → steps_of (durable_in w log ++ waiting_in log) ≡ steps_of ns
+  attach_steps from durable all is m = ∥∥₁_elim m.recovers.sound (steps_set (steps_of (durable_in w log ++ waiting_in log)) (steps_of ns)) (λ s.
+      ap steps_of (all_are o w log ns [] pool (engine_of is s) ∙ append_none ns))
+
+  pub attach_durable : (from : State) (durable all : Steps) → IsTrue told → IsStoreImage t from durable all (reads v) → steps_of (durable_in w log) ≡ steps_of ns
+  attach_durable from durable all is m = ∥∥₁_elim m.recovers.sound (steps_set (steps_of (durable_in w log)) (steps_of ns)) (λ s.
+      ap steps_of (held_are w log ns [] (engine_of is s).engine.held).0)
+
+  module _ (allowed : (q : Origin) (tail : ℕ) (ds : List Numbered) → IsTrue told → DoesBy t q → Opens q tail ds v → redo_point q.super.base ds ≤ tail → IsAllowed q w log pool (redo_point q.super.base ds)) (lawful : IsLawful t) where
+    poised : (from : State) (durable all : Steps) → IsTrue told → IsStoreImage t from durable all (reads v) → ∥ IsPoised t from o w log pool ∥₁
+    poised from durable all is m = ∥∥₁_elim m.recovers.sound ∥∥₁_prop (λ s.
+        ∣ opens_poised t from (reads v) w log pool s.low (image_is_said t from durable all (reads v) m) (engine_of is s)
+        (allowed o s.tail ns is (λ lsn x. refl) (sound_opens t v s) (point_below t (point_in o (reads v)) ns (reads v) s)) ∣₁)
+
+    -- and stands for what the image stood for
+    pub attach_stands : (failed : Bool) (from : State) (durable all : Steps) → (IsTrue told → IsStoreImage t from durable all (reads v)) → Stands told failed v w log pool t from
+    attach_stands failed from durable all known = record {
+      lawful = lawful;
+      known = ∥∥₁_elim (told_known told (IsPoised t from o w log pool) (λ is. poised from durable all is (known is))) ∥∥₁_prop (λ k. ∣ (λ whole tells. k tells) ∣₁);
+    }
+
+    pub attach_some : ∥ ((from : State) × (durable : Steps) × (all : Steps) × (IsTrue told → IsStoreImage t from durable all (reads v))) ∥₁ → StandsForSome told false v w log pool
+    attach_some known = ∥∥₁_elim known ∥∥₁_prop (λ k. ∣ (t, k.0, attach_stands false k.0 k.1 k.2 k.3) ∣₁)
+
+-- the moments
+pub attach_moments : (t : Table) (from : State) (durable log : Steps) (v w : View) → IsStoreImage t from durable log (reads v)
+    → ((q : Origin) (tail : ℕ) (ds : List Numbered) → DoesBy t q → Opens q tail ds v → AreOpening q ds v w) → LeavesOnly v w (IsLeftOrStoreImage v.now t from durable log)
+attach_moments t from durable log v w m opening =
+    attach_either t from durable log v w m (λ s. opening (origin_of t (reads v)) s.tail (records_in (origin_of t (reads v)) (reads v)) (λ lsn x. refl) (sound_opens t v s))
+
+-- the refusals
+pub attach_refused : (told : Bool) (t : Table) (from : State) (durable log : Steps) (v w : View) (fault : OpenFault) → IsStoreImage t from durable log (reads v)
+    → ((q : Origin) (tail : ℕ) (ds : List Numbered) → DoesBy t q → Opens q tail ds v → StoreRefused told t q ds v w fault) → ∥ StoreRefused told t (origin_of t (reads v)) (records_in (origin_of t (reads v)) (reads v)) v w fault ∥₁
+attach_refused told t from durable log v w fault m refused =
+    ∥∥₁_elim m.recovers.sound ∥∥₁_prop (λ s. ∣ refused (origin_of t (reads v)) s.tail (records_in (origin_of t (reads v)) (reads v)) (λ lsn x. refl) (sound_opens t v s) ∣₁)

@@ -1,0 +1,45 @@
+// What an image of a store is opened as.
+ghost use Rattle.std.specs.Prelude.{◌≡◌, ◌≤◌, [], ℕ, List};
+ghost use Rattle.sg_disk.specs.Disk.{Image, View, Leaves, LeavesOnly};
+ghost use Rattle.sg_log.specs.Frames.{Numbered};
+ghost use Rattle.sg_log.specs.Held.{Tail};
+ghost use Rattle.sg_ops.specs.Table.{Table};
+ghost use Rattle.sg_pool.specs.declared.pool.Pool.{Pool};
+ghost use Rattle.sg_action.specs.States.{State};
+ghost use Rattle.sg_engine.specs.Effects.{IsBy};
+ghost use Rattle.sg_engine.specs.Engine.{Origin};
+ghost use Rattle.sg_engine.specs.Running.{IsEngine, IsAllowed};
+ghost use Rattle.sg_find.specs.Synced.{reads, redo_point};
+ghost use Rattle.sg_open.specs.Found.{Opens};
+ghost use Rattle.sg_reopen.specs.Again.{StandsAgain};
+ghost use Rattle.sg_actions.specs.Steps.{Steps};
+ghost use Rattle.sg_phys_laws.specs.Points.{AreMarked};
+ghost use Rattle.sg_phys_laws.specs.Poised.{AreSaid, IsPoised};
+ghost use Rattle.sg_phys_laws.specs.Recovers.{cut_at, origin_of, records_in, point_in, IsSoundImage};
+ghost use Rattle.sg_phys_laws.specs.States.{AllAgree, state_of, steps_of};
+ghost use Rattle.sg_attach.specs.Attached.{IsStoreImage, IsLeftOrStoreImage};
+
+/// A law: an image of a store can be opened, with the records of its log over its own home area; these
+/// make of it what the steps make of what the store first said; and what is opened so is the engine
+/// under the actions.
+pub fn images_attach()
+    ensures opens { (t : Table) (v : View) → (s : IsSoundImage (origin_of t (reads v)) (point_in (origin_of t (reads v)) (reads v)) (records_in (origin_of t (reads v)) (reads v)) (reads v)) → Opens (origin_of t (reads v)) s.tail (records_in (origin_of t (reads v)) (reads v)) v }
+    ensures point { (t : Table) (k : ℕ) (ns : List Numbered) (c : Image) → (s : IsSoundImage (origin_of t c) k ns c) → redo_point (origin_of t c).super.base ns ≤ s.tail }
+    ensures said { (t : Table) (from : State) (durable log : Steps) (c : Image) → IsStoreImage t from durable log c → AreSaid t from (origin_of t c) (records_in (origin_of t c) c) }
+    ensures poised { (t : Table) (from : State) (c : Image) (w : View) (log : Tail) (pool : Pool) → AreMarked (λ k. Unit {0}) (records_in (origin_of t c) c) → AreSaid t from (origin_of t c) (records_in (origin_of t c) c) → IsEngine (origin_of t c) w log (records_in (origin_of t c) c) [] pool
+        → IsAllowed (origin_of t c) w log pool (redo_point (origin_of t c).super.base (records_in (origin_of t c) c)) → IsPoised t from (origin_of t c) w log pool }
+{}
+
+/// A law: where each image that could have been left before an opening is one of the store, each that
+/// may be left while it is opened is. It need not be so: of a store whose log was being cut, an image may
+/// have the log before the cut or behind it, and the one that is read says which store is opened.
+pub fn opening_keeps()
+    ensures { (t : Table) (from : State) (durable log : Steps) (v w : View) → ((c : Image) → Leaves v.now c → IsStoreImage t from durable log c) → LeavesOnly v w (IsLeftOrStoreImage v.now t from durable log) → LeavesOnly v w (IsStoreImage t from durable log) }
+{}
+
+/// A law: an image that stands again, of whichever life, is one of the store, where its records agree
+/// with their steps; so is one of a store that was just made, of which nothing more is asked.
+pub fn standing_is_of()
+    ensures stands { (t : Table) (from : State) (o : Origin) (ds all : List Numbered) (c : Image) → IsBy t o → AllAgree t o ds all → AreSaid t from o ds → StandsAgain o ds all c → IsStoreImage t from (steps_of ds) (steps_of all) c }
+    ensures none { (t : Table) (o : Origin) (c : Image) → IsBy t o → StandsAgain o [] [] c → IsStoreImage t (cut_at o.super (state_of o.first)) [] [] c }
+{}
