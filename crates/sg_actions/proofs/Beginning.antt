@@ -1,5 +1,5 @@
 -- What is kept at the begin of a transaction, and where one acts.
-use Rattle.std.proofs.Common.{◌≡◌, ◌≢◌, ℕ, ◌+◌, ◌<◌, ◌≤◌, List, [], ◌∷◌, length, Some, None, Bool, sym, ap, subst, ◌∙◌, refl, arith}
+use Rattle.std.proofs.Common.{◌≡◌, ◌≢◌, ℕ, ◌+◌, ◌<◌, ◌≤◌, List, [], ◌∷◌, length, Some, None, Bool, sym, ap, subst, ◌∙◌, refl, arith, false}
 use Rattle.std.specs.Prelude.{map, Result}
 use Rattle.sg_alloc.specs.declared.maps.Maps.{Maps}
 use Rattle.sg_base.specs.declared.numbers.TxnId.{TxnId}
@@ -11,7 +11,8 @@ use Rattle.sg_action.specs.States.{State, Change as Changed}
 use Rattle.sg_actions.specs.Acting.{IsWell, IsChained}
 use Rattle.sg_actions.specs.Calls.{Appends, IsRoomy, IsActable, CanBegin, Begun, CanAct, NowActs}
 use Rattle.sg_actions.specs.Changes.{meaning}
-use Rattle.sg_actions.specs.Engine.{EngineView, Logged, HasLogged, HasStayed, Logs, Moments}
+use Rattle.sg_actions.specs.Engine.{EngineView, Moments, seen}
+use Rattle.sg_actions.specs.Led.{Appended, HasLogged, HasStayed, LogCall}
 use Rattle.sg_actions.specs.Images.{Recovering}
 use Rattle.sg_actions.specs.Onward.{acting_to, acting_later}
 use Rattle.sg_space.specs.declared.space.SpaceFault.{SpaceFault}
@@ -22,6 +23,7 @@ use Rattle.sg_actions.specs.declared.rows.Actor.{Actor}
 use Rattle.sg_actions.specs.declared.rows.Row.{Row}
 use Rattle.sg_actions.proofs.Chained.{chain_begin, chain_act, chain_later, running_begin, running_later}
 use Rattle.sg_actions.proofs.Flags.{some_of}
+use Rattle.sg_actions.proofs.Led.{call_gone}
 
 -- the steps before the open action are no more
 pub ended_less : (rs : Steps) → length (ended rs) ≤ length rs
@@ -59,18 +61,18 @@ idle_opened (r ∷ rs) e = by_step r.is (r ∷ rs) (ap length e) (let less = end
 pub well_idle : (t : Table) (limits : State → ℕ → ℕ) (x y : State) (ds : List Changed) (pages bands : List Bool) → x ≡ y → ds ≡ [] → IsWell t limits x ds pages bands → IsWell t limits y [] pages bands
 well_idle t limits x y ds pages bands e f w = subst (λ (z : State). IsWell t limits z [] pages bands) e (subst (λ (cs : List Changed). IsWell t limits x cs pages bands) f w)
 
-pub begun_is : (t : Table) (limits : State → ℕ → ℕ) (e e' : EngineView) (maps unfreed : Maps) (rows rows' : List Row) (actor : Actor) (txn : TxnId) (lsn : ℕ) → CanBegin e unfreed rows actor → txn.0 ≡ lsn
+pub begun_is : (t : Table) (limits : State → ℕ → ℕ) (e e' : EngineView) (maps unfreed : Maps) (rows rows' : List Row) (actor : Actor) (txn : TxnId) (lsn : ℕ) → CanBegin (seen e) unfreed rows actor → txn.0 ≡ lsn
     → HasLogged e e' (by txn.0 0 SaysBegin) lsn → rows' ≡ placed rows 0 (record { txn = txn; last = txn.0 }) → Begun t limits e e' maps rows rows' actor txn
 begun_is t limits e e' maps unfreed rows rows' actor txn lsn can same h is_rows = record {
   above = let a = h.above in omega (arith, same, a);
   below = let b = h.below in omega (arith, same, b);
   told = h.told;
-  logged = λ told. subst (Logged e e' (by txn.0 0 SaysBegin)) (sym same) (h.logged told);
+  logged = λ told. subst (Appended e e' (by txn.0 0 SaysBegin)) (sym same) (h.logged told);
   rows_are = is_rows;
   kept = λ told k. let g = h.logged told in acting_to g.base g.first g.steps (record { chain = chain g (can told) k.chain; well = well (can told) k.well });
 }
   where
-    chain : Logged e e' (by txn.0 0 SaysBegin) lsn → IsRoomy e.steps unfreed rows actor → IsChained e.base e.steps e.tail rows actor → IsChained e.base (stepped e.steps lsn (Begin txn.0 0)) e'.tail rows' actor
+    chain : Appended e e' (by txn.0 0 SaysBegin) lsn → IsRoomy e.steps unfreed rows actor → IsChained e.base e.steps e.tail rows actor → IsChained e.base (stepped e.steps lsn (Begin txn.0 0)) e'.tail rows' actor
     chain g c h =
         let vacant = some_of (last_in rows 0) c.vacant in
         subst (λ (xs : List Row). IsChained e.base (stepped e.steps lsn (Begin txn.0 0)) e'.tail xs actor) (sym is_rows)
@@ -83,15 +85,16 @@ begun_is t limits e e' maps unfreed rows rows' actor txn lsn can same h is_rows 
         well_idle t limits (begin_of t e.first e.steps) (repeated t e.first e.steps) (opened e.steps) maps.pages maps.bands now (idle_opened e.steps c.rest.idle) w
 
 -- a begin may be appended, with this number
-pub begin_appends : (recovers : Recovering) (t : Table) (limits : State → ℕ → ℕ) (e e' : EngineView) (maps unfreed : Maps) (rows : List Row) (actor : Actor) (n : ℕ) (r : Result ℕ SpaceFault) → CanBegin e unfreed rows actor → Logs recovers t e e' (by n 0 SaysBegin) r → (e.Told → e'.tried ≡ n)
-    → e.Told → IsKept t limits e maps rows actor → Appends recovers t e e' (Begin e'.tried 0)
-begin_appends recovers t limits e e' maps unfreed rows actor n r can h is told k = record {
+pub begin_appends : (recovers : Recovering) (t : Table) (limits : State → ℕ → ℕ) (e e' : EngineView) (maps unfreed : Maps) (rows : List Row) (actor : Actor) (n : ℕ) (r : Result ℕ SpaceFault) → CanBegin (seen e) unfreed rows actor → LogCall recovers t e e' (by n 0 SaysBegin) r → (e.Told → e'.tried ≡ n)
+    → (e'.Told → e'.failed ≡ false) → e.Told → IsKept t limits e maps rows actor → Appends recovers t e e' (Begin e'.tried 0)
+begin_appends recovers t limits e e' maps unfreed rows actor n r can h is whole told k = record {
   above = h.above told;
   formed = (running_begin {tail = e'.tried} {next = e'.tried + 1} (omega arith) (can told).rest.system (running_later (h.above told) k.chain.running)).log;
   moments = subst (λ (m : ℕ). Moments recovers t e e' (stepped e.steps e'.tried (Begin m 0))) (sym (is told)) (h.moments told);
+  gone = λ told'. call_gone e e' (by n 0 SaysBegin) (Begin n 0) r refl h whole told' ∙ ap (λ (m : ℕ). stepped e.steps e'.tried (Begin m 0)) (sym (is told));
 }
 
-pub acts_now : (t : Table) (limits : State → ℕ → ℕ) (e : EngineView) (maps unfreed : Maps) (rows : List Row) (actor new : Actor) → CanAct e unfreed rows actor new.txn.0 → new.txn.0 ≢ 0 → last_in rows new.txn.0 ≡ Some new.last → new.before ≡ new.last
+pub acts_now : (t : Table) (limits : State → ℕ → ℕ) (e : EngineView) (maps unfreed : Maps) (rows : List Row) (actor new : Actor) → CanAct (seen e) unfreed rows actor new.txn.0 → new.txn.0 ≢ 0 → last_in rows new.txn.0 ≡ Some new.last → new.before ≡ new.last
     → NowActs t limits e maps rows actor new new.txn.0
 acts_now t limits e maps unfreed rows actor new can nonzero row both = record {
   is = λ told. refl;
@@ -103,11 +106,11 @@ acts_now t limits e maps unfreed rows actor new can nonzero row both = record {
 }
 
 -- the system acts already
-pub system_acts : (t : Table) (limits : State → ℕ → ℕ) (e : EngineView) (maps unfreed : Maps) (rows : List Row) (actor : Actor) (txn : ℕ) → CanAct e unfreed rows actor txn → txn ≡ 0 → NowActs t limits e maps rows actor actor txn
+pub system_acts : (t : Table) (limits : State → ℕ → ℕ) (e : EngineView) (maps unfreed : Maps) (rows : List Row) (actor : Actor) (txn : ℕ) → CanAct (seen e) unfreed rows actor txn → txn ≡ 0 → NowActs t limits e maps rows actor actor txn
 system_acts t limits e maps unfreed rows actor txn can zero = record { is = λ told. (can told).rest.system ∙ sym zero; chain = λ told h. h; kept = λ told k. k }
 
 -- a transaction without a row doesn't go on
-pub nobody_acts : (t : Table) (limits : State → ℕ → ℕ) (e : EngineView) (maps unfreed : Maps) (rows : List Row) (actor : Actor) (txn : ℕ) → CanAct e unfreed rows actor txn → txn ≢ 0 → last_in rows txn ≡ None → NowActs t limits e maps rows actor actor txn
+pub nobody_acts : (t : Table) (limits : State → ℕ → ℕ) (e : EngineView) (maps unfreed : Maps) (rows : List Row) (actor : Actor) (txn : ℕ) → CanAct (seen e) unfreed rows actor txn → txn ≢ 0 → last_in rows txn ≡ None → NowActs t limits e maps rows actor actor txn
 nobody_acts t limits e maps unfreed rows actor txn can nonzero none = record { is = λ told. absurd (no (can told)); chain = λ told h. h; kept = λ told k. k }
   where
     no : IsActable e.steps unfreed rows actor txn → ⊥

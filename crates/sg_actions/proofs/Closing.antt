@@ -27,7 +27,8 @@ use Rattle.sg_actions.specs.Acting.{IsWell, IsChained}
 use Rattle.sg_actions.specs.Calls.{AreSettled, Appends}
 use Rattle.sg_actions.specs.Counts.{Note, MayAppend}
 use Rattle.sg_actions.specs.Ending.{IsUndone, CanEndUndo, UndoEnded, IsBetween, IsEndable, Marked, Committed, Closed, vacant}
-use Rattle.sg_actions.specs.Engine.{EngineView, Logged, HasLogged, Logs, Stays, HasStayed, EngineLooks, Moments}
+use Rattle.sg_actions.specs.Engine.{EngineView, Moments, seen}
+use Rattle.sg_actions.specs.Led.{Appended, HasLogged, LogCall, Stayed, HasStayed, LookCall}
 use Rattle.sg_actions.specs.Growing.{grows_same, grows_then, moments_then}
 use Rattle.sg_actions.specs.Images.{Grows, Recovering}
 use Rattle.sg_actions.specs.Onward.{acting_to}
@@ -43,6 +44,7 @@ use Rattle.sg_actions.proofs.Beginning.{idle_opened, well_idle}
 use Rattle.sg_actions.proofs.Chained.{last_here, last_there, border_here, border_there, no_zero, own_low, none_open, log_more, one_action, rows_top, running_end, running_later, chain_later}
 use Rattle.sg_actions.proofs.Ended.{well_ended}
 use Rattle.sg_actions.proofs.Flags.{some_of, and_left}
+use Rattle.sg_actions.proofs.Led.{call_gone}
 use Rattle.sg_actions.proofs.Placing.{placed_other, placed_self, after_one}
 use Rattle.sg_actions.proofs.Repeating.{made_opened}
 
@@ -128,7 +130,7 @@ low_placed rows t tail next row below less (inl e) low u far = placed_other rows
 low_placed rows t tail next row below less (inr e) low u far = placed_other rows t u row (λ k. absurd (omega (arith, k, far, less, below))) (λ k. absurd (omega (arith, k, far, less, below, e))) ∙ low u (omega (arith, far, less))
 
 -- a transaction with a row has a number below what comes next
-row_low : (base : ℕ) (rs : Steps) (tail : ℕ) (rows : List Row) (actor : Actor) (t last : ℕ) → last_in rows t ≡ Some last → IsChained base rs tail rows actor → t < tail
+pub row_low : (base : ℕ) (rs : Steps) (tail : ℕ) (rows : List Row) (actor : Actor) (t last : ℕ) → last_in rows t ≡ Some last → IsChained base rs tail rows actor → t < tail
 row_low base rs tail rows actor t last row h = by (nat_lt t tail) refl
   where
     by : (b : Bool) → nat_lt t tail ≡ b → t < tail
@@ -191,7 +193,7 @@ chain_done base rs tail next t last rows actor less idle rest there nz h =
 
 -- what is kept with such a record
 kept_between : (t : Table) (limits : State → ℕ → ℕ) (e e' : EngineView) (maps : Maps) (rows rows' : List Row) (actor : Actor) (r : Record) (x : Step) (lsn : ℕ) → step_of r ≡ Some x → ((f : State) → begin_of t f (stepped e.steps lsn x) ≡ repeated t f e.steps) → opened (stepped e.steps lsn x) ≡ []
-    → Logged e e' r lsn → ended e.steps ≡ e.steps → (IsChained e.base e.steps lsn rows actor → IsChained e.base (stepped e.steps lsn x) e'.tail rows' actor)
+    → Appended e e' r lsn → ended e.steps ≡ e.steps → (IsChained e.base e.steps lsn rows actor → IsChained e.base (stepped e.steps lsn x) e'.tail rows' actor)
     → IsKept t limits e maps rows actor → IsKept t limits e' maps rows' actor
 kept_between t limits e e' maps rows rows' actor r x lsn is begin none g idle chain k =
     let now : begin_of t e.first e.steps ≡ begin_of t e.first (stepped e.steps lsn x) = ap (repeated t e.first) idle ∙ sym (begin e.first) in
@@ -202,7 +204,7 @@ kept_between t limits e e' maps rows rows' actor r x lsn is begin none g idle ch
     })
 
 -- a look behind what is appended
-pub logged_then : {a b c : EngineView} {r : Record} {lsn : ℕ} → Logged a b r lsn → Stays b c → Logged a c r lsn
+pub logged_then : {a b c : EngineView} {r : Record} {lsn : ℕ} → Appended a b r lsn → Stayed b c → Appended a c r lsn
 logged_then {a} {b} {c} {r} {lsn} g s = record {
   number = g.number;
   base = s.base ∙ g.base;
@@ -226,7 +228,7 @@ marked t limits e e' maps unfreed rows rows' actor txn mark last lsn can row g i
 }
 
 pub save_appends : (recovers : Recovering) (t : Table) (limits : State → ℕ → ℕ) (e e' : EngineView) (maps unfreed : Maps) (rows : List Row) (actor : Actor) (txn mark last : ℕ) (r : Result ℕ SpaceFault) → (e.Told → IsBetween e.steps unfreed rows actor txn) → last_in rows txn ≡ Some last
-    → Logs recovers t e e' (by txn last (SaysSave mark)) r → (e'.Told → e'.steps ≡ stepped e.steps e'.tried (Save txn last mark)) → e.Told → IsKept t limits e maps rows actor → MayAppend recovers t e e' rows txn (λ p. Save txn p mark)
+    → LogCall recovers t e e' (by txn last (SaysSave mark)) r → (e'.Told → e'.steps ≡ stepped e.steps e'.tried (Save txn last mark)) → e.Told → IsKept t limits e maps rows actor → MayAppend recovers t e e' rows txn (λ p. Save txn p mark)
 save_appends recovers t limits e e' maps unfreed rows actor txn mark last r can row h gone told k = record {
   lsn = e'.tried;
   last = last;
@@ -260,11 +262,11 @@ committed t limits e e1 e' maps unfreed rows rows' actor txn last lsn can row g 
       (chain_commit e.base e.steps lsn e'.tail txn.0 last rows actor (record { txn = txn; last = lsn }) (both told).tail (can told).rest.idle (can told).rest.system row (no_zero e.steps txn.0 h.running.system (can told).live) refl refl h)) k;
 }
   where
-    both : e.Told → Logged e e' (by txn.0 last SaysCommit) lsn
+    both : e.Told → Appended e e' (by txn.0 last SaysCommit) lsn
     both told = logged_then (g.logged told) (s.stays (g.told told))
 
 pub commit_appends : (recovers : Recovering) (t : Table) (limits : State → ℕ → ℕ) (e e' : EngineView) (maps unfreed : Maps) (rows : List Row) (actor : Actor) (txn last : ℕ) (r : Result ℕ SpaceFault) → (e.Told → IsBetween e.steps unfreed rows actor txn) → last_in rows txn ≡ Some last
-    → Logs recovers t e e' (by txn last SaysCommit) r → (e'.Told → e'.steps ≡ stepped e.steps e'.tried (Commit txn last)) → e.Told → IsKept t limits e maps rows actor → MayAppend recovers t e e' rows txn (λ p. Commit txn p)
+    → LogCall recovers t e e' (by txn last SaysCommit) r → (e'.Told → e'.steps ≡ stepped e.steps e'.tried (Commit txn last)) → e.Told → IsKept t limits e maps rows actor → MayAppend recovers t e e' rows txn (λ p. Commit txn p)
 commit_appends recovers t limits e e' maps unfreed rows actor txn last r can row h gone told k = record {
   lsn = e'.tried;
   last = last;
@@ -276,8 +278,8 @@ commit_appends recovers t limits e e' maps unfreed rows actor txn last r can row
 }
 
 -- and a look behind it, also one that fails
-pub appends_look : {T : Type 0} (recovers : Recovering) (t : Table) (e e1 e' : EngineView) (rows : List Row) (txn : ℕ) (x : ℕ → Step) (r : Result T SpaceFault) → EngineLooks recovers t e1 e' r → e1.Told → e1.first ≡ e.first → Grows e.durable e1.durable
-    → (e'.Told → Stays e1 e') → MayAppend recovers t e e1 rows txn x → MayAppend recovers t e e' rows txn x
+pub appends_look : {T : Type 0} (recovers : Recovering) (t : Table) (e e1 e' : EngineView) (rows : List Row) (txn : ℕ) (x : ℕ → Step) (r : Result T SpaceFault) → LookCall recovers t e1 e' r → e1.Told → e1.first ≡ e.first → Grows e.durable e1.durable
+    → (e'.Told → Stayed e1 e') → MayAppend recovers t e e1 rows txn x → MayAppend recovers t e e' rows txn x
 appends_look {T} recovers t e e1 e' rows txn x r l told first durable stays m = record {
   lsn = m.lsn;
   last = m.last;
@@ -318,7 +320,7 @@ closed t limits e e' maps unfreed rows rows' actor txn last lsn can row g is = r
 }
 
 pub done_appends : (recovers : Recovering) (t : Table) (limits : State → ℕ → ℕ) (e e' : EngineView) (maps unfreed : Maps) (rows : List Row) (actor : Actor) (txn last : ℕ) (r : Result ℕ SpaceFault) → (e.Told → IsEndable e.steps unfreed rows actor txn) → last_in rows txn ≡ Some last
-    → Logs recovers t e e' (by txn last SaysEnd) r → (e'.Told → e'.steps ≡ stepped e.steps e'.tried (End txn last)) → e.Told → IsKept t limits e maps rows actor → MayAppend recovers t e e' rows txn (λ p. End txn p)
+    → LogCall recovers t e e' (by txn last SaysEnd) r → (e'.Told → e'.steps ≡ stepped e.steps e'.tried (End txn last)) → e.Told → IsKept t limits e maps rows actor → MayAppend recovers t e e' rows txn (λ p. End txn p)
 done_appends recovers t limits e e' maps unfreed rows actor txn last r can row h gone told k = record {
   lsn = e'.tried;
   last = last;
@@ -338,7 +340,7 @@ on_ok2 (Ok x) f h k = f h k
 on_ok2 (Err e) f h k = tt
 
 -- a look that is told at its end has stayed
-pub stays_of : {T : Type 0} {recovers : Recovering} {t : Table} (e e' : EngineView) (r : Result T SpaceFault) → EngineLooks recovers t e e' r → (e'.Told → e'.failed ≡ false) → e.Told → e'.Told → Stays e e'
+pub stays_of : {T : Type 0} {recovers : Recovering} {t : Table} (e e' : EngineView) (r : Result T SpaceFault) → LookCall recovers t e e' r → (e'.Told → e'.failed ≡ false) → e.Told → e'.Told → Stayed e e'
 stays_of {T} e e' (Ok x) l whole told told' = l.stays.stays told
 stays_of {T} e e' (Err f) l whole told told' = fails e' whole l.counts.failed told'
 
@@ -371,7 +373,7 @@ chain_undone base rs tail next after rows actor lsn less is c h =
       at = sym (ap (next_off 0) (none_open h.running));
     })
 
-pub undo_ended : (t : Table) (limits : State → ℕ → ℕ) (e e' : EngineView) (maps maps' unfreed unfreed' : Maps) (rows rows' : List Row) (actor : Actor) (txn after lsn : ℕ) → CanEndUndo e actor txn after
+pub undo_ended : (t : Table) (limits : State → ℕ → ℕ) (e e' : EngineView) (maps maps' unfreed unfreed' : Maps) (rows rows' : List Row) (actor : Actor) (txn after lsn : ℕ) → CanEndUndo (seen e) actor txn after
     → HasLogged e e' (by actor.txn.0 actor.last (SaysCompEnd after)) lsn → rows' ≡ rows_after rows actor.txn lsn
     → AreSettled maps.pages unfreed.pages maps'.pages unfreed'.pages → AreSettled maps.bands unfreed.bands maps'.bands unfreed'.bands
     → UndoEnded t limits e e' maps maps' unfreed unfreed' rows rows' actor at_rest after
@@ -395,10 +397,11 @@ undo_ended t limits e e' maps maps' unfreed unfreed' rows rows' actor txn after 
         subst (λ (x : State). IsWell t limits x [] maps'.pages maps'.bands) (made_opened t e.first e.steps)
         (well_ended t law limits (begin_of t e.first e.steps) (opened e.steps) maps.pages maps'.pages maps.bands maps'.bands (λ n h. and_left (is_set maps.pages n) (is_set unfreed.pages n) (sym (pages.there n) ∙ h)) w)
 
-pub undo_end_appends : (recovers : Recovering) (t : Table) (limits : State → ℕ → ℕ) (e e' : EngineView) (maps : Maps) (rows : List Row) (actor : Actor) (txn after : ℕ) (r : Result ℕ SpaceFault) → CanEndUndo e actor txn after → Logs recovers t e e' (by actor.txn.0 actor.last (SaysCompEnd after)) r
-    → e.Told → IsKept t limits e maps rows actor → Appends recovers t e e' (CompEnd actor.txn.0 actor.last after)
-undo_end_appends recovers t limits e e' maps rows actor txn after r can h told k = record {
+pub undo_end_appends : (recovers : Recovering) (t : Table) (limits : State → ℕ → ℕ) (e e' : EngineView) (maps : Maps) (rows : List Row) (actor : Actor) (txn after : ℕ) (r : Result ℕ SpaceFault) → CanEndUndo (seen e) actor txn after → LogCall recovers t e e' (by actor.txn.0 actor.last (SaysCompEnd after)) r
+    → (e'.Told → e'.failed ≡ false) → e.Told → IsKept t limits e maps rows actor → Appends recovers t e e' (CompEnd actor.txn.0 actor.last after)
+undo_end_appends recovers t limits e e' maps rows actor txn after r can h whole told k = record {
   above = h.above told;
   formed = (running_undone {tail = e'.tried} {next = e'.tried + 1} after (omega arith) (own_undone e.steps actor txn after (can told)) (running_later (h.above told) k.chain.running)).log;
   moments = h.moments told;
+  gone = λ told'. call_gone e e' (by actor.txn.0 actor.last (SaysCompEnd after)) (CompEnd actor.txn.0 actor.last after) r refl h whole told';
 }

@@ -18,7 +18,8 @@ use Rattle.sg_action.proofs.Opened.{formatted, made_here, made_there, use_there,
 use Rattle.sg_step.proofs.Sizes.{sizes}
 use Rattle.sg_actions.specs.Acting.{IsWell, IsChained}
 use Rattle.sg_actions.specs.Calls.{Appends, AreSettled, ActionEnded}
-use Rattle.sg_actions.specs.Engine.{EngineView, Logged, HasLogged, Logs, Moments}
+use Rattle.sg_actions.specs.Engine.{EngineView, Moments}
+use Rattle.sg_actions.specs.Led.{Appended, HasLogged, LogCall}
 use Rattle.sg_actions.specs.Images.{Recovering}
 use Rattle.sg_actions.specs.Onward.{acting_to}
 use Rattle.sg_space.specs.declared.space.SpaceFault.{SpaceFault}
@@ -31,6 +32,7 @@ use Rattle.sg_actions.specs.declared.rows.Row.{Row}
 use Rattle.sg_actions.proofs.Chained.{chain_top, chain_top_system, chain_later, running_top, running_later}
 use Rattle.sg_actions.proofs.Flags.{and_left}
 use Rattle.sg_actions.proofs.Going.{set_in_use}
+use Rattle.sg_actions.proofs.Led.{call_gone}
 use Rattle.sg_actions.proofs.Repeating.{made_opened}
 
 -- each page in use has no more than its bytes, from the begin on
@@ -86,12 +88,14 @@ well_ended t law limits begin ds pages pages' bands bands' fewer w = record {
     used n h = set_in_use limits begin pages bands ds n (fewer n (and_left (is_set pages' n) true h))
 
 -- the end of an action may be appended
-pub end_appends : (recovers : Recovering) (t : Table) (limits : State → ℕ → ℕ) (e e' : EngineView) (maps : Maps) (rows : List Row) (actor : Actor) (note bytes : List ℕ) (r : Result ℕ SpaceFault) → bytes ≡ note → Logs recovers t e e' (by actor.txn.0 actor.last (SaysTopEnd actor.before bytes)) r
-    → e.Told → IsKept t limits e maps rows actor → Appends recovers t e e' (TopEnd actor.txn.0 actor.last actor.before note)
-end_appends recovers t limits e e' maps rows actor note bytes r is h told k = record {
+pub end_appends : (recovers : Recovering) (t : Table) (limits : State → ℕ → ℕ) (e e' : EngineView) (maps : Maps) (rows : List Row) (actor : Actor) (note bytes : List ℕ) (r : Result ℕ SpaceFault) → bytes ≡ note → LogCall recovers t e e' (by actor.txn.0 actor.last (SaysTopEnd actor.before bytes)) r
+    → (e'.Told → e'.failed ≡ false) → e.Told → IsKept t limits e maps rows actor → Appends recovers t e e' (TopEnd actor.txn.0 actor.last actor.before note)
+end_appends recovers t limits e e' maps rows actor note bytes r is h whole told k = record {
   above = h.above told;
   formed = (running_top {tail = e'.tried} {next = e'.tried + 1} note (omega arith) (running_later (h.above told) k.chain.running)).log;
   moments = subst (λ (n : List ℕ). Moments recovers t e e' (stepped e.steps e'.tried (TopEnd actor.txn.0 actor.last actor.before n))) is (h.moments told);
+  gone = λ told'. call_gone e e' (by actor.txn.0 actor.last (SaysTopEnd actor.before bytes)) (TopEnd actor.txn.0 actor.last actor.before bytes) r refl h whole told'
+      ∙ ap (λ (n : List ℕ). stepped e.steps e'.tried (TopEnd actor.txn.0 actor.last actor.before n)) is;
 }
 
 pub action_ended : (t : Table) (limits : State → ℕ → ℕ) (e e' : EngineView) (maps maps' unfreed unfreed' : Maps) (rows rows' : List Row) (actor : Actor) (note : List ℕ) (lsn : ℕ)
@@ -109,12 +113,12 @@ action_ended t limits e e' maps maps' unfreed unfreed' rows rows' actor note lsn
   kept = λ law told k. let g = h.logged told in acting_to g.base g.first g.steps (record { chain = chain g k.chain; well = well law k.well });
 }
   where
-    chain_by : Logged e e' (by actor.txn.0 actor.last (SaysTopEnd actor.before note)) lsn → (b : Bool) → (actor.txn.0 == 0) ≡ b → IsChained e.base e.steps lsn rows actor
+    chain_by : Appended e e' (by actor.txn.0 actor.last (SaysTopEnd actor.before note)) lsn → (b : Bool) → (actor.txn.0 == 0) ≡ b → IsChained e.base e.steps lsn rows actor
         → IsChained e.base (stepped e.steps lsn (TopEnd actor.txn.0 actor.last actor.before note)) e'.tail (if b then rows else placed rows actor.txn.0 (record { txn = actor.txn; last = lsn })) at_rest
     chain_by g true z h = chain_top_system e.base e.steps lsn e'.tail rows actor note g.tail (grind (arith, nat_tests, z)) h
     chain_by g false z h = chain_top e.base e.steps lsn e'.tail rows actor (record { txn = actor.txn; last = lsn }) note g.tail (λ k. absurd (let one : (actor.txn.0 == 0) ≡ true = grind (arith, nat_tests, k) in let two : true ≡ false = sym one ∙ z in cc)) refl refl h
 
-    chain : Logged e e' (by actor.txn.0 actor.last (SaysTopEnd actor.before note)) lsn → IsChained e.base e.steps e.tail rows actor → IsChained e.base (stepped e.steps lsn (TopEnd actor.txn.0 actor.last actor.before note)) e'.tail rows' at_rest
+    chain : Appended e e' (by actor.txn.0 actor.last (SaysTopEnd actor.before note)) lsn → IsChained e.base e.steps e.tail rows actor → IsChained e.base (stepped e.steps lsn (TopEnd actor.txn.0 actor.last actor.before note)) e'.tail rows' at_rest
     chain g h = subst (λ (xs : List Row). IsChained e.base (stepped e.steps lsn (TopEnd actor.txn.0 actor.last actor.before note)) e'.tail xs at_rest) (sym is_rows) (chain_by g (actor.txn.0 == 0) refl (chain_later h g.number))
 
     well : IsLawful t → IsWell t limits (begin_of t e.first e.steps) (opened e.steps) maps.pages maps.bands

@@ -1,6 +1,8 @@
 -- A band that is taken, with zeros filled in.
 use Rattle.std.proofs.Common.{◌≡◌, ◌≢◌, ◌⊎◌, ◌==◌, ℕ, ◌+◌, ◌-◌, ◌<◌, ◌≤◌, List, [], ◌∷◌, ◌++◌, length, take, drop, slice_index, slice_get, slice_set, Option, Some, None, Bool, true, false, not, sym, ap, subst, ◌∙◌, refl, arith, inl, inr}
 use Rattle.std.specs.Prelude.{◌&&◌, ◌||◌, if◌then◌else◌, Result, Ok, IfOk, is_some, get_or}
+use mathlib.Core.Logic.{∥∥₁_elim}
+use Rattle.std.proofs.Props.{props}
 use Rattle.std.proofs.lemmas.Bool.{cases_eq, cases_lt}
 use Rattle.std.proofs.lemmas.Bool.Decides.{nat_tests}
 use Rattle.std.proofs.lemmas.List.{length-take-le, get_or-take, get_or_append_left, get_or-append_right, get_or_past, append_assoc, length-set}
@@ -15,39 +17,37 @@ use Rattle.sg_ops.proofs.Rendering.{length-rendered}
 use Rattle.sg_ops.specs.Laws.{IsLawful}
 use Rattle.sg_ops.specs.Meaning.{RangeMeaning}
 use Rattle.sg_ops.specs.Shipped.{fill_meaning}
-use Rattle.sg_ops.specs.Table.{Table, range_at, rendered, byte_of}
-use Rattle.sg_record.specs.Changes.{Change as Changing}
+use Rattle.sg_ops.specs.Table.{Table, fresh_table, range_at, rendered, byte_of}
+use Rattle.sg_recovery.specs.Log.Record.{Change as ChangeStep}
 use Rattle.sg_record.specs.Changes.Change.{SegOp}
+use Rattle.sg_record.specs.Ranges.{IsRecord}
 use Rattle.sg_record.specs.Records.Says.{Changed as SaysChanged}
 use Rattle.sg_record.specs.Shown.{by}
 use Rattle.sg_action.specs.States.{State, Change, Kept, apply}
-use Rattle.sg_action.specs.States.Change.{Paint}
 use Rattle.sg_action.specs.Opened.{IsOpened, IsBegun, AreFit, OpenWell}
 use Rattle.sg_action.proofs.Opened.{one_here, one_there}
 use Rattle.sg_space.specs.Bands.{TookBand}
 use Rattle.sg_actions.specs.Acting.{IsWell}
-use Rattle.sg_actions.specs.Changes.{meaning}
-use Rattle.sg_actions.specs.Engine.{EngineView, now_of, Logged, Logs}
+use Rattle.sg_actions.specs.Engine.{EngineView, EngineSeen, EngineCounts, led}
 use Rattle.sg_actions.specs.Images.{Recovering}
-use Rattle.sg_actions.specs.Later.{Later}
-use Rattle.sg_actions.specs.Onward.{at as moment, later_then}
+use Rattle.sg_actions.specs.Later.{Later, acts_at}
+use Rattle.sg_actions.specs.Onward.{later_on}
 use Rattle.sg_space.specs.declared.space.SpaceFault.{SpaceFault}
 use Rattle.sg_actions.specs.Painting.{AreBandsWhole, fill_with}
-use Rattle.sg_actions.specs.Steps.{Steps, repeated, opened, begin_of}
+use Rattle.sg_actions.specs.Steps.{Steps, stepped, opened, begin_of}
 use Rattle.sg_actions.specs.Taken.{is_set, is_there, takes_band, fills, kept_of, units_there, writes_band, AreFlags}
-use Rattle.sg_actions.specs.View.{acts_view, MayGive, IsKept, HasFreedNone}
+use Rattle.sg_actions.specs.View.{acts_view, MayGive, MayGiveNow, IsKept, HasFreedNone}
 use Rattle.sg_actions.specs.declared.rows.Actor.{Actor}
 use Rattle.sg_actions.specs.declared.rows.Row.{Row}
 use Rattle.sg_actions.proofs.Acting.{acting_change}
-use Rattle.sg_actions.proofs.Calling.{MayGoOn, later_log_told}
+use Rattle.sg_actions.proofs.Banded.{Fill}
+use Rattle.sg_actions.proofs.Calling.{MayGoOn, LogsBy, later_log, made_log}
 use Rattle.sg_actions.proofs.Chained.{later}
 use Rattle.sg_actions.proofs.Flags.{set_by, at_there, and_both, written_in}
 use Rattle.sg_actions.proofs.Going.{kept_same}
+use Rattle.sg_actions.proofs.Led.{Made}
+use Rattle.sg_actions.proofs.Sets.{leaf_set, bytes_set, steps_set}
 use Rattle.sg_actions.proofs.Taking.{set_here, set_there, none_freed}
-
--- a part of a taken band that is filled with zeros
-abbrev Fill : (b at : ℕ) → Change
-Fill b at = Paint b at 8192 1 0 [] []
 
 -- ZEROS
 
@@ -136,14 +136,9 @@ goes_on_fill t limits begin ds pages bands bands' b at same free w = record {
   used = w.used;
 }
 
-may_fill : (t : Table) (limits : State → ℕ → ℕ) (begin : State) (ds : List Change) (pages bands bands' : List Bool) (b at q n : ℕ) → kept_of limits pages bands' begin (Fill b at ∷ ds) ≡ kept_of limits pages bands begin ds → MayGive t (kept_of limits pages bands begin ds) begin ds q n
-    → MayGive t (kept_of limits pages bands' begin (Fill b at ∷ ds)) begin (Fill b at ∷ ds) q n
-may_fill t limits begin ds pages bands bands' b at q n same h = record { grown = h.grown; within = subst (λ (k : Kept). k.pages q ≡ true → n ≤ k.slots q) (sym same) h.within }
-
--- a fact of the open action, from one of it with the change
-about : (t : Table) (e e' : EngineView) (txn last lsn : ℕ) (c : Changing) (P : State → List Change → Type 0) → Logged e e' (by txn last (SaysChanged c)) lsn → P (begin_of t e.first e.steps) (meaning c ∷ opened e.steps) → P (begin_of t e'.first e'.steps) (opened e'.steps)
-about t e e' txn last lsn c P g h =
-    subst (λ (x : State). P (begin_of t x e'.steps) (opened e'.steps)) (sym g.first) (subst (λ (rs : Steps). P (begin_of t e.first rs) (opened rs)) (sym g.steps) h)
+may_fill : (limits : State → ℕ → ℕ) (begin : State) (ds : List Change) (pages bands bands' : List Bool) (b at q n : ℕ) → kept_of limits pages bands' begin (Fill b at ∷ ds) ≡ kept_of limits pages bands begin ds → MayGive (kept_of limits pages bands begin ds) ds q n
+    → MayGive (kept_of limits pages bands' begin (Fill b at ∷ ds)) (Fill b at ∷ ds) q n
+may_fill limits begin ds pages bands bands' b at q n same h = record { grown = h.grown; within = subst (λ (k : Kept). k.pages q ≡ true → n ≤ k.slots q) (sym same) h.within }
 
 -- what is kept goes on with a fill, whatever number its record has
 fill_on : (t : Table) (limits : State → ℕ → ℕ) (e : EngineView) (maps maps' : Maps) (rows : List Row) (actor : Actor) (b at : ℕ) → maps'.pages ≡ maps.pages
@@ -153,31 +148,75 @@ fill_on t limits e maps maps' rows actor b at pages same free k lsn next above b
     (λ w. subst (λ (ps : List Bool). IsWell t limits (begin_of t e.first e.steps) (Fill b at ∷ opened e.steps) ps maps'.bands) (sym pages)
     (goes_on_fill t limits (begin_of t e.first e.steps) (opened e.steps) maps.pages maps.bands maps'.bands b at same free w)) k
 
+-- what is known of the call that logs a fill
+pub record FillCall (recovers : Table → Recovering) (e e' : EngineSeen) (m m' : Table → State → Type 0) (actor : Actor) (b at : ℕ) (r : Result ℕ SpaceFault) : Type 0 where
+  pub logs : (t : Table) → LogsBy recovers t e e' m m' (by actor.txn.0 actor.last (SaysChanged (SegOp (fill_with b at)))) r
+  pub range : IsRecord (by actor.txn.0 actor.last (SaysChanged (SegOp (fill_with b at))))
+  pub some : ∥ ((t : Table) × (from : State) × m t from) ∥₁
+  pub wide : (t : Table) (from : State) → m t from → e.Told → AreBandsWhole e.now
+
+-- what was taken at the begin is the same with a fill, and the band wasn't taken then
+pub record FillsIn (limits : State → ℕ → ℕ) (e : EngineSeen) (maps maps' : Maps) (b at : ℕ) : Type 0 where
+  pub pages : maps'.pages ≡ maps.pages
+  pub bands : length maps'.bands ≡ length maps.bands
+  pub same : e.Told → (start : State) → kept_of limits maps.pages maps'.bands start (Fill b at ∷ opened e.steps) ≡ kept_of limits maps.pages maps.bands start (opened e.steps)
+  pub free : e.Told → (is_set maps.bands b && not (takes_band (opened e.steps) b)) ≡ false
+
 -- one fill, also one that fails
-fill_later : (recovers : Recovering) (t : Table) (limits : State → ℕ → ℕ) (u : Table) (e e' : EngineView) (maps maps' : Maps) (rows : List Row) (actor new : Actor) (begun : Bool) (b at : ℕ) (r : Result ℕ SpaceFault) → begun ≡ true → Logs recovers t e e' (by actor.txn.0 actor.last (SaysChanged (SegOp (fill_with b at)))) r
-    → IfOk r (λ lsn. new ≡ later actor lsn) → maps'.pages ≡ maps.pages
-    → (e.Told → kept_of limits maps.pages maps'.bands (begin_of t e.first e.steps) (Fill b at ∷ opened e.steps) ≡ kept_of limits maps.pages maps.bands (begin_of t e.first e.steps) (opened e.steps)) → (e.Told → (is_set maps.bands b && not (takes_band (opened e.steps) b)) ≡ false)
-    → Later recovers t limits u (moment e maps rows actor begun) (moment e' maps' rows new begun)
-fill_later recovers t limits u e e' maps maps' rows actor new begun b at r opens h is pages same free =
-    later_log_told recovers t limits u e e' maps maps' rows actor new begun (SegOp (fill_with b at)) r opens h is
-    (λ told k. fill_on t limits e maps maps' rows actor b at pages (same told) (free told) k)
-    (λ told. (λ j. kept_of limits (pages j) maps'.bands (begin_of t e.first e.steps) (Fill b at ∷ opened e.steps)) ∙ same told)
+fill_later : {recovers : Table → Recovering} {limits : State → ℕ → ℕ} {e e' : EngineSeen} {m m' : Table → State → Type 0} (begin : State) {maps maps' : Maps} (rows : List Row) {actor new : Actor} {begun : Bool} {b at : ℕ} {r : Result ℕ SpaceFault} → begun ≡ true → FillCall recovers e e' m m' actor b at r
+    → IfOk r (λ lsn. new ≡ later actor lsn) → FillsIn limits e maps maps' b at → (t : Table) → Later recovers limits t (acts_at e m begin maps rows actor begun) (acts_at e' m' begin maps' rows new begun)
+fill_later {recovers} {limits} {e} {e'} {m} {m'} begin {maps} {maps'} rows {actor} {new} {begun} {b} {at} {r} opens h is f t =
+    later_log recovers limits t e e' m m' begin maps maps' rows actor new begun (SegOp (fill_with b at)) r opens h.range (h.logs t) is (record {
+      on = λ from s told k. fill_on t limits (led from e) maps maps' rows actor b at f.pages (f.same told (begin_of t from e.steps)) (f.free told) k;
+      same = λ from s told. (λ j. kept_of limits (f.pages j) maps'.bands (begin_of t from e.steps) (Fill b at ∷ opened e.steps)) ∙ f.same told (begin_of t from e.steps);
+      pages = ap length f.pages;
+      bands = f.bands;
+      holds = λ o. absurd (no (sym o));
+    })
+
+-- WHAT THE ENGINE SHOWS behind a fill
+record FilledNow (e e' : EngineSeen) (b at txn last : ℕ) : Type 0 where
+  pub pages : e'.now.pages ≡ e.now.pages
+  pub others : (q : ℕ) → q ≢ b → e'.now.bands q ≡ e.now.bands q
+  pub zero : ((k : ℕ) → k < at → slice_index (e.now.bands b) k ≡ 0) → (k : ℕ) → k < at + 8192 → slice_index (e'.now.bands b) k ≡ 0
+  pub steps : e'.steps ≡ stepped e.steps e'.tried (ChangeStep txn last (SegOp (fill_with b at)))
+
+filled_prop : (e e' : EngineSeen) (b at txn last : ℕ) → IsProp (FilledNow e e' b at txn last)
+filled_prop e e' b at txn last = hlevel (props, leaf_set, bytes_set, steps_set)
+
+filled_by : {t : Table} {e e' : EngineSeen} {b at txn last : ℕ} → IsLawful t → AreBandsWhole e.now → at ≤ 32768 → Made t e e' (ChangeStep txn last (SegOp (fill_with b at))) e'.tried → FilledNow e e' b at txn last
+filled_by {t} {e} {e'} {b} {at} law wide within m = record {
+  pages = ap (λ (x : State). x.pages) now;
+  others = λ q ne. ap (λ (x : State). x.bands q) now ∙ one_there e.now.bands b q (overwritten (e.now.bands b) at (rendered (range_at t 1) [] 0 8192)) ne;
+  zero = λ low k below.
+      let size = wide b in
+      ap (λ (x : State). slice_index (x.bands b) k) now ∙ (ap (λ (xs : List ℕ). slice_index xs k) (one_here e.now.bands b (overwritten (e.now.bands b) at (rendered (range_at t 1) [] 0 8192)))
+      ∙ zeros_on (range_at t 1) law.has_fill (e.now.bands b) at 8192 (omega (arith, size, within)) low k below);
+  steps = m.steps;
+}
+  where
+    now : e'.now ≡ apply t e.now (Fill b at)
+    now = m.now
+
+filled_now : {recovers : Table → Recovering} {e e' : EngineSeen} {m m' : Table → State → Type 0} {actor : Actor} {b at : ℕ} {r : Result ℕ SpaceFault} → FillCall recovers e e' m m' actor b at r → at ≤ 32768 → e.Told → e'.Told → FilledNow e e' b at actor.txn.0 actor.last
+filled_now {recovers} {e} {e'} {m} {m'} {actor} {b} {at} h within told told' = ∥∥₁_elim h.some (filled_prop e e' b at actor.txn.0 actor.last) (λ x.
+    filled_by ((h.logs x.0).law x.1 x.2) (h.wide x.0 x.1 x.2 told) within (made_log recovers m m' ∣ (x.1, x.2) ∣₁ (h.logs x.0) refl told told'))
+
+-- so the open action goes on with it
+pub opens_one : {recovers : Table → Recovering} {e e' : EngineSeen} {m m' : Table → State → Type 0} {actor : Actor} {b at lsn : ℕ} → FillCall recovers e e' m m' actor b at (Ok lsn) → at ≤ 32768 → e'.Told → opened e'.steps ≡ Fill b at ∷ opened e.steps
+opens_one {recovers} {e} {e'} h within told' = ap opened (filled_now h within ((h.logs fresh_table).grows.counts.told told') told').steps
 
 -- A BAND IS BEING FILLED, up to that byte
-pub record Filling (recovers : Recovering) (t : Table) (limits : State → ℕ → ℕ) (e0 e : EngineView) (maps0 maps : Maps) (rows : List Row) (actor0 actor : Actor) (begun : Bool) (b to : ℕ) : Type 0 where
+pub record Filling (recovers : Table → Recovering) (limits : State → ℕ → ℕ) (e0 e : EngineSeen) (m0 m : Table → State → Type 0) (begin : State) (maps0 maps : Maps) (rows : List Row) (actor0 actor : Actor) (begun : Bool) (b to : ℕ) : Type 0 where
   pub told : e0.Told → e.Told
   pub back : e.Told → e0.Told
   pub takes : e.Told → takes_band (opened e.steps) b ≡ true
-  pub may : e.Told → (q n : ℕ) → MayGive t (kept_of limits maps0.pages maps0.bands (begin_of t e0.first e0.steps) (opened e0.steps)) (begin_of t e0.first e0.steps) (opened e0.steps) q n
-      → MayGive t (kept_of limits maps.pages maps.bands (begin_of t e.first e.steps) (opened e.steps)) (begin_of t e.first e.steps) (opened e.steps) q n
-  pub pages : e.Told → (now_of t e).pages ≡ (now_of t e0).pages
-  pub others : e.Told → (q : ℕ) → q ≢ b → (now_of t e).bands q ≡ (now_of t e0).bands q
-  pub zero : e.Told → (k : ℕ) → k < to → slice_index ((now_of t e).bands b) k ≡ 0
+  pub may : e.Told → (q n : ℕ) → MayGiveNow limits begin e0.steps maps0.pages maps0.bands q n → MayGiveNow limits begin e.steps maps.pages maps.bands q n
+  pub pages : e.Told → e.now.pages ≡ e0.now.pages
+  pub others : e.Told → (q : ℕ) → q ≢ b → e.now.bands q ≡ e0.now.bands q
+  pub zero : e.Told → (k : ℕ) → k < to → slice_index (e.now.bands b) k ≡ 0
   pub wrote : e.Told → (n : ℕ) → writes_band (opened e.steps) n ≡ true → (writes_band (opened e0.steps) n ≡ true) ⊎ (n ≡ b)
-  pub later : (u : Table) → Later recovers t limits u (moment e0 maps0 rows actor0 begun) (moment e maps rows actor begun)
-
-now_filled : (t : Table) (b : ℕ) (e e' : EngineView) (txn last : ℕ) (at lsn : ℕ) → Logged e e' (by txn last (SaysChanged (SegOp (fill_with b at)))) lsn → now_of t e' ≡ apply t (now_of t e) (Fill b at)
-now_filled t b e e' txn last at lsn g = λ j. repeated t (g.first j) (g.steps j)
+  pub later : (t : Table) → Later recovers limits t (acts_at e0 m0 begin maps0 rows actor0 begun) (acts_at e m begin maps rows actor begun)
 
 in_one : (b n : ℕ) (ds : List Change) → ((n == b) || writes_band ds n) ≡ true → (writes_band ds n ≡ true) ⊎ (n ≡ b)
 in_one b n ds h = elim (written_in {T = ℕ} b n ds 0 h) as (λ _. (writes_band ds n ≡ true) ⊎ (n ≡ b)) [
@@ -194,31 +233,27 @@ with_told b n ds told (inl w) = inl (told, w)
 with_told b n ds told (inr e) = inr e
 
 -- one fill more
-fills_on : (recovers : Recovering) (t : Table) (limits : State → ℕ → ℕ) (rows : List Row) (begun : Bool) (b : ℕ) (e e' : EngineView) (maps maps' : Maps) (actor new : Actor) (at lsn : ℕ) → begun ≡ true → Logs recovers t e e' (by actor.txn.0 actor.last (SaysChanged (SegOp (fill_with b at)))) (Ok lsn)
-    → new ≡ later actor lsn → maps'.pages ≡ maps.pages
-    → (e.Told → kept_of limits maps.pages maps'.bands (begin_of t e.first e.steps) (Fill b at ∷ opened e.steps) ≡ kept_of limits maps.pages maps.bands (begin_of t e.first e.steps) (opened e.steps)) → (e.Told → (is_set maps.bands b && not (takes_band (opened e.steps) b)) ≡ false)
-    → IsLawful t → (e.Told → length ((now_of t e).bands b) ≡ 32768) → at ≤ 32768 → (e.Told → (k : ℕ) → k < at → slice_index ((now_of t e).bands b) k ≡ 0)
-    → Filling recovers t limits e e' maps maps' rows actor new begun b (at + 8192)
-fills_on recovers t limits rows begun b e e' maps maps' actor new at lsn opens l is pages same free law long within zero = record {
-  told = l.did.told;
-  back = l.counts.told;
-  takes = λ told'. let g = l.did.logged (l.counts.told told') in subst (λ (rs : Steps). takes_band (opened rs) b ≡ true) (sym g.steps) (takes_here b at (opened e.steps));
-  may = λ told' q n h. let told = l.counts.told told' in about t e e' actor.txn.0 actor.last lsn (SegOp (fill_with b at)) (λ x ds. MayGive t (kept_of limits maps'.pages maps'.bands x ds) x ds q n) (l.did.logged told)
-      (subst (λ (ps : List Bool). MayGive t (kept_of limits ps maps'.bands (begin_of t e.first e.steps) (Fill b at ∷ opened e.steps)) (begin_of t e.first e.steps) (Fill b at ∷ opened e.steps) q n) (sym pages)
-      (may_fill t limits (begin_of t e.first e.steps) (opened e.steps) maps.pages maps.bands maps'.bands b at q n (same told) h));
-  pages = λ told'. ap (λ (x : State). x.pages) (now (l.counts.told told'));
-  others = λ told' q ne. ap (λ (x : State). x.bands q) (now (l.counts.told told')) ∙ one_there (now_of t e).bands b q (overwritten ((now_of t e).bands b) at (rendered (range_at t 1) [] 0 8192)) ne;
-  zero = λ told' k below.
-      let told = l.counts.told told' in
-      let size = long told in
-      ap (λ (x : State). slice_index (x.bands b) k) (now told) ∙ (ap (λ (xs : List ℕ). slice_index xs k) (one_here (now_of t e).bands b (overwritten ((now_of t e).bands b) at (rendered (range_at t 1) [] 0 8192)))
-      ∙ zeros_on (range_at t 1) law.has_fill ((now_of t e).bands b) at 8192 (omega (arith, size, within)) (zero told) k below);
-  wrote = λ told' n h. let g = l.did.logged (l.counts.told told') in in_one b n (opened e.steps) (sym (ap (λ (rs : Steps). writes_band (opened rs) n) g.steps) ∙ h);
-  later = λ u. fill_later recovers t limits u e e' maps maps' rows actor new begun b at (Ok lsn) opens l is pages same free;
+fills_on : {recovers : Table → Recovering} {limits : State → ℕ → ℕ} {e e' : EngineSeen} {m m' : Table → State → Type 0} (begin : State) {maps maps' : Maps} (rows : List Row) {actor new : Actor} {begun : Bool} {b at lsn : ℕ} → begun ≡ true → FillCall recovers e e' m m' actor b at (Ok lsn)
+    → new ≡ later actor lsn → FillsIn limits e maps maps' b at → at ≤ 32768 → (e.Told → (k : ℕ) → k < at → slice_index (e.now.bands b) k ≡ 0) → Filling recovers limits e e' m m' begin maps maps' rows actor new begun b (at + 8192)
+fills_on {recovers} {limits} {e} {e'} {m} {m'} begin {maps} {maps'} rows {actor} {new} {begun} {b} {at} {lsn} opens h is f within zero = record {
+  told = counts.tells;
+  back = counts.told;
+  takes = λ told'. subst (λ (rs : Steps). takes_band (opened rs) b ≡ true) (sym (now told').steps) (takes_here b at (opened e.steps));
+  may = λ told' q n k. subst (λ (rs : Steps). MayGiveNow limits begin rs maps'.pages maps'.bands q n) (sym (now told').steps)
+      (subst (λ (ps : List Bool). MayGive (kept_of limits ps maps'.bands begin (Fill b at ∷ opened e.steps)) (Fill b at ∷ opened e.steps) q n) (sym f.pages)
+      (may_fill limits begin (opened e.steps) maps.pages maps.bands maps'.bands b at q n (f.same (counts.told told') begin) k));
+  pages = λ told'. (now told').pages;
+  others = λ told'. (now told').others;
+  zero = λ told'. (now told').zero (zero (counts.told told'));
+  wrote = λ told' n w. in_one b n (opened e.steps) (sym (ap (λ (rs : Steps). writes_band (opened rs) n) (now told').steps) ∙ w);
+  later = fill_later begin rows opens h is f;
 }
   where
-    now : e.Told → now_of t e' ≡ apply t (now_of t e) (Fill b at)
-    now told = now_filled t b e e' actor.txn.0 actor.last at lsn (l.did.logged told)
+    counts : EngineCounts e e' (let r : Result ℕ SpaceFault = Ok lsn in r)
+    counts = (h.logs fresh_table).grows.counts
+
+    now : e'.Told → FilledNow e e' b at actor.txn.0 actor.last
+    now told' = filled_now h within (counts.told told') told'
 
 -- what was taken at the begin, behind the first fill
 same_first : (limits : State → ℕ → ℕ) (begin : State) (maps maps' : Maps) (ds : List Change) (b at : ℕ) → slice_get maps.bands b ≡ Some false → maps'.bands ≡ slice_set maps.bands b true
@@ -232,30 +267,40 @@ clear_next : (bands : List Bool) (ds : List Change) (b : ℕ) → takes_band ds 
 clear_next bands ds b takes = and_false (is_set bands b) (not (takes_band ds b)) (ap not takes)
 
 -- THE FIRST FILL, also one that fails
-pub first_later : (recovers : Recovering) (t : Table) (limits : State → ℕ → ℕ) (u : Table) (rows : List Row) (begun : Bool) (b : ℕ) (e e' : EngineView) (maps maps' : Maps) (actor new : Actor) (r : Result ℕ SpaceFault) → begun ≡ true → Logs recovers t e e' (by actor.txn.0 actor.last (SaysChanged (SegOp (fill_with b 0)))) r
-    → IfOk r (λ lsn. new ≡ later actor lsn) → slice_get maps.bands b ≡ Some false → maps'.bands ≡ slice_set maps.bands b true → maps'.pages ≡ maps.pages → Later recovers t limits u (moment e maps rows actor begun) (moment e' maps' rows new begun)
-first_later recovers t limits u rows begun b e e' maps maps' actor new r opens l is free bands pages =
-    fill_later recovers t limits u e e' maps maps' rows actor new begun b 0 r opens l is pages (λ told. same_first limits (begin_of t e.first e.steps) maps maps' (opened e.steps) b 0 free bands) (λ told. clear_first maps.bands (opened e.steps) b free)
+pub first_in : (limits : State → ℕ → ℕ) (e : EngineSeen) (maps maps' : Maps) (b : ℕ) → slice_get maps.bands b ≡ Some false → maps'.bands ≡ slice_set maps.bands b true → maps'.pages ≡ maps.pages → FillsIn limits e maps maps' b 0
+first_in limits e maps maps' b free bands pages = record {
+  pages = pages;
+  bands = ap length bands ∙ length-set maps.bands b true;
+  same = λ told start. same_first limits start maps maps' (opened e.steps) b 0 free bands;
+  free = λ told. clear_first maps.bands (opened e.steps) b free;
+}
 
-pub filling_first : (recovers : Recovering) (t : Table) (limits : State → ℕ → ℕ) (rows : List Row) (begun : Bool) (b : ℕ) (e e' : EngineView) (maps maps' : Maps) (actor new : Actor) (lsn : ℕ) → begun ≡ true → Logs recovers t e e' (by actor.txn.0 actor.last (SaysChanged (SegOp (fill_with b 0)))) (Ok lsn)
-    → new ≡ later actor lsn → slice_get maps.bands b ≡ Some false → maps'.bands ≡ slice_set maps.bands b true → maps'.pages ≡ maps.pages → IsLawful t → (e.Told → AreBandsWhole (now_of t e)) → Filling recovers t limits e e' maps maps' rows actor new begun b 8192
-filling_first recovers t limits rows begun b e e' maps maps' actor new lsn opens l is free bands pages law whole =
-    fills_on recovers t limits rows begun b e e' maps maps' actor new 0 lsn opens l is pages (λ told. same_first limits (begin_of t e.first e.steps) maps maps' (opened e.steps) b 0 free bands) (λ told. clear_first maps.bands (opened e.steps) b free)
-    law (λ told. whole told b) (omega arith) (λ told k below. absurd (omega (arith, below)))
+pub first_later : {recovers : Table → Recovering} {limits : State → ℕ → ℕ} {e e' : EngineSeen} {m m' : Table → State → Type 0} (begin : State) {maps maps' : Maps} (rows : List Row) {actor new : Actor} {begun : Bool} {b : ℕ} {r : Result ℕ SpaceFault} → begun ≡ true → FillCall recovers e e' m m' actor b 0 r
+    → IfOk r (λ lsn. new ≡ later actor lsn) → FillsIn limits e maps maps' b 0 → (t : Table) → Later recovers limits t (acts_at e m begin maps rows actor begun) (acts_at e' m' begin maps' rows new begun)
+first_later begin rows opens h is f = fill_later begin rows opens h is f
+
+pub filling_first : {recovers : Table → Recovering} {limits : State → ℕ → ℕ} {e e' : EngineSeen} {m m' : Table → State → Type 0} (begin : State) {maps maps' : Maps} (rows : List Row) {actor new : Actor} {begun : Bool} {b lsn : ℕ} → begun ≡ true → FillCall recovers e e' m m' actor b 0 (Ok lsn)
+    → new ≡ later actor lsn → FillsIn limits e maps maps' b 0 → Filling recovers limits e e' m m' begin maps maps' rows actor new begun b 8192
+filling_first begin rows opens h is f = fills_on begin rows opens h is f (omega arith) (λ told k below. absurd (omega (arith, below)))
 
 -- AND ANOTHER, also one that fails
-pub next_later : (recovers : Recovering) (t : Table) (limits : State → ℕ → ℕ) (u : Table) (rows : List Row) (begun : Bool) (b : ℕ) (e0 e e' : EngineView) (maps0 maps : Maps) (actor0 actor new : Actor) (at : ℕ) (r : Result ℕ SpaceFault) → begun ≡ true → Logs recovers t e e' (by actor.txn.0 actor.last (SaysChanged (SegOp (fill_with b at)))) r
-    → IfOk r (λ lsn. new ≡ later actor lsn) → Filling recovers t limits e0 e maps0 maps rows actor0 actor begun b at → Later recovers t limits u (moment e0 maps0 rows actor0 begun) (moment e' maps rows new begun)
-next_later recovers t limits u rows begun b e0 e e' maps0 maps actor0 actor new at r opens l is h =
-    later_then recovers t limits u (moment e0 maps0 rows actor0 begun) (moment e maps rows actor begun) (moment e' maps rows new begun) (h.later u)
-    (fill_later recovers t limits u e e' maps maps rows actor new begun b at r opens l is refl (λ told. kept_next limits (begin_of t e.first e.steps) maps.pages maps.bands (opened e.steps) b at (h.takes told)) (λ told. clear_next maps.bands (opened e.steps) b (h.takes told)))
+next_in : {recovers : Table → Recovering} {limits : State → ℕ → ℕ} {e0 e : EngineSeen} {m0 m : Table → State → Type 0} {begin : State} {maps0 maps : Maps} {rows : List Row} {actor0 actor : Actor} {begun : Bool} {b at : ℕ} → Filling recovers limits e0 e m0 m begin maps0 maps rows actor0 actor begun b at → FillsIn limits e maps maps b at
+next_in {recovers} {limits} {e0} {e} {m0} {m} {begin} {maps0} {maps} {rows} {actor0} {actor} {begun} {b} {at} h = record {
+  pages = refl;
+  bands = refl;
+  same = λ told start. kept_next limits start maps.pages maps.bands (opened e.steps) b at (h.takes told);
+  free = λ told. clear_next maps.bands (opened e.steps) b (h.takes told);
+}
 
-pub filling_next : (recovers : Recovering) (t : Table) (limits : State → ℕ → ℕ) (rows : List Row) (begun : Bool) (b : ℕ) (e0 e e' : EngineView) (maps0 maps : Maps) (actor0 actor new : Actor) (at lsn : ℕ) → begun ≡ true → Logs recovers t e e' (by actor.txn.0 actor.last (SaysChanged (SegOp (fill_with b at)))) (Ok lsn)
-    → new ≡ later actor lsn → at ≤ 32768 → IsLawful t → (e.Told → AreBandsWhole (now_of t e))
-    → Filling recovers t limits e0 e maps0 maps rows actor0 actor begun b at → Filling recovers t limits e0 e' maps0 maps rows actor0 new begun b (at + 8192)
-filling_next recovers t limits rows begun b e0 e e' maps0 maps actor0 actor new at lsn opens l is within law whole h =
-    let f : Filling recovers t limits e e' maps maps rows actor new begun b (at + 8192) = fills_on recovers t limits rows begun b e e' maps maps actor new at lsn opens l is refl (λ told. kept_next limits (begin_of t e.first e.steps) maps.pages maps.bands (opened e.steps) b at (h.takes told))
-    (λ told. clear_next maps.bands (opened e.steps) b (h.takes told)) law (λ told. whole told b) within h.zero in
+pub next_later : {recovers : Table → Recovering} {limits : State → ℕ → ℕ} {e0 e e' : EngineSeen} {m0 m m' : Table → State → Type 0} (begin : State) {maps0 maps : Maps} (rows : List Row) {actor0 actor new : Actor} {begun : Bool} {b at : ℕ} {r : Result ℕ SpaceFault} → begun ≡ true → FillCall recovers e e' m m' actor b at r
+    → IfOk r (λ lsn. new ≡ later actor lsn) → Filling recovers limits e0 e m0 m begin maps0 maps rows actor0 actor begun b at → (t : Table) → Later recovers limits t (acts_at e0 m0 begin maps0 rows actor0 begun) (acts_at e' m' begin maps rows new begun)
+next_later {recovers} {limits} {e0} {e} {e'} {m0} {m} {m'} begin {maps0} {maps} rows {actor0} {actor} {new} {begun} opens call is h t =
+    later_on recovers limits t (acts_at e0 m0 begin maps0 rows actor0 begun) (acts_at e m begin maps rows actor begun) (acts_at e' m' begin maps rows new begun) (h.later t) (fill_later begin rows opens call is (next_in h) t)
+
+pub filling_next : {recovers : Table → Recovering} {limits : State → ℕ → ℕ} {e0 e e' : EngineSeen} {m0 m m' : Table → State → Type 0} (begin : State) {maps0 maps : Maps} (rows : List Row) {actor0 actor new : Actor} {begun : Bool} {b at lsn : ℕ} → begun ≡ true → FillCall recovers e e' m m' actor b at (Ok lsn)
+    → new ≡ later actor lsn → at ≤ 32768 → Filling recovers limits e0 e m0 m begin maps0 maps rows actor0 actor begun b at → Filling recovers limits e0 e' m0 m' begin maps0 maps rows actor0 new begun b (at + 8192)
+filling_next {recovers} {limits} {e0} {e} {e'} {m0} {m} {m'} begin {maps0} {maps} rows {actor0} {actor} {new} {begun} {b} {at} opens call is within h =
+    let f : Filling recovers limits e e' m m' begin maps maps rows actor new begun b (at + 8192) = fills_on begin rows opens call is (next_in h) within h.zero in
     record {
       told = λ z. f.told (h.told z);
       back = λ z. h.back (f.back z);
@@ -265,38 +310,38 @@ filling_next recovers t limits rows begun b e0 e e' maps0 maps actor0 actor new 
       others = λ z q ne. f.others z q ne ∙ h.others (f.back z) q ne;
       zero = f.zero;
       wrote = λ z n w. written_before b n (opened e0.steps) (opened e.steps) (h.wrote (f.back z) n) (f.wrote z n w);
-      later = λ u. later_then recovers t limits u (moment e0 maps0 rows actor0 begun) (moment e maps rows actor begun) (moment e' maps rows new begun) (h.later u) (f.later u);
+      later = λ t. later_on recovers limits t (acts_at e0 m0 begin maps0 rows actor0 begun) (acts_at e m begin maps rows actor begun) (acts_at e' m' begin maps rows new begun) (h.later t) (f.later t);
     }
 
 -- THE SPACE SHOWS THE BAND THAT IS TAKEN
-pub shows_take_band : (recovers : Recovering) (t : Table) (limits : State → ℕ → ℕ) (e e' : EngineView) (breaks : ℕ) (maps maps' unfreed : Maps) (rows : List Row) (actor actor' : Actor) (begun : Bool) (b at : ℕ) → AreFlags maps.bands unfreed.bands → slice_get maps.bands b ≡ Some false
-    → maps'.bands ≡ slice_set maps.bands b true → maps'.pages ≡ maps.pages → (e.Told → HasFreedNone unfreed) → 32768 ≤ at → (e'.Told → AreBandsWhole (now_of t e')) → Filling recovers t limits e e' maps maps' rows actor actor' begun b at
-    → TookBand (acts_view t limits e breaks maps unfreed) (acts_view t limits e' breaks maps' unfreed) b
-shows_take_band recovers t limits e e' breaks maps maps' unfreed rows actor actor' begun b at flags free is_bands is_pages freed whole wide h = record {
+pub shows_take_band : {recovers : Table → Recovering} (limits limits' : State → ℕ → ℕ) (e e' : EngineSeen) {m m' : Table → State → Type 0} (begin : State) (breaks : ℕ) (maps maps' unfreed : Maps) {rows : List Row} {actor actor' : Actor} {begun : Bool} (b at : ℕ) → limits' ≡ limits → AreFlags maps.bands unfreed.bands → slice_get maps.bands b ≡ Some false
+    → maps'.bands ≡ slice_set maps.bands b true → maps'.pages ≡ maps.pages → (e.Told → HasFreedNone unfreed) → 32768 ≤ at → (e'.Told → AreBandsWhole e'.now) → Filling recovers limits e e' m m' begin maps maps' rows actor actor' begun b at
+    → TookBand (acts_view limits e begin breaks maps unfreed) (acts_view limits' e' begin breaks maps' unfreed) b
+shows_take_band {recovers} limits limits' e e' {m} {m'} begin breaks maps maps' unfreed {rows} {actor} {actor'} {begun} b at same flags free is_bands is_pages freed whole wide h = subst (λ (l : State → ℕ → ℕ). TookBand (acts_view limits e begin breaks maps unfreed) (acts_view l e' begin breaks maps' unfreed) b) (sym same) (record {
   keeps = record { told = h.told; may_take = λ z. z; may_have = λ q n z told'. h.may told' q n (z (h.back told')) };
   bands = λ told. record {
-    was_free = ap (λ (x : Bool). if x && is_set unfreed.bands b then Some ((now_of t e).bands b) else None) (set_by maps.bands b false free);
+    was_free = ap (λ (x : Bool). if x && is_set unfreed.bands b then Some (e.now.bands b) else None) (set_by maps.bands b false free);
     fresh = record {
-      what = (now_of t e').bands b;
-      is = at_there maps'.bands unfreed.bands (λ n. Some ((now_of t e').bands n)) b (and_both (is_set maps'.bands b) (is_set unfreed.bands b) (ap (λ (xs : List Bool). is_set xs b) is_bands ∙ set_here maps.bands b true below) (none_freed unfreed.bands b (freed told).bands (omega (arith, below, flags.long))));
+      what = e'.now.bands b;
+      is = at_there maps'.bands unfreed.bands (λ n. Some (e'.now.bands n)) b (and_both (is_set maps'.bands b) (is_set unfreed.bands b) (ap (λ (xs : List Bool). is_set xs b) is_bands ∙ set_here maps.bands b true below) (none_freed unfreed.bands b (freed told).bands (omega (arith, below, flags.long))));
       has = record {
         size = wide (h.told told) b;
         zero_at = λ k. elim (cases_lt k at) [
           | inl less ↦ h.zero (h.told told) k less
-          | inr far ↦ get_or_past ((now_of t e').bands b) k 0 (let l = wide (h.told told) b in omega (arith, l, far, whole))
+          | inr far ↦ get_or_past (e'.now.bands b) k 0 (let l = wide (h.told told) b in omega (arith, l, far, whole))
         ];
       };
     };
     others = λ q ne.
-        ap (λ (x : Bool). if x && is_set unfreed.bands q then Some ((now_of t e').bands q) else None) (ap (λ (xs : List Bool). is_set xs q) is_bands ∙ set_there maps.bands b q true ne)
+        ap (λ (x : Bool). if x && is_set unfreed.bands q then Some (e'.now.bands q) else None) (ap (λ (xs : List Bool). is_set xs q) is_bands ∙ set_there maps.bands b q true ne)
         ∙ ap (λ (xs : List ℕ). if is_there maps.bands unfreed.bands q then Some xs else None) (h.others (h.told told) q ne);
     free = let less = one_less maps.bands b free in let e1 : free_of maps'.bands ≡ free_of (slice_set maps.bands b true) = ap free_of is_bands in omega (arith, less, e1);
     count = ap length is_bands ∙ length-set maps.bands b true;
   };
-  pages = λ told. (λ j. units_there (is_pages j) unfreed.pages (now_of t e').pages) ∙ ap (λ (ps : ℕ → Option Sheet). units_there maps.pages unfreed.pages ps) (h.pages (h.told told));
+  pages = λ told. (λ j. units_there (is_pages j) unfreed.pages e'.now.pages) ∙ ap (λ (ps : ℕ → Option Sheet). units_there maps.pages unfreed.pages ps) (h.pages (h.told told));
   small = omega (arith, below, flags.few);
   writes = record { wrote = λ n w. with_told b n (opened e.steps) (h.back w.0) (h.wrote w.0 n w.1) };
-}
+})
   where
     below : b < length maps.bands
     below = slice_get_within maps.bands b false free
@@ -321,3 +366,6 @@ few_band bands b o is none free = elim (cases_lt b 65536) [
       let there : slice_get bands 65536 ≡ Some (get_or bands 65536 false) = slice_get-get_or bands 65536 false (omega (arith, far, below)) in
       absurd (no (sym (ap is_some (is ∙ there)) ∙ none))
 ]
+
+pub wide_any : (e : EngineSeen) (m : Table → State → Type 0) → ∥ ((t : Table) × (from : State) × m t from) ∥₁ → ((t : Table) (from : State) → m t from → AreBandsWhole e.now) → AreBandsWhole e.now
+wide_any e m some wide b = ∥∥₁_elim some (hlevel props) (λ x. wide x.0 x.1 x.2 b)

@@ -1,5 +1,6 @@
 -- The walk of an undo comes to the note that is undone next.
-use Rattle.std.proofs.Common.{◌≡◌, ◌≢◌, ℕ, ◌<◌, ◌≤◌, List, Some, None, sym, ap, subst, ◌∙◌, refl, arith, inl, inr}
+use Rattle.std.proofs.Common.{◌≡◌, ◌≢◌, ℕ, ◌<◌, ◌≤◌, List, Option, Some, None, sym, ap, subst, ◌∙◌, refl, arith, inl, inr}
+use Rattle.std.specs.Prelude.{option_map}
 use Rattle.sg_record.specs.Changes.{Change as Changing}
 use Rattle.sg_recovery.specs.Log.{Open, tally, open_of, changes_of}
 use Rattle.sg_recovery.specs.Log.Record.{TopEnd}
@@ -7,9 +8,11 @@ use Rattle.sg_recovery.specs.Chains.{txn_of, last_of, walk}
 use Rattle.sg_alloc.specs.declared.maps.Maps.{Maps}
 use Rattle.sg_actions.specs.Rows.{last_in}
 use Rattle.sg_actions.specs.Steps.{Step, Steps, step_at}
-use Rattle.sg_actions.specs.Undoing.{next_note, goes_to, SeesAt, HasFound, IsUndoable}
+use Rattle.sg_actions.specs.Undoing.{next_note, goes_to, SeesAt, HasFound, FindsNote, IsUndoable}
 use Rattle.sg_actions.specs.declared.rows.Actor.{Actor}
 use Rattle.sg_actions.specs.declared.rows.Row.{Row}
+use Rattle.sg_actions.specs.Counts.{Note}
+use Rattle.sg_actions.specs.declared.undo.Found.{Found}
 use Rattle.sg_actions.specs.declared.undo.Seen.TheVariants as seen
 use Rattle.sg_actions.proofs.Chained.{no_zero}
 use Rattle.sg_actions.proofs.Leading.{leads_over}
@@ -74,3 +77,14 @@ module _ {base : ℕ} {rs : Steps} {tail : ℕ} {unfreed : Maps} {rows : List Ro
   -- at the begin there is none
   pub walk_over : (at : ℕ) (note : List ℕ) → IsUndoable base rs tail unfreed rows actor txn stop → IsWalking rs txn stop at → SeesAt rs at note seen.Begin → next_note txn stop rs ≡ None
   walk_over at note h w s = sym w.comes ∙ walk_begin rs stop at s.sees.0 s.sees.1 h.chain.running.log.chained (s.there ∙ ap Some s.sees.2)
+
+-- what is found is what is undone next
+pub next_at : (rs : Steps) (txn stop : ℕ) (note : List ℕ) (o : Option Found) (f : Found) → o ≡ Some f → FindsNote rs txn stop note o → Some f.at ≡ option_map (λ n. n.lsn) (next_note txn stop rs)
+next_at rs txn stop note o f is h =
+    let found : HasFound rs txn stop note f = subst (λ (p : Option Found). FindsNote rs txn stop note p) is h in
+    sym (ap (option_map (λ (n : Note). n.lsn)) found.next ∙ ap Some found.lsn)
+
+pub next_none : (rs : Steps) (txn stop : ℕ) (note : List ℕ) (o : Option Found) → o ≡ None → FindsNote rs txn stop note o → None ≡ option_map (λ n. n.lsn) (next_note txn stop rs)
+next_none rs txn stop note o is h =
+    let none : next_note txn stop rs ≡ None = subst (λ (p : Option Found). FindsNote rs txn stop note p) is h in
+    sym (ap (option_map (λ (n : Note). n.lsn)) none)

@@ -20,7 +20,8 @@ use Rattle.sg_actions.specs.Acting.{IsWell, IsChained}
 use Rattle.sg_actions.specs.Changes.{meaning}
 use Rattle.sg_record.specs.Records.Says.{TopVoid as SaysTopVoid}
 use Rattle.sg_record.specs.Shown.{by}
-use Rattle.sg_actions.specs.Engine.{EngineView, now_of, Logged, ArePagesFit}
+use Rattle.sg_actions.specs.Engine.{EngineView, now_of, ArePagesFit}
+use Rattle.sg_actions.specs.Led.{Appended}
 use Rattle.sg_actions.specs.Offed.{kept_in, CanTakeOff, TakenOff, IsResumable, AllOff}
 use Rattle.sg_actions.specs.Rows.{placed, rows_after, at_rest}
 use Rattle.sg_actions.specs.Steps.{Steps, stepped, opened, begin_of, repeated}
@@ -81,7 +82,7 @@ fit_leaf None h = omega arith
 fit_leaf (Some p) h = h p refl
 
 -- the chain behind the record that all is off
-voided_chain : (e1 e' : EngineView) (rows rows' : List Row) (now new : Actor) (lsn : ℕ) → Logged e1 e' (by now.txn.0 now.last (SaysTopVoid now.before)) lsn → new ≡ at_rest → rows' ≡ rows_after rows now.txn lsn
+voided_chain : (e1 e' : EngineView) (rows rows' : List Row) (now new : Actor) (lsn : ℕ) → Appended e1 e' (by now.txn.0 now.last (SaysTopVoid now.before)) lsn → new ≡ at_rest → rows' ≡ rows_after rows now.txn lsn
     → IsChained e1.base (stepped e1.steps lsn (void_step now)) e'.tail (rows_after rows now.txn lsn) at_rest → IsChained e'.base e'.steps e'.tail rows' new
 voided_chain e1 e' rows rows' now new lsn g rest is_rows h =
     subst (λ (x : Actor). IsChained e'.base e'.steps e'.tail rows' x) (sym rest)
@@ -196,3 +197,15 @@ all_off_now t limits kept begin e1 e' maps unfreed rows rows' now new at told h 
     chain_by true z = chain_void_system t kept begin e1.base e1.steps (now_of t e1) v.lsn e'.tail rows now (v.logged told).tail (grind (arith, nat_tests, z)) none (taking_later h.off.taking (v.logged told).number)
     chain_by false z = chain_void t kept begin e1.base e1.steps (now_of t e1) v.lsn e'.tail rows now (record { txn = now.txn; last = v.lsn }) (v.logged told).tail
         (λ k. absurd (let one : (now.txn.0 == 0) ≡ true = grind (arith, nat_tests, k) in let two : true ≡ false = sym one ∙ z in cc)) refl refl none (taking_later h.off.taking (v.logged told).number)
+
+-- the same of equal parts
+pub off_same : {t : Table} {kept : Kept} {begin : State} {e : EngineView} {maps unfreed unfreed' : Maps} {rows rows' : List Row} {actor : Actor} {at : ℕ} → unfreed' ≡ unfreed → rows' ≡ rows → IsOff t kept begin e maps unfreed rows actor at → IsOff t kept begin e maps unfreed' rows' actor at
+off_same {t} {kept} {begin} {e} {maps} {unfreed} {unfreed'} {rows} {rows'} {actor} {at} a b h =
+    subst (λ (m : Maps). IsOff t kept begin e maps m rows' actor at) (sym a) (subst (λ (rs : List Row). IsOff t kept begin e maps unfreed rs actor at) (sym b) h)
+
+pub taken_same : {t : Table} {limits : State → ℕ → ℕ} {e e' : EngineView} {maps m m' u u' : Maps} {rows : List Row} {actor new : Actor} → m' ≡ m → u' ≡ u → TakenOff t limits e e' maps m u rows actor new → TakenOff t limits e e' maps m' u' rows actor new
+taken_same {t} {limits} {e} {e'} {maps} {m} {m'} {u} {u'} {rows} {actor} {new} a b h =
+    subst (λ (x : Maps). TakenOff t limits e e' maps x u' rows actor new) (sym a) (subst (λ (x : Maps). TakenOff t limits e e' maps m x rows actor new) (sym b) h)
+
+pub all_same : {t : Table} {limits : State → ℕ → ℕ} {kept : Kept} {begin : State} {e : EngineView} {m m' : Maps} {rows : List Row} {actor : Actor} → m' ≡ m → AllOff t limits kept begin e m rows actor → AllOff t limits kept begin e m' rows actor
+all_same {t} {limits} {kept} {begin} {e} {m} {m'} {rows} {actor} a h = subst (λ (x : Maps). AllOff t limits kept begin e x rows actor) (sym a) h

@@ -8,12 +8,11 @@ use Rattle.std.proofs.lemmas.Option.{slice_get_within}
 use Rattle.sg_alloc.specs.Flags.{free_of}
 use Rattle.sg_alloc.specs.declared.maps.Maps.{Maps}
 use Rattle.sg_alloc.proofs.Counted.{one_more}
-use Rattle.sg_ops.specs.Table.{Table}
 use Rattle.sg_action.specs.States.{State}
 use Rattle.sg_space.specs.Pages.{Freed}
 use Rattle.sg_space.specs.Bands.{FreedBand}
 use Rattle.sg_space.specs.Units.{IsFreed}
-use Rattle.sg_actions.specs.Engine.{EngineView, now_of}
+use Rattle.sg_actions.specs.Engine.{EngineSeen}
 use Rattle.sg_actions.specs.Taken.{is_set, is_there, units_there, AreFlags}
 use Rattle.sg_actions.specs.View.{acts_view}
 use Rattle.sg_actions.proofs.Flags.{get_set, and_left, and_right}
@@ -73,23 +72,23 @@ freed_unit taken unfreed unfreed' contents p is there = subst (λ (xs : List Boo
     flag = there_flag taken unfreed p there
 
 -- THE SPACE SHOWS THE PAGE THAT IS FREED
-pub shows_free : (t : Table) (limits : State → ℕ → ℕ) (e : EngineView) (breaks : ℕ) (maps unfreed unfreed' : Maps) (p : ℕ) → unfreed'.pages ≡ slice_set unfreed.pages p false → unfreed'.bands ≡ unfreed.bands → is_there maps.pages unfreed.pages p ≡ true
-    → Freed (acts_view t limits e breaks maps unfreed) (acts_view t limits e breaks maps unfreed') p
-shows_free t limits e breaks maps unfreed unfreed' p is_pages is_bands there = record {
+pub shows_free : (limits : State → ℕ → ℕ) (e : EngineSeen) (begin : State) (breaks : ℕ) (maps unfreed unfreed' : Maps) (p : ℕ) → unfreed'.pages ≡ slice_set unfreed.pages p false → unfreed'.bands ≡ unfreed.bands → is_there maps.pages unfreed.pages p ≡ true
+    → Freed (acts_view limits e begin breaks maps unfreed) (acts_view limits e begin breaks maps unfreed') p
+shows_free limits e begin breaks maps unfreed unfreed' p is_pages is_bands there = record {
   told = λ t. t;
-  pages = λ told. freed_unit maps.pages unfreed.pages unfreed'.pages (now_of t e).pages p is_pages there;
-  bands = λ told j. units_there maps.bands (is_bands j) (λ b. Some ((now_of t e).bands b));
+  pages = λ told. freed_unit maps.pages unfreed.pages unfreed'.pages e.now.pages p is_pages there;
+  bands = λ told j. units_there maps.bands (is_bands j) (λ b. Some (e.now.bands b));
   may_have = λ q n ne h. h;
   wrote = λ b h. h;
 }
 
 -- and the band that is freed
-pub shows_free_band : (t : Table) (limits : State → ℕ → ℕ) (e : EngineView) (breaks : ℕ) (maps unfreed unfreed' : Maps) (b : ℕ) → unfreed'.bands ≡ slice_set unfreed.bands b false → unfreed'.pages ≡ unfreed.pages → is_there maps.bands unfreed.bands b ≡ true
-    → FreedBand (acts_view t limits e breaks maps unfreed) (acts_view t limits e breaks maps unfreed') b
-shows_free_band t limits e breaks maps unfreed unfreed' b is_bands is_pages there = record {
+pub shows_free_band : (limits : State → ℕ → ℕ) (e : EngineSeen) (begin : State) (breaks : ℕ) (maps unfreed unfreed' : Maps) (b : ℕ) → unfreed'.bands ≡ slice_set unfreed.bands b false → unfreed'.pages ≡ unfreed.pages → is_there maps.bands unfreed.bands b ≡ true
+    → FreedBand (acts_view limits e begin breaks maps unfreed) (acts_view limits e begin breaks maps unfreed') b
+shows_free_band limits e begin breaks maps unfreed unfreed' b is_bands is_pages there = record {
   told = λ t. t;
-  bands = λ told. freed_unit maps.bands unfreed.bands unfreed'.bands (λ n. Some ((now_of t e).bands n)) b is_bands there;
-  pages = λ told j. units_there maps.pages (is_pages j) (now_of t e).pages;
+  bands = λ told. freed_unit maps.bands unfreed.bands unfreed'.bands (λ n. Some (e.now.bands n)) b is_bands there;
+  pages = λ told j. units_there maps.pages (is_pages j) e.now.pages;
   may_have = λ q n h. h;
   wrote = λ n h. h;
 }

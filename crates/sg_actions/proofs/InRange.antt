@@ -1,14 +1,14 @@
 -- Records that are in their ranges by what they are.
-use Rattle.std.proofs.Common.{rules, ◌≡◌, ℕ, ◌+◌, ◌*◌, ◌/◌, ◌<◌, ◌≤◌, ◌^◌, List, [], ◌∷◌, ◌++◌, length, Bool, true, None, refl, sym, subst, ◌∙◌, arith}
+use Rattle.std.proofs.Common.{rules, ◌≡◌, ℕ, ◌+◌, ◌*◌, ◌/◌, ◌<◌, ◌≤◌, ◌^◌, List, [], ◌∷◌, ◌++◌, length, Bool, true, false, None, refl, sym, subst, ◌∙◌, arith}
 use Rattle.std.specs.Prelude.{nat_le, nat_lt, ◌&&◌}
 use Rattle.std.proofs.lemmas.Bool.Decides.{nat_tests}
 use Rattle.byteorder.specs.Endian.{little_bytes}
 use Rattle.std.proofs.lemmas.List.{length-append}
 use Rattle.byteorder.specs.Numbers.{length-bytes_low_first}
-use Rattle.sg_record.specs.Ranges.{IsRecord, first_out}
-use Rattle.sg_record.specs.Records.{body_of}
+use Rattle.sg_record.specs.Ranges.{Field, IsRecord, first_out, says_fields}
+use Rattle.sg_record.specs.Records.{body_of, header, code_of, kind_of, spelled}
 use Rattle.sg_record.specs.Records.Says.{TopEnd, TopVoid, Changed, Save, Commit, End, CompEnd, Checkpoint}
-use Rattle.sg_record.specs.Changes.{PageChange, BandBytes}
+use Rattle.sg_record.specs.Changes.{Change, PageChange, BandBytes}
 use Rattle.sg_record.specs.Changes.Change.{Page, SegWrite, SegOp}
 use Rattle.sg_actions.specs.Painting.{fill_with}
 use Rattle.sg_record.specs.Shown.{by}
@@ -147,3 +147,24 @@ write_of t p b at count before after small low few piece m n =
 
 pub write_in : (t p b at count : ℕ) (before after : List ℕ) (c : BandBytes) → c ≡ bytes_with b at count before after → t < 2 ^ 64 → p < 2 ^ 64 → b < 65536 → IsPiece at count → length before ≡ count → length after ≡ count → IsRecord (by t p (Changed (SegWrite c)))
 write_in t p b at count before after c is small low few piece m n = subst (λ (x : BandBytes). IsRecord (by t p (Changed (SegWrite x)))) (sym is) (write_of t p b at count before after small low few piece m n)
+
+-- HOW LONG a record of a change is, with the head of a frame
+
+first_true : (o : ℕ) (a : Bool) (fs : List Field) → first_out ((o, a) ∷ fs) ≡ None → a ≡ true
+first_true o true fs e = refl
+first_true o false fs e = absurd (cc)
+
+length_header : (k s t p : ℕ) → length (header k s t p) ≡ 21
+length_header k s t p = search rules
+
+le_of : (a b : ℕ) → nat_le a b ≡ true → a ≤ b
+le_of a b h = grind (arith, nat_tests, h)
+
+pub change_short : (t p : ℕ) (c : Change) → IsRecord (by t p (Changed c)) → 5 + length (spelled (by t p (Changed c))) ≤ 16422
+unfolding spelled
+change_short t p c is =
+    let test = first_true 1 (nat_le (21 + length (body_of (Changed c))) 16417) (says_fields t p (Changed c)) is.ranges in
+    let most = le_of (21 + length (body_of (Changed c))) 16417 test in
+    let head = length_header (code_of (kind_of (Changed c))) (21 + length (body_of (Changed c))) t p in
+    let all : length (spelled (by t p (Changed c))) ≡ length (header (code_of (kind_of (Changed c))) (21 + length (body_of (Changed c))) t p) + length (body_of (Changed c)) = length-append (header (code_of (kind_of (Changed c))) (21 + length (body_of (Changed c))) t p) (body_of (Changed c)) in
+    omega (arith, most, head, all)

@@ -16,7 +16,9 @@ use Rattle.sg_recovery.specs.Chains.{next_off}
 use Rattle.sg_action.specs.States.{State, Kept, Change as Changed, apply, fits}
 use Rattle.sg_action.specs.Opened.{formats}
 use Rattle.sg_actions.specs.Changes.{meaning, comp_of, IsChangeOf}
-use Rattle.sg_actions.specs.Engine.{EngineView, now_of, Logged, HasLogged, Stays, HasStayed, IsLoggable}
+use Rattle.sg_actions.specs.Engine.{EngineView, now_of}
+use Rattle.sg_actions.proofs.Led.{now_stays}
+use Rattle.sg_actions.specs.Led.{Appended, HasLogged, Stayed, HasStayed}
 use Rattle.sg_actions.specs.Steps.{Step, Steps, stepped, step_at, step_of, step_by, repeated}
 use Rattle.sg_actions.specs.Taken.{is_set, is_there, takes_page, takes_band, fills, AreFlags, IsUntaken, IsUntakenBand}
 use Rattle.sg_actions.specs.TakingOff.{IsTakingOff, AreLinked, AreOnce, IsOff, CanGoOff, NextStep, TookOff, left_of}
@@ -25,9 +27,7 @@ use Rattle.sg_actions.specs.declared.rows.Row.{Row}
 use Rattle.sg_actions.proofs.Chained.{later}
 use Rattle.sg_actions.proofs.Flags.{get_set, and_both}
 use Rattle.sg_actions.proofs.Taking.{none_freed}
-use Rattle.sg_actions.proofs.Repeating.{says_applied}
 use Rattle.sg_actions.proofs.TakenOff.{takes_one_off, comp_step, taking_later}
-use Rattle.sg_actions.proofs.Viewed.{now_stays}
 
 -- some change is left, where the take-off isn't at its end
 pub record IsNext (rs : Steps) (actor : Actor) (at : ℕ) : Type 0 where
@@ -48,7 +48,7 @@ next_one t kept begin e maps unfreed rows actor at ne h = by_list (tally e.steps
         record { d = d; ds = ds; is = is; here = here; step = ap (step_at e.steps) here ∙ linked.0 }
 
 -- a look leaves a take-off as it is
-pub off_stays : {t : Table} {kept : Kept} {begin : State} {e e' : EngineView} {maps unfreed : Maps} {rows : List Row} {actor : Actor} {at : ℕ} → Stays e e' → IsOff t kept begin e maps unfreed rows actor at → IsOff t kept begin e' maps unfreed rows actor at
+pub off_stays : {t : Table} {kept : Kept} {begin : State} {e e' : EngineView} {maps unfreed : Maps} {rows : List Row} {actor : Actor} {at : ℕ} → Stayed e e' → IsOff t kept begin e maps unfreed rows actor at → IsOff t kept begin e' maps unfreed rows actor at
 off_stays {t} {kept} {begin} {e} {e'} {maps} {unfreed} {rows} {actor} {at} s h = record {
   taking = taking_later (subst (λ (b : ℕ). IsTakingOff t kept begin b e'.steps (now_of t e') e.tail rows actor) (sym s.base) (subst (λ (x : State). IsTakingOff t kept begin e.base e'.steps x e.tail rows actor) (sym (now_stays t s)) (subst (λ (rs : Steps). IsTakingOff t kept begin e.base rs (now_of t e) e.tail rows actor) (sym s.steps) h.taking))) s.tail;
   pages = λ n. subst (λ (rs : Steps). (is_set maps.pages n && not (takes_page (left_of rs) n)) ≡ kept.pages n) (sym s.steps) (h.pages n);
@@ -123,7 +123,7 @@ read_is rs at what r c previous next d e f g h =
 
 -- THE TAKE-OFF GOES ON behind the record
 pub off_goes_on : (t : Table) (kept : Kept) (begin : State) (e e' : EngineView) (maps maps' unfreed : Maps) (rows : List Row) (actor : Actor) (at prev lsn : ℕ) (c : Changing) → AreFlags maps.pages unfreed.pages → AreFlags maps.bands unfreed.bands → (n : IsNext e.steps actor at) → IsRead c prev n.d (next_off actor.before n.ds)
-    → Logged e e' (by actor.txn.0 actor.last (SaysPhysComp prev (comp_of c))) lsn → IsUntaken maps.pages unfreed.pages maps'.pages (meaning c) → IsUntakenBand maps.bands unfreed.bands maps'.bands (meaning c) → IsOff t kept begin e maps unfreed rows actor at → IsOff t kept begin e' maps' unfreed rows (later actor lsn) prev
+    → Appended e e' (by actor.txn.0 actor.last (SaysPhysComp prev (comp_of c))) lsn → IsUntaken maps.pages unfreed.pages maps'.pages (meaning c) → IsUntakenBand maps.bands unfreed.bands maps'.bands (meaning c) → IsOff t kept begin e maps unfreed rows actor at → IsOff t kept begin e' maps' unfreed rows (later actor lsn) prev
 off_goes_on t kept begin e e' maps maps' unfreed rows actor at prev lsn c flags band_flags n r g u ub h =
     let one = takes_one_off t kept begin e.base e.steps (now_of t e) lsn e'.tail rows actor n.d n.ds g.tail n.is (taking_later h.taking g.number) in
     let steps : e'.steps ≡ stepped e.steps lsn (comp_step actor n.d n.ds) = g.steps ∙ (λ j. stepped e.steps lsn (PhysComp actor.txn.0 actor.last (r.before_is j) (comp_of (r.change j)))) in
@@ -151,21 +151,15 @@ off_goes_on t kept begin e e' maps maps' unfreed rows actor at prev lsn c flags 
     }
 
 -- the record that takes it off may be appended
-pub off_loggable : (t : Table) (Means : Type 0) (kept : Kept) (begin : State) (e : EngineView) (maps unfreed : Maps) (rows : List Row) (actor : Actor) (at prev : ℕ) (c comp : Changing) → (n : IsNext e.steps actor at) → IsRead c prev n.d (next_off actor.before n.ds) → Means → comp ≡ comp_of c
-    → IsOff t kept begin e maps unfreed rows actor at → IsLoggable t Means e (PhysComp actor.txn.0 actor.last prev comp)
-off_loggable t Means kept begin e maps unfreed rows actor at prev c comp n r same is h =
+pub off_fits : (t : Table) (kept : Kept) (begin : State) (e : EngineView) (maps unfreed : Maps) (rows : List Row) (actor : Actor) (at prev : ℕ) (c comp : Changing) (x : State) → x ≡ now_of t e → (n : IsNext e.steps actor at) → IsRead c prev n.d (next_off actor.before n.ds) → comp ≡ comp_of c
+    → IsOff t kept begin e maps unfreed rows actor at → fits t x (meaning comp) ≡ true
+off_fits t kept begin e maps unfreed rows actor at prev c comp x now n r is h =
     let one = takes_one_off t kept begin e.base e.steps (now_of t e) e.tail (e.tail + 1) rows actor n.d n.ds (omega arith) n.is h.taking in
-    record { fits = ap (λ (x : Changing). fits t (now_of t e) (meaning x)) is ∙ (ap (λ (x : Changing). fits t (now_of t e) (meaning (comp_of x))) r.change ∙ one.fits_it); known = tt; means = λ u. same }
+    ap (λ (y : State). fits t y (meaning comp)) now ∙ (ap (λ (y : Changing). fits t (now_of t e) (meaning y)) is ∙ (ap (λ (y : Changing). fits t (now_of t e) (meaning (comp_of y))) r.change ∙ one.fits_it))
 
 -- the pages that are taken still say something
 pub said_less : {A : Type 0} (taken taken' : List Bool) (contents : ℕ → Option A) → ((n : ℕ) → is_set taken' n ≡ true → is_set taken n ≡ true) → ((n : ℕ) → is_set taken n ≡ true → IsSome (contents n)) → (n : ℕ) → is_set taken' n ≡ true → IsSome (contents n)
 said_less taken taken' contents less said n h = said n (less n h)
-
--- a page that says something does so behind the record
-pub says_after : (t : Table) {e e' : EngineView} {txn last prev lsn : ℕ} {c : Changing} → Logged e e' (by txn last (SaysPhysComp prev c)) lsn → (n : ℕ) → IsSome ((now_of t e).pages n) → IsSome ((now_of t e').pages n)
-says_after t {e} {e'} {txn} {last} {prev} {lsn} {c} g n h =
-    let now : now_of t e' ≡ apply t (now_of t e) (meaning c) = (λ j. repeated t (g.first j) (g.steps j)) in
-    subst (λ (x : State). IsSome (x.pages n)) (sym now) (says_applied t (now_of t e) (meaning c) n h)
 
 pub shown_is : {E : Type 0} (r what : Record) (m n : ℕ) (x : Result (Record × ℕ) E) → Ok (r, m) ≡ x → x ≡ Ok (what, n) → r ≡ what
 shown_is {E} r what m n x e f = ap (λ (p : Record × ℕ). p.0) (ok_parts (r, m) (what, n) (e ∙ f))
@@ -176,19 +170,19 @@ shown_is {E} r what m n x e f = ap (λ (p : Record × ℕ). p.0) (ok_parts (r, m
 -- WHAT WAS TAKEN OFF, all in one
 pub took_off : (t : Table) (e e1 e' : EngineView) (maps maps' unfreed : Maps) (rows : List Row) (actor : Actor) (at prev lsn : ℕ) (c comp : Changing) (r : Record) → AreFlags maps.pages unfreed.pages → AreFlags maps.bands unfreed.bands → (e.Told → step_at e.steps at ≡ step_of r) → IsChangeOf r c prev → comp ≡ comp_of c
     → HasStayed e e1 → (e1.Told → e.Told) → HasLogged e1 e' (by actor.txn.0 actor.last (SaysPhysComp prev comp)) lsn → (e'.Told → e1.Told) → IsUntaken maps.pages unfreed.pages maps'.pages (meaning c) → IsUntakenBand maps.bands unfreed.bands maps'.bands (meaning c) → prev < at
-    → (e.Told → CanGoOff t e maps unfreed rows actor at) → TookOff t e e' maps maps' unfreed rows actor (later actor lsn) at prev
-took_off t e e1 e' maps maps' unfreed rows actor at prev lsn c comp r flags band_flags what says is stays back g back' u ub low can = record {
+    → TookOff t e e' maps maps' unfreed rows actor (later actor lsn) at prev
+took_off t e e1 e' maps maps' unfreed rows actor at prev lsn c comp r flags band_flags what says is stays back g back' u ub low = record {
   lower = low;
   who = refl;
   same_before = refl;
   told = λ told. back (back' told);
   still = λ told. g.told (stays.told told);
   goes_on = λ told kept begin more h. on told kept begin more h;
-  steps = λ told. steps told (can told);
+  steps = λ told k. steps told k;
 }
   where
-    g' : e.Told → Logged e1 e' (by actor.txn.0 actor.last (SaysPhysComp prev (comp_of c))) lsn
-    g' told = subst (λ (x : Changing). Logged e1 e' (by actor.txn.0 actor.last (SaysPhysComp prev x)) lsn) is (g.logged (stays.told told))
+    g' : e.Told → Appended e1 e' (by actor.txn.0 actor.last (SaysPhysComp prev (comp_of c))) lsn
+    g' told = subst (λ (x : Changing). Appended e1 e' (by actor.txn.0 actor.last (SaysPhysComp prev x)) lsn) is (g.logged (stays.told told))
 
     step1 : e.Told → step_at e1.steps at ≡ step_of r
     step1 told = ap (λ (rs : Steps). step_at rs at) (stays.stays told).steps ∙ what told

@@ -4,12 +4,10 @@ use Rattle.std.specs.Prelude.{if◌then◌else◌, IsSome}
 use Rattle.std.proofs.lemmas.List.{length-take-le, length-drop}
 use Rattle.sg_alloc.specs.declared.maps.Maps.{Maps}
 use Rattle.sg_base.specs.Overwritten.{overwritten}
-use Rattle.sg_ops.specs.Meaning.{RangeMeaning}
 use Rattle.sg_ops.specs.Table.{Table, range_at, rendered}
-use Rattle.sg_record.specs.Changes.{Change as Changing, BandOp}
+use Rattle.sg_record.specs.Changes.{BandOp}
 use Rattle.sg_record.specs.Changes.Change.{SegOp}
-use Rattle.sg_record.specs.Records.Says.{Changed as SaysChanged}
-use Rattle.sg_record.specs.Shown.{by}
+use Rattle.sg_recovery.specs.Log.Record.{Change as ChangeStep}
 use Rattle.sg_action.specs.States.{State, Change, apply, made}
 use Rattle.sg_action.specs.States.Change.{Paint}
 use Rattle.sg_action.specs.Opened.{StoodThere}
@@ -18,21 +16,17 @@ use Rattle.sg_space.specs.Bands.{Wrote}
 use Rattle.sg_actions.specs.Acting.{IsWell}
 use Rattle.sg_actions.specs.Changes.{meaning}
 use Rattle.sg_actions.specs.Painting.{op_with}
-use Rattle.sg_actions.specs.Engine.{EngineView, now_of, Logged}
-use Rattle.sg_actions.specs.Steps.{Steps, repeated, opened, begin_of}
+use Rattle.sg_actions.specs.Engine.{EngineView, EngineSeen, now_of}
+use Rattle.sg_actions.specs.Steps.{Steps, opened, begin_of}
 use Rattle.sg_actions.specs.Taken.{is_there, kept_of, units_there, writes_band}
-use Rattle.sg_actions.specs.View.{IsKept, acts_view, MayGive}
+use Rattle.sg_actions.specs.View.{IsKept, acts_view, MayGive, MayGiveNow}
 use Rattle.sg_actions.specs.declared.rows.Actor.{Actor}
 use Rattle.sg_actions.specs.declared.rows.Row.{Row}
 use Rattle.sg_actions.proofs.Acting.{acting_change}
 use Rattle.sg_actions.proofs.Calling.{MayGoOn}
 use Rattle.sg_actions.proofs.Flags.{there_is, at_there, written_in}
+use Rattle.sg_actions.proofs.Led.{Made}
 use Rattle.sg_actions.proofs.Repeating.{made_opened}
-
--- a fact of the open action, from one of it with the change
-about : (t : Table) (e e' : EngineView) (txn last lsn : ℕ) (c : Changing) (P : State → List Change → Type 0) → Logged e e' (by txn last (SaysChanged c)) lsn → P (begin_of t e.first e.steps) (meaning c ∷ opened e.steps) → P (begin_of t e'.first e'.steps) (opened e'.steps)
-about t e e' txn last lsn c P g h =
-    subst (λ (x : State). P (begin_of t x e'.steps) (opened e'.steps)) (sym g.first) (subst (λ (rs : Steps). P (begin_of t e.first rs) (opened rs)) (sym g.steps) h)
 
 -- what stood there isn't nothing
 pub some_stood : (band : List ℕ) (at count : ℕ) (before : List ℕ) → StoodThere band at count before → 1 ≤ count → 1 ≤ length before
@@ -47,10 +41,10 @@ pub goes_on_paint : (t : Table) (limits : State → ℕ → ℕ) (begin : State)
 goes_on_paint t limits begin ds pages bands b at count code position arg [] stood some w = absurd (omega (arith, some))
 goes_on_paint t limits begin ds pages bands b at count code position arg (y ∷ before) stood some w = record { begun = w.begun; fit = w.fit; opens = (w.opens, stood); well = (w.well, tt); used = w.used }
 
-may_paint : (t : Table) (limits : State → ℕ → ℕ) (begin : State) (ds : List Change) (pages bands : List Bool) (b at count code position : ℕ) (arg before : List ℕ) (q n : ℕ) → 1 ≤ length before → MayGive t (kept_of limits pages bands begin ds) begin ds q n
-    → MayGive t (kept_of limits pages bands begin (Paint b at count code position arg before ∷ ds)) begin (Paint b at count code position arg before ∷ ds) q n
-may_paint t limits begin ds pages bands b at count code position arg [] q n some h = absurd (omega (arith, some))
-may_paint t limits begin ds pages bands b at count code position arg (y ∷ before) q n some h = record { grown = h.grown; within = h.within }
+may_paint : (limits : State → ℕ → ℕ) (begin : State) (ds : List Change) (pages bands : List Bool) (b at count code position : ℕ) (arg before : List ℕ) (q n : ℕ) → 1 ≤ length before → MayGive (kept_of limits pages bands begin ds) ds q n
+    → MayGive (kept_of limits pages bands begin (Paint b at count code position arg before ∷ ds)) (Paint b at count code position arg before ∷ ds) q n
+may_paint limits begin ds pages bands b at count code position arg [] q n some h = absurd (omega (arith, some))
+may_paint limits begin ds pages bands b at count code position arg (y ∷ before) q n some h = record { grown = h.grown; within = h.within }
 
 same_some : {A : Type 0} (x y : A) → Some x ≡ Some y → x ≡ y
 same_some x y h = cc
@@ -66,36 +60,33 @@ pub paint_same : (limits : State → ℕ → ℕ) (begin : State) (ds : List Cha
 paint_same limits begin ds pages bands b at count code position arg [] some = absurd (omega (arith, some))
 paint_same limits begin ds pages bands b at count code position arg (y ∷ before) some = refl
 
-pub shows_paint : (t given : Table) (limits : State → ℕ → ℕ) (e e' : EngineView) (breaks : ℕ) (maps unfreed : Maps) (txn last b at count code position lsn : ℕ) (arg before : List ℕ) → is_there maps.bands unfreed.bands b ≡ true
-    → 1 ≤ length before → given ≡ t → (e.Told → e'.Told) → (e.Told → Logged e e' (by txn last (SaysChanged (SegOp (op_with b at count code position arg before)))) lsn) → (e'.Told → e.Told)
-    → Wrote (acts_view t limits e breaks maps unfreed) (acts_view t limits e' breaks maps unfreed) b at (rendered (range_at given code) arg position count)
-shows_paint t given limits e e' breaks maps unfreed txn last b at count code position lsn arg before there some means still g back = record {
+pub shows_paint : (t : Table) (limits : State → ℕ → ℕ) (e e' : EngineSeen) (begin : State) (breaks : ℕ) (maps unfreed : Maps) (txn last b at count code position lsn : ℕ) (arg before : List ℕ) → is_there maps.bands unfreed.bands b ≡ true
+    → 1 ≤ length before → (e.Told → e'.Told) → (e'.Told → e.Told) → (e.Told → Made t e e' (ChangeStep txn last (SegOp (op_with b at count code position arg before))) lsn)
+    → Wrote (acts_view limits e begin breaks maps unfreed) (acts_view limits e' begin breaks maps unfreed) b at (rendered (range_at t code) arg position count)
+shows_paint t limits e e' begin breaks maps unfreed txn last b at count code position lsn arg before there some still back made = record {
   keeps = record {
     told = still;
     may_take = λ h. h;
-    may_have = λ q n h told'. let told = back told' in about t e e' txn last lsn (SegOp (op_with b at count code position arg before)) (λ x ds. MayGive t (kept_of limits maps.pages maps.bands x ds) x ds q n) (g told)
-        (may_paint t limits (begin_of t e.first e.steps) (opened e.steps) maps.pages maps.bands b at count code position arg before q n some (h told));
+    may_have = λ q n h told'. let told = back told' in subst (λ (rs : Steps). MayGiveNow limits begin rs maps.pages maps.bands q n) (sym (made told).steps)
+        (may_paint limits begin (opened e.steps) maps.pages maps.bands b at count code position arg before q n some (h told));
   };
   bands = λ told. record {
     here = λ x is.
-        let old : (now_of t e).bands b ≡ x = same_some ((now_of t e).bands b) x (there_is maps.bands unfreed.bands (λ n. Some ((now_of t e).bands n)) b x is).is in
-        at_there maps.bands unfreed.bands (λ n. Some ((now_of t e').bands n)) b there
-        ∙ ap Some (ap (λ (y : State). y.bands b) (now told) ∙ (one_here (now_of t e).bands b (overwritten ((now_of t e).bands b) at (rendered (range_at t code) arg position count))
-        ∙ (ap (λ (xs : List ℕ). overwritten xs at (rendered (range_at t code) arg position count)) old ∙ ap (λ (r : Option RangeMeaning). overwritten x at (rendered r arg position count)) same)));
-    others = λ q ne. ap (λ (xs : List ℕ). if is_there maps.bands unfreed.bands q then Some xs else None) (ap (λ (y : State). y.bands q) (now told) ∙ one_there (now_of t e).bands b q (overwritten ((now_of t e).bands b) at (rendered (range_at t code) arg position count)) ne);
+        let old : e.now.bands b ≡ x = same_some (e.now.bands b) x (there_is maps.bands unfreed.bands (λ n. Some (e.now.bands n)) b x is).is in
+        at_there maps.bands unfreed.bands (λ n. Some (e'.now.bands n)) b there
+        ∙ ap Some (ap (λ (y : State). y.bands b) (now told) ∙ (one_here e.now.bands b (overwritten (e.now.bands b) at (rendered (range_at t code) arg position count))
+        ∙ ap (λ (xs : List ℕ). overwritten xs at (rendered (range_at t code) arg position count)) old));
+    others = λ q ne. ap (λ (xs : List ℕ). if is_there maps.bands unfreed.bands q then Some xs else None) (ap (λ (y : State). y.bands q) (now told) ∙ one_there e.now.bands b q (overwritten (e.now.bands b) at (rendered (range_at t code) arg position count)) ne);
     free = refl;
     count = refl;
   };
   pages = λ told. ap (λ (y : State). units_there maps.pages unfreed.pages y.pages) (now told);
-  writes = record { wrote = λ n h. let told = back h.0 in written_in b n (opened e.steps) told (sym (ap (λ (rs : Steps). writes_band (opened rs) n) (g told).steps) ∙ h.1) };
+  writes = record { wrote = λ n h. let told = back h.0 in written_in b n (opened e.steps) told (sym (ap (λ (rs : Steps). writes_band (opened rs) n) (made told).steps) ∙ h.1) };
 }
   where
-    same : range_at t code ≡ range_at given code
-    same = ap (λ (v : Table). range_at v code) (sym means)
+    now : e.Told → e'.now ≡ apply t e.now (Paint b at count code position arg before)
+    now told = (made told).now
 
-    now : e.Told → now_of t e' ≡ apply t (now_of t e) (Paint b at count code position arg before)
-    now told = λ j. repeated t ((g told).first j) ((g told).steps j)
-
--- the operation is registered, where the tables are one
-pub known_by : (t given : Table) (x y : BandOp) → given ≡ t → x ≡ y → IsSome (range_at given y.code) → IsSome (range_at t x.code)
-known_by t given x y means is h = subst (λ (u : Table). IsSome (range_at u x.code)) means (subst (λ (z : BandOp). IsSome (range_at given z.code)) (sym is) h)
+-- the operation is registered, where the records are one
+pub known_by : (t : Table) (x y : BandOp) → x ≡ y → IsSome (range_at t y.code) → IsSome (range_at t x.code)
+known_by t x y is h = subst (λ (z : BandOp). IsSome (range_at t z.code)) (sym is) h

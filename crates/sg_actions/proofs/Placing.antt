@@ -1,5 +1,5 @@
 -- Rows, with one in the place of another.
-use Rattle.std.proofs.Common.{◌≡◌, ◌≢◌, ℕ, zero, suc, ◌==◌, ◌<◌, List, [], ◌∷◌, ◌++◌, length, take, drop, take_all, Some, None, Bool, true, false, sym, ap, ◌∙◌, refl, arith, slice_index_or, slice_set, inl, inr}
+use Rattle.std.proofs.Common.{◌≡◌, ◌≢◌, ℕ, zero, suc, ◌==◌, ◌<◌, ◌≤◌, List, [], ◌∷◌, ◌++◌, length, take, drop, take_all, Some, None, Bool, true, false, sym, ap, ◌∙◌, refl, arith, slice_index_or, slice_set, inl, inr}
 use Rattle.std.specs.Prelude.{if◌then◌else◌, option_map}
 use Rattle.std.specs.List.{find}
 use Rattle.std.proofs.lemmas.Bool.{cases_Bool}
@@ -82,3 +82,14 @@ after_none rows txn lsn e = sym (ap (λ (b : Bool). if b then rows else placed r
 
 pub after_one : (rows : List Row) (txn : TxnId) (lsn : ℕ) → txn.0 ≢ 0 → placed rows txn.0 (record { txn = txn; last = lsn }) ≡ rows_after rows txn lsn
 after_one rows txn lsn ne = sym (ap (λ (b : Bool). if b then rows else placed rows txn.0 (record { txn = txn; last = lsn })) (let i : (txn.0 == 0) ≡ false = grind (arith, nat_tests, ne) in i))
+
+-- as many rows as before
+pub few_placed : {xs : List Row} (rows : List Row) (t : ℕ) (row : Row) → xs ≡ placed rows t row → length rows ≤ 64 → length xs ≤ 64
+few_placed {xs} rows t row is few = let a : length xs ≡ length (placed rows t row) = ap length is in let b = length-placed rows t row in omega (arith, a, b, few)
+
+pub few_after : {xs : List Row} (rows : List Row) (txn : TxnId) (lsn : ℕ) → xs ≡ rows_after rows txn lsn → length rows ≤ 64 → length xs ≤ 64
+few_after {xs} rows txn lsn is few = by (txn.0 == 0) (ap length is)
+  where
+    by : (b : Bool) → length xs ≡ length (if b then rows else placed rows txn.0 (record { txn = txn; last = lsn })) → length xs ≤ 64
+    by true e = omega (arith, e, few)
+    by false e = let b = length-placed rows txn.0 (record { txn = txn; last = lsn }) in omega (arith, e, b, few)

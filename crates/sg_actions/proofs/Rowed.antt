@@ -1,19 +1,11 @@
 -- Rows as a checkpoint spells them.
-use Rattle.std.proofs.Common.{◌≡◌, ◌≢◌, ℕ, ◌+◌, ◌*◌, ◌-◌, ◌==◌, ◌≤◌, List, [], ◌∷◌, ◌++◌, length, take, drop, Bool, true, false, sym, ap, subst, ◌∙◌, refl, arith}
+use Rattle.std.proofs.Common.{◌≡◌, ◌≢◌, ℕ, ◌+◌, ◌*◌, ◌-◌, ◌==◌, ◌≤◌, List, [], ◌∷◌, ◌++◌, length, take, drop, Bool, true, false, sym, ap, subst, ◌∙◌, refl, arith, ◌<◌}
 use Rattle.std.specs.Prelude.{if◌then◌else◌, Option, Some, IfSome}
 use Rattle.sg_actions.specs.Changes.{HasTaken}
 use Rattle.std.proofs.lemmas.Bool.Decides.{nat_tests}
 use Rattle.std.proofs.lemmas.List.{append_assoc, length-append, length-take-le, length-drop, take-append-drop}
 use borrow.Rule.Slice.PartMut.{put_mid}
-use Rattle.sg_ops.specs.Table.{Table}
-use Rattle.sg_record.specs.Records.Says.{Checkpoint}
-use Rattle.sg_record.specs.Shown.{by}
-use Rattle.sg_actions.specs.Checkpoints.{row_bytes, rows_bytes, HasPointed}
-use Rattle.sg_action.specs.States.{State}
-use Rattle.sg_alloc.specs.declared.maps.Maps.{Maps}
-use Rattle.sg_actions.specs.Engine.{EngineView, HasLogged}
-use Rattle.sg_actions.specs.Onward.{acting_to, acting_later}
-use Rattle.sg_actions.specs.declared.rows.Actor.{Actor}
+use Rattle.sg_actions.specs.Checkpoints.{row_bytes, rows_bytes}
 use Rattle.sg_actions.specs.declared.rows.Row.{Row}
 use Rattle.sg_actions.proofs.Placing.{front_is}
 
@@ -58,27 +50,19 @@ spelled_on rows left more row into next size e some long fits is h =
           ∙ (ap (λ (xs : List ℕ). take size into ++ xs) (sym (ap rows_bytes e ∙ ap (λ (b : Bool). if b then rows_bytes more else row_bytes row ++ rows_bytes more) f)) ∙ h.are)));
     }
 
--- A CHECKPOINT is no step
-pub has_pointed : (t : Table) (limits : State → ℕ → ℕ) (e e' : EngineView) (maps : Maps) (rows : List Row) (actor : Actor) (estimate lsn : ℕ) → HasLogged e e' (by 0 0 (Checkpoint estimate (rows_bytes rows))) lsn → HasPointed t limits e e' maps rows actor estimate
-has_pointed t limits e e' maps rows actor estimate lsn h = record {
-  lsn = lsn;
-  told = h.told;
-  logged = h.logged;
-  kept = λ told k. let g = h.logged told in acting_to g.base g.first g.steps (acting_later (let a = g.number in let b = g.tail in omega (arith, a, b)) k);
-}
-
 -- so many bytes of rows
 pub record AreSized (rows : List Row) : Type 0 where
   pub many : ℕ
   pub is : length (rows_bytes rows) ≡ 16 * many
+  pub few : many ≤ length rows
 
 pub rows_sized : (rows : List Row) → AreSized rows
-rows_sized [] = record { many = 0; is = refl }
-rows_sized (r ∷ rows) = let p = by_vacant (r.txn.0 == 0) (rows_sized rows) in record { many = p.0; is = p.1 }
+rows_sized [] = record { many = 0; is = refl; few = omega arith }
+rows_sized (r ∷ rows) = let p = by_vacant (r.txn.0 == 0) (rows_sized rows) in record { many = p.0; is = p.1; few = p.2 }
   where
-    by_vacant : (b : Bool) → AreSized rows → (many : ℕ) × (length (if b then rows_bytes rows else row_bytes r ++ rows_bytes rows) ≡ 16 * many)
-    by_vacant true h = (h.many, h.is)
-    by_vacant false h = (1 + h.many, length-append (row_bytes r) (rows_bytes rows) ∙ (let i = h.is in omega (arith, i)))
+    by_vacant : (b : Bool) → AreSized rows → (many : ℕ) × (length (if b then rows_bytes rows else row_bytes r ++ rows_bytes rows) ≡ 16 * many) × (many ≤ length (r ∷ rows))
+    by_vacant true h = (h.many, h.is, (let f = h.few in omega (arith, f)))
+    by_vacant false h = (1 + h.many, length-append (row_bytes r) (rows_bytes rows) ∙ (let i = h.is in omega (arith, i)), (let f = h.few in omega (arith, f)))
 
 -- what was spelled
 pub spelled_is : (r : Option ℕ) (size : ℕ) (into : List ℕ) (rows items : List Row) → r ≡ Some size → IfSome r (HasTaken into (rows_bytes rows)) → rows ≡ items → take size into ≡ rows_bytes items
@@ -89,3 +73,10 @@ length_taken n into e =
     let both : length (take n into ++ drop n into) ≡ length into = ap length (take-append-drop n into) in
     let two = length-append (take n into) (drop n into) in
     omega (arith, both, two, e)
+
+-- the bytes of 64 rows fit
+pub rows_fit : (rows left : List Row) → left ≡ rows → length rows ≤ 64 → 1024 < length (rows_bytes left) → ⊥
+rows_fit rows left is few far =
+    let s = rows_sized rows in
+    let same : length (rows_bytes left) ≡ length (rows_bytes rows) = ap (λ (rs : List Row). length (rows_bytes rs)) is in
+    absurd (let a = s.is in let b = s.few in omega (arith, a, b, same, few, far))

@@ -1,5 +1,5 @@
 -- Giving back what was freed.
-use Rattle.std.proofs.Common.{◌≡◌, ℕ, ◌+◌, ◌<◌, List, length, Some, Bool, true, false, sym, ap, subst, ◌∙◌, refl, arith, slice_get, slice_set, inl, inr}
+use Rattle.std.proofs.Common.{◌≡◌, ℕ, ◌+◌, ◌<◌, List, length, Option, Some, Bool, true, false, sym, ap, subst, ◌∙◌, refl, arith, slice_get, slice_set, inl, inr}
 use Rattle.std.specs.Prelude.{◌&&◌}
 use Rattle.std.proofs.lemmas.Bool.{cases_eq}
 use Rattle.std.proofs.lemmas.List.{length-set}
@@ -7,8 +7,8 @@ use Rattle.std.proofs.lemmas.Option.{slice_get_within}
 use Rattle.sg_alloc.specs.Flags.{free_of}
 use Rattle.sg_alloc.proofs.Counted.{one_less, one_more}
 use Rattle.sg_actions.specs.Calls.{AreSettled}
-use Rattle.sg_actions.specs.Taken.{is_set, is_there, AreFlags}
-use Rattle.sg_actions.proofs.Flags.{set_by, get_set}
+use Rattle.sg_actions.specs.Taken.{is_set, is_there, AreFlags, AreSaid}
+use Rattle.sg_actions.proofs.Flags.{set_by, get_set, and_left}
 use Rattle.sg_actions.proofs.Taking.{set_here, set_there, none_freed}
 
 -- some of what was freed is given back
@@ -75,3 +75,7 @@ settled taken unfreed now unnow h none = record {
     by_flag n true e =
         let within : n < length now = slice_get_within now n true (get_set now n e) in
         e ∙ sym (ap (λ (b : Bool). b && is_set unnow n) e ∙ none_freed unnow n none (omega (arith, within, h.flags.long)))
+
+-- each that is still taken says what it said
+pub said_settled : {A : Type 0} (taken unfreed taken' unfreed' now : List Bool) (contents : ℕ → Option A) → AreSettled taken unfreed taken' unfreed' → now ≡ taken' → AreSaid taken contents → AreSaid now contents
+said_settled taken unfreed taken' unfreed' now contents h is said n set = said n (and_left (is_set taken n) (is_set unfreed n) (sym (h.there n) ∙ (sym (ap (λ (xs : List Bool). is_set xs n) is) ∙ set)))

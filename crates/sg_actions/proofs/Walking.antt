@@ -1,5 +1,5 @@
 -- The walk back over a log, record by record.
-use Rattle.std.proofs.Common.{◌≡◌, ◌⊎◌, ℕ, ◌==◌, ◌<◌, ◌≤◌, nat_le, nat_lt, cond, List, [], ◌∷◌, Option, Some, None, Bool, true, false, not, sym, ap, subst, ◌∙◌, refl, arith, inl, inr}
+use Rattle.std.proofs.Common.{◌≡◌, ◌⊎◌, ℕ, ◌==◌, ◌<◌, ◌≤◌, nat_le, nat_lt, cond, List, [], ◌∷◌, Option, Some, None, Bool, true, false, not, sym, ap, subst, ◌∙◌, refl, arith, inl, inr, IsSome}
 use Rattle.std.specs.Prelude.{◌&&◌, if◌then◌else◌}
 use Rattle.std.proofs.lemmas.Bool.{cases_Bool, cases_eq}
 use Rattle.sg_record.specs.Changes.{Change as Changing}
@@ -11,7 +11,7 @@ use Rattle.sg_recovery.proofs.Basic.{cond_true, cond_false, each_more, each_filt
 use Rattle.sg_recovery.proofs.Chaining.{clash, sound, other_live}
 use Rattle.sg_recovery.proofs.Showing.{without_not}
 use Rattle.sg_actions.specs.Steps.{Step, Steps, step_at}
-use Rattle.sg_actions.specs.Undoing.{first_behind, next_note, goes_to}
+use Rattle.sg_actions.specs.Undoing.{SeesBy, first_behind, next_note, goes_to}
 use Rattle.sg_actions.specs.Counts.{Note}
 use Rattle.sg_actions.proofs.Chained.{step_there, last_low}
 
@@ -279,3 +279,8 @@ next_is_first rs t n ns f is =
 pub record IsWalking (rs : Steps) (txn stop at : ℕ) : Type 0 where
   pub place : IsPlace rs txn at
   pub comes : walk stop at rs ≡ next_note txn stop rs
+
+-- an undo sees something at a record that is a step
+pub see_some : (o : Option Step) (note : List ℕ) → IsSome o → SeesBy o note None → ⊥
+see_some None note h s = absurd (cc)
+see_some (Some x) note h s = s

@@ -4,10 +4,8 @@ use Rattle.std.specs.Prelude.{if◌then◌else◌}
 use Rattle.sg_alloc.specs.declared.maps.Maps.{Maps}
 use Rattle.sg_base.specs.Overwritten.{overwritten}
 use Rattle.sg_ops.specs.Table.{Table}
-use Rattle.sg_record.specs.Changes.{Change as Changing}
 use Rattle.sg_record.specs.Changes.Change.{SegWrite}
-use Rattle.sg_record.specs.Records.Says.{Changed as SaysChanged}
-use Rattle.sg_record.specs.Shown.{by}
+use Rattle.sg_recovery.specs.Log.Record.{Change as ChangeStep}
 use Rattle.sg_action.specs.States.{State, Change, apply, made}
 use Rattle.sg_action.specs.States.Change.{Write}
 use Rattle.sg_action.specs.Opened.{StoodThere}
@@ -15,21 +13,17 @@ use Rattle.sg_action.proofs.Opened.{one_here, one_there}
 use Rattle.sg_space.specs.Bands.{Wrote}
 use Rattle.sg_actions.specs.Acting.{IsWell}
 use Rattle.sg_actions.specs.Changes.{meaning, bytes_with}
-use Rattle.sg_actions.specs.Engine.{EngineView, now_of, Logged}
-use Rattle.sg_actions.specs.Steps.{Steps, repeated, opened, begin_of}
-use Rattle.sg_actions.specs.Taken.{is_there, kept_of, units_there, writes_band}
-use Rattle.sg_actions.specs.View.{IsKept, acts_view, MayGive}
+use Rattle.sg_actions.specs.Engine.{EngineView, EngineSeen, now_of}
+use Rattle.sg_actions.specs.Steps.{Steps, opened, begin_of}
+use Rattle.sg_actions.specs.Taken.{is_there, units_there, writes_band}
+use Rattle.sg_actions.specs.View.{IsKept, acts_view, MayGiveNow}
 use Rattle.sg_actions.specs.declared.rows.Actor.{Actor}
 use Rattle.sg_actions.specs.declared.rows.Row.{Row}
 use Rattle.sg_actions.proofs.Acting.{acting_change}
 use Rattle.sg_actions.proofs.Calling.{MayGoOn}
 use Rattle.sg_actions.proofs.Flags.{there_is, at_there, written_in}
+use Rattle.sg_actions.proofs.Led.{Made}
 use Rattle.sg_actions.proofs.Repeating.{made_opened}
-
--- a fact of the open action, from one of it with the change
-about : (t : Table) (e e' : EngineView) (txn last lsn : ℕ) (c : Changing) (P : State → List Change → Type 0) → Logged e e' (by txn last (SaysChanged c)) lsn → P (begin_of t e.first e.steps) (meaning c ∷ opened e.steps) → P (begin_of t e'.first e'.steps) (opened e'.steps)
-about t e e' txn last lsn c P g h =
-    subst (λ (x : State). P (begin_of t x e'.steps) (opened e'.steps)) (sym g.first) (subst (λ (rs : Steps). P (begin_of t e.first rs) (opened rs)) (sym g.steps) h)
 
 -- THE OPEN ACTION GOES ON with a write
 pub goes_on_write : (t : Table) (limits : State → ℕ → ℕ) (begin : State) (ds : List Change) (pages bands : List Bool) (b at : ℕ) (before after : List ℕ) → StoodThere ((made t begin ds).bands b) at (length after) before
@@ -45,27 +39,27 @@ pub write_on : (t : Table) (limits : State → ℕ → ℕ) (e : EngineView) (ma
 write_on t limits e maps rows actor b at' count before after stood k lsn next above below = acting_change (SegWrite (bytes_with b at' count before after)) lsn next above below
     (goes_on_write t limits (begin_of t e.first e.steps) (opened e.steps) maps.pages maps.bands b at' before after (subst (λ (x : State). StoodThere (x.bands b) at' (length after) before) (sym (made_opened t e.first e.steps)) stood)) k
 
-pub shows_write : (t : Table) (limits : State → ℕ → ℕ) (e e' : EngineView) (breaks : ℕ) (maps unfreed : Maps) (b at count txn last lsn : ℕ) (before after : List ℕ) → is_there maps.bands unfreed.bands b ≡ true
-    → (e.Told → e'.Told) → (e.Told → Logged e e' (by txn last (SaysChanged (SegWrite (bytes_with b at count before after)))) lsn) → (e'.Told → e.Told)
-    → Wrote (acts_view t limits e breaks maps unfreed) (acts_view t limits e' breaks maps unfreed) b at after
-shows_write t limits e e' breaks maps unfreed b at count txn last lsn before after there still g back = record {
+pub shows_write : (t : Table) (limits : State → ℕ → ℕ) (e e' : EngineSeen) (begin : State) (breaks : ℕ) (maps unfreed : Maps) (b at count txn last lsn : ℕ) (before after : List ℕ) → is_there maps.bands unfreed.bands b ≡ true
+    → (e.Told → e'.Told) → (e'.Told → e.Told) → (e.Told → Made t e e' (ChangeStep txn last (SegWrite (bytes_with b at count before after))) lsn)
+    → Wrote (acts_view limits e begin breaks maps unfreed) (acts_view limits e' begin breaks maps unfreed) b at after
+shows_write t limits e e' begin breaks maps unfreed b at count txn last lsn before after there still back made = record {
   keeps = record {
     told = still;
     may_take = λ h. h;
-    may_have = λ q n h told'. let told = back told' in about t e e' txn last lsn (SegWrite (bytes_with b at count before after)) (λ x ds. MayGive t (kept_of limits maps.pages maps.bands x ds) x ds q n) (g told) (record { grown = (h told).grown; within = (h told).within });
+    may_have = λ q n h told'. let told = back told' in subst (λ (rs : Steps). MayGiveNow limits begin rs maps.pages maps.bands q n) (sym (made told).steps) (record { grown = (h told).grown; within = (h told).within });
   };
   bands = λ told. record {
     here = λ x is.
-        let old : (now_of t e).bands b ≡ x = same_some ((now_of t e).bands b) x (there_is maps.bands unfreed.bands (λ n. Some ((now_of t e).bands n)) b x is).is in
-        at_there maps.bands unfreed.bands (λ n. Some ((now_of t e').bands n)) b there
-        ∙ ap Some (ap (λ (y : State). y.bands b) (now told) ∙ (one_here (now_of t e).bands b (overwritten ((now_of t e).bands b) at after) ∙ ap (λ (xs : List ℕ). overwritten xs at after) old));
-    others = λ q ne. ap (λ (xs : List ℕ). if is_there maps.bands unfreed.bands q then Some xs else None) (ap (λ (y : State). y.bands q) (now told) ∙ one_there (now_of t e).bands b q (overwritten ((now_of t e).bands b) at after) ne);
+        let old : e.now.bands b ≡ x = same_some (e.now.bands b) x (there_is maps.bands unfreed.bands (λ n. Some (e.now.bands n)) b x is).is in
+        at_there maps.bands unfreed.bands (λ n. Some (e'.now.bands n)) b there
+        ∙ ap Some (ap (λ (y : State). y.bands b) (now told) ∙ (one_here e.now.bands b (overwritten (e.now.bands b) at after) ∙ ap (λ (xs : List ℕ). overwritten xs at after) old));
+    others = λ q ne. ap (λ (xs : List ℕ). if is_there maps.bands unfreed.bands q then Some xs else None) (ap (λ (y : State). y.bands q) (now told) ∙ one_there e.now.bands b q (overwritten (e.now.bands b) at after) ne);
     free = refl;
     count = refl;
   };
   pages = λ told. ap (λ (y : State). units_there maps.pages unfreed.pages y.pages) (now told);
-  writes = record { wrote = λ n h. let told = back h.0 in written_in b n (opened e.steps) told (sym (ap (λ (rs : Steps). writes_band (opened rs) n) (g told).steps) ∙ h.1) };
+  writes = record { wrote = λ n h. let told = back h.0 in written_in b n (opened e.steps) told (sym (ap (λ (rs : Steps). writes_band (opened rs) n) (made told).steps) ∙ h.1) };
 }
   where
-    now : e.Told → now_of t e' ≡ apply t (now_of t e) (Write b at before after)
-    now told = λ j. repeated t ((g told).first j) ((g told).steps j)
+    now : e.Told → e'.now ≡ apply t e.now (Write b at before after)
+    now told = (made told).now

@@ -11,7 +11,8 @@ use Rattle.sg_action.specs.States.{State}
 use Rattle.sg_recovery.specs.Log.{tally, is_in}
 use Rattle.sg_recovery.specs.Formed.{IsLog}
 use Rattle.sg_actions.specs.Acting.{IsChained}
-use Rattle.sg_actions.specs.Engine.{EngineView, Logged, Moments}
+use Rattle.sg_actions.specs.Engine.{EngineView, EngineSeen, Moments}
+use Rattle.sg_actions.specs.Led.{Appended}
 use Rattle.sg_actions.specs.Images.{Recovering}
 use Rattle.sg_actions.specs.Rows.{HasRow, placed, rows_after, at_rest}
 use Rattle.sg_actions.specs.Steps.{Step, Steps, stepped, ended}
@@ -26,6 +27,8 @@ pub record Appends (recovers : Recovering) (t : Table) (e e' : EngineView) (x : 
   pub above : e.tail ≤ e'.tried
   pub formed : IsLog e.base (stepped e.steps e'.tried x)
   pub moments : Moments recovers t e e' (stepped e.steps e'.tried x)
+  -- it is, where the engine still tells
+  pub gone : e'.Told → e'.steps ≡ stepped e.steps e'.tried x
 
 -- no action is open, and the system acts
 pub record IsAtRest (rs : Steps) (unfreed : Maps) (actor : Actor) : Type 0 where
@@ -38,7 +41,7 @@ pub record IsRoomy (rs : Steps) (unfreed : Maps) (rows : List Row) (actor : Acto
   pub rest : IsAtRest rs unfreed actor
   pub vacant : HasRow rows 0
 
-abbrev pub CanBegin : EngineView → Maps → List Row → Actor → Type 0
+abbrev pub CanBegin : EngineSeen → Maps → List Row → Actor → Type 0
 CanBegin e unfreed rows actor = e.Told → IsRoomy e.steps unfreed rows actor
 
 -- a transaction has begun, whose number is that of its record, and it has a row
@@ -47,7 +50,7 @@ pub record Begun (t : Table) (limits : State → ℕ → ℕ) (e e' : EngineView
   pub above : e.tail ≤ txn.0
   pub below : txn.0 < e'.tail
   pub told : e.Told → e'.Told
-  pub logged : e.Told → Logged e e' (by txn.0 0 Begin) txn.0
+  pub logged : e.Told → Appended e e' (by txn.0 0 Begin) txn.0
   pub rows_are : rows' ≡ placed rows 0 (record { txn = txn; last = txn.0 })
   pub kept : e.Told → IsKept t limits e maps rows actor → IsKept t limits e' maps rows' actor
 
@@ -56,7 +59,7 @@ pub record IsActable (rs : Steps) (unfreed : Maps) (rows : List Row) (actor : Ac
   pub rest : IsAtRest rs unfreed actor
   pub row : txn ≢ 0 → HasRow rows txn × (is_in txn (tally rs).live ≡ true)
 
-abbrev pub CanAct : EngineView → Maps → List Row → Actor → ℕ → Type 0
+abbrev pub CanAct : EngineSeen → Maps → List Row → Actor → ℕ → Type 0
 CanAct e unfreed rows actor txn = e.Told → IsActable e.steps unfreed rows actor txn
 
 -- it acts
@@ -75,7 +78,7 @@ pub record AreSettled (taken unfreed taken' unfreed' : List Bool) : Type 0 where
   pub long_un : length unfreed' ≡ length unfreed
 
 -- the transaction acts, or the system
-abbrev pub CanEnd : EngineView → Actor → ℕ → Type 0
+abbrev pub CanEnd : EngineSeen → Actor → ℕ → Type 0
 CanEnd e actor txn = e.Told → actor.txn.0 ≡ txn
 
 -- AN ACTION HAS ENDED: its end is appended, with the note and the record before the action; no action is open, what it freed is no longer
@@ -83,7 +86,7 @@ CanEnd e actor txn = e.Told → actor.txn.0 ≡ txn
 pub record ActionEnded (t : Table) (limits : State → ℕ → ℕ) (e e' : EngineView) (maps maps' unfreed unfreed' : Maps) (rows rows' : List Row) (actor actor' : Actor) (note : List ℕ) : Type 0 where
   pub lsn : ℕ
   pub told : e.Told → e'.Told
-  pub logged : e.Told → Logged e e' (by actor.txn.0 actor.last (TopEnd actor.before note)) lsn
+  pub logged : e.Told → Appended e e' (by actor.txn.0 actor.last (TopEnd actor.before note)) lsn
   pub rest : actor' ≡ at_rest
   pub rows_are : rows' ≡ rows_after rows actor.txn lsn
   pub pages : AreSettled maps.pages unfreed.pages maps'.pages unfreed'.pages

@@ -7,7 +7,7 @@ use Rattle.sg_recovery.specs.Log.{Top}
 use Rattle.sg_record.specs.Changes.{Change as Changing}
 use Rattle.sg_space.specs.declared.space.SpaceFault.{SpaceFault}
 use Rattle.sg_space.specs.declared.space.SpaceFault.TheVariants.{Disk, LogEnd}
-use Rattle.sg_actions.specs.Engine.{EngineView, IsNearEnd, Moments}
+use Rattle.sg_actions.specs.Engine.{EngineView, EngineSeen, IsNearEnd, Moments}
 use Rattle.sg_actions.specs.Images.{Recovering}
 use Rattle.sg_actions.specs.Rows.{last_in}
 use Rattle.sg_actions.specs.Steps.{Step, stepped}
@@ -17,8 +17,9 @@ abbrev pub Note : Type 0
 Note = Top Changing (List ℕ)
 
 -- On any engine: no call makes the count of faults or the log's end less, none fails without a cause, and after a failure it is told no more
-pub record ActsCounts {T : Type 0} (e e' : EngineView) (breaks breaks' : ℕ) (result : Result T SpaceFault) : Type 0 where
+pub record ActsCounts {T : Type 0} (e e' : EngineSeen) (breaks breaks' : ℕ) (result : Result T SpaceFault) : Type 0 where
   pub told : e'.Told → e.Told
+  pub tells : OnOk result (e.Told → e'.Told)
   pub later : e.faults + breaks ≤ e'.faults + breaks'
   pub quiet : OnOk result (e'.faults + breaks' ≡ e.faults + breaks)
   pub disk : IfErr result (λ f. f ≡ Disk → HasRisen (e.faults + breaks) (e'.faults + breaks'))

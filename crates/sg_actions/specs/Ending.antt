@@ -10,7 +10,8 @@ use Rattle.sg_action.specs.States.{State}
 use Rattle.sg_recovery.specs.Log.{tally, is_in, notes_of}
 use Rattle.sg_actions.specs.Calls.{IsAtRest, AreSettled}
 use Rattle.sg_actions.specs.Counts.{Note}
-use Rattle.sg_actions.specs.Engine.{EngineView, Logged}
+use Rattle.sg_actions.specs.Engine.{EngineView, EngineSeen}
+use Rattle.sg_actions.specs.Led.{Appended}
 use Rattle.sg_actions.specs.Rows.{last_in, HasRow, placed, rows_after, at_rest}
 use Rattle.sg_actions.specs.Steps.{Steps}
 use Rattle.sg_actions.specs.View.{IsKept}
@@ -25,7 +26,7 @@ pub record IsUndone (rs : Steps) (actor : Actor) (txn after : ℕ) : Type 0 wher
   pub notes : notes_of txn (tally rs).notes ≡ n ∷ rest
   pub goes_on : n.undo_next ≡ after
 
-abbrev pub CanEndUndo : EngineView → Actor → (txn after : ℕ) → Type 0
+abbrev pub CanEndUndo : EngineSeen → Actor → (txn after : ℕ) → Type 0
 CanEndUndo e actor txn after = e.Told → IsUndone e.steps actor txn after
 
 -- AN UNDO HAS ENDED: its end is appended, with where undoing goes on; no action is open, what it freed is no longer taken, and the space shows
@@ -33,7 +34,7 @@ CanEndUndo e actor txn after = e.Told → IsUndone e.steps actor txn after
 pub record UndoEnded (t : Table) (limits : State → ℕ → ℕ) (e e' : EngineView) (maps maps' unfreed unfreed' : Maps) (rows rows' : List Row) (actor actor' : Actor) (after : ℕ) : Type 0 where
   pub lsn : ℕ
   pub told : e.Told → e'.Told
-  pub logged : e.Told → Logged e e' (by actor.txn.0 actor.last (CompEnd after)) lsn
+  pub logged : e.Told → Appended e e' (by actor.txn.0 actor.last (CompEnd after)) lsn
   pub rest : actor' ≡ at_rest
   pub rows_are : rows' ≡ rows_after rows actor.txn lsn
   pub pages : AreSettled maps.pages unfreed.pages maps'.pages unfreed'.pages
@@ -46,7 +47,7 @@ pub record IsBetween (rs : Steps) (unfreed : Maps) (rows : List Row) (actor : Ac
   pub row : HasRow rows txn
   pub live : is_in txn (tally rs).live ≡ true
 
-abbrev pub CanMark : EngineView → Maps → List Row → Actor → ℕ → Type 0
+abbrev pub CanMark : EngineSeen → Maps → List Row → Actor → ℕ → Type 0
 CanMark e unfreed rows actor txn = e.Told → IsBetween e.steps unfreed rows actor txn
 
 -- a mark
@@ -59,7 +60,7 @@ pub record Marked (t : Table) (limits : State → ℕ → ℕ) (e e' : EngineVie
   pub last : ℕ
   pub was : last_in rows txn.0 ≡ Some last
   pub told : e.Told → e'.Told
-  pub logged : e.Told → Logged e e' (by txn.0 last (Save mark)) lsn
+  pub logged : e.Told → Appended e e' (by txn.0 last (Save mark)) lsn
   pub rows_are : rows' ≡ placed rows txn.0 (record { txn = txn; last = lsn })
   pub kept : e.Told → IsKept t limits e maps rows actor → IsKept t limits e' maps rows' actor
 
@@ -69,7 +70,7 @@ pub record Committed (t : Table) (limits : State → ℕ → ℕ) (e e' : Engine
   pub lsn : ℕ
   pub was : last_in rows txn.0 ≡ Some last
   pub told : e.Told → e'.Told
-  pub logged : e.Told → Logged e e' (by txn.0 last Commit) lsn
+  pub logged : e.Told → Appended e e' (by txn.0 last Commit) lsn
   pub durable : e'.Told → e'.durable ≡ e'.steps
   pub rows_are : rows' ≡ placed rows txn.0 (record { txn = txn; last = lsn })
   pub kept : e.Told → IsKept t limits e maps rows actor → IsKept t limits e' maps rows' actor
@@ -80,7 +81,7 @@ pub record IsEndable (rs : Steps) (unfreed : Maps) (rows : List Row) (actor : Ac
   pub row : HasRow rows txn
   pub some : txn ≢ 0
 
-abbrev pub CanClose : EngineView → Maps → List Row → Actor → ℕ → Type 0
+abbrev pub CanClose : EngineSeen → Maps → List Row → Actor → ℕ → Type 0
 CanClose e unfreed rows actor txn = e.Told → IsEndable e.steps unfreed rows actor txn
 
 -- a vacant row
@@ -93,7 +94,7 @@ pub record Closed (t : Table) (limits : State → ℕ → ℕ) (e e' : EngineVie
   pub lsn : ℕ
   pub was : last_in rows txn.0 ≡ Some last
   pub told : e.Told → e'.Told
-  pub logged : e.Told → Logged e e' (by txn.0 last End) lsn
+  pub logged : e.Told → Appended e e' (by txn.0 last End) lsn
   pub rows_are : rows' ≡ placed rows txn.0 vacant
   pub room : HasRow rows' 0
   pub kept : e.Told → IsKept t limits e maps rows actor → IsKept t limits e' maps rows' actor

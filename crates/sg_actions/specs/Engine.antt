@@ -8,7 +8,7 @@ use Rattle.sg_ops.specs.Steps.{uses_table}
 use Rattle.sg_ops.specs.Table.{Table, range_at}
 use Rattle.sg_record.specs.Changes.{Change as Changing}
 use Rattle.sg_record.specs.Changes.Change.{Page, SegWrite, SegOp}
-use Rattle.sg_record.specs.Records.{Record, Says}
+use Rattle.sg_record.specs.Records.{Record, Says, spelled}
 use Rattle.sg_record.specs.Reading.{parse}
 use Rattle.sg_base.specs.Page.{stored}
 use Rattle.sg_recovery.specs.Log.Record.{Change, PhysComp}
@@ -19,18 +19,17 @@ use Rattle.sg_actions.specs.Changes.{op_said, meaning}
 use Rattle.sg_actions.specs.Images.{Grows, Recovering, IsImageOf}
 use Rattle.sg_actions.specs.Steps.{Step, Steps, step_of, step_at, with_step, repeated}
 
-pub record EngineView : Type 1 where
+-- WHAT AN ENGINE SHOWS, whatever its records mean and wherever they lead from
+pub record EngineSeen : Type 1 where
   -- the log and the contents are known, and only what can be done is asked of it
   pub Told : Type 0
-  -- what its looks answer is what its records make
-  pub Shows : Type 0
   -- A call failed. No later call is one of the disk.
   pub failed : Bool
   pub disk : disk.View
   -- the number of the log's first byte
   pub base : ℕ
-  -- the pages and bands before the first of the steps
-  pub first : State
+  -- the pages and bands now, by what it holds
+  pub now : State
   -- the records appended so far, but for those of no transaction, the newest first
   pub steps : Steps
   -- those of them that are durable, whatever comes
@@ -46,14 +45,66 @@ pub record EngineView : Type 1 where
   -- how many records its calls have appended
   pub records : ℕ
 
+-- the same, with the pages and bands before the first of its steps
+pub record EngineView : Type 1 where
+  pub Told : Type 0
+  pub failed : Bool
+  pub disk : disk.View
+  pub base : ℕ
+  -- the pages and bands before the first of the steps
+  pub first : State
+  pub now : State
+  pub steps : Steps
+  pub durable : Steps
+  pub tail : ℕ
+  pub next : Says → ℕ
+  pub tried : ℕ
+  pub faults : ℕ
+  pub records : ℕ
+
+-- what an engine shows, whose steps lead from these pages and bands
+abbrev pub led : State → EngineSeen → EngineView
+led first s = record {
+  Told = s.Told;
+  failed = s.failed;
+  disk = s.disk;
+  base = s.base;
+  first = first;
+  now = s.now;
+  steps = s.steps;
+  durable = s.durable;
+  tail = s.tail;
+  next = s.next;
+  tried = s.tried;
+  faults = s.faults;
+  records = s.records;
+}
+
+-- and the same without them
+abbrev pub seen : EngineView → EngineSeen
+seen e = record {
+  Told = e.Told;
+  failed = e.failed;
+  disk = e.disk;
+  base = e.base;
+  now = e.now;
+  steps = e.steps;
+  durable = e.durable;
+  tail = e.tail;
+  next = e.next;
+  tried = e.tried;
+  faults = e.faults;
+  records = e.records;
+}
+
 abbrev pub LOG_END : ℕ
 LOG_END = 2 ^ 63
 
 -- one more record may pass the end of the log
-abbrev pub IsNearEnd : EngineView → Type 0
+abbrev pub IsNearEnd : EngineSeen → Type 0
 IsNearEnd e = LOG_END < e.tail + 131072
 
--- what the pages and bands are now
+-- what the steps make of the pages and bands before them
 abbrev pub now_of : Table → EngineView → State
 now_of t e = repeated t e.first e.steps
 
@@ -86,8 +137,8 @@ Knows t (Change u p c) = KnowsChange t c
 Knows t _ = ⊤
 
 -- a step may be appended, and where it uses registered operations, this holds of them
-pub record IsLoggable (t : Table) (Means : Type 0) (e : EngineView) (x : Step) : Type 0 where
-  pub fits : Fits t (now_of t e) x
+pub record IsLoggable (t : Table) (Means : Type 0) (e : EngineSeen) (x : Step) : Type 0 where
+  pub fits : Fits t e.now x
   pub known : Knows t x
   pub means : StepUsesTable x → Means
 
@@ -95,13 +146,23 @@ abbrev pub IfStep : Option Step → (Step → Type 0) → Type 0
 IfStep None P = ⊤
 IfStep (Some x) P = P x
 
-abbrev pub CanLog : Table → (Means : Type 0) → EngineView → Record → Type 0
+abbrev pub CanLog : Table → (Means : Type 0) → EngineSeen → Record → Type 0
 CanLog t Means e r = e.Told → IfStep (step_of r) (IsLoggable t Means e)
+
+-- WHAT A CALL KEEPS: the operations that an engine's records are of, and the pages and bands that they lead from
+abbrev pub Keeps : (old new : Table → State → Type 0) → Type 0
+Keeps old new = (t : Table) (from : State) → old t from → new t from
+
+-- its records are of these operations, wherever they lead from
+abbrev pub AreBy : (means : Table → State → Type 0) → Table → Type 0
+AreBy means t = ∥ ((from : State) × means t from) ∥₁
 
 -- What each call keeps, on any engine: no call makes the count of faults or the log's end less, and none fails without a cause. It is
 -- told no more after a failure, and makes no call of the disk
-pub record EngineCounts {T : Type 0} (old new : EngineView) (result : Result T SpaceFault) : Type 0 where
+pub record EngineCounts {T : Type 0} (old new : EngineSeen) (result : Result T SpaceFault) : Type 0 where
   pub told : new.Told → old.Told
+  pub tells : OnOk result (old.Told → new.Told)
+  pub base : new.base ≡ old.base
   pub later : old.faults ≤ new.faults
   pub quiet : OnOk result (new.faults ≡ old.faults)
   pub disk : IfErr result (λ e. e ≡ Disk → HasRisen old.faults new.faults)
@@ -110,60 +171,57 @@ pub record EngineCounts {T : Type 0} (old new : EngineView) (result : Result T S
   pub failed : OnErr result (new.failed ≡ true)
   pub stops : old.failed ≡ true → (new.failed ≡ true) × (new.disk ≡ old.disk)
 
+-- the number of a record that was appended
+pub record IsPlaced (old new : EngineSeen) (lsn : ℕ) : Type 0 where
+  pub above : old.tail ≤ lsn
+  pub below : lsn < new.tail
+  pub tried : lsn ≡ new.tried
+
+-- A CALL THAT APPENDS NO RECORD, on any engine: it isn't refused for the log's end, and that stays where it is
+pub record EngineRests {T : Type 0} (old new : EngineSeen) (result : Result T SpaceFault) : Type 0 where
+  pub counts : EngineCounts old new result
+  pub only_disk : IfErr result (λ e. e ≡ Disk)
+  pub records : new.records ≡ old.records
+  pub tail : new.tail ≡ old.tail
+
+-- A CALL THAT APPENDS A RECORD, on any engine: the log grows by its bytes, and by the head of a frame at most; where it fails nothing is
+-- counted
+pub record EngineGrows (old new : EngineSeen) (r : Record) (result : Result ℕ SpaceFault) : Type 0 where
+  pub counts : EngineCounts old new result
+  pub few : new.records ≤ old.records + 1
+  pub counted : OnOk result (new.records ≡ old.records + 1)
+  pub same : OnErr result (new.records ≡ old.records)
+  pub back : OnErr result (new.tail ≡ old.tail)
+  pub grown : new.tail ≤ old.tail + (5 + length (spelled r))
+  pub placed : IfOk result (IsPlaced old new)
+
 -- each image of each moment from the first on has a front of these steps, with all that were durable at first
 abbrev pub Moments : Recovering → Table → (old new : EngineView) → Steps → Type 0
 Moments recovers t old new log = LeavesOnly old.disk new.disk (IsImageOf recovers t old.first old.durable log)
 
 -- THE RECORD IS APPENDED and its change made, in an engine that tells
 pub record Logged (old new : EngineView) (r : Record) (lsn : ℕ) : Type 0 where
-  pub number : old.tail ≤ lsn
-  pub base : new.base ≡ old.base
-  pub first : new.first ≡ old.first
   pub steps : new.steps ≡ with_step old.steps lsn (step_of r)
-  pub tail : lsn < new.tail
   pub durable : Grows old.durable new.durable
 
--- the record is appended. What is said of the log is said where the engine tells, but for the number
-pub record HasLogged (old new : EngineView) (r : Record) (lsn : ℕ) : Type 0 where
-  pub told : old.Told → new.Told
-  pub shows : old.Shows → new.Shows
-  pub above : old.tail ≤ lsn
-  pub below : lsn < new.tail
-  pub tried : lsn ≡ new.tried
-  pub logged : old.Told → Logged old new r lsn
-
 pub record Logs (recovers : Recovering) (t : Table) (old new : EngineView) (r : Record) (result : Result ℕ SpaceFault) : Type 0 where
-  pub counts : EngineCounts old new result
-  pub few : new.records ≤ old.records + 1
-  pub did : IfOk result (HasLogged old new r)
+  pub did : IfOk result (λ lsn. old.Told → Logged old new r lsn)
   -- also of a call that fails
   pub above : old.Told → old.tail ≤ new.tried
   pub moments : old.Told → Moments recovers t old new (with_step old.steps new.tried (step_of r))
 
 -- nothing is appended or changed, in an engine that tells
 pub record Stays (old new : EngineView) : Type 0 where
-  pub base : new.base ≡ old.base
-  pub first : new.first ≡ old.first
   pub steps : new.steps ≡ old.steps
-  pub tail : old.tail ≤ new.tail
   pub durable : Grows old.durable new.durable
 
-pub record HasStayed (old new : EngineView) : Type 0 where
-  pub told : old.Told → new.Told
-  pub shows : old.Shows → new.Shows
-  pub stays : old.Told → Stays old new
-
 pub record EngineLooks {T : Type 0} (recovers : Recovering) (t : Table) (old new : EngineView) (result : Result T SpaceFault) : Type 0 where
-  pub counts : EngineCounts old new result
-  -- it appends no record, so none can pass the end of the log
-  pub only_disk : IfErr result (λ e. e ≡ Disk)
-  pub records : new.records ≡ old.records
-  pub stays : OnOk result (HasStayed old new)
+  pub stays : OnOk result (old.Told → Stays old new)
   -- also of a call that fails
   pub moments : old.Told → Moments recovers t old new old.steps
 
 -- all that is appended is durable
-abbrev pub IsForced : EngineView → Type 0
+abbrev pub IsForced : EngineSeen → Type 0
 IsForced e = e.Told → e.durable ≡ e.steps
 
 -- each image that a crash now leaves has a front of the steps
@@ -171,17 +229,17 @@ abbrev pub StandsNow : Recovering → Table → EngineView → Type 0
 StandsNow recovers t e = (c : Image) → Leaves e.disk.now c → IsImageOf recovers t e.first e.durable e.steps c
 
 -- a look at a page gives what it says now
-abbrev pub CanLookAt : Table → EngineView → ℕ → Type 0
-CanLookAt t e p = e.Told → IsSome ((now_of t e).pages p)
+abbrev pub CanLookAt : EngineSeen → ℕ → Type 0
+CanLookAt e p = e.Told → IsSome (e.now.pages p)
 
-abbrev pub LookedAt : Table → EngineView → ℕ → Sheet → Type 0
-LookedAt t e p sheet = e.Shows → (now_of t e).pages p ≡ Some sheet
+abbrev pub LookedAt : EngineSeen → ℕ → Sheet → Type 0
+LookedAt e p sheet = e.now.pages p ≡ Some sheet
 
-abbrev pub LookedAtBand : Table → EngineView → ℕ → List ℕ → Type 0
-LookedAtBand t e b bytes = e.Shows → (now_of t e).bands b ≡ bytes
+abbrev pub LookedAtBand : EngineSeen → ℕ → List ℕ → Type 0
+LookedAtBand e b bytes = e.now.bands b ≡ bytes
 
 -- the log has a record with this number
-abbrev pub HasStep : EngineView → ℕ → Type 0
+abbrev pub HasStep : EngineSeen → ℕ → Type 0
 HasStep e at = e.Told → IsSome (step_at e.steps at)
 
 -- these bytes are those of a record that is the step with this number
@@ -190,7 +248,7 @@ pub record IsStepAt (rs : Steps) (at : ℕ) (bytes : List ℕ) : Type 0 where
   pub is : parse bytes ≡ Ok (what, length bytes)
   pub step : step_at rs at ≡ step_of what
 
-abbrev pub ReadsStep : EngineView → ℕ → List ℕ → Type 0
+abbrev pub ReadsStep : EngineSeen → ℕ → List ℕ → Type 0
 ReadsStep e at bytes = e.Told → IsStepAt e.steps at bytes
 
 -- each page has no more cells than it has bytes for

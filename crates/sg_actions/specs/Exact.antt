@@ -3,10 +3,17 @@ use Rattle.sg_base.specs.Page.{bytes_of, stored}
 use Rattle.sg_base.specs.Sheet.{Sheet}
 use Rattle.std.proofs.Common.{◌≡◌, ℕ, zero, suc, ◌+◌, ◌*◌, ◌<◌, ◌≤◌, List, [], ◌∷◌, length, Option, Some, None, IsSome, is_none, Bool, true, false, not, sym, ap, ◌∙◌, refl, arith, cond, count_by}
 use Rattle.std.specs.Prelude.{◌&&◌, if◌then◌else◌}
+use mathlib.Core.Logic.{∥∥₁_elim}
+use Rattle.std.proofs.Props.{props}
 use Rattle.std.specs.List.{range_with_len}
 use Rattle.std.proofs.lemmas.List.Sums.{sum_by-cons}
 use Rattle.sg_alloc.specs.Flags.{free_of}
 use Rattle.sg_space.specs.Units.{IsExact}
+use Rattle.sg_alloc.specs.declared.maps.Maps.{Maps}
+use Rattle.sg_ops.specs.Table.{Table}
+use Rattle.sg_action.specs.States.{State}
+use Rattle.sg_actions.specs.Engine.{EngineSeen, ArePagesFit}
+use Rattle.sg_actions.specs.View.{acts_view}
 use Rattle.sg_actions.specs.Taken.{is_set, is_there, units_there, AreFlags, AreSaid}
 
 -- a flag past the last is clear
@@ -70,3 +77,8 @@ there_is false o x e = absurd cc
 pub pages_within : (taken unfreed : List Bool) (contents : ℕ → Option Sheet) → ((n : ℕ) (p : Sheet) → contents n ≡ Some p → 4 * length p.slots + stored p.slots ≤ 4072)
     → (n : ℕ) (sheet : Sheet) → (units_there taken unfreed contents).at n ≡ Some sheet → bytes_of sheet.slots ≤ 4072
 pages_within taken unfreed contents fit n sheet is = fit n sheet (there_is (is_there taken unfreed n) (contents n) sheet is)
+
+-- the same of an engine whose pages fit, whatever its records mean
+pub pages_fit_some : (limits : State → ℕ → ℕ) (means : Table → State → Type 0) (e : EngineSeen) (begin : State) (breaks : ℕ) (maps unfreed : Maps) → ∥ ((t : Table) × (from : State) × means t from) ∥₁ → ((t : Table) (from : State) → means t from → ArePagesFit e.now)
+    → (n : ℕ) (sheet : Sheet) → (acts_view limits e begin breaks maps unfreed).space.pages.at n ≡ Some sheet → bytes_of sheet.slots ≤ 4072
+pages_fit_some limits means e begin breaks maps unfreed some fit n sheet is = ∥∥₁_elim some (hlevel props) (λ x. pages_within maps.pages unfreed.pages e.now.pages (fit x.0 x.1 x.2) n sheet is)

@@ -1,7 +1,6 @@
 -- What passes through any calls of the open action, whether they failed or not.
-use Rattle.std.specs.Prelude.{◌≡◌, ℕ, ◌≤◌, Bool, true, false, List, [], ◌∷◌, ◌++◌, map}
+use Rattle.std.specs.Prelude.{◌≡◌, ℕ, ◌+◌, ◌*◌, ◌≤◌, Bool, true, false, List, [], ◌∷◌, ◌++◌, length, map}
 use Rattle.sg_alloc.specs.declared.maps.Maps.{Maps}
-use Rattle.sg_ops.specs.Laws.{IsLawful}
 use Rattle.sg_ops.specs.Table.{Table}
 use Rattle.sg_record.specs.Changes.{Change as Changing}
 use Rattle.sg_recovery.specs.Chains.{next_lsn}
@@ -9,17 +8,19 @@ use Rattle.sg_recovery.specs.Formed.{IsLog}
 use Rattle.sg_recovery.specs.Log.{tally, changes_of}
 use Rattle.sg_recovery.specs.Log.Record.{Change}
 use Rattle.sg_action.specs.Opened.{TakesTo}
-use Rattle.sg_action.specs.States.{State, Kept}
+use Rattle.sg_action.specs.States.{State, Kept, Change as Changed}
+use Rattle.sg_before.specs.Befores.{AreFilled, IsTakenBy, written_on}
 use Rattle.sg_actions.specs.Changes.{meaning}
-use Rattle.sg_actions.specs.Engine.{EngineView, Moments}
+use Rattle.sg_actions.specs.Engine.{EngineView, EngineSeen, Moments, led}
 use Rattle.sg_actions.specs.Images.{Grows, Recovering}
 use Rattle.sg_actions.specs.Offed.{kept_in}
-use Rattle.sg_actions.specs.Steps.{Steps, begin_of, repeated}
-use Rattle.sg_actions.specs.View.{IsKept}
+use Rattle.sg_actions.specs.Steps.{Steps, begin_of, opened, repeated}
+use Rattle.sg_actions.specs.Taken.{is_set, takes_band}
+use Rattle.sg_actions.specs.View.{IsKept, Since}
 use Rattle.sg_actions.specs.declared.rows.Actor.{Actor}
 use Rattle.sg_actions.specs.declared.rows.Row.{Row}
 
--- a space over an engine at one moment
+-- a space over an engine at one moment, with the pages and bands that its steps lead from
 pub record At : Type 1 where
   pub engine : EngineView
   pub maps : Maps
@@ -73,12 +74,50 @@ pub record Went (recovers : Recovering) (t : Table) (limits : State → ℕ → 
   pub moments : Moments recovers t a.engine b.engine (made ++ a.engine.steps)
   pub gone : b.engine.failed ≡ false → HasGone t limits a b made
 
--- THE RELATION that a space over an engine hands through every call
-pub record Later (recovers : Recovering) (own : Table) (limits : State → ℕ → ℕ) (t : Table) (a b : At) : Type 0 where
+-- what a space over an engine shows at one moment
+pub record ActsAt : Type 1 where
+  pub engine : EngineSeen
+  -- the operations that its records are of, and the pages and bands that its steps lead from
+  pub means : Table → State → Type 0
+  pub maps : Maps
+  pub rows : List Row
+  pub actor : Actor
+  pub begun : Bool
+
+-- The same of an engine that means this, and that held `begin` when the open action began
+abbrev pub acts_at : EngineSeen → (means : Table → State → Type 0) → (begin : State) → Maps → List Row → Actor → (begun : Bool) → ActsAt
+acts_at e means begin maps rows actor begun = record { engine = e; means = Since means e begun begin; maps = maps; rows = rows; actor = actor; begun = begun }
+
+abbrev pub led_at : State → ActsAt → At
+led_at from a = record { engine = led from a.engine; maps = a.maps; rows = a.rows; actor = a.actor; begun = a.begun }
+
+-- THE BANDS OF AN OPEN ACTION, by those that were taken when it began, its changes and those that are taken now: what it took it filled with
+-- zeros, all of it, and before it wrote there; and it wrote on no other band than one that was taken when it began
+pub record KeepsBands (t : Table) (kept : Kept) (ds : List Changed) (bands : List Bool) : Type 0 where
+  pub filled : AreFilled t kept ds
+  pub whole : (b : ℕ) → takes_band ds b ≡ true → IsTakenBy ds b
+  pub used : (b : ℕ) → takes_band ds b ≡ true → is_set bands b ≡ true
+  pub written : (b : ℕ) → written_on ds b ≡ true → is_set bands b ≡ true
+
+abbrev pub at_bands : Table → (State → ℕ → ℕ) → At → Type 0
+at_bands t limits a = KeepsBands t (kept_at t limits a) (opened a.engine.steps) a.maps.bands
+
+-- THE RELATION that a space over an engine hands through every call with operations that mean this, wherever its steps lead from. A strict one
+-- also says that the bands of the open action are kept: the bytes that an undo puts back it writes wherever they stood
+pub record LaterBy (strict : Bool) (recovers : Table → Recovering) (limits : State → ℕ → ℕ) (t : Table) (a b : ActsAt) : Type 0 where
   pub told : b.engine.Told → a.engine.Told
   pub tail : a.engine.tail ≤ b.engine.tail
   pub faults : a.engine.faults ≤ b.engine.faults
+  -- the log has grown by at most 16,417 bytes for each record that was counted, and the 5 of a frame's head
+  pub grown : b.engine.tail + 16422 * a.engine.records ≤ a.engine.tail + 16422 * b.engine.records
   pub begun : b.begun ≡ a.begun
+  pub pages : length b.maps.pages ≡ length a.maps.pages
+  pub bands : length b.maps.bands ≡ length a.maps.bands
   -- one that has failed calls the disk no more
   pub stops : a.engine.failed ≡ true → (b.engine.failed ≡ true) × (b.engine.disk ≡ a.engine.disk)
-  pub goes : t ≡ own → IsLawful own → a.engine.Told → at_kept own limits a → Went recovers own limits a b
+  pub means : (from : State) → a.means t from → b.means t from
+  pub goes : (from : State) → a.means t from → a.engine.Told → at_kept t limits (led_at from a) → Went (recovers t) t limits (led_at from a) (led_at from b)
+  pub holds : strict ≡ true → (from : State) → a.means t from → a.engine.Told → at_kept t limits (led_at from a) → b.engine.failed ≡ false → at_bands t limits (led_at from a) → at_bands t limits (led_at from b)
+
+abbrev pub Later : (recovers : Table → Recovering) (limits : State → ℕ → ℕ) (t : Table) (a b : ActsAt) → Type 0
+Later = LaterBy false

@@ -2,6 +2,7 @@ pub mod Changes
 pub mod Steps
 pub mod Images
 pub mod Engine
+pub mod Led
 pub mod Taken
 pub mod Rows
 pub mod TakingOff
@@ -20,3 +21,4 @@ pub mod Painting
 pub mod Undoing
 pub mod Notes
 pub mod PuttingBack
+pub mod WentOff

@@ -1,5 +1,5 @@
 -- The laws of the relation that a space over an engine hands through every call: of no call, and of one after another.
-use Rattle.std.proofs.Common.{◌≡◌, ℕ, ◌≤◌, List, [], ◌∷◌, ◌++◌, Bool, true, false, sym, ap, subst, ◌∙◌, refl, append_assoc, arith}
+use Rattle.std.proofs.Common.{◌≡◌, ℕ, ◌≤◌, List, [], ◌∷◌, ◌++◌, Bool, true, false, length, sym, ap, subst, ◌∙◌, refl, append_assoc, arith}
 use Rattle.std.specs.Prelude.{map}
 use Rattle.sg_alloc.specs.declared.maps.Maps.{Maps}
 use Rattle.sg_ops.specs.Table.{Table}
@@ -11,9 +11,10 @@ use Rattle.sg_action.specs.Opened.{TakesTo}
 use Rattle.sg_action.specs.States.{State, Kept}
 use Rattle.sg_actions.specs.Acting.{IsChained}
 use Rattle.sg_actions.specs.Changes.{meaning}
-use Rattle.sg_actions.specs.Engine.{EngineView, Stays, Moments, StandsNow}
+use Rattle.sg_actions.specs.Engine.{EngineView, Moments, StandsNow, led}
+use Rattle.sg_actions.specs.Led.{Stayed}
 use Rattle.sg_actions.specs.Images.{Recovering}
-use Rattle.sg_actions.specs.Later.{At, at_kept, kept_at, begin_at, AreChanges, HasGone, Went, Later}
+use Rattle.sg_actions.specs.Later.{At, ActsAt, led_at, at_kept, at_bands, kept_at, begin_at, AreChanges, HasGone, Went, LaterBy}
 use Rattle.sg_actions.specs.Steps.{Steps, opened, begin_of, repeated}
 use Rattle.sg_actions.specs.Taken.{kept_of}
 use Rattle.sg_actions.specs.TakingOff.{IsRunning, AreRows}
@@ -77,7 +78,7 @@ at e maps rows actor begun = record { engine = e; maps = maps; rows = rows; acto
 
 -- a call that appends nothing
 pub went_rest : (recovers : Recovering) (t : Table) (limits : State → ℕ → ℕ) (e e' : EngineView) (maps : Maps) (rows : List Row) (actor : Actor) (begun : Bool) → IsKept t limits e maps rows actor → Moments recovers t e e' e.steps
-    → (e'.failed ≡ false → e'.Told × Stays e e') → Went recovers t limits (at e maps rows actor begun) (at e' maps rows actor begun)
+    → (e'.failed ≡ false → e'.Told × Stayed e e') → Went recovers t limits (at e maps rows actor begun) (at e' maps rows actor begun)
 went_rest recovers t limits e e' maps rows actor begun k m g = record {
   made = [];
   rests = λ o. refl;
@@ -140,22 +141,43 @@ went_then recovers t limits a b c w same_open stops next = by_failed b.engine.fa
     by_failed false is = let h = w.gone is in went_on h (next h.told h.kept)
 
 -- THE LAWS of the relation
-pub later_same : (recovers : Recovering) (own : Table) (limits : State → ℕ → ℕ) (t : Table) (a : At) → (a.engine.Told → StandsNow recovers own a.engine) → Later recovers own limits t a a
-later_same recovers own limits t a stands = record {
+pub later_same : {strict : Bool} (recovers : Table → Recovering) (limits : State → ℕ → ℕ) (t : Table) (a : ActsAt) → ((from : State) → a.means t from → a.engine.Told → StandsNow (recovers t) t (led from a.engine)) → LaterBy strict recovers limits t a a
+later_same recovers limits t a stands = record {
   told = λ h. h;
   tail = omega arith;
   faults = omega arith;
+  grown = omega arith;
   begun = refl;
+  pages = refl;
+  bands = refl;
   stops = λ h. (h, refl);
-  goes = λ is law told k. went_rest recovers own limits a.engine a.engine a.maps a.rows a.actor a.begun k (moments_same a.engine (stands told)) (λ w. (told, record { base = refl; first = refl; steps = refl; tail = omega arith; durable = grows_same a.engine.durable }));
+  means = λ from m. m;
+  goes = λ from m told k. went_rest (recovers t) t limits (led from a.engine) (led from a.engine) a.maps a.rows a.actor a.begun k (moments_same (led from a.engine) (stands from m told))
+      (λ w. (told, record { base = refl; first = refl; steps = refl; tail = omega arith; durable = grows_same a.engine.durable }));
+  holds = λ o from m told k w h. h;
 }
 
-pub later_then : (recovers : Recovering) (own : Table) (limits : State → ℕ → ℕ) (t : Table) (a b c : At) → Later recovers own limits t a b → Later recovers own limits t b c → Later recovers own limits t a c
-later_then recovers own limits t a b c f g = record {
+pub later_on : {strict : Bool} (recovers : Table → Recovering) (limits : State → ℕ → ℕ) (t : Table) (a b c : ActsAt) → LaterBy strict recovers limits t a b → LaterBy strict recovers limits t b c → LaterBy strict recovers limits t a c
+later_on {strict} recovers limits t a b c f g = record {
   told = λ h. f.told (g.told h);
   tail = let x = f.tail in let y = g.tail in omega (arith, x, y);
   faults = let x = f.faults in let y = g.faults in omega (arith, x, y);
+  grown = let x = f.grown in let y = g.grown in omega (arith, x, y);
   begun = g.begun ∙ f.begun;
+  pages = g.pages ∙ f.pages;
+  bands = g.bands ∙ f.bands;
   stops = λ h. (let x = f.stops h in let y = g.stops x.0 in (y.0, y.1 ∙ x.1));
-  goes = λ is law told k. went_then recovers own limits a b c (f.goes is law told k) f.begun g.stops (λ told' k'. g.goes is law told' k');
+  means = λ from m. g.means from (f.means from m);
+  goes = λ from m told k. went_then (recovers t) t limits (led_at from a) (led_at from b) (led_at from c) (f.goes from m told k) f.begun g.stops (λ told' k'. g.goes from (f.means from m) told' k');
+  holds = λ o from m told k w h. by_failed o from m told k w h b.engine.failed refl;
 }
+  where
+    by_failed : strict ≡ true → (from : State) → a.means t from → a.engine.Told → at_kept t limits (led_at from a) → c.engine.failed ≡ false → at_bands t limits (led_at from a) → (x : Bool) → b.engine.failed ≡ x → at_bands t limits (led_at from c)
+    by_failed o from m told k w h true is = no c.engine.failed (g.stops is).0 w
+    by_failed o from m told k w h false is = let n = (f.goes from m told k).gone is in g.holds o from (f.means from m) n.told n.kept w (f.holds o from m told k is h)
+
+-- the same, by limits of so many pages and bands
+pub later_then : {strict : Bool} (recovers : Table → Recovering) (limits : (pages bands : ℕ) → State → ℕ → ℕ) (t : Table) (a b c : ActsAt) → LaterBy strict recovers (limits (length a.maps.pages) (length a.maps.bands)) t a b → LaterBy strict recovers (limits (length b.maps.pages) (length b.maps.bands)) t b c
+    → LaterBy strict recovers (limits (length a.maps.pages) (length a.maps.bands)) t a c
+later_then {strict} recovers limits t a b c f g = later_on recovers (limits (length a.maps.pages) (length a.maps.bands)) t a b c f
+    (subst (λ (l : State → ℕ → ℕ). LaterBy strict recovers l t b c) (λ j. limits (f.pages j) (f.bands j)) g)

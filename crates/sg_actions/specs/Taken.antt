@@ -1,6 +1,7 @@
 -- Which pages and bands are taken, and which of these the open action has freed.
-use Rattle.std.specs.Prelude.{◌≡◌, ◌<◌, ◌^◌, ℕ, ◌+◌, ◌==◌, ◌&&◌, ◌||◌, Bool, true, false, not, if◌then◌else◌, List, [], ◌∷◌, length, slice_index_or, Option, None, IsSome}
+use Rattle.std.specs.Prelude.{◌≡◌, ◌<◌, ◌^◌, ℕ, ◌+◌, ◌==◌, ◌&&◌, ◌||◌, nat_lt, Bool, true, false, not, if◌then◌else◌, List, [], ◌∷◌, length, slice_index_or, Option, None, IsSome}
 use Rattle.sg_alloc.specs.Flags.{free_of}
+use Rattle.sg_base.specs.Op.{Op}
 use Rattle.sg_action.specs.States.{State, Change, Kept}
 use Rattle.sg_action.specs.States.Change.{Page, Write, Paint}
 use Rattle.sg_action.specs.Opened.{formats}
@@ -58,6 +59,37 @@ touches (Paint c at count code position arg before) b = b == c
 abbrev pub writes_band : List Change → ℕ → Bool
 writes_band [] b = false
 writes_band (d ∷ ds) b = touches d b || writes_band ds b
+
+-- how many bytes the cell had that an operation puts back
+abbrev pub back_size : Op → ℕ
+back_size (Op.Format kind) = 0
+back_size (Op.Put slot bytes) = 0
+back_size (Op.Remove slot) = 0
+back_size (Op.Set slot bytes) = length bytes
+back_size (Op.Links links) = 0
+back_size (Op.Item slot code arg) = 0
+back_size (Op.ItemBack slot code arg) = 0
+
+-- an operation leaves fewer bytes in the cells of its page, by the one that takes it off
+abbrev pub lessens_by : Op → (back : Op) → Bool
+lessens_by (Op.Format kind) back = false
+lessens_by (Op.Put slot bytes) back = false
+lessens_by (Op.Remove slot) back = true
+lessens_by (Op.Set slot bytes) back = nat_lt (length bytes) (back_size back)
+lessens_by (Op.Links links) back = false
+lessens_by (Op.Item slot code arg) back = false
+lessens_by (Op.ItemBack slot code arg) back = false
+
+-- the change is such an operation on this page
+abbrev pub lessens : Change → ℕ → Bool
+lessens (Page m op back) n = (n == m) && lessens_by op back
+lessens (Write c at before after) n = false
+lessens (Paint c at count code position arg before) n = false
+
+-- the action has had such a change of the page since it began, or since it took the page
+abbrev pub has_lessened : List Change → ℕ → Bool
+has_lessened [] n = false
+has_lessened (d ∷ ds) n = if formats d n then false else lessens d n || has_lessened ds n
 
 -- What was taken when the open action began: what is taken now, but for what the action took. A page may have so many
 -- slots as this says of the pages at the begin.

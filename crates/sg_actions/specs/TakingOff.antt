@@ -11,7 +11,8 @@ use Rattle.sg_recovery.specs.Formed.{IsLog}
 use Rattle.sg_action.specs.States.{State, Kept, Change as Changed}
 use Rattle.sg_alloc.specs.Flags.{free_of}
 use Rattle.sg_alloc.specs.declared.maps.Maps.{Maps}
-use Rattle.sg_actions.specs.Engine.{EngineView, now_of, Logged}
+use Rattle.sg_actions.specs.Engine.{EngineView, now_of}
+use Rattle.sg_actions.specs.Led.{Appended}
 use Rattle.sg_record.specs.Records.Says.{TopVoid}
 use Rattle.sg_record.specs.Shown.{by}
 use Rattle.sg_actions.specs.Taken.{is_set, takes_page, takes_band}
@@ -103,12 +104,12 @@ pub record TookOff (t : Table) (e e' : EngineView) (maps maps' unfreed : Maps) (
   pub told : e'.Told → e.Told
   pub still : e.Told → e'.Told
   pub goes_on : e.Told → (kept : Kept) (begin : State) → at ≢ actor.before → IsOff t kept begin e maps unfreed rows actor at → IsOff t kept begin e' maps' unfreed rows actor' next
-  pub steps : e.Told → NextStep e e' actor
+  pub steps : e.Told → CanGoOff t e maps unfreed rows actor at → NextStep e e' actor
 
 -- the record that all is taken off is appended, no action is open, and the system acts
 pub record Voided (e e' : EngineView) (rows rows' : List Row) (actor actor' : Actor) : Type 0 where
   pub lsn : ℕ
-  pub logged : e.Told → Logged e e' (by actor.txn.0 actor.last (TopVoid actor.before)) lsn
+  pub logged : e.Told → Appended e e' (by actor.txn.0 actor.last (TopVoid actor.before)) lsn
   pub told : e'.Told → e.Told
   pub rest : actor' ≡ at_rest
   pub rows_are : rows' ≡ rows_after rows actor.txn lsn

@@ -10,7 +10,7 @@ use Rattle.sg_recovery.specs.Log.Record.{Begin, Change, TopEnd, PhysComp, TopVoi
 use Rattle.sg_actions.specs.Acting.{IsChained}
 use Rattle.sg_actions.specs.Calls.{IsAtRest}
 use Rattle.sg_actions.specs.Counts.{Note}
-use Rattle.sg_actions.specs.Engine.{EngineView}
+use Rattle.sg_actions.specs.Engine.{EngineSeen}
 use Rattle.sg_actions.specs.Steps.{Step, Steps, step_at}
 use Rattle.sg_actions.specs.declared.rows.Actor.{Actor}
 use Rattle.sg_actions.specs.declared.rows.Row.{Row}
@@ -110,42 +110,43 @@ FindsNote rs txn stop note (Some f) = HasFound rs txn stop note f
 abbrev pub is_of_bytes : (note : List ℕ) → Bool
 is_of_bytes note = slice_index_or note 0 0 == 9
 
--- a part of a band, with the bytes that stood there, where there are some
+-- A part of a band, with the bytes that stood there, where there are some. Those of the allocation map, which are the bands before `outside`, have
+-- none: what was taken and freed there is no matter of one transaction.
 abbrev pub Stood : Type 0
 Stood = ℕ × (ℕ × List ℕ)
 
-abbrev pub stood_of : (band at : ℕ) → List ℕ → Option Stood
-stood_of band at [] = None
-stood_of band at (y ∷ ys) = Some (band, (at, y ∷ ys))
+abbrev pub stood_of : (outside band at : ℕ) → List ℕ → Option Stood
+stood_of outside band at [] = None
+stood_of outside band at (y ∷ ys) = if nat_lt band outside then None else Some (band, (at, y ∷ ys))
 
-abbrev pub stood_in : Changing → Option Stood
-stood_in (Page c) = None
-stood_in (SegWrite c) = stood_of c.band c.at c.before
-stood_in (SegOp c) = stood_of c.band c.at c.before
+abbrev pub stood_in : (outside : ℕ) → Changing → Option Stood
+stood_in outside (Page c) = None
+stood_in outside (SegWrite c) = stood_of outside c.band c.at c.before
+stood_in outside (SegOp c) = stood_of outside c.band c.at c.before
 
-abbrev pub stood_by : Option Changing → Option Stood
-stood_by None = None
-stood_by (Some c) = stood_in c
+abbrev pub stood_by : (outside : ℕ) → Option Changing → Option Stood
+stood_by outside None = None
+stood_by outside (Some c) = stood_in outside c
 
 -- and they are there again
 abbrev pub with_stood : Option Stood → State → State
 with_stood None x = x
 with_stood (Some s) x = record x { bands = with_one x.bands s.0 (overwritten (x.bands s.0) s.1.0 s.1.1) }
 
-abbrev pub given_back : Changing → State → State
-given_back c x = with_stood (stood_in c) x
+abbrev pub given_back : (outside : ℕ) → Changing → State → State
+given_back outside c x = with_stood (stood_in outside c) x
 
-abbrev pub given_by : Option Changing → State → State
-given_by c x = with_stood (stood_by c) x
+abbrev pub given_by : (outside : ℕ) → Option Changing → State → State
+given_by outside c x = with_stood (stood_by outside c) x
 
 -- THE BYTES COME BACK that stood where these changes wrote, those of the last one first. A band that was taken keeps its zeros
-abbrev pub all_given_back : List Changing → State → State
-all_given_back [] x = x
-all_given_back (c ∷ cs) x = all_given_back cs (given_back c x)
+abbrev pub all_given_back : (outside : ℕ) → List Changing → State → State
+all_given_back outside [] x = x
+all_given_back outside (c ∷ cs) x = all_given_back outside cs (given_back outside c x)
 
 -- what undoing a note does to the pages and bands before its verb is reversed
-abbrev pub put_by : (note : List ℕ) → List Changing → State → State
-put_by note cs x = if is_of_bytes note then all_given_back cs x else x
+abbrev pub put_by : (outside : ℕ) → (note : List ℕ) → List Changing → State → State
+put_by outside note cs x = if is_of_bytes note then all_given_back outside cs x else x
 
 -- no action is open, the transaction goes on, and the record at which to stop isn't before its begin
 pub record IsUndoable (base : ℕ) (rs : Steps) (tail : ℕ) (unfreed : Maps) (rows : List Row) (actor : Actor) (txn stop : ℕ) : Type 0 where
@@ -154,9 +155,9 @@ pub record IsUndoable (base : ℕ) (rs : Steps) (tail : ℕ) (unfreed : Maps) (r
   pub live : is_in txn (tally rs).live ≡ true
   pub within : txn ≤ stop
 
-abbrev pub CanUndo : EngineView → Maps → List Row → Actor → (txn stop : ℕ) → Type 0
+abbrev pub CanUndo : EngineSeen → Maps → List Row → Actor → (txn stop : ℕ) → Type 0
 CanUndo e unfreed rows actor txn stop = e.Told → IsUndoable e.base e.steps e.tail unfreed rows actor txn stop
 
 -- THE NUMBER OF THE NOTE that is undone next
-abbrev pub IsNextUndo : EngineView → (txn stop : ℕ) → Option ℕ → Type 0
+abbrev pub IsNextUndo : EngineSeen → (txn stop : ℕ) → Option ℕ → Type 0
 IsNextUndo e txn stop answer = e.Told → answer ≡ option_map (λ n. n.lsn) (next_note txn stop e.steps)

@@ -4,19 +4,18 @@ use Rattle.sg_ops.specs.Table.{Table}
 use Rattle.sg_alloc.specs.Flags.{free_of}
 use Rattle.sg_alloc.specs.declared.maps.Maps.{Maps}
 use Rattle.sg_action.specs.States.{State, Change, Kept}
-use Rattle.sg_action.specs.Opened.{shrunk}
 use Rattle.sg_space.specs.View.{View}
-use Rattle.sg_actions.specs.Engine.{EngineView, IsNearEnd, now_of}
+use Rattle.sg_actions.specs.Engine.{EngineView, EngineSeen, IsNearEnd}
 use Rattle.sg_actions.specs.declared.rows.Actor.{Actor}
 use Rattle.sg_actions.specs.declared.rows.Row.{Row}
 use Rattle.sg_actions.specs.Steps.{Steps, opened, begin_of}
-use Rattle.sg_actions.specs.Taken.{kept_of, units_there, writes_band}
+use Rattle.sg_actions.specs.Taken.{kept_of, units_there, writes_band, has_lessened}
 use Rattle.sg_actions.specs.Acting.{IsWell, IsChained}
 
--- The open action may give the page so many slots: it has not shrunk it, and the page may have them, if it was taken at the
+-- The open action may give the page so many slots: it has not made it less, and the page may have them, if it was taken at the
 -- begin.
-pub record MayGive (t : Table) (kept : Kept) (begin : State) (ds : List Change) (page slots : ℕ) : Type 0 where
-  pub grown : shrunk t begin ds page ≡ false
+pub record MayGive (kept : Kept) (ds : List Change) (page slots : ℕ) : Type 0 where
+  pub grown : has_lessened ds page ≡ false
   pub within : kept.pages page ≡ true → slots ≤ kept.slots page
 
 -- the open action has freed nothing
@@ -33,23 +32,29 @@ pub record IsActing (t : Table) (limits : State → ℕ → ℕ) (base : ℕ) (f
 abbrev pub IsKept : (t : Table) → (limits : State → ℕ → ℕ) → EngineView → Maps → List Row → Actor → Type 0
 IsKept t limits e maps rows actor = IsActing t limits e.base e.first e.steps e.tail maps.pages maps.bands rows actor
 
--- the action that may still give a page slots
-abbrev pub MayGiveNow : (t : Table) → (limits : State → ℕ → ℕ) → State → Steps → (pages bands : List Bool) → (page slots : ℕ) → Type 0
-MayGiveNow t limits first rs pages bands = MayGive t (kept_of limits pages bands (begin_of t first rs) (opened rs)) (begin_of t first rs) (opened rs)
+-- the action that may still give a page slots, which began with these pages and bands
+abbrev pub MayGiveNow : (limits : State → ℕ → ℕ) → (begin : State) → Steps → (pages bands : List Bool) → (page slots : ℕ) → Type 0
+MayGiveNow limits begin rs pages bands = MayGive (kept_of limits pages bands begin (opened rs)) (opened rs)
 
-abbrev pub acts_view : Table → (State → ℕ → ℕ) → EngineView → (breaks : ℕ) → (maps unfreed : Maps) → View
-acts_view t limits e breaks maps unfreed = record {
+-- What it shows says nothing of operations or first pages. `begin` is what the engine held when the open action began.
+abbrev pub acts_view : (State → ℕ → ℕ) → EngineSeen → (begin : State) → (breaks : ℕ) → (maps unfreed : Maps) → View
+acts_view limits e begin breaks maps unfreed = record {
   Told = e.Told;
   Shows = e.Told;
   space = record {
-    pages = units_there maps.pages unfreed.pages (now_of t e).pages;
-    bands = units_there maps.bands unfreed.bands (λ b. Some ((now_of t e).bands b));
+    pages = units_there maps.pages unfreed.pages e.now.pages;
+    bands = units_there maps.bands unfreed.bands (λ b. Some (e.now.bands b));
   };
   faults = e.faults + breaks;
   records = e.records;
   IsNearEnd = IsNearEnd e;
   MayTake = HasFreedNone unfreed;
-  MayHave = λ page slots. e.Told → MayGiveNow t limits e.first e.steps maps.pages maps.bands page slots;
+  MayHave = λ page slots. e.Told → MayGiveNow limits begin e.steps maps.pages maps.bands page slots;
   HasWritten = λ band. e.Told × (writes_band (opened e.steps) band ≡ true);
   IsStill = e.Told → opened e.steps ≡ [];
 }
+
+-- THE FIRST PAGES that the steps lead from, by a table of operations, also to what the engine held when the open action began
+pub record Since (means : Table → State → Type 0) (e : EngineSeen) (begun : Bool) (begin : State) (t : Table) (from : State) : Type 0 where
+  pub stands : means t from
+  pub since : begun ≡ true → e.Told → begin_of t from e.steps ≡ begin

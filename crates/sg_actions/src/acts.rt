@@ -1,6 +1,5 @@
 ghost use Rattle.std.specs.Prelude.{◌≡◌, ◌<◌, ◌≤◌, true, false, length, slice_get, Some, OnErr, OnOk, IfOk, IfErr, IsTrue};
 ghost use Rattle.sg_base.specs.Ends.{HasRisen};
-ghost use Rattle.sg_actions.specs.Engine.{now_of};
 ghost use Rattle.sg_actions.specs.Taken.{AreFlags, AreSaid};
 
 use crate::Engine;
@@ -15,6 +14,7 @@ use sg_ops::Ops;
 use sg_record::{Rec, is_record};
 use sg_space::{PageSpace, SpaceFault};
 use sg_step::brings_bytes;
+use std::snapshot::Snapshot;
 
 /// Transactions and their actions over an engine, and the pages and bands that they change.
 pub struct Acts<E: Engine> {
@@ -29,12 +29,18 @@ pub struct Acts<E: Engine> {
     pub(crate) breaks: u64,
     // an action was begun, and may change pages and bands
     pub(crate) begun: bool,
-    count: u32,
+    // the engine as it was when the open action began. It has no bytes
+    pub(crate) begun_at: Snapshot<E>,
+    pub(crate) count: u32,
+    // how many bands there are
+    pub(crate) bands: u32,
     ghost count_is: { count ≡ length maps.pages },
+    ghost bands_are: { bands ≡ length maps.bands },
     ghost few: { count ≤ 1048576 },
+    ghost few_rows: { length rows.items ≤ 64 },
     ghost page_flags: { AreFlags maps.pages unfreed.pages },
     ghost band_flags: { AreFlags maps.bands unfreed.bands },
-    ghost pages_said: { (E.view engine).Told → AreSaid maps.pages (now_of E.table (E.view engine)).pages },
+    ghost pages_said: { (E.view engine).Told → AreSaid maps.pages (E.view engine).now.pages },
 }
 
 // One more break is counted.
@@ -48,24 +54,35 @@ pub(crate) fn count_break(breaks: &mut u64) -> SpaceFault
 }
 
 impl<E: Engine> Acts<E> {
-    ghost use Rattle.std.specs.Prelude.{◌≡◌, IsTrue, IsFalse, Some, ◌≤◌, length};
+    ghost use Rattle.std.specs.Prelude.{◌≡◌, false, IsTrue, IsFalse, Some, ◌≤◌, length};
     ghost use Rattle.sg_actions.specs.Rows.{at_rest};
     ghost use Rattle.sg_actions.specs.Taken.{is_there};
 
     /// Over an engine, with what is taken, nothing freed, and a row for each transaction that goes on or
-    /// may begin. The system acts.
-    pub fn new(engine: E, maps: Maps, unfreed: Maps, rows: Vec<Row>, count: u32) -> Acts<E>
+    /// may begin, at most 64. The system acts.
+    pub fn new(
+        engine: E,
+        maps: Maps,
+        unfreed: Maps,
+        rows: Vec<Row>,
+        count: u32,
+        bands: u32,
+    ) -> Acts<E>
         requires count { count ≡ length maps.pages }
+        requires width { bands ≡ length maps.bands }
         requires few { count ≤ 1048576 }
+        requires live { length rows.items ≤ 64 }
         requires pages { AreFlags maps.pages unfreed.pages }
         requires bands { AreFlags maps.bands unfreed.bands }
-        requires said { (E.view engine).Told → AreSaid maps.pages (now_of E.table (E.view engine)).pages }
+        requires said { (E.view engine).Told → AreSaid maps.pages (E.view engine).now.pages }
         ensures engine { result.engine ≡ engine }
         ensures maps { result.maps ≡ maps }
         ensures unfreed { result.unfreed ≡ unfreed }
         ensures rows { result.rows ≡ rows }
         ensures actor { result.actor ≡ at_rest }
+        ensures begun { result.begun ≡ false }
     {
+        let begun_at = Snapshot::of(&engine);
         Acts {
             engine,
             maps,
@@ -78,7 +95,9 @@ impl<E: Engine> Acts<E> {
             rows,
             breaks: 0,
             begun: false,
+            begun_at,
             count,
+            bands,
         }
     }
 
@@ -94,11 +113,14 @@ impl<E: Engine> Acts<E> {
             rows,
             breaks,
             begun,
+            begun_at,
             count,
+            bands,
         } = self;
         drop(maps);
         drop(unfreed);
         drop(rows);
+        drop(begun_at);
         engine
     }
 
@@ -120,19 +142,21 @@ impl<E: Engine> Acts<E> {
 }
 
 impl<E: Engine> PageSpace for Acts<E> {
-    ghost use Rattle.sg_actions.specs.View.{acts_view};
-    ghost use Rattle.sg_actions.specs.Later.{At, Later};
-    ghost use Rattle.std.specs.Prelude.{◌≡◌, refl};
-    ghost use Rattle.sg_actions.specs.Exact.{units_exact, pages_within, few_there};
+    ghost use Rattle.std.specs.Prelude.{◌≡◌, length, refl, true};
+    ghost use Rattle.sg_action.specs.States.{State};
+    ghost use Rattle.sg_actions.specs.View.{acts_view, Since};
+    ghost use Rattle.sg_actions.specs.Later.{acts_at, LaterBy};
+    ghost use Rattle.sg_actions.specs.Exact.{units_exact, pages_fit_some, few_there};
     ghost use Rattle.sg_actions.specs.Onward.{later_same, later_then};
 
-    ghost view = { λ s. acts_view E.table E.limits (E.view s.engine) s.breaks s.maps s.unfreed };
+    ghost view = { λ s. acts_view (E.limits (length s.maps.pages) (length s.maps.bands)) (E.view s.engine)
+        (E.view s.begun_at.value).now s.breaks s.maps s.unfreed };
 
-    ghost later = { λ t a b. Later E.recovers E.table E.limits t
-        (record { engine = E.view a.engine; maps = a.maps; rows = a.rows.items; actor = a.actor; begun = a.begun })
-        (record { engine = E.view b.engine; maps = b.maps; rows = b.rows.items; actor = b.actor; begun = b.begun }) };
+    ghost later = { λ t a b. LaterBy true E.recovers (E.limits (length a.maps.pages) (length a.maps.bands)) t
+        (acts_at (E.view a.engine) (E.means a.engine) (E.view a.begun_at.value).now a.maps a.rows.items a.actor a.begun)
+        (acts_at (E.view b.engine) (E.means b.engine) (E.view b.begun_at.value).now b.maps b.rows.items b.actor b.begun) };
 
-    ghost means = { λ s t. t ≡ E.table };
+    ghost means = { λ s t. ∥ ((from : State) × Since (E.means s.engine) (E.view s.engine) s.begun (E.view s.begun_at.value).now t from) ∥₁ };
 
     fn broken(&mut self) -> SpaceFault {
         count_break(&mut self.breaks)
@@ -320,15 +344,15 @@ impl<E: Engine> PageSpace for Acts<E> {
         Ok(())
     }
 
-    ghost later_same = { λ t s. later_same E.recovers E.table E.limits t _ (λ told. E.images s.engine told) };
+    ghost later_same = { λ t s. later_same E.recovers (E.limits (length s.maps.pages) (length s.maps.bands)) t _ (λ from m told. E.images s.engine t from m.stands told) };
 
-    ghost later_then = { λ t a b c f g. later_then E.recovers E.table E.limits t _ _ _ f g };
+    ghost later_then = { λ t a b c f g. later_then E.recovers E.limits t _ _ _ f g };
 
     ghost told_shows = { λ s t. t };
 
     ghost few_pages = { λ s t. few_there s.maps.pages s.few s.count_is };
 
-    ghost pages_fit = { λ s t p sheet is. pages_within s.maps.pages s.unfreed.pages _ (E.pages_fit s.engine t) p sheet is };
+    ghost pages_fit = { λ s told p sheet is. pages_fit_some (E.limits (length s.maps.pages) (length s.maps.bands)) (E.means s.engine) (E.view s.engine) (E.view s.begun_at.value).now s.breaks s.maps s.unfreed (E.some s.engine) (λ t from m. E.pages_fit s.engine t from m told) p sheet is };
 
     ghost pages_exact = { λ s t. units_exact s.maps.pages s.unfreed.pages _ s.page_flags (s.pages_said t) };
 

@@ -5,10 +5,8 @@ ghost use Rattle.sg_actions.specs.Checkpoints.{row_bytes, rows_bytes};
 
 use crate::acts::count_break;
 use crate::rows::Row;
-use crate::spelling::is_number;
 use crate::{Acts, Engine};
-use sg_base::{Lsn, write_u64};
-use sg_record::Rec;
+use sg_base::write_u64;
 use sg_space::SpaceFault;
 
 // A row: the transaction's number, and that of its last record.
@@ -41,36 +39,40 @@ fn spell_rows(rows: &[Row], into: &mut [u8]) -> Option<usize>
 }
 
 impl<E: Engine> Acts<E> {
-    ghost use Rattle.std.specs.Prelude.{◌≡◌, ◌≤◌, OnOk, length};
+    ghost use Rattle.std.specs.Prelude.{◌≡◌, ◌≤◌, ℕ, OnOk, IfErr, length};
+    ghost use Rattle.sg_ops.specs.Table.{Table};
+    ghost use Rattle.sg_action.specs.States.{State};
     ghost use Rattle.sg_actions.specs.Calls.{IsAtRest};
     ghost use Rattle.sg_actions.specs.Counts.{ActsCounts};
-    ghost use Rattle.sg_actions.specs.Checkpoints.{HasPointed};
-    ghost use Rattle.sg_actions.specs.Engine.{Moments};
+    ghost use Rattle.sg_actions.specs.Engine.{Moments, Keeps, IsNearEnd, IsForced, led};
+    ghost use Rattle.sg_actions.specs.Led.{HasStayed};
+    ghost use Rattle.sg_actions.specs.View.{IsKept};
+    ghost use Rattle.sg_space.specs.declared.space.SpaceFault.TheVariants.{LogEnd};
 
-    /// Appends a checkpoint: the log is read again from this number on, and these transactions go on, each
-    /// with its last record. Nothing else changes. No action is open, and at most 64 rows aren't vacant.
-    pub fn checkpoint(&mut self, estimate: Lsn) -> Result<(), SpaceFault>
+    /// Makes the log durable, with a record of where history has to be repeated from and of the last record
+    /// of each transaction that goes on. Nothing else changes. No action is open.
+    pub fn checkpoint(&mut self) -> Result<(), SpaceFault>
         requires rest { (E.view self.old.engine).Told → IsAtRest (E.view self.old.engine).steps self.old.unfreed self.old.actor }
-        requires few { (E.view self.old.engine).Told → length (rows_bytes self.old.rows.items) ≤ 1024 }
         ensures counts { ActsCounts (E.view self.old.engine) (E.view self.new.engine) self.old.breaks self.new.breaks result }
-        ensures did { OnOk result (HasPointed E.table E.limits (E.view self.old.engine) (E.view self.new.engine) self.old.maps self.old.rows.items self.old.actor estimate) }
+        ensures log_end { IfErr result (λ f. f ≡ LogEnd → IsNearEnd (E.view self.old.engine)) }
+        ensures means { Keeps (E.means self.old.engine) (E.means self.new.engine) }
+        ensures stays { (t : Table) (from : State) → E.means self.old.engine t from → OnOk result (HasStayed (led from (E.view self.old.engine)) (led from (E.view self.new.engine))) }
+        ensures forced { (t : Table) (from : State) → E.means self.old.engine t from → OnOk result (IsForced (E.view self.new.engine)) }
+        ensures kept { (limits : State → ℕ → ℕ) (t : Table) (from : State) → E.means self.old.engine t from → OnOk result ((E.view self.old.engine).Told → IsKept t limits (led from (E.view self.old.engine)) self.old.maps self.old.rows.items self.old.actor →
+            IsKept t limits (led from (E.view self.new.engine)) self.new.maps self.new.rows.items self.new.actor) }
         ensures maps { self.new.maps ≡ self.old.maps }
         ensures unfreed { self.new.unfreed ≡ self.old.unfreed }
         ensures rows { self.new.rows.items ≡ self.old.rows.items }
         ensures actor { self.new.actor ≡ self.old.actor }
         ensures begun { self.new.begun ≡ self.old.begun }
         // also of a call that fails
-        ensures moments { (E.view self.old.engine).Told → Moments E.recovers E.table (E.view self.old.engine) (E.view self.new.engine) (E.view self.old.engine).steps }
+        ensures moments { (t : Table) (from : State) → E.means self.old.engine t from → (E.view self.old.engine).Told → Moments (E.recovers t) t (led from (E.view self.old.engine)) (led from (E.view self.new.engine)) (E.view self.old.engine).steps }
     {
         let mut text = [0u8; 1024];
         let Some(size) = spell_rows(self.rows.as_slice(), &mut text) else {
             return Err(count_break(&mut self.breaks));
         };
-        is_number(estimate);
-        self.engine.log(&Rec::Checkpoint {
-            estimate,
-            live: &text[..size],
-        })?;
-        Ok(())
+        self.engine.checkpoint(&text[..size])?;
+        self.engine.force()
     }
 }

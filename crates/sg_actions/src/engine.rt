@@ -1,14 +1,14 @@
-ghost use Rattle.std.specs.Prelude.{◌≡◌, ◌≤◌, ℕ, false, IfOk, OnOk, length, take};
+ghost use Rattle.std.specs.Prelude.{◌≡◌, ◌≤◌, ◌*◌, ◌/◌, ℕ, ⊤, true, false, IfOk, OnOk, length, take};
 ghost use Rattle.sg_base.specs.Sheet.{sheet_of};
 ghost use Rattle.sg_ops.specs.Laws.{IsLawful};
 ghost use Rattle.sg_ops.specs.Table.{Table, table_of};
 ghost use Rattle.sg_record.specs.Ranges.{IsRecord};
 ghost use Rattle.sg_actions.specs.Painting.{AreBandsWhole};
-ghost use Rattle.sg_record.specs.Records.Says.{Begin};
-ghost use Rattle.sg_record.specs.Shown.{shown};
+ghost use Rattle.sg_record.specs.Records.Says.{Begin, Checkpoint};
+ghost use Rattle.sg_record.specs.Shown.{shown, by};
 ghost use Rattle.sg_action.specs.States.{State};
 ghost use Rattle.sg_actions.specs.Images.{Grows, Recovering};
-ghost use Rattle.sg_actions.specs.Engine.{EngineView, CanLog, Logs, EngineLooks, IsForced, StandsNow, CanLookAt, LookedAt, LookedAtBand, HasStep, ReadsStep, ArePagesFit, now_of};
+ghost use Rattle.sg_actions.specs.Engine.{EngineSeen, led, Keeps, AreBy, EngineGrows, EngineRests, CanLog, Logs, EngineLooks, IsForced, StandsNow, CanLookAt, LookedAt, LookedAtBand, HasStep, ReadsStep, ArePagesFit, now_of};
 
 use sg_base::{BAND_SIZE, BandNo, Lsn, PageNo, SlotView};
 use sg_ops::Ops;
@@ -23,76 +23,120 @@ use sg_space::SpaceFault;
 /// log's end. A call that fails says which images it may have left, and no later call is one of the
 /// disk.
 pub trait Engine {
-    /// The operations that its records mean.
-    ghost table: { Table };
+    /// How many slots a page may have, of a store of so many pages and bands that said this when an action began.
+    ghost limits: { (pages bands : ℕ) → State → ℕ → ℕ };
 
-    /// How many slots a page may have that said this when an action began.
-    ghost limits: { State → ℕ → ℕ };
+    /// What an image of the disk holds, by the operations that its records mean.
+    ghost recovers: { Table → Recovering };
 
-    /// What an image of the disk holds.
-    ghost recovers: { Recovering };
+    /// What it shows, whatever its records mean.
+    ghost view: { Self → EngineSeen };
 
-    /// All that is known of it.
-    ghost view: { Self → EngineView };
+    /// Its records are of these operations, and its steps lead from these pages and bands to its contents.
+    ghost means: { Self → Table → State → Type 0 };
 
     /// The page, or the band, can be looked at.
     ghost loaded: { Self → ℕ → Type 0 };
 
     ghost loaded_band: { Self → ℕ → Type 0 };
 
-    /// The number of the log's next byte.
+    /// A change of a page or a band by the record with this number isn't on the disk yet.
+    ghost unwritten: { Self → ℕ → Type 0 };
+
+    /// The number of the first byte that the log still has.
+    ghost first_byte: { Self → ℕ };
+
+    /// No record from now on has a number below this.
     fn tail(&self) -> Lsn
         ensures { result ≡ (view self.now).tail };
 
-    /// The number that this record would have, if it were the next.
+    /// The number of the first byte that the log still has.
+    fn start(&self) -> Lsn
+        ensures { result ≡ first_byte self.now };
+
+    /// The number that a record would get now: of one that makes no change, the very number.
     fn next(&self, r: &Rec<'_>) -> Lsn
-        requires range { IsRecord (shown r.now) }
+        requires { IsRecord (shown r.now) }
         ensures { result ≡ (view self.now).next (shown r.now).says };
 
     /// Appends a record and makes its change, which needs no registered operation.
     fn log(&mut self, r: &Rec<'_>) -> Result<Lsn, SpaceFault>
         requires range { IsRecord (shown r.now) }
-        requires can { CanLog table ⊥ (view self.old) (shown r.now) }
-        ensures logs { Logs recovers table (view self.old) (view self.new) (shown r.now) result }
+        requires can { (t : Table) (from : State) → means self.old t from → CanLog t ⊥ (view self.old) (shown r.now) }
+        ensures grows { EngineGrows (view self.old) (view self.new) (shown r.now) result }
+        ensures means { Keeps (means self.old) (means self.new) }
+        ensures logs { (t : Table) (from : State) → means self.old t from → Logs (recovers t) t (led from (view self.old)) (led from (view self.new)) (shown r.now) result }
         ensures number { (shown r.now).says ≡ Begin → IfOk result (λ lsn. lsn ≡ (view self.old).next Begin) }
         ensures tried { (shown r.now).says ≡ Begin → (view self.old).Told → (view self.new).tried ≡ (view self.old).next Begin };
 
-    /// Appends a record and makes its change.
+    /// Appends a record and makes its change, by these operations, of which its records are.
     fn log_by(&mut self, ops: &Ops, r: &Rec<'_>) -> Result<Lsn, SpaceFault>
         requires range { IsRecord (shown r.now) }
-        requires can { CanLog table (table_of record_meaning range_meaning ops.now ≡ table) (view self.old) (shown r.now) }
-        ensures logs { Logs recovers table (view self.old) (view self.new) (shown r.now) result };
+        requires by { AreBy (means self.old) (table_of record_meaning range_meaning ops.now) }
+        requires can { CanLog (table_of record_meaning range_meaning ops.now) ⊤ (view self.old) (shown r.now) }
+        ensures grows { EngineGrows (view self.old) (view self.new) (shown r.now) result }
+        ensures means { (from : State) → means self.old (table_of record_meaning range_meaning ops.now) from → means self.new (table_of record_meaning range_meaning ops.now) from }
+        ensures logs { let t = table_of record_meaning range_meaning ops.now in (from : State) → means self.old t from → Logs (recovers t) t (led from (view self.old)) (led from (view self.new)) (shown r.now) result };
 
     /// Makes all records durable.
     fn force(&mut self) -> Result<(), SpaceFault>
-        ensures looks { EngineLooks recovers table (view self.old) (view self.new) result }
-        ensures forced { OnOk result (IsForced (view self.new)) };
+        ensures rests { EngineRests (view self.old) (view self.new) result }
+        ensures means { Keeps (means self.old) (means self.new) }
+        ensures looks { (t : Table) (from : State) → means self.old t from → EngineLooks (recovers t) t (led from (view self.old)) (led from (view self.new)) result }
+        ensures forced { (t : Table) (from : State) → means self.old t from → OnOk result (IsForced (view self.new)) };
 
     /// Makes all records durable, and writes each changed page and band home.
     fn flush(&mut self) -> Result<(), SpaceFault>
-        ensures looks { EngineLooks recovers table (view self.old) (view self.new) result }
-        ensures forced { OnOk result (IsForced (view self.new)) };
+        ensures written { OnOk result ((lsn : ℕ) → unwritten self.new lsn → ⊥) }
+        ensures rests { EngineRests (view self.old) (view self.new) result }
+        ensures means { Keeps (means self.old) (means self.new) }
+        ensures looks { (t : Table) (from : State) → means self.old t from → EngineLooks (recovers t) t (led from (view self.old)) (led from (view self.new)) result }
+        ensures forced { (t : Table) (from : State) → means self.old t from → OnOk result (IsForced (view self.new)) };
+
+    /// Nothing more is asked of it: it tells no more, and no later call is one of the disk.
+    fn stop(&mut self)
+        ensures silent { (view self.new).Told → ⊥ }
+        ensures stopped { (view self.new).failed ≡ true }
+        ensures disk { (view self.new).disk ≡ (view self.old).disk }
+        ensures base { (view self.new).base ≡ (view self.old).base }
+        ensures tail { (view self.new).tail ≡ (view self.old).tail }
+        ensures faults { (view self.new).faults ≡ (view self.old).faults }
+        ensures records { (view self.new).records ≡ (view self.old).records }
+        ensures means { Keeps (means self.old) (means self.new) };
+
+    /// Appends a record of where history has to be repeated from, with these transactions that go on: 16
+    /// bytes each, of at most 64. Nothing else changes. It isn't durable before the next force.
+    fn checkpoint(&mut self, live: &[u8]) -> Result<Lsn, SpaceFault>
+        requires most { length live.now ≤ 1024 }
+        requires rows { length live.now ≡ 16 * (length live.now / 16) }
+        ensures grows { EngineGrows (view self.old) (view self.new) (by 0 0 (Checkpoint 0 live.now)) result }
+        ensures means { Keeps (means self.old) (means self.new) }
+        ensures looks { (t : Table) (from : State) → means self.old t from → EngineLooks (recovers t) t (led from (view self.old)) (led from (view self.new)) result };
 
     /// Brings a page to where it can be looked at.
     fn load(&mut self, p: PageNo) -> Result<(), SpaceFault>
-        requires { CanLookAt table (view self.old) p.0 }
-        ensures looks { EngineLooks recovers table (view self.old) (view self.new) result }
+        requires { CanLookAt (view self.old) p.0 }
+        ensures rests { EngineRests (view self.old) (view self.new) result }
+        ensures means { Keeps (means self.old) (means self.new) }
+        ensures looks { (t : Table) (from : State) → means self.old t from → EngineLooks (recovers t) t (led from (view self.old)) (led from (view self.new)) result }
         ensures loaded { OnOk result (loaded self.new p.0) };
 
     /// A look at a page.
     fn page(&self, p: PageNo) -> SlotView<'_>
         requires { loaded self.now p.0 }
-        ensures { LookedAt table (view self.now) p.0 (sheet_of result.page.now) };
+        ensures { LookedAt (view self.now) p.0 (sheet_of result.page.now) };
 
     /// Brings a band to where it can be looked at.
     fn load_band(&mut self, b: BandNo) -> Result<(), SpaceFault>
-        ensures looks { EngineLooks recovers table (view self.old) (view self.new) result }
+        ensures rests { EngineRests (view self.old) (view self.new) result }
+        ensures means { Keeps (means self.old) (means self.new) }
+        ensures looks { (t : Table) (from : State) → means self.old t from → EngineLooks (recovers t) t (led from (view self.old)) (led from (view self.new)) result }
         ensures loaded { OnOk result (loaded_band self.new b.0) };
 
     /// A look at the 32,768 bytes of a band.
     fn band(&self, b: BandNo) -> &[u8]
         requires { loaded_band self.now b.0 }
-        ensures looked { LookedAtBand table (view self.now) b.0 result.now }
+        ensures looked { LookedAtBand (view self.now) b.0 result.now }
         ensures size { length result.now ≡ BAND_SIZE };
 
     /// Reads the record with this number to the front of a buffer of at least 32,789 bytes, and answers
@@ -100,28 +144,34 @@ pub trait Engine {
     fn read(&mut self, at: Lsn, into: &mut [u8]) -> Result<usize, SpaceFault>
         requires there { HasStep (view self.old) at }
         requires room { 32789 ≤ length into.old }
-        ensures looks { EngineLooks recovers table (view self.old) (view self.new) result }
+        ensures rests { EngineRests (view self.old) (view self.new) result }
+        ensures means { Keeps (means self.old) (means self.new) }
+        ensures looks { (t : Table) (from : State) → means self.old t from → EngineLooks (recovers t) t (led from (view self.old)) (led from (view self.new)) result }
         ensures within { IfOk result (λ n. n ≤ length into.new) }
-        ensures read { IfOk result (λ n. ReadsStep (view self.old) at (take n into.new)) };
+        ensures read { (t : Table) (from : State) → means self.old t from → IfOk result (λ n. ReadsStep (view self.old) at (take n into.new)) };
 
-    /// An engine that is told shows its contents.
-    ghost told_shows: { (s : Self) → (view s).Told → (view s).Shows };
-
-    /// It has not failed.
+    /// An engine that tells has not failed.
     ghost told_whole: { (s : Self) → (view s).Told → (view s).failed ≡ false };
-
-    /// Its pages have no more cells than they have bytes for.
-    ghost pages_fit: { (s : Self) → (view s).Told → ArePagesFit (now_of table (view s)) };
 
     /// What is durable is a front of what was appended.
     ghost durable_first: { (s : Self) → (view s).Told → Grows (view s).durable (view s).steps };
 
-    /// Each image that a crash now leaves has a front of what was appended, with all that is durable.
-    ghost images: { (s : Self) → (view s).Told → StandsNow recovers table (view s) };
+    /// It stands for some operations and some first pages. So what a clause says of any that it stands for, without their
+    /// name, holds.
+    ghost some: { (s : Self) → ∥ ((t : Table) × (from : State) × means s t from) ∥₁ };
 
-    /// Each of its operations keeps its law.
-    ghost lawful: { IsLawful table };
+    /// The operations that it stands for keep their laws.
+    ghost lawful: { (s : Self) (t : Table) (from : State) → means s t from → IsLawful t };
+
+    /// What it holds is what its steps make of the first pages, by these operations.
+    ghost now_is: { (s : Self) (t : Table) (from : State) → means s t from → (view s).Told → (view s).now ≡ now_of t (led from (view s)) };
+
+    /// Its pages have no more cells than they have bytes for.
+    ghost pages_fit: { (s : Self) (t : Table) (from : State) → means s t from → (view s).Told → ArePagesFit (view s).now };
 
     /// Its bands have all their bytes.
-    ghost bands_whole: { (s : Self) → (view s).Told → AreBandsWhole (now_of table (view s)) };
+    ghost bands_whole: { (s : Self) (t : Table) (from : State) → means s t from → (view s).Told → AreBandsWhole (view s).now };
+
+    /// Each image that a crash now leaves has a front of what was appended, with all that is durable.
+    ghost images: { (s : Self) (t : Table) (from : State) → means s t from → (view s).Told → StandsNow (recovers t) t (led from (view s)) };
 }

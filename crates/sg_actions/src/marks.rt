@@ -8,7 +8,11 @@ use sg_record::Rec;
 use sg_space::SpaceFault;
 
 impl<E: Engine> Acts<E> {
-    ghost use Rattle.std.specs.Prelude.{◌≡◌, IfOk, OnOk};
+    ghost use Rattle.std.specs.Prelude.{◌≡◌, ℕ, IfOk, IfErr, OnOk};
+    ghost use Rattle.sg_ops.specs.Table.{Table};
+    ghost use Rattle.sg_action.specs.States.{State};
+    ghost use Rattle.sg_actions.specs.Engine.{Keeps, IsNearEnd, led};
+    ghost use Rattle.sg_space.specs.declared.space.SpaceFault.TheVariants.{LogEnd};
     ghost use Rattle.sg_recovery.specs.Log.Record.{Save, Commit, End};
     ghost use Rattle.sg_actions.specs.Counts.{ActsCounts, MayAppend};
     ghost use Rattle.sg_actions.specs.Ending.{CanMark, IsMark, Marked, Committed, CanClose, Closed};
@@ -19,14 +23,15 @@ impl<E: Engine> Acts<E> {
         requires can { CanMark (E.view self.old.engine) self.old.unfreed self.old.rows.items self.old.actor txn.0 }
         requires mark { IsMark mark }
         ensures counts { ActsCounts (E.view self.old.engine) (E.view self.new.engine) self.old.breaks self.new.breaks result }
-        ensures did { IfOk result (Marked E.table E.limits (E.view self.old.engine) (E.view self.new.engine) self.old.maps self.old.rows.items self.new.rows.items self.old.actor txn mark) }
+        ensures means { Keeps (E.means self.old.engine) (E.means self.new.engine) }
+        ensures did { (limits : State → ℕ → ℕ) (t : Table) (from : State) → E.means self.old.engine t from → IfOk result (Marked t limits (led from (E.view self.old.engine)) (led from (E.view self.new.engine)) self.old.maps self.old.rows.items self.new.rows.items self.old.actor txn mark) }
         ensures maps { self.new.maps ≡ self.old.maps }
         ensures unfreed { self.new.unfreed ≡ self.old.unfreed }
         ensures actor { self.new.actor ≡ self.old.actor }
         ensures begun { self.new.begun ≡ self.old.begun }
         // also of a call that fails
-        ensures appends { (E.view self.old.engine).Told → IsKept E.table E.limits (E.view self.old.engine) self.old.maps self.old.rows.items self.old.actor →
-            MayAppend E.recovers E.table (E.view self.old.engine) (E.view self.new.engine) self.old.rows.items txn.0 (λ last. Save txn.0 last mark) }
+        ensures appends { (limits : State → ℕ → ℕ) (t : Table) (from : State) → E.means self.old.engine t from → (E.view self.old.engine).Told → IsKept t limits (led from (E.view self.old.engine)) self.old.maps self.old.rows.items self.old.actor →
+            MayAppend (E.recovers t) t (led from (E.view self.old.engine)) (led from (E.view self.new.engine)) self.old.rows.items txn.0 (λ last. Save txn.0 last mark) }
     {
         let Some(prev) = last_in(self.rows.as_slice(), txn) else {
             return Err(count_break(&mut self.breaks));
@@ -43,14 +48,16 @@ impl<E: Engine> Acts<E> {
     pub fn commit(&mut self, txn: TxnId) -> Result<(), SpaceFault>
         requires { CanMark (E.view self.old.engine) self.old.unfreed self.old.rows.items self.old.actor txn.0 }
         ensures counts { ActsCounts (E.view self.old.engine) (E.view self.new.engine) self.old.breaks self.new.breaks result }
-        ensures did { OnOk result (Committed E.table E.limits (E.view self.old.engine) (E.view self.new.engine) self.old.maps self.old.rows.items self.new.rows.items self.old.actor txn) }
+        ensures log_end { IfErr result (λ f. f ≡ LogEnd → IsNearEnd (E.view self.old.engine)) }
+        ensures means { Keeps (E.means self.old.engine) (E.means self.new.engine) }
+        ensures did { (limits : State → ℕ → ℕ) (t : Table) (from : State) → E.means self.old.engine t from → OnOk result (Committed t limits (led from (E.view self.old.engine)) (led from (E.view self.new.engine)) self.old.maps self.old.rows.items self.new.rows.items self.old.actor txn) }
         ensures maps { self.new.maps ≡ self.old.maps }
         ensures unfreed { self.new.unfreed ≡ self.old.unfreed }
         ensures actor { self.new.actor ≡ self.old.actor }
         ensures begun { self.new.begun ≡ self.old.begun }
         // also of a call that fails
-        ensures appends { (E.view self.old.engine).Told → IsKept E.table E.limits (E.view self.old.engine) self.old.maps self.old.rows.items self.old.actor →
-            MayAppend E.recovers E.table (E.view self.old.engine) (E.view self.new.engine) self.old.rows.items txn.0 (λ last. Commit txn.0 last) }
+        ensures appends { (limits : State → ℕ → ℕ) (t : Table) (from : State) → E.means self.old.engine t from → (E.view self.old.engine).Told → IsKept t limits (led from (E.view self.old.engine)) self.old.maps self.old.rows.items self.old.actor →
+            MayAppend (E.recovers t) t (led from (E.view self.old.engine)) (led from (E.view self.new.engine)) self.old.rows.items txn.0 (λ last. Commit txn.0 last) }
     {
         let Some(prev) = last_in(self.rows.as_slice(), txn) else {
             return Err(count_break(&mut self.breaks));
@@ -66,14 +73,16 @@ impl<E: Engine> Acts<E> {
     pub fn end(&mut self, txn: TxnId) -> Result<(), SpaceFault>
         requires { CanClose (E.view self.old.engine) self.old.unfreed self.old.rows.items self.old.actor txn.0 }
         ensures counts { ActsCounts (E.view self.old.engine) (E.view self.new.engine) self.old.breaks self.new.breaks result }
-        ensures did { OnOk result (Closed E.table E.limits (E.view self.old.engine) (E.view self.new.engine) self.old.maps self.old.rows.items self.new.rows.items self.old.actor txn) }
+        ensures log_end { IfErr result (λ f. f ≡ LogEnd → IsNearEnd (E.view self.old.engine)) }
+        ensures means { Keeps (E.means self.old.engine) (E.means self.new.engine) }
+        ensures did { (limits : State → ℕ → ℕ) (t : Table) (from : State) → E.means self.old.engine t from → OnOk result (Closed t limits (led from (E.view self.old.engine)) (led from (E.view self.new.engine)) self.old.maps self.old.rows.items self.new.rows.items self.old.actor txn) }
         ensures maps { self.new.maps ≡ self.old.maps }
         ensures unfreed { self.new.unfreed ≡ self.old.unfreed }
         ensures actor { self.new.actor ≡ self.old.actor }
         ensures begun { self.new.begun ≡ self.old.begun }
         // also of a call that fails
-        ensures appends { (E.view self.old.engine).Told → IsKept E.table E.limits (E.view self.old.engine) self.old.maps self.old.rows.items self.old.actor →
-            MayAppend E.recovers E.table (E.view self.old.engine) (E.view self.new.engine) self.old.rows.items txn.0 (λ last. End txn.0 last) }
+        ensures appends { (limits : State → ℕ → ℕ) (t : Table) (from : State) → E.means self.old.engine t from → (E.view self.old.engine).Told → IsKept t limits (led from (E.view self.old.engine)) self.old.maps self.old.rows.items self.old.actor →
+            MayAppend (E.recovers t) t (led from (E.view self.old.engine)) (led from (E.view self.new.engine)) self.old.rows.items txn.0 (λ last. End txn.0 last) }
     {
         let Some(prev) = last_in(self.rows.as_slice(), txn) else {
             return Err(count_break(&mut self.breaks));

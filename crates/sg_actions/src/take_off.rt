@@ -15,19 +15,30 @@ use sg_space::SpaceFault;
 const GREATEST: usize = 32_789;
 
 impl<E: Engine> Acts<E> {
-    ghost use Rattle.std.specs.Prelude.{◌≡◌, IfOk, OnOk};
-    ghost use Rattle.sg_ops.specs.Table.{table_of};
-    ghost use Rattle.sg_actions.specs.Engine.{EngineCounts};
-    ghost use Rattle.sg_actions.specs.TakingOff.{CanGoOff, TookOff, Voided};
+    ghost use Rattle.std.specs.Prelude.{◌≡◌, ◌≢◌, ◌<◌, ℕ, false, [], length, IfOk, OnOk};
+    ghost use Rattle.sg_recovery.specs.Log.{tally};
+    ghost use Rattle.sg_ops.specs.Table.{Table, table_of};
+    ghost use Rattle.sg_actions.specs.Engine.{EngineCounts, Keeps, AreBy, led, now_of};
+    ghost use Rattle.sg_actions.specs.TakingOff.{CanGoOff, IsOff, IsTakingOff, TookOff, Voided};
     ghost use Rattle.sg_actions.specs.Offed.{CanTakeOff, TakenOff, CanResume, IsResumable, AllOff};
+    ghost use Rattle.sg_actions.specs.WentOff.{OffCounts, WentOff};
     ghost use Rattle.sg_action.specs.States.{State, Kept};
 
     // Takes the change off that the record with this number makes, and answers at which record the
     // take-off goes on.
     fn take_one_off(&mut self, ops: &Ops, at: Lsn) -> Result<Lsn, SpaceFault>
-        requires off { (E.view self.old.engine).Told → CanGoOff E.table (E.view self.old.engine) self.old.maps self.old.unfreed self.old.rows.items self.old.actor at }
-        requires table { (E.view self.old.engine).Told → table_of record_meaning range_meaning ops.now ≡ E.table }
-        ensures did { IfOk result (TookOff E.table (E.view self.old.engine) (E.view self.new.engine) self.old.maps self.new.maps self.old.unfreed self.old.rows.items self.old.actor self.new.actor at) }
+        requires off { let t = table_of record_meaning range_meaning ops.now in (E.view self.old.engine).Told →
+            ∥ ((from : State) × E.means self.old.engine t from × CanGoOff t (led from (E.view self.old.engine)) self.old.maps self.old.unfreed self.old.rows.items self.old.actor at) ∥₁ }
+        requires by { AreBy (E.means self.old.engine) (table_of record_meaning range_meaning ops.now) }
+        ensures told { (E.view self.new.engine).Told → (E.view self.old.engine).Told }
+        ensures counts { OffCounts (E.view self.old.engine) (E.view self.new.engine) self.old.breaks self.new.breaks result }
+        // also of a call that fails
+        ensures goes { let t = table_of record_meaning range_meaning ops.now in (from : State) → E.means self.old.engine t from → (E.view self.old.engine).Told →
+            (kept : Kept) (begin : State) → at ≢ self.old.actor.before → IsOff t kept begin (led from (E.view self.old.engine)) self.old.maps self.old.unfreed self.old.rows.items self.old.actor at →
+            WentOff (E.recovers t) t self.old.actor.txn.0 (led from (E.view self.old.engine)) (led from (E.view self.new.engine)) }
+        ensures lower { IfOk result (λ next. next < at) }
+        ensures means { let t = table_of record_meaning range_meaning ops.now in (from : State) → E.means self.old.engine t from → E.means self.new.engine t from }
+        ensures did { let t = table_of record_meaning range_meaning ops.now in (from : State) → E.means self.old.engine t from → IfOk result (TookOff t (led from (E.view self.old.engine)) (led from (E.view self.new.engine)) self.old.maps self.new.maps self.old.unfreed self.old.rows.items self.old.actor self.new.actor at) }
         ensures unfreed { self.new.unfreed ≡ self.old.unfreed }
         ensures rows { self.new.rows.items ≡ self.old.rows.items }
     {
@@ -58,9 +69,17 @@ impl<E: Engine> Acts<E> {
 
     // Appends the record that all of an action is taken off. No action is open then.
     fn void(&mut self) -> Result<(), SpaceFault>
-        ensures did { OnOk result (Voided (E.view self.old.engine) (E.view self.new.engine) self.old.rows.items self.new.rows.items self.old.actor self.new.actor) }
+        ensures counts { EngineCounts (E.view self.old.engine) (E.view self.new.engine) result }
+        ensures means { Keeps (E.means self.old.engine) (E.means self.new.engine) }
+        ensures did { (t : Table) (from : State) → E.means self.old.engine t from → OnOk result (Voided (led from (E.view self.old.engine)) (led from (E.view self.new.engine)) self.old.rows.items self.new.rows.items self.old.actor self.new.actor) }
         ensures maps { self.new.maps ≡ self.old.maps }
         ensures unfreed { self.new.unfreed ≡ self.old.unfreed }
+        ensures breaks { self.new.breaks ≡ self.old.breaks }
+        ensures begun { OnOk result (self.new.begun ≡ false) }
+        // also of a call that fails
+        ensures goes { (t : Table) (from : State) → E.means self.old.engine t from → (E.view self.old.engine).Told → (kept : Kept) (begin : State) →
+            IsTakingOff t kept begin (E.view self.old.engine).base (E.view self.old.engine).steps (now_of t (led from (E.view self.old.engine))) (E.view self.old.engine).tail self.old.rows.items self.old.actor → (tally (E.view self.old.engine).steps).opened ≡ [] →
+            WentOff (E.recovers t) t self.old.actor.txn.0 (led from (E.view self.old.engine)) (led from (E.view self.new.engine)) }
     {
         let actor = self.actor;
         is_number(actor.txn.0);
@@ -84,9 +103,13 @@ impl<E: Engine> Acts<E> {
     /// Takes the open action off, the last change first: pages and bands can't be told then from those
     /// at its begin. No action is open then, and the system acts.
     pub fn take_off(&mut self, ops: &Ops) -> Result<(), SpaceFault>
-        requires well { (E.view self.old.engine).Told → CanTakeOff E.table E.limits (E.view self.old.engine) self.old.maps self.old.rows.items self.old.actor }
-        requires table { (E.view self.old.engine).Told → table_of record_meaning range_meaning ops.now ≡ E.table }
-        ensures did { OnOk result (TakenOff E.table E.limits (E.view self.old.engine) (E.view self.new.engine) self.old.maps self.new.maps self.new.unfreed self.new.rows.items self.old.actor self.new.actor) }
+        requires well { let t = table_of record_meaning range_meaning ops.now in (E.view self.old.engine).Told →
+            ∥ ((limits : State → ℕ → ℕ) × (from : State) × E.means self.old.engine t from × CanTakeOff t limits (led from (E.view self.old.engine)) self.old.maps self.old.rows.items self.old.actor) ∥₁ }
+        requires by { AreBy (E.means self.old.engine) (table_of record_meaning range_meaning ops.now) }
+        ensures means { let t = table_of record_meaning range_meaning ops.now in (from : State) → E.means self.old.engine t from → E.means self.new.engine t from }
+        ensures told { (E.view self.new.engine).Told → (E.view self.old.engine).Told }
+        ensures did { let t = table_of record_meaning range_meaning ops.now in (limits : State → ℕ → ℕ) (from : State) → E.means self.old.engine t from →
+            ((E.view self.old.engine).Told → CanTakeOff t limits (led from (E.view self.old.engine)) self.old.maps self.old.rows.items self.old.actor) → OnOk result (TakenOff t limits (led from (E.view self.old.engine)) (led from (E.view self.new.engine)) self.old.maps self.new.maps self.new.unfreed self.new.rows.items self.old.actor self.new.actor) }
     {
         forget_pages(&mut self.unfreed);
         forget_bands(&mut self.unfreed);
@@ -100,12 +123,21 @@ impl<E: Engine> Acts<E> {
     /// Goes on with a take-off that was stopped, at the record with this number: where the last one that
     /// took a change off points to. No action is open then, and the system acts.
     pub fn resume(&mut self, ops: &Ops, from: Lsn) -> Result<(), SpaceFault>
-        requires off { (E.view self.old.engine).Told → CanResume E.table (E.view self.old.engine) self.old.maps self.old.unfreed self.old.rows.items self.old.actor from }
-        requires table { (E.view self.old.engine).Told → table_of record_meaning range_meaning ops.now ≡ E.table }
-        ensures told { OnOk result ((E.view self.new.engine).Told → (E.view self.old.engine).Told) }
-        ensures did { OnOk result ((kept : Kept) (begin : State) →
-            ((E.view self.old.engine).Told → IsResumable E.table kept begin (E.view self.old.engine) self.old.maps self.old.unfreed self.old.rows.items self.old.actor from) →
-            (E.view self.new.engine).Told → AllOff E.table E.limits kept begin (E.view self.new.engine) self.new.maps self.new.rows.items self.new.actor) }
+        requires off { let t = table_of record_meaning range_meaning ops.now in (E.view self.old.engine).Told →
+            ∥ ((start : State) × E.means self.old.engine t start × CanResume t (led start (E.view self.old.engine)) self.old.maps self.old.unfreed self.old.rows.items self.old.actor from) ∥₁ }
+        requires by { AreBy (E.means self.old.engine) (table_of record_meaning range_meaning ops.now) }
+        ensures told { (E.view self.new.engine).Told → (E.view self.old.engine).Told }
+        ensures means { let t = table_of record_meaning range_meaning ops.now in (start : State) → E.means self.old.engine t start → E.means self.new.engine t start }
+        ensures did { let t = table_of record_meaning range_meaning ops.now in (limits : State → ℕ → ℕ) (start : State) → E.means self.old.engine t start → OnOk result ((kept : Kept) (begin : State) →
+            ((E.view self.old.engine).Told → IsResumable t kept begin (led start (E.view self.old.engine)) self.old.maps self.old.unfreed self.old.rows.items self.old.actor from) →
+            (E.view self.new.engine).Told → AllOff t limits kept begin (led start (E.view self.new.engine)) self.new.maps self.new.rows.items self.new.actor) }
+        ensures counts { OffCounts (E.view self.old.engine) (E.view self.new.engine) self.old.breaks self.new.breaks result }
+        // also of a call that fails
+        ensures goes { let t = table_of record_meaning range_meaning ops.now in (start : State) → E.means self.old.engine t start → (E.view self.old.engine).Told → (kept : Kept) (begin : State) →
+            IsResumable t kept begin (led start (E.view self.old.engine)) self.old.maps self.old.unfreed self.old.rows.items self.old.actor from →
+            WentOff (E.recovers t) t self.old.actor.txn.0 (led start (E.view self.old.engine)) (led start (E.view self.new.engine)) }
+        ensures begun { OnOk result (self.new.begun ≡ false) }
+        ensures unfreed { self.new.unfreed ≡ self.old.unfreed }
     {
         let mut at = from;
         'changes: while at != self.actor.before {

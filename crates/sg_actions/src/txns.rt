@@ -8,12 +8,15 @@ use crate::{Acts, Engine};
 use sg_base::{Lsn, TxnId};
 use sg_record::Rec;
 use sg_space::{SpaceFault, UndoNote};
+use std::snapshot::Snapshot;
 
 impl<E: Engine> Acts<E> {
-    ghost use Rattle.std.specs.Prelude.{◌≡◌, true, false, IfOk, OnOk};
-    ghost use Rattle.sg_actions.specs.Engine.{EngineCounts, EngineLooks, IsForced};
+    ghost use Rattle.std.specs.Prelude.{◌≡◌, ℕ, true, false, length, IfOk, OnOk};
+    ghost use Rattle.sg_ops.specs.Table.{Table};
+    ghost use Rattle.sg_action.specs.States.{State};
+    ghost use Rattle.sg_actions.specs.Engine.{EngineCounts, EngineRests, EngineLooks, IsForced, Keeps, led};
     ghost use Rattle.sg_actions.specs.Calls.{Appends, CanBegin, Begun, CanAct, NowActs, CanEnd, ActionEnded};
-    ghost use Rattle.sg_actions.specs.View.{IsKept};
+    ghost use Rattle.sg_actions.specs.View.{IsKept, Since};
     ghost use Rattle.sg_recovery.specs.Log.Record.{Begin, TopEnd};
 
     /// The number of the log's next byte.
@@ -23,15 +26,27 @@ impl<E: Engine> Acts<E> {
         self.engine.tail()
     }
 
+    /// The number of the first byte that the log still has.
+    pub fn start(&self) -> Lsn
+        ensures { result ≡ E.first_byte self.now.engine }
+    {
+        self.engine.start()
+    }
+
     /// Makes the log durable, and writes each changed page and band home.
     pub fn flush(&mut self) -> Result<(), SpaceFault>
-        ensures looks { EngineLooks E.recovers E.table (E.view self.old.engine) (E.view self.new.engine) result }
+        ensures rests { EngineRests (E.view self.old.engine) (E.view self.new.engine) result }
+        ensures means { Keeps (E.means self.old.engine) (E.means self.new.engine) }
+        ensures looks { (t : Table) (from : State) → E.means self.old.engine t from → EngineLooks (E.recovers t) t (led from (E.view self.old.engine)) (led from (E.view self.new.engine)) result }
         ensures forced { OnOk result (IsForced (E.view self.new.engine)) }
-        ensures kept { OnOk result ((E.view self.old.engine).Told → IsKept E.table E.limits (E.view self.old.engine) self.old.maps self.old.rows.items self.old.actor →
-            IsKept E.table E.limits (E.view self.new.engine) self.new.maps self.new.rows.items self.new.actor) }
+        ensures kept { (limits : State → ℕ → ℕ) (t : Table) (from : State) → E.means self.old.engine t from → OnOk result ((E.view self.old.engine).Told → IsKept t limits (led from (E.view self.old.engine)) self.old.maps self.old.rows.items self.old.actor →
+            IsKept t limits (led from (E.view self.new.engine)) self.new.maps self.new.rows.items self.new.actor) }
         ensures maps { self.new.maps ≡ self.old.maps }
         ensures unfreed { self.new.unfreed ≡ self.old.unfreed }
+        ensures rows { self.new.rows.items ≡ self.old.rows.items }
+        ensures actor { self.new.actor ≡ self.old.actor }
         ensures begun { self.new.begun ≡ self.old.begun }
+        ensures begun_at { self.new.begun_at ≡ self.old.begun_at }
         ensures breaks { self.new.breaks ≡ self.old.breaks }
     {
         self.engine.flush()?;
@@ -42,15 +57,16 @@ impl<E: Engine> Acts<E> {
     pub fn begin(&mut self) -> Result<TxnId, SpaceFault>
         requires { CanBegin (E.view self.old.engine) self.old.unfreed self.old.rows.items self.old.actor }
         ensures counts { EngineCounts (E.view self.old.engine) (E.view self.new.engine) result }
-        ensures did { IfOk result (Begun E.table E.limits (E.view self.old.engine) (E.view self.new.engine) self.old.maps self.old.rows.items self.new.rows.items self.old.actor) }
+        ensures means { Keeps (E.means self.old.engine) (E.means self.new.engine) }
+        ensures did { (limits : State → ℕ → ℕ) (t : Table) (from : State) → E.means self.old.engine t from → IfOk result (Begun t limits (led from (E.view self.old.engine)) (led from (E.view self.new.engine)) self.old.maps self.old.rows.items self.new.rows.items self.old.actor) }
         ensures maps { self.new.maps ≡ self.old.maps }
         ensures unfreed { self.new.unfreed ≡ self.old.unfreed }
         ensures actor { self.new.actor ≡ self.old.actor }
         ensures begun { self.new.begun ≡ self.old.begun }
         ensures breaks { self.new.breaks ≡ self.old.breaks }
         // also of a call that fails
-        ensures appends { (E.view self.old.engine).Told → IsKept E.table E.limits (E.view self.old.engine) self.old.maps self.old.rows.items self.old.actor →
-            Appends E.recovers E.table (E.view self.old.engine) (E.view self.new.engine) (Begin (E.view self.new.engine).tried 0) }
+        ensures appends { (limits : State → ℕ → ℕ) (t : Table) (from : State) → E.means self.old.engine t from → (E.view self.old.engine).Told → IsKept t limits (led from (E.view self.old.engine)) self.old.maps self.old.rows.items self.old.actor →
+            Appends (E.recovers t) t (led from (E.view self.old.engine)) (led from (E.view self.new.engine)) (Begin (E.view self.new.engine).tried 0) }
     {
         let txn = TxnId(
             self.engine.next(&Rec::Begin {
@@ -66,8 +82,10 @@ impl<E: Engine> Acts<E> {
     /// The transaction acts, or the system, which is 0: the records that follow are its.
     pub fn act(&mut self, txn: TxnId)
         requires { CanAct (E.view self.old.engine) self.old.unfreed self.old.rows.items self.old.actor txn.0 }
-        ensures acts { NowActs E.table E.limits (E.view self.old.engine) self.old.maps self.old.rows.items self.old.actor self.new.actor txn.0 }
+        ensures acts { (limits : State → ℕ → ℕ) (t : Table) (from : State) → E.means self.old.engine t from → NowActs t limits (led from (E.view self.old.engine)) self.old.maps self.old.rows.items self.old.actor self.new.actor txn.0 }
         ensures engine { self.new.engine ≡ self.old.engine }
+        ensures since { (t : Table) (from : State) → E.means self.old.engine t from →
+            Since (E.means self.new.engine) (E.view self.new.engine) self.new.begun (E.view self.new.begun_at.value).now t from }
         ensures maps { self.new.maps ≡ self.old.maps }
         ensures unfreed { self.new.unfreed ≡ self.old.unfreed }
         ensures begun { self.new.begun ≡ true }
@@ -75,6 +93,7 @@ impl<E: Engine> Acts<E> {
         ensures rows { self.new.rows.items ≡ self.old.rows.items }
     {
         self.begun = true;
+        self.begun_at = Snapshot::of(&self.engine);
         if txn.0 == 0 {
             return;
         }
@@ -92,12 +111,15 @@ impl<E: Engine> Acts<E> {
     pub fn end_action(&mut self, txn: TxnId, note: &UndoNote) -> Result<(), SpaceFault>
         requires { CanEnd (E.view self.old.engine) self.old.actor txn.0 }
         ensures counts { EngineCounts (E.view self.old.engine) (E.view self.new.engine) result }
-        ensures did { OnOk result (ActionEnded E.table E.limits (E.view self.old.engine) (E.view self.new.engine) self.old.maps self.new.maps self.old.unfreed self.new.unfreed self.old.rows.items self.new.rows.items self.old.actor self.new.actor note.now) }
+        ensures means { Keeps (E.means self.old.engine) (E.means self.new.engine) }
+        ensures did { (limits : State → ℕ → ℕ) (t : Table) (from : State) → E.means self.old.engine t from → OnOk result (ActionEnded t limits (led from (E.view self.old.engine)) (led from (E.view self.new.engine)) self.old.maps self.new.maps self.old.unfreed self.new.unfreed self.old.rows.items self.new.rows.items self.old.actor self.new.actor note.now) }
+        ensures pages { length self.new.maps.pages ≡ length self.old.maps.pages }
+        ensures bands { length self.new.maps.bands ≡ length self.old.maps.bands }
         ensures begun { OnOk result (self.new.begun ≡ false) }
         ensures breaks { self.new.breaks ≡ self.old.breaks }
         // also of a call that fails
-        ensures appends { (E.view self.old.engine).Told → IsKept E.table E.limits (E.view self.old.engine) self.old.maps self.old.rows.items self.old.actor →
-            Appends E.recovers E.table (E.view self.old.engine) (E.view self.new.engine) (TopEnd self.old.actor.txn.0 self.old.actor.last self.old.actor.before note.now) }
+        ensures appends { (limits : State → ℕ → ℕ) (t : Table) (from : State) → E.means self.old.engine t from → (E.view self.old.engine).Told → IsKept t limits (led from (E.view self.old.engine)) self.old.maps self.old.rows.items self.old.actor →
+            Appends (E.recovers t) t (led from (E.view self.old.engine)) (led from (E.view self.new.engine)) (TopEnd self.old.actor.txn.0 self.old.actor.last self.old.actor.before note.now) }
     {
         let actor = self.actor;
         is_number(actor.txn.0);

@@ -11,6 +11,7 @@ use crate::rows::{Actor, keep_row, last_in};
 use crate::settling::{settle_bands, settle_pages};
 use crate::spelling::{copy_piece, is_number, spell_bytes};
 use crate::{Acts, Engine};
+use sg_alloc::map_bands;
 use sg_base::{BandNo, Lsn, TxnId};
 use sg_record::{BandBytes, Change, Rec, decode};
 use sg_space::{SpaceFault, UndoNote};
@@ -82,9 +83,10 @@ fn hop_at<'a>(r: &Rec<'a>) -> Option<(Option<Change<'a>>, Lsn)>
     }
 }
 
-// The bytes that stood where a change wrote into a band, as ones to be written there, where it keeps some.
-fn stood_at<'a>(change: &Change<'a>) -> Option<BandBytes<'a>>
-    ensures { option_map shown_stood result ≡ stood_in (shown_change change.now) }
+// The bytes that stood where a change wrote into a band, as ones to be written there, where it keeps some
+// and the band is none of those before `outside`.
+fn stood_at<'a>(change: &Change<'a>, outside: u32) -> Option<BandBytes<'a>>
+    ensures { option_map shown_stood result ≡ stood_in outside (shown_change change.now) }
 {
     let (band, at, count, before) = match *change {
         Change::Page(_) => return None,
@@ -92,6 +94,9 @@ fn stood_at<'a>(change: &Change<'a>) -> Option<BandBytes<'a>>
         Change::SegOp(c) => (c.band, c.at, c.count, c.before),
     };
     if before.is_empty() {
+        return None;
+    }
+    if band.0 < outside {
         return None;
     }
     Some(BandBytes {
@@ -104,12 +109,12 @@ fn stood_at<'a>(change: &Change<'a>) -> Option<BandBytes<'a>>
 }
 
 // The same of what a way back meets at a record.
-fn part_of<'a>(change: Option<Change<'a>>) -> Option<BandBytes<'a>>
-    ensures { option_map shown_stood result ≡ stood_by (option_map shown_change change.entry) }
+fn part_of<'a>(change: Option<Change<'a>>, outside: u32) -> Option<BandBytes<'a>>
+    ensures { option_map shown_stood result ≡ stood_by outside (option_map shown_change change.entry) }
 {
     match change {
         None => None,
-        Some(change) => stood_at(&change),
+        Some(change) => stood_at(&change, outside),
     }
 }
 
@@ -121,32 +126,36 @@ fn is_of_bytes(note: &[u8]) -> bool
 }
 
 impl<E: Engine> Acts<E> {
-    ghost use Rattle.std.specs.Prelude.{◌≡◌, ◌<◌, true, false, length, IfOk, OnOk};
+    ghost use Rattle.std.specs.Prelude.{◌≡◌, ◌<◌, ◌||◌, ℕ, true, false, length, is_some, IsSome, IfOk, OnOk};
+    ghost use Rattle.sg_alloc.specs.Flags.{map_bands_of};
     ghost use Rattle.sg_ops.specs.Table.{Table};
     ghost use Rattle.sg_space.specs.Bands.{IsPiece};
-    ghost use Rattle.sg_actions.specs.Later.{Later};
-    ghost use Rattle.sg_actions.specs.PuttingBack.{moment, HasHop, PutBytes, PutOne, CanPutBack, PutAll, UndoStepped, MayUndo};
+    ghost use Rattle.sg_action.specs.States.{State};
+    ghost use Rattle.sg_actions.specs.Later.{acts_at, Later};
+    ghost use Rattle.sg_actions.specs.Led.{HasStayed};
+    ghost use Rattle.sg_actions.specs.PuttingBack.{HasHop, PutBytes, PutOne, CanPutBack, PutAll, UndoStepped, MayUndo};
     ghost use Rattle.sg_recovery.specs.Log.Record.{CompEnd};
     ghost use Rattle.sg_actions.specs.Calls.{Appends};
     ghost use Rattle.sg_actions.specs.Ending.{CanEndUndo, UndoEnded};
     ghost use Rattle.sg_actions.specs.Counts.{ActsCounts};
-    ghost use Rattle.sg_actions.specs.Engine.{EngineCounts, HasStep, HasStayed, Moments};
+    ghost use Rattle.sg_actions.specs.Engine.{EngineCounts, HasStep, Moments, Keeps, led};
     ghost use Rattle.sg_actions.specs.Undoing.{SeesAt, CanUndo, FindsNote, IsNextUndo};
-    ghost use Rattle.sg_actions.specs.View.{IsKept};
+    ghost use Rattle.sg_actions.specs.View.{IsKept, Since};
 
     // Looks at a record on the way back of an undo. The bytes of a note are handed out.
     fn look_back(&mut self, at: Lsn, into: &mut UndoNote) -> Result<Seen, SpaceFault>
         requires there { HasStep (E.view self.old.engine) at }
         ensures counts { ActsCounts (E.view self.old.engine) (E.view self.new.engine) self.old.breaks self.new.breaks result }
-        ensures stays { OnOk result (HasStayed (E.view self.old.engine) (E.view self.new.engine)) }
-        ensures saw { IfOk result (λ s. (E.view self.old.engine).Told → SeesAt (E.view self.old.engine).steps at into.new s) }
+        ensures means { Keeps (E.means self.old.engine) (E.means self.new.engine) }
+        ensures stays { (t : Table) (from : State) → E.means self.old.engine t from → OnOk result (HasStayed (led from (E.view self.old.engine)) (led from (E.view self.new.engine))) }
+        ensures saw { (t : Table) (from : State) → E.means self.old.engine t from → IfOk result (λ s. (E.view self.old.engine).Told → SeesAt (E.view self.old.engine).steps at into.new s) }
         ensures maps { self.new.maps ≡ self.old.maps }
         ensures unfreed { self.new.unfreed ≡ self.old.unfreed }
         ensures rows { self.new.rows.items ≡ self.old.rows.items }
         ensures actor { self.new.actor ≡ self.old.actor }
         ensures begun { self.new.begun ≡ self.old.begun }
         // also of a call that fails
-        ensures moments { (E.view self.old.engine).Told → Moments E.recovers E.table (E.view self.old.engine) (E.view self.new.engine) (E.view self.old.engine).steps }
+        ensures moments { (t : Table) (from : State) → E.means self.old.engine t from → (E.view self.old.engine).Told → Moments (E.recovers t) t (led from (E.view self.old.engine)) (led from (E.view self.new.engine)) (E.view self.old.engine).steps }
     {
         let mut text = [0u8; GREATEST];
         let size = self.engine.read(at, &mut text)?;
@@ -169,15 +178,16 @@ impl<E: Engine> Acts<E> {
     ) -> Result<Option<Found>, SpaceFault>
         requires { CanUndo (E.view self.old.engine) self.old.unfreed self.old.rows.items self.old.actor txn.0 stop }
         ensures counts { ActsCounts (E.view self.old.engine) (E.view self.new.engine) self.old.breaks self.new.breaks result }
-        ensures stays { OnOk result (HasStayed (E.view self.old.engine) (E.view self.new.engine)) }
-        ensures finds { IfOk result (λ f. (E.view self.old.engine).Told → FindsNote (E.view self.old.engine).steps txn.0 stop into.new f) }
+        ensures means { Keeps (E.means self.old.engine) (E.means self.new.engine) }
+        ensures stays { (t : Table) (from : State) → E.means self.old.engine t from → OnOk result (HasStayed (led from (E.view self.old.engine)) (led from (E.view self.new.engine))) }
+        ensures finds { (t : Table) (from : State) → E.means self.old.engine t from → IfOk result (λ f. (E.view self.old.engine).Told → FindsNote (E.view self.old.engine).steps txn.0 stop into.new f) }
         ensures maps { self.new.maps ≡ self.old.maps }
         ensures unfreed { self.new.unfreed ≡ self.old.unfreed }
         ensures rows { self.new.rows.items ≡ self.old.rows.items }
         ensures actor { self.new.actor ≡ self.old.actor }
         ensures begun { self.new.begun ≡ self.old.begun }
         // also of a call that fails
-        ensures moments { (E.view self.old.engine).Told → Moments E.recovers E.table (E.view self.old.engine) (E.view self.new.engine) (E.view self.old.engine).steps }
+        ensures moments { (t : Table) (from : State) → E.means self.old.engine t from → (E.view self.old.engine).Told → Moments (E.recovers t) t (led from (E.view self.old.engine)) (led from (E.view self.new.engine)) (E.view self.old.engine).steps }
     {
         let Some(last) = last_in(self.rows.as_slice(), txn) else {
             return Err(count_break(&mut self.breaks));
@@ -208,20 +218,23 @@ impl<E: Engine> Acts<E> {
     pub fn next_undo(&mut self, txn: TxnId, stop: Lsn) -> Result<Option<Lsn>, SpaceFault>
         requires { CanUndo (E.view self.old.engine) self.old.unfreed self.old.rows.items self.old.actor txn.0 stop }
         ensures counts { ActsCounts (E.view self.old.engine) (E.view self.new.engine) self.old.breaks self.new.breaks result }
-        ensures stays { OnOk result (HasStayed (E.view self.old.engine) (E.view self.new.engine)) }
+        ensures means { Keeps (E.means self.old.engine) (E.means self.new.engine) }
+        ensures stays { (t : Table) (from : State) → E.means self.old.engine t from → OnOk result (HasStayed (led from (E.view self.old.engine)) (led from (E.view self.new.engine))) }
         ensures next { IfOk result (IsNextUndo (E.view self.old.engine) txn.0 stop) }
-        ensures kept { OnOk result ((E.view self.old.engine).Told → IsKept E.table E.limits (E.view self.old.engine) self.old.maps self.old.rows.items self.old.actor → IsKept E.table E.limits (E.view self.new.engine) self.new.maps self.new.rows.items self.new.actor) }
+        ensures kept { (limits : State → ℕ → ℕ) (t : Table) (from : State) → E.means self.old.engine t from → OnOk result ((E.view self.old.engine).Told → IsKept t limits (led from (E.view self.old.engine)) self.old.maps self.old.rows.items self.old.actor → IsKept t limits (led from (E.view self.new.engine)) self.new.maps self.new.rows.items self.new.actor) }
         ensures maps { self.new.maps ≡ self.old.maps }
         ensures unfreed { self.new.unfreed ≡ self.old.unfreed }
         ensures rows { self.new.rows.items ≡ self.old.rows.items }
         ensures actor { self.new.actor ≡ self.old.actor }
         ensures begun { self.new.begun ≡ self.old.begun }
         // also of a call that fails
-        ensures moments { (E.view self.old.engine).Told → Moments E.recovers E.table (E.view self.old.engine) (E.view self.new.engine) (E.view self.old.engine).steps }
+        ensures moments { (t : Table) (from : State) → E.means self.old.engine t from → (E.view self.old.engine).Told → Moments (E.recovers t) t (led from (E.view self.old.engine)) (led from (E.view self.new.engine)) (E.view self.old.engine).steps }
     {
         let mut note = UndoNote::new();
-        let found = self.find_note(txn, stop, &mut note)?;
-        Ok(found.map(|f| f.at))
+        let Some(found) = self.find_note(txn, stop, &mut note)? else {
+            return Ok(None);
+        };
+        Ok(Some(found.at))
     }
 
     // Writes bytes into a part of a band, as a change of who acts.
@@ -230,14 +243,16 @@ impl<E: Engine> Acts<E> {
         requires piece { IsPiece at (length bytes.now) }
         requires begun { self.old.begun ≡ true }
         ensures counts { ActsCounts (E.view self.old.engine) (E.view self.new.engine) self.old.breaks self.new.breaks result }
-        ensures did { OnOk result (PutBytes E.table (E.view self.old.engine) (E.view self.new.engine) self.old.rows.items self.old.actor self.new.actor (b.0, (at, bytes.now))) }
+        ensures means { Keeps (E.means self.old.engine) (E.means self.new.engine) }
+        ensures did { (t : Table) (from : State) → E.means self.old.engine t from → OnOk result (PutBytes t (led from (E.view self.old.engine)) (led from (E.view self.new.engine)) self.old.rows.items self.old.actor self.new.actor (b.0, (at, bytes.now))) }
         ensures maps { self.new.maps ≡ self.old.maps }
         ensures unfreed { self.new.unfreed ≡ self.old.unfreed }
         ensures rows { self.new.rows.items ≡ self.old.rows.items }
         ensures begun { self.new.begun ≡ self.old.begun }
         // also of a call that fails
-        ensures later { (u : Table) → Later E.recovers E.table E.limits u (moment (E.view self.old.engine) self.old.maps self.old.rows.items self.old.actor self.old.begun)
-            (moment (E.view self.new.engine) self.new.maps self.new.rows.items self.new.actor self.new.begun) }
+        ensures later { (limits : State → ℕ → ℕ) (t : Table) → Later E.recovers limits t
+            (acts_at (E.view self.old.engine) (E.means self.old.engine) (E.view self.old.begun_at.value).now self.old.maps self.old.rows.items self.old.actor self.old.begun)
+            (acts_at (E.view self.new.engine) (E.means self.new.engine) (E.view self.new.begun_at.value).now self.new.maps self.new.rows.items self.new.actor self.new.begun) }
     {
         let count = bytes.len();
         let mut before = [0u8; 8192];
@@ -260,15 +275,18 @@ impl<E: Engine> Acts<E> {
     fn put_one_back(&mut self, at: Lsn) -> Result<Lsn, SpaceFault>
         requires hop { (E.view self.old.engine).Told → HasHop (E.view self.old.engine).steps at }
         requires begun { self.old.begun ≡ true }
+        ensures lower { IfOk result (λ next. next < at) }
         ensures counts { ActsCounts (E.view self.old.engine) (E.view self.new.engine) self.old.breaks self.new.breaks result }
-        ensures did { IfOk result (PutOne E.table (E.view self.old.engine) (E.view self.new.engine) self.old.rows.items self.old.actor self.new.actor at) }
+        ensures means { Keeps (E.means self.old.engine) (E.means self.new.engine) }
+        ensures did { (t : Table) (from : State) → E.means self.old.engine t from → IfOk result (PutOne (map_bands_of (length self.old.maps.pages) (length self.old.maps.bands)) t (led from (E.view self.old.engine)) (led from (E.view self.new.engine)) self.old.rows.items self.old.actor self.new.actor at) }
         ensures maps { self.new.maps ≡ self.old.maps }
         ensures unfreed { self.new.unfreed ≡ self.old.unfreed }
         ensures rows { self.new.rows.items ≡ self.old.rows.items }
         ensures begun { self.new.begun ≡ self.old.begun }
         // also of a call that fails
-        ensures later { (u : Table) → Later E.recovers E.table E.limits u (moment (E.view self.old.engine) self.old.maps self.old.rows.items self.old.actor self.old.begun)
-            (moment (E.view self.new.engine) self.new.maps self.new.rows.items self.new.actor self.new.begun) }
+        ensures later { (limits : State → ℕ → ℕ) (t : Table) → Later E.recovers limits t
+            (acts_at (E.view self.old.engine) (E.means self.old.engine) (E.view self.old.begun_at.value).now self.old.maps self.old.rows.items self.old.actor self.old.begun)
+            (acts_at (E.view self.new.engine) (E.means self.new.engine) (E.view self.new.begun_at.value).now self.new.maps self.new.rows.items self.new.actor self.new.begun) }
     {
         let mut text = [0u8; GREATEST];
         let size = self.engine.read(at, &mut text)?;
@@ -281,7 +299,8 @@ impl<E: Engine> Acts<E> {
         if next >= at {
             return Err(count_break(&mut self.breaks));
         }
-        let Some(part) = part_of(change) else {
+        let outside = map_bands(self.count, self.bands);
+        let Some(part) = part_of(change, outside) else {
             return Ok(next);
         };
         self.put_bytes(part.band, part.at, part.after)?;
@@ -290,17 +309,19 @@ impl<E: Engine> Acts<E> {
 
     // Puts the bytes back of all changes on a way back over an action, those of the last one first.
     fn put_back(&mut self, from: Lsn, to: Lsn) -> Result<(), SpaceFault>
-        requires can { (E.view self.old.engine).Told → CanPutBack (E.view self.old.engine) self.old.rows.items self.old.actor to from }
+        requires can { (E.view self.old.engine).Told → ∥ CanPutBack (E.view self.old.engine) self.old.rows.items self.old.actor to from ∥₁ }
         requires begun { self.old.begun ≡ true }
         ensures counts { ActsCounts (E.view self.old.engine) (E.view self.new.engine) self.old.breaks self.new.breaks result }
-        ensures did { OnOk result (PutAll E.table (E.view self.old.engine) (E.view self.new.engine) self.old.rows.items self.old.actor self.new.actor to from) }
+        ensures means { Keeps (E.means self.old.engine) (E.means self.new.engine) }
+        ensures did { (t : Table) (start : State) → E.means self.old.engine t start → OnOk result (PutAll (map_bands_of (length self.old.maps.pages) (length self.old.maps.bands)) t (led start (E.view self.old.engine)) (led start (E.view self.new.engine)) self.old.rows.items self.old.actor self.new.actor to from) }
         ensures maps { self.new.maps ≡ self.old.maps }
         ensures unfreed { self.new.unfreed ≡ self.old.unfreed }
         ensures rows { self.new.rows.items ≡ self.old.rows.items }
         ensures begun { self.new.begun ≡ self.old.begun }
         // also of a call that fails
-        ensures later { (u : Table) → Later E.recovers E.table E.limits u (moment (E.view self.old.engine) self.old.maps self.old.rows.items self.old.actor self.old.begun)
-            (moment (E.view self.new.engine) self.new.maps self.new.rows.items self.new.actor self.new.begun) }
+        ensures later { (limits : State → ℕ → ℕ) (t : Table) → Later E.recovers limits t
+            (acts_at (E.view self.old.engine) (E.means self.old.engine) (E.view self.old.begun_at.value).now self.old.maps self.old.rows.items self.old.actor self.old.begun)
+            (acts_at (E.view self.new.engine) (E.means self.new.engine) (E.view self.new.begun_at.value).now self.new.maps self.new.rows.items self.new.actor self.new.begun) }
     {
         let mut at = from;
         'back: while at != to {
@@ -311,7 +332,8 @@ impl<E: Engine> Acts<E> {
 
     /// Comes to the transaction's last note that isn't undone, hands it out, and answers where undoing
     /// goes on behind it; there is none where it isn't behind the record at which to stop. Where it is a
-    /// note of bytes, those come back that stood where its action wrote into bands. The transaction acts
+    /// note of bytes, those come back that stood where its action wrote into bands, but for those of the
+    /// allocation map. The transaction acts
     /// then, and what undoes the note is to follow as changes of its action.
     pub fn undo_step(
         &mut self,
@@ -321,13 +343,17 @@ impl<E: Engine> Acts<E> {
     ) -> Result<Option<Lsn>, SpaceFault>
         requires { CanUndo (E.view self.old.engine) self.old.unfreed self.old.rows.items self.old.actor txn.0 stop }
         ensures counts { ActsCounts (E.view self.old.engine) (E.view self.new.engine) self.old.breaks self.new.breaks result }
-        ensures did { IfOk result (UndoStepped E.table (E.view self.old.engine) (E.view self.new.engine) self.old.rows.items self.old.actor self.new.actor txn.0 stop into.new) }
+        ensures means { Keeps (E.means self.old.engine) (E.means self.new.engine) }
+        ensures did { (t : Table) (from : State) → E.means self.old.engine t from → IfOk result (UndoStepped (map_bands_of (length self.old.maps.pages) (length self.old.maps.bands)) t (led from (E.view self.old.engine)) (led from (E.view self.new.engine)) self.old.rows.items self.old.actor self.new.actor txn.0 stop into.new) }
         ensures maps { self.new.maps ≡ self.old.maps }
         ensures unfreed { self.new.unfreed ≡ self.old.unfreed }
         ensures rows { self.new.rows.items ≡ self.old.rows.items }
+        ensures begun { IfOk result (λ next. self.new.begun ≡ (is_some next || self.old.begun)) }
+        ensures since { (t : Table) (from : State) → E.means self.old.engine t from → IfOk result (λ next. IsSome next →
+            Since (E.means self.new.engine) (E.view self.new.engine) self.new.begun (E.view self.new.begun_at.value).now t from) }
         // also of a call that fails
-        ensures undoes { (E.view self.old.engine).Told → IsKept E.table E.limits (E.view self.old.engine) self.old.maps self.old.rows.items self.old.actor →
-            MayUndo E.recovers E.table E.limits (E.view self.old.engine) (E.view self.new.engine) self.old.maps self.new.rows.items self.new.actor txn.0 }
+        ensures undoes { (limits : State → ℕ → ℕ) (t : Table) (from : State) → E.means self.old.engine t from → (E.view self.old.engine).Told → IsKept t limits (led from (E.view self.old.engine)) self.old.maps self.old.rows.items self.old.actor →
+            MayUndo (E.recovers t) t limits (led from (E.view self.old.engine)) (led from (E.view self.new.engine)) self.old.maps self.new.rows.items self.new.actor txn.0 }
     {
         let Some(found) = self.find_note(txn, stop, into)? else {
             return Ok(None);
@@ -344,12 +370,15 @@ impl<E: Engine> Acts<E> {
     pub fn end_undo(&mut self, txn: TxnId, after: Lsn) -> Result<(), SpaceFault>
         requires { CanEndUndo (E.view self.old.engine) self.old.actor txn.0 after }
         ensures counts { EngineCounts (E.view self.old.engine) (E.view self.new.engine) result }
-        ensures did { OnOk result (UndoEnded E.table E.limits (E.view self.old.engine) (E.view self.new.engine) self.old.maps self.new.maps self.old.unfreed self.new.unfreed self.old.rows.items self.new.rows.items self.old.actor self.new.actor after) }
+        ensures means { Keeps (E.means self.old.engine) (E.means self.new.engine) }
+        ensures did { (limits : State → ℕ → ℕ) (t : Table) (from : State) → E.means self.old.engine t from → OnOk result (UndoEnded t limits (led from (E.view self.old.engine)) (led from (E.view self.new.engine)) self.old.maps self.new.maps self.old.unfreed self.new.unfreed self.old.rows.items self.new.rows.items self.old.actor self.new.actor after) }
+        ensures pages { length self.new.maps.pages ≡ length self.old.maps.pages }
+        ensures bands { length self.new.maps.bands ≡ length self.old.maps.bands }
         ensures begun { OnOk result (self.new.begun ≡ false) }
         ensures breaks { self.new.breaks ≡ self.old.breaks }
         // also of a call that fails
-        ensures appends { (E.view self.old.engine).Told → IsKept E.table E.limits (E.view self.old.engine) self.old.maps self.old.rows.items self.old.actor →
-            Appends E.recovers E.table (E.view self.old.engine) (E.view self.new.engine) (CompEnd self.old.actor.txn.0 self.old.actor.last after) }
+        ensures appends { (limits : State → ℕ → ℕ) (t : Table) (from : State) → E.means self.old.engine t from → (E.view self.old.engine).Told → IsKept t limits (led from (E.view self.old.engine)) self.old.maps self.old.rows.items self.old.actor →
+            Appends (E.recovers t) t (led from (E.view self.old.engine)) (led from (E.view self.new.engine)) (CompEnd self.old.actor.txn.0 self.old.actor.last after) }
     {
         let actor = self.actor;
         is_number(actor.txn.0);

@@ -1,12 +1,12 @@
 // The walk over a blob.
-ghost use Rattle.std.specs.Prelude.{◌≡◌, ℕ, ◌-◌, ◌*◌, ◌≤◌, ◌<◌, length, IfSome, IsSome, IfOk, IfErr, OnOk};
+ghost use Rattle.std.specs.Prelude.{◌≡◌, ℕ, ◌-◌, ◌*◌, ◌≤◌, ◌<◌, length, true, Some, slice_get, IfSome, IsSome, IfOk, IfErr, OnOk};
 ghost use Rattle.sg_base.specs.Sheet.{sheet_of};
 ghost use Rattle.sg_base.specs.declared.page.TheConstants.{BAND_SIZE};
 ghost use Rattle.sg_blob.specs.Raw.{root_cell};
 ghost use Rattle.sg_bands.specs.Parts.{Root, IsInRange, root_form, band_count};
 ghost use Rattle.sg_bands.specs.Reached.{numbers_in, CanWalkBands, WalksBands, CanReachBlob, ReachesBlob};
 ghost use Rattle.sg_ops.specs.Table.{Table};
-ghost use Rattle.sg_reach.specs.Fault.{CountsReach, IfBroken};
+ghost use Rattle.sg_reach.specs.Fault.{CountsReach, WritesNoneReach, IfBroken, IsAtPage, IsReached};
 ghost use Rattle.sg_space.specs.Pages.{CanLook};
 ghost use Rattle.sg_space.specs.Reads.{HasCell};
 ghost use Rattle.sg_space.specs.Units.{HasAt};
@@ -100,6 +100,8 @@ fn read_numbers<P: PageSpace>(space: &mut P, root: PageNo) -> Result<Numbers, Re
         → ¬ HasAt (P.view space.old).space.pages.at root.0 (HasCell 7 0 (root_cell r.count r.peak)))) }
     ensures later { (t : Table) → P.later t space.old space.new }
     ensures means { (t : Table) → P.means space.old t → P.means space.new t }
+    ensures writes { WritesNoneReach (P.view space.old) (P.view space.new) result }
+    ensures names { IfErr result (IsAtPage root.0) }
 {
     let view = space.page(root)?;
     match numbers_on(&view) {
@@ -125,6 +127,8 @@ fn reach_bands<P: PageSpace>(
         → ¬ CanWalkBands (P.view space.old).space root.0 (numbers_in found) into.old.bands)) }
     ensures later { (t : Table) → P.later t space.old space.new }
     ensures means { (t : Table) → P.means space.old t → P.means space.new t }
+    ensures writes { WritesNoneReach (P.view space.old) (P.view space.new) result }
+    ensures names { IfErr result (IsAtPage root.0) }
 {
     for j in 0..found.bands() {
         let band = link_at(space, root, ROOT_KIND, (j + 1) as u16)?;
@@ -155,6 +159,8 @@ pub fn reach_blob<P: PageSpace>(
         → ¬ CanReachBlob (P.view space.old).space root.0 into.old.pages into.old.bands)) }
     ensures later { (t : Table) → P.later t space.old space.new }
     ensures means { (t : Table) → P.means space.old t → P.means space.new t }
+    ensures writes { WritesNoneReach (P.view space.old) (P.view space.new) result }
+    ensures place { IfErr result (IsReached ((P.view space.old).Shows × (slice_get into.old.pages from.0 ≡ Some true)) into.new.pages) }
 {
     set_page(into, from, root)?;
     let found = read_numbers(space, root)?;

@@ -2,7 +2,7 @@
 ghost use Rattle.std.specs.Prelude.{◌≡◌, ◌≢◌, ℕ, ◌∷◌, [], ◌≤◌, false, Some, slice_get, slice_index, IsTrue, IsFalse, OnOk, IfErr};
 ghost use Rattle.sg_bands.specs.Parts.{HasTail};
 ghost use Rattle.sg_ops.specs.Table.{Table};
-ghost use Rattle.sg_reach.specs.Fault.{CountsReach, IfBroken, OnlyBroken};
+ghost use Rattle.sg_reach.specs.Fault.{CountsReach, WritesNoneReach, IfBroken, OnlyBroken, IsAtPage};
 ghost use Rattle.sg_reach.specs.Marks.{AreSet};
 ghost use Rattle.sg_space.specs.Pages.{CanLook};
 ghost use Rattle.sg_space.specs.Units.{HasAt};
@@ -18,6 +18,7 @@ pub fn set_band(into: &mut Maps, from: PageNo, b: BandNo) -> Result<(), ReachFau
     ensures set { OnOk result (AreSet into.old.bands into.new.bands (b.0 ∷ [])) }
     ensures pages { into.new.pages ≡ into.old.pages }
     ensures broken { IfErr result (OnlyBroken (slice_get into.old.bands b.0 ≢ Some false)) }
+    ensures names { IfErr result (IsAtPage from.0) }
 {
     match into.band_taken(b) {
         Some(false) => {
@@ -56,6 +57,8 @@ pub fn check_band<P: PageSpace>(
         ((P.view space.old).Shows → ¬ HasAt (P.view space.old).space.bands.at b.0 (HasTail from))) }
     ensures later { (t : Table) → P.later t space.old space.new }
     ensures means { (t : Table) → P.means space.old t → P.means space.new t }
+    ensures writes { WritesNoneReach (P.view space.old) (P.view space.new) result }
+    ensures names { IfErr result (IsAtPage root.0) }
 {
     let bytes = space.band(b)?;
     if !is_zero_from(bytes, from as usize) {

@@ -10,6 +10,7 @@ use Rattle.sg_reading.specs.Strokes.{Alike, contents, byte_at, AreDistinct, AreW
 use Rattle.sg_reading.specs.Noted.{PutsBack}
 use Rattle.sg_before.specs.Laying.{put_on, back_to, AreWithin}
 use Rattle.sg_before.specs.Befores.{befores, IsTakenBy, AreFilled, AreWholeBands, AreOn}
+pub use Rattle.sg_before.specs.Held.{AreApart, HadBands, TookBands}
 use Rattle.sg_before.proofs.Laying.{back_is, laid_back, all_alike, puts_back_by, located_one, whole_back, padded_alike, byte_past}
 use Rattle.sg_before.proofs.Parted.{AreHeld, IsHeld, held_whole, held_bytes, bytes_held}
 use Rattle.sg_before.proofs.Written.{kept_back}
@@ -36,10 +37,6 @@ place_none (x ∷ xs) b far = go (x == b) refl (place_none xs b (λ j e. far (su
     go : (c : Bool) → (x == b) ≡ c → place_of xs b ≡ None → cond c (Some 0) (next_place (place_of xs b)) ≡ None
     go true e f = absurd (far 0 (ap (λ (n : ℕ). Some n) (eqb-true x b e)))
     go false e f = ap next_place f
-
--- no two of them are one
-abbrev pub AreApart : List ℕ → Type 0
-AreApart bs = (i j b : ℕ) → slice_get bs i ≡ Some b → slice_get bs j ≡ Some b → i ≡ j
 
 pub distinct : (bs : List ℕ) → AreApart bs → AreDistinct bs
 distinct [] h = tt
@@ -101,15 +98,6 @@ zeros_held s bytes from (b ∷ bs) past zeros = (
   where
     further : (k : ℕ) → length bytes ≤ from + k
     further k = omega (arith, past)
-
--- the bands that a blob had when the action began, and those that the action took for it
-pub record HadBands (kept : Kept) (map : ℕ) (bs : List ℕ) : Type 0 where
-  pub had : (j b : ℕ) → slice_get bs j ≡ Some b → kept.bands b ≡ true
-  pub behind : (j b : ℕ) → slice_get bs j ≡ Some b → map ≤ b
-
-pub record TookBands (map : ℕ) (ds : List Change) (more : List ℕ) : Type 0 where
-  pub taken : (j b : ℕ) → slice_get more j ≡ Some b → IsTakenBy ds b
-  pub behind : (j b : ℕ) → slice_get more j ≡ Some b → map ≤ b
 
 -- AT THE END OF AN ACTION of one blob its before bytes put back what there was
 pub action_puts_back : (t : Table) (kept : Kept) (map : ℕ) (ds : List Change) (x : State) (bs more old new : List ℕ) → AreWholeBands x → IsOpened t kept x ds → AreFilled t kept ds → HadBands kept map bs → TookBands map ds more → AreApart (bs ++ more) → AreOn (bs ++ more) (befores map ds)

@@ -14,6 +14,7 @@ use Rattle.sg_reading.proofs.Bytes.{laid_low, laid_in, laid_high, by_place}
 use Rattle.sg_reading.specs.Strokes.{overwrite, byte_at}
 use Rattle.sg_before.specs.Laying.{put_on, AreWithin}
 use Rattle.sg_before.specs.Befores.{found_in, befores, written_on, IsFilledAt, IsTakenBy, AreFilled, AreWholeBands}
+pub use Rattle.sg_before.specs.Held.{IsZeros}
 use Rattle.sg_before.proofs.Laying.{length_over}
 use Rattle.sg_before.proofs.Written.{found_step, found_other, found_none, one_is, one_other, written_back}
 
@@ -164,10 +165,6 @@ zeros_at t kept (Paint band at count code position arg [] ∷ ds) x b w o f free
     (let size = still_whole t kept ds x w o.0 f.0 b in let fits = f.1.within in omega (arith, size, fits)) (λ e. inr old) (λ e. old)
 
 -- A BAND THAT THE ACTION TOOK holds zeros
-pub record IsZeros (xs : List ℕ) : Type 0 where
-  pub size : length xs ≡ 32768
-  pub each : (k : ℕ) → k < 32768 → byte_at xs k ≡ 0
-
 pub fresh_back : (t : Table) (kept : Kept) (map : ℕ) (ds : List Change) (x : State) (b : ℕ) → AreWholeBands x → IsOpened t kept x ds → AreFilled t kept ds → map ≤ b → IsTakenBy ds b → IsZeros (put_on (befores map ds) b ((made t x ds).bands b))
 fresh_back t kept map [] x b w o f h taken = absurd (taken 0 (omega arith))
 fresh_back t kept map (Page n op back ∷ ds) x b w o f h taken = fresh_back t kept map ds x b w o.0 f.0 h (λ k l. later (taken k l))

@@ -1,8 +1,8 @@
 // The walk along the chain of a bucket.
-ghost use Rattle.std.specs.Prelude.{◌≡◌, ◌<◌, ◌^◌, IfOk, IfErr, OnOk};
+ghost use Rattle.std.specs.Prelude.{◌≡◌, ◌<◌, ◌^◌, true, Some, slice_get, IfOk, IfErr, OnOk};
 ghost use Rattle.sg_chains.specs.Reached.{CanReachChain, ReachesChain, AreFew};
 ghost use Rattle.sg_ops.specs.Table.{Table};
-ghost use Rattle.sg_reach.specs.Fault.{CountsReach, IfBroken};
+ghost use Rattle.sg_reach.specs.Fault.{CountsReach, WritesNoneReach, IfBroken, IsReached};
 ghost use Rattle.sg_space.specs.View.{OnlyReads};
 
 use crate::page::look;
@@ -45,6 +45,8 @@ pub fn reach_chain<P: PageSpace>(
         → ¬ CanReachChain (P.view space.old).space.pages.at there first.0 into.old.pages)) }
     ensures later { (t : Table) → P.later t space.old space.new }
     ensures means { (t : Table) → P.means space.old t → P.means space.new t }
+    ensures writes { WritesNoneReach (P.view space.old) (P.view space.new) result }
+    ensures place { IfErr result (IsReached ((P.view space.old).Shows × (slice_get into.old.pages from.0 ≡ Some true)) into.new.pages) }
 {
     // Each page that is set was free, which bounds the sums.
     let _most = into.free_pages();

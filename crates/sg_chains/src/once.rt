@@ -4,7 +4,7 @@ ghost use Rattle.sg_bucket.specs.Bucket.{entries_of};
 ghost use Rattle.sg_bucket.specs.Entry.{AreOnce};
 ghost use Rattle.sg_chains.specs.Tally.{HasChain, IfChain, IsOnceAt};
 ghost use Rattle.sg_ops.specs.Table.{Table};
-ghost use Rattle.sg_reach.specs.Fault.{CountsReach, IfBroken};
+ghost use Rattle.sg_reach.specs.Fault.{CountsReach, WritesNoneReach, IfBroken, IsAtPage, IsAmongPages};
 ghost use Rattle.sg_space.specs.Pages.{CanLook};
 ghost use Rattle.sg_space.specs.View.{OnlyReads};
 
@@ -32,6 +32,8 @@ fn check_page<P: PageSpace>(
     ensures broken { IfErr result (IfBroken (IfChain (P.view space.old) first.0 pages (λ b. ¬ AreOnce (entries_of b.parts)))) }
     ensures later { (t : Table) → P.later t space.old space.new }
     ensures means { (t : Table) → P.means space.old t → P.means space.new t }
+    ensures writes { WritesNoneReach (P.view space.old) (P.view space.new) result }
+    ensures names { IfErr result (IsAtPage p.0) }
 {
     let outline = outline_of(space, p)?;
     for slot in 0..outline.slots {
@@ -56,6 +58,8 @@ pub fn check_once<P: PageSpace>(space: &mut P, first: PageNo, pages: u32) -> Res
     ensures broken { IfErr result (IfBroken (IfChain (P.view space.old) first.0 pages (λ b. ¬ AreOnce (entries_of b.parts)))) }
     ensures later { (t : Table) → P.later t space.old space.new }
     ensures means { (t : Table) → P.means space.old t → P.means space.new t }
+    ensures writes { WritesNoneReach (P.view space.old) (P.view space.new) result }
+    ensures place { IfErr result (λ e. IfChain (P.view space.old) first.0 pages (λ b. IsAmongPages b.pages e)) }
 {
     let mut page = first;
     'pages: for _ in 0..pages {

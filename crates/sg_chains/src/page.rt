@@ -5,7 +5,7 @@ ghost use Rattle.sg_bucket.specs.Entry.{IsEntryCell};
 ghost use Rattle.sg_chains.specs.Parts.{IsEntryAt, IsChainPage};
 ghost use Rattle.sg_chains.specs.Seen.{IsSeen};
 ghost use Rattle.sg_ops.specs.Table.{Table};
-ghost use Rattle.sg_reach.specs.Fault.{CountsReach, IfBroken};
+ghost use Rattle.sg_reach.specs.Fault.{CountsReach, WritesNoneReach, IfBroken, IsAtPage};
 ghost use Rattle.sg_space.specs.Pages.{CanLook};
 ghost use Rattle.sg_space.specs.Units.{HasAt};
 ghost use Rattle.sg_space.specs.View.{OnlyReads};
@@ -83,6 +83,8 @@ pub fn look<P: PageSpace>(space: &mut P, p: PageNo, there: Address) -> Result<Se
         ((P.view space.old).Shows → ¬ HasAt (P.view space.old).space.pages.at p.0 (IsChainPage there))) }
     ensures later { (t : Table) → P.later t space.old space.new }
     ensures means { (t : Table) → P.means space.old t → P.means space.new t }
+    ensures writes { WritesNoneReach (P.view space.old) (P.view space.new) result }
+    ensures names { IfErr result (IsAtPage p.0) }
 {
     let view = space.page(p)?;
     match see(&view, there) {

@@ -5,7 +5,7 @@ ghost use Rattle.sg_bucket.specs.Bucket.{entries_of};
 ghost use Rattle.sg_bucket.specs.Part.{AreEntries, entries_in};
 ghost use Rattle.sg_chains.specs.Tally.{key_count, IsTally, IsKeyIn, IsKeyAt, HasChain, IfChain, IsOutline};
 ghost use Rattle.sg_ops.specs.Table.{Table};
-ghost use Rattle.sg_space.specs.Pages.{CanLook};
+ghost use Rattle.sg_space.specs.Pages.{CanLook, WritesNone};
 ghost use Rattle.sg_space.specs.Units.{HasAt};
 ghost use Rattle.sg_space.specs.View.{Counts, OnlyReads};
 
@@ -57,6 +57,7 @@ fn tally_page<P: PageSpace>(space: &mut P, p: PageNo, key: &[u8]) -> Result<Tall
     ensures few { IfOk result (λ t. t.count < 65536) }
     ensures later { (t : Table) → P.later t space.old space.new }
     ensures means { (t : Table) → P.means space.old t → P.means space.new t }
+    ensures writes { WritesNone (P.view space.old) (P.view space.new) result }
 {
     let view = space.page(p)?;
     let count = count_on(&view, key);
@@ -75,6 +76,7 @@ pub fn outline_of<P: PageSpace>(space: &mut P, p: PageNo) -> Result<Outline, Spa
     ensures read { IfOk result (λ o. (P.view space.old).Shows → HasAt (P.view space.old).space.pages.at p.0 (IsOutline o.slots o.next.0)) }
     ensures later { (t : Table) → P.later t space.old space.new }
     ensures means { (t : Table) → P.means space.old t → P.means space.new t }
+    ensures writes { WritesNone (P.view space.old) (P.view space.new) result }
 {
     let view = space.page(p)?;
     let slots = view.slots();
@@ -115,6 +117,7 @@ pub fn key_at<P: PageSpace>(
     ensures within { IfOk result (λ found. IfSome found (λ n. n ≤ length into.new)) }
     ensures later { (t : Table) → P.later t space.old space.new }
     ensures means { (t : Table) → P.means space.old t → P.means space.new t }
+    ensures writes { WritesNone (P.view space.old) (P.view space.new) result }
 {
     let view = space.page(p)?;
     let found = key_on(&view, slot, into);
@@ -134,6 +137,7 @@ pub fn count<P: PageSpace>(
     ensures read { IfOk result (λ n. IfChain (P.view space.old) first.0 pages (λ b. n ≡ key_count key.now (entries_of b.parts))) }
     ensures later { (t : Table) → P.later t space.old space.new }
     ensures means { (t : Table) → P.means space.old t → P.means space.new t }
+    ensures writes { WritesNone (P.view space.old) (P.view space.new) result }
 {
     let mut page = first;
     let mut n = 0u64;

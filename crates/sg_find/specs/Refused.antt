@@ -9,7 +9,7 @@ use Rattle.sg_record.specs.Records.{Record}
 use Rattle.sg_log.specs.Frames.{Frames, numbered_in}
 use Rattle.sg_log.specs.Formed as log
 use Rattle.sg_analysis.specs.Damage as analysis
-use Rattle.sg_places.specs.Asked.{first_outside, first_unknown}
+use Rattle.sg_places.specs.Asked.{Undone, first_outside, first_unknown}
 use Rattle.sg_gate.specs.declared.fault.GateFault.{GateFault}
 use Rattle.sg_gate.specs.declared.fault.GateFault.TheVariants as gates
 use Rattle.sg_log.specs.declared.fault.LogFault.{LogFault}
@@ -27,14 +27,14 @@ LogRefused told area base old new NotAStore = ⊥
 LogRefused told area base old new (Damaged there at) = (there ≡ area) × (IsTrue told → log.IsDamagedAt (old.now area).seen base at ⊎ analysis.IsDamagedAt (old.now area).seen base at)
 LogRefused told area base old new (UnknownOperation code) = ⊥
 
--- its records may not be repeated only where one is of a page or a band that the store doesn't have, or else where a code isn't registered; or
--- for want of memory
-abbrev pub RecordsRefused : Table → Area → (pages bands base point : ℕ) (losers : List (ℕ × ℕ)) → List (List Record) → OpenFault → Type 0
-RecordsRefused t area pages bands base point losers frames Disk = ⊥
-RecordsRefused t area pages bands base point losers frames Memory = Unit {0}
-RecordsRefused t area pages bands base point losers frames NotAStore = ⊥
-RecordsRefused t area pages bands base point losers frames (Damaged there at) = (there ≡ area) × (first_outside pages bands 0 frames ≡ Some at)
-RecordsRefused t area pages bands base point losers frames (UnknownOperation code) = (first_outside pages bands 0 frames ≡ None) × (first_unknown t point losers (numbered_in base frames) ≡ Some code)
+-- its stretches are refused only where the disk fails, or where a record is of a page or a band that the store doesn't have, with the first
+-- such frame
+abbrev pub StretchesRefused : Area → (pages bands : ℕ) → List (List Record) → (old new : View) → OpenFault → Type 0
+StretchesRefused area pages bands frames old new Disk = HasRisen old.faults new.faults
+StretchesRefused area pages bands frames old new Memory = ⊥
+StretchesRefused area pages bands frames old new NotAStore = ⊥
+StretchesRefused area pages bands frames old new (Damaged there at) = (there ≡ area) × (first_outside pages bands 0 frames ≡ Some at)
+StretchesRefused area pages bands frames old new (UnknownOperation code) = ⊥
 
 -- the refusal of a log and of an analysis
 abbrev pub of_log : Area → LogFault → OpenFault
@@ -54,10 +54,10 @@ of_gate gates.Disk = Disk
 of_gate gates.NotAStore = NotAStore
 of_gate (gates.Damaged at) = Damaged Home at
 
--- the text of a log is refused only so, or where the disk fails
-abbrev pub TextRefused : Table → Area → (pages bands base point : ℕ) (losers : List (ℕ × ℕ)) → List (List Record) → (old new : View) → OpenFault → Type 0
-TextRefused t area pages bands base point losers frames old new Disk = HasRisen old.faults new.faults
-TextRefused t area pages bands base point losers frames old new Memory = Unit {0}
-TextRefused t area pages bands base point losers frames old new NotAStore = ⊥
-TextRefused t area pages bands base point losers frames old new (Damaged there at) = (there ≡ area) × (first_outside pages bands 0 frames ≡ Some at)
-TextRefused t area pages bands base point losers frames old new (UnknownOperation code) = (first_outside pages bands 0 frames ≡ None) × (first_unknown t point losers (numbered_in base frames) ≡ Some code)
+-- the text of a log is refused only so, or else where a code isn't registered, with the first such
+abbrev pub TextRefused : Table → Area → (pages bands base point : ℕ) (undone : Undone) → List (List Record) → (old new : View) → OpenFault → Type 0
+TextRefused t area pages bands base point undone frames old new Disk = HasRisen old.faults new.faults
+TextRefused t area pages bands base point undone frames old new Memory = ⊥
+TextRefused t area pages bands base point undone frames old new NotAStore = ⊥
+TextRefused t area pages bands base point undone frames old new (Damaged there at) = (there ≡ area) × (first_outside pages bands 0 frames ≡ Some at)
+TextRefused t area pages bands base point undone frames old new (UnknownOperation code) = (first_outside pages bands 0 frames ≡ None) × (first_unknown t point undone (numbered_in base frames) ≡ Some code)

@@ -3,8 +3,8 @@ use Rattle.std.specs.Prelude.{◌≡◌, ◌≤◌, ◌==◌, if◌then◌else�
 use Rattle.sg_base.specs.declared.area.Area.TheVariants.{Log0, Log1}
 use Rattle.sg_gate.specs.declared.superblock.Super.{Super}
 use Rattle.sg_base.specs.declared.area.Area.{Area}
-use Rattle.sg_disk.specs.Disk.{Image, State, View}
-use Rattle.sg_log.specs.Frames.{Numbered}
+use Rattle.sg_disk.specs.Disk.{Bytes, Image, State, View}
+use Rattle.sg_log.specs.Frames.{Numbered, HasRecords}
 use Rattle.sg_analysis.specs.Sights.{last_checkpoint}
 use Rattle.sg_analysis.specs.Analysis.{estimate_or}
 
@@ -24,3 +24,9 @@ redo_point base ns = max base (estimate_or base (last_checkpoint ns))
 -- where the log stands, by the superblock
 abbrev pub log_area : Super → Area
 log_area s = if s.log == 0 then Log0 else Log1
+
+-- the area holds a log: frames of records up to a closed gate
+pub record HasLog (f : Bytes) (base : ℕ) : Type 0 where
+  pub gate : ℕ
+  pub records : List Numbered
+  pub has : HasRecords f base gate records

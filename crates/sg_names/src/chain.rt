@@ -2,7 +2,7 @@
 ghost use Rattle.std.specs.Prelude.{◌≡◌, ◌-◌, ◌/◌, true, Some, slice_get, IfOk, IfErr, OnOk};
 ghost use Rattle.sg_names.specs.Pages.{CanReachNames, WalksNames};
 ghost use Rattle.sg_ops.specs.Table.{Table};
-ghost use Rattle.sg_reach.specs.Fault.{CountsReach, IfBroken};
+ghost use Rattle.sg_reach.specs.Fault.{CountsReach, WritesNoneReach, IfBroken, IsReached};
 ghost use Rattle.sg_space.specs.View.{OnlyReads};
 
 use crate::page::look;
@@ -35,6 +35,8 @@ pub fn reach_pages<P: PageSpace>(space: &mut P, into: &mut Maps) -> Result<u32, 
         → ¬ CanReachNames (P.view space.old).space.pages.at into.old.pages)) }
     ensures later { (t : Table) → P.later t space.old space.new }
     ensures means { (t : Table) → P.means space.old t → P.means space.new t }
+    ensures writes { WritesNoneReach (P.view space.old) (P.view space.new) result }
+    ensures place { IfErr result (IsReached ((P.view space.old).Shows) into.new.pages) }
 {
     let first = look(space, FIRST)?;
     let mut last = FIRST;

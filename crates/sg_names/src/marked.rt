@@ -3,7 +3,7 @@ ghost use Rattle.std.specs.Prelude.{◌≡◌, ℕ, ◌+◌, ◌*◌, ◌<◌, �
 ghost use Rattle.sg_names.specs.Marked.{mark_of, IsMarked};
 ghost use Rattle.sg_names.specs.Tally.{HasChain, IfChain, IsOnce};
 ghost use Rattle.sg_ops.specs.Table.{Table};
-ghost use Rattle.sg_reach.specs.Fault.{CountsReach, IfBroken};
+ghost use Rattle.sg_reach.specs.Fault.{CountsReach, WritesNoneReach, IfBroken, IsAtPage, IsAmongPages};
 ghost use Rattle.sg_space.specs.Pages.{CanLook};
 ghost use Rattle.sg_space.specs.View.{OnlyReads};
 
@@ -43,6 +43,8 @@ fn check_marked<P: PageSpace>(
     ensures long { length marks.new ≡ length marks.old }
     ensures later { (t : Table) → P.later t space.old space.new }
     ensures means { (t : Table) → P.means space.old t → P.means space.new t }
+    ensures writes { WritesNoneReach (P.view space.old) (P.view space.new) result }
+    ensures names { IfErr result (IsAtPage p.0) }
 {
     for slot in 0..79u16 {
         let Some(name) = name_at(space, p, slot)? else {
@@ -76,6 +78,8 @@ pub fn check_names_by<P: PageSpace>(
     ensures broken { IfErr result (IfBroken (IfChain (P.view space.old) pages (λ c. ¬ IsOnce c))) }
     ensures later { (t : Table) → P.later t space.old space.new }
     ensures means { (t : Table) → P.means space.old t → P.means space.new t }
+    ensures writes { WritesNoneReach (P.view space.old) (P.view space.new) result }
+    ensures place { IfErr result (λ e. IfChain (P.view space.old) pages (λ c. IsAmongPages c.pages e)) }
 {
     let mut page = FIRST;
     'pages: for _ in 0..pages {

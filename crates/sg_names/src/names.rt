@@ -3,7 +3,7 @@ ghost use Rattle.std.specs.Prelude.{◌≡◌, ℕ, ◌<◌, true, false, Some, 
 ghost use Rattle.sg_catalog.specs.Catalog.{Catalog, IsCatalog};
 ghost use Rattle.sg_names.specs.Pages.{CanReachNames, ReachesNames};
 ghost use Rattle.sg_ops.specs.Table.{Table};
-ghost use Rattle.sg_reach.specs.Fault.{CountsReach, IfBroken};
+ghost use Rattle.sg_reach.specs.Fault.{CountsReach, WritesNoneReach, IfBroken, IsReached};
 ghost use Rattle.sg_space.specs.View.{OnlyReads};
 
 use crate::chain::{later_pages, reach_pages};
@@ -44,6 +44,8 @@ pub fn reach_names<P: PageSpace>(
         → ¬ CanReachNames (P.view space.old).space.pages.at into.old.pages)) }
     ensures later { (t : Table) → P.later t space.old space.new }
     ensures means { (t : Table) → P.means space.old t → P.means space.new t }
+    ensures writes { WritesNoneReach (P.view space.old) (P.view space.new) result }
+    ensures place { IfErr result (IsReached ((P.view space.old).Shows) into.new.pages) }
 {
     let peak = reach_pages(space, into)?;
     let pages = later_pages(peak) + 1;

@@ -6,7 +6,7 @@ ghost use Rattle.sg_catalog.specs.Catalog.{rows};
 ghost use Rattle.sg_catalog.specs.Look.{read_rows, row_in};
 ghost use Rattle.sg_names.specs.Tally.{counts_in, IsTally, IsNameAt, name_of, HasChain, IfChain};
 ghost use Rattle.sg_ops.specs.Table.{Table};
-ghost use Rattle.sg_space.specs.Pages.{CanLook};
+ghost use Rattle.sg_space.specs.Pages.{CanLook, WritesNone};
 ghost use Rattle.sg_space.specs.Units.{HasAt};
 ghost use Rattle.sg_space.specs.View.{Counts, OnlyReads};
 
@@ -71,6 +71,7 @@ pub fn tally_page<P: PageSpace>(
     ensures few { IfOk result (λ t. t.count < 65536) }
     ensures later { (t : Table) → P.later t space.old space.new }
     ensures means { (t : Table) → P.means space.old t → P.means space.new t }
+    ensures writes { WritesNone (P.view space.old) (P.view space.new) result }
 {
     let view = space.page(p)?;
     let count = count_on(&view, what);
@@ -106,6 +107,7 @@ pub fn name_at<P: PageSpace>(
     ensures read { IfOk result (λ name. (P.view space.old).Shows → HasAt (P.view space.old).space.pages.at p.0 (IsNameAt slot name)) }
     ensures later { (t : Table) → P.later t space.old space.new }
     ensures means { (t : Table) → P.means space.old t → P.means space.new t }
+    ensures writes { WritesNone (P.view space.old) (P.view space.new) result }
 {
     let view = space.page(p)?;
     let name = name_on(&view, slot);
@@ -120,6 +122,7 @@ pub fn count<P: PageSpace>(space: &mut P, pages: u32, what: &Counted) -> Result<
     ensures read { IfOk result (λ n. IfChain (P.view space.old) pages (λ c. n ≡ count_by (counts_in what.now) (rows c))) }
     ensures later { (t : Table) → P.later t space.old space.new }
     ensures means { (t : Table) → P.means space.old t → P.means space.new t }
+    ensures writes { WritesNone (P.view space.old) (P.view space.new) result }
 {
     let mut page = PageNo(0);
     let mut n = 0u64;

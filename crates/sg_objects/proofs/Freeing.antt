@@ -138,6 +138,7 @@ module _ {by : Option TxnId} {s : Contents} {entry : Entry} (w : WasBuried by s 
         };
         counted = λ was. counted_unmade was t less gone;
         fewer = one_less a.tombs_are;
+        took = (let e = (t.pages).exactly in let f = (gone.pages).exactly in let k = ap (λ (ps : List ℕ). length ps) a.change.pages in omega (arith, e, f, k));
       }
     where
       not_it : (r : ℕ) (other : List ℕ) (b : Bool) → is_tomb_of other r w.row ≡ b → ((r ≡ w.row.root.0) × (other ≡ w.row.name) → ⊥) → is_tomb_of other r w.row ≡ false

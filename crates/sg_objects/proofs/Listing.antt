@@ -1,5 +1,10 @@
 -- The keys of tables, and the names of objects, in order.
 use Rattle.std.proofs.Common.{◌≡◌, ℕ, ◌+◌, ◌≤◌, cond, ◌&&◌, List, [], ◌∷◌, map, Option, Some, None, is_some, is_none, sum_by, count_by, filter, refl, arith, sym, ap, ◌∙◌, subst, Ok, Err, IsPermutation, IsSorted}
+use Rattle.std.specs.Prelude.{Result, IsOk, IfErr}
+use Rattle.std.specs.Result.{IsErrAnd}
+use Rattle.sg_space.specs.declared.space.ListFault.{ListFault}
+use Rattle.sg_space.specs.declared.space.ListFault.TheVariants.{Memory, Space as InSpace}
+use Rattle.sg_space.specs.declared.space.SpaceFault.{SpaceFault}
 use Rattle.std.specs.Str.{bytes_eq}
 use Rattle.std.specs.Cmp.Lexicographic.{nat_list_cmp_total}
 use Rattle.std.specs.FinMap.{get, keys, find, get-from_entries}
@@ -50,6 +55,19 @@ table_keys t ks once p s =
 
 pub keys_said : {s : Contents} {name : List ℕ} {root : ℕ} {a : HashTable} (t : Operations) (ks : List (List ℕ)) → IsAt kinds.Table s name root → s.body root ≡ ATable a → ks ≡ keys (map_of a) → (on t Keys (plain (get (reading s).things name))).0 ≡ Ok (Several ks)
 keys_said {root = root} {a = a} t ks f is e = ap (λ (th : Option Thing). (on t Keys (plain th)).0) (table_under f is) ∙ ap (λ (xs : List (List ℕ)). (let o : Outcome = Ok (Several xs) in o)) (sym e)
+
+-- so there is a reply
+pub keys_reply : {s : Contents} {name : List ℕ} {root : ℕ} {a : HashTable} (t : Operations) → IsAt kinds.Table s name root → s.body root ≡ ATable a → IsOk (on t Keys (plain (get (reading s).things name))).0
+keys_reply {a = a} t f is = subst (λ (o : Outcome). IsOk o) (sym (keys_said t (keys (map_of a)) f is refl)) refl
+
+-- WHY THERE IS NO LIST: a fault that is handed on, and one of the space, which is no want of memory
+pub handed_on : {T : Type 0} (result : Result T ListFault) (fault : ListFault) (P : Type 0) → IsErrAnd result (λ e. e ≡ fault) → (fault ≡ Memory → P) → IfErr result (λ e. e ≡ Memory → P)
+handed_on (Ok done) fault P h kept = tt
+handed_on (Err e) fault P h kept = λ m. kept (sym h ∙ m)
+
+pub not_memory : {T : Type 0} (result : Result T ListFault) (fault : SpaceFault) (P : Type 0) → IsErrAnd result (λ e. e ≡ InSpace fault) → IfErr result (λ e. e ≡ Memory → P)
+not_memory (Ok done) fault P h = tt
+not_memory (Err e) fault P h = λ m. absurd (cc)
 
 -- THE NAMES OF OBJECTS
 module _ (body : ℕ → Body) where

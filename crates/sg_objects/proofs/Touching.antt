@@ -144,6 +144,12 @@ touched_by s x op all name n h e =
     let under : IsSeen x (get (objects (reading s)) (name_of op)) = subst (λ (o : Option Object). IsSeen x o) (sym (get_objects (reading s) (name_of op))) (subst (λ (m : List ℕ). IsSeen x (plain (get (reading s).things m))) n h) in
     e ∙ (ap (λ (rs : List Reach). map (touch_of (name_of op)) rs) (seen_reach x (get (objects (reading s)) (name_of op)) under (verb_of op)) ∙ sym (unfolded (objects (reading s)) (name_of op) (verb_of op)))
 
+-- of a list of keys
+pub keys_touched : (s : Contents) (x : Seen) (name : List ℕ) (all : List (Touch Resource)) → IsSeen x (plain (get (reading s).things name)) → all ≡ map (touch_of name) (reach_at x Keys) → all ≡ touches (objects (reading s)) (On name Keys)
+keys_touched s x name all h e =
+    let under : IsSeen x (get (objects (reading s)) name) = subst (λ (o : Option Object). IsSeen x o) (sym (get_objects (reading s) name)) h in
+    e ∙ (ap (λ (rs : List Reach). map (touch_of name) rs) (seen_reach x (get (objects (reading s)) name) under Keys) ∙ sym (unfolded (objects (reading s)) name Keys))
+
 -- the same of an operation that is another way to say it
 pub touch_as : (x : Seen) (all : List (Touch Resource)) {o p : Op} → o ≡ p → all ≡ map (touch_of (name_of o)) (reach_at x (verb_of o)) → all ≡ map (touch_of (name_of p)) (reach_at x (verb_of p))
 touch_as x all e h = subst (λ (y : Op). all ≡ map (touch_of (name_of y)) (reach_at x (verb_of y))) e h

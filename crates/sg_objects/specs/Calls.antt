@@ -1,5 +1,5 @@
 -- What the calls on objects answer.
-use Rattle.std.specs.Prelude.{◌≡◌, ℕ, ◌≤◌, List, Result, Ok, Err, IfErr}
+use Rattle.std.specs.Prelude.{◌≡◌, ℕ, ◌≤◌, List, Result, Ok, Err, IfErr, OnOk}
 use Rattle.sg_base.specs.Ends.{HasRisen}
 use Rattle.sg_model.specs.declared.op.Reply as code_reply
 use Rattle.sg_model.specs.declared.reason.Reason.{Reason}
@@ -15,6 +15,7 @@ pub record CountsObject {T : Type 0} (old new : View) (result : Result T ObjFaul
   -- a space that isn't told is never told later
   pub told : new.Told → old.Told
   pub later : old.faults ≤ new.faults
+  pub quiet : OnOk result (new.faults ≡ old.faults)
   pub disk : IfErr result (λ e. e ≡ InSpace Disk → HasRisen old.faults new.faults)
   pub log_end : IfErr result (λ e. e ≡ InSpace LogEnd → new.IsNearEnd)
 

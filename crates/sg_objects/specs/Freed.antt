@@ -1,5 +1,5 @@
 -- WHAT FREES OBJECTS: the body of one, and what was dropped.
-use Rattle.std.specs.Prelude.{◌≡◌, ℕ, ◌+◌, length, Bool, true, false, Option, Some, None}
+use Rattle.std.specs.Prelude.{◌≡◌, ℕ, ◌+◌, ◌≤◌, length, Bool, true, false, Option, Some, None}
 use Rattle.sg_base.specs.declared.numbers.TxnId.{TxnId}
 use Rattle.sg_catalog.specs.Catalog.{rows, buried, tombs}
 use Rattle.sg_catalog.specs.declared.row.ObjectKind.{ObjectKind}
@@ -27,16 +27,19 @@ pub record HasFreed (by : Option TxnId) (old new : Space) (s s' : Contents) : Ty
   pub forgets : Forgets row.name row.root.0 (reading s) (reading s')
   pub counted : IsCounted old s → IsCounted new s'
   pub fewer : length (tombs (rows s.catalog)) ≡ length (tombs (rows s'.catalog)) + 1
+  -- no page was taken
+  pub took : old.pages.free ≤ new.pages.free
 
 -- there was none, and nothing has changed
-pub record HasNone (by : Option TxnId) (new : Space) (s s' : Contents) : Type 0 where
+pub record HasNone (by : Option TxnId) (old new : Space) (s s' : Contents) : Type 0 where
   pub none : buried by (rows s.catalog) ≡ None
   pub contents : IsContents new s'
   pub same : s' ≡ s
+  pub room : new ≡ old
 
 abbrev pub FreedOne : Option TxnId → (old new : Space) → Contents → Contents → Bool → Type 0
 FreedOne by old new s s' true = HasFreed by old new s s'
-FreedOne by old new s s' false = HasNone by new s s'
+FreedOne by old new s s' false = HasNone by old new s s'
 
 -- what a call did to all contents that there were
 pub record FreesNext (v w : View) (by : Option TxnId) (was : Bool) : Type 0 where

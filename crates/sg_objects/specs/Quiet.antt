@@ -17,6 +17,15 @@ use Rattle.sg_objects.specs.declared.verb.ObjFault.TheVariants.{Space as InSpace
 abbrev pub most_records : ℕ
 most_records = 40755
 
+-- The most records of the freeing of an object's pages and bands: those of a table, 1,048,576 for its buckets, which may have all pages of a
+-- space, and 70,139 for its directory and its root
+abbrev pub most_body : ℕ
+most_body = 1118715
+
+-- the same with the record of its row: the most of the undo of one note, and of the freeing of one dropped object
+abbrev pub most_freed : ℕ
+most_freed = 1118716
+
 -- no record was written, and an action that had changed nothing has still changed nothing
 pub record IsQuiet (old new : View) : Type 0 where
   pub records : new.records ≡ old.records

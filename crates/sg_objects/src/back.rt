@@ -1,5 +1,5 @@
 // What undoes the verbs on arrays.
-ghost use Rattle.std.specs.Prelude.{◌≡◌, ◌≤◌, length, OnOk, IfOk, ⊤};
+ghost use Rattle.std.specs.Prelude.{◌≡◌, ◌+◌, ◌≤◌, length, OnOk, IfOk, ⊤};
 ghost use Rattle.sg_ops.specs.Table.{table_of};
 ghost use Rattle.sg_space.specs.View.{Counts};
 ghost use Rattle.sg_reading.specs.Back.Undoing.{WasMake, WasDrop, WasPush, WasPop, WasSet, WasApply};
@@ -22,6 +22,7 @@ pub fn undo_push<P: PageSpace>(space: &mut P, ops: &Ops, name: Name) -> Result<(
     ensures did { OnOk result (Undoes (P.view space.old) (P.view space.new) (table_of record_meaning range_meaning ops.now) WasPush name) }
     ensures later { P.later (table_of record_meaning range_meaning ops.now) space.old space.new }
     ensures means { P.means space.new (table_of record_meaning range_meaning ops.now) }
+    ensures few { (P.view space.new).records ≤ (P.view space.old).records + 2 }
 {
     match root_of(space, name, ObjectKind::Array)? {
         Err(_) => Err(space.broken()),
@@ -47,6 +48,7 @@ pub fn undo_pop<P: PageSpace>(
     ensures did { OnOk result (Undoes (P.view space.old) (P.view space.new) (table_of record_meaning range_meaning ops.now) (WasPop item.now) name) }
     ensures later { P.later (table_of record_meaning range_meaning ops.now) space.old space.new }
     ensures means { P.means space.new (table_of record_meaning range_meaning ops.now) }
+    ensures few { (P.view space.new).records ≤ (P.view space.old).records + 8 }
 {
     match root_of(space, name, ObjectKind::Array)? {
         Err(_) => Err(space.broken()),
@@ -71,6 +73,7 @@ pub fn undo_set<P: PageSpace>(
     ensures did { OnOk result (Undoes (P.view space.old) (P.view space.new) (table_of record_meaning range_meaning ops.now) (WasSet index item.now) name) }
     ensures later { P.later (table_of record_meaning range_meaning ops.now) space.old space.new }
     ensures means { P.means space.new (table_of record_meaning range_meaning ops.now) }
+    ensures few { (P.view space.new).records ≤ (P.view space.old).records + 1 }
 {
     match root_of(space, name, ObjectKind::Array)? {
         Err(_) => Err(space.broken()),
@@ -94,6 +97,7 @@ pub fn undo_drop<P: PageSpace>(
     ensures did { OnOk result (Undoes (P.view space.old) (P.view space.new) (table_of record_meaning range_meaning ops.now) (WasDrop root.0) name) }
     ensures later { P.later (table_of record_meaning range_meaning ops.now) space.old space.new }
     ensures means { P.means space.new (table_of record_meaning range_meaning ops.now) }
+    ensures few { (P.view space.new).records ≤ (P.view space.old).records + 1 }
 {
     sg_catalog::unbury(space, ops, name, root)?;
     Ok(())
@@ -107,6 +111,7 @@ pub fn undo_make_array<P: PageSpace>(space: &mut P, ops: &Ops, name: Name) -> Re
     ensures did { OnOk result (Undoes (P.view space.old) (P.view space.new) (table_of record_meaning range_meaning ops.now) WasMake name) }
     ensures later { P.later (table_of record_meaning range_meaning ops.now) space.old space.new }
     ensures means { P.means space.new (table_of record_meaning range_meaning ops.now) }
+    ensures few { (P.view space.new).records ≤ (P.view space.old).records + 70139 }
 {
     match root_of(space, name, ObjectKind::Array)? {
         Err(_) => Err(space.broken()),
@@ -133,6 +138,7 @@ pub fn undo_apply<P: PageSpace>(
     ensures did { OnOk result (Undoes (P.view space.old) (P.view space.new) (table_of record_meaning range_meaning ops.now) (WasApply index code arg.now) name) }
     ensures later { P.later (table_of record_meaning range_meaning ops.now) space.old space.new }
     ensures means { P.means space.new (table_of record_meaning range_meaning ops.now) }
+    ensures few { (P.view space.new).records ≤ (P.view space.old).records + 1 }
 {
     ops.laws();
     are_bytes(arg);

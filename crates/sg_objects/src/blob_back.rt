@@ -1,5 +1,5 @@
 // What undoes a note of bytes.
-ghost use Rattle.std.specs.Prelude.{◌≡◌, OnOk};
+ghost use Rattle.std.specs.Prelude.{◌≡◌, ◌+◌, ◌≤◌, OnOk};
 ghost use Rattle.sg_ops.specs.Table.{table_of};
 ghost use Rattle.sg_space.specs.View.{Counts};
 ghost use Rattle.sg_objects.specs.PutBack.{CanUndoBytes, UndoesBytes};
@@ -22,6 +22,7 @@ pub fn undo_bytes<P: PageSpace>(
     ensures did { OnOk result (UndoesBytes (P.view space.old) (P.view space.new) (table_of record_meaning range_meaning ops.now) size name) }
     ensures later { P.later (table_of record_meaning range_meaning ops.now) space.old space.new }
     ensures means { P.means space.new (table_of record_meaning range_meaning ops.now) }
+    ensures few { (P.view space.new).records ≤ (P.view space.old).records + 1 }
 {
     let sought = sg_catalog::find(space, name)?;
     let Some(found) = sought else {

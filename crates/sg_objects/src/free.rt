@@ -1,10 +1,10 @@
 // The bodies of objects are freed, and what was dropped.
-ghost use Rattle.std.specs.Prelude.{◌≡◌, OnOk, IfOk, ⊤, false};
+ghost use Rattle.std.specs.Prelude.{◌≡◌, ◌+◌, ◌≤◌, OnOk, IfOk, ⊤, false};
 ghost use Rattle.sg_ops.specs.Table.{Table as Operations, table_of};
 ghost use Rattle.sg_space.specs.View.{Counts};
 ghost use Rattle.sg_contents.specs.Standing.{HasContents};
 ghost use Rattle.sg_objects.specs.Freed.{HasBody, FreesBody, FreesNext};
-ghost use Rattle.sg_objects.specs.Quiet.{IsQuiet};
+ghost use Rattle.sg_objects.specs.Quiet.{IsQuiet, most_body, most_freed};
 
 use sg_base::{PageNo, TxnId};
 use sg_catalog::ObjectKind;
@@ -22,6 +22,7 @@ pub fn free_body<P: PageSpace>(
     ensures did { OnOk result (FreesBody (P.view space.old) (P.view space.new) kind root.0) }
     ensures later { (t : Operations) → P.later t space.old space.new }
     ensures means { (t : Operations) → P.means space.old t → P.means space.new t }
+    ensures few { (P.view space.old).Told → (P.view space.new).records ≤ (P.view space.old).records + most_body }
 {
     match kind {
         ObjectKind::Array => {
@@ -52,6 +53,7 @@ pub fn free_next<P: PageSpace>(
     ensures later { P.later (table_of record_meaning range_meaning ops.now) space.old space.new }
     ensures means { P.means space.new (table_of record_meaning range_meaning ops.now) }
     ensures quiet { IfOk result (λ was. was ≡ false → IsQuiet (P.view space.old) (P.view space.new)) }
+    ensures few { (P.view space.old).Told → (P.view space.new).records ≤ (P.view space.old).records + most_freed }
 {
     let sought = sg_catalog::next_buried(space, by)?;
     let Some(entry) = sought else {

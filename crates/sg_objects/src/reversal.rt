@@ -1,5 +1,5 @@
 // What a note undoes, undone.
-ghost use Rattle.std.specs.Prelude.{◌≡◌, ◌≤◌, length, OnOk};
+ghost use Rattle.std.specs.Prelude.{◌≡◌, ◌+◌, ◌≤◌, length, OnOk};
 ghost use Rattle.sg_ops.specs.Table.{table_of};
 ghost use Rattle.sg_space.specs.View.{Counts};
 ghost use Rattle.sg_contents.specs.Standing.{HasContents};
@@ -7,6 +7,7 @@ ghost use Rattle.sg_objects.specs.Done.{IsFresh};
 ghost use Rattle.sg_objects.specs.Notes.{byte_at, undoing_said};
 ghost use Rattle.sg_objects.specs.Reversing.{CanReverseBy, HasNote, Reverses};
 ghost use Rattle.sg_objects.specs.Undone.{Undoes};
+ghost use Rattle.sg_objects.specs.Quiet.{most_freed};
 
 use crate::back::{undo_apply, undo_drop, undo_pop, undo_push, undo_set};
 use crate::blob_back::undo_bytes;
@@ -31,6 +32,7 @@ fn reverse_over<P: PageSpace>(
     ensures did { OnOk result (Undoes (P.view space.old) (P.view space.new) (table_of record_meaning range_meaning ops.now) (undoing_said 8 rest.now) name) }
     ensures later { P.later (table_of record_meaning range_meaning ops.now) space.old space.new }
     ensures means { P.means space.new (table_of record_meaning range_meaning ops.now) }
+    ensures few { (P.view space.new).records ≤ (P.view space.old).records + 8 }
 {
     if rest.len() == 0 {
         return Err(space.broken());
@@ -66,6 +68,7 @@ fn reverse_by<P: PageSpace>(
     ensures did { OnOk result (Undoes (P.view space.old) (P.view space.new) (table_of record_meaning range_meaning ops.now) (undoing_said code rest.now) name) }
     ensures later { P.later (table_of record_meaning range_meaning ops.now) space.old space.new }
     ensures means { P.means space.new (table_of record_meaning range_meaning ops.now) }
+    ensures few { (P.view space.old).Told → (P.view space.new).records ≤ (P.view space.old).records + most_freed }
 {
     if code == 1 {
         return undo_make(space, ops, name);
@@ -118,6 +121,7 @@ pub fn reverse<P: PageSpace>(space: &mut P, ops: &Ops, note: &UndoNote) -> Resul
     ensures did { OnOk result (Reverses (P.view space.old) (P.view space.new) (table_of record_meaning range_meaning ops.now) note.now) }
     ensures later { P.later (table_of record_meaning range_meaning ops.now) space.old space.new }
     ensures means { P.means space.new (table_of record_meaning range_meaning ops.now) }
+    ensures few { (P.view space.old).Told → (P.view space.new).records ≤ (P.view space.old).records + most_freed }
 {
     let bytes = note.bytes();
     if bytes.len() < 2 {

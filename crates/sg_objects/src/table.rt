@@ -133,6 +133,7 @@ pub fn undo_put<P: PageSpace>(
     ensures did { OnOk result (Undoes (P.view space.old) (P.view space.new) (table_of record_meaning range_meaning ops.now) (WasPut key.now) name) }
     ensures later { P.later (table_of record_meaning range_meaning ops.now) space.old space.new }
     ensures means { P.means space.new (table_of record_meaning range_meaning ops.now) }
+    ensures few { (P.view space.new).records ≤ (P.view space.old).records + 4 }
 {
     match root_of(space, name, ObjectKind::Table)? {
         Err(_) => Err(space.broken()),

@@ -8,11 +8,13 @@ ghost use Rattle.sg_model.specs.Touches.{touches, touch_of, to_read};
 ghost use Rattle.sg_model.specs.Touches.Part.{Kind};
 ghost use Rattle.sg_model.specs.Touches.Region.{Just};
 ghost use Rattle.sg_model.specs.TouchList.{shown_touches};
+ghost use Rattle.sg_model.specs.Verb.Op.{On};
+ghost use Rattle.sg_model.specs.Verb.Verb.{Keys};
 ghost use Rattle.sg_reading.specs.Reading.{objects, plain};
 ghost use Rattle.sg_space.specs.View.{Counts, OnlyReads};
 ghost use Rattle.sg_contents.specs.Meaning.{reading};
 ghost use Rattle.sg_contents.specs.Standing.{HasContents, IfContents};
-ghost use Rattle.sg_objects.specs.Touching.{IsSeen, push_at, pop_at, len_at, item_at, key_at, body_at, reach_at};
+ghost use Rattle.sg_objects.specs.Touching.{IsSeen, push_at, pop_at, len_at, item_at, key_at, body_at, keys_at, reach_at};
 ghost use Rattle.sg_space.specs.Pages.{WritesNone};
 
 use sg_base::Name;
@@ -172,6 +174,18 @@ fn of_body(into: &mut Touches, name: Name, seen: Seen, write: bool)
     }
 }
 
+// Of a table's keys.
+fn of_keys(into: &mut Touches, name: Name, seen: Seen)
+    ensures { shown_touches into.new ≡ map (touch_of name) (to_read (Just Kind) ∷ keys_at seen) }
+{
+    match seen {
+        Seen::Table => one(into, name, Resource::Keys(name), false),
+        Seen::Nothing => kind(into, name),
+        Seen::Array(n) => kind(into, name),
+        Seen::Blob => kind(into, name),
+    }
+}
+
 // What the operation touches, by what stands under its name.
 fn touch_verb(op: &Op<'_>, seen: Seen, into: &mut Touches)
     ensures { shown_touches into.new ≡ map (touch_of (name_of op.now)) (reach_at seen (verb_of op.now)) }
@@ -224,5 +238,24 @@ pub fn touches<P: PageSpace>(
 {
     let seen = seen_of(space, op.name())?;
     touch_verb(op, seen, into);
+    Ok(())
+}
+
+/// What the list of a table's keys touches. Nothing changes.
+pub fn touches_keys<P: PageSpace>(
+    space: &mut P,
+    name: Name,
+    into: &mut Touches,
+) -> Result<(), SpaceFault>
+    requires { HasContents (P.view space.old) (λ _. ⊤) }
+    ensures counts { Counts (P.view space.old) (P.view space.new) result }
+    ensures kept { OnOk result (OnlyReads (P.view space.old) (P.view space.new)) }
+    ensures read { OnOk result (IfContents (P.view space.old) (λ s. shown_touches into.new ≡ touches (objects (reading s)) (On name Keys))) }
+    ensures later { (t : Operations) → P.later t space.old space.new }
+    ensures means { (t : Operations) → P.means space.old t → P.means space.new t }
+    ensures writes { WritesNone (P.view space.old) (P.view space.new) result }
+{
+    let seen = seen_of(space, name)?;
+    of_keys(into, name, seen);
     Ok(())
 }

@@ -1,11 +1,12 @@
 // What undoes the making of objects.
-ghost use Rattle.std.specs.Prelude.{◌≡◌, ◌≤◌, length, OnOk, IfOk, ⊤};
+ghost use Rattle.std.specs.Prelude.{◌≡◌, ◌+◌, ◌≤◌, length, OnOk, IfOk, ⊤};
 ghost use Rattle.sg_ops.specs.Table.{table_of};
 ghost use Rattle.sg_space.specs.View.{Counts};
 ghost use Rattle.sg_reading.specs.Back.Undoing.{WasMake};
 ghost use Rattle.sg_contents.specs.Standing.{HasContents};
 ghost use Rattle.sg_objects.specs.Found.{IsAt};
 ghost use Rattle.sg_objects.specs.Undone.{CanUndo, Undoes};
+ghost use Rattle.sg_objects.specs.Quiet.{most_freed};
 
 use crate::back::undo_make_array;
 use crate::find::root_of;
@@ -22,6 +23,7 @@ pub fn undo_make_table<P: PageSpace>(space: &mut P, ops: &Ops, name: Name) -> Re
     ensures did { OnOk result (Undoes (P.view space.old) (P.view space.new) (table_of record_meaning range_meaning ops.now) WasMake name) }
     ensures later { P.later (table_of record_meaning range_meaning ops.now) space.old space.new }
     ensures means { P.means space.new (table_of record_meaning range_meaning ops.now) }
+    ensures few { (P.view space.old).Told → (P.view space.new).records ≤ (P.view space.old).records + most_freed }
 {
     match root_of(space, name, ObjectKind::Table)? {
         Err(_) => Err(space.broken()),
@@ -41,6 +43,7 @@ pub fn undo_make_blob<P: PageSpace>(space: &mut P, ops: &Ops, name: Name) -> Res
     ensures did { OnOk result (Undoes (P.view space.old) (P.view space.new) (table_of record_meaning range_meaning ops.now) WasMake name) }
     ensures later { P.later (table_of record_meaning range_meaning ops.now) space.old space.new }
     ensures means { P.means space.new (table_of record_meaning range_meaning ops.now) }
+    ensures few { (P.view space.new).records ≤ (P.view space.old).records + 502 }
 {
     match root_of(space, name, ObjectKind::Blob)? {
         Err(_) => Err(space.broken()),
@@ -60,6 +63,7 @@ pub fn undo_make<P: PageSpace>(space: &mut P, ops: &Ops, name: Name) -> Result<(
     ensures did { OnOk result (Undoes (P.view space.old) (P.view space.new) (table_of record_meaning range_meaning ops.now) WasMake name) }
     ensures later { P.later (table_of record_meaning range_meaning ops.now) space.old space.new }
     ensures means { P.means space.new (table_of record_meaning range_meaning ops.now) }
+    ensures few { (P.view space.old).Told → (P.view space.new).records ≤ (P.view space.old).records + most_freed }
 {
     let sought = sg_catalog::find(space, name)?;
     let Some(found) = sought else {

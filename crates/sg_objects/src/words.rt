@@ -1,5 +1,5 @@
 // The keys of a table, and the names of all objects.
-ghost use Rattle.std.specs.Prelude.{◌≡◌, IfOk, OnOk, ⊤};
+ghost use Rattle.std.specs.Prelude.{IsOk, ◌≡◌, IfOk, OnOk, ⊤, IfErr};
 ghost use Rattle.std.specs.FinMap.{get, keys};
 ghost use Rattle.sg_ops.specs.Table.{Table as Operations};
 ghost use Rattle.sg_model.specs.Step.{on};
@@ -28,7 +28,9 @@ pub fn keys<P: PageSpace>(
     requires { HasContents (P.view space.old) (λ _. ⊤) }
     ensures counts { CountsList (P.view space.old) (P.view space.new) result }
     ensures kept { OnOk result (OnlyReads (P.view space.old) (P.view space.new)) }
+    ensures memory { IfErr result (λ e. e ≡ ListFault.Memory → OnlyReads (P.view space.old) (P.view space.new)) }
     ensures read { IfOk result (λ r. IfContents (P.view space.old) (λ s. (t : Operations) → (on t Keys (plain (get (reading s).things name))).0 ≡ said_keys r)) }
+    ensures lacks { IfErr result (λ e. e ≡ ListFault.Memory → IfContents (P.view space.old) (λ s. (t : Operations) → IsOk (on t Keys (plain (get (reading s).things name))).0)) }
     ensures later { (t : Operations) → P.later t space.old space.new }
     ensures means { (t : Operations) → P.means space.old t → P.means space.new t }
     ensures writes { WritesNoneList (P.view space.old) (P.view space.new) result }
@@ -47,6 +49,7 @@ pub fn list<P: PageSpace>(space: &mut P, alloc: Global) -> Result<Vec<Name>, Lis
     requires { HasContents (P.view space.old) (λ _. ⊤) }
     ensures counts { CountsList (P.view space.old) (P.view space.new) result }
     ensures kept { OnOk result (OnlyReads (P.view space.old) (P.view space.new)) }
+    ensures memory { IfErr result (λ e. e ≡ ListFault.Memory → OnlyReads (P.view space.old) (P.view space.new)) }
     ensures read { IfOk result (λ v. IfContents (P.view space.old) (λ s. v.items ≡ keys (objects (reading s)))) }
     ensures later { (t : Operations) → P.later t space.old space.new }
     ensures means { (t : Operations) → P.means space.old t → P.means space.new t }

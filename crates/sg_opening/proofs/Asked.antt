@@ -17,7 +17,8 @@ use Rattle.sg_redo.specs.declared.place.Place.{Place}
 use Rattle.sg_redo.specs.Places.{change_at, changed_by, IsKnown}
 use Rattle.sg_engine.specs.Numbers.{Rises, AllUnder}
 use Rattle.sg_engine.proofs.Pages.{rises_less}
-use Rattle.sg_places.specs.Asked.{is_there, all_there, first_outside, unknown_in, unknown_by, first_unknown, is_needed, is_among, or_else}
+use Rattle.sg_analysis.specs.Analysis.{is_number}
+use Rattle.sg_places.specs.Asked.{Undone, is_there, all_there, first_outside, unknown_in, unknown_by, first_unknown, is_needed, is_among, or_else}
 use Rattle.sg_places.specs.Placed.{unit_of, place_with, place_in, places_in}
 use Rattle.sg_opening.specs.Opening.{AreThere}
 use Rattle.sg_opening.proofs.Placed.{AreInText}
@@ -100,26 +101,26 @@ module _ (pages bands base r : ℕ) where
       by_test true h = refl
       by_test false h = absurd (cc)
 
-  both_none : (a b : Option ℕ) → or_else a b ≡ None → (a ≡ None) × (b ≡ None)
+  pub both_none : (a b : Option ℕ) → or_else a b ≡ None → (a ≡ None) × (b ≡ None)
   both_none None b h = (refl, h)
   both_none (Some x) b h = absurd (cc)
 
-  needed : (losers : List (ℕ × ℕ)) (lsn : ℕ) (x : Record) → r ≤ lsn → is_needed r losers lsn x ≡ true
-  needed losers lsn x le = let low : nat_le r lsn ≡ true = grind (arith, nat_tests) in ap (λ b. b || is_among x.transaction losers) low
+  needed : (undone : Undone) (lsn : ℕ) (x : Record) → r ≤ lsn → is_needed r undone lsn x ≡ true
+  needed undone lsn x le = let low : nat_le r lsn ≡ true = grind (arith, nat_tests) in ap (λ b. b || (is_among x.transaction undone.0 || (x.transaction == 0 && is_number lsn undone.1))) low
 
-  module _ (t : Table) (losers : List (ℕ × ℕ)) (text : List ℕ) where
+  module _ (t : Table) (undone : Undone) (text : List ℕ) where
     one_known : (lsn : ℕ) (c x : Option Change) → change_at text (lsn - base) ≡ c → unknown_in t c ≡ None → All (λ (p : Place). IsKnown t (change_at text p.at)) (place_with pages base lsn c)
     one_known lsn None x there none = All-nil (λ (p : Place). IsKnown t (change_at text p.at))
     one_known lsn (Some c) x there none = All-cons (λ (p : Place). IsKnown t (change_at text p.at)) (record { unit = unit_of pages c; lsn = lsn; at = lsn - base }) []
         (subst (IsKnown t) (sym there) (unknown_none t (Some c) none)) (All-nil (λ (p : Place). IsKnown t (change_at text p.at)))
 
-    pub places_known : (ns : List Numbered) → AreInText text base ns → first_unknown t r losers ns ≡ None → All (λ (p : Place). IsKnown t (change_at text p.at)) (places_in pages base r ns)
+    pub places_known : (ns : List Numbered) → AreInText text base ns → first_unknown t r undone ns ≡ None → All (λ (p : Place). IsKnown t (change_at text p.at)) (places_in pages base r ns)
     places_known [] there none = All-nil (λ (p : Place). IsKnown t (change_at text p.at))
     places_known (n ∷ ns) there none =
-        let both = both_none (unknown_by t r losers n.lsn n.is) (first_unknown t r losers ns) none in
+        let both = both_none (unknown_by t r undone n.lsn n.is) (first_unknown t r undone ns) none in
         All-append (λ (p : Place). IsKnown t (change_at text p.at)) (place_in pages base r n) (places_in pages base r ns)
         (each_place (λ (p : Place). IsKnown t (change_at text p.at)) n (λ le.
-        let asked : unknown_in t (changed_by n.is.says) ≡ None = sym (ap (λ b. cond b (unknown_in t (changed_by n.is.says)) None) (needed losers n.lsn n.is le)) ∙ both.0 in
+        let asked : unknown_in t (changed_by n.is.says) ≡ None = sym (ap (λ b. cond b (unknown_in t (changed_by n.is.says)) None) (needed undone n.lsn n.is le)) ∙ both.0 in
         one_known n.lsn (changed_by n.is.says) None there.0 asked))
         (places_known ns there.1 both.1)
 

@@ -114,7 +114,7 @@ window_both : (t : Table) (text : List ℕ) (u : ℕ) (xs ys : List Place) → w
 unfolding window_records
 window_both t text u xs ys = ap (flat_map (λ p. window_part t p.lsn (change_at text p.at))) (filter_both (λ p. p.unit == u) xs ys) ∙ flat_both (λ p. window_part t p.lsn (change_at text p.at)) (places_of u xs) (places_of u ys)
 
-onward_both : {X : Type 0} (key : X → ℕ) (r : ℕ) (xs ys : List X) → onward key r (xs ++ ys) ≡ onward key r xs ++ onward key r ys
+pub onward_both : {X : Type 0} (key : X → ℕ) (r : ℕ) (xs ys : List X) → onward key r (xs ++ ys) ≡ onward key r xs ++ onward key r ys
 onward_both key r [] ys = refl
 onward_both key r (x ∷ xs) ys = ⊎_elim
     (λ lt. onward_out key r x (xs ++ ys) lt ∙ (onward_both key r xs ys ∙ ap (λ (l : List _). l ++ onward key r ys) (sym (onward_out key r x xs lt))))
@@ -339,6 +339,18 @@ module _ (t : Table) (text : List ℕ) (pages bands base r : ℕ) where
   -- a band without places has no change
   pub none_of_places : (b : ℕ) (ns : List Numbered) → places_of (pages + b) (places_in pages base r ns) ≡ [] → window_records t text (places_of (pages + b) (places_in pages base r ns)) ≡ []
   none_of_places b ns none = ap (window_records t text) none ∙ window_nothing t text 0
+
+records_some : (t : Table) (text : List ℕ) (ps : List Place) → OneEach t text ps → (ps ≡ [] → ⊥) → window_records t text ps ≡ [] → ⊥
+records_some t text [] each some none = some refl
+records_some t text (p ∷ ps) each some none = not_nil (sym (records_more t text p each.0.0 ps each.0.2) ∙ none)
+  where
+    not_nil : each.0.0 ∷ window_records t text ps ≡ [] → ⊥
+    not_nil e = cc
+
+-- and one with places has some
+pub some_of_places : (t : Table) (text : List ℕ) (pages bands base r b : ℕ) (ns : List Numbered) → AreThere pages bands ns → AreInText text base ns
+    → (places_of (pages + b) (places_in pages base r ns) ≡ [] → ⊥) → window_records t text (places_of (pages + b) (places_in pages base r ns)) ≡ [] → ⊥
+some_of_places t text pages bands base r b ns within there some = records_some t text (places_of (pages + b) (places_in pages base r ns)) (all_there t text pages bands base r b ns within there) some
 
 pub some_or_none : (ps : List Place) → (ps ≡ []) ⊎ (ps ≢ [])
 some_or_none [] = inl refl

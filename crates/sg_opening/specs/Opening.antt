@@ -1,8 +1,7 @@
 -- OPENING: what it begins with, and what it ends with.
-use Rattle.std.specs.Prelude.{◌≡◌, ◌≢◌, ◌⊎◌, ◌<◌, ◌≤◌, ℕ, Bool, true, false, Ok, Option, Some, None, List, [], ◌∷◌, ◌++◌}
-use Rattle.sg_base.specs.declared.area.Area.{Area}
+use Rattle.std.specs.Prelude.{◌≡◌, ◌<◌, ℕ, true, false, Ok, None, List, [], ◌∷◌}
 use Rattle.sg_base.specs.declared.area.Area.TheVariants.{Home}
-use Rattle.sg_disk.specs.Disk.{Bytes, Image, View, Leaves}
+use Rattle.sg_disk.specs.Disk.{Bytes, Image}
 use Rattle.sg_log.specs.Frames.{Numbered, HasRecords}
 use Rattle.sg_gate.specs.Layout.{HEADER, home_at}
 use Rattle.sg_gate.specs.Batch.{laid, IsBatch, numbers_of}
@@ -17,11 +16,6 @@ use Rattle.sg_engine.specs.Kept.{home_in}
 use Rattle.sg_redo.specs.Places.{changed_by}
 use Rattle.sg_places.specs.Asked.{is_there}
 use Rattle.sg_engine.specs.Engine.{Origin, entries, geometry, log_area}
-
--- no record from r on is below o
-abbrev pub IsGap : {X : Type 0} → (X → ℕ) → (r o : ℕ) → List X → Type 0
-IsGap key r o [] = Unit {0}
-IsGap key r o (x ∷ xs) = ((key x < r) ⊎ (o ≤ key x)) × IsGap key r o xs
 
 -- each record is of a page or a band of the store
 abbrev pub AreThere : (pages bands : ℕ) → List Numbered → Type 0

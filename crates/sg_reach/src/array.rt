@@ -1,11 +1,11 @@
 // The walk over an array.
-ghost use Rattle.std.specs.Prelude.{◌≡◌, ℕ, ◌+◌, ◌-◌, ◌*◌, ◌<◌, ◌≤◌, min, length, IfSome, IsSome, IfOk, IfErr, OnOk};
+ghost use Rattle.std.specs.Prelude.{◌≡◌, ℕ, ◌+◌, ◌-◌, ◌*◌, ◌<◌, ◌≤◌, min, true, length, slice_get, Some, IfSome, IsSome, IfOk, IfErr, OnOk};
 ghost use Rattle.sg_array.specs.Array.{per_page, root_cell, rounded_up};
 ghost use Rattle.sg_array.specs.Steps.{Root, IsInRange};
 ghost use Rattle.sg_base.specs.Sheet.{sheet_of};
 ghost use Rattle.sg_ops.specs.Table.{Table};
-ghost use Rattle.sg_reach.specs.Fault.{CountsReach, IfBroken};
-ghost use Rattle.sg_reach.specs.Parts.{root_form, index_form, leaf_form, leaf_count, index_count};
+ghost use Rattle.sg_reach.specs.Fault.{CountsReach, WritesNoneReach, IfBroken, IsAtPage, IsReached};
+ghost use Rattle.sg_reach.specs.Parts.{root_form, index_form, leaf_form, leaf_count, index_count, index_no};
 ghost use Rattle.sg_reach.specs.Reached.{numbers_in, CanWalkIndex, WalksIndex, CanWalkLeaves, WalksLeaves, CanReachArray, ReachesArray};
 ghost use Rattle.sg_space.specs.Pages.{CanLook};
 ghost use Rattle.sg_space.specs.Reads.{HasCell};
@@ -144,6 +144,8 @@ pub fn read_numbers<P: PageSpace>(space: &mut P, root: PageNo) -> Result<Numbers
         → ¬ HasAt (P.view space.old).space.pages.at root.0 (HasCell 2 0 (root_cell r.size r.count r.peak)))) }
     ensures later { (t : Table) → P.later t space.old space.new }
     ensures means { (t : Table) → P.means space.old t → P.means space.new t }
+    ensures writes { WritesNoneReach (P.view space.old) (P.view space.new) result }
+    ensures names { IfErr result (IsAtPage root.0) }
 {
     let view = space.page(root)?;
     match numbers_on(&view) {
@@ -170,6 +172,8 @@ fn reach_index<P: PageSpace>(
         → ¬ CanWalkIndex (P.view space.old).space.pages.at root.0 (numbers_in found) into.old.pages)) }
     ensures later { (t : Table) → P.later t space.old space.new }
     ensures means { (t : Table) → P.means space.old t → P.means space.new t }
+    ensures writes { WritesNoneReach (P.view space.old) (P.view space.new) result }
+    ensures place { IfErr result (IsReached ((P.view space.old).Shows × (slice_get into.old.pages root.0 ≡ Some true)) into.new.pages) }
 {
     for j in 0..found.index() {
         let index = link_at(space, root, ROOT_KIND, (j + 1) as u16)?;
@@ -197,6 +201,9 @@ fn reach_leaves<P: PageSpace>(
         → ¬ CanWalkLeaves (P.view space.old).space.pages.at root.0 (numbers_in found) into.old.pages)) }
     ensures later { (t : Table) → P.later t space.old space.new }
     ensures means { (t : Table) → P.means space.old t → P.means space.new t }
+    ensures writes { WritesNoneReach (P.view space.old) (P.view space.new) result }
+    ensures place { IfErr result (IsReached ((P.view space.old).Shows × (slice_get into.old.pages root.0 ≡ Some true)
+        × ((j : ℕ) → j < index_count (numbers_in found) → slice_get into.old.pages (index_no (P.view space.old).space.pages.at root.0 j) ≡ Some true)) into.new.pages) }
 {
     for d in 0..found.leaves() {
         let index = link_at(space, root, ROOT_KIND, (d / LINKS + 1) as u16)?;
@@ -230,6 +237,8 @@ pub fn reach_array<P: PageSpace>(
         → ¬ CanReachArray (P.view space.old).space.pages.at root.0 into.old.pages)) }
     ensures later { (t : Table) → P.later t space.old space.new }
     ensures means { (t : Table) → P.means space.old t → P.means space.new t }
+    ensures writes { WritesNoneReach (P.view space.old) (P.view space.new) result }
+    ensures place { IfErr result (IsReached ((P.view space.old).Shows × (slice_get into.old.pages from.0 ≡ Some true)) into.new.pages) }
 {
     set_page(into, from, root)?;
     let found = read_numbers(space, root)?;

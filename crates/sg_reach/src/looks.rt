@@ -3,9 +3,9 @@ ghost use Rattle.std.specs.Prelude.{◌≡◌, ℕ, ◌+◌, ◌≤◌, ◌^◌,
 ghost use Rattle.byteorder.specs.Endian.{little_bytes};
 ghost use Rattle.sg_base.specs.Sheet.{sheet_of};
 ghost use Rattle.sg_ops.specs.Table.{Table};
-ghost use Rattle.sg_reach.specs.Fault.{CountsReach, IfBroken};
+ghost use Rattle.sg_reach.specs.Fault.{CountsReach, WritesNoneReach, IfBroken, IsAtPage};
 ghost use Rattle.sg_reach.specs.Form.{HasForm, IsWanted, wanted};
-ghost use Rattle.sg_space.specs.Pages.{CanLook};
+ghost use Rattle.sg_space.specs.Pages.{CanLook, WritesNone};
 ghost use Rattle.sg_space.specs.Reads.{CanRead, Reads};
 ghost use Rattle.sg_space.specs.Units.{HasAt};
 ghost use Rattle.sg_space.specs.View.{Counts, OnlyReads};
@@ -80,6 +80,8 @@ pub fn check<P: PageSpace>(space: &mut P, p: PageNo, form: Form) -> Result<(), R
         ((P.view space.old).Shows → ¬ HasAt (P.view space.old).space.pages.at p.0 (HasForm form))) }
     ensures later { (t : Table) → P.later t space.old space.new }
     ensures means { (t : Table) → P.means space.old t → P.means space.new t }
+    ensures writes { WritesNoneReach (P.view space.old) (P.view space.new) result }
+    ensures names { IfErr result (IsAtPage p.0) }
 {
     let view = space.page(p)?;
     if !has_form(&view, form) {
@@ -102,6 +104,7 @@ pub fn link_at<P: PageSpace>(
     ensures small { IfOk result (λ n. n.0 < 2 ^ 32) }
     ensures later { (t : Table) → P.later t space.old space.new }
     ensures means { (t : Table) → P.means space.old t → P.means space.new t }
+    ensures writes { WritesNone (P.view space.old) (P.view space.new) result }
 {
     let mut cell = [0; 4];
     read_cell(space, p, kind, slot, &mut cell)?;

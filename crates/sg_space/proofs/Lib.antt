@@ -1,4 +1,5 @@
 pub mod InMemory
+pub mod Tried
 pub mod Firsts
 pub mod Fresh
 pub mod Owners

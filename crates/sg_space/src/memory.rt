@@ -37,6 +37,12 @@ fn take_first_bands(maps: &mut Maps, count: u32)
 impl MemSpace {
     ghost use Rattle.std.specs.Prelude.{◌<◌, ◌↔◌, IfOk, IsTrue, IsSome};
     ghost use Rattle.sg_alloc.specs.Flags.{map_bands_of};
+    ghost use Rattle.std.specs.Bool.{OnTrue, OnFalse};
+    ghost use Rattle.sg_base.specs.Op.{op_of};
+    ghost use Rattle.sg_ops.specs.Steps.{step};
+    ghost use Rattle.sg_ops.specs.Table.{table_of};
+    ghost use Rattle.sg_space.specs.Units.{HasAt, IsChanged};
+    ghost use Rattle.sg_space.specs.Guarded.{CanBeDone};
     ghost use Rattle.sg_space.specs.Memory.{space_of, IsNew};
 
     /// A space of so many pages and bands. Page 0 is taken, as an empty page of kind 1, and so are the
@@ -72,9 +78,15 @@ impl MemSpace {
         matches!(self.maps.band_taken(b), Some(true))
     }
 
-    // Does an operation to a taken page, if it fits and isn't `Format`, and says whether it did.
+    // Does an operation to a taken page, if it can be done, and says whether it did.
     pub(crate) fn try_change(&mut self, ops: &Ops, p: PageNo, op: &PageOp<'_>) -> bool
         requires { IsSome ((space_of self.old).pages.at p.0) }
+        ensures can { IsTrue result ↔ HasAt (space_of self.old).pages.at p.0
+            (CanBeDone (table_of record_meaning range_meaning ops.now) (op_of op.now)) }
+        ensures did { OnTrue result (IsChanged (space_of self.old).pages (space_of self.new).pages p.0
+            (step (table_of record_meaning range_meaning ops.now) (op_of op.now))) }
+        ensures bands { (space_of self.new).bands ≡ (space_of self.old).bands }
+        ensures same { OnFalse result (space_of self.new ≡ space_of self.old) }
     {
         let page = &mut self.pages[p.0 as usize];
         page.try_change(ops, op)
@@ -82,7 +94,10 @@ impl MemSpace {
 }
 
 impl PageSpace for MemSpace {
-    ghost use Rattle.std.specs.Prelude.{◌≡◌, ⊤};
+    ghost use Rattle.std.specs.Prelude.{◌≡◌, ◌+◌, ◌≤◌, ⊤, IsOk, OnOk};
+    ghost use Rattle.sg_space.specs.View.{Counts};
+    ghost use Rattle.sg_space.specs.Pages.{CanLook, Freed};
+    ghost use Rattle.sg_space.specs.Bands.{FreedBand};
     ghost use Rattle.sg_space.specs.Memory.{memory_view, space_of};
     ghost use Rattle.sg_space.specs.Fit.{memory_fits};
     ghost use Rattle.sg_space.specs.Flagged.{units_exact};
@@ -131,7 +146,15 @@ impl PageSpace for MemSpace {
         Ok(p)
     }
 
-    fn free_page(&mut self, p: PageNo) -> Result<(), SpaceFault> {
+    // The page's bytes stay as they were.
+    fn free_page(&mut self, p: PageNo) -> Result<(), SpaceFault>
+        requires { CanLook (memory_view self.old) (space_of self.old).pages p.0 }
+        ensures counts { Counts (memory_view self.old) (memory_view self.new) result }
+        ensures few { (memory_view self.new).records ≤ (memory_view self.old).records + 1 }
+        ensures did { OnOk result (Freed (memory_view self.old) (memory_view self.new) p.0) }
+        ensures done { IsOk result }
+        ensures bytes { self.new.pages.items ≡ self.old.pages.items }
+    {
         self.maps.free_page(p);
         Ok(())
     }
@@ -169,7 +192,15 @@ impl PageSpace for MemSpace {
         Ok(b)
     }
 
-    fn free_band(&mut self, b: BandNo) -> Result<(), SpaceFault> {
+    // The band's bytes stay as they were.
+    fn free_band(&mut self, b: BandNo) -> Result<(), SpaceFault>
+        requires { CanLook (memory_view self.old) (space_of self.old).bands b.0 }
+        ensures counts { Counts (memory_view self.old) (memory_view self.new) result }
+        ensures few { (memory_view self.new).records ≤ (memory_view self.old).records + 1 }
+        ensures did { OnOk result (FreedBand (memory_view self.old) (memory_view self.new) b.0) }
+        ensures done { IsOk result }
+        ensures bytes { self.new.bands.items ≡ self.old.bands.items }
+    {
         self.maps.free_band(b);
         Ok(())
     }

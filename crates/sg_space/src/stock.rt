@@ -69,8 +69,9 @@ fn zero(band: &mut [u8])
 }
 
 impl MemPage {
-    ghost use Rattle.std.specs.Prelude.{◌≡◌, IsSome};
-    ghost use Rattle.sg_base.specs.Op.{op_of};
+    ghost use Rattle.std.specs.Prelude.{◌≡◌, ◌⊎◌, true, false, None, IsSome};
+    ghost use Rattle.std.specs.Bool.{OnTrue, OnFalse};
+    ghost use Rattle.sg_base.specs.Op.{op_of, is_format};
     ghost use Rattle.sg_base.specs.Sheet.{sheet_of};
     ghost use Rattle.sg_ops.specs.Steps.{step};
     ghost use Rattle.sg_ops.specs.Table.{table_of};
@@ -93,7 +94,14 @@ impl MemPage {
     }
 
     // Does an operation, if it fits and isn't `Format`, and says whether it did.
-    pub fn try_change(&mut self, ops: &Ops, op: &PageOp<'_>) -> bool {
+    pub fn try_change(&mut self, ops: &Ops, op: &PageOp<'_>) -> bool
+        ensures plain { OnTrue result (is_format (op_of op.now) ≡ false) }
+        ensures done { OnTrue result (step (table_of record_meaning range_meaning ops.now)
+            (op_of op.now) (sheet_of self.old.bytes.items) ≡ Some (sheet_of self.new.bytes.items)) }
+        ensures refused { OnFalse result ((is_format (op_of op.now) ≡ true) ⊎ (step (table_of record_meaning range_meaning ops.now)
+            (op_of op.now) (sheet_of self.old.bytes.items) ≡ None)) }
+        ensures same { OnFalse result (self.new.bytes.items ≡ self.old.bytes.items) }
+    {
         if matches!(op, PageOp::Format { .. }) {
             return false;
         }

@@ -1,5 +1,6 @@
 -- What each call asks follows from what is known before the first call of an action.
-use Rattle.std.proofs.Common.{ℕ, ◌≤◌, List, Bool, Option, IsSome, sym, subst, refl, arith}
+use Rattle.std.proofs.Common.{ℕ, ◌≤◌, List, [], ◌∷◌, ◌++◌, length-append, Bool, Option, Some, IsSome, sym, subst, refl, arith}
+use Rattle.std.proofs.lemmas.List.{length-map}
 use Rattle.sg_array.specs.Array.{Array}
 use Rattle.sg_array.specs.Calls.{CanPush, IsRoomy}
 use Rattle.sg_array.proofs.Pushes.{per_page-most}
@@ -10,8 +11,9 @@ use Rattle.sg_catalog.specs.Calls.{CanAdd}
 use Rattle.sg_catalog.specs.Catalog.{Catalog}
 use Rattle.sg_hash.specs.Calls.{CanPut, HasFive}
 use Rattle.sg_hash.specs.Table.{HashTable}
+use Rattle.sg_list.specs.Items as lists
 use Rattle.sg_space.specs.Pages.{HasFree}
-use Rattle.sg_tests_steps.specs.Knows.{HasRoom, KnowsAdd, KnowsBands, KnowsPlace, KnowsPush, KnowsPut}
+use Rattle.sg_tests_steps.specs.Knows.{HasRoom, KnowsAdd, KnowsBands, KnowsItem, KnowsPlace, KnowsPush, KnowsPut}
 use Rattle.sg_tests_steps.specs.Steps.{steps_view}
 use Rattle.sg_tests_steps.specs.declared.steps.StepSpace.{StepSpace}
 
@@ -61,4 +63,12 @@ can_put s {key} {split} {t} h = record {
   may_take = h.room.may_take;
   may_grow = record { names = roomy s t.directory t.names; buckets = λ p own n le. le };
   zero = let page = h.stands.raw.page 0 0 h.stands.raw.first in subst (λ (o : Option Sheet). IsSome o) (sym page.is) refl;
+}
+
+-- a list that has the bytes for one item more has a slot for it
+pub can_push_item : (s : StepSpace) {root : ℕ} {item : List ℕ} {items : List (List ℕ)} → KnowsItem item items → lists.CanPush (steps_view s) root item items
+can_push_item s {root} {item} {items} h = record {
+  short = h.short;
+  fits = h.fits;
+  may = omega (arith, h.fits, length-map (items ++ item ∷ []) (λ (x : List ℕ). Some x), length-append items (item ∷ []));
 }

@@ -1,5 +1,6 @@
 -- What one knows before the first call of an action: what the pages read as, how many are free, and that nothing was freed.
-use Rattle.std.specs.Prelude.{◌≡◌, ℕ, ◌+◌, ◌*◌, ◌<◌, ◌≤◌, List, length, Bool, true, false, None, Result, IfErr, OnOk}
+use Rattle.std.specs.Prelude.{◌≡◌, ℕ, ◌+◌, ◌*◌, ◌<◌, ◌≤◌, ◌++◌, List, [], ◌∷◌, length, map, Bool, true, false, Some, None, Result, IfErr, OnOk}
+use Rattle.sg_base.specs.Page.{bytes_of}
 use Rattle.sg_array.specs.Array.{Array}
 use Rattle.sg_base.specs.declared.page.TheConstants.{BAND_SIZE}
 use Rattle.sg_blob.specs.Blob.{Blob, IsBlob, OwnsBand}
@@ -44,6 +45,11 @@ pub record KnowsPut (v : View) (key : List ℕ) (split : Bool) (t : HashTable) :
   pub stands : IsCatalog v.space.pages.at catalog
   pub room : HasRoom v 1
   pub room_split : split ≡ true → value_at t key ≡ None → HasRoom v 11
+
+-- the page of a list has the bytes for one item more
+pub record KnowsItem (item : List ℕ) (items : List (List ℕ)) : Type 0 where
+  pub short : length item ≤ 4068
+  pub fits : bytes_of (map Some (items ++ item ∷ [])) ≤ 4072
 
 -- no record was written, and all is as it was
 pub record Stays {T : Type 0} (old new : StepSpace) (result : Result T SpaceFault) : Type 0 where

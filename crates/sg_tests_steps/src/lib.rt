@@ -7,6 +7,7 @@
 pub mod arrays;
 pub mod blobs;
 pub mod catalogue;
+pub mod lists;
 mod steps;
 pub mod tables;
 

@@ -1,7 +1,7 @@
 // One object of a kind.
-ghost use Rattle.std.specs.Prelude.{◌≡◌, IfErr, OnOk};
+ghost use Rattle.std.specs.Prelude.{◌≡◌, true, Some, slice_get, IfErr, OnOk};
 ghost use Rattle.sg_ops.specs.Table.{Table};
-ghost use Rattle.sg_reach.specs.Fault.{CountsReach, IfBroken};
+ghost use Rattle.sg_reach.specs.Fault.{CountsReach, WritesNoneReach, IfBroken, IsReached};
 ghost use Rattle.sg_space.specs.View.{OnlyReads};
 ghost use Rattle.sg_walk.specs.Bodies.{CanReachBody, ReachesBody};
 
@@ -31,6 +31,8 @@ pub fn reach_body<P: PageSpace>(
         → ¬ CanReachBody (P.view space.old).space kind root.0 into.old)) }
     ensures later { (t : Table) → P.later t space.old space.new }
     ensures means { (t : Table) → P.means space.old t → P.means space.new t }
+    ensures writes { WritesNoneReach (P.view space.old) (P.view space.new) result }
+    ensures place { IfErr result (IsReached ((P.view space.old).Shows × (slice_get into.old.pages from.0 ≡ Some true)) into.new.pages) }
 {
     match kind {
         ObjectKind::Array => {

@@ -3,10 +3,10 @@ ghost use Rattle.std.specs.Prelude.{◌≡◌, ℕ, ◌<◌, true, false, Some, 
 ghost use Rattle.sg_base.specs.Page.{slots_of, cell_in};
 ghost use Rattle.sg_catalog.specs.Look.{row_in};
 ghost use Rattle.sg_ops.specs.Table.{Table};
-ghost use Rattle.sg_reach.specs.Fault.{CountsReach, IfBroken};
+ghost use Rattle.sg_reach.specs.Fault.{CountsReach, WritesNoneReach, IfBroken, IsReached};
 ghost use Rattle.sg_walk.specs.Rows.{CanReachRows, ReachesRows, CanReach, Reaches, IsRowAt};
 ghost use Rattle.sg_walk.specs.Paging.{HasRowsAt, IfRowsAt};
-ghost use Rattle.sg_space.specs.Pages.{CanLook};
+ghost use Rattle.sg_space.specs.Pages.{CanLook, WritesNone};
 ghost use Rattle.sg_space.specs.Units.{HasAt};
 ghost use Rattle.sg_space.specs.View.{Counts, OnlyReads};
 
@@ -38,6 +38,7 @@ fn row_at<P: PageSpace>(space: &mut P, p: PageNo, slot: u16) -> Result<Option<Ro
     ensures read { IfOk result (λ row. (P.view space.old).Shows → HasAt (P.view space.old).space.pages.at p.0 (IsRowAt slot row)) }
     ensures later { (t : Table) → P.later t space.old space.new }
     ensures means { (t : Table) → P.means space.old t → P.means space.new t }
+    ensures writes { WritesNone (P.view space.old) (P.view space.new) result }
 {
     let view = space.page(p)?;
     let row = row_on(&view, slot);
@@ -61,6 +62,8 @@ fn reach_rows<P: PageSpace>(
         (λ rs. ¬ CanReachRows (P.view space.old).space into.old rs))) }
     ensures later { (t : Table) → P.later t space.old space.new }
     ensures means { (t : Table) → P.means space.old t → P.means space.new t }
+    ensures writes { WritesNoneReach (P.view space.old) (P.view space.new) result }
+    ensures place { IfErr result (IsReached ((P.view space.old).Shows × (slice_get into.old.pages p.0 ≡ Some true)) into.new.pages) }
 {
     for slot in 0..SLOTS {
         let Some(row) = row_at(space, p, slot)? else {
@@ -75,8 +78,8 @@ fn reach_rows<P: PageSpace>(
 /// catalogue, and those of each array, table and blob that it names, tombstones' too. It is looked that they are
 /// theirs. The marks, which are clear, are the caller's, for the names: the more there are the fewer names are counted.
 ///
-/// An error is the space's own, or `Broken` with a page that is wrong, names what can't be set, or has a name or a
-/// key twice. Some pages and bands may be set then.
+/// An error is the space's own, or `Broken` with a page that was reached, and is set: one that is wrong, names what
+/// can't be set, or has a name or a key twice. Some pages and bands may be set then.
 pub fn reach<P: PageSpace>(
     space: &mut P,
     into: &mut Maps,
@@ -92,6 +95,8 @@ pub fn reach<P: PageSpace>(
     ensures broken { IfErr result (IfBroken ((P.view space.old).Shows → ¬ CanReach (P.view space.old).space into.old)) }
     ensures later { (t : Table) → P.later t space.old space.new }
     ensures means { (t : Table) → P.means space.old t → P.means space.new t }
+    ensures writes { WritesNoneReach (P.view space.old) (P.view space.new) result }
+    ensures place { IfErr result (IsReached ((P.view space.old).Shows) into.new.pages) }
 {
     let pages = reach_names(space, into, marks)?;
     let mut page = FIRST;

@@ -89,6 +89,8 @@ loop-j-preserved g c = record {
       );
   later = λ t. g.met.P.PageSpace.later_then t _ _ _ (c.loop-j.invariant.later t) (g.met.P.PageSpace.later_then t _ _ _ (c.link_at.ensures.later t) (c.check_band.ensures.later t));
   means = λ t m. c.check_band.ensures.means t (c.link_at.ensures.means t (c.loop-j.invariant.means t m));
+  quiet = c.in_ok-check_band.ensures.counts.quiet ∙ (c.in_ok-band.ensures.counts.quiet ∙ c.loop-j.invariant.quiet);
+  records = c.check_band.ensures.writes.records ∙ (c.link_at.ensures.writes.records ∙ c.loop-j.invariant.records);
 }
 
 pub returns-in_err-set_band-clause-later : goal.returns-in_err-set_band-clause-later
@@ -102,3 +104,14 @@ returns-in_err-check_band-clause-later g c = λ t. g.met.P.PageSpace.later_then 
 
 pub returns-in_err-check_band-clause-means : goal.returns-in_err-check_band-clause-means
 returns-in_err-check_band-clause-means g c = λ t m. c.check_band.ensures.means t (c.link_at.ensures.means t (c.loop-j.invariant.means t m))
+
+-- the page that is said to be broken
+pub returns-in_err-set_band-clause-names : goal.returns-in_err-set_band-clause-names
+returns-in_err-set_band-clause-names g c =
+    let p = err_from_is_err_and c.from_residual-in_err-set_band.result c.from_residual-in_err-set_band.ensures.1 in
+    rw (p.1, p.2) c.in_err-set_band.ensures.names
+
+pub returns-in_err-check_band-clause-names : goal.returns-in_err-check_band-clause-names
+returns-in_err-check_band-clause-names g c =
+    let p = err_from_is_err_and c.from_residual-in_err-check_band.result c.from_residual-in_err-check_band.ensures.1 in
+    rw (p.1, p.2) c.in_err-check_band.ensures.names

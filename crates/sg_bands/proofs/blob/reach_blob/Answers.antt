@@ -1,4 +1,4 @@
-use Rattle.std.proofs.Common.{◌≡◌, ℕ, sym, subst, List, Bool}
+use Rattle.std.proofs.Common.{◌≡◌, ℕ, true, Some, slice_get, sym, subst, List, Bool}
 use Rattle.std.proofs.lemmas.Result.{err_from_is_err_and}
 use Rattle.sg_space.proofs.Known.{still, before, reads_then}
 use Rattle.sg_space.specs.Units.{HasAt}
@@ -9,6 +9,7 @@ use Rattle.sg_bands.proofs.Whole.{in_range, whole_is, root_said, may_walk, reach
 use Rattle.sg_reach.specs.Form.{HasForm}
 use Rattle.sg_reach.proofs.Faults.{broken_by, broken_so}
 use Rattle.sg_reach.proofs.Setting.{head_free}
+use Rattle.sg_reach.proofs.Placing.{one_set, reached_at, reached_by}
 use Rattle.sg_bands.proofs.blob.reach_blob.Goals as goal
 
 pub returns-in_err-set_page-clause-broken : goal.returns-in_err-set_page-clause-broken
@@ -70,3 +71,24 @@ returns-clause-later g c = λ t. g.met.P.PageSpace.later_then t _ _ _ (c.read_nu
 
 pub returns-clause-means : goal.returns-clause-means
 returns-clause-means g c = λ t m. c.reach_bands.ensures.means t (c.check.ensures.means t (c.read_numbers.ensures.means t m))
+
+-- the page that is said to be broken
+pub returns-in_err-set_page-clause-place : goal.returns-in_err-set_page-clause-place
+returns-in_err-set_page-clause-place g c =
+    let p = err_from_is_err_and c.from_residual.result c.from_residual.ensures.1 in
+    rw (p.1, p.2) (reached_by _ c.in_err-set_page.field-0.0 (λ given. given.1) c.in_err-set_page.ensures.place)
+
+pub returns-in_err-found-clause-place : goal.returns-in_err-found-clause-place
+returns-in_err-found-clause-place g c =
+    let p = err_from_is_err_and c.from_residual-in_err-found.result c.from_residual-in_err-found.ensures.1 in
+    rw (p.1, p.2) (reached_at _ c.args.root.0 c.in_err-found.field-0.0 (λ given. one_set c.in_ok-set_page.ensures.set) c.in_err-found.ensures.names)
+
+pub returns-in_err-check-clause-place : goal.returns-in_err-check-clause-place
+returns-in_err-check-clause-place g c =
+    let p = err_from_is_err_and c.from_residual-in_err-check.result c.from_residual-in_err-check.ensures.1 in
+    rw (p.1, p.2) (reached_at _ c.args.root.0 c.in_err-check.field-0.0 (λ given. one_set c.in_ok-set_page.ensures.set) c.in_err-check.ensures.names)
+
+pub returns-in_err-reach_bands-clause-place : goal.returns-in_err-reach_bands-clause-place
+returns-in_err-reach_bands-clause-place g c =
+    let p = err_from_is_err_and c.from_residual-in_err-reach_bands.result c.from_residual-in_err-reach_bands.ensures.1 in
+    rw (p.1, p.2) (reached_at _ c.args.root.0 c.in_err-reach_bands.field-0.0 (λ given. subst (λ (flags : List Bool). slice_get flags c.args.root.0 ≡ Some true) (sym c.reach_bands.ensures.pages) (one_set c.in_ok-set_page.ensures.set)) c.in_err-reach_bands.ensures.names)

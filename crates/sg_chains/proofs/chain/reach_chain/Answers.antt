@@ -10,6 +10,7 @@ use Rattle.sg_chains.specs.Seen.{IsSeen}
 use Rattle.sg_chains.proofs.Chains.{some_pages, goes_on, can_walk}
 use Rattle.sg_chains.proofs.Sums.{Passed, passed_first, passed_more, first_seen, link_seen, not_empty, whole, one_less, few_first, few_more}
 use Rattle.sg_reach.proofs.Faults.{broken_by, broken_so}
+use Rattle.sg_reach.proofs.Placing.{one_set, reached_at, reached_by}
 use Rattle.sg_reach.proofs.Walking.{walk_start, walk_on, walk_free, is_there}
 use Rattle.sg_chains.proofs.chain.reach_chain.Goals as goal
 
@@ -42,6 +43,9 @@ links-init g c =
       most = omega arith;
       later = c.look.ensures.later;
       means = c.look.ensures.means;
+      quiet = c.in_ok-seen.ensures.counts.quiet;
+      last = one_set c.in_ok-set_page.ensures.set;
+      records = c.look.ensures.writes.records;
     }
 
 pub returns-in_err-set_page-2-clause-broken : goal.returns-in_err-set_page-2-clause-broken
@@ -132,6 +136,9 @@ links-preserved g c =
       most = c.links.invariant.most;
       later = λ t. g.met.P.PageSpace.later_then t _ _ _ (c.links.invariant.later t) (c.look-in-links.ensures.later t);
       means = λ t m. c.look-in-links.ensures.means t (c.links.invariant.means t m);
+      quiet = c.in_ok-more.ensures.counts.quiet ∙ c.links.invariant.quiet;
+      last = one_set c.in_ok-set_page-2.ensures.set;
+      records = c.look-in-links.ensures.writes.records ∙ c.links.invariant.records;
     }
 
 pub returns-clause-reached : goal.returns-clause-reached
@@ -141,3 +148,27 @@ returns-clause-reached g c = λ shows.
     let none : c.links.next.0 ≡ 0 = omega arith in
     whole (record { pages = c.links.pages; entries = c.links.entries; bytes = c.links.bytes }) c.links.invariant.some c.requires.small (i.walks shows)
     (subst (Passed (g.P.PageSpace.view c.args.space.now).space.pages.at c.args.first.0 c.links.pages c.links.entries c.links.bytes) none (c.links.invariant.passed shows))
+
+-- the page that is said to be broken
+pub returns-in_err-set_page-clause-place : goal.returns-in_err-set_page-clause-place
+returns-in_err-set_page-clause-place g c =
+    let p = err_from_is_err_and c.from_residual.result c.from_residual.ensures.1 in
+    rw (p.1, p.2) (reached_by _ c.in_err-set_page.field-0.0 (λ given. given.1) c.in_err-set_page.ensures.place)
+
+pub returns-in_err-seen-clause-place : goal.returns-in_err-seen-clause-place
+returns-in_err-seen-clause-place g c =
+    let p = err_from_is_err_and c.from_residual-in_err-seen.result c.from_residual-in_err-seen.ensures.1 in
+    rw (p.1, p.2) (reached_at _ c.args.first.0 c.in_err-seen.field-0.0 (λ given. one_set c.in_ok-set_page.ensures.set) c.in_err-seen.ensures.names)
+
+pub returns-in_err-set_page-2-clause-place : goal.returns-in_err-set_page-2-clause-place
+returns-in_err-set_page-2-clause-place g c =
+    let p = err_from_is_err_and c.from_residual-in_err-set_page-2.result c.from_residual-in_err-set_page-2.ensures.1 in
+    rw (p.1, p.2) (reached_by _ c.in_err-set_page-2.field-0.0 (λ given. c.links.invariant.last) c.in_err-set_page-2.ensures.place)
+
+pub returns-in_err-more-clause-place : goal.returns-in_err-more-clause-place
+returns-in_err-more-clause-place g c =
+    let p = err_from_is_err_and c.from_residual-in_err-more.result c.from_residual-in_err-more.ensures.1 in
+    rw (p.1, p.2) (reached_at _ c.links.next.0 c.in_err-more.field-0.0 (λ given. one_set c.in_ok-set_page-2.ensures.set) c.in_err-more.ensures.names)
+
+pub returns-then-more-eq0-clause-place : goal.returns-then-more-eq0-clause-place
+returns-then-more-eq0-clause-place g c = λ given. one_set c.in_ok-set_page-2.ensures.set

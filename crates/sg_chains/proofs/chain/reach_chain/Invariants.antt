@@ -1,4 +1,4 @@
-use Rattle.std.proofs.Common.{◌≡◌, ℕ, ◌<◌, ◌≤◌, ◌^◌}
+use Rattle.std.proofs.Common.{◌≡◌, ℕ, ◌<◌, ◌≤◌, ◌^◌, true, Some, slice_get}
 use Rattle.sg_alloc.specs.Flags.{free_of}
 use Rattle.sg_ops.specs.Table.{Table}
 use Rattle.sg_chains.specs.Parts.{chain_no, HasLink}
@@ -17,6 +17,9 @@ invariant-links g l = record {
   most : free_of l.fn.into.pages < 2 ^ 32;
   later : (t : Table) → g.P.PageSpace.later t l.fn.space l.space;
   means : (t : Table) → g.P.PageSpace.means l.fn.space t → g.P.PageSpace.means l.space t;
+  quiet : (g.P.PageSpace.view l.space).faults ≡ (g.P.PageSpace.view l.fn.space).faults;
+  last : slice_get l.into.pages l.last.0 ≡ Some true;
+  records : (g.P.PageSpace.view l.space).records ≡ (g.P.PageSpace.view l.fn.space).records;
 }
 
 abbrev pub decreases-links : goal.decreases-links

@@ -20,6 +20,8 @@ loop-slot-preserved-in_default g c =
           once_more b j c.loop-slot.slot (all b h j at) (once_none b j c.loop-slot.slot (subst (λ (o : Option ℕ). IsKeyIn (cell_in (part_at b.parts j) c.loop-slot.slot) o c.key_at.new.into) c.in_default.is key)));
       later = λ t. g.met.P.PageSpace.later_then t _ _ _ (c.loop-slot.invariant.later t) (c.key_at.ensures.later t);
       means = λ t m. c.key_at.ensures.means t (c.loop-slot.invariant.means t m);
+      quiet = c.in_ok-n.ensures.counts.quiet ∙ c.loop-slot.invariant.quiet;
+      records = c.key_at.ensures.writes.records ∙ c.loop-slot.invariant.records;
     }
 
 pub returns-then-branch-gt1-clause-broken : goal.returns-then-branch-gt1-clause-broken
@@ -49,6 +51,8 @@ loop-slot-preserved g c =
           once_more b j c.loop-slot.slot (all b h j at) (once_some b j c.loop-slot.slot c.in-Some.n c.in_ok-count.field-0 c.key_at.new.into (take c.in-Some.n c.key_at.new.into) key refl counted (omega (arith, few))));
       later = λ t. g.met.P.PageSpace.later_then t _ _ _ (c.loop-slot.invariant.later t) (g.met.P.PageSpace.later_then t _ _ _ (c.key_at.ensures.later t) (c.count.ensures.later t));
       means = λ t m. c.count.ensures.means t (c.key_at.ensures.means t (c.loop-slot.invariant.means t m));
+      quiet = c.in_ok-count.ensures.counts.quiet ∙ (c.in_ok-n.ensures.counts.quiet ∙ c.loop-slot.invariant.quiet);
+      records = c.count.ensures.writes.records ∙ (c.key_at.ensures.writes.records ∙ c.loop-slot.invariant.records);
     }
 
 pub returns-clause-follows : goal.returns-clause-follows

@@ -10,4 +10,5 @@ invariant-pages g l = record {
   later : (t : Table) → g.P.PageSpace.later t l.fn.space l.space;
   quiet : (g.P.PageSpace.view l.space).faults ≡ (g.P.PageSpace.view l.fn.space).faults;
   means : (t : Table) → g.P.PageSpace.means l.fn.space t → g.P.PageSpace.means l.space t;
+  records : (g.P.PageSpace.view l.space).records ≡ (g.P.PageSpace.view l.fn.space).records;
 }

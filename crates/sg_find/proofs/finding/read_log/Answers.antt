@@ -56,3 +56,11 @@ returns-in-Err-analyse-clause-heeded g c =
     let same : w.faults ≡ v.faults = c.in-Ok.ensures.heeded in
     on_false_then (is_disk c.of_analysis.result) _ _ (λ (e : z.faults ≡ w.faults). e ∙ same)
     (subst (λ (e : OpenFault). OnFalse (is_disk e) (z.faults ≡ w.faults)) (sym c.of_analysis.ensures) (analysis_heeds (Unit {0}) c.log_area-area.result c.in-Err-analyse.fault w z c.in-Err-analyse.ensures.heeded))
+
+pub returns-in-Ok-analyse-clause-found : goal.returns-in-Ok-analyse-clause-found
+returns-in-Ok-analyse-clause-found g c told =
+    let s = c.args.s.now in
+    let one = c.in-Ok-analyse.ensures.analysed told in
+    let there = subst (λ (x : State). HasRecords (x c.log_area-area.result).seen s.base one.gate one.records) (c.attach.ensures.unchanged told) one.has in
+    let v = g.D.Disk.view c.args.disk.now in
+    record { gate = one.gate; records = one.records; has = subst (λ (a : Area). HasRecords (v.now a).seen s.base one.gate one.records) c.log_area-area.ensures.area there }

@@ -8,6 +8,7 @@ use Rattle.sg_names.specs.Pages.{IsNamePage, later_no, HasLater}
 use Rattle.sg_names.specs.Seen.{IsSeen}
 use Rattle.sg_names.proofs.Chains.{known, first_page, leads, leads_first, seen_page, chain_ends, walks_names}
 use Rattle.sg_reach.proofs.Faults.{broken_by, broken_so}
+use Rattle.sg_reach.proofs.Placing.{one_set, reached_at, reached_by}
 use Rattle.sg_reach.proofs.Walking.{walk_on, walk_free, walk_end, is_there}
 use Rattle.sg_names.proofs.chain.reach_pages.Goals as goal
 
@@ -60,6 +61,9 @@ pages-preserved g c = record {
       );
   later = λ t. g.met.P.PageSpace.later_then t _ _ _ (c.pages.invariant.later t) (c.look-in-pages.ensures.later t);
   means = λ t m. c.look-in-pages.ensures.means t (c.pages.invariant.means t m);
+  quiet = c.in_ok-seen.ensures.counts.quiet ∙ c.pages.invariant.quiet;
+  last = one_set c.in_ok-set_page.ensures.set;
+  records = c.look-in-pages.ensures.writes.records ∙ c.pages.invariant.records;
 }
 
 pub returns-then-ne-clause-broken : goal.returns-then-ne-clause-broken
@@ -85,3 +89,22 @@ returns-clause-reached g c = λ shows.
 
 pub returns-in_err-seen-clause-later : goal.returns-in_err-seen-clause-later
 returns-in_err-seen-clause-later g c = λ t. g.met.P.PageSpace.later_then t _ _ _ (c.pages.invariant.later t) (c.look-in-pages.ensures.later t)
+
+-- the page that is said to be broken
+pub returns-in_err-first-clause-place : goal.returns-in_err-first-clause-place
+returns-in_err-first-clause-place g c =
+    let p = err_from_is_err_and c.from_residual.result c.from_residual.ensures.1 in
+    rw (p.1, p.2) (reached_at _ 0 c.in_err-first.field-0.0 (λ shows. c.requires.first) c.in_err-first.ensures.names)
+
+pub returns-in_err-set_page-clause-place : goal.returns-in_err-set_page-clause-place
+returns-in_err-set_page-clause-place g c =
+    let p = err_from_is_err_and c.from_residual-in_err-set_page.result c.from_residual-in_err-set_page.ensures.1 in
+    rw (p.1, p.2) (reached_by _ c.in_err-set_page.field-0.0 (λ shows. c.pages.invariant.last) c.in_err-set_page.ensures.place)
+
+pub returns-in_err-seen-clause-place : goal.returns-in_err-seen-clause-place
+returns-in_err-seen-clause-place g c =
+    let p = err_from_is_err_and c.from_residual-in_err-seen.result c.from_residual-in_err-seen.ensures.1 in
+    rw (p.1, p.2) (reached_at _ c.pages.next.0 c.in_err-seen.field-0.0 (λ shows. one_set c.in_ok-set_page.ensures.set) c.in_err-seen.ensures.names)
+
+pub returns-then-ne-clause-place : goal.returns-then-ne-clause-place
+returns-then-ne-clause-place g c = λ shows. c.pages.invariant.last

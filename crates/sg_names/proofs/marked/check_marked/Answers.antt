@@ -27,6 +27,8 @@ loop-slot-preserved-in_default g c =
       long = c.loop-slot.invariant.long;
       later = λ t. g.met.P.PageSpace.later_then t _ _ _ (c.loop-slot.invariant.later t) (c.name_at.ensures.later t);
       means = λ t m. c.name_at.ensures.means t (c.loop-slot.invariant.means t m);
+      quiet = c.in_ok-name.ensures.counts.quiet ∙ c.loop-slot.invariant.quiet;
+      records = c.name_at.ensures.writes.records ∙ c.loop-slot.invariant.records;
     }
 
 pub returns-then-branch-gt1-clause-broken : goal.returns-then-branch-gt1-clause-broken
@@ -76,6 +78,8 @@ loop-slot-preserved-then-not-marks-mark g c =
       long = length-set c.loop-slot.marks c.mark_of-mark.result true ∙ c.loop-slot.invariant.long;
       later = λ t. g.met.P.PageSpace.later_then t _ _ _ (c.loop-slot.invariant.later t) (c.name_at.ensures.later t);
       means = λ t m. c.name_at.ensures.means t (c.loop-slot.invariant.means t m);
+      quiet = c.in_ok-name.ensures.counts.quiet ∙ c.loop-slot.invariant.quiet;
+      records = c.name_at.ensures.writes.records ∙ c.loop-slot.invariant.records;
     }
 
 pub loop-slot-preserved : goal.loop-slot-preserved
@@ -103,4 +107,6 @@ loop-slot-preserved g c =
       long = c.loop-slot.invariant.long;
       later = λ t. g.met.P.PageSpace.later_then t _ _ _ (c.loop-slot.invariant.later t) (g.met.P.PageSpace.later_then t _ _ _ (c.name_at.ensures.later t) (c.count.ensures.later t));
       means = λ t m. c.count.ensures.means t (c.name_at.ensures.means t (c.loop-slot.invariant.means t m));
+      quiet = c.in_ok-count.ensures.counts.quiet ∙ (c.in_ok-name.ensures.counts.quiet ∙ c.loop-slot.invariant.quiet);
+      records = c.count.ensures.writes.records ∙ (c.name_at.ensures.writes.records ∙ c.loop-slot.invariant.records);
     }

@@ -12,4 +12,6 @@ invariant-loop-slot g l = record {
   long : length l.marks ≡ length l.fn.marks;
   later : (t : Table) → g.P.PageSpace.later t l.fn.space l.space;
   means : (t : Table) → g.P.PageSpace.means l.fn.space t → g.P.PageSpace.means l.space t;
+  quiet : (g.P.PageSpace.view l.space).faults ≡ (g.P.PageSpace.view l.fn.space).faults;
+  records : (g.P.PageSpace.view l.space).records ≡ (g.P.PageSpace.view l.fn.space).records;
 }

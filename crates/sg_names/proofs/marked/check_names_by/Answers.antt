@@ -1,12 +1,14 @@
 use Rattle.std.proofs.Common.{◌≡◌, ℕ, ◌+◌, ◌*◌, ◌<◌, ◌≤◌, IsSome, length, subst, ◌∙◌, arith}
+use Rattle.std.proofs.lemmas.Result.{err_from_is_err_and}
 use Rattle.sg_space.proofs.Known.{still, before, reads_then}
 use Rattle.sg_space.specs.Units.{HasAt}
 use Rattle.sg_space.specs.View.{Space}
 use Rattle.sg_names.specs.Marked.{IsMarked}
 use Rattle.sg_names.specs.Tally.{IsChain, IsTally}
 use Rattle.sg_names.specs.declared.tally.Counted.TheVariants.{Every}
+use Rattle.sg_reach.proofs.Placing.{among_at}
 use Rattle.sg_names.proofs.Marking.{marked_all}
-use Rattle.sg_names.proofs.Tallies.{chain_there, chain_on, tally_here}
+use Rattle.sg_names.proofs.Tallies.{chain_there, chain_on, chain_page, tally_here}
 use Rattle.sg_names.proofs.marked.check_names_by.Goals as goal
 
 pub check_marked-requires-clause-there : goal.check_marked-requires-clause-there
@@ -40,6 +42,8 @@ pages-preserved g c =
       long = c.in_ok-check_marked.ensures.long ∙ c.pages.invariant.long;
       later = λ t. g.met.P.PageSpace.later_then t _ _ _ (c.pages.invariant.later t) (g.met.P.PageSpace.later_then t _ _ _ (c.check_marked.ensures.later t) (c.tally_page.ensures.later t));
       means = λ t m. c.tally_page.ensures.means t (c.check_marked.ensures.means t (c.pages.invariant.means t m));
+      quiet = c.in_ok-found.ensures.counts.quiet ∙ (c.in_ok-check_marked.ensures.counts.quiet ∙ c.pages.invariant.quiet);
+      records = c.tally_page.ensures.writes.records ∙ (c.check_marked.ensures.writes.records ∙ c.pages.invariant.records);
     }
 
 pub returns-clause-read : goal.returns-clause-read
@@ -62,3 +66,10 @@ returns-in_err-found-clause-later g c = λ t. g.met.P.PageSpace.later_then t _ _
 
 pub returns-in_err-found-clause-means : goal.returns-in_err-found-clause-means
 returns-in_err-found-clause-means g c = λ t m. c.tally_page.ensures.means t (c.check_marked.ensures.means t (c.pages.invariant.means t m))
+
+pub returns-in_err-check_marked-clause-place : goal.returns-in_err-check_marked-clause-place
+returns-in_err-check_marked-clause-place g c =
+    let i = c.pages.invariant.so_far in
+    let test = c.pages-test.true in
+    let p = err_from_is_err_and c.from_residual.result c.from_residual.ensures.1 in
+    rw (p.1, p.2) (λ shows cat h. among_at cat.pages c.pages.counter c.pages.page.0 c.in_err-check_marked.field-0.0 (chain_page cat c.pages.counter c.pages.page.0 h ((i.at shows cat h).0) (omega arith)) c.in_err-check_marked.ensures.names)

@@ -29,4 +29,5 @@ pages-preserved g c = record {
   later = λ t. g.met.P.PageSpace.later_then t _ _ _ (c.pages.invariant.later t) (c.tally_page.ensures.later t);
   quiet = c.in_ok-found.ensures.counts.quiet ∙ c.pages.invariant.quiet;
   means = λ t m. c.tally_page.ensures.means t (c.pages.invariant.means t m);
+  records = c.tally_page.ensures.writes.records ∙ c.pages.invariant.records;
 }

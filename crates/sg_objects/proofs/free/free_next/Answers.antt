@@ -1,4 +1,4 @@
-use Rattle.std.proofs.Common.{◌∙◌, sym}
+use Rattle.std.proofs.Common.{◌∙◌, sym, arith}
 use Rattle.sg_objects.proofs.Located.{still_contents}
 use Rattle.sg_objects.proofs.Freeing.{was_buried, can_forget, body_kept, freed_done, freed_from}
 use Rattle.sg_objects.proofs.free.free_next.Goals as goal
@@ -40,3 +40,20 @@ returns-clause-did g c =
           let one = forgot.turns mid s.catalog now.catalog (can_forget w) in
           (_, freed_from k shows (freed_done w now one.1 one.2 (freed.gone (forgot.told mid) _ (body_kept w now one.1 one.2))));
     }
+
+-- few records
+pub returns-in_err-free_body-clause-few : goal.returns-in_err-free_body-clause-few
+returns-in_err-free_body-clause-few g c = λ told.
+    let mid = c.in_ok-forget.ensures.did.told (c.in_ok-sought.ensures.kept.keeps.told told) in
+    let freed = c.free_body.ensures.few mid in
+    let forgot = c.forget.ensures.few in
+    let read = c.next_buried.ensures.writes.records in
+    omega (arith, freed, forgot, read)
+
+pub returns-clause-few : goal.returns-clause-few
+returns-clause-few g c = λ told.
+    let mid = c.in_ok-forget.ensures.did.told (c.in_ok-sought.ensures.kept.keeps.told told) in
+    let freed = c.free_body.ensures.few mid in
+    let forgot = c.forget.ensures.few in
+    let read = c.next_buried.ensures.writes.records in
+    omega (arith, freed, forgot, read)

@@ -1,4 +1,4 @@
-use Rattle.std.proofs.Common.{◌∙◌, sym}
+use Rattle.std.proofs.Common.{◌∙◌, sym, arith}
 use Rattle.sg_catalog.specs.Catalog.{rows, there}
 use Rattle.sg_catalog.specs.declared.row.ObjectKind.TheVariants as kinds
 use Rattle.sg_objects.proofs.Unmaking.{undone_after}
@@ -60,3 +60,10 @@ returns-in-Table-clause-later g c = let then = g.met.P.PageSpace.later_then _ in
 
 pub returns-in-Blob-clause-later : goal.returns-in-Blob-clause-later
 returns-in-Blob-clause-later g c = let then = g.met.P.PageSpace.later_then _ in then _ _ _ (c.find.ensures.later _) c.undo_make_blob.ensures.later
+
+-- few records
+pub returns-in-Table-clause-few : goal.returns-in-Table-clause-few
+returns-in-Table-clause-few g c = λ told.
+    let undone = c.undo_make_table.ensures.few (c.in_ok-sought.ensures.kept.keeps.told told) in
+    let read = c.find.ensures.writes.records in
+    omega (arith, undone, read)

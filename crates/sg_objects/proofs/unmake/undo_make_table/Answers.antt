@@ -1,4 +1,4 @@
-use Rattle.std.proofs.Common.{Result, subst}
+use Rattle.std.proofs.Common.{Result, subst, arith}
 use Rattle.sg_base.specs.declared.numbers.PageNo.{PageNo}
 use Rattle.sg_catalog.specs.declared.row.ObjectKind.TheVariants as kinds
 use Rattle.sg_model.specs.declared.reason.Reason.{Reason}
@@ -50,3 +50,22 @@ returns-in-Err-clause-later g c = let then = g.met.P.PageSpace.later_then _ in t
 
 pub returns-in_ok-free_all-in-Ok-clause-later : goal.returns-in_ok-free_all-in-Ok-clause-later
 returns-in_ok-free_all-in-Ok-clause-later g c = let then = g.met.P.PageSpace.later_then _ in then _ _ _ (c.root_of.ensures.later _) (then _ _ _ c.remove.ensures.later (c.free_all.ensures.later _))
+
+-- few records
+pub returns-in_err-free_all-in-Ok-clause-few : goal.returns-in_err-free_all-in-Ok-clause-few
+returns-in_err-free_all-in-Ok-clause-few g c = λ told.
+    let mid = c.in_ok-remove-in-Ok.ensures.did.told (c.in_ok-root_of.ensures.kept.keeps.told told) in
+    let most = g.met.P.PageSpace.few_pages _ mid in
+    let freed = c.free_all.ensures.few mid in
+    let removed = c.remove.ensures.few in
+    let read = c.root_of.ensures.writes.records in
+    omega (arith, most, freed, removed, read)
+
+pub returns-in_ok-free_all-in-Ok-clause-few : goal.returns-in_ok-free_all-in-Ok-clause-few
+returns-in_ok-free_all-in-Ok-clause-few g c = λ told.
+    let mid = c.in_ok-remove-in-Ok.ensures.did.told (c.in_ok-root_of.ensures.kept.keeps.told told) in
+    let most = g.met.P.PageSpace.few_pages _ mid in
+    let freed = c.free_all.ensures.few mid in
+    let removed = c.remove.ensures.few in
+    let read = c.root_of.ensures.writes.records in
+    omega (arith, most, freed, removed, read)

@@ -1,12 +1,14 @@
-use Rattle.std.proofs.Common.{◌≡◌, ℕ, sym, subst}
+use Rattle.std.proofs.Common.{◌≡◌, ℕ, ◌<◌, true, Some, slice_get, sym, subst}
 use Rattle.std.proofs.lemmas.Result.{err_from_is_err_and}
 use Rattle.sg_space.proofs.Known.{still, before, reads_then}
 use Rattle.sg_space.specs.Units.{HasAt}
 use Rattle.sg_space.specs.View.{Space}
 use Rattle.sg_reach.specs.Form.{HasForm}
-use Rattle.sg_reach.specs.Parts.{root_form}
+use Rattle.sg_reach.specs.Parts.{root_form, index_no, index_count}
 use Rattle.sg_reach.specs.Reached.{numbers_in, CanWalkIndex, CanWalkLeaves, WalksIndex, WalksLeaves}
 use Rattle.sg_reach.proofs.Faults.{broken_by, broken_so}
+use Rattle.sg_reach.proofs.Lists.{nth}
+use Rattle.sg_reach.proofs.Placing.{set_kept, one_set, reached_at, reached_by}
 use Rattle.sg_reach.proofs.Setting.{head_free}
 use Rattle.sg_reach.proofs.Whole.{in_range, whole_is, root_said, may_index, may_leaves, reaches}
 use Rattle.sg_reach.proofs.array.reach_array.Goals as goal
@@ -100,3 +102,38 @@ returns-clause-later g c = λ t. g.met.P.PageSpace.later_then t _ _ _ (c.read_nu
 
 pub returns-clause-means : goal.returns-clause-means
 returns-clause-means g c = λ t m. c.reach_leaves.ensures.means t (c.reach_index.ensures.means t (c.check.ensures.means t (c.read_numbers.ensures.means t m)))
+
+-- the page that is said to be broken
+pub returns-in_err-set_page-clause-place : goal.returns-in_err-set_page-clause-place
+returns-in_err-set_page-clause-place g c =
+    let p = err_from_is_err_and c.from_residual.result c.from_residual.ensures.1 in
+    rw (p.1, p.2) (reached_by _ c.in_err-set_page.field-0.0 (λ given. given.1) c.in_err-set_page.ensures.place)
+
+pub returns-in_err-found-clause-place : goal.returns-in_err-found-clause-place
+returns-in_err-found-clause-place g c =
+    let p = err_from_is_err_and c.from_residual-in_err-found.result c.from_residual-in_err-found.ensures.1 in
+    rw (p.1, p.2) (reached_at _ c.args.root.0 c.in_err-found.field-0.0 (λ given. one_set c.in_ok-set_page.ensures.set) c.in_err-found.ensures.names)
+
+pub returns-in_err-check-clause-place : goal.returns-in_err-check-clause-place
+returns-in_err-check-clause-place g c =
+    let p = err_from_is_err_and c.from_residual-in_err-check.result c.from_residual-in_err-check.ensures.1 in
+    rw (p.1, p.2) (reached_at _ c.args.root.0 c.in_err-check.field-0.0 (λ given. one_set c.in_ok-set_page.ensures.set) c.in_err-check.ensures.names)
+
+pub returns-in_err-reach_index-clause-place : goal.returns-in_err-reach_index-clause-place
+returns-in_err-reach_index-clause-place g c =
+    let kept = reads_then c.in_ok-found.ensures.kept c.in_ok-check.ensures.kept in
+    let p = err_from_is_err_and c.from_residual-in_err-reach_index.result c.from_residual-in_err-reach_index.ensures.1 in
+    rw (p.1, p.2) (reached_by _ c.in_err-reach_index.field-0.0 (λ given. (kept.shows given.0, one_set c.in_ok-set_page.ensures.set)) c.in_err-reach_index.ensures.place)
+
+pub returns-in_err-reach_leaves-clause-place : goal.returns-in_err-reach_leaves-clause-place
+returns-in_err-reach_leaves-clause-place g c =
+    let first = reads_then c.in_ok-found.ensures.kept c.in_ok-check.ensures.kept in
+    let kept = reads_then first c.in_ok-reach_index.ensures.kept in
+    let p = err_from_is_err_and c.from_residual-in_err-reach_leaves.result c.from_residual-in_err-reach_leaves.ensures.1 in
+    rw (p.1, p.2) (reached_by _ c.in_err-reach_leaves.field-0.0 (λ given.
+    let index = before (λ (s : Space). WalksIndex s.pages.at c.args.root.0 (numbers_in c.in_ok-found.found) c.set_page.new.into.pages c.reach_index.new.into.pages) first given.0 (c.in_ok-reach_index.ensures.reached (first.shows given.0)) in (
+      kept.shows given.0,
+      set_kept index.set _ (one_set c.in_ok-set_page.ensures.set),
+      still (λ (s : Space). (j : ℕ) → j < index_count (numbers_in c.in_ok-found.found) → slice_get c.reach_index.new.into.pages (index_no s.pages.at c.args.root.0 j) ≡ Some true) kept given.0
+          (λ j below. index.set.set _ (j, nth (index_no (g.P.PageSpace.view c.args.space.now).space.pages.at c.args.root.0) (index_count (numbers_in c.in_ok-found.found)) j below)),
+    )) c.in_err-reach_leaves.ensures.place)

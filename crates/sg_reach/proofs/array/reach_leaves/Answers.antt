@@ -1,4 +1,4 @@
-use Rattle.std.proofs.Common.{◌≡◌, ℕ, ◌+◌, ◌/◌, ◌%◌, ◌<◌, ap, arith, rules, sym, subst, ◌∙◌}
+use Rattle.std.proofs.Common.{◌≡◌, ℕ, ◌+◌, ◌/◌, ◌%◌, ◌<◌, true, Some, slice_get, ap, arith, rules, sym, subst, ◌∙◌}
 use Rattle.std.proofs.lemmas.Result.{err_from_is_err_and}
 use Rattle.sg_space.proofs.Known.{still, before, reads_then}
 use Rattle.sg_space.specs.Reads.{HasSized, HasCell}
@@ -9,6 +9,7 @@ use Rattle.sg_reach.specs.Form.{HasForm}
 use Rattle.sg_reach.specs.Parts.{index_no, leaf_no, link_at, leaf_count, index_form, leaf_form}
 use Rattle.sg_reach.specs.Reached.{numbers_in}
 use Rattle.sg_reach.proofs.Faults.{broken_by, broken_so}
+use Rattle.sg_reach.proofs.Placing.{set_kept, one_set, reached_at, reached_by}
 use Rattle.sg_reach.proofs.Sound.{rounded_holds}
 use Rattle.sg_reach.proofs.Walking.{walk_on, walk_free, link_sized, link_read, is_there}
 use Rattle.sg_reach.proofs.array.reach_leaves.Goals as goal
@@ -117,6 +118,8 @@ loop-d-preserved g c = record {
       );
   later = λ t. g.met.P.PageSpace.later_then t _ _ _ (c.loop-d.invariant.later t) (g.met.P.PageSpace.later_then t _ _ _ (c.link_at.ensures.later t) (g.met.P.PageSpace.later_then t _ _ _ (c.link_at-in-loop-d.ensures.later t) (c.check.ensures.later t)));
   means = λ t m. c.check.ensures.means t (c.link_at-in-loop-d.ensures.means t (c.link_at.ensures.means t (c.loop-d.invariant.means t m)));
+  quiet = c.in_ok-check.ensures.counts.quiet ∙ (c.in_ok-leaf.ensures.counts.quiet ∙ (c.in_ok-index.ensures.counts.quiet ∙ c.loop-d.invariant.quiet));
+  records = c.check.ensures.writes.records ∙ (c.link_at-in-loop-d.ensures.writes.records ∙ (c.link_at.ensures.writes.records ∙ c.loop-d.invariant.records));
 }
 
 pub returns-in_err-leaf-clause-later : goal.returns-in_err-leaf-clause-later
@@ -136,3 +139,21 @@ returns-in_err-check-clause-later g c = λ t. g.met.P.PageSpace.later_then t _ _
 
 pub returns-in_err-check-clause-means : goal.returns-in_err-check-clause-means
 returns-in_err-check-clause-means g c = λ t m. c.check.ensures.means t (c.link_at-in-loop-d.ensures.means t (c.link_at.ensures.means t (c.loop-d.invariant.means t m)))
+
+-- the page that is said to be broken
+pub returns-in_err-set_page-clause-place : goal.returns-in_err-set_page-clause-place
+returns-in_err-set_page-clause-place g c =
+    let i = c.loop-d.invariant.so_far.0 in
+    let test = c.loop-d-test.true in
+    let count = c.leaves-d-end.ensures.leaves in
+    let holds = rounded_holds (leaf_count (numbers_in c.args.found)) 509 (omega arith) in
+    let p = err_from_is_err_and c.from_residual-in_err-set_page.result c.from_residual-in_err-set_page.ensures.1 in
+    rw (p.1, p.2) (reached_by _ c.in_err-set_page.field-0.0 (λ given.
+    let read = before (λ (s : Space). HasAt s.pages.at c.args.root.0 (HasCell 2 (c.loop-d.d / 509 + 1) (little_bytes 4 c.in_ok-index.index.0))) i.kept given.0 (c.in_ok-index.ensures.read (i.kept.shows given.0)) in
+    let index = link_read (g.P.PageSpace.view c.args.space.now).space.pages.at c.args.root.0 2 (c.loop-d.d / 509 + 1) c.in_ok-index.index.0 read c.in_ok-index.ensures.small in
+    set_kept (i.walks given.0).set _ (subst (λ (n : ℕ). slice_get c.args.into.now.pages n ≡ Some true) index (given.2 (c.loop-d.d / 509) (omega arith)))) c.in_err-set_page.ensures.place)
+
+pub returns-in_err-check-clause-place : goal.returns-in_err-check-clause-place
+returns-in_err-check-clause-place g c =
+    let p = err_from_is_err_and c.from_residual-in_err-check.result c.from_residual-in_err-check.ensures.1 in
+    rw (p.1, p.2) (reached_at _ c.in_ok-leaf.leaf.0 c.in_err-check.field-0.0 (λ given. one_set c.in_ok-set_page.ensures.set) c.in_err-check.ensures.names)

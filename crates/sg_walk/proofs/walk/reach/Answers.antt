@@ -10,7 +10,9 @@ use Rattle.sg_names.specs.Pages.{ReachesNames}
 use Rattle.sg_names.specs.Tally.{IsChain, IsTally, HasChain}
 use Rattle.sg_names.specs.declared.tally.Counted.TheVariants.{Every}
 use Rattle.sg_names.proofs.Tallies.{chain_there, chain_on, chain_page, tally_here}
+use Rattle.sg_names.proofs.Chains.{catalog_set}
 use Rattle.sg_reach.proofs.Faults.{broken_so}
+use Rattle.sg_reach.proofs.Placing.{set_kept, reached_by}
 use Rattle.sg_walk.specs.Rows.{CanReachRows, ReachesRows}
 use Rattle.sg_walk.proofs.All.{SetsSo, names_may, rows_may, page_may, page_done, chain_of, all_done}
 use Rattle.sg_walk.proofs.Joining.{reaches_none}
@@ -91,6 +93,8 @@ pages-preserved g c = record {
       (t.0, page_done cat c.pages.counter done here));
   later = λ t. g.met.P.PageSpace.later_then t _ _ _ (c.pages.invariant.later t) (g.met.P.PageSpace.later_then t _ _ _ (c.reach_rows.ensures.later t) (c.tally_page.ensures.later t));
   means = λ t m. c.tally_page.ensures.means t (c.reach_rows.ensures.means t (c.pages.invariant.means t m));
+  quiet = c.in_ok-found.ensures.counts.quiet ∙ (c.in_ok-reach_rows.ensures.counts.quiet ∙ c.pages.invariant.quiet);
+  records = c.tally_page.ensures.writes.records ∙ (c.reach_rows.ensures.writes.records ∙ c.pages.invariant.records);
 }
 
 pub returns-clause-reached : goal.returns-clause-reached
@@ -112,6 +116,8 @@ pages-init g c = record {
   };
   later = c.reach_names.ensures.later;
   means = c.reach_names.ensures.means;
+  quiet = c.in_ok-pages.ensures.counts.quiet;
+  records = c.reach_names.ensures.writes.records;
 }
 
 pub returns-in_err-reach_rows-clause-later : goal.returns-in_err-reach_rows-clause-later
@@ -119,3 +125,20 @@ returns-in_err-reach_rows-clause-later g c = λ t. g.met.P.PageSpace.later_then 
 
 pub returns-in_err-found-clause-later : goal.returns-in_err-found-clause-later
 returns-in_err-found-clause-later g c = λ t. g.met.P.PageSpace.later_then t _ _ _ (c.pages.invariant.later t) (g.met.P.PageSpace.later_then t _ _ _ (c.reach_rows.ensures.later t) (c.tally_page.ensures.later t))
+
+-- the page that is said to be broken
+pub returns-in_err-pages-clause-place : goal.returns-in_err-pages-clause-place
+returns-in_err-pages-clause-place g c =
+    let p = err_from_is_err_and c.from_residual.result c.from_residual.ensures.1 in
+    rw (p.1, p.2) (reached_by _ c.in_err-pages.field-0.0 (λ shows. shows) c.in_err-pages.ensures.place)
+
+pub returns-in_err-reach_rows-clause-place : goal.returns-in_err-reach_rows-clause-place
+returns-in_err-reach_rows-clause-place g c =
+    let i = c.pages.invariant.so_far in
+    let test = c.pages-test.true in
+    let p = err_from_is_err_and c.from_residual-in_err-reach_rows.result c.from_residual-in_err-reach_rows.ensures.1 in
+    rw (p.1, p.2) (reached_by _ c.in_err-reach_rows.field-0.0 (λ shows.
+    let n = c.in_ok-pages.ensures.reached shows in
+    let chain = chain_of n.catalog n.is (c.in_ok-pages.ensures.many shows n.catalog n.is) in
+    let a = i.at shows n.catalog chain in
+    (i.kept.shows shows, set_kept (a.1).set.pages_set c.pages.page.0 (catalog_set n c.pages.counter c.pages.page.0 c.requires.first (chain_page n.catalog c.pages.counter c.pages.page.0 chain a.0 (omega arith))))) c.in_err-reach_rows.ensures.place)

@@ -1,3 +1,4 @@
+use Rattle.std.proofs.Common.{◌≡◌}
 use Rattle.sg_ops.specs.Table.{Table}
 use Rattle.sg_names.proofs.Tallies.{ChainTo}
 use Rattle.sg_walk.proofs.All.{SetsSo}
@@ -8,4 +9,6 @@ invariant-pages g l = record {
   so_far : ChainTo (g.P.PageSpace.view l.fn.space) (g.P.PageSpace.view l.space) l.pages (SetsSo (g.P.PageSpace.view l.fn.space).space l.initial.into l.into) l.counter l.page.0;
   later : (t : Table) → g.P.PageSpace.later t l.fn.space l.space;
   means : (t : Table) → g.P.PageSpace.means l.fn.space t → g.P.PageSpace.means l.space t;
+  quiet : (g.P.PageSpace.view l.space).faults ≡ (g.P.PageSpace.view l.fn.space).faults;
+  records : (g.P.PageSpace.view l.space).records ≡ (g.P.PageSpace.view l.fn.space).records;
 }

@@ -6,6 +6,7 @@ use Rattle.sg_space.specs.Units.{HasAt}
 use Rattle.sg_space.specs.View.{Space}
 use Rattle.sg_walk.specs.Bodies.{CanReachBody, ReachesBody}
 use Rattle.sg_reach.proofs.Faults.{broken_so}
+use Rattle.sg_reach.proofs.Placing.{set_kept, reached_by}
 use Rattle.sg_walk.specs.Rows.{IsRowAt, ReachesRows}
 use Rattle.sg_walk.proofs.Joining.{reaches_none, reaches_row, rows_on, row_may, rows_all}
 use Rattle.sg_walk.proofs.walk.reach_rows.Goals as goal
@@ -21,6 +22,9 @@ loop-slot-preserved-in_default g c = record {
       (λ shows. reaches_none (g.P.PageSpace.view c.args.space.now).space c.loop-slot.into);
   later = λ t. g.met.P.PageSpace.later_then t _ _ _ (c.loop-slot.invariant.later t) (c.row_at.ensures.later t);
   means = λ t m. c.row_at.ensures.means t (c.loop-slot.invariant.means t m);
+  quiet = c.in_ok-row.ensures.counts.quiet ∙ c.loop-slot.invariant.quiet;
+  stays = c.loop-slot.invariant.stays;
+  records = c.row_at.ensures.writes.records ∙ c.loop-slot.invariant.records;
 }
 
 pub reach_body-requires : goal.reach_body-requires
@@ -60,6 +64,9 @@ loop-slot-preserved g c = record {
       (λ shows. reaches_row c.in-Some.row (before (λ (s : Space). ReachesBody s c.in-Some.row.kind c.in-Some.row.root.0 c.loop-slot.into c.reach_body.new.into) kept shows (c.in_ok-reach_body.ensures.reached (kept.shows shows))));
   later = λ t. g.met.P.PageSpace.later_then t _ _ _ (c.loop-slot.invariant.later t) (g.met.P.PageSpace.later_then t _ _ _ (c.row_at.ensures.later t) (c.reach_body.ensures.later t));
   means = λ t m. c.reach_body.ensures.means t (c.row_at.ensures.means t (c.loop-slot.invariant.means t m));
+  quiet = c.in_ok-reach_body.ensures.counts.quiet ∙ (c.in_ok-row.ensures.counts.quiet ∙ c.loop-slot.invariant.quiet);
+  stays = λ shows n e. set_kept (c.in_ok-reach_body.ensures.reached ((reads_then c.loop-slot.invariant.so_far.kept c.in_ok-row.ensures.kept).shows shows)).set.pages_set n (c.loop-slot.invariant.stays shows n e);
+  records = c.reach_body.ensures.writes.records ∙ (c.row_at.ensures.writes.records ∙ c.loop-slot.invariant.records);
 }
 
 pub returns-clause-reached : goal.returns-clause-reached
@@ -73,3 +80,9 @@ returns-in_err-reach_body-clause-later g c = λ t. g.met.P.PageSpace.later_then 
 
 pub returns-in_err-reach_body-clause-means : goal.returns-in_err-reach_body-clause-means
 returns-in_err-reach_body-clause-means g c = λ t m. c.reach_body.ensures.means t (c.row_at.ensures.means t (c.loop-slot.invariant.means t m))
+
+pub returns-in_err-reach_body-clause-place : goal.returns-in_err-reach_body-clause-place
+returns-in_err-reach_body-clause-place g c =
+    let kept = reads_then c.loop-slot.invariant.so_far.kept c.in_ok-row.ensures.kept in
+    let p = err_from_is_err_and c.from_residual-in_err-reach_body.result c.from_residual-in_err-reach_body.ensures.1 in
+    rw (p.1, p.2) (reached_by _ c.in_err-reach_body.field-0.0 (λ given. (kept.shows given.0, c.loop-slot.invariant.stays given.0 _ given.1)) c.in_err-reach_body.ensures.place)

@@ -2,18 +2,17 @@ use Rattle.std.proofs.Common.{sym, ap, ◌∙◌, List, refl}
 use Rattle.sg_actions.specs.Rows.{last_in}
 use Rattle.sg_actions.specs.declared.rows.Row.{Row}
 use Rattle.sg_actions.proofs.Beginning.{acts_now, system_acts, nobody_acts}
+use Rattle.sg_actions.specs.Engine.{led}
+use Rattle.sg_actions.proofs.Led.{log_call, look_call}
 use Rattle.sg_actions.proofs.acts.Acts.act.Goals as goal
 
 pub returns-in-Some-clause-acts : goal.returns-in-Some-clause-acts
-returns-in-Some-clause-acts g c =
-    acts_now g.E.Engine.table g.E.Engine.limits (g.E.Engine.view c.args.self.now.engine) c.args.self.now.maps c.args.self.now.unfreed c.args.self.now.rows.items c.args.self.now.actor (record { txn = c.args.txn; last = c.in-Some.last; before = c.in-Some.last })
+returns-in-Some-clause-acts g c = λ limits t from m. acts_now t limits (led from (g.E.Engine.view c.args.self.now.engine)) c.args.self.now.maps c.args.self.now.unfreed c.args.self.now.rows.items c.args.self.now.actor (record { txn = c.args.txn; last = c.in-Some.last; before = c.in-Some.last })
     c.requires c.if-txn-eq0.false (sym (ap (λ (rs : List Row). last_in rs c.args.txn.0) c.as_slice.ensures.value) ∙ (sym c.last_in.ensures ∙ c.in-Some.is)) refl
 
 pub returns-in_default-clause-acts : goal.returns-in_default-clause-acts
-returns-in_default-clause-acts g c =
-    nobody_acts g.E.Engine.table g.E.Engine.limits (g.E.Engine.view c.args.self.now.engine) c.args.self.now.maps c.args.self.now.unfreed c.args.self.now.rows.items c.args.self.now.actor c.args.txn.0
+returns-in_default-clause-acts g c = λ limits t from m. nobody_acts t limits (led from (g.E.Engine.view c.args.self.now.engine)) c.args.self.now.maps c.args.self.now.unfreed c.args.self.now.rows.items c.args.self.now.actor c.args.txn.0
     c.requires c.if-txn-eq0.false (sym (ap (λ (rs : List Row). last_in rs c.args.txn.0) c.as_slice.ensures.value) ∙ (sym c.last_in.ensures ∙ c.in_default.is))
 
 pub returns-then-txn-eq0-clause-acts : goal.returns-then-txn-eq0-clause-acts
-returns-then-txn-eq0-clause-acts g c =
-    system_acts g.E.Engine.table g.E.Engine.limits (g.E.Engine.view c.args.self.now.engine) c.args.self.now.maps c.args.self.now.unfreed c.args.self.now.rows.items c.args.self.now.actor c.args.txn.0 c.requires c.if-txn-eq0.true
+returns-then-txn-eq0-clause-acts g c = λ limits t from m. system_acts t limits (led from (g.E.Engine.view c.args.self.now.engine)) c.args.self.now.maps c.args.self.now.unfreed c.args.self.now.rows.items c.args.self.now.actor c.args.txn.0 c.requires c.if-txn-eq0.true

@@ -1,23 +1,40 @@
-use Rattle.std.proofs.Common.{◌≡◌, ◌*◌, ap, subst, ◌∙◌, List, length, take, ℕ}
-use Rattle.sg_record.specs.Records.Says.{Checkpoint}
-use Rattle.sg_record.specs.Shown.{by}
+use Rattle.sg_actions.specs.Growing.{moments_same, grows_same, moments_then}
+use Rattle.std.proofs.Common.{◌≡◌, ◌*◌, ◌/◌, ap, subst, sym, ◌∙◌, List, length, take, ℕ, arith}
 use Rattle.sg_actions.specs.Checkpoints.{rows_bytes}
-use Rattle.sg_actions.specs.Engine.{HasLogged}
-use Rattle.sg_actions.proofs.Rowed.{has_pointed, rows_sized, spelled_is, length_taken}
-use Rattle.sg_actions.proofs.InRange.{point_in}
+use Rattle.sg_actions.specs.Engine.{Moments, led}
+use Rattle.sg_actions.specs.Steps.{Steps}
+use Rattle.sg_actions.proofs.Calling.{said_any}
+use Rattle.sg_actions.proofs.Closing.{on_ok2}
+use Rattle.sg_actions.proofs.Counting.{looked_break, looked_none, stayed_then, kept_looked}
+use Rattle.sg_actions.proofs.Led.{look_call}
+use Rattle.sg_actions.proofs.Pointing.{mark_stays, said_mark}
+use Rattle.sg_actions.proofs.Rowed.{rows_sized, spelled_is, rows_fit}
 use Rattle.sg_actions.proofs.acts.Acts.checkpoint.Goals as goal
 
-pub returns-clause-did : goal.returns-clause-did
-returns-clause-did g c =
-    let rows = c.args.self.now.rows.items in
-    let is : take c.in-Some.size c.spell_rows.new.into ≡ rows_bytes rows = spelled_is c.spell_rows.result c.in-Some.size c.spell_rows.new.into _ rows c.in-Some.is c.spell_rows.ensures.spelled c.as_slice.ensures.value in
-    has_pointed g.E.Engine.table g.E.Engine.limits (g.E.Engine.view c.args.self.now.engine) (g.E.Engine.view c.log.new.self) c.args.self.now.maps rows c.args.self.now.actor c.args.estimate c.in_ok-log.field-0
-    (subst (λ (live : List ℕ). HasLogged (g.E.Engine.view c.args.self.now.engine) (g.E.Engine.view c.log.new.self) (by 0 0 (Checkpoint c.args.estimate live)) c.in_ok-log.field-0) is c.in_ok-log.ensures.logs.did)
-
-pub log-requires-clause-range : goal.log-requires-clause-range
-log-requires-clause-range g c =
+pub checkpoint-requires-clause-rows : goal.checkpoint-requires-clause-rows
+checkpoint-requires-clause-rows g c =
     let rows = c.args.self.now.rows.items in
     let is : take c.in-Some.size c.spell_rows.new.into ≡ rows_bytes rows = spelled_is c.spell_rows.result c.in-Some.size c.spell_rows.new.into _ rows c.in-Some.is c.spell_rows.ensures.spelled c.as_slice.ensures.value in
     let sized = rows_sized rows in
     let long : length (take c.in-Some.size c.spell_rows.new.into) ≡ 16 * sized.many = ap length is ∙ sized.is in
-    point_in c.args.estimate (take c.in-Some.size c.spell_rows.new.into) sized.many c.is_number.ensures (length_taken c.in-Some.size c.spell_rows.new.into c.spell_rows.ensures.long) long
+    omega (arith, long)
+
+pub returns-in_default-clause-counts : goal.returns-in_default-clause-counts
+returns-in_default-clause-counts g c = looked_break c.count_break.result c.count_break.ensures.answer (looked_none (g.E.Engine.view c.args.self.now.engine) c.args.self.now.breaks) c.count_break.ensures.risen c.count_break.ensures.later (λ told. rows_fit c.args.self.now.rows.items _ c.as_slice.ensures.value c.args.self.now.few_rows c.in_default.ensures.many)
+
+pub returns-in_default-clause-moments : goal.returns-in_default-clause-moments
+returns-in_default-clause-moments g c = λ t from m told. moments_same (led from (g.E.Engine.view c.args.self.now.engine)) (g.met.E.Engine.images _ t from m told)
+
+pub returns-clause-moments : goal.returns-clause-moments
+returns-clause-moments g c = λ t from m told.
+    let k = c.in_ok-checkpoint.ensures in
+    let e = led from (g.E.Engine.view c.args.self.now.engine) in
+    let e1 = led from (g.E.Engine.view c.checkpoint.new.self) in
+    let e2 = led from (g.E.Engine.view c.force.new.self) in
+    let s = mark_stays from _ k.grows (k.looks t from m) in
+    let st = s.stays told in
+    moments_then e e1 e2 st.first st.durable (grows_same e.steps) ((k.looks t from m).moments told) (subst (λ (rs : Steps). Moments (g.E.Engine.recovers t) t e1 e2 rs) st.steps ((c.force.ensures.looks t from (k.means t from m)).moments (s.told told)))
+
+pub invariant_of-self-2-clause-pages_said : goal.invariant_of-self-2-clause-pages_said
+invariant_of-self-2-clause-pages_said g c = said_any c.args.self.now.maps.pages (g.met.E.Engine.some c.checkpoint.new.self) (λ t. (record { rests = c.force.ensures.rests; keeps = λ from m. c.force.ensures.means t from m; looks = λ from m. c.force.ensures.looks t from m; whole = g.met.E.Engine.told_whole _; now = λ from m. g.met.E.Engine.now_is _ t from m; now' = λ from m. g.met.E.Engine.now_is _ t from m })) c.force.ensures.rests.counts.told
+    (said_mark {recovers = g.E.Engine.recovers} c.checkpoint.result c.args.self.now.maps.pages (g.met.E.Engine.some c.args.self.now.engine) c.checkpoint.ensures.grows c.checkpoint.ensures.means c.checkpoint.ensures.looks (λ z. g.met.E.Engine.told_whole _ z) (λ t from m. g.met.E.Engine.now_is _ t from m) (λ t from m. g.met.E.Engine.now_is _ t from m) c.args.self.now.pages_said)

@@ -8,28 +8,39 @@ use Rattle.sg_actions.specs.declared.rows.Row.{Row}
 use Rattle.sg_record.specs.Records.Says.{End as SaysEnd}
 use Rattle.sg_record.specs.Shown.{by}
 use Rattle.sg_recovery.specs.Log.Record.{End}
+use Rattle.sg_actions.specs.Engine.{led}
+use Rattle.sg_actions.proofs.Led.{log_call, look_call}
+use Rattle.sg_actions.proofs.Calling.{said_log_any}
+use Rattle.sg_actions.proofs.Placing.{few_placed}
 use Rattle.sg_actions.proofs.acts.Acts.end.Goals as goal
 
 pub log-requires-clause-range : goal.log-requires-clause-range
 log-requires-clause-range g c = end_in _ _ c.is_number.ensures c.is_number-2.ensures
 
 pub returns-clause-did : goal.returns-clause-did
-returns-clause-did g c =
-    let txn = c.args.txn in
+returns-clause-did g c = λ limits t from m. let txn = c.args.txn in
     let row : Row = vacant in
     let long : length c.place.new.rows ≡ c.args.self.now.rows.len = ap length c.place.ensures ∙ (length-placed c.as_mut_slice.result.now txn.0 row ∙ c.as_mut_slice.ensures.len) in
     let rows = front_is c.args.self.now.rows.len c.place.new.rows _ long ∙ (c.place.ensures ∙ ap (λ (rs : List Row). placed rs txn.0 row) c.as_mut_slice.ensures.value) in
     let was = sym (ap (λ (rs : List Row). last_in rs c.args.txn.0) c.as_slice.ensures.value) ∙ (sym c.last_in.ensures ∙ c.in-Some.is) in
-    closed g.E.Engine.table g.E.Engine.limits (g.E.Engine.view c.args.self.now.engine) (g.E.Engine.view c.log.new.self) c.args.self.now.maps c.args.self.now.unfreed c.args.self.now.rows.items _ c.args.self.now.actor txn c.in-Some.prev c.in_ok-log.field-0 c.requires was c.in_ok-log.ensures.logs.did rows
+    closed t limits (led from (g.E.Engine.view c.args.self.now.engine)) (led from (g.E.Engine.view c.log.new.self)) c.args.self.now.maps c.args.self.now.unfreed c.args.self.now.rows.items _ c.args.self.now.actor txn c.in-Some.prev c.in_ok-log.field-0 c.requires was (log_call from c.in_ok-log.ensures.grows (c.in_ok-log.ensures.logs t from m)).did rows
 
 pub returns-clause-appends : goal.returns-clause-appends
-returns-clause-appends g c =
-    let was = sym (ap (λ (rs : List Row). last_in rs c.args.txn.0) c.as_slice.ensures.value) ∙ (sym c.last_in.ensures ∙ c.in-Some.is) in
-    done_appends g.E.Engine.recovers g.E.Engine.table g.E.Engine.limits (g.E.Engine.view c.args.self.now.engine) (g.E.Engine.view c.log.new.self) c.args.self.now.maps c.args.self.now.unfreed c.args.self.now.rows.items c.args.self.now.actor c.args.txn.0 c.in-Some.prev _ c.requires was c.in_ok-log.ensures.logs
-    (has_gone (g.E.Engine.view c.args.self.now.engine) (g.E.Engine.view c.log.new.self) (by c.args.txn.0 c.in-Some.prev SaysEnd) (End c.args.txn.0 c.in-Some.prev) c.in_ok-log.field-0 refl c.in_ok-log.ensures.logs.did c.in_ok-log.ensures.logs.counts.told)
+returns-clause-appends g c = λ limits t from m. let was = sym (ap (λ (rs : List Row). last_in rs c.args.txn.0) c.as_slice.ensures.value) ∙ (sym c.last_in.ensures ∙ c.in-Some.is) in
+    done_appends (g.E.Engine.recovers t) t limits (led from (g.E.Engine.view c.args.self.now.engine)) (led from (g.E.Engine.view c.log.new.self)) c.args.self.now.maps c.args.self.now.unfreed c.args.self.now.rows.items c.args.self.now.actor c.args.txn.0 c.in-Some.prev _ c.requires was (log_call from c.in_ok-log.ensures.grows (c.in_ok-log.ensures.logs t from m))
+    (has_gone (led from (g.E.Engine.view c.args.self.now.engine)) (led from (g.E.Engine.view c.log.new.self)) (by c.args.txn.0 c.in-Some.prev SaysEnd) (End c.args.txn.0 c.in-Some.prev) c.in_ok-log.field-0 refl (log_call from c.in_ok-log.ensures.grows (c.in_ok-log.ensures.logs t from m)).did (log_call from c.in_ok-log.ensures.grows (c.in_ok-log.ensures.logs t from m)).counts.told)
 
 pub returns-in_err-log-clause-appends : goal.returns-in_err-log-clause-appends
-returns-in_err-log-clause-appends g c =
-    let was = sym (ap (λ (rs : List Row). last_in rs c.args.txn.0) c.as_slice.ensures.value) ∙ (sym c.last_in.ensures ∙ c.in-Some.is) in
-    done_appends g.E.Engine.recovers g.E.Engine.table g.E.Engine.limits (g.E.Engine.view c.args.self.now.engine) (g.E.Engine.view c.log.new.self) c.args.self.now.maps c.args.self.now.unfreed c.args.self.now.rows.items c.args.self.now.actor c.args.txn.0 c.in-Some.prev _ c.requires was c.in_err-log.ensures.logs
-    (λ told. fails (g.E.Engine.view c.log.new.self) (λ z. g.met.E.Engine.told_whole _ z) c.in_err-log.ensures.logs.counts.failed told)
+returns-in_err-log-clause-appends g c = λ limits t from m. let was = sym (ap (λ (rs : List Row). last_in rs c.args.txn.0) c.as_slice.ensures.value) ∙ (sym c.last_in.ensures ∙ c.in-Some.is) in
+    done_appends (g.E.Engine.recovers t) t limits (led from (g.E.Engine.view c.args.self.now.engine)) (led from (g.E.Engine.view c.log.new.self)) c.args.self.now.maps c.args.self.now.unfreed c.args.self.now.rows.items c.args.self.now.actor c.args.txn.0 c.in-Some.prev _ c.requires was (log_call from c.in_err-log.ensures.grows (c.in_err-log.ensures.logs t from m))
+    (λ told. fails (led from (g.E.Engine.view c.log.new.self)) (λ z. g.met.E.Engine.told_whole _ z) (log_call from c.in_err-log.ensures.grows (c.in_err-log.ensures.logs t from m)).counts.failed told)
+
+pub invariant_of-self-2-clause-pages_said : goal.invariant_of-self-2-clause-pages_said
+invariant_of-self-2-clause-pages_said g c = said_log_any g.E.Engine.recovers (g.E.Engine.means c.args.self.now.engine) (g.E.Engine.means c.log.new.self) c.args.self.now.maps.pages (g.met.E.Engine.some c.args.self.now.engine) (λ t. (record { grows = c.log.ensures.grows; keeps = λ from m. c.log.ensures.means t from m; logs = λ from m. c.log.ensures.logs t from m; whole = g.met.E.Engine.told_whole _; now = λ from m. g.met.E.Engine.now_is _ t from m; now' = λ from m. g.met.E.Engine.now_is _ t from m; law = λ from m. g.met.E.Engine.lawful _ t from m })) refl c.args.self.now.pages_said
+
+pub invariant_of-self-2-clause-few_rows : goal.invariant_of-self-2-clause-few_rows
+invariant_of-self-2-clause-few_rows g c =
+    let row : Row = vacant in
+    let long : length c.place.new.rows ≡ c.args.self.now.rows.len = ap length c.place.ensures ∙ (length-placed c.as_mut_slice.result.now c.args.txn.0 row ∙ c.as_mut_slice.ensures.len) in
+    let rows = front_is c.args.self.now.rows.len c.place.new.rows _ long ∙ (c.place.ensures ∙ ap (λ (rs : List Row). placed rs c.args.txn.0 row) c.as_mut_slice.ensures.value) in
+    few_placed c.args.self.now.rows.items c.args.txn.0 row rows c.args.self.now.few_rows

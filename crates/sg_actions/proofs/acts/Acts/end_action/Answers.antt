@@ -1,32 +1,44 @@
+use Rattle.std.proofs.Common.{refl}
 use Rattle.std.proofs.Common.{ℕ, length, sym, ap, subst, List, Bool, arith}
 use Rattle.sg_actions.specs.Calls.{AreSettled}
-use Rattle.sg_actions.specs.Engine.{HasLogged}
+use Rattle.sg_actions.specs.Led.{HasLogged}
 use Rattle.sg_record.specs.Records.Says.{TopEnd}
 use Rattle.sg_record.specs.Shown.{by}
 use Rattle.sg_actions.proofs.Ended.{action_ended, end_appends}
 use Rattle.sg_actions.proofs.InRange.{top_end_in}
+use Rattle.sg_actions.specs.Engine.{led}
+use Rattle.sg_actions.proofs.Led.{log_call, look_call}
+use Rattle.sg_actions.proofs.Calling.{said_log_any}
+use Rattle.sg_actions.proofs.Settled.{said_settled}
+use Rattle.sg_actions.proofs.Placing.{few_after}
 use Rattle.sg_actions.proofs.acts.Acts.end_action.Goals as goal
 
 pub returns-clause-did : goal.returns-clause-did
-returns-clause-did g c =
-    let e = g.E.Engine.view c.args.self.now.engine in
-    let e' = g.E.Engine.view c.log.new.self in
+returns-clause-did g c = λ limits t from m. let e = led from (g.E.Engine.view c.args.self.now.engine) in
+    let e' = led from (g.E.Engine.view c.log.new.self) in
     let actor = c.args.self.now.actor in
     let maps = c.args.self.now.maps in
     let unfreed = c.args.self.now.unfreed in
-    let logged = subst (λ (note : List ℕ). HasLogged e e' (by actor.txn.0 actor.last (TopEnd actor.before note)) c.in_ok-lsn.lsn) c.bytes.ensures c.in_ok-lsn.ensures.logs.did in
+    let logged = subst (λ (note : List ℕ). HasLogged e e' (by actor.txn.0 actor.last (TopEnd actor.before note)) c.in_ok-lsn.lsn) c.bytes.ensures (log_call from c.in_ok-lsn.ensures.grows (c.in_ok-lsn.ensures.logs t from m)).did in
     let pages = subst (λ (xs : List Bool). AreSettled maps.pages unfreed.pages xs c.settle_bands.new.unfreed.pages) (sym c.settle_bands.ensures.pages)
     (subst (λ (ys : List Bool). AreSettled maps.pages unfreed.pages c.settle_pages.new.maps.pages ys) (sym c.settle_bands.ensures.unfreed) c.settle_pages.ensures.pages) in
     let bands = subst (λ (xs : List Bool). AreSettled xs unfreed.bands c.settle_bands.new.maps.bands c.settle_bands.new.unfreed.bands) c.settle_pages.ensures.bands
     (subst (λ (ys : List Bool). AreSettled c.settle_pages.new.maps.bands ys c.settle_bands.new.maps.bands c.settle_bands.new.unfreed.bands) c.settle_pages.ensures.unfreed c.settle_bands.ensures.bands) in
-    action_ended g.E.Engine.table g.E.Engine.limits e e' maps c.settle_bands.new.maps unfreed c.settle_bands.new.unfreed c.args.self.now.rows.items _ actor c.args.note.now c.in_ok-lsn.lsn
+    action_ended t limits e e' maps c.settle_bands.new.maps unfreed c.settle_bands.new.unfreed c.args.self.now.rows.items _ actor c.args.note.now c.in_ok-lsn.lsn
     logged c.keep_row.ensures pages bands
 
 pub returns-clause-appends : goal.returns-clause-appends
-returns-clause-appends g c = end_appends g.E.Engine.recovers g.E.Engine.table g.E.Engine.limits (g.E.Engine.view c.args.self.now.engine) (g.E.Engine.view c.log.new.self) c.args.self.now.maps c.args.self.now.rows.items c.args.self.now.actor c.args.note.now _ _ c.bytes.ensures c.in_ok-lsn.ensures.logs
+returns-clause-appends g c = λ limits t from m. end_appends (g.E.Engine.recovers t) t limits (led from (g.E.Engine.view c.args.self.now.engine)) (led from (g.E.Engine.view c.log.new.self)) c.args.self.now.maps c.args.self.now.rows.items c.args.self.now.actor c.args.note.now _ _ c.bytes.ensures (log_call from c.in_ok-lsn.ensures.grows (c.in_ok-lsn.ensures.logs t from m)) (λ z. g.met.E.Engine.told_whole _ z)
 
 pub returns-in_err-lsn-clause-appends : goal.returns-in_err-lsn-clause-appends
-returns-in_err-lsn-clause-appends g c = end_appends g.E.Engine.recovers g.E.Engine.table g.E.Engine.limits (g.E.Engine.view c.args.self.now.engine) (g.E.Engine.view c.log.new.self) c.args.self.now.maps c.args.self.now.rows.items c.args.self.now.actor c.args.note.now _ _ c.bytes.ensures c.in_err-lsn.ensures.logs
+returns-in_err-lsn-clause-appends g c = λ limits t from m. end_appends (g.E.Engine.recovers t) t limits (led from (g.E.Engine.view c.args.self.now.engine)) (led from (g.E.Engine.view c.log.new.self)) c.args.self.now.maps c.args.self.now.rows.items c.args.self.now.actor c.args.note.now _ _ c.bytes.ensures (log_call from c.in_err-lsn.ensures.grows (c.in_err-lsn.ensures.logs t from m)) (λ z. g.met.E.Engine.told_whole _ z)
 
 pub log-requires-clause-range : goal.log-requires-clause-range
 log-requires-clause-range g c = top_end_in _ _ _ _ c.is_number.ensures c.is_number-2.ensures c.is_number-3.ensures (let is = ap length c.bytes.ensures in let m = c.size.ensures in omega (arith, is, m.is, m.most))
+
+pub invariant_of-self-2-clause-pages_said : goal.invariant_of-self-2-clause-pages_said
+invariant_of-self-2-clause-pages_said g c = λ told. said_settled c.args.self.now.maps.pages c.args.self.now.unfreed.pages c.settle_pages.new.maps.pages c.settle_pages.new.unfreed.pages c.settle_bands.new.maps.pages (g.E.Engine.view c.log.new.self).now.pages c.settle_pages.ensures.pages c.settle_bands.ensures.pages
+    (said_log_any g.E.Engine.recovers (g.E.Engine.means c.args.self.now.engine) (g.E.Engine.means c.log.new.self) c.args.self.now.maps.pages (g.met.E.Engine.some c.args.self.now.engine) (λ t. (record { grows = c.log.ensures.grows; keeps = λ from m. c.log.ensures.means t from m; logs = λ from m. c.log.ensures.logs t from m; whole = g.met.E.Engine.told_whole _; now = λ from m. g.met.E.Engine.now_is _ t from m; now' = λ from m. g.met.E.Engine.now_is _ t from m; law = λ from m. g.met.E.Engine.lawful _ t from m })) refl c.args.self.now.pages_said told)
+
+pub invariant_of-self-2-clause-few_rows : goal.invariant_of-self-2-clause-few_rows
+invariant_of-self-2-clause-few_rows g c = few_after c.args.self.now.rows.items c.args.self.now.actor.txn c.in_ok-lsn.lsn c.keep_row.ensures c.args.self.now.few_rows

@@ -1,11 +1,21 @@
-use Rattle.std.proofs.Common.{sym, subst}
+use Rattle.std.proofs.Common.{sym, subst, refl}
 use Rattle.sg_record.specs.Changes.{BandOp}
 use Rattle.sg_record.specs.Changes.Change.{SegOp}
 use Rattle.sg_record.specs.Ranges.{IsRecord}
 use Rattle.sg_record.specs.Records.Says.{Changed}
 use Rattle.sg_record.specs.Shown.{by}
+use Rattle.sg_actions.proofs.Calling.{said_log_any}
 use Rattle.sg_actions.proofs.InRange.{fill_in}
 use Rattle.sg_actions.proofs.acts.Acts.fill.Goals as goal
 
 pub log-requires-clause-range : goal.log-requires-clause-range
 log-requires-clause-range g c = subst (λ (x : BandOp). IsRecord (by c.args.self.now.actor.txn.0 c.args.self.now.actor.last (Changed (SegOp x)))) (sym c.spell_op.ensures) (fill_in _ _ c.args.b.0 c.args.at c.is_number.ensures c.is_number-2.ensures c.requires.band c.requires.within)
+
+pub returns-clause-range : goal.returns-clause-range
+returns-clause-range g c = fill_in _ _ c.args.b.0 c.args.at c.is_number.ensures c.is_number-2.ensures c.requires.band c.requires.within
+
+pub returns-in_err-lsn-clause-range : goal.returns-in_err-lsn-clause-range
+returns-in_err-lsn-clause-range g c = fill_in _ _ c.args.b.0 c.args.at c.is_number.ensures c.is_number-2.ensures c.requires.band c.requires.within
+
+pub invariant_of-self-2-clause-pages_said : goal.invariant_of-self-2-clause-pages_said
+invariant_of-self-2-clause-pages_said g c = said_log_any g.E.Engine.recovers (g.E.Engine.means c.args.self.now.engine) (g.E.Engine.means c.log.new.self) c.args.self.now.maps.pages (g.met.E.Engine.some c.args.self.now.engine) (λ t. (record { grows = c.log.ensures.grows; keeps = λ from m. c.log.ensures.means t from m; logs = λ from m. c.log.ensures.logs t from m; whole = g.met.E.Engine.told_whole _; now = λ from m. g.met.E.Engine.now_is _ t from m; now' = λ from m. g.met.E.Engine.now_is _ t from m; law = λ from m. g.met.E.Engine.lawful _ t from m })) refl c.args.self.now.pages_said

@@ -1,5 +1,16 @@
+use mathlib.Core.Logic.{∥∥₁_elim}
+use Rattle.sg_actions.specs.Engine.{led}
 use Rattle.sg_actions.proofs.Beginning.{rest_kept}
+use Rattle.sg_actions.proofs.Calling.{said_any}
+use Rattle.sg_actions.proofs.Led.{look_call}
+use Rattle.sg_actions.proofs.Sets.{steps_set}
 use Rattle.sg_actions.proofs.acts.Acts.flush.Goals as goal
 
 pub returns-clause-kept : goal.returns-clause-kept
-returns-clause-kept g c = rest_kept g.E.Engine.table g.E.Engine.limits (g.E.Engine.view c.args.self.now.engine) (g.E.Engine.view c.flush.new.self) c.args.self.now.maps c.args.self.now.rows.items c.args.self.now.actor c.in_ok-flush.ensures.looks.stays
+returns-clause-kept g c = λ limits t from m. rest_kept t limits (led from (g.E.Engine.view c.args.self.now.engine)) (led from (g.E.Engine.view c.flush.new.self)) c.args.self.now.maps c.args.self.now.rows.items c.args.self.now.actor (look_call from c.in_ok-flush.ensures.rests (c.in_ok-flush.ensures.looks t from m)).stays
+
+pub returns-clause-forced : goal.returns-clause-forced
+returns-clause-forced g c = λ told. ∥∥₁_elim (g.met.E.Engine.some c.args.self.now.engine) (steps_set _ _) (λ x. c.in_ok-flush.ensures.forced x.0 x.1 x.2 told)
+
+pub invariant_of-self-clause-pages_said : goal.invariant_of-self-clause-pages_said
+invariant_of-self-clause-pages_said g c = said_any c.args.self.now.maps.pages (g.met.E.Engine.some c.args.self.now.engine) (λ t. (record { rests = c.flush.ensures.rests; keeps = λ from m. c.flush.ensures.means t from m; looks = λ from m. c.flush.ensures.looks t from m; whole = g.met.E.Engine.told_whole _; now = λ from m. g.met.E.Engine.now_is _ t from m; now' = λ from m. g.met.E.Engine.now_is _ t from m })) c.flush.ensures.rests.counts.told c.args.self.now.pages_said

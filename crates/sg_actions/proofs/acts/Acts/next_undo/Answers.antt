@@ -1,6 +1,20 @@
+use mathlib.Core.Logic.{∥∥₁_elim}
+use Rattle.sg_actions.specs.Engine.{led}
 use Rattle.sg_actions.proofs.Counting.{kept_looked}
+use Rattle.sg_actions.proofs.Finding.{next_at, next_none}
+use Rattle.sg_actions.proofs.Sets.{number_set}
 use Rattle.sg_actions.proofs.acts.Acts.next_undo.Goals as goal
 
 pub returns-clause-kept : goal.returns-clause-kept
-returns-clause-kept g c = kept_looked g.E.Engine.table g.E.Engine.limits (g.E.Engine.view c.args.self.now.engine) (g.E.Engine.view c.find_note.new.self.engine) c.args.self.now.maps c.find_note.new.self.maps c.args.self.now.rows.items c.find_note.new.self.rows.items c.args.self.now.actor c.find_note.new.self.actor
-    c.in_ok-found.ensures.stays c.in_ok-found.ensures.maps c.in_ok-found.ensures.rows c.in_ok-found.ensures.actor
+returns-clause-kept g c = λ limits t from m. kept_looked t limits (led from (g.E.Engine.view c.args.self.now.engine)) (led from (g.E.Engine.view c.find_note.new.self.engine)) c.args.self.now.maps c.find_note.new.self.maps c.args.self.now.rows.items c.find_note.new.self.rows.items c.args.self.now.actor c.find_note.new.self.actor
+    (c.in_ok-found.ensures.stays t from m) c.in_ok-found.ensures.maps c.in_ok-found.ensures.rows c.in_ok-found.ensures.actor
+
+pub returns-in_default-clause-kept : goal.returns-in_default-clause-kept
+returns-in_default-clause-kept g c = λ limits t from m. kept_looked t limits (led from (g.E.Engine.view c.args.self.now.engine)) (led from (g.E.Engine.view c.find_note.new.self.engine)) c.args.self.now.maps c.find_note.new.self.maps c.args.self.now.rows.items c.find_note.new.self.rows.items c.args.self.now.actor c.find_note.new.self.actor
+    (c.in_ok-found.ensures.stays t from m) c.in_ok-found.ensures.maps c.in_ok-found.ensures.rows c.in_ok-found.ensures.actor
+
+pub returns-clause-next : goal.returns-clause-next
+returns-clause-next g c = λ told. ∥∥₁_elim (g.met.E.Engine.some c.args.self.now.engine) (number_set _ _) (λ x. next_at (g.E.Engine.view c.args.self.now.engine).steps c.args.txn.0 c.args.stop c.find_note.new.into _ c.in-Some.found c.in-Some.is (c.in_ok-found.ensures.finds x.0 x.1 x.2 told))
+
+pub returns-in_default-clause-next : goal.returns-in_default-clause-next
+returns-in_default-clause-next g c = λ told. ∥∥₁_elim (g.met.E.Engine.some c.args.self.now.engine) (number_set _ _) (λ x. next_none (g.E.Engine.view c.args.self.now.engine).steps c.args.txn.0 c.args.stop c.find_note.new.into _ c.in_default.is (c.in_ok-found.ensures.finds x.0 x.1 x.2 told))

@@ -1,54 +1,78 @@
+use mathlib.Core.Logic.{∥∥₁_elim, ∥∥₁_prop}
 use Rattle.std.proofs.Common.{List, sym, ap, subst, ◌∙◌, refl}
 use Rattle.sg_alloc.specs.Flags.{free_of}
 use Rattle.sg_alloc.specs.declared.maps.Maps.{Maps}
+use Rattle.sg_actions.specs.Engine.{ArePagesFit, led}
 use Rattle.sg_actions.specs.Offed.{kept_in, TakenOff}
 use Rattle.sg_actions.specs.Steps.{begin_of}
 use Rattle.sg_actions.specs.TakingOff.{IsOff}
 use Rattle.sg_actions.specs.declared.rows.Row.{Row}
-use Rattle.sg_actions.proofs.Finishing.{off_begins, taken_off, on_ok}
+use Rattle.sg_actions.proofs.Finishing.{off_begins, taken_off, off_same, taken_same, on_ok}
+use Rattle.sg_actions.proofs.Sets.{who_set}
 use Rattle.sg_actions.proofs.acts.Acts.take_off.Goals as goal
 
 pub changes-init : goal.changes-init
 changes-init g c = record {
   told = λ t. t;
+  means = λ from m. m;
   who = refl;
   whole = ap free_of c.forget_bands.ensures.pages ∙ c.forget_pages.ensures.pages.none;
   bands = c.forget_bands.ensures.bands.none;
-  off = λ t u. off_begins g.E.Engine.table g.E.Engine.limits (g.E.Engine.view c.args.self.now.engine) c.args.self.now.maps c.forget_bands.new.unfreed c.args.self.now.rows.items c.args.self.now.actor (ap free_of c.forget_bands.ensures.pages ∙ c.forget_pages.ensures.pages.none) c.forget_bands.ensures.bands.none (c.requires.well t);
+  off = λ limits from m t can u. off_begins _ limits (led from (g.E.Engine.view c.args.self.now.engine)) c.args.self.now.maps c.forget_bands.new.unfreed c.args.self.now.rows.items c.args.self.now.actor (ap free_of c.forget_bands.ensures.pages ∙ c.forget_pages.ensures.pages.none) c.forget_bands.ensures.bands.none can;
 }
 
+pub take_one_off-requires-clause-by : goal.take_one_off-requires-clause-by
+take_one_off-requires-clause-by g c = ∥∥₁_elim c.requires.by ∥∥₁_prop (λ x. ∣ (x.0, c.changes.invariant.means x.0 x.1) ∣₁)
+
 pub take_one_off-requires-clause-off : goal.take_one_off-requires-clause-off
-take_one_off-requires-clause-off g c = λ told. record {
-  kept = kept_in g.E.Engine.limits g.E.Engine.table (g.E.Engine.view c.args.self.now.engine) c.args.self.now.maps;
-  begin = begin_of g.E.Engine.table (g.E.Engine.view c.args.self.now.engine).first (g.E.Engine.view c.args.self.now.engine).steps;
-  off = c.changes.invariant.off (c.changes.invariant.told told) told;
-  more = c.changes-test.true;
-}
+take_one_off-requires-clause-off g c = λ told1.
+    let i = c.changes.invariant in
+    let told = i.told told1 in
+    ∥∥₁_elim (c.requires.well told) ∥∥₁_prop (λ x. ∣ (
+      x.1,
+      i.means x.1 x.2,
+      record {
+        kept = kept_in x.0 _ (led x.1 (g.E.Engine.view c.args.self.now.engine)) c.args.self.now.maps;
+        begin = begin_of _ x.1 (g.E.Engine.view c.args.self.now.engine).steps;
+        off = i.off x.0 x.1 x.2 told x.3 told1;
+        more = c.changes-test.true;
+      },
+    ) ∣₁)
 
 pub changes-preserved : goal.changes-preserved
 changes-preserved g c =
     let i = c.changes.invariant in
-    let d = c.in_ok-at.ensures.did in
+    let k = c.in_ok-at.ensures in
+    let one = ∥∥₁_elim c.requires.by (who_set _ _) (λ x. (k.did x.0 (i.means x.0 x.1)).who ∙ i.who) in
     record {
-      told = λ t. i.told (d.told t);
-      who = d.who ∙ i.who;
-      whole = ap (λ (m : Maps). free_of m.pages) c.in_ok-at.ensures.unfreed ∙ i.whole;
-      bands = ap (λ (m : Maps). free_of m.bands) c.in_ok-at.ensures.unfreed ∙ i.bands;
-      off = λ t u.
-          let k = kept_in g.E.Engine.limits g.E.Engine.table (g.E.Engine.view c.args.self.now.engine) c.args.self.now.maps in
-          let b = begin_of g.E.Engine.table (g.E.Engine.view c.args.self.now.engine).first (g.E.Engine.view c.args.self.now.engine).steps in
-          let on = d.goes_on (d.told u) k b c.changes-test.true (i.off t (d.told u)) in
-          subst (λ (m : Maps). IsOff g.E.Engine.table k b (g.E.Engine.view c.take_one_off.new.self.engine) c.take_one_off.new.self.maps m c.take_one_off.new.self.rows.items c.take_one_off.new.self.actor c.in_ok-at.at) (sym c.in_ok-at.ensures.unfreed)
-          (subst (λ (rs : List Row). IsOff g.E.Engine.table k b (g.E.Engine.view c.take_one_off.new.self.engine) c.take_one_off.new.self.maps c.changes.self.unfreed rs c.take_one_off.new.self.actor c.in_ok-at.at) (sym c.in_ok-at.ensures.rows) on);
+      told = λ t. i.told (k.told t);
+      means = λ from m. k.means from (i.means from m);
+      who = one;
+      whole = ap (λ (m : Maps). free_of m.pages) k.unfreed ∙ i.whole;
+      bands = ap (λ (m : Maps). free_of m.bands) k.unfreed ∙ i.bands;
+      off = λ limits from m told can u.
+          let d = k.did from (i.means from m) in
+          let kept = kept_in limits _ (led from (g.E.Engine.view c.args.self.now.engine)) c.args.self.now.maps in
+          let b = begin_of _ from (g.E.Engine.view c.args.self.now.engine).steps in
+          let on = d.goes_on (d.told u) kept b c.changes-test.true (i.off limits from m told can (d.told u)) in
+          off_same k.unfreed k.rows on;
     }
 
-pub returns : goal.returns
-returns g c =
+pub returns-clause-did : goal.returns-clause-did
+returns-clause-did g c = λ limits from m can.
     let i = c.changes.invariant in
-    record {
-      did = on_ok c.void.result (λ v.
-          subst (λ (m : Maps). TakenOff g.E.Engine.table g.E.Engine.limits (g.E.Engine.view c.args.self.now.engine) (g.E.Engine.view c.void.new.self.engine) c.args.self.now.maps m c.void.new.self.unfreed c.void.new.self.rows.items c.args.self.now.actor c.void.new.self.actor) (sym c.void.ensures.maps)
-          (subst (λ (m : Maps). TakenOff g.E.Engine.table g.E.Engine.limits (g.E.Engine.view c.args.self.now.engine) (g.E.Engine.view c.void.new.self.engine) c.args.self.now.maps c.changes.self.maps m c.void.new.self.rows.items c.args.self.now.actor c.void.new.self.actor) (sym c.void.ensures.unfreed)
-          (taken_off g.E.Engine.table g.E.Engine.limits (g.E.Engine.view c.args.self.now.engine) (g.E.Engine.view c.changes.self.engine) (g.E.Engine.view c.void.new.self.engine) c.args.self.now.maps c.changes.self.maps c.changes.self.unfreed c.args.self.now.rows.items c.changes.self.rows.items c.void.new.self.rows.items c.args.self.now.actor c.changes.self.actor c.void.new.self.actor c.changes.at
-          c.requires.well i.told i.who i.off c.changes-test.false i.whole i.bands v (λ told. g.met.E.Engine.pages_fit _ told)))) c.void.ensures.did;
-    }
+    let m1 = i.means from m in
+    let m2 = c.void.ensures.means _ from m1 in
+    on_ok c.void.result (λ v.
+    taken_same c.void.ensures.maps c.void.ensures.unfreed
+    (taken_off _ limits (led from (g.E.Engine.view c.args.self.now.engine)) (led from (g.E.Engine.view c.changes.self.engine)) (led from (g.E.Engine.view c.void.new.self.engine)) c.args.self.now.maps c.changes.self.maps c.changes.self.unfreed c.args.self.now.rows.items c.changes.self.rows.items c.void.new.self.rows.items c.args.self.now.actor c.changes.self.actor c.void.new.self.actor c.changes.at
+    can i.told i.who (λ a b. i.off limits from m a (can a) b) c.changes-test.false i.whole i.bands v (λ told. subst ArePagesFit (g.met.E.Engine.now_is _ _ from m2 told) (g.met.E.Engine.pages_fit _ _ from m2 told)))) (c.void.ensures.did _ from m1)
+
+pub returns-clause-means : goal.returns-clause-means
+returns-clause-means g c = λ from m. c.void.ensures.means _ from (c.changes.invariant.means from m)
+
+pub returns-clause-told : goal.returns-clause-told
+returns-clause-told g c = λ told. c.changes.invariant.told (c.void.ensures.counts.told told)
+
+pub returns-in_err-at-clause-means : goal.returns-in_err-at-clause-means
+returns-in_err-at-clause-means g c = λ from m. c.in_err-at.ensures.means from (c.changes.invariant.means from m)

@@ -1,49 +1,129 @@
-use Rattle.std.proofs.Common.{sym, ap, subst, ◌∙◌}
-use Rattle.std.specs.Option.{IsSome}
-use Rattle.sg_action.specs.States.{State}
+use mathlib.Core.Logic.{∥∥₁_elim, ∥∥₁_prop}
+use Rattle.std.proofs.Common.{sym, ap, subst, ◌∙◌, refl}
+use Rattle.std.proofs.Props.{props}
+use Rattle.std.proofs.lemmas.Result.{err_from_is_err_and}
 use Rattle.sg_record.specs.Shown.{shown, shown_change}
+use Rattle.sg_actions.specs.Engine.{led}
 use Rattle.sg_actions.specs.Steps.{step_at, step_of}
+use Rattle.sg_actions.proofs.Calling.{said_any, said_log}
 use Rattle.sg_actions.proofs.Flags.{some_is}
-use Rattle.sg_actions.proofs.Viewed.{now_stays}
-use Rattle.sg_actions.proofs.Offing.{next_one, off_stays, read_is, off_loggable, says_after, shown_is, took_off}
+use Rattle.sg_actions.proofs.Led.{log_call, look_call}
+use Rattle.sg_actions.proofs.Counting.{looked_engine}
+use Rattle.sg_actions.proofs.GoneOff.{off_look, off_then, off_one, counts_err}
+use Rattle.sg_actions.proofs.Offing.{next_one, off_stays, read_is, off_fits, said_less, shown_is, took_off}
 use Rattle.sg_actions.proofs.acts.Acts.take_one_off.Goals as goal
 
 pub read-requires-clause-there : goal.read-requires-clause-there
-read-requires-clause-there g c = λ told.
-    let can = c.requires.off told in
-    some_is (next_one g.E.Engine.table can.kept can.begin (g.E.Engine.view c.args.self.now.engine) c.args.self.now.maps c.args.self.now.unfreed c.args.self.now.rows.items c.args.self.now.actor c.args.at can.more can.off).step
+read-requires-clause-there g c = λ told. ∥∥₁_elim (c.requires.off told) (hlevel props) (λ x. some_is (next_one _ x.2.kept x.2.begin (led x.0 (g.E.Engine.view c.args.self.now.engine)) c.args.self.now.maps c.args.self.now.unfreed c.args.self.now.rows.items c.args.self.now.actor c.args.at x.2.more x.2.off).step)
+
+pub log_by-requires-clause-by : goal.log_by-requires-clause-by
+log_by-requires-clause-by g c = (∥∥₁_elim c.requires.by ∥∥₁_prop (λ x. ∣ (x.0, c.in_ok-size.ensures.means _ x.0 x.1) ∣₁))
 
 pub log_by-requires-clause-can : goal.log_by-requires-clause-can
 log_by-requires-clause-can g c = λ told.
-    let e = g.E.Engine.view c.args.self.now.engine in
-    let e1 = g.E.Engine.view c.read.new.self in
-    let told0 = c.in_ok-size.ensures.looks.counts.told told in
-    let stays = c.in_ok-size.ensures.looks.stays.stays told0 in
-    let can = c.requires.off told0 in
-    let read = c.in_ok-size.ensures.read told0 in
-    let off = off_stays stays can.off in
-    let next = next_one g.E.Engine.table can.kept can.begin e1 c.args.self.now.maps c.args.self.now.unfreed c.args.self.now.rows.items c.args.self.now.actor c.args.at can.more off in
-    let r = read_is e1.steps c.args.at read.what (shown c.in-Ok.r) (shown_change c.in-Some.change) c.in-Some.prev _ next.d (ap (λ rs. step_at rs c.args.at) stays.steps ∙ read.step) (shown_is _ _ _ _ _ c.in-Ok.ensures.exact read.is) c.in-Some.ensures next.step in
-    off_loggable g.E.Engine.table _ can.kept can.begin e1 c.args.self.now.maps c.args.self.now.unfreed c.args.self.now.rows.items c.args.self.now.actor c.args.at c.in-Some.prev (shown_change c.in-Some.change) (shown_change c.comp_of.result) next r (c.requires.table told0) c.comp_of.ensures off
+    let k = c.in_ok-size.ensures in
+    let told0 = k.rests.counts.told told in
+    record {
+      fits = ∥∥₁_elim (c.requires.off told0) (hlevel props) (λ x.
+          let stays = (look_call x.0 k.rests (k.looks _ x.0 x.1)).stays.stays told0 in
+          let read = k.read _ x.0 x.1 told0 in
+          let off = off_stays stays x.2.off in
+          let next = next_one _ x.2.kept x.2.begin (led x.0 (g.E.Engine.view c.read.new.self)) c.args.self.now.maps c.args.self.now.unfreed c.args.self.now.rows.items c.args.self.now.actor c.args.at x.2.more off in
+          let r = read_is (g.E.Engine.view c.read.new.self).steps c.args.at read.what (shown c.in-Ok.r) (shown_change c.in-Some.change) c.in-Some.prev _ next.d (ap (λ rs. step_at rs c.args.at) stays.steps ∙ read.step) (shown_is _ _ _ _ _ c.in-Ok.ensures.exact read.is) c.in-Some.ensures next.step in
+          off_fits _ x.2.kept x.2.begin (led x.0 (g.E.Engine.view c.read.new.self)) c.args.self.now.maps c.args.self.now.unfreed c.args.self.now.rows.items c.args.self.now.actor c.args.at c.in-Some.prev (shown_change c.in-Some.change) (shown_change c.comp_of.result) (g.E.Engine.view c.read.new.self).now (g.met.E.Engine.now_is _ _ x.0 (k.means _ x.0 x.1) told) next r c.comp_of.ensures off);
+      known = tt;
+      means = λ u. tt;
+    }
 
 pub invariant_of-self-2 : goal.invariant_of-self-2
 invariant_of-self-2 g c =
     let flags = c.untake.ensures.pages.flags in
-    let stays = c.in_ok-size.ensures.looks.stays in
     record {
       count_is = c.args.self.now.count_is ∙ (sym c.args.self.now.page_flags.long ∙ flags.long);
       few = c.args.self.now.few;
+      few_rows = c.args.self.now.few_rows;
+      bands_are = c.args.self.now.bands_are ∙ (sym c.args.self.now.band_flags.long ∙ c.untake.ensures.bands.flags.long);
       page_flags = flags;
       band_flags = c.untake.ensures.bands.flags;
-      pages_said = λ told n set.
-          let told1 = c.in_ok-self.ensures.logs.counts.told told in
-          let told0 = c.in_ok-size.ensures.looks.counts.told told1 in
-          says_after g.E.Engine.table (c.in_ok-self.ensures.logs.did.logged told1) n (subst (λ (x : State). IsSome (x.pages n)) (sym (now_stays g.E.Engine.table (stays.stays told0))) (c.args.self.now.pages_said told0 n (c.untake.ensures.pages.less n set)));
+      pages_said = λ told. said_less c.args.self.now.maps.pages c.untake.new.maps.pages (g.E.Engine.view c.log_by.new.self).now.pages c.untake.ensures.pages.less
+          (said_log g.E.Engine.recovers (g.E.Engine.means c.read.new.self) (g.E.Engine.means c.log_by.new.self) c.args.self.now.maps.pages (∥∥₁_elim c.requires.by ∥∥₁_prop (λ x. ∣ (x.0, c.in_ok-size.ensures.means _ x.0 x.1) ∣₁)) (record { grows = c.in_ok-self.ensures.grows; keeps = c.in_ok-self.ensures.means; logs = c.in_ok-self.ensures.logs; whole = g.met.E.Engine.told_whole _; now = g.met.E.Engine.now_is _ _; now' = g.met.E.Engine.now_is _ _; law = g.met.E.Engine.lawful _ _ }) refl (said_any c.args.self.now.maps.pages (g.met.E.Engine.some c.args.self.now.engine) (λ t. (record { rests = c.read.ensures.rests; keeps = λ from m. c.read.ensures.means t from m; looks = λ from m. c.read.ensures.looks t from m; whole = g.met.E.Engine.told_whole _; now = λ from m. g.met.E.Engine.now_is _ t from m; now' = λ from m. g.met.E.Engine.now_is _ t from m })) c.read.ensures.rests.counts.told c.args.self.now.pages_said) told);
     }
 
 pub returns-clause-did : goal.returns-clause-did
-returns-clause-did g c =
-    took_off g.E.Engine.table (g.E.Engine.view c.args.self.now.engine) (g.E.Engine.view c.read.new.self) (g.E.Engine.view c.log_by.new.self) c.args.self.now.maps c.untake.new.maps c.args.self.now.unfreed c.args.self.now.rows.items c.args.self.now.actor c.args.at c.in-Some.prev c.in_ok-self.field-0
+returns-clause-did g c = λ from m.
+    let k = c.in_ok-size.ensures in
+    let k2 = c.in_ok-self.ensures in
+    let l = log_call from k2.grows (k2.logs from (k.means _ from m)) in
+    took_off _ (led from (g.E.Engine.view c.args.self.now.engine)) (led from (g.E.Engine.view c.read.new.self)) (led from (g.E.Engine.view c.log_by.new.self)) c.args.self.now.maps c.untake.new.maps c.args.self.now.unfreed c.args.self.now.rows.items c.args.self.now.actor c.args.at c.in-Some.prev c.in_ok-self.field-0
     (shown_change c.in-Some.change) (shown_change c.comp_of.result) (shown c.in-Ok.r) c.args.self.now.page_flags c.args.self.now.band_flags
-    (λ told. let read = c.in_ok-size.ensures.read told in read.step ∙ ap step_of (sym (shown_is _ _ _ _ _ c.in-Ok.ensures.exact read.is)))
-    c.in-Some.ensures c.comp_of.ensures c.in_ok-size.ensures.looks.stays c.in_ok-size.ensures.looks.counts.told c.in_ok-self.ensures.logs.did c.in_ok-self.ensures.logs.counts.told c.untake.ensures.pages c.untake.ensures.bands c.if-prev-at.false c.requires.off
+    (λ told. let read = k.read _ from m told in read.step ∙ ap step_of (sym (shown_is _ _ _ _ _ c.in-Ok.ensures.exact read.is)))
+    c.in-Some.ensures c.comp_of.ensures (look_call from k.rests (k.looks _ from m)).stays k.rests.counts.told l.did l.counts.told c.untake.ensures.pages c.untake.ensures.bands c.if-prev-at.false
+
+pub returns-clause-means : goal.returns-clause-means
+returns-clause-means g c = λ from m. c.in_ok-self.ensures.means from (c.in_ok-size.ensures.means _ from m)
+
+pub returns-in_err-self-clause-means : goal.returns-in_err-self-clause-means
+returns-in_err-self-clause-means g c = λ from m. c.in_err-self.ensures.means from (c.in_ok-size.ensures.means _ from m)
+
+pub invariant_of-self-then-prev-at-clause-pages_said : goal.invariant_of-self-then-prev-at-clause-pages_said
+invariant_of-self-then-prev-at-clause-pages_said g c = said_any c.args.self.now.maps.pages (g.met.E.Engine.some c.args.self.now.engine) (λ t. (record { rests = c.read.ensures.rests; keeps = λ from m. c.read.ensures.means t from m; looks = λ from m. c.read.ensures.looks t from m; whole = g.met.E.Engine.told_whole _; now = λ from m. g.met.E.Engine.now_is _ t from m; now' = λ from m. g.met.E.Engine.now_is _ t from m })) c.read.ensures.rests.counts.told c.args.self.now.pages_said
+
+pub invariant_of-self-then-not-is_record-clause-pages_said : goal.invariant_of-self-then-not-is_record-clause-pages_said
+invariant_of-self-then-not-is_record-clause-pages_said g c = said_any c.args.self.now.maps.pages (g.met.E.Engine.some c.args.self.now.engine) (λ t. (record { rests = c.read.ensures.rests; keeps = λ from m. c.read.ensures.means t from m; looks = λ from m. c.read.ensures.looks t from m; whole = g.met.E.Engine.told_whole _; now = λ from m. g.met.E.Engine.now_is _ t from m; now' = λ from m. g.met.E.Engine.now_is _ t from m })) c.read.ensures.rests.counts.told c.args.self.now.pages_said
+
+pub invariant_of-self-in_default-clause-pages_said : goal.invariant_of-self-in_default-clause-pages_said
+invariant_of-self-in_default-clause-pages_said g c = said_any c.args.self.now.maps.pages (g.met.E.Engine.some c.args.self.now.engine) (λ t. (record { rests = c.read.ensures.rests; keeps = λ from m. c.read.ensures.means t from m; looks = λ from m. c.read.ensures.looks t from m; whole = g.met.E.Engine.told_whole _; now = λ from m. g.met.E.Engine.now_is _ t from m; now' = λ from m. g.met.E.Engine.now_is _ t from m })) c.read.ensures.rests.counts.told c.args.self.now.pages_said
+
+pub invariant_of-self-in_default-change_in-clause-pages_said : goal.invariant_of-self-in_default-change_in-clause-pages_said
+invariant_of-self-in_default-change_in-clause-pages_said g c = said_any c.args.self.now.maps.pages (g.met.E.Engine.some c.args.self.now.engine) (λ t. (record { rests = c.read.ensures.rests; keeps = λ from m. c.read.ensures.means t from m; looks = λ from m. c.read.ensures.looks t from m; whole = g.met.E.Engine.told_whole _; now = λ from m. g.met.E.Engine.now_is _ t from m; now' = λ from m. g.met.E.Engine.now_is _ t from m })) c.read.ensures.rests.counts.told c.args.self.now.pages_said
+
+pub returns-in_err-size-clause-goes : goal.returns-in_err-size-clause-goes
+returns-in_err-size-clause-goes g c = λ from m told kept begin more off.
+    off_look c.args.self.now.actor.txn.0 (led from (g.E.Engine.view c.args.self.now.engine)) (led from (g.E.Engine.view c.read.new.self)) _ off.taking.running.log (look_call from c.in_err-size.ensures.rests (c.in_err-size.ensures.looks _ from m)) told
+
+pub returns-in_default-change_in-clause-goes : goal.returns-in_default-change_in-clause-goes
+returns-in_default-change_in-clause-goes g c = λ from m told kept begin more off.
+    off_look c.args.self.now.actor.txn.0 (led from (g.E.Engine.view c.args.self.now.engine)) (led from (g.E.Engine.view c.read.new.self)) _ off.taking.running.log (look_call from c.in_ok-size.ensures.rests (c.in_ok-size.ensures.looks _ from m)) told
+
+pub returns-then-prev-at-clause-goes : goal.returns-then-prev-at-clause-goes
+returns-then-prev-at-clause-goes g c = λ from m told kept begin more off.
+    off_look c.args.self.now.actor.txn.0 (led from (g.E.Engine.view c.args.self.now.engine)) (led from (g.E.Engine.view c.read.new.self)) _ off.taking.running.log (look_call from c.in_ok-size.ensures.rests (c.in_ok-size.ensures.looks _ from m)) told
+
+pub returns-then-not-is_record-clause-goes : goal.returns-then-not-is_record-clause-goes
+returns-then-not-is_record-clause-goes g c = λ from m told kept begin more off.
+    off_look c.args.self.now.actor.txn.0 (led from (g.E.Engine.view c.args.self.now.engine)) (led from (g.E.Engine.view c.read.new.self)) _ off.taking.running.log (look_call from c.in_ok-size.ensures.rests (c.in_ok-size.ensures.looks _ from m)) told
+
+pub returns-in_err-self-clause-counts : goal.returns-in_err-self-clause-counts
+returns-in_err-self-clause-counts g c =
+    let p = err_from_is_err_and c.from_residual-in_err-self.result c.from_residual-in_err-self.ensures.1 in
+    counts_err c.from_residual-in_err-self.result c.in_err-self.field-0.0 p.0 p.1 p.2 (looked_engine c.args.self.now.breaks c.in_ok-size.ensures.rests.counts) c.in_err-self.ensures.grows.counts
+
+pub returns-in_err-self-clause-goes : goal.returns-in_err-self-clause-goes
+returns-in_err-self-clause-goes g c = λ from m told kept begin more off.
+    let s = c.args.self.now in
+    let k = c.in_ok-size.ensures in
+    let look = look_call from k.rests (k.looks _ from m) in
+    let stays = look.stays.stays told in
+    let read = k.read _ from m told in
+    let off1 = off_stays stays off in
+    let next = next_one _ kept begin (led from (g.E.Engine.view c.read.new.self)) s.maps s.unfreed s.rows.items s.actor c.args.at more off1 in
+    let r = read_is (g.E.Engine.view c.read.new.self).steps c.args.at read.what (shown c.in-Ok.r) (shown_change c.in-Some.change) c.in-Some.prev _ next.d (ap (λ rs. step_at rs c.args.at) stays.steps ∙ read.step) (shown_is _ _ _ _ _ c.in-Ok.ensures.exact read.is) c.in-Some.ensures next.step in
+    off_then (led from (g.E.Engine.view s.engine)) (led from (g.E.Engine.view c.read.new.self)) (led from (g.E.Engine.view c.log_by.new.self))
+    (off_look s.actor.txn.0 (led from (g.E.Engine.view s.engine)) (led from (g.E.Engine.view c.read.new.self)) _ off.taking.running.log look told) c.in_err-self.ensures.grows.counts.stops
+    (λ told1. off_one kept begin (led from (g.E.Engine.view c.read.new.self)) (led from (g.E.Engine.view c.log_by.new.self)) s.maps s.unfreed s.rows.items s.actor c.args.at c.in-Some.prev (shown_change c.in-Some.change) (shown_change c.comp_of.result) _ off1 next r c.comp_of.ensures
+    (log_call from c.in_err-self.ensures.grows (c.in_err-self.ensures.logs from (k.means _ from m))) told1)
+
+pub returns-clause-goes : goal.returns-clause-goes
+returns-clause-goes g c = λ from m told kept begin more off.
+    let s = c.args.self.now in
+    let k = c.in_ok-size.ensures in
+    let look = look_call from k.rests (k.looks _ from m) in
+    let stays = look.stays.stays told in
+    let read = k.read _ from m told in
+    let off1 = off_stays stays off in
+    let next = next_one _ kept begin (led from (g.E.Engine.view c.read.new.self)) s.maps s.unfreed s.rows.items s.actor c.args.at more off1 in
+    let r = read_is (g.E.Engine.view c.read.new.self).steps c.args.at read.what (shown c.in-Ok.r) (shown_change c.in-Some.change) c.in-Some.prev _ next.d (ap (λ rs. step_at rs c.args.at) stays.steps ∙ read.step) (shown_is _ _ _ _ _ c.in-Ok.ensures.exact read.is) c.in-Some.ensures next.step in
+    off_then (led from (g.E.Engine.view s.engine)) (led from (g.E.Engine.view c.read.new.self)) (led from (g.E.Engine.view c.log_by.new.self))
+    (off_look s.actor.txn.0 (led from (g.E.Engine.view s.engine)) (led from (g.E.Engine.view c.read.new.self)) _ off.taking.running.log look told) c.in_ok-self.ensures.grows.counts.stops
+    (λ told1. off_one kept begin (led from (g.E.Engine.view c.read.new.self)) (led from (g.E.Engine.view c.log_by.new.self)) s.maps s.unfreed s.rows.items s.actor c.args.at c.in-Some.prev (shown_change c.in-Some.change) (shown_change c.comp_of.result) _ off1 next r c.comp_of.ensures
+    (log_call from c.in_ok-self.ensures.grows (c.in_ok-self.ensures.logs from (k.means _ from m))) told1)

@@ -1,91 +1,148 @@
-use Rattle.std.proofs.Common.{ℕ, List, Option, refl, sym, ap, ◌∙◌, arith}
+use mathlib.Core.Logic.{∥∥₁_elim, ∥∥₁_prop}
+use Rattle.std.proofs.Common.{true, ℕ, List, Option, refl, sym, ap, ◌∙◌, arith, length}
 use Rattle.std.specs.Prelude.{unwrap_or}
-use Rattle.sg_actions.specs.Engine.{now_of}
+use Rattle.sg_ops.specs.Table.{Table}
 use Rattle.sg_record.specs.Changes.Change.{Page}
+use Rattle.sg_actions.specs.Later.{Later, acts_at}
+use Rattle.sg_actions.specs.Onward.{later_same, later_on}
+use Rattle.sg_actions.proofs.Banded.{bands_page}
+use Rattle.sg_actions.proofs.Calling.{later_look, later_log, same_any, said_any, said_log, made_log}
 use Rattle.sg_actions.proofs.Flags.{there_is, some_is}
-use Rattle.sg_actions.proofs.Calling.{later_look, later_log}
-use Rattle.sg_actions.proofs.Viewed.{ready, ready_stays, loggable, logged_after, now_stays, change_on, shows_change, page_same}
+use Rattle.sg_actions.proofs.Led.{by_later, made_after}
 use Rattle.sg_actions.proofs.Spelled.{is_said, is_back, now_or}
-use Rattle.sg_actions.specs.Onward.{later_same, later_then}
+use Rattle.sg_actions.proofs.Viewed.{ready, ready_same, loggable, change_on, shows_change, page_same}
 use Rattle.sg_actions.proofs.acts.ActsPageSpace.change.Goals as goal
 
 pub load-requires : goal.load-requires
 load-requires g c = λ told.
     let h = c.requires.can told in
-    let there = there_is c.args.self.now.maps.pages c.args.self.now.unfreed.pages (now_of g.E.Engine.table (g.E.Engine.view c.args.self.now.engine)).pages c.args.p.0 h.what h.is in
+    let there = there_is c.args.self.now.maps.pages c.args.self.now.unfreed.pages (g.E.Engine.view c.args.self.now.engine).now.pages c.args.p.0 h.what h.is in
     some_is there.is
 
+pub log_by-requires-clause-by : goal.log_by-requires-clause-by
+log_by-requires-clause-by g c = ∥∥₁_elim c.requires.means ∥∥₁_prop (λ x. ∣ (x.0, c.in_ok-load.ensures.means _ x.0 x.1.stands) ∣₁)
+
 pub log_by-requires-clause-can : goal.log_by-requires-clause-can
-log_by-requires-clause-can g c = λ told.
-    let told0 = c.in_ok-load.ensures.looks.counts.told told in
-    let stays = c.in_ok-load.ensures.looks.stays.stays told0 in
-    let h = c.requires.can told0 in
+log_by-requires-clause-can g c = λ told1.
+    let s = c.args.self.now in
+    let e = (g.E.Engine.view s.engine) in
+    let e1 = (g.E.Engine.view c.load.new.self) in
+    let k1 = c.load.ensures in
     let plain = c.in-Some.ensures.plain in
     let after = ap (λ x. x.now) c.unwrap_or.ensures ∙ (now_or (λ x. x.now) c.after_of.result _ ∙ ap (λ (o : Option (List ℕ)). unwrap_or o c.links_of.new.into) c.after_of.ensures) in
     let said = is_said _ c.args.p.0 _ c.code_of.result _ _ c.links_of.new.into c.spell.ensures c.code_of.ensures plain c.links_of.ensures after in
     let back = is_back _ c.args.p.0 _ c.code_of.result _ _ c.links_of.new.into _ c.spell.ensures c.code_of.ensures plain c.in-Some.ensures.small c.in-Some.ensures.taken.are after in
-    let shown = ap (λ x. x.pages c.args.p.0) (sym (now_stays g.E.Engine.table stays)) ∙ c.page.ensures (g.met.E.Engine.told_shows _ told) in
-    let r = ready g.E.Engine.table _ g.E.Engine.limits (g.E.Engine.view c.args.self.now.engine) c.args.self.now.breaks c.args.self.now.maps c.args.self.now.unfreed c.args.p.0 _ _ _ shown back c.brings_bytes.ensures c.requires.means h in
-    loggable g.E.Engine.table _ _ _ _ c.args.p.0 _ _ said (ready_stays stays r) (λ u. c.requires.means)
+    let told = c.in_ok-load.ensures.rests.counts.told told1 in
+    let same = same_any (g.met.E.Engine.some c.args.self.now.engine) (λ t. (record { rests = c.load.ensures.rests; keeps = λ from m. c.load.ensures.means t from m; looks = λ from m. c.load.ensures.looks t from m; whole = g.met.E.Engine.told_whole _; now = λ from m. g.met.E.Engine.now_is _ t from m; now' = λ from m. g.met.E.Engine.now_is _ t from m })) told told1 in
+    let r = ready _ (g.E.Engine.limits (length c.args.self.now.maps.pages) (length c.args.self.now.maps.bands)) e (g.E.Engine.view c.args.self.now.begun_at.value).now s.breaks s.maps s.unfreed c.args.p.0 _ _ _ (ap (λ x. x.pages c.args.p.0) (sym same.now) ∙ c.page.ensures) back c.brings_bytes.ensures (c.requires.can told) in
+    loggable _ e1 _ _ c.args.p.0 _ _ said (ready_same same r)
+
+pub invariant_of-self-2-clause-pages_said : goal.invariant_of-self-2-clause-pages_said
+invariant_of-self-2-clause-pages_said g c =
+    said_log g.E.Engine.recovers (g.E.Engine.means c.load.new.self) (g.E.Engine.means c.log_by.new.self) c.args.self.now.maps.pages (∥∥₁_elim c.requires.means ∥∥₁_prop (λ x. ∣ (x.0, c.in_ok-load.ensures.means _ x.0 x.1.stands) ∣₁)) (record { grows = c.log_by.ensures.grows; keeps = c.log_by.ensures.means; logs = c.log_by.ensures.logs; whole = g.met.E.Engine.told_whole _; now = g.met.E.Engine.now_is _ _; now' = g.met.E.Engine.now_is _ _; law = g.met.E.Engine.lawful _ _ }) refl (said_any c.args.self.now.maps.pages (g.met.E.Engine.some c.args.self.now.engine) (λ t. (record { rests = c.load.ensures.rests; keeps = λ from m. c.load.ensures.means t from m; looks = λ from m. c.load.ensures.looks t from m; whole = g.met.E.Engine.told_whole _; now = λ from m. g.met.E.Engine.now_is _ t from m; now' = λ from m. g.met.E.Engine.now_is _ t from m })) c.load.ensures.rests.counts.told c.args.self.now.pages_said)
+
+pub invariant_of-self-in_default-clause-pages_said : goal.invariant_of-self-in_default-clause-pages_said
+invariant_of-self-in_default-clause-pages_said g c = said_any c.args.self.now.maps.pages (g.met.E.Engine.some c.args.self.now.engine) (λ t. (record { rests = c.load.ensures.rests; keeps = λ from m. c.load.ensures.means t from m; looks = λ from m. c.load.ensures.looks t from m; whole = g.met.E.Engine.told_whole _; now = λ from m. g.met.E.Engine.now_is _ t from m; now' = λ from m. g.met.E.Engine.now_is _ t from m })) c.load.ensures.rests.counts.told c.args.self.now.pages_said
+
+pub invariant_of-self-then-not-is_record-clause-pages_said : goal.invariant_of-self-then-not-is_record-clause-pages_said
+invariant_of-self-then-not-is_record-clause-pages_said g c = said_any c.args.self.now.maps.pages (g.met.E.Engine.some c.args.self.now.engine) (λ t. (record { rests = c.load.ensures.rests; keeps = λ from m. c.load.ensures.means t from m; looks = λ from m. c.load.ensures.looks t from m; whole = g.met.E.Engine.told_whole _; now = λ from m. g.met.E.Engine.now_is _ t from m; now' = λ from m. g.met.E.Engine.now_is _ t from m })) c.load.ensures.rests.counts.told c.args.self.now.pages_said
 
 pub returns : goal.returns
 returns g c =
-    let looks = c.in_ok-load.ensures.looks in
+    let s = c.args.self.now in
+    let e = (g.E.Engine.view s.engine) in
+    let e1 = (g.E.Engine.view c.load.new.self) in
+    let k1 = c.load.ensures in
+    let e2 = (g.E.Engine.view c.log_by.new.self) in
+    let k2 = c.in_ok-self.ensures in
     let plain = c.in-Some.ensures.plain in
     let after = ap (λ x. x.now) c.unwrap_or.ensures ∙ (now_or (λ x. x.now) c.after_of.result _ ∙ ap (λ (o : Option (List ℕ)). unwrap_or o c.links_of.new.into) c.after_of.ensures) in
     let said = is_said _ c.args.p.0 _ c.code_of.result _ _ c.links_of.new.into c.spell.ensures c.code_of.ensures plain c.links_of.ensures after in
     let back = is_back _ c.args.p.0 _ c.code_of.result _ _ c.links_of.new.into _ c.spell.ensures c.code_of.ensures plain c.in-Some.ensures.small c.in-Some.ensures.taken.are after in
-    let first = looks.counts in
-    let second = c.in_ok-self.ensures.logs.counts in
-    let did = c.in_ok-self.ensures.logs.did in
+    let same = λ (told : e.Told) (told1 : e1.Told). same_any (g.met.E.Engine.some c.args.self.now.engine) (λ t. (record { rests = c.load.ensures.rests; keeps = λ from m. c.load.ensures.means t from m; looks = λ from m. c.load.ensures.looks t from m; whole = g.met.E.Engine.told_whole _; now = λ from m. g.met.E.Engine.now_is _ t from m; now' = λ from m. g.met.E.Engine.now_is _ t from m })) told told1 in
+    let later = later_on {strict = true} g.E.Engine.recovers (g.E.Engine.limits (length c.args.self.now.maps.pages) (length c.args.self.now.maps.bands)) _ _ _ _
+    (later_look {strict = true} g.E.Engine.recovers (g.E.Engine.limits (length c.args.self.now.maps.pages) (length c.args.self.now.maps.bands)) _ (g.E.Engine.view c.args.self.now.engine) (g.E.Engine.view c.load.new.self) (g.E.Engine.means c.args.self.now.engine) (g.E.Engine.means c.load.new.self) (g.E.Engine.view c.args.self.now.begun_at.value).now c.args.self.now.maps c.args.self.now.rows.items c.args.self.now.actor c.args.self.now.begun _ (record { rests = c.in_ok-load.ensures.rests; keeps = c.in_ok-load.ensures.means _; looks = c.in_ok-load.ensures.looks _; whole = g.met.E.Engine.told_whole _; now = g.met.E.Engine.now_is _ _; now' = g.met.E.Engine.now_is _ _ }))
+    (later_log {strict = true} g.E.Engine.recovers (g.E.Engine.limits (length c.args.self.now.maps.pages) (length c.args.self.now.maps.bands)) _ (g.E.Engine.view c.load.new.self) (g.E.Engine.view c.log_by.new.self) (g.E.Engine.means c.load.new.self) (g.E.Engine.means c.log_by.new.self) (g.E.Engine.view c.args.self.now.begun_at.value).now c.args.self.now.maps c.args.self.now.maps c.args.self.now.rows.items c.args.self.now.actor _ c.args.self.now.begun (Page _) _ c.if-not-self.false (c.if-not-is_record.ensures refl) (record { grows = c.in_ok-self.ensures.grows; keeps = c.in_ok-self.ensures.means; logs = c.in_ok-self.ensures.logs; whole = g.met.E.Engine.told_whole _; now = g.met.E.Engine.now_is _ _; now' = g.met.E.Engine.now_is _ _; law = g.met.E.Engine.lawful _ _ }) refl
+    (record {
+      on = λ from since told1 k. let told = c.in_ok-load.ensures.rests.counts.told told1 in change_on _ (g.E.Engine.limits (length c.args.self.now.maps.pages) (length c.args.self.now.maps.bands)) from e e1 (g.E.Engine.view c.args.self.now.begun_at.value).now s.breaks s.maps s.unfreed _ _ c.args.p.0 _ _ _ plain said told (same told told1) c.page.ensures back c.brings_bytes.ensures (c.requires.can told) (g.met.E.Engine.now_is _ _ from since.stands told1) (since.since c.if-not-self.false told1) k;
+      same = λ from since told1. page_same (g.E.Engine.limits (length c.args.self.now.maps.pages) (length c.args.self.now.maps.bands)) _ e1.steps s.maps c.args.p.0 _ _ plain said;
+      pages = refl;
+      bands = refl;
+      holds = λ o from since told1 h. bands_page _ _ _ h;
+    })) in
+    let first = c.in_ok-load.ensures.rests.counts in
+    let second = k2.grows.counts in
     record {
       counts = record { told = λ t. first.told (second.told t); later = omega (arith, first.later, second.later); quiet = let a = first.quiet in let b = second.quiet in omega (arith, a, b); disk = tt; log_end = tt };
-      few = let a = looks.records in let b = c.in_ok-self.ensures.logs.few in omega (arith, a, b);
-      means = c.requires.means;
-      did = shows_change g.E.Engine.table _ g.E.Engine.limits (g.E.Engine.view c.args.self.now.engine) (g.E.Engine.view c.log_by.new.self) c.args.self.now.breaks c.args.self.now.maps c.args.self.now.unfreed c.args.p.0 _ _ _ _
-          _ (sym (c.if-not-has_page.ensures)) plain said
-          (λ told. ready g.E.Engine.table _ g.E.Engine.limits (g.E.Engine.view c.args.self.now.engine) c.args.self.now.breaks c.args.self.now.maps c.args.self.now.unfreed c.args.p.0 _ _ _
-          (ap (λ x. x.pages c.args.p.0) (sym (now_stays g.E.Engine.table (looks.stays.stays told))) ∙ c.page.ensures (g.met.E.Engine.told_shows _ (looks.stays.told told))) back c.brings_bytes.ensures c.requires.means (c.requires.can told))
-          (λ told. c.requires.means) c.requires.can (λ told. did.told (looks.stays.told told)) (λ told. logged_after (looks.stays.stays told) (did.logged (looks.stays.told told))) (λ t. first.told (second.told t));
-      later = later_then g.E.Engine.recovers g.E.Engine.table g.E.Engine.limits _ _ _ _
-          (later_look g.E.Engine.recovers g.E.Engine.table g.E.Engine.limits _ (g.E.Engine.view c.args.self.now.engine) (g.E.Engine.view c.load.new.self) c.args.self.now.maps c.args.self.now.rows.items c.args.self.now.actor c.args.self.now.begun _ looks)
-          (later_log g.E.Engine.recovers g.E.Engine.table g.E.Engine.limits _ (g.E.Engine.view c.load.new.self) (g.E.Engine.view c.log_by.new.self) c.args.self.now.maps c.args.self.now.maps c.args.self.now.rows.items c.args.self.now.actor _ c.args.self.now.begun (Page _) _ c.if-not-self.false c.in_ok-self.ensures.logs refl
-          (λ told k.
-          let told0 = first.told told in
-          let stays = looks.stays.stays told0 in
-          let shown = ap (λ x. x.pages c.args.p.0) (sym (now_stays g.E.Engine.table stays)) ∙ c.page.ensures (g.met.E.Engine.told_shows _ told) in
-          change_on g.E.Engine.table _ g.E.Engine.limits (g.E.Engine.view c.args.self.now.engine) (g.E.Engine.view c.load.new.self) c.args.self.now.breaks c.args.self.now.maps c.args.self.now.unfreed _ _ c.args.p.0 _ _ _ plain said told0 stays shown back c.brings_bytes.ensures c.requires.means (c.requires.can told0) k)
-          (page_same g.E.Engine.table g.E.Engine.limits (g.E.Engine.view c.load.new.self) c.args.self.now.maps c.args.p.0 _ _ plain said));
+      few = let a = c.in_ok-load.ensures.rests.records in let b = k2.grows.few in omega (arith, a, b);
+      means = by_later later c.requires.means;
+      did = shows_change _ (g.E.Engine.limits (length c.args.self.now.maps.pages) (length c.args.self.now.maps.bands)) e e2 (g.E.Engine.view c.args.self.now.begun_at.value).now s.breaks s.maps s.unfreed c.args.p.0 _ _ _ _ _ (sym (c.if-not-has_page.ensures)) plain said
+          (λ told. ready _ (g.E.Engine.limits (length c.args.self.now.maps.pages) (length c.args.self.now.maps.bands)) e (g.E.Engine.view c.args.self.now.begun_at.value).now s.breaks s.maps s.unfreed c.args.p.0 _ _ _ (ap (λ x. x.pages c.args.p.0) (sym (same told (first.tells told)).now) ∙ c.page.ensures) back c.brings_bytes.ensures (c.requires.can told))
+          (λ told. second.tells (first.tells told)) (λ t. first.told (second.told t))
+          (λ told. let told1 = first.tells told in made_after (same told told1) (made_log g.E.Engine.recovers (g.E.Engine.means c.load.new.self) (g.E.Engine.means c.log_by.new.self) (∥∥₁_elim c.requires.means ∥∥₁_prop (λ x. ∣ (x.0, c.in_ok-load.ensures.means _ x.0 x.1.stands) ∣₁)) (record { grows = c.in_ok-self.ensures.grows; keeps = c.in_ok-self.ensures.means; logs = c.in_ok-self.ensures.logs; whole = g.met.E.Engine.told_whole _; now = g.met.E.Engine.now_is _ _; now' = g.met.E.Engine.now_is _ _; law = g.met.E.Engine.lawful _ _ }) refl told1 (second.tells told1)));
+      later = later;
     }
 
 pub returns-in_default-clause-later : goal.returns-in_default-clause-later
-returns-in_default-clause-later g c = later_look g.E.Engine.recovers g.E.Engine.table g.E.Engine.limits _ (g.E.Engine.view c.args.self.now.engine) (g.E.Engine.view c.load.new.self) c.args.self.now.maps c.args.self.now.rows.items c.args.self.now.actor c.args.self.now.begun _ c.in_ok-load.ensures.looks
+returns-in_default-clause-later g c = (later_look {strict = true} g.E.Engine.recovers (g.E.Engine.limits (length c.args.self.now.maps.pages) (length c.args.self.now.maps.bands)) _ (g.E.Engine.view c.args.self.now.engine) (g.E.Engine.view c.load.new.self) (g.E.Engine.means c.args.self.now.engine) (g.E.Engine.means c.load.new.self) (g.E.Engine.view c.args.self.now.begun_at.value).now c.args.self.now.maps c.args.self.now.rows.items c.args.self.now.actor c.args.self.now.begun _ (record { rests = c.in_ok-load.ensures.rests; keeps = c.in_ok-load.ensures.means _; looks = c.in_ok-load.ensures.looks _; whole = g.met.E.Engine.told_whole _; now = g.met.E.Engine.now_is _ _; now' = g.met.E.Engine.now_is _ _ }))
+
+pub returns-in_default-clause-means : goal.returns-in_default-clause-means
+returns-in_default-clause-means g c = by_later ((later_look {strict = true} g.E.Engine.recovers (g.E.Engine.limits (length c.args.self.now.maps.pages) (length c.args.self.now.maps.bands)) _ (g.E.Engine.view c.args.self.now.engine) (g.E.Engine.view c.load.new.self) (g.E.Engine.means c.args.self.now.engine) (g.E.Engine.means c.load.new.self) (g.E.Engine.view c.args.self.now.begun_at.value).now c.args.self.now.maps c.args.self.now.rows.items c.args.self.now.actor c.args.self.now.begun _ (record { rests = c.in_ok-load.ensures.rests; keeps = c.in_ok-load.ensures.means _; looks = c.in_ok-load.ensures.looks _; whole = g.met.E.Engine.told_whole _; now = g.met.E.Engine.now_is _ _; now' = g.met.E.Engine.now_is _ _ }))) c.requires.means
 
 pub returns-then-not-is_record-clause-later : goal.returns-then-not-is_record-clause-later
-returns-then-not-is_record-clause-later g c = later_look g.E.Engine.recovers g.E.Engine.table g.E.Engine.limits _ (g.E.Engine.view c.args.self.now.engine) (g.E.Engine.view c.load.new.self) c.args.self.now.maps c.args.self.now.rows.items c.args.self.now.actor c.args.self.now.begun _ c.in_ok-load.ensures.looks
+returns-then-not-is_record-clause-later g c = (later_look {strict = true} g.E.Engine.recovers (g.E.Engine.limits (length c.args.self.now.maps.pages) (length c.args.self.now.maps.bands)) _ (g.E.Engine.view c.args.self.now.engine) (g.E.Engine.view c.load.new.self) (g.E.Engine.means c.args.self.now.engine) (g.E.Engine.means c.load.new.self) (g.E.Engine.view c.args.self.now.begun_at.value).now c.args.self.now.maps c.args.self.now.rows.items c.args.self.now.actor c.args.self.now.begun _ (record { rests = c.in_ok-load.ensures.rests; keeps = c.in_ok-load.ensures.means _; looks = c.in_ok-load.ensures.looks _; whole = g.met.E.Engine.told_whole _; now = g.met.E.Engine.now_is _ _; now' = g.met.E.Engine.now_is _ _ }))
+
+pub returns-then-not-is_record-clause-means : goal.returns-then-not-is_record-clause-means
+returns-then-not-is_record-clause-means g c = by_later ((later_look {strict = true} g.E.Engine.recovers (g.E.Engine.limits (length c.args.self.now.maps.pages) (length c.args.self.now.maps.bands)) _ (g.E.Engine.view c.args.self.now.engine) (g.E.Engine.view c.load.new.self) (g.E.Engine.means c.args.self.now.engine) (g.E.Engine.means c.load.new.self) (g.E.Engine.view c.args.self.now.begun_at.value).now c.args.self.now.maps c.args.self.now.rows.items c.args.self.now.actor c.args.self.now.begun _ (record { rests = c.in_ok-load.ensures.rests; keeps = c.in_ok-load.ensures.means _; looks = c.in_ok-load.ensures.looks _; whole = g.met.E.Engine.told_whole _; now = g.met.E.Engine.now_is _ _; now' = g.met.E.Engine.now_is _ _ }))) c.requires.means
+
+pub returns-in_err-load-clause-later : goal.returns-in_err-load-clause-later
+returns-in_err-load-clause-later g c = (later_look {strict = true} g.E.Engine.recovers (g.E.Engine.limits (length c.args.self.now.maps.pages) (length c.args.self.now.maps.bands)) _ (g.E.Engine.view c.args.self.now.engine) (g.E.Engine.view c.load.new.self) (g.E.Engine.means c.args.self.now.engine) (g.E.Engine.means c.load.new.self) (g.E.Engine.view c.args.self.now.begun_at.value).now c.args.self.now.maps c.args.self.now.rows.items c.args.self.now.actor c.args.self.now.begun _ (record { rests = c.in_err-load.ensures.rests; keeps = c.in_err-load.ensures.means _; looks = c.in_err-load.ensures.looks _; whole = g.met.E.Engine.told_whole _; now = g.met.E.Engine.now_is _ _; now' = g.met.E.Engine.now_is _ _ }))
+
+pub returns-in_err-load-clause-means : goal.returns-in_err-load-clause-means
+returns-in_err-load-clause-means g c = by_later ((later_look {strict = true} g.E.Engine.recovers (g.E.Engine.limits (length c.args.self.now.maps.pages) (length c.args.self.now.maps.bands)) _ (g.E.Engine.view c.args.self.now.engine) (g.E.Engine.view c.load.new.self) (g.E.Engine.means c.args.self.now.engine) (g.E.Engine.means c.load.new.self) (g.E.Engine.view c.args.self.now.begun_at.value).now c.args.self.now.maps c.args.self.now.rows.items c.args.self.now.actor c.args.self.now.begun _ (record { rests = c.in_err-load.ensures.rests; keeps = c.in_err-load.ensures.means _; looks = c.in_err-load.ensures.looks _; whole = g.met.E.Engine.told_whole _; now = g.met.E.Engine.now_is _ _; now' = g.met.E.Engine.now_is _ _ }))) c.requires.means
 
 pub returns-in_err-self-clause-later : goal.returns-in_err-self-clause-later
 returns-in_err-self-clause-later g c =
-    let looks = c.in_ok-load.ensures.looks in
+    let s = c.args.self.now in
+    let e = (g.E.Engine.view s.engine) in
+    let e1 = (g.E.Engine.view c.load.new.self) in
+    let k1 = c.load.ensures in
     let plain = c.in-Some.ensures.plain in
     let after = ap (λ x. x.now) c.unwrap_or.ensures ∙ (now_or (λ x. x.now) c.after_of.result _ ∙ ap (λ (o : Option (List ℕ)). unwrap_or o c.links_of.new.into) c.after_of.ensures) in
     let said = is_said _ c.args.p.0 _ c.code_of.result _ _ c.links_of.new.into c.spell.ensures c.code_of.ensures plain c.links_of.ensures after in
     let back = is_back _ c.args.p.0 _ c.code_of.result _ _ c.links_of.new.into _ c.spell.ensures c.code_of.ensures plain c.in-Some.ensures.small c.in-Some.ensures.taken.are after in
-    later_then g.E.Engine.recovers g.E.Engine.table g.E.Engine.limits _ _ _ _
-    (later_look g.E.Engine.recovers g.E.Engine.table g.E.Engine.limits _ (g.E.Engine.view c.args.self.now.engine) (g.E.Engine.view c.load.new.self) c.args.self.now.maps c.args.self.now.rows.items c.args.self.now.actor c.args.self.now.begun _ looks)
-    (later_log g.E.Engine.recovers g.E.Engine.table g.E.Engine.limits _ (g.E.Engine.view c.load.new.self) (g.E.Engine.view c.log_by.new.self) c.args.self.now.maps c.args.self.now.maps c.args.self.now.rows.items c.args.self.now.actor _ c.args.self.now.begun (Page _) _ c.if-not-self.false c.in_err-self.ensures.logs tt
-    (λ told k.
-    let told0 = looks.counts.told told in
-    let stays = looks.stays.stays told0 in
-    let shown = ap (λ x. x.pages c.args.p.0) (sym (now_stays g.E.Engine.table stays)) ∙ c.page.ensures (g.met.E.Engine.told_shows _ told) in
-    change_on g.E.Engine.table _ g.E.Engine.limits (g.E.Engine.view c.args.self.now.engine) (g.E.Engine.view c.load.new.self) c.args.self.now.breaks c.args.self.now.maps c.args.self.now.unfreed _ _ c.args.p.0 _ _ _ plain said told0 stays shown back c.brings_bytes.ensures c.requires.means (c.requires.can told0) k)
-    (page_same g.E.Engine.table g.E.Engine.limits (g.E.Engine.view c.load.new.self) c.args.self.now.maps c.args.p.0 _ _ plain said))
+    let same = λ (told : e.Told) (told1 : e1.Told). same_any (g.met.E.Engine.some c.args.self.now.engine) (λ t. (record { rests = c.load.ensures.rests; keeps = λ from m. c.load.ensures.means t from m; looks = λ from m. c.load.ensures.looks t from m; whole = g.met.E.Engine.told_whole _; now = λ from m. g.met.E.Engine.now_is _ t from m; now' = λ from m. g.met.E.Engine.now_is _ t from m })) told told1 in
+    later_on {strict = true} g.E.Engine.recovers (g.E.Engine.limits (length c.args.self.now.maps.pages) (length c.args.self.now.maps.bands)) _ _ _ _ (later_look {strict = true} g.E.Engine.recovers (g.E.Engine.limits (length c.args.self.now.maps.pages) (length c.args.self.now.maps.bands)) _ (g.E.Engine.view c.args.self.now.engine) (g.E.Engine.view c.load.new.self) (g.E.Engine.means c.args.self.now.engine) (g.E.Engine.means c.load.new.self) (g.E.Engine.view c.args.self.now.begun_at.value).now c.args.self.now.maps c.args.self.now.rows.items c.args.self.now.actor c.args.self.now.begun _ (record { rests = c.in_ok-load.ensures.rests; keeps = c.in_ok-load.ensures.means _; looks = c.in_ok-load.ensures.looks _; whole = g.met.E.Engine.told_whole _; now = g.met.E.Engine.now_is _ _; now' = g.met.E.Engine.now_is _ _ })) (later_log {strict = true} g.E.Engine.recovers (g.E.Engine.limits (length c.args.self.now.maps.pages) (length c.args.self.now.maps.bands)) _ (g.E.Engine.view c.load.new.self) (g.E.Engine.view c.log_by.new.self) (g.E.Engine.means c.load.new.self) (g.E.Engine.means c.log_by.new.self) (g.E.Engine.view c.args.self.now.begun_at.value).now c.args.self.now.maps c.args.self.now.maps c.args.self.now.rows.items c.args.self.now.actor c.args.self.now.actor c.args.self.now.begun (Page _) _ c.if-not-self.false (c.if-not-is_record.ensures refl) (record { grows = c.in_err-self.ensures.grows; keeps = c.in_err-self.ensures.means; logs = c.in_err-self.ensures.logs; whole = g.met.E.Engine.told_whole _; now = g.met.E.Engine.now_is _ _; now' = g.met.E.Engine.now_is _ _; law = g.met.E.Engine.lawful _ _ }) tt
+    (record {
+      on = λ from since told1 k. let told = c.in_ok-load.ensures.rests.counts.told told1 in change_on _ (g.E.Engine.limits (length c.args.self.now.maps.pages) (length c.args.self.now.maps.bands)) from e e1 (g.E.Engine.view c.args.self.now.begun_at.value).now s.breaks s.maps s.unfreed _ _ c.args.p.0 _ _ _ plain said told (same told told1) c.page.ensures back c.brings_bytes.ensures (c.requires.can told) (g.met.E.Engine.now_is _ _ from since.stands told1) (since.since c.if-not-self.false told1) k;
+      same = λ from since told1. page_same (g.E.Engine.limits (length c.args.self.now.maps.pages) (length c.args.self.now.maps.bands)) _ e1.steps s.maps c.args.p.0 _ _ plain said;
+      pages = refl;
+      bands = refl;
+      holds = λ o from since told1 h. bands_page _ _ _ h;
+    }))
+
+pub returns-in_err-self-clause-means : goal.returns-in_err-self-clause-means
+returns-in_err-self-clause-means g c =
+    let s = c.args.self.now in
+    let e = (g.E.Engine.view s.engine) in
+    let e1 = (g.E.Engine.view c.load.new.self) in
+    let k1 = c.load.ensures in
+    let plain = c.in-Some.ensures.plain in
+    let after = ap (λ x. x.now) c.unwrap_or.ensures ∙ (now_or (λ x. x.now) c.after_of.result _ ∙ ap (λ (o : Option (List ℕ)). unwrap_or o c.links_of.new.into) c.after_of.ensures) in
+    let said = is_said _ c.args.p.0 _ c.code_of.result _ _ c.links_of.new.into c.spell.ensures c.code_of.ensures plain c.links_of.ensures after in
+    let back = is_back _ c.args.p.0 _ c.code_of.result _ _ c.links_of.new.into _ c.spell.ensures c.code_of.ensures plain c.in-Some.ensures.small c.in-Some.ensures.taken.are after in
+    let same = λ (told : e.Told) (told1 : e1.Told). same_any (g.met.E.Engine.some c.args.self.now.engine) (λ t. (record { rests = c.load.ensures.rests; keeps = λ from m. c.load.ensures.means t from m; looks = λ from m. c.load.ensures.looks t from m; whole = g.met.E.Engine.told_whole _; now = λ from m. g.met.E.Engine.now_is _ t from m; now' = λ from m. g.met.E.Engine.now_is _ t from m })) told told1 in
+    by_later (later_on {strict = true} g.E.Engine.recovers (g.E.Engine.limits (length c.args.self.now.maps.pages) (length c.args.self.now.maps.bands)) _ _ _ _ (later_look {strict = true} g.E.Engine.recovers (g.E.Engine.limits (length c.args.self.now.maps.pages) (length c.args.self.now.maps.bands)) _ (g.E.Engine.view c.args.self.now.engine) (g.E.Engine.view c.load.new.self) (g.E.Engine.means c.args.self.now.engine) (g.E.Engine.means c.load.new.self) (g.E.Engine.view c.args.self.now.begun_at.value).now c.args.self.now.maps c.args.self.now.rows.items c.args.self.now.actor c.args.self.now.begun _ (record { rests = c.in_ok-load.ensures.rests; keeps = c.in_ok-load.ensures.means _; looks = c.in_ok-load.ensures.looks _; whole = g.met.E.Engine.told_whole _; now = g.met.E.Engine.now_is _ _; now' = g.met.E.Engine.now_is _ _ })) (later_log {strict = true} g.E.Engine.recovers (g.E.Engine.limits (length c.args.self.now.maps.pages) (length c.args.self.now.maps.bands)) _ (g.E.Engine.view c.load.new.self) (g.E.Engine.view c.log_by.new.self) (g.E.Engine.means c.load.new.self) (g.E.Engine.means c.log_by.new.self) (g.E.Engine.view c.args.self.now.begun_at.value).now c.args.self.now.maps c.args.self.now.maps c.args.self.now.rows.items c.args.self.now.actor c.args.self.now.actor c.args.self.now.begun (Page _) _ c.if-not-self.false (c.if-not-is_record.ensures refl) (record { grows = c.in_err-self.ensures.grows; keeps = c.in_err-self.ensures.means; logs = c.in_err-self.ensures.logs; whole = g.met.E.Engine.told_whole _; now = g.met.E.Engine.now_is _ _; now' = g.met.E.Engine.now_is _ _; law = g.met.E.Engine.lawful _ _ }) tt
+    (record {
+      on = λ from since told1 k. let told = c.in_ok-load.ensures.rests.counts.told told1 in change_on _ (g.E.Engine.limits (length c.args.self.now.maps.pages) (length c.args.self.now.maps.bands)) from e e1 (g.E.Engine.view c.args.self.now.begun_at.value).now s.breaks s.maps s.unfreed _ _ c.args.p.0 _ _ _ plain said told (same told told1) c.page.ensures back c.brings_bytes.ensures (c.requires.can told) (g.met.E.Engine.now_is _ _ from since.stands told1) (since.since c.if-not-self.false told1) k;
+      same = λ from since told1. page_same (g.E.Engine.limits (length c.args.self.now.maps.pages) (length c.args.self.now.maps.bands)) _ e1.steps s.maps c.args.p.0 _ _ plain said;
+      pages = refl;
+      bands = refl;
+      holds = λ o from since told1 h. bands_page _ _ _ h;
+    }))) c.requires.means
 
 pub returns-then-not-self-clause-later : goal.returns-then-not-self-clause-later
-returns-then-not-self-clause-later g c = later_same g.E.Engine.recovers g.E.Engine.table g.E.Engine.limits _ _ (λ told. g.met.E.Engine.images _ told)
+returns-then-not-self-clause-later g c = later_same {strict = true} g.E.Engine.recovers (g.E.Engine.limits (length c.args.self.now.maps.pages) (length c.args.self.now.maps.bands)) _ _ (λ from m told. g.met.E.Engine.images _ _ from m.stands told)
 
 pub returns-then-not-has_page-clause-later : goal.returns-then-not-has_page-clause-later
-returns-then-not-has_page-clause-later g c = later_same g.E.Engine.recovers g.E.Engine.table g.E.Engine.limits _ _ (λ told. g.met.E.Engine.images _ told)
-
-pub returns-in_err-load-clause-later : goal.returns-in_err-load-clause-later
-returns-in_err-load-clause-later g c = later_look g.E.Engine.recovers g.E.Engine.table g.E.Engine.limits _ (g.E.Engine.view c.args.self.now.engine) (g.E.Engine.view c.load.new.self) c.args.self.now.maps c.args.self.now.rows.items c.args.self.now.actor c.args.self.now.begun _ c.in_err-load.ensures.looks
+returns-then-not-has_page-clause-later g c = later_same {strict = true} g.E.Engine.recovers (g.E.Engine.limits (length c.args.self.now.maps.pages) (length c.args.self.now.maps.bands)) _ _ (λ from m told. g.met.E.Engine.images _ _ from m.stands told)

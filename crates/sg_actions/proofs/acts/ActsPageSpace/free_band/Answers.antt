@@ -1,4 +1,4 @@
-use Rattle.std.proofs.Common.{sym}
+use Rattle.std.proofs.Common.{true, sym, length}
 use Rattle.sg_actions.proofs.Freeing.{there_flag}
 use Rattle.sg_actions.specs.Onward.{later_same}
 use Rattle.sg_actions.proofs.acts.ActsPageSpace.free_band.Goals as goal
@@ -7,4 +7,4 @@ pub free_band-requires : goal.free_band-requires
 free_band-requires g c = there_flag c.args.self.now.maps.bands c.args.self.now.unfreed.bands c.args.b.0 (sym c.if-not-has_band.ensures)
 
 pub returns-clause-later : goal.returns-clause-later
-returns-clause-later g c = λ t. later_same g.E.Engine.recovers g.E.Engine.table g.E.Engine.limits t _ (λ told. g.met.E.Engine.images _ told)
+returns-clause-later g c = λ t. later_same {strict = true} g.E.Engine.recovers (g.E.Engine.limits (length c.args.self.now.maps.pages) (length c.args.self.now.maps.bands)) t _ (λ from m told. g.met.E.Engine.images _ t from m.stands told)

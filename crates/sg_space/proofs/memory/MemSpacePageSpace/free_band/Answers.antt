@@ -1,4 +1,4 @@
-use Rattle.std.proofs.Common.{refl, ◌+◌, ◌≤◌, arith}
+use Rattle.std.proofs.Common.{refl, arith}
 use Rattle.sg_space.specs.Memory.{sheet_in, bytes_in}
 use Rattle.sg_space.proofs.InMemory.{is_there, freed_one, same_units}
 use Rattle.sg_space.proofs.memory.MemSpacePageSpace.free_band.Goals as goal
@@ -16,6 +16,6 @@ returns c =
         may_have = λ p n h. h;
         wrote = λ b none. none;
       };
-      later = λ t. tt;
-      means = λ t m. tt;
+      done = refl;
+      bytes = refl;
     }

@@ -1,0 +1,4 @@
+pub mod Taken
+pub mod Bodies
+pub mod Frames
+pub mod Read

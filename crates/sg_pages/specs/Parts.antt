@@ -1,0 +1,30 @@
+-- What a store's pages and bands, with its log, are as plain values.
+use Rattle.std.specs.Prelude.{Bool}
+use Rattle.sg_disk.specs.Disk.{View}
+use Rattle.sg_disk.specs.declared.disk.Disk.{Ghosts}
+use Rattle.sg_ops.specs.Table.{Table}
+use Rattle.sg_action.specs.States.{State}
+use Rattle.sg_actions.specs.Engine.{EngineSeen}
+use Rattle.sg_phys.specs.Phys.{Parts, StandsBy, seen_by}
+use Rattle.sg_pages.specs.declared.phys.Phys.{Phys}
+
+abbrev pub parts : {D : Type 0} {g : Ghosts D} → (D → View) → Phys D g → Parts
+parts view s = record {
+  found = view s.found.value;
+  disk = view s.engine.disk;
+  log = s.engine.log;
+  pool = s.engine.pool;
+  failed = s.failed;
+  end = s.end;
+  tried = s.tried;
+  breaks = s.breaks;
+  records = s.records;
+}
+
+-- what it shows
+abbrev pub seen : {D : Type 0} {g : Ghosts D} → (told : Bool) → (D → View) → Phys D g → EngineSeen
+seen told view s = seen_by told (parts view s)
+
+-- which operations it stands for, and which first pages and bands
+abbrev pub stands : {D : Type 0} {g : Ghosts D} → (told : Bool) → (D → View) → Phys D g → Table → State → Type 0
+stands told view s = StandsBy told (parts view s)

@@ -1,0 +1,99 @@
+// What the engine under the actions has beside the trait's calls.
+ghost use Rattle.std.specs.Prelude.{◌≡◌, ◌≤◌, ◌<◌, ◌*◌, ◌/◌, ℕ, false, length, IfOk};
+ghost use Rattle.sg_ops.specs.Laws.{IsLawful};
+ghost use Rattle.sg_ops.specs.Table.{Table};
+ghost use Rattle.sg_action.specs.States.{State};
+ghost use Rattle.sg_record.specs.Records.Says.{Checkpoint};
+ghost use Rattle.sg_record.specs.Shown.{by};
+ghost use Rattle.sg_actions.specs.Engine.{EngineGrows, EngineLooks, Keeps, led};
+ghost use Rattle.sg_phys.specs.Phys.{StandsForSome};
+ghost use Rattle.sg_pages.specs.Parts.{seen, stands};
+ghost use Rattle.sg_phys_laws.specs.Recovers.{RecoversBy};
+
+use crate::Phys;
+use sg_base::Lsn;
+use sg_disk::Disk;
+use sg_engine::Engine;
+use sg_phys::space_fault;
+use sg_phys_laws::log_plain;
+use sg_record::Rec;
+use sg_space::SpaceFault;
+use std::alloc::Global;
+use std::snapshot::Snapshot;
+
+impl<D: Disk> Phys<D> {
+    /// Over an engine, with its disk as it was when the store was opened. It takes no memory.
+    pub fn new(alloc: Global, engine: Engine<D>, found: Snapshot<D>) -> Phys<D>
+        requires some { StandsForSome D.told false (D.view found.value) (D.view engine.disk) engine.log engine.pool }
+        ensures engine { result.engine ≡ engine }
+        ensures found { result.found ≡ found }
+        ensures whole { result.failed ≡ false }
+        ensures fresh { (result.breaks ≡ 0) × (result.records ≡ 0) }
+    {
+        let end = engine.tail();
+        Phys {
+            engine,
+            alloc,
+            failed: false,
+            end,
+            tried: 0,
+            breaks: 0,
+            records: 0,
+            found,
+        }
+    }
+
+    /// Gives its memory back, and hands back the disk. Records that weren't forced are lost.
+    pub fn into_disk(self) -> D
+        ensures { result ≡ self.engine.disk }
+    {
+        let Phys {
+            engine,
+            alloc: _,
+            failed: _,
+            end: _,
+            tried: _,
+            breaks: _,
+            records: _,
+            found: _,
+        } = self;
+        engine.into_disk()
+    }
+
+    // Appends a checkpoint, which estimates the least number from which history has to be repeated,
+    // with these live transactions: 16 bytes each, of at most 64. It isn't durable before the next
+    // force.
+    //
+    // `Disk` comes where the count of faults rose, and `LogEnd` near the log's end. It has failed then.
+    pub(crate) fn log_checkpoint(&mut self, live: &[u8]) -> Result<Lsn, SpaceFault>
+        requires most { length live.now ≤ 1024 }
+        requires rows { length live.now ≡ 16 * (length live.now / 16) }
+        ensures grows { EngineGrows (seen D.told D.view self.old) (seen D.told D.view self.new) (by 0 0 (Checkpoint 0 live.now)) result }
+        ensures means { Keeps (stands D.told D.view self.old) (stands D.told D.view self.new) }
+        ensures looks { (t : Table) (from : State) → stands D.told D.view self.old t from → EngineLooks (RecoversBy t) t (led from (seen D.told D.view self.old)) (led from (seen D.told D.view self.new)) result }
+    {
+        if self.failed {
+            self.breaks = self.breaks.saturating_add(1);
+            return Err(SpaceFault::Disk);
+        }
+        let estimate = self.engine.redo_point();
+        let record = Rec::Checkpoint { estimate, live };
+        if self.engine.place(&record) < estimate {
+            self.failed = true;
+            self.breaks = self.breaks.saturating_add(1);
+            return Err(SpaceFault::Disk);
+        }
+        match log_plain(&mut self.engine, &record, &mut self.tried) {
+            Ok(lsn) => {
+                self.end = self.engine.tail();
+                self.records += 1;
+                Ok(lsn)
+            }
+            Err(fault) => {
+                self.failed = true;
+                self.breaks = self.breaks.saturating_add(1);
+                Err(space_fault(fault))
+            }
+        }
+    }
+}

@@ -1,0 +1,4 @@
+pub mod Images
+pub mod Told
+pub mod Asked
+pub mod Seen

@@ -1,0 +1,14 @@
+//! The calls on objects over transactions and actions, as a store asks them.
+//!
+//! It stands on `sg_objects`, which does verbs over a space, on `sg_actions`, whose transactions and actions are such a
+//! space, and on `sg_shown`, which says what these show as the engine of a store. It promises of each call, clause by
+//! clause, what the store asks of its objects. A call that fails ends in an engine that tells no more.
+#![tactic(auto)]
+
+mod freeing;
+mod looks;
+mod needing;
+
+pub use freeing::free_next;
+pub use looks::{touches, touches_keys};
+pub use needing::needs;

@@ -1,0 +1,43 @@
+// What operations need.
+ghost use Rattle.std.specs.Prelude.{◌≡◌, IfErr};
+ghost use Rattle.sg_ops.specs.Table.{table_of};
+ghost use Rattle.sg_model.specs.SaidOps.{said_op};
+ghost use Rattle.sg_store.specs.Engine.{KeepsBy, AsMeantBy, AskedBy, IsEngine, Rests, Counts, IsObjDisk, IsReadFault};
+ghost use Rattle.sg_store.specs.Verbs.{Reads, CanLook, HasNeeds};
+ghost use Rattle.sg_shown.specs.Shown.{shown};
+
+use sg_actions::{Acts, Engine};
+use sg_model::Op;
+use sg_ops::Ops;
+use sg_store::{Needed, ObjFault};
+
+/// What an operation needs, or why it is refused.
+pub fn needs<E: Engine>(acts: &mut Acts<E>, ops: &Ops, op: &Op<'_>) -> Result<Needed, ObjFault>
+    requires can { AskedBy (table_of record_meaning range_meaning ops.now) (shown acts.old) (CanLook (table_of record_meaning range_meaning ops.now)) }
+    ensures counts { Counts IsObjDisk (shown acts.old) (shown acts.new) result }
+    ensures means { KeepsBy (table_of record_meaning range_meaning ops.now) (shown acts.old) (shown acts.new) }
+    ensures tail { (shown acts.new).tail ≡ (shown acts.old).tail }
+    ensures needs { let t = table_of record_meaning range_meaning ops.now in
+        AsMeantBy t (shown acts.old) (shown acts.new) (λ g v w. (o : g.O)
+        → IsEngine t g v → Reads t g v o → Rests t g v w
+        × HasNeeds t g v w o (said_op op.now) result) }
+    ensures reads { IfErr result IsReadFault }
+{
+    let was = acts.pause();
+    let done = sg_objects::needs_of(acts, ops, op);
+    acts.go_on(was);
+    match done {
+        Ok(n) => Ok(Needed {
+            pages: n.pages,
+            bands: n.bands,
+            reserve: n.reserve,
+        }),
+        Err(why) => match why {
+            sg_objects::ObjFault::Model(reason) => Err(ObjFault::Model(reason)),
+            sg_objects::ObjFault::Space(fault) => {
+                acts.stop();
+                Err(ObjFault::Space(fault))
+            }
+        },
+    }
+}
