@@ -1,5 +1,5 @@
 // The keys of a hash table.
-ghost use Rattle.std.specs.Prelude.{◌≡◌, IfOk, OnOk, IsPermutation, IsSorted, ⊤};
+ghost use Rattle.std.specs.Prelude.{◌≡◌, IfOk, OnOk, IsPermutation, IsSorted, ⊤, IfErr};
 ghost use Rattle.std.specs.Cmp.Lexicographic.{slice_cmp};
 ghost use Rattle.std.specs.Ordering.{nat_cmp};
 ghost use Rattle.sg_bucket.specs.Division.{keys_of};
@@ -25,6 +25,7 @@ fn list_keys<P: PageSpace>(
     requires { HasHashTable (P.view space.old) root.0 (λ _. ⊤) }
     ensures counts { CountsList (P.view space.old) (P.view space.new) result }
     ensures kept { OnOk result (OnlyReads (P.view space.old) (P.view space.new)) }
+    ensures memory { IfErr result (λ e. e ≡ ListFault.Memory → OnlyReads (P.view space.old) (P.view space.new)) }
     ensures read { IfOk result (λ v. IfHashTable (P.view space.old) root.0 (λ t. v.items ≡ keys_of (entries t))) }
     ensures later { (t : Table) → P.later t space.old space.new }
     ensures means { (t : Table) → P.means space.old t → P.means space.new t }
@@ -52,6 +53,7 @@ pub fn keys<P: PageSpace>(
     requires { HasHashTable (P.view space.old) root.0 (λ _. ⊤) }
     ensures counts { CountsList (P.view space.old) (P.view space.new) result }
     ensures kept { OnOk result (OnlyReads (P.view space.old) (P.view space.new)) }
+    ensures memory { IfErr result (λ e. e ≡ ListFault.Memory → OnlyReads (P.view space.old) (P.view space.new)) }
     ensures read { IfOk result (λ v. IfHashTable (P.view space.old) root.0
         (λ t. IsPermutation (keys_of (entries t)) v.items)) }
     ensures order { IfOk result (λ v. IsSorted (slice_cmp nat_cmp) v.items) }

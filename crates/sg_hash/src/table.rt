@@ -15,8 +15,9 @@ use sg_base::PageNo;
 use sg_ops::Ops;
 use sg_space::{PageSpace, SpaceFault};
 
-/// Copies the value of this key to the front of the buffer, which has room for 1,024 bytes, and says how many bytes
-/// it has; the bytes behind it stay. There is none where the table has no entry with the key.
+/// Copies the value of this key to the front of the buffer, and says how many bytes it has; the bytes behind it stay.
+/// There is none where the table has no entry with the key. The buffer has room for 1,024 bytes, the most that a value
+/// has: how many this one has isn't known before it is read, and a space that tells nothing may have any.
 pub fn find<P: PageSpace>(
     space: &mut P,
     root: PageNo,

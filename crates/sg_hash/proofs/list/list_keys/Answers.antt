@@ -1,4 +1,9 @@
-use Rattle.std.proofs.Common.{arith, ◌∙◌}
+use Rattle.std.proofs.Common.{◌≡◌, ◌∙◌, arith, rules}
+use Rattle.sg_space.specs.declared.space.ListFault.TheVariants.{Memory, Space}
+use Rattle.sg_space.specs.declared.space.ListFault.{ListFault}
+use Rattle.sg_space.specs.declared.space.SpaceFault.{SpaceFault}
+use Rattle.std.specs.Prelude.{Result, Ok, Err, IfErr}
+use Rattle.std.specs.Result.{IsErrAnd}
 use Rattle.sg_hash.proofs.Changing.{found_bucket}
 use Rattle.sg_hash.proofs.Entries.{few_buckets}
 use Rattle.sg_hash.proofs.Freeing.{all_buckets}
@@ -93,3 +98,16 @@ returns-in_err-keys-clause-later g c = λ t.
 
 pub returns-then-count-pages-clause-later : goal.returns-then-count-pages-clause-later
 returns-then-count-pages-clause-later g c = λ t. g.met.P.PageSpace.later_then t _ _ _ (c.read_root.ensures.later t) (c.broken.ensures.later t)
+
+pub returns-in_err-keys-clause-memory : goal.returns-in_err-keys-clause-memory
+returns-in_err-keys-clause-memory g c =
+    let kept = λ (e : c.in_err-keys.field-0.0 ≡ Memory). reads_then c.loop-i.invariant.so_far.kept (reads_then c.in_ok-first.ensures.kept (c.in_err-keys.ensures.memory e)) in
+    search (rules, kept)
+
+-- a fault of the space is no want of memory
+not_memory : {T : Type 0} (result : Result T ListFault) (fault : SpaceFault) (P : Type 0) → IsErrAnd result (λ e. e ≡ Space fault) → IfErr result (λ e. e ≡ Memory → P)
+not_memory (Ok done) fault P h = tt
+not_memory (Err e) fault P h = λ m. absurd (cc)
+
+pub returns-in_err-found-clause-memory : goal.returns-in_err-found-clause-memory
+returns-in_err-found-clause-memory g c = not_memory c.from_residual.result c.in_err-found.field-0.0 _ c.from_residual.ensures.1
