@@ -26,20 +26,22 @@ use Rattle.sg_reading.specs.Reading.{Thing, Tomb, Reading, objects, plain, Slot,
 use Rattle.sg_reading.specs.Reading.Thing.{There}
 use Rattle.sg_reading.specs.Back.{Undoing, UndoNote, Before, back, put_back, planned}
 use Rattle.sg_reading.specs.Back.Undoing.{WasNothing, WasMake, WasDrop, WasPush, WasPop, WasSet, WasApply, WasPut, WasOver, WasBytes}
-use Rattle.sg_reading.specs.Model.{wants_page}
-use Rattle.sg_reading.specs.Left.{done_by}
+use Rattle.sg_reading.specs.Model.{wants_page, model_cells}
+use Rattle.sg_reading.specs.Left.{done_by, tomb_cell}
 use Rattle.sg_reading.specs.Noted.{noted}
 use Rattle.sg_reading.proofs.Left.{leaves_after}
 use Rattle.sg_reading.proofs.Slotted.{get_objects}
 use Rattle.sg_space.specs.View.{Space}
 use Rattle.sg_before.proofs.Forgot.{forgot_frees}
+use Rattle.sg_recovery.proofs.Renaming.{read_frees}
+use Rattle.sg_recovery.specs.Cells.{setting_of}
 use Rattle.sg_base.specs.Sheet.{Sheet}
 use Rattle.sg_before.specs.Laying.{put_on}
 use Rattle.sg_before.specs.Forgot.{Forgets}
 use Rattle.sg_contents.specs.Standing.{Body, Contents, IsContents, AreInRange}
 use Rattle.sg_contents.specs.Meaning.{reading, tomb_at, if_tomb, tombs_of, page_total, IsCounted}
 use Rattle.sg_objects.specs.Needs.{needed, needed_back, needed_put, needed_del}
-use Rattle.sg_objects.specs.Notes.{note_bytes}
+use Rattle.sg_objects.specs.Notes.{note_bytes, note_said}
 use Rattle.sg_store.specs.Ground.{setting}
 use Rattle.sg_store.specs.Engine.{View, Action, pages_of, AreChanges}
 use Rattle.sg_reader.specs.Alike.{ReadsAs}
@@ -199,8 +201,8 @@ none_else (WasPut key) = (refl, refl)
 none_else (WasOver key value) = (refl, refl)
 none_else (WasBytes size) = (refl, refl)
 
-wanted_one : (b : Basis) (t : Operations) (n : log.Top Change UndoNote) → wants_one (setting t (ground_of b)) n ≡ one_if (wants_page n.note.undoes)
-wanted_one b t n = by (wants_page n.note.undoes)
+wanted_one : (b : Basis) (t : Operations) (n : log.Top Change (List ℕ)) → wants_one (setting t (ground_of b)) n ≡ one_if (wants_page (note_said n.note).undoes)
+wanted_one b t n = by (wants_page (note_said n.note).undoes)
   where
     by : (c : Bool) → (if c then 1 else 0) ≡ one_if c
     by true = refl
@@ -320,10 +322,10 @@ module _ (b : Basis) (t : Operations) where
   unfolding step
   step_said o name verb outcome e = ap (λ (x : Option Object). (on t verb x).0) (get_objects o name) ∙ e
 
-  nothing_made : (first : State) (a : Action (ground_of b)) (made log : List (Numbered Change UndoNote)) → AreChanges t (ground_of b) first a made log → (tally (made ++ log)).opened ≡ [] → made ≡ []
+  nothing_made : (first : State) (a : Action (ground_of b)) (made log : List (Numbered Change (List ℕ))) → AreChanges t (ground_of b) first a made log → (tally (made ++ log)).opened ≡ [] → made ≡ []
   nothing_made first a [] log h e = refl
   nothing_made first a (r ∷ ds) log h e =
-      let opened = ap (λ (is : Rattle.sg_recovery.specs.Log.Record Change UndoNote). (said r.lsn is (tally (ds ++ log))).opened) h.0.2 in
+      let opened = ap (λ (is : Rattle.sg_recovery.specs.Log.Record Change (List ℕ)). (said r.lsn is (tally (ds ++ log))).opened) h.0.2 in
       absurd (no_cons _ _ (sym e ∙ opened))
 
 module _ (b : Basis) where
@@ -350,12 +352,12 @@ module _ (b : Basis) where
   left_alone t lawful a v w old new s s' by name verb reply shows shows' h d c changed idle =
       let same = d.alone refl in
       let l = d.effect in
-      let g = ground_is_lawful b.pages b.bands b.reader b.recovery t in
+      let g = ground_is_lawful b.pages b.bands b.reader b.recovers t in
       let after = leaves_after t (pages_ground b.pages b.bands b.reader t) by name verb (reading s) (reading s') l (slot_formed old s h name).0 in
       let objects_are : objects (reading s') ≡ (step t (objects (reading s)) (On name verb)).1 = g.laws.after_objects (done_by (reading s) by name verb l.root l.bands) (reading s) (reading s') after in
-      let none : c.made ≡ [] = nothing_made b t v.first a c.made v.log c.are (subst (λ (l : List (Numbered Change UndoNote)). (tally l).opened ≡ []) changed.log idle) in
+      let none : c.made ≡ [] = nothing_made b t v.first a c.made v.log c.are (subst (λ (l : List (Numbered Change (List ℕ))). (tally l).opened ≡ []) changed.log idle) in
       record {
-        log = changed.log ∙ ap (λ (rs : List (Numbered Change UndoNote)). rs ++ v.log) none;
+        log = changed.log ∙ ap (λ (rs : List (Numbered Change (List ℕ))). rs ++ v.log) none;
         pages = shows'.free_pages ∙ (ap (λ (x : Space). x.pages.free) same.0 ∙ sym shows.free_pages);
         same = sym objects_are ∙ ap (λ (x : Contents). objects (reading x)) same.1;
       }
@@ -363,10 +365,10 @@ module _ (b : Basis) where
   pub refused_so : IsRefusedSo b
   refused_so t a v w old new s s' by name verb reason note shows shows' d c changed idle =
       let same = d.alone d.note_is in
-      let none : c.made ≡ [] = nothing_made b t v.first a c.made v.log c.are (subst (λ (l : List (Numbered Change UndoNote)). (tally l).opened ≡ []) changed.log idle) in
+      let none : c.made ≡ [] = nothing_made b t v.first a c.made v.log c.are (subst (λ (l : List (Numbered Change (List ℕ))). (tally l).opened ≡ []) changed.log idle) in
       record {
         said = step_said b t (reading s) name verb (Err reason) d.outcome_is;
-        log = changed.log ∙ ap (λ (rs : List (Numbered Change UndoNote)). rs ++ v.log) none;
+        log = changed.log ∙ ap (λ (rs : List (Numbered Change (List ℕ))). rs ++ v.log) none;
         pages = shows'.free_pages ∙ (ap (λ (x : Space). x.pages.free) same.0 ∙ sym shows.free_pages);
       }
 
@@ -387,8 +389,7 @@ module _ (b : Basis) where
         is = refl;
         now = reading s';
         reads = contents_read t w new s' shows' d.contents counted';
-        does = λ lsn undo_next. subst (λ (n : UndoNote). Rattle.sg_recovery.specs.Runs.DoesVerb (setting t (ground_of b)) (done_by (reading s) by name verb l.root l.bands) (Rattle.sg_recovery.specs.Runs.note_of (setting t (ground_of b)) lsn by undo_next n (tally w.log).opened (done_by (reading s) by name verb l.root l.bands).touches) (pages_of t (ground_of b) w) (reading s)) (sym back)
-            (left_does b.pages b.bands b.reader b.recovery t lawful old s h by name verb (reading s') reply bytes l d.outcome_is nothing (tally w.log).opened (puts l) (pages_of t (ground_of b) w) reads lsn undo_next);
+        does = λ lsn undo_next. left_does b.pages b.bands b.reader b.recovers t lawful old s h by name verb (reading s') reply bytes l d.outcome_is nothing (tally w.log).opened (puts l) (pages_of t (ground_of b) w) reads note back lsn undo_next;
         took = (let z : (b.pages - (reading s).pages) + (needed verb th).reserve ≤ (b.pages - (reading s').pages) + (needed verb th).pages = omega (arith, sum, sum', took) in z);
         buried = after_verb t by name verb (reading s) (reading s') l;
         reserves = wanted_one b t (record { lsn = 0; transaction = 0; undo_next = 0; note = (ground_of b).note note; changes = [] }) ∙ (ap (λ (n : UndoNote). one_if (wants_page n.undoes)) back ∙ wants_so verb th);
@@ -397,20 +398,20 @@ module _ (b : Basis) where
   pub reverse_possible : ReverseIsPossible b
   reverse_possible t a v space o n shows can =
       let cs = found_by (map_bands_of b.pages b.bands) n.changes in
-      let p = some_back o n.note (back t n.note.undoes cs (slot o n.note.name)) can.possible in
-      let rest = none_else n.note.undoes in
+      let p = some_back o (note_said n.note) (back t (note_said n.note).undoes cs (slot o (note_said n.note).name)) can.possible in
+      let rest = none_else (note_said n.note).undoes in
       record {
         th = p.0;
         possible = p.1;
         plain = λ other. (
-          (let found : found_of (map_bands_of b.pages b.bands) n.note n.changes ≡ [] = bytes_plain n.note.undoes cs other in
+          (let found : found_of (map_bands_of b.pages b.bands) (note_said n.note) n.changes ≡ [] = bytes_plain (note_said n.note).undoes cs other in
               let back : PutsBack [] a.pages (pages_of t (ground_of b) v) = subst (λ (f : List Before). PutsBack f a.pages (pages_of t (ground_of b) v)) found can.back in
               let same : pages_of t (ground_of b) v ≡ a.pages = λ i. record { pages = back.pages i; bands = λ k. back.bands k i } in
               ap (ground_of b).reading same ∙ can.reads),
-          sym (back_plain t n.note.undoes cs (slot o n.note.name) other) ∙ p.1,
+          sym (back_plain t (note_said n.note).undoes cs (slot o (note_said n.note).name) other) ∙ p.1,
         );
         free = record {
-          pages = (let e = wanted_one b t n in let f = wants_back n.note.undoes in let k = can.page in let z = shows.free_pages in omega (arith, e, f, k, z));
+          pages = (let e = wanted_one b t n in let f = wants_back (note_said n.note).undoes in let k = can.page in let z = shows.free_pages in omega (arith, e, f, k, z));
           bands = (let e = rest.0 in omega (arith, e));
         };
       }
@@ -430,7 +431,7 @@ module _ (b : Basis) where
         });
         same = m.2;
         put_back = λ k bytes e. (let z = some_there (a.pages.bands k) (space.bands.at k) bytes e in
-            sym (shows.part.bands k z.0) ∙ ap (λ (xs : List ℕ). Some xs) (can.back.bands k ∙ ap (λ (xs : List ℕ). put_on (found_of (map_bands_of b.pages b.bands) n.note n.changes) k xs) z.1));
+            sym (shows.part.bands k z.0) ∙ ap (λ (xs : List ℕ). Some xs) (can.back.bands k ∙ ap (λ (xs : List ℕ). put_on (found_of (map_bands_of b.pages b.bands) (note_said n.note) n.changes) k xs) z.1));
         none = λ k e. none_back (a.pages.bands k) (space.bands.at k) e;
       }
 
@@ -441,13 +442,13 @@ module _ (b : Basis) where
       let sum = counted_sum b.pages was s count counted in
       let sum' = counted_sum b.pages new s' shows'.pages counted' in
       let took = d.taken.pages in
-      let wants = wanted_one b t n ∙ wants_back n.note.undoes in
+      let wants = wanted_one b t n ∙ wants_back (note_said n.note).undoes in
       record {
-        undone = left_undone b.pages b.bands b.reader b.recovery t n (pages_of t (ground_of b) w) (reading s) (reading s') th reads possible d.leaves;
+        undone = left_undone b.pages b.bands b.reader b.recovers t n (pages_of t (ground_of b) w) (reading s) (reading s') th reads possible d.leaves;
         now = reading s';
         reads = contents_read t w new s' shows' d.contents counted';
         took = (let z : (b.pages - (reading s).pages) ≤ (b.pages - (reading s').pages) + wants_one (setting t (ground_of b)) n = omega (arith, sum, sum', took, wants) in z);
-        buried = after_undo n.note.undoes n.note.name th (reading s) (reading s') d.leaves;
+        buried = after_undo (note_said n.note).undoes (note_said n.note).name th (reading s) (reading s') d.leaves;
       }
 
   pub freed_so : IsFreedSo b
@@ -460,7 +461,7 @@ module _ (b : Basis) where
         dropper = dropped.0.dropper;
         was = record { root = row.root.0; name = row.name; tomb = dropped.0; there = dropped.1; dropper = refl; cell = refl };
         of = dropped.2;
-        freed = forgot_frees t (pages_ground b.pages b.bands b.reader t) row.name row.root.0 x (reading s) (reading s') reads f;
+        freed = read_frees (setting_of (model_cells t (pages_ground b.pages b.bands b.reader t))) (List ℕ) note_said (tomb_cell row.name row.root.0) x (reading s) (forgot_frees t (pages_ground b.pages b.bands b.reader t) row.name row.root.0 x (reading s) (reading s') reads f);
         fewer = forgets_one row.name row.root.0 s s' there.0 f there.1;
         left = after_free row.name row.root.0 (reading s) (reading s') f;
       }

@@ -12,8 +12,9 @@ use Rattle.sg_model.specs.Verb.Op.{On, Names}
 use Rattle.sg_model.specs.Touches.{touches}
 use Rattle.sg_model.proofs.Footprint.{get_put_at}
 use Rattle.sg_model.proofs.Parts.{bytes_self}
-use Rattle.sg_recovery.specs.Cells.{After}
+use Rattle.sg_recovery.specs.Cells.{After, setting_of}
 use Rattle.sg_recovery.proofs.Cells.{cells_laws}
+use Rattle.sg_recovery.proofs.Renaming.{read_laws}
 use Rattle.sg_reading.specs.Reading.{Thing, Reading, objects, plain, slot}
 use Rattle.sg_reading.specs.Reading.Thing.{There}
 use Rattle.sg_reading.specs.Did.{Did}
@@ -28,12 +29,13 @@ use Rattle.sg_contents.specs.Standing.{Contents}
 use Rattle.sg_contents.specs.Meaning.{reading}
 use Rattle.sg_store.specs.Ground.{Needs, IsLawful}
 use Rattle.sg_objects.specs.Needs.{needed, needed_put, needed_del}
+use Rattle.sg_objects.specs.Notes.{note_said}
 use Rattle.sg_reader.specs.Alike.{space_of, IsAlike}
 use Rattle.sg_reader.specs.Reader.{Reader}
 use Rattle.sg_reader.proofs.Formed.{contents_formed}
 use Rattle.sg_reader.proofs.SameReading.{alike_contents, alike_reads}
 use Rattle.sg_ground.specs.Ground.{pages_ground, ground, as_needs, needs}
-use Rattle.sg_ground.specs.Recovers.{Recovery}
+use Rattle.sg_ground.specs.Recovers.{Recovering}
 
 -- NEEDS
 record IsSmall (n : Needs) : Type 0 where
@@ -100,7 +102,7 @@ unchanged t o name verb e =
     let here : get (put_at (objects o) name new) name ≡ new = get_put_at (objects o) name new name ∙ ap (λ b. cond b new (get (objects o) name)) (bytes_self name) in
     ap (λ x. (on t verb x).1) (sym (get_objects o name)) ∙ (sym here ∙ (ap (λ (s : Objects). get s name) e ∙ get_objects o name))
 
-module _ (pages bands : ℕ) (reader : Reader pages bands) (recovery : Recovery) (t : Operations) where
+module _ (pages bands : ℕ) (reader : Reader pages bands) (recovers : Recovering) (t : Operations) where
   formed_at : (x : State) (o : Reading) → option_map reading (reader.contents x) ≡ Some o → (name : List ℕ) → IsFormed (slot o name).thing
   formed_at x o e name =
       let m = mapped reading (reader.contents x) o e in
@@ -125,9 +127,9 @@ module _ (pages bands : ℕ) (reader : Reader pages bands) (recovery : Recovery)
       let f = reader.finds y _ (alike_contents pages bands x y m.0 r k) in
       ap (option_map reading) f.1 ∙ ap Some (f.2 ∙ (alike_reads pages bands x y m.0 r k ∙ m.2))
 
-  pub ground_is_lawful : IsLawful t (ground pages bands reader recovery)
+  pub ground_is_lawful : IsLawful t (ground pages bands reader recovers)
   ground_is_lawful = record {
-    laws = cells_laws (model_cells t (pages_ground pages bands reader t)) (model_laws t (pages_ground pages bands reader t));
+    laws = read_laws (setting_of (model_cells t (pages_ground pages bands reader t))) (List ℕ) note_said (cells_laws (model_cells t (pages_ground pages bands reader t)) (model_laws t (pages_ground pages bands reader t)));
     touches = λ v o p a. a.0;
     looks = looks;
     reserves_one = λ o op. (op_small o op).one;

@@ -15,7 +15,7 @@ use Rattle.sg_record.specs.Changes.{Change}
 use Rattle.sg_recovery.specs.Log.{Top, tally, changes_of, open_of}
 use Rattle.sg_recovery.specs.Runs.{DoesFree}
 use Rattle.sg_reading.specs.Reading.{Thing, Reading, slot}
-use Rattle.sg_reading.specs.Back.{Undoing, UndoNote, back}
+use Rattle.sg_reading.specs.Back.{Undoing, back}
 use Rattle.sg_reading.specs.Left.{IsLeft}
 use Rattle.sg_reading.specs.Noted.{BringsBytes, PutsBackOf}
 use Rattle.sg_reading.specs.Left.{tomb_cell}
@@ -27,6 +27,7 @@ use Rattle.sg_contents.specs.Meaning.{reading, IsCounted}
 use Rattle.sg_objects.specs.Done.{IsDone}
 use Rattle.sg_objects.specs.Undone.{IsUndone}
 use Rattle.sg_objects.specs.Needs.{needed, needed_back, IsFree}
+use Rattle.sg_objects.specs.Notes.{note_said}
 use Rattle.sg_store.specs.Ground.{setting}
 use Rattle.sg_store.specs.Engine.{View, Action, pages_of, IsIdle, Changes, Changed}
 use Rattle.sg_serial.specs.Locks.{Touch}
@@ -87,36 +88,36 @@ IsRefusedSo b = (t : Operations) (a : Action (ground_of b)) (v w : View (ground_
 
 -- THE PREMISES of reverse, from CanReverse: the note can be undone, where it is none of bytes by what the pages now read as; and a
 -- page is free
-pub record CanBeReversed (b : Basis) (t : Operations) (v : View (ground_of b)) (space : Space) (o : Reading) (n : Top Change UndoNote) : Type 0 where
+pub record CanBeReversed (b : Basis) (t : Operations) (v : View (ground_of b)) (space : Space) (o : Reading) (n : Top Change (List ℕ)) : Type 0 where
   pub th : Option Thing
-  pub possible : back t n.note.undoes (found_by (map_bands_of b.pages b.bands) n.changes) (slot o n.note.name) ≡ Some th
-  pub plain : ((size : ℕ) → n.note.undoes ≡ Undoing.WasBytes size → ⊥) → ((ground_of b).reading (pages_of t (ground_of b) v) ≡ Some o) × (back t n.note.undoes [] (slot o n.note.name) ≡ Some th)
-  pub free : IsFree (needed_back n.note.undoes) space
+  pub possible : back t (note_said n.note).undoes (found_by (map_bands_of b.pages b.bands) n.changes) (slot o (note_said n.note).name) ≡ Some th
+  pub plain : ((size : ℕ) → (note_said n.note).undoes ≡ Undoing.WasBytes size → ⊥) → ((ground_of b).reading (pages_of t (ground_of b) v) ≡ Some o) × (back t (note_said n.note).undoes [] (slot o (note_said n.note).name) ≡ Some th)
+  pub free : IsFree (needed_back (note_said n.note).undoes) space
 
 abbrev pub ReverseIsPossible : Basis → Type 0
-ReverseIsPossible b = (t : Operations) (a : Action (ground_of b)) (v : View (ground_of b)) (space : Space) (o : Reading) (n : Top Change UndoNote) → Shows b t v space → CanReverse t (ground_of b) a v o n → CanBeReversed b t v space o n
+ReverseIsPossible b = (t : Operations) (a : Action (ground_of b)) (v : View (ground_of b)) (space : Space) (o : Reading) (n : Top Change (List ℕ)) → Shows b t v space → CanReverse t (ground_of b) a v o n → CanBeReversed b t v space o n
 
 -- A NOTE OF BYTES is undone where its action's begin was, with what it found put back: there are contents in the space with the
 -- bands as they were then, and the bands are these with the bytes put back
 abbrev pub with_bands : Space → (ℕ → List ℕ) → Space
 with_bands now bands = record now { bands = record now.bands { at = λ n. option_map (λ _. bands n) (now.bands.at n) } }
 
-pub record AreBytesBack (b : Basis) (t : Operations) (a : Action (ground_of b)) (space : Space) (o : Reading) (n : Top Change UndoNote) : Type 0 where
+pub record AreBytesBack (b : Basis) (t : Operations) (a : Action (ground_of b)) (space : Space) (o : Reading) (n : Top Change (List ℕ)) : Type 0 where
   pub contents : Contents
   pub reads : IsContents (with_bands space a.pages.bands) contents
   pub same : reading contents ≡ o
-  pub put_back : (k : ℕ) (bytes : List ℕ) → (with_bands space a.pages.bands).bands.at k ≡ Some bytes → space.bands.at k ≡ Some (put_on (found_of (map_bands_of b.pages b.bands) n.note n.changes) k bytes)
+  pub put_back : (k : ℕ) (bytes : List ℕ) → (with_bands space a.pages.bands).bands.at k ≡ Some bytes → space.bands.at k ≡ Some (put_on (found_of (map_bands_of b.pages b.bands) (note_said n.note) n.changes) k bytes)
   pub none : (k : ℕ) → (with_bands space a.pages.bands).bands.at k ≡ None → space.bands.at k ≡ None
 
 abbrev pub BytesAreBack : Basis → Type 0
-BytesAreBack b = (t : Operations) (a : Action (ground_of b)) (v : View (ground_of b)) (space : Space) (o : Reading) (n : Top Change UndoNote) → Shows b t v space
+BytesAreBack b = (t : Operations) (a : Action (ground_of b)) (v : View (ground_of b)) (space : Space) (o : Reading) (n : Top Change (List ℕ)) → Shows b t v space
     → ((s : Contents) → ReadsAs space.pages.count space.bands.count a.pages s → HasReached space (pages_of t (ground_of b) v) s) → CanReverse t (ground_of b) a v o n → AreBytesBack b t a space o n
 
 -- Reversed. For a note of bytes the first space is the one at the action's begin
 abbrev pub IsReversedSo : Basis → Type 0
-IsReversedSo b = (t : Operations) (w : View (ground_of b)) (was new : Space) (s s' : Contents) (n : Top Change UndoNote) (th : Option Thing)
-    → was.pages.count ≡ b.pages → Shows b t w new → IsCounted was s → back t n.note.undoes (found_by (map_bands_of b.pages b.bands) n.changes) (slot (reading s) n.note.name) ≡ Some th
-    → IsUndone n.note.undoes n.note.name was new s th s'
+IsReversedSo b = (t : Operations) (w : View (ground_of b)) (was new : Space) (s s' : Contents) (n : Top Change (List ℕ)) (th : Option Thing)
+    → was.pages.count ≡ b.pages → Shows b t w new → IsCounted was s → back t (note_said n.note).undoes (found_by (map_bands_of b.pages b.bands) n.changes) (slot (reading s) (note_said n.note).name) ≡ Some th
+    → IsUndone (note_said n.note).undoes (note_said n.note).name was new s th s'
     → Reversed t (ground_of b) w (reading s) n
 
 -- A TOMBSTONE THAT IS FORGOTTEN, of a dropper who was asked for, is freed in its cell; one less is buried, and no other

@@ -29,8 +29,8 @@ use Rattle.sg_objects.specs.Notes.{note_said}
 use Rattle.sg_store.specs.Ground.{Ground, Needs}
 use Rattle.sg_reader.specs.Alike.{IsAlike}
 use Rattle.sg_reader.specs.Reader.{Reader}
-use Rattle.sg_ground.specs.Changes.{meaning, comp_of}
-use Rattle.sg_ground.specs.Recovers.{Recovery, Recovers}
+use Rattle.sg_actions.specs.Changes.{meaning, comp_of}
+use Rattle.sg_ground.specs.Recovers.{Recovering}
 
 -- the bytes that some changes found in bands behind the map's, the last first
 abbrev pub found_by : (kept : ℕ) → List Change → List Before
@@ -81,33 +81,33 @@ pub record IsBuried (o : Reading) (by : ℕ) (place : List (Touch Resource)) : T
   pub dropper : tomb.dropper ≡ by
   pub cell : place ≡ tomb_cell name root
 
--- THE GROUND, with what says which images come to which log and state
-abbrev pub ground : (pages bands : ℕ) → Reader pages bands → Recovery → Ground
-ground pages bands reader recovery = record {
+-- THE GROUND, with what says which images come to which log and state. A note is its bytes, as the log holds them, and says what they say
+abbrev pub ground : (pages bands : ℕ) → Reader pages bands → Recovering → Ground
+ground pages bands reader recovers = record {
   X = State;
   C = Change;
   O = Reading;
-  N = UndoNote;
+  N = List ℕ;
   V = Did;
   apply = λ t x c. apply t x (meaning c);
   fits = λ t x c. fits t x (meaning c);
   inverse = comp_of;
   reading = λ x. option_map reading (reader.contents x);
-  unstep = λ t o n cs. unstep t o n (found_by (map_bands_of pages bands) cs);
+  unstep = λ t o n cs. unstep t o (note_said n) (found_by (map_bands_of pages bands) cs);
   free = λ o. pages - o.pages;
   buried = λ o. len o.tombs;
   Buried = IsBuried;
-  wants = λ n. wants_page n.undoes;
+  wants = λ n. wants_page (note_said n).undoes;
   objects = objects;
   op = λ v. v.op;
   touched = λ v. v.touches;
   Below = λ o p. (c : Cell) → Le c.part (at o c) (at p c);
   After = λ t. After (model_cells t (pages_ground pages bands reader t));
   Freed = λ f o p. ((c : Cell) → any_touch (writes covers) f c ≡ false → at p c ≡ at o c) × ((c : Cell) → any_touch (writes covers) f c ≡ true → not (is_tomb c.part) ≡ false);
-  can_undo = λ o n cs w. inside (note_touches o n) w;
+  can_undo = λ o n cs w. inside (note_touches o (note_said n)) w;
   needs = λ t. needs;
-  note = note_said;
-  PutsBack = λ t n cs x y. PutsBack (found_of (map_bands_of pages bands) n cs) x y;
+  note = λ bytes. bytes;
+  PutsBack = λ t n cs x y. PutsBack (found_of (map_bands_of pages bands) (note_said n) cs) x y;
   Alike = λ y x. (s : Contents) → reader.contents x ≡ Some s → IsAlike s x y;
-  Recovers = Recovers recovery;
+  Recovers = recovers;
 }

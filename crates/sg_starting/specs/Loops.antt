@@ -7,16 +7,16 @@ use Rattle.sg_recovery.specs.Log.{tally}
 use Rattle.sg_recovery.specs.Claims.{Log}
 use Rattle.sg_store.specs.Ground.{Ground, IsLawful, setting}
 use Rattle.sg_recovery.specs.Log.{Top}
-use Rattle.sg_store.specs.Engine.{View, Action, pages_of}
+use Rattle.sg_store.specs.Engine.{View, Sizes, Shown, Action, Keeps, KeepsBy, AsMeant, AsMeantBy, pages_of}
 use Rattle.sg_starting.specs.declared.losers.Greatest.{Greatest}
-use Rattle.sg_starting.specs.Starting.{IsStarting, AllStandFor, AreBelow, AreLosers, IsUndone, IsSettled, IsBest, AreBuried}
+use Rattle.sg_starting.specs.Starting.{IsStarting, AllStandFor, AreBelow, AreLosers, AreLive, AreApart, IsUndone, IsSettled, IsBest, AreBuried}
 
 -- these losers' notes have been looked at, and this is the greatest
-pub record IsFinding (g : Ground) (v w : View g) (done : List TxnId) (found : Option Greatest) : Type 0 where
-  pub stands : (t : Operations) (down : Log (setting t g)) (m : Objects) → IsLawful t g → IsStarting t g v down m → AllStandFor t g v w m
-  pub starts : (t : Operations) (down : Log (setting t g)) (m : Objects) → IsLawful t g → IsStarting t g v down m → IsStarting t g w down m
-  pub log : (t : Operations) (down : Log (setting t g)) (m : Objects) → IsLawful t g → IsStarting t g v down m → w.log ≡ v.log
-  pub best : (t : Operations) (down : Log (setting t g)) (m : Objects) → IsLawful t g → IsStarting t g v down m
+pub record IsFinding (t : Operations) (g : Ground) (v w : View g) (done : List TxnId) (found : Option Greatest) : Type 0 where
+  pub stands : (down : Log (setting t g)) (m : Objects) → IsLawful t g → IsStarting t g v down m → AllStandFor t g v w m
+  pub starts : (down : Log (setting t g)) (m : Objects) → IsLawful t g → IsStarting t g v down m → IsStarting t g w down m
+  pub log : (down : Log (setting t g)) (m : Objects) → IsLawful t g → IsStarting t g v down m → w.log ≡ v.log
+  pub best : (down : Log (setting t g)) (m : Objects) → IsLawful t g → IsStarting t g v down m
       → IsBest (tally v.log).notes done found
   pub later : v.faults ≤ w.faults
   pub tail : v.tail ≤ w.tail
@@ -29,20 +29,22 @@ pub record IsUndoing (t : Operations) (g : Ground) (v w : View g) (those : List 
       → AreLosers (tally v.log).live those → IsStarting t g w down m
   pub below : (down : Log (setting t g)) (m : Objects) → IsLawful t g → IsStarting t g v down m
       → AreLosers (tally v.log).live those → AreBelow at (tally w.log).notes
-  pub losers : (down : Log (setting t g)) (m : Objects) → IsLawful t g → IsStarting t g v down m
-      → AreLosers (tally v.log).live those → AreLosers (tally w.log).live those
+  pub lives : (down : Log (setting t g)) (m : Objects) → IsLawful t g → IsStarting t g v down m
+      → AreLosers (tally v.log).live those → (tally w.log).live ≡ (tally v.log).live
   pub later : v.faults ≤ w.faults
   pub tail : v.tail ≤ w.tail
 
 -- the losers but these have been ended
-pub record IsEnding (g : Ground) (v w : View g) (those left : List TxnId) : Type 0 where
-  pub stands : (t : Operations) (down : Log (setting t g)) (m : Objects) → IsLawful t g → IsStarting t g v down m → IsUndone v
+pub record IsEnding (t : Operations) (g : Ground) (v w : View g) (those left : List TxnId) : Type 0 where
+  pub stands : (down : Log (setting t g)) (m : Objects) → IsLawful t g → IsStarting t g v down m → IsUndone v
       → AllStandFor t g v w m
-  pub starts : (t : Operations) (down : Log (setting t g)) (m : Objects) → IsLawful t g → IsStarting t g v down m → IsUndone v
+  pub starts : (down : Log (setting t g)) (m : Objects) → IsLawful t g → IsStarting t g v down m → IsUndone v
       → IsStarting t g w down m
-  pub undone : (t : Operations) (down : Log (setting t g)) (m : Objects) → IsLawful t g → IsStarting t g v down m → IsUndone v → IsUndone w
-  pub losers : (t : Operations) (down : Log (setting t g)) (m : Objects) → IsLawful t g → IsStarting t g v down m → IsUndone v
+  pub undone : (down : Log (setting t g)) (m : Objects) → IsLawful t g → IsStarting t g v down m → IsUndone v → IsUndone w
+  pub losers : (down : Log (setting t g)) (m : Objects) → IsLawful t g → IsStarting t g v down m → IsUndone v
       → AreLosers (tally v.log).live those → AreLosers (tally w.log).live left
+  pub going : (down : Log (setting t g)) (m : Objects) → IsLawful t g → IsStarting t g v down m → IsUndone v
+      → AreApart those → AreLive (tally v.log).live those → AreLive (tally w.log).live left
   pub later : v.faults ≤ w.faults
   pub tail : v.tail ≤ w.tail
 
@@ -61,3 +63,21 @@ pub record IsFreeing (t : Operations) (g : Ground) (v w : View g) (most freed : 
       → AreBuried t g v most → (p : g.O) → g.reading (pages_of t g w) ≡ Some p → g.buried p + freed ≤ most
   pub later : v.faults ≤ w.faults
   pub tail : v.tail ≤ w.tail
+
+-- A LOOP SO FAR, from an engine on: what each pass keeps, and what has been done
+pub record Since {basis : Sizes → Ground} (old now : Shown basis) (P : (t : Operations) (g : Ground) → (v w : View g) → Type 0) : Type 0 where
+  pub means : Keeps old now
+  pub told : now.Told → old.Told
+  pub tells : old.Told → now.Told
+  pub later : old.faults ≤ now.faults
+  pub tail : old.tail ≤ now.tail
+  pub done : AsMeant old now P
+
+-- the same of a loop that is given the operations
+pub record SinceBy {basis : Sizes → Ground} (t : Operations) (old now : Shown basis) (P : (g : Ground) → (v w : View g) → Type 0) : Type 0 where
+  pub means : KeepsBy t old now
+  pub told : now.Told → old.Told
+  pub tells : old.Told → now.Told
+  pub later : old.faults ≤ now.faults
+  pub tail : old.tail ≤ now.tail
+  pub done : AsMeantBy t old now P

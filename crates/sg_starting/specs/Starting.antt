@@ -5,17 +5,19 @@ use Rattle.sg_ops.specs.Table.{Table as Operations}
 use Rattle.sg_base.specs.declared.numbers.TxnId.{TxnId}
 use Rattle.sg_model.specs.Objects.{Objects}
 use Rattle.sg_recovery.specs.Setting.{Setting}
-use Rattle.sg_recovery.specs.Log.{Top, tally, notes_of, is_in}
+use Rattle.sg_recovery.specs.Log.{Top, Numbered, tally, notes_of, is_in}
 use Rattle.sg_recovery.specs.Laws.{Each}
-use Rattle.sg_recovery.specs.Stands.{StandsFor as LogStands}
+use Rattle.sg_recovery.specs.Stands.{all_off, settled, StandsFor as LogStands}
 use Rattle.sg_recovery.specs.Opens.{AreOpening}
 use Rattle.sg_recovery.specs.Claims.{Log}
-use Rattle.sg_recovery.specs.Chains.{next_lsn}
+use Rattle.sg_recovery.specs.Chains.{next_lsn, last_of, border_of}
 use Rattle.sg_recovery.specs.Formed.{IsLog}
 use Rattle.sg_join.specs.Join.{Grows}
-use Rattle.sg_store.specs.Ground.{Ground, setting}
-use Rattle.sg_store.specs.Engine.{View, IsEngine, IsIdle, pages_of, IsImageOf}
+use Rattle.sg_store.specs.Ground.{Ground, IsLawful, setting}
+use Rattle.sg_store.specs.Engine.{View, IsEngine, IsIdle, pages_of, IsImageOf, IsDiskFault, IsNearEnd}
 use Rattle.sg_starting.specs.declared.losers.Greatest.{Greatest}
+use Rattle.sg_starting.specs.declared.opening.StartFault.{StartFault}
+use Rattle.sg_starting.specs.declared.opening.StartFault.TheVariants.{Space, Broken, Memory}
 use Rattle.sg_store.specs.Stands.{StandsFor}
 
 -- the log has come from the one that was found, by steps of an opening
@@ -75,13 +77,22 @@ pub record IsFound (t : Operations) (g : Ground) (v : View g) : Type 0 where
   pub durable : v.durable ≡ v.log
   pub images : (c : Image) → Leaves v.disk.now c → IsImageOf t g v v.log c
 
+-- the pages read as this once what the unfinished action did is taken off
+abbrev pub IsRead : (t : Operations) (g : Ground) (v : View g) → g.O → Type 0
+IsRead t g v o = settled (setting t g) (tally v.log).opened (pages_of t g v) ≡ Some o
+
+-- no action is without an end: the last record of each transaction ends one, or is none of an action
+abbrev pub AreEnded : {C N : Type 0} → List (Numbered C N) → Type 0
+AreEnded log = (u : ℕ) → last_of u log ≡ border_of u log
+
 -- THE UNFINISHED ACTION IS TAKEN OFF, also where the call fails: by phys-comps and a top-void, in the call and after it each image has a front
--- of the log with these
+-- of the log with these. Where no action is without an end there are none
 pub record TakesOff (t : Operations) (g : Ground) (old new : View g) : Type 0 where
   pub made : Log (setting t g)
   pub steps : AreOpening (setting t g) old.first made old.log
   pub formed : IsLog old.base (made ++ old.log)
   pub moments : LeavesOnly old.disk new.disk (IsImageOf t g old (made ++ old.log))
+  pub owed : AreEnded old.log → made ≡ []
 
 -- and it was. Each page is free then that the reading doesn't reach
 pub record TakenOff (t : Operations) (g : Ground) (old new : View g) (made : Log (setting t g)) : Type 0 where
@@ -112,3 +123,109 @@ pub record IsSettled {g : Ground} (v : View g) : Type 0 where
 abbrev pub oldest_first : List ℕ → List ℕ
 oldest_first [] = []
 oldest_first (t ∷ ts) = oldest_first ts ++ t ∷ []
+
+-- each of these transactions goes on
+abbrev pub AreLive : List ℕ → List TxnId → Type 0
+AreLive live losers = (u : ℕ) → IsAmong u losers → is_in u live ≡ true
+
+-- none of these is there twice
+abbrev pub AreApart : List TxnId → Type 0
+AreApart [] = Unit {0}
+AreApart (x ∷ xs) = (IsAmong x.0 xs → ⊥) × AreApart xs
+
+-- WHAT IS ASKED OF A CALLER where the engine tells. It is being opened
+pub record Opening (t : Operations) (g : Ground) (v : View g) : Type 0 where
+  pub lawful : IsLawful t g
+  pub down : Log (setting t g)
+  pub objects : Objects
+  pub starts : IsStarting t g v down objects
+
+-- and these transactions go on
+pub record OpeningOver (losers : List TxnId) (t : Operations) (g : Ground) (v : View g) : Type 0 where
+  pub opening : Opening t g v
+  pub live : AreLive (tally v.log).live losers
+
+-- and they are all that go on
+pub record OpeningWith (losers : List TxnId) (t : Operations) (g : Ground) (v : View g) : Type 0 where
+  pub over : OpeningOver losers t g v
+  pub cover : AreLosers (tally v.log).live losers
+  pub apart : AreApart losers
+
+-- the greatest standing note of all is this transaction's
+pub record OpeningAt (u : ℕ) (t : Operations) (g : Ground) (v : View g) : Type 0 where
+  pub opening : Opening t g v
+  pub top : Top g.C g.N
+  pub rest : List (Top g.C g.N)
+  pub notes : (tally v.log).notes ≡ top ∷ rest
+  pub own : top.transaction ≡ u
+
+-- nothing is left to undo, and these transactions go on, each once
+pub record OpeningUndone (losers : List TxnId) (t : Operations) (g : Ground) (v : View g) : Type 0 where
+  pub over : OpeningOver losers t g v
+  pub apart : AreApart losers
+  pub undone : IsUndone v
+
+-- and no transaction goes on
+pub record OpeningSettled (t : Operations) (g : Ground) (v : View g) : Type 0 where
+  pub opening : Opening t g v
+  pub settled : IsSettled v
+
+-- WHAT IS ASKED OF THE OPENING OF A PAGE ENGINE: its end, and that what the unfinished action did can be taken off
+pub record CanResume (t : Operations) (g : Ground) (v : View g) : Type 0 where
+  pub found : IsFound t g v
+  pub off : (x : g.X) × (all_off (setting t g) (tally v.log).opened (pages_of t g v) ≡ Some x)
+
+-- and where its pages read as objects then, its log stands for some
+pub record IsOpened (t : Operations) (g : Ground) (v : View g) : Type 0 where
+  pub can : CanResume t g v
+  pub stood : (o : g.O) → IsRead t g v o → ((m : Objects) × LogStands (setting t g) v.first v.log m)
+
+-- with these losers
+pub record IsOpenedWith (losers : List TxnId) (t : Operations) (g : Ground) (v : View g) : Type 0 where
+  pub lawful : IsLawful t g
+  pub opened : IsOpened t g v
+  pub live : AreLive (tally v.log).live losers
+  pub cover : AreLosers (tally v.log).live losers
+  pub apart : AreApart losers
+
+-- WHY AN OPENING GIVES NO STORE. A call of the disk failed
+abbrev pub IsStartDisk : StartFault → Type 0
+IsStartDisk (Space fault) = IsDiskFault fault
+IsStartDisk (Broken page) = ⊥
+IsStartDisk Memory = ⊥
+
+-- a record is refused for the log's end only where it might pass that
+abbrev pub IsStartEnd : (tail : ℕ) → StartFault → Type 0
+IsStartEnd tail (Space fault) = IsNearEnd tail fault
+IsStartEnd tail (Broken page) = Unit {0}
+IsStartEnd tail Memory = Unit {0}
+
+-- a page is broken: this holds then
+abbrev pub IfBroken : StartFault → Type 0 → Type 0
+IfBroken (Space fault) P = Unit {0}
+IfBroken (Broken page) P = P
+IfBroken Memory P = Unit {0}
+
+-- the answer is one of the engine, or says that a page is broken
+abbrev pub IsOfEngine : StartFault → Type 0
+IsOfEngine (Space fault) = Unit {0}
+IsOfEngine (Broken page) = Unit {0}
+IsOfEngine Memory = ⊥
+
+-- the pages read as no objects, and the log stands for none
+pub record IsUnread (t : Operations) (g : Ground) (v : View g) : Type 0 where
+  pub none : (o : g.O) → IsRead t g v o → ⊥
+  pub stands : (m : Objects) → LogStands (setting t g) v.first v.log m → ⊥
+
+-- an image comes to at most one log and one state of its pages
+abbrev pub ComesToOne : (t : Operations) (g : Ground) → Type 0
+ComesToOne t g = (c : Image) (log other : List (Numbered g.C g.N)) (x y : g.X) → g.Recovers t c log x → g.Recovers t c other y
+    → (log ≡ other) × (x ≡ y)
+
+-- no image that a crash now leaves stands for any objects
+abbrev pub StandsForNone : (t : Operations) (g : Ground) → View g → Type 0
+StandsForNone t g v = (c : Image) → Leaves v.disk.now c → (m : Objects) → StandsFor t g c m → ⊥
+
+-- NOTHING IS APPENDED: each image of each moment has the log that was found
+abbrev pub AppendsNothing : (t : Operations) (g : Ground) → (old new : View g) → Type 0
+AppendsNothing t g old new = LeavesOnly old.disk new.disk (IsImageOf t g old old.log)

@@ -7,10 +7,12 @@
 //! begins with these objects, with nothing buried. Each call returns on any engine.
 #![tactic(auto)]
 
+mod attaching;
 mod laws;
 mod losers;
 mod opening;
 
+pub use attaching::attach;
 pub use laws::losers_cover;
 pub use losers::{Greatest, end_losers, settle_losers, undo_losers};
-pub use opening::{Reopens, start_store};
+pub use opening::{Reopens, StartFault, Unstarted, start_store};

@@ -1,13 +1,13 @@
 // The losers of a log are undone and ended.
 ghost use Rattle.std.specs.Prelude.{◌≡◌, ◌≤◌, ◌<◌, ℕ, List, [], ◌∷◌, Option, Some, None, OnOk, IfOk, IfErr};
 ghost use Rattle.sg_base.specs.Ends.{HasRisen};
-ghost use Rattle.sg_ops.specs.Table.{Table as Operations, table_of};
+ghost use Rattle.sg_ops.specs.Table.{table_of};
 ghost use Rattle.sg_model.specs.Objects.{Objects as Model};
 ghost use Rattle.sg_recovery.specs.Log.{Top, tally};
 ghost use Rattle.sg_recovery.specs.Claims.{Log};
 ghost use Rattle.sg_store.specs.Ground.{IsLawful, setting};
-ghost use Rattle.sg_store.specs.Engine.{IsDiskFault, IsNearEnd};
-ghost use Rattle.sg_starting.specs.Starting.{IsStarting, AllStandFor, AreBelow, AreLosers, IsUndone, IsSettled, IsBest, greater};
+ghost use Rattle.sg_store.specs.Engine.{Keeps, KeepsBy, AsMeant, AsMeantBy, Asked, AskedBy, IsDiskFault, IsNearEnd};
+ghost use Rattle.sg_starting.specs.Starting.{IsStarting, AllStandFor, AreBelow, AreLosers, IsUndone, IsSettled, IsBest, greater, OpeningOver, OpeningWith, OpeningAt, OpeningUndone};
 
 use sg_base::{Lsn, TxnId};
 use sg_ops::Ops;
@@ -46,16 +46,18 @@ fn find_greatest<E: Objects>(
     engine: &mut E,
     losers: &[TxnId],
 ) -> Result<Option<Greatest>, SpaceFault>
-    ensures stands { let v = E.view engine.old in
-        (t : Operations) (down : Log (setting t E.basis)) (m : Model) → IsLawful t E.basis
-        → IsStarting t E.basis v down m → AllStandFor t E.basis v (E.view engine.new) m }
-    ensures finds { let v = E.view engine.old in let w = E.view engine.new in
-        (t : Operations) (down : Log (setting t E.basis)) (m : Model) → IsLawful t E.basis
-        → IsStarting t E.basis v down m → IfOk result (λ r. IsStarting t E.basis w down m
-        × (w.log ≡ v.log) × IsBest (tally v.log).notes losers.now r) }
+    requires can { Asked (E.view engine.old) (OpeningOver losers.now) }
+    ensures means { Keeps (E.view engine.old) (E.view engine.new) }
+    ensures told { (E.view engine.new).Told → (E.view engine.old).Told }
+    ensures tells { OnOk result ((E.view engine.old).Told → (E.view engine.new).Told) }
+    ensures stands { AsMeant (E.view engine.old) (E.view engine.new) (λ t g v w. (down : Log (setting t g)) (m : Model)
+        → IsLawful t g → IsStarting t g v down m → AllStandFor t g v w m) }
+    ensures finds { AsMeant (E.view engine.old) (E.view engine.new) (λ t g v w. (down : Log (setting t g)) (m : Model)
+        → IsLawful t g → IsStarting t g v down m → IfOk result (λ r. IsStarting t g w down m
+        × (w.log ≡ v.log) × IsBest (tally v.log).notes losers.now r)) }
     ensures failed { IfErr result (λ e. IsDiskFault e
         → HasRisen (E.view engine.old).faults (E.view engine.new).faults) }
-    ensures log_end { IfErr result (IsNearEnd (E.view engine.new)) }
+    ensures log_end { IfErr result (IsNearEnd (E.view engine.new).tail) }
     ensures later { (E.view engine.old).faults ≤ (E.view engine.new).faults }
     ensures tail { (E.view engine.old).tail ≤ (E.view engine.new).tail }
 {
@@ -76,20 +78,22 @@ fn undo_greatest<E: Objects>(
     txn: TxnId,
     note: &mut UndoNote,
 ) -> Result<(), SpaceFault>
-    ensures stands { let t = table_of record_meaning range_meaning ops.now in let v = E.view engine.old in
-        (down : Log (setting t E.basis)) (m : Model) (n : Top E.basis.C E.basis.N) (rest : List (Top E.basis.C E.basis.N))
-        → IsLawful t E.basis → IsStarting t E.basis v down m → (tally v.log).notes ≡ n ∷ rest
-        → n.transaction ≡ txn.0 → AllStandFor t E.basis v (E.view engine.new) m }
+    requires can { let t = table_of record_meaning range_meaning ops.now in AskedBy t (E.view engine.old) (OpeningAt txn.0 t) }
+    ensures means { KeepsBy (table_of record_meaning range_meaning ops.now) (E.view engine.old) (E.view engine.new) }
+    ensures told { (E.view engine.new).Told → (E.view engine.old).Told }
+    ensures tells { OnOk result ((E.view engine.old).Told → (E.view engine.new).Told) }
+    ensures stands { let t = table_of record_meaning range_meaning ops.now in
+        AsMeantBy t (E.view engine.old) (E.view engine.new) (λ g v w. (down : Log (setting t g)) (m : Model) (n : Top g.C g.N) (rest : List (Top g.C g.N))
+        → IsLawful t g → IsStarting t g v down m → (tally v.log).notes ≡ n ∷ rest
+        → n.transaction ≡ txn.0 → AllStandFor t g v w m) }
     ensures undone { let t = table_of record_meaning range_meaning ops.now in
-        let v = E.view engine.old in
-        let w = E.view engine.new in
-        (down : Log (setting t E.basis)) (m : Model) (n : Top E.basis.C E.basis.N) (rest : List (Top E.basis.C E.basis.N))
-        → IsLawful t E.basis → IsStarting t E.basis v down m → (tally v.log).notes ≡ n ∷ rest
-        → n.transaction ≡ txn.0 → OnOk result (IsStarting t E.basis w down m
-        × AreBelow n.lsn (tally w.log).notes × ((tally w.log).live ≡ (tally v.log).live)) }
+        AsMeantBy t (E.view engine.old) (E.view engine.new) (λ g v w. (down : Log (setting t g)) (m : Model) (n : Top g.C g.N) (rest : List (Top g.C g.N))
+        → IsLawful t g → IsStarting t g v down m → (tally v.log).notes ≡ n ∷ rest
+        → n.transaction ≡ txn.0 → OnOk result (IsStarting t g w down m
+        × AreBelow n.lsn (tally w.log).notes × ((tally w.log).live ≡ (tally v.log).live))) }
     ensures failed { IfErr result (λ e. IsDiskFault e
         → HasRisen (E.view engine.old).faults (E.view engine.new).faults) }
-    ensures log_end { IfErr result (IsNearEnd (E.view engine.new)) }
+    ensures log_end { IfErr result (IsNearEnd (E.view engine.new).tail) }
     ensures later { (E.view engine.old).faults ≤ (E.view engine.new).faults }
     ensures tail { (E.view engine.old).tail ≤ (E.view engine.new).tail }
 {
@@ -112,20 +116,21 @@ pub fn undo_losers<E: Objects>(
     losers: &[TxnId],
     note: &mut UndoNote,
 ) -> Result<(), SpaceFault>
-    ensures stands { let t = table_of record_meaning range_meaning ops.now in let v = E.view engine.old in
-        (down : Log (setting t E.basis)) (m : Model) → IsLawful t E.basis
-        → IsStarting t E.basis v down m → AreLosers (tally v.log).live losers.now
-        → AllStandFor t E.basis v (E.view engine.new) m }
+    requires can { let t = table_of record_meaning range_meaning ops.now in AskedBy t (E.view engine.old) (OpeningWith losers.now t) }
+    ensures means { KeepsBy (table_of record_meaning range_meaning ops.now) (E.view engine.old) (E.view engine.new) }
+    ensures told { (E.view engine.new).Told → (E.view engine.old).Told }
+    ensures tells { OnOk result ((E.view engine.old).Told → (E.view engine.new).Told) }
+    ensures stands { let t = table_of record_meaning range_meaning ops.now in
+        AsMeantBy t (E.view engine.old) (E.view engine.new) (λ g v w. (down : Log (setting t g)) (m : Model)
+        → IsLawful t g → IsStarting t g v down m → AreLosers (tally v.log).live losers.now
+        → AllStandFor t g v w m) }
     ensures undone { let t = table_of record_meaning range_meaning ops.now in
-        let v = E.view engine.old in
-        let w = E.view engine.new in
-        (down : Log (setting t E.basis)) (m : Model) → IsLawful t E.basis
-        → IsStarting t E.basis v down m → AreLosers (tally v.log).live losers.now
-        → OnOk result (IsStarting t E.basis w down m × IsUndone w
-        × AreLosers (tally w.log).live losers.now) }
+        AsMeantBy t (E.view engine.old) (E.view engine.new) (λ g v w. (down : Log (setting t g)) (m : Model)
+        → IsLawful t g → IsStarting t g v down m → AreLosers (tally v.log).live losers.now
+        → OnOk result (IsStarting t g w down m × IsUndone w × ((tally w.log).live ≡ (tally v.log).live))) }
     ensures failed { IfErr result (λ e. IsDiskFault e
         → HasRisen (E.view engine.old).faults (E.view engine.new).faults) }
-    ensures log_end { IfErr result (IsNearEnd (E.view engine.new)) }
+    ensures log_end { IfErr result (IsNearEnd (E.view engine.new).tail) }
     ensures later { (E.view engine.old).faults ≤ (E.view engine.new).faults }
     ensures tail { (E.view engine.old).tail ≤ (E.view engine.new).tail }
 {
@@ -148,16 +153,18 @@ pub fn undo_losers<E: Objects>(
 
 /// Ends the losers, in order of begin, of which nothing is left to undo.
 pub fn end_losers<E: Objects>(engine: &mut E, losers: &[TxnId]) -> Result<(), SpaceFault>
-    ensures stands { let v = E.view engine.old in
-        (t : Operations) (down : Log (setting t E.basis)) (m : Model) → IsLawful t E.basis
-        → IsStarting t E.basis v down m → IsUndone v → AllStandFor t E.basis v (E.view engine.new) m }
-    ensures ended { let v = E.view engine.old in let w = E.view engine.new in
-        (t : Operations) (down : Log (setting t E.basis)) (m : Model) → IsLawful t E.basis
-        → IsStarting t E.basis v down m → IsUndone v → AreLosers (tally v.log).live losers.now
-        → OnOk result (IsStarting t E.basis w down m × IsUndone w × ((tally w.log).live ≡ [])) }
+    requires can { Asked (E.view engine.old) (OpeningUndone losers.now) }
+    ensures means { Keeps (E.view engine.old) (E.view engine.new) }
+    ensures told { (E.view engine.new).Told → (E.view engine.old).Told }
+    ensures tells { OnOk result ((E.view engine.old).Told → (E.view engine.new).Told) }
+    ensures stands { AsMeant (E.view engine.old) (E.view engine.new) (λ t g v w. (down : Log (setting t g)) (m : Model)
+        → IsLawful t g → IsStarting t g v down m → IsUndone v → AllStandFor t g v w m) }
+    ensures ended { AsMeant (E.view engine.old) (E.view engine.new) (λ t g v w. (down : Log (setting t g)) (m : Model)
+        → IsLawful t g → IsStarting t g v down m → IsUndone v → AreLosers (tally v.log).live losers.now
+        → OnOk result (IsStarting t g w down m × IsUndone w × ((tally w.log).live ≡ []))) }
     ensures failed { IfErr result (λ e. IsDiskFault e
         → HasRisen (E.view engine.old).faults (E.view engine.new).faults) }
-    ensures log_end { IfErr result (IsNearEnd (E.view engine.new)) }
+    ensures log_end { IfErr result (IsNearEnd (E.view engine.new).tail) }
     ensures later { (E.view engine.old).faults ≤ (E.view engine.new).faults }
     ensures tail { (E.view engine.old).tail ≤ (E.view engine.new).tail }
 {
@@ -181,19 +188,21 @@ pub fn settle_losers<E: Objects>(
     losers: &[TxnId],
     note: &mut UndoNote,
 ) -> Result<(), SpaceFault>
-    ensures stands { let t = table_of record_meaning range_meaning ops.now in let v = E.view engine.old in
-        (down : Log (setting t E.basis)) (m : Model) → IsLawful t E.basis
-        → IsStarting t E.basis v down m → AreLosers (tally v.log).live losers.now
-        → AllStandFor t E.basis v (E.view engine.new) m }
+    requires can { let t = table_of record_meaning range_meaning ops.now in AskedBy t (E.view engine.old) (OpeningWith losers.now t) }
+    ensures means { KeepsBy (table_of record_meaning range_meaning ops.now) (E.view engine.old) (E.view engine.new) }
+    ensures told { (E.view engine.new).Told → (E.view engine.old).Told }
+    ensures tells { OnOk result ((E.view engine.old).Told → (E.view engine.new).Told) }
+    ensures stands { let t = table_of record_meaning range_meaning ops.now in
+        AsMeantBy t (E.view engine.old) (E.view engine.new) (λ g v w. (down : Log (setting t g)) (m : Model)
+        → IsLawful t g → IsStarting t g v down m → AreLosers (tally v.log).live losers.now
+        → AllStandFor t g v w m) }
     ensures shows { let t = table_of record_meaning range_meaning ops.now in
-        let v = E.view engine.old in
-        let w = E.view engine.new in
-        (down : Log (setting t E.basis)) (m : Model) → IsLawful t E.basis
-        → IsStarting t E.basis v down m → AreLosers (tally v.log).live losers.now
-        → OnOk result (IsStarting t E.basis w down m × IsSettled w) }
+        AsMeantBy t (E.view engine.old) (E.view engine.new) (λ g v w. (down : Log (setting t g)) (m : Model)
+        → IsLawful t g → IsStarting t g v down m → AreLosers (tally v.log).live losers.now
+        → OnOk result (IsStarting t g w down m × IsSettled w)) }
     ensures failed { IfErr result (λ e. IsDiskFault e
         → HasRisen (E.view engine.old).faults (E.view engine.new).faults) }
-    ensures log_end { IfErr result (IsNearEnd (E.view engine.new)) }
+    ensures log_end { IfErr result (IsNearEnd (E.view engine.new).tail) }
     ensures later { (E.view engine.old).faults ≤ (E.view engine.new).faults }
     ensures tail { (E.view engine.old).tail ≤ (E.view engine.new).tail }
 {

@@ -1,58 +1,93 @@
 // All steps behind the page engine's opening.
-ghost use Rattle.std.specs.Prelude.{◌≡◌, ◌≤◌, ℕ, List, [], Some, None, OnOk, IfOk, IfErr};
+ghost use Rattle.std.specs.Prelude.{◌≡◌, ◌≤◌, ℕ, List, [], Some, None, Ok, Err, OnOk, IfOk, IfErr};
 ghost use Rattle.sg_base.specs.Ends.{HasRisen};
 ghost use Rattle.sg_ops.specs.Table.{table_of};
 ghost use Rattle.sg_model.specs.Objects.{Objects as Model};
 ghost use Rattle.sg_recovery.specs.Log.{tally};
-ghost use Rattle.sg_recovery.specs.Stands.{StandsFor as LogStands};
 ghost use Rattle.sg_recovery.specs.Claims.{Log};
 ghost use Rattle.sg_run.specs.Run.{start};
 ghost use Rattle.sg_store.specs.Ground.{IsLawful, setting};
-ghost use Rattle.sg_store.specs.Engine.{Action, IsEngine, IsIdle, pages_of, Changes, Rests, Rested, Counts, IsDiskFault, IsNearEnd};
-ghost use Rattle.sg_store.specs.Verbs.{Reads};
+ghost use Rattle.sg_store.specs.Engine.{KeepsBy, AsMeantBy, AskedBy, IsEngine, Rests, Rested, Counts, IsDiskFault, IsNearEnd};
+ghost use Rattle.sg_store.specs.Verbs.{Reads, CanLook};
 ghost use Rattle.sg_store.specs.Store.{Shows};
-ghost use Rattle.sg_starting.specs.Starting.{IsStarting, AllStandFor, AreLosers, IsSettled, IsFound, TakesOff, TakenOff, AreFewer, AreBuried};
+ghost use Rattle.sg_starting.specs.Starting.{IsStarting, AllStandFor, AreLosers, IsSettled, IsFound, CanResume, IsRead, TakesOff, TakenOff, AreFewer, AreBuried, OpeningWith, OpeningSettled, IsStartDisk, IsStartEnd, IsOfEngine, IfBroken};
 
 use crate::losers::settle_losers;
-use sg_base::TxnId;
+use sg_base::{PageNo, TxnId};
 use sg_ops::Ops;
 use sg_space::{SpaceFault, UndoNote};
 use sg_store::Objects;
 
+/// Why a store wasn't brought to its first line.
+#[derive(Clone, Copy, Debug, PartialEq, Eq)]
+pub enum StartFault {
+    /// A call of the engine failed.
+    Space(SpaceFault),
+    /// The pages don't read as objects: this one is wrong, or it names what can't be.
+    Broken(PageNo),
+    /// Memory was refused, once all was undone that had to be.
+    Memory,
+}
+
+/// The engine, handed back, and why.
+pub struct Unstarted<E> {
+    pub why: StartFault,
+    pub engine: E,
+}
+
 /// What opening asks of an engine with objects besides.
 pub trait Reopens: Objects {
-    /// Takes off what an action did that has no end, and counts then what is free.
-    fn resume(&mut self, ops: &Ops) -> Result<(), SpaceFault>
-        ensures counts { Counts IsDiskFault (Self.view self.old) (Self.view self.new) result }
-        ensures log_end { IfErr result (IsNearEnd (Self.view self.new)) }
-        ensures takes { let v = Self.view self.old in let w = Self.view self.new in
-            let t = table_of record_meaning range_meaning ops.now in IsFound t Self.basis v
-            → (c : TakesOff t Self.basis v w) × OnOk result (TakenOff t Self.basis v w c.made) };
+    /// Takes off what an action did that has no end, goes over all that the objects reach, and counts
+    /// then what is free. `Broken` where the pages don't read as objects then.
+    fn resume(self, ops: &Ops) -> Result<Self, Unstarted<Self>>
+        requires can { let t = table_of record_meaning range_meaning ops.now in AskedBy t (Self.opened self) (CanResume t) }
+        ensures done { IfOk result (λ e. Counts IsStartDisk (Self.opened self) (Self.view e) (Ok e)) }
+        ensures failed { IfErr result (λ u. Counts {T = Self} IsStartDisk (Self.opened self) (Self.view u.engine) (Err u.why)) }
+        ensures means { IfOk result (λ e. KeepsBy (table_of record_meaning range_meaning ops.now) (Self.opened self) (Self.view e)) }
+        ensures log_end { IfErr result (λ u. IsStartEnd (Self.view u.engine).tail u.why) }
+        ensures answer { IfErr result (λ u. IsOfEngine u.why) }
+        ensures takes { let t = table_of record_meaning range_meaning ops.now in
+            IfOk result (λ e. AsMeantBy t (Self.opened self) (Self.view e) (λ g v w. IsFound t g v
+            → (c : TakesOff t g v w) × TakenOff t g v w c.made)) }
+        ensures refused { let t = table_of record_meaning range_meaning ops.now in
+            IfErr result (λ u. AsMeantBy t (Self.opened self) (Self.view u.engine) (λ g v w. IsFound t g v
+            → TakesOff t g v w)) }
+        // It is done only where the pages read as objects, and a page is broken only where they don't.
+        ensures reads { let t = table_of record_meaning range_meaning ops.now in
+            IfOk result (λ e. AsMeantBy t (Self.opened self) (Self.view e) (λ g v w. IsFound t g v
+            → (o : g.O) × IsRead t g v o)) }
+        ensures broken { let t = table_of record_meaning range_meaning ops.now in
+            IfErr result (λ u. IfBroken u.why (AsMeantBy t (Self.opened self) (Self.view u.engine) (λ g v w. IsFound t g v
+            → (o : g.O) → IsRead t g v o → ⊥))) };
 
     /// How many things are buried.
     fn buried(&mut self, ops: &Ops) -> Result<u32, SpaceFault>
+        requires can { let t = table_of record_meaning range_meaning ops.now in AskedBy t (Self.view self.old) (CanLook t) }
         ensures counts { Counts IsDiskFault (Self.view self.old) (Self.view self.new) result }
+        ensures means { KeepsBy (table_of record_meaning range_meaning ops.now) (Self.view self.old) (Self.view self.new) }
         ensures reads { IfErr result IsDiskFault }
-        ensures counted { let v = Self.view self.old in let w = Self.view self.new in
-            let t = table_of record_meaning range_meaning ops.now in (o : Self.basis.O)
-            → IsEngine t Self.basis v → Reads t Self.basis v o → Rests t Self.basis v w
-            × IfOk result (λ n. Rested t Self.basis v w × (n ≡ Self.basis.buried o)) };
+        ensures counted { let t = table_of record_meaning range_meaning ops.now in
+            AsMeantBy t (Self.view self.old) (Self.view self.new) (λ g v w. (o : g.O)
+            → IsEngine t g v → Reads t g v o → Rests t g v w
+            × IfOk result (λ n. Rested t g v w × (n ≡ g.buried o))) };
 }
 
 // Frees something that is buried; `false` where nothing is.
 fn free_one<E: Reopens>(engine: &mut E, ops: &Ops, note: &mut UndoNote) -> Result<bool, SpaceFault>
-    ensures stands { let t = table_of record_meaning range_meaning ops.now in let v = E.view engine.old in (down : Log (setting t E.basis)) (m : Model)
-        → IsLawful t E.basis → IsStarting t E.basis v down m → IsSettled v
-        → AllStandFor t E.basis v (E.view engine.new) m }
+    requires can { let t = table_of record_meaning range_meaning ops.now in AskedBy t (E.view engine.old) (OpeningSettled t) }
+    ensures means { KeepsBy (table_of record_meaning range_meaning ops.now) (E.view engine.old) (E.view engine.new) }
+    ensures told { (E.view engine.new).Told → (E.view engine.old).Told }
+    ensures tells { OnOk result ((E.view engine.old).Told → (E.view engine.new).Told) }
+    ensures stands { let t = table_of record_meaning range_meaning ops.now in
+        AsMeantBy t (E.view engine.old) (E.view engine.new) (λ g v w. (down : Log (setting t g)) (m : Model)
+        → IsLawful t g → IsStarting t g v down m → IsSettled v → AllStandFor t g v w m) }
     ensures frees { let t = table_of record_meaning range_meaning ops.now in
-        let v = E.view engine.old in
-        let w = E.view engine.new in
-        (down : Log (setting t E.basis)) (m : Model) → IsLawful t E.basis
-        → IsStarting t E.basis v down m → IsSettled v → IfOk result (λ b. IsStarting t E.basis w down m
-        × IsSettled w × AreFewer t E.basis v w b) }
+        AsMeantBy t (E.view engine.old) (E.view engine.new) (λ g v w. (down : Log (setting t g)) (m : Model)
+        → IsLawful t g → IsStarting t g v down m → IsSettled v → IfOk result (λ b. IsStarting t g w down m
+        × IsSettled w × AreFewer t g v w b)) }
     ensures failed { IfErr result (λ e. IsDiskFault e
         → HasRisen (E.view engine.old).faults (E.view engine.new).faults) }
-    ensures log_end { IfErr result (IsNearEnd (E.view engine.new)) }
+    ensures log_end { IfErr result (IsNearEnd (E.view engine.new).tail) }
     ensures later { (E.view engine.old).faults ≤ (E.view engine.new).faults }
     ensures tail { (E.view engine.old).tail ≤ (E.view engine.new).tail }
 {
@@ -75,18 +110,20 @@ fn free_all<E: Reopens>(
     most: u32,
     note: &mut UndoNote,
 ) -> Result<(), SpaceFault>
-    ensures stands { let t = table_of record_meaning range_meaning ops.now in let v = E.view engine.old in (down : Log (setting t E.basis)) (m : Model)
-        → IsLawful t E.basis → IsStarting t E.basis v down m → IsSettled v
-        → AllStandFor t E.basis v (E.view engine.new) m }
+    requires can { let t = table_of record_meaning range_meaning ops.now in AskedBy t (E.view engine.old) (OpeningSettled t) }
+    ensures means { KeepsBy (table_of record_meaning range_meaning ops.now) (E.view engine.old) (E.view engine.new) }
+    ensures told { (E.view engine.new).Told → (E.view engine.old).Told }
+    ensures tells { OnOk result ((E.view engine.old).Told → (E.view engine.new).Told) }
+    ensures stands { let t = table_of record_meaning range_meaning ops.now in
+        AsMeantBy t (E.view engine.old) (E.view engine.new) (λ g v w. (down : Log (setting t g)) (m : Model)
+        → IsLawful t g → IsStarting t g v down m → IsSettled v → AllStandFor t g v w m) }
     ensures frees { let t = table_of record_meaning range_meaning ops.now in
-        let v = E.view engine.old in
-        let w = E.view engine.new in
-        (down : Log (setting t E.basis)) (m : Model) → IsLawful t E.basis
-        → IsStarting t E.basis v down m → IsSettled v → AreBuried t E.basis v most
-        → OnOk result (IsStarting t E.basis w down m × IsSettled w × AreBuried t E.basis w 0) }
+        AsMeantBy t (E.view engine.old) (E.view engine.new) (λ g v w. (down : Log (setting t g)) (m : Model)
+        → IsLawful t g → IsStarting t g v down m → IsSettled v → AreBuried t g v most
+        → OnOk result (IsStarting t g w down m × IsSettled w × AreBuried t g w 0)) }
     ensures failed { IfErr result (λ e. IsDiskFault e
         → HasRisen (E.view engine.old).faults (E.view engine.new).faults) }
-    ensures log_end { IfErr result (IsNearEnd (E.view engine.new)) }
+    ensures log_end { IfErr result (IsNearEnd (E.view engine.new).tail) }
     ensures later { (E.view engine.old).faults ≤ (E.view engine.new).faults }
     ensures tail { (E.view engine.old).tail ≤ (E.view engine.new).tail }
 {
@@ -100,11 +137,10 @@ fn free_all<E: Reopens>(
     Ok(())
 }
 
-/// Brings a store that the page engine has opened to where its first line may come: what an action did
-/// that has no end is taken off, the losers are undone, the greatest note first, and ended, and what is
-/// buried is freed.
+/// Brings a store, of which no action is without an end, to where its first line may come: the losers are
+/// undone, the greatest note first, and ended, and what is buried is freed.
 ///
-/// Each image of each moment stands for the objects for which the image stood that was found; and at the
+/// Each image of each moment stands for the objects for which the log stood that was found; and at the
 /// end a store with no transaction shows a run that begins with these.
 pub fn start_store<E: Reopens>(
     engine: &mut E,
@@ -112,26 +148,25 @@ pub fn start_store<E: Reopens>(
     losers: &[TxnId],
     note: &mut UndoNote,
 ) -> Result<(), SpaceFault>
-    ensures stands { let t = table_of record_meaning range_meaning ops.now in let v = E.view engine.old in (m : Model)
-        → IsLawful t E.basis → IsFound t E.basis v → LogStands (setting t E.basis) v.first v.log m
-        → AreLosers (tally v.log).live losers.now → AllStandFor t E.basis v (E.view engine.new) m }
+    requires can { let t = table_of record_meaning range_meaning ops.now in AskedBy t (E.view engine.old) (OpeningWith losers.now t) }
+    ensures means { KeepsBy (table_of record_meaning range_meaning ops.now) (E.view engine.old) (E.view engine.new) }
+    ensures told { (E.view engine.new).Told → (E.view engine.old).Told }
+    ensures tells { OnOk result ((E.view engine.old).Told → (E.view engine.new).Told) }
+    ensures stands { let t = table_of record_meaning range_meaning ops.now in
+        AsMeantBy t (E.view engine.old) (E.view engine.new) (λ g v w. (down : Log (setting t g)) (m : Model)
+        → IsLawful t g → IsStarting t g v down m → AreLosers (tally v.log).live losers.now
+        → AllStandFor t g v w m) }
     ensures shows { let t = table_of record_meaning range_meaning ops.now in
-        let v = E.view engine.old in
-        let w = E.view engine.new in
-        (m : Model) → IsLawful t E.basis → IsFound t E.basis v
-        → LogStands (setting t E.basis) v.first v.log m → AreLosers (tally v.log).live losers.now
-        → OnOk result (Shows t E.basis w (record { live = []; held = []; stopped = None }) (start m)
-        × AreBuried t E.basis w 0) }
+        AsMeantBy t (E.view engine.old) (E.view engine.new) (λ g v w. (down : Log (setting t g)) (m : Model)
+        → IsLawful t g → IsStarting t g v down m → AreLosers (tally v.log).live losers.now
+        → OnOk result (Shows t g w (record { live = []; held = []; stopped = None }) (start m)
+        × AreBuried t g w 0)) }
     ensures failed { IfErr result (λ e. IsDiskFault e
         → HasRisen (E.view engine.old).faults (E.view engine.new).faults) }
-    ensures log_end { IfErr result (IsNearEnd (E.view engine.new)) }
+    ensures log_end { IfErr result (IsNearEnd (E.view engine.new).tail) }
     ensures later { (E.view engine.old).faults ≤ (E.view engine.new).faults }
     ensures tail { (E.view engine.old).tail ≤ (E.view engine.new).tail }
 {
-    match engine.resume(ops) {
-        Ok(()) => {}
-        Err(fault) => return Err(fault),
-    }
     match settle_losers(engine, ops, losers, note) {
         Ok(()) => {}
         Err(fault) => return Err(fault),

@@ -174,9 +174,9 @@ module _ (t : Operations) (g : Ground) where
           (call_stands v w (record { lsn = n; is = Begin n 0 } ∷ v.log) (began x n name) begin_logged a.moments)
 
 -- a record isn't refused for the log's end where new work may begin
-pub risen_for : {g : Ground} (v : View g) (now : ℕ) (f : SpaceFault) → v.tail ≤ NEW_WORK_END → IsNearEnd v f → (IsDiskFault f → HasRisen v.faults now) → HasRisen v.faults now
-risen_for v now spaces.Disk low near risen = risen tt
-risen_for v now spaces.LogEnd low near risen = absurd (far low near)
+pub risen_for : (tail before now : ℕ) (f : SpaceFault) → tail ≤ NEW_WORK_END → IsNearEnd tail f → (IsDiskFault f → HasRisen before now) → HasRisen before now
+risen_for tail before now spaces.Disk low near risen = risen tt
+risen_for tail before now spaces.LogEnd low near risen = absurd (far low near)
   where
-    far : v.tail ≤ 2 ^ 62 → 2 ^ 63 < v.tail + 131072 → ⊥
+    far : tail ≤ 2 ^ 62 → 2 ^ 63 < tail + 131072 → ⊥
     far a b = omega (arith, a, b)

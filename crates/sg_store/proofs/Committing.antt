@@ -27,7 +27,8 @@ use Rattle.sg_space.specs.declared.space.SpaceFault.TheVariants as spaces
 use Rattle.sg_store.specs.declared.fault.Refused.{Refused}
 use Rattle.sg_store.specs.declared.fault.Refused.TheVariants as refusals
 use Rattle.sg_store.specs.Ground.{Ground, IsLawful, setting}
-use Rattle.sg_store.specs.Engine.{View, Appends, Appended, IsDiskFault, pages_of}
+use Rattle.sg_store.specs.Engine.{View, Appends, Appended, IsDiskFault, is_going, pages_of}
+use Rattle.sg_store.proofs.Counting.{live_going}
 use Rattle.sg_store.specs.Stands.{StandsFor, StandsForFirst}
 use Rattle.sg_store.specs.Store.{Core, Shows, Runs, IsKept, IsLeaving, Logs, AreReserved}
 use Rattle.sg_run.specs.Numbers.{stopped_in, at_log_end}
@@ -105,6 +106,7 @@ module _ (t : Operations) (g : Ground) (lawful : IsLawful t g) (v : View g) (k :
         pub leaving : IsLeaving t g w k.live x u
         leaving = record {
           was = is;
+          going = subst (λ (ls : List (Numbered g.C g.N)). is_going u ls ≡ true) (sym did.log) (live_going u v.log (runs.is_kept.logs.same.lives u ∙ is));
           sound = runs.is_kept.logs.sound;
           live = same_without k.live x.so_far.live u runs.is_kept.live;
           engine = did.goes_on.engine;

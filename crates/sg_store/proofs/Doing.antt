@@ -1,6 +1,6 @@
 -- How an operation goes.
 use Rattle.std.proofs.Common.{◌≡◌, ℕ, ◌<◌, ◌≤◌, true, false, List, None, refl, sym, ap, ◌∙◌, subst, arith}
-use Rattle.std.specs.Prelude.{◌^◌, Result, Ok, Err, is_some}
+use Rattle.std.specs.Prelude.{◌^◌, IsOk, Result, Ok, Err, is_some}
 use Rattle.sg_base.specs.Ends.{HasRisen}
 use Rattle.sg_disk.proofs.Moments.{joined}
 use Rattle.sg_ops.specs.Table.{Table as Operations}
@@ -8,6 +8,7 @@ use Rattle.sg_serial.specs.Runs.{is_live}
 use Rattle.sg_model.specs.declared.stop.Stop.TheVariants as stops
 use Rattle.sg_model.specs.declared.op.Reply as code_reply
 use Rattle.sg_model.specs.Verb.{Op}
+use Rattle.sg_model.specs.Verb.Reply.{Several}
 use Rattle.sg_model.specs.Step.{step, is_changing}
 use Rattle.sg_core.specs.Live as core
 use Rattle.sg_core.specs.Live.{Txn}
@@ -18,7 +19,9 @@ use Rattle.sg_store.specs.declared.fault.Needed.{Needed}
 use Rattle.sg_store.specs.Ground.{Ground, IsLawful}
 use Rattle.sg_store.specs.Engine.{View}
 use Rattle.sg_store.specs.Store.{Core, Shows, Runs, IsKept}
-use Rattle.sg_run.specs.Numbers.{NEW_WORK_END, IsGranted}
+use Rattle.sg_run.specs.Numbers as numbers
+use Rattle.sg_run.specs.Numbers.{NEW_WORK_END, IsGranted, IsListing}
+use Rattle.sg_run.specs.Numbers.Refusal.{Memory}
 use Rattle.sg_store.specs.Calls.{Goes, Does, Stays, Holds, Rooms, HasRoom, Acts, Broke}
 use Rattle.sg_store.proofs.Lines.{locks_logs}
 use Rattle.sg_store.proofs.Actions.{no_holder, looks_logs}
@@ -89,6 +92,7 @@ module _ (t : Operations) (g : Ground) (lawful : IsLawful t g) (v : View g) (k :
       do_unheld w m tail (refusals.NoBands f n) stays h = absurd h
       do_unheld w m tail refusals.LogEnd stays h = absurd h
       do_unheld w m tail refusals.Stopped stays h = absurd h
+      do_unheld w m tail refusals.Memory stays h = absurd h
 
       module _ (w1 : View g) (m1 : Core) (stays1 : Stays t g v w1 x) (later1 : v.faults ≤ w1.faults) (held : Holds t g v w1 k m1 x u op (Ok tt)) where
         granted : IsGranted t x u op
@@ -113,30 +117,39 @@ module _ (t : Operations) (g : Ground) (lawful : IsLawful t g) (v : View g) (k :
         still : (m : Core) → m ≡ m1 → m.stopped ≡ k.stopped
         still m same = ap (λ (c : Core). c.stopped) (same ∙ held.2)
 
+        -- it has changed nothing
+        looked : (w : View g) (m : Core) → m ≡ m1 → IsKept t g w m1.live x → (step t (live_objects t x) op).1 ≡ live_objects t x → Runs t g w m (did t x u op)
+        looked w m still_is kept same =
+            let kept2 = subst (λ (ks : List Txn). IsKept t g w ks x) (ap (λ (c : Core). c.live) held.2) kept in
+            subst (λ c. Runs t g w c (did t x u op)) (sym (still_is ∙ held.2)) (record {
+              is_kept = record {
+                live = kept2.live;
+                answered = kept2.answered;
+                engine = kept2.engine;
+                idle = kept2.idle;
+                logs = looks_logs t g lawful w.first w.durable w.log x u op kept2.logs kept2.idle live granted.none same;
+                free = kept2.free;
+                reserved = kept2.reserved;
+                buried = λ o r. owned_locked t g x.so_far.live x.so_far.held u (touches (live_objects t x) op) (next_lsn w.log) o (kept2.buried o r);
+              };
+              held = refl;
+            })
+
+        -- a list was answered, or memory was refused to it
+        pub do_listed : (w : View g) (m : Core) (words : List (List ℕ)) → is_changing op ≡ false → Stays t g w1 w x → IsKept t g w m1.live x → (step t (live_objects t x) op).0 ≡ Ok (Several words) → m ≡ m1 → Goes t g v x (numbers.Does t v.tail w.tail v.faults w.faults u op x (Ok (Several words))) w m
+        do_listed w m words looks stays kept said is_core = on w m (did t x u op) (numbers.Does t v.tail w.tail v.faults w.faults u op x (Ok (Several words))) (still m is_core) refl refl refl refl
+            (looked w m is_core kept (refused.step_reads t (live_objects t x) op looks)) (none, granted, said, (λ changes. absurd (never changes)), refl) (joined stays1 stays)
+          where
+            never : is_changing op ≡ true → ⊥
+            never changes = absurd (cc)
+
+        pub do_lacked : (w : View g) (m : Core) → IsListing op → Stays t g w1 w x → IsKept t g w m1.live x → IsOk (step t (live_objects t x) op).0 → m ≡ m1 → Goes t g v x (numbers.Does t v.tail w.tail v.faults w.faults u op x (Err Memory)) w m
+        do_lacked w m lists stays kept replies is_core = on w m (with_locks t x u op) (numbers.Does t v.tail w.tail v.faults w.faults u op x (Err Memory)) (still m is_core) refl refl refl refl (locked w m kept is_core) (none, granted, replies, lists, refl) (joined stays1 stays)
+
         -- there was no room, or a reason
         pub do_unroomed : (w : View g) (m : Core) (why : Refused) → Stays t g w1 w x → Rooms t g w1 w m1 m x op (Err why) → Goes t g v x (Does t v.tail w.tail v.faults w.faults u op x into (Err why)) w m
         do_unroomed w m (refusals.Model reason) stays h = on w m (did t x u op) (Does t v.tail w.tail v.faults w.faults u op x into (Err (refusals.Model reason))) (still m h.2) refl refl refl refl
-            (refused_runs h.0 (unchanged h.1)) (none, granted, h.1, refl) (joined stays1 stays)
-          where
-            unchanged : (step t (live_objects t x) op).0 ≡ Err reason → (step t (live_objects t x) op).1 ≡ live_objects t x
-            unchanged f = refused.step_refused t (live_objects t x) op (ap Rattle.sg_model.proofs.Refused.replied f)
-
-            refused_runs : IsKept t g w m1.live x → (step t (live_objects t x) op).1 ≡ live_objects t x → Runs t g w m (did t x u op)
-            refused_runs kept same =
-                let kept2 = subst (λ (ks : List Txn). IsKept t g w ks x) (ap (λ (c : Core). c.live) held.2) kept in
-                subst (λ c. Runs t g w c (did t x u op)) (sym (h.2 ∙ held.2)) (record {
-                  is_kept = record {
-                    live = kept2.live;
-                    answered = kept2.answered;
-                    engine = kept2.engine;
-                    idle = kept2.idle;
-                    logs = looks_logs t g lawful w.first w.durable w.log x u op kept2.logs kept2.idle live granted.none same;
-                    free = kept2.free;
-                    reserved = kept2.reserved;
-                    buried = λ o r. owned_locked t g x.so_far.live x.so_far.held u (touches (live_objects t x) op) (next_lsn w.log) o (kept2.buried o r);
-                  };
-                  held = refl;
-                })
+            (looked w m h.2 h.0 (refused.step_refused t (live_objects t x) op (ap Rattle.sg_model.proofs.Refused.replied h.1))) (none, granted, h.1, refl) (joined stays1 stays)
         do_unroomed w m (refusals.NoSpace f r n) stays h = on w m (with_locks t x u op) (Does t v.tail w.tail v.faults w.faults u op x into (Err (refusals.NoSpace f r n))) (still m h.4) refl refl refl refl (locked w m h.0 h.4) (none, granted, h.1, h.2, h.3, refl) (joined stays1 stays)
         do_unroomed w m (refusals.NoBands f n) stays h = on w m (with_locks t x u op) (Does t v.tail w.tail v.faults w.faults u op x into (Err (refusals.NoBands f n))) (still m h.3) refl refl refl refl (locked w m h.0 h.3) (none, granted, h.1, h.2, refl) (joined stays1 stays)
         do_unroomed w m refusals.LogEnd stays h = on w m (with_locks t x u op) (Does t v.tail w.tail v.faults w.faults u op x into (Err refusals.LogEnd)) (still m h.4) refl refl refl refl (locked w m h.0 h.4) (none, granted, h.1, h.2, h.3, refl) (joined stays1 stays)
@@ -146,6 +159,7 @@ module _ (t : Operations) (g : Ground) (lawful : IsLawful t g) (v : View g) (k :
         do_unroomed w m (refusals.Busy holder) stays h = absurd h
         do_unroomed w m refusals.LocksFull stays h = absurd h
         do_unroomed w m refusals.Stopped stays h = absurd h
+        do_unroomed w m refusals.Memory stays h = absurd h
 
         -- it was done, or the store stopped in it
         pub do_acted : (w2 w : View g) (m2 m : Core) (needs : Needed) → Stays t g w1 w2 x → w1.faults ≤ w2.faults → Rooms t g w1 w2 m1 m2 x op (Ok needs) → v.tail ≤ w2.tail → (is_changing op ≡ true → w2.tail ≤ NEW_WORK_END) → (r : Result code_reply.Reply Refused) → (r ≡ Err refusals.LogEnd → ⊥) → Stays t g w2 w x → Acts t g w2 w m2 m x u op into r
@@ -162,3 +176,4 @@ module _ (t : Operations) (g : Ground) (lawful : IsLawful t g) (v : View g) (k :
         do_acted w2 w m2 m needs stays2 later2 room up tested (Err (refusals.NoSpace f r n)) never stays h = absurd h
         do_acted w2 w m2 m needs stays2 later2 room up tested (Err (refusals.NoBands f n)) never stays h = absurd h
         do_acted w2 w m2 m needs stays2 later2 room up tested (Err refusals.Stopped) never stays h = absurd h
+        do_acted w2 w m2 m needs stays2 later2 room up tested (Err refusals.Memory) never stays h = absurd h

@@ -1,11 +1,14 @@
 -- An operation asks for what it touches.
-use Rattle.std.proofs.Common.{◌≡◌, ℕ, Bool, true, false, cond, List, length, Option, Some, None, refl, sym, ap, ◌∙◌, subst}
+use Rattle.std.proofs.Common.{◌≡◌, ℕ, Bool, true, false, cond, List, [], ◌∷◌, length, Option, Some, None, refl, sym, ap, ◌∙◌, subst, arith}
 use Rattle.std.specs.Prelude.{nat_lt}
 use Rattle.sg_base.specs.declared.numbers.TxnId.{TxnId}
 use Rattle.sg_ops.specs.Table.{Table as Operations}
 use Rattle.sg_serial.specs.Locks.{Touch, Hold, first_holder, hold_all}
 use Rattle.sg_serial.specs.Runs.{is_live}
 use Rattle.sg_model.specs.Verb.{Op}
+use Rattle.sg_model.specs.Verb.Op.{Names as AllNames}
+use Rattle.sg_model.specs.Objects.{Objects}
+use Rattle.sg_model.specs.Touches.Resource.{Names}
 use Rattle.sg_model.specs.Touches.{Resource, touches, same_resource, conflict}
 use Rattle.sg_locks.specs.declared.table.LockAnswer.{LockAnswer}
 use Rattle.sg_locks.specs.declared.table.LockAnswer.TheVariants.{Granted, Busy, LocksFull}
@@ -15,9 +18,13 @@ use Rattle.sg_run.specs.Run.{Run, live_objects}
 use Rattle.sg_recovery.specs.Log.{Numbered, tally}
 use Rattle.sg_recovery.specs.Stands.{made}
 use Rattle.sg_store.specs.declared.fault.Refused.TheVariants as refusals
-use Rattle.std.specs.Prelude.{Ok, Err}
+use Rattle.std.specs.Prelude.{Ok, Err, Result, OnOk}
+use Rattle.sg_store.specs.declared.fault.Refused.{Refused}
+use Rattle.sg_store.specs.Refusals.{said_lock}
+use Rattle.sg_recovery.specs.Chains.{next_lsn}
 use Rattle.sg_store.specs.Ground.{Ground, IsLawful, setting}
-use Rattle.sg_store.specs.Engine.{View, Rests, Rested}
+use Rattle.sg_disk.proofs.Moments.{started}
+use Rattle.sg_store.specs.Engine.{View, IsImageOf, Rests, Rested}
 use Rattle.sg_store.specs.Verbs.{Reads}
 use Rattle.sg_store.specs.Store.{Core, IsKept, AreReserved, AreOwned}
 use Rattle.sg_store.specs.Calls.{Stays, Holds, SameRoom}
@@ -47,7 +54,7 @@ busy_count : (holder : TxnId) (b : Bool) → Busy holder ≡ cond b LocksFull Gr
 busy_count holder true e = cc
 busy_count holder false e = cc
 
-busy_holder : (holder : TxnId) (o : Option ℕ) (count : ℕ) → Busy holder ≡ answer_by o count → o ≡ Some holder.0
+pub busy_holder : (holder : TxnId) (o : Option ℕ) (count : ℕ) → Busy holder ≡ answer_by o count → o ≡ Some holder.0
 busy_holder holder (Some h) count e = let p : holder ≡ record { 0 = h } = cc in ap Some (sym (ap (λ (n : TxnId). n.0) p))
 busy_holder holder None count e = absurd (busy_count holder (nat_lt 4096 count) e)
 
@@ -88,7 +95,7 @@ module _ (t : Operations) (g : Ground) (lawful : IsLawful t g) (v : View g) (x :
     free = λ o e. r.pages ∙ kept.free o (subst (λ (l : List (Numbered g.C g.N)). g.reading (made (setting t g) v.first l) ≡ Some o) r.log
         (subst (λ p. g.reading (made (setting t g) p w.log) ≡ Some o) r.goes_on.first e));
     reserved = subst (λ (l : List (Numbered g.C g.N)). AreReserved (setting t g) txns (tally l).notes) (sym r.log) kept.reserved;
-    buried = λ o e. subst (λ (l : List (Numbered g.C g.N)). AreOwned g x.so_far.live x.so_far.held (Rattle.sg_recovery.specs.Chains.next_lsn l) o) (sym r.log)
+    buried = λ o e. subst (λ (l : List (Numbered g.C g.N)). AreOwned g x.so_far.live x.so_far.held (next_lsn l) o) (sym r.log)
         (kept.buried o (subst (λ (l : List (Numbered g.C g.N)). g.reading (made (setting t g) v.first l) ≡ Some o) r.log (subst (λ p. g.reading (made (setting t g) p w.log) ≡ Some o) r.goes_on.first e)));
   }
 
@@ -124,6 +131,38 @@ module _ (t : Operations) (g : Ground) (lawful : IsLawful t g) (v : View g) (x :
           subst (λ ts. nat_lt 4096 (length (hold_all same_resource u ts x.so_far.held)) ≡ true) asks (subst (λ hs. nat_lt 4096 (length (hold_all same_resource u asked hs)) ≡ true) held f.1),
           after ∙ ap (λ (a : LockAnswer). record k { held = held_after a u asked k.held }) (sym e),
         )
+
+    -- whatever asking for them came to
+    pub holds_by : is_live x.so_far.live u ≡ true → (result : Result (Unit {0}) Refused) → result ≡ said_lock (lock_answer u asked k.held) → Holds t g v w k m x u op result
+    holds_by live result e = subst (Holds t g v w k m x u op) (sym e) (go (lock_answer u asked k.held) refl)
+      where
+        go : (a : LockAnswer) → a ≡ lock_answer u asked k.held → Holds t g v w k m x u op (said_lock a)
+        go Granted f = holds_granted live f
+        go (Busy holder) f = holds_busy holder f
+        go LocksFull f = holds_full f
+
+  -- a part of a call that doesn't ask the engine
+  pub rests_still : Rests t g v v
+  rests_still = record { moments = started v.disk (IsImageOf t g v v.log) kept.engine.images }
+
+  pub rested_still : Rested t g v v
+  rested_still = record {
+    goes_on = record { engine = kept.engine; base = refl; first = refl; tail = omega arith; durable = record { since = []; all = refl } };
+    log = refl;
+    action = refl;
+    pages = refl;
+    bands = refl;
+  }
+
+-- what holds anyway holds where a call is answered
+pub always_ok : (result : Result (Unit {0}) Refused) (P : Type 0) → P → OnOk result P
+always_ok (Ok done) P p = p
+always_ok (Err why) P p = tt
+
+-- what the list of all names touches
+pub names_touched : (o : Objects) → (record { what = Names; write = false }) ∷ [] ≡ touches o AllNames
+unfolding touches
+names_touched o = refl
 
 -- a call that appends nothing leaves what is free
 pub rested_same : (t : Operations) (g : Ground) (v w : View g) → Rested t g v w → SameRoom t g v w

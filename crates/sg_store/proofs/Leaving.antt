@@ -25,7 +25,8 @@ use Rattle.sg_join.specs.Join.{Grows, Keeps, IsOf}
 use Rattle.sg_join.proofs.Keeping as keeping
 use Rattle.sg_join.proofs.Histories.{lives_same}
 use Rattle.sg_store.specs.Ground.{Ground, IsLawful, setting, are_written}
-use Rattle.sg_store.specs.Engine.{View, Action, Changes, Rested, Appends, Appended, IsEngine, IsActing, pages_of}
+use Rattle.sg_store.specs.Engine.{View, Action, Changes, Rested, Appends, Appended, IsEngine, IsActing, pages_of, is_going}
+use Rattle.sg_store.proofs.Counting.{changes_going}
 use Rattle.sg_store.specs.Verbs.{Reads, IsFreed}
 use Rattle.sg_store.specs.Store.{Core, IsKept, IsLeaving, HasNone, Logs, AreReserved, AreOwned}
 use Rattle.sg_store.specs.Stands.{StandsFor}
@@ -113,6 +114,7 @@ module _ (t : Operations) (g : Ground) (lawful : IsLawful t g) (v : View g) (txn
   pub rested_leaving : (w : View g) → Rested t g v w → IsLeaving t g w txns x u
   rested_leaving w r = record {
     was = k.was;
+    going = subst (λ (l : List (Numbered g.C g.N)). is_going u l ≡ true) (sym r.log) k.going;
     sound = k.sound;
     live = k.live;
     engine = r.goes_on.engine;
@@ -215,6 +217,7 @@ module _ (t : Operations) (g : Ground) (lawful : IsLawful t g) (v : View g) (txn
       pub freed_leaving : Appended t g w w2 end → IsLeaving t g w2 txns x u
       freed_leaving d = record {
         was = k.was;
+        going = subst (λ (ls : List (Numbered g.C g.N)). is_going u ls ≡ true) (sym d.log) (subst (λ (ls : List (Numbered g.C g.N)). is_going u ls ≡ true) (sym f.changed.log) (changes_going t g v.first begun u c.made v.log c.are ∙ k.going));
         sound = k.sound;
         live = k.live;
         engine = d.goes_on.engine;
@@ -304,6 +307,7 @@ module _ (t : Operations) (g : Ground) (lawful : IsLawful t g) (v : View g) (txn
 pub acted_leaving : (t : Operations) (g : Ground) (v v1 : View g) (txns : List Txn) (x : Run) (u : ℕ) (a : Option (Action g)) → IsEngine t g v1 → v1 ≡ record v { action = a } → IsLeaving t g v txns x u → IsLeaving t g v1 txns x u
 acted_leaving t g v v1 txns x u a engine is k = subst (λ z. IsLeaving t g z txns x u) (sym is) (record {
   was = k.was;
+  going = k.going;
   sound = k.sound;
   live = k.live;
   engine = subst (λ z. IsEngine t g z) is engine;

@@ -107,6 +107,15 @@ each_end P (x ∷ xs) y h p = (h.0, each_end P xs y h.1 p)
 pub reserved_begun : (s : Setting) (ks : List Txn) (ns : List (Top s.C s.N)) (b n : ℕ) → AreReserved s ks ns → Each (λ m. m.transaction < b) ns → b ≤ n → AreReserved s (ks ++ begun n ∷ []) ns
 reserved_begun s ks ns b n h below le = each_end (λ k. k.reserved ≡ wanted s (notes_of k.transaction ns)) ks (begun n) h (ap (λ l. wanted s l) (sym (fresh_none b n ns below le)))
 
+-- which numbers are live stays
+pub numbers_reserving : (u : ℕ) (ks : List Txn) → numbers (reserving u ks) ≡ numbers ks
+numbers_reserving u [] = refl
+numbers_reserving u (k ∷ ks) = go (k.transaction == u) (numbers_reserving u ks)
+  where
+    go : (b : Bool) → numbers (reserving u ks) ≡ numbers ks → (cond b (one_more k) k).transaction ∷ numbers (reserving u ks) ≡ k.transaction ∷ numbers ks
+    go true e = ap (λ ns. k.transaction ∷ ns) e
+    go false e = ap (λ ns. k.transaction ∷ ns) e
+
 -- all notes together want no more than all have reserved
 module _ (s : Setting) where
   total : List Txn → List (Top s.C s.N) → ℕ
@@ -205,15 +214,6 @@ module _ (s : Setting) where
       go : (b : Bool) → k.reserved ≡ wanted s (cond b (n ∷ notes_of k.transaction ns) (notes_of k.transaction ns))
       go true = h.0 ∙ sym more
       go false = h.0
-
-  -- which numbers are live stays
-  pub numbers_reserving : (u : ℕ) (ks : List Txn) → numbers (reserving u ks) ≡ numbers ks
-  numbers_reserving u [] = refl
-  numbers_reserving u (k ∷ ks) = go (k.transaction == u) (numbers_reserving u ks)
-    where
-      go : (b : Bool) → numbers (reserving u ks) ≡ numbers ks → (cond b (one_more k) k).transaction ∷ numbers (reserving u ks) ≡ k.transaction ∷ numbers ks
-      go true e = ap (λ ns. k.transaction ∷ ns) e
-      go false e = ap (λ ns. k.transaction ∷ ns) e
 
   pub wanted_one : (n : Top s.C s.N) (ns : List (Top s.C s.N)) → wanted s (n ∷ ns) ≡ wanted s ns + wants_one s n
   wanted_one n ns = wanted_step n ns

@@ -51,7 +51,7 @@ module _ (t : Operations) (g : Ground) (lawful : IsLawful t g) (v : View g) (k :
         (none, record { after = refl; risen = risen tt }) (call_stands t g v w v.log x runs.is_kept.logs r.moments)
     keeps_fails w m spaces.LogEnd same r is risen = absurd is
 
-    pub marks_fails : (w : View g) (m : Core) (f : SpaceFault) → m ≡ record k { stopped = Some (stop_at f) } → Rests t g v w → (IsDiskFault f → HasRisen v.faults now) → IsNearEnd v f → Goes t g v x (Checkpoints v.tail v.faults now x (Err (refused_at f))) w m
+    pub marks_fails : (w : View g) (m : Core) (f : SpaceFault) → m ≡ record k { stopped = Some (stop_at f) } → Rests t g v w → (IsDiskFault f → HasRisen v.faults now) → IsNearEnd v.tail f → Goes t g v x (Checkpoints v.tail v.faults now x (Err (refused_at f))) w m
     marks_fails w m spaces.Disk same r risen near = goes_down t g v w k m x (Checkpoints v.tail v.faults now x (Err refusals.DiskFault)) stops.Disk s (ap (λ (c : Core). c.stopped) same)
         (none, record { after = refl; risen = risen tt }) (call_stands t g v w v.log x runs.is_kept.logs r.moments)
     marks_fails w m spaces.LogEnd same r risen near = goes_down t g v w k m x (Checkpoints v.tail v.faults now x (Err refusals.LogEnd)) stops.LogEnd s (ap (λ (c : Core). c.stopped) same)

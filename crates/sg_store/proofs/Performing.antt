@@ -168,7 +168,7 @@ module _ (t : Operations) (g : Ground) (lawful : IsLawful t g) (v : View g) (txn
 
         -- its note wants a page, which the transaction has reserved
         pub done_reserved : 0 < needs.reserve → IsKept t g w2 (reserving u txns) (did t x u op)
-        done_reserved some = done_with (reserving u txns) (numbers_reserving (setting t g) u txns)
+        done_reserved some = done_with (reserving u txns) (numbers_reserving u txns)
             (reserved_note (setting t g) txns (tally v.log).notes top kept.reserved
             (let one : (g.needs t o op).reserve ≤ 1 = lawful.reserves_one o op in let is : needs.reserve ≡ (g.needs t o op).reserve = room.need.reserve in let w1 : wants_one (setting t g) top ≡ (g.needs t o op).reserve = wants_is in omega (arith, one, is, w1, some)))
 

@@ -18,7 +18,7 @@ use Rattle.sg_recovery.proofs.Basic.{some_one}
 use Rattle.sg_store.specs.Engine.{View, Rested, pages_of}
 use Rattle.sg_store.specs.Verbs.{Reads, HasNeed, HasNeeds}
 use Rattle.sg_store.specs.Store.{Core, IsKept}
-use Rattle.sg_store.specs.Calls.{Rooms, Stays}
+use Rattle.sg_store.specs.Calls.{Rooms, Stays, HadPages}
 use Rattle.sg_store.proofs.Holding.{reading, reads_so, objects_so, rested_kept}
 
 both : (a b : Bool) → (a && b) ≡ true → (a ≡ true) × (b ≡ true)
@@ -74,17 +74,34 @@ module _ (t : Operations) (g : Ground) (lawful : IsLawful t g) (v : View g) (x :
         free = r.pages ∙ old.free;
       }
 
-  here : Rested t g v w → (o : g.O) → g.reading (pages_of t g w) ≡ Rattle.std.proofs.Common.Some o → (reading t g lawful v x k.live kept) ≡ o
-  here r o e = some_one (reading t g lawful v x k.live kept) o (sym (reads_still r).reading ∙ e)
+  there : (o : g.O) → g.reading (pages_of t g v) ≡ Rattle.std.proofs.Common.Some o → (reading t g lawful v x k.live kept) ≡ o
+  there o e = some_one (reading t g lawful v x k.live kept) o (sym (reads_so t g lawful v x k.live kept).reading ∙ e)
+
+  had_pages : (needs : Needed) → Rested t g v w → HasNeed t g (reading t g lawful v x k.live kept) op needs → (needs.pages ≡ 0) ⊎ (sum_by (λ (i : Txn). i.reserved) k.live + needs.pages ≤ w.free_pages) → HadPages t g v k.live op
+  had_pages needs r h p o e = go (g.needs t o op).pages (sym (h.pages ∙ ap (λ z. (g.needs t z op).pages) (there o e))) r.pages p
+    where
+      go : (n : ℕ) → n ≡ needs.pages → w.free_pages ≡ v.free_pages → (needs.pages ≡ 0) ⊎ (sum_by (λ (i : Txn). i.reserved) k.live + needs.pages ≤ w.free_pages) → (n ≡ 0) ⊎ (sum_by (λ (i : Txn). i.reserved) k.live + n ≤ v.free_pages)
+      go n is f (inl z) = inl (is ∙ z)
+      go n is f (inr le) = inr (omega (arith, is, f, le))
 
   pub rooms_space : (needs : Needed) (free reserved need : ℕ) → need ≡ needs.pages → free ≡ w.free_pages → reserved ≡ sum_by (λ (i : Txn). i.reserved) k.live → Rested t g v w → HasNeed t g (reading t g lawful v x k.live kept) op needs → (0 < need) × (free < reserved + need) → Rooms t g v w k k x op (Err (refusals.NoSpace free reserved need))
-  rooms_space needs free reserved need is f s r h p = (now r, replies needs h, p.0, p.1, refl, record { is_free = f; are_reserved = s; is_needed = λ o e. is ∙ (h.pages ∙ ap (λ z. (g.needs t z op).pages) (here r o e)) })
+  rooms_space needs free reserved need is f s r h p = (now r, replies needs h, p.0, p.1, refl, record { is_free = f ∙ r.pages; are_reserved = s; is_needed = λ o e. is ∙ (h.pages ∙ ap (λ z. (g.needs t z op).pages) (there o e)) })
 
-  pub rooms_bands : (needs : Needed) (free need : ℕ) → need ≡ needs.bands → free ≡ w.free_bands → Rested t g v w → HasNeed t g (reading t g lawful v x k.live kept) op needs → free < need → Rooms t g v w k k x op (Err (refusals.NoBands free need))
-  rooms_bands needs free need is f r h p = (now r, replies needs h, p, refl, record { is_free = f; is_needed = λ o e. is ∙ (h.bands ∙ ap (λ z. (g.needs t z op).bands) (here r o e)) })
+  pub rooms_bands : (needs : Needed) (free need : ℕ) → need ≡ needs.bands → free ≡ w.free_bands → Rested t g v w → HasNeed t g (reading t g lawful v x k.live kept) op needs → (needs.pages ≡ 0) ⊎ (sum_by (λ (i : Txn). i.reserved) k.live + needs.pages ≤ w.free_pages) → free < need → Rooms t g v w k k x op (Err (refusals.NoBands free need))
+  rooms_bands needs free need is f r h enough p = (now r, replies needs h, p, refl, (had_pages needs r h enough, record { is_free = f ∙ r.bands; is_needed = λ o e. is ∙ (h.bands ∙ ap (λ z. (g.needs t z op).bands) (there o e)) }))
 
-  pub rooms_end : (needs : Needed) → Rested t g v w → HasNeed t g (reading t g lawful v x k.live kept) op needs → IsTrue (is_changing op) × (2 ^ 62 < w.tail) → Rooms t g v w k k x op (Err refusals.LogEnd)
-  rooms_end needs r h p = (now r, replies needs h, p.0, p.1, refl)
+  pub rooms_end : (needs : Needed) → Rested t g v w → HasNeed t g (reading t g lawful v x k.live kept) op needs → (needs.pages ≡ 0) ⊎ (sum_by (λ (i : Txn). i.reserved) k.live + needs.pages ≤ w.free_pages) → needs.bands ≤ w.free_bands → IsTrue (is_changing op) × (2 ^ 62 < w.tail) → Rooms t g v w k k x op (Err refusals.LogEnd)
+  rooms_end needs r h enough some p = (
+    now r,
+    replies needs h,
+    p.0,
+    p.1,
+    refl,
+    record {
+      pages = had_pages needs r h enough;
+      bands = λ o e. (let n : needs.bands ≡ (g.needs t o op).bands = h.bands ∙ ap (λ z. (g.needs t z op).bands) (there o e) in let f : w.free_bands ≡ v.free_bands = r.bands in omega (arith, n, f, some));
+    },
+  )
 
   pub rooms_ok : (needs : Needed) → Rested t g v w → HasNeed t g (reading t g lawful v x k.live kept) op needs → (needs.pages ≡ 0) ⊎ (sum_by (λ (x : Txn). x.reserved) k.live + needs.pages ≤ w.free_pages) → needs.bands ≤ w.free_bands
       → Rooms t g v w k k x op (Ok needs)

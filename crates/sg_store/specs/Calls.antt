@@ -1,5 +1,5 @@
 -- How a call of a store goes.
-use Rattle.std.specs.Prelude.{◌≡◌, ◌⊎◌, [], Bool, sum_by, ◌+◌, ◌<◌, ◌≤◌, ℕ, true, false, IsTrue, IsOk, nat_lt, List, Option, Some, None, Result, Ok, Err}
+use Rattle.std.specs.Prelude.{◌≡◌, ◌⊎◌, [], Bool, sum_by, ◌+◌, ◌<◌, ◌≤◌, ℕ, true, false, IsTrue, IsOk, nat_lt, List, Vec, Option, Some, None, Result, Ok, Err}
 use Rattle.sg_base.specs.declared.numbers.TxnId.{TxnId}
 use Rattle.sg_base.specs.Ends.{HasRisen}
 use Rattle.sg_disk.specs.Disk.{LeavesOnly}
@@ -12,7 +12,7 @@ use Rattle.sg_model.specs.Step.{step, is_changing}
 use Rattle.sg_model.specs.Touches.{touches, conflict}
 use Rattle.sg_run.specs.Numbers as numbers
 use Rattle.sg_run.specs.Numbers.{NEW_WORK_END, IsGranted}
-use Rattle.sg_store.specs.Refusals.{said_number, said_done, said_outcome}
+use Rattle.sg_store.specs.Refusals.{said_number, said_done, said_outcome, said_words}
 use Rattle.sg_run.specs.Run.{Run, MOST_HELD, committed, did, with_locks, held_with, live_objects, committed_objects}
 use Rattle.sg_store.specs.declared.fault.Refused.{Refused}
 use Rattle.sg_store.specs.declared.fault.Refused.TheVariants as refusals
@@ -22,7 +22,7 @@ use Rattle.sg_model.specs.SaidReplies.{said_reply}
 use Rattle.sg_core.specs.Live.{Txn}
 use Rattle.sg_store.specs.Verbs.{Reads, HasNeed}
 use Rattle.sg_store.specs.Ground.{Ground}
-use Rattle.sg_store.specs.Engine.{View, pages_of}
+use Rattle.sg_store.specs.Engine.{View, Sizes, Shown, KeepsBy, AsMeantBy, pages_of}
 use Rattle.sg_store.specs.Stands.{StandsFor, StandsForFirst}
 use Rattle.sg_store.specs.Store.{Core, IsKept, IsUndoing, IsLeaving, HasNone, Shows}
 use Rattle.sg_recovery.specs.Log.{tally, notes_of}
@@ -56,6 +56,10 @@ Checkpoints tail before now x r y = numbers.Checkpoints tail before now x (said_
 abbrev pub Does : (t : Operations) → (begin tail before now : ℕ) → (u : ℕ) → Op → Run → (into : List ℕ) → Result code_reply.Reply Refused → Run → Type 0
 Does t begin tail before now u op x into r y = numbers.Does t begin tail before now u op x (said_outcome into r) y
 
+-- a list of keys or names
+abbrev pub Lists : {A : Type 0} → (t : Operations) → (begin tail before now : ℕ) → (u : ℕ) → Op → Run → Result (Vec (List ℕ) A) Refused → Run → Type 0
+Lists t begin tail before now u op x r y = numbers.Does t begin tail before now u op x (said_words r) y
+
 -- A part of a call: in it and after it each image stands for the committed objects
 abbrev pub Stays : (t : Operations) (g : Ground) → (v w : View g) → Run → Type 0
 Stays t g v w x = LeavesOnly v.disk w.disk (λ c. StandsFor t g c (committed_objects t x))
@@ -86,14 +90,14 @@ pub record HasRoom (t : Operations) (g : Ground) (w : View g) (txns : List Txn) 
   pub bands : needs.bands ≤ w.free_bands
 
 -- The numbers of a refusal for want of room: what is free, what the live transactions have reserved, and what the operation needs here
-pub record ArePages (t : Operations) (g : Ground) (w : View g) (txns : List Txn) (op : Op) (free reserved need : ℕ) : Type 0 where
-  pub is_free : free ≡ w.free_pages
+pub record ArePages (t : Operations) (g : Ground) (v : View g) (txns : List Txn) (op : Op) (free reserved need : ℕ) : Type 0 where
+  pub is_free : free ≡ v.free_pages
   pub are_reserved : reserved ≡ sum_by (λ k. k.reserved) txns
-  pub is_needed : (o : g.O) → g.reading (pages_of t g w) ≡ Some o → need ≡ (g.needs t o op).pages
+  pub is_needed : (o : g.O) → g.reading (pages_of t g v) ≡ Some o → need ≡ (g.needs t o op).pages
 
-pub record AreBands (t : Operations) (g : Ground) (w : View g) (op : Op) (free need : ℕ) : Type 0 where
-  pub is_free : free ≡ w.free_bands
-  pub is_needed : (o : g.O) → g.reading (pages_of t g w) ≡ Some o → need ≡ (g.needs t o op).bands
+pub record AreBands (t : Operations) (g : Ground) (v : View g) (op : Op) (free need : ℕ) : Type 0 where
+  pub is_free : free ≡ v.free_bands
+  pub is_needed : (o : g.O) → g.reading (pages_of t g v) ≡ Some o → need ≡ (g.needs t o op).bands
 
 -- from one call of the engine to the next the pages read the same, and as much is free
 pub record SameRoom (t : Operations) (g : Ground) (v w : View g) : Type 0 where
@@ -101,30 +105,33 @@ pub record SameRoom (t : Operations) (g : Ground) (v w : View g) : Type 0 where
   pub pages : w.free_pages ≡ v.free_pages
   pub bands : w.free_bands ≡ v.free_bands
 
--- there was room for an operation
+-- enough pages were free for an operation, beside what is reserved, and enough bands
+abbrev pub HadPages : (t : Operations) (g : Ground) → (v : View g) → List Txn → Op → Type 0
+HadPages t g v txns op = (o : g.O) → g.reading (pages_of t g v) ≡ Some o → ((g.needs t o op).pages ≡ 0)
+    ⊎ (sum_by (λ k. k.reserved) txns + (g.needs t o op).pages ≤ v.free_pages)
+
 pub record HadRoom (t : Operations) (g : Ground) (v : View g) (txns : List Txn) (op : Op) : Type 0 where
-  pub pages : (o : g.O) → g.reading (pages_of t g v) ≡ Some o → ((g.needs t o op).pages ≡ 0)
-      ⊎ (sum_by (λ k. k.reserved) txns + (g.needs t o op).pages ≤ v.free_pages)
+  pub pages : HadPages t g v txns op
   pub bands : (o : g.O) → g.reading (pages_of t g v) ≡ Some o → (g.needs t o op).bands ≤ v.free_bands
 
--- a reply says that there was room at the call's begin, a refusal for want of it how much there is
-abbrev pub Numbers : (t : Operations) (g : Ground) → (v w : View g) → (before now : List Txn) → Op
-    → Result code_reply.Reply Refused → Type 0
-Numbers t g v w before txns op (Ok reply) = HadRoom t g v before op
-Numbers t g v w before txns op (Err (refusals.NoSpace free reserved need)) = ArePages t g w txns op free reserved need
-Numbers t g v w before txns op (Err (refusals.NoBands free need)) = AreBands t g w op free need
-Numbers t g v w before txns op (Err other) = Unit {0}
+-- THE ROOM AT A CALL'S BEGIN: a reply, and a refusal for the log's end, say that there was enough, and a refusal for want of it how much
+abbrev pub Numbers : (t : Operations) (g : Ground) → View g → List Txn → Op → Result code_reply.Reply Refused → Type 0
+Numbers t g v txns op (Ok reply) = HadRoom t g v txns op
+Numbers t g v txns op (Err (refusals.NoSpace free reserved need)) = ArePages t g v txns op free reserved need
+Numbers t g v txns op (Err (refusals.NoBands free need)) = HadPages t g v txns op × AreBands t g v op free need
+Numbers t g v txns op (Err refusals.LogEnd) = HadRoom t g v txns op
+Numbers t g v txns op (Err other) = Unit {0}
 
 -- there is, or the operation is refused
 abbrev pub Rooms : (t : Operations) (g : Ground) → (v w : View g) → (k m : Core) → Run → Op → Result Needed Refused → Type 0
 Rooms t g v w k m x op (Ok needs) = HasRoom t g w k.live x op needs × (m ≡ k)
 Rooms t g v w k m x op (Err (refusals.Model reason)) = IsKept t g w k.live x × ((step t (live_objects t x) op).0 ≡ Err reason) × (m ≡ k)
 Rooms t g v w k m x op (Err (refusals.NoSpace free reserved need)) = IsKept t g w k.live x × IsOk (step t (live_objects t x) op).0
-    × (0 < need) × (free < reserved + need) × (m ≡ k) × ArePages t g w k.live op free reserved need
+    × (0 < need) × (free < reserved + need) × (m ≡ k) × ArePages t g v k.live op free reserved need
 Rooms t g v w k m x op (Err (refusals.NoBands free need)) = IsKept t g w k.live x × IsOk (step t (live_objects t x) op).0
-    × (free < need) × (m ≡ k) × AreBands t g w op free need
+    × (free < need) × (m ≡ k) × (HadPages t g v k.live op × AreBands t g v op free need)
 Rooms t g v w k m x op (Err refusals.LogEnd) = IsKept t g w k.live x × IsOk (step t (live_objects t x) op).0
-    × IsTrue (is_changing op) × (NEW_WORK_END < w.tail) × (m ≡ k)
+    × IsTrue (is_changing op) × (NEW_WORK_END < w.tail) × (m ≡ k) × HadRoom t g v k.live op
 Rooms t g v w k m x op (Err refusals.DiskFault) = Broke v w k m
 Rooms t g v w k m x op (Err other) = ⊥
 
@@ -174,3 +181,14 @@ pub record IsLeavingSince (t : Operations) (g : Ground) (lawful : Type 0) (v w :
   pub tail : v.tail ≤ w.tail
   pub sum : left + w.tail ≡ MOST
   pub same : now ≡ before
+
+-- A LOOP SO FAR, from an engine and a store without one on: what each pass keeps, and what has been done
+pub record Since {basis : Sizes → Ground} (t : Operations) (old now : Shown basis) (before after : Core) (P : (g : Ground) → (v w : View g) → Type 0) : Type 0 where
+  pub means : KeepsBy t old now
+  pub told : now.Told → old.Told
+  pub tells : old.Told → now.Told
+  pub later : old.faults ≤ now.faults
+  pub quiet : now.faults ≡ old.faults
+  pub tail : old.tail ≤ now.tail
+  pub same : after ≡ before
+  pub done : AsMeantBy t old now P

@@ -1,17 +1,19 @@
 -- What is known of a page engine, and what its calls do.
-use Rattle.std.specs.Prelude.{◌≡◌, ℕ, ◌+◌, ◌≤◌, ◌<◌, ◌^◌, Bool, true, IsTrue, List, [], ◌∷◌, ◌++◌, Option, Some, None, Result, OnOk, IfErr}
+use Rattle.std.specs.Prelude.{◌≡◌, ◌≢◌, ℕ, ◌+◌, ◌≤◌, ◌<◌, ◌^◌, ◌==◌, ◌||◌, ◌&&◌, not, Bool, true, false, IsTrue, List, [], ◌∷◌, ◌++◌, length, drop, Option, Some, None, Result, OnOk, IfErr}
 use Rattle.sg_base.specs.Ends.{HasRisen}
 use Rattle.sg_base.specs.declared.numbers.TxnId.{TxnId}
 use Rattle.sg_disk.specs.Disk as disk
 use Rattle.sg_disk.specs.Disk.{Image, Leaves, LeavesOnly}
 use Rattle.sg_ops.specs.Table.{Table as Operations}
-use Rattle.sg_recovery.specs.Log.{Numbered, tally, is_in, open_not_of, notes_of, Top}
-use Rattle.sg_recovery.specs.Log.Record.{Change}
+use Rattle.sg_recovery.specs.Log.{Record, Numbered, tally, is_in, open_not_of, notes_of, Top}
+use Rattle.sg_recovery.specs.Log.Record.{Begin, Change, TopEnd, PhysComp, TopVoid, CompEnd, Save, Commit, End}
 use Rattle.sg_recovery.specs.Stands.{made}
 use Rattle.sg_recovery.specs.Chains.{next_lsn}
 use Rattle.sg_recovery.specs.Formed.{IsLog}
 use Rattle.sg_recovery.specs.Alike.{TakesTo}
 use Rattle.sg_join.specs.Join.{Grows, IsFront}
+use Rattle.sg_space.specs.declared.space.ListFault.{ListFault}
+use Rattle.sg_space.specs.declared.space.ListFault.TheVariants as lists
 use Rattle.sg_space.specs.declared.space.SpaceFault.{SpaceFault}
 use Rattle.sg_space.specs.declared.space.SpaceFault.TheVariants.{Disk, LogEnd}
 use Rattle.sg_store.specs.declared.fault.ObjFault.{ObjFault}
@@ -23,9 +25,10 @@ pub record Action (g : Ground) : Type 0 where
   pub transaction : ℕ
   pub pages : g.X
 
--- All that is known of an engine: its disk; the number of its log's first byte; the pages that it found; the records that it
--- appended and found, the newest first, and those of them that are durable whatever comes; the number of the log's next byte;
--- the action that was begun last; how many pages and bands are free; and its count of faults
+-- All that is known of an engine where it is known what its records mean and from which pages they lead: its disk; the number of
+-- its log's first byte; the pages before the first record; the records that it appended and found, the newest first, and those of
+-- them that are durable whatever comes; the number of the log's next byte; the action that was begun last; how many pages and
+-- bands are free; and its count of faults
 pub record View (g : Ground) : Type 0 where
   pub disk : disk.View
   pub base : ℕ
@@ -37,6 +40,90 @@ pub record View (g : Ground) : Type 0 where
   pub free_pages : ℕ
   pub free_bands : ℕ
   pub faults : ℕ
+
+-- how many pages and bands a store has
+pub record Sizes : Type 0 where
+  pub pages : ℕ
+  pub bands : ℕ
+
+-- The log of an engine on some ground, the newest record first; those of its records that are durable whatever comes; and the
+-- transaction whose action was begun last, if no other call has ended it
+pub record Records (g : Ground) : Type 0 where
+  pub log : List (Numbered g.C g.N)
+  pub durable : List (Numbered g.C g.N)
+  pub acting : Option ℕ
+
+-- WHAT AN ENGINE SHOWS, a function of its value
+pub record Shown (basis : Sizes → Ground) : Type 1 where
+  -- its disk tells what it holds and no call has failed, so that its log and its contents are known
+  pub Told : Type 0
+  pub disk : disk.View
+  -- the number of the log's first byte, and of its next one
+  pub base : ℕ
+  pub tail : ℕ
+  -- the number of the first byte that the log still has, of which a cut takes away
+  pub start : ℕ
+  pub free_pages : ℕ
+  pub free_bands : ℕ
+  pub faults : ℕ
+  -- its log, as a store of these sizes
+  pub records : (z : Sizes) → Records (basis z)
+  -- its records are of these operations, it has these sizes, and its records lead from these pages
+  pub means : Operations → (z : Sizes) → (basis z).X → Type 0
+
+-- the log before the changes of its open action, which are its newest records
+abbrev pub before_open : {C N : Type 0} → List (Numbered C N) → List (Numbered C N)
+before_open log = drop (length (tally log).opened) log
+
+abbrev pub action_of : (t : Operations) (g : Ground) → g.X → List (Numbered g.C g.N) → Option ℕ → Option (Action g)
+action_of t g from log None = None
+action_of t g from log (Some u) = Some (record { transaction = u; pages = made (setting t g) from (before_open log) })
+
+-- what an engine shows whose records are of these operations and lead from these pages, as a store of these sizes
+abbrev pub led : {basis : Sizes → Ground} → (t : Operations) (z : Sizes) → (basis z).X → Shown basis → View (basis z)
+led {basis = basis} t z from e = record {
+  disk = e.disk;
+  base = e.base;
+  first = from;
+  log = (e.records z).log;
+  durable = (e.records z).durable;
+  tail = e.tail;
+  action = action_of t (basis z) from (e.records z).log (e.records z).acting;
+  free_pages = e.free_pages;
+  free_bands = e.free_bands;
+  faults = e.faults;
+}
+
+-- WHAT A CALL KEEPS: what an engine's records mean, its sizes, and from which pages its records lead
+abbrev pub Keeps : {basis : Sizes → Ground} → (old new : Shown basis) → Type 0
+Keeps {basis = basis} old new = (t : Operations) (z : Sizes) (from : (basis z).X) → old.means t z from → new.means t z from
+
+-- A call that is given operations keeps that its records are of these
+abbrev pub KeepsBy : {basis : Sizes → Ground} → Operations → (old new : Shown basis) → Type 0
+KeepsBy {basis = basis} t old new = (z : Sizes) (from : (basis z).X) → old.means t z from → new.means t z from
+
+-- WHAT A CALL DOES to an engine that tells, of whatever its records mean: this holds of what it showed and shows
+abbrev pub AsMeant : {basis : Sizes → Ground} → (old new : Shown basis) → ((t : Operations) (g : Ground) → (v w : View g) → Type 0) → Type 0
+AsMeant {basis = basis} old new P = (t : Operations) (z : Sizes) (from : (basis z).X) → old.means t z from → old.Told → P t (basis z) (led t z from old) (led t z from new)
+
+-- where its records are of these operations
+abbrev pub AsMeantBy : {basis : Sizes → Ground} → Operations → (old new : Shown basis) → ((g : Ground) → (v w : View g) → Type 0) → Type 0
+AsMeantBy {basis = basis} t old new P = (z : Sizes) (from : (basis z).X) → old.means t z from → old.Told → P (basis z) (led t z from old) (led t z from new)
+
+-- WHAT IS ASKED OF A CALLER: the engine's records mean something, and where it tells, this holds of what it shows
+pub record Asked {basis : Sizes → Ground} (e : Shown basis) (P : (t : Operations) (g : Ground) → View g → Type 0) : Type 0 where
+  pub by : Operations
+  pub sizes : Sizes
+  pub from : (basis sizes).X
+  pub means : e.means by sizes from
+  pub can : e.Told → P by (basis sizes) (led by sizes from e)
+
+-- the same where the call is given the operations: the engine's records are of these
+pub record AskedBy {basis : Sizes → Ground} (t : Operations) (e : Shown basis) (P : (g : Ground) → View g → Type 0) : Type 0 where
+  pub sizes : Sizes
+  pub from : (basis sizes).X
+  pub means : e.means t sizes from
+  pub can : e.Told → P (basis sizes) (led t sizes from e)
 
 -- what its pages and bands hold: what its records make of what it found
 abbrev pub pages_of : (t : Operations) (g : Ground) → View g → g.X
@@ -126,8 +213,11 @@ pub record Rested (t : Operations) (g : Ground) (old new : View g) : Type 0 wher
   pub pages : new.free_pages ≡ old.free_pages
   pub bands : new.free_bands ≡ old.free_bands
 
--- No call makes the count of faults or the log's end less, and none fails for the disk unless the count rose
-pub record Counts {T E : Type 0} (IsDisk : E → Type 0) {g : Ground} (old new : View g) (result : Result T E) : Type 0 where
+-- What each call keeps, on any engine: none makes the count of faults or the log's end less, none fails for the disk unless the
+-- count rose. One that tells behind a call told before it, and it tells still unless the call failed
+pub record Counts {T E : Type 0} (IsDisk : E → Type 0) {basis : Sizes → Ground} (old new : Shown basis) (result : Result T E) : Type 0 where
+  pub told : new.Told → old.Told
+  pub tells : OnOk result (old.Told → new.Told)
   pub tail : old.tail ≤ new.tail
   pub later : old.faults ≤ new.faults
   pub quiet : OnOk result (new.faults ≡ old.faults)
@@ -137,9 +227,9 @@ abbrev pub LOG_END : ℕ
 LOG_END = 2 ^ 63
 
 -- A record may be refused for the log's end only where it might pass that
-abbrev pub IsNearEnd : {g : Ground} → View g → SpaceFault → Type 0
-IsNearEnd v Disk = Unit {0}
-IsNearEnd v LogEnd = LOG_END < v.tail + 131072
+abbrev pub IsNearEnd : (tail : ℕ) → SpaceFault → Type 0
+IsNearEnd tail Disk = Unit {0}
+IsNearEnd tail LogEnd = LOG_END < tail + 131072
 
 -- the fault is one of the disk
 abbrev pub IsDiskFault : SpaceFault → Type 0
@@ -160,17 +250,100 @@ abbrev pub IsReadFault : ObjFault → Type 0
 IsReadFault (Model reason) = Unit {0}
 IsReadFault (Space fault) = IsDiskFault fault
 
+-- an operation that is refused for its reason is no fault: an engine that told tells still, and its count is as it was
+abbrev pub IsRefusedQuietly : {basis : Sizes → Ground} → (old new : Shown basis) → ObjFault → Type 0
+IsRefusedQuietly old new (Model reason) = (old.Told → new.Told) × (new.faults ≡ old.faults)
+IsRefusedQuietly old new (Space fault) = Unit {0}
+
+-- of a call that lists: the fault is one of the disk
+abbrev pub IsListDisk : ListFault → Type 0
+IsListDisk (lists.Space fault) = IsDiskFault fault
+IsListDisk lists.Memory = ⊥
+
+-- and it isn't refused for the log's end
+abbrev pub IsListRead : ListFault → Type 0
+IsListRead (lists.Space fault) = IsDiskFault fault
+IsListRead lists.Memory = Unit {0}
+
 -- no transaction that goes on began before this one, and none goes on where there is none
 abbrev pub IsOldest : Option TxnId → List ℕ → Type 0
 IsOldest None live = (u : ℕ) → is_in u live ≡ true → ⊥
 IsOldest (Some oldest) live = (u : ℕ) → is_in u live ≡ true → oldest.0 ≤ u
 
--- One verb's changes raise the log's tail by less: 4,096 records of at most 16,422 bytes with what a frame adds
+-- One verb's changes raise the log's tail by less: a put that splits buckets writes at most 40,755 records, each of at most 16,422
+-- bytes with what a frame adds
 abbrev pub VERB_BYTES : ℕ
-VERB_BYTES = 2 ^ 27
+VERB_BYTES = 2 ^ 30
 
 -- a verb is refused for the log's end only where it can change something and its changes might pass that
-abbrev pub IsVerbEnd : {g : Ground} → Bool → View g → ObjFault → Type 0
-IsVerbEnd changing v (Model reason) = Unit {0}
-IsVerbEnd changing v (Space Disk) = Unit {0}
-IsVerbEnd changing v (Space LogEnd) = IsTrue changing × (LOG_END < v.tail + VERB_BYTES)
+abbrev pub IsVerbEnd : Bool → (tail : ℕ) → ObjFault → Type 0
+IsVerbEnd changing tail (Model reason) = Unit {0}
+IsVerbEnd changing tail (Space Disk) = Unit {0}
+IsVerbEnd changing tail (Space LogEnd) = IsTrue changing × (LOG_END < tail + VERB_BYTES)
+
+-- none of these is there twice
+abbrev pub AreDistinct : List ℕ → Type 0
+AreDistinct [] = Unit {0}
+AreDistinct (n ∷ ns) = (is_in n ns ≡ false) × AreDistinct ns
+
+-- whether a transaction goes on behind a record, or has committed and not ended
+abbrev pub goes_behind : {C N : Type 0} → ℕ → Record C N → Bool → Bool
+goes_behind u (Begin t p) was = t == u || was
+goes_behind u (Change t p c) was = was
+goes_behind u (TopEnd t p i n) was = was
+goes_behind u (PhysComp t p i c) was = was
+goes_behind u (TopVoid t p i) was = was
+goes_behind u (CompEnd t p i) was = was
+goes_behind u (Save t p m) was = was
+goes_behind u (Commit t p) was = was
+goes_behind u (End t p) was = was && not (u == t)
+
+-- whether it has begun and not ended
+abbrev pub is_going : {C N : Type 0} → ℕ → List (Numbered C N) → Bool
+is_going u [] = false
+is_going u (r ∷ rs) = goes_behind u r.is (is_going u rs)
+
+-- WHAT THE CALLS ASK where the engine tells. It is between calls, and no action has changes that wait for their end
+pub record IsAtRest (t : Operations) (g : Ground) (v : View g) : Type 0 where
+  pub engine : IsEngine t g v
+  pub idle : IsIdle v
+
+-- and fewer transactions go on than may
+pub record HasPlace (t : Operations) (g : Ground) (v : View g) : Type 0 where
+  pub rest : IsAtRest t g v
+  pub few : length (tally v.log).live < 64
+
+-- the transaction goes on besides
+pub record IsAt (u : ℕ) (t : Operations) (g : Ground) (v : View g) : Type 0 where
+  pub rest : IsAtRest t g v
+  pub live : is_in u (tally v.log).live ≡ true
+
+-- it has begun and not ended
+pub record MayEnd (u : ℕ) (t : Operations) (g : Ground) (v : View g) : Type 0 where
+  pub rest : IsAtRest t g v
+  pub going : is_going u v.log ≡ true
+
+-- it goes on, or it is the system
+pub record MayAct (u : ℕ) (t : Operations) (g : Ground) (v : View g) : Type 0 where
+  pub rest : IsAtRest t g v
+  pub live : u ≢ 0 → is_in u (tally v.log).live ≡ true
+
+-- an action of this transaction was begun
+pub record ActsFor (u : ℕ) (t : Operations) (g : Ground) (v : View g) : Type 0 where
+  pub engine : IsEngine t g v
+  pub action : Action g
+  pub acting : v.action ≡ Some action
+  pub own : action.transaction ≡ u
+
+-- an action of this transaction was begun that undoes its last standing note, behind which undoing goes on at this number
+pub record ActsBack (u after : ℕ) (t : Operations) (g : Ground) (v : View g) : Type 0 where
+  pub acts : ActsFor u t g v
+  pub top : Top g.C g.N
+  pub rest : List (Top g.C g.N)
+  pub last : notes_of u (tally v.log).notes ≡ top ∷ rest
+  pub next : top.undo_next ≡ after
+
+-- no transaction that goes on began before this one
+pub record IsFirst (oldest : Option TxnId) (t : Operations) (g : Ground) (v : View g) : Type 0 where
+  pub rest : IsAtRest t g v
+  pub first : IsOldest oldest (tally v.log).live

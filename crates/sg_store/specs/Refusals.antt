@@ -1,11 +1,14 @@
 -- What a store's answers say, in the words of its run.
-use Rattle.std.specs.Prelude.{ℕ, List, Result, Ok, Err}
+use Rattle.std.specs.Prelude.{ℕ, List, Vec, Result, Ok, Err}
 use Rattle.sg_base.specs.declared.numbers.TxnId.{TxnId}
 use Rattle.sg_model.specs.declared.op.Reply as code_reply
 use Rattle.sg_model.specs.SaidReplies.{said_reply}
 use Rattle.sg_model.specs.Verb.{Reply}
+use Rattle.sg_model.specs.Verb.Reply.{Several}
+use Rattle.sg_locks.specs.declared.table.LockAnswer.{LockAnswer}
+use Rattle.sg_locks.specs.declared.table.LockAnswer.TheVariants as locks
 use Rattle.sg_run.specs.Numbers.{Refusal}
-use Rattle.sg_run.specs.Numbers.Refusal.{NoTransaction, TooManyLive, Busy, LocksFull, Because, NoSpace, NoBands, LogEnd, Disk, Stopped}
+use Rattle.sg_run.specs.Numbers.Refusal.{NoTransaction, TooManyLive, Busy, LocksFull, Because, NoSpace, NoBands, LogEnd, Memory, Disk, Stopped}
 use Rattle.sg_store.specs.declared.fault.Refused.{Refused}
 use Rattle.sg_store.specs.declared.fault.Refused.TheVariants as refusals
 
@@ -18,6 +21,7 @@ said_refusal (refusals.Model reason) = Because reason
 said_refusal (refusals.NoSpace free reserved need) = NoSpace free reserved need
 said_refusal (refusals.NoBands free need) = NoBands free need
 said_refusal refusals.LogEnd = LogEnd
+said_refusal refusals.Memory = Memory
 said_refusal refusals.DiskFault = Disk
 said_refusal refusals.Stopped = Stopped
 
@@ -34,3 +38,14 @@ said_done (Err e) = Err (said_refusal e)
 abbrev pub said_outcome : List ℕ → Result code_reply.Reply Refused → Result Reply Refusal
 said_outcome into (Ok reply) = Ok (said_reply into reply)
 said_outcome into (Err e) = Err (said_refusal e)
+
+-- of a list, its words
+abbrev pub said_words : {A : Type 0} → Result (Vec (List ℕ) A) Refused → Result Reply Refusal
+said_words (Ok words) = Ok (Several words.items)
+said_words (Err e) = Err (said_refusal e)
+
+-- of what asking for locks came to
+abbrev pub said_lock : LockAnswer → Result (Unit {0}) Refused
+said_lock locks.Granted = Ok tt
+said_lock (locks.Busy holder) = Err (refusals.Busy holder)
+said_lock locks.LocksFull = Err refusals.LocksFull

@@ -18,7 +18,7 @@ use Rattle.sg_run.specs.Run.{Run, committed, committed_objects}
 use Rattle.sg_run.specs.Serial.{IsSound}
 use Rattle.sg_join.specs.Join.{Keeps, IsOf}
 use Rattle.sg_store.specs.Ground.{Ground, setting, are_written}
-use Rattle.sg_store.specs.Engine.{View, IsEngine, IsIdle, pages_of}
+use Rattle.sg_store.specs.Engine.{View, IsEngine, IsIdle, is_going, pages_of}
 use Rattle.sg_store.specs.Stands.{StandsForFirst}
 
 -- A store without its engine: the live transactions in order of begin, with how many pages each has reserved; what they
@@ -108,6 +108,7 @@ pub record IsUndoing (t : Operations) (g : Ground) (v : View g) (txns : List Txn
 -- still belongs to what was held before it, so that what the transaction dropped is apart from what the others hold
 pub record IsLeaving (t : Operations) (g : Ground) (v : View g) (txns : List Txn) (x : Run) (u : ℕ) : Type 0 where
   pub was : is_live x.so_far.live u ≡ true
+  pub going : is_going u v.log ≡ true
   pub sound : IsSound t x
   pub live : map (λ l. l.transaction) (without u txns) ≡ map (λ l. l.transaction) (committed x u).so_far.live
   pub engine : IsEngine t g v

@@ -11,13 +11,19 @@ use Rattle.sg_store.specs.declared.fault.Needed.{Needed}
 use Rattle.sg_store.specs.declared.fault.ObjFault.{ObjFault}
 use Rattle.sg_store.specs.declared.fault.ObjFault.TheVariants.{Model, Space as InSpace}
 use Rattle.sg_model.specs.Verb.{Op, Reply}
+use Rattle.sg_model.specs.Verb.Op.{On, Names}
+use Rattle.sg_model.specs.Verb.Verb.{Keys}
+use Rattle.sg_model.specs.Verb.Reply.{Several}
+use Rattle.sg_space.specs.declared.space.ListFault.{ListFault}
+use Rattle.sg_space.specs.declared.space.ListFault.TheVariants as lists
+use Rattle.std.specs.Prelude.{Vec}
 use Rattle.sg_model.specs.Step.{step}
 use Rattle.sg_recovery.specs.Log.{Numbered, Top, tally}
 use Rattle.sg_recovery.specs.Stands.{wants_one}
 use Rattle.sg_recovery.specs.Keeps.{HasUndone}
 use Rattle.sg_recovery.specs.Runs.{note_of, DoesVerb, DoesFree}
 use Rattle.sg_store.specs.Ground.{Ground, setting, are_written}
-use Rattle.sg_store.specs.Engine.{View, Action, pages_of, IsIdle, Changed, Rested}
+use Rattle.sg_store.specs.Engine.{View, Action, IsEngine, pages_of, IsIdle, IsAtRest, ActsFor, Changed, Rested}
 
 -- the engine's pages read so, and each page is free that this doesn't reach
 pub record Reads (t : Operations) (g : Ground) (v : View g) (o : g.O) : Type 0 where
@@ -31,6 +37,19 @@ pub record CanPerform (t : Operations) (g : Ground) (v : View g) (o : g.O) (op :
   pub acts : IsSome v.action
   pub pages : (g.needs t o op).pages ≤ v.free_pages
   pub bands : (g.needs t o op).bands ≤ v.free_bands
+
+-- WHAT THE CALLS ASK where the engine tells. It is between calls and its pages can be read, and no action has changes that wait for
+-- their end
+pub record CanLook (t : Operations) (g : Ground) (v : View g) : Type 0 where
+  pub rest : IsAtRest t g v
+  pub reading : g.O
+  pub reads : Reads t g v reading
+
+-- the operation may be done in the action of this transaction
+pub record CanDo (u : ℕ) (op : Op) (t : Operations) (g : Ground) (v : View g) : Type 0 where
+  pub acts : ActsFor u t g v
+  pub reading : g.O
+  pub can : CanPerform t g v reading op
 
 -- it left things as they were, and no record
 pub record LeftAlone (t : Operations) (g : Ground) (old new : View g) (o : g.O) (op : Op) : Type 0 where
@@ -76,6 +95,21 @@ pub record CanReverse (t : Operations) (g : Ground) (a : Action g) (v : View g) 
   pub page : wants_one (setting t g) n ≤ v.free_pages
   pub back : g.PutsBack t n.note n.changes a.pages (pages_of t g v)
 
+-- the bytes are a note that may be reversed so in the action that was begun
+pub record CanTakeBack (note : List ℕ) (t : Operations) (g : Ground) (v : View g) : Type 0 where
+  pub engine : IsEngine t g v
+  pub action : Action g
+  pub acting : v.action ≡ Some action
+  pub reading : g.O
+  pub top : Top g.C g.N
+  pub said : g.note note ≡ top.note
+  pub can : CanReverse t g action v reading top
+
+-- an action of the system was begun, which has changed nothing yet
+pub record CanFree (t : Operations) (g : Ground) (v : View g) : Type 0 where
+  pub look : CanLook t g v
+  pub acting : v.action ≡ Some (record { transaction = 0; pages = pages_of t g v })
+
 -- it was, and took a page only where it wants one
 pub record Reversed (t : Operations) (g : Ground) (new : View g) (o : g.O) (n : Top g.C g.N) : Type 0 where
   pub undone : HasUndone (setting t g) n (pages_of t g new) o
@@ -96,6 +130,31 @@ abbrev pub HasNeeds : (t : Operations) (g : Ground) → (old new : View g) → g
 HasNeeds t g old new o op (Ok needs) = Rested t g old new × HasNeed t g o op needs
 HasNeeds t g old new o op (Err (Model reason)) = Rested t g old new × ((step t (g.objects o) op).0 ≡ Err reason)
 HasNeeds t g old new o op (Err (InSpace fault)) = Unit {0}
+
+-- A list of words was asked for, by an operation that only reads: these are its reply; or memory was refused where it has one.
+-- Nothing has changed
+pub record HasWords (t : Operations) (g : Ground) (old new : View g) (o : g.O) (op : Op) (words : List (List ℕ)) : Type 0 where
+  pub rested : Rested t g old new
+  pub said : (step t (g.objects o) op).0 ≡ Ok (Several words)
+
+pub record LacksMemory (t : Operations) (g : Ground) (old new : View g) (o : g.O) (op : Op) : Type 0 where
+  pub rested : Rested t g old new
+  pub replies : IsOk (step t (g.objects o) op).0
+
+-- a list failed
+abbrev pub IsUnlisted : (t : Operations) (g : Ground) → (old new : View g) → g.O → Op → ListFault → Type 0
+IsUnlisted t g old new o op lists.Memory = LacksMemory t g old new o op
+IsUnlisted t g old new o op (lists.Space fault) = Unit {0}
+
+-- the keys of a table, and the names of all objects
+abbrev pub HasKeys : {A : Type 0} → (t : Operations) (g : Ground) → (old new : View g) → g.O → (name : List ℕ) → Result (Result (Vec (List ℕ) A) Reason) ListFault → Type 0
+HasKeys t g old new o name (Ok (Ok keys)) = HasWords t g old new o (On name Keys) keys.items
+HasKeys t g old new o name (Ok (Err reason)) = Rested t g old new × ((step t (g.objects o) (On name Keys)).0 ≡ Err reason)
+HasKeys t g old new o name (Err fault) = IsUnlisted t g old new o (On name Keys) fault
+
+abbrev pub HasNames : {A : Type 0} → (t : Operations) (g : Ground) → (old new : View g) → g.O → Result (Vec (List ℕ) A) ListFault → Type 0
+HasNames t g old new o (Ok names) = HasWords t g old new o Names names.items
+HasNames t g old new o (Err fault) = IsUnlisted t g old new o Names fault
 
 abbrev pub HasPerformed : (t : Operations) (g : Ground) → Action g → (old new : View g) → g.O → Op → List (Numbered g.C g.N)
     → (into note : List ℕ) → Result code_reply.Reply ObjFault → Type 0

@@ -1,37 +1,52 @@
 ghost use Rattle.std.specs.Prelude.{◌≡◌, ◌≤◌, ◌<◌, ◌+◌, ℕ, List, false, [], ◌∷◌, Option, Some, None, Ok, OnOk, IfOk, IfErr, IfSome, length};
 ghost use Rattle.sg_base.specs.Ends.{HasRisen};
-ghost use Rattle.sg_ops.specs.Table.{Table as Operations, table_of};
+ghost use Rattle.sg_ops.specs.Table.{table_of};
 ghost use Rattle.sg_model.specs.SaidOps.{said_op};
-ghost use Rattle.sg_model.specs.SaidReplies.{said_reply};
 ghost use Rattle.sg_model.specs.TouchList.{shown_touches};
 ghost use Rattle.sg_model.specs.Touches.{touches};
-ghost use Rattle.sg_model.specs.Step.{step, is_changing};
+ghost use Rattle.sg_model.specs.Step.{is_changing};
+ghost use Rattle.sg_model.specs.Verb.Op.{On, Names};
+ghost use Rattle.sg_model.specs.Verb.Verb.{Keys};
 ghost use Rattle.sg_recovery.specs.Log.{Top, tally, notes_of};
 ghost use Rattle.sg_recovery.specs.Log.Record.{Begin, TopEnd, CompEnd, Commit, End};
 ghost use Rattle.sg_store.specs.Ground.{Ground};
-ghost use Rattle.sg_store.specs.Engine.{IsOldest, View, Action, IsEngine, IsIdle, pages_of, Appends, Appended, Changes, Changed, Rests, Rested, Counts, IsNearEnd, IsVerbEnd, VERB_BYTES, IsDiskFault, IsObjDisk, IsReadFault, IsNextUndo};
-ghost use Rattle.sg_store.specs.Verbs.{Reads, CanPerform, CanReverse, Reversed, HasPerformed, HasNeeds, FreesNext};
+ghost use Rattle.sg_store.specs.Engine.{Sizes, Shown, Keeps, KeepsBy, AsMeant, AsMeantBy, Asked, AskedBy, IsOldest, Action, IsEngine, IsIdle, pages_of, Appends, Appended, Changes, Changed, Rests, Rested, Counts, IsNearEnd, IsVerbEnd, VERB_BYTES, IsDiskFault, IsObjDisk, IsReadFault, IsRefusedQuietly, IsListDisk, IsListRead, IsNextUndo, IsAtRest, HasPlace, IsAt, MayAct, MayEnd, ActsFor, ActsBack, IsFirst};
+ghost use Rattle.sg_store.specs.Verbs.{Reads, CanLook, CanPerform, CanDo, CanReverse, CanTakeBack, CanFree, Reversed, HasPerformed, HasNeeds, HasKeys, HasNames, FreesNext};
 
 use crate::fault::{Needed, ObjFault};
-use sg_base::{Lsn, TxnId};
-use sg_model::{Op, Reply, Touches};
+use sg_base::{Lsn, Name, TxnId};
+use sg_bucket::Bytes;
+use sg_model::{Op, Reason, Reply, Touches};
 use sg_ops::Ops;
-use sg_space::{SpaceFault, UndoNote};
+use sg_space::{ListFault, SpaceFault, UndoNote};
+use std::alloc::Global;
 
 /// Pages and bands that are changed in actions, each of a transaction, over a log.
 ///
 /// An action's records are changes, and then one that ends it with a note of how it is undone, or that
 /// says what it has undone. What the clauses say is said of an engine that has kept to them so far
 /// (`IsEngine`): of one whose disk tells, and whose image stood for objects when it was opened.
+///
+/// What is asked of a caller is asked where the engine tells. On any engine each call is safe and
+/// returns, and fails only where the count of faults rose, or near the log's end.
 pub trait Engine {
-    ghost basis: { Ground };
+    /// What its pages, its records and its objects are, by how many pages and bands it has.
+    ghost basis: { Sizes → Ground };
 
-    /// All that is known of it.
-    ghost view: { Self → View basis };
+    /// All that is known of its value.
+    ghost view: { Self → Shown basis };
+
+    /// The same while it is being opened: an action may be without its end, and what is free isn't known yet. No call
+    /// of these is asked of it then.
+    ghost opened: { Self → Shown basis };
 
     /// The number of the log's next byte.
     fn tail(&self) -> Lsn
         ensures { result ≡ (view self.now).tail };
+
+    /// The number of the first byte that the log still has.
+    fn start(&self) -> Lsn
+        ensures { result ≡ (view self.now).start };
 
     /// How many pages are free.
     fn free_pages(&self) -> u32
@@ -43,138 +58,158 @@ pub trait Engine {
 
     /// A transaction begins, whose number is that of its begin record.
     fn begin(&mut self) -> Result<TxnId, SpaceFault>
+        requires can { Asked (view self.old) HasPlace }
         ensures number { IfOk result (λ u. ((view self.old).tail ≤ u.0) × (u.0 < (view self.new).tail)) }
         ensures counts { Counts IsDiskFault (view self.old) (view self.new) result }
-        ensures log_end { IfErr result (IsNearEnd (view self.old)) }
-        ensures begins { let v = view self.old in let w = view self.new in (t : Operations) → IsEngine t basis v
-            → IsIdle v → (n : ℕ) × Appends t basis v w (record { lsn = n; is = Begin n 0 })
-            × IfOk result (λ u. (u.0 ≡ n) × Appended t basis v w (record { lsn = n; is = Begin n 0 })) };
+        ensures means { Keeps (view self.old) (view self.new) }
+        ensures log_end { IfErr result (IsNearEnd (view self.old).tail) }
+        ensures begins { AsMeant (view self.old) (view self.new) (λ t g v w. IsEngine t g v → IsIdle v
+            → (n : ℕ) × Appends t g v w (record { lsn = n; is = Begin n 0 })
+            × IfOk result (λ u. (u.0 ≡ n) × Appended t g v w (record { lsn = n; is = Begin n 0 }))) };
 
     /// What is changed from now on is an action of this transaction, which is live, or of the system.
     fn act(&mut self, txn: TxnId)
+        requires can { Asked (view self.old) (MayAct txn.0) }
         ensures tail { (view self.new).tail ≡ (view self.old).tail }
         ensures quiet { (view self.new).faults ≡ (view self.old).faults }
-        ensures acts { let v = view self.old in (t : Operations) → IsEngine t basis v → IsIdle v
-            → IsEngine t basis (view self.new)
-            × (view self.new ≡ record v { action = Some (record { transaction = txn.0; pages = pages_of t basis v }) }) };
+        ensures told { (view self.new).Told → (view self.old).Told }
+        ensures tells { (view self.old).Told → (view self.new).Told }
+        ensures means { Keeps (view self.old) (view self.new) }
+        ensures acts { AsMeant (view self.old) (view self.new) (λ t g v w. IsEngine t g v → IsIdle v
+            → IsEngine t g w × (w ≡ record v { action = Some (record { transaction = txn.0; pages = pages_of t g v }) })) };
 
     /// Ends the action of the transaction, with how it is undone.
     fn end_action(&mut self, txn: TxnId, note: &UndoNote) -> Result<(), SpaceFault>
+        requires can { Asked (view self.old) (ActsFor txn.0) }
         ensures counts { Counts IsDiskFault (view self.old) (view self.new) result }
-        ensures log_end { IfErr result (IsNearEnd (view self.old)) }
-        ensures ends { let v = view self.old in let w = view self.new in (t : Operations) (a : Action basis)
-            → IsEngine t basis v → v.action ≡ Some a → a.transaction ≡ txn.0 → (lsn : ℕ)
+        ensures means { Keeps (view self.old) (view self.new) }
+        ensures log_end { IfErr result (IsNearEnd (view self.old).tail) }
+        ensures ends { AsMeant (view self.old) (view self.new) (λ t g v w. (a : Action g)
+            → IsEngine t g v → v.action ≡ Some a → a.transaction ≡ txn.0 → (lsn : ℕ)
             × (previous : ℕ) × (undo_next : ℕ)
-            × Appends t basis v w (record { lsn = lsn; is = TopEnd txn.0 previous undo_next (basis.note note.now) })
-            × OnOk result (Appended t basis v w (record { lsn = lsn; is = TopEnd txn.0 previous undo_next (basis.note note.now) })) };
+            × Appends t g v w (record { lsn = lsn; is = TopEnd txn.0 previous undo_next (g.note note.now) })
+            × OnOk result (Appended t g v w (record { lsn = lsn; is = TopEnd txn.0 previous undo_next (g.note note.now) }))) };
 
     /// Begins an action that undoes the last standing note of a live transaction, which it gives, with the
     /// number behind which undoing goes on; `None` exactly where none stands. What the note's action found
     /// in bands is back where the note asks for that.
     fn undo_step(&mut self, txn: TxnId, into: &mut UndoNote) -> Result<Option<Lsn>, SpaceFault>
+        requires can { Asked (view self.old) (IsAt txn.0) }
         ensures counts { Counts IsDiskFault (view self.old) (view self.new) result }
-        ensures log_end { IfErr result (IsNearEnd (view self.new)) }
-        ensures none { let v = view self.old in (t : Operations) → IsEngine t basis v → IsIdle v → result ≡ Ok None
-            → (notes_of txn.0 (tally v.log).notes ≡ []) × Rested t basis v (view self.new) }
-        ensures some { let v = view self.old in let w = view self.new in (t : Operations) (a : Action basis)
-            → IsEngine t basis v → IsIdle v
-            → a ≡ record { transaction = txn.0; pages = pages_of t basis v }
-            → (c : Changes t basis a v w)
-            × IfOk result (λ after. IfSome after (λ next. (n : Top basis.C basis.N)
-            × (ns : List (Top basis.C basis.N)) × (notes_of txn.0 (tally v.log).notes ≡ n ∷ ns)
-            × (n.undo_next ≡ next) × (basis.note into.new ≡ n.note)
-            × basis.PutsBack t n.note n.changes a.pages (pages_of t basis w)
-            × (w.free_pages ≡ v.free_pages) × Changed t basis a v w c.made)) };
+        ensures means { Keeps (view self.old) (view self.new) }
+        ensures log_end { IfErr result (IsNearEnd (view self.new).tail) }
+        ensures none { AsMeant (view self.old) (view self.new) (λ t g v w. IsEngine t g v → IsIdle v → result ≡ Ok None
+            → (notes_of txn.0 (tally v.log).notes ≡ []) × Rested t g v w) }
+        ensures some { AsMeant (view self.old) (view self.new) (λ t g v w. (a : Action g)
+            → IsEngine t g v → IsIdle v
+            → a ≡ record { transaction = txn.0; pages = pages_of t g v }
+            → (c : Changes t g a v w)
+            × IfOk result (λ after. IfSome after (λ next. (n : Top g.C g.N)
+            × (ns : List (Top g.C g.N)) × (notes_of txn.0 (tally v.log).notes ≡ n ∷ ns)
+            × (n.undo_next ≡ next) × (g.note into.new ≡ n.note)
+            × g.PutsBack t n.note n.changes a.pages (pages_of t g w)
+            × (w.free_pages ≡ v.free_pages) × Changed t g a v w c.made))) };
 
     /// The number of the note that `undo_step` would come to; `None` exactly where none stands. Nothing is
     /// changed.
     fn next_undo(&mut self, txn: TxnId) -> Result<Option<Lsn>, SpaceFault>
+        requires can { Asked (view self.old) (IsAt txn.0) }
         ensures counts { Counts IsDiskFault (view self.old) (view self.new) result }
+        ensures means { Keeps (view self.old) (view self.new) }
         ensures reads { IfErr result IsDiskFault }
-        ensures finds { let v = view self.old in let w = view self.new in (t : Operations) → IsEngine t basis v
-            → IsIdle v → Rests t basis v w × IfOk result (λ r. Rested t basis v w
-            × IsNextUndo txn.0 (tally v.log).notes r) };
+        ensures finds { AsMeant (view self.old) (view self.new) (λ t g v w. IsEngine t g v
+            → IsIdle v → Rests t g v w × IfOk result (λ r. Rested t g v w
+            × IsNextUndo txn.0 (tally v.log).notes r)) };
 
     /// Reports that what was read can't be. An engine that has kept to its clauses is never asked.
     fn broken(&mut self) -> SpaceFault
         ensures answer { result ≡ SpaceFault.Disk }
         ensures tail { (view self.new).tail ≡ (view self.old).tail }
         ensures later { (view self.old).faults ≤ (view self.new).faults }
+        ensures told { (view self.new).Told → (view self.old).Told }
+        ensures means { Keeps (view self.old) (view self.new) }
         ensures risen { HasRisen (view self.old).faults (view self.new).faults };
 
     /// Ends the action that undid a note, behind which undoing goes on at this number.
     fn end_undo(&mut self, txn: TxnId, after: Lsn) -> Result<(), SpaceFault>
+        requires can { Asked (view self.old) (ActsBack txn.0 after) }
         ensures counts { Counts IsDiskFault (view self.old) (view self.new) result }
-        ensures log_end { IfErr result (IsNearEnd (view self.old)) }
-        ensures ends { let v = view self.old in let w = view self.new in (t : Operations) (a : Action basis)
-            → IsEngine t basis v → v.action ≡ Some a → a.transaction ≡ txn.0
-            → (n : Top basis.C basis.N) (ns : List (Top basis.C basis.N))
+        ensures means { Keeps (view self.old) (view self.new) }
+        ensures log_end { IfErr result (IsNearEnd (view self.old).tail) }
+        ensures ends { AsMeant (view self.old) (view self.new) (λ t g v w. (a : Action g)
+            → IsEngine t g v → v.action ≡ Some a → a.transaction ≡ txn.0
+            → (n : Top g.C g.N) (ns : List (Top g.C g.N))
             → notes_of txn.0 (tally v.log).notes ≡ n ∷ ns → n.undo_next ≡ after → (lsn : ℕ)
             × (previous : ℕ)
-            × Appends t basis v w (record { lsn = lsn; is = CompEnd txn.0 previous after })
-            × OnOk result (Appended t basis v w (record { lsn = lsn; is = CompEnd txn.0 previous after })) };
+            × Appends t g v w (record { lsn = lsn; is = CompEnd txn.0 previous after })
+            × OnOk result (Appended t g v w (record { lsn = lsn; is = CompEnd txn.0 previous after }))) };
 
     /// Commits a live transaction, and makes the log durable.
     fn commit(&mut self, txn: TxnId) -> Result<(), SpaceFault>
+        requires can { Asked (view self.old) (IsAt txn.0) }
         ensures counts { Counts IsDiskFault (view self.old) (view self.new) result }
-        ensures log_end { IfErr result (IsNearEnd (view self.old)) }
-        ensures commits { let v = view self.old in let w = view self.new in (t : Operations) → IsEngine t basis v
+        ensures means { Keeps (view self.old) (view self.new) }
+        ensures log_end { IfErr result (IsNearEnd (view self.old).tail) }
+        ensures commits { AsMeant (view self.old) (view self.new) (λ t g v w. IsEngine t g v
             → IsIdle v → (lsn : ℕ) × (previous : ℕ)
-            × Appends t basis v w (record { lsn = lsn; is = Commit txn.0 previous })
-            × OnOk result (Appended t basis v w (record { lsn = lsn; is = Commit txn.0 previous })
-            × (w.durable ≡ w.log)) };
+            × Appends t g v w (record { lsn = lsn; is = Commit txn.0 previous })
+            × OnOk result (Appended t g v w (record { lsn = lsn; is = Commit txn.0 previous })
+            × (w.durable ≡ w.log))) };
 
-    /// A transaction has ended. It is neither live nor a loser any more.
+    /// A transaction has ended that goes on, or has committed. It is neither live nor a loser any more.
     fn end(&mut self, txn: TxnId) -> Result<(), SpaceFault>
+        requires can { Asked (view self.old) (MayEnd txn.0) }
         ensures counts { Counts IsDiskFault (view self.old) (view self.new) result }
-        ensures log_end { IfErr result (IsNearEnd (view self.old)) }
-        ensures ends { let v = view self.old in let w = view self.new in (t : Operations) → IsEngine t basis v
+        ensures means { Keeps (view self.old) (view self.new) }
+        ensures log_end { IfErr result (IsNearEnd (view self.old).tail) }
+        ensures ends { AsMeant (view self.old) (view self.new) (λ t g v w. IsEngine t g v
             → IsIdle v → (lsn : ℕ) × (previous : ℕ)
-            × Appends t basis v w (record { lsn = lsn; is = End txn.0 previous })
-            × OnOk result (Appended t basis v w (record { lsn = lsn; is = End txn.0 previous })) };
+            × Appends t g v w (record { lsn = lsn; is = End txn.0 previous })
+            × OnOk result (Appended t g v w (record { lsn = lsn; is = End txn.0 previous }))) };
 
     /// Makes the log durable and writes all changed pages and bands home.
     fn flush(&mut self) -> Result<(), SpaceFault>
+        requires can { Asked (view self.old) IsAtRest }
         ensures counts { Counts IsDiskFault (view self.old) (view self.new) result }
+        ensures means { Keeps (view self.old) (view self.new) }
         ensures reads { IfErr result IsDiskFault }
-        ensures rests { let v = view self.old in let w = view self.new in (t : Operations) → IsEngine t basis v
-            → IsIdle v → Rests t basis v w × OnOk result (Rested t basis v w × (w.durable ≡ w.log)) };
+        ensures rests { AsMeant (view self.old) (view self.new) (λ t g v w. IsEngine t g v
+            → IsIdle v → Rests t g v w × OnOk result (Rested t g v w × (w.durable ≡ w.log))) };
 
     /// Makes the log durable with a record of where its redo has to begin.
     fn checkpoint(&mut self) -> Result<(), SpaceFault>
+        requires can { Asked (view self.old) IsAtRest }
         ensures counts { Counts IsDiskFault (view self.old) (view self.new) result }
-        ensures log_end { IfErr result (IsNearEnd (view self.old)) }
-        ensures rests { let v = view self.old in let w = view self.new in (t : Operations) → IsEngine t basis v
-            → IsIdle v → Rests t basis v w × OnOk result (Rested t basis v w × (w.durable ≡ w.log)) };
-
-    /// Makes the log durable and cuts off of it what neither redo nor undo wants any more, where `oldest`
-    /// is the live transaction that began first.
-    fn truncate(&mut self, oldest: Option<TxnId>) -> Result<(), SpaceFault>
-        ensures counts { Counts IsDiskFault (view self.old) (view self.new) result }
-        ensures reads { IfErr result IsDiskFault }
-        ensures rests { let v = view self.old in let w = view self.new in (t : Operations) → IsEngine t basis v
-            → IsIdle v → IsOldest oldest (tally v.log).live → Rests t basis v w
-            × OnOk result (Rested t basis v w × (w.durable ≡ w.log)) };
+        ensures means { Keeps (view self.old) (view self.new) }
+        ensures log_end { IfErr result (IsNearEnd (view self.old).tail) }
+        ensures rests { AsMeant (view self.old) (view self.new) (λ t g v w. IsEngine t g v
+            → IsIdle v → Rests t g v w × OnOk result (Rested t g v w × (w.durable ≡ w.log))) };
 }
 
 /// Objects over an engine.
 pub trait Objects: Engine {
     /// What an operation touches.
     fn touches(&mut self, op: &Op<'_>, into: &mut Touches) -> Result<(), SpaceFault>
+        requires can { Asked (Self.view self.old) CanLook }
         ensures counts { Counts IsDiskFault (Self.view self.old) (Self.view self.new) result }
-        ensures touches { let v = Self.view self.old in let w = Self.view self.new in
-            (t : Operations) (o : Self.basis.O) → IsEngine t Self.basis v → Reads t Self.basis v o
-            → Rests t Self.basis v w × OnOk result (Rested t Self.basis v w
-            × (shown_touches into.new ≡ touches (Self.basis.objects o) (said_op op.now))) }
+        ensures means { Keeps (Self.view self.old) (Self.view self.new) }
+        ensures tail { (Self.view self.new).tail ≡ (Self.view self.old).tail }
+        ensures touches { AsMeant (Self.view self.old) (Self.view self.new) (λ t g v w. (o : g.O)
+            → IsEngine t g v → Reads t g v o → Rests t g v w × OnOk result (Rested t g v w
+            × (shown_touches into.new ≡ touches (g.objects o) (said_op op.now)))) }
         ensures reads { IfErr result IsDiskFault };
 
     /// What an operation needs, or why it is refused.
     fn needs(&mut self, ops: &Ops, op: &Op<'_>) -> Result<Needed, ObjFault>
+        requires can { AskedBy (table_of record_meaning range_meaning ops.now) (Self.view self.old) (CanLook (table_of record_meaning range_meaning ops.now)) }
         ensures counts { Counts IsObjDisk (Self.view self.old) (Self.view self.new) result }
-        ensures needs { let v = Self.view self.old in let w = Self.view self.new in
-            let t = table_of record_meaning range_meaning ops.now in (o : Self.basis.O)
-            → IsEngine t Self.basis v → Reads t Self.basis v o → Rests t Self.basis v w
-            × HasNeeds t Self.basis v w o (said_op op.now) result }
+        ensures refused { IfErr result (IsRefusedQuietly (Self.view self.old) (Self.view self.new)) }
+        ensures means { KeepsBy (table_of record_meaning range_meaning ops.now) (Self.view self.old) (Self.view self.new) }
+        ensures tail { (Self.view self.new).tail ≡ (Self.view self.old).tail }
+        ensures needs { let t = table_of record_meaning range_meaning ops.now in
+            AsMeantBy t (Self.view self.old) (Self.view self.new) (λ g v w. (o : g.O)
+            → IsEngine t g v → Reads t g v o → Rests t g v w
+            × HasNeeds t g v w o (said_op op.now) result) }
         ensures reads { IfErr result IsReadFault };
 
     /// Does an operation in the action of the transaction, which has changed nothing yet, and notes what
@@ -188,25 +223,30 @@ pub trait Objects: Engine {
         note: &mut UndoNote,
     ) -> Result<Reply, ObjFault>
         requires into { 8192 ≤ length into.old }
+        requires can { AskedBy (table_of record_meaning range_meaning ops.now) (Self.view self.old) (CanDo txn.0 (said_op op.now) (table_of record_meaning range_meaning ops.now)) }
         ensures counts { Counts IsObjDisk (Self.view self.old) (Self.view self.new) result }
-        ensures log_end { IfErr result (IsVerbEnd (is_changing (said_op op.now)) (Self.view self.old)) }
+        ensures refused { IfErr result (IsRefusedQuietly (Self.view self.old) (Self.view self.new)) }
+        ensures means { KeepsBy (table_of record_meaning range_meaning ops.now) (Self.view self.old) (Self.view self.new) }
+        ensures log_end { IfErr result (IsVerbEnd (is_changing (said_op op.now)) (Self.view self.old).tail) }
         ensures grows { OnOk result ((Self.view self.new).tail ≤ (Self.view self.old).tail + VERB_BYTES) }
         ensures looks { OnOk result (is_changing (said_op op.now) ≡ false → note.new ≡ []) }
-        ensures performs { let v = Self.view self.old in let w = Self.view self.new in
-            let t = table_of record_meaning range_meaning ops.now in (o : Self.basis.O) (a : Action Self.basis)
-            → IsEngine t Self.basis v → v.action ≡ Some a → a.transaction ≡ txn.0
-            → CanPerform t Self.basis v o (said_op op.now) → (c : Changes t Self.basis a v w)
-            × HasPerformed t Self.basis a v w o (said_op op.now) c.made into.new note.new result };
+        ensures performs { let t = table_of record_meaning range_meaning ops.now in
+            AsMeantBy t (Self.view self.old) (Self.view self.new) (λ g v w. (o : g.O) (a : Action g)
+            → IsEngine t g v → v.action ≡ Some a → a.transaction ≡ txn.0
+            → CanPerform t g v o (said_op op.now) → (c : Changes t g a v w)
+            × HasPerformed t g a v w o (said_op op.now) c.made into.new note.new result) };
 
     /// Reverses a note in the action that undoes it.
     fn reverse(&mut self, ops: &Ops, note: &UndoNote) -> Result<(), SpaceFault>
+        requires can { AskedBy (table_of record_meaning range_meaning ops.now) (Self.view self.old) (CanTakeBack note.now (table_of record_meaning range_meaning ops.now)) }
         ensures counts { Counts IsDiskFault (Self.view self.old) (Self.view self.new) result }
-        ensures log_end { IfErr result (IsNearEnd (Self.view self.new)) }
-        ensures reverses { let v = Self.view self.old in let w = Self.view self.new in
-            let t = table_of record_meaning range_meaning ops.now in (o : Self.basis.O) (a : Action Self.basis) (n : Top Self.basis.C Self.basis.N)
-            → IsEngine t Self.basis v → v.action ≡ Some a → Self.basis.note note.now ≡ n.note
-            → CanReverse t Self.basis a v o n → (c : Changes t Self.basis a v w)
-            × OnOk result (Changed t Self.basis a v w c.made × Reversed t Self.basis w o n) };
+        ensures means { KeepsBy (table_of record_meaning range_meaning ops.now) (Self.view self.old) (Self.view self.new) }
+        ensures log_end { IfErr result (IsNearEnd (Self.view self.new).tail) }
+        ensures reverses { let t = table_of record_meaning range_meaning ops.now in
+            AsMeantBy t (Self.view self.old) (Self.view self.new) (λ g v w. (o : g.O) (a : Action g) (n : Top g.C g.N)
+            → IsEngine t g v → v.action ≡ Some a → g.note note.now ≡ n.note
+            → CanReverse t g a v o n → (c : Changes t g a v w)
+            × OnOk result (Changed t g a v w c.made × Reversed t g w o n)) };
 
     /// Frees something that is buried, in an action of the system, with the note of its end: something that
     /// this transaction dropped, or anything. `false` exactly where nothing of the kind is.
@@ -216,11 +256,67 @@ pub trait Objects: Engine {
         by: Option<TxnId>,
         note: &mut UndoNote,
     ) -> Result<bool, SpaceFault>
+        requires can { AskedBy (table_of record_meaning range_meaning ops.now) (Self.view self.old) (CanFree (table_of record_meaning range_meaning ops.now)) }
         ensures counts { Counts IsDiskFault (Self.view self.old) (Self.view self.new) result }
-        ensures log_end { IfErr result (IsNearEnd (Self.view self.new)) }
-        ensures frees { let v = Self.view self.old in let w = Self.view self.new in
-            let t = table_of record_meaning range_meaning ops.now in (o : Self.basis.O) (a : Action Self.basis)
-            → IsEngine t Self.basis v → IsIdle v → v.action ≡ Some a
-            → a ≡ record { transaction = 0; pages = pages_of t Self.basis v } → Reads t Self.basis v o
-            → (c : Changes t Self.basis a v w) × IfOk result (FreesNext t Self.basis a by v w o c.made) };
+        ensures means { KeepsBy (table_of record_meaning range_meaning ops.now) (Self.view self.old) (Self.view self.new) }
+        ensures log_end { IfErr result (IsNearEnd (Self.view self.new).tail) }
+        ensures frees { let t = table_of record_meaning range_meaning ops.now in
+            AsMeantBy t (Self.view self.old) (Self.view self.new) (λ g v w. (o : g.O) (a : Action g)
+            → IsEngine t g v → IsIdle v → v.action ≡ Some a
+            → a ≡ record { transaction = 0; pages = pages_of t g v } → Reads t g v o
+            → (c : Changes t g a v w) × IfOk result (FreesNext t g a by v w o c.made)) };
+}
+
+/// An engine whose objects can be listed. Its lists take memory, and no other call does.
+pub trait Lists: Objects {
+    /// What the list of a table's keys touches.
+    fn touches_keys(&mut self, name: Name, into: &mut Touches) -> Result<(), SpaceFault>
+        requires can { Asked (Self.view self.old) CanLook }
+        ensures counts { Counts IsDiskFault (Self.view self.old) (Self.view self.new) result }
+        ensures means { Keeps (Self.view self.old) (Self.view self.new) }
+        ensures tail { (Self.view self.new).tail ≡ (Self.view self.old).tail }
+        ensures touches { AsMeant (Self.view self.old) (Self.view self.new) (λ t g v w. (o : g.O)
+            → IsEngine t g v → Reads t g v o → Rests t g v w × OnOk result (Rested t g v w
+            × (shown_touches into.new ≡ touches (g.objects o) (On name Keys)))) }
+        ensures reads { IfErr result IsDiskFault };
+
+    /// The keys of a table, in the order of their bytes, or why there are none. `Memory` where memory is
+    /// refused: then nothing has changed, and with enough there would be keys.
+    fn keys(&mut self, alloc: Global, name: Name) -> Result<Result<Vec<Bytes>, Reason>, ListFault>
+        requires can { Asked (Self.view self.old) CanLook }
+        ensures counts { Counts IsListDisk (Self.view self.old) (Self.view self.new) result }
+        ensures means { Keeps (Self.view self.old) (Self.view self.new) }
+        ensures tail { (Self.view self.new).tail ≡ (Self.view self.old).tail }
+        ensures lists { AsMeant (Self.view self.old) (Self.view self.new) (λ t g v w. (o : g.O)
+            → IsEngine t g v → Reads t g v o → Rests t g v w × HasKeys t g v w o name result) }
+        ensures memory { IfErr result (λ e. e ≡ ListFault.Memory → (Self.view self.old).Told → (Self.view self.new).Told) }
+        ensures quiet { IfErr result (λ e. e ≡ ListFault.Memory → (Self.view self.new).faults ≡ (Self.view self.old).faults) }
+        ensures reads { IfErr result IsListRead };
+
+    /// The names of all objects, in the order of their bytes. `Memory` where memory is refused: then nothing
+    /// has changed.
+    fn list(&mut self, alloc: Global) -> Result<Vec<Name>, ListFault>
+        requires can { Asked (Self.view self.old) CanLook }
+        ensures counts { Counts IsListDisk (Self.view self.old) (Self.view self.new) result }
+        ensures means { Keeps (Self.view self.old) (Self.view self.new) }
+        ensures tail { (Self.view self.new).tail ≡ (Self.view self.old).tail }
+        ensures lists { AsMeant (Self.view self.old) (Self.view self.new) (λ t g v w. (o : g.O)
+            → IsEngine t g v → Reads t g v o → Rests t g v w × HasNames t g v w o result) }
+        ensures memory { IfErr result (λ e. e ≡ ListFault.Memory → (Self.view self.old).Told → (Self.view self.new).Told) }
+        ensures quiet { IfErr result (λ e. e ≡ ListFault.Memory → (Self.view self.new).faults ≡ (Self.view self.old).faults) }
+        ensures reads { IfErr result IsListRead };
+}
+
+/// An engine whose log can be cut at its front.
+pub trait Truncates: Objects {
+    /// Makes the log durable and cuts off of it what neither redo nor undo wants any more, where `oldest`
+    /// is the live transaction that began first.
+    fn truncate(&mut self, oldest: Option<TxnId>) -> Result<(), SpaceFault>
+        requires can { Asked (Self.view self.old) (IsFirst oldest) }
+        ensures counts { Counts IsDiskFault (Self.view self.old) (Self.view self.new) result }
+        ensures means { Keeps (Self.view self.old) (Self.view self.new) }
+        ensures reads { IfErr result IsDiskFault }
+        ensures rests { AsMeant (Self.view self.old) (Self.view self.new) (λ t g v w. IsEngine t g v
+            → IsIdle v → IsOldest oldest (tally v.log).live → Rests t g v w
+            × OnOk result (Rested t g v w × (w.durable ≡ w.log))) };
 }

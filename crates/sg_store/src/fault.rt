@@ -1,6 +1,8 @@
 use sg_base::TxnId;
 use sg_model::Reason;
 use sg_space::SpaceFault;
+use std::error::Error;
+use std::fmt;
 
 /// Why a call of the objects failed.
 #[derive(Clone, Copy, Debug, PartialEq, Eq)]
@@ -41,8 +43,58 @@ pub enum Refused {
     NoBands { free: u32, need: u32 },
     /// The log has no room.
     LogEnd,
+    /// Memory was refused to a list.
+    Memory,
     /// A call of the disk failed, and the store has stopped.
     DiskFault,
     /// The store had stopped.
     Stopped,
 }
+
+// Why an operation is refused, in words.
+fn words_of(reason: Reason) -> &'static str {
+    match reason {
+        Reason::NoObject => "there is no object with this name",
+        Reason::WrongKind => "the object is of another kind",
+        Reason::Exists => "there is an object with this name already",
+        Reason::OutOfRange => "it lies outside what there is or may be",
+        Reason::NoOperation => "no operation with this code is registered",
+        Reason::Declined => "the item or the argument is not accepted",
+        Reason::TooLong => "it is longer than it may be",
+        Reason::TooMany => "the array has as many items as it may",
+    }
+}
+
+impl fmt::Display for Refused {
+    fn fmt<W: fmt::Write>(&self, f: &mut fmt::Formatter<W>) -> fmt::Result {
+        match *self {
+            Refused::NoTxn => f.write_str("the transaction is not live"),
+            Refused::TooManyLive => f.write_str("as many transactions are live as may be"),
+            Refused::Busy(holder) => {
+                let number = holder.0;
+                write!(f, "transaction {number} holds something in conflict")
+            }
+            Refused::LocksFull => f.write_str("too much would be held"),
+            Refused::Model(reason) => f.write_str(words_of(reason)),
+            Refused::NoSpace {
+                free,
+                reserved,
+                need,
+            } => {
+                write!(
+                    f,
+                    "{free} pages are free, {reserved} are reserved, and {need} are needed"
+                )
+            }
+            Refused::NoBands { free, need } => {
+                write!(f, "{free} bands are free, and {need} are needed")
+            }
+            Refused::LogEnd => f.write_str("the log has no room"),
+            Refused::Memory => f.write_str("memory was refused"),
+            Refused::DiskFault => f.write_str("a call of the disk failed"),
+            Refused::Stopped => f.write_str("the store has stopped"),
+        }
+    }
+}
+
+impl Error for Refused {}

@@ -2,20 +2,24 @@
 //! the run of its transactions is, and what each image stands for that a crash may leave.
 //!
 //! It stands on `sg_run`, whose runs it shows, on `sg_recovery` and `sg_join`, which say what a log of
-//! pages stands for, on `sg_locks` and `sg_core`. Of pages it knows two traits: `Engine`, an engine with a
-//! log in which actions are done and undone, and `Objects`, what operations on objects do in it. It
+//! pages stands for, on `sg_locks` and `sg_core`. Of pages it knows four traits: `Engine`, an engine with a
+//! log in which actions are done and undone; `Objects`, what operations on objects do in it; `Lists`, for
+//! lists of keys and names; and `Truncates`, for an engine whose log can be cut. It
 //! promises that each call of a store leads its run on as a line may, with the cause of each refusal;
 //! that in each call and after it every image stands for the objects after the transactions that were
 //! committed, or with the call's own commit; and that a store that has stopped makes no call. It says so
-//! of an engine that tells its contents, and of a ground whose laws hold (`IsLawful`).
+//! of an engine that tells its contents, and of a ground whose laws hold (`IsLawful`), whatever the engine's
+//! records mean. A caller owes what the call before gave (`Serves`); `rests` of each call says plainly what an
+//! application may rest on.
 #![tactic(auto)]
 
 mod engine;
 mod fault;
 mod laws;
+mod listing;
 mod store;
 
-pub use engine::{Engine, Objects};
+pub use engine::{Engine, Lists, Objects, Truncates};
 pub use fault::{Needed, ObjFault, Refused};
 pub use laws::breaks_dont_count;
 pub use store::Store;

@@ -1,15 +1,19 @@
-ghost use Rattle.std.specs.Prelude.{◌≡◌, ◌<◌, ◌&&◌, ◌+◌, ◌^◌, nat_lt, List, ℕ, All};
+ghost use Rattle.std.specs.Prelude.{◌≡◌, ◌<◌, ◌&&◌, ◌+◌, ◌^◌, nat_lt, List, [], ℕ, All, IfOk};
 ghost use Rattle.sg_model.specs.SaidOps.{said_op};
 ghost use Rattle.sg_model.specs.Step.{is_changing};
+ghost use Rattle.std.specs.Prelude.{IsTrue};
+ghost use Rattle.std.specs.List.{list_all};
+ghost use Rattle.sg_core.specs.Live.{is_live};
 
-use crate::engine::Objects;
+use crate::engine::{Objects, Truncates};
 use crate::fault::{Needed, ObjFault, Refused};
-use sg_base::{Lsn, TxnId};
+use sg_base::{Lsn, OutOfMemory, TxnId};
 use sg_core::Txns;
 use sg_locks::{LockAnswer, Locks};
 use sg_model::{Op, Reply, Stop, Touches};
 use sg_ops::Ops;
 use sg_space::{SpaceFault, UndoNote};
+use std::alloc::Global;
 
 /// No new work begins once the log's tail is above this byte: 2^62.
 const NEW_WORK_END: u64 = 1 << 62;
@@ -19,15 +23,27 @@ const MOST_LIVE: u32 = 64;
 
 /// Objects over a page engine, and the transactions that are at work on them.
 pub struct Store<E: Objects> {
-    engine: E,
-    locks: Locks,
-    txns: Txns,
+    pub(crate) engine: E,
+    pub(crate) locks: Locks,
+    pub(crate) txns: Txns,
     // what the last line touched, and how the last action is undone
-    touches: Touches,
+    pub(crate) touches: Touches,
     note: UndoNote,
-    stop: Option<Stop>,
+    pub(crate) stop: Option<Stop>,
     // the numbers of the live ones are those of records in the log
     ghost below: { All (λ x. x.transaction < (E.view engine).tail) txns },
+    // who holds something is live
+    ghost holders: { IsTrue (list_all (λ h. is_live txns h.transaction) locks) },
+}
+
+// No live transactions, and no locks.
+fn nothing(alloc: Global) -> Result<(Txns, Locks), OutOfMemory>
+    ensures txns { IfOk result (λ p. p.0 ≡ []) }
+    ensures locks { IfOk result (λ p. p.1 ≡ []) }
+{
+    let txns = Txns::new(alloc)?;
+    let locks = Locks::new(alloc)?;
+    Ok((txns, locks))
 }
 
 // Whether fewer pages are free than are reserved and needed, where any are.
@@ -55,24 +71,100 @@ impl<E: Objects> Store<E> {
     ghost use Rattle.sg_ops.specs.Table.{Table as Operations, table_of};
     ghost use Rattle.sg_run.specs.Run.{Run, committed};
     ghost use Rattle.sg_store.specs.Ground.{IsLawful};
-    ghost use Rattle.sg_store.specs.Store.{Shows, IsKept, IsUndoing, IsLeaving, HasNone};
-    ghost use Rattle.sg_store.specs.Engine.{IsDiskFault, IsNearEnd};
+    ghost use Rattle.sg_store.specs.Store.{Core, Shows, IsKept, IsUndoing, IsLeaving, HasNone};
+    ghost use Rattle.sg_store.specs.Engine.{Keeps, KeepsBy, AsMeant, AsMeantBy, Asked, AskedBy, IsDiskFault, IsNearEnd};
+    ghost use Rattle.sg_store.specs.Asks.{IsRunning, IsFreeing, HasBegun, IsTakingBack};
+    ghost use Rattle.sg_store.specs.Rests.{Has, HasDone, HasCommitted, HasAborted};
+    ghost use Rattle.sg_model.specs.Objects.{Objects as Model};
+    ghost use Rattle.sg_model.specs.SaidReplies.{said_reply};
     ghost use Rattle.sg_base.specs.Ends.{HasRisen};
     ghost use Rattle.sg_run.specs.Numbers.{IsGranted};
     ghost use Rattle.sg_store.specs.Calls.{Goes, Begins, Commits, Flushes, Checkpoints, Stays, Holds, Rooms, HasRoom, Acts, Does, Undid, IsUndone, Aborts, Frees, Numbers, SameRoom};
-    ghost use Rattle.std.specs.Prelude.{Some, IsTrue, true, ◌≤◌, ◌⊎◌, IfOk, IfErr, IfSome, OnOk, sum_by, length};
+    ghost use Rattle.std.specs.Prelude.{Some, Err, true, ◌≤◌, ◌⊎◌, ◌-◌, ◌∷◌, ◌++◌, None, IfErr, IfSome, OnOk, sum_by, length, IsTrue, IsSome};
     ghost use Rattle.sg_serial.specs.Runs as serial;
     ghost use Rattle.sg_serial.specs.Locks.{released};
-    ghost use Rattle.sg_core.specs.Live.{is_live, without};
-    ghost use Rattle.sg_store.specs.Seen.{core_of};
-    ghost use Rattle.sg_store.specs.Stops.{refused_at, stop_at};
+    ghost use Rattle.sg_core.specs.Live.{without};
+    ghost use Rattle.sg_store.specs.Seen.{core_of, Serves, IsServed};
+    ghost use Rattle.sg_store.specs.Stops.{refused_at, stop_at, stop_behind};
+    ghost use Rattle.sg_store.specs.Heeds.{Heeds};
+    ghost use Rattle.sg_store.specs.Refusals.{said_lock};
+    ghost use Rattle.sg_store.specs.Causes.{AsksNothing, BeginsFor, EndsFor, FlushesFor, ChecksFor, HoldsFor, RoomsFor, ActsFor, DoesFor};
+    ghost use Rattle.sg_model.specs.TouchList.{shown_touches};
+    ghost use Rattle.sg_locks.specs.Answers.{lock_answer, locks_after};
+
+    /// A store over an engine that was opened, with no transaction. Where memory is refused the engine is
+    /// handed back; no other call takes any.
+    pub fn new(engine: E, alloc: Global) -> Result<Store<E>, E>
+        ensures core { IfOk result (λ s. core_of s ≡ record { live = []; held = []; stopped = None }) }
+        ensures engine { IfOk result (λ s. s.engine ≡ engine) }
+        ensures back { IfErr result (λ e. e ≡ engine) }
+    {
+        match nothing(alloc) {
+            Ok((txns, locks)) => Ok(Store {
+                engine,
+                locks,
+                txns,
+                touches: Touches::new(),
+                note: UndoNote::new(),
+                stop: None,
+            }),
+            Err(OutOfMemory) => Err(engine),
+        }
+    }
+
+    /// How many transactions are live.
+    pub fn live(&self) -> u32
+        ensures { result ≡ length self.now.txns }
+    {
+        self.txns.count()
+    }
+
+    /// How many pages are free.
+    pub fn free_pages(&self) -> u32
+        ensures { result ≡ (E.view self.now.engine).free_pages }
+    {
+        self.engine.free_pages()
+    }
+
+    /// How many bands are free.
+    pub fn free_bands(&self) -> u32
+        ensures { result ≡ (E.view self.now.engine).free_bands }
+    {
+        self.engine.free_bands()
+    }
+
+    /// How many bytes the log has from its first one on.
+    pub fn log_bytes(&self) -> u64
+        ensures { result ≡ (E.view self.now.engine).tail - (E.view self.now.engine).start }
+    {
+        let tail = self.engine.tail();
+        let start = self.engine.start();
+        tail.saturating_sub(start)
+    }
+
+    /// Why the store has stopped, if it has.
+    pub fn stop(&self) -> Option<Stop>
+        ensures { result ≡ self.now.stop }
+    {
+        self.stop
+    }
 
     /// A transaction begins.
     pub fn begin(&mut self) -> Result<TxnId, Refused>
-        ensures begins { let v = E.view self.old.engine in let w = E.view self.new.engine in
-            (t : Operations) (x : Run) (name : List ℕ) → IsLawful t E.basis
-            → Shows t E.basis v (core_of self.old) x
-            → Goes t E.basis v x (Begins v.tail v.faults w.faults name x result) w (core_of self.new) }
+        requires serves { IsServed self.old }
+        ensures serves { (t : Operations) → Serves t self.old → Serves t self.new }
+        // one more transaction is live, and the objects are as before
+        ensures rests { (t : Operations) (live : List ℕ) (objects durable : Model) → Has t self.old live objects durable
+            → IfOk result (λ u. Has t self.new (live ++ u.0 ∷ []) objects durable) }
+        ensures told { (E.view self.new.engine).Told → (E.view self.old.engine).Told }
+        ensures means { Keeps (E.view self.old.engine) (E.view self.new.engine) }
+        ensures begins { AsMeant (E.view self.old.engine) (E.view self.new.engine) (λ t g v w.
+            (x : Run) (name : List ℕ) → IsLawful t g → Shows t g v (core_of self.old) x
+            → Goes t g v x (Begins v.tail v.faults w.faults name x result) w (core_of self.new)) }
+        // on any engine
+        ensures causes { BeginsFor (E.view self.old.engine) (E.view self.new.engine) (core_of self.old) (core_of self.new) result }
+        ensures asks { IfErr result (λ e. (e ≡ Refused.DiskFault → ⊥) → self.new ≡ self.old) }
+        ensures heeds { Heeds self.old.stop self.new.stop (E.view self.old.engine) (E.view self.new.engine) }
     {
         if self.stop.is_some() {
             return Err(Refused::Stopped);
@@ -96,7 +188,7 @@ impl<E: Objects> Store<E> {
     }
 
     // A call of the engine failed, and the store stops.
-    fn halt(&mut self, fault: SpaceFault) -> Refused
+    pub(crate) fn halt(&mut self, fault: SpaceFault) -> Refused
         ensures answer { result ≡ refused_at fault }
         ensures core { core_of self.new ≡ record (core_of self.old) { stopped = Some (stop_at fault) } }
         ensures engine { self.new.engine ≡ self.old.engine }
@@ -126,18 +218,25 @@ impl<E: Objects> Store<E> {
 
     // Frees something that a transaction dropped which has committed; `false` where nothing of it is left.
     fn free_one(&mut self, ops: &Ops, txn: TxnId) -> Result<bool, SpaceFault>
-        ensures stays { let t = table_of record_meaning range_meaning ops.now in let v = E.view self.old.engine in
-            (x : Run) → IsLawful t E.basis → IsLeaving t E.basis v self.old.txns x txn.0
-            → Stays t E.basis v (E.view self.new.engine) (committed x txn.0) }
-        ensures frees { let t = table_of record_meaning range_meaning ops.now in let v = E.view self.old.engine in
-            (x : Run) → IsLawful t E.basis → IsLeaving t E.basis v self.old.txns x txn.0
-            → IfOk result (Frees t E.basis v (E.view self.new.engine) self.old.txns x txn.0) }
+        requires can { let t = table_of record_meaning range_meaning ops.now in
+            AskedBy t (E.view self.old.engine) (IsFreeing self.old.txns txn.0 t) }
+        ensures means { KeepsBy (table_of record_meaning range_meaning ops.now) (E.view self.old.engine) (E.view self.new.engine) }
+        ensures told { (E.view self.new.engine).Told → (E.view self.old.engine).Told }
+        ensures tells { OnOk result ((E.view self.old.engine).Told → (E.view self.new.engine).Told) }
+        ensures stays { let t = table_of record_meaning range_meaning ops.now in
+            AsMeantBy t (E.view self.old.engine) (E.view self.new.engine) (λ g v w.
+            (x : Run) → IsLawful t g → IsLeaving t g v self.old.txns x txn.0 → Stays t g v w (committed x txn.0)) }
+        ensures frees { let t = table_of record_meaning range_meaning ops.now in
+            AsMeantBy t (E.view self.old.engine) (E.view self.new.engine) (λ g v w.
+            (x : Run) → IsLawful t g → IsLeaving t g v self.old.txns x txn.0
+            → IfOk result (Frees t g v w self.old.txns x txn.0)) }
         ensures failed { IfErr result (λ e. IsDiskFault e
             → HasRisen (E.view self.old.engine).faults (E.view self.new.engine).faults) }
-        ensures log_end { IfErr result (IsNearEnd (E.view self.new.engine)) }
+        ensures log_end { IfErr result (IsNearEnd (E.view self.new.engine).tail) }
         ensures later { (E.view self.old.engine).faults ≤ (E.view self.new.engine).faults }
         ensures tail { (E.view self.old.engine).tail ≤ (E.view self.new.engine).tail }
         ensures core { core_of self.new ≡ core_of self.old }
+        ensures quiet { OnOk result ((E.view self.new.engine).faults ≡ (E.view self.old.engine).faults) }
     {
         self.engine.act(TxnId(0));
         match self.engine.free_next(ops, Some(txn), &mut self.note) {
@@ -153,19 +252,25 @@ impl<E: Objects> Store<E> {
 
     // Frees all that a transaction dropped which has committed.
     fn free_dropped(&mut self, ops: &Ops, txn: TxnId) -> Result<(), SpaceFault>
-        ensures stays { let t = table_of record_meaning range_meaning ops.now in let v = E.view self.old.engine in
-            (x : Run) → IsLawful t E.basis → IsLeaving t E.basis v self.old.txns x txn.0
-            → Stays t E.basis v (E.view self.new.engine) (committed x txn.0) }
-        ensures freed { let t = table_of record_meaning range_meaning ops.now in let w = E.view self.new.engine in
-            OnOk result ((x : Run) → IsLawful t E.basis
-            → IsLeaving t E.basis (E.view self.old.engine) self.old.txns x txn.0
-            → IsLeaving t E.basis w self.old.txns x txn.0 × HasNone t E.basis w txn.0) }
+        requires can { let t = table_of record_meaning range_meaning ops.now in
+            AskedBy t (E.view self.old.engine) (IsFreeing self.old.txns txn.0 t) }
+        ensures means { KeepsBy (table_of record_meaning range_meaning ops.now) (E.view self.old.engine) (E.view self.new.engine) }
+        ensures told { (E.view self.new.engine).Told → (E.view self.old.engine).Told }
+        ensures tells { OnOk result ((E.view self.old.engine).Told → (E.view self.new.engine).Told) }
+        ensures stays { let t = table_of record_meaning range_meaning ops.now in
+            AsMeantBy t (E.view self.old.engine) (E.view self.new.engine) (λ g v w.
+            (x : Run) → IsLawful t g → IsLeaving t g v self.old.txns x txn.0 → Stays t g v w (committed x txn.0)) }
+        ensures freed { let t = table_of record_meaning range_meaning ops.now in
+            OnOk result (AsMeantBy t (E.view self.old.engine) (E.view self.new.engine) (λ g v w.
+            (x : Run) → IsLawful t g → IsLeaving t g v self.old.txns x txn.0
+            → IsLeaving t g w self.old.txns x txn.0 × HasNone t g w txn.0)) }
         ensures failed { IfErr result (λ e. IsDiskFault e
             → HasRisen (E.view self.old.engine).faults (E.view self.new.engine).faults) }
-        ensures log_end { IfErr result (IsNearEnd (E.view self.new.engine)) }
+        ensures log_end { IfErr result (IsNearEnd (E.view self.new.engine).tail) }
         ensures later { (E.view self.old.engine).faults ≤ (E.view self.new.engine).faults }
         ensures tail { (E.view self.old.engine).tail ≤ (E.view self.new.engine).tail }
         ensures core { core_of self.new ≡ core_of self.old }
+        ensures quiet { OnOk result ((E.view self.new.engine).faults ≡ (E.view self.old.engine).faults) }
     {
         let start = self.engine.tail();
         let mut left = u64::MAX - start;
@@ -186,15 +291,25 @@ impl<E: Objects> Store<E> {
 
     /// Makes durable what the transaction did, frees what it dropped, and it is no more.
     pub fn commit(&mut self, ops: &Ops, txn: TxnId) -> Result<(), Refused>
+        requires serves { Serves (table_of record_meaning range_meaning ops.now) self.old }
+        ensures serves { Serves (table_of record_meaning range_meaning ops.now) self.new }
+        // each image that a crash leaves stands for objects with what the transaction did
+        ensures rests { let t = table_of record_meaning range_meaning ops.now in
+            (live : List ℕ) (objects durable : Model) → Has t self.old live objects durable
+            → OnOk result (AskedBy t (E.view self.new.engine) (HasCommitted txn.0 live objects durable (core_of self.new) t)) }
+        ensures told { (E.view self.new.engine).Told → (E.view self.old.engine).Told }
+        ensures means { KeepsBy (table_of record_meaning range_meaning ops.now) (E.view self.old.engine) (E.view self.new.engine) }
         ensures commits { let t = table_of record_meaning range_meaning ops.now in
-            let v = E.view self.old.engine in
-            let w = E.view self.new.engine in
-            (x : Run) → IsLawful t E.basis → Shows t E.basis v (core_of self.old) x
-            → Goes t E.basis v x (Commits w.tail v.faults w.faults txn.0 x result) w (core_of self.new) }
+            AsMeantBy t (E.view self.old.engine) (E.view self.new.engine) (λ g v w.
+            (x : Run) → IsLawful t g → Shows t g v (core_of self.old) x
+            → Goes t g v x (Commits w.tail v.faults w.faults txn.0 x result) w (core_of self.new)) }
         ensures freed { let t = table_of record_meaning range_meaning ops.now in
-            OnOk result ((x : Run) → IsLawful t E.basis
-            → Shows t E.basis (E.view self.old.engine) (core_of self.old) x
-            → HasNone t E.basis (E.view self.new.engine) txn.0) }
+            OnOk result (AsMeantBy t (E.view self.old.engine) (E.view self.new.engine) (λ g v w.
+            (x : Run) → IsLawful t g → Shows t g v (core_of self.old) x → HasNone t g w txn.0)) }
+        // on any engine
+        ensures causes { EndsFor txn.0 (E.view self.old.engine) (E.view self.new.engine) (core_of self.old) (core_of self.new) result }
+        ensures asks { IfErr result (λ e. AsksNothing e → self.new ≡ self.old) }
+        ensures heeds { Heeds self.old.stop self.new.stop (E.view self.old.engine) (E.view self.new.engine) }
     {
         if self.stop.is_some() {
             return Err(Refused::Stopped);
@@ -221,9 +336,22 @@ impl<E: Objects> Store<E> {
 
     /// Makes all that was done durable, at its place.
     pub fn flush(&mut self) -> Result<(), Refused>
-        ensures flushes { let v = E.view self.old.engine in let w = E.view self.new.engine in
-            (t : Operations) (x : Run) → IsLawful t E.basis → Shows t E.basis v (core_of self.old) x
-            → Goes t E.basis v x (Flushes v.faults w.faults x result) w (core_of self.new) }
+        requires serves { IsServed self.old }
+        ensures serves { (t : Operations) → Serves t self.old → Serves t self.new }
+        ensures rests { (t : Operations) (live : List ℕ) (objects durable : Model) → Has t self.old live objects durable
+            → OnOk result (Has t self.new live objects durable) }
+        ensures told { (E.view self.new.engine).Told → (E.view self.old.engine).Told }
+        ensures means { Keeps (E.view self.old.engine) (E.view self.new.engine) }
+        ensures flushes { AsMeant (E.view self.old.engine) (E.view self.new.engine) (λ t g v w.
+            (x : Run) → IsLawful t g → Shows t g v (core_of self.old) x
+            → Goes t g v x (Flushes v.faults w.faults x result) w (core_of self.new)) }
+        // on any engine
+        ensures causes { FlushesFor (E.view self.old.engine) (E.view self.new.engine) (core_of self.old) (core_of self.new) result }
+        ensures asks { IfErr result (λ e. AsksNothing e → self.new ≡ self.old) }
+        ensures stop { self.new.stop ≡ stop_behind self.old.stop result }
+        // a store that has stopped makes no call of its engine
+        ensures stopped { IsSome self.old.stop → (self.new ≡ self.old) × (result ≡ Err Refused.Stopped) }
+        ensures heeds { Heeds self.old.stop self.new.stop (E.view self.old.engine) (E.view self.new.engine) }
     {
         if self.stop.is_some() {
             return Err(Refused::Stopped);
@@ -236,9 +364,19 @@ impl<E: Objects> Store<E> {
 
     /// Makes the log durable with a record of where its redo has to begin.
     pub fn checkpoint(&mut self) -> Result<(), Refused>
-        ensures marks { let v = E.view self.old.engine in let w = E.view self.new.engine in
-            (t : Operations) (x : Run) → IsLawful t E.basis → Shows t E.basis v (core_of self.old) x
-            → Goes t E.basis v x (Checkpoints v.tail v.faults w.faults x result) w (core_of self.new) }
+        requires serves { IsServed self.old }
+        ensures serves { (t : Operations) → Serves t self.old → Serves t self.new }
+        ensures rests { (t : Operations) (live : List ℕ) (objects durable : Model) → Has t self.old live objects durable
+            → OnOk result (Has t self.new live objects durable) }
+        ensures told { (E.view self.new.engine).Told → (E.view self.old.engine).Told }
+        ensures means { Keeps (E.view self.old.engine) (E.view self.new.engine) }
+        ensures marks { AsMeant (E.view self.old.engine) (E.view self.new.engine) (λ t g v w.
+            (x : Run) → IsLawful t g → Shows t g v (core_of self.old) x
+            → Goes t g v x (Checkpoints v.tail v.faults w.faults x result) w (core_of self.new)) }
+        // on any engine
+        ensures causes { ChecksFor (E.view self.old.engine) (E.view self.new.engine) (core_of self.old) (core_of self.new) result }
+        ensures asks { IfErr result (λ e. AsksNothing e → self.new ≡ self.old) }
+        ensures heeds { Heeds self.old.stop self.new.stop (E.view self.old.engine) (E.view self.new.engine) }
     {
         if self.stop.is_some() {
             return Err(Refused::Stopped);
@@ -249,44 +387,16 @@ impl<E: Objects> Store<E> {
         }
     }
 
-    /// Cuts off of the log what isn't wanted any more.
-    pub fn truncate(&mut self) -> Result<(), Refused>
-        ensures truncates { let v = E.view self.old.engine in let w = E.view self.new.engine in
-            (t : Operations) (x : Run) → IsLawful t E.basis → Shows t E.basis v (core_of self.old) x
-            → Goes t E.basis v x (Flushes v.faults w.faults x result) w (core_of self.new) }
+    // The transaction holds what was touched last from now on, unless another one is in the way or too much
+    // would be held.
+    pub(crate) fn grant(&mut self, txn: TxnId) -> Result<(), Refused>
+        requires live { IsTrue (is_live self.old.txns txn.0) }
+        ensures answer { result ≡ said_lock (lock_answer txn.0 (shown_touches self.old.touches) self.old.locks) }
+        ensures core { let k = core_of self.old in
+            core_of self.new ≡ record k { held = locks_after txn.0 (shown_touches self.old.touches) k.held } }
+        ensures engine { self.new.engine ≡ self.old.engine }
+        ensures causes { HoldsFor txn.0 (E.view self.old.engine) (E.view self.new.engine) (core_of self.old) (core_of self.new) result }
     {
-        if self.stop.is_some() {
-            return Err(Refused::Stopped);
-        }
-        let first = self.txns.oldest();
-        match self.engine.truncate(first) {
-            Ok(()) => Ok(()),
-            Err(fault) => Err(self.halt(fault)),
-        }
-    }
-
-    // The transaction, which is live, holds what an operation touches from now on, unless another one is in
-    // the way or too much would be held.
-    fn hold(&mut self, txn: TxnId, op: &Op<'_>) -> Result<(), Refused>
-        requires { IsTrue (is_live self.old.txns txn.0) }
-        ensures stays { let v = E.view self.old.engine in
-            (t : Operations) (x : Run) → IsLawful t E.basis → IsKept t E.basis v self.old.txns x
-            → Stays t E.basis v (E.view self.new.engine) x }
-        ensures holds { let v = E.view self.old.engine in
-            (t : Operations) (x : Run) → IsLawful t E.basis → IsKept t E.basis v self.old.txns x
-            → self.old.locks ≡ x.so_far.held → serial.is_live x.so_far.live txn.0 ≡ true
-            → Holds t E.basis v (E.view self.new.engine) (core_of self.old) (core_of self.new) x txn.0 (said_op op.now) result }
-        ensures same { let v = E.view self.old.engine in
-            OnOk result ((t : Operations) (x : Run) → IsLawful t E.basis
-            → IsKept t E.basis v self.old.txns x → SameRoom t E.basis v (E.view self.new.engine)) }
-        ensures later { (E.view self.old.engine).faults ≤ (E.view self.new.engine).faults }
-        ensures tail { (E.view self.old.engine).tail ≤ (E.view self.new.engine).tail }
-        ensures live { self.new.txns ≡ self.old.txns }
-    {
-        match self.engine.touches(op, &mut self.touches) {
-            Ok(()) => {}
-            Err(fault) => return Err(self.halt(fault)),
-        }
         match self.locks.try_lock(txn, self.touches.list()) {
             LockAnswer::Granted => Ok(()),
             LockAnswer::Busy(holder) => Err(Refused::Busy(holder)),
@@ -294,23 +404,59 @@ impl<E: Objects> Store<E> {
         }
     }
 
+    // The transaction, which is live, holds what an operation touches from now on, unless another one is in
+    // the way or too much would be held.
+    fn hold(&mut self, txn: TxnId, op: &Op<'_>) -> Result<(), Refused>
+        requires live { IsTrue (is_live self.old.txns txn.0) }
+        requires can { Asked (E.view self.old.engine) (IsRunning self.old.txns) }
+        ensures means { Keeps (E.view self.old.engine) (E.view self.new.engine) }
+        ensures told { (E.view self.new.engine).Told → (E.view self.old.engine).Told }
+        ensures tells { OnOk result ((E.view self.old.engine).Told → (E.view self.new.engine).Told) }
+        ensures stays { AsMeant (E.view self.old.engine) (E.view self.new.engine) (λ t g v w.
+            (x : Run) → IsLawful t g → IsKept t g v self.old.txns x → Stays t g v w x) }
+        ensures holds { AsMeant (E.view self.old.engine) (E.view self.new.engine) (λ t g v w.
+            (x : Run) → IsLawful t g → IsKept t g v self.old.txns x
+            → self.old.locks ≡ x.so_far.held → serial.is_live x.so_far.live txn.0 ≡ true
+            → Holds t g v w (core_of self.old) (core_of self.new) x txn.0 (said_op op.now) result) }
+        ensures same { OnOk result (AsMeant (E.view self.old.engine) (E.view self.new.engine) (λ t g v w.
+            (x : Run) → IsLawful t g → IsKept t g v self.old.txns x → SameRoom t g v w)) }
+        ensures later { (E.view self.old.engine).faults ≤ (E.view self.new.engine).faults }
+        ensures tail { (E.view self.new.engine).tail ≡ (E.view self.old.engine).tail }
+        ensures live { self.new.txns ≡ self.old.txns }
+        ensures causes { HoldsFor txn.0 (E.view self.old.engine) (E.view self.new.engine) (core_of self.old) (core_of self.new) result }
+        ensures heeds { Heeds self.old.stop self.new.stop (E.view self.old.engine) (E.view self.new.engine) }
+    {
+        match self.engine.touches(op, &mut self.touches) {
+            Ok(()) => self.grant(txn),
+            Err(fault) => Err(self.halt(fault)),
+        }
+    }
+
     // What an operation needs, where it isn't refused and so much is free.
     fn room_for(&mut self, ops: &Ops, op: &Op<'_>) -> Result<Needed, Refused>
-        ensures stays { let t = table_of record_meaning range_meaning ops.now in let v = E.view self.old.engine in
-            (x : Run) → IsLawful t E.basis → IsKept t E.basis v self.old.txns x
-            → Stays t E.basis v (E.view self.new.engine) x }
-        ensures rooms { let t = table_of record_meaning range_meaning ops.now in let v = E.view self.old.engine in
-            (x : Run) → IsLawful t E.basis → IsKept t E.basis v self.old.txns x
-            → Rooms t E.basis v (E.view self.new.engine) (core_of self.old) (core_of self.new) x (said_op op.now) result }
-        ensures same { let t = table_of record_meaning range_meaning ops.now in let v = E.view self.old.engine in
-            OnOk result ((x : Run) → IsLawful t E.basis → IsKept t E.basis v self.old.txns x
-            → SameRoom t E.basis v (E.view self.new.engine)) }
+        requires can { let t = table_of record_meaning range_meaning ops.now in
+            AskedBy t (E.view self.old.engine) (IsRunning self.old.txns t) }
+        ensures means { KeepsBy (table_of record_meaning range_meaning ops.now) (E.view self.old.engine) (E.view self.new.engine) }
+        ensures told { (E.view self.new.engine).Told → (E.view self.old.engine).Told }
+        ensures tells { OnOk result ((E.view self.old.engine).Told → (E.view self.new.engine).Told) }
+        ensures stays { let t = table_of record_meaning range_meaning ops.now in
+            AsMeantBy t (E.view self.old.engine) (E.view self.new.engine) (λ g v w.
+            (x : Run) → IsLawful t g → IsKept t g v self.old.txns x → Stays t g v w x) }
+        ensures rooms { let t = table_of record_meaning range_meaning ops.now in
+            AsMeantBy t (E.view self.old.engine) (E.view self.new.engine) (λ g v w.
+            (x : Run) → IsLawful t g → IsKept t g v self.old.txns x
+            → Rooms t g v w (core_of self.old) (core_of self.new) x (said_op op.now) result) }
+        ensures same { let t = table_of record_meaning range_meaning ops.now in
+            OnOk result (AsMeantBy t (E.view self.old.engine) (E.view self.new.engine) (λ g v w.
+            (x : Run) → IsLawful t g → IsKept t g v self.old.txns x → SameRoom t g v w)) }
         ensures tested { OnOk result (is_changing (said_op op.now) ≡ true → (E.view self.new.engine).tail ≤ 2 ^ 62) }
         // so one more can be reserved
         ensures fits { IfOk result (λ n. (n.pages ≡ 0) ⊎ (sum_by (λ k. k.reserved) self.new.txns + n.pages < 2 ^ 32)) }
         ensures later { (E.view self.old.engine).faults ≤ (E.view self.new.engine).faults }
-        ensures tail { (E.view self.old.engine).tail ≤ (E.view self.new.engine).tail }
+        ensures tail { (E.view self.new.engine).tail ≡ (E.view self.old.engine).tail }
         ensures live { self.new.txns ≡ self.old.txns }
+        ensures causes { RoomsFor (is_changing (said_op op.now)) (E.view self.old.engine) (E.view self.new.engine) (core_of self.old) (core_of self.new) result }
+        ensures heeds { Heeds self.old.stop self.new.stop (E.view self.old.engine) (E.view self.new.engine) }
     {
         let needs = match self.engine.needs(ops, op) {
             Ok(needs) => needs,
@@ -352,17 +498,25 @@ impl<E: Objects> Store<E> {
         requires fits { (needs.pages ≡ 0) ⊎ (sum_by (λ k. k.reserved) self.old.txns + needs.pages < 2 ^ 32) }
         requires tested { is_changing (said_op op.now) ≡ true → (E.view self.old.engine).tail ≤ 2 ^ 62 }
         requires into { 8192 ≤ length into.old }
+        requires can { let t = table_of record_meaning range_meaning ops.now in
+            AskedBy t (E.view self.old.engine) (HasBegun self.old.txns txn.0 (said_op op.now) needs t) }
+        ensures means { KeepsBy (table_of record_meaning range_meaning ops.now) (E.view self.old.engine) (E.view self.new.engine) }
+        ensures told { (E.view self.new.engine).Told → (E.view self.old.engine).Told }
         // it never comes to the log's end
         ensures never { result ≡ Err Refused.LogEnd → ⊥ }
-        ensures stays { let t = table_of record_meaning range_meaning ops.now in let v = E.view self.old.engine in
-            (x : Run) → IsLawful t E.basis → HasRoom t E.basis v self.old.txns x (said_op op.now) needs
-            → IsGranted t x txn.0 (said_op op.now) → Stays t E.basis v (E.view self.new.engine) x }
-        ensures acts { let t = table_of record_meaning range_meaning ops.now in let v = E.view self.old.engine in
-            (x : Run) → IsLawful t E.basis → HasRoom t E.basis v self.old.txns x (said_op op.now) needs
+        ensures stays { let t = table_of record_meaning range_meaning ops.now in
+            AsMeantBy t (E.view self.old.engine) (E.view self.new.engine) (λ g v w.
+            (x : Run) → IsLawful t g → HasRoom t g v self.old.txns x (said_op op.now) needs
+            → IsGranted t x txn.0 (said_op op.now) → Stays t g v w x) }
+        ensures acts { let t = table_of record_meaning range_meaning ops.now in
+            AsMeantBy t (E.view self.old.engine) (E.view self.new.engine) (λ g v w.
+            (x : Run) → IsLawful t g → HasRoom t g v self.old.txns x (said_op op.now) needs
             → IsGranted t x txn.0 (said_op op.now)
-            → Acts t E.basis v (E.view self.new.engine) (core_of self.old) (core_of self.new) x txn.0 (said_op op.now) into.new result }
+            → Acts t g v w (core_of self.old) (core_of self.new) x txn.0 (said_op op.now) into.new result) }
         ensures later { (E.view self.old.engine).faults ≤ (E.view self.new.engine).faults }
         ensures tail { (E.view self.old.engine).tail ≤ (E.view self.new.engine).tail }
+        ensures causes { ActsFor (E.view self.old.engine) (E.view self.new.engine) (core_of self.old) (core_of self.new) result }
+        ensures heeds { Heeds self.old.stop self.new.stop (E.view self.old.engine) (E.view self.new.engine) }
     {
         self.engine.act(txn);
         let reply = match self.engine.perform(ops, txn, op, into, &mut self.note) {
@@ -393,14 +547,26 @@ impl<E: Objects> Store<E> {
         into: &mut [u8],
     ) -> Result<Reply, Refused>
         requires into { 8192 ≤ length into.old }
+        requires serves { Serves (table_of record_meaning range_meaning ops.now) self.old }
+        ensures serves { Serves (table_of record_meaning range_meaning ops.now) self.new }
+        // the reply and the objects are the step's
+        ensures rests { let t = table_of record_meaning range_meaning ops.now in
+            (live : List ℕ) (objects durable : Model) → Has t self.old live objects durable
+            → IfOk result (λ r. AskedBy t (E.view self.new.engine) (HasDone live objects durable (said_op op.now) (said_reply into.new r) (core_of self.new) t)) }
+        ensures told { (E.view self.new.engine).Told → (E.view self.old.engine).Told }
+        ensures means { KeepsBy (table_of record_meaning range_meaning ops.now) (E.view self.old.engine) (E.view self.new.engine) }
         ensures does { let t = table_of record_meaning range_meaning ops.now in
-            let v = E.view self.old.engine in
-            let w = E.view self.new.engine in
-            (x : Run) → IsLawful t E.basis → Shows t E.basis v (core_of self.old) x
-            → Goes t E.basis v x (Does t v.tail w.tail v.faults w.faults txn.0 (said_op op.now) x into.new result) w (core_of self.new) }
-        ensures numbers { let t = table_of record_meaning range_meaning ops.now in let v = E.view self.old.engine in
-            (x : Run) → IsLawful t E.basis → Shows t E.basis v (core_of self.old) x
-            → Numbers t E.basis v (E.view self.new.engine) self.old.txns self.new.txns (said_op op.now) result }
+            AsMeantBy t (E.view self.old.engine) (E.view self.new.engine) (λ g v w.
+            (x : Run) → IsLawful t g → Shows t g v (core_of self.old) x
+            → Goes t g v x (Does t v.tail w.tail v.faults w.faults txn.0 (said_op op.now) x into.new result) w (core_of self.new)) }
+        ensures numbers { let t = table_of record_meaning range_meaning ops.now in
+            AsMeantBy t (E.view self.old.engine) (E.view self.new.engine) (λ g v w.
+            (x : Run) → IsLawful t g → Shows t g v (core_of self.old) x
+            → Numbers t g v self.old.txns (said_op op.now) result) }
+        // on any engine
+        ensures causes { DoesFor (is_changing (said_op op.now)) txn.0 (E.view self.old.engine) (E.view self.new.engine) (core_of self.old) (core_of self.new) result }
+        ensures asks { IfErr result (λ e. AsksNothing e → self.new ≡ self.old) }
+        ensures heeds { Heeds self.old.stop self.new.stop (E.view self.old.engine) (E.view self.new.engine) }
     {
         if self.stop.is_some() {
             return Err(Refused::Stopped);
@@ -422,20 +588,28 @@ impl<E: Objects> Store<E> {
     // Undoes the last action of a live transaction that stands, which no note above `at` does, and answers
     // the number behind which undoing goes on.
     fn undo_one(&mut self, ops: &Ops, txn: TxnId, at: Lsn) -> Result<Option<Lsn>, SpaceFault>
+        requires can { let t = table_of record_meaning range_meaning ops.now in
+            AskedBy t (E.view self.old.engine) (IsTakingBack self.old.txns txn.0 at t) }
         ensures falls { IfOk result (λ r. IfSome r (λ after. after < at)) }
-        ensures stays { let t = table_of record_meaning range_meaning ops.now in let v = E.view self.old.engine in
-            (x : Run) → IsLawful t E.basis → IsUndoing t E.basis v self.old.txns x txn.0 at
-            → serial.is_live x.so_far.live txn.0 ≡ true → Stays t E.basis v (E.view self.new.engine) x }
-        ensures undid { let t = table_of record_meaning range_meaning ops.now in let v = E.view self.old.engine in
-            (x : Run) → IsLawful t E.basis → IsUndoing t E.basis v self.old.txns x txn.0 at
+        ensures means { KeepsBy (table_of record_meaning range_meaning ops.now) (E.view self.old.engine) (E.view self.new.engine) }
+        ensures told { (E.view self.new.engine).Told → (E.view self.old.engine).Told }
+        ensures tells { OnOk result ((E.view self.old.engine).Told → (E.view self.new.engine).Told) }
+        ensures stays { let t = table_of record_meaning range_meaning ops.now in
+            AsMeantBy t (E.view self.old.engine) (E.view self.new.engine) (λ g v w.
+            (x : Run) → IsLawful t g → IsUndoing t g v self.old.txns x txn.0 at
+            → serial.is_live x.so_far.live txn.0 ≡ true → Stays t g v w x) }
+        ensures undid { let t = table_of record_meaning range_meaning ops.now in
+            AsMeantBy t (E.view self.old.engine) (E.view self.new.engine) (λ g v w.
+            (x : Run) → IsLawful t g → IsUndoing t g v self.old.txns x txn.0 at
             → serial.is_live x.so_far.live txn.0 ≡ true
-            → Undid t E.basis v (E.view self.new.engine) self.old.txns x txn.0 at result }
+            → Undid t g v w self.old.txns x txn.0 at result) }
         ensures failed { IfErr result (λ e. IsDiskFault e
             → HasRisen (E.view self.old.engine).faults (E.view self.new.engine).faults) }
-        ensures log_end { IfErr result (IsNearEnd (E.view self.new.engine)) }
+        ensures log_end { IfErr result (IsNearEnd (E.view self.new.engine).tail) }
         ensures later { (E.view self.old.engine).faults ≤ (E.view self.new.engine).faults }
         ensures tail { (E.view self.old.engine).tail ≤ (E.view self.new.engine).tail }
         ensures core { core_of self.new ≡ core_of self.old }
+        ensures quiet { OnOk result ((E.view self.new.engine).faults ≡ (E.view self.old.engine).faults) }
     {
         let after = match self.engine.undo_step(txn, &mut self.note) {
             Ok(Some(after)) => after,
@@ -457,20 +631,27 @@ impl<E: Objects> Store<E> {
 
     // Undoes all that a live transaction has done, its last action first.
     fn undo_all(&mut self, ops: &Ops, txn: TxnId) -> Result<(), SpaceFault>
-        ensures stays { let t = table_of record_meaning range_meaning ops.now in let v = E.view self.old.engine in
-            (x : Run) → IsLawful t E.basis → IsKept t E.basis v self.old.txns x
-            → serial.is_live x.so_far.live txn.0 ≡ true → Stays t E.basis v (E.view self.new.engine) x }
+        requires live { IsTrue (is_live self.old.txns txn.0) }
+        requires can { let t = table_of record_meaning range_meaning ops.now in
+            AskedBy t (E.view self.old.engine) (IsRunning self.old.txns t) }
+        ensures means { KeepsBy (table_of record_meaning range_meaning ops.now) (E.view self.old.engine) (E.view self.new.engine) }
+        ensures told { (E.view self.new.engine).Told → (E.view self.old.engine).Told }
+        ensures tells { OnOk result ((E.view self.old.engine).Told → (E.view self.new.engine).Told) }
+        ensures stays { let t = table_of record_meaning range_meaning ops.now in
+            AsMeantBy t (E.view self.old.engine) (E.view self.new.engine) (λ g v w.
+            (x : Run) → IsLawful t g → IsKept t g v self.old.txns x
+            → serial.is_live x.so_far.live txn.0 ≡ true → Stays t g v w x) }
         ensures undone { let t = table_of record_meaning range_meaning ops.now in
-            OnOk result ((x : Run) → IsLawful t E.basis
-            → IsKept t E.basis (E.view self.old.engine) self.old.txns x
-            → serial.is_live x.so_far.live txn.0 ≡ true
-            → IsUndone t E.basis (E.view self.new.engine) self.old.txns x txn.0) }
+            OnOk result (AsMeantBy t (E.view self.old.engine) (E.view self.new.engine) (λ g v w.
+            (x : Run) → IsLawful t g → IsKept t g v self.old.txns x
+            → serial.is_live x.so_far.live txn.0 ≡ true → IsUndone t g w self.old.txns x txn.0)) }
         ensures failed { IfErr result (λ e. IsDiskFault e
             → HasRisen (E.view self.old.engine).faults (E.view self.new.engine).faults) }
-        ensures log_end { IfErr result (IsNearEnd (E.view self.new.engine)) }
+        ensures log_end { IfErr result (IsNearEnd (E.view self.new.engine).tail) }
         ensures later { (E.view self.old.engine).faults ≤ (E.view self.new.engine).faults }
         ensures tail { (E.view self.old.engine).tail ≤ (E.view self.new.engine).tail }
         ensures core { core_of self.new ≡ core_of self.old }
+        ensures quiet { OnOk result ((E.view self.new.engine).faults ≡ (E.view self.old.engine).faults) }
     {
         let mut at = self.engine.tail();
         'notes: loop {
@@ -484,11 +665,22 @@ impl<E: Objects> Store<E> {
 
     /// Takes back what the transaction did, and it is no more.
     pub fn abort(&mut self, ops: &Ops, txn: TxnId) -> Result<(), Refused>
+        requires serves { Serves (table_of record_meaning range_meaning ops.now) self.old }
+        ensures serves { Serves (table_of record_meaning range_meaning ops.now) self.new }
+        // what is durable is as before
+        ensures rests { let t = table_of record_meaning range_meaning ops.now in
+            (live : List ℕ) (objects durable : Model) → Has t self.old live objects durable
+            → OnOk result (AskedBy t (E.view self.new.engine) (HasAborted txn.0 live durable (core_of self.new) t)) }
+        ensures told { (E.view self.new.engine).Told → (E.view self.old.engine).Told }
+        ensures means { KeepsBy (table_of record_meaning range_meaning ops.now) (E.view self.old.engine) (E.view self.new.engine) }
         ensures aborts { let t = table_of record_meaning range_meaning ops.now in
-            let v = E.view self.old.engine in
-            let w = E.view self.new.engine in
-            (x : Run) → IsLawful t E.basis → Shows t E.basis v (core_of self.old) x
-            → Goes t E.basis v x (Aborts w.tail v.faults w.faults txn.0 x result) w (core_of self.new) }
+            AsMeantBy t (E.view self.old.engine) (E.view self.new.engine) (λ g v w.
+            (x : Run) → IsLawful t g → Shows t g v (core_of self.old) x
+            → Goes t g v x (Aborts w.tail v.faults w.faults txn.0 x result) w (core_of self.new)) }
+        // on any engine
+        ensures causes { EndsFor txn.0 (E.view self.old.engine) (E.view self.new.engine) (core_of self.old) (core_of self.new) result }
+        ensures asks { IfErr result (λ e. AsksNothing e → self.new ≡ self.old) }
+        ensures heeds { Heeds self.old.stop self.new.stop (E.view self.old.engine) (E.view self.new.engine) }
     {
         if self.stop.is_some() {
             return Err(Refused::Stopped);
@@ -505,6 +697,75 @@ impl<E: Objects> Store<E> {
                 self.forget(txn);
                 Ok(())
             }
+            Err(fault) => Err(self.halt(fault)),
+        }
+    }
+
+    /// Writes all that was done home, and hands the engine back, with why that failed if it did. What live
+    /// transactions did is undone where the store is opened again.
+    pub fn close(self) -> (Result<(), Refused>, E)
+        requires serves { IsServed self }
+        ensures means { Keeps (E.view self.engine) (E.view result.1) }
+        ensures closes { AsMeant (E.view self.engine) (E.view result.1) (λ t g v w.
+            (x : Run) → IsLawful t g → Shows t g v (core_of self) x
+            → (m : Core) × Goes t g v x (Flushes v.faults w.faults x result.0) w m) }
+        // on any engine
+        ensures fault { IfErr result.0 (λ e. e ≡ Refused.DiskFault → HasRisen (E.view self.engine).faults (E.view result.1).faults) }
+        ensures stopped { IsSome self.stop → (result.1 ≡ self.engine) × (result.0 ≡ Err Refused.Stopped) }
+        ensures heeds { Heeds self.stop (stop_behind self.stop result.0) (E.view self.engine) (E.view result.1) }
+    {
+        let mut store = self;
+        let done = store.flush();
+        let Store {
+            engine,
+            locks,
+            txns,
+            touches: _,
+            note: _,
+            stop: _,
+        } = store;
+        drop(locks);
+        drop(txns);
+        (done, engine)
+    }
+}
+
+impl<E: Truncates> Store<E> {
+    ghost use Rattle.std.specs.Prelude.{OnOk, IfErr};
+    ghost use Rattle.sg_store.specs.Causes.{AsksNothing, FlushesFor};
+    ghost use Rattle.sg_ops.specs.Table.{Table as Operations};
+    ghost use Rattle.sg_run.specs.Run.{Run};
+    ghost use Rattle.sg_model.specs.Objects.{Objects as Model};
+    ghost use Rattle.sg_store.specs.Ground.{IsLawful};
+    ghost use Rattle.sg_store.specs.Store.{Shows};
+    ghost use Rattle.sg_store.specs.Engine.{Keeps, AsMeant};
+    ghost use Rattle.sg_store.specs.Rests.{Has};
+    ghost use Rattle.sg_store.specs.Calls.{Goes, Flushes};
+    ghost use Rattle.sg_store.specs.Seen.{core_of, Serves, IsServed};
+    ghost use Rattle.sg_store.specs.Heeds.{Heeds};
+
+    /// Cuts off of the log what isn't wanted any more.
+    pub fn truncate(&mut self) -> Result<(), Refused>
+        requires serves { IsServed self.old }
+        ensures serves { (t : Operations) → Serves t self.old → Serves t self.new }
+        ensures rests { (t : Operations) (live : List ℕ) (objects durable : Model) → Has t self.old live objects durable
+            → OnOk result (Has t self.new live objects durable) }
+        ensures told { (E.view self.new.engine).Told → (E.view self.old.engine).Told }
+        ensures means { Keeps (E.view self.old.engine) (E.view self.new.engine) }
+        ensures truncates { AsMeant (E.view self.old.engine) (E.view self.new.engine) (λ t g v w.
+            (x : Run) → IsLawful t g → Shows t g v (core_of self.old) x
+            → Goes t g v x (Flushes v.faults w.faults x result) w (core_of self.new)) }
+        // on any engine
+        ensures causes { FlushesFor (E.view self.old.engine) (E.view self.new.engine) (core_of self.old) (core_of self.new) result }
+        ensures asks { IfErr result (λ e. AsksNothing e → self.new ≡ self.old) }
+        ensures heeds { Heeds self.old.stop self.new.stop (E.view self.old.engine) (E.view self.new.engine) }
+    {
+        if self.stop.is_some() {
+            return Err(Refused::Stopped);
+        }
+        let first = self.txns.oldest();
+        match self.engine.truncate(first) {
+            Ok(()) => Ok(()),
             Err(fault) => Err(self.halt(fault)),
         }
     }

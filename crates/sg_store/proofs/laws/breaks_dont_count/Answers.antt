@@ -11,4 +11,4 @@ its_own told before now P e never (inr (inl f)) = absurd (tells told e f)
 its_own told before now P e never (inr (inr p)) = absurd (never p)
 
 pub returns : goal.returns
-returns g c t told before now image m e stands rose = its_own told before now _ e (λ none. none m stands) rose
+returns g c z t told before now image m e stands rose = its_own told before now _ e (λ none. none m stands) rose

@@ -1,86 +1,170 @@
 use Rattle.std.proofs.Common.{Some, refl}
 use Rattle.sg_run.specs.Run.{committed}
 use Rattle.sg_store.proofs.Leaving as leaving
+use Rattle.sg_ops.specs.Table.{table_of}
+use Rattle.sg_store.specs.Engine.{led, MayAct}
+use Rattle.sg_store.proofs.store.Store.free_one.Given as given
+use Rattle.sg_store.proofs.Serving as serving
+use Rattle.sg_store.specs.Asks.{IsFreeing}
 use Rattle.sg_store.proofs.store.Store.free_one.Goals as goal
 
 pub returns-in-Err-clause-stays : goal.returns-in-Err-clause-stays
-returns-in-Err-clause-stays g c x lawful k =
-    let v = g.E.Engine.view c.args.self.now.engine in
-    let w = g.E.Engine.view c.act.new.self in
-    let y = g.E.Engine.view c.free_next.new.self in
+returns-in-Err-clause-stays g c z from m told x lawful k =
+    let t = table_of (λ y. (given.RecordOp-dyn g y).record_meaning y.1) (λ y. (given.RangeOp-dyn g y).range_meaning y.1) c.args.ops.now in
+    let v = led t z from (g.E.Engine.view c.args.self.now.engine) in
+    let w = led t z from (g.E.Engine.view c.act.new.self) in
+    let y = led t z from (g.E.Engine.view c.free_next.new.self) in
     let ts = c.args.self.now.txns in
     let u = c.args.txn.0 in
-    let acts = c.act.ensures.acts _ k.engine k.idle in
-    let k1 = leaving.acted_leaving _ g.E.Engine.basis v w ts x u (Some _) acts.0 acts.1 k in
-    let f = c.free_next.ensures.frees (leaving.o _ g.E.Engine.basis lawful w ts x u k1) (leaving.begun _ g.E.Engine.basis lawful w ts x u k1) acts.0 k1.idle (leaving.action_is _ g.E.Engine.basis v w acts.1) refl (leaving.reads_so _ g.E.Engine.basis lawful w ts x u k1) in
-    leaving.stays_from _ g.E.Engine.basis v w y (committed x u) (Some _) acts.1 (leaving.freeing_stays _ g.E.Engine.basis lawful w ts x u k1 y f.0)
+    let acts = c.act.ensures.acts t z from m told k.engine k.idle in
+    let k1 = leaving.acted_leaving _ (g.E.Engine.basis z) v w ts x u (Some _) acts.0 acts.1 k in
+    let f = c.free_next.ensures.frees z from (c.act.ensures.means t z from m) (c.act.ensures.tells told) (leaving.o _ (g.E.Engine.basis z) lawful w ts x u k1) (leaving.begun _ (g.E.Engine.basis z) lawful w ts x u k1) acts.0 k1.idle (leaving.action_is _ (g.E.Engine.basis z) v w acts.1) refl (leaving.reads_so _ (g.E.Engine.basis z) lawful w ts x u k1) in
+    leaving.stays_from _ (g.E.Engine.basis z) v w y (committed x u) (Some _) acts.1 (leaving.freeing_stays _ (g.E.Engine.basis z) lawful w ts x u k1 y f.0)
 
 pub returns-in-Ok-false-clause-stays : goal.returns-in-Ok-false-clause-stays
-returns-in-Ok-false-clause-stays g c x lawful k =
-    let v = g.E.Engine.view c.args.self.now.engine in
-    let w = g.E.Engine.view c.act.new.self in
-    let y = g.E.Engine.view c.free_next.new.self in
+returns-in-Ok-false-clause-stays g c z from m told x lawful k =
+    let t = table_of (λ y. (given.RecordOp-dyn g y).record_meaning y.1) (λ y. (given.RangeOp-dyn g y).range_meaning y.1) c.args.ops.now in
+    let v = led t z from (g.E.Engine.view c.args.self.now.engine) in
+    let w = led t z from (g.E.Engine.view c.act.new.self) in
+    let y = led t z from (g.E.Engine.view c.free_next.new.self) in
     let ts = c.args.self.now.txns in
     let u = c.args.txn.0 in
-    let acts = c.act.ensures.acts _ k.engine k.idle in
-    let k1 = leaving.acted_leaving _ g.E.Engine.basis v w ts x u (Some _) acts.0 acts.1 k in
-    let f = c.free_next.ensures.frees (leaving.o _ g.E.Engine.basis lawful w ts x u k1) (leaving.begun _ g.E.Engine.basis lawful w ts x u k1) acts.0 k1.idle (leaving.action_is _ g.E.Engine.basis v w acts.1) refl (leaving.reads_so _ g.E.Engine.basis lawful w ts x u k1) in
-    leaving.stays_from _ g.E.Engine.basis v w y (committed x u) (Some _) acts.1 (leaving.freeing_stays _ g.E.Engine.basis lawful w ts x u k1 y f.0)
+    let acts = c.act.ensures.acts t z from m told k.engine k.idle in
+    let k1 = leaving.acted_leaving _ (g.E.Engine.basis z) v w ts x u (Some _) acts.0 acts.1 k in
+    let f = c.free_next.ensures.frees z from (c.act.ensures.means t z from m) (c.act.ensures.tells told) (leaving.o _ (g.E.Engine.basis z) lawful w ts x u k1) (leaving.begun _ (g.E.Engine.basis z) lawful w ts x u k1) acts.0 k1.idle (leaving.action_is _ (g.E.Engine.basis z) v w acts.1) refl (leaving.reads_so _ (g.E.Engine.basis z) lawful w ts x u k1) in
+    leaving.stays_from _ (g.E.Engine.basis z) v w y (committed x u) (Some _) acts.1 (leaving.freeing_stays _ (g.E.Engine.basis z) lawful w ts x u k1 y f.0)
 
 pub returns-in-Ok-false-clause-frees : goal.returns-in-Ok-false-clause-frees
-returns-in-Ok-false-clause-frees g c x lawful k =
-    let v = g.E.Engine.view c.args.self.now.engine in
-    let w = g.E.Engine.view c.act.new.self in
-    let y = g.E.Engine.view c.free_next.new.self in
+returns-in-Ok-false-clause-frees g c z from m told x lawful k =
+    let t = table_of (λ y. (given.RecordOp-dyn g y).record_meaning y.1) (λ y. (given.RangeOp-dyn g y).range_meaning y.1) c.args.ops.now in
+    let v = led t z from (g.E.Engine.view c.args.self.now.engine) in
+    let w = led t z from (g.E.Engine.view c.act.new.self) in
+    let y = led t z from (g.E.Engine.view c.free_next.new.self) in
     let ts = c.args.self.now.txns in
     let u = c.args.txn.0 in
-    let acts = c.act.ensures.acts _ k.engine k.idle in
-    let k1 = leaving.acted_leaving _ g.E.Engine.basis v w ts x u (Some _) acts.0 acts.1 k in
+    let acts = c.act.ensures.acts t z from m told k.engine k.idle in
+    let k1 = leaving.acted_leaving _ (g.E.Engine.basis z) v w ts x u (Some _) acts.0 acts.1 k in
     let frees = rw c.in-Ok-false.field-0-test at c.in-Ok-false.ensures.frees in
-    let f = frees (leaving.o _ g.E.Engine.basis lawful w ts x u k1) (leaving.begun _ g.E.Engine.basis lawful w ts x u k1) acts.0 k1.idle (leaving.action_is _ g.E.Engine.basis v w acts.1) refl (leaving.reads_so _ g.E.Engine.basis lawful w ts x u k1) in
-    (leaving.rested_leaving _ g.E.Engine.basis lawful w ts x u k1 y f.1.0, leaving.none_left _ g.E.Engine.basis lawful w ts x u k1 y f.1.0 f.1.1)
+    let f = frees z from (c.act.ensures.means t z from m) (c.act.ensures.tells told) (leaving.o _ (g.E.Engine.basis z) lawful w ts x u k1) (leaving.begun _ (g.E.Engine.basis z) lawful w ts x u k1) acts.0 k1.idle (leaving.action_is _ (g.E.Engine.basis z) v w acts.1) refl (leaving.reads_so _ (g.E.Engine.basis z) lawful w ts x u k1) in
+    (leaving.rested_leaving _ (g.E.Engine.basis z) lawful w ts x u k1 y f.1.0, leaving.none_left _ (g.E.Engine.basis z) lawful w ts x u k1 y f.1.0 f.1.1)
 
 pub returns-in-Ok-clause-stays : goal.returns-in-Ok-clause-stays
-returns-in-Ok-clause-stays g c x lawful k =
-    let v = g.E.Engine.view c.args.self.now.engine in
-    let w = g.E.Engine.view c.act.new.self in
-    let y = g.E.Engine.view c.free_next.new.self in
+returns-in-Ok-clause-stays g c z from m told x lawful k =
+    let t = table_of (λ y. (given.RecordOp-dyn g y).record_meaning y.1) (λ y. (given.RangeOp-dyn g y).range_meaning y.1) c.args.ops.now in
+    let v = led t z from (g.E.Engine.view c.args.self.now.engine) in
+    let w = led t z from (g.E.Engine.view c.act.new.self) in
+    let y = led t z from (g.E.Engine.view c.free_next.new.self) in
     let ts = c.args.self.now.txns in
     let u = c.args.txn.0 in
-    let acts = c.act.ensures.acts _ k.engine k.idle in
-    let k1 = leaving.acted_leaving _ g.E.Engine.basis v w ts x u (Some _) acts.0 acts.1 k in
+    let acts = c.act.ensures.acts t z from m told k.engine k.idle in
+    let k1 = leaving.acted_leaving _ (g.E.Engine.basis z) v w ts x u (Some _) acts.0 acts.1 k in
     let frees = rw c.in-Ok-true.field-0-test at c.in-Ok-true.ensures.frees in
-    let f = frees (leaving.o _ g.E.Engine.basis lawful w ts x u k1) (leaving.begun _ g.E.Engine.basis lawful w ts x u k1) acts.0 k1.idle (leaving.action_is _ g.E.Engine.basis v w acts.1) refl (leaving.reads_so _ g.E.Engine.basis lawful w ts x u k1) in
-    let z = g.E.Engine.view c.end_action.new.self in
-    let e = c.end_action.ensures.ends _ (leaving.begun _ g.E.Engine.basis lawful w ts x u k1) f.1.changed.goes_on.engine f.1.changed.action refl in
-    leaving.stays_from _ g.E.Engine.basis v w z (committed x u) (Some _) acts.1 (leaving.freed_stays _ g.E.Engine.basis lawful w ts x u k1 y f.0 f.1 z e.0 e.1 e.2 _ e.3)
+    let f = frees z from (c.act.ensures.means t z from m) (c.act.ensures.tells told) (leaving.o _ (g.E.Engine.basis z) lawful w ts x u k1) (leaving.begun _ (g.E.Engine.basis z) lawful w ts x u k1) acts.0 k1.idle (leaving.action_is _ (g.E.Engine.basis z) v w acts.1) refl (leaving.reads_so _ (g.E.Engine.basis z) lawful w ts x u k1) in
+    let last = led t z from (g.E.Engine.view c.end_action.new.self) in
+    let e = c.end_action.ensures.ends t z from (c.free_next.ensures.means z from (c.act.ensures.means t z from m)) (c.in-Ok-true.ensures.counts.tells (c.act.ensures.tells told)) (leaving.begun _ (g.E.Engine.basis z) lawful w ts x u k1) f.1.changed.goes_on.engine f.1.changed.action refl in
+    leaving.stays_from _ (g.E.Engine.basis z) v w last (committed x u) (Some _) acts.1 (leaving.freed_stays _ (g.E.Engine.basis z) lawful w ts x u k1 y f.0 f.1 last e.0 e.1 e.2 _ e.3)
 
 pub returns-in-Err-end_action-clause-stays : goal.returns-in-Err-end_action-clause-stays
-returns-in-Err-end_action-clause-stays g c x lawful k =
-    let v = g.E.Engine.view c.args.self.now.engine in
-    let w = g.E.Engine.view c.act.new.self in
-    let y = g.E.Engine.view c.free_next.new.self in
+returns-in-Err-end_action-clause-stays g c z from m told x lawful k =
+    let t = table_of (λ y. (given.RecordOp-dyn g y).record_meaning y.1) (λ y. (given.RangeOp-dyn g y).range_meaning y.1) c.args.ops.now in
+    let v = led t z from (g.E.Engine.view c.args.self.now.engine) in
+    let w = led t z from (g.E.Engine.view c.act.new.self) in
+    let y = led t z from (g.E.Engine.view c.free_next.new.self) in
     let ts = c.args.self.now.txns in
     let u = c.args.txn.0 in
-    let acts = c.act.ensures.acts _ k.engine k.idle in
-    let k1 = leaving.acted_leaving _ g.E.Engine.basis v w ts x u (Some _) acts.0 acts.1 k in
+    let acts = c.act.ensures.acts t z from m told k.engine k.idle in
+    let k1 = leaving.acted_leaving _ (g.E.Engine.basis z) v w ts x u (Some _) acts.0 acts.1 k in
     let frees = rw c.in-Ok-true.field-0-test at c.in-Ok-true.ensures.frees in
-    let f = frees (leaving.o _ g.E.Engine.basis lawful w ts x u k1) (leaving.begun _ g.E.Engine.basis lawful w ts x u k1) acts.0 k1.idle (leaving.action_is _ g.E.Engine.basis v w acts.1) refl (leaving.reads_so _ g.E.Engine.basis lawful w ts x u k1) in
-    let z = g.E.Engine.view c.end_action.new.self in
-    let e = c.end_action.ensures.ends _ (leaving.begun _ g.E.Engine.basis lawful w ts x u k1) f.1.changed.goes_on.engine f.1.changed.action refl in
-    leaving.stays_from _ g.E.Engine.basis v w z (committed x u) (Some _) acts.1 (leaving.freed_stays _ g.E.Engine.basis lawful w ts x u k1 y f.0 f.1 z e.0 e.1 e.2 _ e.3)
+    let f = frees z from (c.act.ensures.means t z from m) (c.act.ensures.tells told) (leaving.o _ (g.E.Engine.basis z) lawful w ts x u k1) (leaving.begun _ (g.E.Engine.basis z) lawful w ts x u k1) acts.0 k1.idle (leaving.action_is _ (g.E.Engine.basis z) v w acts.1) refl (leaving.reads_so _ (g.E.Engine.basis z) lawful w ts x u k1) in
+    let last = led t z from (g.E.Engine.view c.end_action.new.self) in
+    let e = c.end_action.ensures.ends t z from (c.free_next.ensures.means z from (c.act.ensures.means t z from m)) (c.in-Ok-true.ensures.counts.tells (c.act.ensures.tells told)) (leaving.begun _ (g.E.Engine.basis z) lawful w ts x u k1) f.1.changed.goes_on.engine f.1.changed.action refl in
+    leaving.stays_from _ (g.E.Engine.basis z) v w last (committed x u) (Some _) acts.1 (leaving.freed_stays _ (g.E.Engine.basis z) lawful w ts x u k1 y f.0 f.1 last e.0 e.1 e.2 _ e.3)
 
 pub returns-in-Ok-clause-frees : goal.returns-in-Ok-clause-frees
-returns-in-Ok-clause-frees g c x lawful k =
-    let v = g.E.Engine.view c.args.self.now.engine in
-    let w = g.E.Engine.view c.act.new.self in
-    let y = g.E.Engine.view c.free_next.new.self in
+returns-in-Ok-clause-frees g c z from m told x lawful k =
+    let t = table_of (λ y. (given.RecordOp-dyn g y).record_meaning y.1) (λ y. (given.RangeOp-dyn g y).range_meaning y.1) c.args.ops.now in
+    let v = led t z from (g.E.Engine.view c.args.self.now.engine) in
+    let w = led t z from (g.E.Engine.view c.act.new.self) in
+    let y = led t z from (g.E.Engine.view c.free_next.new.self) in
     let ts = c.args.self.now.txns in
     let u = c.args.txn.0 in
-    let acts = c.act.ensures.acts _ k.engine k.idle in
-    let k1 = leaving.acted_leaving _ g.E.Engine.basis v w ts x u (Some _) acts.0 acts.1 k in
+    let acts = c.act.ensures.acts t z from m told k.engine k.idle in
+    let k1 = leaving.acted_leaving _ (g.E.Engine.basis z) v w ts x u (Some _) acts.0 acts.1 k in
     let frees = rw c.in-Ok-true.field-0-test at c.in-Ok-true.ensures.frees in
-    let f = frees (leaving.o _ g.E.Engine.basis lawful w ts x u k1) (leaving.begun _ g.E.Engine.basis lawful w ts x u k1) acts.0 k1.idle (leaving.action_is _ g.E.Engine.basis v w acts.1) refl (leaving.reads_so _ g.E.Engine.basis lawful w ts x u k1) in
-    let z = g.E.Engine.view c.end_action.new.self in
-    let e = c.in-Ok.ensures.ends _ (leaving.begun _ g.E.Engine.basis lawful w ts x u k1) f.1.changed.goes_on.engine f.1.changed.action refl in
-    (leaving.freed_leaving _ g.E.Engine.basis lawful w ts x u k1 y f.0 f.1 z e.0 e.1 e.2 _ e.3 e.4, leaving.tail_from v w z (Some _) acts.1 (leaving.freed_higher _ g.E.Engine.basis lawful w ts x u k1 y f.0 f.1 z e.0 e.1 e.2 _ e.3 e.4))
+    let f = frees z from (c.act.ensures.means t z from m) (c.act.ensures.tells told) (leaving.o _ (g.E.Engine.basis z) lawful w ts x u k1) (leaving.begun _ (g.E.Engine.basis z) lawful w ts x u k1) acts.0 k1.idle (leaving.action_is _ (g.E.Engine.basis z) v w acts.1) refl (leaving.reads_so _ (g.E.Engine.basis z) lawful w ts x u k1) in
+    let last = led t z from (g.E.Engine.view c.end_action.new.self) in
+    let e = c.in-Ok.ensures.ends t z from (c.free_next.ensures.means z from (c.act.ensures.means t z from m)) (c.in-Ok-true.ensures.counts.tells (c.act.ensures.tells told)) (leaving.begun _ (g.E.Engine.basis z) lawful w ts x u k1) f.1.changed.goes_on.engine f.1.changed.action refl in
+    (leaving.freed_leaving _ (g.E.Engine.basis z) lawful w ts x u k1 y f.0 f.1 last e.0 e.1 e.2 _ e.3 e.4, leaving.tail_from v w last (Some _) acts.1 (leaving.freed_higher _ (g.E.Engine.basis z) lawful w ts x u k1 y f.0 f.1 last e.0 e.1 e.2 _ e.3 e.4))
+
+pub act-requires : goal.act-requires
+act-requires g c =
+    let t = table_of (λ y. (given.RecordOp-dyn g y).record_meaning y.1) (λ y. (given.RangeOp-dyn g y).range_meaning y.1) c.args.ops.now in
+    record { can = serving.asked_of t (g.E.Engine.view c.args.self.now.engine) (IsFreeing c.args.self.now.txns c.args.txn.0 t) (MayAct 0) (λ b v h. record { rest = record { engine = h.leaving.engine; idle = h.leaving.idle }; live = λ ne. absurd (ne refl) }) c.requires.can }
+
+pub free_next-requires : goal.free_next-requires
+free_next-requires g c =
+    let t = table_of (λ y. (given.RecordOp-dyn g y).record_meaning y.1) (λ y. (given.RangeOp-dyn g y).range_meaning y.1) c.args.ops.now in
+    let s = c.requires.can in
+    record {
+      can = record {
+        sizes = s.sizes;
+        from = s.from;
+        means = c.act.ensures.means t s.sizes s.from s.means;
+        can = λ told.
+            (let h = s.can (c.act.ensures.told told) in
+            let v = led t s.sizes s.from (g.E.Engine.view c.args.self.now.engine) in
+            let w = led t s.sizes s.from (g.E.Engine.view c.act.new.self) in
+            let b = g.E.Engine.basis s.sizes in
+            let ts = c.args.self.now.txns in
+            let u = c.args.txn.0 in
+            let acts = c.act.ensures.acts t s.sizes s.from s.means (c.act.ensures.told told) h.leaving.engine h.leaving.idle in
+            let k1 = leaving.acted_leaving _ b v w ts h.run u (Some _) acts.0 acts.1 h.leaving in
+            record { look = record { rest = record { engine = acts.0; idle = k1.idle }; reading = leaving.o _ b h.lawful w ts h.run u k1; reads = leaving.reads_so _ b h.lawful w ts h.run u k1 }; acting = leaving.action_is _ b v w acts.1 });
+      };
+    }
+
+pub end_action-requires : goal.end_action-requires
+end_action-requires g c =
+    let t = table_of (λ y. (given.RecordOp-dyn g y).record_meaning y.1) (λ y. (given.RangeOp-dyn g y).range_meaning y.1) c.args.ops.now in
+    let s = c.requires.can in
+    let frees = rw c.in-Ok-true.field-0-test at c.in-Ok-true.ensures.frees in
+    record {
+      can = record {
+        by = t;
+        sizes = s.sizes;
+        from = s.from;
+        means = c.free_next.ensures.means s.sizes s.from (c.act.ensures.means t s.sizes s.from s.means);
+        can = λ told.
+            (let one = c.free_next.ensures.counts.told told in
+            let h = s.can (c.act.ensures.told one) in
+            let v = led t s.sizes s.from (g.E.Engine.view c.args.self.now.engine) in
+            let w = led t s.sizes s.from (g.E.Engine.view c.act.new.self) in
+            let b = g.E.Engine.basis s.sizes in
+            let ts = c.args.self.now.txns in
+            let u = c.args.txn.0 in
+            let acts = c.act.ensures.acts t s.sizes s.from s.means (c.act.ensures.told one) h.leaving.engine h.leaving.idle in
+            let k1 = leaving.acted_leaving _ b v w ts h.run u (Some _) acts.0 acts.1 h.leaving in
+            let f = frees s.sizes s.from (c.act.ensures.means t s.sizes s.from s.means) one (leaving.o _ b h.lawful w ts h.run u k1) (leaving.begun _ b h.lawful w ts h.run u k1) acts.0 k1.idle (leaving.action_is _ b v w acts.1) refl (leaving.reads_so _ b h.lawful w ts h.run u k1) in
+            record { engine = f.1.changed.goes_on.engine; action = leaving.begun _ b h.lawful w ts h.run u k1; acting = f.1.changed.action; own = refl });
+      };
+    }
+
+pub returns-in-Ok-false-clause-means : goal.returns-in-Ok-false-clause-means
+returns-in-Ok-false-clause-means g c z from m =
+    let t = table_of (λ y. (given.RecordOp-dyn g y).record_meaning y.1) (λ y. (given.RangeOp-dyn g y).range_meaning y.1) c.args.ops.now in
+    c.free_next.ensures.means z from (c.act.ensures.means t z from m)
+
+pub returns-in-Err-clause-means : goal.returns-in-Err-clause-means
+returns-in-Err-clause-means g c z from m =
+    let t = table_of (λ y. (given.RecordOp-dyn g y).record_meaning y.1) (λ y. (given.RangeOp-dyn g y).range_meaning y.1) c.args.ops.now in
+    c.free_next.ensures.means z from (c.act.ensures.means t z from m)
+
+pub returns-in-Ok-clause-means : goal.returns-in-Ok-clause-means
+returns-in-Ok-clause-means g c z from m =
+    let t = table_of (λ y. (given.RecordOp-dyn g y).record_meaning y.1) (λ y. (given.RangeOp-dyn g y).range_meaning y.1) c.args.ops.now in
+    c.end_action.ensures.means t z from (c.free_next.ensures.means z from (c.act.ensures.means t z from m))
+
+pub returns-in-Err-end_action-clause-means : goal.returns-in-Err-end_action-clause-means
+returns-in-Err-end_action-clause-means g c z from m =
+    let t = table_of (λ y. (given.RecordOp-dyn g y).record_meaning y.1) (λ y. (given.RangeOp-dyn g y).range_meaning y.1) c.args.ops.now in
+    c.end_action.ensures.means t z from (c.free_next.ensures.means z from (c.act.ensures.means t z from m))

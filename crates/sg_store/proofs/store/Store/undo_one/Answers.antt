@@ -1,84 +1,112 @@
-use Rattle.std.proofs.Common.{refl, arith}
+use Rattle.std.proofs.Common.{refl, ◌∙◌}
+use Rattle.sg_ops.specs.Table.{table_of}
+use Rattle.sg_store.specs.Engine.{led, IsAt}
+use Rattle.sg_store.specs.Asks.{IsTakingBack}
+use Rattle.sg_store.proofs.Serving as serving
+use Rattle.sg_store.proofs.Taking as taking
 use Rattle.sg_store.proofs.Undone as undone
+use Rattle.sg_store.proofs.store.Store.undo_one.Given as given
 use Rattle.sg_store.proofs.store.Store.undo_one.Goals as goal
 
 pub returns-in-Ok-None-clause-stays : goal.returns-in-Ok-None-clause-stays
-returns-in-Ok-None-clause-stays g c x lawful k live =
-    let b = c.undo_step.ensures.some _ (undone.begun _ g.E.Engine.basis lawful (g.E.Engine.view c.args.self.now.engine) c.args.self.now.txns x c.args.txn.0 c.args.at k live) k.engine k.idle refl in
-    undone.step_stays _ g.E.Engine.basis lawful (g.E.Engine.view c.args.self.now.engine) c.args.self.now.txns x c.args.txn.0 c.args.at k live (g.E.Engine.view c.undo_step.new.self) b.0
+returns-in-Ok-None-clause-stays g c z from m told x lawful k live =
+    let t = table_of (λ y. (given.RecordOp-dyn g y).record_meaning y.1) (λ y. (given.RangeOp-dyn g y).range_meaning y.1) c.args.ops.now in
+    undone.step_stays t (g.E.Engine.basis z) lawful (led t z from (g.E.Engine.view c.args.self.now.engine)) c.args.self.now.txns x c.args.txn.0 c.args.at k live (led t z from (g.E.Engine.view c.undo_step.new.self)) (c.undo_step.ensures.some t z from m told (undone.begun t (g.E.Engine.basis z) lawful (led t z from (g.E.Engine.view c.args.self.now.engine)) c.args.self.now.txns x c.args.txn.0 c.args.at k live) k.engine k.idle refl).0
 
 pub returns-in-Err-clause-stays : goal.returns-in-Err-clause-stays
-returns-in-Err-clause-stays g c x lawful k live =
-    let b = c.undo_step.ensures.some _ (undone.begun _ g.E.Engine.basis lawful (g.E.Engine.view c.args.self.now.engine) c.args.self.now.txns x c.args.txn.0 c.args.at k live) k.engine k.idle refl in
-    undone.step_stays _ g.E.Engine.basis lawful (g.E.Engine.view c.args.self.now.engine) c.args.self.now.txns x c.args.txn.0 c.args.at k live (g.E.Engine.view c.undo_step.new.self) b.0
+returns-in-Err-clause-stays g c z from m told x lawful k live =
+    let t = table_of (λ y. (given.RecordOp-dyn g y).record_meaning y.1) (λ y. (given.RangeOp-dyn g y).range_meaning y.1) c.args.ops.now in
+    undone.step_stays t (g.E.Engine.basis z) lawful (led t z from (g.E.Engine.view c.args.self.now.engine)) c.args.self.now.txns x c.args.txn.0 c.args.at k live (led t z from (g.E.Engine.view c.undo_step.new.self)) (c.undo_step.ensures.some t z from m told (undone.begun t (g.E.Engine.basis z) lawful (led t z from (g.E.Engine.view c.args.self.now.engine)) c.args.self.now.txns x c.args.txn.0 c.args.at k live) k.engine k.idle refl).0
 
 pub returns-in-Ok-None-clause-undid : goal.returns-in-Ok-None-clause-undid
-returns-in-Ok-None-clause-undid g c x lawful k live =
+returns-in-Ok-None-clause-undid g c z from m told x lawful k live =
+    let t = table_of (λ y. (given.RecordOp-dyn g y).record_meaning y.1) (λ y. (given.RangeOp-dyn g y).range_meaning y.1) c.args.ops.now in
     let none = rw c.in-Ok-None.field-0-is at c.in-Ok-None.ensures.none in
-    let b = none _ k.engine k.idle refl in
-    (undone.undid_none _ g.E.Engine.basis lawful (g.E.Engine.view c.args.self.now.engine) c.args.self.now.txns x c.args.txn.0 c.args.at k live (g.E.Engine.view c.undo_step.new.self) b.1, undone.none_still _ g.E.Engine.basis lawful (g.E.Engine.view c.args.self.now.engine) c.args.self.now.txns x c.args.txn.0 c.args.at k live (g.E.Engine.view c.undo_step.new.self) b.1 b.0)
+    let b = none t z from m told k.engine k.idle refl in
+    (undone.undid_none t (g.E.Engine.basis z) lawful (led t z from (g.E.Engine.view c.args.self.now.engine)) c.args.self.now.txns x c.args.txn.0 c.args.at k live (led t z from (g.E.Engine.view c.undo_step.new.self)) b.1, undone.none_still t (g.E.Engine.basis z) lawful (led t z from (g.E.Engine.view c.args.self.now.engine)) c.args.self.now.txns x c.args.txn.0 c.args.at k live (led t z from (g.E.Engine.view c.undo_step.new.self)) b.1 b.0)
 
 pub returns-then-after-at-clause-stays : goal.returns-then-after-at-clause-stays
-returns-then-after-at-clause-stays g c x lawful k live =
+returns-then-after-at-clause-stays g c z from m told x lawful k live =
+    let t = table_of (λ y. (given.RecordOp-dyn g y).record_meaning y.1) (λ y. (given.RangeOp-dyn g y).range_meaning y.1) c.args.ops.now in
     let some = rw c.in-Ok-Some.field-0-is at c.in-Ok-Some.ensures.some in
-    let b = some _ (undone.begun _ g.E.Engine.basis lawful (g.E.Engine.view c.args.self.now.engine) c.args.self.now.txns x c.args.txn.0 c.args.at k live) k.engine k.idle refl in
-    let n = b.1.0 in
-    let own = b.1.1 in
-    let stands = b.1.2 in
-    let next = b.1.3 in
-    let falls = undone.falls _ g.E.Engine.basis lawful (g.E.Engine.view c.args.self.now.engine) c.args.self.now.txns x c.args.txn.0 c.args.at k live n own stands in
-    absurd (omega (arith, falls, next, c.if-after-at.true))
+    absurd (taking.never_up t (g.E.Engine.basis z) lawful (led t z from (g.E.Engine.view c.args.self.now.engine)) c.args.self.now.txns x c.args.txn.0 c.args.at k live (led t z from (g.E.Engine.view c.undo_step.new.self)) c.undo_step.new.into c.in-Ok-Some.after (some t z from m told) c.if-after-at.true)
 
 pub returns-in-Err-reverse-clause-stays : goal.returns-in-Err-reverse-clause-stays
-returns-in-Err-reverse-clause-stays g c x lawful k live =
+returns-in-Err-reverse-clause-stays g c z from m told x lawful k live =
+    let t = table_of (λ y. (given.RecordOp-dyn g y).record_meaning y.1) (λ y. (given.RangeOp-dyn g y).range_meaning y.1) c.args.ops.now in
     let some = rw c.in-Ok-Some.field-0-is at c.in-Ok-Some.ensures.some in
-    let b = some _ (undone.begun _ g.E.Engine.basis lawful (g.E.Engine.view c.args.self.now.engine) c.args.self.now.txns x c.args.txn.0 c.args.at k live) k.engine k.idle refl in
-    let n = b.1.0 in
-    let own = b.1.1 in
-    let stands = b.1.2 in
-    let next = b.1.3 in
-    let can = undone.can _ g.E.Engine.basis lawful (g.E.Engine.view c.args.self.now.engine) c.args.self.now.txns x c.args.txn.0 c.args.at k live n own stands (g.E.Engine.view c.undo_step.new.self) b.0 b.1.7 b.1.6 b.1.5 in
-    let r = c.reverse.ensures.reverses (undone.o _ g.E.Engine.basis lawful (g.E.Engine.view c.args.self.now.engine) c.args.self.now.txns x c.args.txn.0 c.args.at k live) (undone.begun _ g.E.Engine.basis lawful (g.E.Engine.view c.args.self.now.engine) c.args.self.now.txns x c.args.txn.0 c.args.at k live) n b.1.7.goes_on.engine b.1.7.action b.1.4 can in
-    undone.reverse_stays _ g.E.Engine.basis lawful (g.E.Engine.view c.args.self.now.engine) c.args.self.now.txns x c.args.txn.0 c.args.at k live n own stands (g.E.Engine.view c.undo_step.new.self) b.0 b.1.7 b.1.6 b.1.5 (g.E.Engine.view c.reverse.new.self) r.0
+    taking.reversing_stays t (g.E.Engine.basis z) lawful (led t z from (g.E.Engine.view c.args.self.now.engine)) c.args.self.now.txns x c.args.txn.0 c.args.at k live (led t z from (g.E.Engine.view c.undo_step.new.self)) c.undo_step.new.into c.in-Ok-Some.after (some t z from m told) (led t z from (g.E.Engine.view c.reverse.new.self)) (λ o a n e f said can. (c.reverse.ensures.reverses z from (c.undo_step.ensures.means t z from m) (c.in-Ok-Some.ensures.counts.tells told) o a n e f said can).0)
 
 pub returns-in-Ok-end_undo-clause-stays : goal.returns-in-Ok-end_undo-clause-stays
-returns-in-Ok-end_undo-clause-stays g c x lawful k live =
+returns-in-Ok-end_undo-clause-stays g c z from m told x lawful k live =
+    let t = table_of (λ y. (given.RecordOp-dyn g y).record_meaning y.1) (λ y. (given.RangeOp-dyn g y).range_meaning y.1) c.args.ops.now in
     let some = rw c.in-Ok-Some.field-0-is at c.in-Ok-Some.ensures.some in
-    let b = some _ (undone.begun _ g.E.Engine.basis lawful (g.E.Engine.view c.args.self.now.engine) c.args.self.now.txns x c.args.txn.0 c.args.at k live) k.engine k.idle refl in
-    let n = b.1.0 in
-    let own = b.1.1 in
-    let stands = b.1.2 in
-    let next = b.1.3 in
-    let can = undone.can _ g.E.Engine.basis lawful (g.E.Engine.view c.args.self.now.engine) c.args.self.now.txns x c.args.txn.0 c.args.at k live n own stands (g.E.Engine.view c.undo_step.new.self) b.0 b.1.7 b.1.6 b.1.5 in
-    let r = c.in-Ok.ensures.reverses (undone.o _ g.E.Engine.basis lawful (g.E.Engine.view c.args.self.now.engine) c.args.self.now.txns x c.args.txn.0 c.args.at k live) (undone.begun _ g.E.Engine.basis lawful (g.E.Engine.view c.args.self.now.engine) c.args.self.now.txns x c.args.txn.0 c.args.at k live) n b.1.7.goes_on.engine b.1.7.action b.1.4 can in
-    let still = undone.stands_still _ g.E.Engine.basis lawful (g.E.Engine.view c.args.self.now.engine) c.args.self.now.txns x c.args.txn.0 c.args.at k live n own stands (g.E.Engine.view c.undo_step.new.self) b.0 b.1.7 b.1.6 b.1.5 (g.E.Engine.view c.reverse.new.self) r.0 r.1.0 in
-    let e = c.end_undo.ensures.ends _ (undone.begun _ g.E.Engine.basis lawful (g.E.Engine.view c.args.self.now.engine) c.args.self.now.txns x c.args.txn.0 c.args.at k live) r.1.0.goes_on.engine r.1.0.action refl n own still next in
-    undone.end_undo_stays _ g.E.Engine.basis lawful (g.E.Engine.view c.args.self.now.engine) c.args.self.now.txns x c.args.txn.0 c.args.at k live n own stands (g.E.Engine.view c.undo_step.new.self) b.0 b.1.7 b.1.6 b.1.5 (g.E.Engine.view c.reverse.new.self) r.0 r.1.0 r.1.1 (g.E.Engine.view c.end_undo.new.self) e.0 e.1 c.in-Ok-Some.after next e.2
+    taking.ending_stays t (g.E.Engine.basis z) lawful (led t z from (g.E.Engine.view c.args.self.now.engine)) c.args.self.now.txns x c.args.txn.0 c.args.at k live (led t z from (g.E.Engine.view c.undo_step.new.self)) c.undo_step.new.into c.in-Ok-Some.after (some t z from m told) (led t z from (g.E.Engine.view c.reverse.new.self)) (λ o a n e f said can. c.in-Ok.ensures.reverses z from (c.undo_step.ensures.means t z from m) (c.in-Ok-Some.ensures.counts.tells told) o a n e f said can) (led t z from (g.E.Engine.view c.end_undo.new.self)) (λ a e f own n ns stands next. let d = c.end_undo.ensures.ends t z from (c.reverse.ensures.means z from (c.undo_step.ensures.means t z from m)) (c.in-Ok.ensures.counts.tells (c.in-Ok-Some.ensures.counts.tells told)) a e f own n ns stands next in (d.0, d.1, d.2))
 
 pub returns-in-Err-end_undo-clause-stays : goal.returns-in-Err-end_undo-clause-stays
-returns-in-Err-end_undo-clause-stays g c x lawful k live =
+returns-in-Err-end_undo-clause-stays g c z from m told x lawful k live =
+    let t = table_of (λ y. (given.RecordOp-dyn g y).record_meaning y.1) (λ y. (given.RangeOp-dyn g y).range_meaning y.1) c.args.ops.now in
     let some = rw c.in-Ok-Some.field-0-is at c.in-Ok-Some.ensures.some in
-    let b = some _ (undone.begun _ g.E.Engine.basis lawful (g.E.Engine.view c.args.self.now.engine) c.args.self.now.txns x c.args.txn.0 c.args.at k live) k.engine k.idle refl in
-    let n = b.1.0 in
-    let own = b.1.1 in
-    let stands = b.1.2 in
-    let next = b.1.3 in
-    let can = undone.can _ g.E.Engine.basis lawful (g.E.Engine.view c.args.self.now.engine) c.args.self.now.txns x c.args.txn.0 c.args.at k live n own stands (g.E.Engine.view c.undo_step.new.self) b.0 b.1.7 b.1.6 b.1.5 in
-    let r = c.in-Ok.ensures.reverses (undone.o _ g.E.Engine.basis lawful (g.E.Engine.view c.args.self.now.engine) c.args.self.now.txns x c.args.txn.0 c.args.at k live) (undone.begun _ g.E.Engine.basis lawful (g.E.Engine.view c.args.self.now.engine) c.args.self.now.txns x c.args.txn.0 c.args.at k live) n b.1.7.goes_on.engine b.1.7.action b.1.4 can in
-    let still = undone.stands_still _ g.E.Engine.basis lawful (g.E.Engine.view c.args.self.now.engine) c.args.self.now.txns x c.args.txn.0 c.args.at k live n own stands (g.E.Engine.view c.undo_step.new.self) b.0 b.1.7 b.1.6 b.1.5 (g.E.Engine.view c.reverse.new.self) r.0 r.1.0 in
-    let e = c.end_undo.ensures.ends _ (undone.begun _ g.E.Engine.basis lawful (g.E.Engine.view c.args.self.now.engine) c.args.self.now.txns x c.args.txn.0 c.args.at k live) r.1.0.goes_on.engine r.1.0.action refl n own still next in
-    undone.end_undo_stays _ g.E.Engine.basis lawful (g.E.Engine.view c.args.self.now.engine) c.args.self.now.txns x c.args.txn.0 c.args.at k live n own stands (g.E.Engine.view c.undo_step.new.self) b.0 b.1.7 b.1.6 b.1.5 (g.E.Engine.view c.reverse.new.self) r.0 r.1.0 r.1.1 (g.E.Engine.view c.end_undo.new.self) e.0 e.1 c.in-Ok-Some.after next e.2
+    taking.ending_stays t (g.E.Engine.basis z) lawful (led t z from (g.E.Engine.view c.args.self.now.engine)) c.args.self.now.txns x c.args.txn.0 c.args.at k live (led t z from (g.E.Engine.view c.undo_step.new.self)) c.undo_step.new.into c.in-Ok-Some.after (some t z from m told) (led t z from (g.E.Engine.view c.reverse.new.self)) (λ o a n e f said can. c.in-Ok.ensures.reverses z from (c.undo_step.ensures.means t z from m) (c.in-Ok-Some.ensures.counts.tells told) o a n e f said can) (led t z from (g.E.Engine.view c.end_undo.new.self)) (λ a e f own n ns stands next. let d = c.end_undo.ensures.ends t z from (c.reverse.ensures.means z from (c.undo_step.ensures.means t z from m)) (c.in-Ok.ensures.counts.tells (c.in-Ok-Some.ensures.counts.tells told)) a e f own n ns stands next in (d.0, d.1, d.2))
 
 pub returns-in-Ok-end_undo-clause-undid : goal.returns-in-Ok-end_undo-clause-undid
-returns-in-Ok-end_undo-clause-undid g c x lawful k live =
+returns-in-Ok-end_undo-clause-undid g c z from m told x lawful k live =
+    let t = table_of (λ y. (given.RecordOp-dyn g y).record_meaning y.1) (λ y. (given.RangeOp-dyn g y).range_meaning y.1) c.args.ops.now in
     let some = rw c.in-Ok-Some.field-0-is at c.in-Ok-Some.ensures.some in
-    let b = some _ (undone.begun _ g.E.Engine.basis lawful (g.E.Engine.view c.args.self.now.engine) c.args.self.now.txns x c.args.txn.0 c.args.at k live) k.engine k.idle refl in
-    let n = b.1.0 in
-    let own = b.1.1 in
-    let stands = b.1.2 in
-    let next = b.1.3 in
-    let can = undone.can _ g.E.Engine.basis lawful (g.E.Engine.view c.args.self.now.engine) c.args.self.now.txns x c.args.txn.0 c.args.at k live n own stands (g.E.Engine.view c.undo_step.new.self) b.0 b.1.7 b.1.6 b.1.5 in
-    let r = c.in-Ok.ensures.reverses (undone.o _ g.E.Engine.basis lawful (g.E.Engine.view c.args.self.now.engine) c.args.self.now.txns x c.args.txn.0 c.args.at k live) (undone.begun _ g.E.Engine.basis lawful (g.E.Engine.view c.args.self.now.engine) c.args.self.now.txns x c.args.txn.0 c.args.at k live) n b.1.7.goes_on.engine b.1.7.action b.1.4 can in
-    let still = undone.stands_still _ g.E.Engine.basis lawful (g.E.Engine.view c.args.self.now.engine) c.args.self.now.txns x c.args.txn.0 c.args.at k live n own stands (g.E.Engine.view c.undo_step.new.self) b.0 b.1.7 b.1.6 b.1.5 (g.E.Engine.view c.reverse.new.self) r.0 r.1.0 in
-    let e = c.in-Ok-end_undo.ensures.ends _ (undone.begun _ g.E.Engine.basis lawful (g.E.Engine.view c.args.self.now.engine) c.args.self.now.txns x c.args.txn.0 c.args.at k live) r.1.0.goes_on.engine r.1.0.action refl n own still next in
-    undone.undid_one _ g.E.Engine.basis lawful (g.E.Engine.view c.args.self.now.engine) c.args.self.now.txns x c.args.txn.0 c.args.at k live n own stands (g.E.Engine.view c.undo_step.new.self) b.0 b.1.7 b.1.6 b.1.5 (g.E.Engine.view c.reverse.new.self) r.0 r.1.0 r.1.1 (g.E.Engine.view c.end_undo.new.self) e.0 e.1 c.in-Ok-Some.after next e.2 e.3
+    taking.ended_undid t (g.E.Engine.basis z) lawful (led t z from (g.E.Engine.view c.args.self.now.engine)) c.args.self.now.txns x c.args.txn.0 c.args.at k live (led t z from (g.E.Engine.view c.undo_step.new.self)) c.undo_step.new.into c.in-Ok-Some.after (some t z from m told) (led t z from (g.E.Engine.view c.reverse.new.self)) (λ o a n e f said can. c.in-Ok.ensures.reverses z from (c.undo_step.ensures.means t z from m) (c.in-Ok-Some.ensures.counts.tells told) o a n e f said can) (led t z from (g.E.Engine.view c.end_undo.new.self)) (λ a e f own n ns stands next. c.in-Ok-end_undo.ensures.ends t z from (c.reverse.ensures.means z from (c.undo_step.ensures.means t z from m)) (c.in-Ok.ensures.counts.tells (c.in-Ok-Some.ensures.counts.tells told)) a e f own n ns stands next)
+
+pub undo_step-requires : goal.undo_step-requires
+undo_step-requires g c =
+    let t = table_of (λ y. (given.RecordOp-dyn g y).record_meaning y.1) (λ y. (given.RangeOp-dyn g y).range_meaning y.1) c.args.ops.now in
+    record { can = serving.asked_of t (g.E.Engine.view c.args.self.now.engine) (IsTakingBack c.args.self.now.txns c.args.txn.0 c.args.at t) (IsAt c.args.txn.0) (λ b v h. record { rest = record { engine = h.undoing.engine; idle = h.undoing.idle }; live = h.undoing.undoes.same.lives c.args.txn.0 ∙ h.live }) c.requires.can }
+
+pub reverse-requires : goal.reverse-requires
+reverse-requires g c =
+    let t = table_of (λ y. (given.RecordOp-dyn g y).record_meaning y.1) (λ y. (given.RangeOp-dyn g y).range_meaning y.1) c.args.ops.now in
+    let some = rw c.in-Ok-Some.field-0-is at c.in-Ok-Some.ensures.some in
+    let s = c.requires.can in
+    record {
+      can = record {
+        sizes = s.sizes;
+        from = s.from;
+        means = c.undo_step.ensures.means t s.sizes s.from s.means;
+        can = λ told.
+            (let one = c.undo_step.ensures.counts.told told in
+            let h = s.can one in
+            taking.takes_back t (g.E.Engine.basis s.sizes) h.lawful (led t s.sizes s.from (g.E.Engine.view c.args.self.now.engine)) c.args.self.now.txns h.run c.args.txn.0 c.args.at h.undoing h.live (led t s.sizes s.from (g.E.Engine.view c.undo_step.new.self)) c.undo_step.new.into c.in-Ok-Some.after (some t s.sizes s.from s.means one));
+      };
+    }
+
+pub end_undo-requires : goal.end_undo-requires
+end_undo-requires g c =
+    let t = table_of (λ y. (given.RecordOp-dyn g y).record_meaning y.1) (λ y. (given.RangeOp-dyn g y).range_meaning y.1) c.args.ops.now in
+    let some = rw c.in-Ok-Some.field-0-is at c.in-Ok-Some.ensures.some in
+    let s = c.requires.can in
+    record {
+      can = record {
+        by = t;
+        sizes = s.sizes;
+        from = s.from;
+        means = c.reverse.ensures.means s.sizes s.from (c.undo_step.ensures.means t s.sizes s.from s.means);
+        can = λ told.
+            (let two = c.reverse.ensures.counts.told told in
+            let one = c.undo_step.ensures.counts.told two in
+            let h = s.can one in
+            taking.acts_back t (g.E.Engine.basis s.sizes) h.lawful (led t s.sizes s.from (g.E.Engine.view c.args.self.now.engine)) c.args.self.now.txns h.run c.args.txn.0 c.args.at h.undoing h.live (led t s.sizes s.from (g.E.Engine.view c.undo_step.new.self)) c.undo_step.new.into c.in-Ok-Some.after (some t s.sizes s.from s.means one) (led t s.sizes s.from (g.E.Engine.view c.reverse.new.self)) (λ o a n e f said can. c.in-Ok.ensures.reverses s.sizes s.from (c.undo_step.ensures.means t s.sizes s.from s.means) two o a n e f said can));
+      };
+    }
+
+pub returns-in-Err-reverse-clause-means : goal.returns-in-Err-reverse-clause-means
+returns-in-Err-reverse-clause-means g c z from m =
+    let t = table_of (λ y. (given.RecordOp-dyn g y).record_meaning y.1) (λ y. (given.RangeOp-dyn g y).range_meaning y.1) c.args.ops.now in
+    c.reverse.ensures.means z from (c.undo_step.ensures.means t z from m)
+
+pub returns-in-Ok-end_undo-clause-means : goal.returns-in-Ok-end_undo-clause-means
+returns-in-Ok-end_undo-clause-means g c z from m =
+    let t = table_of (λ y. (given.RecordOp-dyn g y).record_meaning y.1) (λ y. (given.RangeOp-dyn g y).range_meaning y.1) c.args.ops.now in
+    c.end_undo.ensures.means t z from (c.reverse.ensures.means z from (c.undo_step.ensures.means t z from m))
+
+pub returns-in-Err-end_undo-clause-means : goal.returns-in-Err-end_undo-clause-means
+returns-in-Err-end_undo-clause-means g c z from m =
+    let t = table_of (λ y. (given.RecordOp-dyn g y).record_meaning y.1) (λ y. (given.RangeOp-dyn g y).range_meaning y.1) c.args.ops.now in
+    c.end_undo.ensures.means t z from (c.reverse.ensures.means z from (c.undo_step.ensures.means t z from m))

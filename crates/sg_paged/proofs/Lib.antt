@@ -1,0 +1,6 @@
+pub mod Behind
+pub mod Recorded
+pub mod Begun
+pub mod Rested
+pub mod Laid
+pub mod Undone

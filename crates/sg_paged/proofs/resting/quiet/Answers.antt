@@ -1,0 +1,31 @@
+use Rattle.std.proofs.Common.{◌≡◌, true, sym, ap, subst, refl, List}
+use Rattle.sg_actions.specs.Rows.{HasRow}
+use Rattle.sg_actions.specs.Steps.{ended, repeated}
+use Rattle.sg_actions.specs.declared.rows.Actor.{Actor}
+use Rattle.sg_actions.specs.declared.rows.Row.{Row}
+use Rattle.sg_store.specs.Engine.{is_going}
+use Rattle.sg_shown.specs.Shown.{over}
+use Rattle.sg_shown.proofs.Calls.{room_settled, means_next, row_after}
+use Rattle.sg_shown.proofs.Holding.{idle_ended}
+use Rattle.sg_paged.proofs.resting.quiet.Goals as goal
+
+pub returns-clause-means : goal.returns-clause-means
+returns-clause-means g c = λ t z from m.
+    let a = over c.args.acts.now in
+    let b = over c.rest.new.self in
+    let k = c.rest.ensures in
+    means_next a b t z from m (room_settled a b k.pages k.bands) refl k.begun (subst (λ y. g.E.Engine.means y t from) (sym k.engine) m.since.stands) (subst (λ y. (g.E.Engine.view y).Told → a.engine.Told) (sym k.engine) (λ h. h))
+    (λ told'.
+    let told = subst (λ y. (g.E.Engine.view y).Told) k.engine told' in
+    let h = m.keeps told in
+    let idle = idle_ended a.engine.steps h.kept.chain.closed (c.requires.idle told) in
+    record {
+      kept = k.kept (g.E.Engine.limits z.pages z.bands) t from m.since.stands told idle h.kept;
+      rest = record {
+        idle = subst (λ y. ended (g.E.Engine.view y).steps ≡ (g.E.Engine.view y).steps) (sym k.engine) idle;
+        system = ap (λ (x : Actor). x.txn.0) k.actor;
+        freed = record { pages = k.pages.none; bands = k.bands.none };
+      };
+      rows = λ u e. subst (λ (xs : List Row). HasRow xs u) (sym k.rows) (row_after a.rows a.actor.txn a.actor.last u (h.rows u (subst (λ y. is_going u (g.E.Engine.view y).steps ≡ true) k.engine e)));
+      now = ap (λ y. repeated t from (g.E.Engine.view y).steps) k.engine;
+    })

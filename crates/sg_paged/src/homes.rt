@@ -1,0 +1,40 @@
+// Calls that append no record of a transaction.
+ghost use Rattle.std.specs.Prelude.{◌≡◌, IfErr, OnOk};
+ghost use Rattle.sg_store.specs.Engine.{Keeps, AsMeant, Asked, IsEngine, IsIdle, IsAtRest, Rests, Rested, Counts, IsDiskFault, IsNearEnd};
+ghost use Rattle.sg_shown.specs.Shown.{shown};
+
+use crate::resting::{again, quiet};
+use sg_actions::{Acts, Engine};
+use sg_space::SpaceFault;
+
+/// Makes the log durable and writes all changed pages and bands home.
+pub fn flush<E: Engine>(acts: &mut Acts<E>) -> Result<(), SpaceFault>
+    requires can { Asked (shown acts.old) IsAtRest }
+    ensures counts { Counts IsDiskFault (shown acts.old) (shown acts.new) result }
+    ensures means { Keeps (shown acts.old) (shown acts.new) }
+    ensures reads { IfErr result IsDiskFault }
+    ensures rests { AsMeant (shown acts.old) (shown acts.new) (λ t g v w. IsEngine t g v
+        → IsIdle v → Rests t g v w × OnOk result (Rested t g v w × (w.durable ≡ w.log))) }
+{
+    acts.flush()
+}
+
+/// Makes the log durable with a record of where its redo has to begin.
+pub fn checkpoint<E: Engine>(acts: &mut Acts<E>) -> Result<(), SpaceFault>
+    requires can { Asked (shown acts.old) IsAtRest }
+    ensures counts { Counts IsDiskFault (shown acts.old) (shown acts.new) result }
+    ensures means { Keeps (shown acts.old) (shown acts.new) }
+    ensures log_end { IfErr result (IsNearEnd (shown acts.old).tail) }
+    ensures rests { AsMeant (shown acts.old) (shown acts.new) (λ t g v w. IsEngine t g v
+        → IsIdle v → Rests t g v w × OnOk result (Rested t g v w × (w.durable ≡ w.log))) }
+{
+    let who = acts.acting();
+    quiet(acts);
+    match acts.checkpoint() {
+        Ok(()) => {
+            again(acts, who);
+            Ok(())
+        }
+        Err(fault) => Err(fault),
+    }
+}

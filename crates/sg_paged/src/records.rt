@@ -1,0 +1,60 @@
+// The records of a transaction that are outside of its actions.
+ghost use Rattle.std.specs.Prelude.{◌≡◌, ◌≤◌, ◌<◌, ℕ, IfOk, IfErr, OnOk};
+ghost use Rattle.sg_recovery.specs.Log.Record.{Begin, Commit, End};
+ghost use Rattle.sg_store.specs.Engine.{Keeps, AsMeant, Asked, IsEngine, IsIdle, HasPlace, IsAt, MayEnd, Appends, Appended, Counts, IsDiskFault, IsNearEnd};
+ghost use Rattle.sg_shown.specs.Shown.{shown};
+
+use crate::resting::quiet;
+use sg_actions::{Acts, Engine};
+use sg_base::TxnId;
+use sg_space::SpaceFault;
+
+/// A transaction begins, whose number is that of its begin record. Where as many as 64 have begun and
+/// not ended none can, and a break is counted.
+pub fn begin<E: Engine>(acts: &mut Acts<E>) -> Result<TxnId, SpaceFault>
+    requires can { Asked (shown acts.old) HasPlace }
+    ensures number { IfOk result (λ u. ((shown acts.old).tail ≤ u.0) × (u.0 < (shown acts.new).tail)) }
+    ensures counts { Counts IsDiskFault (shown acts.old) (shown acts.new) result }
+    ensures means { Keeps (shown acts.old) (shown acts.new) }
+    ensures log_end { IfErr result (IsNearEnd (shown acts.old).tail) }
+    ensures begins { AsMeant (shown acts.old) (shown acts.new) (λ t g v w. IsEngine t g v → IsIdle v
+        → (n : ℕ) × Appends t g v w (record { lsn = n; is = Begin n 0 })
+        × IfOk result (λ u. (u.0 ≡ n) × Appended t g v w (record { lsn = n; is = Begin n 0 }))) }
+{
+    quiet(acts);
+    if acts.has_place() {
+        return acts.begin();
+    }
+    Err(acts.report())
+}
+
+/// Commits a live transaction, and makes the log durable.
+pub fn commit<E: Engine>(acts: &mut Acts<E>, txn: TxnId) -> Result<(), SpaceFault>
+    requires can { Asked (shown acts.old) (IsAt txn.0) }
+    ensures counts { Counts IsDiskFault (shown acts.old) (shown acts.new) result }
+    ensures means { Keeps (shown acts.old) (shown acts.new) }
+    ensures log_end { IfErr result (IsNearEnd (shown acts.old).tail) }
+    ensures commits { AsMeant (shown acts.old) (shown acts.new) (λ t g v w. IsEngine t g v
+        → IsIdle v → (lsn : ℕ) × (previous : ℕ)
+        × Appends t g v w (record { lsn = lsn; is = Commit txn.0 previous })
+        × OnOk result (Appended t g v w (record { lsn = lsn; is = Commit txn.0 previous })
+        × (w.durable ≡ w.log))) }
+{
+    quiet(acts);
+    acts.commit(txn)
+}
+
+/// A transaction has ended that goes on, or has committed. It is neither live nor a loser any more.
+pub fn end<E: Engine>(acts: &mut Acts<E>, txn: TxnId) -> Result<(), SpaceFault>
+    requires can { Asked (shown acts.old) (MayEnd txn.0) }
+    ensures counts { Counts IsDiskFault (shown acts.old) (shown acts.new) result }
+    ensures means { Keeps (shown acts.old) (shown acts.new) }
+    ensures log_end { IfErr result (IsNearEnd (shown acts.old).tail) }
+    ensures ends { AsMeant (shown acts.old) (shown acts.new) (λ t g v w. IsEngine t g v
+        → IsIdle v → (lsn : ℕ) × (previous : ℕ)
+        × Appends t g v w (record { lsn = lsn; is = End txn.0 previous })
+        × OnOk result (Appended t g v w (record { lsn = lsn; is = End txn.0 previous }))) }
+{
+    quiet(acts);
+    acts.end(txn)
+}

@@ -1,0 +1,2 @@
+pub mod Offs
+pub mod Walks

@@ -1,0 +1,44 @@
+-- What a line's going says of its answer.
+use Rattle.std.proofs.Common.{◌≡◌, ℕ, Bool, List, None, sym, ap, ◌∙◌, subst}
+use Rattle.sg_ops.specs.Table.{Table as Operations}
+use Rattle.sg_words.specs.Answers.{Answer}
+use Rattle.sg_words.specs.Requests.{Asked, asked, is_flush}
+use Rattle.sg_words.specs.Requests.Asked.{Blank, Of}
+use Rattle.sg_words.specs.Requests.{Request}
+use Rattle.sg_run.specs.Run.{Run}
+use Rattle.sg_run.proofs.Serial.{serial_run}
+use Rattle.sg_recovery.proofs.Basic.{some_one}
+use Rattle.sg_store.specs.Ground.{Ground, IsLawful}
+use Rattle.sg_store.specs.Engine.{View}
+use Rattle.sg_store.specs.Store as stores
+use Rattle.sg_store.proofs.Holding as holding
+use Rattle.sg_session.specs.Lines.{Line, line_by, line_of}
+use Rattle.sg_session.specs.Lines.Line.{Other}
+use Rattle.sg_session.specs.Shows.{Core}
+use Rattle.sg_session.specs.Goes.{Goes, Answers}
+
+-- what a line asks for
+pub line_is : (text : List ℕ) (a : Asked) (b : Bool) → asked text ≡ a → is_flush text ≡ b → line_by a b ≡ line_of text
+line_is text a b e f = sym (ap (λ (k : Asked). line_by k (is_flush text)) e ∙ ap (λ (k : Bool). line_by a k) f)
+
+pub is_blank : (text : List ℕ) → asked text ≡ Blank → Other Blank ≡ line_of text
+is_blank text e = sym (ap (λ (k : Asked). line_by k (is_flush text)) e)
+
+pub is_of : (text name : List ℕ) (request : Request) → asked text ≡ Of name request → Other (Of name request) ≡ line_of text
+is_of text name request e = sym (ap (λ (k : Asked). line_by k (is_flush text)) e)
+
+module _ (t : Operations) (g : Ground) (lawful : IsLawful t g) (v : View g) (x : Run) where
+  pub goes_line : (line other : Line) (answer : Answer) (w : View g) (m : Core) → line ≡ other → Goes t g v x line answer w m → Goes t g v x other answer w m
+  goes_line line other answer w m e h = subst (λ (l : Line). Goes t g v x l answer w m) e h
+
+  pub answered : (line : Line) (answer : Answer) (w : View g) (m : Core) → Goes t g v x line answer w m → Answers t g v x line answer w m
+  answered line answer w m h =
+      let runs : m.store.stopped ≡ None → stores.Runs t g w m.store h.after = λ going. h.shows.store.runs (sym h.shows.store.stopped ∙ going) in
+      record {
+        goes = h;
+        serial = λ going. serial_run t h.after (runs going).is_kept.logs.sound;
+        objects = λ going o reads.
+            (let k = (runs going).is_kept in
+            let is = holding.reads_so t g lawful w h.after m.store.live k in
+            ap g.objects (some_one o (holding.reading t g lawful w h.after m.store.live k) (sym reads ∙ is.reading)) ∙ holding.objects_so t g lawful w h.after m.store.live k);
+      }

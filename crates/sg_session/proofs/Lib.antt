@@ -1,0 +1,7 @@
+pub mod Finding
+pub mod Named
+pub mod Steps
+pub mod Commits
+pub mod Serves
+pub mod Ending
+pub mod Answering

@@ -1,0 +1,219 @@
+-- How each line goes, by what the call of the store comes to.
+use Rattle.std.proofs.Common.{◌≡◌, ℕ, ◌≤◌, true, false, List, [], ◌∷◌, ◌++◌, length, Option, Some, None, refl, sym, ap, ◌∙◌, subst, arith}
+use Rattle.std.specs.Prelude.{Vec, Ok, Err, IsSome, nat_le, is_some}
+use Rattle.std.specs.Option.{option_map}
+use Rattle.std.proofs.lemmas.Bool.Decides.{nat_tests}
+use Rattle.sg_base.specs.declared.numbers.TxnId.{TxnId}
+use Rattle.sg_disk.proofs.Moments.{started}
+use Rattle.sg_ops.specs.Table.{Table as Operations}
+use Rattle.sg_serial.specs.Runs.{Live, without}
+use Rattle.sg_model.specs.declared.stop.Stop.{Stop}
+use Rattle.sg_model.specs.declared.op.Reply as code_reply
+use Rattle.sg_model.specs.SaidReplies.{said_reply}
+use Rattle.sg_model.specs.Verb.{Op}
+use Rattle.sg_model.specs.Verb.Reply.{Done, Several}
+use Rattle.sg_words.specs.Answers.{Answer}
+use Rattle.sg_words.specs.Answers.Answer.{Silent, BadSyntax, Stopped, NoTransaction, IsLive, TooManyLive, Said}
+use Rattle.sg_words.specs.Requests.{Request}
+use Rattle.sg_words.specs.Requests.Asked.{Blank, Wrong, Of}
+use Rattle.sg_words.specs.Requests.Request.{Begin, Commit, Abort, Do}
+use Rattle.sg_run.specs.Run.{Run, live_named}
+use Rattle.sg_run.specs.Numbers.Refusal.{TooManyLive as AreTooMany, Stopped as HasStopped}
+use Rattle.sg_run.specs.Named.{answer_to}
+use Rattle.sg_run.specs.Stocked.{Around}
+use Rattle.sg_store.specs.declared.fault.Refused.{Refused}
+use Rattle.sg_store.specs.Refusals.{said_refusal}
+use Rattle.sg_store.specs.Ground.{Ground}
+use Rattle.sg_store.specs.Engine.{View}
+use Rattle.sg_store.specs.Stands.{StandsForFirst}
+use Rattle.sg_store.specs.Calls as calls
+use Rattle.sg_store.specs.Store as stores
+use Rattle.sg_session.specs.Lines.{Line, LineBy, RequestBy, UnlessStopped, BeginsAs, CommitsAs, AbortsAs, DoesAs}
+use Rattle.sg_session.specs.Lines.Line.{Flush, Other}
+use Rattle.sg_session.specs.declared.names.Named as code_named
+use Rattle.sg_session.specs.Names.{live_of, IsNamed}
+use Rattle.sg_session.specs.Shows.{Core, Shows}
+use Rattle.sg_session.specs.Goes.{around, Goes}
+use Rattle.sg_session.proofs.Named as named
+
+pub none_of : (s : Option Stop) → is_some s ≡ false → s ≡ None
+none_of None e = refl
+none_of (Some why) e = absurd (cc)
+
+some_of : (s : Option Stop) → is_some s ≡ true → IsSome s
+some_of s e = e
+
+module _ (t : Operations) (g : Ground) (v : View g) (x : Run) where
+  -- a call of the store leads to what the session then shows
+  from_store : (w : View g) (m : stores.Core) (names : List Live) (line : Line) (answer : Answer) (Call : Run → Type 0) → calls.Goes t g v x Call w m
+      → ((y : Run) → Call y → LineBy t (around v w) x line answer y) → ((y : Run) → Call y → names ≡ y.so_far.live) → Goes t g v x line answer w (record { store = m; names = names })
+  from_store w m names line answer Call h by are = record {
+    after = h.after;
+    line_goes = by h.after h.goes;
+    shows = record { store = h.shows; names = λ e. are h.after h.goes };
+    moments = h.moments;
+  }
+
+  -- a line of a transaction where the store hasn't stopped
+  unless : (a : Around) (name : List ℕ) (request : Request) (answer : Answer) (y : Run) → x.stopped ≡ None → RequestBy t a name x request answer y → UnlessStopped t a name x.stopped x request answer y
+  unless a name request answer y e h = subst (λ (s : Option Stop). UnlessStopped t a name s x request answer y) (sym e) h
+
+  module _ (k : Core) (shows : Shows t g v k x) where
+    same : (line : Line) (answer : Answer) → LineBy t (around v v) x line answer x → Goes t g v x line answer v k
+    same line answer h = record { after = x; line_goes = h; shows = shows; moments = started v.disk (StandsForFirst t g x.so_far.answered x) shows.store.images }
+
+    pub silent : Goes t g v x (Other Blank) Silent v k
+    silent = same (Other Blank) Silent (refl, refl)
+
+    pub bad_syntax : Goes t g v x (Other Wrong) BadSyntax v k
+    bad_syntax = same (Other Wrong) BadSyntax (refl, refl)
+
+    by_stop : (a : Around) (name : List ℕ) (request : Request) (s : Option Stop) → is_some s ≡ true → UnlessStopped t a name s x request Stopped x
+    by_stop a name request None e = absurd (cc)
+    by_stop a name request (Some why) e = (refl, refl)
+
+    pub has_stopped : (name : List ℕ) (request : Request) → is_some k.store.stopped ≡ true → Goes t g v x (Other (Of name request)) Stopped v k
+    has_stopped name request e = same (Other (Of name request)) Stopped (by_stop (around v v) name request x.stopped (ap is_some (sym shows.store.stopped) ∙ e))
+
+    pub flush_stopped : is_some k.store.stopped ≡ true → Goes t g v x Flush Stopped v k
+    flush_stopped e = same Flush Stopped (Err HasStopped, refl, (some_of x.stopped (ap is_some (sym shows.store.stopped) ∙ e), refl))
+
+    module _ (running : k.store.stopped ≡ None) where
+      pub going : x.stopped ≡ None
+      going = sym shows.store.stopped ∙ running
+
+      names : k.names ≡ x.so_far.live
+      names = shows.names going
+
+      -- who has a name
+      known : (name : List ℕ) (o : Option Live) → o ≡ live_named k.names name → live_named x.so_far.live name ≡ o
+      known name o e = sym (e ∙ ap (λ (ls : List Live). live_named ls name) names)
+
+      -- a line of a transaction by the live one with its name
+      begin_by : (a : Around) (name : List ℕ) (answer : Answer) (y : Run) (o : Option Live) → o ≡ live_named k.names name → BeginsAs a name o x answer y → LineBy t a x (Other (Of name Begin)) answer y
+      begin_by a name answer y o e h = unless a name Begin answer y going (subst (λ (p : Option Live). BeginsAs a name p x answer y) (sym (known name o e)) h)
+
+      commit_by : (a : Around) (name : List ℕ) (answer : Answer) (y : Run) (o : Option Live) → o ≡ live_named k.names name → CommitsAs a o x answer y → LineBy t a x (Other (Of name Commit)) answer y
+      commit_by a name answer y o e h = unless a name Commit answer y going (subst (λ (p : Option Live). CommitsAs a p x answer y) (sym (known name o e)) h)
+
+      abort_by : (a : Around) (name : List ℕ) (answer : Answer) (y : Run) (o : Option Live) → o ≡ live_named k.names name → AbortsAs a o x answer y → LineBy t a x (Other (Of name Abort)) answer y
+      abort_by a name answer y o e h = unless a name Abort answer y going (subst (λ (p : Option Live). AbortsAs a p x answer y) (sym (known name o e)) h)
+
+      do_by : (a : Around) (name : List ℕ) (op : Op) (answer : Answer) (y : Run) (o : Option Live) → o ≡ live_named k.names name → DoesAs t a op o x answer y → LineBy t a x (Other (Of name (Do op))) answer y
+      do_by a name op answer y o e h = unless a name (Do op) answer y going (subst (λ (p : Option Live). DoesAs t a op p x answer y) (sym (known name o e)) h)
+
+      -- what a refusal is answered, by the names that the session knows
+      words_for : (answer : Answer) (why : Refused) → (IsNamed k.names why → answer ≡ answer_to k.names (said_refusal why)) → IsNamed x.so_far.live why → answer ≡ answer_to x.so_far.live (said_refusal why)
+      words_for answer why says is =
+          says (subst (λ (ls : List Live). IsNamed ls why) (sym names) is) ∙ ap (λ (ls : List Live). answer_to ls (said_refusal why)) names
+
+      -- BEGIN
+      pub begin_live : (name : List ℕ) (l : Live) → Some l ≡ live_named k.names name → Goes t g v x (Other (Of name Begin)) IsLive v k
+      begin_live name l e = same (Other (Of name Begin)) IsLive (begin_by (around v v) name IsLive x (Some l) e (refl, refl))
+
+      pub begin_many : (name : List ℕ) → None ≡ live_named k.names name → nat_le 64 (length k.names) ≡ true → Goes t g v x (Other (Of name Begin)) TooManyLive v k
+      begin_many name e full =
+          let le : 64 ≤ length x.so_far.live = subst (λ (ls : List Live). 64 ≤ length ls) names (grind (arith, nat_tests, full)) in
+          same (Other (Of name Begin)) TooManyLive (begin_by (around v v) name TooManyLive x None e (Err AreTooMany, refl, (going, le, refl)))
+
+      pub begin_done : (name : List ℕ) (w : View g) (m : stores.Core) (now : List Live) (u : TxnId) → None ≡ live_named k.names name
+          → now ≡ k.names ++ record { name = name; transaction = u.0; marks = [] } ∷ []
+          → calls.Goes t g v x (calls.Begins v.tail v.faults w.faults name x (Ok u)) w m → Goes t g v x (Other (Of name Begin)) (Said Done) w (record { store = m; names = now })
+      begin_done name w m now u e added h =
+          from_store w m now (Other (Of name Begin)) (Said Done) (calls.Begins v.tail v.faults w.faults name x (Ok u)) h
+          (λ y b. begin_by (around v w) name (Said Done) y None e (Ok u.0, refl, b))
+          (λ y b. added ∙ (ap (λ (ls : List Live). ls ++ record { name = name; transaction = u.0; marks = [] } ∷ []) names ∙ sym (named.began_live v.tail v.faults w.faults name x y u b)))
+
+      pub begin_refused : (name : List ℕ) (w : View g) (m : stores.Core) (answer : Answer) (why : Refused) → None ≡ live_named k.names name → (IsNamed k.names why → answer ≡ answer_to k.names (said_refusal why))
+          → calls.Goes t g v x (calls.Begins v.tail v.faults w.faults name x (Err why)) w m → Goes t g v x (Other (Of name Begin)) answer w (record { store = m; names = k.names })
+      begin_refused name w m answer why e says h =
+          from_store w m k.names (Other (Of name Begin)) answer (calls.Begins v.tail v.faults w.faults name x (Err why)) h
+          (λ y b. begin_by (around v w) name answer y None e (Err (said_refusal why), words_for answer why says (named.begin_named v.tail v.faults w.faults name x.so_far.live x why y b), b))
+          (λ y b. names ∙ sym (named.begin_live v.tail v.faults w.faults name x y why b))
+
+      -- COMMIT
+      pub commit_none : (name : List ℕ) → None ≡ live_named k.names name → Goes t g v x (Other (Of name Commit)) NoTransaction v k
+      commit_none name e = same (Other (Of name Commit)) NoTransaction (commit_by (around v v) name NoTransaction x None e (refl, refl))
+
+      pub commit_done : (name : List ℕ) (l : Live) (w : View g) (m : stores.Core) (now : List Live) → Some l ≡ live_named k.names name → now ≡ without l.transaction k.names
+          → calls.Goes t g v x (calls.Commits w.tail v.faults w.faults l.transaction x (Ok tt)) w m → Goes t g v x (Other (Of name Commit)) (Said Done) w (record { store = m; names = now })
+      commit_done name l w m now e left h =
+          from_store w m now (Other (Of name Commit)) (Said Done) (calls.Commits w.tail v.faults w.faults l.transaction x (Ok tt)) h
+          (λ y b. commit_by (around v w) name (Said Done) y (Some l) e (Ok tt, refl, b))
+          (λ y b. left ∙ (ap (λ (ls : List Live). without l.transaction ls) names ∙ sym (named.committed_live w.tail v.faults w.faults l.transaction x y b)))
+
+      pub commit_refused : (name : List ℕ) (l : Live) (w : View g) (m : stores.Core) (answer : Answer) (why : Refused) → Some l ≡ live_named k.names name → (IsNamed k.names why → answer ≡ answer_to k.names (said_refusal why))
+          → calls.Goes t g v x (calls.Commits w.tail v.faults w.faults l.transaction x (Err why)) w m → Goes t g v x (Other (Of name Commit)) answer w (record { store = m; names = k.names })
+      commit_refused name l w m answer why e says h =
+          from_store w m k.names (Other (Of name Commit)) answer (calls.Commits w.tail v.faults w.faults l.transaction x (Err why)) h
+          (λ y b. commit_by (around v w) name answer y (Some l) e (Err (said_refusal why), words_for answer why says (named.commit_named w.tail v.faults w.faults l.transaction x.so_far.live x why y b), b))
+          (λ y b. names ∙ sym (named.commit_live w.tail v.faults w.faults l.transaction x y why b))
+
+      -- ABORT
+      pub abort_none : (name : List ℕ) → None ≡ live_named k.names name → Goes t g v x (Other (Of name Abort)) NoTransaction v k
+      abort_none name e = same (Other (Of name Abort)) NoTransaction (abort_by (around v v) name NoTransaction x None e (refl, refl))
+
+      pub abort_done : (name : List ℕ) (l : Live) (w : View g) (m : stores.Core) (now : List Live) → Some l ≡ live_named k.names name → now ≡ without l.transaction k.names
+          → calls.Goes t g v x (calls.Aborts w.tail v.faults w.faults l.transaction x (Ok tt)) w m → Goes t g v x (Other (Of name Abort)) (Said Done) w (record { store = m; names = now })
+      abort_done name l w m now e left h =
+          from_store w m now (Other (Of name Abort)) (Said Done) (calls.Aborts w.tail v.faults w.faults l.transaction x (Ok tt)) h
+          (λ y b. abort_by (around v w) name (Said Done) y (Some l) e (Ok tt, refl, b))
+          (λ y b. left ∙ (ap (λ (ls : List Live). without l.transaction ls) names ∙ sym (named.aborted_live w.tail v.faults w.faults l.transaction x y b)))
+
+      pub abort_refused : (name : List ℕ) (l : Live) (w : View g) (m : stores.Core) (answer : Answer) (why : Refused) → Some l ≡ live_named k.names name → (IsNamed k.names why → answer ≡ answer_to k.names (said_refusal why))
+          → calls.Goes t g v x (calls.Aborts w.tail v.faults w.faults l.transaction x (Err why)) w m → Goes t g v x (Other (Of name Abort)) answer w (record { store = m; names = k.names })
+      abort_refused name l w m answer why e says h =
+          from_store w m k.names (Other (Of name Abort)) answer (calls.Aborts w.tail v.faults w.faults l.transaction x (Err why)) h
+          (λ y b. abort_by (around v w) name answer y (Some l) e (Err (said_refusal why), words_for answer why says (named.abort_named w.tail v.faults w.faults l.transaction x.so_far.live x why y b), b))
+          (λ y b. names ∙ sym (named.abort_live w.tail v.faults w.faults l.transaction x y why b))
+
+      -- FLUSH
+      pub flush_done : (w : View g) (m : stores.Core) → calls.Goes t g v x (calls.Flushes v.faults w.faults x (Ok tt)) w m → Goes t g v x Flush (Said Done) w (record { store = m; names = k.names })
+      flush_done w m h =
+          from_store w m k.names Flush (Said Done) (calls.Flushes v.faults w.faults x (Ok tt)) h (λ y b. (Ok tt, refl, b)) (λ y b. names ∙ sym (named.flush_live v.faults w.faults x y (Ok tt) b))
+
+      pub flush_refused : (w : View g) (m : stores.Core) (answer : Answer) (why : Refused) → (IsNamed k.names why → answer ≡ answer_to k.names (said_refusal why))
+          → calls.Goes t g v x (calls.Flushes v.faults w.faults x (Err why)) w m → Goes t g v x Flush answer w (record { store = m; names = k.names })
+      flush_refused w m answer why says h =
+          from_store w m k.names Flush answer (calls.Flushes v.faults w.faults x (Err why)) h
+          (λ y b. (Err (said_refusal why), words_for answer why says (named.flush_named v.faults w.faults x.so_far.live x why y b), b))
+          (λ y b. names ∙ sym (named.flush_live v.faults w.faults x y (Err why) b))
+
+      -- AN OPERATION
+      pub do_none : (name : List ℕ) (op : Op) → None ≡ live_named k.names name → Goes t g v x (Other (Of name (Do op))) NoTransaction v k
+      do_none name op e = same (Other (Of name (Do op))) NoTransaction (do_by (around v v) name op NoTransaction x None e (refl, refl))
+
+      pub do_done : (name : List ℕ) (l : Live) (op : Op) (w : View g) (m : stores.Core) (into : List ℕ) (reply : code_reply.Reply) → Some l ≡ live_named k.names name
+          → calls.Goes t g v x (calls.Does t v.tail w.tail v.faults w.faults l.transaction op x into (Ok reply)) w m
+          → Goes t g v x (Other (Of name (Do op))) (Said (said_reply into reply)) w (record { store = m; names = k.names })
+      do_done name l op w m into reply e h =
+          from_store w m k.names (Other (Of name (Do op))) (Said (said_reply into reply)) (calls.Does t v.tail w.tail v.faults w.faults l.transaction op x into (Ok reply)) h
+          (λ y b. do_by (around v w) name op (Said (said_reply into reply)) y (Some l) e (Ok (said_reply into reply), refl, b))
+          (λ y b. names ∙ sym (named.does_live t v.tail w.tail v.faults w.faults l.transaction op x y into (Ok reply) b))
+
+      pub list_done : {A : Type 0} (name : List ℕ) (l : Live) (op : Op) (w : View g) (m : stores.Core) (words : Vec (List ℕ) A) → Some l ≡ live_named k.names name
+          → calls.Goes t g v x (calls.Lists t v.tail w.tail v.faults w.faults l.transaction op x (Ok words)) w m
+          → Goes t g v x (Other (Of name (Do op))) (Said (Several words.items)) w (record { store = m; names = k.names })
+      list_done name l op w m words e h =
+          from_store w m k.names (Other (Of name (Do op))) (Said (Several words.items)) (calls.Lists t v.tail w.tail v.faults w.faults l.transaction op x (Ok words)) h
+          (λ y b. do_by (around v w) name op (Said (Several words.items)) y (Some l) e (Ok (Several words.items), refl, b))
+          (λ y b. names ∙ sym (ap (λ (r : Run). r.so_far.live) b.4))
+
+      pub do_refused : (name : List ℕ) (l : Live) (op : Op) (w : View g) (m : stores.Core) (into : List ℕ) (answer : Answer) (why : Refused) → Some l ≡ live_named k.names name
+          → (IsNamed k.names why → answer ≡ answer_to k.names (said_refusal why))
+          → calls.Goes t g v x (calls.Does t v.tail w.tail v.faults w.faults l.transaction op x into (Err why)) w m
+          → Goes t g v x (Other (Of name (Do op))) answer w (record { store = m; names = k.names })
+      do_refused name l op w m into answer why e says h =
+          let sound = (shows.store.runs going).is_kept.logs.sound in
+          from_store w m k.names (Other (Of name (Do op))) answer (calls.Does t v.tail w.tail v.faults w.faults l.transaction op x into (Err why)) h
+          (λ y b. do_by (around v w) name op answer y (Some l) e (Err (said_refusal why), words_for answer why says (named.named_for t x sound v.tail w.tail v.faults w.faults l.transaction op into why y b), b))
+          (λ y b. names ∙ sym (named.does_live t v.tail w.tail v.faults w.faults l.transaction op x y into (Err why) b))
+
+-- who has a name, as the session's list says
+pub by_some : (o : Option code_named.Named) (p : Option Live) → is_some o ≡ true → option_map live_of o ≡ p → (l : Live) × (Some l ≡ p)
+by_some None p e h = absurd (cc)
+by_some (Some n) p e h = (live_of n, h)
+
+pub by_none : (o : Option code_named.Named) (p : Option Live) → is_some o ≡ false → option_map live_of o ≡ p → None ≡ p
+by_none None p e h = h
+by_none (Some n) p e h = absurd (cc)

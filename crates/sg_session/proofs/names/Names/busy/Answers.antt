@@ -1,0 +1,15 @@
+use Rattle.std.proofs.Common.{Option, None, sym, ap, subst}
+use Rattle.std.specs.Prelude.{IsSome}
+use Rattle.sg_serial.specs.Runs.{Live}
+use Rattle.sg_words.specs.Answers.Answer.{Busy}
+use Rattle.sg_run.specs.Named.{name_in}
+use Rattle.sg_session.proofs.names.Names.busy.Goals as goal
+
+no_some : IsSome {T = Live} None → ⊥
+no_some e = cc
+
+pub returns-in-Some : goal.returns-in-Some
+returns-in-Some c is into = ap (λ (o : Option Live). Busy (name_in o)) c.in-Some.ensures
+
+pub returns-in-None : goal.returns-in-None
+returns-in-None c is = absurd (no_some (subst IsSome (sym c.in-None.ensures) is))

@@ -1,0 +1,26 @@
+use Rattle.sg_store.specs.Engine.{led}
+use Rattle.sg_session.specs.Seen.{session_core}
+use Rattle.sg_session.proofs.Steps as steps
+use Rattle.sg_session.proofs.Serves.{store_serves}
+use Rattle.sg_store.proofs.Heeding as heeding
+use Rattle.sg_session.proofs.session.Session.commit.Goals as goal
+
+pub returns-in_default-clause-goes : goal.returns-in_default-clause-goes
+returns-in_default-clause-goes g c into z from m told x lawful shows =
+    steps.commit_none _ (g.E.Engine.basis z) (led _ z from (g.E.Engine.view c.args.self.now.store.engine)) x (session_core c.args.self.now) shows c.requires.running c.args.name c.in_default.ensures
+
+pub returns-in-Ok-clause-goes : goal.returns-in-Ok-clause-goes
+returns-in-Ok-clause-goes g c into z from m told x lawful shows =
+    steps.commit_done _ (g.E.Engine.basis z) (led _ z from (g.E.Engine.view c.args.self.now.store.engine)) x (session_core c.args.self.now) shows c.requires.running c.args.name
+    _ (led _ z from (g.E.Engine.view c.commit.new.self.engine)) _ _ c.in-Some.ensures c.remove.ensures (c.in-Ok.ensures.commits z from m told x lawful shows.store)
+
+pub returns-in-Err-clause-goes : goal.returns-in-Err-clause-goes
+returns-in-Err-clause-goes g c into z from m told x lawful shows =
+    steps.commit_refused _ (g.E.Engine.basis z) (led _ z from (g.E.Engine.view c.args.self.now.store.engine)) x (session_core c.args.self.now) shows c.requires.running c.args.name
+    _ (led _ z from (g.E.Engine.view c.commit.new.self.engine)) _ _ c.in-Err.why c.in-Some.ensures (λ is. c.answer_to.ensures is into) (c.in-Err.ensures.commits z from m told x lawful shows.store)
+
+pub commit-requires : goal.commit-requires
+commit-requires g c = record { serves = store_serves _ (g.E.Engine.view c.args.self.now.store.engine) (session_core c.args.self.now) c.requires.serves }
+
+pub returns-in_default-clause-heeds : goal.returns-in_default-clause-heeds
+returns-in_default-clause-heeds g c = heeding.heeds_none c.args.self.now.store.stop (g.E.Engine.view c.args.self.now.store.engine)

@@ -1,0 +1,104 @@
+use Rattle.std.proofs.Common.{sym, ap, ◌∙◌}
+use Rattle.std.specs.Prelude.{is_some}
+use Rattle.sg_model.specs.SaidOps.{said_op}
+use Rattle.sg_model.specs.Verb.Op.{On, Names}
+use Rattle.sg_model.specs.Verb.Verb.{Keys}
+use Rattle.sg_words.specs.Requests.Asked.{Wrong, Of}
+use Rattle.sg_words.specs.Requests.Request.{Begin, Commit, Abort, Do}
+use Rattle.sg_words.specs.Requested.{shown}
+use Rattle.sg_words.specs.declared.request.Request as code_request
+use Rattle.sg_store.specs.Engine.{led}
+use Rattle.sg_session.specs.Seen.{session_core}
+use Rattle.sg_session.specs.Goes.{when_stopped}
+use Rattle.sg_store.proofs.Heeding as heeding
+use Rattle.sg_session.proofs.Steps as steps
+use Rattle.sg_session.proofs.Answering as answering
+use Rattle.sg_session.proofs.session.Session.execute.Goals as goal
+
+pub returns-in-Blank-clause-goes : goal.returns-in-Blank-clause-goes
+returns-in-Blank-clause-goes g c z from m told x lawful shows =
+    answering.goes_line _ (g.E.Engine.basis z) lawful (led _ z from (g.E.Engine.view c.args.self.now.store.engine)) x _ _ _ _ _ (answering.is_blank c.args.text.now (sym c.in-Blank.ensures.asked))
+    (steps.silent _ (g.E.Engine.basis z) (led _ z from (g.E.Engine.view c.args.self.now.store.engine)) x (session_core c.args.self.now) shows)
+
+pub returns-then-not-is_flush-clause-goes : goal.returns-then-not-is_flush-clause-goes
+returns-then-not-is_flush-clause-goes g c z from m told x lawful shows =
+    answering.goes_line _ (g.E.Engine.basis z) lawful (led _ z from (g.E.Engine.view c.args.self.now.store.engine)) x _ _ _ _ _ (answering.line_is c.args.text.now Wrong _ (sym c.in-Wrong.ensures.asked) (sym c.is_flush.ensures ∙ c.if-not-is_flush.true))
+    (steps.bad_syntax _ (g.E.Engine.basis z) (led _ z from (g.E.Engine.view c.args.self.now.store.engine)) x (session_core c.args.self.now) shows)
+
+pub returns-then-is_some-clause-goes : goal.returns-then-is_some-clause-goes
+returns-then-is_some-clause-goes g c z from m told x lawful shows =
+    answering.goes_line _ (g.E.Engine.basis z) lawful (led _ z from (g.E.Engine.view c.args.self.now.store.engine)) x _ _ _ _ _ (answering.line_is c.args.text.now Wrong _ (sym c.in-Wrong.ensures.asked) (sym c.is_flush.ensures ∙ c.if-not-is_flush.false))
+    (steps.flush_stopped _ (g.E.Engine.basis z) (led _ z from (g.E.Engine.view c.args.self.now.store.engine)) x (session_core c.args.self.now) shows (ap is_some (sym c.stop.ensures) ∙ (sym c.is_some.ensures ∙ c.if-is_some.true)))
+
+pub returns-else-is_some-clause-goes : goal.returns-else-is_some-clause-goes
+returns-else-is_some-clause-goes g c z from m told x lawful shows =
+    answering.goes_line _ (g.E.Engine.basis z) lawful (led _ z from (g.E.Engine.view c.args.self.now.store.engine)) x _ _ _ _ _ (answering.line_is c.args.text.now Wrong _ (sym c.in-Wrong.ensures.asked) (sym c.is_flush.ensures ∙ c.if-not-is_flush.false))
+    (c.flush.ensures.goes c.args.into.now _ z from m told x lawful shows)
+
+pub returns-then-is_some-2-clause-goes : goal.returns-then-is_some-2-clause-goes
+returns-then-is_some-2-clause-goes g c z from m told x lawful shows =
+    answering.goes_line _ (g.E.Engine.basis z) lawful (led _ z from (g.E.Engine.view c.args.self.now.store.engine)) x _ _ _ _ _ (answering.is_of c.args.text.now c.in-Of.name _ (sym c.in-Of.ensures.asked))
+    (steps.has_stopped _ (g.E.Engine.basis z) (led _ z from (g.E.Engine.view c.args.self.now.store.engine)) x (session_core c.args.self.now) shows c.in-Of.name _ (ap is_some (sym c.stop-in-Of.ensures) ∙ (sym c.is_some-in-Of.ensures ∙ c.if-is_some-2.true)))
+
+pub returns-in-Begin-clause-goes : goal.returns-in-Begin-clause-goes
+returns-in-Begin-clause-goes g c z from m told x lawful shows =
+    answering.goes_line _ (g.E.Engine.basis z) lawful (led _ z from (g.E.Engine.view c.args.self.now.store.engine)) x _ _ _ _ _ (answering.is_of c.args.text.now c.in-Of.name Begin (sym c.in-Of.ensures.asked ∙ ap (λ (r : code_request.Request). Of c.in-Of.name (shown r)) c.in-Begin.is))
+    (c.begin.ensures.goes c.args.into.now _ z from m told x lawful shows)
+
+pub returns-in-Commit-clause-goes : goal.returns-in-Commit-clause-goes
+returns-in-Commit-clause-goes g c z from m told x lawful shows =
+    answering.goes_line _ (g.E.Engine.basis z) lawful (led _ z from (g.E.Engine.view c.args.self.now.store.engine)) x _ _ _ _ _ (answering.is_of c.args.text.now c.in-Of.name Commit (sym c.in-Of.ensures.asked ∙ ap (λ (r : code_request.Request). Of c.in-Of.name (shown r)) c.in-Commit.is))
+    (c.commit.ensures.goes c.args.into.now z from m told x lawful shows)
+
+pub returns-in-Abort-clause-goes : goal.returns-in-Abort-clause-goes
+returns-in-Abort-clause-goes g c z from m told x lawful shows =
+    answering.goes_line _ (g.E.Engine.basis z) lawful (led _ z from (g.E.Engine.view c.args.self.now.store.engine)) x _ _ _ _ _ (answering.is_of c.args.text.now c.in-Of.name Abort (sym c.in-Of.ensures.asked ∙ ap (λ (r : code_request.Request). Of c.in-Of.name (shown r)) c.in-Abort.is))
+    (c.abort.ensures.goes c.args.into.now z from m told x lawful shows)
+
+pub returns-in-Do-clause-goes : goal.returns-in-Do-clause-goes
+returns-in-Do-clause-goes g c z from m told x lawful shows =
+    answering.goes_line _ (g.E.Engine.basis z) lawful (led _ z from (g.E.Engine.view c.args.self.now.store.engine)) x _ _ _ _ _ (answering.is_of c.args.text.now c.in-Of.name (Do (said_op c.in-Do.op)) (sym c.in-Of.ensures.asked ∙ ap (λ (r : code_request.Request). Of c.in-Of.name (shown r)) c.in-Do.is))
+    (c.perform.ensures.goes z from m told x lawful shows)
+
+pub returns-in-Keys-clause-goes : goal.returns-in-Keys-clause-goes
+returns-in-Keys-clause-goes g c z from m told x lawful shows =
+    answering.goes_line _ (g.E.Engine.basis z) lawful (led _ z from (g.E.Engine.view c.args.self.now.store.engine)) x _ _ _ _ _ (answering.is_of c.args.text.now c.in-Of.name (Do (On c.in-Keys.table Keys)) (sym c.in-Of.ensures.asked ∙ ap (λ (r : code_request.Request). Of c.in-Of.name (shown r)) c.in-Keys.is))
+    (c.keys.ensures.goes c.args.into.now _ z from m told x lawful shows)
+
+pub returns-in-List-clause-goes : goal.returns-in-List-clause-goes
+returns-in-List-clause-goes g c z from m told x lawful shows =
+    answering.goes_line _ (g.E.Engine.basis z) lawful (led _ z from (g.E.Engine.view c.args.self.now.store.engine)) x _ _ _ _ _ (answering.is_of c.args.text.now c.in-Of.name (Do Names) (sym c.in-Of.ensures.asked ∙ ap (λ (r : code_request.Request). Of c.in-Of.name (shown r)) c.in-List.is))
+    (c.list.ensures.goes c.args.into.now _ z from m told x lawful shows)
+
+pub returns-in-Blank-clause-still : goal.returns-in-Blank-clause-still
+returns-in-Blank-clause-still g c some = ap when_stopped (answering.is_blank c.args.text.now (sym c.in-Blank.ensures.asked))
+
+pub returns-then-not-is_flush-clause-still : goal.returns-then-not-is_flush-clause-still
+returns-then-not-is_flush-clause-still g c some = ap when_stopped (answering.line_is c.args.text.now Wrong _ (sym c.in-Wrong.ensures.asked) (sym c.is_flush.ensures ∙ c.if-not-is_flush.true))
+
+pub returns-then-is_some-clause-still : goal.returns-then-is_some-clause-still
+returns-then-is_some-clause-still g c some = ap when_stopped (answering.line_is c.args.text.now Wrong _ (sym c.in-Wrong.ensures.asked) (sym c.is_flush.ensures ∙ c.if-not-is_flush.false))
+
+pub returns-then-is_some-2-clause-still : goal.returns-then-is_some-2-clause-still
+returns-then-is_some-2-clause-still g c some = ap when_stopped (answering.is_of c.args.text.now c.in-Of.name _ (sym c.in-Of.ensures.asked))
+
+pub returns-else-is_some-clause-still : goal.returns-else-is_some-clause-still
+returns-else-is_some-clause-still g c some = heeding.not_stopped c.args.self.now.store.stop (ap is_some (sym c.stop.ensures) ∙ (sym c.is_some.ensures ∙ c.if-is_some.false)) some
+
+pub returns-in-Begin-clause-still : goal.returns-in-Begin-clause-still
+returns-in-Begin-clause-still g c some = heeding.not_stopped c.args.self.now.store.stop (ap is_some (sym c.stop-in-Of.ensures) ∙ (sym c.is_some-in-Of.ensures ∙ c.if-is_some-2.false)) some
+
+pub returns-in-Commit-clause-still : goal.returns-in-Commit-clause-still
+returns-in-Commit-clause-still g c some = heeding.not_stopped c.args.self.now.store.stop (ap is_some (sym c.stop-in-Of.ensures) ∙ (sym c.is_some-in-Of.ensures ∙ c.if-is_some-2.false)) some
+
+pub returns-in-Abort-clause-still : goal.returns-in-Abort-clause-still
+returns-in-Abort-clause-still g c some = heeding.not_stopped c.args.self.now.store.stop (ap is_some (sym c.stop-in-Of.ensures) ∙ (sym c.is_some-in-Of.ensures ∙ c.if-is_some-2.false)) some
+
+pub returns-in-Do-clause-still : goal.returns-in-Do-clause-still
+returns-in-Do-clause-still g c some = heeding.not_stopped c.args.self.now.store.stop (ap is_some (sym c.stop-in-Of.ensures) ∙ (sym c.is_some-in-Of.ensures ∙ c.if-is_some-2.false)) some
+
+pub returns-in-Keys-clause-still : goal.returns-in-Keys-clause-still
+returns-in-Keys-clause-still g c some = heeding.not_stopped c.args.self.now.store.stop (ap is_some (sym c.stop-in-Of.ensures) ∙ (sym c.is_some-in-Of.ensures ∙ c.if-is_some-2.false)) some
+
+pub returns-in-List-clause-still : goal.returns-in-List-clause-still
+returns-in-List-clause-still g c some = heeding.not_stopped c.args.self.now.store.stop (ap is_some (sym c.stop-in-Of.ensures) ∙ (sym c.is_some-in-Of.ensures ∙ c.if-is_some-2.false)) some

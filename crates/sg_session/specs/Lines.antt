@@ -1,0 +1,69 @@
+-- What a line of a script asks of a store over pages, what it may be answered, and the run behind it. A line names its transaction,
+-- and who is in its way is named; the store knows them by their numbers.
+use Rattle.std.specs.Prelude.{◌≡◌, ℕ, Bool, true, List, Option, Some, None, Result}
+use Rattle.sg_ops.specs.Table.{Table as Operations}
+use Rattle.sg_serial.specs.Runs.{Live}
+use Rattle.sg_model.specs.declared.stop.Stop.{Stop}
+use Rattle.sg_model.specs.Verb.{Op, Reply}
+use Rattle.sg_words.specs.Answers.{Answer}
+use Rattle.sg_words.specs.Answers.Answer.{Silent, BadSyntax, Stopped, NoTransaction, IsLive}
+use Rattle.sg_words.specs.Requests.{Asked, Request, asked, is_flush}
+use Rattle.sg_words.specs.Requests.Asked.{Blank, Wrong, Of}
+use Rattle.sg_words.specs.Requests.Request.{Begin, Commit, Abort, Do}
+use Rattle.sg_run.specs.Run.{Run, live_named}
+use Rattle.sg_run.specs.Numbers.{Refusal, Begins, Does, Commits, Aborts, Flushes}
+use Rattle.sg_run.specs.Named.{answer_done, answer_reply}
+use Rattle.sg_run.specs.Stocked.{Around}
+
+-- what a line asks for: that all that was done is written home, or what a line of one transaction asks for
+pub data Line : Type 0 where
+  Flush : Line
+  Other : (line : Asked) → Line
+
+-- a line that is no request of a transaction, by whether it is the word `flush`
+abbrev pub line_by : Asked → Bool → Line
+line_by Wrong true = Flush
+line_by line alone = Other line
+
+abbrev pub line_of : List ℕ → Line
+line_of text = line_by (asked text) (is_flush text)
+
+-- A line of a name, by the live transaction with this name if there is one
+
+abbrev pub BeginsAs : Around → List ℕ → Option Live → Run → Answer → Run → Type 0
+BeginsAs a name (Some l) x answer y = (answer ≡ IsLive) × (y ≡ x)
+BeginsAs a name None x answer y = (r : Result ℕ Refusal) × (answer ≡ answer_done x.so_far.live r) × Begins a.begin a.before a.now name x r y
+
+abbrev pub CommitsAs : Around → Option Live → Run → Answer → Run → Type 0
+CommitsAs a None x answer y = (answer ≡ NoTransaction) × (y ≡ x)
+CommitsAs a (Some l) x answer y = (r : Result (Unit {0}) Refusal) × (answer ≡ answer_done x.so_far.live r) × Commits a.tail a.before a.now l.transaction x r y
+
+abbrev pub AbortsAs : Around → Option Live → Run → Answer → Run → Type 0
+AbortsAs a None x answer y = (answer ≡ NoTransaction) × (y ≡ x)
+AbortsAs a (Some l) x answer y = (r : Result (Unit {0}) Refusal) × (answer ≡ answer_done x.so_far.live r) × Aborts a.tail a.before a.now l.transaction x r y
+
+abbrev pub DoesAs : Operations → Around → Op → Option Live → Run → Answer → Run → Type 0
+DoesAs t a op None x answer y = (answer ≡ NoTransaction) × (y ≡ x)
+DoesAs t a op (Some l) x answer y = (r : Result Reply Refusal) × (answer ≡ answer_reply x.so_far.live r) × Does t a.begin a.tail a.before a.now l.transaction op x r y
+
+-- no line but a begin is of a transaction that isn't live
+abbrev pub RequestBy : Operations → Around → List ℕ → Run → Request → Answer → Run → Type 0
+RequestBy t a name x Begin answer y = BeginsAs a name (live_named x.so_far.live name) x answer y
+RequestBy t a name x Commit answer y = CommitsAs a (live_named x.so_far.live name) x answer y
+RequestBy t a name x Abort answer y = AbortsAs a (live_named x.so_far.live name) x answer y
+RequestBy t a name x (Do op) answer y = DoesAs t a op (live_named x.so_far.live name) x answer y
+
+-- a store that has stopped answers so before it looks at the transaction
+abbrev pub UnlessStopped : Operations → Around → List ℕ → Option Stop → Run → Request → Answer → Run → Type 0
+UnlessStopped t a name (Some why) x request answer y = (answer ≡ Stopped) × (y ≡ x)
+UnlessStopped t a name None x request answer y = RequestBy t a name x request answer y
+
+abbrev pub FlushBy : Around → Run → Answer → Run → Type 0
+FlushBy a x answer y = (r : Result (Unit {0}) Refusal) × (answer ≡ answer_done x.so_far.live r) × Flushes a.before a.now x r y
+
+-- HOW A LINE MAY GO, in what is told of the store around it
+abbrev pub LineBy : Operations → Around → Run → Line → Answer → Run → Type 0
+LineBy t a x Flush answer y = FlushBy a x answer y
+LineBy t a x (Other Blank) answer y = (answer ≡ Silent) × (y ≡ x)
+LineBy t a x (Other Wrong) answer y = (answer ≡ BadSyntax) × (y ≡ x)
+LineBy t a x (Other (Of name request)) answer y = UnlessStopped t a name x.stopped x request answer y

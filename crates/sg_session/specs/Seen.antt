@@ -1,0 +1,23 @@
+-- What a session is seen as, and what is asked of one.
+use Rattle.sg_ops.specs.Table.{Table as Operations}
+use Rattle.sg_store.specs.declared.engine.Engine.{Ghosts}
+use Rattle.sg_store.specs.Engine.{AskedBy}
+use Rattle.sg_store.specs.Seen as stores
+use Rattle.sg_session.specs.declared.session.Session as code_session
+use Rattle.sg_session.specs.Names.{all_live}
+use Rattle.sg_session.specs.Shows.{Core, ShowsSome}
+
+abbrev pub session_core : {E : Type 0} {ghosts : Ghosts E} → code_session.Session E ghosts → Core
+session_core s = record { store = stores.core_of s.store; names = all_live s.names.all.items }
+
+-- the engine that it stands on
+abbrev pub session_engine : {E : Type 0} {ghosts : Ghosts E} → code_session.Session E ghosts → E
+session_engine s = s.store.engine
+
+-- A SESSION SERVES by some operations: the records of its engine are of these, and where that tells the session shows a run
+abbrev pub Serves : {E : Type 0} {ghosts : Ghosts E} → Operations → code_session.Session E ghosts → Type 0
+Serves {ghosts = ghosts} t s = AskedBy t (ghosts.view s.store.engine) (ShowsSome (session_core s) t)
+
+-- it serves by some operations or others
+abbrev pub IsServed : {E : Type 0} {ghosts : Ghosts E} → code_session.Session E ghosts → Type 0
+IsServed s = (t : Operations) × Serves t s

@@ -1,0 +1,4 @@
+pub mod History
+pub mod Reached
+pub mod Holding
+pub mod Calls

@@ -1,0 +1,5 @@
+use Rattle.sg_store.specs.Seen.{core_of}
+use Rattle.sg_store.proofs.store.Store.close.Goals as goal
+
+pub returns-clause-closes : goal.returns-clause-closes
+returns-clause-closes g c t z from m told x lawful shows = (core_of c.flush-done.new.self, c.flush-done.ensures.flushes t z from m told x lawful shows)

@@ -1,0 +1,225 @@
+use Rattle.std.proofs.Common.{ℕ, [], Ok, Err, sym, refl, subst, ◌∙◌, ap}
+use Rattle.sg_model.specs.Verb.Op.{Names}
+use Rattle.sg_store.specs.Calls.{Goes, Lists}
+use Rattle.sg_base.specs.Ends.{HasRisen}
+use Rattle.sg_store.specs.Verbs.{IsUnlisted}
+use Rattle.sg_store.specs.Engine.{led, IsListRead, IsListDisk}
+use Rattle.sg_store.specs.Seen.{core_of}
+use Rattle.sg_store.proofs.Doing as doing
+use Rattle.sg_store.proofs.Listed as listing
+use Rattle.sg_store.proofs.Resting as resting
+use Rattle.sg_store.proofs.Serving as serving
+use Rattle.sg_store.proofs.Causing as causing
+use Rattle.sg_store.proofs.Heeding as heeding
+use Rattle.sg_store.specs.Store.{Core}
+use Rattle.sg_store.proofs.store.Store.list.Goals as goal
+
+pub returns-then-is_some-clause-lists : goal.returns-then-is_some-clause-lists
+returns-then-is_some-clause-lists g c t z from m told x lawful shows =
+    let old = led t z from (g.E.Engine.view c.args.self.now.engine) in
+    doing.do_stopped t (g.E.Engine.basis z) lawful old (core_of c.args.self.now) x c.args.txn.0 Names shows [] old.tail old.faults (sym c.is_some.ensures ∙ c.if-is_some.true)
+
+pub returns-then-not-is_live-clause-lists : goal.returns-then-not-is_live-clause-lists
+returns-then-not-is_live-clause-lists g c t z from m told x lawful shows =
+    let old = led t z from (g.E.Engine.view c.args.self.now.engine) in
+    doing.do_none t (g.E.Engine.basis z) lawful old (core_of c.args.self.now) x c.args.txn.0 Names shows [] (sym c.is_some.ensures ∙ c.if-is_some.false) old.tail old.faults (sym c.is_live.ensures ∙ c.if-not-is_live.true)
+
+pub returns-in-Err-clause-lists : goal.returns-in-Err-clause-lists
+returns-in-Err-clause-lists g c t z from m told x lawful shows =
+    let b = g.E.Engine.basis z in
+    let old = led t z from (g.E.Engine.view c.args.self.now.engine) in
+    let k = core_of c.args.self.now in
+    let u = c.args.txn.0 in
+    let stop = sym c.is_some.ensures ∙ c.if-is_some.false in
+    let is = sym c.is_live.ensures ∙ c.if-not-is_live.false in
+    let runs = doing.runs t b lawful old k x u Names shows [] stop in
+    let live = doing.live t b lawful old k x u Names shows [] stop is in
+    let stays = c.hold_names.ensures.stays t z from m told x lawful runs.is_kept in
+    doing.do_unheld t b lawful old k x u Names shows [] stop is (led t z from (g.E.Engine.view c.hold_names.new.self.engine)) (core_of c.hold_names.new.self) (led t z from (g.E.Engine.view c.hold_names.new.self.engine)).tail c.in-Err.why stays (c.in-Err.ensures.holds t z from m told x lawful runs.is_kept runs.held live)
+
+pub list-requires : goal.list-requires
+list-requires g c =
+    let s = c.requires.serves in
+    record {
+      can = record {
+        by = s.0;
+        sizes = s.1.sizes;
+        from = s.1.from;
+        means = c.hold_names.ensures.means s.0 s.1.sizes s.1.from s.1.means;
+        can = λ tells.
+            (let told = c.hold_names.ensures.told tells in
+            let h = s.1.can told in
+            let t = s.0 in
+            let z = s.1.sizes in
+            let from = s.1.from in
+            let m = s.1.means in
+            let x = h.run in
+            let lawful = h.lawful in
+            let shows = h.shows in
+            let b = g.E.Engine.basis z in
+            let old = led t z from (g.E.Engine.view c.args.self.now.engine) in
+            let k = core_of c.args.self.now in
+            let u = c.args.txn.0 in
+            let stop = sym c.is_some.ensures ∙ c.if-is_some.false in
+            let is = sym c.is_live.ensures ∙ c.if-not-is_live.false in
+            let runs = doing.runs t b lawful old k x u Names shows [] stop in
+            let live = doing.live t b lawful old k x u Names shows [] stop is in
+            let stays = c.hold_names.ensures.stays t z from m told x lawful runs.is_kept in
+            let held = c.in-Ok.ensures.holds t z from m told x lawful runs.is_kept runs.held live in
+            let mid = led t z from (g.E.Engine.view c.hold_names.new.self.engine) in
+            record {
+              rest = record { engine = held.0.engine; idle = held.0.idle };
+              reading = listing.listed t b lawful old k x u Names shows stop is mid (core_of c.hold_names.new.self) stays c.hold_names.ensures.later held;
+              reads = listing.reads_listed t b lawful old k x u Names shows stop is mid (core_of c.hold_names.new.self) stays c.hold_names.ensures.later held;
+            });
+      };
+    }
+
+pub returns-in-Ok-list-clause-lists : goal.returns-in-Ok-list-clause-lists
+returns-in-Ok-list-clause-lists g c t z from m told x lawful shows =
+    let b = g.E.Engine.basis z in
+    let old = led t z from (g.E.Engine.view c.args.self.now.engine) in
+    let k = core_of c.args.self.now in
+    let u = c.args.txn.0 in
+    let stop = sym c.is_some.ensures ∙ c.if-is_some.false in
+    let is = sym c.is_live.ensures ∙ c.if-not-is_live.false in
+    let runs = doing.runs t b lawful old k x u Names shows [] stop in
+    let live = doing.live t b lawful old k x u Names shows [] stop is in
+    let stays = c.hold_names.ensures.stays t z from m told x lawful runs.is_kept in
+    let held = c.in-Ok.ensures.holds t z from m told x lawful runs.is_kept runs.held live in
+    let mid = led t z from (g.E.Engine.view c.hold_names.new.self.engine) in
+    let m1 = core_of c.hold_names.new.self in
+    let new = led t z from (g.E.Engine.view c.list.new.self) in
+    let o = listing.listed t b lawful old k x u Names shows stop is mid m1 stays c.hold_names.ensures.later held in
+    let r = c.in-Ok-list.ensures.lists t z from (c.hold_names.ensures.means t z from m) (c.in-Ok.ensures.tells told) o held.0.engine (listing.reads_listed t b lawful old k x u Names shows stop is mid m1 stays c.hold_names.ensures.later held) in
+    listing.has_words t b lawful old k x u Names shows stop is mid m1 stays c.hold_names.ensures.later held new c.in-Ok-list.names.items refl r.0 r.1
+
+pub returns-in-Err-Memory-clause-lists : goal.returns-in-Err-Memory-clause-lists
+returns-in-Err-Memory-clause-lists g c t z from m told x lawful shows =
+    let b = g.E.Engine.basis z in
+    let old = led t z from (g.E.Engine.view c.args.self.now.engine) in
+    let k = core_of c.args.self.now in
+    let u = c.args.txn.0 in
+    let stop = sym c.is_some.ensures ∙ c.if-is_some.false in
+    let is = sym c.is_live.ensures ∙ c.if-not-is_live.false in
+    let runs = doing.runs t b lawful old k x u Names shows [] stop in
+    let live = doing.live t b lawful old k x u Names shows [] stop is in
+    let stays = c.hold_names.ensures.stays t z from m told x lawful runs.is_kept in
+    let held = c.in-Ok.ensures.holds t z from m told x lawful runs.is_kept runs.held live in
+    let mid = led t z from (g.E.Engine.view c.hold_names.new.self.engine) in
+    let m1 = core_of c.hold_names.new.self in
+    let new = led t z from (g.E.Engine.view c.list.new.self) in
+    let o = listing.listed t b lawful old k x u Names shows stop is mid m1 stays c.hold_names.ensures.later held in
+    let r = c.in-Err-Memory.ensures.lists t z from (c.hold_names.ensures.means t z from m) (c.in-Ok.ensures.tells told) o held.0.engine (listing.reads_listed t b lawful old k x u Names shows stop is mid m1 stays c.hold_names.ensures.later held) in
+    listing.lacks_memory t b lawful old k x u Names shows stop is mid m1 stays c.hold_names.ensures.later held new tt r.0 (subst (IsUnlisted t b mid new o Names) c.in-Err-Memory.field-0-is r.1)
+
+pub returns-in-Err-Space-clause-lists : goal.returns-in-Err-Space-clause-lists
+returns-in-Err-Space-clause-lists g c t z from m told x lawful shows =
+    let b = g.E.Engine.basis z in
+    let old = led t z from (g.E.Engine.view c.args.self.now.engine) in
+    let k = core_of c.args.self.now in
+    let u = c.args.txn.0 in
+    let stop = sym c.is_some.ensures ∙ c.if-is_some.false in
+    let is = sym c.is_live.ensures ∙ c.if-not-is_live.false in
+    let runs = doing.runs t b lawful old k x u Names shows [] stop in
+    let live = doing.live t b lawful old k x u Names shows [] stop is in
+    let stays = c.hold_names.ensures.stays t z from m told x lawful runs.is_kept in
+    let held = c.in-Ok.ensures.holds t z from m told x lawful runs.is_kept runs.held live in
+    let mid = led t z from (g.E.Engine.view c.hold_names.new.self.engine) in
+    let m1 = core_of c.hold_names.new.self in
+    let new = led t z from (g.E.Engine.view c.list.new.self) in
+    let o = listing.listed t b lawful old k x u Names shows stop is mid m1 stays c.hold_names.ensures.later held in
+    let r = c.list.ensures.lists t z from (c.hold_names.ensures.means t z from m) (c.in-Ok.ensures.tells told) o held.0.engine (listing.reads_listed t b lawful old k x u Names shows stop is mid m1 stays c.hold_names.ensures.later held) in
+    subst (λ e. Goes t b old x (Lists {A = ℕ} t old.tail (led t z from (g.E.Engine.view e)).tail old.faults (led t z from (g.E.Engine.view e)).faults u Names x (Err c.halt.result)) (led t z from (g.E.Engine.view e)) (core_of c.halt.new.self)) (sym c.halt.ensures.engine)
+    (listing.has_failed t b lawful old k x u Names shows stop is mid m1 stays c.hold_names.ensures.later held new (core_of c.halt.new.self) c.halt.result c.in-Err-Space.fault c.halt.ensures.answer (subst IsListRead c.in-Err-Space.field-0-is c.in-Err-Space.ensures.reads) (subst (λ q. IsListDisk q → HasRisen mid.faults new.faults) c.in-Err-Space.field-0-is c.in-Err-Space.ensures.counts.failed) c.halt.ensures.core r.0)
+
+pub returns-in-Err-clause-serves : goal.returns-in-Err-clause-serves
+returns-in-Err-clause-serves g c t s =
+    serving.serves_on t (g.E.Engine.view c.args.self.now.engine) (g.E.Engine.view c.hold_names.new.self.engine) (core_of c.args.self.now) (core_of c.hold_names.new.self) _ (λ z from m. c.hold_names.ensures.means t z from m) (λ h. c.hold_names.ensures.told h)
+    (λ z from m tells x lawful shows. returns-in-Err-clause-lists g c t z from m tells x lawful shows) s
+
+pub returns-in-Ok-list-clause-serves : goal.returns-in-Ok-list-clause-serves
+returns-in-Ok-list-clause-serves g c t s =
+    serving.serves_on t (g.E.Engine.view c.args.self.now.engine) (g.E.Engine.view c.list.new.self) (core_of c.args.self.now) (core_of c.hold_names.new.self) _ (λ z from m. c.list.ensures.means t z from (c.hold_names.ensures.means t z from m)) (λ h. c.hold_names.ensures.told (c.list.ensures.counts.told h))
+    (λ z from m tells x lawful shows. returns-in-Ok-list-clause-lists g c t z from m tells x lawful shows) s
+
+pub returns-in-Err-Memory-clause-serves : goal.returns-in-Err-Memory-clause-serves
+returns-in-Err-Memory-clause-serves g c t s =
+    serving.serves_on t (g.E.Engine.view c.args.self.now.engine) (g.E.Engine.view c.list.new.self) (core_of c.args.self.now) (core_of c.hold_names.new.self) _ (λ z from m. c.list.ensures.means t z from (c.hold_names.ensures.means t z from m)) (λ h. c.hold_names.ensures.told (c.list.ensures.counts.told h))
+    (λ z from m tells x lawful shows. returns-in-Err-Memory-clause-lists g c t z from m tells x lawful shows) s
+
+pub returns-in-Err-Space-clause-serves : goal.returns-in-Err-Space-clause-serves
+returns-in-Err-Space-clause-serves g c t s =
+    serving.serves_on t (g.E.Engine.view c.args.self.now.engine) (g.E.Engine.view c.halt.new.self.engine) (core_of c.args.self.now) (core_of c.halt.new.self) _ (λ z from m. subst (λ e. (g.E.Engine.view e).means t z from) (sym c.halt.ensures.engine) (c.list.ensures.means t z from (c.hold_names.ensures.means t z from m))) (λ h. c.hold_names.ensures.told (c.list.ensures.counts.told (subst (λ e. (g.E.Engine.view e).Told) c.halt.ensures.engine h)))
+    (λ z from m tells x lawful shows. returns-in-Err-Space-clause-lists g c t z from m tells x lawful shows) s
+
+pub returns-in-Ok-list-clause-rests : goal.returns-in-Ok-list-clause-rests
+returns-in-Ok-list-clause-rests g c t live objects durable s =
+    let old = g.E.Engine.view c.args.self.now.engine in
+    let new = g.E.Engine.view c.list.new.self in
+    resting.listed_if t old new (core_of c.args.self.now) (core_of c.hold_names.new.self) live objects durable old.tail new.tail old.faults new.faults c.args.txn.0 Names
+    (λ z from m. c.list.ensures.means t z from (c.hold_names.ensures.means t z from m)) (λ h. c.hold_names.ensures.told (c.list.ensures.counts.told h)) s (Ok c.in-Ok-list.names)
+    (λ z from m tells x lawful shows. returns-in-Ok-list-clause-lists g c t z from m tells x lawful shows)
+
+pub returns-then-is_some-clause-causes : goal.returns-then-is_some-clause-causes
+returns-then-is_some-clause-causes g c = (sym c.is_some.ensures ∙ c.if-is_some.true, refl)
+
+pub returns-then-not-is_live-clause-causes : goal.returns-then-not-is_live-clause-causes
+returns-then-not-is_live-clause-causes g c = ((causing.none_of _ (sym c.is_some.ensures ∙ c.if-is_some.false)), sym c.is_live.ensures ∙ c.if-not-is_live.true, refl)
+
+pub returns-in-Err-clause-causes : goal.returns-in-Err-clause-causes
+returns-in-Err-clause-causes g c = causing.unheld_lists (g.E.Engine.view c.args.self.now.engine) (g.E.Engine.view c.hold_names.new.self.engine) (core_of c.args.self.now) (core_of c.hold_names.new.self) c.args.txn.0 (causing.none_of _ (sym c.is_some.ensures ∙ c.if-is_some.false)) (sym c.is_live.ensures ∙ c.if-not-is_live.false) c.in-Err.why c.in-Err.ensures.causes
+
+pub returns-in-Ok-list-clause-causes : goal.returns-in-Ok-list-clause-causes
+returns-in-Ok-list-clause-causes g c = ((causing.none_of _ (sym c.is_some.ensures ∙ c.if-is_some.false)), (sym c.is_live.ensures ∙ c.if-not-is_live.false), c.in-Ok.ensures.causes)
+
+pub returns-in-Err-Memory-clause-causes : goal.returns-in-Err-Memory-clause-causes
+returns-in-Err-Memory-clause-causes g c = ((causing.none_of _ (sym c.is_some.ensures ∙ c.if-is_some.false)), (sym c.is_live.ensures ∙ c.if-not-is_live.false), c.in-Ok.ensures.causes)
+
+pub returns-in-Err-Space-clause-causes : goal.returns-in-Err-Space-clause-causes
+returns-in-Err-Space-clause-causes g c =
+    causing.listed_failed (g.E.Engine.view c.args.self.now.engine) (g.E.Engine.view c.hold_names.new.self.engine) (g.E.Engine.view c.halt.new.self.engine) (core_of c.args.self.now) (core_of c.hold_names.new.self) (core_of c.halt.new.self) c.args.txn.0 (causing.none_of _ (sym c.is_some.ensures ∙ c.if-is_some.false)) (sym c.is_live.ensures ∙ c.if-not-is_live.false) c.in-Ok.ensures.causes c.hold_names.ensures.later c.in-Err-Space.fault c.halt.result c.halt.ensures.answer c.halt.ensures.core
+    (λ d. subst (λ e. HasRisen (g.E.Engine.view c.hold_names.new.self.engine).faults (g.E.Engine.view e).faults) (sym c.halt.ensures.engine) (subst (λ q. IsListDisk q → HasRisen (g.E.Engine.view c.hold_names.new.self.engine).faults (g.E.Engine.view c.list.new.self).faults) c.in-Err-Space.field-0-is c.in-Err-Space.ensures.counts.failed d)) (subst IsListRead c.in-Err-Space.field-0-is c.in-Err-Space.ensures.reads)
+
+pub returns-then-is_some-clause-asks : goal.returns-then-is_some-clause-asks
+returns-then-is_some-clause-asks g c = λ e. refl
+
+pub returns-then-not-is_live-clause-asks : goal.returns-then-not-is_live-clause-asks
+returns-then-not-is_live-clause-asks g c = λ e. refl
+
+pub returns-in-Err-clause-asks : goal.returns-in-Err-clause-asks
+returns-in-Err-clause-asks g c = λ asks. causing.unheld_asks (g.E.Engine.view c.args.self.now.engine) (g.E.Engine.view c.hold_names.new.self.engine) (core_of c.args.self.now) (core_of c.hold_names.new.self) c.args.txn.0 (causing.none_of _ (sym c.is_some.ensures ∙ c.if-is_some.false)) (sym c.is_live.ensures ∙ c.if-not-is_live.false) _ c.in-Err.why c.in-Err.ensures.causes asks
+
+pub returns-in-Err-Space-clause-asks : goal.returns-in-Err-Space-clause-asks
+returns-in-Err-Space-clause-asks g c = λ asks. causing.not_early _ c.in-Err-Space.fault c.halt.result c.halt.ensures.answer asks
+
+pub returns-then-is_some-clause-heeds : goal.returns-then-is_some-clause-heeds
+returns-then-is_some-clause-heeds g c =
+    heeding.heeds_none c.args.self.now.stop (g.E.Engine.view c.args.self.now.engine)
+
+pub returns-then-not-is_live-clause-heeds : goal.returns-then-not-is_live-clause-heeds
+returns-then-not-is_live-clause-heeds g c =
+    heeding.heeds_none c.args.self.now.stop (g.E.Engine.view c.args.self.now.engine)
+
+pub returns-in-Err-clause-heeds : goal.returns-in-Err-clause-heeds
+returns-in-Err-clause-heeds g c =
+    c.hold_names.ensures.heeds
+
+pub returns-in-Ok-list-clause-heeds : goal.returns-in-Ok-list-clause-heeds
+returns-in-Ok-list-clause-heeds g c =
+    heeding.heeds_then c.args.self.now.stop c.hold_names.new.self.stop c.hold_names.new.self.stop (g.E.Engine.view c.args.self.now.engine) (g.E.Engine.view c.hold_names.new.self.engine) (g.E.Engine.view c.list.new.self) c.hold_names.ensures.heeds
+    (heeding.heeds_well c.hold_names.new.self.stop (g.E.Engine.view c.hold_names.new.self.engine) (g.E.Engine.view c.list.new.self) c.in-Ok-list.ensures.counts.quiet c.list.ensures.counts.tail c.in-Ok-list.ensures.counts.tells)
+
+pub returns-in-Err-Memory-clause-heeds : goal.returns-in-Err-Memory-clause-heeds
+returns-in-Err-Memory-clause-heeds g c =
+    let told = rw c.in-Err-Memory.field-0-is at c.in-Err-Memory.ensures.memory in
+    let quiet = rw c.in-Err-Memory.field-0-is at c.in-Err-Memory.ensures.quiet in
+    heeding.heeds_then c.args.self.now.stop c.hold_names.new.self.stop c.hold_names.new.self.stop (g.E.Engine.view c.args.self.now.engine) (g.E.Engine.view c.hold_names.new.self.engine) (g.E.Engine.view c.list.new.self) c.hold_names.ensures.heeds
+    (heeding.heeds_well c.hold_names.new.self.stop (g.E.Engine.view c.hold_names.new.self.engine) (g.E.Engine.view c.list.new.self) (quiet refl) c.list.ensures.counts.tail (told refl))
+
+pub returns-in-Err-Space-clause-heeds : goal.returns-in-Err-Space-clause-heeds
+returns-in-Err-Space-clause-heeds g c =
+    let failed = rw c.in-Err-Space.field-0-is at c.in-Err-Space.ensures.counts.failed in
+    heeding.heeds_then c.args.self.now.stop c.hold_names.new.self.stop c.halt.new.self.stop (g.E.Engine.view c.args.self.now.engine) (g.E.Engine.view c.hold_names.new.self.engine) (g.E.Engine.view c.halt.new.self.engine) c.hold_names.ensures.heeds
+    (heeding.heeds_halt (g.E.Engine.view) c.hold_names.new.self.stop c.halt.new.self.stop c.in-Err-Space.fault (g.E.Engine.view c.hold_names.new.self.engine) c.list.new.self c.halt.new.self.engine c.halt.ensures.engine (ap (λ (k : Core). k.stopped) c.halt.ensures.core)
+    c.list.ensures.counts.later c.list.ensures.counts.tail failed)

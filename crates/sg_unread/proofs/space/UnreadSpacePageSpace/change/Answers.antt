@@ -1,0 +1,5 @@
+use Rattle.sg_unread.specs.Looks.{looks_same}
+use Rattle.sg_unread.proofs.space.UnreadSpacePageSpace.change.Goals as goal
+
+pub returns-clause-later : goal.returns-clause-later
+returns-clause-later g c = looks_same g.E.Engine.recovers _ (g.E.Engine.view c.args.self.now.engine) (g.E.Engine.means c.args.self.now.engine) (λ from m told. g.met.E.Engine.images c.args.self.now.engine _ from m told)

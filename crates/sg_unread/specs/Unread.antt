@@ -1,0 +1,56 @@
+-- What an engine holds, as a space, and what looks at it leave.
+use Rattle.std.specs.Prelude.{◌≡◌, ℕ, ◌+◌, ◌<◌, ◌≤◌, nat_lt, true, false, if◌then◌else◌, Option, Some, None, IsSome, Result, OnOk, ⊤}
+use Rattle.sg_ops.specs.Table.{Table}
+use Rattle.sg_action.specs.States.{State}
+use Rattle.sg_space.specs.View.{Space, View}
+use Rattle.sg_actions.specs.Engine.{EngineSeen, Moments, Stays, led}
+use Rattle.sg_actions.specs.Images.{Recovering}
+
+-- of these, those with a number below this
+abbrev pub below : {A : Type 0} → (count : ℕ) → (ℕ → Option A) → ℕ → Option A
+below count contents n = if nat_lt n count then contents n else None
+
+-- each page and each band of so many. None is free
+abbrev pub unread_space : State → (pages bands : ℕ) → Space
+unread_space now pages bands = record {
+  pages = record { at = below pages now.pages; free = 0; count = pages };
+  bands = record { at = below bands (λ b. Some (now.bands b)); free = 0; count = bands };
+}
+
+-- Nothing is told. It shows what an engine says that tells, and its faults are those of the engine and its own
+abbrev pub unread_view : EngineSeen → (pages bands breaks : ℕ) → View
+unread_view e pages bands breaks = record {
+  Told = ⊥;
+  Shows = e.Told;
+  space = unread_space e.now pages bands;
+  faults = e.faults + breaks;
+  records = e.records;
+  IsNearEnd = ⊥;
+  MayTake = ⊤;
+  MayHave = λ page slots. ⊤;
+  HasWritten = λ band. ⊥;
+  IsStill = ⊤;
+}
+
+-- each page below this number says something
+abbrev pub AreThere : (pages : ℕ) → State → Type 0
+AreThere pages x = (p : ℕ) → p < pages → IsSome (x.pages p)
+
+-- THE ENGINE WAS ONLY LOOKED AT, wherever its steps lead from: each image of each moment has a front of its log, and where it hasn't
+-- failed it tells, and its steps are as before
+pub record IsOnlyRead (recovers : Recovering) (t : Table) (from : State) (a b : EngineSeen) : Type 0 where
+  pub moments : Moments recovers t (led from a) (led from b) a.steps
+  pub told : b.failed ≡ false → b.Told
+  pub stays : b.failed ≡ false → Stays (led from a) (led from b)
+
+-- from one moment to a later one, by whatever looks, whether they failed or not
+pub record LooksOn (recovers : Table → Recovering) (t : Table) (a b : EngineSeen) (m m' : Table → State → Type 0) : Type 0 where
+  pub told : b.Told → a.Told
+  pub base : b.base ≡ a.base
+  pub tail : b.tail ≡ a.tail
+  pub records : b.records ≡ a.records
+  pub faults : a.faults ≤ b.faults
+  -- one that has failed calls the disk no more
+  pub stops : a.failed ≡ true → (b.failed ≡ true) × (b.disk ≡ a.disk)
+  pub means : (from : State) → m t from → m' t from
+  pub reads : (from : State) → m t from → a.Told → IsOnlyRead (recovers t) t from a b
