@@ -72,6 +72,7 @@ fn gather<P: PageSpace>(
     requires { CanLookInto (P.view space.old) p.0 }
     ensures counts { CountsList (P.view space.old) (P.view space.new) result }
     ensures kept { OnOk result (OnlyReads (P.view space.old) (P.view space.new)) }
+    ensures memory { IfErr result (λ e. e ≡ ListFault.Memory → OnlyReads (P.view space.old) (P.view space.new)) }
     ensures read { IfOk result (λ next. (P.view space.old).Shows → HasAt (P.view space.old).space.pages.at p.0
         (ListsPage keys.old.items keys.new.items next.0)) }
     ensures later { (t : Table) → P.later t space.old space.new }
@@ -101,6 +102,7 @@ pub fn keys<P: PageSpace>(
     requires { HasLinked (P.view space.old) first.0 (λ _. ⊤) }
     ensures counts { CountsList (P.view space.old) (P.view space.new) result }
     ensures kept { OnOk result (OnlyReads (P.view space.old) (P.view space.new)) }
+    ensures memory { IfErr result (λ e. e ≡ ListFault.Memory → OnlyReads (P.view space.old) (P.view space.new)) }
     ensures read { OnOk result (IfLinked (P.view space.old) first.0 (λ b. into.new.items ≡ into.old.items ++ keys_of (entries_of b.parts))) }
     ensures later { (t : Table) → P.later t space.old space.new }
     ensures means { (t : Table) → P.means space.old t → P.means space.new t }

@@ -87,8 +87,9 @@ fn copy_value<P: PageSpace>(
     Ok(value.len())
 }
 
-/// Copies the value of this key to the front of the buffer, which has room for 1,024 bytes, and says how many
-/// bytes it has. There is none where no entry has the key.
+/// Copies the value of this key to the front of the buffer, and says how many bytes it has. There is none where no
+/// entry has the key. The buffer has room for 1,024 bytes, the most that a value has: how many this one has isn't known
+/// before it is read, and a space that tells nothing may have any.
 pub fn find<P: PageSpace>(
     space: &mut P,
     first: PageNo,

@@ -1,4 +1,4 @@
-ghost use Rattle.std.specs.Prelude.{◌≡◌, IfOk, OnOk, IsPermutation, IsSorted, None, option_map, ⊤, ◌+◌, ◌≤◌};
+ghost use Rattle.std.specs.Prelude.{◌≡◌, IfOk, OnOk, IsPermutation, IsSorted, None, option_map, ⊤, ◌+◌, ◌≤◌, IfErr};
 ghost use Rattle.std.specs.Ordering.{nat_cmp};
 ghost use Rattle.std.specs.Cmp.Lexicographic.{slice_cmp};
 ghost use Rattle.sg_catalog.specs.Calls.{HasCatalog, IfCatalog, DidIf, ShrankIf, HasOne, IsLess, IsBuried, IsRaised, IsRemoved, IsForgotten, CanRaise, CanAdd, IsAdded, object};
@@ -217,6 +217,7 @@ pub fn names<P: PageSpace>(space: &mut P, alloc: Global) -> Result<Vec<Name>, Li
     requires { HasCatalog (P.view space.old) (λ _. ⊤) }
     ensures counts { CountsList (P.view space.old) (P.view space.new) result }
     ensures kept { OnOk result (OnlyReads (P.view space.old) (P.view space.new)) }
+    ensures memory { IfErr result (λ e. e ≡ ListFault.Memory → OnlyReads (P.view space.old) (P.view space.new)) }
     ensures read { IfOk result (λ v. IfCatalog (P.view space.old)
         (λ c. IsPermutation (names_of (rows c)) v.items)) }
     ensures order { IfOk result (λ v. IsSorted (slice_cmp nat_cmp) v.items) }

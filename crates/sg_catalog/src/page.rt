@@ -1,5 +1,5 @@
 // One page of the catalogue in a space.
-ghost use Rattle.std.specs.Prelude.{◌≡◌, ◌<◌, ◌≤◌, IfOk, OnOk, length};
+ghost use Rattle.std.specs.Prelude.{◌≡◌, ◌<◌, ◌≤◌, IfOk, OnOk, length, IfErr};
 ghost use Rattle.sg_catalog.specs.Look.{fits};
 ghost use Rattle.sg_catalog.specs.Steps.{HasRaw, IfPage, SeesPage, MeasuresPage, GathersPage};
 ghost use Rattle.sg_catalog.specs.Catalog.{Owns};
@@ -59,6 +59,7 @@ pub fn gather<P: PageSpace>(
     requires { HasRaw (P.view space.old) (λ c. Owns c p.0) }
     ensures counts { CountsList (P.view space.old) (P.view space.new) result }
     ensures kept { OnOk result (OnlyReads (P.view space.old) (P.view space.new)) }
+    ensures memory { IfErr result (λ e. e ≡ ListFault.Memory → OnlyReads (P.view space.old) (P.view space.new)) }
     ensures read { IfOk result (λ head. IfPage (P.view space.old) p.0
         (λ c j. GathersPage c j names.old.items names.new.items head)) }
     ensures later { (t : Table) → P.later t space.old space.new }

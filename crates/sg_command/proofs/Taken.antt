@@ -3,7 +3,7 @@ use Rattle.std.proofs.Common.{◌≡◌, ◌==◌, Bool, not, [], ◌∷◌, cod
 use Rattle.std.proofs.lemmas.Bool.{false≢true}
 use Rattle.clap.specs.Words.{Text}
 use Rattle.clap.proofs.OnLiterals.{clap_on_literals}
-use Rattle.sg_command.specs.Asked.{asked, run_of, gen_of, begins_plain}
+use Rattle.sg_command.specs.Asked.{asked, named, run_of, gen_of, begins_plain}
 use Rattle.sg_command.specs.declared.words.Command.TheVariants.{Init, Dump, Check, Log}
 
 no_minus : (b : Bool) → not b ≡ true → b ≡ false
@@ -59,6 +59,32 @@ unfolding clap_on_literals
 gen-asked [] count h k = absurd (false≢true h)
 gen-asked (x ∷ rest) [] h k = absurd (false≢true k)
 gen-asked (x ∷ rest) (y ∷ more) h k =
+    let e : (x == 45) ≡ false = no_minus (x == 45) h in
+    let f : (y == 45) ≡ false = no_minus (y == 45) k in
+    simp (e, f) refl
+
+-- and so are the folder and the file that they name
+pub run-named : (dir : Text) → begins_plain dir ≡ true → named (codes "run" ∷ dir ∷ []) ≡ record { dir = Some dir; file = None }
+unfolding clap_on_literals
+run-named [] h = absurd (false≢true h)
+run-named (x ∷ rest) h = let e : (x == 45) ≡ false = no_minus (x == 45) h in simp e refl
+
+pub stopped_run-named : (dir number : Text) → begins_plain dir ≡ true → begins_plain number ≡ true
+    → named (codes "run" ∷ dir ∷ codes "--stop-after" ∷ number ∷ []) ≡ record { dir = Some dir; file = None }
+unfolding clap_on_literals
+stopped_run-named [] number h k = absurd (false≢true h)
+stopped_run-named (x ∷ rest) [] h k = absurd (false≢true k)
+stopped_run-named (x ∷ rest) (y ∷ more) h k =
+    let e : (x == 45) ≡ false = no_minus (x == 45) h in
+    let f : (y == 45) ≡ false = no_minus (y == 45) k in
+    simp (e, f) refl
+
+pub sized_init-named : (dir file : Text) → begins_plain dir ≡ true → begins_plain file ≡ true
+    → named (codes "init" ∷ dir ∷ codes "--geometry" ∷ file ∷ []) ≡ record { dir = Some dir; file = Some file }
+unfolding clap_on_literals
+sized_init-named [] file h k = absurd (false≢true h)
+sized_init-named (x ∷ rest) [] h k = absurd (false≢true k)
+sized_init-named (x ∷ rest) (y ∷ more) h k =
     let e : (x == 45) ≡ false = no_minus (x == 45) h in
     let f : (y == 45) ≡ false = no_minus (y == 45) k in
     simp (e, f) refl

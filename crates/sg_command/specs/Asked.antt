@@ -12,6 +12,7 @@ use Rattle.sg_command.specs.declared.words.WordsError.{WordsError}
 use Rattle.sg_command.specs.declared.words.WordsError.TheVariants.{Usage, Memory}
 use Rattle.sg_command.specs.declared.words.Command.{Command}
 use Rattle.sg_command.specs.declared.words.Command.TheVariants.{Init, Run, Dump, Check, Log, Gen}
+use Rattle.sg_command.specs.declared.words.Paths.{Paths}
 
 -- a run, with the calls that its disk makes at most, if that is a number
 abbrev pub run_of : Option Text → Option Command
@@ -42,6 +43,23 @@ asked words =
     if is_empty (fault_of stasis_app words)
     then option_and_then (λ p. asked_of p.0 p.1) (subcommand_of stasis_app words)
     else None
+
+-- the folder and the file that words name
+pub record Named : Type 0 where
+  pub dir : Option Text
+  pub file : Option Text
+
+-- those that a subcommand was given
+abbrev pub named_in : Option (Text × List Row) → Named
+named_in None = record { dir = None; file = None }
+named_in (Some p) = record { dir = first_of (codes "dir") p.1; file = first_of (codes "geometry") p.1 }
+
+-- WHAT THE WORDS NAME, by the command that `clap` reads them by
+abbrev pub named : List Text → Named
+named words = named_in (subcommand_of stasis_app words)
+
+abbrev pub shown_paths : Paths → Named
+shown_paths paths = record { dir = option_map (λ s. s.now) paths.dir; file = option_map (λ s. s.now) paths.file }
 
 -- a word that has a byte, and begins with no minus
 abbrev pub begins_plain : Text → Bool

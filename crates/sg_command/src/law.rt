@@ -1,5 +1,5 @@
 ghost use Rattle.std.specs.Prelude.{◌≡◌, ℕ, List, [], ◌∷◌, codes, true, false, Some, None};
-ghost use Rattle.sg_command.specs.Asked.{asked, begins_plain, run_of, gen_of};
+ghost use Rattle.sg_command.specs.Asked.{asked, named, begins_plain, run_of, gen_of};
 ghost use Rattle.sg_command.specs.declared.words.Command.TheVariants as Command;
 
 /// Words as they are usually written are taken, with an option last: whatever folder, file and numbers they have, as long as each has a
@@ -16,4 +16,9 @@ pub fn written_words_are_taken()
     ensures log { (dir : List ℕ) → begins_plain dir ≡ true → asked (codes "log" ∷ dir ∷ []) ≡ Some Command.Log }
     ensures drawn { (seed count : List ℕ) → begins_plain seed ≡ true → begins_plain count ≡ true →
         asked (codes "gen" ∷ seed ∷ count ∷ []) ≡ gen_of (Some seed) (Some count) }
+    ensures folder { (dir : List ℕ) → begins_plain dir ≡ true → named (codes "run" ∷ dir ∷ []) ≡ record { dir = Some dir; file = None } }
+    ensures folder_stopped { (dir number : List ℕ) → begins_plain dir ≡ true → begins_plain number ≡ true →
+        named (codes "run" ∷ dir ∷ codes "--stop-after" ∷ number ∷ []) ≡ record { dir = Some dir; file = None } }
+    ensures both { (dir file : List ℕ) → begins_plain dir ≡ true → begins_plain file ≡ true →
+        named (codes "init" ∷ dir ∷ codes "--geometry" ∷ file ∷ []) ≡ record { dir = Some dir; file = Some file } }
 {}

@@ -2,7 +2,7 @@ ghost use Rattle.std.specs.Prelude.{◌≡◌, ◌≤◌, IfOk, IfErr, OnOk, IsS
 ghost use Rattle.clap.specs.Words.{rows_of, first_of, found_of, fault_of, subcommand_of, subcommand_rows_of, kind_of};
 ghost use Rattle.sg_words.specs.Parse.{number_of};
 ghost use Rattle.sg_command.specs.Words.{stasis_app};
-ghost use Rattle.sg_command.specs.Asked.{run_of, counted, gen_of, asked_of, asked, texts_of, if_memory};
+ghost use Rattle.sg_command.specs.Asked.{run_of, counted, gen_of, asked_of, asked, named_in, named, shown_paths, texts_of, if_memory};
 
 use crate::line::stasis_command;
 use clap::error::ErrorKind;
@@ -179,7 +179,9 @@ pub struct Paths<'a> {
 }
 
 // The folder and the file of a parse.
-fn paths_in<'a>(matches: &ArgMatches<'a>) -> Paths<'a> {
+fn paths_in<'a>(matches: &ArgMatches<'a>) -> Paths<'a>
+    ensures { shown_paths result ≡ named_in (subcommand_rows_of matches.now) }
+{
     match matches.subcommand() {
         Some((_, rows)) => Paths {
             dir: value(rows, "dir"),
@@ -192,9 +194,10 @@ fn paths_in<'a>(matches: &ArgMatches<'a>) -> Paths<'a> {
     }
 }
 
-/// The words that name a folder and a file, of words that `read_command` reads; others are refused as it refuses them.
+/// The words that name a folder and a file, of words that `read_command` reads, exactly; others are refused as it refuses them.
 pub fn read_paths<'a>(alloc: Global, words: &'a [String]) -> Result<Paths<'a>, WordsError>
     ensures asked { OnOk result (IsSome (asked (texts_of words.entry.now))) }
+    ensures named { IfOk result (λ p. shown_paths p ≡ named (texts_of words.entry.now)) }
     ensures usage { IfErr result (λ e. e ≡ WordsError.Usage → asked (texts_of words.entry.now) ≡ None) }
 {
     match parse(alloc, words) {

@@ -1,9 +1,10 @@
-ghost use Rattle.std.specs.Prelude.{◌≡◌, ◌≢◌, ◌↔◌, true, false};
+ghost use Rattle.std.specs.Prelude.{◌≡◌, ◌≢◌, ◌⊎◌, true, false, IfSome};
 ghost use Rattle.std.specs.IoError.{error_kind};
 ghost use Rattle.std.specs.Process.{exit_status};
 ghost use Rattle.sg_disk.specs.Disk.{Spent};
 ghost use Rattle.sg_ops.specs.Table.{shipped_table, table_of};
-ghost use Rattle.sg_top.specs.Words.{are_run, stop_after};
+ghost use Rattle.sg_top.specs.Words.{are_run, are_served, drawn, stop_after};
+ghost use Rattle.sg_top.specs.Drawing.{Draws, sunk};
 ghost use Rattle.sg_top.specs.Top.{outside, Account};
 ghost use Rattle.sg_main.specs.Texts.{number_of_status};
 
@@ -11,7 +12,7 @@ use crate::status::{Shown, exit_number};
 use sg_base::{Sink, Source};
 use sg_disk::Disk;
 use sg_ops::Ops;
-use sg_top::{Finish, Status, is_run, stasis};
+use sg_top::{Finish, Status, stasis};
 use std::alloc::Global;
 use std::io::{self, Eprint, ErrorKind};
 use std::marker::Model;
@@ -44,8 +45,10 @@ impl Ended {
         out: &mut K,
     ) -> (Ended, Finish<D>)
         ensures ended { result.0 ≡ result.1.status }
-        ensures usage { result.1.status ≡ Status.Usage ↔ are_run words.now ≡ false }
-        ensures unused { are_run words.now ≡ false → (result.1.disk ≡ disk) × (result.1.refused ≡ 0) × (script.new ≡ script.old) × (out.new ≡ out.old) }
+        ensures usage { result.1.status ≡ Status.Usage → are_served words.now ≡ false }
+        ensures unused { are_served words.now ≡ false → ((result.1.status ≡ Status.Usage) ⊎ (result.1.status ≡ Status.Memory)) × (out.new ≡ out.old) }
+        ensures apart { are_run words.now ≡ false → (result.1.disk ≡ disk) × (result.1.refused ≡ 0) × (script.new ≡ script.old) }
+        ensures drawn { IfSome (drawn words.now) (λ d. Draws result.1.status d (sunk (K.taken out.old) (K.faults out.old)) (sunk (K.taken out.new) (K.faults out.new))) }
         // All that `stasis` says, of the very disk that it left.
         ensures run { are_run words.now ≡ true → Account shipped_table D.told (outside (D.view disk) (S.left script.old) (S.faults script.old) (K.taken out.old) (K.faults out.old))
             (outside (D.view result.1.disk) (S.left script.new) (S.faults script.new) (K.taken out.new) (K.faults out.new)) result.1.refused result.1.status }
@@ -54,7 +57,11 @@ impl Ended {
     {
         match Ops::shipped(alloc) {
             Ok(ops) => Ended::of_shipped(alloc, ops, words, disk, script, out),
-            Err(_) => Ended::beside(Ended::without_memory(words, disk)),
+            Err(_) => Ended::beside(Finish {
+                status: Status::Memory,
+                disk,
+                refused: 0,
+            }),
         }
     }
 
@@ -69,8 +76,10 @@ impl Ended {
     ) -> (Ended, Finish<D>)
         requires shipped { table_of record_meaning range_meaning ops ≡ shipped_table }
         ensures ended { result.0 ≡ result.1.status }
-        ensures usage { result.1.status ≡ Status.Usage ↔ are_run words.now ≡ false }
-        ensures unused { are_run words.now ≡ false → (result.1.disk ≡ disk) × (result.1.refused ≡ 0) × (script.new ≡ script.old) × (out.new ≡ out.old) }
+        ensures usage { result.1.status ≡ Status.Usage → are_served words.now ≡ false }
+        ensures unused { are_served words.now ≡ false → ((result.1.status ≡ Status.Usage) ⊎ (result.1.status ≡ Status.Memory)) × (out.new ≡ out.old) }
+        ensures apart { are_run words.now ≡ false → (result.1.disk ≡ disk) × (result.1.refused ≡ 0) × (script.new ≡ script.old) }
+        ensures drawn { IfSome (drawn words.now) (λ d. Draws result.1.status d (sunk (K.taken out.old) (K.faults out.old)) (sunk (K.taken out.new) (K.faults out.new))) }
         ensures run { are_run words.now ≡ true → Account shipped_table D.told (outside (D.view disk) (S.left script.old) (S.faults script.old) (K.taken out.old) (K.faults out.old))
             (outside (D.view result.1.disk) (S.left script.new) (S.faults script.new) (K.taken out.new) (K.faults out.new)) result.1.refused result.1.status }
         ensures heeded { (result.1.status ≡ Status.Disk → ⊥) → ((D.view result.1.disk).faults ≡ (D.view disk).faults) × (result.1.refused ≡ 0) }
@@ -88,21 +97,12 @@ impl Ended {
         (Ended { status }, left)
     }
 
-    // Where there is no memory for the operations: of a run, or of words that are none.
-    fn without_memory<D: Disk>(words: &[String], disk: D) -> Finish<D>
-        ensures memory { are_run words.now ≡ true → result.status ≡ Status.Memory }
-        ensures usage { are_run words.now ≡ false → result.status ≡ Status.Usage }
-        ensures same { (result.disk ≡ disk) × (result.refused ≡ 0) }
+    /// Where there was no memory for the words.
+    pub fn without_memory() -> Ended
+        ensures { result ≡ Status.Memory }
     {
-        let status = if is_run(words) {
-            Status::Memory
-        } else {
-            Status::Usage
-        };
-        Finish {
-            status,
-            disk,
-            refused: 0,
+        Ended {
+            status: Status::Memory,
         }
     }
 

@@ -23,7 +23,7 @@ use Rattle.sg_engine.specs.History.{AllThere, IsThere}
 use Rattle.sg_actions.specs.Changes.{meaning}
 use Rattle.sg_actions.specs.Steps.{Step, Steps, step_of, step_by, with_step, redo, repeated}
 use Rattle.sg_phys_laws.specs.Logged.{IsFor, IsPageFor}
-use Rattle.sg_phys_laws.specs.Recovers.{cut_at, IsIn, StepIn, AllIn}
+use Rattle.sg_phys_laws.specs.Recovers.{cut_at, no_band, IsIn, StepIn, AllIn}
 use Rattle.sg_phys_laws.specs.States.{steps_on, steps_of}
 
 abbrev state : (ℕ → Option Sheet) → (ℕ → List ℕ) → State
@@ -64,10 +64,10 @@ cut_pages s f g same n = by (nat_lt n s.pages) refl
     by true is = same n (grind (arith, nat_tests, is))
     by false is = refl
 
-cut_bands : (s : Super) (f g : ℕ → List ℕ) → ((n : ℕ) → n < s.bands → f n ≡ g n) → (n : ℕ) → (if nat_lt n s.bands then f n else []) ≡ (if nat_lt n s.bands then g n else [])
+cut_bands : (s : Super) (f g : ℕ → List ℕ) → ((n : ℕ) → n < s.bands → f n ≡ g n) → (n : ℕ) → (if nat_lt n s.bands then f n else no_band) ≡ (if nat_lt n s.bands then g n else no_band)
 cut_bands s f g same n = by (nat_lt n s.bands) refl
   where
-    by : (b : Bool) → nat_lt n s.bands ≡ b → (if b then f n else []) ≡ (if b then g n else [])
+    by : (b : Bool) → nat_lt n s.bands ≡ b → (if b then f n else no_band) ≡ (if b then g n else no_band)
     by true is = same n (grind (arith, nat_tests, is))
     by false is = refl
 
@@ -89,7 +89,7 @@ change_cut s t x (PageChanged c) lt = same_state (apply t (cut_at s x) (meaning 
         (cases_eq n c.page)
 change_cut s t x (SegWrite c) lt = same_state (cut_at s x).pages (cut_at s x).pages (apply t (cut_at s x) (meaning (SegWrite c))).bands (cut_at s (apply t x (meaning (SegWrite c)))).bands refl (λ k n. at n k)
   where
-    at : (n : ℕ) → with_one (cut_at s x).bands c.band (overwritten ((cut_at s x).bands c.band) c.at c.after) n ≡ (if nat_lt n s.bands then with_one x.bands c.band (overwritten (x.bands c.band) c.at c.after) n else [])
+    at : (n : ℕ) → with_one (cut_at s x).bands c.band (overwritten ((cut_at s x).bands c.band) c.at c.after) n ≡ (if nat_lt n s.bands then with_one x.bands c.band (overwritten (x.bands c.band) c.at c.after) n else no_band)
     at n = ⊎_elim
         (λ same. let this = same_test n c.band same in let low = below_test n s.bands (omega (arith, same, lt)) in
         rw this (rw low (ap (λ (l : List ℕ). overwritten l c.at c.after) (band_kept s x c.band lt))))
@@ -100,7 +100,7 @@ change_cut s t x (SegOp c) lt = same_state (cut_at s x).pages (cut_at s x).pages
     bytes : List ℕ
     bytes = rendered (range_at t c.code) c.arg c.position c.count
 
-    at : (n : ℕ) → with_one (cut_at s x).bands c.band (overwritten ((cut_at s x).bands c.band) c.at bytes) n ≡ (if nat_lt n s.bands then with_one x.bands c.band (overwritten (x.bands c.band) c.at bytes) n else [])
+    at : (n : ℕ) → with_one (cut_at s x).bands c.band (overwritten ((cut_at s x).bands c.band) c.at bytes) n ≡ (if nat_lt n s.bands then with_one x.bands c.band (overwritten (x.bands c.band) c.at bytes) n else no_band)
     at n = ⊎_elim
         (λ same. let this = same_test n c.band same in let low = below_test n s.bands (omega (arith, same, lt)) in
         rw this (rw low (ap (λ (l : List ℕ). overwritten l c.at bytes) (band_kept s x c.band lt))))

@@ -9,12 +9,11 @@ use Rattle.sg_action.specs.States.{State}
 use Rattle.sg_engine.specs.Engine.{Origin}
 use Rattle.sg_engine.specs.Running.{IsEngine, IsAllowed}
 use Rattle.sg_actions.specs.Steps.{Steps}
-use Rattle.sg_engine.specs.History.{Homes}
 use Rattle.sg_phys_laws.specs.Poised.{IsPoised, AreSaid}
 use Rattle.sg_phys_laws.specs.Points.{redo_point, AreMarked, ArePoints}
 use Rattle.sg_phys_laws.specs.Reading.{durable_in, waiting_in}
 use Rattle.sg_phys_laws.specs.Recovers.{Recovers}
-use Rattle.sg_phys_laws.specs.States.{AllAgree, at_home}
+use Rattle.sg_phys_laws.specs.States.{AllAgree}
 use Rattle.sg_phys_laws.proofs.Agreeing.{all_agree_none}
 use Rattle.sg_phys_laws.proofs.Reading.{held_are}
 use Rattle.sg_phys_laws.proofs.Wrapped.{now_again, all_are, append_none}
@@ -26,23 +25,22 @@ allowed_less o v log pool j k le allowed = record {
   bands = λ b lt. let more = allowed.bands b lt in omega arith;
 }
 
-pub opened_poised : (t : Table) (o : Origin) (h : Homes) (v : View) (log : Tail) (rs : List Numbered) (pool : Pool) → IsEngine (at_home o h) v log rs [] pool → AreSaid t o h rs → AreMarked (λ k. Unit {0}) rs → IsAllowed (at_home o h) v log pool (redo_point o.super.base rs) → IsPoised t o v log pool
-opened_poised t o h v log rs pool e said low allowed =
+pub opened_poised : (t : Table) (from : State) (o : Origin) (v : View) (log : Tail) (rs : List Numbered) (pool : Pool) → IsEngine o v log rs [] pool → AreSaid t from o rs → AreMarked (λ k. Unit {0}) rs → IsAllowed o v log pool (redo_point o.super.base rs) → IsPoised t from o v log pool
+opened_poised t from o v log rs pool e said low allowed =
     let held = held_are v log rs [] e.engine.held in
-    let whole : durable_in v log ++ waiting_in log ≡ rs = all_are (at_home o h) v log rs [] pool e ∙ append_none rs in
-    let points : ArePoints (at_home o h) (IsAllowed (at_home o h) v log pool) rs rs = record {
+    let whole : durable_in v log ++ waiting_in log ≡ rs = all_are o v log rs [] pool e ∙ append_none rs in
+    let points : ArePoints o (IsAllowed o v log pool) rs rs = record {
       more = [];
       is_all = sym (append_none rs);
       low = low;
-      start = allowed_less (at_home o h) v log pool o.super.base (redo_point o.super.base rs) (omega arith) allowed;
+      start = allowed_less o v log pool o.super.base (redo_point o.super.base rs) (omega arith) allowed;
       now = allowed;
       marked = tt;
     } in
     record {
-      home = h;
-      now = now_again t (at_home o h) v log rs [] pool e (subst (AllAgree t (at_home o h) rs) (sym (append_none rs)) (all_agree_none t (at_home o h) rs));
-      points = subst (λ (l : List Numbered). ArePoints (at_home o h) (IsAllowed (at_home o h) v log pool) (durable_in v log) l) (sym whole) (subst (λ (l : List Numbered). ArePoints (at_home o h) (IsAllowed (at_home o h) v log pool) l rs) (sym held.0) points);
-      said = subst (AreSaid t o h) (sym held.0) said;
+      now = now_again t o v log rs [] pool e (subst (AllAgree t o rs) (sym (append_none rs)) (all_agree_none t o rs));
+      points = subst (λ (l : List Numbered). ArePoints o (IsAllowed o v log pool) (durable_in v log) l) (sym whole) (subst (λ (l : List Numbered). ArePoints o (IsAllowed o v log pool) l rs) (sym held.0) points);
+      said = subst (AreSaid t from o) (sym held.0) said;
     }
 
 -- an image holds one list of steps, and one state

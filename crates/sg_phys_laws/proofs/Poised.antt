@@ -10,9 +10,10 @@ use Rattle.sg_ops.specs.Table.{Table}
 use Rattle.sg_pool.specs.declared.pool.Pool.{Pool}
 use Rattle.sg_record.specs.Records.{Record, Says}
 use Rattle.sg_record.specs.Records.Says.{Begin, Changed, TopEnd, PhysComp, TopVoid, CompEnd, Save, Commit, End, Checkpoint, Line}
+use Rattle.sg_action.specs.States.{State}
 use Rattle.sg_engine.specs.Effects.{IsBy}
 use Rattle.sg_engine.specs.Engine.{Origin, entries, geometry}
-use Rattle.sg_engine.specs.History.{Homes, AllThere}
+use Rattle.sg_engine.specs.History.{AllThere}
 use Rattle.sg_engine.specs.Running.{IsEngine, IsAllowed, HasGoneOn}
 use Rattle.sg_engine.specs.declared.fault.EngineFault.{EngineFault}
 use Rattle.sg_engine.proofs.Pools.{rest_moments}
@@ -22,10 +23,10 @@ use Rattle.sg_phys_laws.specs.Logged.{HasLogged, HasRun, HasRested, Stood, Still
 use Rattle.sg_phys_laws.specs.Poised.{AreSaid, IsPoised}
 use Rattle.sg_phys_laws.specs.Points.{IsMarked, ArePoints}
 use Rattle.sg_phys_laws.specs.Reading.{durable_in, waiting_in}
-use Rattle.sg_phys_laws.specs.Recovers.{cut_at, Recovers}
-use Rattle.sg_phys_laws.specs.States.{AllAgree, state_of, steps_of, at_home}
+use Rattle.sg_phys_laws.specs.Recovers.{Recovers}
+use Rattle.sg_phys_laws.specs.States.{AllAgree, steps_of}
 use Rattle.sg_phys_laws.proofs.Agreeing.{all_agree_durable}
-use Rattle.sg_phys_laws.proofs.Going.{by_at, said_more}
+use Rattle.sg_phys_laws.proofs.Going.{said_more}
 use Rattle.sg_phys_laws.proofs.Fronting.{front_grows, one_more}
 use Rattle.sg_phys_laws.proofs.Points.{points_allow, points_append, points_durable}
 use Rattle.sg_phys_laws.proofs.Reading.{held_are}
@@ -42,41 +43,40 @@ there_front o [] ys there = tt
 there_front o (x ∷ xs) ys there = (there.0, there_front o xs ys there.1)
 
 -- BEHIND A CALL that answers: the engine holds these records
-pub record Behind (t : Table) (o : Origin) (v w : View) (log log' : Tail) (pool' : Pool) (all : List Numbered) : Type 0 where
-  pub poised : IsPoised t o w log' pool'
+pub record Behind (t : Table) (from : State) (o : Origin) (v w : View) (log log' : Tail) (pool' : Pool) (all : List Numbered) : Type 0 where
+  pub poised : IsPoised t from o w log' pool'
   pub steps : steps_of (all_in_log w log') ≡ steps_of all
   pub durable : Grows (steps_of (durable_in v log)) (steps_of (durable_in w log'))
 
-behind : (t : Table) (o : Origin) (f : Homes) (v w : View) (log log' : Tail) (pool' : Pool) (all : List Numbered) → IsBy t o → HasGoneOn (at_home o f) w log' (durable_in v log) all pool' → AllAgree t (at_home o f) (durable_in v log) all → AreSaid t o f (durable_in v log)
-    → ArePoints (at_home o f) (IsAllowed (at_home o f) w log' pool') (durable_in v log) all → Behind t o v w log log' pool' all
-behind t o f v w log log' pool' all by h agrees said points =
+behind : (t : Table) (from : State) (o : Origin) (v w : View) (log log' : Tail) (pool' : Pool) (all : List Numbered) → IsBy t o → HasGoneOn o w log' (durable_in v log) all pool' → AllAgree t o (durable_in v log) all → AreSaid t from o (durable_in v log)
+    → ArePoints o (IsAllowed o w log' pool') (durable_in v log) all → Behind t from o v w log log' pool' all
+behind t from o v w log log' pool' all by h agrees said points =
     let held = held_are w log' h.durable h.waiting h.engine.engine.held in
-    let whole : all_in_log w log' ≡ all = all_are (at_home o f) w log' h.durable h.waiting pool' h.engine ∙ h.is_all in
+    let whole : all_in_log w log' ≡ all = all_are o w log' h.durable h.waiting pool' h.engine ∙ h.is_all in
     let durable : durable_in w log' ≡ durable_in v log ++ h.since = held.0 ∙ h.later in
     let parts : all ≡ (durable_in v log ++ h.since) ++ h.waiting = sym h.is_all ∙ ap (λ (l : List Numbered). l ++ h.waiting) h.later in
-    let further : ArePoints (at_home o f) (IsAllowed (at_home o f) w log' pool') (durable_in v log ++ h.since) all =
-    points_durable (IsAllowed (at_home o f) w log' pool') (at_home o f) (durable_in v log) h.since h.waiting all points parts in
-    let there : AllThere (geometry o.super) (entries (at_home o f) (durable_in v log ++ h.since)) =
-    there_front (at_home o f) (durable_in v log ++ h.since) h.waiting (subst (λ (l : List Numbered). AllThere (geometry o.super) (entries (at_home o f) l)) (h.is_all ∙ parts) h.engine.engine.history.there) in
+    let further : ArePoints o (IsAllowed o w log' pool') (durable_in v log ++ h.since) all =
+    points_durable (IsAllowed o w log' pool') o (durable_in v log) h.since h.waiting all points parts in
+    let there : AllThere (geometry o.super) (entries o (durable_in v log ++ h.since)) =
+    there_front o (durable_in v log ++ h.since) h.waiting (subst (λ (l : List Numbered). AllThere (geometry o.super) (entries o l)) (h.is_all ∙ parts) h.engine.engine.history.there) in
     record {
       poised = record {
-        home = f;
-        now = now_again t (at_home o f) w log' h.durable h.waiting pool' h.engine
-            (subst (λ (l : List Numbered). AllAgree t (at_home o f) l (h.durable ++ h.waiting)) (sym h.later)
-            (subst (AllAgree t (at_home o f) (durable_in v log ++ h.since)) (sym h.is_all) (all_agree_durable t (at_home o f) (durable_in v log) h.since all agrees h.waiting parts)));
-        points = subst (λ (l : List Numbered). ArePoints (at_home o f) (IsAllowed (at_home o f) w log' pool') (durable_in w log') l) (sym whole)
-            (subst (λ (l : List Numbered). ArePoints (at_home o f) (IsAllowed (at_home o f) w log' pool') l all) (sym durable) further);
-        said = subst (AreSaid t o f) (sym durable)
-            (said_more t (at_home o f) (cut_at o.super (state_of o.first)) (durable_in v log) h.since (by_at t o f by) there (agrees h.since h.waiting (sym parts)) said);
+        now = now_again t o w log' h.durable h.waiting pool' h.engine
+            (subst (λ (l : List Numbered). AllAgree t o l (h.durable ++ h.waiting)) (sym h.later)
+            (subst (AllAgree t o (durable_in v log ++ h.since)) (sym h.is_all) (all_agree_durable t o (durable_in v log) h.since all agrees h.waiting parts)));
+        points = subst (λ (l : List Numbered). ArePoints o (IsAllowed o w log' pool') (durable_in w log') l) (sym whole)
+            (subst (λ (l : List Numbered). ArePoints o (IsAllowed o w log' pool') l all) (sym durable) further);
+        said = subst (AreSaid t from o) (sym durable)
+            (said_more t from o (durable_in v log) h.since by there (agrees h.since h.waiting (sym parts)) said);
       };
       steps = ap steps_of whole;
       durable = subst (λ (l : List Numbered). Grows (steps_of (durable_in v log)) (steps_of l)) (sym durable) (front_grows (durable_in v log) h.since);
     }
 
 -- a call that appends nothing
-pub behind_rest : (t : Table) (o : Origin) (v w : View) (log log' : Tail) (pool pool' : Pool) → IsBy t o → (p : IsPoised t o v log pool) → HasRested (at_home o p.home) v w log log' pool pool' (durable_in v log) (all_in_log v log) → Behind t o v w log log' pool' (all_in_log v log)
-behind_rest t o v w log log' pool pool' by p h =
-    behind t o p.home v w log log' pool' (all_in_log v log) by h.gone p.now.agrees p.said (points_allow (IsAllowed (at_home o p.home) v log pool) (IsAllowed (at_home o p.home) w log' pool') (at_home o p.home) (durable_in v log) (all_in_log v log) h.allowed p.points)
+pub behind_rest : (t : Table) (from : State) (o : Origin) (v w : View) (log log' : Tail) (pool pool' : Pool) → IsBy t o → (p : IsPoised t from o v log pool) → HasRested o v w log log' pool pool' (durable_in v log) (all_in_log v log) → Behind t from o v w log log' pool' (all_in_log v log)
+behind_rest t from o v w log log' pool pool' by p h =
+    behind t from o v w log log' pool' (all_in_log v log) by h.gone p.now.agrees p.said (points_allow (IsAllowed o v log pool) (IsAllowed o w log' pool') o (durable_in v log) (all_in_log v log) h.allowed p.points)
 
 -- no checkpoint estimates anything
 pub marked_plain : (A : ℕ → Type 0) (lsn : ℕ) (x : Says) → is_checkpoint x ≡ false → IsMarked A lsn x
@@ -93,30 +93,29 @@ marked_plain A lsn End plain = tt
 marked_plain A lsn (Line words) plain = tt
 
 -- a record
-pub behind_record : (t : Table) (o : Origin) (v w : View) (log log' : Tail) (pool pool' : Pool) (r : Record) (lsn : ℕ) → IsBy t o → (p : IsPoised t o v log pool) → IsMarked (IsAllowed (at_home o p.home) w log' pool') lsn r.says → HasLogged t (at_home o p.home) w log' (durable_in v log) (all_in_log v log) r lsn pool'
-    → StillAllowed (at_home o p.home) v w log log' pool pool' → Behind t o v w log log' pool' (all_in_log v log ++ at_number lsn r ∷ [])
-behind_record t o v w log log' pool pool' r lsn by p mark h still =
-    behind t o p.home v w log log' pool' (all_in_log v log ++ at_number lsn r ∷ []) by h.gone h.agrees p.said
-    (points_append (IsAllowed (at_home o p.home) w log' pool') (at_home o p.home) (durable_in v log) (all_in_log v log) (at_number lsn r)
-    (points_allow (IsAllowed (at_home o p.home) v log pool) (IsAllowed (at_home o p.home) w log' pool') (at_home o p.home) (durable_in v log) (all_in_log v log) still p.points) mark)
+pub behind_record : (t : Table) (from : State) (o : Origin) (v w : View) (log log' : Tail) (pool pool' : Pool) (r : Record) (lsn : ℕ) → IsBy t o → (p : IsPoised t from o v log pool) → IsMarked (IsAllowed o w log' pool') lsn r.says → HasLogged t o w log' (durable_in v log) (all_in_log v log) r lsn pool'
+    → StillAllowed o v w log log' pool pool' → Behind t from o v w log log' pool' (all_in_log v log ++ at_number lsn r ∷ [])
+behind_record t from o v w log log' pool pool' r lsn by p mark h still =
+    behind t from o v w log log' pool' (all_in_log v log ++ at_number lsn r ∷ []) by h.gone h.agrees p.said
+    (points_append (IsAllowed o w log' pool') o (durable_in v log) (all_in_log v log) (at_number lsn r)
+    (points_allow (IsAllowed o v log pool) (IsAllowed o w log' pool') o (durable_in v log) (all_in_log v log) still p.points) mark)
 
 -- THE IMAGES of a call that appends nothing
-pub rest_images : (t : Table) (o : Origin) (v w : View) (log : Tail) (pool : Pool) → IsBy t o → (p : IsPoised t o v log pool) → Stood (at_home o p.home) v w log pool (durable_in v log) (all_in_log v log)
-    → LeavesOnly v w (IsImageOf (Recovers o) t (cut_at o.super (state_of o.first)) (steps_of (durable_in v log)) (steps_of (all_in_log v log)))
-rest_images t o v w log pool by p stood = moments_are t o p.home v w log pool (durable_in v log) (all_in_log v log) by p.now.agrees p.said p.points stood
+pub rest_images : (t : Table) (from : State) (o : Origin) (v w : View) (log : Tail) (pool : Pool) → IsBy t o → (p : IsPoised t from o v log pool) → Stood o v w log pool (durable_in v log) (all_in_log v log)
+    → LeavesOnly v w (IsImageOf (Recovers o) t from (steps_of (durable_in v log)) (steps_of (all_in_log v log)))
+rest_images t from o v w log pool by p stood = moments_are t from o v w log pool (durable_in v log) (all_in_log v log) by p.now.agrees p.said p.points stood
 
 -- and of one for a record
-pub record_images : (t : Table) (o : Origin) (v w : View) (log log' : Tail) (pool pool' : Pool) (r : Record) (lsn : ℕ) (result : Result ℕ EngineFault) → IsBy t o → (p : IsPoised t o v log pool) → IsMarked (IsAllowed (at_home o p.home) v log pool) lsn r.says
-    → HasRun t (at_home o p.home) v w log log' pool pool' (durable_in v log) (all_in_log v log) r lsn result
-    → LeavesOnly v w (IsImageOf (Recovers o) t (cut_at o.super (state_of o.first)) (steps_of (durable_in v log)) (with_step (steps_of (all_in_log v log)) lsn (step_of r)))
-record_images t o v w log log' pool pool' r lsn result by p mark h =
-    let first = cut_at o.super (state_of o.first) in
+pub record_images : (t : Table) (from : State) (o : Origin) (v w : View) (log log' : Tail) (pool pool' : Pool) (r : Record) (lsn : ℕ) (result : Result ℕ EngineFault) → IsBy t o → (p : IsPoised t from o v log pool) → IsMarked (IsAllowed o v log pool) lsn r.says
+    → HasRun t o v w log log' pool pool' (durable_in v log) (all_in_log v log) r lsn result
+    → LeavesOnly v w (IsImageOf (Recovers o) t from (steps_of (durable_in v log)) (with_step (steps_of (all_in_log v log)) lsn (step_of r)))
+record_images t from o v w log log' pool pool' r lsn result by p mark h =
     let all : List Numbered = all_in_log v log in
     ⊎_elim
-    (λ early. weaker (rest_images t o v w log pool by p early)
-    (λ c m. image_more o t first (steps_of (durable_in v log)) (steps_of all) (with_step (steps_of all) lsn (step_of r)) c (one_more (steps_of all) lsn (step_of r)) m))
-    (λ late. subst (λ (rs : Steps). LeavesOnly v w (IsImageOf (Recovers o) t first (steps_of (durable_in v log)) rs)) (steps_more all (at_number lsn r))
-    (moments_are t o p.home v w log pool (durable_in v log) (all ++ at_number lsn r ∷ []) by late.0 p.said (points_append (IsAllowed (at_home o p.home) v log pool) (at_home o p.home) (durable_in v log) all (at_number lsn r) p.points mark) late.1))
+    (λ early. weaker (rest_images t from o v w log pool by p early)
+    (λ c m. image_more (Recovers o) t from (steps_of (durable_in v log)) (steps_of all) (with_step (steps_of all) lsn (step_of r)) c (one_more (steps_of all) lsn (step_of r)) m))
+    (λ late. subst (λ (rs : Steps). LeavesOnly v w (IsImageOf (Recovers o) t from (steps_of (durable_in v log)) rs)) (steps_more all (at_number lsn r))
+    (moments_are t from o v w log pool (durable_in v log) (all ++ at_number lsn r ∷ []) by late.0 p.said (points_append (IsAllowed o v log pool) o (durable_in v log) all (at_number lsn r) p.points mark) late.1))
     h.moments
 
 -- no call of the disk

@@ -15,21 +15,21 @@ use Rattle.sg_ops.specs.Table.{Table}
 use Rattle.sg_pool.specs.declared.pool.Pool.{Pool}
 use Rattle.sg_action.specs.States.{State}
 use Rattle.sg_engine.specs.Effects.{IsBy}
-use Rattle.sg_engine.specs.History.{Homes, IsSound, AllThere}
+use Rattle.sg_engine.specs.History.{IsSound, AllThere}
 use Rattle.sg_engine.specs.Kept.{home_in}
 use Rattle.sg_engine.specs.Engine.{Origin, entries, geometry, log_area}
 use Rattle.sg_engine.specs.Running.{IsAllowed}
 use Rattle.sg_redo.specs.Leaf.{leaf_of}
-use Rattle.sg_actions.specs.Images.{Grows, IsImageOf}
+use Rattle.sg_actions.specs.Images.{Grows, Recovering, IsImageOf}
 use Rattle.sg_actions.specs.Steps.{Steps, repeated}
 use Rattle.sg_phys_laws.specs.Images.{homes_in}
 use Rattle.sg_phys_laws.specs.Logged.{Stood}
 use Rattle.sg_phys_laws.specs.Points.{redo_point, ArePoints}
 use Rattle.sg_phys_laws.specs.Recovers.{cut_at, records_in, said_in, IsSoundImage, Recovers, StandsOwn}
 use Rattle.sg_phys_laws.specs.Poised.{AreSaid}
-use Rattle.sg_phys_laws.specs.States.{state_of, steps_of, homes_of, at_home, AllAgree}
+use Rattle.sg_phys_laws.specs.States.{state_of, steps_of, homes_of, AllAgree}
 use Rattle.sg_phys_laws.proofs.Cutting.{cut_same}
-use Rattle.sg_phys_laws.proofs.Going.{by_at, image_at, said_more}
+use Rattle.sg_phys_laws.proofs.Going.{said_more}
 use Rattle.sg_phys_laws.proofs.Fronting.{front_grows}
 use Rattle.sg_phys_laws.proofs.Listing.{same-listed}
 use Rattle.sg_phys_laws.proofs.Points.{stands_own}
@@ -46,7 +46,7 @@ records_held o c tail ns h =
     let base : o.super.base + 0 ≡ o.super.base = omega arith in
     frames_are LOG_END o.super.base 0 (c (log_area o.super)) h.frames h.stand (omega (arith, few, gate, within)) ∙ (ap (λ (m : ℕ). numbered_in m h.frames) base ∙ h.all)
 
-module _ (t : Table) (o : Origin) (from : State) (ds all : List Numbered) (c : Image) (by : IsBy t o) (agrees : AllAgree t o ds all) (begun : cut_at o.super (state_of (homes_of o ds)) ≡ repeated t from (steps_of ds)) (own : StandsOwn o ds all c) where
+module _ (t : Table) (from : State) (o : Origin) (ds all : List Numbered) (c : Image) (by : IsBy t o) (agrees : AllAgree t o ds all) (begun : AreSaid t from o ds) (own : StandsOwn o ds all c) where
   abbrev ns : List Numbered
   ns = own.stands.records
 
@@ -76,9 +76,9 @@ module _ (t : Table) (o : Origin) (from : State) (ds all : List Numbered) (c : I
   }
 
   -- AN IMAGE THAT STANDS holds a front of the steps
-  goes : cut_at o.super (state_of (homes_of o ns)) ≡ repeated t from (steps_of ns)
-  goes = subst (λ (l : List Numbered). cut_at o.super (state_of (homes_of o l)) ≡ repeated t from (steps_of l)) (sym own.stands.later)
-      (said_more t o from ds own.stands.since by (subst (λ (l : List Numbered). AllThere (geometry o.super) (entries o l)) own.stands.later own.stands.history.there)
+  goes : AreSaid t from o ns
+  goes = subst (AreSaid t from o) (sym own.stands.later)
+      (said_more t from o ds own.stands.since by (subst (λ (l : List Numbered). AllThere (geometry o.super) (entries o l)) own.stands.later own.stands.history.there)
       (agrees own.stands.since own.stands.more (ap (λ (l : List Numbered). l ++ own.stands.more) (sym own.stands.later) ∙ sym own.stands.front)) begun)
 
   pub image_is : IsImageOf (Recovers o) t from (steps_of ds) (steps_of all) c
@@ -94,10 +94,6 @@ module _ (t : Table) (o : Origin) (from : State) (ds all : List Numbered) (c : I
       sound = ∣ subst (λ (l : List Numbered). IsSoundImage o (redo_point o.super.base l) l c) (sym held) sound ∣₁;
     };
   }
-
--- also where the life began with another home area
-pub image_found : (t : Table) (o : Origin) (h : Homes) (ds all : List Numbered) (c : Image) → IsBy t o → AllAgree t (at_home o h) ds all → AreSaid t o h ds → StandsOwn (at_home o h) ds all c → IsImageOf (Recovers o) t (cut_at o.super (state_of o.first)) (steps_of ds) (steps_of all) c
-image_found t o h ds all c by agrees said own = image_at t o h (cut_at o.super (state_of o.first)) (steps_of ds) (steps_of all) c (image_is t (at_home o h) (cut_at o.super (state_of o.first)) ds all c (by_at t o h by) agrees said own)
 
 -- what stands before a known end
 front_is : {A : Type 0} (xs ys zs : List A) → ys ≡ zs ++ xs → take (length ys - length xs) ys ≡ zs
@@ -153,14 +149,13 @@ moments_own o v w log pool ds all points runs =
           (subst (λ (l : List disk.State). LeavesAny (w.now ∷ l) c) (append_cancel_right run.added (runs k a).added v.past (sym run.past ∙ (runs k a).past)) any));
     }
 
-pub moments_are : (t : Table) (o : Origin) (h : Homes) (v w : View) (log : Tail) (pool : Pool) (ds all : List Numbered) → IsBy t o → AllAgree t (at_home o h) ds all → AreSaid t o h ds → ArePoints (at_home o h) (IsAllowed (at_home o h) v log pool) ds all → Stood (at_home o h) v w log pool ds all
-    → LeavesOnly v w (IsImageOf (Recovers o) t (cut_at o.super (state_of o.first)) (steps_of ds) (steps_of all))
-moments_are t o h v w log pool ds all by agrees said points runs = weaker (moments_own (at_home o h) v w log pool ds all points runs)
-    (λ c own. image_found t o h ds all c by agrees said own)
+pub moments_are : (t : Table) (from : State) (o : Origin) (v w : View) (log : Tail) (pool : Pool) (ds all : List Numbered) → IsBy t o → AllAgree t o ds all → AreSaid t from o ds → ArePoints o (IsAllowed o v log pool) ds all → Stood o v w log pool ds all
+    → LeavesOnly v w (IsImageOf (Recovers o) t from (steps_of ds) (steps_of all))
+moments_are t from o v w log pool ds all by agrees said points runs = weaker (moments_own o v w log pool ds all points runs) (λ c own. image_is t from o ds all c by agrees said own)
 
 -- more steps, or fewer durable ones
 pub grows_then : (a b c : Steps) → Grows a b → Grows b c → Grows a c
 grows_then a b c g h = record { since = h.since ++ g.since; all = h.all ∙ (ap (λ (l : Steps). h.since ++ l) g.all ∙ sym (append_assoc h.since g.since a)) }
 
-pub image_more : (o : Origin) (t : Table) (first : State) (durable log more : Steps) (c : Image) → Grows log more → IsImageOf (Recovers o) t first durable log c → IsImageOf (Recovers o) t first durable more c
-image_more o t first durable log more c g m = record { front = m.front; is_front = record { within = grows_then m.front log more m.is_front.within g; whole = m.is_front.whole }; recovers = m.recovers }
+pub image_more : (holds : Recovering) (t : Table) (first : State) (durable log more : Steps) (c : Image) → Grows log more → IsImageOf holds t first durable log c → IsImageOf holds t first durable more c
+image_more holds t first durable log more c g m = record { front = m.front; is_front = record { within = grows_then m.front log more m.is_front.within g; whole = m.is_front.whole }; recovers = m.recovers }

@@ -1,6 +1,7 @@
 -- What an image of the disk holds, as the store has it: functions of the image.
 use Rattle.std.specs.Prelude.{◌≡◌, ◌<◌, ℕ, nat_lt, if◌then◌else◌, Result, Ok, Err, None, List, [], ◌∷◌, ⊤}
 use Rattle.sg_base.specs.declared.area.Area.TheVariants.{Home}
+use Rattle.sg_base.specs.declared.page.TheConstants.{BAND_SIZE}
 use Rattle.sg_disk.specs.Disk.{Image}
 use Rattle.sg_gate.specs.Batch.{laid, IsBatch, numbers_of}
 use Rattle.sg_gate.specs.Layout.{HEADER}
@@ -19,13 +20,18 @@ use Rattle.sg_engine.specs.Effects.{effect_in}
 use Rattle.sg_engine.specs.Engine.{Origin, entries, geometry, log_area, IsStanding}
 use Rattle.sg_actions.specs.Steps.{Step, Steps}
 use Rattle.sg_phys_laws.specs.Images.{homes_in}
+use Rattle.sg_phys_laws.specs.Listed.{listed}
 use Rattle.sg_phys_laws.specs.Points.{redo_point, AreMarked}
 use Rattle.sg_phys_laws.specs.Reading.{frames_read}
 use Rattle.sg_phys_laws.specs.States.{state_of, steps_of}
 
--- the pages and bands of a store of this size, and nothing beyond
+-- a band of which nothing is known: zeros
+abbrev pub no_band : List ℕ
+no_band = listed BAND_SIZE (λ i. 0)
+
+-- the pages and bands of a store of this size. Beyond it no page says anything, and each band is zeros
 abbrev pub cut_at : Super → State → State
-cut_at s x = record { pages = λ n. if nat_lt n s.pages then x.pages n else None; bands = λ b. if nat_lt b s.bands then x.bands b else [] }
+cut_at s x = record { pages = λ n. if nat_lt n s.pages then x.pages n else None; bands = λ b. if nat_lt b s.bands then x.bands b else no_band }
 
 -- a change is of a page or a band of such a store
 abbrev pub IsIn : Super → Changing → Type 0

@@ -43,10 +43,6 @@ pub record Agrees (t : Table) (o : Origin) (ds more : List Numbered) : Type 0 wh
 abbrev pub AllAgree : Table → Origin → (ds all : List Numbered) → Type 0
 AllAgree t o ds all = (front more : List Numbered) → (ds ++ front) ++ more ≡ all → Agrees t o ds front
 
--- the same store, whose life began with another home area
-abbrev pub at_home : Origin → Homes → Origin
-at_home o h = record o { first = h }
-
 -- an operation may be done to a page's bytes by a record of this number
 pub record IsDoable (t : Table) (lsn : ℕ) (op : Op) (page : List ℕ) : Type 0 where
   pub lawful : IsLawful t

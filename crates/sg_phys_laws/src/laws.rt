@@ -11,12 +11,11 @@ ghost use Rattle.sg_engine.specs.Engine.{Origin};
 ghost use Rattle.sg_engine.specs.Running.{IsEngine, IsAllowed};
 ghost use Rattle.sg_actions.specs.Images.{IsImageOf};
 ghost use Rattle.sg_actions.specs.Steps.{Steps};
-ghost use Rattle.sg_engine.specs.History.{Homes};
 ghost use Rattle.sg_phys_laws.specs.Poised.{IsPoised, AreSaid};
 ghost use Rattle.sg_phys_laws.specs.Points.{redo_point, AreMarked};
 ghost use Rattle.sg_phys_laws.specs.Reading.{durable_in, waiting_in};
-ghost use Rattle.sg_phys_laws.specs.Recovers.{cut_at, Recovers, StandsOwn};
-ghost use Rattle.sg_phys_laws.specs.States.{AllAgree, IsNext, at_home, state_of, steps_of};
+ghost use Rattle.sg_phys_laws.specs.Recovers.{Recovers, StandsOwn};
+ghost use Rattle.sg_phys_laws.specs.States.{AllAgree, IsNext, steps_of};
 
 /// A law: what more records make of pages and bands, without the pages' numbers, is what their steps
 /// make of what these said. It holds without a record more, and with one more whose change may be made.
@@ -34,8 +33,8 @@ pub fn records_are_read()
 /// A law: an image that stands from its own redo point holds a front of the steps with all that were
 /// durable, and its pages and bands come to what these make.
 pub fn images_recover()
-    ensures { (t : Table) (o : Origin) (h : Homes) (ds all : List Numbered) (c : Image) → IsBy t o → AllAgree t (at_home o h) ds all → AreSaid t o h ds → StandsOwn (at_home o h) ds all c
-        → IsImageOf (Recovers o) t (cut_at o.super (state_of o.first)) (steps_of ds) (steps_of all) c }
+    ensures { (t : Table) (from : State) (o : Origin) (ds all : List Numbered) (c : Image) → IsBy t o → AllAgree t o ds all → AreSaid t from o ds → StandsOwn o ds all c
+        → IsImageOf (Recovers o) t from (steps_of ds) (steps_of all) c }
 {}
 
 /// A law: an image holds one list of steps, and comes to one state.
@@ -47,6 +46,6 @@ pub fn recovers_one()
 /// of the home area that was read is what their steps make of what the store first said, and the redo
 /// point of its log is allowed.
 pub fn opened_is_poised()
-    ensures { (t : Table) (o : Origin) (h : Homes) (v : View) (log : Tail) (rs : List Numbered) (pool : Pool) → IsEngine (at_home o h) v log rs [] pool → AreSaid t o h rs → AreMarked (λ k. Unit {0}) rs
-        → IsAllowed (at_home o h) v log pool (redo_point o.super.base rs) → IsPoised t o v log pool }
+    ensures { (t : Table) (from : State) (o : Origin) (v : View) (log : Tail) (rs : List Numbered) (pool : Pool) → IsEngine o v log rs [] pool → AreSaid t from o rs → AreMarked (λ k. Unit {0}) rs
+        → IsAllowed o v log pool (redo_point o.super.base rs) → IsPoised t from o v log pool }
 {}

@@ -6,19 +6,21 @@ ghost use Rattle.sg_log.specs.Frames.{Numbered, LOG_END};
 ghost use Rattle.sg_log.specs.Held.{tail_of, place_of};
 ghost use Rattle.sg_ops.specs.Table.{Table, table_of};
 ghost use Rattle.sg_record.specs.Changes.Change.{Page, SegWrite, SegOp};
-ghost use Rattle.sg_record.specs.Ranges.{IsRecord, after_fits};
+ghost use Rattle.sg_record.specs.Ranges.{IsRecord};
+ghost use Rattle.sg_record.specs.Records.{spelled};
 ghost use Rattle.sg_engine.specs.declared.fault.EngineFault.{EngineFault};
 ghost use Rattle.sg_record.specs.Shown.{shown, shown_change, shown_page, shown_bytes, shown_op};
-ghost use Rattle.sg_redo.specs.Places.{changed_by, op_said};
+ghost use Rattle.sg_redo.specs.Places.{changed_by};
 ghost use Rattle.sg_engine.specs.Engine.{Origin};
 ghost use Rattle.sg_redo.specs.Leaf.{LinksFit};
 ghost use Rattle.sg_phys_laws.specs.Logged.{SaysPage, IsAsked, IsWrite, HasLogged, HasRun};
 
-use sg_base::{BandNo, Lsn, PageNo, PageOp, read_u32};
+use sg_base::{BandNo, Lsn, PageNo, PageOp};
 use sg_disk::Disk;
 use sg_engine::{Engine, EngineFault};
 use sg_ops::{Ops, are_bytes};
 use sg_record::{BandBytes, BandOp, Change, PageChange, Rec};
+use sg_redo::page_op;
 use sg_step::brings_bytes;
 use std::alloc::Global;
 
@@ -53,40 +55,6 @@ fn change_of<'a>(rec: &Rec<'a>) -> Option<Change<'a>>
     }
 }
 
-// The operation that a change of a page says.
-fn page_op<'a>(change: &PageChange<'a>) -> PageOp<'a>
-    requires { IsTrue (after_fits change.now.operation (length change.now.after.now)) }
-    ensures { op_of result ≡ op_said (shown_page change.now) }
-{
-    let PageChange {
-        operation,
-        slot,
-        code,
-        after,
-        ..
-    } = *change;
-    match operation {
-        1 => PageOp::Format { kind: after[0] },
-        2 => PageOp::Put { slot, bytes: after },
-        3 => PageOp::Remove { slot },
-        4 => PageOp::Set { slot, bytes: after },
-        5 => PageOp::Links {
-            a: read_u32(after),
-            b: read_u32(&after[4..]),
-        },
-        6 => PageOp::Item {
-            slot,
-            code,
-            arg: after,
-        },
-        _ => PageOp::ItemBack {
-            slot,
-            code,
-            arg: after,
-        },
-    }
-}
-
 /// Appends a record that changes no page and no band.
 pub fn log_plain<D: Disk>(
     engine: &mut Engine<D>,
@@ -98,6 +66,7 @@ pub fn log_plain<D: Disk>(
     ensures above { tail_of engine.old.log ≤ tried.new }
     ensures number { IfOk result (λ lsn. lsn ≡ tried.new) }
     ensures below { OnOk result (tried.new < tail_of engine.new.log) }
+    ensures grown { OnOk result (tail_of engine.new.log ≤ tail_of engine.old.log + (5 + length (spelled (shown r.now)))) }
     ensures near { result ≡ Err EngineFault.LogEnd → LOG_END < tail_of engine.old.log + 131072 }
     ensures place { tried.new ≡ place_of engine.old.log (shown r.now) }
     ensures logs { (own given : Table) (o : Origin) (ds ps : List Numbered) → IsTrue D.told → IsAsked own given o (D.view engine.old.disk) engine.old.log ds ps engine.old.pool (shown r.now)
@@ -123,6 +92,7 @@ fn log_to_page<D: Disk>(
     ensures above { tail_of engine.old.log ≤ tried.new }
     ensures number { IfOk result (λ lsn. lsn ≡ tried.new) }
     ensures below { OnOk result (tried.new < tail_of engine.new.log) }
+    ensures grown { OnOk result (tail_of engine.new.log ≤ tail_of engine.old.log + (5 + length (spelled (shown r.now)))) }
     ensures near { result ≡ Err EngineFault.LogEnd → LOG_END < tail_of engine.old.log + 131072 }
     ensures logs { (own : Table) (o : Origin) (ds ps : List Numbered) → IsTrue D.told → IsAsked own (table_of record_meaning range_meaning ops.now) o (D.view engine.old.disk) engine.old.log ds ps engine.old.pool (shown r.now)
         → OnOk result (HasLogged own o (D.view engine.new.disk) engine.new.log ds (ds ++ ps) (shown r.now) tried.new engine.new.pool) }
@@ -157,6 +127,7 @@ fn log_page<D: Disk>(
     ensures above { tail_of engine.old.log ≤ tried.new }
     ensures number { IfOk result (λ lsn. lsn ≡ tried.new) }
     ensures below { OnOk result (tried.new < tail_of engine.new.log) }
+    ensures grown { OnOk result (tail_of engine.new.log ≤ tail_of engine.old.log + (5 + length (spelled (shown r.now)))) }
     ensures near { result ≡ Err EngineFault.LogEnd → LOG_END < tail_of engine.old.log + 131072 }
     ensures logs { (own : Table) (o : Origin) (ds ps : List Numbered) → IsTrue D.told → IsAsked own (table_of record_meaning range_meaning ops.now) o (D.view engine.old.disk) engine.old.log ds ps engine.old.pool (shown r.now)
         → OnOk result (HasLogged own o (D.view engine.new.disk) engine.new.log ds (ds ++ ps) (shown r.now) tried.new engine.new.pool) }
@@ -181,6 +152,7 @@ fn log_to_band<D: Disk>(
     ensures above { tail_of engine.old.log ≤ tried.new }
     ensures number { IfOk result (λ lsn. lsn ≡ tried.new) }
     ensures below { OnOk result (tried.new < tail_of engine.new.log) }
+    ensures grown { OnOk result (tail_of engine.new.log ≤ tail_of engine.old.log + (5 + length (spelled (shown r.now)))) }
     ensures near { result ≡ Err EngineFault.LogEnd → LOG_END < tail_of engine.old.log + 131072 }
     ensures logs { (own : Table) (o : Origin) (ds ps : List Numbered) → IsTrue D.told → IsWrite own o (D.view engine.old.disk) engine.old.log ds ps engine.old.pool (shown r.now) b.0 at bytes.now
         → OnOk result (HasLogged own o (D.view engine.new.disk) engine.new.log ds (ds ++ ps) (shown r.now) tried.new engine.new.pool) }
@@ -206,6 +178,7 @@ fn log_bytes<D: Disk>(
     ensures above { tail_of engine.old.log ≤ tried.new }
     ensures number { IfOk result (λ lsn. lsn ≡ tried.new) }
     ensures below { OnOk result (tried.new < tail_of engine.new.log) }
+    ensures grown { OnOk result (tail_of engine.new.log ≤ tail_of engine.old.log + (5 + length (spelled (shown r.now)))) }
     ensures near { result ≡ Err EngineFault.LogEnd → LOG_END < tail_of engine.old.log + 131072 }
     ensures logs { (own given : Table) (o : Origin) (ds ps : List Numbered) → IsTrue D.told → IsAsked own given o (D.view engine.old.disk) engine.old.log ds ps engine.old.pool (shown r.now)
         → OnOk result (HasLogged own o (D.view engine.new.disk) engine.new.log ds (ds ++ ps) (shown r.now) tried.new engine.new.pool) }
@@ -228,6 +201,7 @@ fn log_op<D: Disk>(
     ensures above { tail_of engine.old.log ≤ tried.new }
     ensures number { IfOk result (λ lsn. lsn ≡ tried.new) }
     ensures below { OnOk result (tried.new < tail_of engine.new.log) }
+    ensures grown { OnOk result (tail_of engine.new.log ≤ tail_of engine.old.log + (5 + length (spelled (shown r.now)))) }
     ensures near { result ≡ Err EngineFault.LogEnd → LOG_END < tail_of engine.old.log + 131072 }
     ensures logs { (own : Table) (o : Origin) (ds ps : List Numbered) → IsTrue D.told → IsAsked own (table_of record_meaning range_meaning ops.now) o (D.view engine.old.disk) engine.old.log ds ps engine.old.pool (shown r.now)
         → OnOk result (HasLogged own o (D.view engine.new.disk) engine.new.log ds (ds ++ ps) (shown r.now) tried.new engine.new.pool) }
@@ -257,6 +231,7 @@ pub fn log_record<D: Disk>(
     ensures above { tail_of engine.old.log ≤ tried.new }
     ensures number { IfOk result (λ lsn. lsn ≡ tried.new) }
     ensures below { OnOk result (tried.new < tail_of engine.new.log) }
+    ensures grown { OnOk result (tail_of engine.new.log ≤ tail_of engine.old.log + (5 + length (spelled (shown r.now)))) }
     ensures near { result ≡ Err EngineFault.LogEnd → LOG_END < tail_of engine.old.log + 131072 }
     ensures place { changed_by (shown r.now).says ≡ None → tried.new ≡ place_of engine.old.log (shown r.now) }
     ensures logs { (own : Table) (o : Origin) (ds ps : List Numbered) → IsTrue D.told → IsAsked own (table_of record_meaning range_meaning ops.now) o (D.view engine.old.disk) engine.old.log ds ps engine.old.pool (shown r.now)
@@ -283,6 +258,7 @@ pub fn log_without<D: Disk>(
     ensures above { tail_of engine.old.log ≤ tried.new }
     ensures number { IfOk result (λ lsn. lsn ≡ tried.new) }
     ensures below { OnOk result (tried.new < tail_of engine.new.log) }
+    ensures grown { OnOk result (tail_of engine.new.log ≤ tail_of engine.old.log + (5 + length (spelled (shown r.now)))) }
     ensures near { result ≡ Err EngineFault.LogEnd → LOG_END < tail_of engine.old.log + 131072 }
     ensures place { changed_by (shown r.now).says ≡ None → tried.new ≡ place_of engine.old.log (shown r.now) }
     ensures logs { (own : Table) (o : Origin) (ds ps : List Numbered) → IsTrue D.told → ((given : Table) → IsAsked own given o (D.view engine.old.disk) engine.old.log ds ps engine.old.pool (shown r.now))

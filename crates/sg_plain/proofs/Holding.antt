@@ -96,7 +96,7 @@ module _ (hand : Option (List ℕ × code.Object)) (s m : Objects) (q : List ℕ
 
 -- the names where one object is at hand: those of the places where it is put back
 module _ (n : List ℕ) (x : code.Object) where
-  abbrev held_entry : List ℕ × Option code.Object → List ℕ × Option code.Object
+  abbrev pub held_entry : List ℕ × Option code.Object → List ℕ × Option code.Object
   held_entry e = (e.0, cond (bytes_eq e.0 n) (Some x) e.1)
 
   abbrev put_in : Bool → Option (Option code.Object) → Option (Option code.Object)
@@ -128,7 +128,7 @@ module _ (n : List ℕ) (x : code.Object) where
   all_put true r h = some_put r (h refl)
   all_put false r h = refl
 
-  held_shown : (es : List (List ℕ × Option code.Object)) → IsSome (lookup (at n) es) → objects_of (map held_entry es) ≡ insert (objects_of es) n (shown x)
+  pub held_shown : (es : List (List ℕ × Option code.Object)) → IsSome (lookup (at n) es) → objects_of (map held_entry es) ≡ insert (objects_of es) n (shown x)
   held_shown es placed = put_there shown (objects_of es) es (map held_entry es) n x refl (λ k.
       held_lookup es k ∙ all_put (at n k) (lookup (at k) es) (λ tie. subst (λ (q : List ℕ). IsSome (lookup (at q) es)) (bytes_same n k (sym (at_bytes n k) ∙ tie)) placed))
 
@@ -144,7 +144,7 @@ module _ (n : List ℕ) (x : code.Object) where
       ap (λ (k : Option (List ℕ)). cons_option k (filled_keys (map held_entry es))) (key_held e.0 (bytes_eq e.0 n) e.1)
       ∙ ap (cons_option (cond (is_some e.1 || bytes_eq e.0 n) (Some e.0) None)) (keys_held es)
 
-  same_keys : (es : List (List ℕ × Option code.Object)) → keys_of (map held_entry es) ≡ keys_of es
+  pub same_keys : (es : List (List ℕ × Option code.Object)) → keys_of (map held_entry es) ≡ keys_of es
   same_keys [] = refl
   same_keys (e ∷ es) = ap (λ (ks : List (List ℕ)). e.0 ∷ ks) (same_keys es)
 

@@ -10,3 +10,5 @@ pub mod Noting
 pub mod Ready
 pub mod Pasts
 pub mod Holding
+pub mod Texts
+pub mod Summing

@@ -23,6 +23,15 @@ standing_in (e ∷ es) = set_at (standing_in es) e.0 e.1
 unfoldable pub there : {X : Type 0} → Places X → FinMap (slice_cmp nat_cmp) X
 there m = standing_in (entries m)
 
+-- what stands at places, with its keys, in their order
+abbrev pub filled_one : {V W : Type 0} → (V → W) → List ℕ → Option V → List (List ℕ × W) → List (List ℕ × W)
+filled_one f key None es = es
+filled_one f key (Some v) es = (key, f v) ∷ es
+
+abbrev pub filled : {V W : Type 0} → (V → W) → List (List ℕ × Option V) → List (List ℕ × W)
+filled f [] = []
+filled f (e ∷ es) = filled_one f e.0 e.1 (filled f es)
+
 -- the keys at whose places something stands
 abbrev pub filled_key : {K X : Type 0} → K × Option X → Option K
 filled_key e = option_map (λ x. e.0) e.1

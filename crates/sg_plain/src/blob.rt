@@ -92,6 +92,13 @@ impl Blob {
         self.bytes.len()
     }
 
+    /// Its bytes.
+    pub fn bytes(&self) -> &[u8]
+        ensures { result.now ≡ self.now.bytes }
+    {
+        &self.bytes
+    }
+
     // Sets the length; the bytes gained are 0.
     fn set_len(&mut self, len: usize) -> Result<(), AllocError>
         requires { len ≤ 16384000 }

@@ -6,7 +6,7 @@ ghost use Rattle.std.specs.Cmp.Lexicographic.{slice_cmp};
 ghost use Rattle.std.specs.FinMap as finmap;
 ghost use Rattle.sg_plain.specs.Shown.{shown, objects_of};
 ghost use Rattle.sg_plain.specs.Back.{at_name};
-ghost use Rattle.sg_plain.specs.Hand.{with_hand, IsPlaced, IsHandOf, held_keys};
+ghost use Rattle.sg_plain.specs.Hand.{with_hand, IsPlaced, IsHandOf, held_keys, present};
 
 use crate::back::put_back;
 use crate::object::Object;
@@ -120,4 +120,21 @@ pub fn held_keys(
         Ok(names) => Ok(names),
         Err(_) => Err(OutOfMemory),
     }
+}
+
+/// The object that a name stands for which has this place: the one at hand, or the one at the place.
+pub fn present<'a>(
+    hand: &'a Option<(Name, Object)>,
+    name: &Name,
+    place: &'a Option<Object>,
+) -> Option<&'a Object>
+    ensures { option_copied result ≡ present hand.now name.now place.now }
+{
+    let Some((held, object)) = hand else {
+        return place.as_ref();
+    };
+    if *name == *held {
+        return Some(object);
+    }
+    place.as_ref()
 }

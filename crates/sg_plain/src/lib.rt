@@ -1,11 +1,12 @@
 //! Objects under names in memory, and what every verb does to them: arrays of items of one size,
 //! tables of values under keys, and blobs of bytes.
 //!
-//! It stands on `sg_base`, `sg_ops` and `sg_model`. It promises that `Objects::apply` answers and
+//! It stands on `sg_base`, `sg_ops` and `sg_model`, and for the text of objects on `sg_text` and `sg_words`. It promises that `Objects::apply` answers and
 //! changes exactly as the definition of a step says, with the operations that are handed to it, that
 //! a refused operation changes nothing, and that memory runs out only where an operation that takes
 //! memory for what it leaves would have been done. `Objects::change` does the same and notes what
-//! takes it back in `Changes`, and `Objects::take_back` takes back what is noted.
+//! takes it back in `Changes`, and `Objects::take_back` takes back what is noted. `Objects::write_text`
+//! writes exactly the text of the objects, and `Objects::summary` counts them.
 #![tactic(auto)]
 
 mod array;
@@ -14,12 +15,15 @@ mod blob;
 mod changes;
 mod front;
 mod hand;
+mod line;
 mod notes;
 mod object;
 mod objects;
 mod places;
 mod reach;
+mod summary;
 mod table;
+mod text;
 mod undo;
 mod undos;
 
@@ -28,6 +32,8 @@ pub use blob::Blob;
 pub use changes::Changes;
 pub use object::Object;
 pub use objects::Objects;
+pub use summary::Summary;
 pub use table::Table;
+pub use text::TextFault;
 pub use undo::{Past, Undo};
 pub use undos::Undos;

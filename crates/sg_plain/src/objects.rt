@@ -1,6 +1,10 @@
-ghost use Rattle.std.specs.Prelude.{◌≡◌, ◌≤◌, ℕ, List, IsTrue, Option, [], ◌∷◌, map, length, is_some, option_copied, OnOk, IfOk, OnErr, IsOk, Ok};
+ghost use Rattle.std.specs.Prelude.{◌≡◌, ◌≤◌, ℕ, List, IsTrue, Option, [], ◌∷◌, map, length, is_some, option_copied, OnOk, IfOk, OnErr, IsOk, Ok, IfErr};
 ghost use Rattle.std.specs.Option.{option_map};
+ghost use Rattle.std.specs.BTreeMap.{IsOrdered};
+ghost use Rattle.std.specs.Cmp.Lexicographic.{slice_cmp};
 ghost use Rattle.std.specs.FinMap as finmap;
+ghost use Rattle.std.specs.Ordering.{nat_cmp};
+ghost use Rattle.sg_words.specs.Writing.{Writes};
 ghost use Rattle.sg_ops.specs.Table.{Table as Operations, table_of};
 ghost use Rattle.sg_model.specs.Objects as plain;
 ghost use Rattle.sg_model.specs.Verb.Op.{On, Names};
@@ -9,7 +13,7 @@ ghost use Rattle.sg_model.specs.Verb.Verb.{Keys};
 ghost use Rattle.sg_model.specs.SaidReplies.{said_outcome};
 ghost use Rattle.sg_plain.specs.Replies.{shown_keys};
 ghost use Rattle.sg_plain.specs.Shown.{shown, objects_of};
-ghost use Rattle.sg_plain.specs.Hand.{with_hand, IsPlaced};
+ghost use Rattle.sg_plain.specs.Hand.{with_hand, IsPlaced, present_in};
 ghost use Rattle.sg_model.specs.SaidOps.{said_op, verb_of, name_of};
 ghost use Rattle.sg_model.specs.TouchList.{shown_touches};
 ghost use Rattle.sg_model.specs.Touches.{touches, touch_of, to_read, to_write, further};
@@ -17,19 +21,24 @@ ghost use Rattle.sg_model.specs.Touches.Part.{Kind};
 ghost use Rattle.sg_model.specs.Touches.Region.{Just, Everything};
 ghost use Rattle.sg_model.specs.Step.{on, step, IsInPlace, GrowsBy, Refuses};
 ghost use Rattle.sg_model.specs.Undo.{undo_on, note_of_op};
+ghost use Rattle.sg_plain.specs.Summed.{summary_of, summary_of_all};
+ghost use Rattle.sg_plain.specs.Text.{text_of};
 ghost use Rattle.sg_plain.specs.Undone.{undo_in};
 
 use crate::array::Array;
 use crate::back::{drop_places, make_all_ready, put_new, take_all_back};
 use crate::blob::Blob;
 use crate::changes::Changes;
-use crate::hand::{bring, find, held_keys, stow};
+use crate::hand::{bring, find, held_keys, present, stow};
+use crate::line::write_heading;
 use crate::object::Object;
 use crate::places::filled_keys;
 use crate::reach::{only_read, written};
+use crate::summary::{Summary, summary_of};
 use crate::table::Table;
+use crate::text::{TextFault, write_objects};
 use crate::undo::Change;
-use sg_base::{Name, OutOfMemory};
+use sg_base::{Name, OutOfMemory, Sink};
 use sg_model::{Key, Op, Reason, Reply, Resource, Touches};
 use sg_ops::Ops;
 use std::alloc::Global;
@@ -91,6 +100,20 @@ fn change_in(
         return Ok(Err(Reason::NoObject));
     };
     changes.change(name, object, alloc, ops, op, into)
+}
+
+// What the objects come to that places and the hand have.
+fn summarize(hand: &Option<(Name, Object)>, map: &BTreeMap<Name, Option<Object>>) -> Summary
+    ensures summary { result ≡ summary_of_all (present_in hand.now map.now.entries) }
+    ensures ordered { IsOrdered (slice_cmp nat_cmp) map.now }
+{
+    let mut all = Summary::none();
+    'places: for (name, place) in map {
+        if let Some(object) = present(hand, name, place) {
+            all.add(summary_of(object));
+        }
+    }
+    all
 }
 
 /// Objects under names, which contracts see as a finite map.
@@ -276,6 +299,30 @@ impl Objects {
             return filled_keys(alloc, &self.map);
         };
         held_keys(alloc, &self.map, *held)
+    }
+
+    /// Writes the objects by the bytes of their names, each with its contents, and how many they are: the bytes that
+    /// `specs/Text.antt` defines. It takes no memory.
+    ///
+    /// Where the sink fails, it took a front of these bytes, and nothing more is written.
+    pub fn write_text<K: Sink>(&self, out: &mut K) -> Result<(), TextFault>
+        ensures text { Writes (K.taken out.old) (text_of self.now) (K.taken out.new) (K.faults out.old) (K.faults out.new) result }
+        ensures fault { IfErr result (λ e. e ≡ TextFault.Sink) }
+    {
+        let Ok(count) = write_objects(&self.hand, &self.map, out) else {
+            return Err(TextFault::Sink);
+        };
+        match write_heading(b"objects", b"", None, count as u64, out) {
+            Ok(()) => Ok(()),
+            Err(_) => Err(TextFault::Sink),
+        }
+    }
+
+    /// How many objects there are, how many items, entries and bytes of blobs they have, and the sum of all bytes. It takes no memory.
+    pub fn summary(&self) -> Summary
+        ensures { result ≡ summary_of self.now }
+    {
+        summarize(&self.hand, &self.map)
     }
 
     // Puts what an operation on an object that is there touches in the place of other touches.

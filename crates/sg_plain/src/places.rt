@@ -1,4 +1,4 @@
-ghost use Rattle.std.specs.Prelude.{◌≡◌, IfOk, option_copied};
+ghost use Rattle.std.specs.Prelude.{◌≡◌, length, IfOk, option_copied};
 ghost use Rattle.std.specs.Option.{option_flatten};
 ghost use Rattle.std.specs.BTreeMap.{IsOrdered};
 ghost use Rattle.sg_plain.specs.Places.{filled_keys};
@@ -15,6 +15,20 @@ pub fn at_place<V>(place: Option<&Option<V>>) -> Option<&V>
         Some(place) => place.as_ref(),
         None => None,
     }
+}
+
+/// How many places have something.
+pub fn filled_count<K: Ord + Copy, V>(map: &BTreeMap<K, Option<V>>) -> usize
+    ensures count { result ≡ length (filled_keys map.now.entries) }
+    ensures ordered { IsOrdered K.cmp map.now }
+{
+    let mut count = 0;
+    'places: for (_, place) in map {
+        if place.is_some() {
+            count += 1;
+        }
+    }
+    count
 }
 
 /// The keys at whose places something stands, in their order.

@@ -1,5 +1,10 @@
-ghost use Rattle.std.specs.Prelude.{◌≡◌, ◌≤◌, List, ℕ, length, is_some, IsSome, option_copied, IfSome, IfOk, OnOk, OnErr, IsOk, MatchOption, Ok, Err, None, Some, vec_len, ◌++◌, map};
+ghost use Rattle.std.specs.Prelude.{◌≡◌, ◌≤◌, ◌%◌, ◌^◌, List, ℕ, length, is_some, IsSome, option_copied, IfSome, IfOk, OnOk, OnErr, IsOk, MatchOption, Ok, Err, None, Some, vec_len, ◌++◌, map};
+ghost use Rattle.std.specs.BTreeMap.{IsOrdered};
+ghost use Rattle.std.specs.Cmp.Lexicographic.{slice_cmp};
 ghost use Rattle.std.specs.FinMap as finmap;
+ghost use Rattle.std.specs.List.{flat_map, sum_by};
+ghost use Rattle.std.specs.Ordering.{nat_cmp};
+ghost use Rattle.sg_words.specs.Writing.{Writes};
 ghost use Rattle.sg_ops.specs.Table.{fresh_table};
 ghost use Rattle.sg_model.specs.Keys.{key_checked};
 ghost use Rattle.sg_model.specs.Objects.Object.{Table as as_object};
@@ -8,15 +13,19 @@ ghost use Rattle.sg_model.specs.SaidOps.{verb_of, name_of};
 ghost use Rattle.sg_model.specs.TouchList.{shown_touches};
 ghost use Rattle.sg_model.specs.Touches.{table_touches, touch_of};
 ghost use Rattle.sg_model.specs.Undo.{undo};
-ghost use Rattle.sg_plain.specs.Places.{there, HasPlace, with_place};
+ghost use Rattle.sg_plain.specs.Places.{there, filled, HasPlace, with_place};
+ghost use Rattle.sg_plain.specs.Summed.{sum_of_entry};
+ghost use Rattle.sg_plain.specs.Text.{entry_line};
 ghost use Rattle.sg_model.specs.Step.Update.{Stays};
 ghost use Rattle.sg_model.specs.Step.{at_key, put_value, del_value, found, on, IsInPlace, GrowsBy, Refuses};
 
 use crate::front::put_front;
-use crate::places::{at_place, filled_keys};
+use crate::line::write_entry;
+use crate::places::{at_place, filled_count, filled_keys};
 use crate::reach::{only_read, written};
+use crate::summary::sum_of;
 use crate::undo::Undo;
-use sg_base::OutOfMemory;
+use sg_base::{Failed, OutOfMemory, Sink};
 use sg_model::{Key, Op, Reason, Reply, Resource, Touches};
 use std::alloc::Global;
 use std::collections::BTreeMap;
@@ -82,7 +91,7 @@ fn key_refusal(key: &[u8]) -> Option<Reason>
 
 impl Table {
     ghost use Rattle.sg_model.specs.Undo.{note_del, note_put, note_table};
-    ghost use Rattle.sg_plain.specs.Tables.{places_of, TakesBack, IsReadyTable};
+    ghost use Rattle.sg_plain.specs.Tables.{places_of, shown_value, TakesBack, IsReadyTable};
     ghost use Rattle.sg_plain.specs.Undone.{shown_undo, shown_undo_of, undo_listed};
 
     /// A table without entries. Takes no memory.
@@ -100,6 +109,59 @@ impl Table {
         ensures { IfOk result (λ keys. keys.items ≡ finmap.keys (there self.now)) }
     {
         filled_keys(alloc, &self.map)
+    }
+
+    // The sum of all bytes of entries and their keys, modulo 2^64.
+    fn sum_of_entries(map: &BTreeMap<Key, Option<Entry>>) -> u64
+        ensures sum { result ≡ sum_by sum_of_entry (filled shown_value map.now.entries) % 2 ^ 64 }
+        ensures ordered { IsOrdered (slice_cmp nat_cmp) map.now }
+    {
+        let mut all: u64 = 0;
+        'places: for (key, place) in map {
+            if let Some(entry) = place {
+                all = all.wrapping_add(sum_of(key.bytes()));
+                all = all.wrapping_add(sum_of(&entry.bytes));
+            }
+        }
+        all
+    }
+
+    // Writes a line for each of the entries.
+    fn write_entries<K: Sink>(map: &BTreeMap<Key, Option<Entry>>, out: &mut K) -> Result<(), Failed>
+        ensures lines { Writes (K.taken out.old) (flat_map entry_line (filled shown_value map.now.entries)) (K.taken out.new) (K.faults out.old) (K.faults out.new) result }
+        ensures ordered { IsOrdered (slice_cmp nat_cmp) map.now }
+    {
+        'places: for (key, place) in map {
+            if let Some(entry) = place {
+                match write_entry(key.bytes(), &entry.bytes, out) {
+                    Ok(()) => {}
+                    Err(_) => return Err(Failed),
+                }
+            }
+        }
+        Ok(())
+    }
+
+    /// How many keys it has.
+    pub fn len(&self) -> usize
+        ensures { result ≡ length (finmap.entries (there self.now)) }
+    {
+        filled_count(&self.map)
+    }
+
+    /// The sum of all bytes of its keys and values, modulo 2^64.
+    pub fn sum(&self) -> u64
+        ensures { result ≡ sum_by sum_of_entry (finmap.entries (there self.now)) % 2 ^ 64 }
+    {
+        Table::sum_of_entries(&self.map)
+    }
+
+    /// Writes a line for each key and its value, by their keys, each in one call of the sink. Where the sink fails, it took a front of
+    /// these.
+    pub fn write_lines<K: Sink>(&self, out: &mut K) -> Result<(), Failed>
+        ensures { Writes (K.taken out.old) (flat_map entry_line (finmap.entries (there self.now))) (K.taken out.new) (K.faults out.old) (K.faults out.new) result }
+    {
+        Table::write_entries(&self.map, out)
     }
 
     // Why a value would not be put under a key.

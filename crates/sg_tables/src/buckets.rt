@@ -1,10 +1,11 @@
 // The buckets of a table.
-ghost use Rattle.std.specs.Prelude.{◌≡◌, ◌<◌, IfOk, IfErr, OnOk};
+ghost use Rattle.std.specs.Prelude.{◌≡◌, ◌<◌, true, Some, slice_get, IfOk, IfErr, OnOk};
 ghost use Rattle.sg_array.specs.Calls.{IfArray};
 ghost use Rattle.sg_chains.specs.Reached.{AreFew};
 ghost use Rattle.sg_linear.specs.Extent.{buckets_of, shape_of};
 ghost use Rattle.sg_ops.specs.Table.{Table};
-ghost use Rattle.sg_reach.specs.Fault.{CountsReach, IfBroken};
+ghost use Rattle.sg_reach.specs.Fault.{CountsReach, WritesNoneReach, IfBroken, IsReached};
+ghost use Rattle.sg_reach.specs.Marks.{AreKept};
 ghost use Rattle.sg_space.specs.View.{OnlyReads};
 ghost use Rattle.sg_tables.specs.Reached.{CanReachBucket, ReachesBucket, CanReachBuckets, ReachesBuckets};
 
@@ -43,6 +44,9 @@ fn reach_bucket<P: PageSpace>(
         → ¬ CanReachBucket (P.view space.old).space.pages.at directory.0 extent i into.old.pages)) }
     ensures later { (t : Table) → P.later t space.old space.new }
     ensures means { (t : Table) → P.means space.old t → P.means space.new t }
+    ensures writes { WritesNoneReach (P.view space.old) (P.view space.new) result }
+    ensures stays { OnOk result ((P.view space.old).Shows → AreKept into.old.pages into.new.pages) }
+    ensures place { IfErr result (IsReached ((P.view space.old).Shows × (slice_get into.old.pages directory.0 ≡ Some true)) into.new.pages) }
 {
     let mut name = [0u8; 4];
     sg_array::get(space, directory, i, &mut name)?;
@@ -71,6 +75,9 @@ pub fn reach_buckets<P: PageSpace>(
         → ¬ CanReachBuckets (P.view space.old).space.pages.at directory.0 extent (buckets_of (shape_of extent)) into.old.pages)) }
     ensures later { (t : Table) → P.later t space.old space.new }
     ensures means { (t : Table) → P.means space.old t → P.means space.new t }
+    ensures writes { WritesNoneReach (P.view space.old) (P.view space.new) result }
+    ensures stays { OnOk result ((P.view space.old).Shows → AreKept into.old.pages into.new.pages) }
+    ensures place { IfErr result (IsReached ((P.view space.old).Shows × (slice_get into.old.pages directory.0 ≡ Some true)) into.new.pages) }
 {
     // Each page that is set was free, which bounds the sums.
     let _most = into.free_pages();

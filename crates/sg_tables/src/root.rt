@@ -3,7 +3,7 @@ ghost use Rattle.std.specs.Prelude.{◌≡◌, ◌+◌, ◌*◌, ◌≤◌, IsTr
 ghost use Rattle.sg_base.specs.Sheet.{sheet_of};
 ghost use Rattle.sg_hash.specs.Steps.{numbers_in};
 ghost use Rattle.sg_ops.specs.Table.{Table};
-ghost use Rattle.sg_reach.specs.Fault.{CountsReach, IfBroken};
+ghost use Rattle.sg_reach.specs.Fault.{CountsReach, WritesNoneReach, IfBroken, IsAtPage};
 ghost use Rattle.sg_reach.specs.Reached.{numbers_in as array_root};
 ghost use Rattle.sg_space.specs.Pages.{CanLook};
 ghost use Rattle.sg_space.specs.Units.{HasAt};
@@ -59,6 +59,8 @@ pub fn read_trunk<P: PageSpace>(space: &mut P, root: PageNo) -> Result<Trunk, Re
         ((P.view space.old).Shows → ¬ HasAt (P.view space.old).space.pages.at root.0 IsRootSheet)) }
     ensures later { (t : Table) → P.later t space.old space.new }
     ensures means { (t : Table) → P.means space.old t → P.means space.new t }
+    ensures writes { WritesNoneReach (P.view space.old) (P.view space.new) result }
+    ensures names { IfErr result (IsAtPage root.0) }
 {
     let view = space.page(root)?;
     match trunk_on(&view) {

@@ -1,7 +1,7 @@
 // From the root of a table to its buckets.
-ghost use Rattle.std.specs.Prelude.{◌≡◌, IfErr, OnOk};
+ghost use Rattle.std.specs.Prelude.{◌≡◌, true, Some, slice_get, IfErr, OnOk};
 ghost use Rattle.sg_ops.specs.Table.{Table};
-ghost use Rattle.sg_reach.specs.Fault.{CountsReach, IfBroken};
+ghost use Rattle.sg_reach.specs.Fault.{CountsReach, WritesNoneReach, IfBroken, IsReached};
 ghost use Rattle.sg_space.specs.View.{OnlyReads};
 ghost use Rattle.sg_tables.specs.Reached.{CanReachTable, ReachesTable};
 
@@ -36,6 +36,8 @@ pub fn reach_table<P: PageSpace>(
         → ¬ CanReachTable (P.view space.old).space.pages.at root.0 into.old.pages)) }
     ensures later { (t : Table) → P.later t space.old space.new }
     ensures means { (t : Table) → P.means space.old t → P.means space.new t }
+    ensures writes { WritesNoneReach (P.view space.old) (P.view space.new) result }
+    ensures place { IfErr result (IsReached ((P.view space.old).Shows × (slice_get into.old.pages from.0 ≡ Some true)) into.new.pages) }
 {
     set_page(into, from, root)?;
     let trunk = read_trunk(space, root)?;

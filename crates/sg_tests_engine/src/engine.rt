@@ -7,7 +7,7 @@ ghost use Rattle.sg_log.specs.Frames.{LOG_END};
 use sg_base::{BandNo, Lsn, PageNo, TxnId, view};
 use sg_disk::{Area, Fuse, MemDisk};
 use sg_engine::{Engine, EngineFault};
-use sg_gate::{Super, page_start};
+use sg_gate::{Super, page_start, read_super, renew};
 use sg_log::{Log, LogFault};
 use sg_ops::Ops;
 use sg_pool::{Pool, PoolFault};
@@ -96,7 +96,20 @@ impl Trial {
     fn new(alloc: Global, ops: Ops, base: Lsn, passes: Option<u64>) -> Result<Trial, Fail>
         requires { base ≤ LOG_END }
     {
-        let mut disk = MemDisk::new(alloc);
+        Trial::over(alloc, MemDisk::new(alloc), ops, base, passes)
+    }
+
+    // The same over this disk.
+    fn over(
+        alloc: Global,
+        disk: MemDisk,
+        ops: Ops,
+        base: Lsn,
+        passes: Option<u64>,
+    ) -> Result<Trial, Fail>
+        requires { base ≤ LOG_END }
+    {
+        let mut disk = disk;
         let log = Log::attach(alloc, &mut disk, Area::Log0, base)?;
         let pool = Pool::new(alloc, &STORE)?;
         let engine = Engine::of_parts(Fuse::new(disk, passes), log, pool);
@@ -235,6 +248,21 @@ impl Trial {
         Ok(is_filled(self.engine.page(PageNo(p)), lsn))
     }
 
+    // Logs the records of each kind and those that fill page 9, each group in a frame, and flushes. Cuts the log at the second
+    // frame then, if that one is there, and answers the superblock that counts and the number of page 9.
+    fn cut_at_the_second_frame(&mut self) -> Result<(Super, Lsn), Stop> {
+        self.log_all(&RECORDS)?;
+        self.engine.force()?;
+        let point = self.engine.durable();
+        let number = self.fill(9)?;
+        self.engine.flush()?;
+        if self.engine.base() <= point && point < self.engine.durable() {
+            Ok((self.engine.cut(&STORE, point)?, number))
+        } else {
+            Err(Stop::NoRecord)
+        }
+    }
+
     // The log's tail, where what is durable ends, and the redo point.
     fn points(&self) -> [Lsn; 3] {
         [
@@ -368,5 +396,75 @@ fn no_record_ends_behind_the_end_of_the_log(rt: HostRuntime) -> Result<(), Fail>
     assert_eq!(rt; first, Ok((9_223_372_036_854_775_787, 21)));
     assert_eq!(rt; second, Err(Stop::Engine(EngineFault::LogEnd)));
     assert_eq!(rt; points[0], 9_223_372_036_854_775_808);
+    Ok(())
+}
+
+// The superblock of the cut store.
+const CUT: Super = Super {
+    sequence: 2,
+    pages: PAGES,
+    bands: 8,
+    frames: 32,
+    windows: 4,
+    log: 1,
+    base: 327,
+};
+
+fn with_a_superblock(alloc: Global) -> Result<MemDisk, Fail> {
+    let mut disk = MemDisk::new(alloc);
+    renew(&mut disk, &STORE)?;
+    Ok(disk)
+}
+
+// A cut store goes on with the same numbers, and its disk has the other area alone, from the second frame on.
+#[test]
+fn a_cut_store_goes_on(rt: HostRuntime) -> Result<(), Fail> {
+    let alloc = rt.alloc();
+    let disk = with_a_superblock(alloc)?;
+    let mut trial = Trial::over(alloc, disk, Ops::shipped(alloc)?, 0, None)?;
+    let outcome = trial.cut_at_the_second_frame();
+    let points = trial.points();
+    let filled = match outcome {
+        Ok((_, number)) => trial.has(9, number),
+        Err(stop) => Err(stop),
+    };
+    let mut disk = trial.end().into_inner();
+    assert!(rt; outcome == Ok((CUT, 368)) && filled == Ok(true));
+    assert_eq!(rt; points, [405, 405, 405]);
+    assert!(rt; read_super(&mut disk) == Ok(CUT));
+    assert_eq!(rt; (disk.log0().len(), disk.log1().len()), (0, 79));
+    Ok(())
+}
+
+// Cuts over a disk that passes so many calls, and answers whether the superblock that a crash leaves names an area that has its
+// records, and whether it is the cut store's.
+fn after_a_stopped_cut(alloc: Global, passes: u64, pick: u64) -> Result<(bool, bool), Fail> {
+    let disk = with_a_superblock(alloc)?;
+    let mut trial = Trial::over(alloc, disk, Ops::shipped(alloc)?, 0, Some(passes))?;
+    let outcome = trial.cut_at_the_second_frame();
+    let mut left = trial.end().into_inner().crash(pick);
+    let (area, tail) = match read_super(&mut left) {
+        Ok(found) if found == CUT => (Area::Log1, 405),
+        Ok(found) if found == STORE => (Area::Log0, 0),
+        _ => return Ok((false, false)),
+    };
+    let is_cut = tail == 405;
+    let base = if is_cut { 327 } else { 0 };
+    let log = Log::attach(alloc, &mut left, area, base)?;
+    Ok((
+        log.durable() >= tail && (is_cut || outcome.is_err()),
+        is_cut,
+    ))
+}
+
+#[test]
+fn a_stopped_cut_leaves_a_store(rt: HostRuntime) -> Result<(), Fail> {
+    let mut cuts = 0u32;
+    for passes in 20..60u64 {
+        let (is_there, is_cut) = after_a_stopped_cut(rt.alloc(), passes, passes % 4)?;
+        assert!(rt; is_there);
+        cuts = cuts.wrapping_add(u32::from(is_cut));
+    }
+    assert!(rt; 0 < cuts && cuts < 40);
     Ok(())
 }

@@ -221,6 +221,32 @@ impl Trial {
         Ok(bytes.as_slice() == text)
     }
 
+    // Cuts the log at a durable byte, and answers whether it is one.
+    fn cut(&mut self, point: Lsn) -> Result<bool, LogFault> {
+        let durable = self.log.base() <= point && point < self.log.durable();
+        if durable {
+            self.log.cut(&mut self.disk, point)?;
+        }
+        Ok(durable)
+    }
+
+    // Whether the log stands in this area from this number on, how far it is durable, and its end with the buffer.
+    fn stands(&self, area: Area, base: Lsn, durable: Lsn, tail: Lsn) -> bool {
+        self.log.area() == area
+            && self.log.base() == base
+            && self.log.durable() == durable
+            && self.log.tail() == tail
+    }
+
+    // Cuts at 60 through a fuse, and answers whether that went well, and what a crash leaves.
+    fn cut_stopped(self, passes: u64, pick: u64) -> (bool, MemDisk) {
+        let Trial { disk, log, .. } = self;
+        let mut log = log;
+        let mut fuse = Fuse::new(disk, Some(passes));
+        let done = log.base() <= 60 && 60 < log.durable() && log.cut(&mut fuse, 60).is_ok();
+        (done, fuse.into_inner().crash(pick))
+    }
+
     // Forces through a fuse, and answers whether that went well, and what a crash leaves.
     fn force_stopped(self, passes: u64, pick: u64) -> (bool, MemDisk) {
         let Trial { disk, log, .. } = self;
@@ -245,6 +271,11 @@ fn behind_a_frame(alloc: Global, bytes: &[u8]) -> Result<Vec<u8>, AllocError> {
     let mut log0 = FRAME[..47].to_vec(alloc)?;
     log0.extend_from_slice(bytes)?;
     Ok(log0)
+}
+
+// The bytes from there on.
+fn behind(bytes: &[u8], at: usize) -> &[u8] {
+    if at <= bytes.len() { &bytes[at..] } else { &[] }
 }
 
 // Puts another byte there.
@@ -626,5 +657,109 @@ fn ends_at_its_end(alloc: Global) -> Result<bool, LogFault> {
 #[test]
 fn no_record_ends_behind_the_logs_end(rt: HostRuntime) -> Result<(), Fail> {
     assert!(rt; ends_at_its_end(rt.alloc())?);
+    Ok(())
+}
+
+// Three frames, whose gates are 0, 47 and 94, the closed gate 141 behind them, and a begin that waits.
+fn with_three_frames(alloc: Global) -> Result<Trial, LogFault> {
+    let mut trial = Trial::new(alloc)?;
+    for _ in 0..3 {
+        append_two(&mut trial)?;
+        trial.force()?;
+    }
+    trial.step(Step::Begin)?;
+    Ok(trial)
+}
+
+fn three_frames(alloc: Global) -> Result<Vec<u8>, AllocError> {
+    let mut bytes = Vec::new(alloc);
+    for _ in 0..3 {
+        bytes.extend_from_slice(&FRAME[..47])?;
+    }
+    bytes.push(0)?;
+    Ok(bytes)
+}
+
+// Whether a cut at this point leaves the log from this number on, in so many calls.
+fn is_cut(alloc: Global, point: Lsn, base: Lsn, calls: u64) -> Result<bool, Fail> {
+    let mut trial = with_three_frames(alloc)?;
+    let whole = three_frames(alloc)?;
+    let before = trial.disk.call_count();
+    let cut = trial.cut(point)?;
+    let (area, copied) = if base == 0 {
+        (Area::Log0, behind(&whole, 142))
+    } else {
+        (Area::Log1, behind(&whole, base as usize))
+    };
+    Ok(
+        cut && trial.stands(area, base, 141, 167)
+            && trial.log1() == copied
+            && trial.log0() == whole.as_slice()
+            && before.checked_add(calls) == Some(trial.disk.call_count()),
+    )
+}
+
+// Each is read by its length, up to the one that holds the point; then the other area is dropped, and the rest copied and synced.
+#[test]
+fn a_cut_copies_the_frames_from_the_point_on(rt: HostRuntime) -> Result<(), Fail> {
+    let alloc = rt.alloc();
+    let rows = [
+        (0, 0, 1),
+        (46, 0, 1),
+        (47, 47, 6),
+        (93, 47, 6),
+        (94, 94, 7),
+        (140, 94, 7),
+    ];
+    for (point, base, calls) in rows {
+        assert!(rt; is_cut(alloc, point, base, calls)?);
+    }
+    Ok(())
+}
+
+// What waited is appended behind the frames that were copied, and all is found where the log is attached again.
+fn goes_on_when_cut(alloc: Global) -> Result<bool, Fail> {
+    let mut trial = with_three_frames(alloc)?;
+    if !trial.cut(60)? {
+        return Ok(false);
+    }
+    trial.force()?;
+    let Trial { alloc, disk, .. } = trial;
+    let mut again = Trial::attach(alloc, disk, Area::Log1, 47)?;
+    let places = [
+        place(52, 94),
+        place(73, 94),
+        place(99, 141),
+        place(120, 141),
+        place(146, 167),
+    ];
+    Ok(again.stands(Area::Log1, 47, 167, 167) && again.walks(&places)?)
+}
+
+#[test]
+fn a_log_goes_on_when_it_is_cut(rt: HostRuntime) -> Result<(), Fail> {
+    assert!(rt; goes_on_when_cut(rt.alloc())?);
+    Ok(())
+}
+
+// Cuts through a fuse, and answers whether that went well, whether the old area is whole after a crash, and whether the new one
+// has the log from 47 on.
+fn after_a_stopped_cut(alloc: Global, passes: u64, pick: u64) -> Result<(bool, bool, bool), Fail> {
+    let (done, left) = with_three_frames(alloc)?.cut_stopped(passes, pick);
+    let whole = three_frames(alloc)?;
+    let old = left.log0() == whole.as_slice();
+    let new = left.log1() == behind(&whole, 47);
+    Ok((done, old, new))
+}
+
+#[test]
+fn a_stopped_cut_leaves_the_old_log(rt: HostRuntime) -> Result<(), Fail> {
+    let alloc = rt.alloc();
+    for passes in 0..7u64 {
+        for pick in 0..4u64 {
+            let (done, old, new) = after_a_stopped_cut(alloc, passes, pick)?;
+            assert!(rt; done == (passes == 6) && old && (new || !done));
+        }
+    }
     Ok(())
 }

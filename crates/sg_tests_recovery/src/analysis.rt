@@ -190,6 +190,15 @@ fn damaged_at(alloc: Global, base: Lsn, log: &[&[Made]]) -> Result<Option<usize>
     }
 }
 
+// How many records these are.
+fn length_of(log: &[&[Made]]) -> usize {
+    let mut length: usize = 0;
+    for part in log {
+        length = length.saturating_add(part.len());
+    }
+    length
+}
+
 const BOTH: [Made; 6] = [
     (1, 1, 0, 0),
     (1, 2, 0, 0),
@@ -372,7 +381,171 @@ fn hostile_records(rt: HostRuntime) -> Result<(), Fail> {
     Ok(())
 }
 
-// Two actions without an end are told at the last frame, and actions that ended beside each other are none.
+// Records that may not stand in an action that is being taken off: a change, the end of an action and that of one which undid
+// another. Each is told by the place of its frame.
+#[test]
+fn within_a_take_off(rt: HostRuntime) -> Result<(), Fail> {
+    let alloc = rt.alloc();
+    let rows: [&[Made]; 6] = [
+        &[
+            (1, 1, 0, 0),
+            (2, 1, 1, 0),
+            (2, 1, 2, 0),
+            (6, 1, 3, 2),
+            (2, 1, 4, 0),
+        ],
+        &[(1, 1, 0, 0), (2, 1, 1, 0), (6, 1, 2, 1), (2, 1, 3, 0)],
+        &[(1, 1, 0, 0), (2, 1, 1, 0), (6, 1, 2, 1), (5, 1, 3, 1)],
+        &[
+            (1, 1, 0, 0),
+            (2, 1, 1, 0),
+            (5, 1, 2, 1),
+            (2, 1, 3, 0),
+            (6, 1, 4, 3),
+            (8, 1, 5, 1),
+        ],
+        &[(2, 0, 0, 0), (2, 0, 1, 0), (6, 0, 2, 1), (2, 0, 3, 0)],
+        &[(2, 0, 0, 0), (6, 0, 1, 0), (5, 0, 2, 0)],
+    ];
+    for log in rows {
+        assert_eq!(rt; damaged_at(alloc, 1000, &[log])?, Some(log.len()));
+    }
+    Ok(())
+}
+
+// Where undoing goes on: behind a record that takes a change off at the change before, or behind the action; behind one that
+// undid an action where that one's note says. Each other number is told by the place of its frame.
+#[test]
+fn where_undoing_goes_on(rt: HostRuntime) -> Result<(), Fail> {
+    let alloc = rt.alloc();
+    let three: [Made; 4] = [(1, 1, 0, 0), (2, 1, 1, 0), (2, 1, 2, 0), (2, 1, 3, 0)];
+    let notes: [Made; 5] = [
+        (1, 1, 0, 0),
+        (2, 1, 1, 0),
+        (5, 1, 2, 1),
+        (2, 1, 3, 0),
+        (5, 1, 4, 3),
+    ];
+    let rows: [&[&[Made]]; 12] = [
+        &[&three, &[(6, 1, 4, 2)]],
+        &[&three, &[(6, 1, 4, 4)]],
+        &[&three, &[(6, 1, 4, 1)]],
+        &[&three, &[(6, 1, 4, 3), (6, 1, 5, 1)]],
+        &[
+            &three,
+            &[(6, 1, 4, 3), (6, 1, 5, 2), (6, 1, 6, 1), (6, 1, 7, 1)],
+        ],
+        &[&[(2, 0, 0, 0), (2, 0, 1, 0), (6, 0, 2, 0)]],
+        &[&[(2, 0, 0, 0), (5, 0, 1, 0), (2, 0, 0, 0), (6, 0, 3, 2)]],
+        &[&[(2, 0, 0, 0), (5, 0, 1, 0), (6, 0, 0, 0)]],
+        &[&notes, &[(2, 1, 5, 0), (8, 1, 6, 1)]],
+        &[&notes, &[(2, 1, 5, 0), (8, 1, 6, 2)]],
+        &[
+            &notes,
+            &[(2, 1, 5, 0), (8, 1, 6, 3), (2, 1, 7, 0), (8, 1, 8, 3)],
+        ],
+        &[&[
+            (1, 1, 0, 0),
+            (2, 1, 1, 0),
+            (5, 1, 2, 1),
+            (8, 1, 3, 1),
+            (8, 1, 4, 1),
+        ]],
+    ];
+    for log in rows {
+        assert_eq!(rt; damaged_at(alloc, 1000, log)?, Some(length_of(log)));
+    }
+    let off: [Made; 4] = [(6, 1, 4, 3), (6, 1, 5, 2), (6, 1, 6, 1), (7, 1, 7, 1)];
+    assert!(rt; finds(alloc, 1000, &[&three, &off], (&[(1, 8)], None, None))?);
+    let undone: [Made; 4] = [(2, 1, 5, 0), (8, 1, 6, 3), (2, 1, 7, 0), (8, 1, 8, 1)];
+    assert!(rt; finds(alloc, 1000, &[&notes, &undone], (&[(1, 9)], None, None))?);
+    Ok(())
+}
+
+// Changes that are open where none may be: at the end of a take-off, and at a mark, a commit and an end, also of a transaction
+// that had begun before the log. Each is told by the place of its frame.
+#[test]
+fn open_changes_left(rt: HostRuntime) -> Result<(), Fail> {
+    let alloc = rt.alloc();
+    let rows: [&[Made]; 9] = [
+        &[(1, 1, 0, 0), (2, 1, 1, 0), (7, 1, 2, 1)],
+        &[
+            (1, 1, 0, 0),
+            (2, 1, 1, 0),
+            (2, 1, 2, 0),
+            (6, 1, 3, 2),
+            (7, 1, 4, 1),
+        ],
+        &[(2, 0, 0, 0), (7, 0, 1, 0)],
+        &[(2, 0, 0, 0), (2, 0, 1, 0), (6, 0, 2, 1), (7, 0, 3, 0)],
+        &[(2, BEFORE, BEFORE, 0), (9, BEFORE, 1, 0)],
+        &[(2, BEFORE, BEFORE, 0), (10, BEFORE, 1, 0)],
+        &[(2, BEFORE, BEFORE, 0), (11, BEFORE, 1, 0)],
+        &[
+            (2, BEFORE, BEFORE, 0),
+            (2, BEFORE, 1, 0),
+            (6, BEFORE, 2, 1),
+            (10, BEFORE, 3, 0),
+        ],
+        &[
+            (5, BEFORE, BEFORE, BEFORE),
+            (2, BEFORE, 1, 0),
+            (11, BEFORE, 2, 0),
+        ],
+    ];
+    for log in rows {
+        assert_eq!(rt; damaged_at(alloc, 1000, &[log])?, Some(log.len()));
+    }
+    let formed: [&[Made]; 3] = [
+        &[
+            (2, BEFORE, BEFORE, 0),
+            (6, BEFORE, 1, BEFORE),
+            (10, BEFORE, 2, 0),
+        ],
+        &[
+            (2, BEFORE, BEFORE, 0),
+            (7, BEFORE, 1, BEFORE),
+            (9, BEFORE, 2, 0),
+        ],
+        &[
+            (2, BEFORE, BEFORE, 0),
+            (8, BEFORE, 1, BEFORE),
+            (11, BEFORE, 2, 0),
+        ],
+    ];
+    for log in formed {
+        assert!(rt; finds(alloc, 1000, &[log], (&[], None, None))?);
+    }
+    Ok(())
+}
+
+// Records of transactions that don't go on: behind a commit but an end that names it, behind an end, and behind another of a
+// transaction that had begun before the log but one that names it. Each is told by the place of its frame.
+#[test]
+fn of_transactions_that_are_over(rt: HostRuntime) -> Result<(), Fail> {
+    let alloc = rt.alloc();
+    let rows: [&[Made]; 10] = [
+        &[(1, 1, 0, 0), (10, 1, 1, 0), (11, 1, 1, 0)],
+        &[(1, 1, 0, 0), (10, 1, 1, 0), (10, 1, 2, 0)],
+        &[(1, 1, 0, 0), (10, 1, 1, 0), (11, 1, 2, 0), (11, 1, 3, 0)],
+        &[(1, 1, 0, 0), (11, 1, 1, 0), (11, 1, 2, 0)],
+        &[(12, 0, 0, 1), (2, BEFORE, 1, 0)],
+        &[(2, BEFORE, BEFORE, 0), (2, BEFORE, BEFORE, 0)],
+        &[(10, BEFORE, BEFORE, 0), (2, BEFORE, 1, 0)],
+        &[(10, BEFORE, BEFORE, 0), (11, BEFORE, BEFORE, 0)],
+        &[(11, BEFORE, BEFORE, 0), (11, BEFORE, 1, 0)],
+        &[(11, BEFORE, BEFORE, 0), (10, BEFORE, 1, 0)],
+    ];
+    for log in rows {
+        assert_eq!(rt; damaged_at(alloc, 1000, &[log])?, Some(log.len()));
+    }
+    let ended: [Made; 2] = [(10, BEFORE, BEFORE, 0), (11, BEFORE, 1, 0)];
+    assert!(rt; finds(alloc, 1000, &[&ended], (&[], None, None))?);
+    Ok(())
+}
+
+// A second action without an end is told at the frame in which it began, whatever follows, and so is one of a transaction that
+// doesn't go on; actions that ended beside each other are none.
 #[test]
 fn two_open_actions(rt: HostRuntime) -> Result<(), Fail> {
     let alloc = rt.alloc();
@@ -380,8 +553,24 @@ fn two_open_actions(rt: HostRuntime) -> Result<(), Fail> {
     assert_eq!(rt; damaged_at(alloc, 0, &[&front])?, Some(4));
     assert_eq!(rt; damaged_at(alloc, 0, &[&front, &[(9, 1, 1, 0)]])?, Some(5));
     assert_eq!(rt;
-        damaged_at(alloc, 0, &[&front, &[(2, 0, 0, 0), (5, 1, 3, 1)]])?,
-        Some(6)
+        damaged_at(alloc, 0, &[&front, &[(2, 1, 3, 0), (12, 0, 0, 1)]])?,
+        Some(4)
+    );
+    assert_eq!(rt;
+        damaged_at(
+            alloc,
+            0,
+            &[&front, &[(2, 0, 0, 0), (5, 1, 3, 1), (12, 0, 0, 1)]]
+        )?,
+        Some(5)
+    );
+    assert_eq!(rt;
+        damaged_at(
+            alloc,
+            1000,
+            &[&[(12, 0, 0, 1), (2, BEFORE, BEFORE, 0), (12, 0, 0, 1)]]
+        )?,
+        Some(2)
     );
     assert!(rt;
         finds(

@@ -11,7 +11,9 @@ const CALLS: u64 = 7;
 // Words of runs, one behind another with a comma between.
 const RUNS: &str = "run d --stop-after 7,\
     run d --stop-after 00000000000000000007,\
-    run d --stop-after 18446744073709551615";
+    run d --stop-after 18446744073709551615,\
+    run --stop-after 7 d,\
+    run --stop-after=7 d";
 
 // And words that are none.
 const NO_RUNS: &str = "run d --stop-after 18446744073709551616,\
@@ -21,7 +23,7 @@ const NO_RUNS: &str = "run d --stop-after 18446744073709551616,\
     run d --stop-after -1,\
     run d --stop-after 6 6,\
     run d --stop 6,\
-    run --stop-after 6 d,\
+    run --stop-after 6,\
     --stop-after 6 run d";
 
 // Whether the script goes so with these words: how it ends, how many calls the disk answers, and whether there is a reply.
@@ -61,7 +63,7 @@ fn words_with_a_stop(rt: HostRuntime) {
     let alloc = rt.alloc();
     let runs = all_go(alloc, RUNS, Status::Done, CALLS, true);
     let no_runs = all_go(alloc, NO_RUNS, Status::Usage, 0, false);
-    assert_eq!(rt; [runs, no_runs], [Some(3), Some(9)]);
+    assert_eq!(rt; [runs, no_runs], [Some(5), Some(9)]);
 }
 
 // What is answered where the disk makes so many calls.

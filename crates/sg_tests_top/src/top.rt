@@ -140,9 +140,33 @@ fn are_no_command(alloc: Global, words: &str) -> bool {
 
 #[test]
 fn other_words_are_no_command(rt: HostRuntime) {
-    for words in "run,runs store,run store more,store run".split(',') {
+    for words in "run,runs store,run store more,store run,init store,gen 7 0,gen 7,help".split(
+        ',',
+    ) {
         assert!(rt; are_no_command(rt.alloc(), words));
     }
+}
+
+// How a workload of seed 0 with two lines that are drawn ends: these as another program drew them, and the commit of who is live.
+const DRAWN: &[u8] = b"\ns commit\nt2 begin\nt2 paint b 19462 1436 2 x:4d\nt2 commit\n";
+
+// Whether a workload is written, and nothing is asked of the disk: six lines and 64 pushes come first.
+fn workload_goes(alloc: Global) -> bool {
+    match run_in_pieces(alloc, "gen 0 2", MemDisk::new(alloc), b"t begin", 8) {
+        Some(left) => {
+            left.status == Status::Done
+                && left.disk.call_count() == 0
+                && left.replies().starts_with(b"s begin\ns make array a 8\n")
+                && left.replies().ends_with(DRAWN)
+                && left.replies().split(|byte| *byte == b'\n').count() == 74
+        }
+        None => false,
+    }
+}
+
+#[test]
+fn a_workload_is_written(rt: HostRuntime) {
+    assert!(rt; workload_goes(rt.alloc()));
 }
 
 // What a run leaves whose source comes in pieces of so many bytes, where a call of the source or of the sink fails.

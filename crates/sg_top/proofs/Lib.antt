@@ -11,3 +11,4 @@ pub mod OneLines
 pub mod Endings
 pub mod AllDone
 pub mod Rooms
+pub mod Wanting

@@ -6,6 +6,7 @@ pub mod Buffers
 pub mod Feeding
 pub mod Ending
 pub mod Words
+pub mod Drawing
 pub mod Top
 pub mod Done
 pub mod Statuses

@@ -4,7 +4,7 @@
 //!
 //! It stands on `sg_journal`, which keeps up to 64 live transactions over `sg_line_log` and `sg_disk`, on
 //! `sg_run`, which says what a line of a run of transactions is answered, on `sg_words`, which reads and
-//! writes their text, and on `sg_ops` and `sg_model`, which say what an operation does to the objects. It
+//! writes their text, on `sg_command` and `sg_workload`, which read the words and draw a workload, and on `sg_ops` and `sg_model`, which say what an operation does to the objects. It
 //! promises that each reply follows from the lines so far, that committed transactions got the replies
 //! that they get one whole transaction after another, that each fault which is answered was there, and
 //! that at every moment each image a crash could leave stands for the objects after the first
@@ -19,11 +19,9 @@ mod script;
 mod session;
 mod status;
 mod top;
-mod words;
 
 pub use law::done_tells_all;
 pub use session::Session;
 pub use sg_journal::{OpenRefused, Unopened};
 pub use status::Status;
 pub use top::{Finish, stasis};
-pub use words::{Command, command_of, is_run};

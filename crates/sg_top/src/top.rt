@@ -1,18 +1,20 @@
-ghost use Rattle.std.specs.Prelude.{◌≡◌, ◌≤◌, true, false, IsTrue};
+ghost use Rattle.std.specs.Prelude.{◌≡◌, ◌≤◌, ◌⊎◌, true, false, IsTrue, IfSome};
 ghost use Rattle.sg_disk.specs.Disk.{refusing, Spent};
 ghost use Rattle.sg_ops.specs.Table.{table_of};
-ghost use Rattle.sg_top.specs.Words.{are_run, stop_after};
+ghost use Rattle.sg_top.specs.Words.{are_run, are_served, drawn, stop_after};
+ghost use Rattle.sg_top.specs.Drawing.{Draws, sunk};
 ghost use Rattle.sg_top.specs.Top.{outside, HasGone, Account};
 
 use crate::room::piece_room;
 use crate::script::run_script;
 use crate::session::Session;
 use crate::status::{Status, first_fault, status_of_end, status_of_refusal};
-use crate::words::command_of;
 use sg_base::{Sink, Source};
+use sg_command::{Command, WordsError, read_command};
 use sg_disk::{Disk, Fuse, Origin};
 use sg_journal::Unopened;
 use sg_ops::Ops;
+use sg_workload::write_workload;
 use std::alloc::Global;
 use std::marker::Brand;
 
@@ -80,12 +82,34 @@ fn run_behind_fuse<D: Disk, S: Source, K: Sink, O: Origin>(
     finished(status, fuse)
 }
 
+// Writes a workload, and says how that ended.
+fn draw_workload<K: Sink>(seed: u64, count: u32, out: &mut K) -> Status
+    ensures draws { Draws result (record { seed = seed; count = count }) (sunk (K.taken out.old) (K.faults out.old)) (sunk (K.taken out.new) (K.faults out.new)) }
+{
+    match write_workload(seed, count, out) {
+        Ok(()) => Status::Done,
+        Err(_) => Status::Write,
+    }
+}
+
+// The end of a command that made no call of the disk.
+fn ended_beside<D: Disk>(status: Status, disk: D) -> Finish<D>
+    ensures { (result.status ≡ status) × (result.disk ≡ disk) × (result.refused ≡ 0) }
+{
+    Finish {
+        status,
+        disk,
+        refused: 0,
+    }
+}
+
 /// Does what the words say, with the script that the source gives, over the disk: `run` and a folder,
 /// which names the disk, runs the script with these operations, up to 64 of whose transactions are live
 /// at a time. The replies go to the sink. With `--stop-after` and a number
-/// behind these the disk makes so many more calls at most: each later one fails, and doesn't touch
-/// it. Other words are `Status::Usage`, and touch nothing. A run ends with its first fault, but for
-/// one of the disk: behind that each line is still answered.
+/// beside these the disk makes so many more calls at most: each later one fails, and doesn't touch
+/// it. `gen`, a seed and a count write a workload to the sink, and make no call of the disk or the source.
+/// Other words are `Status::Usage`, and touch nothing; words take memory to be read. A run ends with its
+/// first fault, but for one of the disk: behind that each line is still answered.
 pub fn stasis<D: Disk, S: Source, K: Sink>(
     alloc: Global,
     ops: Ops,
@@ -94,13 +118,17 @@ pub fn stasis<D: Disk, S: Source, K: Sink>(
     script: &mut S,
     out: &mut K,
 ) -> Finish<D>
-    ensures usage { result.status ≡ Status.Usage → are_run words.now ≡ false }
-    ensures unused { are_run words.now ≡ false → (result.status ≡ Status.Usage) × (result.disk ≡ disk) × (result.refused ≡ 0) × (script.new ≡ script.old) × (out.new ≡ out.old) }
+    ensures usage { result.status ≡ Status.Usage → are_served words.now ≡ false }
+    ensures unused { are_served words.now ≡ false → ((result.status ≡ Status.Usage) ⊎ (result.status ≡ Status.Memory)) × (out.new ≡ out.old) }
+    ensures apart { are_run words.now ≡ false → (result.disk ≡ disk) × (result.refused ≡ 0) × (script.new ≡ script.old) }
 
     // The headline: one course of the run, its replies, what a crash leaves of it, the cause of its status, and that it is
     // done where nothing hinders it.
     ensures run { are_run words.now ≡ true → Account (table_of record_meaning range_meaning ops) D.told (outside (D.view disk) (S.left script.old) (S.faults script.old) (K.taken out.old) (K.faults out.old))
         (outside (D.view result.disk) (S.left script.new) (S.faults script.new) (K.taken out.new) (K.faults out.new)) result.refused result.status }
+
+    // A workload: what the sink took of it, by its status.
+    ensures drawn { IfSome (drawn words.now) (λ d. Draws result.status d (sunk (K.taken out.old) (K.faults out.old)) (sunk (K.taken out.new) (K.faults out.new))) }
 
     // A fault of the disk, and a call that is refused, give their status.
     ensures heeded { (result.status ≡ Status.Disk → ⊥) → ((D.view result.disk).faults ≡ (D.view disk).faults) × (result.refused ≡ 0) }
@@ -108,12 +136,15 @@ pub fn stasis<D: Disk, S: Source, K: Sink>(
     // The stop: no more calls than it lets pass, and one refused only behind exactly so many.
     ensures spent { Spent (stop_after words.now) (D.view disk).calls (D.view result.disk).calls result.refused }
 {
-    let Some(command) = command_of(words) else {
-        return Finish {
-            status: Status::Usage,
-            disk,
-            refused: 0,
-        };
-    };
-    run_behind_fuse::<D, S, K, Brand>(alloc, &ops, disk, command.stop_after, script, out)
+    match read_command(alloc, words) {
+        Ok(Command::Run { stop_after }) => {
+            run_behind_fuse::<D, S, K, Brand>(alloc, &ops, disk, stop_after, script, out)
+        }
+        Ok(Command::Gen { seed, count }) => {
+            let status = draw_workload(seed, count, out);
+            ended_beside(status, disk)
+        }
+        Ok(_) | Err(WordsError::Usage) => ended_beside(Status::Usage, disk),
+        Err(WordsError::Memory) => ended_beside(Status::Memory, disk),
+    }
 }

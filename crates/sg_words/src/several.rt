@@ -99,8 +99,9 @@ fn add_printed<K: Sink>(
     }
 }
 
-// Adds a word as it is printed, behind a space.
-fn add_word<K: Sink>(
+/// Adds a word as it is printed, behind a space, to the first `end` bytes of a buffer, which wait to be
+/// written, and gives how many wait then. Where they have no room, those that wait are written first.
+pub fn add_word<K: Sink>(
     waiting: &mut [u8],
     end: usize,
     word: &[u8],
@@ -115,8 +116,8 @@ fn add_word<K: Sink>(
     }
 }
 
-// Writes what waits with an LF behind it.
-fn finish<K: Sink>(waiting: &mut [u8], end: usize, out: &mut K) -> Result<(), Failed>
+/// Writes the first `end` bytes of a buffer, which wait to be written, with an LF behind them.
+pub fn finish<K: Sink>(waiting: &mut [u8], end: usize, out: &mut K) -> Result<(), Failed>
     requires { end ≤ length waiting.old }
     ensures { Writes (K.taken out.old) (take end waiting.old ++ codes "\n") (K.taken out.new) (K.faults out.old) (K.faults out.new) result }
 {

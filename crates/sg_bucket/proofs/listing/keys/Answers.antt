@@ -1,4 +1,6 @@
-use Rattle.std.proofs.Common.{◌∙◌, refl, arith}
+use Rattle.std.proofs.Common.{◌≡◌, ◌∙◌, refl, arith, rules}
+use Rattle.sg_space.specs.declared.space.ListFault.TheVariants.{Memory}
+use Rattle.sg_space.proofs.Known.{reads_then}
 use Rattle.std.proofs.lemmas.Option.{slice_get_within}
 use Rattle.sg_bucket.proofs.Fuel.{few_pages}
 use Rattle.sg_bucket.proofs.Listed.{listed_none, listed_on, listed_all, next_listed}
@@ -49,3 +51,8 @@ broken-requires g c = λ told.
     let end = c.loop-passed-test.false in
     let count = c.pages-passed-end.ensures in
     absurd (omega arith)
+
+pub returns-in_err-next-clause-memory : goal.returns-in_err-next-clause-memory
+returns-in_err-next-clause-memory g c =
+    let kept = λ (e : c.in_err-next.field-0.0 ≡ Memory). reads_then (c.loop-passed.invariant.so_far).0.1.kept (c.in_err-next.ensures.memory e) in
+    search (rules, kept)

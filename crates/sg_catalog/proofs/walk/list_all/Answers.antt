@@ -1,4 +1,6 @@
-use Rattle.std.proofs.Common.{◌∙◌, arith}
+use Rattle.std.proofs.Common.{◌≡◌, ◌∙◌, arith, rules}
+use Rattle.sg_space.specs.declared.space.ListFault.TheVariants.{Memory}
+use Rattle.sg_space.proofs.Known.{reads_then}
 use Rattle.sg_catalog.proofs.Parts.{still_raw}
 use Rattle.sg_catalog.proofs.Walks.{next_owned, names_more, walks_on}
 use Rattle.sg_catalog.proofs.walk.list_all.Goals as goal
@@ -31,3 +33,8 @@ returns-in_err-head-clause-later g c = λ t. g.met.P.PageSpace.later_then t _ _ 
 
 pub returns-then-ne-clause-later : goal.returns-then-ne-clause-later
 returns-then-ne-clause-later g c = λ t. g.met.P.PageSpace.later_then t _ _ _ (c.pages.invariant.later t) (c.broken-then-ne.ensures.later t)
+
+pub returns-in_err-head-clause-memory : goal.returns-in_err-head-clause-memory
+returns-in_err-head-clause-memory g c =
+    let kept = λ (e : c.in_err-head.field-0.0 ≡ Memory). reads_then c.pages.invariant.walk.kept (c.in_err-head.ensures.memory e) in
+    search (rules, kept)

@@ -1,6 +1,6 @@
-use Rattle.std.proofs.Common.{inl, arith}
+use Rattle.std.proofs.Common.{inl, refl, arith}
 use Rattle.sg_record.specs.Shown.{shown}
-use Rattle.sg_phys_laws.proofs.Numbers.{place_late, placed_below, near}
+use Rattle.sg_phys_laws.proofs.Numbers.{place_late, placed_below, grown_kept, near}
 use Rattle.sg_phys_laws.proofs.Paging.{on_ok, each_ok, number_ok}
 use Rattle.sg_phys_laws.proofs.Wrapped.{plain_may, plain_logged}
 use Rattle.sg_phys_laws.proofs.logging.log_plain.Goals as goal
@@ -27,3 +27,6 @@ returns-clause-runs g c own given o ds ps told a = record {
   moments = inl (λ k early. c.append.ensures.moments o ds ps k told a.phys.engine early);
   allowed = each_ok _ _ c.append.result (λ k early. c.append.ensures.allowed o ds ps k told a.phys.engine early);
 }
+
+pub returns-clause-grown : goal.returns-clause-grown
+returns-clause-grown g c = on_ok c.append.result c.append.ensures.tail (λ end. grown_kept c.args.engine.now.log c.args.engine.now.log c.append.new.self.log (shown c.args.r.now) (inl refl) c.requires.range end)

@@ -1,7 +1,7 @@
-use Rattle.std.proofs.Common.{◌<◌, inl, arith}
+use Rattle.std.proofs.Common.{◌<◌, inl, refl, arith}
 use Rattle.sg_record.specs.Shown.{shown}
 use Rattle.sg_pool.specs.Pooled.{sizes}
-use Rattle.sg_phys_laws.proofs.Numbers.{place_late, placed_below, near}
+use Rattle.sg_phys_laws.proofs.Numbers.{place_late, placed_below, grown_kept, near}
 use Rattle.sg_phys_laws.proofs.Paging.{on_ok, number_ok}
 use Rattle.sg_phys_laws.proofs.Poised.{none_stood}
 use Rattle.sg_phys_laws.proofs.Wrapped.{bytes_may, bytes_logged, bytes_run}
@@ -41,3 +41,6 @@ returns-clause-runs g c own o ds ps told a =
     bytes_run own o (g.D.Disk.view c.args.engine.now.disk) (g.D.Disk.view c.change_band.new.self.disk) c.args.engine.now.log c.change_band.new.self.log ds ps c.args.engine.now.pool c.change_band.new.self.pool (shown c.args.r.now) c.place.result c.args.b.0 c.args.at c.args.bytes.now c.change_band.result a c.requires.fits c.place.ensures
     (λ k early. c.change_band.ensures.moments o ds ps k told a.phys.engine early may)
     (λ k early. c.change_band.ensures.allowed o ds ps k told a.phys.engine early)
+
+pub returns-clause-grown : goal.returns-clause-grown
+returns-clause-grown g c = on_ok c.change_band.result c.change_band.ensures.tail (λ end. grown_kept c.args.engine.now.log c.args.engine.now.log c.change_band.new.self.log (shown c.args.r.now) (inl refl) c.requires.range end)

@@ -6,7 +6,7 @@ use Rattle.sg_log.specs.Frames.{Numbered}
 use Rattle.sg_phys_laws.specs.States.{homes_of}
 use Rattle.sg_pool.specs.Pooled.{sizes}
 use Rattle.sg_pool.specs.Units.{Geometry}
-use Rattle.sg_phys_laws.proofs.Numbers.{place_late, placed_above, placed_below, near_kept}
+use Rattle.sg_phys_laws.proofs.Numbers.{place_late, placed_above, placed_below, grown_kept, near_kept}
 use Rattle.sg_phys_laws.proofs.Paging.{may_go, gone_further, page_run, on_ok, number_ok}
 use Rattle.sg_phys_laws.proofs.Poised.{none_stood}
 use Rattle.sg_phys_laws.proofs.logging.log_to_page.Goals as goal
@@ -67,3 +67,6 @@ returns-clause-below g c = on_ok c.change_page.result c.change_page.ensures.tail
 
 pub returns-clause-near : goal.returns-clause-near
 returns-clause-near g c e = near_kept c.args.engine.now.log c.load_page.new.self.log (shown c.args.r.now) c.in-Ok.ensures.log_kept c.requires.range (c.change_page.ensures.log_end e)
+
+pub returns-clause-grown : goal.returns-clause-grown
+returns-clause-grown g c = on_ok c.change_page.result c.change_page.ensures.tail (λ end. grown_kept c.args.engine.now.log c.load_page.new.self.log c.change_page.new.self.log (shown c.args.r.now) c.in-Ok.ensures.log_kept c.requires.range end)

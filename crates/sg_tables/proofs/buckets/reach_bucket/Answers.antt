@@ -4,6 +4,7 @@ use Rattle.sg_space.proofs.Known.{still, before, reads_then}
 use Rattle.sg_space.specs.Units.{HasAt}
 use Rattle.sg_space.specs.View.{Space}
 use Rattle.sg_reach.proofs.Faults.{broken_by, broken_so}
+use Rattle.sg_reach.proofs.Placing.{set_kept, reached_by, reached_among}
 use Rattle.sg_array.specs.Array.{Array, IsArray}
 use Rattle.sg_bucket.specs.Bucket.{Bucket, entries_of}
 use Rattle.sg_bucket.specs.Entry.{AreOnce}
@@ -74,3 +75,22 @@ returns-clause-later g c = λ t. g.met.P.PageSpace.later_then t _ _ _ (c.get.ens
 
 pub returns-clause-means : goal.returns-clause-means
 returns-clause-means g c = λ t m. c.check_once.ensures.means t (c.reach_chain.ensures.means t (c.get.ensures.means t m))
+
+-- the page that is said to be broken
+pub returns-clause-stays : goal.returns-clause-stays
+returns-clause-stays g c = λ shows. set_kept (c.in_ok-chain.ensures.reached (c.in_ok-get.ensures.kept.shows shows)).set
+
+pub returns-in_err-chain-clause-place : goal.returns-in_err-chain-clause-place
+returns-in_err-chain-clause-place g c =
+    let p = err_from_is_err_and c.from_residual-in_err-chain.result c.from_residual-in_err-chain.ensures.1 in
+    rw (p.1, p.2) (reached_by _ c.in_err-chain.field-0.0 (λ given. (c.in_ok-get.ensures.kept.shows given.0, given.1)) c.in_err-chain.ensures.place)
+
+pub returns-in_err-check_once-clause-place : goal.returns-in_err-check_once-clause-place
+returns-in_err-check_once-clause-place g c =
+    let one = c.in_ok-get.ensures.kept in
+    let p = err_from_is_err_and c.from_residual-in_err-check_once.result c.from_residual-in_err-check_once.ensures.1 in
+    rw (p.1, p.2) (reached_among _ (λ given. ((c.in_ok-chain.ensures.reached (one.shows given.0)).bucket).pages) c.in_err-check_once.field-0.0
+    (λ given. (c.in_ok-chain.ensures.reached (one.shows given.0)).set.set)
+    (λ given.
+    let r = c.in_ok-chain.ensures.reached (one.shows given.0) in
+    c.in_err-check_once.ensures.place (c.in_ok-chain.ensures.kept.shows (one.shows given.0)) r.bucket (still (λ (s : Space). IsChain s.pages.at c.read_u32.result c.in_ok-chain.chain.pages r.bucket) c.in_ok-chain.ensures.kept (one.shows given.0) (record { linked = r.linked; many = r.pages }))))

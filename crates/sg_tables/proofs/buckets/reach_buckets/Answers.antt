@@ -4,6 +4,7 @@ use Rattle.sg_space.proofs.Known.{still, before, reads_then}
 use Rattle.sg_space.specs.Units.{HasAt}
 use Rattle.sg_space.specs.View.{Space}
 use Rattle.sg_reach.proofs.Faults.{broken_by, broken_so}
+use Rattle.sg_reach.proofs.Placing.{reached_by}
 use Rattle.sg_array.specs.Array.{Array, IsArray}
 use Rattle.sg_tables.specs.Reached.{CanReachBucket, ReachesBucket}
 use Rattle.sg_tables.proofs.Gathering.{buckets_on, bucket_may}
@@ -44,7 +45,15 @@ loop-i-preserved g c =
       most = c.loop-i.invariant.most;
       later = λ t. g.met.P.PageSpace.later_then t _ _ _ (c.loop-i.invariant.later t) (c.reach_bucket.ensures.later t);
       means = λ t m. c.reach_bucket.ensures.means t (c.loop-i.invariant.means t m);
+      quiet = c.in_ok-chain.ensures.counts.quiet ∙ c.loop-i.invariant.quiet;
+      stays = λ shows n e. c.in_ok-chain.ensures.stays (i.kept.shows shows) n (c.loop-i.invariant.stays shows n e);
+      records = c.reach_bucket.ensures.writes.records ∙ c.loop-i.invariant.records;
     }
 
 pub returns-in_err-chain-clause-later : goal.returns-in_err-chain-clause-later
 returns-in_err-chain-clause-later g c = λ t. g.met.P.PageSpace.later_then t _ _ _ (c.loop-i.invariant.later t) (c.reach_bucket.ensures.later t)
+
+pub returns-in_err-chain-clause-place : goal.returns-in_err-chain-clause-place
+returns-in_err-chain-clause-place g c =
+    let p = err_from_is_err_and c.from_residual.result c.from_residual.ensures.1 in
+    rw (p.1, p.2) (reached_by _ c.in_err-chain.field-0.0 (λ given. (c.loop-i.invariant.so_far.kept.shows given.0, c.loop-i.invariant.stays given.0 _ given.1)) c.in_err-chain.ensures.place)

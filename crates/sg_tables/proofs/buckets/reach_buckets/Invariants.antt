@@ -1,6 +1,7 @@
 use Rattle.std.proofs.Common.{◌≡◌, ℕ, ◌+◌, ◌*◌, ◌<◌, ◌≤◌, ◌^◌}
 use Rattle.sg_alloc.specs.Flags.{free_of}
 use Rattle.sg_ops.specs.Table.{Table}
+use Rattle.sg_reach.specs.Marks.{AreKept}
 use Rattle.sg_tables.proofs.Gathering.{BucketsTo}
 use Rattle.sg_tables.proofs.buckets.reach_buckets.Given as goal
 
@@ -13,4 +14,7 @@ invariant-loop-i g l = record {
   most : free_of l.fn.into.pages < 2 ^ 32;
   later : (t : Table) → g.P.PageSpace.later t l.fn.space l.space;
   means : (t : Table) → g.P.PageSpace.means l.fn.space t → g.P.PageSpace.means l.space t;
+  quiet : (g.P.PageSpace.view l.space).faults ≡ (g.P.PageSpace.view l.fn.space).faults;
+  stays : (g.P.PageSpace.view l.fn.space).Shows → AreKept l.fn.into.pages l.into.pages;
+  records : (g.P.PageSpace.view l.space).records ≡ (g.P.PageSpace.view l.fn.space).records;
 }

@@ -9,6 +9,7 @@ use Rattle.sg_linear.specs.Extent.{buckets_of, shape_of}
 use Rattle.sg_space.specs.Reads.{HasCell}
 use Rattle.sg_reach.specs.Reached.{CanReachArray, ReachesArray, numbers_in}
 use Rattle.sg_reach.proofs.Setting.{head_free}
+use Rattle.sg_reach.proofs.Placing.{set_kept, one_set, reached_at, reached_by}
 use Rattle.sg_reach.proofs.Whole.{in_range, root_said}
 use Rattle.sg_tables.specs.Reached.{CanReachTable, CanReachBuckets, ReachesBuckets}
 use Rattle.sg_tables.proofs.Whole.{known, root_sheet_there, may_array, its_directory, may_buckets, sums_are, reaches}
@@ -133,3 +134,46 @@ returns-clause-means g c = λ t m. c.reach_buckets.ensures.means t (c.read_numbe
 
 pub returns-in_err-names-clause-later : goal.returns-in_err-names-clause-later
 returns-in_err-names-clause-later g c = λ t. g.met.P.PageSpace.later_then t _ _ _ (c.read_trunk.ensures.later t) (g.met.P.PageSpace.later_then t _ _ _ (c.reach_array.ensures.later t) (c.read_numbers.ensures.later t))
+
+-- the page that is said to be broken
+pub returns-in_err-set_page-clause-place : goal.returns-in_err-set_page-clause-place
+returns-in_err-set_page-clause-place g c =
+    let p = err_from_is_err_and c.from_residual.result c.from_residual.ensures.1 in
+    rw (p.1, p.2) (reached_by _ c.in_err-set_page.field-0.0 (λ given. given.1) c.in_err-set_page.ensures.place)
+
+pub returns-in_err-trunk-clause-place : goal.returns-in_err-trunk-clause-place
+returns-in_err-trunk-clause-place g c =
+    let p = err_from_is_err_and c.from_residual-in_err-trunk.result c.from_residual-in_err-trunk.ensures.1 in
+    rw (p.1, p.2) (reached_at _ c.args.root.0 c.in_err-trunk.field-0.0 (λ given. one_set c.in_ok-set_page.ensures.set) c.in_err-trunk.ensures.names)
+
+pub returns-in_err-reach_array-clause-place : goal.returns-in_err-reach_array-clause-place
+returns-in_err-reach_array-clause-place g c =
+    let p = err_from_is_err_and c.from_residual-in_err-reach_array.result c.from_residual-in_err-reach_array.ensures.1 in
+    rw (p.1, p.2) (reached_by _ c.in_err-reach_array.field-0.0 (λ given. (c.in_ok-trunk.ensures.kept.shows given.0, one_set c.in_ok-set_page.ensures.set)) c.in_err-reach_array.ensures.place)
+
+pub returns-in_err-names-clause-place : goal.returns-in_err-names-clause-place
+returns-in_err-names-clause-place g c =
+    let p = err_from_is_err_and c.from_residual-in_err-names.result c.from_residual-in_err-names.ensures.1 in
+    rw (p.1, p.2) (reached_at _ c.in_ok-trunk.trunk.directory.0 c.in_err-names.field-0.0 (λ given. (c.in_ok-reach_array.ensures.reached (c.in_ok-trunk.ensures.kept.shows given.0)).set.set c.in_ok-trunk.trunk.directory.0 (0, refl)) c.in_err-names.ensures.names)
+
+pub returns-then-not-is_directory-clause-place : goal.returns-then-not-is_directory-clause-place
+returns-then-not-is_directory-clause-place g c = λ given. (c.in_ok-reach_array.ensures.reached (c.in_ok-trunk.ensures.kept.shows given.0)).set.set c.in_ok-trunk.trunk.directory.0 (0, refl)
+
+pub returns-in_err-sums-clause-place : goal.returns-in_err-sums-clause-place
+returns-in_err-sums-clause-place g c =
+    let one = c.in_ok-trunk.ensures.kept in
+    let three = reads_then (reads_then one c.in_ok-reach_array.ensures.kept) c.in_ok-names.ensures.kept in
+    let p = err_from_is_err_and c.from_residual-in_err-sums.result c.from_residual-in_err-sums.ensures.1 in
+    rw (p.1, p.2) (reached_by _ c.in_err-sums.field-0.0 (λ given. (three.shows given.0, (c.in_ok-reach_array.ensures.reached (one.shows given.0)).set.set c.in_ok-trunk.trunk.directory.0 (0, refl))) c.in_err-sums.ensures.place)
+
+pub returns-then-sums-many-clause-place : goal.returns-then-sums-many-clause-place
+returns-then-sums-many-clause-place g c = λ given.
+    let one = c.in_ok-trunk.ensures.kept in
+    let three = reads_then (reads_then one c.in_ok-reach_array.ensures.kept) c.in_ok-names.ensures.kept in
+    c.in_ok-sums.ensures.stays (three.shows given.0) c.args.root.0 (set_kept (c.in_ok-reach_array.ensures.reached (one.shows given.0)).set c.args.root.0 (one_set c.in_ok-set_page.ensures.set))
+
+pub returns-then-sums-trunk-clause-place : goal.returns-then-sums-trunk-clause-place
+returns-then-sums-trunk-clause-place g c = λ given.
+    let one = c.in_ok-trunk.ensures.kept in
+    let three = reads_then (reads_then one c.in_ok-reach_array.ensures.kept) c.in_ok-names.ensures.kept in
+    c.in_ok-sums.ensures.stays (three.shows given.0) c.args.root.0 (set_kept (c.in_ok-reach_array.ensures.reached (one.shows given.0)).set c.args.root.0 (one_set c.in_ok-set_page.ensures.set))
