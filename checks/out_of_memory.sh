@@ -56,17 +56,18 @@ judge() {
     echo "out of memory, $name (request $request): $verdict"
 }
 
-# The first is a request for the words, the second that for the folder's path, the third one of the opening, and the last
-# one that for the array.
-for request in 2 13 16 25; do
+# The first two are requests for the words and for reading them, the third that for the folder's path, the fourth one of the opening,
+# and the last one that for the array.
+for request in 2 60 115 118 127; do
     run_refusing "$request" &
 done
 wait
 
 judge "at the words" 2 3 "stasis: out of memory" "" none
-judge "at the folder's path" 13 4 "stasis: disk fault" "" none
-judge "in the opening" 16 3 "stasis: out of memory" "" none
-judge "in the line that makes the array" 25 0 "" "ok
+judge "at the reading of the words" 60 3 "stasis: out of memory" "" none
+judge "at the folder's path" 115 4 "stasis: disk fault" "" none
+judge "in the opening" 118 3 "stasis: out of memory" "" none
+judge "in the line that makes the array" 127 0 "" "ok
 error memory
 error no-object
 error no-object
