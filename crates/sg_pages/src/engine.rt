@@ -77,7 +77,7 @@ impl<D: Disk> Engine for Phys<D> {
         }
         match log_without(&mut self.engine, self.alloc, r, &mut self.tried) {
             Ok(lsn) => {
-                self.end = self.engine.tail();
+                self.end = self.engine.tail().max(1);
                 self.records += 1;
                 Ok(lsn)
             }
@@ -102,7 +102,7 @@ impl<D: Disk> Engine for Phys<D> {
         }
         match log_record(&mut self.engine, ops, r, &mut self.tried) {
             Ok(lsn) => {
-                self.end = self.engine.tail();
+                self.end = self.engine.tail().max(1);
                 self.records += 1;
                 Ok(lsn)
             }
@@ -121,7 +121,7 @@ impl<D: Disk> Engine for Phys<D> {
         }
         match self.engine.force() {
             Ok(()) => {
-                self.end = self.engine.tail();
+                self.end = self.engine.tail().max(1);
                 Ok(())
             }
             Err(_) => {
@@ -139,7 +139,7 @@ impl<D: Disk> Engine for Phys<D> {
         }
         match self.engine.flush() {
             Ok(()) => {
-                self.end = self.engine.tail();
+                self.end = self.engine.tail().max(1);
                 Ok(())
             }
             Err(_) => {
@@ -181,7 +181,7 @@ impl<D: Disk> Engine for Phys<D> {
             self.breaks = self.breaks.saturating_add(1);
             return Err(SpaceFault::Disk);
         }
-        self.end = self.engine.tail();
+        self.end = self.engine.tail().max(1);
         Ok(())
     }
 
@@ -201,7 +201,7 @@ impl<D: Disk> Engine for Phys<D> {
         }
         match self.engine.load_band(b) {
             Ok(()) => {
-                self.end = self.engine.tail();
+                self.end = self.engine.tail().max(1);
                 Ok(())
             }
             Err(_) => {
@@ -223,7 +223,7 @@ impl<D: Disk> Engine for Phys<D> {
         }
         match self.engine.read(at, into) {
             Ok(size) => {
-                self.end = self.engine.tail();
+                self.end = self.engine.tail().max(1);
                 Ok(size)
             }
             Err(_) => {
