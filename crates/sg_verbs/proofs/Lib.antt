@@ -9,3 +9,4 @@ pub mod Listed
 pub mod Needed
 pub mod Doing
 pub mod Freed
+pub mod PutBack
