@@ -9,3 +9,4 @@ pub mod Doing
 pub mod Ready
 pub mod Freed
 pub mod Backed
+pub mod PutBack
