@@ -1,4 +1,5 @@
 pub mod Places
+pub mod Still
 pub mod Held
 pub mod Moving
 pub mod Story
@@ -8,5 +9,7 @@ pub mod Asked
 pub mod Listed
 pub mod Needed
 pub mod Doing
+pub mod Ready
 pub mod Freed
+pub mod Backed
 pub mod PutBack
