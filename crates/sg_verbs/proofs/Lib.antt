@@ -1,8 +1,11 @@
 pub mod Places
+pub mod Still
 pub mod Held
 pub mod Moving
 pub mod Story
 pub mod Looking
 pub mod Asked
 pub mod Doing
+pub mod Ready
+pub mod Done
 pub mod Freed

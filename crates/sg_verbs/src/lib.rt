@@ -8,7 +8,9 @@
 mod freeing;
 mod looks;
 mod needing;
+mod performing;
 
 pub use freeing::free_next;
 pub use looks::{touches, touches_keys};
 pub use needing::needs;
+pub use performing::perform;

@@ -2,7 +2,7 @@
 ghost use Rattle.std.specs.Prelude.{◌≡◌, IfErr};
 ghost use Rattle.sg_ops.specs.Table.{table_of};
 ghost use Rattle.sg_model.specs.SaidOps.{said_op};
-ghost use Rattle.sg_store.specs.Engine.{KeepsBy, AsMeantBy, AskedBy, IsEngine, Rests, Counts, IsObjDisk, IsReadFault};
+ghost use Rattle.sg_store.specs.Engine.{KeepsBy, AsMeantBy, AskedBy, IsEngine, Rests, Counts, IsObjDisk, IsReadFault, IsRefusedQuietly};
 ghost use Rattle.sg_store.specs.Verbs.{Reads, CanLook, HasNeeds};
 ghost use Rattle.sg_shown.specs.Shown.{shown};
 
@@ -15,6 +15,7 @@ use sg_store::{Needed, ObjFault};
 pub fn needs<E: Engine>(acts: &mut Acts<E>, ops: &Ops, op: &Op<'_>) -> Result<Needed, ObjFault>
     requires can { AskedBy (table_of record_meaning range_meaning ops.now) (shown acts.old) (CanLook (table_of record_meaning range_meaning ops.now)) }
     ensures counts { Counts IsObjDisk (shown acts.old) (shown acts.new) result }
+    ensures refused { IfErr result (IsRefusedQuietly (shown acts.old) (shown acts.new)) }
     ensures means { KeepsBy (table_of record_meaning range_meaning ops.now) (shown acts.old) (shown acts.new) }
     ensures tail { (shown acts.new).tail ≡ (shown acts.old).tail }
     ensures needs { let t = table_of record_meaning range_meaning ops.now in
