@@ -6,3 +6,4 @@ pub mod Looking
 pub mod Asked
 pub mod Doing
 pub mod Freed
+pub mod PutBack
