@@ -30,9 +30,9 @@ from_before : {v m w : View} {own : ℕ → Type 0} → OnlyReads v m → Writes
 from_before k x = record { wrote = λ b h. first_by (k.wrote b) (x.wrote b h) }
 
 -- what was free before the call was free before those that only read
-taken_before : {v m : View} {P : Type 0} (n : ℕ) → m.space ≡ v.space → P ⊎ (m.space.bands.at n ≡ None) → P ⊎ (v.space.bands.at n ≡ None)
-taken_before n same (inl p) = inl p
-taken_before n same (inr free) = inr (ap (λ (x : Space). x.bands.at n) (sym same) ∙ free)
+taken_before : (x y : Space) {P : Type 0} (n : ℕ) → y ≡ x → P ⊎ (y.bands.at n ≡ None) → P ⊎ (x.bands.at n ≡ None)
+taken_before x y n same (inl p) = inl p
+taken_before x y n same (inr free) = inr (ap (λ (z : Space). z.bands.at n) (sym same) ∙ free)
 
 -- A BLOB'S BYTES were written on its own bands, and those that it took were free
 pub wrote_body : {v m w : View} {s : Contents} {name : List ℕ} {x : BlobAt} (b : Blob) → OnlyReads v m → v.Shows → (f : IsBlobAt name s x) → Turns m.space w.space x.root.0 f.blob b → WritesIn (OwnsBand b.bands) m w → WritesBody name s v w
@@ -41,7 +41,7 @@ wrote_body {v} {m} {w} {s} {name} {x} b k shows f turns wrote other is =
       blob = b;
       stands = turns.blob;
       writes = from_before k wrote;
-      taken = λ n o. taken_before n (k.same shows) (subst (λ (y : Body). standing.OwnsBand y n ⊎ (m.space.bands.at n ≡ None)) (sym f.body_is) (turns.bands.taken n o));
+      taken = λ n o. taken_before v.space m.space n (k.same shows) (subst (λ (y : Body). standing.OwnsBand y n ⊎ (m.space.bands.at n ≡ None)) (sym f.body_is) (turns.bands.taken n o));
     })
 
 -- A VERB THAT IS ON NO BLOB'S BYTES

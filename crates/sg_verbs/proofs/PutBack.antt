@@ -1,10 +1,9 @@
 -- WHAT A VERB FOUND IN BANDS puts back what there was: what its note owes to undoing it.
-use Rattle.std.proofs.Common.{◌≡◌, ℕ, zero, suc, ◌+◌, ◌<◌, ◌≤◌, Bool, true, false, not, List, [], ◌∷◌, ◌++◌, length, slice_get, Option, Some, None, option_map, Ok, ◌⊎◌, inl, inr, refl, sym, ap, ◌∙◌, subst, arith}
+use Rattle.std.proofs.Common.{◌≡◌, ℕ, zero, suc, ◌+◌, ◌<◌, ◌≤◌, Bool, true, false, not, List, [], ◌∷◌, ◌++◌, length, slice_get, Option, Some, None, option_map, Ok, inl, inr, refl, sym, ap, ◌∙◌, subst, arith}
 use Rattle.std.specs.Prelude.{◌==◌, nat_le, map, is_ok, if◌then◌else◌}
 use Rattle.std.specs.FinMap.{get}
 use Rattle.std.proofs.lemmas.Bool.{cases_Bool, eq-eqb, or_left, or_right}
-use Rattle.sg_alloc.specs.Flags.{free_of, map_bands_of}
-use Rattle.sg_base.specs.Sheet.{Sheet}
+use Rattle.sg_alloc.specs.Flags.{map_bands_of}
 use Rattle.sg_base.specs.declared.numbers.TxnId.{TxnId}
 use Rattle.sg_ops.specs.Table.{Table}
 use Rattle.sg_blob.specs.Blob.{Blob, IsBlob, OwnsBand}
@@ -21,22 +20,20 @@ use Rattle.sg_record.specs.Changes.{Change as Changing}
 use Rattle.sg_recovery.specs.Laws.{Each}
 use Rattle.sg_recovery.specs.Log.{Open, tally, changes_of, open_of}
 use Rattle.sg_recovery.proofs.TakeOff.{all_own}
-use Rattle.sg_action.specs.Opened.{IsOpened}
 use Rattle.sg_action.specs.States.{State, Kept, Change as Changed, made}
 use Rattle.sg_action.specs.States.Change.{Page as OnPage, Write as OnBand, Paint as PaintOn}
 use Rattle.sg_actions.specs.Changes.{meaning}
 use Rattle.sg_actions.specs.Later.{KeepsBands, Went, HasGone, at_kept, at_bands, kept_at, begin_at}
 use Rattle.sg_actions.specs.Painting.{AreBandsWhole}
-use Rattle.sg_actions.specs.Steps.{Steps, repeated, begin_of, opened}
+use Rattle.sg_actions.specs.Steps.{repeated, opened}
 use Rattle.sg_actions.specs.Taken.{AreFlags, is_set, takes_band, writes_band}
-use Rattle.sg_actions.specs.View.{HasFreedNone, Since}
+use Rattle.sg_actions.specs.View.{HasFreedNone}
 use Rattle.sg_actions.proofs.Beginning.{idle_opened}
 use Rattle.sg_actions.proofs.Flags.{and_left, and_both, at_there, get_set, there_is}
 use Rattle.sg_actions.proofs.Repeating.{made_opened}
 use Rattle.sg_actions.proofs.TakenOff.{changes_are}
 use Rattle.sg_actions.proofs.Taking.{none_freed}
-use Rattle.sg_before.specs.Befores.{befores, found_in, AreFilled, AreWholeBands, AreOn, IsOneOf, IsTakenBy}
-use Rattle.sg_before.specs.Held.{HadBands, TookBands}
+use Rattle.sg_before.specs.Befores.{befores, found_in, AreWholeBands, AreOn, IsOneOf, IsTakenBy}
 use Rattle.sg_reading.specs.Back.{Before}
 use Rattle.sg_reading.specs.Did.{grown as left_grown}
 use Rattle.sg_reading.specs.Left.{IsLeft, done_by}
@@ -75,8 +72,8 @@ same_some x y e = cc
 -- LISTS of bands
 
 behind : (xs ys : List ℕ) (j : ℕ) → slice_get (xs ++ ys) (length xs + j) ≡ slice_get ys j
-behind [] ys j = refl
-behind (x ∷ xs) ys j = behind xs ys j
+behind [] ys j = ap (slice_get ys) (let e : 0 + j ≡ j = omega arith in e)
+behind (x ∷ xs) ys j = ap (slice_get (x ∷ (xs ++ ys))) (let e : suc (length xs) + j ≡ suc (length xs + j) = omega arith in e) ∙ behind xs ys j
 
 in_front : (xs ys : List ℕ) (i n : ℕ) → slice_get xs i ≡ Some n → slice_get (xs ++ ys) i ≡ Some n
 in_front [] ys i n e = absurd (cc)
@@ -233,7 +230,10 @@ module _ (recovers : Recovering) (a b : Over) (t : Table) (z : Sizes) (from : St
       cc
 
   -- WHAT ITS RECORDS FOUND is what its changes found
-  found_is : found_by map_end (changes_of (open_of act.transaction (tally b.engine.steps).opened)) ≡ befores map_end ds
+  abbrev found : List Before
+  found = found_by map_end (changes_of (open_of act.transaction (tally b.engine.steps).opened))
+
+  found_is : found ≡ befores map_end ds
   found_is =
       let txn : b.actor.txn.0 ≡ act.transaction = ap (λ (u : TxnId). u.0) gone.txn ∙ sym (ap (λ (y : Action (basis recovers z)). y.transaction) (act_is recovers t z from a act k.kept.chain.closed acting)) in
       let own : open_of act.transaction (tally b.engine.steps).opened ≡ (tally b.engine.steps).opened =
@@ -287,9 +287,6 @@ module _ (recovers : Recovering) (a b : Over) (t : Table) (z : Sizes) (from : St
 
   -- A VERB ON A BLOB'S BYTES
   module _ (name : List ℕ) (verb : Verb) (s s' : Contents) (h : IsContents (space_in a) s) (h' : IsContents (space_in b) s') (left : IsLeft t act.transaction name verb (reading s) (reading s')) where
-    abbrev found : List Before
-    found = found_by map_end (changes_of (open_of act.transaction (tally b.engine.steps).opened))
-
     on_bytes : (change : List ℕ → Outcome × List ℕ) → ((o : Option Object) → on t verb o ≡ on_blob change o) → WritesBody name s (view_in a) (view_in b) → {x : BlobAt} (f : IsBlobAt name s x)
         → (b' : Blob) × (b'.bytes ≡ (change f.blob.bytes).1) × PutsBack (f.blob.bands ++ left.bands) found b'.bytes f.blob.bytes
     on_bytes change is wrote {x} f =
@@ -312,14 +309,14 @@ module _ (recovers : Recovering) (a b : Over) (t : Table) (z : Sizes) (from : St
       → PutsBackOf t verb left.bands (found_by (map_bands_of z.pages z.bands) (changes_of (open_of act.transaction (tally b.engine.steps).opened)))
           (get (reading s).things name)
   verb_puts_back name (Write at bytes) reply Can s s' h can h' wrote left =
-      where_blob (space_in a) s name (PutsBackOf t (Write at bytes) left.bands (found name (Write at bytes) s s' h h' left)) h tt (λ row v. tt) (λ es v. tt)
-      (λ x f. let p = on_bytes name (Write at bytes) s s' h h' left (write at bytes) (λ o. refl) (wrote.bands told s h can) f in write_puts_back t f left.bands (found name (Write at bytes) s s' h h' left) p.0 p.2 at bytes p.1)
+      where_blob (space_in a) s name (PutsBackOf t (Write at bytes) left.bands found) h tt (λ row v. tt) (λ es v. tt)
+      (λ x f. let p = on_bytes name (Write at bytes) s s' h h' left (write at bytes) (λ o. refl) (wrote.bands told s h can) f in write_puts_back t f left.bands found p.0 p.2 at bytes p.1)
   verb_puts_back name (Size n) reply Can s s' h can h' wrote left =
-      where_blob (space_in a) s name (PutsBackOf t (Size n) left.bands (found name (Size n) s s' h h' left)) h tt (λ row v. tt) (λ es v. tt)
-      (λ x f. let p = on_bytes name (Size n) s s' h h' left (resize n) (λ o. refl) (wrote.bands told s h can) f in size_puts_back t f left.bands (found name (Size n) s s' h h' left) p.0 p.2 n p.1)
+      where_blob (space_in a) s name (PutsBackOf t (Size n) left.bands found) h tt (λ row v. tt) (λ es v. tt)
+      (λ x f. let p = on_bytes name (Size n) s s' h h' left (resize n) (λ o. refl) (wrote.bands told s h can) f in size_puts_back t f left.bands found p.0 p.2 n p.1)
   verb_puts_back name (Paint at count code arg) reply Can s s' h can h' wrote left =
-      where_blob (space_in a) s name (PutsBackOf t (Paint at count code arg) left.bands (found name (Paint at count code arg) s s' h h' left)) h tt (λ row v. tt) (λ es v. tt)
-      (λ x f. let p = on_bytes name (Paint at count code arg) s s' h h' left (paint t at count code arg) (λ o. refl) (wrote.bands told s h can) f in paint_puts_back t f left.bands (found name (Paint at count code arg) s s' h h' left) p.0 p.2 at count code arg p.1)
+      where_blob (space_in a) s name (PutsBackOf t (Paint at count code arg) left.bands found) h tt (λ row v. tt) (λ es v. tt)
+      (λ x f. let p = on_bytes name (Paint at count code arg) s s' h h' left (paint t at count code arg) (λ o. refl) (wrote.bands told s h can) f in paint_puts_back t f left.bands found p.0 p.2 at count code arg p.1)
   verb_puts_back name (MakeArray size) reply Can s s' h can h' wrote left = tt
   verb_puts_back name MakeTable reply Can s s' h can h' wrote left = tt
   verb_puts_back name MakeBlob reply Can s s' h can h' wrote left = tt
