@@ -1,6 +1,6 @@
 -- WHAT A VERB FOUND IN BANDS puts back what there was: what its note owes to undoing it.
 use Rattle.std.proofs.Common.{◌≡◌, ℕ, zero, suc, ◌+◌, ◌<◌, ◌≤◌, Bool, true, false, not, List, [], ◌∷◌, ◌++◌, length, slice_get, Option, Some, None, option_map, Ok, inl, inr, refl, sym, ap, ◌∙◌, subst, arith}
-use Rattle.std.specs.Prelude.{◌==◌, nat_le, map, is_ok, if◌then◌else◌}
+use Rattle.std.specs.Prelude.{◌==◌, ◌||◌, nat_le, map, is_ok, if◌then◌else◌}
 use Rattle.std.specs.FinMap.{get}
 use Rattle.std.proofs.lemmas.Bool.{cases_Bool, eq-eqb, or_left, or_right}
 use Rattle.sg_alloc.specs.Flags.{map_bands_of}
@@ -25,7 +25,7 @@ use Rattle.sg_action.specs.States.Change.{Page as OnPage, Write as OnBand, Paint
 use Rattle.sg_actions.specs.Changes.{meaning}
 use Rattle.sg_actions.specs.Later.{KeepsBands, Went, HasGone, at_kept, at_bands, kept_at, begin_at}
 use Rattle.sg_actions.specs.Painting.{AreBandsWhole}
-use Rattle.sg_actions.specs.Steps.{repeated, opened}
+use Rattle.sg_actions.specs.Steps.{repeated, logged, opened}
 use Rattle.sg_actions.specs.Taken.{AreFlags, is_set, takes_band, writes_band}
 use Rattle.sg_actions.specs.View.{HasFreedNone}
 use Rattle.sg_actions.proofs.Beginning.{idle_opened}
@@ -35,7 +35,7 @@ use Rattle.sg_actions.proofs.TakenOff.{changes_are}
 use Rattle.sg_actions.proofs.Taking.{none_freed}
 use Rattle.sg_before.specs.Befores.{befores, found_in, AreWholeBands, AreOn, IsOneOf, IsTakenBy}
 use Rattle.sg_reading.specs.Back.{Before}
-use Rattle.sg_reading.specs.Did.{grown as left_grown}
+use Rattle.sg_reading.specs.Did.{Did, grown as left_grown}
 use Rattle.sg_reading.specs.Left.{IsLeft, done_by}
 use Rattle.sg_reading.specs.Noted.{PutsBack, PutsBackOf}
 use Rattle.sg_reading.specs.Reading.{Thing, Around, plain}
@@ -93,25 +93,33 @@ on_found bs map b at bytes cs one rest = go (nat_le map b)
     go true = (one, rest)
     go false = rest
 
+module _ (bs : List ℕ) (b : ℕ) (ds : List Changed) (h : (n : ℕ) → ((n == b) || writes_band ds n) ≡ true → IsOneOf bs n) where
+  one_on : IsOneOf bs b
+  one_on = h b (or_left (b == b) (writes_band ds b) (eq-eqb b b refl))
+
+  rest_on : (n : ℕ) → writes_band ds n ≡ true → IsOneOf bs n
+  rest_on n e = h n (or_right (n == b) (writes_band ds n) e)
+
 all_on : (bs : List ℕ) (map : ℕ) (ds : List Changed) → ((n : ℕ) → writes_band ds n ≡ true → IsOneOf bs n) → AreOn bs (befores map ds)
 all_on bs map [] h = tt
 all_on bs map (OnPage n op back ∷ ds) h = all_on bs map ds h
-all_on bs map (OnBand b at before after ∷ ds) h =
-    on_found bs map b at before (befores map ds) (h b (or_left (b == b) (writes_band ds b) (eq-eqb b b refl))) (all_on bs map ds (λ n e. h n (or_right (n == b) (writes_band ds n) e)))
+all_on bs map (OnBand b at before after ∷ ds) h = on_found bs map b at before (befores map ds) (one_on bs b ds h) (all_on bs map ds (rest_on bs b ds h))
 all_on bs map (PaintOn b at count code position arg before ∷ ds) h =
-    on_found bs map b at before (befores map ds) (h b (or_left (b == b) (writes_band ds b) (eq-eqb b b refl))) (all_on bs map ds (λ n e. h n (or_right (n == b) (writes_band ds n) e)))
+    on_found bs map b at before (befores map ds) (one_on bs b ds h) (all_on bs map ds (rest_on bs b ds h))
 
 -- and an action that has changed nothing keeps its bands
 none_kept : (t : Table) (kept : Kept) (bands : List Bool) → KeepsBands t kept [] bands
 none_kept t kept bands = record { filled = tt; whole = λ b e. absurd (no e); used = λ b e. absurd (no e); written = λ b e. absurd (no e) }
 
-bands_on : (recovers : Recovering) (a b : Over) (t : Table) (z : Sizes) (from : State) → Means a t z from → at_kept t (a.limits z.pages z.bands) (at_in from a) → LaterOn recovers t a b → a.engine.Told → b.engine.failed ≡ false → opened a.engine.steps ≡ []
-    → at_bands t (a.limits z.pages z.bands) (at_in from b)
+bands_on : (recovers : Recovering) (a b : Over) (t : Table) (z : Sizes) (from : State) → Means a t z from → at_kept t (a.limits z.pages z.bands) (at_in from a)
+    → LaterOn recovers t a b → a.engine.Told → b.engine.failed ≡ false → opened a.engine.steps ≡ [] → at_bands t (a.limits z.pages z.bands) (at_in from b)
 bands_on recovers a b t z from m kept l told whole none =
-    let lim : a.limits (length a.maps.pages) (length a.maps.bands) ≡ a.limits z.pages z.bands = λ i. a.limits (m.pages i) (m.bands i) in
-    let still : at_bands t (a.limits (length a.maps.pages) (length a.maps.bands)) (at_in from a) =
-    subst (λ (ds : List Changed). KeepsBands t (kept_at t (a.limits (length a.maps.pages) (length a.maps.bands)) (at_in from a)) ds a.maps.bands) (sym none) (none_kept t (kept_at t (a.limits (length a.maps.pages) (length a.maps.bands)) (at_in from a)) a.maps.bands) in
-    subst (λ (q : State → ℕ → ℕ). at_bands t q (at_in from b)) lim (l.holds refl from m.since told (subst (λ (q : State → ℕ → ℕ). at_kept t q (at_in from a)) (sym lim) kept) whole still)
+    let own : State → ℕ → ℕ = a.limits (length a.maps.pages) (length a.maps.bands) in
+    let same : own ≡ a.limits z.pages z.bands = λ i. a.limits (m.pages i) (m.bands i) in
+    let kept' : at_kept t own (at_in from a) = subst (λ (q : State → ℕ → ℕ). at_kept t q (at_in from a)) (sym same) kept in
+    let was : Kept = kept_at t own (at_in from a) in
+    let still : at_bands t own (at_in from a) = subst (λ (ds : List Changed). KeepsBands t was ds a.maps.bands) (sym none) (none_kept t was a.maps.bands) in
+    subst (λ (q : State → ℕ → ℕ). at_bands t q (at_in from b)) same (l.holds refl from m.since told kept' whole still)
 
 -- THE BLOB UNDER A NAME, where the reading has one there
 abbrev is_blob : Thing → Bool
@@ -122,7 +130,8 @@ is_blob (There (AsBlob xs) w) = true
 abbrev root_in : Thing → ℕ
 root_in (There o w) = w.root
 
-under_row : (space : Space) (s : Contents) (name : List ℕ) (row : Row) (bytes : List ℕ) (w : Around) → there name (rows s.catalog) ≡ Some row → (kind : ObjectKind) → row.kind ≡ kind → (body : Body) → s.body row.root.0 ≡ body → IsBody space kind row.root.0 body
+under_row : (space : Space) (s : Contents) (name : List ℕ) (row : Row) (bytes : List ℕ) (w : Around) → there name (rows s.catalog) ≡ Some row
+    → (kind : ObjectKind) → row.kind ≡ kind → (body : Body) → s.body row.root.0 ≡ body → IsBody space kind row.root.0 body
     → thing_of row.root.0 body ≡ There (AsBlob bytes) w → (x : BlobAt) × IsBlobAt name s x × (x.root.0 ≡ w.root)
 under_row space s name row bytes w found kinds.Blob is (ABlob b) same h e = (
   record { root = row.root; len = length b.bytes },
@@ -134,15 +143,20 @@ under_row space s name row bytes w found kinds.Table is (ABlob b) same h e = abs
 under_row space s name row bytes w found kind is (AnArray a) same h e = absurd (no (ap is_blob e))
 under_row space s name row bytes w found kind is (ATable a) same h e = absurd (no (ap is_blob e))
 
-blob_named : (space : Space) (s : Contents) (name : List ℕ) {bytes : List ℕ} {w : Around} → IsContents space s → get (reading s).things name ≡ Some (There (AsBlob bytes) w) → (x : BlobAt) × IsBlobAt name s x × (x.root.0 ≡ w.root)
+blob_named : (space : Space) (s : Contents) (name : List ℕ) {bytes : List ℕ} {w : Around} → IsContents space s
+    → get (reading s).things name ≡ Some (There (AsBlob bytes) w) → (x : BlobAt) × IsBlobAt name s x × (x.root.0 ≡ w.root)
 blob_named space s name {bytes} {w} h e = go (there name (rows s.catalog)) refl (sym (get_thing s name) ∙ e)
   where
-    go : (o : Option Row) → there name (rows s.catalog) ≡ o → option_map (thing_at s.body) o ≡ Some (There (AsBlob bytes) w) → (x : BlobAt) × IsBlobAt name s x × (x.root.0 ≡ w.root)
+    go : (o : Option Row) → there name (rows s.catalog) ≡ o → option_map (thing_at s.body) o ≡ Some (There (AsBlob bytes) w)
+        → (x : BlobAt) × IsBlobAt name s x × (x.root.0 ≡ w.root)
     go None found is = absurd (cc)
-    go (Some row) found is = under_row space s name row bytes w found row.kind refl (s.body row.root.0) refl (h.body row (found_among (is_there name) (rows s.catalog) row found)) (same_some (thing_at s.body row) (There (AsBlob bytes) w) is)
+    go (Some row) found is =
+        let stands = h.body row (found_among (is_there name) (rows s.catalog) row found) in
+        under_row space s name row bytes w found row.kind refl (s.body row.root.0) refl stands (same_some (thing_at s.body row) (There (AsBlob bytes) w) is)
 
 -- what is said of a thing that is a blob is to be shown where it is one
-where_blob : (space : Space) (s : Contents) (name : List ℕ) (P : Option Thing → Type 0) → IsContents space s → P None → ((row : ArrayRow) (w : Around) → P (Some (There (AsArray row) w))) → ((m : Entries) (w : Around) → P (Some (There (AsTable m) w)))
+where_blob : (space : Space) (s : Contents) (name : List ℕ) (P : Option Thing → Type 0) → IsContents space s → P None
+    → ((row : ArrayRow) (w : Around) → P (Some (There (AsArray row) w))) → ((m : Entries) (w : Around) → P (Some (There (AsTable m) w)))
     → ((x : BlobAt) → IsBlobAt name s x → P (get (reading s).things name)) → P (get (reading s).things name)
 where_blob space s name P h none array table blob = go (get (reading s).things name) refl
   where
@@ -153,18 +167,23 @@ where_blob space s name P h none array table blob = go (get (reading s).things n
     go (Some (There (AsBlob xs) w)) e = let n = blob_named space s name h e in blob n.0 n.1
 
 -- ITS BANDS are taken, and behind the map's
-set_in : (c : Over) (root : ℕ) (x : Blob) → IsBlob (space_in c).pages.at (space_in c).bands.at root x → (j n : ℕ) → slice_get x.bands j ≡ Some n → is_set c.maps.bands n ≡ true
+set_in : (c : Over) (root : ℕ) (x : Blob) → IsBlob (space_in c).pages.at (space_in c).bands.at root x
+    → (j n : ℕ) → slice_get x.bands j ≡ Some n → is_set c.maps.bands n ≡ true
 set_in c root x h j n e = let p = h.raw.part j n e in (there_is c.maps.bands c.unfreed.bands (λ i. Some (c.engine.now.bands i)) n p.what p.is).taken_is
 
-above_map : (c : Over) (z : Sizes) (s : Contents) {name : List ℕ} {x : BlobAt} → length c.maps.pages ≡ z.pages → length c.maps.bands ≡ z.bands → IsContents (space_in c) s → (f : IsBlobAt name s x) → (j n : ℕ) → slice_get f.blob.bands j ≡ Some n → map_bands_of z.pages z.bands ≤ n
+above_map : (c : Over) (z : Sizes) (s : Contents) {name : List ℕ} {x : BlobAt} → length c.maps.pages ≡ z.pages → length c.maps.bands ≡ z.bands
+    → IsContents (space_in c) s → (f : IsBlobAt name s x) → (j n : ℕ) → slice_get f.blob.bands j ≡ Some n → map_bands_of z.pages z.bands ≤ n
 above_map c z s pages bands h f j n e =
     let same : map_bands_of (length c.maps.pages) (length c.maps.bands) ≡ map_bands_of z.pages z.bands = λ i. map_bands_of (pages i) (bands i) in
-    subst (λ (k : ℕ). k ≤ n) same
-    (h.behind_map f.at.row (at_among f.at) n (subst (λ (r : ℕ). standing.OwnsBand (s.body r) n) (sym f.at.root_is) (subst (λ (y : Body). standing.OwnsBand y n) (sym f.body_is) (j, e))))
+    let there = subst (λ (y : Body). standing.OwnsBand y n) (sym f.body_is) (j, e) in
+    let own = subst (λ (r : ℕ). standing.OwnsBand (s.body r) n) (sym f.at.root_is) there in
+    subst (λ (k : ℕ). k ≤ n) same (h.behind_map f.at.row (at_among f.at) n own)
 
 -- a space has at each number what the engine holds there
 shows_now : (c : Over) (x : State) → x ≡ c.engine.now → ShowsBands (space_in c) x
-shows_now c x is n bytes e = ap (λ (y : State). y.bands n) is ∙ same_some (c.engine.now.bands n) bytes (there_is c.maps.bands c.unfreed.bands (λ i. Some (c.engine.now.bands i)) n bytes e).is
+shows_now c x is n bytes e =
+    let has = there_is c.maps.bands c.unfreed.bands (λ i. Some (c.engine.now.bands i)) n bytes e in
+    ap (λ (y : State). y.bands n) is ∙ same_some (c.engine.now.bands n) bytes has.is
 
 -- FROM ONE MOMENT TO A LATER ONE, by calls of an action that had changed nothing and freed nothing
 module _ (recovers : Recovering) (a b : Over) (t : Table) (z : Sizes) (from : State) (m : Means a t z from) (l : LaterOn recovers t a b)
@@ -172,7 +191,6 @@ module _ (recovers : Recovering) (a b : Over) (t : Table) (z : Sizes) (from : St
     (now : a.engine.now ≡ repeated t from a.engine.steps) (now' : b.engine.now ≡ repeated t from b.engine.steps) (wide : AreBandsWhole a.engine.now)
     (idle : (tally a.engine.steps).opened ≡ []) (fresh : HasFreedNone a.unfreed) (flags : AreFlags a.maps.bands a.unfreed.bands)
     (act : Action (basis recovers z)) (acting : (seen recovers t z from a).action ≡ Some act) where
-
   k : Keeping a t z from
   k = m.keeps told
 
@@ -226,7 +244,8 @@ module _ (recovers : Recovering) (a b : Over) (t : Table) (z : Sizes) (from : St
   not_there n free set =
       let long : n < length a.unfreed.bands = subst (λ (k : ℕ). n < k) (sym flags.long) (below a.maps.bands n true (get_set a.maps.bands n set)) in
       let both = and_both (is_set a.maps.bands n) (is_set a.unfreed.bands n) set (none_freed a.unfreed.bands n fresh.bands long) in
-      let is : ◌≡◌ {A = Option (List ℕ)} None (Some (a.engine.now.bands n)) = sym free ∙ at_there a.maps.bands a.unfreed.bands (λ j. Some (a.engine.now.bands j)) n both in
+      let there = at_there a.maps.bands a.unfreed.bands (λ j. Some (a.engine.now.bands j)) n both in
+      let is : ◌≡◌ {A = Option (List ℕ)} None (Some (a.engine.now.bands n)) = sym free ∙ there in
       cc
 
   -- WHAT ITS RECORDS FOUND is what its changes found
@@ -235,14 +254,19 @@ module _ (recovers : Recovering) (a b : Over) (t : Table) (z : Sizes) (from : St
 
   found_is : found ≡ befores map_end ds
   found_is =
-      let txn : b.actor.txn.0 ≡ act.transaction = ap (λ (u : TxnId). u.0) gone.txn ∙ sym (ap (λ (y : Action (basis recovers z)). y.transaction) (act_is recovers t z from a act k.kept.chain.closed acting)) in
-      let own : open_of act.transaction (tally b.engine.steps).opened ≡ (tally b.engine.steps).opened =
-      all_own act.transaction (tally b.engine.steps).opened (subst (λ (u : ℕ). Each (λ (d : Open Changing). d.transaction ≡ u) (tally b.engine.steps).opened) txn gone.kept.chain.running.owned) in
-      ap (λ (cs : List Changing). befores map_end (map meaning cs)) (ap (λ (os : List (Open Changing)). changes_of os) own ∙ changes_are b.engine.steps gone.kept.chain.closed)
+      let all = (tally b.engine.steps).opened in
+      let is = ap (λ (y : Action (basis recovers z)). y.transaction) (act_is recovers t z from a act k.kept.chain.closed acting) in
+      let txn : b.actor.txn.0 ≡ act.transaction = ap (λ (u : TxnId). u.0) gone.txn ∙ sym is in
+      let owned : Each (λ (d : Open Changing). d.transaction ≡ act.transaction) all =
+      subst (λ (u : ℕ). Each (λ (d : Open Changing). d.transaction ≡ u) all) txn gone.kept.chain.running.owned in
+      let own : open_of act.transaction all ≡ all = all_own act.transaction all owned in
+      let are : changes_of all ≡ logged b.engine.steps = changes_are b.engine.steps gone.kept.chain.closed in
+      ap (λ (cs : List Changing). befores map_end (map meaning cs)) (ap (λ (os : List (Open Changing)). changes_of os) own ∙ are)
 
   -- A BLOB that stands at both moments, and on whose bands alone bytes were written
-  module _ {s s' : Contents} {name : List ℕ} {x x' : BlobAt} (f : IsBlobAt name s x) (f' : IsBlobAt name s' x') (same : x'.root.0 ≡ x.root.0) (h : IsContents (space_in a) s) (h' : IsContents (space_in b) s')
-      (o : WroteBody x.root.0 s (view_in a) (view_in b)) (more : List ℕ) (grown : f'.blob.bands ≡ f.blob.bands ++ more) where
+  module _ {s s' : Contents} {name : List ℕ} {x x' : BlobAt} (f : IsBlobAt name s x) (f' : IsBlobAt name s' x') (same : x'.root.0 ≡ x.root.0)
+      (h : IsContents (space_in a) s) (h' : IsContents (space_in b) s') (o : WroteBody x.root.0 s (view_in a) (view_in b))
+      (more : List ℕ) (grown : f'.blob.bands ≡ f.blob.bands ++ more) where
     stood : IsBlob (space_in a).pages.at (space_in a).bands.at x.root.0 f.blob
     stood = blob_at h f
 
@@ -258,7 +282,8 @@ module _ (recovers : Recovering) (a b : Over) (t : Table) (z : Sizes) (from : St
     -- a band that it took was free
     not_had : (j n : ℕ) → slice_get more j ≡ Some n → (i : ℕ) → slice_get f.blob.bands i ≡ Some n → ⊥
     not_had j n e i had =
-        let apart : i ≡ length f.blob.bands + j = stands.raw.apart i (length f.blob.bands + j) n (ap (λ (bs : List ℕ). slice_get bs i) grown ∙ in_front f.blob.bands more i n had) (named j n e) in
+        let had' : slice_get f'.blob.bands i ≡ Some n = ap (λ (bs : List ℕ). slice_get bs i) grown ∙ in_front f.blob.bands more i n had in
+        let apart : i ≡ length f.blob.bands + j = stands.raw.apart i (length f.blob.bands + j) n had' (named j n e) in
         let less = below f.blob.bands i n had in
         omega (arith, apart, less)
 
@@ -276,8 +301,8 @@ module _ (recovers : Recovering) (a b : Over) (t : Table) (z : Sizes) (from : St
 
     blob_back : PutsBack (f.blob.bands ++ more) (befores map_end ds) f'.blob.bytes f.blob.bytes
     blob_back =
-        blob_puts_back (space_in a) (space_in b) t kept map_end ds begin f.blob f'.blob more (subst AreWholeBands (sym begin_is) wide) gone.kept.well.opens bands.filled
-        (shows_now a begin begin_is) (shows_now b (made t begin ds) end_is) stood stands grown
+        blob_puts_back (space_in a) (space_in b) t kept map_end ds begin f.blob f'.blob more (subst AreWholeBands (sym begin_is) wide)
+        gone.kept.well.opens bands.filled (shows_now a begin begin_is) (shows_now b (made t begin ds) end_is) stood stands grown
         (record { had = λ j n e. kept_was n (set_in a x.root.0 f.blob stood j n e); behind = λ j n e. above_map a z s m.pages m.bands h f j n e })
         (record {
           taken = λ j n e. taken_by n (set_in b x.root.0 f'.blob stands (length f.blob.bands + j) n (named j n e)) (was_free j n e);
@@ -286,37 +311,54 @@ module _ (recovers : Recovering) (a b : Over) (t : Table) (z : Sizes) (from : St
         (all_on (f.blob.bands ++ more) map_end ds on_its_bands)
 
   -- A VERB ON A BLOB'S BYTES
-  module _ (name : List ℕ) (verb : Verb) (s s' : Contents) (h : IsContents (space_in a) s) (h' : IsContents (space_in b) s') (left : IsLeft t act.transaction name verb (reading s) (reading s')) where
-    on_bytes : (change : List ℕ → Outcome × List ℕ) → ((o : Option Object) → on t verb o ≡ on_blob change o) → WritesBody name s (view_in a) (view_in b) → {x : BlobAt} (f : IsBlobAt name s x)
+  module _ (name : List ℕ) (verb : Verb) (s s' : Contents) (h : IsContents (space_in a) s) (h' : IsContents (space_in b) s')
+      (left : IsLeft t act.transaction name verb (reading s) (reading s'))
+      (change : List ℕ → Outcome × List ℕ) (is : (o : Option Object) → on t verb o ≡ on_blob change o) (wrote : WritesBody name s (view_in a) (view_in b)) where
+    abbrev did : Did
+    did = done_by (reading s) act.transaction name verb left.root left.bands
+
+    abbrev left_of : Option Thing → Outcomes → Option Thing
+    left_of th q = left_grown did verb (is_ok q.0) th q.1
+
+    -- a blob stands there then, which has the bytes that the model says
+    on_bytes : {x : BlobAt} (f : IsBlobAt name s x)
         → (b' : Blob) × (b'.bytes ≡ (change f.blob.bytes).1) × PutsBack (f.blob.bands ++ left.bands) found b'.bytes f.blob.bytes
-    on_bytes change is wrote {x} f =
-        let did = done_by (reading s) act.transaction name verb left.root left.bands in
+    on_bytes {x} f =
         let under = blob_under f in
-        let n = blob_named (space_in b) s' name h' (left.leaves.thing ∙ (ap (λ (th : Option Thing). (let q : Outcomes = on t verb (plain th) in left_grown did verb (is_ok q.0) th q.1)) under
-        ∙ ap (λ (q : Outcomes). left_grown did verb (is_ok q.0) (Some (thing_of x.root.0 (ABlob f.blob))) q.1) (is (Some (AsBlob f.blob.bytes))))) in
+        let was : Option Thing = Some (thing_of x.root.0 (ABlob f.blob)) in
+        let n = blob_named (space_in b) s' name h'
+        (left.leaves.thing ∙ (ap (λ (th : Option Thing). left_of th (on t verb (plain th))) under ∙ ap (left_of was) (is (Some (AsBlob f.blob.bytes))))) in
         let f' = n.1 in
-        let after : get (reading s').things name ≡ Some (thing_of x.root.0 (ABlob f'.blob)) = subst (λ (r : ℕ). get (reading s').things name ≡ Some (thing_of r (ABlob f'.blob))) n.2 (blob_under f') in
-        let e = left_bytes s s' t act.transaction verb change is under after left in (
-          f'.blob,
-          e.0,
-          subst (λ (cs : List Before). PutsBack (f.blob.bands ++ left.bands) cs f'.blob.bytes f.blob.bytes) (sym found_is) (blob_back f f' n.2 h h' (wrote x.root.0 f.at) left.bands e.1),
-        )
+        let after : get (reading s').things name ≡ Some (thing_of x.root.0 (ABlob f'.blob)) =
+        subst (λ (r : ℕ). get (reading s').things name ≡ Some (thing_of r (ABlob f'.blob))) n.2 (blob_under f') in
+        let e = left_bytes s s' t act.transaction verb change is under after left in
+        let back = blob_back f f' n.2 h h' (wrote x.root.0 f.at) left.bands e.1 in
+        (f'.blob, e.0, subst (λ (cs : List Before). PutsBack (f.blob.bands ++ left.bands) cs f'.blob.bytes f.blob.bytes) (sym found_is) back)
+
+    by_bytes : (P : Option Thing → Type 0) → P None → ((row : ArrayRow) (v : Around) → P (Some (There (AsArray row) v)))
+        → ((es : Entries) (v : Around) → P (Some (There (AsTable es) v)))
+        → ((x : BlobAt) (f : IsBlobAt name s x) (b' : Blob) → PutsBack (f.blob.bands ++ left.bands) found b'.bytes f.blob.bytes
+        → b'.bytes ≡ (change f.blob.bytes).1 → P (get (reading s).things name))
+        → P (get (reading s).things name)
+    by_bytes P none array table blob = where_blob (space_in a) s name P h none array table (λ x f. let p = on_bytes f in blob x f p.0 p.2 p.1)
 
   -- THE BYTES THAT A VERB FOUND put back what there was
   pub verb_puts_back : (name : List ℕ) (verb : Verb) (reply : Reply) (Can : Contents → Type 0) (s s' : Contents)
       → IsContents (space_in a) s → Can s → IsContents (space_in b) s' → Wrote (view_in a) (view_in b) Can name verb (Ok reply)
       → (left : IsLeft t act.transaction name verb (reading s) (reading s'))
       → PutsBackOf t verb left.bands (found_by (map_bands_of z.pages z.bands) (changes_of (open_of act.transaction (tally b.engine.steps).opened)))
-          (get (reading s).things name)
+      (get (reading s).things name)
   verb_puts_back name (Write at bytes) reply Can s s' h can h' wrote left =
-      where_blob (space_in a) s name (PutsBackOf t (Write at bytes) left.bands found) h tt (λ row v. tt) (λ es v. tt)
-      (λ x f. let p = on_bytes name (Write at bytes) s s' h h' left (write at bytes) (λ o. refl) (wrote.bands told s h can) f in write_puts_back t f left.bands found p.0 p.2 at bytes p.1)
+      by_bytes name (Write at bytes) s s' h h' left (write at bytes) (λ o. refl) (wrote.bands told s h can)
+      (PutsBackOf t (Write at bytes) left.bands found) tt (λ row v. tt) (λ es v. tt)
+      (λ x f b' puts is. write_puts_back t f left.bands found b' puts at bytes is)
   verb_puts_back name (Size n) reply Can s s' h can h' wrote left =
-      where_blob (space_in a) s name (PutsBackOf t (Size n) left.bands found) h tt (λ row v. tt) (λ es v. tt)
-      (λ x f. let p = on_bytes name (Size n) s s' h h' left (resize n) (λ o. refl) (wrote.bands told s h can) f in size_puts_back t f left.bands found p.0 p.2 n p.1)
+      by_bytes name (Size n) s s' h h' left (resize n) (λ o. refl) (wrote.bands told s h can)
+      (PutsBackOf t (Size n) left.bands found) tt (λ row v. tt) (λ es v. tt) (λ x f b' puts is. size_puts_back t f left.bands found b' puts n is)
   verb_puts_back name (Paint at count code arg) reply Can s s' h can h' wrote left =
-      where_blob (space_in a) s name (PutsBackOf t (Paint at count code arg) left.bands found) h tt (λ row v. tt) (λ es v. tt)
-      (λ x f. let p = on_bytes name (Paint at count code arg) s s' h h' left (paint t at count code arg) (λ o. refl) (wrote.bands told s h can) f in paint_puts_back t f left.bands found p.0 p.2 at count code arg p.1)
+      by_bytes name (Paint at count code arg) s s' h h' left (paint t at count code arg) (λ o. refl) (wrote.bands told s h can)
+      (PutsBackOf t (Paint at count code arg) left.bands found) tt (λ row v. tt) (λ es v. tt)
+      (λ x f b' puts is. paint_puts_back t f left.bands found b' puts at count code arg is)
   verb_puts_back name (MakeArray size) reply Can s s' h can h' wrote left = tt
   verb_puts_back name MakeTable reply Can s s' h can h' wrote left = tt
   verb_puts_back name MakeBlob reply Can s s' h can h' wrote left = tt
