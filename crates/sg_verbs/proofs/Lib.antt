@@ -9,3 +9,4 @@ pub mod Doing
 pub mod Ready
 pub mod Done
 pub mod Freed
+pub mod PutBack
