@@ -54,11 +54,11 @@ pub done_refused : {T U : Type 0} (recovers : Recovering) (a b : Over) (reason r
 done_refused recovers a b reason reason' q tail = record { told = q.told; tells = tt; tail = tail; later = q.later; quiet = tt; failed = λ h. absurd h }
 
 -- of a call that has reported a break
-pub done_broken : {T U : Type 0} (recovers : Recovering) (a b d e : Over) (r : Result T ObjectsFault) → CountsObject (view_in a) (view_in b) r → a.engine.tail ≤ b.engine.tail → IsStopped b d
-    → e.engine ≡ d.engine → d.breaks ≤ e.breaks → HasRisen d.breaks e.breaks → Counts {T = U} IsObjDisk (shown_of recovers a) (shown_of recovers e) (Err (store.Space faults.Disk))
-done_broken recovers a b d e r q tail s same up risen =
+pub done_broken : {T U : Type 0} (recovers : Recovering) (a b d e : Over) (f : SpaceFault) (r : Result T ObjectsFault) → CountsObject (view_in a) (view_in b) r → a.engine.tail ≤ b.engine.tail → IsStopped b d
+    → e.engine ≡ d.engine → d.breaks ≤ e.breaks → HasRisen d.breaks e.breaks → Counts {T = U} IsObjDisk (shown_of recovers a) (shown_of recovers e) (Err (store.Space f))
+done_broken recovers a b d e f r q tail s same up risen =
     let t = s.tail in
-    let f = s.faults in
+    let n = s.faults in
     let k = q.later in
     let te : e.engine.tail ≡ d.engine.tail = λ i. (same i).tail in
     let fe : e.engine.faults ≡ d.engine.faults = λ i. (same i).faults in
@@ -66,9 +66,9 @@ done_broken recovers a b d e r q tail s same up risen =
       told = λ h. absurd (s.silent (subst (λ (y : Rattle.sg_actions.specs.Engine.EngineSeen). y.Told) same h));
       tells = tt;
       tail = omega (arith, t, te, tail);
-      later = omega (arith, f, fe, k, up);
+      later = omega (arith, n, fe, k, up);
       quiet = tt;
-      failed = λ is few. let more : d.breaks < e.breaks = risen (omega (arith, few)) in omega (arith, f, fe, k, more);
+      failed = λ is few. let more : d.breaks < e.breaks = risen (omega (arith, few)) in omega (arith, n, fe, k, more);
     }
 
 -- where the log ends, of a verb that wrote no more than one can

@@ -78,7 +78,7 @@ pub fresh_there : (recovers : Recovering) (a : Over) (t : Table) (z : Sizes) (fr
     → a.engine.Told → IsFresh (view_in a)
 fresh_there recovers a t z from m now begun idle told =
     let k = m.keeps told in
-    let none = none_open {a} {t} {z} {from} k idle in
+    let none = none_open {a = a} {t = t} {z = z} {from = from} k idle in
     let begins : a.begin ≡ a.engine.now = sym (m.since.since begun told) ∙ (ap (repeated t from) (idle_ended a.engine.steps k.kept.chain.closed idle) ∙ sym (now told)) in
     let lim : a.limits (length a.maps.pages) (length a.maps.bands) ≡ limits (reader z.pages z.bands) = (λ i. a.limits (m.pages i) (m.bands i)) ∙ m.limits in
     record {
