@@ -10,6 +10,7 @@ pub mod Listed
 pub mod Needed
 pub mod Doing
 pub mod Ready
+pub mod Done
 pub mod Freed
 pub mod Backed
 pub mod PutBack
