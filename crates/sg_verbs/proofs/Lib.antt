@@ -1,9 +1,16 @@
 pub mod Places
+pub mod Still
 pub mod Held
 pub mod Moving
 pub mod Story
 pub mod Looking
+pub mod Looked
 pub mod Asked
+pub mod Listed
+pub mod Needed
 pub mod Doing
+pub mod Ready
+pub mod Done
 pub mod Freed
+pub mod Backed
 pub mod PutBack

@@ -6,9 +6,16 @@
 #![tactic(auto)]
 
 mod freeing;
+mod listing;
 mod looks;
 mod needing;
+mod pausing;
+mod performing;
+mod reversing;
 
 pub use freeing::free_next;
+pub use listing::{keys, list};
 pub use looks::{touches, touches_keys};
 pub use needing::needs;
+pub use performing::perform;
+pub use reversing::reverse;
