@@ -1,0 +1,74 @@
+// What an action without an end did is taken off.
+ghost use Rattle.std.specs.Prelude.{◌≡◌, ℕ, false, OnOk};
+ghost use Rattle.sg_ops.specs.Table.{table_of};
+ghost use Rattle.sg_action.specs.States.{State};
+ghost use Rattle.sg_actions.specs.Engine.{AreBy, led};
+ghost use Rattle.sg_actions.specs.Acting.{IsChained};
+ghost use Rattle.sg_actions.specs.Rows.{at_rest};
+ghost use Rattle.sg_actions.specs.Taken.{is_set};
+ghost use Rattle.sg_actions.specs.WentOff.{OffCounts, WentOff};
+ghost use Rattle.sg_resumed.specs.Taking.{CanGoOn, LeadsOff};
+
+use crate::taking_off::find_in;
+use sg_actions::{Acts, Engine, Parts};
+use sg_ops::Ops;
+use sg_space::SpaceFault;
+
+/// A space over an engine, and how a take-off ended.
+pub struct WithoutEnd<E: Engine> {
+    pub acts: Acts<E>,
+    pub off: Result<(), SpaceFault>,
+}
+
+/// Takes off what the action did that has no end, of a space that knows of nothing that is taken. No
+/// action is open then, and the system acts.
+pub fn take_off<E: Engine>(acts: Acts<E>, ops: &Ops) -> WithoutEnd<E>
+    requires none { (n : ℕ) → is_set acts.maps.pages n ≡ false }
+    requires by { AreBy (E.means acts.engine) (table_of record_meaning range_meaning ops.now) }
+    requires can { (E.view acts.engine).Told → CanGoOn (E.view acts.engine) (E.first_byte acts.engine) acts.rows.items acts.actor }
+    requires off { let t = table_of record_meaning range_meaning ops.now in (from : State) → E.means acts.engine t from → (E.view acts.engine).Told → LeadsOff t (led from (E.view acts.engine)) }
+    ensures means { let t = table_of record_meaning range_meaning ops.now in (from : State) → E.means acts.engine t from → E.means result.acts.engine t from }
+    ensures counts { OffCounts (E.view acts.engine) (E.view result.acts.engine) acts.breaks result.acts.breaks result.off }
+    // also where it fails
+    ensures went { let t = table_of record_meaning range_meaning ops.now in (from : State) → E.means acts.engine t from → (E.view acts.engine).Told →
+        WentOff (E.recovers t) t acts.actor.txn.0 (led from (E.view acts.engine)) (led from (E.view result.acts.engine)) }
+    ensures off { let t = table_of record_meaning range_meaning ops.now in (from : State) → E.means acts.engine t from →
+        OnOk result.off ((E.view result.acts.engine).Told → IsChained (E.view result.acts.engine).base (E.view result.acts.engine).steps (E.view result.acts.engine).tail result.acts.rows.items result.acts.actor) }
+    ensures rest { let t = table_of record_meaning range_meaning ops.now in (from : State) → E.means acts.engine t from → OnOk result.off ((E.view result.acts.engine).Told → result.acts.actor ≡ at_rest) }
+    ensures begun { OnOk result.off (result.acts.begun ≡ false) }
+    ensures unfreed { result.acts.unfreed ≡ acts.unfreed }
+{
+    let Parts {
+        mut engine,
+        maps,
+        unfreed,
+        mut actor,
+        rows,
+        mut breaks,
+        begun,
+        count,
+        bands,
+    } = acts.into_parts();
+    let found = find_in(&mut engine, &mut breaks, &mut actor);
+    let mut acts = Acts::of_parts(Parts {
+        engine,
+        maps,
+        unfreed,
+        actor,
+        rows,
+        breaks,
+        begun,
+        count,
+        bands,
+    });
+    match found {
+        Ok(at) => {
+            let off = acts.resume(ops, at);
+            WithoutEnd { acts, off }
+        }
+        Err(fault) => WithoutEnd {
+            acts,
+            off: Err(fault),
+        },
+    }
+}
