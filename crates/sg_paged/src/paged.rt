@@ -3,8 +3,13 @@ ghost use Rattle.std.specs.Prelude.{◌≡◌};
 
 use crate::{actions, homes, records, resting, undoing};
 use sg_actions::{Acts, Engine};
-use sg_base::{Lsn, TxnId};
-use sg_space::{PageSpace, SpaceFault, UndoNote};
+use sg_base::{Lsn, Name, TxnId};
+use sg_bucket::Bytes;
+use sg_model::{Op, Reason, Reply, Touches};
+use sg_ops::Ops;
+use sg_space::{ListFault, PageSpace, SpaceFault, UndoNote};
+use sg_store::{Needed, ObjFault};
+use std::alloc::Global;
 
 /// Transactions and their actions over a page engine, as the engine of a store.
 pub struct Paged<E: Engine> {
@@ -95,5 +100,57 @@ impl<E: Engine> sg_store::Engine for Paged<E> {
 
     fn checkpoint(&mut self) -> Result<(), SpaceFault> {
         homes::checkpoint(&mut self.acts)
+    }
+}
+
+impl<E: Engine> sg_store::Objects for Paged<E> {
+    fn touches(&mut self, op: &Op<'_>, into: &mut Touches) -> Result<(), SpaceFault> {
+        sg_verbs::touches(&mut self.acts, op, into)
+    }
+
+    fn needs(&mut self, ops: &Ops, op: &Op<'_>) -> Result<Needed, ObjFault> {
+        sg_verbs::needs(&mut self.acts, ops, op)
+    }
+
+    fn perform(
+        &mut self,
+        ops: &Ops,
+        txn: TxnId,
+        op: &Op<'_>,
+        into: &mut [u8],
+        note: &mut UndoNote,
+    ) -> Result<Reply, ObjFault> {
+        sg_verbs::perform(&mut self.acts, ops, txn, op, into, note)
+    }
+
+    fn reverse(&mut self, ops: &Ops, note: &UndoNote) -> Result<(), SpaceFault> {
+        sg_verbs::reverse(&mut self.acts, ops, note)
+    }
+
+    fn free_next(
+        &mut self,
+        ops: &Ops,
+        by: Option<TxnId>,
+        note: &mut UndoNote,
+    ) -> Result<bool, SpaceFault> {
+        sg_verbs::free_next(&mut self.acts, ops, by, note)
+    }
+}
+
+impl<E: Engine> sg_store::Lists for Paged<E> {
+    fn touches_keys(&mut self, name: Name, into: &mut Touches) -> Result<(), SpaceFault> {
+        sg_verbs::touches_keys(&mut self.acts, name, into)
+    }
+
+    fn keys(
+        &mut self,
+        alloc: Global,
+        name: Name,
+    ) -> Result<Result<Vec<Bytes>, Reason>, ListFault> {
+        sg_verbs::keys(&mut self.acts, alloc, name)
+    }
+
+    fn list(&mut self, alloc: Global) -> Result<Vec<Name>, ListFault> {
+        sg_verbs::list(&mut self.acts, alloc)
     }
 }

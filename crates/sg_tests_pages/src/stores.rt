@@ -9,15 +9,16 @@ use sg_alloc::Maps;
 use sg_analysis::Analysis;
 use sg_attach::attach;
 use sg_base::{BandNo, Name, OutOfMemory, PageNo, Steps, TxnId};
+use sg_bucket::Bytes;
 use sg_disk::MemDisk;
 use sg_find::OpenFault;
 use sg_making::{Geometry, InitFault, init_store};
-use sg_model::{Op, Reply};
-use sg_objects::{ObjFault, perform, reverse};
+use sg_model::{Op, Reason, Reply};
+use sg_objects::{ObjFault, keys, list, perform, reverse};
 use sg_ops::{Ops, OpsError};
 use sg_pages::Phys;
 use sg_reopen::Unopened;
-use sg_space::{SpaceFault, UndoNote};
+use sg_space::{ListFault, SpaceFault, UndoNote};
 use std::alloc::{AllocError, Global};
 use std::sync::ledger::Ledger;
 
@@ -67,6 +68,15 @@ impl From<ObjFault> for Stop {
 impl From<SpaceFault> for Stop {
     fn from(fault: SpaceFault) -> Stop {
         Stop::Space(fault)
+    }
+}
+
+impl From<ListFault> for Stop {
+    fn from(fault: ListFault) -> Stop {
+        match fault {
+            ListFault::Space(fault) => Stop::Space(fault),
+            ListFault::Memory => Stop::Memory,
+        }
     }
 }
 
@@ -286,6 +296,16 @@ impl Trial {
         self.ops.laws();
         self.acts.take_off(&self.ops)?;
         Ok(())
+    }
+
+    // The keys of a table, or why there are none.
+    pub fn keys(&mut self, alloc: Global, name: Name) -> Result<Result<Vec<Bytes>, Reason>, Stop> {
+        Ok(keys(&mut self.acts, name, alloc)?)
+    }
+
+    // The names of all objects.
+    pub fn names(&mut self, alloc: Global) -> Result<Vec<Name>, Stop> {
+        Ok(list(&mut self.acts, alloc)?)
     }
 
     // Whether a note of the transaction is left.

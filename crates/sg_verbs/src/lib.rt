@@ -6,9 +6,12 @@
 #![tactic(auto)]
 
 mod freeing;
+mod listing;
 mod looks;
 mod needing;
+mod pausing;
 
 pub use freeing::free_next;
+pub use listing::{keys, list};
 pub use looks::{touches, touches_keys};
 pub use needing::needs;
