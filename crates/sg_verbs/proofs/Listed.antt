@@ -99,14 +99,14 @@ listed said a p b d l op (Err (lists.Space f)) h read lacks t z from m told o en
 keys_read : {A : Type 0} (v : View) (name : List ℕ) (r : Result (Result (Vec (List ℕ) A) Reason) ListFault)
     → IfOk r (λ x. IfContents v (λ s. (t : Operations) → (on t Keys (plain (get (reading s).things name))).0 ≡ said_keys x))
     → IfOk r (λ x. IfContents v (λ s. (t : Operations) → (step t (objects (reading s)) (On name Keys)).0 ≡ said_keys x))
-keys_read v name (Ok x) h shows s is t = step_is t (reading s) name Keys ∙ h shows s is t
+keys_read v name (Ok x) h = λ shows s is t. step_is t (reading s) name Keys ∙ h shows s is t
 keys_read v name (Err e) h = tt
 
 keys_reply : {A : Type 0} (v : View) (name : List ℕ) (r : Result A ListFault)
     → IfErr r (λ e. e ≡ lists.Memory → IfContents v (λ s. (t : Operations) → IsOk (on t Keys (plain (get (reading s).things name))).0))
     → IfErr r (λ e. e ≡ lists.Memory → IfContents v (λ s. (t : Operations) → IsOk (step t (objects (reading s)) (On name Keys)).0))
 keys_reply v name (Ok x) h = tt
-keys_reply v name (Err e) h is shows s m t = subst (λ (r : Outcome). IsOk r) (sym (step_is t (reading s) name Keys)) (h is shows s m t)
+keys_reply v name (Err e) h = λ is shows s m t. subst (λ (r : Outcome). IsOk r) (sym (step_is t (reading s) name Keys)) (h is shows s m t)
 
 keys_are : {A : Type 0} (t : Operations) (g : Ground) (v w : store.View g) (o : g.O) (name : List ℕ) (r : Result (Result (Vec (List ℕ) A) Reason) ListFault)
     → IsListed said_keys t g v w o (On name Keys) r → HasKeys t g v w o name r
@@ -135,12 +135,14 @@ names_are t g v w o (Err (lists.Space f)) h = tt
 
 names_read : {A : Type 0} (v : View) (r : Result (Vec (List ℕ) A) ListFault) → IfOk r (λ x. IfContents v (λ s. x.items ≡ keys (objects (reading s))))
     → IfOk r (λ x. IfContents v (λ s. (t : Operations) → (step t (objects (reading s)) Names).0 ≡ said_names x))
-names_read v (Ok x) h shows s is t = ap (λ (names : List (List ℕ)). (let r : Outcome = Ok (Several names) in r)) (sym (h shows s is))
+unfolding step
+names_read v (Ok x) h = λ shows s is t. ap (λ (names : List (List ℕ)). (let r : Outcome = Ok (Several names) in r)) (sym (h shows s is))
 names_read v (Err e) h = tt
 
 names_reply : {A : Type 0} (v : View) (r : Result A ListFault) → IfErr r (λ e. e ≡ lists.Memory → IfContents v (λ s. (t : Operations) → IsOk (step t (objects (reading s)) Names).0))
+unfolding step
 names_reply v (Ok x) = tt
-names_reply v (Err e) is shows s m t = refl
+names_reply v (Err e) = λ is shows s m t. refl
 
 pub names_listed : {E : Type 0} {g : Ghosts E} {A : Type 0} (a p b d : Acts E g) (l : Look a p b) (r : Result (Vec (List ℕ) A) ListFault) → Ends a p b d (is_list_failed r)
     → IfOk r (λ x. IfContents (view_in (over p)) (λ s. x.items ≡ keys (objects (reading s))))

@@ -1,5 +1,5 @@
 -- What a look at the objects leaves: all as it was, or an engine that tells no more.
-use Rattle.std.proofs.Common.{◌≡◌, ℕ, ◌+◌, ◌≤◌, Bool, true, false, List, length, Some, Result, Ok, Err, refl, sym, ap, ◌∙◌, subst, arith}
+use Rattle.std.proofs.Common.{◌≡◌, ℕ, ◌+◌, ◌≤◌, Bool, true, false, List, [], length, Some, Result, Ok, Err, refl, sym, ap, ◌∙◌, subst, arith}
 use Rattle.std.specs.Prelude.{OnOk, IfErr, is_err, ⊤}
 use Rattle.sg_base.specs.Ends.{HasRisen}
 use Rattle.sg_ops.specs.Table.{Table, fresh_table}
@@ -18,15 +18,15 @@ use Rattle.sg_space.specs.View as space
 use Rattle.sg_space.specs.View.{OnlyReads}
 use Rattle.sg_space.specs.declared.space.SpaceFault.{SpaceFault}
 use Rattle.sg_space.specs.declared.space.SpaceFault.TheVariants as faults
-use Rattle.sg_store.specs.Engine.{Sizes, Keeps, AsMeant, Counts, IsDiskFault, IsEngine, Rests, Rested, pages_of}
-use Rattle.sg_store.specs.Verbs.{Reads}
+use Rattle.sg_store.specs.Engine.{Sizes, Asked, AskedBy, Keeps, AsMeant, Counts, IsDiskFault, IsEngine, Rests, Rested, pages_of}
+use Rattle.sg_store.specs.Verbs.{Reads, CanLook}
 use Rattle.sg_shown.specs.Shown.{Over, Means, basis, over, shown}
 use Rattle.sg_shown.proofs.Holding.{Facts}
 use Rattle.sg_verbs.specs.Looks.{IsSound, HasPaused, HasGoneOn, HasStopped}
 use Rattle.sg_verbs.proofs.Held.{space_in}
 use Rattle.sg_verbs.proofs.Moving.{LaterOn, view_in, IsStopped}
 use Rattle.sg_verbs.proofs.Story.{seen}
-use Rattle.sg_verbs.proofs.Looking.{paused, resumed, paused_since, look_there, look_means, look_rests, look_rested, stopped_means, same_tail, disk_is}
+use Rattle.sg_verbs.proofs.Looking.{asked_there, asked_by_there, paused, resumed, paused_since, look_there, look_means, look_rests, look_rested, stopped_means, same_tail, disk_is}
 
 -- THE SPACE BY PARTS
 pub paused_is : {E : Type 0} {g : Ghosts E} (a p : Acts E g) → HasPaused a p → over p ≡ paused (over a)
@@ -167,6 +167,31 @@ module _ {E : Type 0} {g : Ghosts E} (a p b d : Acts E g) (l : Look a p b) where
         subst (λ (x : Over). IsContents (space_in x) r.0) (sym (paused_is a p l.paused)) r.1,
         r.3,
       )
+
+-- one that was asked, and one that was asked with operations
+pub asked_look : {E : Type 0} {g : Ghosts E} (a p b : Acts E g) → HasPaused a p → IsSound a → IsSound b → ((t : Table) → LaterOn g.recovers t (over p) (over b))
+    → (over b).engine.records ≡ (over p).engine.records → Asked (shown a) CanLook → Look a p b
+asked_look {g = g} a p b paused first last later records can = record {
+  paused = paused;
+  later = later;
+  records = records;
+  there = asked_there g.recovers (over a) first.now can;
+  idle = λ told. (can.can told).rest.idle;
+  first = first;
+  last = last;
+}
+
+pub asked_look_by : {E : Type 0} {g : Ghosts E} (t : Table) (a p b : Acts E g) → HasPaused a p → IsSound a → IsSound b → ((t : Table) → LaterOn g.recovers t (over p) (over b))
+    → (over b).engine.records ≡ (over p).engine.records → AskedBy t (shown a) (CanLook t) → Look a p b
+asked_look_by {g = g} t a p b paused first last later records can = record {
+  paused = paused;
+  later = later;
+  records = records;
+  there = asked_by_there g.recovers (over a) t (first.now t) can;
+  idle = λ told. (can.can told).rest.idle;
+  first = first;
+  last = last;
+}
 
 -- where whoever acts has paused the contents stand that stood before
 pub contents_there : {E : Type 0} {g : Ghosts E} (a p : Acts E g) → HasPaused a p → ((over a).engine.Told → (s : Contents) × IsContents (space_in (over a)) s × IsCounted (space_in (over a)) s)

@@ -161,10 +161,6 @@ pub disk_is : (f : SpaceFault) → IsDiskFault f → f ≡ faults.Disk
 disk_is faults.Disk h = refl
 disk_is faults.LogEnd h = absurd h
 
-pub counts_ok : {T U : Type 0} (recovers : Recovering) (a b : Over) (w : Bool) (x : T) (y : U) → space.Counts (view_in a) (view_in b) (let r : Result T SpaceFault = Ok x in r) → (a.engine.Told → b.engine.Told) → a.engine.tail ≤ b.engine.tail
-    → Counts IsDiskFault (shown_of recovers a) (shown_of recovers (resumed w b)) (let r : Result U SpaceFault = Ok y in r)
-counts_ok recovers a b w x y q tells tail = record { told = q.told; tells = tells; tail = tail; later = q.later; quiet = q.quiet; failed = tt }
-
 pub counts_err : {T U : Type 0} (recovers : Recovering) (a b d : Over) (f : SpaceFault) → space.Counts (view_in a) (view_in b) (let r : Result T SpaceFault = Err f in r) → a.engine.tail ≤ b.engine.tail → IsStopped b d
     → Counts IsDiskFault (shown_of recovers a) (shown_of recovers d) (let r : Result U SpaceFault = Err f in r)
 counts_err recovers a b d f q tail s = record {
@@ -177,14 +173,6 @@ counts_err recovers a b d f q tail s = record {
 }
 
 -- of a call on objects
-pub object_ok : {T U : Type 0} (recovers : Recovering) (a b : Over) (w : Bool) (x : T) (y : U) → CountsObject (view_in a) (view_in b) (let r : Result T ObjectsFault = Ok x in r) → (a.engine.Told → b.engine.Told) → a.engine.tail ≤ b.engine.tail
-    → Counts IsObjDisk (shown_of recovers a) (shown_of recovers (resumed w b)) (let r : Result U ObjFault = Ok y in r)
-object_ok recovers a b w x y q tells tail = record { told = q.told; tells = tells; tail = tail; later = q.later; quiet = q.quiet; failed = tt }
-
-pub object_refused : {T U : Type 0} (recovers : Recovering) (a b : Over) (w : Bool) (reason reason' : Reason) → CountsObject (view_in a) (view_in b) (let r : Result T ObjectsFault = Err (objects.Model reason) in r) → a.engine.tail ≤ b.engine.tail
-    → Counts IsObjDisk (shown_of recovers a) (shown_of recovers (resumed w b)) (let r : Result U ObjFault = Err (store.Model reason') in r)
-object_refused recovers a b w reason reason' q tail = record { told = q.told; tells = tt; tail = tail; later = q.later; quiet = tt; failed = λ h. absurd h }
-
 pub object_err : {T U : Type 0} (recovers : Recovering) (a b d : Over) (f : SpaceFault) → CountsObject (view_in a) (view_in b) (let r : Result T ObjectsFault = Err (objects.Space f) in r) → a.engine.tail ≤ b.engine.tail → IsStopped b d
     → Counts IsObjDisk (shown_of recovers a) (shown_of recovers d) (let r : Result U ObjFault = Err (store.Space f) in r)
 object_err recovers a b d f q tail s = record {

@@ -1,13 +1,13 @@
 use Rattle.std.proofs.Common.{◌≡◌}
 use Rattle.sg_shown.specs.Shown.{over}
 use Rattle.sg_verbs.proofs.Looking.{asked_there}
-use Rattle.sg_verbs.proofs.Looked.{Look, contents_there, goes_on, means_end, tail_end}
+use Rattle.sg_verbs.proofs.Looked.{asked_look, contents_there, goes_on, means_end, tail_end}
 use Rattle.sg_verbs.proofs.Listed.{keys_listed, Lists, list_counts, list_ends, list_memory, list_quiet, list_reads}
 use Rattle.sg_verbs.proofs.listing.keys.Goals as goal
 
 pub keys-listed-requires : goal.keys-listed-requires
 keys-listed-requires g c = contents_there c.args.acts.now c.pause-was.new.acts c.pause-was.ensures.paused
-    (asked_there g.E.Engine.recovers (over c.args.acts.now) (λ t from m told. c.pause-was.ensures.sound.now t from m told) c.requires.can)
+    (asked_there g.E.Engine.recovers (over c.args.acts.now) c.pause-was.ensures.sound.now c.requires.can)
 
 pub returns : goal.returns
 returns g c =
@@ -15,17 +15,9 @@ returns g c =
     let p = c.pause-was.new.acts in
     let b = c.keys-listed.new.space in
     let d = c.go_on.new.acts in
-    let l : Look a p b = record {
-      paused = c.pause-was.ensures.paused;
-      later = λ t. c.keys-listed.ensures.later t;
-      records = c.keys-listed.ensures.writes.records;
-      there = asked_there g.E.Engine.recovers (over a) (λ t from m told. c.pause-was.ensures.sound.now t from m told) c.requires.can;
-      idle = λ told. (c.requires.can.can told).rest.idle;
-      first = c.pause-was.ensures.sound;
-      last = c.go_on.ensures.sound;
-    } in
-    let r = c.keys-listed.result in
     let q = c.keys-listed.ensures in
+    let l = asked_look a p b c.pause-was.ensures.paused c.pause-was.ensures.sound c.go_on.ensures.sound q.later q.writes.records c.requires.can in
+    let r = c.keys-listed.result in
     let left : Lists _ _ r = record { counts = q.counts; kept = q.kept; memory = q.memory; quiet = q.quiet; writes = q.writes } in
     let ends = list_ends a p b d r l left (goes_on b d c.pause-was.ensures.was c.has_failed.ensures c.go_on.ensures.on c.go_on.ensures.stopped) in
     record {

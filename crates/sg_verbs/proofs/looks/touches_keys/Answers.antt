@@ -4,12 +4,12 @@ use Rattle.sg_model.specs.Verb.Verb.{Keys}
 use Rattle.sg_model.specs.TouchList.{shown_touches}
 use Rattle.sg_shown.specs.Shown.{over}
 use Rattle.sg_verbs.proofs.Looking.{asked_there}
-use Rattle.sg_verbs.proofs.Looked.{Look, contents_there, goes_on, means_end, tail_end, looked, looked_counts, looked_reads, touched}
+use Rattle.sg_verbs.proofs.Looked.{asked_look, contents_there, goes_on, means_end, tail_end, looked, looked_counts, looked_reads, touched}
 use Rattle.sg_verbs.proofs.looks.touches_keys.Goals as goal
 
 pub touches_keys-done-requires : goal.touches_keys-done-requires
 touches_keys-done-requires g c = contents_there c.args.acts.now c.pause-was.new.acts c.pause-was.ensures.paused
-    (asked_there g.E.Engine.recovers (over c.args.acts.now) (λ t from m told. c.pause-was.ensures.sound.now t from m told) c.requires.can)
+    (asked_there g.E.Engine.recovers (over c.args.acts.now) c.pause-was.ensures.sound.now c.requires.can)
 
 pub returns : goal.returns
 returns g c =
@@ -17,17 +17,9 @@ returns g c =
     let p = c.pause-was.new.acts in
     let b = c.touches_keys-done.new.space in
     let d = c.go_on.new.acts in
-    let l : Look a p b = record {
-      paused = c.pause-was.ensures.paused;
-      later = λ t. c.touches_keys-done.ensures.later t;
-      records = c.touches_keys-done.ensures.writes.records;
-      there = asked_there g.E.Engine.recovers (over a) (λ t from m told. c.pause-was.ensures.sound.now t from m told) c.requires.can;
-      idle = λ told. (c.requires.can.can told).rest.idle;
-      first = c.pause-was.ensures.sound;
-      last = c.go_on.ensures.sound;
-    } in
-    let r = c.touches_keys-done.result in
     let q = c.touches_keys-done.ensures in
+    let l = asked_look a p b c.pause-was.ensures.paused c.pause-was.ensures.sound c.go_on.ensures.sound q.later q.writes.records c.requires.can in
+    let r = c.touches_keys-done.result in
     let ends = looked a p b d r l q.kept q.counts (goes_on b d c.pause-was.ensures.was c.is_err.ensures.value c.go_on.ensures.on c.go_on.ensures.stopped) in
     record {
       counts = looked_counts a p b d r q.counts ends;

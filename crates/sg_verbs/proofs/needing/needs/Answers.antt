@@ -3,7 +3,7 @@ use Rattle.sg_ops.specs.Table.{table_of}
 use Rattle.sg_model.specs.SaidOps.{name_of, verb_of}
 use Rattle.sg_shown.specs.Shown.{over}
 use Rattle.sg_verbs.proofs.Looking.{asked_by_there}
-use Rattle.sg_verbs.proofs.Looked.{Look, contents_there, goes_on, means_end, tail_end}
+use Rattle.sg_verbs.proofs.Looked.{asked_look_by, contents_there, goes_on, means_end, tail_end}
 use Rattle.sg_verbs.proofs.Needed.{Finds, Says, need_ends, need_says}
 use Rattle.sg_verbs.proofs.needing.needs.Given as given
 use Rattle.sg_verbs.proofs.needing.needs.Goals as goal
@@ -13,7 +13,7 @@ needs_of-found-requires g c =
     let t = table_of (λ y. (given.RecordOp-dyn g y).record_meaning y.1) (λ y. (given.RangeOp-dyn g y).range_meaning y.1) c.args.ops.now in
     record {
       there = contents_there c.args.acts.now c.pause-was.new.acts c.pause-was.ensures.paused
-          (asked_by_there g.E.Engine.recovers (over c.args.acts.now) t (λ from m told. c.pause-was.ensures.sound.now t from m told) c.requires.can);
+          (asked_by_there g.E.Engine.recovers (over c.args.acts.now) t (c.pause-was.ensures.sound.now t) c.requires.can);
     }
 
 pub returns : goal.returns
@@ -25,17 +25,9 @@ returns g c =
     let t = table_of (λ y. (given.RecordOp-dyn g y).record_meaning y.1) (λ y. (given.RangeOp-dyn g y).range_meaning y.1) c.args.ops.now in
     let name = name_of c.args.op.now in
     let verb = verb_of c.args.op.now in
-    let l : Look a p b = record {
-      paused = c.pause-was.ensures.paused;
-      later = λ t. c.needs_of-found.ensures.later t;
-      records = c.needs_of-found.ensures.writes.records;
-      there = asked_by_there g.E.Engine.recovers (over a) t (λ from m told. c.pause-was.ensures.sound.now t from m told) c.requires.can;
-      idle = λ told. (c.requires.can.can told).rest.idle;
-      first = c.pause-was.ensures.sound;
-      last = c.go_on.ensures.sound;
-    } in
-    let r = c.needs_of-found.result in
     let q = c.needs_of-found.ensures in
+    let l = asked_look_by t a p b c.pause-was.ensures.paused c.pause-was.ensures.sound c.go_on.ensures.sound q.later q.writes.records c.requires.can in
+    let r = c.needs_of-found.result in
     let found : Finds t name verb _ _ r = record { counts = q.counts; kept = q.kept; read = q.read; writes = q.writes } in
     let ends = need_ends t name verb a p b d l r found (goes_on b d c.pause-was.ensures.was c.has_failed.ensures c.go_on.ensures.on c.go_on.ensures.stopped) in
     let says = subst (Says t name verb a d) (sym c.told.ensures) (need_says t name verb a p b d l r found ends) in
