@@ -1,7 +1,7 @@
 -- What verbs write of the log, and in bands.
-use Rattle.std.proofs.Common.{◌≡◌, ◌⊎◌, inl, inr, ℕ, List, true, false, Result, Ok, Err, IfOk, subst, ap}
-use Rattle.sg_blob.specs.Blob.{Blob, IsBlob, OwnsBand}
-use Rattle.sg_catalog.specs.declared.row.ObjectKind.TheVariants as kinds
+use Rattle.std.proofs.Common.{◌≡◌, ◌⊎◌, inl, inr, ℕ, List, None, true, false, Result, Ok, Err, IfOk, subst, sym, ap, ◌∙◌}
+use Rattle.sg_blob.specs.Blob.{Blob, OwnsBand}
+use Rattle.sg_blob.specs.Calls.{Turns}
 use Rattle.sg_model.specs.Step.{is_changing_verb}
 use Rattle.sg_model.specs.Verb.{Verb, Outcome}
 use Rattle.sg_model.specs.Verb.Verb.{MakeArray, MakeTable, MakeBlob, Discard, Push, Pop, Set, Get, Len, Apply, Put, Del, Find, Keys, Write, Read, Size, Paint}
@@ -12,11 +12,13 @@ use Rattle.sg_model.specs.SaidOps.{name_of, verb_of}
 use Rattle.sg_model.specs.SaidReplies.{said_outcome}
 use Rattle.sg_ops.specs.Table.{Table as Operations}
 use Rattle.sg_space.specs.declared.space.SpaceFault.{SpaceFault}
-use Rattle.sg_space.specs.View.{View, OnlyReads, WritesIn}
-use Rattle.sg_contents.specs.Standing.{Contents}
+use Rattle.sg_space.specs.View.{Space, View, OnlyReads, WritesIn}
+use Rattle.sg_contents.specs.Standing.{Body, Contents}
+use Rattle.sg_contents.specs.Standing as standing
+use Rattle.sg_objects.specs.Blobs.{IsBlobAt}
 use Rattle.sg_objects.specs.Done.{HasRoomFor}
-use Rattle.sg_objects.specs.Found.{IsAt}
-use Rattle.sg_objects.specs.Quiet.{WritesBody, WritesBands, Wrote}
+use Rattle.sg_objects.specs.Quiet.{WroteBody, WritesBody, WritesBands, Wrote}
+use Rattle.sg_objects.specs.declared.blob.BlobAt.{BlobAt}
 use Rattle.sg_objects.proofs.Shaping.{same_root}
 
 first_by : {A B C : Type 0} → (A → C) → A ⊎ B → C ⊎ B
@@ -27,10 +29,20 @@ first_by f (inr b) = inr b
 from_before : {v m w : View} {own : ℕ → Type 0} → OnlyReads v m → WritesIn own m w → WritesIn own v w
 from_before k x = record { wrote = λ b h. first_by (k.wrote b) (x.wrote b h) }
 
--- A BLOB'S BYTES were written on its own bands
-pub wrote_body : {v m w : View} {s : Contents} {name : List ℕ} {root : ℕ} (b : Blob) → OnlyReads v m → IsAt kinds.Blob s name root → IsBlob w.space.pages.at w.space.bands.at root b → WritesIn (OwnsBand b.bands) m w → WritesBody name s v w
-wrote_body {v} {m} {w} {s} {name} {root} b k at there wrote other is =
-    (b, subst (λ (n : ℕ). IsBlob w.space.pages.at w.space.bands.at n b) (same_root at is) there, from_before k wrote)
+-- what was free before the call was free before those that only read
+taken_before : (x y : Space) {P : Type 0} (n : ℕ) → y ≡ x → P ⊎ (y.bands.at n ≡ None) → P ⊎ (x.bands.at n ≡ None)
+taken_before x y n same (inl p) = inl p
+taken_before x y n same (inr free) = inr (ap (λ (z : Space). z.bands.at n) (sym same) ∙ free)
+
+-- A BLOB'S BYTES were written on its own bands, and those that it took were free
+pub wrote_body : {v m w : View} {s : Contents} {name : List ℕ} {x : BlobAt} (b : Blob) → OnlyReads v m → v.Shows → (f : IsBlobAt name s x) → Turns m.space w.space x.root.0 f.blob b → WritesIn (OwnsBand b.bands) m w → WritesBody name s v w
+wrote_body {v} {m} {w} {s} {name} {x} b k shows f turns wrote other is =
+    subst (λ (n : ℕ). WroteBody n s v w) (same_root f.at is) (record {
+      blob = b;
+      stands = turns.blob;
+      writes = from_before k wrote;
+      taken = λ n o. taken_before v.space m.space n (k.same shows) (subst (λ (y : Body). standing.OwnsBand y n ⊎ (m.space.bands.at n ≡ None)) (sym f.body_is) (turns.bands.taken n o));
+    })
 
 -- A VERB THAT IS ON NO BLOB'S BYTES
 abbrev pub IsOnNoBytes : Verb → Type 0

@@ -1,5 +1,5 @@
 -- WHAT A CALL ON OBJECTS WRITES of the log, and in bands.
-use Rattle.std.specs.Prelude.{◌≡◌, ℕ, List, [], Result, Ok, IfErr}
+use Rattle.std.specs.Prelude.{◌≡◌, ◌⊎◌, ℕ, List, [], None, Result, Ok, IfErr}
 use Rattle.sg_blob.specs.Blob.{Blob, IsBlob, OwnsBand}
 use Rattle.sg_catalog.specs.declared.row.ObjectKind.TheVariants as kinds
 use Rattle.sg_model.specs.Verb.{Verb, Outcome}
@@ -9,6 +9,7 @@ use Rattle.sg_space.specs.View.{View, WritesIn}
 use Rattle.sg_space.specs.declared.space.SpaceFault.{SpaceFault}
 use Rattle.sg_space.specs.declared.space.SpaceFault.TheVariants.{LogEnd}
 use Rattle.sg_contents.specs.Standing.{Contents, IsContents}
+use Rattle.sg_contents.specs.Standing as standing
 use Rattle.sg_objects.specs.Found.{IsAt}
 use Rattle.sg_objects.specs.declared.verb.ObjFault.{ObjFault}
 use Rattle.sg_objects.specs.declared.verb.ObjFault.TheVariants.{Space as InSpace}
@@ -45,9 +46,15 @@ pub record LooksAtObjects {T : Type 0} (old new : View) (result : Result T ObjFa
   pub writes : WritesNoneObject old new result
   pub note : bytes ≡ []
 
--- A verb on a blob's bytes wrote bytes only on bands that the blob has now
+-- a verb on a blob's bytes wrote bytes only on bands that the blob has now, each of which it had before, or which was free
+pub record WroteBody (root : ℕ) (s : Contents) (v w : View) : Type 0 where
+  pub blob : Blob
+  pub stands : IsBlob w.space.pages.at w.space.bands.at root blob
+  pub writes : WritesIn (OwnsBand blob.bands) v w
+  pub taken : (n : ℕ) → OwnsBand blob.bands n → standing.OwnsBand (s.body root) n ⊎ (v.space.bands.at n ≡ None)
+
 abbrev pub WritesBody : (name : List ℕ) → Contents → (v w : View) → Type 0
-WritesBody name s v w = (root : ℕ) → IsAt kinds.Blob s name root → (b : Blob) × IsBlob w.space.pages.at w.space.bands.at root b × WritesIn (OwnsBand b.bands) v w
+WritesBody name s v w = (root : ℕ) → IsAt kinds.Blob s name root → WroteBody root s v w
 
 abbrev pub WritesBands : Verb → Outcome → (name : List ℕ) → Contents → (v w : View) → Type 0
 WritesBands (Write at bytes) (Ok reply) name s v w = WritesBody name s v w

@@ -124,7 +124,7 @@ acted_means m actor t z from txn h quiet now = record {
   pages = h.pages;
   bands = h.bands;
   limits = h.limits;
-  keeps = λ told. let k = h.keeps told in record { kept = now.kept told k.kept; rest = λ f. absurd (let w : true ≡ false = f in cc); rows = k.rows; begin = k.begin; now = k.now; counted = k.counted; map = k.map };
+  keeps = λ told. let k = h.keeps told in record { kept = now.kept told k.kept; rest = λ f. absurd (let w : true ≡ false = f in cc); fresh = k.fresh; rows = k.rows; begin = k.begin; now = k.now; counted = k.counted; map = k.map };
 }
 
 pub act_means : (m b : Over) (t : Table) (z : Sizes) (from : State) (txn : ℕ) → Means m t z from → m.begun ≡ false → b.engine ≡ m.engine → b.means ≡ m.means
@@ -142,7 +142,7 @@ act_means m b t z from txn h quiet e s l p u r opens now since =
       pages = q.pages;
       bands = q.bands;
       limits = q.limits;
-      keeps = λ told. let k = q.keeps told in record { kept = k.kept; rest = λ f. absurd (let w : true ≡ false = sym opens ∙ f in cc); rows = k.rows; begin = k.begin; now = k.now; counted = k.counted; map = k.map };
+      keeps = λ told. let k = q.keeps told in record { kept = k.kept; rest = λ f. absurd (let w : true ≡ false = sym opens ∙ f in cc); fresh = k.fresh; rows = k.rows; begin = k.begin; now = k.now; counted = k.counted; map = k.map };
     }
 
 -- WHOSE ACTION was begun

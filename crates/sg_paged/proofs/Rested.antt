@@ -57,6 +57,7 @@ keeping_stays a b t z from s steps kept k = record {
     system = ap (λ (x : Actor). x.txn.0) s.actor ∙ r.system;
     freed = subst HasFreedNone (sym s.unfreed) r.freed;
   };
+  fresh = λ e. subst HasFreedNone (sym s.unfreed) (k.fresh (ap opened (sym steps) ∙ e));
   rows = λ u h. subst (λ (xs : List Row). HasRow xs u) (sym s.rows) (k.rows u (subst (λ (rs : Steps). is_going u rs ≡ true) steps h));
   begin = subst (λ (x : Maps). taken_at t z from x b.engine.steps) (sym s.maps) (subst (λ (rs : Steps). taken_at t z from a.maps rs) (sym steps) k.begin);
   now = taken_same (ap (λ (rs : Steps). (repeated t from rs).pages) steps) (λ p h. (room_of a b s).page p ∙ h) (λ n h. (room_of a b s).band n ∙ h) k.now;

@@ -14,7 +14,7 @@ use Rattle.sg_actions.specs.Offed.{kept_in}
 use Rattle.sg_actions.specs.PuttingBack.{MayUndo, UndoBegun}
 use Rattle.sg_actions.specs.Rows.{HasRow}
 use Rattle.sg_actions.specs.Steps.{Step, Steps, repeated}
-use Rattle.sg_actions.specs.View.{IsKept, Since}
+use Rattle.sg_actions.specs.View.{IsKept, HasFreedNone, Since}
 use Rattle.sg_actions.specs.declared.rows.Row.{Row}
 use Rattle.sg_actions.proofs.Given.{next_first}
 use Rattle.sg_reader.specs.Reader.{limits}
@@ -65,6 +65,7 @@ undoes_means recovers m b t z from txn stop note next h quiet l p u r begun sinc
       record {
         kept = subst (λ (f : (pages bands : ℕ) → State → ℕ → ℕ). IsKept t (f z.pages z.bands) (led from b.engine) b.maps b.rows b.actor) (sym l) (subst (λ (x : Maps). IsKept t (m.limits z.pages z.bands) (led from b.engine) x b.rows b.actor) (sym p) g.kept);
         rest = λ f. absurd (let x : true ≡ false = sym begun ∙ f in cc);
+        fresh = λ e. subst HasFreedNone (sym u) (k.rest quiet).freed;
         rows = λ v e. subst (λ (xs : List Row). HasRow xs v) (sym r) (k.rows v (sym (going_changes t (kept_in (m.limits z.pages z.bands) t (led from m.engine) m.maps) (repeated t from m.engine.steps) from txn v w.made m.engine.steps w.are) ∙ (sym (ap (λ (rs : Steps). is_going v rs) g.steps) ∙ e)));
         begin = subst (λ (x : Maps). taken_by z (kept_in (b.limits z.pages z.bands) t (led from b.engine) x) (begin_before b t from)) (sym p)
             (subst (λ (x : State). taken_by z (kept_in (m.limits z.pages z.bands) t (led from b.engine) m.maps) x) (sym g.begin)

@@ -79,7 +79,7 @@ pub keeping_at_rest : (a : Over) (t : Table) (z : Sizes) (from : State) → IsKe
     → AreTaken z (has_page a) (has_band a) (repeated t from a.engine.steps).pages
     → AreCounted z (free_of a.maps.pages + free_of a.unfreed.pages) (free_of a.maps.bands + free_of a.unfreed.bands) (repeated t from a.engine.steps).pages
     → ((b : ℕ) → b < map_bands_of z.pages z.bands → has_band a b ≡ true) → Keeping a t z from
-keeping_at_rest a t z from kept rest rows now counted map = record { kept = kept; rest = λ e. rest; rows = rows; begin = begin_at_rest a t z from rest.idle now; now = now; counted = counted; map = map }
+keeping_at_rest a t z from kept rest rows now counted map = record { kept = kept; rest = λ e. rest; fresh = λ e. rest.freed; rows = rows; begin = begin_at_rest a t z from rest.idle now; now = now; counted = counted; map = map }
 
 -- BETWEEN CALLS
 module _ (recovers : Recovering) (a : Over) (t : Table) (z : Sizes) (from : State) (m : Means a t z from) (told : a.engine.Told) (f : Facts recovers a t from) where

@@ -1,6 +1,6 @@
 -- WHAT A SPACE OVER A PAGE ENGINE SHOWS AS THE ENGINE OF A STORE. The store's records are the engine's steps as they are, a note is its bytes, and
 -- the ground is that of so many pages and bands.
-use Rattle.std.specs.Prelude.{◌≡◌, ℕ, ◌+◌, ◌<◌, Bool, true, false, List, length, Option, Some, None}
+use Rattle.std.specs.Prelude.{◌≡◌, ℕ, ◌+◌, ◌<◌, Bool, true, false, List, [], length, Option, Some, None}
 use Rattle.sg_alloc.specs.Flags.{free_of, map_bands_of}
 use Rattle.sg_alloc.specs.declared.maps.Maps.{Maps}
 use Rattle.sg_ops.specs.Table.{Table}
@@ -9,9 +9,9 @@ use Rattle.sg_actions.specs.Calls.{IsAtRest}
 use Rattle.sg_actions.specs.Engine.{EngineSeen, led}
 use Rattle.sg_actions.specs.Offed.{kept_in}
 use Rattle.sg_actions.specs.Rows.{HasRow}
-use Rattle.sg_actions.specs.Steps.{begin_of, repeated}
+use Rattle.sg_actions.specs.Steps.{begin_of, opened as open_changes, repeated}
 use Rattle.sg_actions.specs.Taken.{is_there}
-use Rattle.sg_actions.specs.View.{IsKept, Since}
+use Rattle.sg_actions.specs.View.{IsKept, HasFreedNone, Since}
 use Rattle.sg_actions.specs.declared.acts.Acts.{Acts}
 use Rattle.sg_actions.specs.declared.engine.Engine.{Ghosts}
 use Rattle.sg_actions.specs.declared.rows.Actor.{Actor}
@@ -66,6 +66,8 @@ pub record Keeping (a : Over) (t : Table) (z : Sizes) (from : State) : Type 0 wh
   pub kept : IsKept t (a.limits z.pages z.bands) (led from a.engine) a.maps a.rows a.actor
   -- where no action was begun nobody acts, and nothing is freed
   pub rest : a.begun ≡ false → IsAtRest a.engine.steps a.unfreed a.actor
+  -- an action that has no open change has freed nothing
+  pub fresh : open_changes a.engine.steps ≡ [] → HasFreedNone a.unfreed
   -- each transaction that has begun and not ended has a row
   pub rows : (u : ℕ) → is_going u a.engine.steps ≡ true → HasRow a.rows u
   -- what the pages at the begin of the open action reached was taken then,

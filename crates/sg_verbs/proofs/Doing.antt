@@ -17,7 +17,7 @@ use Rattle.sg_store.specs.Engine.{Sizes, Action, Counts, IsDiskFault, IsNearEnd,
 use Rattle.sg_ground.specs.Recovers.{Recovering}
 use Rattle.sg_shown.specs.Shown.{Over, Keeping, Means, basis, shown_of}
 use Rattle.sg_shown.proofs.Holding.{Facts, engine_is}
-use Rattle.sg_verbs.proofs.Held.{space_in, taken_now, counted_now, map_now}
+use Rattle.sg_verbs.proofs.Held.{space_in, own_reads, taken_now, counted_now, map_now}
 use Rattle.sg_verbs.proofs.Moving.{at_in, LaterOn, view_in, Leaves, went, means_on, means_off, IsStopped}
 use Rattle.sg_verbs.proofs.Story.{seen, changes, both}
 use Rattle.sg_verbs.proofs.Looking.{disk_is}
@@ -40,6 +40,8 @@ near_err a b d f q s = near_moved b.engine.tail d.engine.tail f s.tail (near_end
 -- WHERE CONTENTS STAND behind it
 pub leaves_of : (z : Sizes) (b : Over) (s : Contents) → length b.maps.pages ≡ z.pages → length b.maps.bands ≡ z.bands → IsContents (space_in b) s → IsCounted (space_in b) s → b.begun ≡ true → Leaves z b
 leaves_of z b s pages bands h counted begun = record {
+  contents = s;
+  reads = own_reads b z s pages bands h;
   now = taken_now b z s pages bands h;
   counted = counted_now b z s pages bands h counted;
   map = map_now b z s pages bands h;

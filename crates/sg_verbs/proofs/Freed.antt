@@ -20,14 +20,6 @@ use Rattle.sg_ground.proofs.Clauses.{contents_read, freed_so, nothing_buried}
 use Rattle.sg_ground.specs.Recovers.{Recovering}
 use Rattle.sg_shown.specs.Shown.{basis, basis_at}
 
--- no change was made where none is open
-no_cons : (d : Changed') (ds : List Changed') → ◌≡◌ {A = List Changed'} [] (d ∷ ds) → ⊥
-no_cons d ds e = cc
-
-pub nothing_made : (t : Table) (kept : Kept) (begin first : State) (txn : ℕ) (made log : Steps) → AreChanges t kept begin first txn made log → opened (made ++ log) ≡ [] → made ≡ []
-nothing_made t kept begin first txn [] log h e = refl
-nothing_made t kept begin first txn (r ∷ made) log h e = absurd (no_cons (meaning h.0.1) (opened (made ++ log)) (sym e ∙ ap (λ (x : Step). map meaning (with_change x (logged (made ++ log)))) h.0.2))
-
 -- how much a reading says is taken
 pub pages_are : (s : Contents) → (reading s).pages ≡ page_total s
 unfolding reading

@@ -119,7 +119,7 @@ module _ (recovers : Recovering) (a : Over) (t : Table) (z : Sizes) (from : Stat
 
 -- AND THE OTHER WAY ROUND: where contents stand in it, what the pages reach is taken, and nothing else
 module _ (a : Over) (z : Sizes) (s : Contents) (pages : length a.maps.pages ≡ z.pages) (bands : length a.maps.bands ≡ z.bands) (h : IsContents (space_in a) s) where
-  own_reads : ReadsAs z.pages z.bands a.engine.now s
+  pub own_reads : ReadsAs z.pages z.bands a.engine.now s
   own_reads = moved a.engine.now s (length a.maps.pages) z.pages (length a.maps.bands) z.bands pages bands (state_reads (space_in a) a.engine.now s h (part_of a) (in_range a s h))
 
   pub taken_now : AreTaken z (has_page a) (has_band a) a.engine.now.pages

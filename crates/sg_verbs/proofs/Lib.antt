@@ -1,4 +1,5 @@
 pub mod Places
+pub mod Still
 pub mod Held
 pub mod Moving
 pub mod Story
@@ -8,4 +9,7 @@ pub mod Asked
 pub mod Listed
 pub mod Needed
 pub mod Doing
+pub mod Ready
+pub mod Done
 pub mod Freed
+pub mod PutBack

@@ -1,9 +1,8 @@
 -- Lists of keys and of names, as the store asks.
-use Rattle.std.proofs.Common.{◌≡◌, ℕ, Bool, true, false, List, Result, Ok, Err, refl, sym, ap, ◌∙◌, subst}
+use Rattle.std.proofs.Common.{◌≡◌, ℕ, List, Result, Ok, Err, refl, sym, ap, ◌∙◌, subst}
 use Rattle.std.specs.Prelude.{OnOk, IfOk, IfErr, IsOk, Vec}
 use Rattle.std.specs.FinMap.{get, keys}
 use Rattle.sg_ops.specs.Table.{Table as Operations}
-use Rattle.sg_action.specs.States.{State}
 use Rattle.sg_actions.specs.declared.acts.Acts.{Acts}
 use Rattle.sg_actions.specs.declared.engine.Engine.{Ghosts}
 use Rattle.sg_model.specs.Step.{on, step}
@@ -30,7 +29,7 @@ use Rattle.sg_shown.specs.Shown.{basis, over, shown}
 use Rattle.sg_verbs.specs.Looks.{is_list_failed}
 use Rattle.sg_verbs.proofs.Asked.{step_is}
 use Rattle.sg_verbs.proofs.Looking.{disk_is}
-use Rattle.sg_verbs.proofs.Looked.{Look, Kept, Failed, Ends, GoesOn, kept, failed, looked_there, counts_kept, counts_refused, counts_failed}
+use Rattle.sg_verbs.proofs.Looked.{Look, Ends, GoesOn, kept, failed, looked_there, counts_kept, counts_refused, counts_failed}
 use Rattle.sg_verbs.proofs.Moving.{view_in}
 
 -- a fault of the space is no want of memory

@@ -5,7 +5,6 @@ use Rattle.sg_base.specs.Ends.{HasRisen}
 use Rattle.sg_ops.specs.Table.{Table, fresh_table}
 use Rattle.sg_recovery.specs.Log.{tally}
 use Rattle.sg_action.specs.States.{State}
-use Rattle.sg_actions.specs.Steps.{repeated}
 use Rattle.sg_actions.specs.declared.acts.Acts.{Acts}
 use Rattle.sg_actions.specs.declared.engine.Engine.{Ghosts}
 use Rattle.sg_serial.specs.Locks.{Touch}

@@ -1,6 +1,5 @@
 -- A look at the objects, while whoever acts pauses: nothing is logged, and all is as before.
-use Rattle.std.proofs.Common.{◌≡◌, ℕ, ◌+◌, ◌*◌, ◌≤◌, Bool, true, false, List, [], ◌∷◌, ◌++◌, length, Option, Some, None, Result, Ok, Err, refl, sym, ap, ◌∙◌, subst, arith}
-use Rattle.std.specs.Prelude.{OnOk, IfErr}
+use Rattle.std.proofs.Common.{◌≡◌, ℕ, ◌+◌, ◌*◌, ◌≤◌, Bool, true, false, [], ◌++◌, Some, Result, Err, refl, sym, ap, ◌∙◌, subst, arith}
 use Rattle.sg_base.specs.Ends.{HasRisen}
 use Rattle.sg_disk.specs.Disk as disk
 use Rattle.sg_disk.specs.Disk.{LeavesOnly}
@@ -21,16 +20,15 @@ use Rattle.sg_objects.specs.declared.verb.ObjFault.{ObjFault as ObjectsFault}
 use Rattle.sg_objects.specs.declared.verb.ObjFault.TheVariants as objects
 use Rattle.sg_store.specs.declared.fault.ObjFault.{ObjFault}
 use Rattle.sg_store.specs.declared.fault.ObjFault.TheVariants as store
-use Rattle.sg_model.specs.declared.reason.Reason.{Reason}
 use Rattle.sg_store.specs.Engine.{IsObjDisk}
 use Rattle.sg_space.specs.declared.space.SpaceFault.TheVariants as faults
 use Rattle.sg_store.specs.Engine.{Sizes, Asked, AskedBy, Counts, IsDiskFault, IsImageOf, Rests, Rested, action_of}
 use Rattle.sg_store.specs.Verbs.{CanLook}
 use Rattle.sg_ground.specs.Recovers.{Recovering}
-use Rattle.sg_shown.specs.Shown.{Over, Keeping, Means, basis, shown_of, acting}
+use Rattle.sg_shown.specs.Shown.{Over, Means, basis, shown_of, acting}
 use Rattle.sg_shown.proofs.History.{grows_is, moments_are}
 use Rattle.sg_shown.proofs.Holding.{Facts, engine_is, idle_ended}
-use Rattle.sg_verbs.proofs.Held.{space_in, free_in, free_bands_in, contents_in, taken_now, counted_now, map_now}
+use Rattle.sg_verbs.proofs.Held.{space_in, free_in, free_bands_in, contents_in, own_reads, taken_now, counted_now, map_now}
 use Rattle.sg_verbs.proofs.Moving.{at_in, LaterOn, view_in, Leaves, went, keeping_on, means_off, IsStopped}
 use Rattle.sg_verbs.proofs.Story.{seen}
 
@@ -105,6 +103,8 @@ module _ (recovers : Recovering) (a b : Over) (t : Table) (z : Sizes) (from : St
         let w = look_went told0 in
         let g = w.gone (whole told) in
         record {
+          contents = s;
+          reads = own_reads (resumed a.begun b) z s pages bands h';
           now = taken_now (resumed a.begun b) z s pages bands h';
           counted = counted_now (resumed a.begun b) z s pages bands h' (subst (λ (x : space.Space). IsCounted x s) (sym room) counted);
           map = map_now (resumed a.begun b) z s pages bands h';
@@ -126,7 +126,7 @@ module _ (recovers : Recovering) (a b : Over) (t : Table) (z : Sizes) (from : St
           let told0 = l.told told in
           let w = look_went told0 in
           let s = there told0 in
-          keeping_on a (resumed a.begun b) t z from w.made (m.keeps told0) w.are (regone (w.gone (whole told))) same (now told) (leaves told s.0 s.1 s.2);
+          keeping_on a (resumed a.begun b) t z from w.made (m.keeps told0) w.are (regone (w.gone (whole told))) same (now told) l.pages l.bands (leaves told s.0 s.1 s.2);
     }
 
     pub look_rested : Means (resumed a.begun b) t z from → Facts recovers (resumed a.begun b) t from → (told : b.engine.Told) → Rested t (basis recovers z) (seen recovers t z from a) (seen recovers t z from (resumed a.begun b))

@@ -1,5 +1,5 @@
 -- What a need leaves and says, as the store asks.
-use Rattle.std.proofs.Common.{◌≡◌, ℕ, Bool, true, false, List, Result, Ok, Err, refl, ap}
+use Rattle.std.proofs.Common.{◌≡◌, ℕ, List, Result, Ok, Err, refl, ap}
 use Rattle.std.specs.Prelude.{IfErr}
 use Rattle.sg_ops.specs.Table.{Table}
 use Rattle.sg_actions.specs.declared.acts.Acts.{Acts}
@@ -26,7 +26,7 @@ use Rattle.sg_shown.specs.Shown.{over, shown}
 use Rattle.sg_verbs.specs.Looks.{is_need_failed, told_need}
 use Rattle.sg_verbs.proofs.Asked.{refused_as, needs_as}
 use Rattle.sg_verbs.proofs.Looking.{disk_is}
-use Rattle.sg_verbs.proofs.Looked.{Look, Kept, Failed, Ends, GoesOn, kept, failed, looked_there, counts_kept, counts_refused, counts_failed}
+use Rattle.sg_verbs.proofs.Looked.{Look, Ends, GoesOn, kept, failed, looked_there, counts_kept, counts_refused, counts_failed}
 use Rattle.sg_verbs.proofs.Moving.{view_in}
 
 read_fault : (f : SpaceFault) → (objects.Space f ≡ objects.Space faults.LogEnd → ⊥) → IsDiskFault f

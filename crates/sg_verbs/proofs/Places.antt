@@ -16,6 +16,7 @@ use Rattle.sg_once.proofs.Pages.{same_lists, both_at, same_link}
 use Rattle.sg_space.specs.View.{Space}
 use Rattle.sg_contents.specs.Standing.{Body, Contents, IsBody, OwnsPage, OwnsBand, IsAmong, IsContents, IsReachedPage, IsReachedBand}
 use Rattle.sg_contents.specs.Standing.Body.{AnArray, ATable, ABlob}
+use Rattle.sg_contents.specs.Limits.{size_in, or_else, size_among, items_for, limit_of, kind_at, limit}
 use Rattle.sg_contents.specs.Meaning.{pages_in, bands_in, page_total, band_total}
 use Rattle.sg_reader.proofs.Once.{one_table}
 
@@ -93,6 +94,23 @@ bands_are (ATable a) (ABlob b) e = absurd e
 bands_are (ABlob a) (AnArray b) e = absurd e
 bands_are (ABlob a) (ATable b) e = absurd e
 
+-- an item page is of an array of the same size
+sizes_are : (page : ℕ) (a b : Body) → LieAlike a b → size_in b page ≡ size_in a page
+sizes_are page (AnArray a) (AnArray b) e = ap (λ (z : Array). size_in (AnArray z) page) (sym e)
+sizes_are page (ATable a) (ATable b) e = ap (λ (z : HashTable). size_in (ATable z) page) (sym e)
+sizes_are page (ABlob a) (ABlob b) e = refl
+sizes_are page (AnArray a) (ATable b) e = absurd e
+sizes_are page (AnArray a) (ABlob b) e = absurd e
+sizes_are page (ATable a) (AnArray b) e = absurd e
+sizes_are page (ATable a) (ABlob b) e = absurd e
+sizes_are page (ABlob a) (AnArray b) e = absurd e
+sizes_are page (ABlob a) (ATable b) e = absurd e
+
+sizes_among : (f g : ℕ → Body) (page : ℕ) (xs : List Row) → ((row : Row) → IsAmong xs row → size_in (f row.root.0) page ≡ size_in (g row.root.0) page)
+    → size_among f xs page ≡ size_among g xs page
+sizes_among f g page [] h = refl
+sizes_among f g page (row ∷ xs) h = λ i. or_else (h row (inl refl) i) (sizes_among f g page xs (λ r a. h r (inr a)) i)
+
 sums_are : (f g : Row → ℕ) (xs : List Row) → ((row : Row) → IsAmong xs row → f row ≡ g row) → sum_by f xs ≡ sum_by g xs
 sums_are f g [] h = refl
 sums_are f g (row ∷ xs) h = sum_by-cons f row xs ∙ ((λ i. h row (inl refl) i + sums_are f g xs (λ r a. h r (inr a)) i) ∙ sym (sum_by-cons g row xs))
@@ -125,3 +143,10 @@ module _ (x y : Space) (s s' : Contents) (h : IsContents x s) (k : IsContents y 
   band_totals =
       sums_are (λ (row : Row). bands_in (s'.body row.root.0)) (λ (row : Row). bands_in (s.body row.root.0)) (rows s'.catalog) (λ row a. bands_are (s.body row.root.0) (s'.body row.root.0) (alike row a))
       ∙ ap (λ (c : Catalog). sum_by (λ (row : Row). bands_in (s.body row.root.0)) (rows c)) (sym catalogs)
+
+  -- so a page may have as many slots
+  pub same_limit : (at : ℕ → Option Sheet) (page : ℕ) → limit s' at page ≡ limit s at page
+  same_limit at page = ap (λ (o : Option ℕ). limit_of (kind_at (at page)) (items_for o)) (
+      sizes_among s'.body s.body page (rows s'.catalog) (λ row a. sizes_are page (s.body row.root.0) (s'.body row.root.0) (alike row a))
+      ∙ ap (λ (c : Catalog). size_among s.body (rows c) page) (sym catalogs)
+  )

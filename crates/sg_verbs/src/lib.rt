@@ -10,8 +10,10 @@ mod listing;
 mod looks;
 mod needing;
 mod pausing;
+mod performing;
 
 pub use freeing::free_next;
 pub use listing::{keys, list};
 pub use looks::{touches, touches_keys};
 pub use needing::needs;
+pub use performing::perform;

@@ -63,5 +63,5 @@ returns-in_ok-paint-in-Ok-clause-wrote g c =
           let f = (c.in_ok-reason.ensures.read shows s h).ok c.in-Ok.found c.in-Ok.is in
           let now = still_contents k shows h in
           let one = did.turns mid f.found.blob (blob_at now f.found) (can_paint f) in
-          wrote_body one.0 k f.found.at (one.1).blob one.3;
+          wrote_body one.0 k shows f.found one.1 one.3;
     }

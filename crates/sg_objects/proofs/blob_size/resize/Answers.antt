@@ -62,5 +62,5 @@ returns-in_ok-set_len-in-Ok-clause-wrote g c =
           let f = subst (λ (r : Result BlobAt Reason). Checked c.args.name (Size c.args.size) s (CanSizeTo c.args.name c.args.size s) r) c.in-Ok.is (c.in_ok-reason.ensures.read shows s h) in
           let now = still_contents k shows h in
           let one = did.turns mid f.found.blob (blob_at now f.found) (can_size _ c.args.size now f (still_fresh k shows (c.requires.fresh told)) (still_room k shows can)) in
-          wrote_body one.0 k f.found.at (one.1).blob one.3;
+          wrote_body one.0 k shows f.found one.1 one.3;
     }

@@ -16,7 +16,8 @@ use Rattle.sg_verbs.proofs.Moving.{LaterOn, view_in, at_in, IsStopped, means_on,
 use Rattle.sg_verbs.proofs.Story.{seen, begun_by}
 use Rattle.sg_verbs.proofs.Looking.{look_there, asked_by_there, counts_err}
 use Rattle.sg_verbs.proofs.Doing.{counts_on, near_err, leaves_of, do_went, do_changes, do_changed}
-use Rattle.sg_verbs.proofs.Freed.{nothing_made, frees_next, freed_there}
+use Rattle.sg_verbs.proofs.Freed.{frees_next, freed_there}
+use Rattle.sg_verbs.proofs.Still.{nothing_made}
 use Rattle.sg_verbs.proofs.freeing.free_next.Given as given
 use Rattle.sg_verbs.proofs.freeing.free_next.Goals as goal
 

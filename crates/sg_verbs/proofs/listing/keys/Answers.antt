@@ -1,4 +1,3 @@
-use Rattle.std.proofs.Common.{◌≡◌}
 use Rattle.sg_shown.specs.Shown.{over}
 use Rattle.sg_verbs.proofs.Looking.{asked_there}
 use Rattle.sg_verbs.proofs.Looked.{asked_look, contents_there, goes_on, means_end, tail_end}

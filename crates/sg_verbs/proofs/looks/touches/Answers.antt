@@ -1,4 +1,3 @@
-use Rattle.std.proofs.Common.{◌≡◌}
 use Rattle.sg_model.specs.SaidOps.{said_op}
 use Rattle.sg_model.specs.TouchList.{shown_touches}
 use Rattle.sg_shown.specs.Shown.{over}

@@ -1,4 +1,4 @@
-use Rattle.std.proofs.Common.{◌≡◌, sym, subst}
+use Rattle.std.proofs.Common.{sym, subst}
 use Rattle.sg_ops.specs.Table.{table_of}
 use Rattle.sg_model.specs.SaidOps.{name_of, verb_of}
 use Rattle.sg_shown.specs.Shown.{over}

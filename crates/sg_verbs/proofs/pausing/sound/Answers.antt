@@ -1,4 +1,3 @@
-use Rattle.std.proofs.Common.{◌≡◌}
 use Rattle.sg_verbs.proofs.pausing.sound.Goals as goal
 
 pub returns : goal.returns
