@@ -22,15 +22,16 @@ use Rattle.sg_record.specs.Records.Says.{TopVoid as SaysTopVoid}
 use Rattle.sg_record.specs.Shown.{by}
 use Rattle.sg_actions.specs.Engine.{EngineView, now_of, ArePagesFit}
 use Rattle.sg_actions.specs.Led.{Appended}
-use Rattle.sg_actions.specs.Offed.{kept_in, CanTakeOff, TakenOff, IsResumable, AllOff}
+use Rattle.sg_actions.specs.Offed.{kept_in, CanTakeOff, TakenOff, ActionOff, IsResumable, AllOff}
 use Rattle.sg_actions.specs.Rows.{placed, rows_after, at_rest}
 use Rattle.sg_actions.specs.Steps.{Steps, stepped, opened, begin_of, repeated}
 use Rattle.sg_actions.specs.Taken.{is_set, takes_page, takes_band}
-use Rattle.sg_actions.specs.TakingOff.{AreLinked, AreOnce, IsOff, Voided, left_of}
+use Rattle.sg_actions.specs.TakingOff.{AreLinked, AreOnce, IsOff, IsGoing, Voided, left_of}
 use Rattle.sg_actions.specs.declared.rows.Actor.{Actor}
 use Rattle.sg_actions.specs.declared.rows.Row.{Row}
 use Rattle.sg_actions.proofs.Flags.{and_left, and_right}
 use Rattle.sg_actions.proofs.Going.{taken_in}
+use Rattle.sg_actions.proofs.Offing.{going_of}
 use Rattle.sg_actions.proofs.TakenOff.{take_off_begins, changes_are, before_below, off_alike, chain_void, chain_void_system, void_step, taking_later}
 
 -- an open action takes no page twice
@@ -157,15 +158,32 @@ pub on_ok : {T F : Type 0} {P Q : Type 0} (r : Result T F) → (P → Q) → OnO
 on_ok (Ok x) f h = f h
 on_ok (Err e) f h = tt
 
+-- all of it is off
+pub action_off : (t : Table) (kept : Kept) (begin : State) (e1 e' : EngineView) (rows rows' : List Row) (now new : Actor) (at : ℕ) → e1.Told → IsGoing t kept begin e1 rows now at → at ≡ now.before → Voided e1 e' rows rows' now new
+    → ActionOff t kept begin e' rows' new
+action_off t kept begin e1 e' rows rows' now new at told h ends v = record {
+  alike = subst (λ (x : State). Alike kept x begin) (sym (λ j. repeated t ((v.logged told).first j) ((v.logged told).steps j))) (off_alike t kept begin e1.base e1.steps (now_of t e1) e1.tail rows now none h.taking);
+  chain = voided_chain e1 e' rows rows' now new v.lsn (v.logged told) v.rest v.rows_are (chain_by (now.txn.0 == 0) refl);
+  rest = v.rest;
+}
+  where
+    none : (tally e1.steps).opened ≡ []
+    none = none_left e1.steps now at h.taking.running.linked h.at_is ends
+
+    chain_by : (b : Bool) → (now.txn.0 == 0) ≡ b → IsChained e1.base (stepped e1.steps v.lsn (void_step now)) e'.tail (if b then rows else placed rows now.txn.0 (record { txn = now.txn; last = v.lsn })) at_rest
+    chain_by true z = chain_void_system t kept begin e1.base e1.steps (now_of t e1) v.lsn e'.tail rows now (v.logged told).tail (grind (arith, nat_tests, z)) none (taking_later h.taking (v.logged told).number)
+    chain_by false z = chain_void t kept begin e1.base e1.steps (now_of t e1) v.lsn e'.tail rows now (record { txn = now.txn; last = v.lsn }) (v.logged told).tail
+        (λ k. absurd (let one : (now.txn.0 == 0) ≡ true = grind (arith, nat_tests, k) in let two : true ≡ false = sym one ∙ z in cc)) refl refl none (taking_later h.taking (v.logged told).number)
+
 pub all_off_now : (t : Table) (limits : State → ℕ → ℕ) (kept : Kept) (begin : State) (e1 e' : EngineView) (maps unfreed : Maps) (rows rows' : List Row) (now new : Actor) (at : ℕ) → e1.Told → IsResumable t kept begin e1 maps unfreed rows now at → at ≡ now.before → Voided e1 e' rows rows' now new → ArePagesFit (now_of t e')
     → AllOff t limits kept begin e' maps rows' new
 all_off_now t limits kept begin e1 e' maps unfreed rows rows' now new at told h ends v fit = record {
-  alike = alike;
+  alike = gone.alike;
   pages = flag;
   bands = flag_bands;
-  chain = voided_chain e1 e' rows rows' now new v.lsn (v.logged told) v.rest v.rows_are (chain_by (now.txn.0 == 0) refl);
+  chain = gone.chain;
   well =
-      let begun : IsBegun kept (now_of t e') = begun_again kept begin (now_of t e') h.begun alike in
+      let begun : IsBegun kept (now_of t e') = begun_again kept begin (now_of t e') h.begun gone.alike in
       let void : IsWell t limits (now_of t e') [] maps.pages maps.bands = record {
         begun = λ n k. begun n (sym (flag n) ∙ and_left (is_set maps.pages n) true k);
         fit = λ n k. fit_leaf ((now_of t e').pages n) (λ p is. fit n p is);
@@ -177,11 +195,11 @@ all_off_now t limits kept begin e1 e' maps unfreed rows rows' now new at told h 
       (subst (λ (rs : Steps). IsWell t limits (repeated t e'.first rs) [] maps.pages maps.bands) (v.logged told).steps void);
 }
   where
+    gone : ActionOff t kept begin e' rows' new
+    gone = action_off t kept begin e1 e' rows rows' now new at told (going_of h.off) ends v
+
     none : (tally e1.steps).opened ≡ []
     none = none_left e1.steps now at h.off.taking.running.linked h.off.at_is ends
-
-    alike : Alike kept (now_of t e') begin
-    alike = subst (λ (x : State). Alike kept x begin) (sym (λ j. repeated t ((v.logged told).first j) ((v.logged told).steps j))) (off_alike t kept begin e1.base e1.steps (now_of t e1) e1.tail rows now none h.off.taking)
 
     and_true : (c : Bool) → (c && true) ≡ c
     and_true true = refl
@@ -193,11 +211,6 @@ all_off_now t limits kept begin e1 e' maps unfreed rows rows' now new at told h 
     flag_bands : (n : ℕ) → is_set maps.bands n ≡ kept.bands n
     flag_bands n = sym (sym (h.off.bands n) ∙ (ap (λ (es : List (Open Changing)). is_set maps.bands n && not (takes_band (map meaning (changes_of es)) n)) none ∙ and_true (is_set maps.bands n)))
 
-    chain_by : (b : Bool) → (now.txn.0 == 0) ≡ b → IsChained e1.base (stepped e1.steps v.lsn (void_step now)) e'.tail (if b then rows else placed rows now.txn.0 (record { txn = now.txn; last = v.lsn })) at_rest
-    chain_by true z = chain_void_system t kept begin e1.base e1.steps (now_of t e1) v.lsn e'.tail rows now (v.logged told).tail (grind (arith, nat_tests, z)) none (taking_later h.off.taking (v.logged told).number)
-    chain_by false z = chain_void t kept begin e1.base e1.steps (now_of t e1) v.lsn e'.tail rows now (record { txn = now.txn; last = v.lsn }) (v.logged told).tail
-        (λ k. absurd (let one : (now.txn.0 == 0) ≡ true = grind (arith, nat_tests, k) in let two : true ≡ false = sym one ∙ z in cc)) refl refl none (taking_later h.off.taking (v.logged told).number)
-
 -- the same of equal parts
 pub off_same : {t : Table} {kept : Kept} {begin : State} {e : EngineView} {maps unfreed unfreed' : Maps} {rows rows' : List Row} {actor : Actor} {at : ℕ} → unfreed' ≡ unfreed → rows' ≡ rows → IsOff t kept begin e maps unfreed rows actor at → IsOff t kept begin e maps unfreed' rows' actor at
 off_same {t} {kept} {begin} {e} {maps} {unfreed} {unfreed'} {rows} {rows'} {actor} {at} a b h =
@@ -206,6 +219,9 @@ off_same {t} {kept} {begin} {e} {maps} {unfreed} {unfreed'} {rows} {rows'} {acto
 pub taken_same : {t : Table} {limits : State → ℕ → ℕ} {e e' : EngineView} {maps m m' u u' : Maps} {rows : List Row} {actor new : Actor} → m' ≡ m → u' ≡ u → TakenOff t limits e e' maps m u rows actor new → TakenOff t limits e e' maps m' u' rows actor new
 taken_same {t} {limits} {e} {e'} {maps} {m} {m'} {u} {u'} {rows} {actor} {new} a b h =
     subst (λ (x : Maps). TakenOff t limits e e' maps x u' rows actor new) (sym a) (subst (λ (x : Maps). TakenOff t limits e e' maps m x rows actor new) (sym b) h)
+
+pub going_same : {t : Table} {kept : Kept} {begin : State} {e : EngineView} {rows rows' : List Row} {actor : Actor} {at : ℕ} → rows' ≡ rows → IsGoing t kept begin e rows actor at → IsGoing t kept begin e rows' actor at
+going_same {t} {kept} {begin} {e} {rows} {rows'} {actor} {at} b h = subst (λ (rs : List Row). IsGoing t kept begin e rs actor at) (sym b) h
 
 pub all_same : {t : Table} {limits : State → ℕ → ℕ} {kept : Kept} {begin : State} {e : EngineView} {m m' : Maps} {rows : List Row} {actor : Actor} → m' ≡ m → AllOff t limits kept begin e m rows actor → AllOff t limits kept begin e m' rows actor
 all_same {t} {limits} {kept} {begin} {e} {m} {m'} {rows} {actor} a h = subst (λ (x : Maps). AllOff t limits kept begin e x rows actor) (sym a) h

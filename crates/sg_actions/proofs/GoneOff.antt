@@ -23,11 +23,10 @@ use Rattle.sg_actions.specs.Images.{Recovering}
 use Rattle.sg_actions.specs.Led.{HasLogged, HasStayed, Stayed, LookCall, LogCall}
 use Rattle.sg_actions.specs.Rows.{at_rest}
 use Rattle.sg_actions.specs.Steps.{Step, Steps, stepped, with_step, repeated}
-use Rattle.sg_actions.specs.TakingOff.{IsTakingOff, IsOff}
+use Rattle.sg_actions.specs.TakingOff.{IsTakingOff, IsGoing}
 use Rattle.sg_actions.specs.WentOff.{TakesLast, IsOver, AreOffSteps, HasOff, WentOff, OffCounts}
 use Rattle.sg_actions.specs.declared.rows.Actor.{Actor}
 use Rattle.sg_actions.specs.declared.rows.Row.{Row}
-use Rattle.sg_alloc.specs.declared.maps.Maps.{Maps}
 use Rattle.sg_actions.proofs.Counting.{HasLooked}
 use Rattle.sg_actions.proofs.Offing.{IsNext, IsRead}
 use Rattle.sg_actions.proofs.TakenOff.{takes_one_off, comp_step, void_step, chain_void, chain_void_system, taking_later}
@@ -103,9 +102,9 @@ off_logged {recovers} {t} txn e e' r x q says step formed h told = record {
 }
 
 -- the record that takes the last open change off
-pub off_one : {recovers : Recovering} {t : Table} (kept : Kept) (begin : State) (e e' : EngineView) (maps unfreed : Maps) (rows : List Row) (actor : Actor) (at prev : ℕ) (c comp : Changing) (q : Result ℕ SpaceFault) → IsOff t kept begin e maps unfreed rows actor at → (n : IsNext e.steps actor at)
+pub off_one : {recovers : Recovering} {t : Table} (kept : Kept) (begin : State) (e e' : EngineView) (rows : List Row) (actor : Actor) (at prev : ℕ) (c comp : Changing) (q : Result ℕ SpaceFault) → IsGoing t kept begin e rows actor at → (n : IsNext e.steps actor at)
     → IsRead c prev n.d (next_off actor.before n.ds) → comp ≡ comp_of c → LogCall recovers t e e' (by actor.txn.0 actor.last (SaysPhysComp prev comp)) q → e.Told → WentOff recovers t actor.txn.0 e e'
-off_one {recovers} {t} kept begin e e' maps unfreed rows actor at prev c comp q off n r is h told =
+off_one {recovers} {t} kept begin e e' rows actor at prev c comp q off n r is h told =
     let above = h.above told in
     let one = takes_one_off t kept begin e.base e.steps (now_of t e) e'.tried (e'.tried + 1) rows actor n.d n.ds (omega arith) n.is (taking_later off.taking above) in
     off_logged actor.txn.0 e e' (by actor.txn.0 actor.last (SaysPhysComp prev comp)) (comp_step actor n.d n.ds) q

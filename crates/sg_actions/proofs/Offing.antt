@@ -21,7 +21,7 @@ use Rattle.sg_actions.proofs.Led.{now_stays}
 use Rattle.sg_actions.specs.Led.{Appended, HasLogged, Stayed, HasStayed}
 use Rattle.sg_actions.specs.Steps.{Step, Steps, stepped, step_at, step_of, step_by, repeated}
 use Rattle.sg_actions.specs.Taken.{is_set, is_there, takes_page, takes_band, fills, AreFlags, IsUntaken, IsUntakenBand}
-use Rattle.sg_actions.specs.TakingOff.{IsTakingOff, AreLinked, AreOnce, IsOff, CanGoOff, NextStep, TookOff, left_of}
+use Rattle.sg_actions.specs.TakingOff.{IsTakingOff, AreLinked, AreOnce, IsOff, IsGoing, CanGoOff, NextStep, TookOff, left_of}
 use Rattle.sg_actions.specs.declared.rows.Actor.{Actor}
 use Rattle.sg_actions.specs.declared.rows.Row.{Row}
 use Rattle.sg_actions.proofs.Chained.{later}
@@ -37,8 +37,11 @@ pub record IsNext (rs : Steps) (actor : Actor) (at : ℕ) : Type 0 where
   pub here : at ≡ d.lsn
   pub step : step_at rs at ≡ Some (Change d.transaction (next_off actor.before ds) d.change)
 
-pub next_one : (t : Table) (kept : Kept) (begin : State) (e : EngineView) (maps unfreed : Maps) (rows : List Row) (actor : Actor) (at : ℕ) → at ≢ actor.before → IsOff t kept begin e maps unfreed rows actor at → IsNext e.steps actor at
-next_one t kept begin e maps unfreed rows actor at ne h = by_list (tally e.steps).opened refl
+pub going_of : {t : Table} {kept : Kept} {begin : State} {e : EngineView} {maps unfreed : Maps} {rows : List Row} {actor : Actor} {at : ℕ} → IsOff t kept begin e maps unfreed rows actor at → IsGoing t kept begin e rows actor at
+going_of h = record { taking = h.taking; at_is = h.at_is }
+
+pub next_one : (t : Table) (kept : Kept) (begin : State) (e : EngineView) (rows : List Row) (actor : Actor) (at : ℕ) → at ≢ actor.before → IsGoing t kept begin e rows actor at → IsNext e.steps actor at
+next_one t kept begin e rows actor at ne h = by_list (tally e.steps).opened refl
   where
     by_list : (es : List (Open Changing)) → (tally e.steps).opened ≡ es → IsNext e.steps actor at
     by_list [] is = absurd (ne (h.at_is ∙ ap (next_off actor.before) is))
@@ -48,9 +51,15 @@ next_one t kept begin e maps unfreed rows actor at ne h = by_list (tally e.steps
         record { d = d; ds = ds; is = is; here = here; step = ap (step_at e.steps) here ∙ linked.0 }
 
 -- a look leaves a take-off as it is
+pub going_stays : {t : Table} {kept : Kept} {begin : State} {e e' : EngineView} {rows : List Row} {actor : Actor} {at : ℕ} → Stayed e e' → IsGoing t kept begin e rows actor at → IsGoing t kept begin e' rows actor at
+going_stays {t} {kept} {begin} {e} {e'} {rows} {actor} {at} s h = record {
+  taking = taking_later (subst (λ (b : ℕ). IsTakingOff t kept begin b e'.steps (now_of t e') e.tail rows actor) (sym s.base) (subst (λ (x : State). IsTakingOff t kept begin e.base e'.steps x e.tail rows actor) (sym (now_stays t s)) (subst (λ (rs : Steps). IsTakingOff t kept begin e.base rs (now_of t e) e.tail rows actor) (sym s.steps) h.taking))) s.tail;
+  at_is = h.at_is ∙ ap (λ (rs : Steps). next_off actor.before (tally rs).opened) (sym s.steps);
+}
+
 pub off_stays : {t : Table} {kept : Kept} {begin : State} {e e' : EngineView} {maps unfreed : Maps} {rows : List Row} {actor : Actor} {at : ℕ} → Stayed e e' → IsOff t kept begin e maps unfreed rows actor at → IsOff t kept begin e' maps unfreed rows actor at
 off_stays {t} {kept} {begin} {e} {e'} {maps} {unfreed} {rows} {actor} {at} s h = record {
-  taking = taking_later (subst (λ (b : ℕ). IsTakingOff t kept begin b e'.steps (now_of t e') e.tail rows actor) (sym s.base) (subst (λ (x : State). IsTakingOff t kept begin e.base e'.steps x e.tail rows actor) (sym (now_stays t s)) (subst (λ (rs : Steps). IsTakingOff t kept begin e.base rs (now_of t e) e.tail rows actor) (sym s.steps) h.taking))) s.tail;
+  taking = (going_stays s (going_of h)).taking;
   pages = λ n. subst (λ (rs : Steps). (is_set maps.pages n && not (takes_page (left_of rs) n)) ≡ kept.pages n) (sym s.steps) (h.pages n);
   used = λ n. subst (λ (rs : Steps). takes_page (left_of rs) n ≡ true → is_set maps.pages n ≡ true) (sym s.steps) (h.used n);
   once = subst (λ (rs : Steps). AreOnce (left_of rs)) (sym s.steps) h.once;
@@ -121,13 +130,27 @@ read_is rs at what r c previous next d e f g h =
     numbers : {t p u q : ℕ} {a b : Changing} → (let x : Option Step = Some (Change t p a) in x) ≡ Some (Change u q b) → p ≡ q
     numbers k = cc
 
--- THE TAKE-OFF GOES ON behind the record
+-- THE TAKE-OFF GOES ON behind the record,
+pub going_on : (t : Table) (kept : Kept) (begin : State) (e e' : EngineView) (rows : List Row) (actor : Actor) (at prev lsn : ℕ) (c : Changing) → (n : IsNext e.steps actor at) → IsRead c prev n.d (next_off actor.before n.ds)
+    → Appended e e' (by actor.txn.0 actor.last (SaysPhysComp prev (comp_of c))) lsn → IsGoing t kept begin e rows actor at → IsGoing t kept begin e' rows (later actor lsn) prev
+going_on t kept begin e e' rows actor at prev lsn c n r g h =
+    let one = takes_one_off t kept begin e.base e.steps (now_of t e) lsn e'.tail rows actor n.d n.ds g.tail n.is (taking_later h.taking g.number) in
+    let steps : e'.steps ≡ stepped e.steps lsn (comp_step actor n.d n.ds) = g.steps ∙ (λ j. stepped e.steps lsn (PhysComp actor.txn.0 actor.last (r.before_is j) (comp_of (r.change j)))) in
+    let now : now_of t e' ≡ apply t (now_of t e) (meaning (comp_of n.d.change)) = (λ j. repeated t (g.first j) (steps j)) in
+    record {
+      taking = subst (λ (b : ℕ). IsTakingOff t kept begin b e'.steps (now_of t e') e'.tail rows (later actor lsn)) (sym g.base) (subst (λ (rs : Steps). IsTakingOff t kept begin e.base rs (now_of t e') e'.tail rows (later actor lsn)) (sym steps)
+          (subst (λ (x : State). IsTakingOff t kept begin e.base (stepped e.steps lsn (comp_step actor n.d n.ds)) x e'.tail rows (later actor lsn)) (sym now)
+          one.goes_on));
+      at_is = r.before_is ∙ sym (ap (λ (rs : Steps). next_off actor.before (tally rs).opened) steps ∙ ap (next_off actor.before) one.leaves);
+    }
+
+-- and so do the flags
 pub off_goes_on : (t : Table) (kept : Kept) (begin : State) (e e' : EngineView) (maps maps' unfreed : Maps) (rows : List Row) (actor : Actor) (at prev lsn : ℕ) (c : Changing) → AreFlags maps.pages unfreed.pages → AreFlags maps.bands unfreed.bands → (n : IsNext e.steps actor at) → IsRead c prev n.d (next_off actor.before n.ds)
     → Appended e e' (by actor.txn.0 actor.last (SaysPhysComp prev (comp_of c))) lsn → IsUntaken maps.pages unfreed.pages maps'.pages (meaning c) → IsUntakenBand maps.bands unfreed.bands maps'.bands (meaning c) → IsOff t kept begin e maps unfreed rows actor at → IsOff t kept begin e' maps' unfreed rows (later actor lsn) prev
 off_goes_on t kept begin e e' maps maps' unfreed rows actor at prev lsn c flags band_flags n r g u ub h =
     let one = takes_one_off t kept begin e.base e.steps (now_of t e) lsn e'.tail rows actor n.d n.ds g.tail n.is (taking_later h.taking g.number) in
+    let gone = going_on t kept begin e e' rows actor at prev lsn c n r g (going_of h) in
     let steps : e'.steps ≡ stepped e.steps lsn (comp_step actor n.d n.ds) = g.steps ∙ (λ j. stepped e.steps lsn (PhysComp actor.txn.0 actor.last (r.before_is j) (comp_of (r.change j)))) in
-    let now : now_of t e' ≡ apply t (now_of t e) (meaning (comp_of n.d.change)) = (λ j. repeated t (g.first j) (steps j)) in
     let left : left_of e'.steps ≡ map meaning (changes_of n.ds) = ap left_of steps ∙ ap (λ (es : List (Open Changing)). map meaning (changes_of es)) one.leaves in
     let was : left_of e.steps ≡ meaning n.d.change ∷ map meaning (changes_of n.ds) = ap (λ (es : List (Open Changing)). map meaning (changes_of es)) n.is in
     let used : (k : ℕ) → takes_page (meaning n.d.change ∷ map meaning (changes_of n.ds)) k ≡ true → is_set maps.pages k ≡ true = λ k. subst (λ (ds : List Changed). takes_page ds k ≡ true → is_set maps.pages k ≡ true) was (h.used k) in
@@ -138,22 +161,20 @@ off_goes_on t kept begin e e' maps maps' unfreed rows actor at prev lsn c flags 
     let on_bands = bands_on maps.bands unfreed.bands maps'.bands (meaning n.d.change) (map meaning (changes_of n.ds)) kept band_flags h.whole_bands un_bands (λ k. subst (λ (ds : List Changed). (is_set maps.bands k && not (takes_band ds k)) ≡ kept.bands k) was (h.bands k)) in
     let on = flags_on maps.pages unfreed.pages maps'.pages (meaning n.d.change) (map meaning (changes_of n.ds)) kept flags h.whole un used pages once.0 in
     record {
-      taking = subst (λ (b : ℕ). IsTakingOff t kept begin b e'.steps (now_of t e') e'.tail rows (later actor lsn)) (sym g.base) (subst (λ (rs : Steps). IsTakingOff t kept begin e.base rs (now_of t e') e'.tail rows (later actor lsn)) (sym steps)
-          (subst (λ (x : State). IsTakingOff t kept begin e.base (stepped e.steps lsn (comp_step actor n.d n.ds)) x e'.tail rows (later actor lsn)) (sym now)
-          one.goes_on));
+      taking = gone.taking;
       pages = λ k. subst (λ (ds : List Changed). (is_set maps'.pages k && not (takes_page ds k)) ≡ kept.pages k) (sym left) (on.0 k);
       used = λ k. subst (λ (ds : List Changed). takes_page ds k ≡ true → is_set maps'.pages k ≡ true) (sym left) (on.1 k);
       once = subst AreOnce (sym left) once.1;
       whole = h.whole;
       bands = λ k. subst (λ (ds : List Changed). (is_set maps'.bands k && not (takes_band ds k)) ≡ kept.bands k) (sym left) (on_bands k);
       whole_bands = h.whole_bands;
-      at_is = r.before_is ∙ sym (ap (λ (rs : Steps). next_off actor.before (tally rs).opened) steps ∙ ap (next_off actor.before) one.leaves);
+      at_is = gone.at_is;
     }
 
 -- the record that takes it off may be appended
-pub off_fits : (t : Table) (kept : Kept) (begin : State) (e : EngineView) (maps unfreed : Maps) (rows : List Row) (actor : Actor) (at prev : ℕ) (c comp : Changing) (x : State) → x ≡ now_of t e → (n : IsNext e.steps actor at) → IsRead c prev n.d (next_off actor.before n.ds) → comp ≡ comp_of c
-    → IsOff t kept begin e maps unfreed rows actor at → fits t x (meaning comp) ≡ true
-off_fits t kept begin e maps unfreed rows actor at prev c comp x now n r is h =
+pub off_fits : (t : Table) (kept : Kept) (begin : State) (e : EngineView) (rows : List Row) (actor : Actor) (at prev : ℕ) (c comp : Changing) (x : State) → x ≡ now_of t e → (n : IsNext e.steps actor at) → IsRead c prev n.d (next_off actor.before n.ds) → comp ≡ comp_of c
+    → IsGoing t kept begin e rows actor at → fits t x (meaning comp) ≡ true
+off_fits t kept begin e rows actor at prev c comp x now n r is h =
     let one = takes_one_off t kept begin e.base e.steps (now_of t e) e.tail (e.tail + 1) rows actor n.d n.ds (omega arith) n.is h.taking in
     ap (λ (y : State). fits t y (meaning comp)) now ∙ (ap (λ (y : Changing). fits t (now_of t e) (meaning y)) is ∙ (ap (λ (y : Changing). fits t (now_of t e) (meaning (comp_of y))) r.change ∙ one.fits_it))
 
@@ -178,6 +199,7 @@ took_off t e e1 e' maps maps' unfreed rows actor at prev lsn c comp r flags band
   told = λ told. back (back' told);
   still = λ told. g.told (stays.told told);
   goes_on = λ told kept begin more h. on told kept begin more h;
+  keeps_on = λ told kept begin more h. keeps told kept begin more h;
   steps = λ told k. steps told k;
 }
   where
@@ -190,12 +212,18 @@ took_off t e e1 e' maps maps' unfreed rows actor at prev lsn c comp r flags band
     on : e.Told → (kept : Kept) (begin : State) → at ≢ actor.before → IsOff t kept begin e maps unfreed rows actor at → IsOff t kept begin e' maps' unfreed rows (later actor lsn) prev
     on told kept begin more h =
         let off = off_stays (stays.stays told) h in
-        let n = next_one t kept begin e1 maps unfreed rows actor at more off in
+        let n = next_one t kept begin e1 rows actor at more (going_of off) in
         off_goes_on t kept begin e1 e' maps maps' unfreed rows actor at prev lsn c flags band_flags n (read_is e1.steps at r r c prev (next_off actor.before n.ds) n.d (step1 told) refl says n.step) (g' told) u ub off
 
-    steps : e.Told → CanGoOff t e maps unfreed rows actor at → NextStep e e' actor
+    keeps : e.Told → (kept : Kept) (begin : State) → at ≢ actor.before → IsGoing t kept begin e rows actor at → IsGoing t kept begin e' rows (later actor lsn) prev
+    keeps told kept begin more h =
+        let going = going_stays (stays.stays told) h in
+        let n = next_one t kept begin e1 rows actor at more going in
+        going_on t kept begin e1 e' rows actor at prev lsn c n (read_is e1.steps at r r c prev (next_off actor.before n.ds) n.d (step1 told) refl says n.step) (g' told) going
+
+    steps : e.Told → CanGoOff t e rows actor at → NextStep e e' actor
     steps told k =
-        let n = next_one t k.kept k.begin e maps unfreed rows actor at k.more k.off in
+        let n = next_one t k.kept k.begin e rows actor at k.more k.going in
         let q = read_is e.steps at r r c prev (next_off actor.before n.ds) n.d (what told) refl says n.step in
         record { d = n.d; ds = n.ds; opened_is = n.is; lsn = lsn; steps_are = logged_steps n.d n.ds q }
       where

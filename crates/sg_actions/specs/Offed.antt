@@ -8,7 +8,7 @@ use Rattle.sg_action.specs.States.{State, Kept, Alike}
 use Rattle.sg_actions.specs.Acting.{IsWell, IsChained}
 use Rattle.sg_actions.specs.Engine.{EngineView, now_of}
 use Rattle.sg_action.specs.Opened.{IsBegun}
-use Rattle.sg_actions.specs.TakingOff.{IsOff}
+use Rattle.sg_actions.specs.TakingOff.{IsOff, IsGoing}
 use Rattle.sg_actions.specs.Rows.{at_rest}
 use Rattle.sg_actions.specs.Steps.{opened, begin_of}
 use Rattle.sg_actions.specs.Taken.{is_set, kept_of}
@@ -43,11 +43,17 @@ pub record IsResumable (t : Table) (kept : Kept) (begin : State) (e : EngineView
   pub begun : IsBegun kept begin
   pub off : IsOff t kept begin e maps unfreed rows actor at
 
--- there is such an action
-pub record CanResume (t : Table) (e : EngineView) (maps unfreed : Maps) (rows : List Row) (actor : Actor) (at : ℕ) : Type 0 where
+-- there is such an action, whatever is taken
+pub record CanResume (t : Table) (e : EngineView) (rows : List Row) (actor : Actor) (at : ℕ) : Type 0 where
   pub kept : Kept
   pub begin : State
-  pub resumable : IsResumable t kept begin e maps unfreed rows actor at
+  pub going : IsGoing t kept begin e rows actor at
+
+-- the same where it isn't known what is taken: nothing is said of that then
+pub record ActionOff (t : Table) (kept : Kept) (begin : State) (e : EngineView) (rows : List Row) (actor : Actor) : Type 0 where
+  pub alike : Alike kept (now_of t e) begin
+  pub chain : IsChained e.base e.steps e.tail rows actor
+  pub rest : actor ≡ at_rest
 
 -- ALL OF AN ACTION IS OFF: pages and bands can't be told from those at its begin, no action is open, and the next one begins well
 pub record AllOff (t : Table) (limits : State → ℕ → ℕ) (kept : Kept) (begin : State) (e : EngineView) (maps : Maps) (rows : List Row) (actor : Actor) : Type 0 where

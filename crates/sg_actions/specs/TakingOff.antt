@@ -81,11 +81,16 @@ pub record IsOff (t : Table) (kept : Kept) (begin : State) (e : EngineView) (map
   pub whole_bands : free_of unfreed.bands ≡ 0
   pub at_is : at ≡ next_off actor.before (tally e.steps).opened
 
+-- the same where it isn't known what is taken
+pub record IsGoing (t : Table) (kept : Kept) (begin : State) (e : EngineView) (rows : List Row) (actor : Actor) (at : ℕ) : Type 0 where
+  pub taking : IsTakingOff t kept begin e.base e.steps (now_of t e) e.tail rows actor
+  pub at_is : at ≡ next_off actor.before (tally e.steps).opened
+
 -- there is such an action
-pub record CanGoOff (t : Table) (e : EngineView) (maps unfreed : Maps) (rows : List Row) (actor : Actor) (at : ℕ) : Type 0 where
+pub record CanGoOff (t : Table) (e : EngineView) (rows : List Row) (actor : Actor) (at : ℕ) : Type 0 where
   pub kept : Kept
   pub begin : State
-  pub off : IsOff t kept begin e maps unfreed rows actor at
+  pub going : IsGoing t kept begin e rows actor at
   pub more : at ≢ actor.before
 
 -- the record that takes the last open change off is appended
@@ -104,7 +109,8 @@ pub record TookOff (t : Table) (e e' : EngineView) (maps maps' unfreed : Maps) (
   pub told : e'.Told → e.Told
   pub still : e.Told → e'.Told
   pub goes_on : e.Told → (kept : Kept) (begin : State) → at ≢ actor.before → IsOff t kept begin e maps unfreed rows actor at → IsOff t kept begin e' maps' unfreed rows actor' next
-  pub steps : e.Told → CanGoOff t e maps unfreed rows actor at → NextStep e e' actor
+  pub keeps_on : e.Told → (kept : Kept) (begin : State) → at ≢ actor.before → IsGoing t kept begin e rows actor at → IsGoing t kept begin e' rows actor' next
+  pub steps : e.Told → CanGoOff t e rows actor at → NextStep e e' actor
 
 -- the record that all is taken off is appended, no action is open, and the system acts
 pub record Voided (e e' : EngineView) (rows rows' : List Row) (actor actor' : Actor) : Type 0 where

@@ -19,8 +19,8 @@ impl<E: Engine> Acts<E> {
     ghost use Rattle.sg_recovery.specs.Log.{tally};
     ghost use Rattle.sg_ops.specs.Table.{Table, table_of};
     ghost use Rattle.sg_actions.specs.Engine.{EngineCounts, Keeps, AreBy, led, now_of};
-    ghost use Rattle.sg_actions.specs.TakingOff.{CanGoOff, IsOff, IsTakingOff, TookOff, Voided};
-    ghost use Rattle.sg_actions.specs.Offed.{CanTakeOff, TakenOff, CanResume, IsResumable, AllOff};
+    ghost use Rattle.sg_actions.specs.TakingOff.{CanGoOff, IsGoing, IsTakingOff, TookOff, Voided};
+    ghost use Rattle.sg_actions.specs.Offed.{CanTakeOff, TakenOff, CanResume, ActionOff, IsResumable, AllOff};
     ghost use Rattle.sg_actions.specs.WentOff.{OffCounts, WentOff};
     ghost use Rattle.sg_action.specs.States.{State, Kept};
 
@@ -28,13 +28,13 @@ impl<E: Engine> Acts<E> {
     // take-off goes on.
     fn take_one_off(&mut self, ops: &Ops, at: Lsn) -> Result<Lsn, SpaceFault>
         requires off { let t = table_of record_meaning range_meaning ops.now in (E.view self.old.engine).Told →
-            ∥ ((from : State) × E.means self.old.engine t from × CanGoOff t (led from (E.view self.old.engine)) self.old.maps self.old.unfreed self.old.rows.items self.old.actor at) ∥₁ }
+            ∥ ((from : State) × E.means self.old.engine t from × CanGoOff t (led from (E.view self.old.engine)) self.old.rows.items self.old.actor at) ∥₁ }
         requires by { AreBy (E.means self.old.engine) (table_of record_meaning range_meaning ops.now) }
         ensures told { (E.view self.new.engine).Told → (E.view self.old.engine).Told }
         ensures counts { OffCounts (E.view self.old.engine) (E.view self.new.engine) self.old.breaks self.new.breaks result }
         // also of a call that fails
         ensures goes { let t = table_of record_meaning range_meaning ops.now in (from : State) → E.means self.old.engine t from → (E.view self.old.engine).Told →
-            (kept : Kept) (begin : State) → at ≢ self.old.actor.before → IsOff t kept begin (led from (E.view self.old.engine)) self.old.maps self.old.unfreed self.old.rows.items self.old.actor at →
+            (kept : Kept) (begin : State) → at ≢ self.old.actor.before → IsGoing t kept begin (led from (E.view self.old.engine)) self.old.rows.items self.old.actor at →
             WentOff (E.recovers t) t self.old.actor.txn.0 (led from (E.view self.old.engine)) (led from (E.view self.new.engine)) }
         ensures lower { IfOk result (λ next. next < at) }
         ensures means { let t = table_of record_meaning range_meaning ops.now in (from : State) → E.means self.old.engine t from → E.means self.new.engine t from }
@@ -124,17 +124,20 @@ impl<E: Engine> Acts<E> {
     /// took a change off points to. No action is open then, and the system acts.
     pub fn resume(&mut self, ops: &Ops, from: Lsn) -> Result<(), SpaceFault>
         requires off { let t = table_of record_meaning range_meaning ops.now in (E.view self.old.engine).Told →
-            ∥ ((start : State) × E.means self.old.engine t start × CanResume t (led start (E.view self.old.engine)) self.old.maps self.old.unfreed self.old.rows.items self.old.actor from) ∥₁ }
+            ∥ ((start : State) × E.means self.old.engine t start × CanResume t (led start (E.view self.old.engine)) self.old.rows.items self.old.actor from) ∥₁ }
         requires by { AreBy (E.means self.old.engine) (table_of record_meaning range_meaning ops.now) }
         ensures told { (E.view self.new.engine).Told → (E.view self.old.engine).Told }
         ensures means { let t = table_of record_meaning range_meaning ops.now in (start : State) → E.means self.old.engine t start → E.means self.new.engine t start }
         ensures did { let t = table_of record_meaning range_meaning ops.now in (limits : State → ℕ → ℕ) (start : State) → E.means self.old.engine t start → OnOk result ((kept : Kept) (begin : State) →
             ((E.view self.old.engine).Told → IsResumable t kept begin (led start (E.view self.old.engine)) self.old.maps self.old.unfreed self.old.rows.items self.old.actor from) →
             (E.view self.new.engine).Told → AllOff t limits kept begin (led start (E.view self.new.engine)) self.new.maps self.new.rows.items self.new.actor) }
+        ensures over { let t = table_of record_meaning range_meaning ops.now in (start : State) → E.means self.old.engine t start → OnOk result ((kept : Kept) (begin : State) →
+            ((E.view self.old.engine).Told → IsGoing t kept begin (led start (E.view self.old.engine)) self.old.rows.items self.old.actor from) →
+            (E.view self.new.engine).Told → ActionOff t kept begin (led start (E.view self.new.engine)) self.new.rows.items self.new.actor) }
         ensures counts { OffCounts (E.view self.old.engine) (E.view self.new.engine) self.old.breaks self.new.breaks result }
         // also of a call that fails
         ensures goes { let t = table_of record_meaning range_meaning ops.now in (start : State) → E.means self.old.engine t start → (E.view self.old.engine).Told → (kept : Kept) (begin : State) →
-            IsResumable t kept begin (led start (E.view self.old.engine)) self.old.maps self.old.unfreed self.old.rows.items self.old.actor from →
+            IsGoing t kept begin (led start (E.view self.old.engine)) self.old.rows.items self.old.actor from →
             WentOff (E.recovers t) t self.old.actor.txn.0 (led start (E.view self.old.engine)) (led start (E.view self.new.engine)) }
         ensures begun { OnOk result (self.new.begun ≡ false) }
         ensures unfreed { self.new.unfreed ≡ self.old.unfreed }

@@ -73,6 +73,7 @@ fn gather<P: PageSpace>(
     ensures counts { CountsList (P.view space.old) (P.view space.new) result }
     ensures kept { OnOk result (OnlyReads (P.view space.old) (P.view space.new)) }
     ensures memory { IfErr result (λ e. e ≡ ListFault.Memory → OnlyReads (P.view space.old) (P.view space.new)) }
+    ensures quiet { IfErr result (λ e. e ≡ ListFault.Memory → (P.view space.new).faults ≡ (P.view space.old).faults) }
     ensures read { IfOk result (λ next. (P.view space.old).Shows → HasAt (P.view space.old).space.pages.at p.0
         (ListsPage keys.old.items keys.new.items next.0)) }
     ensures later { (t : Table) → P.later t space.old space.new }
@@ -103,6 +104,7 @@ pub fn keys<P: PageSpace>(
     ensures counts { CountsList (P.view space.old) (P.view space.new) result }
     ensures kept { OnOk result (OnlyReads (P.view space.old) (P.view space.new)) }
     ensures memory { IfErr result (λ e. e ≡ ListFault.Memory → OnlyReads (P.view space.old) (P.view space.new)) }
+    ensures quiet { IfErr result (λ e. e ≡ ListFault.Memory → (P.view space.new).faults ≡ (P.view space.old).faults) }
     ensures read { OnOk result (IfLinked (P.view space.old) first.0 (λ b. into.new.items ≡ into.old.items ++ keys_of (entries_of b.parts))) }
     ensures later { (t : Table) → P.later t space.old space.new }
     ensures means { (t : Table) → P.means space.old t → P.means space.new t }

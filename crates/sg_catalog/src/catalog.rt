@@ -218,6 +218,7 @@ pub fn names<P: PageSpace>(space: &mut P, alloc: Global) -> Result<Vec<Name>, Li
     ensures counts { CountsList (P.view space.old) (P.view space.new) result }
     ensures kept { OnOk result (OnlyReads (P.view space.old) (P.view space.new)) }
     ensures memory { IfErr result (λ e. e ≡ ListFault.Memory → OnlyReads (P.view space.old) (P.view space.new)) }
+    ensures quiet { IfErr result (λ e. e ≡ ListFault.Memory → (P.view space.new).faults ≡ (P.view space.old).faults) }
     ensures read { IfOk result (λ v. IfCatalog (P.view space.old)
         (λ c. IsPermutation (names_of (rows c)) v.items)) }
     ensures order { IfOk result (λ v. IsSorted (slice_cmp nat_cmp) v.items) }

@@ -60,6 +60,7 @@ pub fn gather<P: PageSpace>(
     ensures counts { CountsList (P.view space.old) (P.view space.new) result }
     ensures kept { OnOk result (OnlyReads (P.view space.old) (P.view space.new)) }
     ensures memory { IfErr result (λ e. e ≡ ListFault.Memory → OnlyReads (P.view space.old) (P.view space.new)) }
+    ensures quiet { IfErr result (λ e. e ≡ ListFault.Memory → (P.view space.new).faults ≡ (P.view space.old).faults) }
     ensures read { IfOk result (λ head. IfPage (P.view space.old) p.0
         (λ c j. GathersPage c j names.old.items names.new.items head)) }
     ensures later { (t : Table) → P.later t space.old space.new }

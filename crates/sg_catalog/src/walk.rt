@@ -142,6 +142,7 @@ pub fn list_all<P: PageSpace>(space: &mut P, alloc: Global) -> Result<Vec<Name>,
     ensures counts { CountsList (P.view space.old) (P.view space.new) result }
     ensures kept { OnOk result (OnlyReads (P.view space.old) (P.view space.new)) }
     ensures memory { IfErr result (λ e. e ≡ ListFault.Memory → OnlyReads (P.view space.old) (P.view space.new)) }
+    ensures quiet { IfErr result (λ e. e ≡ ListFault.Memory → (P.view space.new).faults ≡ (P.view space.old).faults) }
     ensures read { IfOk result (λ v. IfCatalog (P.view space.old) (λ c. v.items ≡ names_of (rows c))) }
     ensures later { (t : Table) → P.later t space.old space.new }
     ensures means { (t : Table) → P.means space.old t → P.means space.new t }

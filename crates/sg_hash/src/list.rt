@@ -26,6 +26,7 @@ fn list_keys<P: PageSpace>(
     ensures counts { CountsList (P.view space.old) (P.view space.new) result }
     ensures kept { OnOk result (OnlyReads (P.view space.old) (P.view space.new)) }
     ensures memory { IfErr result (λ e. e ≡ ListFault.Memory → OnlyReads (P.view space.old) (P.view space.new)) }
+    ensures quiet { IfErr result (λ e. e ≡ ListFault.Memory → (P.view space.new).faults ≡ (P.view space.old).faults) }
     ensures read { IfOk result (λ v. IfHashTable (P.view space.old) root.0 (λ t. v.items ≡ keys_of (entries t))) }
     ensures later { (t : Table) → P.later t space.old space.new }
     ensures means { (t : Table) → P.means space.old t → P.means space.new t }
@@ -54,6 +55,7 @@ pub fn keys<P: PageSpace>(
     ensures counts { CountsList (P.view space.old) (P.view space.new) result }
     ensures kept { OnOk result (OnlyReads (P.view space.old) (P.view space.new)) }
     ensures memory { IfErr result (λ e. e ≡ ListFault.Memory → OnlyReads (P.view space.old) (P.view space.new)) }
+    ensures quiet { IfErr result (λ e. e ≡ ListFault.Memory → (P.view space.new).faults ≡ (P.view space.old).faults) }
     ensures read { IfOk result (λ v. IfHashTable (P.view space.old) root.0
         (λ t. IsPermutation (keys_of (entries t)) v.items)) }
     ensures order { IfOk result (λ v. IsSorted (slice_cmp nat_cmp) v.items) }

@@ -35,13 +35,16 @@ taken_before x y n same (inl p) = inl p
 taken_before x y n same (inr free) = inr (ap (λ (z : Space). z.bands.at n) (sym same) ∙ free)
 
 -- A BLOB'S BYTES were written on its own bands, and those that it took were free
-pub wrote_body : {v m w : View} {s : Contents} {name : List ℕ} {x : BlobAt} (b : Blob) → OnlyReads v m → v.Shows → (f : IsBlobAt name s x) → Turns m.space w.space x.root.0 f.blob b → WritesIn (OwnsBand b.bands) m w → WritesBody name s v w
+pub wrote_body : {v m w : View} {s : Contents} {name : List ℕ} {x : BlobAt} (b : Blob) → OnlyReads v m → v.Shows → (f : IsBlobAt name s x)
+    → Turns m.space w.space x.root.0 f.blob b → WritesIn (OwnsBand b.bands) m w → WritesBody name s v w
 wrote_body {v} {m} {w} {s} {name} {x} b k shows f turns wrote other is =
     subst (λ (n : ℕ). WroteBody n s v w) (same_root f.at is) (record {
       blob = b;
       stands = turns.blob;
       writes = from_before k wrote;
-      taken = λ n o. taken_before v.space m.space n (k.same shows) (subst (λ (y : Body). standing.OwnsBand y n ⊎ (m.space.bands.at n ≡ None)) (sym f.body_is) (turns.bands.taken n o));
+      taken = λ n o.
+          let here = subst (λ (y : Body). standing.OwnsBand y n ⊎ (m.space.bands.at n ≡ None)) (sym f.body_is) (turns.bands.taken n o) in
+          taken_before v.space m.space n (k.same shows) here;
     })
 
 -- A VERB THAT IS ON NO BLOB'S BYTES

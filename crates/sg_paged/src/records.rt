@@ -10,7 +10,8 @@ use sg_base::TxnId;
 use sg_space::SpaceFault;
 
 /// A transaction begins, whose number is that of its begin record. Where as many as 64 have begun and
-/// not ended none can, and a break is counted.
+/// not ended none can, and a break is counted. One that has committed counts until it ends; a store never
+/// comes there, since it ends a transaction in the call that commits it, or stops.
 pub fn begin<E: Engine>(acts: &mut Acts<E>) -> Result<TxnId, SpaceFault>
     requires can { Asked (shown acts.old) HasPlace }
     ensures number { IfOk result (λ u. ((shown acts.old).tail ≤ u.0) × (u.0 < (shown acts.new).tail)) }

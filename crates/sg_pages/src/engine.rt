@@ -16,6 +16,7 @@ impl<D: Disk> Engine for Phys<D> {
     ghost use Rattle.sg_phys.specs.Phys.{IsLoaded, IsBandLoaded};
     ghost use Rattle.sg_phys.proofs.Told.{told_now, told_front, told_images, says_fit, says_whole};
     ghost use Rattle.sg_phys_laws.specs.Recovers.{RecoversBy};
+    ghost use Rattle.sg_phys_laws.specs.Waiting.{waiting_of};
     ghost use Rattle.sg_reader.specs.Reader.{limits};
     ghost use Rattle.sg_reader.proofs.Decide.{reader};
     ghost use Rattle.sg_pages.specs.Parts.{parts, seen, stands};
@@ -35,6 +36,8 @@ impl<D: Disk> Engine for Phys<D> {
     ghost unwritten = { λ s lsn. IsUnwritten s.engine.pool lsn };
 
     ghost first_byte = { λ s. s.engine.log.base };
+
+    ghost waiting = { λ s. waiting_of s.engine.log };
 
     ghost told_whole = { λ s told. told.whole };
 

@@ -13,6 +13,8 @@ ghost use Rattle.sg_record.specs.Shown.{shown, shown_change, shown_page, shown_b
 ghost use Rattle.sg_redo.specs.Places.{changed_by};
 ghost use Rattle.sg_engine.specs.Engine.{Origin};
 ghost use Rattle.sg_redo.specs.Leaf.{LinksFit};
+ghost use Rattle.sg_actions.specs.Handing.{HandsOver};
+ghost use Rattle.sg_phys_laws.specs.Waiting.{waiting_of};
 ghost use Rattle.sg_phys_laws.specs.Logged.{SaysPage, IsAsked, IsWrite, HasLogged, HasRun};
 
 use sg_base::{BandNo, Lsn, PageNo, PageOp};
@@ -68,7 +70,10 @@ pub fn log_plain<D: Disk>(
     ensures below { OnOk result (tried.new < tail_of engine.new.log) }
     ensures grown { OnOk result (tail_of engine.new.log ≤ tail_of engine.old.log + (5 + length (spelled (shown r.now)))) }
     ensures near { result ≡ Err EngineFault.LogEnd → LOG_END < tail_of engine.old.log + 131072 }
+    ensures within { OnOk result (tried.new + length (spelled (shown r.now)) ≤ LOG_END) }
+    ensures past { result ≡ Err EngineFault.LogEnd → LOG_END < tried.new + length (spelled (shown r.now)) }
     ensures place { tried.new ≡ place_of engine.old.log (shown r.now) }
+    ensures hands { HandsOver (length (spelled (shown r.now))) (D.view engine.old.disk).handed (waiting_of engine.old.log) (D.view engine.new.disk).handed (waiting_of engine.new.log) result }
     ensures logs { (own given : Table) (o : Origin) (ds ps : List Numbered) → IsTrue D.told → IsAsked own given o (D.view engine.old.disk) engine.old.log ds ps engine.old.pool (shown r.now)
         → OnOk result (HasLogged own o (D.view engine.new.disk) engine.new.log ds (ds ++ ps) (shown r.now) tried.new engine.new.pool) }
     ensures runs { (own given : Table) (o : Origin) (ds ps : List Numbered) → IsTrue D.told → IsAsked own given o (D.view engine.old.disk) engine.old.log ds ps engine.old.pool (shown r.now)
@@ -94,6 +99,8 @@ fn log_to_page<D: Disk>(
     ensures below { OnOk result (tried.new < tail_of engine.new.log) }
     ensures grown { OnOk result (tail_of engine.new.log ≤ tail_of engine.old.log + (5 + length (spelled (shown r.now)))) }
     ensures near { result ≡ Err EngineFault.LogEnd → LOG_END < tail_of engine.old.log + 131072 }
+    ensures within { OnOk result (tried.new + length (spelled (shown r.now)) ≤ LOG_END) }
+    ensures past { result ≡ Err EngineFault.LogEnd → LOG_END < tried.new + length (spelled (shown r.now)) }
     ensures logs { (own : Table) (o : Origin) (ds ps : List Numbered) → IsTrue D.told → IsAsked own (table_of record_meaning range_meaning ops.now) o (D.view engine.old.disk) engine.old.log ds ps engine.old.pool (shown r.now)
         → OnOk result (HasLogged own o (D.view engine.new.disk) engine.new.log ds (ds ++ ps) (shown r.now) tried.new engine.new.pool) }
     ensures runs { (own : Table) (o : Origin) (ds ps : List Numbered) → IsTrue D.told → IsAsked own (table_of record_meaning range_meaning ops.now) o (D.view engine.old.disk) engine.old.log ds ps engine.old.pool (shown r.now)
@@ -129,6 +136,8 @@ fn log_page<D: Disk>(
     ensures below { OnOk result (tried.new < tail_of engine.new.log) }
     ensures grown { OnOk result (tail_of engine.new.log ≤ tail_of engine.old.log + (5 + length (spelled (shown r.now)))) }
     ensures near { result ≡ Err EngineFault.LogEnd → LOG_END < tail_of engine.old.log + 131072 }
+    ensures within { OnOk result (tried.new + length (spelled (shown r.now)) ≤ LOG_END) }
+    ensures past { result ≡ Err EngineFault.LogEnd → LOG_END < tried.new + length (spelled (shown r.now)) }
     ensures logs { (own : Table) (o : Origin) (ds ps : List Numbered) → IsTrue D.told → IsAsked own (table_of record_meaning range_meaning ops.now) o (D.view engine.old.disk) engine.old.log ds ps engine.old.pool (shown r.now)
         → OnOk result (HasLogged own o (D.view engine.new.disk) engine.new.log ds (ds ++ ps) (shown r.now) tried.new engine.new.pool) }
     ensures runs { (own : Table) (o : Origin) (ds ps : List Numbered) → IsTrue D.told → IsAsked own (table_of record_meaning range_meaning ops.now) o (D.view engine.old.disk) engine.old.log ds ps engine.old.pool (shown r.now)
@@ -154,6 +163,8 @@ fn log_to_band<D: Disk>(
     ensures below { OnOk result (tried.new < tail_of engine.new.log) }
     ensures grown { OnOk result (tail_of engine.new.log ≤ tail_of engine.old.log + (5 + length (spelled (shown r.now)))) }
     ensures near { result ≡ Err EngineFault.LogEnd → LOG_END < tail_of engine.old.log + 131072 }
+    ensures within { OnOk result (tried.new + length (spelled (shown r.now)) ≤ LOG_END) }
+    ensures past { result ≡ Err EngineFault.LogEnd → LOG_END < tried.new + length (spelled (shown r.now)) }
     ensures logs { (own : Table) (o : Origin) (ds ps : List Numbered) → IsTrue D.told → IsWrite own o (D.view engine.old.disk) engine.old.log ds ps engine.old.pool (shown r.now) b.0 at bytes.now
         → OnOk result (HasLogged own o (D.view engine.new.disk) engine.new.log ds (ds ++ ps) (shown r.now) tried.new engine.new.pool) }
     ensures runs { (own : Table) (o : Origin) (ds ps : List Numbered) → IsTrue D.told → IsWrite own o (D.view engine.old.disk) engine.old.log ds ps engine.old.pool (shown r.now) b.0 at bytes.now
@@ -180,6 +191,8 @@ fn log_bytes<D: Disk>(
     ensures below { OnOk result (tried.new < tail_of engine.new.log) }
     ensures grown { OnOk result (tail_of engine.new.log ≤ tail_of engine.old.log + (5 + length (spelled (shown r.now)))) }
     ensures near { result ≡ Err EngineFault.LogEnd → LOG_END < tail_of engine.old.log + 131072 }
+    ensures within { OnOk result (tried.new + length (spelled (shown r.now)) ≤ LOG_END) }
+    ensures past { result ≡ Err EngineFault.LogEnd → LOG_END < tried.new + length (spelled (shown r.now)) }
     ensures logs { (own given : Table) (o : Origin) (ds ps : List Numbered) → IsTrue D.told → IsAsked own given o (D.view engine.old.disk) engine.old.log ds ps engine.old.pool (shown r.now)
         → OnOk result (HasLogged own o (D.view engine.new.disk) engine.new.log ds (ds ++ ps) (shown r.now) tried.new engine.new.pool) }
     ensures runs { (own given : Table) (o : Origin) (ds ps : List Numbered) → IsTrue D.told → IsAsked own given o (D.view engine.old.disk) engine.old.log ds ps engine.old.pool (shown r.now)
@@ -203,6 +216,8 @@ fn log_op<D: Disk>(
     ensures below { OnOk result (tried.new < tail_of engine.new.log) }
     ensures grown { OnOk result (tail_of engine.new.log ≤ tail_of engine.old.log + (5 + length (spelled (shown r.now)))) }
     ensures near { result ≡ Err EngineFault.LogEnd → LOG_END < tail_of engine.old.log + 131072 }
+    ensures within { OnOk result (tried.new + length (spelled (shown r.now)) ≤ LOG_END) }
+    ensures past { result ≡ Err EngineFault.LogEnd → LOG_END < tried.new + length (spelled (shown r.now)) }
     ensures logs { (own : Table) (o : Origin) (ds ps : List Numbered) → IsTrue D.told → IsAsked own (table_of record_meaning range_meaning ops.now) o (D.view engine.old.disk) engine.old.log ds ps engine.old.pool (shown r.now)
         → OnOk result (HasLogged own o (D.view engine.new.disk) engine.new.log ds (ds ++ ps) (shown r.now) tried.new engine.new.pool) }
     ensures runs { (own : Table) (o : Origin) (ds ps : List Numbered) → IsTrue D.told → IsAsked own (table_of record_meaning range_meaning ops.now) o (D.view engine.old.disk) engine.old.log ds ps engine.old.pool (shown r.now)
@@ -233,7 +248,10 @@ pub fn log_record<D: Disk>(
     ensures below { OnOk result (tried.new < tail_of engine.new.log) }
     ensures grown { OnOk result (tail_of engine.new.log ≤ tail_of engine.old.log + (5 + length (spelled (shown r.now)))) }
     ensures near { result ≡ Err EngineFault.LogEnd → LOG_END < tail_of engine.old.log + 131072 }
+    ensures within { OnOk result (tried.new + length (spelled (shown r.now)) ≤ LOG_END) }
+    ensures past { result ≡ Err EngineFault.LogEnd → LOG_END < tried.new + length (spelled (shown r.now)) }
     ensures place { changed_by (shown r.now).says ≡ None → tried.new ≡ place_of engine.old.log (shown r.now) }
+    ensures hands { changed_by (shown r.now).says ≡ None → HandsOver (length (spelled (shown r.now))) (D.view engine.old.disk).handed (waiting_of engine.old.log) (D.view engine.new.disk).handed (waiting_of engine.new.log) result }
     ensures logs { (own : Table) (o : Origin) (ds ps : List Numbered) → IsTrue D.told → IsAsked own (table_of record_meaning range_meaning ops.now) o (D.view engine.old.disk) engine.old.log ds ps engine.old.pool (shown r.now)
         → OnOk result (HasLogged own o (D.view engine.new.disk) engine.new.log ds (ds ++ ps) (shown r.now) tried.new engine.new.pool) }
     ensures runs { (own : Table) (o : Origin) (ds ps : List Numbered) → IsTrue D.told → IsAsked own (table_of record_meaning range_meaning ops.now) o (D.view engine.old.disk) engine.old.log ds ps engine.old.pool (shown r.now)
@@ -260,7 +278,10 @@ pub fn log_without<D: Disk>(
     ensures below { OnOk result (tried.new < tail_of engine.new.log) }
     ensures grown { OnOk result (tail_of engine.new.log ≤ tail_of engine.old.log + (5 + length (spelled (shown r.now)))) }
     ensures near { result ≡ Err EngineFault.LogEnd → LOG_END < tail_of engine.old.log + 131072 }
+    ensures within { OnOk result (tried.new + length (spelled (shown r.now)) ≤ LOG_END) }
+    ensures past { result ≡ Err EngineFault.LogEnd → LOG_END < tried.new + length (spelled (shown r.now)) }
     ensures place { changed_by (shown r.now).says ≡ None → tried.new ≡ place_of engine.old.log (shown r.now) }
+    ensures hands { changed_by (shown r.now).says ≡ None → HandsOver (length (spelled (shown r.now))) (D.view engine.old.disk).handed (waiting_of engine.old.log) (D.view engine.new.disk).handed (waiting_of engine.new.log) result }
     ensures logs { (own : Table) (o : Origin) (ds ps : List Numbered) → IsTrue D.told → ((given : Table) → IsAsked own given o (D.view engine.old.disk) engine.old.log ds ps engine.old.pool (shown r.now))
         → OnOk result (HasLogged own o (D.view engine.new.disk) engine.new.log ds (ds ++ ps) (shown r.now) tried.new engine.new.pool) }
     ensures runs { (own : Table) (o : Origin) (ds ps : List Numbered) → IsTrue D.told → ((given : Table) → IsAsked own given o (D.view engine.old.disk) engine.old.log ds ps engine.old.pool (shown r.now))

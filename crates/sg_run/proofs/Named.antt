@@ -21,7 +21,7 @@ module _ (t : Operations) (z : Sizes) where
 
   begins : (a : Around) (name : List ℕ) (l : Option Live) (x y : Stocked) (answer : Answer) → BeginsAs a name l x answer y → UnlessStopped t x.run → UnlessStopped t y.run
   begins a name (Some l) x y answer h k = same x y h.1 k
-  begins a name None x y answer h k = begin_keeps t x.run y.run a.tail a.before a.now name h.0 h.2.line k
+  begins a name None x y answer h k = begin_keeps t x.run y.run a.begin a.before a.now name h.0 h.2.line k
 
   commits : (a : Around) (l : Option Live) (x y : Stocked) (answer : Answer) → CommitsAs a l x answer y → UnlessStopped t x.run → UnlessStopped t y.run
   commits a None x y answer h k = same x y h.1 k

@@ -78,9 +78,9 @@ pub record DoesStocked (t : Operations) (z : Sizes) (a : Around) (u : ℕ) (op :
   pub numbers : AreNumbers t a x op r
   pub stock : StockAfter t x u op r y.stock
 
--- a begin leaves the stock
+-- a begin leaves the stock. Whether the log is too long for it is asked of the tail that it found
 pub record BeginsStocked (a : Around) (name : List ℕ) (x : Stocked) (r : Result ℕ Refusal) (y : Stocked) : Type 0 where
-  pub line : Begins a.tail a.before a.now name x.run r y.run
+  pub line : Begins a.begin a.before a.now name x.run r y.run
   pub stock : y.stock ≡ x.stock
 
 -- a commit that answers frees what its transaction dropped

@@ -1,5 +1,5 @@
 -- A whole run: the lines of its script, and its end.
-use Rattle.std.proofs.Common.{◌≡◌, inl, ℕ, List, [], ◌∷◌, take, Option, Some, None, refl, sym, ap, subst}
+use Rattle.std.proofs.Common.{◌≡◌, inl, ℕ, List, [], ◌∷◌, take, Option, Some, None, refl, sym, ap, ◌∙◌, subst, arith}
 use Rattle.std.specs.Prelude.{Err, IsSome, is_some, true}
 use Rattle.sg_disk.proofs.Moments.{joined, weaker}
 use Rattle.sg_ops.specs.Table.{Table as Operations}
@@ -21,15 +21,16 @@ use Rattle.sg_store.specs.declared.engine.Engine.{Ghosts}
 use Rattle.sg_store.specs.declared.fault.Refused.TheVariants as refusals
 use Rattle.sg_store.specs.Ground.{Ground, IsLawful}
 use Rattle.sg_store.specs.Engine.{View, AsMeantBy, led}
+use Rattle.sg_store.specs.Heeds.{Heeds}
 use Rattle.sg_store.proofs.Maintaining.{keeps_stopped}
 use Rattle.sg_session.specs.Shows.{Core, Shows}
 use Rattle.sg_session.specs.Ending.{IsEnded}
 use Rattle.sg_session.proofs.Ending.{ended_stopped}
 use Rattle.sg_script.specs.declared.script.RunEnd as code_end
-use Rattle.sg_script.specs.Script.{Span, span, Lines, HasRead, Executed}
-use Rattle.sg_script.specs.Ending.{AreExecuted, IsHeard, RunsTo}
-use Rattle.sg_script.specs.Course.{IsSerialThroughout, Ran}
-use Rattle.sg_script.proofs.Executing.{fewer}
+use Rattle.sg_script.specs.Script.{Span, span, Lines, Executed}
+use Rattle.sg_script.specs.Ending.{IsHeard, RunsTo}
+use Rattle.sg_script.specs.Course.{IsSerialThroughout, Course, Ran}
+use Rattle.sg_script.proofs.Executing.{fewer, all_wider}
 use Rattle.sg_script.proofs.Acknowledged.{one_more}
 
 module _ (t : Operations) where
@@ -88,45 +89,53 @@ module _ (t : Operations) (g : Ground) (lawful : IsLawful t g) where
     goes = keeps_stopped t g lawful v k.store x v.faults shows.store is;
   })
 
-  ran : (v u w : View g) (k : Core) (m : Core) (x : Run) (end : code_end.RunEnd) (source left first now : Option (List ℕ)) (text : List ℕ) (lines : List (List ℕ)) (stopped : Option Stop) → Shows t g v k x → HasRead source text left → AreExecuted end source text lines
-      → (d : Executed t g v x lines (IsHeard end first now) u m) → IsEnded t g u d.after stopped w → Ran end t g v x source left first now stopped w
-  ran v u w k m x end source left first now text lines stopped shows read executed d ended = record {
-    text = text;
-    read = read;
-    lines = lines;
-    executed = executed;
-    answers = d.answers;
-    heard = d.heard;
-    took = d.took;
+  course : (v u w : View g) (k : Core) (m : Core) (x : Run) (end : code_end.RunEnd) (first now : Option (List ℕ)) (lines : List (List ℕ)) (answers heard : List Answer) (stopped : Option Stop) → Shows t g v k x → IsHeard end first now answers heard
+      → (d : Executed t g v x lines answers u m) → IsEnded t g u d.after stopped w → Course t g v x lines answers heard m.store.stopped stopped w
+  course v u w k m x end first now lines answers heard stopped shows took d ended = record {
     after = d.after;
+    was = d.shows.store.stopped;
+    answered = λ going. (d.shows.store.runs (sym d.shows.store.stopped ∙ going)).is_kept.answered;
     shown = u;
     goes = d.goes;
-    serial = throughout t (span v u) x lines d.answers (λ running. (shows.store.runs running).is_kept.logs.sound);
+    first = d.first;
+    serial = throughout t (span v u) x lines answers (λ running. (shows.store.runs running).is_kept.logs.sound);
     ended = ended;
     moments = joined d.moments (weaker ended.moments (fewer t g d.after x.so_far.answered d.after.so_far.answered d.answered));
     exit = λ c leaves. ended.moments.each c (inl leaves);
-    one_more = one_more t (span v u) end first now x d.after lines d.answers d.heard d.goes d.took;
+    one_more = one_more t (span v u) end first now x d.after lines answers heard d.goes took;
     done = ended.kept;
   }
 
 -- the lines of a script, and the end of the session behind them
-pub ran_by : {E : Type 0} (ghosts : Ghosts E) (t : Operations) (end : code_end.RunEnd) (e f h : E) (k m : Core) (source left first now : Option (List ℕ)) (stopped : Option Stop)
-    → RunsTo ghosts end t e k source left first now f m
+pub ran_by : {E : Type 0} (ghosts : Ghosts E) (t : Operations) (end : code_end.RunEnd) (e f h : E) (k m : Core) (source left first now : Option (List ℕ)) (by_then stopped : Option Stop)
+    → RunsTo ghosts end t e k source left first now f m → by_then ≡ m.store.stopped → Heeds m.store.stopped stopped (ghosts.view f) (ghosts.view h)
     → AsMeantBy t (ghosts.view f) (ghosts.view h) (λ g v w. (x : Run) → IsLawful t g → Shows t g v m x → IsEnded t g v x stopped w) → (IsSome m.store.stopped → (h ≡ f) × (stopped ≡ m.store.stopped))
-    → AsMeantBy t (ghosts.view e) (ghosts.view h) (λ g v w. (x : Run) → IsLawful t g → Shows t g v k x → Ran end t g v x source left first now stopped w)
-ran_by {E = E} ghosts t end e f h k m source left first now stopped r ends still z from means told x lawful shows = by_stop m.store.stopped refl
+    → Ran ghosts t end e k source left first now by_then stopped h
+ran_by {E = E} ghosts t end e f h k m source left first now by_then stopped r was heeds ends still = record {
+  text = r.text;
+  read = r.read;
+  lines = r.lines;
+  executed = r.ended;
+  answers = r.executed.answers;
+  heard = r.executed.heard;
+  took = r.executed.took;
+  caused = all_wider (ghosts.view f).tail (ghosts.view e).faults (ghosts.view f).faults (ghosts.view h).tail (ghosts.view e).faults (ghosts.view h).faults heeds.tail (omega arith) r.executed.heeds.later heeds.later r.lines r.executed.answers r.executed.caused;
+  stop = was ∙ r.executed.stop;
+  course = λ z from means told x lawful shows. subst (λ (s : Option Stop). Course t (ghosts.basis z) (led t z from (ghosts.view e)) x r.lines r.executed.answers r.executed.heard s stopped (led t z from (ghosts.view h))) (sym was)
+      (by_stop z from means told x lawful shows m.store.stopped refl);
+}
   where
-    d : Executed t (ghosts.basis z) (led t z from (ghosts.view e)) x r.lines (IsHeard end first now) (led t z from (ghosts.view f)) m
-    d = r.executed.done z from means told x lawful shows
-
-    by_stop : (s : Option Stop) → m.store.stopped ≡ s → Ran end t (ghosts.basis z) (led t z from (ghosts.view e)) x source left first now stopped (led t z from (ghosts.view h))
-    by_stop None is =
-        ran t (ghosts.basis z) lawful (led t z from (ghosts.view e)) (led t z from (ghosts.view f)) (led t z from (ghosts.view h)) k m x end source left first now r.text r.lines stopped shows r.read r.ended d
+    by_stop : (z : _) (from : (ghosts.basis z).X) → (ghosts.view e).means t z from → (ghosts.view e).Told → (x : Run) → IsLawful t (ghosts.basis z) → Shows t (ghosts.basis z) (led t z from (ghosts.view e)) k x
+        → (s : Option Stop) → m.store.stopped ≡ s → Course t (ghosts.basis z) (led t z from (ghosts.view e)) x r.lines r.executed.answers r.executed.heard m.store.stopped stopped (led t z from (ghosts.view h))
+    by_stop z from means told x lawful shows None is =
+        let d = r.executed.done z from means told x lawful shows in
+        course t (ghosts.basis z) lawful (led t z from (ghosts.view e)) (led t z from (ghosts.view f)) (led t z from (ghosts.view h)) k m x end first now r.lines r.executed.answers r.executed.heard stopped shows r.executed.took d
         (ends z from (r.executed.means z from means) (r.executed.heeds.tells is told) d.after lawful d.shows)
-    by_stop (Some why) is =
+    by_stop z from means told x lawful shows (Some why) is =
+        let d = r.executed.done z from means told x lawful shows in
         let some : is_some m.store.stopped ≡ true = ap is_some is in
         let p = still some in
         let here = ends_as_it_is t (ghosts.basis z) lawful (led t z from (ghosts.view f)) m d.after some d.shows in
-        ran t (ghosts.basis z) lawful (led t z from (ghosts.view e)) (led t z from (ghosts.view f)) (led t z from (ghosts.view h)) k m x end source left first now r.text r.lines stopped shows r.read r.ended d
+        course t (ghosts.basis z) lawful (led t z from (ghosts.view e)) (led t z from (ghosts.view f)) (led t z from (ghosts.view h)) k m x end first now r.lines r.executed.answers r.executed.heard stopped shows r.executed.took d
         (subst (λ (i : E). IsEnded t (ghosts.basis z) (led t z from (ghosts.view f)) d.after stopped (led t z from (ghosts.view i))) (sym p.0)
         (subst (λ (q : Option Stop). IsEnded t (ghosts.basis z) (led t z from (ghosts.view f)) d.after q (led t z from (ghosts.view f))) (sym p.1) here))

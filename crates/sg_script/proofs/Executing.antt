@@ -13,6 +13,7 @@ use Rattle.sg_model.specs.Objects.{Objects}
 use Rattle.sg_model.specs.Step.{step}
 use Rattle.sg_words.specs.Answers.{Answer, text_of_answer, text_of_all}
 use Rattle.sg_words.specs.Requests.Asked.{Blank, Wrong, Of}
+use Rattle.sg_words.specs.Requests.Request.{Begin, Commit, Abort, Do}
 use Rattle.sg_words.proofs.Steps.{Takes-more}
 use Rattle.sg_run.specs.Run.{Run, Event}
 use Rattle.sg_run.specs.Numbers.{Refusal, Flushes}
@@ -20,18 +21,20 @@ use Rattle.sg_run.specs.Numbers.Refusal.{Stopped, NoTransaction, TooManyLive, Bu
 use Rattle.sg_run.specs.Stocked.{Around}
 use Rattle.sg_store.specs.declared.engine.Engine.{Ghosts}
 use Rattle.sg_store.specs.Ground.{Ground, IsLawful}
-use Rattle.sg_store.specs.Engine.{View, KeepsBy, AsMeantBy, led}
+use Rattle.sg_store.specs.Engine.{View, KeepsBy, led}
 use Rattle.sg_store.specs.Heeds.{Heeds}
 use Rattle.sg_store.specs.Stands.{StandsFor, StandsForFirst}
-use Rattle.sg_store.proofs.Heeding.{heeds_none, heeds_then}
+use Rattle.sg_store.proofs.Heeding.{risen_on, heeds_none, heeds_then}
 use Rattle.sg_session.specs.Lines.{Line, LineBy, UnlessStopped, line_of}
 use Rattle.sg_session.specs.Lines.Line.{Flush, Other}
 use Rattle.sg_session.specs.Shows.{Core, Shows}
-use Rattle.sg_session.specs.Goes.{around, Goes, IsAnswered, IsSaid, when_stopped}
+use Rattle.sg_session.specs.Causes.{Trouble, trouble_in, IsFullFor, IsCaused, stop_by}
+use Rattle.sg_session.specs.Causes.Trouble.{NoTrouble, OfDisk, OfLog, OfMemory}
+use Rattle.sg_session.specs.Goes.{around, Goes, IsAnswered, when_stopped}
 use Rattle.sg_session.specs.OneLine.{with_its_commit}
 use Rattle.sg_session.proofs.Commits.{AddsItsOwn, adds_its_own, more_with_its}
 use Rattle.sg_session.proofs.Steps as steps
-use Rattle.sg_script.specs.Script.{Span, span, IsWithin, Lines, TookAll, CutAtLast, Executed, ExecutedBy, LineGoes}
+use Rattle.sg_script.specs.Script.{Span, span, IsWithin, Lines, AreCaused, stop_by_all, TookAll, CutAtLast, Executed, ExecutedBy, LineGoes}
 
 -- a run goes on: it has the same first objects, more commits or as many, and no fewer that were answered
 record Extends (x y : Run) : Type 0 where
@@ -124,38 +127,30 @@ module _ (t : Operations) (g : Ground) where
   fewer y least most le c s = record { commits = s.commits; enough = omega (arith, le, s.enough); most = s.most; stands = s.stands }
 
   -- before the first line
-  executed_none : (v : View g) (k : Core) (x : Run) (Took : List Answer → List Answer → Type 0) → Took [] [] → Shows t g v k x → Executed t g v x [] Took v k
-  executed_none v k x Took nothing shows = record {
-    answers = [];
-    heard = [];
+  executed_none : (v : View g) (k : Core) (x : Run) → Shows t g v k x → Executed t g v x [] [] v k
+  executed_none v k x shows = record {
     after = x;
     goes = refl;
     first = refl;
     answered = omega arith;
     shows = shows;
-    took = nothing;
     moments = started v.disk (StandsForFirst t g x.so_far.answered x) shows.store.images;
   }
 
   -- one line more
-  executed_line : (v : View g) (x : Run) (lines : List (List ℕ)) (Before After : List Answer → List Answer → Type 0) (w u : View g) (m n : Core) (line : List ℕ) (answer : Answer)
+  executed_line : (v : View g) (x : Run) (lines : List (List ℕ)) (answers : List Answer) (w u : View g) (m n : Core) (line : List ℕ) (answer : Answer)
       → v.faults ≤ w.faults → v.tail ≤ w.tail → w.faults ≤ u.faults → w.tail ≤ u.tail
-      → (e : Executed t g v x lines Before w m) → Goes t g w e.after (line_of line) answer u n → ((answers heard : List Answer) → Before answers heard → (more : List Answer) × After (answers ++ answer ∷ []) more)
-      → Executed t g v x (lines ++ line ∷ []) After u n
-  executed_line v x lines Before After w u m n line answer vf vt wf wt e h takes =
+      → (e : Executed t g v x lines answers w m) → Goes t g w e.after (line_of line) answer u n → Executed t g v x (lines ++ line ∷ []) (answers ++ answer ∷ []) u n
+  executed_line v x lines answers w u m n line answer vf vt wf wt e h =
       let ext : Extends e.after h.after = extends_line t (around w u) e.after h.after (line_of line) answer e.shows.store.answered h.line_goes e.after.stopped refl in
-      let hears = takes e.answers e.heard e.took in
       record {
-        answers = e.answers ++ answer ∷ [];
-        heard = hears.0;
         after = h.after;
-        goes = lines_more t (span v u) x lines e.answers e.after line answer h.after (around w u)
-            (lines_wider t (span v w) (span v u) (record { begin = omega arith; tail = wt; before = omega arith; now = wf }) x lines e.answers e.after e.goes)
+        goes = lines_more t (span v u) x lines answers e.after line answer h.after (around w u)
+            (lines_wider t (span v w) (span v u) (record { begin = omega arith; tail = wt; before = omega arith; now = wf }) x lines answers e.after e.goes)
             (record { begin = vt; tail = omega arith; before = vf; now = omega arith }) h.line_goes;
         first = ext.first ∙ e.first;
         answered = omega (arith, e.answered, ext.answered);
         shows = h.shows;
-        took = hears.1;
         moments = joined (weaker e.moments (first_along e.after h.after x.so_far.answered ext)) (weaker h.moments (fewer h.after x.so_far.answered e.after.so_far.answered e.answered));
       }
 
@@ -166,40 +161,96 @@ module _ (t : Operations) (g : Ground) where
   goes_stopped v k x e shows (Other Wrong) = steps.bad_syntax t g v x k shows
   goes_stopped v k x e shows (Other (Of name request)) = steps.has_stopped t g v x k shows name request e
 
+-- what holds of the cause of an answer holds by wider bounds
+caused_wider : (tail before now top bottom last : ℕ) (line : Line) (d : Trouble) → tail ≤ top → bottom ≤ before → before ≤ now → now ≤ last → (begin : ℕ) → begin ≤ top → IsCaused begin tail before now line d → IsCaused top top bottom last line d
+caused_wider tail before now top bottom last line NoTrouble wide bb bn nl begin le h = h
+caused_wider tail before now top bottom last line OfDisk wide bb bn nl begin le h = risen_on bottom before now last bb bn nl h
+caused_wider tail before now top bottom last line OfMemory wide bb bn nl begin le h = h
+caused_wider tail before now top bottom last line OfLog wide bb bn nl begin le h = full_wider line h
+  where
+    full_wider : (l : Line) → IsFullFor begin tail l → IsFullFor top top l
+    full_wider Flush h = h
+    full_wider (Other Blank) h = h
+    full_wider (Other Wrong) h = h
+    full_wider (Other (Of name Begin)) h = omega (arith, h, le)
+    full_wider (Other (Of name Commit)) h = omega (arith, h, wide)
+    full_wider (Other (Of name Abort)) h = omega (arith, h, wide)
+    full_wider (Other (Of name (Do op))) h = omega (arith, h, le)
+
+pub all_wider : (tail before now top bottom last : ℕ) → tail ≤ top → bottom ≤ before → before ≤ now → now ≤ last → (lines : List (List ℕ)) (answers : List Answer) → AreCaused tail before now lines answers → AreCaused top bottom last lines answers
+all_wider tail before now top bottom last wide bb bn nl [] [] h = h
+all_wider tail before now top bottom last wide bb bn nl [] (a ∷ answers) h = absurd h
+all_wider tail before now top bottom last wide bb bn nl (l ∷ lines) [] h = absurd h
+all_wider tail before now top bottom last wide bb bn nl (l ∷ lines) (a ∷ answers) h =
+    (caused_wider tail before now top bottom last (line_of l) (trouble_in a) wide bb bn nl tail wide h.0, all_wider tail before now top bottom last wide bb bn nl lines answers h.1)
+
+-- one line more
+all_more : (tail before now : ℕ) (lines : List (List ℕ)) (answers : List Answer) (line : List ℕ) (answer : Answer) → AreCaused tail before now lines answers → IsCaused tail tail before now (line_of line) (trouble_in answer) → AreCaused tail before now (lines ++ line ∷ []) (answers ++ answer ∷ [])
+all_more tail before now [] [] line answer h c = (c, tt)
+all_more tail before now [] (a ∷ answers) line answer h c = absurd h
+all_more tail before now (l ∷ lines) [] line answer h c = absurd h
+all_more tail before now (l ∷ lines) (a ∷ answers) line answer h c = (h.0, all_more tail before now lines answers line answer h.1 c)
+
+stop_more : (tail before now : ℕ) (s : Option Stop) (lines : List (List ℕ)) (answers : List Answer) (line : List ℕ) (answer : Answer) → AreCaused tail before now lines answers
+    → stop_by (stop_by_all s lines answers) (line_of line) (trouble_in answer) ≡ stop_by_all s (lines ++ line ∷ []) (answers ++ answer ∷ [])
+stop_more tail before now s [] [] line answer h = refl
+stop_more tail before now s [] (a ∷ answers) line answer h = absurd h
+stop_more tail before now s (l ∷ lines) [] line answer h = absurd h
+stop_more tail before now s (l ∷ lines) (a ∷ answers) line answer h = stop_more tail before now (stop_by s (line_of l) (trouble_in a)) lines answers line answer h.1
+
 module _ {E : Type 0} (ghosts : Ghosts E) (t : Operations) where
   pub executed-none : (e : E) (k : Core) (Took : List Answer → List Answer → Type 0) → Took [] [] → ExecutedBy ghosts t e k [] Took e k
   executed-none e k Took nothing = record {
     means = λ z from m. m;
     heeds = heeds_none k.store.stopped (ghosts.view e);
-    done = λ z from m told x lawful shows. executed_none t (ghosts.basis z) (led t z from (ghosts.view e)) k x Took nothing shows;
+    answers = [];
+    heard = [];
+    took = nothing;
+    caused = tt;
+    stop = refl;
+    done = λ z from m told x lawful shows. executed_none t (ghosts.basis z) (led t z from (ghosts.view e)) k x shows;
   }
 
   pub executed-more : (e : E) (k : Core) (lines : List (List ℕ)) (Before After : List Answer → List Answer → Type 0) (f h : E) (m n : Core) (line : List ℕ) (Took : Answer → Type 0)
       → ExecutedBy ghosts t e k lines Before f m → LineGoes ghosts t f m (line_of line) Took h n
       → ((answer : Answer) → Took answer → (answers heard : List Answer) → Before answers heard → (more : List Answer) × After (answers ++ answer ∷ []) more)
       → ExecutedBy ghosts t e k (lines ++ line ∷ []) After h n
-  executed-more e k lines Before After f h m n line Took so_far goes takes = record {
-    means = λ z from r. goes.means z from (so_far.means z from r);
-    heeds = heeds_then k.store.stopped m.store.stopped n.store.stopped (ghosts.view e) (ghosts.view f) (ghosts.view h) so_far.heeds goes.heeds;
-    done = λ z from r told x lawful shows. by_stop z from r told x lawful shows m.store.stopped refl;
-  }
+  executed-more e k lines Before After f h m n line Took so_far goes takes =
+      let a = goes.is in
+      let hears = takes a.answer a.took so_far.answers so_far.heard so_far.took in
+      let before = so_far.heeds.later in
+      let tail = goes.heeds.tail in
+      let now = goes.heeds.later in
+      let ones = all_wider (ghosts.view f).tail (ghosts.view e).faults (ghosts.view f).faults (ghosts.view h).tail (ghosts.view e).faults (ghosts.view h).faults tail (omega arith) before now lines so_far.answers so_far.caused in
+      record {
+        means = λ z from r. goes.means z from (so_far.means z from r);
+        heeds = heeds_then k.store.stopped m.store.stopped n.store.stopped (ghosts.view e) (ghosts.view f) (ghosts.view h) so_far.heeds goes.heeds;
+        answers = so_far.answers ++ a.answer ∷ [];
+        heard = hears.0;
+        took = hears.1;
+        caused = all_more (ghosts.view h).tail (ghosts.view e).faults (ghosts.view h).faults lines so_far.answers line a.answer ones
+            (caused_wider (ghosts.view h).tail (ghosts.view f).faults (ghosts.view h).faults (ghosts.view h).tail (ghosts.view e).faults (ghosts.view h).faults (line_of line) (trouble_in a.answer) (omega arith) before now (omega arith) (ghosts.view f).tail tail a.caused.cause);
+        stop = a.caused.stop ∙ (ap (λ (s : Option Stop). stop_by s (line_of line) (trouble_in a.answer)) so_far.stop
+            ∙ stop_more (ghosts.view h).tail (ghosts.view e).faults (ghosts.view h).faults k.store.stopped lines so_far.answers line a.answer ones);
+        done = λ z from r told x lawful shows. by_stop z from r told x lawful shows m.store.stopped refl;
+      }
     where
       by_stop : (z : _) (from : (ghosts.basis z).X) → (ghosts.view e).means t z from → (ghosts.view e).Told → (x : Run) → IsLawful t (ghosts.basis z) → Shows t (ghosts.basis z) (led t z from (ghosts.view e)) k x
-          → (s : Option Stop) → m.store.stopped ≡ s → Executed t (ghosts.basis z) (led t z from (ghosts.view e)) x (lines ++ line ∷ []) After (led t z from (ghosts.view h)) n
+          → (s : Option Stop) → m.store.stopped ≡ s → Executed t (ghosts.basis z) (led t z from (ghosts.view e)) x (lines ++ line ∷ []) (so_far.answers ++ goes.is.answer ∷ []) (led t z from (ghosts.view h)) n
       by_stop z from r told x lawful shows None is =
           let d = so_far.done z from r told x lawful shows in
-          let a = goes.answered z from (so_far.means z from r) (so_far.heeds.tells is told) d.after lawful d.shows in
-          executed_line t (ghosts.basis z) (led t z from (ghosts.view e)) x lines Before After (led t z from (ghosts.view f)) (led t z from (ghosts.view h)) m n line a.answer so_far.heeds.later so_far.heeds.tail goes.heeds.later goes.heeds.tail d a.answers.goes (takes a.answer a.took)
+          let a = goes.is.answers z from (so_far.means z from r) (so_far.heeds.tells is told) d.after lawful d.shows in
+          executed_line t (ghosts.basis z) (led t z from (ghosts.view e)) x lines so_far.answers (led t z from (ghosts.view f)) (led t z from (ghosts.view h)) m n line goes.is.answer so_far.heeds.later so_far.heeds.tail goes.heeds.later goes.heeds.tail d a.goes
       by_stop z from r told x lawful shows (Some why) is =
           let d = so_far.done z from r told x lawful shows in
           let some : IsSome m.store.stopped = ap is_some is in
           let p = goes.still some in
           let same : led t z from (ghosts.view f) ≡ led t z from (ghosts.view h) = ap (λ (i : E). led t z from (ghosts.view i)) (sym p.0) in
           let went = goes_stopped t (ghosts.basis z) (led t z from (ghosts.view f)) m d.after some d.shows (line_of line) in
-          let there = subst (λ (c : Core). Goes t (ghosts.basis z) (led t z from (ghosts.view f)) d.after (line_of line) goes.said.answer (led t z from (ghosts.view h)) c) (sym p.1)
-          (subst (λ (u : View (ghosts.basis z)). Goes t (ghosts.basis z) (led t z from (ghosts.view f)) d.after (line_of line) goes.said.answer u m) same
-          (subst (λ (answer : Answer). Goes t (ghosts.basis z) (led t z from (ghosts.view f)) d.after (line_of line) answer (led t z from (ghosts.view f)) m) (sym (goes.said.by_stop some)) went)) in
-          executed_line t (ghosts.basis z) (led t z from (ghosts.view e)) x lines Before After (led t z from (ghosts.view f)) (led t z from (ghosts.view h)) m n line goes.said.answer so_far.heeds.later so_far.heeds.tail goes.heeds.later goes.heeds.tail d there (takes goes.said.answer goes.said.took)
+          let there = subst (λ (c : Core). Goes t (ghosts.basis z) (led t z from (ghosts.view f)) d.after (line_of line) goes.is.answer (led t z from (ghosts.view h)) c) (sym p.1)
+          (subst (λ (u : View (ghosts.basis z)). Goes t (ghosts.basis z) (led t z from (ghosts.view f)) d.after (line_of line) goes.is.answer u m) same
+          (subst (λ (answer : Answer). Goes t (ghosts.basis z) (led t z from (ghosts.view f)) d.after (line_of line) answer (led t z from (ghosts.view f)) m) (sym (goes.is.by_stop some)) went)) in
+          executed_line t (ghosts.basis z) (led t z from (ghosts.view e)) x lines so_far.answers (led t z from (ghosts.view f)) (led t z from (ghosts.view h)) m n line goes.is.answer so_far.heeds.later so_far.heeds.tail goes.heeds.later goes.heeds.tail d there
 
 text-more : (answers : List Answer) (answer : Answer) → text_of_all (answers ++ answer ∷ []) ≡ text_of_all answers ++ text_of_answer answer
 text-more [] answer = append-nil (text_of_answer answer)
@@ -219,19 +270,19 @@ takes_cut before mid now answer takes answers heard took = (answers, record { la
 -- what a call of a session says of a line is how it goes
 module _ {E R X : Type 0} (ghosts : Ghosts E) (t : Operations) (r : Result R X) (e : E) (k : Core) (line there : Line) (Took : Answer → Type 0) (f : E) (m : Core) (same : line ≡ there)
     (means : KeepsBy t (ghosts.view e) (ghosts.view f)) (heeds : Heeds k.store.stopped m.store.stopped (ghosts.view e) (ghosts.view f)) (still : IsSome k.store.stopped → (f ≡ e) × (m ≡ k)) where
-  went : AsMeantBy t (ghosts.view e) (ghosts.view f) (λ g v w. (x : Run) → IsLawful t g → Shows t g v k x → IsAnswered t g v x line Took w m) → IsSaid k.store.stopped line Took → LineGoes ghosts t e k there Took f m
-  went answered said = subst (λ (l : Line). LineGoes ghosts t e k l Took f m) same (record { means = means; heeds = heeds; answered = answered; still = still; said = said })
+  went : IsAnswered ghosts t e k line Took f m → LineGoes ghosts t e k there Took f m
+  went is = subst (λ (l : Line). LineGoes ghosts t e k l Took f m) same (record { means = means; heeds = heeds; still = still; is = is })
 
-  on_ok : (q : Result R X) → OnOk q (AsMeantBy t (ghosts.view e) (ghosts.view f) (λ g v w. (x : Run) → IsLawful t g → Shows t g v k x → IsAnswered t g v x line Took w m)) → OnOk q (IsSaid k.store.stopped line Took) → OnOk q (LineGoes ghosts t e k there Took f m)
-  on_ok (Ok u) a s = went a s
-  on_ok (Err u) a s = tt
+  on_ok : (q : Result R X) → OnOk q (IsAnswered ghosts t e k line Took f m) → OnOk q (LineGoes ghosts t e k there Took f m)
+  on_ok (Ok u) a = went a
+  on_ok (Err u) a = tt
 
-  on_err : (q : Result R X) → OnErr q (AsMeantBy t (ghosts.view e) (ghosts.view f) (λ g v w. (x : Run) → IsLawful t g → Shows t g v k x → IsAnswered t g v x line Took w m)) → OnErr q (IsSaid k.store.stopped line Took) → OnErr q (LineGoes ghosts t e k there Took f m)
-  on_err (Ok u) a s = tt
-  on_err (Err u) a s = went a s
+  on_err : (q : Result R X) → OnErr q (IsAnswered ghosts t e k line Took f m) → OnErr q (LineGoes ghosts t e k there Took f m)
+  on_err (Ok u) a = tt
+  on_err (Err u) a = went a
 
-  pub went_ok : OnOk r (AsMeantBy t (ghosts.view e) (ghosts.view f) (λ g v w. (x : Run) → IsLawful t g → Shows t g v k x → IsAnswered t g v x line Took w m)) → OnOk r (IsSaid k.store.stopped line Took) → OnOk r (LineGoes ghosts t e k there Took f m)
+  pub went_ok : OnOk r (IsAnswered ghosts t e k line Took f m) → OnOk r (LineGoes ghosts t e k there Took f m)
   went_ok = on_ok r
 
-  pub went_err : OnErr r (AsMeantBy t (ghosts.view e) (ghosts.view f) (λ g v w. (x : Run) → IsLawful t g → Shows t g v k x → IsAnswered t g v x line Took w m)) → OnErr r (IsSaid k.store.stopped line Took) → OnErr r (LineGoes ghosts t e k there Took f m)
+  pub went_err : OnErr r (IsAnswered ghosts t e k line Took f m) → OnErr r (LineGoes ghosts t e k there Took f m)
   went_err = on_err r

@@ -3,5 +3,5 @@ pub mod Buffers
 pub mod Script
 pub mod Feeding
 pub mod Ending
-pub mod Seen
 pub mod Course
+pub mod Seen

@@ -3,6 +3,7 @@ use Rattle.std.specs.Prelude.{◌≡◌, ◌⊎◌, ◌≤◌, ℕ, List, [], �
 use Rattle.sg_base.specs.Ends.{Takes, TakesFront}
 use Rattle.sg_disk.specs.Disk.{LeavesOnly}
 use Rattle.sg_ops.specs.Table.{Table as Operations}
+use Rattle.sg_model.specs.declared.stop.Stop.{Stop}
 use Rattle.sg_words.specs.Parse.{lines_of}
 use Rattle.sg_words.specs.Pieces.{behind}
 use Rattle.sg_words.specs.Answers.{Answer, text_of_answer, text_of_all}
@@ -15,7 +16,8 @@ use Rattle.sg_store.specs.Heeds.{Heeds}
 use Rattle.sg_store.specs.Stands.{StandsForFirst}
 use Rattle.sg_session.specs.Lines.{Line, LineBy, line_of}
 use Rattle.sg_session.specs.Shows.{Core, Shows}
-use Rattle.sg_session.specs.Goes.{IsAnswered, IsSaid}
+use Rattle.sg_session.specs.Goes.{IsAnswered}
+use Rattle.sg_session.specs.Causes.{IsCaused, trouble_in, stop_by}
 
 -- the tail of the log and the count of faults before some lines, and behind them
 pub record Span : Type 0 where
@@ -54,33 +56,49 @@ pub record CutAtLast (first now : Option (List ℕ)) (answers heard : List Answe
   pub took : Takes first (text_of_all heard) mid
   pub cut : TakesFront mid (text_of_answer last) now
 
--- From x, these lines were executed. A sink took some of the replies to them whole, and what Took says of all and these. In them
--- and behind them a crash leaves what stands for the first commits, all that had been answered among them
-pub record Executed (t : Operations) (g : Ground) (v : View g) (x : Run) (lines : List (List ℕ)) (Took : (answers heard : List Answer) → Type 0) (w : View g) (m : Core) : Type 0 where
-  pub answers : List Answer
-  pub heard : List Answer
+-- EACH ANSWER TO THESE LINES HAS ITS CAUSE, by where the log's tail is behind the last line, and by the counts of faults before the first and
+-- behind the last
+abbrev pub AreCaused : (tail before now : ℕ) → List (List ℕ) → List Answer → Type 0
+AreCaused tail before now [] [] = Unit {0}
+AreCaused tail before now (line ∷ lines) (answer ∷ answers) = IsCaused tail tail before now (line_of line) (trouble_in answer) × AreCaused tail before now lines answers
+AreCaused tail before now [] (answer ∷ answers) = ⊥
+AreCaused tail before now (line ∷ lines) [] = ⊥
+
+-- why a session has stopped behind lines with these answers, if it has
+abbrev pub stop_by_all : Option Stop → List (List ℕ) → List Answer → Option Stop
+stop_by_all before [] answers = before
+stop_by_all before (line ∷ lines) [] = before
+stop_by_all before (line ∷ lines) (answer ∷ answers) = stop_by_all (stop_by before (line_of line) (trouble_in answer)) lines answers
+
+-- From x, these lines were executed, and got these answers. In them and behind them a crash leaves what stands for the first commits, all
+-- that had been answered among them
+pub record Executed (t : Operations) (g : Ground) (v : View g) (x : Run) (lines : List (List ℕ)) (answers : List Answer) (w : View g) (m : Core) : Type 0 where
   pub after : Run
   pub goes : Lines t (span v w) x lines answers after
   pub first : after.so_far.first ≡ x.so_far.first
   pub answered : x.so_far.answered ≤ after.so_far.answered
   pub shows : Shows t g w m after
-  pub took : Took answers heard
   pub moments : LeavesOnly v.disk w.disk (StandsForFirst t g x.so_far.answered after)
 
 module _ {E : Type 0} (ghosts : Ghosts E) (t : Operations) where
-  -- so they were where the first engine told, for each run that the session showed then
+  -- SOME LINES WERE EXECUTED. A sink took some of the replies to them whole, and what Took says of all and these. Whatever the engine tells
+  -- each answer has its cause; where it told, the lines went so for each run that the session showed
   pub record ExecutedBy (e : E) (k : Core) (lines : List (List ℕ)) (Took : (answers heard : List Answer) → Type 0) (f : E) (m : Core) : Type 0 where
     pub means : KeepsBy t (ghosts.view e) (ghosts.view f)
     pub heeds : Heeds k.store.stopped m.store.stopped (ghosts.view e) (ghosts.view f)
-    pub done : AsMeantBy t (ghosts.view e) (ghosts.view f) (λ g v w. (x : Run) → IsLawful t g → Shows t g v k x → Executed t g v x lines Took w m)
+    pub answers : List Answer
+    pub heard : List Answer
+    pub took : Took answers heard
+    pub caused : AreCaused (ghosts.view f).tail (ghosts.view e).faults (ghosts.view f).faults lines answers
+    pub stop : m.store.stopped ≡ stop_by_all k.store.stopped lines answers
+    pub done : AsMeantBy t (ghosts.view e) (ghosts.view f) (λ g v w. (x : Run) → IsLawful t g → Shows t g v k x → Executed t g v x lines answers w m)
 
   -- how a session executes one line
   pub record LineGoes (e : E) (k : Core) (line : Line) (Took : Answer → Type 0) (f : E) (m : Core) : Type 0 where
     pub means : KeepsBy t (ghosts.view e) (ghosts.view f)
     pub heeds : Heeds k.store.stopped m.store.stopped (ghosts.view e) (ghosts.view f)
-    pub answered : AsMeantBy t (ghosts.view e) (ghosts.view f) (λ g v w. (x : Run) → IsLawful t g → Shows t g v k x → IsAnswered t g v x line Took w m)
     pub still : IsSome k.store.stopped → (f ≡ e) × (m ≡ k)
-    pub said : IsSaid k.store.stopped line Took
+    pub is : IsAnswered ghosts t e k line Took f m
 
 -- However a text goes on, so many of its lines are over, and this is the front of the next one
 abbrev pub HasEnded : List ℕ → List (List ℕ) → List ℕ → Type 0

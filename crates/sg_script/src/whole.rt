@@ -1,14 +1,12 @@
-ghost use Rattle.std.specs.Prelude.{◌≡◌, ◌≤◌, ◌<◌, length, Some};
+ghost use Rattle.std.specs.Prelude.{◌≡◌, ◌⊎◌, ◌≤◌, ◌<◌, length, Some};
 ghost use Rattle.sg_model.specs.declared.stop.Stop.{Stop as StopWhy};
 ghost use Rattle.sg_ops.specs.Table.{table_of};
-ghost use Rattle.sg_run.specs.Run.{Run};
-ghost use Rattle.sg_store.specs.Ground.{IsLawful};
-ghost use Rattle.sg_store.specs.Engine.{KeepsBy, AsMeantBy};
+ghost use Rattle.sg_run.specs.Numbers.{IsAtEnd};
+ghost use Rattle.sg_store.specs.Engine.{KeepsBy};
 ghost use Rattle.sg_store.specs.Heeds.{Heeds};
-ghost use Rattle.sg_session.specs.Shows.{Shows};
-ghost use Rattle.sg_session.specs.Seen.{session_core, session_engine, Serves};
+ghost use Rattle.sg_session.specs.Seen.{session_engine, Serves};
 ghost use Rattle.sg_script.specs.Ending.{HasCause, MOST_OF_PIECE};
-ghost use Rattle.sg_script.specs.Course.{Ran};
+ghost use Rattle.sg_script.specs.Seen.{RanTo};
 
 use crate::room::Room;
 use crate::script::{RunEnd, run_script};
@@ -46,14 +44,13 @@ pub fn run<E: Lists, S: Source, K: Sink>(
     requires small { length piece.old ≤ MOST_OF_PIECE }
     requires serves { Serves (table_of record_meaning range_meaning ops.now) session }
     ensures means { KeepsBy (table_of record_meaning range_meaning ops.now) (E.view (session_engine session)) (E.view result.engine) }
-    // one course of the run: what was executed and answered, and what a crash leaves of it
-    ensures ran { let t = table_of record_meaning range_meaning ops.now in
-        AsMeantBy t (E.view (session_engine session)) (E.view result.engine) (λ g v w.
-        (x : Run) → IsLawful t g → Shows t g v (session_core session) x
-        → Ran result.end t g v x (S.left script.old) (S.left script.new) (K.taken out.old) (K.taken out.new) result.stop w) }
+    // one account of the run: what was executed and answered, why, and what a crash leaves of it
+    ensures ran { RanTo result.end (table_of record_meaning range_meaning ops.now) session (S.left script.old) (S.left script.new) (K.taken out.old) (K.taken out.new) result.by_then result.stop result.engine }
     ensures cause { HasCause result.end (S.faults script.old) (S.faults script.new) (K.faults out.old) (K.faults out.new) }
     // what stops a session in its script it is stopped for at the end
     ensures stays { (why : StopWhy) → result.by_then ≡ Some why → result.stop ≡ Some why }
+    // and else it stops for the log's end only where a record might pass that
+    ensures full { result.stop ≡ Some Stop.LogEnd → (result.by_then ≡ Some Stop.LogEnd) ⊎ IsAtEnd (E.view result.engine).tail }
     ensures heeds { Heeds session.store.stop result.stop (E.view (session_engine session)) (E.view result.engine) }
 {
     let mut session = session;

@@ -1,5 +1,6 @@
 pub mod Finding
 pub mod Named
+pub mod Causing
 pub mod Steps
 pub mod Commits
 pub mod Serves

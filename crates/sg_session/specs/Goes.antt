@@ -1,19 +1,20 @@
 -- How a line goes in a session.
-use Rattle.std.specs.Prelude.{◌≡◌, Option, Some, None, IsSome}
+use Rattle.std.specs.Prelude.{◌≡◌, Some, None, IsSome}
 use Rattle.sg_disk.specs.Disk.{LeavesOnly}
 use Rattle.sg_ops.specs.Table.{Table as Operations}
-use Rattle.sg_model.specs.declared.stop.Stop.{Stop}
 use Rattle.sg_words.specs.Answers.{Answer}
 use Rattle.sg_words.specs.Answers.Answer.{Silent, BadSyntax, Stopped}
 use Rattle.sg_words.specs.Requests.Asked.{Blank, Wrong, Of}
 use Rattle.sg_run.specs.Run.{Run, live_objects}
 use Rattle.sg_run.specs.Serial.{IsSerial}
 use Rattle.sg_run.specs.Stocked.{Around}
-use Rattle.sg_store.specs.Ground.{Ground}
-use Rattle.sg_store.specs.Engine.{View, pages_of}
+use Rattle.sg_store.specs.declared.engine.Engine.{Ghosts}
+use Rattle.sg_store.specs.Ground.{Ground, IsLawful}
+use Rattle.sg_store.specs.Engine.{View, AsMeantBy, pages_of}
 use Rattle.sg_store.specs.Stands.{StandsForFirst}
 use Rattle.sg_session.specs.Lines.{Line, LineBy}
 use Rattle.sg_session.specs.Lines.Line.{Flush, Other}
+use Rattle.sg_session.specs.Causes.{Caused}
 use Rattle.sg_session.specs.Shows.{Core, Shows}
 
 -- what is told of a store around a call, by what its engine shows before and after it
@@ -35,12 +36,6 @@ pub record Answers (t : Operations) (g : Ground) (v : View g) (x : Run) (line : 
   pub serial : m.store.stopped ≡ None → IsSerial t goes.after
   pub objects : m.store.stopped ≡ None → (o : g.O) → g.reading (pages_of t g w) ≡ Some o → g.objects o ≡ live_objects t goes.after
 
--- so a line was answered, and a sink takes of the answer what Took says
-pub record IsAnswered (t : Operations) (g : Ground) (v : View g) (x : Run) (line : Line) (Took : Answer → Type 0) (w : View g) (m : Core) : Type 0 where
-  pub answer : Answer
-  pub answers : Answers t g v x line answer w m
-  pub took : Took answer
-
 -- what a line is answered by a session that has stopped
 abbrev pub when_stopped : Line → Answer
 when_stopped Flush = Stopped
@@ -48,8 +43,12 @@ when_stopped (Other Blank) = Silent
 when_stopped (Other Wrong) = BadSyntax
 when_stopped (Other (Of name request)) = Stopped
 
--- some answer was given, whatever the engine tells: if the session had stopped, this one. A sink takes of it what Took says
-pub record IsSaid (stopped : Option Stop) (line : Line) (Took : Answer → Type 0) : Type 0 where
-  pub answer : Answer
-  pub by_stop : IsSome stopped → answer ≡ when_stopped line
-  pub took : Took answer
+module _ {E : Type 0} (ghosts : Ghosts E) (t : Operations) where
+  -- A LINE WAS ANSWERED, of which a sink takes what Took says. Whatever the engine tells the answer has its cause, and if the session had
+  -- stopped it is the one that stands for that; where the engine told, the line went so for each run that the session showed
+  pub record IsAnswered (e : E) (k : Core) (line : Line) (Took : Answer → Type 0) (f : E) (m : Core) : Type 0 where
+    pub answer : Answer
+    pub caused : Caused (ghosts.view e) (ghosts.view f) k.store.stopped m.store.stopped line answer
+    pub by_stop : IsSome k.store.stopped → answer ≡ when_stopped line
+    pub answers : AsMeantBy t (ghosts.view e) (ghosts.view f) (λ g v w. (x : Run) → IsLawful t g → Shows t g v k x → Answers t g v x line answer w m)
+    pub took : Took answer

@@ -1,8 +1,9 @@
 pub mod Lines
 pub mod Answered
 pub mod Names
+pub mod Causes
 pub mod Shows
-pub mod Seen
 pub mod Goes
+pub mod Seen
 pub mod OneLine
 pub mod Ending

@@ -4,7 +4,10 @@ use Rattle.sg_store.specs.declared.engine.Engine.{Ghosts}
 use Rattle.sg_store.specs.Engine.{AskedBy}
 use Rattle.sg_store.specs.Seen as stores
 use Rattle.sg_session.specs.declared.session.Session as code_session
+use Rattle.sg_words.specs.Answers.{Answer}
 use Rattle.sg_session.specs.Names.{all_live}
+use Rattle.sg_session.specs.Lines.{Line}
+use Rattle.sg_session.specs.Goes.{IsAnswered}
 use Rattle.sg_session.specs.Shows.{Core, ShowsSome}
 
 abbrev pub session_core : {E : Type 0} {ghosts : Ghosts E} → code_session.Session E ghosts → Core
@@ -21,3 +24,7 @@ Serves {ghosts = ghosts} t s = AskedBy t (ghosts.view s.store.engine) (ShowsSome
 -- it serves by some operations or others
 abbrev pub IsServed : {E : Type 0} {ghosts : Ghosts E} → code_session.Session E ghosts → Type 0
 IsServed s = (t : Operations) × Serves t s
+
+-- A LINE WAS ANSWERED by a session, of which a sink takes what Took says
+abbrev pub HasAnswered : {E : Type 0} {ghosts : Ghosts E} → Operations → (old new : code_session.Session E ghosts) → Line → (Answer → Type 0) → Type 0
+HasAnswered {ghosts = ghosts} t old new line Took = IsAnswered ghosts t (session_engine old) (session_core old) line Took (session_engine new) (session_core new)

@@ -9,6 +9,8 @@ ghost use Rattle.sg_run.specs.Named.{answer_to, name_of};
 ghost use Rattle.sg_words.specs.Answers.Answer.{Busy};
 ghost use Rattle.sg_store.specs.Refusals.{said_refusal};
 ghost use Rattle.sg_session.specs.Names.{live_of, all_live, live_numbered, first_live, IsNamed};
+ghost use Rattle.sg_session.specs.Causes.{trouble_in, trouble_of};
+ghost use Rattle.sg_session.specs.Causes.Trouble.{NoTrouble};
 
 use sg_base::{Name, OutOfMemory, TxnId};
 use sg_store::Refused;
@@ -116,7 +118,8 @@ impl Names {
     // The answer to a line that this transaction is in the way of. Only live ones hold anything, so that
     // one has its number.
     fn busy(&self, holder: TxnId) -> Answer
-        ensures { IsSome (live_numbered (all_live self.now.all.items) holder.0) → (into : List ℕ) → shown_answer into result ≡ Busy (name_of (all_live self.now.all.items) holder.0) }
+        ensures named { IsSome (live_numbered (all_live self.now.all.items) holder.0) → (into : List ℕ) → shown_answer into result ≡ Busy (name_of (all_live self.now.all.items) holder.0) }
+        ensures trouble { (into : List ℕ) → trouble_in (shown_answer into result) ≡ NoTrouble }
     {
         match self.numbered(holder) {
             Some(other) => Answer::Busy(other.name),
@@ -126,7 +129,8 @@ impl Names {
 
     /// What a call that was refused is answered, in the words of a script.
     pub fn answer_to(&self, why: Refused) -> Answer
-        ensures { IsNamed (all_live self.now.all.items) why → (into : List ℕ) → shown_answer into result ≡ answer_to (all_live self.now.all.items) (said_refusal why) }
+        ensures says { IsNamed (all_live self.now.all.items) why → (into : List ℕ) → shown_answer into result ≡ answer_to (all_live self.now.all.items) (said_refusal why) }
+        ensures trouble { (into : List ℕ) → trouble_in (shown_answer into result) ≡ trouble_of why }
     {
         match why {
             Refused::NoTxn => Answer::NoTransaction,

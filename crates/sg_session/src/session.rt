@@ -39,13 +39,17 @@ pub struct Session<E: Objects> {
 
 impl<E: Objects> Session<E> {
     ghost use Rattle.sg_ops.specs.Table.{Table as Operations};
+    ghost use Rattle.std.specs.Prelude.{◌⊎◌};
     ghost use Rattle.sg_run.specs.Run.{Run};
+    ghost use Rattle.sg_run.specs.Numbers.{IsAtEnd};
     ghost use Rattle.sg_store.specs.Ground.{IsLawful};
     ghost use Rattle.sg_store.specs.Engine.{Keeps, KeepsBy, AsMeant, AsMeantBy};
     ghost use Rattle.sg_store.specs.Seen as stores;
     ghost use Rattle.sg_session.specs.Lines.Line.{Flush, Other};
+    ghost use Rattle.sg_session.specs.Names.{all_live};
     ghost use Rattle.sg_session.specs.Shows.{Shows};
     ghost use Rattle.sg_store.specs.Heeds.{Heeds};
+    ghost use Rattle.sg_session.specs.Causes.{Caused};
     ghost use Rattle.sg_session.specs.Goes.{Goes};
     ghost use Rattle.sg_session.specs.Ending.{HasAborted, IsClosed, IsEnded};
     ghost use Rattle.sg_session.specs.Seen.{session_core, session_engine, Serves, IsServed};
@@ -60,9 +64,21 @@ impl<E: Objects> Session<E> {
         ensures serves { (t : Operations) → stores.Serves t store → IfOk result (λ s. Serves t s) }
     {
         match Names::new(alloc) {
-            Ok(names) => Ok(Session { store, names }),
+            Ok(names) => Ok(Session::over(store, names)),
             Err(OutOfMemory) => Err(store),
         }
+    }
+
+    /// A session over a store that has no live transaction, with room for the names of those that begin. So
+    /// the room may be made before the store is opened. It takes no memory.
+    pub fn over(store: Store<E>, names: Names) -> Session<E>
+        requires none { (stores.core_of store).live ≡ [] }
+        requires unnamed { all_live names.all.items ≡ [] }
+        ensures core { session_core result ≡ record { store = stores.core_of store; names = [] } }
+        ensures engine { session_engine result ≡ store.engine }
+        ensures serves { (t : Operations) → stores.Serves t store → Serves t result }
+    {
+        Session { store, names }
     }
 
     /// Why the store has stopped, if it has.
@@ -76,6 +92,7 @@ impl<E: Objects> Session<E> {
     fn begin(&mut self, name: Name) -> Answer
         requires running { self.old.store.stop ≡ None }
         requires serves { IsServed self.old }
+        ensures caused { (into : List ℕ) → Caused (E.view self.old.store.engine) (E.view self.new.store.engine) self.old.store.stop self.new.store.stop (Other (Of name Begin)) (shown_answer into result) }
         ensures told { (E.view self.new.store.engine).Told → (E.view self.old.store.engine).Told }
         ensures heeds { Heeds self.old.store.stop self.new.store.stop (E.view self.old.store.engine) (E.view self.new.store.engine) }
         ensures means { Keeps (E.view self.old.store.engine) (E.view self.new.store.engine) }
@@ -102,6 +119,7 @@ impl<E: Objects> Session<E> {
     fn commit(&mut self, ops: &Ops, name: Name) -> Answer
         requires running { self.old.store.stop ≡ None }
         requires serves { Serves (table_of record_meaning range_meaning ops.now) self.old }
+        ensures caused { (into : List ℕ) → Caused (E.view self.old.store.engine) (E.view self.new.store.engine) self.old.store.stop self.new.store.stop (Other (Of name Commit)) (shown_answer into result) }
         ensures told { (E.view self.new.store.engine).Told → (E.view self.old.store.engine).Told }
         ensures heeds { Heeds self.old.store.stop self.new.store.stop (E.view self.old.store.engine) (E.view self.new.store.engine) }
         ensures means { KeepsBy (table_of record_meaning range_meaning ops.now) (E.view self.old.store.engine) (E.view self.new.store.engine) }
@@ -126,6 +144,7 @@ impl<E: Objects> Session<E> {
     fn abort(&mut self, ops: &Ops, name: Name) -> Answer
         requires running { self.old.store.stop ≡ None }
         requires serves { Serves (table_of record_meaning range_meaning ops.now) self.old }
+        ensures caused { (into : List ℕ) → Caused (E.view self.old.store.engine) (E.view self.new.store.engine) self.old.store.stop self.new.store.stop (Other (Of name Abort)) (shown_answer into result) }
         ensures told { (E.view self.new.store.engine).Told → (E.view self.old.store.engine).Told }
         ensures heeds { Heeds self.old.store.stop self.new.store.stop (E.view self.old.store.engine) (E.view self.new.store.engine) }
         ensures means { KeepsBy (table_of record_meaning range_meaning ops.now) (E.view self.old.store.engine) (E.view self.new.store.engine) }
@@ -150,6 +169,7 @@ impl<E: Objects> Session<E> {
     fn flush(&mut self) -> Answer
         requires running { self.old.store.stop ≡ None }
         requires serves { IsServed self.old }
+        ensures caused { (into : List ℕ) → Caused (E.view self.old.store.engine) (E.view self.new.store.engine) self.old.store.stop self.new.store.stop Flush (shown_answer into result) }
         ensures told { (E.view self.new.store.engine).Told → (E.view self.old.store.engine).Told }
         ensures heeds { Heeds self.old.store.stop self.new.store.stop (E.view self.old.store.engine) (E.view self.new.store.engine) }
         ensures means { Keeps (E.view self.old.store.engine) (E.view self.new.store.engine) }
@@ -168,6 +188,7 @@ impl<E: Objects> Session<E> {
         requires running { self.old.store.stop ≡ None }
         requires into { 8192 ≤ length into.old }
         requires serves { Serves (table_of record_meaning range_meaning ops.now) self.old }
+        ensures caused { Caused (E.view self.old.store.engine) (E.view self.new.store.engine) self.old.store.stop self.new.store.stop (Other (Of name (Do (said_op op.now)))) (shown_answer into.new result) }
         ensures told { (E.view self.new.store.engine).Told → (E.view self.old.store.engine).Told }
         ensures heeds { Heeds self.old.store.stop self.new.store.stop (E.view self.old.store.engine) (E.view self.new.store.engine) }
         ensures means { KeepsBy (table_of record_meaning range_meaning ops.now) (E.view self.old.store.engine) (E.view self.new.store.engine) }
@@ -192,6 +213,8 @@ impl<E: Objects> Session<E> {
         ensures serves { Serves (table_of record_meaning range_meaning ops.now) self.new }
         ensures means { KeepsBy (table_of record_meaning range_meaning ops.now) (E.view self.old.store.engine) (E.view self.new.store.engine) }
         ensures heeds { Heeds self.old.store.stop self.new.store.stop (E.view self.old.store.engine) (E.view self.new.store.engine) }
+        // it stops for the log's end only where a record might pass that
+        ensures full { self.new.store.stop ≡ Some Stop.LogEnd → IsAtEnd (E.view self.new.store.engine).tail }
         ensures aborts { let t = table_of record_meaning range_meaning ops.now in
             AsMeantBy t (E.view self.old.store.engine) (E.view self.new.store.engine) (λ g v w.
             (x : Run) → IsLawful t g → Shows t g v (session_core self.old) x
@@ -215,6 +238,7 @@ impl<E: Objects> Session<E> {
         ensures means { Keeps (E.view (session_engine self)) (E.view result.1) }
         // a session that has stopped makes no call of its engine
         ensures stopped { IsSome self.store.stop → (result.1 ≡ session_engine self) × (result.0 ≡ self.store.stop) }
+        ensures full { result.0 ≡ Some Stop.LogEnd → self.store.stop ≡ Some Stop.LogEnd }
         ensures heeds { Heeds self.store.stop result.0 (E.view (session_engine self)) (E.view result.1) }
         ensures closes { AsMeant (E.view (session_engine self)) (E.view result.1) (λ t g v w.
             (x : Run) → IsLawful t g → Shows t g v (session_core self) x → IsClosed t g v (session_core self) x result.0 w) }
@@ -233,6 +257,8 @@ impl<E: Objects> Session<E> {
         ensures means { KeepsBy (table_of record_meaning range_meaning ops.now) (E.view (session_engine self)) (E.view result.1) }
         // a session that had stopped makes no call of its engine
         ensures stopped { IsSome self.store.stop → (result.1 ≡ session_engine self) × (result.0 ≡ self.store.stop) }
+        // it stops for the log's end only where a record might pass that
+        ensures full { result.0 ≡ Some Stop.LogEnd → (self.store.stop ≡ Some Stop.LogEnd) ⊎ IsAtEnd (E.view result.1).tail }
         ensures heeds { Heeds self.store.stop result.0 (E.view (session_engine self)) (E.view result.1) }
         ensures ends { let t = table_of record_meaning range_meaning ops.now in
             AsMeantBy t (E.view (session_engine self)) (E.view result.1) (λ g v w.
@@ -255,14 +281,16 @@ impl<E: Lists> Session<E> {
     ghost use Rattle.sg_session.specs.Lines.{line_of};
     ghost use Rattle.sg_session.specs.Lines.Line.{Other};
     ghost use Rattle.sg_session.specs.Shows.{Shows};
-    ghost use Rattle.sg_session.specs.Goes.{Goes, Answers, IsAnswered, IsSaid, when_stopped};
+    ghost use Rattle.sg_session.specs.Causes.{Caused};
+    ghost use Rattle.sg_session.specs.Goes.{Goes, Answers, when_stopped};
     ghost use Rattle.sg_session.specs.OneLine.{OneLine};
-    ghost use Rattle.sg_session.specs.Seen.{session_core, Serves, IsServed};
+    ghost use Rattle.sg_session.specs.Seen.{session_core, Serves, IsServed, HasAnswered};
 
     // The keys of a table, asked by the transaction with this name.
     fn keys(&mut self, alloc: Global, name: Name, table: Name) -> Answered
         requires running { self.old.store.stop ≡ None }
         requires serves { IsServed self.old }
+        ensures caused { (into : List ℕ) → Caused (E.view self.old.store.engine) (E.view self.new.store.engine) self.old.store.stop self.new.store.stop (Other (Of name (Do (On table Keys)))) (shown into result) }
         ensures told { (E.view self.new.store.engine).Told → (E.view self.old.store.engine).Told }
         ensures heeds { Heeds self.old.store.stop self.new.store.stop (E.view self.old.store.engine) (E.view self.new.store.engine) }
         ensures means { Keeps (E.view self.old.store.engine) (E.view self.new.store.engine) }
@@ -283,6 +311,7 @@ impl<E: Lists> Session<E> {
     fn list(&mut self, alloc: Global, name: Name) -> Answer
         requires running { self.old.store.stop ≡ None }
         requires serves { IsServed self.old }
+        ensures caused { (into : List ℕ) → Caused (E.view self.old.store.engine) (E.view self.new.store.engine) self.old.store.stop self.new.store.stop (Other (Of name (Do AllNames))) (shown_answer into result) }
         ensures told { (E.view self.new.store.engine).Told → (E.view self.old.store.engine).Told }
         ensures heeds { Heeds self.old.store.stop self.new.store.stop (E.view self.old.store.engine) (E.view self.new.store.engine) }
         ensures means { Keeps (E.view self.old.store.engine) (E.view self.new.store.engine) }
@@ -313,6 +342,7 @@ impl<E: Lists> Session<E> {
         requires serves { Serves (table_of record_meaning range_meaning ops.now) self.old }
         ensures stopped { IsSome self.old.store.stop → self.new ≡ self.old }
         ensures still { IsSome self.old.store.stop → shown into.new result ≡ when_stopped (line_of text.now) }
+        ensures caused { Caused (E.view self.old.store.engine) (E.view self.new.store.engine) self.old.store.stop self.new.store.stop (line_of text.now) (shown into.new result) }
         ensures told { (E.view self.new.store.engine).Told → (E.view self.old.store.engine).Told }
         ensures heeds { Heeds self.old.store.stop self.new.store.stop (E.view self.old.store.engine) (E.view self.new.store.engine) }
         ensures means { KeepsBy (table_of record_meaning range_meaning ops.now) (E.view self.old.store.engine) (E.view self.new.store.engine) }
@@ -368,6 +398,8 @@ impl<E: Lists> Session<E> {
         // a session that has stopped changes no more, and makes no call of its engine
         ensures stopped { IsSome self.old.store.stop → self.new ≡ self.old }
         ensures still { IsSome self.old.store.stop → shown into.new result ≡ when_stopped (line_of text.now) }
+        // the answer has its cause, and the session has stopped for what it says
+        ensures caused { Caused (E.view self.old.store.engine) (E.view self.new.store.engine) self.old.store.stop self.new.store.stop (line_of text.now) (shown into.new result) }
         ensures heeds { Heeds self.old.store.stop self.new.store.stop (E.view self.old.store.engine) (E.view self.new.store.engine) }
         ensures told { (E.view self.new.store.engine).Told → (E.view self.old.store.engine).Told }
         ensures means { KeepsBy (table_of record_meaning range_meaning ops.now) (E.view self.old.store.engine) (E.view self.new.store.engine) }
@@ -405,23 +437,17 @@ impl<E: Lists> Session<E> {
         ensures heeds { Heeds self.old.store.stop self.new.store.stop (E.view self.old.store.engine) (E.view self.new.store.engine) }
         ensures told { (E.view self.new.store.engine).Told → (E.view self.old.store.engine).Told }
         ensures means { KeepsBy (table_of record_meaning range_meaning ops.now) (E.view self.old.store.engine) (E.view self.new.store.engine) }
-        // for each run that the session shows: what is answered, and which run it then shows
+        // one answer, of which the sink takes the line: its cause, and for each run that the session shows where
+        // its engine tells, which run it then shows
         ensures line { let t = table_of record_meaning range_meaning ops.now in
-            OnOk result (AsMeantBy t (E.view self.old.store.engine) (E.view self.new.store.engine) (λ g v w.
-            (x : Run) → IsLawful t g → Shows t g v (session_core self.old) x
-            → IsAnswered t g v x (line_of text.now) (λ answer. Takes (K.taken out.old) (text_of_answer answer) (K.taken out.new)) w (session_core self.new))) }
+            OnOk result (HasAnswered t self.old self.new (line_of text.now) (λ answer. Takes (K.taken out.old) (text_of_answer answer) (K.taken out.new))) }
         ensures cut { let t = table_of record_meaning range_meaning ops.now in
-            OnErr result (AsMeantBy t (E.view self.old.store.engine) (E.view self.new.store.engine) (λ g v w.
-            (x : Run) → IsLawful t g → Shows t g v (session_core self.old) x
-            → IsAnswered t g v x (line_of text.now) (λ answer. TakesFront (K.taken out.old) (text_of_answer answer) (K.taken out.new)) w (session_core self.new))) }
+            OnErr result (HasAnswered t self.old self.new (line_of text.now) (λ answer. TakesFront (K.taken out.old) (text_of_answer answer) (K.taken out.new))) }
         // what a crash leaves of one line, where the store hasn't stopped
         ensures one_line { let t = table_of record_meaning range_meaning ops.now in
             self.old.store.stop ≡ None → AsMeantBy t (E.view self.old.store.engine) (E.view self.new.store.engine) (λ g v w.
             (x : Run) → IsLawful t g → Shows t g v (session_core self.old) x
             → OneLine t g v x (line_of text.now) w self.new.store.stop) }
-        // on any engine: an answer is written, and the sink's count rose exactly where it failed
-        ensures said { OnOk result (IsSaid self.old.store.stop (line_of text.now) (λ answer. Takes (K.taken out.old) (text_of_answer answer) (K.taken out.new))) }
-        ensures said_cut { OnErr result (IsSaid self.old.store.stop (line_of text.now) (λ answer. TakesFront (K.taken out.old) (text_of_answer answer) (K.taken out.new))) }
         ensures quiet { OnOk result (K.faults out.new ≡ K.faults out.old) }
         ensures failed { OnErr result (HasRisen (K.faults out.old) (K.faults out.new)) }
     {

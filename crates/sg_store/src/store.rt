@@ -710,6 +710,7 @@ impl<E: Objects> Store<E> {
             (x : Run) → IsLawful t g → Shows t g v (core_of self) x
             → (m : Core) × Goes t g v x (Flushes v.faults w.faults x result.0) w m) }
         // on any engine
+        ensures causes { (m : Core) × FlushesFor (E.view self.engine) (E.view result.1) (core_of self) m result.0 }
         ensures fault { IfErr result.0 (λ e. e ≡ Refused.DiskFault → HasRisen (E.view self.engine).faults (E.view result.1).faults) }
         ensures stopped { IsSome self.stop → (result.1 ≡ self.engine) × (result.0 ≡ Err Refused.Stopped) }
         ensures heeds { Heeds self.stop (stop_behind self.stop result.0) (E.view self.engine) (E.view result.1) }

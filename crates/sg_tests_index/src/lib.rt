@@ -3,5 +3,4 @@
 
 #[cfg(test)]
 mod index;
-#[cfg(test)]
 mod table;

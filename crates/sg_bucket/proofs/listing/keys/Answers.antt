@@ -56,3 +56,8 @@ pub returns-in_err-next-clause-memory : goal.returns-in_err-next-clause-memory
 returns-in_err-next-clause-memory g c =
     let kept = λ (e : c.in_err-next.field-0.0 ≡ Memory). reads_then (c.loop-passed.invariant.so_far).0.1.kept (c.in_err-next.ensures.memory e) in
     search (rules, kept)
+
+pub returns-in_err-next-clause-quiet : goal.returns-in_err-next-clause-quiet
+returns-in_err-next-clause-quiet g c =
+    let quiet = λ (e : c.in_err-next.field-0.0 ≡ Memory). c.in_err-next.ensures.quiet e ∙ c.loop-passed.invariant.quiet in
+    search (rules, quiet)

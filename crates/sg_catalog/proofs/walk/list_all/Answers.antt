@@ -38,3 +38,8 @@ pub returns-in_err-head-clause-memory : goal.returns-in_err-head-clause-memory
 returns-in_err-head-clause-memory g c =
     let kept = λ (e : c.in_err-head.field-0.0 ≡ Memory). reads_then c.pages.invariant.walk.kept (c.in_err-head.ensures.memory e) in
     search (rules, kept)
+
+pub returns-in_err-head-clause-quiet : goal.returns-in_err-head-clause-quiet
+returns-in_err-head-clause-quiet g c =
+    let quiet = λ (e : c.in_err-head.field-0.0 ≡ Memory). c.in_err-head.ensures.quiet e ∙ c.pages.invariant.quiet in
+    search (rules, quiet)

@@ -12,3 +12,6 @@ handed_on (Err e) fault P h kept = λ m. kept (sym h ∙ m)
 
 pub returns-in_err-all-clause-memory : goal.returns-in_err-all-clause-memory
 returns-in_err-all-clause-memory g c = handed_on c.from_residual.result c.in_err-all.field-0.0 _ c.from_residual.ensures.1 c.in_err-all.ensures.memory
+
+pub returns-in_err-all-clause-quiet : goal.returns-in_err-all-clause-quiet
+returns-in_err-all-clause-quiet g c = handed_on c.from_residual.result c.in_err-all.field-0.0 _ c.from_residual.ensures.1 c.in_err-all.ensures.quiet

@@ -111,3 +111,11 @@ not_memory (Err e) fault P h = λ m. absurd (cc)
 
 pub returns-in_err-found-clause-memory : goal.returns-in_err-found-clause-memory
 returns-in_err-found-clause-memory g c = not_memory c.from_residual.result c.in_err-found.field-0.0 _ c.from_residual.ensures.1
+
+pub returns-in_err-keys-clause-quiet : goal.returns-in_err-keys-clause-quiet
+returns-in_err-keys-clause-quiet g c =
+    let quiet = λ (e : c.in_err-keys.field-0.0 ≡ Memory). c.in_err-keys.ensures.quiet e ∙ c.in_ok-first.ensures.counts.quiet ∙ c.loop-i.invariant.quiet in
+    search (rules, quiet)
+
+pub returns-in_err-found-clause-quiet : goal.returns-in_err-found-clause-quiet
+returns-in_err-found-clause-quiet g c = not_memory c.from_residual.result c.in_err-found.field-0.0 _ c.from_residual.ensures.1

@@ -27,14 +27,14 @@ returns-in-Ok-line-clause-ran g c =
     way_ends g.E.Engine _ (session_engine c.args.session.now) (session_core c.args.session.now) (g.S.Source.left c.args.script.now) (g.K.Sink.taken c.args.out.now) (g.S.Source.left c.pieces.script) (g.S.Source.left c.read.new.self) (g.K.Sink.taken c.pieces.out) (g.K.Sink.taken c.line.new.out)
     (session_engine c.pieces.session) (session_engine c.line.new.self) (session_core c.pieces.session) (session_core c.line.new.self) c.pieces.line c.read.new.into c.pieces.total c.pieces.invariant.so_far c.pieces.invariant.short (omega arith) (rw c.if-count-eq0.true at c.in-Ok.ensures.given)
     (went_ok {X = Unit {0}} g.E.Engine _ (Ok c.in-Ok-line.field-0) (session_engine c.pieces.session) (session_core c.pieces.session) _ _ _ (session_engine c.line.new.self) (session_core c.line.new.self) (ap line_of c.bytes.ensures)
-    c.line.ensures.means c.line.ensures.heeds (λ s. (let p = c.line.ensures.stopped s in (ap (λ s. session_engine s) p, ap (λ s. session_core s) p))) c.in-Ok-line.ensures.line c.in-Ok-line.ensures.said)
+    c.line.ensures.means c.line.ensures.heeds (λ s. (let p = c.line.ensures.stopped s in (ap (λ s. session_engine s) p, ap (λ s. session_core s) p))) c.in-Ok-line.ensures.line)
 
 pub returns-in-Err-clause-ran : goal.returns-in-Err-clause-ran
 returns-in-Err-clause-ran g c =
     way_unwritten g.E.Engine _ (session_engine c.args.session.now) (session_core c.args.session.now) (g.S.Source.left c.args.script.now) (g.K.Sink.taken c.args.out.now) (g.S.Source.left c.pieces.script) (g.S.Source.left c.read.new.self) (g.K.Sink.taken c.pieces.out) (g.K.Sink.taken c.line.new.out)
     (session_engine c.pieces.session) (session_engine c.line.new.self) (session_core c.pieces.session) (session_core c.line.new.self) c.pieces.line c.read.new.into c.pieces.total c.pieces.invariant.so_far c.pieces.invariant.short (omega arith) (rw c.if-count-eq0.true at c.in-Ok.ensures.given)
     (went_err {R = Unit {0}} g.E.Engine _ (Err c.in-Err.field-0) (session_engine c.pieces.session) (session_core c.pieces.session) _ _ _ (session_engine c.line.new.self) (session_core c.line.new.self) (ap line_of c.bytes.ensures)
-    c.line.ensures.means c.line.ensures.heeds (λ s. (let p = c.line.ensures.stopped s in (ap (λ s. session_engine s) p, ap (λ s. session_core s) p))) c.in-Err.ensures.cut c.in-Err.ensures.said_cut)
+    c.line.ensures.means c.line.ensures.heeds (λ s. (let p = c.line.ensures.stopped s in (ap (λ s. session_engine s) p, ap (λ s. session_core s) p))) c.in-Err.ensures.cut)
 
 pub returns-then-count-total-clause-ran : goal.returns-then-count-total-clause-ran
 returns-then-count-total-clause-ran g c =

@@ -1,4 +1,4 @@
-use Rattle.std.proofs.Common.{sym, ap, ◌∙◌}
+use Rattle.std.proofs.Common.{inl, inr, ⊎_elim, sym, ap, ◌∙◌}
 use Rattle.std.specs.Prelude.{is_some}
 use Rattle.sg_store.proofs.Heeding.{heeds_then}
 use Rattle.sg_session.specs.Seen.{session_core, session_engine}
@@ -7,7 +7,8 @@ use Rattle.sg_script.proofs.whole.run.Goals as goal
 
 pub returns-clause-ran : goal.returns-clause-ran
 returns-clause-ran g c =
-    ran_by g.E.Engine _ c.run_script-end.result (session_engine c.args.session) (session_engine c.run_script-end.new.session) c.finish-stop.result.1 (session_core c.args.session) (session_core c.run_script-end.new.session) _ _ _ _ c.finish-stop.result.0 c.run_script-end.ensures.ran c.finish-stop.ensures.ends c.finish-stop.ensures.stopped
+    ran_by g.E.Engine _ c.run_script-end.result (session_engine c.args.session) (session_engine c.run_script-end.new.session) c.finish-stop.result.1 (session_core c.args.session) (session_core c.run_script-end.new.session) _ _ _ _ c.stop-by_then.result c.finish-stop.result.0
+    c.run_script-end.ensures.ran c.stop-by_then.ensures c.finish-stop.ensures.heeds c.finish-stop.ensures.ends c.finish-stop.ensures.stopped
 
 pub returns-clause-means : goal.returns-clause-means
 returns-clause-means g c z from m = c.finish-stop.ensures.means z from (c.run_script-end.ensures.ran.executed.means z from m)
@@ -20,3 +21,6 @@ pub returns-clause-stays : goal.returns-clause-stays
 returns-clause-stays g c why e =
     let stopped = sym c.stop-by_then.ensures ∙ e in
     (c.finish-stop.ensures.stopped (ap is_some stopped)).1 ∙ stopped
+
+pub returns-clause-full : goal.returns-clause-full
+returns-clause-full g c e = ⊎_elim (λ was. inl (c.stop-by_then.ensures ∙ was)) (λ at_end. inr at_end) (c.finish-stop.ensures.full e)

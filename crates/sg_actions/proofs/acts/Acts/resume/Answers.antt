@@ -11,7 +11,7 @@ use Rattle.sg_actions.specs.Engine.{ArePagesFit, led}
 use Rattle.sg_actions.specs.Offed.{AllOff}
 use Rattle.sg_actions.specs.TakingOff.{IsOff}
 use Rattle.sg_actions.specs.declared.rows.Row.{Row}
-use Rattle.sg_actions.proofs.Finishing.{none_left, all_off_now, off_same, all_same, on_ok}
+use Rattle.sg_actions.proofs.Finishing.{none_left, action_off, all_off_now, off_same, going_same, all_same, on_ok}
 use Rattle.sg_actions.proofs.acts.Acts.resume.Goals as goal
 
 pub take_one_off-requires-clause-by : goal.take_one_off-requires-clause-by
@@ -20,7 +20,7 @@ take_one_off-requires-clause-by g c = ∥∥₁_elim c.requires.by ∥∥₁_pro
 pub take_one_off-requires-clause-off : goal.take_one_off-requires-clause-off
 take_one_off-requires-clause-off g c = λ told1.
     let i = c.changes.invariant in
-    ∥∥₁_elim (c.requires.off (i.told told1)) ∥∥₁_prop (λ x. ∣ (x.0, i.means x.0 x.1, record { kept = x.2.kept; begin = x.2.begin; off = i.off x.0 x.1 x.2.kept x.2.begin x.2.resumable.off told1; more = c.changes-test.true }) ∣₁)
+    ∥∥₁_elim (c.requires.off (i.told told1)) ∥∥₁_prop (λ x. ∣ (x.0, i.means x.0 x.1, record { kept = x.2.kept; begin = x.2.begin; going = i.going x.0 x.1 x.2.kept x.2.begin x.2.going told1; more = c.changes-test.true }) ∣₁)
 
 pub changes-preserved : goal.changes-preserved
 changes-preserved g c =
@@ -35,11 +35,14 @@ changes-preserved g c =
       unfreed = k.unfreed ∙ i.unfreed;
       goes = λ from m told kept b h.
           off_then (led from (g.E.Engine.view c.args.self.now.engine)) (led from (g.E.Engine.view c.changes.self.engine)) (led from (g.E.Engine.view c.take_one_off.new.self.engine)) (i.goes from m told kept b h) k.counts.stops
-          (λ told1. off_as i.who (k.goes from (i.means from m) told1 kept b c.changes-test.true (i.off from m kept b h told1)));
+          (λ told1. off_as i.who (k.goes from (i.means from m) told1 kept b c.changes-test.true (i.going from m kept b h told1)));
       off = λ from m kept b h u.
           let d = k.did from (i.means from m) in
           let on = d.goes_on (d.told u) kept b c.changes-test.true (i.off from m kept b h (d.told u)) in
           off_same k.unfreed k.rows on;
+      going = λ from m kept b h u.
+          let d = k.did from (i.means from m) in
+          going_same k.rows (d.keeps_on (d.told u) kept b c.changes-test.true (i.going from m kept b h (d.told u)));
     }
 
 pub returns-clause-did : goal.returns-clause-did
@@ -53,6 +56,15 @@ returns-clause-did g c = λ limits from m.
     all_same c.void.ensures.maps
     (all_off_now _ limits kept begin (led from (g.E.Engine.view c.changes.self.engine)) (led from (g.E.Engine.view c.void.new.self.engine)) c.changes.self.maps c.changes.self.unfreed c.changes.self.rows.items c.void.new.self.rows.items c.changes.self.actor c.void.new.self.actor c.changes.at told1
     (record { begun = can0.begun; off = i.off from m kept begin can0.off told1 }) c.changes-test.false v (subst ArePagesFit (g.met.E.Engine.now_is _ _ from m2 told) (g.met.E.Engine.pages_fit _ _ from m2 told)))) (c.void.ensures.did _ from m1)
+
+pub returns-clause-over : goal.returns-clause-over
+returns-clause-over g c = λ from m.
+    let i = c.changes.invariant in
+    let m1 = i.means from m in
+    on_ok c.void.result (λ v kept begin can told.
+    let told1 = v.told told in
+    action_off _ kept begin (led from (g.E.Engine.view c.changes.self.engine)) (led from (g.E.Engine.view c.void.new.self.engine)) c.changes.self.rows.items c.void.new.self.rows.items c.changes.self.actor c.void.new.self.actor c.changes.at told1
+    (i.going from m kept begin (can (i.told told1)) told1) c.changes-test.false v) (c.void.ensures.did _ from m1)
 
 pub returns-clause-means : goal.returns-clause-means
 returns-clause-means g c = λ start m. c.void.ensures.means _ start (c.changes.invariant.means start m)
@@ -72,6 +84,7 @@ changes-init g c = record {
   goes = λ from m told kept b h. off_none c.args.self.now.actor.txn.0 (led from (g.E.Engine.view c.args.self.now.engine)) h.taking.running.log (moments_same (led from (g.E.Engine.view c.args.self.now.engine)) (g.met.E.Engine.images c.args.self.now.engine _ from m told)) told;
   means = λ from m. m;
   off = λ from m kept b h told. h;
+  going = λ from m kept b h told. h;
 }
 
 pub returns-in_err-at-clause-counts : goal.returns-in_err-at-clause-counts
@@ -83,8 +96,8 @@ pub returns-in_err-at-clause-goes : goal.returns-in_err-at-clause-goes
 returns-in_err-at-clause-goes g c = λ from m told kept b r.
     let i = c.changes.invariant in
     let k = c.in_err-at.ensures in
-    off_then (led from (g.E.Engine.view c.args.self.now.engine)) (led from (g.E.Engine.view c.changes.self.engine)) (led from (g.E.Engine.view c.take_one_off.new.self.engine)) (i.goes from m told kept b r.off) k.counts.stops
-    (λ told1. off_as i.who (k.goes from (i.means from m) told1 kept b c.changes-test.true (i.off from m kept b r.off told1)))
+    off_then (led from (g.E.Engine.view c.args.self.now.engine)) (led from (g.E.Engine.view c.changes.self.engine)) (led from (g.E.Engine.view c.take_one_off.new.self.engine)) (i.goes from m told kept b r) k.counts.stops
+    (λ told1. off_as i.who (k.goes from (i.means from m) told1 kept b c.changes-test.true (i.going from m kept b r told1)))
 
 pub returns-in_err-at-clause-unfreed : goal.returns-in_err-at-clause-unfreed
 returns-in_err-at-clause-unfreed g c = c.in_err-at.ensures.unfreed ∙ c.changes.invariant.unfreed
@@ -95,8 +108,8 @@ returns-clause-counts g c = counts_after c.void.result c.changes.invariant.looke
 pub returns-clause-goes : goal.returns-clause-goes
 returns-clause-goes g c = λ from m told kept b r.
     let i = c.changes.invariant in
-    off_then (led from (g.E.Engine.view c.args.self.now.engine)) (led from (g.E.Engine.view c.changes.self.engine)) (led from (g.E.Engine.view c.void.new.self.engine)) (i.goes from m told kept b r.off) c.void.ensures.counts.stops
-    (λ told1. let off = i.off from m kept b r.off told1 in
+    off_then (led from (g.E.Engine.view c.args.self.now.engine)) (led from (g.E.Engine.view c.changes.self.engine)) (led from (g.E.Engine.view c.void.new.self.engine)) (i.goes from m told kept b r) c.void.ensures.counts.stops
+    (λ told1. let off = i.going from m kept b r told1 in
     off_as i.who
     (c.void.ensures.goes _ from (i.means from m) told1 kept b off.taking (none_left (g.E.Engine.view c.changes.self.engine).steps c.changes.self.actor c.changes.at off.taking.running.linked off.at_is c.changes-test.false)))
 

@@ -7,6 +7,7 @@ use Rattle.sg_actions.specs.Offed.{kept_in, TakenOff}
 use Rattle.sg_actions.specs.Steps.{begin_of}
 use Rattle.sg_actions.specs.TakingOff.{IsOff}
 use Rattle.sg_actions.specs.declared.rows.Row.{Row}
+use Rattle.sg_actions.proofs.Offing.{going_of}
 use Rattle.sg_actions.proofs.Finishing.{off_begins, taken_off, off_same, taken_same, on_ok}
 use Rattle.sg_actions.proofs.Sets.{who_set}
 use Rattle.sg_actions.proofs.acts.Acts.take_off.Goals as goal
@@ -34,7 +35,7 @@ take_one_off-requires-clause-off g c = λ told1.
       record {
         kept = kept_in x.0 _ (led x.1 (g.E.Engine.view c.args.self.now.engine)) c.args.self.now.maps;
         begin = begin_of _ x.1 (g.E.Engine.view c.args.self.now.engine).steps;
-        off = i.off x.0 x.1 x.2 told x.3 told1;
+        going = going_of (i.off x.0 x.1 x.2 told x.3 told1);
         more = c.changes-test.true;
       },
     ) ∣₁)

@@ -10,11 +10,11 @@ use Rattle.sg_actions.proofs.Flags.{some_is}
 use Rattle.sg_actions.proofs.Led.{log_call, look_call}
 use Rattle.sg_actions.proofs.Counting.{looked_engine}
 use Rattle.sg_actions.proofs.GoneOff.{off_look, off_then, off_one, counts_err}
-use Rattle.sg_actions.proofs.Offing.{next_one, off_stays, read_is, off_fits, said_less, shown_is, took_off}
+use Rattle.sg_actions.proofs.Offing.{next_one, going_stays, read_is, off_fits, said_less, shown_is, took_off}
 use Rattle.sg_actions.proofs.acts.Acts.take_one_off.Goals as goal
 
 pub read-requires-clause-there : goal.read-requires-clause-there
-read-requires-clause-there g c = λ told. ∥∥₁_elim (c.requires.off told) (hlevel props) (λ x. some_is (next_one _ x.2.kept x.2.begin (led x.0 (g.E.Engine.view c.args.self.now.engine)) c.args.self.now.maps c.args.self.now.unfreed c.args.self.now.rows.items c.args.self.now.actor c.args.at x.2.more x.2.off).step)
+read-requires-clause-there g c = λ told. ∥∥₁_elim (c.requires.off told) (hlevel props) (λ x. some_is (next_one _ x.2.kept x.2.begin (led x.0 (g.E.Engine.view c.args.self.now.engine)) c.args.self.now.rows.items c.args.self.now.actor c.args.at x.2.more x.2.going).step)
 
 pub log_by-requires-clause-by : goal.log_by-requires-clause-by
 log_by-requires-clause-by g c = (∥∥₁_elim c.requires.by ∥∥₁_prop (λ x. ∣ (x.0, c.in_ok-size.ensures.means _ x.0 x.1) ∣₁))
@@ -27,10 +27,10 @@ log_by-requires-clause-can g c = λ told.
       fits = ∥∥₁_elim (c.requires.off told0) (hlevel props) (λ x.
           let stays = (look_call x.0 k.rests (k.looks _ x.0 x.1)).stays.stays told0 in
           let read = k.read _ x.0 x.1 told0 in
-          let off = off_stays stays x.2.off in
-          let next = next_one _ x.2.kept x.2.begin (led x.0 (g.E.Engine.view c.read.new.self)) c.args.self.now.maps c.args.self.now.unfreed c.args.self.now.rows.items c.args.self.now.actor c.args.at x.2.more off in
+          let off = going_stays stays x.2.going in
+          let next = next_one _ x.2.kept x.2.begin (led x.0 (g.E.Engine.view c.read.new.self)) c.args.self.now.rows.items c.args.self.now.actor c.args.at x.2.more off in
           let r = read_is (g.E.Engine.view c.read.new.self).steps c.args.at read.what (shown c.in-Ok.r) (shown_change c.in-Some.change) c.in-Some.prev _ next.d (ap (λ rs. step_at rs c.args.at) stays.steps ∙ read.step) (shown_is _ _ _ _ _ c.in-Ok.ensures.exact read.is) c.in-Some.ensures next.step in
-          off_fits _ x.2.kept x.2.begin (led x.0 (g.E.Engine.view c.read.new.self)) c.args.self.now.maps c.args.self.now.unfreed c.args.self.now.rows.items c.args.self.now.actor c.args.at c.in-Some.prev (shown_change c.in-Some.change) (shown_change c.comp_of.result) (g.E.Engine.view c.read.new.self).now (g.met.E.Engine.now_is _ _ x.0 (k.means _ x.0 x.1) told) next r c.comp_of.ensures off);
+          off_fits _ x.2.kept x.2.begin (led x.0 (g.E.Engine.view c.read.new.self)) c.args.self.now.rows.items c.args.self.now.actor c.args.at c.in-Some.prev (shown_change c.in-Some.change) (shown_change c.comp_of.result) (g.E.Engine.view c.read.new.self).now (g.met.E.Engine.now_is _ _ x.0 (k.means _ x.0 x.1) told) next r c.comp_of.ensures off);
       known = tt;
       means = λ u. tt;
     }
@@ -105,12 +105,12 @@ returns-in_err-self-clause-goes g c = λ from m told kept begin more off.
     let look = look_call from k.rests (k.looks _ from m) in
     let stays = look.stays.stays told in
     let read = k.read _ from m told in
-    let off1 = off_stays stays off in
-    let next = next_one _ kept begin (led from (g.E.Engine.view c.read.new.self)) s.maps s.unfreed s.rows.items s.actor c.args.at more off1 in
+    let off1 = going_stays stays off in
+    let next = next_one _ kept begin (led from (g.E.Engine.view c.read.new.self)) s.rows.items s.actor c.args.at more off1 in
     let r = read_is (g.E.Engine.view c.read.new.self).steps c.args.at read.what (shown c.in-Ok.r) (shown_change c.in-Some.change) c.in-Some.prev _ next.d (ap (λ rs. step_at rs c.args.at) stays.steps ∙ read.step) (shown_is _ _ _ _ _ c.in-Ok.ensures.exact read.is) c.in-Some.ensures next.step in
     off_then (led from (g.E.Engine.view s.engine)) (led from (g.E.Engine.view c.read.new.self)) (led from (g.E.Engine.view c.log_by.new.self))
     (off_look s.actor.txn.0 (led from (g.E.Engine.view s.engine)) (led from (g.E.Engine.view c.read.new.self)) _ off.taking.running.log look told) c.in_err-self.ensures.grows.counts.stops
-    (λ told1. off_one kept begin (led from (g.E.Engine.view c.read.new.self)) (led from (g.E.Engine.view c.log_by.new.self)) s.maps s.unfreed s.rows.items s.actor c.args.at c.in-Some.prev (shown_change c.in-Some.change) (shown_change c.comp_of.result) _ off1 next r c.comp_of.ensures
+    (λ told1. off_one kept begin (led from (g.E.Engine.view c.read.new.self)) (led from (g.E.Engine.view c.log_by.new.self)) s.rows.items s.actor c.args.at c.in-Some.prev (shown_change c.in-Some.change) (shown_change c.comp_of.result) _ off1 next r c.comp_of.ensures
     (log_call from c.in_err-self.ensures.grows (c.in_err-self.ensures.logs from (k.means _ from m))) told1)
 
 pub returns-clause-goes : goal.returns-clause-goes
@@ -120,10 +120,10 @@ returns-clause-goes g c = λ from m told kept begin more off.
     let look = look_call from k.rests (k.looks _ from m) in
     let stays = look.stays.stays told in
     let read = k.read _ from m told in
-    let off1 = off_stays stays off in
-    let next = next_one _ kept begin (led from (g.E.Engine.view c.read.new.self)) s.maps s.unfreed s.rows.items s.actor c.args.at more off1 in
+    let off1 = going_stays stays off in
+    let next = next_one _ kept begin (led from (g.E.Engine.view c.read.new.self)) s.rows.items s.actor c.args.at more off1 in
     let r = read_is (g.E.Engine.view c.read.new.self).steps c.args.at read.what (shown c.in-Ok.r) (shown_change c.in-Some.change) c.in-Some.prev _ next.d (ap (λ rs. step_at rs c.args.at) stays.steps ∙ read.step) (shown_is _ _ _ _ _ c.in-Ok.ensures.exact read.is) c.in-Some.ensures next.step in
     off_then (led from (g.E.Engine.view s.engine)) (led from (g.E.Engine.view c.read.new.self)) (led from (g.E.Engine.view c.log_by.new.self))
     (off_look s.actor.txn.0 (led from (g.E.Engine.view s.engine)) (led from (g.E.Engine.view c.read.new.self)) _ off.taking.running.log look told) c.in_ok-self.ensures.grows.counts.stops
-    (λ told1. off_one kept begin (led from (g.E.Engine.view c.read.new.self)) (led from (g.E.Engine.view c.log_by.new.self)) s.maps s.unfreed s.rows.items s.actor c.args.at c.in-Some.prev (shown_change c.in-Some.change) (shown_change c.comp_of.result) _ off1 next r c.comp_of.ensures
+    (λ told1. off_one kept begin (led from (g.E.Engine.view c.read.new.self)) (led from (g.E.Engine.view c.log_by.new.self)) s.rows.items s.actor c.args.at c.in-Some.prev (shown_change c.in-Some.change) (shown_change c.comp_of.result) _ off1 next r c.comp_of.ensures
     (log_call from c.in_ok-self.ensures.grows (c.in_ok-self.ensures.logs from (k.means _ from m))) told1)

@@ -1,9 +1,12 @@
-use Rattle.std.proofs.Common.{rules, true, ap, ◌∙◌, arith}
+use Rattle.std.proofs.Common.{rules, true, ap, ◌∙◌, Ok, Err, arith}
+use Rattle.sg_space.specs.declared.space.SpaceFault.{SpaceFault}
+use Rattle.sg_space.specs.declared.space.SpaceFault.TheVariants.{Disk}
 use Rattle.sg_pages.specs.Parts.{parts}
 use Rattle.sg_log.proofs.Holding.{tail_forced}
 use Rattle.sg_log.specs.Held.{tail_of}
-use Rattle.sg_phys.proofs.Seen.{forced_then, keeps_broken, keeps_look, looks_err, looks_ok, looks_stopped, rests_err, rests_ok, rests_stopped, some_kept}
+use Rattle.sg_phys.proofs.Seen.{forced_then, hands_none, keeps_broken, keeps_look, looks_err, looks_ok, looks_stopped, rests_err, rests_ok, rests_stopped, some_kept}
 use Rattle.sg_phys.specs.Phys.{looked}
+use Rattle.sg_phys_laws.proofs.Handing.{hands_forced, none_waits}
 use Rattle.sg_phys_laws.proofs.Poised.{rested_forced}
 use Rattle.sg_pages.proofs.engine.PhysEngine.force.Goals as goal
 
@@ -45,3 +48,15 @@ returns-in-Err-clause-means g c = λ t from m. keeps_broken g.D.Disk.told (parts
 
 pub invariant_of-self-in-Err-clause-some : goal.invariant_of-self-in-Err-clause-some
 invariant_of-self-in-Err-clause-some g c = some_kept g.D.Disk.told c.args.self.now.failed true (g.D.Disk.view c.args.self.now.found.value) (g.D.Disk.view c.args.self.now.engine.disk) (g.D.Disk.view c.force.new.self.disk) c.args.self.now.engine.log c.force.new.self.log c.args.self.now.engine.pool c.force.new.self.pool (λ t from m. keeps_broken g.D.Disk.told (parts g.D.Disk.view c.args.self.now) (g.D.Disk.view c.force.new.self.disk) c.force.new.self.log c.force.new.self.pool t from m) c.args.self.now.some
+
+pub returns-then-self-clause-hands : goal.returns-then-self-clause-hands
+returns-then-self-clause-hands g c = hands_none _ _ _ _ _
+
+pub returns-in-Ok-clause-hands : goal.returns-in-Ok-clause-hands
+returns-in-Ok-clause-hands g c = hands_forced c.args.self.now.engine.log c.force.new.self.log (g.D.Disk.view c.args.self.now.engine.disk).handed (g.D.Disk.view c.force.new.self.disk).handed (Ok tt) c.force.ensures.handed c.in-Ok.ensures.log
+
+pub returns-in-Ok-clause-none_waits : goal.returns-in-Ok-clause-none_waits
+returns-in-Ok-clause-none_waits g c = none_waits {T = Unit {0}} {E = SpaceFault} c.args.self.now.engine.log c.force.new.self.log (Ok tt) c.in-Ok.ensures.log
+
+pub returns-in-Err-clause-hands : goal.returns-in-Err-clause-hands
+returns-in-Err-clause-hands g c = record { most = (hands_forced {T = Unit {0}} {E = SpaceFault} c.args.self.now.engine.log c.force.new.self.log (g.D.Disk.view c.args.self.now.engine.disk).handed (g.D.Disk.view c.force.new.self.disk).handed (Err Disk) c.force.ensures.handed tt).most; all = tt }

@@ -1,4 +1,9 @@
-use Rattle.std.proofs.Common.{◌<◌, length, sym, ◌∙◌, subst, List}
+use Rattle.std.proofs.Common.{◌≡◌, ◌<◌, Option, Some, None, length, sym, ap, ◌∙◌, subst, List}
+use Rattle.sg_model.specs.declared.stop.Stop.{Stop}
+use Rattle.sg_model.specs.declared.stop.Stop.TheVariants as stops
+use Rattle.sg_store.specs.Seen.{core_of}
+use Rattle.sg_store.specs.Store.{Core}
+use Rattle.sg_session.proofs.Causing as causing
 use Rattle.sg_serial.specs.Runs.{Live}
 use Rattle.sg_store.specs.Engine.{led}
 use Rattle.sg_store.proofs.Heeding as heeding
@@ -10,6 +15,7 @@ use Rattle.sg_session.proofs.session.Session.abort_all.Goals as goal
 
 pub live-init : goal.live-init
 live-init g c = record {
+  running = c.requires.running;
   means = λ z from m. m;
   serves = c.requires.serves;
   heeds = heeding.heeds_none c.args.self.now.store.stop (g.E.Engine.view c.args.self.now.store.engine);
@@ -20,6 +26,7 @@ pub live-preserved : goal.live-preserved
 live-preserved g c =
     let i = c.live.invariant in
     record {
+      running = ap (λ (k : Core). k.stopped) c.in-Ok.ensures.causes.2 ∙ i.running;
       means = λ z from m. c.abort.ensures.means z from (i.means z from m);
       serves = serves_through _ (g.E.Engine.view c.live.self.store.engine) (g.E.Engine.view c.abort.new.self.engine) (session_core c.live.self) _ c.abort.ensures.means c.abort.ensures.told
           (λ z from m told x lawful shows. ending.aborted_shows _ (g.E.Engine.basis z) (led _ z from (g.E.Engine.view c.live.self.store.engine)) (led _ z from (g.E.Engine.view c.abort.new.self.engine)) (session_core c.live.self) _ _ c.in-Some.first.txn.0 x shows c.remove.ensures (c.in-Ok.ensures.aborts z from m told x lawful shows.store)) i.serves;
@@ -62,3 +69,13 @@ returns-in-Err-clause-heeds g c =
 
 pub abort-requires : goal.abort-requires
 abort-requires g c = record { serves = store_serves _ (g.E.Engine.view c.live.self.store.engine) (session_core c.live.self) c.live.invariant.serves }
+
+pub returns-in-Err-clause-full : goal.returns-in-Err-clause-full
+returns-in-Err-clause-full g c =
+    causing.abort_full (g.E.Engine.view c.live.self.store.engine) (g.E.Engine.view c.abort.new.self.engine) (core_of c.live.self.store) (core_of c.abort.new.self) c.in-Some.first.txn.0 c.in-Err.field-0 c.live.invariant.running c.in-Err.ensures.causes
+
+other : (s : Option Stop) → s ≡ None → s ≡ Some stops.LogEnd → ⊥
+other s e f = cc
+
+pub returns-in_default-clause-full : goal.returns-in_default-clause-full
+returns-in_default-clause-full g c e = absurd (other c.live.self.store.stop c.live.invariant.running e)

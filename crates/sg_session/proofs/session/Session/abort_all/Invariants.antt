@@ -1,4 +1,4 @@
-use Rattle.std.specs.Prelude.{length}
+use Rattle.std.specs.Prelude.{◌≡◌, None, length}
 use Rattle.sg_ops.specs.Table.{Table as Operations, table_of}
 use Rattle.sg_run.specs.Run.{Run}
 use Rattle.sg_store.specs.Ground.{Ground, IsLawful}
@@ -14,7 +14,8 @@ use Rattle.sg_session.proofs.session.Session.abort_all.Given as goal
 abbrev pub so_far : Operations → (before now : Core) → (g : Ground) → (v w : View g) → Type 0
 so_far t before now g v w = (x : Run) → IsLawful t g → Shows t g v before x → AreAborting t g v x w now
 
-pub record Since (Means Serving Heeding Done : Type 0) : Type 0 where
+pub record Since (Running Means Serving Heeding Done : Type 0) : Type 0 where
+  pub running : Running
   pub means : Means
   pub serves : Serving
   pub heeds : Heeding
@@ -22,7 +23,7 @@ pub record Since (Means Serving Heeding Done : Type 0) : Type 0 where
 
 abbrev pub invariant-live : goal.invariant-live
 invariant-live g l =
-    Since (KeepsBy (table_of (λ z. (goal.RecordOp-dyn g z).record_meaning z.1) (λ z. (goal.RangeOp-dyn g z).range_meaning z.1) l.ops) (g.E.Engine.view l.fn.self.store.engine) (g.E.Engine.view l.self.store.engine))
+    Since (l.self.store.stop ≡ None) (KeepsBy (table_of (λ z. (goal.RecordOp-dyn g z).record_meaning z.1) (λ z. (goal.RangeOp-dyn g z).range_meaning z.1) l.ops) (g.E.Engine.view l.fn.self.store.engine) (g.E.Engine.view l.self.store.engine))
     (Serves (table_of (λ z. (goal.RecordOp-dyn g z).record_meaning z.1) (λ z. (goal.RangeOp-dyn g z).range_meaning z.1) l.ops) l.self)
     (Heeds l.fn.self.store.stop l.self.store.stop (g.E.Engine.view l.fn.self.store.engine) (g.E.Engine.view l.self.store.engine))
     (AsMeantBy (table_of (λ z. (goal.RecordOp-dyn g z).record_meaning z.1) (λ z. (goal.RangeOp-dyn g z).range_meaning z.1) l.ops) (g.E.Engine.view l.fn.self.store.engine) (g.E.Engine.view l.self.store.engine)

@@ -2,6 +2,8 @@ use Rattle.std.proofs.Common.{sym, subst, ap, ◌∙◌}
 use Rattle.sg_store.specs.Heeds.{Heeds}
 use Rattle.sg_session.specs.Seen.{session_core, session_engine}
 use Rattle.sg_store.specs.Stops.{stop_behind}
+use Rattle.sg_store.specs.Seen.{core_of}
+use Rattle.sg_session.proofs.Causing as causing
 use Rattle.sg_session.proofs.Serves.{store_serves}
 use Rattle.sg_session.proofs.session.Session.close.Goals as goal
 
@@ -21,3 +23,9 @@ returns-clause-stopped g c some =
 pub returns-clause-heeds : goal.returns-clause-heeds
 returns-clause-heeds g c =
     subst (λ s. Heeds c.args.self.store.stop s (g.E.Engine.view (session_engine c.args.self)) (g.E.Engine.view c.close-done.result.1)) (sym (c.stopped_by.ensures ∙ ap (λ s. stop_behind s c.close-done.result.0) c.stop-stop.ensures)) c.close-done.ensures.heeds
+
+pub returns-clause-full : goal.returns-clause-full
+returns-clause-full g c e =
+    let p = c.close-done.ensures.causes in
+    causing.close_full (g.E.Engine.view (session_engine c.args.self)) (g.E.Engine.view c.close-done.result.1) (core_of c.args.self.store) p.0 c.close-done.result.0 p.1
+    (sym (c.stopped_by.ensures ∙ ap (λ s. stop_behind s c.close-done.result.0) c.stop-stop.ensures) ∙ e)

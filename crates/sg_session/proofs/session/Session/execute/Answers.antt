@@ -1,9 +1,9 @@
-use Rattle.std.proofs.Common.{sym, ap, ◌∙◌}
+use Rattle.std.proofs.Common.{refl, sym, ap, ◌∙◌}
 use Rattle.std.specs.Prelude.{is_some}
 use Rattle.sg_model.specs.SaidOps.{said_op}
 use Rattle.sg_model.specs.Verb.Op.{On, Names}
 use Rattle.sg_model.specs.Verb.Verb.{Keys}
-use Rattle.sg_words.specs.Requests.Asked.{Wrong, Of}
+use Rattle.sg_words.specs.Requests.Asked.{Blank, Wrong, Of}
 use Rattle.sg_words.specs.Requests.Request.{Begin, Commit, Abort, Do}
 use Rattle.sg_words.specs.Requested.{shown}
 use Rattle.sg_words.specs.declared.request.Request as code_request
@@ -13,6 +13,9 @@ use Rattle.sg_session.specs.Goes.{when_stopped}
 use Rattle.sg_store.proofs.Heeding as heeding
 use Rattle.sg_session.proofs.Steps as steps
 use Rattle.sg_session.proofs.Answering as answering
+use Rattle.sg_session.specs.Lines.{line_of}
+use Rattle.sg_session.specs.Lines.Line.{Flush, Other}
+use Rattle.sg_session.proofs.Causing as causing
 use Rattle.sg_session.proofs.session.Session.execute.Goals as goal
 
 pub returns-in-Blank-clause-goes : goal.returns-in-Blank-clause-goes
@@ -102,3 +105,47 @@ returns-in-Keys-clause-still g c some = heeding.not_stopped c.args.self.now.stor
 
 pub returns-in-List-clause-still : goal.returns-in-List-clause-still
 returns-in-List-clause-still g c some = heeding.not_stopped c.args.self.now.store.stop (ap is_some (sym c.stop-in-Of.ensures) ∙ (sym c.is_some-in-Of.ensures ∙ c.if-is_some-2.false)) some
+
+pub returns-in-Blank-clause-caused : goal.returns-in-Blank-clause-caused
+returns-in-Blank-clause-caused g c = causing.at_line _ _ c.args.self.now.store.stop _ (Other Blank) (line_of c.args.text.now) _ (answering.is_blank c.args.text.now (sym c.in-Blank.ensures.asked))
+    (causing.well _ _ c.args.self.now.store.stop _ (Other Blank) _ refl refl)
+
+pub returns-then-not-is_flush-clause-caused : goal.returns-then-not-is_flush-clause-caused
+returns-then-not-is_flush-clause-caused g c = causing.at_line _ _ c.args.self.now.store.stop _ (Other Wrong) (line_of c.args.text.now) _ (answering.line_is c.args.text.now Wrong _ (sym c.in-Wrong.ensures.asked) (sym c.is_flush.ensures ∙ c.if-not-is_flush.true))
+    (causing.well _ _ c.args.self.now.store.stop _ (Other Wrong) _ refl refl)
+
+pub returns-then-is_some-clause-caused : goal.returns-then-is_some-clause-caused
+returns-then-is_some-clause-caused g c = causing.at_line _ _ c.args.self.now.store.stop _ Flush (line_of c.args.text.now) _ (answering.line_is c.args.text.now Wrong _ (sym c.in-Wrong.ensures.asked) (sym c.is_flush.ensures ∙ c.if-not-is_flush.false))
+    (causing.well _ _ c.args.self.now.store.stop _ Flush _ refl refl)
+
+pub returns-else-is_some-clause-caused : goal.returns-else-is_some-clause-caused
+returns-else-is_some-clause-caused g c = causing.at_line _ _ c.args.self.now.store.stop _ Flush (line_of c.args.text.now) _ (answering.line_is c.args.text.now Wrong _ (sym c.in-Wrong.ensures.asked) (sym c.is_flush.ensures ∙ c.if-not-is_flush.false))
+    (c.flush.ensures.caused c.args.into.now)
+
+pub returns-then-is_some-2-clause-caused : goal.returns-then-is_some-2-clause-caused
+returns-then-is_some-2-clause-caused g c =
+    causing.at_line _ _ c.args.self.now.store.stop _ _ (line_of c.args.text.now) _ (answering.is_of c.args.text.now c.in-Of.name _ (sym c.in-Of.ensures.asked)) (causing.well _ _ c.args.self.now.store.stop _ _ _ refl refl)
+
+pub returns-in-Begin-clause-caused : goal.returns-in-Begin-clause-caused
+returns-in-Begin-clause-caused g c = causing.at_line _ _ c.args.self.now.store.stop _ (Other (Of c.in-Of.name Begin)) (line_of c.args.text.now) _ (answering.is_of c.args.text.now c.in-Of.name Begin (sym c.in-Of.ensures.asked ∙ ap (λ (r : code_request.Request). Of c.in-Of.name (shown r)) c.in-Begin.is))
+    (c.begin.ensures.caused c.args.into.now)
+
+pub returns-in-Commit-clause-caused : goal.returns-in-Commit-clause-caused
+returns-in-Commit-clause-caused g c = causing.at_line _ _ c.args.self.now.store.stop _ (Other (Of c.in-Of.name Commit)) (line_of c.args.text.now) _ (answering.is_of c.args.text.now c.in-Of.name Commit (sym c.in-Of.ensures.asked ∙ ap (λ (r : code_request.Request). Of c.in-Of.name (shown r)) c.in-Commit.is))
+    (c.commit.ensures.caused c.args.into.now)
+
+pub returns-in-Abort-clause-caused : goal.returns-in-Abort-clause-caused
+returns-in-Abort-clause-caused g c = causing.at_line _ _ c.args.self.now.store.stop _ (Other (Of c.in-Of.name Abort)) (line_of c.args.text.now) _ (answering.is_of c.args.text.now c.in-Of.name Abort (sym c.in-Of.ensures.asked ∙ ap (λ (r : code_request.Request). Of c.in-Of.name (shown r)) c.in-Abort.is))
+    (c.abort.ensures.caused c.args.into.now)
+
+pub returns-in-Do-clause-caused : goal.returns-in-Do-clause-caused
+returns-in-Do-clause-caused g c = causing.at_line _ _ c.args.self.now.store.stop _ (Other (Of c.in-Of.name (Do (said_op c.in-Do.op)))) (line_of c.args.text.now) _ (answering.is_of c.args.text.now c.in-Of.name (Do (said_op c.in-Do.op)) (sym c.in-Of.ensures.asked ∙ ap (λ (r : code_request.Request). Of c.in-Of.name (shown r)) c.in-Do.is))
+    c.perform.ensures.caused
+
+pub returns-in-Keys-clause-caused : goal.returns-in-Keys-clause-caused
+returns-in-Keys-clause-caused g c = causing.at_line _ _ c.args.self.now.store.stop _ (Other (Of c.in-Of.name (Do (On c.in-Keys.table Keys)))) (line_of c.args.text.now) _ (answering.is_of c.args.text.now c.in-Of.name (Do (On c.in-Keys.table Keys)) (sym c.in-Of.ensures.asked ∙ ap (λ (r : code_request.Request). Of c.in-Of.name (shown r)) c.in-Keys.is))
+    (c.keys.ensures.caused c.args.into.now)
+
+pub returns-in-List-clause-caused : goal.returns-in-List-clause-caused
+returns-in-List-clause-caused g c = causing.at_line _ _ c.args.self.now.store.stop _ (Other (Of c.in-Of.name (Do Names))) (line_of c.args.text.now) _ (answering.is_of c.args.text.now c.in-Of.name (Do Names) (sym c.in-Of.ensures.asked ∙ ap (λ (r : code_request.Request). Of c.in-Of.name (shown r)) c.in-List.is))
+    (c.list.ensures.caused c.args.into.now)

@@ -1,4 +1,4 @@
-use Rattle.std.proofs.Common.{sym, ap, ◌∙◌, refl}
+use Rattle.std.proofs.Common.{inl, inr, sym, ap, ◌∙◌, refl, arith}
 use Rattle.std.specs.Prelude.{is_some}
 use Rattle.sg_store.specs.Engine.{led}
 use Rattle.sg_store.proofs.Heeding as heeding
@@ -36,3 +36,11 @@ abort_all-requires-clause-running g c = none_of c.args.self.store.stop (ap is_so
 
 pub returns-clause-stopped : goal.returns-clause-stopped
 returns-clause-stopped g c some = heeding.not_stopped c.args.self.store.stop (ap is_some (sym c.stop.ensures) ∙ (sym c.is_some.ensures ∙ c.if-is_some.false)) some
+
+pub returns-then-is_some-clause-full : goal.returns-then-is_some-clause-full
+returns-then-is_some-clause-full g c e = inl (c.close.ensures.full e)
+
+pub returns-clause-full : goal.returns-clause-full
+returns-clause-full g c e =
+    let at_end = c.abort_all.ensures.full (c.close-2.ensures.full e) in
+    inr (omega (arith, at_end, c.close-2.ensures.heeds.tail))

@@ -11,13 +11,19 @@ on_err (Ok u) f is = tt
 on_err (Err e) f is = f is
 
 pub returns-clause-line : goal.returns-clause-line
-returns-clause-line g c = on_ok c.write_answered.result (λ took z from m told x lawful shows. record { answer = shown c.answer-answer.new.into c.answer-answer.result; answers = c.answer-answer.ensures.line z from m told x lawful shows; took = took }) c.write_answered.ensures.took
+returns-clause-line g c = on_ok c.write_answered.result (λ took. record {
+  answer = shown c.answer-answer.new.into c.answer-answer.result;
+  caused = c.answer-answer.ensures.caused;
+  by_stop = c.answer-answer.ensures.still;
+  answers = c.answer-answer.ensures.line;
+  took = took;
+}) c.write_answered.ensures.took
 
 pub returns-clause-cut : goal.returns-clause-cut
-returns-clause-cut g c = on_err c.write_answered.result (λ took z from m told x lawful shows. record { answer = shown c.answer-answer.new.into c.answer-answer.result; answers = c.answer-answer.ensures.line z from m told x lawful shows; took = took }) c.write_answered.ensures.cut
-
-pub returns-clause-said : goal.returns-clause-said
-returns-clause-said g c = on_ok c.write_answered.result (λ took. record { answer = shown c.answer-answer.new.into c.answer-answer.result; by_stop = c.answer-answer.ensures.still; took = took }) c.write_answered.ensures.took
-
-pub returns-clause-said_cut : goal.returns-clause-said_cut
-returns-clause-said_cut g c = on_err c.write_answered.result (λ took. record { answer = shown c.answer-answer.new.into c.answer-answer.result; by_stop = c.answer-answer.ensures.still; took = took }) c.write_answered.ensures.cut
+returns-clause-cut g c = on_err c.write_answered.result (λ took. record {
+  answer = shown c.answer-answer.new.into c.answer-answer.result;
+  caused = c.answer-answer.ensures.caused;
+  by_stop = c.answer-answer.ensures.still;
+  answers = c.answer-answer.ensures.line;
+  took = took;
+}) c.write_answered.ensures.cut

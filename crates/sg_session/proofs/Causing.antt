@@ -1,0 +1,167 @@
+-- The cause of each line's answer, by why the store answered so.
+use Rattle.std.proofs.Common.{◌≡◌, ℕ, Bool, List, Option, Some, None, Result, refl, sym, ap, ◌∙◌, subst}
+use Rattle.std.specs.Prelude.{Ok, Err}
+use Rattle.sg_model.specs.declared.stop.Stop.{Stop}
+use Rattle.sg_model.specs.declared.stop.Stop.TheVariants as stops
+use Rattle.sg_model.specs.Verb.{Op}
+use Rattle.sg_words.specs.Answers.{Answer}
+use Rattle.sg_words.specs.Requests.Asked.{Of}
+use Rattle.sg_words.specs.Requests.Request.{Begin, Commit, Abort, Do}
+use Rattle.sg_run.specs.Numbers.{IsAtEnd, IsListing}
+use Rattle.sg_store.specs.declared.fault.Refused.{Refused}
+use Rattle.sg_store.specs.declared.fault.Refused.TheVariants as refusals
+use Rattle.sg_store.specs.Ground.{Ground}
+use Rattle.sg_store.specs.Engine.{Sizes, Shown}
+use Rattle.sg_store.specs.Stops.{stop_behind}
+use Rattle.sg_store.specs.Store.{Core}
+use Rattle.sg_store.specs.Causes.{BeginsFor, EndsFor, FlushesFor, RefusesFor, UnlistedFor}
+use Rattle.sg_session.specs.Lines.{Line}
+use Rattle.sg_session.specs.Lines.Line.{Flush, Other}
+use Rattle.sg_session.specs.Causes.{Trouble, trouble_in, trouble_of, IsFullFor, IsCaused, stop_at_end, stop_by, Caused}
+use Rattle.sg_session.specs.Causes.Trouble.{NoTrouble, OfDisk, OfLog, OfMemory}
+
+module _ {basis : Sizes → Ground} (old new : Shown basis) where
+  -- the same by what went wrong
+  pub record CausedBy (before now : Option Stop) (line : Line) (trouble : Trouble) : Type 0 where
+    pub cause : IsCaused old.tail new.tail old.faults new.faults line trouble
+    pub stop : now ≡ stop_by before line trouble
+
+  pub by_trouble : (before now : Option Stop) (line : Line) (answer : Answer) (trouble : Trouble) → trouble_in answer ≡ trouble → CausedBy before now line trouble → Caused old new before now line answer
+  by_trouble before now line answer trouble e h = let p = subst (CausedBy before now line) (sym e) h in record { cause = p.cause; stop = p.stop }
+
+  -- nothing went wrong, and the session is stopped or not as it was
+  pub well : (before now : Option Stop) (line : Line) (answer : Answer) → trouble_in answer ≡ NoTrouble → now ≡ before → Caused old new before now line answer
+  well before now line answer e same = by_trouble before now line answer NoTrouble e (record { cause = tt; stop = same })
+
+  -- no memory, for a list
+  lacks : (before now : Option Stop) (name : List ℕ) (op : Op) → IsListing op → now ≡ before → CausedBy before now (Other (Of name (Do op))) OfMemory
+  lacks before now name op is same = record { cause = is; stop = same }
+
+  module _ (k m : Core) where
+    plain : (line : Line) (n : Core) → n.stopped ≡ k.stopped → m ≡ n → CausedBy k.stopped m.stopped line NoTrouble
+    plain line n same e = record { cause = tt; stop = ap (λ (c : Core). c.stopped) e ∙ same }
+
+    full : (line : Line) (n : Core) → IsFullFor old.tail new.tail line → n.stopped ≡ stop_at_end k.stopped line → m ≡ n → CausedBy k.stopped m.stopped line OfLog
+    full line n is same e = record { cause = is; stop = ap (λ (c : Core). c.stopped) e ∙ same }
+
+    broken : (line : Line) (n : Core) → IsCaused old.tail new.tail old.faults new.faults line OfDisk → n.stopped ≡ Some stops.Disk → m ≡ n → CausedBy k.stopped m.stopped line OfDisk
+    broken line n risen same e = record { cause = risen; stop = ap (λ (c : Core). c.stopped) e ∙ same }
+
+    pub begin_refused : (name : List ℕ) (why : Refused) → BeginsFor old new k m (Err why) → CausedBy k.stopped m.stopped (Other (Of name Begin)) (trouble_of why)
+    begin_refused name refusals.NoTxn h = absurd h
+    begin_refused name refusals.TooManyLive h = plain (Other (Of name Begin)) k refl h.2
+    begin_refused name (refusals.Busy holder) h = absurd h
+    begin_refused name refusals.LocksFull h = absurd h
+    begin_refused name (refusals.Model reason) h = absurd h
+    begin_refused name (refusals.NoSpace free reserved need) h = absurd h
+    begin_refused name (refusals.NoBands free need) h = absurd h
+    begin_refused name refusals.LogEnd h = full (Other (Of name Begin)) k h.2 refl h.3
+    begin_refused name refusals.Memory h = absurd h
+    begin_refused name refusals.DiskFault h = broken (Other (Of name Begin)) (record k { held = m.held; stopped = Some stops.Disk }) h.3.0 refl h.3.1
+    begin_refused name refusals.Stopped h = plain (Other (Of name Begin)) k refl h.1
+
+    -- a line that ends a transaction
+    end_refused : (line : Line) → (IsAtEnd new.tail → IsFullFor old.tail new.tail line) → Some stops.LogEnd ≡ stop_at_end k.stopped line → (u : ℕ) (why : Refused) → EndsFor u old new k m (Err why) → CausedBy k.stopped m.stopped line (trouble_of why)
+    end_refused line at_end stops_so u refusals.NoTxn h = plain line k refl h.2
+    end_refused line at_end stops_so u refusals.TooManyLive h = absurd h
+    end_refused line at_end stops_so u (refusals.Busy holder) h = absurd h
+    end_refused line at_end stops_so u refusals.LocksFull h = absurd h
+    end_refused line at_end stops_so u (refusals.Model reason) h = absurd h
+    end_refused line at_end stops_so u (refusals.NoSpace free reserved need) h = absurd h
+    end_refused line at_end stops_so u (refusals.NoBands free need) h = absurd h
+    end_refused line at_end stops_so u refusals.LogEnd h = full line (record k { stopped = Some stops.LogEnd }) (at_end h.2) stops_so h.3
+    end_refused line at_end stops_so u refusals.Memory h = absurd h
+    end_refused line at_end stops_so u refusals.DiskFault h = broken line (record k { held = m.held; stopped = Some stops.Disk }) h.2.0 refl h.2.1
+    end_refused line at_end stops_so u refusals.Stopped h = plain line k refl h.1
+
+    pub commit_refused : (name : List ℕ) (u : ℕ) (why : Refused) → EndsFor u old new k m (Err why) → CausedBy k.stopped m.stopped (Other (Of name Commit)) (trouble_of why)
+    commit_refused name u why h = end_refused (Other (Of name Commit)) (λ at_end. at_end) refl u why h
+
+    pub abort_refused : (name : List ℕ) (u : ℕ) (why : Refused) → EndsFor u old new k m (Err why) → CausedBy k.stopped m.stopped (Other (Of name Abort)) (trouble_of why)
+    abort_refused name u why h = end_refused (Other (Of name Abort)) (λ at_end. at_end) refl u why h
+
+    pub flush_refused : (why : Refused) → FlushesFor old new k m (Err why) → CausedBy k.stopped m.stopped Flush (trouble_of why)
+    flush_refused refusals.NoTxn h = absurd h
+    flush_refused refusals.TooManyLive h = absurd h
+    flush_refused (refusals.Busy holder) h = absurd h
+    flush_refused refusals.LocksFull h = absurd h
+    flush_refused (refusals.Model reason) h = absurd h
+    flush_refused (refusals.NoSpace free reserved need) h = absurd h
+    flush_refused (refusals.NoBands free need) h = absurd h
+    flush_refused refusals.LogEnd h = absurd h
+    flush_refused refusals.Memory h = absurd h
+    flush_refused refusals.DiskFault h = broken Flush (record k { held = m.held; stopped = Some stops.Disk }) h.1.0 refl h.1.1
+    flush_refused refusals.Stopped h = plain Flush k refl h.1
+
+    -- a line of an operation
+    pub do_refused : (name : List ℕ) (op : Op) (changes : Bool) (u : ℕ) (why : Refused) → RefusesFor changes u old new k m why → CausedBy k.stopped m.stopped (Other (Of name (Do op))) (trouble_of why)
+    do_refused name op changes u refusals.NoTxn h = plain (Other (Of name (Do op))) k refl h.2
+    do_refused name op changes u refusals.TooManyLive h = absurd h
+    do_refused name op changes u (refusals.Busy holder) h = plain (Other (Of name (Do op))) k refl h.3
+    do_refused name op changes u refusals.LocksFull h = plain (Other (Of name (Do op))) k refl h.2
+    do_refused name op changes u (refusals.Model reason) h = plain (Other (Of name (Do op))) (record k { held = m.held }) refl h.2
+    do_refused name op changes u (refusals.NoSpace free reserved need) h = plain (Other (Of name (Do op))) (record k { held = m.held }) refl h.3
+    do_refused name op changes u (refusals.NoBands free need) h = plain (Other (Of name (Do op))) (record k { held = m.held }) refl h.3
+    do_refused name op changes u refusals.LogEnd h = full (Other (Of name (Do op))) (record k { held = m.held }) h.3 refl h.4
+    do_refused name op changes u refusals.Memory h = absurd h
+    do_refused name op changes u refusals.DiskFault h = broken (Other (Of name (Do op))) (record k { held = m.held; stopped = Some stops.Disk }) h.2.0 refl h.2.1
+    do_refused name op changes u refusals.Stopped h = plain (Other (Of name (Do op))) k refl h.1
+
+    -- a line of a list
+    pub list_refused : (name : List ℕ) (op : Op) → IsListing op → (u : ℕ) (why : Refused) → UnlistedFor u old new k m why → CausedBy k.stopped m.stopped (Other (Of name (Do op))) (trouble_of why)
+    list_refused name op is u refusals.NoTxn h = plain (Other (Of name (Do op))) k refl h.2
+    list_refused name op is u refusals.TooManyLive h = absurd h
+    list_refused name op is u (refusals.Busy holder) h = plain (Other (Of name (Do op))) k refl h.3
+    list_refused name op is u refusals.LocksFull h = plain (Other (Of name (Do op))) k refl h.2
+    list_refused name op is u (refusals.Model reason) h = plain (Other (Of name (Do op))) (record k { held = m.held }) refl h.2
+    list_refused name op is u (refusals.NoSpace free reserved need) h = absurd h
+    list_refused name op is u (refusals.NoBands free need) h = absurd h
+    list_refused name op is u refusals.LogEnd h = absurd h
+    list_refused name op is u refusals.Memory h = lacks k.stopped m.stopped name op is (ap (λ (c : Core). c.stopped) h.2)
+    list_refused name op is u refusals.DiskFault h = broken (Other (Of name (Do op))) (record k { held = m.held; stopped = Some stops.Disk }) h.2.0 refl h.2.1
+    list_refused name op is u refusals.Stopped h = plain (Other (Of name (Do op))) k refl h.1
+
+  -- of the line that a text is
+  pub at_line : (before now : Option Stop) (line other : Line) (answer : Answer) → line ≡ other → Caused old new before now line answer → Caused old new before now other answer
+  at_line before now line other answer e h = subst (λ (l : Line). Caused old new before now l answer) e h
+
+  -- an abort that fails stops the store for the log's end only there
+  pub abort_full : (k m : Core) (u : ℕ) (why : Refused) → k.stopped ≡ None → EndsFor u old new k m (Err why) → m.stopped ≡ Some stops.LogEnd → IsAtEnd new.tail
+  abort_full k m u refusals.NoTxn going h e = absurd (other (sym (sym (ap (λ (c : Core). c.stopped) h.2 ∙ going) ∙ e)))
+    where
+      other : Some stops.LogEnd ≡ None → ⊥
+      other e = cc
+  abort_full k m u refusals.TooManyLive going h e = absurd h
+  abort_full k m u (refusals.Busy holder) going h e = absurd h
+  abort_full k m u refusals.LocksFull going h e = absurd h
+  abort_full k m u (refusals.Model reason) going h e = absurd h
+  abort_full k m u (refusals.NoSpace free reserved need) going h e = absurd h
+  abort_full k m u (refusals.NoBands free need) going h e = absurd h
+  abort_full k m u refusals.LogEnd going h e = h.2
+  abort_full k m u refusals.Memory going h e = absurd h
+  abort_full k m u refusals.DiskFault going h e = absurd (other (sym (ap (λ (c : Core). c.stopped) h.2.1) ∙ e))
+    where
+      other : Some stops.Disk ≡ Some stops.LogEnd → ⊥
+      other e = cc
+  abort_full k m u refusals.Stopped going h e = absurd (other (sym (sym (ap (λ (c : Core). c.stopped) h.1 ∙ going) ∙ e)))
+    where
+      other : Some stops.LogEnd ≡ None → ⊥
+      other e = cc
+
+-- a call that gives back what all was written home with doesn't stop for the log's end
+pub close_full : {basis : Sizes → Ground} (old new : Shown basis) (k m : Core) (done : Result (Unit {0}) Refused) → FlushesFor old new k m done → stop_behind k.stopped done ≡ Some stops.LogEnd → k.stopped ≡ Some stops.LogEnd
+close_full old new k m (Ok done) h e = e
+close_full old new k m (Err refusals.NoTxn) h e = absurd h
+close_full old new k m (Err refusals.TooManyLive) h e = absurd h
+close_full old new k m (Err (refusals.Busy holder)) h e = absurd h
+close_full old new k m (Err refusals.LocksFull) h e = absurd h
+close_full old new k m (Err (refusals.Model reason)) h e = absurd h
+close_full old new k m (Err (refusals.NoSpace free reserved need)) h e = absurd h
+close_full old new k m (Err (refusals.NoBands free need)) h e = absurd h
+close_full old new k m (Err refusals.LogEnd) h e = absurd h
+close_full old new k m (Err refusals.Memory) h e = absurd h
+close_full old new k m (Err refusals.DiskFault) h e = absurd (other e)
+  where
+    other : Some stops.Disk ≡ Some stops.LogEnd → ⊥
+    other e = cc
+close_full old new k m (Err refusals.Stopped) h e = e

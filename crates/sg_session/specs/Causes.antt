@@ -1,0 +1,76 @@
+-- Why a line was answered so, and whether the session has stopped behind it, whatever the engine tells.
+use Rattle.std.specs.Prelude.{◌≡◌, ℕ, ◌<◌, Option, Some}
+use Rattle.sg_base.specs.Ends.{HasRisen}
+use Rattle.sg_model.specs.declared.stop.Stop.{Stop}
+use Rattle.sg_model.specs.declared.stop.Stop.TheVariants as stops
+use Rattle.sg_words.specs.Answers.{Answer}
+use Rattle.sg_words.specs.Answers.Answer.{LogEnd, Memory, Disk}
+use Rattle.sg_words.specs.Requests.Asked.{Of}
+use Rattle.sg_words.specs.Requests.Request.{Begin, Commit, Abort, Do}
+use Rattle.sg_run.specs.Numbers.{NEW_WORK_END, IsAtEnd, IsListing}
+use Rattle.sg_store.specs.Ground.{Ground}
+use Rattle.sg_store.specs.Engine.{Sizes, Shown}
+use Rattle.sg_store.specs.declared.fault.Refused.{Refused}
+use Rattle.sg_store.specs.declared.fault.Refused.TheVariants as refusals
+use Rattle.sg_session.specs.Lines.{Line}
+use Rattle.sg_session.specs.Lines.Line.{Other}
+
+-- what an answer says that went wrong: nothing, or that the disk failed, that the log is at its end, or that memory ran out
+pub data Trouble : Type 0 where
+  NoTrouble : Trouble
+  OfDisk : Trouble
+  OfLog : Trouble
+  OfMemory : Trouble
+
+abbrev pub trouble_in : Answer → Trouble
+trouble_in LogEnd = OfLog
+trouble_in Memory = OfMemory
+trouble_in Disk = OfDisk
+trouble_in other = NoTrouble
+
+-- the same of a refusal
+abbrev pub trouble_of : Refused → Trouble
+trouble_of refusals.LogEnd = OfLog
+trouble_of refusals.Memory = OfMemory
+trouble_of refusals.DiskFault = OfDisk
+trouble_of other = NoTrouble
+
+-- The log is full for a line, with its tail before the line and behind it: for new work where the tail was above 2^62, and for the end of a
+-- transaction where a record of the greatest size might pass 2^63
+abbrev pub IsFullFor : (begin tail : ℕ) → Line → Type 0
+IsFullFor begin tail (Other (Of name Begin)) = NEW_WORK_END < begin
+IsFullFor begin tail (Other (Of name (Do op))) = NEW_WORK_END < begin
+IsFullFor begin tail (Other (Of name Commit)) = IsAtEnd tail
+IsFullFor begin tail (Other (Of name Abort)) = IsAtEnd tail
+IsFullFor begin tail other = ⊥
+
+-- only lists take memory
+abbrev pub TakesMemory : Line → Type 0
+TakesMemory (Other (Of name (Do op))) = IsListing op
+TakesMemory other = ⊥
+
+-- THE CAUSE of what went wrong in a line, with the log's tail and the counts of faults before it and behind it
+abbrev pub IsCaused : (begin tail before now : ℕ) → Line → Trouble → Type 0
+IsCaused begin tail before now line NoTrouble = Unit {0}
+IsCaused begin tail before now line OfDisk = HasRisen before now
+IsCaused begin tail before now line OfLog = IsFullFor begin tail line
+IsCaused begin tail before now line OfMemory = TakesMemory line
+
+-- at the log's end a line stops the session that ends a transaction, and no other
+abbrev pub stop_at_end : Option Stop → Line → Option Stop
+stop_at_end before (Other (Of name Commit)) = Some stops.LogEnd
+stop_at_end before (Other (Of name Abort)) = Some stops.LogEnd
+stop_at_end before other = before
+
+-- why a session has stopped behind a line, if it has
+abbrev pub stop_by : Option Stop → Line → Trouble → Option Stop
+stop_by before line NoTrouble = before
+stop_by before line OfDisk = Some stops.Disk
+stop_by before line OfLog = stop_at_end before line
+stop_by before line OfMemory = before
+
+-- A LINE'S ANSWER HAS ITS CAUSE, in an engine that showed this before it and shows that, and the session has stopped behind it exactly for
+-- what the answer says
+pub record Caused {basis : Sizes → Ground} (old new : Shown basis) (before now : Option Stop) (line : Line) (answer : Answer) : Type 0 where
+  pub cause : IsCaused old.tail new.tail old.faults new.faults line (trouble_in answer)
+  pub stop : now ≡ stop_by before line (trouble_in answer)
