@@ -1,8 +1,8 @@
 -- An action that has logged nothing is over.
-use Rattle.std.proofs.Common.{◌≡◌, ◌≢◌, ℕ, ◌==◌, ◌≤◌, List, [], Some, None, Bool, true, false, sym, ap, subst, ◌∙◌, refl, arith, inl, inr}
-use Rattle.std.specs.Prelude.{if◌then◌else◌}
+use Rattle.std.proofs.Common.{◌≡◌, ◌≢◌, ℕ, ◌==◌, ◌<◌, ◌≤◌, List, [], ◌∷◌, Some, None, Bool, true, false, sym, ap, subst, ◌∙◌, refl, arith, inl, inr}
+use Rattle.std.specs.Prelude.{◌↔◌, IsTrue, if◌then◌else◌}
 use Rattle.std.specs.Bool.{MatchBool}
-use Rattle.std.proofs.lemmas.Bool.{cases_Bool, cases_eq}
+use Rattle.std.proofs.lemmas.Bool.{cases_Bool, cases_eq, eqb-true, eq-eqb}
 use Rattle.std.proofs.lemmas.Bool.Decides.{nat_tests}
 use Rattle.sg_ops.specs.Laws.{IsLawful}
 use Rattle.sg_ops.specs.Table.{Table}
@@ -27,6 +27,22 @@ use Rattle.sg_actions.proofs.Closing.{row_low}
 use Rattle.sg_actions.proofs.Ended.{well_ended}
 use Rattle.sg_actions.proofs.Flags.{some_of, and_left}
 use Rattle.sg_actions.proofs.Placing.{placed_other, placed_self, after_none, after_one}
+
+-- WHERE THE LAST RECORD OF WHO ACTS is the one before the open action, no change is open
+after_before : (rs : Steps) (before : ℕ) (ds : List (Open Changing)) → AreLinked rs before ds → before ≤ next_off before ds
+after_before rs before [] h = omega arith
+after_before rs before (d ∷ ds) h = let low = after_before rs before ds h.3 in let next = h.1 in omega (arith, low, next)
+
+none_between : (rs : Steps) (before : ℕ) (ds : List (Open Changing)) → AreLinked rs before ds → next_off before ds ≡ before → ds ≡ []
+none_between rs before [] h e = refl
+none_between rs before (d ∷ ds) h e = absurd (let low = after_before rs before ds h.3 in let next = h.1 in omega (arith, low, next, e))
+
+pub still_is : (base : ℕ) (rs : Steps) (tail : ℕ) (rows : List Row) (actor : Actor) → IsChained base rs tail rows actor
+    → IsTrue (actor.last == actor.before) ↔ ((tally rs).opened ≡ [])
+still_is base rs tail rows actor h = (
+  λ e. none_between rs actor.before (tally rs).opened h.running.linked (sym h.at ∙ eqb-true actor.last actor.before e),
+  λ none. eq-eqb actor.last actor.before (h.at ∙ ap (next_off actor.before) none),
+)
 
 -- THE CHAIN, where nobody acts any more
 module _ (base : ℕ) (rs : Steps) (tail : ℕ) (rows : List Row) (actor : Actor) (idle : ended rs ≡ rs) (h : IsChained base rs tail rows actor) where

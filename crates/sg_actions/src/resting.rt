@@ -7,10 +7,12 @@ use sg_base::TxnId;
 use sg_space::SpaceFault;
 
 impl<E: Engine> Acts<E> {
-    ghost use Rattle.std.specs.Prelude.{◌≡◌, ◌≤◌, ℕ, true, false, None, Some, if◌then◌else◌};
+    ghost use Rattle.std.specs.Prelude.{◌≡◌, ◌≤◌, ◌↔◌, ℕ, true, false, IsTrue, [], None, Some, if◌then◌else◌};
     ghost use Rattle.sg_base.specs.Ends.{HasRisen};
     ghost use Rattle.sg_ops.specs.Table.{Table};
+    ghost use Rattle.sg_recovery.specs.Log.{tally};
     ghost use Rattle.sg_action.specs.States.{State};
+    ghost use Rattle.sg_actions.specs.Acting.{IsChained};
     ghost use Rattle.sg_actions.specs.Calls.{AreSettled};
     ghost use Rattle.sg_actions.specs.Engine.{led};
     ghost use Rattle.sg_actions.specs.Rows.{HasRow, rows_after, at_rest};
@@ -26,6 +28,13 @@ impl<E: Engine> Acts<E> {
         } else {
             None
         }
+    }
+
+    /// Whether the open action has logged no change, or no action is open.
+    pub fn is_still(&self) -> bool
+        ensures { IsChained (E.view self.now.engine).base (E.view self.now.engine).steps (E.view self.now.engine).tail self.now.rows.items self.now.actor → (IsTrue result ↔ ((tally (E.view self.now.engine).steps).opened ≡ [])) }
+    {
+        self.actor.last == self.actor.before
     }
 
     /// Whether one more transaction may begin.

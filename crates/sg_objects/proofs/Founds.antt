@@ -24,7 +24,7 @@ use Rattle.sg_contents.specs.Meaning.{reading, thing_of}
 use Rattle.sg_objects.specs.Blobs.{IsBlobAt}
 use Rattle.sg_objects.specs.declared.blob.BlobAt.{BlobAt}
 use Rattle.sg_objects.proofs.Blobbed.{blob_under}
-use Rattle.sg_before.specs.Laying.{put_on, AreWithin}
+use Rattle.sg_before.specs.Laying.{put_on}
 use Rattle.sg_before.specs.Befores.{befores, AreFilled, AreWholeBands, AreOn}
 use Rattle.sg_before.proofs.Parted.{IsHeld, AreHeld, held_all, byte_index}
 use Rattle.sg_before.proofs.Bytes.{HadBands, TookBands, action_puts_back}
@@ -56,14 +56,16 @@ blob_puts_back old new t kept map ds x b b' more whole opened filled shows shows
 abbrev pub was_space : Space → (ℕ → List ℕ) → Space
 was_space now bands = record now { bands = record now.bands { at = λ b. option_map (λ _. bands b) (now.bands.at b) } }
 
-pub has_back : (found : List Before) (now : Space) (bands : ℕ → List ℕ) → ((b : ℕ) (bytes : List ℕ) → now.bands.at b ≡ Some bytes → bytes ≡ put_on found b (bands b)) → AreWithin found → HasBack found (was_space now bands) now
-has_back found now bands is within = record {
+pub has_back : (found : List Before) (now : Space) (bands : ℕ → List ℕ)
+    → ((b : ℕ) (bytes : List ℕ) → now.bands.at b ≡ Some bytes → bytes ≡ put_on found b (bands b))
+    → ((b : ℕ) (bytes : List ℕ) → now.bands.at b ≡ Some bytes → length bytes ≡ 32768) → HasBack found (was_space now bands) now
+has_back found now bands is whole = record {
   pages = refl;
   band = λ b bytes e. some b bytes (now.bands.at b) (is b) e;
   none = λ b e. none b (now.bands.at b) e;
   free = refl;
   count = refl;
-  within = within;
+  whole = whole;
 }
   where
     some : (b : ℕ) (bytes : List ℕ) (o : Option (List ℕ)) → ((ys : List ℕ) → o ≡ Some ys → ys ≡ put_on found b (bands b)) → option_map (λ _. bands b) o ≡ Some bytes → o ≡ Some (put_on found b bytes)

@@ -1,8 +1,8 @@
 -- The bytes of a note say it.
-use Rattle.std.proofs.Common.{◌≡◌, ℕ, ◌+◌, ◌<◌, ◌≤◌, ◌^◌, ◌%◌, ◌&&◌, Bool, true, false, List, [], ◌∷◌, ◌++◌, length, take, drop, refl, sym, ap, ◌∙◌, arith, length-append}
+use Rattle.std.proofs.Common.{◌≡◌, ℕ, ◌+◌, ◌-◌, ◌<◌, ◌≤◌, ◌^◌, ◌%◌, ◌&&◌, Bool, true, false, List, [], ◌∷◌, ◌++◌, length, take, drop, refl, sym, ap, ◌∙◌, subst, arith, length-append}
 use Rattle.std.specs.Prelude.{nat_le, slice_index}
 use Rattle.std.specs.List.{list_all}
-use Rattle.std.proofs.lemmas.List.{append_assoc}
+use Rattle.std.proofs.lemmas.List.{append_assoc, length-drop}
 use Rattle.std.proofs.lemmas.Bool.Decides.{nat_tests}
 use Rattle.std.proofs.Math.Nat.{mod-eq_of_lt}
 use Rattle.byteorder.specs.Endian.{little_bytes, little_number}
@@ -10,8 +10,7 @@ use Rattle.byteorder.specs.Numbers.{little_number-reads_back}
 use Rattle.sg_base.specs.Spelling.{is_name, is_letter, is_name_byte}
 use Rattle.sg_reading.specs.Back.{Undoing}
 use Rattle.sg_reading.specs.Back.Undoing.{WasNothing, WasMake, WasDrop, WasPush, WasPop, WasSet, WasApply, WasPut, WasOver, WasBytes}
-use Rattle.sg_objects.specs.Notes.{head_bytes, note_bytes, byte_at, over_said, undoing_said, AreFields, IsNote}
-use Rattle.sg_objects.specs.Reversing.{IsWhole}
+use Rattle.sg_objects.specs.Notes.{head_bytes, note_bytes, byte_at, over_said, undoing_said, least_rest, rest_said, is_whole, AreFields, IsNote}
 
 taken : (xs ys : List ℕ) → take (length xs) (xs ++ ys) ≡ xs
 taken [] ys = refl
@@ -29,12 +28,12 @@ one_byte : (n : ℕ) → n < 256 → n % 256 ≡ n
 one_byte n h = mod-eq_of_lt h
 
 -- a name is short
-both_true : (a b : Bool) → (a && b) ≡ true → a ≡ true
-both_true true b e = refl
-both_true false b e = cc
+first_true : (a b : Bool) → (a && b) ≡ true → a ≡ true
+first_true true b e = refl
+first_true false b e = cc
 
 pub name_short : (name : List ℕ) → is_name name ≡ true → length name < 256
-name_short name e = let few : nat_le (length name) 32 ≡ true = both_true (nat_le (length name) 32) (is_letter (slice_index name 0)) (both_true (nat_le (length name) 32 && is_letter (slice_index name 0)) (list_all is_name_byte name) e) in (let le : length name ≤ 32 = grind (arith, nat_tests, few) in omega (arith, le))
+name_short name e = let few : nat_le (length name) 32 ≡ true = first_true (nat_le (length name) 32) (is_letter (slice_index name 0)) (first_true (nat_le (length name) 32 && is_letter (slice_index name 0)) (list_all is_name_byte name) e) in (let le : length name ≤ 32 = grind (arith, nat_tests, few) in omega (arith, le))
 
 -- A NOTE IN ITS PARTS: the code, and what stands behind the name
 abbrev pub code_of : Undoing → ℕ
@@ -138,31 +137,33 @@ abbrev pub IsPlainNote : Undoing → Type 0
 IsPlainNote (WasBytes size) = ⊥
 IsPlainNote other = Unit {0}
 
-pub plain_of : (u : Undoing) → (code_of u ≡ 9 → ⊥) → IsPlainNote u
-plain_of WasNothing ne = tt
-plain_of WasMake ne = tt
-plain_of (WasDrop root) ne = tt
-plain_of WasPush ne = tt
-plain_of (WasPop item) ne = tt
-plain_of (WasSet index item) ne = tt
-plain_of (WasApply index code arg) ne = tt
-plain_of (WasPut key) ne = tt
-plain_of (WasOver key value) ne = tt
-plain_of (WasBytes size) ne = absurd (ne refl)
+-- ALL OF IT IS THERE
+least_is : (u : Undoing) → AreFields u → least_rest (code_of u) (rest_of u) ≤ length (rest_of u)
+least_is WasNothing f = absurd f
+least_is WasMake f = omega arith
+least_is (WasDrop root) f = omega arith
+least_is WasPush f = omega arith
+least_is (WasPop item) f = omega arith
+least_is (WasSet index item) f = omega arith
+least_is (WasApply index code arg) f = omega arith
+least_is (WasPut key) f = omega arith
+least_is (WasOver key value) f = let short = one_byte (length key) f in let long = length-append key value in omega (arith, short, long)
+least_is (WasBytes size) f = omega arith
 
--- the length that a note of bytes says
-pub bytes_long : (u : Undoing) (n : ℕ) → WasBytes n ≡ u → length (rest_of u) ≡ 4
-bytes_long u n e = ap (λ (x : Undoing). length (rest_of x)) (sym e)
+both_true : (a b : Bool) → a ≡ true → b ≡ true → (a && b) ≡ true
+both_true true b e f = f
+both_true false b e f = absurd (cc)
 
--- its fields are whole
-pub whole : (u : Undoing) → AreFields u → IsPlainNote u → IsWhole (code_of u) (rest_of u)
-whole WasNothing f p = absurd f
-whole WasMake f p = record { least = omega arith; most = omega arith; root = λ e. absurd (omega (arith, e)); index = λ e. absurd (omega (arith, e)); numbers = λ e. absurd (omega (arith, e)); key = λ e. absurd (omega (arith, e)) }
-whole (WasDrop root) f p = record { least = omega arith; most = omega arith; root = λ e. omega arith; index = λ e. absurd (omega (arith, e)); numbers = λ e. absurd (omega (arith, e)); key = λ e. absurd (omega (arith, e)) }
-whole WasPush f p = record { least = omega arith; most = omega arith; root = λ e. absurd (omega (arith, e)); index = λ e. absurd (omega (arith, e)); numbers = λ e. absurd (omega (arith, e)); key = λ e. absurd (omega (arith, e)) }
-whole (WasPop item) f p = record { least = omega arith; most = omega arith; root = λ e. absurd (omega (arith, e)); index = λ e. absurd (omega (arith, e)); numbers = λ e. absurd (omega (arith, e)); key = λ e. absurd (omega (arith, e)) }
-whole (WasSet index item) f p = record { least = omega arith; most = omega arith; root = λ e. absurd (omega (arith, e)); index = λ e. omega arith; numbers = λ e. absurd (omega (arith, e)); key = λ e. absurd (omega (arith, e)) }
-whole (WasApply index code arg) f p = record { least = omega arith; most = omega arith; root = λ e. absurd (omega (arith, e)); index = λ e. absurd (omega (arith, e)); numbers = λ e. omega arith; key = λ e. absurd (omega (arith, e)) }
-whole (WasPut key) f p = record { least = omega arith; most = omega arith; root = λ e. absurd (omega (arith, e)); index = λ e. absurd (omega (arith, e)); numbers = λ e. absurd (omega (arith, e)); key = λ e. absurd (omega (arith, e)) }
-whole (WasOver key value) f p = record { least = omega arith; most = omega arith; root = λ e. absurd (omega (arith, e)); index = λ e. absurd (omega (arith, e)); numbers = λ e. absurd (omega (arith, e)); key = λ e. (let short = one_byte (length key) f in let long = length-append key value in omega (arith, short, long)) }
-whole (WasBytes size) f p = absurd p
+pub whole_said : {bytes name : List ℕ} {u : Undoing} → IsNote bytes name u → is_whole bytes ≡ true
+whole_said {bytes} {name} {u} n =
+    let p = parts n in
+    let fits = fits_behind p in
+    let behind : length (drop 2 bytes) ≡ length bytes - 2 = length-drop 2 bytes in
+    let long = p.long in
+    let first : 2 + byte_at bytes 1 ≤ length bytes = omega (arith, fits, behind, long) in
+    let rest = rest_read p in
+    let second : least_rest (byte_at bytes 0) (rest_said bytes) ≤ length (rest_said bytes) =
+    subst (λ (xs : List ℕ). least_rest (byte_at bytes 0) xs ≤ length xs) (sym rest)
+    (subst (λ (c : ℕ). least_rest c (rest_of u) ≤ length (rest_of u)) (sym p.code) (least_is u n.fields)) in
+    both_true (nat_le (2 + byte_at bytes 1) (length bytes)) (nat_le (least_rest (byte_at bytes 0) (rest_said bytes)) (length (rest_said bytes)))
+    (grind (arith, nat_tests, first)) (grind (arith, nat_tests, second))

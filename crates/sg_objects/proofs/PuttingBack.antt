@@ -28,10 +28,11 @@ use Rattle.sg_reading.specs.Reading.{Thing, Around, plain, slot}
 use Rattle.sg_reading.specs.Reading.Thing.{There}
 use Rattle.sg_reading.specs.Back.{Before, Patch, back, carried_out, planned, lay_plan, located, padded, all_laid, all_zero, lay, if_done, rebuilt}
 use Rattle.sg_reading.specs.Back.Undoing.{WasBytes}
+use Rattle.sg_reading.specs.Strokes.{AreWhole}
 use Rattle.sg_reading.proofs.Bytes.{length_padded}
 use Rattle.sg_before.specs.Laying.{put_on}
 use Rattle.sg_before.proofs.Parted.{IsHeld, AreHeld, held_all, held_at, byte_index}
-use Rattle.sg_before.proofs.Bytes.{distinct, put_bytes, none_on}
+use Rattle.sg_before.proofs.Bytes.{distinct, none_on}
 use Rattle.sg_contents.specs.Standing.{Body, Contents, IsContents}
 use Rattle.sg_contents.specs.Standing.Body.{ABlob}
 use Rattle.sg_contents.specs.Changes.{with_body, BodyTurns}
@@ -42,6 +43,7 @@ use Rattle.sg_objects.specs.Undone.{IsUndone}
 use Rattle.sg_objects.proofs.Blobbed.{missing_blob}
 use Rattle.sg_objects.proofs.Bodies.{body_undone}
 use Rattle.sg_objects.proofs.Located.{thing_under}
+use Rattle.sg_objects.proofs.Whole.{put_whole, whole_by}
 
 -- THE CATALOGUE is as it was
 pub back_catalog : {found : List Before} {was now : Space} {s : Contents} → IsContents was s → HasBack found was now → IsCatalog now.pages.at s.catalog
@@ -136,8 +138,14 @@ module _ {was now : Space} {root : ℕ} {b : Blob} (n : ℕ) (found : List Befor
         each = λ i l. byte_index x.what i ∙ (x.has.each i l ∙ (ap (λ (m : ℕ). slice_index b.bytes (m + i)) (let z : 32768 * j ≡ 0 + 32768 * j = omega arith in z) ∙ sym (byte_index b.bytes (0 + 32768 * j + i))));
       })
 
+  now_whole : AreWhole (λ p. put_on found p (bytes_of (was.bands.at p))) b.bands
+  now_whole = whole_by (λ p. put_on found p (bytes_of (was.bands.at p))) b.bands (λ j p e.
+      let x = part_at j p e in
+      subst (λ (o : Option (List ℕ)). length (put_on found p (bytes_of o)) ≡ 32768) (sym x.is) (k.whole p (put_on found p x.what) (k.band p x.what x.is)))
+
   now_held : AreHeld (λ p. put_on found p (bytes_of (was.bands.at p))) restored 0 b.bands
-  now_held = put_bytes (λ p. bytes_of (was.bands.at p)) b.bands found w.patches b.bytes n w.at_bands (distinct b.bands h.raw.apart) k.within (held_all (λ p. bytes_of (was.bands.at p)) b.bytes 0 b.bands held_is) h.raw.enough w.zeros
+  now_held = put_whole (λ p. bytes_of (was.bands.at p)) b.bands found w.patches b.bytes n w.at_bands (distinct b.bands h.raw.apart) now_whole
+      (held_all (λ p. bytes_of (was.bands.at p)) b.bytes 0 b.bands held_is) h.raw.enough w.zeros
 
   now_part : (j p : ℕ) → slice_get b.bands j ≡ Some p → HasAt now.bands.at p (IsPart restored j)
   now_part j p e =

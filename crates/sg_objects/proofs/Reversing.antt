@@ -2,6 +2,7 @@
 use Rattle.std.proofs.Common.{◌≡◌, ℕ, zero, suc, ◌-◌, ◌≤◌, Bool, true, false, cond, List, [], ◌∷◌, length, take, drop, Option, Some, None, Result, Ok, Err, OnOk, refl, sym, ap, ◌∙◌, subst, arith, inl, inr}
 use Rattle.std.specs.FinMap.{get}
 use Rattle.std.proofs.lemmas.Bool.{cases_lt, cases_eq}
+use Rattle.std.proofs.lemmas.Bool.Decides.{nat_tests}
 use Rattle.sg_ops.specs.Table.{Table as Operations}
 use Rattle.sg_model.specs.declared.reason.Reason.TheVariants.{TooLong, OutOfRange}
 use Rattle.sg_model.specs.Objects.{Entries}
@@ -15,17 +16,18 @@ use Rattle.sg_reading.specs.Reading.Thing.{There}
 use Rattle.sg_reading.specs.Back.{Undoing, Before, forget, back}
 use Rattle.sg_reading.specs.Back.Undoing.{WasNothing, WasMake, WasDrop, WasPush, WasPop, WasSet, WasApply, WasPut, WasOver, WasBytes}
 use Rattle.sg_contents.specs.Meaning.{reading}
-use Rattle.std.specs.Prelude.{⊤, if◌then◌else◌}
+use Rattle.std.specs.Prelude.{⊤, ◌+◌, ◌<◌, ◌==◌, ◌&&◌, nat_le, if◌then◌else◌}
 use Rattle.sg_base.specs.Spelling.{is_name}
 use Rattle.sg_space.specs.declared.space.SpaceFault.{SpaceFault}
 use Rattle.sg_contents.specs.Standing.{Contents, IsContents, HasContents}
-use Rattle.sg_objects.specs.Notes.{IsNote, undoing_said, byte_at}
+use Rattle.sg_objects.specs.Notes.{byte_at, over_said, undoing_said, least_rest, rest_said, is_whole, note_said}
 use Rattle.sg_objects.specs.Needs.{needed_back, IsFree}
 use Rattle.sg_objects.specs.PutBack.{CanUndoBytes, UndoesBytes}
 use Rattle.sg_objects.specs.Reversing.{IsWhole, CanReverseBy, IsPutBack, IsPossible, HasNote, UndoesAny, Reverses}
 use Rattle.sg_objects.specs.Undone.{CanUndo, Undoes, IsUndone}
 use Rattle.sg_objects.proofs.Forgetting.{carried_table}
-use Rattle.sg_objects.proofs.Parsing.{parts, name_read, rest_read, said, code_of, whole, IsPlainNote, plain_of, bytes_long}
+use Rattle.sg_objects.proofs.Naming.{undone_named}
+use Rattle.sg_objects.proofs.Parsing.{IsPlainNote}
 use Rattle.sg_objects.proofs.Putting.{put_long}
 use Rattle.sg_objects.proofs.Tables.{empty_key, long_key}
 use Rattle.sg_objects.proofs.Undoing.{was_done, not_both}
@@ -65,21 +67,49 @@ put_short {key = key} {name = name} {s = s} c = (limits key forget (get (reading
 pub over_short : {t : Operations} {key value name : List ℕ} {s : Contents} → CanUndo t (WasOver key value) name s → (length key ≤ 128) × (length value ≤ 1024)
 over_short {key = key} {value = value} {name = name} {s = s} c = ((limits key (put_value value) (get (reading s).things name) c.th c.possible).1, value_limit key value (get (reading s).things name) c.th c.possible)
 
--- WHAT WAS READ IS THE NOTE
+-- WHAT WAS READ IS WHAT THE BYTES SAY
 pub record IsRead (bytes : List ℕ) (first : ℕ) (who tail : List ℕ) : Type 0 where
   pub code : byte_at bytes 0 ≡ first
   pub name : take (byte_at bytes 1) (drop 2 bytes) ≡ who
-  pub rest : drop (byte_at bytes 1) (drop 2 bytes) ≡ tail
+  pub rest : rest_said bytes ≡ tail
 
-pub said_name : {bytes name name' rest : List ℕ} {u : Undoing} {code : ℕ} → IsNote bytes name u → IsRead bytes code name' rest → name' ≡ name
-said_name n r = sym r.name ∙ name_read (parts n)
+pub said_undoes : {bytes name rest : List ℕ} {code : ℕ} → IsRead bytes code name rest → (note_said bytes).undoes ≡ undoing_said code rest
+said_undoes r = λ i. undoing_said (r.code i) (r.rest i)
 
-pub said_undoes : {bytes name name' rest : List ℕ} {u : Undoing} {code : ℕ} → IsNote bytes name u → IsRead bytes code name' rest → undoing_said code rest ≡ u
-said_undoes {u = u} n r =
-    let p = parts n in
-    let c = sym r.code ∙ p.code in
-    let e = sym r.rest ∙ rest_read p in
-    (λ i. undoing_said (c i) (e i)) ∙ said u n.fields
+-- bytes that are cut short can't be undone
+whole_if : (b : Bool) (name : List ℕ) → is_name (if b then name else []) ≡ true → b ≡ true
+whole_if true name e = refl
+whole_if false name e = absurd (let z : false ≡ true = e in cc)
+
+said_whole : {space : Space} {s : Contents} (t : Operations) (bytes : List ℕ) (found : List Before) (th : Option Thing) → IsContents space s
+    → back t (note_said bytes).undoes found (slot (reading s) (note_said bytes).name) ≡ Some th → is_whole bytes ≡ true
+said_whole t bytes found th h e = whole_if (is_whole bytes) (take (byte_at bytes 1) (drop 2 bytes))
+    (undone_named t (note_said bytes).undoes found (note_said bytes).name th h e)
+
+pub possible_whole : {t : Operations} {v : View} (bytes : List ℕ) → IsPossible t v (note_said bytes) → is_whole bytes ≡ true
+possible_whole {t} bytes p = said_whole t bytes p.found p.th p.there p.possible
+
+-- others say their name
+said_name : {bytes name rest : List ℕ} {code : ℕ} → is_whole bytes ≡ true → IsRead bytes code name rest → (note_said bytes).name ≡ name
+said_name {bytes} whole r = ap (λ (b : Bool). if b then take (byte_at bytes 1) (drop 2 bytes) else []) whole ∙ r.name
+
+-- and have it and their further fields
+both_true : (a b : Bool) → (a && b) ≡ true → (a ≡ true) × (b ≡ true)
+both_true true b e = (refl, e)
+both_true false b e = absurd (cc)
+
+pub long_name : (bytes : List ℕ) → is_whole bytes ≡ true → 2 + byte_at bytes 1 ≤ length bytes
+long_name bytes whole = let e =
+    (both_true (nat_le (2 + byte_at bytes 1) (length bytes))
+    (nat_le (least_rest (byte_at bytes 0) (rest_said bytes)) (length (rest_said bytes))) whole).0 in grind (arith, nat_tests, e)
+
+pub long_rest : {bytes name rest : List ℕ} {code : ℕ} → is_whole bytes ≡ true → IsRead bytes code name rest → least_rest code rest ≤ length rest
+long_rest {bytes} {name} {rest} {code} whole r =
+    let e = (both_true (nat_le (2 + byte_at bytes 1) (length bytes))
+    (nat_le (least_rest (byte_at bytes 0) (rest_said bytes)) (length (rest_said bytes))) whole).1 in
+    let long : least_rest (byte_at bytes 0) (rest_said bytes) ≤ length (rest_said bytes) = grind (arith, nat_tests, e) in
+    subst (λ (n : ℕ). n ≤ length rest) (λ i. least_rest (r.code i) (r.rest i))
+    (subst (λ (xs : List ℕ). least_rest (byte_at bytes 0) (rest_said bytes) ≤ length xs) r.rest long)
 
 -- A NOTE THAT ISN'T ONE OF BYTES
 module _ (t : Operations) where
@@ -108,29 +138,89 @@ plain_space (WasOver key value) p found was now k = k
 plain_space (WasBytes size) p found was now k = absurd p
 
 -- its code
-pub plain_read : {bytes name name' rest : List ℕ} {u : Undoing} {code : ℕ} → IsNote bytes name u → IsRead bytes code name' rest → (code ≡ 9 → ⊥) → IsPlainNote u
-plain_read {u = u} n r ne = plain_of u (λ e. ne (sym r.code ∙ ((parts n).code ∙ e)))
+pick_plain : (b : Bool) (u v : Undoing) → IsPlainNote u → IsPlainNote v → IsPlainNote (if b then u else v)
+pick_plain true u v p q = p
+pick_plain false u v p q = q
 
-pub said_whole : {t : Operations} {v : View} {bytes name' rest : List ℕ} {code : ℕ} → (p : IsPossible t v bytes) → IsPlainNote p.undoes → IsRead bytes code name' rest → IsWhole code rest
-said_whole {rest = rest} p plain r =
-    let h = parts p.note in
-    let c = sym r.code ∙ h.code in
-    let e = sym r.rest ∙ rest_read h in
-    subst (λ (n : ℕ). IsWhole n rest) (sym c) (subst (λ (xs : List ℕ). IsWhole (code_of p.undoes) xs) (sym e) (whole p.undoes (p.note).fields plain))
+plain_said : (code : ℕ) (rest : List ℕ) → (code ≡ 9 → ⊥) → IsPlainNote (undoing_said code rest)
+plain_said code rest ne =
+    let other : (code == 9) ≡ false = grind (arith, nat_tests, ne) in
+    pick_plain (code == 1) WasMake _ tt
+    (pick_plain (code == 2) (WasDrop (little_number 4 rest)) _ tt
+    (pick_plain (code == 3) WasPush _ tt
+    (pick_plain (code == 4) (WasPop rest) _ tt
+    (pick_plain (code == 5) (WasSet (little_number 4 rest) (drop 4 rest)) _ tt
+    (pick_plain (code == 6) (WasApply (little_number 4 rest) (little_number 2 (drop 4 rest)) (drop 2 (drop 4 rest))) _ tt
+    (pick_plain (code == 7) (WasPut rest) _ tt
+    (pick_plain (code == 8) (over_said rest) (if code == 9 then WasBytes (little_number 4 rest) else WasNothing) tt
+    (subst (λ (b : Bool). IsPlainNote (if b then WasBytes (little_number 4 rest) else WasNothing)) (sym other) tt))))))))
 
-pub can_reverse : {t : Operations} {v : View} {bytes name' rest : List ℕ} {code : ℕ} → (p : IsPossible t v bytes) → IsPlainNote p.undoes → IsRead bytes code name' rest → CanReverseBy t v code name' rest p.contents
-can_reverse {t} {v} {name' = who} p plain r =
-    let u = said_undoes p.note r in
-    let n : who ≡ p.name = said_name p.note r in
-    let can : CanUndo t p.undoes p.name p.contents = record { th = p.th; possible = sym (plain_back t p.undoes plain p.found (slot (reading p.contents) p.name)) ∙ p.possible } in
-    record {
-      undo = subst (λ (x : Undoing). CanUndo t x who p.contents) (sym u) (subst (λ (m : List ℕ). CanUndo t p.undoes m p.contents) (sym n) can);
-      whole = said_whole p plain r;
-      free = subst (λ (x : Undoing). IsFree (needed_back x) v.space) (sym u) p.free;
-    }
+-- no other code undoes anything
+beyond : (code : ℕ) (rest : List ℕ) → 9 < code → undoing_said code rest ≡ WasNothing
+beyond code rest far =
+    let e1 : (code == 1) ≡ false = grind (arith, nat_tests, far) in
+    let e2 : (code == 2) ≡ false = grind (arith, nat_tests, far) in
+    let e3 : (code == 3) ≡ false = grind (arith, nat_tests, far) in
+    let e4 : (code == 4) ≡ false = grind (arith, nat_tests, far) in
+    let e5 : (code == 5) ≡ false = grind (arith, nat_tests, far) in
+    let e6 : (code == 6) ≡ false = grind (arith, nat_tests, far) in
+    let e7 : (code == 7) ≡ false = grind (arith, nat_tests, far) in
+    let e8 : (code == 8) ≡ false = grind (arith, nat_tests, far) in
+    let e9 : (code == 9) ≡ false = grind (arith, nat_tests, far) in
+    λ i. if e1 i then WasMake
+    else (if e2 i then WasDrop (little_number 4 rest)
+    else (if e3 i then WasPush
+    else (if e4 i then WasPop rest
+    else (if e5 i then WasSet (little_number 4 rest) (drop 4 rest)
+    else (if e6 i then WasApply (little_number 4 rest) (little_number 2 (drop 4 rest)) (drop 2 (drop 4 rest))
+    else (if e7 i then WasPut rest
+    else (if e8 i then over_said rest
+    else (if e9 i then WasBytes (little_number 4 rest)
+    else WasNothing))))))))
+
+nothing_back : (t : Operations) (u : Undoing) (x : Slot) (th : Option Thing) → u ≡ WasNothing → back t u [] x ≡ Some th → ⊥
+nothing_back t u x th e f = let z : ◌≡◌ {A = Option (Option Thing)} None (Some th) = ap (λ (w : Undoing). back t w [] x) (sym e) ∙ f in cc
+
+-- the fields that a note of this code wants are there
+fields_whole : (t : Operations) (code : ℕ) (rest : List ℕ) (x : Slot) (th : Option Thing) → (code ≡ 9 → ⊥) → least_rest code rest ≤ length rest
+    → back t (undoing_said code rest) [] x ≡ Some th → IsWhole code rest
+fields_whole t code rest x th ne long e = record {
+  least = elim (cases_lt code 1) [
+    | inl low ↦ absurd (nothing_back t (undoing_said code rest) x th (ap (λ (c : ℕ). undoing_said c rest) (let z : code ≡ 0 = omega (arith, low) in z)) e)
+    | inr some ↦ some
+  ];
+  most = elim (cases_lt 8 code) [
+    | inl high ↦ absurd (nothing_back t (undoing_said code rest) x th (beyond code rest (omega (arith, high, ne))) e)
+    | inr few ↦ few
+  ];
+  root = λ is. subst (λ (c : ℕ). least_rest c rest ≤ length rest) is long;
+  index = λ is. subst (λ (c : ℕ). least_rest c rest ≤ length rest) is long;
+  numbers = λ is. subst (λ (c : ℕ). least_rest c rest ≤ length rest) is long;
+  key = λ is. subst (λ (c : ℕ). least_rest c rest ≤ length rest) is long;
+}
+
+pub can_by : (v : View) (t : Operations) (bytes : List ℕ) (code : ℕ) (who rest : List ℕ) → (code ≡ 9 → ⊥) → HasNote t v bytes → IsRead bytes code who rest
+    → HasContents v (CanReverseBy t v code who rest)
+can_by v t bytes code who rest ne h r told =
+    let p = h told in
+    let whole = possible_whole bytes p in
+    let u = said_undoes r in
+    let n = said_name whole r in
+    let plain : IsPlainNote (note_said bytes).undoes = subst IsPlainNote (sym u) (plain_said code rest ne) in
+    let possible : back t (undoing_said code rest) [] (slot (reading p.contents) who) ≡ Some p.th =
+    sym (λ i. back t (u i) [] (slot (reading p.contents) (n i))) ∙
+    (sym (plain_back t (note_said bytes).undoes plain p.found (slot (reading p.contents) (note_said bytes).name)) ∙ p.possible) in (
+      p.contents,
+      subst (λ (x : Space). IsContents x p.contents) (sym (plain_space (note_said bytes).undoes plain p.found p.was v.space p.put_back)) p.there,
+      record {
+        undo = record { th = p.th; possible = possible };
+        whole = fields_whole t code rest (slot (reading p.contents) who) p.th ne (long_rest whole r) possible;
+        free = subst (λ (x : Undoing). IsFree (needed_back x) v.space) u p.free;
+      },
+    )
 
 -- whatever was found: it goes with no note but one of bytes
-pub any_plain : {v w : View} {t : Operations} {u : Undoing} {name : List ℕ} → IsPlainNote u → Undoes v w t u name → UndoesAny v w t u name
+any_plain : {v w : View} {t : Operations} {u : Undoing} {name : List ℕ} → IsPlainNote u → Undoes v w t u name → UndoesAny v w t u name
 any_plain {v} {w} {t} {u} {name} plain d = record {
   told = d.told;
   done = λ told was s h found k th e.
@@ -139,40 +229,50 @@ any_plain {v} {w} {t} {u} {name} plain d = record {
       (one.0, subst (λ (x : Space). IsUndone u name x w.space s th one.0) same one.1);
 }
 
-pub reversed : {t : Operations} {v w : View} {bytes name' rest : List ℕ} {code : ℕ} → (code ≡ 9 → ⊥) → IsRead bytes code name' rest → Undoes v w t (undoing_said code rest) name' → Reverses v w t bytes
-reversed {t} {v} {w} {name' = who} ne r d name u n = any_plain (plain_read n r ne) (subst (λ (m : List ℕ). Undoes v w t u m) (said_name n r) (subst (λ (x : Undoing). Undoes v w t x who) (said_undoes n r) d))
+-- what was undone is what the bytes say, since that can be undone
+said_any : (v w : View) (t : Operations) (bytes : List ℕ) (u : Undoing) (who : List ℕ) → (note_said bytes).undoes ≡ u
+    → (is_whole bytes ≡ true → (note_said bytes).name ≡ who) → UndoesAny v w t u who → Reverses v w t bytes
+said_any v w t bytes u who same name d = record {
+  told = d.told;
+  done = λ told was s h found k th e.
+      let n = name (said_whole t bytes found th h e) in
+      let all : Reverses v w t bytes = subst (λ (m : List ℕ). UndoesAny v w t (note_said bytes).undoes m) (sym n)
+      (subst (λ (x : Undoing). UndoesAny v w t x who) (sym same) d) in
+      all.done told was s h found k th e;
+}
+
+pub did_by : (v w : View) (t : Operations) (bytes : List ℕ) (code : ℕ) (who rest : List ℕ) (r : Result ⊤ SpaceFault) → (code ≡ 9 → ⊥)
+    → IsRead bytes code who rest → OnOk r (Undoes v w t (undoing_said code rest) who) → OnOk r (Reverses v w t bytes)
+did_by v w t bytes code who rest (Ok x) ne read d = said_any v w t bytes (undoing_said code rest) who (said_undoes read) (λ whole. said_name whole read)
+    (any_plain (plain_said code rest ne) d)
+did_by v w t bytes code who rest (Err e) ne read d = d
 
 -- A NOTE OF BYTES
-pub says_bytes : {bytes name name' rest : List ℕ} {u : Undoing} {code : ℕ} → code ≡ 9 → IsNote bytes name u → IsRead bytes code name' rest → WasBytes (little_number 4 rest) ≡ u
-says_bytes {rest = rest} nine n r = ap (λ (c : ℕ). undoing_said c rest) (sym nine) ∙ said_undoes n r
-
-pub bytes_whole : {t : Operations} {v : View} {bytes name' rest : List ℕ} {code : ℕ} → code ≡ 9 → HasNote t v bytes → IsRead bytes code name' rest → v.Told → 4 ≤ length rest
-bytes_whole nine h r told =
-    let p = h told in
-    let e = sym r.rest ∙ rest_read (parts p.note) in
-    let long = ap (λ (xs : List ℕ). length xs) e ∙ bytes_long p.undoes _ (says_bytes nine p.note r) in
-    omega (arith, long)
+says_bytes : {bytes name rest : List ℕ} {code : ℕ} (size : ℕ) → size ≡ little_number 4 rest → code ≡ 9 → IsRead bytes code name rest
+    → (note_said bytes).undoes ≡ WasBytes size
+says_bytes {rest = rest} size is nine r = said_undoes r ∙ (ap (λ (c : ℕ). undoing_said c rest) nine ∙ ap WasBytes (sym is))
 
 pub can_bytes : (v : View) (t : Operations) (bytes : List ℕ) (code : ℕ) (who rest : List ℕ) (size : ℕ) → size ≡ little_number 4 rest → code ≡ 9 → HasNote t v bytes → IsRead bytes code who rest → v.Told → CanUndoBytes t size who v.space
 can_bytes v t bytes code who rest size is nine h r told =
     let p = h told in
-    let u : WasBytes size ≡ p.undoes = ap WasBytes is ∙ says_bytes nine p.note r in
-    let n : who ≡ p.name = said_name p.note r in
+    let u = says_bytes size is nine r in
+    let n = said_name (possible_whole bytes p) r in
     record {
       was = p.was;
       contents = p.contents;
       reads = p.there;
       found = p.found;
-      put_back = subst (λ (x : Undoing). IsPutBack x p.found p.was v.space) (sym u) p.put_back;
+      put_back = subst (λ (x : Undoing). IsPutBack x p.found p.was v.space) u p.put_back;
       th = p.th;
-      possible = subst (λ (x : Undoing). back t x p.found (slot (reading p.contents) who) ≡ Some p.th) (sym u) (subst (λ (m : List ℕ). back t p.undoes p.found (slot (reading p.contents) m) ≡ Some p.th) (sym n) p.possible);
+      possible = sym (λ i. back t (u i) p.found (slot (reading p.contents) (n i))) ∙ p.possible;
     }
 
 any_bytes : {v w : View} {t : Operations} {size : ℕ} {name : List ℕ} → UndoesBytes v w t size name → UndoesAny v w t (WasBytes size) name
 any_bytes d = record { told = d.told; done = d.done }
 
 pub did_bytes : (v w : View) (t : Operations) (bytes : List ℕ) (code : ℕ) (who rest : List ℕ) (size : ℕ) (r : Result ⊤ SpaceFault) → size ≡ little_number 4 rest → code ≡ 9 → IsRead bytes code who rest → OnOk r (UndoesBytes v w t size who) → OnOk r (Reverses v w t bytes)
-did_bytes v w t bytes code who rest size (Ok x) is nine r d = λ name u n. subst (λ (m : List ℕ). UndoesAny v w t u m) (said_name n r) (subst (λ (y : Undoing). UndoesAny v w t y who) (ap WasBytes is ∙ says_bytes nine n r) (any_bytes d))
+did_bytes v w t bytes code who rest size (Ok x) is nine r d = said_any v w t bytes (WasBytes size) who (says_bytes size is nine r)
+    (λ whole. said_name whole r) (any_bytes d)
 did_bytes v w t bytes code who rest size (Err e) is nine r d = d
 
 -- ONE CODE AS ANOTHER WAY TO SAY IT
@@ -222,12 +322,43 @@ read_from bytes note who o same new is =
       rest = ap (λ (xs : List ℕ). drop size xs) (sym behind) ∙ sym (to_end size (behind_of bytes));
     })
 
-pub can_by : (v : View) (t : Operations) (bytes : List ℕ) (code : ℕ) (who rest : List ℕ) → (code ≡ 9 → ⊥) → HasNote t v bytes → IsRead bytes code who rest → HasContents v (CanReverseBy t v code who rest)
-can_by v t bytes code who rest ne h r told =
-    let p = h told in
-    let plain = plain_read p.note r ne in
-    (p.contents, subst (λ (x : Space). IsContents x p.contents) (sym (plain_space p.undoes plain p.found p.was v.space p.put_back)) p.there, can_reverse p plain r)
+-- WHAT CAN BE UNDONE is never cut short
+behind_long : (bytes : List ℕ) → length (behind_of bytes) ≡ length bytes - 2
+behind_long bytes = ap length (to_end 2 bytes) ∙ left_long 2 bytes
 
-pub did_by : (v w : View) (t : Operations) (bytes : List ℕ) (code : ℕ) (who rest : List ℕ) (r : Result ⊤ SpaceFault) → (code ≡ 9 → ⊥) → IsRead bytes code who rest → OnOk r (Undoes v w t (undoing_said code rest) who) → OnOk r (Reverses v w t bytes)
-did_by v w t bytes code who rest (Ok x) ne read d = reversed ne read d
-did_by v w t bytes code who rest (Err e) ne read d = d
+pub never_short : (v : View) (t : Operations) (read bytes : List ℕ) → read ≡ bytes → length read < 2 → HasNote t v bytes → v.Told → ⊥
+never_short v t read bytes same short h told =
+    let long = long_name bytes (possible_whole bytes (h told)) in
+    let size = ap length same in
+    omega (arith, long, size, short)
+
+pub never_cut : (v : View) (t : Operations) (read bytes : List ℕ) → read ≡ bytes → length (behind_of read) < byte_at read 1 → HasNote t v bytes → v.Told → ⊥
+never_cut v t read bytes same cut h told =
+    let long = subst (λ (xs : List ℕ). 2 + byte_at xs 1 ≤ length xs) (sym same) (long_name bytes (possible_whole bytes (h told))) in
+    let size = behind_long read in
+    omega (arith, long, size, cut)
+
+named_if : (b : Bool) (x : List ℕ) → (if b then Some x else None) ≡ None → b ≡ true → ⊥
+named_if true x e f = let z : ◌≡◌ {A = Option (List ℕ)} (Some x) None = e in cc
+named_if false x e f = absurd (let z : false ≡ true = f in cc)
+
+pub never_unnamed : (v : View) (t : Operations) (read bytes : List ℕ) (o : Option (List ℕ)) → read ≡ bytes
+    → o ≡ (if is_name (take (byte_at read 1) (behind_of read)) then Some (take (byte_at read 1) (behind_of read)) else None) → o ≡ None
+    → HasNote t v bytes → v.Told → ⊥
+never_unnamed v t read bytes o same new none h told =
+    let p = h told in
+    let whole = possible_whole bytes p in
+    let name : (note_said bytes).name ≡ take (byte_at bytes 1) (drop 2 bytes) = ap
+    (λ (b : Bool). if b then take (byte_at bytes 1) (drop 2 bytes) else []) whole in
+    let named : is_name (take (byte_at bytes 1) (drop 2 bytes)) ≡ true = ap is_name (sym name) ∙ undone_named t (note_said bytes).undoes p.found
+    (note_said bytes).name p.th p.there p.possible in
+    let read_named : is_name (take (byte_at read 1) (drop 2 read)) ≡ true = subst (λ (xs : List ℕ). is_name (take (byte_at xs 1) (drop 2 xs)) ≡ true)
+    (sym same) named in
+    named_if (is_name (take (byte_at read 1) (behind_of read))) (take (byte_at read 1) (behind_of read)) (sym new ∙ none)
+    (ap (λ (xs : List ℕ). is_name (take (byte_at read 1) xs)) (to_end 2 read) ∙ read_named)
+
+pub never_bare : (v : View) (t : Operations) (bytes : List ℕ) (code : ℕ) (who rest : List ℕ) → code ≡ 9 → length rest < 4 → IsRead bytes code who rest
+    → HasNote t v bytes → v.Told → ⊥
+never_bare v t bytes code who rest nine short r h told =
+    let long : 4 ≤ length rest = subst (λ (c : ℕ). least_rest c rest ≤ length rest) nine (long_rest (possible_whole bytes (h told)) r) in
+    omega (arith, long, short)

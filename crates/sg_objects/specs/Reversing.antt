@@ -3,12 +3,12 @@ use Rattle.std.specs.Prelude.{◌≡◌, ℕ, ◌+◌, ◌≤◌, List, length, 
 use Rattle.sg_ops.specs.Table.{Table as Operations}
 use Rattle.sg_space.specs.View.{View, Space}
 use Rattle.sg_reading.specs.Reading.{Thing, slot}
-use Rattle.sg_reading.specs.Back.{Undoing, Before, back}
+use Rattle.sg_reading.specs.Back.{Undoing, UndoNote, Before, back}
 use Rattle.sg_reading.specs.Back.Undoing.{WasBytes}
 use Rattle.sg_contents.specs.Standing.{Contents, IsContents}
 use Rattle.sg_contents.specs.Meaning.{reading}
 use Rattle.sg_objects.specs.Needs.{needed_back, IsFree}
-use Rattle.sg_objects.specs.Notes.{IsNote, byte_at, undoing_said}
+use Rattle.sg_objects.specs.Notes.{byte_at, undoing_said, note_said}
 use Rattle.sg_objects.specs.PutBack.{HasBack}
 use Rattle.sg_objects.specs.Undone.{CanUndo, IsUndone}
 
@@ -33,28 +33,26 @@ abbrev pub IsPutBack : Undoing → List Before → (was now : Space) → Type 0
 IsPutBack (WasBytes size) found was now = HasBack found was now
 IsPutBack u found was now = now ≡ was
 
--- the bytes are a note that can be undone, and what that needs is free
-pub record IsPossible (t : Operations) (v : View) (bytes : List ℕ) : Type 0 where
-  pub name : List ℕ
-  pub undoes : Undoing
-  pub note : IsNote bytes name undoes
+-- the note can be undone, and what that needs is free
+pub record IsPossible (t : Operations) (v : View) (n : UndoNote) : Type 0 where
   pub was : Space
   pub contents : Contents
   pub there : IsContents was contents
   pub found : List Before
-  pub put_back : IsPutBack undoes found was v.space
+  pub put_back : IsPutBack n.undoes found was v.space
   pub th : Option Thing
-  pub possible : back t undoes found (slot (reading contents) name) ≡ Some th
-  pub free : IsFree (needed_back undoes) v.space
+  pub possible : back t n.undoes found (slot (reading contents) n.name) ≡ Some th
+  pub free : IsFree (needed_back n.undoes) v.space
 
+-- what the bytes say can be undone
 abbrev pub HasNote : Operations → View → List ℕ → Type 0
-HasNote t v bytes = v.Told → IsPossible t v bytes
+HasNote t v bytes = v.Told → IsPossible t v (note_said bytes)
 
 -- ANY NOTE IS UNDONE, of all contents that there were before any before bytes were put back
 pub record UndoesAny (v w : View) (t : Operations) (u : Undoing) (name : List ℕ) : Type 0 where
   pub told : v.Told → w.Told
   pub done : v.Told → (was : Space) (s : Contents) → IsContents was s → (found : List Before) → IsPutBack u found was v.space → (th : Option Thing) → back t u found (slot (reading s) name) ≡ Some th → (s' : Contents) × IsUndone u name was w.space s th s'
 
--- whatever note the bytes are, it was undone
+-- the note that the bytes say was undone
 abbrev pub Reverses : View → View → Operations → List ℕ → Type 0
-Reverses v w t bytes = (name : List ℕ) (u : Undoing) → IsNote bytes name u → UndoesAny v w t u name
+Reverses v w t bytes = UndoesAny v w t (note_said bytes).undoes (note_said bytes).name

@@ -1,8 +1,9 @@
-//! Transactions and their actions over a page engine, as the engine that the store asks for.
+//! Transactions and their actions over a page engine, as the engine that the store asks for, with its objects and their
+//! lists.
 //!
-//! It stands on `sg_actions` for the work, and on `sg_shown` for what that shows to a store. It promises,
-//! call by call, what the store asks of its engine, over any engine under the actions: what a call appends, and
-//! that at each moment, also of a call that fails, each image that a crash leaves has a front of the log
+//! It stands on `sg_actions` for the work, on `sg_shown` for what that shows to a store, and on `sg_verbs` for the calls on
+//! objects. It promises, call by call, what the store asks of its engine, over any engine under the actions: what a call
+//! appends, and that at each moment, also of a call that fails, each image that a crash leaves has a front of the log
 //! with all that was durable.
 #![tactic(auto)]
 

@@ -12,4 +12,5 @@ pub mod Doing
 pub mod Ready
 pub mod Done
 pub mod Freed
+pub mod Backed
 pub mod PutBack

@@ -11,9 +11,11 @@ mod looks;
 mod needing;
 mod pausing;
 mod performing;
+mod reversing;
 
 pub use freeing::free_next;
 pub use listing::{keys, list};
 pub use looks::{touches, touches_keys};
 pub use needing::needs;
 pub use performing::perform;
+pub use reversing::reverse;
