@@ -142,11 +142,7 @@ impl<E: Engine> sg_store::Lists for Paged<E> {
         sg_verbs::touches_keys(&mut self.acts, name, into)
     }
 
-    fn keys(
-        &mut self,
-        alloc: Global,
-        name: Name,
-    ) -> Result<Result<Vec<Bytes>, Reason>, ListFault> {
+    fn keys(&mut self, alloc: Global, name: Name) -> Result<Result<Vec<Bytes>, Reason>, ListFault> {
         sg_verbs::keys(&mut self.acts, alloc, name)
     }
 
