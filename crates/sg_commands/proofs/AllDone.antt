@@ -13,7 +13,8 @@ use Rattle.sg_commands.specs.Done.{DoneTellsAll}
 
 module _ (basis : Sizes → Ground) (says : Says) where
   -- where all commits were answered, an image stands for the objects after all of them
-  all_stand : (t : Operations) (x : Run) (c : disk.Image) → x.so_far.answered ≡ length x.so_far.commits → StandsForFirst basis says t x.so_far.answered x c → StandsFor basis says t c (committed_objects t x)
+  all_stand : (t : Operations) (x : Run) (c : disk.Image) → x.so_far.answered ≡ length x.so_far.commits → StandsForFirst basis says t x.so_far.answered x c
+      → StandsFor basis says t c (committed_objects t x)
   all_stand t x c all h =
       let whole : h.commits ≡ length x.so_far.commits = omega (arith, h.enough, h.most, all) in
       subst (StandsFor basis says t c) (ap (λ (n : ℕ). objects_after t n x) whole ∙ after_all t x) h.stands

@@ -31,4 +31,5 @@ Draws statuses.TooLong d old new = ⊥
 Draws (statuses.Damaged area at) d old new = ⊥
 Draws statuses.NotAStore d old new = ⊥
 Draws (statuses.UnknownOperation code) d old new = ⊥
+Draws statuses.Exists d old new = ⊥
 Draws statuses.LogEnd d old new = ⊥

@@ -15,12 +15,14 @@ abbrev pub reads_of : disk.View → Image
 reads_of v a = (v.now a).seen
 
 -- WHAT AN IMAGE SAYS of the store that it is of: how many pages and bands that has, and where its log ends. And what is asked of one that is to
--- be opened, and when an operation that it needs isn't registered, with the code that is
+-- be opened; when an operation that it needs isn't registered, with the code that is; when there is no store in it, and when one can be made
 pub record Says : Type 1 where
   pub sizes : Image → Sizes
   pub log_end : Image → ℕ
   pub asked : Operations → Image → Type 0
   pub unknown : Operations → Image → ℕ → Type 0
+  pub no_store : Image → Type 0
+  pub blank : Image → Type 0
 
 module _ (basis : Sizes → Ground) (says : Says) where
   -- AN IMAGE STANDS FOR THESE OBJECTS, as a store of the sizes that it says itself

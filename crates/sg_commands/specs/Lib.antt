@@ -2,6 +2,7 @@ pub mod Syncs
 pub mod Images
 pub mod Full
 pub mod Opening
+pub mod Making
 pub mod Statuses
 pub mod Words
 pub mod Drawing

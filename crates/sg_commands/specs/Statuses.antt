@@ -6,6 +6,8 @@ use Rattle.sg_script.specs.declared.script.RunEnd as code_end
 use Rattle.sg_script.specs.declared.script.RunEnd.TheVariants as ends
 use Rattle.sg_commands.specs.declared.opens.OpenRefused as code_refused
 use Rattle.sg_commands.specs.declared.opens.OpenRefused.TheVariants as refusals
+use Rattle.sg_commands.specs.declared.opens.InitRefused as code_init
+use Rattle.sg_commands.specs.declared.opens.InitRefused.TheVariants as inits
 use Rattle.sg_commands.specs.declared.status.Status as code_status
 use Rattle.sg_commands.specs.declared.status.Status.TheVariants as statuses
 
@@ -17,6 +19,11 @@ status_of_refusal (refusals.Damaged area at) = statuses.Damaged area at
 status_of_refusal refusals.NotAStore = statuses.NotAStore
 status_of_refusal (refusals.UnknownOperation code) = statuses.UnknownOperation code
 status_of_refusal refusals.LogEnd = statuses.LogEnd
+
+-- of a store that wasn't made
+abbrev pub status_of_making : code_init.InitRefused → code_status.Status
+status_of_making inits.DiskFault = statuses.Disk
+status_of_making inits.Exists = statuses.Exists
 
 -- of a script that ended so
 abbrev pub status_of_end : code_end.RunEnd → code_status.Status

@@ -156,6 +156,7 @@ module _ (basis : Sizes → Ground) (says : Says) where
   Tells statuses.TooLong t told old new refused = IfSome old.left (λ text. MOST_BYTES < length text)
   Tells (statuses.UnknownOperation code) t told old new refused = IsTrue told → says.unknown t (reads_of old.disk) code × StandsForNone basis says t (reads_of old.disk)
   Tells (statuses.Damaged area at) t told old new refused = IsTrue told → StandsForNone basis says t (reads_of old.disk)
+  Tells statuses.Exists t told old new refused = ⊥
   Tells statuses.LogEnd t told old new refused = IsLogSpent told old new
 
   -- nothing hinders a run: the image that reads give at entry stands for objects, the script isn't too long, no count of

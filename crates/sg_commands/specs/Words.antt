@@ -1,5 +1,5 @@
--- What the words of the program ask for, of what it does today: a run of a script, or a workload.
-use Rattle.std.specs.Prelude.{ℕ, Bool, true, false, ◌||◌, List, String, Option, Some, None, is_some}
+-- What the words of the program ask for, of what it does today: a run of a script, a new store, or a workload.
+use Rattle.std.specs.Prelude.{ℕ, Bool, true, false, not, ◌||◌, List, String, Option, Some, None, is_some}
 use Rattle.std.specs.declared.alloc.Global.{Global}
 use Rattle.sg_command.specs.Asked.{asked, texts_of}
 use Rattle.sg_command.specs.declared.words.Command.{Command}
@@ -49,6 +49,19 @@ drawn_in (Some (Gen seed count)) = Some (record { seed = seed; count = count })
 abbrev pub drawn : List (String Global) → Option Drawn
 drawn words = drawn_in (asked (texts_of words))
 
+abbrev pub asks_init : Option Command → Bool
+asks_init None = false
+asks_init (Some (Init geometry)) = not geometry
+asks_init (Some (Run stop_after)) = false
+asks_init (Some Dump) = false
+asks_init (Some Check) = false
+asks_init (Some Log) = false
+asks_init (Some (Gen seed count)) = false
+
+-- the words ask for a new store of the sizes that one has where none are given
+abbrev pub are_init : List (String Global) → Bool
+are_init words = asks_init (asked (texts_of words))
+
 -- the program does what the words ask for
 abbrev pub are_served : List (String Global) → Bool
-are_served words = are_run words || is_some (drawn words)
+are_served words = are_run words || (are_init words || is_some (drawn words))

@@ -1,5 +1,5 @@
-//! The program's commands: a run of a script over the store of a disk, whatever the engine that opens it,
-//! and a workload. Where the words say so, the disk stops after a number of calls.
+//! The program's commands: making a store on a disk, a run of a script over the store of one, whatever the
+//! engine that opens it, and a workload. Where the words say so, the disk stops after a number of calls.
 //!
 //! It stands on `sg_script`, which runs a script by a session over any page engine, on `sg_command` and
 //! `sg_workload`, which read the words and draw a workload, and on what it asks of an engine's opening
@@ -15,6 +15,6 @@ mod status;
 mod top;
 
 pub use law::done_tells_all;
-pub use opens::{OpenRefused, Opens, Unopened};
+pub use opens::{InitRefused, OpenRefused, Opens, Unopened};
 pub use status::Status;
 pub use top::{Finish, serve};

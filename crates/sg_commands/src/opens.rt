@@ -1,6 +1,7 @@
 // What the program asks of an engine's opening.
-ghost use Rattle.std.specs.Prelude.{◌≡◌, Some, IsTrue, IfOk, IfErr};
-ghost use Rattle.sg_disk.specs.Disk.{View};
+ghost use Rattle.std.specs.Prelude.{◌≡◌, Some, Ok, Err, IsTrue, IfOk, IfErr, OnOk};
+ghost use Rattle.sg_base.specs.Ends.{HasRisen};
+ghost use Rattle.sg_disk.specs.Disk.{Image, View, LeavesOnly};
 ghost use Rattle.sg_model.specs.declared.stop.Stop.{Stop};
 ghost use Rattle.sg_model.specs.declared.stop.Stop.TheVariants as stops;
 ghost use Rattle.sg_ops.specs.Table.{Table as Operations, table_of};
@@ -8,6 +9,7 @@ ghost use Rattle.sg_store.specs.Engine.{KeepsBy};
 ghost use Rattle.sg_store.specs.Heeds.{Heeds};
 ghost use Rattle.sg_store.specs.Seen.{core_of, Serves};
 ghost use Rattle.sg_commands.specs.Images.{Says, reads_of};
+ghost use Rattle.sg_commands.specs.Making.{HasOpenGate, IsBlank, IsMaking, IsNew};
 ghost use Rattle.sg_commands.specs.Opening.{IsOpened, StaysShut, IsSince};
 
 use sg_base::Area;
@@ -31,6 +33,15 @@ pub enum OpenRefused {
     UnknownOperation(u16),
     /// A record might pass the end of the log.
     LogEnd,
+}
+
+/// Why no store is made.
+#[derive(Clone, Copy, Debug, PartialEq, Eq)]
+pub enum InitRefused {
+    /// A call of the disk failed.
+    DiskFault,
+    /// There is one already.
+    Exists,
 }
 
 /// A disk whose store wasn't opened, and why.
@@ -60,8 +71,20 @@ pub trait Opens<D: Disk>: Lists {
     fn into_disk(self) -> D
         ensures { D.view result ≡ (Self.view self).disk };
 
+    /// Makes a store without objects on a disk that has none, of the sizes that one has where none are given.
+    fn init(disk: &mut D) -> Result<(), InitRefused>
+        ensures exists { IsTrue D.told → result ≡ Err InitRefused.Exists → HasOpenGate (D.view disk.old) }
+        ensures refused { IsTrue D.told → HasOpenGate (D.view disk.old) → result ≡ Ok tt → ⊥ }
+        ensures failed { result ≡ Err InitRefused.DiskFault → HasRisen (D.view disk.old).faults (D.view disk.new).faults }
+        ensures heeded { (result ≡ Err InitRefused.DiskFault → ⊥) → (D.view disk.new).faults ≡ (D.view disk.old).faults }
+        ensures moments { (t : Operations) → IsTrue D.told → IsBlank Self.basis says (D.view disk.old) → LeavesOnly (D.view disk.old) (D.view disk.new) (IsMaking Self.basis says t) }
+        ensures done { (t : Operations) → IsTrue D.told → IsBlank Self.basis says (D.view disk.old) → OnOk result (IsNew Self.basis says t (D.view disk.new)) };
+
     /// Each call that keeps what its records mean leaves it one of that store.
     ghost goes_on: { (t : Operations) (v u : View) (a b : Self) → began t v u a → KeepsBy t (Self.view a) (Self.view b) → began t v u b };
+
+    /// Where a store can be made there is none.
+    ghost bare: { (c : Image) → (says).blank c → (says).no_store c };
 
     /// What holds since the opening, of any such value.
     ghost since: { (t : Operations) (v u : View) (s : Self) → began t v u s → IsSince Self.basis says t D.told v u (Self.view s) };

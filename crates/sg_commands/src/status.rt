@@ -1,7 +1,7 @@
 ghost use Rattle.std.specs.Prelude.{◌≡◌};
-ghost use Rattle.sg_commands.specs.Statuses.{status_of_refusal, status_of_end, status_of_stop, first_fault};
+ghost use Rattle.sg_commands.specs.Statuses.{status_of_refusal, status_of_making, status_of_end, status_of_stop, first_fault};
 
-use crate::opens::OpenRefused;
+use crate::opens::{InitRefused, OpenRefused};
 use sg_base::Area;
 use sg_model::Stop;
 use sg_script::RunEnd;
@@ -29,6 +29,8 @@ pub enum Status {
     UnknownOperation(u16),
     /// What stands at this offset of the area isn't a store's.
     Damaged(Area, u64),
+    /// There is a store already.
+    Exists,
     /// The log had no room.
     LogEnd,
 }
@@ -44,6 +46,16 @@ pub fn status_of_refusal(why: OpenRefused) -> Status
         OpenRefused::NotAStore => Status::NotAStore,
         OpenRefused::UnknownOperation(code) => Status::UnknownOperation(code),
         OpenRefused::LogEnd => Status::LogEnd,
+    }
+}
+
+/// That of a store that wasn't made.
+pub fn status_of_making(why: InitRefused) -> Status
+    ensures { result ≡ status_of_making why }
+{
+    match why {
+        InitRefused::DiskFault => Status::Disk,
+        InitRefused::Exists => Status::Exists,
     }
 }
 

@@ -4,12 +4,15 @@ ghost use Rattle.sg_ops.specs.Table.{table_of};
 ghost use Rattle.sg_session.specs.Names.{all_live};
 ghost use Rattle.sg_script.specs.Ending.{MOST_OF_PIECE};
 ghost use Rattle.sg_commands.specs.Images.{reads_of};
-ghost use Rattle.sg_commands.specs.Words.{are_run, are_served, drawn, stop_after};
+ghost use Rattle.sg_commands.specs.Words.{are_run, are_init, are_served, drawn, stop_after};
+ghost use Rattle.sg_commands.specs.Making.{Makes};
 ghost use Rattle.sg_commands.specs.Drawing.{Draws, sunk};
 ghost use Rattle.sg_commands.specs.Top.{outside, HasGone, Account};
 
 use crate::opens::{Opens, Unopened};
-use crate::status::{Status, first_fault, status_of_end, status_of_refusal, status_of_stop};
+use crate::status::{
+    Status, first_fault, status_of_end, status_of_making, status_of_refusal, status_of_stop,
+};
 use sg_base::{OutOfMemory, Sink, Source};
 use sg_command::{Command, WordsError, read_command};
 use sg_disk::{Disk, Fuse, Origin};
@@ -120,6 +123,29 @@ fn run_behind_fuse<D: Disk, S: Source, K: Sink, O: Origin, E: Opens<Fuse<D, O>>>
     finished(status, engine.into_disk())
 }
 
+// Makes a store on the disk, which makes so many calls at most where a number is given.
+fn init_behind_fuse<D: Disk, O: Origin, E: Opens<Fuse<D, O>>>(
+    disk: D,
+    calls: Option<u64>,
+) -> Finish<D>
+    requires known { IsTrue O.known }
+    requires passes { O.passes ≡ calls }
+    requires began { O.calls ≡ (D.view disk).calls }
+    requires faults { O.faults ≡ (D.view disk).faults }
+    ensures makes { Makes E.basis E.says result.status D.told (D.view disk) (D.view result.disk) result.refused }
+    ensures heeded { (result.status ≡ Status.Disk → ⊥) → ((D.view result.disk).faults ≡ (D.view disk).faults) × (result.refused ≡ 0) }
+    ensures spent { Spent calls (D.view disk).calls (D.view result.disk).calls result.refused }
+{
+    let mut fuse = Fuse::<D, O>::marked(disk, calls);
+    match E::init(&mut fuse) {
+        Ok(()) => finished(Status::Done, fuse),
+        Err(why) => {
+            let status = status_of_making(why);
+            finished(status, fuse)
+        }
+    }
+}
+
 // Writes a workload, and says how that ended.
 fn draw_workload<K: Sink>(seed: u64, count: u32, out: &mut K) -> Status
     ensures draws { Draws result (record { seed = seed; count = count }) (sunk (K.taken out.old) (K.faults out.old)) (sunk (K.taken out.new) (K.faults out.new)) }
@@ -145,7 +171,8 @@ fn ended_beside<D: Disk>(status: Status, disk: D) -> Finish<D>
 /// which names the disk, runs the script with these operations over the store that the disk has, up to 64
 /// of whose transactions are live at a time. The replies go to the sink. With `--stop-after` and a number
 /// beside these the disk makes so many more calls at most: each later one fails, and doesn't touch
-/// it. `gen`, a seed and a count write a workload to the sink, and make no call of the disk or the source.
+/// it. `init` and a folder make a store there of the sizes that one has where none are given, and read no
+/// script. `gen`, a seed and a count write a workload to the sink, and make no call of the disk or the source.
 /// Other words are `Status::Usage`, and touch nothing; words take memory to be read. A run ends with its
 /// first fault, but for one of the disk: behind that each line is still answered.
 ///
@@ -165,12 +192,17 @@ pub fn serve<D: Disk, S: Source, K: Sink, O: Origin, E: Opens<Fuse<D, O>>>(
     requires asked { IsTrue D.told → E.says.asked (table_of record_meaning range_meaning ops) (reads_of (D.view disk)) }
     ensures usage { result.status ≡ Status.Usage → are_served words.now ≡ false }
     ensures unused { are_served words.now ≡ false → ((result.status ≡ Status.Usage) ⊎ (result.status ≡ Status.Memory)) × (out.new ≡ out.old) }
-    ensures apart { are_run words.now ≡ false → (result.disk ≡ disk) × (result.refused ≡ 0) × (script.new ≡ script.old) }
+    ensures apart { are_run words.now ≡ false → script.new ≡ script.old }
+    ensures beside { are_run words.now ≡ false → are_init words.now ≡ false → (result.disk ≡ disk) × (result.refused ≡ 0) }
 
     // The headline: one course of the run, its replies, what a crash leaves of it, the cause of its status, and that it is
     // done where nothing hinders it.
     ensures run { are_run words.now ≡ true → Account E.basis E.says (table_of record_meaning range_meaning ops) D.told (outside (D.view disk) (S.left script.old) (S.faults script.old) (K.taken out.old) (K.faults out.old))
         (outside (D.view result.disk) (S.left script.new) (S.faults script.new) (K.taken out.new) (K.faults out.new)) result.refused result.status }
+
+    // A new store: what its status tells, and what a crash leaves at each moment.
+    ensures made { are_init words.now ≡ true → Makes E.basis E.says result.status D.told (D.view disk) (D.view result.disk) result.refused }
+    ensures mute { are_init words.now ≡ true → out.new ≡ out.old }
 
     // A workload: what the sink took of it, by its status.
     ensures drawn { IfSome (drawn words.now) (λ d. Draws result.status d (sunk (K.taken out.old) (K.faults out.old)) (sunk (K.taken out.new) (K.faults out.new))) }
@@ -185,6 +217,7 @@ pub fn serve<D: Disk, S: Source, K: Sink, O: Origin, E: Opens<Fuse<D, O>>>(
         Ok(Command::Run { stop_after }) => {
             run_behind_fuse::<D, S, K, O, E>(alloc, &ops, disk, stop_after, script, out)
         }
+        Ok(Command::Init { geometry: false }) => init_behind_fuse::<D, O, E>(disk, None),
         Ok(Command::Gen { seed, count }) => {
             let status = draw_workload(seed, count, out);
             ended_beside(status, disk)

@@ -32,10 +32,10 @@ among_losers : (t : ℕ) (rs : Steps) (ts : List ℕ) → is_among t (map (with_
 among_losers t rs [] = refl
 among_losers t rs (u ∷ ts) = ap (λ b. u == t || b) (among_losers t rs ts)
 
-is_loser : (t : ℕ) (rs : Steps) → is_among t (map (with_last rs) (going_on rs)) ≡ is_in t (tally rs).live
+pub is_loser : (t : ℕ) (rs : Steps) → is_among t (map (with_last rs) (going_on rs)) ≡ is_in t (tally rs).live
 is_loser t rs = among_losers t rs (going_on rs) ∙ is_in-oldest_first t (tally rs).live
 
-number_in : (n : ℕ) (ns : List ℕ) → is_number n ns ≡ is_in n ns
+pub number_in : (n : ℕ) (ns : List ℕ) → is_number n ns ≡ is_in n ns
 number_in n [] = refl
 number_in n (m ∷ ns) = ap (λ b. m == n || b) (number_in n ns)
 

@@ -80,7 +80,7 @@ impl<D: Disk> Engine for Phys<D> {
         }
         match log_without(&mut self.engine, self.alloc, r, &mut self.tried) {
             Ok(lsn) => {
-                self.end = self.engine.tail();
+                self.end = self.engine.tail().max(1);
                 self.records += 1;
                 Ok(lsn)
             }
@@ -105,7 +105,7 @@ impl<D: Disk> Engine for Phys<D> {
         }
         match log_record(&mut self.engine, ops, r, &mut self.tried) {
             Ok(lsn) => {
-                self.end = self.engine.tail();
+                self.end = self.engine.tail().max(1);
                 self.records += 1;
                 Ok(lsn)
             }
@@ -124,7 +124,7 @@ impl<D: Disk> Engine for Phys<D> {
         }
         match self.engine.force() {
             Ok(()) => {
-                self.end = self.engine.tail();
+                self.end = self.engine.tail().max(1);
                 Ok(())
             }
             Err(_) => {
@@ -142,7 +142,7 @@ impl<D: Disk> Engine for Phys<D> {
         }
         match self.engine.flush() {
             Ok(()) => {
-                self.end = self.engine.tail();
+                self.end = self.engine.tail().max(1);
                 Ok(())
             }
             Err(_) => {
@@ -184,7 +184,7 @@ impl<D: Disk> Engine for Phys<D> {
             self.breaks = self.breaks.saturating_add(1);
             return Err(SpaceFault::Disk);
         }
-        self.end = self.engine.tail();
+        self.end = self.engine.tail().max(1);
         Ok(())
     }
 
@@ -204,7 +204,7 @@ impl<D: Disk> Engine for Phys<D> {
         }
         match self.engine.load_band(b) {
             Ok(()) => {
-                self.end = self.engine.tail();
+                self.end = self.engine.tail().max(1);
                 Ok(())
             }
             Err(_) => {
@@ -226,7 +226,7 @@ impl<D: Disk> Engine for Phys<D> {
         }
         match self.engine.read(at, into) {
             Ok(size) => {
-                self.end = self.engine.tail();
+                self.end = self.engine.tail().max(1);
                 Ok(size)
             }
             Err(_) => {

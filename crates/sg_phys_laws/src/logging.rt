@@ -1,5 +1,5 @@
 // Records that are logged where what the pages say allows it.
-ghost use Rattle.std.specs.Prelude.{◌≡◌, ◌<◌, ◌≤◌, ◌+◌, ◌++◌, ℕ, List, length, Some, None, Err, IfOk, OnOk, IsTrue, option_map};
+ghost use Rattle.std.specs.Prelude.{◌≡◌, ◌<◌, ◌≤◌, ◌+◌, ◌++◌, ℕ, max, List, length, Some, None, Err, IfOk, OnOk, IsTrue, option_map};
 ghost use Rattle.sg_base.specs.Op.{op_of};
 ghost use Rattle.sg_base.specs.declared.page.TheConstants.{BAND_SIZE};
 ghost use Rattle.sg_log.specs.Frames.{Numbered, LOG_END};
@@ -65,7 +65,7 @@ pub fn log_plain<D: Disk>(
 ) -> Result<Lsn, EngineFault>
     requires range { IsRecord (shown r.now) }
     requires says { changed_by (shown r.now).says ≡ None }
-    ensures above { tail_of engine.old.log ≤ tried.new }
+    ensures above { max (tail_of engine.old.log) 1 ≤ tried.new }
     ensures number { IfOk result (λ lsn. lsn ≡ tried.new) }
     ensures below { OnOk result (tried.new < tail_of engine.new.log) }
     ensures grown { OnOk result (tail_of engine.new.log ≤ tail_of engine.old.log + (5 + length (spelled (shown r.now)))) }
@@ -94,7 +94,7 @@ fn log_to_page<D: Disk>(
 ) -> Result<Lsn, EngineFault>
     requires range { IsRecord (shown r.now) }
     requires says { SaysPage (shown r.now) p.0 (op_of op.now) }
-    ensures above { tail_of engine.old.log ≤ tried.new }
+    ensures above { max (tail_of engine.old.log) 1 ≤ tried.new }
     ensures number { IfOk result (λ lsn. lsn ≡ tried.new) }
     ensures below { OnOk result (tried.new < tail_of engine.new.log) }
     ensures grown { OnOk result (tail_of engine.new.log ≤ tail_of engine.old.log + (5 + length (spelled (shown r.now)))) }
@@ -131,7 +131,7 @@ fn log_page<D: Disk>(
 ) -> Result<Lsn, EngineFault>
     requires range { IsRecord (shown r.now) }
     requires says { changed_by (shown r.now).says ≡ Some (Page (shown_page change.now)) }
-    ensures above { tail_of engine.old.log ≤ tried.new }
+    ensures above { max (tail_of engine.old.log) 1 ≤ tried.new }
     ensures number { IfOk result (λ lsn. lsn ≡ tried.new) }
     ensures below { OnOk result (tried.new < tail_of engine.new.log) }
     ensures grown { OnOk result (tail_of engine.new.log ≤ tail_of engine.old.log + (5 + length (spelled (shown r.now)))) }
@@ -158,7 +158,7 @@ fn log_to_band<D: Disk>(
 ) -> Result<Lsn, EngineFault>
     requires range { IsRecord (shown r.now) }
     requires fits { at + length bytes.now ≤ BAND_SIZE }
-    ensures above { tail_of engine.old.log ≤ tried.new }
+    ensures above { max (tail_of engine.old.log) 1 ≤ tried.new }
     ensures number { IfOk result (λ lsn. lsn ≡ tried.new) }
     ensures below { OnOk result (tried.new < tail_of engine.new.log) }
     ensures grown { OnOk result (tail_of engine.new.log ≤ tail_of engine.old.log + (5 + length (spelled (shown r.now)))) }
@@ -186,7 +186,7 @@ fn log_bytes<D: Disk>(
 ) -> Result<Lsn, EngineFault>
     requires range { IsRecord (shown r.now) }
     requires says { changed_by (shown r.now).says ≡ Some (SegWrite (shown_bytes change.now)) }
-    ensures above { tail_of engine.old.log ≤ tried.new }
+    ensures above { max (tail_of engine.old.log) 1 ≤ tried.new }
     ensures number { IfOk result (λ lsn. lsn ≡ tried.new) }
     ensures below { OnOk result (tried.new < tail_of engine.new.log) }
     ensures grown { OnOk result (tail_of engine.new.log ≤ tail_of engine.old.log + (5 + length (spelled (shown r.now)))) }
@@ -211,7 +211,7 @@ fn log_op<D: Disk>(
 ) -> Result<Lsn, EngineFault>
     requires range { IsRecord (shown r.now) }
     requires says { changed_by (shown r.now).says ≡ Some (SegOp (shown_op change.now)) }
-    ensures above { tail_of engine.old.log ≤ tried.new }
+    ensures above { max (tail_of engine.old.log) 1 ≤ tried.new }
     ensures number { IfOk result (λ lsn. lsn ≡ tried.new) }
     ensures below { OnOk result (tried.new < tail_of engine.new.log) }
     ensures grown { OnOk result (tail_of engine.new.log ≤ tail_of engine.old.log + (5 + length (spelled (shown r.now)))) }
@@ -243,7 +243,7 @@ pub fn log_record<D: Disk>(
     tried: &mut Lsn,
 ) -> Result<Lsn, EngineFault>
     requires range { IsRecord (shown r.now) }
-    ensures above { tail_of engine.old.log ≤ tried.new }
+    ensures above { max (tail_of engine.old.log) 1 ≤ tried.new }
     ensures number { IfOk result (λ lsn. lsn ≡ tried.new) }
     ensures below { OnOk result (tried.new < tail_of engine.new.log) }
     ensures grown { OnOk result (tail_of engine.new.log ≤ tail_of engine.old.log + (5 + length (spelled (shown r.now)))) }
@@ -273,7 +273,7 @@ pub fn log_without<D: Disk>(
     tried: &mut Lsn,
 ) -> Result<Lsn, EngineFault>
     requires range { IsRecord (shown r.now) }
-    ensures above { tail_of engine.old.log ≤ tried.new }
+    ensures above { max (tail_of engine.old.log) 1 ≤ tried.new }
     ensures number { IfOk result (λ lsn. lsn ≡ tried.new) }
     ensures below { OnOk result (tried.new < tail_of engine.new.log) }
     ensures grown { OnOk result (tail_of engine.new.log ≤ tail_of engine.old.log + (5 + length (spelled (shown r.now)))) }
