@@ -74,7 +74,7 @@ means_with a b t z from e m l p u r c o s h =
       pages = q.pages;
       bands = q.bands;
       limits = q.limits;
-      keeps = λ told. let k = q.keeps told in record { kept = k.kept; rest = k.rest; rows = k.rows; begin = k.begin; now = k.now; counted = k.counted; map = k.map };
+      keeps = λ told. let k = q.keeps told in record { kept = k.kept; rest = k.rest; fresh = k.fresh; rows = k.rows; begin = k.begin; now = k.now; counted = k.counted; map = k.map };
     }
 
 -- A RECORD THAT ENDS WHAT WAS OPEN leaves nobody acting
