@@ -185,7 +185,7 @@ pub record EngineRests {T : Type 0} (old new : EngineSeen) (result : Result T Sp
   pub tail : new.tail ≡ old.tail
 
 -- A CALL THAT APPENDS A RECORD, on any engine: the log grows by its bytes, and by the head of a frame at most; where it fails nothing is
--- counted
+-- counted. It is refused for the log's end only where the record would end behind that, and none that is appended does
 pub record EngineGrows (old new : EngineSeen) (r : Record) (result : Result ℕ SpaceFault) : Type 0 where
   pub counts : EngineCounts old new result
   pub few : new.records ≤ old.records + 1
@@ -194,6 +194,8 @@ pub record EngineGrows (old new : EngineSeen) (r : Record) (result : Result ℕ 
   pub back : OnErr result (new.tail ≡ old.tail)
   pub grown : new.tail ≤ old.tail + (5 + length (spelled r))
   pub placed : IfOk result (IsPlaced old new)
+  pub within : OnOk result (new.tried + length (spelled r) ≤ LOG_END)
+  pub past : IfErr result (λ e. e ≡ LogEnd → LOG_END < new.tried + length (spelled r))
 
 -- each image of each moment from the first on has a front of these steps, with all that were durable at first
 abbrev pub Moments : Recovering → Table → (old new : EngineView) → Steps → Type 0

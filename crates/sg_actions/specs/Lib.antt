@@ -2,6 +2,7 @@ pub mod Changes
 pub mod Steps
 pub mod Images
 pub mod Engine
+pub mod Handing
 pub mod Led
 pub mod Taken
 pub mod Rows

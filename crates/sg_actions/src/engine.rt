@@ -4,10 +4,12 @@ ghost use Rattle.sg_ops.specs.Laws.{IsLawful};
 ghost use Rattle.sg_ops.specs.Table.{Table, table_of};
 ghost use Rattle.sg_record.specs.Ranges.{IsRecord};
 ghost use Rattle.sg_actions.specs.Painting.{AreBandsWhole};
+ghost use Rattle.sg_record.specs.Records.{spelled};
 ghost use Rattle.sg_record.specs.Records.Says.{Begin, Checkpoint};
 ghost use Rattle.sg_record.specs.Shown.{shown, by};
 ghost use Rattle.sg_action.specs.States.{State};
 ghost use Rattle.sg_actions.specs.Images.{Grows, Recovering};
+ghost use Rattle.sg_actions.specs.Handing.{makes_change, HandsOver};
 ghost use Rattle.sg_actions.specs.Engine.{EngineSeen, led, Keeps, AreBy, EngineGrows, EngineRests, CanLog, Logs, EngineLooks, IsForced, StandsNow, CanLookAt, LookedAt, LookedAtBand, HasStep, ReadsStep, ArePagesFit, now_of};
 
 use sg_base::{BAND_SIZE, BandNo, Lsn, PageNo, SlotView};
@@ -46,6 +48,9 @@ pub trait Engine {
     /// The number of the first byte that the log still has.
     ghost first_byte: { Self → ℕ };
 
+    /// How many bytes wait at the log's end to be handed to the disk: records, and the head of their frame.
+    ghost waiting: { Self → ℕ };
+
     /// No record from now on has a number below this.
     fn tail(&self) -> Lsn
         ensures { result ≡ (view self.now).tail };
@@ -66,6 +71,7 @@ pub trait Engine {
         ensures grows { EngineGrows (view self.old) (view self.new) (shown r.now) result }
         ensures means { Keeps (means self.old) (means self.new) }
         ensures logs { (t : Table) (from : State) → means self.old t from → Logs (recovers t) t (led from (view self.old)) (led from (view self.new)) (shown r.now) result }
+        ensures hands { makes_change (shown r.now).says ≡ false → HandsOver (length (spelled (shown r.now))) (view self.old).disk.handed (waiting self.old) (view self.new).disk.handed (waiting self.new) result }
         ensures number { (shown r.now).says ≡ Begin → IfOk result (λ lsn. lsn ≡ (view self.old).next Begin) }
         ensures tried { (shown r.now).says ≡ Begin → (view self.old).Told → (view self.new).tried ≡ (view self.old).next Begin };
 
@@ -81,6 +87,8 @@ pub trait Engine {
     /// Makes all records durable.
     fn force(&mut self) -> Result<(), SpaceFault>
         ensures rests { EngineRests (view self.old) (view self.new) result }
+        ensures hands { HandsOver 0 (view self.old).disk.handed (waiting self.old) (view self.new).disk.handed (waiting self.new) result }
+        ensures none_waits { OnOk result (waiting self.new ≡ 0) }
         ensures means { Keeps (means self.old) (means self.new) }
         ensures looks { (t : Table) (from : State) → means self.old t from → EngineLooks (recovers t) t (led from (view self.old)) (led from (view self.new)) result }
         ensures forced { (t : Table) (from : State) → means self.old t from → OnOk result (IsForced (view self.new)) };

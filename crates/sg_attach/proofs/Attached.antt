@@ -1,13 +1,15 @@
 -- What an opening leaves.
-use Rattle.std.proofs.Common.{◌≡◌, ◌≤◌, ℕ, Bool, true, false, IsTrue, List, [], ◌++◌, refl, ap, ◌∙◌}
+use Rattle.std.proofs.Common.{◌≡◌, ◌≤◌, ℕ, max, Bool, true, false, IsTrue, List, [], ◌++◌, None, refl, sym, ap, ◌∙◌}
+use Rattle.std.proofs.Props.{props}
 use mathlib.Core.Logic.{∥∥₁_elim, ∥∥₁_prop}
 use Rattle.sg_disk.specs.Disk.{Image, View, Leaves, LeavesOnly}
 use Rattle.sg_log.specs.Frames.{Numbered}
-use Rattle.sg_log.specs.Held.{Tail}
+use Rattle.sg_log.specs.Held.{Tail, tail_of}
 use Rattle.sg_ops.specs.Laws.{IsLawful}
 use Rattle.sg_ops.specs.Table.{Table}
 use Rattle.sg_pool.specs.declared.pool.Pool.{Pool}
 use Rattle.sg_record.specs.Records.{Record}
+use Rattle.sg_recovery.specs.Chains.{next_lsn}
 use Rattle.sg_action.specs.States.{State}
 use Rattle.sg_engine.specs.Effects.{effect_in}
 use Rattle.sg_engine.specs.Engine.{Origin}
@@ -25,7 +27,8 @@ use Rattle.sg_phys_laws.proofs.Reading.{held_are}
 use Rattle.sg_phys_laws.proofs.Sets.{steps_set}
 use Rattle.sg_phys_laws.proofs.Wrapped.{all_are, append_none}
 use Rattle.sg_phys.specs.Phys.{Stands, StandsForSome}
-use Rattle.sg_attach.specs.Attached.{IsStoreImage, IsLeftOrStoreImage}
+use Rattle.sg_attach.specs.Attached.{IsStoreImage, IsSomeStoreImage, IsLeftOrStoreImage}
+use Rattle.sg_attach.proofs.Analysed.{log_below}
 use Rattle.sg_attach.proofs.Opens.{sound_opens, point_below, image_is_said, opens_poised, attach_either}
 
 -- an origin's records do what these operations say
@@ -36,6 +39,17 @@ DoesBy t o = (lsn : ℕ) (x : Record) → o.effect lsn x ≡ effect_in t lsn x
 told_known : (told : Bool) (P : Type 0) → (IsTrue told → ∥ P ∥₁) → ∥ (IsTrue told → P) ∥₁
 told_known true P has = ∥∥₁_elim (has refl) ∥∥₁_prop (λ p. ∣ (λ told. p) ∣₁)
 told_known false P has = ∣ (λ told. (let bad : ⊥ = cc in absurd bad)) ∣₁
+
+pub nat_set : IsSet ℕ
+nat_set = hlevel props
+
+pub below_prop : (a b : ℕ) → IsProp (a ≤ b)
+below_prop a b = hlevel props
+
+-- where nothing is told any pages will do
+some_or : (told : Bool) (P : State → Type 0) → (IsTrue told → ∥ ((from : State) × P from) ∥₁) → ((from : State) → told ≡ false → P from) → ∥ ((from : State) × P from) ∥₁
+some_or true P has other = has refl
+some_or false P has other = ∣ (record { pages = λ n. None; bands = λ b. [] }, other (record { pages = λ n. None; bands = λ b. [] }) refl) ∣₁
 
 -- WHAT OPENING PROMISES of a disk that tells
 module _ (told : Bool) (t : Table) (v w : View) (log : Tail) (pool : Pool)
@@ -51,16 +65,23 @@ module _ (told : Bool) (t : Table) (v w : View) (log : Tail) (pool : Pool)
 
   -- it holds the steps that the image held
   pub attach_steps : (from : State) (durable all : Steps) → IsTrue told → IsStoreImage t from durable all (reads v) → steps_of (durable_in w log ++ waiting_in log) ≡ steps_of ns
-  attach_steps from durable all is m = ∥∥₁_elim m.recovers.sound (steps_set (steps_of (durable_in w log ++ waiting_in log)) (steps_of ns)) (λ s.
+  attach_steps from durable all is m = ∥∥₁_elim m.recovers.holds.sound (steps_set (steps_of (durable_in w log ++ waiting_in log)) (steps_of ns)) (λ s.
       ap steps_of (all_are o w log ns [] pool (engine_of is s) ∙ append_none ns))
 
+  pub attach_base : (from : State) (durable all : Steps) → IsTrue told → IsStoreImage t from durable all (reads v) → o.super.base ≡ log.base
+  attach_base from durable all is m = ∥∥₁_elim m.recovers.holds.sound (nat_set o.super.base log.base) (λ s. sym (engine_of is s).engine.place.base)
+
+  -- which ends below its tail
+  pub attach_below : (from : State) (durable all : Steps) → IsTrue told → IsStoreImage t from durable all (reads v) → next_lsn (steps_of ns) ≤ max (tail_of log) 1
+  attach_below from durable all is m = ∥∥₁_elim m.recovers.holds.sound (below_prop (next_lsn (steps_of ns)) (max (tail_of log) 1)) (λ s. log_below o w log ns pool (engine_of is s))
+
   pub attach_durable : (from : State) (durable all : Steps) → IsTrue told → IsStoreImage t from durable all (reads v) → steps_of (durable_in w log) ≡ steps_of ns
-  attach_durable from durable all is m = ∥∥₁_elim m.recovers.sound (steps_set (steps_of (durable_in w log)) (steps_of ns)) (λ s.
+  attach_durable from durable all is m = ∥∥₁_elim m.recovers.holds.sound (steps_set (steps_of (durable_in w log)) (steps_of ns)) (λ s.
       ap steps_of (held_are w log ns [] (engine_of is s).engine.held).0)
 
   module _ (allowed : (q : Origin) (tail : ℕ) (ds : List Numbered) → IsTrue told → DoesBy t q → Opens q tail ds v → redo_point q.super.base ds ≤ tail → IsAllowed q w log pool (redo_point q.super.base ds)) (lawful : IsLawful t) where
     poised : (from : State) (durable all : Steps) → IsTrue told → IsStoreImage t from durable all (reads v) → ∥ IsPoised t from o w log pool ∥₁
-    poised from durable all is m = ∥∥₁_elim m.recovers.sound ∥∥₁_prop (λ s.
+    poised from durable all is m = ∥∥₁_elim m.recovers.holds.sound ∥∥₁_prop (λ s.
         ∣ opens_poised t from (reads v) w log pool s.low (image_is_said t from durable all (reads v) m) (engine_of is s)
         (allowed o s.tail ns is (λ lsn x. refl) (sound_opens t v s) (point_below t (point_in o (reads v)) ns (reads v) s)) ∣₁)
 
@@ -71,8 +92,15 @@ module _ (told : Bool) (t : Table) (v w : View) (log : Tail) (pool : Pool)
       known = ∥∥₁_elim (told_known told (IsPoised t from o w log pool) (λ is. poised from durable all is (known is))) ∥∥₁_prop (λ k. ∣ (λ whole tells. k tells) ∣₁);
     }
 
-    pub attach_some : ∥ ((from : State) × (durable : Steps) × (all : Steps) × (IsTrue told → IsStoreImage t from durable all (reads v))) ∥₁ → StandsForSome told false v w log pool
-    attach_some known = ∥∥₁_elim known ∥∥₁_prop (λ k. ∣ (t, k.0, attach_stands false k.0 k.1 k.2 k.3) ∣₁)
+    -- whatever it stands for where nothing is told
+    pub attach_untold : (failed : Bool) (from : State) → told ≡ false → Stands told failed v w log pool t from
+    attach_untold failed from untold = record { lawful = lawful; known = ∣ (λ whole tells. absurd (let bad : true ≡ false = sym tells ∙ untold in cc)) ∣₁ }
+
+    pub attach_some : (IsTrue told → IsSomeStoreImage t (reads v)) → StandsForSome told false v w log pool
+    attach_some known = ∥∥₁_elim (some_or told (λ from. Stands told false v w log pool t from)
+        (λ is. ∥∥₁_elim (known is) ∥∥₁_prop (λ k. ∣ (k.0, attach_stands false k.0 k.1 k.2 (λ told'. k.3)) ∣₁))
+        (λ from untold. attach_untold false from untold))
+        ∥∥₁_prop (λ k. ∣ (t, k.0, k.1) ∣₁)
 
 -- the moments
 pub attach_moments : (t : Table) (from : State) (durable log : Steps) (v w : View) → IsStoreImage t from durable log (reads v)
@@ -84,4 +112,4 @@ attach_moments t from durable log v w m opening =
 pub attach_refused : (told : Bool) (t : Table) (from : State) (durable log : Steps) (v w : View) (fault : OpenFault) → IsStoreImage t from durable log (reads v)
     → ((q : Origin) (tail : ℕ) (ds : List Numbered) → DoesBy t q → Opens q tail ds v → StoreRefused told t q ds v w fault) → ∥ StoreRefused told t (origin_of t (reads v)) (records_in (origin_of t (reads v)) (reads v)) v w fault ∥₁
 attach_refused told t from durable log v w fault m refused =
-    ∥∥₁_elim m.recovers.sound ∥∥₁_prop (λ s. ∣ refused (origin_of t (reads v)) s.tail (records_in (origin_of t (reads v)) (reads v)) (λ lsn x. refl) (sound_opens t v s) ∣₁)
+    ∥∥₁_elim m.recovers.holds.sound ∥∥₁_prop (λ s. ∣ refused (origin_of t (reads v)) s.tail (records_in (origin_of t (reads v)) (reads v)) (λ lsn x. refl) (sound_opens t v s) ∣₁)

@@ -67,11 +67,11 @@ image_said t from durable log c m s =
     cut_same o.super (state_of (made (entries o ns) (image_home o c))) (state_of (repeated_from (point_in o c) (entries o ns) (image_home o c)))
     (λ n lt. sym (ap leaf_of (same.pages n lt)))
     (λ b lt. same-listed BAND_SIZE ((made (entries o ns) (image_home o c)).byte b) ((repeated_from (point_in o c) (entries o ns) (image_home o c)).byte b) (λ i small. sym (same.bytes b i lt small)))
-    ∙ (sym m.recovers.state ∙ ap (λ (rs : Steps). repeated t from rs) m.recovers.records)
+    ∙ (sym m.recovers.holds.state ∙ ap (λ (rs : Steps). repeated t from rs) m.recovers.holds.records)
 
 -- that needs no more than the image
 pub image_is_said : (t : Table) (from : State) (durable log : Steps) (c : Image) → IsStoreImage t from durable log c → AreSaid t from (origin_of t c) (records_in (origin_of t c) c)
-image_is_said t from durable log c m = ∥∥₁_elim m.recovers.sound (state_set _ _) (λ s. image_said t from durable log c m s)
+image_is_said t from durable log c m = ∥∥₁_elim m.recovers.holds.sound (state_set _ _) (λ s. image_said t from durable log c m s)
 
 -- it stands over its own home area
 unfoldable stands_there : (t : Table) (k : ℕ) (ns : List Numbered) (c : Image) → IsSoundImage (origin_of t c) k ns c → IsStanding (origin_of t c) ns ns k c
@@ -121,7 +121,7 @@ stands_found o rs c low s = own_of o rs rs c (own_point o rs c (marks_seen (λ k
 image_between : (t : Table) (from : State) (durable log : Steps) (c d : Image) → (m : IsStoreImage t from durable log c) → IsStoreImage t from (steps_of (records_in (origin_of t c) c)) (steps_of (records_in (origin_of t c) c)) d → IsStoreImage t from durable log d
 image_between t from durable log c d m n =
     let rs : Steps = steps_of (records_in (origin_of t c) c) in
-    let same : m.front ≡ rs = m.recovers.records in
+    let same : m.front ≡ rs = m.recovers.holds.records in
     let in_log : Grows rs log = subst (λ (l : Steps). Grows l log) same m.is_front.within in
     let has : Grows durable rs = subst (Grows durable) same m.is_front.whole in
     record {
@@ -148,15 +148,15 @@ opening_either t from durable log v w m s = ⊎_elim
 -- a truncated fact of an image is one
 store_image_fix : (t : Table) (from : State) (durable log : Steps) (c : Image) → ∥ IsStoreImage t from durable log c ∥₁ → IsStoreImage t from durable log c
 store_image_fix t from durable log c h =
-    let m : IsImageOf (Recovers (origin_of t c)) t from durable log c = image_fix (origin_of t c) t from durable log c (∥∥₁_elim h ∥∥₁_prop (λ n. ∣ record { front = n.front; is_front = n.is_front; recovers = n.recovers } ∣₁)) in
-    record { front = m.front; is_front = m.is_front; recovers = m.recovers }
+    let m : IsImageOf (Recovers (origin_of t c)) t from durable log c = image_fix (origin_of t c) t from durable log c (∥∥₁_elim h ∥∥₁_prop (λ n. ∣ record { front = n.front; is_front = n.is_front; recovers = n.recovers.holds } ∣₁)) in
+    record { front = m.front; is_front = m.is_front; recovers = record { holds = m.recovers; leads = (from, refl) } }
 
 -- EACH IMAGE OF EACH MOMENT of opening could have been left before, or is one of the store;
 pub attach_either : (t : Table) (from : State) (durable log : Steps) (v w : View) → IsStoreImage t from durable log (reads v)
     → ((s : IsSoundImage (origin_of t (reads v)) (point_in (origin_of t (reads v)) (reads v)) (records_in (origin_of t (reads v)) (reads v)) (reads v)) → AreOpening (origin_of t (reads v)) (records_in (origin_of t (reads v)) (reads v)) v w) → LeavesOnly v w (IsLeftOrStoreImage v.now t from durable log)
 attach_either t from durable log v w m opens =
     leaves_fix v w (IsLeftOrStoreImage v.now t from durable log) (λ c h. ∥∥₁_elim h ∥∥₁_prop (λ x. x))
-    (∥∥₁_elim m.recovers.sound ∥∥₁_prop (λ s. ∣ opening_either t from durable log v w m s (opens s) ∣₁))
+    (∥∥₁_elim m.recovers.holds.sound ∥∥₁_prop (λ s. ∣ opening_either t from durable log v w m s (opens s) ∣₁))
 
 -- so it is one of the store where each that could have been left before was
 pub either_images : (t : Table) (from : State) (durable log : Steps) (v w : View) → ((c : Image) → Leaves v.now c → IsStoreImage t from durable log c) → LeavesOnly v w (IsLeftOrStoreImage v.now t from durable log) → LeavesOnly v w (IsStoreImage t from durable log)

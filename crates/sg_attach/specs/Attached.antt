@@ -1,8 +1,10 @@
 -- What is known of each image of a store, in each of its lives.
-use Rattle.std.specs.Prelude.{◌⊎◌}
+use Rattle.std.specs.Prelude.{◌⊎◌, ℕ, Option, option_map}
+use Rattle.std.specs.List.{find}
 use Rattle.sg_disk.specs.Disk as disk
 use Rattle.sg_disk.specs.Disk.{Image, Leaves}
 use Rattle.sg_ops.specs.Table.{Table}
+use Rattle.sg_analysis.specs.Analysis.{acting, lacks_end, with_last}
 use Rattle.sg_action.specs.States.{State}
 use Rattle.sg_actions.specs.Images.{IsImageOf}
 use Rattle.sg_actions.specs.Steps.{Steps}
@@ -13,6 +15,14 @@ use Rattle.sg_phys_laws.specs.Recovers.{RecoversBy}
 abbrev pub IsStoreImage : Table → (from : State) → (durable log : Steps) → Image → Type 0
 IsStoreImage t from durable log c = IsImageOf (RecoversBy t) t from durable log c
 
+-- and one of some such store
+abbrev pub IsSomeStoreImage : Table → Image → Type 0
+IsSomeStoreImage t c = ∥ ((from : State) × (durable : Steps) × (log : Steps) × IsStoreImage t from durable log c) ∥₁
+
 -- WHILE IT IS OPENED, an image that a crash leaves is one that it could have left before, or one of that store
 abbrev pub IsLeftOrStoreImage : disk.State → Table → (from : State) → (durable log : Steps) → Image → Type 0
 IsLeftOrStoreImage s t from durable log c = ∥ (Leaves s c ⊎ IsStoreImage t from durable log c) ∥₁
+
+-- the system, or the transaction that goes on, whose action has no end, with the number of its last record
+abbrev pub unfinished_of : Steps → Option (ℕ × ℕ)
+unfinished_of rs = option_map (with_last rs) (find (lacks_end rs) (acting rs))

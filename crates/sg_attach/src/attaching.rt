@@ -1,20 +1,30 @@
 // Opening a store as the engine under the actions.
-ghost use Rattle.std.specs.Prelude.{◌≡◌, false, List, IsTrue, IfOk, IfErr};
+ghost use Rattle.std.specs.Prelude.{◌≡◌, ◌≢◌, ◌≤◌, ◌⊎◌, false, List, IsTrue, IfOk, IfErr, MatchResult, option_map};
+ghost use Rattle.std.specs.Bool.{OnFalse};
+ghost use Rattle.sg_base.specs.declared.area.Area.TheVariants.{Home};
 ghost use Rattle.sg_disk.specs.Disk.{LeavesOnly};
+ghost use Rattle.sg_gate.specs.Superblock.{IsSuper};
+ghost use Rattle.sg_gate.specs.declared.superblock.Super.{Super as Said};
 ghost use Rattle.sg_ops.specs.Table.{table_of};
+ghost use Rattle.sg_analysis.specs.Analysis.{losers_of};
+ghost use Rattle.sg_recovery.specs.Chains.{next_lsn};
+ghost use Rattle.sg_recovery.specs.Formed.{IsLog};
+ghost use Rattle.sg_find.specs.Faults.{is_disk};
 ghost use Rattle.sg_find.specs.Synced.{reads};
-ghost use Rattle.sg_open.specs.Refusals.{StoreRefused};
+ghost use Rattle.sg_open.specs.Refusals.{StoreRefused, IsCause, IsLateCause, IsAccepted, IsUnwrittenAt};
 ghost use Rattle.sg_action.specs.States.{State};
 ghost use Rattle.sg_actions.specs.Steps.{Steps as Log};
 ghost use Rattle.sg_phys_laws.specs.Recovers.{origin_of, records_in};
 ghost use Rattle.sg_phys_laws.specs.States.{steps_of};
 ghost use Rattle.sg_pages.specs.Parts.{seen, stands};
-ghost use Rattle.sg_attach.specs.Attached.{IsStoreImage, IsLeftOrStoreImage};
+ghost use Rattle.sg_attach.specs.Attached.{IsStoreImage, IsSomeStoreImage, IsLeftOrStoreImage, unfinished_of};
 
 use sg_analysis::Analysis;
 use sg_base::Steps;
 use sg_disk::Disk;
 use sg_engine::Engine;
+use sg_find::OpenFault;
+use sg_gate::Super;
 use sg_open::{Opened, open};
 use sg_ops::Ops;
 use sg_pages::Phys;
@@ -23,9 +33,17 @@ use std::alloc::Global;
 use std::snapshot::Snapshot;
 use std::sync::ledger::Ledger;
 
+/// What an opening gives: a store's pages and bands with its log, how many there are, and what its log says of
+/// transactions.
+pub struct AttachedStore<D: Disk> {
+    pub pages: Phys<D>,
+    pub geometry: Super,
+    pub analysis: Analysis,
+}
+
 /// Opens a store as the engine under the actions, and answers what its log says of transactions.
 ///
-/// Where the disk tells, the image that is read is one of a store by these operations. Nothing else is
+/// Where the disk tells, an image that opening takes for a store is one by these operations. Nothing else is
 /// asked: what `Phys` promises of each image that a crash leaves is that, so any life may follow any
 /// other. A refusal hands the disk back, as opening left it.
 pub fn attach<D: Disk, L: Ledger>(
@@ -33,25 +51,45 @@ pub fn attach<D: Disk, L: Ledger>(
     disk: D,
     ops: &Ops,
     steps: &mut Steps<L>,
-) -> Result<(Phys<D>, Analysis), Unopened<D>>
-    requires found { let t = table_of record_meaning range_meaning ops.now in ∥ ((from : State) × (durable : Log) × (log : Log) × (IsTrue D.told → IsStoreImage t from durable log (reads (D.view disk)))) ∥₁ }
-    ensures whole { IfOk result (λ made. made.0.failed ≡ false) }
+) -> Result<AttachedStore<D>, Unopened<D>>
+    requires found { let t = table_of record_meaning range_meaning ops.now in IsTrue D.told → (s : Said) → IsAccepted t (reads (D.view disk)) s → IsSomeStoreImage t (reads (D.view disk)) }
+    ensures whole { IfOk result (λ made. made.pages.failed ≡ false) }
+    ensures fresh { IfOk result (λ made. made.pages.breaks ≡ 0) }
+    ensures range { IfOk result (λ made. IsSuper made.geometry) }
+    ensures accepted { IsTrue D.told → IfOk result (λ made. IsAccepted (table_of record_meaning range_meaning ops.now) (reads (D.view disk)) made.geometry) }
     // It stands for what the image stood for,
     ensures means { let t = table_of record_meaning range_meaning ops.now in (from : State) (durable log : Log) → IsTrue D.told → IsStoreImage t from durable log (reads (D.view disk)) →
-        IfOk result (λ made. stands D.told D.view made.0 t from) }
+        IfOk result (λ made. stands D.told D.view made.pages t from) }
+    // also where the disk doesn't tell,
+    ensures untold { let t = table_of record_meaning range_meaning ops.now in (from : State) → D.told ≡ false → IfOk result (λ made. stands D.told D.view made.pages t from) }
     // and holds the steps that it held, all of them durable.
     ensures steps { let t = table_of record_meaning range_meaning ops.now in IsTrue D.told →
-        IfOk result (λ made. (seen D.told D.view made.0).steps ≡ steps_of (records_in (origin_of t (reads (D.view disk))) (reads (D.view disk)))) }
+        IfOk result (λ made. (seen D.told D.view made.pages).steps ≡ steps_of (records_in (origin_of t (reads (D.view disk))) (reads (D.view disk)))) }
     ensures durable { let t = table_of record_meaning range_meaning ops.now in IsTrue D.told →
-        IfOk result (λ made. (seen D.told D.view made.0).durable ≡ steps_of (records_in (origin_of t (reads (D.view disk))) (reads (D.view disk)))) }
+        IfOk result (λ made. (seen D.told D.view made.pages).durable ≡ steps_of (records_in (origin_of t (reads (D.view disk))) (reads (D.view disk)))) }
+    // These are a formed log, which ends below the tail, and none of which was cut away; and the analysis is one of it.
+    ensures formed { IsTrue D.told → IfOk result (λ made. IsLog (seen D.told D.view made.pages).base (seen D.told D.view made.pages).steps) }
+    ensures below { IsTrue D.told → IfOk result (λ made. next_lsn (seen D.told D.view made.pages).steps ≤ (seen D.told D.view made.pages).tail) }
+    ensures first_byte { IsTrue D.told → IfOk result (λ made. (seen D.told D.view made.pages).base ≡ made.pages.engine.log.base) }
+    ensures losers { IsTrue D.told → IfOk result (λ made. made.analysis.losers ≡ losers_of (seen D.told D.view made.pages).steps) }
+    ensures unfinished { IsTrue D.told → IfOk result (λ made. option_map (λ p. (p.0.0, p.1)) made.analysis.unfinished ≡ unfinished_of (seen D.told D.view made.pages).steps) }
     // Such an image is refused only where the disk fails, for want of memory, where a code isn't registered, or
     // where its log isn't formed in full.
     ensures refused { let t = table_of record_meaning range_meaning ops.now in (from : State) (durable log : Log) → IsTrue D.told → IsStoreImage t from durable log (reads (D.view disk)) →
         IfErr result (λ not. ∥ StoreRefused D.told t (origin_of t (reads (D.view disk))) (records_in (origin_of t (reads (D.view disk))) (reads (D.view disk))) (D.view disk) (D.view not.disk) not.fault ∥₁) }
+    // Of any image: why it is refused, and with which place.
+    ensures cause { IsTrue D.told → IfErr result (λ not. IsCause (table_of record_meaning range_meaning ops.now) (reads (D.view disk)) not.fault ⊎ IsLateCause (reads (D.view disk)) not.fault) }
+    ensures not_a_store { IsTrue D.told → IfErr result (λ not. not.fault ≡ OpenFault.NotAStore → (((D.view disk).now Home).seen 0 ≢ 1) × (((D.view disk).now Home).seen 4096 ≢ 1)) }
+    ensures shut { IsTrue D.told → ((D.view disk).now Home).seen 0 ≢ 1 → ((D.view disk).now Home).seen 4096 ≢ 1 →
+        MatchResult result (λ made. ⊥) (λ not. (not.fault ≡ OpenFault.NotAStore) ⊎ (not.fault ≡ OpenFault.Disk)) }
+    ensures unwritten { IfErr result (λ not. IsUnwrittenAt not.fault (D.view disk) (D.view not.disk)) }
+    // No fault of the disk is passed over.
+    ensures heeded { IfOk result (λ made. (D.view made.pages.engine.disk).faults ≡ (D.view disk).faults) }
+    ensures heeded_so { IfErr result (λ not. OnFalse (is_disk not.fault) ((D.view not.disk).faults ≡ (D.view disk).faults)) }
     // At each moment, where it succeeds and where it doesn't, an image is one that could have been left before, or one of
     // the store that was read.
     ensures attached { let t = table_of record_meaning range_meaning ops.now in (from : State) (durable log : Log) → IsTrue D.told → IsStoreImage t from durable log (reads (D.view disk)) →
-        IfOk result (λ made. LeavesOnly (D.view disk) (D.view made.0.engine.disk) (IsLeftOrStoreImage (D.view disk).now t from durable log)) }
+        IfOk result (λ made. LeavesOnly (D.view disk) (D.view made.pages.engine.disk) (IsLeftOrStoreImage (D.view disk).now t from durable log)) }
     ensures failed { let t = table_of record_meaning range_meaning ops.now in (from : State) (durable log : Log) → IsTrue D.told → IsStoreImage t from durable log (reads (D.view disk)) →
         IfErr result (λ not. LeavesOnly (D.view disk) (D.view not.disk) (IsLeftOrStoreImage (D.view disk).now t from durable log)) }
 {
@@ -61,14 +99,19 @@ pub fn attach<D: Disk, L: Ledger>(
     match open(alloc, &mut disk, ops, steps) {
         Ok(
             Opened {
-                geometry: _,
+                geometry,
                 log,
                 pool,
                 analysis,
             },
         ) => {
             let engine = Engine::of_parts(disk, log, pool);
-            Ok((Phys::new(alloc, engine, found), analysis))
+            let pages = Phys::new(alloc, engine, found);
+            Ok(AttachedStore {
+                pages,
+                geometry,
+                analysis,
+            })
         }
         Err(fault) => Err(Unopened { disk, fault }),
     }

@@ -9,5 +9,5 @@
 mod attaching;
 mod laws;
 
-pub use attaching::attach;
+pub use attaching::{AttachedStore, attach};
 pub use laws::{images_attach, opening_keeps, standing_is_of};

@@ -6,7 +6,7 @@ ghost use Rattle.sg_disk.specs.Heeds.{Heeds};
 ghost use Rattle.sg_record.specs.Ranges.{IsRecord};
 ghost use Rattle.sg_record.specs.Shown.{shown};
 ghost use Rattle.sg_log.specs.Frames.{Numbered, LOG_END};
-ghost use Rattle.sg_log.specs.Held.{place_of, end_of, tail_of, numbered, forced};
+ghost use Rattle.sg_log.specs.Held.{place_of, end_of, tail_of, numbered, forced, has_room, appended};
 ghost use Rattle.sg_ops.specs.Table.{table_of};
 ghost use Rattle.sg_pool.specs.Pooled.{sizes, IsUnwritten};
 ghost use Rattle.sg_engine.specs.Engine.{Origin};
@@ -68,6 +68,9 @@ impl<D: Disk> Engine<D> {
         ensures failed { result ≡ Err EngineFault.Disk → HasRisen (D.view self.old.disk).faults (D.view self.new.disk).faults }
         ensures heeded { Heeds is_disk result (D.view self.old.disk) (D.view self.new.disk) }
         ensures goes_on { GoesOnWith D.told (D.view self.old.disk) self.old.log self.old.pool (D.view self.new.disk) self.new.log self.new.pool (numbered self.old.log (shown r.now)) (λ o ns. DoesNothing o ns (numbered self.old.log (shown r.now))) result }
+        ensures log { OnOk result (self.new.log ≡ appended self.old.log (shown r.now)) }
+        // The disk is called only where the record doesn't fit the buffer.
+        ensures no_call { IsTrue (has_room self.old.log (shown r.now)) → self.new.disk ≡ self.old.disk }
         ensures pool { self.new.pool ≡ self.old.pool }
         ensures allowed { KeepsAllowed D.told (D.view self.old.disk) self.old.log self.old.pool (D.view self.new.disk) self.new.log self.new.pool result }
         // The record itself isn't durable before the next force.

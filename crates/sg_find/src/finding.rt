@@ -7,7 +7,7 @@ ghost use Rattle.sg_log.specs.Frames.{Numbered, HasRecords};
 ghost use Rattle.sg_log.specs.Held.{Holds};
 ghost use Rattle.sg_log.specs.Reads.{OnlyReads};
 ghost use Rattle.sg_analysis.specs.Analysis.{analysis_of};
-ghost use Rattle.sg_analysis.specs.Shown.{shown};
+ghost use Rattle.sg_analysis.specs.Shown.{shown, IsAnalysed};
 ghost use Rattle.sg_find.specs.Faults.{is_disk};
 ghost use Rattle.sg_find.specs.Refused.{LogRefused, of_log, of_analysis, of_gate};
 ghost use Rattle.sg_find.specs.Synced.{HasLog, log_area};
@@ -75,7 +75,8 @@ pub fn read_log<D: Disk>(
         IfOk result (λ r. (r.0.gate ≡ gate) × Holds (D.view disk.new) r.0 ds []) }
     ensures says { (ds : List Numbered) (gate : ℕ) → IsTrue D.told → HasRecords ((D.view disk.old).now (log_area s.now)).seen s.now.base gate ds →
         IfOk result (λ r. shown r.1 ≡ analysis_of s.now.base ds) }
-    // The area holds a log.
+    // The area holds a log that is formed, and the analysis is one of it.
+    ensures analysed { IsTrue D.told → IfOk result (λ r. IsAnalysed ((D.view disk.old).now (log_area s.now)).seen s.now.base r.1) }
     ensures found { IsTrue D.told → IfOk result (λ r. HasLog ((D.view disk.old).now (log_area s.now)).seen s.now.base) }
     ensures refused { IfErr result (LogRefused D.told (log_area s.now) s.now.base (D.view disk.old) (D.view disk.new)) }
     ensures heeded { Heeds is_disk result (D.view disk.old) (D.view disk.new) }

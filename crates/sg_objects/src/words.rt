@@ -29,6 +29,7 @@ pub fn keys<P: PageSpace>(
     ensures counts { CountsList (P.view space.old) (P.view space.new) result }
     ensures kept { OnOk result (OnlyReads (P.view space.old) (P.view space.new)) }
     ensures memory { IfErr result (λ e. e ≡ ListFault.Memory → OnlyReads (P.view space.old) (P.view space.new)) }
+    ensures quiet { IfErr result (λ e. e ≡ ListFault.Memory → (P.view space.new).faults ≡ (P.view space.old).faults) }
     ensures read { IfOk result (λ r. IfContents (P.view space.old) (λ s. (t : Operations) → (on t Keys (plain (get (reading s).things name))).0 ≡ said_keys r)) }
     ensures lacks { IfErr result (λ e. e ≡ ListFault.Memory → IfContents (P.view space.old) (λ s. (t : Operations) → IsOk (on t Keys (plain (get (reading s).things name))).0)) }
     ensures later { (t : Operations) → P.later t space.old space.new }
@@ -50,6 +51,7 @@ pub fn list<P: PageSpace>(space: &mut P, alloc: Global) -> Result<Vec<Name>, Lis
     ensures counts { CountsList (P.view space.old) (P.view space.new) result }
     ensures kept { OnOk result (OnlyReads (P.view space.old) (P.view space.new)) }
     ensures memory { IfErr result (λ e. e ≡ ListFault.Memory → OnlyReads (P.view space.old) (P.view space.new)) }
+    ensures quiet { IfErr result (λ e. e ≡ ListFault.Memory → (P.view space.new).faults ≡ (P.view space.old).faults) }
     ensures read { IfOk result (λ v. IfContents (P.view space.old) (λ s. v.items ≡ keys (objects (reading s)))) }
     ensures later { (t : Operations) → P.later t space.old space.new }
     ensures means { (t : Operations) → P.means space.old t → P.means space.new t }

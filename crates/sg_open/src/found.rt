@@ -11,7 +11,8 @@ ghost use Rattle.sg_engine.specs.Effects.{effect_in};
 ghost use Rattle.sg_engine.specs.Engine.{Origin};
 ghost use Rattle.sg_find.specs.Faults.{is_disk};
 ghost use Rattle.sg_find.specs.Stretch.{IsRoom};
-ghost use Rattle.sg_find.specs.Synced.{reads};
+ghost use Rattle.sg_find.specs.Synced.{log_area, reads};
+ghost use Rattle.sg_analysis.specs.Shown.{IsAnalysed};
 ghost use Rattle.sg_open.specs.Refusals.{StoreRefused, IsCause, IsAccepted};
 ghost use Rattle.sg_open.specs.Found.{IsSettledAll, Opens, IsFound};
 
@@ -45,6 +46,8 @@ pub fn find<D: Disk>(alloc: Global, disk: &mut D, ops: &Ops) -> Result<Found, Op
     // Of any image: why it is refused, and with which place; and what is true of one that isn't.
     ensures cause { IsTrue D.told → IsSettledAll (D.view disk.old) → IfErr result (IsCause (table_of record_meaning range_meaning ops.now) (reads (D.view disk.old))) }
     ensures accepted { IsTrue D.told → IsSettledAll (D.view disk.old) → IfOk result (λ f. IsAccepted (table_of record_meaning range_meaning ops.now) (reads (D.view disk.old)) f.geometry) }
+    // Its log is formed, and the analysis is one of it.
+    ensures analysed { IsTrue D.told → IfOk result (λ f. IsAnalysed (reads (D.view disk.old) (log_area f.geometry)) f.geometry.base f.analysis) }
     // The gates of both superblock slots are closed.
     ensures not_a_store { IsTrue D.told → result ≡ Err OpenFault.NotAStore → ((((D.view disk.old).now Home).seen 0 ≢ 1) × (((D.view disk.old).now Home).seen 4096 ≢ 1)) }
     ensures shut { IsTrue D.told → ((D.view disk.old).now Home).seen 0 ≢ 1 → ((D.view disk.old).now Home).seen 4096 ≢ 1 → (result ≡ Err OpenFault.NotAStore) ⊎ (result ≡ Err OpenFault.Disk) }

@@ -10,7 +10,8 @@ ghost use Rattle.sg_engine.specs.Effects.{effect_in};
 ghost use Rattle.sg_engine.specs.Engine.{Origin};
 ghost use Rattle.sg_engine.specs.Running.{IsEngine, IsAllowed};
 ghost use Rattle.sg_find.specs.Faults.{is_disk};
-ghost use Rattle.sg_find.specs.Synced.{reads, redo_point};
+ghost use Rattle.sg_find.specs.Synced.{log_area, reads, redo_point};
+ghost use Rattle.sg_analysis.specs.Shown.{IsAnalysed};
 ghost use Rattle.sg_places.specs.Placed.{places_in};
 ghost use Rattle.sg_open.specs.Repeatable.{IsNew};
 ghost use Rattle.sg_open.specs.Refusals.{StoreRefused, IsUnwrittenAt, IsCause, IsLateCause, IsAccepted};
@@ -73,6 +74,9 @@ pub fn open<D: Disk, L: Ledger>(
     // Of any image: why it is refused, with the place that is damaged or the code that is missing; and what is true of one that isn't.
     ensures cause { IsTrue D.told → IfErr result (λ e. IsCause (table_of record_meaning range_meaning ops.now) (reads (D.view disk.old)) e ⊎ IsLateCause (reads (D.view disk.old)) e) }
     ensures accepted { IsTrue D.told → IfOk result (λ e. IsAccepted (table_of record_meaning range_meaning ops.now) (reads (D.view disk.old)) e.geometry) }
+    // Its log is formed, and the analysis is one of it. The superblock is in range on any disk.
+    ensures analysed { IsTrue D.told → IfOk result (λ e. IsAnalysed (reads (D.view disk.old) (log_area e.geometry)) e.geometry.base e.analysis) }
+    ensures range { IfOk result (λ e. IsSuper e.geometry) }
     // The gates of both superblock slots are closed.
     ensures not_a_store { IsTrue D.told → result ≡ Err OpenFault.NotAStore → ((((D.view disk.old).now Home).seen 0 ≢ 1) × (((D.view disk.old).now Home).seen 4096 ≢ 1)) }
     ensures shut { IsTrue D.told → ((D.view disk.old).now Home).seen 0 ≢ 1 → ((D.view disk.old).now Home).seen 4096 ≢ 1 → (result ≡ Err OpenFault.NotAStore) ⊎ (result ≡ Err OpenFault.Disk) }

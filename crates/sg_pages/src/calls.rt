@@ -30,7 +30,7 @@ impl<D: Disk> Phys<D> {
         ensures whole { result.failed ≡ false }
         ensures fresh { (result.breaks ≡ 0) × (result.records ≡ 0) }
     {
-        let end = engine.tail();
+        let end = engine.tail().max(1);
         Phys {
             engine,
             alloc,
@@ -85,7 +85,7 @@ impl<D: Disk> Phys<D> {
         }
         match log_plain(&mut self.engine, &record, &mut self.tried) {
             Ok(lsn) => {
-                self.end = self.engine.tail();
+                self.end = self.engine.tail().max(1);
                 self.records += 1;
                 Ok(lsn)
             }

@@ -16,6 +16,7 @@ impl<D: Disk> Engine for Phys<D> {
     ghost use Rattle.sg_phys.specs.Phys.{IsLoaded, IsBandLoaded};
     ghost use Rattle.sg_phys.proofs.Told.{told_now, told_front, told_images, says_fit, says_whole};
     ghost use Rattle.sg_phys_laws.specs.Recovers.{RecoversBy};
+    ghost use Rattle.sg_phys_laws.specs.Waiting.{waiting_of};
     ghost use Rattle.sg_reader.specs.Reader.{limits};
     ghost use Rattle.sg_reader.proofs.Decide.{reader};
     ghost use Rattle.sg_pages.specs.Parts.{parts, seen, stands};
@@ -35,6 +36,8 @@ impl<D: Disk> Engine for Phys<D> {
     ghost unwritten = { λ s lsn. IsUnwritten s.engine.pool lsn };
 
     ghost first_byte = { λ s. s.engine.log.base };
+
+    ghost waiting = { λ s. waiting_of s.engine.log };
 
     ghost told_whole = { λ s told. told.whole };
 
@@ -77,7 +80,7 @@ impl<D: Disk> Engine for Phys<D> {
         }
         match log_without(&mut self.engine, self.alloc, r, &mut self.tried) {
             Ok(lsn) => {
-                self.end = self.engine.tail();
+                self.end = self.engine.tail().max(1);
                 self.records += 1;
                 Ok(lsn)
             }
@@ -102,7 +105,7 @@ impl<D: Disk> Engine for Phys<D> {
         }
         match log_record(&mut self.engine, ops, r, &mut self.tried) {
             Ok(lsn) => {
-                self.end = self.engine.tail();
+                self.end = self.engine.tail().max(1);
                 self.records += 1;
                 Ok(lsn)
             }
@@ -121,7 +124,7 @@ impl<D: Disk> Engine for Phys<D> {
         }
         match self.engine.force() {
             Ok(()) => {
-                self.end = self.engine.tail();
+                self.end = self.engine.tail().max(1);
                 Ok(())
             }
             Err(_) => {
@@ -139,7 +142,7 @@ impl<D: Disk> Engine for Phys<D> {
         }
         match self.engine.flush() {
             Ok(()) => {
-                self.end = self.engine.tail();
+                self.end = self.engine.tail().max(1);
                 Ok(())
             }
             Err(_) => {
@@ -181,7 +184,7 @@ impl<D: Disk> Engine for Phys<D> {
             self.breaks = self.breaks.saturating_add(1);
             return Err(SpaceFault::Disk);
         }
-        self.end = self.engine.tail();
+        self.end = self.engine.tail().max(1);
         Ok(())
     }
 
@@ -201,7 +204,7 @@ impl<D: Disk> Engine for Phys<D> {
         }
         match self.engine.load_band(b) {
             Ok(()) => {
-                self.end = self.engine.tail();
+                self.end = self.engine.tail().max(1);
                 Ok(())
             }
             Err(_) => {
@@ -223,7 +226,7 @@ impl<D: Disk> Engine for Phys<D> {
         }
         match self.engine.read(at, into) {
             Ok(size) => {
-                self.end = self.engine.tail();
+                self.end = self.engine.tail().max(1);
                 Ok(size)
             }
             Err(_) => {

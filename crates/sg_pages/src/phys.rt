@@ -1,5 +1,5 @@
 // The page engine under the actions.
-ghost use Rattle.std.specs.Prelude.{◌≡◌, ◌≤◌, false};
+ghost use Rattle.std.specs.Prelude.{◌≡◌, ◌≤◌, false, max};
 ghost use Rattle.sg_log.specs.Held.{tail_of};
 ghost use Rattle.sg_phys.specs.Phys.{StandsForSome};
 
@@ -18,7 +18,7 @@ pub struct Phys<D: Disk> {
     pub(crate) engine: Engine<D>,
     pub(crate) alloc: Global,
     pub(crate) failed: bool,
-    // The log's tail before the call that failed.
+    // The log's tail before the call that failed, and 1 where that is 0: no record has the number 0.
     pub(crate) end: Lsn,
     // The number of the record that was appended last, or was to be.
     pub(crate) tried: Lsn,
@@ -28,7 +28,7 @@ pub struct Phys<D: Disk> {
     pub(crate) records: u64,
     // The disk as it was when the store was opened. It has no bytes.
     pub(crate) found: Snapshot<D>,
-    ghost ends: { failed ≡ false → end ≡ tail_of engine.log },
+    ghost ends: { failed ≡ false → end ≡ max (tail_of engine.log) 1 },
     // Each record has a byte.
     ghost counted: { records ≤ end },
     ghost some: { StandsForSome D.told failed (D.view found.value) (D.view engine.disk) engine.log engine.pool },

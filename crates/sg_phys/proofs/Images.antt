@@ -16,7 +16,7 @@ use Rattle.sg_engine.specs.History.{Entry, IsHistory, IsSound, repeated_from}
 use Rattle.sg_engine.specs.Kept.{home_in}
 use Rattle.sg_engine.specs.Engine.{Origin, entries, geometry, log_area}
 use Rattle.sg_actions.specs.Images.{IsImageOf}
-use Rattle.sg_actions.specs.Steps.{Steps}
+use Rattle.sg_actions.specs.Steps.{Steps, repeated}
 use Rattle.sg_phys_laws.specs.Points.{redo_point}
 use Rattle.sg_phys_laws.specs.Reading.{frames_read}
 use Rattle.sg_phys_laws.specs.Recovers.{cut_at, super_of, origin_of, records_in, point_in, said_in, IsSoundImage, Recovers, RecoversBy}
@@ -61,8 +61,8 @@ module _ (o p : Origin) (c : Image) (e : o.super ≡ p.super) (same : (lsn : ℕ
   }
 
 -- AN IMAGE OF A STORE holds by its table what it holds by what the store was opened from
-pub recovers_by : (t : Table) (o : Origin) (c : Image) (front : Steps) (x : State) → IsBy t o → Recovers o c front x → RecoversBy t c front x
-recovers_by t o c front x by r =
+holds_by : (t : Table) (o : Origin) (c : Image) (front : Steps) (x : State) → IsBy t o → Recovers o c front x → Recovers (origin_of t c) c front x
+holds_by t o c front x by r =
     let p = origin_of t c in
     record {
       records = ∥∥₁_elim r.sound (steps_set front (steps_of (records_in p c))) (λ s. r.records ∙ ap steps_of (records_same o p c (sym (ap super_of s.super))));
@@ -75,4 +75,4 @@ recovers_by t o c front x by r =
     }
 
 pub image_by : (t : Table) (o : Origin) (first : State) (durable log : Steps) (c : Image) → IsBy t o → IsImageOf (Recovers o) t first durable log c → IsImageOf (RecoversBy t) t first durable log c
-image_by t o first durable log c by m = record { front = m.front; is_front = m.is_front; recovers = recovers_by t o c m.front _ by m.recovers }
+image_by t o first durable log c by m = record { front = m.front; is_front = m.is_front; recovers = record { holds = holds_by t o c m.front (repeated t first m.front) by m.recovers; leads = (first, refl) } }

@@ -9,7 +9,9 @@ use Rattle.sg_log.specs.Frames.{Numbered, LOG_END}
 use Rattle.sg_log.specs.Held.{Tail}
 use Rattle.sg_ops.specs.Table.{Table}
 use Rattle.sg_pool.specs.declared.pool.Pool.{Pool}
-use Rattle.sg_record.specs.Records.{Record, spelled}
+use Rattle.sg_record.specs.Records.{Record, Says, spelled}
+use Rattle.sg_record.specs.Records.Says.{Begin, Changed, TopEnd, PhysComp, TopVoid, CompEnd, Save, Commit, End, Checkpoint, Line}
+use Rattle.sg_redo.specs.Places.{changed_by}
 use Rattle.sg_space.specs.declared.space.SpaceFault.{SpaceFault}
 use Rattle.sg_space.specs.declared.space.SpaceFault.TheVariants as space
 use Rattle.sg_action.specs.States.{State}
@@ -19,6 +21,7 @@ use Rattle.sg_engine.specs.Running.{IsEngine, IsAllowed}
 use Rattle.sg_engine.specs.declared.fault.EngineFault.{EngineFault}
 use Rattle.sg_engine.specs.declared.fault.EngineFault.TheVariants as engine
 use Rattle.sg_actions.specs.Engine.{EngineSeen, EngineCounts, EngineRests, EngineGrows, EngineLooks, Logs, Logged, Moments, IsForced, Keeps, led}
+use Rattle.sg_actions.specs.Handing.{makes_change, HandsOver}
 use Rattle.sg_actions.specs.Images.{Grows, IsImageOf}
 use Rattle.sg_actions.specs.Steps.{Step, Steps, step_of, with_step}
 use Rattle.sg_phys_laws.specs.Faults.{space_fault}
@@ -43,6 +46,28 @@ not_both b t f = absurd cc
 not_true : {P : Type 0} → true ≡ false → P
 not_true e = absurd cc
 
+end_by : (x : EngineFault) → space_fault x ≡ space.LogEnd → x ≡ engine.LogEnd
+end_by engine.Disk e = absurd cc
+end_by engine.LogEnd e = refl
+
+-- a record that makes no change
+pub no_change : (s : Says) → makes_change s ≡ false → changed_by s ≡ None
+no_change Begin e = refl
+no_change (Changed c) e = absurd cc
+no_change (TopEnd u note) e = refl
+no_change (PhysComp u c) e = absurd cc
+no_change (TopVoid u) e = refl
+no_change (CompEnd u) e = refl
+no_change (Save mark) e = refl
+no_change Commit e = refl
+no_change End e = refl
+no_change (Checkpoint estimate live) e = refl
+no_change (Line words) e = refl
+
+-- one that fails before it calls the disk hands nothing over
+pub hands_none : {T E : Type 0} (size handed waits waits' : ℕ) (e : E) → HandsOver {T = T} size handed waits handed waits' (Err e)
+hands_none size handed waits waits' e = record { most = omega arith; all = tt }
+
 -- WHAT EACH CALL KEEPS, on any engine
 module _ (told : Bool) (p : Parts) (w : View) (log : Tail) (pool : Pool) where
   counts_ok : {T : Type 0} (x : T) (q : Parts) → q.found ≡ p.found → q.failed ≡ p.failed → q.breaks ≡ p.breaks → p.failed ≡ false → p.end ≤ q.end → EngineCounts (seen_by told p) (seen_by told q) (Ok x)
@@ -62,9 +87,9 @@ module _ (told : Bool) (p : Parts) (w : View) (log : Tail) (pool : Pool) where
   pub rests_ok : {T : Type 0} (x : T) (end : ℕ) → p.failed ≡ false → end ≡ p.end → EngineRests (seen_by told p) (seen_by told (looked p w log pool end)) (Ok x)
   rests_ok x end whole same = record { counts = counts_ok x (looked p w log pool end) refl refl refl whole (omega (arith, same)); only_disk = tt; records = refl; tail = same }
 
-  pub grows_ok : (r : Record) (m end lsn n : ℕ) → p.failed ≡ false → m ≡ lsn → p.end ≤ lsn → lsn < end → end ≤ p.end + (5 + length (spelled r)) → n ≡ p.records + 1
+  pub grows_ok : (r : Record) (m end lsn n : ℕ) → p.failed ≡ false → m ≡ lsn → p.end ≤ lsn → lsn < end → end ≤ p.end + (5 + length (spelled r)) → n ≡ p.records + 1 → lsn + length (spelled r) ≤ LOG_END
       → EngineGrows (seen_by told p) (seen_by told (appended p w log pool end lsn n)) r (Ok m)
-  grows_ok r m end lsn n whole number above below grown counted = record {
+  grows_ok r m end lsn n whole number above below grown counted within = record {
     counts = counts_ok m (appended p w log pool end lsn n) refl refl refl whole (omega (arith, above, below));
     few = omega (arith, counted);
     counted = counted;
@@ -72,6 +97,8 @@ module _ (told : Bool) (p : Parts) (w : View) (log : Tail) (pool : Pool) where
     back = tt;
     grown = grown;
     placed = record { above = omega (arith, above, number); below = omega (arith, below, number); tried = number };
+    within = within;
+    past = tt;
   }
 
   counts_fault : {T : Type 0} (fault : EngineFault) (tried b : ℕ) → p.failed ≡ false → p.breaks ≤ b → HasRisen p.breaks b → (fault ≡ engine.LogEnd → LOG_END < p.end + 131072)
@@ -83,15 +110,11 @@ module _ (told : Bool) (p : Parts) (w : View) (log : Tail) (pool : Pool) where
     later = later;
     quiet = tt;
     disk = λ e. risen;
-    log_end = λ e. near (by_fault fault e);
+    log_end = λ e. near (end_by fault e);
     tail = omega arith;
     failed = refl;
     stops = λ is. not_both p.failed is whole;
   }
-    where
-      by_fault : (x : EngineFault) → space_fault x ≡ space.LogEnd → x ≡ engine.LogEnd
-      by_fault engine.Disk e = absurd cc
-      by_fault engine.LogEnd e = refl
 
   no_end : {P : Type 0} → engine.Disk ≡ engine.LogEnd → P
   no_end e = absurd cc
@@ -99,10 +122,10 @@ module _ (told : Bool) (p : Parts) (w : View) (log : Tail) (pool : Pool) where
   pub rests_err : {T : Type 0} (b : ℕ) → p.failed ≡ false → p.breaks ≤ b → HasRisen p.breaks b → EngineRests {T = T} (seen_by told p) (seen_by told (broken p w log pool p.tried b)) (Err space.Disk)
   rests_err b whole later risen = record { counts = counts_fault engine.Disk p.tried b whole later risen (λ e. no_end e); only_disk = refl; records = refl; tail = refl }
 
-  pub grows_err : (r : Record) (fault : EngineFault) (said : SpaceFault) (lsn b : ℕ) → said ≡ space_fault fault → p.failed ≡ false → p.breaks ≤ b → HasRisen p.breaks b → (fault ≡ engine.LogEnd → LOG_END < p.end + 131072)
+  pub grows_err : (r : Record) (fault : EngineFault) (said : SpaceFault) (lsn b : ℕ) → said ≡ space_fault fault → p.failed ≡ false → p.breaks ≤ b → HasRisen p.breaks b → (fault ≡ engine.LogEnd → LOG_END < p.end + 131072) → (fault ≡ engine.LogEnd → LOG_END < lsn + length (spelled r))
       → EngineGrows (seen_by told p) (seen_by told (broken p w log pool lsn b)) r (Err said)
-  grows_err r fault said lsn b is whole later risen near = subst (λ (e : SpaceFault). EngineGrows (seen_by told p) (seen_by told (broken p w log pool lsn b)) r (Err e)) (sym is)
-      (record { counts = counts_fault fault lsn b whole later risen near; few = omega arith; counted = tt; same = refl; back = refl; grown = omega arith; placed = tt })
+  grows_err r fault said lsn b is whole later risen near past = subst (λ (e : SpaceFault). EngineGrows (seen_by told p) (seen_by told (broken p w log pool lsn b)) r (Err e)) (sym is)
+      (record { counts = counts_fault fault lsn b whole later risen near; few = omega arith; counted = tt; same = refl; back = refl; grown = omega arith; placed = tt; within = tt; past = λ e. past (end_by fault e) })
 
 -- one that makes no call of the disk
 module _ (told : Bool) (p : Parts) (b : ℕ) (is : p.failed ≡ true) (later : p.breaks ≤ b) (risen : HasRisen p.breaks b) where
@@ -113,7 +136,7 @@ module _ (told : Bool) (p : Parts) (b : ℕ) (is : p.failed ≡ true) (later : p
   rests_stopped = record { counts = counts_stopped; only_disk = refl; records = refl; tail = refl }
 
   pub grows_stopped : (r : Record) → EngineGrows (seen_by told p) (seen_by told (stopped p b)) r (Err space.Disk)
-  grows_stopped r = record { counts = counts_stopped; few = omega arith; counted = tt; same = refl; back = refl; grown = omega arith; placed = tt }
+  grows_stopped r = record { counts = counts_stopped; few = omega arith; counted = tt; same = refl; back = refl; grown = omega arith; placed = tt; within = tt; past = λ e. absurd cc }
 
   pub looks_stopped : {T : Type 0} (t : Table) (from : State) → EngineLooks {T = T} (RecoversBy t) t (led from (seen_by told p)) (led from (seen_by told (stopped p b))) (Err space.Disk)
   looks_stopped t from = record { stays = tt; moments = λ s. not_both p.failed is s.whole }

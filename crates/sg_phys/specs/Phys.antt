@@ -38,7 +38,7 @@ pub record Parts : Type 0 where
   pub log : Tail
   pub pool : Pool
   pub failed : Bool
-  -- the log's tail, before the call that failed
+  -- the log's tail, before the call that failed, and 1 where that is 0
   pub end : ℕ
   -- the number of the record that was appended last, or was to be
   pub tried : ℕ

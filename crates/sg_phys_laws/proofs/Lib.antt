@@ -12,6 +12,7 @@ pub mod Found
 pub mod ReadBack
 pub mod Sets
 pub mod Numbers
+pub mod Handing
 pub mod Recovered
 pub mod Poised
 pub mod Lies

@@ -2,6 +2,7 @@ pub mod Listed
 pub mod States
 pub mod Reading
 pub mod Points
+pub mod Waiting
 pub mod Logged
 pub mod Images
 pub mod Recovers

@@ -18,7 +18,7 @@ use Rattle.sg_engine.specs.History.{IsHistory, IsSound}
 use Rattle.sg_engine.specs.Kept.{home_in}
 use Rattle.sg_engine.specs.Effects.{effect_in}
 use Rattle.sg_engine.specs.Engine.{Origin, entries, geometry, log_area, IsStanding}
-use Rattle.sg_actions.specs.Steps.{Step, Steps}
+use Rattle.sg_actions.specs.Steps.{Step, Steps, repeated}
 use Rattle.sg_phys_laws.specs.Images.{homes_in}
 use Rattle.sg_phys_laws.specs.Listed.{listed}
 use Rattle.sg_phys_laws.specs.Points.{redo_point, AreMarked}
@@ -95,6 +95,7 @@ super_in c = super_of (superblock (c Home))
 abbrev pub origin_of : Table → Image → Origin
 origin_of t c = record { effect = effect_in t; super = super_in c; first = home_in (geometry (super_in c)) (laid (c Home)) }
 
--- THE SAME OF AN IMAGE AND A TABLE alone: the store's `recovers`
-abbrev pub RecoversBy : Table → Image → Steps → State → Type 0
-RecoversBy t c front x = Recovers (origin_of t c) c front x
+-- THE SAME OF AN IMAGE AND A TABLE alone: the store's `recovers`. The steps lead to these pages and bands from some others
+pub record RecoversBy (t : Table) (c : Image) (front : Steps) (x : State) : Type 0 where
+  pub holds : Recovers (origin_of t c) c front x
+  pub leads : (from : State) × (x ≡ repeated t from front)

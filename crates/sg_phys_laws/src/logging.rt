@@ -1,5 +1,5 @@
 // Records that are logged where what the pages say allows it.
-ghost use Rattle.std.specs.Prelude.{◌≡◌, ◌<◌, ◌≤◌, ◌+◌, ◌++◌, ℕ, List, length, Some, None, Err, IfOk, OnOk, IsTrue, option_map};
+ghost use Rattle.std.specs.Prelude.{◌≡◌, ◌<◌, ◌≤◌, ◌+◌, ◌++◌, ℕ, max, List, length, Some, None, Err, IfOk, OnOk, IsTrue, option_map};
 ghost use Rattle.sg_base.specs.Op.{op_of};
 ghost use Rattle.sg_base.specs.declared.page.TheConstants.{BAND_SIZE};
 ghost use Rattle.sg_log.specs.Frames.{Numbered, LOG_END};
@@ -13,6 +13,8 @@ ghost use Rattle.sg_record.specs.Shown.{shown, shown_change, shown_page, shown_b
 ghost use Rattle.sg_redo.specs.Places.{changed_by};
 ghost use Rattle.sg_engine.specs.Engine.{Origin};
 ghost use Rattle.sg_redo.specs.Leaf.{LinksFit};
+ghost use Rattle.sg_actions.specs.Handing.{HandsOver};
+ghost use Rattle.sg_phys_laws.specs.Waiting.{waiting_of};
 ghost use Rattle.sg_phys_laws.specs.Logged.{SaysPage, IsAsked, IsWrite, HasLogged, HasRun};
 
 use sg_base::{BandNo, Lsn, PageNo, PageOp};
@@ -63,12 +65,15 @@ pub fn log_plain<D: Disk>(
 ) -> Result<Lsn, EngineFault>
     requires range { IsRecord (shown r.now) }
     requires says { changed_by (shown r.now).says ≡ None }
-    ensures above { tail_of engine.old.log ≤ tried.new }
+    ensures above { max (tail_of engine.old.log) 1 ≤ tried.new }
     ensures number { IfOk result (λ lsn. lsn ≡ tried.new) }
     ensures below { OnOk result (tried.new < tail_of engine.new.log) }
     ensures grown { OnOk result (tail_of engine.new.log ≤ tail_of engine.old.log + (5 + length (spelled (shown r.now)))) }
     ensures near { result ≡ Err EngineFault.LogEnd → LOG_END < tail_of engine.old.log + 131072 }
+    ensures within { OnOk result (tried.new + length (spelled (shown r.now)) ≤ LOG_END) }
+    ensures past { result ≡ Err EngineFault.LogEnd → LOG_END < tried.new + length (spelled (shown r.now)) }
     ensures place { tried.new ≡ place_of engine.old.log (shown r.now) }
+    ensures hands { HandsOver (length (spelled (shown r.now))) (D.view engine.old.disk).handed (waiting_of engine.old.log) (D.view engine.new.disk).handed (waiting_of engine.new.log) result }
     ensures logs { (own given : Table) (o : Origin) (ds ps : List Numbered) → IsTrue D.told → IsAsked own given o (D.view engine.old.disk) engine.old.log ds ps engine.old.pool (shown r.now)
         → OnOk result (HasLogged own o (D.view engine.new.disk) engine.new.log ds (ds ++ ps) (shown r.now) tried.new engine.new.pool) }
     ensures runs { (own given : Table) (o : Origin) (ds ps : List Numbered) → IsTrue D.told → IsAsked own given o (D.view engine.old.disk) engine.old.log ds ps engine.old.pool (shown r.now)
@@ -89,11 +94,13 @@ fn log_to_page<D: Disk>(
 ) -> Result<Lsn, EngineFault>
     requires range { IsRecord (shown r.now) }
     requires says { SaysPage (shown r.now) p.0 (op_of op.now) }
-    ensures above { tail_of engine.old.log ≤ tried.new }
+    ensures above { max (tail_of engine.old.log) 1 ≤ tried.new }
     ensures number { IfOk result (λ lsn. lsn ≡ tried.new) }
     ensures below { OnOk result (tried.new < tail_of engine.new.log) }
     ensures grown { OnOk result (tail_of engine.new.log ≤ tail_of engine.old.log + (5 + length (spelled (shown r.now)))) }
     ensures near { result ≡ Err EngineFault.LogEnd → LOG_END < tail_of engine.old.log + 131072 }
+    ensures within { OnOk result (tried.new + length (spelled (shown r.now)) ≤ LOG_END) }
+    ensures past { result ≡ Err EngineFault.LogEnd → LOG_END < tried.new + length (spelled (shown r.now)) }
     ensures logs { (own : Table) (o : Origin) (ds ps : List Numbered) → IsTrue D.told → IsAsked own (table_of record_meaning range_meaning ops.now) o (D.view engine.old.disk) engine.old.log ds ps engine.old.pool (shown r.now)
         → OnOk result (HasLogged own o (D.view engine.new.disk) engine.new.log ds (ds ++ ps) (shown r.now) tried.new engine.new.pool) }
     ensures runs { (own : Table) (o : Origin) (ds ps : List Numbered) → IsTrue D.told → IsAsked own (table_of record_meaning range_meaning ops.now) o (D.view engine.old.disk) engine.old.log ds ps engine.old.pool (shown r.now)
@@ -124,11 +131,13 @@ fn log_page<D: Disk>(
 ) -> Result<Lsn, EngineFault>
     requires range { IsRecord (shown r.now) }
     requires says { changed_by (shown r.now).says ≡ Some (Page (shown_page change.now)) }
-    ensures above { tail_of engine.old.log ≤ tried.new }
+    ensures above { max (tail_of engine.old.log) 1 ≤ tried.new }
     ensures number { IfOk result (λ lsn. lsn ≡ tried.new) }
     ensures below { OnOk result (tried.new < tail_of engine.new.log) }
     ensures grown { OnOk result (tail_of engine.new.log ≤ tail_of engine.old.log + (5 + length (spelled (shown r.now)))) }
     ensures near { result ≡ Err EngineFault.LogEnd → LOG_END < tail_of engine.old.log + 131072 }
+    ensures within { OnOk result (tried.new + length (spelled (shown r.now)) ≤ LOG_END) }
+    ensures past { result ≡ Err EngineFault.LogEnd → LOG_END < tried.new + length (spelled (shown r.now)) }
     ensures logs { (own : Table) (o : Origin) (ds ps : List Numbered) → IsTrue D.told → IsAsked own (table_of record_meaning range_meaning ops.now) o (D.view engine.old.disk) engine.old.log ds ps engine.old.pool (shown r.now)
         → OnOk result (HasLogged own o (D.view engine.new.disk) engine.new.log ds (ds ++ ps) (shown r.now) tried.new engine.new.pool) }
     ensures runs { (own : Table) (o : Origin) (ds ps : List Numbered) → IsTrue D.told → IsAsked own (table_of record_meaning range_meaning ops.now) o (D.view engine.old.disk) engine.old.log ds ps engine.old.pool (shown r.now)
@@ -149,11 +158,13 @@ fn log_to_band<D: Disk>(
 ) -> Result<Lsn, EngineFault>
     requires range { IsRecord (shown r.now) }
     requires fits { at + length bytes.now ≤ BAND_SIZE }
-    ensures above { tail_of engine.old.log ≤ tried.new }
+    ensures above { max (tail_of engine.old.log) 1 ≤ tried.new }
     ensures number { IfOk result (λ lsn. lsn ≡ tried.new) }
     ensures below { OnOk result (tried.new < tail_of engine.new.log) }
     ensures grown { OnOk result (tail_of engine.new.log ≤ tail_of engine.old.log + (5 + length (spelled (shown r.now)))) }
     ensures near { result ≡ Err EngineFault.LogEnd → LOG_END < tail_of engine.old.log + 131072 }
+    ensures within { OnOk result (tried.new + length (spelled (shown r.now)) ≤ LOG_END) }
+    ensures past { result ≡ Err EngineFault.LogEnd → LOG_END < tried.new + length (spelled (shown r.now)) }
     ensures logs { (own : Table) (o : Origin) (ds ps : List Numbered) → IsTrue D.told → IsWrite own o (D.view engine.old.disk) engine.old.log ds ps engine.old.pool (shown r.now) b.0 at bytes.now
         → OnOk result (HasLogged own o (D.view engine.new.disk) engine.new.log ds (ds ++ ps) (shown r.now) tried.new engine.new.pool) }
     ensures runs { (own : Table) (o : Origin) (ds ps : List Numbered) → IsTrue D.told → IsWrite own o (D.view engine.old.disk) engine.old.log ds ps engine.old.pool (shown r.now) b.0 at bytes.now
@@ -175,11 +186,13 @@ fn log_bytes<D: Disk>(
 ) -> Result<Lsn, EngineFault>
     requires range { IsRecord (shown r.now) }
     requires says { changed_by (shown r.now).says ≡ Some (SegWrite (shown_bytes change.now)) }
-    ensures above { tail_of engine.old.log ≤ tried.new }
+    ensures above { max (tail_of engine.old.log) 1 ≤ tried.new }
     ensures number { IfOk result (λ lsn. lsn ≡ tried.new) }
     ensures below { OnOk result (tried.new < tail_of engine.new.log) }
     ensures grown { OnOk result (tail_of engine.new.log ≤ tail_of engine.old.log + (5 + length (spelled (shown r.now)))) }
     ensures near { result ≡ Err EngineFault.LogEnd → LOG_END < tail_of engine.old.log + 131072 }
+    ensures within { OnOk result (tried.new + length (spelled (shown r.now)) ≤ LOG_END) }
+    ensures past { result ≡ Err EngineFault.LogEnd → LOG_END < tried.new + length (spelled (shown r.now)) }
     ensures logs { (own given : Table) (o : Origin) (ds ps : List Numbered) → IsTrue D.told → IsAsked own given o (D.view engine.old.disk) engine.old.log ds ps engine.old.pool (shown r.now)
         → OnOk result (HasLogged own o (D.view engine.new.disk) engine.new.log ds (ds ++ ps) (shown r.now) tried.new engine.new.pool) }
     ensures runs { (own given : Table) (o : Origin) (ds ps : List Numbered) → IsTrue D.told → IsAsked own given o (D.view engine.old.disk) engine.old.log ds ps engine.old.pool (shown r.now)
@@ -198,11 +211,13 @@ fn log_op<D: Disk>(
 ) -> Result<Lsn, EngineFault>
     requires range { IsRecord (shown r.now) }
     requires says { changed_by (shown r.now).says ≡ Some (SegOp (shown_op change.now)) }
-    ensures above { tail_of engine.old.log ≤ tried.new }
+    ensures above { max (tail_of engine.old.log) 1 ≤ tried.new }
     ensures number { IfOk result (λ lsn. lsn ≡ tried.new) }
     ensures below { OnOk result (tried.new < tail_of engine.new.log) }
     ensures grown { OnOk result (tail_of engine.new.log ≤ tail_of engine.old.log + (5 + length (spelled (shown r.now)))) }
     ensures near { result ≡ Err EngineFault.LogEnd → LOG_END < tail_of engine.old.log + 131072 }
+    ensures within { OnOk result (tried.new + length (spelled (shown r.now)) ≤ LOG_END) }
+    ensures past { result ≡ Err EngineFault.LogEnd → LOG_END < tried.new + length (spelled (shown r.now)) }
     ensures logs { (own : Table) (o : Origin) (ds ps : List Numbered) → IsTrue D.told → IsAsked own (table_of record_meaning range_meaning ops.now) o (D.view engine.old.disk) engine.old.log ds ps engine.old.pool (shown r.now)
         → OnOk result (HasLogged own o (D.view engine.new.disk) engine.new.log ds (ds ++ ps) (shown r.now) tried.new engine.new.pool) }
     ensures runs { (own : Table) (o : Origin) (ds ps : List Numbered) → IsTrue D.told → IsAsked own (table_of record_meaning range_meaning ops.now) o (D.view engine.old.disk) engine.old.log ds ps engine.old.pool (shown r.now)
@@ -228,12 +243,15 @@ pub fn log_record<D: Disk>(
     tried: &mut Lsn,
 ) -> Result<Lsn, EngineFault>
     requires range { IsRecord (shown r.now) }
-    ensures above { tail_of engine.old.log ≤ tried.new }
+    ensures above { max (tail_of engine.old.log) 1 ≤ tried.new }
     ensures number { IfOk result (λ lsn. lsn ≡ tried.new) }
     ensures below { OnOk result (tried.new < tail_of engine.new.log) }
     ensures grown { OnOk result (tail_of engine.new.log ≤ tail_of engine.old.log + (5 + length (spelled (shown r.now)))) }
     ensures near { result ≡ Err EngineFault.LogEnd → LOG_END < tail_of engine.old.log + 131072 }
+    ensures within { OnOk result (tried.new + length (spelled (shown r.now)) ≤ LOG_END) }
+    ensures past { result ≡ Err EngineFault.LogEnd → LOG_END < tried.new + length (spelled (shown r.now)) }
     ensures place { changed_by (shown r.now).says ≡ None → tried.new ≡ place_of engine.old.log (shown r.now) }
+    ensures hands { changed_by (shown r.now).says ≡ None → HandsOver (length (spelled (shown r.now))) (D.view engine.old.disk).handed (waiting_of engine.old.log) (D.view engine.new.disk).handed (waiting_of engine.new.log) result }
     ensures logs { (own : Table) (o : Origin) (ds ps : List Numbered) → IsTrue D.told → IsAsked own (table_of record_meaning range_meaning ops.now) o (D.view engine.old.disk) engine.old.log ds ps engine.old.pool (shown r.now)
         → OnOk result (HasLogged own o (D.view engine.new.disk) engine.new.log ds (ds ++ ps) (shown r.now) tried.new engine.new.pool) }
     ensures runs { (own : Table) (o : Origin) (ds ps : List Numbered) → IsTrue D.told → IsAsked own (table_of record_meaning range_meaning ops.now) o (D.view engine.old.disk) engine.old.log ds ps engine.old.pool (shown r.now)
@@ -255,12 +273,15 @@ pub fn log_without<D: Disk>(
     tried: &mut Lsn,
 ) -> Result<Lsn, EngineFault>
     requires range { IsRecord (shown r.now) }
-    ensures above { tail_of engine.old.log ≤ tried.new }
+    ensures above { max (tail_of engine.old.log) 1 ≤ tried.new }
     ensures number { IfOk result (λ lsn. lsn ≡ tried.new) }
     ensures below { OnOk result (tried.new < tail_of engine.new.log) }
     ensures grown { OnOk result (tail_of engine.new.log ≤ tail_of engine.old.log + (5 + length (spelled (shown r.now)))) }
     ensures near { result ≡ Err EngineFault.LogEnd → LOG_END < tail_of engine.old.log + 131072 }
+    ensures within { OnOk result (tried.new + length (spelled (shown r.now)) ≤ LOG_END) }
+    ensures past { result ≡ Err EngineFault.LogEnd → LOG_END < tried.new + length (spelled (shown r.now)) }
     ensures place { changed_by (shown r.now).says ≡ None → tried.new ≡ place_of engine.old.log (shown r.now) }
+    ensures hands { changed_by (shown r.now).says ≡ None → HandsOver (length (spelled (shown r.now))) (D.view engine.old.disk).handed (waiting_of engine.old.log) (D.view engine.new.disk).handed (waiting_of engine.new.log) result }
     ensures logs { (own : Table) (o : Origin) (ds ps : List Numbered) → IsTrue D.told → ((given : Table) → IsAsked own given o (D.view engine.old.disk) engine.old.log ds ps engine.old.pool (shown r.now))
         → OnOk result (HasLogged own o (D.view engine.new.disk) engine.new.log ds (ds ++ ps) (shown r.now) tried.new engine.new.pool) }
     ensures runs { (own : Table) (o : Origin) (ds ps : List Numbered) → IsTrue D.told → ((given : Table) → IsAsked own given o (D.view engine.old.disk) engine.old.log ds ps engine.old.pool (shown r.now))

@@ -60,7 +60,7 @@ pub trait Reopens: Objects {
             IfErr result (λ u. IfBroken u.why (AsMeantBy t (Self.opened self) (Self.view u.engine) (λ g v w. IsFound t g v
             → (o : g.O) → IsRead t g v o → ⊥))) };
 
-    /// How many things are buried.
+    /// At most how many things are buried.
     fn buried(&mut self, ops: &Ops) -> Result<u32, SpaceFault>
         requires can { let t = table_of record_meaning range_meaning ops.now in AskedBy t (Self.view self.old) (CanLook t) }
         ensures counts { Counts IsDiskFault (Self.view self.old) (Self.view self.new) result }
@@ -69,7 +69,7 @@ pub trait Reopens: Objects {
         ensures counted { let t = table_of record_meaning range_meaning ops.now in
             AsMeantBy t (Self.view self.old) (Self.view self.new) (λ g v w. (o : g.O)
             → IsEngine t g v → Reads t g v o → Rests t g v w
-            × IfOk result (λ n. Rested t g v w × (n ≡ g.buried o))) };
+            × IfOk result (λ n. Rested t g v w × (g.buried o ≤ n))) };
 }
 
 // Frees something that is buried; `false` where nothing is.

@@ -4,7 +4,10 @@ pub mod Held
 pub mod Moving
 pub mod Story
 pub mod Looking
+pub mod Looked
 pub mod Asked
+pub mod Listed
+pub mod Needed
 pub mod Doing
 pub mod Ready
 pub mod Done

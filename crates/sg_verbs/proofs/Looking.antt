@@ -1,6 +1,5 @@
 -- A look at the objects, while whoever acts pauses: nothing is logged, and all is as before.
-use Rattle.std.proofs.Common.{◌≡◌, ℕ, ◌+◌, ◌*◌, ◌≤◌, Bool, true, false, List, [], ◌∷◌, ◌++◌, length, Option, Some, None, Result, Ok, Err, refl, sym, ap, ◌∙◌, subst, arith}
-use Rattle.std.specs.Prelude.{OnOk, IfErr}
+use Rattle.std.proofs.Common.{◌≡◌, ℕ, ◌+◌, ◌*◌, ◌≤◌, Bool, true, false, [], ◌++◌, Some, Result, Err, refl, sym, ap, ◌∙◌, subst, arith}
 use Rattle.sg_base.specs.Ends.{HasRisen}
 use Rattle.sg_disk.specs.Disk as disk
 use Rattle.sg_disk.specs.Disk.{LeavesOnly}
@@ -21,13 +20,12 @@ use Rattle.sg_objects.specs.declared.verb.ObjFault.{ObjFault as ObjectsFault}
 use Rattle.sg_objects.specs.declared.verb.ObjFault.TheVariants as objects
 use Rattle.sg_store.specs.declared.fault.ObjFault.{ObjFault}
 use Rattle.sg_store.specs.declared.fault.ObjFault.TheVariants as store
-use Rattle.sg_model.specs.declared.reason.Reason.{Reason}
 use Rattle.sg_store.specs.Engine.{IsObjDisk}
 use Rattle.sg_space.specs.declared.space.SpaceFault.TheVariants as faults
 use Rattle.sg_store.specs.Engine.{Sizes, Asked, AskedBy, Counts, IsDiskFault, IsImageOf, Rests, Rested, action_of}
 use Rattle.sg_store.specs.Verbs.{CanLook}
 use Rattle.sg_ground.specs.Recovers.{Recovering}
-use Rattle.sg_shown.specs.Shown.{Over, Keeping, Means, basis, shown_of, acting}
+use Rattle.sg_shown.specs.Shown.{Over, Means, basis, shown_of, acting}
 use Rattle.sg_shown.proofs.History.{grows_is, moments_are}
 use Rattle.sg_shown.proofs.Holding.{Facts, engine_is, idle_ended}
 use Rattle.sg_verbs.proofs.Held.{space_in, free_in, free_bands_in, contents_in, own_reads, taken_now, counted_now, map_now}
@@ -163,10 +161,6 @@ pub disk_is : (f : SpaceFault) → IsDiskFault f → f ≡ faults.Disk
 disk_is faults.Disk h = refl
 disk_is faults.LogEnd h = absurd h
 
-pub counts_ok : {T U : Type 0} (recovers : Recovering) (a b : Over) (w : Bool) (x : T) (y : U) → space.Counts (view_in a) (view_in b) (let r : Result T SpaceFault = Ok x in r) → (a.engine.Told → b.engine.Told) → a.engine.tail ≤ b.engine.tail
-    → Counts IsDiskFault (shown_of recovers a) (shown_of recovers (resumed w b)) (let r : Result U SpaceFault = Ok y in r)
-counts_ok recovers a b w x y q tells tail = record { told = q.told; tells = tells; tail = tail; later = q.later; quiet = q.quiet; failed = tt }
-
 pub counts_err : {T U : Type 0} (recovers : Recovering) (a b d : Over) (f : SpaceFault) → space.Counts (view_in a) (view_in b) (let r : Result T SpaceFault = Err f in r) → a.engine.tail ≤ b.engine.tail → IsStopped b d
     → Counts IsDiskFault (shown_of recovers a) (shown_of recovers d) (let r : Result U SpaceFault = Err f in r)
 counts_err recovers a b d f q tail s = record {
@@ -179,14 +173,6 @@ counts_err recovers a b d f q tail s = record {
 }
 
 -- of a call on objects
-pub object_ok : {T U : Type 0} (recovers : Recovering) (a b : Over) (w : Bool) (x : T) (y : U) → CountsObject (view_in a) (view_in b) (let r : Result T ObjectsFault = Ok x in r) → (a.engine.Told → b.engine.Told) → a.engine.tail ≤ b.engine.tail
-    → Counts IsObjDisk (shown_of recovers a) (shown_of recovers (resumed w b)) (let r : Result U ObjFault = Ok y in r)
-object_ok recovers a b w x y q tells tail = record { told = q.told; tells = tells; tail = tail; later = q.later; quiet = q.quiet; failed = tt }
-
-pub object_refused : {T U : Type 0} (recovers : Recovering) (a b : Over) (w : Bool) (reason reason' : Reason) → CountsObject (view_in a) (view_in b) (let r : Result T ObjectsFault = Err (objects.Model reason) in r) → a.engine.tail ≤ b.engine.tail
-    → Counts IsObjDisk (shown_of recovers a) (shown_of recovers (resumed w b)) (let r : Result U ObjFault = Err (store.Model reason') in r)
-object_refused recovers a b w reason reason' q tail = record { told = q.told; tells = tt; tail = tail; later = q.later; quiet = tt; failed = λ h. absurd h }
-
 pub object_err : {T U : Type 0} (recovers : Recovering) (a b d : Over) (f : SpaceFault) → CountsObject (view_in a) (view_in b) (let r : Result T ObjectsFault = Err (objects.Space f) in r) → a.engine.tail ≤ b.engine.tail → IsStopped b d
     → Counts IsObjDisk (shown_of recovers a) (shown_of recovers d) (let r : Result U ObjFault = Err (store.Space f) in r)
 object_err recovers a b d f q tail s = record {

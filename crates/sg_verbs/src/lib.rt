@@ -6,11 +6,14 @@
 #![tactic(auto)]
 
 mod freeing;
+mod listing;
 mod looks;
 mod needing;
+mod pausing;
 mod performing;
 
 pub use freeing::free_next;
+pub use listing::{keys, list};
 pub use looks::{touches, touches_keys};
 pub use needing::needs;
 pub use performing::perform;

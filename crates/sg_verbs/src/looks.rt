@@ -9,6 +9,7 @@ ghost use Rattle.sg_store.specs.Engine.{Keeps, AsMeant, Asked, IsEngine, Rests, 
 ghost use Rattle.sg_store.specs.Verbs.{Reads, CanLook};
 ghost use Rattle.sg_shown.specs.Shown.{shown};
 
+use crate::pausing::{go_on, pause};
 use sg_actions::{Acts, Engine};
 use sg_base::Name;
 use sg_model::{Op, Touches};
@@ -29,16 +30,10 @@ pub fn touches<E: Engine>(
         × (shown_touches into.new ≡ touches (g.objects o) (said_op op.now)))) }
     ensures reads { IfErr result IsDiskFault }
 {
-    let was = acts.pause();
+    let was = pause(acts);
     let done = sg_objects::touches(acts, op, into);
-    acts.go_on(was);
-    match done {
-        Ok(()) => Ok(()),
-        Err(fault) => {
-            acts.stop();
-            Err(fault)
-        }
-    }
+    go_on(acts, was, done.is_err());
+    done
 }
 
 /// What the list of a table's keys touches.
@@ -56,14 +51,8 @@ pub fn touches_keys<E: Engine>(
         × (shown_touches into.new ≡ touches (g.objects o) (On name Keys)))) }
     ensures reads { IfErr result IsDiskFault }
 {
-    let was = acts.pause();
+    let was = pause(acts);
     let done = sg_objects::touches_keys(acts, name, into);
-    acts.go_on(was);
-    match done {
-        Ok(()) => Ok(()),
-        Err(fault) => {
-            acts.stop();
-            Err(fault)
-        }
-    }
+    go_on(acts, was, done.is_err());
+    done
 }

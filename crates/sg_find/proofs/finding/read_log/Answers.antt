@@ -6,6 +6,7 @@ use Rattle.sg_log.specs.Reads.{OnlyReads}
 use Rattle.sg_log.proofs.Holding.{holds_along}
 use Rattle.sg_log.proofs.Runs.{reads_more}
 use Rattle.sg_analysis.specs.Analysis.{analysis_of}
+use Rattle.sg_analysis.specs.Shown.{IsAnalysed}
 use Rattle.std.specs.Bool.{OnFalse}
 use Rattle.std.specs.Prelude.{Result, Ok, Err}
 use Rattle.sg_find.specs.declared.fault.OpenFault.{OpenFault}
@@ -31,6 +32,13 @@ returns-in-Ok-analyse-clause-says g c ds gate told has =
     let has' = subst (λ (a : Area). HasRecords (v.now a).seen s.base gate ds) (sym area) has in
     let there = subst (λ (x : State). HasRecords (x c.log_area-area.result).seen s.base gate ds) (sym (c.attach.ensures.unchanged told)) has' in
     c.in-Ok-analyse.ensures.says gate ds told there
+
+pub returns-in-Ok-analyse-clause-analysed : goal.returns-in-Ok-analyse-clause-analysed
+returns-in-Ok-analyse-clause-analysed g c told =
+    let v = g.D.Disk.view c.args.disk.now in
+    let s = c.args.s.now in
+    subst (λ (a : Area). IsAnalysed (v.now a).seen s.base c.in-Ok-analyse.analysis) c.log_area-area.ensures.area
+    (subst (λ (x : State). IsAnalysed (x c.log_area-area.result).seen s.base c.in-Ok-analyse.analysis) (c.attach.ensures.unchanged told) (c.in-Ok-analyse.ensures.analysed told))
 
 pub returns-in-Ok-analyse-clause-reads : goal.returns-in-Ok-analyse-clause-reads
 returns-in-Ok-analyse-clause-reads g c =

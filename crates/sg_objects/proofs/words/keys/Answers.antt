@@ -1,4 +1,4 @@
-use Rattle.std.proofs.Common.{Result, subst}
+use Rattle.std.proofs.Common.{◌∙◌, Result, subst}
 use Rattle.sg_base.specs.declared.numbers.PageNo.{PageNo}
 use Rattle.sg_catalog.specs.declared.row.ObjectKind.TheVariants as kinds
 use Rattle.sg_model.specs.declared.reason.Reason.{Reason}
@@ -48,3 +48,7 @@ returns-in_err-all-in-Ok-clause-lacks g c = handed_on c.from_residual-in_err-all
     let k = c.in_ok-reason.ensures.kept in
     let f = subst (λ (r : Result PageNo Reason). IsLocated kinds.Table c.args.name s r) c.in-Ok.is (c.in_ok-reason.ensures.read shows s h) in
     keys_reply t f (table_there (still_contents k shows h) f).1)
+
+pub returns-in_err-all-in-Ok-clause-quiet : goal.returns-in_err-all-in-Ok-clause-quiet
+returns-in_err-all-in-Ok-clause-quiet g c = handed_on c.from_residual-in_err-all-in-Ok.result c.in_err-all-in-Ok.field-0.0 _ c.from_residual-in_err-all-in-Ok.ensures.1
+    (λ e. c.in_err-all-in-Ok.ensures.quiet e ∙ c.in_ok-reason.ensures.counts.quiet)

@@ -15,7 +15,7 @@ use Rattle.sg_gate.specs.declared.fault.GateFault.TheVariants as gates
 use Rattle.sg_open.specs.Refusals.{IsCause}
 use Rattle.sg_open.proofs.Causes.{gate_cause, log_cause, text_cause, text_accepted}
 use Rattle.sg_find.specs.Stretch.{GREATEST_FRAME}
-use Rattle.sg_analysis.specs.Shown.{shown}
+use Rattle.sg_analysis.specs.Shown.{shown, IsAnalysed}
 use Rattle.sg_log.specs.Frames.{Frames, HasRecords}
 use Rattle.sg_disk.specs.Disk.{State}
 use Rattle.std.specs.Bool.{OnFalse}
@@ -161,3 +161,8 @@ returns-in-Err-take_room-clause-cause g c told settled =
     let t : Table = table_of (λ p. (goal.RecordOp-dyn g p).record_meaning p.1) (λ p. (goal.RangeOp-dyn g p).range_meaning p.1) c.args.ops.now in
     let v = g.D.Disk.view c.args.disk.now in
     subst (λ (e : OpenFault). IsCause t (reads v) e) (sym c.in-Err-take_room.ensures.memory) tt
+
+pub returns-in-Ok-check_log-clause-analysed : goal.returns-in-Ok-check_log-clause-analysed
+returns-in-Ok-check_log-clause-analysed g c told =
+    let s = c.in-Ok.geometry in
+    subst (λ (st : State). IsAnalysed (st (log_area s)).seen s.base c.in-Ok-read_log.read.1) (c.read_super.ensures.reads.unchanged told) (c.in-Ok-read_log.ensures.analysed told)

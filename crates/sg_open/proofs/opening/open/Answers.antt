@@ -1,10 +1,11 @@
 use Rattle.std.proofs.Common.{◌≡◌, ◌+◌, ℕ, length, sym, ◌∙◌, ap, subst, arith, Ok, inl, inr}
 use Rattle.sg_base.specs.declared.area.Area.TheVariants.{Home}
-use Rattle.sg_disk.specs.Disk.{State, LeavesOnly}
+use Rattle.sg_disk.specs.Disk.{Bytes, State, LeavesOnly}
 use Rattle.sg_gate.specs.Superblock.{superblock}
 use Rattle.sg_gate.specs.declared.superblock.Super.{Super}
 use Rattle.sg_pool.specs.Pooled.{sizes}
-use Rattle.sg_find.specs.Synced.{reads}
+use Rattle.sg_analysis.specs.Shown.{IsAnalysed}
+use Rattle.sg_find.specs.Synced.{log_area, reads}
 use Rattle.sg_find.specs.declared.fault.OpenFault.{OpenFault}
 use Rattle.sg_open.specs.Refusals.{IsCause}
 use Rattle.sg_open.proofs.Causes.{cause_same, accepted_same, late_cause}
@@ -219,3 +220,9 @@ returns-in-Ok-repeat-clause-accepted g c told =
     let v2 = g.D.Disk.view c.find.new.disk in
     let synced = on_ok c.sync_all.result c.if-is_err.ensures.value (c.sync_all.ensures.synced told) in
     accepted_same t (reads v1) (reads v) c.in-Ok.found.geometry synced.seen (c.in-Ok.ensures.accepted told synced.settled)
+
+pub returns-in-Ok-repeat-clause-analysed : goal.returns-in-Ok-repeat-clause-analysed
+returns-in-Ok-repeat-clause-analysed g c told =
+    let synced = on_ok c.sync_all.result c.if-is_err.ensures.value (c.sync_all.ensures.synced told) in
+    let f = c.in-Ok.found in
+    subst (λ (b : Bytes). IsAnalysed b f.geometry.base f.analysis) (synced.seen (log_area f.geometry)) (c.in-Ok.ensures.analysed told)

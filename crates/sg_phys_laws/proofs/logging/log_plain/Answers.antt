@@ -1,8 +1,10 @@
-use Rattle.std.proofs.Common.{inl, refl, arith}
+use Rattle.std.proofs.Common.{inl, refl, ap, arith}
 use Rattle.sg_record.specs.Shown.{shown}
 use Rattle.sg_phys_laws.proofs.Numbers.{place_late, placed_below, grown_kept, near}
 use Rattle.sg_phys_laws.proofs.Paging.{on_ok, each_ok, number_ok}
 use Rattle.sg_phys_laws.proofs.Wrapped.{plain_may, plain_logged}
+use Rattle.sg_phys_laws.proofs.Handing.{within_end, past_end, hands_record}
+use Rattle.sg_engine.specs.declared.fault.EngineFault.TheVariants.{LogEnd}
 use Rattle.sg_phys_laws.proofs.logging.log_plain.Goals as goal
 
 pub returns-clause-above : goal.returns-clause-above
@@ -30,3 +32,13 @@ returns-clause-runs g c own given o ds ps told a = record {
 
 pub returns-clause-grown : goal.returns-clause-grown
 returns-clause-grown g c = on_ok c.append.result c.append.ensures.tail (λ end. grown_kept c.args.engine.now.log c.args.engine.now.log c.append.new.self.log (shown c.args.r.now) (inl refl) c.requires.range end)
+
+pub returns-clause-within : goal.returns-clause-within
+returns-clause-within g c = within_end c.args.engine.now.log (shown c.args.r.now) c.place.result LogEnd c.append.result c.place.ensures c.append.ensures.full
+
+pub returns-clause-past : goal.returns-clause-past
+returns-clause-past g c e = past_end c.args.engine.now.log (shown c.args.r.now) c.place.result c.place.ensures (c.append.ensures.log_end e)
+
+pub returns-clause-hands : goal.returns-clause-hands
+returns-clause-hands g c = hands_record c.args.engine.now.log c.append.new.self.log (shown c.args.r.now) (g.D.Disk.view c.args.engine.now.disk).handed (g.D.Disk.view c.append.new.self.disk).handed c.append.result c.requires.range
+    (λ room. ap (λ d. (g.D.Disk.view d).handed) (c.append.ensures.no_call room)) c.append.ensures.handed c.append.ensures.log

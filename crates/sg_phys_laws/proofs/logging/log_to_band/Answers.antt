@@ -5,6 +5,8 @@ use Rattle.sg_phys_laws.proofs.Numbers.{place_late, placed_below, grown_kept, ne
 use Rattle.sg_phys_laws.proofs.Paging.{on_ok, number_ok}
 use Rattle.sg_phys_laws.proofs.Poised.{none_stood}
 use Rattle.sg_phys_laws.proofs.Wrapped.{bytes_may, bytes_logged, bytes_run}
+use Rattle.sg_phys_laws.proofs.Handing.{within_end, past_end}
+use Rattle.sg_engine.specs.declared.fault.EngineFault.TheVariants.{LogEnd}
 use Rattle.sg_phys_laws.proofs.logging.log_to_band.Goals as goal
 
 pub returns-then-b-bands-clause-above : goal.returns-then-b-bands-clause-above
@@ -44,3 +46,9 @@ returns-clause-runs g c own o ds ps told a =
 
 pub returns-clause-grown : goal.returns-clause-grown
 returns-clause-grown g c = on_ok c.change_band.result c.change_band.ensures.tail (λ end. grown_kept c.args.engine.now.log c.args.engine.now.log c.change_band.new.self.log (shown c.args.r.now) (inl refl) c.requires.range end)
+
+pub returns-clause-within : goal.returns-clause-within
+returns-clause-within g c = within_end c.args.engine.now.log (shown c.args.r.now) c.place.result LogEnd c.change_band.result c.place.ensures c.change_band.ensures.full
+
+pub returns-clause-past : goal.returns-clause-past
+returns-clause-past g c e = past_end c.args.engine.now.log (shown c.args.r.now) c.place.result c.place.ensures (c.change_band.ensures.log_end e)

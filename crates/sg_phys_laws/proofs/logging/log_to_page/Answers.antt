@@ -10,6 +10,8 @@ use Rattle.sg_phys_laws.proofs.Numbers.{place_late, placed_above, placed_below, 
 use Rattle.sg_phys_laws.proofs.Paging.{may_go, gone_further, page_run, on_ok, number_ok}
 use Rattle.sg_phys_laws.proofs.Poised.{none_stood}
 use Rattle.sg_phys_laws.proofs.logging.log_to_page.Goals as goal
+use Rattle.sg_phys_laws.proofs.Handing.{within_end, past_end}
+use Rattle.sg_engine.specs.declared.fault.EngineFault.TheVariants.{LogEnd}
 use Rattle.sg_phys_laws.proofs.logging.log_to_page.Goals.{In-Ok}
 
 pub returns-then-p-pages-clause-above : goal.returns-then-p-pages-clause-above
@@ -70,3 +72,9 @@ returns-clause-near g c e = near_kept c.args.engine.now.log c.load_page.new.self
 
 pub returns-clause-grown : goal.returns-clause-grown
 returns-clause-grown g c = on_ok c.change_page.result c.change_page.ensures.tail (λ end. grown_kept c.args.engine.now.log c.load_page.new.self.log c.change_page.new.self.log (shown c.args.r.now) c.in-Ok.ensures.log_kept c.requires.range end)
+
+pub returns-clause-within : goal.returns-clause-within
+returns-clause-within g c = within_end c.load_page.new.self.log (shown c.args.r.now) c.place-2.result LogEnd c.change_page.result c.place-2.ensures c.change_page.ensures.full
+
+pub returns-clause-past : goal.returns-clause-past
+returns-clause-past g c e = past_end c.load_page.new.self.log (shown c.args.r.now) c.place-2.result c.place-2.ensures (c.change_page.ensures.log_end e)

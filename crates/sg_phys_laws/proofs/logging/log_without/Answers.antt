@@ -18,3 +18,9 @@ returns-clause-logs g c own o ds ps told a = c.log_record.ensures.logs own o ds 
 
 pub returns-clause-runs : goal.returns-clause-runs
 returns-clause-runs g c own o ds ps told a = c.log_record.ensures.runs own o ds ps told (a _)
+
+pub returns-in_default-clause-hands : goal.returns-in_default-clause-hands
+returns-in_default-clause-hands g c none = record { most = omega arith; all = tt }
+
+pub returns-clause-hands : goal.returns-clause-hands
+returns-clause-hands g c = c.log_record.ensures.hands

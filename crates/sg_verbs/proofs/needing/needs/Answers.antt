@@ -1,230 +1,41 @@
-use Rattle.std.proofs.Common.{◌≡◌, ℕ, ◌+◌, Bool, true, false, List, length, Some, refl, sym, ap, ◌∙◌, subst}
-use Rattle.std.specs.Prelude.{Ok, Err, Result}
-use Rattle.sg_ops.specs.Table.{Table, fresh_table, table_of}
-use Rattle.sg_action.specs.States.{State}
-use Rattle.sg_contents.specs.Standing.{IsContents}
-use Rattle.sg_model.specs.SaidOps.{said_op, name_of, verb_of}
-use Rattle.sg_model.specs.Touches.{touches}
-use Rattle.sg_reading.specs.Reading.{Reading, objects}
-use Rattle.sg_shown.specs.Shown.{Over, over, shown_of, Means, basis}
-use Rattle.sg_shown.proofs.Holding.{Facts}
-use Rattle.sg_store.specs.Engine.{Counts, IsDiskFault, IsObjDisk, Rested}
-use Rattle.sg_space.specs.View as space
-use Rattle.sg_space.specs.View.{OnlyReads}
-use Rattle.sg_verbs.proofs.Held.{space_in}
-use Rattle.sg_verbs.proofs.Moving.{LaterOn, view_in, IsStopped}
-use Rattle.sg_verbs.proofs.Story.{seen}
-use Rattle.sg_verbs.proofs.Looking.{same_tail, paused, resumed, paused_since, look_there, asked_there, asked_by_there, counts_ok, counts_err, object_ok, object_refused, object_err, look_means, look_rests, look_rested, stopped_means}
-use Rattle.sg_objects.specs.Calls.{CountsObject, IfAnswered}
-use Rattle.sg_objects.specs.Found.{CheckedBy}
-use Rattle.sg_objects.specs.Needing.{HasNeed}
-use Rattle.sg_objects.specs.declared.need.Needs.{Needs}
-use Rattle.sg_objects.specs.declared.verb.ObjFault.{ObjFault as ObjectsFault}
-use Rattle.sg_objects.specs.declared.verb.ObjFault.TheVariants as objects
-use Rattle.sg_store.specs.declared.fault.ObjFault.{ObjFault}
-use Rattle.sg_store.specs.declared.fault.ObjFault.TheVariants as store
-use Rattle.sg_store.specs.declared.fault.Needed.{Needed}
-use Rattle.sg_contents.specs.Standing.{IfContents}
-use Rattle.sg_verbs.proofs.Asked.{refused_as, needs_as}
+use Rattle.std.proofs.Common.{sym, subst}
+use Rattle.sg_ops.specs.Table.{table_of}
+use Rattle.sg_model.specs.SaidOps.{name_of, verb_of}
+use Rattle.sg_shown.specs.Shown.{over}
+use Rattle.sg_verbs.proofs.Looking.{asked_by_there}
+use Rattle.sg_verbs.proofs.Looked.{asked_look_by, contents_there, goes_on, means_end, tail_end}
+use Rattle.sg_verbs.proofs.Needed.{Finds, Says, need_ends, need_says}
 use Rattle.sg_verbs.proofs.needing.needs.Given as given
 use Rattle.sg_verbs.proofs.needing.needs.Goals as goal
 
-pub needs_of-done-requires : goal.needs_of-done-requires
-needs_of-done-requires g c = record {
-  there = λ told1.
-      let a : Over = over c.args.acts.now in
-      let p1 : over c.pause-was.new.self ≡ paused a = λ i. record { engine = g.E.Engine.view (c.pause-was.ensures.engine i); means = g.E.Engine.means (c.pause-was.ensures.engine i); limits = g.E.Engine.limits; start = g.E.Engine.first_byte (c.pause-was.ensures.engine i); maps = c.pause-was.ensures.maps i; unfreed = c.pause-was.ensures.unfreed i; rows = (c.pause-was.ensures.rows i).items; actor = c.pause-was.ensures.actor i; begun = c.pause-was.ensures.begun i; begin = (g.E.Engine.view (c.pause-was.ensures.begun_at i).value).now; breaks = c.pause-was.ensures.breaks i } in
-      let t = table_of (λ y. (given.RecordOp-dyn g y).record_meaning y.1) (λ y. (given.RangeOp-dyn g y).range_meaning y.1) c.args.ops.now in
-      let told = subst (λ e. (g.E.Engine.view e).Told) c.pause-was.ensures.engine told1 in
-      let r = (asked_by_there g.E.Engine.recovers a t (λ from m told. g.met.E.Engine.now_is _ t from m told) c.requires.can) told in
-      (r.0, subst (λ (o : Over). IsContents (space_in o) r.0) (sym p1) r.1, tt);
-}
-
-pub returns-in-Ok-clause-counts : goal.returns-in-Ok-clause-counts
-returns-in-Ok-clause-counts g c =
-    let a : Over = over c.args.acts.now in
-    let b : Over = over c.needs_of-done.new.space in
-    let p1 : over c.pause-was.new.self ≡ paused a = λ i. record { engine = g.E.Engine.view (c.pause-was.ensures.engine i); means = g.E.Engine.means (c.pause-was.ensures.engine i); limits = g.E.Engine.limits; start = g.E.Engine.first_byte (c.pause-was.ensures.engine i); maps = c.pause-was.ensures.maps i; unfreed = c.pause-was.ensures.unfreed i; rows = (c.pause-was.ensures.rows i).items; actor = c.pause-was.ensures.actor i; begun = c.pause-was.ensures.begun i; begin = (g.E.Engine.view (c.pause-was.ensures.begun_at i).value).now; breaks = c.pause-was.ensures.breaks i } in
-    let p3 : over c.go_on.new.self ≡ resumed a.begun b = λ i. record { engine = g.E.Engine.view (c.go_on.ensures.engine i); means = g.E.Engine.means (c.go_on.ensures.engine i); limits = g.E.Engine.limits; start = g.E.Engine.first_byte (c.go_on.ensures.engine i); maps = c.go_on.ensures.maps i; unfreed = c.go_on.ensures.unfreed i; rows = (c.go_on.ensures.rows i).items; actor = c.go_on.ensures.actor i; begun = (c.go_on.ensures.begun ∙ c.pause-was.ensures.was) i; begin = (g.E.Engine.view (c.go_on.ensures.begun_at i)).now; breaks = c.go_on.ensures.breaks i } in
-    let l : (t : Table) → LaterOn g.E.Engine.recovers t (paused a) b = λ t. subst (λ (o : Over). LaterOn g.E.Engine.recovers t o b) p1 (c.needs_of-done.ensures.later t) in
-    let reads : OnlyReads (view_in a) (view_in b) = subst (λ (o : Over). OnlyReads (view_in o) (view_in b)) p1 c.in-Ok.ensures.kept in
-    let done : Result Needed ObjFault = Ok (record { pages = c.in-Ok.n.pages; bands = c.in-Ok.n.bands; reserve = c.in-Ok.n.reserve }) in
-    let was : Result Needs ObjectsFault = Ok c.in-Ok.n in
-    subst (λ (o : Over). Counts IsObjDisk (shown_of g.E.Engine.recovers a) (shown_of g.E.Engine.recovers o) done) (sym p3)
-    (object_ok {T = Needs} {U = Needed} g.E.Engine.recovers a b a.begun c.in-Ok.n (record { pages = c.in-Ok.n.pages; bands = c.in-Ok.n.bands; reserve = c.in-Ok.n.reserve }) (subst (λ (o : Over). CountsObject {T = Needs} (view_in o) (view_in b) was) p1 c.in-Ok.ensures.counts) (λ told. reads.keeps.told told) (l fresh_table).tail)
-
-pub returns-in-Model-clause-counts : goal.returns-in-Model-clause-counts
-returns-in-Model-clause-counts g c =
-    let a : Over = over c.args.acts.now in
-    let b : Over = over c.needs_of-done.new.space in
-    let p1 : over c.pause-was.new.self ≡ paused a = λ i. record { engine = g.E.Engine.view (c.pause-was.ensures.engine i); means = g.E.Engine.means (c.pause-was.ensures.engine i); limits = g.E.Engine.limits; start = g.E.Engine.first_byte (c.pause-was.ensures.engine i); maps = c.pause-was.ensures.maps i; unfreed = c.pause-was.ensures.unfreed i; rows = (c.pause-was.ensures.rows i).items; actor = c.pause-was.ensures.actor i; begun = c.pause-was.ensures.begun i; begin = (g.E.Engine.view (c.pause-was.ensures.begun_at i).value).now; breaks = c.pause-was.ensures.breaks i } in
-    let p3 : over c.go_on.new.self ≡ resumed a.begun b = λ i. record { engine = g.E.Engine.view (c.go_on.ensures.engine i); means = g.E.Engine.means (c.go_on.ensures.engine i); limits = g.E.Engine.limits; start = g.E.Engine.first_byte (c.go_on.ensures.engine i); maps = c.go_on.ensures.maps i; unfreed = c.go_on.ensures.unfreed i; rows = (c.go_on.ensures.rows i).items; actor = c.go_on.ensures.actor i; begun = (c.go_on.ensures.begun ∙ c.pause-was.ensures.was) i; begin = (g.E.Engine.view (c.go_on.ensures.begun_at i)).now; breaks = c.go_on.ensures.breaks i } in
-    let l : (t : Table) → LaterOn g.E.Engine.recovers t (paused a) b = λ t. subst (λ (o : Over). LaterOn g.E.Engine.recovers t o b) p1 (c.needs_of-done.ensures.later t) in
-    let done : Result Needed ObjFault = Err (store.Model c.in-Model.reason) in
-    let was : Result Needs ObjectsFault = Err c.in-Err.why in
-    subst (λ (o : Over). Counts IsObjDisk (shown_of g.E.Engine.recovers a) (shown_of g.E.Engine.recovers o) done) (sym p3)
-    (object_refused {T = Needs} {U = Needed} g.E.Engine.recovers a b a.begun c.in-Model.reason c.in-Model.reason (subst (λ (e : ObjectsFault). CountsObject {T = Needs} (view_in a) (view_in b) (Err e)) c.in-Model.is (subst (λ (o : Over). CountsObject {T = Needs} (view_in o) (view_in b) was) p1 c.in-Err.ensures.counts)) (l fresh_table).tail)
-
-pub returns-in-Space-clause-counts : goal.returns-in-Space-clause-counts
-returns-in-Space-clause-counts g c =
-    let a : Over = over c.args.acts.now in
-    let b : Over = over c.needs_of-done.new.space in
-    let p1 : over c.pause-was.new.self ≡ paused a = λ i. record { engine = g.E.Engine.view (c.pause-was.ensures.engine i); means = g.E.Engine.means (c.pause-was.ensures.engine i); limits = g.E.Engine.limits; start = g.E.Engine.first_byte (c.pause-was.ensures.engine i); maps = c.pause-was.ensures.maps i; unfreed = c.pause-was.ensures.unfreed i; rows = (c.pause-was.ensures.rows i).items; actor = c.pause-was.ensures.actor i; begun = c.pause-was.ensures.begun i; begin = (g.E.Engine.view (c.pause-was.ensures.begun_at i).value).now; breaks = c.pause-was.ensures.breaks i } in
-    let l : (t : Table) → LaterOn g.E.Engine.recovers t (paused a) b = λ t. subst (λ (o : Over). LaterOn g.E.Engine.recovers t o b) p1 (c.needs_of-done.ensures.later t) in
-    let q = c.go_on.ensures in
-    let s = c.stop.ensures in
-    let stopped : IsStopped b (over c.stop.new.self) = record {
-      silent = s.silent;
-      disk = s.disk ∙ (λ i. (g.E.Engine.view (q.engine i)).disk);
-      tail = s.tail ∙ (λ i. (g.E.Engine.view (q.engine i)).tail);
-      faults = λ i. (s.faults ∙ (λ j. (g.E.Engine.view (q.engine j)).faults)) i + (s.breaks ∙ q.breaks) i;
-      means = λ t from m. s.means t from (subst (λ e. g.E.Engine.means e t from) (sym q.engine) m);
-      pages = λ i. length ((s.maps ∙ q.maps) i).pages;
-      bands = λ i. length ((s.maps ∙ q.maps) i).bands;
-      limits = refl;
-    } in
-    let was : Result Needs ObjectsFault = Err c.in-Err.why in
-    object_err {T = Needs} {U = Needed} g.E.Engine.recovers a b (over c.stop.new.self) c.in-Space.fault (subst (λ (e : ObjectsFault). CountsObject {T = Needs} (view_in a) (view_in b) (Err e)) c.in-Space.is (subst (λ (o : Over). CountsObject {T = Needs} (view_in o) (view_in b) was) p1 c.in-Err.ensures.counts)) (l fresh_table).tail stopped
-
-pub returns-in-Ok-clause-tail : goal.returns-in-Ok-clause-tail
-returns-in-Ok-clause-tail g c =
-    let a : Over = over c.args.acts.now in
-    let b : Over = over c.needs_of-done.new.space in
-    let p1 : over c.pause-was.new.self ≡ paused a = λ i. record { engine = g.E.Engine.view (c.pause-was.ensures.engine i); means = g.E.Engine.means (c.pause-was.ensures.engine i); limits = g.E.Engine.limits; start = g.E.Engine.first_byte (c.pause-was.ensures.engine i); maps = c.pause-was.ensures.maps i; unfreed = c.pause-was.ensures.unfreed i; rows = (c.pause-was.ensures.rows i).items; actor = c.pause-was.ensures.actor i; begun = c.pause-was.ensures.begun i; begin = (g.E.Engine.view (c.pause-was.ensures.begun_at i).value).now; breaks = c.pause-was.ensures.breaks i } in
-    let l : (t : Table) → LaterOn g.E.Engine.recovers t (paused a) b = λ t. subst (λ (o : Over). LaterOn g.E.Engine.recovers t o b) p1 (c.needs_of-done.ensures.later t) in
-    let records : b.engine.records ≡ a.engine.records = c.in-Ok.ensures.writes.records ∙ (λ i. (g.E.Engine.view (c.pause-was.ensures.engine i)).records) in
-    (λ i. (g.E.Engine.view (c.go_on.ensures.engine i)).tail) ∙ same_tail g.E.Engine.recovers a b fresh_table (l fresh_table) records
-
-pub returns-in-Model-clause-tail : goal.returns-in-Model-clause-tail
-returns-in-Model-clause-tail g c =
-    let a : Over = over c.args.acts.now in
-    let b : Over = over c.needs_of-done.new.space in
-    let p1 : over c.pause-was.new.self ≡ paused a = λ i. record { engine = g.E.Engine.view (c.pause-was.ensures.engine i); means = g.E.Engine.means (c.pause-was.ensures.engine i); limits = g.E.Engine.limits; start = g.E.Engine.first_byte (c.pause-was.ensures.engine i); maps = c.pause-was.ensures.maps i; unfreed = c.pause-was.ensures.unfreed i; rows = (c.pause-was.ensures.rows i).items; actor = c.pause-was.ensures.actor i; begun = c.pause-was.ensures.begun i; begin = (g.E.Engine.view (c.pause-was.ensures.begun_at i).value).now; breaks = c.pause-was.ensures.breaks i } in
-    let l : (t : Table) → LaterOn g.E.Engine.recovers t (paused a) b = λ t. subst (λ (o : Over). LaterOn g.E.Engine.recovers t o b) p1 (c.needs_of-done.ensures.later t) in
-    let records : b.engine.records ≡ a.engine.records = c.in-Err.ensures.writes.records ∙ (λ i. (g.E.Engine.view (c.pause-was.ensures.engine i)).records) in
-    (λ i. (g.E.Engine.view (c.go_on.ensures.engine i)).tail) ∙ same_tail g.E.Engine.recovers a b fresh_table (l fresh_table) records
-
-pub returns-in-Space-clause-tail : goal.returns-in-Space-clause-tail
-returns-in-Space-clause-tail g c =
-    let a : Over = over c.args.acts.now in
-    let b : Over = over c.needs_of-done.new.space in
-    let p1 : over c.pause-was.new.self ≡ paused a = λ i. record { engine = g.E.Engine.view (c.pause-was.ensures.engine i); means = g.E.Engine.means (c.pause-was.ensures.engine i); limits = g.E.Engine.limits; start = g.E.Engine.first_byte (c.pause-was.ensures.engine i); maps = c.pause-was.ensures.maps i; unfreed = c.pause-was.ensures.unfreed i; rows = (c.pause-was.ensures.rows i).items; actor = c.pause-was.ensures.actor i; begun = c.pause-was.ensures.begun i; begin = (g.E.Engine.view (c.pause-was.ensures.begun_at i).value).now; breaks = c.pause-was.ensures.breaks i } in
-    let l : (t : Table) → LaterOn g.E.Engine.recovers t (paused a) b = λ t. subst (λ (o : Over). LaterOn g.E.Engine.recovers t o b) p1 (c.needs_of-done.ensures.later t) in
-    let records : b.engine.records ≡ a.engine.records = c.in-Err.ensures.writes.records ∙ (λ i. (g.E.Engine.view (c.pause-was.ensures.engine i)).records) in
-    c.stop.ensures.tail ∙ ((λ i. (g.E.Engine.view (c.go_on.ensures.engine i)).tail) ∙ same_tail g.E.Engine.recovers a b fresh_table (l fresh_table) records)
-
-pub returns-in-Ok-clause-means : goal.returns-in-Ok-clause-means
-returns-in-Ok-clause-means g c z from m =
-    let a : Over = over c.args.acts.now in
-    let b : Over = over c.needs_of-done.new.space in
-    let p1 : over c.pause-was.new.self ≡ paused a = λ i. record { engine = g.E.Engine.view (c.pause-was.ensures.engine i); means = g.E.Engine.means (c.pause-was.ensures.engine i); limits = g.E.Engine.limits; start = g.E.Engine.first_byte (c.pause-was.ensures.engine i); maps = c.pause-was.ensures.maps i; unfreed = c.pause-was.ensures.unfreed i; rows = (c.pause-was.ensures.rows i).items; actor = c.pause-was.ensures.actor i; begun = c.pause-was.ensures.begun i; begin = (g.E.Engine.view (c.pause-was.ensures.begun_at i).value).now; breaks = c.pause-was.ensures.breaks i } in
-    let p3 : over c.go_on.new.self ≡ resumed a.begun b = λ i. record { engine = g.E.Engine.view (c.go_on.ensures.engine i); means = g.E.Engine.means (c.go_on.ensures.engine i); limits = g.E.Engine.limits; start = g.E.Engine.first_byte (c.go_on.ensures.engine i); maps = c.go_on.ensures.maps i; unfreed = c.go_on.ensures.unfreed i; rows = (c.go_on.ensures.rows i).items; actor = c.go_on.ensures.actor i; begun = (c.go_on.ensures.begun ∙ c.pause-was.ensures.was) i; begin = (g.E.Engine.view (c.go_on.ensures.begun_at i)).now; breaks = c.go_on.ensures.breaks i } in
-    let l : (t : Table) → LaterOn g.E.Engine.recovers t (paused a) b = λ t. subst (λ (o : Over). LaterOn g.E.Engine.recovers t o b) p1 (c.needs_of-done.ensures.later t) in
+pub needs_of-found-requires : goal.needs_of-found-requires
+needs_of-found-requires g c =
     let t = table_of (λ y. (given.RecordOp-dyn g y).record_meaning y.1) (λ y. (given.RangeOp-dyn g y).range_meaning y.1) c.args.ops.now in
-    let reads : OnlyReads (view_in a) (view_in b) = subst (λ (o : Over). OnlyReads (view_in o) (view_in b)) p1 c.in-Ok.ensures.kept in
-    subst (λ (o : Over). Means o t z from) (sym p3)
-    (look_means g.E.Engine.recovers a b t z from m (l t) refl (g.met.E.Engine.told_whole _) (g.met.E.Engine.now_is _ t from ((l t).means from (paused_since a t from m.since)).stands) (λ told. (c.requires.can.can told).rest.idle) reads
-    (asked_by_there g.E.Engine.recovers a t (λ from m told. g.met.E.Engine.now_is _ t from m told) c.requires.can))
+    record {
+      there = contents_there c.args.acts.now c.pause-was.new.acts c.pause-was.ensures.paused
+          (asked_by_there g.E.Engine.recovers (over c.args.acts.now) t (c.pause-was.ensures.sound.now t) c.requires.can);
+    }
 
-pub returns-in-Model-clause-means : goal.returns-in-Model-clause-means
-returns-in-Model-clause-means g c z from m =
-    let a : Over = over c.args.acts.now in
-    let b : Over = over c.needs_of-done.new.space in
-    let p1 : over c.pause-was.new.self ≡ paused a = λ i. record { engine = g.E.Engine.view (c.pause-was.ensures.engine i); means = g.E.Engine.means (c.pause-was.ensures.engine i); limits = g.E.Engine.limits; start = g.E.Engine.first_byte (c.pause-was.ensures.engine i); maps = c.pause-was.ensures.maps i; unfreed = c.pause-was.ensures.unfreed i; rows = (c.pause-was.ensures.rows i).items; actor = c.pause-was.ensures.actor i; begun = c.pause-was.ensures.begun i; begin = (g.E.Engine.view (c.pause-was.ensures.begun_at i).value).now; breaks = c.pause-was.ensures.breaks i } in
-    let p3 : over c.go_on.new.self ≡ resumed a.begun b = λ i. record { engine = g.E.Engine.view (c.go_on.ensures.engine i); means = g.E.Engine.means (c.go_on.ensures.engine i); limits = g.E.Engine.limits; start = g.E.Engine.first_byte (c.go_on.ensures.engine i); maps = c.go_on.ensures.maps i; unfreed = c.go_on.ensures.unfreed i; rows = (c.go_on.ensures.rows i).items; actor = c.go_on.ensures.actor i; begun = (c.go_on.ensures.begun ∙ c.pause-was.ensures.was) i; begin = (g.E.Engine.view (c.go_on.ensures.begun_at i)).now; breaks = c.go_on.ensures.breaks i } in
-    let l : (t : Table) → LaterOn g.E.Engine.recovers t (paused a) b = λ t. subst (λ (o : Over). LaterOn g.E.Engine.recovers t o b) p1 (c.needs_of-done.ensures.later t) in
+pub returns : goal.returns
+returns g c =
+    let a = c.args.acts.now in
+    let p = c.pause-was.new.acts in
+    let b = c.needs_of-found.new.space in
+    let d = c.go_on.new.acts in
     let t = table_of (λ y. (given.RecordOp-dyn g y).record_meaning y.1) (λ y. (given.RangeOp-dyn g y).range_meaning y.1) c.args.ops.now in
-    let reads : OnlyReads (view_in a) (view_in b) = subst (λ (o : Over). OnlyReads (view_in o) (view_in b)) p1 (subst (λ (e : ObjectsFault). IfAnswered {T = Needs} (Err e) (λ x. OnlyReads (view_in (over c.pause-was.new.self)) (view_in b))) c.in-Model.is c.in-Err.ensures.kept) in
-    subst (λ (o : Over). Means o t z from) (sym p3)
-    (look_means g.E.Engine.recovers a b t z from m (l t) refl (g.met.E.Engine.told_whole _) (g.met.E.Engine.now_is _ t from ((l t).means from (paused_since a t from m.since)).stands) (λ told. (c.requires.can.can told).rest.idle) reads
-    (asked_by_there g.E.Engine.recovers a t (λ from m told. g.met.E.Engine.now_is _ t from m told) c.requires.can))
-
-pub returns-in-Space-clause-means : goal.returns-in-Space-clause-means
-returns-in-Space-clause-means g c z from m =
-    let a : Over = over c.args.acts.now in
-    let b : Over = over c.needs_of-done.new.space in
-    let p1 : over c.pause-was.new.self ≡ paused a = λ i. record { engine = g.E.Engine.view (c.pause-was.ensures.engine i); means = g.E.Engine.means (c.pause-was.ensures.engine i); limits = g.E.Engine.limits; start = g.E.Engine.first_byte (c.pause-was.ensures.engine i); maps = c.pause-was.ensures.maps i; unfreed = c.pause-was.ensures.unfreed i; rows = (c.pause-was.ensures.rows i).items; actor = c.pause-was.ensures.actor i; begun = c.pause-was.ensures.begun i; begin = (g.E.Engine.view (c.pause-was.ensures.begun_at i).value).now; breaks = c.pause-was.ensures.breaks i } in
-    let l : (t : Table) → LaterOn g.E.Engine.recovers t (paused a) b = λ t. subst (λ (o : Over). LaterOn g.E.Engine.recovers t o b) p1 (c.needs_of-done.ensures.later t) in
-    let t = table_of (λ y. (given.RecordOp-dyn g y).record_meaning y.1) (λ y. (given.RangeOp-dyn g y).range_meaning y.1) c.args.ops.now in
-    let q = c.go_on.ensures in
-    let s = c.stop.ensures in
-    let stopped : IsStopped b (over c.stop.new.self) = record {
-      silent = s.silent;
-      disk = s.disk ∙ (λ i. (g.E.Engine.view (q.engine i)).disk);
-      tail = s.tail ∙ (λ i. (g.E.Engine.view (q.engine i)).tail);
-      faults = λ i. (s.faults ∙ (λ j. (g.E.Engine.view (q.engine j)).faults)) i + (s.breaks ∙ q.breaks) i;
-      means = λ t from m. s.means t from (subst (λ e. g.E.Engine.means e t from) (sym q.engine) m);
-      pages = λ i. length ((s.maps ∙ q.maps) i).pages;
-      bands = λ i. length ((s.maps ∙ q.maps) i).bands;
-      limits = refl;
-    } in
-    stopped_means g.E.Engine.recovers a b (over c.stop.new.self) t z from m (l t) refl stopped
-
-pub returns-in-Ok-clause-needs : goal.returns-in-Ok-clause-needs
-returns-in-Ok-clause-needs g c z from m told o engine can =
-    let a : Over = over c.args.acts.now in
-    let b : Over = over c.needs_of-done.new.space in
-    let p1 : over c.pause-was.new.self ≡ paused a = λ i. record { engine = g.E.Engine.view (c.pause-was.ensures.engine i); means = g.E.Engine.means (c.pause-was.ensures.engine i); limits = g.E.Engine.limits; start = g.E.Engine.first_byte (c.pause-was.ensures.engine i); maps = c.pause-was.ensures.maps i; unfreed = c.pause-was.ensures.unfreed i; rows = (c.pause-was.ensures.rows i).items; actor = c.pause-was.ensures.actor i; begun = c.pause-was.ensures.begun i; begin = (g.E.Engine.view (c.pause-was.ensures.begun_at i).value).now; breaks = c.pause-was.ensures.breaks i } in
-    let p3 : over c.go_on.new.self ≡ resumed a.begun b = λ i. record { engine = g.E.Engine.view (c.go_on.ensures.engine i); means = g.E.Engine.means (c.go_on.ensures.engine i); limits = g.E.Engine.limits; start = g.E.Engine.first_byte (c.go_on.ensures.engine i); maps = c.go_on.ensures.maps i; unfreed = c.go_on.ensures.unfreed i; rows = (c.go_on.ensures.rows i).items; actor = c.go_on.ensures.actor i; begun = (c.go_on.ensures.begun ∙ c.pause-was.ensures.was) i; begin = (g.E.Engine.view (c.go_on.ensures.begun_at i)).now; breaks = c.go_on.ensures.breaks i } in
-    let l : (t : Table) → LaterOn g.E.Engine.recovers t (paused a) b = λ t. subst (λ (o : Over). LaterOn g.E.Engine.recovers t o b) p1 (c.needs_of-done.ensures.later t) in
-    let t = table_of (λ y. (given.RecordOp-dyn g y).record_meaning y.1) (λ y. (given.RangeOp-dyn g y).range_meaning y.1) c.args.ops.now in
-    let reads : OnlyReads (view_in a) (view_in b) = subst (λ (o : Over). OnlyReads (view_in o) (view_in b)) p1 c.in-Ok.ensures.kept in
-    let stands = ((l t).means from (paused_since a t from m.since)).stands in
-    let told2 = reads.keeps.told told in
-    let n = look_means g.E.Engine.recovers a b t z from m (l t) refl (g.met.E.Engine.told_whole _) (g.met.E.Engine.now_is _ t from stands) (λ told. (c.requires.can.can told).rest.idle) reads (asked_by_there g.E.Engine.recovers a t (λ from m told. g.met.E.Engine.now_is _ t from m told) c.requires.can) in
-    let f : Facts g.E.Engine.recovers (resumed a.begun b) t from = record { law = g.met.E.Engine.lawful _ t from stands; first = g.met.E.Engine.durable_first _ told2; images = g.met.E.Engine.images _ t from stands told2 } in
-    let r = look_there g.E.Engine.recovers a t z from m (g.met.E.Engine.now_is _ t from m.since.stands) told o can.reading in
-    let shows = subst (λ e. (g.E.Engine.view e).Told) (sym c.pause-was.ensures.engine) told in
-    let h = subst (λ (x : Over). IsContents (space_in x) r.0) (sym p1) r.1 in (
-      look_rests g.E.Engine.recovers a b t z from m (l t) (over c.go_on.new.self) (λ i. (g.E.Engine.view (c.go_on.ensures.engine i)).disk) told,
-      (
-        subst (λ (x : Over). Rested t (basis g.E.Engine.recovers z) (seen g.E.Engine.recovers t z from a) (seen g.E.Engine.recovers t z from x)) (sym p3)
-            (look_rested g.E.Engine.recovers a b t z from m (l t) refl (g.met.E.Engine.told_whole _) (g.met.E.Engine.now_is _ t from stands) (λ told. (c.requires.can.can told).rest.idle) reads n f told2),
-        needs_as g.E.Engine.recovers z t r.0 o (name_of c.args.op.now) (verb_of c.args.op.now) c.in-Ok.n r.3 ((c.in-Ok.ensures.read shows r.0 h).ok c.in-Ok.n refl),
-      ),
-    )
-
-pub returns-in-Model-clause-needs : goal.returns-in-Model-clause-needs
-returns-in-Model-clause-needs g c z from m told o engine can =
-    let a : Over = over c.args.acts.now in
-    let b : Over = over c.needs_of-done.new.space in
-    let p1 : over c.pause-was.new.self ≡ paused a = λ i. record { engine = g.E.Engine.view (c.pause-was.ensures.engine i); means = g.E.Engine.means (c.pause-was.ensures.engine i); limits = g.E.Engine.limits; start = g.E.Engine.first_byte (c.pause-was.ensures.engine i); maps = c.pause-was.ensures.maps i; unfreed = c.pause-was.ensures.unfreed i; rows = (c.pause-was.ensures.rows i).items; actor = c.pause-was.ensures.actor i; begun = c.pause-was.ensures.begun i; begin = (g.E.Engine.view (c.pause-was.ensures.begun_at i).value).now; breaks = c.pause-was.ensures.breaks i } in
-    let p3 : over c.go_on.new.self ≡ resumed a.begun b = λ i. record { engine = g.E.Engine.view (c.go_on.ensures.engine i); means = g.E.Engine.means (c.go_on.ensures.engine i); limits = g.E.Engine.limits; start = g.E.Engine.first_byte (c.go_on.ensures.engine i); maps = c.go_on.ensures.maps i; unfreed = c.go_on.ensures.unfreed i; rows = (c.go_on.ensures.rows i).items; actor = c.go_on.ensures.actor i; begun = (c.go_on.ensures.begun ∙ c.pause-was.ensures.was) i; begin = (g.E.Engine.view (c.go_on.ensures.begun_at i)).now; breaks = c.go_on.ensures.breaks i } in
-    let l : (t : Table) → LaterOn g.E.Engine.recovers t (paused a) b = λ t. subst (λ (o : Over). LaterOn g.E.Engine.recovers t o b) p1 (c.needs_of-done.ensures.later t) in
-    let t = table_of (λ y. (given.RecordOp-dyn g y).record_meaning y.1) (λ y. (given.RangeOp-dyn g y).range_meaning y.1) c.args.ops.now in
-    let reads : OnlyReads (view_in a) (view_in b) = subst (λ (o : Over). OnlyReads (view_in o) (view_in b)) p1 (subst (λ (e : ObjectsFault). IfAnswered {T = Needs} (Err e) (λ x. OnlyReads (view_in (over c.pause-was.new.self)) (view_in b))) c.in-Model.is c.in-Err.ensures.kept) in
-    let stands = ((l t).means from (paused_since a t from m.since)).stands in
-    let told2 = reads.keeps.told told in
-    let n = look_means g.E.Engine.recovers a b t z from m (l t) refl (g.met.E.Engine.told_whole _) (g.met.E.Engine.now_is _ t from stands) (λ told. (c.requires.can.can told).rest.idle) reads (asked_by_there g.E.Engine.recovers a t (λ from m told. g.met.E.Engine.now_is _ t from m told) c.requires.can) in
-    let f : Facts g.E.Engine.recovers (resumed a.begun b) t from = record { law = g.met.E.Engine.lawful _ t from stands; first = g.met.E.Engine.durable_first _ told2; images = g.met.E.Engine.images _ t from stands told2 } in
-    let r = look_there g.E.Engine.recovers a t z from m (g.met.E.Engine.now_is _ t from m.since.stands) told o can.reading in
-    let shows = subst (λ e. (g.E.Engine.view e).Told) (sym c.pause-was.ensures.engine) told in
-    let h = subst (λ (x : Over). IsContents (space_in x) r.0) (sym p1) r.1 in (
-      look_rests g.E.Engine.recovers a b t z from m (l t) (over c.go_on.new.self) (λ i. (g.E.Engine.view (c.go_on.ensures.engine i)).disk) told,
-      (
-        subst (λ (x : Over). Rested t (basis g.E.Engine.recovers z) (seen g.E.Engine.recovers t z from a) (seen g.E.Engine.recovers t z from x)) (sym p3)
-            (look_rested g.E.Engine.recovers a b t z from m (l t) refl (g.met.E.Engine.told_whole _) (g.met.E.Engine.now_is _ t from stands) (λ told. (c.requires.can.can told).rest.idle) reads n f told2),
-        refused_as t r.0 o (name_of c.args.op.now) (verb_of c.args.op.now) c.in-Model.reason r.3 ((subst (λ (e : ObjectsFault). IfAnswered {T = Needs} (Err e) (λ x. IfContents (view_in (over c.pause-was.new.self)) (λ s. CheckedBy t (name_of c.args.op.now) (verb_of c.args.op.now) s (HasNeed t (name_of c.args.op.now) (verb_of c.args.op.now) s) x))) c.in-Model.is c.in-Err.ensures.read shows r.0 h).err c.in-Model.reason refl),
-      ),
-    )
-
-pub returns-in-Space-clause-needs : goal.returns-in-Space-clause-needs
-returns-in-Space-clause-needs g c z from m told o engine can =
-    let a : Over = over c.args.acts.now in
-    let b : Over = over c.needs_of-done.new.space in
-    let p1 : over c.pause-was.new.self ≡ paused a = λ i. record { engine = g.E.Engine.view (c.pause-was.ensures.engine i); means = g.E.Engine.means (c.pause-was.ensures.engine i); limits = g.E.Engine.limits; start = g.E.Engine.first_byte (c.pause-was.ensures.engine i); maps = c.pause-was.ensures.maps i; unfreed = c.pause-was.ensures.unfreed i; rows = (c.pause-was.ensures.rows i).items; actor = c.pause-was.ensures.actor i; begun = c.pause-was.ensures.begun i; begin = (g.E.Engine.view (c.pause-was.ensures.begun_at i).value).now; breaks = c.pause-was.ensures.breaks i } in
-    let l : (t : Table) → LaterOn g.E.Engine.recovers t (paused a) b = λ t. subst (λ (o : Over). LaterOn g.E.Engine.recovers t o b) p1 (c.needs_of-done.ensures.later t) in
-    let t = table_of (λ y. (given.RecordOp-dyn g y).record_meaning y.1) (λ y. (given.RangeOp-dyn g y).range_meaning y.1) c.args.ops.now in
-    let q = c.go_on.ensures in
-    let s = c.stop.ensures in
-    let stopped : IsStopped b (over c.stop.new.self) = record {
-      silent = s.silent;
-      disk = s.disk ∙ (λ i. (g.E.Engine.view (q.engine i)).disk);
-      tail = s.tail ∙ (λ i. (g.E.Engine.view (q.engine i)).tail);
-      faults = λ i. (s.faults ∙ (λ j. (g.E.Engine.view (q.engine j)).faults)) i + (s.breaks ∙ q.breaks) i;
-      means = λ t from m. s.means t from (subst (λ e. g.E.Engine.means e t from) (sym q.engine) m);
-      pages = λ i. length ((s.maps ∙ q.maps) i).pages;
-      bands = λ i. length ((s.maps ∙ q.maps) i).bands;
-      limits = refl;
-    } in
-    (look_rests g.E.Engine.recovers a b t z from m (l t) (over c.stop.new.self) stopped.disk told, tt)
+    let name = name_of c.args.op.now in
+    let verb = verb_of c.args.op.now in
+    let q = c.needs_of-found.ensures in
+    let l = asked_look_by t a p b c.pause-was.ensures.paused c.pause-was.ensures.sound c.go_on.ensures.sound q.later q.writes.records c.requires.can in
+    let r = c.needs_of-found.result in
+    let found : Finds t name verb _ _ r = record { counts = q.counts; kept = q.kept; read = q.read; writes = q.writes } in
+    let ends = need_ends t name verb a p b d l r found (goes_on b d c.pause-was.ensures.was c.has_failed.ensures c.go_on.ensures.on c.go_on.ensures.stopped) in
+    let says = subst (Says t name verb a d) (sym c.told.ensures) (need_says t name verb a p b d l r found ends) in
+    record {
+      counts = says.counts;
+      refused = says.refused;
+      means = λ z from m. means_end a p b d _ ends t z from m;
+      tail = tail_end a p b d _ ends;
+      needs = says.needs;
+      reads = says.reads;
+    }

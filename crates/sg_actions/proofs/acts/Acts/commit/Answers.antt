@@ -1,4 +1,5 @@
-use Rattle.std.proofs.Common.{◌≡◌, sym, ap, ◌∙◌, List, length, refl}
+use Rattle.std.proofs.Common.{◌≡◌, sym, ap, ◌∙◌, List, length, refl, arith}
+use Rattle.sg_actions.proofs.Handing.{commit_hands, long_commit}
 use Rattle.sg_actions.proofs.Closing.{committed, commit_appends, has_gone, fails, appends_look, stays_of, on_ok2}
 use Rattle.sg_actions.proofs.InRange.{commit_in}
 use Rattle.sg_actions.proofs.Placing.{front_is, length-placed}
@@ -47,3 +48,12 @@ invariant_of-self-2-clause-few_rows g c =
     let long : length c.place.new.rows ≡ c.args.self.now.rows.len = ap length c.place.ensures ∙ (length-placed c.as_mut_slice.result.now c.args.txn.0 row ∙ c.as_mut_slice.ensures.len) in
     let rows = front_is c.args.self.now.rows.len c.place.new.rows _ long ∙ (c.place.ensures ∙ ap (λ (rs : List Row). placed rs c.args.txn.0 row) c.as_mut_slice.ensures.value) in
     few_placed c.args.self.now.rows.items c.args.txn.0 row rows c.args.self.now.few_rows
+
+pub returns-in_err-lsn-clause-hands : goal.returns-in_err-lsn-clause-hands
+returns-in_err-lsn-clause-hands g c = let h = (c.in_err-lsn.ensures.hands refl).most in omega (arith, h)
+
+pub returns-clause-hands : goal.returns-clause-hands
+returns-clause-hands g c = commit_hands _ _ _ _ _ _ _ (long_commit c.args.txn.0 c.in-Some.prev) (c.in_ok-lsn.ensures.hands refl) c.force.ensures.hands
+
+pub returns-clause-none_waits : goal.returns-clause-none_waits
+returns-clause-none_waits g c = c.force.ensures.none_waits

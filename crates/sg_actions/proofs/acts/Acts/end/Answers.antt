@@ -44,3 +44,9 @@ invariant_of-self-2-clause-few_rows g c =
     let long : length c.place.new.rows ≡ c.args.self.now.rows.len = ap length c.place.ensures ∙ (length-placed c.as_mut_slice.result.now c.args.txn.0 row ∙ c.as_mut_slice.ensures.len) in
     let rows = front_is c.args.self.now.rows.len c.place.new.rows _ long ∙ (c.place.ensures ∙ ap (λ (rs : List Row). placed rs c.args.txn.0 row) c.as_mut_slice.ensures.value) in
     few_placed c.args.self.now.rows.items c.args.txn.0 row rows c.args.self.now.few_rows
+
+pub returns-in_err-log-clause-hands : goal.returns-in_err-log-clause-hands
+returns-in_err-log-clause-hands g c = (c.in_err-log.ensures.hands refl).most
+
+pub returns-clause-hands : goal.returns-clause-hands
+returns-clause-hands g c = (c.in_ok-log.ensures.hands refl).most

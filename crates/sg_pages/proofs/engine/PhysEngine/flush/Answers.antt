@@ -1,4 +1,4 @@
-use Rattle.std.proofs.Common.{rules, true, ap, ◌∙◌, arith}
+use Rattle.std.proofs.Common.{rules, true, ap, ◌∙◌, arith, ℕ, max}
 use Rattle.sg_pages.specs.Parts.{parts}
 use Rattle.sg_log.proofs.Holding.{tail_forced}
 use Rattle.sg_log.specs.Held.{tail_of}
@@ -17,7 +17,7 @@ pub returns-then-self-clause-means : goal.returns-then-self-clause-means
 returns-then-self-clause-means g c = λ t from m. m
 
 pub invariant_of-self-in-Ok-clause-ends : goal.invariant_of-self-in-Ok-clause-ends
-invariant_of-self-in-Ok-clause-ends g c = λ whole. c.tail-self.ensures
+invariant_of-self-in-Ok-clause-ends g c = λ whole. c.max-self.ensures ∙ ap (λ (n : ℕ). max n 1) c.tail.ensures
 
 pub returns-in-Ok-clause-means : goal.returns-in-Ok-clause-means
 returns-in-Ok-clause-means g c = λ t from m. keeps_look g.D.Disk.told (parts g.D.Disk.view c.args.self.now) (g.D.Disk.view c.flush.new.self.disk) c.flush.new.self.log c.flush.new.self.pool t from m (λ o tells e. rested_forced o (g.D.Disk.view c.args.self.now.engine.disk) (g.D.Disk.view c.flush.new.self.disk) c.args.self.now.engine.log c.flush.new.self.log c.args.self.now.engine.pool c.flush.new.self.pool _ _ (c.in-Ok.ensures.goes_on o _ _ tells e) (λ k early. c.in-Ok.ensures.allowed o _ _ k tells e early))
@@ -26,13 +26,13 @@ pub invariant_of-self-in-Ok-clause-some : goal.invariant_of-self-in-Ok-clause-so
 invariant_of-self-in-Ok-clause-some g c = some_kept g.D.Disk.told c.args.self.now.failed c.args.self.now.failed (g.D.Disk.view c.args.self.now.found.value) (g.D.Disk.view c.args.self.now.engine.disk) (g.D.Disk.view c.flush.new.self.disk) c.args.self.now.engine.log c.flush.new.self.log c.args.self.now.engine.pool c.flush.new.self.pool (λ t from m. keeps_look g.D.Disk.told (parts g.D.Disk.view c.args.self.now) (g.D.Disk.view c.flush.new.self.disk) c.flush.new.self.log c.flush.new.self.pool t from m (λ o tells e. rested_forced o (g.D.Disk.view c.args.self.now.engine.disk) (g.D.Disk.view c.flush.new.self.disk) c.args.self.now.engine.log c.flush.new.self.log c.args.self.now.engine.pool c.flush.new.self.pool _ _ (c.in-Ok.ensures.goes_on o _ _ tells e) (λ k early. c.in-Ok.ensures.allowed o _ _ k tells e early))) c.args.self.now.some
 
 pub returns-in-Ok-clause-rests : goal.returns-in-Ok-clause-rests
-returns-in-Ok-clause-rests g c = rests_ok g.D.Disk.told (parts g.D.Disk.view c.args.self.now) (g.D.Disk.view c.flush.new.self.disk) c.flush.new.self.log c.flush.new.self.pool _ c.tail-self.result c.if-self.false (let e = c.args.self.now.ends c.if-self.false in let n = c.tail-self.ensures in let k = ap tail_of c.in-Ok.ensures.log ∙ tail_forced c.args.self.now.engine.log in omega (arith, e, n, k))
+returns-in-Ok-clause-rests g c = rests_ok g.D.Disk.told (parts g.D.Disk.view c.args.self.now) (g.D.Disk.view c.flush.new.self.disk) c.flush.new.self.log c.flush.new.self.pool _ c.max-self.result c.if-self.false (let e = c.args.self.now.ends c.if-self.false in let n = c.max-self.ensures ∙ ap (λ (k : ℕ). max k 1) c.tail.ensures in let k = ap tail_of c.in-Ok.ensures.log ∙ tail_forced c.args.self.now.engine.log in omega (arith, e, n, k))
 
 pub returns-in-Ok-clause-looks : goal.returns-in-Ok-clause-looks
-returns-in-Ok-clause-looks g c = λ t from m. looks_ok g.D.Disk.told (parts g.D.Disk.view c.args.self.now) (g.D.Disk.view c.flush.new.self.disk) c.flush.new.self.log c.flush.new.self.pool t from m _ c.tail-self.result (λ o tells e. rested_forced o (g.D.Disk.view c.args.self.now.engine.disk) (g.D.Disk.view c.flush.new.self.disk) c.args.self.now.engine.log c.flush.new.self.log c.args.self.now.engine.pool c.flush.new.self.pool _ _ (c.in-Ok.ensures.goes_on o _ _ tells e) (λ k early. c.in-Ok.ensures.allowed o _ _ k tells e early)) (λ o tells e k early. c.flush.ensures.moments o _ _ k tells e early)
+returns-in-Ok-clause-looks g c = λ t from m. looks_ok g.D.Disk.told (parts g.D.Disk.view c.args.self.now) (g.D.Disk.view c.flush.new.self.disk) c.flush.new.self.log c.flush.new.self.pool t from m _ c.max-self.result (λ o tells e. rested_forced o (g.D.Disk.view c.args.self.now.engine.disk) (g.D.Disk.view c.flush.new.self.disk) c.args.self.now.engine.log c.flush.new.self.log c.args.self.now.engine.pool c.flush.new.self.pool _ _ (c.in-Ok.ensures.goes_on o _ _ tells e) (λ k early. c.in-Ok.ensures.allowed o _ _ k tells e early)) (λ o tells e k early. c.flush.ensures.moments o _ _ k tells e early)
 
 pub returns-in-Ok-clause-forced : goal.returns-in-Ok-clause-forced
-returns-in-Ok-clause-forced g c = λ t from m. forced_then g.D.Disk.told (parts g.D.Disk.view c.args.self.now) (looked (parts g.D.Disk.view c.args.self.now) (g.D.Disk.view c.flush.new.self.disk) c.flush.new.self.log c.flush.new.self.pool c.tail-self.result) t from m (λ s. s) (λ o ds ps. c.in-Ok.ensures.goes_on o ds ps)
+returns-in-Ok-clause-forced g c = λ t from m. forced_then g.D.Disk.told (parts g.D.Disk.view c.args.self.now) (looked (parts g.D.Disk.view c.args.self.now) (g.D.Disk.view c.flush.new.self.disk) c.flush.new.self.log c.flush.new.self.pool c.max-self.result) t from m (λ s. s) (λ o ds ps. c.in-Ok.ensures.goes_on o ds ps)
 
 pub returns-in-Err-clause-rests : goal.returns-in-Err-clause-rests
 returns-in-Err-clause-rests g c = rests_err g.D.Disk.told (parts g.D.Disk.view c.args.self.now) (g.D.Disk.view c.flush.new.self.disk) c.flush.new.self.log c.flush.new.self.pool _ c.if-self.false (let b = c.saturating_add-self-in-Err.ensures in search rules) (let b = c.saturating_add-self-in-Err.ensures in search rules)

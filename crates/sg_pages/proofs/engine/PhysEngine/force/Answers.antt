@@ -1,9 +1,12 @@
-use Rattle.std.proofs.Common.{rules, true, ap, ◌∙◌, arith}
+use Rattle.std.proofs.Common.{rules, true, ap, ◌∙◌, Ok, Err, arith, ℕ, max}
+use Rattle.sg_space.specs.declared.space.SpaceFault.{SpaceFault}
+use Rattle.sg_space.specs.declared.space.SpaceFault.TheVariants.{Disk}
 use Rattle.sg_pages.specs.Parts.{parts}
 use Rattle.sg_log.proofs.Holding.{tail_forced}
 use Rattle.sg_log.specs.Held.{tail_of}
-use Rattle.sg_phys.proofs.Seen.{forced_then, keeps_broken, keeps_look, looks_err, looks_ok, looks_stopped, rests_err, rests_ok, rests_stopped, some_kept}
+use Rattle.sg_phys.proofs.Seen.{forced_then, hands_none, keeps_broken, keeps_look, looks_err, looks_ok, looks_stopped, rests_err, rests_ok, rests_stopped, some_kept}
 use Rattle.sg_phys.specs.Phys.{looked}
+use Rattle.sg_phys_laws.proofs.Handing.{hands_forced, none_waits}
 use Rattle.sg_phys_laws.proofs.Poised.{rested_forced}
 use Rattle.sg_pages.proofs.engine.PhysEngine.force.Goals as goal
 
@@ -17,7 +20,7 @@ pub returns-then-self-clause-means : goal.returns-then-self-clause-means
 returns-then-self-clause-means g c = λ t from m. m
 
 pub invariant_of-self-in-Ok-clause-ends : goal.invariant_of-self-in-Ok-clause-ends
-invariant_of-self-in-Ok-clause-ends g c = λ whole. c.tail-self.ensures
+invariant_of-self-in-Ok-clause-ends g c = λ whole. c.max-self.ensures ∙ ap (λ (n : ℕ). max n 1) c.tail.ensures
 
 pub returns-in-Ok-clause-means : goal.returns-in-Ok-clause-means
 returns-in-Ok-clause-means g c = λ t from m. keeps_look g.D.Disk.told (parts g.D.Disk.view c.args.self.now) (g.D.Disk.view c.force.new.self.disk) c.force.new.self.log c.force.new.self.pool t from m (λ o tells e. rested_forced o (g.D.Disk.view c.args.self.now.engine.disk) (g.D.Disk.view c.force.new.self.disk) c.args.self.now.engine.log c.force.new.self.log c.args.self.now.engine.pool c.force.new.self.pool _ _ (c.in-Ok.ensures.goes_on o _ _ tells e) (λ k early. c.in-Ok.ensures.allowed o _ _ k tells e early))
@@ -26,13 +29,13 @@ pub invariant_of-self-in-Ok-clause-some : goal.invariant_of-self-in-Ok-clause-so
 invariant_of-self-in-Ok-clause-some g c = some_kept g.D.Disk.told c.args.self.now.failed c.args.self.now.failed (g.D.Disk.view c.args.self.now.found.value) (g.D.Disk.view c.args.self.now.engine.disk) (g.D.Disk.view c.force.new.self.disk) c.args.self.now.engine.log c.force.new.self.log c.args.self.now.engine.pool c.force.new.self.pool (λ t from m. keeps_look g.D.Disk.told (parts g.D.Disk.view c.args.self.now) (g.D.Disk.view c.force.new.self.disk) c.force.new.self.log c.force.new.self.pool t from m (λ o tells e. rested_forced o (g.D.Disk.view c.args.self.now.engine.disk) (g.D.Disk.view c.force.new.self.disk) c.args.self.now.engine.log c.force.new.self.log c.args.self.now.engine.pool c.force.new.self.pool _ _ (c.in-Ok.ensures.goes_on o _ _ tells e) (λ k early. c.in-Ok.ensures.allowed o _ _ k tells e early))) c.args.self.now.some
 
 pub returns-in-Ok-clause-rests : goal.returns-in-Ok-clause-rests
-returns-in-Ok-clause-rests g c = rests_ok g.D.Disk.told (parts g.D.Disk.view c.args.self.now) (g.D.Disk.view c.force.new.self.disk) c.force.new.self.log c.force.new.self.pool _ c.tail-self.result c.if-self.false (let e = c.args.self.now.ends c.if-self.false in let n = c.tail-self.ensures in let k = ap tail_of c.in-Ok.ensures.log ∙ tail_forced c.args.self.now.engine.log in omega (arith, e, n, k))
+returns-in-Ok-clause-rests g c = rests_ok g.D.Disk.told (parts g.D.Disk.view c.args.self.now) (g.D.Disk.view c.force.new.self.disk) c.force.new.self.log c.force.new.self.pool _ c.max-self.result c.if-self.false (let e = c.args.self.now.ends c.if-self.false in let n = c.max-self.ensures ∙ ap (λ (k : ℕ). max k 1) c.tail.ensures in let k = ap tail_of c.in-Ok.ensures.log ∙ tail_forced c.args.self.now.engine.log in omega (arith, e, n, k))
 
 pub returns-in-Ok-clause-looks : goal.returns-in-Ok-clause-looks
-returns-in-Ok-clause-looks g c = λ t from m. looks_ok g.D.Disk.told (parts g.D.Disk.view c.args.self.now) (g.D.Disk.view c.force.new.self.disk) c.force.new.self.log c.force.new.self.pool t from m _ c.tail-self.result (λ o tells e. rested_forced o (g.D.Disk.view c.args.self.now.engine.disk) (g.D.Disk.view c.force.new.self.disk) c.args.self.now.engine.log c.force.new.self.log c.args.self.now.engine.pool c.force.new.self.pool _ _ (c.in-Ok.ensures.goes_on o _ _ tells e) (λ k early. c.in-Ok.ensures.allowed o _ _ k tells e early)) (λ o tells e k early. c.force.ensures.moments o _ _ k tells e early)
+returns-in-Ok-clause-looks g c = λ t from m. looks_ok g.D.Disk.told (parts g.D.Disk.view c.args.self.now) (g.D.Disk.view c.force.new.self.disk) c.force.new.self.log c.force.new.self.pool t from m _ c.max-self.result (λ o tells e. rested_forced o (g.D.Disk.view c.args.self.now.engine.disk) (g.D.Disk.view c.force.new.self.disk) c.args.self.now.engine.log c.force.new.self.log c.args.self.now.engine.pool c.force.new.self.pool _ _ (c.in-Ok.ensures.goes_on o _ _ tells e) (λ k early. c.in-Ok.ensures.allowed o _ _ k tells e early)) (λ o tells e k early. c.force.ensures.moments o _ _ k tells e early)
 
 pub returns-in-Ok-clause-forced : goal.returns-in-Ok-clause-forced
-returns-in-Ok-clause-forced g c = λ t from m. forced_then g.D.Disk.told (parts g.D.Disk.view c.args.self.now) (looked (parts g.D.Disk.view c.args.self.now) (g.D.Disk.view c.force.new.self.disk) c.force.new.self.log c.force.new.self.pool c.tail-self.result) t from m (λ s. s) (λ o ds ps. c.in-Ok.ensures.goes_on o ds ps)
+returns-in-Ok-clause-forced g c = λ t from m. forced_then g.D.Disk.told (parts g.D.Disk.view c.args.self.now) (looked (parts g.D.Disk.view c.args.self.now) (g.D.Disk.view c.force.new.self.disk) c.force.new.self.log c.force.new.self.pool c.max-self.result) t from m (λ s. s) (λ o ds ps. c.in-Ok.ensures.goes_on o ds ps)
 
 pub returns-in-Err-clause-rests : goal.returns-in-Err-clause-rests
 returns-in-Err-clause-rests g c = rests_err g.D.Disk.told (parts g.D.Disk.view c.args.self.now) (g.D.Disk.view c.force.new.self.disk) c.force.new.self.log c.force.new.self.pool _ c.if-self.false (let b = c.saturating_add-self-in-Err.ensures in search rules) (let b = c.saturating_add-self-in-Err.ensures in search rules)
@@ -45,3 +48,15 @@ returns-in-Err-clause-means g c = λ t from m. keeps_broken g.D.Disk.told (parts
 
 pub invariant_of-self-in-Err-clause-some : goal.invariant_of-self-in-Err-clause-some
 invariant_of-self-in-Err-clause-some g c = some_kept g.D.Disk.told c.args.self.now.failed true (g.D.Disk.view c.args.self.now.found.value) (g.D.Disk.view c.args.self.now.engine.disk) (g.D.Disk.view c.force.new.self.disk) c.args.self.now.engine.log c.force.new.self.log c.args.self.now.engine.pool c.force.new.self.pool (λ t from m. keeps_broken g.D.Disk.told (parts g.D.Disk.view c.args.self.now) (g.D.Disk.view c.force.new.self.disk) c.force.new.self.log c.force.new.self.pool t from m) c.args.self.now.some
+
+pub returns-then-self-clause-hands : goal.returns-then-self-clause-hands
+returns-then-self-clause-hands g c = hands_none _ _ _ _ _
+
+pub returns-in-Ok-clause-hands : goal.returns-in-Ok-clause-hands
+returns-in-Ok-clause-hands g c = hands_forced c.args.self.now.engine.log c.force.new.self.log (g.D.Disk.view c.args.self.now.engine.disk).handed (g.D.Disk.view c.force.new.self.disk).handed (Ok tt) c.force.ensures.handed c.in-Ok.ensures.log
+
+pub returns-in-Ok-clause-none_waits : goal.returns-in-Ok-clause-none_waits
+returns-in-Ok-clause-none_waits g c = none_waits {T = Unit {0}} {E = SpaceFault} c.args.self.now.engine.log c.force.new.self.log (Ok tt) c.in-Ok.ensures.log
+
+pub returns-in-Err-clause-hands : goal.returns-in-Err-clause-hands
+returns-in-Err-clause-hands g c = record { most = (hands_forced {T = Unit {0}} {E = SpaceFault} c.args.self.now.engine.log c.force.new.self.log (g.D.Disk.view c.args.self.now.engine.disk).handed (g.D.Disk.view c.force.new.self.disk).handed (Err Disk) c.force.ensures.handed tt).most; all = tt }

@@ -1,4 +1,4 @@
-use Rattle.std.proofs.Common.{rules, ◌<◌, true, sym, subst, arith}
+use Rattle.std.proofs.Common.{rules, ◌<◌, true, sym, subst, arith, ℕ, max, ap, ◌∙◌}
 use Rattle.sg_pages.specs.Parts.{parts}
 use Rattle.sg_base.specs.Page.{IsSlotted}
 use Rattle.sg_phys.proofs.Seen.{keeps_broken, keeps_look, looks_err, looks_ok, looks_stopped, none_made, rests_err, rests_ok, rests_stopped, some_kept}
@@ -58,7 +58,7 @@ pub returns-clause-loaded : goal.returns-clause-loaded
 returns-clause-loaded g c = record { page = subst (λ (n : Geometry). c.args.p.0 < n.pages) (sym c.load_page.ensures.size) (omega (arith, c.if-p-pages.false, c.pages.ensures)); held = c.in-Ok.ensures.held; slotted = subst IsSlotted c.page.ensures.held (let h = c.view.ensures in let n = c.is_none.ensures in let f = c.if-is_none.false in search rules) }
 
 pub invariant_of-self-2-clause-ends : goal.invariant_of-self-2-clause-ends
-invariant_of-self-2-clause-ends g c = λ whole. c.tail-self.ensures
+invariant_of-self-2-clause-ends g c = λ whole. c.max-self.ensures ∙ ap (λ (n : ℕ). max n 1) c.tail.ensures
 
 pub returns-clause-means : goal.returns-clause-means
 returns-clause-means g c = λ t from m. keeps_look g.D.Disk.told (parts g.D.Disk.view c.args.self.now) (g.D.Disk.view c.load_page.new.self.disk) c.load_page.new.self.log c.load_page.new.self.pool t from m (λ o tells e. record { gone = c.in-Ok.ensures.goes_on o _ _ tells e; allowed = λ k early. c.in-Ok.ensures.allowed o _ _ k tells e early })
@@ -67,7 +67,7 @@ pub invariant_of-self-2-clause-some : goal.invariant_of-self-2-clause-some
 invariant_of-self-2-clause-some g c = some_kept g.D.Disk.told c.args.self.now.failed c.args.self.now.failed (g.D.Disk.view c.args.self.now.found.value) (g.D.Disk.view c.args.self.now.engine.disk) (g.D.Disk.view c.load_page.new.self.disk) c.args.self.now.engine.log c.load_page.new.self.log c.args.self.now.engine.pool c.load_page.new.self.pool (λ t from m. keeps_look g.D.Disk.told (parts g.D.Disk.view c.args.self.now) (g.D.Disk.view c.load_page.new.self.disk) c.load_page.new.self.log c.load_page.new.self.pool t from m (λ o tells e. record { gone = c.in-Ok.ensures.goes_on o _ _ tells e; allowed = λ k early. c.in-Ok.ensures.allowed o _ _ k tells e early })) c.args.self.now.some
 
 pub returns-clause-rests : goal.returns-clause-rests
-returns-clause-rests g c = rests_ok g.D.Disk.told (parts g.D.Disk.view c.args.self.now) (g.D.Disk.view c.load_page.new.self.disk) c.load_page.new.self.log c.load_page.new.self.pool _ c.tail-self.result c.if-self.false (let e = c.args.self.now.ends c.if-self.false in let n = c.tail-self.ensures in let k = kept_tail c.args.self.now.engine.log c.load_page.new.self.log c.in-Ok.ensures.log_kept in omega (arith, e, n, k))
+returns-clause-rests g c = rests_ok g.D.Disk.told (parts g.D.Disk.view c.args.self.now) (g.D.Disk.view c.load_page.new.self.disk) c.load_page.new.self.log c.load_page.new.self.pool _ c.max-self.result c.if-self.false (let e = c.args.self.now.ends c.if-self.false in let n = c.max-self.ensures ∙ ap (λ (k : ℕ). max k 1) c.tail.ensures in let k = kept_tail c.args.self.now.engine.log c.load_page.new.self.log c.in-Ok.ensures.log_kept in omega (arith, e, n, k))
 
 pub returns-clause-looks : goal.returns-clause-looks
-returns-clause-looks g c = λ t from m. looks_ok g.D.Disk.told (parts g.D.Disk.view c.args.self.now) (g.D.Disk.view c.load_page.new.self.disk) c.load_page.new.self.log c.load_page.new.self.pool t from m _ c.tail-self.result (λ o tells e. record { gone = c.in-Ok.ensures.goes_on o _ _ tells e; allowed = λ k early. c.in-Ok.ensures.allowed o _ _ k tells e early }) (λ o tells e k early. c.load_page.ensures.moments o _ _ k tells e early)
+returns-clause-looks g c = λ t from m. looks_ok g.D.Disk.told (parts g.D.Disk.view c.args.self.now) (g.D.Disk.view c.load_page.new.self.disk) c.load_page.new.self.log c.load_page.new.self.pool t from m _ c.max-self.result (λ o tells e. record { gone = c.in-Ok.ensures.goes_on o _ _ tells e; allowed = λ k early. c.in-Ok.ensures.allowed o _ _ k tells e early }) (λ o tells e k early. c.load_page.ensures.moments o _ _ k tells e early)

@@ -1,4 +1,4 @@
-use Rattle.std.proofs.Common.{rules, ◌<◌, true, sym, subst, arith}
+use Rattle.std.proofs.Common.{rules, ◌<◌, true, sym, subst, arith, ℕ, max, ap, ◌∙◌}
 use Rattle.sg_pages.specs.Parts.{parts}
 use Rattle.sg_phys.proofs.Seen.{keeps_broken, keeps_look, looks_err, looks_ok, looks_stopped, none_made, rests_err, rests_ok, rests_stopped, some_kept}
 use Rattle.sg_phys_laws.proofs.Numbers.{kept_tail}
@@ -42,7 +42,7 @@ pub returns-in-Ok-clause-loaded : goal.returns-in-Ok-clause-loaded
 returns-in-Ok-clause-loaded g c = record { band = subst (λ (n : Geometry). c.args.b.0 < n.bands) (sym c.load_band.ensures.size) (omega (arith, c.if-b-bands.false, c.bands.ensures)); held = c.in-Ok.ensures.held }
 
 pub invariant_of-self-in-Ok-clause-ends : goal.invariant_of-self-in-Ok-clause-ends
-invariant_of-self-in-Ok-clause-ends g c = λ whole. c.tail-self.ensures
+invariant_of-self-in-Ok-clause-ends g c = λ whole. c.max-self.ensures ∙ ap (λ (n : ℕ). max n 1) c.tail.ensures
 
 pub returns-in-Ok-clause-means : goal.returns-in-Ok-clause-means
 returns-in-Ok-clause-means g c = λ t from m. keeps_look g.D.Disk.told (parts g.D.Disk.view c.args.self.now) (g.D.Disk.view c.load_band.new.self.disk) c.load_band.new.self.log c.load_band.new.self.pool t from m (λ o tells e. record { gone = c.in-Ok.ensures.goes_on o _ _ tells e; allowed = λ k early. c.in-Ok.ensures.allowed o _ _ k tells e early })
@@ -51,7 +51,7 @@ pub invariant_of-self-in-Ok-clause-some : goal.invariant_of-self-in-Ok-clause-so
 invariant_of-self-in-Ok-clause-some g c = some_kept g.D.Disk.told c.args.self.now.failed c.args.self.now.failed (g.D.Disk.view c.args.self.now.found.value) (g.D.Disk.view c.args.self.now.engine.disk) (g.D.Disk.view c.load_band.new.self.disk) c.args.self.now.engine.log c.load_band.new.self.log c.args.self.now.engine.pool c.load_band.new.self.pool (λ t from m. keeps_look g.D.Disk.told (parts g.D.Disk.view c.args.self.now) (g.D.Disk.view c.load_band.new.self.disk) c.load_band.new.self.log c.load_band.new.self.pool t from m (λ o tells e. record { gone = c.in-Ok.ensures.goes_on o _ _ tells e; allowed = λ k early. c.in-Ok.ensures.allowed o _ _ k tells e early })) c.args.self.now.some
 
 pub returns-in-Ok-clause-rests : goal.returns-in-Ok-clause-rests
-returns-in-Ok-clause-rests g c = rests_ok g.D.Disk.told (parts g.D.Disk.view c.args.self.now) (g.D.Disk.view c.load_band.new.self.disk) c.load_band.new.self.log c.load_band.new.self.pool _ c.tail-self.result c.if-self.false (let e = c.args.self.now.ends c.if-self.false in let n = c.tail-self.ensures in let k = kept_tail c.args.self.now.engine.log c.load_band.new.self.log c.in-Ok.ensures.log_kept in omega (arith, e, n, k))
+returns-in-Ok-clause-rests g c = rests_ok g.D.Disk.told (parts g.D.Disk.view c.args.self.now) (g.D.Disk.view c.load_band.new.self.disk) c.load_band.new.self.log c.load_band.new.self.pool _ c.max-self.result c.if-self.false (let e = c.args.self.now.ends c.if-self.false in let n = c.max-self.ensures ∙ ap (λ (k : ℕ). max k 1) c.tail.ensures in let k = kept_tail c.args.self.now.engine.log c.load_band.new.self.log c.in-Ok.ensures.log_kept in omega (arith, e, n, k))
 
 pub returns-in-Ok-clause-looks : goal.returns-in-Ok-clause-looks
-returns-in-Ok-clause-looks g c = λ t from m. looks_ok g.D.Disk.told (parts g.D.Disk.view c.args.self.now) (g.D.Disk.view c.load_band.new.self.disk) c.load_band.new.self.log c.load_band.new.self.pool t from m _ c.tail-self.result (λ o tells e. record { gone = c.in-Ok.ensures.goes_on o _ _ tells e; allowed = λ k early. c.in-Ok.ensures.allowed o _ _ k tells e early }) (λ o tells e k early. c.load_band.ensures.moments o _ _ k tells e early)
+returns-in-Ok-clause-looks g c = λ t from m. looks_ok g.D.Disk.told (parts g.D.Disk.view c.args.self.now) (g.D.Disk.view c.load_band.new.self.disk) c.load_band.new.self.log c.load_band.new.self.pool t from m _ c.max-self.result (λ o tells e. record { gone = c.in-Ok.ensures.goes_on o _ _ tells e; allowed = λ k early. c.in-Ok.ensures.allowed o _ _ k tells e early }) (λ o tells e k early. c.load_band.ensures.moments o _ _ k tells e early)

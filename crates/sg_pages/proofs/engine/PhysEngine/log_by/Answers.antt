@@ -1,4 +1,4 @@
-use Rattle.std.proofs.Common.{rules, ◌<◌, ◌+◌, ℕ, true, refl, sym, ap, ◌∙◌, subst, arith}
+use Rattle.std.proofs.Common.{rules, ◌<◌, ◌+◌, ℕ, true, refl, sym, ap, ◌∙◌, subst, arith, max}
 use Rattle.sg_pages.specs.Parts.{parts}
 use Rattle.sg_log.specs.Frames.{LOG_END}
 use Rattle.sg_phys.proofs.Asked.{asked}
@@ -20,7 +20,7 @@ pub returns-then-self-clause-means : goal.returns-then-self-clause-means
 returns-then-self-clause-means g c = λ from m. m
 
 pub returns-then-is_checkpoint-clause-grows : goal.returns-then-is_checkpoint-clause-grows
-returns-then-is_checkpoint-clause-grows g c = grows_err g.D.Disk.told (parts g.D.Disk.view c.args.self.now) (g.D.Disk.view c.args.self.now.engine.disk) c.args.self.now.engine.log c.args.self.now.engine.pool (shown c.args.r.now) engine.Disk space.Disk c.place-self.result _ refl c.if-self.false (let b = c.saturating_add-self-then-is_checkpoint.ensures in search rules) (let b = c.saturating_add-self-then-is_checkpoint.ensures in search rules) (λ e. (let bad : ⊥ = cc in absurd bad))
+returns-then-is_checkpoint-clause-grows g c = grows_err g.D.Disk.told (parts g.D.Disk.view c.args.self.now) (g.D.Disk.view c.args.self.now.engine.disk) c.args.self.now.engine.log c.args.self.now.engine.pool (shown c.args.r.now) engine.Disk space.Disk c.place-self.result _ refl c.if-self.false (let b = c.saturating_add-self-then-is_checkpoint.ensures in search rules) (let b = c.saturating_add-self-then-is_checkpoint.ensures in search rules) (λ e. (let bad : ⊥ = cc in absurd bad)) (λ e. (let bad : ⊥ = cc in absurd bad))
 
 pub returns-then-is_checkpoint-clause-logs : goal.returns-then-is_checkpoint-clause-logs
 returns-then-is_checkpoint-clause-logs g c = λ from m. logs_refused g.D.Disk.told (parts g.D.Disk.view c.args.self.now) (g.D.Disk.view c.args.self.now.engine.disk) c.args.self.now.engine.log c.args.self.now.engine.pool _ from m (shown c.args.r.now) c.place-self.result space.Disk _ (let e = c.args.self.now.ends c.if-self.false in let n = c.place-self.ensures in let l = place_late c.args.self.now.engine.log (shown c.args.r.now) in omega (arith, e, n, l)) (none_made g.D.Disk.told (parts g.D.Disk.view c.args.self.now))
@@ -32,7 +32,7 @@ pub invariant_of-self-then-is_checkpoint-clause-some : goal.invariant_of-self-th
 invariant_of-self-then-is_checkpoint-clause-some g c = some_kept_by g.D.Disk.told c.args.self.now.failed true (g.D.Disk.view c.args.self.now.found.value) (g.D.Disk.view c.args.self.now.engine.disk) (g.D.Disk.view c.args.self.now.engine.disk) c.args.self.now.engine.log c.args.self.now.engine.log c.args.self.now.engine.pool c.args.self.now.engine.pool _ (λ from m. keeps_broken g.D.Disk.told (parts g.D.Disk.view c.args.self.now) (g.D.Disk.view c.args.self.now.engine.disk) c.args.self.now.engine.log c.args.self.now.engine.pool _ from m) c.requires.by
 
 pub invariant_of-self-in-Ok-clause-ends : goal.invariant_of-self-in-Ok-clause-ends
-invariant_of-self-in-Ok-clause-ends g c = λ whole. c.tail-self.ensures
+invariant_of-self-in-Ok-clause-ends g c = λ whole. c.max-self.ensures ∙ ap (λ (n : ℕ). max n 1) c.tail.ensures
 
 pub returns-in-Ok-clause-means : goal.returns-in-Ok-clause-means
 returns-in-Ok-clause-means g c = λ from m. keeps_record g.D.Disk.told (parts g.D.Disk.view c.args.self.now) (g.D.Disk.view c.log_record.new.engine.disk) c.log_record.new.engine.log c.log_record.new.engine.pool _ from m (shown c.args.r.now) c.log_record.new.tried c.in-Ok.lsn (sym c.is_checkpoint.ensures ∙ c.if-is_checkpoint.false) (λ tells p. c.in-Ok.ensures.runs _ _ _ _ tells (asked g.D.Disk.told (parts g.D.Disk.view c.args.self.now) _ _ from _ (shown c.args.r.now) c.if-self.false (λ same. refl) c.requires.can m tells p)) (λ tells p. c.in-Ok.ensures.logs _ _ _ _ tells (asked g.D.Disk.told (parts g.D.Disk.view c.args.self.now) _ _ from _ (shown c.args.r.now) c.if-self.false (λ same. refl) c.requires.can m tells p))
@@ -41,13 +41,13 @@ pub invariant_of-self-in-Ok-clause-some : goal.invariant_of-self-in-Ok-clause-so
 invariant_of-self-in-Ok-clause-some g c = some_kept_by g.D.Disk.told c.args.self.now.failed c.args.self.now.failed (g.D.Disk.view c.args.self.now.found.value) (g.D.Disk.view c.args.self.now.engine.disk) (g.D.Disk.view c.log_record.new.engine.disk) c.args.self.now.engine.log c.log_record.new.engine.log c.args.self.now.engine.pool c.log_record.new.engine.pool _ (λ from m. keeps_record g.D.Disk.told (parts g.D.Disk.view c.args.self.now) (g.D.Disk.view c.log_record.new.engine.disk) c.log_record.new.engine.log c.log_record.new.engine.pool _ from m (shown c.args.r.now) c.log_record.new.tried c.in-Ok.lsn (sym c.is_checkpoint.ensures ∙ c.if-is_checkpoint.false) (λ tells p. c.in-Ok.ensures.runs _ _ _ _ tells (asked g.D.Disk.told (parts g.D.Disk.view c.args.self.now) _ _ from _ (shown c.args.r.now) c.if-self.false (λ same. refl) c.requires.can m tells p)) (λ tells p. c.in-Ok.ensures.logs _ _ _ _ tells (asked g.D.Disk.told (parts g.D.Disk.view c.args.self.now) _ _ from _ (shown c.args.r.now) c.if-self.false (λ same. refl) c.requires.can m tells p))) c.requires.by
 
 pub returns-in-Ok-clause-logs : goal.returns-in-Ok-clause-logs
-returns-in-Ok-clause-logs g c = λ from m. logs_ok g.D.Disk.told (parts g.D.Disk.view c.args.self.now) (g.D.Disk.view c.log_record.new.engine.disk) c.log_record.new.engine.log c.log_record.new.engine.pool _ from m (shown c.args.r.now) c.log_record.new.tried c.in-Ok.lsn c.tail-self.result _ c.in-Ok.ensures.number (let e = c.args.self.now.ends c.if-self.false in let a = c.log_record.ensures.above in omega (arith, e, a)) (sym c.is_checkpoint.ensures ∙ c.if-is_checkpoint.false) (λ tells p. c.in-Ok.ensures.runs _ _ _ _ tells (asked g.D.Disk.told (parts g.D.Disk.view c.args.self.now) _ _ from _ (shown c.args.r.now) c.if-self.false (λ same. refl) c.requires.can m tells p)) (λ tells p. c.in-Ok.ensures.logs _ _ _ _ tells (asked g.D.Disk.told (parts g.D.Disk.view c.args.self.now) _ _ from _ (shown c.args.r.now) c.if-self.false (λ same. refl) c.requires.can m tells p))
+returns-in-Ok-clause-logs g c = λ from m. logs_ok g.D.Disk.told (parts g.D.Disk.view c.args.self.now) (g.D.Disk.view c.log_record.new.engine.disk) c.log_record.new.engine.log c.log_record.new.engine.pool _ from m (shown c.args.r.now) c.log_record.new.tried c.in-Ok.lsn c.max-self.result _ c.in-Ok.ensures.number (let e = c.args.self.now.ends c.if-self.false in let a = c.log_record.ensures.above in omega (arith, e, a)) (sym c.is_checkpoint.ensures ∙ c.if-is_checkpoint.false) (λ tells p. c.in-Ok.ensures.runs _ _ _ _ tells (asked g.D.Disk.told (parts g.D.Disk.view c.args.self.now) _ _ from _ (shown c.args.r.now) c.if-self.false (λ same. refl) c.requires.can m tells p)) (λ tells p. c.in-Ok.ensures.logs _ _ _ _ tells (asked g.D.Disk.told (parts g.D.Disk.view c.args.self.now) _ _ from _ (shown c.args.r.now) c.if-self.false (λ same. refl) c.requires.can m tells p))
 
 pub returns-in-Ok-clause-grows : goal.returns-in-Ok-clause-grows
-returns-in-Ok-clause-grows g c = grows_ok g.D.Disk.told (parts g.D.Disk.view c.args.self.now) (g.D.Disk.view c.log_record.new.engine.disk) c.log_record.new.engine.log c.log_record.new.engine.pool (shown c.args.r.now) c.in-Ok.lsn c.tail-self.result c.log_record.new.tried _ c.if-self.false c.in-Ok.ensures.number (let e = c.args.self.now.ends c.if-self.false in let a = c.log_record.ensures.above in omega (arith, e, a)) (let b = c.in-Ok.ensures.below in let n = c.tail-self.ensures in omega (arith, b, n)) (let e = c.args.self.now.ends c.if-self.false in let n = c.tail-self.ensures in let h = c.in-Ok.ensures.grown in omega (arith, e, n, h)) refl
+returns-in-Ok-clause-grows g c = grows_ok g.D.Disk.told (parts g.D.Disk.view c.args.self.now) (g.D.Disk.view c.log_record.new.engine.disk) c.log_record.new.engine.log c.log_record.new.engine.pool (shown c.args.r.now) c.in-Ok.lsn c.max-self.result c.log_record.new.tried _ c.if-self.false c.in-Ok.ensures.number (let e = c.args.self.now.ends c.if-self.false in let a = c.log_record.ensures.above in omega (arith, e, a)) (let b = c.in-Ok.ensures.below in let n = c.max-self.ensures ∙ ap (λ (k : ℕ). max k 1) c.tail.ensures in omega (arith, b, n)) (let e = c.args.self.now.ends c.if-self.false in let n = c.max-self.ensures ∙ ap (λ (k : ℕ). max k 1) c.tail.ensures in let h = c.in-Ok.ensures.grown in omega (arith, e, n, h)) refl c.in-Ok.ensures.within
 
 pub returns-in-Err-clause-grows : goal.returns-in-Err-clause-grows
-returns-in-Err-clause-grows g c = grows_err g.D.Disk.told (parts g.D.Disk.view c.args.self.now) (g.D.Disk.view c.log_record.new.engine.disk) c.log_record.new.engine.log c.log_record.new.engine.pool (shown c.args.r.now) c.in-Err.fault _ c.log_record.new.tried _ c.space_fault.ensures c.if-self.false (let b = c.saturating_add-self-in-Err.ensures in search rules) (let b = c.saturating_add-self-in-Err.ensures in search rules) (λ e. subst (λ (n : ℕ). LOG_END < n + 131072) (sym (c.args.self.now.ends c.if-self.false)) (c.log_record.ensures.near (c.in-Err.is ∙ ap Err e)))
+returns-in-Err-clause-grows g c = grows_err g.D.Disk.told (parts g.D.Disk.view c.args.self.now) (g.D.Disk.view c.log_record.new.engine.disk) c.log_record.new.engine.log c.log_record.new.engine.pool (shown c.args.r.now) c.in-Err.fault _ c.log_record.new.tried _ c.space_fault.ensures c.if-self.false (let b = c.saturating_add-self-in-Err.ensures in search rules) (let b = c.saturating_add-self-in-Err.ensures in search rules) (λ e. let n = c.args.self.now.ends c.if-self.false in let k = c.log_record.ensures.near (c.in-Err.is ∙ ap Err e) in omega (arith, n, k)) (λ e. c.log_record.ensures.past (c.in-Err.is ∙ ap Err e))
 
 pub returns-in-Err-clause-logs : goal.returns-in-Err-clause-logs
 returns-in-Err-clause-logs g c = λ from m. logs_err g.D.Disk.told (parts g.D.Disk.view c.args.self.now) (g.D.Disk.view c.log_record.new.engine.disk) c.log_record.new.engine.log c.log_record.new.engine.pool _ from m (shown c.args.r.now) c.log_record.new.tried _ c.log_record.result _ (let e = c.args.self.now.ends c.if-self.false in let a = c.log_record.ensures.above in omega (arith, e, a)) (sym c.is_checkpoint.ensures ∙ c.if-is_checkpoint.false) (λ tells p. c.log_record.ensures.runs _ _ _ _ tells (asked g.D.Disk.told (parts g.D.Disk.view c.args.self.now) _ _ from _ (shown c.args.r.now) c.if-self.false (λ same. refl) c.requires.can m tells p))

@@ -1,0 +1,4 @@
+pub mod Endings
+pub mod Making
+pub mod Wanting
+pub mod AllDone

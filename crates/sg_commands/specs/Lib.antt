@@ -1,0 +1,11 @@
+pub mod Syncs
+pub mod Images
+pub mod Full
+pub mod Opening
+pub mod Making
+pub mod Statuses
+pub mod Words
+pub mod Drawing
+pub mod Answers
+pub mod Top
+pub mod Done

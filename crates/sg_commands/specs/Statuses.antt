@@ -1,0 +1,48 @@
+-- Which status stands for which fault.
+use Rattle.std.specs.Prelude.{Option, Some, None}
+use Rattle.sg_model.specs.declared.stop.Stop.{Stop}
+use Rattle.sg_model.specs.declared.stop.Stop.TheVariants as stops
+use Rattle.sg_script.specs.declared.script.RunEnd as code_end
+use Rattle.sg_script.specs.declared.script.RunEnd.TheVariants as ends
+use Rattle.sg_commands.specs.declared.opens.OpenRefused as code_refused
+use Rattle.sg_commands.specs.declared.opens.OpenRefused.TheVariants as refusals
+use Rattle.sg_commands.specs.declared.opens.InitRefused as code_init
+use Rattle.sg_commands.specs.declared.opens.InitRefused.TheVariants as inits
+use Rattle.sg_commands.specs.declared.status.Status as code_status
+use Rattle.sg_commands.specs.declared.status.Status.TheVariants as statuses
+
+-- of a run that didn't begin
+abbrev pub status_of_refusal : code_refused.OpenRefused → code_status.Status
+status_of_refusal refusals.DiskFault = statuses.Disk
+status_of_refusal refusals.Memory = statuses.Memory
+status_of_refusal (refusals.Damaged area at) = statuses.Damaged area at
+status_of_refusal refusals.NotAStore = statuses.NotAStore
+status_of_refusal (refusals.UnknownOperation code) = statuses.UnknownOperation code
+status_of_refusal refusals.LogEnd = statuses.LogEnd
+
+-- of a store that wasn't made
+abbrev pub status_of_making : code_init.InitRefused → code_status.Status
+status_of_making inits.DiskFault = statuses.Disk
+status_of_making inits.Exists = statuses.Exists
+
+-- of a script that ended so
+abbrev pub status_of_end : code_end.RunEnd → code_status.Status
+status_of_end ends.Done = statuses.Done
+status_of_end ends.Read = statuses.Read
+status_of_end ends.Write = statuses.Write
+status_of_end ends.TooLong = statuses.TooLong
+
+-- of a store that has stopped for this reason, or hasn't
+abbrev pub status_of_stop : Option Stop → code_status.Status
+status_of_stop None = statuses.Done
+status_of_stop (Some stops.Disk) = statuses.Disk
+status_of_stop (Some stops.LogEnd) = statuses.LogEnd
+
+-- of two, the first that is a fault
+abbrev pub first_fault : code_status.Status → code_status.Status → code_status.Status
+first_fault statuses.Done later = later
+first_fault status later = status
+
+-- Of a run: that of the store's stop, also where it stopped behind the script's end, and else that of the script's end
+abbrev pub status_of : code_end.RunEnd → Option Stop → code_status.Status
+status_of end stop = first_fault (status_of_stop stop) (status_of_end end)

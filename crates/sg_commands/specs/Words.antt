@@ -1,0 +1,67 @@
+-- What the words of the program ask for, of what it does today: a run of a script, a new store, or a workload.
+use Rattle.std.specs.Prelude.{ℕ, Bool, true, false, not, ◌||◌, List, String, Option, Some, None, is_some}
+use Rattle.std.specs.declared.alloc.Global.{Global}
+use Rattle.sg_command.specs.Asked.{asked, texts_of}
+use Rattle.sg_command.specs.declared.words.Command.{Command}
+use Rattle.sg_command.specs.declared.words.Command.TheVariants.{Init, Run, Dump, Check, Log, Gen}
+
+abbrev pub asks_run : Option Command → Bool
+asks_run None = false
+asks_run (Some (Init geometry)) = false
+asks_run (Some (Run stop_after)) = true
+asks_run (Some Dump) = false
+asks_run (Some Check) = false
+asks_run (Some Log) = false
+asks_run (Some (Gen seed count)) = false
+
+-- the words are those of a run
+abbrev pub are_run : List (String Global) → Bool
+are_run words = asks_run (asked (texts_of words))
+
+abbrev pub stop_in : Option Command → Option ℕ
+stop_in None = None
+stop_in (Some (Init geometry)) = None
+stop_in (Some (Run stop_after)) = stop_after
+stop_in (Some Dump) = None
+stop_in (Some Check) = None
+stop_in (Some Log) = None
+stop_in (Some (Gen seed count)) = None
+
+-- how many calls the disk may make, where the words say so
+abbrev pub stop_after : List (String Global) → Option ℕ
+stop_after words = stop_in (asked (texts_of words))
+
+-- a workload: what it is drawn from, and how many lines are drawn
+pub record Drawn : Type 0 where
+  pub seed : ℕ
+  pub count : ℕ
+
+abbrev pub drawn_in : Option Command → Option Drawn
+drawn_in None = None
+drawn_in (Some (Init geometry)) = None
+drawn_in (Some (Run stop_after)) = None
+drawn_in (Some Dump) = None
+drawn_in (Some Check) = None
+drawn_in (Some Log) = None
+drawn_in (Some (Gen seed count)) = Some (record { seed = seed; count = count })
+
+-- the workload that the words ask for, if they do
+abbrev pub drawn : List (String Global) → Option Drawn
+drawn words = drawn_in (asked (texts_of words))
+
+abbrev pub asks_init : Option Command → Bool
+asks_init None = false
+asks_init (Some (Init geometry)) = not geometry
+asks_init (Some (Run stop_after)) = false
+asks_init (Some Dump) = false
+asks_init (Some Check) = false
+asks_init (Some Log) = false
+asks_init (Some (Gen seed count)) = false
+
+-- the words ask for a new store of the sizes that one has where none are given
+abbrev pub are_init : List (String Global) → Bool
+are_init words = asks_init (asked (texts_of words))
+
+-- the program does what the words ask for
+abbrev pub are_served : List (String Global) → Bool
+are_served words = are_run words || (are_init words || is_some (drawn words))

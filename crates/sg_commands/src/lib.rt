@@ -1,0 +1,20 @@
+//! The program's commands: making a store on a disk, a run of a script over the store of one, whatever the
+//! engine that opens it, and a workload. Where the words say so, the disk stops after a number of calls.
+//!
+//! It stands on `sg_script`, which runs a script by a session over any page engine, on `sg_command` and
+//! `sg_workload`, which read the words and draw a workload, and on what it asks of an engine's opening
+//! (`Opens`). It promises that each reply follows from the lines so far, that committed transactions got
+//! the replies that they get one whole transaction after another, that each fault which is answered was
+//! there, and that at every moment each image a crash could leave stands for the objects after the first
+//! transactions in order of commit, all of those that were answered among them.
+#![tactic(auto)]
+
+mod law;
+mod opens;
+mod status;
+mod top;
+
+pub use law::done_tells_all;
+pub use opens::{InitRefused, OpenRefused, Opens, Unopened};
+pub use status::Status;
+pub use top::{Finish, serve};

@@ -1,0 +1,94 @@
+// What the program asks of an engine's opening.
+ghost use Rattle.std.specs.Prelude.{◌≡◌, Some, Ok, Err, IsTrue, IfOk, IfErr, OnOk};
+ghost use Rattle.sg_base.specs.Ends.{HasRisen};
+ghost use Rattle.sg_disk.specs.Disk.{Image, View, LeavesOnly};
+ghost use Rattle.sg_model.specs.declared.stop.Stop.{Stop};
+ghost use Rattle.sg_model.specs.declared.stop.Stop.TheVariants as stops;
+ghost use Rattle.sg_ops.specs.Table.{Table as Operations, table_of};
+ghost use Rattle.sg_store.specs.Engine.{KeepsBy};
+ghost use Rattle.sg_store.specs.Heeds.{Heeds};
+ghost use Rattle.sg_store.specs.Seen.{core_of, Serves};
+ghost use Rattle.sg_commands.specs.Images.{Says, reads_of};
+ghost use Rattle.sg_commands.specs.Making.{HasOpenGate, IsBlank, IsMaking, IsNew};
+ghost use Rattle.sg_commands.specs.Opening.{IsOpened, StaysShut, IsSince};
+
+use sg_base::Area;
+use sg_disk::Disk;
+use sg_ops::Ops;
+use sg_store::{Lists, Store};
+use std::alloc::Global;
+
+/// Why a store isn't opened.
+#[derive(Clone, Copy, Debug, PartialEq, Eq)]
+pub enum OpenRefused {
+    /// A call of the disk failed.
+    DiskFault,
+    /// There was not enough memory.
+    Memory,
+    /// What stands at this offset of the area isn't a store's.
+    Damaged { area: Area, at: u64 },
+    /// The gates of both superblock slots are closed.
+    NotAStore,
+    /// No operation is registered with this code, which opening needs.
+    UnknownOperation(u16),
+    /// A record might pass the end of the log.
+    LogEnd,
+}
+
+/// Why no store is made.
+#[derive(Clone, Copy, Debug, PartialEq, Eq)]
+pub enum InitRefused {
+    /// A call of the disk failed.
+    DiskFault,
+    /// There is one already.
+    Exists,
+}
+
+/// A disk whose store wasn't opened, and why.
+pub struct Unopened<D> {
+    pub why: OpenRefused,
+    pub disk: D,
+}
+
+/// An engine of a store that can be opened on a disk.
+pub trait Opens<D: Disk>: Lists {
+    /// What images say of their stores.
+    ghost says: { Says };
+
+    /// It is an engine of the store that was opened where the disk showed this, and that when it was open.
+    ghost began: { Operations → View → View → Self → Type 0 };
+
+    /// Opens the store of a disk, whose records are of these operations. A refusal hands the disk back, as
+    /// opening left it.
+    fn open(alloc: Global, ops: &Ops, disk: D) -> Result<Store<Self>, Unopened<D>>
+        requires asked { IsTrue D.told → (says).asked (table_of record_meaning range_meaning ops.now) (reads_of (D.view disk)) }
+        ensures serves { IfOk result (λ s. Serves (table_of record_meaning range_meaning ops.now) s) }
+        ensures opens { IfOk result (λ s. IsOpened Self.basis says (table_of record_meaning range_meaning ops.now) D.told (D.view disk) (Self.view s.engine) (core_of s)) }
+        ensures began { IfOk result (λ s. began (table_of record_meaning range_meaning ops.now) (D.view disk) (Self.view s.engine).disk s.engine) }
+        ensures refused { IfErr result (λ u. StaysShut Self.basis says (table_of record_meaning range_meaning ops.now) D.told (D.view disk) (D.view u.disk) u.why) };
+
+    /// Hands back the disk.
+    fn into_disk(self) -> D
+        ensures { D.view result ≡ (Self.view self).disk };
+
+    /// Makes a store without objects on a disk that has none, of the sizes that one has where none are given.
+    fn init(disk: &mut D) -> Result<(), InitRefused>
+        ensures exists { IsTrue D.told → result ≡ Err InitRefused.Exists → HasOpenGate (D.view disk.old) }
+        ensures refused { IsTrue D.told → HasOpenGate (D.view disk.old) → result ≡ Ok tt → ⊥ }
+        ensures failed { result ≡ Err InitRefused.DiskFault → HasRisen (D.view disk.old).faults (D.view disk.new).faults }
+        ensures heeded { (result ≡ Err InitRefused.DiskFault → ⊥) → (D.view disk.new).faults ≡ (D.view disk.old).faults }
+        ensures moments { (t : Operations) → IsTrue D.told → IsBlank Self.basis says (D.view disk.old) → LeavesOnly (D.view disk.old) (D.view disk.new) (IsMaking Self.basis says t) }
+        ensures done { (t : Operations) → IsTrue D.told → IsBlank Self.basis says (D.view disk.old) → OnOk result (IsNew Self.basis says t (D.view disk.new)) };
+
+    /// Each call that keeps what its records mean leaves it one of that store.
+    ghost goes_on: { (t : Operations) (v u : View) (a b : Self) → began t v u a → KeepsBy t (Self.view a) (Self.view b) → began t v u b };
+
+    /// Where a store can be made there is none.
+    ghost bare: { (c : Image) → (says).blank c → (says).no_store c };
+
+    /// What holds since the opening, of any such value.
+    ghost since: { (t : Operations) (v u : View) (s : Self) → began t v u s → IsSince Self.basis says t D.told v u (Self.view s) };
+
+    /// The log's end is no fault: calls that a store stopped at for that counted none.
+    ghost full: { (before : _) (a b : Self) → (before ≡ Some stops.Disk → ⊥) → Heeds before (Some stops.LogEnd) (Self.view a) (Self.view b) → (Self.view b).faults ≡ (Self.view a).faults };
+}

@@ -1,0 +1,228 @@
+ghost use Rattle.std.specs.Prelude.{◌≡◌, ◌≤◌, ◌⊎◌, [], true, false, IsTrue, IfSome, IfOk, length};
+ghost use Rattle.sg_disk.specs.Disk.{refusing, Spent};
+ghost use Rattle.sg_ops.specs.Table.{table_of};
+ghost use Rattle.sg_session.specs.Names.{all_live};
+ghost use Rattle.sg_script.specs.Ending.{MOST_OF_PIECE};
+ghost use Rattle.sg_commands.specs.Images.{reads_of};
+ghost use Rattle.sg_commands.specs.Words.{are_run, are_init, are_served, drawn, stop_after};
+ghost use Rattle.sg_commands.specs.Making.{Makes};
+ghost use Rattle.sg_commands.specs.Drawing.{Draws, sunk};
+ghost use Rattle.sg_commands.specs.Top.{outside, HasGone, Account};
+
+use crate::opens::{Opens, Unopened};
+use crate::status::{
+    Status, first_fault, status_of_end, status_of_making, status_of_refusal, status_of_stop,
+};
+use sg_base::{OutOfMemory, Sink, Source};
+use sg_command::{Command, WordsError, read_command};
+use sg_disk::{Disk, Fuse, Origin};
+use sg_ops::Ops;
+use sg_script::{Ended, Room, run};
+use sg_session::{Names, Session};
+use sg_workload::write_workload;
+use std::alloc::Global;
+
+/// What a command leaves: its status, the disk, and how many of its calls the stop refused. A count
+/// of 2^64 - 1 stays.
+#[derive(Drop)]
+pub struct Finish<D> {
+    pub status: Status,
+    pub disk: D,
+    pub refused: u64,
+}
+
+// The memory that a run takes beside the store's.
+#[derive(Drop)]
+struct Rooms {
+    piece: Vec<u8>,
+    room: Room,
+    names: Names,
+}
+
+// The end of a command, with the disk out of its fuse.
+fn finished<D: Disk, O: Origin>(status: Status, fuse: Fuse<D, O>) -> Finish<D>
+    ensures status { result.status ≡ status }
+    ensures view { ⟦<Fuse<D, O> as Disk>⟧.view fuse ≡ refusing (D.view result.disk) result.refused }
+    ensures spent { IsTrue O.known → Spent O.passes O.calls (D.view result.disk).calls result.refused }
+    ensures later { IsTrue O.known → O.faults ≤ (D.view result.disk).faults }
+{
+    let refused = fuse.refused();
+    Finish {
+        status,
+        disk: fuse.into_inner(),
+        refused,
+    }
+}
+
+// The room that takes a piece of a script.
+fn piece_room(alloc: Global) -> Result<Vec<u8>, OutOfMemory>
+    ensures { IfOk result (λ v. length v.items ≡ MOST_OF_PIECE) }
+{
+    match vec![in alloc; 0; 65_536] {
+        Ok(zeros) => Ok(zeros),
+        Err(_) => Err(OutOfMemory),
+    }
+}
+
+fn make_rooms(alloc: Global) -> Result<Rooms, OutOfMemory>
+    ensures size { IfOk result (λ r. length r.piece.items ≡ MOST_OF_PIECE) }
+    ensures unnamed { IfOk result (λ r. all_live r.names.all.items ≡ []) }
+{
+    let piece = piece_room(alloc)?;
+    let room = Room::new(alloc)?;
+    let names = Names::new(alloc)?;
+    Ok(Rooms { piece, room, names })
+}
+
+// Runs the script over the disk, which makes so many calls at most where a number is given.
+fn run_behind_fuse<D: Disk, S: Source, K: Sink, O: Origin, E: Opens<Fuse<D, O>>>(
+    alloc: Global,
+    ops: &Ops,
+    disk: D,
+    calls: Option<u64>,
+    script: &mut S,
+    out: &mut K,
+) -> Finish<D>
+    requires known { IsTrue O.known }
+    requires passes { O.passes ≡ calls }
+    requires began { O.calls ≡ (D.view disk).calls }
+    requires faults { O.faults ≡ (D.view disk).faults }
+    requires asked { IsTrue D.told → E.says.asked (table_of record_meaning range_meaning ops.now) (reads_of (D.view disk)) }
+    ensures run { HasGone E.basis E.says (table_of record_meaning range_meaning ops.now) D.told (outside (D.view disk) (S.left script.old) (S.faults script.old) (K.taken out.old) (K.faults out.old))
+        (outside (D.view result.disk) (S.left script.new) (S.faults script.new) (K.taken out.new) (K.faults out.new)) result.refused result.status }
+    ensures heeded { (result.status ≡ Status.Disk → ⊥) → ((D.view result.disk).faults ≡ (D.view disk).faults) × (result.refused ≡ 0) }
+    ensures spent { Spent calls (D.view disk).calls (D.view result.disk).calls result.refused }
+{
+    let Ok(rooms) = make_rooms(alloc) else {
+        return Finish {
+            status: Status::Memory,
+            disk,
+            refused: 0,
+        };
+    };
+    let Rooms { piece, room, names } = rooms;
+    let mut piece = piece;
+    let mut room = room;
+    let fuse = Fuse::<D, O>::marked(disk, calls);
+    let store = match E::open(alloc, ops, fuse) {
+        Ok(store) => store,
+        Err(Unopened { why, disk }) => {
+            let status = status_of_refusal(why);
+            return finished(status, disk);
+        }
+    };
+    let session = Session::over(store, names);
+    let Ended {
+        end,
+        by_then: _,
+        stop,
+        engine,
+    } = run(alloc, ops, session, &mut room, script, out, &mut piece);
+    let first = status_of_stop(stop);
+    let status = first_fault(first, status_of_end(end));
+    finished(status, engine.into_disk())
+}
+
+// Makes a store on the disk, which makes so many calls at most where a number is given.
+fn init_behind_fuse<D: Disk, O: Origin, E: Opens<Fuse<D, O>>>(
+    disk: D,
+    calls: Option<u64>,
+) -> Finish<D>
+    requires known { IsTrue O.known }
+    requires passes { O.passes ≡ calls }
+    requires began { O.calls ≡ (D.view disk).calls }
+    requires faults { O.faults ≡ (D.view disk).faults }
+    ensures makes { Makes E.basis E.says result.status D.told (D.view disk) (D.view result.disk) result.refused }
+    ensures heeded { (result.status ≡ Status.Disk → ⊥) → ((D.view result.disk).faults ≡ (D.view disk).faults) × (result.refused ≡ 0) }
+    ensures spent { Spent calls (D.view disk).calls (D.view result.disk).calls result.refused }
+{
+    let mut fuse = Fuse::<D, O>::marked(disk, calls);
+    match E::init(&mut fuse) {
+        Ok(()) => finished(Status::Done, fuse),
+        Err(why) => {
+            let status = status_of_making(why);
+            finished(status, fuse)
+        }
+    }
+}
+
+// Writes a workload, and says how that ended.
+fn draw_workload<K: Sink>(seed: u64, count: u32, out: &mut K) -> Status
+    ensures draws { Draws result (record { seed = seed; count = count }) (sunk (K.taken out.old) (K.faults out.old)) (sunk (K.taken out.new) (K.faults out.new)) }
+{
+    match write_workload(seed, count, out) {
+        Ok(()) => Status::Done,
+        Err(_) => Status::Write,
+    }
+}
+
+// The end of a command that made no call of the disk.
+fn ended_beside<D: Disk>(status: Status, disk: D) -> Finish<D>
+    ensures { (result.status ≡ status) × (result.disk ≡ disk) × (result.refused ≡ 0) }
+{
+    Finish {
+        status,
+        disk,
+        refused: 0,
+    }
+}
+
+/// Does what the words say, with the script that the source gives, over the disk: `run` and a folder,
+/// which names the disk, runs the script with these operations over the store that the disk has, up to 64
+/// of whose transactions are live at a time. The replies go to the sink. With `--stop-after` and a number
+/// beside these the disk makes so many more calls at most: each later one fails, and doesn't touch
+/// it. `init` and a folder make a store there of the sizes that one has where none are given, and read no
+/// script. `gen`, a seed and a count write a workload to the sink, and make no call of the disk or the source.
+/// Other words are `Status::Usage`, and touch nothing; words take memory to be read. A run ends with its
+/// first fault, but for one of the disk: behind that each line is still answered.
+///
+/// A type `O` stands for what the stop lets pass, and for the disk's counts at the call.
+pub fn serve<D: Disk, S: Source, K: Sink, O: Origin, E: Opens<Fuse<D, O>>>(
+    alloc: Global,
+    ops: Ops,
+    words: &[String],
+    disk: D,
+    script: &mut S,
+    out: &mut K,
+) -> Finish<D>
+    requires known { IsTrue O.known }
+    requires passes { O.passes ≡ stop_after words.now }
+    requires began { O.calls ≡ (D.view disk).calls }
+    requires faults { O.faults ≡ (D.view disk).faults }
+    requires asked { IsTrue D.told → E.says.asked (table_of record_meaning range_meaning ops) (reads_of (D.view disk)) }
+    ensures usage { result.status ≡ Status.Usage → are_served words.now ≡ false }
+    ensures unused { are_served words.now ≡ false → ((result.status ≡ Status.Usage) ⊎ (result.status ≡ Status.Memory)) × (out.new ≡ out.old) }
+    ensures apart { are_run words.now ≡ false → script.new ≡ script.old }
+    ensures beside { are_run words.now ≡ false → are_init words.now ≡ false → (result.disk ≡ disk) × (result.refused ≡ 0) }
+
+    // The headline: one course of the run, its replies, what a crash leaves of it, the cause of its status, and that it is
+    // done where nothing hinders it.
+    ensures run { are_run words.now ≡ true → Account E.basis E.says (table_of record_meaning range_meaning ops) D.told (outside (D.view disk) (S.left script.old) (S.faults script.old) (K.taken out.old) (K.faults out.old))
+        (outside (D.view result.disk) (S.left script.new) (S.faults script.new) (K.taken out.new) (K.faults out.new)) result.refused result.status }
+
+    // A new store: what its status tells, and what a crash leaves at each moment.
+    ensures made { are_init words.now ≡ true → Makes E.basis E.says result.status D.told (D.view disk) (D.view result.disk) result.refused }
+    ensures mute { are_init words.now ≡ true → out.new ≡ out.old }
+
+    // A workload: what the sink took of it, by its status.
+    ensures drawn { IfSome (drawn words.now) (λ d. Draws result.status d (sunk (K.taken out.old) (K.faults out.old)) (sunk (K.taken out.new) (K.faults out.new))) }
+
+    // A fault of the disk, and a call that is refused, give their status.
+    ensures heeded { (result.status ≡ Status.Disk → ⊥) → ((D.view result.disk).faults ≡ (D.view disk).faults) × (result.refused ≡ 0) }
+
+    // The stop: no more calls than it lets pass, and one refused only behind exactly so many.
+    ensures spent { Spent (stop_after words.now) (D.view disk).calls (D.view result.disk).calls result.refused }
+{
+    match read_command(alloc, words) {
+        Ok(Command::Run { stop_after }) => {
+            run_behind_fuse::<D, S, K, O, E>(alloc, &ops, disk, stop_after, script, out)
+        }
+        Ok(Command::Init { geometry: false }) => init_behind_fuse::<D, O, E>(disk, None),
+        Ok(Command::Gen { seed, count }) => {
+            let status = draw_workload(seed, count, out);
+            ended_beside(status, disk)
+        }
+        Ok(_) | Err(WordsError::Usage) => ended_beside(Status::Usage, disk),
+        Err(WordsError::Memory) => ended_beside(Status::Memory, disk),
+    }
+}

@@ -1,0 +1,4 @@
+pub mod Newest
+pub mod Running
+mod Clearing
+pub mod Backing

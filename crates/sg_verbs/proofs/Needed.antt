@@ -1,0 +1,80 @@
+-- What a need leaves and says, as the store asks.
+use Rattle.std.proofs.Common.{◌≡◌, ℕ, List, Result, Ok, Err, refl, ap}
+use Rattle.std.specs.Prelude.{IfErr}
+use Rattle.sg_ops.specs.Table.{Table}
+use Rattle.sg_actions.specs.declared.acts.Acts.{Acts}
+use Rattle.sg_actions.specs.declared.engine.Engine.{Ghosts}
+use Rattle.sg_model.specs.Verb.{Verb}
+use Rattle.sg_model.specs.Verb.Op.{On}
+use Rattle.sg_contents.specs.Standing.{IfContents}
+use Rattle.sg_objects.specs.Calls.{CountsObject, IfAnswered}
+use Rattle.sg_objects.specs.Found.{CheckedBy}
+use Rattle.sg_objects.specs.Needing.{HasNeed}
+use Rattle.sg_objects.specs.Quiet.{WritesNoneObject}
+use Rattle.sg_objects.specs.declared.need.Needs.{Needs}
+use Rattle.sg_objects.specs.declared.verb.ObjFault.{ObjFault as ObjectsFault}
+use Rattle.sg_objects.specs.declared.verb.ObjFault.TheVariants as objects
+use Rattle.sg_space.specs.View.{View, OnlyReads}
+use Rattle.sg_space.specs.declared.space.SpaceFault.{SpaceFault}
+use Rattle.sg_space.specs.declared.space.SpaceFault.TheVariants as faults
+use Rattle.sg_store.specs.Engine.{AsMeantBy, Counts, IsEngine, IsDiskFault, IsObjDisk, IsReadFault, IsRefusedQuietly, Rests}
+use Rattle.sg_store.specs.Verbs.{Reads, HasNeeds}
+use Rattle.sg_store.specs.declared.fault.Needed.{Needed}
+use Rattle.sg_store.specs.declared.fault.ObjFault.{ObjFault}
+use Rattle.sg_store.specs.declared.fault.ObjFault.TheVariants as store
+use Rattle.sg_shown.specs.Shown.{over, shown}
+use Rattle.sg_verbs.specs.Looks.{is_need_failed, told_need}
+use Rattle.sg_verbs.proofs.Asked.{refused_as, needs_as}
+use Rattle.sg_verbs.proofs.Looking.{disk_is}
+use Rattle.sg_verbs.proofs.Looked.{Look, Ends, GoesOn, kept, failed, looked_there, counts_kept, counts_refused, counts_failed}
+use Rattle.sg_verbs.proofs.Moving.{view_in}
+
+read_fault : (f : SpaceFault) → (objects.Space f ≡ objects.Space faults.LogEnd → ⊥) → IsDiskFault f
+read_fault faults.Disk none = tt
+read_fault faults.LogEnd none = none refl
+
+-- WHAT A NEED LEFT of the space where whoever acts had paused
+pub record Finds (t : Table) (name : List ℕ) (verb : Verb) (v w : View) (r : Result Needs ObjectsFault) : Type 0 where
+  pub counts : CountsObject v w r
+  pub kept : IfAnswered r (λ x. OnlyReads v w)
+  pub read : IfAnswered r (λ x. IfContents v (λ s. CheckedBy t name verb s (HasNeed t name verb s) x))
+  pub writes : WritesNoneObject v w r
+
+-- and what is said of it
+pub record Says {E : Type 0} {g : Ghosts E} (t : Table) (name : List ℕ) (verb : Verb) (a d : Acts E g) (r : Result Needed ObjFault) : Type 0 where
+  pub counts : Counts IsObjDisk (shown a) (shown d) r
+  pub refused : IfErr r (IsRefusedQuietly (shown a) (shown d))
+  pub needs : AsMeantBy t (shown a) (shown d) (λ g v w. (o : g.O) → IsEngine t g v → Reads t g v o → Rests t g v w × HasNeeds t g v w o (On name verb) r)
+  pub reads : IfErr r IsReadFault
+
+module _ {E : Type 0} {g : Ghosts E} (t : Table) (name : List ℕ) (verb : Verb) (a p b d : Acts E g) (l : Look a p b) where
+  pub need_ends : (r : Result Needs ObjectsFault) → Finds t name verb (view_in (over p)) (view_in (over b)) r → GoesOn a.begun b d (is_need_failed r) → Ends a p b d (is_need_failed r)
+  need_ends (Ok n) q h = kept a p b d l q.kept (h.on refl) q.counts.quiet
+  need_ends (Err (objects.Model reason)) q h = kept a p b d l q.kept (h.on refl) q.counts.quiet
+  need_ends (Err (objects.Space f)) q h = failed a p b d l (h.stopped refl)
+
+  pub need_says : (r : Result Needs ObjectsFault) → Finds t name verb (view_in (over p)) (view_in (over b)) r → Ends a p b d (is_need_failed r) → Says t name verb a d (told_need r)
+  need_says (Ok n) q k = record {
+    counts = counts_kept a p b d _ k;
+    refused = tt;
+    needs = λ z from m told o engine can.
+        let e = k.rests t z from m told in
+        let s = looked_there a p b d l t z from m told o can.reading in
+        (e.0, (e.1, needs_as g.recovers z t s.0 o name verb n s.3 ((q.read s.1 s.0 s.2).ok n refl)));
+    reads = tt;
+  }
+  need_says (Err (objects.Model reason)) q k = record {
+    counts = counts_refused a p b d (store.Model reason) (λ h. h) k;
+    refused = (k.tells, k.faults);
+    needs = λ z from m told o engine can.
+        let e = k.rests t z from m told in
+        let s = looked_there a p b d l t z from m told o can.reading in
+        (e.0, (e.1, refused_as t s.0 o name verb reason s.3 ((q.read s.1 s.0 s.2).err reason refl)));
+    reads = tt;
+  }
+  need_says (Err (objects.Space f)) q h = record {
+    counts = counts_failed a p b d (store.Space f) q.counts.later (λ is. q.counts.disk (ap objects.Space (disk_is f is))) h;
+    refused = tt;
+    needs = λ z from m told o engine can. (h.rests t z from m told, tt);
+    reads = read_fault f q.writes.no_end;
+  }
