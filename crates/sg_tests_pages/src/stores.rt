@@ -7,18 +7,17 @@ use crate::quiet::Quiet;
 use sg_actions::{Acts, Row};
 use sg_alloc::Maps;
 use sg_analysis::Analysis;
-use sg_attach::{AttachedStore, attach};
+use sg_attach::attach;
 use sg_base::{BandNo, Name, OutOfMemory, PageNo, Steps, TxnId};
-use sg_bucket::Bytes;
 use sg_disk::MemDisk;
 use sg_find::OpenFault;
 use sg_making::{Geometry, InitFault, init_store};
-use sg_model::{Op, Reason, Reply};
-use sg_objects::{ObjFault, keys, list, perform, reverse};
+use sg_model::{Op, Reply};
+use sg_objects::{ObjFault, perform, reverse};
 use sg_ops::{Ops, OpsError};
 use sg_pages::Phys;
 use sg_reopen::Unopened;
-use sg_space::{ListFault, SpaceFault, UndoNote};
+use sg_space::{SpaceFault, UndoNote};
 use std::alloc::{AllocError, Global};
 use std::sync::ledger::Ledger;
 
@@ -68,15 +67,6 @@ impl From<ObjFault> for Stop {
 impl From<SpaceFault> for Stop {
     fn from(fault: SpaceFault) -> Stop {
         Stop::Space(fault)
-    }
-}
-
-impl From<ListFault> for Stop {
-    fn from(fault: ListFault) -> Stop {
-        match fault {
-            ListFault::Space(fault) => Stop::Space(fault),
-            ListFault::Memory => Stop::Memory,
-        }
     }
 }
 
@@ -170,13 +160,7 @@ fn opened<L: Ledger>(
     steps: &mut Steps<L>,
 ) -> Result<(Engine, Analysis), Stop> {
     match attach(alloc, Quiet { inner: disk }, ops, steps) {
-        Ok(
-            AttachedStore {
-                pages,
-                geometry: _,
-                analysis,
-            },
-        ) => Ok((pages, analysis)),
+        Ok(made) => Ok(made),
         Err(Unopened { disk: _, fault }) => Err(Stop::Open(fault)),
     }
 }
@@ -302,16 +286,6 @@ impl Trial {
         self.ops.laws();
         self.acts.take_off(&self.ops)?;
         Ok(())
-    }
-
-    // The keys of a table, or why there are none.
-    pub fn keys(&mut self, alloc: Global, name: Name) -> Result<Result<Vec<Bytes>, Reason>, Stop> {
-        Ok(keys(&mut self.acts, name, alloc)?)
-    }
-
-    // The names of all objects.
-    pub fn names(&mut self, alloc: Global) -> Result<Vec<Name>, Stop> {
-        Ok(list(&mut self.acts, alloc)?)
     }
 
     // Whether a note of the transaction is left.

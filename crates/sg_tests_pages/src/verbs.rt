@@ -3,8 +3,7 @@ ghost use Rattle.std.specs.Prelude.{◌≡◌, ◌<◌};
 
 use crate::stores::{Stop, Trial, named};
 use sg_base::{Name, Steps, TxnId};
-use sg_bucket::Bytes;
-use sg_model::{Key, Op, Reason, Reply};
+use sg_model::{Op, Reason, Reply};
 use sg_objects::ObjFault;
 use sg_plain::Objects;
 use std::alloc::Global;
@@ -167,32 +166,7 @@ fn agrees(
     Ok(is_same(&said, &want, &into, &other))
 }
 
-// Whether some keys are the same.
-fn are_same_keys(found: &[Bytes], want: &[Key]) -> bool {
-    let mut same = found.len() == want.len();
-    for (key, other) in found.iter().zip(want) {
-        same = same && key.bytes() == other.bytes();
-    }
-    same
-}
-
-// Whether the keys under a name, and all names, are the same in a store and in memory.
-fn lists_agree(
-    alloc: Global,
-    trial: &mut Trial,
-    plain: &Objects,
-    name: Name,
-) -> Result<bool, Stop> {
-    let same = match (trial.keys(alloc, name)?, plain.keys(alloc, name)?) {
-        (Ok(found), Ok(want)) => are_same_keys(&found, &want),
-        (Err(reason), Err(want)) => reason == want,
-        _ => false,
-    };
-    let names = trial.names(alloc)?;
-    Ok(same && names == plain.list(alloc)?)
-}
-
-// The first of so many verbs that comes to something else, or behind which another list is found. Each third one is done once before, and taken off.
+// The first of so many verbs that comes to something else. Each third one is done once before, and taken off.
 fn first_wrong(
     alloc: Global,
     trial: &mut Trial,
@@ -210,9 +184,7 @@ fn first_wrong(
         if i % 3 == 0 {
             trial.gives_up(txn, &op)?;
         }
-        if !agrees(alloc, trial, &mut plain, txn, &op)?
-            || !lists_agree(alloc, trial, &plain, draw.name)?
-        {
+        if !agrees(alloc, trial, &mut plain, txn, &op)? {
             return Ok(Some(i));
         }
     }
