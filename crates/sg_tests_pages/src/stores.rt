@@ -7,7 +7,7 @@ use crate::quiet::Quiet;
 use sg_actions::{Acts, Row};
 use sg_alloc::Maps;
 use sg_analysis::Analysis;
-use sg_attach::attach;
+use sg_attach::{AttachedStore, attach};
 use sg_base::{BandNo, Name, OutOfMemory, PageNo, Steps, TxnId};
 use sg_disk::MemDisk;
 use sg_find::OpenFault;
@@ -160,7 +160,13 @@ fn opened<L: Ledger>(
     steps: &mut Steps<L>,
 ) -> Result<(Engine, Analysis), Stop> {
     match attach(alloc, Quiet { inner: disk }, ops, steps) {
-        Ok(made) => Ok(made),
+        Ok(
+            AttachedStore {
+                pages,
+                geometry: _,
+                analysis,
+            },
+        ) => Ok((pages, analysis)),
         Err(Unopened { disk: _, fault }) => Err(Stop::Open(fault)),
     }
 }
