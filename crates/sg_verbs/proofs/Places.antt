@@ -149,4 +149,4 @@ module _ (x y : Space) (s s' : Contents) (h : IsContents x s) (k : IsContents y 
   same_limit at page = ap (λ (o : Option ℕ). limit_of (kind_at (at page)) (items_for o)) (
       sizes_among s'.body s.body page (rows s'.catalog) (λ row a. sizes_are page (s.body row.root.0) (s'.body row.root.0) (alike row a))
       ∙ ap (λ (c : Catalog). size_among s.body (rows c) page) (sym catalogs)
-  )
+      )
