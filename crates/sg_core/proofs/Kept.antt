@@ -7,7 +7,7 @@ use Rattle.std.proofs.lemmas.List.{length-map}
 use Rattle.std.proofs.lemmas.List.Sums.{sum_by-cons, sum_by-append, length-filter, count_by-le-length}
 use Rattle.slab.specs.Slab.{Slab, get, Updates, with_value}
 use Rattle.sg_core.specs.declared.txns.Live.{Live}
-use Rattle.sg_core.specs.Live.{Txn, is_of, is_live, without, has_reserved}
+use Rattle.sg_core.specs.Live.{Txn, is_of, is_live, without, has_reserved, has_dropped}
 use Rattle.sg_core.specs.Order.{in_order}
 use Rattle.sg_core.specs.Slots.{shown, live_of, AreDistinct, IsKept, HasAt}
 use Rattle.sg_core.proofs.Order.{is_late, ordered_any, ordered_last, ordered_filter, ordered_map, ordered_length}
@@ -103,30 +103,31 @@ reserved_lives t (x ∷ xs) h = go (is_of t x) (nat_lt 0 x.reserved) h (reserved
     go true b h rest = refl
     go false b h rest = rest h
 
--- and its entry says so
-none_reserved : (t : ℕ) (xs : List Txn) → list_any (is_of t) xs ≡ false → has_reserved xs t ≡ false
-none_reserved t [] h = refl
-none_reserved t (x ∷ xs) h = go (is_of t x) h (none_reserved t xs)
+-- a transaction that isn't there is none that passes
+none_with : (p : Txn → Bool) (t : ℕ) (xs : List Txn) → list_any (is_of t) xs ≡ false → list_any (λ x. is_of t x && p x) xs ≡ false
+none_with p t [] h = refl
+none_with p t (x ∷ xs) h = go (is_of t x) h (none_with p t xs)
   where
-    go : (a : Bool) → (a || list_any (is_of t) xs) ≡ false → (list_any (is_of t) xs ≡ false → has_reserved xs t ≡ false) → ((a && nat_lt 0 x.reserved) || has_reserved xs t) ≡ false
+    go : (a : Bool) → (a || list_any (is_of t) xs) ≡ false → (list_any (is_of t) xs ≡ false → list_any (λ y. is_of t y && p y) xs ≡ false) → ((a && p x) || list_any (λ y. is_of t y && p y) xs) ≡ false
     go true h rest = absurd (cc)
     go false h rest = rest h
 
-none_here : (slots : List (Option Live)) (key : ℕ) (l : Live) → get_or slots key None ≡ Some l → AreDistinct (live_of slots) → nat_lt 0 l.reserved ≡ false → has_reserved (live_of slots) l.transaction.0 ≡ false
-none_here [] key l there distinct none = absurd (cc)
-none_here (None ∷ rest) zero l there distinct none = absurd (cc)
-none_here (Some a ∷ rest) zero l there distinct none =
+-- and one that is passes where its entry does
+none_here : (p : Txn → Bool) (slots : List (Option Live)) (key : ℕ) (l : Live) → get_or slots key None ≡ Some l → AreDistinct (live_of slots) → p (shown l) ≡ false → list_any (λ x. is_of l.transaction.0 x && p x) (live_of slots) ≡ false
+none_here p [] key l there distinct none = absurd (cc)
+none_here p (None ∷ rest) zero l there distinct none = absurd (cc)
+none_here p (Some a ∷ rest) zero l there distinct none =
     let q : a ≡ l = cc in
     let alone : list_any (is_of l.transaction.0) (live_of rest) ≡ false = ap (λ (b : Live). list_any (is_of b.transaction.0) (live_of rest)) (sym q) ∙ distinct.0 in
-    go (is_of l.transaction.0 (shown a)) (nat_lt 0 a.reserved) (ap (λ (b : Live). nat_lt 0 b.reserved) q ∙ none) (none_reserved l.transaction.0 (live_of rest) alone)
+    go (is_of l.transaction.0 (shown a)) (p (shown a)) (ap (λ (b : Live). p (shown b)) q ∙ none) (none_with p l.transaction.0 (live_of rest) alone)
   where
-    go : (a b : Bool) → b ≡ false → has_reserved (live_of rest) l.transaction.0 ≡ false → ((a && b) || has_reserved (live_of rest) l.transaction.0) ≡ false
+    go : (a b : Bool) → b ≡ false → list_any (λ x. is_of l.transaction.0 x && p x) (live_of rest) ≡ false → ((a && b) || list_any (λ x. is_of l.transaction.0 x && p x) (live_of rest)) ≡ false
     go true true e h = absurd (cc)
     go true false e h = h
     go false b e h = h
-none_here (None ∷ rest) (suc key) l there distinct none = none_here rest key l there distinct none
-none_here (Some a ∷ rest) (suc key) l there distinct none =
-    ap (λ b. (b && nat_lt 0 a.reserved) || has_reserved (live_of rest) l.transaction.0) (is_other rest a l key distinct.0 there) ∙ none_here rest key l there distinct.1 none
+none_here p (None ∷ rest) (suc key) l there distinct none = none_here p rest key l there distinct none
+none_here p (Some a ∷ rest) (suc key) l there distinct none =
+    ap (λ b. (b && p (shown a)) || list_any (λ x. is_of l.transaction.0 x && p x) (live_of rest)) (is_other rest a l key distinct.0 there) ∙ none_here p rest key l there distinct.1 none
 
 pub some_reserved : (live : Slab Live) (t key : ℕ) (l : Live) → HasAt live t key l → AreDistinct (live_of live.slots) → has_reserved (list_of live) t ≡ true → 1 ≤ l.reserved
 some_reserved live t key l at distinct has = go (nat_lt 0 l.reserved) refl
@@ -134,7 +135,18 @@ some_reserved live t key l at distinct has = go (nat_lt 0 l.reserved) refl
     go : (b : Bool) → nat_lt 0 l.reserved ≡ b → 1 ≤ l.reserved
     go true e = ltb-true 0 l.reserved e
     go false e =
-        let none = none_here live.slots key l at.entry_is distinct e in
+        let none = none_here (λ x. nat_lt 0 x.reserved) live.slots key l at.entry_is distinct e in
         let here : has_reserved (live_of live.slots) t ≡ false = ap (λ n. has_reserved (live_of live.slots) n) (sym at.number_is) ∙ none in
         let same = ordered_any (λ x. is_of t x && nat_lt 0 x.reserved) (live_of live.slots) in
         absurd (cc)
+
+-- whether a transaction has dropped something, by its entry
+pub dropped_is : (live : Slab Live) (t key : ℕ) (l : Live) → HasAt live t key l → AreDistinct (live_of live.slots) → has_dropped (list_of live) t ≡ l.dropped
+dropped_is live t key l at distinct = ordered_any (λ x. is_of t x && x.dropped) (live_of live.slots) ∙ go l.dropped refl
+  where
+    go : (b : Bool) → l.dropped ≡ b → has_dropped (live_of live.slots) t ≡ b
+    go true e = in_live (λ x. is_of t x && x.dropped) live.slots key l at.entry_is (ap (λ b. b && l.dropped) (eq-eqb l.transaction.0 t at.number_is) ∙ e)
+    go false e = ap (λ n. has_dropped (live_of live.slots) n) (sym at.number_is) ∙ none_here (λ x. x.dropped) live.slots key l at.entry_is distinct e
+
+pub none_dropped : (live : Slab Live) (t : ℕ) → list_any (is_of t) (live_of live.slots) ≡ false → has_dropped (list_of live) t ≡ false
+none_dropped live t absent = ordered_any (λ x. is_of t x && x.dropped) (live_of live.slots) ∙ none_with (λ x. x.dropped) t (live_of live.slots) absent

@@ -1,17 +1,18 @@
 -- The live transactions, as a list in the order of their numbers.
-use Rattle.std.specs.Prelude.{ℕ, ◌+◌, ◌-◌, Bool, not, ◌==◌, ◌&&◌, nat_lt, if◌then◌else◌, List, [], map}
+use Rattle.std.specs.Prelude.{ℕ, ◌+◌, ◌-◌, Bool, true, false, not, ◌==◌, ◌&&◌, nat_lt, if◌then◌else◌, List, [], map}
 use Rattle.std.specs.List.{filter, list_any}
 use Rattle.sg_base.specs.declared.numbers.TxnId.{TxnId}
 
--- a live transaction: its number, how much it has reserved, and the log's numbers at its marks
+-- a live transaction: its number, how much it has reserved, whether it has dropped something, and the log's numbers at its marks
 pub record Txn : Type 0 where
   pub transaction : ℕ
   pub reserved : ℕ
+  pub dropped : Bool
   pub marks : List ℕ
 
 -- a transaction that has just begun
 abbrev pub begun : ℕ → Txn
-begun t = record { transaction = t; reserved = 0; marks = [] }
+begun t = record { transaction = t; reserved = 0; dropped = false; marks = [] }
 
 abbrev pub is_of : ℕ → Txn → Bool
 is_of t x = x.transaction == t
@@ -40,6 +41,17 @@ reserving t xs = map (λ x. if is_of t x then one_more x else x) xs
 -- the same ones, of which this one has reserved one less
 abbrev pub unreserving : ℕ → List Txn → List Txn
 unreserving t xs = map (λ x. if is_of t x then one_less x else x) xs
+
+-- this one is live and has dropped something
+abbrev pub has_dropped : List Txn → ℕ → Bool
+has_dropped xs t = list_any (λ x. is_of t x && x.dropped) xs
+
+-- the same ones, of which this one has dropped something
+abbrev pub a_dropper : Txn → Txn
+a_dropper x = record x { dropped = true }
+
+abbrev pub dropping : ℕ → List Txn → List Txn
+dropping t xs = map (λ x. if is_of t x then a_dropper x else x) xs
 
 abbrev pub number_of : Txn → TxnId
 number_of x = record { 0 = x.transaction }

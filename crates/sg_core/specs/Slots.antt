@@ -7,7 +7,7 @@ use Rattle.sg_core.specs.Live.{Txn, is_of}
 
 -- marks aren't kept yet
 abbrev pub shown : Live → Txn
-shown l = record { transaction = l.transaction.0; reserved = l.reserved; marks = [] }
+shown l = record { transaction = l.transaction.0; reserved = l.reserved; dropped = l.dropped; marks = [] }
 
 abbrev pub live_of : List (Option Live) → List Txn
 live_of [] = []

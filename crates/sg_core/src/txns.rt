@@ -3,7 +3,7 @@ ghost use Rattle.std.specs.List.{find, list_any};
 ghost use Rattle.std.specs.Option.{option_map};
 ghost use Rattle.slab.specs.Slab.{get, with_value};
 ghost use Rattle.sg_serial.specs.Locks.{lesser};
-ghost use Rattle.sg_core.specs.Live.{begun, is_of, is_live, without, has_reserved, reserving, unreserving, number_of};
+ghost use Rattle.sg_core.specs.Live.{begun, is_of, is_live, without, has_reserved, reserving, unreserving, has_dropped, dropping, number_of};
 ghost use Rattle.sg_core.specs.Order.{least_number, is_above};
 ghost use Rattle.sg_core.specs.Slots.{live_of, HasAt};
 
@@ -19,6 +19,7 @@ pub const MOST_LIVE: usize = 64;
 struct Live {
     transaction: TxnId,
     reserved: u32,
+    dropped: bool,
 }
 
 /// The live transactions, at most 64. Contracts see the list of them in the order of their numbers,
@@ -138,6 +139,7 @@ impl Txns {
         self.live.insert_reserved(Live {
             transaction: t,
             reserved: 0,
+            dropped: false,
         });
     }
 
@@ -194,6 +196,7 @@ impl Txns {
                 Live {
                     transaction: t,
                     reserved: entry.reserved + 1,
+                    dropped: entry.dropped,
                 },
             );
             self.reserved += 1;
@@ -212,9 +215,38 @@ impl Txns {
                 Live {
                     transaction: t,
                     reserved: entry.reserved - 1,
+                    dropped: entry.dropped,
                 },
             );
             self.reserved -= 1;
+        }
+    }
+
+    /// A live transaction has dropped something.
+    pub fn mark_dropped(&mut self, t: TxnId)
+        requires { IsTrue (is_live self.old t.0) }
+        ensures { self.new ≡ dropping t.0 self.old }
+    {
+        if let Some((key, entry)) = find(&self.live, t) {
+            put(
+                &mut self.live,
+                key,
+                Live {
+                    transaction: t,
+                    reserved: entry.reserved,
+                    dropped: true,
+                },
+            );
+        }
+    }
+
+    /// Whether the transaction is live and has dropped something.
+    pub fn has_dropped(&self, t: TxnId) -> bool
+        ensures { result ≡ has_dropped self.now t.0 }
+    {
+        match find(&self.live, t) {
+            Some((_, entry)) => entry.dropped,
+            None => false,
         }
     }
 

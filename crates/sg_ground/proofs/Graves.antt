@@ -29,6 +29,7 @@ use Rattle.sg_contents.specs.Meaning.{reading, tomb_at}
 use Rattle.sg_contents.proofs.Among.{found_among}
 use Rattle.sg_contents.proofs.Reading.{tomb_of, tomb_in, get_tomb}
 use Rattle.sg_store.specs.Ground.{are_written}
+use Rattle.sg_store.specs.Drops.{drops, is_discard}
 use Rattle.sg_ground.specs.Ground.{IsBuried}
 use Rattle.sg_ground.proofs.Buried.{finds}
 
@@ -72,10 +73,10 @@ buried_by_is d Discard s r tomb e = elim (entombed_is d s.thing r (s.buried r) t
 buried_by_is d verb s r tomb e = inl e
 
 pub after_verb : (t : Operations) (by : ℕ) (name : List ℕ) (verb : Verb) (o now : Reading) (l : IsLeft t by name verb o now) (d : ℕ) (f : List (Touch Resource)) → IsBuried now d f
-    → IsBuried o d f ⊎ ((d ≡ by) × ((c : Cell) → are_written f c ≡ true → are_written (touches (objects o) (On name verb)) c ≡ true))
+    → IsBuried o d f ⊎ ((d ≡ by) × ((c : Cell) → are_written f c ≡ true → are_written (touches (objects o) (On name verb)) c ≡ true) × (drops (On name verb) ≡ true))
 after_verb t by name verb o now l d f h = go (bytes_eq name h.name) refl
   where
-    here : name ≡ h.name → IsBuried o d f ⊎ ((d ≡ by) × ((c : Cell) → are_written f c ≡ true → are_written (touches (objects o) (On name verb)) c ≡ true))
+    here : name ≡ h.name → IsBuried o d f ⊎ ((d ≡ by) × ((c : Cell) → are_written f c ≡ true → are_written (touches (objects o) (On name verb)) c ≡ true) × (drops (On name verb) ≡ true))
     here same =
         let key : get now.tombs (h.root ∷ name) ≡ Some h.tomb = subst (λ (n : List ℕ). get now.tombs (h.root ∷ n) ≡ Some h.tomb) (sym same) h.there in
         elim (buried_by_is (done_by o by name verb l.root l.bands) verb (slot o name) h.root h.tomb (sym (l.leaves.tomb h.root) ∙ key)) [
@@ -84,10 +85,11 @@ after_verb t by name verb o now l d f h = go (bytes_eq name h.name) refl
             sym h.dropper ∙ j.1,
             (λ c w. subst (λ (v : Verb). are_written (touches (objects o) (On name v)) c ≡ true) (sym j.0)
                 (written o name h.root c (subst (λ (p : List (Touch Resource)). are_written p c ≡ true) (h.cell ∙ ap (λ (n : List ℕ). tomb_cell n h.root) (sym same)) w))),
+            ap is_discard j.0,
           )
         ]
 
-    go : (b : Bool) → bytes_eq name h.name ≡ b → IsBuried o d f ⊎ ((d ≡ by) × ((c : Cell) → are_written f c ≡ true → are_written (touches (objects o) (On name verb)) c ≡ true))
+    go : (b : Bool) → bytes_eq name h.name ≡ b → IsBuried o d f ⊎ ((d ≡ by) × ((c : Cell) → are_written f c ≡ true → are_written (touches (objects o) (On name verb)) c ≡ true) × (drops (On name verb) ≡ true))
     go true e = here (bytes_same name h.name e)
     go false e = inl (moved o now d f h (sym (l.leaves.tombs h.root h.name (λ same. apart (bytes_eq name h.name) (ap (bytes_eq name) same ∙ bytes_self name) e)) ∙ h.there))
 

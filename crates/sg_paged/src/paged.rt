@@ -40,6 +40,8 @@ impl<E: Engine> sg_store::Engine for Paged<E> {
 
     ghost view = { λ s. shown s.acts };
 
+    ghost waiting = { λ s. E.waiting s.acts.engine };
+
     ghost opened = { λ s. opened s.acts };
 
     fn tail(&self) -> Lsn {

@@ -1,5 +1,5 @@
 // The records of a transaction that are outside of its actions.
-ghost use Rattle.std.specs.Prelude.{◌≡◌, ◌≤◌, ◌<◌, ℕ, IfOk, IfErr, OnOk};
+ghost use Rattle.std.specs.Prelude.{◌≡◌, ◌≤◌, ◌<◌, ◌+◌, ℕ, IfOk, IfErr, OnOk};
 ghost use Rattle.sg_recovery.specs.Log.Record.{Begin, Commit, End};
 ghost use Rattle.sg_store.specs.Engine.{Keeps, AsMeant, Asked, IsEngine, IsIdle, HasPlace, IsAt, MayEnd, Appends, Appended, Counts, IsDiskFault, IsNearEnd};
 ghost use Rattle.sg_shown.specs.Shown.{shown};
@@ -33,6 +33,8 @@ pub fn begin<E: Engine>(acts: &mut Acts<E>) -> Result<TxnId, SpaceFault>
 pub fn commit<E: Engine>(acts: &mut Acts<E>, txn: TxnId) -> Result<(), SpaceFault>
     requires can { Asked (shown acts.old) (IsAt txn.0) }
     ensures counts { Counts IsDiskFault (shown acts.old) (shown acts.new) result }
+    ensures hands { (shown acts.new).disk.handed ≤ (shown acts.old).disk.handed + E.waiting acts.old.engine + 33 }
+    ensures none_waits { OnOk result (E.waiting acts.new.engine ≡ 0) }
     ensures means { Keeps (shown acts.old) (shown acts.new) }
     ensures log_end { IfErr result (IsNearEnd (shown acts.old).tail) }
     ensures commits { AsMeant (shown acts.old) (shown acts.new) (λ t g v w. IsEngine t g v
@@ -49,6 +51,7 @@ pub fn commit<E: Engine>(acts: &mut Acts<E>, txn: TxnId) -> Result<(), SpaceFaul
 pub fn end<E: Engine>(acts: &mut Acts<E>, txn: TxnId) -> Result<(), SpaceFault>
     requires can { Asked (shown acts.old) (MayEnd txn.0) }
     ensures counts { Counts IsDiskFault (shown acts.old) (shown acts.new) result }
+    ensures hands { (shown acts.new).disk.handed ≤ (shown acts.old).disk.handed + E.waiting acts.old.engine + 6 }
     ensures means { Keeps (shown acts.old) (shown acts.new) }
     ensures log_end { IfErr result (IsNearEnd (shown acts.old).tail) }
     ensures ends { AsMeant (shown acts.old) (shown acts.new) (λ t g v w. IsEngine t g v

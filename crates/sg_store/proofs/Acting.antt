@@ -17,6 +17,7 @@ use Rattle.sg_store.specs.declared.fault.Needed.{Needed}
 use Rattle.sg_store.specs.Ground.{Ground, IsLawful}
 use Rattle.sg_store.specs.Engine.{View, Action, IsEngine, Changes, Changed, Appends, Appended, pages_of}
 use Rattle.sg_store.specs.Verbs.{CanPerform, HasPerformed, LeftAlone, IsNoted, IsNotedBy}
+use Rattle.sg_store.specs.Drops.{marked_by}
 use Rattle.sg_store.specs.Store.{IsKept}
 use Rattle.sg_store.specs.Stands.{StandsFor}
 use Rattle.sg_run.specs.Numbers.{IsGranted}
@@ -53,6 +54,7 @@ module _ (t : Operations) (g : Ground) (lawful : IsLawful t g) (v : View g) (txn
         free = room.is_kept.free;
         reserved = room.is_kept.reserved;
         buried = room.is_kept.buried;
+        marked = room.is_kept.marked;
       };
       reading = room.reading;
       reads = record { reading = room.reads.reading; free = room.reads.free };
@@ -113,7 +115,7 @@ module _ (t : Operations) (g : Ground) (lawful : IsLawful t g) (v : View g) (txn
         pub end_stays : Stays t g v w2 x
         end_stays = joined perform_stays (performing.ends_stay t g lawful v1 txns x u op needs room_then granted begun refl begin_so w c changed note n w2 l p i ends)
 
-        pub end_kept : (after : List Txn) → ((0 < needs.reserve) × (after ≡ reserving u txns)) ⊎ ((needs.reserve ≡ 0) × (after ≡ txns)) → Appended t g w w2 (record { lsn = l; is = Rattle.sg_recovery.specs.Log.Record.TopEnd u p i (g.note note) }) → IsKept t g w2 after (did t x u op)
+        pub end_kept : (after : List Txn) → ((0 < needs.reserve) × (after ≡ reserving u (marked_by op u txns))) ⊎ ((needs.reserve ≡ 0) × (after ≡ marked_by op u txns)) → Appended t g w w2 (record { lsn = l; is = Rattle.sg_recovery.specs.Log.Record.TopEnd u p i (g.note note) }) → IsKept t g w2 after (did t x u op)
         end_kept after (inl (some, is)) d = subst (λ ks. IsKept t g w2 ks (did t x u op)) (sym is) (performing.done_reserved t g lawful v1 txns x u op needs room_then granted begun refl begin_so w c changed note n w2 l p i ends d some)
         end_kept after (inr (none, is)) d = subst (λ ks. IsKept t g w2 ks (did t x u op)) (sym is) (performing.done_unreserved t g lawful v1 txns x u op needs room_then granted begun refl begin_so w c changed note n w2 l p i ends d none)
 

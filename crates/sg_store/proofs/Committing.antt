@@ -115,6 +115,7 @@ module _ (t : Operations) (g : Ground) (lawful : IsLawful t g) (v : View g) (k :
           free = λ o r. did.pages ∙ runs.is_kept.free o (before_it o r);
           reserved = subst (λ (ls : List (Numbered g.C g.N)). AreReserved (setting t g) (without u k.live) (tally ls).notes) (sym did.log) (reserved_without (setting t g) k.live (tally v.log).notes u runs.is_kept.reserved);
           buried = λ o r. grown t g x.so_far.live x.so_far.held (next_lsn v.log) (next_lsn w.log) o (next_after t g v w (record { lsn = l; is = Commit u p }) did) (runs.is_kept.buried o (before_it o r));
+          marked = λ o r. runs.is_kept.marked o (before_it o r);
         }
           where
             before_it : (o : g.O) → g.reading (pages_of t g w) ≡ Some o → g.reading (pages_of t g v) ≡ Some o

@@ -10,6 +10,9 @@ use Rattle.sg_locks.specs.declared.table.LockAnswer.{LockAnswer}
 use Rattle.sg_locks.specs.declared.table.LockAnswer.TheVariants.{Granted, Busy, LocksFull}
 use Rattle.sg_locks.specs.Answers.{lock_answer, held_after, locks_after}
 use Rattle.sg_core.specs.Live.{Txn, begun, is_of, is_live, one_more, reserving, without}
+use Rattle.sg_model.specs.Verb.{Op}
+use Rattle.sg_store.specs.Drops.{marked_by}
+use Rattle.sg_store.proofs.Marking.{live_marked}
 
 -- each that holds something passes
 abbrev pub all_hold : (ℕ → Bool) → List (Hold Resource) → Bool
@@ -58,6 +61,10 @@ live_reserving v (k ∷ ks) u h = go (is_of v k) h (live_reserving v ks u)
 
 pub reserving_holders : (v : ℕ) (ks : List Txn) (hs : List (Hold Resource)) → all_hold (is_live ks) hs ≡ true → all_hold (is_live (reserving v ks)) hs ≡ true
 reserving_holders v ks hs h = more (is_live ks) (is_live (reserving v ks)) hs (live_reserving v ks) h
+
+-- one is marked
+pub marked_holders : (op : Op) (v : ℕ) (ks : List Txn) (hs : List (Hold Resource)) → all_hold (is_live ks) hs ≡ true → all_hold (is_live (marked_by op v ks)) hs ≡ true
+marked_holders op v ks hs h = more (is_live ks) (is_live (marked_by op v ks)) hs (λ u e. live_marked op v u ks ∙ e) h
 
 -- one is no more, and holds nothing
 live_without : (v : ℕ) (ks : List Txn) (u : ℕ) → (u == v) ≡ false → is_live ks u ≡ true → is_live (without v ks) u ≡ true

@@ -8,7 +8,8 @@ use Rattle.sg_serial.specs.Runs.{Live, is_live}
 use Rattle.sg_serial.specs.Runs as runs
 use Rattle.sg_serial.proofs.Lists.{live-without}
 use Rattle.sg_model.specs.Touches.{Cell, Resource}
-use Rattle.sg_core.specs.Live.{Txn, without}
+use Rattle.sg_core.specs.Live.{Txn, without, has_dropped}
+use Rattle.sg_core.specs.Live.{is_live as is_listed}
 use Rattle.sg_run.specs.Run.{Run, committed, committed_objects}
 use Rattle.sg_recovery.specs.Log.{Record, Numbered, Top, Tally, tally, is_in, open_not_of, notes_not_of}
 use Rattle.sg_recovery.specs.Log as log
@@ -28,7 +29,7 @@ use Rattle.sg_store.specs.Ground.{Ground, IsLawful, setting, are_written}
 use Rattle.sg_store.specs.Engine.{View, Action, Changes, Rested, Appends, Appended, IsEngine, IsActing, pages_of, is_going}
 use Rattle.sg_store.proofs.Counting.{changes_going}
 use Rattle.sg_store.specs.Verbs.{Reads, IsFreed}
-use Rattle.sg_store.specs.Store.{Core, IsKept, IsLeaving, HasNone, Logs, AreReserved, AreOwned}
+use Rattle.sg_store.specs.Store.{Core, IsKept, IsLeaving, HasNone, Logs, AreReserved, AreOwned, AreMarked}
 use Rattle.sg_store.specs.Stands.{StandsFor}
 use Rattle.sg_store.specs.Calls.{Stays, Frees, IsLeavingSince, MOST}
 use Rattle.sg_store.proofs.Images.{image_stands}
@@ -37,6 +38,7 @@ use Rattle.sg_store.proofs.Lines.{in_without}
 use Rattle.sg_store.proofs.Live.{each_bare}
 use Rattle.sg_store.proofs.Actions.{changes_live, changes_notes, changes_next, changes_keep, reads_now, settles}
 use Rattle.sg_store.proofs.Calls.{moved, call_stands}
+use Rattle.sg_store.proofs.Marking.{marks_fewer, marks_without, none_unmarked}
 use Rattle.sg_store.proofs.Owning.{Inside, grown, fewer, owned_ended, next_after, differs}
 
 clashing : {A : Type 0} (b : Bool) → b ≡ true → b ≡ false → A
@@ -110,6 +112,13 @@ module _ (t : Operations) (g : Ground) (lawful : IsLawful t g) (v : View g) (txn
       none true = refl
       none false = refl
 
+  -- nothing is freed of one that isn't marked
+  pub unfreed_stays : Stays t g v v (committed x u)
+  unfreed_stays = started v.disk (λ c. StandsFor t g c (committed_objects t (committed x u))) (λ c i. image_stands t g v (committed_objects t (committed x u)) v.log k.logs.keeps.fronts c (k.engine.images c i))
+
+  pub unfreed_none : is_listed txns u ≡ true → has_dropped txns u ≡ false → HasNone t g v u
+  unfreed_none live none b e f is = none_unmarked g txns u b (k.marked b e) live none f is
+
   -- nothing is appended
   pub rested_leaving : (w : View g) → Rested t g v w → IsLeaving t g w txns x u
   rested_leaving w r = record {
@@ -123,6 +132,7 @@ module _ (t : Operations) (g : Ground) (lawful : IsLawful t g) (v : View g) (txn
     free = λ b e. r.pages ∙ k.free b (before b e);
     reserved = subst (λ (l : List (Numbered g.C g.N)). AreReserved (setting t g) (without u txns) (tally l).notes) (sym r.log) k.reserved;
     buried = λ b e. subst (λ (l : List (Numbered g.C g.N)). AreOwned g x.so_far.live x.so_far.held (next_lsn l) b) (sym r.log) (k.buried b (before b e));
+    marked = λ b e. k.marked b (before b e);
   }
     where
       before : (b : g.O) → g.reading (pages_of t g w) ≡ Some b → g.reading (pages_of t g v) ≡ Some b
@@ -229,6 +239,7 @@ module _ (t : Operations) (g : Ground) (lawful : IsLawful t g) (v : View g) (txn
             (subst (λ ns. AreReserved (setting t g) (without u txns) ns) (sym (ap (λ b. cond b (noted ∷ (tally (c.made ++ v.log)).notes) (tally (c.made ++ v.log)).notes) system ∙ notes)) k.reserved));
         buried = λ b e. subst (λ z. AreOwned g x.so_far.live x.so_far.held (next_lsn w2.log) z) (same b e)
             (grown t g x.so_far.live x.so_far.held (next_lsn v.log) (next_lsn w2.log) f.now up (fewer t g x.so_far.live x.so_far.held (next_lsn v.log) o f.now f.left (k.buried o reads_o)));
+        marked = λ b e. subst (λ z. AreMarked g txns z) (same b e) (marks_fewer g txns o f.now f.left (k.marked o reads_o));
       }
         where
           noted : Top g.C g.N
@@ -290,6 +301,7 @@ module _ (t : Operations) (g : Ground) (lawful : IsLawful t g) (v : View g) (txn
             (subst (λ ns. AreReserved (setting t g) (without u txns) ns) (sym (none_own u (tally v.log).notes others)) k.reserved);
         buried = λ b e. grown t g (committed x u).so_far.live (committed x u).so_far.held (next_lsn v.log) (next_lsn w.log) b (next_after t g v w (record { lsn = l; is = End u p }) d)
             (owned_ended t g x.so_far.live x.so_far.held u (next_lsn v.log) b (k.buried b (before b e)));
+        marked = λ b e. marks_without g txns u b (k.marked b (before b e));
       }
         where
           refl_count : (committed x u).so_far.answered ≡ Rattle.std.specs.Prelude.length (committed x u).so_far.commits
@@ -316,6 +328,7 @@ acted_leaving t g v v1 txns x u a engine is k = subst (λ z. IsLeaving t g z txn
   free = k.free;
   reserved = k.reserved;
   buried = k.buried;
+  marked = k.marked;
 })
 
 pub action_is : (t : Operations) (g : Ground) (v w : View g) → w ≡ record v { action = Some (record { transaction = 0; pages = pages_of t g v }) } → w.action ≡ Some (record { transaction = 0; pages = pages_of t g w })

@@ -1,5 +1,6 @@
 pub mod Granted
 pub mod Owning
+pub mod Marking
 pub mod Numbering
 pub mod Ending
 pub mod Leaving

@@ -32,6 +32,9 @@ none_of m n le h = go (nat_lt 0 m) (nat_lt 0 n) refl refl h
     go true false e f k = grind (arith, nat_tests)
     go false b e f k = grind (arith, nat_tests)
 
+pub below_kept : (txns : List Txn) (low high : ℕ) → low ≤ high → All (λ (k : Txn). k.transaction < low) txns → All (λ (k : Txn). k.transaction < high) txns
+below_kept txns low high le h i d lt = let z : (Rattle.std.specs.Prelude.slice_index_or txns i d).transaction < low = h i d lt in omega (arith, z, le)
+
 pub below_reserving : (u : ℕ) (txns : List Txn) (low high : ℕ) (after : List Txn) → after ≡ reserving u txns → low ≤ high → All (λ (k : Txn). k.transaction < low) txns → All (λ (k : Txn). k.transaction < high) after
 below_reserving u txns low high after e le h = subst (λ (ks : List Txn). All (λ (k : Txn). k.transaction < high) ks) (sym e)
     (All-map (λ (k : Txn). k.transaction < high) (λ (k : Txn). cond (is_of u k) (one_more k) k) txns (λ i d lt. one (is_of u (Rattle.std.specs.Prelude.slice_index_or txns i d)) (Rattle.std.specs.Prelude.slice_index_or txns i d) (h i d lt)))

@@ -4,9 +4,11 @@ use Rattle.std.proofs.Common.{inl, inr}
 use Rattle.std.specs.Prelude.{sum_by}
 use Rattle.sg_disk.proofs.Moments.{weaker}
 use Rattle.sg_ops.specs.Table.{Table as Operations}
-use Rattle.sg_serial.specs.Locks.{held_of, hold_all}
-use Rattle.sg_model.specs.Touches.{same_resource, touches}
+use Rattle.sg_serial.specs.Locks.{Touch, held_of, hold_all}
+use Rattle.sg_model.specs.Touches.{Resource, same_resource, touches}
 use Rattle.sg_store.proofs.Owning.{Inside, owned_locked, owned_done, next_after}
+use Rattle.sg_store.proofs.Marking.{numbers_marked, reserved_marked, marks_done, marks_reserving}
+use Rattle.sg_store.specs.Drops.{drops, marked_by}
 use Rattle.sg_model.specs.Verb.{Op}
 use Rattle.sg_model.specs.Step.{step}
 use Rattle.sg_core.specs.Live.{Txn, reserving}
@@ -24,7 +26,7 @@ use Rattle.sg_store.specs.declared.fault.Needed.{Needed}
 use Rattle.sg_store.specs.Ground.{Ground, IsLawful, setting}
 use Rattle.sg_store.specs.Engine.{View, Action, Changes, Changed, Appends, Appended, pages_of, IsActing}
 use Rattle.sg_store.specs.Verbs.{LeftAlone, IsNotedBy}
-use Rattle.sg_store.specs.Store.{IsKept, Logs, AreReserved, AreOwned}
+use Rattle.sg_store.specs.Store.{IsKept, Logs, AreReserved, AreOwned, AreMarked}
 use Rattle.sg_run.specs.Numbers.{IsGranted}
 use Rattle.sg_store.specs.Calls.{Stays, HasRoom}
 use Rattle.sg_store.proofs.Images.{image_stands}
@@ -73,6 +75,7 @@ module _ (t : Operations) (g : Ground) (lawful : IsLawful t g) (v : View g) (txn
           reserved = subst (λ (ls : List (Numbered g.C g.N)). AreReserved (setting t g) txns (tally ls).notes) (sym l.log) kept.reserved;
           buried = λ b e. owned_locked t g x.so_far.live x.so_far.held u (touches (live_objects t x) op) (next_lsn w.log) b (subst (λ (ls : List (Numbered g.C g.N)). AreOwned g x.so_far.live x.so_far.held (next_lsn ls) b) (sym l.log)
               (kept.buried b (subst (λ (ls : List (Numbered g.C g.N)). g.reading (made (setting t g) v.first ls) ≡ Some b) l.log (subst (λ q. g.reading (made (setting t g) q w.log) ≡ Some b) changed.goes_on.first e))));
+          marked = λ b e. kept.marked b (subst (λ (ls : List (Numbered g.C g.N)). g.reading (made (setting t g) v.first ls) ≡ Some b) l.log (subst (λ q. g.reading (made (setting t g) q w.log) ≡ Some b) changed.goes_on.first e));
         }
 
     module _ (note : List ℕ) (n : IsNotedBy t g a w o op note) (w2 : View g) (l p i : ℕ) (ends : Appends t g w w2 (record { lsn = l; is = TopEnd u p i (g.note note) })) where
@@ -126,8 +129,8 @@ module _ (t : Operations) (g : Ground) (lawful : IsLawful t g) (v : View g) (txn
       ends_stay = call_stands t g w w2 (record { lsn = l; is = TopEnd u p i (g.note note) } ∷ w.log) (did t x u op) logs_now ends.moments
 
       module _ (did_end : Appended t g w w2 (record { lsn = l; is = TopEnd u p i (g.note note) })) where
-        done_with : (after : List Txn) → map (λ (k : Txn). k.transaction) after ≡ map (λ (k : Txn). k.transaction) txns → AreReserved (setting t g) after (top ∷ (tally v.log).notes) → IsKept t g w2 after (did t x u op)
-        done_with after same reserved = record {
+        done_with : (after : List Txn) → map (λ (k : Txn). k.transaction) after ≡ map (λ (k : Txn). k.transaction) txns → AreReserved (setting t g) after (top ∷ (tally v.log).notes) → AreMarked g after n.now → IsKept t g w2 after (did t x u op)
+        done_with after same reserved marks = record {
           live = same ∙ kept.live;
           answered = kept.answered;
           engine = did_end.goes_on.engine;
@@ -140,6 +143,8 @@ module _ (t : Operations) (g : Ground) (lawful : IsLawful t g) (v : View g) (txn
               (notes_are (is_in_live) reserved));
           buried = λ b e. subst (λ z. AreOwned g x.so_far.live (hold_all same_resource u (touches (live_objects t x) op) x.so_far.held) (next_lsn w2.log) z) (some_one n.now b (sym n.reads.reading
               ∙ subst (λ (ls : List (Numbered g.C g.N)). g.reading (made (setting t g) w.first ls) ≡ Some b) did_end.log (subst (λ q. g.reading (made (setting t g) q w2.log) ≡ Some b) did_end.goes_on.first e))) owned;
+          marked = λ b e. subst (λ z. AreMarked g after z) (some_one n.now b (sym n.reads.reading
+              ∙ subst (λ (ls : List (Numbered g.C g.N)). g.reading (made (setting t g) w.first ls) ≡ Some b) did_end.log (subst (λ q. g.reading (made (setting t g) q w2.log) ≡ Some b) did_end.goes_on.first e))) marks;
         }
           where
             up : next_lsn v.log ≤ next_lsn w2.log
@@ -153,9 +158,13 @@ module _ (t : Operations) (g : Ground) (lawful : IsLawful t g) (v : View g) (txn
             touched_is : g.touched n.verb ≡ touches (live_objects t x) op
             touched_is = touched_now t g lawful v.first w.durable v.log x before op n.verb (n.does l i).now n.is (subst (λ z. g.After t n.verb z (n.does l i).now) (sym o_is) (n.does l i).after)
 
+            its_place : (d : ℕ) (f : List (Touch Resource)) → g.Buried o d f ⊎ ((d ≡ a.transaction) × Inside f (g.touched n.verb) × (drops op ≡ true)) → g.Buried o d f ⊎ ((d ≡ a.transaction) × Inside f (g.touched n.verb))
+            its_place d f (inl old) = inl old
+            its_place d f (inr new) = inr (new.0, new.1)
+
             owned : AreOwned g x.so_far.live (hold_all same_resource u (touches (live_objects t x) op) x.so_far.held) (next_lsn w2.log) n.now
             owned = owned_done t g x.so_far.live x.so_far.held u (touches (live_objects t x) op) (next_lsn v.log) (next_lsn w2.log) o n.now up low
-                (λ d f is. subst (λ ts. g.Buried o d f ⊎ ((d ≡ u) × Inside f ts)) touched_is (subst (λ z. g.Buried o d f ⊎ ((d ≡ z) × Inside f (g.touched n.verb))) own (n.buried d f is)))
+                (λ d f is. subst (λ ts. g.Buried o d f ⊎ ((d ≡ u) × Inside f ts)) touched_is (subst (λ z. g.Buried o d f ⊎ ((d ≡ z) × Inside f (g.touched n.verb))) own (its_place d f (n.buried d f is))))
                 (kept.buried o room.reads.reading)
 
             is_in_live : is_in u (tally (c.made ++ v.log)).live ≡ true
@@ -166,11 +175,25 @@ module _ (t : Operations) (g : Ground) (lawful : IsLawful t g) (v : View g) (txn
             notes_are live h = subst (AreReserved (setting t g) after) (sym (ap (λ b. cond b (top ∷ (tally (c.made ++ v.log)).notes) (tally (c.made ++ v.log)).notes) live
                 ∙ ap (λ ns. top ∷ ns) (changes_notes t g lawful v.first v.durable a c.made v.log c.are))) h
 
-        -- its note wants a page, which the transaction has reserved
-        pub done_reserved : 0 < needs.reserve → IsKept t g w2 (reserving u txns) (did t x u op)
-        done_reserved some = done_with (reserving u txns) (numbers_reserving u txns)
-            (reserved_note (setting t g) txns (tally v.log).notes top kept.reserved
-            (let one : (g.needs t o op).reserve ≤ 1 = lawful.reserves_one o op in let is : needs.reserve ≡ (g.needs t o op).reserve = room.need.reserve in let w1 : wants_one (setting t g) top ≡ (g.needs t o op).reserve = wants_is in omega (arith, one, is, w1, some)))
+        -- the transaction is marked where it has dropped something
+        marks_now : AreMarked g (marked_by op u txns) n.now
+        marks_now = marks_done g op u o n.now (λ d f is. subst (λ z. g.Buried o d f ⊎ ((d ≡ z) × (drops op ≡ true))) own (by_drop d f (n.buried d f is))) txns (kept.marked o room.reads.reading)
+          where
+            by_drop : (d : ℕ) (f : List (Touch Resource)) → g.Buried o d f ⊎ ((d ≡ a.transaction) × Inside f (g.touched n.verb) × (drops op ≡ true)) → g.Buried o d f ⊎ ((d ≡ a.transaction) × (drops op ≡ true))
+            by_drop d f (inl old) = inl old
+            by_drop d f (inr new) = inr (new.0, new.2)
 
-        pub done_unreserved : needs.reserve ≡ 0 → IsKept t g w2 txns (did t x u op)
-        done_unreserved none = done_with txns refl (reserved_none (setting t g) txns (tally v.log).notes top kept.reserved (wants_is ∙ (sym room.need.reserve ∙ none)))
+        same_marked : map (λ (k : Txn). k.transaction) (marked_by op u txns) ≡ map (λ (k : Txn). k.transaction) txns
+        same_marked = numbers_marked op u txns
+
+        -- its note wants a page, which the transaction has reserved
+        pub done_reserved : 0 < needs.reserve → IsKept t g w2 (reserving u (marked_by op u txns)) (did t x u op)
+        done_reserved some = done_with (reserving u (marked_by op u txns)) (numbers_reserving u (marked_by op u txns) ∙ same_marked)
+            (reserved_note (setting t g) (marked_by op u txns) (tally v.log).notes top (reserved_marked (setting t g) op u txns (tally v.log).notes kept.reserved)
+            (let one : (g.needs t o op).reserve ≤ 1 = lawful.reserves_one o op in let is : needs.reserve ≡ (g.needs t o op).reserve = room.need.reserve in let w1 : wants_one (setting t g) top ≡ (g.needs t o op).reserve = wants_is in omega (arith, one, is, w1, some)))
+            (marks_reserving g u (marked_by op u txns) n.now marks_now)
+
+        pub done_unreserved : needs.reserve ≡ 0 → IsKept t g w2 (marked_by op u txns) (did t x u op)
+        done_unreserved none = done_with (marked_by op u txns) same_marked
+            (reserved_none (setting t g) (marked_by op u txns) (tally v.log).notes top (reserved_marked (setting t g) op u txns (tally v.log).notes kept.reserved) (wants_is ∙ (sym room.need.reserve ∙ none)))
+            marks_now

@@ -29,7 +29,8 @@ use Rattle.sg_join.proofs.Undoing.{last_undone, last_free}
 use Rattle.sg_store.specs.Ground.{Ground, IsLawful, setting}
 use Rattle.sg_store.specs.Engine.{View, Action, AreChanges, Changes, Changed, Rested, Appends, Appended, IsActing, pages_of}
 use Rattle.sg_store.specs.Verbs.{CanReverse, Reversed}
-use Rattle.sg_store.specs.Store.{Core, IsKept, Undoes, IsUndoing, AreOthersReserved, AreOwned}
+use Rattle.sg_store.specs.Store.{Core, IsKept, Undoes, IsUndoing, AreOthersReserved, AreOwned, AreMarked}
+use Rattle.sg_store.proofs.Marking.{marks_fewer}
 use Rattle.sg_store.proofs.Owning.{grown, fewer, next_after}
 use Rattle.sg_store.proofs.Live.{others_all, others_up_to}
 use Rattle.sg_store.specs.Calls.{Stays, IsUndone, IsUndoingSince}
@@ -113,6 +114,7 @@ module _ (t : Operations) (g : Ground) (lawful : IsLawful t g) (v : View g) (txn
     reserved = subst (λ (l : List (Numbered g.C g.N)). AreOthersReserved (setting t g) txns (tally l).notes u) (sym r.log) k.reserved;
     buried = λ b e. subst (λ (l : List (Numbered g.C g.N)). AreOwned g x.so_far.live x.so_far.held (next_lsn l) b) (sym r.log)
         (k.buried b (subst (λ (l : List (Numbered g.C g.N)). g.reading (made (setting t g) v.first l) ≡ Some b) r.log (subst (λ p. g.reading (made (setting t g) p w.log) ≡ Some b) r.goes_on.first e)));
+    marked = λ b e. k.marked b (subst (λ (l : List (Numbered g.C g.N)). g.reading (made (setting t g) v.first l) ≡ Some b) r.log (subst (λ p. g.reading (made (setting t g) p w.log) ≡ Some b) r.goes_on.first e));
   }
 
   pub none_still : (w : View g) → Rested t g v w → notes_of u (tally v.log).notes ≡ [] → notes_of u (tally w.log).notes ≡ []
@@ -222,6 +224,9 @@ module _ (t : Operations) (g : Ground) (lawful : IsLawful t g) (v : View g) (txn
             buried = λ b e. subst (λ z. AreOwned g x.so_far.live x.so_far.held (next_lsn w3.log) z) (some_one rev.now b (sym rev.reads.reading
                 ∙ subst (λ (ls : List (Numbered g.C g.N)). g.reading (made (setting t g) w2.first ls) ≡ Some b) d.log (subst (λ q. g.reading (made (setting t g) q w3.log) ≡ Some b) d.goes_on.first e)))
                 (grown t g x.so_far.live x.so_far.held (next_lsn v.log) (next_lsn w3.log) rev.now up (fewer t g x.so_far.live x.so_far.held (next_lsn v.log) o rev.now rev.buried (k.buried o reads_o)));
+            marked = λ b e. subst (λ z. AreMarked g txns z) (some_one rev.now b (sym rev.reads.reading
+                ∙ subst (λ (ls : List (Numbered g.C g.N)). g.reading (made (setting t g) w2.first ls) ≡ Some b) d.log (subst (λ q. g.reading (made (setting t g) q w3.log) ≡ Some b) d.goes_on.first e)))
+                (marks_fewer g txns o rev.now rev.buried (k.marked o reads_o));
           }
             where
               up : next_lsn v.log ≤ next_lsn w3.log
@@ -242,6 +247,7 @@ kept_undoing t g v txns x u k = record {
       (each_more (λ n. IsNote (tally v.log).live (next_lsn v.log) n.transaction n.lsn n.undo_next) (λ n. n.transaction ≡ u → n.lsn ≤ v.tail) k.logs.keeps.running.placed (λ n z e. let low : n.lsn < next_lsn v.log = z.low in let up : next_lsn v.log ≤ v.tail = k.engine.below in omega (arith, low, up)) k.logs.keeps.running.notes);
   reserved = others_all (setting t g) txns (tally v.log).notes u k.reserved;
   buried = k.buried;
+  marked = k.marked;
 }
 
 -- and one more has been

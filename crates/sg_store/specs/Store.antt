@@ -1,5 +1,5 @@
 -- What a store over a page engine shows of a run.
-use Rattle.std.specs.Prelude.{◌≡◌, ◌+◌, ◌≤◌, ◌<◌, true, ℕ, List, length, map, Option, Some, None}
+use Rattle.std.specs.Prelude.{◌≡◌, ◌+◌, ◌≤◌, ◌<◌, true, false, ℕ, List, length, map, Option, Some, None}
 use Rattle.sg_disk.specs.Disk.{Image, Leaves}
 use Rattle.sg_ops.specs.Table.{Table as Operations}
 use Rattle.sg_serial.specs.Locks.{Touch, Hold, held_of}
@@ -38,6 +38,13 @@ abbrev pub AreOwned : (g : Ground) → List Live → List (Hold Resource) → (b
 AreOwned g live held bound o = (d : ℕ) (f : List (Touch Resource)) → g.Buried o d f → (d < bound) × (is_live live d ≡ true
     → (c : Cell) → are_written f c ≡ true → are_written (held_of held d) c ≡ true)
 
+-- Nothing is buried of a live transaction that isn't marked as one that has dropped something
+abbrev pub IsMarked : (g : Ground) → g.O → Txn → Type 0
+IsMarked g o k = k.dropped ≡ false → (f : List (Touch Resource)) → g.Buried o k.transaction f → ⊥
+
+abbrev pub AreMarked : (g : Ground) → List Txn → g.O → Type 0
+AreMarked g txns o = Each (IsMarked g o) txns
+
 -- nothing that the transaction dropped is buried any more
 abbrev pub HasNone : (t : Operations) (g : Ground) → View g → ℕ → Type 0
 HasNone t g v u = (o : g.O) → g.reading (pages_of t g v) ≡ Some o → (f : List (Touch Resource)) → g.Buried o u f → ⊥
@@ -63,6 +70,7 @@ pub record IsKept (t : Operations) (g : Ground) (v : View g) (txns : List Txn) (
   pub free : (o : g.O) → g.reading (pages_of t g v) ≡ Some o → v.free_pages ≡ g.free o
   pub reserved : AreReserved (setting t g) txns (tally v.log).notes
   pub buried : (o : g.O) → g.reading (pages_of t g v) ≡ Some o → AreOwned g x.so_far.live x.so_far.held (next_lsn v.log) o
+  pub marked : (o : g.O) → g.reading (pages_of t g v) ≡ Some o → AreMarked g txns o
 
 -- A store that isn't stopped shows the run: its engine keeps it, and what its transactions hold is what the run's hold
 pub record Runs (t : Operations) (g : Ground) (v : View g) (k : Core) (x : Run) : Type 0 where
@@ -103,6 +111,7 @@ pub record IsUndoing (t : Operations) (g : Ground) (v : View g) (txns : List Txn
   pub most : Each (λ m. m.transaction ≡ u → m.lsn ≤ at) (tally v.log).notes
   pub reserved : AreOthersReserved (setting t g) txns (tally v.log).notes u
   pub buried : (o : g.O) → g.reading (pages_of t g v) ≡ Some o → AreOwned g x.so_far.live x.so_far.held (next_lsn v.log) o
+  pub marked : (o : g.O) → g.reading (pages_of t g v) ≡ Some o → AreMarked g txns o
 
 -- An engine between actions, behind the commit of a transaction of a run: its log keeps the run with the commit. What is buried
 -- still belongs to what was held before it, so that what the transaction dropped is apart from what the others hold
@@ -117,3 +126,4 @@ pub record IsLeaving (t : Operations) (g : Ground) (v : View g) (txns : List Txn
   pub free : (o : g.O) → g.reading (pages_of t g v) ≡ Some o → v.free_pages ≡ g.free o
   pub reserved : AreReserved (setting t g) (without u txns) (tally v.log).notes
   pub buried : (o : g.O) → g.reading (pages_of t g v) ≡ Some o → AreOwned g x.so_far.live x.so_far.held (next_lsn v.log) o
+  pub marked : (o : g.O) → g.reading (pages_of t g v) ≡ Some o → AreMarked g txns o

@@ -22,6 +22,7 @@ use Rattle.sg_recovery.specs.Log.{Numbered, Top, tally}
 use Rattle.sg_recovery.specs.Stands.{wants_one}
 use Rattle.sg_recovery.specs.Keeps.{HasUndone}
 use Rattle.sg_recovery.specs.Runs.{note_of, DoesVerb, DoesFree}
+use Rattle.sg_store.specs.Drops.{drops}
 use Rattle.sg_store.specs.Ground.{Ground, setting, are_written}
 use Rattle.sg_store.specs.Engine.{View, Action, IsEngine, pages_of, IsIdle, IsAtRest, ActsFor, Changed, Rested}
 
@@ -67,9 +68,9 @@ pub record IsNotedBy (t : Operations) (g : Ground) (a : Action g) (new : View g)
       → DoesVerb (setting t g) verb (note_of (setting t g) lsn a.transaction undo_next (g.note note) (tally new.log).opened (g.touched verb)) (pages_of t g new) o
   -- it took no more pages than it needed, and a note that wants a page has reserved it
   pub took : g.free o + (g.needs t o op).reserve ≤ g.free now + (g.needs t o op).pages
-  -- what is buried now was buried, or the verb has dropped it, of which it wrote the place
+  -- what is buried now was buried, or the verb, which drops things, has dropped it, of which it wrote the place
   pub buried : (d : ℕ) (f : List (Touch Resource)) → g.Buried now d f → g.Buried o d f ⊎ ((d ≡ a.transaction) × ((c : Cell)
-      → are_written f c ≡ true → are_written (g.touched verb) c ≡ true))
+      → are_written f c ≡ true → are_written (g.touched verb) c ≡ true) × (drops op ≡ true))
   pub reserves : wants_one (setting t g) (record { lsn = 0; transaction = 0; undo_next = 0; note = g.note note; changes = [] }) ≡ (g.needs t o op).reserve
 
 -- it got this reply, and left no note where it left things as they were

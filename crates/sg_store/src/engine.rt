@@ -36,6 +36,9 @@ pub trait Engine {
     /// All that is known of its value.
     ghost view: { Self → Shown basis };
 
+    /// How many bytes wait at the log's end to be handed to the disk: records, and the head of their frame.
+    ghost waiting: { Self → ℕ };
+
     /// The same while it is being opened: an action may be without its end, and what is free isn't known yet. No call
     /// of these is asked of it then.
     ghost opened: { Self → Shown basis };
@@ -148,6 +151,9 @@ pub trait Engine {
     fn commit(&mut self, txn: TxnId) -> Result<(), SpaceFault>
         requires can { Asked (view self.old) (IsAt txn.0) }
         ensures counts { Counts IsDiskFault (view self.old) (view self.new) result }
+        // what waits, the record's 21 bytes, and twice what a frame has beside its records
+        ensures hands { (view self.new).disk.handed ≤ (view self.old).disk.handed + waiting self.old + 33 }
+        ensures none_waits { OnOk result (waiting self.new ≡ 0) }
         ensures means { Keeps (view self.old) (view self.new) }
         ensures log_end { IfErr result (IsNearEnd (view self.old).tail) }
         ensures commits { AsMeant (view self.old) (view self.new) (λ t g v w. IsEngine t g v
@@ -160,6 +166,7 @@ pub trait Engine {
     fn end(&mut self, txn: TxnId) -> Result<(), SpaceFault>
         requires can { Asked (view self.old) (MayEnd txn.0) }
         ensures counts { Counts IsDiskFault (view self.old) (view self.new) result }
+        ensures hands { (view self.new).disk.handed ≤ (view self.old).disk.handed + waiting self.old + 6 }
         ensures means { Keeps (view self.old) (view self.new) }
         ensures log_end { IfErr result (IsNearEnd (view self.old).tail) }
         ensures ends { AsMeant (view self.old) (view self.new) (λ t g v w. IsEngine t g v

@@ -1,9 +1,10 @@
-ghost use Rattle.std.specs.Prelude.{◌≡◌, ◌<◌, ◌&&◌, ◌+◌, ◌^◌, nat_lt, List, [], ℕ, All, IfOk};
+ghost use Rattle.std.specs.Prelude.{◌≡◌, ◌<◌, ◌&&◌, ◌+◌, ◌^◌, nat_lt, sum_by, List, [], ℕ, All, IfOk};
 ghost use Rattle.sg_model.specs.SaidOps.{said_op};
 ghost use Rattle.sg_model.specs.Step.{is_changing};
 ghost use Rattle.std.specs.Prelude.{IsTrue};
 ghost use Rattle.std.specs.List.{list_all};
 ghost use Rattle.sg_core.specs.Live.{is_live};
+ghost use Rattle.sg_store.specs.Drops.{drops, marked_by};
 
 use crate::engine::{Objects, Truncates};
 use crate::fault::{Needed, ObjFault, Refused};
@@ -67,6 +68,26 @@ fn reserves(needs: Needed) -> bool
     needs.reserve > 0 && needs.pages > 0
 }
 
+// Whether an operation drops an object.
+fn drops(op: &Op<'_>) -> bool
+    ensures { result ≡ drops (said_op op.now) }
+{
+    matches!(op, Op::Discard { .. })
+}
+
+// A live transaction is marked where an operation of it drops something.
+fn mark(txns: &mut Txns, txn: TxnId, op: &Op<'_>)
+    requires { IsTrue (is_live txns.old txn.0) }
+    ensures txns { txns.new ≡ marked_by (said_op op.now) txn.0 txns.old }
+    ensures live { IsTrue (is_live txns.new txn.0) }
+    ensures sum { sum_by (λ x. x.reserved) txns.new ≡ sum_by (λ x. x.reserved) txns.old }
+{
+    if !drops(op) {
+        return;
+    }
+    txns.mark_dropped(txn);
+}
+
 impl<E: Objects> Store<E> {
     ghost use Rattle.sg_ops.specs.Table.{Table as Operations, table_of};
     ghost use Rattle.sg_run.specs.Run.{Run, committed};
@@ -80,10 +101,11 @@ impl<E: Objects> Store<E> {
     ghost use Rattle.sg_base.specs.Ends.{HasRisen};
     ghost use Rattle.sg_run.specs.Numbers.{IsGranted};
     ghost use Rattle.sg_store.specs.Calls.{Goes, Begins, Commits, Flushes, Checkpoints, Stays, Holds, Rooms, HasRoom, Acts, Does, Undid, IsUndone, Aborts, Frees, Numbers, SameRoom};
-    ghost use Rattle.std.specs.Prelude.{Some, Err, true, ◌≤◌, ◌⊎◌, ◌-◌, ◌∷◌, ◌++◌, None, IfErr, IfSome, OnOk, sum_by, length, IsTrue, IsSome};
+    ghost use Rattle.std.specs.Prelude.{Some, Err, true, false, ◌≤◌, ◌⊎◌, ◌-◌, ◌∷◌, ◌++◌, None, IfErr, IfSome, OnOk, sum_by, length, IsTrue, IsSome};
     ghost use Rattle.sg_serial.specs.Runs as serial;
     ghost use Rattle.sg_serial.specs.Locks.{released};
-    ghost use Rattle.sg_core.specs.Live.{without};
+    ghost use Rattle.sg_core.specs.Live.{without, has_dropped};
+    ghost use Rattle.sg_store.specs.Drops.{MarksOnly};
     ghost use Rattle.sg_store.specs.Seen.{core_of, Serves, IsServed};
     ghost use Rattle.sg_store.specs.Stops.{refused_at, stop_at, stop_behind};
     ghost use Rattle.sg_store.specs.Heeds.{Heeds};
@@ -251,7 +273,7 @@ impl<E: Objects> Store<E> {
     }
 
     // Frees all that a transaction dropped which has committed.
-    fn free_dropped(&mut self, ops: &Ops, txn: TxnId) -> Result<(), SpaceFault>
+    fn free_all(&mut self, ops: &Ops, txn: TxnId) -> Result<(), SpaceFault>
         requires can { let t = table_of record_meaning range_meaning ops.now in
             AskedBy t (E.view self.old.engine) (IsFreeing self.old.txns txn.0 t) }
         ensures means { KeepsBy (table_of record_meaning range_meaning ops.now) (E.view self.old.engine) (E.view self.new.engine) }
@@ -289,6 +311,37 @@ impl<E: Objects> Store<E> {
         }
     }
 
+    // Frees all that a transaction dropped which has committed. Where it isn't marked that is nothing, and no
+    // call of the engine is made.
+    fn free_dropped(&mut self, ops: &Ops, txn: TxnId) -> Result<(), SpaceFault>
+        requires live { IsTrue (is_live self.old.txns txn.0) }
+        requires can { let t = table_of record_meaning range_meaning ops.now in
+            AskedBy t (E.view self.old.engine) (IsFreeing self.old.txns txn.0 t) }
+        ensures means { KeepsBy (table_of record_meaning range_meaning ops.now) (E.view self.old.engine) (E.view self.new.engine) }
+        ensures told { (E.view self.new.engine).Told → (E.view self.old.engine).Told }
+        ensures tells { OnOk result ((E.view self.old.engine).Told → (E.view self.new.engine).Told) }
+        ensures stays { let t = table_of record_meaning range_meaning ops.now in
+            AsMeantBy t (E.view self.old.engine) (E.view self.new.engine) (λ g v w.
+            (x : Run) → IsLawful t g → IsLeaving t g v self.old.txns x txn.0 → Stays t g v w (committed x txn.0)) }
+        ensures freed { let t = table_of record_meaning range_meaning ops.now in
+            OnOk result (AsMeantBy t (E.view self.old.engine) (E.view self.new.engine) (λ g v w.
+            (x : Run) → IsLawful t g → IsLeaving t g v self.old.txns x txn.0
+            → IsLeaving t g w self.old.txns x txn.0 × HasNone t g w txn.0)) }
+        ensures failed { IfErr result (λ e. IsDiskFault e
+            → HasRisen (E.view self.old.engine).faults (E.view self.new.engine).faults) }
+        ensures log_end { IfErr result (IsNearEnd (E.view self.new.engine).tail) }
+        ensures later { (E.view self.old.engine).faults ≤ (E.view self.new.engine).faults }
+        ensures tail { (E.view self.old.engine).tail ≤ (E.view self.new.engine).tail }
+        ensures core { core_of self.new ≡ core_of self.old }
+        ensures quiet { OnOk result ((E.view self.new.engine).faults ≡ (E.view self.old.engine).faults) }
+        ensures none { has_dropped self.old.txns txn.0 ≡ false → self.new.engine ≡ self.old.engine }
+    {
+        if !self.txns.has_dropped(txn) {
+            return Ok(());
+        }
+        self.free_all(ops, txn)
+    }
+
     /// Makes durable what the transaction did, frees what it dropped, and it is no more.
     pub fn commit(&mut self, ops: &Ops, txn: TxnId) -> Result<(), Refused>
         requires serves { Serves (table_of record_meaning range_meaning ops.now) self.old }
@@ -310,6 +363,8 @@ impl<E: Objects> Store<E> {
         ensures causes { EndsFor txn.0 (E.view self.old.engine) (E.view self.new.engine) (core_of self.old) (core_of self.new) result }
         ensures asks { IfErr result (λ e. AsksNothing e → self.new ≡ self.old) }
         ensures heeds { Heeds self.old.stop self.new.stop (E.view self.old.engine) (E.view self.new.engine) }
+        // where the transaction has dropped nothing, only what waits of the log is handed over, and 64 bytes at most
+        ensures hands { has_dropped self.old.txns txn.0 ≡ false → (E.view self.new.engine).disk.handed ≤ (E.view self.old.engine).disk.handed + E.waiting self.old.engine + 64 }
     {
         if self.stop.is_some() {
             return Err(Refused::Stopped);
@@ -516,6 +571,7 @@ impl<E: Objects> Store<E> {
         ensures later { (E.view self.old.engine).faults ≤ (E.view self.new.engine).faults }
         ensures tail { (E.view self.old.engine).tail ≤ (E.view self.new.engine).tail }
         ensures causes { ActsFor (E.view self.old.engine) (E.view self.new.engine) (core_of self.old) (core_of self.new) result }
+        ensures marks { MarksOnly txn.0 (said_op op.now) self.old.txns self.new.txns }
         ensures heeds { Heeds self.old.stop self.new.stop (E.view self.old.engine) (E.view self.new.engine) }
     {
         self.engine.act(txn);
@@ -531,6 +587,7 @@ impl<E: Objects> Store<E> {
             Ok(()) => {}
             Err(fault) => return Err(self.halt(fault)),
         }
+        mark(&mut self.txns, txn, op);
         if reserves(needs) {
             self.txns.reserve(txn);
         }
@@ -566,6 +623,8 @@ impl<E: Objects> Store<E> {
         // on any engine
         ensures causes { DoesFor (is_changing (said_op op.now)) txn.0 (E.view self.old.engine) (E.view self.new.engine) (core_of self.old) (core_of self.new) result }
         ensures asks { IfErr result (λ e. AsksNothing e → self.new ≡ self.old) }
+        // it is marked only where the operation drops something
+        ensures marks { MarksOnly txn.0 (said_op op.now) self.old.txns self.new.txns }
         ensures heeds { Heeds self.old.stop self.new.stop (E.view self.old.engine) (E.view self.new.engine) }
     {
         if self.stop.is_some() {

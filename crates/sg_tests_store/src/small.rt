@@ -136,6 +136,8 @@ impl Engine for Small {
 
     ghost view = { λ s. shown s.measures.tail s.measures.pages s.measures.bands s.faults };
 
+    ghost waiting = { λ s. 0 };
+
     ghost opened = { λ s. shown s.measures.tail s.measures.pages s.measures.bands s.faults };
 
     fn tail(&self) -> Lsn {

@@ -50,3 +50,6 @@ returns-clause-commits g c = λ t z from m told e idle.
         d.durable w,
       )) k.counts.tells did,
     )
+
+pub returns-clause-hands : goal.returns-clause-hands
+returns-clause-hands g c = subst (λ y. (g.E.Engine.view c.commit.new.self.engine).disk.handed ≤ (g.E.Engine.view y).disk.handed + g.E.Engine.waiting y + 33) c.quiet.ensures.engine c.commit.ensures.hands

@@ -48,3 +48,6 @@ returns-clause-ends g c = λ t z from m told e idle.
         begun = s.begun;
       })) k.counts.tells did,
     )
+
+pub returns-clause-hands : goal.returns-clause-hands
+returns-clause-hands g c = subst (λ y. (g.E.Engine.view c.end.new.self.engine).disk.handed ≤ (g.E.Engine.view y).disk.handed + g.E.Engine.waiting y + 6) c.quiet.ensures.engine c.end.ensures.hands

@@ -1,19 +1,20 @@
-use Rattle.std.proofs.Common.{◌≡◌, true, List, map, ◌≤◌, ◌==◌, length, refl, sym, ap, ◌∙◌, subst, arith, inl, inr}
+use Rattle.std.proofs.Common.{◌≡◌, true, List, map, ◌≤◌, ◌<◌, ◌==◌, length, refl, sym, ap, ◌∙◌, subst, arith, inl, inr}
 use Rattle.sg_model.specs.SaidOps.{said_op}
 use Rattle.sg_store.proofs.Acting as acting
 use Rattle.sg_store.proofs.Ending.{never_verb, never_end}
 use Rattle.sg_model.specs.Step.{is_changing}
-use Rattle.std.specs.Prelude.{◌^◌}
+use Rattle.std.specs.Prelude.{◌^◌, All}
 use Rattle.sg_store.proofs.Performing as performing
-use Rattle.sg_store.proofs.Noting.{nil_of, some_of, both_of, none_of, below_reserving}
+use Rattle.sg_store.proofs.Noting.{nil_of, some_of, both_of, none_of, below_reserving, below_kept}
+use Rattle.sg_store.proofs.Marking.{numbers_marked, below_marked, marks_same, marks_only, marks_reserved}
 use Rattle.sg_ops.specs.Table.{table_of}
 use Rattle.sg_store.specs.Engine.{led, MayAct}
 use Rattle.sg_store.proofs.store.Store.act.Given as given
 use Rattle.sg_store.proofs.Serving as serving
 use Rattle.sg_store.specs.Asks.{HasBegun}
 use Rattle.sg_store.proofs.Live.{numbers_reserving}
-use Rattle.sg_core.specs.Live.{Txn, is_live}
-use Rattle.sg_store.proofs.Holders.{all_hold, reserving_holders}
+use Rattle.sg_core.specs.Live.{Txn, is_live, reserving}
+use Rattle.sg_store.proofs.Holders.{all_hold, reserving_holders, marked_holders}
 use Rattle.sg_store.proofs.Heeding as heeding
 use Rattle.sg_store.specs.Store.{Core}
 use Rattle.sg_store.proofs.store.Store.act.Goals as goal
@@ -119,7 +120,7 @@ returns-then-reserves-clause-acts g c z from m told x lawful room granted =
     let least : c.args.needs.reserve ≤ c.args.needs.pages = acting.reserve_needed _ (g.E.Engine.basis z) lawful (led t z from (g.E.Engine.view c.args.self.now.engine)) c.args.self.now.txns x c.args.txn.0 (said_op c.args.op.now) c.args.needs room granted in
     let n = acting.noted_some _ (g.E.Engine.basis z) (acting.begun _ (g.E.Engine.basis z) lawful (led t z from (g.E.Engine.view c.args.self.now.engine)) c.args.self.now.txns x c.args.txn.0 (said_op c.args.op.now) c.args.needs room granted) (led t z from (g.E.Engine.view c.act.new.self)) (led t z from (g.E.Engine.view c.perform.new.self)) (acting.room_then _ (g.E.Engine.basis z) lawful (led t z from (g.E.Engine.view c.args.self.now.engine)) c.args.self.now.txns x c.args.txn.0 (said_op c.args.op.now) c.args.needs room granted (led t z from (g.E.Engine.view c.act.new.self)) p).reading (said_op c.args.op.now) c.perform.new.note (some_of (sym (ap (λ n. length n == 0) c.bytes.ensures) ∙ (sym c.is_empty.ensures ∙ c.if-is_empty.false))) b.1.1.noted in
     let e = c.in-Ok-end_action.ensures.ends t z from (c.perform.ensures.means z from (c.act.ensures.means t z from m)) (c.in-Ok.ensures.counts.tells (c.act.ensures.tells told)) (acting.begun _ (g.E.Engine.basis z) lawful (led t z from (g.E.Engine.view c.args.self.now.engine)) c.args.self.now.txns x c.args.txn.0 (said_op c.args.op.now) c.args.needs room granted) b.1.0.goes_on.engine b.1.0.action refl in (
-      acting.end_kept _ (g.E.Engine.basis z) lawful (led t z from (g.E.Engine.view c.args.self.now.engine)) c.args.self.now.txns x c.args.txn.0 (said_op c.args.op.now) c.args.needs room granted (led t z from (g.E.Engine.view c.act.new.self)) p (led t z from (g.E.Engine.view c.perform.new.self)) b.0 b.1.0 c.perform.new.note n (led t z from (g.E.Engine.view c.end_action.new.self)) e.0 e.1 e.2 e.3 c.reserve.new.self (inl ((both_of (sym c.reserves.ensures ∙ c.if-reserves.true)).0, c.reserve.ensures)) e.4,
+      acting.end_kept _ (g.E.Engine.basis z) lawful (led t z from (g.E.Engine.view c.args.self.now.engine)) c.args.self.now.txns x c.args.txn.0 (said_op c.args.op.now) c.args.needs room granted (led t z from (g.E.Engine.view c.act.new.self)) p (led t z from (g.E.Engine.view c.perform.new.self)) b.0 b.1.0 c.perform.new.note n (led t z from (g.E.Engine.view c.end_action.new.self)) e.0 e.1 e.2 e.3 c.reserve.new.self (inl ((both_of (sym c.reserves.ensures ∙ c.if-reserves.true)).0, c.reserve.ensures ∙ ap (reserving c.args.txn.0) c.mark.ensures.txns)) e.4,
       acting.said_so _ (g.E.Engine.basis z) lawful (led t z from (g.E.Engine.view c.args.self.now.engine)) c.args.self.now.txns x c.args.txn.0 (said_op c.args.op.now) c.args.needs room granted (led t z from (g.E.Engine.view c.act.new.self)) p (led t z from (g.E.Engine.view c.perform.new.self)) b.0 _ b.1.1.said,
       refl,
     )
@@ -132,15 +133,24 @@ returns-else-reserves-clause-acts g c z from m told x lawful room granted =
     let least : c.args.needs.reserve ≤ c.args.needs.pages = acting.reserve_needed _ (g.E.Engine.basis z) lawful (led t z from (g.E.Engine.view c.args.self.now.engine)) c.args.self.now.txns x c.args.txn.0 (said_op c.args.op.now) c.args.needs room granted in
     let n = acting.noted_some _ (g.E.Engine.basis z) (acting.begun _ (g.E.Engine.basis z) lawful (led t z from (g.E.Engine.view c.args.self.now.engine)) c.args.self.now.txns x c.args.txn.0 (said_op c.args.op.now) c.args.needs room granted) (led t z from (g.E.Engine.view c.act.new.self)) (led t z from (g.E.Engine.view c.perform.new.self)) (acting.room_then _ (g.E.Engine.basis z) lawful (led t z from (g.E.Engine.view c.args.self.now.engine)) c.args.self.now.txns x c.args.txn.0 (said_op c.args.op.now) c.args.needs room granted (led t z from (g.E.Engine.view c.act.new.self)) p).reading (said_op c.args.op.now) c.perform.new.note (some_of (sym (ap (λ n. length n == 0) c.bytes.ensures) ∙ (sym c.is_empty.ensures ∙ c.if-is_empty.false))) b.1.1.noted in
     let e = c.in-Ok-end_action.ensures.ends t z from (c.perform.ensures.means z from (c.act.ensures.means t z from m)) (c.in-Ok.ensures.counts.tells (c.act.ensures.tells told)) (acting.begun _ (g.E.Engine.basis z) lawful (led t z from (g.E.Engine.view c.args.self.now.engine)) c.args.self.now.txns x c.args.txn.0 (said_op c.args.op.now) c.args.needs room granted) b.1.0.goes_on.engine b.1.0.action refl in (
-      acting.end_kept _ (g.E.Engine.basis z) lawful (led t z from (g.E.Engine.view c.args.self.now.engine)) c.args.self.now.txns x c.args.txn.0 (said_op c.args.op.now) c.args.needs room granted (led t z from (g.E.Engine.view c.act.new.self)) p (led t z from (g.E.Engine.view c.perform.new.self)) b.0 b.1.0 c.perform.new.note n (led t z from (g.E.Engine.view c.end_action.new.self)) e.0 e.1 e.2 e.3 c.args.self.now.txns (inr (none_of c.args.needs.reserve c.args.needs.pages least (sym c.reserves.ensures ∙ c.if-reserves.false), refl)) e.4,
+      acting.end_kept _ (g.E.Engine.basis z) lawful (led t z from (g.E.Engine.view c.args.self.now.engine)) c.args.self.now.txns x c.args.txn.0 (said_op c.args.op.now) c.args.needs room granted (led t z from (g.E.Engine.view c.act.new.self)) p (led t z from (g.E.Engine.view c.perform.new.self)) b.0 b.1.0 c.perform.new.note n (led t z from (g.E.Engine.view c.end_action.new.self)) e.0 e.1 e.2 e.3 c.mark.new.txns (inr (none_of c.args.needs.reserve c.args.needs.pages least (sym c.reserves.ensures ∙ c.if-reserves.false), c.mark.ensures.txns)) e.4,
       acting.said_so _ (g.E.Engine.basis z) lawful (led t z from (g.E.Engine.view c.args.self.now.engine)) c.args.self.now.txns x c.args.txn.0 (said_op c.args.op.now) c.args.needs room granted (led t z from (g.E.Engine.view c.act.new.self)) p (led t z from (g.E.Engine.view c.perform.new.self)) b.0 _ b.1.1.said,
       refl,
     )
 
 pub invariant_of-self-then-reserves : goal.invariant_of-self-then-reserves
 invariant_of-self-then-reserves g c = record {
-  below = below_reserving c.args.txn.0 c.args.self.now.txns (g.E.Engine.view c.args.self.now.engine).tail (g.E.Engine.view c.end_action.new.self).tail c.reserve.new.self c.reserve.ensures (omega (arith, c.act.ensures.tail, c.perform.ensures.counts.tail, c.end_action.ensures.counts.tail)) c.args.self.now.below;
-  holders = let s = c.args.self.now in subst (λ (ks : List Txn). all_hold (is_live ks) s.locks ≡ true) (sym c.reserve.ensures) (reserving_holders c.args.txn.0 s.txns s.locks s.holders);
+  below = below_reserving c.args.txn.0 c.mark.new.txns (g.E.Engine.view c.args.self.now.engine).tail (g.E.Engine.view c.end_action.new.self).tail c.reserve.new.self c.reserve.ensures (omega (arith, c.act.ensures.tail, c.perform.ensures.counts.tail, c.end_action.ensures.counts.tail))
+      (subst (λ (ks : List Txn). All (λ k. k.transaction < (g.E.Engine.view c.args.self.now.engine).tail) ks) (sym c.mark.ensures.txns) (below_marked (said_op c.args.op.now) c.args.txn.0 (g.E.Engine.view c.args.self.now.engine).tail c.args.self.now.txns c.args.self.now.below));
+  holders = let s = c.args.self.now in subst (λ (ks : List Txn). all_hold (is_live ks) s.locks ≡ true) (sym c.reserve.ensures) (reserving_holders c.args.txn.0 c.mark.new.txns s.locks
+      (subst (λ (ks : List Txn). all_hold (is_live ks) s.locks ≡ true) (sym c.mark.ensures.txns) (marked_holders (said_op c.args.op.now) c.args.txn.0 s.txns s.locks s.holders)));
+}
+
+pub invariant_of-self-else-reserves : goal.invariant_of-self-else-reserves
+invariant_of-self-else-reserves g c = record {
+  below = below_kept c.mark.new.txns (g.E.Engine.view c.args.self.now.engine).tail (g.E.Engine.view c.end_action.new.self).tail (omega (arith, c.act.ensures.tail, c.perform.ensures.counts.tail, c.end_action.ensures.counts.tail))
+      (subst (λ (ks : List Txn). All (λ k. k.transaction < (g.E.Engine.view c.args.self.now.engine).tail) ks) (sym c.mark.ensures.txns) (below_marked (said_op c.args.op.now) c.args.txn.0 (g.E.Engine.view c.args.self.now.engine).tail c.args.self.now.txns c.args.self.now.below));
+  holders = let s = c.args.self.now in subst (λ (ks : List Txn). all_hold (is_live ks) s.locks ≡ true) (sym c.mark.ensures.txns) (marked_holders (said_op c.args.op.now) c.args.txn.0 s.txns s.locks s.holders);
 }
 
 pub returns-in-Err-Space-clause-never : goal.returns-in-Err-Space-clause-never
@@ -249,10 +259,10 @@ pub returns-then-is_empty-clause-causes : goal.returns-then-is_empty-clause-caus
 returns-then-is_empty-clause-causes g c = (refl, refl)
 
 pub returns-then-reserves-clause-causes : goal.returns-then-reserves-clause-causes
-returns-then-reserves-clause-causes g c = (refl, ap (λ (ls : List Txn). map (λ (x : Txn). x.transaction) ls) c.reserve.ensures ∙ numbers_reserving c.args.txn.0 c.args.self.now.txns)
+returns-then-reserves-clause-causes g c = (refl, ap (λ (ls : List Txn). map (λ (x : Txn). x.transaction) ls) c.reserve.ensures ∙ (numbers_reserving c.args.txn.0 c.mark.new.txns ∙ (ap (λ (ls : List Txn). map (λ (x : Txn). x.transaction) ls) c.mark.ensures.txns ∙ numbers_marked (said_op c.args.op.now) c.args.txn.0 c.args.self.now.txns)))
 
 pub returns-else-reserves-clause-causes : goal.returns-else-reserves-clause-causes
-returns-else-reserves-clause-causes g c = (refl, refl)
+returns-else-reserves-clause-causes g c = (refl, ap (λ (ls : List Txn). map (λ (x : Txn). x.transaction) ls) c.mark.ensures.txns ∙ numbers_marked (said_op c.args.op.now) c.args.txn.0 c.args.self.now.txns)
 
 pub returns-in-Err-Model-clause-heeds : goal.returns-in-Err-Model-clause-heeds
 returns-in-Err-Model-clause-heeds g c =
@@ -282,3 +292,21 @@ returns-then-reserves-clause-heeds g c =
 pub returns-else-reserves-clause-heeds : goal.returns-else-reserves-clause-heeds
 returns-else-reserves-clause-heeds g c =
     heeding.heeds_well _ (g.E.Engine.view c.args.self.now.engine) (g.E.Engine.view c.end_action.new.self) (omega (arith, c.act.ensures.quiet, c.in-Ok.ensures.counts.quiet, c.in-Ok-end_action.ensures.counts.quiet)) (omega (arith, c.act.ensures.tail, c.perform.ensures.counts.tail, c.end_action.ensures.counts.tail)) (λ h. c.in-Ok-end_action.ensures.counts.tells (c.in-Ok.ensures.counts.tells (c.act.ensures.tells h)))
+
+pub returns-in-Err-Model-clause-marks : goal.returns-in-Err-Model-clause-marks
+returns-in-Err-Model-clause-marks g c = marks_same (said_op c.args.op.now) c.args.txn.0 c.args.self.now.txns c.args.self.now.txns refl
+
+pub returns-then-is_empty-clause-marks : goal.returns-then-is_empty-clause-marks
+returns-then-is_empty-clause-marks g c = marks_same (said_op c.args.op.now) c.args.txn.0 c.args.self.now.txns c.args.self.now.txns refl
+
+pub returns-in-Err-Space-clause-marks : goal.returns-in-Err-Space-clause-marks
+returns-in-Err-Space-clause-marks g c = marks_same (said_op c.args.op.now) c.args.txn.0 c.args.self.now.txns c.halt.new.self.txns (ap (λ (k : Core). k.live) c.halt.ensures.core)
+
+pub returns-in-Err-clause-marks : goal.returns-in-Err-clause-marks
+returns-in-Err-clause-marks g c = marks_same (said_op c.args.op.now) c.args.txn.0 c.args.self.now.txns c.halt-in-Err.new.self.txns (ap (λ (k : Core). k.live) c.halt-in-Err.ensures.core)
+
+pub returns-then-reserves-clause-marks : goal.returns-then-reserves-clause-marks
+returns-then-reserves-clause-marks g c = marks_reserved (said_op c.args.op.now) c.args.txn.0 c.args.self.now.txns c.mark.new.txns c.reserve.new.self c.mark.ensures.txns c.reserve.ensures
+
+pub returns-else-reserves-clause-marks : goal.returns-else-reserves-clause-marks
+returns-else-reserves-clause-marks g c = marks_only (said_op c.args.op.now) c.args.txn.0 c.args.self.now.txns c.mark.new.txns c.mark.ensures.txns

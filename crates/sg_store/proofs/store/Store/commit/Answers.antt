@@ -1,4 +1,4 @@
-use Rattle.std.proofs.Common.{sym, ap, ◌∙◌, arith, subst, refl}
+use Rattle.std.proofs.Common.{◌≡◌, ◌≤◌, ◌+◌, sym, ap, ◌∙◌, arith, subst, refl}
 use Rattle.std.specs.Prelude.{Some}
 use Rattle.sg_disk.proofs.Moments.{joined}
 use Rattle.sg_serial.specs.Locks.{released}
@@ -157,30 +157,28 @@ commit-requires g c =
     let t = table_of (λ y. (given.RecordOp-dyn g y).record_meaning y.1) (λ y. (given.RangeOp-dyn g y).range_meaning y.1) c.args.ops.now in
     record { can = serving.asked_of t (g.E.Engine.view c.args.self.now.engine) (ShowsSome (core_of c.args.self.now) t) (IsAt c.args.txn.0) (λ b v h. serving.goes_on t b v c.args.self.now.txns c.args.txn.0 (sym c.is_live.ensures ∙ c.if-not-is_live.false) (serving.runs_some t b v (core_of c.args.self.now) (sym c.is_some.ensures ∙ c.if-is_some.false) h)) c.requires.serves }
 
-pub free_dropped-requires : goal.free_dropped-requires
-free_dropped-requires g c =
+pub free_dropped-requires-clause-can : goal.free_dropped-requires-clause-can
+free_dropped-requires-clause-can g c =
     let t = table_of (λ y. (given.RecordOp-dyn g y).record_meaning y.1) (λ y. (given.RangeOp-dyn g y).range_meaning y.1) c.args.ops.now in
     let s = c.requires.serves in
     record {
-      can = record {
-        sizes = s.sizes;
-        from = s.from;
-        means = c.commit.ensures.means t s.sizes s.from s.means;
-        can = λ told.
-            (let one = c.commit.ensures.counts.told told in
-            let h = s.can one in
-            let v = led t s.sizes s.from (g.E.Engine.view c.args.self.now.engine) in
-            let w = led t s.sizes s.from (g.E.Engine.view c.commit.new.self) in
-            let b = g.E.Engine.basis s.sizes in
-            let k : Core = core_of c.args.self.now in
-            let u = c.args.txn.0 in
-            let stop = sym c.is_some.ensures ∙ c.if-is_some.false in
-            let live = sym c.is_live.ensures ∙ c.if-not-is_live.false in
-            let runs = committing.runs _ b h.lawful v k h.run u v.faults h.shows stop in
-            let a = c.in-Ok.ensures.commits t s.sizes s.from s.means one runs.is_kept.engine runs.is_kept.idle in
-            let leaves = committing.leaving _ b h.lawful v k h.run u v.faults h.shows stop live w a.0 a.1 a.2 a.3.0 a.3.1 in
-            record { lawful = h.lawful; run = h.run; leaving = leaves });
-      };
+      sizes = s.sizes;
+      from = s.from;
+      means = c.commit.ensures.means t s.sizes s.from s.means;
+      can = λ told.
+          (let one = c.commit.ensures.counts.told told in
+          let h = s.can one in
+          let v = led t s.sizes s.from (g.E.Engine.view c.args.self.now.engine) in
+          let w = led t s.sizes s.from (g.E.Engine.view c.commit.new.self) in
+          let b = g.E.Engine.basis s.sizes in
+          let k : Core = core_of c.args.self.now in
+          let u = c.args.txn.0 in
+          let stop = sym c.is_some.ensures ∙ c.if-is_some.false in
+          let live = sym c.is_live.ensures ∙ c.if-not-is_live.false in
+          let runs = committing.runs _ b h.lawful v k h.run u v.faults h.shows stop in
+          let a = c.in-Ok.ensures.commits t s.sizes s.from s.means one runs.is_kept.engine runs.is_kept.idle in
+          let leaves = committing.leaving _ b h.lawful v k h.run u v.faults h.shows stop live w a.0 a.1 a.2 a.3.0 a.3.1 in
+          record { lawful = h.lawful; run = h.run; leaving = leaves });
     }
 
 pub end-requires : goal.end-requires
@@ -324,3 +322,34 @@ pub returns-in-Ok-end-clause-heeds : goal.returns-in-Ok-end-clause-heeds
 returns-in-Ok-end-clause-heeds g c =
     heeding.heeds_kept (g.E.Engine.view) c.args.self.now.stop c.forget.new.self.stop (g.E.Engine.view c.args.self.now.engine) c.end.new.self c.forget.new.self.engine c.forget.ensures.engine (ap (λ (k : Core). k.stopped) c.forget.ensures.core ∙ ap (λ (k : Core). k.stopped) c.free_dropped.ensures.core)
     (c.in-Ok-end.ensures.counts.quiet ∙ (c.in-Ok-free_dropped.ensures.quiet ∙ c.in-Ok.ensures.counts.quiet)) (omega (arith, c.commit.ensures.counts.tail, c.free_dropped.ensures.tail, c.end.ensures.counts.tail)) (λ h. c.in-Ok-end.ensures.counts.tells (c.in-Ok-free_dropped.ensures.tells (c.in-Ok.ensures.counts.tells h)))
+
+pub returns-then-is_some-clause-hands : goal.returns-then-is_some-clause-hands
+returns-then-is_some-clause-hands g c none = omega arith
+
+pub returns-then-not-is_live-clause-hands : goal.returns-then-not-is_live-clause-hands
+returns-then-not-is_live-clause-hands g c none = omega arith
+
+pub returns-in-Err-clause-hands : goal.returns-in-Err-clause-hands
+returns-in-Err-clause-hands g c none = let h = c.commit.ensures.hands in subst (λ e. (g.E.Engine.view e).disk.handed ≤ (g.E.Engine.view c.args.self.now.engine).disk.handed + g.E.Engine.waiting c.args.self.now.engine + 64) (sym c.halt.ensures.engine) (omega (arith, h))
+
+pub returns-in-Err-free_dropped-clause-hands : goal.returns-in-Err-free_dropped-clause-hands
+returns-in-Err-free_dropped-clause-hands g c none = let h = c.commit.ensures.hands in
+    subst (λ e. (g.E.Engine.view e).disk.handed ≤ (g.E.Engine.view c.args.self.now.engine).disk.handed + g.E.Engine.waiting c.args.self.now.engine + 64) (sym (c.halt-in-Err-free_dropped.ensures.engine ∙ c.free_dropped.ensures.none none)) (omega (arith, h))
+
+pub returns-in-Err-end-clause-hands : goal.returns-in-Err-end-clause-hands
+returns-in-Err-end-clause-hands g c none =
+    let same = c.free_dropped.ensures.none none in
+    let h = c.commit.ensures.hands in
+    let e = c.end.ensures.hands in
+    let a : (g.E.Engine.view c.free_dropped.new.self.engine).disk.handed ≡ (g.E.Engine.view c.commit.new.self).disk.handed = ap (λ d. (g.E.Engine.view d).disk.handed) same in
+    let w : g.E.Engine.waiting c.free_dropped.new.self.engine ≡ 0 = ap g.E.Engine.waiting same ∙ c.in-Ok.ensures.none_waits in
+    subst (λ e. (g.E.Engine.view e).disk.handed ≤ (g.E.Engine.view c.args.self.now.engine).disk.handed + g.E.Engine.waiting c.args.self.now.engine + 64) (sym c.halt-in-Err-end.ensures.engine) (omega (arith, a, w, h, e))
+
+pub returns-in-Ok-end-clause-hands : goal.returns-in-Ok-end-clause-hands
+returns-in-Ok-end-clause-hands g c none =
+    let same = c.free_dropped.ensures.none none in
+    let h = c.commit.ensures.hands in
+    let e = c.end.ensures.hands in
+    let a : (g.E.Engine.view c.free_dropped.new.self.engine).disk.handed ≡ (g.E.Engine.view c.commit.new.self).disk.handed = ap (λ d. (g.E.Engine.view d).disk.handed) same in
+    let w : g.E.Engine.waiting c.free_dropped.new.self.engine ≡ 0 = ap g.E.Engine.waiting same ∙ c.in-Ok.ensures.none_waits in
+    subst (λ e. (g.E.Engine.view e).disk.handed ≤ (g.E.Engine.view c.args.self.now.engine).disk.handed + g.E.Engine.waiting c.args.self.now.engine + 64) (sym c.forget.ensures.engine) (omega (arith, a, w, h, e))

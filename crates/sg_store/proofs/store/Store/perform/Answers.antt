@@ -1,4 +1,7 @@
-use Rattle.std.proofs.Common.{sym, ◌∙◌, arith, refl, ◌≤◌, subst}
+use Rattle.std.proofs.Common.{List, sym, ◌∙◌, arith, refl, ◌≤◌, subst}
+use Rattle.sg_core.specs.Live.{Txn}
+use Rattle.sg_store.specs.Drops.{MarksOnly}
+use Rattle.sg_store.proofs.Marking.{marks_same}
 use Rattle.sg_model.specs.SaidOps.{said_op}
 use Rattle.sg_store.specs.Seen.{core_of}
 use Rattle.sg_store.proofs.Doing as doing
@@ -242,3 +245,18 @@ pub returns-clause-heeds : goal.returns-clause-heeds
 returns-clause-heeds g c =
     heeding.heeds_then c.args.self.now.stop c.room_for.new.self.stop c.act.new.self.stop (g.E.Engine.view c.args.self.now.engine) (g.E.Engine.view c.room_for.new.self.engine) (g.E.Engine.view c.act.new.self.engine)
     (heeding.heeds_then c.args.self.now.stop c.hold.new.self.stop c.room_for.new.self.stop (g.E.Engine.view c.args.self.now.engine) (g.E.Engine.view c.hold.new.self.engine) (g.E.Engine.view c.room_for.new.self.engine) c.hold.ensures.heeds c.room_for.ensures.heeds) c.act.ensures.heeds
+
+pub returns-then-is_some-clause-marks : goal.returns-then-is_some-clause-marks
+returns-then-is_some-clause-marks g c = marks_same (said_op c.args.op.now) c.args.txn.0 c.args.self.now.txns c.args.self.now.txns refl
+
+pub returns-then-not-is_live-clause-marks : goal.returns-then-not-is_live-clause-marks
+returns-then-not-is_live-clause-marks g c = marks_same (said_op c.args.op.now) c.args.txn.0 c.args.self.now.txns c.args.self.now.txns refl
+
+pub returns-in-Err-clause-marks : goal.returns-in-Err-clause-marks
+returns-in-Err-clause-marks g c = marks_same (said_op c.args.op.now) c.args.txn.0 c.args.self.now.txns c.hold.new.self.txns c.hold.ensures.live
+
+pub returns-in-Err-room_for-clause-marks : goal.returns-in-Err-room_for-clause-marks
+returns-in-Err-room_for-clause-marks g c = marks_same (said_op c.args.op.now) c.args.txn.0 c.args.self.now.txns c.room_for.new.self.txns (c.room_for.ensures.live ∙ c.hold.ensures.live)
+
+pub returns-clause-marks : goal.returns-clause-marks
+returns-clause-marks g c = subst (λ (ks : List Txn). MarksOnly c.args.txn.0 (said_op c.args.op.now) ks c.act.new.self.txns) (c.room_for.ensures.live ∙ c.hold.ensures.live) c.act.ensures.marks

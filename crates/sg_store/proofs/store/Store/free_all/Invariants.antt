@@ -5,7 +5,7 @@ use Rattle.sg_store.specs.Engine.{View}
 use Rattle.sg_store.specs.Calls.{Since, IsLeavingSince}
 use Rattle.sg_store.specs.Seen.{core_of}
 use Rattle.sg_store.specs.Store.{Core}
-use Rattle.sg_store.proofs.store.Store.free_dropped.Given as goal
+use Rattle.sg_store.proofs.store.Store.free_all.Given as goal
 
 -- some of it has been freed
 abbrev pub so_far : Operations → (before now : Core) → (u left : ℕ) → (g : Ground) → (v w : View g) → Type 0
