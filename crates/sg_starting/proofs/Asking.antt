@@ -100,8 +100,8 @@ module _ {basis : Sizes → Ground} where
     }
 
     -- a pass that frees something
-    pub freeing_asks : (most freed : ℕ) → SinceBy t old now (λ g v w. IsFreeing t g v w most freed) → AskedBy t old (OpeningSettled t) → AskedBy t now (OpeningSettled t)
-    freeing_asks most freed i s = record {
+    pub freeing_asks : (left : ℕ) → SinceBy t old now (λ g v w. IsFreeing t g v w left) → AskedBy t old (OpeningSettled t) → AskedBy t now (OpeningSettled t)
+    freeing_asks left i s = record {
       sizes = s.sizes;
       from = s.from;
       means = i.means s.sizes s.from s.means;

@@ -50,9 +50,3 @@ pub settled_ok : {T E : Type 0} (t : Operations) (g : Ground) (lawful : IsLawful
     → OnOk r (Shows t g v (record { live = []; held = []; stopped = None }) (start m) × AreBuried t g v 0)
 settled_ok t g lawful v down m (Ok x) is = (shows t g lawful v down m is.0 is.1.undone is.1.over is.2, is.2)
 settled_ok t g lawful v down m (Err e) is = tt
-
--- at most so many were counted as buried
-pub counted : (t : Operations) (g : Ground) (v w : View g) (o : g.O) (n : ℕ) → g.reading (pages_of t g v) ≡ Some o → Rested t g v w → g.buried o ≤ n → AreBuried t g w n
-counted t g v w o n reads r is p now =
-    let same : g.buried p ≡ g.buried o = ap (λ y. g.buried y) (some_one p o (sym now ∙ (ap g.reading (pages_rested t g v w r) ∙ reads))) in
-    omega (arith, same, is)

@@ -7,9 +7,10 @@ use Rattle.sg_recovery.specs.Log.{tally}
 use Rattle.sg_recovery.specs.Claims.{Log}
 use Rattle.sg_store.specs.Ground.{Ground, IsLawful, setting}
 use Rattle.sg_recovery.specs.Log.{Top}
+use Rattle.sg_store.specs.Calls.{MOST}
 use Rattle.sg_store.specs.Engine.{View, Sizes, Shown, Action, Keeps, KeepsBy, AsMeant, AsMeantBy, pages_of}
 use Rattle.sg_starting.specs.declared.losers.Greatest.{Greatest}
-use Rattle.sg_starting.specs.Starting.{IsStarting, AllStandFor, AreBelow, AreLosers, AreLive, AreApart, IsUndone, IsSettled, IsBest, AreBuried}
+use Rattle.sg_starting.specs.Starting.{IsStarting, AllStandFor, AreBelow, AreLosers, AreLive, AreApart, IsUndone, IsSettled, IsBest}
 
 -- these losers' notes have been looked at, and this is the greatest
 pub record IsFinding (t : Operations) (g : Ground) (v w : View g) (done : List TxnId) (found : Option Greatest) : Type 0 where
@@ -54,13 +55,12 @@ pub record IsStepped (t : Operations) (g : Ground) (n : Top g.C g.N) (a : Action
   pub said : g.note into ≡ n.note
   pub back : g.PutsBack t n.note n.changes a.pages (pages_of t g w)
 
--- so many things that were buried have been freed
-pub record IsFreeing (t : Operations) (g : Ground) (v w : View g) (most freed : ℕ) : Type 0 where
+-- some things that were buried have been freed, and the log's tail may rise by so many bytes more
+pub record IsFreeing (t : Operations) (g : Ground) (v w : View g) (left : ℕ) : Type 0 where
   pub stands : (down : Log (setting t g)) (m : Objects) → IsLawful t g → IsStarting t g v down m → IsSettled v → AllStandFor t g v w m
   pub starts : (down : Log (setting t g)) (m : Objects) → IsLawful t g → IsStarting t g v down m → IsSettled v
       → IsStarting t g w down m × IsSettled w
-  pub fewer : (down : Log (setting t g)) (m : Objects) → IsLawful t g → IsStarting t g v down m → IsSettled v
-      → AreBuried t g v most → (p : g.O) → g.reading (pages_of t g w) ≡ Some p → g.buried p + freed ≤ most
+  pub sum : left + w.tail ≡ MOST
   pub later : v.faults ≤ w.faults
   pub tail : v.tail ≤ w.tail
 

@@ -104,11 +104,10 @@ pub record TakenOff (t : Operations) (g : Ground) (old new : View g) (made : Log
   pub live : (tally new.log).live ≡ (tally old.log).live
   pub free : (o : g.O) → g.reading (pages_of t g new) ≡ Some o → new.free_pages ≡ g.free o
 
--- fewer things are buried than before, or none
-abbrev pub AreFewer : (t : Operations) (g : Ground) → (old new : View g) → Bool → Type 0
-AreFewer t g old new true = (o p : g.O) → g.reading (pages_of t g old) ≡ Some o → g.reading (pages_of t g new) ≡ Some p
-    → g.buried p < g.buried o
-AreFewer t g old new false = (p : g.O) → g.reading (pages_of t g new) ≡ Some p → g.buried p ≡ 0
+-- something was freed, of which the log has a record, or nothing is buried
+abbrev pub HasFreed : (t : Operations) (g : Ground) → (old new : View g) → Bool → Type 0
+HasFreed t g old new true = old.tail < new.tail
+HasFreed t g old new false = (p : g.O) → g.reading (pages_of t g new) ≡ Some p → g.buried p ≡ 0
 
 -- at most so many are buried
 abbrev pub AreBuried : (t : Operations) (g : Ground) → View g → ℕ → Type 0

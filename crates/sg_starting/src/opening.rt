@@ -7,10 +7,9 @@ ghost use Rattle.sg_recovery.specs.Log.{tally};
 ghost use Rattle.sg_recovery.specs.Claims.{Log};
 ghost use Rattle.sg_run.specs.Run.{start};
 ghost use Rattle.sg_store.specs.Ground.{IsLawful, setting};
-ghost use Rattle.sg_store.specs.Engine.{KeepsBy, AsMeantBy, AskedBy, IsEngine, Rests, Rested, Counts, IsDiskFault, IsNearEnd};
-ghost use Rattle.sg_store.specs.Verbs.{Reads, CanLook};
+ghost use Rattle.sg_store.specs.Engine.{KeepsBy, AsMeantBy, AskedBy, Counts, IsDiskFault, IsNearEnd};
 ghost use Rattle.sg_store.specs.Store.{Shows};
-ghost use Rattle.sg_starting.specs.Starting.{IsStarting, AllStandFor, AreLosers, IsSettled, IsFound, CanResume, IsRead, TakesOff, TakenOff, AreFewer, AreBuried, OpeningWith, OpeningSettled, IsStartDisk, IsStartEnd, IsOfEngine, IfBroken};
+ghost use Rattle.sg_starting.specs.Starting.{IsStarting, AllStandFor, AreLosers, IsSettled, IsFound, CanResume, IsRead, TakesOff, TakenOff, HasFreed, AreBuried, OpeningWith, OpeningSettled, IsStartDisk, IsStartEnd, IsOfEngine, IfBroken};
 
 use crate::losers::settle_losers;
 use sg_base::{PageNo, TxnId};
@@ -59,17 +58,6 @@ pub trait Reopens: Objects {
         ensures broken { let t = table_of record_meaning range_meaning ops.now in
             IfErr result (λ u. IfBroken u.why (AsMeantBy t (Self.opened self) (Self.view u.engine) (λ g v w. IsFound t g v
             → (o : g.O) → IsRead t g v o → ⊥))) };
-
-    /// At most how many things are buried.
-    fn buried(&mut self, ops: &Ops) -> Result<u32, SpaceFault>
-        requires can { let t = table_of record_meaning range_meaning ops.now in AskedBy t (Self.view self.old) (CanLook t) }
-        ensures counts { Counts IsDiskFault (Self.view self.old) (Self.view self.new) result }
-        ensures means { KeepsBy (table_of record_meaning range_meaning ops.now) (Self.view self.old) (Self.view self.new) }
-        ensures reads { IfErr result IsDiskFault }
-        ensures counted { let t = table_of record_meaning range_meaning ops.now in
-            AsMeantBy t (Self.view self.old) (Self.view self.new) (λ g v w. (o : g.O)
-            → IsEngine t g v → Reads t g v o → Rests t g v w
-            × IfOk result (λ n. Rested t g v w × (g.buried o ≤ n))) };
 }
 
 // Frees something that is buried; `false` where nothing is.
@@ -84,7 +72,7 @@ fn free_one<E: Reopens>(engine: &mut E, ops: &Ops, note: &mut UndoNote) -> Resul
     ensures frees { let t = table_of record_meaning range_meaning ops.now in
         AsMeantBy t (E.view engine.old) (E.view engine.new) (λ g v w. (down : Log (setting t g)) (m : Model)
         → IsLawful t g → IsStarting t g v down m → IsSettled v → IfOk result (λ b. IsStarting t g w down m
-        × IsSettled w × AreFewer t g v w b)) }
+        × IsSettled w × HasFreed t g v w b)) }
     ensures failed { IfErr result (λ e. IsDiskFault e
         → HasRisen (E.view engine.old).faults (E.view engine.new).faults) }
     ensures log_end { IfErr result (IsNearEnd (E.view engine.new).tail) }
@@ -103,13 +91,8 @@ fn free_one<E: Reopens>(engine: &mut E, ops: &Ops, note: &mut UndoNote) -> Resul
     }
 }
 
-// Frees what is buried, at most so many things.
-fn free_all<E: Reopens>(
-    engine: &mut E,
-    ops: &Ops,
-    most: u32,
-    note: &mut UndoNote,
-) -> Result<(), SpaceFault>
+// Frees all that is buried. Each thing that is freed is in the log, whose tail can't rise for ever.
+fn free_all<E: Reopens>(engine: &mut E, ops: &Ops, note: &mut UndoNote) -> Result<(), SpaceFault>
     requires can { let t = table_of record_meaning range_meaning ops.now in AskedBy t (E.view engine.old) (OpeningSettled t) }
     ensures means { KeepsBy (table_of record_meaning range_meaning ops.now) (E.view engine.old) (E.view engine.new) }
     ensures told { (E.view engine.new).Told → (E.view engine.old).Told }
@@ -119,7 +102,7 @@ fn free_all<E: Reopens>(
         → IsLawful t g → IsStarting t g v down m → IsSettled v → AllStandFor t g v w m) }
     ensures frees { let t = table_of record_meaning range_meaning ops.now in
         AsMeantBy t (E.view engine.old) (E.view engine.new) (λ g v w. (down : Log (setting t g)) (m : Model)
-        → IsLawful t g → IsStarting t g v down m → IsSettled v → AreBuried t g v most
+        → IsLawful t g → IsStarting t g v down m → IsSettled v
         → OnOk result (IsStarting t g w down m × IsSettled w × AreBuried t g w 0)) }
     ensures failed { IfErr result (λ e. IsDiskFault e
         → HasRisen (E.view engine.old).faults (E.view engine.new).faults) }
@@ -127,14 +110,21 @@ fn free_all<E: Reopens>(
     ensures later { (E.view engine.old).faults ≤ (E.view engine.new).faults }
     ensures tail { (E.view engine.old).tail ≤ (E.view engine.new).tail }
 {
-    'buried: for freed in 0..most {
+    let start = engine.tail();
+    let mut left = u64::MAX - start;
+    'buried: loop {
         match free_one(engine, ops, note) {
             Ok(true) => {}
             Ok(false) => return Ok(()),
             Err(fault) => return Err(fault),
         }
+        let end = engine.tail();
+        let now = u64::MAX - end;
+        if now >= left {
+            return Err(engine.broken());
+        }
+        left = now;
     }
-    Ok(())
 }
 
 /// Brings a store, of which no action is without an end, to where its first line may come: the losers are
@@ -171,9 +161,5 @@ pub fn start_store<E: Reopens>(
         Ok(()) => {}
         Err(fault) => return Err(fault),
     }
-    let most = match engine.buried(ops) {
-        Ok(most) => most,
-        Err(fault) => return Err(fault),
-    };
-    free_all(engine, ops, most, note)
+    free_all(engine, ops, note)
 }
