@@ -231,9 +231,6 @@ abbrev pub StandsNow : Recovering → Table → EngineView → Type 0
 StandsNow recovers t e = (c : Image) → Leaves e.disk.now c → IsImageOf recovers t e.first e.durable e.steps c
 
 -- a look at a page gives what it says now
-abbrev pub CanLookAt : EngineSeen → ℕ → Type 0
-CanLookAt e p = e.Told → IsSome (e.now.pages p)
-
 abbrev pub LookedAt : EngineSeen → ℕ → Sheet → Type 0
 LookedAt e p sheet = e.now.pages p ≡ Some sheet
 

@@ -10,7 +10,7 @@ ghost use Rattle.sg_record.specs.Shown.{shown, by};
 ghost use Rattle.sg_action.specs.States.{State};
 ghost use Rattle.sg_actions.specs.Images.{Grows, Recovering};
 ghost use Rattle.sg_actions.specs.Handing.{makes_change, HandsOver};
-ghost use Rattle.sg_actions.specs.Engine.{EngineSeen, led, Keeps, AreBy, EngineGrows, EngineRests, CanLog, Logs, EngineLooks, IsForced, StandsNow, CanLookAt, LookedAt, LookedAtBand, HasStep, ReadsStep, ArePagesFit, now_of};
+ghost use Rattle.sg_actions.specs.Engine.{EngineSeen, led, Keeps, AreBy, EngineGrows, EngineRests, CanLog, Logs, EngineLooks, IsForced, StandsNow, LookedAt, LookedAtBand, HasStep, ReadsStep, ArePagesFit, now_of};
 
 use sg_base::{BAND_SIZE, BandNo, Lsn, PageNo, SlotView};
 use sg_ops::Ops;
@@ -121,9 +121,8 @@ pub trait Engine {
         ensures means { Keeps (means self.old) (means self.new) }
         ensures looks { (t : Table) (from : State) → means self.old t from → EngineLooks (recovers t) t (led from (view self.old)) (led from (view self.new)) result };
 
-    /// Brings a page to where it can be looked at.
+    /// Brings a page to where it can be looked at. It fails of one that says nothing.
     fn load(&mut self, p: PageNo) -> Result<(), SpaceFault>
-        requires { CanLookAt (view self.old) p.0 }
         ensures rests { EngineRests (view self.old) (view self.new) result }
         ensures means { Keeps (means self.old) (means self.new) }
         ensures looks { (t : Table) (from : State) → means self.old t from → EngineLooks (recovers t) t (led from (view self.old)) (led from (view self.new)) result }

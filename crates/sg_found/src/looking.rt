@@ -7,10 +7,9 @@ ghost use Rattle.sg_record.specs.Shown.{shown};
 ghost use Rattle.sg_recovery.specs.Formed.{IsLog, IsUnfinished};
 ghost use Rattle.sg_recovery.specs.Chains.{last_of};
 ghost use Rattle.sg_action.specs.States.{State};
-ghost use Rattle.sg_actions.specs.Engine.{HasStep, CanLookAt};
+ghost use Rattle.sg_actions.specs.Engine.{HasStep};
 ghost use Rattle.sg_actions.specs.Steps.{step_of, step_at};
 ghost use Rattle.sg_actions.specs.Taken.{is_set};
-ghost use Rattle.sg_unread.specs.Unread.{AreThere};
 ghost use Rattle.sg_found.specs.Found.{back_by, HasBack, IsFrom, IsOpenAt};
 ghost use Rattle.sg_found.specs.Looks.{HasLooked, SaysBytes, AreBytes};
 
@@ -150,7 +149,6 @@ fn says_bytes(page: &SlotView<'_>)
 
 // Looks at a page, whose cells are bytes.
 fn look_at<E: Engine>(engine: &mut E, p: PageNo) -> Result<(), SpaceFault>
-    requires there { CanLookAt (E.view engine.old) p.0 }
     ensures looks { HasLooked E.recovers (E.view engine.old) (E.view engine.new) (E.means engine.old) (E.means engine.new) result }
     ensures bytes { OnOk result (SaysBytes (E.view engine.new).now p.0) }
 {
@@ -161,7 +159,6 @@ fn look_at<E: Engine>(engine: &mut E, p: PageNo) -> Result<(), SpaceFault>
 
 // Looks at a page, if it is taken.
 fn look_if_taken<E: Engine>(engine: &mut E, maps: &Maps, p: PageNo) -> Result<(), SpaceFault>
-    requires there { CanLookAt (E.view engine.old) p.0 }
     ensures looks { HasLooked E.recovers (E.view engine.old) (E.view engine.new) (E.means engine.old) (E.means engine.new) result }
     ensures bytes { OnOk result (is_set maps.now.pages p.0 ≡ true → SaysBytes (E.view engine.new).now p.0) }
 {
@@ -173,7 +170,6 @@ fn look_if_taken<E: Engine>(engine: &mut E, maps: &Maps, p: PageNo) -> Result<()
 
 /// Looks at each page that is taken: its cells are bytes.
 pub fn look_at_pages<E: Engine>(engine: &mut E, maps: &Maps, count: u32) -> Result<(), SpaceFault>
-    requires there { (E.view engine.old).Told → AreThere count (E.view engine.old).now }
     ensures looks { HasLooked E.recovers (E.view engine.old) (E.view engine.new) (E.means engine.old) (E.means engine.new) result }
     ensures bytes { (t : Table) (from : State) → E.means engine.old t from →
         OnOk result ((E.view engine.old).Told → AreBytes maps.now.pages count (E.view engine.old).now) }

@@ -6,7 +6,6 @@ ghost use Rattle.sg_ops.specs.Table.{Table};
 ghost use Rattle.sg_action.specs.States.{State};
 ghost use Rattle.sg_reach.specs.Fault.{IfBroken};
 ghost use Rattle.sg_reader.specs.Alike.{ReadsAs};
-ghost use Rattle.sg_unread.specs.Unread.{AreThere};
 ghost use Rattle.sg_walked.specs.Walked.{AreFirst, IsWalked};
 ghost use Rattle.sg_found.specs.Looks.{AreBytes};
 ghost use Rattle.sg_resumed.specs.Walking.{HasWalked};
@@ -19,7 +18,6 @@ use sg_walked::{Walked, walk};
 
 // Looks at each page that a walk took.
 fn look_behind<E: Engine>(engine: E, breaks: u64, maps: &Maps, count: u32) -> Walked<E>
-    requires there { (E.view engine).Told → AreThere count (E.view engine).now }
     ensures walked { HasWalked E.recovers (E.view engine) (E.view result.engine) breaks result.breaks (E.means engine) (E.means result.engine) result.found }
     ensures bytes { (t : Table) (from : State) → E.means engine t from →
         OnOk result.found ((E.view engine).Told → AreBytes maps.now.pages count (E.view engine).now) }
@@ -43,7 +41,6 @@ fn look_behind<E: Engine>(engine: E, breaks: u64, maps: &Maps, count: u32) -> Wa
 /// Goes over all that the objects in an engine's pages reach, and sets it among what is taken: page 0 and
 /// the map's bands are set already. Each page that is taken is looked at behind that.
 pub fn go_over<E: Engine>(engine: E, pages: u32, bands: u32, into: &mut Maps) -> Walked<E>
-    requires there { (E.view engine).Told → AreThere pages (E.view engine).now }
     requires first { AreFirst pages bands into.old }
     requires map { map_bands_of pages bands ≤ bands }
     ensures walked { HasWalked E.recovers (E.view engine) (E.view result.engine) 0 result.breaks (E.means engine) (E.means result.engine) result.found }

@@ -14,7 +14,7 @@ use Rattle.sg_actions.specs.Engine.{EngineSeen, EngineView, EngineRests, Stays, 
 use Rattle.sg_actions.specs.Images.{Recovering}
 use Rattle.sg_actions.proofs.Calling.{LooksBy, same_any}
 use Rattle.sg_actions.proofs.Led.{Same}
-use Rattle.sg_unread.specs.Unread.{AreThere, below, unread_space, unread_view, LooksOn}
+use Rattle.sg_unread.specs.Unread.{below, unread_space, unread_view, LooksOn}
 use Rattle.sg_unread.specs.Looks.{looks_same}
 
 looked : {T : Type 0} (e e' : EngineView) (r : Result T SpaceFault) → OnErr r (e'.failed ≡ true) → OnOk r (e.Told → e'.Told) → OnOk r (e.Told → Stays e e') → e.Told → e'.failed ≡ false → e'.Told × Stays e e'
@@ -41,10 +41,6 @@ looks_once {T} {recovers} {t} {e} {e'} {m} {m'} {r} h = record {
 -- what its records mean
 pub by_looks : {recovers : Table → Recovering} {t : Table} {e e' : EngineSeen} {m m' : Table → State → Type 0} → LooksOn recovers t e e' m m' → ∥ ((from : State) × m t from) ∥₁ → ∥ ((from : State) × m' t from) ∥₁
 by_looks l h = ∥∥₁_elim h ∥∥₁_prop (λ x. ∣ (x.0, l.means x.0 x.1) ∣₁)
-
-pub there_any : {T : Type 0} {recovers : Table → Recovering} {e e' : EngineSeen} {m m' : Table → State → Type 0} {r : Result T SpaceFault} (pages : ℕ) → ∥ ((t : Table) × (from : State) × m t from) ∥₁ → ((t : Table) → LooksBy recovers t e e' m m' r)
-    → (e'.Told → e.Told) → (e.Told → AreThere pages e.now) → e'.Told → AreThere pages e'.now
-there_any {T} {recovers} {e} {e'} pages some h back there told' = let told = back told' in subst (λ (x : State). AreThere pages x) (sym (same_any some h told told').now) (there told)
 
 -- A LOOK that succeeds
 pub looks_ok : {T U : Type 0} (e e' : EngineSeen) (pages bands breaks : ℕ) (L M : Type 0) (x : T) (y : U) → EngineRests e e' (let r : Result T SpaceFault = Ok x in r) → (e.Told → Same e e') → L → M

@@ -1,5 +1,5 @@
 -- What an engine holds, as a space, and what looks at it leave.
-use Rattle.std.specs.Prelude.{◌≡◌, ℕ, ◌+◌, ◌<◌, ◌≤◌, nat_lt, true, false, if◌then◌else◌, Option, Some, None, IsSome, Result, OnOk, ⊤}
+use Rattle.std.specs.Prelude.{◌≡◌, ℕ, ◌+◌, ◌≤◌, nat_lt, true, false, if◌then◌else◌, Option, Some, None, ⊤}
 use Rattle.sg_ops.specs.Table.{Table}
 use Rattle.sg_action.specs.States.{State}
 use Rattle.sg_space.specs.View.{Space, View}
@@ -31,10 +31,6 @@ unread_view e pages bands breaks = record {
   HasWritten = λ band. ⊥;
   IsStill = ⊤;
 }
-
--- each page below this number says something
-abbrev pub AreThere : (pages : ℕ) → State → Type 0
-AreThere pages x = (p : ℕ) → p < pages → IsSome (x.pages p)
 
 -- THE ENGINE WAS ONLY LOOKED AT, wherever its steps lead from: each image of each moment has a front of its log, and where it hasn't
 -- failed it tells, and its steps are as before

@@ -1,15 +1,14 @@
 ghost use Rattle.std.specs.Prelude.{◌≡◌, ◌≤◌};
 ghost use Rattle.sg_base.specs.Ends.{HasRisen};
 ghost use Rattle.sg_action.specs.States.{State};
-ghost use Rattle.sg_unread.specs.Unread.{AreThere};
 
 use sg_actions::Engine;
 use sg_base::{BandNo, PageNo, PageOp, SlotView};
 use sg_ops::Ops;
 use sg_space::{PageSpace, SpaceFault};
 
-/// The pages and bands of an engine, of which it isn't known yet what they read as: each is there. It tells
-/// nothing, also over an engine that does, and shows what that holds. It can only be looked at: a call that would
+/// The pages and bands of an engine, of which it isn't known yet what they read as. It tells nothing, also over an
+/// engine that does, and shows what that holds. A look at a page that says nothing answers `Disk`. It can only be looked at: a call that would
 /// change it answers `Disk`.
 pub struct UnreadSpace<E: Engine> {
     engine: E,
@@ -17,7 +16,6 @@ pub struct UnreadSpace<E: Engine> {
     bands: u32,
     // How often a look passed the last page or band, and a change was asked for.
     breaks: u64,
-    ghost there: { (E.view engine).Told → AreThere pages (E.view engine).now },
 }
 
 // One more fault is counted.
@@ -33,7 +31,6 @@ fn count_break(breaks: &mut u64) -> SpaceFault
 impl<E: Engine> UnreadSpace<E> {
     /// Over an engine, with so many pages and bands.
     pub fn new(engine: E, pages: u32, bands: u32) -> UnreadSpace<E>
-        requires there { (E.view engine).Told → AreThere pages (E.view engine).now }
         ensures engine { result.engine ≡ engine }
         ensures pages { result.pages ≡ pages }
         ensures bands { result.bands ≡ bands }

@@ -7,7 +7,7 @@ ghost use Rattle.sg_reach.specs.Fault.{IfBroken, IsReached};
 ghost use Rattle.sg_reader.specs.Alike.{ReadsAs};
 ghost use Rattle.sg_space.specs.declared.space.SpaceFault.TheVariants.{Disk, LogEnd};
 ghost use Rattle.sg_reach.specs.declared.fault.ReachFault.TheVariants.{Space};
-ghost use Rattle.sg_unread.specs.Unread.{AreThere, LooksOn};
+ghost use Rattle.sg_unread.specs.Unread.{LooksOn};
 ghost use Rattle.sg_walked.specs.Walked.{AreFirst, IsWalked};
 
 use sg_actions::Engine;
@@ -30,7 +30,6 @@ pub struct Walked<E> {
 /// `Broken` comes only where the pages and bands read as no contents, with a page that was reached: one that is
 /// wrong, names what can't be set, or has a name or a key twice.
 pub fn walk<E: Engine>(engine: E, pages: u32, bands: u32, into: &mut Maps) -> Walked<E>
-    requires there { (E.view engine).Told → AreThere pages (E.view engine).now }
     requires first { AreFirst pages bands into.old }
     requires map { map_bands_of pages bands ≤ bands }
     ensures looks { (t : Table) → LooksOn E.recovers t (E.view engine) (E.view result.engine) (E.means engine) (E.means result.engine) }

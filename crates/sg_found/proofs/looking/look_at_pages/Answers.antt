@@ -14,16 +14,6 @@ pages-init g c = record {
   bytes = λ t from m told p less set. absurd (omega (arith, less));
 }
 
-pub look_if_taken-requires : goal.look_if_taken-requires
-look_if_taken-requires g c =
-    let i = c.pages.invariant in
-    record {
-      there = λ told1. ∥∥₁_elim (g.met.E.Engine.some c.args.engine.now) (hlevel props) (λ x.
-          let told = (i.looks.looks x.0).told told1 in
-          let same = looked_now i.looks x.0 x.1 x.2 told (g.met.E.Engine.told_whole c.pages.engine) told1 (g.met.E.Engine.now_is _ x.0 x.1 x.2 told) (g.met.E.Engine.now_is _ x.0 x.1 ((i.looks.looks x.0).means x.1 x.2) told1) in
-          subst (λ (y : State). IsSome (y.pages c.pages.p)) (sym same) (c.requires.there told c.pages.p (omega (arith, c.pages-test.true))));
-    }
-
 pub returns-in_err-look_if_taken-clause-looks : goal.returns-in_err-look_if_taken-clause-looks
 returns-in_err-look_if_taken-clause-looks g c =
     let p = err_from_is_err_and c.from_residual.result c.from_residual.ensures.1 in

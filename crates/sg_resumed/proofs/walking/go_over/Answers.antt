@@ -1,7 +1,5 @@
-use mathlib.Core.Logic.{∥∥₁_elim}
-use Rattle.std.proofs.Common.{IsSome, Result, sym, subst}
+use Rattle.std.proofs.Common.{Result, subst}
 use Rattle.std.specs.Prelude.{OnOk}
-use Rattle.std.proofs.Props.{props}
 use Rattle.sg_reach.specs.declared.fault.ReachFault.{ReachFault}
 use Rattle.sg_action.specs.States.{State}
 use Rattle.sg_actions.proofs.Finishing.{on_ok}
@@ -9,16 +7,6 @@ use Rattle.sg_found.specs.Looks.{AreBytes}
 use Rattle.sg_resumed.specs.Walking.{HasWalked}
 use Rattle.sg_resumed.proofs.Counted.{walk_part, walk_then, looks_now}
 use Rattle.sg_resumed.proofs.walking.go_over.Goals as goal
-
-pub look_behind-requires : goal.look_behind-requires
-look_behind-requires g c =
-    let k = c.walk-engine.ensures in
-    record {
-      there = λ told1 p less. ∥∥₁_elim (g.met.E.Engine.some c.args.engine) (hlevel props) (λ x.
-          let told = (k.looks x.0).told told1 in
-          let same = looks_now (k.looks x.0) x.1 x.2 told (g.met.E.Engine.told_whole c.walk-engine.result.engine) told1 (g.met.E.Engine.now_is _ x.0 x.1 x.2 told) (g.met.E.Engine.now_is _ x.0 x.1 ((k.looks x.0).means x.1 x.2) told1) in
-          subst (λ (y : State). IsSome (y.pages p)) (sym same) (c.requires.there told p less));
-    }
 
 pub returns-in-Ok-clause-walked : goal.returns-in-Ok-clause-walked
 returns-in-Ok-clause-walked g c =

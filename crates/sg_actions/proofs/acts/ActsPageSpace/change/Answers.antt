@@ -7,17 +7,10 @@ use Rattle.sg_actions.specs.Later.{Later, acts_at}
 use Rattle.sg_actions.specs.Onward.{later_same, later_on}
 use Rattle.sg_actions.proofs.Banded.{bands_page}
 use Rattle.sg_actions.proofs.Calling.{later_look, later_log, same_any, said_any, said_log, made_log}
-use Rattle.sg_actions.proofs.Flags.{there_is, some_is}
 use Rattle.sg_actions.proofs.Led.{by_later, made_after}
 use Rattle.sg_actions.proofs.Spelled.{is_said, is_back, now_or}
 use Rattle.sg_actions.proofs.Viewed.{ready, ready_same, loggable, change_on, shows_change, page_same}
 use Rattle.sg_actions.proofs.acts.ActsPageSpace.change.Goals as goal
-
-pub load-requires : goal.load-requires
-load-requires g c = λ told.
-    let h = c.requires.can told in
-    let there = there_is c.args.self.now.maps.pages c.args.self.now.unfreed.pages (g.E.Engine.view c.args.self.now.engine).now.pages c.args.p.0 h.what h.is in
-    some_is there.is
 
 pub log_by-requires-clause-by : goal.log_by-requires-clause-by
 log_by-requires-clause-by g c = ∥∥₁_elim c.requires.means ∥∥₁_prop (λ x. ∣ (x.0, c.in_ok-load.ensures.means _ x.0 x.1.stands) ∣₁)

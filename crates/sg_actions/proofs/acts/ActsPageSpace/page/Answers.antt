@@ -2,16 +2,10 @@ use Rattle.std.proofs.Common.{true, sym, ap, ◌∙◌, refl, length}
 use Rattle.std.proofs.lemmas.Result.{err_from_is_err_and}
 use Rattle.sg_ops.specs.Table.{Table}
 use Rattle.sg_actions.proofs.Calling.{LooksBy, later_look, same_any, said_any}
-use Rattle.sg_actions.proofs.Flags.{there_is, at_there, some_is, some_of}
+use Rattle.sg_actions.proofs.Flags.{at_there}
 use Rattle.sg_actions.proofs.Led.{by_later}
 use Rattle.sg_actions.proofs.Looking.{looks_ok, looks_err_is, none_looked}
 use Rattle.sg_actions.proofs.acts.ActsPageSpace.page.Goals as goal
-
-pub load-requires : goal.load-requires
-load-requires g c = λ told.
-    let some = some_of _ (c.requires told) in
-    let there = there_is c.args.self.now.maps.pages c.args.self.now.unfreed.pages (g.E.Engine.view c.args.self.now.engine).now.pages c.args.p.0 some.0 some.1 in
-    some_is there.is
 
 pub invariant_of-self-2-clause-pages_said : goal.invariant_of-self-2-clause-pages_said
 invariant_of-self-2-clause-pages_said g c =

@@ -3,17 +3,8 @@ use Rattle.std.proofs.lemmas.Result.{err_from_is_err_and}
 use Rattle.sg_ops.specs.Table.{Table}
 use Rattle.sg_actions.proofs.Calling.{LooksBy, same_any}
 use Rattle.sg_unread.specs.Looks.{looks_same}
-use Rattle.sg_unread.proofs.Looking.{looks_once, by_looks, there_any, looks_ok, looks_err_is, breaks_at_once, none_looked, is_below}
+use Rattle.sg_unread.proofs.Looking.{looks_once, by_looks, looks_ok, looks_err_is, breaks_at_once, none_looked, is_below}
 use Rattle.sg_unread.proofs.space.UnreadSpacePageSpace.band.Goals as goal
-
-pub invariant_of-self-2 : goal.invariant_of-self-2
-invariant_of-self-2 g c =
-    let k = c.load_band.ensures in
-    record {
-      there = there_any c.args.self.now.pages (g.met.E.Engine.some c.args.self.now.engine)
-          (λ t. record { rests = k.rests; keeps = λ from m. k.means t from m; looks = λ from m. k.looks t from m; whole = g.met.E.Engine.told_whole _; now = λ from m. g.met.E.Engine.now_is _ t from m; now' = λ from m. g.met.E.Engine.now_is _ t from m })
-          k.rests.counts.told c.args.self.now.there;
-    }
 
 pub returns-then-b-self : goal.returns-then-b-self
 returns-then-b-self g c =
