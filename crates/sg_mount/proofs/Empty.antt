@@ -19,7 +19,7 @@ use Rattle.sg_gate.specs.declared.superblock.Super.{Super}
 use Rattle.sg_ops.specs.Table.{Table}
 use Rattle.sg_action.specs.States.{State}
 use Rattle.sg_model.specs.Objects.{Objects}
-use Rattle.sg_phys_laws.specs.Recovers.{RecoversBy, cut_at}
+use Rattle.sg_phys_laws.specs.Recovers.{RecoversBy, cut_at, super_of}
 use Rattle.sg_phys_laws.specs.States.{state_of}
 use Rattle.sg_reading.specs.Reading.{Reading, objects, plain_entry}
 use Rattle.sg_reader.specs.Alike.{ReadsAs}
@@ -174,6 +174,7 @@ no_front (r ∷ front) (q ∷ since) e = absurd cc
 -- AN IMAGE of a new store
 pub new_store : (t : Table) (s : Super) (page : List ℕ) (c : Image) → superblock (c Home) ≡ Ok s → IsEmptyCatalogue page → IsStoreImage t (cut_at s (state_of (empty_home page))) [] [] c → IsNewStore t s c
 new_store t s page c super cat i = record {
+  super = ap super_of super;
   from = cut_at s (state_of (empty_home page));
   image = i;
   stands = stands s page cat (in_range s (is_super (c Home) s (counting (c Home)) super)).pages.0 t c (subst (λ (l : Steps). RecoversBy t c l (repeated t (cut_at s (state_of (empty_home page))) l)) none i.recovers);

@@ -1,1 +1,3 @@
 pub mod Empty
+pub mod Standing
+pub mod Found

@@ -5,7 +5,7 @@ ghost use Rattle.sg_model.specs.Objects.{Objects as Model};
 ghost use Rattle.sg_recovery.specs.Log.{tally};
 ghost use Rattle.sg_recovery.specs.Stands.{StandsFor as LogStands};
 ghost use Rattle.sg_store.specs.Ground.{IsLawful, setting};
-ghost use Rattle.sg_store.specs.Engine.{AsMeantBy, AskedBy};
+ghost use Rattle.sg_store.specs.Engine.{AsMeantBy, AskedBy, KeepsBy};
 ghost use Rattle.sg_store.specs.Rests.{HasObjects};
 ghost use Rattle.sg_store.specs.Seen.{core_of, Serves};
 ghost use Rattle.sg_base.specs.Ends.{HasRisen};
@@ -31,6 +31,9 @@ pub fn attach<E: Reopens>(
     alloc: Global,
 ) -> Result<Store<E>, Unstarted<E>>
     requires can { let t = table_of record_meaning range_meaning ops.now in AskedBy t (E.opened engine) (IsOpenedWith losers.now t) }
+    // What its records mean, and whether it tells, is as before,
+    ensures means { IfOk result (λ s. KeepsBy (table_of record_meaning range_meaning ops.now) (E.opened engine) (E.view s.engine)) }
+    ensures tells { IfOk result (λ s. (E.opened engine).Told → (E.view s.engine).Told) }
     ensures serves { let t = table_of record_meaning range_meaning ops.now in IfOk result (λ s. Serves t s) }
     ensures has { let t = table_of record_meaning range_meaning ops.now in
         IfOk result (λ s. AsMeantBy t (E.opened engine) (E.view s.engine) (λ g v w. (m : Model)

@@ -101,3 +101,12 @@ pub returns-in-Err-clause-quiet : goal.returns-in-Err-clause-quiet
 returns-in-Err-clause-quiet g c =
     let t = table_of (λ y. (given.RecordOp-dyn g y).record_meaning y.1) (λ y. (given.RangeOp-dyn g y).range_meaning y.1) c.args.ops.now in
     attaching.if_any c.in-Err.unstarted.why (λ z from l told found. attaching.takes_none t (g.E.Engine.basis z) (led t z from (g.E.Engine.opened c.args.engine)) (led t z from (g.E.Engine.view c.in-Err.unstarted.engine)) (c.in-Err.ensures.refused z from l told found))
+
+pub returns-in-Ok-new-clause-means : goal.returns-in-Ok-new-clause-means
+returns-in-Ok-new-clause-means g c = λ z from l.
+    let t = table_of (λ y. (given.RecordOp-dyn g y).record_meaning y.1) (λ y. (given.RangeOp-dyn g y).range_meaning y.1) c.args.ops.now in
+    subst (λ e. (g.E.Engine.view e).means t z from) (sym c.in-Ok-new.ensures.engine) (c.start_store.ensures.means z from (c.in-Ok.ensures.means z from l))
+
+pub returns-in-Ok-new-clause-tells : goal.returns-in-Ok-new-clause-tells
+returns-in-Ok-new-clause-tells g c told =
+    subst (λ e. (g.E.Engine.view e).Told) (sym c.in-Ok-new.ensures.engine) (c.in-Ok-start_store.ensures.tells (c.in-Ok.ensures.done.tells told))
