@@ -14,7 +14,7 @@ folder="$(mktemp -d)"
 trap 'rm -rf "$folder"' EXIT
 bench="$folder/crates/engine_bench"
 mkdir -p "$bench/src"
-libraries='base bits record segment slotted frames disk folder log gate ops step redo window pool engine'
+libraries='base bits record segment slotted frames disk folder log gate ops step action redo window pool engine'
 for name in $libraries; do
     cp -R "$top/crates/sg_$name" "$folder/crates/"
 done

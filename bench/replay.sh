@@ -1,7 +1,7 @@
 #!/usr/bin/env bash
-# Times `replay` of `sg_redo` on one thread, and beside it a plain loop in C that copies the same bytes: 1,024,000 records of
-# 50 bytes over 256 pages, page by page, of which each sets the 8 bytes of a slot. It prints the records in a second of
-# both, as the median and as the best of the rounds, and their ratios.
+# Times `replay` of `sg_redo`, then `replay_all` by 1, 2 and 4 threads, and beside them a plain loop in C that copies the same
+# bytes on one thread: 1,024,000 records of 50 bytes over 256 pages, page by page, of which each sets the 8 bytes of a slot. It
+# prints the records in a second of each, as the median and as the best of the rounds, and the ratios to the plain loop.
 #
 # The Rattle program of this benchmark stands in this file, and is proved and built in a folder of the moment over the
 # repository's crates, so that the merge gate has nothing to do with it. That takes some minutes the first time.
@@ -18,7 +18,7 @@ folder="$(mktemp -d)"
 trap 'rm -rf "$folder"' EXIT
 bench="$folder/crates/replay_bench"
 mkdir -p "$bench/src" "$bench/proofs/run" "$bench/proofs/main"
-below="sg_base sg_record sg_bits sg_segment sg_slotted sg_frames sg_ops sg_step sg_redo"
+below="sg_base sg_record sg_bits sg_segment sg_slotted sg_frames sg_ops sg_step sg_action sg_redo"
 for crate in $below; do
     mkdir "$folder/crates/$crate"
     (cd "$top/crates/$crate" && cp -r src specs proofs "$folder/crates/$crate")
@@ -28,23 +28,28 @@ echo "replay_bench may_abort=2: sg_base sg_frames sg_ops sg_record sg_redo sg_se
 cp "$top/HANDLES" "$folder"
 
 cat > "$bench/src/main.rt" <<'RATTLE'
-//! Times `replay` on one thread, over 256 pages and 1,024,000 records, each of which sets the 8 bytes
+//! Times `replay`, or by a word `replay_all` in so many threads, over 256 pages and 1,024,000 records, each of which sets the 8 bytes
 //! of one of a page's slots. It prints the number of records and the nanoseconds that they took.
 #![tactic(auto)]
 ghost use Rattle.std.specs.Prelude.{◌≡◌, ◌≤◌, ◌<◌, ◌+◌, ◌*◌, ℕ, [], IfOk, IsTrue, length, vec_len, vec_capacity};
+ghost use Rattle.std.specs.List.{All};
 ghost use Rattle.sg_frames.specs.Held.{IsHere, NoneLent};
+ghost use Rattle.sg_ops.specs.Table.{table_of};
+ghost use Rattle.sg_redo.specs.Units.{Lies, AreKnown};
 
 use sg_base::{PAGE_SIZE, PageOp, Steps};
 use sg_frames::{Frames, Place as Spot};
 use sg_ops::Ops;
-use sg_redo::{Place, Unit, apply_page, are_known, replay};
+use sg_redo::{Place, Unit, apply_page, are_known, replay, replay_all};
 use sg_segment::Dirty;
 use std::alloc::{AllocError, Global};
+use std::env;
 use std::io;
 use std::marker::Brand;
 use std::process::Abort;
 use std::rt::Clock;
 use std::sync::ledger::{Blank, Ledger};
+use std::thread::Threads;
 use std::time::Instant;
 
 const PAGES: u32 = 256;
@@ -97,9 +102,44 @@ fn page(ops: &Ops) -> [u8; PAGE_SIZE] {
     page
 }
 
-// Times the replay of all records, and ends the program.
-fn run<R: Print + Clock + Abort, L: Ledger>(
+// How many threads the word says, if there is one.
+fn threads_of(rt: &HostRuntime) -> io::Result<Option<usize>> {
+    let words: Vec<String> = env::args(rt)?.skip(1).collect(rt.alloc())?;
+    let words: &[String] = words.as_slice();
+    match words {
+        [word] => match word.as_str() {
+            "1" => Ok(Some(1)),
+            "2" => Ok(Some(2)),
+            "4" => Ok(Some(4)),
+            _ => Ok(None),
+        },
+        _ => Ok(None),
+    }
+}
+
+// Replays all records, in so many threads where a number is given.
+fn repeat<R: Threads + Sync, L: Ledger>(
     rt: &R,
+    threads: Option<usize>,
+    units: &mut [Unit],
+    places: &[Place],
+    text: &[u8],
+    ops: &Ops,
+    steps: &mut Steps<L>,
+)
+    requires lie { All (λ u. Lies places.now u) units.old }
+    requires known { AreKnown (table_of record_meaning range_meaning ops.now) text.now places.now }
+{
+    match threads {
+        Some(count) if count > 0 => replay_all(rt, count, units, places, text, ops, steps),
+        _ => replay(units, places, text, ops, steps),
+    }
+}
+
+// Times the replay of all records, and ends the program.
+fn run<R: Print + Clock + Abort + Threads + Sync, L: Ledger>(
+    rt: &R,
+    threads: Option<usize>,
     mut frames: Frames,
     mut units: Vec<Unit>,
     places: &[Place],
@@ -136,7 +176,7 @@ fn run<R: Print + Clock + Abort, L: Ledger>(
     let Ok(start) = Instant::now(rt) else {
         rt.exit(2)
     };
-    replay(&mut units, places, text, ops, &mut steps);
+    repeat(rt, threads, &mut units, places, text, ops, &mut steps);
     let Ok(took) = start.elapsed(rt) else {
         rt.exit(2)
     };
@@ -165,7 +205,10 @@ fn main(rt: HostRuntime) {
     let Ok(frames) = Frames::new(alloc, PAGES, 1) else {
         rt.exit(3)
     };
-    run::<HostRuntime, Brand>(&rt, frames, units, &places, &text, &ops, Blank::new(1))
+    let Ok(threads) = threads_of(&rt) else {
+        rt.exit(3)
+    };
+    run::<HostRuntime, Brand>(&rt, threads, frames, units, &places, &text, &ops, Blank::new(1))
 }
 RATTLE
 
@@ -238,17 +281,21 @@ python3 - "$bench/out/replay_bench" "$folder/copy" "$rounds" <<'PYTHON'
 import statistics, subprocess, sys
 
 
-def rate(program):
+def rate(*words):
     """Records in a second, by what the program prints."""
-    records, nanoseconds = subprocess.run([program], capture_output=True, text=True, check=True).stdout.split()[:2]
+    records, nanoseconds = subprocess.run(words, capture_output=True, text=True, check=True).stdout.split()[:2]
     return int(records) * 1e9 / int(nanoseconds)
 
 
-replays, copies = [], []
+rounds = [("replay", (sys.argv[1],))]
+rounds += [(f"replay_all, {n} threads", (sys.argv[1], n)) for n in ("1", "2", "4")]
+rounds += [("plain copies", (sys.argv[2],))]
+rates = {name: [] for name, _ in rounds}
 for _ in range(int(sys.argv[3])):
-    replays.append(rate(sys.argv[1]))
-    copies.append(rate(sys.argv[2]))
-for name, rates in (("replay", replays), ("plain copies", copies)):
-    print(f"{name}: {statistics.median(rates):,.0f} records a second, best {max(rates):,.0f}")
-print(f"replay / copies: {statistics.median(replays) / statistics.median(copies):.4f}, best {max(replays) / max(copies):.4f}")
+    for name, words in rounds:
+        rates[name].append(rate(*words))
+copies = rates["plain copies"]
+for name, found in rates.items():
+    ratio = statistics.median(found) / statistics.median(copies)
+    print(f"{name}: {statistics.median(found):,.0f} records a second, best {max(found):,.0f}; by plain copies {ratio:.4f}")
 PYTHON

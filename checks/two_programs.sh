@@ -2,8 +2,8 @@
 # Shows that two programs on one folder don't destroy each other's commits: the one that has the folder keeps it to its
 # end, and the other ends with the fault of the disk, status 4, has read and written nothing, and acknowledged nothing.
 #
-# First in a fixed order, with a program that waits for its next line while another runs: over a store that is there, and
-# over a folder that neither found. Then many pairs that are started at once, over new folders and over old stores:
+# First in a fixed order, with a program that waits for its next line while another runs, and with one that makes a store while
+# another does. Then many pairs that are started at once, over new stores and over old ones:
 # each pair ends with one store that holds all that was acknowledged, and nothing of a program that was refused.
 #
 # It runs the program that the gate or ./stasis has built, prints a line for each case, and ends with 0 only where all
@@ -64,6 +64,11 @@ report() {
     echo "two programs, $1: $2"
 }
 
+# Makes a store in a folder.
+make_store() {
+    "$program" init "$1" >"$work/replies" 2>"$work/said" </dev/null
+}
+
 # Starts a program that waits for lines on 3 and answers on 4.
 start_waiting() {
     rm -f "$work/lines" "$work/answers"
@@ -93,6 +98,7 @@ end_waiting() {
 # A program that has opened a store keeps it: one that only reads is refused, and later finds what was committed.
 one_waits_on_a_store() {
     local store="$work/held" status
+    make_store "$store"
     commits_of a | "$program" run "$store" >"$work/replies"
     start_waiting "$store"
     ask "x begin" ok || return 1
@@ -106,19 +112,26 @@ one_waits_on_a_store() {
     compare items "$(items_in "$store" a)" "${all_there/10/20}"
 }
 
-# Of two that found no folder the one that commits first has it. The other is refused at its first commit, also where the
-# first has ended by then.
-two_find_no_folder() {
-    local store="$work/unmade"
-    start_waiting "$store"
-    ask "x begin" ok || return 1
-    ask "x make array b 2" ok || return 1
+# Of two that make a store at once in one folder, one is refused, or finds that there is a store: and what is left is one.
+two_make_a_store() {
+    local store="$work/unmade" first second
+    "$program" init "$store" >"$work/replies-a" 2>"$work/said-a" </dev/null &
+    first=$!
+    "$program" init "$store" >"$work/replies-b" 2>"$work/said-b" </dev/null &
+    second=$!
+    wait "$first"
+    first=$?
+    wait "$second"
+    second=$?
+    case "$first $second" in
+    "0 4" | "4 0" | "0 10" | "10 0") ;;
+    *)
+        compare statuses "$first and $second" "0, and 4 or 10"
+        return 1
+        ;;
+    esac
     commits_of a | "$program" run "$store" >"$work/replies"
-    compare replies "$(cat "$work/replies")" "$all_done" || return 1
-    ask "x commit" "error disk" || return 1
-    end_waiting 4 || return 1
-    compare items "$(items_in "$store" a)" "$all_there" || return 1
-    compare items "$(items_in "$store" b)" "$none_there"
+    compare replies "$(cat "$work/replies")" "$all_done"
 }
 
 # Judges one program of a pair: by its status all of its commits were acknowledged, or none of them.
@@ -158,27 +171,29 @@ try_pair() {
     judge_one "$store" a "$first" && judge_one "$store" b "$second"
 }
 
-# Tries many pairs over new folders, or over copies of an old store.
+# Tries many pairs over copies of this store.
 try_pairs() {
     local kind="$1" verdict=ok refused=0 number
     for ((number = 0; number < pairs; number++)); do
         rm -rf "$work/store"
-        [ "$kind" = "new folders" ] || cp -r "$work/old" "$work/store"
+        cp -r "$work/$kind" "$work/store"
         try_pair "$work/store" || verdict=FAILED
         compare "items from before" "$(items_in "$work/store" old)" "$2" || verdict=FAILED
     done
-    report "$pairs pairs on $kind, $refused with one refused" "$verdict"
+    report "$pairs pairs on copies of the $kind store, $refused with one refused" "$verdict"
 }
 
 verdict=ok
 one_waits_on_a_store || verdict=FAILED
 report "one that waits on a store" "$verdict"
 verdict=ok
-two_find_no_folder || verdict=FAILED
-report "two that found no folder" "$verdict"
+two_make_a_store || verdict=FAILED
+report "two that make a store" "$verdict"
+make_store "$work/new"
+cp -r "$work/new" "$work/old"
 commits_of old | "$program" run "$work/old" >"$work/replies"
 commits_of a >"$work/script-a"
 commits_of b >"$work/script-b"
-try_pairs "new folders" "$none_there"
-try_pairs "old stores" "$all_there"
+try_pairs new "$none_there"
+try_pairs old "$all_there"
 [ "$failures" -eq 0 ]

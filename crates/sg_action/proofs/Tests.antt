@@ -7,9 +7,9 @@ use Rattle.sg_action.specs.States.{State, Change, made, all_off}
 use Rattle.sg_action.specs.States.Change.{Page, Write}
 use Rattle.std.specs.Prelude.{Option, option_map}
 
--- one page, and one band of 8 bytes
+-- pages that say the same, and bands of 8 bytes
 one_page : Sheet → State
-one_page p = record { pages = λ n. Some p; bands = λ b. 1 ∷ 2 ∷ 3 ∷ 4 ∷ 5 ∷ 6 ∷ 7 ∷ 8 ∷ [] }
+one_page p = record { size = record { pages = 6; bands = 6 }; pages = λ n. Some p; bands = λ b. 1 ∷ 2 ∷ 3 ∷ 4 ∷ 5 ∷ 6 ∷ 7 ∷ 8 ∷ [] }
 
 after : List Change → State → Option (Option Sheet)
 after ds x = option_map (λ (s : State). s.pages 5) (all_off fresh_table ds (made fresh_table x ds))

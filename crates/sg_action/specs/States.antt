@@ -7,8 +7,15 @@ use Rattle.sg_base.specs.Sheet.{Sheet, seen}
 use Rattle.sg_base.specs.Op.{Op, is_format}
 use Rattle.sg_ops.specs.Steps.{step}
 
--- what each page says, but for its number in the log, and the bytes of each band. A page of zeros says nothing
+-- how many pages and bands there are
+pub record Extent : Type 0 where
+  pub pages : ℕ
+  pub bands : ℕ
+
+-- what each page says, but for its number in the log, and the bytes of each band; and how many there are, which no change changes. A page of zeros
+-- says nothing
 pub record State : Type 0 where
+  pub size : Extent
   pub pages : ℕ → Option Sheet
   pub bands : ℕ → List ℕ
 

@@ -1,8 +1,8 @@
 -- An action that has logged nothing is over.
-use Rattle.std.proofs.Common.{◌≡◌, ◌≢◌, ℕ, ◌==◌, ◌<◌, ◌≤◌, List, [], ◌∷◌, Some, None, Bool, true, false, sym, ap, subst, ◌∙◌, refl, arith, inl, inr}
-use Rattle.std.specs.Prelude.{◌↔◌, IsTrue, if◌then◌else◌}
+use Rattle.std.proofs.Common.{◌≡◌, ◌≢◌, ℕ, ◌==◌, ◌≤◌, List, [], ◌∷◌, Some, Bool, true, false, sym, ap, subst, ◌∙◌, refl, arith, inl, inr}
+use Rattle.std.specs.Prelude.{◌↔◌, IsTrue}
 use Rattle.std.specs.Bool.{MatchBool}
-use Rattle.std.proofs.lemmas.Bool.{cases_Bool, cases_eq, eqb-true, eq-eqb}
+use Rattle.std.proofs.lemmas.Bool.{cases_eq, eqb-true, eq-eqb}
 use Rattle.std.proofs.lemmas.Bool.Decides.{nat_tests}
 use Rattle.sg_ops.specs.Laws.{IsLawful}
 use Rattle.sg_ops.specs.Table.{Table}
@@ -15,18 +15,18 @@ use Rattle.sg_action.specs.States.{State, Change as Changed}
 use Rattle.sg_actions.specs.Acting.{IsWell, IsChained}
 use Rattle.sg_actions.specs.Calls.{AreSettled}
 use Rattle.sg_actions.specs.Engine.{EngineView}
-use Rattle.sg_actions.specs.Rows.{last_in, HasRow, placed, rows_after, at_rest}
+use Rattle.sg_actions.specs.Rows.{last_in, placed, rows_after, at_rest}
 use Rattle.sg_actions.specs.Steps.{Steps, ended, opened, begin_of}
 use Rattle.sg_actions.specs.Taken.{is_set}
-use Rattle.sg_actions.specs.TakingOff.{AreLinked, IsSystemAt, IsRunning, AreRows}
-use Rattle.sg_actions.specs.View.{IsActing, IsKept}
+use Rattle.sg_actions.specs.TakingOff.{AreLinked, IsSystemAt, IsRunning, HasCommitted, AreRows}
+use Rattle.sg_actions.specs.View.{IsKept}
 use Rattle.sg_actions.specs.declared.rows.Actor.{Actor}
 use Rattle.sg_actions.specs.declared.rows.Row.{Row}
 use Rattle.sg_actions.proofs.Beginning.{idle_opened}
 use Rattle.sg_actions.proofs.Closing.{row_low}
 use Rattle.sg_actions.proofs.Ended.{well_ended}
 use Rattle.sg_actions.proofs.Flags.{some_of, and_left}
-use Rattle.sg_actions.proofs.Placing.{placed_other, placed_self, after_none, after_one}
+use Rattle.sg_actions.proofs.Placing.{placed_other, placed_self, placed_apart, after_none, after_one}
 
 -- WHERE THE LAST RECORD OF WHO ACTS is the one before the open action, no change is open
 after_before : (rs : Steps) (before : ℕ) (ds : List (Open Changing)) → AreLinked rs before ds → before ≤ next_off before ds
@@ -89,7 +89,7 @@ module _ (base : ℕ) (rs : Steps) (tail : ℕ) (rows : List Row) (actor : Actor
   }
 
   rows_by_system : actor.txn.0 ≡ 0 → AreRows rs tail rows at_rest
-  rows_by_system z = record { own = λ ne. absurd (ne refl); low = h.rows_are.low; others = λ u ne live. h.rows_are.others u (λ e. ne (e ∙ z)) live }
+  rows_by_system z = record { own = λ ne. absurd (ne refl); low = h.rows_are.low; others = λ u ne live. h.rows_are.others u (λ e. ne (e ∙ z)) live; apart = h.rows_are.apart; past = λ u last some ne there gone. h.rows_are.past u last some (λ e. ne (e ∙ z)) there gone }
 
   row : Row
   row = record { txn = actor.txn; last = actor.last }
@@ -105,6 +105,11 @@ module _ (base : ℕ) (rs : Steps) (tail : ℕ) (rows : List Row) (actor : Actor
         others = λ u ne live. elim (cases_eq u actor.txn.0) as (λ _. last_in (placed rows actor.txn.0 row) u ≡ Some (last_of u rs)) [
           | inl e ↦ subst (λ (k : ℕ). last_in (placed rows actor.txn.0 row) k ≡ Some (last_of k rs)) (sym e) (placed_self rows actor.txn.0 own.0 row own.1 refl ∙ ap Some (h.running.last_is (h.running.acting nz)))
           | inr d ↦ placed_other rows actor.txn.0 u row d (λ e. d (sym e)) ∙ h.rows_are.others u d live
+        ];
+        apart = placed_apart rows actor.txn.0 row h.rows_are.apart (λ some ne. absurd (ne refl));
+        past = λ u last some ne there gone. elim (cases_eq u actor.txn.0) as (λ _. HasCommitted rs u last) [
+          | inl e ↦ absurd (let on : is_in u (tally rs).live ≡ true = subst (λ (k : ℕ). is_in k (tally rs).live ≡ true) (sym e) (h.running.acting nz) in let no : true ≡ false = sym on ∙ gone in cc)
+          | inr d ↦ h.rows_are.past u last some d (sym (placed_other rows actor.txn.0 u row d (λ e. d (sym e))) ∙ there) gone
         ];
       }
 

@@ -5,7 +5,7 @@ use Rattle.std.proofs.Props.{props}
 use Rattle.std.specs.Prelude.{IsSome, map, Result, Ok, Err, OnOk, OnErr, IfOk}
 use Rattle.sg_alloc.specs.declared.maps.Maps.{Maps}
 use Rattle.sg_ops.specs.Laws.{IsLawful}
-use Rattle.sg_ops.specs.Table.{Table}
+use Rattle.sg_ops.specs.Table.{Table, fresh_table}
 use Rattle.sg_record.specs.Changes.{Change as Changing}
 use Rattle.sg_record.specs.Records.Says.{Changed as SaysChanged}
 use Rattle.sg_record.specs.Ranges.{IsRecord}
@@ -27,6 +27,7 @@ use Rattle.sg_actions.specs.View.{IsActing, IsKept, Since}
 use Rattle.sg_actions.specs.declared.rows.Actor.{Actor}
 use Rattle.sg_actions.specs.declared.rows.Row.{Row}
 use Rattle.sg_actions.specs.Onward.{at, went_rest, acting_to}
+use Rattle.sg_actions.proofs.Accounting.{accounted_by, still_full}
 use Rattle.sg_actions.proofs.Chained.{later}
 use Rattle.sg_actions.proofs.Repeating.{says_redone}
 use Rattle.sg_actions.proofs.InRange.{change_short}
@@ -95,6 +96,7 @@ pub record LooksBy {T : Type 0} (recovers : Table → Recovering) (t : Table) (e
   pub keeps : (from : State) → m t from → m' t from
   pub looks : (from : State) → m t from → EngineLooks (recovers t) t (led from e) (led from e') r
   pub whole : e'.Told → e'.failed ≡ false
+  pub full : e.full ≡ true → e.failed ≡ true
   pub now : (from : State) → m t from → e.Told → e.now ≡ now_of t (led from e)
   pub now' : (from : State) → m' t from → e'.Told → e'.now ≡ now_of t (led from e')
 
@@ -106,10 +108,10 @@ pub same_look : {T : Type 0} {recovers : Table → Recovering} {t : Table} {e e'
 same_look {T} {recovers} {t} {e} {e'} stands h told told' = ∥∥₁_elim stands (same_prop e e') (λ f. same_by t f.0 (h.now f.0 f.1 told) (h.now' f.0 (h.keeps f.0 f.1) told') (looked_by f.0 h f.1 told (h.whole told')).1.steps)
 
 -- whatever the operations are
-pub same_any : {T : Type 0} {recovers : Table → Recovering} {e e' : EngineSeen} {m m' : Table → State → Type 0} {r : Result T SpaceFault} → ∥ ((t : Table) × (from : State) × m t from) ∥₁ → ((t : Table) → LooksBy recovers t e e' m m' r) → e.Told → e'.Told → Same e e'
-same_any {T} {recovers} {e} {e'} {m} some h told told' = by_some m some (same_prop e e') (λ t stands. same_look stands (h t) told told')
+pub same_any : {T : Type 0} {recovers : Table → Recovering} {e e' : EngineSeen} {m m' : Table → State → Type 0} {r : Result T SpaceFault} → (e.Told → ∥ ((t : Table) × (from : State) × m t from) ∥₁) → ((t : Table) → LooksBy recovers t e e' m m' r) → e.Told → e'.Told → Same e e'
+same_any {T} {recovers} {e} {e'} {m} some h told told' = by_some m (some told) (same_prop e e') (λ t stands. same_look stands (h t) told told')
 
-pub said_any : {T : Type 0} {recovers : Table → Recovering} {e e' : EngineSeen} {m m' : Table → State → Type 0} {r : Result T SpaceFault} (pages : List Bool) → ∥ ((t : Table) × (from : State) × m t from) ∥₁ → ((t : Table) → LooksBy recovers t e e' m m' r)
+pub said_any : {T : Type 0} {recovers : Table → Recovering} {e e' : EngineSeen} {m m' : Table → State → Type 0} {r : Result T SpaceFault} (pages : List Bool) → (e.Told → ∥ ((t : Table) × (from : State) × m t from) ∥₁) → ((t : Table) → LooksBy recovers t e e' m m' r)
     → (e'.Told → e.Told) → (e.Told → AreSaid pages e.now.pages) → e'.Told → AreSaid pages e'.now.pages
 said_any {T} {recovers} {e} {e'} pages some h back said told' = let told = back told' in subst (λ (x : State). AreSaid pages x.pages) (sym (same_any some h told told').now) (said told)
 
@@ -123,6 +125,8 @@ later_look recovers limits t e e' m m' begin maps rows actor begun r h = record 
   tail = h.rests.counts.tail;
   faults = h.rests.counts.later;
   grown = let x = h.rests.tail in let y = h.rests.records in omega (arith, x, y);
+  accounts = accounted_by e e' r h.whole h.full h.rests.counts;
+  still = λ o. still_full e e' r h.rests.only_disk h.rests.counts;
   stops = h.rests.counts.stops;
   means = λ from s. record { stands = h.keeps from s.stands; since = λ o told'. let told = h.rests.counts.told told' in ap (begin_of t from) (looked_by from h s.stands told (h.whole told')).1.steps ∙ s.since o told };
   goes = λ from s told k. went_rest (recovers t) t limits (led from e) (led from e') maps rows actor begun k ((h.looks from s.stands).moments told) (looked_by from h s.stands told);
@@ -145,6 +149,7 @@ pub record LogsBy (recovers : Table → Recovering) (t : Table) (e e' : EngineSe
   pub keeps : (from : State) → m t from → m' t from
   pub logs : (from : State) → m t from → Logs (recovers t) t (led from e) (led from e') x r
   pub whole : e'.Told → e'.failed ≡ false
+  pub full : e.full ≡ true → e.failed ≡ true
   pub now : (from : State) → m t from → e.Told → e.now ≡ now_of t (led from e)
   pub now' : (from : State) → m' t from → e'.Told → e'.now ≡ now_of t (led from e')
   pub law : (from : State) → m t from → IsLawful t
@@ -179,6 +184,8 @@ later_log recovers limits t e e' m m' begin maps maps' rows actor new begun c r 
   tail = h.grows.counts.tail;
   faults = h.grows.counts.later;
   grown = grown_log e e' (by actor.txn.0 actor.last (SaysChanged c)) r (change_short actor.txn.0 actor.last c range) h.grows.counted h.grows.same h.grows.back h.grows.grown;
+  accounts = accounted_by e e' r h.whole h.full h.grows.counts;
+  still = λ o. no begun opens o;
   stops = h.grows.counts.stops;
   means = λ from s. record {
     stands = h.keeps from s.stands;
@@ -207,14 +214,14 @@ made_log recovers m m' {t} {e} {e'} {x} {s} {r} stands h is told told' = ∥∥�
     steps from (Ok lsn) bad good = (good.logged told).steps ∙ (ap (with_step e.steps lsn) is ∙ ap (λ (n : ℕ). stepped e.steps n s) good.tried)
 
 -- and each page that said something says something, also of those that were taken
-pub said_log : (recovers : Table → Recovering) (m m' : Table → State → Type 0) {t : Table} {e e' : EngineSeen} {x : Record} {s : Step} {r : Result ℕ SpaceFault} (pages : List Bool) → AreBy m t → LogsBy recovers t e e' m m' x r → step_of x ≡ Some s → (e.Told → AreSaid pages e.now.pages) → e'.Told → AreSaid pages e'.now.pages
+pub said_log : (recovers : Table → Recovering) (m m' : Table → State → Type 0) {t : Table} {e e' : EngineSeen} {x : Record} {s : Step} {r : Result ℕ SpaceFault} (pages : List Bool) → (e.Told → AreBy m t) → LogsBy recovers t e e' m m' x r → step_of x ≡ Some s → (e.Told → AreSaid pages e.now.pages) → e'.Told → AreSaid pages e'.now.pages
 said_log recovers m m' {t} {e} {e'} {x} {s} pages stands h is said told' n set =
     let told = h.grows.counts.told told' in
-    subst (λ (y : State). IsSome (y.pages n)) (sym (made_log recovers m m' stands h is told told').now) (says_redone t e.now s n (said told n set))
+    subst (λ (y : State). IsSome (y.pages n)) (sym (made_log recovers m m' (stands told) h is told told').now) (says_redone t e.now s n (said told n set))
 
-pub said_log_any : (recovers : Table → Recovering) (m m' : Table → State → Type 0) {e e' : EngineSeen} {x : Record} {s : Step} {r : Result ℕ SpaceFault} (pages : List Bool) → ∥ ((t : Table) × (from : State) × m t from) ∥₁ → ((t : Table) → LogsBy recovers t e e' m m' x r) → step_of x ≡ Some s → (e.Told → AreSaid pages e.now.pages)
+pub said_log_any : (recovers : Table → Recovering) (m m' : Table → State → Type 0) {e e' : EngineSeen} {x : Record} {s : Step} {r : Result ℕ SpaceFault} (pages : List Bool) → (e.Told → ∥ ((t : Table) × (from : State) × m t from) ∥₁) → ((t : Table) → LogsBy recovers t e e' m m' x r) → step_of x ≡ Some s → (e.Told → AreSaid pages e.now.pages)
     → e'.Told → AreSaid pages e'.now.pages
-said_log_any recovers m m' {e} {e'} pages some h is said told' n set = by_some m some (hlevel props) (λ t stands. said_log recovers m m' pages stands (h t) is said told' n set)
+said_log_any recovers m m' {e} {e'} pages some h is said told' n set = by_some m (some ((h fresh_table).grows.counts.told told')) (hlevel props) (λ t stands. said_log recovers m m' pages (λ told. stands) (h t) is said told' n set)
 
 -- A record that is no step changes nothing
 pub same_log : (recovers : Table → Recovering) (m m' : Table → State → Type 0) {t : Table} {e e' : EngineSeen} {x : Record} {r : Result ℕ SpaceFault} → AreBy m t → LogsBy recovers t e e' m m' x r → step_of x ≡ None → e.Told → e'.Told → Same e e'
@@ -224,8 +231,8 @@ same_log recovers m m' {t} {e} {e'} {x} {r} stands h is told told' = ∥∥₁_e
     steps from (Err f) bad good = no e'.failed bad (h.whole told')
     steps from (Ok lsn) bad good = (good.logged told).steps ∙ ap (with_step e.steps lsn) is
 
-pub said_none_any : (recovers : Table → Recovering) (m m' : Table → State → Type 0) {e e' : EngineSeen} {x : Record} {r : Result ℕ SpaceFault} (pages : List Bool) → ∥ ((t : Table) × (from : State) × m t from) ∥₁ → ((t : Table) → LogsBy recovers t e e' m m' x r) → step_of x ≡ None → (e'.Told → e.Told)
+pub said_none_any : (recovers : Table → Recovering) (m m' : Table → State → Type 0) {e e' : EngineSeen} {x : Record} {r : Result ℕ SpaceFault} (pages : List Bool) → (e.Told → ∥ ((t : Table) × (from : State) × m t from) ∥₁) → ((t : Table) → LogsBy recovers t e e' m m' x r) → step_of x ≡ None → (e'.Told → e.Told)
     → (e.Told → AreSaid pages e.now.pages) → e'.Told → AreSaid pages e'.now.pages
 said_none_any recovers m m' {e} {e'} pages some h is back said told' =
     let told = back told' in
-    subst (λ (y : State). AreSaid pages y.pages) (sym (by_some m some (same_prop e e') (λ t stands. same_log recovers m m' stands (h t) is told told')).now) (said told)
+    subst (λ (y : State). AreSaid pages y.pages) (sym (by_some m (some told) (same_prop e e') (λ t stands. same_log recovers m m' stands (h t) is told told')).now) (said told)

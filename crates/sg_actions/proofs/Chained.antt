@@ -6,7 +6,8 @@ use Rattle.std.proofs.lemmas.Bool.Decides.{nat_tests}
 use Rattle.sg_record.specs.Changes.{Change as Changing}
 use Rattle.sg_recovery.specs.Laws.{Each}
 use Rattle.sg_recovery.specs.Log.{Open, said, tally, is_in, open_of, open_up_to, open_not_of}
-use Rattle.sg_recovery.specs.Log.Record.{Begin, Change, TopEnd, PhysComp, TopVoid}
+use Rattle.sg_recovery.specs.Log.Record.{Begin, Change, TopEnd, PhysComp, TopVoid, CompEnd, Save, Commit, End}
+use Rattle.sg_recovery.specs.Ending.{newest, EndsWell, IsOver}
 use Rattle.sg_recovery.specs.Chains.{txn_of, is_border, last_of, border_of, next_lsn, next_off, Formed, Follows, IsKnown}
 use Rattle.sg_recovery.specs.Formed.{IsUnfinished, OneAction, IsBetween, IsLog}
 use Rattle.sg_recovery.specs.TakeOff.{IsOwned, IsBefore, PrecedesSystem, GoesOnSystem, FollowsSystem}
@@ -14,12 +15,12 @@ use Rattle.sg_actions.specs.Acting.{IsChained}
 use Rattle.sg_recovery.specs.Formed.{IsStraight}
 use Rattle.sg_actions.specs.Rows.{last_in, placed, at_rest}
 use Rattle.sg_actions.proofs.Flags.{some_of}
-use Rattle.sg_actions.proofs.Placing.{placed_other, placed_own, placed_self}
+use Rattle.sg_actions.proofs.Placing.{placed_other, placed_own, placed_self, placed_apart}
 use Rattle.sg_recovery.proofs.Chaining.{sound, live_below, clash}
 use Rattle.sg_recovery.proofs.TakeOff.{all_own}
 use Rattle.std.specs.Bool.{MatchBool}
 use Rattle.sg_actions.specs.Steps.{Step, Steps, step_at, stepped, ended}
-use Rattle.sg_actions.specs.TakingOff.{AreLinked, IsSystemAt, IsRunning, AreRows}
+use Rattle.sg_actions.specs.TakingOff.{AreLinked, IsSystemAt, IsRunning, HasCommitted, AreRows}
 use Rattle.sg_actions.specs.declared.rows.Actor.{Actor}
 use Rattle.sg_actions.specs.declared.rows.Row.{Row}
 
@@ -48,6 +49,21 @@ border_stays l x rs u e = ap (λ (b : Bool). if b then l else border_of u rs) (a
 
 pub border_there : (l : ℕ) (x : Step) (rs : Steps) (u : ℕ) → u ≢ txn_of x → border_of u (stepped rs l x) ≡ border_of u rs
 border_there l x rs u ne = ap (λ (b : Bool). if b && is_border x then l else border_of u rs) (apart (txn_of x) u ne)
+
+newest_there : (l : ℕ) (x : Step) (rs : Steps) (u : ℕ) → u ≢ txn_of x → newest u (stepped rs l x) ≡ newest u rs
+newest_there l x rs u ne = ap (λ (b : Bool). if b then Some x else newest u rs) (apart (txn_of x) u ne)
+
+-- a transaction has committed, also behind a record of another
+pub committed_there : (l : ℕ) (x : Step) (rs : Steps) (u last : ℕ) → u ≢ txn_of x → HasCommitted rs u last → HasCommitted (stepped rs l x) u last
+committed_there l x rs u last ne h = record { last_is = h.last_is ∙ sym (last_there l x rs u ne); previous = h.previous; newest_is = newest_there l x rs u ne ∙ h.newest_is }
+
+-- and behind its commit
+pub committed_here : (l previous t : ℕ) (rs : Steps) → HasCommitted (stepped rs l (Commit t previous)) t l
+committed_here l previous t rs = record {
+  last_is = sym (last_here l (Commit t previous) rs);
+  previous = previous;
+  newest_is = ap (λ (b : Bool). if b then Some (Commit t previous) else newest t rs) (same t);
+}
 
 -- who acts, with another last record
 abbrev pub later : Actor → ℕ → Actor
@@ -118,17 +134,31 @@ one_action rs actor alone acting = record {
     ]
 
 -- a record more in a formed log
-pub log_more : (base : ℕ) (rs : Steps) (l : ℕ) (x : Step) → IsLog base rs → base ≤ l → next_lsn rs ≤ l → IsOwned l x → (IsKnown (tally rs) x → Follows rs l x) → (txn_of x ≡ 0 → FollowsSystem base rs x) → IsBetween rs x → IsStraight rs x → OneAction (stepped rs l x)
-    → IsLog base (stepped rs l x)
-log_more base rs l x h low below owned follows system between straight one = record {
+pub log_more : (base : ℕ) (rs : Steps) (l : ℕ) (x : Step) → IsLog base rs → base ≤ l → next_lsn rs ≤ l → IsOwned l x → (IsKnown (tally rs) x → Follows rs l x) → (txn_of x ≡ 0 → FollowsSystem base rs x) → IsBetween rs x → IsStraight rs x → EndsWell rs x → IsOver base rs x
+    → OneAction (stepped rs l x) → IsLog base (stepped rs l x)
+log_more base rs l x h low below owned follows system between straight ended over one = record {
   above = (low, h.above);
   owned = (owned, h.owned);
   chained = (below, follows, h.chained);
   system = (system, h.system);
   between = (between, h.between);
   straight = (straight, h.straight);
+  ended = (ended, h.ended);
+  over = (over, h.over);
   one_action = one;
 }
+
+-- a record of the system, or of a transaction that goes on, is behind no end
+pub goes_over : (base : ℕ) (rs : Steps) (x : Step) → (txn_of x ≢ 0 → is_in (txn_of x) (tally rs).live ≡ true) → IsOver base rs x
+goes_over base rs (Begin t p) acts = tt
+goes_over base rs (Change t p c) acts = λ some gone. absurd (clash (is_in t (tally rs).live) gone (acts some))
+goes_over base rs (TopEnd t p u n) acts = λ some gone. absurd (clash (is_in t (tally rs).live) gone (acts some))
+goes_over base rs (PhysComp t p u c) acts = λ some gone. absurd (clash (is_in t (tally rs).live) gone (acts some))
+goes_over base rs (TopVoid t p u) acts = λ some gone. absurd (clash (is_in t (tally rs).live) gone (acts some))
+goes_over base rs (CompEnd t p u) acts = λ some gone. absurd (clash (is_in t (tally rs).live) gone (acts some))
+goes_over base rs (Save t p m) acts = λ some gone. absurd (clash (is_in t (tally rs).live) gone (acts some))
+goes_over base rs (Commit t p) acts = λ some gone. absurd (clash (is_in t (tally rs).live) gone (acts some))
+goes_over base rs (End t p) acts = λ some gone. absurd (clash (is_in t (tally rs).live) gone (acts some))
 
 pub own_low : {base : ℕ} {rs : Steps} {tail : ℕ} {actor : Actor} → IsRunning base rs tail actor → actor.txn.0 < tail
 own_low {base} {rs} {tail} {actor} h = elim (cases_eq actor.txn.0 0) as (λ _. actor.txn.0 < tail) [
@@ -184,8 +214,8 @@ system_straight {base} {rs} {tail} {actor} h at z = by_list (tally rs).opened h.
     by_list (d ∷ ds) linked is true e m = absurd (omega (arith, is, m, linked.1))
     by_list (d ∷ ds) linked is false e m = omega (arith, is, m)
 
--- a change of who acts goes straight on
-straight_on : {base : ℕ} {rs : Steps} {tail : ℕ} {actor : Actor} → IsRunning base rs tail actor → actor.last ≡ next_off actor.before (tally rs).opened → (actor.txn.0 ≡ 0) ⊎ (is_in actor.txn.0 (tally rs).live ≡ true)
+-- a change of who acts goes straight on, and its action ends behind its last change
+pub straight_on : {base : ℕ} {rs : Steps} {tail : ℕ} {actor : Actor} → IsRunning base rs tail actor → actor.last ≡ next_off actor.before (tally rs).opened → (actor.txn.0 ≡ 0) ⊎ (is_in actor.txn.0 (tally rs).live ≡ true)
     → last_of actor.txn.0 rs ≡ next_off (border_of actor.txn.0 rs) (open_of actor.txn.0 (tally rs).opened)
 straight_on {base} {rs} {tail} {actor} h at (inr live) = sym (h.last_is live) ∙ (at ∙ (λ j. next_off (h.before_is live j) (sym (all_own actor.txn.0 (tally rs).opened h.owned) j)))
 straight_on {base} {rs} {tail} {actor} h at (inl z) =
@@ -206,7 +236,7 @@ at_end rs e = (refl, subst (λ (b : Bool). MatchBool b (at_rest.last ≡ 0) (at_
 pub running_change : {base : ℕ} {rs : Steps} {tail next : ℕ} {actor : Actor} (c : Changing) → tail < next → actor.last ≡ next_off actor.before (tally rs).opened → IsRunning base rs tail actor
     → IsRunning base (stepped rs tail (Change actor.txn.0 actor.last c)) next (later actor tail)
 running_change {base} {rs} {tail} {next} {actor} c less at h = record {
-  log = log_more base rs tail x h.log h.based h.below (own_low h) h.last_is (λ z. precedes h z) tt (λ acts. straight_on h at acts) (one_action (stepped rs tail x) actor alone h.acting);
+  log = log_more base rs tail x h.log h.based h.below (own_low h) h.last_is (λ z. precedes h z) tt (λ acts. straight_on h at acts) tt (goes_over base rs x h.acting) (one_action (stepped rs tail x) actor alone h.acting);
   based = omega (arith, h.based, less);
   below = omega (arith, less);
   system = h.system;
@@ -236,7 +266,7 @@ pub running_comp : {base : ℕ} {rs : Steps} {tail next : ℕ} {actor : Actor} (
     → open_up_to actor.txn.0 (next_off actor.before ds) (tally rs).opened ≡ ds → IsRunning base rs tail actor → IsRunning base (stepped rs tail (PhysComp actor.txn.0 actor.last (next_off actor.before ds) c)) next (later actor tail)
 running_comp {base} {rs} {tail} {next} {actor} c d ds less is leaves h = record {
   log = log_more base rs tail x h.log h.based h.below (own_low h) (λ known. (h.last_is known, (d, ds, mine, ap (λ (n : ℕ). next_off n ds) (h.before_is known)))) (λ z. (precedes h z, goes z)) tt tt
-      (one_action (stepped rs tail x) actor alone h.acting);
+      tt (goes_over base rs x h.acting) (one_action (stepped rs tail x) actor alone h.acting);
   based = omega (arith, h.based, less);
   below = omega (arith, less);
   system = h.system;
@@ -285,9 +315,9 @@ all_ended rs l x t of ends alone u = elim (cases_eq u (txn_of x)) as (λ _. last
 
 -- THE END OF AN ACTION, of a transaction or of the system
 pub running_end : {base : ℕ} {rs : Steps} {tail next : ℕ} {actor : Actor} (x : Step) → txn_of x ≡ actor.txn.0 → is_border x ≡ true → tail < next → (said tail x (tally rs)).live ≡ (tally rs).live → (said tail x (tally rs)).opened ≡ []
-    → IsOwned tail x → (IsKnown (tally rs) x → Follows rs tail x) → (actor.txn.0 ≡ 0 → FollowsSystem base rs x) → IsBetween rs x → IsStraight rs x → IsRunning base rs tail actor → IsRunning base (stepped rs tail x) next at_rest
-running_end {base} {rs} {tail} {next} {actor} x of ends less lives none owned follows system between straight h = record {
-  log = log_more base rs tail x h.log h.based h.below owned follows (λ z. system (sym of ∙ z)) between straight (one_action (stepped rs tail x) at_rest (λ u ne. ended_all u) (λ ne. absurd (ne refl)));
+    → IsOwned tail x → (IsKnown (tally rs) x → Follows rs tail x) → (actor.txn.0 ≡ 0 → FollowsSystem base rs x) → IsBetween rs x → IsStraight rs x → EndsWell rs x → IsRunning base rs tail actor → IsRunning base (stepped rs tail x) next at_rest
+running_end {base} {rs} {tail} {next} {actor} x of ends less lives none owned follows system between straight well h = record {
+  log = log_more base rs tail x h.log h.based h.below owned follows (λ z. system (sym of ∙ z)) between straight well (goes_over base rs x acts) (one_action (stepped rs tail x) at_rest (λ u ne. ended_all u) (λ ne. absurd (ne refl)));
   based = omega (arith, h.based, less);
   below = omega (arith, less);
   system = off;
@@ -307,23 +337,27 @@ running_end {base} {rs} {tail} {next} {actor} x of ends less lives none owned fo
     off : is_in 0 (said tail x (tally rs)).live ≡ false
     off = ap (is_in 0) lives ∙ h.system
 
+    acts : txn_of x ≢ 0 → is_in (txn_of x) (tally rs).live ≡ true
+    acts some = subst (λ (u : ℕ). is_in u (tally rs).live ≡ true) (sym of) (h.acting (λ z. some (of ∙ z)))
+
 pub none_open : {base : ℕ} {rs : Steps} {tail : ℕ} {actor : Actor} → IsRunning base rs tail actor → open_not_of actor.txn.0 (tally rs).opened ≡ []
 none_open {base} {rs} {tail} {actor} h = own_gone actor.txn.0 (tally rs).opened h.owned
 
-pub running_top : {base : ℕ} {rs : Steps} {tail next : ℕ} {actor : Actor} (note : List ℕ) → tail < next → IsRunning base rs tail actor → IsRunning base (stepped rs tail (TopEnd actor.txn.0 actor.last actor.before note)) next at_rest
-running_top {base} {rs} {tail} {next} {actor} note less h =
-    running_end (TopEnd actor.txn.0 actor.last actor.before note) refl refl less refl (none_open h) (own_low h) (λ known. (h.last_is known, h.before_is known)) (λ z. (precedes h z, (h.system_is z).0)) tt tt h
+pub running_top : {base : ℕ} {rs : Steps} {tail next : ℕ} {actor : Actor} (note : List ℕ) → tail < next → actor.last ≡ next_off actor.before (tally rs).opened → IsRunning base rs tail actor
+    → IsRunning base (stepped rs tail (TopEnd actor.txn.0 actor.last actor.before note)) next at_rest
+running_top {base} {rs} {tail} {next} {actor} note less at h =
+    running_end (TopEnd actor.txn.0 actor.last actor.before note) refl refl less refl (none_open h) (own_low h) (λ known. (h.last_is known, h.before_is known)) (λ z. (precedes h z, (h.system_is z).0)) tt tt (λ acts. straight_on h at acts) h
 
 pub running_void : {base : ℕ} {rs : Steps} {tail next : ℕ} {actor : Actor} → tail < next → (tally rs).opened ≡ [] → IsRunning base rs tail actor → IsRunning base (stepped rs tail (TopVoid actor.txn.0 actor.last actor.before)) next at_rest
 running_void {base} {rs} {tail} {next} {actor} less none h =
     let mine = all_own actor.txn.0 (tally rs).opened h.owned ∙ none in
     running_end (TopVoid actor.txn.0 actor.last actor.before) refl refl less refl (none_open h) (own_low h) (λ known. (h.last_is known, mine, h.before_is known))
-    (λ z. (precedes h z, subst (λ (k : ℕ). open_of k (tally rs).opened ≡ []) z mine, (h.system_is z).0)) tt tt h
+    (λ z. (precedes h z, subst (λ (k : ℕ). open_of k (tally rs).opened ≡ []) z mine, (h.system_is z).0)) tt tt tt h
 
 -- A BEGIN, while the system acts and no action is open
 pub running_begin : {base : ℕ} {rs : Steps} {tail next : ℕ} {actor : Actor} → tail < next → actor.txn.0 ≡ 0 → IsRunning base rs tail actor → IsRunning base (stepped rs tail (Begin tail 0)) next actor
 running_begin {base} {rs} {tail} {next} {actor} less rest h = record {
-  log = log_more base rs tail x h.log h.based h.below refl (λ known. (refl, refl)) (λ z. absurd (omega (arith, z, positive))) tt tt (one_action (stepped rs tail x) actor alone (λ ne. absurd (ne rest)));
+  log = log_more base rs tail x h.log h.based h.below refl (λ known. (refl, refl)) (λ z. absurd (omega (arith, z, positive))) tt tt tt tt (one_action (stepped rs tail x) actor alone (λ ne. absurd (ne rest)));
   based = omega (arith, h.based, less);
   below = omega (arith, less);
   system = system;
@@ -406,6 +440,8 @@ rows_step {rs} {tail} {next} {rows} {actor} x of lives less h = record {
   own = h.own;
   low = λ u far. h.low u (omega (arith, far, less));
   others = λ u ne live. h.others u ne (sym (ap (is_in u) lives) ∙ live) ∙ ap Some (sym (last_there tail x rs u (λ e. ne (e ∙ of))));
+  apart = h.apart;
+  past = λ u last some ne there gone. committed_there tail x rs u last (λ e. ne (e ∙ of)) (h.past u last some ne there (sym (ap (is_in u) lives) ∙ gone));
 }
 
 pub rows_begin : {rs : Steps} {tail next : ℕ} {rows : List Row} {actor : Actor} (row : Row) (last : ℕ) → 1 ≤ tail → tail < next → actor.txn.0 ≡ 0 → is_in 0 (tally rs).live ≡ false → last_in rows 0 ≡ Some last → row.txn.0 ≡ tail → row.last ≡ tail
@@ -420,6 +456,13 @@ rows_begin {rs} {tail} {next} {rows} {actor} row last positive less rest system 
         let was : is_in u (tally rs).live ≡ true = sym (or_right (tail == u) (is_in u (tally rs).live) (apart tail u d)) ∙ live in
         placed_other rows 0 u row (no_zero rs u system was) (λ e. d (sym e ∙ is_row)) ∙ (h.others u ne was ∙ ap Some (sym (last_there tail x rs u d)))
   ];
+  apart = placed_apart rows 0 row h.apart (λ some ne. h.low row.txn.0 (omega (arith, is_row)));
+  past = λ u last' some ne there gone. elim (cases_eq u tail) as (λ _. HasCommitted (stepped rs tail x) u last') [
+    | inl e ↦ absurd (clash (is_in u (tail ∷ (tally rs).live)) gone (ap (λ (b : Bool). b || is_in u (tally rs).live) (let f : (tail == u) ≡ true = grind (arith, nat_tests, e) in f)))
+    | inr d ↦
+        let was : is_in u (tally rs).live ≡ false = sym (or_right (tail == u) (is_in u (tally rs).live) (apart tail u d)) ∙ gone in
+        committed_there tail x rs u last' d (h.past u last' some ne (sym (placed_other rows 0 u row some (λ e. d (sym e ∙ is_row))) ∙ there) was)
+  ];
 }
   where
     x : Step
@@ -430,12 +473,14 @@ rows_act {rs} {tail} {rows} {actor} new rest system row h = record {
   own = λ z. subst (λ (p : Option ℕ). IsSome p) (sym row) refl;
   low = h.low;
   others = λ u ne z. h.others u (λ e. no_zero rs u system z (e ∙ rest)) z;
+  apart = h.apart;
+  past = λ u last some ne there gone. h.past u last some (λ e. some (e ∙ rest)) there gone;
 }
 
 -- behind one that ends an action of a transaction
 pub rows_top : {rs : Steps} {tail next : ℕ} {rows : List Row} {actor : Actor} (x : Step) (row : Row) → txn_of x ≡ actor.txn.0 → (said tail x (tally rs)).live ≡ (tally rs).live → tail < next → actor.txn.0 < tail → actor.txn.0 ≢ 0
-    → row.txn.0 ≡ actor.txn.0 → row.last ≡ tail → AreRows rs tail rows actor → AreRows (stepped rs tail x) next (placed rows actor.txn.0 row) at_rest
-rows_top {rs} {tail} {next} {rows} {actor} x row of lives less before acts is_row is_last h =
+    → is_in actor.txn.0 (tally rs).live ≡ true → row.txn.0 ≡ actor.txn.0 → row.last ≡ tail → AreRows rs tail rows actor → AreRows (stepped rs tail x) next (placed rows actor.txn.0 row) at_rest
+rows_top {rs} {tail} {next} {rows} {actor} x row of lives less before acts on is_row is_last h =
     let there = some_of (last_in rows actor.txn.0) (h.own acts) in
     record {
       own = λ ne. absurd (ne refl);
@@ -444,6 +489,11 @@ rows_top {rs} {tail} {next} {rows} {actor} x row of lives less before acts is_ro
         | inl e ↦ subst (λ (k : ℕ). last_in (placed rows actor.txn.0 row) k ≡ Some (last_of k (stepped rs tail x))) (sym e)
             (placed_self rows actor.txn.0 there.0 row there.1 is_row ∙ (ap Some is_last ∙ ap Some (sym (subst (λ (k : ℕ). last_of k (stepped rs tail x) ≡ tail) of (last_here tail x rs)))))
         | inr d ↦ placed_other rows actor.txn.0 u row d (λ e. d (sym e ∙ is_row)) ∙ (h.others u d (sym (ap (is_in u) lives) ∙ live) ∙ ap Some (sym (last_there tail x rs u (λ e. d (e ∙ of)))))
+      ];
+      apart = placed_apart rows actor.txn.0 row h.apart (λ some ne. absurd (ne is_row));
+      past = λ u last some ne there gone. let was : is_in u (tally rs).live ≡ false = sym (ap (is_in u) lives) ∙ gone in elim (cases_eq u actor.txn.0) as (λ _. HasCommitted (stepped rs tail x) u last) [
+        | inl e ↦ absurd (clash (is_in u (tally rs).live) was (subst (λ (k : ℕ). is_in k (tally rs).live ≡ true) (sym e) on))
+        | inr d ↦ committed_there tail x rs u last (λ e. d (e ∙ of)) (h.past u last some d (sym (placed_other rows actor.txn.0 u row d (λ e. d (sym e ∙ is_row))) ∙ there) was)
       ];
     }
 
@@ -454,10 +504,12 @@ rows_top_system {rs} {tail} {next} {rows} {actor} x of lives less acts h = recor
   own = λ ne. absurd (ne refl);
   low = λ u far. h.low u (omega (arith, far, less));
   others = λ u ne live. let d : u ≢ actor.txn.0 = λ e. ne (e ∙ acts) in h.others u d (sym (ap (is_in u) lives) ∙ live) ∙ ap Some (sym (last_there tail x rs u (λ e. d (e ∙ of))));
+  apart = h.apart;
+  past = λ u last some ne there gone. let d : u ≢ actor.txn.0 = λ e. ne (e ∙ acts) in committed_there tail x rs u last (λ e. d (e ∙ of)) (h.past u last some d there (sym (ap (is_in u) lives) ∙ gone));
 }
 
 pub rows_later : {rs : Steps} {tail next : ℕ} {rows : List Row} {actor : Actor} → tail ≤ next → AreRows rs tail rows actor → AreRows rs next rows actor
-rows_later {rs} {tail} {next} {rows} {actor} le h = record { own = h.own; low = λ u far. h.low u (omega (arith, far, le)); others = h.others }
+rows_later {rs} {tail} {next} {rows} {actor} le h = record { own = h.own; low = λ u far. h.low u (omega (arith, far, le)); others = h.others; apart = h.apart; past = h.past }
 
 -- THE CHAIN
 
@@ -502,8 +554,8 @@ chain_act base rs tail rows actor new idle rest live row both h =
 pub chain_top : (base : ℕ) (rs : Steps) (tail next : ℕ) (rows : List Row) (actor : Actor) (row : Row) (note : List ℕ) → tail < next → actor.txn.0 ≢ 0 → row.txn.0 ≡ actor.txn.0 → row.last ≡ tail
     → IsChained base rs tail rows actor → IsChained base (stepped rs tail (TopEnd actor.txn.0 actor.last actor.before note)) next (placed rows actor.txn.0 row) at_rest
 chain_top base rs tail next rows actor row note less acts is_row is_last h = record {
-  running = running_top note less h.running;
-  rows_are = rows_top (TopEnd actor.txn.0 actor.last actor.before note) row refl refl less (own_low h.running) acts is_row is_last h.rows_are;
+  running = running_top note less h.at h.running;
+  rows_are = rows_top (TopEnd actor.txn.0 actor.last actor.before note) row refl refl less (own_low h.running) acts (h.running.acting acts) is_row is_last h.rows_are;
   closed = none_open h.running;
   at = sym (ap (next_off 0) (none_open h.running));
 }
@@ -511,7 +563,7 @@ chain_top base rs tail next rows actor row note less acts is_row is_last h = rec
 pub chain_top_system : (base : ℕ) (rs : Steps) (tail next : ℕ) (rows : List Row) (actor : Actor) (note : List ℕ) → tail < next → actor.txn.0 ≡ 0
     → IsChained base rs tail rows actor → IsChained base (stepped rs tail (TopEnd actor.txn.0 actor.last actor.before note)) next rows at_rest
 chain_top_system base rs tail next rows actor note less acts h = record {
-  running = running_top note less h.running;
+  running = running_top note less h.at h.running;
   rows_are = rows_top_system (TopEnd actor.txn.0 actor.last actor.before note) refl refl less acts h.rows_are;
   closed = none_open h.running;
   at = sym (ap (next_off 0) (none_open h.running));

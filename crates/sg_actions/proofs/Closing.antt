@@ -12,6 +12,7 @@ use Rattle.sg_record.specs.Changes.{Change as Changing}
 use Rattle.sg_record.specs.Records.Says.{CompEnd as SaysCompEnd, Save as SaysSave, Commit as SaysCommit, End as SaysEnd}
 use Rattle.sg_record.specs.Records.{Record}
 use Rattle.sg_record.specs.Shown.{by}
+use Rattle.sg_recovery.specs.Ending.{EndsWell, MayBeBehind, IsOver}
 use Rattle.sg_recovery.specs.Formed.{IsBetween as Between}
 use Rattle.sg_recovery.specs.Laws.{Each}
 use Rattle.sg_recovery.specs.Log.{Open, said, tally, is_in, without, open_of, notes_of}
@@ -20,7 +21,7 @@ use Rattle.sg_recovery.specs.TakeOff.{IsOwned}
 use Rattle.sg_recovery.specs.Chains.{txn_of, is_border, last_of, border_of, next_off, Formed, Follows, IsKnown, IsStanding}
 use Rattle.sg_recovery.proofs.Basic.{each_kept, number_is, lt_is, lt_not}
 use Rattle.sg_recovery.proofs.Chaining.{clash, sound}
-use Rattle.sg_recovery.proofs.Showing.{without_not, without_in}
+use Rattle.sg_recovery.proofs.Showing.{without_not, without_in, without_same}
 use Rattle.sg_action.specs.States.{State, Change as Changed}
 use Rattle.sg_space.specs.declared.space.SpaceFault.{SpaceFault}
 use Rattle.sg_actions.specs.Acting.{IsWell, IsChained}
@@ -32,20 +33,20 @@ use Rattle.sg_actions.specs.Led.{Appended, HasLogged, LogCall, Stayed, HasStayed
 use Rattle.sg_actions.specs.Growing.{grows_same, grows_then, moments_then}
 use Rattle.sg_actions.specs.Images.{Grows, Recovering}
 use Rattle.sg_actions.specs.Onward.{acting_to}
-use Rattle.sg_actions.specs.Rows.{last_in, HasRow, placed, rows_after, at_rest}
+use Rattle.sg_actions.specs.Rows.{last_in, HasRow, AreApart, placed, rows_after, at_rest}
 use Rattle.sg_actions.specs.Steps.{Step, Steps, step_of, with_step, stepped, repeated, opened, ended, begin_of}
 use Rattle.sg_recovery.specs.Formed.{IsStraight}
-use Rattle.sg_actions.specs.TakingOff.{AreLinked, IsRunning}
+use Rattle.sg_actions.specs.TakingOff.{AreLinked, IsRunning, HasCommitted}
 use Rattle.sg_actions.specs.View.{IsKept}
 use Rattle.sg_actions.specs.declared.rows.Actor.{Actor}
 use Rattle.sg_actions.specs.declared.rows.Row.{Row}
 use Rattle.sg_actions.specs.Taken.{is_set}
 use Rattle.sg_actions.proofs.Beginning.{idle_opened, well_idle}
-use Rattle.sg_actions.proofs.Chained.{last_here, last_there, border_here, border_there, no_zero, own_low, none_open, log_more, one_action, rows_top, running_end, running_later, chain_later}
+use Rattle.sg_actions.proofs.Chained.{last_here, last_there, border_here, border_there, committed_there, committed_here, no_zero, own_low, none_open, log_more, goes_over, straight_on, one_action, rows_top, running_end, running_later, chain_later}
 use Rattle.sg_actions.proofs.Ended.{well_ended}
 use Rattle.sg_actions.proofs.Flags.{some_of, and_left}
 use Rattle.sg_actions.proofs.Led.{call_gone}
-use Rattle.sg_actions.proofs.Placing.{placed_other, placed_self, after_one}
+use Rattle.sg_actions.proofs.Placing.{placed_other, placed_self, none_placed, placed_apart, after_one}
 use Rattle.sg_actions.proofs.Repeating.{made_opened}
 
 none_some : {A : Type 0} (x : A) → None ≡ Some x → ⊥
@@ -71,10 +72,10 @@ stands base rs tail rows actor t last rest row h live =
 
 -- A RECORD BETWEEN ACTIONS, of a transaction, by what it leaves of those that go on
 running_between : {base : ℕ} {rs : Steps} {tail next : ℕ} {actor : Actor} (x : Step) → tail < next → actor.txn.0 ≡ 0 → is_border x ≡ true → txn_of x ≢ 0 → (said tail x (tally rs)).opened ≡ []
-    → ((u : ℕ) → is_in u (said tail x (tally rs)).live ≡ true → is_in u (tally rs).live ≡ true) → IsOwned tail x → (IsKnown (tally rs) x → Follows rs tail x) → Between rs x → IsStraight rs x
+    → ((u : ℕ) → is_in u (said tail x (tally rs)).live ≡ true → is_in u (tally rs).live ≡ true) → IsOwned tail x → (IsKnown (tally rs) x → Follows rs tail x) → Between rs x → IsStraight rs x → EndsWell rs x → IsOver base rs x
     → IsRunning base rs tail actor → IsRunning base (stepped rs tail x) next actor
-running_between {base} {rs} {tail} {next} {actor} x less rest border nz none fewer owned follows between straight h = record {
-  log = log_more base rs tail x h.log h.based h.below owned follows (λ z. absurd (nz z)) between straight (one_action (stepped rs tail x) actor alone (λ ne. absurd (ne rest)));
+running_between {base} {rs} {tail} {next} {actor} x less rest border nz none fewer owned follows between straight ended over h = record {
+  log = log_more base rs tail x h.log h.based h.below owned follows (λ z. absurd (nz z)) between straight ended over (one_action (stepped rs tail x) actor alone (λ ne. absurd (ne rest)));
   based = omega (arith, h.based, less);
   below = omega (arith, less);
   system = system;
@@ -106,11 +107,14 @@ running_between {base} {rs} {tail} {next} {actor} x less rest border nz none few
       | inr d ↦ last_there tail x rs u d ∙ (h.alone u ne ∙ sym (border_there tail x rs u d))
     ]
 
+-- and the rows behind it: where it is the commit of the transaction, its row says it; where it is its end, it has none
 chain_between : (base : ℕ) (rs : Steps) (tail next : ℕ) (rows rows' : List Row) (actor : Actor) (x : Step) → tail < next → actor.txn.0 ≡ 0 → (said tail x (tally rs)).opened ≡ [] → (tally (ended (stepped rs tail x))).opened ≡ [] → (tally rs).opened ≡ []
     → ((u : ℕ) → is_in u (said tail x (tally rs)).live ≡ true → is_in u (tally rs).live ≡ true) → ((u : ℕ) → next ≤ u → last_in rows' u ≡ None) → (is_in (txn_of x) (said tail x (tally rs)).live ≡ true → last_in rows' (txn_of x) ≡ Some tail)
-    → ((u : ℕ) → u ≢ txn_of x → u ≢ 0 → last_in rows' u ≡ last_in rows u) → IsRunning base (stepped rs tail x) next actor
+    → ((u : ℕ) → u ≢ txn_of x → u ≢ 0 → last_in rows' u ≡ last_in rows u) → AreApart rows'
+    → ((u : ℕ) → u ≢ txn_of x → is_in u (said tail x (tally rs)).live ≡ is_in u (tally rs).live)
+    → ((last : ℕ) → last_in rows' (txn_of x) ≡ Some last → is_in (txn_of x) (said tail x (tally rs)).live ≡ false → HasCommitted (stepped rs tail x) (txn_of x) last) → IsRunning base (stepped rs tail x) next actor
     → IsChained base rs tail rows actor → IsChained base (stepped rs tail x) next rows' actor
-chain_between base rs tail next rows rows' actor x less rest none closed was fewer low own others running h = record {
+chain_between base rs tail next rows rows' actor x less rest none closed was fewer low own others distinct same past running h = record {
   running = running;
   rows_are = record {
     own = λ ne. absurd (ne rest);
@@ -118,6 +122,12 @@ chain_between base rs tail next rows rows' actor x less rest none closed was few
     others = λ u ne live. elim (cases_eq u (txn_of x)) as (λ _. last_in rows' u ≡ Some (last_of u (stepped rs tail x))) [
       | inl e ↦ subst (λ (k : ℕ). last_in rows' k ≡ Some (last_of k (stepped rs tail x))) (sym e) (own (subst (λ (k : ℕ). is_in k (said tail x (tally rs)).live ≡ true) e live) ∙ ap Some (sym (last_here tail x rs)))
       | inr d ↦ others u d (no_zero rs u h.running.system (fewer u live)) ∙ (h.rows_are.others u ne (fewer u live) ∙ ap Some (sym (last_there tail x rs u d)))
+    ];
+    apart = distinct;
+    past = λ u last some ne there gone. elim (cases_eq u (txn_of x)) as (λ _. HasCommitted (stepped rs tail x) u last) [
+      | inl e ↦ subst (λ (k : ℕ). HasCommitted (stepped rs tail x) k last) (sym e)
+          (past last (subst (λ (k : ℕ). last_in rows' k ≡ Some last) e there) (subst (λ (k : ℕ). is_in k (said tail x (tally rs)).live ≡ false) e gone))
+      | inr d ↦ committed_there tail x rs u last d (h.rows_are.past u last some ne (sym (others u d some) ∙ there) (sym (same u d) ∙ gone))
     ];
   };
   closed = closed;
@@ -143,7 +153,8 @@ running_save : (base : ℕ) (rs : Steps) (tail next t last mark : ℕ) (rows : L
 running_save base rs tail next t last mark rows actor less idle rest there live h =
     let none = idle_closed base rs tail rows actor idle h in
     let at = stands base rs tail rows actor t last rest there h live in
-    running_between (Save t last mark) less rest refl (no_zero rs t h.running.system live) none (λ u z. z) (row_low base rs tail rows actor t last there h) (λ known. (at.0, own_closed t (tally rs).opened none, at.1)) (own_closed t (tally rs).opened none) tt h.running
+    running_between (Save t last mark) less rest refl (no_zero rs t h.running.system live) none (λ u z. z) (row_low base rs tail rows actor t last there h) (λ known. (at.0, own_closed t (tally rs).opened none, at.1)) (own_closed t (tally rs).opened none) tt
+    tt (goes_over base rs (Save t last mark) (λ some. live)) h.running
 
 chain_save : (base : ℕ) (rs : Steps) (tail next t last mark : ℕ) (rows : List Row) (actor : Actor) (row : Row) → tail < next → ended rs ≡ rs → actor.txn.0 ≡ 0 → last_in rows t ≡ Some last → is_in t (tally rs).live ≡ true → row.txn.0 ≡ t → row.last ≡ tail
     → IsChained base rs tail rows actor → IsChained base (stepped rs tail (Save t last mark)) next (placed rows t row) actor
@@ -153,33 +164,41 @@ chain_save base rs tail next t last mark rows actor row less idle rest there liv
     (low_placed rows t tail next row (row_low base rs tail rows actor t last there h) less (inl is_row) h.rows_are.low)
     (λ z. placed_self rows t last row there is_row ∙ ap Some is_last)
     (λ u ne nz. placed_other rows t u row ne (λ e. ne (sym e ∙ is_row)))
+    (placed_apart rows t row h.rows_are.apart (λ some ne. absurd (ne is_row))) (λ u ne. refl) (λ last' z gone. absurd (clash (is_in t (tally rs).live) gone live))
     (running_save base rs tail next t last mark rows actor less idle rest there live h) h
 
 -- A COMMIT
-running_commit : (base : ℕ) (rs : Steps) (tail next t last : ℕ) (rows : List Row) (actor : Actor) → tail < next → ended rs ≡ rs → actor.txn.0 ≡ 0 → last_in rows t ≡ Some last → t ≢ 0
+running_commit : (base : ℕ) (rs : Steps) (tail next t last : ℕ) (rows : List Row) (actor : Actor) → tail < next → ended rs ≡ rs → actor.txn.0 ≡ 0 → last_in rows t ≡ Some last → is_in t (tally rs).live ≡ true
     → IsChained base rs tail rows actor → IsRunning base (stepped rs tail (Commit t last)) next actor
-running_commit base rs tail next t last rows actor less idle rest there nz h =
+running_commit base rs tail next t last rows actor less idle rest there live h =
     let none = idle_closed base rs tail rows actor idle h in
-    running_between (Commit t last) less rest refl nz none (λ u z. without_in t u (tally rs).live z) (row_low base rs tail rows actor t last there h)
-    (λ known. ((stands base rs tail rows actor t last rest there h known).0, own_closed t (tally rs).opened none)) (own_closed t (tally rs).opened none) tt h.running
+    let at = stands base rs tail rows actor t last rest there h live in
+    running_between (Commit t last) less rest refl (no_zero rs t h.running.system live) none (λ u z. without_in t u (tally rs).live z) (row_low base rs tail rows actor t last there h)
+    (λ known. (at.0, own_closed t (tally rs).opened none)) (own_closed t (tally rs).opened none) tt (λ known. sym at.0 ∙ at.1) (goes_over base rs (Commit t last) (λ some. live)) h.running
 
-chain_commit : (base : ℕ) (rs : Steps) (tail next t last : ℕ) (rows : List Row) (actor : Actor) (row : Row) → tail < next → ended rs ≡ rs → actor.txn.0 ≡ 0 → last_in rows t ≡ Some last → t ≢ 0 → row.txn.0 ≡ t → row.last ≡ tail
+chain_commit : (base : ℕ) (rs : Steps) (tail next t last : ℕ) (rows : List Row) (actor : Actor) (row : Row) → tail < next → ended rs ≡ rs → actor.txn.0 ≡ 0 → last_in rows t ≡ Some last → is_in t (tally rs).live ≡ true → row.txn.0 ≡ t → row.last ≡ tail
     → IsChained base rs tail rows actor → IsChained base (stepped rs tail (Commit t last)) next (placed rows t row) actor
-chain_commit base rs tail next t last rows actor row less idle rest there nz is_row is_last h =
+chain_commit base rs tail next t last rows actor row less idle rest there live is_row is_last h =
     let none = idle_closed base rs tail rows actor idle h in
     chain_between base rs tail next rows (placed rows t row) actor (Commit t last) less rest none none none (λ u z. without_in t u (tally rs).live z)
     (low_placed rows t tail next row (row_low base rs tail rows actor t last there h) less (inl is_row) h.rows_are.low)
     (λ z. absurd (clash (is_in t (without t (tally rs).live)) (without_not t (tally rs).live) z))
     (λ u ne nz. placed_other rows t u row ne (λ e. ne (sym e ∙ is_row)))
-    (running_commit base rs tail next t last rows actor less idle rest there nz h) h
+    (placed_apart rows t row h.rows_are.apart (λ some ne. absurd (ne is_row))) (λ u ne. without_same t u (tally rs).live ne)
+    (λ last' z gone. subst (λ (k : ℕ). HasCommitted (stepped rs tail (Commit t last)) t k) (same_some tail last' (sym (ap Some is_last) ∙ (sym (placed_self rows t last row there is_row) ∙ z))) (committed_here tail last t rs))
+    (running_commit base rs tail next t last rows actor less idle rest there live h) h
 
--- AN END
+-- AN END, of a transaction that goes on, or of one that has committed, whose row says its commit
+ends_over : (base : ℕ) (rs : Steps) (t last : ℕ) → (is_in t (tally rs).live ≡ false → HasCommitted rs t last) → IsOver base rs (End t last)
+ends_over base rs t last past some gone = let c = past gone in subst (λ (x : Option Step). MayBeBehind base (last_of t rs) (End t last) x) (sym c.newest_is) (refl, c.last_is)
+
 running_done : (base : ℕ) (rs : Steps) (tail next t last : ℕ) (rows : List Row) (actor : Actor) → tail < next → ended rs ≡ rs → actor.txn.0 ≡ 0 → last_in rows t ≡ Some last → t ≢ 0
     → IsChained base rs tail rows actor → IsRunning base (stepped rs tail (End t last)) next actor
 running_done base rs tail next t last rows actor less idle rest there nz h =
     let none = idle_closed base rs tail rows actor idle h in
     running_between (End t last) less rest refl nz none (λ u z. without_in t u (tally rs).live z) (row_low base rs tail rows actor t last there h)
-    (λ known. ((stands base rs tail rows actor t last rest there h known).0, own_closed t (tally rs).opened none)) (own_closed t (tally rs).opened none) tt h.running
+    (λ known. ((stands base rs tail rows actor t last rest there h known).0, own_closed t (tally rs).opened none)) (own_closed t (tally rs).opened none) tt
+    (λ known. h.running.alone t (λ e. nz (e ∙ rest))) (ends_over base rs t last (λ gone. h.rows_are.past t last nz (λ e. nz (e ∙ rest)) there gone)) h.running
 
 chain_done : (base : ℕ) (rs : Steps) (tail next t last : ℕ) (rows : List Row) (actor : Actor) → tail < next → ended rs ≡ rs → actor.txn.0 ≡ 0 → last_in rows t ≡ Some last → t ≢ 0
     → IsChained base rs tail rows actor → IsChained base (stepped rs tail (End t last)) next (placed rows t vacant) actor
@@ -189,6 +208,8 @@ chain_done base rs tail next t last rows actor less idle rest there nz h =
     (low_placed rows t tail next vacant (row_low base rs tail rows actor t last there h) less (inr refl) h.rows_are.low)
     (λ z. absurd (clash (is_in t (without t (tally rs).live)) (without_not t (tally rs).live) z))
     (λ u ne some. placed_other rows t u vacant ne (λ e. some (sym e)))
+    (placed_apart rows t vacant h.rows_are.apart (λ some ne. absurd (some refl))) (λ u ne. without_same t u (tally rs).live ne)
+    (λ last' z gone. absurd (none_some last' (sym (none_placed rows t vacant h.rows_are.apart nz (λ e. nz (sym e))) ∙ z)))
     (running_done base rs tail next t last rows actor less idle rest there nz h) h
 
 -- what is kept with such a record
@@ -259,7 +280,7 @@ committed t limits e e1 e' maps unfreed rows rows' actor txn last lsn can row g 
   rows_are = is;
   kept = λ told k. kept_between t limits e e' maps rows rows' actor (by txn.0 last SaysCommit) (Commit txn.0 last) lsn refl (λ f. refl) refl (both told) (can told).rest.idle
       (λ h. subst (λ (rs : List Row). IsChained e.base (stepped e.steps lsn (Commit txn.0 last)) e'.tail rs actor) (sym is)
-      (chain_commit e.base e.steps lsn e'.tail txn.0 last rows actor (record { txn = txn; last = lsn }) (both told).tail (can told).rest.idle (can told).rest.system row (no_zero e.steps txn.0 h.running.system (can told).live) refl refl h)) k;
+      (chain_commit e.base e.steps lsn e'.tail txn.0 last rows actor (record { txn = txn; last = lsn }) (both told).tail (can told).rest.idle (can told).rest.system row (can told).live refl refl h)) k;
 }
   where
     both : e.Told → Appended e e' (by txn.0 last SaysCommit) lsn
@@ -272,7 +293,7 @@ commit_appends recovers t limits e e' maps unfreed rows actor txn last r can row
   last = last;
   was = row;
   above = h.above told;
-  formed = (running_commit e.base e.steps e'.tried (e'.tried + 1) txn last rows actor (omega arith) (can told).rest.idle (can told).rest.system row (no_zero e.steps txn k.chain.running.system (can told).live) (chain_later k.chain (h.above told))).log;
+  formed = (running_commit e.base e.steps e'.tried (e'.tried + 1) txn last rows actor (omega arith) (can told).rest.idle (can told).rest.system row (can told).live (chain_later k.chain (h.above told))).log;
   moments = h.moments told;
   gone = gone;
 }
@@ -353,10 +374,10 @@ note_live rs t n ns f is =
     (λ m z e. subst (λ (u : ℕ). is_in u (tally rs).live ≡ true) (number_is m.transaction t e) z.is_live) (sound rs f).notes) in
     live.0
 
-running_undone : {base : ℕ} {rs : Steps} {tail next : ℕ} {actor : Actor} (after : ℕ) → tail < next → IsUndone rs actor actor.txn.0 after → IsRunning base rs tail actor → IsRunning base (stepped rs tail (CompEnd actor.txn.0 actor.last after)) next at_rest
-running_undone {base} {rs} {tail} {next} {actor} after less c h =
+running_undone : {base : ℕ} {rs : Steps} {tail next : ℕ} {actor : Actor} (after : ℕ) → tail < next → actor.last ≡ next_off actor.before (tally rs).opened → IsUndone rs actor actor.txn.0 after → IsRunning base rs tail actor → IsRunning base (stepped rs tail (CompEnd actor.txn.0 actor.last after)) next at_rest
+running_undone {base} {rs} {tail} {next} {actor} after less at c h =
     let nonzero = no_zero rs actor.txn.0 h.system (note_live rs actor.txn.0 c.n c.rest h.log.chained c.notes) in
-    running_end (CompEnd actor.txn.0 actor.last after) refl refl less refl (none_open h) (own_low h) (λ known. (h.last_is known, (c.n, c.rest, c.notes, sym c.goes_on))) (λ z. absurd (nonzero z)) tt tt h
+    running_end (CompEnd actor.txn.0 actor.last after) refl refl less refl (none_open h) (own_low h) (λ known. (h.last_is known, (c.n, c.rest, c.notes, sym c.goes_on))) (λ z. absurd (nonzero z)) tt tt (λ acts. straight_on h at acts) h
 
 own_undone : (rs : Steps) (actor : Actor) (txn after : ℕ) → IsUndone rs actor txn after → IsUndone rs actor actor.txn.0 after
 own_undone rs actor txn after c = subst (λ (u : ℕ). IsUndone rs actor u after) (sym c.acts) c
@@ -367,8 +388,8 @@ chain_undone base rs tail next after rows actor lsn less is c h =
     let nonzero = no_zero rs actor.txn.0 h.running.system (note_live rs actor.txn.0 c.n c.rest h.running.log.chained c.notes) in
     let row : Row = record { txn = actor.txn; last = lsn } in
     subst (λ (xs : List Row). IsChained base (stepped rs tail (CompEnd actor.txn.0 actor.last after)) next xs at_rest) (after_one rows actor.txn lsn nonzero) (record {
-      running = running_undone after less c h.running;
-      rows_are = rows_top (CompEnd actor.txn.0 actor.last after) row refl refl less (own_low h.running) nonzero refl is h.rows_are;
+      running = running_undone after less h.at c h.running;
+      rows_are = rows_top (CompEnd actor.txn.0 actor.last after) row refl refl less (own_low h.running) nonzero (h.running.acting nonzero) refl is h.rows_are;
       closed = none_open h.running;
       at = sym (ap (next_off 0) (none_open h.running));
     })
@@ -401,7 +422,7 @@ pub undo_end_appends : (recovers : Recovering) (t : Table) (limits : State → �
     → (e'.Told → e'.failed ≡ false) → e.Told → IsKept t limits e maps rows actor → Appends recovers t e e' (CompEnd actor.txn.0 actor.last after)
 undo_end_appends recovers t limits e e' maps rows actor txn after r can h whole told k = record {
   above = h.above told;
-  formed = (running_undone {tail = e'.tried} {next = e'.tried + 1} after (omega arith) (own_undone e.steps actor txn after (can told)) (running_later (h.above told) k.chain.running)).log;
+  formed = (running_undone {tail = e'.tried} {next = e'.tried + 1} after (omega arith) k.chain.at (own_undone e.steps actor txn after (can told)) (running_later (h.above told) k.chain.running)).log;
   moments = h.moments told;
   gone = λ told'. call_gone e e' (by actor.txn.0 actor.last (SaysCompEnd after)) (CompEnd actor.txn.0 actor.last after) r refl h whole told';
 }

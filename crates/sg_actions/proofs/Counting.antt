@@ -17,6 +17,7 @@ use Rattle.sg_actions.specs.declared.rows.Actor.{Actor}
 use Rattle.sg_actions.specs.declared.rows.Row.{Row}
 use Rattle.sg_action.specs.States.{State}
 use Rattle.sg_alloc.specs.declared.maps.Maps.{Maps}
+use Rattle.sg_actions.proofs.Accounting.{KeepsCount, count_none, count_then, count_ok, accounts_ok, accounts_err, accounts_break}
 use Rattle.sg_actions.proofs.Beginning.{rest_kept}
 
 -- A RUN OF LOOKS, so far
@@ -24,6 +25,7 @@ pub record HasLooked (e e' : EngineSeen) (b b' : ℕ) : Type 0 where
   pub told : e'.Told → e.Told
   pub tells : e.Told → e'.Told
   pub quiet : e'.faults + b' ≡ e.faults + b
+  pub disk : KeepsCount e.disk e'.disk e.gate e'.gate
   pub tail : e.tail ≤ e'.tail
   pub stops : e.failed ≡ true → (e'.failed ≡ true) × (e'.disk ≡ e.disk)
 
@@ -33,7 +35,7 @@ pub record LookedBy (recovers : Recovering) (t : Table) (e e' : EngineView) : Ty
   pub moments : e.Told → Moments recovers t e e' e.steps
 
 pub looked_none : (e : EngineSeen) (b : ℕ) → HasLooked e e b b
-looked_none e b = record { told = λ z. z; tells = λ z. z; quiet = refl; tail = omega arith; stops = λ z. (z, refl) }
+looked_none e b = record { told = λ z. z; tells = λ z. z; quiet = refl; disk = count_none e.disk e.gate; tail = omega arith; stops = λ z. (z, refl) }
 
 pub by_none : {recovers : Recovering} {t : Table} (e : EngineView) → (e.Told → Moments recovers t e e e.steps) → LookedBy recovers t e e
 by_none e m = record { stays = record { told = λ z. z; stays = λ z. record { base = refl; first = refl; steps = refl; tail = omega arith; durable = grows_same e.durable } }; moments = m }
@@ -64,6 +66,7 @@ looked_then {T} {e} {e1} {e'} {b} {b1} {b'} {x} h k = record {
   told = λ z. h.told (k.told z);
   tells = λ z. k.tells (h.tells z);
   quiet = k.quiet ∙ h.quiet;
+  disk = count_then h.disk (count_ok k.accounts);
   tail = let p = h.tail in let q = k.tail in omega (arith, p, q);
   stops = λ z. let p = h.stops z in let q = k.stops p.0 in (q.0, q.1 ∙ p.1);
 }
@@ -76,6 +79,7 @@ looked_ok {T} {e} {e'} {b} {b'} x h = record {
   later = let q = h.quiet in omega (arith, q);
   quiet = h.quiet;
   disk = tt;
+  accounts = accounts_ok x h.disk;
   log_end = tt;
   tail = h.tail;
   silent = tt;
@@ -90,6 +94,7 @@ looked_err {T} {S} {e} {e1} {e'} {b} {b1} {b'} {f} h k = record {
   later = let q = h.quiet in let l = k.later in omega (arith, q, l);
   quiet = tt;
   disk = λ d few. let q = h.quiet in let r : e1.faults + b1 < e'.faults + b' = k.disk d few in omega (arith, q, r);
+  accounts = accounts_err h.tells h.disk k.accounts;
   log_end = k.log_end;
   tail = let p = h.tail in let q = k.tail in omega (arith, p, q);
   silent = k.silent;
@@ -104,6 +109,7 @@ looked_break {S} {e} {e'} {b} {b1} {b2} fault is h risen up never = record {
   later = let q = h.quiet in omega (arith, q, up);
   quiet = tt;
   disk = λ d few. let q = h.quiet in let r : b1 < b2 = risen (omega (arith, q, few)) in omega (arith, q, r);
+  accounts = accounts_break (λ t. never (h.tells t)) h.disk;
   log_end = λ z. absurd (let w : Disk ≡ LogEnd = sym is ∙ z in cc);
   tail = h.tail;
   silent = never;
@@ -112,7 +118,7 @@ looked_break {S} {e} {e'} {b} {b1} {b2} fault is h risen up never = record {
 
 -- one look of the engine, so far
 pub looked_engine : {T : Type 0} {e e' : EngineSeen} (b : ℕ) {x : T} → EngineCounts {T = T} e e' (Ok x) → HasLooked e e' b b
-looked_engine {T} {e} {e'} b {x} k = record { told = k.told; tells = k.tells; quiet = ap (λ (n : ℕ). n + b) k.quiet; tail = k.tail; stops = k.stops }
+looked_engine {T} {e} {e'} b {x} k = record { told = k.told; tells = k.tells; quiet = ap (λ (n : ℕ). n + b) k.quiet; disk = count_ok k.accounts; tail = k.tail; stops = k.stops }
 
 -- WHAT CAN'T BE by each of the operations and first pages that an engine stands for can't be
 pub never_any : (m : Table → State → Type 0) → ∥ ((t : Table) × (from : State) × m t from) ∥₁ → ((t : Table) (from : State) → m t from → ⊥) → ⊥

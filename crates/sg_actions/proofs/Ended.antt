@@ -92,7 +92,7 @@ pub end_appends : (recovers : Recovering) (t : Table) (limits : State → ℕ �
     → (e'.Told → e'.failed ≡ false) → e.Told → IsKept t limits e maps rows actor → Appends recovers t e e' (TopEnd actor.txn.0 actor.last actor.before note)
 end_appends recovers t limits e e' maps rows actor note bytes r is h whole told k = record {
   above = h.above told;
-  formed = (running_top {tail = e'.tried} {next = e'.tried + 1} note (omega arith) (running_later (h.above told) k.chain.running)).log;
+  formed = (running_top {tail = e'.tried} {next = e'.tried + 1} note (omega arith) k.chain.at (running_later (h.above told) k.chain.running)).log;
   moments = subst (λ (n : List ℕ). Moments recovers t e e' (stepped e.steps e'.tried (TopEnd actor.txn.0 actor.last actor.before n))) is (h.moments told);
   gone = λ told'. call_gone e e' (by actor.txn.0 actor.last (SaysTopEnd actor.before bytes)) (TopEnd actor.txn.0 actor.last actor.before bytes) r refl h whole told'
       ∙ ap (λ (n : List ℕ). stepped e.steps e'.tried (TopEnd actor.txn.0 actor.last actor.before n)) is;

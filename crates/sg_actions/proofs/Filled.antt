@@ -152,7 +152,7 @@ fill_on t limits e maps maps' rows actor b at pages same free k lsn next above b
 pub record FillCall (recovers : Table → Recovering) (e e' : EngineSeen) (m m' : Table → State → Type 0) (actor : Actor) (b at : ℕ) (r : Result ℕ SpaceFault) : Type 0 where
   pub logs : (t : Table) → LogsBy recovers t e e' m m' (by actor.txn.0 actor.last (SaysChanged (SegOp (fill_with b at)))) r
   pub range : IsRecord (by actor.txn.0 actor.last (SaysChanged (SegOp (fill_with b at))))
-  pub some : ∥ ((t : Table) × (from : State) × m t from) ∥₁
+  pub some : e.Told → ∥ ((t : Table) × (from : State) × m t from) ∥₁
   pub wide : (t : Table) (from : State) → m t from → e.Told → AreBandsWhole e.now
 
 -- what was taken at the begin is the same with a fill, and the band wasn't taken then
@@ -199,7 +199,7 @@ filled_by {t} {e} {e'} {b} {at} law wide within m = record {
     now = m.now
 
 filled_now : {recovers : Table → Recovering} {e e' : EngineSeen} {m m' : Table → State → Type 0} {actor : Actor} {b at : ℕ} {r : Result ℕ SpaceFault} → FillCall recovers e e' m m' actor b at r → at ≤ 32768 → e.Told → e'.Told → FilledNow e e' b at actor.txn.0 actor.last
-filled_now {recovers} {e} {e'} {m} {m'} {actor} {b} {at} h within told told' = ∥∥₁_elim h.some (filled_prop e e' b at actor.txn.0 actor.last) (λ x.
+filled_now {recovers} {e} {e'} {m} {m'} {actor} {b} {at} h within told told' = ∥∥₁_elim (h.some told) (filled_prop e e' b at actor.txn.0 actor.last) (λ x.
     filled_by ((h.logs x.0).law x.1 x.2) (h.wide x.0 x.1 x.2 told) within (made_log recovers m m' ∣ (x.1, x.2) ∣₁ (h.logs x.0) refl told told'))
 
 -- so the open action goes on with it
@@ -316,8 +316,8 @@ filling_next {recovers} {limits} {e0} {e} {e'} {m0} {m} {m'} begin {maps0} {maps
 -- THE SPACE SHOWS THE BAND THAT IS TAKEN
 pub shows_take_band : {recovers : Table → Recovering} (limits limits' : State → ℕ → ℕ) (e e' : EngineSeen) {m m' : Table → State → Type 0} (begin : State) (breaks : ℕ) (maps maps' unfreed : Maps) {rows : List Row} {actor actor' : Actor} {begun : Bool} (b at : ℕ) → limits' ≡ limits → AreFlags maps.bands unfreed.bands → slice_get maps.bands b ≡ Some false
     → maps'.bands ≡ slice_set maps.bands b true → maps'.pages ≡ maps.pages → (e.Told → HasFreedNone unfreed) → 32768 ≤ at → (e'.Told → AreBandsWhole e'.now) → Filling recovers limits e e' m m' begin maps maps' rows actor actor' begun b at
-    → TookBand (acts_view limits e begin breaks maps unfreed) (acts_view limits' e' begin breaks maps' unfreed) b
-shows_take_band {recovers} limits limits' e e' {m} {m'} begin breaks maps maps' unfreed {rows} {actor} {actor'} {begun} b at same flags free is_bands is_pages freed whole wide h = subst (λ (l : State → ℕ → ℕ). TookBand (acts_view limits e begin breaks maps unfreed) (acts_view l e' begin breaks maps' unfreed) b) (sym same) (record {
+    → TookBand (acts_view limits e begun begin breaks maps unfreed) (acts_view limits' e' begun begin breaks maps' unfreed) b
+shows_take_band {recovers} limits limits' e e' {m} {m'} begin breaks maps maps' unfreed {rows} {actor} {actor'} {begun} b at same flags free is_bands is_pages freed whole wide h = subst (λ (l : State → ℕ → ℕ). TookBand (acts_view limits e begun begin breaks maps unfreed) (acts_view l e' begun begin breaks maps' unfreed) b) (sym same) (record {
   keeps = record { told = h.told; may_take = λ z. z; may_have = λ q n z told'. h.may told' q n (z (h.back told')) };
   bands = λ told. record {
     was_free = ap (λ (x : Bool). if x && is_set unfreed.bands b then Some (e.now.bands b) else None) (set_by maps.bands b false free);

@@ -72,9 +72,9 @@ freed_unit taken unfreed unfreed' contents p is there = subst (λ (xs : List Boo
     flag = there_flag taken unfreed p there
 
 -- THE SPACE SHOWS THE PAGE THAT IS FREED
-pub shows_free : (limits : State → ℕ → ℕ) (e : EngineSeen) (begin : State) (breaks : ℕ) (maps unfreed unfreed' : Maps) (p : ℕ) → unfreed'.pages ≡ slice_set unfreed.pages p false → unfreed'.bands ≡ unfreed.bands → is_there maps.pages unfreed.pages p ≡ true
-    → Freed (acts_view limits e begin breaks maps unfreed) (acts_view limits e begin breaks maps unfreed') p
-shows_free limits e begin breaks maps unfreed unfreed' p is_pages is_bands there = record {
+pub shows_free : {begun : Bool} (limits : State → ℕ → ℕ) (e : EngineSeen) (begin : State) (breaks : ℕ) (maps unfreed unfreed' : Maps) (p : ℕ) → unfreed'.pages ≡ slice_set unfreed.pages p false → unfreed'.bands ≡ unfreed.bands → is_there maps.pages unfreed.pages p ≡ true
+    → Freed (acts_view limits e begun begin breaks maps unfreed) (acts_view limits e begun begin breaks maps unfreed') p
+shows_free {begun} limits e begin breaks maps unfreed unfreed' p is_pages is_bands there = record {
   told = λ t. t;
   pages = λ told. freed_unit maps.pages unfreed.pages unfreed'.pages e.now.pages p is_pages there;
   bands = λ told j. units_there maps.bands (is_bands j) (λ b. Some (e.now.bands b));
@@ -83,9 +83,9 @@ shows_free limits e begin breaks maps unfreed unfreed' p is_pages is_bands there
 }
 
 -- and the band that is freed
-pub shows_free_band : (limits : State → ℕ → ℕ) (e : EngineSeen) (begin : State) (breaks : ℕ) (maps unfreed unfreed' : Maps) (b : ℕ) → unfreed'.bands ≡ slice_set unfreed.bands b false → unfreed'.pages ≡ unfreed.pages → is_there maps.bands unfreed.bands b ≡ true
-    → FreedBand (acts_view limits e begin breaks maps unfreed) (acts_view limits e begin breaks maps unfreed') b
-shows_free_band limits e begin breaks maps unfreed unfreed' b is_bands is_pages there = record {
+pub shows_free_band : {begun : Bool} (limits : State → ℕ → ℕ) (e : EngineSeen) (begin : State) (breaks : ℕ) (maps unfreed unfreed' : Maps) (b : ℕ) → unfreed'.bands ≡ slice_set unfreed.bands b false → unfreed'.pages ≡ unfreed.pages → is_there maps.bands unfreed.bands b ≡ true
+    → FreedBand (acts_view limits e begun begin breaks maps unfreed) (acts_view limits e begun begin breaks maps unfreed') b
+shows_free_band {begun} limits e begin breaks maps unfreed unfreed' b is_bands is_pages there = record {
   told = λ t. t;
   bands = λ told. freed_unit maps.bands unfreed.bands unfreed'.bands (λ n. Some (e.now.bands n)) b is_bands there;
   pages = λ told j. units_there maps.pages (is_pages j) e.now.pages;

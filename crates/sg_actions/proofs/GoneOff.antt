@@ -1,32 +1,32 @@
 -- A take-off's calls one after another.
-use Rattle.std.proofs.Common.{◌≡◌, ◌⊎◌, ℕ, ◌+◌, ◌<◌, ◌≤◌, ◌==◌, List, [], ◌∷◌, ◌++◌, Bool, true, false, Option, Some, sym, ap, subst, ◌∙◌, refl, append_assoc, arith, inl, inr, Ok, Err, Result}
+use Rattle.std.proofs.Common.{◌≡◌, ◌⊎◌, ℕ, ◌+◌, ◌<◌, ◌≤◌, ◌==◌, List, [], ◌∷◌, ◌++◌, Bool, true, false, sym, ap, subst, ◌∙◌, refl, append_assoc, arith, inl, inr, Ok, Err, Result}
 use Rattle.std.specs.Prelude.{OnErr, OnOk, IfOk}
 use Rattle.std.proofs.lemmas.Bool.Decides.{nat_tests}
 use Rattle.sg_base.specs.Ends.{HasRisen}
+use Rattle.sg_disk.specs.Accounts.{Accounts}
 use Rattle.sg_ops.specs.Table.{Table}
 use Rattle.sg_record.specs.Changes.{Change as Changing}
 use Rattle.sg_record.specs.Records.{Record}
 use Rattle.sg_record.specs.Records.Says.{PhysComp as SaysPhysComp, TopVoid as SaysTopVoid}
 use Rattle.sg_record.specs.Shown.{by}
 use Rattle.sg_recovery.specs.Formed.{IsLog}
-use Rattle.sg_recovery.specs.Log.{Open, tally, open_up_to}
+use Rattle.sg_recovery.specs.Log.{tally, open_up_to}
 use Rattle.sg_recovery.specs.Chains.{next_off}
-use Rattle.sg_recovery.specs.Log.Record.{PhysComp, TopVoid}
+use Rattle.sg_recovery.specs.Log.Record.{PhysComp}
 use Rattle.sg_space.specs.declared.space.SpaceFault.{SpaceFault}
 use Rattle.sg_space.specs.declared.space.SpaceFault.TheVariants.{Disk, LogEnd}
 use Rattle.sg_action.specs.States.{State, Kept}
-use Rattle.sg_actions.specs.Acting.{IsChained}
 use Rattle.sg_actions.specs.Changes.{comp_of}
-use Rattle.sg_actions.specs.Engine.{EngineSeen, EngineView, EngineCounts, EngineRests, EngineLooks, Logs, Moments, IsNearEnd, now_of, led}
-use Rattle.sg_actions.specs.Growing.{grows_same, grows_by, grows_then, moments_then, moments_stop}
+use Rattle.sg_actions.specs.Engine.{EngineSeen, EngineView, EngineCounts, Moments, now_of}
+use Rattle.sg_actions.specs.Growing.{grows_same, grows_then, moments_then, moments_stop}
 use Rattle.sg_actions.specs.Images.{Recovering}
-use Rattle.sg_actions.specs.Led.{HasLogged, HasStayed, Stayed, LookCall, LogCall}
-use Rattle.sg_actions.specs.Rows.{at_rest}
+use Rattle.sg_actions.specs.Led.{HasLogged, HasStayed, LookCall, LogCall}
 use Rattle.sg_actions.specs.Steps.{Step, Steps, stepped, with_step, repeated}
 use Rattle.sg_actions.specs.TakingOff.{IsTakingOff, IsGoing}
 use Rattle.sg_actions.specs.WentOff.{TakesLast, IsOver, AreOffSteps, HasOff, WentOff, OffCounts}
 use Rattle.sg_actions.specs.declared.rows.Actor.{Actor}
 use Rattle.sg_actions.specs.declared.rows.Row.{Row}
+use Rattle.sg_actions.proofs.Accounting.{count_then, count_ok, accounts_ok, accounts_err, accounts_break}
 use Rattle.sg_actions.proofs.Counting.{HasLooked}
 use Rattle.sg_actions.proofs.Offing.{IsNext, IsRead}
 use Rattle.sg_actions.proofs.TakenOff.{takes_one_off, comp_step, void_step, chain_void, chain_void_system, taking_later}
@@ -128,31 +128,38 @@ off_void {recovers} {t} kept begin e e' rows actor q h none l told =
 
 -- THE COUNTS
 pub counts_ok : {T : Type 0} {e e' : EngineSeen} {b b' : ℕ} (x : T) → HasLooked e e' b b' → OffCounts {T = T} e e' b b' (Ok x)
-counts_ok {T} {e} {e'} {b} {b'} x h = record { told = h.told; tells = h.tells; later = let q = h.quiet in omega (arith, q); quiet = h.quiet; disk = tt; log_end = tt; tail = h.tail; stops = h.stops }
+counts_ok {T} {e} {e'} {b} {b'} x h = record { told = h.told; tells = h.tells; later = let q = h.quiet in omega (arith, q); quiet = h.quiet; disk = tt; accounts = accounts_ok x h.disk; log_end = tt; tail = h.tail; silent = tt; stops = h.stops }
 
 -- of a break
-pub counts_break : {T : Type 0} {e e' : EngineSeen} {b b1 b2 : ℕ} (fault : SpaceFault) → fault ≡ Disk → HasLooked e e' b b1 → HasRisen b1 b2 → b1 ≤ b2 → OffCounts {T = T} e e' b b2 (Err fault)
-counts_break {T} {e} {e'} {b} {b1} {b2} fault is h risen up = record {
+pub counts_break : {T : Type 0} {e e' : EngineSeen} {b b1 b2 : ℕ} (fault : SpaceFault) → fault ≡ Disk → HasLooked e e' b b1 → HasRisen b1 b2 → b1 ≤ b2 → (e'.Told → ⊥) → OffCounts {T = T} e e' b b2 (Err fault)
+counts_break {T} {e} {e'} {b} {b1} {b2} fault is h risen up never = record {
   told = h.told;
   tells = tt;
   later = let q = h.quiet in omega (arith, q, up);
   quiet = tt;
   disk = λ d few. let q = h.quiet in let r : b1 < b2 = risen (omega (arith, q, few)) in omega (arith, q, r);
+  accounts = accounts_break (λ t. never (h.tells t)) h.disk;
   log_end = λ z. absurd (let w : Disk ≡ LogEnd = sym is ∙ z in cc);
   tail = h.tail;
+  silent = never;
   stops = h.stops;
 }
 
+not_both : (x : Bool) → x ≡ true → x ≡ false → ⊥
+not_both x a c = cc
+
 -- of a call of the engine that failed
-pub counts_err : {T U : Type 0} {e e1 e' : EngineSeen} {b b1 : ℕ} (q : Result U SpaceFault) (f h : SpaceFault) → q ≡ Err h → h ≡ f → HasLooked e e1 b b1 → EngineCounts {T = T} e1 e' (Err f) → OffCounts {T = U} e e' b b1 q
-counts_err {T} {U} {e} {e1} {e'} {b} {b1} q f h is same s k = subst (λ (x : Result U SpaceFault). OffCounts {T = U} e e' b b1 x) (sym is) (record {
+pub counts_err : {T U : Type 0} {e e1 e' : EngineSeen} {b b1 : ℕ} (q : Result U SpaceFault) (f h : SpaceFault) → (e'.Told → e'.failed ≡ false) → q ≡ Err h → h ≡ f → HasLooked e e1 b b1 → EngineCounts {T = T} e1 e' (Err f) → OffCounts {T = U} e e' b b1 q
+counts_err {T} {U} {e} {e1} {e'} {b} {b1} q f h whole is same s k = subst (λ (x : Result U SpaceFault). OffCounts {T = U} e e' b b1 x) (sym is) (record {
   told = λ z. s.told (k.told z);
   tells = tt;
   later = let x = s.quiet in let y = k.later in omega (arith, x, y);
   quiet = tt;
   disk = λ d few. let x = s.quiet in let r : e1.faults < e'.faults = k.disk (sym same ∙ d) (omega (arith, few)) in omega (arith, x, r);
+  accounts = accounts_err s.tells s.disk (subst (λ (y : SpaceFault). Accounts (λ (x : SpaceFault). x ≡ Disk) e1.Told e1.disk e'.disk e1.gate e'.gate (let r : Result T SpaceFault = Err y in r)) (sym same) k.accounts);
   log_end = λ z. let n = k.log_end (sym same ∙ z) in let l = k.tail in omega (arith, n, l);
   tail = let x = s.tail in let y = k.tail in omega (arith, x, y);
+  silent = λ told. not_both e'.failed k.failed (whole told);
   stops = λ z. let p = s.stops z in let x = k.stops p.0 in (x.0, x.1 ∙ p.1);
 })
 
@@ -162,20 +169,22 @@ counts_more {T} {e} {e1} {e'} {b} {b1} {b'} {x} s k = record {
   told = λ z. s.told (k.told z);
   tells = λ z. k.tells (s.tells z);
   quiet = k.quiet ∙ s.quiet;
+  disk = count_then s.disk (count_ok k.accounts);
   tail = let p = s.tail in let q = k.tail in omega (arith, p, q);
   stops = λ z. let p = s.stops z in let q = k.stops p.0 in (q.0, q.1 ∙ p.1);
 }
 
 -- of a last call of the engine
-pub counts_void : {T : Type 0} {e e1 e' : EngineSeen} {b b1 : ℕ} (q : Result T SpaceFault) → HasLooked e e1 b b1 → EngineCounts {T = T} e1 e' q → OffCounts {T = T} e e' b b1 q
-counts_void {T} {e} {e1} {e'} {b} {b1} (Ok x) s k = counts_ok x (record {
+pub counts_void : {T : Type 0} {e e1 e' : EngineSeen} {b b1 : ℕ} (q : Result T SpaceFault) → (e'.Told → e'.failed ≡ false) → HasLooked e e1 b b1 → EngineCounts {T = T} e1 e' q → OffCounts {T = T} e e' b b1 q
+counts_void {T} {e} {e1} {e'} {b} {b1} (Ok x) whole s k = counts_ok x (record {
   told = λ z. s.told (k.told z);
   tells = λ z. k.tells (s.tells z);
   quiet = (let p = s.quiet in let r = k.quiet in omega (arith, p, r));
+  disk = count_then s.disk (count_ok k.accounts);
   tail = let p = s.tail in let r = k.tail in omega (arith, p, r);
   stops = λ z. let p = s.stops z in let r = k.stops p.0 in (r.0, r.1 ∙ p.1);
 })
-counts_void {T} {e} {e1} {e'} {b} {b1} (Err f) s k = counts_err {T = T} {U = T} (Err f) f f refl refl s k
+counts_void {T} {e} {e1} {e'} {b} {b1} (Err f) whole s k = counts_err {T = T} {U = T} (Err f) f f whole refl refl s k
 
 -- of one of the actions that failed, behind others
 pub counts_fails : {T U : Type 0} {e e1 e' : EngineSeen} {b b1 b' : ℕ} (q : Result U SpaceFault) (f h : SpaceFault) → q ≡ Err h → h ≡ f → HasLooked e e1 b b1 → OffCounts {T = T} e1 e' b1 b' (Err f) → OffCounts {T = U} e e' b b' q
@@ -185,8 +194,10 @@ counts_fails {T} {U} {e} {e1} {e'} {b} {b1} {b'} q f h is same s k = subst (λ (
   later = let x = s.quiet in let y = k.later in omega (arith, x, y);
   quiet = tt;
   disk = λ d few. let x = s.quiet in let r : e1.faults + b1 < e'.faults + b' = k.disk (sym same ∙ d) few in omega (arith, x, r);
+  accounts = accounts_err s.tells s.disk (subst (λ (y : SpaceFault). Accounts (λ (x : SpaceFault). x ≡ Disk) e1.Told e1.disk e'.disk e1.gate e'.gate (let r : Result T SpaceFault = Err y in r)) (sym same) k.accounts);
   log_end = λ z. k.log_end (sym same ∙ z);
   tail = let x = s.tail in let y = k.tail in omega (arith, x, y);
+  silent = k.silent;
   stops = λ z. let p = s.stops z in let x = k.stops p.0 in (x.0, x.1 ∙ p.1);
 })
 
@@ -194,5 +205,5 @@ counts_fails {T} {U} {e} {e1} {e'} {b} {b1} {b'} q f h is same s k = subst (λ (
 pub off_as : {recovers : Recovering} {t : Table} {u v : ℕ} {a b : EngineView} → u ≡ v → WentOff recovers t u a b → WentOff recovers t v a b
 off_as {recovers} {t} {u} {v} {a} {b} e w = subst (λ (n : ℕ). WentOff recovers t n a b) e w
 
-pub counts_after : {T : Type 0} {e e1 e' : EngineSeen} {b b1 b' : ℕ} (q : Result T SpaceFault) → HasLooked e e1 b b1 → EngineCounts {T = T} e1 e' q → b' ≡ b1 → OffCounts {T = T} e e' b b' q
-counts_after {T} {e} {e1} {e'} {b} {b1} {b'} q s k same = subst (λ (n : ℕ). OffCounts {T = T} e e' b n q) (sym same) (counts_void q s k)
+pub counts_after : {T : Type 0} {e e1 e' : EngineSeen} {b b1 b' : ℕ} (q : Result T SpaceFault) → (e'.Told → e'.failed ≡ false) → HasLooked e e1 b b1 → EngineCounts {T = T} e1 e' q → b' ≡ b1 → OffCounts {T = T} e e' b b' q
+counts_after {T} {e} {e1} {e'} {b} {b1} {b'} q whole s k same = subst (λ (n : ℕ). OffCounts {T = T} e e' b n q) (sym same) (counts_void q whole s k)

@@ -150,14 +150,14 @@ write_in t p b at count before after c is small low few piece m n = subst (λ (x
 
 -- HOW LONG a record of a change is, with the head of a frame
 
-first_true : (o : ℕ) (a : Bool) (fs : List Field) → first_out ((o, a) ∷ fs) ≡ None → a ≡ true
+pub first_true : (o : ℕ) (a : Bool) (fs : List Field) → first_out ((o, a) ∷ fs) ≡ None → a ≡ true
 first_true o true fs e = refl
 first_true o false fs e = absurd (cc)
 
 length_header : (k s t p : ℕ) → length (header k s t p) ≡ 21
 length_header k s t p = search rules
 
-le_of : (a b : ℕ) → nat_le a b ≡ true → a ≤ b
+pub le_of : (a b : ℕ) → nat_le a b ≡ true → a ≤ b
 le_of a b h = grind (arith, nat_tests, h)
 
 pub change_short : (t p : ℕ) (c : Change) → IsRecord (by t p (Changed c)) → 5 + length (spelled (by t p (Changed c))) ≤ 16422

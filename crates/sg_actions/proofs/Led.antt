@@ -1,6 +1,6 @@
 -- What a call of an engine does, whatever its records mean, and by the pages and bands that its steps lead from.
 use mathlib.Core.Logic.{∥∥₁_elim, ∥∥₁_prop}
-use Rattle.std.proofs.Common.{Bool, ◌≡◌, ℕ, ◌≤◌, true, false, Option, Some, None, Result, Ok, Err, sym, ap, subst, ◌∙◌, refl, arith}
+use Rattle.std.proofs.Common.{Bool, ◌≡◌, ℕ, ◌≤◌, true, false, Some, Result, Ok, Err, sym, ap, subst, ◌∙◌, refl, arith}
 use Rattle.std.proofs.Props.{props}
 use Rattle.std.specs.Prelude.{IfOk, OnOk}
 use Rattle.sg_ops.specs.Table.{Table}
@@ -9,7 +9,7 @@ use Rattle.sg_record.specs.Records.{Record}
 use Rattle.sg_recovery.specs.Log.Record.{Change}
 use Rattle.sg_space.specs.declared.space.SpaceFault.{SpaceFault}
 use Rattle.sg_action.specs.States.{State}
-use Rattle.sg_actions.specs.Engine.{EngineView, EngineSeen, EngineCounts, EngineGrows, EngineRests, IsPlaced, Logged, Logs, Stays, EngineLooks, AreBy, now_of, led}
+use Rattle.sg_actions.specs.Engine.{EngineView, EngineSeen, EngineGrows, EngineRests, IsPlaced, Logged, Logs, Stays, EngineLooks, AreBy, now_of, led}
 use Rattle.sg_actions.specs.Images.{Recovering}
 use Rattle.sg_actions.specs.Later.{ActsAt, LaterBy}
 use Rattle.sg_actions.specs.Led.{Appended, HasLogged, LogCall, Stayed, HasStayed, LookCall}
@@ -78,8 +78,9 @@ pub by_some : {P : Type 0} (m : Table → State → Type 0) → ∥ ((t : Table)
 by_some m some prop f = ∥∥₁_elim some prop (λ x. f x.0 ∣ (x.1, x.2) ∣₁)
 
 -- what a space's records mean, by the relation that passes through its calls
-pub by_later : {strict : Bool} {recovers : Table → Recovering} {limits : State → ℕ → ℕ} {t : Table} {a b : ActsAt} → LaterBy strict recovers limits t a b → ∥ ((from : State) × a.means t from) ∥₁ → ∥ ((from : State) × b.means t from) ∥₁
-by_later l h = ∥∥₁_elim h ∥∥₁_prop (λ x. ∣ (x.0, l.means x.0 x.1) ∣₁)
+pub by_later : {strict : Bool} {recovers : Table → Recovering} {limits : State → ℕ → ℕ} {t : Table} {a b : ActsAt} → LaterBy strict recovers limits t a b
+    → (a.engine.Told → ∥ ((from : State) × a.means t from) ∥₁) → b.engine.Told → ∥ ((from : State) × b.means t from) ∥₁
+by_later l h told = ∥∥₁_elim (h (l.told told)) ∥∥₁_prop (λ x. ∣ (x.0, l.means x.0 x.1) ∣₁)
 
 -- AN ENGINE WITH FIRST PAGES
 

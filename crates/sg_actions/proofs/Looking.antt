@@ -1,5 +1,5 @@
 -- What a look leaves.
-use Rattle.std.proofs.Common.{◌≡◌, ℕ, ◌+◌, ◌<◌, List, Bool, Some, Result, Ok, Err, sym, ap, subst, ◌∙◌, arith}
+use Rattle.std.proofs.Common.{inl, ◌≡◌, ℕ, ◌+◌, ◌<◌, Bool, Some, Result, Ok, Err, sym, ap, subst, ◌∙◌, arith}
 use Rattle.std.specs.Prelude.{IfOk}
 use Rattle.sg_alloc.specs.declared.maps.Maps.{Maps}
 use Rattle.sg_action.specs.States.{State}
@@ -12,8 +12,8 @@ use Rattle.sg_actions.specs.Taken.{units_there, writes_band}
 use Rattle.sg_actions.specs.View.{acts_view, MayGiveNow}
 use Rattle.sg_actions.proofs.Led.{Same}
 
-pub only_reads : (limits : State → ℕ → ℕ) (e e' : EngineSeen) (begin : State) (breaks : ℕ) (maps unfreed : Maps) → (e.Told → e'.Told) → (e'.Told → e.Told) → (e.Told → Same e e') → OnlyReads (acts_view limits e begin breaks maps unfreed) (acts_view limits e' begin breaks maps unfreed)
-only_reads limits e e' begin breaks maps unfreed on back same = record {
+pub only_reads : {begun : Bool} (limits : State → ℕ → ℕ) (e e' : EngineSeen) (begin : State) (breaks : ℕ) (maps unfreed : Maps) → (e.Told → e'.Told) → (e'.Told → e.Told) → (e.Told → Same e e') → OnlyReads (acts_view limits e begun begin breaks maps unfreed) (acts_view limits e' begun begin breaks maps unfreed)
+only_reads {begun} limits e e' begin breaks maps unfreed on back same = record {
   keeps = record {
     told = on;
     may_take = λ m. m;
@@ -29,9 +29,9 @@ only_reads limits e e' begin breaks maps unfreed on back same = record {
 }
 
 -- A LOOK that succeeds
-pub looks_ok : {T U : Type 0} (limits : State → ℕ → ℕ) (e e' : EngineSeen) (begin : State) (breaks : ℕ) (maps unfreed : Maps) (L M : Type 0) (x : T) (y : U) → EngineRests e e' (let r : Result T SpaceFault = Ok x in r) → (e.Told → Same e e') → L → M
-    → Looks (acts_view limits e begin breaks maps unfreed) (acts_view limits e' begin breaks maps unfreed) L M (let r : Result U SpaceFault = Ok y in r)
-looks_ok limits e e' begin breaks maps unfreed L M x y h same later means = record {
+pub looks_ok : {T U : Type 0} {begun : Bool} (limits : State → ℕ → ℕ) (e e' : EngineSeen) (begin : State) (breaks : ℕ) (maps unfreed : Maps) (L M : Type 0) (x : T) (y : U) → EngineRests e e' (let r : Result T SpaceFault = Ok x in r) → (e.Told → Same e e') → L → M
+    → Looks (acts_view limits e begun begin breaks maps unfreed) (acts_view limits e' begun begin breaks maps unfreed) L M (let r : Result U SpaceFault = Ok y in r)
+looks_ok {T} {U} {begun} limits e e' begin breaks maps unfreed L M x y h same later means = record {
   counts = record { told = h.counts.told; later = let l = h.counts.later in omega (arith, l); quiet = ap (λ (n : ℕ). n + breaks) h.counts.quiet; disk = tt; log_end = tt };
   writes = record { only_disk = tt; records = h.records };
   kept = only_reads limits e e' begin breaks maps unfreed h.counts.tells h.counts.told same;
@@ -40,15 +40,15 @@ looks_ok limits e e' begin breaks maps unfreed L M x y h same later means = reco
 }
 
 -- and one that fails
-pub looks_err : {T U : Type 0} (limits : State → ℕ → ℕ) (e e' : EngineSeen) (begin : State) (breaks : ℕ) (maps unfreed : Maps) (L M : Type 0) (f : SpaceFault) → EngineRests {T = T} e e' (Err f) → L → M
-    → Looks {T = U} (acts_view limits e begin breaks maps unfreed) (acts_view limits e' begin breaks maps unfreed) L M (Err f)
-looks_err {T} {U} limits e e' begin breaks maps unfreed L M f h later means = record {
+pub looks_err : {T U : Type 0} {begun : Bool} (limits : State → ℕ → ℕ) (e e' : EngineSeen) (begin : State) (breaks : ℕ) (maps unfreed : Maps) (L M : Type 0) (f : SpaceFault) → EngineRests {T = T} e e' (Err f) → L → M
+    → Looks {T = U} (acts_view limits e begun begin breaks maps unfreed) (acts_view limits e' begun begin breaks maps unfreed) L M (Err f)
+looks_err {T} {U} {begun} limits e e' begin breaks maps unfreed L M f h later means = record {
   counts = record {
     told = h.counts.told;
     later = let l = h.counts.later in omega (arith, l);
     quiet = tt;
     disk = λ d few. let r : e.faults < e'.faults = h.counts.disk d (omega (arith, few)) in omega (arith, r);
-    log_end = λ z. let n = h.counts.log_end z in let l = h.counts.tail in omega (arith, n, l);
+    log_end = λ z. inl (let n = h.counts.log_end z in let l = h.counts.tail in omega (arith, n, l));
   };
   writes = record { only_disk = h.only_disk; records = h.records };
   kept = tt;
@@ -57,10 +57,10 @@ looks_err {T} {U} limits e e' begin breaks maps unfreed L M f h later means = re
 }
 
 -- the same, where another result is the same failure
-pub looks_err_is : {T U : Type 0} (limits : State → ℕ → ℕ) (e e' : EngineSeen) (begin : State) (breaks : ℕ) (maps unfreed : Maps) (L M : Type 0) (r : Result U SpaceFault) (f h : SpaceFault) → r ≡ Err h → h ≡ f → EngineRests {T = T} e e' (Err f) → L → M
-    → Looks {T = U} (acts_view limits e begin breaks maps unfreed) (acts_view limits e' begin breaks maps unfreed) L M r
-looks_err_is {T} {U} limits e e' begin breaks maps unfreed L M r f h is same l later means =
-    subst (λ (q : Result U SpaceFault). Looks {T = U} (acts_view limits e begin breaks maps unfreed) (acts_view limits e' begin breaks maps unfreed) L M q) (sym is)
+pub looks_err_is : {T U : Type 0} {begun : Bool} (limits : State → ℕ → ℕ) (e e' : EngineSeen) (begin : State) (breaks : ℕ) (maps unfreed : Maps) (L M : Type 0) (r : Result U SpaceFault) (f h : SpaceFault) → r ≡ Err h → h ≡ f → EngineRests {T = T} e e' (Err f) → L → M
+    → Looks {T = U} (acts_view limits e begun begin breaks maps unfreed) (acts_view limits e' begun begin breaks maps unfreed) L M r
+looks_err_is {T} {U} {begun} limits e e' begin breaks maps unfreed L M r f h is same l later means =
+    subst (λ (q : Result U SpaceFault). Looks {T = U} (acts_view limits e begun begin breaks maps unfreed) (acts_view limits e' begun begin breaks maps unfreed) L M q) (sym is)
     (looks_err {T = T} {U = U} limits e e' begin breaks maps unfreed L M h (subst (λ (x : SpaceFault). EngineRests {T = T} e e' (Err x)) (sym same) l) later means)
 
 pub none_looked : {U : Type 0} (P : U → Type 0) (r : Result U SpaceFault) (h : SpaceFault) → r ≡ Err h → IfOk r P

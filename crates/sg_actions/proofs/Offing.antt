@@ -1,22 +1,26 @@
 -- A take-off that goes on.
-use Rattle.std.proofs.Common.{◌≡◌, ◌≢◌, ℕ, ◌+◌, ◌<◌, List, [], ◌∷◌, Option, Some, IsSome, Bool, true, false, not, sym, ap, subst, ◌∙◌, refl, arith, inl, inr}
+use Rattle.std.proofs.Common.{◌≡◌, ◌≢◌, ◌⊎◌, ℕ, zero, suc, ◌+◌, ◌<◌, List, [], ◌∷◌, Option, Some, IsSome, Bool, true, false, not, sym, ap, subst, ◌∙◌, refl, arith, inl, inr}
+use Rattle.std.proofs.Props.{props}
+use mathlib.Core.Logic.{∥∥₁_prop}
 use Rattle.std.specs.Prelude.{◌&&◌, ◌||◌, map, Result, Ok}
 use Rattle.std.proofs.lemmas.Bool.{cases_Bool}
 use Rattle.std.proofs.lemmas.Option.{slice_get_within}
 use Rattle.sg_alloc.specs.Flags.{free_of}
 use Rattle.sg_alloc.specs.declared.maps.Maps.{Maps}
 use Rattle.sg_ops.specs.Table.{Table}
-use Rattle.sg_record.specs.Changes.{Change as Changing}
+use Rattle.sg_record.specs.Changes.{Change as Changing, BandOp}
+use Rattle.sg_record.specs.Changes.Change.{Page, SegWrite, SegOp}
 use Rattle.sg_record.specs.Records.{Record}
 use Rattle.sg_record.specs.Records.Says.{PhysComp as SaysPhysComp}
 use Rattle.sg_record.specs.Shown.{by}
-use Rattle.sg_recovery.specs.Log.{Open, tally, changes_of}
+use Rattle.sg_recovery.specs.Laws.{Each}
+use Rattle.sg_recovery.specs.Log.{Open, tally, is_in, changes_of}
 use Rattle.sg_recovery.specs.Log.Record.{Change, PhysComp}
 use Rattle.sg_recovery.specs.Chains.{next_off}
 use Rattle.sg_action.specs.States.{State, Kept, Change as Changed, apply, fits}
 use Rattle.sg_action.specs.Opened.{formats}
-use Rattle.sg_actions.specs.Changes.{meaning, comp_of, IsChangeOf}
-use Rattle.sg_actions.specs.Engine.{EngineView, now_of}
+use Rattle.sg_actions.specs.Changes.{meaning, comp_of, op_off, IsChangeOf}
+use Rattle.sg_actions.specs.Engine.{EngineSeen, EngineView, IsOfOpen, KnowsOff, led, now_of}
 use Rattle.sg_actions.proofs.Led.{now_stays}
 use Rattle.sg_actions.specs.Led.{Appended, HasLogged, Stayed, HasStayed}
 use Rattle.sg_actions.specs.Steps.{Step, Steps, stepped, step_at, step_of, step_by, repeated}
@@ -49,6 +53,14 @@ next_one t kept begin e rows actor at ne h = by_list (tally e.steps).opened refl
         let here : at ≡ d.lsn = h.at_is ∙ ap (next_off actor.before) is in
         let linked : AreLinked e.steps actor.before (d ∷ ds) = subst (λ (es : List (Open Changing)). AreLinked e.steps actor.before es) is h.taking.running.linked in
         record { d = d; ds = ds; is = is; here = here; step = ap (step_at e.steps) here ∙ linked.0 }
+
+-- it names a record below it
+pub next_low : (t : Table) (kept : Kept) (begin : State) (e : EngineView) (rows : List Row) (actor : Actor) (at : ℕ) → IsGoing t kept begin e rows actor at → (n : IsNext e.steps actor at) → next_off actor.before n.ds < at
+next_low t kept begin e rows actor at h n =
+    let linked : AreLinked e.steps actor.before (n.d ∷ n.ds) = subst (λ (es : List (Open Changing)). AreLinked e.steps actor.before es) n.is h.taking.running.linked in
+    let low = linked.1 in
+    let here = n.here in
+    omega (arith, low, here)
 
 -- a look leaves a take-off as it is
 pub going_stays : {t : Table} {kept : Kept} {begin : State} {e e' : EngineView} {rows : List Row} {actor : Actor} {at : ℕ} → Stayed e e' → IsGoing t kept begin e rows actor at → IsGoing t kept begin e' rows actor at
@@ -177,6 +189,43 @@ pub off_fits : (t : Table) (kept : Kept) (begin : State) (e : EngineView) (rows 
 off_fits t kept begin e rows actor at prev c comp x now n r is h =
     let one = takes_one_off t kept begin e.base e.steps (now_of t e) e.tail (e.tail + 1) rows actor n.d n.ds (omega arith) n.is h.taking in
     ap (λ (y : State). fits t y (meaning comp)) now ∙ (ap (λ (y : Changing). fits t (now_of t e) (meaning y)) is ∙ (ap (λ (y : Changing). fits t (now_of t e) (meaning (comp_of y))) r.change ∙ one.fits_it))
+
+pub known_off_prop : (s : EngineSeen) (c : Changing) → IsProp (KnowsOff s c)
+known_off_prop s (Page w) = hlevel props
+known_off_prop s (SegWrite w) = hlevel props
+known_off_prop s (SegOp w) = ∥∥₁_prop
+
+-- its range operation is that of the change that it takes off
+pub off_known : (t : Table) (kept : Kept) (begin from : State) (s : EngineSeen) (rows : List Row) (actor : Actor) (at prev : ℕ) (c comp : Changing) → (n : IsNext s.steps actor at) → IsRead c prev n.d (next_off actor.before n.ds) → comp ≡ comp_of c
+    → IsGoing t kept begin (led from s) rows actor at → KnowsOff s comp
+off_known t kept begin from s rows actor at prev c comp n r is h = subst (KnowsOff s) (sym is) (by c r.change)
+  where
+    goes : (u v : ℕ) → u ≡ v → (v ≢ 0 → is_in v (tally s.steps).live ≡ true) → (u ≡ 0) ⊎ (is_in u (tally s.steps).live ≡ true)
+    goes u zero e acts = inl e
+    goes u (suc v) e acts = inr (subst (λ (k : ℕ). is_in k (tally s.steps).live ≡ true) (sym e) (acts (λ z. omega (arith, z))))
+
+    owned : Each (λ (d : Open Changing). d.transaction ≡ actor.txn.0) (n.d ∷ n.ds)
+    owned = subst (λ (ds : List (Open Changing)). Each (λ (d : Open Changing). d.transaction ≡ actor.txn.0) ds) n.is h.taking.running.owned
+
+    of_open : (w : BandOp) → SegOp w ≡ n.d.change → IsOfOpen s (SegOp w)
+    of_open w e = record {
+      log = h.taking.running.log;
+      change = n.d;
+      others = n.ds;
+      last = n.is;
+      previous = next_off actor.before n.ds;
+      stands = ap (step_at s.steps) (sym n.here) ∙ (n.step ∙ ap (λ (d : Changing). Some (Change n.d.transaction (next_off actor.before n.ds) d)) (sym e));
+      goes_on = goes n.d.transaction actor.txn.0 owned.0 h.taking.running.acting;
+    }
+
+    by_list : (w : BandOp) (xs : List ℕ) → SegOp w ≡ n.d.change → KnowsOff s (op_off w xs)
+    by_list w [] e = ∣ of_open w e ∣₁
+    by_list w (x ∷ xs) e = tt
+
+    by : (d : Changing) → d ≡ n.d.change → KnowsOff s (comp_of d)
+    by (Page w) e = tt
+    by (SegWrite w) e = tt
+    by (SegOp w) e = by_list w w.before e
 
 -- the pages that are taken still say something
 pub said_less : {A : Type 0} (taken taken' : List Bool) (contents : ℕ → Option A) → ((n : ℕ) → is_set taken' n ≡ true → is_set taken n ≡ true) → ((n : ℕ) → is_set taken n ≡ true → IsSome (contents n)) → (n : ℕ) → is_set taken' n ≡ true → IsSome (contents n)

@@ -1,5 +1,5 @@
 -- What a space over an engine shows once a piece of a band is painted.
-use Rattle.std.proofs.Common.{◌≡◌, ℕ, ◌+◌, ◌≤◌, List, [], ◌∷◌, length, take, drop, Option, Some, None, Bool, true, sym, ap, subst, ◌∙◌, refl, arith}
+use Rattle.std.proofs.Common.{◌≡◌, ℕ, ◌+◌, ◌≤◌, List, [], ◌∷◌, length, take, drop, Some, None, Bool, true, sym, ap, subst, ◌∙◌, refl, arith}
 use Rattle.std.specs.Prelude.{if◌then◌else◌, IsSome}
 use Rattle.std.proofs.lemmas.List.{length-take-le, length-drop}
 use Rattle.sg_alloc.specs.declared.maps.Maps.{Maps}
@@ -14,7 +14,6 @@ use Rattle.sg_action.specs.Opened.{StoodThere}
 use Rattle.sg_action.proofs.Opened.{one_here, one_there}
 use Rattle.sg_space.specs.Bands.{Wrote}
 use Rattle.sg_actions.specs.Acting.{IsWell}
-use Rattle.sg_actions.specs.Changes.{meaning}
 use Rattle.sg_actions.specs.Painting.{op_with}
 use Rattle.sg_actions.specs.Engine.{EngineView, EngineSeen, now_of}
 use Rattle.sg_actions.specs.Steps.{Steps, opened, begin_of}
@@ -60,10 +59,10 @@ pub paint_same : (limits : State → ℕ → ℕ) (begin : State) (ds : List Cha
 paint_same limits begin ds pages bands b at count code position arg [] some = absurd (omega (arith, some))
 paint_same limits begin ds pages bands b at count code position arg (y ∷ before) some = refl
 
-pub shows_paint : (t : Table) (limits : State → ℕ → ℕ) (e e' : EngineSeen) (begin : State) (breaks : ℕ) (maps unfreed : Maps) (txn last b at count code position lsn : ℕ) (arg before : List ℕ) → is_there maps.bands unfreed.bands b ≡ true
+pub shows_paint : {begun : Bool} (t : Table) (limits : State → ℕ → ℕ) (e e' : EngineSeen) (begin : State) (breaks : ℕ) (maps unfreed : Maps) (txn last b at count code position lsn : ℕ) (arg before : List ℕ) → is_there maps.bands unfreed.bands b ≡ true
     → 1 ≤ length before → (e.Told → e'.Told) → (e'.Told → e.Told) → (e.Told → Made t e e' (ChangeStep txn last (SegOp (op_with b at count code position arg before))) lsn)
-    → Wrote (acts_view limits e begin breaks maps unfreed) (acts_view limits e' begin breaks maps unfreed) b at (rendered (range_at t code) arg position count)
-shows_paint t limits e e' begin breaks maps unfreed txn last b at count code position lsn arg before there some still back made = record {
+    → Wrote (acts_view limits e begun begin breaks maps unfreed) (acts_view limits e' begun begin breaks maps unfreed) b at (rendered (range_at t code) arg position count)
+shows_paint {begun} t limits e e' begin breaks maps unfreed txn last b at count code position lsn arg before there some still back made = record {
   keeps = record {
     told = still;
     may_take = λ h. h;

@@ -1,11 +1,11 @@
 -- Rows, with one in the place of another.
-use Rattle.std.proofs.Common.{◌≡◌, ◌≢◌, ℕ, zero, suc, ◌==◌, ◌<◌, ◌≤◌, List, [], ◌∷◌, ◌++◌, length, take, drop, take_all, Some, None, Bool, true, false, sym, ap, ◌∙◌, refl, arith, slice_index_or, slice_set, inl, inr}
+use Rattle.std.proofs.Common.{◌≡◌, ◌≢◌, ℕ, zero, suc, ◌==◌, ◌<◌, List, [], ◌∷◌, ◌++◌, length, take, drop, take_all, Some, None, Bool, true, false, sym, ap, subst, ◌∙◌, refl, arith, slice_index_or, slice_set, inl, inr}
 use Rattle.std.specs.Prelude.{if◌then◌else◌, option_map}
 use Rattle.std.specs.List.{find}
-use Rattle.std.proofs.lemmas.Bool.{cases_Bool}
+use Rattle.std.proofs.lemmas.Bool.{cases_Bool, cases_eq}
 use Rattle.std.proofs.lemmas.Bool.Decides.{nat_tests}
 use Rattle.std.proofs.lemmas.List.{take-append-le}
-use Rattle.sg_actions.specs.Rows.{last_in, placed, rows_after}
+use Rattle.sg_actions.specs.Rows.{last_in, AreApart, placed, rows_after}
 use Rattle.sg_base.specs.declared.numbers.TxnId.{TxnId}
 use Rattle.sg_actions.specs.declared.rows.Row.{Row}
 
@@ -83,13 +83,50 @@ after_none rows txn lsn e = sym (ap (λ (b : Bool). if b then rows else placed r
 pub after_one : (rows : List Row) (txn : TxnId) (lsn : ℕ) → txn.0 ≢ 0 → placed rows txn.0 (record { txn = txn; last = lsn }) ≡ rows_after rows txn lsn
 after_one rows txn lsn ne = sym (ap (λ (b : Bool). if b then rows else placed rows txn.0 (record { txn = txn; last = lsn })) (let i : (txn.0 == 0) ≡ false = grind (arith, nat_tests, ne) in i))
 
--- as many rows as before
-pub few_placed : {xs : List Row} (rows : List Row) (t : ℕ) (row : Row) → xs ≡ placed rows t row → length rows ≤ 64 → length xs ≤ 64
-few_placed {xs} rows t row is few = let a : length xs ≡ length (placed rows t row) = ap length is in let b = length-placed rows t row in omega (arith, a, b, few)
+-- ROWS APART
 
-pub few_after : {xs : List Row} (rows : List Row) (txn : TxnId) (lsn : ℕ) → xs ≡ rows_after rows txn lsn → length rows ≤ 64 → length xs ≤ 64
-few_after {xs} rows txn lsn is few = by (txn.0 == 0) (ap length is)
+-- the first row is of another, or of this one
+row_other : (x : Row) (xs : List Row) (u : ℕ) → x.txn.0 ≢ u → last_in (x ∷ xs) u ≡ last_in xs u
+row_other x xs u ne = ap (λ (b : Bool). option_map (λ (r : Row). r.last) (if b then Some x else find (λ (r : Row). r.txn.0 == u) xs)) (let e : (x.txn.0 == u) ≡ false = grind (arith, nat_tests, ne) in e)
+
+row_own : (x : Row) (xs : List Row) (u : ℕ) → x.txn.0 ≡ u → last_in (x ∷ xs) u ≡ Some x.last
+row_own x xs u is = ap (λ (b : Bool). option_map (λ (r : Row). r.last) (if b then Some x else find (λ (r : Row). r.txn.0 == u) xs)) (let e : (x.txn.0 == u) ≡ true = grind (arith, nat_tests, is) in e)
+
+-- where none is of a transaction, the first isn't
+first_other : (x : Row) (xs : List Row) (u : ℕ) → last_in (x ∷ xs) u ≡ None → x.txn.0 ≢ u
+first_other x xs u none is = absurd (let no : Some x.last ≡ None = sym (row_own x xs u is) ∙ none in cc)
+
+-- what is put in the place of the first one
+placed_here : (x : Row) (xs : List Row) (t : ℕ) (row : Row) → x.txn.0 ≡ t → placed (x ∷ xs) t row ≡ row ∷ xs
+placed_here x xs t row is = ap (λ (b : Bool). if b then row ∷ xs else x ∷ placed xs t row) (let e : (x.txn.0 == t) ≡ true = grind (arith, nat_tests, is) in e)
+
+placed_there : (x : Row) (xs : List Row) (t : ℕ) (row : Row) → x.txn.0 ≢ t → placed (x ∷ xs) t row ≡ x ∷ placed xs t row
+placed_there x xs t row ne = ap (λ (b : Bool). if b then row ∷ xs else x ∷ placed xs t row) (let e : (x.txn.0 == t) ≡ false = grind (arith, nat_tests, ne) in e)
+
+-- no row of a transaction is left once another has taken the place of its one
+pub none_placed : (rows : List Row) (t : ℕ) (row : Row) → AreApart rows → t ≢ 0 → row.txn.0 ≢ t → last_in (placed rows t row) t ≡ None
+none_placed [] t row h some ne = refl
+none_placed (x ∷ xs) t row h some ne = elim (cases_eq x.txn.0 t) as (λ _. last_in (placed (x ∷ xs) t row) t ≡ None) [
+  | inl is ↦ ap (λ (ys : List Row). last_in ys t) (placed_here x xs t row is) ∙ (row_other row xs t ne ∙ subst (λ (u : ℕ). last_in xs u ≡ None) is (h.0 (λ z. some (sym is ∙ z))))
+  | inr other ↦ ap (λ (ys : List Row). last_in ys t) (placed_there x xs t row other) ∙ (row_other x (placed xs t row) t other ∙ none_placed xs t row h.1 some ne)
+]
+
+-- rows stay apart where the one that is put is of the same transaction, of none, or of one without a row
+pub placed_apart : (rows : List Row) (t : ℕ) (row : Row) → AreApart rows → (row.txn.0 ≢ 0 → row.txn.0 ≢ t → last_in rows row.txn.0 ≡ None) → AreApart (placed rows t row)
+placed_apart [] t row h new = tt
+placed_apart (x ∷ xs) t row h new = elim (cases_eq x.txn.0 t) as (λ _. AreApart (placed (x ∷ xs) t row)) [
+  | inl is ↦ subst AreApart (sym (placed_here x xs t row is)) (λ some. here is some, h.1)
+  | inr other ↦ subst AreApart (sym (placed_there x xs t row other)) (λ some. there other some, placed_apart xs t row h.1 (λ some ne. let none = new some ne in sym (row_other x xs row.txn.0 (first_other x xs row.txn.0 none)) ∙ none))
+]
   where
-    by : (b : Bool) → length xs ≡ length (if b then rows else placed rows txn.0 (record { txn = txn; last = lsn })) → length xs ≤ 64
-    by true e = omega (arith, e, few)
-    by false e = let b = length-placed rows txn.0 (record { txn = txn; last = lsn }) in omega (arith, e, b, few)
+    here : x.txn.0 ≡ t → row.txn.0 ≢ 0 → last_in xs row.txn.0 ≡ None
+    here is some = elim (cases_eq row.txn.0 t) as (λ _. last_in xs row.txn.0 ≡ None) [
+      | inl same ↦ subst (λ (u : ℕ). last_in xs u ≡ None) (is ∙ sym same) (h.0 (λ z. some (same ∙ (sym is ∙ z))))
+      | inr ne ↦ let none = new some ne in sym (row_other x xs row.txn.0 (first_other x xs row.txn.0 none)) ∙ none
+    ]
+
+    there : x.txn.0 ≢ t → x.txn.0 ≢ 0 → last_in (placed xs t row) x.txn.0 ≡ None
+    there other some = elim (cases_eq row.txn.0 x.txn.0) as (λ _. last_in (placed xs t row) x.txn.0 ≡ None) [
+      | inl same ↦ absurd (first_other x xs row.txn.0 (new (λ z. some (sym same ∙ z)) (λ e. other (sym same ∙ e))) (sym same))
+      | inr ne ↦ placed_other xs t x.txn.0 row other ne ∙ h.0 some
+    ]

@@ -32,6 +32,7 @@ use Rattle.sg_actions.specs.declared.rows.Row.{Row}
 use Rattle.sg_actions.specs.declared.undo.Found.{Found}
 use Rattle.sg_base.specs.declared.numbers.TxnId.{TxnId}
 use Rattle.sg_space.specs.declared.space.SpaceFault.{SpaceFault}
+use Rattle.sg_actions.proofs.Accounting.{KeepsCount, count_none, count_then, count_ok, accounts_ok, accounts_err}
 use Rattle.sg_actions.proofs.Flags.{some_is}
 use Rattle.sg_actions.specs.Calls.{NowActs, IsActable}
 use Rattle.sg_actions.specs.Counts.{ActsCounts}
@@ -94,10 +95,10 @@ fields (f ∷ fs) h = by f.1 refl h (fields fs)
     by true e k more = (e, more k)
     by false e k more = absurd (cc)
 
-fields_of : (transaction previous : ℕ) (says : Says) → IsRecord (by transaction previous says) → Each (λ f. f.1 ≡ true) (says_fields transaction previous says)
+pub fields_of : (transaction previous : ℕ) (says : Says) → IsRecord (by transaction previous says) → Each (λ f. f.1 ≡ true) (says_fields transaction previous says)
 fields_of transaction previous says h = (fields ((1, nat_le (HEADER + length (body_of says)) (greatest says)) ∷ says_fields transaction previous says) h.ranges).1
 
-part_is : (at count : ℕ) → is_part at count ≡ true → IsPiece at count
+pub part_is : (at count : ℕ) → is_part at count ≡ true → IsPiece at count
 part_is at count h =
     let a : nat_le 1 count ≡ true = and_left (nat_le 1 count) (nat_le count 8192 && nat_le (at + count) 32768) h in
     let r : (nat_le count 8192 && nat_le (at + count) 32768) ≡ true = and_right (nat_le 1 count) (nat_le count 8192 && nat_le (at + count) 32768) h in
@@ -105,7 +106,7 @@ part_is at count h =
     let c : nat_le (at + count) 32768 ≡ true = and_right (nat_le count 8192) (nat_le (at + count) 32768) r in
     record { some = grind (arith, nat_tests, a); most = grind (arith, nat_tests, b); within = grind (arith, nat_tests, c) }
 
-stood_of_is : (outside : ℕ) (b at : ℕ) (bytes : List ℕ) (s : Stood) → stood_of outside b at bytes ≡ Some s → ((b, (at, bytes)) ≡ s) × (1 ≤ length bytes)
+pub stood_of_is : (outside : ℕ) (b at : ℕ) (bytes : List ℕ) (s : Stood) → stood_of outside b at bytes ≡ Some s → ((b, (at, bytes)) ≡ s) × (1 ≤ length bytes)
 stood_of_is outside b at [] s e = absurd (none_some s e)
 stood_of_is outside b at (y ∷ ys) s e = (by (nat_lt b outside) e, omega arith)
   where
@@ -133,7 +134,7 @@ write_part outside w transaction previous s h e =
     let same : IsPiece w.at (length w.before) = subst (λ (n : ℕ). IsPiece w.at n) (sym h.fits.1.0) piece in
     subst (λ (z : Stood). IsPiece z.1.0 (length z.1.1)) p.0 same
 
-op_count : (c : BandOp) → op_before_fits false c ≡ true → 1 ≤ length c.before → length c.before ≡ c.count
+pub op_count : (c : BandOp) → op_before_fits false c ≡ true → 1 ≤ length c.before → length c.before ≡ c.count
 op_count c h some = elim (cases_Bool (length c.before == c.count)) [
   | inl e ↦ grind (arith, nat_tests, e)
   | inr e ↦
@@ -153,7 +154,7 @@ op_part outside w transaction previous s h e =
     let same : IsPiece w.at (length w.before) = subst (λ (n : ℕ). IsPiece w.at n) (sym (op_count w last p.1)) piece in
     subst (λ (z : Stood). IsPiece z.1.0 (length z.1.1)) p.0 same
 
-firsts : (a b : Hop) → Some a ≡ Some b → a.0 ≡ b.0
+pub firsts : (a b : Hop) → Some a ≡ Some b → a.0 ≡ b.0
 firsts a b e = ap (λ (h : Hop). h.0) (same_some a b e)
 
 hop_part : (outside : ℕ) (transaction previous n : ℕ) (says : Says) (c : Option Changing) (s : Stood) → IsRecord (by transaction previous says) → hop_in (step_by transaction previous says) ≡ Some (c, n) → stood_by outside c ≡ Some s → IsPiece s.1.0 (length s.1.1)
@@ -418,26 +419,28 @@ pub record HasRun (e e' : EngineSeen) (b b' : ℕ) : Type 0 where
   pub told : e'.Told → e.Told
   pub tells : e.Told → e'.Told
   pub quiet : e'.faults + b' ≡ e.faults + b
+  pub disk : KeepsCount e.disk e'.disk e.gate e'.gate
   pub tail : e.tail ≤ e'.tail
   pub stops : e.failed ≡ true → (e'.failed ≡ true) × (e'.disk ≡ e.disk)
 
 pub run_none : (e : EngineSeen) (b : ℕ) → HasRun e e b b
-run_none e b = record { told = λ z. z; tells = λ z. z; quiet = refl; tail = omega arith; stops = λ z. (z, refl) }
+run_none e b = record { told = λ z. z; tells = λ z. z; quiet = refl; disk = count_none e.disk e.gate; tail = omega arith; stops = λ z. (z, refl) }
 
 pub run_by : {T : Type 0} {e e' : EngineSeen} {b b' : ℕ} {x : T} → ActsCounts {T = T} e e' b b' (Ok x) → HasRun e e' b b'
-run_by k = record { told = k.told; tells = k.tells; quiet = k.quiet; tail = k.tail; stops = k.stops }
+run_by k = record { told = k.told; tells = k.tells; quiet = k.quiet; disk = count_ok k.accounts; tail = k.tail; stops = k.stops }
 
 pub run_then : {e e1 e' : EngineSeen} {b b1 b' : ℕ} → HasRun e e1 b b1 → HasRun e1 e' b1 b' → HasRun e e' b b'
 run_then {e} {e1} {e'} {b} {b1} {b'} h k = record {
   told = λ z. h.told (k.told z);
   tells = λ z. k.tells (h.tells z);
   quiet = k.quiet ∙ h.quiet;
+  disk = count_then h.disk k.disk;
   tail = let p = h.tail in let q = k.tail in omega (arith, p, q);
   stops = λ z. let p = h.stops z in let q = k.stops p.0 in (q.0, q.1 ∙ p.1);
 }
 
 pub run_ok : {T : Type 0} {e e' : EngineSeen} {b b' : ℕ} (x : T) → HasRun e e' b b' → ActsCounts {T = T} e e' b b' (Ok x)
-run_ok {T} {e} {e'} {b} {b'} x h = record { told = h.told; tells = h.tells; later = let q = h.quiet in omega (arith, q); quiet = h.quiet; disk = tt; log_end = tt; tail = h.tail; silent = tt; stops = h.stops }
+run_ok {T} {e} {e'} {b} {b'} x h = record { told = h.told; tells = h.tells; later = let q = h.quiet in omega (arith, q); quiet = h.quiet; disk = tt; accounts = accounts_ok x h.disk; log_end = tt; tail = h.tail; silent = tt; stops = h.stops }
 
 pub run_err : {T S : Type 0} {e e1 e' : EngineSeen} {b b1 b' : ℕ} {f : SpaceFault} → HasRun e e1 b b1 → ActsCounts {T = T} e1 e' b1 b' (Err f) → ActsCounts {T = S} e e' b b' (Err f)
 run_err {T} {S} {e} {e1} {e'} {b} {b1} {b'} {f} h k = record {
@@ -446,6 +449,7 @@ run_err {T} {S} {e} {e1} {e'} {b} {b1} {b'} {f} h k = record {
   later = let q = h.quiet in let l = k.later in omega (arith, q, l);
   quiet = tt;
   disk = λ d few. let q = h.quiet in let r : e1.faults + b1 < e'.faults + b' = k.disk d few in omega (arith, q, r);
+  accounts = accounts_err h.tells h.disk k.accounts;
   log_end = k.log_end;
   tail = let p = h.tail in let q = k.tail in omega (arith, p, q);
   silent = k.silent;
@@ -454,7 +458,7 @@ run_err {T} {S} {e} {e1} {e'} {b} {b1} {b'} {f} h k = record {
 
 -- one call of the engine, as a run and as what fails
 pub run_engine : {T : Type 0} {e e' : EngineSeen} (b : ℕ) {x : T} → EngineCounts {T = T} e e' (Ok x) → HasRun e e' b b
-run_engine b k = record { told = k.told; tells = k.tells; quiet = ap (λ (n : ℕ). n + b) k.quiet; tail = k.tail; stops = k.stops }
+run_engine b k = record { told = k.told; tells = k.tells; quiet = ap (λ (n : ℕ). n + b) k.quiet; disk = count_ok k.accounts; tail = k.tail; stops = k.stops }
 
 pub err_engine : {T : Type 0} {e e' : EngineSeen} (b : ℕ) {f : SpaceFault} → (e'.Told → e'.failed ≡ false) → EngineCounts {T = T} e e' (Err f) → ActsCounts {T = T} e e' b b (Err f)
 err_engine {T} {e} {e'} b {f} whole k = record {
@@ -463,6 +467,7 @@ err_engine {T} {e} {e'} b {f} whole k = record {
   later = let l = k.later in omega (arith, l);
   quiet = tt;
   disk = λ d few. let r : e.faults < e'.faults = k.disk d (omega (arith, few)) in omega (arith, r);
+  accounts = accounts_err (λ t. t) (count_none e.disk e.gate) k.accounts;
   log_end = λ z. let n = k.log_end z in let t = k.tail in omega (arith, n, t);
   tail = k.tail;
   silent = λ told. not_both e'.failed k.failed (whole told);

@@ -1,5 +1,5 @@
 -- Rows as a checkpoint spells them.
-use Rattle.std.proofs.Common.{◌≡◌, ◌≢◌, ℕ, ◌+◌, ◌*◌, ◌-◌, ◌==◌, ◌≤◌, List, [], ◌∷◌, ◌++◌, length, take, drop, Bool, true, false, sym, ap, subst, ◌∙◌, refl, arith, ◌<◌}
+use Rattle.std.proofs.Common.{◌≡◌, ◌≢◌, ℕ, zero, suc, ◌+◌, ◌*◌, ◌-◌, ◌==◌, ◌≤◌, List, [], ◌∷◌, ◌++◌, length, take, drop, Bool, true, false, sym, ap, subst, ◌∙◌, refl, arith, ◌<◌}
 use Rattle.std.specs.Prelude.{if◌then◌else◌, Option, Some, IfSome}
 use Rattle.sg_actions.specs.Changes.{HasTaken}
 use Rattle.std.proofs.lemmas.Bool.Decides.{nat_tests}
@@ -20,11 +20,11 @@ spelled_none rows into e = record { long = e; within = omega arith; are = refl }
 
 -- a vacant row
 pub spelled_off : (rows left more : List Row) (row : Row) (into : List ℕ) (size : ℕ) → left ≡ row ∷ more → row.txn.0 ≡ 0 → AreSpelled rows left into size → AreSpelled rows more into size
-spelled_off rows left more row into size e zero h = record {
+spelled_off rows left more row into size e vacant h = record {
   long = h.long;
   within = h.within;
   are =
-      let t : (row.txn.0 == 0) ≡ true = grind (arith, nat_tests, zero) in
+      let t : (row.txn.0 == 0) ≡ true = grind (arith, nat_tests, vacant) in
       ap (λ (xs : List ℕ). take size into ++ xs) (sym (ap rows_bytes e ∙ ap (λ (b : Bool). if b then rows_bytes more else row_bytes row ++ rows_bytes more) t)) ∙ h.are;
 }
 
@@ -73,6 +73,12 @@ length_taken n into e =
     let both : length (take n into ++ drop n into) ≡ length into = ap length (take-append-drop n into) in
     let two = length-append (take n into) (drop n into) in
     omega (arith, both, two, e)
+
+-- the first of some are no more than so many
+pub take_short : (n : ℕ) (rows : List Row) → length (take n rows) ≤ n
+take_short zero rows = omega arith
+take_short (suc n) [] = omega arith
+take_short (suc n) (r ∷ rows) = let h = take_short n rows in omega (arith, h)
 
 -- the bytes of 64 rows fit
 pub rows_fit : (rows left : List Row) → left ≡ rows → length rows ≤ 64 → 1024 < length (rows_bytes left) → ⊥

@@ -27,7 +27,7 @@ use Rattle.sg_actions.proofs.Chained.{later, running_comp, running_void, running
 use Rattle.sg_actions.proofs.Repeating.{made_opened}
 
 -- what a record says that takes a change of a page off
-off_said : (c : PageChange) → op_said (page_off c) ≡ back_said c
+pub off_said : (c : PageChange) → op_said (page_off c) ≡ back_said c
 off_said c = elim (cases_Bool (c.operation == 1)) [
   | inl a ↦ rw a refl
   | inr a ↦ elim (cases_Bool (c.operation == 2)) [
@@ -48,7 +48,7 @@ off_said c = elim (cases_Bool (c.operation == 1)) [
   ]
 ]
 
-off_page : (c : PageChange) → (page_off c).page ≡ c.page
+pub off_page : (c : PageChange) → (page_off c).page ≡ c.page
 off_page c = elim (cases_Bool (c.operation == 1)) [
   | inl a ↦ rw a refl
   | inr a ↦ elim (cases_Bool (c.operation == 2)) [
@@ -174,7 +174,7 @@ pub chain_void : (t : Table) (kept : Kept) (begin : State) (base : ℕ) (rs : St
     → IsTakingOff t kept begin base rs x tail rows actor → IsChained base (stepped rs tail (void_step actor)) next (placed rows actor.txn.0 row) at_rest
 chain_void t kept begin base rs x tail next rows actor row less acts is_row is_last none h = record {
   running = running_void less none h.running;
-  rows_are = rows_top (void_step actor) row refl refl less (own_low h.running) acts is_row is_last h.rows_are;
+  rows_are = rows_top (void_step actor) row refl refl less (own_low h.running) acts (h.running.acting acts) is_row is_last h.rows_are;
   closed = none_open h.running;
   at = sym (ap (next_off 0) (none_open h.running));
 }

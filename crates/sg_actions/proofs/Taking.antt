@@ -144,8 +144,9 @@ formatted : (t : Table) (kind : ℕ) (leaf : Option Sheet) → step_leaf t (Form
 formatted t kind None = refl
 formatted t kind (Some sheet) = refl
 
-pub format_loggable : (t : Table) (e : EngineSeen) (txn last p kind : ℕ) (c : PageChange) → IsSaid c p (Format kind) → IsLoggable t ⊥ e (ChangeStep txn last (PageHeld c))
-format_loggable t e txn last p kind c s = record {
+pub format_loggable : (t : Table) (e : EngineSeen) (txn last p kind : ℕ) (c : PageChange) → IsSaid c p (Format kind) → p < e.extent.pages → IsLoggable t ⊥ e (ChangeStep txn last (PageHeld c))
+format_loggable t e txn last p kind c s below = record {
+  there = subst (λ (n : ℕ). n < e.extent.pages) (sym s.page_is) below;
   fits = (λ j. is_some (step_leaf t (s.said j) (e.now.pages (s.page_is j)))) ∙ ap is_some (formatted t kind (e.now.pages p));
   known = tt;
   means = λ u. absurd (no (sym u ∙ ap uses_table s.said));
@@ -203,10 +204,10 @@ took_by {t} {e} {e'} {p} {kind} {c} s m =
     }
 
 -- THE SPACE SHOWS THE PAGE THAT IS TAKEN
-pub shows_take : (limits limits' : State → ℕ → ℕ) (e e' : EngineSeen) (begin : State) (breaks : ℕ) (maps maps' unfreed : Maps) (p kind : ℕ) (c : PageChange) (txn last lsn : ℕ) → limits' ≡ limits → AreFlags maps.pages unfreed.pages
+pub shows_take : {begun : Bool} (limits limits' : State → ℕ → ℕ) (e e' : EngineSeen) (begin : State) (breaks : ℕ) (maps maps' unfreed : Maps) (p kind : ℕ) (c : PageChange) (txn last lsn : ℕ) → limits' ≡ limits → AreFlags maps.pages unfreed.pages
     → slice_get maps.pages p ≡ Some false → maps'.pages ≡ slice_set maps.pages p true → maps'.bands ≡ maps.bands → IsSaid c p (Format kind) → back_said c ≡ Format 0 → (e.Told → HasFreedNone unfreed)
-    → (e.Told → e'.Told) → (e'.Told → e.Told) → (e.Told → TookNow e e' p kind c txn last lsn) → Took (acts_view limits e begin breaks maps unfreed) (acts_view limits' e' begin breaks maps' unfreed) kind p
-shows_take limits limits' e e' begin breaks maps maps' unfreed p kind c txn last lsn same_limits flags free is_pages is_bands s back freed still told_back took = subst (λ (l : State → ℕ → ℕ). Took (acts_view limits e begin breaks maps unfreed) (acts_view l e' begin breaks maps' unfreed) kind p) (sym same_limits) (record {
+    → (e.Told → e'.Told) → (e'.Told → e.Told) → (e.Told → TookNow e e' p kind c txn last lsn) → Took (acts_view limits e begun begin breaks maps unfreed) (acts_view limits' e' begun begin breaks maps' unfreed) kind p
+shows_take {begun} limits limits' e e' begin breaks maps maps' unfreed p kind c txn last lsn same_limits flags free is_pages is_bands s back freed still told_back took = subst (λ (l : State → ℕ → ℕ). Took (acts_view limits e begun begin breaks maps unfreed) (acts_view l e' begun begin breaks maps' unfreed) kind p) (sym same_limits) (record {
   keeps = record {
     told = still;
     may_take = λ h. h;

@@ -1,5 +1,5 @@
 -- What a space over an engine shows once a change of a page is logged.
-use Rattle.std.proofs.Common.{◌≡◌, ◌≢◌, ℕ, ◌+◌, List, ◌∷◌, length, Option, Some, None, ◌==◌, true, false, sym, ap, subst, ◌∙◌, refl, arith}
+use Rattle.std.proofs.Common.{Bool, ◌≡◌, ◌≢◌, ℕ, ◌+◌, ◌<◌, List, ◌∷◌, length, Option, Some, None, true, false, sym, ap, subst, ◌∙◌, refl}
 use Rattle.std.specs.Prelude.{⊤, is_some, if◌then◌else◌}
 use Rattle.sg_alloc.specs.declared.maps.Maps.{Maps}
 use Rattle.sg_base.specs.Op.{Op, is_format, opens}
@@ -56,10 +56,10 @@ pub record IsReady (t : Table) (x : State) (p : ℕ) (op : Op) (c : PageChange) 
   pub back : back_said c ≡ inverse op sheet
   pub proper : IsProper t op sheet
 
-pub ready : (t : Table) (limits : State → ℕ → ℕ) (e : EngineSeen) (begin : State) (breaks : ℕ) (maps unfreed : Maps) (p : ℕ) (op : Op) (c : PageChange) (shown : Sheet)
+pub ready : {begun : Bool} (t : Table) (limits : State → ℕ → ℕ) (e : EngineSeen) (begin : State) (breaks : ℕ) (maps unfreed : Maps) (p : ℕ) (op : Op) (c : PageChange) (shown : Sheet)
     → e.now.pages p ≡ Some shown → back_said c ≡ inverse op shown → BringsBytes op
-    → HasAt (acts_view limits e begin breaks maps unfreed).space.pages.at p (IsPossible t (acts_view limits e begin breaks maps unfreed) p op) → IsReady t e.now p op c
-ready t limits e begin breaks maps unfreed p op c shown looked back bytes h =
+    → HasAt (acts_view limits e begun begin breaks maps unfreed).space.pages.at p (IsPossible t (acts_view limits e begun begin breaks maps unfreed) p op) → IsReady t e.now p op c
+ready {begun} t limits e begin breaks maps unfreed p op c shown looked back bytes h =
     let there = there_is maps.pages unfreed.pages e.now.pages p h.what h.is in
     let same : shown ≡ h.what = same_some shown h.what (sym looked ∙ there.is) in
     let fit = some_of (step t op h.what) h.has.fits in
@@ -69,8 +69,9 @@ pub ready_same : {t : Table} {e e' : EngineSeen} {p : ℕ} {op : Op} {c : PageCh
 ready_same {t} {e} {e'} {p} same r = record { sheet = r.sheet; new = r.new; is = ap (λ (x : State). x.pages p) same.now ∙ r.is; fit = r.fit; back = r.back; proper = r.proper }
 
 -- so its record may be appended
-pub loggable : (t : Table) (e : EngineSeen) (txn last p : ℕ) (op : Op) (c : PageChange) → IsSaid c p op → IsReady t e.now p op c → IsLoggable t ⊤ e (ChangeStep txn last (PageHeld c))
-loggable t e txn last p op c s r = record {
+pub loggable : (t : Table) (e : EngineSeen) (txn last p : ℕ) (op : Op) (c : PageChange) → IsSaid c p op → IsReady t e.now p op c → p < e.extent.pages → IsLoggable t ⊤ e (ChangeStep txn last (PageHeld c))
+loggable t e txn last p op c s r below = record {
+  there = subst (λ (n : ℕ). n < e.extent.pages) (sym s.page_is) below;
   fits = ap (fits t e.now) (means_page s) ∙ (ap (λ (o : Option Sheet). is_some (step_leaf t op o)) r.is ∙ ap is_some r.fit);
   known = tt;
   means = λ u. tt;
@@ -90,9 +91,9 @@ pub record IsPlaced (limits : State → ℕ → ℕ) (begin : State) (rs : Steps
   pub set : is_set maps.pages p ≡ true
   pub place : opens op sheet ≡ true → MayGiveNow limits begin rs maps.pages maps.bands p (length sheet.slots + 1)
 
-pub placed_now : (t : Table) (limits : State → ℕ → ℕ) (e : EngineSeen) (begin : State) (breaks : ℕ) (maps unfreed : Maps) (p : ℕ) (op : Op) (sheet : Sheet) → e.Told → e.now.pages p ≡ Some sheet
-    → HasAt (acts_view limits e begin breaks maps unfreed).space.pages.at p (IsPossible t (acts_view limits e begin breaks maps unfreed) p op) → IsPlaced limits begin e.steps maps p op sheet
-placed_now t limits e begin breaks maps unfreed p op sheet told is h =
+pub placed_now : {begun : Bool} (t : Table) (limits : State → ℕ → ℕ) (e : EngineSeen) (begin : State) (breaks : ℕ) (maps unfreed : Maps) (p : ℕ) (op : Op) (sheet : Sheet) → e.Told → e.now.pages p ≡ Some sheet
+    → HasAt (acts_view limits e begun begin breaks maps unfreed).space.pages.at p (IsPossible t (acts_view limits e begun begin breaks maps unfreed) p op) → IsPlaced limits begin e.steps maps p op sheet
+placed_now {begun} t limits e begin breaks maps unfreed p op sheet told is h =
     let there = there_is maps.pages unfreed.pages e.now.pages p h.what h.is in
     let same : h.what ≡ sheet = same_some h.what sheet (sym there.is ∙ is) in
     record {
@@ -115,11 +116,11 @@ page_on t limits from e begin maps rows actor p op c plain s now since r h k lsn
     acting_change (PageHeld c) lsn next above below (well_on t limits e.now begin (begin_of t from e.steps) e.steps maps p op c plain s (made_opened t from e.steps ∙ sym now) since r h) k
 
 -- the same behind a look
-pub change_on : (t : Table) (limits : State → ℕ → ℕ) (from : State) (e e1 : EngineSeen) (begin : State) (breaks : ℕ) (maps unfreed : Maps) (rows : List Row) (actor : Actor) (p : ℕ) (op : Op) (c : PageChange) (shown : Sheet) → is_format op ≡ false → IsSaid c p op → e.Told → Same e e1
-    → e1.now.pages p ≡ Some shown → back_said c ≡ inverse op shown → BringsBytes op → HasAt (acts_view limits e begin breaks maps unfreed).space.pages.at p (IsPossible t (acts_view limits e begin breaks maps unfreed) p op)
+pub change_on : {begun : Bool} (t : Table) (limits : State → ℕ → ℕ) (from : State) (e e1 : EngineSeen) (begin : State) (breaks : ℕ) (maps unfreed : Maps) (rows : List Row) (actor : Actor) (p : ℕ) (op : Op) (c : PageChange) (shown : Sheet) → is_format op ≡ false → IsSaid c p op → e.Told → Same e e1
+    → e1.now.pages p ≡ Some shown → back_said c ≡ inverse op shown → BringsBytes op → HasAt (acts_view limits e begun begin breaks maps unfreed).space.pages.at p (IsPossible t (acts_view limits e begun begin breaks maps unfreed) p op)
     → e1.now ≡ now_of t (led from e1) → begin_of t from e1.steps ≡ begin → IsKept t limits (led from e1) maps rows actor → MayGoOn t limits (led from e1) maps rows actor (PageHeld c)
 unfolding ready ready_same
-change_on t limits from e e1 begin breaks maps unfreed rows actor p op c shown plain s told same looked back bytes h now since k =
+change_on {begun} t limits from e e1 begin breaks maps unfreed rows actor p op c shown plain s told same looked back bytes h now since k =
     let r = ready t limits e begin breaks maps unfreed p op c shown (ap (λ (x : State). x.pages p) (sym same.now) ∙ looked) back bytes h in
     page_on t limits from e1 begin maps rows actor p op c plain s now since (ready_same same r)
     (subst (λ (rs : Steps). IsPlaced limits begin rs maps p op r.sheet) (sym same.steps) (placed_now t limits e begin breaks maps unfreed p op r.sheet told r.is h)) k
@@ -135,10 +136,10 @@ pub unwritten : {rs rs' : Steps} {txn last lsn : ℕ} {c : PageChange} → rs' �
 unwritten is b h = sym (ap (λ (rs : Steps). writes_band (opened rs) b) is) ∙ h
 
 -- THE SPACE SHOWS THE CHANGE
-pub shows_change : (t : Table) (limits : State → ℕ → ℕ) (e e' : EngineSeen) (begin : State) (breaks : ℕ) (maps unfreed : Maps) (p : ℕ) (op : Op) (c : PageChange) (txn last lsn : ℕ) → is_there maps.pages unfreed.pages p ≡ true
+pub shows_change : {begun : Bool} (t : Table) (limits : State → ℕ → ℕ) (e e' : EngineSeen) (begin : State) (breaks : ℕ) (maps unfreed : Maps) (p : ℕ) (op : Op) (c : PageChange) (txn last lsn : ℕ) → is_there maps.pages unfreed.pages p ≡ true
     → is_format op ≡ false → IsSaid c p op → (e.Told → IsReady t e.now p op c) → (e.Told → e'.Told) → (e'.Told → e.Told) → (e.Told → Made t e e' (ChangeStep txn last (PageHeld c)) lsn)
-    → Changed t (acts_view limits e begin breaks maps unfreed) (acts_view limits e' begin breaks maps unfreed) p op
-shows_change t limits e e' begin breaks maps unfreed p op c txn last lsn there plain s ready still back made = record {
+    → Changed t (acts_view limits e begun begin breaks maps unfreed) (acts_view limits e' begun begin breaks maps unfreed) p op
+shows_change {begun} t limits e e' begin breaks maps unfreed p op c txn last lsn there plain s ready still back made = record {
   told = still;
   pages = λ told. record {
     here = λ x is. here_is t e.now e'.now maps unfreed p op c there (ready told) (ap (λ (y : State). y.pages p) (now told)) x is;

@@ -12,7 +12,7 @@ use Rattle.sg_action.specs.Opened.{StoodThere}
 use Rattle.sg_action.proofs.Opened.{one_here, one_there}
 use Rattle.sg_space.specs.Bands.{Wrote}
 use Rattle.sg_actions.specs.Acting.{IsWell}
-use Rattle.sg_actions.specs.Changes.{meaning, bytes_with}
+use Rattle.sg_actions.specs.Changes.{bytes_with}
 use Rattle.sg_actions.specs.Engine.{EngineView, EngineSeen, now_of}
 use Rattle.sg_actions.specs.Steps.{Steps, opened, begin_of}
 use Rattle.sg_actions.specs.Taken.{is_there, units_there, writes_band}
@@ -39,10 +39,10 @@ pub write_on : (t : Table) (limits : State → ℕ → ℕ) (e : EngineView) (ma
 write_on t limits e maps rows actor b at' count before after stood k lsn next above below = acting_change (SegWrite (bytes_with b at' count before after)) lsn next above below
     (goes_on_write t limits (begin_of t e.first e.steps) (opened e.steps) maps.pages maps.bands b at' before after (subst (λ (x : State). StoodThere (x.bands b) at' (length after) before) (sym (made_opened t e.first e.steps)) stood)) k
 
-pub shows_write : (t : Table) (limits : State → ℕ → ℕ) (e e' : EngineSeen) (begin : State) (breaks : ℕ) (maps unfreed : Maps) (b at count txn last lsn : ℕ) (before after : List ℕ) → is_there maps.bands unfreed.bands b ≡ true
+pub shows_write : {begun : Bool} (t : Table) (limits : State → ℕ → ℕ) (e e' : EngineSeen) (begin : State) (breaks : ℕ) (maps unfreed : Maps) (b at count txn last lsn : ℕ) (before after : List ℕ) → is_there maps.bands unfreed.bands b ≡ true
     → (e.Told → e'.Told) → (e'.Told → e.Told) → (e.Told → Made t e e' (ChangeStep txn last (SegWrite (bytes_with b at count before after))) lsn)
-    → Wrote (acts_view limits e begin breaks maps unfreed) (acts_view limits e' begin breaks maps unfreed) b at after
-shows_write t limits e e' begin breaks maps unfreed b at count txn last lsn before after there still back made = record {
+    → Wrote (acts_view limits e begun begin breaks maps unfreed) (acts_view limits e' begun begin breaks maps unfreed) b at after
+shows_write {begun} t limits e e' begin breaks maps unfreed b at count txn last lsn before after there still back made = record {
   keeps = record {
     told = still;
     may_take = λ h. h;

@@ -1,6 +1,7 @@
 -- What each call of a space over an engine keeps, and a record that it may append.
 use Rattle.std.specs.Prelude.{◌≡◌, ℕ, ◌+◌, ◌≤◌, true, List, Some, Result, IfErr, OnOk, OnErr}
 use Rattle.sg_base.specs.Ends.{HasRisen}
+use Rattle.sg_disk.specs.Accounts.{Accounts}
 use Rattle.sg_ops.specs.Table.{Table}
 use Rattle.sg_recovery.specs.Formed.{IsLog}
 use Rattle.sg_recovery.specs.Log.{Top}
@@ -23,6 +24,7 @@ pub record ActsCounts {T : Type 0} (e e' : EngineSeen) (breaks breaks' : ℕ) (r
   pub later : e.faults + breaks ≤ e'.faults + breaks'
   pub quiet : OnOk result (e'.faults + breaks' ≡ e.faults + breaks)
   pub disk : IfErr result (λ f. f ≡ Disk → HasRisen (e.faults + breaks) (e'.faults + breaks'))
+  pub accounts : Accounts (λ f. f ≡ Disk) e.Told e.disk e'.disk e.gate e'.gate result
   -- it is near at the end of the call: an earlier record of it may have come near
   pub log_end : IfErr result (λ f. f ≡ LogEnd → IsNearEnd e')
   pub tail : e.tail ≤ e'.tail

@@ -1,7 +1,8 @@
 -- All that is known of an engine: a log of records, and the pages and bands that its records make.
-use Rattle.std.specs.Prelude.{◌≡◌, ◌≢◌, ℕ, ◌+◌, ◌<◌, ◌≤◌, ◌^◌, Bool, true, IsSome, List, length, Option, Some, None, Result, Ok, ◌*◌, IfOk, IfErr, OnOk, OnErr, ⊤}
+use Rattle.std.specs.Prelude.{◌≡◌, ◌≢◌, ◌⊎◌, ℕ, ◌+◌, ◌<◌, ◌≤◌, ◌^◌, Bool, true, IsSome, List, [], ◌∷◌, length, Option, Some, None, Result, Ok, ◌*◌, IfOk, IfErr, OnOk, OnErr, ⊤}
 use Rattle.sg_base.specs.Ends.{HasRisen}
 use Rattle.sg_base.specs.Sheet.{Sheet}
+use Rattle.sg_disk.specs.Accounts.{Accounts}
 use Rattle.sg_disk.specs.Disk as disk
 use Rattle.sg_disk.specs.Disk.{Image, Leaves, LeavesOnly}
 use Rattle.sg_ops.specs.Steps.{uses_table}
@@ -11,6 +12,8 @@ use Rattle.sg_record.specs.Changes.Change.{Page, SegWrite, SegOp}
 use Rattle.sg_record.specs.Records.{Record, Says, spelled}
 use Rattle.sg_record.specs.Reading.{parse}
 use Rattle.sg_base.specs.Page.{stored}
+use Rattle.sg_recovery.specs.Formed.{IsLog}
+use Rattle.sg_recovery.specs.Log.{Open, tally, is_in}
 use Rattle.sg_recovery.specs.Log.Record.{Change, PhysComp}
 use Rattle.sg_action.specs.States.{State, fits}
 use Rattle.sg_space.specs.declared.space.SpaceFault.{SpaceFault}
@@ -19,15 +22,24 @@ use Rattle.sg_actions.specs.Changes.{op_said, meaning}
 use Rattle.sg_actions.specs.Images.{Grows, Recovering, IsImageOf}
 use Rattle.sg_actions.specs.Steps.{Step, Steps, step_of, step_at, with_step, repeated}
 
+-- how many pages and bands there are
+pub record Extent : Type 0 where
+  pub pages : ℕ
+  pub bands : ℕ
+
 -- WHAT AN ENGINE SHOWS, whatever its records mean and wherever they lead from
 pub record EngineSeen : Type 1 where
   -- the log and the contents are known, and only what can be done is asked of it
   pub Told : Type 0
   -- A call failed. No later call is one of the disk.
   pub failed : Bool
+  -- the first that failed was refused for the log's end
+  pub full : Bool
   pub disk : disk.View
   -- the number of the log's first byte
   pub base : ℕ
+  -- a record changes one of these alone
+  pub extent : Extent
   -- the pages and bands now, by what it holds
   pub now : State
   -- the records appended so far, but for those of no transaction, the newest first
@@ -36,6 +48,8 @@ pub record EngineSeen : Type 1 where
   pub durable : Steps
   -- no record from now on has a number below this
   pub tail : ℕ
+  -- the number of the byte where what is durable of the log ends. Of one that failed: where it ended before
+  pub gate : ℕ
   -- the number of the next record, if it says this
   pub next : Says → ℕ
   -- the number of the record that was appended last, or was to be
@@ -49,14 +63,17 @@ pub record EngineSeen : Type 1 where
 pub record EngineView : Type 1 where
   pub Told : Type 0
   pub failed : Bool
+  pub full : Bool
   pub disk : disk.View
   pub base : ℕ
+  pub extent : Extent
   -- the pages and bands before the first of the steps
   pub first : State
   pub now : State
   pub steps : Steps
   pub durable : Steps
   pub tail : ℕ
+  pub gate : ℕ
   pub next : Says → ℕ
   pub tried : ℕ
   pub faults : ℕ
@@ -67,13 +84,16 @@ abbrev pub led : State → EngineSeen → EngineView
 led first s = record {
   Told = s.Told;
   failed = s.failed;
+  full = s.full;
   disk = s.disk;
   base = s.base;
+  extent = s.extent;
   first = first;
   now = s.now;
   steps = s.steps;
   durable = s.durable;
   tail = s.tail;
+  gate = s.gate;
   next = s.next;
   tried = s.tried;
   faults = s.faults;
@@ -85,12 +105,15 @@ abbrev pub seen : EngineView → EngineSeen
 seen e = record {
   Told = e.Told;
   failed = e.failed;
+  full = e.full;
   disk = e.disk;
   base = e.base;
+  extent = e.extent;
   now = e.now;
   steps = e.steps;
   durable = e.durable;
   tail = e.tail;
+  gate = e.gate;
   next = e.next;
   tried = e.tried;
   faults = e.faults;
@@ -131,23 +154,59 @@ KnowsChange t (Page c) = ⊤
 KnowsChange t (SegWrite c) = ⊤
 KnowsChange t (SegOp c) = IsSome (range_at t c.code)
 
--- One that takes a change off fills with zeros, by its range.
-abbrev pub Knows : Table → Step → Type 0
-Knows t (Change u p c) = KnowsChange t c
-Knows t _ = ⊤
+-- the last open change of a log that is formed, which is the system's, or one of a transaction that goes on
+pub record IsOfOpen (e : EngineSeen) (c : Changing) : Type 0 where
+  pub log : IsLog e.base e.steps
+  pub change : Open Changing
+  pub others : List (Open Changing)
+  pub last : (tally e.steps).opened ≡ change ∷ others
+  pub previous : ℕ
+  pub stands : step_at e.steps change.lsn ≡ Some (Change change.transaction previous c)
+  pub goes_on : (change.transaction ≡ 0) ⊎ (is_in change.transaction (tally e.steps).live ≡ true)
+
+-- the range operation of a change that takes one off is that of the last open change, which it does again
+abbrev pub KnowsOff : EngineSeen → Changing → Type 0
+KnowsOff e (Page c) = ⊤
+KnowsOff e (SegWrite c) = ⊤
+KnowsOff e (SegOp c) = ∥ IsOfOpen e (SegOp c) ∥₁
+
+-- the range operation of a step is registered, or it is that of an open change
+abbrev pub Knows : Table → EngineSeen → Step → Type 0
+Knows t e (Change u p c) = KnowsChange t c
+Knows t e (PhysComp u p w c) = KnowsOff e c
+Knows t e _ = ⊤
+
+-- the change is of a page or a band that there is
+abbrev pub IsOn : Extent → Changing → Type 0
+IsOn x (Page c) = c.page < x.pages
+IsOn x (SegWrite c) = c.band < x.bands
+IsOn x (SegOp c) = c.band < x.bands
+
+abbrev pub StepOn : Extent → Step → Type 0
+StepOn x (Change u p c) = IsOn x c
+StepOn x (PhysComp u p w c) = IsOn x c
+StepOn x _ = ⊤
+
+-- so is each of these steps
+abbrev pub AllOn : Extent → Steps → Type 0
+AllOn x [] = ⊤
+AllOn x (r ∷ rs) = StepOn x r.is × AllOn x rs
 
 -- a step may be appended, and where it uses registered operations, this holds of them
 pub record IsLoggable (t : Table) (Means : Type 0) (e : EngineSeen) (x : Step) : Type 0 where
+  pub there : StepOn e.extent x
   pub fits : Fits t e.now x
-  pub known : Knows t x
+  pub known : Knows t e x
   pub means : StepUsesTable x → Means
 
-abbrev pub IfStep : Option Step → (Step → Type 0) → Type 0
-IfStep None P = ⊤
-IfStep (Some x) P = P x
+abbrev pub IsStepThat : Option Step → (Step → Type 0) → Type 0
+IsStepThat None P = ⊥
+IsStepThat (Some x) P = P x
 
+-- A RECORD MAY BE APPENDED to an engine that tells: it is a step of a transaction or of the system, and no checkpoint, which has a call of
+-- its own
 abbrev pub CanLog : Table → (Means : Type 0) → EngineSeen → Record → Type 0
-CanLog t Means e r = e.Told → IfStep (step_of r) (IsLoggable t Means e)
+CanLog t Means e r = e.Told → IsStepThat (step_of r) (IsLoggable t Means e)
 
 -- WHAT A CALL KEEPS: the operations that an engine's records are of, and the pages and bands that they lead from
 abbrev pub Keeps : (old new : Table → State → Type 0) → Type 0
@@ -163,13 +222,20 @@ pub record EngineCounts {T : Type 0} (old new : EngineSeen) (result : Result T S
   pub told : new.Told → old.Told
   pub tells : OnOk result (old.Told → new.Told)
   pub base : new.base ≡ old.base
+  pub extent : new.extent ≡ old.extent
   pub later : old.faults ≤ new.faults
   pub quiet : OnOk result (new.faults ≡ old.faults)
   pub disk : IfErr result (λ e. e ≡ Disk → HasRisen old.faults new.faults)
+  pub accounts : Accounts (λ e. e ≡ Disk) old.Told old.disk new.disk old.gate new.gate result
   pub log_end : IfErr result (λ e. e ≡ LogEnd → IsNearEnd old)
   pub tail : old.tail ≤ new.tail
   pub failed : OnErr result (new.failed ≡ true)
   pub stops : old.failed ≡ true → (new.failed ≡ true) × (new.disk ≡ old.disk)
+  -- it remembers of the first call that failed whether it was refused for the log's end
+  pub first : old.failed ≡ true → new.full ≡ old.full
+  pub full : OnOk result (new.full ≡ old.full)
+  pub for_disk : IfErr result (λ e. e ≡ Disk → new.full ≡ old.full)
+  pub for_end : IfErr result (λ e. e ≡ LogEnd → new.full ≡ true)
 
 -- the number of a record that was appended
 pub record IsPlaced (old new : EngineSeen) (lsn : ℕ) : Type 0 where
@@ -229,6 +295,10 @@ IsForced e = e.Told → e.durable ≡ e.steps
 -- each image that a crash now leaves has a front of the steps
 abbrev pub StandsNow : Recovering → Table → EngineView → Type 0
 StandsNow recovers t e = (c : Image) → Leaves e.disk.now c → IsImageOf recovers t e.first e.durable e.steps c
+
+-- the page says something
+abbrev pub HasPage : EngineSeen → ℕ → Type 0
+HasPage e p = IsSome (e.now.pages p)
 
 -- a look at a page gives what it says now
 abbrev pub LookedAt : EngineSeen → ℕ → Sheet → Type 0

@@ -80,5 +80,5 @@ pages_within taken unfreed contents fit n sheet is = fit n sheet (there_is (is_t
 
 -- the same of an engine whose pages fit, whatever its records mean
 pub pages_fit_some : (limits : State → ℕ → ℕ) (means : Table → State → Type 0) (e : EngineSeen) (begin : State) (breaks : ℕ) (maps unfreed : Maps) → ∥ ((t : Table) × (from : State) × means t from) ∥₁ → ((t : Table) (from : State) → means t from → ArePagesFit e.now)
-    → (n : ℕ) (sheet : Sheet) → (acts_view limits e begin breaks maps unfreed).space.pages.at n ≡ Some sheet → bytes_of sheet.slots ≤ 4072
+    → (n : ℕ) (sheet : Sheet) → (acts_view limits e true begin breaks maps unfreed).space.pages.at n ≡ Some sheet → bytes_of sheet.slots ≤ 4072
 pages_fit_some limits means e begin breaks maps unfreed some fit n sheet is = ∥∥₁_elim some (hlevel props) (λ x. pages_within maps.pages unfreed.pages e.now.pages (fit x.0 x.1 x.2) n sheet is)

@@ -10,6 +10,7 @@ use Rattle.sg_recovery.specs.Log.Record.{Change}
 use Rattle.sg_action.specs.Opened.{TakesTo}
 use Rattle.sg_action.specs.States.{State, Kept, Change as Changed}
 use Rattle.sg_before.specs.Befores.{AreFilled, IsTakenBy, written_on}
+use Rattle.sg_actions.specs.Accounted.{HasAccounted}
 use Rattle.sg_actions.specs.Changes.{meaning}
 use Rattle.sg_actions.specs.Engine.{EngineView, EngineSeen, Moments, led}
 use Rattle.sg_actions.specs.Images.{Grows, Recovering}
@@ -113,6 +114,9 @@ pub record LaterBy (strict : Bool) (recovers : Table → Recovering) (limits : S
   pub begun : b.begun ≡ a.begun
   pub pages : length b.maps.pages ≡ length a.maps.pages
   pub bands : length b.maps.bands ≡ length a.maps.bands
+  pub accounts : HasAccounted a.engine b.engine
+  -- where no action was begun no change is logged, which could pass the log's end
+  pub still : a.begun ≡ false → b.engine.full ≡ a.engine.full
   -- one that has failed calls the disk no more
   pub stops : a.engine.failed ≡ true → (b.engine.failed ≡ true) × (b.engine.disk ≡ a.engine.disk)
   pub means : (from : State) → a.means t from → b.means t from

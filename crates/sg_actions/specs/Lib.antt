@@ -23,3 +23,4 @@ pub mod Undoing
 pub mod Notes
 pub mod PuttingBack
 pub mod WentOff
+pub mod Accounted

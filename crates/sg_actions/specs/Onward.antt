@@ -1,8 +1,11 @@
 -- The laws of the relation that a space over an engine hands through every call: of no call, and of one after another.
-use Rattle.std.proofs.Common.{◌≡◌, ℕ, ◌≤◌, List, [], ◌∷◌, ◌++◌, Bool, true, false, length, sym, ap, subst, ◌∙◌, refl, append_assoc, arith}
+use Rattle.std.proofs.Common.{◌≡◌, ℕ, ◌<◌, ◌≤◌, ◌⊎◌, inl, inr, List, [], ◌∷◌, ◌++◌, Bool, true, false, length, sym, ap, subst, ◌∙◌, refl, append_assoc, arith}
 use Rattle.std.specs.Prelude.{map}
 use Rattle.sg_alloc.specs.declared.maps.Maps.{Maps}
+use Rattle.sg_disk.specs.Accounts.{IsShownEnd}
+use Rattle.sg_disk.specs.Disk.{View}
 use Rattle.sg_ops.specs.Table.{Table}
+use Rattle.sg_base.specs.Ends.{HasRisen}
 use Rattle.sg_base.specs.declared.numbers.TxnId.{TxnId}
 use Rattle.sg_recovery.specs.Chains.{next_lsn}
 use Rattle.sg_recovery.specs.Formed.{IsLog}
@@ -11,7 +14,8 @@ use Rattle.sg_action.specs.Opened.{TakesTo}
 use Rattle.sg_action.specs.States.{State, Kept}
 use Rattle.sg_actions.specs.Acting.{IsChained}
 use Rattle.sg_actions.specs.Changes.{meaning}
-use Rattle.sg_actions.specs.Engine.{EngineView, Moments, StandsNow, led}
+use Rattle.sg_actions.specs.Engine.{EngineView, EngineSeen, IsNearEnd, Moments, StandsNow, led}
+use Rattle.sg_actions.specs.Accounted.{HasAccounted}
 use Rattle.sg_actions.specs.Led.{Stayed}
 use Rattle.sg_actions.specs.Images.{Recovering}
 use Rattle.sg_actions.specs.Later.{At, ActsAt, led_at, at_kept, at_bands, kept_at, begin_at, AreChanges, HasGone, Went, LaterBy}
@@ -44,7 +48,7 @@ running_later {base} {rs} {tail} {next} {actor} le h = record {
 }
 
 rows_later : {rs : Steps} {tail next : ℕ} {rows : List Row} {actor : Actor} → tail ≤ next → AreRows rs tail rows actor → AreRows rs next rows actor
-rows_later {rs} {tail} {next} {rows} {actor} le h = record { own = h.own; low = λ u far. h.low u (omega (arith, far, le)); others = h.others }
+rows_later {rs} {tail} {next} {rows} {actor} le h = record { own = h.own; low = λ u far. h.low u (omega (arith, far, le)); others = h.others; apart = h.apart; past = h.past }
 
 chain_later : {base : ℕ} {rs : Steps} {tail next : ℕ} {rows : List Row} {actor : Actor} → IsChained base rs tail rows actor → tail ≤ next → IsChained base rs next rows actor
 chain_later {base} {rs} {tail} {next} {rows} {actor} h le = record { running = running_later le h.running; rows_are = rows_later le h.rows_are; closed = h.closed; at = h.at }
@@ -140,9 +144,60 @@ went_then recovers t limits a b c w same_open stops next = by_failed b.engine.fa
         record { made = w.made; rests = w.rests; are = w.are; formed = w.formed; moments = moments_stop a.engine b.engine c.engine st.1 w.moments; gone = λ f. no c.engine.failed st.0 f }
     by_failed false is = let h = w.gone is in went_on h (next h.told h.kept)
 
+-- HOW THE DISK IS ACCOUNTED FOR: by no call,
+pub accounted_same : (a : EngineSeen) → (a.Told → a.failed ≡ false) → HasAccounted a a
+accounted_same a whole = record {
+  stays = λ f. f;
+  first = λ f. refl;
+  tells = λ t f. t;
+  near = λ f. inl f;
+  faults = omega arith;
+  heeded = λ f. refl;
+  caused = λ t f n. no a.failed f (whole t);
+  handed = omega arith;
+  shown = inr (omega arith);
+}
+
+-- by one that makes none of the disk and fails for it as little,
+shown_then : (u v w : View) (i j k : ℕ) → v.handed ≤ w.handed → IsShownEnd u v i j → IsShownEnd v w j k → IsShownEnd u w i k
+shown_then u v w i j k le (inl full) q = inl (omega (arith, full, le))
+shown_then u v w i j k le (inr p) (inl full) = inl full
+shown_then u v w i j k le (inr p) (inr q) = inr (omega (arith, p, q))
+
+-- and by one after another
+pub accounted_then : (a b c : EngineSeen) → HasAccounted a b → HasAccounted b c → (b.failed ≡ true → (c.failed ≡ true) × (c.disk ≡ b.disk)) → b.tail ≤ c.tail → HasAccounted a c
+accounted_then a b c f g stops tail = record {
+  stays = λ h. g.stays (f.stays h);
+  first = λ h. g.first (f.stays h) ∙ f.first h;
+  tells = λ t h. g.tells (f.tells t (by_later h b.failed refl)) h;
+  near = λ h. near_on (g.near h);
+  faults = let x = f.faults in let y = g.faults in omega (arith, x, y);
+  heeded = λ h. g.heeded h ∙ f.heeded (λ w. sym (g.first w) ∙ h (stops w).0);
+  caused = λ t w n. by_mid t w n b.failed refl;
+  handed = let x = f.handed in let y = g.handed in omega (arith, x, y);
+  shown = shown_then a.disk b.disk c.disk a.gate b.gate c.gate g.handed f.shown g.shown;
+}
+  where
+    by_later : c.failed ≡ false → (x : Bool) → b.failed ≡ x → b.failed ≡ false
+    by_later h true is = no c.failed (stops is).0 h
+    by_later h false is = is
+
+    near_on : (b.full ≡ true) ⊎ IsNearEnd c → (a.full ≡ true) ⊎ IsNearEnd c
+    near_on (inr n) = inr n
+    near_on (inl h) = near_first (f.near h)
+      where
+        near_first : (a.full ≡ true) ⊎ IsNearEnd b → (a.full ≡ true) ⊎ IsNearEnd c
+        near_first (inl k) = inl k
+        near_first (inr n) = inr (omega (arith, n, tail))
+
+    by_mid : a.Told → c.failed ≡ true → c.full ≡ false → (x : Bool) → b.failed ≡ x → HasRisen a.disk.faults c.disk.faults
+    by_mid t w n true is = λ few. let e : c.disk.faults ≡ b.disk.faults = ap (λ (v : View). v.faults) (stops is).1 in
+        let r : a.disk.faults < b.disk.faults = f.caused t is (sym (g.first is) ∙ n) (omega (arith, few, e)) in omega (arith, r, e)
+    by_mid t w n false is = λ few. let r : b.disk.faults < c.disk.faults = g.caused (f.tells t is) w n few in let x = f.faults in omega (arith, r, x)
+
 -- THE LAWS of the relation
-pub later_same : {strict : Bool} (recovers : Table → Recovering) (limits : State → ℕ → ℕ) (t : Table) (a : ActsAt) → ((from : State) → a.means t from → a.engine.Told → StandsNow (recovers t) t (led from a.engine)) → LaterBy strict recovers limits t a a
-later_same recovers limits t a stands = record {
+pub later_same : {strict : Bool} (recovers : Table → Recovering) (limits : State → ℕ → ℕ) (t : Table) (a : ActsAt) → (a.engine.Told → a.engine.failed ≡ false) → ((from : State) → a.means t from → a.engine.Told → StandsNow (recovers t) t (led from a.engine)) → LaterBy strict recovers limits t a a
+later_same recovers limits t a whole stands = record {
   told = λ h. h;
   tail = omega arith;
   faults = omega arith;
@@ -150,6 +205,8 @@ later_same recovers limits t a stands = record {
   begun = refl;
   pages = refl;
   bands = refl;
+  accounts = accounted_same a.engine whole;
+  still = λ o. refl;
   stops = λ h. (h, refl);
   means = λ from m. m;
   goes = λ from m told k. went_rest (recovers t) t limits (led from a.engine) (led from a.engine) a.maps a.rows a.actor a.begun k (moments_same (led from a.engine) (stands from m told))
@@ -166,6 +223,8 @@ later_on {strict} recovers limits t a b c f g = record {
   begun = g.begun ∙ f.begun;
   pages = g.pages ∙ f.pages;
   bands = g.bands ∙ f.bands;
+  accounts = accounted_then a.engine b.engine c.engine f.accounts g.accounts g.stops g.tail;
+  still = λ o. g.still (f.begun ∙ o) ∙ f.still o;
   stops = λ h. (let x = f.stops h in let y = g.stops x.0 in (y.0, y.1 ∙ x.1));
   means = λ from m. g.means from (f.means from m);
   goes = λ from m told k. went_then (recovers t) t limits (led_at from a) (led_at from b) (led_at from c) (f.goes from m told k) f.begun g.stops (λ told' k'. g.goes from (f.means from m) told' k');

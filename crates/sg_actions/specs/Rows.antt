@@ -1,5 +1,5 @@
 -- The last record of each transaction.
-use Rattle.std.specs.Prelude.{ℕ, ◌==◌, if◌then◌else◌, List, [], ◌∷◌, Option, option_map, IsSome}
+use Rattle.std.specs.Prelude.{◌≡◌, ◌≢◌, ℕ, ◌==◌, if◌then◌else◌, List, [], ◌∷◌, Option, None, option_map, IsSome}
 use Rattle.std.specs.List.{find}
 use Rattle.sg_base.specs.declared.numbers.TxnId.{TxnId}
 use Rattle.sg_actions.specs.declared.rows.Actor.{Actor}
@@ -11,6 +11,11 @@ last_in rows t = option_map (λ r. r.last) (find (λ r. r.txn.0 == t) rows)
 
 abbrev pub HasRow : List Row → ℕ → Type 0
 HasRow rows t = IsSome (last_in rows t)
+
+-- no transaction has two rows
+abbrev pub AreApart : List Row → Type 0
+AreApart [] = Unit {0}
+AreApart (r ∷ rows) = (r.txn.0 ≢ 0 → last_in rows r.txn.0 ≡ None) × AreApart rows
 
 -- the rows with another in place of the first one of a transaction
 abbrev pub placed : List Row → ℕ → Row → List Row

@@ -1,11 +1,12 @@
 -- Which pages and bands are taken, and which of these the open action has freed.
-use Rattle.std.specs.Prelude.{◌≡◌, ◌<◌, ◌^◌, ℕ, ◌+◌, ◌==◌, ◌&&◌, ◌||◌, nat_lt, Bool, true, false, not, if◌then◌else◌, List, [], ◌∷◌, length, slice_index_or, Option, None, IsSome}
+use Rattle.std.specs.Prelude.{◌≡◌, ◌<◌, ◌≤◌, ◌^◌, ℕ, ◌+◌, ◌==◌, ◌&&◌, ◌||◌, nat_lt, Bool, true, false, not, if◌then◌else◌, List, [], ◌∷◌, length, slice_index_or, Option, None, IsSome}
 use Rattle.sg_alloc.specs.Flags.{free_of}
 use Rattle.sg_base.specs.Op.{Op}
 use Rattle.sg_action.specs.States.{State, Change, Kept}
 use Rattle.sg_action.specs.States.Change.{Page, Write, Paint}
 use Rattle.sg_action.specs.Opened.{formats}
 use Rattle.sg_space.specs.Units.{Units}
+use Rattle.sg_actions.specs.Engine.{Extent}
 
 abbrev pub is_set : List Bool → ℕ → Bool
 is_set flags n = slice_index_or flags n false
@@ -28,6 +29,11 @@ pub record AreFlags (taken unfreed : List Bool) : Type 0 where
   pub long : length unfreed ≡ length taken
   pub inside : (n : ℕ) → n < length taken → is_set unfreed n ≡ false → is_set taken n ≡ true
   pub few : length taken < 2 ^ 32
+
+-- there are no more flags than pages and bands
+pub record IsWithin (taken taken_bands : List Bool) (x : Extent) : Type 0 where
+  pub pages : length taken ≤ x.pages
+  pub bands : length taken_bands ≤ x.bands
 
 -- each that is taken contains something
 abbrev pub AreSaid : {A : Type 0} → List Bool → (ℕ → Option A) → Type 0

@@ -5,8 +5,9 @@ use Rattle.sg_ops.specs.Table.{Table}
 use Rattle.sg_record.specs.Changes.{Change as Changing}
 use Rattle.sg_recovery.specs.Laws.{Each}
 use Rattle.sg_recovery.specs.Log.{Open, tally, is_in, changes_of}
-use Rattle.sg_recovery.specs.Log.Record.{Change, PhysComp}
+use Rattle.sg_recovery.specs.Log.Record.{Change, PhysComp, Commit}
 use Rattle.sg_recovery.specs.Chains.{last_of, border_of, next_lsn, next_off}
+use Rattle.sg_recovery.specs.Ending.{newest}
 use Rattle.sg_recovery.specs.Formed.{IsLog}
 use Rattle.sg_action.specs.States.{State, Kept, Change as Changed}
 use Rattle.sg_alloc.specs.Flags.{free_of}
@@ -18,7 +19,7 @@ use Rattle.sg_record.specs.Shown.{by}
 use Rattle.sg_actions.specs.Taken.{is_set, takes_page, takes_band}
 use Rattle.sg_action.specs.Opened.{TakesTo, formats}
 use Rattle.sg_actions.specs.Changes.{meaning, comp_of}
-use Rattle.sg_actions.specs.Rows.{last_in, HasRow, rows_after, at_rest}
+use Rattle.sg_actions.specs.Rows.{last_in, HasRow, AreApart, rows_after, at_rest}
 use Rattle.sg_actions.specs.Steps.{Steps, step_at}
 use Rattle.sg_actions.specs.declared.rows.Actor.{Actor}
 use Rattle.sg_actions.specs.declared.rows.Row.{Row}
@@ -48,11 +49,20 @@ pub record IsRunning (base : ℕ) (rs : Steps) (tail : ℕ) (actor : Actor) : Ty
   pub linked : AreLinked rs actor.before (tally rs).opened
   pub before_low : actor.before < tail
 
--- a row for each other transaction that goes on says its last record
+-- a transaction's last record is its commit, and has this number
+pub record HasCommitted (rs : Steps) (txn lsn : ℕ) : Type 0 where
+  pub last_is : lsn ≡ last_of txn rs
+  pub previous : ℕ
+  pub newest_is : newest txn rs ≡ Some (Commit txn previous)
+
+-- a row for each other transaction that goes on says its last record; and a row of one that doesn't go on is of one that has committed, and
+-- says its commit
 pub record AreRows (rs : Steps) (tail : ℕ) (rows : List Row) (actor : Actor) : Type 0 where
   pub own : actor.txn.0 ≢ 0 → HasRow rows actor.txn.0
   pub low : (u : ℕ) → tail ≤ u → last_in rows u ≡ None
   pub others : (u : ℕ) → u ≢ actor.txn.0 → is_in u (tally rs).live ≡ true → last_in rows u ≡ Some (last_of u rs)
+  pub apart : AreApart rows
+  pub past : (u last : ℕ) → u ≢ 0 → u ≢ actor.txn.0 → last_in rows u ≡ Some last → is_in u (tally rs).live ≡ false → HasCommitted rs u last
 
 -- IN THE MIDST OF A TAKE-OFF, also of one that was stopped: the inverses of the changes that are left lead to pages and bands that can't be
 -- told from those at the action's begin

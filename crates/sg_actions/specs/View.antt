@@ -1,5 +1,5 @@
 -- What a space over an engine shows.
-use Rattle.std.specs.Prelude.{◌≡◌, ℕ, ◌+◌, ◌≤◌, Bool, true, false, Some, List, []}
+use Rattle.std.specs.Prelude.{◌≡◌, ◌⊎◌, ℕ, ◌+◌, ◌≤◌, Bool, true, false, Some, List, []}
 use Rattle.sg_ops.specs.Table.{Table}
 use Rattle.sg_alloc.specs.Flags.{free_of}
 use Rattle.sg_alloc.specs.declared.maps.Maps.{Maps}
@@ -37,8 +37,9 @@ abbrev pub MayGiveNow : (limits : State → ℕ → ℕ) → (begin : State) →
 MayGiveNow limits begin rs pages bands = MayGive (kept_of limits pages bands begin (opened rs)) (opened rs)
 
 -- What it shows says nothing of operations or first pages. `begin` is what the engine held when the open action began.
-abbrev pub acts_view : (State → ℕ → ℕ) → EngineSeen → (begin : State) → (breaks : ℕ) → (maps unfreed : Maps) → View
-acts_view limits e begin breaks maps unfreed = record {
+-- Where no action was begun, none of its changes is logged: it refuses them as at the log's end.
+abbrev pub acts_view : (State → ℕ → ℕ) → EngineSeen → (begun : Bool) → (begin : State) → (breaks : ℕ) → (maps unfreed : Maps) → View
+acts_view limits e begun begin breaks maps unfreed = record {
   Told = e.Told;
   Shows = e.Told;
   space = record {
@@ -47,7 +48,7 @@ acts_view limits e begin breaks maps unfreed = record {
   };
   faults = e.faults + breaks;
   records = e.records;
-  IsNearEnd = IsNearEnd e;
+  IsNearEnd = IsNearEnd e ⊎ (begun ≡ false);
   MayTake = HasFreedNone unfreed;
   MayHave = λ page slots. e.Told → MayGiveNow limits begin e.steps maps.pages maps.bands page slots;
   HasWritten = λ band. e.Told × (writes_band (opened e.steps) band ≡ true);

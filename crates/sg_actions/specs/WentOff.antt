@@ -1,6 +1,7 @@
 -- What a take-off has appended, whether its calls failed or not.
-use Rattle.std.specs.Prelude.{◌≡◌, ◌⊎◌, ℕ, ◌+◌, ◌≤◌, true, false, List, [], ◌∷◌, ◌++◌, Result, IfErr, OnOk}
+use Rattle.std.specs.Prelude.{◌≡◌, ◌⊎◌, ℕ, ◌+◌, ◌≤◌, true, false, List, [], ◌∷◌, ◌++◌, Result, IfErr, OnOk, OnErr}
 use Rattle.sg_base.specs.Ends.{HasRisen}
+use Rattle.sg_disk.specs.Accounts.{Accounts}
 use Rattle.sg_ops.specs.Table.{Table}
 use Rattle.sg_record.specs.Changes.{Change as Changing}
 use Rattle.sg_recovery.specs.Formed.{IsLog}
@@ -52,13 +53,15 @@ pub record WentOff (recovers : Recovering) (t : Table) (txn : ℕ) (a b : Engine
   pub moments : Moments recovers t a b (made ++ a.steps)
   pub gone : b.failed ≡ false → HasOff a b made
 
--- On any engine: no call makes the count of faults or the log's end less, and none fails without a cause. One that has failed calls the disk no more
+-- On any engine: no call makes the count of faults or the log's end less, none fails without a cause, and after a failure it is told no more. One that has failed calls the disk no more
 pub record OffCounts {T : Type 0} (e e' : EngineSeen) (breaks breaks' : ℕ) (result : Result T SpaceFault) : Type 0 where
   pub told : e'.Told → e.Told
   pub tells : OnOk result (e.Told → e'.Told)
   pub later : e.faults + breaks ≤ e'.faults + breaks'
   pub quiet : OnOk result (e'.faults + breaks' ≡ e.faults + breaks)
   pub disk : IfErr result (λ f. f ≡ Disk → HasRisen (e.faults + breaks) (e'.faults + breaks'))
+  pub accounts : Accounts (λ f. f ≡ Disk) e.Told e.disk e'.disk e.gate e'.gate result
   pub log_end : IfErr result (λ f. f ≡ LogEnd → IsNearEnd e')
   pub tail : e.tail ≤ e'.tail
+  pub silent : OnErr result (e'.Told → ⊥)
   pub stops : e.failed ≡ true → (e'.failed ≡ true) × (e'.disk ≡ e.disk)

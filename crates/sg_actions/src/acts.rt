@@ -1,17 +1,18 @@
 ghost use Rattle.std.specs.Prelude.{◌≡◌, ◌<◌, ◌≤◌, true, false, length, slice_get, Some, OnErr, OnOk, IfOk, IfErr, IsTrue};
 ghost use Rattle.sg_base.specs.Ends.{HasRisen};
-ghost use Rattle.sg_actions.specs.Taken.{AreFlags, AreSaid};
+ghost use Rattle.sg_actions.specs.Taken.{AreFlags, AreSaid, IsWithin};
 
 use crate::Engine;
-use crate::painting::spell_op;
+use crate::painting::{is_paint, spell_op};
 use crate::rows::{Actor, Row};
 use crate::spelling::{
-    after_of, code_of, copy_piece, is_number, is_piece, links_of, spell, spell_bytes, take_away,
+    after_of, code_of, copy_piece, is_number, is_piece, is_short, links_of, spell, spell_bytes,
+    take_away, tell_range,
 };
 use sg_alloc::Maps;
 use sg_base::{BandNo, PAGE_SIZE, PageNo, PageOp, SlotView, TxnId};
 use sg_ops::Ops;
-use sg_record::{Rec, is_record};
+use sg_record::Rec;
 use sg_space::{PageSpace, SpaceFault};
 use sg_step::brings_bytes;
 use std::snapshot::Snapshot;
@@ -37,10 +38,11 @@ pub struct Acts<E: Engine> {
     ghost count_is: { count ≡ length maps.pages },
     ghost bands_are: { bands ≡ length maps.bands },
     ghost few: { count ≤ 1048576 },
-    ghost few_rows: { length rows.items ≤ 64 },
     ghost page_flags: { AreFlags maps.pages unfreed.pages },
     ghost band_flags: { AreFlags maps.bands unfreed.bands },
     ghost pages_said: { (E.view engine).Told → AreSaid maps.pages (E.view engine).now.pages },
+    ghost within: { (E.view engine).Told → IsWithin maps.pages maps.bands (E.view engine).extent },
+    ghost unbroken: { (E.view engine).Told → breaks ≡ 0 },
 }
 
 // One more break is counted.
@@ -59,7 +61,7 @@ impl<E: Engine> Acts<E> {
     ghost use Rattle.sg_actions.specs.Taken.{is_there};
 
     /// Over an engine, with what is taken, nothing freed, and a row for each transaction that goes on or
-    /// may begin, at most 64. The system acts.
+    /// may begin. The system acts.
     pub fn new(
         engine: E,
         maps: Maps,
@@ -71,10 +73,10 @@ impl<E: Engine> Acts<E> {
         requires count { count ≡ length maps.pages }
         requires width { bands ≡ length maps.bands }
         requires few { count ≤ 1048576 }
-        requires live { length rows.items ≤ 64 }
         requires pages { AreFlags maps.pages unfreed.pages }
         requires bands { AreFlags maps.bands unfreed.bands }
         requires said { (E.view engine).Told → AreSaid maps.pages (E.view engine).now.pages }
+        requires within { (E.view engine).Told → IsWithin maps.pages maps.bands (E.view engine).extent }
         ensures engine { result.engine ≡ engine }
         ensures maps { result.maps ≡ maps }
         ensures unfreed { result.unfreed ≡ unfreed }
@@ -149,14 +151,14 @@ impl<E: Engine> PageSpace for Acts<E> {
     ghost use Rattle.sg_actions.specs.Exact.{units_exact, pages_fit_some, few_there};
     ghost use Rattle.sg_actions.specs.Onward.{later_same, later_then};
 
-    ghost view = { λ s. acts_view (E.limits (length s.maps.pages) (length s.maps.bands)) (E.view s.engine)
+    ghost view = { λ s. acts_view (E.limits (length s.maps.pages) (length s.maps.bands)) (E.view s.engine) s.begun
         (E.view s.begun_at.value).now s.breaks s.maps s.unfreed };
 
     ghost later = { λ t a b. LaterBy true E.recovers (E.limits (length a.maps.pages) (length a.maps.bands)) t
         (acts_at (E.view a.engine) (E.means a.engine) (E.view a.begun_at.value).now a.maps a.rows.items a.actor a.begun)
         (acts_at (E.view b.engine) (E.means b.engine) (E.view b.begun_at.value).now b.maps b.rows.items b.actor b.begun) };
 
-    ghost means = { λ s t. ∥ ((from : State) × Since (E.means s.engine) (E.view s.engine) s.begun (E.view s.begun_at.value).now t from) ∥₁ };
+    ghost means = { λ s t. (E.view s.engine).Told → ∥ ((from : State) × Since (E.means s.engine) (E.view s.engine) s.begun (E.view s.begun_at.value).now t from) ∥₁ };
 
     fn broken(&mut self) -> SpaceFault {
         count_break(&mut self.breaks)
@@ -184,9 +186,12 @@ impl<E: Engine> PageSpace for Acts<E> {
 
     fn change(&mut self, ops: &Ops, p: PageNo, op: &PageOp<'_>) -> Result<(), SpaceFault> {
         if !self.begun {
-            return Err(count_break(&mut self.breaks));
+            return Err(SpaceFault::LogEnd);
         }
         if !self.has_page(p) {
+            return Err(count_break(&mut self.breaks));
+        }
+        if !is_short(op) {
             return Err(count_break(&mut self.breaks));
         }
         let mut before = [0u8; PAGE_SIZE];
@@ -207,16 +212,16 @@ impl<E: Engine> PageSpace for Acts<E> {
                 after_of(op).unwrap_or(&links),
             ),
         };
-        if !is_record(&record) {
-            return Err(count_break(&mut self.breaks));
-        }
+        is_number(self.actor.txn.0);
+        is_number(self.actor.last);
+        tell_range(&record);
         self.actor.last = self.engine.log_by(ops, &record)?;
         Ok(())
     }
 
     fn take_page(&mut self, kind: u8) -> Result<PageNo, SpaceFault> {
         if !self.begun {
-            return Err(count_break(&mut self.breaks));
+            return Err(SpaceFault::LogEnd);
         }
         if self.maps.free_pages() == 0 {
             return Err(count_break(&mut self.breaks));
@@ -252,13 +257,17 @@ impl<E: Engine> PageSpace for Acts<E> {
 
     fn write_band(&mut self, b: BandNo, at: u32, bytes: &[u8]) -> Result<(), SpaceFault> {
         if !self.begun {
-            return Err(count_break(&mut self.breaks));
+            return Err(SpaceFault::LogEnd);
         }
         if !self.has_band(b) {
             return Err(count_break(&mut self.breaks));
         }
         let count = bytes.len();
         if !is_piece(at, count) {
+            return Err(count_break(&mut self.breaks));
+        }
+        // a record has room for fewer bands
+        if b.0 > 65_535 {
             return Err(count_break(&mut self.breaks));
         }
         let mut before = [0u8; 8192];
@@ -270,9 +279,9 @@ impl<E: Engine> PageSpace for Acts<E> {
             prev: self.actor.last,
             change: spell_bytes(b, at, count as u32, stood, bytes),
         };
-        if !is_record(&record) {
-            return Err(count_break(&mut self.breaks));
-        }
+        is_number(self.actor.txn.0);
+        is_number(self.actor.last);
+        tell_range(&record);
         self.actor.last = self.engine.log(&record)?;
         Ok(())
     }
@@ -288,7 +297,7 @@ impl<E: Engine> PageSpace for Acts<E> {
         arg: &[u8],
     ) -> Result<(), SpaceFault> {
         if !self.begun {
-            return Err(count_break(&mut self.breaks));
+            return Err(SpaceFault::LogEnd);
         }
         if !self.has_band(b) {
             return Err(count_break(&mut self.breaks));
@@ -297,6 +306,12 @@ impl<E: Engine> PageSpace for Acts<E> {
             return Err(count_break(&mut self.breaks));
         }
         if !is_piece(at, count as usize) {
+            return Err(count_break(&mut self.breaks));
+        }
+        if b.0 > 65_535 {
+            return Err(count_break(&mut self.breaks));
+        }
+        if !is_paint(position, count, arg) {
             return Err(count_break(&mut self.breaks));
         }
         let mut before = [0u8; 8192];
@@ -308,16 +323,16 @@ impl<E: Engine> PageSpace for Acts<E> {
             prev: self.actor.last,
             change: spell_op(b, at, count, code, position, arg, stood),
         };
-        if !is_record(&record) {
-            return Err(count_break(&mut self.breaks));
-        }
+        is_number(self.actor.txn.0);
+        is_number(self.actor.last);
+        tell_range(&record);
         self.actor.last = self.engine.log_by(ops, &record)?;
         Ok(())
     }
 
     fn take_band(&mut self) -> Result<BandNo, SpaceFault> {
         if !self.begun {
-            return Err(count_break(&mut self.breaks));
+            return Err(SpaceFault::LogEnd);
         }
         if self.maps.free_bands() == 0 {
             return Err(count_break(&mut self.breaks));
@@ -344,7 +359,7 @@ impl<E: Engine> PageSpace for Acts<E> {
         Ok(())
     }
 
-    ghost later_same = { λ t s. later_same E.recovers (E.limits (length s.maps.pages) (length s.maps.bands)) t _ (λ from m told. E.images s.engine t from m.stands told) };
+    ghost later_same = { λ t s. later_same E.recovers (E.limits (length s.maps.pages) (length s.maps.bands)) t _ (E.told_whole s.engine) (λ from m told. E.images s.engine t from m.stands told) };
 
     ghost later_then = { λ t a b c f g. later_then E.recovers E.limits t _ _ _ f g };
 
@@ -352,7 +367,7 @@ impl<E: Engine> PageSpace for Acts<E> {
 
     ghost few_pages = { λ s t. few_there s.maps.pages s.few s.count_is };
 
-    ghost pages_fit = { λ s told p sheet is. pages_fit_some (E.limits (length s.maps.pages) (length s.maps.bands)) (E.means s.engine) (E.view s.engine) (E.view s.begun_at.value).now s.breaks s.maps s.unfreed (E.some s.engine) (λ t from m. E.pages_fit s.engine t from m told) p sheet is };
+    ghost pages_fit = { λ s told p sheet is. pages_fit_some (E.limits (length s.maps.pages) (length s.maps.bands)) (E.means s.engine) (E.view s.engine) (E.view s.begun_at.value).now s.breaks s.maps s.unfreed (E.some s.engine told) (λ t from m. E.pages_fit s.engine t from m told) p sheet is };
 
     ghost pages_exact = { λ s t. units_exact s.maps.pages s.unfreed.pages _ s.page_flags (s.pages_said t) };
 

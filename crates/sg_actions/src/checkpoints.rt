@@ -50,7 +50,8 @@ impl<E: Engine> Acts<E> {
     ghost use Rattle.sg_space.specs.declared.space.SpaceFault.TheVariants.{LogEnd};
 
     /// Makes the log durable, with a record of where history has to be repeated from and of the last record
-    /// of each transaction that goes on. Nothing else changes. No action is open.
+    /// of each transaction that goes on and has one of the first 64 rows: no more than 64 go on behind an
+    /// opening, which begins with a row for each that was found. Nothing else changes. No action is open.
     pub fn checkpoint(&mut self) -> Result<(), SpaceFault>
         requires rest { (E.view self.old.engine).Told → IsAtRest (E.view self.old.engine).steps self.old.unfreed self.old.actor }
         ensures counts { ActsCounts (E.view self.old.engine) (E.view self.new.engine) self.old.breaks self.new.breaks result }
@@ -69,7 +70,8 @@ impl<E: Engine> Acts<E> {
         ensures moments { (t : Table) (from : State) → E.means self.old.engine t from → (E.view self.old.engine).Told → Moments (E.recovers t) t (led from (E.view self.old.engine)) (led from (E.view self.new.engine)) (E.view self.old.engine).steps }
     {
         let mut text = [0u8; 1024];
-        let Some(size) = spell_rows(self.rows.as_slice(), &mut text) else {
+        let count = self.rows.len().min(64);
+        let Some(size) = spell_rows(&self.rows.as_slice()[..count], &mut text) else {
             return Err(count_break(&mut self.breaks));
         };
         self.engine.checkpoint(&text[..size])?;

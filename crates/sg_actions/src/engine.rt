@@ -1,4 +1,4 @@
-ghost use Rattle.std.specs.Prelude.{◌≡◌, ◌≤◌, ◌*◌, ◌/◌, ℕ, ⊤, true, false, IfOk, OnOk, length, take};
+ghost use Rattle.std.specs.Prelude.{◌≡◌, ◌≤◌, ◌+◌, ◌*◌, ◌/◌, ℕ, ⊤, true, false, is_some, IfOk, OnOk, length, take};
 ghost use Rattle.sg_base.specs.Sheet.{sheet_of};
 ghost use Rattle.sg_ops.specs.Laws.{IsLawful};
 ghost use Rattle.sg_ops.specs.Table.{Table, table_of};
@@ -10,7 +10,7 @@ ghost use Rattle.sg_record.specs.Shown.{shown, by};
 ghost use Rattle.sg_action.specs.States.{State};
 ghost use Rattle.sg_actions.specs.Images.{Grows, Recovering};
 ghost use Rattle.sg_actions.specs.Handing.{makes_change, HandsOver};
-ghost use Rattle.sg_actions.specs.Engine.{EngineSeen, led, Keeps, AreBy, EngineGrows, EngineRests, CanLog, Logs, EngineLooks, IsForced, StandsNow, LookedAt, LookedAtBand, HasStep, ReadsStep, ArePagesFit, now_of};
+ghost use Rattle.sg_actions.specs.Engine.{EngineSeen, led, Keeps, AreBy, AllOn, HasPage, EngineGrows, EngineRests, CanLog, Logs, EngineLooks, IsForced, StandsNow, LookedAt, LookedAtBand, HasStep, ReadsStep, ArePagesFit, now_of};
 
 use sg_base::{BAND_SIZE, BandNo, Lsn, PageNo, SlotView};
 use sg_ops::Ops;
@@ -59,6 +59,14 @@ pub trait Engine {
     fn start(&self) -> Lsn
         ensures { result ≡ first_byte self.now };
 
+    /// Whether a call failed. No later call is one of the disk.
+    fn has_failed(&self) -> bool
+        ensures { result ≡ (view self.now).failed };
+
+    /// Whether the first call that failed was refused for the log's end.
+    fn is_full(&self) -> bool
+        ensures { result ≡ (view self.now).full };
+
     /// The number that a record would get now: of one that makes no change, the very number.
     fn next(&self, r: &Rec<'_>) -> Lsn
         requires { IsRecord (shown r.now) }
@@ -78,7 +86,7 @@ pub trait Engine {
     /// Appends a record and makes its change, by these operations, of which its records are.
     fn log_by(&mut self, ops: &Ops, r: &Rec<'_>) -> Result<Lsn, SpaceFault>
         requires range { IsRecord (shown r.now) }
-        requires by { AreBy (means self.old) (table_of record_meaning range_meaning ops.now) }
+        requires by { (view self.old).Told → AreBy (means self.old) (table_of record_meaning range_meaning ops.now) }
         requires can { CanLog (table_of record_meaning range_meaning ops.now) ⊤ (view self.old) (shown r.now) }
         ensures grows { EngineGrows (view self.old) (view self.new) (shown r.now) result }
         ensures means { (from : State) → means self.old (table_of record_meaning range_meaning ops.now) from → means self.new (table_of record_meaning range_meaning ops.now) from }
@@ -105,9 +113,12 @@ pub trait Engine {
     fn stop(&mut self)
         ensures silent { (view self.new).Told → ⊥ }
         ensures stopped { (view self.new).failed ≡ true }
+        ensures full { (view self.new).full ≡ (view self.old).full }
         ensures disk { (view self.new).disk ≡ (view self.old).disk }
         ensures base { (view self.new).base ≡ (view self.old).base }
+        ensures extent { (view self.new).extent ≡ (view self.old).extent }
         ensures tail { (view self.new).tail ≡ (view self.old).tail }
+        ensures gate { (view self.new).gate ≡ (view self.old).gate }
         ensures faults { (view self.new).faults ≡ (view self.old).faults }
         ensures records { (view self.new).records ≡ (view self.old).records }
         ensures means { Keeps (means self.old) (means self.new) };
@@ -121,8 +132,17 @@ pub trait Engine {
         ensures means { Keeps (means self.old) (means self.new) }
         ensures looks { (t : Table) (from : State) → means self.old t from → EngineLooks (recovers t) t (led from (view self.old)) (led from (view self.new)) result };
 
-    /// Brings a page to where it can be looked at. It fails of one that says nothing.
+    /// Brings a page to where it can be looked at, and answers whether it says anything.
+    fn look(&mut self, p: PageNo) -> Result<bool, SpaceFault>
+        ensures rests { EngineRests (view self.old) (view self.new) result }
+        ensures means { Keeps (means self.old) (means self.new) }
+        ensures looks { (t : Table) (from : State) → means self.old t from → EngineLooks (recovers t) t (led from (view self.old)) (led from (view self.new)) result }
+        ensures says { IfOk result (λ is. is ≡ is_some ((view self.new).now.pages p.0)) }
+        ensures loaded { IfOk result (λ is. is ≡ true → loaded self.new p.0) };
+
+    /// Brings a page to where it can be looked at. It fails of one that says nothing, and where the engine tells, it isn't asked of one.
     fn load(&mut self, p: PageNo) -> Result<(), SpaceFault>
+        requires there { (view self.old).Told → HasPage (view self.old) p.0 }
         ensures rests { EngineRests (view self.old) (view self.new) result }
         ensures means { Keeps (means self.old) (means self.new) }
         ensures looks { (t : Table) (from : State) → means self.old t from → EngineLooks (recovers t) t (led from (view self.old)) (led from (view self.new)) result }
@@ -133,7 +153,7 @@ pub trait Engine {
         requires { loaded self.now p.0 }
         ensures { LookedAt (view self.now) p.0 (sheet_of result.page.now) };
 
-    /// Brings a band to where it can be looked at.
+    /// Brings a band to where it can be looked at. One that there isn't has zeros.
     fn load_band(&mut self, b: BandNo) -> Result<(), SpaceFault>
         ensures rests { EngineRests (view self.old) (view self.new) result }
         ensures means { Keeps (means self.old) (means self.new) }
@@ -160,18 +180,33 @@ pub trait Engine {
     /// An engine that tells has not failed.
     ghost told_whole: { (s : Self) → (view s).Told → (view s).failed ≡ false };
 
+    /// One that has not failed counts no failure.
+    ghost unfailed: { (s : Self) → (view s).failed ≡ false → (view s).faults ≡ 0 };
+
+    /// One that was refused for the log's end has failed.
+    ghost full_failed: { (s : Self) → (view s).full ≡ true → (view s).failed ≡ true };
+
+    /// What waits at the log's end to be durable is a frame at most, with its head.
+    ghost waits: { (s : Self) → (view s).tail ≤ (view s).gate + 65541 };
+
+    /// Each change that was appended is of a page or a band that there is.
+    ghost changes_on: { (s : Self) → (view s).Told → AllOn (view s).extent (view s).steps };
+
     /// What is durable is a front of what was appended.
     ghost durable_first: { (s : Self) → (view s).Told → Grows (view s).durable (view s).steps };
 
-    /// It stands for some operations and some first pages. So what a clause says of any that it stands for, without their
-    /// name, holds.
-    ghost some: { (s : Self) → ∥ ((t : Table) × (from : State) × means s t from) ∥₁ };
+    /// One that tells stands for some operations and some first pages. So what a clause says of any that it stands for,
+    /// without their name, holds. Of one that doesn't tell none need be known.
+    ghost some: { (s : Self) → (view s).Told → ∥ ((t : Table) × (from : State) × means s t from) ∥₁ };
 
     /// The operations that it stands for keep their laws.
     ghost lawful: { (s : Self) (t : Table) (from : State) → means s t from → IsLawful t };
 
     /// What it holds is what its steps make of the first pages, by these operations.
     ghost now_is: { (s : Self) (t : Table) (from : State) → means s t from → (view s).Told → (view s).now ≡ now_of t (led from (view s)) };
+
+    /// It has no more bands than a record has room for.
+    ghost few_bands: { (s : Self) → (view s).Told → (view s).extent.bands ≤ 65536 };
 
     /// Its pages have no more cells than they have bytes for.
     ghost pages_fit: { (s : Self) (t : Table) (from : State) → means s t from → (view s).Told → ArePagesFit (view s).now };

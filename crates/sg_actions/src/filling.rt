@@ -21,6 +21,7 @@ impl<E: Engine> Acts<E> {
     pub(crate) fn fill(&mut self, b: BandNo, at: u32) -> Result<Lsn, SpaceFault>
         requires band { b.0 < 65536 }
         requires within { at ≤ 24576 }
+        requires there { (E.view self.old.engine).Told → b.0 < (E.view self.old.engine).extent.bands }
         ensures range { IsRecord (by self.old.actor.txn.0 self.old.actor.last (Changed (SegOp (fill_with b.0 at)))) }
         ensures grows { EngineGrows (E.view self.old.engine) (E.view self.new.engine) (by self.old.actor.txn.0 self.old.actor.last (Changed (SegOp (fill_with b.0 at)))) result }
         ensures means { Keeps (E.means self.old.engine) (E.means self.new.engine) }

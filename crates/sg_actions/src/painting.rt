@@ -1,7 +1,7 @@
 // The change that a record holds for a range operation on a band.
-ghost use Rattle.std.specs.Prelude.{◌≡◌};
+ghost use Rattle.std.specs.Prelude.{◌≡◌, ◌≤◌, IsTrue};
 ghost use Rattle.sg_record.specs.Shown.{shown_op};
-ghost use Rattle.sg_actions.specs.Painting.{op_with};
+ghost use Rattle.sg_actions.specs.Painting.{op_with, IsPaint};
 
 use sg_base::BandNo;
 use sg_record::BandOp;
@@ -27,4 +27,14 @@ pub fn spell_op<'a>(
         arg,
         before,
     }
+}
+
+/// Whether an argument has no more bytes than a record has room for, and the positions of the bytes end
+/// where a blob's may.
+pub fn is_paint(position: u32, count: u32, arg: &[u8]) -> bool
+    requires { count ≤ 8192 }
+    ensures yes { IsTrue result → IsPaint position count arg.now }
+    ensures no { IsPaint position count arg.now → IsTrue result }
+{
+    arg.len() <= 256 && position <= 16_384_000 - count
 }

@@ -28,17 +28,19 @@ pub struct Parts<E> {
 
 impl<E: Engine> Acts<E> {
     ghost use Rattle.std.specs.Prelude.{◌≡◌, ◌≤◌, length};
-    ghost use Rattle.sg_actions.specs.Taken.{AreFlags, AreSaid};
+    ghost use Rattle.sg_actions.specs.Taken.{AreFlags, AreSaid, IsWithin};
 
-    /// Of these parts, at most 64 rows. What the engine holds now is what it held when the action began.
+    /// Of these parts. What the engine holds now is what it held when the action began.
     pub fn of_parts(parts: Parts<E>) -> Acts<E>
         requires count { parts.count ≡ length parts.maps.pages }
         requires width { parts.bands ≡ length parts.maps.bands }
         requires few { parts.count ≤ 1048576 }
-        requires live { length parts.rows.items ≤ 64 }
         requires pages { AreFlags parts.maps.pages parts.unfreed.pages }
         requires bands { AreFlags parts.maps.bands parts.unfreed.bands }
         requires said { (E.view parts.engine).Told → AreSaid parts.maps.pages (E.view parts.engine).now.pages }
+        requires within { (E.view parts.engine).Told → IsWithin parts.maps.pages parts.maps.bands (E.view parts.engine).extent }
+        // no break is counted over an engine that tells
+        requires unbroken { (E.view parts.engine).Told → parts.breaks ≡ 0 }
         ensures engine { result.engine ≡ parts.engine }
         ensures maps { result.maps ≡ parts.maps }
         ensures unfreed { result.unfreed ≡ parts.unfreed }
@@ -86,9 +88,10 @@ impl<E: Engine> Acts<E> {
         ensures count { result.count ≡ length self.maps.pages }
         ensures bands { result.bands ≡ length self.maps.bands }
         ensures few { result.count ≤ 1048576 }
-        ensures live { length self.rows.items ≤ 64 }
         ensures page_flags { AreFlags self.maps.pages self.unfreed.pages }
         ensures band_flags { AreFlags self.maps.bands self.unfreed.bands }
+        ensures within { (E.view self.engine).Told → IsWithin self.maps.pages self.maps.bands (E.view self.engine).extent }
+        ensures unbroken { (E.view self.engine).Told → self.breaks ≡ 0 }
     {
         let Acts {
             engine,

@@ -10,7 +10,9 @@ impl<E: Engine> Acts<E> {
     pub fn stop(&mut self)
         ensures silent { (E.view self.new.engine).Told → ⊥ }
         ensures stopped { (E.view self.new.engine).failed ≡ true }
+        ensures full { (E.view self.new.engine).full ≡ (E.view self.old.engine).full }
         ensures disk { (E.view self.new.engine).disk ≡ (E.view self.old.engine).disk }
+        ensures gate { (E.view self.new.engine).gate ≡ (E.view self.old.engine).gate }
         ensures base { (E.view self.new.engine).base ≡ (E.view self.old.engine).base }
         ensures tail { (E.view self.new.engine).tail ≡ (E.view self.old.engine).tail }
         ensures faults { (E.view self.new.engine).faults ≡ (E.view self.old.engine).faults }
@@ -27,8 +29,22 @@ impl<E: Engine> Acts<E> {
         self.engine.stop();
     }
 
-    /// Whoever acts pauses: until it goes on no change is logged, and one that is asked for is a break. Answers
-    /// whether an action was begun.
+    /// Whether a call of its engine failed.
+    pub fn has_failed(&self) -> bool
+        ensures { result ≡ (E.view self.now.engine).failed }
+    {
+        self.engine.has_failed()
+    }
+
+    /// Whether the first call that failed was refused for the log's end.
+    pub fn is_full(&self) -> bool
+        ensures { result ≡ (E.view self.now.engine).full }
+    {
+        self.engine.is_full()
+    }
+
+    /// Whoever acts pauses: until it goes on no change is logged, and one that is asked for is refused as at
+    /// the log's end. Answers whether an action was begun.
     pub fn pause(&mut self) -> bool
         ensures was { result ≡ self.old.begun }
         ensures begun { self.new.begun ≡ false }

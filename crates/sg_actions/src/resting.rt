@@ -37,15 +37,26 @@ impl<E: Engine> Acts<E> {
         self.actor.last == self.actor.before
     }
 
+    /// Whether there is a row of this transaction.
+    pub fn has_row(&self, txn: TxnId) -> bool
+        ensures yes { result ≡ true → HasRow self.now.rows.items txn.0 }
+        ensures no { result ≡ false → HasRow self.now.rows.items txn.0 → ⊥ }
+    {
+        last_in(self.rows.as_slice(), txn).is_some()
+    }
+
     /// Whether one more transaction may begin.
     pub fn has_place(&self) -> bool
-        ensures { result ≡ true → HasRow self.now.rows.items 0 }
+        ensures place { result ≡ true → HasRow self.now.rows.items 0 }
+        ensures none { result ≡ false → HasRow self.now.rows.items 0 → ⊥ }
     {
         last_in(self.rows.as_slice(), TxnId(0)).is_some()
     }
 
-    /// Reports that what was asked for can't be: a break is counted, and nothing else changes.
+    /// Reports that what was asked for can't be: a break is counted, and nothing else changes. An engine that
+    /// tells is never asked.
     pub fn report(&mut self) -> SpaceFault
+        requires untold { (E.view self.old.engine).Told → ⊥ }
         ensures answer { result ≡ SpaceFault.Disk }
         ensures risen { HasRisen self.old.breaks self.new.breaks }
         ensures later { self.old.breaks ≤ self.new.breaks }

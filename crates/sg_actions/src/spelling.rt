@@ -1,13 +1,16 @@
 // The change that a record holds for an operation on a page.
-ghost use Rattle.std.specs.Prelude.{◌≡◌, ◌≤◌, ◌<◌, ◌^◌, ◌+◌, ◌++◌, length, take, drop, IsTrue, IfSome, false, option_map};
+ghost use Rattle.std.specs.Prelude.{◌≡◌, ◌≤◌, ◌<◌, ◌^◌, ◌+◌, ◌++◌, length, take, drop, IsTrue, IfSome, IfNone, false, option_map};
 ghost use Rattle.byteorder.specs.Endian.{little_bytes};
 ghost use Rattle.sg_base.specs.Op.{op_of, is_format};
 ghost use Rattle.sg_base.specs.Page.{cell_in, slots_of};
 ghost use Rattle.sg_base.specs.Slots.{cell_bytes};
 ghost use Rattle.sg_base.specs.Sheet.{sheet_of};
+ghost use Rattle.sg_record.specs.Changes.{Change as Changing};
+ghost use Rattle.sg_record.specs.Ranges.{IsRecord};
+ghost use Rattle.sg_record.specs.Records.Says.{Changed};
 ghost use Rattle.sg_record.specs.Shown.{shown, shown_page, shown_change, shown_bytes};
 ghost use Rattle.sg_space.specs.Bands.{IsPiece};
-ghost use Rattle.sg_actions.specs.Changes.{taken_away, change_with, number_of, brought, page_off, bytes_off, bytes_with, comp_of, BringsLinks, AreLinks, HasTaken, IsChangeOf};
+ghost use Rattle.sg_actions.specs.Changes.{taken_away, change_with, number_of, brought, page_off, bytes_off, bytes_with, comp_of, BringsLinks, AreLinks, HasTaken, IsChangeOf, BringsFew, IsNoCell, FindsNoCell, IsBrief};
 
 use sg_base::{BandNo, Lsn, PAGE_SIZE, PageNo, PageOp, SlotView, write_u32};
 use sg_record::{BandBytes, Change, PageChange, Rec};
@@ -16,6 +19,7 @@ use sg_record::{BandBytes, Change, PageChange, Rec};
 fn copy_front(bytes: &[u8], into: &mut [u8]) -> Option<usize>
     ensures long { length into.new ≡ length into.old }
     ensures copied { IfSome result (HasTaken into.new bytes.now) }
+    ensures none { IfNone result (length into.old < length bytes.now) }
 {
     if bytes.len() > into.len() {
         return None;
@@ -29,6 +33,7 @@ fn copy_front(bytes: &[u8], into: &mut [u8]) -> Option<usize>
 fn copy_cell(page: &SlotView<'_>, slot: u16, into: &mut [u8]) -> Option<usize>
     ensures long { length into.new ≡ length into.old }
     ensures copied { IfSome result (HasTaken into.new (cell_bytes (cell_in (slots_of page.now.page.now) slot))) }
+    ensures none { IfNone result (IsNoCell (length into.old) (cell_in (slots_of page.now.page.now) slot)) }
 {
     match page.slot(slot) {
         None => None,
@@ -53,6 +58,7 @@ pub fn take_away(page: &SlotView<'_>, op: &PageOp<'_>, into: &mut [u8]) -> Optio
     ensures taken { IfSome result (HasTaken into.new (taken_away (op_of op.now) (sheet_of page.now.page.now))) }
     ensures small { AreLinks (sheet_of page.now.page.now).links }
     ensures plain { IfSome result (λ n. is_format (op_of op.now) ≡ false) }
+    ensures none { IfNone result (FindsNoCell (op_of op.now) (sheet_of page.now.page.now)) }
 {
     let (a, b) = page.links();
     match *op {
@@ -63,6 +69,19 @@ pub fn take_away(page: &SlotView<'_>, op: &PageOp<'_>, into: &mut [u8]) -> Optio
             Some(8)
         }
         PageOp::Put { .. } | PageOp::Item { .. } | PageOp::ItemBack { .. } => Some(0),
+    }
+}
+
+/// Whether the bytes that an operation brings are no more than a record has room for, and those of an
+/// argument no more than 256. An operation that fits a page has no more.
+pub fn is_short(op: &PageOp<'_>) -> bool
+    ensures yes { IsTrue result → BringsFew (op_of op.now) }
+    ensures no { BringsFew (op_of op.now) → IsTrue result }
+{
+    match *op {
+        PageOp::Put { bytes, .. } | PageOp::Set { bytes, .. } => bytes.len() <= PAGE_SIZE,
+        PageOp::Item { arg, .. } | PageOp::ItemBack { arg, .. } => arg.len() <= 256,
+        PageOp::Format { .. } | PageOp::Remove { .. } | PageOp::Links { .. } => true,
     }
 }
 
@@ -177,10 +196,22 @@ pub fn comp_of<'a>(change: &Change<'a>) -> Change<'a>
     }
 }
 
+/// Whether a change keeps no more bytes than a page has, so that a record has room for what takes it off.
+pub fn is_brief(change: &Change<'_>) -> bool
+    ensures yes { IsTrue result → IsBrief (shown_change change.now) }
+    ensures no { IsBrief (shown_change change.now) → IsTrue result }
+{
+    match change {
+        Change::Page(c) => c.before.len() <= PAGE_SIZE,
+        Change::SegWrite(_) | Change::SegOp(_) => true,
+    }
+}
+
 /// The change that a record makes, if it makes one and isn't one that takes another off, with the
 /// record before it.
 pub fn change_in<'a>(r: &Rec<'a>) -> Option<(Change<'a>, Lsn)>
-    ensures { IfSome result (λ p. IsChangeOf (shown r.now) (shown_change p.0) p.1) }
+    ensures is { IfSome result (λ p. IsChangeOf (shown r.now) (shown_change p.0) p.1) }
+    ensures none { IfNone result ((c : Changing) → (shown r.now).says ≡ Changed c → ⊥) }
 {
     match *r {
         Rec::Page { prev, change, .. } => Some((Change::Page(change), prev)),
@@ -192,7 +223,8 @@ pub fn change_in<'a>(r: &Rec<'a>) -> Option<(Change<'a>, Lsn)>
 
 /// Whether so many bytes from there on are a piece of a band.
 pub fn is_piece(at: u32, count: usize) -> bool
-    ensures { IsTrue result → IsPiece at count }
+    ensures yes { IsTrue result → IsPiece at count }
+    ensures no { IsPiece at count → IsTrue result }
 {
     1 <= count && count <= 8_192 && at <= 32_768 && count as u32 <= 32_768 - at
 }
@@ -225,6 +257,12 @@ pub fn spell_bytes<'a>(
         after,
     }
 }
+
+/// Tells a proof that a record has an encoding. It runs no code.
+pub fn tell_range(r: &Rec<'_>)
+    requires { IsRecord (shown r.now) }
+    ensures { IsRecord (shown r.now) }
+{}
 
 /// A number of 64 bits fits its type.
 pub fn is_number(n: u64)

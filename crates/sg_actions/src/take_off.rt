@@ -4,11 +4,11 @@ ghost use Rattle.std.specs.Prelude.{◌≡◌, ◌<◌};
 use crate::acts::count_break;
 use crate::rows::{Actor, keep_row};
 use crate::settling::{forget_bands, forget_pages, untake};
-use crate::spelling::{change_in, comp_of, is_number};
+use crate::spelling::{change_in, comp_of, is_brief, is_number, tell_range};
 use crate::{Acts, Engine};
 use sg_base::{Lsn, TxnId};
 use sg_ops::Ops;
-use sg_record::{Rec, decode, is_record};
+use sg_record::{Rec, decode};
 use sg_space::SpaceFault;
 
 // The bytes of the greatest record.
@@ -29,7 +29,7 @@ impl<E: Engine> Acts<E> {
     fn take_one_off(&mut self, ops: &Ops, at: Lsn) -> Result<Lsn, SpaceFault>
         requires off { let t = table_of record_meaning range_meaning ops.now in (E.view self.old.engine).Told →
             ∥ ((from : State) × E.means self.old.engine t from × CanGoOff t (led from (E.view self.old.engine)) self.old.rows.items self.old.actor at) ∥₁ }
-        requires by { AreBy (E.means self.old.engine) (table_of record_meaning range_meaning ops.now) }
+        requires by { (E.view self.old.engine).Told → AreBy (E.means self.old.engine) (table_of record_meaning range_meaning ops.now) }
         ensures told { (E.view self.new.engine).Told → (E.view self.old.engine).Told }
         ensures counts { OffCounts (E.view self.old.engine) (E.view self.new.engine) self.old.breaks self.new.breaks result }
         // also of a call that fails
@@ -39,6 +39,7 @@ impl<E: Engine> Acts<E> {
         ensures lower { IfOk result (λ next. next < at) }
         ensures means { let t = table_of record_meaning range_meaning ops.now in (from : State) → E.means self.old.engine t from → E.means self.new.engine t from }
         ensures did { let t = table_of record_meaning range_meaning ops.now in (from : State) → E.means self.old.engine t from → IfOk result (TookOff t (led from (E.view self.old.engine)) (led from (E.view self.new.engine)) self.old.maps self.new.maps self.old.unfreed self.old.rows.items self.old.actor self.new.actor at) }
+        ensures who { self.new.actor.txn ≡ self.old.actor.txn }
         ensures unfreed { self.new.unfreed ≡ self.old.unfreed }
         ensures rows { self.new.rows.items ≡ self.old.rows.items }
     {
@@ -53,15 +54,19 @@ impl<E: Engine> Acts<E> {
         if prev >= at {
             return Err(count_break(&mut self.breaks));
         }
+        if !is_brief(&change) {
+            return Err(count_break(&mut self.breaks));
+        }
         let record = Rec::PhysComp {
             txn: self.actor.txn,
             prev: self.actor.last,
             undo_next: prev,
             change: comp_of(&change),
         };
-        if !is_record(&record) {
-            return Err(count_break(&mut self.breaks));
-        }
+        is_number(self.actor.txn.0);
+        is_number(self.actor.last);
+        is_number(prev);
+        tell_range(&record);
         self.actor.last = self.engine.log_by(ops, &record)?;
         untake(&mut self.maps, &self.unfreed, &change);
         Ok(prev)
@@ -105,7 +110,7 @@ impl<E: Engine> Acts<E> {
     pub fn take_off(&mut self, ops: &Ops) -> Result<(), SpaceFault>
         requires well { let t = table_of record_meaning range_meaning ops.now in (E.view self.old.engine).Told →
             ∥ ((limits : State → ℕ → ℕ) × (from : State) × E.means self.old.engine t from × CanTakeOff t limits (led from (E.view self.old.engine)) self.old.maps self.old.rows.items self.old.actor) ∥₁ }
-        requires by { AreBy (E.means self.old.engine) (table_of record_meaning range_meaning ops.now) }
+        requires by { (E.view self.old.engine).Told → AreBy (E.means self.old.engine) (table_of record_meaning range_meaning ops.now) }
         ensures means { let t = table_of record_meaning range_meaning ops.now in (from : State) → E.means self.old.engine t from → E.means self.new.engine t from }
         ensures told { (E.view self.new.engine).Told → (E.view self.old.engine).Told }
         ensures did { let t = table_of record_meaning range_meaning ops.now in (limits : State → ℕ → ℕ) (from : State) → E.means self.old.engine t from →
@@ -125,7 +130,7 @@ impl<E: Engine> Acts<E> {
     pub fn resume(&mut self, ops: &Ops, from: Lsn) -> Result<(), SpaceFault>
         requires off { let t = table_of record_meaning range_meaning ops.now in (E.view self.old.engine).Told →
             ∥ ((start : State) × E.means self.old.engine t start × CanResume t (led start (E.view self.old.engine)) self.old.rows.items self.old.actor from) ∥₁ }
-        requires by { AreBy (E.means self.old.engine) (table_of record_meaning range_meaning ops.now) }
+        requires by { (E.view self.old.engine).Told → AreBy (E.means self.old.engine) (table_of record_meaning range_meaning ops.now) }
         ensures told { (E.view self.new.engine).Told → (E.view self.old.engine).Told }
         ensures means { let t = table_of record_meaning range_meaning ops.now in (start : State) → E.means self.old.engine t start → E.means self.new.engine t start }
         ensures did { let t = table_of record_meaning range_meaning ops.now in (limits : State → ℕ → ℕ) (start : State) → E.means self.old.engine t start → OnOk result ((kept : Kept) (begin : State) →

@@ -11,7 +11,7 @@ use sg_space::{SpaceFault, UndoNote};
 use std::snapshot::Snapshot;
 
 impl<E: Engine> Acts<E> {
-    ghost use Rattle.std.specs.Prelude.{◌≡◌, ℕ, true, false, length, IfOk, OnOk};
+    ghost use Rattle.std.specs.Prelude.{◌≡◌, ◌≤◌, ◌<◌, ℕ, true, false, length, IfOk, OnOk};
     ghost use Rattle.sg_ops.specs.Table.{Table};
     ghost use Rattle.sg_action.specs.States.{State};
     ghost use Rattle.sg_actions.specs.Engine.{EngineCounts, EngineRests, EngineLooks, IsForced, Keeps, led};
@@ -56,6 +56,7 @@ impl<E: Engine> Acts<E> {
     /// Begins a transaction, whose number is that of its record.
     pub fn begin(&mut self) -> Result<TxnId, SpaceFault>
         requires { CanBegin (E.view self.old.engine) self.old.unfreed self.old.rows.items self.old.actor }
+        ensures number { IfOk result (λ u. ((E.view self.old.engine).tail ≤ u.0) × (u.0 < (E.view self.new.engine).tail)) }
         ensures counts { EngineCounts (E.view self.old.engine) (E.view self.new.engine) result }
         ensures means { Keeps (E.means self.old.engine) (E.means self.new.engine) }
         ensures did { (limits : State → ℕ → ℕ) (t : Table) (from : State) → E.means self.old.engine t from → IfOk result (Begun t limits (led from (E.view self.old.engine)) (led from (E.view self.new.engine)) self.old.maps self.old.rows.items self.new.rows.items self.old.actor) }

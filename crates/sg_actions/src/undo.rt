@@ -126,7 +126,7 @@ fn is_of_bytes(note: &[u8]) -> bool
 }
 
 impl<E: Engine> Acts<E> {
-    ghost use Rattle.std.specs.Prelude.{◌≡◌, ◌<◌, ◌||◌, ℕ, true, false, length, is_some, IsSome, IfOk, OnOk};
+    ghost use Rattle.std.specs.Prelude.{◌≡◌, ◌<◌, ◌||◌, ℕ, true, false, length, is_some, IsSome, IfOk, IfErr, OnOk};
     ghost use Rattle.sg_alloc.specs.Flags.{map_bands_of};
     ghost use Rattle.sg_ops.specs.Table.{Table};
     ghost use Rattle.sg_space.specs.Bands.{IsPiece};
@@ -146,6 +146,7 @@ impl<E: Engine> Acts<E> {
     fn look_back(&mut self, at: Lsn, into: &mut UndoNote) -> Result<Seen, SpaceFault>
         requires there { HasStep (E.view self.old.engine) at }
         ensures counts { ActsCounts (E.view self.old.engine) (E.view self.new.engine) self.old.breaks self.new.breaks result }
+        ensures only_disk { IfErr result (λ f. f ≡ SpaceFault.Disk) }
         ensures means { Keeps (E.means self.old.engine) (E.means self.new.engine) }
         ensures stays { (t : Table) (from : State) → E.means self.old.engine t from → OnOk result (HasStayed (led from (E.view self.old.engine)) (led from (E.view self.new.engine))) }
         ensures saw { (t : Table) (from : State) → E.means self.old.engine t from → IfOk result (λ s. (E.view self.old.engine).Told → SeesAt (E.view self.old.engine).steps at into.new s) }
@@ -178,6 +179,7 @@ impl<E: Engine> Acts<E> {
     ) -> Result<Option<Found>, SpaceFault>
         requires { CanUndo (E.view self.old.engine) self.old.unfreed self.old.rows.items self.old.actor txn.0 stop }
         ensures counts { ActsCounts (E.view self.old.engine) (E.view self.new.engine) self.old.breaks self.new.breaks result }
+        ensures only_disk { IfErr result (λ f. f ≡ SpaceFault.Disk) }
         ensures means { Keeps (E.means self.old.engine) (E.means self.new.engine) }
         ensures stays { (t : Table) (from : State) → E.means self.old.engine t from → OnOk result (HasStayed (led from (E.view self.old.engine)) (led from (E.view self.new.engine))) }
         ensures finds { (t : Table) (from : State) → E.means self.old.engine t from → IfOk result (λ f. (E.view self.old.engine).Told → FindsNote (E.view self.old.engine).steps txn.0 stop into.new f) }
@@ -218,6 +220,7 @@ impl<E: Engine> Acts<E> {
     pub fn next_undo(&mut self, txn: TxnId, stop: Lsn) -> Result<Option<Lsn>, SpaceFault>
         requires { CanUndo (E.view self.old.engine) self.old.unfreed self.old.rows.items self.old.actor txn.0 stop }
         ensures counts { ActsCounts (E.view self.old.engine) (E.view self.new.engine) self.old.breaks self.new.breaks result }
+        ensures only_disk { IfErr result (λ f. f ≡ SpaceFault.Disk) }
         ensures means { Keeps (E.means self.old.engine) (E.means self.new.engine) }
         ensures stays { (t : Table) (from : State) → E.means self.old.engine t from → OnOk result (HasStayed (led from (E.view self.old.engine)) (led from (E.view self.new.engine))) }
         ensures next { IfOk result (IsNextUndo (E.view self.old.engine) txn.0 stop) }
@@ -241,6 +244,7 @@ impl<E: Engine> Acts<E> {
     fn put_bytes(&mut self, b: BandNo, at: u32, bytes: &[u8]) -> Result<(), SpaceFault>
         requires band { b.0 < 65536 }
         requires piece { IsPiece at (length bytes.now) }
+        requires there { (E.view self.old.engine).Told → b.0 < (E.view self.old.engine).extent.bands }
         requires begun { self.old.begun ≡ true }
         ensures counts { ActsCounts (E.view self.old.engine) (E.view self.new.engine) self.old.breaks self.new.breaks result }
         ensures means { Keeps (E.means self.old.engine) (E.means self.new.engine) }

@@ -15,7 +15,7 @@ use Rattle.sg_recovery.proofs.Chaining.{clash, border_stays, border_other, sound
 use Rattle.sg_recovery.proofs.TakeOff.{other_open}
 use Rattle.sg_analysis.specs.Sights.{Step, Steps, Sight, sight_of, with_step, steps_behind}
 use Rattle.sg_analysis.specs.Sights.Sight.{Stepped, Estimated, Foreign}
-use Rattle.sg_analysis.specs.Ending.{is_end, newest, EndsWell, AllEndWell, MayBeBehind, OverBy, IsOver, AllOver}
+use Rattle.sg_recovery.specs.Ending.{is_end, newest, EndsWell, AllEndWell, MayBeBehind, OverBy, IsOver, AllOver}
 use Rattle.sg_analysis.specs.Standing.{takes_off, is_taken_off, goes_right, is_systems, precedes_system, may_be_behind, goes_on, may_step, may_stand, all_stand_behind, all_stand, IsPlausible, ArePlausible, AreInOrder, IsPageLog}
 use Rattle.sg_analysis.specs.Firsts.{first, second}
 use Rattle.sg_analysis.specs.Returns.{opens, returns, is_before, next_is, systems_next_is, takes_next, takes_all, undoes_newest, goes_back}
@@ -278,7 +278,7 @@ log_ordered h = record {
   system = h.steps.system;
   between = h.steps.between;
   straight = h.steps.straight;
-  ended = h.ended;
-  over = h.over;
+  ended = h.steps.ended;
+  over = h.steps.over;
   plausible = h.plausible;
 }

@@ -11,7 +11,7 @@ use Rattle.sg_recovery.proofs.Chaining.{clash, border_here, border_stays, border
 use Rattle.sg_recovery.proofs.Showing.{without_not}
 use Rattle.sg_recovery.proofs.TakeOff.{own_none, other_open, of_up_to, last_here, last_other}
 use Rattle.sg_analysis.specs.Sights.{Step, Steps}
-use Rattle.sg_analysis.specs.Ending.{is_end, newest, EndsWell, AllEndWell, MayBeBehind, OverBy, IsOver, AllOver}
+use Rattle.sg_recovery.specs.Ending.{is_end, newest, EndsWell, AllEndWell, MayBeBehind, OverBy, IsOver, AllOver}
 use Rattle.sg_analysis.specs.Standing.{takes_off, is_taken_off, goes_right, is_systems, precedes_system, may_be_behind, goes_on, may_step}
 use Rattle.sg_analysis.specs.Returns.{goes_back}
 use Rattle.sg_analysis.proofs.GoingOn.{IsOn, may_step-on}

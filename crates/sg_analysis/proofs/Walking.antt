@@ -207,10 +207,10 @@ found_analysed {base = base} h sure (Ok a) says none =
           system = order.system;
           between = order.between;
           straight = order.straight;
+          ended = order.ended;
+          over = order.over;
           one_action = one_action (steps_of records) (none records l.knows);
         };
-        ended = order.ended;
-        over = order.over;
         plausible = order.plausible;
       };
       says = says records l.knows;

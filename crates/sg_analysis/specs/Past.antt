@@ -5,7 +5,7 @@ use Rattle.sg_recovery.specs.Log.Record.{Begin, Change, TopEnd, PhysComp, TopVoi
 use Rattle.sg_recovery.specs.Chains.{last_of}
 use Rattle.sg_analysis.specs.Sights.{Step, Steps, Sight}
 use Rattle.sg_analysis.specs.Sights.Sight.{Stepped, Estimated, Foreign}
-use Rattle.sg_analysis.specs.Ending.{newest}
+use Rattle.sg_recovery.specs.Ending.{newest}
 use Rattle.sg_analysis.specs.declared.past.Over.{Over}
 use Rattle.sg_analysis.specs.declared.past.Stage.{Stage}
 use Rattle.sg_analysis.specs.declared.past.Stage.TheVariants.{Older, Committed, Ended}

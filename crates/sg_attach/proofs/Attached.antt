@@ -1,23 +1,28 @@
 -- What an opening leaves.
-use Rattle.std.proofs.Common.{◌≡◌, ◌≤◌, ℕ, max, Bool, true, false, IsTrue, List, [], ◌++◌, None, refl, sym, ap, ◌∙◌}
+use Rattle.std.proofs.Common.{◌≡◌, ◌≤◌, ℕ, max, Bool, true, false, IsTrue, List, [], ◌++◌, length, refl, sym, ap, ◌∙◌, arith}
 use Rattle.std.proofs.Props.{props}
 use mathlib.Core.Logic.{∥∥₁_elim, ∥∥₁_prop}
-use Rattle.sg_disk.specs.Disk.{Image, View, Leaves, LeavesOnly}
+use Rattle.sg_disk.specs.Disk.{View}
+use Rattle.sg_gate.specs.declared.superblock.Super.{Super}
 use Rattle.sg_log.specs.Frames.{Numbered}
 use Rattle.sg_log.specs.Held.{Tail, tail_of}
+use Rattle.sg_log.proofs.Holding.{tail_at_gate}
 use Rattle.sg_ops.specs.Laws.{IsLawful}
 use Rattle.sg_ops.specs.Table.{Table}
+use Rattle.sg_pool.specs.Pooled.{sizes}
+use Rattle.sg_pool.specs.Units.{Geometry}
 use Rattle.sg_pool.specs.declared.pool.Pool.{Pool}
 use Rattle.sg_record.specs.Records.{Record}
 use Rattle.sg_recovery.specs.Chains.{next_lsn}
 use Rattle.sg_action.specs.States.{State}
+use Rattle.sg_engine.specs.Calls.{WaitsFrame}
 use Rattle.sg_engine.specs.Effects.{effect_in}
 use Rattle.sg_engine.specs.Engine.{Origin}
 use Rattle.sg_engine.specs.Running.{IsEngine, IsAllowed}
-use Rattle.sg_find.specs.Synced.{reads, redo_point}
+use Rattle.sg_find.specs.Synced.{reads, redo_point, SplitsAtSync}
 use Rattle.sg_find.specs.declared.fault.OpenFault.{OpenFault}
-use Rattle.sg_open.specs.Found.{Opens, AreOpening}
-use Rattle.sg_open.specs.Refusals.{StoreRefused}
+use Rattle.sg_open.specs.Found.{Opens, IsGoingOn}
+use Rattle.sg_open.specs.Refusals.{StoreRefused, IsAccepted}
 use Rattle.sg_actions.specs.Steps.{Steps}
 use Rattle.sg_phys_laws.specs.Poised.{IsPoised}
 use Rattle.sg_phys_laws.specs.Reading.{durable_in, waiting_in}
@@ -26,10 +31,10 @@ use Rattle.sg_phys_laws.specs.States.{steps_of}
 use Rattle.sg_phys_laws.proofs.Reading.{held_are}
 use Rattle.sg_phys_laws.proofs.Sets.{steps_set}
 use Rattle.sg_phys_laws.proofs.Wrapped.{all_are, append_none}
-use Rattle.sg_phys.specs.Phys.{Stands, StandsForSome}
-use Rattle.sg_attach.specs.Attached.{IsStoreImage, IsSomeStoreImage, IsLeftOrStoreImage}
-use Rattle.sg_attach.proofs.Analysed.{log_below}
-use Rattle.sg_attach.proofs.Opens.{sound_opens, point_below, image_is_said, opens_poised, attach_either}
+use Rattle.sg_phys.specs.Phys.{IsGiven, Stands, StandsForSome}
+use Rattle.sg_attach.specs.Attached.{IsStoreImage, IsSomeStoreImage, IsAttaching}
+use Rattle.sg_attach.proofs.Analysed.{accepted_super, log_below}
+use Rattle.sg_attach.proofs.Opens.{sound_opens, point_below, image_is_said, opens_poised, attach_behind}
 
 -- an origin's records do what these operations say
 abbrev pub DoesBy : Table → Origin → Type 0
@@ -46,10 +51,9 @@ nat_set = hlevel props
 pub below_prop : (a b : ℕ) → IsProp (a ≤ b)
 below_prop a b = hlevel props
 
--- where nothing is told any pages will do
-some_or : (told : Bool) (P : State → Type 0) → (IsTrue told → ∥ ((from : State) × P from) ∥₁) → ((from : State) → told ≡ false → P from) → ∥ ((from : State) × P from) ∥₁
-some_or true P has other = has refl
-some_or false P has other = ∣ (record { pages = λ n. None; bands = λ b. [] }, other (record { pages = λ n. None; bands = λ b. [] }) refl) ∣₁
+-- where nothing waits at a log's end
+pub waits_empty : (log : Tail) → length log.buffer ≡ 0 → WaitsFrame log
+waits_empty log none = rw none (omega arith)
 
 -- WHAT OPENING PROMISES of a disk that tells
 module _ (told : Bool) (t : Table) (v w : View) (log : Tail) (pool : Pool)
@@ -71,6 +75,13 @@ module _ (told : Bool) (t : Table) (v w : View) (log : Tail) (pool : Pool)
   pub attach_base : (from : State) (durable all : Steps) → IsTrue told → IsStoreImage t from durable all (reads v) → o.super.base ≡ log.base
   attach_base from durable all is m = ∥∥₁_elim m.recovers.holds.sound (nat_set o.super.base log.base) (λ s. sym (engine_of is s).engine.place.base)
 
+  -- which is none behind its tail
+  pub attach_based : (from : State) (durable all : Steps) → IsTrue told → IsStoreImage t from durable all (reads v) → o.super.base ≤ max (tail_of log) 1
+  attach_based from durable all is m = ∥∥₁_elim m.recovers.holds.sound (below_prop o.super.base (max (tail_of log) 1)) (λ s.
+      let base = (engine_of is s).engine.place.base in
+      let gate = (engine_of is s).engine.held.at_gate in
+      omega (arith, base, gate, tail_at_gate log))
+
   -- which ends below its tail
   pub attach_below : (from : State) (durable all : Steps) → IsTrue told → IsStoreImage t from durable all (reads v) → next_lsn (steps_of ns) ≤ max (tail_of log) 1
   attach_below from durable all is m = ∥∥₁_elim m.recovers.holds.sound (below_prop (next_lsn (steps_of ns)) (max (tail_of log) 1)) (λ s. log_below o w log ns pool (engine_of is s))
@@ -79,6 +90,15 @@ module _ (told : Bool) (t : Table) (v w : View) (log : Tail) (pool : Pool)
   attach_durable from durable all is m = ∥∥₁_elim m.recovers.holds.sound (steps_set (steps_of (durable_in w log)) (steps_of ns)) (λ s.
       ap steps_of (held_are w log ns [] (engine_of is s).engine.held).0)
 
+  -- it has as many pages and bands as the superblock says
+  pub attach_pages : (from : State) (durable all : Steps) (s : Super) → IsTrue told → IsStoreImage t from durable all (reads v) → IsAccepted t (reads v) s → (sizes pool).pages ≡ s.pages
+  attach_pages from durable all s is m accepted = ∥∥₁_elim m.recovers.holds.sound (nat_set (sizes pool).pages s.pages)
+      (λ x. ap (λ (g : Geometry). g.pages) (engine_of is x).sizes ∙ ap (λ (u : Super). u.pages) (accepted_super t (reads v) s accepted))
+
+  pub attach_bands : (from : State) (durable all : Steps) (s : Super) → IsTrue told → IsStoreImage t from durable all (reads v) → IsAccepted t (reads v) s → (sizes pool).bands ≡ s.bands
+  attach_bands from durable all s is m accepted = ∥∥₁_elim m.recovers.holds.sound (nat_set (sizes pool).bands s.bands)
+      (λ x. ap (λ (g : Geometry). g.bands) (engine_of is x).sizes ∙ ap (λ (u : Super). u.bands) (accepted_super t (reads v) s accepted))
+
   module _ (allowed : (q : Origin) (tail : ℕ) (ds : List Numbered) → IsTrue told → DoesBy t q → Opens q tail ds v → redo_point q.super.base ds ≤ tail → IsAllowed q w log pool (redo_point q.super.base ds)) (lawful : IsLawful t) where
     poised : (from : State) (durable all : Steps) → IsTrue told → IsStoreImage t from durable all (reads v) → ∥ IsPoised t from o w log pool ∥₁
     poised from durable all is m = ∥∥₁_elim m.recovers.holds.sound ∥∥₁_prop (λ s.
@@ -86,27 +106,19 @@ module _ (told : Bool) (t : Table) (v w : View) (log : Tail) (pool : Pool)
         (allowed o s.tail ns is (λ lsn x. refl) (sound_opens t v s) (point_below t (point_in o (reads v)) ns (reads v) s)) ∣₁)
 
     -- and stands for what the image stood for
-    pub attach_stands : (failed : Bool) (from : State) (durable all : Steps) → (IsTrue told → IsStoreImage t from durable all (reads v)) → Stands told failed v w log pool t from
-    attach_stands failed from durable all known = record {
+    pub attach_stands : (presumed : Type 0) (failed : Bool) (from : State) (durable all : Steps) → (IsTrue told → IsStoreImage t from durable all (reads v)) → Stands (IsGiven told presumed) failed v w log pool t from
+    attach_stands presumed failed from durable all known = record {
       lawful = lawful;
-      known = ∥∥₁_elim (told_known told (IsPoised t from o w log pool) (λ is. poised from durable all is (known is))) ∥∥₁_prop (λ k. ∣ (λ whole tells. k tells) ∣₁);
+      known = ∥∥₁_elim (told_known told (IsPoised t from o w log pool) (λ is. poised from durable all is (known is))) ∥∥₁_prop (λ k. ∣ (λ whole given. k given.0) ∣₁);
     }
 
-    -- whatever it stands for where nothing is told
-    pub attach_untold : (failed : Bool) (from : State) → told ≡ false → Stands told failed v w log pool t from
-    attach_untold failed from untold = record { lawful = lawful; known = ∣ (λ whole tells. absurd (let bad : true ≡ false = sym tells ∙ untold in cc)) ∣₁ }
-
-    pub attach_some : (IsTrue told → IsSomeStoreImage t (reads v)) → StandsForSome told false v w log pool
-    attach_some known = ∥∥₁_elim (some_or told (λ from. Stands told false v w log pool t from)
-        (λ is. ∥∥₁_elim (known is) ∥∥₁_prop (λ k. ∣ (k.0, attach_stands false k.0 k.1 k.2 (λ told'. k.3)) ∣₁))
-        (λ from untold. attach_untold false from untold))
-        ∥∥₁_prop (λ k. ∣ (t, k.0, k.1) ∣₁)
+    -- so for some, where what is presumed of the disk holds
+    pub attach_some : (presumed : Type 0) → (IsTrue told → presumed → IsSomeStoreImage t (reads v)) → StandsForSome (IsGiven told presumed) false v w log pool
+    attach_some presumed known tell = ∥∥₁_elim (known tell.tells.0 tell.tells.1) ∥∥₁_prop (λ k. ∣ (t, k.0, attach_stands presumed false k.0 k.1 k.2 (λ is. k.3)) ∣₁)
 
 -- the moments
-pub attach_moments : (t : Table) (from : State) (durable log : Steps) (v w : View) → IsStoreImage t from durable log (reads v)
-    → ((q : Origin) (tail : ℕ) (ds : List Numbered) → DoesBy t q → Opens q tail ds v → AreOpening q ds v w) → LeavesOnly v w (IsLeftOrStoreImage v.now t from durable log)
-attach_moments t from durable log v w m opening =
-    attach_either t from durable log v w m (λ s. opening (origin_of t (reads v)) s.tail (records_in (origin_of t (reads v)) (reads v)) (λ lsn x. refl) (sound_opens t v s))
+pub attach_moments : (t : Table) (v w : View) → SplitsAtSync v (IsGoingOn t v w) → SplitsAtSync v (IsAttaching t v w)
+attach_moments t v w split = record { mid = split.mid; synced = split.synced; before = split.before; behind = attach_behind t v w split.mid split.behind }
 
 -- the refusals
 pub attach_refused : (told : Bool) (t : Table) (from : State) (durable log : Steps) (v w : View) (fault : OpenFault) → IsStoreImage t from durable log (reads v)

@@ -20,9 +20,9 @@ use Rattle.sg_engine.proofs.Bytes.{byte_repeats, covered_or, uncovered_all}
 use Rattle.sg_engine.proofs.Logs.{none_more}
 use Rattle.sg_engine.proofs.Pages.{from_there}
 use Rattle.sg_engine.proofs.Units.{byte_one, rises_parts}
-use Rattle.sg_find.specs.Synced.{reads, redo_point as point_found}
+use Rattle.sg_find.specs.Synced.{reads, redo_point as point_found, SplitsAtSync}
 use Rattle.sg_opening.specs.Opening.{IsOpenable}
-use Rattle.sg_open.specs.Found.{Opens, AreOpening}
+use Rattle.sg_open.specs.Found.{Opens, IsGoingOn}
 use Rattle.sg_reopen.specs.Again.{image_home, StandsAgain}
 use Rattle.sg_reopen.proofs.Again.{image_opens}
 use Rattle.sg_reopen.proofs.OpenedOver.{own_point}
@@ -40,7 +40,7 @@ use Rattle.sg_phys_laws.proofs.Opened.{opened_poised}
 use Rattle.sg_phys_laws.proofs.Sets.{state_set}
 use Rattle.sg_phys_laws.proofs.Recovered.{image_is, image_fix, leaves_fix, grows_then}
 use Rattle.sg_phys.proofs.Images.{by_table, image_by}
-use Rattle.sg_attach.specs.Attached.{IsStoreImage, IsLeftOrStoreImage}
+use Rattle.sg_attach.specs.Attached.{IsStoreImage, IsAttaching}
 use Rattle.sg_attach.proofs.Points.{point_same, marks_said, marks_seen}
 
 -- what the records make of the image's own home area is what history repeated from its point makes
@@ -130,20 +130,18 @@ image_between t from durable log c d m n =
       recovers = n.recovers;
     }
 
-opening_either : (t : Table) (from : State) (durable log : Steps) (v w : View) → (m : IsStoreImage t from durable log (reads v))
-    → IsSoundImage (origin_of t (reads v)) (point_in (origin_of t (reads v)) (reads v)) (records_in (origin_of t (reads v)) (reads v)) (reads v) → AreOpening (origin_of t (reads v)) (records_in (origin_of t (reads v)) (reads v)) v w → LeavesOnly v w (IsLeftOrStoreImage v.now t from durable log)
-opening_either t from durable log v w m s = ⊎_elim
-    (λ early. weaker early (λ c leaves. ∣ inl leaves ∣₁))
-    (λ (mid, synced, early, late). joined (weaker early (λ c leaves. ∣ inl leaves ∣₁)) (weaker late (λ c stands. ∣ inr (behind c stands) ∣₁)))
-  where
-    behind : (c : Image) → IsStanding (origin_of t (reads v)) (records_in (origin_of t (reads v)) (reads v)) (records_in (origin_of t (reads v)) (reads v)) (point_found (origin_of t (reads v)).super.base (records_in (origin_of t (reads v)) (reads v))) c → IsStoreImage t from durable log c
-    behind c stands =
-        let o : Origin = origin_of t (reads v) in
-        let ns : List Numbered = records_in o (reads v) in
-        let by : IsBy t o = by_table t (reads v) in
-        image_between t from durable log (reads v) c m
-        (image_by t o from (steps_of ns) (steps_of ns) c by
-        (image_is t from o ns ns c by (all_agree_none t o ns) (image_said t from durable log (reads v) m s) (stands_found o ns c s.low stands)))
+-- so it is one of the store,
+standing_image : (t : Table) (from : State) (durable log : Steps) (v : View) → IsStoreImage t from durable log (reads v)
+    → IsSoundImage (origin_of t (reads v)) (point_in (origin_of t (reads v)) (reads v)) (records_in (origin_of t (reads v)) (reads v)) (reads v) → (c : Image)
+    → IsStanding (origin_of t (reads v)) (records_in (origin_of t (reads v)) (reads v)) (records_in (origin_of t (reads v)) (reads v)) (point_found (origin_of t (reads v)).super.base (records_in (origin_of t (reads v)) (reads v))) c
+    → IsStoreImage t from durable log c
+standing_image t from durable log v m s c stands =
+    let o : Origin = origin_of t (reads v) in
+    let ns : List Numbered = records_in o (reads v) in
+    let by : IsBy t o = by_table t (reads v) in
+    image_between t from durable log (reads v) c m
+    (image_by t o from (steps_of ns) (steps_of ns) c by
+    (image_is t from o ns ns c by (all_agree_none t o ns) (image_said t from durable log (reads v) m s) (stands_found o ns c s.low stands)))
 
 -- a truncated fact of an image is one
 store_image_fix : (t : Table) (from : State) (durable log : Steps) (c : Image) → ∥ IsStoreImage t from durable log c ∥₁ → IsStoreImage t from durable log c
@@ -151,17 +149,17 @@ store_image_fix t from durable log c h =
     let m : IsImageOf (Recovers (origin_of t c)) t from durable log c = image_fix (origin_of t c) t from durable log c (∥∥₁_elim h ∥∥₁_prop (λ n. ∣ record { front = n.front; is_front = n.is_front; recovers = n.recovers.holds } ∣₁)) in
     record { front = m.front; is_front = m.is_front; recovers = record { holds = m.recovers; leads = (from, refl) } }
 
--- EACH IMAGE OF EACH MOMENT of opening could have been left before, or is one of the store;
-pub attach_either : (t : Table) (from : State) (durable log : Steps) (v w : View) → IsStoreImage t from durable log (reads v)
-    → ((s : IsSoundImage (origin_of t (reads v)) (point_in (origin_of t (reads v)) (reads v)) (records_in (origin_of t (reads v)) (reads v)) (reads v)) → AreOpening (origin_of t (reads v)) (records_in (origin_of t (reads v)) (reads v)) v w) → LeavesOnly v w (IsLeftOrStoreImage v.now t from durable log)
-attach_either t from durable log v w m opens =
-    leaves_fix v w (IsLeftOrStoreImage v.now t from durable log) (λ c h. ∥∥₁_elim h ∥∥₁_prop (λ x. x))
-    (∥∥₁_elim m.recovers.holds.sound ∥∥₁_prop (λ s. ∣ opening_either t from durable log v w m s (opens s) ∣₁))
+-- EACH IMAGE OF EACH MOMENT of opening, from its syncs on,
+pub attach_behind : (t : Table) (v w mid : View) → IsGoingOn t v w mid → IsAttaching t v w mid
+attach_behind t v w mid goes from durable log m =
+    leaves_fix mid w (IsStoreImage t from durable log) (store_image_fix t from durable log)
+    (∥∥₁_elim m.recovers.holds.sound ∥∥₁_prop (λ s.
+    ∣ weaker (goes (origin_of t (reads v)) s.tail (records_in (origin_of t (reads v)) (reads v)) (λ lsn x. refl) (sound_opens t v s)) (standing_image t from durable log v m s) ∣₁))
 
--- so it is one of the store where each that could have been left before was
-pub either_images : (t : Table) (from : State) (durable log : Steps) (v w : View) → ((c : Image) → Leaves v.now c → IsStoreImage t from durable log c) → LeavesOnly v w (IsLeftOrStoreImage v.now t from durable log) → LeavesOnly v w (IsStoreImage t from durable log)
-either_images t from durable log v w each leaves = weaker leaves (λ c h. store_image_fix t from durable log c
-    (∥∥₁_elim h ∥∥₁_prop (λ one. ⊎_elim (λ before. ∣ each c before ∣₁) (λ is. ∣ is ∣₁) one)))
+-- and all of them where each that could have been left before was
+pub opening_images : (t : Table) (from : State) (durable log : Steps) (v w : View) → ((c : Image) → Leaves v.now c → IsStoreImage t from durable log c) → IsStoreImage t from durable log (reads v)
+    → SplitsAtSync v (IsAttaching t v w) → LeavesOnly v w (IsStoreImage t from durable log)
+opening_images t from durable log v w each m split = joined (weaker split.before each) (split.behind from durable log m)
 
 -- AN IMAGE THAT STANDS AGAIN, of whichever life, is one of the store,
 pub stands_of : (t : Table) (from : State) (o : Origin) (ds all : List Numbered) (c : Image) → IsBy t o → AllAgree t o ds all → AreSaid t from o ds → StandsAgain o ds all c → IsStoreImage t from (steps_of ds) (steps_of all) c

@@ -44,7 +44,7 @@ mark_said A lsn u p (Save k) m = tt
 mark_said A lsn u p Commit m = tt
 mark_said A lsn u p End m = tt
 mark_said A lsn u p (Checkpoint e l) m = m
-mark_said A lsn u p (Line words) m = tt
+mark_said A lsn u p (Line words) m = m
 
 mark_seen : (A : ℕ → Type 0) (lsn u p : ℕ) (says : Says) → IsMarked A lsn says → IsSeenMarked A lsn (sight_by u p says)
 mark_seen A lsn u p Begin m = tt
@@ -57,7 +57,7 @@ mark_seen A lsn u p (Save k) m = tt
 mark_seen A lsn u p Commit m = tt
 mark_seen A lsn u p End m = tt
 mark_seen A lsn u p (Checkpoint e l) m = m
-mark_seen A lsn u p (Line words) m = tt
+mark_seen A lsn u p (Line words) m = m
 
 -- and so are the checkpoints
 pub marks_said : (A : ℕ → Type 0) (ns : List Numbered) → AreSeenMarked A ns → AreMarked A ns

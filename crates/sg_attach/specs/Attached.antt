@@ -1,11 +1,13 @@
 -- What is known of each image of a store, in each of its lives.
-use Rattle.std.specs.Prelude.{◌⊎◌, ℕ, Option, option_map}
+use Rattle.std.specs.Prelude.{◌≡◌, ℕ, Option, option_map}
 use Rattle.std.specs.List.{find}
-use Rattle.sg_disk.specs.Disk as disk
-use Rattle.sg_disk.specs.Disk.{Image, Leaves}
+use Rattle.sg_disk.specs.Disk.{Image, LeavesOnly, View}
+use Rattle.sg_find.specs.Synced.{reads}
+use Rattle.sg_gate.specs.declared.superblock.Super.{Super}
 use Rattle.sg_ops.specs.Table.{Table}
 use Rattle.sg_analysis.specs.Analysis.{acting, lacks_end, with_last}
 use Rattle.sg_action.specs.States.{State}
+use Rattle.sg_actions.specs.Engine.{Extent}
 use Rattle.sg_actions.specs.Images.{IsImageOf}
 use Rattle.sg_actions.specs.Steps.{Steps}
 use Rattle.sg_phys_laws.specs.Recovers.{RecoversBy}
@@ -19,10 +21,14 @@ IsStoreImage t from durable log c = IsImageOf (RecoversBy t) t from durable log 
 abbrev pub IsSomeStoreImage : Table → Image → Type 0
 IsSomeStoreImage t c = ∥ ((from : State) × (durable : Steps) × (log : Steps) × IsStoreImage t from durable log c) ∥₁
 
--- WHILE IT IS OPENED, an image that a crash leaves is one that it could have left before, or one of that store
-abbrev pub IsLeftOrStoreImage : disk.State → Table → (from : State) → (durable log : Steps) → Image → Type 0
-IsLeftOrStoreImage s t from durable log c = ∥ (Leaves s c ⊎ IsStoreImage t from durable log c) ∥₁
+-- FROM THE SYNCS OF ITS OPENING ON each image that a crash leaves is one of the store of which the image is that was read, whichever that is
+abbrev pub IsAttaching : Table → (old new mid : View) → Type 0
+IsAttaching t old new mid = (from : State) (durable log : Steps) → IsStoreImage t from durable log (reads old) → LeavesOnly mid new (IsStoreImage t from durable log)
 
 -- the system, or the transaction that goes on, whose action has no end, with the number of its last record
 abbrev pub unfinished_of : Steps → Option (ℕ × ℕ)
 unfinished_of rs = option_map (with_last rs) (find (lacks_end rs) (acting rs))
+
+-- there are as many pages and bands as a superblock says
+abbrev pub IsExtentOf : Super → Extent → Type 0
+IsExtentOf s x = (x.pages ≡ s.pages) × (x.bands ≡ s.bands)

@@ -2,7 +2,7 @@
 ghost use Rattle.std.specs.Prelude.{◌≡◌, ◌≢◌, ◌≤◌, ◌⊎◌, false, List, IsTrue, IfOk, IfErr, MatchResult, option_map};
 ghost use Rattle.std.specs.Bool.{OnFalse};
 ghost use Rattle.sg_base.specs.declared.area.Area.TheVariants.{Home};
-ghost use Rattle.sg_disk.specs.Disk.{LeavesOnly};
+ghost use Rattle.sg_disk.specs.Accounts.{IsShownEnd};
 ghost use Rattle.sg_gate.specs.Superblock.{IsSuper};
 ghost use Rattle.sg_gate.specs.declared.superblock.Super.{Super as Said};
 ghost use Rattle.sg_ops.specs.Table.{table_of};
@@ -10,18 +10,19 @@ ghost use Rattle.sg_analysis.specs.Analysis.{losers_of};
 ghost use Rattle.sg_recovery.specs.Chains.{next_lsn};
 ghost use Rattle.sg_recovery.specs.Formed.{IsLog};
 ghost use Rattle.sg_find.specs.Faults.{is_disk};
-ghost use Rattle.sg_find.specs.Synced.{reads};
+ghost use Rattle.sg_find.specs.Synced.{reads, IsUnsynced, SplitsAtSync};
 ghost use Rattle.sg_open.specs.Refusals.{StoreRefused, IsCause, IsLateCause, IsAccepted, IsUnwrittenAt};
 ghost use Rattle.sg_action.specs.States.{State};
 ghost use Rattle.sg_actions.specs.Steps.{Steps as Log};
-ghost use Rattle.sg_phys_laws.specs.Recovers.{origin_of, records_in};
+ghost use Rattle.sg_phys_laws.specs.Recovers.{origin_of, records_in, super_in};
 ghost use Rattle.sg_phys_laws.specs.States.{steps_of};
 ghost use Rattle.sg_pages.specs.Parts.{seen, stands};
-ghost use Rattle.sg_attach.specs.Attached.{IsStoreImage, IsSomeStoreImage, IsLeftOrStoreImage, unfinished_of};
+ghost use Rattle.sg_attach.specs.Ended.{end_in};
+ghost use Rattle.sg_attach.specs.Attached.{IsStoreImage, IsSomeStoreImage, IsAttaching, IsExtentOf, unfinished_of};
 
 use sg_analysis::Analysis;
 use sg_base::Steps;
-use sg_disk::Disk;
+use sg_disk::Presumed;
 use sg_engine::Engine;
 use sg_find::OpenFault;
 use sg_gate::Super;
@@ -35,7 +36,7 @@ use std::sync::ledger::Ledger;
 
 /// What an opening gives: a store's pages and bands with its log, how many there are, and what its log says of
 /// transactions.
-pub struct AttachedStore<D: Disk> {
+pub struct AttachedStore<D: Presumed> {
     pub pages: Phys<D>,
     pub geometry: Super,
     pub analysis: Analysis,
@@ -43,36 +44,40 @@ pub struct AttachedStore<D: Disk> {
 
 /// Opens a store as the engine under the actions, and answers what its log says of transactions.
 ///
-/// Where the disk tells, an image that opening takes for a store is one by these operations. Nothing else is
-/// asked: what `Phys` promises of each image that a crash leaves is that, so any life may follow any
-/// other. A refusal hands the disk back, as opening left it.
-pub fn attach<D: Disk, L: Ledger>(
+/// Where the disk tells, and what is presumed of it holds, an image that opening takes for a store is one by these
+/// operations. Nothing else is asked: what `Phys` promises of each image that a crash leaves is that, so any
+/// life may follow any other. On any other disk it is safe, and says why it refused. A refusal hands the disk back,
+/// as opening left it.
+pub fn attach<D: Presumed, L: Ledger>(
     alloc: Global,
     disk: D,
     ops: &Ops,
     steps: &mut Steps<L>,
 ) -> Result<AttachedStore<D>, Unopened<D>>
-    requires found { let t = table_of record_meaning range_meaning ops.now in IsTrue D.told → (s : Said) → IsAccepted t (reads (D.view disk)) s → IsSomeStoreImage t (reads (D.view disk)) }
+    requires found { let t = table_of record_meaning range_meaning ops.now in IsTrue D.told → D.presumed → (s : Said) → IsAccepted t (reads (D.view disk)) s → IsSomeStoreImage t (reads (D.view disk)) }
     ensures whole { IfOk result (λ made. made.pages.failed ≡ false) }
     ensures fresh { IfOk result (λ made. made.pages.breaks ≡ 0) }
     ensures range { IfOk result (λ made. IsSuper made.geometry) }
     ensures accepted { IsTrue D.told → IfOk result (λ made. IsAccepted (table_of record_meaning range_meaning ops.now) (reads (D.view disk)) made.geometry) }
     // It stands for what the image stood for,
     ensures means { let t = table_of record_meaning range_meaning ops.now in (from : State) (durable log : Log) → IsTrue D.told → IsStoreImage t from durable log (reads (D.view disk)) →
-        IfOk result (λ made. stands D.told D.view made.pages t from) }
-    // also where the disk doesn't tell,
-    ensures untold { let t = table_of record_meaning range_meaning ops.now in (from : State) → D.told ≡ false → IfOk result (λ made. stands D.told D.view made.pages t from) }
-    // and holds the steps that it held, all of them durable.
-    ensures steps { let t = table_of record_meaning range_meaning ops.now in IsTrue D.told →
-        IfOk result (λ made. (seen D.told D.view made.pages).steps ≡ steps_of (records_in (origin_of t (reads (D.view disk))) (reads (D.view disk)))) }
-    ensures durable { let t = table_of record_meaning range_meaning ops.now in IsTrue D.told →
-        IfOk result (λ made. (seen D.told D.view made.pages).durable ≡ steps_of (records_in (origin_of t (reads (D.view disk))) (reads (D.view disk)))) }
-    // These are a formed log, which ends below the tail, and none of which was cut away; and the analysis is one of it.
-    ensures formed { IsTrue D.told → IfOk result (λ made. IsLog (seen D.told D.view made.pages).base (seen D.told D.view made.pages).steps) }
-    ensures below { IsTrue D.told → IfOk result (λ made. next_lsn (seen D.told D.view made.pages).steps ≤ (seen D.told D.view made.pages).tail) }
-    ensures first_byte { IsTrue D.told → IfOk result (λ made. (seen D.told D.view made.pages).base ≡ made.pages.engine.log.base) }
-    ensures losers { IsTrue D.told → IfOk result (λ made. made.analysis.losers ≡ losers_of (seen D.told D.view made.pages).steps) }
-    ensures unfinished { IsTrue D.told → IfOk result (λ made. option_map (λ p. (p.0.0, p.1)) made.analysis.unfinished ≡ unfinished_of (seen D.told D.view made.pages).steps) }
+        IfOk result (λ made. stands D.told D.presumed D.view made.pages t from) }
+    // and where what is presumed of the disk holds, it holds the steps that it held, all of them durable.
+    ensures steps { let t = table_of record_meaning range_meaning ops.now in IsTrue D.told → D.presumed →
+        IfOk result (λ made. (seen D.told D.presumed D.view made.pages).steps ≡ steps_of (records_in (origin_of t (reads (D.view disk))) (reads (D.view disk)))) }
+    ensures durable { let t = table_of record_meaning range_meaning ops.now in IsTrue D.told → D.presumed →
+        IfOk result (λ made. (seen D.told D.presumed D.view made.pages).durable ≡ steps_of (records_in (origin_of t (reads (D.view disk))) (reads (D.view disk)))) }
+    // These are a formed log, which begins where the superblock says and ends below the tail, and none of which was cut away; and the
+    // analysis is one of it.
+    ensures base { IfOk result (λ made. (seen D.told D.presumed D.view made.pages).base ≡ (super_in (reads (D.view disk))).base) }
+    ensures formed { IsTrue D.told → D.presumed → IfOk result (λ made. IsLog (seen D.told D.presumed D.view made.pages).base (seen D.told D.presumed D.view made.pages).steps) }
+    ensures below { IsTrue D.told → D.presumed → IfOk result (λ made. next_lsn (seen D.told D.presumed D.view made.pages).steps ≤ (seen D.told D.presumed D.view made.pages).tail) }
+    ensures first_byte { IsTrue D.told → D.presumed → IfOk result (λ made. (seen D.told D.presumed D.view made.pages).base ≡ made.pages.engine.log.base) }
+    ensures based { IsTrue D.told → D.presumed → IfOk result (λ made. (seen D.told D.presumed D.view made.pages).base ≤ (seen D.told D.presumed D.view made.pages).tail) }
+    ensures losers { IsTrue D.told → D.presumed → IfOk result (λ made. made.analysis.losers ≡ losers_of (seen D.told D.presumed D.view made.pages).steps) }
+    ensures unfinished { IsTrue D.told → D.presumed → IfOk result (λ made. option_map (λ p. (p.0.0, p.1)) made.analysis.unfinished ≡ unfinished_of (seen D.told D.presumed D.view made.pages).steps) }
+    // There are as many pages and bands as its superblock says.
+    ensures extent { IsTrue D.told → D.presumed → IfOk result (λ made. IsExtentOf made.geometry (seen D.told D.presumed D.view made.pages).extent) }
     // Such an image is refused only where the disk fails, for want of memory, where a code isn't registered, or
     // where its log isn't formed in full.
     ensures refused { let t = table_of record_meaning range_meaning ops.now in (from : State) (durable log : Log) → IsTrue D.told → IsStoreImage t from durable log (reads (D.view disk)) →
@@ -86,12 +91,15 @@ pub fn attach<D: Disk, L: Ledger>(
     // No fault of the disk is passed over.
     ensures heeded { IfOk result (λ made. (D.view made.pages.engine.disk).faults ≡ (D.view disk).faults) }
     ensures heeded_so { IfErr result (λ not. OnFalse (is_disk not.fault) ((D.view not.disk).faults ≡ (D.view disk).faults)) }
-    // At each moment, where it succeeds and where it doesn't, an image is one that could have been left before, or one of
-    // the store that was read.
-    ensures attached { let t = table_of record_meaning range_meaning ops.now in (from : State) (durable log : Log) → IsTrue D.told → IsStoreImage t from durable log (reads (D.view disk)) →
-        IfOk result (λ made. LeavesOnly (D.view disk) (D.view made.pages.engine.disk) (IsLeftOrStoreImage (D.view disk).now t from durable log)) }
-    ensures failed { let t = table_of record_meaning range_meaning ops.now in (from : State) (durable log : Log) → IsTrue D.told → IsStoreImage t from durable log (reads (D.view disk)) →
-        IfErr result (λ not. LeavesOnly (D.view disk) (D.view not.disk) (IsLeftOrStoreImage (D.view disk).now t from durable log)) }
+    // No byte is handed over but to the home area: where its log ends is shown by where that of the image did.
+    ensures kept { MatchResult result (λ made. (D.view disk).handed ≤ (D.view made.pages.engine.disk).handed) (λ not. (D.view disk).handed ≤ (D.view not.disk).handed) }
+    ensures shown { IsTrue D.told → IfOk result (λ made. IsShownEnd (D.view disk) (D.view made.pages.engine.disk) (end_in (reads (D.view disk))) made.pages.engine.log.gate) }
+    // At each moment, where it succeeds and where it doesn't: until all areas are synced an image is one that could have been
+    // left before, and from then on one of the store that was read. Where the syncs fail nothing else is done.
+    ensures attached { let t = table_of record_meaning range_meaning ops.now in IsTrue D.told →
+        IfOk result (λ made. SplitsAtSync (D.view disk) (IsAttaching t (D.view disk) (D.view made.pages.engine.disk))) }
+    ensures failed { let t = table_of record_meaning range_meaning ops.now in IsTrue D.told →
+        IfErr result (λ not. IsUnsynced (D.view disk) (D.view not.disk) ⊎ SplitsAtSync (D.view disk) (IsAttaching t (D.view disk) (D.view not.disk))) }
 {
     let found = Snapshot::of(&disk);
     let mut disk = disk;

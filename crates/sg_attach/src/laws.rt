@@ -9,7 +9,7 @@ ghost use Rattle.sg_action.specs.States.{State};
 ghost use Rattle.sg_engine.specs.Effects.{IsBy};
 ghost use Rattle.sg_engine.specs.Engine.{Origin};
 ghost use Rattle.sg_engine.specs.Running.{IsEngine, IsAllowed};
-ghost use Rattle.sg_find.specs.Synced.{reads, redo_point};
+ghost use Rattle.sg_find.specs.Synced.{reads, redo_point, SplitsAtSync};
 ghost use Rattle.sg_open.specs.Found.{Opens};
 ghost use Rattle.sg_reopen.specs.Again.{StandsAgain};
 ghost use Rattle.sg_actions.specs.Steps.{Steps};
@@ -17,7 +17,7 @@ ghost use Rattle.sg_phys_laws.specs.Points.{AreMarked};
 ghost use Rattle.sg_phys_laws.specs.Poised.{AreSaid, IsPoised};
 ghost use Rattle.sg_phys_laws.specs.Recovers.{cut_at, origin_of, records_in, point_in, IsSoundImage};
 ghost use Rattle.sg_phys_laws.specs.States.{AllAgree, state_of, steps_of};
-ghost use Rattle.sg_attach.specs.Attached.{IsStoreImage, IsLeftOrStoreImage};
+ghost use Rattle.sg_attach.specs.Attached.{IsStoreImage, IsAttaching};
 
 /// A law: an image of a store can be opened, with the records of its log over its own home area; these
 /// make of it what the steps make of what the store first said; and what is opened so is the engine
@@ -34,7 +34,8 @@ pub fn images_attach()
 /// may be left while it is opened is. It need not be so: of a store whose log was being cut, an image may
 /// have the log before the cut or behind it, and the one that is read says which store is opened.
 pub fn opening_keeps()
-    ensures { (t : Table) (from : State) (durable log : Steps) (v w : View) → ((c : Image) → Leaves v.now c → IsStoreImage t from durable log c) → LeavesOnly v w (IsLeftOrStoreImage v.now t from durable log) → LeavesOnly v w (IsStoreImage t from durable log) }
+    ensures { (t : Table) (from : State) (durable log : Steps) (v w : View) → ((c : Image) → Leaves v.now c → IsStoreImage t from durable log c) → IsStoreImage t from durable log (reads v)
+        → SplitsAtSync v (IsAttaching t v w) → LeavesOnly v w (IsStoreImage t from durable log) }
 {}
 
 /// A law: an image that stands again, of whichever life, is one of the store, where its records agree

@@ -9,7 +9,7 @@ use Rattle.sg_before.specs.Befores.{befores}
 
 -- band 0 is the map's, and its byte 0 is set
 taken : State
-taken = record { pages = λ p. None; bands = λ b. 1 ∷ [] }
+taken = record { size = record { pages = 1; bands = 1 }; pages = λ p. None; bands = λ b. 1 ∷ [] }
 
 -- all inverses of bands clear it
 map_comes_back : (t : Table) → (put_back t (Write 0 0 (0 ∷ []) (1 ∷ []) ∷ []) taken).bands 0 ≡ 0 ∷ []

@@ -3,3 +3,4 @@ pub mod Apps
 pub mod Values
 pub mod Simple
 pub mod Taken
+pub mod Reading

@@ -23,7 +23,8 @@ module _ (basis : Sizes → Ground) (says : Says) where
   done_tells_all t told old new refused status ran is =
       let done = ran.done is in
       record {
-        executed = subst (λ (end : code_end.RunEnd). AreExecuted end old.left ran.run.text ran.run.lines) done.ended ran.output.executed;
-        took = (subst (λ (end : code_end.RunEnd). IsHeard end old.taken new.taken ran.run.answers ran.run.heard) done.ended ran.output.took).1;
-        images = λ is_told c leaves. all_stand t ran.run.after c (done.answered is_told) (ran.exit.images is_told c leaves);
+        executed = subst (λ (end : code_end.RunEnd). AreExecuted end old.left ran.run.text ran.run.lines) done ran.output.executed;
+        took = (subst (λ (end : code_end.RunEnd). IsHeard end old.taken new.taken ran.run.answers ran.run.heard) done ran.output.took).1;
+        images = λ is_told held c leaves.
+            (let did = ran.did is_told held in all_stand t did.to.after c (did.done is).answered (did.exit.images c leaves));
       }

@@ -1,7 +1,8 @@
 -- How a run of the program goes and ends.
-use Rattle.std.proofs.Common.{◌≡◌, ◌⊎◌, inl, inr, ⊎_elim, ℕ, zero, suc, ◌+◌, ◌<◌, ◌≤◌, Bool, true, false, IsTrue, List, [], ◌∷◌, Option, Some, None, IfSome, length, refl, sym, ap, ◌∙◌, subst, arith, length-append}
-use Rattle.std.proofs.lemmas.List.{append_cancel_right}
+use Rattle.std.proofs.Common.{◌≡◌, ◌⊎◌, inl, inr, ⊎_elim, ℕ, zero, suc, ◌+◌, ◌<◌, ◌≤◌, ◌^◌, Bool, true, false, IsTrue, List, [], ◌∷◌, Option, Some, None, IfSome, length, refl, sym, ap, ◌∙◌, subst, arith, length-append}
+use Rattle.std.proofs.lemmas.Bool.{cases_lt}
 use Rattle.sg_base.specs.Ends.{HasRisen}
+use Rattle.sg_disk.specs.Accounts.{IsShownEnd}
 use Rattle.sg_disk.specs.Disk as disk
 use Rattle.sg_disk.proofs.Moments as moments
 use Rattle.sg_ops.specs.Table.{Table as Operations}
@@ -28,36 +29,24 @@ use Rattle.sg_session.specs.Causes.Trouble.{NoTrouble, OfDisk, OfLog, OfMemory}
 use Rattle.sg_script.specs.declared.script.RunEnd as code_end
 use Rattle.sg_script.specs.declared.script.RunEnd.TheVariants as ends
 use Rattle.sg_script.specs.Script as scripts
-use Rattle.sg_script.specs.Script.{Span, span, Lines, HasRead, stop_by_all}
+use Rattle.sg_script.specs.Script.{span, HasRead, stop_by_all}
 use Rattle.sg_script.specs.Ending.{MOST_BYTES, AreExecuted, HasCause}
 use Rattle.sg_script.specs.Course as courses
-use Rattle.sg_script.specs.Course.{IsSerialThroughout, acknowledged}
 use Rattle.sg_commands.specs.declared.opens.OpenRefused as code_refused
 use Rattle.sg_commands.specs.declared.opens.OpenRefused.TheVariants as refusals
 use Rattle.sg_commands.specs.declared.status.Status as code_status
 use Rattle.sg_commands.specs.declared.status.Status.TheVariants as statuses
+use Rattle.sg_commands.specs.Images.{Says, reads_of, StandsFor, StandsForFirst, IsOfStore, IsPresumed, CountRose}
 use Rattle.sg_commands.specs.Syncs.{SplitsAt}
-use Rattle.sg_commands.specs.Images.{Says, reads_of, StandsFor, StandsForFirst, CountRose}
 use Rattle.sg_commands.specs.Full.{MayBeFull, TailIsShown}
-use Rattle.sg_commands.specs.Opening.{SYNCED, IsLeftAlone, IsOpened, IsSince, IsRefusedFor, IsNothingFor, IsQuietFor, StaysShut}
+use Rattle.sg_commands.specs.Opening.{IsLeftAlone, IsOpened, IsRefusedFor, IsQuietFor, StaysShut, KeepsAll}
 use Rattle.sg_commands.specs.Answers.{IsCaused, AreCaused}
 use Rattle.sg_commands.specs.Statuses.{status_of, status_of_refusal}
-use Rattle.sg_commands.specs.Top.{Outside, at_first, at_end, Course, IsLogSpent, FaultRose, Ran, NeverRan, HasGone, Tells, IsUnhindered, Completes, Account}
+use Rattle.sg_commands.specs.Top.{Outside, at_first, at_end, Course, Outcome, Did, IsLogSpent, FaultRose, Ran, NeverRan, HasGone, Tells, IsUnhindered, Completes, Account}
 
 -- what holds at two views holds at equal ones
 pub along : (P : disk.View → disk.View → Type 0) (v was w is : disk.View) → was ≡ v → is ≡ w → P was is → P v w
 along P v was w is e f h = subst (λ (u : disk.View). P u w) e (subst (λ (u : disk.View). P was u) f h)
-
--- each image of each moment has both
-both : {v w : disk.View} {P Q : disk.Image → Type 0} → disk.LeavesOnly v w P → disk.LeavesOnly v w Q → disk.LeavesOnly v w (λ c. P c × Q c)
-both {v = v} {w = w} {P = P} {Q = Q} h k =
-    let same : h.added ≡ k.added = append_cancel_right h.added k.added v.past (sym h.past ∙ k.past) in
-    record {
-      added = h.added;
-      past = h.past;
-      first = λ c here. (h.first c here, k.first c here);
-      each = λ c any. (h.each c any, k.each c (subst (λ (added : List disk.State). disk.LeavesAny (w.now ∷ added) c) same any));
-    }
 
 -- a run that is done was read to its end, and its store hasn't stopped
 ended_done : (end : code_end.RunEnd) (stop : Option Stop) → status_of end stop ≡ statuses.Done → (end ≡ ends.Done) × (stop ≡ None)
@@ -76,15 +65,29 @@ ended_memory ends.TooLong None h = cc
 ended_memory end (Some stops.Disk) h = cc
 ended_memory end (Some stops.LogEnd) h = cc
 
--- a count that rose from 0 is above it
-risen_some : (n : ℕ) → HasRisen 0 n → 0 < n
-risen_some zero h = h (omega arith)
-risen_some (suc n) h = omega arith
+-- a count has risen, or hasn't
+risen_or : (before now : ℕ) → HasRisen before now ⊎ (HasRisen before now → ⊥)
+risen_or before now = ⊎_elim (λ above. inl (λ room. above)) (λ most. ⊎_elim (λ room. inr (λ rose. omega (arith, most, rose room)))
+    (λ full. inl (λ room. omega (arith, room, full))) (cases_lt (now + 1) (2 ^ 64))) (cases_lt before now)
+
+-- A fault was counted, where that is so if the disk tells and what is presumed of it holds
+pub count_rose : (told : Bool) (presumed : Type 0) (v w : disk.View) → (IsTrue told → presumed → HasRisen v.faults w.faults) → CountRose told presumed v w
+count_rose told presumed v w h = ⊎_elim (λ rose. inl rose) (λ not. inr (by_told told h not)) (risen_or v.faults w.faults)
+  where
+    by_told : (b : Bool) → (IsTrue b → presumed → HasRisen v.faults w.faults) → (HasRisen v.faults w.faults → ⊥) → (b ≡ false) ⊎ (presumed → ⊥)
+    by_told true rose not = inr (λ held. not (rose refl held))
+    by_told false rose not = inl refl
 
 -- the count of faults behind a fuse rises only where that of the disk inside does, or where a call is refused
 pub risen_or_refused : (before now r : ℕ) → HasRisen (before + 0) (now + r) → HasRisen before now ⊎ (0 < r)
 risen_or_refused before now zero h = inl (λ room. omega (arith, h (omega arith)))
 risen_or_refused before now (suc r) h = inr (omega arith)
+
+-- a fault that was counted behind the fuse
+pub risen_inside : (told : Bool) (presumed : Type 0) (old new : Outside) (refused : ℕ) → CountRose told presumed (at_first old) (at_end new refused)
+    → FaultRose told presumed old new refused
+risen_inside told presumed old new refused (inl rose) = inl (risen_or_refused old.disk.faults new.disk.faults refused rose)
+risen_inside told presumed old new refused (inr other) = inr other
 
 -- what was read is no longer than the source's text
 long_text : (source left : Option (List ℕ)) (got : List ℕ) (n : ℕ) → HasRead source got left → n < length got → IfSome source (λ text. n < length text)
@@ -134,53 +137,25 @@ full_shown log_end tail v w (Other (Of name Commit)) (inr shown) full = inr (ome
 full_shown log_end tail v w (Other (Of name Abort)) (inr shown) full = inr (omega (arith, shown, full))
 full_shown log_end tail v w (Other (Of name (Do op))) (inr shown) full = inr (omega (arith, shown, full))
 
-module _ (basis : Sizes → Ground) (says : Says) (t : Operations) where
-  -- what an image stands for by the sizes of a run it stands for by its own
-  sized : (z : Sizes) (c : disk.Image) (m : Objects) → says.sizes c ≡ z → stores.StandsFor t (basis z) c m → StandsFor basis says t c m
-  sized z c m e h = subst (λ (q : Sizes). stores.StandsFor t (basis q) c m) (sym e) h
+-- the log's end by bytes, through an opening and what came behind it
+tail_shown : (log_end gate gate' tail : ℕ) (v u w : disk.View) → IsShownEnd v u log_end gate → IsShownEnd u w gate gate' → u.handed ≤ w.handed → tail ≤ gate' + 65541
+    → TailIsShown log_end v w tail
+tail_shown log_end gate gate' tail v u w (inl counted) later le waits = inl (omega (arith, counted, le))
+tail_shown log_end gate gate' tail v u w (inr shown) (inl counted) le waits = inl counted
+tail_shown log_end gate gate' tail v u w (inr shown) (inr later) le waits = inr (omega (arith, shown, later, waits))
 
-  sized_first : (z : Sizes) (c : disk.Image) (least : ℕ) (x : Run) → says.sizes c ≡ z → stores.StandsForFirst t (basis z) least x c
-      → StandsForFirst basis says t least x c
-  sized_first z c least x e h = record { commits = h.commits; enough = h.enough; most = h.most; stands = sized z c (objects_after t h.commits x) e h.stands }
+module _ (basis : Sizes → Ground) (says : Says) (t : Operations)
+    (sized : (z : Sizes) (c : disk.Image) (m : Objects) → stores.StandsFor t (basis z) c m → says.sizes c ≡ z) where
+  -- what an image stands for as a store of some sizes it stands for by its own
+  its_own : (z : Sizes) (c : disk.Image) (m : Objects) → stores.StandsFor t (basis z) c m → StandsFor basis says t c m
+  its_own z c m h = subst (λ (q : Sizes). stores.StandsFor t (basis q) c m) (sym (sized z c m h)) h
+
+  its_own_first : (z : Sizes) (c : disk.Image) (least : ℕ) (x : Run) → stores.StandsForFirst t (basis z) least x c → StandsForFirst basis says t least x c
+  its_own_first z c least x h = record { commits = h.commits; enough = h.enough; most = h.most; stands = its_own z c (objects_after t h.commits x) h.stands }
 
   -- an image of the opening, as a prefix of the run's commits
   opening_stands : (first : Objects) (y : Run) (c : disk.Image) → y.so_far.first ≡ first → StandsFor basis says t c first → StandsForFirst basis says t 0 y c
   opening_stands first y c same h = record { commits = 0; enough = omega arith; most = omega arith; stands = subst (StandsFor basis says t c) (sym same) h }
-
-  module _ (told : Bool) (old new : Outside) (refused : ℕ) where
-    risen_inside : CountRose basis says t told (at_first old) (at_end new refused) → FaultRose basis says t told old new refused
-    risen_inside (inl rose) = inl (risen_or_refused old.disk.faults new.disk.faults refused rose)
-    risen_inside (inr other) = inr other
-
-  -- what is said of a run of a disk that tells
-  record Told (told : Bool) (old new : Outside) (refused : ℕ) (first : Objects) (synced : disk.View) (lines : List (List ℕ)) (answers heard : List Answer)
-      (stopped : Option Stop) (after : Run) (s : Span) : Type 0 where
-    goes : IsTrue told → Lines t s (start first) lines answers after
-    images : IsTrue told → (c : disk.Image) → disk.Leaves new.disk.now c → StandsForFirst basis says t after.so_far.answered after c
-    one_more : IsTrue told → length after.so_far.commits ≤ acknowledged lines heard + 1
-    moments : IsTrue told → SplitsAt SYNCED synced (at_first old) (at_end new refused) (StandsForFirst basis says t 0 after)
-    answered : IsTrue told → stopped ≡ None → after.so_far.answered ≡ length after.so_far.commits
-    reads : IsTrue told → stopped ≡ None → StandsFor basis says t (reads_of new.disk) (committed_objects t after)
-    serial : IsTrue told → IsSerialThroughout t s (start first) lines answers
-    stays : IsTrue told → (why : Stop) → after.stopped ≡ Some why → stopped ≡ Some why
-
-  -- and is said of any that doesn't
-  no_told : {A : Type 0} (told : Bool) → told ≡ false → IsTrue told → A
-  no_told told untold is = absurd (let bad : true ≡ false = sym is ∙ untold in cc)
-
-  untold_part : (told : Bool) → told ≡ false → (old new : Outside) (refused : ℕ) (first : Objects) (synced : disk.View) (lines : List (List ℕ))
-      (answers heard : List Answer) (stopped : Option Stop) (after : Run) (s : Span)
-      → Told told old new refused first synced lines answers heard stopped after s
-  untold_part told untold old new refused first synced lines answers heard stopped after s = record {
-    goes = λ is. no_told told untold is;
-    images = λ is. no_told told untold is;
-    one_more = λ is. no_told told untold is;
-    moments = λ is. no_told told untold is;
-    answered = λ is. no_told told untold is;
-    reads = λ is. no_told told untold is;
-    serial = λ is. no_told told untold is;
-    stays = λ is. no_told told untold is;
-  }
 
   none_first : (a b : Option Stop) → ((why : Stop) → a ≡ Some why → b ≡ Some why) → b ≡ None → a ≡ None
   none_first None b stays e = refl
@@ -189,82 +164,93 @@ module _ (basis : Sizes → Ground) (says : Says) (t : Operations) where
       other : (y : Stop) → Some y ≡ None → ⊥
       other y e = cc
 
-  -- from the course of a run
-  told_part : (told : Bool) (old new : Outside) (refused : ℕ) (first : Objects) (synced : disk.View) (lines : List (List ℕ)) (answers heard : List Answer)
-      (by_then stopped : Option Stop) (z : Sizes) (v w : View (basis z))
-      → (c : courses.Course t (basis z) v (start first) lines answers heard by_then stopped w) → ((why : Stop) → by_then ≡ Some why → stopped ≡ Some why)
-      → SplitsAt SYNCED synced (at_first old) v.disk (λ i. StandsFor basis says t i first) → disk.LeavesOnly v.disk w.disk (λ i. says.sizes i ≡ z)
-      → w.disk ≡ at_end new refused
-      → ((a : _) (i : ℕ) → (new.disk.now a).seen i < 256) → Told told old new refused first synced lines answers heard stopped c.after (span v c.shown)
-  told_part told old new refused first synced lines answers heard by_then stopped z v w c stays opening sizes same bytes =
-      let now_sized : (i : disk.Image) → disk.Leaves w.disk.now i → says.sizes i ≡ z = λ i leaves. sizes.each i (inl leaves) in
+  -- what a run did, from its course
+  did_of : (old new : Outside) (refused : ℕ) (status : code_status.Status) (run : Course) (synced : disk.View) (by_then : Option Stop) (z : Sizes) (v w : View (basis z))
+      (first : Objects) → StandsFor basis says t (reads_of old.disk) first → ((s : Objects) → StandsFor basis says t (reads_of old.disk) s → s ≡ first)
+      → courses.Course t (basis z) v (start first) run.lines run.answers run.heard by_then run.stopped w → ((why : Stop) → by_then ≡ Some why → run.stopped ≡ Some why)
+      → SplitsAt synced (at_first old) v.disk (λ i. StandsFor basis says t i first) → w.disk ≡ at_end new refused
+      → ((a : _) (i : ℕ) → (new.disk.now a).seen i < 256) → status ≡ status_of run.end run.stopped → Did basis says t old new refused status run
+  did_of old new refused status run synced by_then z v w first stands only c stays opening same bytes status_is =
       let back : (i : disk.Image) → disk.Leaves new.disk.now i → disk.Leaves w.disk.now i = λ i leaves. subst (λ (u : disk.View). disk.Leaves u.now i)
       (sym same) leaves in
       record {
-        goes = λ is. c.goes;
-        images = λ is i leaves. sized_first z i c.after.so_far.answered c.after (now_sized i (back i leaves)) (c.exit i (back i leaves));
-        one_more = λ is. omega (arith, c.one_more);
-        moments = λ is. record {
+        to = record { objects = first; synced = synced; after = c.after; span = span v c.shown };
+        stands = stands;
+        only = only;
+        goes = c.goes;
+        exit = record {
+          images = λ i leaves. its_own_first z i c.after.so_far.answered c.after (c.exit i (back i leaves));
+          one_more = omega (arith, c.one_more);
+        };
+        moments = record {
           until = opening.until;
           behind = subst (λ (u : disk.View). disk.LeavesOnly synced u (StandsForFirst basis says t 0 c.after)) same
               (moments.joined (moments.weaker opening.behind (λ i h. opening_stands first c.after i c.first h))
-              (moments.weaker (both sizes c.moments) (λ i h. sized_first z i 0 c.after h.0 h.1)));
+              (moments.weaker c.moments (λ i h. its_own_first z i 0 c.after h)));
         };
-        answered = λ is none. c.answered (none_first by_then stopped stays none);
-        reads = λ is none. (let here = back (reads_of new.disk) (moments.seen_image new.disk bytes) in sized z (reads_of new.disk)
-            (committed_objects t c.after) (now_sized (reads_of new.disk) here) (c.done none (reads_of new.disk) here));
-        serial = λ is. c.serial;
-        stays = λ is why e. stays why (c.was ∙ e);
+        done = λ is. (let d = ended_done run.end run.stopped (sym status_is ∙ is) in
+            let here = back (reads_of new.disk) (moments.seen_image new.disk bytes) in
+            record {
+              answered = c.answered (none_first by_then run.stopped stays d.1);
+              reads = its_own z (reads_of new.disk) (committed_objects t c.after) (c.done d.1 (reads_of new.disk) here);
+            });
+        serial = c.serial;
+        stays = λ why e. stays why (c.was ∙ e);
       }
 
 -- a store is open where a session stands over it
-pub open_here : {E : Type 0} (ghosts : Ghosts E) (says : Says) (t : Operations) (told : Bool) (u v : disk.View) (a e : E) (ks : core.Core) (k : Core) → u ≡ v
-    → e ≡ a → k ≡ record { store = ks; names = [] }
-    → IsOpened ghosts.basis says t told u (ghosts.view a) ks → IsOpened ghosts.basis says t told v (ghosts.view e) k.store
-open_here {E = E} ghosts says t told u v a e ks k f g h opened =
-    subst (λ (c : Core). IsOpened ghosts.basis says t told v (ghosts.view e) c.store) (sym h)
-    (subst (λ (i : E). IsOpened ghosts.basis says t told v (ghosts.view i) ks) (sym g)
-    (subst (λ (w : disk.View). IsOpened ghosts.basis says t told w (ghosts.view a) ks) f opened))
+pub open_here : {E : Type 0} (ghosts : Ghosts E) (says : Says) (t : Operations) (told : Bool) (presumed : Type 0) (u v : disk.View) (a e : E) (ks : core.Core) (k : Core)
+    → u ≡ v → e ≡ a → k ≡ record { store = ks; names = [] }
+    → IsOpened ghosts.basis says t told presumed u (ghosts.view a) ks → IsOpened ghosts.basis says t told presumed v (ghosts.view e) k.store
+open_here {E = E} ghosts says t told presumed u v a e ks k f g h opened =
+    subst (λ (c : Core). IsOpened ghosts.basis says t told presumed v (ghosts.view e) c.store) (sym h)
+    (subst (λ (i : E). IsOpened ghosts.basis says t told presumed v (ghosts.view i) ks) (sym g)
+    (subst (λ (w : disk.View). IsOpened ghosts.basis says t told presumed w (ghosts.view a) ks) f opened))
 
 -- THE RUN OF A SCRIPT over a disk, from where its store was open
-module _ {E : Type 0} (ghosts : Ghosts E) (says : Says) (t : Operations) (told : Bool) (old new : Outside) (refused : ℕ) (status : code_status.Status)
+module _ {E : Type 0} (ghosts : Ghosts E) (says : Says) (t : Operations) (told : Bool) (presumed : Type 0) (old new : Outside) (refused : ℕ) (status : code_status.Status)
     (end : code_end.RunEnd) (e f : E) (k : Core) (by_then stopped : Option Stop)
-    (opened : IsOpened ghosts.basis says t told (at_first old) (ghosts.view e) k.store) (named : k.names ≡ [])
-    (since : IsSince ghosts.basis says t told (at_first old) (ghosts.view e).disk (ghosts.view f))
+    (opened : IsOpened ghosts.basis says t told presumed (at_first old) (ghosts.view e) k.store) (named : k.names ≡ [])
     (ran : courses.Ran ghosts t end e k old.left new.left old.taken new.taken by_then stopped f)
-    (heeds : Heeds k.store.stopped stopped (ghosts.view e) (ghosts.view f))
+    (heeds : Heeds k.store.stopped stopped (ghosts.view e) (ghosts.view f)) (waits : (ghosts.view f).tail ≤ (ghosts.view f).gate + 65541)
     (full : stopped ≡ Some stops.LogEnd → (by_then ≡ Some stops.LogEnd) ⊎ IsAtEnd (ghosts.view f).tail)
-    (stays : (why : Stop) → by_then ≡ Some why → stopped ≡ Some why)
-    (cause : HasCause end old.source_faults new.source_faults old.sink_faults new.sink_faults) (same : (ghosts.view f).disk ≡ at_end new refused)
-    (bytes : IsTrue told → (a : _) (i : ℕ) → (new.disk.now a).seen i < 256) where
+    (stays : (why : Stop) → by_then ≡ Some why → stopped ≡ Some why) (same : (ghosts.view f).disk ≡ at_end new refused) where
   going : k.store.stopped ≡ None
   going = ap (λ (c : core.Core). c.stopped) opened.core
 
-  -- a fault that was counted
-  rose : HasRisen (ghosts.view e).faults (ghosts.view f).faults → CountRose ghosts.basis says t told (at_first old) (at_end new refused)
-  rose h = subst (λ (u : disk.View). CountRose ghosts.basis says t told (at_first old) u) same
-      (since.risen (risen_some (ghosts.view f).faults (subst (λ (n : ℕ). HasRisen n (ghosts.view f).faults) opened.fresh h)))
+  -- the disk's own count rose since the opening, and so since the call
+  since_first : HasRisen (ghosts.view e).disk.faults (ghosts.view f).disk.faults → HasRisen (at_first old).faults (at_end new refused).faults
+  since_first rose = subst (λ (u : disk.View). HasRisen (at_first old).faults u.faults) same
+      (subst (λ (n : ℕ). HasRisen n (ghosts.view f).disk.faults) opened.heeded rose)
+
+  -- where a fault of the disk is the cause
+  rose : ((ghosts.view e).Told → HasRisen (ghosts.view e).disk.faults (ghosts.view f).disk.faults) → CountRose told presumed (at_first old) (at_end new refused)
+  rose h = count_rose told presumed (at_first old) (at_end new refused) (λ is held. since_first (h (opened.tells is held)))
 
   shown : IsTrue told → TailIsShown (says.log_end (reads_of old.disk)) (at_first old) (at_end new refused) (ghosts.view f).tail
-  shown is = subst (λ (u : disk.View). TailIsShown (says.log_end (reads_of old.disk)) (at_first old) u (ghosts.view f).tail) same (since.tail is)
+  shown is = subst (λ (u : disk.View). TailIsShown (says.log_end (reads_of old.disk)) (at_first old) u (ghosts.view f).tail) same
+      (tail_shown (says.log_end (reads_of old.disk)) (ghosts.view e).gate (ghosts.view f).gate (ghosts.view f).tail (at_first old) (ghosts.view e).disk (ghosts.view f).disk
+      (opened.shown is) heeds.shown heeds.handed waits)
 
   one_caused : (line : Line) (d : Trouble) → causes.IsCaused (ghosts.view f).tail (ghosts.view f).tail (ghosts.view e).faults (ghosts.view f).faults line d
-      → IsCaused ghosts.basis says t told (at_first old) (at_end new refused) line d
-  one_caused line NoTrouble h = tt
-  one_caused line OfDisk h = rose h
-  one_caused line OfLog h = λ is. full_shown (says.log_end (reads_of old.disk)) (ghosts.view f).tail (at_first old) (at_end new refused) line (shown is) h
-  one_caused line OfMemory h = h
+      → ((ghosts.view e).Told → causes.IsCaused (ghosts.view f).tail (ghosts.view f).tail (ghosts.view e).disk.faults (ghosts.view f).disk.faults line d)
+      → IsCaused says told presumed (at_first old) (at_end new refused) line d
+  one_caused line NoTrouble h own = tt
+  one_caused line OfDisk h own = rose own
+  one_caused line OfLog h own = λ is. full_shown (says.log_end (reads_of old.disk)) (ghosts.view f).tail (at_first old) (at_end new refused) line (shown is) h
+  one_caused line OfMemory h own = h
 
   all_caused : (lines : List (List ℕ)) (answers : List Answer) → scripts.AreCaused (ghosts.view f).tail (ghosts.view e).faults
-      (ghosts.view f).faults lines answers → AreCaused ghosts.basis says t told (at_first old) (at_end new refused) lines answers
-  all_caused [] [] h = tt
-  all_caused [] (a ∷ answers) h = absurd h
-  all_caused (l ∷ lines) [] h = absurd h
-  all_caused (l ∷ lines) (a ∷ answers) h = (one_caused (line_of l) (trouble_in a) h.0, all_caused lines answers h.1)
+      (ghosts.view f).faults lines answers → ((ghosts.view e).Told → scripts.AreCaused (ghosts.view f).tail (ghosts.view e).disk.faults (ghosts.view f).disk.faults lines answers)
+      → AreCaused says told presumed (at_first old) (at_end new refused) lines answers
+  all_caused [] [] h own = tt
+  all_caused [] (a ∷ answers) h own = absurd h
+  all_caused (l ∷ lines) [] h own = absurd h
+  all_caused (l ∷ lines) (a ∷ answers) h own = (one_caused (line_of l) (trouble_in a) h.0 (λ tells. (own tells).0), all_caused lines answers h.1 (λ tells. (own tells).1))
 
   -- the store has stopped for what was counted, or where so much was handed over
-  broke : stopped ≡ Some stops.Disk → FaultRose ghosts.basis says t told old new refused
-  broke is = ⊎_elim (λ was. clash stops.Disk (sym going ∙ was)) (λ h. risen_inside ghosts.basis says t told old new refused (rose h)) (heeds.risen is)
+  broke : stopped ≡ Some stops.Disk → FaultRose told presumed old new refused
+  broke is = ⊎_elim (λ was. clash stops.Disk (sym going ∙ was)) (λ h. risen_inside told presumed old new refused (rose h)) (heeds.caused is)
 
   at_end_so : stopped ≡ Some stops.LogEnd → IsAtEnd (ghosts.view f).tail
   at_end_so is = ⊎_elim (λ was. ⊎_elim (λ first. clash stops.LogEnd (sym going ∙ first)) (λ h. h)
@@ -275,127 +261,95 @@ module _ {E : Type 0} (ghosts : Ghosts E) (says : Says) (t : Operations) (told :
   spent_so is told_so name = full_shown (says.log_end (reads_of old.disk)) (ghosts.view f).tail (at_first old) (at_end new refused) (Other (Of name Commit))
       (shown told_so) (at_end_so is)
 
-  -- what is said where the disk tells
-  part : (b : Bool) → told ≡ b → (after : Run) × (s : Span) × Told ghosts.basis says t told old new refused opened.first opened.synced ran.lines ran.answers
-      ran.heard stopped after s
-  part true is =
-      let st = opened.shows is in
-      let z = says.sizes (reads_of old.disk) in
-      let v = led t z st.from (ghosts.view e) in
-      let w = led t z st.from (ghosts.view f) in
-      let shows : Shows t (ghosts.basis z) v k (start opened.first) = record { store = st.shows; names = λ g. named } in
-      let c = ran.course z st.from st.means (opened.tells is) (start opened.first) st.lawful shows in (
-        c.after,
-        span v c.shown,
-        told_part ghosts.basis says t told old new refused opened.first opened.synced ran.lines ran.answers ran.heard by_then stopped
-            z v w c stays (opened.moments is) (since.sizes is) same (bytes is),
-      )
-  part false untold = (
-    start opened.first,
-    record { begin = 0; tail = 0; before = 0; now = 0 },
-    untold_part ghosts.basis says t told untold old new refused opened.first opened.synced ran.lines ran.answers ran.heard stopped (start opened.first)
-        (record { begin = 0; tail = 0; before = 0; now = 0 }),
-  )
+  abbrev the_run : Course
+  the_run = record { end = end; text = ran.text; lines = ran.lines; answers = ran.answers; heard = ran.heard; stopped = stopped }
 
-  pub ran_of : status ≡ status_of end stopped → Ran ghosts.basis says t told old new refused status
-  ran_of status_is =
-      let p = part told refl in
-      let q = p.2 in
-      let run : Course = record {
-        objects = opened.first;
-        synced = opened.synced;
-        end = end;
-        text = ran.text;
-        lines = ran.lines;
-        answers = ran.answers;
-        heard = ran.heard;
-        stopped = stopped;
-        after = p.0;
-        span = p.1;
-      } in
-      record {
-        run = run;
-        output = record {
-          stands = opened.stands;
-          only = opened.only;
-          read = ran.read;
-          executed = ran.executed;
-          ended = cause;
-          goes = q.goes;
-          took = ran.took;
-          caused = all_caused ran.lines ran.answers ran.caused;
-        };
-        exit = record { images = q.images; one_more = q.one_more };
-        moments = q.moments;
-        done = λ is. (let d = ended_done end stopped (sym status_is ∙ is) in record
-            { ended = d.0; answered = λ told_so. q.answered told_so d.1; reads = λ told_so. q.reads told_so d.1 });
-        serial = q.serial;
-        status_is = status_is;
-        caused = record { disk = broke; log_end = spent_so; stays = q.stays };
-      }
+  -- what is said where the disk tells and holds what is presumed
+  module _ (sized : (z : Sizes) (c : disk.Image) (m : Objects) → stores.StandsFor t (ghosts.basis z) c m → says.sizes c ≡ z)
+      (one : (m other : Objects) → StandsFor ghosts.basis says t (reads_of old.disk) m → StandsFor ghosts.basis says t (reads_of old.disk) other → m ≡ other)
+      (given : IsPresumed ghosts.basis says t told presumed old.disk) (bytes : IsTrue told → (a : _) (i : ℕ) → (new.disk.now a).seen i < 256)
+      (status_is : status ≡ status_of end stopped) where
+    did : IsTrue told → presumed → Did ghosts.basis says t old new refused status the_run
+    did is held =
+        let m : IsOfStore ghosts.basis says t old.disk = given is held in
+        let st = opened.starts is held m.0 m.1 in
+        let z = says.sizes (reads_of old.disk) in
+        let v = led t z st.from (ghosts.view e) in
+        let w = led t z st.from (ghosts.view f) in
+        let shows : Shows t (ghosts.basis z) v k (start m.0) = record { store = st.shows; names = λ g. named } in
+        let opening : (synced : disk.View) × KeepsAll ghosts.basis says t presumed synced (at_first old) (ghosts.view e).disk = opened.moments is in
+        did_of ghosts.basis says t sized old new refused status the_run opening.0 by_then z v w m.0 m.1 (λ s stands. one s m.0 stands m.1)
+        (ran.course z st.from st.means (opened.tells is held) (start m.0) st.lawful shows) stays
+        (record { until = opening.1.until; behind = opening.1.behind held m.0 m.1 }) same (bytes is) status_is
+
+    pub ran_of : HasCause end old.source_faults new.source_faults old.sink_faults new.sink_faults → Ran ghosts.basis says t told presumed old new refused status
+    ran_of cause = record {
+      run = the_run;
+      output = record {
+        read = ran.read;
+        executed = ran.executed;
+        ended = cause;
+        took = ran.took;
+        caused = all_caused ran.lines ran.answers ran.caused ran.own;
+      };
+      did = did;
+      done = λ is. (ended_done end stopped (sym status_is ∙ is)).0;
+      status_is = status_is;
+      caused = record { disk = broke; log_end = spent_so };
+    }
 
   -- no fault of the disk is passed over
-  counted : (stop : Option Stop) → stopped ≡ stop → (stopped ≡ Some stops.LogEnd → (ghosts.view f).faults ≡ (ghosts.view e).faults) →
-      (stop ≡ Some stops.Disk → ⊥) → (ghosts.view f).faults ≡ 0
-  counted None is quiet_end none = (heeds.quiet is).1 ∙ opened.fresh
-  counted (Some stops.Disk) is quiet_end none = absurd (none refl)
-  counted (Some stops.LogEnd) is quiet_end none = quiet_end is ∙ opened.fresh
-
-  pub heeded_of : status ≡ status_of end stopped → (stopped ≡ Some stops.LogEnd → (ghosts.view f).faults ≡ (ghosts.view e).faults)
-      → old.disk.faults ≤ new.disk.faults
-      → (status ≡ statuses.Disk → ⊥) → (new.disk.faults ≡ old.disk.faults) × (refused ≡ 0)
-  heeded_of status_is quiet_end later none =
-      let zero_faults = counted stopped refl quiet_end (λ is. none (status_is ∙ ap (status_of end) is)) in
-      unspent old.disk.faults new.disk.faults refused (sym (ap (λ (u : disk.View). u.faults) same) ∙ since.same zero_faults) later
+  pub heeded_of : status ≡ status_of end stopped → old.disk.faults ≤ new.disk.faults → (status ≡ statuses.Disk → ⊥) → (new.disk.faults ≡ old.disk.faults) × (refused ≡ 0)
+  heeded_of status_is later none =
+      unspent old.disk.faults new.disk.faults refused
+      (sym (ap (λ (u : disk.View). u.faults) same) ∙ (heeds.heeded (λ is. none (status_is ∙ ap (status_of end) is)) ∙ opened.heeded)) later
 
 -- A run that didn't begin
-module _ (basis : Sizes → Ground) (says : Says) (t : Operations) (told : Bool) where
+module _ (basis : Sizes → Ground) (says : Says) (t : Operations) (told : Bool) (presumed : Type 0) where
   pub never_of : (old new : Outside) (refused : ℕ) (status : code_status.Status) (why : code_refused.OpenRefused) → new.left ≡ old.left
       → new.taken ≡ old.taken → (new.source_faults ≡ old.source_faults) × (new.sink_faults ≡ old.sink_faults) → status ≡ status_of_refusal why
-      → StaysShut basis says t told (at_first old) (at_end new refused) why → NeverRan basis says t told old new refused status
+      → StaysShut basis says t told presumed (at_first old) (at_end new refused) why → NeverRan basis says t told presumed old new refused status
   never_of old new refused status why unread unwritten quiet is shut = record {
     why = why;
     reason = shut.reason;
-    nothing = shut.nothing;
     untouched = record { unread = unread; unwritten = unwritten; quiet = quiet; alone = shut.alone };
     status_is = is;
   }
 
   -- a disk of which no call was made is left alone
-  alone : (v : disk.View) → IsLeftAlone basis says t v v
+  alone : (v : disk.View) → IsLeftAlone basis says t presumed v v
   alone v = inl (record { calls = omega arith; failed = inl refl; moments = moments.started v (disk.Leaves v.now) (λ c leaves. leaves) })
 
   -- one for which not even the first memory was there
-  pub never_began : (old : Outside) → NeverRan basis says t told old old 0 statuses.Memory
+  pub never_began : (old : Outside) → NeverRan basis says t told presumed old old 0 statuses.Memory
   never_began old = record {
     why = refusals.Memory;
     reason = tt;
-    nothing = λ is. tt;
     untouched = record { unread = refl; unwritten = refl; quiet = (refl, refl); alone = λ is. alone (at_first old) };
     status_is = refl;
   }
 
   module _ (old new : Outside) (refused : ℕ) where
-    tells_never : (status : code_status.Status) → NeverRan basis says t told old new refused status → Tells basis says status t told old new refused
-    tells_never status h = subst (λ (s : code_status.Status). Tells basis says s t told old new refused) (sym h.status_is) (by_why h.why h.reason h.nothing)
+    tells_never : (status : code_status.Status) → NeverRan basis says t told presumed old new refused status → Tells basis says status t told presumed old new refused
+    tells_never status h = subst (λ (s : code_status.Status). Tells basis says s t told presumed old new refused) (sym h.status_is) (by_why h.why h.reason)
       where
-        by_why : (why : code_refused.OpenRefused) → IsRefusedFor basis says t why told (at_first old) (at_end new refused) →
-            (IsTrue told → IsNothingFor basis says t why (reads_of old.disk)) → Tells basis says (status_of_refusal why) t told old new refused
-        by_why refusals.DiskFault r n = risen_inside basis says t told old new refused r
-        by_why refusals.Memory r n = (h.untouched.unread, h.untouched.unwritten)
-        by_why (refusals.Damaged area at) r n = n
-        by_why refusals.NotAStore r n = λ is. (let p = r is in (p.0, p.1, n is))
-        by_why (refusals.UnknownOperation code) r n = λ is. (r is, n is)
-        by_why refusals.LogEnd r n = λ is name. r is
+        by_why : (why : code_refused.OpenRefused) → IsRefusedFor basis says t why told presumed (at_first old) (at_end new refused)
+            → Tells basis says (status_of_refusal why) t told presumed old new refused
+        by_why refusals.DiskFault r = risen_inside told presumed old new refused (count_rose told presumed (at_first old) (at_end new refused) r)
+        by_why refusals.Memory r = (h.untouched.unread, h.untouched.unwritten)
+        by_why (refusals.Damaged area at) r = r
+        by_why refusals.NotAStore r = r
+        by_why (refusals.UnknownOperation code) r = r
+        by_why refusals.LogEnd r = λ is name. r is
 
-    tells_ran : (status : code_status.Status) → Ran basis says t told old new refused status → Tells basis says status t told old new refused
-    tells_ran status h = subst (λ (s : code_status.Status). Tells basis says s t told old new refused) (sym h.status_is)
+    tells_ran : (status : code_status.Status) → Ran basis says t told presumed old new refused status → Tells basis says status t told presumed old new refused
+    tells_ran status h = subst (λ (s : code_status.Status). Tells basis says s t told presumed old new refused) (sym h.status_is)
         (by_end h.run.end h.run.stopped h.output.ended h.output.executed h.caused.disk h.caused.log_end)
       where
         by_end : (end : code_end.RunEnd) (stop : Option Stop) → HasCause end old.source_faults new.source_faults old.sink_faults new.sink_faults
             → AreExecuted end old.left h.run.text h.run.lines
-            → (stop ≡ Some stops.Disk → FaultRose basis says t told old new refused) → (stop ≡ Some stops.LogEnd → IsLogSpent basis says told old new)
-            → Tells basis says (status_of end stop) t told old new refused
+            → (stop ≡ Some stops.Disk → FaultRose told presumed old new refused) → (stop ≡ Some stops.LogEnd → IsLogSpent basis says told old new)
+            → Tells basis says (status_of end stop) t told presumed old new refused
         by_end ends.Done None cause lines broke full = cause
         by_end ends.Read None cause lines broke full = cause.0
         by_end ends.Write None cause lines broke full = cause.1
@@ -404,29 +358,29 @@ module _ (basis : Sizes → Ground) (says : Says) (t : Operations) (told : Bool)
         by_end end (Some stops.LogEnd) cause lines broke full = full refl
 
     -- what each status tells follows from how the run went
-    pub tells_of : (status : code_status.Status) → HasGone basis says t told old new refused status → Tells basis says status t told old new refused
+    pub tells_of : (status : code_status.Status) → HasGone basis says t told presumed old new refused status → Tells basis says status t told presumed old new refused
     tells_of status (inl never) = tells_never status never
     tells_of status (inr ran) = tells_ran status ran
 
     -- a run isn't one of other words
-    pub never_usage : (status : code_status.Status) → HasGone basis says t told old new refused status → status ≡ statuses.Usage → ⊥
-    never_usage status gone is = subst (λ (s : code_status.Status). Tells basis says s t told old new refused) is (tells_of status gone)
+    pub never_usage : (status : code_status.Status) → HasGone basis says t told presumed old new refused status → status ≡ statuses.Usage → ⊥
+    never_usage status gone is = subst (λ (s : code_status.Status). Tells basis says s t told presumed old new refused) is (tells_of status gone)
 
-    no_fault : IsUnhindered basis says t told old new refused → FaultRose basis says t told old new refused → ⊥
+    no_fault : IsUnhindered told presumed old new refused → FaultRose told presumed old new refused → ⊥
     no_fault u (inl (inl rose)) = u.disk rose
     no_fault u (inl (inr some)) = (let none = u.passed in omega (arith, some, none))
     no_fault u (inr (inl untold)) = (let bad : true ≡ false = sym u.is_told ∙ untold in cc)
-    no_fault u (inr (inr none)) = none u.objects u.stands
+    no_fault u (inr (inr none)) = none u.is_presumed
 
     -- and so does how one ends that nothing hinders
-    pub completes_of : (status : code_status.Status) → HasGone basis says t told old new refused status → IsUnhindered basis says t told old new refused
-        → Completes basis says t told old new refused status
+    pub completes_of : (status : code_status.Status) → HasGone basis says t told presumed old new refused status → IsUnhindered told presumed old new refused
+        → Completes basis says t told presumed old new refused status
     completes_of status gone u = by_status status gone (tells_of status gone)
       where
-        by_status : (s : code_status.Status) → HasGone basis says t told old new refused s → Tells basis says s t told old new refused
-            → Completes basis says t told old new refused s
+        by_status : (s : code_status.Status) → HasGone basis says t told presumed old new refused s → Tells basis says s t told presumed old new refused
+            → Completes basis says t told presumed old new refused s
         by_status statuses.Done h tells = inl refl
-        by_status statuses.NotAStore h tells = absurd ((tells u.is_told).2 u.objects u.stands)
+        by_status statuses.NotAStore h tells = absurd ((tells u.is_told).2 u.is_presumed)
         by_status statuses.Usage h tells = absurd tells
         by_status statuses.Memory (inl never) tells = inr (inl (refl, never.untouched))
         by_status statuses.Memory (inr ran) tells = absurd (ended_memory ran.run.end ran.run.stopped (sym ran.status_is))
@@ -435,27 +389,30 @@ module _ (basis : Sizes → Ground) (says : Says) (t : Operations) (told : Bool)
         by_status statuses.Write h tells = absurd (u.sink tells)
         by_status statuses.TooLong h tells = let long = subst (λ (o : Option (List ℕ)). IfSome o (λ text. MOST_BYTES < length text)) u.script tells in absurd
             (omega (arith, long, u.short))
-        by_status (statuses.UnknownOperation code) h tells = absurd ((tells u.is_told).1 u.objects u.stands)
-        by_status (statuses.Damaged area at) h tells = absurd (tells u.is_told u.objects u.stands)
+        by_status (statuses.UnknownOperation code) h tells = absurd ((tells u.is_told).1 u.is_presumed)
+        by_status (statuses.Damaged area at) h tells = absurd (tells u.is_told u.is_presumed)
         by_status statuses.Exists h tells = absurd tells
         by_status statuses.LogEnd h tells = inr (inr (refl, tells))
 
     -- the account of a run by how it went
-    pub account_of : (status : code_status.Status) → HasGone basis says t told old new refused status → Account basis says t told old new refused status
+    pub account_of : (status : code_status.Status) → HasGone basis says t told presumed old new refused status → Account basis says t told presumed old new refused status
     account_of status gone = record {
       gone = gone;
       tells = tells_of status gone;
       completes = completes_of status gone;
     }
 
--- a run that didn't begin, and not for a fault of the disk
-module _ (basis : Sizes → Ground) (says : Says) where
+  -- a run that didn't begin, and not for a fault of the disk
   pub heeded_never : (v w : disk.View) (refused : ℕ) (why : code_refused.OpenRefused) (status : code_status.Status) → status ≡ status_of_refusal why
-      → IsQuietFor basis says why (disk.refusing v 0) (disk.refusing w refused) → v.faults ≤ w.faults
+      → StaysShut basis says t told presumed (disk.refusing v 0) (disk.refusing w refused) why → v.faults ≤ w.faults
       → (status ≡ statuses.Disk → ⊥) → (w.faults ≡ v.faults) × (refused ≡ 0)
-  heeded_never v w refused refusals.DiskFault status is quiet le none = absurd (none is)
-  heeded_never v w refused refusals.Memory status is quiet le none = unspent v.faults w.faults refused quiet le
-  heeded_never v w refused (refusals.Damaged area at) status is quiet le none = unspent v.faults w.faults refused quiet le
-  heeded_never v w refused refusals.NotAStore status is quiet le none = unspent v.faults w.faults refused quiet le
-  heeded_never v w refused (refusals.UnknownOperation code) status is quiet le none = unspent v.faults w.faults refused quiet le
-  heeded_never v w refused refusals.LogEnd status is quiet le none = unspent v.faults w.faults refused quiet le
+  heeded_never v w refused why status is shut le none = by_why why is shut.quiet
+    where
+      by_why : (why : code_refused.OpenRefused) → status ≡ status_of_refusal why → IsQuietFor basis says why (disk.refusing v 0) (disk.refusing w refused)
+          → (w.faults ≡ v.faults) × (refused ≡ 0)
+      by_why refusals.DiskFault is quiet = absurd (none is)
+      by_why refusals.Memory is quiet = unspent v.faults w.faults refused quiet le
+      by_why (refusals.Damaged area at) is quiet = unspent v.faults w.faults refused quiet le
+      by_why refusals.NotAStore is quiet = unspent v.faults w.faults refused quiet le
+      by_why (refusals.UnknownOperation code) is quiet = unspent v.faults w.faults refused quiet le
+      by_why refusals.LogEnd is quiet = unspent v.faults w.faults refused quiet le

@@ -12,9 +12,24 @@ use Rattle.sg_commands.specs.declared.opens.InitRefused.TheVariants as inits
 use Rattle.sg_commands.specs.declared.status.Status as code_status
 use Rattle.sg_commands.specs.declared.status.Status.TheVariants as statuses
 use Rattle.sg_commands.specs.Images.{Says}
-use Rattle.sg_commands.specs.Making.{HasOpenGate, IsBlank, IsMaking, IsNew, TellsMade, Makes}
+use Rattle.sg_commands.specs.Making.{HasOpenGate, IsBlank, IsMaking, IsNew, IsMade, SaysMade, TellsMade, Makes}
+use Rattle.sg_commands.specs.Drawing.{Sunk}
 use Rattle.sg_commands.specs.Statuses.{status_of_making}
 use Rattle.sg_commands.proofs.Endings.{risen_or_refused, unspent}
+
+-- what is written, by the status
+pub said_ok : (status made : code_status.Status) (old new : Sunk) → status ≡ made → SaysMade made old new → SaysMade status old new
+said_ok status made old new is said = subst (λ (s : code_status.Status). SaysMade s old new) (sym is) said
+
+pub said_err : (why : InitRefused) (status : code_status.Status) (old : Sunk) → status ≡ status_of_making why → SaysMade status old old
+said_err why status old is = said_ok status (status_of_making why) old old is (by_why why)
+  where
+    by_why : (w : InitRefused) → SaysMade (status_of_making w) old old
+    by_why inits.DiskFault = (refl, refl)
+    by_why inits.Exists = (refl, refl)
+
+pub said_none : (status : code_status.Status) (old : Sunk) → status ≡ statuses.Memory → SaysMade status old old
+said_none status old is = said_ok status statuses.Memory old old is (refl, refl)
 
 module _ (basis : Sizes → Ground) (says : Says) (told : Bool) where
   -- what making a store does
@@ -27,25 +42,27 @@ module _ (basis : Sizes → Ground) (says : Says) (told : Bool) where
     pub done : (t : Operations) → IsTrue told → IsBlank basis says u → OnOk r (IsNew basis says t x)
 
   module _ (v w : disk.View) (refused : ℕ) where
-    made_ok : Inits (disk.refusing v 0) (disk.refusing w refused) (Ok tt) → Makes basis says statuses.Done told v w refused
-    made_ok h = record { tells = h.done; exists = λ is opened e. h.refused is opened refl; moments = h.moments }
-
-    not_done : (why : InitRefused) → status_of_making why ≡ statuses.Done → ⊥
-    not_done inits.DiskFault e = cc
-    not_done inits.Exists e = cc
+    made_ok : (s : code_status.Status) → IsMade s → Inits (disk.refusing v 0) (disk.refusing w refused) (Ok tt) → Makes basis says s told v w refused
+    made_ok statuses.Done made h = record { tells = h.done; exists = λ is opened e. h.refused is opened refl; moments = h.moments }
+    made_ok statuses.Write made h = record { tells = h.done; exists = λ is opened e. h.refused is opened refl; moments = h.moments }
+    made_ok statuses.NotAStore made h = absurd made
+    made_ok statuses.Usage made h = absurd made
+    made_ok statuses.Memory made h = absurd made
+    made_ok statuses.Disk made h = absurd made
+    made_ok statuses.Read made h = absurd made
+    made_ok statuses.TooLong made h = absurd made
+    made_ok (statuses.UnknownOperation code) made h = absurd made
+    made_ok (statuses.Damaged area at) made h = absurd made
+    made_ok statuses.Exists made h = absurd made
+    made_ok statuses.LogEnd made h = absurd made
 
     made_err : (why : InitRefused) → Inits (disk.refusing v 0) (disk.refusing w refused) (Err why) → Makes basis says (status_of_making why) told v w refused
-    made_err inits.DiskFault h = record {
-      tells = risen_or_refused v.faults w.faults refused
-          (h.failed refl);
-      exists = λ is opened e. not_done inits.DiskFault e;
-      moments = h.moments;
-    }
-    made_err inits.Exists h = record { tells = λ is. h.exists is refl; exists = λ is opened e. not_done inits.Exists e; moments = h.moments }
+    made_err inits.DiskFault h = record { tells = risen_or_refused v.faults w.faults refused (h.failed refl); exists = λ is opened e. e; moments = h.moments }
+    made_err inits.Exists h = record { tells = λ is. h.exists is refl; exists = λ is opened e. e; moments = h.moments }
 
-    pub makes_ok : (status : code_status.Status) → status ≡ statuses.Done → Inits (disk.refusing v 0) (disk.refusing w refused) (Ok tt)
+    pub makes_ok : (status made : code_status.Status) → status ≡ made → IsMade made → Inits (disk.refusing v 0) (disk.refusing w refused) (Ok tt)
         → Makes basis says status told v w refused
-    makes_ok status is h = subst (λ (s : code_status.Status). Makes basis says s told v w refused) (sym is) (made_ok h)
+    makes_ok status made is so h = subst (λ (s : code_status.Status). Makes basis says s told v w refused) (sym is) (made_ok made so h)
 
     pub makes_err : (why : InitRefused) (status : code_status.Status) → status ≡ status_of_making why → Inits (disk.refusing v 0) (disk.refusing w refused)
         (Err why) → Makes basis says status told v w refused
@@ -65,7 +82,7 @@ module _ (basis : Sizes → Ground) (says : Says) (told : Bool) where
         (subst (λ (n : ℕ). Makes basis says statuses.Memory told v w n) (sym none)
         (record {
           tells = same;
-          exists = λ told_so opened e. (let bad : statuses.Memory ≡ statuses.Done = e in cc);
+          exists = λ told_so opened e. e;
           moments = λ t told_so blank. subst (λ (u : disk.View). disk.LeavesOnly (disk.refusing v 0) (disk.refusing u 0) (IsMaking basis says t)) (sym same)
               (moments.started (disk.refusing v 0) (IsMaking basis says t) (λ c leaves. inl (bare c (blank c leaves))));
         }))

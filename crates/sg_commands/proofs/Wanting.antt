@@ -14,15 +14,15 @@ use Rattle.sg_commands.specs.Drawing.{Draws, Sunk}
 use Rattle.sg_commands.proofs.Endings.{never_began, account_of}
 
 -- a run
-pub not_begun : (basis : Sizes → Ground) (says : Says) (t : Operations) (told : Bool) (old : Outside) (v : disk.View) (refused : ℕ)
+pub not_begun : (basis : Sizes → Ground) (says : Says) (t : Operations) (told : Bool) (presumed : Type 0) (old : Outside) (v : disk.View) (refused : ℕ)
     (status : code_status.Status) → v ≡ old.disk → refused ≡ 0 → status ≡ statuses.Memory
-    → Account basis says t told old (outside v old.left old.source_faults old.taken old.sink_faults) refused status
-not_begun basis says t told old v refused status same none is =
-    account_of basis says t told old _ refused status
-    (subst (λ (s : code_status.Status). HasGone basis says t told old (outside v old.left old.source_faults old.taken old.sink_faults) refused s) (sym is)
-    (subst (λ (n : ℕ). HasGone basis says t told old (outside v old.left old.source_faults old.taken old.sink_faults) n statuses.Memory) (sym none)
-    (subst (λ (w : disk.View). HasGone basis says t told old (outside w old.left old.source_faults old.taken old.sink_faults) 0 statuses.Memory) (sym same)
-    (inl (never_began basis says t told old)))))
+    → Account basis says t told presumed old (outside v old.left old.source_faults old.taken old.sink_faults) refused status
+not_begun basis says t told presumed old v refused status same none is =
+    account_of basis says t told presumed old _ refused status
+    (subst (λ (s : code_status.Status). HasGone basis says t told presumed old (outside v old.left old.source_faults old.taken old.sink_faults) refused s) (sym is)
+    (subst (λ (n : ℕ). HasGone basis says t told presumed old (outside v old.left old.source_faults old.taken old.sink_faults) n statuses.Memory) (sym none)
+    (subst (λ (w : disk.View). HasGone basis says t told presumed old (outside w old.left old.source_faults old.taken old.sink_faults) 0 statuses.Memory) (sym same)
+    (inl (never_began basis says t told presumed old)))))
 
 -- a workload
 pub not_drawn : (o : Option Drawn) (status : code_status.Status) (s : Sunk) → status ≡ statuses.Memory → IfSome o (λ d. Draws status d s s)

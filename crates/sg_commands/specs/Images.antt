@@ -1,5 +1,5 @@
 -- What an image stands for, over any engine's pages.
-use Rattle.std.specs.Prelude.{◌≡◌, ◌⊎◌, ℕ, ◌≤◌, length, Bool, false}
+use Rattle.std.specs.Prelude.{◌≡◌, ◌⊎◌, ℕ, ◌≤◌, length, Bool, IsTrue, false}
 use Rattle.sg_base.specs.Ends.{HasRisen}
 use Rattle.sg_disk.specs.Disk as disk
 use Rattle.sg_disk.specs.Disk.{Image}
@@ -14,12 +14,11 @@ use Rattle.sg_store.specs.Stands as stores
 abbrev pub reads_of : disk.View → Image
 reads_of v a = (v.now a).seen
 
--- WHAT AN IMAGE SAYS of the store that it is of: how many pages and bands that has, and where its log ends. And what is asked of one that is to
--- be opened; when an operation that it needs isn't registered, with the code that is; when there is no store in it, and when one can be made
+-- WHAT AN IMAGE SAYS of the store that it is of: how many pages and bands that has, and where its log ends; when an operation that it needs
+-- isn't registered, with the code that is; when there is no store in it, and when one can be made
 pub record Says : Type 1 where
   pub sizes : Image → Sizes
   pub log_end : Image → ℕ
-  pub asked : Operations → Image → Type 0
   pub unknown : Operations → Image → ℕ → Type 0
   pub no_store : Image → Type 0
   pub blank : Image → Type 0
@@ -40,7 +39,20 @@ module _ (basis : Sizes → Ground) (says : Says) where
     pub most : commits ≤ length x.so_far.commits
     pub stands : StandsFor t c (objects_after t commits x)
 
-  -- A FAULT WAS COUNTED, where the value that counts is gone: the disk's own count rose, or the disk doesn't tell what it holds, or the image
-  -- that reads gave at first stands for no objects
-  abbrev pub CountRose : Operations → (told : Bool) → (v w : disk.View) → Type 0
-  CountRose t told v w = HasRisen v.faults w.faults ⊎ ((told ≡ false) ⊎ StandsForNone t (reads_of v))
+  -- THE IMAGE THAT READS GIVE IS THAT OF A STORE, for a proof alone: it stands for these objects by these operations
+  abbrev pub IsOfStore : Operations → disk.View → Type 0
+  IsOfStore t v = (m : Objects) × StandsFor t (reads_of v) m
+
+  -- WHAT IS ASKED OF A CALLER: where the disk tells what it holds, and what is presumed of it, the image that reads give is that of a store. Of any
+  -- other disk nothing is asked
+  abbrev pub IsPresumed : Operations → (told : Bool) → (presumed : Type 0) → disk.View → Type 0
+  IsPresumed t told presumed v = IsTrue told → presumed → IsOfStore t v
+
+-- The disk tells what it holds, and what is presumed of it holds: so its contents are known
+abbrev pub IsKnown : (told : Bool) → (presumed : Type 0) → Type 0
+IsKnown told presumed = IsTrue told × presumed
+
+-- A FAULT WAS COUNTED: the disk's own count rose, or the disk doesn't tell what it holds, or what is presumed of it, that the image which
+-- reads give is that of a store, doesn't hold
+abbrev pub CountRose : (told : Bool) → (presumed : Type 0) → (v w : disk.View) → Type 0
+CountRose told presumed v w = HasRisen v.faults w.faults ⊎ ((told ≡ false) ⊎ (presumed → ⊥))

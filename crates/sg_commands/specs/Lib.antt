@@ -9,3 +9,4 @@ pub mod Drawing
 pub mod Answers
 pub mod Top
 pub mod Done
+pub mod Stores

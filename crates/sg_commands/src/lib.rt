@@ -3,7 +3,7 @@
 //!
 //! It stands on `sg_script`, which runs a script by a session over any page engine, on `sg_command` and
 //! `sg_workload`, which read the words and draw a workload, and on what it asks of an engine's opening
-//! (`Opens`). It promises that each reply follows from the lines so far, that committed transactions got
+//! (`Opens`), which the store over pages of `sg_mount` gives. It promises that each reply follows from the lines so far, that committed transactions got
 //! the replies that they get one whole transaction after another, that each fault which is answered was
 //! there, and that at every moment each image a crash could leave stands for the objects after the first
 //! transactions in order of commit, all of those that were answered among them.
@@ -12,6 +12,7 @@
 mod law;
 mod opens;
 mod status;
+mod stores;
 mod top;
 
 pub use law::done_tells_all;

@@ -1,19 +1,18 @@
 // What the program asks of an engine's opening.
-ghost use Rattle.std.specs.Prelude.{◌≡◌, Some, Ok, Err, IsTrue, IfOk, IfErr, OnOk};
+ghost use Rattle.std.specs.Prelude.{◌≡◌, ◌≤◌, Some, Ok, Err, IsTrue, IfOk, IfErr, OnOk};
 ghost use Rattle.sg_base.specs.Ends.{HasRisen};
-ghost use Rattle.sg_disk.specs.Disk.{Image, View, LeavesOnly};
-ghost use Rattle.sg_model.specs.declared.stop.Stop.{Stop};
-ghost use Rattle.sg_model.specs.declared.stop.Stop.TheVariants as stops;
+ghost use Rattle.sg_disk.specs.Disk.{Image, LeavesOnly};
+ghost use Rattle.sg_model.specs.Objects.{Objects as Model};
 ghost use Rattle.sg_ops.specs.Table.{Table as Operations, table_of};
-ghost use Rattle.sg_store.specs.Engine.{KeepsBy};
-ghost use Rattle.sg_store.specs.Heeds.{Heeds};
+ghost use Rattle.sg_store.specs.Engine.{Sizes};
 ghost use Rattle.sg_store.specs.Seen.{core_of, Serves};
-ghost use Rattle.sg_commands.specs.Images.{Says, reads_of};
+ghost use Rattle.sg_store.specs.Stands as stores;
+ghost use Rattle.sg_commands.specs.Images.{Says, StandsFor, IsPresumed};
 ghost use Rattle.sg_commands.specs.Making.{HasOpenGate, IsBlank, IsMaking, IsNew};
-ghost use Rattle.sg_commands.specs.Opening.{IsOpened, StaysShut, IsSince};
+ghost use Rattle.sg_commands.specs.Opening.{IsOpened, StaysShut};
 
 use sg_base::Area;
-use sg_disk::Disk;
+use sg_disk::{Disk, Presumed};
 use sg_ops::Ops;
 use sg_store::{Lists, Store};
 use std::alloc::Global;
@@ -45,27 +44,25 @@ pub enum InitRefused {
 }
 
 /// A disk whose store wasn't opened, and why.
+#[derive(Drop)]
 pub struct Unopened<D> {
     pub why: OpenRefused,
     pub disk: D,
 }
 
 /// An engine of a store that can be opened on a disk.
-pub trait Opens<D: Disk>: Lists {
+pub trait Opens<D: Presumed>: Lists {
     /// What images say of their stores.
     ghost says: { Says };
 
-    /// It is an engine of the store that was opened where the disk showed this, and that when it was open.
-    ghost began: { Operations → View → View → Self → Type 0 };
-
-    /// Opens the store of a disk, whose records are of these operations. A refusal hands the disk back, as
-    /// opening left it.
+    /// Opens the store of a disk, whose records are of these operations. What is presumed of the disk is that the
+    /// image which reads give is that of a store. Where that doesn't hold, or the disk doesn't tell what it holds,
+    /// opening is safe, and answers one or the other. A refusal hands the disk back, as opening left it.
     fn open(alloc: Global, ops: &Ops, disk: D) -> Result<Store<Self>, Unopened<D>>
-        requires asked { IsTrue D.told → (says).asked (table_of record_meaning range_meaning ops.now) (reads_of (D.view disk)) }
+        requires presumed { IsPresumed Self.basis says (table_of record_meaning range_meaning ops.now) D.told D.presumed (D.view disk) }
         ensures serves { IfOk result (λ s. Serves (table_of record_meaning range_meaning ops.now) s) }
-        ensures opens { IfOk result (λ s. IsOpened Self.basis says (table_of record_meaning range_meaning ops.now) D.told (D.view disk) (Self.view s.engine) (core_of s)) }
-        ensures began { IfOk result (λ s. began (table_of record_meaning range_meaning ops.now) (D.view disk) (Self.view s.engine).disk s.engine) }
-        ensures refused { IfErr result (λ u. StaysShut Self.basis says (table_of record_meaning range_meaning ops.now) D.told (D.view disk) (D.view u.disk) u.why) };
+        ensures opens { IfOk result (λ s. IsOpened Self.basis says (table_of record_meaning range_meaning ops.now) D.told D.presumed (D.view disk) (Self.view s.engine) (core_of s)) }
+        ensures refused { IfErr result (λ u. StaysShut Self.basis says (table_of record_meaning range_meaning ops.now) D.told D.presumed (D.view disk) (D.view u.disk) u.why) };
 
     /// Hands back the disk.
     fn into_disk(self) -> D
@@ -80,15 +77,12 @@ pub trait Opens<D: Disk>: Lists {
         ensures moments { (t : Operations) → IsTrue D.told → IsBlank Self.basis says (D.view disk.old) → LeavesOnly (D.view disk.old) (D.view disk.new) (IsMaking Self.basis says t) }
         ensures done { (t : Operations) → IsTrue D.told → IsBlank Self.basis says (D.view disk.old) → OnOk result (IsNew Self.basis says t (D.view disk.new)) };
 
-    /// Each call that keeps what its records mean leaves it one of that store.
-    ghost goes_on: { (t : Operations) (v u : View) (a b : Self) → began t v u a → KeepsBy t (Self.view a) (Self.view b) → began t v u b };
-
     /// Where a store can be made there is none.
     ghost bare: { (c : Image) → (says).blank c → (says).no_store c };
 
-    /// What holds since the opening, of any such value.
-    ghost since: { (t : Operations) (v u : View) (s : Self) → began t v u s → IsSince Self.basis says t D.told v u (Self.view s) };
+    /// An image that stands for objects as a store of so many pages and bands says so itself.
+    ghost sized: { (t : Operations) (z : Sizes) (c : Image) (m : Model) → stores.StandsFor t (Self.basis z) c m → (says).sizes c ≡ z };
 
-    /// The log's end is no fault: calls that a store stopped at for that counted none.
-    ghost full: { (before : _) (a b : Self) → (before ≡ Some stops.Disk → ⊥) → Heeds before (Some stops.LogEnd) (Self.view a) (Self.view b) → (Self.view b).faults ≡ (Self.view a).faults };
+    /// An image stands for at most one collection of objects.
+    ghost one: { (t : Operations) (c : Image) (m other : Model) → StandsFor Self.basis says t c m → StandsFor Self.basis says t c other → m ≡ other };
 }

@@ -3,9 +3,9 @@ ghost use Rattle.sg_disk.specs.Disk.{refusing, Spent};
 ghost use Rattle.sg_ops.specs.Table.{table_of};
 ghost use Rattle.sg_session.specs.Names.{all_live};
 ghost use Rattle.sg_script.specs.Ending.{MOST_OF_PIECE};
-ghost use Rattle.sg_commands.specs.Images.{reads_of};
+ghost use Rattle.sg_commands.specs.Images.{IsPresumed};
 ghost use Rattle.sg_commands.specs.Words.{are_run, are_init, are_served, drawn, stop_after};
-ghost use Rattle.sg_commands.specs.Making.{Makes};
+ghost use Rattle.sg_commands.specs.Making.{Makes, IsMade, SaysMade};
 ghost use Rattle.sg_commands.specs.Drawing.{Draws, sunk};
 ghost use Rattle.sg_commands.specs.Top.{outside, HasGone, Account};
 
@@ -15,10 +15,12 @@ use crate::status::{
 };
 use sg_base::{OutOfMemory, Sink, Source};
 use sg_command::{Command, WordsError, read_command};
-use sg_disk::{Disk, Fuse, Origin};
+use sg_disk::{Disk, Fuse, Origin, Presumes};
+use sg_model::Reply;
 use sg_ops::Ops;
 use sg_script::{Ended, Room, run};
 use sg_session::{Names, Session};
+use sg_words::{Answer, write_answer};
 use sg_workload::write_workload;
 use std::alloc::Global;
 
@@ -75,7 +77,7 @@ fn make_rooms(alloc: Global) -> Result<Rooms, OutOfMemory>
 }
 
 // Runs the script over the disk, which makes so many calls at most where a number is given.
-fn run_behind_fuse<D: Disk, S: Source, K: Sink, O: Origin, E: Opens<Fuse<D, O>>>(
+fn run_behind_fuse<D: Disk, S: Source, K: Sink, O: Origin + Presumes, E: Opens<Fuse<D, O>>>(
     alloc: Global,
     ops: &Ops,
     disk: D,
@@ -87,8 +89,8 @@ fn run_behind_fuse<D: Disk, S: Source, K: Sink, O: Origin, E: Opens<Fuse<D, O>>>
     requires passes { O.passes ≡ calls }
     requires began { O.calls ≡ (D.view disk).calls }
     requires faults { O.faults ≡ (D.view disk).faults }
-    requires asked { IsTrue D.told → E.says.asked (table_of record_meaning range_meaning ops.now) (reads_of (D.view disk)) }
-    ensures run { HasGone E.basis E.says (table_of record_meaning range_meaning ops.now) D.told (outside (D.view disk) (S.left script.old) (S.faults script.old) (K.taken out.old) (K.faults out.old))
+    requires presumed { IsPresumed E.basis E.says (table_of record_meaning range_meaning ops.now) D.told O.presumed (D.view disk) }
+    ensures run { HasGone E.basis E.says (table_of record_meaning range_meaning ops.now) D.told O.presumed (outside (D.view disk) (S.left script.old) (S.faults script.old) (K.taken out.old) (K.faults out.old))
         (outside (D.view result.disk) (S.left script.new) (S.faults script.new) (K.taken out.new) (K.faults out.new)) result.refused result.status }
     ensures heeded { (result.status ≡ Status.Disk → ⊥) → ((D.view result.disk).faults ≡ (D.view disk).faults) × (result.refused ≡ 0) }
     ensures spent { Spent calls (D.view disk).calls (D.view result.disk).calls result.refused }
@@ -123,22 +125,38 @@ fn run_behind_fuse<D: Disk, S: Source, K: Sink, O: Origin, E: Opens<Fuse<D, O>>>
     finished(status, engine.into_disk())
 }
 
+// Says that a store was made, and how that ended.
+fn say_made<K: Sink>(out: &mut K) -> Status
+    ensures made { IsMade result }
+    ensures said { SaysMade result (sunk (K.taken out.old) (K.faults out.old)) (sunk (K.taken out.new) (K.faults out.new)) }
+{
+    match write_answer(&Answer::Said(Reply::Done), &[], out) {
+        Ok(()) => Status::Done,
+        Err(_) => Status::Write,
+    }
+}
+
 // Makes a store on the disk, which makes so many calls at most where a number is given.
-fn init_behind_fuse<D: Disk, O: Origin, E: Opens<Fuse<D, O>>>(
+fn init_behind_fuse<D: Disk, K: Sink, O: Origin + Presumes, E: Opens<Fuse<D, O>>>(
     disk: D,
     calls: Option<u64>,
+    out: &mut K,
 ) -> Finish<D>
     requires known { IsTrue O.known }
     requires passes { O.passes ≡ calls }
     requires began { O.calls ≡ (D.view disk).calls }
     requires faults { O.faults ≡ (D.view disk).faults }
     ensures makes { Makes E.basis E.says result.status D.told (D.view disk) (D.view result.disk) result.refused }
+    ensures said { SaysMade result.status (sunk (K.taken out.old) (K.faults out.old)) (sunk (K.taken out.new) (K.faults out.new)) }
     ensures heeded { (result.status ≡ Status.Disk → ⊥) → ((D.view result.disk).faults ≡ (D.view disk).faults) × (result.refused ≡ 0) }
     ensures spent { Spent calls (D.view disk).calls (D.view result.disk).calls result.refused }
 {
     let mut fuse = Fuse::<D, O>::marked(disk, calls);
     match E::init(&mut fuse) {
-        Ok(()) => finished(Status::Done, fuse),
+        Ok(()) => {
+            let status = say_made(out);
+            finished(status, fuse)
+        }
         Err(why) => {
             let status = status_of_making(why);
             finished(status, fuse)
@@ -171,13 +189,14 @@ fn ended_beside<D: Disk>(status: Status, disk: D) -> Finish<D>
 /// which names the disk, runs the script with these operations over the store that the disk has, up to 64
 /// of whose transactions are live at a time. The replies go to the sink. With `--stop-after` and a number
 /// beside these the disk makes so many more calls at most: each later one fails, and doesn't touch
-/// it. `init` and a folder make a store there of the sizes that one has where none are given, and read no
-/// script. `gen`, a seed and a count write a workload to the sink, and make no call of the disk or the source.
+/// it. `init` and a folder make a store there of the sizes that one has where none are given, write
+/// `ok`, and read no script. `gen`, a seed and a count write a workload to the sink, and make no call of the disk or the source.
 /// Other words are `Status::Usage`, and touch nothing; words take memory to be read. A run ends with its
 /// first fault, but for one of the disk: behind that each line is still answered.
 ///
-/// A type `O` stands for what the stop lets pass, and for the disk's counts at the call.
-pub fn serve<D: Disk, S: Source, K: Sink, O: Origin, E: Opens<Fuse<D, O>>>(
+/// A type `O` stands for what the stop lets pass, for the disk's counts at the call, and for what is presumed of
+/// the disk, so that what it holds is known: that the image which reads give at the call stands for objects.
+pub fn serve<D: Disk, S: Source, K: Sink, O: Origin + Presumes, E: Opens<Fuse<D, O>>>(
     alloc: Global,
     ops: Ops,
     words: &[String],
@@ -189,7 +208,7 @@ pub fn serve<D: Disk, S: Source, K: Sink, O: Origin, E: Opens<Fuse<D, O>>>(
     requires passes { O.passes ≡ stop_after words.now }
     requires began { O.calls ≡ (D.view disk).calls }
     requires faults { O.faults ≡ (D.view disk).faults }
-    requires asked { IsTrue D.told → E.says.asked (table_of record_meaning range_meaning ops) (reads_of (D.view disk)) }
+    requires presumed { IsPresumed E.basis E.says (table_of record_meaning range_meaning ops) D.told O.presumed (D.view disk) }
     ensures usage { result.status ≡ Status.Usage → are_served words.now ≡ false }
     ensures unused { are_served words.now ≡ false → ((result.status ≡ Status.Usage) ⊎ (result.status ≡ Status.Memory)) × (out.new ≡ out.old) }
     ensures apart { are_run words.now ≡ false → script.new ≡ script.old }
@@ -197,12 +216,12 @@ pub fn serve<D: Disk, S: Source, K: Sink, O: Origin, E: Opens<Fuse<D, O>>>(
 
     // The headline: one course of the run, its replies, what a crash leaves of it, the cause of its status, and that it is
     // done where nothing hinders it.
-    ensures run { are_run words.now ≡ true → Account E.basis E.says (table_of record_meaning range_meaning ops) D.told (outside (D.view disk) (S.left script.old) (S.faults script.old) (K.taken out.old) (K.faults out.old))
+    ensures run { are_run words.now ≡ true → Account E.basis E.says (table_of record_meaning range_meaning ops) D.told O.presumed (outside (D.view disk) (S.left script.old) (S.faults script.old) (K.taken out.old) (K.faults out.old))
         (outside (D.view result.disk) (S.left script.new) (S.faults script.new) (K.taken out.new) (K.faults out.new)) result.refused result.status }
 
     // A new store: what its status tells, and what a crash leaves at each moment.
     ensures made { are_init words.now ≡ true → Makes E.basis E.says result.status D.told (D.view disk) (D.view result.disk) result.refused }
-    ensures mute { are_init words.now ≡ true → out.new ≡ out.old }
+    ensures said { are_init words.now ≡ true → SaysMade result.status (sunk (K.taken out.old) (K.faults out.old)) (sunk (K.taken out.new) (K.faults out.new)) }
 
     // A workload: what the sink took of it, by its status.
     ensures drawn { IfSome (drawn words.now) (λ d. Draws result.status d (sunk (K.taken out.old) (K.faults out.old)) (sunk (K.taken out.new) (K.faults out.new))) }
@@ -217,7 +236,7 @@ pub fn serve<D: Disk, S: Source, K: Sink, O: Origin, E: Opens<Fuse<D, O>>>(
         Ok(Command::Run { stop_after }) => {
             run_behind_fuse::<D, S, K, O, E>(alloc, &ops, disk, stop_after, script, out)
         }
-        Ok(Command::Init { geometry: false }) => init_behind_fuse::<D, O, E>(disk, None),
+        Ok(Command::Init { geometry: false }) => init_behind_fuse::<D, K, O, E>(disk, None, out),
         Ok(Command::Gen { seed, count }) => {
             let status = draw_workload(seed, count, out);
             ended_beside(status, disk)

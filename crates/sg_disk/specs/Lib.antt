@@ -1,3 +1,4 @@
+pub mod Accounts
 pub mod Areas
 pub mod Disk
 pub mod Due

@@ -12,10 +12,12 @@ mod disk;
 mod due;
 mod fuse;
 mod memory;
+mod presumed;
 mod record;
 
 pub use disk::Disk;
 pub use fuse::{Fuse, Origin, Unmarked};
 pub use memory::MemDisk;
+pub use presumed::{Presumed, Presumes};
 pub use record::{Call, CallKind};
 pub use sg_base::{Area, Failed};

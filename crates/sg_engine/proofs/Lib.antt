@@ -18,3 +18,4 @@ pub mod Brought
 pub mod Cut
 pub mod Renewed
 pub mod Blocks
+pub mod Waits

@@ -1,9 +1,9 @@
 -- WHAT A CALL OF THE ENGINE KEEPS: of the disk, the log and the pool before it, v, log and pool, and after it, w, log' and pool'.
-use Rattle.std.specs.Prelude.{◌≡◌, ◌≤◌, ◌++◌, ◌∷◌, ℕ, Bool, IsTrue, List, [], Result, Err, OnOk}
+use Rattle.std.specs.Prelude.{◌≡◌, ◌≤◌, ◌+◌, ◌++◌, ◌∷◌, ℕ, Bool, IsTrue, List, [], Result, Err, OnOk}
 use Rattle.sg_base.specs.Ends.{HasRisen}
 use Rattle.sg_disk.specs.Disk.{View, LeavesOnly}
 use Rattle.sg_log.specs.Frames.{Numbered}
-use Rattle.sg_log.specs.Held.{Tail}
+use Rattle.sg_log.specs.Held.{Tail, tail_of}
 use Rattle.sg_pool.specs.Counts.{HasGrown}
 use Rattle.sg_pool.specs.declared.pool.Pool.{Pool}
 use Rattle.sg_engine.specs.declared.fault.EngineFault.{EngineFault}
@@ -45,3 +45,7 @@ StandsWith told v log pool w x May = (o : Origin) (ds ps : List Numbered) (k : �
 pub record Hands (v : View) (log : Tail) (w : View) (log' : Tail) : Type 0 where
   pub rising : v.handed ≤ w.handed
   pub grown : HasGrown log log' v w
+
+-- what waits at the log's end to be durable is a frame at most, with its head
+abbrev pub WaitsFrame : Tail → Type 0
+WaitsFrame log = tail_of log ≤ log.gate + 65541

@@ -11,7 +11,7 @@ ghost use Rattle.sg_ops.specs.Table.{table_of};
 ghost use Rattle.sg_pool.specs.Pooled.{sizes, IsUnwritten};
 ghost use Rattle.sg_engine.specs.Engine.{Origin};
 ghost use Rattle.sg_engine.specs.Running.{IsEngine, IsAllowed, DoesToPage, DoesToBand, DoesNothing};
-ghost use Rattle.sg_engine.specs.Calls.{FailsByDisk, MakesDurable, KeepsAllowed, StandsMeanwhile, GoesOnWith, StandsWith, Hands};
+ghost use Rattle.sg_engine.specs.Calls.{FailsByDisk, MakesDurable, KeepsAllowed, StandsMeanwhile, GoesOnWith, StandsWith, Hands, WaitsFrame};
 ghost use Rattle.sg_engine.specs.Faults.{is_disk};
 
 use crate::EngineFault;
@@ -127,6 +127,7 @@ impl<D: Disk> Engine<D> {
         ensures heeded { Heeds is_disk result (D.view self.old.disk) (D.view self.new.disk) }
         ensures goes_on { GoesOnWith D.told (D.view self.old.disk) self.old.log self.old.pool (D.view self.new.disk) self.new.log self.new.pool (numbered self.old.log (shown r.now)) (λ o ns. DoesToPage o (table_of record_meaning range_meaning ops.now) ns (numbered self.old.log (shown r.now)) p.0 (op_of op.now)) result }
         ensures size { sizes self.new.pool ≡ sizes self.old.pool }
+        ensures waits { OnOk result (WaitsFrame self.new.log) }
         ensures allowed { KeepsAllowed D.told (D.view self.old.disk) self.old.log self.old.pool (D.view self.new.disk) self.new.log self.new.pool result }
         ensures moments { StandsWith D.told (D.view self.old.disk) self.old.log self.old.pool (D.view self.new.disk) (numbered self.old.log (shown r.now)) (λ o ns. DoesToPage o (table_of record_meaning range_meaning ops.now) ns (numbered self.old.log (shown r.now)) p.0 (op_of op.now)) }
         ensures later { (D.view self.old.disk).faults ≤ (D.view self.new.disk).faults }
@@ -168,6 +169,7 @@ impl<D: Disk> Engine<D> {
         ensures heeded { Heeds is_disk result (D.view self.old.disk) (D.view self.new.disk) }
         ensures goes_on { GoesOnWith D.told (D.view self.old.disk) self.old.log self.old.pool (D.view self.new.disk) self.new.log self.new.pool (numbered self.old.log (shown r.now)) (λ o ns. DoesToBand o ns (numbered self.old.log (shown r.now)) b.0 at bytes.now) result }
         ensures size { sizes self.new.pool ≡ sizes self.old.pool }
+        ensures waits { OnOk result (WaitsFrame self.new.log) }
         ensures allowed { KeepsAllowed D.told (D.view self.old.disk) self.old.log self.old.pool (D.view self.new.disk) self.new.log self.new.pool result }
         ensures moments { StandsWith D.told (D.view self.old.disk) self.old.log self.old.pool (D.view self.new.disk) (numbered self.old.log (shown r.now)) (λ o ns. DoesToBand o ns (numbered self.old.log (shown r.now)) b.0 at bytes.now) }
         ensures later { (D.view self.old.disk).faults ≤ (D.view self.new.disk).faults }

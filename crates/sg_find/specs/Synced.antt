@@ -1,9 +1,10 @@
 -- Areas that were synced, and images that are read.
-use Rattle.std.specs.Prelude.{◌≡◌, ◌≤◌, ◌==◌, if◌then◌else◌, ℕ, max, List, []}
+use Rattle.std.specs.Prelude.{◌≡◌, ◌≤◌, ◌+◌, ◌==◌, if◌then◌else◌, ℕ, max, List, []}
+use Rattle.sg_base.specs.Ends.{HasRisen}
 use Rattle.sg_base.specs.declared.area.Area.TheVariants.{Log0, Log1}
 use Rattle.sg_gate.specs.declared.superblock.Super.{Super}
 use Rattle.sg_base.specs.declared.area.Area.{Area}
-use Rattle.sg_disk.specs.Disk.{Bytes, Image, State, View}
+use Rattle.sg_disk.specs.Disk.{Bytes, Image, State, View, Leaves, LeavesOnly}
 use Rattle.sg_log.specs.Frames.{Numbered, HasRecords}
 use Rattle.sg_analysis.specs.Sights.{last_checkpoint}
 use Rattle.sg_analysis.specs.Analysis.{estimate_or}
@@ -12,6 +13,20 @@ use Rattle.sg_analysis.specs.Analysis.{estimate_or}
 pub record AreSynced (s t : State) : Type 0 where
   pub seen : (a : Area) → (t a).seen ≡ (s a).seen
   pub settled : (a : Area) → (t a).pending ≡ []
+
+-- NOT ALL AREAS HAD BEEN SYNCED: three calls were made at most, the last of which failed, and a crash leaves what it could have left before
+pub record IsUnsynced (v w : View) : Type 0 where
+  pub calls : w.calls ≤ v.calls + 3
+  pub failed : HasRisen v.faults w.faults
+  pub moments : LeavesOnly v w (Leaves v.now)
+
+-- THERE IS A MOMENT AT WHICH ALL AREAS HAD BEEN SYNCED, and nothing else was done. Until then a crash leaves what it could have left before, and of
+-- what comes behind it this holds
+pub record SplitsAtSync (v : View) (Behind : View → Type 0) : Type 0 where
+  pub mid : View
+  pub synced : AreSynced v.now mid.now
+  pub before : LeavesOnly v mid (Leaves v.now)
+  pub behind : Behind mid
 
 -- THE IMAGE THAT READS GIVE
 abbrev pub reads : View → Image

@@ -1,4 +1,4 @@
-ghost use Rattle.std.specs.Prelude.{MatchOption, None, Some, ◌≡◌, ◌↔◌, IsErr, IsSome, IfErr, ◌≤◌, ◌+◌, ◌^◌, ◌-◌, min, false, length, OnErr, OnOk, IsTrue};
+ghost use Rattle.std.specs.Prelude.{⊤, MatchOption, None, Some, ◌≡◌, ◌↔◌, IsErr, IsSome, IfErr, ◌≤◌, ◌+◌, ◌^◌, ◌-◌, min, false, length, OnErr, OnOk, IsTrue};
 ghost use Rattle.std.specs.IoError.{error_kind};
 ghost use Rattle.sg_base.specs.Ends.{HasRisen};
 ghost use Rattle.sg_disk.specs.Disk.{Counts, Dropped, FULL, ReadBytes, Synced, Wrote, window};
@@ -6,7 +6,7 @@ ghost use Rattle.sg_folder.specs.Counts.{counts_alone};
 
 use crate::folder::Folder;
 use sg_base::{Area, Failed};
-use sg_disk::Disk;
+use sg_disk::{Disk, Presumed};
 use std::fs::File;
 use std::io::{self, ErrorKind};
 use std::rt::Files;
@@ -183,6 +183,10 @@ fn sync_in<R: Files<File = File> + Alloc>(
         Some(folder) => folder.sync(area),
         None => Err(ErrorKind::NotFound.into()),
     }
+}
+
+impl<R: Files<File = File> + Alloc> Presumed for FolderDisk<'_, R> {
+    ghost presumed = { ⊤ };
 }
 
 impl<R: Files<File = File> + Alloc> Disk for FolderDisk<'_, R> {

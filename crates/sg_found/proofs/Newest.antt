@@ -22,7 +22,7 @@ use Rattle.sg_recovery.proofs.Unfinished.{all_found}
 use Rattle.sg_actions.specs.Steps.{Step, Steps, stepped, step_at}
 use Rattle.sg_actions.specs.TakingOff.{AreLinked}
 use Rattle.sg_found.specs.Found.{back_of, back_by, IsBorderAt, IsFrom, IsOpenAt}
-use Rattle.sg_found.specs.declared.looking.Back.TheVariants.{Other}
+use Rattle.sg_found.specs.declared.looking.Back.TheVariants.{Changed, TakenOff, Other}
 
 -- A STEP'S NUMBER
 step_here : (lsn : ℕ) (x : Step) (rs : Steps) → step_at (stepped rs lsn x) lsn ≡ Some x
@@ -323,3 +323,32 @@ open_at base rs t at h un from = by_step n.is refl (subst (λ (o : Option Step).
     by_step (Save u p m) e f = absurd f
     by_step (Commit u p) e f = absurd f
     by_step (End u p) e f = absurd f
+
+-- a step of the log has a number in it
+pub step_above : (base at : ℕ) (x : Step) (rs : Steps) → Each (λ r. base ≤ r.lsn) rs → step_at rs at ≡ Some x → base ≤ at
+step_above base at x rs above e = there_above base at x rs above (sym (at_is rs at) ∙ e)
+
+-- what is seen as none of an action's changes is a border
+seen_border : (x : Step) → back_of x ≡ Other → is_border x ≡ true
+seen_border (Begin u p) e = refl
+seen_border (Change u p c) e = absurd (let no : Changed p ≡ Other = e in cc)
+seen_border (TopEnd u p w m) e = refl
+seen_border (PhysComp u p w c) e = absurd (let no : TakenOff w ≡ Other = e in cc)
+seen_border (TopVoid u p w) e = refl
+seen_border (CompEnd u p w) e = refl
+seen_border (Save u p m) e = refl
+seen_border (Commit u p) e = refl
+seen_border (End u p) e = refl
+
+-- AN ACTION THAT HAS NO END has a change as its last record, or what takes one off
+pub last_inside : (base : ℕ) (rs : Steps) (t : ℕ) → IsLog base rs → IsUnfinished rs t → back_by (step_at rs (last_of t rs)) ≡ Other → ⊥
+last_inside base rs t h un other = by_border (seen_border n.is (ap back_by (sym seen) ∙ other))
+  where
+    n : Newest base rs t
+    n = newest base rs h.above h.chained h.owned h.system h.straight t un
+
+    seen : step_at rs (last_of t rs) ≡ Some n.is
+    seen = ap (step_at rs) n.last ∙ n.here
+
+    by_border : is_border n.is ≡ true → ⊥
+    by_border e = un (n.last ∙ sym (n.border ∙ (ap (λ (u : ℕ). border_of u (stepped n.behind n.lsn n.is)) (sym n.own) ∙ border_here n.lsn n.is n.behind e)))

@@ -9,12 +9,12 @@ use Rattle.sg_recovery.specs.Log.Record.{Begin, Change, TopEnd, PhysComp, TopVoi
 use Rattle.sg_recovery.specs.Chains.{last_of, border_of, next_lsn, next_off}
 use Rattle.sg_recovery.specs.Formed.{IsUnfinished, IsLog}
 use Rattle.sg_recovery.proofs.Basic.{same_number, other_number}
-use Rattle.sg_recovery.proofs.Chaining.{sound}
+use Rattle.sg_recovery.proofs.Chaining.{clash, sound}
 use Rattle.sg_recovery.proofs.Unfinished.{all_found, none_found}
 use Rattle.sg_actions.specs.Acting.{IsChained}
-use Rattle.sg_actions.specs.Rows.{last_in, at_rest}
+use Rattle.sg_actions.specs.Rows.{last_in, AreApart, at_rest}
 use Rattle.sg_actions.specs.Steps.{Step, Steps, stepped, ended}
-use Rattle.sg_actions.specs.TakingOff.{AreLinked, IsRunning, AreRows}
+use Rattle.sg_actions.specs.TakingOff.{AreLinked, IsRunning, HasCommitted, AreRows}
 use Rattle.sg_actions.specs.declared.rows.Actor.{Actor}
 use Rattle.sg_actions.specs.declared.rows.Row.{Row}
 use Rattle.sg_found.specs.Found.{IsOpenAt}
@@ -100,9 +100,13 @@ idle_ended (r ∷ rs) e = by_step r.lsn r.is e
     by_step lsn (Commit u p) none = refl
     by_step lsn (End u p) none = refl
 
+-- each row that is found is of one that goes on, and so none says a commit
+none_past : (rs : Steps) (rows : List Row) → ((u last : ℕ) → u ≢ 0 → last_in rows u ≡ Some last → is_in u (tally rs).live ≡ true) → (u last : ℕ) → u ≢ 0 → last_in rows u ≡ Some last → is_in u (tally rs).live ≡ false → HasCommitted rs u last
+none_past rs rows known u last some there gone = absurd (clash (is_in u (tally rs).live) gone (known u last some there))
+
 pub chained_found : (base : ℕ) (rs : Steps) (tail : ℕ) (rows : List Row) → IsLog base rs → base ≤ tail → next_lsn rs ≤ tail → ((u : ℕ) → (u ≡ 0) ⊎ (is_in u (tally rs).live ≡ true) → last_of u rs ≡ border_of u rs)
-    → ((u : ℕ) → is_in u (tally rs).live ≡ true → last_in rows u ≡ Some (last_of u rs)) → ((u : ℕ) → tail ≤ u → last_in rows u ≡ None) → IsChained base rs tail rows at_rest
-chained_found base rs tail rows h based below all lives low = record {
+    → ((u : ℕ) → is_in u (tally rs).live ≡ true → last_in rows u ≡ Some (last_of u rs)) → ((u : ℕ) → tail ≤ u → last_in rows u ≡ None) → AreApart rows → ((u last : ℕ) → u ≢ 0 → last_in rows u ≡ Some last → is_in u (tally rs).live ≡ true) → IsChained base rs tail rows at_rest
+chained_found base rs tail rows h based below all lives low apart known = record {
   running = record {
     log = h;
     based = based;
@@ -117,7 +121,7 @@ chained_found base rs tail rows h based below all lives low = record {
     linked = subst (AreLinked rs 0) (sym none) tt;
     before_low = some rs below;
   };
-  rows_are = record { own = λ ne. absurd (ne refl); low = low; others = λ u ne live. lives u live };
+  rows_are = record { own = λ ne. absurd (ne refl); low = low; others = λ u ne live. lives u live; apart = apart; past = λ u last some ne there gone. none_past rs rows known u last some there gone };
   closed = ap (λ (xs : Steps). (tally xs).opened) (idle_ended rs none) ∙ none;
   at = sym (ap (next_off 0) none);
 }
@@ -134,11 +138,13 @@ chained_found base rs tail rows h based below all lives low = record {
 
 -- THE ROWS where one acts
 pub rows_found : (rs : Steps) (tail t last before : ℕ) (rows : List Row) → (t ≢ 0 → is_in t (tally rs).live ≡ true) → ((u : ℕ) → is_in u (tally rs).live ≡ true → last_in rows u ≡ Some (last_of u rs))
-    → ((u : ℕ) → tail ≤ u → last_in rows u ≡ None) → AreRows rs tail rows (acting_at t last before)
-rows_found rs tail t last before rows acts lives low = record {
+    → ((u : ℕ) → tail ≤ u → last_in rows u ≡ None) → AreApart rows → ((u last : ℕ) → u ≢ 0 → last_in rows u ≡ Some last → is_in u (tally rs).live ≡ true) → AreRows rs tail rows (acting_at t last before)
+rows_found rs tail t last before rows acts lives low apart known = record {
   own = λ ne. subst IsSome (sym (lives t (acts ne))) refl;
   low = low;
   others = λ u ne live. lives u live;
+  apart = apart;
+  past = λ u last some ne there gone. none_past rs rows known u last some there gone;
 }
 
 -- WHERE NOBODY ACTS nothing is open

@@ -4,6 +4,7 @@ use Rattle.sg_record.specs.Changes.{Change as Changing}
 use Rattle.sg_recovery.specs.Chains.{border_of, next_off}
 use Rattle.sg_recovery.specs.Log.{Open, tally, is_in}
 use Rattle.sg_recovery.specs.Log.Record.{Begin, Change, TopEnd, PhysComp, TopVoid, CompEnd, Save, Commit, End}
+use Rattle.sg_recovery.specs.Laws.{Each}
 use Rattle.sg_recovery.specs.TakeOff.{IsBefore}
 use Rattle.sg_actions.specs.Steps.{Step, Steps, step_at}
 use Rattle.sg_actions.specs.TakingOff.{AreLinked}
@@ -37,10 +38,11 @@ pub record IsBack (rs : Steps) (base before at : ℕ) (ds : List (Open Changing)
   pub at_is : at ≡ next_off before ds
   pub bottom : IsBefore base before ⊎ IsBorderAt rs before
 
--- there is such a way
+-- there is such a way, in a log that begins here
 pub record HasBack (rs : Steps) (start at : ℕ) : Type 0 where
   pub base : ℕ
-  pub low : base ≤ start
+  pub begins : base ≡ start
+  pub above : Each (λ r. base ≤ r.lsn) rs
   pub before : ℕ
   pub ds : List (Open Changing)
   pub back : IsBack rs base before at ds

@@ -1,5 +1,5 @@
 -- WHAT SOME LOOKS AT AN ENGINE LEAVE, whether they failed or not.
-use Rattle.std.specs.Prelude.{◌≡◌, ℕ, ◌<◌, Bool, true, List, Some, Result, OnOk, IfErr}
+use Rattle.std.specs.Prelude.{◌≡◌, ℕ, ◌<◌, Bool, true, List, Some, None, Result, OnOk, OnErr, IfErr}
 use Rattle.sg_base.specs.Ends.{HasRisen}
 use Rattle.sg_base.specs.Sheet.{Sheet, HasBytes}
 use Rattle.sg_ops.specs.Table.{Table}
@@ -18,6 +18,7 @@ pub record HasLooked {T : Type 0} (recovers : Table → Recovering) (a b : Engin
   pub quiet : OnOk result (b.faults ≡ a.faults)
   pub disk : IfErr result (λ f. f ≡ Disk)
   pub risen : IfErr result (λ f. HasRisen a.faults b.faults)
+  pub failed : OnErr result (b.failed ≡ true)
 
 -- a page says something, whose cells are bytes
 pub record SaysBytes (x : State) (p : ℕ) : Type 0 where
@@ -28,3 +29,10 @@ pub record SaysBytes (x : State) (p : ℕ) : Type 0 where
 -- each page below this number that is taken does
 abbrev pub AreBytes : List Bool → (count : ℕ) → State → Type 0
 AreBytes taken count x = (p : ℕ) → p < count → is_set taken p ≡ true → SaysBytes x p
+
+-- one that is taken says nothing
+pub record LacksSome (taken : List Bool) (count : ℕ) (x : State) : Type 0 where
+  pub page : ℕ
+  pub below : page < count
+  pub set : is_set taken page ≡ true
+  pub none : x.pages page ≡ None

@@ -1,5 +1,5 @@
 // Looks at the records of an action that has no end, and at pages.
-ghost use Rattle.std.specs.Prelude.{◌≡◌, ◌<◌, ◌≤◌, ℕ, true, IfOk, IfSome, OnOk, length};
+ghost use Rattle.std.specs.Prelude.{◌≡◌, ◌<◌, ◌≤◌, ℕ, true, false, None, Some, IsSome, IfOk, IfSome, length};
 ghost use Rattle.sg_base.specs.Bytes.{IsBytes};
 ghost use Rattle.sg_base.specs.Sheet.{sheet_of, HasBytes};
 ghost use Rattle.sg_ops.specs.Table.{Table};
@@ -11,7 +11,8 @@ ghost use Rattle.sg_actions.specs.Engine.{HasStep};
 ghost use Rattle.sg_actions.specs.Steps.{step_of, step_at};
 ghost use Rattle.sg_actions.specs.Taken.{is_set};
 ghost use Rattle.sg_found.specs.Found.{back_by, HasBack, IsFrom, IsOpenAt};
-ghost use Rattle.sg_found.specs.Looks.{HasLooked, SaysBytes, AreBytes};
+ghost use Rattle.sg_found.specs.declared.looking.Back.TheVariants.{Other};
+ghost use Rattle.sg_found.specs.Looks.{HasLooked, SaysBytes, AreBytes, LacksSome};
 
 use sg_actions::Engine;
 use sg_alloc::Maps;
@@ -75,6 +76,8 @@ fn find_from<E: Engine>(engine: &mut E, last: Lsn) -> Result<Option<Lsn>, SpaceF
     ensures looks { HasLooked E.recovers (E.view engine.old) (E.view engine.new) (E.means engine.old) (E.means engine.new) result }
     ensures found { (t : Table) (from : State) → E.means engine.old t from →
         IfOk result (λ r. (E.view engine.old).Told → IfSome r (IsFrom (back_by (step_at (E.view engine.old).steps last)) last)) }
+    ensures none { (t : Table) (from : State) → E.means engine.old t from →
+        IfOk result (λ r. (E.view engine.old).Told → r ≡ None → back_by (step_at (E.view engine.old).steps last) ≡ Other) }
 {
     match look_back(engine, last)? {
         Back::Changed(_) => Ok(Some(last)),
@@ -84,17 +87,17 @@ fn find_from<E: Engine>(engine: &mut E, last: Lsn) -> Result<Option<Lsn>, SpaceF
 }
 
 // The record before an action, from its last open change on, in a log that begins here. `None` where the
-// first one isn't in the log.
+// records aren't those of an action.
 fn find_before<E: Engine>(engine: &mut E, first: Lsn, start: Lsn) -> Result<Option<Lsn>, SpaceFault>
     requires there { (E.view engine.old).Told → ∥ HasBack (E.view engine.old).steps start first ∥₁ }
     ensures looks { HasLooked E.recovers (E.view engine.old) (E.view engine.new) (E.means engine.old) (E.means engine.new) result }
     ensures found { (t : Table) (from : State) → E.means engine.old t from →
-        IfOk result (λ r. (E.view engine.old).Told → (h : HasBack (E.view engine.old).steps start first) → IfSome r (λ n. n ≡ h.before)) }
+        IfOk result (λ r. (E.view engine.old).Told → (h : HasBack (E.view engine.old).steps start first) → r ≡ Some h.before) }
 {
     let mut at = first;
     'changes: while at != 0 {
         if at < start {
-            return Ok(None);
+            return Ok(Some(at));
         }
         match look_back(engine, at)? {
             Back::Changed(prev) => {
@@ -111,7 +114,7 @@ fn find_before<E: Engine>(engine: &mut E, first: Lsn, start: Lsn) -> Result<Opti
 }
 
 /// Where the take-off of an action without an end goes on, and the record before the action, from its
-/// last record on. `None` where the action isn't whole in the log.
+/// last record on, which may be before the log. `None` where the records aren't those of an action.
 pub fn find_action<E: Engine>(
     engine: &mut E,
     txn: u64,
@@ -120,10 +123,11 @@ pub fn find_action<E: Engine>(
     requires formed { (E.view engine.old).Told → IsLog (E.view engine.old).base (E.view engine.old).steps }
     requires unfinished { (E.view engine.old).Told → IsUnfinished (E.view engine.old).steps txn }
     requires last { (E.view engine.old).Told → last ≡ last_of txn (E.view engine.old).steps }
-    requires start { (E.view engine.old).Told → (E.view engine.old).base ≤ E.first_byte engine.old }
+    requires start { (E.view engine.old).Told → (E.view engine.old).base ≡ E.first_byte engine.old }
     ensures looks { HasLooked E.recovers (E.view engine.old) (E.view engine.new) (E.means engine.old) (E.means engine.new) result }
     ensures found { (t : Table) (from : State) → E.means engine.old t from →
         IfOk result (λ r. (E.view engine.old).Told → IfSome r (λ p. IsOpenAt (E.view engine.old).steps (E.view engine.old).base txn p.0 p.1)) }
+    ensures some { (t : Table) (from : State) → E.means engine.old t from → IfOk result (λ r. (E.view engine.old).Told → IsSome r) }
 {
     let start = engine.start();
     let Some(first) = find_from(engine, last)? else {
@@ -147,35 +151,44 @@ fn says_bytes(page: &SlotView<'_>)
     are_bytes(page.page);
 }
 
-// Looks at a page, whose cells are bytes.
-fn look_at<E: Engine>(engine: &mut E, p: PageNo) -> Result<(), SpaceFault>
+// Looks at a page, whose cells are bytes. `false` of one that says nothing.
+fn look_at<E: Engine>(engine: &mut E, p: PageNo) -> Result<bool, SpaceFault>
     ensures looks { HasLooked E.recovers (E.view engine.old) (E.view engine.new) (E.means engine.old) (E.means engine.new) result }
-    ensures bytes { OnOk result (SaysBytes (E.view engine.new).now p.0) }
+    ensures bytes { IfOk result (λ says. says ≡ true → SaysBytes (E.view engine.new).now p.0) }
+    ensures none { IfOk result (λ says. says ≡ false → (E.view engine.new).now.pages p.0 ≡ None) }
 {
-    engine.load(p)?;
+    if !engine.look(p)? {
+        return Ok(false);
+    }
     says_bytes(&engine.page(p));
-    Ok(())
+    Ok(true)
 }
 
-// Looks at a page, if it is taken.
-fn look_if_taken<E: Engine>(engine: &mut E, maps: &Maps, p: PageNo) -> Result<(), SpaceFault>
+// Looks at a page, if it is taken. `false` where it is, and says nothing.
+fn look_if_taken<E: Engine>(engine: &mut E, maps: &Maps, p: PageNo) -> Result<bool, SpaceFault>
     ensures looks { HasLooked E.recovers (E.view engine.old) (E.view engine.new) (E.means engine.old) (E.means engine.new) result }
-    ensures bytes { OnOk result (is_set maps.now.pages p.0 ≡ true → SaysBytes (E.view engine.new).now p.0) }
+    ensures bytes { IfOk result (λ says. says ≡ true → is_set maps.now.pages p.0 ≡ true → SaysBytes (E.view engine.new).now p.0) }
+    ensures set { IfOk result (λ says. says ≡ false → is_set maps.now.pages p.0 ≡ true) }
+    ensures none { IfOk result (λ says. says ≡ false → (E.view engine.new).now.pages p.0 ≡ None) }
 {
     if maps.page_taken(p).unwrap_or(false) {
         return look_at(engine, p);
     }
-    Ok(())
+    Ok(true)
 }
 
-/// Looks at each page that is taken: its cells are bytes.
-pub fn look_at_pages<E: Engine>(engine: &mut E, maps: &Maps, count: u32) -> Result<(), SpaceFault>
+/// Looks at each page that is taken: its cells are bytes. `false` where one says nothing.
+pub fn look_at_pages<E: Engine>(engine: &mut E, maps: &Maps, count: u32) -> Result<bool, SpaceFault>
     ensures looks { HasLooked E.recovers (E.view engine.old) (E.view engine.new) (E.means engine.old) (E.means engine.new) result }
     ensures bytes { (t : Table) (from : State) → E.means engine.old t from →
-        OnOk result ((E.view engine.old).Told → AreBytes maps.now.pages count (E.view engine.old).now) }
+        IfOk result (λ all. all ≡ true → (E.view engine.old).Told → AreBytes maps.now.pages count (E.view engine.old).now) }
+    ensures none { (t : Table) (from : State) → E.means engine.old t from →
+        IfOk result (λ all. all ≡ false → (E.view engine.old).Told → LacksSome maps.now.pages count (E.view engine.old).now) }
 {
     'pages: for p in 0..count {
-        look_if_taken(engine, maps, PageNo(p))?;
+        if !look_if_taken(engine, maps, PageNo(p))? {
+            return Ok(false);
+        }
     }
-    Ok(())
+    Ok(true)
 }

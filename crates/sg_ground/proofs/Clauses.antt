@@ -406,7 +406,7 @@ module _ (b : Basis) where
         plain = λ other. (
           (let found : found_of (map_bands_of b.pages b.bands) (note_said n.note) n.changes ≡ [] = bytes_plain (note_said n.note).undoes cs other in
               let back : PutsBack [] a.pages (pages_of t (ground_of b) v) = subst (λ (f : List Before). PutsBack f a.pages (pages_of t (ground_of b) v)) found can.back in
-              let same : pages_of t (ground_of b) v ≡ a.pages = λ i. record { pages = back.pages i; bands = λ k. back.bands k i } in
+              let same : pages_of t (ground_of b) v ≡ a.pages = λ i. record { size = back.size i; pages = back.pages i; bands = λ k. back.bands k i } in
               ap (ground_of b).reading same ∙ can.reads),
           sym (back_plain t (note_said n.note).undoes cs (slot o (note_said n.note).name) other) ∙ p.1,
         );

@@ -67,8 +67,9 @@ bytes_of other cs = []
 abbrev pub found_of : (kept : ℕ) → UndoNote → List Change → List Before
 found_of kept n cs = bytes_of n.undoes (found_by kept cs)
 
--- the second pages are the first, and the second bands are the first with these bytes put back
+-- the second pages are the first, and so many of them, and the second bands are the first with these bytes put back
 pub record PutsBack (found : List Before) (x y : State) : Type 0 where
+  pub size : y.size ≡ x.size
   pub pages : y.pages ≡ x.pages
   pub bands : (b : ℕ) → y.bands b ≡ put_on found b (x.bands b)
 

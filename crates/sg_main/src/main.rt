@@ -1,4 +1,4 @@
-//! The program `stasis`: runs a script on standard input over a store in a folder, and writes the
+//! The program `stasis`: makes a store in a folder, or runs a script on standard input over one, and writes the
 //! replies to standard output. It ends with a number for how that went, and says it in words on
 //! standard error.
 //!
@@ -9,8 +9,8 @@
 #![tactic(auto)]
 
 ghost use Rattle.std.specs.Prelude.{◌≡◌, ◌⊎◌, false, option_copied, IfOk};
-ghost use Rattle.sg_top.specs.Words.{are_served};
-ghost use Rattle.sg_top.specs.declared.status.Status.TheVariants.{Usage, Memory};
+ghost use Rattle.sg_commands.specs.Words.{are_served};
+ghost use Rattle.sg_commands.specs.declared.status.Status.TheVariants.{Usage, Memory};
 ghost use Rattle.sg_main.specs.Words.{folder_in};
 
 mod ended;

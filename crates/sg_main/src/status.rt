@@ -15,13 +15,16 @@ pub fn exit_number(status: Status) -> u8
 {
     match status {
         Status::Done => 0,
+        Status::NotAStore => 1,
         Status::Usage => 2,
         Status::Memory => 3,
         Status::Disk => 4,
         Status::Read => 5,
         Status::Write => 6,
         Status::TooLong => 7,
+        Status::UnknownOperation(_) => 8,
         Status::Damaged(_, _) => 9,
+        Status::Exists => 10,
         Status::LogEnd => 12,
     }
 }
@@ -32,16 +35,19 @@ impl fmt::Display for Shown {
     fn fmt<W: fmt::Write>(&self, f: &mut fmt::Formatter<W>) -> fmt::Result {
         match self.0 {
             Status::Done => f.write_str(""),
+            Status::NotAStore => f.write_str("not a store"),
             Status::Usage => f.write_str("usage"),
             Status::Memory => f.write_str("out of memory"),
             Status::Disk => f.write_str("disk fault"),
             Status::Read => f.write_str("read fault"),
             Status::Write => f.write_str("write fault"),
             Status::TooLong => f.write_str("script too long"),
+            Status::UnknownOperation(code) => write!(f, "unknown operation {code}"),
             Status::Damaged(area, at) => {
                 let name = area_name(area);
                 write!(f, "damaged {name} {at}")
             }
+            Status::Exists => f.write_str("store exists"),
             Status::LogEnd => f.write_str("log end"),
         }
     }

@@ -139,7 +139,7 @@ module _ (s : Super) (page : List ℕ) (cat : IsEmptyCatalogue page) (some : 64 
       record {
         log = [];
         pages = x;
-        recovers = r;
+        recovers = record { image = r; size = refl };
         reading = reading nothing;
         stands = ap (λ (o : Option Contents). and_then (option_map reading o) (all_undone (setting t (ground_at s)) [])) f.1 ∙ ap (λ (o : Reading). Some o) f.2;
         objects = no_objects;

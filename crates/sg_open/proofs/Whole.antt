@@ -19,12 +19,12 @@ use Rattle.sg_engine.specs.Effects.{effect_in}
 use Rattle.sg_engine.specs.Engine.{Origin, geometry, log_area, IsStanding}
 use Rattle.sg_engine.specs.Kept.{home_in}
 use Rattle.sg_engine.proofs.Logs.{home_apart}
-use Rattle.sg_find.specs.Synced.{AreSynced, reads, redo_point}
+use Rattle.sg_find.specs.Synced.{AreSynced, SplitsAtSync, reads, redo_point}
 use Rattle.sg_opening.specs.Opening.{IsOpenable}
 use Rattle.sg_opening.proofs.Opened as opened
 use Rattle.sg_open.specs.declared.found.Found.{Found}
 use Rattle.sg_open.specs.Repeatable.{IsNew, IsRepeatable}
-use Rattle.sg_open.specs.Found.{IsSettledAll, Opens, IsFound, AreOpening}
+use Rattle.sg_open.specs.Found.{IsSettledAll, Opens, IsFound, AreOpening, IsGoingOn}
 use Rattle.sg_open.proofs.Over.{settled_records}
 
 -- images with the same home area and the same log open alike
@@ -94,11 +94,27 @@ module _ (t : Table) (o : Origin) (tail : ℕ) (ds : List Numbered) (v v1 v2 : V
   pub opening_all : (w : View) → LeavesOnly v v1 (Leaves v.now) → LeavesOnly v1 v2 (Leaves v1.now) → LeavesOnly v2 w (IsStanding o ds ds (redo_point o.super.base ds)) → AreOpening o ds v w
   opening_all w first run more = inr (v1, synced, first, joined (reading_stands o tail ds v1 v2 synced.settled opens1 run) more)
 
+  -- the same of what comes behind the syncs
+  pub reads_on : LeavesOnly v1 v2 (Leaves v1.now) → LeavesOnly v1 v2 (IsStanding o ds ds (redo_point o.super.base ds))
+  reads_on run = reading_stands o tail ds v1 v2 synced.settled opens1 run
+
+  pub goes_on : (w : View) → LeavesOnly v1 v2 (Leaves v1.now) → LeavesOnly v2 w (IsStanding o ds ds (redo_point o.super.base ds)) → LeavesOnly v1 w (IsStanding o ds ds (redo_point o.super.base ds))
+  goes_on w run more = joined (reading_stands o tail ds v1 v2 synced.settled opens1 run) more
+
   pub at_hand : (f : Found) (pool : Pool) (point : ℕ) → v2.now ≡ v1.now → ((lsn : ℕ) (x : Record) → o.effect lsn x ≡ effect_in t lsn x)
       → IsFound t v2 o tail ds f → IsNew f.geometry pool → point ≡ max f.geometry.base f.analysis.estimate → IsRepeatable t o point ds v2 f.log pool
   at_hand f pool point same effect found new at =
       subst (λ (k : ℕ). IsRepeatable t o k ds v2 f.log pool) (sym (at ∙ found.point))
       (repeatable t o tail ds v2 f pool (settled_same v1 v2 same synced.settled) (opens_same o tail ds v1 v2 same opens1) effect found new)
+
+-- nothing but reads behind the syncs
+pub reads_behind : (t : Table) (v v1 v2 : View) → AreSynced v.now v1.now → LeavesOnly v v1 (Leaves v.now) → LeavesOnly v1 v2 (Leaves v1.now) → SplitsAtSync v (IsGoingOn t v v2)
+reads_behind t v v1 v2 synced first run = record {
+  mid = v1;
+  synced = synced;
+  before = first;
+  behind = λ o tail ds does opens. reads_on t o tail ds v v1 v2 synced opens run;
+}
 
 ok_err : {T E : Type 0} (x : T) (e : E) → Ok x ≡ Err e → ⊥
 ok_err x e is = cc

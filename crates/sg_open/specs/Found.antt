@@ -4,6 +4,8 @@ use Rattle.sg_base.specs.declared.area.Area.{Area}
 use Rattle.sg_disk.specs.Disk.{View, Leaves, LeavesOnly}
 use Rattle.sg_log.specs.Frames.{Numbered}
 use Rattle.sg_log.specs.Held.{Holds}
+use Rattle.sg_record.specs.Records.{Record}
+use Rattle.sg_engine.specs.Effects.{effect_in}
 use Rattle.sg_engine.specs.Engine.{Origin, IsLogOf, IsStanding}
 use Rattle.sg_ops.specs.Table.{Table}
 use Rattle.sg_analysis.specs.Analysis.{analysis_of}
@@ -35,3 +37,8 @@ pub record IsFound (t : Table) (v : View) (o : Origin) (tail : ℕ) (ds : List N
 abbrev pub AreOpening : Origin → List Numbered → (old new : View) → Type 0
 AreOpening o ds old new = LeavesOnly old new (Leaves old.now)
     ⊎ ((mid : View) × AreSynced old.now mid.now × LeavesOnly old mid (Leaves old.now) × LeavesOnly mid new (IsStanding o ds ds (redo_point o.super.base ds)))
+
+-- FROM THE SYNCS ON, whatever the image that was read can be opened with: each image stands for these records
+abbrev pub IsGoingOn : Table → (old new mid : View) → Type 0
+IsGoingOn t old new mid = (o : Origin) (tail : ℕ) (ds : List Numbered) → ((lsn : ℕ) (x : Record) → o.effect lsn x ≡ effect_in t lsn x) → Opens o tail ds old
+    → LeavesOnly mid new (IsStanding o ds ds (redo_point o.super.base ds))

@@ -1,11 +1,11 @@
 // What opening reads of a store.
-ghost use Rattle.std.specs.Prelude.{◌≡◌, ◌≢◌, ◌⊎◌, ℕ, List, [], IsTrue, IfOk, IfErr};
+ghost use Rattle.std.specs.Prelude.{◌≡◌, ◌≢◌, ◌⊎◌, ℕ, List, [], length, IsTrue, IfOk, IfErr};
 ghost use Rattle.sg_base.specs.declared.area.Area.TheVariants.{Home};
 ghost use Rattle.sg_disk.specs.Heeds.{Heeds};
 ghost use Rattle.sg_gate.specs.Superblock.{IsSuper};
 ghost use Rattle.sg_ops.specs.Table.{table_of};
 ghost use Rattle.sg_record.specs.Records.{Record};
-ghost use Rattle.sg_log.specs.Frames.{Numbered};
+ghost use Rattle.sg_log.specs.Frames.{HasRecords, Numbered};
 ghost use Rattle.sg_log.specs.Reads.{OnlyReads};
 ghost use Rattle.sg_engine.specs.Effects.{effect_in};
 ghost use Rattle.sg_engine.specs.Engine.{Origin};
@@ -48,6 +48,9 @@ pub fn find<D: Disk>(alloc: Global, disk: &mut D, ops: &Ops) -> Result<Found, Op
     ensures accepted { IsTrue D.told → IsSettledAll (D.view disk.old) → IfOk result (λ f. IsAccepted (table_of record_meaning range_meaning ops.now) (reads (D.view disk.old)) f.geometry) }
     // Its log is formed, and the analysis is one of it.
     ensures analysed { IsTrue D.told → IfOk result (λ f. IsAnalysed (reads (D.view disk.old) (log_area f.geometry)) f.geometry.base f.analysis) }
+    // Where its log ends is where the frames of the image do.
+    ensures ended { IsTrue D.told → IsSettledAll (D.view disk.old) → IfOk result (λ f. (ds : List Numbered) (gate : ℕ) → HasRecords ((D.view disk.old).now (log_area f.geometry)).seen f.geometry.base gate ds → f.log.gate ≡ gate) }
+    ensures empty { IfOk result (λ f. length f.log.buffer ≡ 0) }
     // The gates of both superblock slots are closed.
     ensures not_a_store { IsTrue D.told → result ≡ Err OpenFault.NotAStore → ((((D.view disk.old).now Home).seen 0 ≢ 1) × (((D.view disk.old).now Home).seen 4096 ≢ 1)) }
     ensures shut { IsTrue D.told → ((D.view disk.old).now Home).seen 0 ≢ 1 → ((D.view disk.old).now Home).seen 4096 ≢ 1 → (result ≡ Err OpenFault.NotAStore) ⊎ (result ≡ Err OpenFault.Disk) }

@@ -1,21 +1,22 @@
 // Opening.
-ghost use Rattle.std.specs.Prelude.{◌≡◌, ◌≢◌, ◌⊎◌, ◌+◌, ◌≤◌, ℕ, List, [], length, IsTrue, IfOk, IfErr, OnOk};
+ghost use Rattle.std.specs.Prelude.{◌≡◌, ◌≢◌, ◌⊎◌, ◌+◌, ◌≤◌, ℕ, List, [], length, IsTrue, IfOk, IfErr, OnOk, OnErr};
 ghost use Rattle.sg_base.specs.declared.area.Area.TheVariants.{Home};
 ghost use Rattle.sg_gate.specs.Superblock.{IsSuper};
+ghost use Rattle.sg_disk.specs.Accounts.{IsShownEnd};
 ghost use Rattle.sg_disk.specs.Heeds.{Heeds};
 ghost use Rattle.sg_ops.specs.Table.{table_of};
 ghost use Rattle.sg_record.specs.Records.{Record};
-ghost use Rattle.sg_log.specs.Frames.{Numbered};
+ghost use Rattle.sg_log.specs.Frames.{HasRecords, Numbered};
 ghost use Rattle.sg_engine.specs.Effects.{effect_in};
 ghost use Rattle.sg_engine.specs.Engine.{Origin};
 ghost use Rattle.sg_engine.specs.Running.{IsEngine, IsAllowed};
 ghost use Rattle.sg_find.specs.Faults.{is_disk};
-ghost use Rattle.sg_find.specs.Synced.{log_area, reads, redo_point};
+ghost use Rattle.sg_find.specs.Synced.{log_area, reads, redo_point, IsUnsynced, SplitsAtSync};
 ghost use Rattle.sg_analysis.specs.Shown.{IsAnalysed};
 ghost use Rattle.sg_places.specs.Placed.{places_in};
 ghost use Rattle.sg_open.specs.Repeatable.{IsNew};
 ghost use Rattle.sg_open.specs.Refusals.{StoreRefused, IsUnwrittenAt, IsCause, IsLateCause, IsAccepted};
-ghost use Rattle.sg_open.specs.Found.{Opens, AreOpening};
+ghost use Rattle.sg_open.specs.Found.{Opens, AreOpening, IsGoingOn};
 
 use crate::found::{Found, find};
 use crate::repeating::repeat;
@@ -89,6 +90,16 @@ pub fn open<D: Disk, L: Ledger>(
     // At each moment, faults included.
     ensures moments { (o : Origin) (tail : ℕ) (ds : List Numbered) → IsTrue D.told → ((lsn : ℕ) (x : Record) → o.effect lsn x ≡ effect_in (table_of record_meaning range_meaning ops.now) lsn x) → Opens o tail ds (D.view disk.old) →
         AreOpening o ds (D.view disk.old) (D.view disk.new) }
+    // No byte is handed over but to the home area: where the log ends is shown by where the frames of the image do.
+    ensures kept { (D.view disk.old).handed ≤ (D.view disk.new).handed }
+    ensures shown { IsTrue D.told → IfOk result (λ e. (ds : List Numbered) (gate : ℕ) → HasRecords ((D.view disk.old).now (log_area e.geometry)).seen e.geometry.base gate ds
+        → IsShownEnd (D.view disk.old) (D.view disk.new) gate e.log.gate) }
+    // Nothing waits at its end.
+    ensures empty { IfOk result (λ e. length e.log.buffer ≡ 0) }
+    // All areas are synced first, and where that fails nothing else is done. It is the same moment for whatever was read.
+    ensures behind { IsTrue D.told → OnOk result (SplitsAtSync (D.view disk.old) (IsGoingOn (table_of record_meaning range_meaning ops.now) (D.view disk.old) (D.view disk.new))) }
+    ensures stopped { IsTrue D.told → OnErr result (IsUnsynced (D.view disk.old) (D.view disk.new)
+        ⊎ SplitsAtSync (D.view disk.old) (IsGoingOn (table_of record_meaning range_meaning ops.now) (D.view disk.old) (D.view disk.new))) }
 {
     if sync_all(disk).is_err() {
         return Err(OpenFault::Disk);

@@ -9,6 +9,7 @@ ghost use Rattle.sg_record.specs.Records.{Record};
 ghost use Rattle.sg_log.specs.Frames.{Numbered, LOG_END, gate_after};
 ghost use Rattle.sg_engine.specs.Engine.{Origin, IsStanding};
 ghost use Rattle.sg_engine.specs.Running.{IsEngine, IsAllowed};
+ghost use Rattle.sg_pool.specs.Counts.{HasGrown};
 ghost use Rattle.sg_pool.specs.Pooled.{sizes};
 ghost use Rattle.sg_places.specs.Placed.{places_in};
 ghost use Rattle.sg_find.specs.Faults.{is_disk};
@@ -80,6 +81,9 @@ fn repeat_stretch<D: Disk, L: Ledger>(
     ensures heeded { Heeds is_disk result (D.view disk.old) (D.view disk.new) }
     ensures later { (D.view disk.old).faults ≤ (D.view disk.new).faults }
     ensures more_steps { steps.old ≤ steps.new }
+    ensures kept { (D.view disk.old).handed ≤ (D.view disk.new).handed }
+    ensures grown { HasGrown log.old log.new (D.view disk.old) (D.view disk.new) }
+    ensures empty { length log.old.buffer ≡ 0 → length log.new.buffer ≡ 0 }
 {
     let size = match read_stretch(disk, log_area(s), at, end, space) {
         Ok(size) => size,
@@ -125,6 +129,9 @@ fn replay<D: Disk, L: Ledger>(
         IsRepeating o point ds [] frames (D.view disk.old) log.old pool.old → LeavesOnly (D.view disk.old) (D.view disk.new) (IsStanding o ds ds point) }
     ensures late { IfErr result (IsPageFault (sizes pool.old)) }
     ensures heeded { Heeds is_disk result (D.view disk.old) (D.view disk.new) }
+    ensures kept { (D.view disk.old).handed ≤ (D.view disk.new).handed }
+    ensures grown { HasGrown log.old log.new (D.view disk.old) (D.view disk.new) }
+    ensures empty { length log.old.buffer ≡ 0 → length log.new.buffer ≡ 0 }
 {
     let gate = log.durable();
     if gate < s.base || gate > 1 << 63 {
@@ -181,6 +188,10 @@ pub fn repeat<D: Disk, L: Ledger>(
     // At each moment, faults included.
     ensures moments { (o : Origin) (ds : List Numbered) → IsTrue D.told → o.super ≡ s.now → IsRepeatable (table_of record_meaning range_meaning ops.now) o point ds (D.view disk.old) log.old pool.old →
         LeavesOnly (D.view disk.old) (D.view disk.new) (IsStanding o ds ds point) }
+    // The log grows by no more than is handed over.
+    ensures kept { (D.view disk.old).handed ≤ (D.view disk.new).handed }
+    ensures grown { HasGrown log.old log.new (D.view disk.old) (D.view disk.new) }
+    ensures empty { length log.old.buffer ≡ 0 → length log.new.buffer ≡ 0 }
 {
     if let Err(fault) = lay_over(disk, s.pages) {
         return Err(of_gate(fault));

@@ -38,7 +38,7 @@ pub struct Ops {
 }
 
 impl Ops {
-    ghost use Rattle.std.specs.Prelude.{◌≡◌, ◌≢◌, ◌↔◌, ◌+◌, None, Some, length, IsTrue, is_some, MatchOption, IfOk, OnOk, OnErr, IsErrOf, IfErr};
+    ghost use Rattle.std.specs.Prelude.{◌≡◌, ◌≢◌, ◌↔◌, ◌+◌, None, Some, length, IsTrue, is_some, MatchOption, IfOk, OnOk, OnErr, IsErrOf, IfErr, IsOk};
     ghost use Rattle.sg_ops.specs.Laws.{IsLawful};
     ghost use Rattle.sg_ops.specs.Table.{table_of_boxes, record_of, range_of, record_at, range_at, accepts_of, after_of, before_of, rendered, fresh_table, shipped_table, AddsRecord, AddsRange};
 
@@ -46,6 +46,7 @@ impl Ops {
     pub fn new(alloc: Global) -> Result<Ops, OpsError>
         ensures ok { IfOk result (λ ops. table_of_boxes record_meaning range_meaning ops ≡ fresh_table) }
         ensures err { IfErr result (λ e. e ≡ OpsError.Memory) }
+        ensures made { IsOk result }
     {
         Ok(Ops {
             records: Vec::new(alloc),

@@ -23,7 +23,7 @@ use Rattle.sg_store.specs.Engine.{Sizes, Appends, Appended}
 use Rattle.sg_ground.specs.Recovers.{Recovering}
 use Rattle.sg_shown.specs.Room.{SameRoom}
 use Rattle.sg_shown.specs.Shown.{basis, Over, Means, shown_of}
-use Rattle.sg_shown.proofs.Calls.{means_next, rows_begun, appends_of, appended_of}
+use Rattle.sg_shown.proofs.Calls.{means_next, appends_of, appended_of}
 use Rattle.sg_shown.proofs.Holding.{Facts}
 use Rattle.sg_paged.proofs.Behind.{rests_now, kept_with}
 use Rattle.sg_paged.proofs.Recorded.{Stays, room_stays}
@@ -31,13 +31,6 @@ use Rattle.sg_paged.proofs.Recorded.{Stays, room_stays}
 next_some : (rs : Steps) → 1 ≤ next_lsn rs
 next_some [] = omega arith
 next_some (r ∷ rs) = omega arith
-
--- its number is the log's next one or above
-pub begun_number : (m b : Over) (t : Table) (limits : State → ℕ → ℕ) (from : State) (tail : ℕ) (r : Result TxnId SpaceFault) → m.engine.tail ≡ tail
-    → IfOk r (Begun t limits (led from m.engine) (led from b.engine) m.maps m.rows b.rows m.actor)
-    → IfOk r (λ u. (tail ≤ u.0) × (u.0 < b.engine.tail))
-begun_number m b t limits from tail (Err f) same h = tt
-begun_number m b t limits from tail (Ok u) same h = (let a = h.above in omega (arith, a, same), h.below)
 
 -- who tells at the end has begun
 begun_ok : {P : Type 0} (b : Over) (r : Result TxnId SpaceFault) (Q : TxnId → Type 0) → OnErr r (b.engine.failed ≡ true)
@@ -58,8 +51,7 @@ begun_means m b t z from r h quiet s stands vacant counts whole did = means_next
     let above = c.above in
     rests_now b t z from m.engine.steps u.0 (Begin u.0 0)
     (subst (λ (l : (pages bands : ℕ) → State → ℕ → ℕ). IsKept t (l z.pages z.bands) (led from b.engine) b.maps b.rows b.actor) (sym s.limits) (kept_with b.engine s.maps refl s.actor (c.kept told k.kept)))
-    (c.logged told).steps refl refl (ap (λ (x : Actor). x.txn.0) s.actor ∙ (k.rest quiet).system) (subst Rattle.sg_actions.specs.View.HasFreedNone (sym s.unfreed) (k.rest quiet).freed)
-    (λ v g. subst (λ (rows : List Row). HasRow rows v) (sym c.rows_are) (rows_begun m.engine.steps m.rows u.0 m.engine.tail u formed (λ zero. absurd (omega (arith, zero, low, below, above))) vacant (k.kept.chain.rows_are.low u.0 above) k.rows v g))))
+    (c.logged told).steps refl refl (ap (λ (x : Actor). x.txn.0) s.actor ∙ (k.rest quiet).system) (subst Rattle.sg_actions.specs.View.HasFreedNone (sym s.unfreed) (k.rest quiet).freed)))
 
 -- WHAT IS APPENDED
 abbrev first_lsn : Steps → ℕ
@@ -78,7 +70,7 @@ pub begun_begins : (recovers : Recovering) (a m b : Over) (t : Table) (z : Sizes
     × IfOk r (λ u. (u.0 ≡ n) × Appended t (basis recovers z) (store.led t z from (shown_of recovers a)) (store.led t z from (shown_of recovers b)) (record { lsn = n; is = Begin n 0 }))
 begun_begins recovers a m b t z from r e room begun told counts h did means facts = (
   b.engine.tried,
-  appends_of recovers a b t z from b.engine.tried (Begin b.engine.tried 0) m.engine e (record { above = h.above; formed = h.formed; moments = h.moments }),
+  appends_of recovers a b t z from b.engine.tried (Begin b.engine.tried 0) m.engine e means.size (record { above = h.above; formed = h.formed; moments = h.moments }),
   by r counts.tells counts.tail did,
 )
   where
@@ -98,7 +90,7 @@ pub none_begins : (recovers : Recovering) (a m b : Over) (t : Table) (z : Sizes)
     → Appends t (basis recovers z) (store.led t z from (shown_of recovers a)) (store.led t z from (shown_of recovers b)) (record { lsn = m.engine.tail; is = Begin m.engine.tail 0 })
 none_begins recovers a m b t z from em e told h system images =
     let k = h.keeps told in
-    appends_of recovers a b t z from m.engine.tail (Begin m.engine.tail 0) m.engine em (record {
+    appends_of recovers a b t z from m.engine.tail (Begin m.engine.tail 0) m.engine em h.size (record {
       above = omega arith;
       formed = (running_begin {tail = m.engine.tail} {next = m.engine.tail + 1} (omega arith) system k.kept.chain.running).log;
       moments = subst (λ (y : EngineSeen). Moments (recovers t) t (led from m.engine) (led from y) (stepped m.engine.steps m.engine.tail (Begin m.engine.tail 0))) (sym e)

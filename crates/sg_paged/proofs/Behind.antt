@@ -18,7 +18,7 @@ use Rattle.sg_actions.specs.Taken.{is_set}
 use Rattle.sg_actions.specs.declared.rows.Actor.{Actor}
 use Rattle.sg_actions.specs.declared.rows.Row.{Row}
 use Rattle.sg_store.specs.Engine as store
-use Rattle.sg_store.specs.Engine.{Sizes, View, Action, Appended, action_of, before_open, is_going}
+use Rattle.sg_store.specs.Engine.{Sizes, View, Action, Appended, action_of, before_open}
 use Rattle.sg_store.specs.Ground.{Ground}
 use Rattle.sg_actions.proofs.Chained.{no_zero}
 use Rattle.sg_ground.specs.Recovers.{Recovering}
@@ -66,15 +66,16 @@ pub means_with : (a b : Over) (t : Table) (z : Sizes) (from : State) → b.engin
     → b.unfreed ≡ a.unfreed → b.rows ≡ a.rows → b.actor ≡ a.actor → b.begun ≡ a.begun → b.begin ≡ a.begin
     → Means a t z from → Means b t z from
 means_with a b t z from e m l p u r c o s h =
-    let moved : Over = record { engine = b.engine; means = b.means; limits = b.limits; start = a.start; maps = b.maps; unfreed = b.unfreed; rows = b.rows; actor = b.actor; begun = b.begun; begin = b.begin; breaks = a.breaks } in
-    let same : moved ≡ a = λ j. record { engine = e j; means = m j; limits = l j; start = a.start; maps = p j; unfreed = u j; rows = r j; actor = c j; begun = o j; begin = s j; breaks = a.breaks } in
+    let moved : Over = record { engine = b.engine; means = b.means; limits = b.limits; start = a.start; maps = b.maps; unfreed = b.unfreed; rows = b.rows; actor = b.actor; begun = b.begun; begin = b.begin; breaks = a.breaks; room = a.room } in
+    let same : moved ≡ a = λ j. record { engine = e j; means = m j; limits = l j; start = a.start; maps = p j; unfreed = u j; rows = r j; actor = c j; begun = o j; begin = s j; breaks = a.breaks; room = a.room } in
     let q : Means moved t z from = subst (λ (x : Over). Means x t z from) (sym same) h in
     record {
       since = q.since;
+      size = q.size;
       pages = q.pages;
       bands = q.bands;
       limits = q.limits;
-      keeps = λ told. let k = q.keeps told in record { kept = k.kept; rest = k.rest; fresh = k.fresh; rows = k.rows; begin = k.begin; now = k.now; counted = k.counted; map = k.map };
+      keeps = λ told. let k = q.keeps told in record { kept = k.kept; rest = k.rest; fresh = k.fresh; begin = k.begin; now = k.now; counted = k.counted; map = k.map };
     }
 
 -- A RECORD THAT ENDS WHAT WAS OPEN leaves nobody acting
@@ -82,11 +83,10 @@ pub rests_now : (b : Over) (t : Table) (z : Sizes) (from : State) (steps : Steps
     → IsKept t (b.limits z.pages z.bands) (led from b.engine) b.maps b.rows b.actor → b.engine.steps ≡ stepped steps lsn x
     → ended (stepped steps lsn x) ≡ stepped steps lsn x
     → redo t x (repeated t from steps) ≡ repeated t from steps → b.actor.txn.0 ≡ 0 → HasFreedNone b.unfreed
-    → ((u : ℕ) → is_going u (stepped steps lsn x) ≡ true → HasRow b.rows u) → RestsNow b t z from (repeated t from steps)
-rests_now b t z from steps lsn x kept is border same system freed rows = record {
+    → RestsNow b t z from (repeated t from steps)
+rests_now b t z from steps lsn x kept is border same system freed = record {
   kept = kept;
   rest = record { idle = subst (λ (rs : Steps). ended rs ≡ rs) (sym is) border; system = system; freed = freed };
-  rows = λ u h. rows u (subst (λ (rs : Steps). is_going u rs ≡ true) is h);
   now = ap (repeated t from) is ∙ same;
 }
 
@@ -114,17 +114,18 @@ done_appended {recovers} {a} {b} {t} {z} {from} e lsn x is d = appended_of recov
 
 -- AN ACTION THAT BEGINS: what was kept where nobody acts is kept
 abbrev acted : (m : Over) → Actor → (begin : State) → Over
-acted m actor begin = record { engine = m.engine; means = m.means; limits = m.limits; start = m.start; maps = m.maps; unfreed = m.unfreed; rows = m.rows; actor = actor; begun = true; begin = begin; breaks = m.breaks }
+acted m actor begin = record { engine = m.engine; means = m.means; limits = m.limits; start = m.start; maps = m.maps; unfreed = m.unfreed; rows = m.rows; actor = actor; begun = true; begin = begin; breaks = m.breaks; room = m.room }
 
 acted_means : (m : Over) (actor : Actor) (t : Table) (z : Sizes) (from : State) (txn : ℕ) → Means m t z from → m.begun ≡ false
     → NowActs t (m.limits z.pages z.bands) (led from m.engine) m.maps m.rows m.actor actor txn
     → Means (acted m actor (repeated t from m.engine.steps)) t z from
 acted_means m actor t z from txn h quiet now = record {
   since = record { stands = h.since.stands; since = λ o told. ap (repeated t from) ((h.keeps told).rest quiet).idle };
+  size = h.size;
   pages = h.pages;
   bands = h.bands;
   limits = h.limits;
-  keeps = λ told. let k = h.keeps told in record { kept = now.kept told k.kept; rest = λ f. absurd (let w : true ≡ false = f in cc); fresh = k.fresh; rows = k.rows; begin = k.begin; now = k.now; counted = k.counted; map = k.map };
+  keeps = λ told. let k = h.keeps told in record { kept = now.kept told k.kept; rest = λ f. absurd (let w : true ≡ false = f in cc); fresh = k.fresh; begin = k.begin; now = k.now; counted = k.counted; map = k.map };
 }
 
 pub act_means : (m b : Over) (t : Table) (z : Sizes) (from : State) (txn : ℕ) → Means m t z from → m.begun ≡ false → b.engine ≡ m.engine → b.means ≡ m.means
@@ -134,15 +135,16 @@ pub act_means : (m b : Over) (t : Table) (z : Sizes) (from : State) (txn : ℕ) 
 act_means m b t z from txn h quiet e s l p u r opens now since =
     let begin : State = repeated t from m.engine.steps in
     let next : Over = acted m b.actor begin in
-    let moved : Over = record { engine = b.engine; means = b.means; limits = b.limits; start = m.start; maps = b.maps; unfreed = b.unfreed; rows = b.rows; actor = b.actor; begun = true; begin = begin; breaks = m.breaks } in
-    let same : moved ≡ next = λ j. record { engine = e j; means = s j; limits = l j; start = m.start; maps = p j; unfreed = u j; rows = r j; actor = b.actor; begun = true; begin = begin; breaks = m.breaks } in
+    let moved : Over = record { engine = b.engine; means = b.means; limits = b.limits; start = m.start; maps = b.maps; unfreed = b.unfreed; rows = b.rows; actor = b.actor; begun = true; begin = begin; breaks = m.breaks; room = m.room } in
+    let same : moved ≡ next = λ j. record { engine = e j; means = s j; limits = l j; start = m.start; maps = p j; unfreed = u j; rows = r j; actor = b.actor; begun = true; begin = begin; breaks = m.breaks; room = m.room } in
     let q : Means moved t z from = subst (λ (x : Over). Means x t z from) (sym same) (acted_means m b.actor t z from txn h quiet now) in
     record {
       since = since;
+      size = q.size;
       pages = q.pages;
       bands = q.bands;
       limits = q.limits;
-      keeps = λ told. let k = q.keeps told in record { kept = k.kept; rest = λ f. absurd (let w : true ≡ false = sym opens ∙ f in cc); fresh = k.fresh; rows = k.rows; begin = k.begin; now = k.now; counted = k.counted; map = k.map };
+      keeps = λ told. let k = q.keeps told in record { kept = k.kept; rest = λ f. absurd (let w : true ≡ false = sym opens ∙ f in cc); fresh = k.fresh; begin = k.begin; now = k.now; counted = k.counted; map = k.map };
     }
 
 -- WHOSE ACTION was begun
@@ -184,6 +186,7 @@ pub untold : (a b : Over) (t : Table) (z : Sizes) (from : State) → Means a t z
     → length b.maps.bands ≡ length a.maps.bands → b.limits ≡ a.limits → b.means t from → (b.engine.Told → ⊥) → Means b t z from
 untold a b t z from h p n l stands never = record {
   since = record { stands = stands; since = λ o told. absurd (never told) };
+  size = h.size;
   pages = p ∙ h.pages;
   bands = n ∙ h.bands;
   limits = ap (λ (f : (pages bands : ℕ) → State → ℕ → ℕ). f z.pages z.bands) l ∙ h.limits;

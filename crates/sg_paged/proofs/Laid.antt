@@ -35,12 +35,22 @@ stood_on outside band at (y ∷ ys) cs x b = by_place (nat_lt band outside) refl
         ap (put_on cs b) (one_is x.bands band at (y ∷ ys) b)
         ∙ sym (ap (λ (c : Bool). put_on (if c then record { band = band; at = at; bytes = y ∷ ys } ∷ cs else cs) b (x.bands b)) near)
 
+stood_size : (o : Option Stood) (x : State) → (with_stood o x).size ≡ x.size
+stood_size None x = refl
+stood_size (Some s) x = refl
+
 -- ALL OF THEM
 pub all_pages : (outside : ℕ) (cs : List Change) (x : State) → (all_given_back outside cs x).pages ≡ x.pages
 all_pages outside [] x = refl
 all_pages outside (Page c ∷ cs) x = all_pages outside cs x
 all_pages outside (SegWrite c ∷ cs) x = all_pages outside cs (given_back outside (SegWrite c) x) ∙ stood_pages (stood_of outside c.band c.at c.before) x
 all_pages outside (SegOp c ∷ cs) x = all_pages outside cs (given_back outside (SegOp c) x) ∙ stood_pages (stood_of outside c.band c.at c.before) x
+
+all_size : (outside : ℕ) (cs : List Change) (x : State) → (all_given_back outside cs x).size ≡ x.size
+all_size outside [] x = refl
+all_size outside (Page c ∷ cs) x = all_size outside cs x
+all_size outside (SegWrite c ∷ cs) x = all_size outside cs (given_back outside (SegWrite c) x) ∙ stood_size (stood_of outside c.band c.at c.before) x
+all_size outside (SegOp c ∷ cs) x = all_size outside cs (given_back outside (SegOp c) x) ∙ stood_size (stood_of outside c.band c.at c.before) x
 
 all_bands : (outside : ℕ) (cs : List Change) (x : State) (b : ℕ)
     → (all_given_back outside cs x).bands b ≡ put_on (befores outside (map meaning cs)) b (x.bands b)
@@ -81,6 +91,7 @@ puts_back outside note cs x y e = by_kind (is_of_bytes note) refl
         let is : y ≡ all_given_back outside cs x = e ∙ ap (λ (b : Bool). if b then all_given_back outside cs x else x) k in
         let all : found_of outside (note_said note) cs ≡ found_by outside cs = some_there (byte_at note 0) (drop (byte_at note 1) (drop 2 note)) (found_by outside cs) k in
         record {
+          size = ap (λ (s : State). s.size) is ∙ all_size outside cs x;
           pages = ap (λ (s : State). s.pages) is ∙ all_pages outside cs x;
           bands = λ b. ap (λ (s : State). s.bands b) is ∙ (all_bands outside cs x b ∙ ap (λ (fs : List Before). put_on fs b (x.bands b)) (sym all));
         }
@@ -88,6 +99,7 @@ puts_back outside note cs x y e = by_kind (is_of_bytes note) refl
         let is : y ≡ x = e ∙ ap (λ (b : Bool). if b then all_given_back outside cs x else x) k in
         let none : found_of outside (note_said note) cs ≡ [] = none_else (byte_at note 0) (drop (byte_at note 1) (drop 2 note)) (found_by outside cs) k in
         record {
+          size = ap (λ (s : State). s.size) is;
           pages = ap (λ (s : State). s.pages) is;
           bands = λ b. ap (λ (s : State). s.bands b) is ∙ ap (λ (fs : List Before). put_on fs b (x.bands b)) (sym none);
         }

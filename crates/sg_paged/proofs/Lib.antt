@@ -4,3 +4,5 @@ pub mod Begun
 pub mod Rested
 pub mod Laid
 pub mod Undone
+pub mod Unended
+pub mod Resumed

@@ -8,16 +8,15 @@ use Rattle.sg_recovery.specs.Log.Record.{TopEnd, CompEnd, Commit, End}
 use Rattle.sg_space.specs.declared.space.SpaceFault.{SpaceFault}
 use Rattle.sg_action.specs.States.{State}
 use Rattle.sg_actions.specs.Calls.{ActionEnded}
-use Rattle.sg_actions.specs.Ending.{Committed, Closed, UndoEnded, vacant}
+use Rattle.sg_actions.specs.Ending.{Committed, Closed, UndoEnded}
 use Rattle.sg_actions.specs.Engine.{led}
-use Rattle.sg_actions.specs.Rows.{HasRow}
 use Rattle.sg_actions.specs.View.{HasFreedNone}
 use Rattle.sg_actions.specs.declared.rows.Actor.{Actor}
 use Rattle.sg_actions.specs.declared.rows.Row.{Row}
 use Rattle.sg_store.specs.Engine.{Sizes}
 use Rattle.sg_shown.specs.Room.{SameRoom}
 use Rattle.sg_shown.specs.Shown.{Over, Means}
-use Rattle.sg_shown.proofs.Calls.{means_next, row_kept, row_after, rows_ended, room_settled}
+use Rattle.sg_shown.proofs.Calls.{means_next, room_settled}
 use Rattle.sg_paged.proofs.Behind.{room_same, rests_now, kept_with, by_told}
 
 -- what stays of a space in a call of a transaction outside of its actions
@@ -44,8 +43,7 @@ commit_means m b t z from txn r h quiet s stands back silent did = means_next m 
     let c = by_told r silent told' did in
     rests_now b t z from m.engine.steps c.lsn (Commit txn.0 c.last)
     (subst (λ (l : (pages bands : ℕ) → State → ℕ → ℕ). Rattle.sg_actions.specs.View.IsKept t (l z.pages z.bands) (led from b.engine) b.maps b.rows b.actor) (sym s.limits) (kept_with b.engine s.maps refl s.actor (c.kept told k.kept)))
-    (c.logged told).steps refl refl (ap (λ (x : Actor). x.txn.0) s.actor ∙ (k.rest quiet).system) (freed_stays m b s (k.rest quiet).freed)
-    (λ u g. subst (λ (rows : List Row). HasRow rows u) (sym c.rows_are) (row_kept m.rows txn c.lsn u (k.rows u g))))
+    (c.logged told).steps refl refl (ap (λ (x : Actor). x.txn.0) s.actor ∙ (k.rest quiet).system) (freed_stays m b s (k.rest quiet).freed))
 
 -- AN END
 pub end_means : {T : Type 0} (m b : Over) (t : Table) (z : Sizes) (from : State) (txn : TxnId) (r : Result T SpaceFault) → Means m t z from
@@ -57,8 +55,7 @@ end_means m b t z from txn r h quiet s stands back silent did = means_next m b t
     let c = by_told r silent told' did in
     rests_now b t z from m.engine.steps c.lsn (End txn.0 c.last)
     (subst (λ (l : (pages bands : ℕ) → State → ℕ → ℕ). Rattle.sg_actions.specs.View.IsKept t (l z.pages z.bands) (led from b.engine) b.maps b.rows b.actor) (sym s.limits) (kept_with b.engine s.maps refl s.actor (c.kept told k.kept)))
-    (c.logged told).steps refl refl (ap (λ (x : Actor). x.txn.0) s.actor ∙ (k.rest quiet).system) (freed_stays m b s (k.rest quiet).freed)
-    (λ u g. subst (λ (rows : List Row). HasRow rows u) (sym c.rows_are) (rows_ended m.engine.steps m.rows c.lsn c.last txn vacant k.kept.chain.running.log.chained refl k.rows u g)))
+    (c.logged told).steps refl refl (ap (λ (x : Actor). x.txn.0) s.actor ∙ (k.rest quiet).system) (freed_stays m b s (k.rest quiet).freed))
 
 -- THE END OF AN ACTION
 pub action_means : {T : Type 0} (m b : Over) (t : Table) (z : Sizes) (from : State) (note : List ℕ) (r : Result T SpaceFault) → IsLawful t
@@ -73,8 +70,7 @@ action_means m b t z from note (Ok x) law h l stands back failed whole begun did
     let k = h.keeps told in
     rests_now b t z from m.engine.steps did.lsn (TopEnd m.actor.txn.0 m.actor.last m.actor.before note)
     (subst (λ (f : (pages bands : ℕ) → State → ℕ → ℕ). Rattle.sg_actions.specs.View.IsKept t (f z.pages z.bands) (led from b.engine) b.maps b.rows b.actor) (sym l) (did.kept law told k.kept))
-    (did.logged told).steps refl refl (ap (λ (y : Actor). y.txn.0) did.rest) (record { pages = did.pages.none; bands = did.bands.none })
-    (λ u g. subst (λ (rows : List Row). HasRow rows u) (sym did.rows_are) (row_after m.rows m.actor.txn did.lsn u (k.rows u g))))
+    (did.logged told).steps refl refl (ap (λ (y : Actor). y.txn.0) did.rest) (record { pages = did.pages.none; bands = did.bands.none }))
 
 -- THE END OF AN UNDO
 pub undo_means : {T : Type 0} (m b : Over) (t : Table) (z : Sizes) (from : State) (after : ℕ) (r : Result T SpaceFault) → IsLawful t → Means m t z from
@@ -88,5 +84,4 @@ undo_means m b t z from after (Ok x) law h l stands back begun did other = means
     let k = h.keeps told in
     rests_now b t z from m.engine.steps did.lsn (CompEnd m.actor.txn.0 m.actor.last after)
     (subst (λ (f : (pages bands : ℕ) → State → ℕ → ℕ). Rattle.sg_actions.specs.View.IsKept t (f z.pages z.bands) (led from b.engine) b.maps b.rows b.actor) (sym l) (did.kept law told k.kept))
-    (did.logged told).steps refl refl (ap (λ (y : Actor). y.txn.0) did.rest) (record { pages = did.pages.none; bands = did.bands.none })
-    (λ u g. subst (λ (rows : List Row). HasRow rows u) (sym did.rows_are) (row_after m.rows m.actor.txn did.lsn u (k.rows u g))))
+    (did.logged told).steps refl refl (ap (λ (y : Actor). y.txn.0) did.rest) (record { pages = did.pages.none; bands = did.bands.none }))

@@ -1,7 +1,6 @@
 -- A CALL THAT APPENDS NO RECORD.
 use Rattle.std.proofs.Common.{◌≡◌, ℕ, ◌<◌, ◌≤◌, Bool, true, false, not, List, Option, Some, None, Result, Err, sym, ap, subst, ◌∙◌, refl, arith}
 use Rattle.std.specs.Prelude.{OnOk, OnErr, IfOk, IfSome, option_map, ◌&&◌, if◌then◌else◌}
-use Rattle.sg_base.specs.Ends.{HasRisen}
 use Rattle.sg_base.specs.declared.numbers.TxnId.{TxnId}
 use Rattle.sg_alloc.specs.declared.maps.Maps.{Maps}
 use Rattle.sg_ops.specs.Table.{Table}
@@ -10,19 +9,18 @@ use Rattle.sg_recovery.specs.Log.{tally, is_in}
 use Rattle.sg_space.specs.declared.space.SpaceFault.{SpaceFault}
 use Rattle.sg_action.specs.States.{State}
 use Rattle.sg_actions.specs.Calls.{IsActable}
-use Rattle.sg_actions.specs.Counts.{ActsCounts, Note}
+use Rattle.sg_actions.specs.Counts.{Note}
 use Rattle.sg_actions.specs.Undoing.{next_note}
 use Rattle.sg_actions.proofs.Given.{next_first}
 use Rattle.sg_actions.specs.Engine.{EngineSeen, led}
 use Rattle.sg_actions.specs.Led.{HasStayed, Stayed}
-use Rattle.sg_actions.specs.Rows.{HasRow}
 use Rattle.sg_actions.specs.Steps.{Steps, ended, opened, begin_of, repeated}
 use Rattle.sg_actions.specs.Taken.{is_set, takes_page, takes_band}
 use Rattle.sg_actions.specs.View.{IsKept, HasFreedNone}
 use Rattle.sg_actions.specs.declared.rows.Actor.{Actor}
 use Rattle.sg_actions.specs.declared.rows.Row.{Row}
 use Rattle.sg_store.specs.Engine as store
-use Rattle.sg_store.specs.Engine.{Sizes, Counts, IsDiskFault, IsNextUndo, Rests, Rested, action_of, is_going}
+use Rattle.sg_store.specs.Engine.{Sizes, IsNextUndo, Rests, Rested, action_of}
 use Rattle.sg_ground.specs.Recovers.{Recovering}
 use Rattle.sg_shown.specs.Room.{SameRoom}
 use Rattle.sg_shown.specs.Shown.{basis, Over, Keeping, Means, acting, shown_of}
@@ -58,7 +56,6 @@ keeping_stays a b t z from s steps kept k = record {
     freed = subst HasFreedNone (sym s.unfreed) r.freed;
   };
   fresh = λ e. subst HasFreedNone (sym s.unfreed) (k.fresh (ap opened (sym steps) ∙ e));
-  rows = λ u h. subst (λ (xs : List Row). HasRow xs u) (sym s.rows) (k.rows u (subst (λ (rs : Steps). is_going u rs ≡ true) steps h));
   begin = subst (λ (x : Maps). taken_at t z from x b.engine.steps) (sym s.maps) (subst (λ (rs : Steps). taken_at t z from a.maps rs) (sym steps) k.begin);
   now = taken_same (ap (λ (rs : Steps). (repeated t from rs).pages) steps) (λ p h. (room_of a b s).page p ∙ h) (λ n h. (room_of a b s).band n ∙ h) k.now;
   counted = counted_same (room_of a b s).free_pages (room_of a b s).free_bands (ap (λ (rs : Steps). (repeated t from rs).pages) steps) k.counted;
@@ -70,6 +67,7 @@ pub stay_means : {T : Type 0} (a b : Over) (t : Table) (z : Sizes) (from : State
     → OnOk r (a.engine.Told → IsKept t (a.limits z.pages z.bands) (led from a.engine) a.maps a.rows a.actor → IsKept t (a.limits z.pages z.bands) (led from b.engine) b.maps b.rows b.actor) → Means b t z from
 stay_means a b t z from r h s stands back silent stays kept = record {
   since = record { stands = stands; since = λ o told. let told' = back told in ap (begin_of t from) (steps told) ∙ (h.since.since (sym s.begun ∙ o) told' ∙ sym (s.begin o)) };
+  size = h.size;
   pages = (room_of a b s).pages ∙ h.pages;
   bands = (room_of a b s).bands ∙ h.bands;
   limits = ap (λ (l : (pages bands : ℕ) → State → ℕ → ℕ). l z.pages z.bands) s.limits ∙ h.limits;
@@ -85,6 +83,7 @@ pub untold_means : (a b : Over) (t : Table) (z : Sizes) (from : State) → Means
     → (b.engine.Told → ⊥) → Means b t z from
 untold_means a b t z from h m l stands never = record {
   since = record { stands = stands; since = λ o told. absurd (never told) };
+  size = h.size;
   pages = ap (λ (x : Maps). Rattle.std.specs.Prelude.length x.pages) m ∙ h.pages;
   bands = ap (λ (x : Maps). Rattle.std.specs.Prelude.length x.bands) m ∙ h.bands;
   limits = ap (λ (f : (pages bands : ℕ) → State → ℕ → ℕ). f z.pages z.bands) l ∙ h.limits;
@@ -113,28 +112,6 @@ again_can a m t z from who is k h quiet same = subst (λ (o : Option TxnId). IfS
     by_begun : (b : Bool) → IfSome (if b then Some a.actor.txn else None) (λ u. IsActable m.engine.steps m.unfreed m.rows m.actor u.0)
     by_begun false = tt
     by_begun true = record { rest = h.rest quiet; row = λ nz. let live = subst (λ (rs : Steps). is_in a.actor.txn.0 (tally rs).live ≡ true) (sym same) (k.kept.chain.running.acting nz) in (live_row {a = m} a.actor.txn.0 h (h.rest quiet).system live, live) }
-
--- COUNTS of a call that fails, and of a break that is counted behind it
-pub counts_report : {T S : Type 0} (recovers : Recovering) (a b : Over) (e e1 : EngineSeen) (k k1 : ℕ) (f g : SpaceFault) → e ≡ a.engine → k ≡ a.breaks
-    → b.engine ≡ e1 → ActsCounts {T = T} e e1 k k1 (Err f) → k1 ≤ b.breaks → HasRisen k1 b.breaks
-    → Counts {T = S} IsDiskFault (shown_of recovers a) (shown_of recovers b) (Err g)
-counts_report {T} {S} recovers a b e e1 k k1 f g is same at c up risen = record {
-  told = λ w. subst (λ (y : EngineSeen). y.Told) is (c.told (subst (λ (y : EngineSeen). y.Told) at w));
-  tells = tt;
-  tail = let x = c.tail in let p : e.tail ≡ a.engine.tail = ap (λ (y : EngineSeen). y.tail) is in let q : b.engine.tail ≡ e1.tail = ap (λ (y : EngineSeen). y.tail) at in omega (arith, x, p, q);
-  later =
-      let l = c.later in
-      let p : e.faults ≡ a.engine.faults = ap (λ (y : EngineSeen). y.faults) is in
-      let q : b.engine.faults ≡ e1.faults = ap (λ (y : EngineSeen). y.faults) at in
-      omega (arith, l, up, p, q, same);
-  quiet = tt;
-  failed = λ d few.
-      let l = c.later in
-      let p : e.faults ≡ a.engine.faults = ap (λ (y : EngineSeen). y.faults) is in
-      let q : b.engine.faults ≡ e1.faults = ap (λ (y : EngineSeen). y.faults) at in
-      let r : k1 < b.breaks = risen (omega (arith, few)) in
-      omega (arith, l, p, q, r, same);
-}
 
 -- THE NOTE TO WHICH AN UNDO COMES
 pub next_is : (rs : Steps) (txn : ℕ) (r : Option ℕ) → Formed rs → r ≡ option_map (λ n. n.lsn) (next_note txn txn rs) → IsNextUndo txn (tally rs).notes r

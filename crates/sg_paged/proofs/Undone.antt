@@ -12,7 +12,6 @@ use Rattle.sg_actions.specs.Engine.{EngineSeen, Moments, led}
 use Rattle.sg_actions.specs.Later as later
 use Rattle.sg_actions.specs.Offed.{kept_in}
 use Rattle.sg_actions.specs.PuttingBack.{MayUndo, UndoBegun}
-use Rattle.sg_actions.specs.Rows.{HasRow}
 use Rattle.sg_actions.specs.Steps.{Step, Steps, repeated}
 use Rattle.sg_actions.specs.View.{IsKept, HasFreedNone, Since}
 use Rattle.sg_actions.specs.declared.rows.Row.{Row}
@@ -20,7 +19,7 @@ use Rattle.sg_actions.proofs.Given.{next_first}
 use Rattle.sg_reader.specs.Reader.{limits}
 use Rattle.sg_reader.proofs.Decide.{reader}
 use Rattle.sg_store.specs.Engine as store
-use Rattle.sg_store.specs.Engine.{Sizes, Action, Changes, Changed, action_of, is_going, goes_behind}
+use Rattle.sg_store.specs.Engine.{Sizes, Action, Changes, Changed, action_of}
 use Rattle.sg_ground.specs.Recovers.{Recovering}
 use Rattle.sg_ground.specs.Ground.{PutsBack, found_of}
 use Rattle.sg_objects.specs.Notes.{note_said}
@@ -32,12 +31,6 @@ use Rattle.sg_shown.proofs.History.{own, made_is, moments_are, changes_are, befo
 use Rattle.sg_shown.proofs.Holding.{Facts, taken_same, counted_same}
 use Rattle.sg_paged.proofs.Behind.{room_same}
 use Rattle.sg_paged.proofs.Laid.{puts_back, put_pages}
-
--- changes are of no begin and no end
-pub going_changes : (t : Table) (kept : Kept) (begin first : State) (txn u : ℕ) (made log : Steps) → later.AreChanges t kept begin first txn made log
-    → is_going u (made ++ log) ≡ is_going u log
-going_changes t kept begin first txn u [] log h = refl
-going_changes t kept begin first txn u (r ∷ made) log h = ap (λ (x : Step). goes_behind u x (is_going u (made ++ log))) h.0.2 ∙ going_changes t kept begin first txn u made log h.3
 
 -- what was taken at the begin of an action
 abbrev taken_by : Sizes → Kept → State → Type 0
@@ -51,6 +44,7 @@ pub undoes_means : (recovers : Recovering) (m b : Over) (t : Table) (z : Sizes) 
     → (b.engine.Told → UndoBegun (map_bands_of (length m.maps.pages) (length m.maps.bands)) t (led from m.engine) (led from b.engine) m.rows b.actor txn stop note next) → Means b t z from
 undoes_means recovers m b t z from txn stop note next h quiet l p u r begun since back may did = record {
   since = since;
+  size = h.size;
   pages = ap (λ (x : Maps). length x.pages) p ∙ h.pages;
   bands = ap (λ (x : Maps). length x.bands) p ∙ h.bands;
   limits = ap (λ (f : (pages bands : ℕ) → State → ℕ → ℕ). f z.pages z.bands) l ∙ h.limits;
@@ -66,7 +60,6 @@ undoes_means recovers m b t z from txn stop note next h quiet l p u r begun sinc
         kept = subst (λ (f : (pages bands : ℕ) → State → ℕ → ℕ). IsKept t (f z.pages z.bands) (led from b.engine) b.maps b.rows b.actor) (sym l) (subst (λ (x : Maps). IsKept t (m.limits z.pages z.bands) (led from b.engine) x b.rows b.actor) (sym p) g.kept);
         rest = λ f. absurd (let x : true ≡ false = sym begun ∙ f in cc);
         fresh = λ e. subst HasFreedNone (sym u) (k.rest quiet).freed;
-        rows = λ v e. subst (λ (xs : List Row). HasRow xs v) (sym r) (k.rows v (sym (going_changes t (kept_in (m.limits z.pages z.bands) t (led from m.engine) m.maps) (repeated t from m.engine.steps) from txn v w.made m.engine.steps w.are) ∙ (sym (ap (λ (rs : Steps). is_going v rs) g.steps) ∙ e)));
         begin = subst (λ (x : Maps). taken_by z (kept_in (b.limits z.pages z.bands) t (led from b.engine) x) (begin_before b t from)) (sym p)
             (subst (λ (x : State). taken_by z (kept_in (m.limits z.pages z.bands) t (led from b.engine) m.maps) x) (sym g.begin)
             (subst (λ (q : Kept). taken_by z q (begin_before m t from)) (sym g.same) k.begin));
@@ -96,7 +89,7 @@ undo_changes recovers a m b t z from txn act e h quiet told w is =
         are = subst (λ (x : Action (basis recovers z)). store.AreChanges t (basis recovers z) from x w.made a.engine.steps) (sym at)
             (subst (λ (y : EngineSeen). store.AreChanges t (basis recovers z) from begins w.made y.steps) e (changes_are recovers t z (kept_before m t z from) from begins slots taken w.made m.engine.steps w.are));
         formed = subst (λ (y : EngineSeen). Rattle.sg_recovery.specs.Formed.IsLog y.base (w.made ++ y.steps)) e w.formed;
-        moments = moments_are recovers t z v b.engine.disk (w.made ++ a.engine.steps) (subst (λ (y : EngineSeen). Moments (recovers t) t (led from y) (led from b.engine) (w.made ++ y.steps)) e w.moments);
+        moments = moments_are recovers t z v b.engine.disk (w.made ++ a.engine.steps) h.size (subst (λ (y : EngineSeen). Moments (recovers t) t (led from y) (led from b.engine) (w.made ++ y.steps)) e w.moments);
       },
       refl,
     )

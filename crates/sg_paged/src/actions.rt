@@ -12,6 +12,8 @@ use sg_space::{SpaceFault, UndoNote};
 /// What is changed from now on is an action of this transaction, which is live, or of the system.
 pub fn act<E: Engine>(acts: &mut Acts<E>, txn: TxnId)
     requires can { Asked (shown acts.old) (MayAct txn.0) }
+    ensures disk { (shown acts.new).disk ≡ (shown acts.old).disk }
+    ensures gate { (shown acts.new).gate ≡ (shown acts.old).gate }
     ensures tail { (shown acts.new).tail ≡ (shown acts.old).tail }
     ensures quiet { (shown acts.new).faults ≡ (shown acts.old).faults }
     ensures told { (shown acts.new).Told → (shown acts.old).Told }

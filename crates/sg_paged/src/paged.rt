@@ -1,8 +1,9 @@
 // The engine of a store.
-ghost use Rattle.std.specs.Prelude.{◌≡◌};
+ghost use Rattle.std.specs.Prelude.{◌≡◌, ◌≤◌, ◌+◌};
 
 use crate::{actions, homes, records, resting, undoing};
 use sg_actions::{Acts, Engine};
+use sg_alloc::Maps;
 use sg_base::{Lsn, Name, TxnId};
 use sg_bucket::Bytes;
 use sg_model::{Op, Reason, Reply, Touches};
@@ -13,7 +14,11 @@ use std::alloc::Global;
 
 /// Transactions and their actions over a page engine, as the engine of a store.
 pub struct Paged<E: Engine> {
-    acts: Acts<E>,
+    pub(crate) acts: Acts<E>,
+    // what the walk of an opening sets, where it hasn't gone yet
+    pub(crate) room: Option<Maps>,
+    // what waits at the log's end to be durable is a frame at most, with its head
+    ghost waits: { (E.view acts.engine).tail ≤ (E.view acts.engine).gate + 65541 },
 }
 
 impl<E: Engine> Paged<E> {
@@ -21,14 +26,15 @@ impl<E: Engine> Paged<E> {
     pub fn new(acts: Acts<E>) -> Paged<E>
         ensures { result.acts ≡ acts }
     {
-        Paged { acts }
+        Paged { acts, room: None }
     }
 
     /// The space.
     pub fn into_acts(self) -> Acts<E>
         ensures { result ≡ self.acts }
     {
-        let Paged { acts } = self;
+        let Paged { acts, room } = self;
+        drop(room);
         acts
     }
 }
@@ -42,7 +48,9 @@ impl<E: Engine> sg_store::Engine for Paged<E> {
 
     ghost waiting = { λ s. E.waiting s.acts.engine };
 
-    ghost opened = { λ s. opened s.acts };
+    ghost opened = { λ s. opened s.acts s.room };
+
+    ghost waits = { λ s. s.waits };
 
     fn tail(&self) -> Lsn {
         self.acts.tail()

@@ -1,7 +1,7 @@
 // The records of a transaction that are outside of its actions.
 ghost use Rattle.std.specs.Prelude.{◌≡◌, ◌≤◌, ◌<◌, ◌+◌, ℕ, IfOk, IfErr, OnOk};
-ghost use Rattle.sg_recovery.specs.Log.Record.{Begin, Commit, End};
-ghost use Rattle.sg_store.specs.Engine.{Keeps, AsMeant, Asked, IsEngine, IsIdle, HasPlace, IsAt, MayEnd, Appends, Appended, Counts, IsDiskFault, IsNearEnd};
+ghost use Rattle.sg_recovery.specs.Log.Record.{Begin, Commit};
+ghost use Rattle.sg_store.specs.Engine.{Keeps, AsMeant, Asked, IsEngine, IsIdle, HasPlace, IsAt, MayEnd, Appends, Appended, EndsOne, Counts, IsDiskFault, IsNearEnd};
 ghost use Rattle.sg_shown.specs.Shown.{shown};
 
 use crate::resting::quiet;
@@ -47,7 +47,8 @@ pub fn commit<E: Engine>(acts: &mut Acts<E>, txn: TxnId) -> Result<(), SpaceFaul
     acts.commit(txn)
 }
 
-/// A transaction has ended that goes on, or has committed. It is neither live nor a loser any more.
+/// A transaction has ended that goes on, or has committed. It is neither live nor a loser any more. Of one
+/// without a row, which had committed when an opening found it, nothing is appended.
 pub fn end<E: Engine>(acts: &mut Acts<E>, txn: TxnId) -> Result<(), SpaceFault>
     requires can { Asked (shown acts.old) (MayEnd txn.0) }
     ensures counts { Counts IsDiskFault (shown acts.old) (shown acts.new) result }
@@ -55,10 +56,11 @@ pub fn end<E: Engine>(acts: &mut Acts<E>, txn: TxnId) -> Result<(), SpaceFault>
     ensures means { Keeps (shown acts.old) (shown acts.new) }
     ensures log_end { IfErr result (IsNearEnd (shown acts.old).tail) }
     ensures ends { AsMeant (shown acts.old) (shown acts.new) (λ t g v w. IsEngine t g v
-        → IsIdle v → (lsn : ℕ) × (previous : ℕ)
-        × Appends t g v w (record { lsn = lsn; is = End txn.0 previous })
-        × OnOk result (Appended t g v w (record { lsn = lsn; is = End txn.0 previous }))) }
+        → IsIdle v → EndsOne t g txn.0 v w result) }
 {
+    if !acts.has_row(txn) {
+        return Ok(());
+    }
     quiet(acts);
     acts.end(txn)
 }

@@ -5,6 +5,7 @@ ghost use Rattle.sg_ops.specs.Table.{Table};
 ghost use Rattle.sg_recovery.specs.Log.{tally};
 ghost use Rattle.sg_action.specs.States.{State};
 ghost use Rattle.sg_actions.specs.Calls.{IsActable};
+ghost use Rattle.sg_actions.specs.Rows.{rows_after};
 ghost use Rattle.sg_store.specs.Engine.{Keeps};
 ghost use Rattle.sg_shown.specs.Room.{SameRoom};
 ghost use Rattle.sg_shown.specs.Shown.{acting, over, shown};
@@ -19,6 +20,7 @@ pub fn quiet<E: Engine>(acts: &mut Acts<E>)
     ensures engine { acts.new.engine ≡ acts.old.engine }
     ensures begun { acts.new.begun ≡ false }
     ensures breaks { acts.new.breaks ≡ acts.old.breaks }
+    ensures rows { acts.new.rows.items ≡ rows_after acts.old.rows.items acts.old.actor.txn acts.old.actor.last }
     ensures room { SameRoom (over acts.old) (over acts.new) }
     ensures means { Keeps (shown acts.old) (shown acts.new) }
 {
@@ -42,8 +44,11 @@ pub fn again<E: Engine>(acts: &mut Acts<E>, who: Option<TxnId>)
     acts.act(txn);
 }
 
-/// Reports that what was read can't be: a break is counted.
+/// Reports that what was read can't be: a break is counted. One that tells is never asked.
 pub fn broken<E: Engine>(acts: &mut Acts<E>) -> SpaceFault
+    requires untold { (shown acts.old).Told → ⊥ }
+    ensures disk { (shown acts.new).disk ≡ (shown acts.old).disk }
+    ensures gate { (shown acts.new).gate ≡ (shown acts.old).gate }
     ensures answer { result ≡ SpaceFault.Disk }
     ensures tail { (shown acts.new).tail ≡ (shown acts.old).tail }
     ensures later { (shown acts.old).faults ≤ (shown acts.new).faults }

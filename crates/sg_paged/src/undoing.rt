@@ -28,7 +28,7 @@ pub fn next_undo<E: Engine>(acts: &mut Acts<E>, txn: TxnId) -> Result<Option<Lsn
             again(acts, who);
             Ok(found)
         }
-        Err(_) => Err(acts.report()),
+        Err(fault) => Err(fault),
     }
 }
 

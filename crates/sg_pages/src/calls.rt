@@ -6,36 +6,41 @@ ghost use Rattle.sg_action.specs.States.{State};
 ghost use Rattle.sg_record.specs.Records.Says.{Checkpoint};
 ghost use Rattle.sg_record.specs.Shown.{by};
 ghost use Rattle.sg_actions.specs.Engine.{EngineGrows, EngineLooks, Keeps, led};
-ghost use Rattle.sg_phys.specs.Phys.{StandsForSome};
+ghost use Rattle.sg_engine.specs.Calls.{WaitsFrame};
+ghost use Rattle.sg_phys.specs.Phys.{IsGiven, StandsForSome};
 ghost use Rattle.sg_pages.specs.Parts.{seen, stands};
 ghost use Rattle.sg_phys_laws.specs.Recovers.{RecoversBy};
 
 use crate::Phys;
 use sg_base::Lsn;
-use sg_disk::Disk;
+use sg_disk::Presumed;
 use sg_engine::Engine;
-use sg_phys::space_fault;
+use sg_phys::{is_log_end, space_fault};
 use sg_phys_laws::log_plain;
 use sg_record::Rec;
 use sg_space::SpaceFault;
 use std::alloc::Global;
 use std::snapshot::Snapshot;
 
-impl<D: Disk> Phys<D> {
+impl<D: Presumed> Phys<D> {
     /// Over an engine, with its disk as it was when the store was opened. It takes no memory.
     pub fn new(alloc: Global, engine: Engine<D>, found: Snapshot<D>) -> Phys<D>
-        requires some { StandsForSome D.told false (D.view found.value) (D.view engine.disk) engine.log engine.pool }
+        requires waits { WaitsFrame engine.log }
+        requires some { StandsForSome (IsGiven D.told D.presumed) false (D.view found.value) (D.view engine.disk) engine.log engine.pool }
         ensures engine { result.engine ≡ engine }
         ensures found { result.found ≡ found }
-        ensures whole { result.failed ≡ false }
+        ensures whole { (result.failed ≡ false) × (result.full ≡ false) }
         ensures fresh { (result.breaks ≡ 0) × (result.records ≡ 0) }
     {
         let end = engine.tail().max(1);
+        let gate = engine.durable();
         Phys {
             engine,
             alloc,
             failed: false,
+            full: false,
             end,
+            gate,
             tried: 0,
             breaks: 0,
             records: 0,
@@ -51,7 +56,9 @@ impl<D: Disk> Phys<D> {
             engine,
             alloc: _,
             failed: _,
+            full: _,
             end: _,
+            gate: _,
             tried: _,
             breaks: _,
             records: _,
@@ -68,9 +75,9 @@ impl<D: Disk> Phys<D> {
     pub(crate) fn log_checkpoint(&mut self, live: &[u8]) -> Result<Lsn, SpaceFault>
         requires most { length live.now ≤ 1024 }
         requires rows { length live.now ≡ 16 * (length live.now / 16) }
-        ensures grows { EngineGrows (seen D.told D.view self.old) (seen D.told D.view self.new) (by 0 0 (Checkpoint 0 live.now)) result }
-        ensures means { Keeps (stands D.told D.view self.old) (stands D.told D.view self.new) }
-        ensures looks { (t : Table) (from : State) → stands D.told D.view self.old t from → EngineLooks (RecoversBy t) t (led from (seen D.told D.view self.old)) (led from (seen D.told D.view self.new)) result }
+        ensures grows { EngineGrows (seen D.told D.presumed D.view self.old) (seen D.told D.presumed D.view self.new) (by 0 0 (Checkpoint 0 live.now)) result }
+        ensures means { Keeps (stands D.told D.presumed D.view self.old) (stands D.told D.presumed D.view self.new) }
+        ensures looks { (t : Table) (from : State) → stands D.told D.presumed D.view self.old t from → EngineLooks (RecoversBy t) t (led from (seen D.told D.presumed D.view self.old)) (led from (seen D.told D.presumed D.view self.new)) result }
     {
         if self.failed {
             self.breaks = self.breaks.saturating_add(1);
@@ -86,11 +93,13 @@ impl<D: Disk> Phys<D> {
         match log_plain(&mut self.engine, &record, &mut self.tried) {
             Ok(lsn) => {
                 self.end = self.engine.tail().max(1);
+                self.gate = self.engine.durable();
                 self.records += 1;
                 Ok(lsn)
             }
             Err(fault) => {
                 self.failed = true;
+                self.full = is_log_end(fault);
                 self.breaks = self.breaks.saturating_add(1);
                 Err(space_fault(fault))
             }

@@ -4,16 +4,20 @@ ghost use Rattle.std.specs.Prelude.{◌≡◌, length};
 use crate::Phys;
 use sg_actions::Engine;
 use sg_base::{BandNo, Lsn, PageNo, SlotView, view};
-use sg_disk::Disk;
+use sg_disk::Presumed;
 use sg_ops::Ops;
-use sg_phys::{is_checkpoint, space_fault};
+use sg_phys::{is_no_step, is_log_end, space_fault};
 use sg_phys_laws::{log_record, log_without};
 use sg_record::Rec;
 use sg_space::SpaceFault;
 
-impl<D: Disk> Engine for Phys<D> {
+// What a band has that there isn't.
+static NONE: [u8; 32_768] = [0; 32_768];
+
+impl<D: Presumed> Engine for Phys<D> {
     ghost use Rattle.sg_pool.specs.Pooled.{IsUnwritten};
-    ghost use Rattle.sg_phys.specs.Phys.{IsLoaded, IsBandLoaded};
+    ghost use Rattle.sg_phys.specs.Phys.{IsGiven, IsLoaded, IsBandLoaded};
+    ghost use Rattle.sg_phys.proofs.Causes.{told_on};
     ghost use Rattle.sg_phys.proofs.Told.{told_now, told_front, told_images, says_fit, says_whole};
     ghost use Rattle.sg_phys_laws.specs.Recovers.{RecoversBy};
     ghost use Rattle.sg_phys_laws.specs.Waiting.{waiting_of};
@@ -25,9 +29,9 @@ impl<D: Disk> Engine for Phys<D> {
 
     ghost recovers = { RecoversBy };
 
-    ghost view = { λ s. seen D.told D.view s };
+    ghost view = { λ s. seen D.told D.presumed D.view s };
 
-    ghost means = { λ s. stands D.told D.view s };
+    ghost means = { λ s. stands D.told D.presumed D.view s };
 
     ghost loaded = { λ s p. IsLoaded (D.view s.engine.disk) s.engine.pool p };
 
@@ -41,19 +45,29 @@ impl<D: Disk> Engine for Phys<D> {
 
     ghost told_whole = { λ s told. told.whole };
 
-    ghost durable_first = { λ s told. told_front D.told (parts D.view s) };
+    ghost full_failed = { λ s. s.ended };
+
+    ghost unfailed = { λ s. s.unbroken };
+
+    ghost waits = { λ s. s.waits };
+
+    ghost changes_on = { λ s told. told_on (IsGiven D.told D.presumed) (parts D.view s) s.some told };
+
+    ghost durable_first = { λ s told. told_front (IsGiven D.told D.presumed) (parts D.view s) };
 
     ghost some = { λ s. s.some };
 
     ghost lawful = { λ s t from m. m.lawful };
 
-    ghost now_is = { λ s t from m told. told_now D.told (parts D.view s) t from m told };
+    ghost now_is = { λ s t from m told. told_now (IsGiven D.told D.presumed) (parts D.view s) t from m told };
 
     ghost pages_fit = { λ s t from m told. says_fit (D.view s.engine.disk) s.engine.pool };
 
+    ghost few_bands = { λ s told. s.engine.pool.shelf.shelf.most_bands };
+
     ghost bands_whole = { λ s t from m told. says_whole (D.view s.engine.disk) s.engine.pool };
 
-    ghost images = { λ s t from m told. told_images D.told (parts D.view s) t from m told };
+    ghost images = { λ s t from m told. told_images (IsGiven D.told D.presumed) (parts D.view s) t from m told };
 
     fn tail(&self) -> Lsn {
         self.end
@@ -61,6 +75,14 @@ impl<D: Disk> Engine for Phys<D> {
 
     fn start(&self) -> Lsn {
         self.engine.base()
+    }
+
+    fn is_full(&self) -> bool {
+        self.full
+    }
+
+    fn has_failed(&self) -> bool {
+        self.failed
     }
 
     fn next(&self, r: &Rec<'_>) -> Lsn {
@@ -73,7 +95,7 @@ impl<D: Disk> Engine for Phys<D> {
             return Err(SpaceFault::Disk);
         }
         self.tried = self.engine.place(r);
-        if is_checkpoint(r) {
+        if is_no_step(r) {
             self.failed = true;
             self.breaks = self.breaks.saturating_add(1);
             return Err(SpaceFault::Disk);
@@ -81,11 +103,13 @@ impl<D: Disk> Engine for Phys<D> {
         match log_without(&mut self.engine, self.alloc, r, &mut self.tried) {
             Ok(lsn) => {
                 self.end = self.engine.tail().max(1);
+                self.gate = self.engine.durable();
                 self.records += 1;
                 Ok(lsn)
             }
             Err(fault) => {
                 self.failed = true;
+                self.full = is_log_end(fault);
                 self.breaks = self.breaks.saturating_add(1);
                 Err(space_fault(fault))
             }
@@ -98,7 +122,7 @@ impl<D: Disk> Engine for Phys<D> {
             return Err(SpaceFault::Disk);
         }
         self.tried = self.engine.place(r);
-        if is_checkpoint(r) {
+        if is_no_step(r) {
             self.failed = true;
             self.breaks = self.breaks.saturating_add(1);
             return Err(SpaceFault::Disk);
@@ -106,11 +130,13 @@ impl<D: Disk> Engine for Phys<D> {
         match log_record(&mut self.engine, ops, r, &mut self.tried) {
             Ok(lsn) => {
                 self.end = self.engine.tail().max(1);
+                self.gate = self.engine.durable();
                 self.records += 1;
                 Ok(lsn)
             }
             Err(fault) => {
                 self.failed = true;
+                self.full = is_log_end(fault);
                 self.breaks = self.breaks.saturating_add(1);
                 Err(space_fault(fault))
             }
@@ -125,6 +151,7 @@ impl<D: Disk> Engine for Phys<D> {
         match self.engine.force() {
             Ok(()) => {
                 self.end = self.engine.tail().max(1);
+                self.gate = self.engine.durable();
                 Ok(())
             }
             Err(_) => {
@@ -143,6 +170,7 @@ impl<D: Disk> Engine for Phys<D> {
         match self.engine.flush() {
             Ok(()) => {
                 self.end = self.engine.tail().max(1);
+                self.gate = self.engine.durable();
                 Ok(())
             }
             Err(_) => {
@@ -159,6 +187,27 @@ impl<D: Disk> Engine for Phys<D> {
 
     fn stop(&mut self) {
         self.failed = true;
+    }
+
+    fn look(&mut self, p: PageNo) -> Result<bool, SpaceFault> {
+        if self.failed {
+            self.breaks = self.breaks.saturating_add(1);
+            return Err(SpaceFault::Disk);
+        }
+        if p.0 >= self.engine.pages() {
+            return Ok(false);
+        }
+        match self.engine.load_page(p) {
+            Ok(()) => {}
+            Err(_) => {
+                self.failed = true;
+                self.breaks = self.breaks.saturating_add(1);
+                return Err(SpaceFault::Disk);
+            }
+        }
+        self.end = self.engine.tail().max(1);
+        self.gate = self.engine.durable();
+        Ok(view(self.engine.page(p)).is_some())
     }
 
     fn load(&mut self, p: PageNo) -> Result<(), SpaceFault> {
@@ -185,6 +234,7 @@ impl<D: Disk> Engine for Phys<D> {
             return Err(SpaceFault::Disk);
         }
         self.end = self.engine.tail().max(1);
+        self.gate = self.engine.durable();
         Ok(())
     }
 
@@ -198,13 +248,12 @@ impl<D: Disk> Engine for Phys<D> {
             return Err(SpaceFault::Disk);
         }
         if b.0 >= self.engine.bands() {
-            self.failed = true;
-            self.breaks = self.breaks.saturating_add(1);
-            return Err(SpaceFault::Disk);
+            return Ok(());
         }
         match self.engine.load_band(b) {
             Ok(()) => {
                 self.end = self.engine.tail().max(1);
+                self.gate = self.engine.durable();
                 Ok(())
             }
             Err(_) => {
@@ -216,6 +265,9 @@ impl<D: Disk> Engine for Phys<D> {
     }
 
     fn band(&self, b: BandNo) -> &[u8] {
+        if b.0 >= self.engine.bands() {
+            return &NONE;
+        }
         self.engine.band(b)
     }
 
@@ -227,6 +279,7 @@ impl<D: Disk> Engine for Phys<D> {
         match self.engine.read(at, into) {
             Ok(size) => {
                 self.end = self.engine.tail().max(1);
+                self.gate = self.engine.durable();
                 Ok(size)
             }
             Err(_) => {

@@ -1,25 +1,30 @@
 // The page engine under the actions.
-ghost use Rattle.std.specs.Prelude.{◌≡◌, ◌≤◌, false, max};
+ghost use Rattle.std.specs.Prelude.{◌≡◌, ◌≤◌, ◌+◌, true, false, max};
 ghost use Rattle.sg_log.specs.Held.{tail_of};
-ghost use Rattle.sg_phys.specs.Phys.{StandsForSome};
+ghost use Rattle.sg_phys.specs.Phys.{IsGiven, StandsForSome};
 
 use sg_base::Lsn;
-use sg_disk::Disk;
+use sg_disk::Presumed;
 use sg_engine::Engine;
 use std::alloc::Global;
 use std::snapshot::Snapshot;
 
 /// A log of page records, and the pages and bands that its records make, over a disk.
 ///
-/// A call that fails is its last one of the disk: each later one fails too. No type names the
+/// What it holds is known where the disk tells and what is presumed of it holds; it is safe, and accounts for
+/// its faults, whether or not it does. A call that fails is its last one of the disk: each later one fails too. No type names the
 /// operations: what its records and contents are, by which operations, the clauses of its calls say. It
 /// isn't `Drop`; `into_disk` ends it.
-pub struct Phys<D: Disk> {
+pub struct Phys<D: Presumed> {
     pub(crate) engine: Engine<D>,
     pub(crate) alloc: Global,
     pub(crate) failed: bool,
+    // The first call that failed was refused for the log's end.
+    pub(crate) full: bool,
     // The log's tail before the call that failed, and 1 where that is 0: no record has the number 0.
     pub(crate) end: Lsn,
+    // Where what is durable of the log ended before the call that failed.
+    pub(crate) gate: Lsn,
     // The number of the record that was appended last, or was to be.
     pub(crate) tried: Lsn,
     // How often a call failed.
@@ -29,7 +34,12 @@ pub struct Phys<D: Disk> {
     // The disk as it was when the store was opened. It has no bytes.
     pub(crate) found: Snapshot<D>,
     ghost ends: { failed ≡ false → end ≡ max (tail_of engine.log) 1 },
+    ghost gates: { failed ≡ false → gate ≡ engine.log.gate },
+    // What waits to be durable is a frame at most.
+    ghost waits: { end ≤ gate + 65541 },
+    ghost ended: { full ≡ true → failed ≡ true },
+    ghost unbroken: { failed ≡ false → breaks ≡ 0 },
     // Each record has a byte.
     ghost counted: { records ≤ end },
-    ghost some: { StandsForSome D.told failed (D.view found.value) (D.view engine.disk) engine.log engine.pool },
+    ghost some: { StandsForSome (IsGiven D.told D.presumed) failed (D.view found.value) (D.view engine.disk) engine.log engine.pool },
 }

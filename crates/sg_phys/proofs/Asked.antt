@@ -9,7 +9,7 @@ use Rattle.sg_redo.specs.Places.{changed_by}
 use Rattle.sg_recovery.specs.Log.Record.{Change as StepChange, PhysComp as StepPhysComp}
 use Rattle.sg_action.specs.States.{State}
 use Rattle.sg_engine.specs.Engine.{Origin}
-use Rattle.sg_actions.specs.Engine.{EngineSeen, CanLog, IfStep, IsLoggable}
+use Rattle.sg_actions.specs.Engine.{EngineSeen, CanLog, IsStepThat, IsLoggable}
 use Rattle.sg_actions.specs.Steps.{step_by}
 use Rattle.sg_phys_laws.specs.Logged.{IsAsked, IsFor}
 use Rattle.sg_phys_laws.specs.Poised.{IsPoised}
@@ -33,7 +33,7 @@ module _ (own given : Table) (Means : Type 0) (e : EngineSeen) (same : Means →
   off u p w (SegWrite c) l = tt
   off u p w (SegOp c) l = λ other. same (l.means other)
 
-  by_says : (u p : ℕ) (says : Says) → IfStep (step_by u p says) (IsLoggable own Means e) → IsFor own given e.now (changed_by says)
+  by_says : (u p : ℕ) (says : Says) → IsStepThat (step_by u p says) (IsLoggable own Means e) → IsFor own given e.now (changed_by says)
   by_says u p Begin l = tt
   by_says u p (Changed c) l = changed u p c l
   by_says u p (TopEnd w n) l = tt
@@ -47,9 +47,9 @@ module _ (own given : Table) (Means : Type 0) (e : EngineSeen) (same : Means →
   by_says u p (Line words) l = tt
 
 -- WHAT IS ASKED OF WHAT IT SHOWS is asked of the bytes
-pub asked : (told : Bool) (p : Parts) (t given : Table) (from : State) (Means : Type 0) (r : Record) → p.failed ≡ false → (Means → given ≡ t) → CanLog t Means (seen_by told p) r → StandsBy told p t from
-    → IsTrue told → IsPoised t from (origin_of t (seen_of p.found)) p.disk p.log p.pool → IsAsked t given (origin_of t (seen_of p.found)) p.disk p.log (durable_in p.disk p.log) (waiting_in p.log) p.pool r
-asked told p t given from Means r whole same can stands tells poised =
+pub asked : (Given : Type 0) (p : Parts) (t given : Table) (from : State) (Means : Type 0) (r : Record) → p.failed ≡ false → (Means → given ≡ t) → CanLog t Means (seen_by Given p) r → StandsBy Given p t from
+    → Given → IsPoised t from (origin_of t (seen_of p.found)) p.disk p.log p.pool → IsAsked t given (origin_of t (seen_of p.found)) p.disk p.log (durable_in p.disk p.log) (waiting_in p.log) p.pool r
+asked Given p t given from Means r whole same can stands tells poised =
     let o : Origin = origin_of t (seen_of p.found) in
     record {
       phys = poised.now;
@@ -57,5 +57,5 @@ asked told p t given from Means r whole same can stands tells poised =
       lawful = stands.lawful;
       fits = for_cut t given o.super (state_of (homes_of o (all_in_log p.disk p.log))) (changed_by r.says)
           (subst (λ (x : State). IsFor t given x (changed_by r.says)) (pool_is o p.disk p.log p.pool (durable_in p.disk p.log) (waiting_in p.log) poised.now.engine)
-          (by_says t given Means (seen_by told p) same r.transaction r.previous r.says (can (record { tells = tells; whole = whole }))));
+          (by_says t given Means (seen_by Given p) same r.transaction r.previous r.says (can (record { tells = tells; whole = whole }))));
     }

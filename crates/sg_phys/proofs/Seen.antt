@@ -1,13 +1,17 @@
 -- What a call says of what the engine shows.
-use Rattle.std.proofs.Common.{◌≡◌, ◌<◌, ◌≤◌, ◌+◌, ℕ, Bool, true, false, IsTrue, List, [], ◌∷◌, ◌++◌, length, Option, None, refl, sym, ap, ◌∙◌, subst, arith}
+use Rattle.std.proofs.Common.{◌≡◌, ◌⊎◌, inl, inr, ⊎_elim, ◌<◌, ◌≤◌, ◌+◌, ℕ, Bool, true, false, IsTrue, List, [], ◌∷◌, ◌++◌, length, Option, None, refl, sym, ap, ◌∙◌, subst, arith}
 use Rattle.std.specs.Prelude.{Result, Ok, Err}
 use mathlib.Core.Logic.{∥∥₁_elim, ∥∥₁_prop}
 use Rattle.sg_base.specs.Ends.{HasRisen}
+use Rattle.sg_disk.specs.Accounts.{Accounts}
 use Rattle.sg_disk.specs.Disk.{View, LeavesOnly}
+use Rattle.sg_disk.specs.Heeds.{Heeds}
 use Rattle.sg_disk.proofs.Moments.{weaker}
 use Rattle.sg_log.specs.Frames.{Numbered, LOG_END}
 use Rattle.sg_log.specs.Held.{Tail}
 use Rattle.sg_ops.specs.Table.{Table}
+use Rattle.sg_pool.specs.Pooled.{sizes}
+use Rattle.sg_pool.specs.Units.{Geometry}
 use Rattle.sg_pool.specs.declared.pool.Pool.{Pool}
 use Rattle.sg_record.specs.Records.{Record, Says, spelled}
 use Rattle.sg_record.specs.Records.Says.{Begin, Changed, TopEnd, PhysComp, TopVoid, CompEnd, Save, Commit, End, Checkpoint, Line}
@@ -17,15 +21,17 @@ use Rattle.sg_space.specs.declared.space.SpaceFault.TheVariants as space
 use Rattle.sg_action.specs.States.{State}
 use Rattle.sg_engine.specs.Effects.{IsBy}
 use Rattle.sg_engine.specs.Engine.{Origin}
+use Rattle.sg_engine.specs.Faults.{is_disk}
 use Rattle.sg_engine.specs.Running.{IsEngine, IsAllowed}
 use Rattle.sg_engine.specs.declared.fault.EngineFault.{EngineFault}
 use Rattle.sg_engine.specs.declared.fault.EngineFault.TheVariants as engine
-use Rattle.sg_actions.specs.Engine.{EngineSeen, EngineCounts, EngineRests, EngineGrows, EngineLooks, Logs, Logged, Moments, IsForced, Keeps, led}
+use Rattle.sg_actions.specs.Engine.{Extent, EngineSeen, EngineCounts, EngineRests, EngineGrows, EngineLooks, Logs, Logged, Moments, IsForced, Keeps, led}
 use Rattle.sg_actions.specs.Handing.{makes_change, HandsOver}
 use Rattle.sg_actions.specs.Images.{Grows, IsImageOf}
 use Rattle.sg_actions.specs.Steps.{Step, Steps, step_of, with_step}
-use Rattle.sg_phys_laws.specs.Faults.{space_fault}
-use Rattle.sg_phys_laws.specs.Logged.{HasLogged, HasRun, HasRested, Stood, StillAllowed, at_number, is_checkpoint}
+use Rattle.sg_phys_laws.specs.Counted.{HasCounted}
+use Rattle.sg_phys_laws.specs.Faults.{space_fault, is_log_end}
+use Rattle.sg_phys_laws.specs.Logged.{HasLogged, HasRun, HasRested, Stood, StillAllowed, at_number, is_no_step}
 use Rattle.sg_phys_laws.specs.Points.{IsMarked}
 use Rattle.sg_phys_laws.specs.Poised.{IsPoised}
 use Rattle.sg_phys_laws.specs.Reading.{durable_in, waiting_in}
@@ -50,6 +56,10 @@ end_by : (x : EngineFault) → space_fault x ≡ space.LogEnd → x ≡ engine.L
 end_by engine.Disk e = absurd cc
 end_by engine.LogEnd e = refl
 
+disk_by : (x : EngineFault) → space_fault x ≡ space.Disk → x ≡ engine.Disk
+disk_by engine.Disk e = refl
+disk_by engine.LogEnd e = absurd cc
+
 -- a record that makes no change
 pub no_change : (s : Says) → makes_change s ≡ false → changed_by s ≡ None
 no_change Begin e = refl
@@ -68,29 +78,58 @@ no_change (Line words) e = refl
 pub hands_none : {T E : Type 0} (size handed waits waits' : ℕ) (e : E) → HandsOver {T = T} size handed waits handed waits' (Err e)
 hands_none size handed waits waits' e = record { most = omega arith; all = tt }
 
+-- a call that didn't fail wasn't refused for the log's end
+pub not_full : (full failed : Bool) → (full ≡ true → failed ≡ true) → failed ≡ false → full ≡ false
+not_full true failed ended whole = not_both failed (ended refl) whole
+not_full false failed ended whole = refl
+
+-- what a fault counts
+heeds_fault : (S : Type 0) (v w : View) (x : EngineFault) → Heeds {T = S} is_disk (Err x) v w → (space_fault x ≡ space.Disk → ⊥) → w.faults ≡ v.faults
+heeds_fault S v w engine.Disk h not = absurd (not refl)
+heeds_fault S v w engine.LogEnd h not = h
+
 -- WHAT EACH CALL KEEPS, on any engine
-module _ (told : Bool) (p : Parts) (w : View) (log : Tail) (pool : Pool) where
-  counts_ok : {T : Type 0} (x : T) (q : Parts) → q.found ≡ p.found → q.failed ≡ p.failed → q.breaks ≡ p.breaks → p.failed ≡ false → p.end ≤ q.end → EngineCounts (seen_by told p) (seen_by told q) (Ok x)
-  counts_ok x q found failed breaks whole later = record {
-    told = λ s. record { tells = s.tells; whole = whole };
-    tells = λ s. record { tells = s.tells; whole = failed ∙ whole };
-    base = ap (λ (v : View). (seen_by told (record p { found = v })).base) found;
-    later = omega (arith, breaks);
-    quiet = breaks;
+module _ (Given : Type 0) (p : Parts) (w : View) (log : Tail) (pool : Pool) where
+  extent_kept : {S : Type 0} {r : Result S EngineFault} → HasCounted p.disk w p.log log p.pool pool r → (seen_by Given (record p { pool = pool })).extent ≡ (seen_by Given p).extent
+  extent_kept h = ap (λ (g : Geometry). let x : Extent = record { pages = g.pages; bands = g.bands } in x) h.size
+
+  accounts_ok : {S T : Type 0} (x : T) (y : S) (gate : ℕ) → p.gate ≡ p.log.gate → gate ≡ log.gate → HasCounted p.disk w p.log log p.pool pool (Ok y) → Accounts {E = SpaceFault} (λ e. e ≡ space.Disk) (Tells Given p.failed) p.disk w p.gate gate (Ok x)
+  accounts_ok x y gate before after h = record {
+    later = h.later;
+    heeded = h.heeded;
+    caused = tt;
+    handed = h.hands.rising;
+    shown = ⊎_elim (λ full. inl full) (λ by. inr (omega (arith, by, before, after))) h.hands.grown;
+  }
+
+  counts_ok : {S T : Type 0} (x : T) (y : S) (end gate tried records : ℕ) → p.gate ≡ p.log.gate → gate ≡ log.gate → HasCounted p.disk w p.log log p.pool pool (Ok y) → p.failed ≡ false → p.end ≤ end
+      → EngineCounts (seen_by Given p) (seen_by Given (appended p w log pool end gate tried records)) (Ok x)
+  counts_ok x y end gate tried records before after h whole later = record {
+    told = λ s. s;
+    tells = λ s. s;
+    base = refl;
+    extent = extent_kept h;
+    later = omega arith;
+    quiet = refl;
     disk = tt;
+    accounts = accounts_ok x y gate before after h;
     log_end = tt;
     tail = later;
     failed = tt;
     stops = λ is. not_both p.failed is whole;
+    first = λ is. refl;
+    full = refl;
+    for_disk = tt;
+    for_end = tt;
   }
 
-  pub rests_ok : {T : Type 0} (x : T) (end : ℕ) → p.failed ≡ false → end ≡ p.end → EngineRests (seen_by told p) (seen_by told (looked p w log pool end)) (Ok x)
-  rests_ok x end whole same = record { counts = counts_ok x (looked p w log pool end) refl refl refl whole (omega (arith, same)); only_disk = tt; records = refl; tail = same }
+  pub rests_ok : {S T : Type 0} (x : T) (y : S) (end gate : ℕ) → p.gate ≡ p.log.gate → gate ≡ log.gate → HasCounted p.disk w p.log log p.pool pool (Ok y) → p.failed ≡ false → end ≡ p.end → EngineRests (seen_by Given p) (seen_by Given (looked p w log pool end gate)) (Ok x)
+  rests_ok x y end gate before after h whole same = record { counts = counts_ok x y end gate p.tried p.records before after h whole (omega (arith, same)); only_disk = tt; records = refl; tail = same }
 
-  pub grows_ok : (r : Record) (m end lsn n : ℕ) → p.failed ≡ false → m ≡ lsn → p.end ≤ lsn → lsn < end → end ≤ p.end + (5 + length (spelled r)) → n ≡ p.records + 1 → lsn + length (spelled r) ≤ LOG_END
-      → EngineGrows (seen_by told p) (seen_by told (appended p w log pool end lsn n)) r (Ok m)
-  grows_ok r m end lsn n whole number above below grown counted within = record {
-    counts = counts_ok m (appended p w log pool end lsn n) refl refl refl whole (omega (arith, above, below));
+  pub grows_ok : {S : Type 0} (y : S) (r : Record) (m end gate lsn n : ℕ) → p.gate ≡ p.log.gate → gate ≡ log.gate → HasCounted p.disk w p.log log p.pool pool (Ok y) → p.failed ≡ false → m ≡ lsn → p.end ≤ lsn → lsn < end → end ≤ p.end + (5 + length (spelled r)) → n ≡ p.records + 1 → lsn + length (spelled r) ≤ LOG_END
+      → EngineGrows (seen_by Given p) (seen_by Given (appended p w log pool end gate lsn n)) r (Ok m)
+  grows_ok y r m end gate lsn n before after h whole number above below grown counted within = record {
+    counts = counts_ok m y end gate lsn n before after h whole (omega (arith, above, below));
     few = omega (arith, counted);
     counted = counted;
     same = tt;
@@ -101,72 +140,111 @@ module _ (told : Bool) (p : Parts) (w : View) (log : Tail) (pool : Pool) where
     past = tt;
   }
 
-  counts_fault : {T : Type 0} (fault : EngineFault) (tried b : ℕ) → p.failed ≡ false → p.breaks ≤ b → HasRisen p.breaks b → (fault ≡ engine.LogEnd → LOG_END < p.end + 131072)
-      → EngineCounts {T = T} (seen_by told p) (seen_by told (broken p w log pool tried b)) (Err (space_fault fault))
-  counts_fault fault tried b whole later risen near = record {
+  counts_fault : {S T : Type 0} (fault : EngineFault) (tried b : ℕ) (f : Bool) → p.failed ≡ false → p.breaks ≤ b → HasRisen p.breaks b → (fault ≡ engine.LogEnd → LOG_END < p.end + 131072) → (space_fault fault ≡ space.Disk → f ≡ p.full) → (space_fault fault ≡ space.LogEnd → f ≡ true)
+      → HasCounted {T = S} p.disk w p.log log p.pool pool (Err fault) → (fault ≡ engine.Disk → Tells Given p.failed → HasRisen p.disk.faults w.faults)
+      → EngineCounts {T = T} (seen_by Given p) (seen_by Given (broken p w log pool tried b f)) (Err (space_fault fault))
+  counts_fault {S} {T} fault tried b f whole later risen near for_disk for_end h caused = record {
     told = λ s. not_true s.whole;
     tells = tt;
     base = refl;
+    extent = extent_kept h;
     later = later;
     quiet = tt;
     disk = λ e. risen;
+    accounts = record { later = h.later; heeded = heeds_fault S p.disk w fault h.heeded; caused = λ e tell. caused (disk_by fault e) tell; handed = h.hands.rising; shown = inr (let up = h.hands.rising in omega (arith, up)) };
     log_end = λ e. near (end_by fault e);
     tail = omega arith;
     failed = refl;
     stops = λ is. not_both p.failed is whole;
+    first = λ is. not_both p.failed is whole;
+    full = tt;
+    for_disk = for_disk;
+    for_end = for_end;
   }
 
   no_end : {P : Type 0} → engine.Disk ≡ engine.LogEnd → P
   no_end e = absurd cc
 
-  pub rests_err : {T : Type 0} (b : ℕ) → p.failed ≡ false → p.breaks ≤ b → HasRisen p.breaks b → EngineRests {T = T} (seen_by told p) (seen_by told (broken p w log pool p.tried b)) (Err space.Disk)
-  rests_err b whole later risen = record { counts = counts_fault engine.Disk p.tried b whole later risen (λ e. no_end e); only_disk = refl; records = refl; tail = refl }
+  no_end_of_space : {P : Type 0} → space.Disk ≡ space.LogEnd → P
+  no_end_of_space e = absurd cc
 
-  pub grows_err : (r : Record) (fault : EngineFault) (said : SpaceFault) (lsn b : ℕ) → said ≡ space_fault fault → p.failed ≡ false → p.breaks ≤ b → HasRisen p.breaks b → (fault ≡ engine.LogEnd → LOG_END < p.end + 131072) → (fault ≡ engine.LogEnd → LOG_END < lsn + length (spelled r))
-      → EngineGrows (seen_by told p) (seen_by told (broken p w log pool lsn b)) r (Err said)
-  grows_err r fault said lsn b is whole later risen near past = subst (λ (e : SpaceFault). EngineGrows (seen_by told p) (seen_by told (broken p w log pool lsn b)) r (Err e)) (sym is)
-      (record { counts = counts_fault fault lsn b whole later risen near; few = omega arith; counted = tt; same = refl; back = refl; grown = omega arith; placed = tt; within = tt; past = λ e. past (end_by fault e) })
+  pub rests_err : {S T : Type 0} (b : ℕ) → p.failed ≡ false → p.breaks ≤ b → HasRisen p.breaks b → HasCounted {T = S} p.disk w p.log log p.pool pool (Err engine.Disk) → (Tells Given p.failed → HasRisen p.disk.faults w.faults)
+      → EngineRests {T = T} (seen_by Given p) (seen_by Given (broken p w log pool p.tried b p.full)) (Err space.Disk)
+  rests_err b whole later risen h caused = record { counts = counts_fault engine.Disk p.tried b p.full whole later risen (λ e. no_end e) (λ e. refl) (λ e. no_end_of_space e) h (λ e. caused); only_disk = refl; records = refl; tail = refl }
+
+  pub grows_err : {S : Type 0} (r : Record) (fault : EngineFault) (said : SpaceFault) (lsn b : ℕ) (f : Bool) → said ≡ space_fault fault → f ≡ is_log_end fault → p.full ≡ false → p.failed ≡ false → p.breaks ≤ b → HasRisen p.breaks b → (fault ≡ engine.LogEnd → LOG_END < p.end + 131072)
+      → (fault ≡ engine.LogEnd → LOG_END < lsn + length (spelled r)) → HasCounted {T = S} p.disk w p.log log p.pool pool (Err fault) → (fault ≡ engine.Disk → Tells Given p.failed → HasRisen p.disk.faults w.faults)
+      → EngineGrows (seen_by Given p) (seen_by Given (broken p w log pool lsn b f)) r (Err said)
+  grows_err r fault said lsn b f is full_is full whole later risen near past h caused = subst (λ (e : SpaceFault). EngineGrows (seen_by Given p) (seen_by Given (broken p w log pool lsn b f)) r (Err e)) (sym is)
+      (record {
+        counts = counts_fault fault lsn b f whole later risen near (λ e. full_is ∙ (ap is_log_end (disk_by fault e) ∙ sym full)) (λ e. full_is ∙ ap is_log_end (end_by fault e)) h caused;
+        few = omega arith;
+        counted = tt;
+        same = refl;
+        back = refl;
+        grown = omega arith;
+        placed = tt;
+        within = tt;
+        past = λ e. past (end_by fault e);
+      })
 
 -- one that makes no call of the disk
-module _ (told : Bool) (p : Parts) (b : ℕ) (is : p.failed ≡ true) (later : p.breaks ≤ b) (risen : HasRisen p.breaks b) where
-  counts_stopped : {T : Type 0} → EngineCounts {T = T} (seen_by told p) (seen_by told (stopped p b)) (Err space.Disk)
-  counts_stopped = record { told = λ s. s; tells = tt; base = refl; later = later; quiet = tt; disk = λ e. risen; log_end = λ e. absurd cc; tail = omega arith; failed = is; stops = λ f. (is, refl) }
+module _ (Given : Type 0) (p : Parts) (b : ℕ) (is : p.failed ≡ true) (later : p.breaks ≤ b) (risen : HasRisen p.breaks b) where
+  counts_stopped : {T : Type 0} → EngineCounts {T = T} (seen_by Given p) (seen_by Given (stopped p b)) (Err space.Disk)
+  counts_stopped = record {
+    told = λ s. s;
+    tells = tt;
+    base = refl;
+    extent = refl;
+    later = later;
+    quiet = tt;
+    disk = λ e. risen;
+    accounts = record { later = omega arith; heeded = λ not. absurd (not refl); caused = λ e tell. not_both p.failed is tell.whole; handed = omega arith; shown = inr (omega arith) };
+    log_end = λ e. absurd cc;
+    tail = omega arith;
+    failed = is;
+    stops = λ f. (is, refl);
+    first = λ f. refl;
+    full = tt;
+    for_disk = λ e. refl;
+    for_end = λ e. absurd cc;
+  }
 
-  pub rests_stopped : {T : Type 0} → EngineRests {T = T} (seen_by told p) (seen_by told (stopped p b)) (Err space.Disk)
+  pub rests_stopped : {T : Type 0} → EngineRests {T = T} (seen_by Given p) (seen_by Given (stopped p b)) (Err space.Disk)
   rests_stopped = record { counts = counts_stopped; only_disk = refl; records = refl; tail = refl }
 
-  pub grows_stopped : (r : Record) → EngineGrows (seen_by told p) (seen_by told (stopped p b)) r (Err space.Disk)
+  pub grows_stopped : (r : Record) → EngineGrows (seen_by Given p) (seen_by Given (stopped p b)) r (Err space.Disk)
   grows_stopped r = record { counts = counts_stopped; few = omega arith; counted = tt; same = refl; back = refl; grown = omega arith; placed = tt; within = tt; past = λ e. absurd cc }
 
-  pub looks_stopped : {T : Type 0} (t : Table) (from : State) → EngineLooks {T = T} (RecoversBy t) t (led from (seen_by told p)) (led from (seen_by told (stopped p b))) (Err space.Disk)
+  pub looks_stopped : {T : Type 0} (t : Table) (from : State) → EngineLooks {T = T} (RecoversBy t) t (led from (seen_by Given p)) (led from (seen_by Given (stopped p b))) (Err space.Disk)
   looks_stopped t from = record { stays = tt; moments = λ s. not_both p.failed is s.whole }
 
-  pub logs_stopped : (r : Record) (t : Table) (from : State) → Logs (RecoversBy t) t (led from (seen_by told p)) (led from (seen_by told (stopped p b))) r (Err space.Disk)
+  pub logs_stopped : (r : Record) (t : Table) (from : State) → Logs (RecoversBy t) t (led from (seen_by Given p)) (led from (seen_by Given (stopped p b))) r (Err space.Disk)
   logs_stopped r t from = record { did = tt; above = λ s. not_both p.failed is s.whole; moments = λ s. not_both p.failed is s.whole }
 
 -- WHAT THE ENGINE BELOW DID: it answered, with the same records as before,
-abbrev pub HasLooked : (told : Bool) → Parts → View → Tail → Pool → Type 0
-HasLooked told p w log pool = (o : Origin) → IsTrue told → IsEngine o p.disk p.log (durable_in p.disk p.log) (waiting_in p.log) p.pool → HasRested o p.disk w p.log log p.pool pool (durable_in p.disk p.log) (all_in_log p.disk p.log)
+abbrev pub HasLooked : (Given : Type 0) → Parts → View → Tail → Pool → Type 0
+HasLooked Given p w log pool = (o : Origin) → Given → IsEngine o p.disk p.log (durable_in p.disk p.log) (waiting_in p.log) p.pool → HasRested o p.disk w p.log log p.pool pool (durable_in p.disk p.log) (all_in_log p.disk p.log)
 
 -- and each image of each moment of it stands
-abbrev pub HasStood : (told : Bool) → Parts → View → Type 0
-HasStood told p w = (o : Origin) → IsTrue told → IsEngine o p.disk p.log (durable_in p.disk p.log) (waiting_in p.log) p.pool → Stood o p.disk w p.log p.pool (durable_in p.disk p.log) (all_in_log p.disk p.log)
+abbrev pub HasStood : (Given : Type 0) → Parts → View → Type 0
+HasStood Given p w = (o : Origin) → Given → IsEngine o p.disk p.log (durable_in p.disk p.log) (waiting_in p.log) p.pool → Stood o p.disk w p.log p.pool (durable_in p.disk p.log) (all_in_log p.disk p.log)
 
 -- no call was made
-pub none_made : (told : Bool) (p : Parts) → HasStood told p p.disk
-none_made told p o tells e = none_stood o p.disk p.log (durable_in p.disk p.log) (waiting_in p.log) p.pool e
+pub none_made : (Given : Type 0) (p : Parts) → HasStood Given p p.disk
+none_made Given p o tells e = none_stood o p.disk p.log (durable_in p.disk p.log) (waiting_in p.log) p.pool e
 
 -- it ran for a record of this number,
-abbrev pub HasRunFor : (told : Bool) → Parts → View → Tail → Pool → Record → ℕ → Result ℕ EngineFault → Table → State → Type 0
-HasRunFor told p w log pool r lsn result t from = IsTrue told → IsPoised t from (origin_of t (seen_of p.found)) p.disk p.log p.pool
+abbrev pub HasRunFor : (Given : Type 0) → Parts → View → Tail → Pool → Record → ℕ → Result ℕ EngineFault → Table → State → Type 0
+HasRunFor Given p w log pool r lsn result t from = Given → IsPoised t from (origin_of t (seen_of p.found)) p.disk p.log p.pool
     → HasRun t (origin_of t (seen_of p.found)) p.disk w p.log log p.pool pool (durable_in p.disk p.log) (all_in_log p.disk p.log) r lsn result
 
 -- and logged it
-abbrev pub HasLoggedIt : (told : Bool) → Parts → View → Tail → Pool → Record → ℕ → Table → State → Type 0
-HasLoggedIt told p w log pool r lsn t from = IsTrue told → IsPoised t from (origin_of t (seen_of p.found)) p.disk p.log p.pool
+abbrev pub HasLoggedIt : (Given : Type 0) → Parts → View → Tail → Pool → Record → ℕ → Table → State → Type 0
+HasLoggedIt Given p w log pool r lsn t from = Given → IsPoised t from (origin_of t (seen_of p.found)) p.disk p.log p.pool
     → HasLogged t (origin_of t (seen_of p.found)) w log (durable_in p.disk p.log) (all_in_log p.disk p.log) r lsn pool
 
-module _ (told : Bool) (p : Parts) (w : View) (log : Tail) (pool : Pool) (t : Table) (from : State) (m : StandsBy told p t from) where
+module _ (Given : Type 0) (p : Parts) (w : View) (log : Tail) (pool : Pool) (t : Table) (from : State) (m : StandsBy Given p t from) where
   abbrev o : Origin
   o = origin_of t (seen_of p.found)
 
@@ -180,21 +258,21 @@ module _ (told : Bool) (p : Parts) (w : View) (log : Tail) (pool : Pool) (t : Ta
   is_by = by_table t (seen_of p.found)
 
   -- it stands for the same still,
-  stands_behind : (ns : List Numbered) → (IsTrue told → IsPoised t from o p.disk p.log p.pool → Behind t from o p.disk w p.log log pool ns) → Stands told p.failed p.found w log pool t from
+  stands_behind : (ns : List Numbered) → (Given → IsPoised t from o p.disk p.log p.pool → Behind t from o p.disk w p.log log pool ns) → Stands Given p.failed p.found w log pool t from
   stands_behind ns does = record { lawful = m.lawful; known = ∥∥₁_elim m.known ∥∥₁_prop (λ k. ∣ (λ whole tells. (does tells (k whole tells)).poised) ∣₁) }
 
   -- also where it has failed
-  pub keeps_broken : Stands told true p.found w log pool t from
+  pub keeps_broken : Stands Given true p.found w log pool t from
   keeps_broken = record { lawful = m.lawful; known = ∣ (λ e. not_true e) ∣₁ }
 
-  rested : HasLooked told p w log pool → IsTrue told → IsPoised t from o p.disk p.log p.pool → Behind t from o p.disk w p.log log pool all
+  rested : HasLooked Given p w log pool → Given → IsPoised t from o p.disk p.log p.pool → Behind t from o p.disk w p.log log pool all
   rested did tells q = behind_rest t from o p.disk w p.log log p.pool pool is_by q (did o tells q.now.engine)
 
-  pub keeps_look : HasLooked told p w log pool → Stands told p.failed p.found w log pool t from
+  pub keeps_look : HasLooked Given p w log pool → Stands Given p.failed p.found w log pool t from
   keeps_look did = stands_behind all (rested did)
 
   -- the images of a look
-  look_moments : (q : Parts) → q.disk ≡ w → HasStood told p w → Tells told p.failed → Moments (RecoversBy t) t (led from (seen_by told p)) (led from (seen_by told q)) (steps_of all)
+  look_moments : (q : Parts) → q.disk ≡ w → HasStood Given p w → Tells Given p.failed → Moments (RecoversBy t) t (led from (seen_by Given p)) (led from (seen_by Given q)) (steps_of all)
   look_moments q is stood tell = subst (λ (v : View). LeavesOnly p.disk v (IsImageOf (RecoversBy t) t from (steps_of ds) (steps_of all))) (sym is)
       (weaker
       (leaves_fix p.disk w (IsImageOf (Recovers o) t from (steps_of ds) (steps_of all)) (image_fix o t from (steps_of ds) (steps_of all))
@@ -202,24 +280,24 @@ module _ (told : Bool) (p : Parts) (w : View) (log : Tail) (pool : Pool) (t : Ta
       (λ c image. image_by t o from (steps_of ds) (steps_of all) c is_by image))
 
   -- A LOOK THAT ANSWERS
-  pub looks_ok : {T : Type 0} (x : T) (end : ℕ) → HasLooked told p w log pool → HasStood told p w → EngineLooks (RecoversBy t) t (led from (seen_by told p)) (led from (seen_by told (looked p w log pool end))) (Ok x)
-  looks_ok x end did stood = record {
+  pub looks_ok : {T : Type 0} (x : T) (end gate : ℕ) → HasLooked Given p w log pool → HasStood Given p w → EngineLooks (RecoversBy t) t (led from (seen_by Given p)) (led from (seen_by Given (looked p w log pool end gate))) (Ok x)
+  looks_ok x end gate did stood = record {
     stays = λ s. record {
       steps = ∥∥₁_elim m.known (steps_set (steps_of (all_in_log w log)) (steps_of all)) (λ k. (rested did s.tells (k s.whole s.tells)).steps);
       durable = grows_fix (steps_of ds) (steps_of (durable_in w log)) (∥∥₁_elim m.known ∥∥₁_prop (λ k. ∣ (rested did s.tells (k s.whole s.tells)).durable ∣₁));
     };
-    moments = look_moments (looked p w log pool end) refl stood;
+    moments = look_moments (looked p w log pool end gate) refl stood;
   }
 
   -- and one that fails
-  pub looks_err : {T : Type 0} (b : ℕ) → HasStood told p w → EngineLooks {T = T} (RecoversBy t) t (led from (seen_by told p)) (led from (seen_by told (broken p w log pool p.tried b))) (Err space.Disk)
-  looks_err b stood = record { stays = tt; moments = look_moments (broken p w log pool p.tried b) refl stood }
+  pub looks_err : {T : Type 0} (b : ℕ) → HasStood Given p w → EngineLooks {T = T} (RecoversBy t) t (led from (seen_by Given p)) (led from (seen_by Given (broken p w log pool p.tried b p.full))) (Err space.Disk)
+  looks_err b stood = record { stays = tt; moments = look_moments (broken p w log pool p.tried b p.full) refl stood }
 
   -- A CALL FOR A RECORD
   module _ (r : Record) (lsn : ℕ) where
-    module _ (mark : IsTrue told → IsPoised t from o p.disk p.log p.pool → IsMarked (IsAllowed o p.disk p.log p.pool) lsn r.says) where
-      record_moments : (q : Parts) (result : Result ℕ EngineFault) → q.disk ≡ w → HasRunFor told p w log pool r lsn result t from → Tells told p.failed
-          → Moments (RecoversBy t) t (led from (seen_by told p)) (led from (seen_by told q)) (with_step (steps_of all) lsn (step_of r))
+    module _ (mark : Given → IsPoised t from o p.disk p.log p.pool → IsMarked (IsAllowed o p.disk p.log p.pool) lsn r.says) where
+      record_moments : (q : Parts) (result : Result ℕ EngineFault) → q.disk ≡ w → HasRunFor Given p w log pool r lsn result t from → Tells Given p.failed
+          → Moments (RecoversBy t) t (led from (seen_by Given p)) (led from (seen_by Given q)) (with_step (steps_of all) lsn (step_of r))
       record_moments q result is run tell =
           let rs : Steps = with_step (steps_of all) lsn (step_of r) in
           subst (λ (v : View). LeavesOnly p.disk v (IsImageOf (RecoversBy t) t from (steps_of ds) rs)) (sym is)
@@ -228,84 +306,88 @@ module _ (told : Bool) (p : Parts) (w : View) (log : Tail) (pool : Pool) (t : Ta
           (∥∥₁_elim m.known ∥∥₁_prop (λ k. let q = k tell.whole tell.tells in ∣ record_images t from o p.disk w p.log log p.pool pool r lsn result is_by q (mark tell.tells q) (run tell.tells q) ∣₁)))
           (λ c image. image_by t o from (steps_of ds) rs c is_by image))
 
-      after : HasLoggedIt told p w log pool r lsn t from → (IsTrue told → IsPoised t from o p.disk p.log p.pool → StillAllowed o p.disk w p.log log p.pool pool) → IsTrue told → IsPoised t from o p.disk p.log p.pool
+      after : HasLoggedIt Given p w log pool r lsn t from → (Given → IsPoised t from o p.disk p.log p.pool → StillAllowed o p.disk w p.log log p.pool pool) → Given → IsPoised t from o p.disk p.log p.pool
           → Behind t from o p.disk w p.log log pool (all ++ at_number lsn r ∷ [])
       after logged still tells q = behind_record t from o p.disk w p.log log p.pool pool r lsn is_by q (mark_allow (IsAllowed o p.disk p.log p.pool) (IsAllowed o w log pool) lsn r.says (still tells q) (mark tells q)) (logged tells q) (still tells q)
 
       -- that is appended,
-      module _ (m' : ℕ) (run : HasRunFor told p w log pool r lsn (Ok m') t from) (logged : HasLoggedIt told p w log pool r lsn t from) where
-        behind : IsTrue told → IsPoised t from o p.disk p.log p.pool → Behind t from o p.disk w p.log log pool (all ++ at_number lsn r ∷ [])
+      module _ (m' : ℕ) (run : HasRunFor Given p w log pool r lsn (Ok m') t from) (logged : HasLoggedIt Given p w log pool r lsn t from) where
+        behind : Given → IsPoised t from o p.disk p.log p.pool → Behind t from o p.disk w p.log log pool (all ++ at_number lsn r ∷ [])
         behind = after logged (λ tells q. (run tells q).allowed)
 
-        pub keeps_mark : Stands told p.failed p.found w log pool t from
+        pub keeps_mark : Stands Given p.failed p.found w log pool t from
         keeps_mark = stands_behind (all ++ at_number lsn r ∷ []) behind
 
-        steps_then : Tells told p.failed → steps_of (all_in_log w log) ≡ with_step (steps_of all) lsn (step_of r)
+        steps_then : Tells Given p.failed → steps_of (all_in_log w log) ≡ with_step (steps_of all) lsn (step_of r)
         steps_then s = ∥∥₁_elim m.known (steps_set (steps_of (all_in_log w log)) (with_step (steps_of all) lsn (step_of r))) (λ k. (behind s.tells (k s.whole s.tells)).steps ∙ steps_more all (at_number lsn r))
 
-        durable_then : Tells told p.failed → Grows (steps_of ds) (steps_of (durable_in w log))
+        durable_then : Tells Given p.failed → Grows (steps_of ds) (steps_of (durable_in w log))
         durable_then s = grows_fix (steps_of ds) (steps_of (durable_in w log)) (∥∥₁_elim m.known ∥∥₁_prop (λ k. ∣ (behind s.tells (k s.whole s.tells)).durable ∣₁))
 
-        mark_logs : (n end count : ℕ) → n ≡ lsn → p.end ≤ lsn → Logs (RecoversBy t) t (led from (seen_by told p)) (led from (seen_by told (appended p w log pool end lsn count))) r (Ok n)
-        mark_logs n end count number above = record {
+        mark_logs : (n end gate count : ℕ) → n ≡ lsn → p.end ≤ lsn → Logs (RecoversBy t) t (led from (seen_by Given p)) (led from (seen_by Given (appended p w log pool end gate lsn count))) r (Ok n)
+        mark_logs n end gate count number above = record {
           did = λ s. record { steps = steps_then s ∙ ap (λ (k : ℕ). with_step (steps_of all) k (step_of r)) (sym number); durable = durable_then s };
           above = λ s. above;
-          moments = record_moments (appended p w log pool end lsn count) (Ok m') refl run;
+          moments = record_moments (appended p w log pool end gate lsn count) (Ok m') refl run;
         }
 
         -- A RECORD THAT IS NO STEP, a checkpoint
-        pub mark_looks : {A : Type 0} (x : A) (end count : ℕ) → step_of r ≡ None → EngineLooks (RecoversBy t) t (led from (seen_by told p)) (led from (seen_by told (appended p w log pool end lsn count))) (Ok x)
-        mark_looks x end count none = record {
+        pub mark_looks : {A : Type 0} (x : A) (end gate count : ℕ) → step_of r ≡ None → EngineLooks (RecoversBy t) t (led from (seen_by Given p)) (led from (seen_by Given (appended p w log pool end gate lsn count))) (Ok x)
+        mark_looks x end gate count none = record {
           stays = λ s. record { steps = steps_then s ∙ ap (λ (x : Option Step). with_step (steps_of all) lsn x) none; durable = durable_then s };
-          moments = λ s. subst (λ (x : Option Step). LeavesOnly p.disk w (IsImageOf (RecoversBy t) t from (steps_of ds) (with_step (steps_of all) lsn x))) none (record_moments (appended p w log pool end lsn count) (Ok m') refl run s);
+          moments = λ s. subst (λ (x : Option Step). LeavesOnly p.disk w (IsImageOf (RecoversBy t) t from (steps_of ds) (with_step (steps_of all) lsn x))) none (record_moments (appended p w log pool end gate lsn count) (Ok m') refl run s);
         }
 
       -- or whose call fails
-      pub mark_looks_err : {A : Type 0} (e : SpaceFault) (result : Result ℕ EngineFault) (b : ℕ) → step_of r ≡ None → HasRunFor told p w log pool r lsn result t from
-          → EngineLooks {T = A} (RecoversBy t) t (led from (seen_by told p)) (led from (seen_by told (broken p w log pool lsn b))) (Err e)
-      mark_looks_err e result b none run = record {
+      pub mark_looks_err : {A : Type 0} (e : SpaceFault) (result : Result ℕ EngineFault) (b : ℕ) (f : Bool) → step_of r ≡ None → HasRunFor Given p w log pool r lsn result t from
+          → EngineLooks {T = A} (RecoversBy t) t (led from (seen_by Given p)) (led from (seen_by Given (broken p w log pool lsn b f))) (Err e)
+      mark_looks_err e result b f none run = record {
         stays = tt;
-        moments = λ s. subst (λ (x : Option Step). LeavesOnly p.disk w (IsImageOf (RecoversBy t) t from (steps_of ds) (with_step (steps_of all) lsn x))) none (record_moments (broken p w log pool lsn b) result refl run s);
+        moments = λ s. subst (λ (x : Option Step). LeavesOnly p.disk w (IsImageOf (RecoversBy t) t from (steps_of ds) (with_step (steps_of all) lsn x))) none (record_moments (broken p w log pool lsn b f) result refl run s);
       }
 
-      mark_logs_err : (e : SpaceFault) (result : Result ℕ EngineFault) (b : ℕ) → p.end ≤ lsn → HasRunFor told p w log pool r lsn result t from → Logs (RecoversBy t) t (led from (seen_by told p)) (led from (seen_by told (broken p w log pool lsn b))) r (Err e)
-      mark_logs_err e result b above run = record { did = tt; above = λ s. above; moments = record_moments (broken p w log pool lsn b) result refl run }
+      mark_logs_err : (e : SpaceFault) (result : Result ℕ EngineFault) (b : ℕ) (f : Bool) → p.end ≤ lsn → HasRunFor Given p w log pool r lsn result t from → Logs (RecoversBy t) t (led from (seen_by Given p)) (led from (seen_by Given (broken p w log pool lsn b f))) r (Err e)
+      mark_logs_err e result b f above run = record { did = tt; above = λ s. above; moments = record_moments (broken p w log pool lsn b f) result refl run }
 
     -- no other record marks anything
-    plain_mark : is_checkpoint r.says ≡ false → IsTrue told → IsPoised t from o p.disk p.log p.pool → IsMarked (IsAllowed o p.disk p.log p.pool) lsn r.says
+    plain_mark : is_no_step r.says ≡ false → Given → IsPoised t from o p.disk p.log p.pool → IsMarked (IsAllowed o p.disk p.log p.pool) lsn r.says
     plain_mark plain tells q = marked_plain (IsAllowed o p.disk p.log p.pool) lsn r.says plain
 
-    pub keeps_record : (n : ℕ) → is_checkpoint r.says ≡ false → HasRunFor told p w log pool r lsn (Ok n) t from → HasLoggedIt told p w log pool r lsn t from → Stands told p.failed p.found w log pool t from
+    pub keeps_record : (n : ℕ) → is_no_step r.says ≡ false → HasRunFor Given p w log pool r lsn (Ok n) t from → HasLoggedIt Given p w log pool r lsn t from → Stands Given p.failed p.found w log pool t from
     keeps_record n plain run logged = keeps_mark (plain_mark plain) n run logged
 
-    pub logs_ok : (n end count : ℕ) → n ≡ lsn → p.end ≤ lsn → is_checkpoint r.says ≡ false → HasRunFor told p w log pool r lsn (Ok n) t from → HasLoggedIt told p w log pool r lsn t from
-        → Logs (RecoversBy t) t (led from (seen_by told p)) (led from (seen_by told (appended p w log pool end lsn count))) r (Ok n)
-    logs_ok n end count number above plain run logged = mark_logs (plain_mark plain) n run logged n end count number above
+    pub logs_ok : (n end gate count : ℕ) → n ≡ lsn → p.end ≤ lsn → is_no_step r.says ≡ false → HasRunFor Given p w log pool r lsn (Ok n) t from → HasLoggedIt Given p w log pool r lsn t from
+        → Logs (RecoversBy t) t (led from (seen_by Given p)) (led from (seen_by Given (appended p w log pool end gate lsn count))) r (Ok n)
+    logs_ok n end gate count number above plain run logged = mark_logs (plain_mark plain) n run logged n end gate count number above
 
-    pub logs_err : (e : SpaceFault) (result : Result ℕ EngineFault) (b : ℕ) → p.end ≤ lsn → is_checkpoint r.says ≡ false → HasRunFor told p w log pool r lsn result t from
-        → Logs (RecoversBy t) t (led from (seen_by told p)) (led from (seen_by told (broken p w log pool lsn b))) r (Err e)
-    logs_err e result b above plain run = mark_logs_err (plain_mark plain) e result b above run
+    pub logs_err : (e : SpaceFault) (result : Result ℕ EngineFault) (b : ℕ) (f : Bool) → p.end ≤ lsn → is_no_step r.says ≡ false → HasRunFor Given p w log pool r lsn result t from
+        → Logs (RecoversBy t) t (led from (seen_by Given p)) (led from (seen_by Given (broken p w log pool lsn b f))) r (Err e)
+    logs_err e result b f above plain run = mark_logs_err (plain_mark plain) e result b f above run
 
     -- one that is refused with no call for it
-    pub logs_refused : (e : SpaceFault) (b : ℕ) → p.end ≤ lsn → HasStood told p w → Logs (RecoversBy t) t (led from (seen_by told p)) (led from (seen_by told (broken p w log pool lsn b))) r (Err e)
+    pub logs_refused : (e : SpaceFault) (b : ℕ) → p.end ≤ lsn → HasStood Given p w → Logs (RecoversBy t) t (led from (seen_by Given p)) (led from (seen_by Given (broken p w log pool lsn b p.full))) r (Err e)
     logs_refused e b above stood = record {
       did = tt;
       above = λ s. above;
-      moments = λ s. weaker (look_moments (broken p w log pool lsn b) refl stood s)
+      moments = λ s. weaker (look_moments (broken p w log pool lsn b p.full) refl stood s)
           (λ c image. image_more (RecoversBy t) t from (steps_of ds) (steps_of all) (with_step (steps_of all) lsn (step_of r)) c (one_more (steps_of all) lsn (step_of r)) image);
     }
 
 -- ALL IS DURABLE behind a call that says so
-pub forced_then : (told : Bool) (p q : Parts) (t : Table) (from : State) → StandsBy told p t from → (Tells told q.failed → Tells told p.failed) → ((o : Origin) (ds ps : List Numbered) → IsTrue told → IsEngine o p.disk p.log ds ps p.pool → IsEngine o q.disk q.log (ds ++ ps) [] q.pool) → IsForced (seen_by told q)
-forced_then told p q t from m back did tell = ∥∥₁_elim m.known (steps_set (steps_of (durable_in q.disk q.log)) (steps_of (all_in_log q.disk q.log))) (λ k.
+pub forced_then : (Given : Type 0) (p q : Parts) (t : Table) (from : State) → StandsBy Given p t from → (Tells Given q.failed → Tells Given p.failed) → ((o : Origin) (ds ps : List Numbered) → Given → IsEngine o p.disk p.log ds ps p.pool → IsEngine o q.disk q.log (ds ++ ps) [] q.pool) → IsForced (seen_by Given q)
+forced_then Given p q t from m back did tell = ∥∥₁_elim m.known (steps_set (steps_of (durable_in q.disk q.log)) (steps_of (all_in_log q.disk q.log))) (λ k.
     let s = back tell in
     forced_all (origin_of t (seen_of p.found)) q.disk q.log (all_in_log p.disk p.log) q.pool (did (origin_of t (seen_of p.found)) (durable_in p.disk p.log) (waiting_in p.log) s.tells (k s.whole s.tells).now.engine))
 
+-- one that has failed tells nothing
+pub some_broken : (Given : Type 0) (found w : View) (log : Tail) (pool : Pool) → StandsForSome Given true found w log pool
+some_broken Given found w log pool tell = not_true tell.whole
+
 -- what is known for some
-pub some_kept : (told f g : Bool) (found v w : View) (log log' : Tail) (pool pool' : Pool) → Keeps (Stands told f found v log pool) (Stands told g found w log' pool') → StandsForSome told f found v log pool → StandsForSome told g found w log' pool'
-some_kept told f g found v w log log' pool pool' keeps some = ∥∥₁_elim some ∥∥₁_prop (λ x. ∣ (x.0, x.1, keeps x.0 x.1 x.2) ∣₁)
+pub some_kept : (Given : Type 0) (f : Bool) (found v w : View) (log log' : Tail) (pool pool' : Pool) → Keeps (Stands Given f found v log pool) (Stands Given f found w log' pool') → StandsForSome Given f found v log pool → StandsForSome Given f found w log' pool'
+some_kept Given f found v w log log' pool pool' keeps some tell = ∥∥₁_elim (some tell) ∥∥₁_prop (λ x. ∣ (x.0, x.1, keeps x.0 x.1 x.2) ∣₁)
 
 -- also by one table alone
-pub some_kept_by : (told f g : Bool) (found v w : View) (log log' : Tail) (pool pool' : Pool) (t : Table) → ((from : State) → Stands told f found v log pool t from → Stands told g found w log' pool' t from) → ∥ ((from : State) × Stands told f found v log pool t from) ∥₁
-    → StandsForSome told g found w log' pool'
-some_kept_by told f g found v w log log' pool pool' t keeps some = ∥∥₁_elim some ∥∥₁_prop (λ x. ∣ (t, x.0, keeps x.0 x.1) ∣₁)
+pub some_kept_by : (Given : Type 0) (f : Bool) (found v w : View) (log log' : Tail) (pool pool' : Pool) (t : Table) → ((from : State) → Stands Given f found v log pool t from → Stands Given f found w log' pool' t from)
+    → (Tells Given f → ∥ ((from : State) × Stands Given f found v log pool t from) ∥₁) → StandsForSome Given f found w log' pool'
+some_kept_by Given f found v w log log' pool pool' t keeps some tell = ∥∥₁_elim (some tell) ∥∥₁_prop (λ x. ∣ (t, x.0, keeps x.0 x.1) ∣₁)

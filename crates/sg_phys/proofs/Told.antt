@@ -31,7 +31,7 @@ use Rattle.sg_phys_laws.specs.Listed.{listed}
 use Rattle.sg_phys_laws.specs.Poised.{AreSaid, IsPoised}
 use Rattle.sg_phys_laws.specs.Reading.{durable_in, waiting_in}
 use Rattle.sg_phys_laws.specs.Recovers.{cut_at, no_band, origin_of, Recovers, RecoversBy}
-use Rattle.sg_phys_laws.specs.States.{state_of, steps_of, homes_of}
+use Rattle.sg_phys_laws.specs.States.{state_of, steps_of, homes_of, unsaid}
 use Rattle.sg_phys_laws.proofs.Cutting.{cut_same, below_test}
 use Rattle.sg_phys_laws.proofs.Fronting.{front_grows}
 use Rattle.sg_phys_laws.proofs.Going.{said_more}
@@ -51,8 +51,8 @@ now_is t from o v log pool by p = said_more t from o (durable_in v log) (waiting
 pub pool_is : (o : Origin) (v : View) (log : Tail) (pool : Pool) (ds ps : List Numbered) → IsEngine o v log ds ps pool → pool_says v pool ≡ cut_at o.super (state_of (homes_of o (ds ++ ps)))
 pool_is o v log pool ds ps e =
     let said : State = state_of (homes_of o (ds ++ ps)) in
-    let held : State = record { pages = λ n. leaf_of ((contents v pool).page n); bands = λ b. listed BAND_SIZE ((contents v pool).byte b) } in
-    ap (λ (g : Geometry). record { pages = λ n. if nat_lt n g.pages then held.pages n else None; bands = λ b. if nat_lt b g.bands then held.bands b else no_band }) e.sizes
+    let held : State = record { size = unsaid; pages = λ n. leaf_of ((contents v pool).page n); bands = λ b. listed BAND_SIZE ((contents v pool).byte b) } in
+    ap (λ (g : Geometry). record { size = record { pages = g.pages; bands = g.bands }; pages = λ n. if nat_lt n g.pages then held.pages n else None; bands = λ b. if nat_lt b g.bands then held.bands b else no_band }) e.sizes
     ∙ cut_same o.super held said
     (λ n lt. ap leaf_of (page_bytes o v v log ds ps pool n e (subst (λ (g : Geometry). n < g.pages) (sym e.sizes) lt)))
     (λ b lt. same-listed BAND_SIZE ((contents v pool).byte b) ((homes_of o (ds ++ ps)).byte b) (λ i small. band_bytes o v v log ds ps pool b i e (subst (λ (g : Geometry). b < g.bands) (sym e.sizes) lt) small))
@@ -85,19 +85,19 @@ says_whole v pool b = by (nat_lt b (sizes pool).bands)
     by false = length-listed BAND_SIZE (λ i. 0)
 
 -- what is durable is a front
-pub told_front : (told : Bool) (p : Parts) → Grows (seen_by told p).durable (seen_by told p).steps
-told_front told p = front_grows (durable_in p.disk p.log) (waiting_in p.log)
+pub told_front : (Given : Type 0) (p : Parts) → Grows (seen_by Given p).durable (seen_by Given p).steps
+told_front Given p = front_grows (durable_in p.disk p.log) (waiting_in p.log)
 
 -- WHERE IT TELLS, what it holds is what its steps make,
-pub told_now : (told : Bool) (p : Parts) (t : Table) (from : State) → StandsBy told p t from → Tells told p.failed → (seen_by told p).now ≡ now_of t (led from (seen_by told p))
-told_now told p t from m tell = ∥∥₁_elim m.known (state_set (pool_says p.disk p.pool) (repeated t from (steps_of (all_in_log p.disk p.log)))) (λ k.
+pub told_now : (Given : Type 0) (p : Parts) (t : Table) (from : State) → StandsBy Given p t from → Tells Given p.failed → (seen_by Given p).now ≡ now_of t (led from (seen_by Given p))
+told_now Given p t from m tell = ∥∥₁_elim m.known (state_set (pool_says p.disk p.pool) (repeated t from (steps_of (all_in_log p.disk p.log)))) (λ k.
     let o : Origin = origin_of t (seen_of p.found) in
     let q = k tell.whole tell.tells in
     pool_is o p.disk p.log p.pool (durable_in p.disk p.log) (waiting_in p.log) q.now.engine ∙ now_is t from o p.disk p.log p.pool (by_table t (seen_of p.found)) q)
 
 -- and each image that a crash leaves has a front of them
-pub told_images : (told : Bool) (p : Parts) (t : Table) (from : State) → StandsBy told p t from → Tells told p.failed → StandsNow (RecoversBy t) t (led from (seen_by told p))
-told_images told p t from m tell c leaves =
+pub told_images : (Given : Type 0) (p : Parts) (t : Table) (from : State) → StandsBy Given p t from → Tells Given p.failed → StandsNow (RecoversBy t) t (led from (seen_by Given p))
+told_images Given p t from m tell c leaves =
     let o : Origin = origin_of t (seen_of p.found) in
     let by : IsBy t o = by_table t (seen_of p.found) in
     let ds : List Numbered = durable_in p.disk p.log in

@@ -8,4 +8,4 @@
 
 mod words;
 
-pub use words::{is_checkpoint, space_fault};
+pub use words::{is_no_step, is_log_end, space_fault};

@@ -29,12 +29,12 @@ use Rattle.sg_actions.specs.Steps.{Step, Steps, step_of, step_by, with_step, rep
 use Rattle.sg_redo.specs.Leaf.{leaf_of}
 use Rattle.sg_redo.proofs.Saying.{leaf_follows}
 use Rattle.sg_phys_laws.specs.Listed.{listed}
-use Rattle.sg_phys_laws.specs.States.{state_of, steps_of, steps_on, homes_of, Agrees, IsDoable, AllAgree, IsChangeable, IsNext}
+use Rattle.sg_phys_laws.specs.States.{state_of, steps_of, steps_on, homes_of, unsaid, Agrees, IsDoable, AllAgree, IsChangeable, IsNext}
 use Rattle.sg_phys_laws.proofs.Listing.{same-listed, listed_after}
 use Rattle.sg_phys_laws.proofs.Stepping.{steps_more}
 
 abbrev state : (ℕ → Option Sheet) → (ℕ → List ℕ) → State
-state f bs = record { pages = f; bands = bs }
+state f bs = record { size = unsaid; pages = f; bands = bs }
 
 same_state : (f g : ℕ → Option Sheet) (bs cs : ℕ → List ℕ) → f ≡ g → bs ≡ cs → state f bs ≡ state g cs
 same_state f g bs cs a b = ap (λ (h : ℕ → Option Sheet). state h bs) a ∙ ap (λ (ds : ℕ → List ℕ). state g ds) b

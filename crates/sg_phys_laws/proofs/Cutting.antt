@@ -23,14 +23,14 @@ use Rattle.sg_engine.specs.History.{AllThere, IsThere}
 use Rattle.sg_actions.specs.Changes.{meaning}
 use Rattle.sg_actions.specs.Steps.{Step, Steps, step_of, step_by, with_step, redo, repeated}
 use Rattle.sg_phys_laws.specs.Logged.{IsFor, IsPageFor}
-use Rattle.sg_phys_laws.specs.Recovers.{cut_at, no_band, IsIn, StepIn, AllIn}
+use Rattle.sg_phys_laws.specs.Recovers.{cut_at, extent_by, no_band, IsIn, StepIn, AllIn}
 use Rattle.sg_phys_laws.specs.States.{steps_on, steps_of}
 
-abbrev state : (ℕ → Option Sheet) → (ℕ → List ℕ) → State
-state f bs = record { pages = f; bands = bs }
+abbrev state : Super → (ℕ → Option Sheet) → (ℕ → List ℕ) → State
+state s f bs = record { size = extent_by s; pages = f; bands = bs }
 
-same_state : (f g : ℕ → Option Sheet) (bs cs : ℕ → List ℕ) → f ≡ g → bs ≡ cs → state f bs ≡ state g cs
-same_state f g bs cs a b = ap (λ (h : ℕ → Option Sheet). state h bs) a ∙ ap (λ (ds : ℕ → List ℕ). state g ds) b
+same_state : (s : Super) (f g : ℕ → Option Sheet) (bs cs : ℕ → List ℕ) → f ≡ g → bs ≡ cs → state s f bs ≡ state s g cs
+same_state s f g bs cs a b = ap (λ (h : ℕ → Option Sheet). state s h bs) a ∙ ap (λ (ds : ℕ → List ℕ). state s g ds) b
 
 pub below_test : (m n : ℕ) → m < n → nat_lt m n ≡ true
 below_test m n lt = grind (arith, nat_tests, lt)
@@ -72,11 +72,11 @@ cut_bands s f g same n = by (nat_lt n s.bands) refl
     by false is = refl
 
 pub cut_same : (s : Super) (x y : State) → ((n : ℕ) → n < s.pages → x.pages n ≡ y.pages n) → ((b : ℕ) → b < s.bands → x.bands b ≡ y.bands b) → cut_at s x ≡ cut_at s y
-cut_same s x y pages bands = same_state (cut_at s x).pages (cut_at s y).pages (cut_at s x).bands (cut_at s y).bands (λ k n. cut_pages s x.pages y.pages pages n k) (λ k b. cut_bands s x.bands y.bands bands b k)
+cut_same s x y pages bands = same_state s (cut_at s x).pages (cut_at s y).pages (cut_at s x).bands (cut_at s y).bands (λ k n. cut_pages s x.pages y.pages pages n k) (λ k b. cut_bands s x.bands y.bands bands b k)
 
 -- A CHANGE of a page or a band of the store
 change_cut : (s : Super) (t : Table) (x : State) (c : Changing) → IsIn s c → apply t (cut_at s x) (meaning c) ≡ cut_at s (apply t x (meaning c))
-change_cut s t x (PageChanged c) lt = same_state (apply t (cut_at s x) (meaning (PageChanged c))).pages (cut_at s (apply t x (meaning (PageChanged c)))).pages (cut_at s x).bands (cut_at s x).bands (λ k n. at n k) refl
+change_cut s t x (PageChanged c) lt = same_state s (apply t (cut_at s x) (meaning (PageChanged c))).pages (cut_at s (apply t x (meaning (PageChanged c)))).pages (cut_at s x).bands (cut_at s x).bands (λ k n. at n k) refl
   where
     made_by : Option Sheet → Option Sheet
     made_by leaf = or_same (step_leaf t (op_said c) leaf) leaf
@@ -87,7 +87,7 @@ change_cut s t x (PageChanged c) lt = same_state (apply t (cut_at s x) (meaning 
         rw this (rw low (ap made_by (page_kept s x c.page lt))))
         (λ other. let this = other_test n c.page other in rw this refl)
         (cases_eq n c.page)
-change_cut s t x (SegWrite c) lt = same_state (cut_at s x).pages (cut_at s x).pages (apply t (cut_at s x) (meaning (SegWrite c))).bands (cut_at s (apply t x (meaning (SegWrite c)))).bands refl (λ k n. at n k)
+change_cut s t x (SegWrite c) lt = same_state s (cut_at s x).pages (cut_at s x).pages (apply t (cut_at s x) (meaning (SegWrite c))).bands (cut_at s (apply t x (meaning (SegWrite c)))).bands refl (λ k n. at n k)
   where
     at : (n : ℕ) → with_one (cut_at s x).bands c.band (overwritten ((cut_at s x).bands c.band) c.at c.after) n ≡ (if nat_lt n s.bands then with_one x.bands c.band (overwritten (x.bands c.band) c.at c.after) n else no_band)
     at n = ⊎_elim
@@ -95,7 +95,7 @@ change_cut s t x (SegWrite c) lt = same_state (cut_at s x).pages (cut_at s x).pa
         rw this (rw low (ap (λ (l : List ℕ). overwritten l c.at c.after) (band_kept s x c.band lt))))
         (λ other. let this = other_test n c.band other in rw this refl)
         (cases_eq n c.band)
-change_cut s t x (SegOp c) lt = same_state (cut_at s x).pages (cut_at s x).pages (apply t (cut_at s x) (meaning (SegOp c))).bands (cut_at s (apply t x (meaning (SegOp c)))).bands refl (λ k n. at n k)
+change_cut s t x (SegOp c) lt = same_state s (cut_at s x).pages (cut_at s x).pages (apply t (cut_at s x) (meaning (SegOp c))).bands (cut_at s (apply t x (meaning (SegOp c)))).bands refl (λ k n. at n k)
   where
     bytes : List ℕ
     bytes = rendered (range_at t c.code) c.arg c.position c.count

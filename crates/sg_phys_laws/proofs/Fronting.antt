@@ -17,7 +17,7 @@ more_grow : (rs : Steps) (ns : List Numbered) → Grows rs (steps_on rs ns)
 more_grow rs [] = record { since = []; all = refl }
 more_grow rs (n ∷ ns) = grows_on rs (with_step rs n.lsn (step_of n.is)) (steps_on (with_step rs n.lsn (step_of n.is)) ns) (one_more rs n.lsn (step_of n.is)) (more_grow (with_step rs n.lsn (step_of n.is)) ns)
 
-on_both : (rs : Steps) (ms ns : List Numbered) → steps_on rs (ms ++ ns) ≡ steps_on (steps_on rs ms) ns
+pub on_both : (rs : Steps) (ms ns : List Numbered) → steps_on rs (ms ++ ns) ≡ steps_on (steps_on rs ms) ns
 on_both rs [] ns = refl
 on_both rs (m ∷ ms) ns = on_both (with_step rs m.lsn (step_of m.is)) ms ns
 

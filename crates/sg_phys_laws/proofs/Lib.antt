@@ -18,3 +18,5 @@ pub mod Poised
 pub mod Lies
 pub mod Checkpoints
 pub mod Opened
+pub mod Counted
+pub mod Waiting

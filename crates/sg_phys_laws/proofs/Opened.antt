@@ -1,5 +1,5 @@
 -- An engine that was opened, or made.
-use Rattle.std.proofs.Common.{◌≡◌, ◌≤◌, ℕ, List, [], ◌++◌, sym, ◌∙◌, subst, arith}
+use Rattle.std.proofs.Common.{◌≡◌, ◌≤◌, ℕ, List, [], ◌++◌, sym, ap, ◌∙◌, subst, arith}
 use Rattle.sg_disk.specs.Disk.{Image, View}
 use Rattle.sg_log.specs.Frames.{Numbered}
 use Rattle.sg_log.specs.Held.{Tail}
@@ -12,7 +12,7 @@ use Rattle.sg_actions.specs.Steps.{Steps}
 use Rattle.sg_phys_laws.specs.Poised.{IsPoised, AreSaid}
 use Rattle.sg_phys_laws.specs.Points.{redo_point, AreMarked, ArePoints}
 use Rattle.sg_phys_laws.specs.Reading.{durable_in, waiting_in}
-use Rattle.sg_phys_laws.specs.Recovers.{Recovers}
+use Rattle.sg_phys_laws.specs.Recovers.{Recovers, RecoversBy, extent_by, super_in}
 use Rattle.sg_phys_laws.specs.States.{AllAgree}
 use Rattle.sg_phys_laws.proofs.Agreeing.{all_agree_none}
 use Rattle.sg_phys_laws.proofs.Reading.{held_are}
@@ -46,3 +46,7 @@ opened_poised t from o v log rs pool e said low allowed =
 -- an image holds one list of steps, and one state
 pub recovers_same : (o : Origin) (c : Image) (l m : Steps) (x y : State) → Recovers o c l x → Recovers o c m y → (l ≡ m) × (x ≡ y)
 recovers_same o c l m x y a b = (a.records ∙ sym b.records, a.state ∙ sym b.state)
+
+-- which has as many pages and bands as the superblock says
+pub recovered_sized : (t : Table) (c : Image) (log : Steps) (x : State) → RecoversBy t c log x → x.size ≡ extent_by (super_in c)
+recovered_sized t c log x r = ap (λ (y : State). y.size) r.holds.state

@@ -38,14 +38,14 @@ mark_allow A B lsn (CompEnd w) more marked = tt
 mark_allow A B lsn (Save m) more marked = tt
 mark_allow A B lsn Commit more marked = tt
 mark_allow A B lsn End more marked = tt
-mark_allow A B lsn (Line words) more marked = tt
+mark_allow A B lsn (Line words) more marked = marked
 
 pub marks_allow : (A B : ℕ → Type 0) (ns : List Numbered) → ((k : ℕ) → A k → B k) → AreMarked A ns → AreMarked B ns
 marks_allow A B [] more marked = tt
 marks_allow A B (n ∷ ns) more marked = (mark_allow A B n.lsn n.is.says more marked.0, marks_allow A B ns more marked.1)
 
 -- the last checkpoint of more records
-behind_both : (e : ℕ) (xs ys : List Numbered) → last_estimate e (xs ++ ys) ≡ last_estimate (last_estimate e xs) ys
+pub behind_both : (e : ℕ) (xs ys : List Numbered) → last_estimate e (xs ++ ys) ≡ last_estimate (last_estimate e xs) ys
 behind_both e [] ys = refl
 behind_both e (x ∷ xs) ys = behind_both (estimate_or e x.is.says) xs ys
 

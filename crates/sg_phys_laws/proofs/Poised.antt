@@ -19,7 +19,7 @@ use Rattle.sg_engine.specs.declared.fault.EngineFault.{EngineFault}
 use Rattle.sg_engine.proofs.Pools.{rest_moments}
 use Rattle.sg_actions.specs.Images.{Grows, IsImageOf}
 use Rattle.sg_actions.specs.Steps.{Steps, step_of, with_step}
-use Rattle.sg_phys_laws.specs.Logged.{HasLogged, HasRun, HasRested, Stood, StillAllowed, at_number, is_checkpoint}
+use Rattle.sg_phys_laws.specs.Logged.{HasLogged, HasRun, HasRested, Stood, StillAllowed, at_number, is_no_step}
 use Rattle.sg_phys_laws.specs.Poised.{AreSaid, IsPoised}
 use Rattle.sg_phys_laws.specs.Points.{IsMarked, ArePoints}
 use Rattle.sg_phys_laws.specs.Reading.{durable_in, waiting_in}
@@ -78,8 +78,8 @@ pub behind_rest : (t : Table) (from : State) (o : Origin) (v w : View) (log log'
 behind_rest t from o v w log log' pool pool' by p h =
     behind t from o v w log log' pool' (all_in_log v log) by h.gone p.now.agrees p.said (points_allow (IsAllowed o v log pool) (IsAllowed o w log' pool') o (durable_in v log) (all_in_log v log) h.allowed p.points)
 
--- no checkpoint estimates anything
-pub marked_plain : (A : ℕ → Type 0) (lsn : ℕ) (x : Says) → is_checkpoint x ≡ false → IsMarked A lsn x
+-- no step estimates anything
+pub marked_plain : (A : ℕ → Type 0) (lsn : ℕ) (x : Says) → is_no_step x ≡ false → IsMarked A lsn x
 marked_plain A lsn (Checkpoint e l) plain = absurd cc
 marked_plain A lsn Begin plain = tt
 marked_plain A lsn (Changed c) plain = tt
@@ -90,7 +90,7 @@ marked_plain A lsn (CompEnd w) plain = tt
 marked_plain A lsn (Save m) plain = tt
 marked_plain A lsn Commit plain = tt
 marked_plain A lsn End plain = tt
-marked_plain A lsn (Line words) plain = tt
+marked_plain A lsn (Line words) plain = absurd cc
 
 -- a record
 pub behind_record : (t : Table) (from : State) (o : Origin) (v w : View) (log log' : Tail) (pool pool' : Pool) (r : Record) (lsn : ℕ) → IsBy t o → (p : IsPoised t from o v log pool) → IsMarked (IsAllowed o w log' pool') lsn r.says → HasLogged t o w log' (durable_in v log) (all_in_log v log) r lsn pool'

@@ -38,3 +38,7 @@ read_step v log ds ps at bytes n w holds some reads =
     let range = fields_there v log at f.r (there holds at f.r f.stands) in
     let same = (spelled_first f.r w.is [] [] range w.fields (no_more (spelled f.r) ∙ (sym (reads f.r f.stands) ∙ (w.text ∙ sym (no_more (spelled w.is)))))).0 in
     x.1 ∙ (sym f.is ∙ ap step_of same)
+
+-- a step is a record that stands in the log
+pub step_stands : (ns : List Numbered) (at : ℕ) → IsSome (step_at (steps_of ns) at) → (r : Record) × StandsAt ns at r
+step_stands ns at some = let x = some_of (step_at (steps_of ns) at) some in let f = found ns at x.0 x.1 in (f.r, f.stands)

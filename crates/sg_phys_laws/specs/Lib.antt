@@ -2,9 +2,11 @@ pub mod Listed
 pub mod States
 pub mod Reading
 pub mod Points
+pub mod Known
 pub mod Waiting
 pub mod Logged
 pub mod Images
 pub mod Recovers
 pub mod Poised
 pub mod Faults
+pub mod Counted

@@ -11,7 +11,7 @@ use Rattle.sg_base.specs.Op.{Op}
 use Rattle.sg_record.specs.Changes.{Change, PageChange}
 use Rattle.sg_record.specs.Changes.Change.{Page, SegWrite, SegOp}
 use Rattle.sg_record.specs.Records.{Record, Says}
-use Rattle.sg_record.specs.Records.Says.{Checkpoint}
+use Rattle.sg_record.specs.Records.Says.{Checkpoint, Line}
 use Rattle.sg_redo.specs.Places.{op_said, changed_by}
 use Rattle.sg_action.specs.States.{State, step_leaf}
 use Rattle.sg_engine.specs.Effects.{IsBy}
@@ -22,10 +22,11 @@ use Rattle.sg_engine.specs.Engine.{Origin, entries, IsStanding}
 use Rattle.sg_engine.specs.Running.{IsEngine, HasGoneOn, IsAllowed}
 use Rattle.sg_phys_laws.specs.States.{AllAgree, homes_of, state_of}
 
--- a checkpoint, whose estimate has to be allowed
-abbrev pub is_checkpoint : Says → Bool
-is_checkpoint (Checkpoint estimate live) = true
-is_checkpoint _ = false
+-- a record that is no step: a checkpoint, whose estimate has to be allowed, or a line, which no log of page records has
+abbrev pub is_no_step : Says → Bool
+is_no_step (Checkpoint estimate live) = true
+is_no_step (Line words) = true
+is_no_step _ = false
 
 -- which page a record changes, and how
 pub record SaysPage (r : Record) (p : ℕ) (op : Op) : Type 0 where

@@ -13,7 +13,7 @@ use Rattle.sg_record.specs.Changes.{Change as Changing}
 use Rattle.sg_record.specs.Changes.Change.{Page, SegWrite, SegOp}
 use Rattle.sg_recovery.specs.Log.Record.{Change, PhysComp}
 use Rattle.sg_ops.specs.Table.{Table}
-use Rattle.sg_action.specs.States.{State}
+use Rattle.sg_action.specs.States.{State, Extent}
 use Rattle.sg_engine.specs.History.{IsHistory, IsSound}
 use Rattle.sg_engine.specs.Kept.{home_in}
 use Rattle.sg_engine.specs.Effects.{effect_in}
@@ -29,9 +29,13 @@ use Rattle.sg_phys_laws.specs.States.{state_of, steps_of}
 abbrev pub no_band : List ℕ
 no_band = listed BAND_SIZE (λ i. 0)
 
+-- how many pages and bands a superblock says
+abbrev pub extent_by : Super → Extent
+extent_by s = record { pages = s.pages; bands = s.bands }
+
 -- the pages and bands of a store of this size. Beyond it no page says anything, and each band is zeros
 abbrev pub cut_at : Super → State → State
-cut_at s x = record { pages = λ n. if nat_lt n s.pages then x.pages n else None; bands = λ b. if nat_lt b s.bands then x.bands b else no_band }
+cut_at s x = record { size = extent_by s; pages = λ n. if nat_lt n s.pages then x.pages n else None; bands = λ b. if nat_lt b s.bands then x.bands b else no_band }
 
 -- a change is of a page or a band of such a store
 abbrev pub IsIn : Super → Changing → Type 0

@@ -11,16 +11,20 @@ use Rattle.sg_ops.specs.Table.{Table, range_at, rendered}
 use Rattle.sg_record.specs.Changes.{Change}
 use Rattle.sg_record.specs.Changes.Change.{Page, SegWrite, SegOp}
 use Rattle.sg_redo.specs.Places.{op_said, changed_by}
-use Rattle.sg_action.specs.States.{State}
+use Rattle.sg_action.specs.States.{State, Extent}
 use Rattle.sg_engine.specs.History.{Homes, made}
 use Rattle.sg_engine.specs.Engine.{Origin, entries}
 use Rattle.sg_actions.specs.Steps.{Steps, step_of, with_step, repeated}
 use Rattle.sg_redo.specs.Leaf.{leaf_of, LinksFit}
 use Rattle.sg_phys_laws.specs.Listed.{listed}
 
+-- how many pages and bands a home area has: it doesn't say that, but the superblock before it does
+abbrev pub unsaid : Extent
+unsaid = record { pages = 0; bands = 0 }
+
 -- WHAT A HOME AREA SAYS: each page without its number, and each band's bytes
 abbrev pub state_of : Homes → State
-state_of h = record { pages = λ n. leaf_of (h.page n); bands = λ b. listed BAND_SIZE (h.byte b) }
+state_of h = record { size = unsaid; pages = λ n. leaf_of (h.page n); bands = λ b. listed BAND_SIZE (h.byte b) }
 
 -- THE STEPS OF A LOG, whose records come oldest first, on some steps; the newest comes first then
 abbrev pub steps_on : Steps → List Numbered → Steps

@@ -10,11 +10,11 @@ ghost use Rattle.sg_engine.specs.Effects.{IsBy};
 ghost use Rattle.sg_engine.specs.Engine.{Origin};
 ghost use Rattle.sg_engine.specs.Running.{IsEngine, IsAllowed};
 ghost use Rattle.sg_actions.specs.Images.{IsImageOf};
-ghost use Rattle.sg_actions.specs.Steps.{Steps};
+ghost use Rattle.sg_actions.specs.Steps.{Steps, repeated};
 ghost use Rattle.sg_phys_laws.specs.Poised.{IsPoised, AreSaid};
 ghost use Rattle.sg_phys_laws.specs.Points.{redo_point, AreMarked};
 ghost use Rattle.sg_phys_laws.specs.Reading.{durable_in, waiting_in};
-ghost use Rattle.sg_phys_laws.specs.Recovers.{Recovers, StandsOwn};
+ghost use Rattle.sg_phys_laws.specs.Recovers.{Recovers, RecoversBy, StandsOwn, extent_by, super_in};
 ghost use Rattle.sg_phys_laws.specs.States.{AllAgree, IsNext, steps_of};
 
 /// A law: what more records make of pages and bands, without the pages' numbers, is what their steps
@@ -40,6 +40,13 @@ pub fn images_recover()
 /// A law: an image holds one list of steps, and comes to one state.
 pub fn recovers_one()
     ensures { (o : Origin) (c : Image) (l m : Steps) (x y : State) → Recovers o c l x → Recovers o c m y → (l ≡ m) × (x ≡ y) }
+{}
+
+/// A law: steps change no number of pages or bands, and what an image comes to has as many of each as its
+/// superblock says.
+pub fn sizes_stay()
+    ensures steps { (t : Table) (x : State) (rs : Steps) → (repeated t x rs).size ≡ x.size }
+    ensures images { (t : Table) (c : Image) (log : Steps) (x : State) → RecoversBy t c log x → x.size ≡ extent_by (super_in c) }
 {}
 
 /// A law: an engine that was opened, or made, can be the engine under the actions: what its records made

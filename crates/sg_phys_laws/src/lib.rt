@@ -10,6 +10,6 @@ mod laws;
 mod logging;
 
 pub use laws::{
-    images_recover, opened_is_poised, records_are_read, records_are_steps, recovers_one,
+    images_recover, opened_is_poised, records_are_read, records_are_steps, recovers_one, sizes_stay,
 };
 pub use logging::{links_fit, log_plain, log_record, log_without};

@@ -4,7 +4,8 @@ ghost use Rattle.sg_base.specs.Op.{op_of};
 ghost use Rattle.sg_base.specs.declared.page.TheConstants.{BAND_SIZE};
 ghost use Rattle.sg_log.specs.Frames.{Numbered, LOG_END};
 ghost use Rattle.sg_log.specs.Held.{tail_of, place_of};
-ghost use Rattle.sg_ops.specs.Table.{Table, table_of};
+ghost use Rattle.sg_ops.specs.Table.{Table, table_of, range_at, rendered};
+ghost use Rattle.sg_ops.specs.declared.TheConstants.{RANGE_LIMIT};
 ghost use Rattle.sg_record.specs.Changes.Change.{Page, SegWrite, SegOp};
 ghost use Rattle.sg_record.specs.Ranges.{IsRecord};
 ghost use Rattle.sg_record.specs.Records.{spelled};
@@ -14,6 +15,10 @@ ghost use Rattle.sg_redo.specs.Places.{changed_by};
 ghost use Rattle.sg_engine.specs.Engine.{Origin};
 ghost use Rattle.sg_redo.specs.Leaf.{LinksFit};
 ghost use Rattle.sg_actions.specs.Handing.{HandsOver};
+ghost use Rattle.sg_base.specs.Ends.{HasRisen};
+ghost use Rattle.sg_engine.specs.Calls.{WaitsFrame};
+ghost use Rattle.sg_pool.specs.Pooled.{sizes};
+ghost use Rattle.sg_phys_laws.specs.Counted.{HasCounted, FailsFor};
 ghost use Rattle.sg_phys_laws.specs.Waiting.{waiting_of};
 ghost use Rattle.sg_phys_laws.specs.Logged.{SaysPage, IsAsked, IsWrite, HasLogged, HasRun};
 
@@ -69,6 +74,9 @@ pub fn log_plain<D: Disk>(
     ensures number { IfOk result (λ lsn. lsn ≡ tried.new) }
     ensures below { OnOk result (tried.new < tail_of engine.new.log) }
     ensures grown { OnOk result (tail_of engine.new.log ≤ tail_of engine.old.log + (5 + length (spelled (shown r.now)))) }
+    ensures counts { HasCounted (D.view engine.old.disk) (D.view engine.new.disk) engine.old.log engine.new.log engine.old.pool engine.new.pool result }
+    ensures waits { OnOk result (WaitsFrame engine.new.log) }
+    ensures failed { FailsFor D.told (D.view engine.old.disk) engine.old.log engine.old.pool (D.view engine.new.disk) (shown r.now) result }
     ensures near { result ≡ Err EngineFault.LogEnd → LOG_END < tail_of engine.old.log + 131072 }
     ensures within { OnOk result (tried.new + length (spelled (shown r.now)) ≤ LOG_END) }
     ensures past { result ≡ Err EngineFault.LogEnd → LOG_END < tried.new + length (spelled (shown r.now)) }
@@ -98,6 +106,9 @@ fn log_to_page<D: Disk>(
     ensures number { IfOk result (λ lsn. lsn ≡ tried.new) }
     ensures below { OnOk result (tried.new < tail_of engine.new.log) }
     ensures grown { OnOk result (tail_of engine.new.log ≤ tail_of engine.old.log + (5 + length (spelled (shown r.now)))) }
+    ensures counts { HasCounted (D.view engine.old.disk) (D.view engine.new.disk) engine.old.log engine.new.log engine.old.pool engine.new.pool result }
+    ensures waits { OnOk result (WaitsFrame engine.new.log) }
+    ensures failed { FailsFor D.told (D.view engine.old.disk) engine.old.log engine.old.pool (D.view engine.new.disk) (shown r.now) result }
     ensures near { result ≡ Err EngineFault.LogEnd → LOG_END < tail_of engine.old.log + 131072 }
     ensures within { OnOk result (tried.new + length (spelled (shown r.now)) ≤ LOG_END) }
     ensures past { result ≡ Err EngineFault.LogEnd → LOG_END < tried.new + length (spelled (shown r.now)) }
@@ -135,6 +146,9 @@ fn log_page<D: Disk>(
     ensures number { IfOk result (λ lsn. lsn ≡ tried.new) }
     ensures below { OnOk result (tried.new < tail_of engine.new.log) }
     ensures grown { OnOk result (tail_of engine.new.log ≤ tail_of engine.old.log + (5 + length (spelled (shown r.now)))) }
+    ensures counts { HasCounted (D.view engine.old.disk) (D.view engine.new.disk) engine.old.log engine.new.log engine.old.pool engine.new.pool result }
+    ensures waits { OnOk result (WaitsFrame engine.new.log) }
+    ensures failed { FailsFor D.told (D.view engine.old.disk) engine.old.log engine.old.pool (D.view engine.new.disk) (shown r.now) result }
     ensures near { result ≡ Err EngineFault.LogEnd → LOG_END < tail_of engine.old.log + 131072 }
     ensures within { OnOk result (tried.new + length (spelled (shown r.now)) ≤ LOG_END) }
     ensures past { result ≡ Err EngineFault.LogEnd → LOG_END < tried.new + length (spelled (shown r.now)) }
@@ -162,6 +176,9 @@ fn log_to_band<D: Disk>(
     ensures number { IfOk result (λ lsn. lsn ≡ tried.new) }
     ensures below { OnOk result (tried.new < tail_of engine.new.log) }
     ensures grown { OnOk result (tail_of engine.new.log ≤ tail_of engine.old.log + (5 + length (spelled (shown r.now)))) }
+    ensures counts { HasCounted (D.view engine.old.disk) (D.view engine.new.disk) engine.old.log engine.new.log engine.old.pool engine.new.pool result }
+    ensures waits { OnOk result (WaitsFrame engine.new.log) }
+    ensures failed { b.0 < (sizes engine.old.pool).bands → result ≡ Err EngineFault.Disk → HasRisen (D.view engine.old.disk).faults (D.view engine.new.disk).faults }
     ensures near { result ≡ Err EngineFault.LogEnd → LOG_END < tail_of engine.old.log + 131072 }
     ensures within { OnOk result (tried.new + length (spelled (shown r.now)) ≤ LOG_END) }
     ensures past { result ≡ Err EngineFault.LogEnd → LOG_END < tried.new + length (spelled (shown r.now)) }
@@ -190,6 +207,9 @@ fn log_bytes<D: Disk>(
     ensures number { IfOk result (λ lsn. lsn ≡ tried.new) }
     ensures below { OnOk result (tried.new < tail_of engine.new.log) }
     ensures grown { OnOk result (tail_of engine.new.log ≤ tail_of engine.old.log + (5 + length (spelled (shown r.now)))) }
+    ensures counts { HasCounted (D.view engine.old.disk) (D.view engine.new.disk) engine.old.log engine.new.log engine.old.pool engine.new.pool result }
+    ensures waits { OnOk result (WaitsFrame engine.new.log) }
+    ensures failed { FailsFor D.told (D.view engine.old.disk) engine.old.log engine.old.pool (D.view engine.new.disk) (shown r.now) result }
     ensures near { result ≡ Err EngineFault.LogEnd → LOG_END < tail_of engine.old.log + 131072 }
     ensures within { OnOk result (tried.new + length (spelled (shown r.now)) ≤ LOG_END) }
     ensures past { result ≡ Err EngineFault.LogEnd → LOG_END < tried.new + length (spelled (shown r.now)) }
@@ -199,6 +219,21 @@ fn log_bytes<D: Disk>(
         → HasRun own o (D.view engine.old.disk) (D.view engine.new.disk) engine.old.log engine.new.log engine.old.pool engine.new.pool ds (ds ++ ps) (shown r.now) tried.new result }
 {
     log_to_band(engine, r, change.band, change.at, change.after, tried)
+}
+
+// Writes what a range operation gives. One that isn't registered gives zeros.
+fn render(ops: &Ops, change: &BandOp<'_>, into: &mut [u8])
+    requires size { length into.old ≡ change.now.count }
+    requires low { change.now.position + change.now.count ≤ RANGE_LIMIT }
+    ensures size { length into.new ≡ length into.old }
+    ensures text { into.new ≡ rendered (range_at (table_of record_meaning range_meaning ops.now) change.now.code) change.now.arg.now change.now.position change.now.count }
+{
+    ops.laws();
+    if ops.has_range(change.code) {
+        ops.render(change.code, change.position, change.arg, into);
+    } else {
+        ops.render(1, 0, &[], into);
+    }
 }
 
 // Appends the record of an operation on bytes of a band, and does it.
@@ -215,6 +250,9 @@ fn log_op<D: Disk>(
     ensures number { IfOk result (λ lsn. lsn ≡ tried.new) }
     ensures below { OnOk result (tried.new < tail_of engine.new.log) }
     ensures grown { OnOk result (tail_of engine.new.log ≤ tail_of engine.old.log + (5 + length (spelled (shown r.now)))) }
+    ensures counts { HasCounted (D.view engine.old.disk) (D.view engine.new.disk) engine.old.log engine.new.log engine.old.pool engine.new.pool result }
+    ensures waits { OnOk result (WaitsFrame engine.new.log) }
+    ensures failed { FailsFor D.told (D.view engine.old.disk) engine.old.log engine.old.pool (D.view engine.new.disk) (shown r.now) result }
     ensures near { result ≡ Err EngineFault.LogEnd → LOG_END < tail_of engine.old.log + 131072 }
     ensures within { OnOk result (tried.new + length (spelled (shown r.now)) ≤ LOG_END) }
     ensures past { result ≡ Err EngineFault.LogEnd → LOG_END < tried.new + length (spelled (shown r.now)) }
@@ -225,12 +263,9 @@ fn log_op<D: Disk>(
 {
     *tried = engine.place(r);
     ops.laws();
-    if !ops.has_range(change.code) {
-        return Err(EngineFault::Disk);
-    }
     let mut bytes = [0; 32_768];
     let part = &mut bytes[..change.count as usize];
-    ops.render(change.code, change.position, change.arg, part);
+    render(ops, change, part);
     log_to_band(engine, r, change.band, change.at, part, tried)
 }
 
@@ -247,6 +282,9 @@ pub fn log_record<D: Disk>(
     ensures number { IfOk result (λ lsn. lsn ≡ tried.new) }
     ensures below { OnOk result (tried.new < tail_of engine.new.log) }
     ensures grown { OnOk result (tail_of engine.new.log ≤ tail_of engine.old.log + (5 + length (spelled (shown r.now)))) }
+    ensures counts { HasCounted (D.view engine.old.disk) (D.view engine.new.disk) engine.old.log engine.new.log engine.old.pool engine.new.pool result }
+    ensures waits { OnOk result (WaitsFrame engine.new.log) }
+    ensures failed { FailsFor D.told (D.view engine.old.disk) engine.old.log engine.old.pool (D.view engine.new.disk) (shown r.now) result }
     ensures near { result ≡ Err EngineFault.LogEnd → LOG_END < tail_of engine.old.log + 131072 }
     ensures within { OnOk result (tried.new + length (spelled (shown r.now)) ≤ LOG_END) }
     ensures past { result ≡ Err EngineFault.LogEnd → LOG_END < tried.new + length (spelled (shown r.now)) }
@@ -265,6 +303,14 @@ pub fn log_record<D: Disk>(
     }
 }
 
+// A table without a registered operation. It takes no memory.
+fn no_operations(alloc: Global) -> Ops {
+    match Ops::new(alloc) {
+        Ok(none) => none,
+        Err(_) => unreachable!(),
+    }
+}
+
 /// The same of a record that uses no registered operation.
 pub fn log_without<D: Disk>(
     engine: &mut Engine<D>,
@@ -277,6 +323,9 @@ pub fn log_without<D: Disk>(
     ensures number { IfOk result (λ lsn. lsn ≡ tried.new) }
     ensures below { OnOk result (tried.new < tail_of engine.new.log) }
     ensures grown { OnOk result (tail_of engine.new.log ≤ tail_of engine.old.log + (5 + length (spelled (shown r.now)))) }
+    ensures counts { HasCounted (D.view engine.old.disk) (D.view engine.new.disk) engine.old.log engine.new.log engine.old.pool engine.new.pool result }
+    ensures waits { OnOk result (WaitsFrame engine.new.log) }
+    ensures failed { FailsFor D.told (D.view engine.old.disk) engine.old.log engine.old.pool (D.view engine.new.disk) (shown r.now) result }
     ensures near { result ≡ Err EngineFault.LogEnd → LOG_END < tail_of engine.old.log + 131072 }
     ensures within { OnOk result (tried.new + length (spelled (shown r.now)) ≤ LOG_END) }
     ensures past { result ≡ Err EngineFault.LogEnd → LOG_END < tried.new + length (spelled (shown r.now)) }
@@ -287,10 +336,6 @@ pub fn log_without<D: Disk>(
     ensures runs { (own : Table) (o : Origin) (ds ps : List Numbered) → IsTrue D.told → ((given : Table) → IsAsked own given o (D.view engine.old.disk) engine.old.log ds ps engine.old.pool (shown r.now))
         → HasRun own o (D.view engine.old.disk) (D.view engine.new.disk) engine.old.log engine.new.log engine.old.pool engine.new.pool ds (ds ++ ps) (shown r.now) tried.new result }
 {
-    *tried = engine.place(r);
-    // A table without a registered operation takes no memory.
-    let Ok(none) = Ops::new(alloc) else {
-        return Err(EngineFault::Disk);
-    };
+    let none = no_operations(alloc);
     log_record(engine, &none, r, tried)
 }

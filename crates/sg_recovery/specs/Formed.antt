@@ -5,6 +5,7 @@ use Rattle.sg_recovery.specs.Log.Record.{Begin, Change, TopEnd, PhysComp, TopVoi
 use Rattle.sg_recovery.specs.Laws.{Each}
 use Rattle.sg_recovery.specs.Chains.{last_of, border_of, next_off, Formed}
 use Rattle.sg_recovery.specs.TakeOff.{AreOwned, FormedSystem}
+use Rattle.sg_recovery.specs.Ending.{AllEndWell, AllOver}
 
 -- An action of the transaction has no end: the transaction's last record is none that ends an action. That it is, also where
 -- all changes of the action are taken off.
@@ -50,7 +51,8 @@ abbrev pub AreStraight : {C N : Type 0} → List (Numbered C N) → Type 0
 AreStraight [] = Unit {0}
 AreStraight (r ∷ rs) = IsStraight rs r.is × AreStraight rs
 
--- A formed log whose area begins at the number base.
+-- A FORMED LOG whose area begins at the number base: its records follow one another, its actions and its transactions end as they have to, and
+-- at most one action has no end.
 pub record IsLog {C N : Type 0} (base : ℕ) (rs : List (Numbered C N)) : Type 0 where
   pub above : Each (λ r. base ≤ r.lsn) rs
   pub owned : AreOwned rs
@@ -58,6 +60,8 @@ pub record IsLog {C N : Type 0} (base : ℕ) (rs : List (Numbered C N)) : Type 0
   pub system : FormedSystem base rs
   pub between : AreBetween rs
   pub straight : AreStraight rs
+  pub ended : AllEndWell rs
+  pub over : AllOver base rs
   pub one_action : OneAction rs
 
 -- an open change is of its transaction's last action, which has no end

@@ -12,6 +12,7 @@ pub mod Claims
 pub mod SmallLogs
 pub mod Cells
 pub mod TakeOff
+pub mod Ending
 pub mod Formed
 pub mod Alike
 pub mod ArrayCase

@@ -1,5 +1,6 @@
 pub mod Versions
 pub mod Bytes
+pub mod Checking
 pub mod Converging
 pub mod InRange
 pub mod InTurn

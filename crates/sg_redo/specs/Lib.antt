@@ -5,3 +5,4 @@ pub mod Page
 pub mod Places
 pub mod Units
 pub mod Window
+pub mod Well

@@ -12,6 +12,7 @@
 #![tactic(auto)]
 
 mod change;
+mod check;
 mod known;
 mod laws;
 mod page;
@@ -22,6 +23,7 @@ mod unit;
 mod window;
 
 pub use change::page_op;
+pub use check::{check_pages, is_well};
 pub use known::are_known;
 pub use laws::{
     places_name_units, records_fit_as_said, records_keep_pages, records_make_what_is_said,

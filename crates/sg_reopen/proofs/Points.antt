@@ -41,7 +41,7 @@ marks_both allowed (x ∷ xs) ys one two = (one.0, marks_both allowed xs ys one.
 mark_allow : (A B : ℕ → Type 0) (lsn : ℕ) (x : Sight) → ((k : ℕ) → A k → B k) → IsMarked A lsn x → IsMarked B lsn x
 mark_allow A B lsn (Stepped x) more marked = tt
 mark_allow A B lsn (Estimated e) more marked = (more e marked.0, marked.1)
-mark_allow A B lsn Foreign more marked = tt
+mark_allow A B lsn Foreign more marked = marked
 
 pub marks_allow : (A B : ℕ → Type 0) (ns : List Numbered) → ((k : ℕ) → A k → B k) → AreMarked A ns → AreMarked B ns
 marks_allow A B [] more marked = tt
@@ -70,7 +70,7 @@ module _ (A : ℕ → Type 0) (base : ℕ) (start : A base) where
 low_mark : (d lsn : ℕ) (x : Sight) → lsn < d → IsMarked (λ k. Unit {0}) lsn x → IsMarked (λ k. k ≤ d) lsn x
 low_mark d lsn (Stepped x) lt marked = tt
 low_mark d lsn (Estimated e) lt marked = (let le = marked.1 in omega arith, marked.1)
-low_mark d lsn Foreign lt marked = tt
+low_mark d lsn Foreign lt marked = marked
 
 low_marks : (o : Origin) (d : ℕ) (ns : List Numbered) → AllUnder entry_number d (entries o ns) → AreMarked (λ k. Unit {0}) ns → AreMarked (λ k. k ≤ d) ns
 low_marks o d [] under marked = tt

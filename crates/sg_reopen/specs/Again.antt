@@ -27,13 +27,13 @@ origin_at o c = at_home o (image_home o c)
 abbrev pub MakesSame : Origin → List Numbered → Homes → Type 0
 MakesSame o rs f = AreSame (geometry o.super) (made (entries o rs) f) (made (entries o rs) o.first)
 
--- a checkpoint estimates what is allowed, and no more than its own number
+-- a checkpoint estimates what is allowed, and no more than its own number; and no record is of another kind than those of pages
 abbrev pub IsMarked : (allowed : ℕ → Type 0) → (lsn : ℕ) → Sight → Type 0
 IsMarked allowed lsn (Stepped x) = Unit {0}
 IsMarked allowed lsn (Estimated estimate) = allowed estimate × (estimate ≤ lsn)
-IsMarked allowed lsn Foreign = Unit {0}
+IsMarked allowed lsn Foreign = ⊥
 
--- so does each checkpoint of these records
+-- so is each of these records
 abbrev pub AreMarked : (allowed : ℕ → Type 0) → List Numbered → Type 0
 AreMarked allowed [] = Unit {0}
 AreMarked allowed (n ∷ ns) = IsMarked allowed n.lsn (sight_of n.is) × AreMarked allowed ns

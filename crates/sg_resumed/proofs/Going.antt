@@ -1,19 +1,26 @@
 -- A TAKE-OFF THAT GOES ON, of a found action.
-use Rattle.std.proofs.Common.{◌≡◌, ◌≢◌, ◌⊎◌, inl, inr, true, false, ℕ, ◌+◌, ◌<◌, [], List, Result, Ok, Err, sym, subst, ◌∙◌, refl, arith}
+use Rattle.std.proofs.Common.{◌≡◌, ◌≢◌, ◌⊎◌, inl, inr, true, false, ℕ, ◌+◌, ◌<◌, ◌≤◌, [], ◌∷◌, List, Result, Ok, Err, sym, ap, subst, ◌∙◌, refl, arith}
+use Rattle.sg_disk.specs.Accounts.{Accounts}
+use Rattle.sg_disk.specs.Disk.{View}
 use Rattle.sg_ops.specs.Table.{Table}
 use Rattle.sg_recovery.specs.Formed.{IsLog}
-use Rattle.sg_recovery.specs.Log.{tally, is_in}
+use Rattle.sg_recovery.specs.Log.{Open, tally, is_in}
+use Rattle.sg_recovery.specs.Chains.{next_off}
+use Rattle.sg_record.specs.Changes.{Change as Changing}
 use Rattle.sg_space.specs.declared.space.SpaceFault.{SpaceFault}
 use Rattle.sg_action.specs.States.{State, Kept}
 use Rattle.sg_actions.specs.Engine.{EngineSeen, led}
 use Rattle.sg_actions.specs.Images.{Recovering}
-use Rattle.sg_actions.specs.TakingOff.{IsGoing, IsRunning}
+use Rattle.sg_actions.specs.TakingOff.{AreLinked, IsGoing, IsRunning}
+use Rattle.sg_actions.specs.Steps.{Steps}
 use Rattle.sg_actions.specs.WentOff.{OffCounts, WentOff}
 use Rattle.sg_actions.specs.declared.rows.Actor.{Actor}
 use Rattle.sg_actions.specs.declared.rows.Row.{Row}
+use Rattle.sg_actions.proofs.Accounting.{accounts_ok, accounts_err, count_ok, count_then}
 use Rattle.sg_actions.proofs.Offing.{going_stays}
 use Rattle.sg_unread.specs.Unread.{LooksOn}
 use Rattle.sg_found.specs.Found.{IsOpenAt}
+use Rattle.sg_found.proofs.Newest.{system_dead}
 use Rattle.sg_found.proofs.Running.{acting_at, running_found, rows_found}
 use Rattle.sg_resumed.specs.Taking.{CanGoOn, LeadsOff}
 
@@ -39,6 +46,31 @@ going_found t e from first rows actor at before c l o zero = record {
     acts : actor.txn.0 ≢ 0 → (actor.txn.0 ≡ 0) ⊎ (is_in actor.txn.0 (tally e.steps).live ≡ true) → is_in actor.txn.0 (tally e.steps).live ≡ true
     acts ne (inl z) = absurd (ne z)
     acts ne (inr live) = live
+
+-- NO BREAK over an engine that tells, behind what was found
+pub none_broken : {T : Type 0} {a b : EngineSeen} {before after : ℕ} (r : Result T SpaceFault) → OffCounts a b before after r → (a.Told → a.faults ≡ 0) → (b.Told → b.faults ≡ 0) → (a.Told → before ≡ 0) → b.Told → after ≡ 0
+none_broken (Ok x) h none none' zero_before told = let q = h.quiet in let e = none (h.told told) in let f = none' told in let z = zero_before (h.told told) in omega (arith, q, e, f, z)
+none_broken (Err f) h none none' zero_before told = absurd (h.silent told)
+
+-- where nothing is left of an action of the system it may as well have begun nowhere
+low_before : (rs : Steps) (before : ℕ) (ds : List (Open Changing)) → AreLinked rs before ds → before ≤ next_off before ds
+low_before rs before [] l = omega arith
+low_before rs before (d ∷ ds) l = let q = low_before rs before ds l.3 in let z = l.1 in omega (arith, q, z)
+
+pub open_none : (base : ℕ) (rs : Steps) (txn at before : ℕ) → IsLog base rs → txn ≡ 0 → at ≡ before → IsOpenAt rs base txn at before → IsOpenAt rs base txn 0 0
+open_none base rs txn at before log system same o = by_list (tally rs).opened refl
+  where
+    by_list : (ds : List (Open Changing)) → (tally rs).opened ≡ ds → IsOpenAt rs base txn 0 0
+    by_list [] e = record {
+      back = record { linked = subst (AreLinked rs 0) (sym e) tt; at_is = sym (ap (next_off 0) e); bottom = inl (inl refl) };
+      own = λ live. absurd (let no : true ≡ false = sym live ∙ (ap (λ (t : ℕ). is_in t (tally rs).live) system ∙ system_dead base rs log) in cc);
+    }
+    by_list (d ∷ ds) e =
+        let l = subst (AreLinked rs before) e o.back.linked in
+        let is = o.back.at_is ∙ ap (next_off before) e in
+        let q = low_before rs before ds l.3 in
+        let z = l.1 in
+        absurd (omega (arith, q, z, is, same))
 
 -- behind looks
 pub going_looks : {recovers : Table → Recovering} {t : Table} {a b : EngineSeen} {m n : Table → State → Type 0} {kept : Kept} {begin : State} {rows : List Row} {actor : Actor} {at : ℕ} (from : State) → LooksOn recovers t a b m n → m t from → a.Told → b.failed ≡ false
@@ -67,7 +99,9 @@ counts_then {T} {U} {a} {b} {c} {before} {mid} {after} {x} (Ok y) f g = record {
   later = let p = f.later in let q = g.later in omega (arith, p, q);
   quiet = g.quiet ∙ f.quiet;
   disk = tt;
+  accounts = accounts_ok y (count_then (count_ok f.accounts) (count_ok g.accounts));
   log_end = tt;
+  silent = tt;
   tail = let p = f.tail in let q = g.tail in omega (arith, p, q);
   stops = λ h. let p = f.stops h in let q = g.stops p.0 in (q.0, q.1 ∙ p.1);
 }
@@ -77,13 +111,18 @@ counts_then {T} {U} {a} {b} {c} {before} {mid} {after} {x} (Err y) f g = record 
   later = let p = f.later in let q = g.later in omega (arith, p, q);
   quiet = tt;
   disk = λ d few. let q = f.quiet in let r : b.faults + mid < c.faults + after = g.disk d few in omega (arith, q, r);
+  accounts = accounts_err f.tells (count_ok f.accounts) g.accounts;
   log_end = g.log_end;
+  silent = g.silent;
   tail = let p = f.tail in let q = g.tail in omega (arith, p, q);
   stops = λ h. let p = f.stops h in let q = g.stops p.0 in (q.0, q.1 ∙ p.1);
 }
 
+accounts_fail : {T U : Type 0} {P : SpaceFault → Type 0} {Told : Type 0} {v w : View} {i j : ℕ} {f : SpaceFault} → Accounts P Told v w i j (let r : Result T SpaceFault = Err f in r) → Accounts P Told v w i j (let r : Result U SpaceFault = Err f in r)
+accounts_fail k = record { later = k.later; heeded = k.heeded; caused = k.caused; handed = k.handed; shown = k.shown }
+
 pub counts_fail : {T U : Type 0} {a b : EngineSeen} {before after : ℕ} {f : SpaceFault} → OffCounts {T = T} a b before after (Err f) → OffCounts {T = U} a b before after (Err f)
-counts_fail {T} {U} {a} {b} {before} {after} {f} k = record { told = k.told; tells = tt; later = k.later; quiet = tt; disk = k.disk; log_end = k.log_end; tail = k.tail; stops = k.stops }
+counts_fail {T} {U} {a} {b} {before} {after} {f} k = record { told = k.told; tells = tt; later = k.later; quiet = tt; disk = k.disk; accounts = accounts_fail k.accounts; log_end = k.log_end; tail = k.tail; silent = k.silent; stops = k.stops }
 
 -- THE SAME OF A SPACE THAT IS TAKEN APART, looked at, and made of its parts
 module _ {E : Type 0} (view : E → EngineSeen) (means : E → Table → State → Type 0) (recovers : Table → Recovering) (t : Table) (from : State) (a b0 b c : E) (apart : b0 ≡ a) (made : c ≡ b) (looks : LooksOn recovers t (view b0) (view b) (means b0) (means b)) where

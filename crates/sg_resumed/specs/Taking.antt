@@ -1,5 +1,5 @@
 -- WHAT IS ASKED OF A SPACE WHOSE FOUND ACTION IS TAKEN OFF.
-use Rattle.std.specs.Prelude.{◌≡◌, ℕ, ◌≤◌, true, List, Some, None, map}
+use Rattle.std.specs.Prelude.{◌≡◌, ◌≢◌, ℕ, ◌≤◌, true, List, Some, None, map}
 use Rattle.sg_ops.specs.Table.{Table}
 use Rattle.sg_recovery.specs.Chains.{last_of, next_lsn}
 use Rattle.sg_recovery.specs.Formed.{IsLog, IsUnfinished}
@@ -8,15 +8,17 @@ use Rattle.sg_action.specs.States.{State, all_off}
 use Rattle.sg_actions.specs.Changes.{meaning}
 use Rattle.sg_actions.specs.Engine.{EngineSeen, EngineView, now_of}
 use Rattle.sg_actions.specs.Rows.{last_in}
+use Rattle.sg_actions.specs.Steps.{Steps}
 use Rattle.sg_actions.specs.declared.rows.Actor.{Actor}
 use Rattle.sg_actions.specs.declared.rows.Row.{Row}
+use Rattle.sg_found.specs.Found.{IsOpenAt}
 
 -- the log is formed, who acts is whose action has no end, and the rows are those of the transactions that go on
 pub record CanGoOn (e : EngineSeen) (first : ℕ) (table : List Row) (actor : Actor) : Type 0 where
   pub formed : IsLog e.base e.steps
   pub based : e.base ≤ e.tail
   pub below : next_lsn e.steps ≤ e.tail
-  pub start : e.base ≤ first
+  pub start : e.base ≡ first
   pub unfinished : IsUnfinished e.steps actor.txn.0
   pub last : actor.last ≡ last_of actor.txn.0 e.steps
   pub rows : (u : ℕ) → is_in u (tally e.steps).live ≡ true → last_in table u ≡ Some (last_of u e.steps)

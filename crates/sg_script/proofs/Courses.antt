@@ -120,6 +120,7 @@ ran_by {E = E} ghosts t end e f h k m source left first now by_then stopped r wa
   heard = r.executed.heard;
   took = r.executed.took;
   caused = all_wider (ghosts.view f).tail (ghosts.view e).faults (ghosts.view f).faults (ghosts.view h).tail (ghosts.view e).faults (ghosts.view h).faults heeds.tail (omega arith) r.executed.heeds.later heeds.later r.lines r.executed.answers r.executed.caused;
+  own = λ told. all_wider (ghosts.view f).tail (ghosts.view e).disk.faults (ghosts.view f).disk.faults (ghosts.view h).tail (ghosts.view e).disk.faults (ghosts.view h).disk.faults heeds.tail (omega arith) r.executed.heeds.disk_later heeds.disk_later r.lines r.executed.answers (r.executed.own told);
   stop = was ∙ r.executed.stop;
   course = λ z from means told x lawful shows. subst (λ (s : Option Stop). Course t (ghosts.basis z) (led t z from (ghosts.view e)) x r.lines r.executed.answers r.executed.heard s stopped (led t z from (ghosts.view h))) (sym was)
       (by_stop z from means told x lawful shows m.store.stopped refl);

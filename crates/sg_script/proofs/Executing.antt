@@ -161,6 +161,13 @@ module _ (t : Operations) (g : Ground) where
   goes_stopped v k x e shows (Other Wrong) = steps.bad_syntax t g v x k shows
   goes_stopped v k x e shows (Other (Of name request)) = steps.has_stopped t g v x k shows name request e
 
+-- nothing goes wrong in a line of a session that has stopped
+no_trouble : (begin tail before now : ℕ) (line : Line) → IsCaused begin tail before now line (trouble_in (when_stopped line))
+no_trouble begin tail before now Flush = tt
+no_trouble begin tail before now (Other Blank) = tt
+no_trouble begin tail before now (Other Wrong) = tt
+no_trouble begin tail before now (Other (Of name request)) = tt
+
 -- what holds of the cause of an answer holds by wider bounds
 caused_wider : (tail before now top bottom last : ℕ) (line : Line) (d : Trouble) → tail ≤ top → bottom ≤ before → before ≤ now → now ≤ last → (begin : ℕ) → begin ≤ top → IsCaused begin tail before now line d → IsCaused top top bottom last line d
 caused_wider tail before now top bottom last line NoTrouble wide bb bn nl begin le h = h
@@ -207,6 +214,7 @@ module _ {E : Type 0} (ghosts : Ghosts E) (t : Operations) where
     heard = [];
     took = nothing;
     caused = tt;
+    own = λ told. tt;
     stop = refl;
     done = λ z from m told x lawful shows. executed_none t (ghosts.basis z) (led t z from (ghosts.view e)) k x shows;
   }
@@ -230,11 +238,22 @@ module _ {E : Type 0} (ghosts : Ghosts E) (t : Operations) where
         took = hears.1;
         caused = all_more (ghosts.view h).tail (ghosts.view e).faults (ghosts.view h).faults lines so_far.answers line a.answer ones
             (caused_wider (ghosts.view h).tail (ghosts.view f).faults (ghosts.view h).faults (ghosts.view h).tail (ghosts.view e).faults (ghosts.view h).faults (line_of line) (trouble_in a.answer) (omega arith) before now (omega arith) (ghosts.view f).tail tail a.caused.cause);
+        own = λ told. all_more (ghosts.view h).tail (ghosts.view e).disk.faults (ghosts.view h).disk.faults lines so_far.answers line a.answer
+            (all_wider (ghosts.view f).tail (ghosts.view e).disk.faults (ghosts.view f).disk.faults (ghosts.view h).tail (ghosts.view e).disk.faults (ghosts.view h).disk.faults tail (omega arith) so_far.heeds.disk_later goes.heeds.disk_later lines so_far.answers (so_far.own told))
+            (caused_wider (ghosts.view h).tail (ghosts.view f).disk.faults (ghosts.view h).disk.faults (ghosts.view h).tail (ghosts.view e).disk.faults (ghosts.view h).disk.faults (line_of line) (trouble_in a.answer) (omega arith) so_far.heeds.disk_later goes.heeds.disk_later (omega arith) (ghosts.view f).tail tail
+            (own_line told m.store.stopped refl));
         stop = a.caused.stop ∙ (ap (λ (s : Option Stop). stop_by s (line_of line) (trouble_in a.answer)) so_far.stop
             ∙ stop_more (ghosts.view h).tail (ghosts.view e).faults (ghosts.view h).faults k.store.stopped lines so_far.answers line a.answer ones);
         done = λ z from r told x lawful shows. by_stop z from r told x lawful shows m.store.stopped refl;
       }
     where
+      own_line : (ghosts.view e).Told → (s : Option Stop) → m.store.stopped ≡ s → IsCaused (ghosts.view f).tail (ghosts.view h).tail (ghosts.view f).disk.faults (ghosts.view h).disk.faults (line_of line) (trouble_in goes.is.answer)
+      own_line told None is = goes.is.caused.own (so_far.heeds.tells is told)
+      own_line told (Some why) is =
+          let some : IsSome m.store.stopped = ap is_some is in
+          subst (λ (answer : Answer). IsCaused (ghosts.view f).tail (ghosts.view h).tail (ghosts.view f).disk.faults (ghosts.view h).disk.faults (line_of line) (trouble_in answer)) (sym (goes.is.by_stop some))
+          (no_trouble (ghosts.view f).tail (ghosts.view h).tail (ghosts.view f).disk.faults (ghosts.view h).disk.faults (line_of line))
+
       by_stop : (z : _) (from : (ghosts.basis z).X) → (ghosts.view e).means t z from → (ghosts.view e).Told → (x : Run) → IsLawful t (ghosts.basis z) → Shows t (ghosts.basis z) (led t z from (ghosts.view e)) k x
           → (s : Option Stop) → m.store.stopped ≡ s → Executed t (ghosts.basis z) (led t z from (ghosts.view e)) x (lines ++ line ∷ []) (so_far.answers ++ goes.is.answer ∷ []) (led t z from (ghosts.view h)) n
       by_stop z from r told x lawful shows None is =

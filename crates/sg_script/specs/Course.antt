@@ -71,5 +71,7 @@ module _ {E : Type 0} (ghosts : Ghosts E) (t : Operations) where
     pub heard : List Answer
     pub took : IsHeard end first now answers heard
     pub caused : AreCaused (ghosts.view f).tail (ghosts.view e).faults (ghosts.view f).faults lines answers
+    -- where the engine told, a fault of the disk that is answered is one that the disk itself counted
+    pub own : (ghosts.view e).Told → AreCaused (ghosts.view f).tail (ghosts.view e).disk.faults (ghosts.view f).disk.faults lines answers
     pub stop : by_then ≡ stop_by_all k.store.stopped lines answers
     pub course : AsMeantBy t (ghosts.view e) (ghosts.view f) (λ g v w. (x : Run) → IsLawful t g → Shows t g v k x → Course t g v x lines answers heard by_then stopped w)

@@ -82,7 +82,7 @@ pub record Executed (t : Operations) (g : Ground) (v : View g) (x : Run) (lines 
 
 module _ {E : Type 0} (ghosts : Ghosts E) (t : Operations) where
   -- SOME LINES WERE EXECUTED. A sink took some of the replies to them whole, and what Took says of all and these. Whatever the engine tells
-  -- each answer has its cause; where it told, the lines went so for each run that the session showed
+  -- each answer has its cause; where it told, by the disk's own count too, and the lines went so for each run that the session showed
   pub record ExecutedBy (e : E) (k : Core) (lines : List (List ℕ)) (Took : (answers heard : List Answer) → Type 0) (f : E) (m : Core) : Type 0 where
     pub means : KeepsBy t (ghosts.view e) (ghosts.view f)
     pub heeds : Heeds k.store.stopped m.store.stopped (ghosts.view e) (ghosts.view f)
@@ -90,6 +90,7 @@ module _ {E : Type 0} (ghosts : Ghosts E) (t : Operations) where
     pub heard : List Answer
     pub took : Took answers heard
     pub caused : AreCaused (ghosts.view f).tail (ghosts.view e).faults (ghosts.view f).faults lines answers
+    pub own : (ghosts.view e).Told → AreCaused (ghosts.view f).tail (ghosts.view e).disk.faults (ghosts.view f).disk.faults lines answers
     pub stop : m.store.stopped ≡ stop_by_all k.store.stopped lines answers
     pub done : AsMeantBy t (ghosts.view e) (ghosts.view f) (λ g v w. (x : Run) → IsLawful t g → Shows t g v k x → Executed t g v x lines answers w m)
 

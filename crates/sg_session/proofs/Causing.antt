@@ -1,5 +1,5 @@
 -- The cause of each line's answer, by why the store answered so.
-use Rattle.std.proofs.Common.{◌≡◌, ℕ, Bool, List, Option, Some, None, Result, refl, sym, ap, ◌∙◌, subst}
+use Rattle.std.proofs.Common.{◌≡◌, ⊎_elim, ℕ, Bool, List, Option, Some, None, Result, refl, sym, ap, ◌∙◌, subst}
 use Rattle.std.specs.Prelude.{Ok, Err}
 use Rattle.sg_model.specs.declared.stop.Stop.{Stop}
 use Rattle.sg_model.specs.declared.stop.Stop.TheVariants as stops
@@ -13,6 +13,7 @@ use Rattle.sg_store.specs.declared.fault.Refused.TheVariants as refusals
 use Rattle.sg_store.specs.Ground.{Ground}
 use Rattle.sg_store.specs.Engine.{Sizes, Shown}
 use Rattle.sg_store.specs.Stops.{stop_behind}
+use Rattle.sg_store.specs.Heeds.{Heeds}
 use Rattle.sg_store.specs.Store.{Core}
 use Rattle.sg_store.specs.Causes.{BeginsFor, EndsFor, FlushesFor, RefusesFor, UnlistedFor}
 use Rattle.sg_session.specs.Lines.{Line}
@@ -26,12 +27,27 @@ module _ {basis : Sizes → Ground} (old new : Shown basis) where
     pub cause : IsCaused old.tail new.tail old.faults new.faults line trouble
     pub stop : now ≡ stop_by before line trouble
 
-  pub by_trouble : (before now : Option Stop) (line : Line) (answer : Answer) (trouble : Trouble) → trouble_in answer ≡ trouble → CausedBy before now line trouble → Caused old new before now line answer
-  by_trouble before now line answer trouble e h = let p = subst (CausedBy before now line) (sym e) h in record { cause = p.cause; stop = p.stop }
+  -- what the disk itself counted
+  own : (before now : Option Stop) (line : Line) (trouble : Trouble) → before ≡ None → Heeds before now old new → CausedBy before now line trouble → old.Told → IsCaused old.tail new.tail old.disk.faults new.disk.faults line trouble
+  own before now line NoTrouble none h p told = tt
+  own before now line OfDisk none h p told = ⊎_elim (λ was. absurd (never before none was)) (λ rose. rose told) (h.caused p.stop)
+    where
+      never : (s : Option Stop) → s ≡ None → s ≡ Some stops.Disk → ⊥
+      never s e f = cc
+  own before now line OfLog none h p told = p.cause
+  own before now line OfMemory none h p told = p.cause
+
+  pub by_trouble : (before now : Option Stop) (line : Line) (answer : Answer) (trouble : Trouble) → trouble_in answer ≡ trouble → before ≡ None → Heeds before now old new → CausedBy before now line trouble → Caused old new before now line answer
+  by_trouble before now line answer trouble e none h by =
+      let p = subst (CausedBy before now line) (sym e) by in
+      record { cause = p.cause; own = λ told. own before now line (trouble_in answer) none h p told; stop = p.stop }
 
   -- nothing went wrong, and the session is stopped or not as it was
   pub well : (before now : Option Stop) (line : Line) (answer : Answer) → trouble_in answer ≡ NoTrouble → now ≡ before → Caused old new before now line answer
-  well before now line answer e same = by_trouble before now line answer NoTrouble e (record { cause = tt; stop = same })
+  well before now line answer e same =
+      let none : CausedBy before now line NoTrouble = record { cause = tt; stop = same } in
+      let p = subst (CausedBy before now line) (sym e) none in
+      record { cause = p.cause; own = λ told. subst (λ d. IsCaused old.tail new.tail old.disk.faults new.disk.faults line d) (sym e) tt; stop = p.stop }
 
   -- no memory, for a list
   lacks : (before now : Option Stop) (name : List ℕ) (op : Op) → IsListing op → now ≡ before → CausedBy before now (Other (Of name (Do op))) OfMemory

@@ -29,9 +29,9 @@ module _ {basis : Sizes → Ground} where
       → AskedBy t old (ShowsSome k t) → AskedBy t new (ShowsSome m t)
   serves_through t old new k m keeps back goes s = record {
     sizes = s.sizes;
-    from = s.from;
-    means = keeps s.sizes s.from s.means;
-    can = λ told. (let h = s.can (back told) in let next = goes s.sizes s.from s.means (back told) h.run h.lawful h.shows in record { lawful = h.lawful; run = next.0; shows = next.1 });
+    from = λ told. s.from (back told);
+    means = λ told. keeps s.sizes (s.from (back told)) (s.means (back told));
+    can = λ told. (let h = s.can (back told) in let next = goes s.sizes (s.from (back told)) (s.means (back told)) (back told) h.run h.lawful h.shows in record { lawful = h.lawful; run = next.0; shows = next.1 });
   }
 
   pub serves_on : (t : Operations) (old new : Shown basis) (k m : Core) (line : Line) (answer : Answer)
@@ -40,9 +40,9 @@ module _ {basis : Sizes → Ground} where
       → AskedBy t old (ShowsSome k t) → AskedBy t new (ShowsSome m t)
   serves_on t old new k m line answer keeps back goes s = record {
     sizes = s.sizes;
-    from = s.from;
-    means = keeps s.sizes s.from s.means;
-    can = λ told. (let h = s.can (back told) in let next = goes s.sizes s.from s.means (back told) h.run h.lawful h.shows in record { lawful = h.lawful; run = next.after; shows = next.shows });
+    from = λ told. s.from (back told);
+    means = λ told. keeps s.sizes (s.from (back told)) (s.means (back told));
+    can = λ told. (let h = s.can (back told) in let next = goes s.sizes (s.from (back told)) (s.means (back told)) (back told) h.run h.lawful h.shows in record { lawful = h.lawful; run = next.after; shows = next.shows });
   }
 
 -- a store without a live transaction shows no names
@@ -61,5 +61,5 @@ starts_serving {basis = basis} t e k names none none_live s = subst (λ (ls : Li
   sizes = s.sizes;
   from = s.from;
   means = s.means;
-  can = λ told. (let h = s.can told in record { lawful = h.lawful; run = h.run; shows = starts t (basis s.sizes) (led t s.sizes s.from e) k h.run none_live h.shows });
+  can = λ told. (let h = s.can told in record { lawful = h.lawful; run = h.run; shows = starts t (basis s.sizes) (led t s.sizes (s.from told) e) k h.run none_live h.shows });
 })

@@ -69,8 +69,9 @@ stop_by before line OfDisk = Some stops.Disk
 stop_by before line OfLog = stop_at_end before line
 stop_by before line OfMemory = before
 
--- A LINE'S ANSWER HAS ITS CAUSE, in an engine that showed this before it and shows that, and the session has stopped behind it exactly for
--- what the answer says
+-- A LINE'S ANSWER HAS ITS CAUSE, in an engine that showed this before it and shows that; in one that told, a fault of the disk is one that the
+-- disk itself counted. And the session has stopped behind the line exactly for what the answer says
 pub record Caused {basis : Sizes → Ground} (old new : Shown basis) (before now : Option Stop) (line : Line) (answer : Answer) : Type 0 where
   pub cause : IsCaused old.tail new.tail old.faults new.faults line (trouble_in answer)
+  pub own : old.Told → IsCaused old.tail new.tail old.disk.faults new.disk.faults line (trouble_in answer)
   pub stop : now ≡ stop_by before line (trouble_in answer)

@@ -17,7 +17,7 @@ session_core s = record { store = stores.core_of s.store; names = all_live s.nam
 abbrev pub session_engine : {E : Type 0} {ghosts : Ghosts E} → code_session.Session E ghosts → E
 session_engine s = s.store.engine
 
--- A SESSION SERVES by some operations: the records of its engine are of these, and where that tells the session shows a run
+-- A SESSION SERVES by some operations: where its engine tells, its records are of these and the session shows a run
 abbrev pub Serves : {E : Type 0} {ghosts : Ghosts E} → Operations → code_session.Session E ghosts → Type 0
 Serves {ghosts = ghosts} t s = AskedBy t (ghosts.view s.store.engine) (ShowsSome (session_core s) t)
 

@@ -5,6 +5,8 @@ use Rattle.std.proofs.lemmas.Bool.{cases_eq}
 use Rattle.std.proofs.lemmas.Bool.Decides.{nat_tests}
 use Rattle.sg_base.specs.Ends.{HasRisen}
 use Rattle.sg_base.specs.declared.numbers.TxnId.{TxnId}
+use Rattle.sg_disk.specs.Accounts.{Accounts}
+use Rattle.sg_disk.specs.Disk as disk
 use Rattle.sg_ops.specs.Table.{Table}
 use Rattle.sg_recovery.specs.Chains.{next_lsn, Formed}
 use Rattle.sg_recovery.specs.Formed.{IsLog}
@@ -27,7 +29,7 @@ use Rattle.sg_actions.proofs.Flags.{some_of}
 use Rattle.sg_store.specs.Engine as store
 use Rattle.sg_store.specs.Engine.{Sizes, Shown, Counts, IsDiskFault, Appends, Appended, GoesOn, Rests, Rested, action_of, goes_behind, is_going, HasPlace}
 use Rattle.sg_ground.specs.Recovers.{Recovering}
-use Rattle.sg_shown.specs.Shown.{basis, Over, Means, acting, shown_of}
+use Rattle.sg_shown.specs.Shown.{basis, extent_of, Over, Means, acting, shown_of}
 use Rattle.sg_shown.specs.Room.{SameRoom}
 use Rattle.sg_shown.proofs.History.{grows_is, moments_are}
 use Rattle.sg_shown.proofs.Holding.{Facts, taken_same, counted_same, keeping_at_rest, engine_is}
@@ -49,6 +51,21 @@ pub only_disk : {T : Type 0} (r : Result T SpaceFault) → IfErr r (λ f. f ≡ 
 only_disk (Ok x) h = tt
 only_disk (Err f) h = subst IsDiskFault (sym h) tt
 
+-- THE DISK'S OWN COUNTS, by the store's word for its fault
+pub accounts_as : {T : Type 0} {Told : Type 0} {v w : disk.View} {i j : ℕ} (r : Result T SpaceFault) → Accounts (λ f. f ≡ Disk) Told v w i j r → Accounts IsDiskFault Told v w i j r
+accounts_as (Ok x) k = record { later = k.later; heeded = k.heeded; caused = tt; handed = k.handed; shown = k.shown }
+accounts_as (Err f) k = record { later = k.later; heeded = λ n. k.heeded (λ d. n (subst IsDiskFault (sym d) tt)); caused = λ d. k.caused (disk_is f d); handed = k.handed; shown = k.shown }
+
+-- of an engine that is as it was, and doesn't tell
+pub accounts_still : {T : Type 0} (e e' : EngineSeen) (f : SpaceFault) → e' ≡ e → (e.Told → ⊥) → Accounts IsDiskFault e.Told e.disk e'.disk e.gate e'.gate (let r : Result T SpaceFault = Err f in r)
+accounts_still {T} e e' f is never = subst (λ (x : EngineSeen). Accounts IsDiskFault e.Told e.disk x.disk e.gate x.gate (let r : Result T SpaceFault = Err f in r)) (sym is) (record {
+  later = omega arith;
+  heeded = λ n. refl;
+  caused = λ d t. absurd (never t);
+  handed = omega arith;
+  shown = inr (omega arith);
+})
+
 -- COUNTS
 module _ {T : Type 0} (recovers : Recovering) (a b : Over) (same : b.breaks ≡ a.breaks) where
   pub counts_engine : (e : EngineSeen) → e ≡ a.engine → (r : Result T SpaceFault) → EngineCounts e b.engine r → Counts IsDiskFault (shown_of recovers a) (shown_of recovers b) r
@@ -62,6 +79,7 @@ module _ {T : Type 0} (recovers : Recovering) (a b : Over) (same : b.breaks ≡ 
         later = let l = c.later in omega (arith, l, same);
         quiet = let q = c.quiet in omega (arith, q, same);
         failed = tt;
+        accounts = accounts_as (let r : Result T SpaceFault = Ok x in r) c.accounts;
       }
       by (Err f) c = record {
         told = c.told;
@@ -70,6 +88,7 @@ module _ {T : Type 0} (recovers : Recovering) (a b : Over) (same : b.breaks ≡ 
         later = let l = c.later in omega (arith, l, same);
         quiet = tt;
         failed = λ d few. let rise : a.engine.faults < b.engine.faults = c.disk (disk_is f d) (omega (arith, few)) in omega (arith, rise, same);
+        accounts = accounts_as (let r : Result T SpaceFault = Err f in r) c.accounts;
       }
 
 pub counts_acts : {T : Type 0} (recovers : Recovering) (a b : Over) (e : EngineSeen) (breaks : ℕ) → e ≡ a.engine → breaks ≡ a.breaks
@@ -77,20 +96,21 @@ pub counts_acts : {T : Type 0} (recovers : Recovering) (a b : Over) (e : EngineS
 counts_acts {T} recovers a b e breaks is same r h = by r (subst (λ (n : ℕ). ActsCounts a.engine b.engine n b.breaks r) same (subst (λ (x : EngineSeen). ActsCounts x b.engine breaks b.breaks r) is h))
   where
     by : (q : Result T SpaceFault) → ActsCounts a.engine b.engine a.breaks b.breaks q → Counts IsDiskFault (shown_of recovers a) (shown_of recovers b) q
-    by (Ok x) c = record { told = c.told; tells = c.tells; tail = c.tail; later = c.later; quiet = c.quiet; failed = tt }
-    by (Err f) c = record { told = c.told; tells = tt; tail = c.tail; later = c.later; quiet = tt; failed = λ d. c.disk (disk_is f d) }
+    by (Ok x) c = record { told = c.told; tells = c.tells; tail = c.tail; later = c.later; quiet = c.quiet; failed = tt; accounts = accounts_as (let r : Result T SpaceFault = Ok x in r) c.accounts }
+    by (Err f) c = record { told = c.told; tells = tt; tail = c.tail; later = c.later; quiet = tt; failed = λ d. c.disk (disk_is f d); accounts = accounts_as (let r : Result T SpaceFault = Err f in r) c.accounts }
 
 -- of a break that is counted over the same engine
 pub counts_break : {T : Type 0} (recovers : Recovering) (a b : Over) (f : SpaceFault) → b.engine ≡ a.engine
-    → a.engine.faults + a.breaks ≤ b.engine.faults + b.breaks → HasRisen (a.engine.faults + a.breaks) (b.engine.faults + b.breaks)
+    → a.engine.faults + a.breaks ≤ b.engine.faults + b.breaks → HasRisen (a.engine.faults + a.breaks) (b.engine.faults + b.breaks) → (a.engine.Told → ⊥)
     → Counts {T = T} IsDiskFault (shown_of recovers a) (shown_of recovers b) (Err f)
-counts_break recovers a b f e later risen = record {
+counts_break {T} recovers a b f e later risen never = record {
   told = subst (λ (x : EngineSeen). x.Told → a.engine.Told) (sym e) (λ h. h);
   tells = tt;
   tail = subst (λ (x : EngineSeen). a.engine.tail ≤ x.tail) (sym e) (omega arith);
   later = later;
   quiet = tt;
   failed = λ d. risen;
+  accounts = accounts_still {T = T} a.engine b.engine f e never;
 }
 
 -- ROOM
@@ -120,7 +140,6 @@ room_then f g = record {
 pub record RestsNow (b : Over) (t : Table) (z : Sizes) (from : State) (at : State) : Type 0 where
   pub kept : IsKept t (b.limits z.pages z.bands) (led from b.engine) b.maps b.rows b.actor
   pub rest : IsAtRest b.engine.steps b.unfreed b.actor
-  pub rows : (u : ℕ) → is_going u b.engine.steps ≡ true → HasRow b.rows u
   -- the pages and bands are these
   pub now : repeated t from b.engine.steps ≡ at
 
@@ -128,10 +147,11 @@ pub means_next : (a b : Over) (t : Table) (z : Sizes) (from : State) → Means a
     → b.means t from → (b.engine.Told → a.engine.Told) → (b.engine.Told → RestsNow b t z from (repeated t from a.engine.steps)) → Means b t z from
 means_next a b t z from m room same begun stands back next = record {
   since = record { stands = stands; since = λ e. absurd (let x : false ≡ true = sym begun ∙ e in cc) };
+  size = m.size;
   pages = room.pages ∙ m.pages;
   bands = room.bands ∙ m.bands;
   limits = ap (λ (l : (pages bands : ℕ) → State → ℕ → ℕ). l z.pages z.bands) same ∙ m.limits;
-  keeps = λ told. let n = next told in let k = m.keeps (back told) in keeping_at_rest b t z from n.kept n.rest n.rows
+  keeps = λ told. let n = next told in let k = m.keeps (back told) in keeping_at_rest b t z from n.kept n.rest
       (taken_same (ap (λ (x : State). x.pages) n.now) (λ p h. room.page p ∙ h) (λ p h. room.band p ∙ h) k.now)
       (counted_same room.free_pages room.free_bands (ap (λ (x : State). x.pages) n.now) k.counted) (λ n less. room.band n ∙ k.map n less);
 }
@@ -142,13 +162,13 @@ pub record MayCome (recovers : Recovering) (t : Table) (from : State) (e e' : En
   pub formed : IsLog e.base (stepped e.steps lsn x)
   pub moments : Moments (recovers t) t (led from e) (led from e') (stepped e.steps lsn x)
 
-pub appends_of : (recovers : Recovering) (a b : Over) (t : Table) (z : Sizes) (from : State) (lsn : ℕ) (x : Step) (e : EngineSeen) → e ≡ a.engine
+pub appends_of : (recovers : Recovering) (a b : Over) (t : Table) (z : Sizes) (from : State) (lsn : ℕ) (x : Step) (e : EngineSeen) → e ≡ a.engine → from.size ≡ extent_of z
     → MayCome recovers t from e b.engine lsn x
     → Appends t (basis recovers z) (store.led t z from (shown_of recovers a)) (store.led t z from (shown_of recovers b)) (record { lsn = lsn; is = x })
-appends_of recovers a b t z from lsn x e is h = let c = subst (λ (y : EngineSeen). MayCome recovers t from y b.engine lsn x) is h in record {
+appends_of recovers a b t z from lsn x e is size h = let c = subst (λ (y : EngineSeen). MayCome recovers t from y b.engine lsn x) is h in record {
   above = c.above;
   formed = c.formed;
-  moments = moments_are recovers t z (store.led t z from (shown_of recovers a)) b.engine.disk (stepped a.engine.steps lsn x) c.moments;
+  moments = moments_are recovers t z (store.led t z from (shown_of recovers a)) b.engine.disk (stepped a.engine.steps lsn x) size c.moments;
 }
 
 -- and it was
@@ -181,11 +201,11 @@ appended_of recovers a b t z from lsn x e is h m told f room begun = let c = sub
 }
 
 -- NOTHING IS APPENDED
-pub rests_of : (recovers : Recovering) (a b : Over) (t : Table) (z : Sizes) (from : State) (e : EngineSeen) → e ≡ a.engine
+pub rests_of : (recovers : Recovering) (a b : Over) (t : Table) (z : Sizes) (from : State) (e : EngineSeen) → e ≡ a.engine → from.size ≡ extent_of z
     → Moments (recovers t) t (led from e) (led from b.engine) e.steps
     → Rests t (basis recovers z) (store.led t z from (shown_of recovers a)) (store.led t z from (shown_of recovers b))
-rests_of recovers a b t z from e is h = record {
-  moments = moments_are recovers t z (store.led t z from (shown_of recovers a)) b.engine.disk a.engine.steps (subst (λ (y : EngineSeen). Moments (recovers t) t (led from y) (led from b.engine) y.steps) is h);
+rests_of recovers a b t z from e is size h = record {
+  moments = moments_are recovers t z (store.led t z from (shown_of recovers a)) b.engine.disk a.engine.steps size (subst (λ (y : EngineSeen). Moments (recovers t) t (led from y) (led from b.engine) y.steps) is h);
 }
 
 -- WHO HAS BEGUN AND NOT ENDED
@@ -213,32 +233,8 @@ going_some (r ∷ rs) h = by_step r.is h.1 (going_some rs h.2) (let low = next_s
     by_step (Commit t p) f g low = g
     by_step (End t p) f g low = ap (λ (b : Bool). b && not (0 == t)) g
 
-or_cases : (a b : Bool) → (a || b) ≡ true → a ≡ false → b ≡ true
-or_cases true b h e = absurd cc
-or_cases false b h e = h
-
-and_first : (a b : Bool) → (a && b) ≡ true → (a ≡ true) × (b ≡ true)
-and_first true b h = (refl, h)
-and_first false b h = absurd cc
-
 some_row : (rows : List Row) (u last : ℕ) → last_in rows u ≡ Some last → HasRow rows u
 some_row rows u last e = subst IsSome (sym e) refl
-
--- the row of one that begins, in a vacant one's place
-pub rows_begun : (rs : Steps) (rows : List Row) (lsn tail : ℕ) (txn : TxnId) → Formed rs → txn.0 ≢ 0 → HasRow rows 0 → last_in rows txn.0 ≡ None
-    → ((u : ℕ) → is_going u rs ≡ true → HasRow rows u)
-    → (u : ℕ) → is_going u (stepped rs lsn (Begin txn.0 0)) ≡ true → HasRow (placed rows 0 (record { txn = txn; last = txn.0 })) u
-rows_begun rs rows lsn tail txn formed nz vacant none rest u h = elim (cases_eq u txn.0) as (λ _. HasRow (placed rows 0 (record { txn = txn; last = txn.0 })) u) [
-  | inl e ↦
-      let old = some_of (last_in rows 0) vacant in
-      some_row (placed rows 0 (record { txn = txn; last = txn.0 })) u txn.0 (placed_own rows 0 u old.0 (record { txn = txn; last = txn.0 }) old.1 (sym e) (λ z. nz (sym e ∙ z)) (ap (last_in rows) e ∙ none))
-  | inr d ↦
-      let other : (txn.0 == u) ≡ false = (let ne : u ≢ txn.0 = d in grind (arith, nat_tests, ne)) in
-      let was : is_going u rs ≡ true = or_cases (txn.0 == u) (is_going u rs) h other in
-      let some : u ≢ 0 = λ z. absurd (let one : is_going 0 rs ≡ true = ap (λ (n : ℕ). is_going n rs) (sym z) ∙ was in let two : true ≡ false = sym one ∙ going_some rs formed in cc) in
-      let old = some_of (last_in rows u) (rest u was) in
-      some_row (placed rows 0 (record { txn = txn; last = txn.0 })) u old.0 (placed_other rows 0 u (record { txn = txn; last = txn.0 }) some (λ z. d (sym z)) ∙ old.1)
-]
 
 -- a row of a transaction with another record in it
 pub row_kept : (rows : List Row) (txn : TxnId) (lsn u : ℕ) → HasRow rows u → HasRow (placed rows txn.0 (record { txn = txn; last = lsn })) u
@@ -254,14 +250,3 @@ row_after rows txn lsn u h = elim (cases_eq txn.0 0) as (λ _. HasRow (rows_afte
   | inl z ↦ subst (λ (xs : List Row). HasRow xs u) (after_none rows txn lsn z) h
   | inr nz ↦ subst (λ (xs : List Row). HasRow xs u) (after_one rows txn lsn nz) (row_kept rows txn lsn u h)
 ]
-
--- a row that gets vacant
-pub rows_ended : (rs : Steps) (rows : List Row) (lsn last : ℕ) (txn : TxnId) (row : Row) → Formed rs → row.txn.0 ≡ 0
-    → ((u : ℕ) → is_going u rs ≡ true → HasRow rows u)
-    → (u : ℕ) → is_going u (stepped rs lsn (End txn.0 last)) ≡ true → HasRow (placed rows txn.0 row) u
-rows_ended rs rows lsn last txn row formed vacant rest u h =
-    let both = and_first (is_going u rs) (not (u == txn.0)) h in
-    let ne : u ≢ txn.0 = λ e. absurd (let t : (u == txn.0) ≡ true = grind (arith, nat_tests, e) in let f : false ≡ true = sym (ap not t) ∙ both.1 in cc) in
-    let some : u ≢ 0 = λ z. absurd (let one : is_going 0 rs ≡ true = ap (λ (n : ℕ). is_going n rs) (sym z) ∙ both.0 in let two : true ≡ false = sym one ∙ going_some rs formed in cc) in
-    let old = some_of (last_in rows u) (rest u both.0) in
-    some_row (placed rows txn.0 row) u old.0 (placed_other rows txn.0 u row ne (λ e. some (sym e ∙ vacant)) ∙ old.1)

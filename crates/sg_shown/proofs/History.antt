@@ -18,6 +18,7 @@ use Rattle.sg_actions.specs.Images as images
 use Rattle.sg_actions.specs.Later as later
 use Rattle.sg_actions.specs.Steps.{Step, Steps, stepped, redo, repeated, ended}
 use Rattle.sg_actions.proofs.Reverting.{takes_is}
+use Rattle.sg_actions.proofs.Sized.{repeated_sized}
 use Rattle.sg_contents.specs.Standing.{Contents}
 use Rattle.sg_reader.specs.Reader.{KeepsReached, limits}
 use Rattle.sg_reader.proofs.Decide.{reader}
@@ -26,7 +27,7 @@ use Rattle.sg_join.specs.Join.{Grows, IsFront}
 use Rattle.sg_store.specs.Engine.{Sizes, View, Action, IsImageOf, AreChanges, before_open}
 use Rattle.sg_store.specs.Ground.{setting}
 use Rattle.sg_ground.specs.Recovers.{Recovering}
-use Rattle.sg_shown.specs.Shown.{basis}
+use Rattle.sg_shown.specs.Shown.{RecoversSized, basis, extent_of}
 use Rattle.sg_shown.specs.Taken.{AreTaken}
 
 -- the setting of a log over so many pages and bands
@@ -50,6 +51,10 @@ pub made_is : (recovers : Recovering) (t : Table) (z : Sizes) (from : State) (rs
 made_is recovers t z from [] = refl
 made_is recovers t z from (r ∷ rs) = redo_is recovers t z r.is (stands.made (own recovers t z) from rs) ∙ ap (redo t r.is) (made_is recovers t z from rs)
 
+-- of as many pages and bands as before
+pub made_sized : (recovers : Recovering) (t : Table) (z : Sizes) (from : State) (rs : Steps) → (stands.made (own recovers t z) from rs).size ≡ from.size
+made_sized recovers t z from rs = ap (λ (x : State). x.size) (made_is recovers t z from rs) ∙ repeated_sized t from rs
+
 -- LOGS
 pub grows_is : {earlier more : Steps} → images.Grows earlier more → Grows earlier more
 grows_is h = record { since = h.since; all = h.all }
@@ -58,19 +63,22 @@ front_is : {durable log front : Steps} → images.IsFront durable log front → 
 front_is h = record { within = grows_is h.within; whole = grows_is h.whole }
 
 -- IMAGES
-pub image_is : (recovers : Recovering) (t : Table) (z : Sizes) (v : View (basis recovers z)) (log : Steps) (c : Image)
+pub image_is : (recovers : Recovering) (t : Table) (z : Sizes) (v : View (basis recovers z)) (log : Steps) (c : Image) → v.first.size ≡ extent_of z
     → images.IsImageOf (recovers t) t v.first v.durable log c → IsImageOf t (basis recovers z) v log c
-image_is recovers t z v log c h = record {
+image_is recovers t z v log c size h = record {
   front = h.front;
   is_front = front_is h.is_front;
   left = h.front;
   says = refl;
-  recovers = subst (λ (x : State). recovers t c h.front x) (sym (made_is recovers t z v.first h.front)) h.recovers;
+  recovers = record {
+    image = subst (λ (x : State). recovers t c h.front x) (sym (made_is recovers t z v.first h.front)) h.recovers;
+    size = made_sized recovers t z v.first h.front ∙ size;
+  };
 }
 
-pub moments_are : (recovers : Recovering) (t : Table) (z : Sizes) (v : View (basis recovers z)) (new : disk.View) (log : Steps)
+pub moments_are : (recovers : Recovering) (t : Table) (z : Sizes) (v : View (basis recovers z)) (new : disk.View) (log : Steps) → v.first.size ≡ extent_of z
     → LeavesOnly v.disk new (images.IsImageOf (recovers t) t v.first v.durable log) → LeavesOnly v.disk new (IsImageOf t (basis recovers z) v log)
-moments_are recovers t z v new log m = weaker m (λ c h. image_is recovers t z v log c h)
+moments_are recovers t z v new log size m = weaker m (λ c h. image_is recovers t z v log c size h)
 
 -- AN ACTION
 
@@ -80,9 +88,9 @@ pub kept_reached : (z : Sizes) (kept : Kept) (begin : State) → kept.slots ≡ 
     → KeepsReached (reader z.pages z.bands) kept begin s
 kept_reached z kept begin slots h s e =
     let r = (reader z.pages z.bands).sound begin s e in record {
-      pages = λ p q. h.pages begin.bands s r p q;
+      pages = λ p q. h.pages begin.size begin.bands s r p q;
       slots = λ p q. ap (λ (f : ℕ → ℕ). f p) slots;
-      bands = λ b q. h.bands begin.bands s r b q;
+      bands = λ b q. h.bands begin.size begin.bands s r b q;
     }
 
 -- so it is taken off to what reads the same

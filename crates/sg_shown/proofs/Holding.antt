@@ -13,7 +13,6 @@ use Rattle.sg_action.specs.States.{State, Change as Changed}
 use Rattle.sg_actions.specs.Calls.{IsAtRest}
 use Rattle.sg_actions.specs.Engine.{StandsNow, led}
 use Rattle.sg_actions.specs.Images as images
-use Rattle.sg_actions.specs.Rows.{HasRow}
 use Rattle.sg_actions.specs.Steps.{Steps, ended, opened, repeated}
 use Rattle.sg_actions.specs.Taken.{is_set, takes_page, takes_band}
 use Rattle.sg_actions.specs.View.{IsKept}
@@ -22,7 +21,7 @@ use Rattle.sg_actions.proofs.Chained.{none_open}
 use Rattle.sg_actions.proofs.Flags.{and_left}
 use Rattle.sg_actions.proofs.TakenOff.{take_off_begins}
 use Rattle.sg_store.specs.Engine as store
-use Rattle.sg_store.specs.Engine.{Sizes, IsEngine, IsActing, action_of, before_open, is_going}
+use Rattle.sg_store.specs.Engine.{Sizes, IsEngine, IsActing, action_of, before_open}
 use Rattle.sg_ground.specs.Recovers.{Recovering}
 use Rattle.sg_shown.specs.Shown.{basis, Over, Keeping, Means, acting, shown_of, kept_before, begin_before, has_page, has_band}
 use Rattle.sg_shown.specs.Taken.{AreTaken, AreCounted}
@@ -38,8 +37,8 @@ pub record Facts (recovers : Recovering) (a : Over) (t : Table) (from : State) :
 pub taken_same : {z : Sizes} {has has' has_band has_band' : ℕ → Bool} {at at' : ℕ → Option Sheet} → at' ≡ at → ((p : ℕ) → has p ≡ true → has' p ≡ true)
     → ((b : ℕ) → has_band b ≡ true → has_band' b ≡ true) → AreTaken z has has_band at → AreTaken z has' has_band' at'
 taken_same {z} {has} {has'} {has_band} {has_band'} {at} {at'} e pages bands h = subst (λ (f : ℕ → Option Sheet). AreTaken z has' has_band' f) (sym e) (record {
-  pages = λ bytes s r p o. pages p (h.pages bytes s r p o);
-  bands = λ bytes s r b o. bands b (h.bands bytes s r b o);
+  pages = λ size bytes s r p o. pages p (h.pages size bytes s r p o);
+  bands = λ size bytes s r b o. bands b (h.bands size bytes s r b o);
 })
 
 -- COUNTED
@@ -75,11 +74,11 @@ begin_at_rest a t z from idle now =
     now
 
 pub keeping_at_rest : (a : Over) (t : Table) (z : Sizes) (from : State) → IsKept t (a.limits z.pages z.bands) (led from a.engine) a.maps a.rows a.actor
-    → IsAtRest a.engine.steps a.unfreed a.actor → ((u : ℕ) → is_going u a.engine.steps ≡ true → HasRow a.rows u)
+    → IsAtRest a.engine.steps a.unfreed a.actor
     → AreTaken z (has_page a) (has_band a) (repeated t from a.engine.steps).pages
     → AreCounted z (free_of a.maps.pages + free_of a.unfreed.pages) (free_of a.maps.bands + free_of a.unfreed.bands) (repeated t from a.engine.steps).pages
     → ((b : ℕ) → b < map_bands_of z.pages z.bands → has_band a b ≡ true) → Keeping a t z from
-keeping_at_rest a t z from kept rest rows now counted map = record { kept = kept; rest = λ e. rest; fresh = λ e. rest.freed; rows = rows; begin = begin_at_rest a t z from rest.idle now; now = now; counted = counted; map = map }
+keeping_at_rest a t z from kept rest now counted map = record { kept = kept; rest = λ e. rest; fresh = λ e. rest.freed; begin = begin_at_rest a t z from rest.idle now; now = now; counted = counted; map = map }
 
 -- BETWEEN CALLS
 module _ (recovers : Recovering) (a : Over) (t : Table) (z : Sizes) (from : State) (m : Means a t z from) (told : a.engine.Told) (f : Facts recovers a t from) where
@@ -105,5 +104,5 @@ module _ (recovers : Recovering) (a : Over) (t : Table) (z : Sizes) (from : Stat
     below = k.kept.chain.running.below;
     durable = grows_is f.first;
     acting = acts a.begun refl;
-    images = λ c h. image_is recovers t z (store.led t z from (shown_of recovers a)) a.engine.steps c (f.images c h);
+    images = λ c h. image_is recovers t z (store.led t z from (shown_of recovers a)) a.engine.steps c m.size (f.images c h);
   }

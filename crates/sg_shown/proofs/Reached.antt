@@ -87,6 +87,6 @@ taken_in z space x s has has_band h part pages bands =
     let stands : IsContents stated s = contents_move space stated s h refl (λ p o. part.pages p (reached_page space s h p o)) (λ b o. part.bands b (reached_band space s h b o))
     (λ b less none. absurd (let w : ◌≡◌ {A = Option (List ℕ)} (Some (x.bands b)) None = none in cc)) in
     record {
-      pages = λ bytes r q p o. pages p (reached_page space s h p (page_same stated (space_of z.pages z.bands (with_bytes x.pages bytes)) refl s r stands q.contents p o));
-      bands = λ bytes r q b o. bands b (reached_band space s h b (band_same stated (space_of z.pages z.bands (with_bytes x.pages bytes)) refl s r stands q.contents b o));
+      pages = λ size bytes r q p o. pages p (reached_page space s h p (page_same stated (space_of z.pages z.bands (with_bytes size x.pages bytes)) refl s r stands q.contents p o));
+      bands = λ size bytes r q b o. bands b (reached_band space s h b (band_same stated (space_of z.pages z.bands (with_bytes size x.pages bytes)) refl s r stands q.contents b o));
     }

@@ -40,21 +40,21 @@ owner t g v u h = record {
 
 module _ {basis : Sizes → Ground} where
   pub asked_of : (t : Operations) (e : Shown basis) (P : (g : Ground) → View g → Type 0) (Q : (t : Operations) (g : Ground) → View g → Type 0) → ((g : Ground) (v : View g) → P g v → Q t g v) → AskedBy t e P → Asked e Q
-  asked_of t e P Q f s = record { by = t; sizes = s.sizes; from = s.from; means = s.means; can = λ told. f (basis s.sizes) (led t s.sizes s.from e) (s.can told) }
+  asked_of t e P Q f s = record { by = t; sizes = s.sizes; from = s.from; means = s.means; can = λ told. f (basis s.sizes) (led t s.sizes (s.from told) e) (s.can told) }
 
   pub asked_for : (t : Operations) (e : Shown basis) (P Q : (g : Ground) → View g → Type 0) → ((g : Ground) (v : View g) → P g v → Q g v) → AskedBy t e P → AskedBy t e Q
-  asked_for t e P Q f s = record { sizes = s.sizes; from = s.from; means = s.means; can = λ told. f (basis s.sizes) (led t s.sizes s.from e) (s.can told) }
+  asked_for t e P Q f s = record { sizes = s.sizes; from = s.from; means = s.means; can = λ told. f (basis s.sizes) (led t s.sizes (s.from told) e) (s.can told) }
 
   -- a pass that looks for the greatest note
   pub finding_asks : (old now : Shown basis) (losers done : List TxnId) (best : Option Greatest) (x : TxnId) → IsAmong x.0 losers → Since old now (λ t g v w. IsFinding t g v w done best) → Asked old (OpeningOver losers) → Asked now (IsAt x.0)
   finding_asks old now losers done best x among i s = record {
     by = s.by;
     sizes = s.sizes;
-    from = s.from;
-    means = i.means s.by s.sizes s.from s.means;
+    from = λ told. s.from (i.told told);
+    means = λ told. i.means s.by s.sizes (s.from (i.told told)) (s.means (i.told told));
     can = λ told.
         (let h = s.can (i.told told) in
-        let d = i.done s.by s.sizes s.from s.means (i.told told) in
+        let d = i.done s.by s.sizes (s.from (i.told told)) (s.means (i.told told)) (i.told told) in
         let k = d.starts h.opening.down h.opening.objects h.opening.lawful h.opening.starts in
         record {
           rest = record { engine = k.engine; idle = k.idle };
@@ -67,14 +67,14 @@ module _ {basis : Sizes → Ground} where
   ending_asks old now those left x among i s = record {
     by = s.by;
     sizes = s.sizes;
-    from = s.from;
-    means = i.means s.by s.sizes s.from s.means;
+    from = λ told. s.from (i.told told);
+    means = λ told. i.means s.by s.sizes (s.from (i.told told)) (s.means (i.told told));
     can = λ told.
         (let h = s.can (i.told told) in
         let o = h.over.opening in
-        let d = i.done s.by s.sizes s.from s.means (i.told told) in
+        let d = i.done s.by s.sizes (s.from (i.told told)) (s.means (i.told told)) (i.told told) in
         let k = d.starts o.down o.objects o.lawful o.starts h.undone in
-        record { rest = record { engine = k.engine; idle = k.idle }; going = live_going x.0 (led s.by s.sizes s.from now).log (d.going o.down o.objects o.lawful o.starts h.undone h.apart h.over.live x.0 among) });
+        record { rest = record { engine = k.engine; idle = k.idle }; going = live_going x.0 (led s.by s.sizes (s.from (i.told told)) now).log (d.going o.down o.objects o.lawful o.starts h.undone h.apart h.over.live x.0 among) });
   }
 
   module _ (t : Operations) (old now : Shown basis) where
@@ -82,12 +82,12 @@ module _ {basis : Sizes → Ground} where
     pub losing_asks : (losers : List TxnId) (at : ℕ) → SinceBy t old now (λ g v w. IsUndoing t g v w losers at) → AskedBy t old (OpeningWith losers t) → AskedBy t now (OpeningWith losers t)
     losing_asks losers at i s = record {
       sizes = s.sizes;
-      from = s.from;
-      means = i.means s.sizes s.from s.means;
+      from = λ told. s.from (i.told told);
+      means = λ told. i.means s.sizes (s.from (i.told told)) (s.means (i.told told));
       can = λ told.
           (let h = s.can (i.told told) in
           let o = h.over.opening in
-          let d = i.done s.sizes s.from s.means (i.told told) in
+          let d = i.done s.sizes (s.from (i.told told)) (s.means (i.told told)) (i.told told) in
           let same = sym (d.lives o.down o.objects o.lawful o.starts h.cover) in
           record {
             over = record {
@@ -103,11 +103,11 @@ module _ {basis : Sizes → Ground} where
     pub freeing_asks : (left : ℕ) → SinceBy t old now (λ g v w. IsFreeing t g v w left) → AskedBy t old (OpeningSettled t) → AskedBy t now (OpeningSettled t)
     freeing_asks left i s = record {
       sizes = s.sizes;
-      from = s.from;
-      means = i.means s.sizes s.from s.means;
+      from = λ told. s.from (i.told told);
+      means = λ told. i.means s.sizes (s.from (i.told told)) (s.means (i.told told));
       can = λ told.
           (let h = s.can (i.told told) in
           let o = h.opening in
-          let k = (i.done s.sizes s.from s.means (i.told told)).starts o.down o.objects o.lawful o.starts h.settled in
+          let k = (i.done s.sizes (s.from (i.told told)) (s.means (i.told told)) (i.told told)).starts o.down o.objects o.lawful o.starts h.settled in
           record { opening = record { lawful = o.lawful; down = o.down; objects = o.objects; starts = k.0 }; settled = k.1 });
     }

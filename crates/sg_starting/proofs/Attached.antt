@@ -37,14 +37,14 @@ pub resumed_asks : {basis : Sizes → Ground} (t : Operations) (old new : Shown 
     → AskedBy t old (IsOpenedWith losers t) → AskedBy t new (OpeningWith losers t)
 resumed_asks {basis} t old new losers keeps back takes reads s = record {
   sizes = s.sizes;
-  from = s.from;
-  means = keeps s.sizes s.from s.means;
+  from = λ told. s.from (back told);
+  means = λ told. keeps s.sizes (s.from (back told)) (s.means (back told));
   can = λ told.
       (let h = s.can (back told) in
-      let v = led t s.sizes s.from old in
-      let w = led t s.sizes s.from new in
-      let taken = takes s.sizes s.from s.means (back told) h.opened.can.found in
-      let o = reads s.sizes s.from s.means (back told) h.opened.can.found in
+      let v = led t s.sizes (s.from (back told)) old in
+      let w = led t s.sizes (s.from (back told)) new in
+      let taken = takes s.sizes (s.from (back told)) (s.means (back told)) (back told) h.opened.can.found in
+      let o = reads s.sizes (s.from (back told)) (s.means (back told)) (back told) h.opened.can.found in
       let stood = h.opened.stood o.0 o.1 in
       let k = taken_starts t (basis s.sizes) h.lawful v w stood.0 h.opened.can.found stood.1 taken.0 taken.1 in
       record {
@@ -63,13 +63,13 @@ pub serving : {basis : Sizes → Ground} (t : Operations) (old mid : Shown basis
     → AskedBy t old (OpeningWith losers t) → AskedBy t mid (ShowsSome k t)
 serving {basis} t old mid losers k is keeps back shows s = record {
   sizes = s.sizes;
-  from = s.from;
-  means = keeps s.sizes s.from s.means;
+  from = λ told. s.from (back told);
+  means = λ told. keeps s.sizes (s.from (back told)) (s.means (back told));
   can = λ told.
       (let h = s.can (back told) in
       let p = h.over.opening in
-      let d = shows s.sizes s.from s.means (back told) p.down p.objects p.lawful p.starts h.cover in
-      record { lawful = p.lawful; run = start p.objects; shows = subst (λ c. Shows t (basis s.sizes) (led t s.sizes s.from mid) c (start p.objects)) (sym is) d.0 });
+      let d = shows s.sizes (s.from (back told)) (s.means (back told)) (back told) p.down p.objects p.lawful p.starts h.cover in
+      record { lawful = p.lawful; run = start p.objects; shows = subst (λ c. Shows t (basis s.sizes) (led t s.sizes (s.from (back told)) mid) c (start p.objects)) (sym is) d.0 });
 }
 
 pub if_broken : {P Q : Type 0} (why : StartFault) → IfBroken why P → (P → Q) → IfBroken why Q

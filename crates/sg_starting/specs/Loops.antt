@@ -8,6 +8,7 @@ use Rattle.sg_recovery.specs.Claims.{Log}
 use Rattle.sg_store.specs.Ground.{Ground, IsLawful, setting}
 use Rattle.sg_recovery.specs.Log.{Top}
 use Rattle.sg_store.specs.Calls.{MOST}
+use Rattle.sg_store.specs.Accounting.{Unfailed}
 use Rattle.sg_store.specs.Engine.{View, Sizes, Shown, Action, Keeps, KeepsBy, AsMeant, AsMeantBy, pages_of}
 use Rattle.sg_starting.specs.declared.losers.Greatest.{Greatest}
 use Rattle.sg_starting.specs.Starting.{IsStarting, AllStandFor, AreBelow, AreLosers, AreLive, AreApart, IsUndone, IsSettled, IsBest}
@@ -71,6 +72,7 @@ pub record Since {basis : Sizes → Ground} (old now : Shown basis) (P : (t : Op
   pub tells : old.Told → now.Told
   pub later : old.faults ≤ now.faults
   pub tail : old.tail ≤ now.tail
+  pub accounts : Unfailed old now
   pub done : AsMeant old now P
 
 -- the same of a loop that is given the operations
@@ -80,4 +82,5 @@ pub record SinceBy {basis : Sizes → Ground} (t : Operations) (old now : Shown 
   pub tells : old.Told → now.Told
   pub later : old.faults ≤ now.faults
   pub tail : old.tail ≤ now.tail
+  pub accounts : Unfailed old now
   pub done : AsMeantBy t old now P

@@ -205,12 +205,6 @@ IfBroken (Space fault) P = Unit {0}
 IfBroken (Broken page) P = P
 IfBroken Memory P = Unit {0}
 
--- the answer is one of the engine, or says that a page is broken
-abbrev pub IsOfEngine : StartFault → Type 0
-IsOfEngine (Space fault) = Unit {0}
-IsOfEngine (Broken page) = Unit {0}
-IsOfEngine Memory = ⊥
-
 -- the pages read as no objects, and the log stands for none
 pub record IsUnread (t : Operations) (g : Ground) (v : View g) : Type 0 where
   pub none : (o : g.O) → IsRead t g v o → ⊥

@@ -1,15 +1,18 @@
 // A store over an engine that is being opened.
-ghost use Rattle.std.specs.Prelude.{◌≡◌, [], IfOk, IfErr};
+ghost use Rattle.std.specs.Prelude.{◌≡◌, ◌≤◌, ◌+◌, [], None, Err, IfOk, IfErr};
 ghost use Rattle.sg_ops.specs.Table.{table_of};
 ghost use Rattle.sg_model.specs.Objects.{Objects as Model};
 ghost use Rattle.sg_recovery.specs.Log.{tally};
 ghost use Rattle.sg_recovery.specs.Stands.{StandsFor as LogStands};
 ghost use Rattle.sg_store.specs.Ground.{IsLawful, setting};
+ghost use Rattle.sg_store.specs.Accounting.{AccountsFor, Unfailed};
 ghost use Rattle.sg_store.specs.Engine.{AsMeantBy, AskedBy, KeepsBy};
+ghost use Rattle.sg_run.specs.Run.{start};
 ghost use Rattle.sg_store.specs.Rests.{HasObjects};
 ghost use Rattle.sg_store.specs.Seen.{core_of, Serves};
+ghost use Rattle.sg_store.specs.Store.{Shows};
 ghost use Rattle.sg_base.specs.Ends.{HasRisen};
-ghost use Rattle.sg_starting.specs.Starting.{AllStandFor, AreLosers, IsFound, IsOpenedWith, IsRead, IsUnread, AreEnded, AppendsNothing, ComesToOne, StandsForNone, IsStartDisk, IsStartEnd, IfBroken};
+ghost use Rattle.sg_starting.specs.Starting.{AllStandFor, AreBuried, AreLosers, IsFound, IsOpenedWith, IsRead, IsUnread, AreEnded, AppendsNothing, ComesToOne, StandsForNone, IsStartDisk, IsStartEnd, IfBroken};
 
 use crate::opening::{Reopens, StartFault, Unstarted, start_store};
 use sg_base::TxnId;
@@ -39,6 +42,12 @@ pub fn attach<E: Reopens>(
         IfOk result (λ s. AsMeantBy t (E.opened engine) (E.view s.engine) (λ g v w. (m : Model)
         → IsLawful t g → IsFound t g v → LogStands (setting t g) v.first v.log m
         → AreLosers (tally v.log).live losers.now → HasObjects [] m m (core_of s) t g w)) }
+    // The run that it shows begins with them, and nothing is buried.
+    ensures core { IfOk result (λ s. core_of s ≡ record { live = []; held = []; stopped = None }) }
+    ensures shows { let t = table_of record_meaning range_meaning ops.now in
+        IfOk result (λ s. AsMeantBy t (E.opened engine) (E.view s.engine) (λ g v w. (m : Model)
+        → IsLawful t g → IsFound t g v → LogStands (setting t g) v.first v.log m
+        → AreLosers (tally v.log).live losers.now → Shows t g w (core_of s) (start m) × AreBuried t g w 0)) }
     ensures stands { let t = table_of record_meaning range_meaning ops.now in
         IfOk result (λ s. AsMeantBy t (E.opened engine) (E.view s.engine) (λ g v w. (m : Model)
         → IsLawful t g → IsFound t g v → LogStands (setting t g) v.first v.log m
@@ -64,6 +73,10 @@ pub fn attach<E: Reopens>(
         → AreEnded v.log → AppendsNothing t g v w))) }
     ensures failed { IfErr result (λ u. IsStartDisk u.why → HasRisen (E.opened engine).faults (E.view u.engine).faults) }
     ensures log_end { IfErr result (λ u. IsStartEnd (E.view u.engine).tail u.why) }
+    ensures waits { IfErr result (λ u. (E.view u.engine).tail ≤ (E.view u.engine).gate + 65541) }
+    // The disk counts no fault, unless the answer is that it failed; and where the engine tells it did.
+    ensures unfailed { IfOk result (λ s. Unfailed (E.opened engine) (E.view s.engine)) }
+    ensures accounts { IfErr result (λ u. AccountsFor {T = E} IsStartDisk (E.opened engine) (E.view u.engine) (Err u.why)) }
 {
     let mut engine = match engine.resume(ops) {
         Ok(engine) => engine,

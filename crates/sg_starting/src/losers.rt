@@ -6,6 +6,7 @@ ghost use Rattle.sg_model.specs.Objects.{Objects as Model};
 ghost use Rattle.sg_recovery.specs.Log.{Top, tally};
 ghost use Rattle.sg_recovery.specs.Claims.{Log};
 ghost use Rattle.sg_store.specs.Ground.{IsLawful, setting};
+ghost use Rattle.sg_store.specs.Accounting.{AccountsFor};
 ghost use Rattle.sg_store.specs.Engine.{Keeps, KeepsBy, AsMeant, AsMeantBy, Asked, AskedBy, IsDiskFault, IsNearEnd};
 ghost use Rattle.sg_starting.specs.Starting.{IsStarting, AllStandFor, AreBelow, AreLosers, IsUndone, IsSettled, IsBest, greater, OpeningOver, OpeningWith, OpeningAt, OpeningUndone};
 
@@ -60,6 +61,7 @@ fn find_greatest<E: Objects>(
     ensures log_end { IfErr result (IsNearEnd (E.view engine.new).tail) }
     ensures later { (E.view engine.old).faults ≤ (E.view engine.new).faults }
     ensures tail { (E.view engine.old).tail ≤ (E.view engine.new).tail }
+    ensures accounts { AccountsFor IsDiskFault (E.view engine.old) (E.view engine.new) result }
 {
     let mut best: Option<Greatest> = None;
     'losers: for txn in losers {
@@ -96,6 +98,7 @@ fn undo_greatest<E: Objects>(
     ensures log_end { IfErr result (IsNearEnd (E.view engine.new).tail) }
     ensures later { (E.view engine.old).faults ≤ (E.view engine.new).faults }
     ensures tail { (E.view engine.old).tail ≤ (E.view engine.new).tail }
+    ensures accounts { AccountsFor IsDiskFault (E.view engine.old) (E.view engine.new) result }
 {
     let after = match engine.undo_step(txn, note) {
         Ok(Some(after)) => after,
@@ -133,6 +136,7 @@ pub fn undo_losers<E: Objects>(
     ensures log_end { IfErr result (IsNearEnd (E.view engine.new).tail) }
     ensures later { (E.view engine.old).faults ≤ (E.view engine.new).faults }
     ensures tail { (E.view engine.old).tail ≤ (E.view engine.new).tail }
+    ensures accounts { AccountsFor IsDiskFault (E.view engine.old) (E.view engine.new) result }
 {
     let mut at = engine.tail();
     'notes: loop {
@@ -167,6 +171,7 @@ pub fn end_losers<E: Objects>(engine: &mut E, losers: &[TxnId]) -> Result<(), Sp
     ensures log_end { IfErr result (IsNearEnd (E.view engine.new).tail) }
     ensures later { (E.view engine.old).faults ≤ (E.view engine.new).faults }
     ensures tail { (E.view engine.old).tail ≤ (E.view engine.new).tail }
+    ensures accounts { AccountsFor IsDiskFault (E.view engine.old) (E.view engine.new) result }
 {
     'losers: for txn in losers {
         match engine.end(*txn) {
@@ -205,6 +210,7 @@ pub fn settle_losers<E: Objects>(
     ensures log_end { IfErr result (IsNearEnd (E.view engine.new).tail) }
     ensures later { (E.view engine.old).faults ≤ (E.view engine.new).faults }
     ensures tail { (E.view engine.old).tail ≤ (E.view engine.new).tail }
+    ensures accounts { AccountsFor IsDiskFault (E.view engine.old) (E.view engine.new) result }
 {
     match undo_losers(engine, ops, losers, note) {
         Ok(()) => {}

@@ -7,9 +7,10 @@ ghost use Rattle.sg_recovery.specs.Log.{tally};
 ghost use Rattle.sg_recovery.specs.Claims.{Log};
 ghost use Rattle.sg_run.specs.Run.{start};
 ghost use Rattle.sg_store.specs.Ground.{IsLawful, setting};
+ghost use Rattle.sg_store.specs.Accounting.{AccountsFor};
 ghost use Rattle.sg_store.specs.Engine.{KeepsBy, AsMeantBy, AskedBy, Counts, IsDiskFault, IsNearEnd};
 ghost use Rattle.sg_store.specs.Store.{Shows};
-ghost use Rattle.sg_starting.specs.Starting.{IsStarting, AllStandFor, AreLosers, IsSettled, IsFound, CanResume, IsRead, TakesOff, TakenOff, HasFreed, AreBuried, OpeningWith, OpeningSettled, IsStartDisk, IsStartEnd, IsOfEngine, IfBroken};
+ghost use Rattle.sg_starting.specs.Starting.{IsStarting, AllStandFor, AreLosers, IsSettled, IsFound, CanResume, IsRead, TakesOff, TakenOff, HasFreed, AreBuried, OpeningWith, OpeningSettled, IsStartDisk, IsStartEnd, IfBroken};
 
 use crate::losers::settle_losers;
 use sg_base::{PageNo, TxnId};
@@ -24,7 +25,8 @@ pub enum StartFault {
     Space(SpaceFault),
     /// The pages don't read as objects: this one is wrong, or it names what can't be.
     Broken(PageNo),
-    /// Memory was refused, once all was undone that had to be.
+    /// Memory was refused, once all was undone that had to be. Or the log begins within an action of the system, which
+    /// no store leaves: nothing is undone then.
     Memory,
 }
 
@@ -44,7 +46,6 @@ pub trait Reopens: Objects {
         ensures failed { IfErr result (λ u. Counts {T = Self} IsStartDisk (Self.opened self) (Self.view u.engine) (Err u.why)) }
         ensures means { IfOk result (λ e. KeepsBy (table_of record_meaning range_meaning ops.now) (Self.opened self) (Self.view e)) }
         ensures log_end { IfErr result (λ u. IsStartEnd (Self.view u.engine).tail u.why) }
-        ensures answer { IfErr result (λ u. IsOfEngine u.why) }
         ensures takes { let t = table_of record_meaning range_meaning ops.now in
             IfOk result (λ e. AsMeantBy t (Self.opened self) (Self.view e) (λ g v w. IsFound t g v
             → (c : TakesOff t g v w) × TakenOff t g v w c.made)) }
@@ -78,6 +79,7 @@ fn free_one<E: Reopens>(engine: &mut E, ops: &Ops, note: &mut UndoNote) -> Resul
     ensures log_end { IfErr result (IsNearEnd (E.view engine.new).tail) }
     ensures later { (E.view engine.old).faults ≤ (E.view engine.new).faults }
     ensures tail { (E.view engine.old).tail ≤ (E.view engine.new).tail }
+    ensures accounts { AccountsFor IsDiskFault (E.view engine.old) (E.view engine.new) result }
 {
     engine.act(TxnId(0));
     match engine.free_next(ops, None, note) {
@@ -109,6 +111,7 @@ fn free_all<E: Reopens>(engine: &mut E, ops: &Ops, note: &mut UndoNote) -> Resul
     ensures log_end { IfErr result (IsNearEnd (E.view engine.new).tail) }
     ensures later { (E.view engine.old).faults ≤ (E.view engine.new).faults }
     ensures tail { (E.view engine.old).tail ≤ (E.view engine.new).tail }
+    ensures accounts { AccountsFor IsDiskFault (E.view engine.old) (E.view engine.new) result }
 {
     let start = engine.tail();
     let mut left = u64::MAX - start;
@@ -156,6 +159,7 @@ pub fn start_store<E: Reopens>(
     ensures log_end { IfErr result (IsNearEnd (E.view engine.new).tail) }
     ensures later { (E.view engine.old).faults ≤ (E.view engine.new).faults }
     ensures tail { (E.view engine.old).tail ≤ (E.view engine.new).tail }
+    ensures accounts { AccountsFor IsDiskFault (E.view engine.old) (E.view engine.new) result }
 {
     match settle_losers(engine, ops, losers, note) {
         Ok(()) => {}

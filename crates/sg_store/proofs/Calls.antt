@@ -182,3 +182,11 @@ risen_for tail before now spaces.LogEnd low near risen = absurd (far low near)
   where
     far : tail ≤ 2 ^ 62 → 2 ^ 63 < tail + 131072 → ⊥
     far a b = omega (arith, a, b)
+
+-- so that a begin fails for the disk alone
+pub disk_only : (tail : ℕ) (f : SpaceFault) → tail ≤ NEW_WORK_END → IsNearEnd tail f → f ≡ spaces.Disk
+disk_only tail spaces.Disk low near = refl
+disk_only tail spaces.LogEnd low near = absurd (far low near)
+  where
+    far : tail ≤ 2 ^ 62 → 2 ^ 63 < tail + 131072 → ⊥
+    far a b = omega (arith, a, b)

@@ -1,5 +1,5 @@
 -- Behind a commit: what the transaction dropped is freed, and it ends.
-use Rattle.std.proofs.Common.{◌≡◌, ℕ, ◌+◌, ◌<◌, ◌≤◌, Bool, true, false, not, cond, List, [], ◌∷◌, ◌++◌, Option, Some, refl, sym, ap, ◌∙◌, subst, arith}
+use Rattle.std.proofs.Common.{◌≡◌, ◌⊎◌, inl, inr, ℕ, ◌+◌, ◌<◌, ◌≤◌, Bool, true, false, not, cond, List, [], ◌∷◌, ◌++◌, Option, Some, refl, sym, ap, ◌∙◌, subst, arith}
 use Rattle.std.specs.Prelude.{◌==◌, ◌&&◌, ◌||◌}
 use Rattle.sg_disk.proofs.Moments.{started, weaker, joined}
 use Rattle.sg_ops.specs.Table.{Table as Operations}
@@ -26,7 +26,7 @@ use Rattle.sg_join.specs.Join.{Grows, Keeps, IsOf}
 use Rattle.sg_join.proofs.Keeping as keeping
 use Rattle.sg_join.proofs.Histories.{lives_same}
 use Rattle.sg_store.specs.Ground.{Ground, IsLawful, setting, are_written}
-use Rattle.sg_store.specs.Engine.{View, Action, Changes, Rested, Appends, Appended, IsEngine, IsActing, pages_of, is_going}
+use Rattle.sg_store.specs.Engine.{View, Action, Changes, Rests, Rested, Appends, Appended, IsEngine, IsActing, pages_of, is_going}
 use Rattle.sg_store.proofs.Counting.{changes_going}
 use Rattle.sg_store.specs.Verbs.{Reads, IsFreed}
 use Rattle.sg_store.specs.Store.{Core, IsKept, IsLeaving, HasNone, Logs, AreReserved, AreOwned, AreMarked}
@@ -256,6 +256,29 @@ module _ (t : Operations) (g : Ground) (lawful : IsLawful t g) (v : View g) (txn
       pub freed_higher : Appended t g w w2 end → v.tail < w2.tail
       freed_higher d = let a : v.tail ≤ w.tail = f.changed.goes_on.tail in let b : w.tail ≤ l = ends.above in let e : l < w2.tail = d.tail in omega (arith, a, b, e)
 
+  count_is : (committed x u).so_far.answered ≡ Rattle.std.specs.Prelude.length (committed x u).so_far.commits
+  count_is = sym (Rattle.std.proofs.lemmas.List.length-append x.so_far.commits (Rattle.std.specs.List.filter (runs.is_own u) x.so_far.history ∷ []))
+
+  -- no note is its
+  none_its : is_in u (tally v.log).live ≡ false → Each (λ n. n.transaction ≡ u → ⊥) (tally v.log).notes
+  none_its over = each_bare (setting t g) (λ j. j ≡ u → ⊥) k.logs.keeps.running.placed (tally v.log).notes k.logs.keeps.running.are
+      (each_more (λ m. IsNote (tally v.log).live (next_lsn v.log) m.transaction m.lsn m.undo_next) (λ m. m.transaction ≡ u → ⊥) k.logs.keeps.running.placed
+      (λ m z e. clashing (is_in u (tally v.log).live) (subst (λ i. is_in i (tally v.log).live ≡ true) e z.is_live) over) k.logs.keeps.running.notes)
+
+  -- nothing is appended in place of its end
+  pub rested_kept : (w : View g) → Rested t g v w → IsKept t g w (without u txns) (committed x u)
+  rested_kept w r = let m = rested_leaving w r in record {
+    live = k.live;
+    answered = count_is;
+    engine = m.engine;
+    idle = m.idle;
+    logs = m.logs;
+    free = m.free;
+    reserved = m.reserved;
+    buried = λ b e. owned_ended t g x.so_far.live x.so_far.held u (next_lsn w.log) b (m.buried b e);
+    marked = λ b e. marks_without g txns u b (m.marked b e);
+  }
+
   -- it ends
   module _ (w : View g) (l p : ℕ) (ends : Appends t g v w (record { lsn = l; is = End u p })) where
     over : is_in u (tally v.log).live ≡ false
@@ -292,28 +315,48 @@ module _ (t : Operations) (g : Ground) (lawful : IsLawful t g) (v : View g) (txn
       pub ended_kept : IsKept t g w (without u txns) (committed x u)
       ended_kept = record {
         live = k.live;
-        answered = refl_count;
+        answered = count_is;
         engine = d.goes_on.engine;
         idle = ap (λ (ls : List (Numbered g.C g.N)). (tally ls).opened) d.log ∙ k.idle;
         logs = moved t g v.first w.first v.durable w.durable (record { lsn = l; is = End u p } ∷ v.log) w.log (committed x u) (sym d.goes_on.first) (sym d.log) d.goes_on.durable ended;
         free = λ b e. d.pages ∙ k.free b (before b e);
         reserved = subst (λ (ls : List (Numbered g.C g.N)). AreReserved (setting t g) (without u txns) (tally ls).notes) (sym d.log)
-            (subst (λ ns. AreReserved (setting t g) (without u txns) ns) (sym (none_own u (tally v.log).notes others)) k.reserved);
+            (subst (λ ns. AreReserved (setting t g) (without u txns) ns) (sym (none_own u (tally v.log).notes (none_its over))) k.reserved);
         buried = λ b e. grown t g (committed x u).so_far.live (committed x u).so_far.held (next_lsn v.log) (next_lsn w.log) b (next_after t g v w (record { lsn = l; is = End u p }) d)
             (owned_ended t g x.so_far.live x.so_far.held u (next_lsn v.log) b (k.buried b (before b e)));
         marked = λ b e. marks_without g txns u b (k.marked b (before b e));
       }
-        where
-          refl_count : (committed x u).so_far.answered ≡ Rattle.std.specs.Prelude.length (committed x u).so_far.commits
-          refl_count = sym (Rattle.std.proofs.lemmas.List.length-append x.so_far.commits (Rattle.std.specs.List.filter (runs.is_own u) x.so_far.history ∷ []))
-
-          others : Each (λ n. n.transaction ≡ u → ⊥) (tally v.log).notes
-          others = each_bare (setting t g) (λ j. j ≡ u → ⊥) k.logs.keeps.running.placed (tally v.log).notes k.logs.keeps.running.are
-              (each_more (λ m. IsNote (tally v.log).live (next_lsn v.log) m.transaction m.lsn m.undo_next) (λ m. m.transaction ≡ u → ⊥) k.logs.keeps.running.placed
-              (λ m z e. clashing (is_in u (tally v.log).live) (subst (λ i. is_in i (tally v.log).live ≡ true) e z.is_live) over) k.logs.keeps.running.notes)
 
       pub ended_none : HasNone t g v u → HasNone t g w u
       ended_none none b e f is = none b (before b e) f is
+
+  -- IT ENDS, or nothing is appended
+  pub ends_stay : (w : View g) (P : ℕ → ℕ → Type 0) (Q : Type 0)
+      → ((l : ℕ) × (p : ℕ) × Appends t g v w (record { lsn = l; is = End u p }) × P l p) ⊎ ((is_in u (tally v.log).live ≡ false) × Rests t g v w × Q)
+      → Stays t g v w (committed x u)
+  ends_stay w P Q (inl a) = end_stays w a.0 a.1 a.2
+  ends_stay w P Q (inr b) = call_stands t g v w v.log (committed x u) k.logs b.1.moments
+
+  pub ends_kept : (w : View g)
+      → ((l : ℕ) × (p : ℕ) × Appends t g v w (record { lsn = l; is = End u p }) × Appended t g v w (record { lsn = l; is = End u p }))
+      ⊎ ((is_in u (tally v.log).live ≡ false) × Rests t g v w × Rested t g v w) → IsKept t g w (without u txns) (committed x u)
+  ends_kept w (inl a) = ended_kept w a.0 a.1 a.2 a.3
+  ends_kept w (inr b) = rested_kept w b.2
+
+  pub ends_none : (w : View g)
+      → ((l : ℕ) × (p : ℕ) × Appends t g v w (record { lsn = l; is = End u p }) × Appended t g v w (record { lsn = l; is = End u p }))
+      ⊎ ((is_in u (tally v.log).live ≡ false) × Rests t g v w × Rested t g v w) → HasNone t g v u → HasNone t g w u
+  ends_none w (inl a) none = ended_none w a.0 a.1 a.2 a.3 none
+  ends_none w (inr b) none = λ c e f is. none c
+      (subst (λ (ls : List (Numbered g.C g.N)). g.reading (made (setting t g) v.first ls) ≡ Some c) b.2.log
+      (subst (λ q. g.reading (made (setting t g) q w.log) ≡ Some c) b.2.goes_on.first e)) f is
+
+-- the end of one that goes on is appended
+pub ends_live : (t : Operations) (g : Ground) (v w : View g) (u : ℕ) (P : ℕ → ℕ → Type 0) (Q : Type 0) → is_in u (tally v.log).live ≡ true
+    → ((l : ℕ) × (p : ℕ) × Appends t g v w (record { lsn = l; is = End u p }) × P l p) ⊎ ((is_in u (tally v.log).live ≡ false) × Rests t g v w × Q)
+    → (l : ℕ) × (p : ℕ) × Appends t g v w (record { lsn = l; is = End u p }) × P l p
+ends_live t g v w u P Q live (inl a) = a
+ends_live t g v w u P Q live (inr b) = clashing (is_in u (tally v.log).live) live b.0
 
 -- once an action of the system has begun
 pub acted_leaving : (t : Operations) (g : Ground) (v v1 : View g) (txns : List Txn) (x : Run) (u : ℕ) (a : Option (Action g)) → IsEngine t g v1 → v1 ≡ record v { action = a } → IsLeaving t g v txns x u → IsLeaving t g v1 txns x u

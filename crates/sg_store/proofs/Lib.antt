@@ -29,3 +29,4 @@ pub mod Undone
 pub mod Taking
 pub mod Aborts
 pub mod Heeding
+pub mod Accounting

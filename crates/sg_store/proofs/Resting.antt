@@ -128,11 +128,11 @@ module _ {basis : Sizes → Ground} (t : Operations) (old new : Shown basis) (k 
       → AskedBy t new (HasDone live objects durable op reply m t)
   done_with reply goes = record {
     sizes = s.sizes;
-    from = s.from;
-    means = keeps s.sizes s.from s.means;
+    from = λ tells. s.from (back tells);
+    means = λ tells. keeps s.sizes (s.from (back tells)) (s.means (back tells));
     can = λ tells.
         (let h = s.can (back tells) in
-        done_has t (basis s.sizes) (led t s.sizes s.from old) (led t s.sizes s.from new) k m live objects durable h begin tail before now u op reply (goes s.sizes s.from s.means (back tells) h.run h.lawful h.shows));
+        done_has t (basis s.sizes) (led t s.sizes (s.from (back tells)) old) (led t s.sizes (s.from (back tells)) new) k m live objects durable h begin tail before now u op reply (goes s.sizes (s.from (back tells)) (s.means (back tells)) (back tells) h.run h.lawful h.shows));
   }
 
   pub done_if : (into : List ℕ) (result : Result code_reply.Reply Refused) → ((z : Sizes) (from : (basis z).X) → old.means t z from → old.Told → (x : Run) → IsLawful t (basis z) → Shows t (basis z) (led t z from old) k x

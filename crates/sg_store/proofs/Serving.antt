@@ -20,10 +20,10 @@ use Rattle.sg_store.proofs.Holding.{reading, reads_so}
 module _ {basis : Sizes → Ground} where
   -- what follows from what is asked is asked
   pub asked_for : {t : Operations} (e : Shown basis) (P Q : (g : Ground) → View g → Type 0) → ((g : Ground) (v : View g) → P g v → Q g v) → AskedBy t e P → AskedBy t e Q
-  asked_for e P Q f s = record { sizes = s.sizes; from = s.from; means = s.means; can = λ told. f (basis s.sizes) (led _ s.sizes s.from e) (s.can told) }
+  asked_for e P Q f s = record { sizes = s.sizes; from = s.from; means = s.means; can = λ told. f (basis s.sizes) (led _ s.sizes (s.from told) e) (s.can told) }
 
   pub asked_of : (t : Operations) (e : Shown basis) (P : (g : Ground) → View g → Type 0) (Q : (t : Operations) (g : Ground) → View g → Type 0) → ((g : Ground) (v : View g) → P g v → Q t g v) → AskedBy t e P → Asked e Q
-  asked_of t e P Q f s = record { by = t; sizes = s.sizes; from = s.from; means = s.means; can = λ told. f (basis s.sizes) (led t s.sizes s.from e) (s.can told) }
+  asked_of t e P Q f s = record { by = t; sizes = s.sizes; from = s.from; means = s.means; can = λ told. f (basis s.sizes) (led t s.sizes (s.from told) e) (s.can told) }
 
   pub asked_by : (e : Shown basis) (Q : (t : Operations) (g : Ground) → View g → Type 0) → (t : Operations) → AskedBy t e (Q t) → Asked e Q
   asked_by e Q t s = record { by = t; sizes = s.sizes; from = s.from; means = s.means; can = s.can }
@@ -35,9 +35,9 @@ module _ {basis : Sizes → Ground} where
       → AskedBy t old (ShowsSome k t) → AskedBy t new (ShowsSome m t)
   serves_on t old new k m Line keeps back goes s = record {
     sizes = s.sizes;
-    from = s.from;
-    means = keeps s.sizes s.from s.means;
-    can = λ told. (let h = s.can (back told) in let next = goes s.sizes s.from s.means (back told) h.run h.lawful h.shows in record { lawful = h.lawful; run = next.after; shows = next.shows });
+    from = λ told. s.from (back told);
+    means = λ told. keeps s.sizes (s.from (back told)) (s.means (back told));
+    can = λ told. (let h = s.can (back told) in let next = goes s.sizes (s.from (back told)) (s.means (back told)) (back told) h.run h.lawful h.shows in record { lawful = h.lawful; run = next.after; shows = next.shows });
   }
 
 pub runs_some : (t : Operations) (g : Ground) (v : View g) (k : Core) → is_some k.stopped ≡ false → ShowsSome k t g v → IsRunning k.live t g v
@@ -63,22 +63,22 @@ module _ {basis : Sizes → Ground} (t : Operations) (old now : Shown basis) (be
   pub freeing_since : (left : ℕ) → Since t old now before after (λ g v w. IsLeavingSince t g (IsLawful t g) v w before after u left) → AskedBy t old (IsFreeing before.live u t) → AskedBy t now (IsFreeing after.live u t)
   freeing_since left i s = record {
     sizes = s.sizes;
-    from = s.from;
-    means = i.means s.sizes s.from s.means;
+    from = λ told. s.from (i.told told);
+    means = λ told. i.means s.sizes (s.from (i.told told)) (s.means (i.told told));
     can = λ told.
         (let h = s.can (i.told told) in
-        let d = i.done s.sizes s.from s.means (i.told told) in
-        record { lawful = h.lawful; run = h.run; leaving = subst (λ (k : Core). IsLeaving t (basis s.sizes) (led t s.sizes s.from now) k.live h.run u) (sym i.same) (d.leaving h.run h.lawful h.leaving) });
+        let d = i.done s.sizes (s.from (i.told told)) (s.means (i.told told)) (i.told told) in
+        record { lawful = h.lawful; run = h.run; leaving = subst (λ (k : Core). IsLeaving t (basis s.sizes) (led t s.sizes (s.from (i.told told)) now) k.live h.run u) (sym i.same) (d.leaving h.run h.lawful h.leaving) });
   }
 
   pub taking_since : (at : ℕ) → core.is_live before.live u ≡ true → Since t old now before after (λ g v w. IsUndoingSince t g (IsLawful t g) v w before after u at) → AskedBy t old (IsRunning before.live t) → AskedBy t now (IsTakingBack after.live u at t)
   taking_since at live i s = record {
     sizes = s.sizes;
-    from = s.from;
-    means = i.means s.sizes s.from s.means;
+    from = λ told. s.from (i.told told);
+    means = λ told. i.means s.sizes (s.from (i.told told)) (s.means (i.told told));
     can = λ told.
         (let h = s.can (i.told told) in
-        let d = i.done s.sizes s.from s.means (i.told told) in
+        let d = i.done s.sizes (s.from (i.told told)) (s.means (i.told told)) (i.told told) in
         let is = sym (same_live before.live h.run.so_far.live u h.kept.live) ∙ live in
-        record { lawful = h.lawful; run = h.run; undoing = subst (λ (k : Core). IsUndoing t (basis s.sizes) (led t s.sizes s.from now) k.live h.run u at) (sym i.same) (d.undoing h.run h.lawful h.kept is); live = is });
+        record { lawful = h.lawful; run = h.run; undoing = subst (λ (k : Core). IsUndoing t (basis s.sizes) (led t s.sizes (s.from (i.told told)) now) k.live h.run u at) (sym i.same) (d.undoing h.run h.lawful h.kept is); live = is });
   }

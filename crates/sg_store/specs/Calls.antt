@@ -23,6 +23,7 @@ use Rattle.sg_core.specs.Live.{Txn}
 use Rattle.sg_store.specs.Verbs.{Reads, HasNeed}
 use Rattle.sg_store.specs.Ground.{Ground}
 use Rattle.sg_store.specs.Engine.{View, Sizes, Shown, KeepsBy, AsMeantBy, pages_of}
+use Rattle.sg_store.specs.Accounting.{Unfailed}
 use Rattle.sg_store.specs.Stands.{StandsFor, StandsForFirst}
 use Rattle.sg_store.specs.Store.{Core, IsKept, IsUndoing, IsLeaving, HasNone, Shows}
 use Rattle.sg_recovery.specs.Log.{tally, notes_of}
@@ -190,5 +191,6 @@ pub record Since {basis : Sizes → Ground} (t : Operations) (old now : Shown ba
   pub later : old.faults ≤ now.faults
   pub quiet : now.faults ≡ old.faults
   pub tail : old.tail ≤ now.tail
+  pub accounts : Unfailed old now
   pub same : after ≡ before
   pub done : AsMeantBy t old now P

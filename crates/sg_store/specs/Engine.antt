@@ -1,7 +1,8 @@
 -- What is known of a page engine, and what its calls do.
-use Rattle.std.specs.Prelude.{◌≡◌, ◌≢◌, ℕ, ◌+◌, ◌≤◌, ◌<◌, ◌^◌, ◌==◌, ◌||◌, ◌&&◌, not, Bool, true, false, IsTrue, List, [], ◌∷◌, ◌++◌, length, drop, Option, Some, None, Result, OnOk, IfErr}
+use Rattle.std.specs.Prelude.{◌≡◌, ◌≢◌, ◌⊎◌, ℕ, ◌+◌, ◌≤◌, ◌<◌, ◌^◌, ◌==◌, ◌||◌, ◌&&◌, not, Bool, true, false, IsTrue, List, [], ◌∷◌, ◌++◌, length, drop, Option, Some, None, Result, OnOk, IfErr}
 use Rattle.sg_base.specs.Ends.{HasRisen}
 use Rattle.sg_base.specs.declared.numbers.TxnId.{TxnId}
+use Rattle.sg_disk.specs.Accounts.{Accounts}
 use Rattle.sg_disk.specs.Disk as disk
 use Rattle.sg_disk.specs.Disk.{Image, Leaves, LeavesOnly}
 use Rattle.sg_ops.specs.Table.{Table as Operations}
@@ -58,9 +59,10 @@ pub record Shown (basis : Sizes → Ground) : Type 1 where
   -- its disk tells what it holds and no call has failed, so that its log and its contents are known
   pub Told : Type 0
   pub disk : disk.View
-  -- the number of the log's first byte, and of its next one
+  -- the number of the log's first byte, of its next one, and of the one where what is durable of it ends
   pub base : ℕ
   pub tail : ℕ
+  pub gate : ℕ
   -- the number of the first byte that the log still has, of which a cut takes away
   pub start : ℕ
   pub free_pages : ℕ
@@ -110,20 +112,21 @@ AsMeant {basis = basis} old new P = (t : Operations) (z : Sizes) (from : (basis 
 abbrev pub AsMeantBy : {basis : Sizes → Ground} → Operations → (old new : Shown basis) → ((g : Ground) → (v w : View g) → Type 0) → Type 0
 AsMeantBy {basis = basis} t old new P = (z : Sizes) (from : (basis z).X) → old.means t z from → old.Told → P (basis z) (led t z from old) (led t z from new)
 
--- WHAT IS ASKED OF A CALLER: the engine's records mean something, and where it tells, this holds of what it shows
+-- WHAT IS ASKED OF A CALLER: where the engine tells, its records mean something, and this holds of what it shows. From which pages
+-- they lead need be known only there
 pub record Asked {basis : Sizes → Ground} (e : Shown basis) (P : (t : Operations) (g : Ground) → View g → Type 0) : Type 0 where
   pub by : Operations
   pub sizes : Sizes
-  pub from : (basis sizes).X
-  pub means : e.means by sizes from
-  pub can : e.Told → P by (basis sizes) (led by sizes from e)
+  pub from : e.Told → (basis sizes).X
+  pub means : (told : e.Told) → e.means by sizes (from told)
+  pub can : (told : e.Told) → P by (basis sizes) (led by sizes (from told) e)
 
--- the same where the call is given the operations: the engine's records are of these
+-- the same where the call is given the operations: there, its records are of these
 pub record AskedBy {basis : Sizes → Ground} (t : Operations) (e : Shown basis) (P : (g : Ground) → View g → Type 0) : Type 0 where
   pub sizes : Sizes
-  pub from : (basis sizes).X
-  pub means : e.means t sizes from
-  pub can : e.Told → P (basis sizes) (led t sizes from e)
+  pub from : e.Told → (basis sizes).X
+  pub means : (told : e.Told) → e.means t sizes (from told)
+  pub can : (told : e.Told) → P (basis sizes) (led t sizes (from told) e)
 
 -- what its pages and bands hold: what its records make of what it found
 abbrev pub pages_of : (t : Operations) (g : Ground) → View g → g.X
@@ -213,8 +216,16 @@ pub record Rested (t : Operations) (g : Ground) (old new : View g) : Type 0 wher
   pub pages : new.free_pages ≡ old.free_pages
   pub bands : new.free_bands ≡ old.free_bands
 
+-- A TRANSACTION ENDS: its end may be appended, and at `Ok` it was. Or nothing is, which comes only of one that goes on no more: an engine
+-- needn't know of one that had committed and not ended when it was opened
+abbrev pub EndsOne : {T E : Type 0} (t : Operations) (g : Ground) → (u : ℕ) → (old new : View g) → Result T E → Type 0
+EndsOne t g u old new result =
+    ((lsn : ℕ) × (previous : ℕ) × Appends t g old new (record { lsn = lsn; is = End u previous })
+    × OnOk result (Appended t g old new (record { lsn = lsn; is = End u previous })))
+    ⊎ ((is_in u (tally old.log).live ≡ false) × Rests t g old new × OnOk result (Rested t g old new))
+
 -- What each call keeps, on any engine: none makes the count of faults or the log's end less, none fails for the disk unless the
--- count rose. One that tells behind a call told before it, and it tells still unless the call failed
+-- count rose, and each accounts for the disk's own counts. One that tells behind a call told before it, and it tells still unless the call failed
 pub record Counts {T E : Type 0} (IsDisk : E → Type 0) {basis : Sizes → Ground} (old new : Shown basis) (result : Result T E) : Type 0 where
   pub told : new.Told → old.Told
   pub tells : OnOk result (old.Told → new.Told)
@@ -222,6 +233,7 @@ pub record Counts {T E : Type 0} (IsDisk : E → Type 0) {basis : Sizes → Grou
   pub later : old.faults ≤ new.faults
   pub quiet : OnOk result (new.faults ≡ old.faults)
   pub failed : IfErr result (λ e. IsDisk e → HasRisen old.faults new.faults)
+  pub accounts : Accounts IsDisk old.Told old.disk new.disk old.gate new.gate result
 
 abbrev pub LOG_END : ℕ
 LOG_END = 2 ^ 63

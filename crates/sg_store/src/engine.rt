@@ -8,9 +8,9 @@ ghost use Rattle.sg_model.specs.Step.{is_changing};
 ghost use Rattle.sg_model.specs.Verb.Op.{On, Names};
 ghost use Rattle.sg_model.specs.Verb.Verb.{Keys};
 ghost use Rattle.sg_recovery.specs.Log.{Top, tally, notes_of};
-ghost use Rattle.sg_recovery.specs.Log.Record.{Begin, TopEnd, CompEnd, Commit, End};
+ghost use Rattle.sg_recovery.specs.Log.Record.{Begin, TopEnd, CompEnd, Commit};
 ghost use Rattle.sg_store.specs.Ground.{Ground};
-ghost use Rattle.sg_store.specs.Engine.{Sizes, Shown, Keeps, KeepsBy, AsMeant, AsMeantBy, Asked, AskedBy, IsOldest, Action, IsEngine, IsIdle, pages_of, Appends, Appended, Changes, Changed, Rests, Rested, Counts, IsNearEnd, IsVerbEnd, VERB_BYTES, IsDiskFault, IsObjDisk, IsReadFault, IsRefusedQuietly, IsListDisk, IsListRead, IsNextUndo, IsAtRest, HasPlace, IsAt, MayAct, MayEnd, ActsFor, ActsBack, IsFirst};
+ghost use Rattle.sg_store.specs.Engine.{Sizes, Shown, Keeps, KeepsBy, AsMeant, AsMeantBy, Asked, AskedBy, IsOldest, Action, IsEngine, IsIdle, pages_of, Appends, Appended, Changes, Changed, Rests, Rested, EndsOne, Counts, IsNearEnd, IsVerbEnd, VERB_BYTES, IsDiskFault, IsObjDisk, IsReadFault, IsRefusedQuietly, IsListDisk, IsListRead, IsNextUndo, IsAtRest, HasPlace, IsAt, MayAct, MayEnd, ActsFor, ActsBack, IsFirst};
 ghost use Rattle.sg_store.specs.Verbs.{Reads, CanLook, CanPerform, CanDo, CanReverse, CanTakeBack, CanFree, Reversed, HasPerformed, HasNeeds, HasKeys, HasNames, FreesNext};
 
 use crate::fault::{Needed, ObjFault};
@@ -28,7 +28,9 @@ use std::alloc::Global;
 /// (`IsEngine`): of one whose disk tells, and whose image stood for objects when it was opened.
 ///
 /// What is asked of a caller is asked where the engine tells. On any engine each call is safe and
-/// returns, and fails only where the count of faults rose, or near the log's end.
+/// returns, and fails only where the count of faults rose, or near the log's end. Where the engine told, a
+/// call fails for the disk only where the disk's own count rose; and the end of what is durable of the
+/// log moves at most by the bytes that were handed to the disk.
 pub trait Engine {
     /// What its pages, its records and its objects are, by how many pages and bands it has.
     ghost basis: { Sizes → Ground };
@@ -42,6 +44,9 @@ pub trait Engine {
     /// The same while it is being opened: an action may be without its end, and what is free isn't known yet. No call
     /// of these is asked of it then.
     ghost opened: { Self → Shown basis };
+
+    /// What waits at the log's end to be durable is a frame at most, with its head.
+    ghost waits: { (s : Self) → (view s).tail ≤ (view s).gate + 65541 };
 
     /// The number of the log's next byte.
     fn tail(&self) -> Lsn
@@ -73,6 +78,8 @@ pub trait Engine {
     /// What is changed from now on is an action of this transaction, which is live, or of the system.
     fn act(&mut self, txn: TxnId)
         requires can { Asked (view self.old) (MayAct txn.0) }
+        ensures disk { (view self.new).disk ≡ (view self.old).disk }
+        ensures gate { (view self.new).gate ≡ (view self.old).gate }
         ensures tail { (view self.new).tail ≡ (view self.old).tail }
         ensures quiet { (view self.new).faults ≡ (view self.old).faults }
         ensures told { (view self.new).Told → (view self.old).Told }
@@ -124,8 +131,11 @@ pub trait Engine {
             → IsIdle v → Rests t g v w × IfOk result (λ r. Rested t g v w
             × IsNextUndo txn.0 (tally v.log).notes r)) };
 
-    /// Reports that what was read can't be. An engine that has kept to its clauses is never asked.
+    /// Reports that what was read can't be. An engine that tells is never asked.
     fn broken(&mut self) -> SpaceFault
+        requires untold { (view self.old).Told → ⊥ }
+        ensures disk { (view self.new).disk ≡ (view self.old).disk }
+        ensures gate { (view self.new).gate ≡ (view self.old).gate }
         ensures answer { result ≡ SpaceFault.Disk }
         ensures tail { (view self.new).tail ≡ (view self.old).tail }
         ensures later { (view self.old).faults ≤ (view self.new).faults }
@@ -162,7 +172,8 @@ pub trait Engine {
             × OnOk result (Appended t g v w (record { lsn = lsn; is = Commit txn.0 previous })
             × (w.durable ≡ w.log))) };
 
-    /// A transaction has ended that goes on, or has committed. It is neither live nor a loser any more.
+    /// A transaction has ended that goes on, or has committed. It is neither live nor a loser any more. Of
+    /// one that has committed the record of its end may be left out.
     fn end(&mut self, txn: TxnId) -> Result<(), SpaceFault>
         requires can { Asked (view self.old) (MayEnd txn.0) }
         ensures counts { Counts IsDiskFault (view self.old) (view self.new) result }
@@ -170,9 +181,7 @@ pub trait Engine {
         ensures means { Keeps (view self.old) (view self.new) }
         ensures log_end { IfErr result (IsNearEnd (view self.old).tail) }
         ensures ends { AsMeant (view self.old) (view self.new) (λ t g v w. IsEngine t g v
-            → IsIdle v → (lsn : ℕ) × (previous : ℕ)
-            × Appends t g v w (record { lsn = lsn; is = End txn.0 previous })
-            × OnOk result (Appended t g v w (record { lsn = lsn; is = End txn.0 previous }))) };
+            → IsIdle v → EndsOne t g txn.0 v w result) };
 
     /// Makes the log durable and writes all changed pages and bands home.
     fn flush(&mut self) -> Result<(), SpaceFault>

@@ -9,7 +9,9 @@
 //! that in each call and after it every image stands for the objects after the transactions that were
 //! committed, or with the call's own commit; and that a store that has stopped makes no call. It says so
 //! of an engine that tells its contents, and of a ground whose laws hold (`IsLawful`), whatever the engine's
-//! records mean. A caller owes what the call before gave (`Serves`); `rests` of each call says plainly what an
+//! records mean. Of any engine it promises that no fault is passed over (`Heeds`), by the disk's own count too:
+//! a store that hasn't stopped for the disk leaves that as it was, and one that stops for it, where its engine told,
+//! does so only where it rose. A caller owes what the call before gave (`Serves`); `rests` of each call says plainly what an
 //! application may rest on.
 #![tactic(auto)]
 

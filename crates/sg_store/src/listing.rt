@@ -1,5 +1,5 @@
 // The keys of a table and the names of all objects, listed for a transaction.
-ghost use Rattle.std.specs.Prelude.{◌≡◌, ◌≤◌, ℕ, List, true, IfOk, IfErr, OnOk, IsTrue};
+ghost use Rattle.std.specs.Prelude.{◌≡◌, ◌≤◌, ℕ, List, true, None, IfOk, IfErr, OnOk, IsTrue};
 ghost use Rattle.sg_core.specs.Live.{is_live};
 ghost use Rattle.sg_model.specs.Objects.{Objects as Model};
 ghost use Rattle.sg_model.specs.Verb.Op.{On, Names};
@@ -46,7 +46,7 @@ impl<E: Lists> Store<E> {
         ensures later { (E.view self.old.engine).faults ≤ (E.view self.new.engine).faults }
         ensures live { self.new.txns ≡ self.old.txns }
         ensures causes { HoldsFor txn.0 (E.view self.old.engine) (E.view self.new.engine) (core_of self.old) (core_of self.new) result }
-        ensures heeds { Heeds self.old.stop self.new.stop (E.view self.old.engine) (E.view self.new.engine) }
+        ensures heeds { self.old.stop ≡ None → Heeds self.old.stop self.new.stop (E.view self.old.engine) (E.view self.new.engine) }
     {
         match self.engine.touches_keys(name, &mut self.touches) {
             Ok(()) => self.grant(txn),

@@ -91,6 +91,7 @@ fn mark(txns: &mut Txns, txn: TxnId, op: &Op<'_>)
 impl<E: Objects> Store<E> {
     ghost use Rattle.sg_ops.specs.Table.{Table as Operations, table_of};
     ghost use Rattle.sg_run.specs.Run.{Run, committed};
+    ghost use Rattle.sg_store.specs.Accounting.{AccountsFor};
     ghost use Rattle.sg_store.specs.Ground.{IsLawful};
     ghost use Rattle.sg_store.specs.Store.{Core, Shows, IsKept, IsUndoing, IsLeaving, HasNone};
     ghost use Rattle.sg_store.specs.Engine.{Keeps, KeepsBy, AsMeant, AsMeantBy, Asked, AskedBy, IsDiskFault, IsNearEnd};
@@ -259,6 +260,7 @@ impl<E: Objects> Store<E> {
         ensures tail { (E.view self.old.engine).tail ≤ (E.view self.new.engine).tail }
         ensures core { core_of self.new ≡ core_of self.old }
         ensures quiet { OnOk result ((E.view self.new.engine).faults ≡ (E.view self.old.engine).faults) }
+        ensures accounts { AccountsFor IsDiskFault (E.view self.old.engine) (E.view self.new.engine) result }
     {
         self.engine.act(TxnId(0));
         match self.engine.free_next(ops, Some(txn), &mut self.note) {
@@ -293,6 +295,7 @@ impl<E: Objects> Store<E> {
         ensures tail { (E.view self.old.engine).tail ≤ (E.view self.new.engine).tail }
         ensures core { core_of self.new ≡ core_of self.old }
         ensures quiet { OnOk result ((E.view self.new.engine).faults ≡ (E.view self.old.engine).faults) }
+        ensures accounts { AccountsFor IsDiskFault (E.view self.old.engine) (E.view self.new.engine) result }
     {
         let start = self.engine.tail();
         let mut left = u64::MAX - start;
@@ -334,6 +337,7 @@ impl<E: Objects> Store<E> {
         ensures tail { (E.view self.old.engine).tail ≤ (E.view self.new.engine).tail }
         ensures core { core_of self.new ≡ core_of self.old }
         ensures quiet { OnOk result ((E.view self.new.engine).faults ≡ (E.view self.old.engine).faults) }
+        ensures accounts { AccountsFor IsDiskFault (E.view self.old.engine) (E.view self.new.engine) result }
         ensures none { has_dropped self.old.txns txn.0 ≡ false → self.new.engine ≡ self.old.engine }
     {
         if !self.txns.has_dropped(txn) {
@@ -479,7 +483,7 @@ impl<E: Objects> Store<E> {
         ensures tail { (E.view self.new.engine).tail ≡ (E.view self.old.engine).tail }
         ensures live { self.new.txns ≡ self.old.txns }
         ensures causes { HoldsFor txn.0 (E.view self.old.engine) (E.view self.new.engine) (core_of self.old) (core_of self.new) result }
-        ensures heeds { Heeds self.old.stop self.new.stop (E.view self.old.engine) (E.view self.new.engine) }
+        ensures heeds { self.old.stop ≡ None → Heeds self.old.stop self.new.stop (E.view self.old.engine) (E.view self.new.engine) }
     {
         match self.engine.touches(op, &mut self.touches) {
             Ok(()) => self.grant(txn),
@@ -511,7 +515,7 @@ impl<E: Objects> Store<E> {
         ensures tail { (E.view self.new.engine).tail ≡ (E.view self.old.engine).tail }
         ensures live { self.new.txns ≡ self.old.txns }
         ensures causes { RoomsFor (is_changing (said_op op.now)) (E.view self.old.engine) (E.view self.new.engine) (core_of self.old) (core_of self.new) result }
-        ensures heeds { Heeds self.old.stop self.new.stop (E.view self.old.engine) (E.view self.new.engine) }
+        ensures heeds { self.old.stop ≡ None → Heeds self.old.stop self.new.stop (E.view self.old.engine) (E.view self.new.engine) }
     {
         let needs = match self.engine.needs(ops, op) {
             Ok(needs) => needs,
@@ -572,7 +576,7 @@ impl<E: Objects> Store<E> {
         ensures tail { (E.view self.old.engine).tail ≤ (E.view self.new.engine).tail }
         ensures causes { ActsFor (E.view self.old.engine) (E.view self.new.engine) (core_of self.old) (core_of self.new) result }
         ensures marks { MarksOnly txn.0 (said_op op.now) self.old.txns self.new.txns }
-        ensures heeds { Heeds self.old.stop self.new.stop (E.view self.old.engine) (E.view self.new.engine) }
+        ensures heeds { self.old.stop ≡ None → Heeds self.old.stop self.new.stop (E.view self.old.engine) (E.view self.new.engine) }
     {
         self.engine.act(txn);
         let reply = match self.engine.perform(ops, txn, op, into, &mut self.note) {
@@ -669,6 +673,7 @@ impl<E: Objects> Store<E> {
         ensures tail { (E.view self.old.engine).tail ≤ (E.view self.new.engine).tail }
         ensures core { core_of self.new ≡ core_of self.old }
         ensures quiet { OnOk result ((E.view self.new.engine).faults ≡ (E.view self.old.engine).faults) }
+        ensures accounts { AccountsFor IsDiskFault (E.view self.old.engine) (E.view self.new.engine) result }
     {
         let after = match self.engine.undo_step(txn, &mut self.note) {
             Ok(Some(after)) => after,
@@ -711,6 +716,7 @@ impl<E: Objects> Store<E> {
         ensures tail { (E.view self.old.engine).tail ≤ (E.view self.new.engine).tail }
         ensures core { core_of self.new ≡ core_of self.old }
         ensures quiet { OnOk result ((E.view self.new.engine).faults ≡ (E.view self.old.engine).faults) }
+        ensures accounts { AccountsFor IsDiskFault (E.view self.old.engine) (E.view self.new.engine) result }
     {
         let mut at = self.engine.tail();
         'notes: loop {

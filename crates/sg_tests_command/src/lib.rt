@@ -1,6 +1,8 @@
-//! Tests of what the words of the command line ask for, and of the workload.
+//! Tests of what the words of the command line ask for, of the sizes that a text says, and of the workload.
 #![tactic(auto)]
 
+#[cfg(test)]
+mod file;
 #[cfg(test)]
 mod sizes;
 #[cfg(test)]

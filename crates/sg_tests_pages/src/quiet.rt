@@ -1,7 +1,7 @@
 // A disk that tells nothing.
-ghost use Rattle.std.specs.Prelude.{false};
+ghost use Rattle.std.specs.Prelude.{false, ⊤};
 
-use sg_disk::{Area, Disk, Failed};
+use sg_disk::{Area, Disk, Failed, Presumed};
 
 // The same disk, of which only the counts are known, so that what stands on it asks for nothing.
 #[derive(Drop)]
@@ -31,4 +31,8 @@ impl<D: Disk> Disk for Quiet<D> {
     fn sync(&mut self, area: Area) -> Result<(), Failed> {
         self.inner.sync(area)
     }
+}
+
+impl<D: Disk> Presumed for Quiet<D> {
+    ghost presumed = { ⊤ };
 }

@@ -6,4 +6,4 @@ use Rattle.sg_store.specs.Engine.{View, AskedBy}
 use Rattle.sg_tests_store.specs.Small.{shown, some_pages}
 
 pub asked : (t : Operations) (tail pages bands faults : ℕ) (P : (g : Ground) → View g → Type 0) → AskedBy t (shown tail pages bands faults) P
-asked t tail pages bands faults P = record { sizes = record { pages = 0; bands = 0 }; from = some_pages; means = tt; can = λ told. absurd told }
+asked t tail pages bands faults P = record { sizes = record { pages = 0; bands = 0 }; from = λ told. some_pages; means = λ told. tt; can = λ told. absurd told }

@@ -42,13 +42,14 @@ pub some_pages : nothing.X
 unfolding nothing
 some_pages = tt
 
--- the numbers of an engine, and nothing else
+-- the numbers of an engine, and nothing else: each byte of its log was handed to a disk that counts no fault
 abbrev pub shown : (tail free_pages free_bands faults : ℕ) → Shown (λ z. nothing)
 shown tail free_pages free_bands faults = record {
   Told = ⊥;
-  disk = memory_view (image_of [] [] []) [] 0 0 faults;
+  disk = memory_view (image_of [] [] []) [] tail 0 0;
   base = 0;
   tail = tail;
+  gate = tail;
   start = 0;
   free_pages = free_pages;
   free_bands = free_bands;

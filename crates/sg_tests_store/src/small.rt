@@ -1,5 +1,6 @@
 // An engine in memory that has objects without pages and tells nothing: what the store's calls are tried on.
 ghost use Rattle.std.specs.Prelude.{◌≡◌, ◌≤◌, ◌<◌, ◌+◌, IfErr, IfOk, OnErr, OnOk, length};
+ghost use Rattle.std.proofs.Math.Nat.{le-add_right};
 ghost use Rattle.sg_base.specs.Ends.{HasRisen};
 ghost use Rattle.sg_tests_store.specs.Small.{nothing, shown};
 
@@ -139,6 +140,8 @@ impl Engine for Small {
     ghost waiting = { λ s. 0 };
 
     ghost opened = { λ s. shown s.measures.tail s.measures.pages s.measures.bands s.faults };
+
+    ghost waits = { λ s. le-add_right s.measures.tail 65541 };
 
     fn tail(&self) -> Lsn {
         self.measures.tail

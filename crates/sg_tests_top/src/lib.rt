@@ -1,6 +1,8 @@
-//! Tests of the session and of whole scripts over a disk in memory: replies, stops, crashes and openings.
+//! Tests of the session and of whole scripts over a store on a disk in memory: replies, stops, crashes and openings.
 #![tactic(auto)]
 
+#[cfg(test)]
+mod quiet;
 #[cfg(test)]
 mod reopen;
 #[cfg(test)]

@@ -1,6 +1,6 @@
 ghost use Rattle.std.specs.Prelude.{None, ◌<◌};
 
-use crate::trial::{Left, answered, goes, run, run_from, run_in_pieces};
+use crate::trial::{Left, answered, copy_of, goes, new_store, run, run_from, run_in_pieces};
 use sg_base::{Failed, MemSource, Source};
 use sg_disk::{CallKind, MemDisk};
 use sg_top::Status;
@@ -10,27 +10,16 @@ const FIRST: &str = "t begin\nt make array a 3\nt push a abc\nt set a 0 xyz\nt g
 
 const FIRST_REPLIES: &str = "ok\nok\nok 0\nok\nok xyz\nok\n";
 
-// One frame: a gate, the length 140, five records, and a closed gate.
-const FIRST_LOG: &[u8] = b"\x01\x8c\0\0\0\
-    \x01\x15\0\0\0\x05\0\0\0\0\0\0\0\0\0\0\0\0\0\0\0\
-    \x0d\x23\0\0\0\x05\0\0\0\0\0\0\0\x05\0\0\0\0\0\0\0make array a 3\
-    \x0d\x1f\0\0\0\x05\0\0\0\0\0\0\0\x1a\0\0\0\0\0\0\0push a abc\
-    \x0d\x20\0\0\0\x05\0\0\0\0\0\0\0\x3d\0\0\0\0\0\0\0set a 0 xyz\
-    \x0a\x15\0\0\0\x05\0\0\0\0\0\0\0\x5c\0\0\0\0\0\0\0\0";
-
-// Whether the first script leaves its replies and its log where it comes in pieces of so many bytes.
+// Whether the first script gets its replies where it comes in pieces of so many bytes.
 fn pieces_go(alloc: Global, piece: usize) -> bool {
     if piece == 0 {
         return false;
     }
-    match run_in_pieces(
-        alloc,
-        "run store",
-        MemDisk::new(alloc),
-        FIRST.as_bytes(),
-        piece,
-    ) {
-        Some(left) => left.is(Status::Done, FIRST_REPLIES.as_bytes()) && left.log0() == FIRST_LOG,
+    match new_store(alloc) {
+        Some(disk) => match run_in_pieces(alloc, "run store", disk, FIRST.as_bytes(), piece) {
+            Some(left) => left.is(Status::Done, FIRST_REPLIES.as_bytes()),
+            None => false,
+        },
         None => false,
     }
 }
@@ -89,13 +78,7 @@ const HOSTILE: [(&str, &str); 16] = [
 // The number of the first script that is answered otherwise.
 fn first_wrong(alloc: Global) -> Option<usize> {
     for (number, (script, replies)) in HOSTILE.iter().enumerate() {
-        if !goes(
-            alloc,
-            b"",
-            script.as_bytes(),
-            Status::Done,
-            replies.as_bytes(),
-        ) {
+        if !goes(alloc, script.as_bytes(), Status::Done, replies.as_bytes()) {
             return Some(number);
         }
     }
@@ -117,7 +100,7 @@ fn spaces(alloc: Global, count: usize, behind: &[u8]) -> Result<Vec<u8>, AllocEr
 // Whether such a script is answered so.
 fn spaces_go(alloc: Global, count: usize, behind: &[u8], replies: &[u8]) -> bool {
     match spaces(alloc, count, behind) {
-        Ok(script) => goes(alloc, b"", &script, Status::Done, replies),
+        Ok(script) => goes(alloc, &script, Status::Done, replies),
         Err(_) => false,
     }
 }
@@ -140,7 +123,7 @@ fn are_no_command(alloc: Global, words: &str) -> bool {
 
 #[test]
 fn other_words_are_no_command(rt: HostRuntime) {
-    for words in "run,runs store,run store more,store run,init store,gen 7 0,gen 7,help".split(
+    for words in "run,runs store,run store more,store run,init store more,init,gen 7 0,gen 7,help".split(
         ',',
     ) {
         assert!(rt; are_no_command(rt.alloc(), words));
@@ -169,7 +152,7 @@ fn a_workload_is_written(rt: HostRuntime) {
     assert!(rt; workload_goes(rt.alloc()));
 }
 
-// What a run leaves whose source comes in pieces of so many bytes, where a call of the source or of the sink fails.
+// What a run over a new store leaves whose source comes in pieces of so many bytes, where a call of the source or of the sink fails.
 fn run_failing(
     alloc: Global,
     script: &[u8],
@@ -179,16 +162,11 @@ fn run_failing(
 ) -> Option<Left>
     requires { 0 < piece }
 {
+    let disk = new_store(alloc)?;
     match script.to_vec(alloc) {
         Ok(text) => {
             let mut source = MemSource::new(text, piece, source_fails);
-            run_from(
-                alloc,
-                "run store",
-                MemDisk::new(alloc),
-                &mut source,
-                sink_fails,
-            )
+            run_from(alloc, "run store", disk, &mut source, sink_fails)
         }
         Err(_) => None,
     }
@@ -197,7 +175,7 @@ fn run_failing(
 // Whether a run ends so whose source fails at the third call.
 fn failing_source_goes(alloc: Global) -> bool {
     match run_failing(alloc, b"t begin\nt commit", 8, Some(3), None) {
-        Some(left) => left.is(Status::Read, b"ok\n") && left.log0().is_empty(),
+        Some(left) => left.is(Status::Read, b"ok\n"),
         None => false,
     }
 }
@@ -207,12 +185,11 @@ fn a_source_that_fails(rt: HostRuntime) {
     assert!(rt; failing_source_goes(rt.alloc()));
 }
 
-// Whether a run ends so whose sink fails at the second call. It leaves one frame of two records of 21 bytes, and a closed
-// gate.
+// Whether a run ends so whose sink fails at the second call.
 fn failing_sink_goes(alloc: Global) -> bool {
     let script = b"t begin\nt commit\nu begin\nu commit";
     match run_failing(alloc, script, 64, None, Some(2)) {
-        Some(left) => left.is(Status::Write, b"ok\n") && left.log0().len() == 48,
+        Some(left) => left.is(Status::Write, b"ok\n"),
         None => false,
     }
 }
@@ -222,20 +199,26 @@ fn a_sink_that_fails(rt: HostRuntime) {
     assert!(rt; failing_sink_goes(rt.alloc()));
 }
 
-// Whether a run ends with one fault of the disk and these replies where the nth call of that kind fails.
+// Whether a run over a new store ends with one fault of the disk and these replies where the nth call of that kind fails.
 fn failing_disk_goes(alloc: Global, kind: CallKind, nth: u64, replies: &[u8]) -> bool {
-    let mut disk = MemDisk::new(alloc);
-    disk.fail(kind, nth);
-    match run(
-        alloc,
-        disk,
-        b"t begin\nt commit\nu begin\nu commit\nv begin",
-    ) {
-        Some(left) => left.is(Status::Disk, replies) && left.disk.fault_count() == 1,
+    match new_store(alloc).and_then(|disk| copy_of(alloc, &disk)) {
+        Some(disk) => {
+            let mut disk = disk;
+            disk.fail(kind, nth);
+            match run(
+                alloc,
+                disk,
+                b"t begin\nt commit\nu begin\nu commit\nv begin",
+            ) {
+                Some(left) => left.is(Status::Disk, replies) && left.disk.fault_count() == 1,
+                None => false,
+            }
+        }
         None => false,
     }
 }
 
+// An opening of a new store writes nothing, and a commit writes twice.
 #[test]
 fn a_disk_that_fails(rt: HostRuntime) {
     let alloc = rt.alloc();
@@ -269,10 +252,9 @@ impl Source for LongLines {
 // How a script of so many bytes ends.
 fn end_of_long(alloc: Global, size: u64) -> Option<Status> {
     let mut source = LongLines { left: size };
-    match run_from(alloc, "run store", MemDisk::new(alloc), &mut source, None) {
-        Some(left) => Some(left.status),
-        None => None,
-    }
+    let disk = new_store(alloc)?;
+    let left = run_from(alloc, "run store", disk, &mut source, None)?;
+    Some(left.status)
 }
 
 #[test]
@@ -285,10 +267,10 @@ fn a_script_has_a_greatest_length(rt: HostRuntime) {
     assert_eq!(rt; ends, [Some(Status::Done), Some(Status::TooLong)]);
 }
 
-// Whether a session that answers the first script ends so, with these replies, and leaves its log.
+// Whether a session that answers the first script ends so, with these replies.
 fn session_goes(alloc: Global, sink_fails: Option<u64>, status: Status, replies: &[u8]) -> bool {
     match answered(alloc, FIRST, sink_fails) {
-        Some(left) => left.is(status, replies) && left.log0() == FIRST_LOG,
+        Some(left) => left.is(status, replies),
         None => false,
     }
 }

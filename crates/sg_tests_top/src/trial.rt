@@ -1,13 +1,29 @@
 // A run or a session over a disk in memory, and what is left of it. All calls of the program stand in the functions below, which
 // promise nothing: a test sees plain values, and its proof carries none of the program's clauses. They give none where
-// memory is refused, or a session doesn't start.
+// memory is refused, a store isn't made, or a session doesn't start.
 ghost use Rattle.std.specs.Prelude.{◌<◌};
 
+use crate::quiet::Quiet;
 use sg_base::{MemSink, MemSource, Source};
 use sg_disk::MemDisk;
+use sg_making::Geometry;
+use sg_mount::init_store;
 use sg_ops::Ops;
 use sg_top::{Finish, Session, Status, stasis};
 use std::alloc::{AllocError, Global};
+
+// A disk that tells nothing, so that a session over it asks for nothing.
+type Silent = Quiet<MemDisk>;
+
+type Lines = Session<Silent>;
+
+/// A new store is of these sizes.
+const SIZES: Geometry = Geometry {
+    pages: 512,
+    bands: 12,
+    frames: 64,
+    windows: 8,
+};
 
 /// What is left of a run: how it ended, the disk, the calls of it that were refused, and the sink of its replies.
 #[derive(Drop)]
@@ -28,18 +44,26 @@ impl Left {
     pub fn replies(&self) -> &[u8] {
         self.out.text()
     }
+}
 
-    /// The bytes of the first log area.
-    pub fn log0(&self) -> &[u8] {
-        self.disk.log0()
+/// A disk that has a store without objects.
+pub fn new_store(alloc: Global) -> Option<MemDisk> {
+    let mut disk = MemDisk::new(alloc);
+    match init_store(&mut disk, &SIZES) {
+        Ok(()) => Some(disk),
+        Err(_) => None,
     }
 }
 
-/// A disk whose first log area has these bytes, all of them stable.
-pub fn disk_of(alloc: Global, log: &[u8]) -> Option<MemDisk> {
-    match log.to_vec(alloc) {
-        Ok(log) => Some(MemDisk::of(alloc, Vec::new(alloc), log, Vec::new(alloc))),
-        Err(_) => None,
+/// A disk with the same contents, all of them stable.
+pub fn copy_of(alloc: Global, disk: &MemDisk) -> Option<MemDisk> {
+    if let Ok(home) = disk.home().to_vec(alloc)
+        && let Ok(log0) = disk.log0().to_vec(alloc)
+        && let Ok(log1) = disk.log1().to_vec(alloc)
+    {
+        Some(MemDisk::of(alloc, home, log0, log1))
+    } else {
+        None
     }
 }
 
@@ -131,9 +155,9 @@ pub fn done(alloc: Global, disk: MemDisk, script: &[u8], replies: &[u8]) -> Opti
     }
 }
 
-/// Whether a script over a disk with these bytes in its first log area ends so, with these replies.
-pub fn goes(alloc: Global, log: &[u8], script: &[u8], status: Status, replies: &[u8]) -> bool {
-    match disk_of(alloc, log) {
+/// Whether a script over a new store ends so, with these replies.
+pub fn goes(alloc: Global, script: &[u8], status: Status, replies: &[u8]) -> bool {
+    match new_store(alloc) {
         Some(disk) => run_goes(alloc, disk, script, status, replies),
         None => false,
     }
@@ -157,13 +181,15 @@ pub fn run_goes(
 fn answer_lines(
     alloc: Global,
     ops: &Ops,
-    session: &mut Session<MemDisk>,
+    session: Lines,
     lines: &str,
     out: &mut MemSink,
-) {
+) -> (Status, Silent) {
+    let mut session = session;
     for line in lines.split('\n') {
         let _ = session.line(alloc, ops, line.as_bytes(), out);
     }
+    session.finish(ops)
 }
 
 // What a session with these operations leaves that answers lines.
@@ -174,15 +200,13 @@ fn answered_with(
     lines: &str,
     sink_fails: Option<u64>,
 ) -> Option<Left> {
-    match Session::start(alloc, ops, disk) {
+    match Lines::start(alloc, ops, Quiet { inner: disk }) {
         Ok(session) => {
-            let mut session = session;
             let mut out = MemSink::new(alloc, sink_fails);
-            answer_lines(alloc, ops, &mut session, lines, &mut out);
-            let (status, disk) = session.finish();
+            let (status, Quiet { inner }) = answer_lines(alloc, ops, session, lines, &mut out);
             Some(Left {
                 status,
-                disk,
+                disk: inner,
                 refused: 0,
                 out,
             })
@@ -191,16 +215,16 @@ fn answered_with(
     }
 }
 
-/// What a session over an empty disk leaves that answers lines, with the shipped operations. The sink's
+/// What a session over a new store leaves that answers lines, with the shipped operations. The sink's
 /// n-th call fails where n is given.
 pub fn answered(alloc: Global, lines: &str, sink_fails: Option<u64>) -> Option<Left> {
     match Ops::shipped(alloc) {
-        Ok(ops) => answered_with(alloc, &ops, MemDisk::new(alloc), lines, sink_fails),
+        Ok(ops) => answered_with(alloc, &ops, new_store(alloc)?, lines, sink_fails),
         Err(_) => None,
     }
 }
 
-/// Whether a session over an empty disk answers lines so, and has no fault.
+/// Whether a session over a new store answers lines so, and has no fault.
 pub fn answers(alloc: Global, lines: &str, replies: &str) -> bool {
     match answered(alloc, lines, None) {
         Some(left) => left.is(Status::Done, replies.as_bytes()),

@@ -1,13 +1,1 @@
 pub mod Sessions
-pub mod Lines
-pub mod Script
-pub mod Kept
-pub mod Buffers
-pub mod Feeding
-pub mod Ending
-pub mod Words
-pub mod Drawing
-pub mod Top
-pub mod Done
-pub mod Statuses
-pub mod OneLine

@@ -1,115 +1,62 @@
-ghost use Rattle.std.specs.Prelude.{◌≡◌, ◌≤◌, ◌⊎◌, true, false, IsTrue, IfSome};
-ghost use Rattle.sg_disk.specs.Disk.{refusing, Spent};
+ghost use Rattle.std.specs.Prelude.{◌≡◌, ◌⊎◌, true, false, IsTrue, IfSome};
+ghost use Rattle.sg_disk.specs.Disk.{Spent};
 ghost use Rattle.sg_ops.specs.Table.{table_of};
-ghost use Rattle.sg_top.specs.Words.{are_run, are_served, drawn, stop_after};
-ghost use Rattle.sg_top.specs.Drawing.{Draws, sunk};
-ghost use Rattle.sg_top.specs.Top.{outside, HasGone, Account};
+ghost use Rattle.sg_commands.specs.Drawing.{Draws, sunk};
+ghost use Rattle.sg_commands.specs.Images.{IsOfStore, IsPresumed};
+ghost use Rattle.sg_commands.specs.Making.{Makes, SaysMade};
+ghost use Rattle.sg_commands.specs.Stores.{grounds, says};
+ghost use Rattle.sg_commands.specs.Top.{outside, Account};
+ghost use Rattle.sg_commands.specs.Words.{are_run, are_init, are_served, drawn, stop_after};
 
-use crate::room::piece_room;
-use crate::script::run_script;
-use crate::session::Session;
-use crate::status::{Status, first_fault, status_of_end, status_of_refusal};
 use sg_base::{Sink, Source};
-use sg_command::{Command, WordsError, read_command};
-use sg_disk::{Disk, Fuse, Origin};
-use sg_journal::Unopened;
+use sg_commands::{Finish, Status, serve};
+use sg_disk::{Disk, Fuse, Origin, Presumes};
 use sg_ops::Ops;
-use sg_workload::write_workload;
+use sg_paged::Paged;
+use sg_pages::Phys;
 use std::alloc::Global;
 use std::marker::Brand;
 
-/// What a command leaves: its status, the disk, and how many of its calls the stop refused. A count
-/// of 2^64 - 1 stays.
-#[derive(Drop)]
-pub struct Finish<D> {
-    pub status: Status,
-    pub disk: D,
-    pub refused: u64,
-}
-
-// The end of a command, with the disk out of its fuse.
-fn finished<D: Disk, O: Origin>(status: Status, fuse: Fuse<D, O>) -> Finish<D>
-    ensures status { result.status ≡ status }
-    ensures view { ⟦<Fuse<D, O> as Disk>⟧.view fuse ≡ refusing (D.view result.disk) result.refused }
-    ensures spent { IsTrue O.known → Spent O.passes O.calls (D.view result.disk).calls result.refused }
-    ensures later { IsTrue O.known → O.faults ≤ (D.view result.disk).faults }
-{
-    let refused = fuse.refused();
-    Finish {
-        status,
-        disk: fuse.into_inner(),
-        refused,
-    }
-}
-
-// Runs the script over the disk, which makes so many calls at most where a number is given.
-fn run_behind_fuse<D: Disk, S: Source, K: Sink, O: Origin>(
+// The same over a fuse with this mark, which says how the disk was handed in and what is presumed of it.
+fn serve_pages<D: Disk, S: Source, K: Sink, O: Origin + Presumes>(
     alloc: Global,
-    ops: &Ops,
+    ops: Ops,
+    words: &[String],
     disk: D,
-    calls: Option<u64>,
     script: &mut S,
     out: &mut K,
 ) -> Finish<D>
     requires known { IsTrue O.known }
-    requires passes { O.passes ≡ calls }
+    requires passes { O.passes ≡ stop_after words.now }
     requires began { O.calls ≡ (D.view disk).calls }
     requires faults { O.faults ≡ (D.view disk).faults }
-    ensures run { HasGone (table_of record_meaning range_meaning ops.now) D.told (outside (D.view disk) (S.left script.old) (S.faults script.old) (K.taken out.old) (K.faults out.old))
+    requires presumed { IsPresumed grounds says (table_of record_meaning range_meaning ops) D.told O.presumed (D.view disk) }
+    ensures usage { result.status ≡ Status.Usage → are_served words.now ≡ false }
+    ensures unused { are_served words.now ≡ false → ((result.status ≡ Status.Usage) ⊎ (result.status ≡ Status.Memory)) × (out.new ≡ out.old) }
+    ensures apart { are_run words.now ≡ false → script.new ≡ script.old }
+    ensures beside { are_run words.now ≡ false → are_init words.now ≡ false → (result.disk ≡ disk) × (result.refused ≡ 0) }
+    ensures run { are_run words.now ≡ true → Account grounds says (table_of record_meaning range_meaning ops) D.told O.presumed (outside (D.view disk) (S.left script.old) (S.faults script.old) (K.taken out.old) (K.faults out.old))
         (outside (D.view result.disk) (S.left script.new) (S.faults script.new) (K.taken out.new) (K.faults out.new)) result.refused result.status }
+    ensures made { are_init words.now ≡ true → Makes grounds says result.status D.told (D.view disk) (D.view result.disk) result.refused }
+    ensures said { are_init words.now ≡ true → SaysMade result.status (sunk (K.taken out.old) (K.faults out.old)) (sunk (K.taken out.new) (K.faults out.new)) }
+    ensures drawn { IfSome (drawn words.now) (λ d. Draws result.status d (sunk (K.taken out.old) (K.faults out.old)) (sunk (K.taken out.new) (K.faults out.new))) }
     ensures heeded { (result.status ≡ Status.Disk → ⊥) → ((D.view result.disk).faults ≡ (D.view disk).faults) × (result.refused ≡ 0) }
-    ensures spent { Spent calls (D.view disk).calls (D.view result.disk).calls result.refused }
+    ensures spent { Spent (stop_after words.now) (D.view disk).calls (D.view result.disk).calls result.refused }
 {
-    let Ok(piece) = piece_room(alloc) else {
-        return Finish {
-            status: Status::Memory,
-            disk,
-            refused: 0,
-        };
-    };
-    let mut piece = piece;
-    let fuse = Fuse::<D, O>::marked(disk, calls);
-    let mut session = match Session::start(alloc, ops, fuse) {
-        Ok(session) => session,
-        Err(Unopened { why, disk }) => {
-            let status = status_of_refusal(why);
-            return finished(status, disk);
-        }
-    };
-    let end = run_script(alloc, ops, &mut session, script, out, &mut piece);
-    let (first, fuse) = session.finish();
-    let status = first_fault(first, status_of_end(end));
-    finished(status, fuse)
-}
-
-// Writes a workload, and says how that ended.
-fn draw_workload<K: Sink>(seed: u64, count: u32, out: &mut K) -> Status
-    ensures draws { Draws result (record { seed = seed; count = count }) (sunk (K.taken out.old) (K.faults out.old)) (sunk (K.taken out.new) (K.faults out.new)) }
-{
-    match write_workload(seed, count, out) {
-        Ok(()) => Status::Done,
-        Err(_) => Status::Write,
-    }
-}
-
-// The end of a command that made no call of the disk.
-fn ended_beside<D: Disk>(status: Status, disk: D) -> Finish<D>
-    ensures { (result.status ≡ status) × (result.disk ≡ disk) × (result.refused ≡ 0) }
-{
-    Finish {
-        status,
-        disk,
-        refused: 0,
-    }
+    serve::<D, S, K, O, Paged<Phys<Fuse<D, O>>>>(alloc, ops, words, disk, script, out)
 }
 
 /// Does what the words say, with the script that the source gives, over the disk: `run` and a folder,
-/// which names the disk, runs the script with these operations, up to 64 of whose transactions are live
-/// at a time. The replies go to the sink. With `--stop-after` and a number
+/// which names the disk, runs the script with these operations over the store that the disk has, up to 64
+/// of whose transactions are live at a time. The replies go to the sink. With `--stop-after` and a number
 /// beside these the disk makes so many more calls at most: each later one fails, and doesn't touch
-/// it. `gen`, a seed and a count write a workload to the sink, and make no call of the disk or the source.
-/// Other words are `Status::Usage`, and touch nothing; words take memory to be read. A run ends with its
-/// first fault, but for one of the disk: behind that each line is still answered.
+/// it. `init` and a folder make a store there of the sizes that one has where none are given, write
+/// `ok`, and read no script. `gen`, a seed and a count write a workload to the sink, and make no call of the
+/// disk or the source. Other words are `Status::Usage`, and touch nothing; words take memory to be read. A run
+/// ends with its first fault, but for one of the disk: behind that each line is still answered.
+///
+/// It serves, and is safe, over any disk. What is said of contents is said where the disk tells what it holds and
+/// the image that reads give at the call stands for objects by these operations.
 pub fn stasis<D: Disk, S: Source, K: Sink>(
     alloc: Global,
     ops: Ops,
@@ -120,12 +67,18 @@ pub fn stasis<D: Disk, S: Source, K: Sink>(
 ) -> Finish<D>
     ensures usage { result.status ≡ Status.Usage → are_served words.now ≡ false }
     ensures unused { are_served words.now ≡ false → ((result.status ≡ Status.Usage) ⊎ (result.status ≡ Status.Memory)) × (out.new ≡ out.old) }
-    ensures apart { are_run words.now ≡ false → (result.disk ≡ disk) × (result.refused ≡ 0) × (script.new ≡ script.old) }
+    ensures apart { are_run words.now ≡ false → script.new ≡ script.old }
+    ensures beside { are_run words.now ≡ false → are_init words.now ≡ false → (result.disk ≡ disk) × (result.refused ≡ 0) }
 
     // The headline: one course of the run, its replies, what a crash leaves of it, the cause of its status, and that it is
     // done where nothing hinders it.
-    ensures run { are_run words.now ≡ true → Account (table_of record_meaning range_meaning ops) D.told (outside (D.view disk) (S.left script.old) (S.faults script.old) (K.taken out.old) (K.faults out.old))
+    ensures run { are_run words.now ≡ true → Account grounds says (table_of record_meaning range_meaning ops) D.told (IsOfStore grounds says (table_of record_meaning range_meaning ops) (D.view disk))
+        (outside (D.view disk) (S.left script.old) (S.faults script.old) (K.taken out.old) (K.faults out.old))
         (outside (D.view result.disk) (S.left script.new) (S.faults script.new) (K.taken out.new) (K.faults out.new)) result.refused result.status }
+
+    // A new store: what its status tells, what a crash leaves at each moment of making it, and what is written.
+    ensures made { are_init words.now ≡ true → Makes grounds says result.status D.told (D.view disk) (D.view result.disk) result.refused }
+    ensures said { are_init words.now ≡ true → SaysMade result.status (sunk (K.taken out.old) (K.faults out.old)) (sunk (K.taken out.new) (K.faults out.new)) }
 
     // A workload: what the sink took of it, by its status.
     ensures drawn { IfSome (drawn words.now) (λ d. Draws result.status d (sunk (K.taken out.old) (K.faults out.old)) (sunk (K.taken out.new) (K.faults out.new))) }
@@ -136,15 +89,5 @@ pub fn stasis<D: Disk, S: Source, K: Sink>(
     // The stop: no more calls than it lets pass, and one refused only behind exactly so many.
     ensures spent { Spent (stop_after words.now) (D.view disk).calls (D.view result.disk).calls result.refused }
 {
-    match read_command(alloc, words) {
-        Ok(Command::Run { stop_after }) => {
-            run_behind_fuse::<D, S, K, Brand>(alloc, &ops, disk, stop_after, script, out)
-        }
-        Ok(Command::Gen { seed, count }) => {
-            let status = draw_workload(seed, count, out);
-            ended_beside(status, disk)
-        }
-        Ok(_) | Err(WordsError::Usage) => ended_beside(Status::Usage, disk),
-        Err(WordsError::Memory) => ended_beside(Status::Memory, disk),
-    }
+    serve_pages::<D, S, K, Brand>(alloc, ops, words, disk, script, out)
 }

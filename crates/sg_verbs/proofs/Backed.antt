@@ -1,7 +1,6 @@
 -- A note is reversed, as the store asks.
 use Rattle.std.proofs.Common.{◌≡◌, ◌⊎◌, ℕ, ◌+◌, ◌<◌, ◌≤◌, Bool, true, false, List, [], length, Option, Some, None, option_map, Result, Ok, Err, inl, inr, refl, sym, ap, ◌∙◌, subst, arith}
 use Rattle.std.specs.Prelude.{◌↔◌, IsTrue, if◌then◌else◌}
-use Rattle.sg_base.specs.Ends.{HasRisen}
 use Rattle.sg_base.specs.Sheet.{Sheet}
 use Rattle.sg_alloc.specs.Flags.{map_bands_of}
 use Rattle.sg_ops.specs.Table.{Table}
@@ -29,7 +28,7 @@ use Rattle.sg_objects.specs.Reversing.{IsPutBack, IsPossible, UndoesAny}
 use Rattle.sg_objects.specs.Undone.{IsUndone}
 use Rattle.sg_objects.proofs.Founds.{was_space, has_back}
 use Rattle.sg_reader.specs.Alike.{ReadsAs, HasReached}
-use Rattle.sg_store.specs.Engine.{Sizes, Action, Counts, IsDiskFault, pages_of}
+use Rattle.sg_store.specs.Engine.{Sizes, Action, pages_of}
 use Rattle.sg_store.specs.Verbs.{CanReverse, Reversed}
 use Rattle.sg_ground.specs.Clauses.{CanBeReversed, AreBytesBack}
 use Rattle.sg_ground.specs.Ground.{bytes_of, found_by, found_of, PutsBack}
@@ -38,7 +37,7 @@ use Rattle.sg_ground.proofs.Clauses.{reverse_possible, bytes_back, reversed_so}
 use Rattle.sg_shown.specs.Taken.{AreTaken, AreCounted}
 use Rattle.sg_shown.specs.Shown.{Over, Means, basis, basis_at, shown_of, has_page, has_band}
 use Rattle.sg_verbs.proofs.Held.{space_in, free_in, free_bands_in, holds, shows, own_reads}
-use Rattle.sg_verbs.proofs.Moving.{view_in, IsStopped}
+use Rattle.sg_verbs.proofs.Moving.{view_in}
 use Rattle.sg_verbs.proofs.Looking.{look_there}
 use Rattle.sg_verbs.proofs.Ready.{fresh_there}
 use Rattle.sg_verbs.proofs.Story.{seen}
@@ -71,7 +70,7 @@ plain_back (WasBytes size) other found x = absurd (other size refl)
 
 -- WITH OTHER BYTES IN ITS BANDS
 abbrev restored : Over → (ℕ → List ℕ) → Over
-restored a bands = record a { engine = record a.engine { now = record { pages = a.engine.now.pages; bands = bands } } }
+restored a bands = record a { engine = record a.engine { now = record a.engine.now { bands = bands } } }
 
 same_at : (c : Bool) (xs ys : List ℕ) → option_map (λ _. xs) (if c then Some ys else None) ≡ (if c then Some xs else None)
 same_at true xs ys = refl
@@ -106,8 +105,12 @@ module _ (recovers : Recovering) (a : Over) (t : Table) (z : Sizes) (from : Stat
   pages_now : act.pages.pages ≡ a.engine.now.pages
   pages_now = sym can.back.pages ∙ ap (λ (x : State). x.pages) (holds recovers a t z from m.pages m.bands now)
 
+  -- and there are as many
+  size_now : act.pages.size ≡ a.engine.now.size
+  size_now = sym can.back.size ∙ ap (λ (x : State). x.size) (holds recovers a t z from m.pages m.bands now)
+
   begin_is : act.pages ≡ (restored a act.pages.bands).engine.now
-  begin_is = λ i. record { pages = pages_now i; bands = act.pages.bands }
+  begin_is = λ i. record { size = size_now i; pages = pages_now i; bands = act.pages.bands }
 
   taken : AreTaken z (has_page a) (has_band a) a.engine.now.pages
   taken = subst (λ (x : State). AreTaken z (has_page a) (has_band a) x.pages) (sym now) (m.keeps told).now
@@ -123,8 +126,8 @@ module _ (recovers : Recovering) (a : Over) (t : Table) (z : Sizes) (from : Stat
       (subst (λ (q : ℕ). ReadsAs z.pages q act.pages s) m.bands (subst (λ (q : ℕ). ReadsAs q (length a.maps.bands) act.pages s) m.pages r)) in
       let same : map_bands (space_in a) ≡ map_bands_of z.pages z.bands = λ i. map_bands_of (m.pages i) (m.bands i) in
       record {
-        pages = λ p q. at_there a.maps.pages a.unfreed.pages a.engine.now.pages p (taken.pages act.pages.bands s k p q);
-        bands = λ b q. at_there a.maps.bands a.unfreed.bands (λ j. Some (a.engine.now.bands j)) b (taken.bands act.pages.bands s k b q);
+        pages = λ p q. at_there a.maps.pages a.unfreed.pages a.engine.now.pages p (taken.pages a.engine.now.size act.pages.bands s k p q);
+        bands = λ b q. at_there a.maps.bands a.unfreed.bands (λ j. Some (a.engine.now.bands j)) b (taken.bands a.engine.now.size act.pages.bands s k b q);
         map = λ b less none. some_there b ((m.keeps told).map b (subst (λ (q : ℕ). b < q) same less)) none;
       }
     where
@@ -148,8 +151,8 @@ module _ (recovers : Recovering) (a : Over) (t : Table) (z : Sizes) (from : Stat
       let same : map_bands (space_in a) ≡ map_bands_of z.pages z.bands = λ i. map_bands_of (m.pages i) (m.bands i) in
       let pages = m.pages in
       let counts = m.bands in
-      let one = counted_pages.pages bands b.contents reads in
-      let two = counted_pages.bands bands b.contents reads in
+      let one = counted_pages.pages a.engine.now.size bands b.contents reads in
+      let two = counted_pages.bands a.engine.now.size bands b.contents reads in
       let back : HasBack (found_by (map_bands_of z.pages z.bands) n.changes) (was_space (space_in a) bands) (space_in a) = record {
         pages = refl;
         band = λ k bytes f. b.put_back k bytes f ∙ ap (λ (cs : List Before). Some (put_on cs k bytes)) all;
@@ -239,21 +242,3 @@ fresh_now recovers a t z from m now begun puts still first says_puts says_still 
   | inl none ↦ fresh_there recovers a t z from m now (begun told) ((says_still (m.keeps told).kept.chain).0 none.1) told
   | inr bytes ↦ absurd (other (says_puts.0 bytes))
 ]
-
--- WHERE THE ACTION HAS CHANGED SOMETHING it is given up, and a break is counted
-pub given_up : {T : Type 0} (recovers : Recovering) (a d e : Over) (f : SpaceFault) → IsStopped a d → e.engine ≡ d.engine → d.breaks ≤ e.breaks
-    → HasRisen d.breaks e.breaks
-    → Counts IsDiskFault (shown_of recovers a) (shown_of recovers e) (let r : Result T SpaceFault = Err f in r)
-given_up recovers a d e f s same up risen =
-    let tail = s.tail in
-    let count = s.faults in
-    let te : e.engine.tail ≡ d.engine.tail = λ i. (same i).tail in
-    let fe : e.engine.faults ≡ d.engine.faults = λ i. (same i).faults in
-    record {
-      told = λ h. absurd (s.silent (subst (λ (y : EngineSeen). y.Told) same h));
-      tells = tt;
-      tail = omega (arith, tail, te);
-      later = omega (arith, count, fe, up);
-      quiet = tt;
-      failed = λ is few. let more : d.breaks < e.breaks = risen (omega (arith, few)) in omega (arith, count, fe, more);
-    }

@@ -1,41 +1,53 @@
 -- A call on objects in the open action.
-use Rattle.std.proofs.Common.{◌≡◌, ℕ, ◌+◌, ◌<◌, ◌≤◌, Bool, true, false, List, [], ◌∷◌, ◌++◌, length, Option, Some, None, Result, Ok, Err, refl, sym, ap, ◌∙◌, subst, arith}
-use Rattle.sg_base.specs.Ends.{HasRisen}
+use Rattle.std.proofs.Common.{◌≡◌, ◌⊎◌, inl, inr, ℕ, ◌+◌, ◌<◌, ◌≤◌, Bool, true, false, List, [], ◌∷◌, ◌++◌, length, Option, Some, None, Result, Ok, Err, refl, sym, ap, ◌∙◌, subst, arith}
+use Rattle.std.specs.Prelude.{is_err}
 use Rattle.sg_disk.specs.Disk as disk
 use Rattle.sg_disk.specs.Disk.{LeavesOnly}
 use Rattle.sg_ops.specs.Table.{Table}
 use Rattle.sg_recovery.specs.Log.{tally}
 use Rattle.sg_action.specs.States.{State}
+use Rattle.sg_actions.specs.Accounted.{HasAccounted}
 use Rattle.sg_actions.specs.Later.{Went, HasGone}
 use Rattle.sg_actions.specs.Steps.{Steps, repeated, begin_of}
 use Rattle.sg_contents.specs.Standing.{Contents, IsContents}
 use Rattle.sg_contents.specs.Meaning.{IsCounted}
 use Rattle.sg_space.specs.View as space
 use Rattle.sg_space.specs.declared.space.SpaceFault.{SpaceFault}
-use Rattle.sg_space.specs.declared.space.SpaceFault.TheVariants as faults
-use Rattle.sg_store.specs.Engine.{Sizes, Action, Counts, IsDiskFault, IsNearEnd, IsImageOf, IsEngine, Changes, Changed}
+use Rattle.sg_store.specs.Engine.{Sizes, Action, Counts, IsDiskFault, IsImageOf, IsEngine, Changes, Changed}
 use Rattle.sg_ground.specs.Recovers.{Recovering}
 use Rattle.sg_shown.specs.Shown.{Over, Keeping, Means, basis, shown_of}
 use Rattle.sg_shown.proofs.Holding.{Facts, engine_is}
 use Rattle.sg_verbs.proofs.Held.{space_in, own_reads, taken_now, counted_now, map_now}
-use Rattle.sg_verbs.proofs.Moving.{at_in, LaterOn, view_in, Leaves, went, means_on, means_off, IsStopped}
+use Rattle.sg_verbs.proofs.Moving.{at_in, LaterOn, view_in, Leaves, went, means_on, means_off}
+use Rattle.sg_verbs.proofs.Settled.{IsSane, Passes, Fails, SomeFails, accounts_on}
+use Rattle.sg_verbs.specs.Looks.{IsHeld, IsNear}
 use Rattle.sg_verbs.proofs.Story.{seen, changes, both}
-use Rattle.sg_verbs.proofs.Looking.{disk_is}
 
 -- COUNTS
 pub counts_on : {T U : Type 0} (recovers : Recovering) (a b : Over) (x : T) (y : U) → space.Counts (view_in a) (view_in b) (let r : Result T SpaceFault = Ok x in r) → (a.engine.Told → b.engine.Told) → a.engine.tail ≤ b.engine.tail
-    → Counts IsDiskFault (shown_of recovers a) (shown_of recovers b) (let r : Result U SpaceFault = Ok y in r)
-counts_on recovers a b x y q tells tail = record { told = q.told; tells = tells; tail = tail; later = q.later; quiet = q.quiet; failed = tt }
+    → HasAccounted a.engine b.engine → IsHeld b.engine → Counts IsDiskFault (shown_of recovers a) (shown_of recovers b) (let r : Result U SpaceFault = Ok y in r)
+counts_on {T} {U} recovers a b x y q tells tail accounts held = record {
+  told = q.told;
+  tells = tells;
+  tail = tail;
+  later = q.later;
+  quiet = q.quiet;
+  failed = tt;
+  accounts = accounts_on {IsDisk = IsDiskFault} a b (let r : Result U SpaceFault = Ok y in r) tt accounts held;
+}
 
-pub near_end : (tail : ℕ) (f : SpaceFault) → (f ≡ faults.LogEnd → Rattle.sg_actions.specs.Engine.LOG_END < tail + 131072) → IsNearEnd tail f
-near_end tail faults.Disk h = tt
-near_end tail faults.LogEnd h = h refl
+-- from one moment of the open action to a later one
+pub passes_on : {T : Type 0} {recovers : Recovering} {a b : Over} {t : Table} {r : Result T SpaceFault} → IsSane a → IsSane b → LaterOn recovers t a b → space.Counts (view_in a) (view_in b) r → Passes true a b
+passes_on first last l q = record { first = first; last = last; tail = l.tail; later = q.later; accounts = l.accounts; still = λ e. absurd (let w : true ≡ false = e in cc) }
 
-near_moved : (tail tail' : ℕ) (f : SpaceFault) → tail' ≡ tail → IsNearEnd tail f → IsNearEnd tail' f
-near_moved tail tail' f e h = subst (λ (n : ℕ). IsNearEnd n f) (sym e) h
+-- a call that failed in it
+pub near_begun : (ends : Bool) (b : Over) → b.begun ≡ true → IsNear b.engine ⊎ (b.begun ≡ false) → IsNear b.engine
+near_begun ends b begun (inl n) = n
+near_begun ends b begun (inr none) = absurd (let w : true ≡ false = sym begun ∙ none in cc)
 
-pub near_err : {T : Type 0} (a b d : Over) (f : SpaceFault) → space.Counts (view_in a) (view_in b) (let r : Result T SpaceFault = Err f in r) → IsStopped b d → IsNearEnd d.engine.tail f
-near_err a b d f q s = near_moved b.engine.tail d.engine.tail f s.tail (near_end b.engine.tail f q.log_end)
+pub fails_on : {T : Type 0} {a b : Over} (r : Result T SpaceFault) → (a.engine.Told → b.begun ≡ true) → space.Counts (view_in a) (view_in b) r → SomeFails true (is_err r) a b
+fails_on (Ok x) begun q is = absurd (let w : false ≡ true = is in cc)
+fails_on {T} {a} {b} (Err f) begun q is = (f, record { risen = q.disk; near = λ e told. (refl, near_begun true b (begun told) (q.log_end e)) })
 
 -- WHERE CONTENTS STAND behind it
 pub leaves_of : (z : Sizes) (b : Over) (s : Contents) → length b.maps.pages ≡ z.pages → length b.maps.bands ≡ z.bands → IsContents (space_in b) s → IsCounted (space_in b) s → b.begun ≡ true → Leaves z b

@@ -1,8 +1,6 @@
 -- What a verb did in the open action, as the store asks.
 use Rattle.std.proofs.Common.{◌≡◌, ℕ, ◌+◌, ◌-◌, ◌<◌, ◌≤◌, Bool, true, false, List, [], ◌∷◌, ◌++◌, length, Option, Some, None, Result, Ok, Err, refl, sym, ap, ◌∙◌, subst, arith}
-use Rattle.std.specs.Prelude.{IsTrue, OnOk, IfErr}
 use Rattle.std.specs.FinMap.{get}
-use Rattle.sg_base.specs.Ends.{HasRisen}
 use Rattle.sg_base.specs.Spelling.{is_name}
 use Rattle.sg_alloc.specs.Flags.{map_bands_of}
 use Rattle.sg_ops.specs.Laws.{IsLawful}
@@ -19,70 +17,29 @@ use Rattle.sg_model.specs.Verb.Op.{On}
 use Rattle.sg_reading.specs.Reading.{Reading, objects, plain}
 use Rattle.sg_reading.specs.Left.{IsLeft}
 use Rattle.sg_reading.specs.Noted.{BringsBytes, PutsBackOf}
-use Rattle.sg_space.specs.View as space
-use Rattle.sg_space.specs.declared.space.SpaceFault.{SpaceFault}
-use Rattle.sg_space.specs.declared.space.SpaceFault.TheVariants as faults
 use Rattle.sg_contents.specs.Standing.{Contents, IsContents}
 use Rattle.sg_contents.specs.Meaning.{reading, IsCounted}
-use Rattle.sg_objects.specs.Calls.{CountsObject}
 use Rattle.sg_objects.specs.Done.{Did, IsDone, HasRoomFor}
-use Rattle.sg_objects.specs.Quiet.{WritesNoneObject}
-use Rattle.sg_objects.specs.declared.verb.ObjFault.{ObjFault as ObjectsFault}
-use Rattle.sg_objects.specs.declared.verb.ObjFault.TheVariants as objects
-use Rattle.sg_store.specs.declared.fault.ObjFault.{ObjFault}
-use Rattle.sg_store.specs.declared.fault.ObjFault.TheVariants as store
-use Rattle.sg_store.specs.Engine.{Sizes, Action, Counts, IsObjDisk, IsVerbEnd, VERB_BYTES, IsRefusedQuietly, Changes, Changed}
+use Rattle.sg_store.specs.Engine.{Sizes, Action, Changes, Changed}
 use Rattle.sg_store.specs.Verbs.{Performed, IsNoted, IsRefused}
 use Rattle.sg_ground.specs.Ground.{found_by}
 use Rattle.sg_ground.specs.Recovers.{Recovering}
 use Rattle.sg_ground.proofs.Clauses.{left_alone, noted_so, refused_so}
 use Rattle.sg_shown.specs.Shown.{Over, Keeping, Means, basis, basis_at, shown_of}
 use Rattle.sg_verbs.proofs.Held.{space_in, shows}
-use Rattle.sg_verbs.proofs.Moving.{at_in, LaterOn, view_in, means_on, IsStopped}
+use Rattle.sg_verbs.proofs.Moving.{at_in, LaterOn, view_in, means_on}
 use Rattle.sg_verbs.proofs.Story.{seen}
 use Rattle.sg_verbs.proofs.Asked.{step_is}
 use Rattle.sg_verbs.proofs.Doing.{leaves_of, do_went}
 use Rattle.sg_verbs.proofs.Still.{nothing_made}
 
--- COUNTS
-pub done_ok : {T U : Type 0} (recovers : Recovering) (a b : Over) (x : T) (y : U) → CountsObject (view_in a) (view_in b) (let r : Result T ObjectsFault = Ok x in r) → (a.engine.Told → b.engine.Told) → a.engine.tail ≤ b.engine.tail
-    → Counts IsObjDisk (shown_of recovers a) (shown_of recovers b) (let r : Result U ObjFault = Ok y in r)
-done_ok recovers a b x y q tells tail = record { told = q.told; tells = tells; tail = tail; later = q.later; quiet = q.quiet; failed = tt }
+-- a note that has bytes is of a verb that can change something
+some_bytes : (byte : ℕ) (bytes : List ℕ) → (byte ∷ bytes) ≡ [] → ⊥
+some_bytes byte bytes e = cc
 
-pub done_refused : {T U : Type 0} (recovers : Recovering) (a b : Over) (reason reason' : Reason) → CountsObject (view_in a) (view_in b) (let r : Result T ObjectsFault = Err (objects.Model reason) in r) → a.engine.tail ≤ b.engine.tail
-    → Counts IsObjDisk (shown_of recovers a) (shown_of recovers b) (let r : Result U ObjFault = Err (store.Model reason') in r)
-done_refused recovers a b reason reason' q tail = record { told = q.told; tells = tt; tail = tail; later = q.later; quiet = tt; failed = λ h. absurd h }
-
--- of a call that has reported a break
-pub done_broken : {T U : Type 0} (recovers : Recovering) (a b d e : Over) (f : SpaceFault) (r : Result T ObjectsFault) → CountsObject (view_in a) (view_in b) r → a.engine.tail ≤ b.engine.tail → IsStopped b d
-    → e.engine ≡ d.engine → d.breaks ≤ e.breaks → HasRisen d.breaks e.breaks → Counts {T = U} IsObjDisk (shown_of recovers a) (shown_of recovers e) (Err (store.Space f))
-done_broken recovers a b d e f r q tail s same up risen =
-    let t = s.tail in
-    let n = s.faults in
-    let k = q.later in
-    let te : e.engine.tail ≡ d.engine.tail = λ i. (same i).tail in
-    let fe : e.engine.faults ≡ d.engine.faults = λ i. (same i).faults in
-    record {
-      told = λ h. absurd (s.silent (subst (λ (y : Rattle.sg_actions.specs.Engine.EngineSeen). y.Told) same h));
-      tells = tt;
-      tail = omega (arith, t, te, tail);
-      later = omega (arith, n, fe, k, up);
-      quiet = tt;
-      failed = λ is few. let more : d.breaks < e.breaks = risen (omega (arith, few)) in omega (arith, n, fe, k, more);
-    }
-
--- where the log ends, of a verb that wrote no more than one can
-true_is : (b : Bool) → (b ≡ false → ⊥) → IsTrue b
-true_is true h = refl
-true_is false h = absurd (h refl)
-
-pub verb_end : {T : Type 0} (a b : Over) (changing : Bool) (f : SpaceFault) → CountsObject (view_in a) (view_in b) (let r : Result T ObjectsFault = Err (objects.Space f) in r)
-    → (changing ≡ false → WritesNoneObject (view_in a) (view_in b) (let r : Result T ObjectsFault = Err (objects.Space f) in r)) → b.engine.tail + 131072 ≤ a.engine.tail + VERB_BYTES → IsVerbEnd changing a.engine.tail (store.Space f)
-verb_end a b changing faults.Disk q looks grown = tt
-verb_end a b changing faults.LogEnd q looks grown = (
-  true_is changing (λ e. (looks e).no_end refl),
-  (let near : Rattle.sg_actions.specs.Engine.LOG_END < b.engine.tail + 131072 = q.log_end refl in omega (arith, near, grown)),
-)
+changes_by : (b : Bool) → (b ≡ false → ⊥) → b ≡ true
+changes_by true h = refl
+changes_by false h = absurd (h refl)
 
 -- A VERB THAT WAS DONE, or refused
 module _ (recovers : Recovering) (a b : Over) (t : Table) (name : List ℕ) (verb : Verb) where
@@ -117,19 +74,19 @@ module _ (recovers : Recovering) (a b : Over) (t : Table) (name : List ℕ) (ver
 
     -- and a reply
     module _ (lawful : IsLawful t) (named : is_name name ≡ true) (brings : BringsBytes verb) (reply : Reply) (s s' : Contents) (h : IsContents (space_in a) s) (counted : IsCounted (space_in a) s)
-        (puts : (left : IsLeft t act.transaction name verb (reading s) (reading s'))
+        (puts : is_changing_verb verb ≡ true → (left : IsLeft t act.transaction name verb (reading s) (reading s'))
         → PutsBackOf t verb left.bands (found_by (map_bands_of z.pages z.bands) (changes_of (open_of act.transaction (tally b.engine.steps).opened))) (get (reading s).things name))
         (c : Changes t (basis recovers z) act (seen recovers t z from a) (seen recovers t z from b)) (changed : Changed t (basis recovers z) act (seen recovers t z from a) (seen recovers t z from b) c.made) where
-      noted_as : (note : List ℕ) → IsDone t act.transaction name verb (Ok reply) note (space_in a) (space_in b) s s' → (note ≡ [] → opened b.engine.steps ≡ [])
+      noted_as : (note : List ℕ) → IsDone t act.transaction name verb (Ok reply) note (space_in a) (space_in b) s s' → (note ≡ [] → opened b.engine.steps ≡ []) → (is_changing_verb verb ≡ false → note ≡ [])
           → IsNoted t (basis recovers z) act (seen recovers t z from a) (seen recovers t z from b) (reading s) (On name verb) note
-      noted_as [] d still =
+      noted_as [] d still alone =
           left_alone (basis_at recovers z) t lawful act (seen recovers t z from a) (seen recovers t z from b) (space_in a) (space_in b) s s' act.transaction name verb reply
           (shows recovers a t z from m.pages m.bands now) (shows recovers b t z from n.pages n.bands now') h d c changed (still_idle (still refl))
-      noted_as (byte ∷ bytes) d still =
+      noted_as (byte ∷ bytes) d still alone =
           noted_so (basis_at recovers z) t lawful act (seen recovers t z from b) (space_in a) (space_in b) s s' name verb reply (byte ∷ bytes)
-          m.pages (shows recovers b t z from n.pages n.bands now') h counted d (λ none. cc) named brings puts
+          m.pages (shows recovers b t z from n.pages n.bands now') h counted d (λ none. cc) named brings (puts (changes_by (is_changing_verb verb) (λ e. absurd (some_bytes byte bytes (alone e)))))
 
-      pub performed : (note : List ℕ) → IsDone t act.transaction name verb (Ok reply) note (space_in a) (space_in b) s s' → (note ≡ [] → opened b.engine.steps ≡ [])
+      pub performed : (note : List ℕ) → IsDone t act.transaction name verb (Ok reply) note (space_in a) (space_in b) s s' → (note ≡ [] → opened b.engine.steps ≡ []) → (is_changing_verb verb ≡ false → note ≡ [])
           → Performed t (basis recovers z) act (seen recovers t z from a) (seen recovers t z from b) (reading s) (On name verb) reply note
       unfolding noted_as
-      performed note d still = record { said = step_is t (reading s) name verb ∙ d.outcome_is; noted = noted_as note d still }
+      performed note d still alone = record { said = step_is t (reading s) name verb ∙ d.outcome_is; noted = noted_as note d still alone }

@@ -24,7 +24,7 @@ use Rattle.sg_ground.specs.Recovers.{Recovering}
 use Rattle.sg_shown.specs.Taken.{AreTaken, AreCounted, with_bytes}
 use Rattle.sg_shown.specs.Shown.{Over, Keeping, Means, basis, basis_at, has_page, has_band, shown_of}
 use Rattle.sg_shown.proofs.History.{made_is}
-use Rattle.sg_verbs.proofs.Places.{reached_page_too, reached_band_too, page_totals, band_totals}
+use Rattle.sg_shown.proofs.Places.{reached_page_too, reached_band_too, page_totals, band_totals}
 
 -- the pages and bands that it has
 abbrev pub space_in : Over → Space
@@ -103,13 +103,13 @@ module _ (recovers : Recovering) (a : Over) (t : Table) (z : Sizes) (from : Stat
       let same : map_bands (space_in a) ≡ map_bands_of z.pages z.bands = λ i. map_bands_of (pages i) (bands i) in (
         m.0,
         space_reads (space_in a) x m.0 k' (record {
-          pages = λ p o. at_there a.maps.pages a.unfreed.pages x.pages p (taken.pages x.bands m.0 k p o);
-          bands = λ b o. at_there a.maps.bands a.unfreed.bands (λ n. Some (x.bands n)) b (taken.bands x.bands m.0 k b o);
+          pages = λ p o. at_there a.maps.pages a.unfreed.pages x.pages p (taken.pages x.size x.bands m.0 k p o);
+          bands = λ b o. at_there a.maps.bands a.unfreed.bands (λ n. Some (x.bands n)) b (taken.bands x.size x.bands m.0 k b o);
           map = λ b less none. some_there b (map b (subst (λ (n : ℕ). b < n) same less)) none;
         }),
         record {
-          pages = (let c = counted.pages x.bands m.0 k in omega (arith, c, pages));
-          bands = (let c = counted.bands x.bands m.0 k in omega (arith, c, bands, same));
+          pages = (let c = counted.pages x.size x.bands m.0 k in omega (arith, c, pages));
+          bands = (let c = counted.bands x.size x.bands m.0 k in omega (arith, c, bands, same));
         },
         m.2,
       )
@@ -124,19 +124,19 @@ module _ (a : Over) (z : Sizes) (s : Contents) (pages : length a.maps.pages ≡ 
 
   pub taken_now : AreTaken z (has_page a) (has_band a) a.engine.now.pages
   taken_now = record {
-    pages = λ bytes s' k p o. there_not a.maps.pages a.unfreed.pages a.engine.now.pages p (reached_page (space_in a) s h p
-        (reached_page_too (space_of z.pages z.bands a.engine.now) (space_of z.pages z.bands (with_bytes a.engine.now.pages bytes)) s s' own_reads.contents k.contents refl p o));
-    bands = λ bytes s' k b o. there_not a.maps.bands a.unfreed.bands (λ n. Some (a.engine.now.bands n)) b (reached_band (space_in a) s h b
-        (reached_band_too (space_of z.pages z.bands a.engine.now) (space_of z.pages z.bands (with_bytes a.engine.now.pages bytes)) s s' own_reads.contents k.contents refl b o));
+    pages = λ size bytes s' k p o. there_not a.maps.pages a.unfreed.pages a.engine.now.pages p (reached_page (space_in a) s h p
+        (reached_page_too (space_of z.pages z.bands a.engine.now) (space_of z.pages z.bands (with_bytes size a.engine.now.pages bytes)) s s' own_reads.contents k.contents refl p o));
+    bands = λ size bytes s' k b o. there_not a.maps.bands a.unfreed.bands (λ n. Some (a.engine.now.bands n)) b (reached_band (space_in a) s h b
+        (reached_band_too (space_of z.pages z.bands a.engine.now) (space_of z.pages z.bands (with_bytes size a.engine.now.pages bytes)) s s' own_reads.contents k.contents refl b o));
   }
 
   pub counted_now : IsCounted (space_in a) s → AreCounted z (free_in a) (free_bands_in a) a.engine.now.pages
   counted_now c = record {
-    pages = λ bytes s' k.
-        let total = page_totals (space_of z.pages z.bands a.engine.now) (space_of z.pages z.bands (with_bytes a.engine.now.pages bytes)) s s' own_reads.contents k.contents refl in
+    pages = λ size bytes s' k.
+        let total = page_totals (space_of z.pages z.bands a.engine.now) (space_of z.pages z.bands (with_bytes size a.engine.now.pages bytes)) s s' own_reads.contents k.contents refl in
         let l = c.pages in omega (arith, total, l, pages);
-    bands = λ bytes s' k.
-        let total = band_totals (space_of z.pages z.bands a.engine.now) (space_of z.pages z.bands (with_bytes a.engine.now.pages bytes)) s s' own_reads.contents k.contents refl in
+    bands = λ size bytes s' k.
+        let total = band_totals (space_of z.pages z.bands a.engine.now) (space_of z.pages z.bands (with_bytes size a.engine.now.pages bytes)) s s' own_reads.contents k.contents refl in
         let same : map_bands (space_in a) ≡ map_bands_of z.pages z.bands = λ i. map_bands_of (pages i) (bands i) in
         let l = c.bands in omega (arith, total, l, same, bands);
   }

@@ -1,10 +1,11 @@
-pub mod Places
 pub mod Still
 pub mod Held
 pub mod Moving
+pub mod Settled
 pub mod Story
 pub mod Looking
 pub mod Looked
+pub mod Paused
 pub mod Asked
 pub mod Listed
 pub mod Needed

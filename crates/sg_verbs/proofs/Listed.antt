@@ -1,5 +1,5 @@
 -- Lists of keys and of names, as the store asks.
-use Rattle.std.proofs.Common.{◌≡◌, ℕ, List, Result, Ok, Err, refl, sym, ap, ◌∙◌, subst}
+use Rattle.std.proofs.Common.{◌≡◌, ℕ, ◌≤◌, Bool, true, false, List, Result, Ok, Err, refl, sym, ap, ◌∙◌, subst}
 use Rattle.std.specs.Prelude.{OnOk, IfOk, IfErr, IsOk, Vec}
 use Rattle.std.specs.FinMap.{get, keys}
 use Rattle.sg_ops.specs.Table.{Table as Operations}
@@ -22,14 +22,14 @@ use Rattle.sg_space.specs.declared.space.ListFault.TheVariants as lists
 use Rattle.sg_space.specs.declared.space.SpaceFault.{SpaceFault}
 use Rattle.sg_space.specs.declared.space.SpaceFault.TheVariants as faults
 use Rattle.sg_store.specs.Engine as store
-use Rattle.sg_store.specs.Engine.{AsMeant, Counts, IsEngine, IsListDisk, IsListRead, IsDiskFault, Rests, Rested}
+use Rattle.sg_store.specs.Engine.{AsMeant, Keeps, Counts, IsEngine, IsListDisk, IsListRead, IsDiskFault, Rests, Rested}
 use Rattle.sg_store.specs.Ground.{Ground}
 use Rattle.sg_store.specs.Verbs.{Reads, LacksMemory, HasKeys, HasNames}
 use Rattle.sg_shown.specs.Shown.{basis, over, shown}
-use Rattle.sg_verbs.specs.Looks.{is_list_failed}
+use Rattle.sg_verbs.specs.Looks.{HasGoneOn, IsHeld, IsGivenUp, is_list_failed}
 use Rattle.sg_verbs.proofs.Asked.{step_is}
-use Rattle.sg_verbs.proofs.Looking.{disk_is}
-use Rattle.sg_verbs.proofs.Looked.{Look, Ends, GoesOn, kept, failed, looked_there, counts_kept, counts_refused, counts_failed}
+use Rattle.sg_verbs.proofs.Looked.{Look, Kept, kept, fails_disk, looked_there, counts_kept, counts_refused, counts_failed}
+use Rattle.sg_verbs.proofs.Settled.{SomeFails, read_up}
 use Rattle.sg_verbs.proofs.Moving.{view_in}
 
 -- a fault of the space is no want of memory
@@ -44,35 +44,65 @@ pub record Lists {T : Type 0} (v w : View) (r : Result T ListFault) : Type 0 whe
   pub quiet : IfErr r (λ e. e ≡ lists.Memory → w.faults ≡ v.faults)
   pub writes : WritesNoneList v w r
 
-read_fault : (f : SpaceFault) → (lists.Space f ≡ lists.Space faults.LogEnd → ⊥) → IsDiskFault f
-read_fault faults.Disk none = tt
-read_fault faults.LogEnd none = none refl
+read_fault : (f : SpaceFault) → (lists.Space f ≡ lists.Space faults.LogEnd → ⊥) → f ≡ faults.Disk
+read_fault faults.Disk none = refl
+read_fault faults.LogEnd none = absurd (none refl)
+
+not_done : true ≡ false → ⊥
+not_done e = cc
 
 module _ {E : Type 0} {g : Ghosts E} {T : Type 0} (a p b d : Acts E g) where
-  pub list_ends : (r : Result T ListFault) → Look a p b → Lists (view_in (over p)) (view_in (over b)) r → GoesOn a.begun b d (is_list_failed r) → Ends a p b d (is_list_failed r)
-  list_ends (Ok x) l q h = kept a p b d l q.kept (h.on refl) q.counts.quiet
-  list_ends (Err lists.Memory) l q h = kept a p b d l (q.memory refl) (h.on refl) (q.quiet refl)
-  list_ends (Err (lists.Space f)) l q h = failed a p b d l (h.stopped refl)
+  pub list_kept : (r : Result T ListFault) → Look a p b → Lists (view_in (over p)) (view_in (over b)) r → is_list_failed r ≡ false → HasGoneOn a.begun b d → IsHeld (over b).engine → Kept a d
+  list_kept (Ok x) l q done h held = kept a p b d l q.kept h q.counts.quiet held
+  list_kept (Err lists.Memory) l q done h held = kept a p b d l (q.memory refl) h (q.quiet refl) held
+  list_kept (Err (lists.Space f)) l q done h held = absurd (not_done done)
 
-  pub list_counts : (r : Result T ListFault) → Lists (view_in (over p)) (view_in (over b)) r → Ends a p b d (is_list_failed r) → Counts IsListDisk (shown a) (shown d) r
-  list_counts (Ok x) q k = counts_kept a p b d x k
-  list_counts (Err lists.Memory) q k = counts_refused a p b d lists.Memory (λ h. h) k
-  list_counts (Err (lists.Space f)) q h = counts_failed a p b d (lists.Space f) q.counts.later (λ is. q.counts.disk (ap lists.Space (disk_is f is))) h
+  pub list_fails : (r : Result T ListFault) → Look a p b → Lists (view_in (over p)) (view_in (over b)) r → SomeFails false (is_list_failed r) (over a) (over b)
+  list_fails (Ok x) l q is = absurd (let w : false ≡ true = is in cc)
+  list_fails (Err lists.Memory) l q is = absurd (let w : false ≡ true = is in cc)
+  list_fails (Err (lists.Space f)) l q is = let e = read_fault f q.writes.no_end in (f, fails_disk a p b d l f e (q.counts.disk (ap lists.Space e)))
 
-  pub list_memory : (r : Result T ListFault) → Ends a p b d (is_list_failed r) → IfErr r (λ e. e ≡ lists.Memory → (shown a).Told → (shown d).Told)
+  pub list_counts : (r : Result T ListFault) → is_list_failed r ≡ false → Kept a d → Counts IsListDisk (shown a) (shown d) r
+  list_counts (Ok x) done k = counts_kept a p b d x k
+  list_counts (Err lists.Memory) done k = counts_refused a p b d lists.Memory (λ h. h) k
+  list_counts (Err (lists.Space f)) done k = absurd (not_done done)
+
+  pub list_memory : (r : Result T ListFault) → Kept a d → IfErr r (λ e. e ≡ lists.Memory → (shown a).Told → (shown d).Told)
   list_memory (Ok x) k = tt
-  list_memory (Err lists.Memory) k = λ e. k.tells
-  list_memory (Err (lists.Space f)) h = λ e. absurd (not_memory f e)
+  list_memory (Err f) k = λ e. k.tells
 
-  pub list_quiet : (r : Result T ListFault) → Ends a p b d (is_list_failed r) → IfErr r (λ e. e ≡ lists.Memory → (shown d).faults ≡ (shown a).faults)
+  pub list_quiet : (r : Result T ListFault) → Kept a d → IfErr r (λ e. e ≡ lists.Memory → (shown d).faults ≡ (shown a).faults)
   list_quiet (Ok x) k = tt
-  list_quiet (Err lists.Memory) k = λ e. k.faults
-  list_quiet (Err (lists.Space f)) h = λ e. absurd (not_memory f e)
+  list_quiet (Err f) k = λ e. k.faults
 
-  pub list_reads : (r : Result T ListFault) → Lists (view_in (over p)) (view_in (over b)) r → IfErr r IsListRead
-  list_reads (Ok x) q = tt
-  list_reads (Err lists.Memory) q = tt
-  list_reads (Err (lists.Space f)) q = read_fault f q.writes.no_end
+  pub list_reads : (r : Result T ListFault) → is_list_failed r ≡ false → IfErr r IsListRead
+  list_reads (Ok x) done = tt
+  list_reads (Err lists.Memory) done = tt
+  list_reads (Err (lists.Space f)) done = absurd (not_done done)
+
+-- where it was given up
+pub record ListGivenUp {E : Type 0} {g : Ghosts E} (T : Type 0) (a d : Acts E g) (f : SpaceFault) : Type 0 where
+  pub counts : Counts IsListDisk (shown a) (shown d) (let r : Result T ListFault = Err (lists.Space f) in r)
+  pub means : Keeps (shown a) (shown d)
+  pub tail : (shown d).tail ≡ (shown a).tail
+  pub rests : AsMeant (shown a) (shown d) (λ t g v w. Rests t g v w)
+  pub memory : lists.Space f ≡ lists.Memory → (shown a).Told → (shown d).Told
+  pub quiet : lists.Space f ≡ lists.Memory → (shown d).faults ≡ (shown a).faults
+  pub reads : IsDiskFault f
+
+pub list_given_up : {E : Type 0} {g : Ghosts E} {T : Type 0} {failed : Bool} (a p b d : Acts E g) (l : Look a p b) (f : SpaceFault) → (view_in (over p)).faults ≤ (view_in (over b)).faults → SomeFails false failed (over a) (over b)
+    → IsGivenUp false failed (over b) (over d) f → ListGivenUp T a d f
+list_given_up a p b d l f later fails up =
+    let h = Rattle.sg_verbs.proofs.Looked.failed a p b d l f later up in
+    record {
+      counts = counts_failed a p b d f (lists.Space f) (λ is. is) (λ is. is) fails h;
+      means = h.means;
+      tail = h.tail;
+      rests = h.rests;
+      memory = λ e. absurd (not_memory f e);
+      quiet = λ e. absurd (not_memory f e);
+      reads = read_up (over b) (over d) f up;
+    }
 
 -- WHAT WAS LISTED is the reply to the operation that lists, or memory was refused where it has one
 abbrev pub IsListed : {T : Type 0} (said : T → Outcome) (t : Operations) (g : Ground) → (v w : store.View g) → g.O → Op → Result T ListFault → Type 0
@@ -80,7 +110,7 @@ IsListed said t g v w o op (Ok x) = Rested t g v w × ((step t (g.objects o) op)
 IsListed said t g v w o op (Err lists.Memory) = LacksMemory t g v w o op
 IsListed said t g v w o op (Err (lists.Space fault)) = Unit {0}
 
-pub listed : {E : Type 0} {g : Ghosts E} {T : Type 0} (said : T → Outcome) (a p b d : Acts E g) (l : Look a p b) (op : Op) (r : Result T ListFault) → Ends a p b d (is_list_failed r)
+pub listed : {E : Type 0} {g : Ghosts E} {T : Type 0} (said : T → Outcome) (a p b d : Acts E g) (l : Look a p b) (op : Op) (r : Result T ListFault) → Kept a d
     → IfOk r (λ x. IfContents (view_in (over p)) (λ s. (t : Operations) → (step t (objects (reading s)) op).0 ≡ said x))
     → IfErr r (λ e. e ≡ lists.Memory → IfContents (view_in (over p)) (λ s. (t : Operations) → IsOk (step t (objects (reading s)) op).0))
     → AsMeant (shown a) (shown d) (λ t g v w. (o : g.O) → IsEngine t g v → Reads t g v o → Rests t g v w × IsListed said t g v w o op r)
@@ -92,7 +122,7 @@ listed said a p b d l op (Err lists.Memory) k read lacks t z from m told o engin
     let q = k.rests t z from m told in
     let s = looked_there a p b d l t z from m told o can.reading in
     (q.0, record { rested = q.1; replies = subst (λ (x : Reading). IsOk (step t (objects x) op).0) s.3 (lacks refl s.1 s.0 s.2 t) })
-listed said a p b d l op (Err (lists.Space f)) h read lacks t z from m told o engine can = (h.rests t z from m told, tt)
+listed said a p b d l op (Err (lists.Space f)) k read lacks t z from m told o engine can = ((k.rests t z from m told).0, tt)
 
 -- OF A TABLE'S KEYS
 keys_read : {A : Type 0} (v : View) (name : List ℕ) (r : Result (Result (Vec (List ℕ) A) Reason) ListFault)
@@ -114,7 +144,7 @@ keys_are t g v w o name (Ok (Err reason)) h = (h.0, h.1)
 keys_are t g v w o name (Err lists.Memory) h = h
 keys_are t g v w o name (Err (lists.Space f)) h = tt
 
-pub keys_listed : {E : Type 0} {g : Ghosts E} {A : Type 0} (a p b d : Acts E g) (l : Look a p b) (name : List ℕ) (r : Result (Result (Vec (List ℕ) A) Reason) ListFault) → Ends a p b d (is_list_failed r)
+pub keys_listed : {E : Type 0} {g : Ghosts E} {A : Type 0} (a p b d : Acts E g) (l : Look a p b) (name : List ℕ) (r : Result (Result (Vec (List ℕ) A) Reason) ListFault) → Kept a d
     → IfOk r (λ x. IfContents (view_in (over p)) (λ s. (t : Operations) → (on t Keys (plain (get (reading s).things name))).0 ≡ said_keys x))
     → IfErr r (λ e. e ≡ lists.Memory → IfContents (view_in (over p)) (λ s. (t : Operations) → IsOk (on t Keys (plain (get (reading s).things name))).0))
     → AsMeant (shown a) (shown d) (λ t g v w. (o : g.O) → IsEngine t g v → Reads t g v o → Rests t g v w × HasKeys t g v w o name r)
@@ -143,7 +173,7 @@ unfolding step
 names_reply v (Ok x) = tt
 names_reply v (Err e) = λ is shows s m t. refl
 
-pub names_listed : {E : Type 0} {g : Ghosts E} {A : Type 0} (a p b d : Acts E g) (l : Look a p b) (r : Result (Vec (List ℕ) A) ListFault) → Ends a p b d (is_list_failed r)
+pub names_listed : {E : Type 0} {g : Ghosts E} {A : Type 0} (a p b d : Acts E g) (l : Look a p b) (r : Result (Vec (List ℕ) A) ListFault) → Kept a d
     → IfOk r (λ x. IfContents (view_in (over p)) (λ s. x.items ≡ keys (objects (reading s))))
     → AsMeant (shown a) (shown d) (λ t g v w. (o : g.O) → IsEngine t g v → Reads t g v o → Rests t g v w × HasNames t g v w o r)
 names_listed {g = g} a p b d l r ends read t z from m told o engine can =

@@ -1,6 +1,5 @@
 -- A look at the objects, while whoever acts pauses: nothing is logged, and all is as before.
 use Rattle.std.proofs.Common.{◌≡◌, ℕ, ◌+◌, ◌*◌, ◌≤◌, Bool, true, false, [], ◌++◌, Some, Result, Err, refl, sym, ap, ◌∙◌, subst, arith}
-use Rattle.sg_base.specs.Ends.{HasRisen}
 use Rattle.sg_disk.specs.Disk as disk
 use Rattle.sg_disk.specs.Disk.{LeavesOnly}
 use Rattle.sg_ops.specs.Table.{Table}
@@ -15,21 +14,15 @@ use Rattle.sg_contents.specs.Meaning.{reading, IsCounted}
 use Rattle.sg_space.specs.View as space
 use Rattle.sg_space.specs.View.{OnlyReads}
 use Rattle.sg_space.specs.declared.space.SpaceFault.{SpaceFault}
-use Rattle.sg_objects.specs.Calls.{CountsObject}
-use Rattle.sg_objects.specs.declared.verb.ObjFault.{ObjFault as ObjectsFault}
-use Rattle.sg_objects.specs.declared.verb.ObjFault.TheVariants as objects
-use Rattle.sg_store.specs.declared.fault.ObjFault.{ObjFault}
-use Rattle.sg_store.specs.declared.fault.ObjFault.TheVariants as store
-use Rattle.sg_store.specs.Engine.{IsObjDisk}
-use Rattle.sg_space.specs.declared.space.SpaceFault.TheVariants as faults
-use Rattle.sg_store.specs.Engine.{Sizes, Asked, AskedBy, Counts, IsDiskFault, IsImageOf, Rests, Rested, action_of}
+use Rattle.sg_store.specs.Engine.{Sizes, Asked, AskedBy, IsImageOf, Rests, Rested, action_of}
 use Rattle.sg_store.specs.Verbs.{CanLook}
 use Rattle.sg_ground.specs.Recovers.{Recovering}
 use Rattle.sg_shown.specs.Shown.{Over, Means, basis, shown_of, acting}
 use Rattle.sg_shown.proofs.History.{grows_is, moments_are}
 use Rattle.sg_shown.proofs.Holding.{Facts, engine_is, idle_ended}
+use Rattle.sg_verbs.specs.Looks.{IsGivenUp}
 use Rattle.sg_verbs.proofs.Held.{space_in, free_in, free_bands_in, contents_in, own_reads, taken_now, counted_now, map_now}
-use Rattle.sg_verbs.proofs.Moving.{at_in, LaterOn, view_in, Leaves, went, keeping_on, means_off, IsStopped}
+use Rattle.sg_verbs.proofs.Moving.{at_in, LaterOn, view_in, Leaves, went, keeping_on, means_off}
 use Rattle.sg_verbs.proofs.Story.{seen}
 
 no : false ≡ true → ⊥
@@ -57,12 +50,14 @@ look_there recovers a t z from m now told o e =
 pub asked_there : (recovers : Recovering) (a : Over) → ((t : Table) (from : State) → a.means t from → a.engine.Told → a.engine.now ≡ repeated t from a.engine.steps) → Asked (shown_of recovers a) CanLook → a.engine.Told → (s : Contents) × IsContents (space_in a) s × IsCounted (space_in a) s
 asked_there recovers a now asked told =
     let c = asked.can told in
-    let r = look_there recovers a asked.by asked.sizes asked.from asked.means (now asked.by asked.from asked.means.since.stands) told c.reading c.reads.reading in (r.0, r.1, r.2)
+    let m = asked.means told in
+    let r = look_there recovers a asked.by asked.sizes (asked.from told) m (now asked.by (asked.from told) m.since.stands) told c.reading c.reads.reading in (r.0, r.1, r.2)
 
 pub asked_by_there : (recovers : Recovering) (a : Over) (t : Table) → ((from : State) → a.means t from → a.engine.Told → a.engine.now ≡ repeated t from a.engine.steps) → AskedBy t (shown_of recovers a) (CanLook t) → a.engine.Told → (s : Contents) × IsContents (space_in a) s × IsCounted (space_in a) s
 asked_by_there recovers a t now asked told =
     let c = asked.can told in
-    let r = look_there recovers a t asked.sizes asked.from asked.means (now asked.from asked.means.since.stands) told c.reading c.reads.reading in (r.0, r.1, r.2)
+    let m = asked.means told in
+    let r = look_there recovers a t asked.sizes (asked.from told) m (now (asked.from told) m.since.stands) told c.reading c.reads.reading in (r.0, r.1, r.2)
 
 -- THE LOOK
 module _ (recovers : Recovering) (a b : Over) (t : Table) (z : Sizes) (from : State) (m : Means a t z from) (l : LaterOn recovers t (paused a) b) where
@@ -77,7 +72,7 @@ module _ (recovers : Recovering) (a b : Over) (t : Table) (z : Sizes) (from : St
       let w = look_went told in
       record {
         moments = subst (λ (v : disk.View). LeavesOnly a.engine.disk v (IsImageOf t (basis recovers z) (seen recovers t z from a) a.engine.steps)) (sym same)
-            (subst (λ (rs : Steps). LeavesOnly a.engine.disk b.engine.disk (IsImageOf t (basis recovers z) (seen recovers t z from a) rs)) (ap (λ (ms : Steps). ms ++ a.engine.steps) (w.rests refl)) (moments_are recovers t z (seen recovers t z from a) b.engine.disk (w.made ++ a.engine.steps) w.moments));
+            (subst (λ (rs : Steps). LeavesOnly a.engine.disk b.engine.disk (IsImageOf t (basis recovers z) (seen recovers t z from a) rs)) (ap (λ (ms : Steps). ms ++ a.engine.steps) (w.rests refl)) (moments_are recovers t z (seen recovers t z from a) b.engine.disk (w.made ++ a.engine.steps) m.size w.moments));
       }
 
   -- AND IT GOES ON
@@ -119,6 +114,7 @@ module _ (recovers : Recovering) (a b : Over) (t : Table) (z : Sizes) (from : St
     unfolding begins leaves
     look_means there = record {
       since = record { stands = (l.means from (paused_since a t from m.since)).stands; since = λ o told. begins told };
+      size = m.size;
       pages = l.pages ∙ m.pages;
       bands = l.bands ∙ m.bands;
       limits = ap (λ (f : (pages bands : ℕ) → State → ℕ → ℕ). f z.pages z.bands) same ∙ m.limits;
@@ -145,8 +141,9 @@ module _ (recovers : Recovering) (a b : Over) (t : Table) (z : Sizes) (from : St
         }
 
 -- WHERE IT IS GIVEN UP
-pub stopped_means : (recovers : Recovering) (a b d : Over) (t : Table) (z : Sizes) (from : State) → Means a t z from → LaterOn recovers t (paused a) b → b.limits ≡ a.limits → IsStopped b d → Means d t z from
-stopped_means recovers a b d t z from m l same s =
+pub stopped_means : {ends failed : Bool} (recovers : Recovering) (a b d : Over) (t : Table) (z : Sizes) (from : State) (f : SpaceFault) → Means a t z from → LaterOn recovers t (paused a) b → b.limits ≡ a.limits
+    → IsGivenUp ends failed b d f → Means d t z from
+stopped_means recovers a b d t z from f m l same s =
     means_off a d t z from m (s.pages ∙ l.pages) (s.bands ∙ l.bands) (s.limits ∙ same) (s.means t from (l.means from (paused_since a t from m.since)).stands) s.silent
 
 -- where no record was written, the log ends where it did
@@ -155,31 +152,3 @@ same_tail recovers a b t l e =
     let low : a.engine.tail ≤ b.engine.tail = l.tail in
     let grown : b.engine.tail + 16422 * a.engine.records ≤ a.engine.tail + 16422 * b.engine.records = l.grown in
     omega (arith, low, grown, e)
-
--- COUNTS
-pub disk_is : (f : SpaceFault) → IsDiskFault f → f ≡ faults.Disk
-disk_is faults.Disk h = refl
-disk_is faults.LogEnd h = absurd h
-
-pub counts_err : {T U : Type 0} (recovers : Recovering) (a b d : Over) (f : SpaceFault) → space.Counts (view_in a) (view_in b) (let r : Result T SpaceFault = Err f in r) → a.engine.tail ≤ b.engine.tail → IsStopped b d
-    → Counts IsDiskFault (shown_of recovers a) (shown_of recovers d) (let r : Result U SpaceFault = Err f in r)
-counts_err recovers a b d f q tail s = record {
-  told = λ h. absurd (s.silent h);
-  tells = tt;
-  tail = (let e = s.tail in omega (arith, e, tail));
-  later = (let e = s.faults in let k = q.later in omega (arith, e, k));
-  quiet = tt;
-  failed = λ is. subst (λ (n : ℕ). HasRisen (a.engine.faults + a.breaks) n) (sym s.faults) (q.disk (disk_is f is));
-}
-
--- of a call on objects
-pub object_err : {T U : Type 0} (recovers : Recovering) (a b d : Over) (f : SpaceFault) → CountsObject (view_in a) (view_in b) (let r : Result T ObjectsFault = Err (objects.Space f) in r) → a.engine.tail ≤ b.engine.tail → IsStopped b d
-    → Counts IsObjDisk (shown_of recovers a) (shown_of recovers d) (let r : Result U ObjFault = Err (store.Space f) in r)
-object_err recovers a b d f q tail s = record {
-  told = λ h. absurd (s.silent h);
-  tells = tt;
-  tail = (let e = s.tail in omega (arith, e, tail));
-  later = (let e = s.faults in let k = q.later in omega (arith, e, k));
-  quiet = tt;
-  failed = λ is. subst (λ (n : ℕ). HasRisen (a.engine.faults + a.breaks) n) (sym s.faults) (q.disk (ap objects.Space (disk_is f is)));
-}

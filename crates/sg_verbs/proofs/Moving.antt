@@ -7,7 +7,6 @@ use Rattle.sg_action.specs.States.{State, Kept}
 use Rattle.sg_actions.specs.Calls.{IsAtRest}
 use Rattle.sg_actions.specs.Engine.{EngineSeen, led as led_from}
 use Rattle.sg_actions.specs.Later.{At, ActsAt, LaterBy, Went, HasGone, AreChanges, acts_at, led_at, at_kept, kept_at, begin_at}
-use Rattle.sg_actions.specs.Rows.{HasRow}
 use Rattle.sg_actions.specs.Steps.{Step, Steps, repeated, begin_of, opened}
 use Rattle.sg_actions.specs.Taken.{kept_of}
 use Rattle.sg_actions.specs.View.{HasFreedNone, Since, acts_view}
@@ -15,7 +14,7 @@ use Rattle.sg_actions.specs.declared.rows.Row.{Row}
 use Rattle.sg_space.specs.View.{View}
 use Rattle.sg_contents.specs.Standing.{Contents}
 use Rattle.sg_reader.specs.Alike.{ReadsAs}
-use Rattle.sg_store.specs.Engine.{Sizes, is_going, goes_behind}
+use Rattle.sg_store.specs.Engine.{Sizes}
 use Rattle.sg_ground.specs.Recovers.{Recovering}
 use Rattle.sg_shown.specs.Taken.{AreTaken, AreCounted}
 use Rattle.sg_shown.specs.Shown.{Over, Keeping, Means, has_page, has_band, kept_before, begin_before}
@@ -34,7 +33,7 @@ LaterOn recovers t a b = LaterBy true recovers (a.limits (length a.maps.pages) (
 
 -- what it shows as a space
 abbrev pub view_in : Over → View
-view_in a = acts_view (a.limits (length a.maps.pages) (length a.maps.bands)) a.engine a.begin a.breaks a.maps a.unfreed
+view_in a = acts_view (a.limits (length a.maps.pages) (length a.maps.bands)) a.engine a.begun a.begin a.breaks a.maps a.unfreed
 
 -- where the contents stand behind the call
 pub record Leaves (z : Sizes) (b : Over) : Type 0 where
@@ -45,11 +44,6 @@ pub record Leaves (z : Sizes) (b : Over) : Type 0 where
   pub map : (n : ℕ) → n < map_bands_of z.pages z.bands → has_band b n ≡ true
   -- nobody acts where no action was begun
   pub rest : b.begun ≡ false → IsAtRest b.engine.steps b.unfreed b.actor
-
--- changes leave it as it was which transactions go on
-pub going_on : (t : Table) (kept : Kept) (begin first : State) (txn u : ℕ) (made log : Steps) → AreChanges t kept begin first txn made log → is_going u (made ++ log) ≡ is_going u log
-going_on t kept begin first txn u [] log h = refl
-going_on t kept begin first txn u (r ∷ made) log h = ap (λ (x : Step). goes_behind u x (is_going u (made ++ log))) h.0.2 ∙ going_on t kept begin first txn u made log h.3
 
 -- AN ACTION THAT HAS NO OPEN CHANGE HAS FREED NOTHING, where contents stand behind its calls: these have as many pages and bands as there were
 pub fresh_on : (a b : Over) (t : Table) (z : Sizes) (from : State) (made : Steps) → Keeping a t z from → AreChanges t (kept_at t (a.limits z.pages z.bands) (at_in from a)) (begin_at t (at_in from a)) from a.actor.txn.0 made a.engine.steps
@@ -66,10 +60,10 @@ fresh_on a b t z from made k are g now pages bands x e =
     let n = bands_free_still a.maps.bands b.maps.bands (opened a.engine.steps) (opened b.engine.steps) bands was e (λ n. ap (λ (q : Kept). q.bands n) g.same) in
     let at : b.engine.now ≡ repeated t from a.engine.steps = now ∙ ap (repeated t from) same in
     let reads : ReadsAs z.pages z.bands (repeated t from a.engine.steps) x.contents = subst (λ (y : State). ReadsAs z.pages z.bands y x.contents) at x.reads in
-    let cp = x.counted.pages b.engine.now.bands x.contents x.reads in
-    let cb = x.counted.bands b.engine.now.bands x.contents x.reads in
-    let op = k.counted.pages (repeated t from a.engine.steps).bands x.contents reads in
-    let ob = k.counted.bands (repeated t from a.engine.steps).bands x.contents reads in
+    let cp = x.counted.pages b.engine.now.size b.engine.now.bands x.contents x.reads in
+    let cb = x.counted.bands b.engine.now.size b.engine.now.bands x.contents x.reads in
+    let op = k.counted.pages (repeated t from a.engine.steps).size (repeated t from a.engine.steps).bands x.contents reads in
+    let ob = k.counted.bands (repeated t from a.engine.steps).size (repeated t from a.engine.steps).bands x.contents reads in
     record { pages = omega (arith, fp, p, cp, op); bands = omega (arith, fb, n, cb, ob) }
 
 -- THE LOG of some calls
@@ -87,7 +81,6 @@ keeping_on a b t z from made k are g same now pages bands x = record {
   kept = subst (λ (f : (pages bands : ℕ) → State → ℕ → ℕ). at_kept t (f z.pages z.bands) (at_in from b)) (sym same) g.kept;
   rest = x.rest;
   fresh = fresh_on a b t z from made k are g now pages bands x;
-  rows = λ u e. subst (λ (rs : List Row). HasRow rs u) (sym g.rows) (k.rows u (sym (ap (is_going u) g.steps ∙ going_on t (kept_at t (a.limits z.pages z.bands) (at_in from a)) (begin_at t (at_in from a)) from a.actor.txn.0 u made a.engine.steps are) ∙ e));
   begin = subst (λ (y : State). AreTaken z (kept_before b t z from).pages (kept_before b t z from).bands y.pages) (sym g.begin)
       (subst (λ (q : Kept). AreTaken z q.pages q.bands (begin_before a t from).pages) (sym ((λ i. kept_of (same i z.pages z.bands) b.maps.pages b.maps.bands (begin_of t from b.engine.steps) (opened b.engine.steps)) ∙ g.same)) k.begin);
   now = subst (λ (y : State). AreTaken z (has_page b) (has_band b) y.pages) now x.now;
@@ -100,6 +93,7 @@ pub means_on : (recovers : Recovering) (a b : Over) (t : Table) (z : Sizes) (fro
     → (b.engine.Told → Leaves z b) → Means b t z from
 means_on recovers a b t z from m l same whole now leaves = record {
   since = l.means from m.since;
+  size = m.size;
   pages = l.pages ∙ m.pages;
   bands = l.bands ∙ m.bands;
   limits = ap (λ (f : (pages bands : ℕ) → State → ℕ → ℕ). f z.pages z.bands) same ∙ m.limits;
@@ -114,19 +108,9 @@ means_on recovers a b t z from m l same whole now leaves = record {
 pub means_off : (a b : Over) (t : Table) (z : Sizes) (from : State) → Means a t z from → length b.maps.pages ≡ length a.maps.pages → length b.maps.bands ≡ length a.maps.bands → b.limits ≡ a.limits → b.means t from → (b.engine.Told → ⊥) → Means b t z from
 means_off a b t z from m pages bands same stands silent = record {
   since = record { stands = stands; since = λ o told. absurd (silent told) };
+  size = m.size;
   pages = pages ∙ m.pages;
   bands = bands ∙ m.bands;
   limits = ap (λ (f : (pages bands : ℕ) → State → ℕ → ℕ). f z.pages z.bands) same ∙ m.limits;
   keeps = λ told. absurd (silent told);
 }
-
--- A SPACE WHOSE ENGINE IS ASKED NOTHING MORE: it tells no more, and all else is as before
-pub record IsStopped (b d : Over) : Type 1 where
-  pub silent : d.engine.Told → ⊥
-  pub disk : d.engine.disk ≡ b.engine.disk
-  pub tail : d.engine.tail ≡ b.engine.tail
-  pub faults : d.engine.faults + d.breaks ≡ b.engine.faults + b.breaks
-  pub means : (t : Table) (from : State) → b.means t from → d.means t from
-  pub pages : length d.maps.pages ≡ length b.maps.pages
-  pub bands : length d.maps.bands ≡ length b.maps.bands
-  pub limits : d.limits ≡ b.limits

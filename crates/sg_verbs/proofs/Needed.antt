@@ -1,5 +1,5 @@
 -- What a need leaves and says, as the store asks.
-use Rattle.std.proofs.Common.{◌≡◌, ℕ, List, Result, Ok, Err, refl, ap}
+use Rattle.std.proofs.Common.{◌≡◌, ℕ, Bool, true, false, List, Result, Ok, Err, refl, ap}
 use Rattle.std.specs.Prelude.{IfErr}
 use Rattle.sg_ops.specs.Table.{Table}
 use Rattle.sg_actions.specs.declared.acts.Acts.{Acts}
@@ -23,15 +23,18 @@ use Rattle.sg_store.specs.declared.fault.Needed.{Needed}
 use Rattle.sg_store.specs.declared.fault.ObjFault.{ObjFault}
 use Rattle.sg_store.specs.declared.fault.ObjFault.TheVariants as store
 use Rattle.sg_shown.specs.Shown.{over, shown}
-use Rattle.sg_verbs.specs.Looks.{is_need_failed, told_need}
+use Rattle.sg_verbs.specs.Looks.{HasGoneOn, IsHeld, is_need_failed, told_need}
 use Rattle.sg_verbs.proofs.Asked.{refused_as, needs_as}
-use Rattle.sg_verbs.proofs.Looking.{disk_is}
-use Rattle.sg_verbs.proofs.Looked.{Look, Ends, GoesOn, kept, failed, looked_there, counts_kept, counts_refused, counts_failed}
+use Rattle.sg_verbs.proofs.Looked.{Look, Kept, Failed, kept, fails_disk, looked_there, counts_kept, counts_refused, counts_failed}
+use Rattle.sg_verbs.proofs.Settled.{SomeFails, read_up}
 use Rattle.sg_verbs.proofs.Moving.{view_in}
 
-read_fault : (f : SpaceFault) → (objects.Space f ≡ objects.Space faults.LogEnd → ⊥) → IsDiskFault f
-read_fault faults.Disk none = tt
-read_fault faults.LogEnd none = none refl
+read_fault : (f : SpaceFault) → (objects.Space f ≡ objects.Space faults.LogEnd → ⊥) → f ≡ faults.Disk
+read_fault faults.Disk none = refl
+read_fault faults.LogEnd none = absurd (none refl)
+
+not_done : true ≡ false → ⊥
+not_done e = cc
 
 -- WHAT A NEED LEFT of the space where whoever acts had paused
 pub record Finds (t : Table) (name : List ℕ) (verb : Verb) (v w : View) (r : Result Needs ObjectsFault) : Type 0 where
@@ -48,13 +51,18 @@ pub record Says {E : Type 0} {g : Ghosts E} (t : Table) (name : List ℕ) (verb 
   pub reads : IfErr r IsReadFault
 
 module _ {E : Type 0} {g : Ghosts E} (t : Table) (name : List ℕ) (verb : Verb) (a p b d : Acts E g) (l : Look a p b) where
-  pub need_ends : (r : Result Needs ObjectsFault) → Finds t name verb (view_in (over p)) (view_in (over b)) r → GoesOn a.begun b d (is_need_failed r) → Ends a p b d (is_need_failed r)
-  need_ends (Ok n) q h = kept a p b d l q.kept (h.on refl) q.counts.quiet
-  need_ends (Err (objects.Model reason)) q h = kept a p b d l q.kept (h.on refl) q.counts.quiet
-  need_ends (Err (objects.Space f)) q h = failed a p b d l (h.stopped refl)
+  pub need_kept : (r : Result Needs ObjectsFault) → Finds t name verb (view_in (over p)) (view_in (over b)) r → is_need_failed r ≡ false → HasGoneOn a.begun b d → IsHeld (over b).engine → Kept a d
+  need_kept (Ok n) q done h held = kept a p b d l q.kept h q.counts.quiet held
+  need_kept (Err (objects.Model reason)) q done h held = kept a p b d l q.kept h q.counts.quiet held
+  need_kept (Err (objects.Space f)) q done h held = absurd (not_done done)
 
-  pub need_says : (r : Result Needs ObjectsFault) → Finds t name verb (view_in (over p)) (view_in (over b)) r → Ends a p b d (is_need_failed r) → Says t name verb a d (told_need r)
-  need_says (Ok n) q k = record {
+  need_fails : (r : Result Needs ObjectsFault) → Finds t name verb (view_in (over p)) (view_in (over b)) r → SomeFails false (is_need_failed r) (over a) (over b)
+  need_fails (Ok n) q is = absurd (let w : false ≡ true = is in cc)
+  need_fails (Err (objects.Model reason)) q is = absurd (let w : false ≡ true = is in cc)
+  need_fails (Err (objects.Space f)) q is = let e = read_fault f q.writes.no_end in (f, fails_disk a p b d l f e (q.counts.disk (ap objects.Space e)))
+
+  pub need_says : (r : Result Needs ObjectsFault) → Finds t name verb (view_in (over p)) (view_in (over b)) r → is_need_failed r ≡ false → Kept a d → Says t name verb a d (told_need r)
+  need_says (Ok n) q done k = record {
     counts = counts_kept a p b d _ k;
     refused = tt;
     needs = λ z from m told o engine can.
@@ -63,7 +71,7 @@ module _ {E : Type 0} {g : Ghosts E} (t : Table) (name : List ℕ) (verb : Verb)
         (e.0, (e.1, needs_as g.recovers z t s.0 o name verb n s.3 ((q.read s.1 s.0 s.2).ok n refl)));
     reads = tt;
   }
-  need_says (Err (objects.Model reason)) q k = record {
+  need_says (Err (objects.Model reason)) q done k = record {
     counts = counts_refused a p b d (store.Model reason) (λ h. h) k;
     refused = (k.tells, k.faults);
     needs = λ z from m told o engine can.
@@ -72,9 +80,13 @@ module _ {E : Type 0} {g : Ghosts E} (t : Table) (name : List ℕ) (verb : Verb)
         (e.0, (e.1, refused_as t s.0 o name verb reason s.3 ((q.read s.1 s.0 s.2).err reason refl)));
     reads = tt;
   }
-  need_says (Err (objects.Space f)) q h = record {
-    counts = counts_failed a p b d (store.Space f) q.counts.later (λ is. q.counts.disk (ap objects.Space (disk_is f is))) h;
+  need_says (Err (objects.Space f)) q done k = absurd (not_done done)
+
+  -- where it was given up
+  pub need_up : (r : Result Needs ObjectsFault) → Finds t name verb (view_in (over p)) (view_in (over b)) r → (f : SpaceFault) → Failed (is_need_failed r) a b d f → Says t name verb a d (Err (store.Space f))
+  need_up r q f h = record {
+    counts = counts_failed a p b d f (store.Space f) (λ is. is) (λ is. is) (need_fails r q) h;
     refused = tt;
     needs = λ z from m told o engine can. (h.rests t z from m told, tt);
-    reads = read_fault f q.writes.no_end;
+    reads = read_up (over b) (over d) f h.up;
   }

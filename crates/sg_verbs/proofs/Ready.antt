@@ -30,7 +30,7 @@ use Rattle.sg_ground.proofs.Clauses.{room_there}
 use Rattle.sg_shown.specs.Shown.{Over, Keeping, Means, basis, basis_at, shown_of}
 use Rattle.sg_shown.proofs.Holding.{idle_ended}
 use Rattle.sg_verbs.proofs.Held.{space_in, shows, part_of, own_reads}
-use Rattle.sg_verbs.proofs.Places.{same_limit}
+use Rattle.sg_shown.proofs.Places.{same_limit}
 use Rattle.sg_verbs.proofs.Moving.{view_in}
 use Rattle.sg_verbs.proofs.Looking.{look_there}
 use Rattle.sg_verbs.proofs.Story.{seen}
@@ -49,10 +49,10 @@ module _ (recovers : Recovering) (a : Over) (t : Table) (name : List ℕ) (verb 
       → (s : Contents) × IsContents (space_in a) s × IsCounted (space_in a) s × HasRoomFor t (view_in a) name verb s
   ready_there u now asked told =
       let c = asked.can told in
-      let m = asked.means in
-      let here = now asked.from m.since.stands told in
-      let r = look_there recovers a t asked.sizes asked.from m (λ _. here) told c.reading c.can.reads.reading in
-      (r.0, r.1, r.2, room_for asked.sizes asked.from m here c.reading c.can r.0 r.3)
+      let m = asked.means told in
+      let here = now (asked.from told) m.since.stands told in
+      let r = look_there recovers a t asked.sizes (asked.from told) m (λ _. here) told c.reading c.can.reads.reading in
+      (r.0, r.1, r.2, room_for asked.sizes (asked.from told) m here c.reading c.can r.0 r.3)
 
 -- no change is open
 pub none_open : {a : Over} {t : Table} {z : Sizes} {from : State} → Keeping a t z from → (tally a.engine.steps).opened ≡ [] → opened a.engine.steps ≡ []

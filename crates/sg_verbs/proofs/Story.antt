@@ -57,7 +57,7 @@ module _ (recovers : Recovering) (t : Table) (z : Sizes) (from : State) where
       made = w.made;
       are = changes_are recovers t z (kept_at t (a.limits z.pages z.bands) (at_in from a)) from (act_of a) (ap (λ (f : State → ℕ → ℕ). f (begin_of t from a.engine.steps)) m.limits) k.begin w.made a.engine.steps w.are;
       formed = w.formed;
-      moments = moments_are recovers t z (seen a) b.engine.disk (w.made ++ a.engine.steps) w.moments;
+      moments = moments_are recovers t z (seen a) b.engine.disk (w.made ++ a.engine.steps) m.size w.moments;
     }
 
     pub changes : (act : Action (basis recovers z)) → (seen a).action ≡ Some act → Changes t (basis recovers z) act (seen a) (seen b)
@@ -71,7 +71,7 @@ module _ (recovers : Recovering) (t : Table) (z : Sizes) (from : State) where
 
     -- nothing is logged where no action was begun
     pub rests : a.begun ≡ false → Rests t (basis recovers z) (seen a) (seen b)
-    rests none = record { moments = subst (λ (rs : Steps). LeavesOnly a.engine.disk b.engine.disk (Rattle.sg_store.specs.Engine.IsImageOf t (basis recovers z) (seen a) rs)) (ap (λ (ms : Steps). ms ++ a.engine.steps) (w.rests none)) (moments_are recovers t z (seen a) b.engine.disk (w.made ++ a.engine.steps) w.moments) }
+    rests none = record { moments = subst (λ (rs : Steps). LeavesOnly a.engine.disk b.engine.disk (Rattle.sg_store.specs.Engine.IsImageOf t (basis recovers z) (seen a) rs)) (ap (λ (ms : Steps). ms ++ a.engine.steps) (w.rests none)) (moments_are recovers t z (seen a) b.engine.disk (w.made ++ a.engine.steps) m.size w.moments) }
 
     -- WHERE IT STILL TELLS it goes on
     module _ (g : HasGone t (a.limits z.pages z.bands) (at_in from a) (at_in from b) w.made) (tail : a.engine.tail ≤ b.engine.tail) (engine : IsEngine t (basis recovers z) (seen b)) where

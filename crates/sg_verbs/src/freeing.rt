@@ -5,6 +5,7 @@ ghost use Rattle.sg_store.specs.Engine.{KeepsBy, AsMeantBy, AskedBy, IsEngine, I
 ghost use Rattle.sg_store.specs.Verbs.{Reads, CanFree, FreesNext};
 ghost use Rattle.sg_shown.specs.Shown.{shown};
 
+use crate::pausing::{give_up, settle, sound};
 use sg_actions::{Acts, Engine};
 use sg_base::TxnId;
 use sg_ops::Ops;
@@ -29,11 +30,12 @@ pub fn free_next<E: Engine>(
         → (c : Changes t g a v w) × IfOk result (FreesNext t g a by v w o c.made)) }
 {
     note.set(&[]);
+    sound(acts);
     match sg_objects::free_next(acts, ops, by) {
-        Ok(was) => Ok(was),
-        Err(fault) => {
-            acts.stop();
-            Err(fault)
-        }
+        Ok(was) => match settle(acts) {
+            None => Ok(was),
+            Some(fault) => Err(fault),
+        },
+        Err(_fault) => Err(give_up(acts, true)),
     }
 }

@@ -2,7 +2,8 @@
 //!
 //! It stands on `sg_objects`, which does verbs over a space, on `sg_actions`, whose transactions and actions are such a
 //! space, and on `sg_shown`, which says what these show as the engine of a store. It promises of each call, clause by
-//! clause, what the store asks of its objects. A call that fails ends in an engine that tells no more.
+//! clause, what the store asks of its objects. A call that fails ends in an engine that tells no more, and says why by
+//! what that remembers of the first failure. An operation that can change nothing is looked up while whoever acts pauses.
 #![tactic(auto)]
 
 mod freeing;

@@ -39,8 +39,10 @@ pub fn keys<E: Engine>(
 {
     let was = pause(acts);
     let listed = sg_objects::keys(acts, name, alloc);
-    go_on(acts, was, has_failed(&listed));
-    listed
+    match go_on(acts, was, has_failed(&listed)) {
+        Ok(()) => listed,
+        Err(fault) => Err(ListFault::Space(fault)),
+    }
 }
 
 /// The names of all objects, in the order of their bytes. `Memory` where memory is refused: then nothing
@@ -58,6 +60,8 @@ pub fn list<E: Engine>(acts: &mut Acts<E>, alloc: Global) -> Result<Vec<Name>, L
 {
     let was = pause(acts);
     let listed = sg_objects::list(acts, alloc);
-    go_on(acts, was, has_failed(&listed));
-    listed
+    match go_on(acts, was, has_failed(&listed)) {
+        Ok(()) => listed,
+        Err(fault) => Err(ListFault::Space(fault)),
+    }
 }

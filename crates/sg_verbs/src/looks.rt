@@ -32,8 +32,10 @@ pub fn touches<E: Engine>(
 {
     let was = pause(acts);
     let done = sg_objects::touches(acts, op, into);
-    go_on(acts, was, done.is_err());
-    done
+    match go_on(acts, was, done.is_err()) {
+        Ok(()) => done,
+        Err(fault) => Err(fault),
+    }
 }
 
 /// What the list of a table's keys touches.
@@ -53,6 +55,8 @@ pub fn touches_keys<E: Engine>(
 {
     let was = pause(acts);
     let done = sg_objects::touches_keys(acts, name, into);
-    go_on(acts, was, done.is_err());
-    done
+    match go_on(acts, was, done.is_err()) {
+        Ok(()) => done,
+        Err(fault) => Err(fault),
+    }
 }

@@ -51,6 +51,8 @@ pub fn needs<E: Engine>(acts: &mut Acts<E>, ops: &Ops, op: &Op<'_>) -> Result<Ne
 {
     let was = pause(acts);
     let found = sg_objects::needs_of(acts, ops, op);
-    go_on(acts, was, has_failed(&found));
-    told(found)
+    match go_on(acts, was, has_failed(&found)) {
+        Ok(()) => told(found),
+        Err(fault) => Err(ObjFault::Space(fault)),
+    }
 }

@@ -8,6 +8,7 @@ ghost use Rattle.sg_store.specs.Engine.{KeepsBy, AsMeantBy, AskedBy, Action, IsE
 ghost use Rattle.sg_store.specs.Verbs.{CanPerform, CanDo, HasPerformed};
 ghost use Rattle.sg_shown.specs.Shown.{shown};
 
+use crate::pausing::{give_up, hold, release, settle};
 use sg_actions::{Acts, Engine};
 use sg_base::TxnId;
 use sg_model::{Op, Reply};
@@ -55,8 +56,12 @@ pub fn perform<E: Engine>(
 {
     op.name().tell_name();
     brings_bytes(op);
+    let changes = op.is_changing();
     let start = acts.tail();
+    // what can change nothing is looked up while whoever acts pauses
+    let was = hold(acts, changes);
     let done = sg_objects::perform(acts, ops, txn, op, into, note);
+    release(acts, changes, was);
     let end = acts.tail();
     // A space that tells never writes more in one verb. One that doesn't is asked no further.
     if end - start > MOST_BYTES {
@@ -64,13 +69,16 @@ pub fn perform<E: Engine>(
         return Err(ObjFault::Space(acts.report()));
     }
     match done {
-        Ok(reply) => Ok(reply),
+        Ok(reply) => match settle(acts) {
+            None => Ok(reply),
+            Some(fault) => Err(ObjFault::Space(fault)),
+        },
         Err(why) => match why {
-            sg_objects::ObjFault::Model(reason) => Err(ObjFault::Model(reason)),
-            sg_objects::ObjFault::Space(fault) => {
-                acts.stop();
-                Err(ObjFault::Space(fault))
-            }
+            sg_objects::ObjFault::Model(reason) => match settle(acts) {
+                None => Err(ObjFault::Model(reason)),
+                Some(fault) => Err(ObjFault::Space(fault)),
+            },
+            sg_objects::ObjFault::Space(_fault) => Err(ObjFault::Space(give_up(acts, changes))),
         },
     }
 }

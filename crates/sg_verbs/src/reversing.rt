@@ -7,6 +7,7 @@ ghost use Rattle.sg_store.specs.Engine.{KeepsBy, AsMeantBy, AskedBy, Action, IsE
 ghost use Rattle.sg_store.specs.Verbs.{CanReverse, CanTakeBack, Reversed};
 ghost use Rattle.sg_shown.specs.Shown.{shown};
 
+use crate::pausing::{give_up, settle, sound};
 use sg_actions::{Acts, Engine};
 use sg_ops::Ops;
 use sg_space::{SpaceFault, UndoNote};
@@ -32,6 +33,7 @@ pub fn reverse<E: Engine>(acts: &mut Acts<E>, ops: &Ops, note: &UndoNote) -> Res
         → CanReverse t g a v o n → (c : Changes t g a v w)
         × OnOk result (Changed t g a v w c.made × Reversed t g w o n)) }
 {
+    sound(acts);
     let puts = puts_bytes(note);
     let still = acts.is_still();
     if !puts && !still {
@@ -39,10 +41,10 @@ pub fn reverse<E: Engine>(acts: &mut Acts<E>, ops: &Ops, note: &UndoNote) -> Res
         return Err(acts.report());
     }
     match sg_objects::reverse(acts, ops, note) {
-        Ok(()) => Ok(()),
-        Err(fault) => {
-            acts.stop();
-            Err(fault)
-        }
+        Ok(()) => match settle(acts) {
+            None => Ok(()),
+            Some(fault) => Err(fault),
+        },
+        Err(_fault) => Err(give_up(acts, true)),
     }
 }

@@ -22,5 +22,5 @@ returns-in-Ok-commit-clause-rests g c objects s =
       means = d.means;
       can = λ told.
           (let h = d.can told in
-          record { replied = (b.can (c.commit.ensures.told told)).replied; has = rests_alone t (g.E.Engine.basis d.sizes) (led t d.sizes d.from (g.E.Engine.view c.commit.new.self.engine)) (core_of c.commit.new.self) u m h.after h.has });
+          record { replied = (b.can (c.commit.ensures.told told)).replied; has = rests_alone t (g.E.Engine.basis d.sizes) (led t d.sizes (d.from told) (g.E.Engine.view c.commit.new.self.engine)) (core_of c.commit.new.self) u m h.after h.has });
     }

@@ -1,24 +1,24 @@
 use Rattle.std.proofs.Common.{ap}
 use Rattle.sg_commands.specs.Top.{outside}
 use Rattle.sg_commands.proofs.Endings.{account_of, never_usage}
-use Rattle.sg_commands.proofs.Making.{makes_none}
+use Rattle.sg_commands.proofs.Making.{makes_none, said_none}
 use Rattle.sg_commands.proofs.Wanting.{not_begun, not_drawn, not_spent}
 use Rattle.sg_commands.proofs.top.serve.Goals as goal
 
 pub returns-in-Ok-Run-clause-run : goal.returns-in-Ok-Run-clause-run
 returns-in-Ok-Run-clause-run g c are_run =
-    account_of g.E.Engine.basis g.E.Opens.says _ g.D.Disk.told _ _ c.run_behind_fuse.result.refused c.run_behind_fuse.result.status
+    account_of g.E.Engine.basis g.E.Opens.says _ g.D.Disk.told g.O.Presumes.presumed _ _ c.run_behind_fuse.result.refused c.run_behind_fuse.result.status
     c.run_behind_fuse.ensures.run
 
 pub returns-in-Ok-Run-clause-usage : goal.returns-in-Ok-Run-clause-usage
 returns-in-Ok-Run-clause-usage g c is =
-    absurd (never_usage g.E.Engine.basis g.E.Opens.says _ g.D.Disk.told _ _ c.run_behind_fuse.result.refused c.run_behind_fuse.result.status
+    absurd (never_usage g.E.Engine.basis g.E.Opens.says _ g.D.Disk.told g.O.Presumes.presumed _ _ c.run_behind_fuse.result.refused c.run_behind_fuse.result.status
     c.run_behind_fuse.ensures.run is)
 
 pub returns-clause-run : goal.returns-clause-run
 returns-clause-run g c are_run =
     let it = c.ended_beside-in-Err-Memory.ensures in
-    not_begun g.E.Engine.basis g.E.Opens.says _ g.D.Disk.told
+    not_begun g.E.Engine.basis g.E.Opens.says _ g.D.Disk.told g.O.Presumes.presumed
     (outside (g.D.Disk.view c.args.disk) (g.S.Source.left c.args.script.now) (g.S.Source.faults c.args.script.now) (g.K.Sink.taken c.args.out.now)
     (g.K.Sink.faults c.args.out.now))
     _ _ _ (ap (λ d. g.D.Disk.view d) it.1) it.2 it.0
@@ -35,3 +35,6 @@ pub returns-clause-made : goal.returns-clause-made
 returns-clause-made g c are_init =
     let it = c.ended_beside-in-Err-Memory.ensures in
     makes_none g.E.Engine.basis g.E.Opens.says g.D.Disk.told (g.D.Disk.view c.args.disk) _ _ g.met.E.Opens.bare _ it.0 (ap (λ d. g.D.Disk.view d) it.1) it.2
+
+pub returns-clause-said : goal.returns-clause-said
+returns-clause-said g c are_init = said_none _ _ c.ended_beside-in-Err-Memory.ensures.0

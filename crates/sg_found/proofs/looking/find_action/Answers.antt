@@ -1,11 +1,12 @@
 use mathlib.Core.Logic.{∥∥₁_elim, ∥∥₁_prop}
-use Rattle.std.proofs.Common.{◌≡◌, ◌≤◌, ℕ, IsSome, Option, Ok, Err, sym, subst}
-use Rattle.std.specs.Prelude.{IfSome}
+use Rattle.sg_space.proofs.Known.{same_some}
+use Rattle.std.proofs.Common.{◌∙◌, Some, None, ◌≡◌, ℕ, IsSome, Option, Ok, Err, sym, subst}
 use Rattle.std.proofs.lemmas.Result.{err_from_is_err_and}
+use Rattle.sg_ops.specs.Table.{fresh_table}
 use Rattle.sg_recovery.specs.Log.{tally}
 use Rattle.sg_actions.specs.Steps.{Steps, step_at}
 use Rattle.sg_found.specs.Found.{HasBack, IsOpenAt}
-use Rattle.sg_found.proofs.Backing.{looked_then, looked_ok, looked_fails, looked_steps, open_of}
+use Rattle.sg_found.proofs.Backing.{looked_then, looked_ok, looked_fails, looked_steps, open_of, from_some}
 use Rattle.sg_found.proofs.Newest.{last_there}
 use Rattle.sg_found.proofs.looking.find_action.Goals as goal
 
@@ -18,12 +19,12 @@ pub find_before-requires : goal.find_before-requires
 find_before-requires g c =
     let k = c.in_ok-first.ensures in
     record {
-      there = λ told1. ∥∥₁_elim (g.met.E.Engine.some c.args.engine.now) ∥∥₁_prop (λ x.
+      there = λ told1. ∥∥₁_elim (g.met.E.Engine.some c.args.engine.now ((k.looks.looks fresh_table).told told1)) ∥∥₁_prop (λ x.
           let told = (k.looks.looks x.0).told told1 in
           let steps = looked_steps k.looks x.0 x.1 x.2 told (g.met.E.Engine.told_whole c.find_from.new.engine) told1 in
           let o = open_of (c.requires.formed told) (c.requires.unfinished told) (c.requires.last told) c.in_ok-first.field-0 (k.found x.0 x.1 x.2 told) c.in-Some.is in
           ∣ subst (λ (rs : Steps). HasBack rs c.start-start.result c.in-Some.first) (sym steps)
-          (record { base = (g.E.Engine.view c.args.engine.now).base; low = subst (λ (n : ℕ). (g.E.Engine.view c.args.engine.now).base ≤ n) (sym c.start-start.ensures) (c.requires.start told); before = o.0; ds = (tally (g.E.Engine.view c.args.engine.now).steps).opened; back = o.1.back }) ∣₁);
+          (record { base = (g.E.Engine.view c.args.engine.now).base; begins = c.requires.start told ∙ sym c.start-start.ensures; above = (c.requires.formed told).above; before = o.0; ds = (tally (g.E.Engine.view c.args.engine.now).steps).opened; back = o.1.back }) ∣₁);
     }
 
 pub returns-in_err-before-clause-looks : goal.returns-in_err-before-clause-looks
@@ -45,7 +46,22 @@ returns-in-Some-2-clause-found g c = λ t from m told.
     let steps = looked_steps k.looks t from m told (g.met.E.Engine.told_whole c.find_from.new.engine) told1 in
     let o = open_of (c.requires.formed told) (c.requires.unfinished told) (c.requires.last told) c.in_ok-first.field-0 (k.found t from m told) c.in-Some.is in
     let h : HasBack (g.E.Engine.view c.find_from.new.engine).steps c.start-start.result c.in-Some.first = subst (λ (rs : Steps). HasBack rs c.start-start.result c.in-Some.first) (sym steps)
-    (record { base = (g.E.Engine.view c.args.engine.now).base; low = subst (λ (n : ℕ). (g.E.Engine.view c.args.engine.now).base ≤ n) (sym c.start-start.ensures) (c.requires.start told); before = o.0; ds = (tally (g.E.Engine.view c.args.engine.now).steps).opened; back = o.1.back }) in
-    let found : IfSome c.in_ok-before.field-0 (λ n. n ≡ h.before) = c.in_ok-before.ensures.found t from m1 told1 h in
-    let is : c.in-Some-2.before ≡ o.0 = subst (λ (r : Option ℕ). IfSome r (λ n. n ≡ h.before)) c.in-Some-2.is found in
+    (record { base = (g.E.Engine.view c.args.engine.now).base; begins = c.requires.start told ∙ sym c.start-start.ensures; above = (c.requires.formed told).above; before = o.0; ds = (tally (g.E.Engine.view c.args.engine.now).steps).opened; back = o.1.back }) in
+    let found : c.in_ok-before.field-0 ≡ Some h.before = c.in_ok-before.ensures.found t from m1 told1 h in
+    let is : c.in-Some-2.before ≡ o.0 = same_some c.in-Some-2.before h.before (sym c.in-Some-2.is ∙ found) in
     subst (λ (n : ℕ). IsOpenAt (g.E.Engine.view c.args.engine.now).steps (g.E.Engine.view c.args.engine.now).base c.args.txn c.in-Some.first n) (sym is) o.1
+
+pub returns-in-None-clause-some : goal.returns-in-None-clause-some
+returns-in-None-clause-some g c = λ t from m told.
+    let k = c.in_ok-first.ensures in
+    let told1 = k.looks.tells told in
+    let m1 = (k.looks.looks t).means from m in
+    let steps = looked_steps k.looks t from m told (g.met.E.Engine.told_whole c.find_from.new.engine) told1 in
+    let o = open_of (c.requires.formed told) (c.requires.unfinished told) (c.requires.last told) c.in_ok-first.field-0 (k.found t from m told) c.in-Some.is in
+    let h : HasBack (g.E.Engine.view c.find_from.new.engine).steps c.start-start.result c.in-Some.first = subst (λ (rs : Steps). HasBack rs c.start-start.result c.in-Some.first) (sym steps)
+    (record { base = (g.E.Engine.view c.args.engine.now).base; begins = c.requires.start told ∙ sym c.start-start.ensures; above = (c.requires.formed told).above; before = o.0; ds = (tally (g.E.Engine.view c.args.engine.now).steps).opened; back = o.1.back }) in
+    absurd (let no : None ≡ Some h.before = sym c.in-None.is ∙ c.in_ok-before.ensures.found t from m1 told1 h in cc)
+
+pub returns-in_default-clause-some : goal.returns-in_default-clause-some
+returns-in_default-clause-some g c = λ t from m told.
+    absurd (from_some c.args.txn (c.requires.formed told) (c.requires.unfinished told) (c.requires.last told) c.in_ok-first.field-0 (c.in_ok-first.ensures.none t from m told) c.in_default.is)

@@ -17,6 +17,7 @@ use Rattle.sg_open.proofs.Causes.{gate_cause, log_cause, text_cause, text_accept
 use Rattle.sg_find.specs.Stretch.{GREATEST_FRAME}
 use Rattle.sg_analysis.specs.Shown.{shown, IsAnalysed}
 use Rattle.sg_log.specs.Frames.{Frames, HasRecords}
+use Rattle.sg_log.specs.Held.{Tail}
 use Rattle.sg_disk.specs.Disk.{State}
 use Rattle.std.specs.Bool.{OnFalse}
 use Rattle.std.specs.Prelude.{Result, Ok, Err}
@@ -166,3 +167,13 @@ pub returns-in-Ok-check_log-clause-analysed : goal.returns-in-Ok-check_log-claus
 returns-in-Ok-check_log-clause-analysed g c told =
     let s = c.in-Ok.geometry in
     subst (λ (st : State). IsAnalysed (st (log_area s)).seen s.base c.in-Ok-read_log.read.1) (c.read_super.ensures.reads.unchanged told) (c.in-Ok-read_log.ensures.analysed told)
+
+pub returns-in-Ok-check_log-clause-ended : goal.returns-in-Ok-check_log-clause-ended
+returns-in-Ok-check_log-clause-ended g c told settled ds gate has =
+    let s = c.in-Ok.geometry in
+    let same = c.read_super.ensures.reads.unchanged told in
+    let none : ((g.D.Disk.view c.read_super.new.disk).now (log_area s)).pending ≡ [] = ap (λ (x : State). (x (log_area s)).pending) same ∙ settled (log_area s) in
+    (c.in-Ok-read_log.ensures.records ds gate told none (subst (λ (x : State). HasRecords (x (log_area s)).seen s.base gate ds) (sym same) has)).0
+
+pub returns-in-Ok-check_log-clause-empty : goal.returns-in-Ok-check_log-clause-empty
+returns-in-Ok-check_log-clause-empty g c = ap (λ (l : Tail). length l.buffer) c.in-Ok-read_log.ensures.log

@@ -1,6 +1,10 @@
-use Rattle.std.proofs.Common.{◌≡◌, ◌+◌, ℕ, length, sym, ◌∙◌, ap, subst, arith, Ok, inl, inr}
+use Rattle.std.proofs.Common.{◌≡◌, ◌⊎◌, ⊎_elim, ◌+◌, ◌≤◌, ℕ, length, sym, ◌∙◌, ap, subst, arith, Ok, inl, inr}
 use Rattle.sg_base.specs.declared.area.Area.TheVariants.{Home}
-use Rattle.sg_disk.specs.Disk.{Bytes, State, LeavesOnly}
+use Rattle.sg_disk.specs.Accounts.{IsShownEnd}
+use Rattle.sg_disk.specs.Disk.{Bytes, State, View, LeavesOnly}
+use Rattle.sg_log.specs.Frames.{HasRecords}
+use Rattle.sg_log.specs.Held.{Tail}
+use Rattle.sg_pool.specs.Counts.{HasGrown}
 use Rattle.sg_gate.specs.Superblock.{superblock}
 use Rattle.sg_gate.specs.declared.superblock.Super.{Super}
 use Rattle.sg_pool.specs.Pooled.{sizes}
@@ -13,7 +17,7 @@ use Rattle.sg_ops.specs.Table.{Table, table_of}
 use Rattle.sg_engine.specs.Engine.{IsStanding}
 use Rattle.sg_engine.specs.Running.{IsAllowed}
 use Rattle.sg_places.specs.Placed.{places_in}
-use Rattle.sg_open.proofs.Whole.{on_ok, opens1, opening_reads, opening_all, at_hand, not_found}
+use Rattle.sg_open.proofs.Whole.{on_ok, opens1, opening_reads, opening_all, at_hand, not_found, reads_behind, goes_on}
 use Rattle.sg_find.specs.declared.fault.OpenFault.TheVariants.{Disk, NotAStore}
 use Rattle.sg_open.proofs.Able.{refused_synced, refused_memory, refused_disk}
 use Rattle.sg_find.specs.Faults.{is_disk}
@@ -31,6 +35,54 @@ returns-in-Err-take_pool-clause-moments g c o tail ds told effect opens =
     let t : Table = table_of (λ p. (goal.RecordOp-dyn g p).record_meaning p.1) (λ p. (goal.RangeOp-dyn g p).range_meaning p.1) c.args.ops.now in
     opening_reads t o tail ds (g.D.Disk.view c.args.disk.now) (g.D.Disk.view c.sync_all.new.disk) (g.D.Disk.view c.find.new.disk)
     (on_ok c.sync_all.result c.if-is_err.ensures.value (c.sync_all.ensures.synced told)) opens (c.sync_all.ensures.moments told) (c.find.ensures.reads.any_moment told)
+
+pub returns-in-Err-clause-stopped : goal.returns-in-Err-clause-stopped
+returns-in-Err-clause-stopped g c told =
+    let t : Table = table_of (λ p. (goal.RecordOp-dyn g p).record_meaning p.1) (λ p. (goal.RangeOp-dyn g p).range_meaning p.1) c.args.ops.now in
+    inr (reads_behind t (g.D.Disk.view c.args.disk.now) (g.D.Disk.view c.sync_all.new.disk) (g.D.Disk.view c.find.new.disk)
+    (on_ok c.sync_all.result c.if-is_err.ensures.value (c.sync_all.ensures.synced told)) (c.sync_all.ensures.moments told) (c.find.ensures.reads.any_moment told))
+
+pub returns-in-Err-take_pool-clause-stopped : goal.returns-in-Err-take_pool-clause-stopped
+returns-in-Err-take_pool-clause-stopped g c told =
+    let t : Table = table_of (λ p. (goal.RecordOp-dyn g p).record_meaning p.1) (λ p. (goal.RangeOp-dyn g p).range_meaning p.1) c.args.ops.now in
+    inr (reads_behind t (g.D.Disk.view c.args.disk.now) (g.D.Disk.view c.sync_all.new.disk) (g.D.Disk.view c.find.new.disk)
+    (on_ok c.sync_all.result c.if-is_err.ensures.value (c.sync_all.ensures.synced told)) (c.sync_all.ensures.moments told) (c.find.ensures.reads.any_moment told))
+
+pub returns-in-Ok-repeat-clause-behind : goal.returns-in-Ok-repeat-clause-behind
+returns-in-Ok-repeat-clause-behind g c told =
+    let t : Table = table_of (λ p. (goal.RecordOp-dyn g p).record_meaning p.1) (λ p. (goal.RangeOp-dyn g p).range_meaning p.1) c.args.ops.now in
+    let v = g.D.Disk.view c.args.disk.now in
+    let v1 = g.D.Disk.view c.sync_all.new.disk in
+    let v2 = g.D.Disk.view c.find.new.disk in
+    let w = g.D.Disk.view c.repeat.new.disk in
+    let synced = on_ok c.sync_all.result c.if-is_err.ensures.value (c.sync_all.ensures.synced told) in
+    record {
+      mid = v1;
+      synced = synced;
+      before = c.sync_all.ensures.moments told;
+      behind = λ o tail ds effect opens. (let found = c.in-Ok.ensures.found o tail ds told synced.settled (opens1 t o tail ds v v1 v2 synced opens) in
+          goes_on t o tail ds v v1 v2 synced opens w (c.find.ensures.reads.any_moment told)
+          (subst (λ (k : ℕ). LeavesOnly v2 w (IsStanding o ds ds k)) (c.max-point.ensures ∙ found.point) (c.repeat.ensures.moments o ds told (sym found.super)
+          (at_hand t o tail ds v v1 v2 synced opens c.in-Ok.found c.in-Ok-take_pool.pool c.max-point.result (c.find.ensures.reads.unchanged told) effect found c.in-Ok-take_pool.ensures.new c.max-point.ensures))));
+    }
+
+pub returns-in-Err-repeat-clause-stopped : goal.returns-in-Err-repeat-clause-stopped
+returns-in-Err-repeat-clause-stopped g c told =
+    let t : Table = table_of (λ p. (goal.RecordOp-dyn g p).record_meaning p.1) (λ p. (goal.RangeOp-dyn g p).range_meaning p.1) c.args.ops.now in
+    let v = g.D.Disk.view c.args.disk.now in
+    let v1 = g.D.Disk.view c.sync_all.new.disk in
+    let v2 = g.D.Disk.view c.find.new.disk in
+    let w = g.D.Disk.view c.repeat.new.disk in
+    let synced = on_ok c.sync_all.result c.if-is_err.ensures.value (c.sync_all.ensures.synced told) in
+    inr (record {
+      mid = v1;
+      synced = synced;
+      before = c.sync_all.ensures.moments told;
+      behind = λ o tail ds effect opens. (let found = c.in-Ok.ensures.found o tail ds told synced.settled (opens1 t o tail ds v v1 v2 synced opens) in
+          goes_on t o tail ds v v1 v2 synced opens w (c.find.ensures.reads.any_moment told)
+          (subst (λ (k : ℕ). LeavesOnly v2 w (IsStanding o ds ds k)) (c.max-point.ensures ∙ found.point) (c.repeat.ensures.moments o ds told (sym found.super)
+          (at_hand t o tail ds v v1 v2 synced opens c.in-Ok.found c.in-Ok-take_pool.pool c.max-point.result (c.find.ensures.reads.unchanged told) effect found c.in-Ok-take_pool.ensures.new c.max-point.ensures))));
+    })
 
 pub repeat-requires-clause-great : goal.repeat-requires-clause-great
 repeat-requires-clause-great g c = let long = c.in-Ok.ensures.room.text in omega (arith, long, ap length c.deref_mut.ensures.value)
@@ -226,3 +278,34 @@ returns-in-Ok-repeat-clause-analysed g c told =
     let synced = on_ok c.sync_all.result c.if-is_err.ensures.value (c.sync_all.ensures.synced told) in
     let f = c.in-Ok.found in
     subst (λ (b : Bytes). IsAnalysed b f.geometry.base f.analysis) (synced.seen (log_area f.geometry)) (c.in-Ok.ensures.analysed told)
+
+pub returns-in-Err-clause-kept : goal.returns-in-Err-clause-kept
+returns-in-Err-clause-kept g c = let a = c.sync_all.ensures.handed in let b = c.find.ensures.reads.handed in omega (arith, a, b)
+
+pub returns-in-Err-take_pool-clause-kept : goal.returns-in-Err-take_pool-clause-kept
+returns-in-Err-take_pool-clause-kept g c = let a = c.sync_all.ensures.handed in let b = c.find.ensures.reads.handed in omega (arith, a, b)
+
+pub returns-in-Err-repeat-clause-kept : goal.returns-in-Err-repeat-clause-kept
+returns-in-Err-repeat-clause-kept g c = let a = c.sync_all.ensures.handed in let b = c.find.ensures.reads.handed in let k = c.repeat.ensures.kept in omega (arith, a, b, k)
+
+pub returns-in-Ok-repeat-clause-kept : goal.returns-in-Ok-repeat-clause-kept
+returns-in-Ok-repeat-clause-kept g c = let a = c.sync_all.ensures.handed in let b = c.find.ensures.reads.handed in let k = c.repeat.ensures.kept in omega (arith, a, b, k)
+
+-- a log that ended there and was written to
+shown_from : (v w z : View) (log log' : Tail) (gate : ℕ) → w.handed ≡ v.handed → log.gate ≡ gate → HasGrown log log' w z → IsShownEnd v z gate log'.gate
+shown_from v w z log log' gate same at grown = ⊎_elim (λ full. inl full) (λ more. inr (omega (arith, same, at, more))) grown
+
+pub returns-in-Ok-repeat-clause-shown : goal.returns-in-Ok-repeat-clause-shown
+returns-in-Ok-repeat-clause-shown g c told ds gate has =
+    let v = g.D.Disk.view c.args.disk.now in
+    let v1 = g.D.Disk.view c.sync_all.new.disk in
+    let v2 = g.D.Disk.view c.find.new.disk in
+    let s = c.in-Ok.found.geometry in
+    let a = c.sync_all.ensures.handed in
+    let b = c.find.ensures.reads.handed in
+    let synced = on_ok c.sync_all.result c.if-is_err.ensures.value (c.sync_all.ensures.synced told) in
+    let there = subst (λ (f : Bytes). HasRecords f s.base gate ds) (sym (synced.seen (log_area s))) has in
+    shown_from v v2 (g.D.Disk.view c.repeat.new.disk) c.in-Ok.found.log c.repeat.new.log gate (omega (arith, a, b)) (c.in-Ok.ensures.ended told synced.settled ds gate there) c.repeat.ensures.grown
+
+pub returns-in-Ok-repeat-clause-empty : goal.returns-in-Ok-repeat-clause-empty
+returns-in-Ok-repeat-clause-empty g c = c.repeat.ensures.empty c.in-Ok.ensures.empty

@@ -16,6 +16,7 @@ use Rattle.sg_find.specs.Faults.{is_disk}
 use Rattle.sg_find.specs.declared.fault.OpenFault.{OpenFault}
 use Rattle.sg_find.specs.declared.fault.OpenFault.TheVariants.{Disk}
 use Rattle.sg_find.proofs.Heeding.{gate_heeds, heeds_then}
+use Rattle.sg_pool.proofs.Counting.{grown_same, grown_then}
 use Rattle.sg_pool.specs.Pooled.{sizes}
 use Rattle.sg_open.specs.Refusals.{IsLate}
 use Rattle.sg_open.proofs.Causes.{header_late, page_late, err_same}
@@ -148,3 +149,20 @@ returns-in-Err-clause-late g c =
 
 pub returns-clause-late : goal.returns-clause-late
 returns-clause-late g c = err_same c.replay.result c.replay.ensures.late (λ e h. page_late g.D.Disk.told c.args.s.now.pages (sizes c.args.pool.now) (g.D.Disk.view c.args.disk.now) e h)
+
+pub returns-in-Err-clause-kept : goal.returns-in-Err-clause-kept
+returns-in-Err-clause-kept g c = c.lay_over.ensures.kept
+
+pub returns-in-Err-clause-grown : goal.returns-in-Err-clause-grown
+returns-in-Err-clause-grown g c = grown_same c.args.log.now (g.D.Disk.view c.args.disk.now) (g.D.Disk.view c.lay_over.new.disk) c.lay_over.ensures.kept
+
+pub returns-clause-kept : goal.returns-clause-kept
+returns-clause-kept g c = let a = c.lay_over.ensures.kept in let b = c.replay.ensures.kept in omega (arith, a, b)
+
+pub returns-clause-grown : goal.returns-clause-grown
+returns-clause-grown g c =
+    grown_then c.args.log.now c.args.log.now c.replay.new.log (g.D.Disk.view c.args.disk.now) (g.D.Disk.view c.lay_over.new.disk) (g.D.Disk.view c.replay.new.disk)
+    (grown_same c.args.log.now (g.D.Disk.view c.args.disk.now) (g.D.Disk.view c.lay_over.new.disk) c.lay_over.ensures.kept) c.replay.ensures.grown c.replay.ensures.kept
+
+pub returns-clause-empty : goal.returns-clause-empty
+returns-clause-empty g c = c.replay.ensures.empty

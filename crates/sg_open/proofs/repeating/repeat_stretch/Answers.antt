@@ -1,4 +1,4 @@
-use Rattle.std.proofs.Common.{◌≡◌, ◌+◌, ◌-◌, ◌<◌, ◌++◌, ℕ, List, [], None, IsTrue, Bool, true, false, Result, Ok, Err, OnErr, OnOk, take, sym, ap, ◌∙◌, subst, arith, length-take, refl}
+use Rattle.std.proofs.Common.{◌≡◌, ◌⊎◌, ⊎_elim, length, ◌+◌, ◌-◌, ◌<◌, ◌≤◌, ◌++◌, ℕ, List, [], None, IsTrue, Bool, true, false, Result, Ok, Err, OnErr, OnOk, take, sym, ap, ◌∙◌, subst, arith, length-take, refl}
 use Rattle.std.specs.Result.{is_err}
 use Rattle.sg_base.specs.declared.area.Area.{Area}
 use Rattle.sg_disk.specs.Disk.{View}
@@ -7,7 +7,10 @@ use Rattle.sg_gate.specs.declared.superblock.Super.{Super}
 use Rattle.sg_ops.specs.Table.{Table, table_of}
 use Rattle.sg_record.specs.Records.{Record}
 use Rattle.sg_log.specs.Frames.{Numbered, Frames, gate_after, numbered_in}
-use Rattle.sg_log.specs.Held.{Tail}
+use Rattle.sg_log.specs.Held.{Tail, forced}
+use Rattle.sg_log.proofs.Holding.{forced_empty}
+use Rattle.sg_pool.specs.Counts.{HasGrown}
+use Rattle.sg_pool.proofs.Counting.{grown_same, grown_then}
 use Rattle.sg_pool.specs.declared.pool.Pool.{Pool}
 use Rattle.sg_pool.specs.Units.{Geometry}
 use Rattle.sg_pool.specs.Pooled.{sizes}
@@ -269,3 +272,47 @@ returns-in-Err-redo-clause-late g c =
 
 pub returns-in-Err-clause-late : goal.returns-in-Err-clause-late
 returns-in-Err-clause-late g c = subst (λ (e : OpenFault). IsPageFault (sizes c.args.pool.now) e) (sym c.in-Err.ensures.fault) tt
+
+pub returns-in-Err-clause-grown : goal.returns-in-Err-clause-grown
+returns-in-Err-clause-grown g c = let e = c.read_stretch.ensures.reads.handed in grown_same c.args.log.now (g.D.Disk.view c.args.disk.now) (g.D.Disk.view c.read_stretch.new.disk) (omega (arith, e))
+
+pub returns-then-is_err-clause-grown : goal.returns-then-is_err-clause-grown
+returns-then-is_err-clause-grown g c = let e = c.read_stretch.ensures.reads.handed in grown_same c.args.log.now (g.D.Disk.view c.args.disk.now) (g.D.Disk.view c.read_stretch.new.disk) (omega (arith, e))
+
+pub returns-then-not-can_redo-clause-grown : goal.returns-then-not-can_redo-clause-grown
+returns-then-not-can_redo-clause-grown g c = let e = c.read_stretch.ensures.reads.handed in grown_same c.args.log.now (g.D.Disk.view c.args.disk.now) (g.D.Disk.view c.read_stretch.new.disk) (omega (arith, e))
+
+-- what is read before redo
+grown_behind : (log log' : Tail) (v w z : View) → w.handed ≡ v.handed → HasGrown log log' w z → w.handed ≤ z.handed → HasGrown log log' v z
+grown_behind log log' v w z same grown kept = grown_then log log log' v w z (grown_same log v w (omega (arith, same))) grown kept
+
+pub returns-in-Ok-redo-clause-grown : goal.returns-in-Ok-redo-clause-grown
+returns-in-Ok-redo-clause-grown g c = grown_behind c.args.log.now c.redo.new.log (g.D.Disk.view c.args.disk.now) (g.D.Disk.view c.read_stretch.new.disk) (g.D.Disk.view c.redo.new.disk) c.read_stretch.ensures.reads.handed c.redo.ensures.grown c.redo.ensures.kept
+
+pub returns-in-Err-redo-clause-grown : goal.returns-in-Err-redo-clause-grown
+returns-in-Err-redo-clause-grown g c = grown_behind c.args.log.now c.redo.new.log (g.D.Disk.view c.args.disk.now) (g.D.Disk.view c.read_stretch.new.disk) (g.D.Disk.view c.redo.new.disk) c.read_stretch.ensures.reads.handed c.redo.ensures.grown c.redo.ensures.kept
+
+pub returns-in-Err-clause-kept : goal.returns-in-Err-clause-kept
+returns-in-Err-clause-kept g c = let e = c.read_stretch.ensures.reads.handed in omega (arith, e)
+
+pub returns-then-is_err-clause-kept : goal.returns-then-is_err-clause-kept
+returns-then-is_err-clause-kept g c = let e = c.read_stretch.ensures.reads.handed in omega (arith, e)
+
+pub returns-then-not-can_redo-clause-kept : goal.returns-then-not-can_redo-clause-kept
+returns-then-not-can_redo-clause-kept g c = let e = c.read_stretch.ensures.reads.handed in omega (arith, e)
+
+pub returns-in-Ok-redo-clause-kept : goal.returns-in-Ok-redo-clause-kept
+returns-in-Ok-redo-clause-kept g c = let e = c.read_stretch.ensures.reads.handed in let k = c.redo.ensures.kept in omega (arith, e, k)
+
+pub returns-in-Err-redo-clause-kept : goal.returns-in-Err-redo-clause-kept
+returns-in-Err-redo-clause-kept g c = let e = c.read_stretch.ensures.reads.handed in let k = c.redo.ensures.kept in omega (arith, e, k)
+
+-- where nothing waited nothing does
+kept_empty : (log log' : Tail) → (log' ≡ log) ⊎ (log' ≡ forced log) → length log.buffer ≡ 0 → length log'.buffer ≡ 0
+kept_empty log log' kept none = ⊎_elim (λ same. ap (λ (l : Tail). length l.buffer) same ∙ none) (λ all. ap (λ (l : Tail). length l.buffer) all ∙ forced_empty log) kept
+
+pub returns-in-Ok-redo-clause-empty : goal.returns-in-Ok-redo-clause-empty
+returns-in-Ok-redo-clause-empty g c = kept_empty c.args.log.now c.redo.new.log c.redo.ensures.log_kept
+
+pub returns-in-Err-redo-clause-empty : goal.returns-in-Err-redo-clause-empty
+returns-in-Err-redo-clause-empty g c = kept_empty c.args.log.now c.redo.new.log c.redo.ensures.log_kept

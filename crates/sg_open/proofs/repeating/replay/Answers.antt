@@ -7,6 +7,7 @@ use Rattle.sg_ops.specs.Table.{Table, table_of}
 use Rattle.sg_record.specs.Records.{Record}
 use Rattle.sg_log.specs.Frames.{Numbered, LOG_END, gate_after}
 use Rattle.sg_log.specs.Held.{Tail}
+use Rattle.sg_pool.proofs.Counting.{grown_same, grown_then}
 use Rattle.sg_pool.specs.declared.pool.Pool.{Pool}
 use Rattle.sg_engine.specs.Engine.{Origin}
 use Rattle.sg_pool.specs.Units.{Geometry}
@@ -37,6 +38,9 @@ stretches-init g c = (
   omega arith,
   refl,
   λ o ds frames told same may h. none_done o c.args.point ds frames (g.D.Disk.view c.args.disk.now) c.args.log.now c.args.pool.now (c.args.steps.now - c.args.steps.now) h (omega arith),
+  omega arith,
+  grown_same c.args.log.now (g.D.Disk.view c.args.disk.now) (g.D.Disk.view c.args.disk.now) (omega arith),
+  λ none. none,
 )
 
 pub stretches-preserved : goal.stretches-preserved
@@ -59,6 +63,9 @@ stretches-preserved g c = (
       more_done t o c.args.point ds frames v w c.args.log.now c.stretches.log c.stretches.pool c.stretches.at (c.stretches.steps - c.args.steps.now) may d (g.D.Disk.view c.repeat_stretch.new.disk) c.repeat_stretch.new.log c.repeat_stretch.new.pool c.in-Ok.size (c.repeat_stretch.new.steps - c.stretches.steps) (c.repeat_stretch.new.steps - c.args.steps.now)
       (c.in-Ok.ensures.repeats o ds d.front d.back told same (may_still t o c.args.point ds frames v w c.args.log.now c.stretches.log c.stretches.pool c.stretches.at (c.stretches.steps - c.args.steps.now) may d) d.now d.here (end_still t o c.args.point ds frames v w c.args.log.now c.stretches.log c.stretches.pool c.stretches.at (c.stretches.steps - c.args.steps.now) may d (c.durable-gate.result - c.args.s.now.base) end))
       (c.repeat_stretch.ensures.moments o ds d.front d.back told same (may_still t o c.args.point ds frames v w c.args.log.now c.stretches.log c.stretches.pool c.stretches.at (c.stretches.steps - c.args.steps.now) may d) d.now d.here (end_still t o c.args.point ds frames v w c.args.log.now c.stretches.log c.stretches.pool c.stretches.at (c.stretches.steps - c.args.steps.now) may d (c.durable-gate.result - c.args.s.now.base) end)) (omega (arith, a, b)),
+  (let a = c.stretches.invariant.7 in let b = c.repeat_stretch.ensures.kept in omega (arith, a, b)),
+  grown_then c.args.log.now c.stretches.log c.repeat_stretch.new.log (g.D.Disk.view c.args.disk.now) (g.D.Disk.view c.stretches.disk) (g.D.Disk.view c.repeat_stretch.new.disk) c.stretches.invariant.8 c.repeat_stretch.ensures.grown c.repeat_stretch.ensures.kept,
+  λ none. c.repeat_stretch.ensures.empty (c.stretches.invariant.9 none),
 )
 
 pub returns-in-Err-clause-refused : goal.returns-in-Err-clause-refused
@@ -109,3 +116,22 @@ returns-clause-moments g c o ds frames told same may h = (c.stretches.invariant.
 
 pub returns-in-Err-clause-late : goal.returns-in-Err-clause-late
 returns-in-Err-clause-late g c = subst (λ (x : Geometry). IsPageFault x c.in-Err.fault) c.stretches.invariant.5 c.in-Err.ensures.late
+
+pub returns-in-Err-clause-kept : goal.returns-in-Err-clause-kept
+returns-in-Err-clause-kept g c = let a = c.stretches.invariant.7 in let b = c.repeat_stretch.ensures.kept in omega (arith, a, b)
+
+pub returns-in-Err-clause-grown : goal.returns-in-Err-clause-grown
+returns-in-Err-clause-grown g c =
+    grown_then c.args.log.now c.stretches.log c.repeat_stretch.new.log (g.D.Disk.view c.args.disk.now) (g.D.Disk.view c.stretches.disk) (g.D.Disk.view c.repeat_stretch.new.disk) c.stretches.invariant.8 c.repeat_stretch.ensures.grown c.repeat_stretch.ensures.kept
+
+pub returns-clause-kept : goal.returns-clause-kept
+returns-clause-kept g c = c.stretches.invariant.7
+
+pub returns-clause-grown : goal.returns-clause-grown
+returns-clause-grown g c = c.stretches.invariant.8
+
+pub returns-in-Err-clause-empty : goal.returns-in-Err-clause-empty
+returns-in-Err-clause-empty g c = λ none. c.repeat_stretch.ensures.empty (c.stretches.invariant.9 none)
+
+pub returns-clause-empty : goal.returns-clause-empty
+returns-clause-empty g c = c.stretches.invariant.9

@@ -2,6 +2,7 @@ use Rattle.std.proofs.Common.{◌≡◌, ◌-◌, ◌≤◌, IsTrue, [], length,
 use Rattle.sg_ops.specs.Table.{table_of}
 use Rattle.sg_record.specs.Records.{Record}
 use Rattle.sg_log.specs.Frames.{Numbered}
+use Rattle.sg_pool.specs.Counts.{HasGrown}
 use Rattle.sg_pool.specs.Pooled.{sizes}
 use Rattle.sg_engine.specs.Engine.{Origin}
 use Rattle.sg_open.specs.Repeatable.{MayRepeat, IsRepeating}
@@ -13,6 +14,7 @@ invariant-stretches g l = (l.at ≤ l.end) × (length l.space ≡ length l.fn.sp
     × ((o : Origin) (ds : List Numbered) (frames : List (List Record)) → IsTrue g.D.Disk.told → o.super ≡ l.s →
     MayRepeat (table_of (λ p. (goal.RecordOp-dyn g p).record_meaning p.1) (λ p. (goal.RangeOp-dyn g p).range_meaning p.1) l.ops) o l.point l.fn.log.gate ds →
     IsRepeating o l.point ds [] frames (g.D.Disk.view l.fn.disk) l.fn.log l.fn.pool → IsDone o l.point ds frames (g.D.Disk.view l.fn.disk) (g.D.Disk.view l.disk) l.fn.log l.log l.pool l.at (l.steps - l.fn.steps))
+    × ((g.D.Disk.view l.fn.disk).handed ≤ (g.D.Disk.view l.disk).handed) × HasGrown l.fn.log l.log (g.D.Disk.view l.fn.disk) (g.D.Disk.view l.disk) × (length l.fn.log.buffer ≡ 0 → length l.log.buffer ≡ 0)
 
 abbrev pub decreases-stretches : goal.decreases-stretches
 decreases-stretches g l = l.end - l.at

@@ -6,19 +6,29 @@ use Rattle.sg_shown.proofs.Holding.{engine_is}
 use Rattle.sg_paged.proofs.Behind.{room_same, live_row, act_means, view_acts}
 use Rattle.sg_paged.proofs.actions.act.Goals as goal
 
+pub quiet-requires : goal.quiet-requires
+quiet-requires g c = record { idle = λ told. (c.requires.can.can told).rest.idle }
+
 pub act-requires : goal.act-requires
 act-requires g c = λ told1.
     let can = c.requires.can in
-    let mm = c.quiet.ensures.means can.by can.sizes can.from can.means in
+    let told = subst (λ y. (g.E.Engine.view y).Told) c.quiet.ensures.engine told1 in
+    let mm = c.quiet.ensures.means can.by can.sizes (can.from told) (can.means told) in
     let k = mm.keeps told1 in
     let rest = k.rest c.quiet.ensures.begun in
-    let at = can.can (subst (λ y. (g.E.Engine.view y).Told) c.quiet.ensures.engine told1) in
+    let at = can.can told in
     record {
       rest = rest;
       row = λ nz.
           let live = subst (λ y. is_in c.args.txn.0 (tally (g.E.Engine.view y).steps).live ≡ true) (sym c.quiet.ensures.engine) (at.live nz) in
           (live_row {a = over c.quiet.new.acts} c.args.txn.0 k rest.system live, live);
     }
+
+pub returns-clause-disk : goal.returns-clause-disk
+returns-clause-disk g c = ap (λ y. (g.E.Engine.view y).disk) (c.act.ensures.engine ∙ c.quiet.ensures.engine)
+
+pub returns-clause-gate : goal.returns-clause-gate
+returns-clause-gate g c = ap (λ y. (g.E.Engine.view y).gate) (c.act.ensures.engine ∙ c.quiet.ensures.engine)
 
 pub returns-clause-means : goal.returns-clause-means
 returns-clause-means g c = λ t z from m.

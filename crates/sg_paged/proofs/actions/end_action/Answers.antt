@@ -12,7 +12,7 @@ pub end_action-requires : goal.end_action-requires
 end_action-requires g c = λ told.
     let can = c.requires.can in
     let at = can.can told in
-    (acts_txn can.by (basis g.E.Engine.recovers can.sizes) can.from (g.E.Engine.view c.args.acts.now.engine).steps c.args.acts.now.begun c.args.acts.now.actor.txn.0 at.action at.acting).1 ∙ at.own
+    (acts_txn can.by (basis g.E.Engine.recovers can.sizes) (can.from told) (g.E.Engine.view c.args.acts.now.engine).steps c.args.acts.now.begun c.args.acts.now.actor.txn.0 at.action at.acting).1 ∙ at.own
 
 pub returns-clause-means : goal.returns-clause-means
 returns-clause-means g c = λ t z from m.
@@ -38,7 +38,7 @@ returns-clause-ends g c = λ t z from m told action e acts own.
     let lsn = (g.E.Engine.view c.end_action.new.self.engine).tried in
     let both = subst (λ (u : ℕ). Appends t (basis g.E.Engine.recovers z) (led t z from (shown c.args.acts.now)) (led t z from (shown c.end_action.new.self)) (record { lsn = lsn; is = TopEnd u actor.last actor.before c.args.note.now })
     × OnOk c.end_action.result (Appended t (basis g.E.Engine.recovers z) (led t z from (shown c.args.acts.now)) (led t z from (shown c.end_action.new.self)) (record { lsn = lsn; is = TopEnd u actor.last actor.before c.args.note.now }))) who (
-      appends_of g.E.Engine.recovers a b t z from lsn (TopEnd actor.txn.0 actor.last actor.before c.args.note.now) a.engine refl (record { above = may.above; formed = may.formed; moments = may.moments }),
+      appends_of g.E.Engine.recovers a b t z from lsn (TopEnd actor.txn.0 actor.last actor.before c.args.note.now) a.engine refl m.size (record { above = may.above; formed = may.formed; moments = may.moments }),
       on_ok3 c.end_action.result (λ tells begun d. let w = tells told in done_appended {recovers = g.E.Engine.recovers} {a = a} {b = b} a.engine lsn (TopEnd actor.txn.0 actor.last actor.before c.args.note.now) refl (record {
         told = w;
         come = record { base = (d.logged told).base; steps = may.gone w; tail = k.counts.tail; durable = (d.logged told).durable };

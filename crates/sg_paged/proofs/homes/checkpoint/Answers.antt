@@ -9,19 +9,31 @@ use Rattle.sg_paged.proofs.Behind.{room_same, acting_is}
 use Rattle.sg_paged.proofs.Rested.{stay_means, rested_of, again_can}
 use Rattle.sg_paged.proofs.homes.checkpoint.Goals as goal
 
+pub quiet-requires : goal.quiet-requires
+quiet-requires g c = record { idle = λ told. (c.requires.can.can told).idle }
+
+pub checkpoint-requires : goal.checkpoint-requires
+checkpoint-requires g c = record {
+  rest = λ told1.
+      let can = c.requires.can in
+      let told = subst (λ y. (g.E.Engine.view y).Told) c.quiet.ensures.engine told1 in
+      let mm = c.quiet.ensures.means can.by can.sizes (can.from told) (can.means told) in
+      (mm.keeps told1).rest c.quiet.ensures.begun;
+}
+
 pub again-requires-clause-can : goal.again-requires-clause-can
 again-requires-clause-can g c = λ told2.
     let can = c.requires.can in
-    let t = can.by in
-    let z = can.sizes in
-    let from = can.from in
-    let mm = c.quiet.ensures.means t z from can.means in
     let k = c.checkpoint.ensures in
-    let means = stay_means (over c.quiet.new.acts) (over c.checkpoint.new.self) t z from c.checkpoint.result mm (record { maps = k.maps; unfreed = k.unfreed; rows = k.rows; actor = k.actor; begun = k.begun; begin = λ o. absurd (let x : true ≡ false = sym o ∙ (k.begun ∙ c.quiet.ensures.begun) in cc); limits = refl }) (k.means t from mm.since.stands) k.counts.told k.counts.silent (k.stays t from mm.since.stands) (k.kept (g.E.Engine.limits z.pages z.bands) t from mm.since.stands) in
     let told1 = k.counts.told told2 in
     let told = subst (λ y. (g.E.Engine.view y).Told) c.quiet.ensures.engine told1 in
+    let t = can.by in
+    let z = can.sizes in
+    let from = can.from told in
+    let mm = c.quiet.ensures.means t z from (can.means told) in
+    let means = stay_means (over c.quiet.new.acts) (over c.checkpoint.new.self) t z from c.checkpoint.result mm (record { maps = k.maps; unfreed = k.unfreed; rows = k.rows; actor = k.actor; begun = k.begun; begin = λ o. absurd (let x : true ≡ false = sym o ∙ (k.begun ∙ c.quiet.ensures.begun) in cc); limits = refl }) (k.means t from mm.since.stands) k.counts.told k.counts.silent (k.stays t from mm.since.stands) (k.kept (g.E.Engine.limits z.pages z.bands) t from mm.since.stands) in
     let stays = c.in-Ok.ensures.stays t from mm.since.stands in
-    again_can (over c.args.acts.now) (over c.checkpoint.new.self) t z from c.acting-who.result c.acting-who.ensures (can.means.keeps told) (means.keeps told2) (k.begun ∙ c.quiet.ensures.begun) ((stays.stays told1).steps ∙ ap (λ y. (g.E.Engine.view y).steps) c.quiet.ensures.engine)
+    again_can (over c.args.acts.now) (over c.checkpoint.new.self) t z from c.acting-who.result c.acting-who.ensures ((can.means told).keeps told) (means.keeps told2) (k.begun ∙ c.quiet.ensures.begun) ((stays.stays told1).steps ∙ ap (λ y. (g.E.Engine.view y).steps) c.quiet.ensures.engine)
 
 pub returns-in-Ok-clause-counts : goal.returns-in-Ok-clause-counts
 returns-in-Ok-clause-counts g c =
@@ -52,7 +64,7 @@ returns-in-Ok-clause-rests g c = λ t z from m told e idle.
     let w = subst (λ y. (g.E.Engine.view y).Told) (sym c.again.ensures.engine) told2 in
     let at = ap g.E.Engine.view c.quiet.ensures.engine in
     let stands = k.means t from mm.since.stands in (
-      rests_of g.E.Engine.recovers a b t z from mid.engine at (subst (λ y. Moments (g.E.Engine.recovers t) t (led from mid.engine) (led from (g.E.Engine.view y)) mid.engine.steps) (sym c.again.ensures.engine) (h.moments t from mm.since.stands told1)),
+      rests_of g.E.Engine.recovers a b t z from mid.engine at mm.size (subst (λ y. Moments (g.E.Engine.recovers t) t (led from mid.engine) (led from (g.E.Engine.view y)) mid.engine.steps) (sym c.again.ensures.engine) (h.moments t from mm.since.stands told1)),
       (
         rested_of g.E.Engine.recovers a b t z from mid.engine at (subst (λ y. Stayed (led from mid.engine) (led from (g.E.Engine.view y))) (sym c.again.ensures.engine) (stays.stays told1)) means w (record { law = g.met.E.Engine.lawful _ t from means.since.stands; first = g.met.E.Engine.durable_first _ w; images = g.met.E.Engine.images _ t from means.since.stands w })
             (room_then c.quiet.ensures.room (room_then (room_same mid one k.maps k.unfreed) (room_same one b c.again.ensures.maps c.again.ensures.unfreed))) (c.again.ensures.acts t from stands told2 ∙ acting_is c.args.acts.now.begun c.args.acts.now.actor.txn c.acting-who.result c.acting-who.ensures),
@@ -76,4 +88,4 @@ pub returns-in-Err-clause-rests : goal.returns-in-Err-clause-rests
 returns-in-Err-clause-rests g c = λ t z from m told e idle.
     let mm = c.quiet.ensures.means t z from m in
     let told1 = subst (λ y. (g.E.Engine.view y).Told) (sym c.quiet.ensures.engine) told in
-    (rests_of g.E.Engine.recovers (over c.args.acts.now) (over c.checkpoint.new.self) t z from (g.E.Engine.view c.quiet.new.acts.engine) (ap g.E.Engine.view c.quiet.ensures.engine) (c.checkpoint.ensures.moments t from mm.since.stands told1), tt)
+    (rests_of g.E.Engine.recovers (over c.args.acts.now) (over c.checkpoint.new.self) t z from (g.E.Engine.view c.quiet.new.acts.engine) (ap g.E.Engine.view c.quiet.ensures.engine) mm.size (c.checkpoint.ensures.moments t from mm.since.stands told1), tt)

@@ -27,7 +27,7 @@ returns-clause-rests g c = λ t z from m told e idle.
     let stands = k.means t from m.since.stands in
     let stays = (look_call from k.rests (k.looks t from m.since.stands)).stays in
     let means = stay_means a b t z from c.flush.result m same stands k.rests.counts.told (silent_of c.flush.result (g.E.Engine.view c.flush.new.self.engine).failed (λ w. g.met.E.Engine.told_whole _ w) k.rests.counts.failed) stays (k.kept (g.E.Engine.limits z.pages z.bands) t from m.since.stands) in (
-      rests_of g.E.Engine.recovers a b t z from a.engine refl ((k.looks t from m.since.stands).moments told),
+      rests_of g.E.Engine.recovers a b t z from a.engine refl m.size ((k.looks t from m.since.stands).moments told),
       on_ok2 c.flush.result (λ s f. let w = s.told told in (
         rested_of g.E.Engine.recovers a b t z from a.engine refl (s.stays told) means w (record { law = g.met.E.Engine.lawful _ t from stands; first = g.met.E.Engine.durable_first _ w; images = g.met.E.Engine.images _ t from stands w }) (room_of a b same) (λ j. acting (k.begun j) (k.actor j).txn.0),
         f w,

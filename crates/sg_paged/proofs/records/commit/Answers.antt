@@ -6,13 +6,17 @@ use Rattle.sg_paged.proofs.Behind.{done_appended, on_ok2, live_row}
 use Rattle.sg_paged.proofs.Recorded.{Stays, room_stays, commit_means}
 use Rattle.sg_paged.proofs.records.commit.Goals as goal
 
+pub quiet-requires : goal.quiet-requires
+quiet-requires g c = record { idle = λ told. (c.requires.can.can told).rest.idle }
+
 pub commit-requires : goal.commit-requires
 commit-requires g c = λ told1.
     let can = c.requires.can in
-    let mm = c.quiet.ensures.means can.by can.sizes can.from can.means in
+    let told = subst (λ y. (g.E.Engine.view y).Told) c.quiet.ensures.engine told1 in
+    let mm = c.quiet.ensures.means can.by can.sizes (can.from told) (can.means told) in
     let k = mm.keeps told1 in
     let rest = k.rest c.quiet.ensures.begun in
-    let at = can.can (subst (λ y. (g.E.Engine.view y).Told) c.quiet.ensures.engine told1) in
+    let at = can.can told in
     record { rest = rest; row = live_row {a = over c.quiet.new.acts} c.args.txn.0 k rest.system (subst (λ y. Rattle.sg_recovery.specs.Log.is_in c.args.txn.0 (Rattle.sg_recovery.specs.Log.tally (g.E.Engine.view y).steps).live ≡ Rattle.std.proofs.Common.true) (sym c.quiet.ensures.engine) at.live); live = subst (λ y. Rattle.sg_recovery.specs.Log.is_in c.args.txn.0 (Rattle.sg_recovery.specs.Log.tally (g.E.Engine.view y).steps).live ≡ Rattle.std.proofs.Common.true) (sym c.quiet.ensures.engine) at.live }
 
 pub returns-clause-means : goal.returns-clause-means
@@ -37,7 +41,7 @@ returns-clause-commits g c = λ t z from m told e idle.
     let at = ap g.E.Engine.view c.quiet.ensures.engine in (
       may.lsn,
       may.last,
-      appends_of g.E.Engine.recovers (over c.args.acts.now) new t z from may.lsn (Commit c.args.txn.0 may.last) mid.engine at (record { above = may.above; formed = may.formed; moments = may.moments }),
+      appends_of g.E.Engine.recovers (over c.args.acts.now) new t z from may.lsn (Commit c.args.txn.0 may.last) mid.engine at mm.size (record { above = may.above; formed = may.formed; moments = may.moments }),
       on_ok2 c.commit.result (λ tells d. let w = tells told1 in (
         done_appended {recovers = g.E.Engine.recovers} {a = over c.args.acts.now} {b = new} mid.engine may.lsn (Commit c.args.txn.0 may.last) at (record {
           told = w;

@@ -3,6 +3,12 @@ use Rattle.sg_shown.specs.Shown.{over}
 use Rattle.sg_paged.proofs.Behind.{means_with}
 use Rattle.sg_paged.proofs.resting.broken.Goals as goal
 
+pub returns-clause-disk : goal.returns-clause-disk
+returns-clause-disk g c = ap (λ y. (g.E.Engine.view y).disk) c.report.ensures.engine
+
+pub returns-clause-gate : goal.returns-clause-gate
+returns-clause-gate g c = ap (λ y. (g.E.Engine.view y).gate) c.report.ensures.engine
+
 pub returns-clause-tail : goal.returns-clause-tail
 returns-clause-tail g c = ap (λ y. (g.E.Engine.view y).tail) c.report.ensures.engine
 

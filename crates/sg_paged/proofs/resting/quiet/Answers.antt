@@ -1,11 +1,8 @@
-use Rattle.std.proofs.Common.{◌≡◌, true, sym, ap, subst, refl, List}
-use Rattle.sg_actions.specs.Rows.{HasRow}
+use Rattle.std.proofs.Common.{◌≡◌, sym, ap, subst, refl}
 use Rattle.sg_actions.specs.Steps.{ended, repeated}
 use Rattle.sg_actions.specs.declared.rows.Actor.{Actor}
-use Rattle.sg_actions.specs.declared.rows.Row.{Row}
-use Rattle.sg_store.specs.Engine.{is_going}
 use Rattle.sg_shown.specs.Shown.{over}
-use Rattle.sg_shown.proofs.Calls.{room_settled, means_next, row_after}
+use Rattle.sg_shown.proofs.Calls.{room_settled, means_next}
 use Rattle.sg_shown.proofs.Holding.{idle_ended}
 use Rattle.sg_paged.proofs.resting.quiet.Goals as goal
 
@@ -26,6 +23,5 @@ returns-clause-means g c = λ t z from m.
         system = ap (λ (x : Actor). x.txn.0) k.actor;
         freed = record { pages = k.pages.none; bands = k.bands.none };
       };
-      rows = λ u e. subst (λ (xs : List Row). HasRow xs u) (sym k.rows) (row_after a.rows a.actor.txn a.actor.last u (h.rows u (subst (λ y. is_going u (g.E.Engine.view y).steps ≡ true) k.engine e)));
       now = ap (λ y. repeated t from (g.E.Engine.view y).steps) k.engine;
     })

@@ -13,7 +13,7 @@ end_undo-requires g c = λ told.
     let can = c.requires.can in
     let at = can.can told in
     record {
-      acts = (acts_txn can.by (basis g.E.Engine.recovers can.sizes) can.from (g.E.Engine.view c.args.acts.now.engine).steps c.args.acts.now.begun c.args.acts.now.actor.txn.0 at.acts.action at.acts.acting).1 ∙ at.acts.own;
+      acts = (acts_txn can.by (basis g.E.Engine.recovers can.sizes) (can.from told) (g.E.Engine.view c.args.acts.now.engine).steps c.args.acts.now.begun c.args.acts.now.actor.txn.0 at.acts.action at.acts.acting).1 ∙ at.acts.own;
       n = at.top;
       rest = at.rest;
       notes = at.last;
@@ -44,7 +44,7 @@ returns-clause-ends g c = λ t z from m told action e acts own n ns notes next.
     let lsn = (g.E.Engine.view c.end_undo.new.self.engine).tried in
     let both = subst (λ (u : ℕ). Appends t (basis g.E.Engine.recovers z) (led t z from (shown c.args.acts.now)) (led t z from (shown c.end_undo.new.self)) (record { lsn = lsn; is = CompEnd u actor.last c.args.after })
     × OnOk c.end_undo.result (Appended t (basis g.E.Engine.recovers z) (led t z from (shown c.args.acts.now)) (led t z from (shown c.end_undo.new.self)) (record { lsn = lsn; is = CompEnd u actor.last c.args.after }))) who (
-      appends_of g.E.Engine.recovers a b t z from lsn (CompEnd actor.txn.0 actor.last c.args.after) a.engine refl (record { above = may.above; formed = may.formed; moments = may.moments }),
+      appends_of g.E.Engine.recovers a b t z from lsn (CompEnd actor.txn.0 actor.last c.args.after) a.engine refl m.size (record { above = may.above; formed = may.formed; moments = may.moments }),
       on_ok3 c.end_undo.result (λ tells begun d. let w = tells told in done_appended {recovers = g.E.Engine.recovers} {a = a} {b = b} a.engine lsn (CompEnd actor.txn.0 actor.last c.args.after) refl (record {
         told = w;
         come = record { base = (d.logged told).base; steps = may.gone w; tail = k.counts.tail; durable = (d.logged told).durable };

@@ -7,7 +7,7 @@ use Rattle.sg_actions.specs.Led.{Stayed}
 use Rattle.sg_actions.specs.PuttingBack.{UndoStepped}
 use Rattle.sg_actions.specs.View.{IsKept}
 use Rattle.sg_actions.proofs.Given.{next_first}
-use Rattle.sg_recovery.specs.Log.{tally, notes_of}
+use Rattle.sg_recovery.specs.Log.{tally, notes_of, is_in}
 use Rattle.sg_shown.specs.Shown.{over, Means}
 use Rattle.sg_shown.proofs.Calls.{room_then}
 use Rattle.sg_paged.proofs.Behind.{room_same, acting_is}
@@ -15,14 +15,28 @@ use Rattle.sg_paged.proofs.Rested.{Same, stay_means, rested_of, again_can}
 use Rattle.sg_paged.proofs.Undone.{undoes_means, undo_changes, undo_begun, changes_moved}
 use Rattle.sg_paged.proofs.undoing.undo_step.Goals as goal
 
+pub undo_step-requires : goal.undo_step-requires
+undo_step-requires g c = λ told1.
+    let can = c.requires.can in
+    let told = subst (λ y. (g.E.Engine.view y).Told) c.quiet.ensures.engine told1 in
+    let mm = c.quiet.ensures.means can.by can.sizes (can.from told) (can.means told) in
+    let k = mm.keeps told1 in
+    let at = can.can told in
+    record { chain = k.kept.chain; rest = k.rest c.quiet.ensures.begun; live = subst (λ y. is_in c.args.txn.0 (tally (g.E.Engine.view y).steps).live ≡ true) (sym c.quiet.ensures.engine) at.live; within = Rattle.std.proofs.Common.le_refl _ }
+
+pub quiet-requires : goal.quiet-requires
+quiet-requires g c = record { idle = λ told. (c.requires.can.can told).rest.idle }
+
 pub again-requires-clause-can : goal.again-requires-clause-can
 again-requires-clause-can g c = λ told2.
     let can = c.requires.can in
+    let k = c.in-Ok-None.ensures in
+    let told1 = k.counts.told told2 in
+    let told = subst (λ y. (g.E.Engine.view y).Told) c.quiet.ensures.engine told1 in
     let t = can.by in
     let z = can.sizes in
-    let from = can.from in
-    let mm = c.quiet.ensures.means t z from can.means in
-    let k = c.in-Ok-None.ensures in
+    let from = can.from told in
+    let mm = c.quiet.ensures.means t z from (can.means told) in
     let mid = over c.quiet.new.acts in
     let one = over c.undo_step.new.self in
     let left = subst (λ (o : Option ℕ). UndoStepped (map_bands_of (length mid.maps.pages) (length mid.maps.bands)) t (led from mid.engine) (led from one.engine) mid.rows mid.actor one.actor c.args.txn.0 c.args.txn.0 c.undo_step.new.into o) c.in-Ok-None.field-0-is (k.did t from mm.since.stands) in
@@ -30,9 +44,7 @@ again-requires-clause-can g c = λ told2.
     let same : Same mid one = record { maps = k.maps; unfreed = k.unfreed; rows = k.rows; actor = left.actor_is; begun = begun ∙ sym c.quiet.ensures.begun; begin = λ o. absurd (let x : true ≡ false = sym o ∙ begun in cc); limits = refl } in
     let stands = k.means t from mm.since.stands in
     let means1 : Means one t z from = stay_means {T = Option ℕ} mid one t z from (Ok None) mm same stands k.counts.told tt left.stays (λ w kept. subst (λ (x : Maps). IsKept t (g.E.Engine.limits z.pages z.bands) (led from one.engine) x one.rows one.actor) (sym k.maps) ((k.undoes (g.E.Engine.limits z.pages z.bands) t from mm.since.stands w kept).gone (left.stays.told w)).kept) in
-    let told1 = k.counts.told told2 in
-    let told = subst (λ y. (g.E.Engine.view y).Told) c.quiet.ensures.engine told1 in
-    again_can (over c.args.acts.now) one t z from c.acting-who.result c.acting-who.ensures (can.means.keeps told) (means1.keeps told2) begun ((left.stays.stays told1).steps ∙ ap (λ y. (g.E.Engine.view y).steps) c.quiet.ensures.engine)
+    again_can (over c.args.acts.now) one t z from c.acting-who.result c.acting-who.ensures ((can.means told).keeps told) (means1.keeps told2) begun ((left.stays.stays told1).steps ∙ ap (λ y. (g.E.Engine.view y).steps) c.quiet.ensures.engine)
 
 pub again-requires-clause-quiet : goal.again-requires-clause-quiet
 again-requires-clause-quiet g c = c.in-Ok-None.ensures.begun ∙ (ap (λ (o : Option ℕ). is_some o || c.quiet.new.acts.begun) c.in-Ok-None.field-0-is ∙ c.quiet.ensures.begun)

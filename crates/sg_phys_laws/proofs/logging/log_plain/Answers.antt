@@ -1,3 +1,7 @@
+use Rattle.std.proofs.Common.{sym, subst}
+use Rattle.sg_pool.specs.Pooled.{sizes}
+use Rattle.sg_engine.specs.Calls.{WaitsFrame}
+use Rattle.sg_engine.proofs.Waits.{waits_appended}
 use Rattle.std.proofs.Common.{inl, refl, ap, arith}
 use Rattle.sg_record.specs.Shown.{shown}
 use Rattle.sg_phys_laws.proofs.Numbers.{place_late, placed_below, grown_kept, near}
@@ -42,3 +46,12 @@ returns-clause-past g c e = past_end c.args.engine.now.log (shown c.args.r.now) 
 pub returns-clause-hands : goal.returns-clause-hands
 returns-clause-hands g c = hands_record c.args.engine.now.log c.append.new.self.log (shown c.args.r.now) (g.D.Disk.view c.args.engine.now.disk).handed (g.D.Disk.view c.append.new.self.disk).handed c.append.result c.requires.range
     (λ room. ap (λ d. (g.D.Disk.view d).handed) (c.append.ensures.no_call room)) c.append.ensures.handed c.append.ensures.log
+
+pub returns-clause-counts : goal.returns-clause-counts
+returns-clause-counts g c = record { later = c.append.ensures.later; heeded = c.append.ensures.heeded; hands = c.append.ensures.grown; size = ap sizes c.append.ensures.pool }
+
+pub returns-clause-waits : goal.returns-clause-waits
+returns-clause-waits g c = on_ok c.append.result c.append.ensures.log (λ is. subst WaitsFrame (sym is) (waits_appended c.args.engine.now.log (shown c.args.r.now) c.requires.range))
+
+pub returns-clause-failed : goal.returns-clause-failed
+returns-clause-failed g c o ds ps told e lies is = c.append.ensures.failed is

@@ -1,3 +1,4 @@
+use Rattle.sg_phys_laws.proofs.Counted.{not_called}
 use Rattle.std.proofs.Common.{◌<◌, inl, refl, arith}
 use Rattle.sg_record.specs.Shown.{shown}
 use Rattle.sg_pool.specs.Pooled.{sizes}
@@ -52,3 +53,15 @@ returns-clause-within g c = within_end c.args.engine.now.log (shown c.args.r.now
 
 pub returns-clause-past : goal.returns-clause-past
 returns-clause-past g c e = past_end c.args.engine.now.log (shown c.args.r.now) c.place.result c.place.ensures (c.change_band.ensures.log_end e)
+
+pub returns-then-b-bands-clause-counts : goal.returns-then-b-bands-clause-counts
+returns-then-b-bands-clause-counts g c = not_called (g.D.Disk.view c.args.engine.now.disk) c.args.engine.now.log c.args.engine.now.pool
+
+pub returns-then-b-bands-clause-failed : goal.returns-then-b-bands-clause-failed
+returns-then-b-bands-clause-failed g c lt is = absurd (omega (arith, lt, c.if-b-bands.true, c.bands.ensures))
+
+pub returns-clause-counts : goal.returns-clause-counts
+returns-clause-counts g c = record { later = c.change_band.ensures.later; heeded = c.change_band.ensures.heeded; hands = c.change_band.ensures.grown; size = c.change_band.ensures.size }
+
+pub returns-clause-failed : goal.returns-clause-failed
+returns-clause-failed g c lt is = c.change_band.ensures.failed is

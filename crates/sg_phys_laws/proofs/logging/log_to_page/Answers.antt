@@ -1,3 +1,5 @@
+use Rattle.std.proofs.Common.{ℕ, Err}
+use Rattle.sg_phys_laws.proofs.Counted.{not_called, counted_then, risen_behind, lies_page}
 use Rattle.std.proofs.Common.{◌<◌, ◌∙◌, inl, sym, ap, subst, arith}
 use Rattle.sg_base.specs.Op.{op_of}
 use Rattle.sg_record.specs.Shown.{shown}
@@ -78,3 +80,29 @@ returns-clause-within g c = within_end c.load_page.new.self.log (shown c.args.r.
 
 pub returns-clause-past : goal.returns-clause-past
 returns-clause-past g c e = past_end c.load_page.new.self.log (shown c.args.r.now) c.place-2.result c.place-2.ensures (c.change_page.ensures.log_end e)
+
+pub returns-then-p-pages-clause-counts : goal.returns-then-p-pages-clause-counts
+returns-then-p-pages-clause-counts g c = not_called (g.D.Disk.view c.args.engine.now.disk) c.args.engine.now.log c.args.engine.now.pool
+
+pub returns-then-p-pages-clause-failed : goal.returns-then-p-pages-clause-failed
+returns-then-p-pages-clause-failed g c o ds ps told e lies is =
+    let lt = lies_page _ (shown c.args.r.now) c.args.p.0 (op_of c.args.op.now) c.requires.says lies in
+    absurd (omega (arith, lt, c.if-p-pages.true, c.pages.ensures))
+
+pub returns-in-Err-clause-counts : goal.returns-in-Err-clause-counts
+returns-in-Err-clause-counts g c = record { later = c.load_page.ensures.later; heeded = c.in-Err.ensures.heeded; hands = c.load_page.ensures.grown; size = c.load_page.ensures.size }
+
+pub returns-in-Err-clause-failed : goal.returns-in-Err-clause-failed
+returns-in-Err-clause-failed g c o ds ps told e lies is = c.load_page.ensures.failed o ds ps told e (c.in-Err.is ∙ ap Err c.in-Err.ensures.fault)
+
+pub returns-clause-counts : goal.returns-clause-counts
+returns-clause-counts g c =
+    counted_then {S = Unit {0}} {T = ℕ} (g.D.Disk.view c.args.engine.now.disk) (g.D.Disk.view c.load_page.new.self.disk) (g.D.Disk.view c.change_page.new.self.disk) c.args.engine.now.log c.load_page.new.self.log c.change_page.new.self.log
+    c.args.engine.now.pool c.load_page.new.self.pool c.change_page.new.self.pool tt c.change_page.result
+    (record { later = c.load_page.ensures.later; heeded = c.in-Ok.ensures.heeded; hands = c.load_page.ensures.grown; size = c.load_page.ensures.size })
+    (record { later = c.change_page.ensures.later; heeded = c.change_page.ensures.heeded; hands = c.change_page.ensures.grown; size = c.change_page.ensures.size })
+
+pub returns-clause-failed : goal.returns-clause-failed
+returns-clause-failed g c o ds ps told e lies is =
+    let h = c.in-Ok.ensures.goes_on o ds ps told e in
+    risen_behind _ _ _ c.in-Ok.ensures.heeded (c.change_page.ensures.failed o h.durable h.waiting told h.engine is)

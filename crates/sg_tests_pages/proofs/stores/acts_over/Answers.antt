@@ -11,3 +11,6 @@ new-requires-clause-bands c = flags c.args.maps.bands c.args.unfreed.bands 12 c.
 
 pub new-requires-clause-said : goal.new-requires-clause-said
 new-requires-clause-said c = λ told. absurd (untold told)
+
+pub new-requires-clause-within : goal.new-requires-clause-within
+new-requires-clause-within c = λ told. absurd (untold told)

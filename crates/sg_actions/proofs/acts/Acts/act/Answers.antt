@@ -3,7 +3,6 @@ use Rattle.sg_actions.specs.Rows.{last_in}
 use Rattle.sg_actions.specs.declared.rows.Row.{Row}
 use Rattle.sg_actions.proofs.Beginning.{acts_now, system_acts, nobody_acts}
 use Rattle.sg_actions.specs.Engine.{led}
-use Rattle.sg_actions.proofs.Led.{log_call, look_call}
 use Rattle.sg_actions.proofs.acts.Acts.act.Goals as goal
 
 pub returns-in-Some-clause-acts : goal.returns-in-Some-clause-acts

@@ -1,13 +1,21 @@
-use Rattle.std.proofs.Common.{◌≡◌, refl, sym, ap, ◌∙◌, List, length}
+use Rattle.std.proofs.Common.{◌≡◌, ℕ, ◌≤◌, ◌<◌, refl, subst, sym, ap, ◌∙◌, List, length}
+use Rattle.sg_actions.proofs.Accounting.{within_by}
 use Rattle.sg_actions.proofs.Beginning.{begun_is, begin_appends}
 use Rattle.sg_actions.proofs.Placing.{front_is, length-placed}
 use Rattle.sg_actions.specs.Rows.{placed}
 use Rattle.sg_actions.specs.declared.rows.Row.{Row}
 use Rattle.sg_actions.specs.Engine.{led}
-use Rattle.sg_actions.proofs.Led.{log_call, look_call}
+use Rattle.sg_actions.proofs.Led.{log_call}
 use Rattle.sg_actions.proofs.Calling.{said_log_any}
-use Rattle.sg_actions.proofs.Placing.{few_placed}
 use Rattle.sg_actions.proofs.acts.Acts.begin.Goals as goal
+
+pub returns-clause-number : goal.returns-clause-number
+returns-clause-number g c =
+    let placed = c.in_ok-log.ensures.grows.placed in
+    let same = c.in_ok-log.ensures.number refl ∙ sym c.next.ensures in (
+      subst (λ (n : ℕ). (g.E.Engine.view c.args.self.now.engine).tail ≤ n) same placed.above,
+      subst (λ (n : ℕ). n < (g.E.Engine.view c.log.new.self).tail) same placed.below,
+    )
 
 pub returns-clause-did : goal.returns-clause-did
 returns-clause-did g c = λ limits t from m. let row : Row = record { txn = record { 0 = c.next.result }; last = c.next.result } in
@@ -25,11 +33,10 @@ returns-in_err-log-clause-appends g c = λ limits t from m. begin_appends (g.E.E
     c.requires (log_call from c.in_err-log.ensures.grows (c.in_err-log.ensures.logs t from m)) (λ told. c.in_err-log.ensures.tried refl told ∙ sym c.next.ensures) (λ z. g.met.E.Engine.told_whole _ z)
 
 pub invariant_of-self-2-clause-pages_said : goal.invariant_of-self-2-clause-pages_said
-invariant_of-self-2-clause-pages_said g c = said_log_any g.E.Engine.recovers (g.E.Engine.means c.args.self.now.engine) (g.E.Engine.means c.log.new.self) c.args.self.now.maps.pages (g.met.E.Engine.some c.args.self.now.engine) (λ t. (record { grows = c.log.ensures.grows; keeps = λ from m. c.log.ensures.means t from m; logs = λ from m. c.log.ensures.logs t from m; whole = g.met.E.Engine.told_whole _; now = λ from m. g.met.E.Engine.now_is _ t from m; now' = λ from m. g.met.E.Engine.now_is _ t from m; law = λ from m. g.met.E.Engine.lawful _ t from m })) refl c.args.self.now.pages_said
+invariant_of-self-2-clause-pages_said g c = said_log_any g.E.Engine.recovers (g.E.Engine.means c.args.self.now.engine) (g.E.Engine.means c.log.new.self) c.args.self.now.maps.pages (g.met.E.Engine.some c.args.self.now.engine) (λ t. (record { grows = c.log.ensures.grows; keeps = λ from m. c.log.ensures.means t from m; logs = λ from m. c.log.ensures.logs t from m; whole = g.met.E.Engine.told_whole _; full = g.met.E.Engine.full_failed _; now = λ from m. g.met.E.Engine.now_is _ t from m; now' = λ from m. g.met.E.Engine.now_is _ t from m; law = λ from m. g.met.E.Engine.lawful _ t from m })) refl c.args.self.now.pages_said
 
-pub invariant_of-self-2-clause-few_rows : goal.invariant_of-self-2-clause-few_rows
-invariant_of-self-2-clause-few_rows g c =
-    let row : Row = record { txn = record { 0 = c.next.result }; last = c.next.result } in
-    let long : length c.place.new.rows ≡ c.args.self.now.rows.len = ap length c.place.ensures ∙ (length-placed c.as_mut_slice.result.now 0 row ∙ c.as_mut_slice.ensures.len) in
-    let rows = front_is c.args.self.now.rows.len c.place.new.rows _ long ∙ (c.place.ensures ∙ ap (λ (rs : List Row). placed rs 0 row) c.as_mut_slice.ensures.value) in
-    few_placed c.args.self.now.rows.items 0 row rows c.args.self.now.few_rows
+pub invariant_of-self-2-clause-within : goal.invariant_of-self-2-clause-within
+invariant_of-self-2-clause-within g c = within_by c.log.ensures.grows.counts c.args.self.now.within
+
+pub invariant_of-self-2-clause-unbroken : goal.invariant_of-self-2-clause-unbroken
+invariant_of-self-2-clause-unbroken g c = λ told. c.args.self.now.unbroken (c.log.ensures.grows.counts.told told)

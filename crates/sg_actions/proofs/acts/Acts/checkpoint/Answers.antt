@@ -1,26 +1,30 @@
 use Rattle.sg_actions.specs.Growing.{moments_same, grows_same, moments_then}
-use Rattle.std.proofs.Common.{◌≡◌, ◌*◌, ◌/◌, ap, subst, sym, ◌∙◌, List, length, take, ℕ, arith}
+use Rattle.std.proofs.Common.{◌≡◌, ◌*◌, refl, ap, subst, ◌∙◌, length, take, arith}
 use Rattle.sg_actions.specs.Checkpoints.{rows_bytes}
 use Rattle.sg_actions.specs.Engine.{Moments, led}
 use Rattle.sg_actions.specs.Steps.{Steps}
+use Rattle.sg_actions.proofs.Accounting.{within_by}
 use Rattle.sg_actions.proofs.Calling.{said_any}
 use Rattle.sg_actions.proofs.Closing.{on_ok2}
 use Rattle.sg_actions.proofs.Counting.{looked_break, looked_none, stayed_then, kept_looked}
 use Rattle.sg_actions.proofs.Led.{look_call}
 use Rattle.sg_actions.proofs.Pointing.{mark_stays, said_mark}
-use Rattle.sg_actions.proofs.Rowed.{rows_sized, spelled_is, rows_fit}
+use Rattle.sg_actions.proofs.Rowed.{rows_sized, spelled_is, rows_fit, take_short}
 use Rattle.sg_actions.proofs.acts.Acts.checkpoint.Goals as goal
 
 pub checkpoint-requires-clause-rows : goal.checkpoint-requires-clause-rows
 checkpoint-requires-clause-rows g c =
-    let rows = c.args.self.now.rows.items in
-    let is : take c.in-Some.size c.spell_rows.new.into ≡ rows_bytes rows = spelled_is c.spell_rows.result c.in-Some.size c.spell_rows.new.into _ rows c.in-Some.is c.spell_rows.ensures.spelled c.as_slice.ensures.value in
+    let rows = take c.min-count.result c.as_slice.result.now in
+    let is : take c.in-Some.size c.spell_rows.new.into ≡ rows_bytes rows = spelled_is c.spell_rows.result c.in-Some.size c.spell_rows.new.into rows rows c.in-Some.is c.spell_rows.ensures.spelled refl in
     let sized = rows_sized rows in
     let long : length (take c.in-Some.size c.spell_rows.new.into) ≡ 16 * sized.many = ap length is ∙ sized.is in
     omega (arith, long)
 
 pub returns-in_default-clause-counts : goal.returns-in_default-clause-counts
-returns-in_default-clause-counts g c = looked_break c.count_break.result c.count_break.ensures.answer (looked_none (g.E.Engine.view c.args.self.now.engine) c.args.self.now.breaks) c.count_break.ensures.risen c.count_break.ensures.later (λ told. rows_fit c.args.self.now.rows.items _ c.as_slice.ensures.value c.args.self.now.few_rows c.in_default.ensures.many)
+returns-in_default-clause-counts g c =
+    let rows = take c.min-count.result c.as_slice.result.now in
+    looked_break c.count_break.result c.count_break.ensures.answer (looked_none (g.E.Engine.view c.args.self.now.engine) c.args.self.now.breaks) c.count_break.ensures.risen c.count_break.ensures.later
+    (λ told. rows_fit rows rows refl (let short = take_short c.min-count.result c.as_slice.result.now in let m = c.min-count.ensures in omega (arith, short, m)) c.in_default.ensures.many)
 
 pub returns-in_default-clause-moments : goal.returns-in_default-clause-moments
 returns-in_default-clause-moments g c = λ t from m told. moments_same (led from (g.E.Engine.view c.args.self.now.engine)) (g.met.E.Engine.images _ t from m told)
@@ -36,5 +40,25 @@ returns-clause-moments g c = λ t from m told.
     moments_then e e1 e2 st.first st.durable (grows_same e.steps) ((k.looks t from m).moments told) (subst (λ (rs : Steps). Moments (g.E.Engine.recovers t) t e1 e2 rs) st.steps ((c.force.ensures.looks t from (k.means t from m)).moments (s.told told)))
 
 pub invariant_of-self-2-clause-pages_said : goal.invariant_of-self-2-clause-pages_said
-invariant_of-self-2-clause-pages_said g c = said_any c.args.self.now.maps.pages (g.met.E.Engine.some c.checkpoint.new.self) (λ t. (record { rests = c.force.ensures.rests; keeps = λ from m. c.force.ensures.means t from m; looks = λ from m. c.force.ensures.looks t from m; whole = g.met.E.Engine.told_whole _; now = λ from m. g.met.E.Engine.now_is _ t from m; now' = λ from m. g.met.E.Engine.now_is _ t from m })) c.force.ensures.rests.counts.told
+invariant_of-self-2-clause-pages_said g c = said_any c.args.self.now.maps.pages (g.met.E.Engine.some c.checkpoint.new.self) (λ t. (record { rests = c.force.ensures.rests; keeps = λ from m. c.force.ensures.means t from m; looks = λ from m. c.force.ensures.looks t from m; whole = g.met.E.Engine.told_whole _; full = g.met.E.Engine.full_failed _; now = λ from m. g.met.E.Engine.now_is _ t from m; now' = λ from m. g.met.E.Engine.now_is _ t from m })) c.force.ensures.rests.counts.told
     (said_mark {recovers = g.E.Engine.recovers} c.checkpoint.result c.args.self.now.maps.pages (g.met.E.Engine.some c.args.self.now.engine) c.checkpoint.ensures.grows c.checkpoint.ensures.means c.checkpoint.ensures.looks (λ z. g.met.E.Engine.told_whole _ z) (λ t from m. g.met.E.Engine.now_is _ t from m) (λ t from m. g.met.E.Engine.now_is _ t from m) c.args.self.now.pages_said)
+
+pub invariant_of-self-2-clause-within : goal.invariant_of-self-2-clause-within
+invariant_of-self-2-clause-within g c = within_by c.force.ensures.rests.counts (within_by c.checkpoint.ensures.grows.counts c.args.self.now.within)
+
+pub invariant_of-self-2-clause-unbroken : goal.invariant_of-self-2-clause-unbroken
+invariant_of-self-2-clause-unbroken g c = λ told. c.args.self.now.unbroken (c.checkpoint.ensures.grows.counts.told (c.force.ensures.rests.counts.told told))
+
+pub invariant_of-self-clause-unbroken : goal.invariant_of-self-clause-unbroken
+invariant_of-self-clause-unbroken g c = λ told.
+    let rows = take c.min-count.result c.as_slice.result.now in
+    absurd (rows_fit rows rows refl (let short = take_short c.min-count.result c.as_slice.result.now in let m = c.min-count.ensures in omega (arith, short, m)) c.in_default.ensures.many)
+
+pub returns-clause-kept : goal.returns-clause-kept
+returns-clause-kept g c = λ limits t from m.
+    let k = c.in_ok-checkpoint.ensures in
+    let e = led from (g.E.Engine.view c.args.self.now.engine) in
+    let e2 = led from (g.E.Engine.view c.force.new.self) in
+    let s = mark_stays from _ k.grows (k.looks t from m) in
+    let f = (look_call from c.force.ensures.rests (c.force.ensures.looks t from (k.means t from m))).stays in
+    on_ok2 c.force.result (λ h h' told kept. kept_looked t limits e e2 c.args.self.now.maps _ c.args.self.now.rows.items _ c.args.self.now.actor _ (stayed_then s h) refl refl refl told kept) f f

@@ -1,4 +1,5 @@
 use Rattle.std.proofs.Common.{◌≡◌, sym, ap, ◌∙◌, List, length, refl, arith}
+use Rattle.sg_actions.proofs.Accounting.{within_by}
 use Rattle.sg_actions.proofs.Handing.{commit_hands, long_commit}
 use Rattle.sg_actions.proofs.Closing.{committed, commit_appends, has_gone, fails, appends_look, stays_of, on_ok2}
 use Rattle.sg_actions.proofs.InRange.{commit_in}
@@ -11,7 +12,6 @@ use Rattle.sg_recovery.specs.Log.Record.{Commit}
 use Rattle.sg_actions.specs.Engine.{led}
 use Rattle.sg_actions.proofs.Led.{log_call, look_call}
 use Rattle.sg_actions.proofs.Calling.{said_log_any}
-use Rattle.sg_actions.proofs.Placing.{few_placed}
 use Rattle.sg_actions.proofs.Calling.{said_any}
 use Rattle.sg_actions.proofs.acts.Acts.commit.Goals as goal
 
@@ -40,14 +40,13 @@ returns-in_err-lsn-clause-appends g c = λ limits t from m. let was = sym (ap (�
     (λ told. fails (led from (g.E.Engine.view c.log.new.self)) (λ z. g.met.E.Engine.told_whole _ z) (log_call from c.in_err-lsn.ensures.grows (c.in_err-lsn.ensures.logs t from m)).counts.failed told)
 
 pub invariant_of-self-2-clause-pages_said : goal.invariant_of-self-2-clause-pages_said
-invariant_of-self-2-clause-pages_said g c = said_any c.args.self.now.maps.pages (g.met.E.Engine.some c.log.new.self) (λ t. (record { rests = c.force.ensures.rests; keeps = λ from m. c.force.ensures.means t from m; looks = λ from m. c.force.ensures.looks t from m; whole = g.met.E.Engine.told_whole _; now = λ from m. g.met.E.Engine.now_is _ t from m; now' = λ from m. g.met.E.Engine.now_is _ t from m })) c.force.ensures.rests.counts.told (said_log_any g.E.Engine.recovers (g.E.Engine.means c.args.self.now.engine) (g.E.Engine.means c.log.new.self) c.args.self.now.maps.pages (g.met.E.Engine.some c.args.self.now.engine) (λ t. (record { grows = c.log.ensures.grows; keeps = λ from m. c.log.ensures.means t from m; logs = λ from m. c.log.ensures.logs t from m; whole = g.met.E.Engine.told_whole _; now = λ from m. g.met.E.Engine.now_is _ t from m; now' = λ from m. g.met.E.Engine.now_is _ t from m; law = λ from m. g.met.E.Engine.lawful _ t from m })) refl c.args.self.now.pages_said)
+invariant_of-self-2-clause-pages_said g c = said_any c.args.self.now.maps.pages (g.met.E.Engine.some c.log.new.self) (λ t. (record { rests = c.force.ensures.rests; keeps = λ from m. c.force.ensures.means t from m; looks = λ from m. c.force.ensures.looks t from m; whole = g.met.E.Engine.told_whole _; full = g.met.E.Engine.full_failed _; now = λ from m. g.met.E.Engine.now_is _ t from m; now' = λ from m. g.met.E.Engine.now_is _ t from m })) c.force.ensures.rests.counts.told (said_log_any g.E.Engine.recovers (g.E.Engine.means c.args.self.now.engine) (g.E.Engine.means c.log.new.self) c.args.self.now.maps.pages (g.met.E.Engine.some c.args.self.now.engine) (λ t. (record { grows = c.log.ensures.grows; keeps = λ from m. c.log.ensures.means t from m; logs = λ from m. c.log.ensures.logs t from m; whole = g.met.E.Engine.told_whole _; full = g.met.E.Engine.full_failed _; now = λ from m. g.met.E.Engine.now_is _ t from m; now' = λ from m. g.met.E.Engine.now_is _ t from m; law = λ from m. g.met.E.Engine.lawful _ t from m })) refl c.args.self.now.pages_said)
 
-pub invariant_of-self-2-clause-few_rows : goal.invariant_of-self-2-clause-few_rows
-invariant_of-self-2-clause-few_rows g c =
-    let row : Row = record { txn = c.args.txn; last = c.in_ok-lsn.lsn } in
-    let long : length c.place.new.rows ≡ c.args.self.now.rows.len = ap length c.place.ensures ∙ (length-placed c.as_mut_slice.result.now c.args.txn.0 row ∙ c.as_mut_slice.ensures.len) in
-    let rows = front_is c.args.self.now.rows.len c.place.new.rows _ long ∙ (c.place.ensures ∙ ap (λ (rs : List Row). placed rs c.args.txn.0 row) c.as_mut_slice.ensures.value) in
-    few_placed c.args.self.now.rows.items c.args.txn.0 row rows c.args.self.now.few_rows
+pub invariant_of-self-2-clause-within : goal.invariant_of-self-2-clause-within
+invariant_of-self-2-clause-within g c = within_by c.force.ensures.rests.counts (within_by c.log.ensures.grows.counts c.args.self.now.within)
+
+pub invariant_of-self-2-clause-unbroken : goal.invariant_of-self-2-clause-unbroken
+invariant_of-self-2-clause-unbroken g c = λ told. c.args.self.now.unbroken (c.log.ensures.grows.counts.told (c.force.ensures.rests.counts.told told))
 
 pub returns-in_err-lsn-clause-hands : goal.returns-in_err-lsn-clause-hands
 returns-in_err-lsn-clause-hands g c = let h = (c.in_err-lsn.ensures.hands refl).most in omega (arith, h)

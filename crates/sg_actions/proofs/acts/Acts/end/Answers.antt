@@ -1,4 +1,5 @@
 use Rattle.std.proofs.Common.{◌≡◌, sym, ap, ◌∙◌, List, length, refl}
+use Rattle.sg_actions.proofs.Accounting.{within_by}
 use Rattle.sg_actions.proofs.Closing.{closed, done_appends, has_gone, fails}
 use Rattle.sg_actions.proofs.InRange.{end_in}
 use Rattle.sg_actions.proofs.Placing.{front_is, length-placed}
@@ -9,9 +10,8 @@ use Rattle.sg_record.specs.Records.Says.{End as SaysEnd}
 use Rattle.sg_record.specs.Shown.{by}
 use Rattle.sg_recovery.specs.Log.Record.{End}
 use Rattle.sg_actions.specs.Engine.{led}
-use Rattle.sg_actions.proofs.Led.{log_call, look_call}
+use Rattle.sg_actions.proofs.Led.{log_call}
 use Rattle.sg_actions.proofs.Calling.{said_log_any}
-use Rattle.sg_actions.proofs.Placing.{few_placed}
 use Rattle.sg_actions.proofs.acts.Acts.end.Goals as goal
 
 pub log-requires-clause-range : goal.log-requires-clause-range
@@ -36,14 +36,13 @@ returns-in_err-log-clause-appends g c = λ limits t from m. let was = sym (ap (�
     (λ told. fails (led from (g.E.Engine.view c.log.new.self)) (λ z. g.met.E.Engine.told_whole _ z) (log_call from c.in_err-log.ensures.grows (c.in_err-log.ensures.logs t from m)).counts.failed told)
 
 pub invariant_of-self-2-clause-pages_said : goal.invariant_of-self-2-clause-pages_said
-invariant_of-self-2-clause-pages_said g c = said_log_any g.E.Engine.recovers (g.E.Engine.means c.args.self.now.engine) (g.E.Engine.means c.log.new.self) c.args.self.now.maps.pages (g.met.E.Engine.some c.args.self.now.engine) (λ t. (record { grows = c.log.ensures.grows; keeps = λ from m. c.log.ensures.means t from m; logs = λ from m. c.log.ensures.logs t from m; whole = g.met.E.Engine.told_whole _; now = λ from m. g.met.E.Engine.now_is _ t from m; now' = λ from m. g.met.E.Engine.now_is _ t from m; law = λ from m. g.met.E.Engine.lawful _ t from m })) refl c.args.self.now.pages_said
+invariant_of-self-2-clause-pages_said g c = said_log_any g.E.Engine.recovers (g.E.Engine.means c.args.self.now.engine) (g.E.Engine.means c.log.new.self) c.args.self.now.maps.pages (g.met.E.Engine.some c.args.self.now.engine) (λ t. (record { grows = c.log.ensures.grows; keeps = λ from m. c.log.ensures.means t from m; logs = λ from m. c.log.ensures.logs t from m; whole = g.met.E.Engine.told_whole _; full = g.met.E.Engine.full_failed _; now = λ from m. g.met.E.Engine.now_is _ t from m; now' = λ from m. g.met.E.Engine.now_is _ t from m; law = λ from m. g.met.E.Engine.lawful _ t from m })) refl c.args.self.now.pages_said
 
-pub invariant_of-self-2-clause-few_rows : goal.invariant_of-self-2-clause-few_rows
-invariant_of-self-2-clause-few_rows g c =
-    let row : Row = vacant in
-    let long : length c.place.new.rows ≡ c.args.self.now.rows.len = ap length c.place.ensures ∙ (length-placed c.as_mut_slice.result.now c.args.txn.0 row ∙ c.as_mut_slice.ensures.len) in
-    let rows = front_is c.args.self.now.rows.len c.place.new.rows _ long ∙ (c.place.ensures ∙ ap (λ (rs : List Row). placed rs c.args.txn.0 row) c.as_mut_slice.ensures.value) in
-    few_placed c.args.self.now.rows.items c.args.txn.0 row rows c.args.self.now.few_rows
+pub invariant_of-self-2-clause-within : goal.invariant_of-self-2-clause-within
+invariant_of-self-2-clause-within g c = within_by c.log.ensures.grows.counts c.args.self.now.within
+
+pub invariant_of-self-2-clause-unbroken : goal.invariant_of-self-2-clause-unbroken
+invariant_of-self-2-clause-unbroken g c = λ told. c.args.self.now.unbroken (c.log.ensures.grows.counts.told told)
 
 pub returns-in_err-log-clause-hands : goal.returns-in_err-log-clause-hands
 returns-in_err-log-clause-hands g c = (c.in_err-log.ensures.hands refl).most

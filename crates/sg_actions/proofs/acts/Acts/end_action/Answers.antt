@@ -7,10 +7,9 @@ use Rattle.sg_record.specs.Shown.{by}
 use Rattle.sg_actions.proofs.Ended.{action_ended, end_appends}
 use Rattle.sg_actions.proofs.InRange.{top_end_in}
 use Rattle.sg_actions.specs.Engine.{led}
-use Rattle.sg_actions.proofs.Led.{log_call, look_call}
+use Rattle.sg_actions.proofs.Led.{log_call}
 use Rattle.sg_actions.proofs.Calling.{said_log_any}
 use Rattle.sg_actions.proofs.Settled.{said_settled}
-use Rattle.sg_actions.proofs.Placing.{few_after}
 use Rattle.sg_actions.proofs.acts.Acts.end_action.Goals as goal
 
 pub returns-clause-did : goal.returns-clause-did
@@ -38,7 +37,7 @@ log-requires-clause-range g c = top_end_in _ _ _ _ c.is_number.ensures c.is_numb
 
 pub invariant_of-self-2-clause-pages_said : goal.invariant_of-self-2-clause-pages_said
 invariant_of-self-2-clause-pages_said g c = λ told. said_settled c.args.self.now.maps.pages c.args.self.now.unfreed.pages c.settle_pages.new.maps.pages c.settle_pages.new.unfreed.pages c.settle_bands.new.maps.pages (g.E.Engine.view c.log.new.self).now.pages c.settle_pages.ensures.pages c.settle_bands.ensures.pages
-    (said_log_any g.E.Engine.recovers (g.E.Engine.means c.args.self.now.engine) (g.E.Engine.means c.log.new.self) c.args.self.now.maps.pages (g.met.E.Engine.some c.args.self.now.engine) (λ t. (record { grows = c.log.ensures.grows; keeps = λ from m. c.log.ensures.means t from m; logs = λ from m. c.log.ensures.logs t from m; whole = g.met.E.Engine.told_whole _; now = λ from m. g.met.E.Engine.now_is _ t from m; now' = λ from m. g.met.E.Engine.now_is _ t from m; law = λ from m. g.met.E.Engine.lawful _ t from m })) refl c.args.self.now.pages_said told)
+    (said_log_any g.E.Engine.recovers (g.E.Engine.means c.args.self.now.engine) (g.E.Engine.means c.log.new.self) c.args.self.now.maps.pages (g.met.E.Engine.some c.args.self.now.engine) (λ t. (record { grows = c.log.ensures.grows; keeps = λ from m. c.log.ensures.means t from m; logs = λ from m. c.log.ensures.logs t from m; whole = g.met.E.Engine.told_whole _; full = g.met.E.Engine.full_failed _; now = λ from m. g.met.E.Engine.now_is _ t from m; now' = λ from m. g.met.E.Engine.now_is _ t from m; law = λ from m. g.met.E.Engine.lawful _ t from m })) refl c.args.self.now.pages_said told)
 
-pub invariant_of-self-2-clause-few_rows : goal.invariant_of-self-2-clause-few_rows
-invariant_of-self-2-clause-few_rows g c = few_after c.args.self.now.rows.items c.args.self.now.actor.txn c.in_ok-lsn.lsn c.keep_row.ensures c.args.self.now.few_rows
+pub invariant_of-self-2-clause-unbroken : goal.invariant_of-self-2-clause-unbroken
+invariant_of-self-2-clause-unbroken g c = λ told. c.args.self.now.unbroken (c.log.ensures.grows.counts.told told)

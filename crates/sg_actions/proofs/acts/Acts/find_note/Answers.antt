@@ -10,7 +10,7 @@ use Rattle.sg_actions.specs.Undoing.{SeesAt}
 use Rattle.sg_actions.specs.declared.rows.Row.{Row}
 use Rattle.sg_actions.specs.declared.undo.Seen.{Seen}
 use Rattle.sg_actions.specs.declared.undo.Seen.TheVariants as seen
-use Rattle.sg_actions.proofs.Counting.{looked_none, looked_then, looked_ok, looked_err, looked_break, look_moments, by_none, by_then, stayed_then, never_any}
+use Rattle.sg_actions.proofs.Counting.{looked_none, looked_then, looked_break, look_moments, by_none, by_then, stayed_then, never_any}
 use Rattle.sg_actions.proofs.Finding.{is_there, walk_begins, walk_goes, walk_finds, walk_over}
 use Rattle.sg_actions.proofs.acts.Acts.find_note.Goals as goal
 
@@ -46,7 +46,7 @@ walk-preserved g c =
 pub look_back-requires : goal.look_back-requires
 look_back-requires g c =
     let i = c.walk.invariant in
-    record { there = λ told1. let told = i.run.told told1 in ∥∥₁_elim (g.met.E.Engine.some c.args.self.now.engine) (hlevel props) (λ x. some_is (ap (λ (rs : Steps). step_at rs c.walk.at) ((i.by x.0 x.1 x.2).stays.stays told).steps ∙ (is_there c.walk.at (c.requires told) (i.walks x.0 x.1 x.2 told) c.walk-test.true).there)) }
+    record { there = λ told1. let told = i.run.told told1 in ∥∥₁_elim (g.met.E.Engine.some c.args.self.now.engine told) (hlevel props) (λ x. some_is (ap (λ (rs : Steps). step_at rs c.walk.at) ((i.by x.0 x.1 x.2).stays.stays told).steps ∙ (is_there c.walk.at (c.requires told) (i.walks x.0 x.1 x.2 told) c.walk-test.true).there)) }
 
 pub returns-in-Note-clause-finds : goal.returns-in-Note-clause-finds
 returns-in-Note-clause-finds g c = λ t from m told. let i = c.walk.invariant in walk_finds c.walk.at c.in-Note.prev c.in-Note.undo_next c.look_back.new.into (c.requires told) (i.walks t from m told) c.walk-test.true (subst (λ (rs : Steps). SeesAt rs c.walk.at c.look_back.new.into (seen.Note c.in-Note.prev c.in-Note.undo_next)) ((i.by t from m).stays.stays told).steps (subst (λ (s : Seen). SeesAt (g.E.Engine.view c.walk.self.engine).steps c.walk.at c.look_back.new.into s) c.in-Note.is (c.in_ok-prev.ensures.saw t from (i.means t from m) (i.run.tells told))))
@@ -59,7 +59,7 @@ returns-then-next-at-clause-counts g c =
     let i = c.walk.invariant in
     let k = c.in_ok-prev.ensures.counts in
     looked_break c.count_break-then-next-at.result c.count_break-then-next-at.ensures.answer (looked_then i.run k) c.count_break-then-next-at.ensures.risen c.count_break-then-next-at.ensures.later
-    (λ told2. let told = i.run.told (k.told told2) in never_any _ (g.met.E.Engine.some c.args.self.now.engine) (λ t from m. let go = (walk_goes c.walk.at c.in-On.next c.look_back.new.into (c.requires told) (i.walks t from m told) c.walk-test.true (subst (λ (rs : Steps). SeesAt rs c.walk.at c.look_back.new.into (seen.On c.in-On.next)) ((i.by t from m).stays.stays told).steps (subst (λ (s : Seen). SeesAt (g.E.Engine.view c.walk.self.engine).steps c.walk.at c.look_back.new.into s) c.in-On.is (c.in_ok-prev.ensures.saw t from (i.means t from m) (i.run.tells told))))) in omega (arith, go.0, c.if-next-at.true)))
+    (λ told2. let told = i.run.told (k.told told2) in never_any _ (g.met.E.Engine.some c.args.self.now.engine told) (λ t from m. let go = (walk_goes c.walk.at c.in-On.next c.look_back.new.into (c.requires told) (i.walks t from m told) c.walk-test.true (subst (λ (rs : Steps). SeesAt rs c.walk.at c.look_back.new.into (seen.On c.in-On.next)) ((i.by t from m).stays.stays told).steps (subst (λ (s : Seen). SeesAt (g.E.Engine.view c.walk.self.engine).steps c.walk.at c.look_back.new.into s) c.in-On.is (c.in_ok-prev.ensures.saw t from (i.means t from m) (i.run.tells told))))) in omega (arith, go.0, c.if-next-at.true)))
 
 pub returns-in_err-prev-clause-moments : goal.returns-in_err-prev-clause-moments
 returns-in_err-prev-clause-moments g c = λ t from m. look_moments (led from (g.E.Engine.view c.args.self.now.engine)) (led from (g.E.Engine.view c.walk.self.engine)) (led from (g.E.Engine.view c.look_back.new.self.engine)) (c.walk.invariant.by t from m) (c.in_err-prev.ensures.moments t from (c.walk.invariant.means t from m))
@@ -90,3 +90,6 @@ returns-in-Begin-clause-means g c = λ t from m. c.in_ok-prev.ensures.means t fr
 
 pub returns-in-Begin-clause-stays : goal.returns-in-Begin-clause-stays
 returns-in-Begin-clause-stays g c = λ t from m. stayed_then (c.walk.invariant.by t from m).stays (c.in_ok-prev.ensures.stays t from (c.walk.invariant.means t from m))
+
+pub invariant_of-self-then-next-at-clause-unbroken : goal.invariant_of-self-then-next-at-clause-unbroken
+invariant_of-self-then-next-at-clause-unbroken g c = λ told2. absurd (let i = c.walk.invariant in let k = c.in_ok-prev.ensures.counts in let told = i.run.told (k.told told2) in never_any _ (g.met.E.Engine.some c.args.self.now.engine told) (λ t from m. let go = (walk_goes c.walk.at c.in-On.next c.look_back.new.into (c.requires told) (i.walks t from m told) c.walk-test.true (subst (λ (rs : Steps). SeesAt rs c.walk.at c.look_back.new.into (seen.On c.in-On.next)) ((i.by t from m).stays.stays told).steps (subst (λ (s : Seen). SeesAt (g.E.Engine.view c.walk.self.engine).steps c.walk.at c.look_back.new.into s) c.in-On.is (c.in_ok-prev.ensures.saw t from (i.means t from m) (i.run.tells told))))) in omega (arith, go.0, c.if-next-at.true)))

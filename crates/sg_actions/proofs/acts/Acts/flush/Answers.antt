@@ -1,5 +1,6 @@
 use mathlib.Core.Logic.{∥∥₁_elim}
 use Rattle.sg_actions.specs.Engine.{led}
+use Rattle.sg_actions.proofs.Accounting.{within_by}
 use Rattle.sg_actions.proofs.Beginning.{rest_kept}
 use Rattle.sg_actions.proofs.Calling.{said_any}
 use Rattle.sg_actions.proofs.Led.{look_call}
@@ -10,7 +11,13 @@ pub returns-clause-kept : goal.returns-clause-kept
 returns-clause-kept g c = λ limits t from m. rest_kept t limits (led from (g.E.Engine.view c.args.self.now.engine)) (led from (g.E.Engine.view c.flush.new.self)) c.args.self.now.maps c.args.self.now.rows.items c.args.self.now.actor (look_call from c.in_ok-flush.ensures.rests (c.in_ok-flush.ensures.looks t from m)).stays
 
 pub returns-clause-forced : goal.returns-clause-forced
-returns-clause-forced g c = λ told. ∥∥₁_elim (g.met.E.Engine.some c.args.self.now.engine) (steps_set _ _) (λ x. c.in_ok-flush.ensures.forced x.0 x.1 x.2 told)
+returns-clause-forced g c = λ told. ∥∥₁_elim (g.met.E.Engine.some c.args.self.now.engine (c.in_ok-flush.ensures.rests.counts.told told)) (steps_set _ _) (λ x. c.in_ok-flush.ensures.forced x.0 x.1 x.2 told)
 
 pub invariant_of-self-clause-pages_said : goal.invariant_of-self-clause-pages_said
-invariant_of-self-clause-pages_said g c = said_any c.args.self.now.maps.pages (g.met.E.Engine.some c.args.self.now.engine) (λ t. (record { rests = c.flush.ensures.rests; keeps = λ from m. c.flush.ensures.means t from m; looks = λ from m. c.flush.ensures.looks t from m; whole = g.met.E.Engine.told_whole _; now = λ from m. g.met.E.Engine.now_is _ t from m; now' = λ from m. g.met.E.Engine.now_is _ t from m })) c.flush.ensures.rests.counts.told c.args.self.now.pages_said
+invariant_of-self-clause-pages_said g c = said_any c.args.self.now.maps.pages (g.met.E.Engine.some c.args.self.now.engine) (λ t. (record { rests = c.flush.ensures.rests; keeps = λ from m. c.flush.ensures.means t from m; looks = λ from m. c.flush.ensures.looks t from m; whole = g.met.E.Engine.told_whole _; full = g.met.E.Engine.full_failed _; now = λ from m. g.met.E.Engine.now_is _ t from m; now' = λ from m. g.met.E.Engine.now_is _ t from m })) c.flush.ensures.rests.counts.told c.args.self.now.pages_said
+
+pub invariant_of-self-clause-within : goal.invariant_of-self-clause-within
+invariant_of-self-clause-within g c = within_by c.flush.ensures.rests.counts c.args.self.now.within
+
+pub invariant_of-self-clause-unbroken : goal.invariant_of-self-clause-unbroken
+invariant_of-self-clause-unbroken g c = λ told. c.args.self.now.unbroken (c.flush.ensures.rests.counts.told told)

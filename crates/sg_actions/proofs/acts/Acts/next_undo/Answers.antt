@@ -14,7 +14,7 @@ returns-in_default-clause-kept g c = λ limits t from m. kept_looked t limits (l
     (c.in_ok-found.ensures.stays t from m) c.in_ok-found.ensures.maps c.in_ok-found.ensures.rows c.in_ok-found.ensures.actor
 
 pub returns-clause-next : goal.returns-clause-next
-returns-clause-next g c = λ told. ∥∥₁_elim (g.met.E.Engine.some c.args.self.now.engine) (number_set _ _) (λ x. next_at (g.E.Engine.view c.args.self.now.engine).steps c.args.txn.0 c.args.stop c.find_note.new.into _ c.in-Some.found c.in-Some.is (c.in_ok-found.ensures.finds x.0 x.1 x.2 told))
+returns-clause-next g c = λ told. ∥∥₁_elim (g.met.E.Engine.some c.args.self.now.engine told) (number_set _ _) (λ x. next_at (g.E.Engine.view c.args.self.now.engine).steps c.args.txn.0 c.args.stop c.find_note.new.into _ c.in-Some.found c.in-Some.is (c.in_ok-found.ensures.finds x.0 x.1 x.2 told))
 
 pub returns-in_default-clause-next : goal.returns-in_default-clause-next
-returns-in_default-clause-next g c = λ told. ∥∥₁_elim (g.met.E.Engine.some c.args.self.now.engine) (number_set _ _) (λ x. next_none (g.E.Engine.view c.args.self.now.engine).steps c.args.txn.0 c.args.stop c.find_note.new.into _ c.in_default.is (c.in_ok-found.ensures.finds x.0 x.1 x.2 told))
+returns-in_default-clause-next g c = λ told. ∥∥₁_elim (g.met.E.Engine.some c.args.self.now.engine told) (number_set _ _) (λ x. next_none (g.E.Engine.view c.args.self.now.engine).steps c.args.txn.0 c.args.stop c.find_note.new.into _ c.in_default.is (c.in_ok-found.ensures.finds x.0 x.1 x.2 told))

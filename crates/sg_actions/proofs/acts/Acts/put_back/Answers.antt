@@ -19,7 +19,7 @@ back-init g c = record {
   goes = λ t from m. goes_same (led from (g.E.Engine.view c.args.self.now.engine)) c.args.self.now.rows.items c.args.self.now.actor;
   run = run_none (g.E.Engine.view c.args.self.now.engine) c.args.self.now.breaks;
   way = λ t from m told chain hs l. way_begins (map_bands_of (length c.args.self.now.maps.pages) (length c.args.self.now.maps.bands)) t (led from (g.E.Engine.view c.args.self.now.engine)) c.args.self.now.actor.txn.0 c.args.to c.args.from hs l;
-  later = λ limits t. later_same {strict = false} g.E.Engine.recovers limits t _ (λ from m told. g.met.E.Engine.images _ t from m.stands told);
+  later = λ limits t. later_same {strict = false} g.E.Engine.recovers limits t _ (g.met.E.Engine.told_whole _) (λ from m told. g.met.E.Engine.images _ t from m.stands told);
   maps = refl;
   unfreed = refl;
   rows = refl;
@@ -31,7 +31,7 @@ put_one_back-requires-clause-hop g c = λ told1.
     let i = c.back.invariant in
     let told = i.run.told told1 in
     ∥∥₁_elim (c.requires.can told) (hop_prop c.back.at _) (λ can.
-    ∥∥₁_elim (g.met.E.Engine.some c.args.self.now.engine) (hop_prop c.back.at _) (λ x.
+    ∥∥₁_elim (g.met.E.Engine.some c.args.self.now.engine told) (hop_prop c.back.at _) (λ x.
     let chain = (i.goes x.0 x.1 x.2).chain told can.chain in
     next_hop (map_bands_of (length c.args.self.now.maps.pages) (length c.args.self.now.maps.bands)) x.0 (led x.1 (g.E.Engine.view c.args.self.now.engine)) (led x.1 (g.E.Engine.view c.back.self.engine)) c.args.self.now.actor.txn.0 c.args.to c.back.at _ c.back-test.true (i.way x.0 x.1 x.2 told can.chain can.way.hops can.way.leads) chain.running.log.chained))
 

@@ -1,14 +1,14 @@
 use Rattle.std.proofs.Common.{◌≡◌, false, true, ℕ, List, length, take, drop, refl, sym, ap, subst, ◌∙◌, arith}
 use Rattle.sg_action.specs.States.{State}
-use Rattle.sg_ops.specs.Table.{Table}
 use Rattle.sg_record.specs.Changes.{BandBytes}
 use Rattle.sg_record.specs.Changes.Change.{SegWrite}
 use Rattle.sg_record.specs.Records.Says.{Changed}
 use Rattle.sg_record.specs.Shown.{by, shown_bytes}
 use Rattle.sg_actions.specs.Changes.{bytes_with}
-use Rattle.sg_actions.specs.Engine.{led}
+use Rattle.sg_actions.specs.Engine.{led, Extent}
 use Rattle.sg_actions.specs.Led.{HasLogged}
 use Rattle.sg_actions.specs.Onward.{later_on}
+use Rattle.sg_actions.proofs.Accounting.{within_by}
 use Rattle.sg_actions.proofs.Calling.{later_look, later_log_as, said_any, said_log_any}
 use Rattle.sg_actions.proofs.InRange.{write_in}
 use Rattle.sg_actions.proofs.Led.{log_call, look_call, logged_after}
@@ -26,7 +26,13 @@ log-requires-clause-range g c =
     (stood_long _ _ c.args.at (length c.args.bytes.now) c.copy_piece.ensures (let size = c.band.ensures.size in omega (arith, size, piece.within))) refl
 
 pub invariant_of-self-2-clause-pages_said : goal.invariant_of-self-2-clause-pages_said
-invariant_of-self-2-clause-pages_said g c = said_log_any g.E.Engine.recovers (g.E.Engine.means c.load_band.new.self) (g.E.Engine.means c.log.new.self) c.args.self.now.maps.pages (g.met.E.Engine.some c.load_band.new.self) (λ t. (record { grows = c.log.ensures.grows; keeps = λ from m. c.log.ensures.means t from m; logs = λ from m. c.log.ensures.logs t from m; whole = g.met.E.Engine.told_whole _; now = λ from m. g.met.E.Engine.now_is _ t from m; now' = λ from m. g.met.E.Engine.now_is _ t from m; law = λ from m. g.met.E.Engine.lawful _ t from m })) refl (said_any c.args.self.now.maps.pages (g.met.E.Engine.some c.args.self.now.engine) (λ t. (record { rests = c.load_band.ensures.rests; keeps = λ from m. c.load_band.ensures.means t from m; looks = λ from m. c.load_band.ensures.looks t from m; whole = g.met.E.Engine.told_whole _; now = λ from m. g.met.E.Engine.now_is _ t from m; now' = λ from m. g.met.E.Engine.now_is _ t from m })) c.load_band.ensures.rests.counts.told c.args.self.now.pages_said)
+invariant_of-self-2-clause-pages_said g c = said_log_any g.E.Engine.recovers (g.E.Engine.means c.load_band.new.self) (g.E.Engine.means c.log.new.self) c.args.self.now.maps.pages (g.met.E.Engine.some c.load_band.new.self) (λ t. (record { grows = c.log.ensures.grows; keeps = λ from m. c.log.ensures.means t from m; logs = λ from m. c.log.ensures.logs t from m; whole = g.met.E.Engine.told_whole _; full = g.met.E.Engine.full_failed _; now = λ from m. g.met.E.Engine.now_is _ t from m; now' = λ from m. g.met.E.Engine.now_is _ t from m; law = λ from m. g.met.E.Engine.lawful _ t from m })) refl (said_any c.args.self.now.maps.pages (g.met.E.Engine.some c.args.self.now.engine) (λ t. (record { rests = c.load_band.ensures.rests; keeps = λ from m. c.load_band.ensures.means t from m; looks = λ from m. c.load_band.ensures.looks t from m; whole = g.met.E.Engine.told_whole _; full = g.met.E.Engine.full_failed _; now = λ from m. g.met.E.Engine.now_is _ t from m; now' = λ from m. g.met.E.Engine.now_is _ t from m })) c.load_band.ensures.rests.counts.told c.args.self.now.pages_said)
+
+pub invariant_of-self-2-clause-within : goal.invariant_of-self-2-clause-within
+invariant_of-self-2-clause-within g c = within_by c.log.ensures.grows.counts (within_by c.load_band.ensures.rests.counts c.args.self.now.within)
+
+pub invariant_of-self-2-clause-unbroken : goal.invariant_of-self-2-clause-unbroken
+invariant_of-self-2-clause-unbroken g c = λ told. c.args.self.now.unbroken (c.load_band.ensures.rests.counts.told (c.log.ensures.grows.counts.told told))
 
 pub returns-clause-did : goal.returns-clause-did
 returns-clause-did g c = λ t from m.
@@ -42,8 +48,8 @@ returns-clause-did g c = λ t from m.
 
 pub returns-clause-later : goal.returns-clause-later
 returns-clause-later g c = λ limits t. later_on {strict = false} g.E.Engine.recovers limits t _ _ _
-    (later_look {strict = false} g.E.Engine.recovers limits t (g.E.Engine.view c.args.self.now.engine) (g.E.Engine.view c.load_band.new.self) (g.E.Engine.means c.args.self.now.engine) (g.E.Engine.means c.load_band.new.self) (g.E.Engine.view c.args.self.now.begun_at.value).now c.args.self.now.maps c.args.self.now.rows.items c.args.self.now.actor c.args.self.now.begun _ (record { rests = c.in_ok-load_band.ensures.rests; keeps = λ from m. c.in_ok-load_band.ensures.means t from m; looks = λ from m. c.in_ok-load_band.ensures.looks t from m; whole = g.met.E.Engine.told_whole _; now = λ from m. g.met.E.Engine.now_is _ t from m; now' = λ from m. g.met.E.Engine.now_is _ t from m }))
-    (later_log_as {strict = false} g.E.Engine.recovers limits t (g.E.Engine.view c.load_band.new.self) (g.E.Engine.view c.log.new.self) (g.E.Engine.means c.load_band.new.self) (g.E.Engine.means c.log.new.self) (g.E.Engine.view c.args.self.now.begun_at.value).now c.args.self.now.maps c.args.self.now.maps c.args.self.now.rows.items c.args.self.now.actor (record { txn = c.args.self.now.actor.txn; last = c.in_ok-self.field-0; before = c.args.self.now.actor.before }) c.args.self.now.begun (SegWrite (shown_bytes c.spell_bytes.result)) (SegWrite (bytes_with c.args.b.0 c.args.at _ _ c.args.bytes.now)) _ c.requires.begun (ap SegWrite c.spell_bytes.ensures) (let piece = c.requires.piece in write_in _ _ c.args.b.0 c.args.at _ _ c.args.bytes.now (shown_bytes c.spell_bytes.result) c.spell_bytes.ensures c.is_number.ensures c.is_number-2.ensures c.requires.band piece (stood_long _ _ c.args.at (length c.args.bytes.now) c.copy_piece.ensures (let size = c.band.ensures.size in omega (arith, size, piece.within))) refl) (record { grows = c.in_ok-self.ensures.grows; keeps = λ from m. c.in_ok-self.ensures.means t from m; logs = λ from m. c.in_ok-self.ensures.logs t from m; whole = g.met.E.Engine.told_whole _; now = λ from m. g.met.E.Engine.now_is _ t from m; now' = λ from m. g.met.E.Engine.now_is _ t from m; law = λ from m. g.met.E.Engine.lawful _ t from m }) refl
+    (later_look {strict = false} g.E.Engine.recovers limits t (g.E.Engine.view c.args.self.now.engine) (g.E.Engine.view c.load_band.new.self) (g.E.Engine.means c.args.self.now.engine) (g.E.Engine.means c.load_band.new.self) (g.E.Engine.view c.args.self.now.begun_at.value).now c.args.self.now.maps c.args.self.now.rows.items c.args.self.now.actor c.args.self.now.begun _ (record { rests = c.in_ok-load_band.ensures.rests; keeps = λ from m. c.in_ok-load_band.ensures.means t from m; looks = λ from m. c.in_ok-load_band.ensures.looks t from m; whole = g.met.E.Engine.told_whole _; full = g.met.E.Engine.full_failed _; now = λ from m. g.met.E.Engine.now_is _ t from m; now' = λ from m. g.met.E.Engine.now_is _ t from m }))
+    (later_log_as {strict = false} g.E.Engine.recovers limits t (g.E.Engine.view c.load_band.new.self) (g.E.Engine.view c.log.new.self) (g.E.Engine.means c.load_band.new.self) (g.E.Engine.means c.log.new.self) (g.E.Engine.view c.args.self.now.begun_at.value).now c.args.self.now.maps c.args.self.now.maps c.args.self.now.rows.items c.args.self.now.actor (record { txn = c.args.self.now.actor.txn; last = c.in_ok-self.field-0; before = c.args.self.now.actor.before }) c.args.self.now.begun (SegWrite (shown_bytes c.spell_bytes.result)) (SegWrite (bytes_with c.args.b.0 c.args.at _ _ c.args.bytes.now)) _ c.requires.begun (ap SegWrite c.spell_bytes.ensures) (let piece = c.requires.piece in write_in _ _ c.args.b.0 c.args.at _ _ c.args.bytes.now (shown_bytes c.spell_bytes.result) c.spell_bytes.ensures c.is_number.ensures c.is_number-2.ensures c.requires.band piece (stood_long _ _ c.args.at (length c.args.bytes.now) c.copy_piece.ensures (let size = c.band.ensures.size in omega (arith, size, piece.within))) refl) (record { grows = c.in_ok-self.ensures.grows; keeps = λ from m. c.in_ok-self.ensures.means t from m; logs = λ from m. c.in_ok-self.ensures.logs t from m; whole = g.met.E.Engine.told_whole _; full = g.met.E.Engine.full_failed _; now = λ from m. g.met.E.Engine.now_is _ t from m; now' = λ from m. g.met.E.Engine.now_is _ t from m; law = λ from m. g.met.E.Engine.lawful _ t from m }) refl
     (record {
       on = λ from since told1 k.
           let now = ap (λ (x : State). x.bands c.args.b.0) (sym (g.met.E.Engine.now_is _ t from since.stands told1)) ∙ c.band.ensures.looked in
@@ -58,8 +64,8 @@ returns-clause-later g c = λ limits t. later_on {strict = false} g.E.Engine.rec
 
 pub returns-in_err-self-clause-later : goal.returns-in_err-self-clause-later
 returns-in_err-self-clause-later g c = λ limits t. later_on {strict = false} g.E.Engine.recovers limits t _ _ _
-    (later_look {strict = false} g.E.Engine.recovers limits t (g.E.Engine.view c.args.self.now.engine) (g.E.Engine.view c.load_band.new.self) (g.E.Engine.means c.args.self.now.engine) (g.E.Engine.means c.load_band.new.self) (g.E.Engine.view c.args.self.now.begun_at.value).now c.args.self.now.maps c.args.self.now.rows.items c.args.self.now.actor c.args.self.now.begun _ (record { rests = c.in_ok-load_band.ensures.rests; keeps = λ from m. c.in_ok-load_band.ensures.means t from m; looks = λ from m. c.in_ok-load_band.ensures.looks t from m; whole = g.met.E.Engine.told_whole _; now = λ from m. g.met.E.Engine.now_is _ t from m; now' = λ from m. g.met.E.Engine.now_is _ t from m }))
-    (later_log_as {strict = false} g.E.Engine.recovers limits t (g.E.Engine.view c.load_band.new.self) (g.E.Engine.view c.log.new.self) (g.E.Engine.means c.load_band.new.self) (g.E.Engine.means c.log.new.self) (g.E.Engine.view c.args.self.now.begun_at.value).now c.args.self.now.maps c.args.self.now.maps c.args.self.now.rows.items c.args.self.now.actor c.args.self.now.actor c.args.self.now.begun (SegWrite (shown_bytes c.spell_bytes.result)) (SegWrite (bytes_with c.args.b.0 c.args.at _ _ c.args.bytes.now)) _ c.requires.begun (ap SegWrite c.spell_bytes.ensures) (let piece = c.requires.piece in write_in _ _ c.args.b.0 c.args.at _ _ c.args.bytes.now (shown_bytes c.spell_bytes.result) c.spell_bytes.ensures c.is_number.ensures c.is_number-2.ensures c.requires.band piece (stood_long _ _ c.args.at (length c.args.bytes.now) c.copy_piece.ensures (let size = c.band.ensures.size in omega (arith, size, piece.within))) refl) (record { grows = c.in_err-self.ensures.grows; keeps = λ from m. c.in_err-self.ensures.means t from m; logs = λ from m. c.in_err-self.ensures.logs t from m; whole = g.met.E.Engine.told_whole _; now = λ from m. g.met.E.Engine.now_is _ t from m; now' = λ from m. g.met.E.Engine.now_is _ t from m; law = λ from m. g.met.E.Engine.lawful _ t from m }) tt
+    (later_look {strict = false} g.E.Engine.recovers limits t (g.E.Engine.view c.args.self.now.engine) (g.E.Engine.view c.load_band.new.self) (g.E.Engine.means c.args.self.now.engine) (g.E.Engine.means c.load_band.new.self) (g.E.Engine.view c.args.self.now.begun_at.value).now c.args.self.now.maps c.args.self.now.rows.items c.args.self.now.actor c.args.self.now.begun _ (record { rests = c.in_ok-load_band.ensures.rests; keeps = λ from m. c.in_ok-load_band.ensures.means t from m; looks = λ from m. c.in_ok-load_band.ensures.looks t from m; whole = g.met.E.Engine.told_whole _; full = g.met.E.Engine.full_failed _; now = λ from m. g.met.E.Engine.now_is _ t from m; now' = λ from m. g.met.E.Engine.now_is _ t from m }))
+    (later_log_as {strict = false} g.E.Engine.recovers limits t (g.E.Engine.view c.load_band.new.self) (g.E.Engine.view c.log.new.self) (g.E.Engine.means c.load_band.new.self) (g.E.Engine.means c.log.new.self) (g.E.Engine.view c.args.self.now.begun_at.value).now c.args.self.now.maps c.args.self.now.maps c.args.self.now.rows.items c.args.self.now.actor c.args.self.now.actor c.args.self.now.begun (SegWrite (shown_bytes c.spell_bytes.result)) (SegWrite (bytes_with c.args.b.0 c.args.at _ _ c.args.bytes.now)) _ c.requires.begun (ap SegWrite c.spell_bytes.ensures) (let piece = c.requires.piece in write_in _ _ c.args.b.0 c.args.at _ _ c.args.bytes.now (shown_bytes c.spell_bytes.result) c.spell_bytes.ensures c.is_number.ensures c.is_number-2.ensures c.requires.band piece (stood_long _ _ c.args.at (length c.args.bytes.now) c.copy_piece.ensures (let size = c.band.ensures.size in omega (arith, size, piece.within))) refl) (record { grows = c.in_err-self.ensures.grows; keeps = λ from m. c.in_err-self.ensures.means t from m; logs = λ from m. c.in_err-self.ensures.logs t from m; whole = g.met.E.Engine.told_whole _; full = g.met.E.Engine.full_failed _; now = λ from m. g.met.E.Engine.now_is _ t from m; now' = λ from m. g.met.E.Engine.now_is _ t from m; law = λ from m. g.met.E.Engine.lawful _ t from m }) tt
     (record {
       on = λ from since told1 k.
           let now = ap (λ (x : State). x.bands c.args.b.0) (sym (g.met.E.Engine.now_is _ t from since.stands told1)) ∙ c.band.ensures.looked in
@@ -73,4 +79,14 @@ returns-in_err-self-clause-later g c = λ limits t. later_on {strict = false} g.
     }))
 
 pub returns-in_err-load_band-clause-later : goal.returns-in_err-load_band-clause-later
-returns-in_err-load_band-clause-later g c = λ limits t. (later_look {strict = false} g.E.Engine.recovers limits t (g.E.Engine.view c.args.self.now.engine) (g.E.Engine.view c.load_band.new.self) (g.E.Engine.means c.args.self.now.engine) (g.E.Engine.means c.load_band.new.self) (g.E.Engine.view c.args.self.now.begun_at.value).now c.args.self.now.maps c.args.self.now.rows.items c.args.self.now.actor c.args.self.now.begun _ (record { rests = c.in_err-load_band.ensures.rests; keeps = λ from m. c.in_err-load_band.ensures.means t from m; looks = λ from m. c.in_err-load_band.ensures.looks t from m; whole = g.met.E.Engine.told_whole _; now = λ from m. g.met.E.Engine.now_is _ t from m; now' = λ from m. g.met.E.Engine.now_is _ t from m }))
+returns-in_err-load_band-clause-later g c = λ limits t. (later_look {strict = false} g.E.Engine.recovers limits t (g.E.Engine.view c.args.self.now.engine) (g.E.Engine.view c.load_band.new.self) (g.E.Engine.means c.args.self.now.engine) (g.E.Engine.means c.load_band.new.self) (g.E.Engine.view c.args.self.now.begun_at.value).now c.args.self.now.maps c.args.self.now.rows.items c.args.self.now.actor c.args.self.now.begun _ (record { rests = c.in_err-load_band.ensures.rests; keeps = λ from m. c.in_err-load_band.ensures.means t from m; looks = λ from m. c.in_err-load_band.ensures.looks t from m; whole = g.met.E.Engine.told_whole _; full = g.met.E.Engine.full_failed _; now = λ from m. g.met.E.Engine.now_is _ t from m; now' = λ from m. g.met.E.Engine.now_is _ t from m }))
+
+pub log-requires-clause-can : goal.log-requires-clause-can
+log-requires-clause-can g c = λ t from m told1.
+    let k = c.in_ok-load_band.ensures.rests.counts in
+    record {
+      there = let e = ap (λ (x : BandBytes). x.band) c.spell_bytes.ensures in let b = c.requires.there (k.told told1) in let x = ap (λ (y : Extent). y.bands) k.extent in omega (arith, e, b, x);
+      fits = refl;
+      known = tt;
+      means = λ u. u;
+    }

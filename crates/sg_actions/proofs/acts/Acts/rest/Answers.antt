@@ -1,16 +1,15 @@
-use Rattle.std.proofs.Common.{◌≡◌, subst, sym, List, Bool}
+use Rattle.std.proofs.Common.{subst, sym, List, Bool}
 use Rattle.sg_actions.specs.Calls.{AreSettled}
 use Rattle.sg_actions.specs.Engine.{led}
 use Rattle.sg_actions.proofs.AtRest.{kept_rest}
-use Rattle.sg_actions.proofs.Placing.{few_after}
 use Rattle.sg_actions.proofs.Settled.{said_settled}
 use Rattle.sg_actions.proofs.acts.Acts.rest.Goals as goal
 
 pub invariant_of-self-clause-pages_said : goal.invariant_of-self-clause-pages_said
 invariant_of-self-clause-pages_said g c = λ told. said_settled c.args.self.now.maps.pages c.args.self.now.unfreed.pages c.settle_pages.new.maps.pages c.settle_pages.new.unfreed.pages c.settle_bands.new.maps.pages (g.E.Engine.view c.args.self.now.engine).now.pages c.settle_pages.ensures.pages c.settle_bands.ensures.pages (c.args.self.now.pages_said told)
 
-pub invariant_of-self-clause-few_rows : goal.invariant_of-self-clause-few_rows
-invariant_of-self-clause-few_rows g c = few_after c.args.self.now.rows.items c.args.self.now.actor.txn c.args.self.now.actor.last c.keep_row.ensures c.args.self.now.few_rows
+pub invariant_of-self-clause-unbroken : goal.invariant_of-self-clause-unbroken
+invariant_of-self-clause-unbroken g c = λ told. c.args.self.now.unbroken told
 
 pub returns-clause-kept : goal.returns-clause-kept
 returns-clause-kept g c = λ limits t from m told idle k.

@@ -1,21 +1,16 @@
 use mathlib.Core.Logic.{∥∥₁_elim, ∥∥₁_prop}
-use Rattle.std.proofs.Common.{ℕ, List, sym, ap, subst, ◌∙◌, refl}
-use Rattle.std.proofs.Props.{props}
+use Rattle.std.proofs.Common.{ap, subst, ◌∙◌, refl}
 use Rattle.std.proofs.lemmas.Result.{err_from_is_err_and}
 use Rattle.sg_base.specs.declared.numbers.TxnId.{TxnId}
 use Rattle.sg_actions.specs.Growing.{moments_same}
 use Rattle.sg_actions.proofs.Counting.{looked_none}
 use Rattle.sg_actions.proofs.GoneOff.{off_none, off_then, off_as, counts_more, counts_fails, counts_after}
-use Rattle.sg_alloc.specs.declared.maps.Maps.{Maps}
 use Rattle.sg_actions.specs.Engine.{ArePagesFit, led}
-use Rattle.sg_actions.specs.Offed.{AllOff}
-use Rattle.sg_actions.specs.TakingOff.{IsOff}
-use Rattle.sg_actions.specs.declared.rows.Row.{Row}
 use Rattle.sg_actions.proofs.Finishing.{none_left, action_off, all_off_now, off_same, going_same, all_same, on_ok}
 use Rattle.sg_actions.proofs.acts.Acts.resume.Goals as goal
 
 pub take_one_off-requires-clause-by : goal.take_one_off-requires-clause-by
-take_one_off-requires-clause-by g c = ∥∥₁_elim c.requires.by ∥∥₁_prop (λ x. ∣ (x.0, c.changes.invariant.means x.0 x.1) ∣₁)
+take_one_off-requires-clause-by g c = λ told. ∥∥₁_elim (c.requires.by (c.changes.invariant.told told)) ∥∥₁_prop (λ x. ∣ (x.0, c.changes.invariant.means x.0 x.1) ∣₁)
 
 pub take_one_off-requires-clause-off : goal.take_one_off-requires-clause-off
 take_one_off-requires-clause-off g c = λ told1.
@@ -26,12 +21,11 @@ pub changes-preserved : goal.changes-preserved
 changes-preserved g c =
     let i = c.changes.invariant in
     let k = c.in_ok-at.ensures in
-    let one = ∥∥₁_elim c.requires.by (hlevel props) (λ x. ap (λ (u : TxnId). u.0) (k.did x.0 (i.means x.0 x.1)).who) in
     record {
       told = λ t. i.told (k.told t);
       means = λ start m. k.means start (i.means start m);
       looked = counts_more i.looked k.counts;
-      who = one ∙ i.who;
+      who = ap (λ (u : TxnId). u.0) k.who ∙ i.who;
       unfreed = k.unfreed ∙ i.unfreed;
       goes = λ from m told kept b h.
           off_then (led from (g.E.Engine.view c.args.self.now.engine)) (led from (g.E.Engine.view c.changes.self.engine)) (led from (g.E.Engine.view c.take_one_off.new.self.engine)) (i.goes from m told kept b h) k.counts.stops
@@ -103,7 +97,7 @@ pub returns-in_err-at-clause-unfreed : goal.returns-in_err-at-clause-unfreed
 returns-in_err-at-clause-unfreed g c = c.in_err-at.ensures.unfreed ∙ c.changes.invariant.unfreed
 
 pub returns-clause-counts : goal.returns-clause-counts
-returns-clause-counts g c = counts_after c.void.result c.changes.invariant.looked c.void.ensures.counts c.void.ensures.breaks
+returns-clause-counts g c = counts_after c.void.result (g.met.E.Engine.told_whole _) c.changes.invariant.looked c.void.ensures.counts c.void.ensures.breaks
 
 pub returns-clause-goes : goal.returns-clause-goes
 returns-clause-goes g c = λ from m told kept b r.

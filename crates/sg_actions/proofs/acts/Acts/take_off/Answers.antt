@@ -1,15 +1,12 @@
 use mathlib.Core.Logic.{∥∥₁_elim, ∥∥₁_prop}
-use Rattle.std.proofs.Common.{List, sym, ap, subst, ◌∙◌, refl}
+use Rattle.std.proofs.Common.{ap, subst, ◌∙◌, refl}
 use Rattle.sg_alloc.specs.Flags.{free_of}
 use Rattle.sg_alloc.specs.declared.maps.Maps.{Maps}
 use Rattle.sg_actions.specs.Engine.{ArePagesFit, led}
-use Rattle.sg_actions.specs.Offed.{kept_in, TakenOff}
+use Rattle.sg_actions.specs.Offed.{kept_in}
 use Rattle.sg_actions.specs.Steps.{begin_of}
-use Rattle.sg_actions.specs.TakingOff.{IsOff}
-use Rattle.sg_actions.specs.declared.rows.Row.{Row}
 use Rattle.sg_actions.proofs.Offing.{going_of}
 use Rattle.sg_actions.proofs.Finishing.{off_begins, taken_off, off_same, taken_same, on_ok}
-use Rattle.sg_actions.proofs.Sets.{who_set}
 use Rattle.sg_actions.proofs.acts.Acts.take_off.Goals as goal
 
 pub changes-init : goal.changes-init
@@ -23,7 +20,7 @@ changes-init g c = record {
 }
 
 pub take_one_off-requires-clause-by : goal.take_one_off-requires-clause-by
-take_one_off-requires-clause-by g c = ∥∥₁_elim c.requires.by ∥∥₁_prop (λ x. ∣ (x.0, c.changes.invariant.means x.0 x.1) ∣₁)
+take_one_off-requires-clause-by g c = λ told. ∥∥₁_elim (c.requires.by (c.changes.invariant.told told)) ∥∥₁_prop (λ x. ∣ (x.0, c.changes.invariant.means x.0 x.1) ∣₁)
 
 pub take_one_off-requires-clause-off : goal.take_one_off-requires-clause-off
 take_one_off-requires-clause-off g c = λ told1.
@@ -44,11 +41,10 @@ pub changes-preserved : goal.changes-preserved
 changes-preserved g c =
     let i = c.changes.invariant in
     let k = c.in_ok-at.ensures in
-    let one = ∥∥₁_elim c.requires.by (who_set _ _) (λ x. (k.did x.0 (i.means x.0 x.1)).who ∙ i.who) in
     record {
       told = λ t. i.told (k.told t);
       means = λ from m. k.means from (i.means from m);
-      who = one;
+      who = k.who ∙ i.who;
       whole = ap (λ (m : Maps). free_of m.pages) k.unfreed ∙ i.whole;
       bands = ap (λ (m : Maps). free_of m.bands) k.unfreed ∙ i.bands;
       off = λ limits from m told can u.

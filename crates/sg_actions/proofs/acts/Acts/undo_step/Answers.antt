@@ -16,13 +16,14 @@ pub act-requires : goal.act-requires
 act-requires g c = λ told1.
     let k = c.in_ok-found.ensures in
     let told = k.counts.told told1 in
-    let steps = ∥∥₁_elim (g.met.E.Engine.some c.args.self.now.engine) (steps_set (g.E.Engine.view c.find_note.new.self.engine).steps (g.E.Engine.view c.args.self.now.engine).steps) (λ x. ((k.stays x.0 x.1 x.2).stays told).steps) in
+    let steps = ∥∥₁_elim (g.met.E.Engine.some c.args.self.now.engine told) (steps_set (g.E.Engine.view c.find_note.new.self.engine).steps (g.E.Engine.view c.args.self.now.engine).steps) (λ x. ((k.stays x.0 x.1 x.2).stays told).steps) in
     actable_at steps k.unfreed k.rows k.actor (can_act (c.requires told))
 
 pub put_back-requires-clause-can : goal.put_back-requires-clause-can
 put_back-requires-clause-can g c = λ told2.
     let k = c.in_ok-found.ensures in
-    ∥∥₁_elim (g.met.E.Engine.some c.args.self.now.engine) ∥∥₁_prop (λ x. ∣ can_put {t = x.0} {limits = (λ y n. 0)} {e = (led x.1 (g.E.Engine.view c.args.self.now.engine))} {e1 = (led x.1 (g.E.Engine.view c.find_note.new.self.engine))} {maps = c.args.self.now.maps} {actor = c.args.self.now.actor} {txn = c.args.txn.0} {stop = c.args.stop} {note = c.find_note.new.into} {f = c.in-Some.found}
+    let told = k.counts.told (subst (λ y. (g.E.Engine.view y).Told) c.act.ensures.engine told2) in
+    ∥∥₁_elim (g.met.E.Engine.some c.args.self.now.engine told) ∥∥₁_prop (λ x. ∣ can_put {t = x.0} {limits = (λ y n. 0)} {e = (led x.1 (g.E.Engine.view c.args.self.now.engine))} {e1 = (led x.1 (g.E.Engine.view c.find_note.new.self.engine))} {maps = c.args.self.now.maps} {actor = c.args.self.now.actor} {txn = c.args.txn.0} {stop = c.args.stop} {note = c.find_note.new.into} {f = c.in-Some.found}
     (ap (λ y. led x.1 (g.E.Engine.view y)) c.act.ensures.engine) (c.act.ensures.rows ∙ k.rows) c.requires (found_is (led x.1 (g.E.Engine.view c.args.self.now.engine)) c.in-Some.is (k.finds x.0 x.1 x.2)) (k.stays x.0 x.1 x.2) k.counts.told (acting_at k.maps k.rows k.actor (c.act.ensures.acts (λ y n. 0) x.0 x.1 (k.means x.0 x.1 x.2))) told2 ∣₁)
 
 pub returns-in_err-put_back-clause-counts : goal.returns-in_err-put_back-clause-counts
@@ -90,7 +91,7 @@ returns-else-is_of_bytes-clause-undoes g c = λ limits t from m told kept.
     undone_run (g.E.Engine.recovers t) t limits (led from (g.E.Engine.view c.args.self.now.engine)) (led from (g.E.Engine.view c.find_note.new.self.engine)) (led from (g.E.Engine.view c.act.new.self.engine)) (led from (g.E.Engine.view c.act.new.self.engine))
     c.args.self.now.maps c.find_note.new.self.maps c.act.new.self.maps c.act.new.self.maps c.args.self.now.rows.items c.find_note.new.self.rows.items c.act.new.self.rows.items c.act.new.self.rows.items c.args.self.now.actor c.find_note.new.self.actor c.act.new.self.actor c.act.new.self.actor
     c.act.new.self.begun c.act.new.self.begun c.args.txn.0 told (c.requires told).rest.idle (k.stays t from m) (k.moments t from m told) k.maps k.rows k.actor kept (c.act.ensures.acts limits t from (c.in_ok-found.ensures.means t from m)) (ap (λ y. led from (g.E.Engine.view y)) c.act.ensures.engine) c.act.ensures.maps c.act.ensures.rows c.act.ensures.begun refl refl refl
-    (λ told' k'. (later_same {strict = false} g.E.Engine.recovers limits t (acts_at (g.E.Engine.view c.act.new.self.engine) (g.E.Engine.means c.act.new.self.engine) (g.E.Engine.view c.act.new.self.begun_at.value).now c.act.new.self.maps c.act.new.self.rows.items c.act.new.self.actor c.act.new.self.begun) (λ start s z. g.met.E.Engine.images _ t start s.stands z)).goes from (c.act.ensures.since t from (c.in_ok-found.ensures.means t from m)) told' k') (λ z. g.met.E.Engine.told_whole _ z)
+    (λ told' k'. (later_same {strict = false} g.E.Engine.recovers limits t (acts_at (g.E.Engine.view c.act.new.self.engine) (g.E.Engine.means c.act.new.self.engine) (g.E.Engine.view c.act.new.self.begun_at.value).now c.act.new.self.maps c.act.new.self.rows.items c.act.new.self.actor c.act.new.self.begun) (g.met.E.Engine.told_whole _) (λ start s z. g.met.E.Engine.images _ t start s.stands z)).goes from (c.act.ensures.since t from (c.in_ok-found.ensures.means t from m)) told' k') (λ z. g.met.E.Engine.told_whole _ z)
 
 pub returns-else-is_of_bytes-clause-means : goal.returns-else-is_of_bytes-clause-means
 returns-else-is_of_bytes-clause-means g c = λ t from m. (subst (λ y. g.E.Engine.means y t from) (sym c.act.ensures.engine) (c.in_ok-found.ensures.means t from m))

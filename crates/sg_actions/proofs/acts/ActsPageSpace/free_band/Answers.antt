@@ -1,10 +1,14 @@
-use Rattle.std.proofs.Common.{true, sym, length}
+use Rattle.std.proofs.Common.{Some, true, sym, length}
 use Rattle.sg_actions.proofs.Freeing.{there_flag}
 use Rattle.sg_actions.specs.Onward.{later_same}
+use Rattle.sg_actions.proofs.Untold.{none_there}
 use Rattle.sg_actions.proofs.acts.ActsPageSpace.free_band.Goals as goal
 
 pub free_band-requires : goal.free_band-requires
 free_band-requires g c = there_flag c.args.self.now.maps.bands c.args.self.now.unfreed.bands c.args.b.0 (sym c.if-not-has_band.ensures)
 
 pub returns-clause-later : goal.returns-clause-later
-returns-clause-later g c = λ t. later_same {strict = true} g.E.Engine.recovers (g.E.Engine.limits (length c.args.self.now.maps.pages) (length c.args.self.now.maps.bands)) t _ (λ from m told. g.met.E.Engine.images _ t from m.stands told)
+returns-clause-later g c = λ t. later_same {strict = true} g.E.Engine.recovers (g.E.Engine.limits (length c.args.self.now.maps.pages) (length c.args.self.now.maps.bands)) t _ (g.met.E.Engine.told_whole _) (λ from m told. g.met.E.Engine.images _ t from m.stands told)
+
+pub invariant_of-self-clause-unbroken : goal.invariant_of-self-clause-unbroken
+invariant_of-self-clause-unbroken g c = λ told. absurd (none_there c.args.self.now.maps.bands c.args.self.now.unfreed.bands (λ n. Some ((g.E.Engine.view c.args.self.now.engine).now.bands n)) c.args.b.0 (sym c.if-not-has_band.ensures) (c.requires told))

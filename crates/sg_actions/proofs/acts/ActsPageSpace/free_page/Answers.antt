@@ -1,10 +1,14 @@
 use Rattle.std.proofs.Common.{true, sym, length}
 use Rattle.sg_actions.proofs.Freeing.{there_flag}
 use Rattle.sg_actions.specs.Onward.{later_same}
+use Rattle.sg_actions.proofs.Untold.{none_there}
 use Rattle.sg_actions.proofs.acts.ActsPageSpace.free_page.Goals as goal
 
 pub free_page-requires : goal.free_page-requires
 free_page-requires g c = there_flag c.args.self.now.maps.pages c.args.self.now.unfreed.pages c.args.p.0 (sym c.if-not-has_page.ensures)
 
 pub returns-clause-later : goal.returns-clause-later
-returns-clause-later g c = λ t. later_same {strict = true} g.E.Engine.recovers (g.E.Engine.limits (length c.args.self.now.maps.pages) (length c.args.self.now.maps.bands)) t _ (λ from m told. g.met.E.Engine.images _ t from m.stands told)
+returns-clause-later g c = λ t. later_same {strict = true} g.E.Engine.recovers (g.E.Engine.limits (length c.args.self.now.maps.pages) (length c.args.self.now.maps.bands)) t _ (g.met.E.Engine.told_whole _) (λ from m told. g.met.E.Engine.images _ t from m.stands told)
+
+pub invariant_of-self-clause-unbroken : goal.invariant_of-self-clause-unbroken
+invariant_of-self-clause-unbroken g c = λ told. absurd (none_there c.args.self.now.maps.pages c.args.self.now.unfreed.pages (g.E.Engine.view c.args.self.now.engine).now.pages c.args.p.0 (sym c.if-not-has_page.ensures) (c.requires told))

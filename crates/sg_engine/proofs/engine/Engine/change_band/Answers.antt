@@ -1,5 +1,8 @@
 use Rattle.sg_record.specs.Shown.{shown}
 use Rattle.sg_log.specs.Held.{numbered, durable_after, waiting_after}
+use Rattle.std.proofs.Common.{sym, subst}
+use Rattle.sg_engine.specs.Calls.{WaitsFrame}
+use Rattle.sg_engine.proofs.Waits.{waits_appended, waits_kept}
 use Rattle.sg_engine.proofs.Pools.{apart1, backs1, logged1, moments1, band1, band_early, append_moments}
 use Rattle.sg_engine.proofs.engine.Engine.change_band.Goals as goal
 
@@ -84,3 +87,6 @@ returns-in-Ok-change_band-clause-allowed g c o ds ps k told e early =
     let w = g.D.Disk.view c.change_band.new.disk in
     band_early o v v1 log log1 ds ps pool r c.requires.range e is away held k early w c.change_band.new.log c.change_band.new.self c.in-Ok.lsn c.in-Ok.ensures.lsn (c.in-Ok-change_band.ensures.log D W told apart held)
     c.args.b.0 c.args.at c.args.bytes.now (c.in-Ok-change_band.ensures.changed told apart backs)
+
+pub returns-in-Ok-change_band-clause-waits : goal.returns-in-Ok-change_band-clause-waits
+returns-in-Ok-change_band-clause-waits g c = waits_kept c.append.new.self c.change_band.new.log c.change_band.ensures.log_kept (subst WaitsFrame (sym c.in-Ok.ensures.log) (waits_appended c.args.self.now.log (shown c.args.r.now) c.requires.range))

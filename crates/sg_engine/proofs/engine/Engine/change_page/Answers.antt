@@ -3,6 +3,9 @@ use Rattle.sg_base.specs.Op.{op_of}
 use Rattle.sg_record.specs.Shown.{shown}
 use Rattle.sg_log.specs.Held.{numbered, durable_after, waiting_after}
 use Rattle.sg_ops.specs.Table.{Table, table_of}
+use Rattle.std.proofs.Common.{sym, subst}
+use Rattle.sg_engine.specs.Calls.{WaitsFrame}
+use Rattle.sg_engine.proofs.Waits.{waits_appended, waits_kept}
 use Rattle.sg_engine.proofs.Pools.{apart1, backs1, logged1, well1, moments1, page1, page_early, append_moments, bring_failed}
 use Rattle.sg_engine.proofs.engine.Engine.change_page.Goals as goal
 
@@ -110,3 +113,6 @@ returns-in-Ok-change_page-clause-allowed g c o ds ps k told e early =
     let t : Table = table_of (λ p. (goal.RecordOp-dyn g p).record_meaning p.1) (λ p. (goal.RangeOp-dyn g p).range_meaning p.1) c.args.ops.now in
     page_early o v v1 log log1 ds ps pool r c.requires.range e is away held k early w c.change_page.new.log c.change_page.new.self c.in-Ok.lsn c.in-Ok.ensures.lsn (c.in-Ok-change_page.ensures.log D W told apart backs.ready held)
     t c.args.p.0 (op_of c.args.op.now) (c.in-Ok-change_page.ensures.changed told apart backs)
+
+pub returns-in-Ok-change_page-clause-waits : goal.returns-in-Ok-change_page-clause-waits
+returns-in-Ok-change_page-clause-waits g c = waits_kept c.append.new.self c.change_page.new.log c.change_page.ensures.log_kept (subst WaitsFrame (sym c.in-Ok.ensures.log) (waits_appended c.args.self.now.log (shown c.args.r.now) c.requires.range))

@@ -1,13 +1,17 @@
 use Rattle.std.proofs.Common.{ap}
 use Rattle.sg_ops.specs.Table.{shipped_table}
-use Rattle.sg_top.specs.Top.{Outside, outside}
-use Rattle.sg_top.proofs.Wanting.{not_begun, not_drawn, not_spent}
+use Rattle.sg_commands.specs.Images.{IsOfStore}
+use Rattle.sg_commands.specs.Stores.{grounds, says}
+use Rattle.sg_commands.specs.Top.{Outside, outside}
+use Rattle.sg_commands.proofs.Making.{makes_none, said_none}
+use Rattle.sg_commands.proofs.Stores.{none_where_blank}
+use Rattle.sg_commands.proofs.Wanting.{not_begun, not_drawn, not_spent}
 use Rattle.sg_main.proofs.ended.Ended.of_run.Goals as goal
 
 pub returns-in-Err-clause-run : goal.returns-in-Err-clause-run
 returns-in-Err-clause-run g c are_run =
     let old : Outside = outside (g.D.Disk.view c.args.disk) (g.S.Source.left c.args.script.now) (g.S.Source.faults c.args.script.now) (g.K.Sink.taken c.args.out.now) (g.K.Sink.faults c.args.out.now) in
-    not_begun shipped_table g.D.Disk.told old _ _ _
+    not_begun grounds says shipped_table g.D.Disk.told (IsOfStore grounds says shipped_table old.disk) old _ _ _
     (ap (λ f. g.D.Disk.view f.disk) c.beside.ensures.left) (ap (λ f. f.refused) c.beside.ensures.left) (ap (λ f. f.status) c.beside.ensures.left)
 
 pub returns-in-Err-clause-drawn : goal.returns-in-Err-clause-drawn
@@ -15,3 +19,11 @@ returns-in-Err-clause-drawn g c = not_drawn _ _ _ (ap (λ f. f.status) c.beside.
 
 pub returns-in-Err-clause-spent : goal.returns-in-Err-clause-spent
 returns-in-Err-clause-spent g c = not_spent _ _ _ _ (ap (λ f. (g.D.Disk.view f.disk).calls) c.beside.ensures.left) (ap (λ f. f.refused) c.beside.ensures.left)
+
+pub returns-in-Err-clause-made : goal.returns-in-Err-clause-made
+returns-in-Err-clause-made g c are_init =
+    makes_none grounds says g.D.Disk.told (g.D.Disk.view c.args.disk) _ _ none_where_blank _ (ap (λ f. f.status) c.beside.ensures.left)
+    (ap (λ f. g.D.Disk.view f.disk) c.beside.ensures.left) (ap (λ f. f.refused) c.beside.ensures.left)
+
+pub returns-in-Err-clause-said : goal.returns-in-Err-clause-said
+returns-in-Err-clause-said g c are_init = said_none _ _ (ap (λ f. f.status) c.beside.ensures.left)

@@ -1,57 +1,67 @@
+use Rattle.std.proofs.Common.{refl, false}
+use Rattle.sg_phys_laws.proofs.Counted.{nothing_counted}
+use Rattle.sg_phys_laws.proofs.Poised.{rested_same}
+use Rattle.sg_phys.specs.Phys.{IsGiven}
+use Rattle.sg_phys_laws.proofs.Waiting.{waits_then, waits_old, hands_read, on_err}
+use Rattle.sg_phys.proofs.Causes.{failed_by, failed_read, page_kept}
+use Rattle.sg_pool.specs.Pooled.{sizes}
+use Rattle.sg_engine.proofs.Waits.{waits_forced, waits_kept}
+use Rattle.sg_engine.specs.Calls.{WaitsFrame}
+use Rattle.std.specs.Prelude.{Err}
 use Rattle.std.proofs.Common.{rules, ◌<◌, true, sym, subst, arith, ℕ, max, ap, ◌∙◌}
 use Rattle.sg_pages.specs.Parts.{parts}
-use Rattle.sg_phys.proofs.Seen.{keeps_broken, keeps_look, looks_err, looks_ok, looks_stopped, none_made, rests_err, rests_ok, rests_stopped, some_kept}
+use Rattle.sg_phys.proofs.Seen.{keeps_broken, keeps_look, looks_err, looks_ok, looks_stopped, none_made, rests_err, rests_ok, rests_stopped, some_broken, some_kept}
 use Rattle.sg_phys_laws.proofs.Numbers.{kept_tail}
 use Rattle.sg_pool.specs.Units.{Geometry}
 use Rattle.sg_pages.proofs.engine.PhysEngine.load_band.Goals as goal
 
 pub returns-then-self-clause-rests : goal.returns-then-self-clause-rests
-returns-then-self-clause-rests g c = rests_stopped g.D.Disk.told (parts g.D.Disk.view c.args.self.now) _ c.if-self.true (let b = c.saturating_add-self.ensures in search rules) (let b = c.saturating_add-self.ensures in search rules)
+returns-then-self-clause-rests g c = rests_stopped (IsGiven g.D.Disk.told g.D.Presumed.presumed) (parts g.D.Disk.view c.args.self.now) _ c.if-self.true (let b = c.saturating_add-self.ensures in search rules) (let b = c.saturating_add-self.ensures in search rules)
 
 pub returns-then-self-clause-looks : goal.returns-then-self-clause-looks
-returns-then-self-clause-looks g c = λ t from m. looks_stopped g.D.Disk.told (parts g.D.Disk.view c.args.self.now) _ c.if-self.true (let b = c.saturating_add-self.ensures in search rules) (let b = c.saturating_add-self.ensures in search rules) t from
+returns-then-self-clause-looks g c = λ t from m. looks_stopped (IsGiven g.D.Disk.told g.D.Presumed.presumed) (parts g.D.Disk.view c.args.self.now) _ c.if-self.true (let b = c.saturating_add-self.ensures in search rules) (let b = c.saturating_add-self.ensures in search rules) t from
 
 pub returns-then-self-clause-means : goal.returns-then-self-clause-means
 returns-then-self-clause-means g c = λ t from m. m
 
-pub returns-then-b-bands-clause-rests : goal.returns-then-b-bands-clause-rests
-returns-then-b-bands-clause-rests g c = rests_err g.D.Disk.told (parts g.D.Disk.view c.args.self.now) (g.D.Disk.view c.args.self.now.engine.disk) c.args.self.now.engine.log c.args.self.now.engine.pool _ c.if-self.false (let b = c.saturating_add-self-then-b-bands.ensures in search rules) (let b = c.saturating_add-self-then-b-bands.ensures in search rules)
-
-pub returns-then-b-bands-clause-looks : goal.returns-then-b-bands-clause-looks
-returns-then-b-bands-clause-looks g c = λ t from m. looks_err g.D.Disk.told (parts g.D.Disk.view c.args.self.now) (g.D.Disk.view c.args.self.now.engine.disk) c.args.self.now.engine.log c.args.self.now.engine.pool t from m _ (none_made g.D.Disk.told (parts g.D.Disk.view c.args.self.now))
-
-pub returns-then-b-bands-clause-means : goal.returns-then-b-bands-clause-means
-returns-then-b-bands-clause-means g c = λ t from m. keeps_broken g.D.Disk.told (parts g.D.Disk.view c.args.self.now) (g.D.Disk.view c.args.self.now.engine.disk) c.args.self.now.engine.log c.args.self.now.engine.pool t from m
-
-pub invariant_of-self-then-b-bands-clause-some : goal.invariant_of-self-then-b-bands-clause-some
-invariant_of-self-then-b-bands-clause-some g c = some_kept g.D.Disk.told c.args.self.now.failed true (g.D.Disk.view c.args.self.now.found.value) (g.D.Disk.view c.args.self.now.engine.disk) (g.D.Disk.view c.args.self.now.engine.disk) c.args.self.now.engine.log c.args.self.now.engine.log c.args.self.now.engine.pool c.args.self.now.engine.pool (λ t from m. keeps_broken g.D.Disk.told (parts g.D.Disk.view c.args.self.now) (g.D.Disk.view c.args.self.now.engine.disk) c.args.self.now.engine.log c.args.self.now.engine.pool t from m) c.args.self.now.some
-
 pub returns-in-Err-clause-rests : goal.returns-in-Err-clause-rests
-returns-in-Err-clause-rests g c = rests_err g.D.Disk.told (parts g.D.Disk.view c.args.self.now) (g.D.Disk.view c.load_band.new.self.disk) c.load_band.new.self.log c.load_band.new.self.pool _ c.if-self.false (let b = c.saturating_add-self-in-Err.ensures in search rules) (let b = c.saturating_add-self-in-Err.ensures in search rules)
+returns-in-Err-clause-rests g c = rests_err (IsGiven g.D.Disk.told g.D.Presumed.presumed) (parts g.D.Disk.view c.args.self.now) (g.D.Disk.view c.load_band.new.self.disk) c.load_band.new.self.log c.load_band.new.self.pool {S = Unit {0}} _ c.if-self.false (let b = c.saturating_add-self-in-Err.ensures in search rules) (let b = c.saturating_add-self-in-Err.ensures in search rules) (record { later = c.load_band.ensures.later; heeded = tt; hands = c.load_band.ensures.grown; size = c.load_band.ensures.size }) (λ tell. c.load_band.ensures.failed (c.in-Err.is ∙ ap Err c.in-Err.ensures.fault))
 
 pub returns-in-Err-clause-looks : goal.returns-in-Err-clause-looks
-returns-in-Err-clause-looks g c = λ t from m. looks_err g.D.Disk.told (parts g.D.Disk.view c.args.self.now) (g.D.Disk.view c.load_band.new.self.disk) c.load_band.new.self.log c.load_band.new.self.pool t from m _ (λ o tells e k early. c.load_band.ensures.moments o _ _ k tells e early)
+returns-in-Err-clause-looks g c = λ t from m. looks_err (IsGiven g.D.Disk.told g.D.Presumed.presumed) (parts g.D.Disk.view c.args.self.now) (g.D.Disk.view c.load_band.new.self.disk) c.load_band.new.self.log c.load_band.new.self.pool t from m _ (λ o tells e k early. c.load_band.ensures.moments o _ _ k tells.0 e early)
 
 pub returns-in-Err-clause-means : goal.returns-in-Err-clause-means
-returns-in-Err-clause-means g c = λ t from m. keeps_broken g.D.Disk.told (parts g.D.Disk.view c.args.self.now) (g.D.Disk.view c.load_band.new.self.disk) c.load_band.new.self.log c.load_band.new.self.pool t from m
+returns-in-Err-clause-means g c = λ t from m. keeps_broken (IsGiven g.D.Disk.told g.D.Presumed.presumed) (parts g.D.Disk.view c.args.self.now) (g.D.Disk.view c.load_band.new.self.disk) c.load_band.new.self.log c.load_band.new.self.pool t from m
 
 pub invariant_of-self-in-Err-clause-some : goal.invariant_of-self-in-Err-clause-some
-invariant_of-self-in-Err-clause-some g c = some_kept g.D.Disk.told c.args.self.now.failed true (g.D.Disk.view c.args.self.now.found.value) (g.D.Disk.view c.args.self.now.engine.disk) (g.D.Disk.view c.load_band.new.self.disk) c.args.self.now.engine.log c.load_band.new.self.log c.args.self.now.engine.pool c.load_band.new.self.pool (λ t from m. keeps_broken g.D.Disk.told (parts g.D.Disk.view c.args.self.now) (g.D.Disk.view c.load_band.new.self.disk) c.load_band.new.self.log c.load_band.new.self.pool t from m) c.args.self.now.some
-
-pub returns-in-Ok-clause-loaded : goal.returns-in-Ok-clause-loaded
-returns-in-Ok-clause-loaded g c = record { band = subst (λ (n : Geometry). c.args.b.0 < n.bands) (sym c.load_band.ensures.size) (omega (arith, c.if-b-bands.false, c.bands.ensures)); held = c.in-Ok.ensures.held }
+invariant_of-self-in-Err-clause-some g c = some_broken (IsGiven g.D.Disk.told g.D.Presumed.presumed) (g.D.Disk.view c.args.self.now.found.value) (g.D.Disk.view c.load_band.new.self.disk) c.load_band.new.self.log c.load_band.new.self.pool
 
 pub invariant_of-self-in-Ok-clause-ends : goal.invariant_of-self-in-Ok-clause-ends
 invariant_of-self-in-Ok-clause-ends g c = λ whole. c.max-self.ensures ∙ ap (λ (n : ℕ). max n 1) c.tail.ensures
 
 pub returns-in-Ok-clause-means : goal.returns-in-Ok-clause-means
-returns-in-Ok-clause-means g c = λ t from m. keeps_look g.D.Disk.told (parts g.D.Disk.view c.args.self.now) (g.D.Disk.view c.load_band.new.self.disk) c.load_band.new.self.log c.load_band.new.self.pool t from m (λ o tells e. record { gone = c.in-Ok.ensures.goes_on o _ _ tells e; allowed = λ k early. c.in-Ok.ensures.allowed o _ _ k tells e early })
+returns-in-Ok-clause-means g c = λ t from m. keeps_look (IsGiven g.D.Disk.told g.D.Presumed.presumed) (parts g.D.Disk.view c.args.self.now) (g.D.Disk.view c.load_band.new.self.disk) c.load_band.new.self.log c.load_band.new.self.pool t from m (λ o tells e. record { gone = c.in-Ok.ensures.goes_on o _ _ tells.0 e; allowed = λ k early. c.in-Ok.ensures.allowed o _ _ k tells.0 e early })
 
 pub invariant_of-self-in-Ok-clause-some : goal.invariant_of-self-in-Ok-clause-some
-invariant_of-self-in-Ok-clause-some g c = some_kept g.D.Disk.told c.args.self.now.failed c.args.self.now.failed (g.D.Disk.view c.args.self.now.found.value) (g.D.Disk.view c.args.self.now.engine.disk) (g.D.Disk.view c.load_band.new.self.disk) c.args.self.now.engine.log c.load_band.new.self.log c.args.self.now.engine.pool c.load_band.new.self.pool (λ t from m. keeps_look g.D.Disk.told (parts g.D.Disk.view c.args.self.now) (g.D.Disk.view c.load_band.new.self.disk) c.load_band.new.self.log c.load_band.new.self.pool t from m (λ o tells e. record { gone = c.in-Ok.ensures.goes_on o _ _ tells e; allowed = λ k early. c.in-Ok.ensures.allowed o _ _ k tells e early })) c.args.self.now.some
+invariant_of-self-in-Ok-clause-some g c = some_kept (IsGiven g.D.Disk.told g.D.Presumed.presumed) c.args.self.now.failed (g.D.Disk.view c.args.self.now.found.value) (g.D.Disk.view c.args.self.now.engine.disk) (g.D.Disk.view c.load_band.new.self.disk) c.args.self.now.engine.log c.load_band.new.self.log c.args.self.now.engine.pool c.load_band.new.self.pool (λ t from m. keeps_look (IsGiven g.D.Disk.told g.D.Presumed.presumed) (parts g.D.Disk.view c.args.self.now) (g.D.Disk.view c.load_band.new.self.disk) c.load_band.new.self.log c.load_band.new.self.pool t from m (λ o tells e. record { gone = c.in-Ok.ensures.goes_on o _ _ tells.0 e; allowed = λ k early. c.in-Ok.ensures.allowed o _ _ k tells.0 e early })) c.args.self.now.some
 
 pub returns-in-Ok-clause-rests : goal.returns-in-Ok-clause-rests
-returns-in-Ok-clause-rests g c = rests_ok g.D.Disk.told (parts g.D.Disk.view c.args.self.now) (g.D.Disk.view c.load_band.new.self.disk) c.load_band.new.self.log c.load_band.new.self.pool _ c.max-self.result c.if-self.false (let e = c.args.self.now.ends c.if-self.false in let n = c.max-self.ensures ∙ ap (λ (k : ℕ). max k 1) c.tail.ensures in let k = kept_tail c.args.self.now.engine.log c.load_band.new.self.log c.in-Ok.ensures.log_kept in omega (arith, e, n, k))
+returns-in-Ok-clause-rests g c = rests_ok (IsGiven g.D.Disk.told g.D.Presumed.presumed) (parts g.D.Disk.view c.args.self.now) (g.D.Disk.view c.load_band.new.self.disk) c.load_band.new.self.log c.load_band.new.self.pool {S = Unit {0}} _ tt c.max-self.result _ (c.args.self.now.gates c.if-self.false) c.durable-self.ensures (record { later = c.load_band.ensures.later; heeded = c.in-Ok.ensures.heeded; hands = c.load_band.ensures.grown; size = c.load_band.ensures.size }) c.if-self.false (let e = c.args.self.now.ends c.if-self.false in let n = c.max-self.ensures ∙ ap (λ (k : ℕ). max k 1) c.tail.ensures in let k = kept_tail c.args.self.now.engine.log c.load_band.new.self.log c.in-Ok.ensures.log_kept in omega (arith, e, n, k))
 
 pub returns-in-Ok-clause-looks : goal.returns-in-Ok-clause-looks
-returns-in-Ok-clause-looks g c = λ t from m. looks_ok g.D.Disk.told (parts g.D.Disk.view c.args.self.now) (g.D.Disk.view c.load_band.new.self.disk) c.load_band.new.self.log c.load_band.new.self.pool t from m _ c.max-self.result (λ o tells e. record { gone = c.in-Ok.ensures.goes_on o _ _ tells e; allowed = λ k early. c.in-Ok.ensures.allowed o _ _ k tells e early }) (λ o tells e k early. c.load_band.ensures.moments o _ _ k tells e early)
+returns-in-Ok-clause-looks g c = λ t from m. looks_ok (IsGiven g.D.Disk.told g.D.Presumed.presumed) (parts g.D.Disk.view c.args.self.now) (g.D.Disk.view c.load_band.new.self.disk) c.load_band.new.self.log c.load_band.new.self.pool t from m _ c.max-self.result _ (λ o tells e. record { gone = c.in-Ok.ensures.goes_on o _ _ tells.0 e; allowed = λ k early. c.in-Ok.ensures.allowed o _ _ k tells.0 e early }) (λ o tells e k early. c.load_band.ensures.moments o _ _ k tells.0 e early)
+
+pub returns-then-b-bands-clause-rests : goal.returns-then-b-bands-clause-rests
+returns-then-b-bands-clause-rests g c = rests_ok (IsGiven g.D.Disk.told g.D.Presumed.presumed) (parts g.D.Disk.view c.args.self.now) (g.D.Disk.view c.args.self.now.engine.disk) c.args.self.now.engine.log c.args.self.now.engine.pool {S = Unit {0}} {T = Unit {0}} tt tt c.args.self.now.end c.args.self.now.gate (c.args.self.now.gates c.if-self.false) (c.args.self.now.gates c.if-self.false) (nothing_counted (g.D.Disk.view c.args.self.now.engine.disk) c.args.self.now.engine.log c.args.self.now.engine.pool tt) c.if-self.false refl
+
+pub returns-then-b-bands-clause-looks : goal.returns-then-b-bands-clause-looks
+returns-then-b-bands-clause-looks g c = λ t from m. looks_ok (IsGiven g.D.Disk.told g.D.Presumed.presumed) (parts g.D.Disk.view c.args.self.now) (g.D.Disk.view c.args.self.now.engine.disk) c.args.self.now.engine.log c.args.self.now.engine.pool t from m {T = Unit {0}} tt c.args.self.now.end c.args.self.now.gate (λ o tells e. rested_same o _ _ _ _ _ _ _ _ e (λ k early. early)) (none_made (IsGiven g.D.Disk.told g.D.Presumed.presumed) (parts g.D.Disk.view c.args.self.now))
+
+pub returns-then-b-bands-clause-means : goal.returns-then-b-bands-clause-means
+returns-then-b-bands-clause-means g c = λ t from m. m
+
+pub returns-then-b-bands-clause-loaded : goal.returns-then-b-bands-clause-loaded
+returns-then-b-bands-clause-loaded g c = λ lt. absurd (omega (arith, lt, c.if-b-bands.true, c.bands.ensures))
+
+pub returns-in-Ok-clause-loaded : goal.returns-in-Ok-clause-loaded
+returns-in-Ok-clause-loaded g c = λ lt. c.in-Ok.ensures.held

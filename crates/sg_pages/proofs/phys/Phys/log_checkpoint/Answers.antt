@@ -1,8 +1,14 @@
+use Rattle.sg_phys.specs.Phys.{IsGiven}
+use Rattle.sg_phys.proofs.Causes.{failed_for, can_lie, can_plain, never_marks, point_low}
+use Rattle.sg_phys.proofs.Seen.{not_full}
+use Rattle.sg_phys_laws.proofs.Counted.{not_called}
+use Rattle.sg_phys_laws.proofs.Waiting.{waits_then}
+use Rattle.sg_phys_laws.proofs.Numbers.{place_late}
 use Rattle.std.proofs.Common.{rules, ◌<◌, ◌+◌, ℕ, true, refl, sym, ap, ◌∙◌, subst, arith, max}
 use Rattle.sg_pages.specs.Parts.{parts}
 use Rattle.sg_log.specs.Frames.{LOG_END}
 use Rattle.sg_phys.proofs.Images.{by_table}
-use Rattle.sg_phys.proofs.Seen.{grows_err, grows_ok, grows_stopped, keeps_broken, keeps_mark, looks_err, looks_stopped, mark_looks, mark_looks_err, none_made, some_kept}
+use Rattle.sg_phys.proofs.Seen.{grows_err, grows_ok, grows_stopped, keeps_broken, keeps_mark, looks_err, looks_stopped, mark_looks, mark_looks_err, none_made, some_broken, some_kept}
 use Rattle.sg_phys.specs.Phys.{seen_of}
 use Rattle.sg_phys_laws.proofs.Checkpoints.{checkpoint_long}
 use Rattle.sg_record.specs.Shown.{by}
@@ -13,49 +19,49 @@ use Rattle.sg_engine.specs.declared.fault.EngineFault.TheVariants as engine
 use Rattle.sg_pages.proofs.phys.Phys.log_checkpoint.Goals as goal
 
 pub returns-then-self-clause-grows : goal.returns-then-self-clause-grows
-returns-then-self-clause-grows g c = grows_stopped g.D.Disk.told (parts g.D.Disk.view c.args.self.now) _ c.if-self.true (let b = c.saturating_add-self.ensures in search rules) (let b = c.saturating_add-self.ensures in search rules) (by 0 0 (Checkpoint 0 c.args.live.now))
+returns-then-self-clause-grows g c = grows_stopped (IsGiven g.D.Disk.told g.D.Presumed.presumed) (parts g.D.Disk.view c.args.self.now) _ c.if-self.true (let b = c.saturating_add-self.ensures in search rules) (let b = c.saturating_add-self.ensures in search rules) (by 0 0 (Checkpoint 0 c.args.live.now))
 
 pub returns-then-self-clause-looks : goal.returns-then-self-clause-looks
-returns-then-self-clause-looks g c = λ t from m. looks_stopped g.D.Disk.told (parts g.D.Disk.view c.args.self.now) _ c.if-self.true (let b = c.saturating_add-self.ensures in search rules) (let b = c.saturating_add-self.ensures in search rules) t from
+returns-then-self-clause-looks g c = λ t from m. looks_stopped (IsGiven g.D.Disk.told g.D.Presumed.presumed) (parts g.D.Disk.view c.args.self.now) _ c.if-self.true (let b = c.saturating_add-self.ensures in search rules) (let b = c.saturating_add-self.ensures in search rules) t from
 
 pub returns-then-self-clause-means : goal.returns-then-self-clause-means
 returns-then-self-clause-means g c = λ t from m. m
 
 pub returns-then-place-estimate-clause-grows : goal.returns-then-place-estimate-clause-grows
-returns-then-place-estimate-clause-grows g c = grows_err g.D.Disk.told (parts g.D.Disk.view c.args.self.now) (g.D.Disk.view c.args.self.now.engine.disk) c.args.self.now.engine.log c.args.self.now.engine.pool (by 0 0 (Checkpoint 0 c.args.live.now)) engine.Disk space.Disk c.args.self.now.tried _ refl c.if-self.false (let b = c.saturating_add-self-then-place-estimate.ensures in search rules) (let b = c.saturating_add-self-then-place-estimate.ensures in search rules) (λ e. (let bad : ⊥ = cc in absurd bad)) (λ e. (let bad : ⊥ = cc in absurd bad))
+returns-then-place-estimate-clause-grows g c = grows_err (IsGiven g.D.Disk.told g.D.Presumed.presumed) (parts g.D.Disk.view c.args.self.now) (g.D.Disk.view c.args.self.now.engine.disk) c.args.self.now.engine.log c.args.self.now.engine.pool {S = ℕ} (by 0 0 (Checkpoint 0 c.args.live.now)) engine.Disk space.Disk c.args.self.now.tried _ _ refl (not_full c.args.self.now.full c.args.self.now.failed c.args.self.now.ended c.if-self.false) (not_full c.args.self.now.full c.args.self.now.failed c.args.self.now.ended c.if-self.false) c.if-self.false (let b = c.saturating_add-self-then-place-estimate.ensures in search rules) (let b = c.saturating_add-self-then-place-estimate.ensures in search rules) (λ e. (let bad : ⊥ = cc in absurd bad)) (λ e. (let bad : ⊥ = cc in absurd bad)) (not_called (g.D.Disk.view c.args.self.now.engine.disk) c.args.self.now.engine.log c.args.self.now.engine.pool) (λ e tell. absurd (let low = point_low (IsGiven g.D.Disk.told g.D.Presumed.presumed) (parts g.D.Disk.view c.args.self.now) c.args.self.now.some c.redo_point-estimate.result c.redo_point-estimate.ensures.exact tell in let n = c.place.ensures in let q = c.if-place-estimate.true in let l = place_late c.args.self.now.engine.log (by 0 0 (Checkpoint c.redo_point-estimate.result c.args.live.now)) in omega (arith, low, n, q, l)))
 
 pub returns-then-place-estimate-clause-looks : goal.returns-then-place-estimate-clause-looks
-returns-then-place-estimate-clause-looks g c = λ t from m. looks_err g.D.Disk.told (parts g.D.Disk.view c.args.self.now) (g.D.Disk.view c.args.self.now.engine.disk) c.args.self.now.engine.log c.args.self.now.engine.pool t from m _ (none_made g.D.Disk.told (parts g.D.Disk.view c.args.self.now))
+returns-then-place-estimate-clause-looks g c = λ t from m. looks_err (IsGiven g.D.Disk.told g.D.Presumed.presumed) (parts g.D.Disk.view c.args.self.now) (g.D.Disk.view c.args.self.now.engine.disk) c.args.self.now.engine.log c.args.self.now.engine.pool t from m _ (none_made (IsGiven g.D.Disk.told g.D.Presumed.presumed) (parts g.D.Disk.view c.args.self.now))
 
 pub returns-then-place-estimate-clause-means : goal.returns-then-place-estimate-clause-means
-returns-then-place-estimate-clause-means g c = λ t from m. keeps_broken g.D.Disk.told (parts g.D.Disk.view c.args.self.now) (g.D.Disk.view c.args.self.now.engine.disk) c.args.self.now.engine.log c.args.self.now.engine.pool t from m
+returns-then-place-estimate-clause-means g c = λ t from m. keeps_broken (IsGiven g.D.Disk.told g.D.Presumed.presumed) (parts g.D.Disk.view c.args.self.now) (g.D.Disk.view c.args.self.now.engine.disk) c.args.self.now.engine.log c.args.self.now.engine.pool t from m
 
 pub invariant_of-self-then-place-estimate-clause-some : goal.invariant_of-self-then-place-estimate-clause-some
-invariant_of-self-then-place-estimate-clause-some g c = some_kept g.D.Disk.told c.args.self.now.failed true (g.D.Disk.view c.args.self.now.found.value) (g.D.Disk.view c.args.self.now.engine.disk) (g.D.Disk.view c.args.self.now.engine.disk) c.args.self.now.engine.log c.args.self.now.engine.log c.args.self.now.engine.pool c.args.self.now.engine.pool (λ t from m. keeps_broken g.D.Disk.told (parts g.D.Disk.view c.args.self.now) (g.D.Disk.view c.args.self.now.engine.disk) c.args.self.now.engine.log c.args.self.now.engine.pool t from m) c.args.self.now.some
+invariant_of-self-then-place-estimate-clause-some g c = some_broken (IsGiven g.D.Disk.told g.D.Presumed.presumed) (g.D.Disk.view c.args.self.now.found.value) (g.D.Disk.view c.args.self.now.engine.disk) c.args.self.now.engine.log c.args.self.now.engine.pool
 
 pub invariant_of-self-in-Ok-clause-ends : goal.invariant_of-self-in-Ok-clause-ends
 invariant_of-self-in-Ok-clause-ends g c = λ whole. c.max-self.ensures ∙ ap (λ (n : ℕ). max n 1) c.tail.ensures
 
 pub returns-in-Ok-clause-means : goal.returns-in-Ok-clause-means
-returns-in-Ok-clause-means g c = λ t from m. keeps_mark g.D.Disk.told (parts g.D.Disk.view c.args.self.now) (g.D.Disk.view c.log_plain.new.engine.disk) c.log_plain.new.engine.log c.log_plain.new.engine.pool t from m (by 0 0 (Checkpoint c.redo_point-estimate.result c.args.live.now)) c.log_plain.new.tried (λ tells p. (c.redo_point-estimate.ensures.allowed _ _ _ p.now.engine, (let n = c.log_plain.ensures.place in let m = c.place.ensures in let q = c.if-place-estimate.false in omega (arith, n, m, q)))) c.in-Ok.lsn (λ tells p. c.in-Ok.ensures.runs t t _ _ _ tells (record { phys = p.now; by = by_table t (seen_of (g.D.Disk.view c.args.self.now.found.value)); lawful = m.lawful; fits = tt })) (λ tells p. c.in-Ok.ensures.logs t t _ _ _ tells (record { phys = p.now; by = by_table t (seen_of (g.D.Disk.view c.args.self.now.found.value)); lawful = m.lawful; fits = tt }))
+returns-in-Ok-clause-means g c = λ t from m. keeps_mark (IsGiven g.D.Disk.told g.D.Presumed.presumed) (parts g.D.Disk.view c.args.self.now) (g.D.Disk.view c.log_plain.new.engine.disk) c.log_plain.new.engine.log c.log_plain.new.engine.pool t from m (by 0 0 (Checkpoint c.redo_point-estimate.result c.args.live.now)) c.log_plain.new.tried (λ tells p. (c.redo_point-estimate.ensures.allowed _ _ _ p.now.engine, (let n = c.log_plain.ensures.place in let m = c.place.ensures in let q = c.if-place-estimate.false in omega (arith, n, m, q)))) c.in-Ok.lsn (λ tells p. c.in-Ok.ensures.runs t t _ _ _ tells.0 (record { phys = p.now; by = by_table t (seen_of (g.D.Disk.view c.args.self.now.found.value)); lawful = m.lawful; fits = tt })) (λ tells p. c.in-Ok.ensures.logs t t _ _ _ tells.0 (record { phys = p.now; by = by_table t (seen_of (g.D.Disk.view c.args.self.now.found.value)); lawful = m.lawful; fits = tt }))
 
 pub invariant_of-self-in-Ok-clause-some : goal.invariant_of-self-in-Ok-clause-some
-invariant_of-self-in-Ok-clause-some g c = some_kept g.D.Disk.told c.args.self.now.failed c.args.self.now.failed (g.D.Disk.view c.args.self.now.found.value) (g.D.Disk.view c.args.self.now.engine.disk) (g.D.Disk.view c.log_plain.new.engine.disk) c.args.self.now.engine.log c.log_plain.new.engine.log c.args.self.now.engine.pool c.log_plain.new.engine.pool (λ t from m. keeps_mark g.D.Disk.told (parts g.D.Disk.view c.args.self.now) (g.D.Disk.view c.log_plain.new.engine.disk) c.log_plain.new.engine.log c.log_plain.new.engine.pool t from m (by 0 0 (Checkpoint c.redo_point-estimate.result c.args.live.now)) c.log_plain.new.tried (λ tells p. (c.redo_point-estimate.ensures.allowed _ _ _ p.now.engine, (let n = c.log_plain.ensures.place in let m = c.place.ensures in let q = c.if-place-estimate.false in omega (arith, n, m, q)))) c.in-Ok.lsn (λ tells p. c.in-Ok.ensures.runs t t _ _ _ tells (record { phys = p.now; by = by_table t (seen_of (g.D.Disk.view c.args.self.now.found.value)); lawful = m.lawful; fits = tt })) (λ tells p. c.in-Ok.ensures.logs t t _ _ _ tells (record { phys = p.now; by = by_table t (seen_of (g.D.Disk.view c.args.self.now.found.value)); lawful = m.lawful; fits = tt }))) c.args.self.now.some
+invariant_of-self-in-Ok-clause-some g c = some_kept (IsGiven g.D.Disk.told g.D.Presumed.presumed) c.args.self.now.failed (g.D.Disk.view c.args.self.now.found.value) (g.D.Disk.view c.args.self.now.engine.disk) (g.D.Disk.view c.log_plain.new.engine.disk) c.args.self.now.engine.log c.log_plain.new.engine.log c.args.self.now.engine.pool c.log_plain.new.engine.pool (λ t from m. keeps_mark (IsGiven g.D.Disk.told g.D.Presumed.presumed) (parts g.D.Disk.view c.args.self.now) (g.D.Disk.view c.log_plain.new.engine.disk) c.log_plain.new.engine.log c.log_plain.new.engine.pool t from m (by 0 0 (Checkpoint c.redo_point-estimate.result c.args.live.now)) c.log_plain.new.tried (λ tells p. (c.redo_point-estimate.ensures.allowed _ _ _ p.now.engine, (let n = c.log_plain.ensures.place in let m = c.place.ensures in let q = c.if-place-estimate.false in omega (arith, n, m, q)))) c.in-Ok.lsn (λ tells p. c.in-Ok.ensures.runs t t _ _ _ tells.0 (record { phys = p.now; by = by_table t (seen_of (g.D.Disk.view c.args.self.now.found.value)); lawful = m.lawful; fits = tt })) (λ tells p. c.in-Ok.ensures.logs t t _ _ _ tells.0 (record { phys = p.now; by = by_table t (seen_of (g.D.Disk.view c.args.self.now.found.value)); lawful = m.lawful; fits = tt }))) c.args.self.now.some
 
 pub returns-in-Ok-clause-looks : goal.returns-in-Ok-clause-looks
-returns-in-Ok-clause-looks g c = λ t from m. mark_looks g.D.Disk.told (parts g.D.Disk.view c.args.self.now) (g.D.Disk.view c.log_plain.new.engine.disk) c.log_plain.new.engine.log c.log_plain.new.engine.pool t from m (by 0 0 (Checkpoint c.redo_point-estimate.result c.args.live.now)) c.log_plain.new.tried (λ tells p. (c.redo_point-estimate.ensures.allowed _ _ _ p.now.engine, (let n = c.log_plain.ensures.place in let m = c.place.ensures in let q = c.if-place-estimate.false in omega (arith, n, m, q)))) c.in-Ok.lsn (λ tells p. c.in-Ok.ensures.runs t t _ _ _ tells (record { phys = p.now; by = by_table t (seen_of (g.D.Disk.view c.args.self.now.found.value)); lawful = m.lawful; fits = tt })) (λ tells p. c.in-Ok.ensures.logs t t _ _ _ tells (record { phys = p.now; by = by_table t (seen_of (g.D.Disk.view c.args.self.now.found.value)); lawful = m.lawful; fits = tt })) _ c.max-self.result _ refl
+returns-in-Ok-clause-looks g c = λ t from m. mark_looks (IsGiven g.D.Disk.told g.D.Presumed.presumed) (parts g.D.Disk.view c.args.self.now) (g.D.Disk.view c.log_plain.new.engine.disk) c.log_plain.new.engine.log c.log_plain.new.engine.pool t from m (by 0 0 (Checkpoint c.redo_point-estimate.result c.args.live.now)) c.log_plain.new.tried (λ tells p. (c.redo_point-estimate.ensures.allowed _ _ _ p.now.engine, (let n = c.log_plain.ensures.place in let m = c.place.ensures in let q = c.if-place-estimate.false in omega (arith, n, m, q)))) c.in-Ok.lsn (λ tells p. c.in-Ok.ensures.runs t t _ _ _ tells.0 (record { phys = p.now; by = by_table t (seen_of (g.D.Disk.view c.args.self.now.found.value)); lawful = m.lawful; fits = tt })) (λ tells p. c.in-Ok.ensures.logs t t _ _ _ tells.0 (record { phys = p.now; by = by_table t (seen_of (g.D.Disk.view c.args.self.now.found.value)); lawful = m.lawful; fits = tt })) _ c.max-self.result _ _ refl
 
 pub returns-in-Ok-clause-grows : goal.returns-in-Ok-clause-grows
-returns-in-Ok-clause-grows g c = grows_ok g.D.Disk.told (parts g.D.Disk.view c.args.self.now) (g.D.Disk.view c.log_plain.new.engine.disk) c.log_plain.new.engine.log c.log_plain.new.engine.pool (by 0 0 (Checkpoint 0 c.args.live.now)) c.in-Ok.lsn c.max-self.result c.log_plain.new.tried _ c.if-self.false c.in-Ok.ensures.number (let e = c.args.self.now.ends c.if-self.false in let a = c.log_plain.ensures.above in omega (arith, e, a)) (let b = c.in-Ok.ensures.below in let n = c.max-self.ensures ∙ ap (λ (k : ℕ). max k 1) c.tail.ensures in omega (arith, b, n)) (let e = c.args.self.now.ends c.if-self.false in let n = c.max-self.ensures ∙ ap (λ (k : ℕ). max k 1) c.tail.ensures in let h = c.in-Ok.ensures.grown in let l = checkpoint_long c.redo_point-estimate.result c.args.live.now in omega (arith, e, n, h, l)) refl (let h = c.in-Ok.ensures.within in let l = checkpoint_long c.redo_point-estimate.result c.args.live.now in omega (arith, h, l))
+returns-in-Ok-clause-grows g c = grows_ok (IsGiven g.D.Disk.told g.D.Presumed.presumed) (parts g.D.Disk.view c.args.self.now) (g.D.Disk.view c.log_plain.new.engine.disk) c.log_plain.new.engine.log c.log_plain.new.engine.pool c.in-Ok.lsn (by 0 0 (Checkpoint 0 c.args.live.now)) c.in-Ok.lsn c.max-self.result _ c.log_plain.new.tried _ (c.args.self.now.gates c.if-self.false) c.durable-self.ensures c.in-Ok.ensures.counts c.if-self.false c.in-Ok.ensures.number (let e = c.args.self.now.ends c.if-self.false in let a = c.log_plain.ensures.above in omega (arith, e, a)) (let b = c.in-Ok.ensures.below in let n = c.max-self.ensures ∙ ap (λ (k : ℕ). max k 1) c.tail.ensures in omega (arith, b, n)) (let e = c.args.self.now.ends c.if-self.false in let n = c.max-self.ensures ∙ ap (λ (k : ℕ). max k 1) c.tail.ensures in let h = c.in-Ok.ensures.grown in let l = checkpoint_long c.redo_point-estimate.result c.args.live.now in omega (arith, e, n, h, l)) refl (let h = c.in-Ok.ensures.within in let l = checkpoint_long c.redo_point-estimate.result c.args.live.now in omega (arith, h, l))
 
 pub returns-in-Err-clause-grows : goal.returns-in-Err-clause-grows
-returns-in-Err-clause-grows g c = grows_err g.D.Disk.told (parts g.D.Disk.view c.args.self.now) (g.D.Disk.view c.log_plain.new.engine.disk) c.log_plain.new.engine.log c.log_plain.new.engine.pool (by 0 0 (Checkpoint 0 c.args.live.now)) c.in-Err.fault _ c.log_plain.new.tried _ c.space_fault.ensures c.if-self.false (let b = c.saturating_add-self-in-Err.ensures in search rules) (let b = c.saturating_add-self-in-Err.ensures in search rules) (λ e. let n = c.args.self.now.ends c.if-self.false in let k = c.log_plain.ensures.near (c.in-Err.is ∙ ap Err e) in omega (arith, n, k)) (λ e. (let h = c.log_plain.ensures.past (c.in-Err.is ∙ ap Err e) in let l = checkpoint_long c.redo_point-estimate.result c.args.live.now in omega (arith, h, l)))
+returns-in-Err-clause-grows g c = grows_err (IsGiven g.D.Disk.told g.D.Presumed.presumed) (parts g.D.Disk.view c.args.self.now) (g.D.Disk.view c.log_plain.new.engine.disk) c.log_plain.new.engine.log c.log_plain.new.engine.pool (by 0 0 (Checkpoint 0 c.args.live.now)) c.in-Err.fault _ c.log_plain.new.tried _ _ c.space_fault.ensures c.is_log_end-self.ensures (not_full c.args.self.now.full c.args.self.now.failed c.args.self.now.ended c.if-self.false) c.if-self.false (let b = c.saturating_add-self-in-Err.ensures in search rules) (let b = c.saturating_add-self-in-Err.ensures in search rules) (λ e. let n = c.args.self.now.ends c.if-self.false in let k = c.log_plain.ensures.near (c.in-Err.is ∙ ap Err e) in omega (arith, n, k)) (λ e. (let h = c.log_plain.ensures.past (c.in-Err.is ∙ ap Err e) in let l = checkpoint_long c.redo_point-estimate.result c.args.live.now in omega (arith, h, l))) c.in-Err.ensures.counts (λ e tell. failed_for (IsGiven g.D.Disk.told g.D.Presumed.presumed) (parts g.D.Disk.view c.args.self.now) c.args.self.now.some g.D.Disk.told (g.D.Disk.view c.log_plain.new.engine.disk) (by 0 0 (Checkpoint c.redo_point-estimate.result c.args.live.now)) c.log_plain.result (λ given. given.0) c.log_plain.ensures.failed (λ t from m. tt) (c.in-Err.is ∙ ap Err e) tell)
 
 pub returns-in-Err-clause-looks : goal.returns-in-Err-clause-looks
-returns-in-Err-clause-looks g c = λ t from m. mark_looks_err g.D.Disk.told (parts g.D.Disk.view c.args.self.now) (g.D.Disk.view c.log_plain.new.engine.disk) c.log_plain.new.engine.log c.log_plain.new.engine.pool t from m (by 0 0 (Checkpoint c.redo_point-estimate.result c.args.live.now)) c.log_plain.new.tried (λ tells p. (c.redo_point-estimate.ensures.allowed _ _ _ p.now.engine, (let n = c.log_plain.ensures.place in let m = c.place.ensures in let q = c.if-place-estimate.false in omega (arith, n, m, q)))) _ c.log_plain.result _ refl (λ tells p. c.log_plain.ensures.runs t t _ _ _ tells (record { phys = p.now; by = by_table t (seen_of (g.D.Disk.view c.args.self.now.found.value)); lawful = m.lawful; fits = tt }))
+returns-in-Err-clause-looks g c = λ t from m. mark_looks_err (IsGiven g.D.Disk.told g.D.Presumed.presumed) (parts g.D.Disk.view c.args.self.now) (g.D.Disk.view c.log_plain.new.engine.disk) c.log_plain.new.engine.log c.log_plain.new.engine.pool t from m (by 0 0 (Checkpoint c.redo_point-estimate.result c.args.live.now)) c.log_plain.new.tried (λ tells p. (c.redo_point-estimate.ensures.allowed _ _ _ p.now.engine, (let n = c.log_plain.ensures.place in let m = c.place.ensures in let q = c.if-place-estimate.false in omega (arith, n, m, q)))) _ c.log_plain.result _ _ refl (λ tells p. c.log_plain.ensures.runs t t _ _ _ tells.0 (record { phys = p.now; by = by_table t (seen_of (g.D.Disk.view c.args.self.now.found.value)); lawful = m.lawful; fits = tt }))
 
 pub returns-in-Err-clause-means : goal.returns-in-Err-clause-means
-returns-in-Err-clause-means g c = λ t from m. keeps_broken g.D.Disk.told (parts g.D.Disk.view c.args.self.now) (g.D.Disk.view c.log_plain.new.engine.disk) c.log_plain.new.engine.log c.log_plain.new.engine.pool t from m
+returns-in-Err-clause-means g c = λ t from m. keeps_broken (IsGiven g.D.Disk.told g.D.Presumed.presumed) (parts g.D.Disk.view c.args.self.now) (g.D.Disk.view c.log_plain.new.engine.disk) c.log_plain.new.engine.log c.log_plain.new.engine.pool t from m
 
 pub invariant_of-self-in-Err-clause-some : goal.invariant_of-self-in-Err-clause-some
-invariant_of-self-in-Err-clause-some g c = some_kept g.D.Disk.told c.args.self.now.failed true (g.D.Disk.view c.args.self.now.found.value) (g.D.Disk.view c.args.self.now.engine.disk) (g.D.Disk.view c.log_plain.new.engine.disk) c.args.self.now.engine.log c.log_plain.new.engine.log c.args.self.now.engine.pool c.log_plain.new.engine.pool (λ t from m. keeps_broken g.D.Disk.told (parts g.D.Disk.view c.args.self.now) (g.D.Disk.view c.log_plain.new.engine.disk) c.log_plain.new.engine.log c.log_plain.new.engine.pool t from m) c.args.self.now.some
+invariant_of-self-in-Err-clause-some g c = some_broken (IsGiven g.D.Disk.told g.D.Presumed.presumed) (g.D.Disk.view c.args.self.now.found.value) (g.D.Disk.view c.log_plain.new.engine.disk) c.log_plain.new.engine.log c.log_plain.new.engine.pool

@@ -29,5 +29,5 @@ returns-in-Ok-clause-caused g c into = causing.well _ _ c.args.self.now.store.st
 
 pub returns-in-Err-clause-caused : goal.returns-in-Err-clause-caused
 returns-in-Err-clause-caused g c into =
-    causing.by_trouble (g.E.Engine.view c.args.self.now.store.engine) (g.E.Engine.view c.flush.new.self.engine) c.args.self.now.store.stop c.flush.new.self.stop Flush (shown_answer into c.answer_to.result) (trouble_of c.in-Err.why) (c.answer_to.ensures.trouble into)
+    causing.by_trouble (g.E.Engine.view c.args.self.now.store.engine) (g.E.Engine.view c.flush.new.self.engine) c.args.self.now.store.stop c.flush.new.self.stop Flush (shown_answer into c.answer_to.result) (trouble_of c.in-Err.why) (c.answer_to.ensures.trouble into) c.requires.running c.flush.ensures.heeds
     (causing.flush_refused (g.E.Engine.view c.args.self.now.store.engine) (g.E.Engine.view c.flush.new.self.engine) (core_of c.args.self.now.store) (core_of c.flush.new.self) c.in-Err.why c.in-Err.ensures.causes)

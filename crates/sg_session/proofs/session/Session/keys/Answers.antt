@@ -44,5 +44,5 @@ returns-in-Ok-clause-caused g c into = causing.well _ _ c.args.self.now.store.st
 
 pub returns-in-Err-clause-caused : goal.returns-in-Err-clause-caused
 returns-in-Err-clause-caused g c into =
-    causing.by_trouble (g.E.Engine.view c.args.self.now.store.engine) (g.E.Engine.view c.keys.new.self.engine) c.args.self.now.store.stop c.keys.new.self.stop (Other (Of c.args.name (Do (On c.args.table Keys)))) (shown_answer into c.answer_to.result) (trouble_of c.in-Err.why) (c.answer_to.ensures.trouble into)
+    causing.by_trouble (g.E.Engine.view c.args.self.now.store.engine) (g.E.Engine.view c.keys.new.self.engine) c.args.self.now.store.stop c.keys.new.self.stop (Other (Of c.args.name (Do (On c.args.table Keys)))) (shown_answer into c.answer_to.result) (trouble_of c.in-Err.why) (c.answer_to.ensures.trouble into) c.requires.running c.keys.ensures.heeds
     (causing.list_refused (g.E.Engine.view c.args.self.now.store.engine) (g.E.Engine.view c.keys.new.self.engine) (core_of c.args.self.now.store) (core_of c.keys.new.self) c.args.name (On c.args.table Keys) tt c.in-Some.named.txn.0 c.in-Err.why c.in-Err.ensures.causes)

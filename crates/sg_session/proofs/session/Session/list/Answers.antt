@@ -43,5 +43,5 @@ returns-in-Ok-clause-caused g c into = causing.well _ _ c.args.self.now.store.st
 
 pub returns-in-Err-clause-caused : goal.returns-in-Err-clause-caused
 returns-in-Err-clause-caused g c into =
-    causing.by_trouble (g.E.Engine.view c.args.self.now.store.engine) (g.E.Engine.view c.list.new.self.engine) c.args.self.now.store.stop c.list.new.self.stop (Other (Of c.args.name (Do Names))) (shown_answer into c.answer_to.result) (trouble_of c.in-Err.why) (c.answer_to.ensures.trouble into)
+    causing.by_trouble (g.E.Engine.view c.args.self.now.store.engine) (g.E.Engine.view c.list.new.self.engine) c.args.self.now.store.stop c.list.new.self.stop (Other (Of c.args.name (Do Names))) (shown_answer into c.answer_to.result) (trouble_of c.in-Err.why) (c.answer_to.ensures.trouble into) c.requires.running c.list.ensures.heeds
     (causing.list_refused (g.E.Engine.view c.args.self.now.store.engine) (g.E.Engine.view c.list.new.self.engine) (core_of c.args.self.now.store) (core_of c.list.new.self) c.args.name Names tt c.in-Some.named.txn.0 c.in-Err.why c.in-Err.ensures.causes)

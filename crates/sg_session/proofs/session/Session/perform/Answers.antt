@@ -43,5 +43,5 @@ returns-in-Ok-clause-caused g c = causing.well _ _ c.args.self.now.store.stop _ 
 
 pub returns-in-Err-clause-caused : goal.returns-in-Err-clause-caused
 returns-in-Err-clause-caused g c =
-    causing.by_trouble (g.E.Engine.view c.args.self.now.store.engine) (g.E.Engine.view c.perform.new.self.engine) c.args.self.now.store.stop c.perform.new.self.stop (Other (Of c.args.name (Do (said_op c.args.op.now)))) (shown_answer c.perform.new.into c.answer_to.result) (trouble_of c.in-Err.why) (c.answer_to.ensures.trouble c.perform.new.into)
+    causing.by_trouble (g.E.Engine.view c.args.self.now.store.engine) (g.E.Engine.view c.perform.new.self.engine) c.args.self.now.store.stop c.perform.new.self.stop (Other (Of c.args.name (Do (said_op c.args.op.now)))) (shown_answer c.perform.new.into c.answer_to.result) (trouble_of c.in-Err.why) (c.answer_to.ensures.trouble c.perform.new.into) c.requires.running c.perform.ensures.heeds
     (causing.do_refused (g.E.Engine.view c.args.self.now.store.engine) (g.E.Engine.view c.perform.new.self.engine) (core_of c.args.self.now.store) (core_of c.perform.new.self) c.args.name (said_op c.args.op.now) (is_changing (said_op c.args.op.now)) c.in-Some.named.txn.0 c.in-Err.why c.in-Err.ensures.causes)

@@ -9,7 +9,9 @@ use Rattle.sg_store.proofs.Doing.{risen_from}
 use Rattle.sg_store.proofs.Aborts as aborts
 use Rattle.sg_store.proofs.Ending.{near_at, IsNear}
 use Rattle.sg_ops.specs.Table.{table_of}
-use Rattle.sg_store.specs.Engine.{led}
+use Rattle.sg_recovery.specs.Log.Record.{End}
+use Rattle.sg_store.specs.Engine.{led, Appended, Rested}
+use Rattle.sg_store.proofs.Leaving.{ends_live}
 use Rattle.sg_store.proofs.Counting.{live_going}
 use Rattle.sg_store.proofs.store.Store.abort.Given as given
 use Rattle.sg_store.proofs.Serving.{serves_on}
@@ -19,6 +21,7 @@ use Rattle.sg_store.proofs.Resting as resting
 use Rattle.sg_store.proofs.Causing as causing
 use Rattle.sg_base.specs.Ends.{HasRisen}
 use Rattle.sg_store.proofs.Heeding as heeding
+use Rattle.sg_store.proofs.Accounting as accounting
 use Rattle.sg_store.proofs.store.Store.abort.Goals as goal
 
 pub returns-then-is_some-clause-aborts : goal.returns-then-is_some-clause-aborts
@@ -47,7 +50,11 @@ returns-in-Ok-end-clause-aborts g c z from m told x lawful shows =
     let live = aborts.live _ (g.E.Engine.basis z) lawful (led t z from (g.E.Engine.view c.args.self.now.engine)) (core_of c.args.self.now) x c.args.txn.0 shows (sym c.is_some.ensures ∙ c.if-is_some.false) (sym c.is_live.ensures ∙ c.if-not-is_live.false) in
     let done = c.in-Ok.ensures.undone z from m told x lawful kept live in
     let stays = c.undo_all.ensures.stays z from m told x lawful kept live in
-    let b = c.in-Ok-end.ensures.ends t z from (c.undo_all.ensures.means z from m) (c.in-Ok.ensures.tells told) done.undoing.engine done.undoing.idle in
+    let y = led t z from (g.E.Engine.view c.undo_all.new.self.engine) in
+    let w = led t z from (g.E.Engine.view c.end.new.self) in
+    let u = c.args.txn.0 in
+    let b = ends_live t (g.E.Engine.basis z) y w u (λ l p. Appended t (g.E.Engine.basis z) y w (record { lsn = l; is = End u p })) (Rested t (g.E.Engine.basis z) y w) (done.undoing.undoes.same.lives u ∙ live)
+    (c.in-Ok-end.ensures.ends t z from (c.undo_all.ensures.means z from m) (c.in-Ok.ensures.tells told) done.undoing.engine done.undoing.idle) in
     aborts.along_done _ (g.E.Engine.basis z) lawful (led t z from (g.E.Engine.view c.args.self.now.engine)) (core_of c.args.self.now) x c.args.txn.0 shows (sym c.is_some.ensures ∙ c.if-is_some.false) (sym c.is_live.ensures ∙ c.if-not-is_live.false) (led t z from (g.E.Engine.view c.undo_all.new.self.engine)) done stays (led t z from (g.E.Engine.view c.end.new.self)) (led t z from (g.E.Engine.view c.forget.new.self.engine)) (ap (λ e. led t z from (g.E.Engine.view e)) (sym c.forget.ensures.engine)) b.0 b.1 b.2 b.3 (core_of c.forget.new.self)
     (c.forget.ensures.core ∙ ap (λ (k : Core). record k { live = without c.args.txn.0 k.live; held = released c.args.txn.0 k.held }) c.undo_all.ensures.core))
 
@@ -58,7 +65,11 @@ returns-in-Err-end-clause-aborts g c z from m told x lawful shows =
     let live = aborts.live _ (g.E.Engine.basis z) lawful (led t z from (g.E.Engine.view c.args.self.now.engine)) (core_of c.args.self.now) x c.args.txn.0 shows (sym c.is_some.ensures ∙ c.if-is_some.false) (sym c.is_live.ensures ∙ c.if-not-is_live.false) in
     let done = c.in-Ok.ensures.undone z from m told x lawful kept live in
     let stays = c.undo_all.ensures.stays z from m told x lawful kept live in
-    let b = c.end.ensures.ends t z from (c.undo_all.ensures.means z from m) (c.in-Ok.ensures.tells told) done.undoing.engine done.undoing.idle in
+    let y = led t z from (g.E.Engine.view c.undo_all.new.self.engine) in
+    let w = led t z from (g.E.Engine.view c.end.new.self) in
+    let u = c.args.txn.0 in
+    let b = ends_live t (g.E.Engine.basis z) y w u (λ l p. Unit {0}) (Unit {0}) (done.undoing.undoes.same.lives u ∙ live)
+    (c.in-Err-end.ensures.ends t z from (c.undo_all.ensures.means z from m) (c.in-Ok.ensures.tells told) done.undoing.engine done.undoing.idle) in
     aborts.along _ (g.E.Engine.basis z) lawful (led t z from (g.E.Engine.view c.args.self.now.engine)) (core_of c.args.self.now) x c.args.txn.0 shows (sym c.is_some.ensures ∙ c.if-is_some.false) (sym c.is_live.ensures ∙ c.if-not-is_live.false) (led t z from (g.E.Engine.view c.end.new.self)) (led t z from (g.E.Engine.view c.halt-in-Err-end.new.self.engine)) (core_of c.halt-in-Err-end.new.self) (ap (λ e. led t z from (g.E.Engine.view e)) (sym c.halt-in-Err-end.ensures.engine)) c.halt-in-Err-end.result c.in-Err-end.fault c.halt-in-Err-end.ensures.answer
     (aborts.end_stays _ (g.E.Engine.basis z) lawful (led t z from (g.E.Engine.view c.args.self.now.engine)) (core_of c.args.self.now) x c.args.txn.0 shows (sym c.is_some.ensures ∙ c.if-is_some.false) (sym c.is_live.ensures ∙ c.if-not-is_live.false) (led t z from (g.E.Engine.view c.undo_all.new.self.engine)) done stays (led t z from (g.E.Engine.view c.end.new.self)) b.0 b.1 b.2)
     (c.halt-in-Err-end.ensures.core ∙ ap (λ (k : Core). record k { stopped = Some (stop_at c.in-Err-end.fault) }) c.undo_all.ensures.core) (λ d. risen_from (led t z from (g.E.Engine.view c.args.self.now.engine)).faults (led t z from (g.E.Engine.view c.undo_all.new.self.engine)).faults (led t z from (g.E.Engine.view c.end.new.self)).faults c.undo_all.ensures.later (c.in-Err-end.ensures.counts.failed d))
@@ -95,18 +106,18 @@ end-requires g c =
       can = record {
         by = t;
         sizes = s.sizes;
-        from = s.from;
-        means = c.undo_all.ensures.means s.sizes s.from s.means;
+        from = λ told. s.from (c.undo_all.ensures.told told);
+        means = λ told. c.undo_all.ensures.means s.sizes (s.from (c.undo_all.ensures.told told)) (s.means (c.undo_all.ensures.told told));
         can = λ told.
             (let one = c.undo_all.ensures.told told in
             let h = s.can one in
-            let v = led t s.sizes s.from (g.E.Engine.view c.args.self.now.engine) in
+            let v = led t s.sizes (s.from one) (g.E.Engine.view c.args.self.now.engine) in
             let b = g.E.Engine.basis s.sizes in
             let stop = sym c.is_some.ensures ∙ c.if-is_some.false in
             let kept = (aborts.runs _ b h.lawful v (core_of c.args.self.now) h.run c.args.txn.0 h.shows stop).is_kept in
             let live = aborts.live _ b h.lawful v (core_of c.args.self.now) h.run c.args.txn.0 h.shows stop (sym c.is_live.ensures ∙ c.if-not-is_live.false) in
-            let done = c.in-Ok.ensures.undone s.sizes s.from s.means one h.run h.lawful kept live in
-            record { rest = record { engine = done.undoing.engine; idle = done.undoing.idle }; going = live_going c.args.txn.0 (led t s.sizes s.from (g.E.Engine.view c.undo_all.new.self.engine)).log (done.undoing.undoes.same.lives c.args.txn.0 ∙ live) });
+            let done = c.in-Ok.ensures.undone s.sizes (s.from one) (s.means one) one h.run h.lawful kept live in
+            record { rest = record { engine = done.undoing.engine; idle = done.undoing.idle }; going = live_going c.args.txn.0 (led t s.sizes (s.from one) (g.E.Engine.view c.undo_all.new.self.engine)).log (done.undoing.undoes.same.lives c.args.txn.0 ∙ live) });
       };
     }
 
@@ -130,13 +141,13 @@ returns-in-Ok-end-clause-rests g c live objects durable s =
     let t = table_of (λ y. (given.RecordOp-dyn g y).record_meaning y.1) (λ y. (given.RangeOp-dyn g y).range_meaning y.1) c.args.ops.now in
     record {
       sizes = s.sizes;
-      from = s.from;
-      means = subst (λ e. (g.E.Engine.view e).means t s.sizes s.from) (sym c.forget.ensures.engine) (c.end.ensures.means t s.sizes s.from (c.undo_all.ensures.means s.sizes s.from s.means));
+      from = λ tells. s.from (c.undo_all.ensures.told (c.end.ensures.counts.told (subst (λ e. (g.E.Engine.view e).Told) c.forget.ensures.engine tells)));
+      means = λ tells. subst (λ e. (g.E.Engine.view e).means t s.sizes (s.from (c.undo_all.ensures.told (c.end.ensures.counts.told (subst (λ e. (g.E.Engine.view e).Told) c.forget.ensures.engine tells))))) (sym c.forget.ensures.engine) (c.end.ensures.means t s.sizes (s.from (c.undo_all.ensures.told (c.end.ensures.counts.told (subst (λ e. (g.E.Engine.view e).Told) c.forget.ensures.engine tells)))) (c.undo_all.ensures.means s.sizes (s.from (c.undo_all.ensures.told (c.end.ensures.counts.told (subst (λ e. (g.E.Engine.view e).Told) c.forget.ensures.engine tells)))) (s.means (c.undo_all.ensures.told (c.end.ensures.counts.told (subst (λ e. (g.E.Engine.view e).Told) c.forget.ensures.engine tells))))));
       can = λ tells.
           (let was = c.undo_all.ensures.told (c.end.ensures.counts.told (subst (λ e. (g.E.Engine.view e).Told) c.forget.ensures.engine tells)) in
           let h = s.can was in
-          resting.aborted_has t (g.E.Engine.basis s.sizes) (led t s.sizes s.from (g.E.Engine.view c.args.self.now.engine)) (led t s.sizes s.from (g.E.Engine.view c.forget.new.self.engine)) (core_of c.args.self.now) _ live objects durable h (g.E.Engine.view c.forget.new.self.engine).tail (g.E.Engine.view c.args.self.now.engine).faults (g.E.Engine.view c.forget.new.self.engine).faults c.args.txn.0
-          (returns-in-Ok-end-clause-aborts g c s.sizes s.from s.means was h.run h.lawful h.shows));
+          resting.aborted_has t (g.E.Engine.basis s.sizes) (led t s.sizes (s.from was) (g.E.Engine.view c.args.self.now.engine)) (led t s.sizes (s.from was) (g.E.Engine.view c.forget.new.self.engine)) (core_of c.args.self.now) _ live objects durable h (g.E.Engine.view c.forget.new.self.engine).tail (g.E.Engine.view c.args.self.now.engine).faults (g.E.Engine.view c.forget.new.self.engine).faults c.args.txn.0
+          (returns-in-Ok-end-clause-aborts g c s.sizes (s.from was) (s.means was) was h.run h.lawful h.shows));
     }
 
 pub returns-in-Err-clause-told : goal.returns-in-Err-clause-told
@@ -191,15 +202,17 @@ returns-then-not-is_live-clause-heeds g c =
 
 pub returns-in-Err-clause-heeds : goal.returns-in-Err-clause-heeds
 returns-in-Err-clause-heeds g c =
-    heeding.heeds_halt (g.E.Engine.view) c.args.self.now.stop c.halt.new.self.stop c.in-Err.fault (g.E.Engine.view c.args.self.now.engine) c.undo_all.new.self.engine c.halt.new.self.engine c.halt.ensures.engine (ap (λ (k : Core). k.stopped) c.halt.ensures.core)
-    c.undo_all.ensures.later c.undo_all.ensures.tail c.in-Err.ensures.failed
+    heeding.heeds_halt (g.E.Engine.view) c.args.self.now.stop c.halt.new.self.stop c.in-Err.fault (g.E.Engine.view c.args.self.now.engine) c.undo_all.new.self.engine c.halt.new.self.engine c.halt.ensures.engine (ap (λ (k : Core). k.stopped) c.halt.ensures.core) (causing.none_of _ (sym c.is_some.ensures ∙ c.if-is_some.false))
+    c.undo_all.ensures.later c.undo_all.ensures.tail c.in-Err.ensures.failed c.in-Err.ensures.accounts
 
 pub returns-in-Err-end-clause-heeds : goal.returns-in-Err-end-clause-heeds
 returns-in-Err-end-clause-heeds g c =
-    heeding.heeds_halt (g.E.Engine.view) c.args.self.now.stop c.halt-in-Err-end.new.self.stop c.in-Err-end.fault (g.E.Engine.view c.args.self.now.engine) c.end.new.self c.halt-in-Err-end.new.self.engine c.halt-in-Err-end.ensures.engine (ap (λ (k : Core). k.stopped) c.halt-in-Err-end.ensures.core)
+    heeding.heeds_halt (g.E.Engine.view) c.args.self.now.stop c.halt-in-Err-end.new.self.stop c.in-Err-end.fault (g.E.Engine.view c.args.self.now.engine) c.end.new.self c.halt-in-Err-end.new.self.engine c.halt-in-Err-end.ensures.engine (ap (λ (k : Core). k.stopped) c.halt-in-Err-end.ensures.core) (causing.none_of _ (sym c.is_some.ensures ∙ c.if-is_some.false))
     (omega (arith, c.undo_all.ensures.later, c.end.ensures.counts.later)) (omega (arith, c.undo_all.ensures.tail, c.end.ensures.counts.tail)) (λ is. heeding.risen_on _ _ _ _ c.undo_all.ensures.later c.end.ensures.counts.later (omega arith) (c.in-Err-end.ensures.counts.failed is))
+    (accounting.accounts_then {B = Unit {0}} (g.E.Engine.view c.args.self.now.engine) (g.E.Engine.view c.undo_all.new.self.engine) (g.E.Engine.view c.end.new.self) c.in-Err-end.fault (accounting.unfailed_done (g.E.Engine.view c.args.self.now.engine) (g.E.Engine.view c.undo_all.new.self.engine) _ c.in-Ok.ensures.accounts) c.in-Ok.ensures.tells c.in-Err-end.ensures.counts.accounts)
 
 pub returns-in-Ok-end-clause-heeds : goal.returns-in-Ok-end-clause-heeds
 returns-in-Ok-end-clause-heeds g c =
     heeding.heeds_kept (g.E.Engine.view) c.args.self.now.stop c.forget.new.self.stop (g.E.Engine.view c.args.self.now.engine) c.end.new.self c.forget.new.self.engine c.forget.ensures.engine (ap (λ (k : Core). k.stopped) c.forget.ensures.core ∙ ap (λ (k : Core). k.stopped) c.undo_all.ensures.core)
     (c.in-Ok-end.ensures.counts.quiet ∙ c.in-Ok.ensures.quiet) (omega (arith, c.undo_all.ensures.tail, c.end.ensures.counts.tail)) (λ h. c.in-Ok-end.ensures.counts.tells (c.in-Ok.ensures.tells h))
+    (accounting.unfailed_both (g.E.Engine.view c.args.self.now.engine) (g.E.Engine.view c.undo_all.new.self.engine) (g.E.Engine.view c.end.new.self) (accounting.unfailed_done (g.E.Engine.view c.args.self.now.engine) (g.E.Engine.view c.undo_all.new.self.engine) _ c.in-Ok.ensures.accounts) (accounting.unfailed_done (g.E.Engine.view c.undo_all.new.self.engine) (g.E.Engine.view c.end.new.self) _ c.in-Ok-end.ensures.counts.accounts))

@@ -17,6 +17,7 @@ use Rattle.sg_core.specs.Live.{Txn, is_live, reserving}
 use Rattle.sg_store.proofs.Holders.{all_hold, reserving_holders, marked_holders}
 use Rattle.sg_store.proofs.Heeding as heeding
 use Rattle.sg_store.specs.Store.{Core}
+use Rattle.sg_store.proofs.Accounting as accounting
 use Rattle.sg_store.proofs.store.Store.act.Goals as goal
 
 pub returns-in-Err-Model-clause-stays : goal.returns-in-Err-Model-clause-stays
@@ -175,17 +176,17 @@ perform-requires-clause-can g c =
     let s = c.requires.can in
     record {
       sizes = s.sizes;
-      from = s.from;
-      means = c.act.ensures.means t s.sizes s.from s.means;
+      from = λ told. s.from (c.act.ensures.told told);
+      means = λ told. c.act.ensures.means t s.sizes (s.from (c.act.ensures.told told)) (s.means (c.act.ensures.told told));
       can = λ told.
           (let h = s.can (c.act.ensures.told told) in
-          let v = led t s.sizes s.from (g.E.Engine.view c.args.self.now.engine) in
-          let w = led t s.sizes s.from (g.E.Engine.view c.act.new.self) in
+          let v = led t s.sizes (s.from (c.act.ensures.told told)) (g.E.Engine.view c.args.self.now.engine) in
+          let w = led t s.sizes (s.from (c.act.ensures.told told)) (g.E.Engine.view c.act.new.self) in
           let b = g.E.Engine.basis s.sizes in
           let ts = c.args.self.now.txns in
           let u = c.args.txn.0 in
           let op = said_op c.args.op.now in
-          let p = c.act.ensures.acts t s.sizes s.from s.means (c.act.ensures.told told) h.room.is_kept.engine h.room.is_kept.idle in
+          let p = c.act.ensures.acts t s.sizes (s.from (c.act.ensures.told told)) (s.means (c.act.ensures.told told)) (c.act.ensures.told told) h.room.is_kept.engine h.room.is_kept.idle in
           let then = acting.room_then _ b h.lawful v ts h.run u op c.args.needs h.room h.granted w p in
           let begun = acting.begun _ b h.lawful v ts h.run u op c.args.needs h.room h.granted in
           let so = acting.acts_so _ b h.lawful v ts h.run u op c.args.needs h.room h.granted w p in
@@ -201,23 +202,23 @@ end_action-requires g c =
       can = record {
         by = t;
         sizes = s.sizes;
-        from = s.from;
-        means = c.perform.ensures.means s.sizes s.from (c.act.ensures.means t s.sizes s.from s.means);
+        from = λ told. s.from (c.act.ensures.told (c.perform.ensures.counts.told told));
+        means = λ told. c.perform.ensures.means s.sizes (s.from (c.act.ensures.told (c.perform.ensures.counts.told told))) (c.act.ensures.means t s.sizes (s.from (c.act.ensures.told (c.perform.ensures.counts.told told))) (s.means (c.act.ensures.told (c.perform.ensures.counts.told told))));
         can = λ told.
             (let one = c.perform.ensures.counts.told told in
             let h = s.can (c.act.ensures.told one) in
-            let v = led t s.sizes s.from (g.E.Engine.view c.args.self.now.engine) in
-            let w = led t s.sizes s.from (g.E.Engine.view c.act.new.self) in
+            let v = led t s.sizes (s.from (c.act.ensures.told one)) (g.E.Engine.view c.args.self.now.engine) in
+            let w = led t s.sizes (s.from (c.act.ensures.told one)) (g.E.Engine.view c.act.new.self) in
             let b = g.E.Engine.basis s.sizes in
             let ts = c.args.self.now.txns in
             let u = c.args.txn.0 in
             let op = said_op c.args.op.now in
-            let p = c.act.ensures.acts t s.sizes s.from s.means (c.act.ensures.told one) h.room.is_kept.engine h.room.is_kept.idle in
+            let p = c.act.ensures.acts t s.sizes (s.from (c.act.ensures.told one)) (s.means (c.act.ensures.told one)) (c.act.ensures.told one) h.room.is_kept.engine h.room.is_kept.idle in
             let then = acting.room_then _ b h.lawful v ts h.run u op c.args.needs h.room h.granted w p in
             let begun = acting.begun _ b h.lawful v ts h.run u op c.args.needs h.room h.granted in
             let so = acting.acts_so _ b h.lawful v ts h.run u op c.args.needs h.room h.granted w p in
             let can = acting.can_so _ b h.lawful v ts h.run u op c.args.needs h.room h.granted w p in
-            let f = c.in-Ok.ensures.performs s.sizes s.from (c.act.ensures.means t s.sizes s.from s.means) one then.reading begun p.0 so refl can in
+            let f = c.in-Ok.ensures.performs s.sizes (s.from (c.act.ensures.told one)) (c.act.ensures.means t s.sizes (s.from (c.act.ensures.told one)) (s.means (c.act.ensures.told one))) one then.reading begun p.0 so refl can in
             record { engine = f.1.0.goes_on.engine; action = begun; acting = f.1.0.action; own = refl });
       };
     }
@@ -265,33 +266,41 @@ pub returns-else-reserves-clause-causes : goal.returns-else-reserves-clause-caus
 returns-else-reserves-clause-causes g c = (refl, ap (λ (ls : List Txn). map (λ (x : Txn). x.transaction) ls) c.mark.ensures.txns ∙ numbers_marked (said_op c.args.op.now) c.args.txn.0 c.args.self.now.txns)
 
 pub returns-in-Err-Model-clause-heeds : goal.returns-in-Err-Model-clause-heeds
-returns-in-Err-Model-clause-heeds g c =
+returns-in-Err-Model-clause-heeds g c none =
     let quiet = rw c.in-Err-Model.field-0-is at c.in-Err-Model.ensures.refused in
+    let acc = rw c.in-Err-Model.field-0-is at c.in-Err-Model.ensures.counts.accounts in
     heeding.heeds_well _ (g.E.Engine.view c.args.self.now.engine) (g.E.Engine.view c.perform.new.self) (omega (arith, c.act.ensures.quiet, quiet.1)) (omega (arith, c.act.ensures.tail, c.perform.ensures.counts.tail)) (λ h. quiet.0 (c.act.ensures.tells h))
+    (accounting.unfailed_both (g.E.Engine.view c.args.self.now.engine) (g.E.Engine.view c.act.new.self) (g.E.Engine.view c.perform.new.self) (accounting.unasked (g.E.Engine.view c.args.self.now.engine) (g.E.Engine.view c.act.new.self) c.act.ensures.disk c.act.ensures.gate) (accounting.unfailed_refused (g.E.Engine.view c.act.new.self) (g.E.Engine.view c.perform.new.self) _ (λ is. is) acc))
 
 pub returns-in-Err-Space-clause-heeds : goal.returns-in-Err-Space-clause-heeds
-returns-in-Err-Space-clause-heeds g c =
+returns-in-Err-Space-clause-heeds g c none =
     let failed = rw c.in-Err-Space.field-0-is at c.in-Err-Space.ensures.counts.failed in
+    let acc = rw c.in-Err-Space.field-0-is at c.in-Err-Space.ensures.counts.accounts in
     let core = rw c.in-Err-Space.field-0-is at c.halt.ensures.core in
-    heeding.heeds_halt (g.E.Engine.view) c.args.self.now.stop c.halt.new.self.stop c.in-Err-Space.fault (g.E.Engine.view c.args.self.now.engine) c.perform.new.self c.halt.new.self.engine c.halt.ensures.engine (ap (λ (k : Core). k.stopped) core)
+    heeding.heeds_halt (g.E.Engine.view) c.args.self.now.stop c.halt.new.self.stop c.in-Err-Space.fault (g.E.Engine.view c.args.self.now.engine) c.perform.new.self c.halt.new.self.engine c.halt.ensures.engine (ap (λ (k : Core). k.stopped) core) none
     (omega (arith, c.act.ensures.quiet, c.perform.ensures.counts.later)) (omega (arith, c.act.ensures.tail, c.perform.ensures.counts.tail)) (λ is. heeding.risen_on _ _ _ _ (omega (arith, c.act.ensures.quiet)) c.perform.ensures.counts.later (omega arith) (failed is))
+    (accounting.accounts_failed {B = Unit {0}} (g.E.Engine.view c.args.self.now.engine) (g.E.Engine.view c.act.new.self) (g.E.Engine.view c.perform.new.self) _ c.in-Err-Space.fault (λ is. is) (λ is. is) (accounting.unasked (g.E.Engine.view c.args.self.now.engine) (g.E.Engine.view c.act.new.self) c.act.ensures.disk c.act.ensures.gate) c.act.ensures.tells acc)
 
 pub returns-then-is_empty-clause-heeds : goal.returns-then-is_empty-clause-heeds
-returns-then-is_empty-clause-heeds g c =
+returns-then-is_empty-clause-heeds g c none =
     heeding.heeds_well _ (g.E.Engine.view c.args.self.now.engine) (g.E.Engine.view c.perform.new.self) (omega (arith, c.act.ensures.quiet, c.in-Ok.ensures.counts.quiet)) (omega (arith, c.act.ensures.tail, c.perform.ensures.counts.tail)) (λ h. c.in-Ok.ensures.counts.tells (c.act.ensures.tells h))
+    (accounting.unfailed_both (g.E.Engine.view c.args.self.now.engine) (g.E.Engine.view c.act.new.self) (g.E.Engine.view c.perform.new.self) (accounting.unasked (g.E.Engine.view c.args.self.now.engine) (g.E.Engine.view c.act.new.self) c.act.ensures.disk c.act.ensures.gate) (accounting.unfailed_done (g.E.Engine.view c.act.new.self) (g.E.Engine.view c.perform.new.self) _ c.in-Ok.ensures.counts.accounts))
 
 pub returns-in-Err-clause-heeds : goal.returns-in-Err-clause-heeds
-returns-in-Err-clause-heeds g c =
-    heeding.heeds_halt (g.E.Engine.view) c.args.self.now.stop c.halt-in-Err.new.self.stop c.in-Err.fault (g.E.Engine.view c.args.self.now.engine) c.end_action.new.self c.halt-in-Err.new.self.engine c.halt-in-Err.ensures.engine (ap (λ (k : Core). k.stopped) c.halt-in-Err.ensures.core)
+returns-in-Err-clause-heeds g c none =
+    heeding.heeds_halt (g.E.Engine.view) c.args.self.now.stop c.halt-in-Err.new.self.stop c.in-Err.fault (g.E.Engine.view c.args.self.now.engine) c.end_action.new.self c.halt-in-Err.new.self.engine c.halt-in-Err.ensures.engine (ap (λ (k : Core). k.stopped) c.halt-in-Err.ensures.core) none
     (omega (arith, c.act.ensures.quiet, c.perform.ensures.counts.later, c.end_action.ensures.counts.later)) (omega (arith, c.act.ensures.tail, c.perform.ensures.counts.tail, c.end_action.ensures.counts.tail)) (λ is. heeding.risen_on _ _ _ _ (omega (arith, c.act.ensures.quiet, c.perform.ensures.counts.later)) c.end_action.ensures.counts.later (omega arith) (c.in-Err.ensures.counts.failed is))
+    (accounting.accounts_then {B = Unit {0}} (g.E.Engine.view c.args.self.now.engine) (g.E.Engine.view c.perform.new.self) (g.E.Engine.view c.end_action.new.self) c.in-Err.fault (accounting.unfailed_both (g.E.Engine.view c.args.self.now.engine) (g.E.Engine.view c.act.new.self) (g.E.Engine.view c.perform.new.self) (accounting.unasked (g.E.Engine.view c.args.self.now.engine) (g.E.Engine.view c.act.new.self) c.act.ensures.disk c.act.ensures.gate) (accounting.unfailed_done (g.E.Engine.view c.act.new.self) (g.E.Engine.view c.perform.new.self) _ c.in-Ok.ensures.counts.accounts)) (λ h. c.in-Ok.ensures.counts.tells (c.act.ensures.tells h)) c.in-Err.ensures.counts.accounts)
 
 pub returns-then-reserves-clause-heeds : goal.returns-then-reserves-clause-heeds
-returns-then-reserves-clause-heeds g c =
+returns-then-reserves-clause-heeds g c none =
     heeding.heeds_well _ (g.E.Engine.view c.args.self.now.engine) (g.E.Engine.view c.end_action.new.self) (omega (arith, c.act.ensures.quiet, c.in-Ok.ensures.counts.quiet, c.in-Ok-end_action.ensures.counts.quiet)) (omega (arith, c.act.ensures.tail, c.perform.ensures.counts.tail, c.end_action.ensures.counts.tail)) (λ h. c.in-Ok-end_action.ensures.counts.tells (c.in-Ok.ensures.counts.tells (c.act.ensures.tells h)))
+    (accounting.unfailed_both (g.E.Engine.view c.args.self.now.engine) (g.E.Engine.view c.perform.new.self) (g.E.Engine.view c.end_action.new.self) (accounting.unfailed_both (g.E.Engine.view c.args.self.now.engine) (g.E.Engine.view c.act.new.self) (g.E.Engine.view c.perform.new.self) (accounting.unasked (g.E.Engine.view c.args.self.now.engine) (g.E.Engine.view c.act.new.self) c.act.ensures.disk c.act.ensures.gate) (accounting.unfailed_done (g.E.Engine.view c.act.new.self) (g.E.Engine.view c.perform.new.self) _ c.in-Ok.ensures.counts.accounts)) (accounting.unfailed_done (g.E.Engine.view c.perform.new.self) (g.E.Engine.view c.end_action.new.self) _ c.in-Ok-end_action.ensures.counts.accounts))
 
 pub returns-else-reserves-clause-heeds : goal.returns-else-reserves-clause-heeds
-returns-else-reserves-clause-heeds g c =
+returns-else-reserves-clause-heeds g c none =
     heeding.heeds_well _ (g.E.Engine.view c.args.self.now.engine) (g.E.Engine.view c.end_action.new.self) (omega (arith, c.act.ensures.quiet, c.in-Ok.ensures.counts.quiet, c.in-Ok-end_action.ensures.counts.quiet)) (omega (arith, c.act.ensures.tail, c.perform.ensures.counts.tail, c.end_action.ensures.counts.tail)) (λ h. c.in-Ok-end_action.ensures.counts.tells (c.in-Ok.ensures.counts.tells (c.act.ensures.tells h)))
+    (accounting.unfailed_both (g.E.Engine.view c.args.self.now.engine) (g.E.Engine.view c.perform.new.self) (g.E.Engine.view c.end_action.new.self) (accounting.unfailed_both (g.E.Engine.view c.args.self.now.engine) (g.E.Engine.view c.act.new.self) (g.E.Engine.view c.perform.new.self) (accounting.unasked (g.E.Engine.view c.args.self.now.engine) (g.E.Engine.view c.act.new.self) c.act.ensures.disk c.act.ensures.gate) (accounting.unfailed_done (g.E.Engine.view c.act.new.self) (g.E.Engine.view c.perform.new.self) _ c.in-Ok.ensures.counts.accounts)) (accounting.unfailed_done (g.E.Engine.view c.perform.new.self) (g.E.Engine.view c.end_action.new.self) _ c.in-Ok-end_action.ensures.counts.accounts))
 
 pub returns-in-Err-Model-clause-marks : goal.returns-in-Err-Model-clause-marks
 returns-in-Err-Model-clause-marks g c = marks_same (said_op c.args.op.now) c.args.txn.0 c.args.self.now.txns c.args.self.now.txns refl

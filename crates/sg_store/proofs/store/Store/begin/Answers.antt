@@ -1,6 +1,6 @@
-use Rattle.std.proofs.Common.{◌≡◌, ℕ, true, List, [], ◌∷◌, ◌++◌, refl, sym, ap, ◌∙◌, subst, arith}
+use Rattle.std.proofs.Common.{◌≡◌, ℕ, true, Err, List, [], ◌∷◌, ◌++◌, refl, sym, ap, ◌∙◌, subst, arith}
 use Rattle.sg_core.specs.Live.{Txn, begun, is_live}
-use Rattle.sg_store.specs.Engine.{led, HasPlace}
+use Rattle.sg_store.specs.Engine.{led, HasPlace, IsDiskFault}
 use Rattle.sg_store.specs.Seen.{core_of}
 use Rattle.sg_store.proofs.Calls as calls
 use Rattle.sg_store.proofs.Serving.{serves_on}
@@ -11,6 +11,9 @@ use Rattle.sg_store.proofs.Causing as causing
 use Rattle.sg_store.proofs.Holders.{all_hold, begun_holders}
 use Rattle.sg_store.proofs.Heeding as heeding
 use Rattle.sg_space.specs.declared.space.SpaceFault.TheVariants as spaces
+use Rattle.sg_store.proofs.Accounting as accounting
+use Rattle.sg_store.specs.Accounting.{AccountsFor}
+use Rattle.sg_base.specs.declared.numbers.TxnId.{TxnId}
 use Rattle.sg_store.proofs.store.Store.begin.Goals as goal
 
 pub returns-then-is_some-clause-begins : goal.returns-then-is_some-clause-begins
@@ -65,13 +68,13 @@ pub returns-in-Ok-clause-rests : goal.returns-in-Ok-clause-rests
 returns-in-Ok-clause-rests g c t live objects durable s =
     record {
       sizes = s.sizes;
-      from = s.from;
-      means = c.begin.ensures.means t s.sizes s.from s.means;
+      from = λ tells. s.from (c.begin.ensures.counts.told tells);
+      means = λ tells. c.begin.ensures.means t s.sizes (s.from (c.begin.ensures.counts.told tells)) (s.means (c.begin.ensures.counts.told tells));
       can = λ tells.
           (let was = c.begin.ensures.counts.told tells in
           let h = s.can was in
-          resting.begun_has t (g.E.Engine.basis s.sizes) (led t s.sizes s.from (g.E.Engine.view c.args.self.now.engine)) (led t s.sizes s.from (g.E.Engine.view c.begin.new.self)) (core_of c.args.self.now) _ live objects durable h (g.E.Engine.view c.args.self.now.engine).tail (g.E.Engine.view c.args.self.now.engine).faults (g.E.Engine.view c.begin.new.self).faults [] c.in-Ok.txn
-          (returns-in-Ok-clause-begins g c t s.sizes s.from s.means was h.run [] h.lawful h.shows));
+          resting.begun_has t (g.E.Engine.basis s.sizes) (led t s.sizes (s.from was) (g.E.Engine.view c.args.self.now.engine)) (led t s.sizes (s.from was) (g.E.Engine.view c.begin.new.self)) (core_of c.args.self.now) _ live objects durable h (g.E.Engine.view c.args.self.now.engine).tail (g.E.Engine.view c.args.self.now.engine).faults (g.E.Engine.view c.begin.new.self).faults [] c.in-Ok.txn
+          (returns-in-Ok-clause-begins g c t s.sizes (s.from was) (s.means was) was h.run [] h.lawful h.shows));
     }
 
 pub returns-in-Ok-clause-told : goal.returns-in-Ok-clause-told
@@ -129,8 +132,9 @@ returns-then-tail-gt-NEW_WORK_END-clause-heeds g c =
 
 pub returns-in-Ok-clause-heeds : goal.returns-in-Ok-clause-heeds
 returns-in-Ok-clause-heeds g c =
-    heeding.heeds_well _ (g.E.Engine.view c.args.self.now.engine) (g.E.Engine.view c.begin.new.self) c.in-Ok.ensures.counts.quiet c.begin.ensures.counts.tail c.in-Ok.ensures.counts.tells
+    heeding.heeds_well _ (g.E.Engine.view c.args.self.now.engine) (g.E.Engine.view c.begin.new.self) c.in-Ok.ensures.counts.quiet c.begin.ensures.counts.tail c.in-Ok.ensures.counts.tells (accounting.unfailed_done (g.E.Engine.view c.args.self.now.engine) (g.E.Engine.view c.begin.new.self) _ c.in-Ok.ensures.counts.accounts)
 
 pub returns-in-Err-clause-heeds : goal.returns-in-Err-clause-heeds
 returns-in-Err-clause-heeds g c =
-    heeding.heeds_fault c.args.self.now.stop spaces.Disk (g.E.Engine.view c.args.self.now.engine) (g.E.Engine.view c.begin.new.self) c.begin.ensures.counts.later c.begin.ensures.counts.tail (λ is. calls.risen_for _ _ _ c.in-Err.field-0 (omega (arith, c.tail.ensures, c.if-tail-gt-NEW_WORK_END.false)) c.in-Err.ensures.log_end c.in-Err.ensures.counts.failed)
+    heeding.heeds_fault c.args.self.now.stop spaces.Disk (g.E.Engine.view c.args.self.now.engine) (g.E.Engine.view c.begin.new.self) (causing.none_of _ (sym c.is_some.ensures ∙ c.if-is_some.false)) c.begin.ensures.counts.later c.begin.ensures.counts.tail (λ is. calls.risen_for _ _ _ c.in-Err.field-0 (omega (arith, c.tail.ensures, c.if-tail-gt-NEW_WORK_END.false)) c.in-Err.ensures.log_end c.in-Err.ensures.counts.failed)
+    (subst (λ f. AccountsFor {T = TxnId} IsDiskFault (g.E.Engine.view c.args.self.now.engine) (g.E.Engine.view c.begin.new.self) (Err f)) (calls.disk_only _ c.in-Err.field-0 (omega (arith, c.tail.ensures, c.if-tail-gt-NEW_WORK_END.false)) c.in-Err.ensures.log_end) c.in-Err.ensures.counts.accounts)

@@ -11,7 +11,8 @@ use Rattle.sg_store.proofs.Committing as committing
 use Rattle.sg_store.proofs.Ending.{near_at, IsNear}
 use Rattle.sg_store.proofs.Leaving as leaving
 use Rattle.sg_ops.specs.Table.{table_of}
-use Rattle.sg_store.specs.Engine.{led, IsAt}
+use Rattle.sg_recovery.specs.Log.Record.{End}
+use Rattle.sg_store.specs.Engine.{led, IsAt, Appended, Rested}
 use Rattle.sg_store.proofs.store.Store.commit.Given as given
 use Rattle.sg_store.proofs.Serving.{serves_on}
 use Rattle.sg_store.proofs.Serving as serving
@@ -20,6 +21,7 @@ use Rattle.sg_store.proofs.Resting as resting
 use Rattle.sg_store.proofs.Causing as causing
 use Rattle.sg_base.specs.Ends.{HasRisen}
 use Rattle.sg_store.proofs.Heeding as heeding
+use Rattle.sg_store.proofs.Accounting as accounting
 use Rattle.sg_store.proofs.store.Store.commit.Goals as goal
 
 pub returns-then-is_some-clause-commits : goal.returns-then-is_some-clause-commits
@@ -80,8 +82,8 @@ returns-in-Err-end-clause-commits g c z from m told x lawful shows =
     let stays = c.free_dropped.ensures.stays z from (c.commit.ensures.means t z from m) (c.in-Ok.ensures.counts.tells told) x lawful leaves in
     let freed = c.in-Ok-free_dropped.ensures.freed z from (c.commit.ensures.means t z from m) (c.in-Ok.ensures.counts.tells told) x lawful leaves in
     let w3 = led t z from (g.E.Engine.view c.end.new.self) in
-    let d = c.end.ensures.ends t z from (c.free_dropped.ensures.means z from (c.commit.ensures.means t z from m)) (c.in-Ok-free_dropped.ensures.tells (c.in-Ok.ensures.counts.tells told)) freed.0.engine freed.0.idle in
-    let last = joined stays (leaving.end_stays _ (g.E.Engine.basis z) lawful y c.args.self.now.txns x u freed.0 w3 d.0 d.1 d.2) in
+    let d = c.in-Err-end.ensures.ends t z from (c.free_dropped.ensures.means z from (c.commit.ensures.means t z from m)) (c.in-Ok-free_dropped.ensures.tells (c.in-Ok.ensures.counts.tells told)) freed.0.engine freed.0.idle in
+    let last = joined stays (leaving.ends_stay _ (g.E.Engine.basis z) lawful y c.args.self.now.txns x u freed.0 w3 (λ l p. Unit {0}) (Unit {0}) d) in
     committing.fails_at _ (g.E.Engine.basis z) lawful v k x u shows stop live w b.0 b.1 b.2 w3 (led t z from (g.E.Engine.view c.halt-in-Err-end.new.self.engine)) (ap (λ e. led t z from (g.E.Engine.view e)) (sym c.halt-in-Err-end.ensures.engine)) (core_of c.halt-in-Err-end.new.self) c.in-Err-end.fault c.halt-in-Err-end.result c.halt-in-Err-end.ensures.answer
     (c.halt-in-Err-end.ensures.core ∙ ap (λ (q : Core). record q { stopped = Some (stop_at c.in-Err-end.fault) }) c.free_dropped.ensures.core)
     (committing.after_it _ (g.E.Engine.basis z) lawful v k x u v.faults shows stop live w b.0 b.1 b.2 w3 last)
@@ -104,10 +106,10 @@ returns-in-Ok-end-clause-commits g c z from m told x lawful shows =
     let freed = c.in-Ok-free_dropped.ensures.freed z from (c.commit.ensures.means t z from m) (c.in-Ok.ensures.counts.tells told) x lawful leaves in
     let w3 = led t z from (g.E.Engine.view c.end.new.self) in
     let d = c.in-Ok-end.ensures.ends t z from (c.free_dropped.ensures.means z from (c.commit.ensures.means t z from m)) (c.in-Ok-free_dropped.ensures.tells (c.in-Ok.ensures.counts.tells told)) freed.0.engine freed.0.idle in
-    let last = joined stays (leaving.end_stays _ (g.E.Engine.basis z) lawful y c.args.self.now.txns x u freed.0 w3 d.0 d.1 d.2) in
+    let last = joined stays (leaving.ends_stay _ (g.E.Engine.basis z) lawful y c.args.self.now.txns x u freed.0 w3 (λ l p. Appended t (g.E.Engine.basis z) y w3 (record { lsn = l; is = End u p })) (Rested t (g.E.Engine.basis z) y w3) d) in
     committing.done_at _ (g.E.Engine.basis z) lawful v k x u shows stop live w b.0 b.1 b.2 w3 (led t z from (g.E.Engine.view c.forget.new.self.engine)) (ap (λ e. led t z from (g.E.Engine.view e)) (sym c.forget.ensures.engine)) (core_of c.forget.new.self)
     (c.forget.ensures.core ∙ ap (λ (q : Core). record q { live = without u q.live; held = released u q.held }) c.free_dropped.ensures.core)
-    (committing.after_it _ (g.E.Engine.basis z) lawful v k x u v.faults shows stop live w b.0 b.1 b.2 w3 last) last (leaving.ended_kept _ (g.E.Engine.basis z) lawful y c.args.self.now.txns x u freed.0 w3 d.0 d.1 d.2 d.3)
+    (committing.after_it _ (g.E.Engine.basis z) lawful v k x u v.faults shows stop live w b.0 b.1 b.2 w3 last) last (leaving.ends_kept _ (g.E.Engine.basis z) lawful y c.args.self.now.txns x u freed.0 w3 d)
 
 pub returns-in-Ok-end-clause-freed : goal.returns-in-Ok-end-clause-freed
 returns-in-Ok-end-clause-freed g c z from m told x lawful shows =
@@ -126,7 +128,7 @@ returns-in-Ok-end-clause-freed g c z from m told x lawful shows =
     let freed = c.in-Ok-free_dropped.ensures.freed z from (c.commit.ensures.means t z from m) (c.in-Ok.ensures.counts.tells told) x lawful leaves in
     let w3 = led t z from (g.E.Engine.view c.end.new.self) in
     let d = c.in-Ok-end.ensures.ends t z from (c.free_dropped.ensures.means z from (c.commit.ensures.means t z from m)) (c.in-Ok-free_dropped.ensures.tells (c.in-Ok.ensures.counts.tells told)) freed.0.engine freed.0.idle in
-    leaving.none_along _ (g.E.Engine.basis z) lawful w3 (led t z from (g.E.Engine.view c.forget.new.self.engine)) u (ap (λ e. led t z from (g.E.Engine.view e)) (sym c.forget.ensures.engine)) (leaving.ended_none _ (g.E.Engine.basis z) lawful y c.args.self.now.txns x u freed.0 w3 d.0 d.1 d.2 d.3 freed.1)
+    leaving.none_along _ (g.E.Engine.basis z) lawful w3 (led t z from (g.E.Engine.view c.forget.new.self.engine)) u (ap (λ e. led t z from (g.E.Engine.view e)) (sym c.forget.ensures.engine)) (leaving.ends_none _ (g.E.Engine.basis z) lawful y c.args.self.now.txns x u freed.0 w3 d freed.1)
 
 pub returns-in-Err-clause-serves : goal.returns-in-Err-clause-serves
 returns-in-Err-clause-serves g c =
@@ -163,20 +165,20 @@ free_dropped-requires-clause-can g c =
     let s = c.requires.serves in
     record {
       sizes = s.sizes;
-      from = s.from;
-      means = c.commit.ensures.means t s.sizes s.from s.means;
+      from = λ told. s.from (c.commit.ensures.counts.told told);
+      means = λ told. c.commit.ensures.means t s.sizes (s.from (c.commit.ensures.counts.told told)) (s.means (c.commit.ensures.counts.told told));
       can = λ told.
           (let one = c.commit.ensures.counts.told told in
           let h = s.can one in
-          let v = led t s.sizes s.from (g.E.Engine.view c.args.self.now.engine) in
-          let w = led t s.sizes s.from (g.E.Engine.view c.commit.new.self) in
+          let v = led t s.sizes (s.from one) (g.E.Engine.view c.args.self.now.engine) in
+          let w = led t s.sizes (s.from one) (g.E.Engine.view c.commit.new.self) in
           let b = g.E.Engine.basis s.sizes in
           let k : Core = core_of c.args.self.now in
           let u = c.args.txn.0 in
           let stop = sym c.is_some.ensures ∙ c.if-is_some.false in
           let live = sym c.is_live.ensures ∙ c.if-not-is_live.false in
           let runs = committing.runs _ b h.lawful v k h.run u v.faults h.shows stop in
-          let a = c.in-Ok.ensures.commits t s.sizes s.from s.means one runs.is_kept.engine runs.is_kept.idle in
+          let a = c.in-Ok.ensures.commits t s.sizes (s.from one) (s.means one) one runs.is_kept.engine runs.is_kept.idle in
           let leaves = committing.leaving _ b h.lawful v k h.run u v.faults h.shows stop live w a.0 a.1 a.2 a.3.0 a.3.1 in
           record { lawful = h.lawful; run = h.run; leaving = leaves });
     }
@@ -189,23 +191,23 @@ end-requires g c =
       can = record {
         by = t;
         sizes = s.sizes;
-        from = s.from;
-        means = c.free_dropped.ensures.means s.sizes s.from (c.commit.ensures.means t s.sizes s.from s.means);
+        from = λ told. s.from (c.commit.ensures.counts.told (c.free_dropped.ensures.told told));
+        means = λ told. c.free_dropped.ensures.means s.sizes (s.from (c.commit.ensures.counts.told (c.free_dropped.ensures.told told))) (c.commit.ensures.means t s.sizes (s.from (c.commit.ensures.counts.told (c.free_dropped.ensures.told told))) (s.means (c.commit.ensures.counts.told (c.free_dropped.ensures.told told))));
         can = λ told.
             (let two = c.free_dropped.ensures.told told in
             let one = c.commit.ensures.counts.told two in
             let h = s.can one in
-            let v = led t s.sizes s.from (g.E.Engine.view c.args.self.now.engine) in
-            let w = led t s.sizes s.from (g.E.Engine.view c.commit.new.self) in
+            let v = led t s.sizes (s.from one) (g.E.Engine.view c.args.self.now.engine) in
+            let w = led t s.sizes (s.from one) (g.E.Engine.view c.commit.new.self) in
             let b = g.E.Engine.basis s.sizes in
             let k : Core = core_of c.args.self.now in
             let u = c.args.txn.0 in
             let stop = sym c.is_some.ensures ∙ c.if-is_some.false in
             let live = sym c.is_live.ensures ∙ c.if-not-is_live.false in
             let runs = committing.runs _ b h.lawful v k h.run u v.faults h.shows stop in
-            let a = c.in-Ok.ensures.commits t s.sizes s.from s.means one runs.is_kept.engine runs.is_kept.idle in
+            let a = c.in-Ok.ensures.commits t s.sizes (s.from one) (s.means one) one runs.is_kept.engine runs.is_kept.idle in
             let leaves = committing.leaving _ b h.lawful v k h.run u v.faults h.shows stop live w a.0 a.1 a.2 a.3.0 a.3.1 in
-            let freed = c.in-Ok-free_dropped.ensures.freed s.sizes s.from (c.commit.ensures.means t s.sizes s.from s.means) two h.run h.lawful leaves in
+            let freed = c.in-Ok-free_dropped.ensures.freed s.sizes (s.from one) (c.commit.ensures.means t s.sizes (s.from one) (s.means one)) two h.run h.lawful leaves in
             record { rest = record { engine = freed.0.engine; idle = freed.0.idle }; going = freed.0.going });
       };
     }
@@ -230,13 +232,13 @@ returns-in-Ok-end-clause-rests g c live objects durable s =
     let t = table_of (λ y. (given.RecordOp-dyn g y).record_meaning y.1) (λ y. (given.RangeOp-dyn g y).range_meaning y.1) c.args.ops.now in
     record {
       sizes = s.sizes;
-      from = s.from;
-      means = subst (λ e. (g.E.Engine.view e).means t s.sizes s.from) (sym c.forget.ensures.engine) (c.end.ensures.means t s.sizes s.from (c.free_dropped.ensures.means s.sizes s.from (c.commit.ensures.means t s.sizes s.from s.means)));
+      from = λ tells. s.from (c.commit.ensures.counts.told (c.free_dropped.ensures.told (c.end.ensures.counts.told (subst (λ e. (g.E.Engine.view e).Told) c.forget.ensures.engine tells))));
+      means = λ tells. subst (λ e. (g.E.Engine.view e).means t s.sizes (s.from (c.commit.ensures.counts.told (c.free_dropped.ensures.told (c.end.ensures.counts.told (subst (λ e. (g.E.Engine.view e).Told) c.forget.ensures.engine tells)))))) (sym c.forget.ensures.engine) (c.end.ensures.means t s.sizes (s.from (c.commit.ensures.counts.told (c.free_dropped.ensures.told (c.end.ensures.counts.told (subst (λ e. (g.E.Engine.view e).Told) c.forget.ensures.engine tells))))) (c.free_dropped.ensures.means s.sizes (s.from (c.commit.ensures.counts.told (c.free_dropped.ensures.told (c.end.ensures.counts.told (subst (λ e. (g.E.Engine.view e).Told) c.forget.ensures.engine tells))))) (c.commit.ensures.means t s.sizes (s.from (c.commit.ensures.counts.told (c.free_dropped.ensures.told (c.end.ensures.counts.told (subst (λ e. (g.E.Engine.view e).Told) c.forget.ensures.engine tells))))) (s.means (c.commit.ensures.counts.told (c.free_dropped.ensures.told (c.end.ensures.counts.told (subst (λ e. (g.E.Engine.view e).Told) c.forget.ensures.engine tells))))))));
       can = λ tells.
           (let was = c.commit.ensures.counts.told (c.free_dropped.ensures.told (c.end.ensures.counts.told (subst (λ e. (g.E.Engine.view e).Told) c.forget.ensures.engine tells))) in
           let h = s.can was in
-          resting.committed_has t (g.E.Engine.basis s.sizes) (led t s.sizes s.from (g.E.Engine.view c.args.self.now.engine)) (led t s.sizes s.from (g.E.Engine.view c.forget.new.self.engine)) (core_of c.args.self.now) _ live objects durable h (g.E.Engine.view c.forget.new.self.engine).tail (g.E.Engine.view c.args.self.now.engine).faults (g.E.Engine.view c.forget.new.self.engine).faults c.args.txn.0
-          (returns-in-Ok-end-clause-commits g c s.sizes s.from s.means was h.run h.lawful h.shows));
+          resting.committed_has t (g.E.Engine.basis s.sizes) (led t s.sizes (s.from was) (g.E.Engine.view c.args.self.now.engine)) (led t s.sizes (s.from was) (g.E.Engine.view c.forget.new.self.engine)) (core_of c.args.self.now) _ live objects durable h (g.E.Engine.view c.forget.new.self.engine).tail (g.E.Engine.view c.args.self.now.engine).faults (g.E.Engine.view c.forget.new.self.engine).faults c.args.txn.0
+          (returns-in-Ok-end-clause-commits g c s.sizes (s.from was) (s.means was) was h.run h.lawful h.shows));
     }
 
 pub returns-in-Err-clause-told : goal.returns-in-Err-clause-told
@@ -303,25 +305,28 @@ returns-then-not-is_live-clause-heeds g c =
 
 pub returns-in-Err-clause-heeds : goal.returns-in-Err-clause-heeds
 returns-in-Err-clause-heeds g c =
-    heeding.heeds_halt (g.E.Engine.view) c.args.self.now.stop c.halt.new.self.stop c.in-Err.fault (g.E.Engine.view c.args.self.now.engine) c.commit.new.self c.halt.new.self.engine c.halt.ensures.engine (ap (λ (k : Core). k.stopped) c.halt.ensures.core)
-    c.commit.ensures.counts.later c.commit.ensures.counts.tail c.in-Err.ensures.counts.failed
+    heeding.heeds_halt (g.E.Engine.view) c.args.self.now.stop c.halt.new.self.stop c.in-Err.fault (g.E.Engine.view c.args.self.now.engine) c.commit.new.self c.halt.new.self.engine c.halt.ensures.engine (ap (λ (k : Core). k.stopped) c.halt.ensures.core) (causing.none_of _ (sym c.is_some.ensures ∙ c.if-is_some.false))
+    c.commit.ensures.counts.later c.commit.ensures.counts.tail c.in-Err.ensures.counts.failed c.in-Err.ensures.counts.accounts
 
 pub returns-in-Err-free_dropped-clause-heeds : goal.returns-in-Err-free_dropped-clause-heeds
 returns-in-Err-free_dropped-clause-heeds g c =
     let quiet = c.in-Ok.ensures.counts.quiet in
-    heeding.heeds_halt (g.E.Engine.view) c.args.self.now.stop c.halt-in-Err-free_dropped.new.self.stop c.in-Err-free_dropped.fault (g.E.Engine.view c.args.self.now.engine) c.free_dropped.new.self.engine c.halt-in-Err-free_dropped.new.self.engine c.halt-in-Err-free_dropped.ensures.engine (ap (λ (k : Core). k.stopped) c.halt-in-Err-free_dropped.ensures.core)
+    heeding.heeds_halt (g.E.Engine.view) c.args.self.now.stop c.halt-in-Err-free_dropped.new.self.stop c.in-Err-free_dropped.fault (g.E.Engine.view c.args.self.now.engine) c.free_dropped.new.self.engine c.halt-in-Err-free_dropped.new.self.engine c.halt-in-Err-free_dropped.ensures.engine (ap (λ (k : Core). k.stopped) c.halt-in-Err-free_dropped.ensures.core) (causing.none_of _ (sym c.is_some.ensures ∙ c.if-is_some.false))
     (omega (arith, quiet, c.free_dropped.ensures.later)) (omega (arith, c.commit.ensures.counts.tail, c.free_dropped.ensures.tail)) (λ is. heeding.risen_on _ _ _ _ (omega (arith, quiet)) c.free_dropped.ensures.later (omega arith) (c.in-Err-free_dropped.ensures.failed is))
+    (accounting.accounts_then {B = Unit {0}} (g.E.Engine.view c.args.self.now.engine) (g.E.Engine.view c.commit.new.self) (g.E.Engine.view c.free_dropped.new.self.engine) c.in-Err-free_dropped.fault (accounting.unfailed_done (g.E.Engine.view c.args.self.now.engine) (g.E.Engine.view c.commit.new.self) _ c.in-Ok.ensures.counts.accounts) c.in-Ok.ensures.counts.tells c.in-Err-free_dropped.ensures.accounts)
 
 pub returns-in-Err-end-clause-heeds : goal.returns-in-Err-end-clause-heeds
 returns-in-Err-end-clause-heeds g c =
     let quiet = c.in-Ok.ensures.counts.quiet in
-    heeding.heeds_halt (g.E.Engine.view) c.args.self.now.stop c.halt-in-Err-end.new.self.stop c.in-Err-end.fault (g.E.Engine.view c.args.self.now.engine) c.end.new.self c.halt-in-Err-end.new.self.engine c.halt-in-Err-end.ensures.engine (ap (λ (k : Core). k.stopped) c.halt-in-Err-end.ensures.core)
+    heeding.heeds_halt (g.E.Engine.view) c.args.self.now.stop c.halt-in-Err-end.new.self.stop c.in-Err-end.fault (g.E.Engine.view c.args.self.now.engine) c.end.new.self c.halt-in-Err-end.new.self.engine c.halt-in-Err-end.ensures.engine (ap (λ (k : Core). k.stopped) c.halt-in-Err-end.ensures.core) (causing.none_of _ (sym c.is_some.ensures ∙ c.if-is_some.false))
     (omega (arith, quiet, c.free_dropped.ensures.later, c.end.ensures.counts.later)) (omega (arith, c.commit.ensures.counts.tail, c.free_dropped.ensures.tail, c.end.ensures.counts.tail)) (λ is. heeding.risen_on _ _ _ _ (omega (arith, quiet, c.free_dropped.ensures.later)) c.end.ensures.counts.later (omega arith) (c.in-Err-end.ensures.counts.failed is))
+    (accounting.accounts_then {B = Unit {0}} (g.E.Engine.view c.args.self.now.engine) (g.E.Engine.view c.free_dropped.new.self.engine) (g.E.Engine.view c.end.new.self) c.in-Err-end.fault (accounting.unfailed_both (g.E.Engine.view c.args.self.now.engine) (g.E.Engine.view c.commit.new.self) (g.E.Engine.view c.free_dropped.new.self.engine) (accounting.unfailed_done (g.E.Engine.view c.args.self.now.engine) (g.E.Engine.view c.commit.new.self) _ c.in-Ok.ensures.counts.accounts) (accounting.unfailed_done (g.E.Engine.view c.commit.new.self) (g.E.Engine.view c.free_dropped.new.self.engine) _ c.in-Ok-free_dropped.ensures.accounts)) (λ h. c.in-Ok-free_dropped.ensures.tells (c.in-Ok.ensures.counts.tells h)) c.in-Err-end.ensures.counts.accounts)
 
 pub returns-in-Ok-end-clause-heeds : goal.returns-in-Ok-end-clause-heeds
 returns-in-Ok-end-clause-heeds g c =
     heeding.heeds_kept (g.E.Engine.view) c.args.self.now.stop c.forget.new.self.stop (g.E.Engine.view c.args.self.now.engine) c.end.new.self c.forget.new.self.engine c.forget.ensures.engine (ap (λ (k : Core). k.stopped) c.forget.ensures.core ∙ ap (λ (k : Core). k.stopped) c.free_dropped.ensures.core)
     (c.in-Ok-end.ensures.counts.quiet ∙ (c.in-Ok-free_dropped.ensures.quiet ∙ c.in-Ok.ensures.counts.quiet)) (omega (arith, c.commit.ensures.counts.tail, c.free_dropped.ensures.tail, c.end.ensures.counts.tail)) (λ h. c.in-Ok-end.ensures.counts.tells (c.in-Ok-free_dropped.ensures.tells (c.in-Ok.ensures.counts.tells h)))
+    (accounting.unfailed_both (g.E.Engine.view c.args.self.now.engine) (g.E.Engine.view c.free_dropped.new.self.engine) (g.E.Engine.view c.end.new.self) (accounting.unfailed_both (g.E.Engine.view c.args.self.now.engine) (g.E.Engine.view c.commit.new.self) (g.E.Engine.view c.free_dropped.new.self.engine) (accounting.unfailed_done (g.E.Engine.view c.args.self.now.engine) (g.E.Engine.view c.commit.new.self) _ c.in-Ok.ensures.counts.accounts) (accounting.unfailed_done (g.E.Engine.view c.commit.new.self) (g.E.Engine.view c.free_dropped.new.self.engine) _ c.in-Ok-free_dropped.ensures.accounts)) (accounting.unfailed_done (g.E.Engine.view c.free_dropped.new.self.engine) (g.E.Engine.view c.end.new.self) _ c.in-Ok-end.ensures.counts.accounts))
 
 pub returns-then-is_some-clause-hands : goal.returns-then-is_some-clause-hands
 returns-then-is_some-clause-hands g c none = omega arith

@@ -15,6 +15,7 @@ use Rattle.sg_store.proofs.Heeding as heeding
 use Rattle.sg_store.proofs.Heeding.{stop_at_behind}
 use Rattle.sg_store.specs.declared.fault.Refused.{Refused}
 use Rattle.sg_store.specs.Stops.{stop_behind}
+use Rattle.sg_store.proofs.Accounting as accounting
 use Rattle.sg_store.proofs.store.Store.flush.Goals as goal
 
 pub returns-then-is_some-clause-flushes : goal.returns-then-is_some-clause-flushes
@@ -58,13 +59,13 @@ pub returns-in-Ok-clause-rests : goal.returns-in-Ok-clause-rests
 returns-in-Ok-clause-rests g c t live objects durable s =
     record {
       sizes = s.sizes;
-      from = s.from;
-      means = c.flush.ensures.means t s.sizes s.from s.means;
+      from = λ tells. s.from (c.flush.ensures.counts.told tells);
+      means = λ tells. c.flush.ensures.means t s.sizes (s.from (c.flush.ensures.counts.told tells)) (s.means (c.flush.ensures.counts.told tells));
       can = λ tells.
           (let was = c.flush.ensures.counts.told tells in
           let h = s.can was in
-          resting.same_has t (g.E.Engine.basis s.sizes) (led t s.sizes s.from (g.E.Engine.view c.args.self.now.engine)) (led t s.sizes s.from (g.E.Engine.view c.flush.new.self)) (core_of c.args.self.now) _ live objects durable h _
-          (returns-in-Ok-clause-flushes g c t s.sizes s.from s.means was h.run h.lawful h.shows) (returns-in-Ok-clause-flushes g c t s.sizes s.from s.means was h.run h.lawful h.shows).goes.1);
+          resting.same_has t (g.E.Engine.basis s.sizes) (led t s.sizes (s.from was) (g.E.Engine.view c.args.self.now.engine)) (led t s.sizes (s.from was) (g.E.Engine.view c.flush.new.self)) (core_of c.args.self.now) _ live objects durable h _
+          (returns-in-Ok-clause-flushes g c t s.sizes (s.from was) (s.means was) was h.run h.lawful h.shows) (returns-in-Ok-clause-flushes g c t s.sizes (s.from was) (s.means was) was h.run h.lawful h.shows).goes.1);
     }
 
 pub returns-in-Ok-clause-told : goal.returns-in-Ok-clause-told
@@ -96,12 +97,12 @@ returns-then-is_some-clause-heeds g c =
 
 pub returns-in-Ok-clause-heeds : goal.returns-in-Ok-clause-heeds
 returns-in-Ok-clause-heeds g c =
-    heeding.heeds_well _ (g.E.Engine.view c.args.self.now.engine) (g.E.Engine.view c.flush.new.self) c.in-Ok.ensures.counts.quiet c.flush.ensures.counts.tail c.in-Ok.ensures.counts.tells
+    heeding.heeds_well _ (g.E.Engine.view c.args.self.now.engine) (g.E.Engine.view c.flush.new.self) c.in-Ok.ensures.counts.quiet c.flush.ensures.counts.tail c.in-Ok.ensures.counts.tells (accounting.unfailed_done (g.E.Engine.view c.args.self.now.engine) (g.E.Engine.view c.flush.new.self) _ c.in-Ok.ensures.counts.accounts)
 
 pub returns-in-Err-clause-heeds : goal.returns-in-Err-clause-heeds
 returns-in-Err-clause-heeds g c =
-    heeding.heeds_halt (g.E.Engine.view) c.args.self.now.stop c.halt.new.self.stop c.in-Err.fault (g.E.Engine.view c.args.self.now.engine) c.flush.new.self c.halt.new.self.engine c.halt.ensures.engine (ap (λ (k : Core). k.stopped) c.halt.ensures.core)
-    c.flush.ensures.counts.later c.flush.ensures.counts.tail c.in-Err.ensures.counts.failed
+    heeding.heeds_halt (g.E.Engine.view) c.args.self.now.stop c.halt.new.self.stop c.in-Err.fault (g.E.Engine.view c.args.self.now.engine) c.flush.new.self c.halt.new.self.engine c.halt.ensures.engine (ap (λ (k : Core). k.stopped) c.halt.ensures.core) (causing.none_of _ (sym c.is_some.ensures ∙ c.if-is_some.false))
+    c.flush.ensures.counts.later c.flush.ensures.counts.tail c.in-Err.ensures.counts.failed c.in-Err.ensures.counts.accounts
 
 pub returns-in-Err-clause-stop : goal.returns-in-Err-clause-stop
 returns-in-Err-clause-stop g c = ap (λ (k : Core). k.stopped) c.halt.ensures.core ∙ (stop_at_behind c.args.self.now.stop c.in-Err.fault ∙ ap (λ (r : Refused). stop_behind c.args.self.now.stop (Err r)) (sym c.halt.ensures.answer))

@@ -1,6 +1,7 @@
 use Rattle.std.proofs.Common.{sym, ◌∙◌}
 use Rattle.sg_store.specs.Engine.{led}
 use Rattle.sg_store.proofs.Leaving as leaving
+use Rattle.sg_store.proofs.Accounting as accounting
 use Rattle.sg_store.proofs.store.Store.free_dropped.Goals as goal
 
 pub returns-then-not-has_dropped-clause-stays : goal.returns-then-not-has_dropped-clause-stays
@@ -15,3 +16,7 @@ returns-then-not-has_dropped-clause-means g c z from m = m
 
 pub returns-clause-none : goal.returns-clause-none
 returns-clause-none g c none = absurd (let e = sym c.has_dropped.ensures ∙ c.if-not-has_dropped.false in cc)
+
+pub returns-then-not-has_dropped-clause-accounts : goal.returns-then-not-has_dropped-clause-accounts
+returns-then-not-has_dropped-clause-accounts g c =
+    accounting.accounts_done (g.E.Engine.view c.args.self.now.engine) (g.E.Engine.view c.args.self.now.engine) _ (accounting.unfailed_none (g.E.Engine.view c.args.self.now.engine))

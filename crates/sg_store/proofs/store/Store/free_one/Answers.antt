@@ -6,6 +6,7 @@ use Rattle.sg_store.specs.Engine.{led, MayAct}
 use Rattle.sg_store.proofs.store.Store.free_one.Given as given
 use Rattle.sg_store.proofs.Serving as serving
 use Rattle.sg_store.specs.Asks.{IsFreeing}
+use Rattle.sg_store.proofs.Accounting as accounting
 use Rattle.sg_store.proofs.store.Store.free_one.Goals as goal
 
 pub returns-in-Err-clause-stays : goal.returns-in-Err-clause-stays
@@ -108,16 +109,16 @@ free_next-requires g c =
     record {
       can = record {
         sizes = s.sizes;
-        from = s.from;
-        means = c.act.ensures.means t s.sizes s.from s.means;
+        from = λ told. s.from (c.act.ensures.told told);
+        means = λ told. c.act.ensures.means t s.sizes (s.from (c.act.ensures.told told)) (s.means (c.act.ensures.told told));
         can = λ told.
             (let h = s.can (c.act.ensures.told told) in
-            let v = led t s.sizes s.from (g.E.Engine.view c.args.self.now.engine) in
-            let w = led t s.sizes s.from (g.E.Engine.view c.act.new.self) in
+            let v = led t s.sizes (s.from (c.act.ensures.told told)) (g.E.Engine.view c.args.self.now.engine) in
+            let w = led t s.sizes (s.from (c.act.ensures.told told)) (g.E.Engine.view c.act.new.self) in
             let b = g.E.Engine.basis s.sizes in
             let ts = c.args.self.now.txns in
             let u = c.args.txn.0 in
-            let acts = c.act.ensures.acts t s.sizes s.from s.means (c.act.ensures.told told) h.leaving.engine h.leaving.idle in
+            let acts = c.act.ensures.acts t s.sizes (s.from (c.act.ensures.told told)) (s.means (c.act.ensures.told told)) (c.act.ensures.told told) h.leaving.engine h.leaving.idle in
             let k1 = leaving.acted_leaving _ b v w ts h.run u (Some _) acts.0 acts.1 h.leaving in
             record { look = record { rest = record { engine = acts.0; idle = k1.idle }; reading = leaving.o _ b h.lawful w ts h.run u k1; reads = leaving.reads_so _ b h.lawful w ts h.run u k1 }; acting = leaving.action_is _ b v w acts.1 });
       };
@@ -132,19 +133,19 @@ end_action-requires g c =
       can = record {
         by = t;
         sizes = s.sizes;
-        from = s.from;
-        means = c.free_next.ensures.means s.sizes s.from (c.act.ensures.means t s.sizes s.from s.means);
+        from = λ told. s.from (c.act.ensures.told (c.free_next.ensures.counts.told told));
+        means = λ told. c.free_next.ensures.means s.sizes (s.from (c.act.ensures.told (c.free_next.ensures.counts.told told))) (c.act.ensures.means t s.sizes (s.from (c.act.ensures.told (c.free_next.ensures.counts.told told))) (s.means (c.act.ensures.told (c.free_next.ensures.counts.told told))));
         can = λ told.
             (let one = c.free_next.ensures.counts.told told in
             let h = s.can (c.act.ensures.told one) in
-            let v = led t s.sizes s.from (g.E.Engine.view c.args.self.now.engine) in
-            let w = led t s.sizes s.from (g.E.Engine.view c.act.new.self) in
+            let v = led t s.sizes (s.from (c.act.ensures.told one)) (g.E.Engine.view c.args.self.now.engine) in
+            let w = led t s.sizes (s.from (c.act.ensures.told one)) (g.E.Engine.view c.act.new.self) in
             let b = g.E.Engine.basis s.sizes in
             let ts = c.args.self.now.txns in
             let u = c.args.txn.0 in
-            let acts = c.act.ensures.acts t s.sizes s.from s.means (c.act.ensures.told one) h.leaving.engine h.leaving.idle in
+            let acts = c.act.ensures.acts t s.sizes (s.from (c.act.ensures.told one)) (s.means (c.act.ensures.told one)) (c.act.ensures.told one) h.leaving.engine h.leaving.idle in
             let k1 = leaving.acted_leaving _ b v w ts h.run u (Some _) acts.0 acts.1 h.leaving in
-            let f = frees s.sizes s.from (c.act.ensures.means t s.sizes s.from s.means) one (leaving.o _ b h.lawful w ts h.run u k1) (leaving.begun _ b h.lawful w ts h.run u k1) acts.0 k1.idle (leaving.action_is _ b v w acts.1) refl (leaving.reads_so _ b h.lawful w ts h.run u k1) in
+            let f = frees s.sizes (s.from (c.act.ensures.told one)) (c.act.ensures.means t s.sizes (s.from (c.act.ensures.told one)) (s.means (c.act.ensures.told one))) one (leaving.o _ b h.lawful w ts h.run u k1) (leaving.begun _ b h.lawful w ts h.run u k1) acts.0 k1.idle (leaving.action_is _ b v w acts.1) refl (leaving.reads_so _ b h.lawful w ts h.run u k1) in
             record { engine = f.1.changed.goes_on.engine; action = leaving.begun _ b h.lawful w ts h.run u k1; acting = f.1.changed.action; own = refl });
       };
     }
@@ -168,3 +169,19 @@ pub returns-in-Err-end_action-clause-means : goal.returns-in-Err-end_action-clau
 returns-in-Err-end_action-clause-means g c z from m =
     let t = table_of (λ y. (given.RecordOp-dyn g y).record_meaning y.1) (λ y. (given.RangeOp-dyn g y).range_meaning y.1) c.args.ops.now in
     c.end_action.ensures.means t z from (c.free_next.ensures.means z from (c.act.ensures.means t z from m))
+
+pub returns-in-Err-clause-accounts : goal.returns-in-Err-clause-accounts
+returns-in-Err-clause-accounts g c =
+    accounting.accounts_then (g.E.Engine.view c.args.self.now.engine) (g.E.Engine.view c.act.new.self) (g.E.Engine.view c.free_next.new.self) c.in-Err.fault (accounting.unasked (g.E.Engine.view c.args.self.now.engine) (g.E.Engine.view c.act.new.self) c.act.ensures.disk c.act.ensures.gate) c.act.ensures.tells c.in-Err.ensures.counts.accounts
+
+pub returns-in-Ok-false-clause-accounts : goal.returns-in-Ok-false-clause-accounts
+returns-in-Ok-false-clause-accounts g c =
+    accounting.accounts_done (g.E.Engine.view c.args.self.now.engine) (g.E.Engine.view c.free_next.new.self) _ (accounting.unfailed_both (g.E.Engine.view c.args.self.now.engine) (g.E.Engine.view c.act.new.self) (g.E.Engine.view c.free_next.new.self) (accounting.unasked (g.E.Engine.view c.args.self.now.engine) (g.E.Engine.view c.act.new.self) c.act.ensures.disk c.act.ensures.gate) (accounting.unfailed_done (g.E.Engine.view c.act.new.self) (g.E.Engine.view c.free_next.new.self) _ c.in-Ok-false.ensures.counts.accounts))
+
+pub returns-in-Ok-clause-accounts : goal.returns-in-Ok-clause-accounts
+returns-in-Ok-clause-accounts g c =
+    accounting.accounts_done (g.E.Engine.view c.args.self.now.engine) (g.E.Engine.view c.end_action.new.self) _ (accounting.unfailed_both (g.E.Engine.view c.args.self.now.engine) (g.E.Engine.view c.free_next.new.self) (g.E.Engine.view c.end_action.new.self) (accounting.unfailed_both (g.E.Engine.view c.args.self.now.engine) (g.E.Engine.view c.act.new.self) (g.E.Engine.view c.free_next.new.self) (accounting.unasked (g.E.Engine.view c.args.self.now.engine) (g.E.Engine.view c.act.new.self) c.act.ensures.disk c.act.ensures.gate) (accounting.unfailed_done (g.E.Engine.view c.act.new.self) (g.E.Engine.view c.free_next.new.self) _ c.in-Ok-true.ensures.counts.accounts)) (accounting.unfailed_done (g.E.Engine.view c.free_next.new.self) (g.E.Engine.view c.end_action.new.self) _ c.in-Ok.ensures.counts.accounts))
+
+pub returns-in-Err-end_action-clause-accounts : goal.returns-in-Err-end_action-clause-accounts
+returns-in-Err-end_action-clause-accounts g c =
+    accounting.accounts_then (g.E.Engine.view c.args.self.now.engine) (g.E.Engine.view c.free_next.new.self) (g.E.Engine.view c.end_action.new.self) c.in-Err-end_action.fault (accounting.unfailed_both (g.E.Engine.view c.args.self.now.engine) (g.E.Engine.view c.act.new.self) (g.E.Engine.view c.free_next.new.self) (accounting.unasked (g.E.Engine.view c.args.self.now.engine) (g.E.Engine.view c.act.new.self) c.act.ensures.disk c.act.ensures.gate) (accounting.unfailed_done (g.E.Engine.view c.act.new.self) (g.E.Engine.view c.free_next.new.self) _ c.in-Ok-true.ensures.counts.accounts)) (λ h. c.in-Ok-true.ensures.counts.tells (c.act.ensures.tells h)) c.in-Err-end_action.ensures.counts.accounts

@@ -10,6 +10,7 @@ use Rattle.sg_store.specs.Engine.{led}
 use Rattle.sg_store.proofs.Serving as serving
 use Rattle.sg_store.proofs.Heeding as heeding
 use Rattle.sg_store.specs.Store.{Core}
+use Rattle.sg_store.proofs.Accounting as accounting
 use Rattle.sg_store.proofs.store.Store.hold.Goals as goal
 
 pub returns-in-Ok-clause-same : goal.returns-in-Ok-clause-same
@@ -56,7 +57,7 @@ returns-in-Ok-clause-holds g c t z from m told x lawful kept held live =
 pub touches-requires : goal.touches-requires
 touches-requires g c =
     let s = c.requires.can in
-    record { can = record { by = s.by; sizes = s.sizes; from = s.from; means = s.means; can = λ told. serving.can_look s.by (g.E.Engine.basis s.sizes) (led s.by s.sizes s.from (g.E.Engine.view c.args.self.now.engine)) c.args.self.now.txns (s.can told) } }
+    record { can = record { by = s.by; sizes = s.sizes; from = s.from; means = s.means; can = λ told. serving.can_look s.by (g.E.Engine.basis s.sizes) (led s.by s.sizes (s.from told) (g.E.Engine.view c.args.self.now.engine)) c.args.self.now.txns (s.can told) } }
 
 pub returns-in-Ok-clause-causes : goal.returns-in-Ok-clause-causes
 returns-in-Ok-clause-causes g c =
@@ -68,11 +69,11 @@ returns-in-Err-clause-causes g c =
     (λ d. subst (λ e. HasRisen (g.E.Engine.view c.args.self.now.engine).faults (g.E.Engine.view e).faults) (sym c.halt.ensures.engine) (c.in-Err.ensures.counts.failed d)) c.in-Err.ensures.reads
 
 pub returns-in-Err-clause-heeds : goal.returns-in-Err-clause-heeds
-returns-in-Err-clause-heeds g c =
-    heeding.heeds_halt (g.E.Engine.view) c.args.self.now.stop c.halt.new.self.stop c.in-Err.fault (g.E.Engine.view c.args.self.now.engine) c.touches.new.self c.halt.new.self.engine c.halt.ensures.engine (ap (λ (k : Core). k.stopped) c.halt.ensures.core)
-    c.touches.ensures.counts.later c.touches.ensures.counts.tail c.in-Err.ensures.counts.failed
+returns-in-Err-clause-heeds g c none =
+    heeding.heeds_halt (g.E.Engine.view) c.args.self.now.stop c.halt.new.self.stop c.in-Err.fault (g.E.Engine.view c.args.self.now.engine) c.touches.new.self c.halt.new.self.engine c.halt.ensures.engine (ap (λ (k : Core). k.stopped) c.halt.ensures.core) none
+    c.touches.ensures.counts.later c.touches.ensures.counts.tail c.in-Err.ensures.counts.failed c.in-Err.ensures.counts.accounts
 
 pub returns-in-Ok-clause-heeds : goal.returns-in-Ok-clause-heeds
-returns-in-Ok-clause-heeds g c =
+returns-in-Ok-clause-heeds g c none =
     heeding.heeds_kept (g.E.Engine.view) c.args.self.now.stop c.grant.new.self.stop (g.E.Engine.view c.args.self.now.engine) c.touches.new.self c.grant.new.self.engine c.grant.ensures.engine (ap (λ (k : Core). k.stopped) c.grant.ensures.core)
-    c.in-Ok.ensures.counts.quiet c.touches.ensures.counts.tail c.in-Ok.ensures.counts.tells
+    c.in-Ok.ensures.counts.quiet c.touches.ensures.counts.tail c.in-Ok.ensures.counts.tells (accounting.unfailed_done (g.E.Engine.view c.args.self.now.engine) (g.E.Engine.view c.touches.new.self) _ c.in-Ok.ensures.counts.accounts)

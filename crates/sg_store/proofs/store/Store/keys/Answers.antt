@@ -14,6 +14,7 @@ use Rattle.sg_store.proofs.Serving as serving
 use Rattle.sg_store.proofs.Causing as causing
 use Rattle.sg_store.proofs.Heeding as heeding
 use Rattle.sg_store.specs.Store.{Core}
+use Rattle.sg_store.proofs.Accounting as accounting
 use Rattle.sg_store.proofs.store.Store.keys.Goals as goal
 
 pub returns-then-is_some-clause-lists : goal.returns-then-is_some-clause-lists
@@ -51,15 +52,15 @@ keys-requires g c =
       can = record {
         by = s.0;
         sizes = s.1.sizes;
-        from = s.1.from;
-        means = c.hold_keys.ensures.means s.0 s.1.sizes s.1.from s.1.means;
+        from = λ tells. s.1.from (c.hold_keys.ensures.told tells);
+        means = λ tells. c.hold_keys.ensures.means s.0 s.1.sizes (s.1.from (c.hold_keys.ensures.told tells)) (s.1.means (c.hold_keys.ensures.told tells));
         can = λ tells.
             (let told = c.hold_keys.ensures.told tells in
             let h = s.1.can told in
             let t = s.0 in
             let z = s.1.sizes in
-            let from = s.1.from in
-            let m = s.1.means in
+            let from = (s.1.from told) in
+            let m = (s.1.means told) in
             let x = h.run in
             let lawful = h.lawful in
             let shows = h.shows in
@@ -237,28 +238,34 @@ returns-then-not-is_live-clause-heeds g c =
 
 pub returns-in-Err-clause-heeds : goal.returns-in-Err-clause-heeds
 returns-in-Err-clause-heeds g c =
-    c.hold_keys.ensures.heeds
+    c.hold_keys.ensures.heeds (causing.none_of _ (sym c.is_some.ensures ∙ c.if-is_some.false))
 
 pub returns-in-Ok-Ok-clause-heeds : goal.returns-in-Ok-Ok-clause-heeds
 returns-in-Ok-Ok-clause-heeds g c =
-    heeding.heeds_then c.args.self.now.stop c.hold_keys.new.self.stop c.hold_keys.new.self.stop (g.E.Engine.view c.args.self.now.engine) (g.E.Engine.view c.hold_keys.new.self.engine) (g.E.Engine.view c.keys.new.self) c.hold_keys.ensures.heeds
-    (heeding.heeds_well c.hold_keys.new.self.stop (g.E.Engine.view c.hold_keys.new.self.engine) (g.E.Engine.view c.keys.new.self) c.in-Ok-Ok.ensures.counts.quiet c.keys.ensures.counts.tail c.in-Ok-Ok.ensures.counts.tells)
+    heeding.heeds_then c.args.self.now.stop c.hold_keys.new.self.stop c.hold_keys.new.self.stop (g.E.Engine.view c.args.self.now.engine) (g.E.Engine.view c.hold_keys.new.self.engine) (g.E.Engine.view c.keys.new.self) (c.hold_keys.ensures.heeds (causing.none_of _ (sym c.is_some.ensures ∙ c.if-is_some.false)))
+    (heeding.heeds_well c.hold_keys.new.self.stop (g.E.Engine.view c.hold_keys.new.self.engine) (g.E.Engine.view c.keys.new.self) c.in-Ok-Ok.ensures.counts.quiet c.keys.ensures.counts.tail c.in-Ok-Ok.ensures.counts.tells
+    (accounting.unfailed_done (g.E.Engine.view c.hold_keys.new.self.engine) (g.E.Engine.view c.keys.new.self) _ c.in-Ok-Ok.ensures.counts.accounts))
 
 pub returns-in-Ok-Err-clause-heeds : goal.returns-in-Ok-Err-clause-heeds
 returns-in-Ok-Err-clause-heeds g c =
-    heeding.heeds_then c.args.self.now.stop c.hold_keys.new.self.stop c.hold_keys.new.self.stop (g.E.Engine.view c.args.self.now.engine) (g.E.Engine.view c.hold_keys.new.self.engine) (g.E.Engine.view c.keys.new.self) c.hold_keys.ensures.heeds
-    (heeding.heeds_well c.hold_keys.new.self.stop (g.E.Engine.view c.hold_keys.new.self.engine) (g.E.Engine.view c.keys.new.self) c.in-Ok-Err.ensures.counts.quiet c.keys.ensures.counts.tail c.in-Ok-Err.ensures.counts.tells)
+    heeding.heeds_then c.args.self.now.stop c.hold_keys.new.self.stop c.hold_keys.new.self.stop (g.E.Engine.view c.args.self.now.engine) (g.E.Engine.view c.hold_keys.new.self.engine) (g.E.Engine.view c.keys.new.self) (c.hold_keys.ensures.heeds (causing.none_of _ (sym c.is_some.ensures ∙ c.if-is_some.false)))
+    (heeding.heeds_well c.hold_keys.new.self.stop (g.E.Engine.view c.hold_keys.new.self.engine) (g.E.Engine.view c.keys.new.self) c.in-Ok-Err.ensures.counts.quiet c.keys.ensures.counts.tail c.in-Ok-Err.ensures.counts.tells
+    (accounting.unfailed_done (g.E.Engine.view c.hold_keys.new.self.engine) (g.E.Engine.view c.keys.new.self) _ c.in-Ok-Err.ensures.counts.accounts))
 
 pub returns-in-Err-Memory-clause-heeds : goal.returns-in-Err-Memory-clause-heeds
 returns-in-Err-Memory-clause-heeds g c =
     let told = rw c.in-Err-Memory.field-0-is at c.in-Err-Memory.ensures.memory in
     let quiet = rw c.in-Err-Memory.field-0-is at c.in-Err-Memory.ensures.quiet in
-    heeding.heeds_then c.args.self.now.stop c.hold_keys.new.self.stop c.hold_keys.new.self.stop (g.E.Engine.view c.args.self.now.engine) (g.E.Engine.view c.hold_keys.new.self.engine) (g.E.Engine.view c.keys.new.self) c.hold_keys.ensures.heeds
-    (heeding.heeds_well c.hold_keys.new.self.stop (g.E.Engine.view c.hold_keys.new.self.engine) (g.E.Engine.view c.keys.new.self) (quiet refl) c.keys.ensures.counts.tail (told refl))
+    let acc = rw c.in-Err-Memory.field-0-is at c.in-Err-Memory.ensures.counts.accounts in
+    heeding.heeds_then c.args.self.now.stop c.hold_keys.new.self.stop c.hold_keys.new.self.stop (g.E.Engine.view c.args.self.now.engine) (g.E.Engine.view c.hold_keys.new.self.engine) (g.E.Engine.view c.keys.new.self) (c.hold_keys.ensures.heeds (causing.none_of _ (sym c.is_some.ensures ∙ c.if-is_some.false)))
+    (heeding.heeds_well c.hold_keys.new.self.stop (g.E.Engine.view c.hold_keys.new.self.engine) (g.E.Engine.view c.keys.new.self) (quiet refl) c.keys.ensures.counts.tail (told refl)
+    (accounting.unfailed_refused (g.E.Engine.view c.hold_keys.new.self.engine) (g.E.Engine.view c.keys.new.self) _ (λ is. is) acc))
 
 pub returns-in-Err-Space-clause-heeds : goal.returns-in-Err-Space-clause-heeds
 returns-in-Err-Space-clause-heeds g c =
     let failed = rw c.in-Err-Space.field-0-is at c.in-Err-Space.ensures.counts.failed in
-    heeding.heeds_then c.args.self.now.stop c.hold_keys.new.self.stop c.halt.new.self.stop (g.E.Engine.view c.args.self.now.engine) (g.E.Engine.view c.hold_keys.new.self.engine) (g.E.Engine.view c.halt.new.self.engine) c.hold_keys.ensures.heeds
-    (heeding.heeds_halt (g.E.Engine.view) c.hold_keys.new.self.stop c.halt.new.self.stop c.in-Err-Space.fault (g.E.Engine.view c.hold_keys.new.self.engine) c.keys.new.self c.halt.new.self.engine c.halt.ensures.engine (ap (λ (k : Core). k.stopped) c.halt.ensures.core)
-    c.keys.ensures.counts.later c.keys.ensures.counts.tail failed)
+    let acc = rw c.in-Err-Space.field-0-is at c.in-Err-Space.ensures.counts.accounts in
+    heeding.heeds_then c.args.self.now.stop c.hold_keys.new.self.stop c.halt.new.self.stop (g.E.Engine.view c.args.self.now.engine) (g.E.Engine.view c.hold_keys.new.self.engine) (g.E.Engine.view c.halt.new.self.engine) (c.hold_keys.ensures.heeds (causing.none_of _ (sym c.is_some.ensures ∙ c.if-is_some.false)))
+    (heeding.heeds_halt (g.E.Engine.view) c.hold_keys.new.self.stop c.halt.new.self.stop c.in-Err-Space.fault (g.E.Engine.view c.hold_keys.new.self.engine) c.keys.new.self c.halt.new.self.engine c.halt.ensures.engine (ap (λ (k : Core). k.stopped) c.halt.ensures.core) (ap (λ (k : Core). k.stopped) c.in-Ok.ensures.causes ∙ (causing.none_of _ (sym c.is_some.ensures ∙ c.if-is_some.false)))
+    c.keys.ensures.counts.later c.keys.ensures.counts.tail failed
+    (accounting.accounts_failed {B = Unit {0}} (g.E.Engine.view c.hold_keys.new.self.engine) (g.E.Engine.view c.hold_keys.new.self.engine) (g.E.Engine.view c.keys.new.self) _ c.in-Err-Space.fault (λ is. is) (λ is. is) (accounting.unfailed_none (g.E.Engine.view c.hold_keys.new.self.engine)) (λ h. h) acc))

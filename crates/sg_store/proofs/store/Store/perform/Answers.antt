@@ -1,4 +1,4 @@
-use Rattle.std.proofs.Common.{List, sym, ◌∙◌, arith, refl, ◌≤◌, subst}
+use Rattle.std.proofs.Common.{List, sym, ap, ◌∙◌, arith, refl, ◌≤◌, subst}
 use Rattle.sg_core.specs.Live.{Txn}
 use Rattle.sg_store.specs.Drops.{MarksOnly}
 use Rattle.sg_store.proofs.Marking.{marks_same}
@@ -118,12 +118,12 @@ room_for-requires g c =
     record {
       can = record {
         sizes = s.sizes;
-        from = s.from;
-        means = c.hold.ensures.means t s.sizes s.from s.means;
+        from = λ told. s.from (c.hold.ensures.told told);
+        means = λ told. c.hold.ensures.means t s.sizes (s.from (c.hold.ensures.told told)) (s.means (c.hold.ensures.told told));
         can = λ told.
             (let one = c.hold.ensures.told told in
             let h = s.can one in
-            let v = led t s.sizes s.from (g.E.Engine.view c.args.self.now.engine) in
+            let v = led t s.sizes (s.from one) (g.E.Engine.view c.args.self.now.engine) in
             let b = g.E.Engine.basis s.sizes in
             let k : Core = core_of c.args.self.now in
             let u = c.args.txn.0 in
@@ -131,8 +131,8 @@ room_for-requires g c =
             let stop = sym c.is_some.ensures ∙ c.if-is_some.false in
             let runs = doing.runs _ b h.lawful v k h.run u op h.shows c.args.into.now stop in
             let live = doing.live _ b h.lawful v k h.run u op h.shows c.args.into.now stop (sym c.is_live.ensures ∙ c.if-not-is_live.false) in
-            let holds = c.in-Ok.ensures.holds t s.sizes s.from s.means one h.run h.lawful runs.is_kept runs.held live in
-            let w = led t s.sizes s.from (g.E.Engine.view c.hold.new.self.engine) in
+            let holds = c.in-Ok.ensures.holds t s.sizes (s.from one) (s.means one) one h.run h.lawful runs.is_kept runs.held live in
+            let w = led t s.sizes (s.from one) (g.E.Engine.view c.hold.new.self.engine) in
             let kept1 = doing.kept_along _ b h.lawful v k h.run u op h.shows c.args.into.now w c.args.self.now.txns c.hold.new.self.txns c.hold.ensures.live holds.0 in
             record { lawful = h.lawful; run = h.run; kept = kept1 });
       };
@@ -144,13 +144,13 @@ act-requires-clause-can g c =
     let s = c.requires.serves in
     record {
       sizes = s.sizes;
-      from = s.from;
-      means = c.room_for.ensures.means s.sizes s.from (c.hold.ensures.means t s.sizes s.from s.means);
+      from = λ told. s.from (c.hold.ensures.told (c.room_for.ensures.told told));
+      means = λ told. c.room_for.ensures.means s.sizes (s.from (c.hold.ensures.told (c.room_for.ensures.told told))) (c.hold.ensures.means t s.sizes (s.from (c.hold.ensures.told (c.room_for.ensures.told told))) (s.means (c.hold.ensures.told (c.room_for.ensures.told told))));
       can = λ told.
           (let two = c.room_for.ensures.told told in
           let one = c.hold.ensures.told two in
           let h = s.can one in
-          let v = led t s.sizes s.from (g.E.Engine.view c.args.self.now.engine) in
+          let v = led t s.sizes (s.from one) (g.E.Engine.view c.args.self.now.engine) in
           let b = g.E.Engine.basis s.sizes in
           let k : Core = core_of c.args.self.now in
           let u = c.args.txn.0 in
@@ -158,11 +158,11 @@ act-requires-clause-can g c =
           let stop = sym c.is_some.ensures ∙ c.if-is_some.false in
           let runs = doing.runs _ b h.lawful v k h.run u op h.shows c.args.into.now stop in
           let live = doing.live _ b h.lawful v k h.run u op h.shows c.args.into.now stop (sym c.is_live.ensures ∙ c.if-not-is_live.false) in
-          let holds = c.in-Ok.ensures.holds t s.sizes s.from s.means one h.run h.lawful runs.is_kept runs.held live in
-          let w = led t s.sizes s.from (g.E.Engine.view c.hold.new.self.engine) in
+          let holds = c.in-Ok.ensures.holds t s.sizes (s.from one) (s.means one) one h.run h.lawful runs.is_kept runs.held live in
+          let w = led t s.sizes (s.from one) (g.E.Engine.view c.hold.new.self.engine) in
           let kept1 = doing.kept_along _ b h.lawful v k h.run u op h.shows c.args.into.now w c.args.self.now.txns c.hold.new.self.txns c.hold.ensures.live holds.0 in
-          let room = c.in-Ok-room_for.ensures.rooms s.sizes s.from (c.hold.ensures.means t s.sizes s.from s.means) two h.run h.lawful kept1 in
-          let free = doing.room_along _ b h.lawful v k h.run u op h.shows c.args.into.now (led t s.sizes s.from (g.E.Engine.view c.room_for.new.self.engine)) c.in-Ok-room_for.needs c.hold.new.self.txns c.room_for.new.self.txns c.room_for.ensures.live room.0 in
+          let room = c.in-Ok-room_for.ensures.rooms s.sizes (s.from one) (c.hold.ensures.means t s.sizes (s.from one) (s.means one)) two h.run h.lawful kept1 in
+          let free = doing.room_along _ b h.lawful v k h.run u op h.shows c.args.into.now (led t s.sizes (s.from one) (g.E.Engine.view c.room_for.new.self.engine)) c.in-Ok-room_for.needs c.hold.new.self.txns c.room_for.new.self.txns c.room_for.ensures.live room.0 in
           record { lawful = h.lawful; run = h.run; room = free; granted = holds.1 });
     }
 
@@ -235,16 +235,16 @@ returns-then-not-is_live-clause-heeds g c =
 
 pub returns-in-Err-clause-heeds : goal.returns-in-Err-clause-heeds
 returns-in-Err-clause-heeds g c =
-    c.hold.ensures.heeds
+    c.hold.ensures.heeds (causing.none_of _ (sym c.is_some.ensures ∙ c.if-is_some.false))
 
 pub returns-in-Err-room_for-clause-heeds : goal.returns-in-Err-room_for-clause-heeds
 returns-in-Err-room_for-clause-heeds g c =
-    heeding.heeds_then c.args.self.now.stop c.hold.new.self.stop c.room_for.new.self.stop (g.E.Engine.view c.args.self.now.engine) (g.E.Engine.view c.hold.new.self.engine) (g.E.Engine.view c.room_for.new.self.engine) c.hold.ensures.heeds c.room_for.ensures.heeds
+    heeding.heeds_then c.args.self.now.stop c.hold.new.self.stop c.room_for.new.self.stop (g.E.Engine.view c.args.self.now.engine) (g.E.Engine.view c.hold.new.self.engine) (g.E.Engine.view c.room_for.new.self.engine) (c.hold.ensures.heeds (causing.none_of _ (sym c.is_some.ensures ∙ c.if-is_some.false))) (c.room_for.ensures.heeds (ap (λ (k : Core). k.stopped) c.in-Ok.ensures.causes ∙ (causing.none_of _ (sym c.is_some.ensures ∙ c.if-is_some.false))))
 
 pub returns-clause-heeds : goal.returns-clause-heeds
 returns-clause-heeds g c =
     heeding.heeds_then c.args.self.now.stop c.room_for.new.self.stop c.act.new.self.stop (g.E.Engine.view c.args.self.now.engine) (g.E.Engine.view c.room_for.new.self.engine) (g.E.Engine.view c.act.new.self.engine)
-    (heeding.heeds_then c.args.self.now.stop c.hold.new.self.stop c.room_for.new.self.stop (g.E.Engine.view c.args.self.now.engine) (g.E.Engine.view c.hold.new.self.engine) (g.E.Engine.view c.room_for.new.self.engine) c.hold.ensures.heeds c.room_for.ensures.heeds) c.act.ensures.heeds
+    (heeding.heeds_then c.args.self.now.stop c.hold.new.self.stop c.room_for.new.self.stop (g.E.Engine.view c.args.self.now.engine) (g.E.Engine.view c.hold.new.self.engine) (g.E.Engine.view c.room_for.new.self.engine) (c.hold.ensures.heeds (causing.none_of _ (sym c.is_some.ensures ∙ c.if-is_some.false))) (c.room_for.ensures.heeds (ap (λ (k : Core). k.stopped) c.in-Ok.ensures.causes ∙ (causing.none_of _ (sym c.is_some.ensures ∙ c.if-is_some.false))))) (c.act.ensures.heeds (ap (λ (k : Core). k.stopped) c.in-Ok-room_for.ensures.causes ∙ ap (λ (k : Core). k.stopped) c.in-Ok.ensures.causes ∙ (causing.none_of _ (sym c.is_some.ensures ∙ c.if-is_some.false))))
 
 pub returns-then-is_some-clause-marks : goal.returns-then-is_some-clause-marks
 returns-then-is_some-clause-marks g c = marks_same (said_op c.args.op.now) c.args.txn.0 c.args.self.now.txns c.args.self.now.txns refl

@@ -11,6 +11,7 @@ use Rattle.sg_store.proofs.store.Store.room_for.Given as given
 use Rattle.sg_store.proofs.Serving as serving
 use Rattle.sg_store.proofs.Heeding as heeding
 use Rattle.sg_store.specs.Store.{Core}
+use Rattle.sg_store.proofs.Accounting as accounting
 use Rattle.sg_store.proofs.store.Store.room_for.Goals as goal
 
 pub returns-in-Err-Model-clause-stays : goal.returns-in-Err-Model-clause-stays
@@ -113,7 +114,7 @@ returns-clause-same g c z from m told x lawful kept =
 pub needs-requires : goal.needs-requires
 needs-requires g c =
     let s = c.requires.can in
-    record { can = record { sizes = s.sizes; from = s.from; means = s.means; can = λ told. serving.can_look _ (g.E.Engine.basis s.sizes) (led _ s.sizes s.from (g.E.Engine.view c.args.self.now.engine)) c.args.self.now.txns (s.can told) } }
+    record { can = record { sizes = s.sizes; from = s.from; means = s.means; can = λ told. serving.can_look _ (g.E.Engine.basis s.sizes) (led _ s.sizes (s.from told) (g.E.Engine.view c.args.self.now.engine)) c.args.self.now.txns (s.can told) } }
 
 pub returns-in-Err-Space-clause-means : goal.returns-in-Err-Space-clause-means
 returns-in-Err-Space-clause-means g c z from m =
@@ -121,28 +122,30 @@ returns-in-Err-Space-clause-means g c z from m =
     subst (λ e. (g.E.Engine.view e).means t z from) (sym c.halt.ensures.engine) (c.needs.ensures.means z from m)
 
 pub returns-in-Err-Model-clause-heeds : goal.returns-in-Err-Model-clause-heeds
-returns-in-Err-Model-clause-heeds g c =
+returns-in-Err-Model-clause-heeds g c none =
     let quiet = rw c.in-Err-Model.field-0-is at c.in-Err-Model.ensures.refused in
-    heeding.heeds_well _ (g.E.Engine.view c.args.self.now.engine) (g.E.Engine.view c.needs.new.self) quiet.1 c.needs.ensures.counts.tail quiet.0
+    let acc = rw c.in-Err-Model.field-0-is at c.in-Err-Model.ensures.counts.accounts in
+    heeding.heeds_well _ (g.E.Engine.view c.args.self.now.engine) (g.E.Engine.view c.needs.new.self) quiet.1 c.needs.ensures.counts.tail quiet.0 (accounting.unfailed_refused (g.E.Engine.view c.args.self.now.engine) (g.E.Engine.view c.needs.new.self) _ (λ is. is) acc)
 
 pub returns-in-Err-Space-clause-heeds : goal.returns-in-Err-Space-clause-heeds
-returns-in-Err-Space-clause-heeds g c =
+returns-in-Err-Space-clause-heeds g c none =
     let failed = rw c.in-Err-Space.field-0-is at c.in-Err-Space.ensures.counts.failed in
-    heeding.heeds_halt (g.E.Engine.view) c.args.self.now.stop c.halt.new.self.stop c.in-Err-Space.fault (g.E.Engine.view c.args.self.now.engine) c.needs.new.self c.halt.new.self.engine c.halt.ensures.engine (ap (λ (k : Core). k.stopped) c.halt.ensures.core)
-    c.needs.ensures.counts.later c.needs.ensures.counts.tail failed
+    let acc = rw c.in-Err-Space.field-0-is at c.in-Err-Space.ensures.counts.accounts in
+    heeding.heeds_halt (g.E.Engine.view) c.args.self.now.stop c.halt.new.self.stop c.in-Err-Space.fault (g.E.Engine.view c.args.self.now.engine) c.needs.new.self c.halt.new.self.engine c.halt.ensures.engine (ap (λ (k : Core). k.stopped) c.halt.ensures.core) none
+    c.needs.ensures.counts.later c.needs.ensures.counts.tail failed (accounting.accounts_failed {B = Unit {0}} (g.E.Engine.view c.args.self.now.engine) (g.E.Engine.view c.args.self.now.engine) (g.E.Engine.view c.needs.new.self) _ c.in-Err-Space.fault (λ is. is) (λ is. is) (accounting.unfailed_none (g.E.Engine.view c.args.self.now.engine)) (λ h. h) acc)
 
 pub returns-then-lacks-clause-heeds : goal.returns-then-lacks-clause-heeds
-returns-then-lacks-clause-heeds g c =
-    heeding.heeds_well _ (g.E.Engine.view c.args.self.now.engine) (g.E.Engine.view c.needs.new.self) c.in-Ok.ensures.counts.quiet c.needs.ensures.counts.tail c.in-Ok.ensures.counts.tells
+returns-then-lacks-clause-heeds g c none =
+    heeding.heeds_well _ (g.E.Engine.view c.args.self.now.engine) (g.E.Engine.view c.needs.new.self) c.in-Ok.ensures.counts.quiet c.needs.ensures.counts.tail c.in-Ok.ensures.counts.tells (accounting.unfailed_done (g.E.Engine.view c.args.self.now.engine) (g.E.Engine.view c.needs.new.self) _ c.in-Ok.ensures.counts.accounts)
 
 pub returns-then-bands-needs-clause-heeds : goal.returns-then-bands-needs-clause-heeds
-returns-then-bands-needs-clause-heeds g c =
-    heeding.heeds_well _ (g.E.Engine.view c.args.self.now.engine) (g.E.Engine.view c.needs.new.self) c.in-Ok.ensures.counts.quiet c.needs.ensures.counts.tail c.in-Ok.ensures.counts.tells
+returns-then-bands-needs-clause-heeds g c none =
+    heeding.heeds_well _ (g.E.Engine.view c.args.self.now.engine) (g.E.Engine.view c.needs.new.self) c.in-Ok.ensures.counts.quiet c.needs.ensures.counts.tail c.in-Ok.ensures.counts.tells (accounting.unfailed_done (g.E.Engine.view c.args.self.now.engine) (g.E.Engine.view c.needs.new.self) _ c.in-Ok.ensures.counts.accounts)
 
 pub returns-then-is_over-clause-heeds : goal.returns-then-is_over-clause-heeds
-returns-then-is_over-clause-heeds g c =
-    heeding.heeds_well _ (g.E.Engine.view c.args.self.now.engine) (g.E.Engine.view c.needs.new.self) c.in-Ok.ensures.counts.quiet c.needs.ensures.counts.tail c.in-Ok.ensures.counts.tells
+returns-then-is_over-clause-heeds g c none =
+    heeding.heeds_well _ (g.E.Engine.view c.args.self.now.engine) (g.E.Engine.view c.needs.new.self) c.in-Ok.ensures.counts.quiet c.needs.ensures.counts.tail c.in-Ok.ensures.counts.tells (accounting.unfailed_done (g.E.Engine.view c.args.self.now.engine) (g.E.Engine.view c.needs.new.self) _ c.in-Ok.ensures.counts.accounts)
 
 pub returns-clause-heeds : goal.returns-clause-heeds
-returns-clause-heeds g c =
-    heeding.heeds_well _ (g.E.Engine.view c.args.self.now.engine) (g.E.Engine.view c.needs.new.self) c.in-Ok.ensures.counts.quiet c.needs.ensures.counts.tail c.in-Ok.ensures.counts.tells
+returns-clause-heeds g c none =
+    heeding.heeds_well _ (g.E.Engine.view c.args.self.now.engine) (g.E.Engine.view c.needs.new.self) c.in-Ok.ensures.counts.quiet c.needs.ensures.counts.tail c.in-Ok.ensures.counts.tells (accounting.unfailed_done (g.E.Engine.view c.args.self.now.engine) (g.E.Engine.view c.needs.new.self) _ c.in-Ok.ensures.counts.accounts)

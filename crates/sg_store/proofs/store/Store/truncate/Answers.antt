@@ -14,6 +14,7 @@ use Rattle.sg_store.proofs.Resting as resting
 use Rattle.sg_store.proofs.Causing as causing
 use Rattle.sg_base.specs.Ends.{HasRisen}
 use Rattle.sg_store.proofs.Heeding as heeding
+use Rattle.sg_store.proofs.Accounting as accounting
 use Rattle.sg_store.proofs.store.Store.truncate.Goals as goal
 
 pub returns-then-is_some-clause-truncates : goal.returns-then-is_some-clause-truncates
@@ -62,13 +63,13 @@ pub returns-in-Ok-clause-rests : goal.returns-in-Ok-clause-rests
 returns-in-Ok-clause-rests g c t live objects durable s =
     record {
       sizes = s.sizes;
-      from = s.from;
-      means = c.truncate.ensures.means t s.sizes s.from s.means;
+      from = λ tells. s.from (c.truncate.ensures.counts.told tells);
+      means = λ tells. c.truncate.ensures.means t s.sizes (s.from (c.truncate.ensures.counts.told tells)) (s.means (c.truncate.ensures.counts.told tells));
       can = λ tells.
           (let was = c.truncate.ensures.counts.told tells in
           let h = s.can was in
-          resting.same_has t (g.E.Engine.basis s.sizes) (led t s.sizes s.from (g.E.Engine.view c.args.self.now.engine)) (led t s.sizes s.from (g.E.Engine.view c.truncate.new.self)) (core_of c.args.self.now) _ live objects durable h _
-          (returns-in-Ok-clause-truncates g c t s.sizes s.from s.means was h.run h.lawful h.shows) (returns-in-Ok-clause-truncates g c t s.sizes s.from s.means was h.run h.lawful h.shows).goes.1);
+          resting.same_has t (g.E.Engine.basis s.sizes) (led t s.sizes (s.from was) (g.E.Engine.view c.args.self.now.engine)) (led t s.sizes (s.from was) (g.E.Engine.view c.truncate.new.self)) (core_of c.args.self.now) _ live objects durable h _
+          (returns-in-Ok-clause-truncates g c t s.sizes (s.from was) (s.means was) was h.run h.lawful h.shows) (returns-in-Ok-clause-truncates g c t s.sizes (s.from was) (s.means was) was h.run h.lawful h.shows).goes.1);
     }
 
 pub returns-in-Ok-clause-told : goal.returns-in-Ok-clause-told
@@ -100,9 +101,9 @@ returns-then-is_some-clause-heeds g c =
 
 pub returns-in-Ok-clause-heeds : goal.returns-in-Ok-clause-heeds
 returns-in-Ok-clause-heeds g c =
-    heeding.heeds_well _ (g.E.Engine.view c.args.self.now.engine) (g.E.Engine.view c.truncate.new.self) c.in-Ok.ensures.counts.quiet c.truncate.ensures.counts.tail c.in-Ok.ensures.counts.tells
+    heeding.heeds_well _ (g.E.Engine.view c.args.self.now.engine) (g.E.Engine.view c.truncate.new.self) c.in-Ok.ensures.counts.quiet c.truncate.ensures.counts.tail c.in-Ok.ensures.counts.tells (accounting.unfailed_done (g.E.Engine.view c.args.self.now.engine) (g.E.Engine.view c.truncate.new.self) _ c.in-Ok.ensures.counts.accounts)
 
 pub returns-in-Err-clause-heeds : goal.returns-in-Err-clause-heeds
 returns-in-Err-clause-heeds g c =
-    heeding.heeds_halt (g.E.Engine.view) c.args.self.now.stop c.halt.new.self.stop c.in-Err.fault (g.E.Engine.view c.args.self.now.engine) c.truncate.new.self c.halt.new.self.engine c.halt.ensures.engine (ap (λ (k : Core). k.stopped) c.halt.ensures.core)
-    c.truncate.ensures.counts.later c.truncate.ensures.counts.tail c.in-Err.ensures.counts.failed
+    heeding.heeds_halt (g.E.Engine.view) c.args.self.now.stop c.halt.new.self.stop c.in-Err.fault (g.E.Engine.view c.args.self.now.engine) c.truncate.new.self c.halt.new.self.engine c.halt.ensures.engine (ap (λ (k : Core). k.stopped) c.halt.ensures.core) (causing.none_of _ (sym c.is_some.ensures ∙ c.if-is_some.false))
+    c.truncate.ensures.counts.later c.truncate.ensures.counts.tail c.in-Err.ensures.counts.failed c.in-Err.ensures.counts.accounts

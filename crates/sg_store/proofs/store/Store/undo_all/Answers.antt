@@ -5,6 +5,7 @@ use Rattle.sg_store.specs.Seen.{core_of}
 use Rattle.sg_store.proofs.Undone as undone
 use Rattle.sg_store.proofs.store.Store.undo_all.Given as given
 use Rattle.sg_store.proofs.Serving as serving
+use Rattle.sg_store.proofs.Accounting as accounting
 use Rattle.sg_store.proofs.store.Store.undo_all.Goals as goal
 
 pub notes-init : goal.notes-init
@@ -15,6 +16,7 @@ notes-init g c = record {
   later = omega arith;
   quiet = refl;
   tail = omega arith;
+  accounts = accounting.unfailed_none (g.E.Engine.view c.args.self.now.engine);
   same = refl;
   done = λ z from m told. undone.since_none _ (g.E.Engine.basis z) _ (led _ z from (g.E.Engine.view c.args.self.now.engine)) (core_of c.args.self.now) c.args.txn.0 c.tail-at.result c.tail-at.ensures;
 }
@@ -31,6 +33,7 @@ notes-preserved g c =
       later = omega (arith, i.later, c.undo_one.ensures.later);
       quiet = c.in-Ok-Some.ensures.quiet ∙ i.quiet;
       tail = omega (arith, i.tail, c.undo_one.ensures.tail);
+      accounts = accounting.unfailed_both (g.E.Engine.view c.args.self.now.engine) (g.E.Engine.view c.notes.self.engine) (g.E.Engine.view c.undo_one.new.self.engine) i.accounts (accounting.unfailed_done (g.E.Engine.view c.notes.self.engine) (g.E.Engine.view c.undo_one.new.self.engine) _ c.in-Ok-Some.ensures.accounts);
       same = c.undo_one.ensures.core ∙ i.same;
       done = λ z from m told. undone.since_more _ (g.E.Engine.basis z) _ (led t z from (g.E.Engine.view c.args.self.now.engine)) (led t z from (g.E.Engine.view c.notes.self.engine)) (led t z from (g.E.Engine.view c.undo_one.new.self.engine)) (core_of c.args.self.now) (core_of c.notes.self) c.args.txn.0 c.notes.at (i.done z from m told)
           (core_of c.undo_one.new.self) c.in-Ok-Some.after c.undo_one.ensures.core c.undo_one.ensures.later c.undo_one.ensures.tail (c.undo_one.ensures.stays z from (i.means z from m) (i.tells told)) (undid z from (i.means z from m) (i.tells told));
@@ -68,3 +71,11 @@ pub returns-in-Err-clause-means : goal.returns-in-Err-clause-means
 returns-in-Err-clause-means g c z from m =
     let t = table_of (λ y. (given.RecordOp-dyn g y).record_meaning y.1) (λ y. (given.RangeOp-dyn g y).range_meaning y.1) c.args.ops.now in
     c.undo_one.ensures.means z from (c.notes.invariant.means z from m)
+
+pub returns-in-Ok-None-clause-accounts : goal.returns-in-Ok-None-clause-accounts
+returns-in-Ok-None-clause-accounts g c =
+    accounting.accounts_done (g.E.Engine.view c.args.self.now.engine) (g.E.Engine.view c.undo_one.new.self.engine) _ (accounting.unfailed_both (g.E.Engine.view c.args.self.now.engine) (g.E.Engine.view c.notes.self.engine) (g.E.Engine.view c.undo_one.new.self.engine) c.notes.invariant.accounts (accounting.unfailed_done (g.E.Engine.view c.notes.self.engine) (g.E.Engine.view c.undo_one.new.self.engine) _ c.in-Ok-None.ensures.accounts))
+
+pub returns-in-Err-clause-accounts : goal.returns-in-Err-clause-accounts
+returns-in-Err-clause-accounts g c =
+    accounting.accounts_then (g.E.Engine.view c.args.self.now.engine) (g.E.Engine.view c.notes.self.engine) (g.E.Engine.view c.undo_one.new.self.engine) c.in-Err.fault c.notes.invariant.accounts c.notes.invariant.tells c.in-Err.ensures.accounts

@@ -1,11 +1,12 @@
-use Rattle.std.proofs.Common.{refl, ◌∙◌}
+use Rattle.std.proofs.Common.{refl, sym, subst, ◌∙◌}
 use Rattle.sg_ops.specs.Table.{table_of}
-use Rattle.sg_store.specs.Engine.{led, IsAt}
+use Rattle.sg_store.specs.Engine.{led, IsAt, IsDiskFault}
 use Rattle.sg_store.specs.Asks.{IsTakingBack}
 use Rattle.sg_store.proofs.Serving as serving
 use Rattle.sg_store.proofs.Taking as taking
 use Rattle.sg_store.proofs.Undone as undone
 use Rattle.sg_store.proofs.store.Store.undo_one.Given as given
+use Rattle.sg_store.proofs.Accounting as accounting
 use Rattle.sg_store.proofs.store.Store.undo_one.Goals as goal
 
 pub returns-in-Ok-None-clause-stays : goal.returns-in-Ok-None-clause-stays
@@ -68,12 +69,12 @@ reverse-requires g c =
     record {
       can = record {
         sizes = s.sizes;
-        from = s.from;
-        means = c.undo_step.ensures.means t s.sizes s.from s.means;
+        from = λ told. s.from (c.undo_step.ensures.counts.told told);
+        means = λ told. c.undo_step.ensures.means t s.sizes (s.from (c.undo_step.ensures.counts.told told)) (s.means (c.undo_step.ensures.counts.told told));
         can = λ told.
             (let one = c.undo_step.ensures.counts.told told in
             let h = s.can one in
-            taking.takes_back t (g.E.Engine.basis s.sizes) h.lawful (led t s.sizes s.from (g.E.Engine.view c.args.self.now.engine)) c.args.self.now.txns h.run c.args.txn.0 c.args.at h.undoing h.live (led t s.sizes s.from (g.E.Engine.view c.undo_step.new.self)) c.undo_step.new.into c.in-Ok-Some.after (some t s.sizes s.from s.means one));
+            taking.takes_back t (g.E.Engine.basis s.sizes) h.lawful (led t s.sizes (s.from one) (g.E.Engine.view c.args.self.now.engine)) c.args.self.now.txns h.run c.args.txn.0 c.args.at h.undoing h.live (led t s.sizes (s.from one) (g.E.Engine.view c.undo_step.new.self)) c.undo_step.new.into c.in-Ok-Some.after (some t s.sizes (s.from one) (s.means one) one));
       };
     }
 
@@ -86,13 +87,13 @@ end_undo-requires g c =
       can = record {
         by = t;
         sizes = s.sizes;
-        from = s.from;
-        means = c.reverse.ensures.means s.sizes s.from (c.undo_step.ensures.means t s.sizes s.from s.means);
+        from = λ told. s.from (c.undo_step.ensures.counts.told (c.reverse.ensures.counts.told told));
+        means = λ told. c.reverse.ensures.means s.sizes (s.from (c.undo_step.ensures.counts.told (c.reverse.ensures.counts.told told))) (c.undo_step.ensures.means t s.sizes (s.from (c.undo_step.ensures.counts.told (c.reverse.ensures.counts.told told))) (s.means (c.undo_step.ensures.counts.told (c.reverse.ensures.counts.told told))));
         can = λ told.
             (let two = c.reverse.ensures.counts.told told in
             let one = c.undo_step.ensures.counts.told two in
             let h = s.can one in
-            taking.acts_back t (g.E.Engine.basis s.sizes) h.lawful (led t s.sizes s.from (g.E.Engine.view c.args.self.now.engine)) c.args.self.now.txns h.run c.args.txn.0 c.args.at h.undoing h.live (led t s.sizes s.from (g.E.Engine.view c.undo_step.new.self)) c.undo_step.new.into c.in-Ok-Some.after (some t s.sizes s.from s.means one) (led t s.sizes s.from (g.E.Engine.view c.reverse.new.self)) (λ o a n e f said can. c.in-Ok.ensures.reverses s.sizes s.from (c.undo_step.ensures.means t s.sizes s.from s.means) two o a n e f said can));
+            taking.acts_back t (g.E.Engine.basis s.sizes) h.lawful (led t s.sizes (s.from one) (g.E.Engine.view c.args.self.now.engine)) c.args.self.now.txns h.run c.args.txn.0 c.args.at h.undoing h.live (led t s.sizes (s.from one) (g.E.Engine.view c.undo_step.new.self)) c.undo_step.new.into c.in-Ok-Some.after (some t s.sizes (s.from one) (s.means one) one) (led t s.sizes (s.from one) (g.E.Engine.view c.reverse.new.self)) (λ o a n e f said can. c.in-Ok.ensures.reverses s.sizes (s.from one) (c.undo_step.ensures.means t s.sizes (s.from one) (s.means one)) two o a n e f said can));
       };
     }
 
@@ -110,3 +111,46 @@ pub returns-in-Err-end_undo-clause-means : goal.returns-in-Err-end_undo-clause-m
 returns-in-Err-end_undo-clause-means g c z from m =
     let t = table_of (λ y. (given.RecordOp-dyn g y).record_meaning y.1) (λ y. (given.RangeOp-dyn g y).range_meaning y.1) c.args.ops.now in
     c.end_undo.ensures.means t z from (c.reverse.ensures.means z from (c.undo_step.ensures.means t z from m))
+
+pub returns-in-Ok-None-clause-accounts : goal.returns-in-Ok-None-clause-accounts
+returns-in-Ok-None-clause-accounts g c =
+    accounting.accounts_done (g.E.Engine.view c.args.self.now.engine) (g.E.Engine.view c.undo_step.new.self) _ (accounting.unfailed_done (g.E.Engine.view c.args.self.now.engine) (g.E.Engine.view c.undo_step.new.self) _ c.in-Ok-None.ensures.counts.accounts)
+
+pub returns-in-Err-clause-accounts : goal.returns-in-Err-clause-accounts
+returns-in-Err-clause-accounts g c =
+    accounting.accounts_then (g.E.Engine.view c.args.self.now.engine) (g.E.Engine.view c.args.self.now.engine) (g.E.Engine.view c.undo_step.new.self) c.in-Err.fault (accounting.unfailed_none (g.E.Engine.view c.args.self.now.engine)) (λ h. h) c.in-Err.ensures.counts.accounts
+
+pub returns-in-Err-reverse-clause-accounts : goal.returns-in-Err-reverse-clause-accounts
+returns-in-Err-reverse-clause-accounts g c =
+    accounting.accounts_then (g.E.Engine.view c.args.self.now.engine) (g.E.Engine.view c.undo_step.new.self) (g.E.Engine.view c.reverse.new.self) c.in-Err-reverse.fault (accounting.unfailed_done (g.E.Engine.view c.args.self.now.engine) (g.E.Engine.view c.undo_step.new.self) _ c.in-Ok-Some.ensures.counts.accounts) c.in-Ok-Some.ensures.counts.tells c.in-Err-reverse.ensures.counts.accounts
+
+pub returns-in-Ok-end_undo-clause-accounts : goal.returns-in-Ok-end_undo-clause-accounts
+returns-in-Ok-end_undo-clause-accounts g c =
+    accounting.accounts_done (g.E.Engine.view c.args.self.now.engine) (g.E.Engine.view c.end_undo.new.self) _ (accounting.unfailed_both (g.E.Engine.view c.args.self.now.engine) (g.E.Engine.view c.reverse.new.self) (g.E.Engine.view c.end_undo.new.self) (accounting.unfailed_both (g.E.Engine.view c.args.self.now.engine) (g.E.Engine.view c.undo_step.new.self) (g.E.Engine.view c.reverse.new.self) (accounting.unfailed_done (g.E.Engine.view c.args.self.now.engine) (g.E.Engine.view c.undo_step.new.self) _ c.in-Ok-Some.ensures.counts.accounts) (accounting.unfailed_done (g.E.Engine.view c.undo_step.new.self) (g.E.Engine.view c.reverse.new.self) _ c.in-Ok.ensures.counts.accounts)) (accounting.unfailed_done (g.E.Engine.view c.reverse.new.self) (g.E.Engine.view c.end_undo.new.self) _ c.in-Ok-end_undo.ensures.counts.accounts))
+
+pub returns-in-Err-end_undo-clause-accounts : goal.returns-in-Err-end_undo-clause-accounts
+returns-in-Err-end_undo-clause-accounts g c =
+    accounting.accounts_then (g.E.Engine.view c.args.self.now.engine) (g.E.Engine.view c.reverse.new.self) (g.E.Engine.view c.end_undo.new.self) c.in-Err-end_undo.fault (accounting.unfailed_both (g.E.Engine.view c.args.self.now.engine) (g.E.Engine.view c.undo_step.new.self) (g.E.Engine.view c.reverse.new.self) (accounting.unfailed_done (g.E.Engine.view c.args.self.now.engine) (g.E.Engine.view c.undo_step.new.self) _ c.in-Ok-Some.ensures.counts.accounts) (accounting.unfailed_done (g.E.Engine.view c.undo_step.new.self) (g.E.Engine.view c.reverse.new.self) _ c.in-Ok.ensures.counts.accounts)) (λ h. c.in-Ok.ensures.counts.tells (c.in-Ok-Some.ensures.counts.tells h)) c.in-Err-end_undo.ensures.counts.accounts
+
+pub broken-requires : goal.broken-requires
+broken-requires g c =
+    let t = table_of (λ y. (given.RecordOp-dyn g y).record_meaning y.1) (λ y. (given.RangeOp-dyn g y).range_meaning y.1) c.args.ops.now in
+    let s = c.requires.can in
+    let some = rw c.in-Ok-Some.field-0-is at c.in-Ok-Some.ensures.some in
+    record {
+      untold = λ told.
+          (let one = c.undo_step.ensures.counts.told told in
+          let h = s.can one in
+          taking.never_up t (g.E.Engine.basis s.sizes) h.lawful (led t s.sizes (s.from one) (g.E.Engine.view c.args.self.now.engine)) c.args.self.now.txns h.run c.args.txn.0 c.args.at h.undoing h.live (led t s.sizes (s.from one) (g.E.Engine.view c.undo_step.new.self)) c.undo_step.new.into c.in-Ok-Some.after (some t s.sizes (s.from one) (s.means one) one) c.if-after-at.true);
+    }
+
+pub returns-then-after-at-clause-accounts : goal.returns-then-after-at-clause-accounts
+returns-then-after-at-clause-accounts g c =
+    let t = table_of (λ y. (given.RecordOp-dyn g y).record_meaning y.1) (λ y. (given.RangeOp-dyn g y).range_meaning y.1) c.args.ops.now in
+    let s = c.requires.can in
+    let some = rw c.in-Ok-Some.field-0-is at c.in-Ok-Some.ensures.some in
+    accounting.accounts_broken (g.E.Engine.view c.args.self.now.engine) (g.E.Engine.view c.broken.new.self) c.broken.result (subst IsDiskFault (sym c.broken.ensures.answer) tt)
+    (λ one.
+    (let h = s.can one in
+    taking.never_up t (g.E.Engine.basis s.sizes) h.lawful (led t s.sizes (s.from one) (g.E.Engine.view c.args.self.now.engine)) c.args.self.now.txns h.run c.args.txn.0 c.args.at h.undoing h.live (led t s.sizes (s.from one) (g.E.Engine.view c.undo_step.new.self)) c.undo_step.new.into c.in-Ok-Some.after (some t s.sizes (s.from one) (s.means one) one) c.if-after-at.true))
+    (accounting.unfailed_both (g.E.Engine.view c.args.self.now.engine) (g.E.Engine.view c.undo_step.new.self) (g.E.Engine.view c.broken.new.self) (accounting.unfailed_done (g.E.Engine.view c.args.self.now.engine) (g.E.Engine.view c.undo_step.new.self) _ c.in-Ok-Some.ensures.counts.accounts) (accounting.unasked (g.E.Engine.view c.undo_step.new.self) (g.E.Engine.view c.broken.new.self) c.broken.ensures.disk c.broken.ensures.gate))

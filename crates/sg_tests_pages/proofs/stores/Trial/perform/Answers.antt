@@ -1,17 +1,11 @@
-use Rattle.sg_tests_pages.proofs.Silent.{no, untold, nothing}
+use Rattle.sg_tests_pages.proofs.Silent.{untold}
 use Rattle.sg_tests_pages.proofs.stores.Trial.perform.Goals as goal
 
 pub act-requires : goal.act-requires
 act-requires g c = λ told. absurd (untold told)
 
 pub perform-requires-clause-means : goal.perform-requires-clause-means
-perform-requires-clause-means g c = ∣ (
-  nothing,
-  record {
-    stands = record { lawful = c.laws.ensures; known = ∣ (λ whole told. absurd (no told)) ∣₁ };
-    since = λ begun told. absurd (untold told);
-  },
-) ∣₁
+perform-requires-clause-means g c = λ told. absurd (untold told)
 
 pub perform-requires-clause-there : goal.perform-requires-clause-there
 perform-requires-clause-there g c = λ told. absurd (untold told)

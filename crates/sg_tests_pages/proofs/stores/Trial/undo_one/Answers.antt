@@ -1,17 +1,11 @@
-use Rattle.sg_tests_pages.proofs.Silent.{no, untold, nothing}
+use Rattle.sg_tests_pages.proofs.Silent.{untold}
 use Rattle.sg_tests_pages.proofs.stores.Trial.undo_one.Goals as goal
 
 pub undo_step-requires : goal.undo_step-requires
 undo_step-requires g c = λ told. absurd (untold told)
 
 pub reverse-requires-clause-means : goal.reverse-requires-clause-means
-reverse-requires-clause-means g c = ∣ (
-  nothing,
-  record {
-    stands = record { lawful = c.laws.ensures; known = ∣ (λ whole told. absurd (no told)) ∣₁ };
-    since = λ begun told. absurd (untold told);
-  },
-) ∣₁
+reverse-requires-clause-means g c = λ told. absurd (untold told)
 
 pub reverse-requires-clause-there : goal.reverse-requires-clause-there
 reverse-requires-clause-there g c = λ told. absurd (untold told)

@@ -1,0 +1,10 @@
+use Rattle.sg_commands.proofs.Stores.{is_opened, stays_shut}
+use Rattle.sg_mount.proofs.Refused.{damaged_none, unknown_none}
+use Rattle.sg_commands.proofs.stores.PagedOpens.open.Goals as goal
+
+pub returns-in-Ok-clause-opens : goal.returns-in-Ok-clause-opens
+returns-in-Ok-clause-opens g c = is_opened _ g.D.Disk.told g.D.Presumed.presumed _ _ _ c.in-Ok.ensures.opened
+
+pub returns-in-Err-clause-refused : goal.returns-in-Err-clause-refused
+returns-in-Err-clause-refused g c =
+    stays_shut _ g.D.Disk.told g.D.Presumed.presumed _ _ damaged_none unknown_none c.in-Err.fault c.in-Err.ensures.refused

@@ -1,0 +1,44 @@
+-- The store over pages: what it rests on, and what images say of such stores.
+use Rattle.sg_store.specs.Ground.{Ground}
+use Rattle.sg_store.specs.Engine.{Sizes}
+use Rattle.sg_find.specs.declared.fault.OpenFault.TheVariants.{UnknownOperation}
+use Rattle.sg_gate.specs.declared.superblock.Super.{Super}
+use Rattle.sg_open.specs.Refusals.{IsCause}
+use Rattle.sg_reopen.specs.Making.{IsBlank}
+use Rattle.sg_making.specs.Making.{IsNoStore}
+use Rattle.sg_mount.specs.Making.{ground_of_sizes}
+use Rattle.sg_mount.specs.Opening.{sizes_in}
+use Rattle.sg_mount.specs.declared.fault.MountFault.{MountFault}
+use Rattle.sg_mount.specs.declared.fault.MountFault.TheVariants as faults
+use Rattle.sg_attach.specs.Ended.{end_in}
+use Rattle.sg_commands.specs.declared.opens.OpenRefused.{OpenRefused}
+use Rattle.sg_commands.specs.declared.opens.OpenRefused.TheVariants as refusals
+use Rattle.sg_commands.specs.Images.{Says}
+
+-- what a store of so many pages and bands rests on
+abbrev pub grounds : Sizes → Ground
+grounds z = ground_of_sizes z
+
+-- the superblock of a store that is made of the sizes that one has where none are given
+abbrev pub SUPER : Super
+SUPER = record { sequence = 1; pages = 16384; bands = 1024; frames = 256; windows = 32; log = 0; base = 0 }
+
+-- WHAT IMAGES SAY: how many pages and bands their store has, by the superblock, and where its log ends. The first code of an operation that isn't
+-- registered, of those that opening needs; that neither slot of the superblock is open; and that what isn't written by making a store is 0 there
+abbrev pub says : Says
+says = record {
+  sizes = sizes_in;
+  log_end = end_in;
+  unknown = λ t c code. IsCause t c (UnknownOperation code);
+  no_store = IsNoStore;
+  blank = IsBlank SUPER;
+}
+
+-- why a store isn't opened, in the program's words
+abbrev pub refused_for : MountFault → OpenRefused
+refused_for faults.Disk = refusals.DiskFault
+refused_for faults.Memory = refusals.Memory
+refused_for faults.LogEnd = refusals.LogEnd
+refused_for faults.NotAStore = refusals.NotAStore
+refused_for (faults.Damaged area at) = refusals.Damaged area at
+refused_for (faults.UnknownOperation code) = refusals.UnknownOperation code

@@ -1,0 +1,107 @@
+// The store over pages, as an engine that can be opened.
+ghost use Rattle.std.specs.Prelude.{◌≡◌, ◌<◌, IfOk, IfErr};
+ghost use Rattle.sg_making.specs.Making.{super_of};
+ghost use Rattle.sg_mount.specs.Opening.{HasOpenedOn, IsHandedBack, shown_by};
+ghost use Rattle.sg_ops.specs.Table.{table_of};
+ghost use Rattle.sg_store.specs.Seen.{core_of, Serves};
+ghost use Rattle.sg_commands.specs.Images.{IsPresumed};
+ghost use Rattle.sg_commands.specs.Stores.{SUPER, grounds, says, refused_for};
+
+use crate::opens::{InitRefused, OpenRefused, Opens, Unopened};
+use sg_base::Steps;
+use sg_disk::Presumed;
+use sg_geometry::Geometry as Sizes;
+use sg_making::{Geometry, InitFault};
+use sg_mount::{MountFault, Unmounted, init_store, open_store};
+use sg_ops::Ops;
+use sg_paged::Paged;
+use sg_pages::Phys;
+use sg_store::Store;
+use std::alloc::Global;
+use std::marker::Brand;
+use std::sync::ledger::{Blank, Ledger};
+
+// Why a store isn't opened, in the program's words.
+fn refused(fault: MountFault) -> OpenRefused
+    ensures { result ≡ refused_for fault }
+{
+    match fault {
+        MountFault::Disk => OpenRefused::DiskFault,
+        MountFault::Memory => OpenRefused::Memory,
+        MountFault::LogEnd => OpenRefused::LogEnd,
+        MountFault::NotAStore => OpenRefused::NotAStore,
+        MountFault::Damaged { area, at } => OpenRefused::Damaged { area, at },
+        MountFault::UnknownOperation(code) => OpenRefused::UnknownOperation(code),
+    }
+}
+
+// Opens a store, and counts its steps for no one.
+fn open_with<D: Presumed, L: Ledger>(
+    alloc: Global,
+    ops: &Ops,
+    disk: D,
+    blank: Blank,
+) -> Result<Store<Paged<Phys<D>>>, Unmounted<D>>
+    requires name { blank.name ≡ L.name }
+    requires parts { blank.parts ≡ L.parts }
+    requires some { 0 < L.parts }
+    requires presumed { IsPresumed grounds says (table_of record_meaning range_meaning ops.now) D.told D.presumed (D.view disk) }
+    ensures serves { IfOk result (λ s. Serves (table_of record_meaning range_meaning ops.now) s) }
+    ensures opened { IfOk result (λ s. HasOpenedOn (table_of record_meaning range_meaning ops.now) D.told D.presumed (D.view disk) (core_of s) (shown_by s)) }
+    ensures refused { IfErr result (λ u. IsHandedBack (table_of record_meaning range_meaning ops.now) D.told D.presumed (D.view disk) (D.view u.disk) u.fault) }
+{
+    let mut steps = Steps::<L>::open(blank);
+    open_store(alloc, ops, disk, &mut steps)
+}
+
+// The sizes of a store where none are given.
+fn sizes() -> Geometry
+    ensures { super_of result ≡ SUPER }
+{
+    let sizes = Sizes::default();
+    Geometry {
+        pages: sizes.pages,
+        bands: sizes.bands,
+        frames: sizes.frames,
+        windows: sizes.windows,
+    }
+}
+
+impl<D: Presumed> Opens<D> for Paged<Phys<D>> {
+    ghost use Rattle.sg_ground.proofs.Collections.{one_collection};
+    ghost use Rattle.sg_making.proofs.Made.{blank_none};
+    ghost use Rattle.sg_mount.proofs.Standing.{has_sizes, one_log_sized};
+    ghost use Rattle.sg_mount.specs.Opening.{sizes_in};
+    ghost use Rattle.sg_phys_laws.specs.Recovers.{RecoversBy};
+    ghost use Rattle.sg_shown.specs.Shown.{basis_at};
+
+    ghost says = { says };
+
+    ghost bare = { λ c blank. blank_none SUPER c blank };
+
+    ghost sized = { λ t z c m h. has_sizes t z c h.log h.pages h.recovers };
+
+    ghost one = { λ t c m other h k. one_collection (basis_at RecoversBy (sizes_in c)) (one_log_sized (sizes_in c)) t c m other h k };
+
+    fn open(alloc: Global, ops: &Ops, disk: D) -> Result<Store<Self>, Unopened<D>> {
+        match open_with::<D, Brand>(alloc, ops, disk, Blank::new(1)) {
+            Ok(store) => Ok(store),
+            Err(Unmounted { disk, fault }) => {
+                let why = refused(fault);
+                Err(Unopened { why, disk })
+            }
+        }
+    }
+
+    fn into_disk(self) -> D {
+        self.into_acts().into_engine().into_disk()
+    }
+
+    fn init(disk: &mut D) -> Result<(), InitRefused> {
+        match init_store(disk, &sizes()) {
+            Ok(()) => Ok(()),
+            Err(InitFault::Exists) => Err(InitRefused::Exists),
+            Err(InitFault::Disk | InitFault::BadGeometry) => Err(InitRefused::DiskFault),
+        }
+    }
+}

@@ -1,0 +1,9 @@
+pub mod Taking
+pub mod Flagged
+pub mod Regained
+pub mod Losers
+pub mod Counted
+pub mod Over
+pub mod Reaching
+pub mod Said
+pub mod Made

@@ -1,0 +1,66 @@
+-- A SPACE THAT IS MADE of what an opening found.
+use Rattle.std.proofs.Common.{◌≡◌, ◌⊎◌, ℕ, zero, suc, ◌<◌, ◌≤◌, ◌^◌, Bool, true, false, List, [], ◌∷◌, length, Option, Some, None, sym, ap, subst, ◌∙◌, refl, arith}
+use Rattle.std.specs.Prelude.{replicate, option_map, is_some, IfSome}
+use Rattle.sg_base.specs.declared.numbers.TxnId.{TxnId}
+use Rattle.sg_analysis.specs.Analysis.{losers_of}
+use Rattle.sg_recovery.specs.Chains.{last_of, border_of, next_lsn}
+use Rattle.sg_recovery.specs.Formed.{IsLog, IsUnfinished}
+use Rattle.sg_recovery.specs.Log.{tally, is_in}
+use Rattle.sg_actions.specs.Engine.{EngineSeen}
+use Rattle.sg_actions.specs.Rows.{at_rest}
+use Rattle.sg_actions.specs.Taken.{AreFlags, is_set}
+use Rattle.sg_actions.proofs.Taking.{none_freed}
+use Rattle.sg_alloc.specs.Flags.{free_of}
+use Rattle.sg_actions.specs.View.{HasFreedNone}
+use Rattle.sg_actions.specs.declared.rows.Actor.{Actor}
+use Rattle.sg_shown.specs.Shown.{Over, AsFound}
+use Rattle.sg_regained.specs.Regained.{AreRowsOf, unfinished_in}
+use Rattle.sg_regained.proofs.Losers.{rows_live, rows_low, unfinished_some, unfinished_none}
+
+-- what is known of the engine
+pub record IsAnalysed (e : EngineSeen) (first : ℕ) (losers : List (ℕ × ℕ)) (un : Option (TxnId × ℕ)) : Type 0 where
+  pub formed : IsLog e.base e.steps
+  pub below : next_lsn e.steps ≤ e.tail
+  pub based : e.base ≤ e.tail
+  pub start : e.base ≡ first
+  pub lost : losers ≡ losers_of e.steps
+  pub unfinished : option_map (λ p. (p.0.0, p.1)) un ≡ unfinished_in e.steps
+
+none_set : (n k : ℕ) → is_set (replicate n false) k ≡ false
+none_set zero k = refl
+none_set (suc n) zero = refl
+none_set (suc n) (suc k) = none_set n k
+
+rest_of : (un : Option (TxnId × ℕ)) (e : EngineSeen) (actor : Actor) (begun : Bool) → option_map (λ p. (p.0.0, p.1)) un ≡ unfinished_in e.steps → (un ≡ None → actor ≡ at_rest) → begun ≡ is_some un → begun ≡ false
+    → (actor ≡ at_rest) × ((u : ℕ) → (u ≡ 0) ⊎ (is_in u (tally e.steps).live ≡ true) → last_of u e.steps ≡ border_of u e.steps)
+rest_of None e actor begun is none same quiet = (none refl, unfinished_none e.steps (sym is))
+rest_of (Some p) e actor begun is none same quiet = absurd (let no : false ≡ true = sym quiet ∙ same in cc)
+
+acts_of : (un : Option (TxnId × ℕ)) (e : EngineSeen) (actor : Actor) (begun : Bool) → option_map (λ p. (p.0.0, p.1)) un ≡ unfinished_in e.steps → IfSome un (λ p. (actor.txn ≡ p.0) × (actor.last ≡ p.1)) → begun ≡ is_some un → begun ≡ true
+    → IsUnfinished e.steps actor.txn.0 × (actor.last ≡ last_of actor.txn.0 e.steps)
+acts_of None e actor begun is some same acts = absurd (let no : true ≡ false = sym acts ∙ same in cc)
+acts_of (Some p) e actor begun is some same acts =
+    let at = unfinished_some e.steps (p.0.0, p.1) (sym is) in
+    let who : p.0.0 ≡ actor.txn.0 = ap (λ (u : TxnId). u.0) (sym some.0) in
+    (subst (λ (u : ℕ). IsUnfinished e.steps u) who at.un, some.1 ∙ (at.last_is ∙ ap (λ (u : ℕ). last_of u e.steps) who))
+
+pub as_found : (a : Over) (losers : List (ℕ × ℕ)) (un : Option (TxnId × ℕ)) (n : ℕ) → IsAnalysed a.engine a.start losers un → a.maps.pages ≡ replicate n false → HasFreedNone a.unfreed
+    → AreRowsOf losers a.rows → IfSome un (λ p. (a.actor.txn ≡ p.0) × (a.actor.last ≡ p.1)) → (un ≡ None → a.actor ≡ at_rest) → a.begun ≡ is_some un → AsFound a
+as_found a losers un n h clear freed rows some none begun = record {
+  based = h.based;
+  start = h.start;
+  clear = λ k. ap (λ (xs : List Bool). is_set xs k) clear ∙ none_set n k;
+  freed = freed;
+  rows = rows_live a.engine.steps losers a.rows rows h.lost;
+  low = λ u far. rows_low a.engine.steps losers a.rows rows h.lost a.engine.tail u h.formed.chained h.below far;
+  rest = rest_of un a.engine a.actor a.begun h.unfinished none begun;
+  acts = acts_of un a.engine a.actor a.begun h.unfinished some begun;
+}
+
+-- flags of which none is freed
+pub whole_flags : (taken unfreed : List Bool) → length unfreed ≡ length taken → free_of unfreed ≡ 0 → length taken < 2 ^ 32 → AreFlags taken unfreed
+whole_flags taken unfreed long none few = record {
+  long = long;
+  inside = λ n less clear. absurd (let set : is_set unfreed n ≡ true = none_freed unfreed n none (omega (arith, less, long)) in let no : true ≡ false = sym set ∙ clear in cc);
+  few = few;
+}
