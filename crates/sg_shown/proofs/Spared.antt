@@ -1,6 +1,5 @@
--- ROOM FOR TRANSACTIONS stays where neither the rows change nor which transactions go on, and comes with vacant rows.
-use Rattle.std.proofs.Common.{◌≡◌, ◌≢◌, ℕ, zero, suc, ◌≤◌, ◌==◌, Bool, true, false, List, [], ◌∷◌, ◌++◌, Some, None, refl, sym, ap, ◌∙◌, subst}
-use Rattle.std.specs.Prelude.{replicate, length}
+-- ROOM FOR TRANSACTIONS stays where neither the rows change nor which transactions go on.
+use Rattle.std.proofs.Common.{◌≡◌, ℕ, List, [], ◌∷◌, ◌++◌, refl, ap, ◌∙◌}
 use Rattle.sg_ops.specs.Table.{Table}
 use Rattle.sg_recovery.specs.Log.{tally, said, is_in}
 use Rattle.sg_action.specs.States.{State, Kept}
