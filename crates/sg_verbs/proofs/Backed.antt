@@ -250,7 +250,7 @@ fresh_now recovers a t z from m now begun puts still first says_puts says_still 
 of_no_bytes : (puts : Bool) (note : List ℕ) → IsTrue puts ↔ (byte_at note 0 ≡ 9) → puts ≡ false → is_of_bytes note ≡ false
 of_no_bytes puts note says none = elim (cases_Bool (is_of_bytes note)) [
   | inl is ↦ let nine : byte_at note 0 ≡ 9 = grind (arith, nat_tests, is) in absurd (let both : true ≡ false = sym (says.1 nine) ∙ none in cc)
-  | inr no ↦ no
+  | inr not_so ↦ not_so
 ]
 
 pub never_still : (recovers : Recovering) (a : Over) (t : Table) (z : Sizes) (from : State) → Means a t z from → a.engine.Told
