@@ -1,44 +1,40 @@
 -- A note is reversed, as the store asks.
-use Rattle.std.proofs.Common.{◌≡◌, ◌⊎◌, ℕ, ◌+◌, ◌<◌, ◌≤◌, Bool, true, false, List, [], length, Option, Some, None, option_map, Result, Ok, Err, inl, inr, refl, sym, ap, ◌∙◌, subst, arith}
+use Rattle.std.proofs.Common.{◌≡◌, ◌⊎◌, ℕ, ◌<◌, Bool, true, false, List, [], length, Option, Some, None, option_map, inl, inr, refl, sym, ap, ◌∙◌, subst, arith}
 use Rattle.std.specs.Prelude.{◌↔◌, IsTrue, if◌then◌else◌}
 use Rattle.std.proofs.lemmas.Bool.{cases_Bool}
 use Rattle.std.proofs.lemmas.Bool.Decides.{nat_tests}
-use Rattle.sg_base.specs.Sheet.{Sheet}
 use Rattle.sg_alloc.specs.Flags.{map_bands_of}
 use Rattle.sg_ops.specs.Table.{Table}
 use Rattle.sg_record.specs.Changes.{Change as Changing}
 use Rattle.sg_recovery.specs.Log.{Top, tally}
 use Rattle.sg_action.specs.States.{State}
 use Rattle.sg_actions.specs.Acting.{IsChained}
-use Rattle.sg_actions.specs.Engine.{EngineSeen}
 use Rattle.sg_actions.specs.Painting.{AreBandsWhole}
 use Rattle.sg_actions.specs.Steps.{repeated}
 use Rattle.sg_actions.specs.Undoing.{is_of_bytes}
 use Rattle.sg_actions.proofs.Flags.{at_there}
 use Rattle.sg_reading.specs.Back.{Undoing, Before, back}
 use Rattle.sg_reading.specs.Back.Undoing.{WasNothing, WasMake, WasDrop, WasPush, WasPop, WasSet, WasApply, WasPut, WasOver, WasBytes}
-use Rattle.sg_reading.specs.Reading.{Thing, Reading, slot}
+use Rattle.sg_reading.specs.Reading.{Reading, slot}
 use Rattle.sg_before.specs.Laying.{put_on}
 use Rattle.sg_space.specs.View.{Space}
-use Rattle.sg_space.specs.declared.space.SpaceFault.{SpaceFault}
 use Rattle.sg_contents.specs.Standing.{Contents, IsContents, map_bands}
 use Rattle.sg_contents.specs.Meaning.{reading, IsCounted}
 use Rattle.sg_objects.specs.Done.{IsFresh}
 use Rattle.sg_objects.specs.Notes.{byte_at, note_said}
-use Rattle.sg_objects.specs.Needs.{needed_back, IsFree}
 use Rattle.sg_objects.specs.PutBack.{HasBack}
 use Rattle.sg_objects.specs.Reversing.{IsPutBack, IsPossible, UndoesAny}
 use Rattle.sg_objects.specs.Undone.{IsUndone}
-use Rattle.sg_objects.proofs.Founds.{was_space, has_back}
+use Rattle.sg_objects.proofs.Founds.{was_space}
 use Rattle.sg_reader.specs.Alike.{ReadsAs, HasReached}
-use Rattle.sg_store.specs.Engine.{Sizes, Action, pages_of}
+use Rattle.sg_store.specs.Engine.{Sizes, Action}
 use Rattle.sg_store.specs.Verbs.{CanReverse, Reversed}
 use Rattle.sg_ground.specs.Clauses.{CanBeReversed, AreBytesBack}
-use Rattle.sg_ground.specs.Ground.{bytes_of, found_by, found_of, PutsBack}
+use Rattle.sg_ground.specs.Ground.{bytes_of, found_by, found_of}
 use Rattle.sg_ground.specs.Recovers.{Recovering}
 use Rattle.sg_ground.proofs.Clauses.{reverse_possible, bytes_back, reversed_so}
 use Rattle.sg_shown.specs.Taken.{AreTaken, AreCounted}
-use Rattle.sg_shown.specs.Shown.{Over, Means, basis, basis_at, shown_of, has_page, has_band}
+use Rattle.sg_shown.specs.Shown.{Over, Means, basis, basis_at, has_page, has_band}
 use Rattle.sg_verbs.proofs.Held.{space_in, free_in, free_bands_in, holds, shows, own_reads}
 use Rattle.sg_verbs.proofs.Moving.{view_in}
 use Rattle.sg_verbs.proofs.Looking.{look_there}

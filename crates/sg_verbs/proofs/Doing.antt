@@ -1,25 +1,23 @@
 -- A call on objects in the open action.
-use Rattle.std.proofs.Common.{◌≡◌, ◌⊎◌, inl, inr, ℕ, ◌+◌, ◌<◌, ◌≤◌, Bool, true, false, List, [], ◌∷◌, ◌++◌, length, Option, Some, None, Result, Ok, Err, refl, sym, ap, ◌∙◌, subst, arith}
+use Rattle.std.proofs.Common.{◌≡◌, ◌⊎◌, inl, inr, ◌≤◌, Bool, true, false, ◌++◌, length, Some, Result, Ok, Err, refl, sym, ◌∙◌, subst}
 use Rattle.std.specs.Prelude.{is_err}
 use Rattle.sg_disk.specs.Disk as disk
 use Rattle.sg_disk.specs.Disk.{LeavesOnly}
 use Rattle.sg_ops.specs.Table.{Table}
-use Rattle.sg_recovery.specs.Log.{tally}
 use Rattle.sg_action.specs.States.{State}
 use Rattle.sg_actions.specs.Accounted.{HasAccounted}
-use Rattle.sg_actions.specs.Later.{Went, HasGone}
-use Rattle.sg_actions.specs.Steps.{Steps, repeated, begin_of}
+use Rattle.sg_actions.specs.Later.{Went}
 use Rattle.sg_contents.specs.Standing.{Contents, IsContents}
 use Rattle.sg_contents.specs.Meaning.{IsCounted}
 use Rattle.sg_space.specs.View as space
 use Rattle.sg_space.specs.declared.space.SpaceFault.{SpaceFault}
-use Rattle.sg_store.specs.Engine.{Sizes, Action, Counts, IsDiskFault, IsImageOf, IsEngine, Changes, Changed}
+use Rattle.sg_store.specs.Engine.{Sizes, Action, Counts, IsDiskFault, IsImageOf, Changes, Changed}
 use Rattle.sg_ground.specs.Recovers.{Recovering}
-use Rattle.sg_shown.specs.Shown.{Over, Keeping, Means, basis, shown_of}
+use Rattle.sg_shown.specs.Shown.{Over, Means, basis, shown_of}
 use Rattle.sg_shown.proofs.Holding.{Facts, engine_is}
 use Rattle.sg_verbs.proofs.Held.{space_in, own_reads, taken_now, counted_now, map_now}
-use Rattle.sg_verbs.proofs.Moving.{at_in, LaterOn, view_in, Leaves, went, means_on, means_off}
-use Rattle.sg_verbs.proofs.Settled.{IsSane, Passes, Fails, SomeFails, accounts_on}
+use Rattle.sg_verbs.proofs.Moving.{at_in, LaterOn, view_in, Leaves, went}
+use Rattle.sg_verbs.proofs.Settled.{IsSane, Passes, SomeFails, accounts_on}
 use Rattle.sg_verbs.specs.Looks.{IsHeld, IsNear}
 use Rattle.sg_verbs.proofs.Story.{seen, changes, both}
 

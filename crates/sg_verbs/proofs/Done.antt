@@ -1,20 +1,18 @@
 -- What a verb did in the open action, as the store asks.
-use Rattle.std.proofs.Common.{◌≡◌, ℕ, ◌+◌, ◌-◌, ◌<◌, ◌≤◌, Bool, true, false, List, [], ◌∷◌, ◌++◌, length, Option, Some, None, Result, Ok, Err, refl, sym, ap, ◌∙◌, subst, arith}
+use Rattle.std.proofs.Common.{◌≡◌, ℕ, Bool, true, false, List, [], ◌∷◌, ◌++◌, Ok, Err, refl, sym, ap, ◌∙◌}
 use Rattle.std.specs.FinMap.{get}
 use Rattle.sg_base.specs.Spelling.{is_name}
 use Rattle.sg_alloc.specs.Flags.{map_bands_of}
 use Rattle.sg_ops.specs.Laws.{IsLawful}
 use Rattle.sg_ops.specs.Table.{Table}
-use Rattle.sg_recovery.specs.Log.{Open, tally, changes_of, open_of}
-use Rattle.sg_record.specs.Changes.{Change as Changing}
+use Rattle.sg_recovery.specs.Log.{tally, changes_of, open_of}
 use Rattle.sg_action.specs.States.{State}
 use Rattle.sg_actions.specs.Later.{Went, HasGone, kept_at, begin_at}
 use Rattle.sg_actions.specs.Steps.{Steps, repeated, opened}
 use Rattle.sg_model.specs.declared.reason.Reason.{Reason}
-use Rattle.sg_model.specs.Step.{on, step, is_changing_verb}
+use Rattle.sg_model.specs.Step.{is_changing_verb}
 use Rattle.sg_model.specs.Verb.{Verb, Reply, Outcome}
 use Rattle.sg_model.specs.Verb.Op.{On}
-use Rattle.sg_reading.specs.Reading.{Reading, objects, plain}
 use Rattle.sg_reading.specs.Left.{IsLeft}
 use Rattle.sg_reading.specs.Noted.{BringsBytes, PutsBackOf}
 use Rattle.sg_contents.specs.Standing.{Contents, IsContents}
@@ -25,7 +23,7 @@ use Rattle.sg_store.specs.Verbs.{Performed, IsNoted, IsRefused}
 use Rattle.sg_ground.specs.Ground.{found_by}
 use Rattle.sg_ground.specs.Recovers.{Recovering}
 use Rattle.sg_ground.proofs.Clauses.{left_alone, noted_so, refused_so}
-use Rattle.sg_shown.specs.Shown.{Over, Keeping, Means, basis, basis_at, shown_of}
+use Rattle.sg_shown.specs.Shown.{Over, Means, basis, basis_at}
 use Rattle.sg_verbs.proofs.Held.{space_in, shows}
 use Rattle.sg_verbs.proofs.Moving.{at_in, LaterOn, view_in, means_on}
 use Rattle.sg_verbs.proofs.Story.{seen}

@@ -1,20 +1,14 @@
 -- What was dropped is freed, as the store asks.
-use Rattle.std.proofs.Common.{◌≡◌, ℕ, ◌+◌, ◌-◌, ◌<◌, ◌≤◌, Bool, true, false, List, [], ◌∷◌, ◌++◌, length, Option, Some, None, refl, sym, ap, ◌∙◌, subst, arith}
-use Rattle.std.specs.Prelude.{map}
+use Rattle.std.proofs.Common.{◌≡◌, ℕ, ◌-◌, ◌≤◌, Bool, true, false, List, Option, Some, refl, sym, ◌∙◌, subst, arith}
 use Rattle.sg_base.specs.declared.numbers.TxnId.{TxnId}
 use Rattle.sg_ops.specs.Table.{Table}
-use Rattle.sg_action.specs.States.{State, Kept, Change as Changed'}
 use Rattle.sg_record.specs.Changes.{Change as Changing}
-use Rattle.sg_actions.specs.Changes.{meaning}
-use Rattle.sg_actions.specs.Later.{AreChanges}
-use Rattle.sg_actions.specs.Steps.{Step, Steps, opened, logged, with_change}
 use Rattle.sg_contents.specs.Standing.{Contents, IsContents}
 use Rattle.sg_contents.specs.Meaning.{reading, page_total, IsCounted}
-use Rattle.sg_reading.specs.Reading.{Reading}
 use Rattle.sg_space.specs.View.{Space}
 use Rattle.sg_objects.specs.Freed.{FreedOne}
-use Rattle.sg_store.specs.Engine.{Sizes, View, Action, Changed, pages_of}
-use Rattle.sg_store.specs.Verbs.{FreesNext, IsFreed, NoneOf}
+use Rattle.sg_store.specs.Engine.{Sizes, View, Action, Changed}
+use Rattle.sg_store.specs.Verbs.{FreesNext}
 use Rattle.sg_ground.specs.Clauses.{Shows}
 use Rattle.sg_ground.proofs.Clauses.{contents_read, freed_so, nothing_buried}
 use Rattle.sg_ground.specs.Recovers.{Recovering}

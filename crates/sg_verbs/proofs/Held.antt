@@ -1,9 +1,8 @@
 -- What a space over an engine has, of the contents that its pages read as.
-use Rattle.std.proofs.Common.{◌≡◌, ℕ, ◌+◌, ◌<◌, ◌≤◌, Bool, true, false, List, [], ◌∷◌, length, Option, Some, None, option_map, inl, inr, refl, sym, ap, ◌∙◌, subst, arith}
+use Rattle.std.proofs.Common.{◌≡◌, ℕ, ◌+◌, ◌<◌, Bool, true, false, List, length, Option, Some, None, inl, inr, refl, sym, ap, ◌∙◌, subst, arith}
 use Rattle.std.specs.Prelude.{if◌then◌else◌}
 use Rattle.std.proofs.lemmas.Bool.{cases_Bool, cases_lt}
 use Rattle.sg_alloc.specs.Flags.{free_of, map_bands_of}
-use Rattle.sg_base.specs.Sheet.{Sheet}
 use Rattle.sg_ops.specs.Table.{Table}
 use Rattle.sg_action.specs.States.{State}
 use Rattle.sg_actions.specs.Exact.{past}
@@ -11,18 +10,18 @@ use Rattle.sg_actions.specs.Steps.{repeated}
 use Rattle.sg_actions.specs.Taken.{is_set, is_there, units_there}
 use Rattle.sg_actions.proofs.Flags.{and_left, at_there}
 use Rattle.sg_space.specs.View.{Space}
-use Rattle.sg_contents.specs.Standing.{Contents, IsContents, IsReachedPage, IsReachedBand, AreInRange, map_bands}
-use Rattle.sg_contents.specs.Meaning.{reading, page_total, band_total, IsCounted}
+use Rattle.sg_contents.specs.Standing.{Contents, IsContents, AreInRange, map_bands}
+use Rattle.sg_contents.specs.Meaning.{reading, IsCounted}
 use Rattle.sg_reading.specs.Reading.{Reading}
 use Rattle.sg_reader.specs.Alike.{ReadsAs, IsPartOf, space_of}
 use Rattle.sg_reader.proofs.Decide.{reader}
 use Rattle.sg_reader.proofs.Spaces.{state_reads, space_reads, reached_page, reached_band}
-use Rattle.sg_store.specs.Engine.{Sizes, View, led, pages_of}
+use Rattle.sg_store.specs.Engine.{Sizes, led, pages_of}
 use Rattle.sg_ground.proofs.Lawful.{mapped}
 use Rattle.sg_ground.specs.Clauses.{Shows}
 use Rattle.sg_ground.specs.Recovers.{Recovering}
 use Rattle.sg_shown.specs.Taken.{AreTaken, AreCounted, with_bytes}
-use Rattle.sg_shown.specs.Shown.{Over, Keeping, Means, basis, basis_at, has_page, has_band, shown_of}
+use Rattle.sg_shown.specs.Shown.{Over, basis, basis_at, has_page, has_band, shown_of}
 use Rattle.sg_shown.proofs.History.{made_is}
 use Rattle.sg_shown.proofs.Places.{reached_page_too, reached_band_too, page_totals, band_totals}
 

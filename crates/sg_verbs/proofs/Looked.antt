@@ -1,5 +1,5 @@
 -- What a look at the objects leaves: all as it was, or an engine that tells no more.
-use Rattle.std.proofs.Common.{◌≡◌, ℕ, ◌+◌, ◌≤◌, Bool, true, false, List, [], length, Some, None, Result, Ok, Err, refl, sym, ap, ◌∙◌, subst, arith}
+use Rattle.std.proofs.Common.{◌≡◌, ℕ, ◌+◌, ◌≤◌, Bool, true, false, List, [], Some, None, Result, Ok, Err, refl, sym, ap, ◌∙◌, subst, arith}
 use Rattle.std.specs.Prelude.{OnOk, IfErr, is_err, ⊤}
 use Rattle.sg_base.specs.Ends.{HasRisen}
 use Rattle.sg_ops.specs.Table.{Table, fresh_table}

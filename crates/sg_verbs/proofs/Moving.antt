@@ -1,17 +1,14 @@
 -- What is kept from one moment of a space over an engine to a later one, whatever calls of the space were made between them.
-use Rattle.std.proofs.Common.{◌≡◌, ℕ, ◌+◌, ◌<◌, ◌≤◌, Bool, true, false, List, [], ◌∷◌, ◌++◌, length, Option, Some, None, refl, sym, ap, ◌∙◌, subst, arith}
+use Rattle.std.proofs.Common.{◌≡◌, ℕ, ◌<◌, true, false, [], ◌++◌, length, sym, ap, ◌∙◌, subst, arith}
 use Rattle.sg_alloc.specs.Flags.{map_bands_of}
 use Rattle.sg_ops.specs.Table.{Table}
 use Rattle.sg_recovery.specs.Log.{tally}
-use Rattle.sg_recovery.specs.Log.Record.{Change}
 use Rattle.sg_action.specs.States.{State, Kept}
 use Rattle.sg_actions.specs.Calls.{IsAtRest}
-use Rattle.sg_actions.specs.Engine.{EngineSeen, led as led_from}
 use Rattle.sg_actions.specs.Later.{At, ActsAt, LaterBy, Went, HasGone, AreChanges, acts_at, led_at, at_kept, kept_at, begin_at}
-use Rattle.sg_actions.specs.Steps.{Step, Steps, repeated, begin_of, opened}
+use Rattle.sg_actions.specs.Steps.{Steps, repeated, begin_of, opened}
 use Rattle.sg_actions.specs.Taken.{kept_of}
 use Rattle.sg_actions.specs.View.{HasFreedNone, Since, acts_view}
-use Rattle.sg_actions.specs.declared.rows.Row.{Row}
 use Rattle.sg_space.specs.View.{View}
 use Rattle.sg_contents.specs.Standing.{Contents}
 use Rattle.sg_reader.specs.Alike.{ReadsAs}

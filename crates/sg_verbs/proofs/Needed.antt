@@ -1,5 +1,5 @@
 -- What a need leaves and says, as the store asks.
-use Rattle.std.proofs.Common.{◌≡◌, ℕ, Bool, true, false, List, Result, Ok, Err, refl, ap}
+use Rattle.std.proofs.Common.{◌≡◌, ℕ, true, false, List, Result, Ok, Err, refl, ap}
 use Rattle.std.specs.Prelude.{IfErr}
 use Rattle.sg_ops.specs.Table.{Table}
 use Rattle.sg_actions.specs.declared.acts.Acts.{Acts}
@@ -17,7 +17,7 @@ use Rattle.sg_objects.specs.declared.verb.ObjFault.TheVariants as objects
 use Rattle.sg_space.specs.View.{View, OnlyReads}
 use Rattle.sg_space.specs.declared.space.SpaceFault.{SpaceFault}
 use Rattle.sg_space.specs.declared.space.SpaceFault.TheVariants as faults
-use Rattle.sg_store.specs.Engine.{AsMeantBy, Counts, IsEngine, IsDiskFault, IsObjDisk, IsReadFault, IsRefusedQuietly, Rests}
+use Rattle.sg_store.specs.Engine.{AsMeantBy, Counts, IsEngine, IsObjDisk, IsReadFault, IsRefusedQuietly, Rests}
 use Rattle.sg_store.specs.Verbs.{Reads, HasNeeds}
 use Rattle.sg_store.specs.declared.fault.Needed.{Needed}
 use Rattle.sg_store.specs.declared.fault.ObjFault.{ObjFault}

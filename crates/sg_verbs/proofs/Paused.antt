@@ -1,12 +1,12 @@
 -- A verb that can change nothing is looked up while whoever acts pauses: what is so then of the space, is so of it where that goes on.
-use Rattle.std.proofs.Common.{◌≡◌, ◌⊎◌, inl, inr, ℕ, ◌+◌, ◌≤◌, Bool, true, false, List, [], ◌++◌, Result, Ok, Err, refl, sym, ap, ◌∙◌, subst, arith}
+use Rattle.std.proofs.Common.{◌≡◌, ◌⊎◌, inl, inr, ℕ, ◌+◌, ◌≤◌, Bool, true, false, List, [], ◌++◌, Result, Ok, Err, refl, sym, ap, ◌∙◌, subst}
 use Rattle.std.specs.Prelude.{IfErr}
 use Rattle.sg_base.specs.Ends.{HasRisen}
 use Rattle.sg_ops.specs.Table.{Table}
 use Rattle.sg_recovery.specs.Log.{tally}
 use Rattle.sg_action.specs.States.{State}
-use Rattle.sg_actions.specs.Later.{Went, HasGone}
-use Rattle.sg_actions.specs.Steps.{Steps, repeated, begin_of, ended}
+use Rattle.sg_actions.specs.Later.{Went}
+use Rattle.sg_actions.specs.Steps.{Steps, repeated, ended}
 use Rattle.sg_actions.specs.View.{Since}
 use Rattle.sg_actions.specs.declared.acts.Acts.{Acts}
 use Rattle.sg_actions.specs.declared.engine.Engine.{Ghosts}

@@ -1,19 +1,16 @@
 -- A verb may be done in an action that has only begun.
-use Rattle.std.proofs.Common.{◌≡◌, ℕ, ◌<◌, ◌≤◌, Bool, true, false, List, [], length, Option, Some, None, refl, sym, ap, ◌∙◌, subst}
-use Rattle.std.specs.Prelude.{IsOk}
+use Rattle.std.proofs.Common.{◌≡◌, ℕ, ◌≤◌, true, false, List, [], length, Option, None, refl, sym, ap, ◌∙◌, subst}
 use Rattle.std.specs.FinMap.{get}
 use Rattle.sg_base.specs.Sheet.{Sheet}
 use Rattle.sg_ops.specs.Table.{Table}
 use Rattle.sg_recovery.specs.Log.{tally}
-use Rattle.sg_action.specs.States.{State, Change, Kept}
-use Rattle.sg_actions.specs.Steps.{Steps, repeated, begin_of, ended, opened}
-use Rattle.sg_actions.specs.Taken.{has_lessened, kept_of}
-use Rattle.sg_actions.specs.View.{HasFreedNone, MayGive, MayGiveNow}
+use Rattle.sg_action.specs.States.{State, Change}
+use Rattle.sg_actions.specs.Steps.{repeated, opened}
+use Rattle.sg_actions.specs.Taken.{has_lessened}
 use Rattle.sg_actions.proofs.Beginning.{idle_opened}
-use Rattle.sg_model.specs.Step.{on}
 use Rattle.sg_model.specs.Verb.{Verb}
 use Rattle.sg_model.specs.Verb.Op.{On}
-use Rattle.sg_reading.specs.Reading.{Reading, plain}
+use Rattle.sg_reading.specs.Reading.{Reading}
 use Rattle.sg_contents.specs.Standing.{Contents, IsContents}
 use Rattle.sg_contents.specs.Meaning.{reading, IsCounted}
 use Rattle.sg_contents.specs.Limits.{limit, limit_of, kind_at, items_for, size_among}

@@ -1,5 +1,5 @@
 -- An action that has changed nothing: no step was made, and nothing was freed.
-use Rattle.std.proofs.Common.{◌≡◌, ℕ, zero, suc, ◌+◌, Bool, true, false, not, List, [], ◌∷◌, ◌++◌, length, refl, sym, ap, ◌∙◌, subst, arith}
+use Rattle.std.proofs.Common.{◌≡◌, ℕ, zero, suc, Bool, true, false, not, List, [], ◌∷◌, ◌++◌, length, refl, sym, ap, ◌∙◌, arith}
 use Rattle.std.specs.Prelude.{map, ◌&&◌}
 use Rattle.sg_alloc.specs.Flags.{free_of}
 use Rattle.sg_ops.specs.Table.{Table}

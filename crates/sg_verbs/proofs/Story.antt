@@ -1,17 +1,13 @@
 -- What calls of a space over an engine are to the store: changes of the open action, or none.
-use Rattle.std.proofs.Common.{◌≡◌, ℕ, ◌+◌, ◌≤◌, Bool, true, false, List, [], ◌∷◌, ◌++◌, length, Option, Some, None, refl, sym, ap, ◌∙◌, subst, arith}
+use Rattle.std.proofs.Common.{◌≡◌, ℕ, ◌≤◌, Bool, true, false, [], ◌++◌, Some, None, refl, sym, ap, ◌∙◌, subst}
 use Rattle.sg_disk.specs.Disk.{LeavesOnly}
 use Rattle.sg_ops.specs.Table.{Table}
-use Rattle.sg_action.specs.States.{State, Kept}
-use Rattle.sg_actions.specs.Engine.{Moments}
-use Rattle.sg_actions.specs.Images as images
-use Rattle.sg_actions.specs.Later.{Went, HasGone, AreChanges, kept_at, begin_at}
+use Rattle.sg_action.specs.States.{State}
+use Rattle.sg_actions.specs.Later.{Went, HasGone, kept_at}
 use Rattle.sg_actions.specs.Steps.{Steps, repeated, begin_of, ended}
 use Rattle.sg_recovery.specs.Log.{tally}
 use Rattle.sg_store.specs.Engine.{Sizes, View, Action, IsEngine, GoesOn, Changes, Changed, Rests, Rested, led, action_of, pages_of}
 use Rattle.sg_ground.specs.Recovers.{Recovering}
-use Rattle.sg_reader.specs.Reader.{limits}
-use Rattle.sg_reader.proofs.Decide.{reader}
 use Rattle.sg_shown.specs.Shown.{Over, Keeping, Means, basis, shown_of, acting}
 use Rattle.sg_shown.proofs.History.{made_is, grows_is, moments_are, changes_are, before_is, own}
 use Rattle.sg_verbs.proofs.Moving.{at_in}

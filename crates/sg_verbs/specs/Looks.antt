@@ -1,5 +1,5 @@
 -- What becomes of a space over an engine round calls on its objects.
-use Rattle.std.specs.Prelude.{◌≡◌, ◌⊎◌, ℕ, ◌+◌, ◌<◌, ◌≤◌, Bool, true, false, length, Result, Ok, Err}
+use Rattle.std.specs.Prelude.{◌≡◌, ◌⊎◌, ◌+◌, ◌<◌, ◌≤◌, Bool, true, false, length, Result, Ok, Err}
 use Rattle.sg_base.specs.Ends.{HasRisen}
 use Rattle.sg_action.specs.States.{State}
 use Rattle.sg_actions.specs.Engine.{EngineSeen, StandsNow, led}
@@ -17,7 +17,7 @@ use Rattle.sg_space.specs.declared.space.ListFault.{ListFault}
 use Rattle.sg_space.specs.declared.space.ListFault.TheVariants as lists
 use Rattle.sg_space.specs.declared.space.SpaceFault.{SpaceFault}
 use Rattle.sg_space.specs.declared.space.SpaceFault.TheVariants as faults
-use Rattle.sg_shown.specs.Shown.{Over, over}
+use Rattle.sg_shown.specs.Shown.{Over}
 use Rattle.sg_store.specs.declared.fault.Needed.{Needed}
 use Rattle.sg_store.specs.declared.fault.ObjFault.{ObjFault}
 use Rattle.sg_store.specs.declared.fault.ObjFault.TheVariants as store

@@ -1,8 +1,6 @@
-use Rattle.std.proofs.Common.{◌≡◌, ℕ, ◌+◌, Bool, true, false, List, [], ◌++◌, length, Some, refl, sym, ap, ◌∙◌, subst}
+use Rattle.std.proofs.Common.{◌≡◌, Bool, true, false, [], ◌++◌, refl, sym, ap, ◌∙◌, subst}
 use Rattle.std.specs.Prelude.{Ok, Err, Result}
-use Rattle.sg_ops.specs.Table.{Table, table_of}
-use Rattle.sg_action.specs.States.{State}
-use Rattle.sg_actions.specs.Later.{kept_at, begin_at}
+use Rattle.sg_ops.specs.Table.{table_of}
 use Rattle.sg_actions.specs.Steps.{Steps, opened}
 use Rattle.sg_actions.proofs.Beginning.{idle_opened}
 use Rattle.sg_reading.specs.Reading.{Reading}
@@ -13,12 +11,11 @@ use Rattle.sg_space.specs.declared.space.SpaceFault.{SpaceFault}
 use Rattle.sg_store.specs.Engine.{AskedBy, Counts, Changes, IsDiskFault}
 use Rattle.sg_store.specs.Verbs.{CanLook, FreesNext}
 use Rattle.sg_verbs.proofs.Held.{space_in, shows}
-use Rattle.sg_verbs.proofs.Moving.{LaterOn, view_in, at_in, means_on, means_off}
+use Rattle.sg_verbs.proofs.Moving.{LaterOn, means_on, means_off}
 use Rattle.sg_verbs.proofs.Story.{seen, begun_by}
 use Rattle.sg_verbs.proofs.Looking.{look_there, asked_by_there}
 use Rattle.sg_verbs.proofs.Doing.{counts_on, passes_on, fails_on, leaves_of, do_went, do_changes, do_changed}
 use Rattle.sg_verbs.proofs.Looked.{sane}
-use Rattle.sg_verbs.specs.Looks.{IsHeld}
 use Rattle.sg_verbs.proofs.Settled.{Passes, counts_up, given_as, near_up, none_fails}
 use Rattle.sg_verbs.proofs.Freed.{frees_next, freed_there}
 use Rattle.sg_verbs.proofs.Still.{nothing_made}

@@ -1,15 +1,13 @@
-use Rattle.std.proofs.Common.{◌≡◌, ℕ, ◌+◌, ◌*◌, ◌<◌, ◌≤◌, Bool, true, false, List, [], length, Some, refl, sym, ap, ◌∙◌, subst, arith}
+use Rattle.std.proofs.Common.{◌≡◌, ℕ, ◌+◌, ◌*◌, ◌<◌, ◌≤◌, Bool, true, List, [], length, refl, sym, ap, ◌∙◌, subst, arith}
 use Rattle.std.specs.Prelude.{Ok, Err, Result}
 use Rattle.sg_base.specs.Spelling.{is_name}
-use Rattle.sg_ops.specs.Table.{Table, table_of}
+use Rattle.sg_ops.specs.Table.{table_of}
 use Rattle.sg_action.specs.States.{State}
 use Rattle.sg_actions.specs.Steps.{opened}
 use Rattle.sg_actions.specs.View.{Since}
 use Rattle.sg_contents.specs.Standing.{Contents, IsContents}
-use Rattle.sg_contents.specs.Meaning.{reading, IsCounted}
-use Rattle.sg_model.specs.SaidOps.{said_op, name_of, verb_of}
+use Rattle.sg_model.specs.SaidOps.{name_of, verb_of}
 use Rattle.sg_model.specs.SaidReplies.{said_reply}
-use Rattle.sg_model.specs.Step.{is_changing_verb}
 use Rattle.sg_model.specs.Verb.Op.{On}
 use Rattle.sg_reading.specs.Reading.{Reading}
 use Rattle.sg_model.specs.declared.op.Reply.{Reply}
@@ -20,7 +18,7 @@ use Rattle.sg_store.specs.declared.fault.ObjFault.{ObjFault}
 use Rattle.sg_store.specs.declared.fault.ObjFault.TheVariants as store
 use Rattle.sg_store.specs.Engine.{IsObjDisk, IsVerbEnd, IsDiskFault}
 use Rattle.sg_store.specs.Verbs.{Performed, IsRefused}
-use Rattle.sg_shown.specs.Shown.{Over, over, shown_of, Means, basis}
+use Rattle.sg_shown.specs.Shown.{Over, over, basis}
 use Rattle.sg_shown.proofs.Holding.{Facts}
 use Rattle.sg_verbs.proofs.Held.{space_in}
 use Rattle.sg_verbs.proofs.Moving.{LaterOn, view_in, means_off}

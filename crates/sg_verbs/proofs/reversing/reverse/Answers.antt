@@ -1,25 +1,20 @@
-use Rattle.std.proofs.Common.{◌≡◌, ℕ, ◌+◌, ◌<◌, arith, Bool, true, false, List, [], length, Some, refl, sym, ap, ◌∙◌, subst}
-use Rattle.sg_ops.specs.Table.{Table, table_of}
-use Rattle.sg_alloc.specs.declared.maps.Maps.{Maps}
-use Rattle.sg_action.specs.States.{State}
+use Rattle.std.proofs.Common.{◌≡◌, ℕ, ◌<◌, arith, true, List, length, refl, sym, ap, ◌∙◌, subst}
+use Rattle.sg_ops.specs.Table.{table_of}
 use Rattle.sg_actions.specs.Onward.{later_same}
-use Rattle.sg_reading.specs.Reading.{Reading}
 use Rattle.sg_objects.specs.Notes.{byte_at, note_said}
 use Rattle.sg_objects.specs.Reversing.{IsPossible, UndoesAny}
-use Rattle.sg_shown.specs.Shown.{Over, over, shown, shown_of, Means, basis}
+use Rattle.sg_shown.specs.Shown.{Over, over, shown, Means, basis}
 use Rattle.sg_shown.proofs.Holding.{Facts}
 use Rattle.sg_verbs.proofs.Moving.{LaterOn, view_in, moment, means_on, means_off}
 use Rattle.sg_verbs.proofs.Story.{seen, begun_by}
 use Rattle.sg_verbs.proofs.Doing.{counts_on, passes_on, fails_on, leaves_of, do_changes, do_changed}
 use Rattle.sg_verbs.proofs.Looked.{sane}
 use Rattle.sg_verbs.proofs.Settled.{Passes, IsBroken, counts_up, counts_never, given_as, near_up, none_fails}
-use Rattle.sg_actions.specs.Accounted.{HasAccounted}
 use Rattle.sg_actions.specs.Onward.{accounted_same}
 use Rattle.sg_space.specs.declared.space.SpaceFault.{SpaceFault}
 use Rattle.sg_store.specs.Engine.{Counts, Changes, Changed, IsDiskFault}
 use Rattle.sg_store.specs.Verbs.{Reversed}
 use Rattle.std.specs.Prelude.{Result, Ok, Err}
-use Rattle.sg_verbs.proofs.Ready.{fresh_there}
 use Rattle.sg_verbs.proofs.Backed.{possible_there, undone_there, is_reversed, fresh_now, never_still}
 use Rattle.sg_verbs.proofs.reversing.reverse.Given as given
 use Rattle.sg_verbs.proofs.reversing.reverse.Goals as goal
