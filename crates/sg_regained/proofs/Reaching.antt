@@ -133,5 +133,5 @@ pub ok_always : {T F P : Type 0} (r : Result T F) → P → OnOk r P
 ok_always (Ok x) p = p
 ok_always (Err e) p = tt
 
-pub ok_never : {T F P : Type 0} (r : Result T F) (e : F) → r ≡ Err e → OnOk r P
-ok_never {T} {F} {P} r e is = subst (λ (q : Result T F). OnOk q P) (sym is) tt
+pub ok_never : {T F : Type 0} (P : Type 0) (r : Result T F) (e : F) → r ≡ Err e → OnOk r P
+ok_never {T} {F} P r e is = subst (λ (q : Result T F). OnOk q P) (sym is) tt

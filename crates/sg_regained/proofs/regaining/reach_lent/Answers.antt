@@ -15,7 +15,7 @@ returns-in_default-clause-reached g c =
     (reaches_none (λ told. none_lent c.args.room c.args.unfreed.now c.args.pages c.args.bands c.in_default.is (c.requires.can told)) s.ensures.stopped)
 
 pub returns-in_default-clause-freed : goal.returns-in_default-clause-freed
-returns-in_default-clause-freed g c = ok_never c.stopped.result.taken (Space Disk) c.stopped.ensures.taken
+returns-in_default-clause-freed g c = ok_never _ c.stopped.result.taken (Space Disk) c.stopped.ensures.taken
 
 -- THEY ARE TOO FEW
 
@@ -27,7 +27,7 @@ returns-then-not-can_reach-clause-reached g c =
     (subst (λ (r : Option Maps). CanGoOver r c.args.unfreed.now c.args.pages c.args.bands) c.in-Some.is (c.requires.can told))) s.ensures.stopped)
 
 pub returns-then-not-can_reach-clause-freed : goal.returns-then-not-can_reach-clause-freed
-returns-then-not-can_reach-clause-freed g c = ok_never c.stopped-then-not-can_reach.result.taken (Space Disk) c.stopped-then-not-can_reach.ensures.taken
+returns-then-not-can_reach-clause-freed g c = ok_never _ c.stopped-then-not-can_reach.result.taken (Space Disk) c.stopped-then-not-can_reach.ensures.taken
 
 -- A WALK GOES
 

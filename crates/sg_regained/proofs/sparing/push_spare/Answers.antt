@@ -17,4 +17,6 @@ more-preserved c =
     ∙ ap (λ (n : ℕ). old ++ replicate n vacant) (sym (add-one c.more._at))
 
 pub returns : goal.returns
-returns c = λ yes. c.more.invariant ∙ ap (λ (n : ℕ). c.args.rows.now.items ++ replicate n vacant) (let e = c.more.auto in let f = c.more-test.false in omega (arith, e, f))
+returns c = λ yes.
+    let all : c.more._at ≡ 65 = omega arith in
+    c.more.invariant ∙ ap (λ (n : ℕ). c.args.rows.now.items ++ replicate n vacant) all
