@@ -30,6 +30,7 @@ use Rattle.sg_shown.specs.Taken.{AreTaken}
 use Rattle.sg_shown.proofs.Calls.{goes_on}
 use Rattle.sg_shown.proofs.History.{own, made_is, moments_are, changes_are, before_is}
 use Rattle.sg_shown.proofs.Holding.{Facts, taken_same, counted_same}
+use Rattle.sg_shown.proofs.Spared.{changes_live, spare_on}
 use Rattle.sg_paged.proofs.Behind.{room_same}
 use Rattle.sg_paged.proofs.Laid.{puts_back, put_pages}
 
@@ -67,6 +68,7 @@ undoes_means recovers m b t z from txn stop note next h quiet l p u r begun sinc
         now = taken_same same (λ n e. room.page n ∙ e) (λ n e. room.band n ∙ e) k.now;
         counted = counted_same room.free_pages room.free_bands same k.counted;
         map = λ n less. room.band n ∙ k.map n less;
+        spare = spare_on (ap (λ (rs : Steps). (tally rs).live) g.steps ∙ changes_live t (kept_in (m.limits z.pages z.bands) t (led from m.engine) m.maps) (repeated t from m.engine.steps) from txn w.made m.engine.steps w.are) r k.spare;
       };
 }
 
