@@ -2,7 +2,6 @@ pub mod Listed
 pub mod States
 pub mod Reading
 pub mod Points
-pub mod Known
 pub mod Waiting
 pub mod Logged
 pub mod Images
