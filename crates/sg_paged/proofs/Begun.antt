@@ -1,5 +1,5 @@
 -- A TRANSACTION BEGINS.
-use Rattle.std.proofs.Common.{◌≡◌, ℕ, ◌+◌, ◌<◌, ◌≤◌, true, false, List, [], ◌∷◌, length, Result, Ok, Err, sym, ap, subst, ◌∙◌, refl, arith}
+use Rattle.std.proofs.Common.{◌≡◌, ℕ, ◌<◌, ◌≤◌, true, false, [], ◌∷◌, length, Result, Ok, Err, sym, ap, subst, ◌∙◌, refl, arith}
 use Rattle.std.specs.Prelude.{OnOk, OnErr, IfOk}
 use Rattle.sg_base.specs.declared.numbers.TxnId.{TxnId}
 use Rattle.sg_ops.specs.Table.{Table}
@@ -10,11 +10,10 @@ use Rattle.sg_space.specs.declared.space.SpaceFault.{SpaceFault}
 use Rattle.sg_action.specs.States.{State}
 use Rattle.sg_actions.specs.Calls as calls
 use Rattle.sg_actions.specs.Calls.{Begun}
-use Rattle.sg_actions.specs.Engine.{EngineSeen, EngineCounts, Moments, StandsNow, led}
+use Rattle.sg_actions.specs.Engine.{EngineCounts, led}
 use Rattle.sg_actions.specs.Steps.{Steps, stepped}
 use Rattle.sg_actions.specs.View.{IsKept}
 use Rattle.sg_actions.specs.declared.rows.Actor.{Actor}
-use Rattle.sg_actions.specs.declared.rows.Row.{Row}
 use Rattle.sg_store.specs.Engine as store
 use Rattle.sg_store.specs.Engine.{Sizes, Appends, Appended}
 use Rattle.sg_ground.specs.Recovers.{Recovering}

@@ -25,9 +25,8 @@ use Rattle.sg_shown.specs.Room.{SameRoom}
 use Rattle.sg_shown.specs.Shown.{Over, Keeping, Means}
 use Rattle.sg_shown.specs.Spare.{HasSpare}
 use Rattle.sg_shown.proofs.Calls.{RestsNow, means_next, room_settled}
-use Rattle.sg_shown.proofs.Spared.{spare_on}
 use Rattle.sg_paged.proofs.Parts.{placed_twice}
-use Rattle.sg_paged.proofs.Roomy.{spare_after, spare_ended, spare_left, rows_left}
+use Rattle.sg_paged.proofs.Roomy.{spare_rows, spare_after, spare_ended, spare_left, rows_left}
 use Rattle.sg_paged.proofs.Behind.{room_same, rests_now, kept_with, by_told}
 
 -- what stays of a space in a call of a transaction outside of its actions
@@ -72,7 +71,7 @@ module _ (m one b : Over) (t : Table) (z : Sizes) (from : State) (txn : TxnId) (
     there = ap (λ (xs : List Row). last_in xs txn.0) c.rows_are ∙ placed_self m.rows txn.0 c.last row c.was refl
 
     vacated : HasSpare one.engine.steps (placed one.rows txn.0 vacant)
-    vacated = spare_on refl (ap (λ (xs : List Row). placed xs txn.0 vacant) c.rows_are ∙ placed_twice m.rows txn.0 row vacant refl)
+    vacated = spare_rows (ap (λ (xs : List Row). placed xs txn.0 vacant) c.rows_are ∙ placed_twice m.rows txn.0 row vacant refl)
         (spare_ended txn.0 lives k.kept.chain.running.system k.kept.chain.rows_are.apart k.spare)
 
     was : IsKept t (m.limits z.pages z.bands) (led from one.engine) m.maps one.rows m.actor
@@ -86,7 +85,7 @@ module _ (m one b : Over) (t : Table) (z : Sizes) (from : State) (txn : TxnId) (
         (rows_left one.engine.steps one.rows txn c.lsn vacated one.engine.tail m.actor was.chain.rows_are (k.rest quiet).system low some there)
 
     spare_now : HasSpare one.engine.steps b.rows
-    spare_now = spare_on refl (l.rows c.lsn there) (spare_left one.engine.steps one.rows txn c.lsn vacated gone)
+    spare_now = spare_rows (l.rows c.lsn there) (spare_left one.engine.steps one.rows txn c.lsn vacated gone)
 
     kept_now : IsKept t (b.limits z.pages z.bands) (led from b.engine) b.maps b.rows b.actor
     kept_now = subst (λ (f : (pages bands : ℕ) → State → ℕ → ℕ). IsKept t (f z.pages z.bands) (led from b.engine) b.maps b.rows b.actor) (sym s.limits)
@@ -111,7 +110,7 @@ end_means m b t z from txn r h quiet s stands back silent did = means_next m b t
     rests_now b t z from m.engine.steps c.lsn (End txn.0 c.last)
     (subst (λ (l : (pages bands : ℕ) → State → ℕ → ℕ). IsKept t (l z.pages z.bands) (led from b.engine) b.maps b.rows b.actor) (sym s.limits) (kept_with b.engine s.maps refl s.actor (c.kept told k.kept)))
     (c.logged told).steps refl refl (ap (λ (x : Actor). x.txn.0) s.actor ∙ (k.rest quiet).system) (freed_stays m b s (k.rest quiet).freed)
-    (spare_on refl c.rows_are (spare_ended txn.0 (ap (λ (rs : Steps). (tally rs).live) (c.logged told).steps) k.kept.chain.running.system k.kept.chain.rows_are.apart k.spare)))
+    (spare_rows c.rows_are (spare_ended txn.0 (ap (λ (rs : Steps). (tally rs).live) (c.logged told).steps) k.kept.chain.running.system k.kept.chain.rows_are.apart k.spare)))
 
 -- THE END OF AN ACTION
 pub action_means : {T : Type 0} (m b : Over) (t : Table) (z : Sizes) (from : State) (note : List ℕ) (r : Result T SpaceFault) → IsLawful t
@@ -127,7 +126,7 @@ action_means m b t z from note (Ok x) law h l stands back failed whole begun did
     rests_now b t z from m.engine.steps did.lsn (TopEnd m.actor.txn.0 m.actor.last m.actor.before note)
     (subst (λ (f : (pages bands : ℕ) → State → ℕ → ℕ). IsKept t (f z.pages z.bands) (led from b.engine) b.maps b.rows b.actor) (sym l) (did.kept law told k.kept))
     (did.logged told).steps refl refl (ap (λ (y : Actor). y.txn.0) did.rest) (record { pages = did.pages.none; bands = did.bands.none })
-    (spare_on refl did.rows_are (spare_after m.actor.txn did.lsn (ap (λ (rs : Steps). (tally rs).live) (did.logged told).steps) k.spare)))
+    (spare_rows did.rows_are (spare_after m.actor.txn did.lsn (ap (λ (rs : Steps). (tally rs).live) (did.logged told).steps) k.spare)))
 
 -- THE END OF AN UNDO
 pub undo_means : {T : Type 0} (m b : Over) (t : Table) (z : Sizes) (from : State) (after : ℕ) (r : Result T SpaceFault) → IsLawful t → Means m t z from
@@ -142,4 +141,4 @@ undo_means m b t z from after (Ok x) law h l stands back begun did other = means
     rests_now b t z from m.engine.steps did.lsn (CompEnd m.actor.txn.0 m.actor.last after)
     (subst (λ (f : (pages bands : ℕ) → State → ℕ → ℕ). IsKept t (f z.pages z.bands) (led from b.engine) b.maps b.rows b.actor) (sym l) (did.kept law told k.kept))
     (did.logged told).steps refl refl (ap (λ (y : Actor). y.txn.0) did.rest) (record { pages = did.pages.none; bands = did.bands.none })
-    (spare_on refl did.rows_are (spare_after m.actor.txn did.lsn (ap (λ (rs : Steps). (tally rs).live) (did.logged told).steps) k.spare)))
+    (spare_rows did.rows_are (spare_after m.actor.txn did.lsn (ap (λ (rs : Steps). (tally rs).live) (did.logged told).steps) k.spare)))

@@ -1,5 +1,5 @@
 -- A CALL THAT APPENDS NO RECORD.
-use Rattle.std.proofs.Common.{◌≡◌, ℕ, ◌<◌, ◌≤◌, Bool, true, false, not, List, Option, Some, None, Result, Err, sym, ap, subst, ◌∙◌, refl, arith}
+use Rattle.std.proofs.Common.{◌≡◌, ℕ, Bool, true, false, not, Option, Some, None, Result, sym, ap, subst, ◌∙◌, refl}
 use Rattle.std.specs.Prelude.{OnOk, OnErr, IfOk, IfSome, option_map, ◌&&◌, if◌then◌else◌}
 use Rattle.sg_base.specs.declared.numbers.TxnId.{TxnId}
 use Rattle.sg_alloc.specs.declared.maps.Maps.{Maps}
@@ -18,7 +18,6 @@ use Rattle.sg_actions.specs.Steps.{Steps, ended, opened, begin_of, repeated}
 use Rattle.sg_actions.specs.Taken.{is_set, takes_page, takes_band}
 use Rattle.sg_actions.specs.View.{IsKept, HasFreedNone}
 use Rattle.sg_actions.specs.declared.rows.Actor.{Actor}
-use Rattle.sg_actions.specs.declared.rows.Row.{Row}
 use Rattle.sg_store.specs.Engine as store
 use Rattle.sg_store.specs.Engine.{Sizes, IsNextUndo, Rests, Rested, action_of}
 use Rattle.sg_ground.specs.Recovers.{Recovering}

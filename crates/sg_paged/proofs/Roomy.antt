@@ -1,5 +1,5 @@
 -- ROOM FOR TRANSACTIONS behind each call: where one begins, acts, commits or ends.
-use Rattle.std.proofs.Common.{◌≡◌, ◌≢◌, ◌⊎◌, inl, inr, ℕ, ◌-◌, ◌==◌, ◌<◌, ◌≤◌, Bool, true, false, not, cond, List, [], ◌∷◌, ◌++◌, length, Option, Some, None, IsSome, sym, ap, subst, ◌∙◌, refl, arith, slice_set}
+use Rattle.std.proofs.Common.{◌≡◌, ◌≢◌, ◌⊎◌, inl, inr, ℕ, ◌-◌, ◌==◌, ◌<◌, ◌≤◌, Bool, true, false, not, cond, List, [], ◌∷◌, ◌++◌, length, Option, Some, None, sym, ap, subst, ◌∙◌, refl, arith, slice_set}
 use Rattle.std.specs.Prelude.{◌||◌}
 use Rattle.std.proofs.lemmas.Bool.{cases_eq}
 use Rattle.std.proofs.lemmas.List.{append_assoc}
@@ -17,7 +17,7 @@ use Rattle.sg_actions.specs.declared.rows.Row.{Row}
 use Rattle.sg_actions.proofs.Placing.{none_placed, placed_apart, placed_other, after_none, after_one, length-placed}
 use Rattle.sg_shown.specs.Spare.{HasSpare}
 use Rattle.sg_shown.proofs.Spared.{spare_on}
-use Rattle.sg_paged.proofs.Parts.{row_other, row_own, first_other, none_rest, none_has, own_has, more_has, some_has, front_has, back_has, found_front, found_back, none_front, none_back, apart_front, apart_back, apart_more, apart_last, last_set, placed_twice, Put, put}
+use Rattle.sg_paged.proofs.Parts.{row_other, row_own, first_other, none_rest, none_has, own_has, more_has, some_has, front_has, back_has, found_front, found_back, none_front, none_back, apart_front, apart_back, apart_more, apart_last, last_set, Put, put}
 
 -- OF NUMBERS
 both_false : (a b : Bool) → a ≡ false → b ≡ false → (a || b) ≡ false
@@ -59,7 +59,7 @@ as_many (x ∷ xs) live h none going =
     let some : x.txn.0 ≢ 0 = first_other x xs 0 none in
     let there : is_in x.txn.0 live ≡ true = going x.txn.0 some (own_has x xs x.txn.0 refl) in
     let rest = as_many xs (without x.txn.0 live) h.1 (none_rest x xs 0 none)
-        (λ u nz k. without_same x.txn.0 u live (λ e. none_has xs x.txn.0 (h.0 some) (subst (λ (n : ℕ). HasRow xs n) e k)) ∙ going u nz (more_has x xs u k)) in
+    (λ u nz k. without_same x.txn.0 u live (λ e. none_has xs x.txn.0 (h.0 some) (subst (λ (n : ℕ). HasRow xs n) e k)) ∙ going u nz (more_has x xs u k)) in
     let less = without_less x.txn.0 live there in
     omega (arith, rest, less)
 
@@ -77,6 +77,9 @@ vacant_front {rs} {rows} s apart few = by_vacant (last_in s.front 0) refl
 pub vacant_row : {rs : Steps} {rows : List Row} (s : HasSpare rs rows) → AreApart rows → length (tally rs).live < 64 → HasRow rows 0
 vacant_row {rs} {rows} s apart few =
     subst (λ (xs : List Row). HasRow xs 0) (sym s.are) (back_has s.old (s.front ++ s.last ∷ []) 0 (front_has s.front (s.last ∷ []) 0 (vacant_front s apart few)))
+
+pub spare_rows : {rs : Steps} {rows rows' : List Row} → rows' ≡ rows → HasSpare rs rows → HasSpare rs rows'
+spare_rows {rs} e s = subst (λ (xs : List Row). HasSpare rs xs) (sym e) s
 
 -- A ROW IS PUT
 spare_put : {rs : Steps} {rows : List Row} (s : HasSpare rs rows) (t : ℕ) (row : Row) → Put s.old s.front s.last (placed rows t row) t row
@@ -229,9 +232,9 @@ module _ (rs : Steps) (rows : List Row) (txn : TxnId) (lsn : ℕ) (s : HasSpare 
         by_last : u ≢ txn.0 → (last_in (others ++ here ∷ []) u ≡ last_in rows u) ⊎ ((last_in (others ++ here ∷ []) u ≡ None) × (u ≡ s.last.txn.0))
         by_last ne = elim (cases_eq s.last.txn.0 u) as (λ _. (last_in (others ++ here ∷ []) u ≡ last_in rows u) ⊎ ((last_in (others ++ here ∷ []) u ≡ None) × (u ≡ s.last.txn.0))) [
           | inl e ↦ inr (
-              found_back others (here ∷ []) u (subst (λ (n : ℕ). last_in others n ≡ None) e (apart_last others s.last apart (λ z. nz (sym e ∙ z)))) ∙ row_other here [] u (λ z. ne (sym z)),
-              sym e,
-            )
+            found_back others (here ∷ []) u (subst (λ (n : ℕ). last_in others n ≡ None) e (apart_last others s.last apart (λ z. nz (sym e ∙ z)))) ∙ row_other here [] u (λ z. ne (sym z)),
+            sym e,
+          )
           | inr other ↦ inl (by_found ne other (last_in others u) refl ∙ same ne)
         ]
 

@@ -1,5 +1,5 @@
 use Rattle.std.specs.Prelude.{IfOk}
-use Rattle.std.proofs.Common.{◌≡◌, ◌≤◌, ◌<◌, length, sym, ap, subst, ◌∙◌, refl}
+use Rattle.std.proofs.Common.{◌≤◌, ◌<◌, length, sym, ap, subst, ◌∙◌, refl}
 use Rattle.sg_recovery.specs.Log.{tally}
 use Rattle.sg_shown.specs.Shown.{over}
 use Rattle.sg_shown.proofs.Calls.{room_then}

@@ -56,16 +56,18 @@ returns-in-Ok-clause-commits g c = λ t z from m told e idle.
       may.last,
       appends_of g.E.Engine.recovers (over c.args.acts.now) new t z from may.lsn (Commit c.args.txn.0 may.last) mid.engine at mm.size
           (subst (λ y. MayCome g.E.Engine.recovers t from mid.engine (g.E.Engine.view y) may.lsn (Commit c.args.txn.0 may.last)) (sym l.engine) (record { above = may.above; formed = may.formed; moments = may.moments })),
-      done_appended {recovers = g.E.Engine.recovers} {a = over c.args.acts.now} {b = new} mid.engine may.lsn (Commit c.args.txn.0 may.last) at (record {
-        told = w2;
-        come = subst (λ y. HasCome mid.engine (g.E.Engine.view y) may.lsn (Commit c.args.txn.0 may.last)) (sym l.engine)
-            (record { base = (d.logged told1).base; steps = may.gone w; tail = k.counts.tail; durable = (d.logged told1).durable });
-        means = means;
-        facts = record { law = g.met.E.Engine.lawful _ t from stands; first = g.met.E.Engine.durable_first _ w2; images = g.met.E.Engine.images _ t from stands w2 };
-        room = room_then c.quiet.ensures.room (room_stays mid new s);
-        begun = s.begun;
-      }),
-      subst (λ y. (g.E.Engine.view y).durable ≡ (g.E.Engine.view y).steps) (sym l.engine) (d.durable w),
+      (
+        done_appended {recovers = g.E.Engine.recovers} {a = over c.args.acts.now} {b = new} mid.engine may.lsn (Commit c.args.txn.0 may.last) at (record {
+          told = w2;
+          come = subst (λ y. HasCome mid.engine (g.E.Engine.view y) may.lsn (Commit c.args.txn.0 may.last)) (sym l.engine)
+              (record { base = (d.logged told1).base; steps = may.gone w; tail = k.counts.tail; durable = (d.logged told1).durable });
+          means = means;
+          facts = record { law = g.met.E.Engine.lawful _ t from stands; first = g.met.E.Engine.durable_first _ w2; images = g.met.E.Engine.images _ t from stands w2 };
+          room = room_then c.quiet.ensures.room (room_stays mid new s);
+          begun = s.begun;
+        }),
+        subst (λ y. (g.E.Engine.view y).durable ≡ (g.E.Engine.view y).steps) (sym l.engine) (d.durable w),
+      ),
     )
 
 pub returns-in-Ok-clause-hands : goal.returns-in-Ok-clause-hands
