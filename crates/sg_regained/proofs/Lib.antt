@@ -7,3 +7,4 @@ pub mod Over
 pub mod Reaching
 pub mod Said
 pub mod Made
+pub mod Spared

@@ -50,7 +50,7 @@ found_row rs (x ∷ us) u n e = by_test (x == u) refl (λ k. found_row rs us u n
         ap (λ (b : Bool). option_map (λ (r : Row). r.last) (cond b (Some here) (find (λ (r : Row). r.txn.0 == u) rest))) is
         ∙ more (or_rest (x == u) (is_in u us) is e)
 
-none_vacant : (n u : ℕ) → u ≢ 0 → last_in (replicate n vacant) u ≡ None
+pub none_vacant : (n u : ℕ) → u ≢ 0 → last_in (replicate n vacant) u ≡ None
 none_vacant zero u some = refl
 none_vacant (suc n) u some =
     ap (λ (b : Bool). option_map (λ (r : Row). r.last) (cond b (Some vacant) (find (λ (r : Row). r.txn.0 == u) (replicate n vacant)))) (other_number 0 u (λ e. some (sym e)))
@@ -87,7 +87,7 @@ oldest_distinct : (live : List ℕ) → AreDistinct live → AreDistinct (oldest
 oldest_distinct [] d = tt
 oldest_distinct (n ∷ ns) d = distinct_last (oldest_first ns) n (oldest_distinct ns d.1) (is_in-oldest_first n ns ∙ d.0)
 
-vacant_apart : (n : ℕ) → AreApart (replicate n vacant)
+pub vacant_apart : (n : ℕ) → AreApart (replicate n vacant)
 vacant_apart zero = tt
 vacant_apart (suc n) = (λ some. absurd (some refl), vacant_apart n)
 
@@ -205,7 +205,7 @@ pushed (Ok x) old new e = refl
 pushed (Err x) old new e = absurd cc
 
 -- one vacant row more
-vacant_behind : (n : ℕ) → replicate n vacant ++ vacant ∷ [] ≡ replicate (suc n) vacant
+pub vacant_behind : (n : ℕ) → replicate n vacant ++ vacant ∷ [] ≡ replicate (suc n) vacant
 vacant_behind zero = refl
 vacant_behind (suc n) = ap (λ (rows : List Row). vacant ∷ rows) (vacant_behind n)
 

@@ -1,6 +1,6 @@
 -- WHAT A WALK OVER ALL THAT THE PAGES REACH LEAVES.
-use Rattle.std.proofs.Common.{◌≡◌, ℕ, ◌≤◌, Bool, true, false, [], length, Result, Ok, Err, sym, ap, subst, ◌∙◌, refl, arith}
-use Rattle.std.specs.Prelude.{OnErr}
+use Rattle.std.proofs.Common.{◌≡◌, ℕ, ◌≤◌, Bool, true, false, [], length, Option, Some, None, Result, Ok, Err, sym, ap, subst, ◌∙◌, refl, arith}
+use Rattle.std.specs.Prelude.{OnErr, OnOk}
 use Rattle.sg_alloc.specs.declared.maps.Maps.{Maps}
 use Rattle.sg_base.specs.Ends.{HasRisen}
 use Rattle.sg_disk.specs.Disk.{View}
@@ -20,7 +20,7 @@ use Rattle.sg_found.specs.Looks.{AreBytes}
 use Rattle.sg_resumed.specs.Walking.{HasWalked}
 use Rattle.sg_starting.specs.declared.opening.StartFault.{StartFault}
 use Rattle.sg_starting.specs.declared.opening.StartFault.TheVariants.{Space}
-use Rattle.sg_regained.specs.Regained.{IsStopped, HasStopped, HasGoneOver, OverCounts, started}
+use Rattle.sg_regained.specs.Regained.{IsStopped, HasStopped, CanGoOver, HasGoneOver, OverCounts, started}
 use Rattle.sg_regained.proofs.Over.{over_ok, over_err, over_break, over_none, is_broken}
 
 -- an engine that doesn't tell is stopped,
@@ -123,3 +123,15 @@ no_table = record { records = []; ranges = [] }
 pub counts_at : {E T : Type 0} (view : E → EngineSeen) {a : EngineSeen} {breaks : ℕ} (e e' : E) (sum sum' : ℕ) (r : Result T StartFault) → e' ≡ e → sum' ≡ sum → OverCounts {T = T} a (view e) breaks sum r → OverCounts {T = T} a (view e') breaks sum' r
 counts_at {E} {T} view {a} {breaks} e e' sum sum' r same f h =
     subst (λ (x : E). OverCounts {T = T} a (view x) breaks sum' r) (sym same) (subst (λ (k : ℕ). OverCounts {T = T} a (view e) breaks k r) (sym f) h)
+
+-- WHERE NO FLAGS ARE LENT no walk can be asked for
+pub none_lent : (room : Option Maps) (unfreed : Maps) (pages bands : ℕ) → room ≡ None → CanGoOver room unfreed pages bands → ⊥
+none_lent room unfreed pages bands none h = absurd (let no : ◌≡◌ {A = Option Maps} None (Some h.room_is.flags) = sym none ∙ h.room_is.is in cc)
+
+-- what holds at all, or of a result that is a failure
+pub ok_always : {T F P : Type 0} (r : Result T F) → P → OnOk r P
+ok_always (Ok x) p = p
+ok_always (Err e) p = tt
+
+pub ok_never : {T F : Type 0} (P : Type 0) (r : Result T F) (e : F) → r ≡ Err e → OnOk r P
+ok_never {T} {F} P r e is = subst (λ (q : Result T F). OnOk q P) (sym is) tt

@@ -46,7 +46,8 @@ use Rattle.sg_shown.proofs.Holding.{Facts, taken_same, counted_same, keeping_at_
 use Rattle.sg_starting.specs.Starting.{IsFound, CanResume, IsRead, TakesOff, TakenOff, IfBroken}
 use Rattle.sg_starting.specs.declared.opening.StartFault.{StartFault}
 use Rattle.sg_starting.specs.declared.opening.StartFault.TheVariants.{Space, Broken, Memory}
-use Rattle.sg_regained.specs.Regained.{TookOff, RestsAt, CanGoOver}
+use Rattle.sg_regained.specs.Regained.{TookOff, RestsAt, EndVacant, CanGoOver}
+use Rattle.sg_regained.proofs.Spared.{spare_of}
 use Rattle.sg_regained.proofs.Taking.{offs_live}
 use Rattle.sg_regained.proofs.Flagged.{well_now, walked_taken, walked_counted, walked_map}
 
@@ -94,6 +95,7 @@ pub record IsRegained (c : Over) (t : Table) (z : Sizes) (from : State) : Type 0
   pub freed : HasFreedNone c.unfreed
   pub page_flags : AreFlags c.maps.pages c.unfreed.pages
   pub band_flags : AreFlags c.maps.bands c.unfreed.bands
+  pub spare : EndVacant c.rows
 
 -- no change is open
 pub none_open : {c : Over} {t : Table} {z : Sizes} {from : State} → IsRegained c t z from → (tally c.engine.steps).opened ≡ []
@@ -113,6 +115,7 @@ keeps_now c t z from h =
     (taken_same same (λ p e. e) (λ b e. e) (walked_taken z c.engine.now c.maps c.unfreed h.walked h.freed h.page_flags h.band_flags))
     (counted_same refl refl same (walked_counted z c.engine.now c.maps c.unfreed h.walked h.freed h.page_flags h.band_flags))
     (walked_map z c.engine.now c.maps c.unfreed h.walked h.freed h.page_flags h.band_flags)
+    (spare_of c.engine c.rows c.actor h.spare h.rests)
 
 pub means_now : (a c : Over) (t : Table) (z : Sizes) (from : State) → Finds a t z from → c.means t from → c.limits ≡ a.limits → c.begun ≡ false
     → length c.maps.pages ≡ length a.maps.pages → length c.maps.bands ≡ length a.maps.bands → (c.engine.Told → IsRegained c t z from) → Means c t z from
@@ -201,6 +204,7 @@ pub record HasReached (recovers : Table → Rattle.sg_actions.specs.Images.Recov
   pub freed : HasFreedNone c.unfreed
   pub page_flags : AreFlags c.maps.pages c.unfreed.pages
   pub band_flags : AreFlags c.maps.bands c.unfreed.bands
+  pub spare : EndVacant b.rows
 
 pub regained_by : {recovers : Table → Rattle.sg_actions.specs.Images.Recovering} {b c : Over} {t : Table} (z : Sizes) {from : State} → length b.maps.pages ≡ z.pages → length b.maps.bands ≡ z.bands
     → c.engine.Told → HasReached recovers b c t from → IsRegained c t z from
@@ -217,6 +221,7 @@ regained_by {recovers} {b} {c} {t} z {from} pages bands told h =
       freed = h.freed;
       page_flags = h.page_flags;
       band_flags = h.band_flags;
+      spare = subst (λ (xs : List Row). EndVacant xs) (sym h.rows) h.spare;
     }
 
 -- AS MANY PAGES AND BANDS, where the same flags say what is freed

@@ -56,6 +56,11 @@ pub record RestsAt (e : EngineSeen) (rows : List Row) (actor : Actor) : Type 0 w
   pub chain : IsChained e.base e.steps e.tail rows actor
   pub rest : actor ≡ at_rest
 
+-- 64 vacant rows stand behind others, and one behind these
+pub record EndVacant (rows : List Row) : Type 0 where
+  pub old : List Row
+  pub are : rows ≡ old ++ (replicate 64 vacant ++ vacant ∷ [])
+
 -- why a walk has failed
 abbrev pub started : ReachFault → StartFault
 started (reaches.Space fault) = Space fault

@@ -9,6 +9,7 @@
 mod founding;
 mod regaining;
 mod sizes;
+mod sparing;
 
 pub use founding::{FoundSpace, found};
 pub use regaining::{Unresumed, resume};

@@ -18,9 +18,10 @@ ghost use Rattle.sg_resumed.specs.Taking.{LeadsOff};
 ghost use Rattle.sg_store.specs.Engine.{KeepsBy, AsMeantBy, AskedBy, Counts};
 ghost use Rattle.sg_starting.specs.Starting.{IsFound, CanResume, IsRead, TakesOff, TakenOff, IsStartDisk, IsStartEnd, IfBroken};
 ghost use Rattle.sg_shown.specs.Shown.{AsFound, over, opened, shown};
-ghost use Rattle.sg_regained.specs.Regained.{TookOff, RestsAt, CanGoOver, IsStopped, HasStopped, OverCounts, HasGoneOver, started};
+ghost use Rattle.sg_regained.specs.Regained.{TookOff, RestsAt, EndVacant, CanGoOver, IsStopped, HasStopped, OverCounts, HasGoneOver, started};
 
 use crate::sizes::{has_sizes, may_be};
+use crate::sparing::{Spared, with_spare};
 use sg_actions::{Acts, Engine, Parts};
 use sg_alloc::Maps;
 use sg_found::take_first;
@@ -38,7 +39,7 @@ pub struct Unresumed<E: Engine> {
 }
 
 // Takes off what an action did that has no end, if one has none. No action is open then, and the system acts.
-fn end_open<E: Engine>(acts: Acts<E>, ops: &Ops) -> WithoutEnd<E>
+fn off_open<E: Engine>(acts: Acts<E>, ops: &Ops) -> WithoutEnd<E>
     requires by { (E.view acts.engine).Told → AreBy (E.means acts.engine) (table_of record_meaning range_meaning ops.now) }
     requires found { (E.view acts.engine).Told → AsFound (over acts) }
     requires formed { (E.view acts.engine).Told → IsLog (E.view acts.engine).base (E.view acts.engine).steps }
@@ -61,6 +62,45 @@ fn end_open<E: Engine>(acts: Acts<E>, ops: &Ops) -> WithoutEnd<E>
         }
         Some(_) => take_off(acts, ops),
     }
+}
+
+// A space over an engine behind a take-off, how that ended, and whether the space can be gone on with: the action began
+// in the log, or is none of the system, and there was memory for rows.
+struct OpenEnded<E: Engine> {
+    acts: Acts<E>,
+    off: Result<(), SpaceFault>,
+    goes_on: bool,
+}
+
+// Both hold.
+fn both(first: bool, second: bool) -> bool
+    ensures first { result ≡ true → first ≡ true }
+    ensures second { result ≡ true → second ≡ true }
+{
+    first && second
+}
+
+// The same, and vacant rows stand behind the others then, in which transactions may begin.
+fn end_open<E: Engine>(acts: Acts<E>, ops: &Ops) -> OpenEnded<E>
+    requires by { (E.view acts.engine).Told → AreBy (E.means acts.engine) (table_of record_meaning range_meaning ops.now) }
+    requires found { (E.view acts.engine).Told → AsFound (over acts) }
+    requires formed { (E.view acts.engine).Told → IsLog (E.view acts.engine).base (E.view acts.engine).steps }
+    requires below { (E.view acts.engine).Told → next_lsn (E.view acts.engine).steps ≤ (E.view acts.engine).tail }
+    requires off { let t = table_of record_meaning range_meaning ops.now in (from : State) → E.means acts.engine t from → (E.view acts.engine).Told → LeadsOff t (led from (E.view acts.engine)) }
+    ensures means { let t = table_of record_meaning range_meaning ops.now in (from : State) → E.means acts.engine t from → E.means result.acts.engine t from }
+    ensures counts { OffCounts (E.view acts.engine) (E.view result.acts.engine) acts.breaks result.acts.breaks result.off }
+    ensures took { let t = table_of record_meaning range_meaning ops.now in (from : State) → E.means acts.engine t from → (E.view acts.engine).Told →
+        TookOff (E.recovers t) t acts.actor.txn.0 (led from (E.view acts.engine)) (led from (E.view result.acts.engine)) }
+    ensures rests { let t = table_of record_meaning range_meaning ops.now in (from : State) → E.means acts.engine t from →
+        OnOk result.off (result.goes_on ≡ true → (E.view result.acts.engine).Told → RestsAt (E.view result.acts.engine) result.acts.rows.items result.acts.actor) }
+    ensures begun { OnOk result.off (result.goes_on ≡ true → result.acts.begun ≡ false) }
+    ensures unfreed { result.acts.unfreed ≡ acts.unfreed }
+    ensures spare { result.goes_on ≡ true → EndVacant result.acts.rows.items }
+{
+    let WithoutEnd { acts, off, within } = off_open(acts, ops);
+    let Spared { acts, has_rows } = with_spare(acts);
+    let goes_on = both(within, has_rows);
+    OpenEnded { acts, off, goes_on }
 }
 
 // An engine over whose pages a walk has gone, how many breaks that counted, and what is taken, or why it isn't known.
@@ -250,8 +290,9 @@ fn reach_all<E: Engine>(acts: Acts<E>, room: Option<Maps>) -> Result<Acts<E>, Un
 
 /// Brings a space over an engine that an opening found to where its first action may begin: what an action did that
 /// has no end is taken off, all that the objects reach is gone over, with the flags that are lent for it, and what is
-/// free is counted. `Broken` where the pages don't read as objects then, and `Memory` where the log begins within an
-/// action of the system, which no store leaves: nothing is done then.
+/// free is counted. `Broken` where the pages don't read as objects then, and `Memory` where there is none for the rows of
+/// transactions that may begin, or where the log begins within an action of the system, which no store leaves: no walk is
+/// made then.
 pub fn resume<E: Engine>(
     acts: Acts<E>,
     room: Option<Maps>,
@@ -277,7 +318,7 @@ pub fn resume<E: Engine>(
         → (o : g.O) → IsRead t g v o → ⊥))) }
 {
     ops.laws();
-    let WithoutEnd { acts, off, within } = end_open(acts, ops);
+    let OpenEnded { acts, off, goes_on } = end_open(acts, ops);
     match off {
         Ok(()) => {}
         Err(fault) => {
@@ -285,7 +326,7 @@ pub fn resume<E: Engine>(
             return Err(Unresumed { why, acts });
         }
     }
-    if !within {
+    if !goes_on {
         let why = StartFault::Memory;
         return Err(Unresumed { why, acts });
     }

@@ -1,56 +1,45 @@
-use mathlib.Core.Logic.{∥∥₁_elim, ∥∥₁_prop}
-use Rattle.std.proofs.Common.{◌≡◌, sym, subst, ◌∙◌, refl, arith}
+use Rattle.std.proofs.Common.{◌≡◌, ℕ, sym, subst, ◌∙◌}
 use Rattle.sg_ops.specs.Table.{table_of}
-use Rattle.sg_actions.specs.Acting.{IsChained}
 use Rattle.sg_actions.specs.Engine.{led}
-use Rattle.sg_found.proofs.Running.{chained_found}
-use Rattle.sg_regained.proofs.Taking.{took_none, took_some, nobody, somebody, both_ok}
+use Rattle.sg_actions.specs.WentOff.{OffCounts}
+use Rattle.sg_regained.specs.Regained.{TookOff}
+use Rattle.sg_regained.proofs.Spared.{rests_spared, vacant_end, on_ok_then}
 use Rattle.sg_regained.proofs.regaining.end_open.Given as given
 use Rattle.sg_regained.proofs.regaining.end_open.Goals as goal
 
-pub take_off-requires-clause-none : goal.take_off-requires-clause-none
-take_off-requires-clause-none g c = λ told. (c.requires.found told).clear
-
-pub take_off-requires-clause-can : goal.take_off-requires-clause-can
-take_off-requires-clause-can g c = λ told.
-    let f = c.requires.found told in
-    let a = f.acts (somebody c.args.acts.begun c.args.acts.actor.txn _ (sym c.acting.ensures ∙ c.in-Some.is)) in
-    record {
-      formed = c.requires.formed told;
-      based = f.based;
-      below = c.requires.below told;
-      start = f.start;
-      unfinished = a.0;
-      last = a.1;
-      rows = f.rows;
-      low = f.low;
-      apart = f.apart;
-      known = f.known;
-    }
-
-pub returns-in-Some-clause-took : goal.returns-in-Some-clause-took
-returns-in-Some-clause-took g c = λ from m told.
-    let f = c.requires.found told in
-    let a = f.acts (somebody c.args.acts.begun c.args.acts.actor.txn _ (sym c.acting.ensures ∙ c.in-Some.is)) in
-    took_some a.0 (c.take_off.ensures.went from m told)
-
-pub returns-in-None-clause-took : goal.returns-in-None-clause-took
-returns-in-None-clause-took g c = λ from m told.
+pub returns-clause-means : goal.returns-clause-means
+returns-clause-means g c = λ from m.
     let t = table_of (λ y. (given.RecordOp-dyn g y).record_meaning y.1) (λ y. (given.RangeOp-dyn g y).range_meaning y.1) c.args.ops.now in
-    took_none (g.E.Engine.recovers t) t c.args.acts.actor.txn.0 from (g.E.Engine.view c.args.acts.engine) told (c.requires.formed told) (g.met.E.Engine.images _ t from m told)
+    subst (λ e. g.E.Engine.means e t from) (sym c.with_spare-acts.ensures.engine) (c.off_open-acts.ensures.means from m)
 
-pub returns-in-None-clause-rests : goal.returns-in-None-clause-rests
-returns-in-None-clause-rests g c = λ from m yes told.
-    let e = g.E.Engine.view c.args.acts.engine in
-    let f = c.requires.found told in
-    let r = f.rest (nobody c.args.acts.begun c.args.acts.actor.txn (sym c.acting.ensures ∙ c.in-None.is)) in
-    record {
-      chain = subst (λ a. IsChained e.base e.steps e.tail c.args.acts.rows.items a) (sym r.0)
-          (chained_found e.base e.steps e.tail c.args.acts.rows.items (c.requires.formed told) f.based (c.requires.below told) r.1 f.rows f.low f.apart f.known);
-      rest = r.0;
-    }
+pub returns-clause-counts : goal.returns-clause-counts
+returns-clause-counts g c =
+    let a = c.args.acts in
+    let o = c.off_open-acts.result in
+    let s = c.with_spare-acts in
+    subst (λ e. OffCounts (g.E.Engine.view a.engine) (g.E.Engine.view e) a.breaks s.result.acts.breaks o.off) (sym s.ensures.engine)
+    (subst (λ (n : ℕ). OffCounts (g.E.Engine.view a.engine) (g.E.Engine.view o.acts.engine) a.breaks n o.off) (sym s.ensures.breaks) c.off_open-acts.ensures.counts)
 
-pub returns-in-Some-clause-rests : goal.returns-in-Some-clause-rests
-returns-in-Some-clause-rests g c = λ from m.
-    let k = c.take_off.ensures in
-    both_ok c.take_off.result.off (k.off from m) (k.rest from m) (λ chain rest yes told. record { chain = chain yes told; rest = rest yes told })
+pub returns-clause-took : goal.returns-clause-took
+returns-clause-took g c = λ from m told.
+    let t = table_of (λ y. (given.RecordOp-dyn g y).record_meaning y.1) (λ y. (given.RangeOp-dyn g y).range_meaning y.1) c.args.ops.now in
+    let a = c.args.acts in
+    subst (λ e. TookOff (g.E.Engine.recovers t) t a.actor.txn.0 (led from (g.E.Engine.view a.engine)) (led from (g.E.Engine.view e))) (sym c.with_spare-acts.ensures.engine)
+    (c.off_open-acts.ensures.took from m told)
+
+pub returns-clause-rests : goal.returns-clause-rests
+returns-clause-rests g c = λ from m.
+    let o = c.off_open-acts.result in
+    let s = c.with_spare-acts.result.acts in
+    let k = c.with_spare-acts.ensures in
+    let both = c.both-goes_on.ensures in
+    on_ok_then o.off (λ h yes. rests_spared g.E.Engine.view o.acts.engine s.engine o.acts.rows.items s.rows.items o.acts.actor s.actor 65 k.engine (k.rows (both.second yes)) k.actor (h (both.first yes)))
+    (c.off_open-acts.ensures.rests from m)
+
+pub returns-clause-begun : goal.returns-clause-begun
+returns-clause-begun g c =
+    on_ok_then c.off_open-acts.result.off (λ h yes. c.with_spare-acts.ensures.begun ∙ h (c.both-goes_on.ensures.first yes)) c.off_open-acts.ensures.begun
+
+pub returns-clause-spare : goal.returns-clause-spare
+returns-clause-spare g c = λ yes.
+    vacant_end c.with_spare-acts.result.acts.rows.items c.off_open-acts.result.acts.rows.items (c.with_spare-acts.ensures.rows (c.both-goes_on.ensures.second yes))

@@ -54,14 +54,14 @@ returns-in-Err-clause-refused g c = λ z from m told found.
     let t = table_of (λ y. (given.RecordOp-dyn g y).record_meaning y.1) (λ y. (given.RangeOp-dyn g y).range_meaning y.1) c.args.ops.now in
     takes_off g.E.Engine.recovers (lent (over c.args.acts) c.args.room) (over c.end_open-acts.result.acts) t z from c.args.acts.actor.txn.0 (c.end_open-acts.ensures.took from m.stands told) m.size
 
--- A LOG THAT BEGINS WITHIN AN ACTION OF THE SYSTEM
+-- NO ROOM, OR A LOG THAT BEGINS WITHIN AN ACTION OF THE SYSTEM
 
-pub returns-then-not-within-clause-failed : goal.returns-then-not-within-clause-failed
-returns-then-not-within-clause-failed g c = counts_cut {U = Unit {0}} g.E.Engine.recovers (lent (over c.args.acts) c.args.room) (over c.end_open-acts.result.acts)
+pub returns-then-not-goes_on-clause-failed : goal.returns-then-not-goes_on-clause-failed
+returns-then-not-goes_on-clause-failed g c = counts_cut {U = Unit {0}} g.E.Engine.recovers (lent (over c.args.acts) c.args.room) (over c.end_open-acts.result.acts)
     (subst (λ (r : Result (Unit {0}) SpaceFault). OffCounts (g.E.Engine.view c.args.acts.engine) (g.E.Engine.view c.end_open-acts.result.acts.engine) c.args.acts.breaks c.end_open-acts.result.acts.breaks r) c.in-Ok.is c.end_open-acts.ensures.counts)
 
-pub returns-then-not-within-clause-refused : goal.returns-then-not-within-clause-refused
-returns-then-not-within-clause-refused g c = λ z from m told found.
+pub returns-then-not-goes_on-clause-refused : goal.returns-then-not-goes_on-clause-refused
+returns-then-not-goes_on-clause-refused g c = λ z from m told found.
     let t = table_of (λ y. (given.RecordOp-dyn g y).record_meaning y.1) (λ y. (given.RangeOp-dyn g y).range_meaning y.1) c.args.ops.now in
     takes_off g.E.Engine.recovers (lent (over c.args.acts) c.args.room) (over c.end_open-acts.result.acts) t z from c.args.acts.actor.txn.0 (c.end_open-acts.ensures.took from m.stands told) m.size
 
@@ -132,14 +132,14 @@ returns-in-Ok-reach_all-clause-means g c = λ z from f.
     let m2 = (o.looks t).means from m1 in
     let long = long_same a b k.unfreed c.args.acts.page_flags c.end_open-acts.result.acts.page_flags in
     let wide = wide_same a b k.unfreed c.args.acts.band_flags c.end_open-acts.result.acts.band_flags in
-    means_now a d t z from f m2 refl (o.begun ∙ on_ok_at c.end_open-acts.result.off tt c.in-Ok.is k.begun c.if-not-within.false) (o.pages ∙ long) (o.bands ∙ wide) (λ told2.
+    means_now a d t z from f m2 refl (o.begun ∙ on_ok_at c.end_open-acts.result.off tt c.in-Ok.is k.begun c.if-not-goes_on.false) (o.pages ∙ long) (o.bands ∙ wide) (λ told2.
     let told1 = (o.looks t).told told2 in
     let told = k.counts.told told1 in
     regained_by {recovers = g.E.Engine.recovers} {b = b} {c = d} {t = t} z {from = from} (long ∙ f.pages) (wide ∙ f.bands) told2 (record {
       looks = o.looks t;
       stands = m1;
       whole = g.met.E.Engine.told_whole _ told2;
-      rests = on_ok_at c.end_open-acts.result.off tt c.in-Ok.is (k.rests from f.stands) c.if-not-within.false told1;
+      rests = on_ok_at c.end_open-acts.result.off tt c.in-Ok.is (k.rests from f.stands) c.if-not-goes_on.false told1;
       rows = ap (λ v. v.items) o.rows;
       actor = o.actor;
       walked = o.walked told1;
@@ -151,6 +151,7 @@ returns-in-Ok-reach_all-clause-means g c = λ z from f.
       freed = subst HasFreedNone (sym (o.unfreed ∙ k.unfreed)) (f.made told).freed;
       page_flags = c.in-Ok-reach_all.acts.page_flags;
       band_flags = c.in-Ok-reach_all.acts.band_flags;
+      spare = c.end_open-acts.ensures.spare c.if-not-goes_on.false;
     }))
 
 pub returns-in-Ok-reach_all-clause-takes : goal.returns-in-Ok-reach_all-clause-takes
@@ -172,7 +173,7 @@ returns-in-Ok-reach_all-clause-takes g c = λ z from f told found.
       looks = o.looks t;
       stands = m1;
       whole = g.met.E.Engine.told_whole _ told2;
-      rests = on_ok_at c.end_open-acts.result.off tt c.in-Ok.is (k.rests from f.stands) c.if-not-within.false told1;
+      rests = on_ok_at c.end_open-acts.result.off tt c.in-Ok.is (k.rests from f.stands) c.if-not-goes_on.false told1;
       rows = ap (λ v. v.items) o.rows;
       actor = o.actor;
       walked = o.walked told1;
@@ -184,13 +185,14 @@ returns-in-Ok-reach_all-clause-takes g c = λ z from f told found.
       freed = subst HasFreedNone (sym (o.unfreed ∙ k.unfreed)) (f.made told).freed;
       page_flags = c.in-Ok-reach_all.acts.page_flags;
       band_flags = c.in-Ok-reach_all.acts.band_flags;
+      spare = c.end_open-acts.ensures.spare c.if-not-goes_on.false;
     }) in
     let w = took_then from a.engine b.engine d.engine (k.took from f.stands told) (o.looks t) m1 in
     let s = c.requires.can in
     let l = leads_off g.E.Engine.recovers a t s.sizes (s.from told) from (s.can told) (g.met.E.Engine.now_is _ t (s.from told) (s.means told).stands told) (g.met.E.Engine.now_is _ t from f.stands told) in (
       takes_off g.E.Engine.recovers a d t z from c.args.acts.actor.txn.0 w f.size,
       taken_off g.E.Engine.recovers a d t z from c.args.acts.actor.txn.0 w h told2 (g.met.E.Engine.told_whole _ told2) l (returns-in-Ok-reach_all-clause-means g c z from f)
-          (record { law = g.met.E.Engine.lawful _ t from m2; first = g.met.E.Engine.durable_first _ told2; images = g.met.E.Engine.images _ t from m2 told2 }) (o.begun ∙ on_ok_at c.end_open-acts.result.off tt c.in-Ok.is k.begun c.if-not-within.false),
+          (record { law = g.met.E.Engine.lawful _ t from m2; first = g.met.E.Engine.durable_first _ told2; images = g.met.E.Engine.images _ t from m2 told2 }) (o.begun ∙ on_ok_at c.end_open-acts.result.off tt c.in-Ok.is k.begun c.if-not-goes_on.false),
     )
 
 pub returns-in-Ok-reach_all-clause-reads : goal.returns-in-Ok-reach_all-clause-reads
@@ -212,7 +214,7 @@ returns-in-Ok-reach_all-clause-reads g c = λ z from f told found.
       looks = o.looks t;
       stands = m1;
       whole = g.met.E.Engine.told_whole _ told2;
-      rests = on_ok_at c.end_open-acts.result.off tt c.in-Ok.is (k.rests from f.stands) c.if-not-within.false told1;
+      rests = on_ok_at c.end_open-acts.result.off tt c.in-Ok.is (k.rests from f.stands) c.if-not-goes_on.false told1;
       rows = ap (λ v. v.items) o.rows;
       actor = o.actor;
       walked = o.walked told1;
@@ -224,6 +226,7 @@ returns-in-Ok-reach_all-clause-reads g c = λ z from f told found.
       freed = subst HasFreedNone (sym (o.unfreed ∙ k.unfreed)) (f.made told).freed;
       page_flags = c.in-Ok-reach_all.acts.page_flags;
       band_flags = c.in-Ok-reach_all.acts.band_flags;
+      spare = c.end_open-acts.ensures.spare c.if-not-goes_on.false;
     }) in
     let w = took_then from a.engine b.engine d.engine (k.took from f.stands told) (o.looks t) m1 in
     let s = c.requires.can in
@@ -242,7 +245,7 @@ returns-in-Err-reach_all-clause-broken g c =
     let m1 = k.means from f.stands in
     let long = long_same a b k.unfreed c.args.acts.page_flags c.end_open-acts.result.acts.page_flags in
     let wide = wide_same a b k.unfreed c.args.acts.band_flags c.end_open-acts.result.acts.band_flags in
-    let r = on_ok_at c.end_open-acts.result.off tt c.in-Ok.is (k.rests from f.stands) c.if-not-within.false told1 in
+    let r = on_ok_at c.end_open-acts.result.off tt c.in-Ok.is (k.rests from f.stands) c.if-not-goes_on.false told1 in
     let s = c.requires.can in
     let l = leads_off g.E.Engine.recovers a t s.sizes (s.from told) from (s.can told) (g.met.E.Engine.now_is _ t (s.from told) (s.means told).stands told) (g.met.E.Engine.now_is _ t from f.stands told) in
     none_read_of g.E.Engine.recovers a b t z from c.args.acts.actor.txn.0 (k.took from f.stands told) (g.met.E.Engine.told_whole _ told1)
