@@ -45,7 +45,7 @@ one_step rs lsn u p (Checkpoint e l) = refl
 one_step rs lsn u p (Line words) = refl
 
 -- THE STEPS of a log are the same
-steps_same : (rs : Steps) (ns : List Numbered) → sights.steps_behind rs ns ≡ steps_on rs ns
+pub steps_same : (rs : Steps) (ns : List Numbered) → sights.steps_behind rs ns ≡ steps_on rs ns
 steps_same rs [] = refl
 steps_same rs (n ∷ ns) =
     steps_same (sights.with_step rs n.lsn (sight_of n.is)) ns
