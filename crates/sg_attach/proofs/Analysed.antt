@@ -1,11 +1,9 @@
 -- What an analysis says of a log, in the words of the engine under the actions.
 use Rattle.std.proofs.Common.{◌≡◌, ◌+◌, ◌<◌, ◌≤◌, ℕ, max, Bool, true, false, List, [], ◌∷◌, length, Option, Some, None, refl, sym, ap, ◌∙◌, subst, arith}
 use Rattle.std.specs.Prelude.{if◌then◌else◌, ◌==◌, option_map}
-use Rattle.sg_base.specs.declared.area.Area.TheVariants.{Home}
 use Rattle.sg_disk.specs.Disk.{Image, View}
-use Rattle.sg_gate.specs.Superblock.{superblock}
 use Rattle.sg_gate.specs.declared.superblock.Super.{Super}
-use Rattle.sg_log.specs.Frames.{Numbered, HasRecords, gate_after, numbered_in}
+use Rattle.sg_log.specs.Frames.{Numbered, HasRecords}
 use Rattle.sg_log.specs.Held.{Tail, tail_of, Holds}
 use Rattle.sg_log.proofs.Cutting.{gate_from}
 use Rattle.sg_ops.specs.Table.{Table}
@@ -14,8 +12,8 @@ use Rattle.sg_record.specs.Records.Says.{Begin, Changed, TopEnd, PhysComp, TopVo
 use Rattle.sg_pool.specs.declared.pool.Pool.{Pool}
 use Rattle.sg_recovery.specs.Chains.{next_lsn}
 use Rattle.sg_recovery.specs.Formed.{IsLog}
-use Rattle.sg_analysis.specs.Analysis.{Analysis, analysis_of, losers_of}
-use Rattle.sg_analysis.specs.Shown.{shown, IsAnalysed}
+use Rattle.sg_analysis.specs.Analysis.{Analysis, losers_of}
+use Rattle.sg_analysis.specs.Shown.{IsAnalysed}
 use Rattle.sg_analysis.specs.Sights as sights
 use Rattle.sg_analysis.specs.Sights.{sight_by, sight_of}
 use Rattle.sg_analysis.specs.declared.analysis.Analysis as code
@@ -45,7 +43,7 @@ one_step rs lsn u p (Checkpoint e l) = refl
 one_step rs lsn u p (Line words) = refl
 
 -- THE STEPS of a log are the same
-steps_same : (rs : Steps) (ns : List Numbered) → sights.steps_behind rs ns ≡ steps_on rs ns
+pub steps_same : (rs : Steps) (ns : List Numbered) → sights.steps_behind rs ns ≡ steps_on rs ns
 steps_same rs [] = refl
 steps_same rs (n ∷ ns) =
     steps_same (sights.with_step rs n.lsn (sight_of n.is)) ns

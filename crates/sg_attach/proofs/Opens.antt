@@ -21,7 +21,7 @@ use Rattle.sg_engine.proofs.Logs.{none_more}
 use Rattle.sg_engine.proofs.Pages.{from_there}
 use Rattle.sg_engine.proofs.Units.{byte_one, rises_parts}
 use Rattle.sg_find.specs.Synced.{reads, redo_point as point_found, SplitsAtSync}
-use Rattle.sg_opening.specs.Opening.{IsOpenable}
+use Rattle.sg_opening.specs.Opening.{AreThere, IsOpenable}
 use Rattle.sg_open.specs.Found.{Opens, IsGoingOn}
 use Rattle.sg_reopen.specs.Again.{image_home, StandsAgain}
 use Rattle.sg_reopen.proofs.Again.{image_opens}
@@ -101,6 +101,15 @@ sound_opens t v s =
     let o : Origin = origin_of t (reads v) in
     let ns : List Numbered = records_in o (reads v) in
     subst (λ (r : ℕ). IsOpenable o r s.tail ns (reads v)) (sym (point_same o.super.base ns)) (image_opens t o ns ns (point_in o (reads v)) (reads v) (by_table t (reads v)) (stands_there t (point_in o (reads v)) ns (reads v) s))
+
+-- its records are of pages and bands of the store
+pub sound_there : (t : Table) (c : Image) → IsSoundImage (origin_of t c) (point_in (origin_of t c) c) (records_in (origin_of t c) c) c
+    → AreThere (origin_of t c).super.pages (origin_of t c).super.bands (records_in (origin_of t c) c)
+unfolding stands_there
+sound_there t c s =
+    let o : Origin = origin_of t c in
+    let ns : List Numbered = records_in o c in
+    (image_opens t o ns ns (point_in o c) c (by_table t c) (stands_there t (point_in o c) ns c s)).there
 
 -- WHAT IS OPENED is the engine under the actions
 pub opens_poised : (t : Table) (from : State) (c : Image) (w : View) (log : Tail) (pool : Pool) → AreMarked (λ k. Unit {0}) (records_in (origin_of t c) c) → AreSaid t from (origin_of t c) (records_in (origin_of t c) c) → IsEngine (origin_of t c) w log (records_in (origin_of t c) c) [] pool

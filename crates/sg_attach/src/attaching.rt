@@ -1,6 +1,7 @@
 // Opening a store as the engine under the actions.
-ghost use Rattle.std.specs.Prelude.{◌≡◌, ◌≢◌, ◌≤◌, ◌⊎◌, false, List, IsTrue, IfOk, IfErr, MatchResult, option_map};
+ghost use Rattle.std.specs.Prelude.{◌≡◌, ◌≢◌, ◌≤◌, ◌⊎◌, ℕ, false, List, IsTrue, IfOk, IfErr, MatchResult, option_map};
 ghost use Rattle.std.specs.Bool.{OnFalse};
+ghost use Rattle.sg_base.specs.declared.area.Area.{Area};
 ghost use Rattle.sg_base.specs.declared.area.Area.TheVariants.{Home};
 ghost use Rattle.sg_disk.specs.Accounts.{IsShownEnd};
 ghost use Rattle.sg_gate.specs.Superblock.{IsSuper};
@@ -14,7 +15,7 @@ ghost use Rattle.sg_find.specs.Synced.{reads, IsUnsynced, SplitsAtSync};
 ghost use Rattle.sg_open.specs.Refusals.{StoreRefused, IsCause, IsLateCause, IsAccepted, IsUnwrittenAt};
 ghost use Rattle.sg_action.specs.States.{State};
 ghost use Rattle.sg_actions.specs.Steps.{Steps as Log};
-ghost use Rattle.sg_phys_laws.specs.Recovers.{origin_of, records_in, super_in};
+ghost use Rattle.sg_phys_laws.specs.Recovers.{origin_of, records_in, super_in, RecoversBy};
 ghost use Rattle.sg_phys_laws.specs.States.{steps_of};
 ghost use Rattle.sg_pages.specs.Parts.{seen, stands};
 ghost use Rattle.sg_attach.specs.Ended.{end_in};
@@ -82,6 +83,9 @@ pub fn attach<D: Presumed, L: Ledger>(
     // where its log isn't formed in full.
     ensures refused { let t = table_of record_meaning range_meaning ops.now in (from : State) (durable log : Log) → IsTrue D.told → IsStoreImage t from durable log (reads (D.view disk)) →
         IfErr result (λ not. ∥ StoreRefused D.told t (origin_of t (reads (D.view disk))) (records_in (origin_of t (reads (D.view disk))) (reads (D.view disk))) (D.view disk) (D.view not.disk) not.fault ∥₁) }
+    // Where the steps of its log are a formed log, it isn't refused as damaged.
+    ensures undamaged { let t = table_of record_meaning range_meaning ops.now in (log : Log) (x : State) → IsTrue D.told → RecoversBy t (reads (D.view disk)) log x → IsLog (super_in (reads (D.view disk))).base log →
+        IfErr result (λ not. (area : Area) (at : ℕ) → not.fault ≡ OpenFault.Damaged area at → ⊥) }
     // Of any image: why it is refused, and with which place.
     ensures cause { IsTrue D.told → IfErr result (λ not. IsCause (table_of record_meaning range_meaning ops.now) (reads (D.view disk)) not.fault ⊎ IsLateCause (reads (D.view disk)) not.fault) }
     ensures not_a_store { IsTrue D.told → IfErr result (λ not. not.fault ≡ OpenFault.NotAStore → (((D.view disk).now Home).seen 0 ≢ 1) × (((D.view disk).now Home).seen 4096 ≢ 1)) }

@@ -1,5 +1,6 @@
 // What an image of a store is opened as.
 ghost use Rattle.std.specs.Prelude.{◌≡◌, ◌≤◌, [], ℕ, List};
+ghost use Rattle.sg_base.specs.declared.area.Area.{Area};
 ghost use Rattle.sg_disk.specs.Disk.{Image, View, Leaves, LeavesOnly};
 ghost use Rattle.sg_log.specs.Frames.{Numbered};
 ghost use Rattle.sg_log.specs.Held.{Tail};
@@ -10,12 +11,15 @@ ghost use Rattle.sg_engine.specs.Effects.{IsBy};
 ghost use Rattle.sg_engine.specs.Engine.{Origin};
 ghost use Rattle.sg_engine.specs.Running.{IsEngine, IsAllowed};
 ghost use Rattle.sg_find.specs.Synced.{reads, redo_point, SplitsAtSync};
+ghost use Rattle.sg_find.specs.declared.fault.OpenFault.TheVariants.{Damaged};
 ghost use Rattle.sg_open.specs.Found.{Opens};
+ghost use Rattle.sg_open.specs.Refusals.{IsCause};
+ghost use Rattle.sg_recovery.specs.Formed.{IsLog};
 ghost use Rattle.sg_reopen.specs.Again.{StandsAgain};
 ghost use Rattle.sg_actions.specs.Steps.{Steps};
 ghost use Rattle.sg_phys_laws.specs.Points.{AreMarked};
 ghost use Rattle.sg_phys_laws.specs.Poised.{AreSaid, IsPoised};
-ghost use Rattle.sg_phys_laws.specs.Recovers.{cut_at, origin_of, records_in, point_in, IsSoundImage};
+ghost use Rattle.sg_phys_laws.specs.Recovers.{cut_at, origin_of, records_in, point_in, super_in, IsSoundImage, RecoversBy};
 ghost use Rattle.sg_phys_laws.specs.States.{AllAgree, state_of, steps_of};
 ghost use Rattle.sg_attach.specs.Attached.{IsStoreImage, IsAttaching};
 
@@ -43,4 +47,11 @@ pub fn opening_keeps()
 pub fn standing_is_of()
     ensures stands { (t : Table) (from : State) (o : Origin) (ds all : List Numbered) (c : Image) → IsBy t o → AllAgree t o ds all → AreSaid t from o ds → StandsAgain o ds all c → IsStoreImage t from (steps_of ds) (steps_of all) c }
     ensures none { (t : Table) (o : Origin) (c : Image) → IsBy t o → StandsAgain o [] [] c → IsStoreImage t (cut_at o.super (state_of o.first)) [] [] c }
+{}
+
+/// A law: an image of a store is refused for no damage before the first write, where the steps of its log
+/// are a formed log: its superblock is in range, each frame of its log is formed, and each record is of a
+/// page or a band of the store.
+pub fn formed_is_undamaged()
+    ensures { (t : Table) (c : Image) (log : Steps) (x : State) (area : Area) (at : ℕ) → RecoversBy t c log x → IsLog (super_in c).base log → IsCause t c (Damaged area at) → ⊥ }
 {}

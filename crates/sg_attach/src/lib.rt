@@ -10,4 +10,4 @@ mod attaching;
 mod laws;
 
 pub use attaching::{AttachedStore, attach};
-pub use laws::{images_attach, opening_keeps, standing_is_of};
+pub use laws::{formed_is_undamaged, images_attach, opening_keeps, standing_is_of};

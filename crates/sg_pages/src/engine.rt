@@ -6,7 +6,7 @@ use sg_actions::Engine;
 use sg_base::{BandNo, Lsn, PageNo, SlotView, view};
 use sg_disk::Presumed;
 use sg_ops::Ops;
-use sg_phys::{is_no_step, is_log_end, space_fault};
+use sg_phys::{is_log_end, is_no_step, space_fault};
 use sg_phys_laws::{log_record, log_without};
 use sg_record::Rec;
 use sg_space::SpaceFault;

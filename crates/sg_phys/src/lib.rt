@@ -8,4 +8,4 @@
 
 mod words;
 
-pub use words::{is_no_step, is_log_end, space_fault};
+pub use words::{is_log_end, is_no_step, space_fault};

@@ -1,5 +1,5 @@
 -- What waits at the log's end, by the numbers that are kept of it.
-use Rattle.std.proofs.Common.{◌≡◌, ◌⊎◌, inr, ◌≤◌, ◌+◌, ℕ, max, Result, Ok, Err, refl, ap, ◌∙◌, arith}
+use Rattle.std.proofs.Common.{◌≡◌, inr, ◌≤◌, ◌+◌, ℕ, max, Result, Ok, Err, ap, arith}
 use Rattle.std.specs.Prelude.{OnErr}
 use Rattle.sg_disk.specs.Disk.{View}
 use Rattle.sg_log.specs.Held.{Tail, tail_of}

@@ -1,5 +1,5 @@
 -- How a call of the engine counts, and where one for a record may fail.
-use Rattle.std.specs.Prelude.{◌≡◌, ◌<◌, ◌≤◌, ℕ, Bool, IsTrue, List, Option, Some, None, Result, Err, OnOk, ⊤}
+use Rattle.std.specs.Prelude.{◌≡◌, ◌<◌, ◌≤◌, ℕ, Bool, IsTrue, List, Option, Some, None, Result, Err, ⊤}
 use Rattle.sg_base.specs.Ends.{HasRisen}
 use Rattle.sg_disk.specs.Disk.{View}
 use Rattle.sg_disk.specs.Heeds.{Heeds}
@@ -12,7 +12,7 @@ use Rattle.sg_record.specs.Changes.{Change}
 use Rattle.sg_record.specs.Changes.Change.{Page, SegWrite, SegOp}
 use Rattle.sg_record.specs.Records.{Record}
 use Rattle.sg_redo.specs.Places.{changed_by}
-use Rattle.sg_engine.specs.Calls.{Hands, WaitsFrame}
+use Rattle.sg_engine.specs.Calls.{Hands}
 use Rattle.sg_engine.specs.Engine.{Origin}
 use Rattle.sg_engine.specs.Faults.{is_disk}
 use Rattle.sg_engine.specs.Running.{IsEngine}

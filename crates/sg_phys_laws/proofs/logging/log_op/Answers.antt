@@ -2,10 +2,9 @@ use Rattle.std.proofs.Common.{Option, subst}
 use Rattle.sg_pool.specs.Pooled.{sizes}
 use Rattle.sg_record.specs.Changes.{Change as Changing}
 use Rattle.sg_phys_laws.specs.Counted.{LiesIn}
-use Rattle.std.proofs.Common.{◌≡◌, arith}
-use Rattle.sg_ops.specs.Table.{Table, table_of, range_at, rendered}
+use Rattle.sg_ops.specs.Table.{Table, table_of}
 use Rattle.sg_record.specs.Shown.{shown, shown_op}
-use Rattle.sg_phys_laws.proofs.Lies.{op_lies, op_asked}
+use Rattle.sg_phys_laws.proofs.Lies.{op_asked}
 use Rattle.sg_phys_laws.proofs.logging.log_op.Goals as goal
 
 pub returns-clause-logs : goal.returns-clause-logs
