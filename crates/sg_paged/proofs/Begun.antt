@@ -1,23 +1,19 @@
 -- A TRANSACTION BEGINS.
-use Rattle.std.proofs.Common.{◌≡◌, ℕ, ◌+◌, ◌<◌, ◌≤◌, true, false, List, [], ◌∷◌, Result, Ok, Err, sym, ap, subst, ◌∙◌, refl, arith}
+use Rattle.std.proofs.Common.{◌≡◌, ℕ, ◌<◌, ◌≤◌, true, false, [], ◌∷◌, length, Result, Ok, Err, sym, ap, subst, ◌∙◌, refl, arith}
 use Rattle.std.specs.Prelude.{OnOk, OnErr, IfOk}
 use Rattle.sg_base.specs.declared.numbers.TxnId.{TxnId}
-use Rattle.sg_disk.proofs.Moments.{weaker}
 use Rattle.sg_ops.specs.Table.{Table}
 use Rattle.sg_recovery.specs.Chains.{next_lsn}
+use Rattle.sg_recovery.specs.Log.{tally}
 use Rattle.sg_recovery.specs.Log.Record.{Begin}
 use Rattle.sg_space.specs.declared.space.SpaceFault.{SpaceFault}
 use Rattle.sg_action.specs.States.{State}
 use Rattle.sg_actions.specs.Calls as calls
 use Rattle.sg_actions.specs.Calls.{Begun}
-use Rattle.sg_actions.specs.Engine.{EngineSeen, EngineCounts, Moments, StandsNow, led}
-use Rattle.sg_actions.specs.Growing.{grows_same, grows_by, image_on, moments_same}
-use Rattle.sg_actions.specs.Rows.{HasRow}
+use Rattle.sg_actions.specs.Engine.{EngineCounts, led}
 use Rattle.sg_actions.specs.Steps.{Steps, stepped}
 use Rattle.sg_actions.specs.View.{IsKept}
 use Rattle.sg_actions.specs.declared.rows.Actor.{Actor}
-use Rattle.sg_actions.specs.declared.rows.Row.{Row}
-use Rattle.sg_actions.proofs.Chained.{running_begin}
 use Rattle.sg_store.specs.Engine as store
 use Rattle.sg_store.specs.Engine.{Sizes, Appends, Appended}
 use Rattle.sg_ground.specs.Recovers.{Recovering}
@@ -25,6 +21,8 @@ use Rattle.sg_shown.specs.Room.{SameRoom}
 use Rattle.sg_shown.specs.Shown.{basis, Over, Means, shown_of}
 use Rattle.sg_shown.proofs.Calls.{means_next, appends_of, appended_of}
 use Rattle.sg_shown.proofs.Holding.{Facts}
+use Rattle.sg_shown.proofs.Spared.{spare_on}
+use Rattle.sg_paged.proofs.Roomy.{spare_begun}
 use Rattle.sg_paged.proofs.Behind.{rests_now, kept_with}
 use Rattle.sg_paged.proofs.Recorded.{Stays, room_stays}
 
@@ -39,9 +37,9 @@ begun_ok b (Ok u) Q failed whole told h f = f u h
 begun_ok b (Err e) Q failed whole told h f = absurd (let x : true ≡ false = sym failed ∙ whole told in cc)
 
 pub begun_means : (m b : Over) (t : Table) (z : Sizes) (from : State) (r : Result TxnId SpaceFault) → Means m t z from → m.begun ≡ false → Stays m b
-    → b.means t from → HasRow m.rows 0 → EngineCounts m.engine b.engine r → (b.engine.Told → b.engine.failed ≡ false)
+    → b.means t from → (m.engine.Told → length (tally m.engine.steps).live < 64) → EngineCounts m.engine b.engine r → (b.engine.Told → b.engine.failed ≡ false)
     → IfOk r (Begun t (m.limits z.pages z.bands) (led from m.engine) (led from b.engine) m.maps m.rows b.rows m.actor) → Means b t z from
-begun_means m b t z from r h quiet s stands vacant counts whole did = means_next m b t z from h (room_stays m b s) s.limits s.begun stands counts.told (λ told'.
+begun_means m b t z from r h quiet s stands few counts whole did = means_next m b t z from h (room_stays m b s) s.limits s.begun stands counts.told (λ told'.
     begun_ok b r (Begun t (m.limits z.pages z.bands) (led from m.engine) (led from b.engine) m.maps m.rows b.rows m.actor) counts.failed whole told' did (λ u c.
     let told = counts.told told' in
     let k = h.keeps told in
@@ -51,7 +49,8 @@ begun_means m b t z from r h quiet s stands vacant counts whole did = means_next
     let above = c.above in
     rests_now b t z from m.engine.steps u.0 (Begin u.0 0)
     (subst (λ (l : (pages bands : ℕ) → State → ℕ → ℕ). IsKept t (l z.pages z.bands) (led from b.engine) b.maps b.rows b.actor) (sym s.limits) (kept_with b.engine s.maps refl s.actor (c.kept told k.kept)))
-    (c.logged told).steps refl refl (ap (λ (x : Actor). x.txn.0) s.actor ∙ (k.rest quiet).system) (subst Rattle.sg_actions.specs.View.HasFreedNone (sym s.unfreed) (k.rest quiet).freed)))
+    (c.logged told).steps refl refl (ap (λ (x : Actor). x.txn.0) s.actor ∙ (k.rest quiet).system) (subst Rattle.sg_actions.specs.View.HasFreedNone (sym s.unfreed) (k.rest quiet).freed)
+    (spare_on (ap (λ (rs : Steps). (tally rs).live) (c.logged told).steps) c.rows_are (spare_begun u k.kept.chain.rows_are.apart (few told) (k.kept.chain.rows_are.low u.0 above) k.spare))))
 
 -- WHAT IS APPENDED
 abbrev first_lsn : Steps → ℕ
@@ -83,16 +82,3 @@ begun_begins recovers a m b t z from r e room begun told counts h did means fact
           same_number m.engine.steps u.0 b.engine.tried (sym g.steps ∙ h.gone told'),
           appended_of recovers a b t z from b.engine.tried (Begin b.engine.tried 0) m.engine e (record { base = g.base; steps = h.gone told'; tail = tail; durable = g.durable }) means told' (facts told') room begun,
         )
-
--- where no row is vacant a begin may be appended all the same: nothing is
-pub none_begins : (recovers : Recovering) (a m b : Over) (t : Table) (z : Sizes) (from : State) → m.engine ≡ a.engine → b.engine ≡ m.engine → m.engine.Told
-    → Means m t z from → m.actor.txn.0 ≡ 0 → StandsNow (recovers t) t (led from m.engine)
-    → Appends t (basis recovers z) (store.led t z from (shown_of recovers a)) (store.led t z from (shown_of recovers b)) (record { lsn = m.engine.tail; is = Begin m.engine.tail 0 })
-none_begins recovers a m b t z from em e told h system images =
-    let k = h.keeps told in
-    appends_of recovers a b t z from m.engine.tail (Begin m.engine.tail 0) m.engine em h.size (record {
-      above = omega arith;
-      formed = (running_begin {tail = m.engine.tail} {next = m.engine.tail + 1} (omega arith) system k.kept.chain.running).log;
-      moments = subst (λ (y : EngineSeen). Moments (recovers t) t (led from m.engine) (led from y) (stepped m.engine.steps m.engine.tail (Begin m.engine.tail 0))) (sym e)
-          (weaker (moments_same (led from m.engine) images) (λ c i. image_on refl (grows_same m.engine.durable) (grows_by (record { lsn = m.engine.tail; is = Begin m.engine.tail 0 } ∷ []) m.engine.steps) i));
-    })

@@ -24,6 +24,7 @@ use Rattle.sg_actions.proofs.Chained.{no_zero}
 use Rattle.sg_ground.specs.Recovers.{Recovering}
 use Rattle.sg_shown.specs.Room.{SameRoom}
 use Rattle.sg_shown.specs.Shown.{basis, Over, Keeping, Means, acting, shown_of}
+use Rattle.sg_shown.specs.Spare.{HasSpare}
 use Rattle.sg_shown.proofs.Calls.{RestsNow, HasCome, appended_of}
 use Rattle.sg_shown.proofs.Holding.{Facts}
 use Rattle.sg_shown.proofs.History.{own}
@@ -75,19 +76,20 @@ means_with a b t z from e m l p u r c o s h =
       pages = q.pages;
       bands = q.bands;
       limits = q.limits;
-      keeps = λ told. let k = q.keeps told in record { kept = k.kept; rest = k.rest; fresh = k.fresh; begin = k.begin; now = k.now; counted = k.counted; map = k.map };
+      keeps = λ told. let k = q.keeps told in record { kept = k.kept; rest = k.rest; fresh = k.fresh; begin = k.begin; now = k.now; counted = k.counted; map = k.map; spare = k.spare };
     }
 
 -- A RECORD THAT ENDS WHAT WAS OPEN leaves nobody acting
 pub rests_now : (b : Over) (t : Table) (z : Sizes) (from : State) (steps : Steps) (lsn : ℕ) (x : Step)
     → IsKept t (b.limits z.pages z.bands) (led from b.engine) b.maps b.rows b.actor → b.engine.steps ≡ stepped steps lsn x
     → ended (stepped steps lsn x) ≡ stepped steps lsn x
-    → redo t x (repeated t from steps) ≡ repeated t from steps → b.actor.txn.0 ≡ 0 → HasFreedNone b.unfreed
+    → redo t x (repeated t from steps) ≡ repeated t from steps → b.actor.txn.0 ≡ 0 → HasFreedNone b.unfreed → HasSpare b.engine.steps b.rows
     → RestsNow b t z from (repeated t from steps)
-rests_now b t z from steps lsn x kept is border same system freed = record {
+rests_now b t z from steps lsn x kept is border same system freed spare = record {
   kept = kept;
   rest = record { idle = subst (λ (rs : Steps). ended rs ≡ rs) (sym is) border; system = system; freed = freed };
   now = ap (repeated t from) is ∙ same;
+  spare = spare;
 }
 
 -- what is kept, of equal parts
@@ -125,7 +127,7 @@ acted_means m actor t z from txn h quiet now = record {
   pages = h.pages;
   bands = h.bands;
   limits = h.limits;
-  keeps = λ told. let k = h.keeps told in record { kept = now.kept told k.kept; rest = λ f. absurd (let w : true ≡ false = f in cc); fresh = k.fresh; begin = k.begin; now = k.now; counted = k.counted; map = k.map };
+  keeps = λ told. let k = h.keeps told in record { kept = now.kept told k.kept; rest = λ f. absurd (let w : true ≡ false = f in cc); fresh = k.fresh; begin = k.begin; now = k.now; counted = k.counted; map = k.map; spare = k.spare };
 }
 
 pub act_means : (m b : Over) (t : Table) (z : Sizes) (from : State) (txn : ℕ) → Means m t z from → m.begun ≡ false → b.engine ≡ m.engine → b.means ≡ m.means
@@ -144,7 +146,7 @@ act_means m b t z from txn h quiet e s l p u r opens now since =
       pages = q.pages;
       bands = q.bands;
       limits = q.limits;
-      keeps = λ told. let k = q.keeps told in record { kept = k.kept; rest = λ f. absurd (let w : true ≡ false = sym opens ∙ f in cc); fresh = k.fresh; begin = k.begin; now = k.now; counted = k.counted; map = k.map };
+      keeps = λ told. let k = q.keeps told in record { kept = k.kept; rest = λ f. absurd (let w : true ≡ false = sym opens ∙ f in cc); fresh = k.fresh; begin = k.begin; now = k.now; counted = k.counted; map = k.map; spare = k.spare };
     }
 
 -- WHOSE ACTION was begun

@@ -1,3 +1,5 @@
+pub mod Parts
+pub mod Roomy
 pub mod Behind
 pub mod Recorded
 pub mod Begun

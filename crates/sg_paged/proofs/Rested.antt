@@ -1,5 +1,5 @@
 -- A CALL THAT APPENDS NO RECORD.
-use Rattle.std.proofs.Common.{◌≡◌, ℕ, ◌<◌, ◌≤◌, Bool, true, false, not, List, Option, Some, None, Result, Err, sym, ap, subst, ◌∙◌, refl, arith}
+use Rattle.std.proofs.Common.{◌≡◌, ℕ, Bool, true, false, not, Option, Some, None, Result, sym, ap, subst, ◌∙◌, refl}
 use Rattle.std.specs.Prelude.{OnOk, OnErr, IfOk, IfSome, option_map, ◌&&◌, if◌then◌else◌}
 use Rattle.sg_base.specs.declared.numbers.TxnId.{TxnId}
 use Rattle.sg_alloc.specs.declared.maps.Maps.{Maps}
@@ -18,7 +18,6 @@ use Rattle.sg_actions.specs.Steps.{Steps, ended, opened, begin_of, repeated}
 use Rattle.sg_actions.specs.Taken.{is_set, takes_page, takes_band}
 use Rattle.sg_actions.specs.View.{IsKept, HasFreedNone}
 use Rattle.sg_actions.specs.declared.rows.Actor.{Actor}
-use Rattle.sg_actions.specs.declared.rows.Row.{Row}
 use Rattle.sg_store.specs.Engine as store
 use Rattle.sg_store.specs.Engine.{Sizes, IsNextUndo, Rests, Rested, action_of}
 use Rattle.sg_ground.specs.Recovers.{Recovering}
@@ -27,6 +26,7 @@ use Rattle.sg_shown.specs.Shown.{basis, Over, Keeping, Means, acting, shown_of}
 use Rattle.sg_shown.specs.Taken.{AreTaken}
 use Rattle.sg_shown.proofs.Calls.{goes_on}
 use Rattle.sg_shown.proofs.Holding.{Facts, taken_same, counted_same}
+use Rattle.sg_shown.proofs.Spared.{spare_on}
 use Rattle.sg_paged.proofs.Behind.{room_same, by_told, live_row}
 
 -- what stays of a space in such a call
@@ -60,6 +60,7 @@ keeping_stays a b t z from s steps kept k = record {
   now = taken_same (ap (λ (rs : Steps). (repeated t from rs).pages) steps) (λ p h. (room_of a b s).page p ∙ h) (λ n h. (room_of a b s).band n ∙ h) k.now;
   counted = counted_same (room_of a b s).free_pages (room_of a b s).free_bands (ap (λ (rs : Steps). (repeated t from rs).pages) steps) k.counted;
   map = λ n less. (room_of a b s).band n ∙ k.map n less;
+  spare = spare_on (ap (λ (rs : Steps). (tally rs).live) steps) s.rows k.spare;
 }
 
 pub stay_means : {T : Type 0} (a b : Over) (t : Table) (z : Sizes) (from : State) (r : Result T SpaceFault) → Means a t z from → Same a b → b.means t from

@@ -9,13 +9,11 @@ use Rattle.sg_recovery.specs.Log.Record.{Begin, Change, TopEnd, PhysComp, TopVoi
 use Rattle.sg_recovery.specs.Stands.{made}
 use Rattle.sg_action.specs.States.{State, Kept}
 use Rattle.sg_actions.specs.Engine.{EngineSeen, Moments, led}
-use Rattle.sg_actions.specs.Later as later
 use Rattle.sg_actions.specs.Offed.{kept_in}
 use Rattle.sg_actions.specs.PuttingBack.{MayUndo, UndoBegun}
-use Rattle.sg_actions.specs.Steps.{Step, Steps, repeated}
+use Rattle.sg_actions.specs.Steps.{Steps, repeated}
 use Rattle.sg_actions.specs.Undoing.{is_of_bytes}
 use Rattle.sg_actions.specs.View.{IsKept, HasFreedNone, Since}
-use Rattle.sg_actions.specs.declared.rows.Row.{Row}
 use Rattle.sg_actions.proofs.Given.{next_first}
 use Rattle.sg_reader.specs.Reader.{limits}
 use Rattle.sg_reader.proofs.Decide.{reader}
@@ -30,6 +28,7 @@ use Rattle.sg_shown.specs.Taken.{AreTaken}
 use Rattle.sg_shown.proofs.Calls.{goes_on}
 use Rattle.sg_shown.proofs.History.{own, made_is, moments_are, changes_are, before_is}
 use Rattle.sg_shown.proofs.Holding.{Facts, taken_same, counted_same}
+use Rattle.sg_shown.proofs.Spared.{changes_live, spare_on}
 use Rattle.sg_paged.proofs.Behind.{room_same}
 use Rattle.sg_paged.proofs.Laid.{puts_back, put_pages}
 
@@ -67,6 +66,7 @@ undoes_means recovers m b t z from txn stop note next h quiet l p u r begun sinc
         now = taken_same same (λ n e. room.page n ∙ e) (λ n e. room.band n ∙ e) k.now;
         counted = counted_same room.free_pages room.free_bands same k.counted;
         map = λ n less. room.band n ∙ k.map n less;
+        spare = spare_on (ap (λ (rs : Steps). (tally rs).live) g.steps ∙ changes_live t (kept_in (m.limits z.pages z.bands) t (led from m.engine) m.maps) (repeated t from m.engine.steps) from txn w.made m.engine.steps w.are) r k.spare;
       };
 }
 
@@ -121,9 +121,9 @@ undo_begun recovers a m b t z from txn note next act w e h quiet told told' hb f
       sym did.note_is,
       record {
         puts = subst (λ (x : State). PutsBack (found_of (map_bands_of z.pages z.bands) (note_said did.n.note) did.n.changes) x (made (own recovers t z) from b.engine.steps)) (sym begins)
-              (subst (λ (y : State). PutsBack (found_of (map_bands_of z.pages z.bands) (note_said did.n.note) did.n.changes) (repeated t from m.engine.steps) y) (sym (made_is recovers t z from b.engine.steps))
-              (subst (λ (bytes : List ℕ). PutsBack (found_of (map_bands_of z.pages z.bands) (note_said bytes) did.n.changes) (repeated t from m.engine.steps) (repeated t from b.engine.steps)) (sym did.note_is)
-              (subst (λ (o : ℕ). PutsBack (found_of o (note_said note) did.n.changes) (repeated t from m.engine.steps) (repeated t from b.engine.steps)) outside put)));
+            (subst (λ (y : State). PutsBack (found_of (map_bands_of z.pages z.bands) (note_said did.n.note) did.n.changes) (repeated t from m.engine.steps) y) (sym (made_is recovers t z from b.engine.steps))
+            (subst (λ (bytes : List ℕ). PutsBack (found_of (map_bands_of z.pages z.bands) (note_said bytes) did.n.changes) (repeated t from m.engine.steps) (repeated t from b.engine.steps)) (sym did.note_is)
+            (subst (λ (o : ℕ). PutsBack (found_of o (note_said note) did.n.changes) (repeated t from m.engine.steps) (repeated t from b.engine.steps)) outside put)));
         still = λ no. ap (λ (rs : Steps). (tally rs).opened) (did.still (ap is_of_bytes (sym did.note_is) ∙ no)) ∙ (ap (λ (y : EngineSeen). (tally y.steps).opened) e ∙ none);
       },
       room.free_pages,

@@ -1,5 +1,5 @@
 -- THE END OF A TRANSACTION WITHOUT A ROW: it goes on no more, and nothing was done.
-use Rattle.std.proofs.Common.{◌≡◌, ◌≢◌, ◌⊎◌, inl, inr, ℕ, Bool, true, false, List, [], IsSome, sym, ap, subst, ◌∙◌, refl, arith}
+use Rattle.std.proofs.Common.{◌≡◌, ◌≢◌, inl, inr, ℕ, Bool, true, false, [], IsSome, sym, subst, ◌∙◌, refl, arith}
 use Rattle.std.proofs.lemmas.Bool.{cases_eq}
 use Rattle.sg_disk.proofs.Moments.{started}
 use Rattle.sg_ops.specs.Table.{Table}

@@ -9,9 +9,8 @@ use sg_actions::{Acts, Engine};
 use sg_base::TxnId;
 use sg_space::SpaceFault;
 
-/// A transaction begins, whose number is that of its begin record. Where as many as 64 have begun and
-/// not ended none can, and a break is counted. One that has committed counts until it ends; a store never
-/// comes there, since it ends a transaction in the call that commits it, or stops.
+/// A transaction begins, whose number is that of its begin record. One that has committed leaves its place for
+/// it, also before it ends.
 pub fn begin<E: Engine>(acts: &mut Acts<E>) -> Result<TxnId, SpaceFault>
     requires can { Asked (shown acts.old) HasPlace }
     ensures number { IfOk result (λ u. ((shown acts.old).tail ≤ u.0) × (u.0 < (shown acts.new).tail)) }
@@ -23,13 +22,10 @@ pub fn begin<E: Engine>(acts: &mut Acts<E>) -> Result<TxnId, SpaceFault>
         × IfOk result (λ u. (u.0 ≡ n) × Appended t g v w (record { lsn = n; is = Begin n 0 }))) }
 {
     quiet(acts);
-    if acts.has_place() {
-        return acts.begin();
-    }
-    Err(acts.report())
+    acts.begin()
 }
 
-/// Commits a live transaction, and makes the log durable.
+/// Commits a live transaction, and makes the log durable. Its place is free for another one then.
 pub fn commit<E: Engine>(acts: &mut Acts<E>, txn: TxnId) -> Result<(), SpaceFault>
     requires can { Asked (shown acts.old) (IsAt txn.0) }
     ensures counts { Counts IsDiskFault (shown acts.old) (shown acts.new) result }
@@ -44,7 +40,13 @@ pub fn commit<E: Engine>(acts: &mut Acts<E>, txn: TxnId) -> Result<(), SpaceFaul
         × (w.durable ≡ w.log))) }
 {
     quiet(acts);
-    acts.commit(txn)
+    match acts.commit(txn) {
+        Ok(()) => {
+            acts.leave(txn);
+            Ok(())
+        }
+        Err(fault) => Err(fault),
+    }
 }
 
 /// A transaction has ended that goes on, or has committed. It is neither live nor a loser any more. Of one

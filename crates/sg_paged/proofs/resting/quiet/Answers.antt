@@ -1,9 +1,11 @@
 use Rattle.std.proofs.Common.{◌≡◌, sym, ap, subst, refl}
+use Rattle.sg_recovery.specs.Log.{tally}
 use Rattle.sg_actions.specs.Steps.{ended, repeated}
 use Rattle.sg_actions.specs.declared.rows.Actor.{Actor}
 use Rattle.sg_shown.specs.Shown.{over}
 use Rattle.sg_shown.proofs.Calls.{room_settled, means_next}
 use Rattle.sg_shown.proofs.Holding.{idle_ended}
+use Rattle.sg_paged.proofs.Roomy.{spare_rows, spare_after}
 use Rattle.sg_paged.proofs.resting.quiet.Goals as goal
 
 pub returns-clause-means : goal.returns-clause-means
@@ -24,4 +26,5 @@ returns-clause-means g c = λ t z from m.
         freed = record { pages = k.pages.none; bands = k.bands.none };
       };
       now = ap (λ y. repeated t from (g.E.Engine.view y).steps) k.engine;
+      spare = spare_rows k.rows (spare_after a.actor.txn a.actor.last (ap (λ y. (tally (g.E.Engine.view y).steps).live) k.engine) h.spare);
     })

@@ -7,7 +7,7 @@ use Rattle.sg_store.specs.Engine.{IsDiskFault}
 use Rattle.sg_recovery.specs.Log.{tally, is_in}
 use Rattle.sg_shown.specs.Shown.{over}
 use Rattle.sg_shown.proofs.Calls.{counts_acts, rests_of, room_then}
-use Rattle.sg_paged.proofs.Behind.{room_same, means_with, acting_is}
+use Rattle.sg_paged.proofs.Behind.{room_same, acting_is}
 use Rattle.sg_paged.proofs.Rested.{stay_means, rested_of, again_can, next_is}
 use Rattle.sg_paged.proofs.undoing.next_undo.Goals as goal
 
