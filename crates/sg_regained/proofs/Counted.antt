@@ -1,7 +1,5 @@
 -- THE COUNTS of an engine that is brought to its first action.
-use Rattle.std.proofs.Common.{◌≡◌, ℕ, ◌+◌, ◌<◌, ◌≤◌, Result, Ok, Err, sym, ap, subst, ◌∙◌, refl, arith}
-use Rattle.std.specs.Prelude.{OnOk, IfErr}
-use Rattle.sg_base.specs.Ends.{HasRisen}
+use Rattle.std.proofs.Common.{◌≡◌, ℕ, ◌+◌, ◌<◌, Result, Ok, Err, sym, subst, ◌∙◌, refl, arith}
 use Rattle.sg_disk.specs.Accounts.{Accounts}
 use Rattle.sg_disk.specs.Disk.{View}
 use Rattle.sg_space.specs.declared.space.SpaceFault.{SpaceFault}
@@ -10,7 +8,7 @@ use Rattle.sg_actions.specs.Engine.{EngineSeen}
 use Rattle.sg_actions.specs.WentOff.{OffCounts}
 use Rattle.sg_actions.proofs.Accounting.{count_ok, count_then, accounts_ok, accounts_err}
 use Rattle.sg_ground.specs.Recovers.{Recovering}
-use Rattle.sg_store.specs.Engine.{Counts, IsDiskFault, IsNearEnd}
+use Rattle.sg_store.specs.Engine.{Counts, IsDiskFault}
 use Rattle.sg_shown.specs.Shown.{Over, opened_of, shown_of}
 use Rattle.sg_shown.proofs.Calls.{near_of}
 use Rattle.sg_starting.specs.Starting.{IsStartDisk, IsStartEnd}

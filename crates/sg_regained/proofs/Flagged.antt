@@ -14,10 +14,8 @@ use Rattle.sg_actions.specs.Taken.{AreFlags, AreSaid, is_set, is_there}
 use Rattle.sg_actions.specs.View.{HasFreedNone}
 use Rattle.sg_actions.proofs.Flags.{and_left}
 use Rattle.sg_actions.proofs.Taking.{none_freed}
-use Rattle.sg_contents.specs.Standing.{Contents, IsReachedPage, IsReachedBand}
-use Rattle.sg_contents.specs.Meaning.{page_total, band_total}
 use Rattle.sg_found.specs.Looks.{AreBytes}
-use Rattle.sg_reader.specs.Alike.{ReadsAs, space_of}
+use Rattle.sg_reader.specs.Alike.{space_of}
 use Rattle.sg_store.specs.Engine.{Sizes}
 use Rattle.sg_shown.specs.Taken.{AreTaken, AreCounted, with_bytes}
 use Rattle.sg_shown.proofs.Places.{reached_page_too, reached_band_too, page_totals, band_totals}

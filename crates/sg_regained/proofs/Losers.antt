@@ -2,14 +2,13 @@
 use Rattle.std.proofs.Common.{◌≡◌, ◌≢◌, ◌⊎◌, inl, inr, ℕ, zero, suc, add-one, ◌+◌, take, slice_get, ◌<◌, ◌≤◌, ◌==◌, Bool, true, false, not, cond, List, [], ◌∷◌, ◌++◌, Option, Some, None, Result, Ok, Err, sym, ap, subst, ◌∙◌, refl, append_assoc, length, length-append, arith}
 use Rattle.std.specs.Prelude.{map, replicate, option_map, ◌||◌, if◌then◌else◌, is_ok, is_err}
 use Rattle.std.specs.List.{find}
-use Rattle.std.proofs.lemmas.Bool.Decides.{nat_tests}
 use Rattle.sg_analysis.specs.Analysis.{acting, lacks_end, with_last, losers_of, going_on, oldest_first}
 use Rattle.sg_analysis.proofs.Lists.{is_in-oldest_first}
 use Rattle.sg_recovery.specs.Chains.{last_of, border_of, next_lsn, Formed}
 use Rattle.sg_recovery.specs.Formed.{IsUnfinished}
 use Rattle.sg_recovery.specs.Laws.{Each}
 use Rattle.sg_recovery.specs.Log.{tally, is_in}
-use Rattle.sg_recovery.proofs.Basic.{cond_true, cond_false, number_is, same_number, other_number}
+use Rattle.sg_recovery.proofs.Basic.{number_is, same_number, other_number}
 use Rattle.sg_recovery.proofs.Chaining.{sound}
 use Rattle.sg_actions.specs.Ending.{vacant}
 use Rattle.sg_actions.specs.Rows.{last_in, AreApart}

@@ -4,7 +4,6 @@ use Rattle.sg_base.specs.Ends.{HasRisen}
 use Rattle.sg_disk.specs.Accounts.{Accounts}
 use Rattle.sg_disk.specs.Disk.{View}
 use Rattle.sg_ops.specs.Table.{Table}
-use Rattle.sg_space.specs.declared.space.SpaceFault.{SpaceFault}
 use Rattle.sg_space.specs.declared.space.SpaceFault.TheVariants.{Disk, LogEnd}
 use Rattle.sg_reach.specs.declared.fault.ReachFault.{ReachFault}
 use Rattle.sg_reach.specs.declared.fault.ReachFault.TheVariants as reaches
@@ -16,7 +15,7 @@ use Rattle.sg_resumed.specs.Walking.{HasWalked}
 use Rattle.sg_starting.specs.Starting.{IsStartDisk, IfBroken}
 use Rattle.sg_reach.specs.Fault as reach
 use Rattle.sg_starting.specs.declared.opening.StartFault.{StartFault}
-use Rattle.sg_starting.specs.declared.opening.StartFault.TheVariants.{Space, Broken, Memory}
+use Rattle.sg_starting.specs.declared.opening.StartFault.TheVariants.{Space}
 use Rattle.sg_regained.specs.Regained.{OverCounts, IsStopped, started}
 
 -- THE DISK'S OWN COUNTS, by an opening's word for a fault

@@ -1,9 +1,8 @@
 -- WHAT A WALK OVER ALL THAT THE PAGES REACH LEAVES.
-use Rattle.std.proofs.Common.{◌≡◌, ℕ, ◌≤◌, Bool, true, false, [], length, Option, Some, None, Result, Ok, Err, sym, ap, subst, ◌∙◌, refl, arith}
-use Rattle.std.specs.Prelude.{OnErr, OnOk}
+use Rattle.std.proofs.Common.{◌≡◌, ℕ, ◌≤◌, [], length, Option, Some, None, Result, Ok, Err, sym, subst, ◌∙◌, arith}
+use Rattle.std.specs.Prelude.{OnOk}
 use Rattle.sg_alloc.specs.declared.maps.Maps.{Maps}
 use Rattle.sg_base.specs.Ends.{HasRisen}
-use Rattle.sg_disk.specs.Disk.{View}
 use Rattle.sg_ops.specs.Table.{Table}
 use Rattle.sg_space.specs.declared.space.SpaceFault.TheVariants.{Disk}
 use Rattle.sg_reach.specs.Fault as reach

@@ -1,26 +1,18 @@
 -- AN ENGINE THAT AN OPENING FOUND, as the engine of a store: before a take-off, behind it, and behind the walk.
-use Rattle.std.proofs.Common.{◌≡◌, ◌⊎◌, inl, inr, ℕ, ◌+◌, ◌<◌, ◌≤◌, Bool, true, false, List, [], ◌∷◌, ◌++◌, length, Option, Some, None, Result, Ok, Err, sym, ap, subst, ◌∙◌, refl, arith}
-use Rattle.std.specs.Prelude.{OnOk, IfErr, map}
-use Rattle.sg_alloc.specs.Flags.{free_of, map_bands_of}
+use Rattle.std.proofs.Common.{◌≡◌, ℕ, true, false, List, [], ◌++◌, length, Option, Some, Result, Ok, sym, ap, subst, ◌∙◌, refl, arith}
+use Rattle.std.specs.Prelude.{OnOk, map}
 use Rattle.sg_alloc.specs.declared.maps.Maps.{Maps}
-use Rattle.sg_base.specs.Ends.{HasRisen}
-use Rattle.sg_ops.specs.Laws.{IsLawful}
 use Rattle.sg_ops.specs.Table.{Table}
 use Rattle.sg_record.specs.Changes.{Change as Changing}
-use Rattle.sg_recovery.specs.Chains.{last_of, border_of, next_lsn}
-use Rattle.sg_recovery.specs.Formed.{IsLog}
 use Rattle.sg_recovery.specs.Log.{Open, tally, changes_of}
 use Rattle.sg_recovery.specs.Stands as stands
 use Rattle.sg_action.specs.States.{State, all_off}
 use Rattle.sg_actions.specs.Acting.{IsChained, IsWell}
-use Rattle.sg_actions.specs.Calls.{IsAtRest}
 use Rattle.sg_actions.specs.Changes.{meaning}
 use Rattle.sg_actions.specs.Engine.{EngineSeen, ArePagesFit, led}
-use Rattle.sg_actions.specs.Rows.{at_rest}
 use Rattle.sg_actions.specs.Steps.{Steps, ended, opened, begin_of, repeated}
 use Rattle.sg_actions.specs.Taken.{AreFlags}
-use Rattle.sg_actions.specs.View.{IsKept, HasFreedNone}
-use Rattle.sg_actions.specs.WentOff.{OffCounts}
+use Rattle.sg_actions.specs.View.{HasFreedNone}
 use Rattle.sg_actions.specs.declared.rows.Actor.{Actor}
 use Rattle.sg_actions.specs.declared.rows.Row.{Row}
 use Rattle.sg_actions.proofs.Beginning.{idle_opened}
@@ -40,10 +32,10 @@ use Rattle.sg_store.specs.Engine.{Sizes, pages_of}
 use Rattle.sg_ground.specs.Recovers.{Recovering}
 use Rattle.sg_resuming.proofs.Offs.{offs_open, offs_lead}
 use Rattle.sg_resuming.proofs.Walks.{walks_read, walks_free, none_read}
-use Rattle.sg_shown.specs.Shown.{basis, basis_at, Over, AsFound, Finds, HasRoom, Keeping, Means, extent_of, lent, opened_of, shown_of}
+use Rattle.sg_shown.specs.Shown.{basis, basis_at, Over, AsFound, Finds, Keeping, Means, extent_of, lent, opened_of, shown_of}
 use Rattle.sg_shown.proofs.History.{own, made_is, moments_are, grows_is}
 use Rattle.sg_shown.proofs.Holding.{Facts, taken_same, counted_same, keeping_at_rest, idle_ended, engine_is}
-use Rattle.sg_starting.specs.Starting.{IsFound, CanResume, IsRead, TakesOff, TakenOff, IfBroken}
+use Rattle.sg_starting.specs.Starting.{CanResume, IsRead, TakesOff, TakenOff, IfBroken}
 use Rattle.sg_starting.specs.declared.opening.StartFault.{StartFault}
 use Rattle.sg_starting.specs.declared.opening.StartFault.TheVariants.{Space, Broken, Memory}
 use Rattle.sg_regained.specs.Regained.{TookOff, RestsAt, EndVacant, CanGoOver}

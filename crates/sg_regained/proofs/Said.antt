@@ -1,6 +1,6 @@
 -- EACH PAGE THAT IS TAKEN SAYS SOMETHING, behind a walk.
 use mathlib.Core.Logic.{∥∥₁_elim}
-use Rattle.std.proofs.Common.{◌≡◌, ◌≤◌, ℕ, Bool, true, false, List, length, Option, Some, None, IsSome, Err, sym, ap, subst, ◌∙◌, refl}
+use Rattle.std.proofs.Common.{◌≡◌, ℕ, Bool, false, List, length, Option, sym, subst}
 use Rattle.std.proofs.Props.{props}
 use Rattle.sg_base.specs.Sheet.{Sheet}
 use Rattle.sg_ops.specs.Table.{Table}

@@ -1,5 +1,5 @@
 -- VACANT ROWS BEHIND OTHERS.
-use Rattle.std.proofs.Common.{◌≡◌, ◌≢◌, ℕ, ◌<◌, ◌≤◌, ◌==◌, Bool, true, false, cond, List, [], ◌∷◌, ◌++◌, Option, Some, None, IsSome, Result, Ok, Err, sym, ap, subst, ◌∙◌, refl, length, arith}
+use Rattle.std.proofs.Common.{◌≡◌, ◌≢◌, ℕ, ◌≤◌, ◌==◌, Bool, true, false, cond, List, [], ◌∷◌, ◌++◌, Option, Some, None, IsSome, Result, Ok, Err, sym, ap, subst, ◌∙◌, refl, length, arith}
 use Rattle.std.specs.Prelude.{replicate, option_map, OnOk}
 use Rattle.std.specs.List.{find}
 use Rattle.std.proofs.lemmas.List.{length-replicate}

@@ -1,13 +1,11 @@
 -- WHAT A TAKE-OFF HAS APPENDED, with looks behind it.
-use Rattle.std.proofs.Common.{◌≡◌, ℕ, Bool, true, false, List, [], ◌∷◌, ◌++◌, sym, ap, subst, ◌∙◌, refl}
+use Rattle.std.proofs.Common.{◌≡◌, ℕ, Bool, true, false, [], ◌∷◌, ◌++◌, sym, ap, subst, ◌∙◌, refl}
 use Rattle.std.proofs.Common.{◌⊎◌, inl, inr, Some, None, Result, Ok, Err}
 use Rattle.std.specs.Prelude.{if◌then◌else◌, OnOk}
 use Rattle.sg_base.specs.declared.numbers.TxnId.{TxnId}
 use Rattle.sg_ops.specs.Table.{Table}
-use Rattle.sg_recovery.specs.Chains.{last_of, border_of}
 use Rattle.sg_recovery.specs.Formed.{IsLog, IsUnfinished}
 use Rattle.sg_recovery.specs.Log.{tally}
-use Rattle.sg_record.specs.Changes.{Change as Changing}
 use Rattle.sg_action.specs.States.{State}
 use Rattle.sg_actions.specs.Engine.{EngineSeen, EngineView, Moments, StandsNow, led}
 use Rattle.sg_actions.specs.Growing.{grows_same, grows_then, moments_then, moments_same, moments_stop}

@@ -1,5 +1,5 @@
 -- WHAT AN OPENING FOUND, and what bringing it to its first action does.
-use Rattle.std.specs.Prelude.{◌≡◌, ℕ, ◌+◌, ◌<◌, ◌≤◌, not, ◌==◌, true, List, [], ◌∷◌, ◌++◌, map, length, replicate, Option, Some, None, option_map, Result, OnOk, OnErr, IfOk, IfErr}
+use Rattle.std.specs.Prelude.{◌≡◌, ℕ, ◌+◌, ◌<◌, ◌≤◌, true, List, [], ◌∷◌, ◌++◌, map, length, replicate, Option, option_map, Result, OnOk, OnErr, IfOk, IfErr}
 use Rattle.std.specs.List.{find}
 use Rattle.sg_alloc.specs.Flags.{map_bands_of}
 use Rattle.sg_alloc.specs.declared.maps.Maps.{Maps}

@@ -1,4 +1,4 @@
-use Rattle.std.proofs.Common.{◌≡◌, sym, ap, ◌∙◌, ◌++◌, ◌∷◌, [], List}
+use Rattle.std.proofs.Common.{sym, ap, ◌∙◌, ◌++◌, ◌∷◌, [], List}
 use Rattle.sg_actions.specs.declared.rows.Row.{Row}
 use Rattle.sg_regained.proofs.Losers.{one_row, pushed}
 use Rattle.sg_regained.proofs.founding.push_losers.Goals as goal

@@ -1,4 +1,4 @@
-use Rattle.std.proofs.Common.{◌≡◌, ◌≤◌, length, arith}
+use Rattle.std.proofs.Common.{arith}
 use Rattle.std.proofs.Common.{◌++◌, ◌∷◌, [], suc, sym, ◌∙◌}
 use Rattle.sg_actions.specs.Ending.{vacant}
 use Rattle.sg_regained.proofs.Losers.{pushed, one_vacant, one_longer}

@@ -1,4 +1,4 @@
-use Rattle.std.proofs.Common.{◌≡◌, ◌+◌, ◌++◌, ℕ, length}
+use Rattle.std.proofs.Common.{◌≡◌, ◌++◌, ℕ, length}
 use Rattle.std.specs.Prelude.{replicate}
 use Rattle.sg_actions.specs.Ending.{vacant}
 use Rattle.sg_regained.proofs.founding.push_vacant.Given as goal

@@ -1,4 +1,4 @@
-use Rattle.std.proofs.Common.{◌≡◌, ◌<◌, ℕ, false, List, Bool, Some, length, slice_get, replicate, refl, sym, ap, ◌∙◌, arith}
+use Rattle.std.proofs.Common.{◌≡◌, List, Bool, length, slice_get, refl, ap, ◌∙◌, arith}
 use Rattle.sg_alloc.specs.Flags.{free_of}
 use Rattle.sg_space.proofs.Firsts.{none_taken, one_more_taken, free_at, all_free, length-free}
 use Rattle.sg_regained.proofs.founding.set_pages.Goals as goal

@@ -1,4 +1,4 @@
-use Rattle.std.proofs.Common.{◌≡◌, ℕ, sym, subst, ◌∙◌}
+use Rattle.std.proofs.Common.{ℕ, sym, subst, ◌∙◌}
 use Rattle.sg_ops.specs.Table.{table_of}
 use Rattle.sg_actions.specs.Engine.{led}
 use Rattle.sg_actions.specs.WentOff.{OffCounts}

@@ -1,8 +1,6 @@
-use mathlib.Core.Logic.{∥∥₁_elim, ∥∥₁_prop}
-use Rattle.std.proofs.Common.{◌≡◌, sym, subst, ◌∙◌, refl, arith}
+use Rattle.std.proofs.Common.{sym, subst, ◌∙◌}
 use Rattle.sg_ops.specs.Table.{table_of}
 use Rattle.sg_actions.specs.Acting.{IsChained}
-use Rattle.sg_actions.specs.Engine.{led}
 use Rattle.sg_found.proofs.Running.{chained_found}
 use Rattle.sg_regained.proofs.Taking.{took_none, took_some, nobody, somebody, both_ok}
 use Rattle.sg_regained.proofs.regaining.off_open.Given as given

@@ -1,4 +1,4 @@
-use Rattle.std.proofs.Common.{◌≡◌, ℕ, ◌+◌, length, Ok, Err, Result, sym, ap, subst, ◌∙◌, refl, arith}
+use Rattle.std.proofs.Common.{length, Ok, Err, sym, subst, ◌∙◌, refl, arith}
 use Rattle.sg_alloc.specs.declared.maps.Maps.{Maps}
 use Rattle.sg_actions.specs.Engine.{Extent}
 use Rattle.sg_actions.specs.Taken.{IsWithin}

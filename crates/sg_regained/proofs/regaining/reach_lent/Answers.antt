@@ -1,4 +1,4 @@
-use Rattle.std.proofs.Common.{◌≡◌, Option, Some, Err, Result, sym, subst}
+use Rattle.std.proofs.Common.{Option, Err, subst}
 use Rattle.sg_alloc.specs.declared.maps.Maps.{Maps}
 use Rattle.sg_space.specs.declared.space.SpaceFault.TheVariants.{Disk}
 use Rattle.sg_starting.specs.declared.opening.StartFault.TheVariants.{Space}

@@ -1,4 +1,4 @@
-use Rattle.std.proofs.Common.{◌≡◌, true, false, Ok, Err, Result, sym, ap, subst, ◌∙◌, refl}
+use Rattle.std.proofs.Common.{Err, Result, ap, subst, ◌∙◌}
 use Rattle.std.specs.Prelude.{IfErr}
 use Rattle.sg_contents.specs.Standing.{Contents}
 use Rattle.sg_reader.specs.Alike.{ReadsAs}

@@ -1,6 +1,4 @@
-use mathlib.Core.Logic.{∥∥₁_elim, ∥∥₁_prop}
-use Rattle.std.proofs.Common.{◌≡◌, ℕ, false, length, None, Ok, Err, Result, sym, ap, subst, ◌∙◌, refl, arith}
-use Rattle.sg_actions.specs.Engine.{led}
+use Rattle.std.proofs.Common.{ℕ, length, None, Ok, Err, Result, sym, ap, subst, ◌∙◌, refl}
 use Rattle.sg_actions.specs.Acting.{IsChained}
 use Rattle.sg_actions.specs.View.{HasFreedNone}
 use Rattle.sg_actions.specs.WentOff.{OffCounts}
@@ -10,9 +8,7 @@ use Rattle.sg_found.proofs.Running.{rest_idle}
 use Rattle.sg_ops.specs.Table.{table_of}
 use Rattle.sg_reader.specs.Alike.{ReadsAs}
 use Rattle.sg_space.specs.declared.space.SpaceFault.{SpaceFault}
-use Rattle.sg_shown.specs.Shown.{over, lent, basis, opened_of}
-use Rattle.sg_starting.specs.Starting.{CanResume}
-use Rattle.sg_store.specs.Engine as store
+use Rattle.sg_shown.specs.Shown.{over, lent}
 use Rattle.sg_regained.proofs.Counted.{counts_off, counts_cut, counts_over, near_off, near_over}
 use Rattle.sg_regained.proofs.Regained.{leads_off, regained_by, means_now, takes_off, taken_off, reads, none_read_of, long_same, wide_same, broken_then, on_ok_at, found_with, can_found}
 use Rattle.sg_regained.proofs.Taking.{took_then, took_stopped}

@@ -1,7 +1,6 @@
-use Rattle.std.proofs.Common.{◌≡◌, ◌++◌, ◌∙◌, sym, ap, subst}
+use Rattle.std.proofs.Common.{◌++◌, ◌∙◌, ap}
 use Rattle.std.specs.Prelude.{replicate}
 use Rattle.sg_actions.specs.Ending.{vacant}
-use Rattle.sg_actions.specs.declared.rows.Row.{Row}
 use Rattle.sg_regained.proofs.Spared.{said_as}
 use Rattle.sg_regained.proofs.sparing.with_spare.Goals as goal
 
