@@ -64,10 +64,10 @@ losers_are rs losers said same is =
 
 -- A STORE WAS FOUND: the engine over the pages was opened of an image that stands for these objects, with the steps of its log, all of them durable
 module _ (t : Table) (c : Image) (m : Objects) (h : ImageStandsFor t c m) where
-  abbrev z : Sizes
+  abbrev pub z : Sizes
   z = sizes_in c
 
-  abbrev q : IsStoreOf t z c
+  abbrev pub q : IsStoreOf t z c
   q = standing_is t z c m h
 
   -- the pages and bands from which its records lead

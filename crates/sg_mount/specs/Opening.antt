@@ -30,9 +30,7 @@ use Rattle.sg_model.specs.Objects.{Objects}
 use Rattle.sg_reading.specs.Reading.{Reading}
 use Rattle.sg_recovery.specs.Log.{tally}
 use Rattle.sg_recovery.specs.Stands.{StandsFor as LogStands, all_off, settled}
-use Rattle.sg_phys_laws.specs.Recovers.{origin_of, records_in, super_in, RecoversBy}
-use Rattle.sg_phys_laws.specs.States.{steps_of}
-use Rattle.sg_resumed.specs.Taking.{BeginsWithin}
+use Rattle.sg_phys_laws.specs.Recovers.{super_in, RecoversBy}
 use Rattle.sg_store.specs.declared.engine.Engine.{Ghosts}
 use Rattle.sg_store.specs.declared.store.Store as code_store
 use Rattle.sg_store.specs.Engine.{AskedBy, LOG_END, Sizes, Shown, led}
@@ -52,16 +50,10 @@ sizes_in c = sizes_of (super_in c)
 abbrev pub ImageStandsFor : Table → Image → Objects → Type 0
 ImageStandsFor t c m = StandsFor t (ground_of_sizes (sizes_in c)) c m
 
--- AN ACTION OF THE SYSTEM that the log of an image has without an end BEGAN IN THE LOG: what was cut away of it has none of the action's records
-abbrev pub HasItsActions : Table → Image → Type 0
-HasItsActions t c = BeginsWithin (super_in c).base (steps_of (records_in (origin_of t c) c)) 0
-
--- WHAT IS PRESUMED OF AN IMAGE from which a store is opened: it stands for some objects, and no action of the system without an end began before
--- its log
+-- WHAT IS PRESUMED OF AN IMAGE from which a store is opened: it stands for some objects
 pub record CanBeOpened (t : Table) (c : Image) : Type 0 where
   pub objects : Objects
   pub stands : ImageStandsFor t c objects
-  pub begins : HasItsActions t c
 
 -- WHAT IS ASKED OF A CALLER that opens a store: where the disk tells and what is presumed of it holds, that is so of the image that reads give.
 -- Of any other disk nothing is asked

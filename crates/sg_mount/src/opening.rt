@@ -70,7 +70,7 @@ fn unmounted<D: Presumed>(pages: Phys<D>) -> Unmounted<D>
 /// Finds the store of a disk: opens its page engine, as one over which actions are done.
 ///
 /// Where the disk tells, and what is presumed of it holds, the image that reads give stands for some
-/// objects, and no action of the system that its log has without an end began before the log: nothing else is asked. On any other disk it is safe, returns, and says why it refused. A refusal hands
+/// objects: nothing else is asked. On any other disk it is safe, returns, and says why it refused. A refusal hands
 /// the disk back, as opening left it.
 pub fn find_store<D: Presumed, L: Ledger>(
     alloc: Global,
@@ -113,7 +113,7 @@ pub fn find_store<D: Presumed, L: Ledger>(
 /// freed.
 ///
 /// Where the disk tells, and what is presumed of it holds, the image that reads give stands for some
-/// objects, and no action of the system that its log has without an end began before the log: nothing else is asked. The store has these objects then, and each image that a crash leaves,
+/// objects: nothing else is asked. The store has these objects then, and each image that a crash leaves,
 /// once all areas had been synced, stands for them, also where opening is stopped. On any other disk it is safe,
 /// returns, and says why it refused. A refusal hands the disk back, as opening left it.
 pub fn open_store<D: Presumed, L: Ledger>(

@@ -20,7 +20,6 @@ use Rattle.sg_phys_laws.specs.States.{steps_of}
 use Rattle.sg_recovery.specs.Chains.{next_lsn}
 use Rattle.sg_recovery.specs.Formed.{IsLog}
 use Rattle.sg_recovery.specs.Log.{tally}
-use Rattle.sg_resumed.specs.Taking.{BeginsWithin}
 use Rattle.sg_shown.specs.Shown.{Finds, lent, over}
 use Rattle.sg_starting.specs.Starting.{oldest_first}
 use Rattle.sg_mount.specs.Making.{sizes_of}
@@ -64,13 +63,6 @@ found-requires-clause-based g c tells = c.in-Ok.ensures.based tells.tells.0 tell
 
 pub found-requires-clause-start : goal.found-requires-clause-start
 found-requires-clause-start g c tells = c.in-Ok.ensures.first_byte tells.tells.0 tells.tells.1
-
-pub found-requires-clause-begins : goal.found-requires-clause-begins
-found-requires-clause-begins g c tells =
-    let i = reads (g.D.Disk.view c.args.disk) in
-    let can = c.requires.stands tells.tells.0 tells.tells.1 in
-    subst (λ (n : ℕ). BeginsWithin n (seen g.D.Disk.told g.D.Presumed.presumed g.D.Disk.view c.in-Ok.field-0.pages).steps 0) (sym c.in-Ok.ensures.base)
-    (subst (λ (rs : Steps). BeginsWithin (super_in i).base rs 0) (sym (c.in-Ok.ensures.steps tells.tells.0 tells.tells.1)) can.begins)
 
 pub found-requires-clause-within : goal.found-requires-clause-within
 found-requires-clause-within g c tells = (let e = c.in-Ok.ensures.extent tells.tells.0 tells.tells.1 in (omega (arith, e.0), omega (arith, e.1)))
