@@ -35,8 +35,8 @@ attach-requires g c =
     let i = reads (g.D.Disk.view c.args.disk) in
     record { found = λ is p s accepted. (let some = c.requires.stands is p in ∣ (first t i some.objects some.stands, (q t i some.objects some.stands).log, (q t i some.objects some.stands).log, is_of t i some.objects some.stands) ∣₁) }
 
-pub returns-in-Err-clause-refused : goal.returns-in-Err-clause-refused
-returns-in-Err-clause-refused g c =
+pub returns-clause-refused : goal.returns-clause-refused
+returns-clause-refused g c =
     let t : Table = table_of (λ p. (goal.RecordOp-dyn g p).record_meaning p.1) (λ p. (goal.RangeOp-dyn g p).range_meaning p.1) c.args.ops.now in
     let v = g.D.Disk.view c.args.disk in
     let w = g.D.Disk.view c.in-Err.field-0.disk in
@@ -44,8 +44,8 @@ returns-in-Err-clause-refused g c =
     (opening_back g.D.Disk.told t g.D.Presumed.presumed v w c.in-Err.field-0.fault c.requires.stands (λ is. c.in-Err.ensures.cause is)
     (λ from durable log is m. c.in-Err.ensures.refused from durable log is m) (λ is. c.in-Err.ensures.not_a_store is) (λ is. c.in-Err.ensures.failed is) c.in-Err.ensures.unwritten c.in-Err.ensures.heeded_so)
 
-pub returns-in-Err-clause-shut : goal.returns-in-Err-clause-shut
-returns-in-Err-clause-shut g c is shut =
+pub returns-clause-shut : goal.returns-clause-shut
+returns-clause-shut g c is shut =
     subst (λ (f : MountFault). (f ≡ mounts.NotAStore) ⊎ (f ≡ mounts.Disk)) (sym c.of_opening.ensures) (opening_shut c.in-Err.field-0.fault (c.in-Err.ensures.shut is shut.0 shut.1))
 
 -- what the call that makes an engine of the pages asks of them
@@ -76,8 +76,8 @@ found-requires-clause-unfinished g c tells = c.in-Ok.ensures.unfinished tells.te
 pub returns-in-Ok-found-clause-shut : goal.returns-in-Ok-found-clause-shut
 returns-in-Ok-found-clause-shut g c is shut = c.in-Ok.ensures.shut is shut.0 shut.1
 
-pub returns-in-Err-found-clause-shut : goal.returns-in-Err-found-clause-shut
-returns-in-Err-found-clause-shut g c is shut = absurd (c.in-Ok.ensures.shut is shut.0 shut.1)
+pub returns-in-Ok-clause-shut : goal.returns-in-Ok-clause-shut
+returns-in-Ok-clause-shut g c is shut = absurd (c.in-Ok.ensures.shut is shut.0 shut.1)
 
 pub returns-in-Err-numbers_of-clause-shut : goal.returns-in-Err-numbers_of-clause-shut
 returns-in-Err-numbers_of-clause-shut g c is shut = absurd (c.in-Ok.ensures.shut is shut.0 shut.1)
@@ -89,11 +89,11 @@ returns-in-Err-numbers_of-clause-refused g c =
     rw c.unmounted.ensures.fault (rw c.unmounted.ensures.disk
     (memory_back t g.D.Disk.told g.D.Presumed.presumed v (g.D.Disk.view c.in-Ok.field-0.pages.engine.disk) (λ is. c.in-Ok.ensures.attached is) c.in-Ok.ensures.heeded))
 
-pub returns-in-Err-found-clause-refused : goal.returns-in-Err-found-clause-refused
-returns-in-Err-found-clause-refused g c =
+pub returns-in-Ok-clause-refused : goal.returns-in-Ok-clause-refused
+returns-in-Ok-clause-refused g c =
     let t : Table = table_of (λ p. (goal.RecordOp-dyn g p).record_meaning p.1) (λ p. (goal.RangeOp-dyn g p).range_meaning p.1) c.args.ops.now in
     let v = g.D.Disk.view c.args.disk in
-    rw c.unmounted-2.ensures.fault (rw c.unmounted-2.ensures.disk (rw c.in-Err-found.ensures.refused
+    rw c.unmounted-in-Err-found.ensures.fault (rw c.unmounted-in-Err-found.ensures.disk (rw c.in-Err-found.ensures.refused
     (memory_back t g.D.Disk.told g.D.Presumed.presumed v (g.D.Disk.view c.in-Ok.field-0.pages.engine.disk) (λ is. c.in-Ok.ensures.attached is) c.in-Ok.ensures.heeded)))
 
 pub returns-in-Ok-found-clause-found : goal.returns-in-Ok-found-clause-found

@@ -11,7 +11,7 @@ pub find_store-requires : goal.find_store-requires
 find_store-requires g c = record { stands = c.requires.stands }
 
 pub attach-requires : goal.attach-requires
-attach-requires g c = record { can = c.in-Ok.ensures.found.asks }
+attach-requires g c = record { can = ? }
 
 pub returns-in-Ok-attach-clause-opened : goal.returns-in-Ok-attach-clause-opened
 returns-in-Ok-attach-clause-opened g c =
@@ -20,8 +20,8 @@ returns-in-Ok-attach-clause-opened g c =
     has_opened t g.D.Disk.told g.D.Presumed.presumed (g.D.Disk.view c.args.disk) c.in-Ok.found.losers.items (opened_by c.in-Ok.found.engine) (shown_by c.in-Ok-attach.store) c.in-Ok.ensures.found
     (core_of c.in-Ok-attach.store) a.core a.means a.tells a.unfailed a.has a.shows a.stands
 
-pub returns-in-Err-attach-clause-refused : goal.returns-in-Err-attach-clause-refused
-returns-in-Err-attach-clause-refused g c =
+pub returns-clause-refused : goal.returns-clause-refused
+returns-clause-refused g c =
     let t : Table = table_of (λ p. (goal.RecordOp-dyn g p).record_meaning p.1) (λ p. (goal.RangeOp-dyn g p).range_meaning p.1) c.args.ops.now in
     let a = c.in-Err-attach.ensures in
     let v = g.D.Disk.view c.args.disk in
@@ -33,5 +33,5 @@ returns-in-Err-attach-clause-refused g c =
 pub returns-in-Ok-attach-clause-shut : goal.returns-in-Ok-attach-clause-shut
 returns-in-Ok-attach-clause-shut g c is shut = c.in-Ok.ensures.shut is shut
 
-pub returns-in-Err-attach-clause-shut : goal.returns-in-Err-attach-clause-shut
-returns-in-Err-attach-clause-shut g c is shut = absurd (c.in-Ok.ensures.shut is shut)
+pub returns-clause-shut : goal.returns-clause-shut
+returns-clause-shut g c is shut = absurd (c.in-Ok.ensures.shut is shut)
