@@ -30,6 +30,11 @@ use Rattle.sg_mount.specs.declared.fault.MountFault.TheVariants as mounts
 use Rattle.sg_mount.proofs.Found.{if_broken, split_more, start_cause, start_disk, start_no_store, start_other, start_unwritten}
 use Rattle.sg_mount.proofs.Standing.{stands_own}
 
+-- A STORE WAS FOUND with losers that stand in another list
+pub found_with : (t : Table) (told : Bool) (presumed : Type 0) (v : DiskView) (e : Shown (basis RecoversBy)) (losers others : List TxnId) → others ≡ losers
+    → IsFoundOn t told presumed v losers e → IsFoundOn t told presumed v others e
+found_with t told presumed v e losers others same f = subst (λ (l : List TxnId). IsFoundOn t told presumed v l e) (sym same) f
+
 -- the log's end is shown by bytes through one call and then another
 pub shown_then : (u v w : DiskView) (a b c : ℕ) → v.handed ≤ w.handed → IsShownEnd u v a b → IsShownEnd v w b c → IsShownEnd u w a c
 shown_then u v w a b c more (inl full) second = inl (omega arith)
