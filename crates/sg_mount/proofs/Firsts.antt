@@ -1,5 +1,5 @@
 -- The first of each pair, as far as a place.
-use Rattle.std.proofs.Common.{◌≡◌, ℕ, zero, suc, ◌+◌, List, [], ◌∷◌, ◌++◌, map, take, Option, Some, None, slice_get, refl, sym, ap, ◌∙◌, subst, add-one}
+use Rattle.std.proofs.Common.{◌≡◌, ℕ, zero, suc, ◌+◌, List, [], ◌∷◌, ◌++◌, map, take, Option, Some, None, slice_get, ap, add-one}
 
 -- the first of each pair
 abbrev pub firsts_of : List (ℕ × ℕ) → List ℕ

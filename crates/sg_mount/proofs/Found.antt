@@ -1,24 +1,23 @@
 -- What a store that was found shows, and why one is refused.
-use Rattle.std.proofs.Common.{◌≡◌, ◌⊎◌, ⊎_elim, ◌≤◌, ◌+◌, ◌==◌, ℕ, Bool, true, false, cond, IsTrue, List, [], ◌∷◌, ◌++◌, map, Ok, inl, inr, refl, sym, ap, ◌∙◌, subst}
+use Rattle.std.proofs.Common.{◌≡◌, ◌⊎◌, ⊎_elim, ◌≤◌, ◌==◌, ℕ, Bool, true, false, IsTrue, List, [], ◌∷◌, ◌++◌, map, inl, inr, refl, sym, ap, ◌∙◌, subst}
 use Rattle.std.specs.Bool.{OnFalse}
 use Rattle.std.specs.Prelude.{if◌then◌else◌}
 use Rattle.std.proofs.Props.{props}
-use mathlib.Core.Logic.{∥∥₁_elim, ∥∥₁_prop}
+use mathlib.Core.Logic.{∥∥₁_elim}
 use Rattle.sg_base.specs.declared.area.Area.{Area}
 use Rattle.sg_base.specs.declared.area.Area.TheVariants.{Home, Log0, Log1}
 use Rattle.sg_base.specs.declared.numbers.TxnId.{TxnId}
 use Rattle.sg_disk.specs.Accounts.{IsShownEnd}
-use Rattle.sg_disk.specs.Disk.{Image, Leaves, LeavesOnly, View as DiskView}
+use Rattle.sg_disk.specs.Disk.{Image, View as DiskView}
 use Rattle.sg_disk.proofs.Moments.{weaker}
 use Rattle.sg_gate.specs.declared.superblock.Super.{Super}
 use Rattle.sg_analysis.specs.Analysis as analysis
-use Rattle.sg_engine.specs.Engine.{Origin, log_area}
+use Rattle.sg_engine.specs.Engine.{log_area}
 use Rattle.sg_base.specs.Ends.{HasRisen}
 use Rattle.sg_find.specs.Faults.{is_disk}
 use Rattle.sg_find.specs.Synced.{IsUnsynced, SplitsAtSync, reads}
 use Rattle.sg_find.specs.declared.fault.OpenFault.{OpenFault}
 use Rattle.sg_find.specs.declared.fault.OpenFault.TheVariants as opens
-use Rattle.sg_log.specs.Frames.{Numbered}
 use Rattle.sg_open.specs.Refusals.{IsCause, IsLateCause, IsUnwrittenAt, StoreRefused}
 use Rattle.sg_ops.specs.Table.{Table}
 use Rattle.sg_action.specs.States.{State}
@@ -40,11 +39,11 @@ use Rattle.sg_starting.specs.declared.opening.StartFault.{StartFault}
 use Rattle.sg_starting.specs.declared.opening.StartFault.TheVariants as starts
 use Rattle.sg_starting.proofs.Finding.{losers_cover, losers_live, losers_apart}
 use Rattle.sg_store.proofs.Counting.{live_distinct}
-use Rattle.sg_store.specs.Engine.{AskedBy, Shown, Sizes, led}
+use Rattle.sg_store.specs.Engine.{AskedBy, Shown, Sizes}
 use Rattle.sg_store.specs.Stands.{StandsFor}
 use Rattle.sg_mount.specs.Making.{ground_of_sizes}
 use Rattle.sg_attach.specs.Ended.{end_in}
-use Rattle.sg_mount.specs.Opening.{AreShut, StandsAsPresumed, HasFound, IsFoundOn, IsHandedBack, ImageStandsFor, IsInHome, IsMountCause, IsStoreOf, IsUnwritten, KeepsStanding, of_opening, of_start, sizes_in}
+use Rattle.sg_mount.specs.Opening.{AreShut, StandsAsPresumed, HasFound, IsFoundOn, IsHandedBack, ImageStandsFor, IsMountCause, IsStoreOf, IsUnwritten, KeepsStanding, of_opening, of_start, sizes_in}
 use Rattle.sg_mount.specs.declared.fault.MountFault.TheVariants as mounts
 use Rattle.sg_mount.proofs.Standing.{found, from, from_sized, image, image_stands, log_stands, opened, standing_is, stands_own}
 

@@ -1,13 +1,12 @@
 -- From an engine that was found to a store that has started, or to a disk that is handed back.
-use Rattle.std.proofs.Common.{◌≡◌, ◌⊎◌, ⊎_elim, ◌+◌, ◌<◌, ◌≤◌, ℕ, Bool, IsTrue, List, [], None, Err, arith, inl, inr, refl, sym, ap, ◌∙◌, subst}
+use Rattle.std.proofs.Common.{◌≡◌, ◌+◌, ◌<◌, ◌≤◌, ℕ, Bool, IsTrue, List, [], None, Err, arith, inl, inr, sym, ◌∙◌, subst}
 use Rattle.sg_base.specs.Ends.{HasRisen}
 use Rattle.sg_base.specs.declared.numbers.TxnId.{TxnId}
 use Rattle.sg_disk.specs.Accounts.{IsShownEnd}
-use Rattle.sg_disk.specs.Disk.{Image, LeavesOnly, View as DiskView}
+use Rattle.sg_disk.specs.Disk.{View as DiskView}
 use Rattle.sg_disk.proofs.Moments.{joined, weaker}
-use Rattle.sg_find.specs.Synced.{IsUnsynced, SplitsAtSync, reads}
+use Rattle.sg_find.specs.Synced.{SplitsAtSync, reads}
 use Rattle.sg_ops.specs.Table.{Table}
-use Rattle.sg_action.specs.States.{State}
 use Rattle.sg_model.specs.Objects.{Objects}
 use Rattle.sg_phys_laws.specs.Recovers.{RecoversBy}
 use Rattle.sg_recovery.specs.Log.{tally}
@@ -19,7 +18,7 @@ use Rattle.sg_starting.specs.Starting.{AllStandFor, AreBuried, AreLosers, IfBrok
 use Rattle.sg_starting.specs.declared.opening.StartFault.{StartFault}
 use Rattle.sg_starting.specs.declared.opening.StartFault.TheVariants as starts
 use Rattle.sg_store.specs.Accounting.{AccountsFor, Unfailed}
-use Rattle.sg_store.specs.Engine.{AsMeantBy, KeepsBy, LOG_END, Shown, Sizes, View, led}
+use Rattle.sg_store.specs.Engine.{AsMeantBy, KeepsBy, LOG_END, Shown, View, led}
 use Rattle.sg_store.specs.Ground.{Ground, IsLawful, setting}
 use Rattle.sg_store.specs.Rests.{HasObjects}
 use Rattle.sg_store.specs.Store.{Core, Shows}

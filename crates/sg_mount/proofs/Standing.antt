@@ -1,13 +1,11 @@
 -- What an image of a store stands for, and that what was opened of it can be started.
-use Rattle.std.proofs.Common.{◌≡◌, ◌≤◌, ℕ, List, [], Option, Some, Ok, Err, refl, sym, ap, ◌∙◌, subst}
-use Rattle.sg_disk.specs.Disk.{Image, Leaves}
+use Rattle.std.proofs.Common.{◌≡◌, ◌≤◌, List, [], Some, refl, sym, ap, ◌∙◌, subst}
+use Rattle.sg_disk.specs.Disk.{Image}
 use Rattle.std.specs.FinMap.{empty}
-use Rattle.sg_gate.specs.declared.fault.GateFault.TheVariants as gates
 use Rattle.sg_gate.specs.declared.superblock.Super.{Super}
 use Rattle.sg_ops.specs.Table.{Table}
 use Rattle.sg_action.specs.States.{Extent, State}
-use Rattle.sg_actions.specs.Engine.{EngineSeen, StandsNow, led as led_engine}
-use Rattle.sg_actions.specs.Images.{Grows, IsImageOf as IsEngineImage}
+use Rattle.sg_actions.specs.Engine.{StandsNow, led as led_engine}
 use Rattle.sg_actions.specs.Steps.{Steps, repeated}
 use Rattle.sg_actions.proofs.Sized.{repeated_sized}
 use Rattle.sg_attach.specs.Attached.{IsStoreImage}
@@ -25,8 +23,8 @@ use Rattle.sg_recovery.proofs.Basic.{then_some}
 use Rattle.sg_recovery.specs.Setting.{Setting}
 use Rattle.sg_recovery.specs.Stands.{HasPages, StandsFor as LogStands, all_off, all_undone, made, settled, stands_at}
 use Rattle.sg_shown.proofs.History.{grows_is, image_is, made_is}
-use Rattle.sg_shown.specs.Shown.{Over, RecoversSized, basis, extent_of, opened_of}
-use Rattle.sg_starting.specs.Starting.{CanResume, IsFound, IsOpened, IsRead}
+use Rattle.sg_shown.specs.Shown.{Over, RecoversSized, extent_of, opened_of}
+use Rattle.sg_starting.specs.Starting.{IsFound, IsOpened, IsRead}
 use Rattle.sg_store.specs.Engine.{Sizes, View, led}
 use Rattle.sg_store.specs.Ground.{Ground, setting}
 use Rattle.sg_store.specs.Stands.{StandsFor}

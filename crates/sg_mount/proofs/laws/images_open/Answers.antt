@@ -1,5 +1,3 @@
-use Rattle.std.proofs.Common.{⊎_elim, sym, subst}
-use Rattle.sg_disk.specs.Disk.{Image}
 use Rattle.sg_ground.proofs.Collections.{one_collection}
 use Rattle.sg_phys_laws.specs.Recovers.{RecoversBy}
 use Rattle.sg_shown.specs.Shown.{basis_at}

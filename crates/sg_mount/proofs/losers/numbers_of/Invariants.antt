@@ -1,4 +1,4 @@
-use Rattle.std.proofs.Common.{◌≡◌, ℕ, map, take, length, List}
+use Rattle.std.proofs.Common.{◌≡◌, ℕ, map, take}
 use Rattle.sg_base.specs.declared.numbers.TxnId.{TxnId as Number}
 use Rattle.sg_mount.proofs.losers.numbers_of.Given as goal
 

@@ -1,7 +1,5 @@
-use Rattle.std.proofs.Common.{◌<◌, arith, ◌≡◌, ◌⊎◌, ⊎_elim, ◌≤◌, ℕ, IsTrue, List, Result, Ok, Err, IfOk, IfErr, map, refl, sym, ap, ◌∙◌, subst, inl, inr}
-use Rattle.std.specs.Prelude.{MatchResult}
+use Rattle.std.proofs.Common.{◌<◌, arith, ◌≡◌, ◌⊎◌, ◌≤◌, ℕ, IsTrue, map, refl, sym, ap, subst}
 use Rattle.sg_base.specs.declared.numbers.TxnId.{TxnId}
-use Rattle.sg_action.specs.States.{State}
 use Rattle.sg_actions.specs.Steps.{Steps}
 use Rattle.sg_attach.proofs.Analysed.{accepted_super}
 use Rattle.sg_attach.specs.Attached.{IsAttaching}
@@ -12,18 +10,16 @@ use Rattle.sg_alloc.specs.Flags.{map_bands_of}
 use Rattle.sg_gate.proofs.Fields.{in_range}
 use Rattle.sg_gate.specs.Superblock.{map_bands}
 use Rattle.sg_gate.specs.declared.superblock.Super.{Super}
-use Rattle.sg_model.specs.Objects.{Objects}
 use Rattle.sg_ops.specs.Table.{Table, table_of}
-use Rattle.sg_pages.specs.Parts.{seen, stands}
-use Rattle.sg_phys_laws.specs.Recovers.{origin_of, records_in, super_in}
+use Rattle.sg_pages.specs.Parts.{seen}
+use Rattle.sg_phys_laws.specs.Recovers.{origin_of, records_in}
 use Rattle.sg_phys_laws.specs.States.{steps_of}
 use Rattle.sg_recovery.specs.Chains.{next_lsn}
 use Rattle.sg_recovery.specs.Formed.{IsLog}
 use Rattle.sg_recovery.specs.Log.{tally}
-use Rattle.sg_shown.specs.Shown.{Finds, lent, over}
+use Rattle.sg_shown.specs.Shown.{lent, over}
 use Rattle.sg_starting.specs.Starting.{oldest_first}
-use Rattle.sg_mount.specs.Making.{sizes_of}
-use Rattle.sg_mount.specs.Opening.{ImageStandsFor, IsHandedBack, sizes_in}
+use Rattle.sg_mount.specs.Opening.{IsHandedBack, sizes_in}
 use Rattle.sg_mount.specs.declared.fault.MountFault.{MountFault}
 use Rattle.sg_mount.specs.declared.fault.MountFault.TheVariants as mounts
 use Rattle.sg_mount.proofs.Found.{first, first_sized, found_on, is_of, losers_are, memory_back, opening_back, opening_shut, q}

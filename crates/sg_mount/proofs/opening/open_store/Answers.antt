@@ -1,7 +1,6 @@
-use Rattle.std.proofs.Common.{◌≡◌, ◌⊎◌, List, Result, sym, subst}
+use Rattle.std.proofs.Common.{List, sym, subst}
 use Rattle.sg_base.specs.declared.numbers.TxnId.{TxnId}
 use Rattle.sg_shown.specs.Shown.{shown}
-use Rattle.std.specs.Prelude.{MatchResult}
 use Rattle.sg_ops.specs.Table.{Table, table_of}
 use Rattle.sg_store.specs.Seen.{core_of}
 use Rattle.sg_mount.specs.Opening.{IsHandedBack, opened_by, shown_by}
