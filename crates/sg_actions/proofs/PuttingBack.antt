@@ -339,14 +339,16 @@ can_act {base} {rs} {tail} {unfreed} {rows} {actor} {txn} {stop} h = record { re
 
 -- AN UNDO HAS BEGUN
 pub undo_begun : (outside : ℕ) (t : Table) (limits : State → ℕ → ℕ) (e e1 e' : EngineView) (maps unfreed : Maps) (rows : List Row) (actor mid actor' : Actor) (txn stop : ℕ) (note : List ℕ) (f : Found) → (told' : e'.Told) → IsUndoable e.base e.steps e.tail unfreed rows actor txn stop → (h : HasFound e.steps txn stop note f)
-    → HasStayed e e1 → (e1.Told → e.Told) → NowActs t limits e1 maps rows actor mid txn → GoesOn e1 e' rows mid actor' → HasPutBack t e1 e' mid.txn.0 (put_by outside note h.n.changes (now_of t e1)) → UndoBegun outside t e e' rows actor' txn stop note f.undo_next
-undo_begun outside t limits e e1 e' maps unfreed rows actor mid actor' txn stop note f told' u h s back a g p = record {
+    → HasStayed e e1 → (e1.Told → e.Told) → NowActs t limits e1 maps rows actor mid txn → GoesOn e1 e' rows mid actor' → HasPutBack t e1 e' mid.txn.0 (put_by outside note h.n.changes (now_of t e1))
+    → (is_of_bytes note ≡ false → e'.steps ≡ e1.steps) → UndoBegun outside t e e' rows actor' txn stop note f.undo_next
+undo_begun outside t limits e e1 e' maps unfreed rows actor mid actor' txn stop note f told' u h s back a g p still = record {
   n = h.n;
   is_next = h.next;
   note_is = h.note_is;
   goes_on = h.undo_next;
   acts = ap (λ (x : TxnId). x.0) g.who ∙ is;
   puts = puts;
+  still = λ no. still no ∙ (s.stays told).steps;
   notes = ap (λ (rs : Steps). (tally rs).notes) puts.steps ∙ notes_made txn puts.made e.steps puts.are;
   chain = g.chain told1 (a.chain told1 ((goes_stays rows actor s back).chain told u.chain));
 }
@@ -404,12 +406,13 @@ begun_those outside t limits e e1 e' maps unfreed rows actor mid actor' txn stop
     let same : changes_of (hopped mid.txn.0 f.prev found.hops) ≡ found.n.changes = ap (λ (n : ℕ). changes_of (hopped n f.prev found.hops)) (a.is told1) ∙ found.changes in
     undo_begun outside t limits e e1 e' maps unfreed rows actor mid actor' txn stop note f told' (u (back told1)) found s back a p.goes
     (put_those outside t e1 e' mid.txn.0 note (changes_of (hopped mid.txn.0 f.prev found.hops)) found.n.changes so same (p.all told1 (a.chain told1 ((goes_stays rows actor s back).chain (back told1) (u (back told1)).chain)) found.hops leads))
+    (λ no. absurd (let both : true ≡ false = sym so ∙ no in cc))
 
 pub begun_no : (outside : ℕ) (t : Table) (limits : State → ℕ → ℕ) (e e1 : EngineView) (maps unfreed : Maps) (rows : List Row) (actor mid : Actor) (txn stop : ℕ) (note : List ℕ) (f : Found) → (e.Told → IsUndoable e.base e.steps e.tail unfreed rows actor txn stop) → (e.Told → HasFound e.steps txn stop note f)
     → HasStayed e e1 → (e1.Told → e.Told) → NowActs t limits e1 maps rows actor mid txn → is_of_bytes note ≡ false → e1.Told → UndoBegun outside t e e1 rows mid txn stop note f.undo_next
 begun_no outside t limits e e1 maps unfreed rows actor mid txn stop note f u h s back a not_so told1 =
     let found = h (back told1) in
-    undo_begun outside t limits e e1 e1 maps unfreed rows actor mid mid txn stop note f told1 (u (back told1)) found s back a (goes_same e1 rows mid) (put_no outside t e1 mid.txn.0 note found.n.changes not_so)
+    undo_begun outside t limits e e1 e1 maps unfreed rows actor mid mid txn stop note f told1 (u (back told1)) found s back a (goes_same e1 rows mid) (put_no outside t e1 mid.txn.0 note found.n.changes not_so) (λ no. refl)
 
 pub found_is : (e : EngineView) {txn stop : ℕ} {note : List ℕ} {o : Option Found} {f : Found} → o ≡ Some f → (e.Told → FindsNote e.steps txn stop note o) → e.Told → HasFound e.steps txn stop note f
 found_is e {txn} {stop} {note} {o} {f} is h told = subst (λ (p : Option Found). FindsNote e.steps txn stop note p) is (h told)

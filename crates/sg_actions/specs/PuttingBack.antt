@@ -1,5 +1,5 @@
 -- The undo of a note: the bytes that stood where its changes wrote into bands come back, as changes of who acts.
-use Rattle.std.specs.Prelude.{◌≡◌, ℕ, ◌<◌, List, ◌++◌, Option, Some, None, option_map}
+use Rattle.std.specs.Prelude.{◌≡◌, ℕ, ◌<◌, false, List, ◌++◌, Option, Some, None, option_map}
 use Rattle.sg_alloc.specs.declared.maps.Maps.{Maps}
 use Rattle.sg_ops.specs.Table.{Table}
 use Rattle.sg_action.specs.States.{State}
@@ -19,7 +19,7 @@ use Rattle.sg_actions.specs.Images.{Grows, Recovering}
 use Rattle.sg_actions.specs.Later.{AreChanges}
 use Rattle.sg_actions.specs.Offed.{kept_in}
 use Rattle.sg_actions.specs.Steps.{Steps, step_at, begin_of}
-use Rattle.sg_actions.specs.Undoing.{Hop, Stood, hop_in, hopped, Leads, with_stood, given_by, all_given_back, put_by, next_note}
+use Rattle.sg_actions.specs.Undoing.{Hop, Stood, hop_in, hopped, Leads, with_stood, given_by, all_given_back, put_by, next_note, is_of_bytes}
 use Rattle.sg_actions.specs.View.{IsKept}
 use Rattle.sg_actions.specs.declared.rows.Actor.{Actor}
 use Rattle.sg_actions.specs.declared.rows.Row.{Row}
@@ -51,6 +51,8 @@ pub record UndoBegun (outside : ℕ) (t : Table) (e e' : EngineView) (rows : Lis
   pub goes_on : n.undo_next ≡ next
   pub acts : actor'.txn.0 ≡ txn
   pub puts : HasPutBack t e e' txn (put_by outside note n.changes (now_of t e))
+  -- where the note is none of bytes nothing was logged
+  pub still : is_of_bytes note ≡ false → e'.steps ≡ e.steps
   pub notes : (tally e'.steps).notes ≡ (tally e.steps).notes
   pub chain : IsChained e'.base e'.steps e'.tail rows actor'
 

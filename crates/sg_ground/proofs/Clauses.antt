@@ -405,7 +405,7 @@ module _ (b : Basis) where
         possible = p.1;
         plain = λ other. (
           (let found : found_of (map_bands_of b.pages b.bands) (note_said n.note) n.changes ≡ [] = bytes_plain (note_said n.note).undoes cs other in
-              let back : PutsBack [] a.pages (pages_of t (ground_of b) v) = subst (λ (f : List Before). PutsBack f a.pages (pages_of t (ground_of b) v)) found can.back in
+              let back : PutsBack [] a.pages (pages_of t (ground_of b) v) = subst (λ (f : List Before). PutsBack f a.pages (pages_of t (ground_of b) v)) found can.back.puts in
               let same : pages_of t (ground_of b) v ≡ a.pages = λ i. record { size = back.size i; pages = back.pages i; bands = λ k. back.bands k i } in
               ap (ground_of b).reading same ∙ can.reads),
           sym (back_plain t (note_said n.note).undoes cs (slot o (note_said n.note).name) other) ∙ p.1,
@@ -425,13 +425,13 @@ module _ (b : Basis) where
       record {
         contents = m.0;
         reads = space_reads (with_bands space a.pages.bands) a.pages m.0 r (record {
-          pages = λ p i. has.pages p i ∙ ap (λ (f : ℕ → Option Sheet). f p) can.back.pages;
+          pages = λ p i. has.pages p i ∙ ap (λ (f : ℕ → Option Sheet). f p) can.back.puts.pages;
           bands = λ k i. ap (λ (o : Option (List ℕ)). option_map (λ _. a.pages.bands k) o) (has.bands k i);
           map = λ k less e. has.map k less (none_back (a.pages.bands k) (space.bands.at k) e);
         });
         same = m.2;
         put_back = λ k bytes e. (let z = some_there (a.pages.bands k) (space.bands.at k) bytes e in
-            sym (shows.part.bands k z.0) ∙ ap (λ (xs : List ℕ). Some xs) (can.back.bands k ∙ ap (λ (xs : List ℕ). put_on (found_of (map_bands_of b.pages b.bands) (note_said n.note) n.changes) k xs) z.1));
+            sym (shows.part.bands k z.0) ∙ ap (λ (xs : List ℕ). Some xs) (can.back.puts.bands k ∙ ap (λ (xs : List ℕ). put_on (found_of (map_bands_of b.pages b.bands) (note_said n.note) n.changes) k xs) z.1));
         none = λ k e. none_back (a.pages.bands k) (space.bands.at k) e;
       }
 

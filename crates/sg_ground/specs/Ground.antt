@@ -12,6 +12,7 @@ use Rattle.sg_model.specs.Verb.{Op}
 use Rattle.sg_model.specs.Verb.Op.{On, Names}
 use Rattle.sg_record.specs.Changes.{Change}
 use Rattle.sg_recovery.specs.Cells.{After}
+use Rattle.sg_recovery.specs.Log.{Open}
 use Rattle.sg_reading.specs.Reading.{Tomb, Reading, objects, at, Le}
 use Rattle.sg_reading.specs.Left.{tomb_cell}
 use Rattle.sg_model.specs.Touches.{Resource}
@@ -30,6 +31,7 @@ use Rattle.sg_store.specs.Ground.{Ground, Needs}
 use Rattle.sg_reader.specs.Alike.{IsAlike}
 use Rattle.sg_reader.specs.Reader.{Reader}
 use Rattle.sg_actions.specs.Changes.{meaning, comp_of}
+use Rattle.sg_actions.specs.Undoing.{is_of_bytes}
 use Rattle.sg_ground.specs.Recovers.{Recovering}
 
 -- the bytes that some changes found in bands behind the map's, the last first
@@ -73,6 +75,11 @@ pub record PutsBack (found : List Before) (x y : State) : Type 0 where
   pub pages : y.pages ≡ x.pages
   pub bands : (b : ℕ) → y.bands b ≡ put_on found b (x.bands b)
 
+-- WHAT A NOTE ASKS FOR IS BACK: bytes in bands, by open changes, where it is one of bytes. Where it is any other, no change is open
+pub record HasPutBack (found : List Before) (note : List ℕ) (opened : List (Open Change)) (x y : State) : Type 0 where
+  pub puts : PutsBack found x y
+  pub still : is_of_bytes note ≡ false → opened ≡ []
+
 -- WHAT IS BURIED: a tombstone of this dropper, whose place is its own cell
 pub record IsBuried (o : Reading) (by : ℕ) (place : List (Touch Resource)) : Type 0 where
   pub root : ℕ
@@ -108,7 +115,7 @@ ground pages bands reader recovers = record {
   can_undo = λ o n cs w. inside (note_touches o (note_said n)) w;
   needs = λ t. needs;
   note = λ bytes. bytes;
-  PutsBack = λ t n cs x y. PutsBack (found_of (map_bands_of pages bands) (note_said n) cs) x y;
+  PutsBack = λ t n cs os x y. HasPutBack (found_of (map_bands_of pages bands) (note_said n) cs) n os x y;
   Alike = λ y x. (s : Contents) → reader.contents x ≡ Some s → IsAlike s x y;
   Recovers = recovers;
 }

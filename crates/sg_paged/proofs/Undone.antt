@@ -13,6 +13,7 @@ use Rattle.sg_actions.specs.Later as later
 use Rattle.sg_actions.specs.Offed.{kept_in}
 use Rattle.sg_actions.specs.PuttingBack.{MayUndo, UndoBegun}
 use Rattle.sg_actions.specs.Steps.{Step, Steps, repeated}
+use Rattle.sg_actions.specs.Undoing.{is_of_bytes}
 use Rattle.sg_actions.specs.View.{IsKept, HasFreedNone, Since}
 use Rattle.sg_actions.specs.declared.rows.Row.{Row}
 use Rattle.sg_actions.proofs.Given.{next_first}
@@ -21,7 +22,7 @@ use Rattle.sg_reader.proofs.Decide.{reader}
 use Rattle.sg_store.specs.Engine as store
 use Rattle.sg_store.specs.Engine.{Sizes, Action, Changes, Changed, action_of}
 use Rattle.sg_ground.specs.Recovers.{Recovering}
-use Rattle.sg_ground.specs.Ground.{PutsBack, found_of}
+use Rattle.sg_ground.specs.Ground.{PutsBack, HasPutBack, found_of}
 use Rattle.sg_objects.specs.Notes.{note_said}
 use Rattle.sg_shown.specs.Room.{SameRoom}
 use Rattle.sg_shown.specs.Shown.{basis, Over, Means, acting, shown_of, kept_before, begin_before}
@@ -100,11 +101,12 @@ pub undo_begun : (recovers : Recovering) (a m b : Over) (t : Table) (z : Sizes) 
     → m.engine.tail ≤ b.engine.tail → SameRoom a b → b.begun ≡ true
     → act ≡ record { transaction = txn; pages = made (own recovers t z) from a.engine.steps }
     → UndoBegun (map_bands_of (length m.maps.pages) (length m.maps.bands)) t (led from m.engine) (led from b.engine) m.rows b.actor txn txn note next
+    → (tally a.engine.steps).opened ≡ []
     → (n : Top Changing (List ℕ)) × (ns : List (Top Changing (List ℕ))) × (notes_of txn (tally a.engine.steps).notes ≡ n ∷ ns) × (n.undo_next ≡ next) × (note ≡ n.note)
-    × PutsBack (found_of (map_bands_of z.pages z.bands) (note_said n.note) n.changes) act.pages (made (own recovers t z) from b.engine.steps)
+    × HasPutBack (found_of (map_bands_of z.pages z.bands) (note_said n.note) n.changes) n.note (tally b.engine.steps).opened act.pages (made (own recovers t z) from b.engine.steps)
     × (free_of b.maps.pages + free_of b.unfreed.pages ≡ free_of a.maps.pages + free_of a.unfreed.pages)
     × ((ms : List (Rattle.sg_recovery.specs.Log.Numbered Changing (List ℕ))) → ms ≡ w.made → Changed t (basis recovers z) act (store.led t z from (shown_of recovers a)) (store.led t z from (shown_of recovers b)) ms)
-undo_begun recovers a m b t z from txn note next act w e h quiet told told' hb f tail room begun is did =
+undo_begun recovers a m b t z from txn note next act w e h quiet told told' hb f tail room begun is did none =
     let k = h.keeps told in
     let g = w.gone told' in
     let idle = (k.rest quiet).idle in
@@ -117,10 +119,13 @@ undo_begun recovers a m b t z from txn note next act w e h quiet told told' hb f
       subst (λ (y : EngineSeen). notes_of txn (tally y.steps).notes ≡ did.n ∷ first.0) e first.1,
       did.goes_on,
       sym did.note_is,
-      subst (λ (x : State). PutsBack (found_of (map_bands_of z.pages z.bands) (note_said did.n.note) did.n.changes) x (made (own recovers t z) from b.engine.steps)) (sym begins)
-          (subst (λ (y : State). PutsBack (found_of (map_bands_of z.pages z.bands) (note_said did.n.note) did.n.changes) (repeated t from m.engine.steps) y) (sym (made_is recovers t z from b.engine.steps))
-          (subst (λ (bytes : List ℕ). PutsBack (found_of (map_bands_of z.pages z.bands) (note_said bytes) did.n.changes) (repeated t from m.engine.steps) (repeated t from b.engine.steps)) (sym did.note_is)
-          (subst (λ (o : ℕ). PutsBack (found_of o (note_said note) did.n.changes) (repeated t from m.engine.steps) (repeated t from b.engine.steps)) outside put))),
+      record {
+        puts = subst (λ (x : State). PutsBack (found_of (map_bands_of z.pages z.bands) (note_said did.n.note) did.n.changes) x (made (own recovers t z) from b.engine.steps)) (sym begins)
+              (subst (λ (y : State). PutsBack (found_of (map_bands_of z.pages z.bands) (note_said did.n.note) did.n.changes) (repeated t from m.engine.steps) y) (sym (made_is recovers t z from b.engine.steps))
+              (subst (λ (bytes : List ℕ). PutsBack (found_of (map_bands_of z.pages z.bands) (note_said bytes) did.n.changes) (repeated t from m.engine.steps) (repeated t from b.engine.steps)) (sym did.note_is)
+              (subst (λ (o : ℕ). PutsBack (found_of o (note_said note) did.n.changes) (repeated t from m.engine.steps) (repeated t from b.engine.steps)) outside put)));
+        still = λ no. ap (λ (rs : Steps). (tally rs).opened) (did.still (ap is_of_bytes (sym did.note_is) ∙ no)) ∙ (ap (λ (y : EngineSeen). (tally y.steps).opened) e ∙ none);
+      },
       room.free_pages,
       λ ms same. record {
         goes_on = goes_on recovers a b t z from hb told' f (g.base ∙ ap (λ (y : EngineSeen). y.base) e) (let s : m.engine.tail ≡ a.engine.tail = ap (λ (y : EngineSeen). y.tail) e in omega (arith, tail, s)) (subst (λ (y : EngineSeen). Rattle.sg_actions.specs.Images.Grows y.durable b.engine.durable) e g.durable);

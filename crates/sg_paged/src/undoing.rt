@@ -34,7 +34,7 @@ pub fn next_undo<E: Engine>(acts: &mut Acts<E>, txn: TxnId) -> Result<Option<Lsn
 
 /// Begins an action that undoes the last standing note of a live transaction, which it gives, with the
 /// number behind which undoing goes on; `None` exactly where none stands. What the note's action found
-/// in bands is back where the note asks for that.
+/// in bands is back where the note asks for that; where it doesn't, the action has changed nothing yet.
 pub fn undo_step<E: Engine>(
     acts: &mut Acts<E>,
     txn: TxnId,
@@ -53,7 +53,7 @@ pub fn undo_step<E: Engine>(
         × IfOk result (λ after. IfSome after (λ next. (n : Top g.C g.N)
         × (ns : List (Top g.C g.N)) × (notes_of txn.0 (tally v.log).notes ≡ n ∷ ns)
         × (n.undo_next ≡ next) × (g.note into.new ≡ n.note)
-        × g.PutsBack t n.note n.changes a.pages (pages_of t g w)
+        × g.PutsBack t n.note n.changes (tally w.log).opened a.pages (pages_of t g w)
         × (w.free_pages ≡ v.free_pages) × Changed t g a v w c.made))) }
 {
     let who = acts.acting();

@@ -3,7 +3,7 @@ use Rattle.std.proofs.Common.{◌≡◌, ◌≢◌, ◌⊎◌, inl, inr, ℕ, ze
 use Rattle.std.specs.Prelude.{map, replicate, option_map, ◌||◌, if◌then◌else◌, is_ok, is_err}
 use Rattle.std.specs.List.{find}
 use Rattle.std.proofs.lemmas.Bool.Decides.{nat_tests}
-use Rattle.sg_analysis.specs.Analysis.{acting, lacks_end, with_last, losers_of, going_on}
+use Rattle.sg_analysis.specs.Analysis.{acting, lacks_end, with_last, losers_of, going_on, oldest_first}
 use Rattle.sg_analysis.proofs.Lists.{is_in-oldest_first}
 use Rattle.sg_recovery.specs.Chains.{last_of, border_of, next_lsn, Formed}
 use Rattle.sg_recovery.specs.Formed.{IsUnfinished}
@@ -12,9 +12,11 @@ use Rattle.sg_recovery.specs.Log.{tally, is_in}
 use Rattle.sg_recovery.proofs.Basic.{cond_true, cond_false, number_is, same_number, other_number}
 use Rattle.sg_recovery.proofs.Chaining.{sound}
 use Rattle.sg_actions.specs.Ending.{vacant}
-use Rattle.sg_actions.specs.Rows.{last_in}
+use Rattle.sg_actions.specs.Rows.{last_in, AreApart}
 use Rattle.sg_actions.specs.Steps.{Steps}
 use Rattle.sg_actions.specs.declared.rows.Row.{Row}
+use Rattle.sg_store.specs.Engine.{AreDistinct}
+use Rattle.sg_store.proofs.Counting.{live_distinct}
 use Rattle.sg_regained.specs.Regained.{AreRowsOf, row_of, unfinished_in}
 
 -- ROWS
@@ -68,6 +70,39 @@ past_none k u (x ∷ us) h far =
     let low = h.0 in
     ap (λ (b : Bool). b || is_in u us) (other_number x u (λ e. absurd (omega (arith, low, far, e)))) ∙ past_none k u us h.1 far
 
+-- NO TRANSACTION HAS TWO ROWS
+not_last : (u n : ℕ) (xs : List ℕ) → is_in u xs ≡ false → (n == u) ≡ false → is_in u (xs ++ n ∷ []) ≡ false
+not_last u n [] e f = ap (λ (b : Bool). b || false) f
+not_last u n (x ∷ xs) e f = let both = or_none (x == u) (is_in u xs) e in ap (λ (b : Bool). b || is_in u (xs ++ n ∷ [])) both.0 ∙ not_last u n xs both.1 f
+
+distinct_last : (xs : List ℕ) (n : ℕ) → AreDistinct xs → is_in n xs ≡ false → AreDistinct (xs ++ n ∷ [])
+distinct_last [] n d none = (refl, tt)
+distinct_last (x ∷ xs) n d none =
+    let both = or_none (x == n) (is_in n xs) none in (
+      not_last x n xs d.0 (other_number n x (λ e. absurd (let no : true ≡ false = sym (ap (λ (k : ℕ). x == k) e ∙ same_number x) ∙ both.0 in cc))),
+      distinct_last xs n d.1 both.1,
+    )
+
+oldest_distinct : (live : List ℕ) → AreDistinct live → AreDistinct (oldest_first live)
+oldest_distinct [] d = tt
+oldest_distinct (n ∷ ns) d = distinct_last (oldest_first ns) n (oldest_distinct ns d.1) (is_in-oldest_first n ns ∙ d.0)
+
+vacant_apart : (n : ℕ) → AreApart (replicate n vacant)
+vacant_apart zero = tt
+vacant_apart (suc n) = (λ some. absurd (some refl), vacant_apart n)
+
+apart_for : (rs : Steps) (us : List ℕ) (n : ℕ) → AreDistinct us → AreApart (rows_for rs us n)
+apart_for rs [] n d = vacant_apart n
+apart_for rs (u ∷ us) n d = (λ some. no_row rs us u n d.0 some, apart_for rs us n d.1)
+
+-- and each row but the vacant ones is of one of these
+known_for : (rs : Steps) (us : List ℕ) (n u last : ℕ) → u ≢ 0 → last_in (rows_for rs us n) u ≡ Some last → is_in u us ≡ true
+known_for rs us n u last some e = by_test (is_in u us) refl
+  where
+    by_test : (b : Bool) → is_in u us ≡ b → b ≡ true
+    by_test true is = refl
+    by_test false is = absurd (let no : ◌≡◌ {A = Option ℕ} None (Some last) = sym (no_row rs us u n is some) ∙ e in cc)
+
 module _ (rs : Steps) (losers : List (ℕ × ℕ)) (rows : List Row) (are : AreRowsOf losers rows) (is : losers ≡ losers_of rs) where
   rows_are : rows ≡ rows_for rs (going_on rs) are.vacancies
   rows_are = are.are ∙ ap (λ (xs : List (ℕ × ℕ)). map row_of xs ++ replicate are.vacancies vacant) is
@@ -84,6 +119,15 @@ module _ (rs : Steps) (losers : List (ℕ × ℕ)) (rows : List Row) (are : AreR
       some : (xs : Steps) → next_lsn xs ≤ tail → tail ≤ 0 → ⊥
       some [] low z = absurd (omega (arith, low, z))
       some (x ∷ xs) low z = absurd (omega (arith, low, z))
+
+  pub rows_apart : Formed rs → AreApart rows
+  rows_apart formed =
+      subst (λ (xs : List Row). AreApart xs) (sym rows_are) (apart_for rs (going_on rs) are.vacancies (oldest_distinct (tally rs).live (live_distinct rs formed)))
+
+  pub rows_known : (u last : ℕ) → u ≢ 0 → last_in rows u ≡ Some last → is_in u (tally rs).live ≡ true
+  rows_known u last some e =
+      sym (is_in-oldest_first u (tally rs).live)
+      ∙ known_for rs (going_on rs) are.vacancies u last some (sym (ap (λ (xs : List Row). last_in xs u) rows_are) ∙ e)
 
 -- THE ACTION WITHOUT AN END
 

@@ -15,7 +15,7 @@ use Rattle.sg_actions.specs.View.{HasFreedNone}
 use Rattle.sg_actions.specs.declared.rows.Actor.{Actor}
 use Rattle.sg_shown.specs.Shown.{Over, AsFound}
 use Rattle.sg_regained.specs.Regained.{AreRowsOf, unfinished_in}
-use Rattle.sg_regained.proofs.Losers.{rows_live, rows_low, unfinished_some, unfinished_none}
+use Rattle.sg_regained.proofs.Losers.{rows_live, rows_low, rows_apart, rows_known, unfinished_some, unfinished_none}
 
 -- what is known of the engine
 pub record IsAnalysed (e : EngineSeen) (first : ℕ) (losers : List (ℕ × ℕ)) (un : Option (TxnId × ℕ)) : Type 0 where
@@ -53,6 +53,8 @@ as_found a losers un n h clear freed rows some none begun = record {
   freed = freed;
   rows = rows_live a.engine.steps losers a.rows rows h.lost;
   low = λ u far. rows_low a.engine.steps losers a.rows rows h.lost a.engine.tail u h.formed.chained h.below far;
+  apart = rows_apart a.engine.steps losers a.rows rows h.lost h.formed.chained;
+  known = rows_known a.engine.steps losers a.rows rows h.lost;
   rest = rest_of un a.engine a.actor a.begun h.unfinished none begun;
   acts = acts_of un a.engine a.actor a.begun h.unfinished some begun;
 }

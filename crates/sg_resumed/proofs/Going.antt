@@ -37,7 +37,7 @@ pub going_found : (t : Table) (e : EngineSeen) (from : State) (first : ℕ) (row
 going_found t e from first rows actor at before c l o zero = record {
   taking = record {
     running = subst (λ (last : ℕ). IsRunning e.base e.steps e.tail (acting_at actor.txn.0 last before)) (sym c.last) (running_found e.base e.steps e.tail actor.txn.0 at before c.formed c.based c.below c.unfinished o zero);
-    rows_are = rows_found e.steps e.tail actor.txn.0 actor.last before rows (λ ne. acts ne (c.formed.one_action.whose actor.txn.0 c.unfinished)) c.rows c.low;
+    rows_are = rows_found e.steps e.tail actor.txn.0 actor.last before rows (λ ne. acts ne (c.formed.one_action.whose actor.txn.0 c.unfinished)) c.rows c.low c.apart c.known;
     takes = record { end = l.end; off = l.off; alike = record { pages = λ n h. refl; slots = λ n h k. k; bands = λ b h. refl } };
   };
   at_is = o.back.at_is;

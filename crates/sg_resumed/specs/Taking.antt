@@ -7,7 +7,7 @@ use Rattle.sg_recovery.specs.Log.{tally, is_in, changes_of}
 use Rattle.sg_action.specs.States.{State, all_off}
 use Rattle.sg_actions.specs.Changes.{meaning}
 use Rattle.sg_actions.specs.Engine.{EngineSeen, EngineView, now_of}
-use Rattle.sg_actions.specs.Rows.{last_in}
+use Rattle.sg_actions.specs.Rows.{last_in, AreApart}
 use Rattle.sg_actions.specs.Steps.{Steps}
 use Rattle.sg_actions.specs.declared.rows.Actor.{Actor}
 use Rattle.sg_actions.specs.declared.rows.Row.{Row}
@@ -23,6 +23,9 @@ pub record CanGoOn (e : EngineSeen) (first : ℕ) (table : List Row) (actor : Ac
   pub last : actor.last ≡ last_of actor.txn.0 e.steps
   pub rows : (u : ℕ) → is_in u (tally e.steps).live ≡ true → last_in table u ≡ Some (last_of u e.steps)
   pub low : (u : ℕ) → e.tail ≤ u → last_in table u ≡ None
+  -- none of them has two rows, and no other has one
+  pub apart : AreApart table
+  pub known : (u last : ℕ) → u ≢ 0 → last_in table u ≡ Some last → is_in u (tally e.steps).live ≡ true
 
 -- the inverses of the changes that are open all fit, the last first
 pub record LeadsOff (t : Table) (e : EngineView) : Type 0 where

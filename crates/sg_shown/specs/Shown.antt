@@ -1,6 +1,6 @@
 -- WHAT A SPACE OVER A PAGE ENGINE SHOWS AS THE ENGINE OF A STORE. The store's records are the engine's steps as they are, a note is its bytes, and
 -- the ground is that of so many pages and bands.
-use Rattle.std.specs.Prelude.{◌≡◌, ◌⊎◌, ℕ, ◌+◌, ◌<◌, ◌≤◌, Bool, true, false, List, [], length, Option, Some, None}
+use Rattle.std.specs.Prelude.{◌≡◌, ◌≢◌, ◌⊎◌, ℕ, ◌+◌, ◌<◌, ◌≤◌, Bool, true, false, List, [], length, Option, Some, None}
 use Rattle.sg_alloc.specs.Flags.{free_of, map_bands_of}
 use Rattle.sg_alloc.specs.declared.maps.Maps.{Maps}
 use Rattle.sg_ops.specs.Table.{Table}
@@ -9,7 +9,7 @@ use Rattle.sg_disk.specs.Disk.{Image}
 use Rattle.sg_actions.specs.Calls.{IsAtRest}
 use Rattle.sg_actions.specs.Engine.{EngineSeen, led}
 use Rattle.sg_actions.specs.Offed.{kept_in}
-use Rattle.sg_actions.specs.Rows.{last_in, at_rest}
+use Rattle.sg_actions.specs.Rows.{last_in, AreApart, at_rest}
 use Rattle.sg_actions.specs.Steps.{Steps, begin_of, opened as open_changes, repeated}
 use Rattle.sg_actions.specs.Taken.{is_set, is_there}
 use Rattle.sg_actions.specs.View.{IsKept, HasFreedNone, Since}
@@ -145,7 +145,7 @@ abbrev pub shown : {E : Type 0} {g : Ghosts E} → (s : Acts E g) → Shown (bas
 shown {g = g} s = shown_of g.recovers (over s)
 
 -- WHO ACTS AND THE ROWS of a space over an engine that an opening found, by its log, of which nothing was cut away since: nothing is taken, and
--- nothing freed; each transaction that goes on has a row; and where an action has no end, who acts is whose it is, and else nobody acts
+-- nothing freed; each transaction that goes on has one row, and no other has one; and where an action has no end, who acts is whose it is, and else nobody acts
 pub record AsFound (a : Over) : Type 0 where
   pub based : a.engine.base ≤ a.engine.tail
   pub start : a.engine.base ≡ a.start
@@ -153,6 +153,8 @@ pub record AsFound (a : Over) : Type 0 where
   pub freed : HasFreedNone a.unfreed
   pub rows : (u : ℕ) → is_in u (tally a.engine.steps).live ≡ true → last_in a.rows u ≡ Some (last_of u a.engine.steps)
   pub low : (u : ℕ) → a.engine.tail ≤ u → last_in a.rows u ≡ None
+  pub apart : AreApart a.rows
+  pub known : (u last : ℕ) → u ≢ 0 → last_in a.rows u ≡ Some last → is_in u (tally a.engine.steps).live ≡ true
   pub rest : a.begun ≡ false → (a.actor ≡ at_rest)
       × ((u : ℕ) → (u ≡ 0) ⊎ (is_in u (tally a.engine.steps).live ≡ true) → last_of u a.engine.steps ≡ border_of u a.engine.steps)
   pub acts : a.begun ≡ true → IsUnfinished a.engine.steps a.actor.txn.0 × (a.actor.last ≡ last_of a.actor.txn.0 a.engine.steps)

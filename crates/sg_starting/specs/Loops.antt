@@ -54,7 +54,7 @@ pub record IsEnding (t : Operations) (g : Ground) (v w : View g) (those left : L
 pub record IsStepped (t : Operations) (g : Ground) (n : Top g.C g.N) (a : Action g) (w : View g) (into : List ℕ) (after : ℕ) : Type 0 where
   pub next : n.undo_next ≡ after
   pub said : g.note into ≡ n.note
-  pub back : g.PutsBack t n.note n.changes a.pages (pages_of t g w)
+  pub back : g.PutsBack t n.note n.changes (tally w.log).opened a.pages (pages_of t g w)
 
 -- some things that were buried have been freed, and the log's tail may rise by so many bytes more
 pub record IsFreeing (t : Operations) (g : Ground) (v w : View g) (left : ℕ) : Type 0 where

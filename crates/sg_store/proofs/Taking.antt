@@ -16,7 +16,7 @@ use Rattle.sg_store.proofs.Undone as undone
 -- the step back of a note has begun: the note, those below it, and what the note asks for
 abbrev pub Noted : (t : Operations) (g : Ground) → (v w : View g) → (u : ℕ) → (into : List ℕ) → (after : ℕ) → (a : Action g) → Changes t g a v w → Type 0
 Noted t g v w u into after a c = (n : Top g.C g.N) × (ns : List (Top g.C g.N)) × (notes_of u (tally v.log).notes ≡ n ∷ ns) × (n.undo_next ≡ after) × (g.note into ≡ n.note)
-    × g.PutsBack t n.note n.changes a.pages (pages_of t g w) × (w.free_pages ≡ v.free_pages) × Changed t g a v w c.made
+    × g.PutsBack t n.note n.changes (tally w.log).opened a.pages (pages_of t g w) × (w.free_pages ≡ v.free_pages) × Changed t g a v w c.made
 
 -- the note was reversed
 abbrev pub IsBack : (t : Operations) (g : Ground) (a : Action g) (w1 w2 : View g) (o : g.O) (n : Top g.C g.N) → Changes t g a w1 w2 → Type 0

@@ -139,7 +139,7 @@ module _ (t : Operations) (g : Ground) (lawful : IsLawful t g) (v : View g) (txn
         let most : n.lsn ≤ at = m.0 m.1 in
         omega (arith, below, most)
 
-    module _ (w1 : View g) (c1 : Changes t g begun v w1) (changed1 : Changed t g begun v w1 c1.made) (same_free : w1.free_pages ≡ v.free_pages) (back : g.PutsBack t n.note n.changes begun.pages (pages_of t g w1)) where
+    module _ (w1 : View g) (c1 : Changes t g begun v w1) (changed1 : Changed t g begun v w1 c1.made) (same_free : w1.free_pages ≡ v.free_pages) (back : g.PutsBack t n.note n.changes (tally w1.log).opened begun.pages (pages_of t g w1)) where
       pub can : CanReverse t g begun w1 o n
       can = record {
         reads = reads_o;

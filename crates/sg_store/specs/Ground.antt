@@ -9,7 +9,7 @@ use Rattle.sg_model.specs.Verb.{Op}
 use Rattle.sg_model.specs.Step.{step}
 use Rattle.sg_model.specs.Touches.{Cell, Resource, covers, touches}
 use Rattle.sg_recovery.specs.Setting.{Setting}
-use Rattle.sg_recovery.specs.Log.{Numbered}
+use Rattle.sg_recovery.specs.Log.{Numbered, Open}
 use Rattle.sg_recovery.specs.Laws.{Laws}
 
 -- what an operation needs: free pages and bands, and how many pages it reserves of those
@@ -47,8 +47,9 @@ pub record Ground : Type 1 where
   pub needs : Operations → O → Op → Needs
   -- what the bytes of a note say
   pub note : List ℕ → N
-  -- the second pages are the first with what a note's action found there written back, where the note asks for that
-  pub PutsBack : Operations → N → List C → X → X → Type 0
+  -- The second pages are the first with what a note's action found there written back by these open changes, where the note asks for
+  -- that. Where it doesn't, no change is open
+  pub PutsBack : Operations → N → List C → List (Open C) → X → X → Type 0
   -- the first pages can't be told from the second ones, those at the begin of an action, by who reads what these reach
   pub Alike : X → X → Type 0
   -- The log of an image is these records, its superblock is in range, its codes are registered and it is sound; and with

@@ -89,12 +89,12 @@ pub record IsRefused (t : Operations) (g : Ground) (old new : View g) (o : g.O) 
   pub pages : new.free_pages ≡ old.free_pages
 
 -- The note of a top-end may be reversed in its action: what the pages at the action's begin read as can be undone by it, a page is
--- free for it where it wants one, and what its action found in bands is back
+-- free for it where it wants one, and what its action found in bands is back where it asks for that; else nothing is changed yet
 pub record CanReverse (t : Operations) (g : Ground) (a : Action g) (v : View g) (o : g.O) (n : Top g.C g.N) : Type 0 where
   pub reads : g.reading a.pages ≡ Some o
   pub possible : IsSome (g.unstep t o n.note n.changes)
   pub page : wants_one (setting t g) n ≤ v.free_pages
-  pub back : g.PutsBack t n.note n.changes a.pages (pages_of t g v)
+  pub back : g.PutsBack t n.note n.changes (tally v.log).opened a.pages (pages_of t g v)
 
 -- the bytes are a note that may be reversed so in the action that was begun
 pub record CanTakeBack (note : List ℕ) (t : Operations) (g : Ground) (v : View g) : Type 0 where

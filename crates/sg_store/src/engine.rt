@@ -102,7 +102,7 @@ pub trait Engine {
 
     /// Begins an action that undoes the last standing note of a live transaction, which it gives, with the
     /// number behind which undoing goes on; `None` exactly where none stands. What the note's action found
-    /// in bands is back where the note asks for that.
+    /// in bands is back where the note asks for that; where it doesn't, the action has changed nothing yet.
     fn undo_step(&mut self, txn: TxnId, into: &mut UndoNote) -> Result<Option<Lsn>, SpaceFault>
         requires can { Asked (view self.old) (IsAt txn.0) }
         ensures counts { Counts IsDiskFault (view self.old) (view self.new) result }
@@ -117,7 +117,7 @@ pub trait Engine {
             × IfOk result (λ after. IfSome after (λ next. (n : Top g.C g.N)
             × (ns : List (Top g.C g.N)) × (notes_of txn.0 (tally v.log).notes ≡ n ∷ ns)
             × (n.undo_next ≡ next) × (g.note into.new ≡ n.note)
-            × g.PutsBack t n.note n.changes a.pages (pages_of t g w)
+            × g.PutsBack t n.note n.changes (tally w.log).opened a.pages (pages_of t g w)
             × (w.free_pages ≡ v.free_pages) × Changed t g a v w c.made))) };
 
     /// The number of the note that `undo_step` would come to; `None` exactly where none stands. Nothing is

@@ -32,7 +32,7 @@ nothing = record {
   can_undo = λ o n cs ts. false;
   needs = λ t o op. record { pages = 0; bands = 0; reserve = 0 };
   note = λ bytes. tt;
-  PutsBack = λ t n cs x y. ⊥;
+  PutsBack = λ t n cs os x y. ⊥;
   Alike = λ x y. ⊥;
   Recovers = λ t c log x. ⊥;
 }

@@ -1,6 +1,8 @@
 -- A note is reversed, as the store asks.
 use Rattle.std.proofs.Common.{◌≡◌, ◌⊎◌, ℕ, ◌+◌, ◌<◌, ◌≤◌, Bool, true, false, List, [], length, Option, Some, None, option_map, Result, Ok, Err, inl, inr, refl, sym, ap, ◌∙◌, subst, arith}
 use Rattle.std.specs.Prelude.{◌↔◌, IsTrue, if◌then◌else◌}
+use Rattle.std.proofs.lemmas.Bool.{cases_Bool}
+use Rattle.std.proofs.lemmas.Bool.Decides.{nat_tests}
 use Rattle.sg_base.specs.Sheet.{Sheet}
 use Rattle.sg_alloc.specs.Flags.{map_bands_of}
 use Rattle.sg_ops.specs.Table.{Table}
@@ -11,6 +13,7 @@ use Rattle.sg_actions.specs.Acting.{IsChained}
 use Rattle.sg_actions.specs.Engine.{EngineSeen}
 use Rattle.sg_actions.specs.Painting.{AreBandsWhole}
 use Rattle.sg_actions.specs.Steps.{repeated}
+use Rattle.sg_actions.specs.Undoing.{is_of_bytes}
 use Rattle.sg_actions.proofs.Flags.{at_there}
 use Rattle.sg_reading.specs.Back.{Undoing, Before, back}
 use Rattle.sg_reading.specs.Back.Undoing.{WasNothing, WasMake, WasDrop, WasPush, WasPop, WasSet, WasApply, WasPut, WasOver, WasBytes}
@@ -21,7 +24,7 @@ use Rattle.sg_space.specs.declared.space.SpaceFault.{SpaceFault}
 use Rattle.sg_contents.specs.Standing.{Contents, IsContents, map_bands}
 use Rattle.sg_contents.specs.Meaning.{reading, IsCounted}
 use Rattle.sg_objects.specs.Done.{IsFresh}
-use Rattle.sg_objects.specs.Notes.{note_said}
+use Rattle.sg_objects.specs.Notes.{byte_at, note_said}
 use Rattle.sg_objects.specs.Needs.{needed_back, IsFree}
 use Rattle.sg_objects.specs.PutBack.{HasBack}
 use Rattle.sg_objects.specs.Reversing.{IsPutBack, IsPossible, UndoesAny}
@@ -103,11 +106,11 @@ module _ (recovers : Recovering) (a : Over) (t : Table) (z : Sizes) (from : Stat
 
   -- the pages now are those at the action's begin
   pages_now : act.pages.pages ≡ a.engine.now.pages
-  pages_now = sym can.back.pages ∙ ap (λ (x : State). x.pages) (holds recovers a t z from m.pages m.bands now)
+  pages_now = sym can.back.puts.pages ∙ ap (λ (x : State). x.pages) (holds recovers a t z from m.pages m.bands now)
 
   -- and there are as many
   size_now : act.pages.size ≡ a.engine.now.size
-  size_now = sym can.back.size ∙ ap (λ (x : State). x.size) (holds recovers a t z from m.pages m.bands now)
+  size_now = sym can.back.puts.size ∙ ap (λ (x : State). x.size) (holds recovers a t z from m.pages m.bands now)
 
   begin_is : act.pages ≡ (restored a act.pages.bands).engine.now
   begin_is = λ i. record { size = size_now i; pages = pages_now i; bands = act.pages.bands }
@@ -242,3 +245,20 @@ fresh_now recovers a t z from m now begun puts still first says_puts says_still 
   | inl none ↦ fresh_there recovers a t z from m now (begun told) ((says_still (m.keeps told).kept.chain).0 none.1) told
   | inr bytes ↦ absurd (other (says_puts.0 bytes))
 ]
+
+-- AN ACTION THAT HAS CHANGED SOMETHING has put bytes back
+of_no_bytes : (puts : Bool) (note : List ℕ) → IsTrue puts ↔ (byte_at note 0 ≡ 9) → puts ≡ false → is_of_bytes note ≡ false
+of_no_bytes puts note says none = elim (cases_Bool (is_of_bytes note)) [
+  | inl is ↦ let nine : byte_at note 0 ≡ 9 = grind (arith, nat_tests, is) in absurd (let both : true ≡ false = sym (says.1 nine) ∙ none in cc)
+  | inr no ↦ no
+]
+
+pub never_still : (recovers : Recovering) (a : Over) (t : Table) (z : Sizes) (from : State) → Means a t z from → a.engine.Told
+    → (puts still : Bool) (note : List ℕ) → IsTrue puts ↔ (byte_at note 0 ≡ 9)
+    → (IsChained a.engine.base a.engine.steps a.engine.tail a.rows a.actor → IsTrue still ↔ ((tally a.engine.steps).opened ≡ []))
+    → puts ≡ false → still ≡ false → (act : Action (basis recovers z)) (o : Reading) (n : Top Changing (List ℕ)) → note ≡ n.note
+    → CanReverse t (basis recovers z) act (seen recovers t z from a) o n → ⊥
+never_still recovers a t z from m told puts still note says_puts says_still no_bytes not_still act o n said can =
+    let none = can.back.still (ap is_of_bytes (sym said) ∙ of_no_bytes puts note says_puts no_bytes) in
+    let is : still ≡ true = (says_still (m.keeps told).kept.chain).1 none in
+    absurd (let both : true ≡ false = sym is ∙ not_still in cc)

@@ -122,7 +122,7 @@ returns-in-Ok-Some-clause-some g c = λ t z from m told act e idle is.
     let log = k.undoes (g.E.Engine.limits z.pages z.bands) t from mm.since.stands told1 (mm.keeps told1).kept in
     let q = undo_begun g.E.Engine.recovers (over c.args.acts.now) mid new t z from c.args.txn.0 c.undo_step.new.into c.in-Ok-Some.next act log at mm c.quiet.ensures.begun told1 told2 means
     (record { law = g.met.E.Engine.lawful _ t from means.since.stands; first = g.met.E.Engine.durable_first _ told2; images = g.met.E.Engine.images _ t from means.since.stands told2 })
-    k.counts.tail (room_then c.quiet.ensures.room (room_same mid new k.maps k.unfreed)) begun is (did told2) in
+    k.counts.tail (room_then c.quiet.ensures.room (room_same mid new k.maps k.unfreed)) begun is (did told2) idle in
     let u = undo_changes g.E.Engine.recovers (over c.args.acts.now) mid new t z from c.args.txn.0 act at mm c.quiet.ensures.begun told1 log is in
     (u.0, (q.0, q.1, q.2, q.3, q.4, q.5, q.6, q.7 u.0.made u.1))
 

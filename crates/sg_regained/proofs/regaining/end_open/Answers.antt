@@ -24,6 +24,8 @@ take_off-requires-clause-can g c = λ told.
       last = a.1;
       rows = f.rows;
       low = f.low;
+      apart = f.apart;
+      known = f.known;
     }
 
 pub returns-in-Some-clause-took : goal.returns-in-Some-clause-took
@@ -44,7 +46,7 @@ returns-in-None-clause-rests g c = λ from m yes told.
     let r = f.rest (nobody c.args.acts.begun c.args.acts.actor.txn (sym c.acting.ensures ∙ c.in-None.is)) in
     record {
       chain = subst (λ a. IsChained e.base e.steps e.tail c.args.acts.rows.items a) (sym r.0)
-          (chained_found e.base e.steps e.tail c.args.acts.rows.items (c.requires.formed told) f.based (c.requires.below told) r.1 f.rows f.low);
+          (chained_found e.base e.steps e.tail c.args.acts.rows.items (c.requires.formed told) f.based (c.requires.below told) r.1 f.rows f.low f.apart f.known);
       rest = r.0;
     }
 

@@ -20,7 +20,7 @@ use Rattle.sg_store.specs.Engine.{Counts, Changes, Changed, IsDiskFault}
 use Rattle.sg_store.specs.Verbs.{Reversed}
 use Rattle.std.specs.Prelude.{Result, Ok, Err}
 use Rattle.sg_verbs.proofs.Ready.{fresh_there}
-use Rattle.sg_verbs.proofs.Backed.{possible_there, undone_there, is_reversed, fresh_now}
+use Rattle.sg_verbs.proofs.Backed.{possible_there, undone_there, is_reversed, fresh_now, never_still}
 use Rattle.sg_verbs.proofs.reversing.reverse.Given as given
 use Rattle.sg_verbs.proofs.reversing.reverse.Goals as goal
 
@@ -218,7 +218,7 @@ returns-in-Err-clause-reverses g c z from m told o act n engine shows said can =
     let up = c.give_up.ensures.given_up in
     (do_changes g.E.Engine.recovers a b t z from m l told e up.disk act shows, tt)
 
--- A NOTE OF NO BYTES, in an action that has changed something: nothing says yet that none comes here whose engine tells
+-- A NOTE OF NO BYTES, in an action that has changed something: none comes here whose engine tells
 pub returns-then-not-still-clause-counts : goal.returns-then-not-still-clause-counts
 returns-then-not-still-clause-counts g c =
     let a : Over = over c.args.acts.now in
@@ -240,7 +240,10 @@ returns-then-not-still-clause-counts g c =
       later = omega (arith, faults, breaks, more);
       risen = λ few. let up : c.stop.new.self.breaks < c.report.new.self.breaks = k.risen (omega (arith, few)) in omega (arith, faults, breaks, up);
     } in
-    let never : a.engine.Told → ⊥ = ? in
+    let never : a.engine.Told → ⊥ = λ told. let n = c.requires.can.can told in
+    never_still g.E.Engine.recovers a t c.requires.can.sizes (c.requires.can.from told) (c.requires.can.means told) told
+    c.puts_bytes-puts.result c.is_still-still.result c.args.note.now c.puts_bytes-puts.ensures c.is_still-still.ensures
+    c.if-not-puts.true c.if-not-still.true n.action n.reading n.top n.said n.can in
     counts_never {T = Unit {0}} {IsDisk = IsDiskFault} g.E.Engine.recovers a a e c.report.result never p broken (subst IsDiskFault (sym k.answer) tt)
 
 pub returns-then-not-still-clause-means : goal.returns-then-not-still-clause-means
