@@ -31,6 +31,7 @@ use Rattle.sg_store.specs.Engine.{Sizes, Shown, Counts, IsDiskFault, Appends, Ap
 use Rattle.sg_ground.specs.Recovers.{Recovering}
 use Rattle.sg_shown.specs.Shown.{basis, extent_of, Over, Means, acting, shown_of}
 use Rattle.sg_shown.specs.Room.{SameRoom}
+use Rattle.sg_shown.specs.Spare.{HasSpare}
 use Rattle.sg_shown.proofs.History.{grows_is, moments_are}
 use Rattle.sg_shown.proofs.Holding.{Facts, taken_same, counted_same, keeping_at_rest, engine_is}
 
@@ -142,6 +143,7 @@ pub record RestsNow (b : Over) (t : Table) (z : Sizes) (from : State) (at : Stat
   pub rest : IsAtRest b.engine.steps b.unfreed b.actor
   -- the pages and bands are these
   pub now : repeated t from b.engine.steps ≡ at
+  pub spare : HasSpare b.engine.steps b.rows
 
 pub means_next : (a b : Over) (t : Table) (z : Sizes) (from : State) → Means a t z from → SameRoom a b → b.limits ≡ a.limits → b.begun ≡ false
     → b.means t from → (b.engine.Told → a.engine.Told) → (b.engine.Told → RestsNow b t z from (repeated t from a.engine.steps)) → Means b t z from
@@ -153,7 +155,7 @@ means_next a b t z from m room same begun stands back next = record {
   limits = ap (λ (l : (pages bands : ℕ) → State → ℕ → ℕ). l z.pages z.bands) same ∙ m.limits;
   keeps = λ told. let n = next told in let k = m.keeps (back told) in keeping_at_rest b t z from n.kept n.rest
       (taken_same (ap (λ (x : State). x.pages) n.now) (λ p h. room.page p ∙ h) (λ p h. room.band p ∙ h) k.now)
-      (counted_same room.free_pages room.free_bands (ap (λ (x : State). x.pages) n.now) k.counted) (λ n less. room.band n ∙ k.map n less);
+      (counted_same room.free_pages room.free_bands (ap (λ (x : State). x.pages) n.now) k.counted) (λ n less. room.band n ∙ k.map n less) n.spare;
 }
 
 -- A RECORD MAY BE APPENDED

@@ -24,6 +24,7 @@ use Rattle.sg_store.specs.Engine as store
 use Rattle.sg_store.specs.Engine.{Sizes, IsEngine, IsActing, action_of, before_open}
 use Rattle.sg_ground.specs.Recovers.{Recovering}
 use Rattle.sg_shown.specs.Shown.{basis, Over, Keeping, Means, acting, shown_of, kept_before, begin_before, has_page, has_band}
+use Rattle.sg_shown.specs.Spare.{HasSpare}
 use Rattle.sg_shown.specs.Taken.{AreTaken, AreCounted}
 use Rattle.sg_shown.proofs.History.{own, made_is, image_is, grows_is, takes_to, before_is}
 
@@ -77,8 +78,8 @@ pub keeping_at_rest : (a : Over) (t : Table) (z : Sizes) (from : State) → IsKe
     → IsAtRest a.engine.steps a.unfreed a.actor
     → AreTaken z (has_page a) (has_band a) (repeated t from a.engine.steps).pages
     → AreCounted z (free_of a.maps.pages + free_of a.unfreed.pages) (free_of a.maps.bands + free_of a.unfreed.bands) (repeated t from a.engine.steps).pages
-    → ((b : ℕ) → b < map_bands_of z.pages z.bands → has_band a b ≡ true) → Keeping a t z from
-keeping_at_rest a t z from kept rest now counted map = record { kept = kept; rest = λ e. rest; fresh = λ e. rest.freed; begin = begin_at_rest a t z from rest.idle now; now = now; counted = counted; map = map }
+    → ((b : ℕ) → b < map_bands_of z.pages z.bands → has_band a b ≡ true) → HasSpare a.engine.steps a.rows → Keeping a t z from
+keeping_at_rest a t z from kept rest now counted map spare = record { kept = kept; rest = λ e. rest; fresh = λ e. rest.freed; begin = begin_at_rest a t z from rest.idle now; now = now; counted = counted; map = map; spare = spare }
 
 -- BETWEEN CALLS
 module _ (recovers : Recovering) (a : Over) (t : Table) (z : Sizes) (from : State) (m : Means a t z from) (told : a.engine.Told) (f : Facts recovers a t from) where

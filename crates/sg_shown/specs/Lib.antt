@@ -1,3 +1,4 @@
 pub mod Taken
 pub mod Shown
 pub mod Room
+pub mod Spare

@@ -26,6 +26,7 @@ use Rattle.sg_store.specs.Engine.{Sizes, Shown}
 use Rattle.sg_store.specs.Ground.{Ground}
 use Rattle.sg_ground.specs.Recovers.{Recovering}
 use Rattle.sg_ground.specs.Theorem.{Basis, ground_of}
+use Rattle.sg_shown.specs.Spare.{HasSpare}
 use Rattle.sg_shown.specs.Taken.{AreTaken, AreCounted}
 
 -- so many pages and bands, as a state says it
@@ -92,6 +93,8 @@ pub record Keeping (a : Over) (t : Table) (z : Sizes) (from : State) : Type 0 wh
       (repeated t from a.engine.steps).pages
   -- but the bands of the allocation map
   pub map : (b : ℕ) → b < map_bands_of z.pages z.bands → has_band a b ≡ true
+  -- there is a row for each transaction that may begin
+  pub spare : HasSpare a.engine.steps a.rows
 
 -- WHAT ITS RECORDS MEAN: its engine stands for these operations and first pages, it has these sizes, as the first pages say too, and its pages have
 -- the limits that a reader finds

@@ -2,6 +2,7 @@
 use Rattle.std.proofs.Common.{◌≡◌, ℕ, ◌+◌, ◌<◌, ◌≤◌, Bool, true, false, List, [], ◌∷◌, ◌++◌, length, Option, Some, None, refl, sym, ap, ◌∙◌, subst, arith}
 use Rattle.sg_alloc.specs.Flags.{map_bands_of}
 use Rattle.sg_ops.specs.Table.{Table}
+use Rattle.sg_recovery.specs.Log.{tally}
 use Rattle.sg_recovery.specs.Log.Record.{Change}
 use Rattle.sg_action.specs.States.{State, Kept}
 use Rattle.sg_actions.specs.Calls.{IsAtRest}
@@ -18,6 +19,7 @@ use Rattle.sg_store.specs.Engine.{Sizes}
 use Rattle.sg_ground.specs.Recovers.{Recovering}
 use Rattle.sg_shown.specs.Taken.{AreTaken, AreCounted}
 use Rattle.sg_shown.specs.Shown.{Over, Keeping, Means, has_page, has_band, kept_before, begin_before}
+use Rattle.sg_shown.proofs.Spared.{changes_live, spare_on}
 use Rattle.sg_verbs.proofs.Held.{free_in, free_bands_in}
 use Rattle.sg_verbs.proofs.Still.{nothing_made, free_still, bands_free_still}
 
@@ -86,6 +88,10 @@ keeping_on a b t z from made k are g same now pages bands x = record {
   now = subst (λ (y : State). AreTaken z (has_page b) (has_band b) y.pages) now x.now;
   counted = subst (λ (y : State). AreCounted z (free_in b) (free_bands_in b) y.pages) now x.counted;
   map = x.map;
+  spare = spare_on
+      (ap (λ (rs : Steps). (tally rs).live) g.steps
+      ∙ changes_live t (kept_at t (a.limits z.pages z.bands) (at_in from a)) (begin_at t (at_in from a)) from a.actor.txn.0 made a.engine.steps are)
+      g.rows k.spare;
 }
 
 -- WHAT THE RECORDS MEAN STAYS, where the space still has all that its pages reach
