@@ -37,6 +37,7 @@ class Program:
     """The program over a new store, which is told lines and asked for their replies."""
 
     def __init__(self, build, store):
+        subprocess.run([build, "init", store], stdin=subprocess.DEVNULL, stdout=subprocess.DEVNULL, check=True)
         self.process = subprocess.Popen([build, "run", store], stdin=subprocess.PIPE, stdout=subprocess.PIPE)
 
     def used(self):

@@ -1,8 +1,8 @@
 #!/usr/bin/env bash
 # Times commits against what two syncs of a small file take: the floor, which no commit of two syncs can pass. A commit
-# pushes one item of 128 bytes; the floor does the same calls on a file beside it, which are a write behind the file's end,
-# a sync of the data, a write of one byte, and a sync of the data, and for the first one those that make the folder and
-# the file and sync their names. Both are done in turn, for some rounds, over folders
+# pushes one item of 128 bytes; the floor does the calls of a force on a file beside it, which are a write behind the file's end,
+# a sync of the data, a write of one byte, and a sync of the data. The stores and the files are made before the clock starts; a run
+# opens its store and writes its pages home at the end, too. Both are done in turn, for some rounds, over folders
 # of the moment. It prints the commits in a second of both, as the median and as the best of the rounds, and
 # their ratios.
 #
@@ -41,6 +41,7 @@ with open(f"{folder}/script", "w") as script:
 
 def time_commits(store, to="/dev/null"):
     """The seconds that a run of the script takes over a new store."""
+    subprocess.run([program, "init", store], stdin=subprocess.DEVNULL, stdout=subprocess.DEVNULL, check=True)
     with open(f"{folder}/script", "rb") as script, open(to, "wb") as replies:
         start = time.monotonic()
         subprocess.run([program, "run", store], stdin=script, stdout=replies, check=True)
@@ -58,11 +59,11 @@ def time_syncs(path, size):
     """The seconds that as many times two writes and two syncs of a file in a new folder take, of which the first writes so
     many bytes."""
     body, gate = bytes(size), b"\1"
-    start = time.monotonic()
     os.mkdir(path)
     sync_folder(folder)
     file = os.open(f"{path}/file", os.O_RDWR | os.O_CREAT | os.O_EXCL, 0o666)
     sync_folder(path)
+    start = time.monotonic()
     for number in range(commits):
         os.pwrite(file, body, number * size + 1)
         os.fdatasync(file)

@@ -1,5 +1,5 @@
 #!/usr/bin/env bash
-# Runs lines through the program over folders of the moment, and prints how many it does in a second
+# Runs lines through the program over new stores in folders of the moment, and prints how many it does in a second
 # and the greatest memory that it used.
 #
 # The words: how many lines (100,000 where none is given), how many of them a transaction has (100), how
@@ -74,10 +74,12 @@ def processor_time():
 def run(build, number):
     """The seconds of a run over a new store, by the clock and by the processor, its greatest memory, its status and its
     replies that are errors."""
+    store = f"{folder}/store{number}"
+    subprocess.run([build, "init", store], stdin=subprocess.DEVNULL, stdout=subprocess.DEVNULL, check=True)
     memory, before = 0, processor_time()
     with open(folder + "/script", "rb") as script, open(folder + "/replies", "wb") as replies:
         start = time.monotonic()
-        process = subprocess.Popen([build, "run", f"{folder}/store{number}"], stdin=script, stdout=replies)
+        process = subprocess.Popen([build, "run", store], stdin=script, stdout=replies)
     # The files are the program's alone now: the system takes a lock for each write to one that two processes have open.
     while process.poll() is None:
         memory = most_memory(process, memory)

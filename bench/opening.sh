@@ -3,12 +3,11 @@
 # program used, which is the system's own account of it. The word: how many commits the shortest log has (2,000
 # where none is given); each later log has twice as many as the one before it.
 #
-# There are three kinds of logs, each in frames of one line and one commit:
-#   own      each line is of a transaction of its own, which is committed once
-#   set      all lines are of one transaction, which is committed again behind each of them, and set one item
-#   push     the same, and each line pushes an item of 256 bytes
-# A log that the store itself writes is of the first kind. The others are formed too, and a transaction counts once there,
-# so that each log takes time and memory by its length.
+# There are four kinds of logs, each of commits of one line. The program writes them itself, and writes all pages home at its end:
+#   set      each line sets one item of an array
+#   push     each line pushes an item of 256 bytes
+#   put      each line puts a new key with 100 bytes into a table
+#   left     as set, and behind that a program that is killed leaves a transaction of a thousand lines, which the opening undoes
 set -eu
 top="$(cd "$(dirname "$(readlink -f "${BASH_SOURCE[0]}")")/.." && pwd)"
 commits="${1:-2000}"
@@ -26,52 +25,52 @@ trap 'rm -rf "$folder"' EXIT
 }
 
 python3 - "$top/crates/sg_main/out/sg_main" "$folder" "$commits" <<'PYTHON'
-import os, struct, subprocess, sys, time
+import os, signal, subprocess, sys, time
 
-BEGIN, COMMIT, LINE = 1, 10, 13
-
-
-class Log:
-    """The bytes of a log, frame by frame."""
-
-    def __init__(self):
-        self.bytes, self.lasts = bytearray(), {}
-
-    def frame(self, *records):
-        """Adds a frame of records: kinds, transactions (None for the record's own number) and words."""
-        body = bytearray()
-        for kind, transaction, words in records:
-            number = len(self.bytes) + 5 + len(body)
-            transaction = number if transaction is None else transaction
-            head = struct.pack("<BIQQ", kind, 21 + len(words), transaction, self.lasts.get(transaction, 0))
-            self.lasts[transaction] = number
-            body += head + words
-        self.bytes += struct.pack("<BI", 1, len(body)) + body
-
-    def begin(self, *records):
-        """Adds a frame that begins a transaction, and answers its number."""
-        transaction = len(self.bytes) + 5
-        self.frame((BEGIN, None, b""), *[(kind, transaction, words) for kind, words in records])
-        return transaction
+program, folder, least = sys.argv[1], sys.argv[2], int(sys.argv[3])
 
 
-def log_of(kind, commits):
-    """A log with an array `a` of one item, and so many commits behind it."""
-    size = 256 if kind == "push" else 1
-    log, item = Log(), b"y" * size
-    log.begin((LINE, b"make array a %d" % size), (LINE, b"push a " + item), (COMMIT, b""))
-    words = b"push a " + item if kind == "push" else b"set a 0 y"
-    if kind == "own":
-        for _ in range(commits):
-            log.begin((LINE, words), (COMMIT, b""))
-        return log.bytes
-    transaction = log.begin()
-    for _ in range(commits):
-        log.frame((LINE, transaction, words), (COMMIT, transaction, b""))
-    return log.bytes
+def line_of(kind, number):
+    """The line of this number."""
+    if kind == "push":
+        return f"t push a {number:0256d}"
+    if kind == "put":
+        return f"t put h k{number} {number:0100d}"
+    return f"t set a 0 {number:08d}"
 
 
-def opened(program, store):
+def write_script(kind, commits):
+    """A script that makes the objects, and then commits so many lines."""
+    size = 256 if kind == "push" else 8
+    with open(f"{folder}/script", "w") as script:
+        script.write(f"t begin\nt make array a {size}\nt make table h\nt push a {0:0{size}d}\nt commit\n")
+        for number in range(commits):
+            script.write(f"t begin\n{line_of(kind, number)}\nt commit\n")
+
+
+def make_store(kind, commits, store):
+    """A store over which the script has run."""
+    subprocess.run([program, "init", store], stdin=subprocess.DEVNULL, stdout=subprocess.DEVNULL, check=True)
+    write_script(kind, commits)
+    with open(f"{folder}/script", "rb") as script, open(f"{folder}/replies", "wb") as replies:
+        subprocess.run([program, "run", store], stdin=script, stdout=replies, check=True)
+    with open(f"{folder}/replies", "rb") as replies:
+        assert all(line.startswith(b"ok") for line in replies)
+
+
+def leave_one(store):
+    """Leaves a transaction of a thousand lines in the store: another one's commit makes its records durable, and the program is ended."""
+    lines = ["t begin"] + [f"t set a 0 {number:08d}" for number in range(1000)] + ["u begin", "u commit"]
+    process = subprocess.Popen([program, "run", store], stdin=subprocess.PIPE, stdout=subprocess.PIPE)
+    process.stdin.write("".join(line + "\n" for line in lines).encode())
+    process.stdin.flush()
+    for line in lines:
+        assert process.stdout.readline() == b"ok\n", line
+    process.send_signal(signal.SIGKILL)
+    process.wait()
+
+
+def opened(store):
     """Runs one line over the store, and answers the status, the seconds to its reply and the greatest memory in KiB."""
     start = time.monotonic()
     process = subprocess.Popen([program, "run", store], stdin=subprocess.PIPE, stdout=subprocess.PIPE)
@@ -87,14 +86,13 @@ def opened(program, store):
     return process.returncode if reply == b"ok\n" else f"{process.returncode} without a reply", seconds, memory
 
 
-program, folder, least = sys.argv[1], sys.argv[2], int(sys.argv[3])
-for kind in ["own", "set", "push"]:
+for kind in ["set", "push", "put", "left"]:
     for times in [1, 2, 4, 8]:
-        log = log_of(kind, least * times)
         store = f"{folder}/{kind}-{times}"
-        os.mkdir(store)
-        with open(f"{store}/log0", "wb") as file:
-            file.write(log)
-        status, seconds, memory = opened(program, store)
-        print(f"{kind:5} {least * times:7} commits {len(log):9} bytes: status {status}, {seconds:.3f} seconds, {memory} KiB", flush=True)
+        make_store(kind, least * times, store)
+        if kind == "left":
+            leave_one(store)
+        size = os.path.getsize(f"{store}/log0")
+        status, seconds, memory = opened(store)
+        print(f"{kind:5} {least * times:7} commits {size:9} bytes: status {status}, {seconds:.3f} seconds, {memory} KiB", flush=True)
 PYTHON
