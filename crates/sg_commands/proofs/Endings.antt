@@ -2,6 +2,7 @@
 use Rattle.std.proofs.Common.{◌≡◌, ◌⊎◌, inl, inr, ⊎_elim, ℕ, zero, suc, ◌+◌, ◌<◌, ◌≤◌, ◌^◌, Bool, true, false, IsTrue, List, [], ◌∷◌, Option, Some, None, IfSome, length, refl, sym, ap, ◌∙◌, subst, arith, length-append}
 use Rattle.std.proofs.lemmas.Bool.{cases_lt}
 use Rattle.sg_base.specs.Ends.{HasRisen}
+use Rattle.sg_base.specs.declared.area.Area.{Area}
 use Rattle.sg_disk.specs.Accounts.{IsShownEnd}
 use Rattle.sg_disk.specs.Disk as disk
 use Rattle.sg_disk.proofs.Moments as moments
@@ -64,6 +65,22 @@ ended_memory ends.Write None h = cc
 ended_memory ends.TooLong None h = cc
 ended_memory end (Some stops.Disk) h = cc
 ended_memory end (Some stops.LogEnd) h = cc
+
+ended_damaged : (area : Area) (at : ℕ) (end : code_end.RunEnd) (stop : Option Stop) → status_of end stop ≡ statuses.Damaged area at → ⊥
+ended_damaged area at ends.Done None h = cc
+ended_damaged area at ends.Read None h = cc
+ended_damaged area at ends.Write None h = cc
+ended_damaged area at ends.TooLong None h = cc
+ended_damaged area at end (Some stops.Disk) h = cc
+ended_damaged area at end (Some stops.LogEnd) h = cc
+
+ended_unknown : (code : ℕ) (end : code_end.RunEnd) (stop : Option Stop) → status_of end stop ≡ statuses.UnknownOperation code → ⊥
+ended_unknown code ends.Done None h = cc
+ended_unknown code ends.Read None h = cc
+ended_unknown code ends.Write None h = cc
+ended_unknown code ends.TooLong None h = cc
+ended_unknown code end (Some stops.Disk) h = cc
+ended_unknown code end (Some stops.LogEnd) h = cc
 
 -- a count has risen, or hasn't
 risen_or : (before now : ℕ) → HasRisen before now ⊎ (HasRisen before now → ⊥)
@@ -389,10 +406,13 @@ module _ (basis : Sizes → Ground) (says : Says) (t : Operations) (told : Bool)
         by_status statuses.Write h tells = absurd (u.sink tells)
         by_status statuses.TooLong h tells = let long = subst (λ (o : Option (List ℕ)). IfSome o (λ text. MOST_BYTES < length text)) u.script tells in absurd
             (omega (arith, long, u.short))
-        by_status (statuses.UnknownOperation code) h tells = absurd ((tells u.is_told).1 u.is_presumed)
-        by_status (statuses.Damaged area at) h tells = absurd (tells u.is_told u.is_presumed)
+        by_status (statuses.UnknownOperation code) (inl never) tells = inr (inr (inr (tells u.is_told, never.untouched)))
+        by_status (statuses.UnknownOperation code) (inr ran) tells = absurd (ended_unknown code ran.run.end ran.run.stopped (sym ran.status_is))
+        by_status (statuses.Damaged area at) (inl never) tells = (let c = tells u.is_told in
+            inr (inr (inr ((c.0, λ home. c.1 home u.is_presumed), never.untouched))))
+        by_status (statuses.Damaged area at) (inr ran) tells = absurd (ended_damaged area at ran.run.end ran.run.stopped (sym ran.status_is))
         by_status statuses.Exists h tells = absurd tells
-        by_status statuses.LogEnd h tells = inr (inr (refl, tells))
+        by_status statuses.LogEnd h tells = inr (inr (inl (refl, tells)))
 
     -- the account of a run by how it went
     pub account_of : (status : code_status.Status) → HasGone basis says t told presumed old new refused status → Account basis says t told presumed old new refused status

@@ -2,4 +2,4 @@ pub mod Endings
 pub mod Making
 pub mod Wanting
 pub mod AllDone
-pub mod Stores
+pub mod OverPages

@@ -1,6 +1,7 @@
 -- What an image stands for, over any engine's pages.
 use Rattle.std.specs.Prelude.{◌≡◌, ◌⊎◌, ℕ, ◌≤◌, length, Bool, IsTrue, false}
 use Rattle.sg_base.specs.Ends.{HasRisen}
+use Rattle.sg_base.specs.declared.area.Area.{Area}
 use Rattle.sg_disk.specs.Disk as disk
 use Rattle.sg_disk.specs.Disk.{Image}
 use Rattle.sg_ops.specs.Table.{Table as Operations}
@@ -15,11 +16,13 @@ abbrev pub reads_of : disk.View → Image
 reads_of v a = (v.now a).seen
 
 -- WHAT AN IMAGE SAYS of the store that it is of: how many pages and bands that has, and where its log ends; when an operation that it needs
--- isn't registered, with the code that is; when there is no store in it, and when one can be made
+-- isn't registered, with the code that is; when what begins at a byte of an area isn't a store's; when there is no store in it, and when one can
+-- be made
 pub record Says : Type 1 where
   pub sizes : Image → Sizes
   pub log_end : Image → ℕ
   pub unknown : Operations → Image → ℕ → Type 0
+  pub damaged : Operations → Image → Area → ℕ → Type 0
   pub no_store : Image → Type 0
   pub blank : Image → Type 0
 

@@ -5,7 +5,7 @@ ghost use Rattle.sg_mount.specs.Opening.{HasOpenedOn, IsHandedBack, shown_by};
 ghost use Rattle.sg_ops.specs.Table.{table_of};
 ghost use Rattle.sg_store.specs.Seen.{core_of, Serves};
 ghost use Rattle.sg_commands.specs.Images.{IsPresumed};
-ghost use Rattle.sg_commands.specs.Stores.{SUPER, grounds, says, refused_for};
+ghost use Rattle.sg_commands.specs.Stores.{SUPER, grounds, says, refused_for, making_refused_for};
 
 use crate::opens::{InitRefused, OpenRefused, Opens, Unopened};
 use sg_base::Steps;
@@ -32,6 +32,16 @@ fn refused(fault: MountFault) -> OpenRefused
         MountFault::NotAStore => OpenRefused::NotAStore,
         MountFault::Damaged { area, at } => OpenRefused::Damaged { area, at },
         MountFault::UnknownOperation(code) => OpenRefused::UnknownOperation(code),
+    }
+}
+
+// Why no store is made, in the program's words. Its sizes are in their ranges.
+fn not_made(fault: InitFault) -> InitRefused
+    ensures { result ≡ making_refused_for fault }
+{
+    match fault {
+        InitFault::Exists => InitRefused::Exists,
+        InitFault::Disk | InitFault::BadGeometry => InitRefused::DiskFault,
     }
 }
 
@@ -100,8 +110,7 @@ impl<D: Presumed> Opens<D> for Paged<Phys<D>> {
     fn init(disk: &mut D) -> Result<(), InitRefused> {
         match init_store(disk, &sizes()) {
             Ok(()) => Ok(()),
-            Err(InitFault::Exists) => Err(InitRefused::Exists),
-            Err(InitFault::Disk | InitFault::BadGeometry) => Err(InitRefused::DiskFault),
+            Err(fault) => Err(not_made(fault)),
         }
     }
 }

@@ -4,7 +4,7 @@ use Rattle.sg_commands.specs.Images.{IsOfStore}
 use Rattle.sg_commands.specs.Stores.{grounds, says}
 use Rattle.sg_commands.specs.Top.{Outside, outside}
 use Rattle.sg_commands.proofs.Making.{makes_none, said_none}
-use Rattle.sg_commands.proofs.Stores.{none_where_blank}
+use Rattle.sg_commands.proofs.OverPages.{none_where_blank}
 use Rattle.sg_commands.proofs.Wanting.{not_begun, not_drawn, not_spent}
 use Rattle.sg_main.proofs.ended.Ended.of_run.Goals as goal
 
