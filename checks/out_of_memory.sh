@@ -69,7 +69,7 @@ error out-of-range" || verdict=FAILED
 
 # The first two are requests for the words and for reading them, the third that for the folder's path, the fourth one of the opening,
 # and the last one that for the list of keys.
-words=2 reading=60 path=115 opening=300 keys=442
+words=2 reading=60 path=115 opening=300 keys=444
 for request in $words $reading $path $opening $keys; do
     run_refusing "$request" &
 done
