@@ -2,6 +2,8 @@
 // promise nothing: a test sees plain values, and its proof carries none of the program's clauses. They give none where
 // memory is refused, a store isn't made, or a session doesn't start.
 ghost use Rattle.std.specs.Prelude.{◌<◌};
+ghost use Rattle.sg_ops.specs.Table.{table_of};
+ghost use Rattle.sg_session.specs.Seen.{Serves};
 
 use crate::quiet::Quiet;
 use sg_base::{MemSink, MemSource, Source};
@@ -184,7 +186,9 @@ fn answer_lines(
     session: Lines,
     lines: &str,
     out: &mut MemSink,
-) -> (Status, Silent) {
+) -> (Status, Silent)
+    requires serves { Serves (table_of record_meaning range_meaning ops.now) session.inner }
+{
     let mut session = session;
     for line in lines.split('\n') {
         let _ = session.line(alloc, ops, line.as_bytes(), out);
