@@ -303,14 +303,6 @@ pub fn log_record<D: Disk>(
     }
 }
 
-// A table without a registered operation. It takes no memory.
-fn no_operations(alloc: Global) -> Ops {
-    match Ops::new(alloc) {
-        Ok(none) => none,
-        Err(_) => unreachable!(),
-    }
-}
-
 /// The same of a record that uses no registered operation.
 pub fn log_without<D: Disk>(
     engine: &mut Engine<D>,
@@ -336,6 +328,9 @@ pub fn log_without<D: Disk>(
     ensures runs { (own : Table) (o : Origin) (ds ps : List Numbered) → IsTrue D.told → ((given : Table) → IsAsked own given o (D.view engine.old.disk) engine.old.log ds ps engine.old.pool (shown r.now))
         → HasRun own o (D.view engine.old.disk) (D.view engine.new.disk) engine.old.log engine.new.log engine.old.pool engine.new.pool ds (ds ++ ps) (shown r.now) tried.new result }
 {
-    let none = no_operations(alloc);
-    log_record(engine, &none, r, tried)
+    // A table without a registered operation takes no memory.
+    match Ops::new(alloc) {
+        Ok(none) => log_record(engine, &none, r, tried),
+        Err(_) => unreachable!(),
+    }
 }
