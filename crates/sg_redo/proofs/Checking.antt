@@ -14,12 +14,12 @@ chunk_at loans part size start k d chunk low within = chunk.elements (k - start)
 pub well_on : (loans part : List Lent) (size start i : ℕ) → IsChunk loans size start part → i ≤ length part → AreWellBelow part i → AreWellBelow loans start → AreWellBelow loans (start + i)
 well_on loans part size start i chunk most front before k d below within =
     ⊎_elim (λ low. before k d low within)
-        (λ high.
-            let j<i : k - start < i = omega arith in
-            let j<end : k - start < length part = omega arith in
-            let P : Lent → Type 0 = λ l. IsWell l.bytes in
-            subst P (chunk_at loans part size start k d chunk high j<end) (front (k - start) d j<i j<end))
-        (cases_lt k start)
+    (λ high.
+    let j<i : k - start < i = omega arith in
+    let j<end : k - start < length part = omega arith in
+    let P : Lent → Type 0 = λ l. IsWell l.bytes in
+    subst P (chunk_at loans part size start k d chunk high j<end) (front (k - start) d j<i j<end))
+    (cases_lt k start)
 
 -- a chunk of which all may be pages leads to the next one
 pub well_through : (loans part : List Lent) (size n : ℕ) → IsChunk loans size (n * size) part → AreWellBelow part (length part) → AreWellBelow loans (n * size) → AreWellBelow loans ((n + 1) * size)

@@ -9,8 +9,10 @@ returns-in-Some g c =
     let here : c.parts.n < length c.in-Ok.parts.items = grind arith in
     let given = (c.in-Ok.ensures.each c.parts.n c.index.result.now here).1 in
     let P : Option ℕ → Type 0 = FindsBad given.argument.now in
-    record { found = first_on c.args.loans.now given.argument.now c.div_ceil-size.result (c.parts.n * c.div_ceil-size.result) c.in-Some.i given.argument_is
-        (subst P (sym c.index.ensures ∙ c.in-Some.is) given.call) c.parts.invariant }
+    record {
+      found = first_on c.args.loans.now given.argument.now c.div_ceil-size.result (c.parts.n * c.div_ceil-size.result) c.in-Some.i given.argument_is
+          (subst P (sym c.index.ensures ∙ c.in-Some.is) given.call) c.parts.invariant;
+    }
 
 pub parts-preserved : goal.parts-preserved
 parts-preserved g c =
@@ -18,7 +20,7 @@ parts-preserved g c =
     let given = (c.in-Ok.ensures.each c.parts.n c.index.result.now here).1 in
     let P : Option ℕ → Type 0 = FindsBad given.argument.now in
     well_through c.args.loans.now given.argument.now c.div_ceil-size.result c.parts.n given.argument_is
-        (subst P (sym c.index.ensures ∙ c.in_default-index.is) given.call) c.parts.invariant
+    (subst P (sym c.index.ensures ∙ c.in_default-index.is) given.call) c.parts.invariant
 
 pub returns : goal.returns
 returns g c =
