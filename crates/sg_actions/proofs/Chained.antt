@@ -179,7 +179,7 @@ precedes {base} {rs} {tail} {actor} h z = by_first (last_of 0 rs == border_of 0 
     by_first false e = e
 
 -- a border is no later than the last record
-border_le : (rs : Steps) (u : ℕ) → Formed rs → border_of u rs ≤ last_of u rs
+pub border_le : (rs : Steps) (u : ℕ) → Formed rs → border_of u rs ≤ last_of u rs
 border_le [] u f = omega arith
 border_le (r ∷ rs) u f = by_own (border_le rs u f.2) (txn_of r.is == u) refl
   where

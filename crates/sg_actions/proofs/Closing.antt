@@ -148,7 +148,7 @@ row_low base rs tail rows actor t last row h = by (nat_lt t tail) refl
     by false e = absurd (none_some last (sym (h.rows_are.low t (lt_not t tail e)) ∙ row))
 
 -- A MARK
-running_save : (base : ℕ) (rs : Steps) (tail next t last mark : ℕ) (rows : List Row) (actor : Actor) → tail < next → ended rs ≡ rs → actor.txn.0 ≡ 0 → last_in rows t ≡ Some last → is_in t (tally rs).live ≡ true
+pub running_save : (base : ℕ) (rs : Steps) (tail next t last mark : ℕ) (rows : List Row) (actor : Actor) → tail < next → ended rs ≡ rs → actor.txn.0 ≡ 0 → last_in rows t ≡ Some last → is_in t (tally rs).live ≡ true
     → IsChained base rs tail rows actor → IsRunning base (stepped rs tail (Save t last mark)) next actor
 running_save base rs tail next t last mark rows actor less idle rest there live h =
     let none = idle_closed base rs tail rows actor idle h in
@@ -168,7 +168,7 @@ chain_save base rs tail next t last mark rows actor row less idle rest there liv
     (running_save base rs tail next t last mark rows actor less idle rest there live h) h
 
 -- A COMMIT
-running_commit : (base : ℕ) (rs : Steps) (tail next t last : ℕ) (rows : List Row) (actor : Actor) → tail < next → ended rs ≡ rs → actor.txn.0 ≡ 0 → last_in rows t ≡ Some last → is_in t (tally rs).live ≡ true
+pub running_commit : (base : ℕ) (rs : Steps) (tail next t last : ℕ) (rows : List Row) (actor : Actor) → tail < next → ended rs ≡ rs → actor.txn.0 ≡ 0 → last_in rows t ≡ Some last → is_in t (tally rs).live ≡ true
     → IsChained base rs tail rows actor → IsRunning base (stepped rs tail (Commit t last)) next actor
 running_commit base rs tail next t last rows actor less idle rest there live h =
     let none = idle_closed base rs tail rows actor idle h in
@@ -192,7 +192,7 @@ chain_commit base rs tail next t last rows actor row less idle rest there live i
 ends_over : (base : ℕ) (rs : Steps) (t last : ℕ) → (is_in t (tally rs).live ≡ false → HasCommitted rs t last) → IsOver base rs (End t last)
 ends_over base rs t last past some gone = let c = past gone in subst (λ (x : Option Step). MayBeBehind base (last_of t rs) (End t last) x) (sym c.newest_is) (refl, c.last_is)
 
-running_done : (base : ℕ) (rs : Steps) (tail next t last : ℕ) (rows : List Row) (actor : Actor) → tail < next → ended rs ≡ rs → actor.txn.0 ≡ 0 → last_in rows t ≡ Some last → t ≢ 0
+pub running_done : (base : ℕ) (rs : Steps) (tail next t last : ℕ) (rows : List Row) (actor : Actor) → tail < next → ended rs ≡ rs → actor.txn.0 ≡ 0 → last_in rows t ≡ Some last → t ≢ 0
     → IsChained base rs tail rows actor → IsRunning base (stepped rs tail (End t last)) next actor
 running_done base rs tail next t last rows actor less idle rest there nz h =
     let none = idle_closed base rs tail rows actor idle h in
@@ -374,12 +374,12 @@ note_live rs t n ns f is =
     (λ m z e. subst (λ (u : ℕ). is_in u (tally rs).live ≡ true) (number_is m.transaction t e) z.is_live) (sound rs f).notes) in
     live.0
 
-running_undone : {base : ℕ} {rs : Steps} {tail next : ℕ} {actor : Actor} (after : ℕ) → tail < next → actor.last ≡ next_off actor.before (tally rs).opened → IsUndone rs actor actor.txn.0 after → IsRunning base rs tail actor → IsRunning base (stepped rs tail (CompEnd actor.txn.0 actor.last after)) next at_rest
+pub running_undone : {base : ℕ} {rs : Steps} {tail next : ℕ} {actor : Actor} (after : ℕ) → tail < next → actor.last ≡ next_off actor.before (tally rs).opened → IsUndone rs actor actor.txn.0 after → IsRunning base rs tail actor → IsRunning base (stepped rs tail (CompEnd actor.txn.0 actor.last after)) next at_rest
 running_undone {base} {rs} {tail} {next} {actor} after less at c h =
     let nonzero = no_zero rs actor.txn.0 h.system (note_live rs actor.txn.0 c.n c.rest h.log.chained c.notes) in
     running_end (CompEnd actor.txn.0 actor.last after) refl refl less refl (none_open h) (own_low h) (λ known. (h.last_is known, (c.n, c.rest, c.notes, sym c.goes_on))) (λ z. absurd (nonzero z)) tt tt (λ acts. straight_on h at acts) h
 
-own_undone : (rs : Steps) (actor : Actor) (txn after : ℕ) → IsUndone rs actor txn after → IsUndone rs actor actor.txn.0 after
+pub own_undone : (rs : Steps) (actor : Actor) (txn after : ℕ) → IsUndone rs actor txn after → IsUndone rs actor actor.txn.0 after
 own_undone rs actor txn after c = subst (λ (u : ℕ). IsUndone rs actor u after) (sym c.acts) c
 
 chain_undone : (base : ℕ) (rs : Steps) (tail next after : ℕ) (rows : List Row) (actor : Actor) (lsn : ℕ) → tail < next → lsn ≡ tail → IsUndone rs actor actor.txn.0 after

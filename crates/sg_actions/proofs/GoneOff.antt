@@ -17,7 +17,7 @@ use Rattle.sg_space.specs.declared.space.SpaceFault.{SpaceFault}
 use Rattle.sg_space.specs.declared.space.SpaceFault.TheVariants.{Disk, LogEnd}
 use Rattle.sg_action.specs.States.{State, Kept}
 use Rattle.sg_actions.specs.Changes.{comp_of}
-use Rattle.sg_actions.specs.Engine.{EngineSeen, EngineView, EngineCounts, Moments, now_of}
+use Rattle.sg_actions.specs.Engine.{EngineSeen, EngineView, EngineCounts, Moments, now_of, IsFormedWith, seen}
 use Rattle.sg_actions.specs.Growing.{grows_same, grows_then, moments_then, moments_stop}
 use Rattle.sg_actions.specs.Images.{Recovering}
 use Rattle.sg_actions.specs.Led.{HasLogged, HasStayed, LookCall, LogCall}
@@ -111,6 +111,13 @@ off_one {recovers} {t} kept begin e e' rows actor at prev c comp q off n r is h 
     (λ lsn j. stepped e.steps lsn (PhysComp actor.txn.0 actor.last (r.before_is j) ((is ∙ ap comp_of r.change) j)))
     (inl (record { previous = actor.last; undo_next = next_off actor.before n.ds; d = n.d; ds = n.ds; opened = n.is; left = ap (open_up_to actor.txn.0 (next_off actor.before n.ds)) (sym n.is) ∙ one.leaves; is = refl }))
     one.goes_on.running.log h told
+
+-- with which the log is formed, whatever number it has
+pub off_formed : {t : Table} (kept : Kept) (begin : State) (e : EngineView) (rows : List Row) (actor : Actor) (at prev : ℕ) (c comp : Changing) → IsGoing t kept begin e rows actor at → (n : IsNext e.steps actor at) → IsRead c prev n.d (next_off actor.before n.ds) → comp ≡ comp_of c
+    → IsFormedWith (seen e) (PhysComp actor.txn.0 actor.last prev comp)
+off_formed {t} kept begin e rows actor at prev c comp off n r is lsn le number =
+    subst (λ (x : Step). IsLog e.base (stepped e.steps lsn x)) (sym (λ j. PhysComp actor.txn.0 actor.last (r.before_is j) ((is ∙ ap comp_of r.change) j)))
+    (takes_one_off t kept begin e.base e.steps (now_of t e) lsn (lsn + 1) rows actor n.d n.ds (omega arith) n.is (taking_later off.taking le)).goes_on.running.log
 
 -- and the one that ends it
 pub off_void : {recovers : Recovering} {t : Table} (kept : Kept) (begin : State) (e e' : EngineView) (rows : List Row) (actor : Actor) (q : Result ℕ SpaceFault) → IsTakingOff t kept begin e.base e.steps (now_of t e) e.tail rows actor → (tally e.steps).opened ≡ []

@@ -9,9 +9,9 @@ use Rattle.sg_alloc.specs.declared.maps.Maps.{Maps}
 use Rattle.sg_ops.specs.Table.{Table}
 use Rattle.sg_record.specs.Changes.{Change as Changing, BandBytes, BandOp}
 use Rattle.sg_record.specs.Changes.Change.{Page, SegWrite, SegOp}
-use Rattle.sg_record.specs.Ranges.{Field, first_out, is_part, op_before_fits, says_fields, greatest, IsRecord}
+use Rattle.sg_record.specs.Ranges.{Field, first_out, is_part, op_before_fits, says_fields, GREATEST, IsRecord}
 use Rattle.sg_record.specs.Records.{Record, Says, HEADER, body_of}
-use Rattle.sg_record.specs.Records.Says.{Begin as SaysBegin, Changed as SaysChanged, TopEnd as SaysTopEnd, PhysComp as SaysPhysComp, TopVoid as SaysTopVoid, CompEnd as SaysCompEnd, Save as SaysSave, Commit as SaysCommit, End as SaysEnd, Checkpoint as SaysCheckpoint, Line as SaysLine}
+use Rattle.sg_record.specs.Records.Says.{Begin as SaysBegin, Changed as SaysChanged, TopEnd as SaysTopEnd, PhysComp as SaysPhysComp, TopVoid as SaysTopVoid, CompEnd as SaysCompEnd, Save as SaysSave, Commit as SaysCommit, End as SaysEnd, Checkpoint as SaysCheckpoint}
 use Rattle.sg_record.specs.Shown.{by}
 use Rattle.sg_recovery.specs.Laws.{Each}
 use Rattle.sg_recovery.specs.Log.{tally, said, changes_of}
@@ -96,7 +96,7 @@ fields (f ∷ fs) h = by f.1 refl h (fields fs)
     by false e k more = absurd (cc)
 
 pub fields_of : (transaction previous : ℕ) (says : Says) → IsRecord (by transaction previous says) → Each (λ f. f.1 ≡ true) (says_fields transaction previous says)
-fields_of transaction previous says h = (fields ((1, nat_le (HEADER + length (body_of says)) (greatest says)) ∷ says_fields transaction previous says) h.ranges).1
+fields_of transaction previous says h = (fields ((1, nat_le (HEADER + length (body_of says)) GREATEST) ∷ says_fields transaction previous says) h.ranges).1
 
 pub part_is : (at count : ℕ) → is_part at count ≡ true → IsPiece at count
 part_is at count h =
@@ -170,7 +170,6 @@ hop_part outside transaction previous n (SaysSave m) c s h e k = absurd (none_so
 hop_part outside transaction previous n SaysCommit c s h e k = absurd (none_some _ e)
 hop_part outside transaction previous n SaysEnd c s h e k = absurd (none_some _ e)
 hop_part outside transaction previous n (SaysCheckpoint m live) c s h e k = absurd (none_some _ e)
-hop_part outside transaction previous n (SaysLine words) c s h e k = absurd (none_some _ e)
 
 hop_band : (outside : ℕ) (transaction previous n : ℕ) (says : Says) (c : Option Changing) (s : Stood) → IsRecord (by transaction previous says) → hop_in (step_by transaction previous says) ≡ Some (c, n) → stood_by outside c ≡ Some s → s.0 < 65536
 hop_band outside transaction previous n SaysBegin c s h e k = absurd (none_some _ e)
@@ -185,7 +184,6 @@ hop_band outside transaction previous n (SaysSave m) c s h e k = absurd (none_so
 hop_band outside transaction previous n SaysCommit c s h e k = absurd (none_some _ e)
 hop_band outside transaction previous n SaysEnd c s h e k = absurd (none_some _ e)
 hop_band outside transaction previous n (SaysCheckpoint m live) c s h e k = absurd (none_some _ e)
-hop_band outside transaction previous n (SaysLine words) c s h e k = absurd (none_some _ e)
 
 pub part_band : (outside : ℕ) (r : Record) (n : ℕ) (c : Option Changing) (s : Stood) → IsRecord r → Some (c, n) ≡ hop_in (step_of r) → Some s ≡ stood_by outside c → s.0 < 65536
 part_band outside r n c s h e k = hop_band outside r.transaction r.previous n r.says c s h (sym e) (sym k)

@@ -26,7 +26,7 @@ use Rattle.sg_space.specs.Pages.{Took, empty_sheet}
 use Rattle.sg_space.proofs.InMemory.{slice_get-set_same, slice_get-set_other}
 use Rattle.sg_actions.specs.Acting.{IsWell}
 use Rattle.sg_actions.specs.Changes.{back_said, meaning}
-use Rattle.sg_actions.specs.Engine.{EngineView, EngineSeen, IsLoggable}
+use Rattle.sg_actions.specs.Engine.{EngineView, EngineSeen, IsLoggable, IsFormedWith}
 use Rattle.sg_actions.specs.Steps.{stepped, opened, begin_of}
 use Rattle.sg_actions.specs.Taken.{AreSaid, is_set, is_there, takes_page, kept_of, units_there, lessens, has_lessened, AreFlags}
 use Rattle.sg_actions.specs.View.{IsKept, acts_view, MayGive, HasFreedNone}
@@ -144,11 +144,12 @@ formatted : (t : Table) (kind : ℕ) (leaf : Option Sheet) → step_leaf t (Form
 formatted t kind None = refl
 formatted t kind (Some sheet) = refl
 
-pub format_loggable : (t : Table) (e : EngineSeen) (txn last p kind : ℕ) (c : PageChange) → IsSaid c p (Format kind) → p < e.extent.pages → IsLoggable t ⊥ e (ChangeStep txn last (PageHeld c))
-format_loggable t e txn last p kind c s below = record {
+pub format_loggable : (t : Table) (e : EngineSeen) (txn last p kind : ℕ) (c : PageChange) → IsSaid c p (Format kind) → p < e.extent.pages → ∥ IsFormedWith e (ChangeStep txn last (PageHeld c)) ∥₁ → IsLoggable t ⊥ e (ChangeStep txn last (PageHeld c))
+format_loggable t e txn last p kind c s below formed = record {
   there = subst (λ (n : ℕ). n < e.extent.pages) (sym s.page_is) below;
   fits = (λ j. is_some (step_leaf t (s.said j) (e.now.pages (s.page_is j)))) ∙ ap is_some (formatted t kind (e.now.pages p));
   known = tt;
+  formed = formed;
   means = λ u. absurd (no (sym u ∙ ap uses_table s.said));
 }
 

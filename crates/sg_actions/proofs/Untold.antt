@@ -23,7 +23,7 @@ use Rattle.sg_recovery.specs.Log.Record.{Begin, Change, TopEnd, PhysComp, TopVoi
 use Rattle.sg_actions.specs.Engine.{Extent, ArePagesFit, IsOn, StepOn, AllOn}
 use Rattle.sg_actions.specs.Steps.{Step, Steps, step_at, step_of, step_by}
 use Rattle.sg_record.specs.Records.{Record, Says}
-use Rattle.sg_record.specs.Records.Says.{Begin as SaysBegin, Changed, TopEnd as SaysTopEnd, PhysComp as SaysPhysComp, TopVoid as SaysTopVoid, CompEnd as SaysCompEnd, Save as SaysSave, Commit as SaysCommit, End as SaysEnd, Checkpoint as SaysCheckpoint, Line as SaysLine}
+use Rattle.sg_record.specs.Records.Says.{Begin as SaysBegin, Changed, TopEnd as SaysTopEnd, PhysComp as SaysPhysComp, TopVoid as SaysTopVoid, CompEnd as SaysCompEnd, Save as SaysSave, Commit as SaysCommit, End as SaysEnd, Checkpoint as SaysCheckpoint}
 use Rattle.sg_actions.specs.Undoing.{Hop, Stood, hop_in, stood_of, stood_by}
 use Rattle.sg_actions.proofs.PuttingBack.{stood_of_is, firsts}
 use Rattle.sg_actions.proofs.TakenOff.{off_page}
@@ -194,4 +194,3 @@ no_change what r {u} {p} {d} e is f = by what.says e (λ c z. f c (ap (λ (y : R
     by SaysCommit z g = cc
     by SaysEnd z g = cc
     by (SaysCheckpoint m live) z g = cc
-    by (SaysLine words) z g = cc

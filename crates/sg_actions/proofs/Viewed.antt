@@ -20,7 +20,7 @@ use Rattle.sg_actions.specs.declared.rows.Row.{Row}
 use Rattle.sg_actions.proofs.Acting.{acting_change}
 use Rattle.sg_actions.proofs.Calling.{MayGoOn}
 use Rattle.sg_actions.specs.Changes.{back_said, meaning}
-use Rattle.sg_actions.specs.Engine.{EngineSeen, now_of, IsLoggable, led}
+use Rattle.sg_actions.specs.Engine.{EngineSeen, now_of, IsLoggable, led, IsFormedWith}
 use Rattle.sg_actions.specs.Steps.{Steps, stepped, opened, begin_of}
 use Rattle.sg_actions.specs.Taken.{is_set, is_there, kept_of, units_there, writes_band, lessens}
 use Rattle.sg_actions.specs.View.{IsKept, acts_view, MayGive, MayGiveNow}
@@ -69,11 +69,12 @@ pub ready_same : {t : Table} {e e' : EngineSeen} {p : ℕ} {op : Op} {c : PageCh
 ready_same {t} {e} {e'} {p} same r = record { sheet = r.sheet; new = r.new; is = ap (λ (x : State). x.pages p) same.now ∙ r.is; fit = r.fit; back = r.back; proper = r.proper }
 
 -- so its record may be appended
-pub loggable : (t : Table) (e : EngineSeen) (txn last p : ℕ) (op : Op) (c : PageChange) → IsSaid c p op → IsReady t e.now p op c → p < e.extent.pages → IsLoggable t ⊤ e (ChangeStep txn last (PageHeld c))
-loggable t e txn last p op c s r below = record {
+pub loggable : (t : Table) (e : EngineSeen) (txn last p : ℕ) (op : Op) (c : PageChange) → IsSaid c p op → IsReady t e.now p op c → p < e.extent.pages → ∥ IsFormedWith e (ChangeStep txn last (PageHeld c)) ∥₁ → IsLoggable t ⊤ e (ChangeStep txn last (PageHeld c))
+loggable t e txn last p op c s r below formed = record {
   there = subst (λ (n : ℕ). n < e.extent.pages) (sym s.page_is) below;
   fits = ap (fits t e.now) (means_page s) ∙ (ap (λ (o : Option Sheet). is_some (step_leaf t op o)) r.is ∙ ap is_some r.fit);
   known = tt;
+  formed = formed;
   means = λ u. tt;
 }
 

@@ -5,6 +5,7 @@ use Rattle.sg_recovery.specs.Log.{tally}
 use Rattle.sg_recovery.specs.Chains.{next_off}
 use Rattle.sg_action.specs.States.{State, Change}
 use Rattle.sg_action.specs.Opened.{IsOpened, OpenWell, IsBegun, AreFit}
+use Rattle.sg_actions.specs.Engine.{EngineSeen}
 use Rattle.sg_actions.specs.Rows.{at_rest}
 use Rattle.sg_actions.specs.Steps.{Steps, ended}
 use Rattle.sg_actions.specs.TakingOff.{IsRunning, AreRows}
@@ -28,6 +29,19 @@ pub record IsChained (base : ℕ) (rs : Steps) (tail : ℕ) (rows : List Row) (a
   pub rows_are : AreRows rs tail rows actor
   pub closed : (tally (ended rs)).opened ≡ []
   pub at : actor.last ≡ next_off actor.before (tally rs).opened
+
+-- WHO ACTS MAY GO ON with a change: the log is formed, and the last record of who acts is its last open change, or the record before the action
+pub record MayChange (base : ℕ) (rs : Steps) (tail : ℕ) (actor : Actor) : Type 0 where
+  pub running : IsRunning base rs tail actor
+  pub at : actor.last ≡ next_off actor.before (tally rs).opened
+
+-- so it is where an engine tells and an action was begun
+abbrev pub CanChange : EngineSeen → (begun : Bool) → Actor → Type 0
+CanChange e begun actor = begun ≡ true → e.Told → ∥ MayChange e.base e.steps e.tail actor ∥₁
+
+-- where an engine tells, its log and the rows are chained
+abbrev pub HasChain : EngineSeen → List Row → Actor → Type 0
+HasChain e rows actor = e.Told → ∥ IsChained e.base e.steps e.tail rows actor ∥₁
 
 -- a log without records, and no row of a transaction
 abbrev pub FreshIsChained : Type 0

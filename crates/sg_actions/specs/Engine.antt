@@ -10,17 +10,18 @@ use Rattle.sg_ops.specs.Table.{Table, range_at}
 use Rattle.sg_record.specs.Changes.{Change as Changing}
 use Rattle.sg_record.specs.Changes.Change.{Page, SegWrite, SegOp}
 use Rattle.sg_record.specs.Records.{Record, Says, spelled}
+use Rattle.sg_record.specs.Records.Says.{Begin as SaysBegin}
 use Rattle.sg_record.specs.Reading.{parse}
 use Rattle.sg_base.specs.Page.{stored}
 use Rattle.sg_recovery.specs.Formed.{IsLog}
 use Rattle.sg_recovery.specs.Log.{Open, tally, is_in}
-use Rattle.sg_recovery.specs.Log.Record.{Change, PhysComp}
+use Rattle.sg_recovery.specs.Log.Record.{Begin, Change, PhysComp}
 use Rattle.sg_action.specs.States.{State, fits}
 use Rattle.sg_space.specs.declared.space.SpaceFault.{SpaceFault}
 use Rattle.sg_space.specs.declared.space.SpaceFault.TheVariants.{Disk, LogEnd}
 use Rattle.sg_actions.specs.Changes.{op_said, meaning}
 use Rattle.sg_actions.specs.Images.{Grows, Recovering, IsImageOf}
-use Rattle.sg_actions.specs.Steps.{Step, Steps, step_of, step_at, with_step, repeated}
+use Rattle.sg_actions.specs.Steps.{Step, Steps, step_of, step_at, stepped, with_step, repeated}
 
 -- how many pages and bands there are
 pub record Extent : Type 0 where
@@ -192,11 +193,21 @@ abbrev pub AllOn : Extent → Steps → Type 0
 AllOn x [] = ⊤
 AllOn x (r ∷ rs) = StepOn x r.is × AllOn x rs
 
--- a step may be appended, and where it uses registered operations, this holds of them
+-- a step may get each number from the log's end on. A begin, whose transaction is its number, gets the next one
+abbrev pub MayGet : EngineSeen → Step → ℕ → Type 0
+MayGet e (Begin u p) lsn = lsn ≡ e.next SaysBegin
+MayGet e _ lsn = ⊤
+
+-- THE LOG IS FORMED with the step, whatever number it gets
+abbrev pub IsFormedWith : EngineSeen → Step → Type 0
+IsFormedWith e x = (lsn : ℕ) → e.tail ≤ lsn → MayGet e x lsn → IsLog e.base (stepped e.steps lsn x)
+
+-- a step may be appended, the log is formed with it, and where it uses registered operations, this holds of them
 pub record IsLoggable (t : Table) (Means : Type 0) (e : EngineSeen) (x : Step) : Type 0 where
   pub there : StepOn e.extent x
   pub fits : Fits t e.now x
   pub known : Knows t e x
+  pub formed : ∥ IsFormedWith e x ∥₁
   pub means : StepUsesTable x → Means
 
 abbrev pub IsStepThat : Option Step → (Step → Type 0) → Type 0

@@ -3,7 +3,7 @@ use Rattle.std.specs.Prelude.{ℕ, ◌==◌, if◌then◌else◌, List, [], ◌�
 use Rattle.sg_ops.specs.Table.{Table}
 use Rattle.sg_record.specs.Changes.{Change as Changing}
 use Rattle.sg_record.specs.Records.{Record, Says}
-use Rattle.sg_record.specs.Records.Says.{Begin as SaysBegin, Changed as SaysChanged, TopEnd as SaysTopEnd, PhysComp as SaysPhysComp, TopVoid as SaysTopVoid, CompEnd as SaysCompEnd, Save as SaysSave, Commit as SaysCommit, End as SaysEnd, Checkpoint as SaysCheckpoint, Line as SaysLine}
+use Rattle.sg_record.specs.Records.Says.{Begin as SaysBegin, Changed as SaysChanged, TopEnd as SaysTopEnd, PhysComp as SaysPhysComp, TopVoid as SaysTopVoid, CompEnd as SaysCompEnd, Save as SaysSave, Commit as SaysCommit, End as SaysEnd, Checkpoint as SaysCheckpoint}
 use Rattle.sg_recovery.specs.Log as recovery
 use Rattle.sg_recovery.specs.Log.Record.{Begin, Change, TopEnd, PhysComp, TopVoid, CompEnd, Save, Commit, End}
 use Rattle.sg_action.specs.States.{State, Change as Changed, apply}
@@ -28,7 +28,6 @@ step_by transaction previous (SaysSave mark) = Some (Save transaction previous m
 step_by transaction previous SaysCommit = Some (Commit transaction previous)
 step_by transaction previous SaysEnd = Some (End transaction previous)
 step_by transaction previous (SaysCheckpoint estimate live) = None
-step_by transaction previous (SaysLine words) = None
 
 -- the step that a record is, if it is one of a transaction or of the system
 abbrev pub step_of : Record → Option Step

@@ -122,6 +122,11 @@ pub record TookOff (t : Table) (e e' : EngineView) (maps maps' unfreed : Maps) (
   pub keeps_on : e.Told → (kept : Kept) (begin : State) → at ≢ actor.before → IsGoing t kept begin e rows actor at → IsGoing t kept begin e' rows actor' next
   pub steps : e.Told → CanGoOff t e rows actor at → NextStep e e' actor
 
+-- no change of the action of who acts is left
+pub record IsAllOff (base : ℕ) (rs : Steps) (tail : ℕ) (actor : Actor) : Type 0 where
+  pub running : IsRunning base rs tail actor
+  pub none : (tally rs).opened ≡ []
+
 -- the record that all is taken off is appended, no action is open, and the system acts
 pub record Voided (e e' : EngineView) (rows rows' : List Row) (actor actor' : Actor) : Type 0 where
   pub lsn : ℕ

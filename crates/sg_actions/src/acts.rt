@@ -1,5 +1,6 @@
 ghost use Rattle.std.specs.Prelude.{◌≡◌, ◌<◌, ◌≤◌, true, false, length, slice_get, Some, OnErr, OnOk, IfOk, IfErr, IsTrue};
 ghost use Rattle.sg_base.specs.Ends.{HasRisen};
+ghost use Rattle.sg_actions.specs.Acting.{CanChange};
 ghost use Rattle.sg_actions.specs.Taken.{AreFlags, AreSaid, IsWithin};
 
 use crate::Engine;
@@ -43,6 +44,7 @@ pub struct Acts<E: Engine> {
     ghost pages_said: { (E.view engine).Told → AreSaid maps.pages (E.view engine).now.pages },
     ghost within: { (E.view engine).Told → IsWithin maps.pages maps.bands (E.view engine).extent },
     ghost unbroken: { (E.view engine).Told → breaks ≡ 0 },
+    ghost goes_on: { CanChange (E.view engine) begun actor },
 }
 
 // One more break is counted.

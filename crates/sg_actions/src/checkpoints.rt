@@ -39,7 +39,7 @@ fn spell_rows(rows: &[Row], into: &mut [u8]) -> Option<usize>
 }
 
 impl<E: Engine> Acts<E> {
-    ghost use Rattle.std.specs.Prelude.{◌≡◌, ◌≤◌, ℕ, OnOk, IfErr, length};
+    ghost use Rattle.std.specs.Prelude.{◌≡◌, ◌≤◌, ℕ, false, OnOk, IfErr, length};
     ghost use Rattle.sg_ops.specs.Table.{Table};
     ghost use Rattle.sg_action.specs.States.{State};
     ghost use Rattle.sg_actions.specs.Calls.{IsAtRest};
@@ -54,6 +54,7 @@ impl<E: Engine> Acts<E> {
     /// opening, which begins with a row for each that was found. Nothing else changes. No action is open.
     pub fn checkpoint(&mut self) -> Result<(), SpaceFault>
         requires rest { (E.view self.old.engine).Told → IsAtRest (E.view self.old.engine).steps self.old.unfreed self.old.actor }
+        requires quiet { (E.view self.old.engine).Told → self.old.begun ≡ false }
         ensures counts { ActsCounts (E.view self.old.engine) (E.view self.new.engine) self.old.breaks self.new.breaks result }
         ensures log_end { IfErr result (λ f. f ≡ LogEnd → IsNearEnd (E.view self.old.engine)) }
         ensures means { Keeps (E.means self.old.engine) (E.means self.new.engine) }

@@ -166,11 +166,11 @@ pub trait Engine {
         ensures looked { LookedAtBand (view self.now) b.0 result.now }
         ensures size { length result.now ≡ BAND_SIZE };
 
-    /// Reads the record with this number to the front of a buffer of at least 32,789 bytes, and answers
+    /// Reads the record with this number to the front of a buffer of at least 16,417 bytes, and answers
     /// how many bytes it has.
     fn read(&mut self, at: Lsn, into: &mut [u8]) -> Result<usize, SpaceFault>
         requires there { HasStep (view self.old) at }
-        requires room { 32789 ≤ length into.old }
+        requires room { 16417 ≤ length into.old }
         ensures rests { EngineRests (view self.old) (view self.new) result }
         ensures means { Keeps (means self.old) (means self.new) }
         ensures looks { (t : Table) (from : State) → means self.old t from → EngineLooks (recovers t) t (led from (view self.old)) (led from (view self.new)) result }

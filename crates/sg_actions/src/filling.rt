@@ -7,7 +7,7 @@ use sg_record::Rec;
 use sg_space::SpaceFault;
 
 impl<E: Engine> Acts<E> {
-    ghost use Rattle.std.specs.Prelude.{◌≡◌, ◌<◌, ◌≤◌, IfOk};
+    ghost use Rattle.std.specs.Prelude.{◌≡◌, ◌<◌, ◌≤◌, true, IfOk};
     ghost use Rattle.sg_record.specs.Changes.Change.{SegOp};
     ghost use Rattle.sg_record.specs.Ranges.{IsRecord};
     ghost use Rattle.sg_record.specs.Records.Says.{Changed};
@@ -19,6 +19,7 @@ impl<E: Engine> Acts<E> {
 
     // Fills 8,192 bytes of a band with zeros, and keeps none of those that stood there.
     pub(crate) fn fill(&mut self, b: BandNo, at: u32) -> Result<Lsn, SpaceFault>
+        requires begun { self.old.begun ≡ true }
         requires band { b.0 < 65536 }
         requires within { at ≤ 24576 }
         requires there { (E.view self.old.engine).Told → b.0 < (E.view self.old.engine).extent.bands }

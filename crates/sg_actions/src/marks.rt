@@ -8,12 +8,13 @@ use sg_record::Rec;
 use sg_space::SpaceFault;
 
 impl<E: Engine> Acts<E> {
-    ghost use Rattle.std.specs.Prelude.{◌≡◌, ◌+◌, ◌≤◌, ℕ, IfOk, IfErr, OnOk};
+    ghost use Rattle.std.specs.Prelude.{◌≡◌, ◌+◌, ◌≤◌, ℕ, false, IfOk, IfErr, OnOk};
     ghost use Rattle.sg_ops.specs.Table.{Table};
     ghost use Rattle.sg_action.specs.States.{State};
     ghost use Rattle.sg_actions.specs.Engine.{Keeps, IsNearEnd, led};
     ghost use Rattle.sg_space.specs.declared.space.SpaceFault.TheVariants.{LogEnd};
     ghost use Rattle.sg_recovery.specs.Log.Record.{Save, Commit, End};
+    ghost use Rattle.sg_actions.specs.Acting.{HasChain};
     ghost use Rattle.sg_actions.specs.Counts.{ActsCounts, MayAppend};
     ghost use Rattle.sg_actions.specs.Ending.{CanMark, IsMark, Marked, Committed, CanClose, Closed};
     ghost use Rattle.sg_actions.specs.View.{IsKept};
@@ -22,6 +23,8 @@ impl<E: Engine> Acts<E> {
     pub fn save(&mut self, txn: TxnId, mark: u16) -> Result<Lsn, SpaceFault>
         requires can { CanMark (E.view self.old.engine) self.old.unfreed self.old.rows.items self.old.actor txn.0 }
         requires mark { IsMark mark }
+        requires chain { HasChain (E.view self.old.engine) self.old.rows.items self.old.actor }
+        requires quiet { (E.view self.old.engine).Told → self.old.begun ≡ false }
         ensures counts { ActsCounts (E.view self.old.engine) (E.view self.new.engine) self.old.breaks self.new.breaks result }
         ensures means { Keeps (E.means self.old.engine) (E.means self.new.engine) }
         ensures did { (limits : State → ℕ → ℕ) (t : Table) (from : State) → E.means self.old.engine t from → IfOk result (Marked t limits (led from (E.view self.old.engine)) (led from (E.view self.new.engine)) self.old.maps self.old.rows.items self.new.rows.items self.old.actor txn mark) }
@@ -46,7 +49,9 @@ impl<E: Engine> Acts<E> {
     /// Commits a transaction: at `Ok` its commit and all records before it are durable. It has a row until
     /// it ends.
     pub fn commit(&mut self, txn: TxnId) -> Result<(), SpaceFault>
-        requires { CanMark (E.view self.old.engine) self.old.unfreed self.old.rows.items self.old.actor txn.0 }
+        requires can { CanMark (E.view self.old.engine) self.old.unfreed self.old.rows.items self.old.actor txn.0 }
+        requires chain { HasChain (E.view self.old.engine) self.old.rows.items self.old.actor }
+        requires quiet { (E.view self.old.engine).Told → self.old.begun ≡ false }
         ensures counts { ActsCounts (E.view self.old.engine) (E.view self.new.engine) self.old.breaks self.new.breaks result }
         ensures log_end { IfErr result (λ f. f ≡ LogEnd → IsNearEnd (E.view self.old.engine)) }
         // what waited, its record of 21 bytes, and twice what a frame has beside its records
@@ -74,7 +79,9 @@ impl<E: Engine> Acts<E> {
 
     /// Ends a transaction that has committed, or of which all is undone. Its row is vacant then.
     pub fn end(&mut self, txn: TxnId) -> Result<(), SpaceFault>
-        requires { CanClose (E.view self.old.engine) self.old.unfreed self.old.rows.items self.old.actor txn.0 }
+        requires can { CanClose (E.view self.old.engine) self.old.unfreed self.old.rows.items self.old.actor txn.0 }
+        requires chain { HasChain (E.view self.old.engine) self.old.rows.items self.old.actor }
+        requires quiet { (E.view self.old.engine).Told → self.old.begun ≡ false }
         ensures counts { ActsCounts (E.view self.old.engine) (E.view self.new.engine) self.old.breaks self.new.breaks result }
         ensures log_end { IfErr result (λ f. f ≡ LogEnd → IsNearEnd (E.view self.old.engine)) }
         ensures hands { (E.view self.new.engine).disk.handed ≤ (E.view self.old.engine).disk.handed + E.waiting self.old.engine + 6 }

@@ -28,6 +28,7 @@ pub struct Parts<E> {
 
 impl<E: Engine> Acts<E> {
     ghost use Rattle.std.specs.Prelude.{◌≡◌, ◌≤◌, length};
+    ghost use Rattle.sg_actions.specs.Acting.{CanChange};
     ghost use Rattle.sg_actions.specs.Taken.{AreFlags, AreSaid, IsWithin};
 
     /// Of these parts. What the engine holds now is what it held when the action began.
@@ -41,6 +42,7 @@ impl<E: Engine> Acts<E> {
         requires within { (E.view parts.engine).Told → IsWithin parts.maps.pages parts.maps.bands (E.view parts.engine).extent }
         // no break is counted over an engine that tells
         requires unbroken { (E.view parts.engine).Told → parts.breaks ≡ 0 }
+        requires goes_on { CanChange (E.view parts.engine) parts.begun parts.actor }
         ensures engine { result.engine ≡ parts.engine }
         ensures maps { result.maps ≡ parts.maps }
         ensures unfreed { result.unfreed ≡ parts.unfreed }
@@ -92,6 +94,7 @@ impl<E: Engine> Acts<E> {
         ensures band_flags { AreFlags self.maps.bands self.unfreed.bands }
         ensures within { (E.view self.engine).Told → IsWithin self.maps.pages self.maps.bands (E.view self.engine).extent }
         ensures unbroken { (E.view self.engine).Told → self.breaks ≡ 0 }
+        ensures goes_on { CanChange (E.view self.engine) self.begun self.actor }
     {
         let Acts {
             engine,

@@ -6,6 +6,8 @@ use crate::{Acts, Engine};
 use std::snapshot::Snapshot;
 
 impl<E: Engine> Acts<E> {
+    ghost use Rattle.sg_actions.specs.Acting.{CanChange};
+
     /// Its engine is asked nothing more: what was done last went wrong.
     pub fn stop(&mut self)
         ensures silent { (E.view self.new.engine).Told → ⊥ }
@@ -47,6 +49,7 @@ impl<E: Engine> Acts<E> {
     /// the log's end. Answers whether an action was begun.
     pub fn pause(&mut self) -> bool
         ensures was { result ≡ self.old.begun }
+        ensures goes_on { CanChange (E.view self.old.engine) self.old.begun self.old.actor }
         ensures begun { self.new.begun ≡ false }
         ensures engine { self.new.engine ≡ self.old.engine }
         ensures maps { self.new.maps ≡ self.old.maps }
@@ -63,6 +66,7 @@ impl<E: Engine> Acts<E> {
 
     /// It goes on, if an action was begun that has changed nothing.
     pub fn go_on(&mut self, was: bool)
+        requires { CanChange (E.view self.old.engine) was self.old.actor }
         ensures begun { self.new.begun ≡ was }
         ensures engine { self.new.engine ≡ self.old.engine }
         ensures maps { self.new.maps ≡ self.old.maps }

@@ -7,7 +7,7 @@ use sg_base::TxnId;
 use sg_space::SpaceFault;
 
 impl<E: Engine> Acts<E> {
-    ghost use Rattle.std.specs.Prelude.{◌≡◌, ◌≤◌, ◌↔◌, ℕ, true, false, IsTrue, [], None, Some, if◌then◌else◌};
+    ghost use Rattle.std.specs.Prelude.{◌≡◌, ◌≢◌, ◌≤◌, ◌↔◌, ℕ, true, false, IsTrue, [], None, Some, if◌then◌else◌};
     ghost use Rattle.sg_base.specs.Ends.{HasRisen};
     ghost use Rattle.sg_ops.specs.Table.{Table};
     ghost use Rattle.sg_recovery.specs.Log.{tally};
@@ -28,6 +28,14 @@ impl<E: Engine> Acts<E> {
         } else {
             None
         }
+    }
+
+    /// Whether a last record of who acts is known: behind an opening, of an action that has no end.
+    pub fn has_last(&self) -> bool
+        ensures yes { result ≡ true → self.now.actor.last ≢ 0 }
+        ensures no { result ≡ false → self.now.actor.last ≡ 0 }
+    {
+        self.actor.last != 0
     }
 
     /// Whether the open action has logged no change, or no action is open.

@@ -12,14 +12,14 @@ use sg_record::{Rec, decode};
 use sg_space::SpaceFault;
 
 // The bytes of the greatest record.
-const GREATEST: usize = 32_789;
+const GREATEST: usize = 16_417;
 
 impl<E: Engine> Acts<E> {
     ghost use Rattle.std.specs.Prelude.{◌≡◌, ◌≢◌, ◌<◌, ℕ, false, [], length, IfOk, OnOk};
     ghost use Rattle.sg_recovery.specs.Log.{tally};
     ghost use Rattle.sg_ops.specs.Table.{Table, table_of};
     ghost use Rattle.sg_actions.specs.Engine.{EngineCounts, Keeps, AreBy, led, now_of};
-    ghost use Rattle.sg_actions.specs.TakingOff.{CanGoOff, IsGoing, IsTakingOff, TookOff, Voided};
+    ghost use Rattle.sg_actions.specs.TakingOff.{CanGoOff, IsAllOff, IsGoing, IsTakingOff, TookOff, Voided};
     ghost use Rattle.sg_actions.specs.Offed.{CanTakeOff, TakenOff, CanResume, ActionOff, IsResumable, AllOff};
     ghost use Rattle.sg_actions.specs.WentOff.{OffCounts, WentOff};
     ghost use Rattle.sg_action.specs.States.{State, Kept};
@@ -30,6 +30,8 @@ impl<E: Engine> Acts<E> {
         requires off { let t = table_of record_meaning range_meaning ops.now in (E.view self.old.engine).Told →
             ∥ ((from : State) × E.means self.old.engine t from × CanGoOff t (led from (E.view self.old.engine)) self.old.rows.items self.old.actor at) ∥₁ }
         requires by { (E.view self.old.engine).Told → AreBy (E.means self.old.engine) (table_of record_meaning range_meaning ops.now) }
+        requires begun { self.old.begun ≡ false }
+        ensures begun { self.new.begun ≡ false }
         ensures told { (E.view self.new.engine).Told → (E.view self.old.engine).Told }
         ensures counts { OffCounts (E.view self.old.engine) (E.view self.new.engine) self.old.breaks self.new.breaks result }
         // also of a call that fails
@@ -74,6 +76,7 @@ impl<E: Engine> Acts<E> {
 
     // Appends the record that all of an action is taken off. No action is open then.
     fn void(&mut self) -> Result<(), SpaceFault>
+        requires over { (E.view self.old.engine).Told → ∥ IsAllOff (E.view self.old.engine).base (E.view self.old.engine).steps (E.view self.old.engine).tail self.old.actor ∥₁ }
         ensures counts { EngineCounts (E.view self.old.engine) (E.view self.new.engine) result }
         ensures means { Keeps (E.means self.old.engine) (E.means self.new.engine) }
         ensures did { (t : Table) (from : State) → E.means self.old.engine t from → OnOk result (Voided (led from (E.view self.old.engine)) (led from (E.view self.new.engine)) self.old.rows.items self.new.rows.items self.old.actor self.new.actor) }
@@ -116,6 +119,8 @@ impl<E: Engine> Acts<E> {
         ensures did { let t = table_of record_meaning range_meaning ops.now in (limits : State → ℕ → ℕ) (from : State) → E.means self.old.engine t from →
             ((E.view self.old.engine).Told → CanTakeOff t limits (led from (E.view self.old.engine)) self.old.maps self.old.rows.items self.old.actor) → OnOk result (TakenOff t limits (led from (E.view self.old.engine)) (led from (E.view self.new.engine)) self.old.maps self.new.maps self.new.unfreed self.new.rows.items self.old.actor self.new.actor) }
     {
+        // No change is logged from now on.
+        self.begun = false;
         forget_pages(&mut self.unfreed);
         forget_bands(&mut self.unfreed);
         let mut at = self.actor.last;
@@ -147,6 +152,7 @@ impl<E: Engine> Acts<E> {
         ensures begun { OnOk result (self.new.begun ≡ false) }
         ensures unfreed { self.new.unfreed ≡ self.old.unfreed }
     {
+        self.begun = false;
         let mut at = from;
         'changes: while at != self.actor.before {
             at = self.take_one_off(ops, at)?;

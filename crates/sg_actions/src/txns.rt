@@ -14,6 +14,7 @@ impl<E: Engine> Acts<E> {
     ghost use Rattle.std.specs.Prelude.{◌≡◌, ◌≤◌, ◌<◌, ℕ, true, false, length, IfOk, OnOk};
     ghost use Rattle.sg_ops.specs.Table.{Table};
     ghost use Rattle.sg_action.specs.States.{State};
+    ghost use Rattle.sg_actions.specs.Acting.{HasChain};
     ghost use Rattle.sg_actions.specs.Engine.{EngineCounts, EngineRests, EngineLooks, IsForced, Keeps, led};
     ghost use Rattle.sg_actions.specs.Calls.{Appends, CanBegin, Begun, CanAct, NowActs, CanEnd, ActionEnded};
     ghost use Rattle.sg_actions.specs.View.{IsKept, Since};
@@ -55,7 +56,9 @@ impl<E: Engine> Acts<E> {
 
     /// Begins a transaction, whose number is that of its record.
     pub fn begin(&mut self) -> Result<TxnId, SpaceFault>
-        requires { CanBegin (E.view self.old.engine) self.old.unfreed self.old.rows.items self.old.actor }
+        requires can { CanBegin (E.view self.old.engine) self.old.unfreed self.old.rows.items self.old.actor }
+        requires chain { HasChain (E.view self.old.engine) self.old.rows.items self.old.actor }
+        requires quiet { (E.view self.old.engine).Told → self.old.begun ≡ false }
         ensures number { IfOk result (λ u. ((E.view self.old.engine).tail ≤ u.0) × (u.0 < (E.view self.new.engine).tail)) }
         ensures counts { EngineCounts (E.view self.old.engine) (E.view self.new.engine) result }
         ensures means { Keeps (E.means self.old.engine) (E.means self.new.engine) }
@@ -82,7 +85,8 @@ impl<E: Engine> Acts<E> {
 
     /// The transaction acts, or the system, which is 0: the records that follow are its.
     pub fn act(&mut self, txn: TxnId)
-        requires { CanAct (E.view self.old.engine) self.old.unfreed self.old.rows.items self.old.actor txn.0 }
+        requires can { CanAct (E.view self.old.engine) self.old.unfreed self.old.rows.items self.old.actor txn.0 }
+        requires chain { HasChain (E.view self.old.engine) self.old.rows.items self.old.actor }
         ensures acts { (limits : State → ℕ → ℕ) (t : Table) (from : State) → E.means self.old.engine t from → NowActs t limits (led from (E.view self.old.engine)) self.old.maps self.old.rows.items self.old.actor self.new.actor txn.0 }
         ensures engine { self.new.engine ≡ self.old.engine }
         ensures since { (t : Table) (from : State) → E.means self.old.engine t from →
@@ -110,7 +114,8 @@ impl<E: Engine> Acts<E> {
     /// Ends the action of who acts, with a note that says how it is undone. No action is open then, and
     /// the system acts.
     pub fn end_action(&mut self, txn: TxnId, note: &UndoNote) -> Result<(), SpaceFault>
-        requires { CanEnd (E.view self.old.engine) self.old.actor txn.0 }
+        requires can { CanEnd (E.view self.old.engine) self.old.actor txn.0 }
+        requires chain { HasChain (E.view self.old.engine) self.old.rows.items self.old.actor }
         ensures counts { EngineCounts (E.view self.old.engine) (E.view self.new.engine) result }
         ensures means { Keeps (E.means self.old.engine) (E.means self.new.engine) }
         ensures did { (limits : State → ℕ → ℕ) (t : Table) (from : State) → E.means self.old.engine t from → OnOk result (ActionEnded t limits (led from (E.view self.old.engine)) (led from (E.view self.new.engine)) self.old.maps self.new.maps self.old.unfreed self.new.unfreed self.old.rows.items self.new.rows.items self.old.actor self.new.actor note.now) }

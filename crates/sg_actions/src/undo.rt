@@ -17,7 +17,7 @@ use sg_record::{BandBytes, Change, Rec, decode};
 use sg_space::{SpaceFault, UndoNote};
 
 // The bytes of the greatest record.
-const GREATEST: usize = 32_789;
+const GREATEST: usize = 16_417;
 
 /// A note that was found: the number of its record, the record before that one, and where undoing goes
 /// on behind it.
@@ -65,7 +65,7 @@ fn see(r: &Rec<'_>, into: &mut UndoNote) -> Option<Seen>
         | Rec::Save { prev, .. }
         | Rec::Commit { prev, .. }
         | Rec::End { prev, .. } => Some(Seen::On(prev)),
-        Rec::Checkpoint { .. } | Rec::Line { .. } => None,
+        Rec::Checkpoint { .. } => None,
     }
 }
 
@@ -135,6 +135,7 @@ impl<E: Engine> Acts<E> {
     ghost use Rattle.sg_actions.specs.Led.{HasStayed};
     ghost use Rattle.sg_actions.specs.PuttingBack.{HasHop, PutBytes, PutOne, CanPutBack, PutAll, UndoStepped, MayUndo};
     ghost use Rattle.sg_recovery.specs.Log.Record.{CompEnd};
+    ghost use Rattle.sg_actions.specs.Acting.{HasChain};
     ghost use Rattle.sg_actions.specs.Calls.{Appends};
     ghost use Rattle.sg_actions.specs.Ending.{CanEndUndo, UndoEnded};
     ghost use Rattle.sg_actions.specs.Counts.{ActsCounts};
@@ -372,7 +373,8 @@ impl<E: Engine> Acts<E> {
     /// Ends the action that undid the note to which `undo_step` came, with where it answered that undoing
     /// goes on. No action is open then, and the system acts.
     pub fn end_undo(&mut self, txn: TxnId, after: Lsn) -> Result<(), SpaceFault>
-        requires { CanEndUndo (E.view self.old.engine) self.old.actor txn.0 after }
+        requires can { CanEndUndo (E.view self.old.engine) self.old.actor txn.0 after }
+        requires chain { HasChain (E.view self.old.engine) self.old.rows.items self.old.actor }
         ensures counts { EngineCounts (E.view self.old.engine) (E.view self.new.engine) result }
         ensures means { Keeps (E.means self.old.engine) (E.means self.new.engine) }
         ensures did { (limits : State → ℕ → ℕ) (t : Table) (from : State) → E.means self.old.engine t from → OnOk result (UndoEnded t limits (led from (E.view self.old.engine)) (led from (E.view self.new.engine)) self.old.maps self.new.maps self.old.unfreed self.new.unfreed self.old.rows.items self.new.rows.items self.old.actor self.new.actor after) }

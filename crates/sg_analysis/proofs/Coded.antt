@@ -3,7 +3,7 @@ use Rattle.std.proofs.Common.{◌≡◌, ◌⊎◌, inl, inr, ℕ, ◌≤◌, �
 use Rattle.std.specs.Prelude.{if◌then◌else◌}
 use Rattle.sg_record.specs.Changes.{Change as Changing}
 use Rattle.sg_record.specs.Records.{Says}
-use Rattle.sg_record.specs.Records.Says.{Begin as SaysBegin, Changed as SaysChanged, TopEnd as SaysTopEnd, PhysComp as SaysPhysComp, TopVoid as SaysTopVoid, CompEnd as SaysCompEnd, Save as SaysSave, Commit as SaysCommit, End as SaysEnd, Checkpoint as SaysCheckpoint, Line as SaysLine}
+use Rattle.sg_record.specs.Records.Says.{Begin as SaysBegin, Changed as SaysChanged, TopEnd as SaysTopEnd, PhysComp as SaysPhysComp, TopVoid as SaysTopVoid, CompEnd as SaysCompEnd, Save as SaysSave, Commit as SaysCommit, End as SaysEnd, Checkpoint as SaysCheckpoint}
 use Rattle.sg_recovery.specs.Log.{Open, tally, is_in}
 use Rattle.sg_recovery.specs.Laws.{Each}
 use Rattle.sg_recovery.proofs.Basic.{each_more, each_filter, same_number, le_true, or_left, or_right}
@@ -83,7 +83,6 @@ open_kept P rs n h new = by_kind n.is.says refl
     by_kind SaysCommit e = h
     by_kind SaysEnd e = h
     by_kind (SaysCheckpoint estimate live) e = h
-    by_kind (SaysLine words) e = h
 
 -- each open change is a record of the log
 module _ (point : ℕ) (live : List ℕ) (opened : List (Open Changing)) where

@@ -14,7 +14,7 @@ use Rattle.sg_recovery.proofs.Basic.{each_more, each_filter, same_number, number
 use Rattle.sg_recovery.proofs.Chaining.{clash, border_stays, border_other, sound}
 use Rattle.sg_recovery.proofs.TakeOff.{other_open}
 use Rattle.sg_analysis.specs.Sights.{Step, Steps, Sight, sight_of, with_step, steps_behind}
-use Rattle.sg_analysis.specs.Sights.Sight.{Stepped, Estimated, Foreign}
+use Rattle.sg_analysis.specs.Sights.Sight.{Stepped, Estimated}
 use Rattle.sg_recovery.specs.Ending.{is_end, newest, EndsWell, AllEndWell, MayBeBehind, OverBy, IsOver, AllOver}
 use Rattle.sg_analysis.specs.Standing.{takes_off, is_taken_off, goes_right, is_systems, precedes_system, may_be_behind, goes_on, may_step, may_stand, all_stand_behind, all_stand, IsPlausible, ArePlausible, AreInOrder, IsPageLog}
 use Rattle.sg_analysis.specs.Firsts.{first, second}
@@ -40,7 +40,6 @@ facts_back base (n ∷ ns) rs h = by_sight (sight_of n.is) (facts_back base ns (
     by_sight : (v : Sight) → AreFacts base (with_step rs n.lsn v) → AreFacts base rs
     by_sight (Stepped x) k = record { above = k.above.1; owned = k.owned.1; chained = k.chained.2; system = k.system.1; between = k.between.1; straight = k.straight.1; ended = k.ended.1; over = k.over.1 }
     by_sight (Estimated e) k = k
-    by_sight Foreign k = k
 
 -- what the system's record names
 precedes : (base p last border : ℕ) → MatchBool (last == border) (MatchBool (last == 0) (IsBefore base p) (p ≡ 0)) (p ≡ last) → precedes_system base last border p ≡ true
@@ -263,7 +262,6 @@ all_stands base (n ∷ ns) rs h p =
     by_sight : (v : Sight) → AreFacts base (with_step rs n.lsn v) → IsPlausible n.lsn v → may_stand base rs n.lsn v ≡ true
     by_sight (Stepped x) k q = stands base rs n.lsn x k
     by_sight (Estimated e) k q = le_true e n.lsn q
-    by_sight Foreign k q = absurd q
 
 -- records in order may stand, each where it does,
 pub ordered_stands : (base : ℕ) (ns : List Numbered) → AreInOrder base ns → all_stand base ns ≡ true

@@ -8,7 +8,7 @@ use Rattle.sg_log.specs.Texts.{spelled_all}
 use Rattle.sg_log.proofs.Holding.{text-length}
 use Rattle.sg_log.proofs.Texts.{spelled-long}
 use Rattle.sg_analysis.specs.Sights.{Steps, Sight, sight_of, with_step, steps_behind}
-use Rattle.sg_analysis.specs.Sights.Sight.{Stepped, Estimated, Foreign}
+use Rattle.sg_analysis.specs.Sights.Sight.{Stepped, Estimated}
 use Rattle.sg_analysis.specs.Standing.{may_step, may_stand, all_stand_behind, IsPlausible, ArePlausible}
 use Rattle.sg_analysis.proofs.Taking.{true_left, true_right}
 use Rattle.sg_recovery.proofs.Basic.{le_is}
@@ -52,7 +52,6 @@ stepped_behind base least (n ∷ ns) rs le h k stand =
     by_sight : (v : Sight) → may_stand base rs n.lsn v ≡ true → (next_lsn (with_step rs n.lsn v) ≤ n.lsn + 1) × AreStepped base (with_step rs n.lsn v)
     by_sight (Stepped x) may = (omega arith, (le_trans le h.0, may, k))
     by_sight (Estimated e) may = (omega (arith, le, h.0), k)
-    by_sight Foreign may = absurd (cc)
 
 -- the steps of a log each of whose records may stand
 pub stepped : (base : ℕ) (frames : List (List Record)) → all_stand_behind base [] (numbered_in base frames) ≡ true → AreStepped base (steps_behind [] (numbered_in base frames))
@@ -66,7 +65,6 @@ above_behind base least (n ∷ ns) rs le h k = above_behind base (n.lsn + 1) ns 
     by_sight : (v : Sight) → Each (λ r. base ≤ r.lsn) (with_step rs n.lsn v)
     by_sight (Stepped x) = (le_trans le h.0, k)
     by_sight (Estimated e) = k
-    by_sight Foreign = k
 
 pub above_in : (base : ℕ) (frames : List (List Record)) → Each (λ r. base ≤ r.lsn) (steps_behind [] (numbered_in base frames))
 above_in base frames = above_behind base base (numbered_in base frames) [] (omega arith) (rising_in base base frames (omega arith)) tt
@@ -82,4 +80,3 @@ plausible base (n ∷ ns) rs stand =
     by_sight : (v : Sight) → may_stand base rs n.lsn v ≡ true → IsPlausible n.lsn v
     by_sight (Stepped x) may = tt
     by_sight (Estimated e) may = le_is e n.lsn may
-    by_sight Foreign may = absurd (cc)

@@ -3,7 +3,7 @@ use Rattle.std.specs.Prelude.{◌≡◌, ◌⊎◌, ◌≤◌, ℕ, max, Bool, t
 use Rattle.sg_record.specs.Changes.{Change}
 use Rattle.sg_record.specs.Changes.Change.{Page, SegWrite, SegOp}
 use Rattle.sg_record.specs.Records.{Says}
-use Rattle.sg_record.specs.Records.Says.{Begin as SaysBegin, Changed as SaysChanged, TopEnd as SaysTopEnd, PhysComp as SaysPhysComp, TopVoid as SaysTopVoid, CompEnd as SaysCompEnd, Save as SaysSave, Commit as SaysCommit, End as SaysEnd, Checkpoint as SaysCheckpoint, Line as SaysLine}
+use Rattle.sg_record.specs.Records.Says.{Begin as SaysBegin, Changed as SaysChanged, TopEnd as SaysTopEnd, PhysComp as SaysPhysComp, TopVoid as SaysTopVoid, CompEnd as SaysCompEnd, Save as SaysSave, Commit as SaysCommit, End as SaysEnd, Checkpoint as SaysCheckpoint}
 use Rattle.sg_recovery.specs.Log.{Open, tally, is_in}
 use Rattle.sg_recovery.specs.Laws.{Each}
 use Rattle.sg_log.specs.Frames.{Numbered}
@@ -37,7 +37,6 @@ codes_said (SaysSave mark) = []
 codes_said SaysCommit = []
 codes_said SaysEnd = []
 codes_said (SaysCheckpoint estimate live) = []
-codes_said (SaysLine words) = []
 
 -- history is repeated from here on: the later of the number of the log's first byte and of what its last checkpoint estimates
 abbrev pub redo_point : (base : ℕ) → List Numbered → ℕ

@@ -4,7 +4,7 @@ use Rattle.std.specs.List.{find}
 use Rattle.sg_recovery.specs.Log.Record.{Begin, Change, TopEnd, PhysComp, TopVoid, CompEnd, Save, Commit, End}
 use Rattle.sg_recovery.specs.Chains.{last_of}
 use Rattle.sg_analysis.specs.Sights.{Step, Steps, Sight}
-use Rattle.sg_analysis.specs.Sights.Sight.{Stepped, Estimated, Foreign}
+use Rattle.sg_analysis.specs.Sights.Sight.{Stepped, Estimated}
 use Rattle.sg_recovery.specs.Ending.{newest}
 use Rattle.sg_analysis.specs.declared.past.Over.{Over}
 use Rattle.sg_analysis.specs.declared.past.Stage.{Stage}
@@ -25,7 +25,6 @@ stage_of (End transaction previous) = Ended
 abbrev pub stage_by : Sight → Stage
 stage_by (Stepped x) = stage_of x
 stage_by (Estimated estimate) = Older
-stage_by Foreign = Older
 
 abbrev pub over_with : (transaction last : ℕ) → Stage → Over
 over_with transaction last stage = record { txn = record { 0 = transaction }; last = last; stage = stage }

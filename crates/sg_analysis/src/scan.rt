@@ -142,7 +142,6 @@ impl Scan {
         match *rec {
             Rec::Begin { txn, prev } => txn.0 == lsn && prev == 0,
             Rec::Checkpoint { estimate, .. } => estimate <= lsn,
-            Rec::Line { .. } => false,
             _ => rec.txn().0 < lsn && self.follows(rec),
         }
     }
@@ -238,7 +237,6 @@ impl Scan {
                 self.checkpoint = Some((lsn, estimate));
                 Ok(())
             }
-            Rec::Line { .. } => Ok(()),
             _ => self.step(lsn, gate, rec),
         }
     }

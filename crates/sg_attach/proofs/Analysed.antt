@@ -1,5 +1,5 @@
 -- What an analysis says of a log, in the words of the engine under the actions.
-use Rattle.std.proofs.Common.{◌≡◌, ◌+◌, ◌<◌, ◌≤◌, ℕ, max, Bool, true, false, List, [], ◌∷◌, length, Option, Some, None, refl, sym, ap, ◌∙◌, subst, arith}
+use Rattle.std.proofs.Common.{◌≡◌, ◌+◌, ◌<◌, ◌≤◌, ℕ, max, Bool, true, false, List, [], ◌∷◌, length, Option, Some, None, sym, ap, ◌∙◌, subst, arith}
 use Rattle.std.specs.Prelude.{if◌then◌else◌, ◌==◌, option_map}
 use Rattle.sg_disk.specs.Disk.{Image, View}
 use Rattle.sg_gate.specs.declared.superblock.Super.{Super}
@@ -7,15 +7,12 @@ use Rattle.sg_log.specs.Frames.{Numbered, HasRecords}
 use Rattle.sg_log.specs.Held.{Tail, tail_of, Holds}
 use Rattle.sg_log.proofs.Cutting.{gate_from}
 use Rattle.sg_ops.specs.Table.{Table}
-use Rattle.sg_record.specs.Records.{Says}
-use Rattle.sg_record.specs.Records.Says.{Begin, Changed, TopEnd, PhysComp, TopVoid, CompEnd, Save, Commit, End, Checkpoint, Line}
 use Rattle.sg_pool.specs.declared.pool.Pool.{Pool}
 use Rattle.sg_recovery.specs.Chains.{next_lsn}
 use Rattle.sg_recovery.specs.Formed.{IsLog}
 use Rattle.sg_analysis.specs.Analysis.{Analysis, losers_of}
 use Rattle.sg_analysis.specs.Shown.{IsAnalysed}
 use Rattle.sg_analysis.specs.Sights as sights
-use Rattle.sg_analysis.specs.Sights.{sight_by, sight_of}
 use Rattle.sg_analysis.specs.declared.analysis.Analysis as code
 use Rattle.sg_engine.specs.Engine.{Origin, log_area}
 use Rattle.sg_engine.specs.Numbers.{AllUnder}
@@ -23,31 +20,12 @@ use Rattle.sg_engine.specs.Running.{IsEngine}
 use Rattle.sg_find.specs.Synced as synced
 use Rattle.sg_open.specs.Refusals.{IsAccepted}
 use Rattle.sg_opening.proofs.Asked.{frames_under, record_number}
-use Rattle.sg_actions.specs.Steps.{Step, Steps, step_by, step_of, with_step}
+use Rattle.sg_actions.specs.Steps.{Step, Steps, step_of, with_step}
 use Rattle.sg_phys_laws.specs.Recovers.{origin_of, records_in, super_in, super_of}
 use Rattle.sg_phys_laws.specs.States.{steps_on, steps_of}
 use Rattle.sg_phys_laws.proofs.Recovered.{records_held}
+use Rattle.sg_phys_laws.proofs.Sighted.{steps_same}
 use Rattle.sg_attach.specs.Attached.{unfinished_of}
-
-one_step : (rs : Steps) (lsn u p : ℕ) (says : Says) → sights.with_step rs lsn (sight_by u p says) ≡ with_step rs lsn (step_by u p says)
-one_step rs lsn u p Begin = refl
-one_step rs lsn u p (Changed c) = refl
-one_step rs lsn u p (TopEnd w n) = refl
-one_step rs lsn u p (PhysComp w c) = refl
-one_step rs lsn u p (TopVoid w) = refl
-one_step rs lsn u p (CompEnd w) = refl
-one_step rs lsn u p (Save m) = refl
-one_step rs lsn u p Commit = refl
-one_step rs lsn u p End = refl
-one_step rs lsn u p (Checkpoint e l) = refl
-one_step rs lsn u p (Line words) = refl
-
--- THE STEPS of a log are the same
-pub steps_same : (rs : Steps) (ns : List Numbered) → sights.steps_behind rs ns ≡ steps_on rs ns
-steps_same rs [] = refl
-steps_same rs (n ∷ ns) =
-    steps_same (sights.with_step rs n.lsn (sight_of n.is)) ns
-    ∙ ap (λ (r : Steps). steps_on r ns) (one_step rs n.lsn n.is.transaction n.is.previous n.is.says)
 
 -- an image that is accepted has this superblock
 pub accepted_super : (t : Table) (c : Image) (s : Super) → IsAccepted t c s → super_in c ≡ s

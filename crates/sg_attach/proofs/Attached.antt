@@ -34,7 +34,7 @@ use Rattle.sg_phys_laws.proofs.Wrapped.{all_are, append_none}
 use Rattle.sg_phys.specs.Phys.{IsGiven, Stands, StandsForSome}
 use Rattle.sg_attach.specs.Attached.{IsStoreImage, IsSomeStoreImage, IsAttaching}
 use Rattle.sg_attach.proofs.Analysed.{accepted_super, log_below}
-use Rattle.sg_attach.proofs.Opens.{sound_opens, point_below, image_is_said, opens_poised, attach_behind}
+use Rattle.sg_attach.proofs.Opens.{sound_opens, point_below, image_is_said, opens_poised, attach_behind, image_formed}
 
 -- an origin's records do what these operations say
 abbrev pub DoesBy : Table → Origin → Type 0
@@ -102,7 +102,7 @@ module _ (told : Bool) (t : Table) (v w : View) (log : Tail) (pool : Pool)
   module _ (allowed : (q : Origin) (tail : ℕ) (ds : List Numbered) → IsTrue told → DoesBy t q → Opens q tail ds v → redo_point q.super.base ds ≤ tail → IsAllowed q w log pool (redo_point q.super.base ds)) (lawful : IsLawful t) where
     poised : (from : State) (durable all : Steps) → IsTrue told → IsStoreImage t from durable all (reads v) → ∥ IsPoised t from o w log pool ∥₁
     poised from durable all is m = ∥∥₁_elim m.recovers.holds.sound ∥∥₁_prop (λ s.
-        ∣ opens_poised t from (reads v) w log pool s.low (image_is_said t from durable all (reads v) m) (engine_of is s)
+        ∣ opens_poised t from (reads v) w log pool s.low (image_is_said t from durable all (reads v) m) (image_formed t from durable all (reads v) m) m.recovers.holds.registered (engine_of is s)
         (allowed o s.tail ns is (λ lsn x. refl) (sound_opens t v s) (point_below t (point_in o (reads v)) ns (reads v) s)) ∣₁)
 
     -- and stands for what the image stood for

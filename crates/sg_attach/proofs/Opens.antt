@@ -8,6 +8,7 @@ use Rattle.sg_log.specs.Frames.{Numbered}
 use Rattle.sg_log.specs.Held.{Tail}
 use Rattle.sg_ops.specs.Table.{Table}
 use Rattle.sg_pool.specs.declared.pool.Pool.{Pool}
+use Rattle.sg_recovery.specs.Formed.{IsLog}
 use Rattle.sg_redo.specs.History.{OnByte, rewritten}
 use Rattle.sg_redo.specs.Leaf.{leaf_of}
 use Rattle.sg_action.specs.States.{State}
@@ -29,12 +30,16 @@ use Rattle.sg_reopen.proofs.OpenedOver.{own_point}
 use Rattle.sg_reopen.proofs.Points.{point_within}
 use Rattle.sg_actions.specs.Images.{Grows, IsImageOf}
 use Rattle.sg_actions.specs.Steps.{Steps, repeated}
+use Rattle.sg_phys_laws.specs.Formed.{AreFormed}
+use Rattle.sg_phys_laws.specs.Known.{IsEnough, AllEnough}
 use Rattle.sg_phys_laws.specs.Poised.{AreSaid, IsPoised}
 use Rattle.sg_phys_laws.specs.Points.{AreMarked}
 use Rattle.sg_phys_laws.specs.Recovers.{cut_at, origin_of, records_in, point_in, IsSoundImage, Recovers, StandsOwn}
 use Rattle.sg_phys_laws.specs.States.{state_of, steps_of, AllAgree}
 use Rattle.sg_phys_laws.proofs.Agreeing.{all_agree_none}
 use Rattle.sg_phys_laws.proofs.Cutting.{cut_same}
+use Rattle.sg_phys_laws.proofs.Enough.{all_enough_none}
+use Rattle.sg_phys_laws.proofs.Forming.{formed_none}
 use Rattle.sg_phys_laws.proofs.Listing.{same-listed}
 use Rattle.sg_phys_laws.proofs.Opened.{opened_poised}
 use Rattle.sg_phys_laws.proofs.Sets.{state_set}
@@ -72,6 +77,10 @@ image_said t from durable log c m s =
 -- that needs no more than the image
 pub image_is_said : (t : Table) (from : State) (durable log : Steps) (c : Image) → IsStoreImage t from durable log c → AreSaid t from (origin_of t c) (records_in (origin_of t c) c)
 image_is_said t from durable log c m = ∥∥₁_elim m.recovers.holds.sound (state_set _ _) (λ s. image_said t from durable log c m s)
+
+-- and its log is formed
+pub image_formed : (t : Table) (from : State) (durable log : Steps) (c : Image) → IsStoreImage t from durable log c → ∥ IsLog (origin_of t c).super.base (steps_of (records_in (origin_of t c) c)) ∥₁
+image_formed t from durable log c m = subst (λ (rs : Steps). ∥ IsLog (origin_of t c).super.base rs ∥₁) m.recovers.holds.records m.recovers.holds.formed
 
 -- it stands over its own home area
 unfoldable stands_there : (t : Table) (k : ℕ) (ns : List Numbered) (c : Image) → IsSoundImage (origin_of t c) k ns c → IsStanding (origin_of t c) ns ns k c
@@ -112,11 +121,12 @@ sound_there t c s =
     (image_opens t o ns ns (point_in o c) c (by_table t c) (stands_there t (point_in o c) ns c s)).there
 
 -- WHAT IS OPENED is the engine under the actions
-pub opens_poised : (t : Table) (from : State) (c : Image) (w : View) (log : Tail) (pool : Pool) → AreMarked (λ k. Unit {0}) (records_in (origin_of t c) c) → AreSaid t from (origin_of t c) (records_in (origin_of t c) c) → IsEngine (origin_of t c) w log (records_in (origin_of t c) c) [] pool
+pub opens_poised : (t : Table) (from : State) (c : Image) (w : View) (log : Tail) (pool : Pool) → AreMarked (λ k. Unit {0}) (records_in (origin_of t c) c) → AreSaid t from (origin_of t c) (records_in (origin_of t c) c)
+    → ∥ IsLog (origin_of t c).super.base (steps_of (records_in (origin_of t c) c)) ∥₁ → IsEnough t (origin_of t c).super.base (records_in (origin_of t c) c) → IsEngine (origin_of t c) w log (records_in (origin_of t c) c) [] pool
     → IsAllowed (origin_of t c) w log pool (point_found (origin_of t c).super.base (records_in (origin_of t c) c)) → IsPoised t from (origin_of t c) w log pool
-opens_poised t from c w log pool low said e allowed =
+opens_poised t from c w log pool low said formed enough e allowed =
     let o : Origin = origin_of t c in
-    opened_poised t from o w log (records_in o c) pool e said low (subst (IsAllowed o w log pool) (point_same o.super.base (records_in o c)) allowed)
+    opened_poised t from o w log (records_in o c) pool e said formed enough low (subst (IsAllowed o w log pool) (point_same o.super.base (records_in o c)) allowed)
 
 -- AN IMAGE THAT STANDS AGAIN stands from its own redo point
 own_of : (o : Origin) (ds all : List Numbered) (c : Image) → StandsAgain o ds all c → StandsOwn o ds all c
@@ -150,12 +160,13 @@ standing_image t from durable log v m s c stands =
     let by : IsBy t o = by_table t (reads v) in
     image_between t from durable log (reads v) c m
     (image_by t o from (steps_of ns) (steps_of ns) c by
-    (image_is t from o ns ns c by (all_agree_none t o ns) (image_said t from durable log (reads v) m s) (stands_found o ns c s.low stands)))
+    (image_is t from o ns ns c by (all_agree_none t o ns) (image_said t from durable log (reads v) m s)
+    (formed_none o.super.base ns (image_formed t from durable log (reads v) m)) (all_enough_none t o.super.base ns m.recovers.holds.registered) (stands_found o ns c s.low stands)))
 
 -- a truncated fact of an image is one
 store_image_fix : (t : Table) (from : State) (durable log : Steps) (c : Image) → ∥ IsStoreImage t from durable log c ∥₁ → IsStoreImage t from durable log c
 store_image_fix t from durable log c h =
-    let m : IsImageOf (Recovers (origin_of t c)) t from durable log c = image_fix (origin_of t c) t from durable log c (∥∥₁_elim h ∥∥₁_prop (λ n. ∣ record { front = n.front; is_front = n.is_front; recovers = n.recovers.holds } ∣₁)) in
+    let m : IsImageOf (Recovers t (origin_of t c)) t from durable log c = image_fix (origin_of t c) t from durable log c (∥∥₁_elim h ∥∥₁_prop (λ n. ∣ record { front = n.front; is_front = n.is_front; recovers = n.recovers.holds } ∣₁)) in
     record { front = m.front; is_front = m.is_front; recovers = record { holds = m.recovers; leads = (from, refl) } }
 
 -- EACH IMAGE OF EACH MOMENT of opening, from its syncs on,
@@ -171,9 +182,22 @@ pub opening_images : (t : Table) (from : State) (durable log : Steps) (v w : Vie
 opening_images t from durable log v w each m split = joined (weaker split.before each) (split.behind from durable log m)
 
 -- AN IMAGE THAT STANDS AGAIN, of whichever life, is one of the store,
-pub stands_of : (t : Table) (from : State) (o : Origin) (ds all : List Numbered) (c : Image) → IsBy t o → AllAgree t o ds all → AreSaid t from o ds → StandsAgain o ds all c → IsStoreImage t from (steps_of ds) (steps_of all) c
-stands_of t from o ds all c by agree said s = image_by t o from (steps_of ds) (steps_of all) c by (image_is t from o ds all c by agree said (own_of o ds all c s))
+pub stands_of : (t : Table) (from : State) (o : Origin) (ds all : List Numbered) (c : Image) → IsBy t o → AllAgree t o ds all → AreSaid t from o ds → AreFormed o.super.base ds all → AllEnough t o.super.base ds all → StandsAgain o ds all c → IsStoreImage t from (steps_of ds) (steps_of all) c
+stands_of t from o ds all c by agree said formed enough s = image_by t o from (steps_of ds) (steps_of all) c by (image_is t from o ds all c by agree said formed enough (own_of o ds all c s))
 
--- and of a store without a record, as it is made
+-- and of a store without a record, as it is made, whose log is formed
+empty_formed : (base : ℕ) → IsLog base (steps_of [])
+empty_formed base = record {
+  above = tt;
+  owned = tt;
+  chained = tt;
+  system = tt;
+  between = tt;
+  straight = tt;
+  ended = tt;
+  over = tt;
+  one_action = record { one = λ t u first other. absurd (first refl); whose = λ t first. absurd (first refl) };
+}
+
 pub none_of : (t : Table) (o : Origin) (c : Image) → IsBy t o → StandsAgain o [] [] c → IsStoreImage t (cut_at o.super (state_of o.first)) [] [] c
-none_of t o c by s = stands_of t (cut_at o.super (state_of o.first)) o [] [] c by (all_agree_none t o []) refl s
+none_of t o c by s = stands_of t (cut_at o.super (state_of o.first)) o [] [] c by (all_agree_none t o []) refl (formed_none o.super.base [] ∣ empty_formed o.super.base ∣₁) (all_enough_none t o.super.base [] refl) s

@@ -2,7 +2,7 @@
 use Rattle.std.proofs.Common.{◌≡◌, ℕ, max, List, [], ◌∷◌, Option, None, refl, ap, ◌∙◌}
 use Rattle.sg_log.specs.Frames.{Numbered}
 use Rattle.sg_record.specs.Records.{Says}
-use Rattle.sg_record.specs.Records.Says.{Begin, Changed, TopEnd, PhysComp, TopVoid, CompEnd, Save, Commit, End, Checkpoint, Line}
+use Rattle.sg_record.specs.Records.Says.{Begin, Changed, TopEnd, PhysComp, TopVoid, CompEnd, Save, Commit, End, Checkpoint}
 use Rattle.sg_analysis.specs.Sights as sights
 use Rattle.sg_analysis.specs.Sights.{sight_by, sight_of, or_checkpoint, checkpoint_behind}
 use Rattle.sg_analysis.specs.Analysis.{estimate_or as estimate_in}
@@ -21,7 +21,6 @@ one_same base lsn u p last (Save m) = refl
 one_same base lsn u p last Commit = refl
 one_same base lsn u p last End = refl
 one_same base lsn u p last (Checkpoint e l) = refl
-one_same base lsn u p last (Line words) = refl
 
 last_same : (base : ℕ) (last : Option sights.Checkpoint) (ns : List Numbered) → estimate_in base (checkpoint_behind last ns) ≡ last_estimate (estimate_in base last) ns
 last_same base last [] = refl
@@ -44,7 +43,6 @@ mark_said A lsn u p (Save k) m = tt
 mark_said A lsn u p Commit m = tt
 mark_said A lsn u p End m = tt
 mark_said A lsn u p (Checkpoint e l) m = m
-mark_said A lsn u p (Line words) m = m
 
 mark_seen : (A : ℕ → Type 0) (lsn u p : ℕ) (says : Says) → IsMarked A lsn says → IsSeenMarked A lsn (sight_by u p says)
 mark_seen A lsn u p Begin m = tt
@@ -57,7 +55,6 @@ mark_seen A lsn u p (Save k) m = tt
 mark_seen A lsn u p Commit m = tt
 mark_seen A lsn u p End m = tt
 mark_seen A lsn u p (Checkpoint e l) m = m
-mark_seen A lsn u p (Line words) m = m
 
 -- and so are the checkpoints
 pub marks_said : (A : ℕ → Type 0) (ns : List Numbered) → AreSeenMarked A ns → AreMarked A ns

@@ -1,4 +1,4 @@
--- An image of a store whose log is formed in full isn't refused as damaged.
+-- An image of a store isn't refused as damaged.
 use Rattle.std.proofs.Common.{◌≡◌, ◌⊎◌, ⊎_elim, ℕ, Bool, List, [], ◌∷◌, Option, Some, None, Ok, Err, refl, sym, ap, ◌∙◌, subst}
 use mathlib.Core.Logic.{∥∥₁_elim}
 use Rattle.sg_base.specs.declared.area.Area.{Area}
@@ -14,7 +14,7 @@ use Rattle.sg_gate.specs.declared.superblock.Super.{Super}
 use Rattle.sg_gate.specs.declared.fault.GateFault.{GateFault}
 use Rattle.std.specs.Prelude.{Result}
 use Rattle.sg_record.specs.Records.{Says}
-use Rattle.sg_record.specs.Records.Says.{Begin, Changed, TopEnd, PhysComp, TopVoid, CompEnd, Save, Commit, End, Checkpoint, Line}
+use Rattle.sg_record.specs.Records.Says.{Begin, Changed, TopEnd, PhysComp, TopVoid, CompEnd, Save, Commit, End, Checkpoint}
 use Rattle.sg_recovery.specs.Formed.{IsLog}
 use Rattle.sg_action.specs.States.{State}
 use Rattle.sg_analysis.specs.Damage as analysis
@@ -33,7 +33,7 @@ use Rattle.sg_actions.specs.Steps.{Steps}
 use Rattle.sg_phys_laws.specs.Points.{IsMarked, AreMarked}
 use Rattle.sg_phys_laws.specs.Recovers.{origin_of, records_in, point_in, super_in, IsSoundImage, RecoversBy}
 use Rattle.sg_phys_laws.specs.States.{steps_of}
-use Rattle.sg_attach.proofs.Analysed.{steps_same}
+use Rattle.sg_phys_laws.proofs.Sighted.{steps_same}
 use Rattle.sg_attach.proofs.Attached.{DoesBy}
 use Rattle.sg_attach.proofs.Opens.{sound_opens, sound_there}
 
@@ -52,7 +52,6 @@ plausible_one lsn u p (Save k) m = tt
 plausible_one lsn u p Commit m = tt
 plausible_one lsn u p End m = tt
 plausible_one lsn u p (Checkpoint e l) m = m.1
-plausible_one lsn u p (Line words) m = m
 
 plausible_all : (ns : List Numbered) → AreMarked (λ k. Unit {0}) ns → ArePlausible ns
 plausible_all [] m = tt
@@ -95,21 +94,21 @@ module _ (t : Table) (c : Image) (s : IsSoundImage (origin_of t c) (point_in (or
       clash : {a : Super} {e : GateFault} → ◌≡◌ {A = Result Super GateFault} (Ok a) (Err e) → ⊥
       clash {a} {e} k = cc
 
--- the steps that an image recovers are those of its records
-log_of : (t : Table) (c : Image) (rs : Steps) (x : State) → RecoversBy t c rs x → IsLog (super_in c).base rs → IsLog (super_in c).base (steps_of (records_in (origin_of t c) c))
-log_of t c rs x r formed = subst (IsLog (super_in c).base) r.holds.records formed
+-- so are those of an image of a store
+log_of : (t : Table) (c : Image) (rs : Steps) (x : State) → RecoversBy t c rs x → ∥ IsLog (super_in c).base (steps_of (records_in (origin_of t c) c)) ∥₁
+log_of t c rs x r = subst (λ (log : Steps). ∥ IsLog (super_in c).base log ∥₁) r.holds.records r.holds.formed
 
 -- SO IT IS REFUSED FOR NO DAMAGE,
-pub formed_undamaged : (t : Table) (c : Image) (rs : Steps) (x : State) (area : Area) (at : ℕ) → RecoversBy t c rs x → IsLog (super_in c).base rs → IsCause t c (Damaged area at) → ⊥
-formed_undamaged t c rs x area at r formed cause =
-    ∥∥₁_elim r.holds.sound (λ a b. absurd a) (λ s. not_damaged t c s (log_of t c rs x r formed) area at cause)
+pub never_damaged : (t : Table) (c : Image) (rs : Steps) (x : State) (area : Area) (at : ℕ) → RecoversBy t c rs x → IsCause t c (Damaged area at) → ⊥
+never_damaged t c rs x area at r cause =
+    ∥∥₁_elim r.holds.sound (λ a b. absurd a) (λ s. ∥∥₁_elim (log_of t c rs x r) (λ a b. absurd a) (λ formed. not_damaged t c s formed area at cause))
 
 -- also where it is being opened
-pub attach_undamaged : (told : Bool) (t : Table) (v w : View) (fault : OpenFault) (rs : Steps) (x : State) → RecoversBy t (reads v) rs x → IsLog (super_in (reads v)).base rs
+pub attach_undamaged : (told : Bool) (t : Table) (v w : View) (fault : OpenFault) (rs : Steps) (x : State) → RecoversBy t (reads v) rs x
     → ((q : Origin) (tail : ℕ) (ds : List Numbered) → DoesBy t q → Opens q tail ds v → StoreRefused told t q ds v w fault) → (area : Area) (at : ℕ) → fault ≡ Damaged area at → ⊥
-attach_undamaged told t v w fault rs x r formed refused area at e =
-    ∥∥₁_elim r.holds.sound (λ a b. absurd a) (λ s.
+attach_undamaged told t v w fault rs x r refused area at e =
+    ∥∥₁_elim r.holds.sound (λ a b. absurd a) (λ s. ∥∥₁_elim (log_of t (reads v) rs x r) (λ a b. absurd a) (λ formed.
     let q : Origin = origin_of t (reads v) in
     let ds : List Numbered = records_in q (reads v) in
     let why : StoreRefused told t q ds v w (Damaged area at) = subst (λ (f : OpenFault). StoreRefused told t q ds v w f) e (refused q s.tail ds (λ lsn y. refl) (sound_opens t v s)) in
-    log_whole t (reads v) s (log_of t (reads v) rs x r formed) at why.1)
+    log_whole t (reads v) s formed at why.1))

@@ -79,13 +79,15 @@ pub fn attach<D: Presumed, L: Ledger>(
     ensures unfinished { IsTrue D.told → D.presumed → IfOk result (λ made. option_map (λ p. (p.0.0, p.1)) made.analysis.unfinished ≡ unfinished_of (seen D.told D.presumed D.view made.pages).steps) }
     // There are as many pages and bands as its superblock says.
     ensures extent { IsTrue D.told → D.presumed → IfOk result (λ made. IsExtentOf made.geometry (seen D.told D.presumed D.view made.pages).extent) }
-    // Such an image is refused only where the disk fails, for want of memory, where a code isn't registered, or
-    // where its log isn't formed in full.
+    // Such an image is refused only where the disk fails, for want of memory, or where a code isn't registered.
     ensures refused { let t = table_of record_meaning range_meaning ops.now in (from : State) (durable log : Log) → IsTrue D.told → IsStoreImage t from durable log (reads (D.view disk)) →
         IfErr result (λ not. ∥ StoreRefused D.told t (origin_of t (reads (D.view disk))) (records_in (origin_of t (reads (D.view disk))) (reads (D.view disk))) (D.view disk) (D.view not.disk) not.fault ∥₁) }
-    // Where the steps of its log are a formed log, it isn't refused as damaged.
-    ensures undamaged { let t = table_of record_meaning range_meaning ops.now in (log : Log) (x : State) → IsTrue D.told → RecoversBy t (reads (D.view disk)) log x → IsLog (super_in (reads (D.view disk))).base log →
+    // It is never refused as damaged.
+    ensures undamaged { let t = table_of record_meaning range_meaning ops.now in (log : Log) (x : State) → IsTrue D.told → RecoversBy t (reads (D.view disk)) log x →
         IfErr result (λ not. (area : Area) (at : ℕ) → not.fault ≡ OpenFault.Damaged area at → ⊥) }
+    // Nor is it for an operation that isn't registered.
+    ensures known { let t = table_of record_meaning range_meaning ops.now in (log : Log) (x : State) → IsTrue D.told → RecoversBy t (reads (D.view disk)) log x →
+        IfErr result (λ not. (code : ℕ) → not.fault ≡ OpenFault.UnknownOperation code → ⊥) }
     // Of any image: why it is refused, and with which place.
     ensures cause { IsTrue D.told → IfErr result (λ not. IsCause (table_of record_meaning range_meaning ops.now) (reads (D.view disk)) not.fault ⊎ IsLateCause (reads (D.view disk)) not.fault) }
     ensures not_a_store { IsTrue D.told → IfErr result (λ not. not.fault ≡ OpenFault.NotAStore → (((D.view disk).now Home).seen 0 ≢ 1) × (((D.view disk).now Home).seen 4096 ≢ 1)) }

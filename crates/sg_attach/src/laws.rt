@@ -11,15 +11,17 @@ ghost use Rattle.sg_engine.specs.Effects.{IsBy};
 ghost use Rattle.sg_engine.specs.Engine.{Origin};
 ghost use Rattle.sg_engine.specs.Running.{IsEngine, IsAllowed};
 ghost use Rattle.sg_find.specs.Synced.{reads, redo_point, SplitsAtSync};
-ghost use Rattle.sg_find.specs.declared.fault.OpenFault.TheVariants.{Damaged};
+ghost use Rattle.sg_find.specs.declared.fault.OpenFault.TheVariants.{Damaged, UnknownOperation};
 ghost use Rattle.sg_open.specs.Found.{Opens};
 ghost use Rattle.sg_open.specs.Refusals.{IsCause};
 ghost use Rattle.sg_recovery.specs.Formed.{IsLog};
 ghost use Rattle.sg_reopen.specs.Again.{StandsAgain};
 ghost use Rattle.sg_actions.specs.Steps.{Steps};
+ghost use Rattle.sg_phys_laws.specs.Formed.{AreFormed};
+ghost use Rattle.sg_phys_laws.specs.Known.{IsEnough, AllEnough};
 ghost use Rattle.sg_phys_laws.specs.Points.{AreMarked};
 ghost use Rattle.sg_phys_laws.specs.Poised.{AreSaid, IsPoised};
-ghost use Rattle.sg_phys_laws.specs.Recovers.{cut_at, origin_of, records_in, point_in, super_in, IsSoundImage, RecoversBy};
+ghost use Rattle.sg_phys_laws.specs.Recovers.{cut_at, origin_of, records_in, point_in, IsSoundImage, RecoversBy};
 ghost use Rattle.sg_phys_laws.specs.States.{AllAgree, state_of, steps_of};
 ghost use Rattle.sg_attach.specs.Attached.{IsStoreImage, IsAttaching};
 
@@ -30,7 +32,8 @@ pub fn images_attach()
     ensures opens { (t : Table) (v : View) → (s : IsSoundImage (origin_of t (reads v)) (point_in (origin_of t (reads v)) (reads v)) (records_in (origin_of t (reads v)) (reads v)) (reads v)) → Opens (origin_of t (reads v)) s.tail (records_in (origin_of t (reads v)) (reads v)) v }
     ensures point { (t : Table) (k : ℕ) (ns : List Numbered) (c : Image) → (s : IsSoundImage (origin_of t c) k ns c) → redo_point (origin_of t c).super.base ns ≤ s.tail }
     ensures said { (t : Table) (from : State) (durable log : Steps) (c : Image) → IsStoreImage t from durable log c → AreSaid t from (origin_of t c) (records_in (origin_of t c) c) }
-    ensures poised { (t : Table) (from : State) (c : Image) (w : View) (log : Tail) (pool : Pool) → AreMarked (λ k. Unit {0}) (records_in (origin_of t c) c) → AreSaid t from (origin_of t c) (records_in (origin_of t c) c) → IsEngine (origin_of t c) w log (records_in (origin_of t c) c) [] pool
+    ensures poised { (t : Table) (from : State) (c : Image) (w : View) (log : Tail) (pool : Pool) → AreMarked (λ k. Unit {0}) (records_in (origin_of t c) c) → AreSaid t from (origin_of t c) (records_in (origin_of t c) c)
+        → ∥ IsLog (origin_of t c).super.base (steps_of (records_in (origin_of t c) c)) ∥₁ → IsEnough t (origin_of t c).super.base (records_in (origin_of t c) c) → IsEngine (origin_of t c) w log (records_in (origin_of t c) c) [] pool
         → IsAllowed (origin_of t c) w log pool (redo_point (origin_of t c).super.base (records_in (origin_of t c) c)) → IsPoised t from (origin_of t c) w log pool }
 {}
 
@@ -43,15 +46,21 @@ pub fn opening_keeps()
 {}
 
 /// A law: an image that stands again, of whichever life, is one of the store, where its records agree
-/// with their steps; so is one of a store that was just made, of which nothing more is asked.
+/// with their steps, and each of their fronts with the durable ones is a formed log for an opening of which enough
+/// operations are registered; so is one of a store that was just made, of which nothing more is asked.
 pub fn standing_is_of()
-    ensures stands { (t : Table) (from : State) (o : Origin) (ds all : List Numbered) (c : Image) → IsBy t o → AllAgree t o ds all → AreSaid t from o ds → StandsAgain o ds all c → IsStoreImage t from (steps_of ds) (steps_of all) c }
+    ensures stands { (t : Table) (from : State) (o : Origin) (ds all : List Numbered) (c : Image) → IsBy t o → AllAgree t o ds all → AreSaid t from o ds → AreFormed o.super.base ds all → AllEnough t o.super.base ds all → StandsAgain o ds all c → IsStoreImage t from (steps_of ds) (steps_of all) c }
     ensures none { (t : Table) (o : Origin) (c : Image) → IsBy t o → StandsAgain o [] [] c → IsStoreImage t (cut_at o.super (state_of o.first)) [] [] c }
 {}
 
-/// A law: an image of a store is refused for no damage before the first write, where the steps of its log
-/// are a formed log: its superblock is in range, each frame of its log is formed, and each record is of a
-/// page or a band of the store.
-pub fn formed_is_undamaged()
-    ensures { (t : Table) (c : Image) (log : Steps) (x : State) (area : Area) (at : ℕ) → RecoversBy t c log x → IsLog (super_in c).base log → IsCause t c (Damaged area at) → ⊥ }
+/// A law: an image of a store is refused for no damage before the first write: its superblock is in range,
+/// each frame of its log is formed, and so is the log, and each record is of a page or a band of the store.
+pub fn images_are_undamaged()
+    ensures { (t : Table) (c : Image) (log : Steps) (x : State) (area : Area) (at : ℕ) → RecoversBy t c log x → IsCause t c (Damaged area at) → ⊥ }
+{}
+
+/// A law: an image of a store by some operations is refused for none that isn't registered among them: each
+/// that opening needs is.
+pub fn none_is_unknown()
+    ensures { (t : Table) (c : Image) (log : Steps) (x : State) (code : ℕ) → RecoversBy t c log x → IsCause t c (UnknownOperation code) → ⊥ }
 {}

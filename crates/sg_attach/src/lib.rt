@@ -10,4 +10,6 @@ mod attaching;
 mod laws;
 
 pub use attaching::{AttachedStore, attach};
-pub use laws::{formed_is_undamaged, images_attach, opening_keeps, standing_is_of};
+pub use laws::{
+    images_are_undamaged, images_attach, none_is_unknown, opening_keeps, standing_is_of,
+};

@@ -4,3 +4,4 @@ pub mod Values
 pub mod Simple
 pub mod Taken
 pub mod Reading
+pub mod Fit

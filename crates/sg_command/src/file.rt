@@ -1,5 +1,6 @@
-ghost use Rattle.std.specs.Prelude.{◌≡◌, ◌≤◌, ◌<◌, length, Err, IfOk, IfSome, OnOk, OnErr};
+ghost use Rattle.std.specs.Prelude.{◌≡◌, ◌≤◌, ◌<◌, length, Err, IsTrue, IfOk, IfSome, OnOk, OnErr};
 ghost use Rattle.sg_base.specs.Ends.{HasRisen};
+ghost use Rattle.sg_geometry.specs.Fit.{is_fit};
 ghost use Rattle.sg_command.specs.Sizes.{Says};
 ghost use Rattle.sg_command.specs.File.{IsFilled, IsTakenOf, IsAtEnd, SaysNone};
 ghost use Rattle.sg_command.specs.declared.file.SizesFault.TheVariants as SizesFault;
@@ -56,6 +57,7 @@ fn fill<S: Source>(source: &mut S, into: &mut [u8]) -> Result<usize, Failed>
 /// `Read` exactly where the source fails.
 pub fn read_sizes<S: Source>(alloc: Global, source: &mut S) -> Result<Geometry, SizesFault>
     ensures says { IfOk result (λ g. IfSome (S.left source.old) (λ text. Says text g)) }
+    ensures fit { IfOk result (λ g. IsTrue (is_fit g)) }
     ensures whole { OnOk result (IsAtEnd (S.left source.new)) }
     ensures bad { result ≡ Err SizesFault.Bad → IfSome (S.left source.old) SaysNone }
     // what is read, whatever comes of it

@@ -2,7 +2,6 @@
 use Rattle.std.proofs.Common.{◌≡◌, ◌⊎◌, inl, inr, ⊎_elim, ℕ, zero, suc, ◌+◌, ◌<◌, ◌≤◌, ◌^◌, Bool, true, false, IsTrue, List, [], ◌∷◌, Option, Some, None, IfSome, length, refl, sym, ap, ◌∙◌, subst, arith, length-append}
 use Rattle.std.proofs.lemmas.Bool.{cases_lt}
 use Rattle.sg_base.specs.Ends.{HasRisen}
-use Rattle.sg_base.specs.declared.area.Area.{Area}
 use Rattle.sg_disk.specs.Accounts.{IsShownEnd}
 use Rattle.sg_disk.specs.Disk as disk
 use Rattle.sg_disk.proofs.Moments as moments
@@ -23,7 +22,8 @@ use Rattle.sg_store.specs.Stands as stores
 use Rattle.sg_store.specs.Store as core
 use Rattle.sg_session.specs.Shows.{Core, Shows}
 use Rattle.sg_session.specs.Lines.{Line, line_of}
-use Rattle.sg_session.specs.Lines.Line.{Flush, Other}
+use Rattle.sg_session.specs.Lines.Line.{OfStore, Other}
+use Rattle.sg_words.specs.declared.upkeep.Upkeep.TheVariants as upkeeps
 use Rattle.sg_session.specs.Causes as causes
 use Rattle.sg_session.specs.Causes.{Trouble, trouble_in, stop_by}
 use Rattle.sg_session.specs.Causes.Trouble.{NoTrouble, OfDisk, OfLog, OfMemory}
@@ -43,7 +43,7 @@ use Rattle.sg_commands.specs.Full.{MayBeFull, TailIsShown}
 use Rattle.sg_commands.specs.Opening.{IsLeftAlone, IsOpened, IsRefusedFor, IsQuietFor, StaysShut, KeepsAll}
 use Rattle.sg_commands.specs.Answers.{IsCaused, AreCaused}
 use Rattle.sg_commands.specs.Statuses.{status_of, status_of_refusal}
-use Rattle.sg_commands.specs.Top.{Outside, at_first, at_end, Course, Outcome, Did, IsLogSpent, FaultRose, Ran, NeverRan, HasGone, Tells, IsUnhindered, Completes, Account}
+use Rattle.sg_commands.specs.Top.{Outside, at_first, at_end, Course, Did, IsLogSpent, FaultRose, Ran, NeverRan, HasGone, Tells, IsUnhindered, Completes, Account}
 
 -- what holds at two views holds at equal ones
 pub along : (P : disk.View → disk.View → Type 0) (v was w is : disk.View) → was ≡ v → is ≡ w → P was is → P v w
@@ -65,22 +65,6 @@ ended_memory ends.Write None h = cc
 ended_memory ends.TooLong None h = cc
 ended_memory end (Some stops.Disk) h = cc
 ended_memory end (Some stops.LogEnd) h = cc
-
-ended_damaged : (area : Area) (at : ℕ) (end : code_end.RunEnd) (stop : Option Stop) → status_of end stop ≡ statuses.Damaged area at → ⊥
-ended_damaged area at ends.Done None h = cc
-ended_damaged area at ends.Read None h = cc
-ended_damaged area at ends.Write None h = cc
-ended_damaged area at ends.TooLong None h = cc
-ended_damaged area at end (Some stops.Disk) h = cc
-ended_damaged area at end (Some stops.LogEnd) h = cc
-
-ended_unknown : (code : ℕ) (end : code_end.RunEnd) (stop : Option Stop) → status_of end stop ≡ statuses.UnknownOperation code → ⊥
-ended_unknown code ends.Done None h = cc
-ended_unknown code ends.Read None h = cc
-ended_unknown code ends.Write None h = cc
-ended_unknown code ends.TooLong None h = cc
-ended_unknown code end (Some stops.Disk) h = cc
-ended_unknown code end (Some stops.LogEnd) h = cc
 
 -- a count has risen, or hasn't
 risen_or : (before now : ℕ) → HasRisen before now ⊎ (HasRisen before now → ⊥)
@@ -128,7 +112,8 @@ stop_full tail before now s (l ∷ lines) (a ∷ answers) h e = ⊎_elim (by_tro
     (stop_full tail before now (stop_by s (line_of l) (trouble_in a)) lines answers h.1 e)
   where
     by_line : (line : Line) → causes.IsFullFor tail tail line → causes.stop_at_end s line ≡ Some stops.LogEnd → (s ≡ Some stops.LogEnd) ⊎ IsAtEnd tail
-    by_line Flush full is = inl is
+    by_line (OfStore upkeeps.Flush) full is = inl is
+    by_line (OfStore upkeeps.Checkpoint) full is = inr full
     by_line (Other Blank) full is = inl is
     by_line (Other Wrong) full is = inl is
     by_line (Other (Of name Begin)) full is = inl is
@@ -146,7 +131,8 @@ stop_full tail before now s (l ∷ lines) (a ∷ answers) h e = ⊎_elim (by_tro
 -- by the bytes that were handed over
 full_shown : (log_end tail : ℕ) (v w : disk.View) (line : Line) → TailIsShown log_end v w tail → causes.IsFullFor tail tail line → MayBeFull log_end v w line
 full_shown log_end tail v w line (inl counted) full = inl counted
-full_shown log_end tail v w Flush (inr shown) full = absurd full
+full_shown log_end tail v w (OfStore upkeeps.Flush) (inr shown) full = absurd full
+full_shown log_end tail v w (OfStore upkeeps.Checkpoint) (inr shown) full = inr (omega (arith, shown, full))
 full_shown log_end tail v w (Other Blank) (inr shown) full = absurd full
 full_shown log_end tail v w (Other Wrong) (inr shown) full = absurd full
 full_shown log_end tail v w (Other (Of name Begin)) (inr shown) full = inr (omega (arith, shown, full))
@@ -406,13 +392,11 @@ module _ (basis : Sizes → Ground) (says : Says) (t : Operations) (told : Bool)
         by_status statuses.Write h tells = absurd (u.sink tells)
         by_status statuses.TooLong h tells = let long = subst (λ (o : Option (List ℕ)). IfSome o (λ text. MOST_BYTES < length text)) u.script tells in absurd
             (omega (arith, long, u.short))
-        by_status (statuses.UnknownOperation code) (inl never) tells = inr (inr (inr (tells u.is_told, never.untouched)))
-        by_status (statuses.UnknownOperation code) (inr ran) tells = absurd (ended_unknown code ran.run.end ran.run.stopped (sym ran.status_is))
-        by_status (statuses.Damaged area at) (inl never) tells = (let c = tells u.is_told in
-            inr (inr (inr ((c.0, λ home. c.1 home u.is_presumed), never.untouched))))
-        by_status (statuses.Damaged area at) (inr ran) tells = absurd (ended_damaged area at ran.run.end ran.run.stopped (sym ran.status_is))
+        by_status (statuses.UnknownOperation code) h tells = absurd ((tells u.is_told).1 u.is_presumed)
+        by_status (statuses.Damaged area at) h tells = absurd ((tells u.is_told).1 u.is_presumed)
         by_status statuses.Exists h tells = absurd tells
-        by_status statuses.LogEnd h tells = inr (inr (inl (refl, tells)))
+        by_status statuses.BadGeometry h tells = absurd tells
+        by_status statuses.LogEnd h tells = inr (inr (refl, tells))
 
     -- the account of a run by how it went
     pub account_of : (status : code_status.Status) → HasGone basis says t told presumed old new refused status → Account basis says t told presumed old new refused status

@@ -32,4 +32,5 @@ Draws (statuses.Damaged area at) d old new = ⊥
 Draws statuses.NotAStore d old new = ⊥
 Draws (statuses.UnknownOperation code) d old new = ⊥
 Draws statuses.Exists d old new = ⊥
+Draws statuses.BadGeometry d old new = ⊥
 Draws statuses.LogEnd d old new = ⊥

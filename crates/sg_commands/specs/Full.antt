@@ -11,7 +11,8 @@ use Rattle.sg_session.specs.Lines.Line.{Other}
 abbrev pub LOG_END : ℕ
 LOG_END = 2 ^ 63
 
--- the byte by which the log has room for a line: new work begins there at the latest, and the records that end a transaction end there
+-- the byte by which the log has room for a line: new work begins there at the latest, and the records of a checkpoint and of a transaction's end
+-- end there
 abbrev pub end_for : Line → ℕ
 end_for (Other (Of name Begin)) = NEW_WORK_END
 end_for (Other (Of name (Do op))) = NEW_WORK_END

@@ -4,6 +4,7 @@ use Rattle.sg_base.specs.Ends.{HasRisen}
 use Rattle.sg_base.specs.declared.area.Area.{Area}
 use Rattle.sg_disk.specs.Disk as disk
 use Rattle.sg_disk.specs.Disk.{Image}
+use Rattle.sg_geometry.specs.declared.geometry.Geometry.{Geometry}
 use Rattle.sg_ops.specs.Table.{Table as Operations}
 use Rattle.sg_model.specs.Objects.{Objects}
 use Rattle.sg_run.specs.Run.{Run, objects_after}
@@ -15,16 +16,17 @@ use Rattle.sg_store.specs.Stands as stores
 abbrev pub reads_of : disk.View → Image
 reads_of v a = (v.now a).seen
 
--- WHAT AN IMAGE SAYS of the store that it is of: how many pages and bands that has, and where its log ends; when an operation that it needs
--- isn't registered, with the code that is; when what begins at a byte of an area isn't a store's; when there is no store in it, and when one can
--- be made
+-- WHAT AN IMAGE SAYS of the store that it is of: how many pages and bands that has, all of the sizes that it was made with, and where its log ends;
+-- when an operation that it needs isn't registered, with the code that is; when what begins at a byte of an area isn't a store's; when there is
+-- no store in it, and when one of these sizes can be made
 pub record Says : Type 1 where
   pub sizes : Image → Sizes
+  pub geometry : Image → Geometry
   pub log_end : Image → ℕ
   pub unknown : Operations → Image → ℕ → Type 0
   pub damaged : Operations → Image → Area → ℕ → Type 0
   pub no_store : Image → Type 0
-  pub blank : Image → Type 0
+  pub blank : Geometry → Image → Type 0
 
 module _ (basis : Sizes → Ground) (says : Says) where
   -- AN IMAGE STANDS FOR THESE OBJECTS, as a store of the sizes that it says itself

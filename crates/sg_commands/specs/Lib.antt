@@ -6,7 +6,9 @@ pub mod Making
 pub mod Statuses
 pub mod Words
 pub mod Drawing
+pub mod Logged
 pub mod Answers
 pub mod Top
+pub mod Sized
 pub mod Done
 pub mod Stores

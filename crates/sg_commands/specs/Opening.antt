@@ -46,15 +46,14 @@ module _ (basis : Sizes → Ground) (says : Says) where
     pub starts : IsTrue told → presumed → (s : Objects) → StandsFor basis says t (reads_of v) s → Starts t (says.sizes (reads_of v)) e k s
     pub moments : IsTrue told → (synced : disk.View) × KeepsAll t presumed synced v e.disk
 
-  -- WHY A STORE DOESN'T OPEN. Where there is no store, and for damage in home, what is presumed of the disk doesn't hold: the image stands for no
-  -- objects. For damage in the log, and for an operation that isn't registered, it is said by the image alone where the damage is, and that
-  -- the operation is needed. It isn't said that an image which stands for objects is never refused for one of these
+  -- WHY A STORE DOESN'T OPEN. Where there is no store, for damage, and for an operation that is needed and isn't registered, what is presumed of the
+  -- disk doesn't hold: the image stands for no objects
   abbrev pub IsRefusedFor : Operations → code_refused.OpenRefused → (told : Bool) → (presumed : Type 0) → (v w : disk.View) → Type 0
   IsRefusedFor t refusals.DiskFault told presumed v w = IsTrue told → presumed → HasRisen v.faults w.faults
   IsRefusedFor t refusals.Memory told presumed v w = Unit {0}
-  IsRefusedFor t (refusals.Damaged area at) told presumed v w = IsTrue told → says.damaged t (reads_of v) area at × (area ≡ Home → presumed → ⊥)
+  IsRefusedFor t (refusals.Damaged area at) told presumed v w = IsTrue told → says.damaged t (reads_of v) area at × (presumed → ⊥)
   IsRefusedFor t refusals.NotAStore told presumed v w = IsTrue told → ((v.now Home).seen 0 ≢ 1) × ((v.now Home).seen 4096 ≢ 1) × (presumed → ⊥)
-  IsRefusedFor t (refusals.UnknownOperation code) told presumed v w = IsTrue told → says.unknown t (reads_of v) code
+  IsRefusedFor t (refusals.UnknownOperation code) told presumed v w = IsTrue told → says.unknown t (reads_of v) code × (presumed → ⊥)
   IsRefusedFor t refusals.LogEnd told presumed v w = IsTrue told → (disk.FULL ≤ w.handed) ⊎ (LOG_END + v.handed < says.log_end (reads_of v) + w.handed + 196613)
 
   -- a fault of the disk is why, or its count of faults is as it was

@@ -2,6 +2,8 @@
 use Rattle.std.specs.Prelude.{Option, Some, None}
 use Rattle.sg_model.specs.declared.stop.Stop.{Stop}
 use Rattle.sg_model.specs.declared.stop.Stop.TheVariants as stops
+use Rattle.sg_command.specs.declared.file.SizesFault as code_sizes
+use Rattle.sg_command.specs.declared.file.SizesFault.TheVariants as sizes
 use Rattle.sg_script.specs.declared.script.RunEnd as code_end
 use Rattle.sg_script.specs.declared.script.RunEnd.TheVariants as ends
 use Rattle.sg_commands.specs.declared.opens.OpenRefused as code_refused
@@ -24,6 +26,12 @@ status_of_refusal refusals.LogEnd = statuses.LogEnd
 abbrev pub status_of_making : code_init.InitRefused → code_status.Status
 status_of_making inits.DiskFault = statuses.Disk
 status_of_making inits.Exists = statuses.Exists
+
+-- of a new store for which there are no sizes
+abbrev pub status_of_sizes : code_sizes.SizesFault → code_status.Status
+status_of_sizes sizes.Read = statuses.Read
+status_of_sizes sizes.Bad = statuses.BadGeometry
+status_of_sizes sizes.Memory = statuses.Memory
 
 -- of a script that ended so
 abbrev pub status_of_end : code_end.RunEnd → code_status.Status

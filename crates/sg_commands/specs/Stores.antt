@@ -2,8 +2,12 @@
 use Rattle.std.specs.Prelude.{◌⊎◌}
 use Rattle.sg_store.specs.Ground.{Ground}
 use Rattle.sg_store.specs.Engine.{Sizes}
+use Rattle.sg_disk.specs.Disk.{Image}
 use Rattle.sg_find.specs.declared.fault.OpenFault.TheVariants.{Damaged, UnknownOperation}
 use Rattle.sg_gate.specs.declared.superblock.Super.{Super}
+use Rattle.sg_geometry.specs.declared.geometry.Geometry.{Geometry}
+use Rattle.sg_geometry.specs.Fit.{super_of}
+use Rattle.sg_phys_laws.specs.Recovers.{super_in}
 use Rattle.sg_open.specs.Refusals.{IsCause}
 use Rattle.sg_reopen.specs.Making.{IsBlank}
 use Rattle.sg_making.specs.Making.{IsNoStore}
@@ -24,23 +28,27 @@ use Rattle.sg_commands.specs.Images.{Says}
 abbrev pub grounds : Sizes → Ground
 grounds z = ground_of_sizes z
 
--- the superblock of a store that is made of the sizes that one has where none are given
-abbrev pub SUPER : Super
-SUPER = record { sequence = 1; pages = 16384; bands = 1024; frames = 256; windows = 32; log = 0; base = 0 }
+-- the sizes that a superblock says, and those of an image, by the one that counts
+abbrev pub geometry_of : Super → Geometry
+geometry_of s = record { pages = s.pages; bands = s.bands; frames = s.frames; windows = s.windows }
 
--- WHAT IMAGES SAY: how many pages and bands their store has, by the superblock, and where its log ends. The first code of an operation that isn't
+abbrev pub geometry_in : Image → Geometry
+geometry_in c = geometry_of (super_in c)
+
+-- WHAT IMAGES SAY: which sizes their store has, by the superblock, and where its log ends. The first code of an operation that isn't
 -- registered, of those that opening needs. Where it is damaged: the first field of the superblock that is out of its range, the first frame of the
 -- log that isn't formed, or whose records may not follow or are of a page or a band that the store doesn't have, or else a page in home, or the
 -- first field out of its range in the header of a batch of pages. That neither slot of the superblock is open; and that what isn't written
--- by making a store is 0 there
+-- by making a store of these sizes is 0 there
 abbrev pub says : Says
 says = record {
   sizes = sizes_in;
+  geometry = geometry_in;
   log_end = end_in;
   unknown = λ t c code. IsCause t c (UnknownOperation code);
   damaged = λ t c area at. IsCause t c (Damaged area at) ⊎ IsInHome c area at;
   no_store = IsNoStore;
-  blank = IsBlank SUPER;
+  blank = λ g c. IsBlank (super_of g) c;
 }
 
 -- why a store isn't opened, in the program's words

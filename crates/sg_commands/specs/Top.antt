@@ -57,7 +57,7 @@ pub record Course : Type 0 where
   -- the answers to these lines, and those of them that the sink took whole
   pub answers : List Answer
   pub heard : List Answer
-  -- why the store has stopped, if it has, in the script or behind it, where the live transactions abort and all is written home
+  -- why the store has stopped, if it has, in the script or behind it, where the live transactions abort, a checkpoint is made and all is written home
   pub stopped : Option Stop
 
 -- what it came to, where what the disk holds is known
@@ -164,8 +164,7 @@ module _ (basis : Sizes → Ground) (says : Says) where
   HasGone t told presumed old new refused status = NeverRan t told presumed old new refused status ⊎ Ran t told presumed old new refused status
 
   -- WHAT EACH STATUS TELLS of a run. What is presumed of the disk, that the image which reads give at entry stands for objects, doesn't hold where
-  -- there is no store, and where it is damaged in home. Of damage in the log it is said by the image alone where that is, and of an operation
-  -- that isn't registered, that it is needed; and not that the image stands for no objects then
+  -- there is no store, where it is damaged, and where an operation is needed that isn't registered
   abbrev pub Tells : code_status.Status → Operations → Bool → Type 0 → Outside → Outside → ℕ → Type 0
   Tells statuses.Done t told presumed old new refused = (new.source_faults ≡ old.source_faults) × (new.sink_faults ≡ old.sink_faults)
   Tells statuses.NotAStore t told presumed old new refused = IsTrue told → ((old.disk.now Home).seen 0 ≢ 1) × ((old.disk.now Home).seen 4096 ≢ 1) × (presumed → ⊥)
@@ -175,24 +174,17 @@ module _ (basis : Sizes → Ground) (says : Says) where
   Tells statuses.Read t told presumed old new refused = HasRisen old.source_faults new.source_faults
   Tells statuses.Write t told presumed old new refused = HasRisen old.sink_faults new.sink_faults
   Tells statuses.TooLong t told presumed old new refused = IfSome old.left (λ text. MOST_BYTES < length text)
-  Tells (statuses.UnknownOperation code) t told presumed old new refused = IsTrue told → says.unknown t (reads_of old.disk) code
-  Tells (statuses.Damaged area at) t told presumed old new refused = IsTrue told → says.damaged t (reads_of old.disk) area at × (area ≡ Home → presumed → ⊥)
+  Tells (statuses.UnknownOperation code) t told presumed old new refused = IsTrue told → says.unknown t (reads_of old.disk) code × (presumed → ⊥)
+  Tells (statuses.Damaged area at) t told presumed old new refused = IsTrue told → says.damaged t (reads_of old.disk) area at × (presumed → ⊥)
   Tells statuses.Exists t told presumed old new refused = ⊥
+  Tells statuses.BadGeometry t told presumed old new refused = ⊥
   Tells statuses.LogEnd t told presumed old new refused = IsLogSpent told old new
 
-  -- the image that reads give is refused for its log: for damage there, or for an operation that a record needs and that isn't registered
-  abbrev pub IsForLog : code_status.Status → Operations → disk.Image → Type 0
-  IsForLog (statuses.Damaged area at) t c = says.damaged t c area at × (area ≢ Home)
-  IsForLog (statuses.UnknownOperation code) t c = says.unknown t c code
-  IsForLog other t c = ⊥
-
-  -- AND SO IT ENDS: done, or for want of memory before it began, or at the log's end, or before it began for what the log has. It isn't said that
-  -- an image which stands for objects is never refused so
+  -- AND SO IT ENDS: done, or for want of memory before it began, or at the log's end
   abbrev pub Completes : Operations → Bool → Type 0 → Outside → Outside → ℕ → code_status.Status → Type 0
   Completes t told presumed old new refused status = (status ≡ statuses.Done)
       ⊎ (((status ≡ statuses.Memory) × IsUntouched t told presumed old new refused)
-      ⊎ (((status ≡ statuses.LogEnd) × IsLogSpent told old new)
-      ⊎ (IsForLog status t (reads_of old.disk) × IsUntouched t told presumed old new refused)))
+      ⊎ ((status ≡ statuses.LogEnd) × IsLogSpent told old new))
 
   -- THE ACCOUNT OF A RUN: how it went, what its status tells, and how it ends where nothing hinders it
   pub record Account (t : Operations) (told : Bool) (presumed : Type 0) (old new : Outside) (refused : ℕ) (status : code_status.Status) : Type 0 where

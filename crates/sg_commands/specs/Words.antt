@@ -1,4 +1,4 @@
--- What the words of the program ask for, of what it does today: a run of a script, a new store, or a workload.
+-- What the words of the program ask for, of what it does today: a run of a script, a new store, a listing of a log, or a workload.
 use Rattle.std.specs.Prelude.{ℕ, Bool, true, false, not, ◌||◌, List, String, Option, Some, None, is_some}
 use Rattle.std.specs.declared.alloc.Global.{Global}
 use Rattle.sg_command.specs.Asked.{asked, texts_of}
@@ -51,17 +51,42 @@ drawn words = drawn_in (asked (texts_of words))
 
 abbrev pub asks_init : Option Command → Bool
 asks_init None = false
-asks_init (Some (Init geometry)) = not geometry
+asks_init (Some (Init geometry)) = true
 asks_init (Some (Run stop_after)) = false
 asks_init (Some Dump) = false
 asks_init (Some Check) = false
 asks_init (Some Log) = false
 asks_init (Some (Gen seed count)) = false
 
--- the words ask for a new store of the sizes that one has where none are given
+-- the words ask for a new store
 abbrev pub are_init : List (String Global) → Bool
 are_init words = asks_init (asked (texts_of words))
 
+abbrev pub asks_file : Option Command → Bool
+asks_file (Some (Init geometry)) = geometry
+asks_file other = false
+
+-- the words ask for a new store whose sizes a file says
+abbrev pub with_file : List (String Global) → Bool
+with_file words = asks_file (asked (texts_of words))
+
+abbrev pub asks_log : Option Command → Bool
+asks_log None = false
+asks_log (Some (Init geometry)) = false
+asks_log (Some (Run stop_after)) = false
+asks_log (Some Dump) = false
+asks_log (Some Check) = false
+asks_log (Some Log) = true
+asks_log (Some (Gen seed count)) = false
+
+-- the words ask for the listing of a store's log
+abbrev pub are_log : List (String Global) → Bool
+are_log words = asks_log (asked (texts_of words))
+
+-- what the words ask for is done on the disk
+abbrev pub call_disk : List (String Global) → Bool
+call_disk words = are_run words || (are_init words || are_log words)
+
 -- the program does what the words ask for
 abbrev pub are_served : List (String Global) → Bool
-are_served words = are_run words || (are_init words || is_some (drawn words))
+are_served words = call_disk words || is_some (drawn words)

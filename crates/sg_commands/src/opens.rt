@@ -2,6 +2,9 @@
 ghost use Rattle.std.specs.Prelude.{◌≡◌, ◌≤◌, Some, Ok, Err, IsTrue, IfOk, IfErr, OnOk};
 ghost use Rattle.sg_base.specs.Ends.{HasRisen};
 ghost use Rattle.sg_disk.specs.Disk.{Image, LeavesOnly};
+ghost use Rattle.sg_gate.specs.Reads.{OnlyReads};
+ghost use Rattle.sg_geometry.specs.Fit.{is_fit};
+ghost use Rattle.sg_geometry.specs.declared.geometry.Geometry.{Geometry as Given};
 ghost use Rattle.sg_model.specs.Objects.{Objects as Model};
 ghost use Rattle.sg_ops.specs.Table.{Table as Operations, table_of};
 ghost use Rattle.sg_store.specs.Engine.{Sizes};
@@ -13,6 +16,7 @@ ghost use Rattle.sg_commands.specs.Opening.{IsOpened, StaysShut};
 
 use sg_base::Area;
 use sg_disk::{Disk, Presumed};
+use sg_geometry::Geometry;
 use sg_ops::Ops;
 use sg_store::{Lists, Store};
 use std::alloc::Global;
@@ -68,17 +72,19 @@ pub trait Opens<D: Presumed>: Lists {
     fn into_disk(self) -> D
         ensures { D.view result ≡ (Self.view self).disk };
 
-    /// Makes a store without objects on a disk that has none, of the sizes that one has where none are given.
-    fn init(disk: &mut D) -> Result<(), InitRefused>
+    /// Makes a store without objects, of these sizes, on a disk that has none. Where there is one nothing is written.
+    fn init(disk: &mut D, sizes: &Geometry) -> Result<(), InitRefused>
+        requires fit { IsTrue (is_fit sizes.now) }
         ensures exists { IsTrue D.told → result ≡ Err InitRefused.Exists → HasOpenGate (D.view disk.old) }
+        ensures unwritten { result ≡ Err InitRefused.Exists → OnlyReads D.told (D.view disk.old) (D.view disk.new) }
         ensures refused { IsTrue D.told → HasOpenGate (D.view disk.old) → result ≡ Ok tt → ⊥ }
         ensures failed { result ≡ Err InitRefused.DiskFault → HasRisen (D.view disk.old).faults (D.view disk.new).faults }
         ensures heeded { (result ≡ Err InitRefused.DiskFault → ⊥) → (D.view disk.new).faults ≡ (D.view disk.old).faults }
-        ensures moments { (t : Operations) → IsTrue D.told → IsBlank Self.basis says (D.view disk.old) → LeavesOnly (D.view disk.old) (D.view disk.new) (IsMaking Self.basis says t) }
-        ensures done { (t : Operations) → IsTrue D.told → IsBlank Self.basis says (D.view disk.old) → OnOk result (IsNew Self.basis says t (D.view disk.new)) };
+        ensures moments { (t : Operations) → IsTrue D.told → IsBlank Self.basis says sizes.now (D.view disk.old) → LeavesOnly (D.view disk.old) (D.view disk.new) (IsMaking Self.basis says t sizes.now) }
+        ensures done { (t : Operations) → IsTrue D.told → IsBlank Self.basis says sizes.now (D.view disk.old) → OnOk result (IsNew Self.basis says t sizes.now (D.view disk.new)) };
 
     /// Where a store can be made there is none.
-    ghost bare: { (c : Image) → (says).blank c → (says).no_store c };
+    ghost bare: { (g : Given) (c : Image) → (says).blank g c → (says).no_store c };
 
     /// An image that stands for objects as a store of so many pages and bands says so itself.
     ghost sized: { (t : Operations) (z : Sizes) (c : Image) (m : Model) → stores.StandsFor t (Self.basis z) c m → (says).sizes c ≡ z };

@@ -1,8 +1,9 @@
 ghost use Rattle.std.specs.Prelude.{◌≡◌};
-ghost use Rattle.sg_commands.specs.Statuses.{status_of_refusal, status_of_making, status_of_end, status_of_stop, first_fault};
+ghost use Rattle.sg_commands.specs.Statuses.{status_of_refusal, status_of_making, status_of_sizes, status_of_end, status_of_stop, first_fault};
 
 use crate::opens::{InitRefused, OpenRefused};
 use sg_base::Area;
+use sg_command::SizesFault;
 use sg_model::Stop;
 use sg_script::RunEnd;
 
@@ -31,6 +32,8 @@ pub enum Status {
     Damaged(Area, u64),
     /// There is a store already.
     Exists,
+    /// What was to say the sizes of a new store says none that are fit.
+    BadGeometry,
     /// The log had no room.
     LogEnd,
 }
@@ -56,6 +59,17 @@ pub fn status_of_making(why: InitRefused) -> Status
     match why {
         InitRefused::DiskFault => Status::Disk,
         InitRefused::Exists => Status::Exists,
+    }
+}
+
+/// That of a new store for which there are no sizes.
+pub fn status_of_sizes(why: SizesFault) -> Status
+    ensures { result ≡ status_of_sizes why }
+{
+    match why {
+        SizesFault::Read => Status::Read,
+        SizesFault::Bad => Status::BadGeometry,
+        SizesFault::Memory => Status::Memory,
     }
 }
 

@@ -1,17 +1,18 @@
 // The store over pages, as an engine that can be opened.
 ghost use Rattle.std.specs.Prelude.{◌≡◌, ◌<◌, IfOk, IfErr};
-ghost use Rattle.sg_making.specs.Making.{super_of};
+ghost use Rattle.sg_geometry.specs.Fit.{super_of};
+ghost use Rattle.sg_making.specs.Making.{super_of as super_made};
 ghost use Rattle.sg_mount.specs.Opening.{HasOpenedOn, IsHandedBack, shown_by};
 ghost use Rattle.sg_ops.specs.Table.{table_of};
 ghost use Rattle.sg_store.specs.Seen.{core_of, Serves};
 ghost use Rattle.sg_commands.specs.Images.{IsPresumed};
-ghost use Rattle.sg_commands.specs.Stores.{SUPER, grounds, says, refused_for, making_refused_for};
+ghost use Rattle.sg_commands.specs.Stores.{grounds, says, refused_for, making_refused_for};
 
 use crate::opens::{InitRefused, OpenRefused, Opens, Unopened};
 use sg_base::Steps;
 use sg_disk::Presumed;
-use sg_geometry::Geometry as Sizes;
-use sg_making::{Geometry, InitFault};
+use sg_geometry::Geometry;
+use sg_making::{Geometry as Numbers, InitFault};
 use sg_mount::{MountFault, Unmounted, init_store, open_store};
 use sg_ops::Ops;
 use sg_paged::Paged;
@@ -64,12 +65,11 @@ fn open_with<D: Presumed, L: Ledger>(
     open_store(alloc, ops, disk, &mut steps)
 }
 
-// The sizes of a store where none are given.
-fn sizes() -> Geometry
-    ensures { super_of result ≡ SUPER }
+// The numbers that a store of these sizes is made with.
+fn numbers(sizes: &Geometry) -> Numbers
+    ensures { super_made result ≡ super_of sizes.now }
 {
-    let sizes = Sizes::default();
-    Geometry {
+    Numbers {
         pages: sizes.pages,
         bands: sizes.bands,
         frames: sizes.frames,
@@ -87,7 +87,7 @@ impl<D: Presumed> Opens<D> for Paged<Phys<D>> {
 
     ghost says = { says };
 
-    ghost bare = { λ c blank. blank_none SUPER c blank };
+    ghost bare = { λ g c blank. blank_none (super_of g) c blank };
 
     ghost sized = { λ t z c m h. has_sizes t z c h.log h.pages h.recovers };
 
@@ -107,8 +107,8 @@ impl<D: Presumed> Opens<D> for Paged<Phys<D>> {
         self.into_acts().into_engine().into_disk()
     }
 
-    fn init(disk: &mut D) -> Result<(), InitRefused> {
-        match init_store(disk, &sizes()) {
+    fn init(disk: &mut D, sizes: &Geometry) -> Result<(), InitRefused> {
+        match init_store(disk, &numbers(sizes)) {
             Ok(()) => Ok(()),
             Err(fault) => Err(not_made(fault)),
         }

@@ -1,21 +1,28 @@
-ghost use Rattle.std.specs.Prelude.{◌≡◌, ◌≤◌, ◌⊎◌, [], true, false, IsTrue, IfSome, IfOk, length};
+ghost use Rattle.std.specs.Prelude.{◌≡◌, ◌≤◌, ◌⊎◌, [], true, false, None, IsTrue, IfSome, IfOk, length};
 ghost use Rattle.sg_disk.specs.Disk.{refusing, Spent};
+ghost use Rattle.sg_geometry.specs.Fit.{is_fit};
 ghost use Rattle.sg_ops.specs.Table.{table_of};
 ghost use Rattle.sg_session.specs.Names.{all_live};
 ghost use Rattle.sg_script.specs.Ending.{MOST_OF_PIECE};
 ghost use Rattle.sg_commands.specs.Images.{IsPresumed};
-ghost use Rattle.sg_commands.specs.Words.{are_run, are_init, are_served, drawn, stop_after};
-ghost use Rattle.sg_commands.specs.Making.{Makes, IsMade, SaysMade};
+ghost use Rattle.sg_commands.specs.Words.{are_run, are_init, are_log, are_served, call_disk, with_file, drawn, stop_after};
+ghost use Rattle.sg_commands.specs.Making.{MakesOf, IsMade, SaysMade};
+ghost use Rattle.sg_commands.specs.Sized.{Makes};
 ghost use Rattle.sg_commands.specs.Drawing.{Draws, sunk};
+ghost use Rattle.sg_commands.specs.Logged.{ListsLog};
 ghost use Rattle.sg_commands.specs.Top.{outside, HasGone, Account};
 
+use crate::listing::list_log;
 use crate::opens::{Opens, Unopened};
+use crate::sizes::asked_sizes;
 use crate::status::{
-    Status, first_fault, status_of_end, status_of_making, status_of_refusal, status_of_stop,
+    Status, first_fault, status_of_end, status_of_making, status_of_refusal, status_of_sizes,
+    status_of_stop,
 };
 use sg_base::{OutOfMemory, Sink, Source};
 use sg_command::{Command, WordsError, read_command};
 use sg_disk::{Disk, Fuse, Origin, Presumes};
+use sg_geometry::Geometry;
 use sg_model::Reply;
 use sg_ops::Ops;
 use sg_script::{Ended, Room, run};
@@ -136,23 +143,25 @@ fn say_made<K: Sink>(out: &mut K) -> Status
     }
 }
 
-// Makes a store on the disk, which makes so many calls at most where a number is given.
+// Makes a store of these sizes on the disk, which makes so many calls at most where a number is given.
 fn init_behind_fuse<D: Disk, K: Sink, O: Origin + Presumes, E: Opens<Fuse<D, O>>>(
     disk: D,
     calls: Option<u64>,
+    sizes: &Geometry,
     out: &mut K,
 ) -> Finish<D>
     requires known { IsTrue O.known }
     requires passes { O.passes ≡ calls }
     requires began { O.calls ≡ (D.view disk).calls }
     requires faults { O.faults ≡ (D.view disk).faults }
-    ensures makes { Makes E.basis E.says result.status D.told (D.view disk) (D.view result.disk) result.refused }
+    requires fit { IsTrue (is_fit sizes.now) }
+    ensures makes { MakesOf E.basis E.says sizes.now result.status D.told (D.view disk) (D.view result.disk) result.refused }
     ensures said { SaysMade result.status (sunk (K.taken out.old) (K.faults out.old)) (sunk (K.taken out.new) (K.faults out.new)) }
     ensures heeded { (result.status ≡ Status.Disk → ⊥) → ((D.view result.disk).faults ≡ (D.view disk).faults) × (result.refused ≡ 0) }
     ensures spent { Spent calls (D.view disk).calls (D.view result.disk).calls result.refused }
 {
     let mut fuse = Fuse::<D, O>::marked(disk, calls);
-    match E::init(&mut fuse) {
+    match E::init(&mut fuse, sizes) {
         Ok(()) => {
             let status = say_made(out);
             finished(status, fuse)
@@ -160,6 +169,34 @@ fn init_behind_fuse<D: Disk, K: Sink, O: Origin + Presumes, E: Opens<Fuse<D, O>>
         Err(why) => {
             let status = status_of_making(why);
             finished(status, fuse)
+        }
+    }
+}
+
+// Makes a store on the disk, of the sizes that the source says where a file says them. Without sizes there is no call of the disk.
+fn init<D: Disk, S: Source, K: Sink, O: Origin + Presumes, E: Opens<Fuse<D, O>>>(
+    alloc: Global,
+    disk: D,
+    by_file: bool,
+    source: &mut S,
+    out: &mut K,
+) -> Finish<D>
+    requires known { IsTrue O.known }
+    requires passes { O.passes ≡ None }
+    requires began { O.calls ≡ (D.view disk).calls }
+    requires faults { O.faults ≡ (D.view disk).faults }
+    ensures makes { Makes E.basis E.says result.status by_file D.told (outside (D.view disk) (S.left source.old) (S.faults source.old) (K.taken out.old) (K.faults out.old))
+        (outside (D.view result.disk) (S.left source.new) (S.faults source.new) (K.taken out.new) (K.faults out.new)) result.refused }
+    ensures said { SaysMade result.status (sunk (K.taken out.old) (K.faults out.old)) (sunk (K.taken out.new) (K.faults out.new)) }
+    ensures apart { by_file ≡ false → source.new ≡ source.old }
+    ensures heeded { (result.status ≡ Status.Disk → ⊥) → ((D.view result.disk).faults ≡ (D.view disk).faults) × (result.refused ≡ 0) }
+    ensures spent { Spent None (D.view disk).calls (D.view result.disk).calls result.refused }
+{
+    match asked_sizes(alloc, by_file, source) {
+        Ok(sizes) => init_behind_fuse::<D, K, O, E>(disk, None, &sizes, out),
+        Err(why) => {
+            let status = status_of_sizes(why);
+            ended_beside(status, disk)
         }
     }
 }
@@ -185,12 +222,31 @@ fn ended_beside<D: Disk>(status: Status, disk: D) -> Finish<D>
     }
 }
 
+// Lists the log of the disk's store, with the end of that.
+#[tactic(auto, using(crate::proofs::Logged::none_spent))]
+fn list_beside<D: Disk, K: Sink>(alloc: Global, disk: D, out: &mut K) -> Finish<D>
+    ensures lists { ListsLog result.status D.told (D.view disk) (D.view result.disk) (sunk (K.taken out.old) (K.faults out.old)) (sunk (K.taken out.new) (K.faults out.new)) }
+    ensures heeded { (result.status ≡ Status.Disk → ⊥) → (D.view result.disk).faults ≡ (D.view disk).faults }
+    ensures passed { result.refused ≡ 0 }
+    ensures spent { Spent None (D.view disk).calls (D.view result.disk).calls result.refused }
+{
+    let mut disk = disk;
+    let status = list_log(alloc, &mut disk, out);
+    Finish {
+        status,
+        disk,
+        refused: 0,
+    }
+}
+
 /// Does what the words say, with the script that the source gives, over the disk: `run` and a folder,
 /// which names the disk, runs the script with these operations over the store that the disk has, up to 64
 /// of whose transactions are live at a time. The replies go to the sink. With `--stop-after` and a number
 /// beside these the disk makes so many more calls at most: each later one fails, and doesn't touch
-/// it. `init` and a folder make a store there of the sizes that one has where none are given, write
-/// `ok`, and read no script. `gen`, a seed and a count write a workload to the sink, and make no call of the disk or the source.
+/// it. `init` and a folder make a store there of the usual sizes, write `ok`, and read no script. With `--geometry`
+/// and a file beside these the source gives the text that says its sizes; where it says none that are fit the disk
+/// isn't called. `log` and a folder write the listing of the log of the store that the disk has, which isn't opened for
+/// that, and nothing to the disk. `gen`, a seed and a count write a workload to the sink, and make no call of the disk or the source.
 /// Other words are `Status::Usage`, and touch nothing; words take memory to be read. A run ends with its
 /// first fault, but for one of the disk: behind that each line is still answered.
 ///
@@ -211,17 +267,21 @@ pub fn serve<D: Disk, S: Source, K: Sink, O: Origin + Presumes, E: Opens<Fuse<D,
     requires presumed { IsPresumed E.basis E.says (table_of record_meaning range_meaning ops) D.told O.presumed (D.view disk) }
     ensures usage { result.status ≡ Status.Usage → are_served words.now ≡ false }
     ensures unused { are_served words.now ≡ false → ((result.status ≡ Status.Usage) ⊎ (result.status ≡ Status.Memory)) × (out.new ≡ out.old) }
-    ensures apart { are_run words.now ≡ false → script.new ≡ script.old }
-    ensures beside { are_run words.now ≡ false → are_init words.now ≡ false → (result.disk ≡ disk) × (result.refused ≡ 0) }
+    ensures apart { are_run words.now ≡ false → with_file words.now ≡ false → script.new ≡ script.old }
+    ensures beside { call_disk words.now ≡ false → (result.disk ≡ disk) × (result.refused ≡ 0) }
 
     // The headline: one course of the run, its replies, what a crash leaves of it, the cause of its status, and that it is
     // done where nothing hinders it.
     ensures run { are_run words.now ≡ true → Account E.basis E.says (table_of record_meaning range_meaning ops) D.told O.presumed (outside (D.view disk) (S.left script.old) (S.faults script.old) (K.taken out.old) (K.faults out.old))
         (outside (D.view result.disk) (S.left script.new) (S.faults script.new) (K.taken out.new) (K.faults out.new)) result.refused result.status }
 
-    // A new store: what its status tells, and what a crash leaves at each moment.
-    ensures made { are_init words.now ≡ true → Makes E.basis E.says result.status D.told (D.view disk) (D.view result.disk) result.refused }
+    // A new store: which sizes it has, what its status tells, and what a crash leaves at each moment.
+    ensures made { are_init words.now ≡ true → Makes E.basis E.says result.status (with_file words.now) D.told (outside (D.view disk) (S.left script.old) (S.faults script.old) (K.taken out.old) (K.faults out.old))
+        (outside (D.view result.disk) (S.left script.new) (S.faults script.new) (K.taken out.new) (K.faults out.new)) result.refused }
     ensures said { are_init words.now ≡ true → SaysMade result.status (sunk (K.taken out.old) (K.faults out.old)) (sunk (K.taken out.new) (K.faults out.new)) }
+
+    // The listing of a log: what the sink took of it, why it isn't done, and that the disk is as it was.
+    ensures listed { are_log words.now ≡ true → ListsLog result.status D.told (D.view disk) (D.view result.disk) (sunk (K.taken out.old) (K.faults out.old)) (sunk (K.taken out.new) (K.faults out.new)) }
 
     // A workload: what the sink took of it, by its status.
     ensures drawn { IfSome (drawn words.now) (λ d. Draws result.status d (sunk (K.taken out.old) (K.faults out.old)) (sunk (K.taken out.new) (K.faults out.new))) }
@@ -236,7 +296,8 @@ pub fn serve<D: Disk, S: Source, K: Sink, O: Origin + Presumes, E: Opens<Fuse<D,
         Ok(Command::Run { stop_after }) => {
             run_behind_fuse::<D, S, K, O, E>(alloc, &ops, disk, stop_after, script, out)
         }
-        Ok(Command::Init { geometry: false }) => init_behind_fuse::<D, K, O, E>(disk, None, out),
+        Ok(Command::Init { geometry }) => init::<D, S, K, O, E>(alloc, disk, geometry, script, out),
+        Ok(Command::Log) => list_beside(alloc, disk, out),
         Ok(Command::Gen { seed, count }) => {
             let status = draw_workload(seed, count, out);
             ended_beside(status, disk)

@@ -3,12 +3,11 @@ ghost use Rattle.std.specs.Prelude.{◌≡◌, ◌≤◌, ◌++◌, ℕ, List, l
 ghost use Rattle.sg_base.specs.Ends.{HasRisen};
 ghost use Rattle.sg_disk.specs.Heeds.{Heeds};
 ghost use Rattle.sg_record.specs.Records.{Record, spelled};
-ghost use Rattle.sg_record.specs.Ranges.{IsRecord};
+ghost use Rattle.sg_record.specs.Ranges.{GREATEST, IsRecord};
 ghost use Rattle.sg_record.specs.Shown.{shown};
 ghost use Rattle.sg_log.specs.Frames.{Numbered};
 ghost use Rattle.sg_log.specs.Held.{tail_of, place_of};
 ghost use Rattle.sg_log.specs.Places.{StandsAt, IsRecordText};
-ghost use Rattle.sg_log.specs.Texts.{GREATEST};
 ghost use Rattle.sg_pool.specs.Pooled.{sizes};
 ghost use Rattle.sg_engine.specs.Engine.{Origin};
 ghost use Rattle.sg_engine.specs.Running.{IsEngine, IsAllowed};

@@ -21,7 +21,7 @@ use sg_record::{Rec, decode};
 use sg_space::SpaceFault;
 
 // The bytes of the greatest record.
-const GREATEST: usize = 32_789;
+const GREATEST: usize = 16_417;
 
 /// What a way back over an action sees at a record.
 #[derive(Clone, Copy, Debug, PartialEq, Eq)]
@@ -50,8 +50,7 @@ fn back_of(r: &Rec<'_>) -> Back
         | Rec::Save { .. }
         | Rec::Commit { .. }
         | Rec::End { .. }
-        | Rec::Checkpoint { .. }
-        | Rec::Line { .. } => Back::Other,
+        | Rec::Checkpoint { .. } => Back::Other,
     }
 }
 

@@ -3,7 +3,7 @@ use Rattle.std.proofs.Common.{◌≡◌, ℕ, suc, ◌+◌, ◌-◌, ◌≤◌, 
 use Rattle.std.specs.FinMap.{FinMap, get, len, remove, contains_key, from_entries, get-empty, len-remove, empty_of_len}
 use Rattle.std.specs.Cmp.Lexicographic.{slice_cmp, nat_list_cmp_total}
 use Rattle.std.specs.Ordering.{nat_cmp}
-use Rattle.std.specs.Prelude.{IsSome, if◌then◌else◌, slice_get}
+use Rattle.std.specs.Prelude.{IsSome, if◌then◌else◌, slice_get, is_ok}
 use Rattle.std.specs.Str.{bytes_eq}
 use Rattle.sg_alloc.specs.Flags.{map_bands_of}
 use Rattle.sg_ops.specs.Table.{Table as Operations}
@@ -53,6 +53,11 @@ use Rattle.sg_ground.specs.Clauses.{Shows, ContentsAreThere, RoomIsThere, Conten
 use Rattle.sg_ground.proofs.Lawful.{mapped, ground_is_lawful}
 use Rattle.sg_ground.proofs.Done.{left_does, left_undone}
 use Rattle.sg_ground.proofs.Notes.{note_back}
+use Rattle.sg_ground.proofs.Freed.{no_empty, not_both, forgot_freed}
+use Rattle.sg_ground.proofs.Stocked.{looked_stock, verb_stock}
+use Rattle.sg_room.specs.Marks.{kind_of, marks_of}
+use Rattle.sg_room.specs.Most.{Accepts}
+use Rattle.sg_room.proofs.Lefts.{undone_marks}
 use Rattle.sg_ground.proofs.Fields.{noted_fields}
 use Rattle.sg_ground.proofs.Buried.{tomb_there, none_buried, tomb_dropped}
 use Rattle.sg_ground.proofs.Graves.{after_verb, after_undo, after_free, none_of}
@@ -266,22 +271,6 @@ one_less n m false e f h = absurd (cc)
 some_is : {A : Type 0} (o : Option A) (x : A) → o ≡ Some x → is_some o ≡ true
 some_is o x e = ap is_some e
 
--- no tombstone of contents stands under nothing
-add_tomb : (body : ℕ → Body) (row : Row) (d : Option TxnId) (es : List (List ℕ × Tomb)) → get (from_entries {R = slice_cmp nat_cmp} es) [] ≡ None → get (from_entries {R = slice_cmp nat_cmp} (if_tomb (λ (by : TxnId). (row.root.0 ∷ row.name, tomb_at body by row)) d es)) [] ≡ None
-add_tomb body row None es h = h
-add_tomb body row (Some by) es h = get_put (from_entries {R = slice_cmp nat_cmp} es) (row.root.0 ∷ row.name) (tomb_at body by row) [] ∙ h
-
-none_among : (body : ℕ → Body) (xs : List Row) → get (from_entries {R = slice_cmp nat_cmp} (tombs_of body xs)) [] ≡ None
-none_among body [] = get-empty (slice_cmp nat_cmp) []
-none_among body (row ∷ xs) = add_tomb body row row.dropper (tombs_of body xs) (none_among body xs)
-
-no_empty : (s : Contents) → get (reading s).tombs [] ≡ None
-unfolding reading
-no_empty s = none_among s.body (rows s.catalog)
-
-not_both : (b : Bool) → b ≡ true → b ≡ false → ⊥
-not_both b e f = cc
-
 -- A TOMBSTONE that is forgotten leaves one less
 forgets_one : (name : List ℕ) (root : ℕ) (s s' : Contents) (tomb : Tomb) → Forgets name root (reading s) (reading s') → get (reading s).tombs (root ∷ name) ≡ Some tomb → len (reading s).tombs ≡ len (reading s').tombs + 1
 forgets_one name root s s' tomb f there =
@@ -355,11 +344,13 @@ module _ (b : Basis) where
       let g = ground_is_lawful b.pages b.bands b.reader b.recovers t in
       let after = leaves_after t (pages_ground b.pages b.bands b.reader t) by name verb (reading s) (reading s') l (slot_formed old s h name).0 in
       let objects_are : objects (reading s') ≡ (step t (objects (reading s)) (On name verb)).1 = g.laws.after_objects (done_by (reading s) by name verb l.root l.bands) (reading s) (reading s') after in
+      let nothing_else : (step t (objects (reading s)) (On name verb)).1 ≡ objects (reading s) = sym objects_are ∙ ap (λ (x : Contents). objects (reading x)) same.1 in
       let none : c.made ≡ [] = nothing_made b t v.first a c.made v.log c.are (subst (λ (l : List (Numbered Change (List ℕ))). (tally l).opened ≡ []) changed.log idle) in
       record {
         log = changed.log ∙ ap (λ (rs : List (Numbered Change (List ℕ))). rs ++ v.log) none;
         pages = shows'.free_pages ∙ (ap (λ (x : Space). x.pages.free) same.0 ∙ sym shows.free_pages);
-        same = sym objects_are ∙ ap (λ (x : Contents). objects (reading x)) same.1;
+        same = nothing_else;
+        stock = looked_stock t (reading s) name verb (sym d.note_is) (ap is_ok d.outcome_is) nothing_else;
       }
 
   pub refused_so : IsRefusedSo b
@@ -390,6 +381,9 @@ module _ (b : Basis) where
         now = reading s';
         reads = contents_read t w new s' shows' d.contents counted';
         does = λ lsn undo_next. left_does b.pages b.bands b.reader b.recovers t lawful old s h by name verb (reading s') reply bytes l d.outcome_is nothing (tally w.log).opened (puts l) (pages_of t (ground_of b) w) reads note back lsn undo_next;
+        stock = λ at steps. subst (λ (k : UndoNote). Accepts t (objects (reading s)) (record { marks = marks_of (reading s); steps = steps }) by name verb
+            (record { marks = marks_of (reading s'); steps = record { transaction = by; at = at; name = k.name; kind = kind_of k.undoes } ∷ steps })) (sym back)
+            (verb_stock t old new s s' by name verb (no_empty s) (no_empty s') h d.contents l d.peak (ap is_ok d.outcome_is) (noted verb th) refl at steps);
         took = (let z : (b.pages - (reading s).pages) + (needed verb th).reserve ≤ (b.pages - (reading s').pages) + (needed verb th).pages = omega (arith, sum, sum', took) in z);
         buried = after_verb t by name verb (reading s) (reading s') l;
         reserves = wanted_one b t (record { lsn = 0; transaction = 0; undo_next = 0; note = (ground_of b).note note; changes = [] }) ∙ (ap (λ (n : UndoNote). one_if (wants_page n.undoes)) back ∙ wants_so verb th);
@@ -447,6 +441,8 @@ module _ (b : Basis) where
         undone = left_undone b.pages b.bands b.reader b.recovers t n (pages_of t (ground_of b) w) (reading s) (reading s') th reads possible d.leaves;
         now = reading s';
         reads = contents_read t w new s' shows' d.contents counted';
+        stock = undone_marks t (found_by (map_bands_of b.pages b.bands) n.changes) (note_said n.note).name (note_said n.note).undoes th (reading s) (reading s')
+            possible d.leaves (no_empty s) (no_empty s') d.peak;
         took = (let z : (b.pages - (reading s).pages) ≤ (b.pages - (reading s').pages) + wants_one (setting t (ground_of b)) n = omega (arith, sum, sum', took, wants) in z);
         buried = after_undo (note_said n.note).undoes (note_said n.note).name th (reading s) (reading s') d.leaves;
       }
@@ -462,6 +458,7 @@ module _ (b : Basis) where
         was = record { root = row.root.0; name = row.name; tomb = dropped.0; there = dropped.1; dropper = refl; cell = refl };
         of = dropped.2;
         freed = read_frees (setting_of (model_cells t (pages_ground b.pages b.bands b.reader t))) (List ℕ) note_said (tomb_cell row.name row.root.0) x (reading s) (forgot_frees t (pages_ground b.pages b.bands b.reader t) row.name row.root.0 x (reading s) (reading s') reads f);
+        stock = forgot_freed row.name row.root.0 (reading s) (reading s') dropped.0 (no_empty s) (no_empty s') dropped.1 f;
         fewer = forgets_one row.name row.root.0 s s' there.0 f there.1;
         left = after_free row.name row.root.0 (reading s) (reading s') f;
       }

@@ -24,6 +24,8 @@ use Rattle.sg_reading.proofs.Laws.{model_laws}
 use Rattle.sg_reading.proofs.Looks.{looks_on, looks_list}
 use Rattle.sg_reading.specs.Noted.{IsFormed}
 use Rattle.sg_ground.proofs.Graves.{none_there}
+use Rattle.sg_ground.proofs.Freed.{no_empty, unfreed}
+use Rattle.sg_room.specs.Marks.{NamesRoots}
 use Rattle.sg_reading.proofs.Slotted.{get_objects}
 use Rattle.sg_contents.specs.Standing.{Contents}
 use Rattle.sg_contents.specs.Meaning.{reading}
@@ -95,7 +97,7 @@ mapped f None b e = absurd (cc)
 mapped f (Some a) b e = (a, refl, (let k : f a ≡ b = cc in k))
 
 -- a step that changes nothing leaves what stands under its name
-unchanged : (t : Operations) (o : Reading) (name : List ℕ) (verb : Verb) → (step t (objects o) (On name verb)).1 ≡ objects o → (on t verb (plain (slot o name).thing)).1 ≡ plain (slot o name).thing
+pub unchanged : (t : Operations) (o : Reading) (name : List ℕ) (verb : Verb) → (step t (objects o) (On name verb)).1 ≡ objects o → (on t verb (plain (slot o name).thing)).1 ≡ plain (slot o name).thing
 unfolding step
 unchanged t o name verb e =
     let new : Option Object = (on t verb (get (objects o) name)).1 in
@@ -135,6 +137,7 @@ module _ (pages bands : ℕ) (reader : Reader pages bands) (recovers : Recoverin
     reserves_one = λ o op. (op_small o op).one;
     reserves_needed = λ o op. (op_small o op).needed;
     none_buried = λ o e u f h. none_there o e u f h;
+    none_freed = λ x o e u none. (let m = mapped reading (reader.contents x) o e in unfreed o (subst NamesRoots m.2 (no_empty m.0)) u none);
     reads_alike = reads_alike;
     alike_same = λ x s e. record {
       pages = record { seen_same = λ p o. refl; slots = λ p o few. few };

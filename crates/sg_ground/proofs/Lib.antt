@@ -5,4 +5,6 @@ pub mod Notes
 pub mod Fields
 pub mod Buried
 pub mod Graves
+pub mod Freed
+pub mod Stocked
 pub mod Clauses

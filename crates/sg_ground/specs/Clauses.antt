@@ -21,6 +21,7 @@ use Rattle.sg_reading.specs.Noted.{BringsBytes, PutsBackOf}
 use Rattle.sg_reading.specs.Left.{tomb_cell}
 use Rattle.sg_space.specs.View.{Space}
 use Rattle.sg_before.specs.Forgot.{Forgets}
+use Rattle.sg_room.specs.Marks.{marks_of, freed as freed_in}
 use Rattle.sg_before.specs.Laying.{put_on}
 use Rattle.sg_contents.specs.Standing.{Contents, IsContents}
 use Rattle.sg_contents.specs.Meaning.{reading, IsCounted}
@@ -126,6 +127,7 @@ pub record IsTombFreed (b : Basis) (t : Operations) (w : View (ground_of b)) (by
   pub was : (ground_of b).Buried (reading s) dropper (tomb_cell row.name row.root.0)
   pub of : IsBy by dropper
   pub freed : DoesFree (setting t (ground_of b)) (tomb_cell row.name row.root.0) (pages_of t (ground_of b) w) (reading s)
+  pub stock : freed_in dropper (marks_of (reading s')) ≡ freed_in dropper (marks_of (reading s))
   pub fewer : (ground_of b).buried (reading s) ≡ (ground_of b).buried (reading s') + 1
   pub left : (d : ℕ) (f : List (Touch Resource)) → (ground_of b).Buried (reading s') d f → (ground_of b).Buried (reading s) d f
 

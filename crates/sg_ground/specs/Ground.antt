@@ -28,6 +28,7 @@ use Rattle.sg_contents.specs.Meaning.{reading}
 use Rattle.sg_objects.specs.Needs.{Needed, needed}
 use Rattle.sg_objects.specs.Notes.{note_said}
 use Rattle.sg_store.specs.Ground.{Ground, Needs}
+use Rattle.sg_room.specs.Marks.{marks_of, kind_of}
 use Rattle.sg_reader.specs.Alike.{IsAlike}
 use Rattle.sg_reader.specs.Reader.{Reader}
 use Rattle.sg_actions.specs.Changes.{meaning, comp_of}
@@ -107,6 +108,10 @@ ground pages bands reader recovers = record {
   Buried = IsBuried;
   wants = λ n. wants_page (note_said n).undoes;
   objects = objects;
+  sizes = record { pages = pages; bands = bands; map = map_bands_of pages bands };
+  marks = marks_of;
+  named = λ n. (note_said n).name;
+  kind = λ n. kind_of (note_said n).undoes;
   op = λ v. v.op;
   touched = λ v. v.touches;
   Below = λ o p. (c : Cell) → Le c.part (at o c) (at p c);

@@ -4,7 +4,7 @@ use Rattle.std.specs.List.{flat_map}
 use Rattle.sg_gate.specs.declared.superblock.Super.{Super}
 use Rattle.sg_record.specs.Changes.Change.{Page, SegWrite, SegOp}
 use Rattle.sg_record.specs.Records.{Says, spelled}
-use Rattle.sg_record.specs.Records.Says.{Begin, Changed, TopEnd, PhysComp, TopVoid, CompEnd, Save, Commit, End, Checkpoint, Line}
+use Rattle.sg_record.specs.Records.Says.{Begin, Changed, TopEnd, PhysComp, TopVoid, CompEnd, Save, Commit, End, Checkpoint}
 use Rattle.sg_log.specs.Frames.{Numbered}
 
 -- the name of a record's kind
@@ -21,7 +21,6 @@ name_of (Save mark) = codes "save"
 name_of Commit = codes "commit"
 name_of End = codes "end"
 name_of (Checkpoint estimate live) = codes "checkpoint"
-name_of (Line words) = codes "line"
 
 -- a number behind a space
 abbrev pub behind_space : ℕ → List ℕ

@@ -29,7 +29,6 @@ fn name_of(rec: &Rec<'_>) -> &'static [u8]
         Rec::Commit { .. } => b"commit",
         Rec::End { .. } => b"end",
         Rec::Checkpoint { .. } => b"checkpoint",
-        Rec::Line { .. } => b"line",
     }
 }
 

@@ -8,8 +8,8 @@ use Rattle.sg_disk.specs.Disk.{Bytes, Image, State, Leaves, View, LeavesOnly, Re
 use Rattle.sg_disk.proofs.Moments.{started, goes_on}
 use Rattle.sg_record.specs.Records.{header}
 use Rattle.sg_record.specs.Records.{Record, spelled, HEADER, kind_of, body_of, code_of}
-use Rattle.sg_log.specs.Texts.{spelled_all, GREATEST, AreRecords}
-use Rattle.sg_record.specs.Ranges.{IsRecord}
+use Rattle.sg_log.specs.Texts.{spelled_all, AreRecords}
+use Rattle.sg_record.specs.Ranges.{GREATEST, IsRecord}
 use borrow.Rule.Slice.PartMut.{put_mid}
 use Rattle.sg_log.proofs.Laid.{placed}
 use Rattle.sg_record.proofs.Parsing.{body_most}

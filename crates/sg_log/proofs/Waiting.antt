@@ -2,7 +2,7 @@
 use Rattle.std.proofs.Common.{◌≡◌, ℕ, ◌+◌, ◌-◌, ◌<◌, ◌≤◌, List, ◌++◌, Result, IsOk, OnErr, Ok, Err, length, take, drop, ◌∙◌, ap, arith, length-append, length-take, length-drop}
 use Rattle.std.proofs.Math.Seq.{drop-append_seam, take-append_seam}
 use Rattle.sg_record.specs.Records.{Record, spelled}
-use Rattle.sg_log.specs.Texts.{GREATEST}
+use Rattle.sg_record.specs.Ranges.{GREATEST}
 use Rattle.sg_log.proofs.Texts.{spelled-long}
 use Rattle.sg_log.specs.Held.{Tail, tail_of}
 use Rattle.sg_log.specs.Places.{IsRecordText, IsWaiting}

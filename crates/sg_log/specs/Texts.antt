@@ -4,10 +4,6 @@ use Rattle.std.specs.List.{flat_map}
 use Rattle.sg_record.specs.Records.{Record, spelled}
 use Rattle.sg_record.specs.Ranges.{IsRecord}
 
--- the bytes of the greatest record
-abbrev pub GREATEST : ℕ
-GREATEST = 32789
-
 -- the bytes of records, one after another
 abbrev pub spelled_all : List Record → List ℕ
 spelled_all rs = flat_map spelled rs

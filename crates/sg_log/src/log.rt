@@ -3,8 +3,8 @@ ghost use Rattle.sg_base.specs.declared.area.Area.TheVariants.{Home, Log0, Log1}
 ghost use Rattle.sg_base.specs.Ends.{HasRisen};
 ghost use Rattle.sg_disk.specs.Disk.{FULL, Image, Leaves, LeavesOnly, window};
 ghost use Rattle.sg_record.specs.Records.{Record, spelled};
-ghost use Rattle.sg_log.specs.Texts.{GREATEST, spelled_all};
-ghost use Rattle.sg_record.specs.Ranges.{IsRecord};
+ghost use Rattle.sg_log.specs.Texts.{spelled_all};
+ghost use Rattle.sg_record.specs.Ranges.{GREATEST, IsRecord};
 ghost use Rattle.sg_record.specs.Shown.{shown};
 ghost use Rattle.sg_log.specs.Faults.{ForceFails, AppendFails, AttachFails, FrameFails, HeedsFaults};
 ghost use Rattle.sg_log.specs.Formed.{IsFormed, IsDamagedAt};
@@ -139,7 +139,7 @@ impl Log {
     }
 
     /// Reads the record whose first byte has the number `at` into the front of `into`, and answers how
-    /// many bytes it has: at most 32,789. It reads buffered records too.
+    /// many bytes it has: at most 16,417. It reads buffered records too.
     ///
     /// It answers `Disk` only where the disk fails, or where no record stands there: that is so where
     /// `at` isn't the number of a record of this log, or the disk isn't the log's.
@@ -303,7 +303,7 @@ impl Log {
         ensures calls { (D.view disk.new).calls ≤ (D.view disk.old).calls + 1 }
     {
         let left = self.gate - at;
-        let most = if left < 32_789 { left as usize } else { 32_789 };
+        let most = if left < 16_417 { left as usize } else { 16_417 };
         let size = read_record(disk, self.area, at - self.base, most, into)?;
         size.ok_or(LogFault::Disk)
     }

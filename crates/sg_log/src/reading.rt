@@ -8,8 +8,8 @@ ghost use Rattle.sg_log.specs.Frames.{Frames, LOG_END, GREATEST_BODY, gate_after
 ghost use Rattle.sg_log.specs.Places.{IsRecordText};
 ghost use Rattle.sg_log.specs.Reads.{OnlyReads};
 ghost use Rattle.sg_record.specs.Records.{Record, HEADER, spelled};
-ghost use Rattle.sg_log.specs.Texts.{GREATEST, spelled_all};
-ghost use Rattle.sg_record.specs.Ranges.{IsRecord};
+ghost use Rattle.sg_log.specs.Texts.{spelled_all};
+ghost use Rattle.sg_record.specs.Ranges.{GREATEST, IsRecord};
 
 use crate::LogFault;
 use sg_base::{Lsn, read_u32};

@@ -2,7 +2,7 @@
 use Rattle.std.specs.Prelude.{ℕ, List, [], ◌++◌, codes, decimal}
 use Rattle.sg_folder.specs.Names.{name_of}
 use Rattle.sg_commands.specs.declared.status.Status.{Status}
-use Rattle.sg_commands.specs.declared.status.Status.TheVariants.{Done, NotAStore, Usage, Memory, Disk, Read, Write, TooLong, UnknownOperation, Damaged, Exists, LogEnd}
+use Rattle.sg_commands.specs.declared.status.Status.TheVariants.{Done, NotAStore, Usage, Memory, Disk, Read, Write, TooLong, UnknownOperation, Damaged, Exists, BadGeometry, LogEnd}
 
 -- the exit status of the process
 abbrev pub number_of_status : Status → ℕ
@@ -17,6 +17,7 @@ number_of_status TooLong = 7
 number_of_status (UnknownOperation code) = 8
 number_of_status (Damaged area at) = 9
 number_of_status Exists = 10
+number_of_status BadGeometry = 11
 number_of_status LogEnd = 12
 
 -- what is printed behind the program's name, and nothing where all was done
@@ -32,4 +33,5 @@ text_of_status TooLong = codes "script too long"
 text_of_status (UnknownOperation code) = codes "unknown operation " ++ decimal code
 text_of_status (Damaged area at) = codes "damaged " ++ name_of area ++ codes " " ++ decimal at
 text_of_status Exists = codes "store exists"
+text_of_status BadGeometry = codes "bad geometry"
 text_of_status LogEnd = codes "log end"

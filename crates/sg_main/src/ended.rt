@@ -3,10 +3,12 @@ ghost use Rattle.std.specs.IoError.{error_kind};
 ghost use Rattle.std.specs.Process.{exit_status};
 ghost use Rattle.sg_disk.specs.Disk.{Spent};
 ghost use Rattle.sg_ops.specs.Table.{shipped_table, table_of};
-ghost use Rattle.sg_commands.specs.Words.{are_run, are_init, are_served, drawn, stop_after};
+ghost use Rattle.sg_commands.specs.Words.{are_run, are_init, are_log, are_served, call_disk, with_file, drawn, stop_after};
 ghost use Rattle.sg_commands.specs.Drawing.{Draws, sunk};
 ghost use Rattle.sg_commands.specs.Images.{IsOfStore};
-ghost use Rattle.sg_commands.specs.Making.{Makes, SaysMade};
+ghost use Rattle.sg_commands.specs.Logged.{ListsLog};
+ghost use Rattle.sg_commands.specs.Making.{SaysMade};
+ghost use Rattle.sg_commands.specs.Sized.{Makes};
 ghost use Rattle.sg_commands.specs.Stores.{grounds, says};
 ghost use Rattle.sg_commands.specs.Top.{outside, Account};
 ghost use Rattle.sg_main.specs.Texts.{number_of_status};
@@ -50,10 +52,12 @@ impl Ended {
         ensures ended { result.0 ≡ result.1.status }
         ensures usage { result.1.status ≡ Status.Usage → are_served words.now ≡ false }
         ensures unused { are_served words.now ≡ false → ((result.1.status ≡ Status.Usage) ⊎ (result.1.status ≡ Status.Memory)) × (out.new ≡ out.old) }
-        ensures apart { are_run words.now ≡ false → script.new ≡ script.old }
-        ensures beside { are_run words.now ≡ false → are_init words.now ≡ false → (result.1.disk ≡ disk) × (result.1.refused ≡ 0) }
-        ensures made { are_init words.now ≡ true → Makes grounds says result.1.status D.told (D.view disk) (D.view result.1.disk) result.1.refused }
+        ensures apart { are_run words.now ≡ false → with_file words.now ≡ false → script.new ≡ script.old }
+        ensures beside { call_disk words.now ≡ false → (result.1.disk ≡ disk) × (result.1.refused ≡ 0) }
+        ensures made { are_init words.now ≡ true → Makes grounds says result.1.status (with_file words.now) D.told (outside (D.view disk) (S.left script.old) (S.faults script.old) (K.taken out.old) (K.faults out.old))
+            (outside (D.view result.1.disk) (S.left script.new) (S.faults script.new) (K.taken out.new) (K.faults out.new)) result.1.refused }
         ensures said { are_init words.now ≡ true → SaysMade result.1.status (sunk (K.taken out.old) (K.faults out.old)) (sunk (K.taken out.new) (K.faults out.new)) }
+        ensures listed { are_log words.now ≡ true → ListsLog result.1.status D.told (D.view disk) (D.view result.1.disk) (sunk (K.taken out.old) (K.faults out.old)) (sunk (K.taken out.new) (K.faults out.new)) }
         ensures drawn { IfSome (drawn words.now) (λ d. Draws result.1.status d (sunk (K.taken out.old) (K.faults out.old)) (sunk (K.taken out.new) (K.faults out.new))) }
         // All that `stasis` says, of the very disk that it left.
         ensures run { are_run words.now ≡ true → Account grounds says shipped_table D.told (IsOfStore grounds says shipped_table (D.view disk)) (outside (D.view disk) (S.left script.old) (S.faults script.old) (K.taken out.old) (K.faults out.old))
@@ -84,10 +88,12 @@ impl Ended {
         ensures ended { result.0 ≡ result.1.status }
         ensures usage { result.1.status ≡ Status.Usage → are_served words.now ≡ false }
         ensures unused { are_served words.now ≡ false → ((result.1.status ≡ Status.Usage) ⊎ (result.1.status ≡ Status.Memory)) × (out.new ≡ out.old) }
-        ensures apart { are_run words.now ≡ false → script.new ≡ script.old }
-        ensures beside { are_run words.now ≡ false → are_init words.now ≡ false → (result.1.disk ≡ disk) × (result.1.refused ≡ 0) }
-        ensures made { are_init words.now ≡ true → Makes grounds says result.1.status D.told (D.view disk) (D.view result.1.disk) result.1.refused }
+        ensures apart { are_run words.now ≡ false → with_file words.now ≡ false → script.new ≡ script.old }
+        ensures beside { call_disk words.now ≡ false → (result.1.disk ≡ disk) × (result.1.refused ≡ 0) }
+        ensures made { are_init words.now ≡ true → Makes grounds says result.1.status (with_file words.now) D.told (outside (D.view disk) (S.left script.old) (S.faults script.old) (K.taken out.old) (K.faults out.old))
+            (outside (D.view result.1.disk) (S.left script.new) (S.faults script.new) (K.taken out.new) (K.faults out.new)) result.1.refused }
         ensures said { are_init words.now ≡ true → SaysMade result.1.status (sunk (K.taken out.old) (K.faults out.old)) (sunk (K.taken out.new) (K.faults out.new)) }
+        ensures listed { are_log words.now ≡ true → ListsLog result.1.status D.told (D.view disk) (D.view result.1.disk) (sunk (K.taken out.old) (K.faults out.old)) (sunk (K.taken out.new) (K.faults out.new)) }
         ensures drawn { IfSome (drawn words.now) (λ d. Draws result.1.status d (sunk (K.taken out.old) (K.faults out.old)) (sunk (K.taken out.new) (K.faults out.new))) }
         ensures run { are_run words.now ≡ true → Account grounds says shipped_table D.told (IsOfStore grounds says shipped_table (D.view disk)) (outside (D.view disk) (S.left script.old) (S.faults script.old) (K.taken out.old) (K.faults out.old))
             (outside (D.view result.1.disk) (S.left script.new) (S.faults script.new) (K.taken out.new) (K.faults out.new)) result.1.refused result.1.status }

@@ -25,6 +25,7 @@ pub fn exit_number(status: Status) -> u8
         Status::UnknownOperation(_) => 8,
         Status::Damaged(_, _) => 9,
         Status::Exists => 10,
+        Status::BadGeometry => 11,
         Status::LogEnd => 12,
     }
 }
@@ -48,6 +49,7 @@ impl fmt::Display for Shown {
                 write!(f, "damaged {name} {at}")
             }
             Status::Exists => f.write_str("store exists"),
+            Status::BadGeometry => f.write_str("bad geometry"),
             Status::LogEnd => f.write_str("log end"),
         }
     }

@@ -1,18 +1,14 @@
 -- What a store that was found shows, and why one is refused.
-use Rattle.std.proofs.Common.{◌≡◌, ◌⊎◌, ⊎_elim, ◌≤◌, ◌==◌, ℕ, Bool, true, false, IsTrue, List, [], ◌∷◌, ◌++◌, map, inl, inr, refl, sym, ap, ◌∙◌, subst}
+use Rattle.std.proofs.Common.{◌≡◌, ◌⊎◌, ⊎_elim, ◌≤◌, ℕ, Bool, IsTrue, List, [], ◌∷◌, ◌++◌, map, inl, inr, refl, sym, ap, ◌∙◌, subst}
 use Rattle.std.specs.Bool.{OnFalse}
-use Rattle.std.specs.Prelude.{if◌then◌else◌}
 use Rattle.std.proofs.Props.{props}
 use mathlib.Core.Logic.{∥∥₁_elim}
 use Rattle.sg_base.specs.declared.area.Area.{Area}
-use Rattle.sg_base.specs.declared.area.Area.TheVariants.{Home, Log0, Log1}
 use Rattle.sg_base.specs.declared.numbers.TxnId.{TxnId}
 use Rattle.sg_disk.specs.Accounts.{IsShownEnd}
 use Rattle.sg_disk.specs.Disk.{Image, View as DiskView}
 use Rattle.sg_disk.proofs.Moments.{weaker}
-use Rattle.sg_gate.specs.declared.superblock.Super.{Super}
 use Rattle.sg_analysis.specs.Analysis as analysis
-use Rattle.sg_engine.specs.Engine.{log_area}
 use Rattle.sg_base.specs.Ends.{HasRisen}
 use Rattle.sg_find.specs.Faults.{is_disk}
 use Rattle.sg_find.specs.Synced.{IsUnsynced, SplitsAtSync, reads}
@@ -24,6 +20,7 @@ use Rattle.sg_action.specs.States.{State}
 use Rattle.sg_actions.specs.Engine.{StandsNow, led as led_engine}
 use Rattle.sg_actions.specs.Steps.{Steps}
 use Rattle.sg_attach.specs.Attached.{IsAttaching, IsStoreImage}
+use Rattle.sg_attach.proofs.Known.{none_unknown}
 use Rattle.sg_ground.proofs.Lawful.{ground_is_lawful}
 use Rattle.sg_model.specs.Objects.{Objects}
 use Rattle.sg_phys_laws.specs.Recovers.{RecoversBy, origin_of, records_in}
@@ -156,41 +153,30 @@ found_on t told presumed v losers a can tells silent steps durable formed below 
         (now_stands t (reads v) m h v refl a (attached is).mid (steps is p) (durable is p) (attached is).behind) (are is p) (finds is p m h)
 
 -- WHY A DISK IS REFUSED
-home_no_log : (s : Super) → Home ≡ log_area s → ⊥
-home_no_log s = by (s.log == 0)
-  where
-    by : (b : Bool) → Home ≡ (if b then Log0 else Log1) → ⊥
-    by true e = cc
-    by false e = cc
-
 risen_prop : (a b : ℕ) → IsProp (HasRisen a b)
 risen_prop a b = hlevel props
 
--- an image that stands for objects isn't damaged in the home area
-stands_undamaged : (told : Bool) (t : Table) (v w : DiskView) (at : ℕ) (m : Objects) → ImageStandsFor t (reads v) m
-    → ((from : State) (durable log : Steps) → IsStoreImage t from durable log (reads v) → ∥ StoreRefused told t (origin_of t (reads v)) (records_in (origin_of t (reads v)) (reads v)) v w (opens.Damaged Home at) ∥₁) → ⊥
-stands_undamaged told t v w at m h refused =
-    ∥∥₁_elim (refused (first t (reads v) m h) (q t (reads v) m h).log (q t (reads v) m h).log (is_of t (reads v) m h)) (λ x y. absurd x) (λ r. home_no_log (origin_of t (reads v)).super r.0)
+-- an image that comes to anything isn't refused so
+abbrev pub IsNeverDamaged : Table → Image → OpenFault → Type 0
+IsNeverDamaged t c fault = (log : Steps) (x : State) → RecoversBy t c log x → (area : Area) (at : ℕ) → fault ≡ opens.Damaged area at → ⊥
 
 pub mount_cause : (told : Bool) (t : Table) (presumed : Type 0) (v w : DiskView) (fault : OpenFault) → StandsAsPresumed t told presumed (reads v) → IsTrue told → IsCause t (reads v) fault ⊎ IsLateCause (reads v) fault
-    → ((from : State) (durable log : Steps) → IsStoreImage t from durable log (reads v) → ∥ StoreRefused told t (origin_of t (reads v)) (records_in (origin_of t (reads v)) (reads v)) v w fault ∥₁)
+    → IsNeverDamaged t (reads v) fault → ((from : State) (durable log : Steps) → IsStoreImage t from durable log (reads v) → ∥ StoreRefused told t (origin_of t (reads v)) (records_in (origin_of t (reads v)) (reads v)) v w fault ∥₁)
     → IsMountCause t presumed (reads v) (of_opening fault)
-mount_cause told t presumed v w opens.Disk can is cause refused = tt
-mount_cause told t presumed v w opens.Memory can is cause refused = tt
-mount_cause told t presumed v w opens.NotAStore can is cause refused = (
+mount_cause told t presumed v w opens.Disk can is cause whole refused = tt
+mount_cause told t presumed v w opens.Memory can is cause whole refused = tt
+mount_cause told t presumed v w opens.NotAStore can is cause whole refused = (
   ⊎_elim (λ h. h) (λ late. absurd late) cause,
   λ p. (let some = can is p in
       ∥∥₁_elim (refused (first t (reads v) some.objects some.stands) (q t (reads v) some.objects some.stands).log (q t (reads v) some.objects some.stands).log (is_of t (reads v) some.objects some.stands)) (λ x y. absurd x) (λ r. r)),
 )
-mount_cause told t presumed v w (opens.Damaged area at) can is cause refused = ⊎_elim
-    (λ h. inl h)
-    (λ late. inr (
-      (late.0, ⊎_elim (λ header. inl (late.1.0, late.1.1, header)) (λ page. inr (page.0, page.2)) late.1.2),
-      λ p. stands_undamaged told t v w at (can is p).objects (can is p).stands (subst (λ (a : Area). (from : State) (durable log : Steps) → IsStoreImage t from durable log (reads v)
-          → ∥ StoreRefused told t (origin_of t (reads v)) (records_in (origin_of t (reads v)) (reads v)) v w (opens.Damaged a at) ∥₁) late.0 refused),
-    ))
-    cause
-mount_cause told t presumed v w (opens.UnknownOperation code) can is cause refused = ⊎_elim (λ h. h) (λ late. absurd late) cause
+mount_cause told t presumed v w (opens.Damaged area at) can is cause whole refused = (
+  ⊎_elim (λ h. inl h) (λ late. inr (late.0, ⊎_elim (λ header. inl (late.1.0, late.1.1, header)) (λ page. inr (page.0, page.2)) late.1.2)) cause,
+  λ p. (let h = (can is p).stands in whole h.log h.pages h.recovers.image area at refl),
+)
+mount_cause told t presumed v w (opens.UnknownOperation code) can is cause whole refused =
+    let here : IsCause t (reads v) (opens.UnknownOperation code) = ⊎_elim (λ h. h) (λ late. absurd late) cause in
+    (here, λ p. (let h = (can is p).stands in none_unknown t (reads v) h.log h.pages code h.recovers.image here))
 
 -- the disk's own count rose, where what is presumed holds
 pub opening_failed : (told : Bool) (t : Table) (presumed : Type 0) (v w : DiskView) (fault : OpenFault) → StandsAsPresumed t told presumed (reads v)
@@ -240,7 +226,7 @@ opening_no_store (opens.UnknownOperation code) e = absurd cc
 pub start_cause : (t : Table) (presumed : Type 0) (c : Image) (why : StartFault) → IfBroken why (presumed → ⊥) → IsMountCause t presumed c (of_start why)
 start_cause t presumed c (starts.Space spaces.Disk) none = tt
 start_cause t presumed c (starts.Space spaces.LogEnd) none = tt
-start_cause t presumed c (starts.Broken page) none = inr ((refl, inr (page.0, refl)), none)
+start_cause t presumed c (starts.Broken page) none = (inr (refl, inr (page.0, refl)), none)
 start_cause t presumed c starts.Memory none = tt
 
 pub start_disk : (why : StartFault) → of_start why ≡ mounts.Disk → IsStartDisk why
@@ -275,11 +261,12 @@ if_broken starts.Memory f h = tt
 -- A DISK IS HANDED BACK whose pages weren't opened
 pub opening_back : (told : Bool) (t : Table) (presumed : Type 0) (v w : DiskView) (fault : OpenFault) → StandsAsPresumed t told presumed (reads v)
     → (IsTrue told → IsCause t (reads v) fault ⊎ IsLateCause (reads v) fault)
+    → (IsTrue told → IsNeverDamaged t (reads v) fault)
     → ((from : State) (durable log : Steps) → IsTrue told → IsStoreImage t from durable log (reads v) → ∥ StoreRefused told t (origin_of t (reads v)) (records_in (origin_of t (reads v)) (reads v)) v w fault ∥₁)
     → (IsTrue told → fault ≡ opens.NotAStore → AreShut v) → (IsTrue told → IsUnsynced v w ⊎ SplitsAtSync v (IsAttaching t v w)) → IsUnwrittenAt fault v w → OnFalse (is_disk fault) (w.faults ≡ v.faults)
     → IsHandedBack t told presumed v w (of_opening fault)
-opening_back told t presumed v w fault can cause refused shut moments unwritten heeded = record {
-  cause = λ is. mount_cause told t presumed v w fault can is (cause is) (λ from durable log i. refused from durable log is i);
+opening_back told t presumed v w fault can cause whole refused shut moments unwritten heeded = record {
+  cause = λ is. mount_cause told t presumed v w fault can is (cause is) (whole is) (λ from durable log i. refused from durable log is i);
   shut = λ is no. shut is (opening_no_store fault no);
   moments = λ is. ⊎_elim (λ early. inl early) (λ split. inr (split_more v (IsAttaching t v w) (KeepsStanding t presumed v w) (attaching_keeps t presumed v w) split)) (moments is);
   unwritten = opening_unwritten fault v w unwritten;

@@ -126,18 +126,17 @@ opened_by e = opened e.acts e.room
 abbrev pub IsInHome : Image → Area → ℕ → Type 0
 IsInHome c area at = (area ≡ Home) × (((s : Super) × (superblock (c Home) ≡ Ok s) × IsBadHeader s.pages (c Home) at) ⊎ ((page : ℕ) × (at ≡ home_at page)))
 
--- WHY A DISK IS REFUSED, by the image that was read. NotAStore: neither slot of the superblock is open, so that what is presumed of the disk doesn't
--- hold. Damaged: the superblock has a field out of
--- its range, or the log isn't formed, there; or a page, or the header of a batch of pages, is wrong there in the home area, and then what is
--- presumed of the disk doesn't hold. UnknownOperation: the first code that isn't registered, of those that are needed. For other causes
--- nothing is asked of the image
+-- WHY A DISK IS REFUSED, by the image that was read. NotAStore: neither slot of the superblock is open. Damaged: the superblock has a field out of its
+-- range, or the log isn't formed, there; or a page, or the header of a batch of pages, is wrong there in the home area. UnknownOperation: the first code
+-- that isn't registered, of those that are needed. Of each of these, what is presumed of the disk doesn't hold. For other causes nothing is asked of the
+-- image
 abbrev pub IsMountCause : Table → (presumed : Type 0) → Image → MountFault → Type 0
 IsMountCause t presumed c Disk = Unit {0}
 IsMountCause t presumed c Memory = Unit {0}
 IsMountCause t presumed c LogEnd = Unit {0}
 IsMountCause t presumed c NotAStore = IsCause t c opens.NotAStore × (presumed → ⊥)
-IsMountCause t presumed c (Damaged area at) = IsCause t c (opens.Damaged area at) ⊎ (IsInHome c area at × (presumed → ⊥))
-IsMountCause t presumed c (UnknownOperation code) = IsCause t c (opens.UnknownOperation code)
+IsMountCause t presumed c (Damaged area at) = (IsCause t c (opens.Damaged area at) ⊎ IsInHome c area at) × (presumed → ⊥)
+IsMountCause t presumed c (UnknownOperation code) = IsCause t c (opens.UnknownOperation code) × (presumed → ⊥)
 
 -- how a fault of the page engine's opening is answered, and one of the steps behind it
 abbrev pub of_opening : OpenFault → MountFault

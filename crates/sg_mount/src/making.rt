@@ -4,6 +4,7 @@ ghost use Rattle.sg_base.specs.Ends.{HasRisen};
 ghost use Rattle.sg_base.specs.declared.area.Area.TheVariants.{Home};
 ghost use Rattle.sg_disk.specs.Disk.{Image, Leaves, LeavesOnly};
 ghost use Rattle.sg_disk.specs.Heeds.{Heeds};
+ghost use Rattle.sg_gate.specs.Reads.{OnlyReads};
 ghost use Rattle.sg_gate.specs.Superblock.{IsSuper};
 ghost use Rattle.sg_ops.specs.Table.{Table};
 ghost use Rattle.sg_reopen.specs.Making.{IsBlank};
@@ -23,9 +24,11 @@ use sg_reopen::empty_stands;
 /// will be opened with, where at the call neither gate of the superblock was open, and all that isn't written here
 /// was 0. It takes no memory.
 pub fn init_store<D: Disk>(disk: &mut D, g: &Geometry) -> Result<(), InitFault>
-    // A number is out of its range.
+    // A number is out of its range: the disk isn't called.
     ensures bad { (result ≡ Err InitFault.BadGeometry) ↔ (IsSuper (super_of g.now) → ⊥) }
-    // A gate is open.
+    ensures uncalled { result ≡ Err InitFault.BadGeometry → disk.new ≡ disk.old }
+    // A gate is open: nothing is written.
+    ensures unwritten { result ≡ Err InitFault.Exists → OnlyReads D.told (D.view disk.old) (D.view disk.new) }
     ensures exists { IsTrue D.told → result ≡ Err InitFault.Exists → (((D.view disk.old).now Home).seen 0 ≡ 1) ⊎ (((D.view disk.old).now Home).seen 4096 ≡ 1) }
     ensures refused { IsTrue D.told → IsSuper (super_of g.now) → (((D.view disk.old).now Home).seen 0 ≡ 1) ⊎ (((D.view disk.old).now Home).seen 4096 ≡ 1) → (result ≡ Err InitFault.Exists) ⊎ (result ≡ Err InitFault.Disk) }
     ensures failed { result ≡ Err InitFault.Disk → HasRisen (D.view disk.old).faults (D.view disk.new).faults }

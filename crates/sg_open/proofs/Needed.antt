@@ -5,7 +5,7 @@ use Rattle.sg_ops.specs.Table.{Table, record_at, range_at}
 use Rattle.sg_record.specs.Changes.{Change}
 use Rattle.sg_record.specs.Changes.Change.{Page, SegWrite, SegOp}
 use Rattle.sg_record.specs.Records.{Says}
-use Rattle.sg_record.specs.Records.Says.{Begin as SaysBegin, Changed as SaysChanged, TopEnd as SaysTopEnd, PhysComp as SaysPhysComp, TopVoid as SaysTopVoid, CompEnd as SaysCompEnd, Save as SaysSave, Commit as SaysCommit, End as SaysEnd, Checkpoint as SaysCheckpoint, Line as SaysLine}
+use Rattle.sg_record.specs.Records.Says.{Begin as SaysBegin, Changed as SaysChanged, TopEnd as SaysTopEnd, PhysComp as SaysPhysComp, TopVoid as SaysTopVoid, CompEnd as SaysCompEnd, Save as SaysSave, Commit as SaysCommit, End as SaysEnd, Checkpoint as SaysCheckpoint}
 use Rattle.sg_redo.specs.Places.{changed_by}
 use Rattle.sg_recovery.specs.Log.{Open, tally, is_in, open_of}
 use Rattle.sg_recovery.specs.Laws.{Each}
@@ -99,7 +99,6 @@ module _ (t : Table) (ks : List Code) (code : ℕ) where
   says_names SaysCommit e named = absurd (cc)
   says_names SaysEnd e named = absurd (cc)
   says_names (SaysCheckpoint estimate live) e named = absurd (cc)
-  says_names (SaysLine words) e named = absurd (cc)
 
   -- the first one that isn't is among these, where the operations of each record that is asked for are
   first_named : (point : ℕ) (undone : Undone) (ns : List Numbered) → Each (λ n. asked.is_needed point undone n.lsn n.is ≡ true → AreNamed (codes_said n.is.says) ks) ns

@@ -4,7 +4,7 @@ use Rattle.sg_ops.specs.Table.{Table, record_at, range_at}
 use Rattle.sg_record.specs.Changes.{Change as Changing}
 use Rattle.sg_record.specs.Changes.Change.{Page, SegWrite, SegOp}
 use Rattle.sg_record.specs.Records.{Says}
-use Rattle.sg_record.specs.Records.Says.{Begin as SaysBegin, Changed as SaysChanged, TopEnd as SaysTopEnd, PhysComp as SaysPhysComp, TopVoid as SaysTopVoid, CompEnd as SaysCompEnd, Save as SaysSave, Commit as SaysCommit, End as SaysEnd, Checkpoint as SaysCheckpoint, Line as SaysLine}
+use Rattle.sg_record.specs.Records.Says.{Begin as SaysBegin, Changed as SaysChanged, TopEnd as SaysTopEnd, PhysComp as SaysPhysComp, TopVoid as SaysTopVoid, CompEnd as SaysCompEnd, Save as SaysSave, Commit as SaysCommit, End as SaysEnd, Checkpoint as SaysCheckpoint}
 use Rattle.sg_redo.specs.Places.{changed_by}
 use Rattle.sg_recovery.specs.Log as recovery
 use Rattle.sg_recovery.specs.Log.{Open, said, tally, is_in, open_of}
@@ -17,7 +17,7 @@ use Rattle.sg_recovery.proofs.Chaining.{sound}
 use Rattle.sg_recovery.proofs.Unfinished.{all_of_last}
 use Rattle.sg_log.specs.Frames.{Numbered}
 use Rattle.sg_analysis.specs.Sights.{Step, Steps, Sight, sight_by, sight_of, with_step, steps_behind, steps_of}
-use Rattle.sg_analysis.specs.Sights.Sight.{Stepped, Estimated, Foreign}
+use Rattle.sg_analysis.specs.Sights.Sight.{Stepped, Estimated}
 use Rattle.sg_analysis.specs.Analysis.{analysis_of, oldest_first, is_number}
 use Rattle.sg_analysis.specs.Returns.{opens}
 use Rattle.sg_analysis.specs.Standing.{IsPageLog}
@@ -100,10 +100,6 @@ each_record Q rs (n ∷ ns) h = by_sight (sight_of n.is) refl (each_record Q (wi
     by_sight (Estimated estimate) e z = (z.0, ((λ x is. absurd (other x (sym e ∙ is))), z.1))
       where
         other : (a : Step) → ◌≡◌ {A = Sight} (Estimated estimate) (Stepped a) → ⊥
-        other a is = cc
-    by_sight Foreign e z = (z.0, ((λ x is. absurd (other x (sym e ∙ is))), z.1))
-      where
-        other : (a : Step) → ◌≡◌ {A = Sight} Foreign (Stepped a) → ⊥
         other a is = cc
 
 -- an open change with this number is among its transaction's, and what holds of all owners holds of this one
@@ -227,7 +223,6 @@ module _ (t : Table) where
         by_says SaysCommit is = tt
         by_says SaysEnd is = tt
         by_says (SaysCheckpoint estimate others) is = tt
-        by_says (SaysLine words) is = tt
 
     all_known : (ns : List Numbered) → Each Follows ns → first_unknown t point undone ns ≡ None → Each (IsRegistered t) (codes_needed point live opened ns)
     all_known [] follows e = tt

@@ -41,6 +41,7 @@ impl<E: Engine> Paged<E> {
 
 impl<E: Engine> sg_store::Engine for Paged<E> {
     ghost use Rattle.sg_shown.specs.Shown.{basis, shown, opened};
+    ghost use Rattle.sg_shown.proofs.Leaving as leaving;
 
     ghost basis = { basis E.recovers };
 
@@ -51,6 +52,8 @@ impl<E: Engine> sg_store::Engine for Paged<E> {
     ghost opened = { λ s. opened s.acts s.room };
 
     ghost waits = { λ s. s.waits };
+
+    ghost leaves = { λ s. leaving.leaves s.acts };
 
     fn tail(&self) -> Lsn {
         self.acts.tail()

@@ -4,6 +4,7 @@ ghost use Rattle.sg_base.specs.Ends.{HasRisen};
 ghost use Rattle.sg_ops.specs.Table.{Table};
 ghost use Rattle.sg_recovery.specs.Log.{tally};
 ghost use Rattle.sg_action.specs.States.{State};
+ghost use Rattle.sg_actions.specs.Acting.{HasChain};
 ghost use Rattle.sg_actions.specs.Calls.{IsActable};
 ghost use Rattle.sg_actions.specs.Rows.{rows_after};
 ghost use Rattle.sg_store.specs.Engine.{Keeps};
@@ -31,6 +32,7 @@ pub fn quiet<E: Engine>(acts: &mut Acts<E>)
 pub fn again<E: Engine>(acts: &mut Acts<E>, who: Option<TxnId>)
     requires can { (shown acts.old).Told → IfSome who (λ u. IsActable (E.view acts.old.engine).steps acts.old.unfreed acts.old.rows.items acts.old.actor u.0) }
     requires quiet { acts.old.begun ≡ false }
+    requires chain { HasChain (E.view acts.old.engine) acts.old.rows.items acts.old.actor }
     ensures engine { acts.new.engine ≡ acts.old.engine }
     ensures breaks { acts.new.breaks ≡ acts.old.breaks }
     ensures maps { acts.new.maps ≡ acts.old.maps }

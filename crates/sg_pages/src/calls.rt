@@ -3,13 +3,19 @@ ghost use Rattle.std.specs.Prelude.{◌≡◌, ◌≤◌, ◌<◌, ◌*◌, ◌/
 ghost use Rattle.sg_ops.specs.Laws.{IsLawful};
 ghost use Rattle.sg_ops.specs.Table.{Table};
 ghost use Rattle.sg_action.specs.States.{State};
+ghost use Rattle.sg_pool.specs.Pooled.{IsUnwritten};
+ghost use Rattle.sg_record.specs.Records.{spelled};
 ghost use Rattle.sg_record.specs.Records.Says.{Checkpoint};
 ghost use Rattle.sg_record.specs.Shown.{by};
+ghost use Rattle.sg_actions.specs.Checkpoints.{Estimates, Marks};
 ghost use Rattle.sg_actions.specs.Engine.{EngineGrows, EngineLooks, Keeps, led};
+ghost use Rattle.sg_actions.specs.Handing.{HandsOver};
 ghost use Rattle.sg_engine.specs.Calls.{WaitsFrame};
 ghost use Rattle.sg_phys.specs.Phys.{IsGiven, StandsForSome};
+ghost use Rattle.sg_pages.specs.Marks.{LogEnds};
 ghost use Rattle.sg_pages.specs.Parts.{seen, stands};
 ghost use Rattle.sg_phys_laws.specs.Recovers.{RecoversBy};
+ghost use Rattle.sg_phys_laws.specs.Waiting.{waiting_of};
 
 use crate::Phys;
 use sg_base::Lsn;
@@ -67,15 +73,26 @@ impl<D: Presumed> Phys<D> {
         engine.into_disk()
     }
 
-    // Appends a checkpoint, which estimates the least number from which history has to be repeated,
-    // with these live transactions: 16 bytes each, of at most 64. It isn't durable before the next
-    // force.
+    // Where a checkpoint with this number has redo begin: at the oldest change that isn't on the disk, or
+    // at itself where there is none.
+    fn redo_from(&self, lsn: Lsn) -> Lsn
+        ensures { (seen D.told D.presumed D.view self.now).Told → Estimates (IsUnwritten self.now.engine.pool) lsn result }
+    {
+        let point = self.engine.redo_point();
+        let end = self.engine.tail();
+        if point == end { lsn } else { point }
+    }
+
+    // Appends a checkpoint, which says where history has to be repeated from, with these live
+    // transactions: 16 bytes each, of at most 64. It isn't durable before the next force.
     //
     // `Disk` comes where the count of faults rose, and `LogEnd` near the log's end. It has failed then.
     pub(crate) fn log_checkpoint(&mut self, live: &[u8]) -> Result<Lsn, SpaceFault>
         requires most { length live.now ≤ 1024 }
         requires rows { length live.now ≡ 16 * (length live.now / 16) }
         ensures grows { EngineGrows (seen D.told D.presumed D.view self.old) (seen D.told D.presumed D.view self.new) (by 0 0 (Checkpoint 0 live.now)) result }
+        ensures hands { HandsOver (length (spelled (by 0 0 (Checkpoint 0 live.now)))) (D.view self.old.engine.disk).handed (waiting_of self.old.engine.log) (D.view self.new.engine.disk).handed (waiting_of self.new.engine.log) result }
+        ensures marks { IfOk result (λ lsn. (seen D.told D.presumed D.view self.old).Told → Marks (IsUnwritten self.old.engine.pool) (LogEnds (D.view self.new.engine.disk) self.new.engine.log) lsn) }
         ensures means { Keeps (stands D.told D.presumed D.view self.old) (stands D.told D.presumed D.view self.new) }
         ensures looks { (t : Table) (from : State) → stands D.told D.presumed D.view self.old t from → EngineLooks (RecoversBy t) t (led from (seen D.told D.presumed D.view self.old)) (led from (seen D.told D.presumed D.view self.new)) result }
     {
@@ -83,13 +100,14 @@ impl<D: Presumed> Phys<D> {
             self.breaks = self.breaks.saturating_add(1);
             return Err(SpaceFault::Disk);
         }
-        let estimate = self.engine.redo_point();
-        let record = Rec::Checkpoint { estimate, live };
-        if self.engine.place(&record) < estimate {
+        let at = self.engine.place(&Rec::Checkpoint { estimate: 0, live });
+        let estimate = self.redo_from(at);
+        if at < estimate {
             self.failed = true;
             self.breaks = self.breaks.saturating_add(1);
             return Err(SpaceFault::Disk);
         }
+        let record = Rec::Checkpoint { estimate, live };
         match log_plain(&mut self.engine, &record, &mut self.tried) {
             Ok(lsn) => {
                 self.end = self.engine.tail().max(1);

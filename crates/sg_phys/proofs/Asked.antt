@@ -1,23 +1,30 @@
 -- What a told engine is asked, in the words of the bytes.
-use Rattle.std.proofs.Common.{◌≡◌, ℕ, Bool, false, IsTrue, Some, subst}
+use mathlib.Core.Logic.{∥∥₁_elim, ∥∥₁_prop}
+use Rattle.std.proofs.Common.{◌≡◌, ◌≤◌, ℕ, false, Some, None, refl, subst}
 use Rattle.sg_ops.specs.Table.{Table}
 use Rattle.sg_record.specs.Changes.{Change as Changing}
 use Rattle.sg_record.specs.Changes.Change.{Page, SegWrite, SegOp}
 use Rattle.sg_record.specs.Records.{Record, Says}
-use Rattle.sg_record.specs.Records.Says.{Begin, Changed, TopEnd, PhysComp, TopVoid, CompEnd, Save, Commit, End, Checkpoint, Line}
+use Rattle.sg_record.specs.Records.Says.{Begin, Changed, TopEnd, PhysComp, TopVoid, CompEnd, Save, Commit, End, Checkpoint}
 use Rattle.sg_redo.specs.Places.{changed_by}
+use Rattle.sg_places.specs.Asked.{unknown_in}
+use Rattle.sg_recovery.specs.Formed.{IsLog}
 use Rattle.sg_recovery.specs.Log.Record.{Change as StepChange, PhysComp as StepPhysComp}
 use Rattle.sg_action.specs.States.{State}
 use Rattle.sg_engine.specs.Engine.{Origin}
 use Rattle.sg_actions.specs.Engine.{EngineSeen, CanLog, IsStepThat, IsLoggable}
-use Rattle.sg_actions.specs.Steps.{step_by}
+use Rattle.sg_actions.specs.Steps.{step_by, step_of, with_step}
+use Rattle.sg_phys_laws.specs.Known.{IsEnough}
 use Rattle.sg_phys_laws.specs.Logged.{IsAsked, IsFor}
 use Rattle.sg_phys_laws.specs.Poised.{IsPoised}
 use Rattle.sg_phys_laws.specs.Reading.{durable_in, waiting_in}
 use Rattle.sg_phys_laws.specs.Recovers.{origin_of}
 use Rattle.sg_phys_laws.specs.States.{state_of, homes_of}
 use Rattle.sg_phys_laws.proofs.Cutting.{for_cut}
+use Rattle.sg_phys_laws.proofs.Enough.{all_enough_whole}
+use Rattle.sg_phys_laws.proofs.Known.{page_known, range_known, open_known}
 use Rattle.sg_phys_laws.proofs.Poised.{all_in_log}
+use Rattle.sg_phys_laws.proofs.Sets.{code_set}
 use Rattle.sg_phys.specs.Phys.{Parts, StandsBy, seen_by, seen_of}
 use Rattle.sg_phys.proofs.Images.{by_table}
 use Rattle.sg_phys.proofs.Told.{pool_is}
@@ -44,7 +51,32 @@ module _ (own given : Table) (Means : Type 0) (e : EngineSeen) (same : Means →
   by_says u p Commit l = tt
   by_says u p End l = tt
   by_says u p (Checkpoint x l) m = tt
-  by_says u p (Line words) l = tt
+
+-- THE OPERATION OF A STEP that may be appended is registered, where enough is for the records before it: its change fits its page, or it is said
+-- of it, or it is that of the last open change
+module _ (Given : Type 0) (p : Parts) (own : Table) (Means : Type 0) (enough : IsEnough own (origin_of own (seen_of p.found)).super.base (all_in_log p.disk p.log)) where
+  known_change : (u q : ℕ) (c : Changing) → IsLoggable own Means (seen_by Given p) (StepChange u q c) → unknown_in own (Some c) ≡ None
+  known_change u q (Page c) l = page_known own c ((seen_by Given p).now.pages c.page) l.fits
+  known_change u q (SegWrite c) l = refl
+  known_change u q (SegOp c) l = range_known own c l.known
+
+  known_off : (u q w : ℕ) (c : Changing) → IsLoggable own Means (seen_by Given p) (StepPhysComp u q w c) → unknown_in own (Some c) ≡ None
+  known_off u q w (Page c) l = page_known own c ((seen_by Given p).now.pages c.page) l.fits
+  known_off u q w (SegWrite c) l = refl
+  known_off u q w (SegOp c) l = ∥∥₁_elim l.known (code_set (unknown_in own (Some (SegOp c))) None)
+      (λ k. open_known own (origin_of own (seen_of p.found)).super.base (all_in_log p.disk p.log) k.change k.others k.previous (SegOp c) k.last k.goes_on enough k.stands)
+
+  known_by : (u q : ℕ) (says : Says) → IsStepThat (step_by u q says) (IsLoggable own Means (seen_by Given p)) → unknown_in own (changed_by says) ≡ None
+  known_by u q Begin l = refl
+  known_by u q (Changed c) l = known_change u q c l
+  known_by u q (TopEnd w n) l = refl
+  known_by u q (PhysComp w c) l = known_off u q w c l
+  known_by u q (TopVoid w) l = refl
+  known_by u q (CompEnd w) l = refl
+  known_by u q (Save m) l = refl
+  known_by u q Commit l = refl
+  known_by u q End l = refl
+  known_by u q (Checkpoint x l) m = refl
 
 -- WHAT IS ASKED OF WHAT IT SHOWS is asked of the bytes
 pub asked : (Given : Type 0) (p : Parts) (t given : Table) (from : State) (Means : Type 0) (r : Record) → p.failed ≡ false → (Means → given ≡ t) → CanLog t Means (seen_by Given p) r → StandsBy Given p t from
@@ -58,4 +90,22 @@ asked Given p t given from Means r whole same can stands tells poised =
       fits = for_cut t given o.super (state_of (homes_of o (all_in_log p.disk p.log))) (changed_by r.says)
           (subst (λ (x : State). IsFor t given x (changed_by r.says)) (pool_is o p.disk p.log p.pool (durable_in p.disk p.log) (waiting_in p.log) poised.now.engine)
           (by_says t given Means (seen_by Given p) same r.transaction r.previous r.says (can (record { tells = tells; whole = whole }))));
+      registered = known_by Given p t Means (all_enough_whole t o.super.base (durable_in p.disk p.log) (waiting_in p.log) poised.enough) r.transaction r.previous r.says (can (record { tells = tells; whole = whole }));
     }
+
+-- AND THE LOG IS FORMED with the record, whatever number from the end on it has
+formed_says : (own : Table) (Means : Type 0) (e : EngineSeen) (lsn u p : ℕ) (says : Says) → IsStepThat (step_by u p says) (IsLoggable own Means e) → e.tail ≤ lsn → (says ≡ Begin → lsn ≡ e.next Begin) → ∥ IsLog e.base (with_step e.steps lsn (step_by u p says)) ∥₁
+formed_says own Means e lsn u p Begin l le is = ∥∥₁_elim l.formed ∥∥₁_prop (λ f. ∣ f lsn le (is refl) ∣₁)
+formed_says own Means e lsn u p (Changed c) l le is = ∥∥₁_elim l.formed ∥∥₁_prop (λ f. ∣ f lsn le tt ∣₁)
+formed_says own Means e lsn u p (TopEnd w n) l le is = ∥∥₁_elim l.formed ∥∥₁_prop (λ f. ∣ f lsn le tt ∣₁)
+formed_says own Means e lsn u p (PhysComp w c) l le is = ∥∥₁_elim l.formed ∥∥₁_prop (λ f. ∣ f lsn le tt ∣₁)
+formed_says own Means e lsn u p (TopVoid w) l le is = ∥∥₁_elim l.formed ∥∥₁_prop (λ f. ∣ f lsn le tt ∣₁)
+formed_says own Means e lsn u p (CompEnd w) l le is = ∥∥₁_elim l.formed ∥∥₁_prop (λ f. ∣ f lsn le tt ∣₁)
+formed_says own Means e lsn u p (Save m) l le is = ∥∥₁_elim l.formed ∥∥₁_prop (λ f. ∣ f lsn le tt ∣₁)
+formed_says own Means e lsn u p Commit l le is = ∥∥₁_elim l.formed ∥∥₁_prop (λ f. ∣ f lsn le tt ∣₁)
+formed_says own Means e lsn u p End l le is = ∥∥₁_elim l.formed ∥∥₁_prop (λ f. ∣ f lsn le tt ∣₁)
+formed_says own Means e lsn u p (Checkpoint x live) l le is = absurd l
+
+pub formed_by : (Given : Type 0) (p : Parts) (t : Table) (Means : Type 0) (r : Record) (lsn : ℕ) → p.failed ≡ false → CanLog t Means (seen_by Given p) r → p.end ≤ lsn → (r.says ≡ Begin → lsn ≡ (seen_by Given p).next Begin) → Given
+    → ∥ IsLog (seen_by Given p).base (with_step (seen_by Given p).steps lsn (step_of r)) ∥₁
+formed_by Given p t Means r lsn whole can le is tells = formed_says t Means (seen_by Given p) lsn r.transaction r.previous r.says (can (record { tells = tells; whole = whole })) le is

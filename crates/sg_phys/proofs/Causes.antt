@@ -1,10 +1,10 @@
 -- Why a call of an engine that tells fails, and what can't be where it tells.
-use Rattle.std.proofs.Common.{◌≡◌, ◌⊎◌, ⊎_elim, ◌<◌, ◌≤◌, ℕ, Bool, true, false, IsTrue, List, [], ◌∷◌, ◌++◌, Option, Some, None, IsSome, is_some, refl, sym, ap, ◌∙◌, subst, arith}
-use Rattle.std.specs.Prelude.{if◌then◌else◌, nat_lt, Result, Ok, Err}
+use Rattle.std.proofs.Common.{◌≡◌, ◌⊎◌, ⊎_elim, ◌<◌, ◌≤◌, ℕ, Bool, true, false, IsTrue, List, [], ◌∷◌, ◌++◌, Some, None, IsSome, is_some, refl, sym, ap, ◌∙◌, subst, arith}
+use Rattle.std.specs.Prelude.{if◌then◌else◌, nat_lt, Result, Err}
 use Rattle.std.proofs.lemmas.Bool.{ltb-true}
 use mathlib.Core.Logic.{∥∥₁_elim}
 use Rattle.sg_base.specs.Ends.{HasRisen}
-use Rattle.sg_base.specs.Sheet.{Sheet, sheet_of}
+use Rattle.sg_base.specs.Sheet.{sheet_of}
 use Rattle.sg_base.specs.Slotted.{is_slotted}
 use Rattle.sg_disk.specs.Disk.{View}
 use Rattle.sg_log.specs.Frames.{Numbered}
@@ -17,7 +17,7 @@ use Rattle.sg_pool.specs.declared.pool.Pool.{Pool}
 use Rattle.sg_record.specs.Changes.{Change as Changing}
 use Rattle.sg_record.specs.Changes.Change.{Page, SegWrite, SegOp}
 use Rattle.sg_record.specs.Records.{Record, Says}
-use Rattle.sg_record.specs.Records.Says.{Begin, Changed, TopEnd, PhysComp, TopVoid, CompEnd, Save, Commit, End, Checkpoint, Line}
+use Rattle.sg_record.specs.Records.Says.{Begin, Changed, TopEnd, PhysComp, TopVoid, CompEnd, Save, Commit, End, Checkpoint}
 use Rattle.sg_recovery.specs.Log.Record.{Begin as StepBegin, Change as StepChange, TopEnd as StepTopEnd, PhysComp as StepPhysComp, TopVoid as StepTopVoid, CompEnd as StepCompEnd, Save as StepSave, Commit as StepCommit, End as StepEnd}
 use Rattle.sg_redo.specs.Leaf.{leaf_of}
 use Rattle.sg_redo.specs.Places.{changed_by}
@@ -28,7 +28,7 @@ use Rattle.sg_engine.specs.declared.fault.EngineFault.{EngineFault}
 use Rattle.sg_engine.specs.declared.fault.EngineFault.TheVariants as engine
 use Rattle.sg_engine.proofs.Pools.{unwritten_low}
 use Rattle.sg_gate.specs.declared.superblock.Super.{Super}
-use Rattle.sg_actions.specs.Engine.{Extent, EngineSeen, CanLog, IsStepThat, IsLoggable, IsOn, StepOn, AllOn, HasPage, led}
+use Rattle.sg_actions.specs.Engine.{Extent, EngineSeen, CanLog, IsStepThat, IsLoggable, IsOn, StepOn, AllOn, HasPage}
 use Rattle.sg_actions.specs.Steps.{Step, Steps, step_by, step_at, repeated}
 use Rattle.sg_phys_laws.specs.Counted.{FailsFor, LiesIn}
 use Rattle.sg_phys_laws.specs.Logged.{is_no_step}
@@ -39,7 +39,7 @@ use Rattle.sg_phys_laws.specs.States.{steps_of}
 use Rattle.sg_phys_laws.proofs.Cutting.{all_in, below_test}
 use Rattle.sg_phys_laws.proofs.Poised.{all_in_log}
 use Rattle.sg_phys_laws.proofs.ReadBack.{step_stands}
-use Rattle.sg_phys.specs.Phys.{Parts, Stands, StandsBy, StandsForSome, Tells, looked, pool_says, seen_by, seen_of}
+use Rattle.sg_phys.specs.Phys.{Parts, StandsBy, StandsForSome, Tells, looked, pool_says, seen_by, seen_of}
 use Rattle.sg_phys.proofs.Images.{by_table}
 use Rattle.sg_phys.proofs.Seen.{HasLooked, keeps_look, looks_ok, HasStood}
 use Rattle.sg_phys.proofs.Told.{told_now}
@@ -56,7 +56,7 @@ below_prop a b = hlevel props
 
 -- WHERE IT TELLS it stands for some operations, by what it holds
 module _ (Given : Type 0) (p : Parts) (some : StandsForSome Given p.failed p.found p.disk p.log p.pool) where
-  by_poised : {P : Type 0} → IsProp P → ((t : Table) (from : State) → StandsBy Given p t from → IsPoised t from (origin_of t (seen_of p.found)) p.disk p.log p.pool → P) → Tells Given p.failed → P
+  pub by_poised : {P : Type 0} → IsProp P → ((t : Table) (from : State) → StandsBy Given p t from → IsPoised t from (origin_of t (seen_of p.found)) p.disk p.log p.pool → P) → Tells Given p.failed → P
   by_poised prop so tell = ∥∥₁_elim (some tell) prop (λ x. ∥∥₁_elim x.2.known prop (λ k. so x.0 x.1 x.2 (k tell.whole tell.tells)))
 
   -- a call for a record of what there is fails for the disk alone,
@@ -101,7 +101,6 @@ lies_in t Means e u p (Save m) l = tt
 lies_in t Means e u p Commit l = tt
 lies_in t Means e u p End l = tt
 lies_in t Means e u p (Checkpoint x l) m = tt
-lies_in t Means e u p (Line words) l = tt
 
 pub can_lie : (Given : Type 0) (p : Parts) (t : Table) (Means : Type 0) (r : Record) → CanLog t Means (seen_by Given p) r → Tells Given p.failed → LiesIn (sizes p.pool) (changed_by r.says)
 can_lie Given p t Means r can tell = lies_in t Means (seen_by Given p) r.transaction r.previous r.says (can tell)
@@ -118,7 +117,6 @@ plain_by P u p (Save m) l e = cc
 plain_by P u p Commit l e = cc
 plain_by P u p End l e = cc
 plain_by P u p (Checkpoint x l) m e = m
-plain_by P u p (Line words) m e = m
 
 pub can_plain : (Given : Type 0) (p : Parts) (t : Table) (Means : Type 0) (r : Record) → CanLog t Means (seen_by Given p) r → is_no_step r.says ≡ true → Tells Given p.failed → ⊥
 can_plain Given p t Means r can is tell = plain_by (IsLoggable t Means (seen_by Given p)) r.transaction r.previous r.says (can tell) is

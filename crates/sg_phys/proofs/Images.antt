@@ -10,6 +10,7 @@ use Rattle.sg_gate.specs.declared.superblock.Super.{Super}
 use Rattle.sg_log.specs.Frames.{Numbered, HasRecords, LOG_END}
 use Rattle.sg_ops.specs.Table.{Table}
 use Rattle.sg_record.specs.Records.{Record}
+use Rattle.sg_recovery.specs.Formed.{IsLog}
 use Rattle.sg_action.specs.States.{State}
 use Rattle.sg_engine.specs.Effects.{IsBy}
 use Rattle.sg_engine.specs.History.{Entry, IsHistory, IsSound, repeated_from}
@@ -17,11 +18,12 @@ use Rattle.sg_engine.specs.Kept.{home_in}
 use Rattle.sg_engine.specs.Engine.{Origin, entries, geometry, log_area}
 use Rattle.sg_actions.specs.Images.{IsImageOf}
 use Rattle.sg_actions.specs.Steps.{Steps, repeated}
+use Rattle.sg_phys_laws.specs.Known.{IsEnough}
 use Rattle.sg_phys_laws.specs.Points.{redo_point}
 use Rattle.sg_phys_laws.specs.Reading.{frames_read}
 use Rattle.sg_phys_laws.specs.Recovers.{cut_at, super_of, origin_of, records_in, point_in, said_in, IsSoundImage, Recovers, RecoversBy}
 use Rattle.sg_phys_laws.specs.States.{state_of, steps_of}
-use Rattle.sg_phys_laws.proofs.Sets.{steps_set, state_set}
+use Rattle.sg_phys_laws.proofs.Sets.{code_set, steps_set, state_set}
 
 -- what records do by a table is what the table says
 pub by_table : (t : Table) (c : Image) → IsBy t (origin_of t c)
@@ -61,7 +63,7 @@ module _ (o p : Origin) (c : Image) (e : o.super ≡ p.super) (same : (lsn : ℕ
   }
 
 -- AN IMAGE OF A STORE holds by its table what it holds by what the store was opened from
-holds_by : (t : Table) (o : Origin) (c : Image) (front : Steps) (x : State) → IsBy t o → Recovers o c front x → Recovers (origin_of t c) c front x
+holds_by : (t : Table) (o : Origin) (c : Image) (front : Steps) (x : State) → IsBy t o → Recovers t o c front x → Recovers t (origin_of t c) c front x
 holds_by t o c front x by r =
     let p = origin_of t c in
     record {
@@ -72,7 +74,11 @@ holds_by t o c front x by r =
           ∣ sound_same o p c e by.says (point_in p c) (records_in p c)
           (subst (λ (ns : List Numbered). IsSoundImage o (point_in p c) ns c) (records_same o p c e)
           (subst (λ (k : ℕ). IsSoundImage o k (records_in o c) c) (point_same o p c e by.says) s)) ∣₁);
+      formed = ∥∥₁_elim r.sound ∥∥₁_prop (λ s. subst (λ (u : Super). ∥ IsLog u.base front ∥₁) (sym (ap super_of s.super)) r.formed);
+      registered = ∥∥₁_elim r.sound (code_set _ _) (λ s.
+          let e : o.super ≡ p.super = sym (ap super_of s.super) in
+          subst (IsEnough t p.super.base) (records_same o p c e) (subst (λ (u : Super). IsEnough t u.base (records_in o c)) e r.registered));
     }
 
-pub image_by : (t : Table) (o : Origin) (first : State) (durable log : Steps) (c : Image) → IsBy t o → IsImageOf (Recovers o) t first durable log c → IsImageOf (RecoversBy t) t first durable log c
+pub image_by : (t : Table) (o : Origin) (first : State) (durable log : Steps) (c : Image) → IsBy t o → IsImageOf (Recovers t o) t first durable log c → IsImageOf (RecoversBy t) t first durable log c
 image_by t o first durable log c by m = record { front = m.front; is_front = m.is_front; recovers = record { holds = holds_by t o c m.front (repeated t first m.front) by m.recovers; leads = (first, refl) } }

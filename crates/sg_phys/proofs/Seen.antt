@@ -1,5 +1,5 @@
 -- What a call says of what the engine shows.
-use Rattle.std.proofs.Common.{◌≡◌, ◌⊎◌, inl, inr, ⊎_elim, ◌<◌, ◌≤◌, ◌+◌, ℕ, Bool, true, false, IsTrue, List, [], ◌∷◌, ◌++◌, length, Option, None, refl, sym, ap, ◌∙◌, subst, arith}
+use Rattle.std.proofs.Common.{◌≡◌, inl, inr, ⊎_elim, ◌<◌, ◌≤◌, ◌+◌, ℕ, Bool, true, false, List, [], ◌∷◌, ◌++◌, length, Option, None, refl, sym, ap, ◌∙◌, subst, arith}
 use Rattle.std.specs.Prelude.{Result, Ok, Err}
 use mathlib.Core.Logic.{∥∥₁_elim, ∥∥₁_prop}
 use Rattle.sg_base.specs.Ends.{HasRisen}
@@ -8,13 +8,13 @@ use Rattle.sg_disk.specs.Disk.{View, LeavesOnly}
 use Rattle.sg_disk.specs.Heeds.{Heeds}
 use Rattle.sg_disk.proofs.Moments.{weaker}
 use Rattle.sg_log.specs.Frames.{Numbered, LOG_END}
-use Rattle.sg_log.specs.Held.{Tail}
+use Rattle.sg_log.specs.Held.{Tail, tail_of}
 use Rattle.sg_ops.specs.Table.{Table}
-use Rattle.sg_pool.specs.Pooled.{sizes}
 use Rattle.sg_pool.specs.Units.{Geometry}
 use Rattle.sg_pool.specs.declared.pool.Pool.{Pool}
 use Rattle.sg_record.specs.Records.{Record, Says, spelled}
-use Rattle.sg_record.specs.Records.Says.{Begin, Changed, TopEnd, PhysComp, TopVoid, CompEnd, Save, Commit, End, Checkpoint, Line}
+use Rattle.sg_record.specs.Records.Says.{Begin, Changed, TopEnd, PhysComp, TopVoid, CompEnd, Save, Commit, End, Checkpoint}
+use Rattle.sg_recovery.specs.Formed.{IsLog}
 use Rattle.sg_redo.specs.Places.{changed_by}
 use Rattle.sg_space.specs.declared.space.SpaceFault.{SpaceFault}
 use Rattle.sg_space.specs.declared.space.SpaceFault.TheVariants as space
@@ -25,20 +25,19 @@ use Rattle.sg_engine.specs.Faults.{is_disk}
 use Rattle.sg_engine.specs.Running.{IsEngine, IsAllowed}
 use Rattle.sg_engine.specs.declared.fault.EngineFault.{EngineFault}
 use Rattle.sg_engine.specs.declared.fault.EngineFault.TheVariants as engine
-use Rattle.sg_actions.specs.Engine.{Extent, EngineSeen, EngineCounts, EngineRests, EngineGrows, EngineLooks, Logs, Logged, Moments, IsForced, Keeps, led}
+use Rattle.sg_actions.specs.Engine.{Extent, EngineCounts, EngineRests, EngineGrows, EngineLooks, Logs, Moments, IsForced, Keeps, led}
 use Rattle.sg_actions.specs.Handing.{makes_change, HandsOver}
 use Rattle.sg_actions.specs.Images.{Grows, IsImageOf}
 use Rattle.sg_actions.specs.Steps.{Step, Steps, step_of, with_step}
 use Rattle.sg_phys_laws.specs.Counted.{HasCounted}
 use Rattle.sg_phys_laws.specs.Faults.{space_fault, is_log_end}
-use Rattle.sg_phys_laws.specs.Logged.{HasLogged, HasRun, HasRested, Stood, StillAllowed, at_number, is_no_step}
-use Rattle.sg_phys_laws.specs.Points.{IsMarked}
+use Rattle.sg_phys_laws.specs.Logged.{HasLogged, HasRun, HasRested, Stood, at_number, is_no_step}
+use Rattle.sg_phys_laws.specs.Points.{IsMarked, IsLatest}
 use Rattle.sg_phys_laws.specs.Poised.{IsPoised}
 use Rattle.sg_phys_laws.specs.Reading.{durable_in, waiting_in}
 use Rattle.sg_phys_laws.specs.Recovers.{origin_of, Recovers, RecoversBy}
 use Rattle.sg_phys_laws.specs.States.{steps_of}
 use Rattle.sg_phys_laws.proofs.Fronting.{one_more}
-use Rattle.sg_phys_laws.proofs.Points.{mark_allow}
 use Rattle.sg_phys_laws.proofs.Poised.{all_in_log, Behind, behind_rest, behind_record, marked_plain, rest_images, record_images, none_stood, forced_all}
 use Rattle.sg_phys_laws.proofs.Recovered.{grows_fix, image_fix, image_more, leaves_fix}
 use Rattle.sg_phys_laws.proofs.Sets.{steps_set}
@@ -72,7 +71,6 @@ no_change (Save mark) e = refl
 no_change Commit e = refl
 no_change End e = refl
 no_change (Checkpoint estimate live) e = refl
-no_change (Line words) e = refl
 
 -- one that fails before it calls the disk hands nothing over
 pub hands_none : {T E : Type 0} (size handed waits waits' : ℕ) (e : E) → HandsOver {T = T} size handed waits handed waits' (Err e)
@@ -275,7 +273,7 @@ module _ (Given : Type 0) (p : Parts) (w : View) (log : Tail) (pool : Pool) (t :
   look_moments : (q : Parts) → q.disk ≡ w → HasStood Given p w → Tells Given p.failed → Moments (RecoversBy t) t (led from (seen_by Given p)) (led from (seen_by Given q)) (steps_of all)
   look_moments q is stood tell = subst (λ (v : View). LeavesOnly p.disk v (IsImageOf (RecoversBy t) t from (steps_of ds) (steps_of all))) (sym is)
       (weaker
-      (leaves_fix p.disk w (IsImageOf (Recovers o) t from (steps_of ds) (steps_of all)) (image_fix o t from (steps_of ds) (steps_of all))
+      (leaves_fix p.disk w (IsImageOf (Recovers t o) t from (steps_of ds) (steps_of all)) (image_fix o t from (steps_of ds) (steps_of all))
       (∥∥₁_elim m.known ∥∥₁_prop (λ k. let q = k tell.whole tell.tells in ∣ rest_images t from o p.disk w p.log p.pool is_by q (stood o tell.tells q.now.engine) ∣₁)))
       (λ c image. image_by t o from (steps_of ds) (steps_of all) c is_by image))
 
@@ -295,25 +293,22 @@ module _ (Given : Type 0) (p : Parts) (w : View) (log : Tail) (pool : Pool) (t :
 
   -- A CALL FOR A RECORD
   module _ (r : Record) (lsn : ℕ) where
-    module _ (mark : Given → IsPoised t from o p.disk p.log p.pool → IsMarked (IsAllowed o p.disk p.log p.pool) lsn r.says) where
+    module _ (mark : Given → IsPoised t from o p.disk p.log p.pool → IsMarked (IsLatest (IsAllowed o p.disk p.log p.pool) (tail_of p.log)) lsn r.says)
+        (formed : Given → IsPoised t from o p.disk p.log p.pool → ∥ IsLog o.super.base (with_step (steps_of all) lsn (step_of r)) ∥₁) where
       record_moments : (q : Parts) (result : Result ℕ EngineFault) → q.disk ≡ w → HasRunFor Given p w log pool r lsn result t from → Tells Given p.failed
           → Moments (RecoversBy t) t (led from (seen_by Given p)) (led from (seen_by Given q)) (with_step (steps_of all) lsn (step_of r))
       record_moments q result is run tell =
           let rs : Steps = with_step (steps_of all) lsn (step_of r) in
           subst (λ (v : View). LeavesOnly p.disk v (IsImageOf (RecoversBy t) t from (steps_of ds) rs)) (sym is)
           (weaker
-          (leaves_fix p.disk w (IsImageOf (Recovers o) t from (steps_of ds) rs) (image_fix o t from (steps_of ds) rs)
-          (∥∥₁_elim m.known ∥∥₁_prop (λ k. let q = k tell.whole tell.tells in ∣ record_images t from o p.disk w p.log log p.pool pool r lsn result is_by q (mark tell.tells q) (run tell.tells q) ∣₁)))
+          (leaves_fix p.disk w (IsImageOf (Recovers t o) t from (steps_of ds) rs) (image_fix o t from (steps_of ds) rs)
+          (∥∥₁_elim m.known ∥∥₁_prop (λ k. let q = k tell.whole tell.tells in ∣ record_images t from o p.disk w p.log log p.pool pool r lsn result is_by q (mark tell.tells q) (formed tell.tells q) (run tell.tells q) ∣₁)))
           (λ c image. image_by t o from (steps_of ds) rs c is_by image))
-
-      after : HasLoggedIt Given p w log pool r lsn t from → (Given → IsPoised t from o p.disk p.log p.pool → StillAllowed o p.disk w p.log log p.pool pool) → Given → IsPoised t from o p.disk p.log p.pool
-          → Behind t from o p.disk w p.log log pool (all ++ at_number lsn r ∷ [])
-      after logged still tells q = behind_record t from o p.disk w p.log log p.pool pool r lsn is_by q (mark_allow (IsAllowed o p.disk p.log p.pool) (IsAllowed o w log pool) lsn r.says (still tells q) (mark tells q)) (logged tells q) (still tells q)
 
       -- that is appended,
       module _ (m' : ℕ) (run : HasRunFor Given p w log pool r lsn (Ok m') t from) (logged : HasLoggedIt Given p w log pool r lsn t from) where
         behind : Given → IsPoised t from o p.disk p.log p.pool → Behind t from o p.disk w p.log log pool (all ++ at_number lsn r ∷ [])
-        behind = after logged (λ tells q. (run tells q).allowed)
+        behind tells q = let h = run tells q in behind_record t from o p.disk w p.log log p.pool pool r lsn is_by q (mark tells q) (formed tells q) h.registered (logged tells q) h.allowed
 
         pub keeps_mark : Stands Given p.failed p.found w log pool t from
         keeps_mark = stands_behind (all ++ at_number lsn r ∷ []) behind
@@ -349,20 +344,24 @@ module _ (Given : Type 0) (p : Parts) (w : View) (log : Tail) (pool : Pool) (t :
       mark_logs_err : (e : SpaceFault) (result : Result ℕ EngineFault) (b : ℕ) (f : Bool) → p.end ≤ lsn → HasRunFor Given p w log pool r lsn result t from → Logs (RecoversBy t) t (led from (seen_by Given p)) (led from (seen_by Given (broken p w log pool lsn b f))) r (Err e)
       mark_logs_err e result b f above run = record { did = tt; above = λ s. above; moments = record_moments (broken p w log pool lsn b f) result refl run }
 
+    -- the log is formed with the record
+    abbrev IsFormedThen : Type 0
+    IsFormedThen = Given → ∥ IsLog o.super.base (with_step (steps_of all) lsn (step_of r)) ∥₁
+
     -- no other record marks anything
-    plain_mark : is_no_step r.says ≡ false → Given → IsPoised t from o p.disk p.log p.pool → IsMarked (IsAllowed o p.disk p.log p.pool) lsn r.says
-    plain_mark plain tells q = marked_plain (IsAllowed o p.disk p.log p.pool) lsn r.says plain
+    plain_mark : is_no_step r.says ≡ false → Given → IsPoised t from o p.disk p.log p.pool → IsMarked (IsLatest (IsAllowed o p.disk p.log p.pool) (tail_of p.log)) lsn r.says
+    plain_mark plain tells q = marked_plain (IsLatest (IsAllowed o p.disk p.log p.pool) (tail_of p.log)) lsn r.says plain
 
-    pub keeps_record : (n : ℕ) → is_no_step r.says ≡ false → HasRunFor Given p w log pool r lsn (Ok n) t from → HasLoggedIt Given p w log pool r lsn t from → Stands Given p.failed p.found w log pool t from
-    keeps_record n plain run logged = keeps_mark (plain_mark plain) n run logged
+    pub keeps_record : (n : ℕ) → is_no_step r.says ≡ false → IsFormedThen → HasRunFor Given p w log pool r lsn (Ok n) t from → HasLoggedIt Given p w log pool r lsn t from → Stands Given p.failed p.found w log pool t from
+    keeps_record n plain formed run logged = keeps_mark (plain_mark plain) (λ tells q. formed tells) n run logged
 
-    pub logs_ok : (n end gate count : ℕ) → n ≡ lsn → p.end ≤ lsn → is_no_step r.says ≡ false → HasRunFor Given p w log pool r lsn (Ok n) t from → HasLoggedIt Given p w log pool r lsn t from
+    pub logs_ok : (n end gate count : ℕ) → n ≡ lsn → p.end ≤ lsn → is_no_step r.says ≡ false → IsFormedThen → HasRunFor Given p w log pool r lsn (Ok n) t from → HasLoggedIt Given p w log pool r lsn t from
         → Logs (RecoversBy t) t (led from (seen_by Given p)) (led from (seen_by Given (appended p w log pool end gate lsn count))) r (Ok n)
-    logs_ok n end gate count number above plain run logged = mark_logs (plain_mark plain) n run logged n end gate count number above
+    logs_ok n end gate count number above plain formed run logged = mark_logs (plain_mark plain) (λ tells q. formed tells) n run logged n end gate count number above
 
-    pub logs_err : (e : SpaceFault) (result : Result ℕ EngineFault) (b : ℕ) (f : Bool) → p.end ≤ lsn → is_no_step r.says ≡ false → HasRunFor Given p w log pool r lsn result t from
+    pub logs_err : (e : SpaceFault) (result : Result ℕ EngineFault) (b : ℕ) (f : Bool) → p.end ≤ lsn → is_no_step r.says ≡ false → IsFormedThen → HasRunFor Given p w log pool r lsn result t from
         → Logs (RecoversBy t) t (led from (seen_by Given p)) (led from (seen_by Given (broken p w log pool lsn b f))) r (Err e)
-    logs_err e result b f above plain run = mark_logs_err (plain_mark plain) e result b f above run
+    logs_err e result b f above plain formed run = mark_logs_err (plain_mark plain) (λ tells q. formed tells) e result b f above run
 
     -- one that is refused with no call for it
     pub logs_refused : (e : SpaceFault) (b : ℕ) → p.end ≤ lsn → HasStood Given p w → Logs (RecoversBy t) t (led from (seen_by Given p)) (led from (seen_by Given (broken p w log pool lsn b p.full))) r (Err e)

@@ -30,7 +30,7 @@ use Rattle.sg_actions.specs.Steps.{repeated}
 use Rattle.sg_phys_laws.specs.Listed.{listed}
 use Rattle.sg_phys_laws.specs.Poised.{AreSaid, IsPoised}
 use Rattle.sg_phys_laws.specs.Reading.{durable_in, waiting_in}
-use Rattle.sg_phys_laws.specs.Recovers.{cut_at, no_band, origin_of, Recovers, RecoversBy}
+use Rattle.sg_phys_laws.specs.Recovers.{cut_at, no_band, origin_of, RecoversBy}
 use Rattle.sg_phys_laws.specs.States.{state_of, steps_of, homes_of, unsaid}
 use Rattle.sg_phys_laws.proofs.Cutting.{cut_same, below_test}
 use Rattle.sg_phys_laws.proofs.Fronting.{front_grows}

@@ -28,12 +28,12 @@ pub fn is_log_end(fault: EngineFault) -> bool
     }
 }
 
-/// Whether the record is no step of a transaction or of the system: a checkpoint, or a line.
+/// Whether the record is no step of a transaction or of the system: a checkpoint.
 pub fn is_no_step(r: &Rec<'_>) -> bool
     ensures { result ≡ is_no_step (shown r.now).says }
 {
     match *r {
-        Rec::Checkpoint { .. } | Rec::Line { .. } => true,
+        Rec::Checkpoint { .. } => true,
         _ => false,
     }
 }

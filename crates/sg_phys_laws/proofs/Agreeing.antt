@@ -12,7 +12,7 @@ use Rattle.sg_ops.specs.Table.{Table, range_at, rendered}
 use Rattle.sg_record.specs.Changes.{Change as Changing}
 use Rattle.sg_record.specs.Changes.Change.{Page as PageChanged, SegWrite, SegOp}
 use Rattle.sg_record.specs.Records.{Says}
-use Rattle.sg_record.specs.Records.Says.{Begin, Changed, TopEnd, PhysComp, TopVoid, CompEnd, Save, Commit, End, Checkpoint, Line}
+use Rattle.sg_record.specs.Records.Says.{Begin, Changed, TopEnd, PhysComp, TopVoid, CompEnd, Save, Commit, End, Checkpoint}
 use Rattle.sg_redo.specs.History.{OnPage, OnByte, redone, repeated as page_repeated, rewritten}
 use Rattle.sg_redo.specs.Page.{made, on_page}
 use Rattle.sg_redo.specs.Places.{op_said, changed_by}
@@ -134,7 +134,6 @@ module _ (o : Origin) (ns : List Numbered) (x : Numbered) where
   says_step t u p Commit from rs is ok agrees = same_step is ∙ agrees
   says_step t u p End from rs is ok agrees = same_step is ∙ agrees
   says_step t u p (Checkpoint e l) from rs is ok agrees = same_step is ∙ agrees
-  says_step t u p (Line words) from rs is ok agrees = same_step is ∙ agrees
 
   -- THE NEXT RECORD keeps the joint
   pub agrees_more : (t : Table) (ds rest : List Numbered) → ns ≡ ds ++ rest → IsBy t o → IsNext t o ns x → Agrees t o ds rest → Agrees t o ds (rest ++ x ∷ [])
@@ -153,11 +152,11 @@ pub agrees_none : (t : Table) (o : Origin) (ds : List Numbered) → Agrees t o d
 agrees_none t o ds = record { is = ap (λ (l : List Numbered). state_of (homes_of o l)) (append_none ds) }
 
 -- a front of a list with one more at its end is all of it, or a front of the list
-nothing : (xs ys : List Numbered) → xs ++ ys ≡ [] → xs ≡ []
+pub nothing : (xs ys : List Numbered) → xs ++ ys ≡ [] → xs ≡ []
 nothing [] ys e = refl
 nothing (x ∷ xs) ys e = absurd cc
 
-front_or : (front more ns : List Numbered) (x : Numbered) → front ++ more ≡ ns ++ x ∷ [] → (front ≡ ns ++ x ∷ []) ⊎ ((rest : List Numbered) × (front ++ rest ≡ ns))
+pub front_or : (front more ns : List Numbered) (x : Numbered) → front ++ more ≡ ns ++ x ∷ [] → (front ≡ ns ++ x ∷ []) ⊎ ((rest : List Numbered) × (front ++ rest ≡ ns))
 front_or [] more ns x e = inr (ns, refl)
 front_or (f ∷ front) more [] x e =
     let head : f ≡ x = cc in

@@ -13,7 +13,7 @@ use Rattle.sg_ops.specs.Table.{Table, range_at, rendered}
 use Rattle.sg_record.specs.Changes.{Change as Changing}
 use Rattle.sg_record.specs.Changes.Change.{Page as PageChanged, SegWrite, SegOp}
 use Rattle.sg_record.specs.Records.{Says}
-use Rattle.sg_record.specs.Records.Says.{Begin, Changed, TopEnd, PhysComp, TopVoid, CompEnd, Save, Commit, End, Checkpoint, Line}
+use Rattle.sg_record.specs.Records.Says.{Begin, Changed, TopEnd, PhysComp, TopVoid, CompEnd, Save, Commit, End, Checkpoint}
 use Rattle.sg_redo.specs.Places.{op_said, changed_by}
 use Rattle.sg_recovery.specs.Log.Record.{Begin as StepBegin, Change as StepChange, TopEnd as StepTopEnd, PhysComp as StepPhysComp, TopVoid as StepTopVoid, CompEnd as StepCompEnd, Save as StepSave, Commit as StepCommit, End as StepEnd}
 use Rattle.sg_action.specs.States.{State, apply, step_leaf, or_same, with_one}
@@ -140,7 +140,6 @@ says_in o t lsn u p (Save m) rs h more = (tt, more)
 says_in o t lsn u p Commit rs h more = (tt, more)
 says_in o t lsn u p End rs h more = (tt, more)
 says_in o t lsn u p (Checkpoint e l) rs h more = more
-says_in o t lsn u p (Line words) rs h more = more
 
 on_in : (o : Origin) (t : Table) (rs : Steps) (ns : List Numbered) → IsBy t o → AllThere (geometry o.super) (entries o ns) → AllIn o.super rs → AllIn o.super (steps_on rs ns)
 on_in o t rs [] by there more = more

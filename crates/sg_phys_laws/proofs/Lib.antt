@@ -13,6 +13,12 @@ pub mod ReadBack
 pub mod Sets
 pub mod Numbers
 pub mod Handing
+pub mod Forming
+pub mod Latest
+pub mod Sighted
+pub mod Backward
+pub mod Enough
+pub mod Known
 pub mod Recovered
 pub mod Poised
 pub mod Lies

@@ -34,7 +34,7 @@ pub page_says : (r : Record) (c : PageChange) (op : Op) → changed_by r.says �
 page_says r c op e is = record { c = c; says = e; page = refl; op_is = sym is }
 
 pub bytes_asked : (own given : Table) (o : Origin) (v : View) (log : Tail) (ds ps : List Numbered) (pool : Pool) (r : Record) (c : BandBytes) → IsAsked own given o v log ds ps pool r → changed_by r.says ≡ Some (SegWrite c) → IsWrite own o v log ds ps pool r c.band c.at c.after
-bytes_asked own given o v log ds ps pool r c a e = record { phys = a.phys; by = a.by; says = subst (λ (x : Option Changing). Writes own x c.band c.at c.after) (sym e) (refl, refl, refl) }
+bytes_asked own given o v log ds ps pool r c a e = record { phys = a.phys; by = a.by; says = subst (λ (x : Option Changing). Writes own x c.band c.at c.after) (sym e) (refl, refl, refl); registered = a.registered }
 
 -- the range operation is the same one by both tables
 same_range : (own given : Table) (code : ℕ) → IsLawful own → IsLawful given → (code ≢ 1 → given ≡ own) → range_at given code ≡ range_at own code
@@ -52,4 +52,5 @@ op_asked own given o v log ds ps pool r c bytes a e lawful is =
       by = a.by;
       says = subst (λ (x : Option Changing). Writes own x c.band c.at bytes) (sym e)
           (refl, refl, ap (λ x. rendered x c.arg c.position c.count) (sym (same_range own given c.code a.lawful lawful means)) ∙ sym is);
+      registered = a.registered;
     }

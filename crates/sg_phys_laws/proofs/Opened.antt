@@ -9,12 +9,17 @@ use Rattle.sg_action.specs.States.{State}
 use Rattle.sg_engine.specs.Engine.{Origin}
 use Rattle.sg_engine.specs.Running.{IsEngine, IsAllowed}
 use Rattle.sg_actions.specs.Steps.{Steps}
+use Rattle.sg_recovery.specs.Formed.{IsLog}
+use Rattle.sg_phys_laws.specs.Formed.{AreFormed}
+use Rattle.sg_phys_laws.specs.Known.{IsEnough, AllEnough}
 use Rattle.sg_phys_laws.specs.Poised.{IsPoised, AreSaid}
 use Rattle.sg_phys_laws.specs.Points.{redo_point, AreMarked, ArePoints}
 use Rattle.sg_phys_laws.specs.Reading.{durable_in, waiting_in}
 use Rattle.sg_phys_laws.specs.Recovers.{Recovers, RecoversBy, extent_by, super_in}
-use Rattle.sg_phys_laws.specs.States.{AllAgree}
+use Rattle.sg_phys_laws.specs.States.{AllAgree, steps_of}
 use Rattle.sg_phys_laws.proofs.Agreeing.{all_agree_none}
+use Rattle.sg_phys_laws.proofs.Enough.{all_enough_none}
+use Rattle.sg_phys_laws.proofs.Forming.{formed_none}
 use Rattle.sg_phys_laws.proofs.Reading.{held_are}
 use Rattle.sg_phys_laws.proofs.Wrapped.{now_again, all_are, append_none}
 
@@ -25,8 +30,8 @@ allowed_less o v log pool j k le allowed = record {
   bands = λ b lt. let more = allowed.bands b lt in omega arith;
 }
 
-pub opened_poised : (t : Table) (from : State) (o : Origin) (v : View) (log : Tail) (rs : List Numbered) (pool : Pool) → IsEngine o v log rs [] pool → AreSaid t from o rs → AreMarked (λ k. Unit {0}) rs → IsAllowed o v log pool (redo_point o.super.base rs) → IsPoised t from o v log pool
-opened_poised t from o v log rs pool e said low allowed =
+pub opened_poised : (t : Table) (from : State) (o : Origin) (v : View) (log : Tail) (rs : List Numbered) (pool : Pool) → IsEngine o v log rs [] pool → AreSaid t from o rs → ∥ IsLog o.super.base (steps_of rs) ∥₁ → IsEnough t o.super.base rs → AreMarked (λ k. Unit {0}) rs → IsAllowed o v log pool (redo_point o.super.base rs) → IsPoised t from o v log pool
+opened_poised t from o v log rs pool e said formed enough low allowed =
     let held = held_are v log rs [] e.engine.held in
     let whole : durable_in v log ++ waiting_in log ≡ rs = all_are o v log rs [] pool e ∙ append_none rs in
     let points : ArePoints o (IsAllowed o v log pool) rs rs = record {
@@ -41,11 +46,15 @@ opened_poised t from o v log rs pool e said low allowed =
       now = now_again t o v log rs [] pool e (subst (AllAgree t o rs) (sym (append_none rs)) (all_agree_none t o rs));
       points = subst (λ (l : List Numbered). ArePoints o (IsAllowed o v log pool) (durable_in v log) l) (sym whole) (subst (λ (l : List Numbered). ArePoints o (IsAllowed o v log pool) l rs) (sym held.0) points);
       said = subst (AreSaid t from o) (sym held.0) said;
+      formed = subst (λ (l : List Numbered). AreFormed o.super.base (durable_in v log) l) (sym whole)
+          (subst (λ (l : List Numbered). AreFormed o.super.base l rs) (sym held.0) (formed_none o.super.base rs formed));
+      enough = subst (λ (l : List Numbered). AllEnough t o.super.base (durable_in v log) l) (sym whole)
+          (subst (λ (l : List Numbered). AllEnough t o.super.base l rs) (sym held.0) (all_enough_none t o.super.base rs enough));
     }
 
 -- an image holds one list of steps, and one state
-pub recovers_same : (o : Origin) (c : Image) (l m : Steps) (x y : State) → Recovers o c l x → Recovers o c m y → (l ≡ m) × (x ≡ y)
-recovers_same o c l m x y a b = (a.records ∙ sym b.records, a.state ∙ sym b.state)
+pub recovers_same : (t : Table) (o : Origin) (c : Image) (l m : Steps) (x y : State) → Recovers t o c l x → Recovers t o c m y → (l ≡ m) × (x ≡ y)
+recovers_same t o c l m x y a b = (a.records ∙ sym b.records, a.state ∙ sym b.state)
 
 -- which has as many pages and bands as the superblock says
 pub recovered_sized : (t : Table) (c : Image) (log : Steps) (x : State) → RecoversBy t c log x → x.size ≡ extent_by (super_in c)

@@ -36,6 +36,7 @@ use Rattle.sg_engine.proofs.Followed.{page_below}
 use Rattle.sg_engine.proofs.May.{page_may, all_under}
 use Rattle.sg_redo.specs.Leaf.{leaf_of, LinksFit}
 use Rattle.sg_redo.proofs.Saying.{made_slotted}
+use Rattle.sg_phys_laws.specs.Known.{IsRegistered}
 use Rattle.sg_phys_laws.specs.States.{homes_of, state_of, AllAgree, IsDoable, IsChangeable, IsNext}
 use Rattle.sg_phys_laws.specs.Logged.{SaysPage, HasLogged, IsFor, IsPageFor, IsAsked, HasRun, Stood, StillAllowed, at_number}
 use Rattle.sg_phys_laws.proofs.Agreeing.{all_agree_more}
@@ -168,10 +169,10 @@ one_list o m log' ds all pool' r lsn h number = ap (λ (l : List Numbered). l ++
 
 -- THE CALL FOR A PAGE'S RECORD: a look, then the record
 pub page_run : (own : Table) (o : Origin) (v m w : View) (log log' log'' : Tail) (ds ps : List Numbered) (pool pool' pool'' : Pool) (r : Record) (lsn : ℕ) (result : Result ℕ EngineFault) (h : HasGoneOn o m log' ds (ds ++ ps) pool') → lsn ≡ place_of log' r
-    → AllAgree own o ds ((h.durable ++ h.waiting) ++ numbered log' r ∷ []) → Stood o v m log pool ds (ds ++ ps) → StillAllowed o v m log log' pool pool'
+    → IsRegistered own r → AllAgree own o ds ((h.durable ++ h.waiting) ++ numbered log' r ∷ []) → Stood o v m log pool ds (ds ++ ps) → StillAllowed o v m log log' pool pool'
     → Stood o m w log' pool' h.durable ((h.durable ++ h.waiting) ++ numbered log' r ∷ []) → ((k : ℕ) → IsAllowed o m log' pool' k → OnOk result (IsAllowed o w log'' pool'' k))
     → HasRun own o v w log log'' pool pool'' ds (ds ++ ps) r lsn result
-page_run own o v m w log log' log'' ds ps pool pool' pool'' r lsn result h number agree first still second allowed =
+page_run own o v m w log log' log'' ds ps pool pool' pool'' r lsn result h number registered agree first still second allowed =
     let all : List Numbered = ds ++ ps in
     let y : Numbered = at_number lsn r in
     let same = one_list o m log' ds all pool' r lsn h number in
@@ -183,6 +184,7 @@ page_run own o v m w log log' log'' ds ps pool pool' pool'' r lsn result h numbe
             (weaker (second k (still k early)) (λ c stands. standing_weaker o ds (all ++ y ∷ []) h.durable ((h.durable ++ h.waiting) ++ numbered log' r ∷ []) h.since [] k c h.later (sym same ∙ sym (append_none ((h.durable ++ h.waiting) ++ numbered log' r ∷ []))) stands)),
       );
       allowed = each_ok (IsAllowed o v log pool) (IsAllowed o w log'' pool'') result (λ k early. allowed k (still k early));
+      registered = registered;
     }
 
 -- what holds of an answer by two facts of it

@@ -6,7 +6,7 @@ use Rattle.sg_disk.specs.Disk.{Image}
 use Rattle.sg_log.specs.Frames.{Numbered}
 use Rattle.sg_log.proofs.Unique.{HasRecords-one}
 use Rattle.sg_record.specs.Records.{Says}
-use Rattle.sg_record.specs.Records.Says.{Begin, Changed, TopEnd, PhysComp, TopVoid, CompEnd, Save, Commit, End, Checkpoint, Line}
+use Rattle.sg_record.specs.Records.Says.{Begin, Changed, TopEnd, PhysComp, TopVoid, CompEnd, Save, Commit, End, Checkpoint}
 use Rattle.sg_engine.specs.Engine.{Origin, IsStanding}
 use Rattle.sg_phys_laws.specs.Points.{estimate_or, last_estimate, redo_point, IsMarked, AreMarked, ArePoints}
 use Rattle.sg_phys_laws.specs.Recovers.{StandsOwn}
@@ -38,7 +38,6 @@ mark_allow A B lsn (CompEnd w) more marked = tt
 mark_allow A B lsn (Save m) more marked = tt
 mark_allow A B lsn Commit more marked = tt
 mark_allow A B lsn End more marked = tt
-mark_allow A B lsn (Line words) more marked = marked
 
 pub marks_allow : (A B : ℕ → Type 0) (ns : List Numbered) → ((k : ℕ) → A k → B k) → AreMarked A ns → AreMarked B ns
 marks_allow A B [] more marked = tt
@@ -62,7 +61,6 @@ module _ (A : ℕ → Type 0) (base : ℕ) (start : A base) where
   point_one e lsn (Save m) was marked = was
   point_one e lsn Commit was marked = was
   point_one e lsn End was marked = was
-  point_one e lsn (Line words) was marked = was
 
   pub point_behind : (e : ℕ) (ns : List Numbered) → A (max base e) → AreMarked A ns → A (max base (last_estimate e ns))
   point_behind e [] was marked = was
@@ -118,7 +116,7 @@ points_append A o ds all n points mark = record {
   marked = marks_both A points.more (n ∷ []) points.marked (mark, tt);
 }
 
-marks_back : (A : ℕ → Type 0) (xs ys : List Numbered) → AreMarked A (xs ++ ys) → AreMarked A ys
+pub marks_back : (A : ℕ → Type 0) (xs ys : List Numbered) → AreMarked A (xs ++ ys) → AreMarked A ys
 marks_back A [] ys marked = marked
 marks_back A (x ∷ xs) ys marked = marks_back A xs ys marked.1
 

@@ -19,10 +19,13 @@ use Rattle.sg_engine.specs.History.{IsSound, AllThere}
 use Rattle.sg_engine.specs.Kept.{home_in}
 use Rattle.sg_engine.specs.Engine.{Origin, entries, geometry, log_area}
 use Rattle.sg_engine.specs.Running.{IsAllowed}
+use Rattle.sg_recovery.specs.Formed.{IsLog}
 use Rattle.sg_redo.specs.Leaf.{leaf_of}
 use Rattle.sg_actions.specs.Images.{Grows, Recovering, IsImageOf}
 use Rattle.sg_actions.specs.Steps.{Steps, repeated}
+use Rattle.sg_phys_laws.specs.Formed.{AreFormed}
 use Rattle.sg_phys_laws.specs.Images.{homes_in}
+use Rattle.sg_phys_laws.specs.Known.{IsEnough, AllEnough}
 use Rattle.sg_phys_laws.specs.Logged.{Stood}
 use Rattle.sg_phys_laws.specs.Points.{redo_point, ArePoints}
 use Rattle.sg_phys_laws.specs.Recovers.{cut_at, records_in, said_in, IsSoundImage, Recovers, StandsOwn}
@@ -34,7 +37,7 @@ use Rattle.sg_phys_laws.proofs.Fronting.{front_grows}
 use Rattle.sg_phys_laws.proofs.Listing.{same-listed}
 use Rattle.sg_phys_laws.proofs.Points.{stands_own}
 use Rattle.sg_phys_laws.proofs.Reading.{frames_are, few_frames}
-use Rattle.sg_phys_laws.proofs.Sets.{steps_set, state_set, disks_set}
+use Rattle.sg_phys_laws.proofs.Sets.{code_set, steps_set, state_set, disks_set}
 
 -- THE RECORDS of an image are a function of its bytes
 pub records_held : (o : Origin) (c : Image) (tail : ℕ) (ns : List Numbered) → HasRecords (c (log_area o.super)) o.super.base tail ns → records_in o c ≡ ns
@@ -46,7 +49,7 @@ records_held o c tail ns h =
     let base : o.super.base + 0 ≡ o.super.base = omega arith in
     frames_are LOG_END o.super.base 0 (c (log_area o.super)) h.frames h.stand (omega (arith, few, gate, within)) ∙ (ap (λ (m : ℕ). numbered_in m h.frames) base ∙ h.all)
 
-module _ (t : Table) (from : State) (o : Origin) (ds all : List Numbered) (c : Image) (by : IsBy t o) (agrees : AllAgree t o ds all) (begun : AreSaid t from o ds) (own : StandsOwn o ds all c) where
+module _ (t : Table) (from : State) (o : Origin) (ds all : List Numbered) (c : Image) (by : IsBy t o) (agrees : AllAgree t o ds all) (begun : AreSaid t from o ds) (formed : AreFormed o.super.base ds all) (enough : AllEnough t o.super.base ds all) (own : StandsOwn o ds all c) where
   abbrev ns : List Numbered
   ns = own.stands.records
 
@@ -81,7 +84,15 @@ module _ (t : Table) (from : State) (o : Origin) (ds all : List Numbered) (c : I
       (said_more t from o ds own.stands.since by (subst (λ (l : List Numbered). AllThere (geometry o.super) (entries o l)) own.stands.later own.stands.history.there)
       (agrees own.stands.since own.stands.more (ap (λ (l : List Numbered). l ++ own.stands.more) (sym own.stands.later) ∙ sym own.stands.front)) begun)
 
-  pub image_is : IsImageOf (Recovers o) t from (steps_of ds) (steps_of all) c
+  formed_front : ∥ IsLog o.super.base (steps_of ns) ∥₁
+  formed_front = subst (λ (l : List Numbered). ∥ IsLog o.super.base (steps_of l) ∥₁) (sym own.stands.later)
+      (formed own.stands.since own.stands.more (ap (λ (l : List Numbered). l ++ own.stands.more) (sym own.stands.later) ∙ sym own.stands.front))
+
+  enough_front : IsEnough t o.super.base ns
+  enough_front = subst (IsEnough t o.super.base) (sym own.stands.later)
+      (enough own.stands.since own.stands.more (ap (λ (l : List Numbered). l ++ own.stands.more) (sym own.stands.later) ∙ sym own.stands.front))
+
+  pub image_is : IsImageOf (Recovers t o) t from (steps_of ds) (steps_of all) c
   image_is = record {
     front = steps_of ns;
     is_front = record {
@@ -92,6 +103,8 @@ module _ (t : Table) (from : State) (o : Origin) (ds all : List Numbered) (c : I
       records = ap steps_of (sym held);
       state = sym goes ∙ (cut_same o.super (state_of (homes_of o ns)) (state_of (homes_in o own.point ns c)) pages bands ∙ said);
       sound = ∣ subst (λ (l : List Numbered). IsSoundImage o (redo_point o.super.base l) l c) (sym held) sound ∣₁;
+      formed = formed_front;
+      registered = subst (IsEnough t o.super.base) (sym held) enough_front;
     };
   }
 
@@ -110,7 +123,7 @@ grows_fix a b h = record {
 }
 
 -- that an image holds a front,
-pub image_fix : (o : Origin) (t : Table) (first : State) (durable log : Steps) (c : Image) → ∥ IsImageOf (Recovers o) t first durable log c ∥₁ → IsImageOf (Recovers o) t first durable log c
+pub image_fix : (o : Origin) (t : Table) (first : State) (durable log : Steps) (c : Image) → ∥ IsImageOf (Recovers t o) t first durable log c ∥₁ → IsImageOf (Recovers t o) t first durable log c
 image_fix o t first durable log c h =
     let f : Steps = steps_of (records_in o c) in
     record {
@@ -123,6 +136,8 @@ image_fix o t first durable log c h =
         records = refl;
         state = ∥∥₁_elim h (state_set (repeated t first f) (said_in o c)) (λ m. subst (λ (l : Steps). repeated t first l ≡ said_in o c) m.recovers.records m.recovers.state);
         sound = ∥∥₁_elim h ∥∥₁_prop (λ m. m.recovers.sound);
+        formed = ∥∥₁_elim h ∥∥₁_prop (λ m. subst (λ (l : Steps). ∥ IsLog o.super.base l ∥₁) m.recovers.records m.recovers.formed);
+        registered = ∥∥₁_elim h (code_set _ _) (λ m. m.recovers.registered);
       };
     }
 
@@ -149,9 +164,9 @@ moments_own o v w log pool ds all points runs =
           (subst (λ (l : List disk.State). LeavesAny (w.now ∷ l) c) (append_cancel_right run.added (runs k a).added v.past (sym run.past ∙ (runs k a).past)) any));
     }
 
-pub moments_are : (t : Table) (from : State) (o : Origin) (v w : View) (log : Tail) (pool : Pool) (ds all : List Numbered) → IsBy t o → AllAgree t o ds all → AreSaid t from o ds → ArePoints o (IsAllowed o v log pool) ds all → Stood o v w log pool ds all
-    → LeavesOnly v w (IsImageOf (Recovers o) t from (steps_of ds) (steps_of all))
-moments_are t from o v w log pool ds all by agrees said points runs = weaker (moments_own o v w log pool ds all points runs) (λ c own. image_is t from o ds all c by agrees said own)
+pub moments_are : (t : Table) (from : State) (o : Origin) (v w : View) (log : Tail) (pool : Pool) (ds all : List Numbered) → IsBy t o → AllAgree t o ds all → AreSaid t from o ds → AreFormed o.super.base ds all → AllEnough t o.super.base ds all → ArePoints o (IsAllowed o v log pool) ds all → Stood o v w log pool ds all
+    → LeavesOnly v w (IsImageOf (Recovers t o) t from (steps_of ds) (steps_of all))
+moments_are t from o v w log pool ds all by agrees said formed enough points runs = weaker (moments_own o v w log pool ds all points runs) (λ c own. image_is t from o ds all c by agrees said formed enough own)
 
 -- more steps, or fewer durable ones
 pub grows_then : (a b c : Steps) → Grows a b → Grows b c → Grows a c

@@ -40,6 +40,10 @@ leaf_set = hlevel (props, sheet_set)
 pub state_set : IsSet State
 state_set = hlevel (props, bytes_set, leaf_set)
 
+-- a code, or none
+pub code_set : IsSet (Option ℕ)
+code_set = hlevel props
+
 ranges_set : IsSet (List Range)
 ranges_set = List-set (hlevel props)
 

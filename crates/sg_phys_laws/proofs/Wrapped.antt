@@ -97,4 +97,5 @@ pub bytes_run : (own : Table) (o : Origin) (v w : View) (log log' : Tail) (ds ps
 bytes_run own o v w log log' ds ps pool pool' r lsn b at bytes result a lies number stood allowed = record {
   moments = inr (bytes_agree own o v log ds ps pool r lsn b at bytes a lies number, subst (λ (n : ℕ). Stood o v w log pool ds ((ds ++ ps) ++ at_number n r ∷ [])) (sym number) stood);
   allowed = each_ok (IsAllowed o v log pool) (IsAllowed o w log' pool') result allowed;
+  registered = a.registered;
 }

@@ -1,7 +1,9 @@
 pub mod Listed
 pub mod States
+pub mod Formed
 pub mod Reading
 pub mod Points
+pub mod Known
 pub mod Waiting
 pub mod Logged
 pub mod Images

@@ -11,7 +11,7 @@ use Rattle.sg_base.specs.Op.{Op}
 use Rattle.sg_record.specs.Changes.{Change, PageChange}
 use Rattle.sg_record.specs.Changes.Change.{Page, SegWrite, SegOp}
 use Rattle.sg_record.specs.Records.{Record, Says}
-use Rattle.sg_record.specs.Records.Says.{Checkpoint, Line}
+use Rattle.sg_record.specs.Records.Says.{Checkpoint}
 use Rattle.sg_redo.specs.Places.{op_said, changed_by}
 use Rattle.sg_action.specs.States.{State, step_leaf}
 use Rattle.sg_engine.specs.Effects.{IsBy}
@@ -20,12 +20,12 @@ use Rattle.sg_engine.specs.Numbers.{AllUnder}
 use Rattle.sg_engine.specs.History.{entry_number}
 use Rattle.sg_engine.specs.Engine.{Origin, entries, IsStanding}
 use Rattle.sg_engine.specs.Running.{IsEngine, HasGoneOn, IsAllowed}
+use Rattle.sg_phys_laws.specs.Known.{IsRegistered}
 use Rattle.sg_phys_laws.specs.States.{AllAgree, homes_of, state_of}
 
--- a record that is no step: a checkpoint, whose estimate has to be allowed, or a line, which no log of page records has
+-- a record that is no step: a checkpoint, whose estimate has to be allowed
 abbrev pub is_no_step : Says → Bool
 is_no_step (Checkpoint estimate live) = true
-is_no_step (Line words) = true
 is_no_step _ = false
 
 -- which page a record changes, and how
@@ -72,12 +72,14 @@ pub record HasLogged (t : Table) (o : Origin) (w : View) (log : Tail) (ds all : 
   pub agrees : AllAgree t o ds (all ++ at_number lsn r ∷ [])
   pub above : AllUnder entry_number lsn (entries o all)
 
--- WHAT IS ASKED of a call that appends a record, where the disk tells
+-- WHAT IS ASKED of a call that appends a record, where the disk tells: that what it changes allows it, and that the operation which it names is
+-- registered
 pub record IsAsked (own given : Table) (o : Origin) (v : View) (log : Tail) (ds ps : List Numbered) (pool : Pool) (r : Record) : Type 0 where
   pub phys : IsPhys own o v log ds ps pool
   pub by : IsBy own o
   pub lawful : IsLawful own
   pub fits : IsFor own given (state_of (homes_of o (ds ++ ps))) (changed_by r.says)
+  pub registered : IsRegistered own r
 
 -- each image of each moment stands, from each redo point that was allowed
 abbrev pub Stood : Origin → (v w : View) → Tail → Pool → (ds all : List Numbered) → Type 0
@@ -88,10 +90,11 @@ abbrev pub StillAllowed : Origin → (v w : View) → (log log' : Tail) → (poo
 StillAllowed o v w log log' pool pool' = (k : ℕ) → IsAllowed o v log pool k → IsAllowed o w log' pool' k
 
 -- A CALL FOR THE RECORD, whatever it answers: at each moment an image stands for some front of the records, or of these with this one more, of
--- this number
+-- this number, whose operation is registered
 pub record HasRun (t : Table) (o : Origin) (v w : View) (log log' : Tail) (pool pool' : Pool) (ds all : List Numbered) (r : Record) (lsn : ℕ) (result : Result ℕ EngineFault) : Type 0 where
   pub moments : Stood o v w log pool ds all ⊎ (AllAgree t o ds (all ++ at_number lsn r ∷ []) × Stood o v w log pool ds (all ++ at_number lsn r ∷ []))
   pub allowed : OnOk result (StillAllowed o v w log log' pool pool')
+  pub registered : IsRegistered t r
 
 -- A CALL THAT APPENDS NOTHING and answers
 pub record HasRested (o : Origin) (v w : View) (log log' : Tail) (pool pool' : Pool) (ds all : List Numbered) : Type 0 where
@@ -103,3 +106,4 @@ pub record IsWrite (own : Table) (o : Origin) (v : View) (log : Tail) (ds ps : L
   pub phys : IsPhys own o v log ds ps pool
   pub by : IsBy own o
   pub says : WritesBytes own r b at bytes
+  pub registered : IsRegistered own r

@@ -9,6 +9,8 @@ use Rattle.sg_action.specs.States.{State}
 use Rattle.sg_engine.specs.Engine.{Origin}
 use Rattle.sg_engine.specs.Running.{IsAllowed}
 use Rattle.sg_actions.specs.Steps.{repeated}
+use Rattle.sg_phys_laws.specs.Formed.{AreFormed}
+use Rattle.sg_phys_laws.specs.Known.{AllEnough}
 use Rattle.sg_phys_laws.specs.Logged.{IsPhys}
 use Rattle.sg_phys_laws.specs.Points.{ArePoints}
 use Rattle.sg_phys_laws.specs.Reading.{durable_in, waiting_in}
@@ -24,8 +26,10 @@ IsNow t o v log pool = IsPhys t o v log (durable_in v log) (waiting_in log) pool
 abbrev pub AreSaid : Table → (from : State) → Origin → List Numbered → Type 0
 AreSaid t from o ns = cut_at o.super (state_of (homes_of o ns)) ≡ repeated t from (steps_of ns)
 
--- AND THE POINTS of its log are allowed
+-- AND THE POINTS of its log are allowed, what a crash leaves of it is a formed log, and enough operations are registered for an opening of that
 pub record IsPoised (t : Table) (from : State) (o : Origin) (v : View) (log : Tail) (pool : Pool) : Type 0 where
   pub now : IsNow t o v log pool
   pub points : ArePoints o (IsAllowed o v log pool) (durable_in v log) (durable_in v log ++ waiting_in log)
   pub said : AreSaid t from o (durable_in v log)
+  pub formed : AreFormed o.super.base (durable_in v log) (durable_in v log ++ waiting_in log)
+  pub enough : AllEnough t o.super.base (durable_in v log) (durable_in v log ++ waiting_in log)

@@ -11,6 +11,7 @@ use Rattle.sg_gate.specs.declared.fault.GateFault.{GateFault}
 use Rattle.sg_log.specs.Frames.{Numbered, HasRecords, LOG_END}
 use Rattle.sg_record.specs.Changes.{Change as Changing}
 use Rattle.sg_record.specs.Changes.Change.{Page, SegWrite, SegOp}
+use Rattle.sg_recovery.specs.Formed.{IsLog}
 use Rattle.sg_recovery.specs.Log.Record.{Change, PhysComp}
 use Rattle.sg_ops.specs.Table.{Table}
 use Rattle.sg_action.specs.States.{State, Extent}
@@ -20,6 +21,7 @@ use Rattle.sg_engine.specs.Effects.{effect_in}
 use Rattle.sg_engine.specs.Engine.{Origin, entries, geometry, log_area, IsStanding}
 use Rattle.sg_actions.specs.Steps.{Step, Steps, repeated}
 use Rattle.sg_phys_laws.specs.Images.{homes_in}
+use Rattle.sg_phys_laws.specs.Known.{IsEnough}
 use Rattle.sg_phys_laws.specs.Listed.{listed}
 use Rattle.sg_phys_laws.specs.Points.{redo_point, AreMarked}
 use Rattle.sg_phys_laws.specs.Reading.{frames_read}
@@ -74,11 +76,14 @@ pub record IsSoundImage (o : Origin) (k : ℕ) (ns : List Numbered) (c : Image) 
   pub history : IsHistory (geometry o.super) (home_in (geometry o.super) (laid (c Home))) (entries o ns)
   pub low : AreMarked (λ k. Unit {0}) ns
 
--- THE IMAGE'S LOG holds these steps, and with history repeated from its redo point its pages and bands say this. It is sound
-pub record Recovers (o : Origin) (c : Image) (front : Steps) (x : State) : Type 0 where
+-- THE IMAGE'S LOG holds these steps, and with history repeated from its redo point its pages and bands say this. It is sound, the log is formed, and
+-- by this table enough operations are registered for an opening of it
+pub record Recovers (t : Table) (o : Origin) (c : Image) (front : Steps) (x : State) : Type 0 where
   pub records : front ≡ steps_of (records_in o c)
   pub state : x ≡ said_in o c
   pub sound : ∥ IsSoundImage o (point_in o c) (records_in o c) c ∥₁
+  pub formed : ∥ IsLog o.super.base front ∥₁
+  pub registered : IsEnough t o.super.base (records_in o c)
 
 -- AN IMAGE STANDS FROM ITS OWN REDO POINT: that of the records of its log, whose checkpoints estimate no more than their own numbers
 pub record StandsOwn (o : Origin) (ds all : List Numbered) (c : Image) : Type 0 where
@@ -101,5 +106,5 @@ origin_of t c = record { effect = effect_in t; super = super_in c; first = home_
 
 -- THE SAME OF AN IMAGE AND A TABLE alone: the store's `recovers`. The steps lead to these pages and bands from some others
 pub record RecoversBy (t : Table) (c : Image) (front : Steps) (x : State) : Type 0 where
-  pub holds : Recovers (origin_of t c) c front x
+  pub holds : Recovers t (origin_of t c) c front x
   pub leads : (from : State) × (x ≡ repeated t from front)

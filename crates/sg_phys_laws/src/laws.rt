@@ -11,6 +11,9 @@ ghost use Rattle.sg_engine.specs.Engine.{Origin};
 ghost use Rattle.sg_engine.specs.Running.{IsEngine, IsAllowed};
 ghost use Rattle.sg_actions.specs.Images.{IsImageOf};
 ghost use Rattle.sg_actions.specs.Steps.{Steps, repeated};
+ghost use Rattle.sg_recovery.specs.Formed.{IsLog};
+ghost use Rattle.sg_phys_laws.specs.Formed.{AreFormed};
+ghost use Rattle.sg_phys_laws.specs.Known.{IsEnough, AllEnough};
 ghost use Rattle.sg_phys_laws.specs.Poised.{IsPoised, AreSaid};
 ghost use Rattle.sg_phys_laws.specs.Points.{redo_point, AreMarked};
 ghost use Rattle.sg_phys_laws.specs.Reading.{durable_in, waiting_in};
@@ -31,15 +34,16 @@ pub fn records_are_read()
 {}
 
 /// A law: an image that stands from its own redo point holds a front of the steps with all that were
-/// durable, and its pages and bands come to what these make.
+/// durable, which is a formed log for which enough operations are registered where each such front is, and its pages
+/// and bands come to what these make.
 pub fn images_recover()
-    ensures { (t : Table) (from : State) (o : Origin) (ds all : List Numbered) (c : Image) → IsBy t o → AllAgree t o ds all → AreSaid t from o ds → StandsOwn o ds all c
-        → IsImageOf (Recovers o) t from (steps_of ds) (steps_of all) c }
+    ensures { (t : Table) (from : State) (o : Origin) (ds all : List Numbered) (c : Image) → IsBy t o → AllAgree t o ds all → AreSaid t from o ds → AreFormed o.super.base ds all → AllEnough t o.super.base ds all → StandsOwn o ds all c
+        → IsImageOf (Recovers t o) t from (steps_of ds) (steps_of all) c }
 {}
 
 /// A law: an image holds one list of steps, and comes to one state.
 pub fn recovers_one()
-    ensures { (o : Origin) (c : Image) (l m : Steps) (x y : State) → Recovers o c l x → Recovers o c m y → (l ≡ m) × (x ≡ y) }
+    ensures { (t : Table) (o : Origin) (c : Image) (l m : Steps) (x y : State) → Recovers t o c l x → Recovers t o c m y → (l ≡ m) × (x ≡ y) }
 {}
 
 /// A law: steps change no number of pages or bands, and what an image comes to has as many of each as its
@@ -50,9 +54,9 @@ pub fn sizes_stay()
 {}
 
 /// A law: an engine that was opened, or made, can be the engine under the actions: what its records made
-/// of the home area that was read is what their steps make of what the store first said, and the redo
-/// point of its log is allowed.
+/// of the home area that was read is what their steps make of what the store first said, these are a
+/// formed log for which enough operations are registered, and its redo point is allowed.
 pub fn opened_is_poised()
-    ensures { (t : Table) (from : State) (o : Origin) (v : View) (log : Tail) (rs : List Numbered) (pool : Pool) → IsEngine o v log rs [] pool → AreSaid t from o rs → AreMarked (λ k. Unit {0}) rs
+    ensures { (t : Table) (from : State) (o : Origin) (v : View) (log : Tail) (rs : List Numbered) (pool : Pool) → IsEngine o v log rs [] pool → AreSaid t from o rs → ∥ IsLog o.super.base (steps_of rs) ∥₁ → IsEnough t o.super.base rs → AreMarked (λ k. Unit {0}) rs
         → IsAllowed o v log pool (redo_point o.super.base rs) → IsPoised t from o v log pool }
 {}

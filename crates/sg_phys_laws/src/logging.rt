@@ -16,7 +16,7 @@ ghost use Rattle.sg_engine.specs.Engine.{Origin};
 ghost use Rattle.sg_redo.specs.Leaf.{LinksFit};
 ghost use Rattle.sg_actions.specs.Handing.{HandsOver};
 ghost use Rattle.sg_base.specs.Ends.{HasRisen};
-ghost use Rattle.sg_engine.specs.Calls.{WaitsFrame};
+ghost use Rattle.sg_engine.specs.Calls.{WaitsFrame, StandsMeanwhile};
 ghost use Rattle.sg_pool.specs.Pooled.{sizes};
 ghost use Rattle.sg_phys_laws.specs.Counted.{HasCounted, FailsFor};
 ghost use Rattle.sg_phys_laws.specs.Waiting.{waiting_of};
@@ -86,6 +86,9 @@ pub fn log_plain<D: Disk>(
         → OnOk result (HasLogged own o (D.view engine.new.disk) engine.new.log ds (ds ++ ps) (shown r.now) tried.new engine.new.pool) }
     ensures runs { (own given : Table) (o : Origin) (ds ps : List Numbered) → IsTrue D.told → IsAsked own given o (D.view engine.old.disk) engine.old.log ds ps engine.old.pool (shown r.now)
         → HasRun own o (D.view engine.old.disk) (D.view engine.new.disk) engine.old.log engine.new.log engine.old.pool engine.new.pool ds (ds ++ ps) (shown r.now) tried.new result }
+    // The record itself isn't durable before the next force.
+    ensures stood { StandsMeanwhile D.told (D.view engine.old.disk) engine.old.log engine.old.pool (D.view engine.new.disk) }
+    ensures pool { engine.new.pool ≡ engine.old.pool }
 {
     *tried = engine.place(r);
     engine.append(r)

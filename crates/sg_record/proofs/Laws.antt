@@ -13,7 +13,7 @@ use Rattle.sg_record.specs.declared.kind.Kind.TheVariants as kinds
 use Rattle.sg_record.specs.Changes.{Change, BandBytes, page_made, page_parts, page_layout, page_form, bytes_made, bytes_parts, bytes_layout, write_form, rewrite_form, op_made, op_parts, op_layout, op_form, change_kind, change_bytes, ChangeFits, read_change}
 use Rattle.sg_record.specs.Changes.Change.{Page, SegWrite, SegOp}
 use Rattle.sg_record.specs.Records.{Says, kind_of, code_of, body_of, SaysFits, note_form, live_layout, live_parts, live_form}
-use Rattle.sg_record.specs.Records.Says.{Begin, Changed, TopEnd, PhysComp, TopVoid, CompEnd, Save, Commit, End, Checkpoint, Line}
+use Rattle.sg_record.specs.Records.Says.{Begin, Changed, TopEnd, PhysComp, TopVoid, CompEnd, Save, Commit, End, Checkpoint}
 use Rattle.sg_record.specs.Reading.{kind_with, all_kinds, read_held, read_taken_off, read_bare, read_says}
 
 page_exact : IsExact page_form
@@ -110,7 +110,6 @@ kind_back kinds.Save = refl
 kind_back kinds.Commit = refl
 kind_back kinds.End = refl
 kind_back kinds.Checkpoint = refl
-kind_back kinds.Line = refl
 
 code_small : (kind : Kind) → code_of kind < 256
 code_small kinds.Begin = omega arith
@@ -174,7 +173,6 @@ says_only kinds.Save bytes says are h = read_as (number 2) Save (IsSaid kinds.Sa
 says_only kinds.Commit bytes says are h = bare_only kinds.Commit Commit bytes says h (λ is. record { fits = tt; kind_is = refl; text_is = is })
 says_only kinds.End bytes says are h = bare_only kinds.End End bytes says h (λ is. record { fits = tt; kind_is = refl; text_is = is })
 says_only kinds.Checkpoint bytes says are h = read_as live_form (λ p. Checkpoint p.0 p.1) (IsSaid kinds.Checkpoint bytes) bytes says live_exact are (λ p fits is. record { fits = fits; kind_is = refl; text_is = is }) h
-says_only kinds.Line bytes says are h = subst (IsSaid kinds.Line bytes) (same_Some (Line bytes) says h) (record { fits = tt; kind_is = refl; text_is = refl })
 
 taken_off_back : (undo_next : ℕ) (change : Change) → undo_next < 2 ^ 64 → ChangeFits rewrite_form change → read_taken_off (body_of (PhysComp undo_next change)) ≡ Some (PhysComp undo_next change)
 taken_off_back undo_next change low fits =
@@ -200,4 +198,3 @@ says_back (Save mark) fits = ap (option_map Save) (read_all-back (number 2) mark
 says_back Commit fits = refl
 says_back End fits = refl
 says_back (Checkpoint estimate live) fits = ap (option_map (λ p. Checkpoint p.0 p.1)) (read_all-back live_form (estimate, live) live_exact fits)
-says_back (Line words) fits = refl

@@ -1,5 +1,4 @@
 pub mod Laws
 pub mod Parsing
 pub mod Read
-pub mod PlainLaws
 pub mod Written

@@ -13,11 +13,11 @@ use Rattle.sg_record.specs.declared.kind.Kind.{Kind}
 use Rattle.sg_record.specs.declared.record.RecError.{RecError}
 use Rattle.sg_record.specs.declared.record.RecError.TheVariants.{Short, BadField}
 use Rattle.sg_record.specs.Records.{Record, Says, HEADER, header, kind_of, code_of, body_of, SaysFits, spelled}
-use Rattle.sg_record.specs.Records.Says.{Changed, PhysComp, Line}
+use Rattle.sg_record.specs.Records.Says.{Changed, PhysComp}
 use Rattle.sg_base.specs.Forms.{Form}
 use Rattle.sg_record.specs.Changes.{Change, BandBytes, ChangeFits, write_form, rewrite_form}
 use Rattle.sg_record.specs.Changes.Change.{Page, SegWrite, SegOp}
-use Rattle.sg_record.specs.Ranges.{IsRecord, out_of_range, greatest, first_out, says_fields, ArgsFit, HasArgs}
+use Rattle.sg_record.specs.Ranges.{IsRecord, GREATEST, out_of_range, first_out, says_fields, ArgsFit, HasArgs}
 use Rattle.sg_record.specs.Reading.{kind_with, read_says, size_at, transaction_at, previous_at, body_at, in_range, parse_says, parse_kind, parse}
 use Rattle.sg_record.proofs.Laws.{kind_only, kind_back, says_only, says_back}
 
@@ -158,23 +158,18 @@ parse_only bytes r size are h =
     } in
     subst (λ (x : Record). Spells x size (take size bytes)) p.is (subst (λ (n : ℕ). Spells (record_at bytes p.says) n (take n bytes)) p.size_is all)
 
-greatest-most : (says : Says) → greatest says ≤ 32789
-greatest-most (Line words) = omega arith
-greatest-most _ = omega arith
-
 first_holds : (b : Bool) (at : ℕ) (o : Option ℕ) → cond b o (Some at) ≡ None → b ≡ true
 first_holds true at o h = refl
 first_holds false at o h = absurd (cc)
 
 -- a record has at most so many bytes behind its header
-pub body_most : (r : Record) → IsRecord r → HEADER + length (body_of r.says) ≤ 32789
+pub body_most : (r : Record) → IsRecord r → HEADER + length (body_of r.says) ≤ GREATEST
 body_most r h =
-    let b : nat_le (HEADER + length (body_of r.says)) (greatest r.says) ≡ true = first_holds (nat_le (HEADER + length (body_of r.says)) (greatest r.says)) 1 (first_out (says_fields r.transaction r.previous r.says)) h.ranges in
-    let most : HEADER + length (body_of r.says) ≤ greatest r.says = grind (arith, nat_tests, b) in
-    omega (arith, greatest-most r.says)
+    let b : nat_le (HEADER + length (body_of r.says)) GREATEST ≡ true = first_holds (nat_le (HEADER + length (body_of r.says)) GREATEST) 1 (first_out (says_fields r.transaction r.previous r.says)) h.ranges in
+    grind (arith, nat_tests, b)
 
-line_body : (size : ℕ) (front body rest : List ℕ) → length front ≡ HEADER → size ≡ HEADER + length body → take (size - HEADER) (drop HEADER (front ++ (body ++ rest))) ≡ body
-line_body size front body rest long is =
+body_within : (size : ℕ) (front body rest : List ℕ) → length front ≡ HEADER → size ≡ HEADER + length body → take (size - HEADER) (drop HEADER (front ++ (body ++ rest))) ≡ body
+body_within size front body rest long is =
     let n : size - HEADER ≡ length body = omega arith in
     ap (λ (k : ℕ). take (size - HEADER) (drop k (front ++ (body ++ rest)))) (sym long)
     ∙ (ap (take (size - HEADER)) (drop-append_seam front (body ++ rest)) ∙ (ap (λ (k : ℕ). take k (body ++ rest)) n ∙ take-append_seam body rest))
@@ -188,11 +183,11 @@ parse_back r rest h =
     let code : ℕ = code_of (kind_of r.says) in
     let head : List ℕ = header code size r.transaction r.previous in
     let bytes : List ℕ = head ++ (body ++ rest) in
-    let most : size ≤ 32789 = body_most r h in
+    let most : size ≤ GREATEST = body_most r h in
     let size_is : size_at bytes ≡ size = little_number-reads_back 4 size (little_bytes 8 r.transaction ++ (little_bytes 8 r.previous ++ (body ++ rest))) (omega arith) in
     let t_is : transaction_at bytes ≡ r.transaction = little_number-reads_back 8 r.transaction (little_bytes 8 r.previous ++ (body ++ rest)) h.transaction in
     let p_is : previous_at bytes ≡ r.previous = little_number-reads_back 8 r.previous (body ++ rest) h.previous in
-    let body_is : body_at bytes ≡ body = line_body (size_at bytes) head body rest refl size_is in
+    let body_is : body_at bytes ≡ body = body_within (size_at bytes) head body rest refl size_is in
     let all : length (body ++ rest) ≡ length body + length rest = length-append body rest in
     let long : length (head ++ body) ≡ size = length-append head body in
     let same : record_at bytes r.says ≡ r = ap (λ (n : ℕ). let x : Record = record { transaction = n; previous = previous_at bytes; says = r.says } in x) t_is ∙ ap (λ (n : ℕ). let x : Record = record { transaction = r.transaction; previous = n; says = r.says } in x) p_is in

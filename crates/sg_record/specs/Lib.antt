@@ -4,4 +4,3 @@ pub mod Ranges
 pub mod Texts
 pub mod Reading
 pub mod Shown
-pub mod Plain

@@ -4,7 +4,7 @@ use Rattle.sg_base.specs.declared.page.TheConstants.{BAND_SIZE}
 use Rattle.sg_record.specs.Changes.{Change, PageChange, BandBytes, BandOp}
 use Rattle.sg_record.specs.Changes.Change.{Page, SegWrite, SegOp}
 use Rattle.sg_record.specs.Records.{Record, Says, HEADER, body_of, SaysFits}
-use Rattle.sg_record.specs.Records.Says.{Begin, Changed, TopEnd, PhysComp, TopVoid, CompEnd, Save, Commit, End, Checkpoint, Line}
+use Rattle.sg_record.specs.Records.Says.{Begin, Changed, TopEnd, PhysComp, TopVoid, CompEnd, Save, Commit, End, Checkpoint}
 
 -- a field's offset in the record, and whether it is in its range
 abbrev pub Field : Type 0
@@ -99,16 +99,14 @@ says_fields transaction previous (Save mark) = (21, nat_le 1 mark && nat_le mark
 says_fields transaction previous Commit = []
 says_fields transaction previous End = []
 says_fields transaction previous (Checkpoint estimate live) = (5, transaction == 0) ∷ (13, previous == 0) ∷ (29, nat_le (length live) 1024) ∷ []
-says_fields transaction previous (Line words) = []
 
--- the most bytes of a record
-abbrev pub greatest : Says → ℕ
-greatest (Line words) = 32789
-greatest _ = 16417
+-- the most bytes of a record: those of a write of 8,192 bytes of a band with the bytes before it
+abbrev pub GREATEST : ℕ
+GREATEST = 16417
 
 -- the offset of a record's first field that isn't in its range. The length of the whole record is the first
 abbrev pub out_of_range : Record → Option ℕ
-out_of_range r = first_out ((1, nat_le (HEADER + length (body_of r.says)) (greatest r.says)) ∷ says_fields r.transaction r.previous r.says)
+out_of_range r = first_out ((1, nat_le (HEADER + length (body_of r.says)) GREATEST) ∷ says_fields r.transaction r.previous r.says)
 
 -- an argument's length has 2 bytes
 abbrev pub ArgsFit : Change → Type 0

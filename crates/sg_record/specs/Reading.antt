@@ -7,13 +7,13 @@ use Rattle.sg_record.specs.declared.kind.Kind.{Kind}
 use Rattle.sg_record.specs.declared.kind.Kind.TheVariants as kinds
 use Rattle.sg_record.specs.Changes.{Change, write_form, rewrite_form, read_change}
 use Rattle.sg_record.specs.Records.{Record, Says, HEADER, code_of, note_form, live_form}
-use Rattle.sg_record.specs.Records.Says.{Begin, Changed, TopEnd, PhysComp, TopVoid, CompEnd, Save, Commit, End, Checkpoint, Line}
+use Rattle.sg_record.specs.Records.Says.{Begin, Changed, TopEnd, PhysComp, TopVoid, CompEnd, Save, Commit, End, Checkpoint}
 use Rattle.sg_record.specs.Ranges.{out_of_range}
 use Rattle.sg_record.specs.declared.record.RecError.{RecError}
 use Rattle.sg_record.specs.declared.record.RecError.TheVariants.{Short, BadKind, BadField}
 
 abbrev pub all_kinds : List Kind
-all_kinds = kinds.Begin ∷ kinds.Page ∷ kinds.SegWrite ∷ kinds.SegOp ∷ kinds.TopEnd ∷ kinds.PhysComp ∷ kinds.TopVoid ∷ kinds.CompEnd ∷ kinds.Save ∷ kinds.Commit ∷ kinds.End ∷ kinds.Checkpoint ∷ kinds.Line ∷ []
+all_kinds = kinds.Begin ∷ kinds.Page ∷ kinds.SegWrite ∷ kinds.SegOp ∷ kinds.TopEnd ∷ kinds.PhysComp ∷ kinds.TopVoid ∷ kinds.CompEnd ∷ kinds.Save ∷ kinds.Commit ∷ kinds.End ∷ kinds.Checkpoint ∷ []
 
 -- the kind with this byte, if there is one
 abbrev pub kind_with : ℕ → Option Kind
@@ -46,7 +46,6 @@ read_says kinds.Save bytes = option_map Save (read_all (number 2) bytes)
 read_says kinds.Commit bytes = read_bare Commit bytes
 read_says kinds.End bytes = read_bare End bytes
 read_says kinds.Checkpoint bytes = option_map (λ p. Checkpoint p.0 p.1) (read_all live_form bytes)
-read_says kinds.Line bytes = Some (Line bytes)
 
 -- The offset of the field that is at fault where a record of this kind can't be read. It is that of the length of the whole
 -- record, which isn't that of the fields; or the kind of the change that is held, where there is no such one.

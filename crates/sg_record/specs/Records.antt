@@ -23,8 +23,6 @@ pub data Says : Type 0 where
   End : Says
   -- from where on a log is read again, and the numbers and last records of the live transactions
   Checkpoint : (estimate : ℕ) → (live : List ℕ) → Says
-  -- a changing line of a script, without the transaction's name
-  Line : (words : List ℕ) → Says
 
 -- Each record is of one transaction, and names that transaction's record before it (0 for its first).
 -- A transaction's number is the number of its begin record's first byte in the log.
@@ -44,7 +42,6 @@ kind_of (Save mark) = kinds.Save
 kind_of Commit = kinds.Commit
 kind_of End = kinds.End
 kind_of (Checkpoint estimate live) = kinds.Checkpoint
-kind_of (Line words) = kinds.Line
 
 -- a kind's byte
 abbrev pub code_of : Kind → ℕ
@@ -60,7 +57,6 @@ code_of kinds.Save = 9
 code_of kinds.Commit = 10
 code_of kinds.End = 11
 code_of kinds.Checkpoint = 12
-code_of kinds.Line = 13
 
 -- a record's number and a note behind its length
 abbrev pub note_form : Form (ℕ × List ℕ)
@@ -89,7 +85,6 @@ body_of (Save mark) = little_bytes 2 mark
 body_of Commit = []
 body_of End = []
 body_of (Checkpoint estimate live) = live_form.spell (estimate, live)
-body_of (Line words) = words
 
 -- the bytes of a record's header
 abbrev pub HEADER : ℕ
@@ -115,4 +110,3 @@ SaysFits (Save mark) = mark < 2 ^ 16
 SaysFits Commit = ⊤
 SaysFits End = ⊤
 SaysFits (Checkpoint estimate live) = live_form.Fits (estimate, live)
-SaysFits (Line words) = ⊤

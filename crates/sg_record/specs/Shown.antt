@@ -3,7 +3,7 @@ use Rattle.std.specs.Prelude.{ℕ, Result, Ok, Err}
 use Rattle.sg_record.specs.Changes.{Change, PageChange, BandBytes, BandOp}
 use Rattle.sg_record.specs.Changes.Change.{Page, SegWrite, SegOp}
 use Rattle.sg_record.specs.Records.{Record, Says}
-use Rattle.sg_record.specs.Records.Says.{Begin, Changed, TopEnd, PhysComp, TopVoid, CompEnd, Save, Commit, End, Checkpoint, Line}
+use Rattle.sg_record.specs.Records.Says.{Begin, Changed, TopEnd, PhysComp, TopVoid, CompEnd, Save, Commit, End, Checkpoint}
 use Rattle.sg_record.specs.declared.record.PageChange as code_page
 use Rattle.sg_record.specs.declared.record.BandBytes as code_bytes
 use Rattle.sg_record.specs.declared.record.BandOp as code_op
@@ -40,7 +40,6 @@ shown_says (parts.Save mark) = Save mark
 shown_says parts.Commit = Commit
 shown_says parts.End = End
 shown_says (parts.Checkpoint estimate live) = Checkpoint estimate live.now
-shown_says (parts.Line words) = Line words.now
 
 abbrev pub by : (transaction previous : ℕ) → Says → Record
 by transaction previous says = record { transaction = transaction; previous = previous; says = says }
@@ -58,7 +57,6 @@ shown (records.Save txn prev mark) = by txn.0 prev (Save mark)
 shown (records.Commit txn prev) = by txn.0 prev Commit
 shown (records.End txn prev) = by txn.0 prev End
 shown (records.Checkpoint estimate live) = by 0 0 (Checkpoint estimate live.now)
-shown (records.Line txn prev words) = by txn.0 prev (Line words.now)
 
 -- the record that was read and its length, or why there is none
 abbrev pub shown_read : {E : Type 0} → Result (code.Rec × ℕ) E → Result (Record × ℕ) E

@@ -1,5 +1,5 @@
 -- That a record's texts are as long as its lengths can say.
-use Rattle.std.specs.Prelude.{ℕ, ◌<◌, ◌^◌, Bool, length}
+use Rattle.std.specs.Prelude.{◌<◌, ◌^◌, Bool, length}
 use Rattle.sg_record.specs.Changes.{Change, band_form, change_bytes, ChangeFits}
 use Rattle.sg_record.specs.Ranges.{ArgsFit}
 

@@ -208,6 +208,5 @@ pub fn says(kind: Kind, bytes: &[u8]) -> Option<Says<'_>>
         Kind::Commit => bare(Says::Commit, bytes),
         Kind::End => bare(Says::End, bytes),
         Kind::Checkpoint => checkpoint(bytes),
-        Kind::Line => Some(Says::Line { words: bytes }),
     }
 }

@@ -17,7 +17,6 @@ pub enum Kind {
     Commit,
     End,
     Checkpoint,
-    Line,
 }
 
 /// The kind with this byte.
@@ -37,7 +36,6 @@ pub fn kind_with(code: u8) -> Option<Kind>
         10 => Some(Kind::Commit),
         11 => Some(Kind::End),
         12 => Some(Kind::Checkpoint),
-        13 => Some(Kind::Line),
         _ => None,
     }
 }
@@ -59,6 +57,5 @@ pub fn code_of(kind: Kind) -> u8
         Kind::Commit => 10,
         Kind::End => 11,
         Kind::Checkpoint => 12,
-        Kind::Line => 13,
     }
 }

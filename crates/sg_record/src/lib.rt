@@ -3,13 +3,11 @@
 //! It stands on `sg_base` and `byteorder`. It promises that `encode` writes a record's spelling, that
 //! `decode` accepts exactly the spellings of records whose fields are in their ranges, gives back the
 //! record that was encoded whatever follows it, and tells each other text apart by its first fault.
-//! `plain` has the records of the plain store, which are those of three kinds.
 #![tactic(auto)]
 
 mod bodies;
 mod fits;
 mod kind;
-pub mod plain;
 mod ranges;
 mod reader;
 mod record;

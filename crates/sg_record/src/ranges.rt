@@ -1,6 +1,6 @@
 // Which of a record's fields is the first that is out of its range.
 ghost use Rattle.std.specs.Prelude.{◌≡◌, ◌+◌, ◌<◌, ◌^◌, length};
-ghost use Rattle.sg_record.specs.Ranges.{first_out, before_fits, after_fits, is_part, code_fits, position_fits, arg_fits, op_before_fits, page_fields, bytes_fields, op_fields, ArgsFit, HasArgs, change_fields, says_fields, greatest, out_of_range};
+ghost use Rattle.sg_record.specs.Ranges.{first_out, before_fits, after_fits, is_part, code_fits, position_fits, arg_fits, op_before_fits, page_fields, bytes_fields, op_fields, ArgsFit, HasArgs, change_fields, says_fields, out_of_range};
 ghost use Rattle.sg_record.specs.Records.{HEADER, body_of};
 ghost use Rattle.sg_record.specs.Shown.{shown_page, shown_bytes, shown_op, shown_change, shown_says, by};
 
@@ -169,23 +169,13 @@ fn out_of_says(txn: TxnId, prev: Lsn, says: &Says<'_>) -> Option<u32>
         Says::Checkpoint { live, .. } => {
             first_out(&[(5, txn.0 == 0), (13, prev == 0), (29, live.len() <= 1_024)])
         }
-        Says::Begin
-        | Says::TopVoid { .. }
-        | Says::CompEnd { .. }
-        | Says::Commit
-        | Says::End
-        | Says::Line { .. } => None,
+        Says::Begin | Says::TopVoid { .. } | Says::CompEnd { .. } | Says::Commit | Says::End =>
+            None,
     }
 }
 
-fn greatest(says: &Says<'_>) -> usize
-    ensures { result ≡ greatest (shown_says says.now) }
-{
-    match says {
-        Says::Line { .. } => 32_789,
-        _ => 16_417,
-    }
-}
+// The bytes of the greatest record, a write of 8,192 bytes of a band with those before it.
+const GREATEST: usize = 16_417;
 
 /// The offset of the first field that isn't in its range, of a record with so many bytes.
 pub fn out_of_range(txn: TxnId, prev: Lsn, says: &Says<'_>, size: usize) -> Option<u32>
@@ -193,7 +183,7 @@ pub fn out_of_range(txn: TxnId, prev: Lsn, says: &Says<'_>, size: usize) -> Opti
     requires args { HasArgs (shown_says says.now) }
     ensures { result ≡ out_of_range (by txn.0 prev (shown_says says.now)) }
 {
-    if size > greatest(says) {
+    if size > GREATEST {
         return Some(1);
     }
     out_of_says(txn, prev, says)

@@ -13,7 +13,7 @@ use crate::{HEADER_SIZE, Rec, RecError};
 use sg_base::{Lsn, TxnId, read_u32, read_u64};
 
 // Tells a proof that each element is below 256. It runs no code.
-pub fn are_bytes(xs: &[u8])
+fn are_bytes(xs: &[u8])
     ensures { IsBytes xs.now }
 {}
 
@@ -67,7 +67,6 @@ fn rec<'a>(txn: TxnId, prev: Lsn, says: Says<'a>) -> Rec<'a>
         Says::Commit => Rec::Commit { txn, prev },
         Says::End => Rec::End { txn, prev },
         Says::Checkpoint { estimate, live } => Rec::Checkpoint { estimate, live },
-        Says::Line { words } => Rec::Line { txn, prev, words },
     }
 }
 

@@ -1,4 +1,4 @@
-use crate::kind::{Kind, code_of};
+use crate::kind::Kind;
 use crate::says::Says;
 use sg_base::{BandNo, Lsn, PageNo, TxnId};
 
@@ -127,13 +127,6 @@ pub enum Rec<'a> {
         estimate: Lsn,
         live: &'a [u8],
     },
-    /// A changing line of a script: the words after the transaction's name, joined by single
-    /// spaces, at most 32,768 bytes.
-    Line {
-        txn: TxnId,
-        prev: Lsn,
-        words: &'a [u8],
-    },
 }
 
 /// Why some bytes don't begin with a record. The first that holds is told, in the order: `Short` of
@@ -180,7 +173,6 @@ impl<'a> Change<'a> {
 
 impl<'a> Rec<'a> {
     ghost use Rattle.std.specs.Prelude.{◌≡◌};
-    ghost use Rattle.sg_record.specs.Records.{code_of, kind_of};
     ghost use Rattle.sg_record.specs.Shown.{shown, shown_says};
 
     // Whose it is, and that transaction's record before it. A checkpoint is nobody's.
@@ -199,8 +191,7 @@ impl<'a> Rec<'a> {
             | Rec::CompEnd { txn, prev, .. }
             | Rec::Save { txn, prev, .. }
             | Rec::Commit { txn, prev }
-            | Rec::End { txn, prev }
-            | Rec::Line { txn, prev, .. } => (txn, prev),
+            | Rec::End { txn, prev } => (txn, prev),
             Rec::Checkpoint { .. } => (TxnId(0), 0),
         }
     }
@@ -217,13 +208,6 @@ impl<'a> Rec<'a> {
         ensures { result ≡ (shown self.now).previous }
     {
         self.owner().1
-    }
-
-    // The byte of its kind.
-    pub(crate) fn kind_code(&self) -> u8
-        ensures { result ≡ code_of (kind_of (shown self.now).says) }
-    {
-        code_of(self.says().kind())
     }
 
     // What it says, but for whose it is.
@@ -251,7 +235,6 @@ impl<'a> Rec<'a> {
             Rec::Commit { .. } => Says::Commit,
             Rec::End { .. } => Says::End,
             Rec::Checkpoint { estimate, live } => Says::Checkpoint { estimate, live },
-            Rec::Line { words, .. } => Says::Line { words },
         }
     }
 }

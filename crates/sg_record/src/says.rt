@@ -15,7 +15,6 @@ pub enum Says<'a> {
     Commit,
     End,
     Checkpoint { estimate: Lsn, live: &'a [u8] },
-    Line { words: &'a [u8] },
 }
 
 impl<'a> Says<'a> {
@@ -37,7 +36,6 @@ impl<'a> Says<'a> {
             Says::Commit => Kind::Commit,
             Says::End => Kind::End,
             Says::Checkpoint { .. } => Kind::Checkpoint,
-            Says::Line { .. } => Kind::Line,
         }
     }
 }

@@ -103,14 +103,13 @@ fn put_says(into: &mut [u8], at: usize, says: &Says<'_>) -> usize
             let at = put_u16(into, at, (live.len() / 16) as u16);
             put_text(into, at, live)
         }
-        Says::Line { words } => put_text(into, at, words),
     }
 }
 
-/// Writes a record's header, which begins with the byte of its kind, and answers the place behind it.
-/// The other bytes stay.
+// Writes a record's header, which begins with the byte of its kind, and answers the place behind it.
+// The other bytes stay.
 #[inline(always)]
-pub fn put_header(into: &mut [u8], kind: u8, size: u32, txn: TxnId, prev: Lsn) -> usize
+fn put_header(into: &mut [u8], kind: u8, size: u32, txn: TxnId, prev: Lsn) -> usize
     requires { HEADER ≤ length into.old }
     ensures { Wrote into.old 0 (header kind size txn.0 prev) into.new result }
 {
@@ -145,7 +144,6 @@ pub(crate) fn body_size(says: &Says<'_>) -> usize
         Says::TopVoid { .. } | Says::CompEnd { .. } => 8,
         Says::Save { .. } => 2,
         Says::Checkpoint { live, .. } => 10 + live.len(),
-        Says::Line { words } => words.len(),
     }
 }
 

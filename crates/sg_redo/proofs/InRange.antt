@@ -3,7 +3,7 @@ use Rattle.std.proofs.Common.{◌≡◌, ◌≤◌, ◌+◌, ℕ, Bool, true, fa
 use Rattle.std.proofs.lemmas.Bool.Decides.{nat_tests}
 use Rattle.sg_record.specs.Changes.{PageChange, BandBytes, BandOp}
 use Rattle.sg_record.specs.Changes.Change.{Page, SegWrite, SegOp}
-use Rattle.sg_record.specs.Ranges.{Field, first_out, change_fields, says_fields, is_part, position_fits, greatest, IsRecord}
+use Rattle.sg_record.specs.Ranges.{Field, first_out, change_fields, says_fields, is_part, position_fits, GREATEST, IsRecord}
 use Rattle.sg_record.specs.Records.{Record, Says, HEADER, body_of, SaysFits}
 use Rattle.sg_record.specs.Records.Says.{Changed, PhysComp}
 use Rattle.sg_redo.specs.Places.{changed_by, IsInRange}
@@ -50,4 +50,4 @@ says_in transaction previous (PhysComp undo_next (SegOp c)) e fits = op_in true 
 says_in transaction previous _ e fits = tt
 
 pub record_in : (r : Record) → IsRecord r → IfSome (changed_by r.says) IsInRange
-record_in r is = says_in r.transaction r.previous r.says (either (nat_le (HEADER + length (body_of r.says)) (greatest r.says)) 1 (first_out (says_fields r.transaction r.previous r.says)) is.ranges).1 is.fits
+record_in r is = says_in r.transaction r.previous r.says (either (nat_le (HEADER + length (body_of r.says)) GREATEST) 1 (first_out (says_fields r.transaction r.previous r.says)) is.ranges).1 is.fits

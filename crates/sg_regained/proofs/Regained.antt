@@ -235,7 +235,7 @@ on_ok_at {T} {F} {P} r x is h = subst (λ (q : Result T F). OnOk q P) is h
 
 -- WHAT WAS FOUND doesn't depend on the flags that are lent
 pub found_with : (a : Over) (room room' : Option Maps) → AsFound (lent a room) → AsFound (lent a room')
-found_with a room room' f = record { based = f.based; start = f.start; clear = f.clear; freed = f.freed; rows = f.rows; low = f.low; apart = f.apart; known = f.known; rest = f.rest; acts = f.acts }
+found_with a room room' f = record { based = f.based; start = f.start; clear = f.clear; freed = f.freed; rows = f.rows; low = f.low; apart = f.apart; known = f.known; quiet = f.quiet; rest = f.rest; acts = f.acts }
 
 -- A WALK MAY GO over so many pages and bands
 pub can_go_over : (room : Option Maps) (unfreed unfreed' : Maps) (pages bands pages' bands' : ℕ) → pages ≡ pages' → bands ≡ bands' → unfreed ≡ unfreed' → CanGoOver room unfreed' pages' bands' → CanGoOver room unfreed pages bands

@@ -1,8 +1,7 @@
 -- WHAT A TAKE-OFF HAS APPENDED, with looks behind it.
 use Rattle.std.proofs.Common.{◌≡◌, ℕ, Bool, true, false, [], ◌∷◌, ◌++◌, sym, ap, subst, ◌∙◌, refl}
-use Rattle.std.proofs.Common.{◌⊎◌, inl, inr, Some, None, Result, Ok, Err}
-use Rattle.std.specs.Prelude.{if◌then◌else◌, OnOk}
-use Rattle.sg_base.specs.declared.numbers.TxnId.{TxnId}
+use Rattle.std.proofs.Common.{◌⊎◌, inl, inr, Result, Ok, Err}
+use Rattle.std.specs.Prelude.{OnOk}
 use Rattle.sg_ops.specs.Table.{Table}
 use Rattle.sg_recovery.specs.Formed.{IsLog, IsUnfinished}
 use Rattle.sg_recovery.specs.Log.{tally}
@@ -101,15 +100,6 @@ one_lives txn log lsn x (inr h) = ap (λ (y : Step). (tally (stepped log lsn y))
 pub offs_live : (txn : ℕ) (made log : Steps) → AreOffSteps txn made log → (tally (made ++ log)).live ≡ (tally log).live
 offs_live txn [] log h = refl
 offs_live txn (r ∷ made) log h = one_lives txn (made ++ log) r.lsn r.is h.0 ∙ offs_live txn made log h.1
-
--- WHO ACTS
-pub nobody : (b : Bool) (x : TxnId) → (if b then Some x else None) ≡ None → b ≡ false
-nobody true x e = absurd cc
-nobody false x e = refl
-
-pub somebody : (b : Bool) (x y : TxnId) → (if b then Some x else None) ≡ Some y → b ≡ true
-somebody true x y e = refl
-somebody false x y e = absurd cc
 
 -- what holds where it ends well, of two clauses
 pub both_ok : {T E : Type 0} {P Q R : Type 0} (r : Result T E) → OnOk r P → OnOk r Q → (P → Q → R) → OnOk r R

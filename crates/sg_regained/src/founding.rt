@@ -159,7 +159,7 @@ pub fn found<E: Engine>(
         actor: actor_of(analysis.unfinished),
         rows,
         breaks: 0,
-        begun: analysis.unfinished.is_some(),
+        begun: false,
         count: pages,
         bands,
     });

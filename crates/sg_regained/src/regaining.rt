@@ -51,17 +51,14 @@ fn off_open<E: Engine>(acts: Acts<E>, ops: &Ops) -> WithoutEnd<E>
         TookOff (E.recovers t) t acts.actor.txn.0 (led from (E.view acts.engine)) (led from (E.view result.acts.engine)) }
     ensures rests { let t = table_of record_meaning range_meaning ops.now in (from : State) → E.means acts.engine t from →
         OnOk result.off (result.within ≡ true → (E.view result.acts.engine).Told → RestsAt (E.view result.acts.engine) result.acts.rows.items result.acts.actor) }
-    ensures begun { OnOk result.off (result.within ≡ true → result.acts.begun ≡ false) }
     ensures unfreed { result.acts.unfreed ≡ acts.unfreed }
 {
-    match acts.acting() {
-        None => {
-            let off = Ok(());
-            let within = true;
-            WithoutEnd { acts, off, within }
-        }
-        Some(_) => take_off(acts, ops),
+    if acts.has_last() {
+        return take_off(acts, ops);
     }
+    let off = Ok(());
+    let within = true;
+    WithoutEnd { acts, off, within }
 }
 
 // A space over an engine behind a take-off, how that ended, and whether the space can be gone on with: the action began
@@ -93,7 +90,6 @@ fn end_open<E: Engine>(acts: Acts<E>, ops: &Ops) -> OpenEnded<E>
         TookOff (E.recovers t) t acts.actor.txn.0 (led from (E.view acts.engine)) (led from (E.view result.acts.engine)) }
     ensures rests { let t = table_of record_meaning range_meaning ops.now in (from : State) → E.means acts.engine t from →
         OnOk result.off (result.goes_on ≡ true → (E.view result.acts.engine).Told → RestsAt (E.view result.acts.engine) result.acts.rows.items result.acts.actor) }
-    ensures begun { OnOk result.off (result.goes_on ≡ true → result.acts.begun ≡ false) }
     ensures unfreed { result.acts.unfreed ≡ acts.unfreed }
     ensures spare { result.goes_on ≡ true → EndVacant result.acts.rows.items }
 {
@@ -239,7 +235,7 @@ fn reach_all<E: Engine>(acts: Acts<E>, room: Option<Maps>) -> Result<Acts<E>, Un
     ensures unfreed { IfOk result (λ e. e.unfreed ≡ acts.unfreed) }
     ensures rows { IfOk result (λ e. e.rows ≡ acts.rows) }
     ensures actor { IfOk result (λ e. e.actor ≡ acts.actor) }
-    ensures begun { IfOk result (λ e. e.begun ≡ acts.begun) }
+    ensures begun { IfOk result (λ e. e.begun ≡ false) }
     ensures broken { IfErr result (λ u. IfBroken u.why ((E.view acts.engine).Told → (s : Contents) → ReadsAs (length acts.maps.pages) (length acts.maps.bands) (E.view acts.engine).now s → ⊥)) }
 {
     let Parts {
@@ -249,7 +245,7 @@ fn reach_all<E: Engine>(acts: Acts<E>, room: Option<Maps>) -> Result<Acts<E>, Un
         actor,
         rows,
         breaks,
-        begun,
+        begun: _,
         count,
         bands,
     } = acts.into_parts();
@@ -267,7 +263,7 @@ fn reach_all<E: Engine>(acts: Acts<E>, room: Option<Maps>) -> Result<Acts<E>, Un
             actor,
             rows,
             breaks,
-            begun,
+            begun: false,
             count,
             bands,
         })),
@@ -279,7 +275,7 @@ fn reach_all<E: Engine>(acts: Acts<E>, room: Option<Maps>) -> Result<Acts<E>, Un
                 actor,
                 rows,
                 breaks,
-                begun,
+                begun: false,
                 count,
                 bands,
             });

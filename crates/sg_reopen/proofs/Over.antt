@@ -9,7 +9,7 @@ use Rattle.sg_log.specs.Cut.{IsSplit, gate_of, gone_of, kept_of}
 use Rattle.sg_log.proofs.Steps.{gate_later}
 use Rattle.sg_pool.specs.declared.pool.Pool.{Pool}
 use Rattle.sg_analysis.specs.Sights.{Sight, sight_of, Checkpoint, or_checkpoint, checkpoint_behind, last_checkpoint}
-use Rattle.sg_analysis.specs.Sights.Sight.{Stepped, Estimated, Foreign}
+use Rattle.sg_analysis.specs.Sights.Sight.{Stepped, Estimated}
 use Rattle.sg_analysis.specs.Analysis.{estimate_or}
 use Rattle.sg_find.specs.Synced.{redo_point}
 use Rattle.sg_engine.specs.History.{Entry, Homes, made, AreSame}
@@ -39,7 +39,6 @@ module _ (A : ℕ → Type 0) (base p : ℕ) (le : base ≤ p) (at : A p) where
           → A (max base (estimate_or base (checkpoint_behind (or_checkpoint (Some c) n.lsn x) ns))) → A (max p (estimate_or p (checkpoint_behind (or_checkpoint (Some c) n.lsn x) ns)))
       by_sight (Stepped x) f = f c
       by_sight (Estimated e) f = f (n.lsn, e)
-      by_sight Foreign f = f c
 
   with_any : (last : Option Checkpoint) (ns : List Numbered) → A (max base (estimate_or base (checkpoint_behind last ns))) → A (max p (estimate_or p (checkpoint_behind None ns)))
   with_any last [] was = let is : p ≡ max p p = omega arith in subst A is at
@@ -49,7 +48,6 @@ module _ (A : ℕ → Type 0) (base p : ℕ) (le : base ≤ p) (at : A p) where
           → A (max base (estimate_or base (checkpoint_behind (or_checkpoint last n.lsn x) ns))) → A (max p (estimate_or p (checkpoint_behind (or_checkpoint None n.lsn x) ns)))
       by_sight (Stepped x) f = f last
       by_sight (Estimated e) f = with_one (n.lsn, e) ns
-      by_sight Foreign f = f last
 
   pub point_kept : (gone kept : List Numbered) → A (redo_point base (gone ++ kept)) → A (redo_point p kept)
   point_kept gone kept was = with_any (checkpoint_behind None gone) kept (subst (λ (l : Option Checkpoint). A (max base (estimate_or base l))) (both None gone) was)

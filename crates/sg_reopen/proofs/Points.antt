@@ -9,7 +9,7 @@ use Rattle.sg_record.specs.Records.{Record}
 use Rattle.sg_log.specs.Held.{Tail, tail_of, place_of, has_room, numbered}
 use Rattle.sg_log.proofs.Unique.{HasRecords-one}
 use Rattle.sg_analysis.specs.Sights.{Sight, sight_of, Checkpoint, or_checkpoint, checkpoint_behind, last_checkpoint}
-use Rattle.sg_analysis.specs.Sights.Sight.{Stepped, Estimated, Foreign}
+use Rattle.sg_analysis.specs.Sights.Sight.{Stepped, Estimated}
 use Rattle.sg_analysis.specs.Analysis.{estimate_or}
 use Rattle.sg_pool.specs.declared.pool.Pool.{Pool}
 use Rattle.sg_engine.specs.Numbers.{AllUnder}
@@ -41,7 +41,6 @@ marks_both allowed (x ∷ xs) ys one two = (one.0, marks_both allowed xs ys one.
 mark_allow : (A B : ℕ → Type 0) (lsn : ℕ) (x : Sight) → ((k : ℕ) → A k → B k) → IsMarked A lsn x → IsMarked B lsn x
 mark_allow A B lsn (Stepped x) more marked = tt
 mark_allow A B lsn (Estimated e) more marked = (more e marked.0, marked.1)
-mark_allow A B lsn Foreign more marked = marked
 
 pub marks_allow : (A B : ℕ → Type 0) (ns : List Numbered) → ((k : ℕ) → A k → B k) → AreMarked A ns → AreMarked B ns
 marks_allow A B [] more marked = tt
@@ -57,7 +56,6 @@ module _ (A : ℕ → Type 0) (base : ℕ) (start : A base) where
   point_one : (last : Option Checkpoint) (lsn : ℕ) (x : Sight) → A (max base (estimate_or base last)) → IsMarked A lsn x → A (max base (estimate_or base (or_checkpoint last lsn x)))
   point_one last lsn (Stepped x) was marked = was
   point_one last lsn (Estimated e) was marked = greater A base e start marked.0
-  point_one last lsn Foreign was marked = was
 
   pub point_behind : (last : Option Checkpoint) (ns : List Numbered) → A (max base (estimate_or base last)) → AreMarked A ns → A (max base (estimate_or base (checkpoint_behind last ns)))
   point_behind last [] was marked = was
@@ -70,7 +68,6 @@ module _ (A : ℕ → Type 0) (base : ℕ) (start : A base) where
 low_mark : (d lsn : ℕ) (x : Sight) → lsn < d → IsMarked (λ k. Unit {0}) lsn x → IsMarked (λ k. k ≤ d) lsn x
 low_mark d lsn (Stepped x) lt marked = tt
 low_mark d lsn (Estimated e) lt marked = (let le = marked.1 in omega arith, marked.1)
-low_mark d lsn Foreign lt marked = marked
 
 low_marks : (o : Origin) (d : ℕ) (ns : List Numbered) → AllUnder entry_number d (entries o ns) → AreMarked (λ k. Unit {0}) ns → AreMarked (λ k. k ≤ d) ns
 low_marks o d [] under marked = tt

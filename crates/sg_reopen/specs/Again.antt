@@ -5,7 +5,7 @@ use Rattle.sg_disk.specs.Disk.{Image}
 use Rattle.sg_log.specs.Frames.{Numbered}
 use Rattle.sg_gate.specs.Batch.{laid}
 use Rattle.sg_analysis.specs.Sights.{Sight, sight_of}
-use Rattle.sg_analysis.specs.Sights.Sight.{Stepped, Estimated, Foreign}
+use Rattle.sg_analysis.specs.Sights.Sight.{Stepped, Estimated}
 use Rattle.sg_engine.specs.History.{Homes, made, AreSame}
 use Rattle.sg_engine.specs.Kept.{home_in}
 use Rattle.sg_engine.specs.Engine.{Origin, entries, geometry, IsStanding}
@@ -27,11 +27,10 @@ origin_at o c = at_home o (image_home o c)
 abbrev pub MakesSame : Origin → List Numbered → Homes → Type 0
 MakesSame o rs f = AreSame (geometry o.super) (made (entries o rs) f) (made (entries o rs) o.first)
 
--- a checkpoint estimates what is allowed, and no more than its own number; and no record is of another kind than those of pages
+-- a checkpoint estimates what is allowed, and no more than its own number
 abbrev pub IsMarked : (allowed : ℕ → Type 0) → (lsn : ℕ) → Sight → Type 0
 IsMarked allowed lsn (Stepped x) = Unit {0}
 IsMarked allowed lsn (Estimated estimate) = allowed estimate × (estimate ≤ lsn)
-IsMarked allowed lsn Foreign = ⊥
 
 -- so is each of these records
 abbrev pub AreMarked : (allowed : ℕ → Type 0) → List Numbered → Type 0

@@ -8,10 +8,8 @@ use Rattle.sg_action.specs.States.{State, all_off}
 use Rattle.sg_actions.specs.Changes.{meaning}
 use Rattle.sg_actions.specs.Engine.{EngineSeen, EngineView, now_of}
 use Rattle.sg_actions.specs.Rows.{last_in, AreApart}
-use Rattle.sg_actions.specs.Steps.{Steps}
 use Rattle.sg_actions.specs.declared.rows.Actor.{Actor}
 use Rattle.sg_actions.specs.declared.rows.Row.{Row}
-use Rattle.sg_found.specs.Found.{IsOpenAt}
 
 -- the log is formed, who acts is whose action has no end, and the rows are those of the transactions that go on
 pub record CanGoOn (e : EngineSeen) (first : ℕ) (table : List Row) (actor : Actor) : Type 0 where

@@ -55,7 +55,7 @@ pub fn take_off<E: Engine>(acts: Acts<E>, ops: &Ops) -> WithoutEnd<E>
         mut actor,
         rows,
         mut breaks,
-        begun,
+        begun: _,
         count,
         bands,
     } = acts.into_parts();
@@ -68,7 +68,7 @@ pub fn take_off<E: Engine>(acts: Acts<E>, ops: &Ops) -> WithoutEnd<E>
         actor,
         rows,
         breaks,
-        begun,
+        begun: false,
         count,
         bands,
     });

@@ -10,19 +10,20 @@ use Rattle.sg_words.specs.Answers.{Answer}
 use Rattle.sg_words.specs.Requests.{Request}
 use Rattle.sg_words.specs.Requests.Asked.{Blank, Wrong, Of}
 use Rattle.sg_words.specs.Requests.Request.{Begin, Commit, Abort, Do}
+use Rattle.sg_words.specs.declared.upkeep.Upkeep.TheVariants as upkeeps
 use Rattle.sg_run.specs.Run.{Run, live_named}
 use Rattle.sg_run.specs.Stocked.{Around}
 use Rattle.sg_run.proofs.Serial.{UnlessStopped, serial_run}
-use Rattle.sg_run.proofs.Numbers.{begin_keeps, does_keep, commit_keeps, abort_keeps, flush_keeps}
+use Rattle.sg_run.proofs.Numbers.{begin_keeps, does_keep, commit_keeps, abort_keeps, flush_keeps, checkpoint_keeps}
 use Rattle.sg_session.specs.Lines.{Line, LineBy, BeginsAs, CommitsAs, AbortsAs, DoesAs, RequestBy, line_of}
 use Rattle.sg_session.specs.Lines as asks
-use Rattle.sg_session.specs.Lines.Line.{Flush, Other}
+use Rattle.sg_session.specs.Lines.Line.{OfStore, Other}
 use Rattle.sg_store.specs.declared.engine.Engine.{Ghosts}
 use Rattle.sg_store.specs.declared.fault.Refused.TheVariants as refusals
 use Rattle.sg_store.specs.Ground.{Ground, IsLawful}
 use Rattle.sg_store.specs.Engine.{View, AsMeantBy, led}
 use Rattle.sg_store.specs.Heeds.{Heeds}
-use Rattle.sg_store.proofs.Maintaining.{keeps_stopped}
+use Rattle.sg_store.proofs.Maintaining.{marks_stopped}
 use Rattle.sg_session.specs.Shows.{Core, Shows}
 use Rattle.sg_session.specs.Ending.{IsEnded}
 use Rattle.sg_session.proofs.Ending.{ended_stopped}
@@ -64,7 +65,8 @@ module _ (t : Operations) where
   unless a name None x y request answer h k = requests a name x y request answer h k
 
   line_keeps : (a : Around) (x y : Run) (line : Line) (answer : Answer) → LineBy t a x line answer y → UnlessStopped t x → UnlessStopped t y
-  line_keeps a x y Flush answer h k = flush_keeps t x y a.before a.now h.0 h.2 k
+  line_keeps a x y (OfStore upkeeps.Flush) answer h k = flush_keeps t x y a.before a.now h.0 h.2 k
+  line_keeps a x y (OfStore upkeeps.Checkpoint) answer h k = checkpoint_keeps t x y a.begin a.before a.now h.0 h.2 k
   line_keeps a x y (Other Blank) answer h k = same x y h.1 k
   line_keeps a x y (Other Wrong) answer h k = same x y h.1 k
   line_keeps a x y (Other (Of name request)) answer h k = unless a name x.stopped x y request answer h k
@@ -86,7 +88,7 @@ module _ (t : Operations) (g : Ground) (lawful : IsLawful t g) where
     outcome = Err refusals.Stopped;
     store = k.store;
     is_behind = refl;
-    goes = keeps_stopped t g lawful v k.store x v.faults shows.store is;
+    goes = marks_stopped t g lawful v k.store x v.faults shows.store is;
   })
 
   course : (v u w : View g) (k : Core) (m : Core) (x : Run) (end : code_end.RunEnd) (first now : Option (List ℕ)) (lines : List (List ℕ)) (answers heard : List Answer) (stopped : Option Stop) → Shows t g v k x → IsHeard end first now answers heard

@@ -14,9 +14,11 @@ use Rattle.sg_model.specs.Step.{step}
 use Rattle.sg_words.specs.Answers.{Answer, text_of_answer, text_of_all}
 use Rattle.sg_words.specs.Requests.Asked.{Blank, Wrong, Of}
 use Rattle.sg_words.specs.Requests.Request.{Begin, Commit, Abort, Do}
+use Rattle.sg_words.specs.declared.upkeep.Upkeep.{Upkeep}
+use Rattle.sg_words.specs.declared.upkeep.Upkeep.TheVariants as upkeeps
 use Rattle.sg_words.proofs.Steps.{Takes-more}
 use Rattle.sg_run.specs.Run.{Run, Event}
-use Rattle.sg_run.specs.Numbers.{Refusal, Flushes}
+use Rattle.sg_run.specs.Numbers.{Refusal, Flushes, Checkpoints}
 use Rattle.sg_run.specs.Numbers.Refusal.{Stopped, NoTransaction, TooManyLive, Busy, LocksFull, Because, NoSpace, NoBands, LogEnd, Memory, Disk}
 use Rattle.sg_run.specs.Stocked.{Around}
 use Rattle.sg_store.specs.declared.engine.Engine.{Ghosts}
@@ -25,8 +27,8 @@ use Rattle.sg_store.specs.Engine.{View, KeepsBy, led}
 use Rattle.sg_store.specs.Heeds.{Heeds}
 use Rattle.sg_store.specs.Stands.{StandsFor, StandsForFirst}
 use Rattle.sg_store.proofs.Heeding.{risen_on, heeds_none, heeds_then}
-use Rattle.sg_session.specs.Lines.{Line, LineBy, UnlessStopped, line_of}
-use Rattle.sg_session.specs.Lines.Line.{Flush, Other}
+use Rattle.sg_session.specs.Lines.{Line, LineBy, KeepsUp, UnlessStopped, line_of}
+use Rattle.sg_session.specs.Lines.Line.{OfStore, Other}
 use Rattle.sg_session.specs.Shows.{Core, Shows}
 use Rattle.sg_session.specs.Causes.{Trouble, trouble_in, IsFullFor, IsCaused, stop_by}
 use Rattle.sg_session.specs.Causes.Trouble.{NoTrouble, OfDisk, OfLog, OfMemory}
@@ -70,8 +72,26 @@ flush_stays before now x y why e (Err LogEnd) h = absurd h
 flush_stays before now x y why e (Err Memory) h = absurd h
 flush_stays before now x y why e (Err Disk) h = clash x.stopped why e h.0
 
+checkpoint_stays : (tail before now : ℕ) (x y : Run) (why : Stop) → x.stopped ≡ Some why → (r : Result (Unit {0}) Refusal) → Checkpoints tail before now x r y → y ≡ x
+checkpoint_stays tail before now x y why e (Ok done) h = clash x.stopped why e h.0
+checkpoint_stays tail before now x y why e (Err Stopped) h = h.1
+checkpoint_stays tail before now x y why e (Err NoTransaction) h = absurd h
+checkpoint_stays tail before now x y why e (Err TooManyLive) h = absurd h
+checkpoint_stays tail before now x y why e (Err (Busy holder)) h = absurd h
+checkpoint_stays tail before now x y why e (Err LocksFull) h = absurd h
+checkpoint_stays tail before now x y why e (Err (Because reason)) h = absurd h
+checkpoint_stays tail before now x y why e (Err (NoSpace free reserved need)) h = absurd h
+checkpoint_stays tail before now x y why e (Err (NoBands free need)) h = absurd h
+checkpoint_stays tail before now x y why e (Err LogEnd) h = clash x.stopped why e h.0
+checkpoint_stays tail before now x y why e (Err Memory) h = absurd h
+checkpoint_stays tail before now x y why e (Err Disk) h = clash x.stopped why e h.0
+
+upkeep_stays : (a : Around) (upkeep : Upkeep) (x y : Run) (why : Stop) → x.stopped ≡ Some why → (r : Result (Unit {0}) Refusal) → KeepsUp a upkeep x r y → y ≡ x
+upkeep_stays a upkeeps.Flush x y why e r h = flush_stays a.before a.now x y why e r h
+upkeep_stays a upkeeps.Checkpoint x y why e r h = checkpoint_stays a.begin a.before a.now x y why e r h
+
 pub line_stays : (t : Operations) (a : Around) (x y : Run) (why : Stop) → x.stopped ≡ Some why → (line : Line) (answer : Answer) → LineBy t a x line answer y → y ≡ x
-line_stays t a x y why e Flush answer h = flush_stays a.before a.now x y why e h.0 h.2
+line_stays t a x y why e (OfStore upkeep) answer h = upkeep_stays a upkeep x y why e h.0 h.2
 line_stays t a x y why e (Other Blank) answer h = h.1
 line_stays t a x y why e (Other Wrong) answer h = h.1
 line_stays t a x y why e (Other (Of name request)) answer h = (subst (λ (s : Option Stop). UnlessStopped t a name s x request answer y) e h).1
@@ -156,14 +176,14 @@ module _ (t : Operations) (g : Ground) where
 
   -- a line of a session that has stopped
   goes_stopped : (v : View g) (k : Core) (x : Run) → is_some k.store.stopped ≡ true → Shows t g v k x → (line : Line) → Goes t g v x line (when_stopped line) v k
-  goes_stopped v k x e shows Flush = steps.flush_stopped t g v x k shows e
+  goes_stopped v k x e shows (OfStore upkeep) = steps.upkeep_stopped t g v x k shows upkeep e
   goes_stopped v k x e shows (Other Blank) = steps.silent t g v x k shows
   goes_stopped v k x e shows (Other Wrong) = steps.bad_syntax t g v x k shows
   goes_stopped v k x e shows (Other (Of name request)) = steps.has_stopped t g v x k shows name request e
 
 -- nothing goes wrong in a line of a session that has stopped
 no_trouble : (begin tail before now : ℕ) (line : Line) → IsCaused begin tail before now line (trouble_in (when_stopped line))
-no_trouble begin tail before now Flush = tt
+no_trouble begin tail before now (OfStore upkeep) = tt
 no_trouble begin tail before now (Other Blank) = tt
 no_trouble begin tail before now (Other Wrong) = tt
 no_trouble begin tail before now (Other (Of name request)) = tt
@@ -176,7 +196,8 @@ caused_wider tail before now top bottom last line OfMemory wide bb bn nl begin l
 caused_wider tail before now top bottom last line OfLog wide bb bn nl begin le h = full_wider line h
   where
     full_wider : (l : Line) → IsFullFor begin tail l → IsFullFor top top l
-    full_wider Flush h = h
+    full_wider (OfStore upkeeps.Flush) h = h
+    full_wider (OfStore upkeeps.Checkpoint) h = omega (arith, h, le)
     full_wider (Other Blank) h = h
     full_wider (Other Wrong) h = h
     full_wider (Other (Of name Begin)) h = omega (arith, h, le)

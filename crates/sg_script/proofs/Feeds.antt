@@ -1,6 +1,6 @@
 -- How a piece of a script is executed.
-use Rattle.std.proofs.Common.{◌≡◌, ◌==◌, ℕ, ◌<◌, Bool, true, false, cond, nat_le, leb-true, List, [], ◌∷◌, ◌++◌, length, take, codes, Option, refl, sym, ap, ◌∙◌, subst, arith, append_assoc, append-nil}
-use Rattle.std.specs.Prelude.{nat_lt, slice_index, ◌&&◌}
+use Rattle.std.proofs.Common.{◌≡◌, ◌==◌, ℕ, ◌<◌, Bool, true, false, cond, nat_le, leb-true, List, [], ◌∷◌, ◌++◌, length, take, Option, None, refl, sym, ap, ◌∙◌, subst, arith, append_assoc, append-nil}
+use Rattle.std.specs.Prelude.{nat_lt, slice_index}
 use Rattle.std.specs.Str.Lines.{strip_carriage_return}
 use Rattle.std.proofs.Math.Seq.{take_all}
 use Rattle.std.proofs.lemmas.List.{length-take-le}
@@ -9,7 +9,9 @@ use Rattle.sg_base.specs.Ends.{Takes, TakesFront}
 use Rattle.sg_ops.specs.Table.{Table as Operations}
 use Rattle.sg_words.specs.Parse.{lines_of, words_of, most_line_bytes}
 use Rattle.sg_words.specs.Pieces.{behind}
-use Rattle.sg_words.specs.Requests.{Asked, asked, asked_by, is_flush, are_alone}
+use Rattle.sg_words.specs.Requests.{Asked, asked, asked_by}
+use Rattle.sg_words.specs.Upkeep.{upkeep_of, upkeep_in}
+use Rattle.sg_words.specs.declared.upkeep.Upkeep.{Upkeep}
 use Rattle.sg_words.specs.Requests.Asked.{Blank, Wrong}
 use Rattle.sg_words.specs.Answers.{Answer, text_of_answer}
 use Rattle.sg_words.proofs.Steps.{seam, kept}
@@ -41,26 +43,26 @@ asked-kept text = by_length (nat_le (length text) MOST_KEPT) refl
         let cut : length (take MOST_KEPT text) ≡ MOST_KEPT = length-take-le MOST_KEPT text (omega arith) in
         asked-long (take MOST_KEPT text) (omega arith) ∙ sym (asked-long text (omega arith))
 
--- nor is it the word alone that asks for a flush
-flush-long : (line : List ℕ) → most_line_bytes < length line → is_flush line ≡ false
-unfolding is_flush
-flush-long line long =
-    let is : nat_le (length line) most_line_bytes ≡ false = grind (arith, nat_tests, long) in
-    ap (λ b. b && are_alone (codes "flush") (words_of (strip_carriage_return line))) is
+-- nor does it ask anything of the store as a whole
+upkeep-long : (line : List ℕ) → most_line_bytes < length line → upkeep_of line ≡ None
+unfolding upkeep_of
+upkeep-long line long =
+    let is : nat_lt most_line_bytes (length line) ≡ true = grind (arith, nat_tests, long) in
+    ap (λ (b : Bool). cond b None (upkeep_in (words_of (strip_carriage_return line)))) is
 
-flush-kept : (text : List ℕ) → is_flush (take MOST_KEPT text) ≡ is_flush text
-flush-kept text = by_length (nat_le (length text) MOST_KEPT) refl
+upkeep-kept : (text : List ℕ) → upkeep_of (take MOST_KEPT text) ≡ upkeep_of text
+upkeep-kept text = by_length (nat_le (length text) MOST_KEPT) refl
   where
-    by_length : (b : Bool) → nat_le (length text) MOST_KEPT ≡ b → is_flush (take MOST_KEPT text) ≡ is_flush text
-    by_length true e = ap is_flush (take_all MOST_KEPT text (leb-true (length text) MOST_KEPT e))
+    by_length : (b : Bool) → nat_le (length text) MOST_KEPT ≡ b → upkeep_of (take MOST_KEPT text) ≡ upkeep_of text
+    by_length true e = ap upkeep_of (take_all MOST_KEPT text (leb-true (length text) MOST_KEPT e))
     by_length false e =
         let long : MOST_KEPT < length text = grind (arith, nat_tests, e) in
         let cut : length (take MOST_KEPT text) ≡ MOST_KEPT = length-take-le MOST_KEPT text (omega arith) in
-        flush-long (take MOST_KEPT text) (omega arith) ∙ sym (flush-long text (omega arith))
+        upkeep-long (take MOST_KEPT text) (omega arith) ∙ sym (upkeep-long text (omega arith))
 
 -- so what is kept of a line is the line
 pub line-kept : (text : List ℕ) → line_of (take MOST_KEPT text) ≡ line_of text
-line-kept text = ap (λ (a : Asked). line_by a (is_flush (take MOST_KEPT text))) (asked-kept text) ∙ ap (λ (b : Bool). line_by (asked text) b) (flush-kept text)
+line-kept text = ap (λ (a : Asked). line_by a (upkeep_of (take MOST_KEPT text))) (asked-kept text) ∙ ap (λ (b : Option Upkeep). line_by (asked text) b) (upkeep-kept text)
 
 -- what has come of a line and a part of it, kept, is the line of both
 pub line-pending : (bytes had more part : List ℕ) → bytes ≡ more → more ≡ take MOST_KEPT (had ++ part) → line_of bytes ≡ line_of (had ++ part)

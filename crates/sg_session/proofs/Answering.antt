@@ -1,10 +1,12 @@
 -- What a line's going says of its answer.
-use Rattle.std.proofs.Common.{◌≡◌, ℕ, Bool, List, None, sym, ap, ◌∙◌, subst}
+use Rattle.std.proofs.Common.{◌≡◌, ℕ, List, Option, None, sym, ap, ◌∙◌, subst}
 use Rattle.sg_ops.specs.Table.{Table as Operations}
 use Rattle.sg_words.specs.Answers.{Answer}
-use Rattle.sg_words.specs.Requests.{Asked, asked, is_flush}
+use Rattle.sg_words.specs.Requests.{Asked, asked}
 use Rattle.sg_words.specs.Requests.Asked.{Blank, Of}
 use Rattle.sg_words.specs.Requests.{Request}
+use Rattle.sg_words.specs.Upkeep.{upkeep_of}
+use Rattle.sg_words.specs.declared.upkeep.Upkeep.{Upkeep}
 use Rattle.sg_run.specs.Run.{Run}
 use Rattle.sg_run.proofs.Serial.{serial_run}
 use Rattle.sg_recovery.proofs.Basic.{some_one}
@@ -18,14 +20,14 @@ use Rattle.sg_session.specs.Shows.{Core}
 use Rattle.sg_session.specs.Goes.{Goes, Answers}
 
 -- what a line asks for
-pub line_is : (text : List ℕ) (a : Asked) (b : Bool) → asked text ≡ a → is_flush text ≡ b → line_by a b ≡ line_of text
-line_is text a b e f = sym (ap (λ (k : Asked). line_by k (is_flush text)) e ∙ ap (λ (k : Bool). line_by a k) f)
+pub line_is : (text : List ℕ) (a : Asked) (b : Option Upkeep) → asked text ≡ a → upkeep_of text ≡ b → line_by a b ≡ line_of text
+line_is text a b e f = sym (ap (λ (k : Asked). line_by k (upkeep_of text)) e ∙ ap (λ (k : Option Upkeep). line_by a k) f)
 
 pub is_blank : (text : List ℕ) → asked text ≡ Blank → Other Blank ≡ line_of text
-is_blank text e = sym (ap (λ (k : Asked). line_by k (is_flush text)) e)
+is_blank text e = sym (ap (λ (k : Asked). line_by k (upkeep_of text)) e)
 
 pub is_of : (text name : List ℕ) (request : Request) → asked text ≡ Of name request → Other (Of name request) ≡ line_of text
-is_of text name request e = sym (ap (λ (k : Asked). line_by k (is_flush text)) e)
+is_of text name request e = sym (ap (λ (k : Asked). line_by k (upkeep_of text)) e)
 
 module _ (t : Operations) (g : Ground) (lawful : IsLawful t g) (v : View g) (x : Run) where
   pub goes_line : (line other : Line) (answer : Answer) (w : View g) (m : Core) → line ≡ other → Goes t g v x line answer w m → Goes t g v x other answer w m

@@ -1,5 +1,5 @@
 -- The cause of each line's answer, by why the store answered so.
-use Rattle.std.proofs.Common.{◌≡◌, ⊎_elim, ℕ, Bool, List, Option, Some, None, Result, refl, sym, ap, ◌∙◌, subst}
+use Rattle.std.proofs.Common.{◌≡◌, ◌⊎◌, inl, inr, ⊎_elim, ℕ, Bool, List, Option, Some, None, Result, refl, sym, ap, ◌∙◌, subst}
 use Rattle.std.specs.Prelude.{Ok, Err}
 use Rattle.sg_model.specs.declared.stop.Stop.{Stop}
 use Rattle.sg_model.specs.declared.stop.Stop.TheVariants as stops
@@ -7,6 +7,7 @@ use Rattle.sg_model.specs.Verb.{Op}
 use Rattle.sg_words.specs.Answers.{Answer}
 use Rattle.sg_words.specs.Requests.Asked.{Of}
 use Rattle.sg_words.specs.Requests.Request.{Begin, Commit, Abort, Do}
+use Rattle.sg_words.specs.declared.upkeep.Upkeep.TheVariants as upkeeps
 use Rattle.sg_run.specs.Numbers.{IsAtEnd, IsListing}
 use Rattle.sg_store.specs.declared.fault.Refused.{Refused}
 use Rattle.sg_store.specs.declared.fault.Refused.TheVariants as refusals
@@ -15,9 +16,9 @@ use Rattle.sg_store.specs.Engine.{Sizes, Shown}
 use Rattle.sg_store.specs.Stops.{stop_behind}
 use Rattle.sg_store.specs.Heeds.{Heeds}
 use Rattle.sg_store.specs.Store.{Core}
-use Rattle.sg_store.specs.Causes.{BeginsFor, EndsFor, FlushesFor, RefusesFor, UnlistedFor}
+use Rattle.sg_store.specs.Causes.{BeginsFor, EndsFor, FlushesFor, ChecksFor, ClosesFor, RefusesFor, UnlistedFor}
 use Rattle.sg_session.specs.Lines.{Line}
-use Rattle.sg_session.specs.Lines.Line.{Flush, Other}
+use Rattle.sg_session.specs.Lines.Line.{OfStore, Other}
 use Rattle.sg_session.specs.Causes.{Trouble, trouble_in, trouble_of, IsFullFor, IsCaused, stop_at_end, stop_by, Caused}
 use Rattle.sg_session.specs.Causes.Trouble.{NoTrouble, OfDisk, OfLog, OfMemory}
 
@@ -96,7 +97,7 @@ module _ {basis : Sizes → Ground} (old new : Shown basis) where
     pub abort_refused : (name : List ℕ) (u : ℕ) (why : Refused) → EndsFor u old new k m (Err why) → CausedBy k.stopped m.stopped (Other (Of name Abort)) (trouble_of why)
     abort_refused name u why h = end_refused (Other (Of name Abort)) (λ at_end. at_end) refl u why h
 
-    pub flush_refused : (why : Refused) → FlushesFor old new k m (Err why) → CausedBy k.stopped m.stopped Flush (trouble_of why)
+    pub flush_refused : (why : Refused) → FlushesFor old new k m (Err why) → CausedBy k.stopped m.stopped (OfStore upkeeps.Flush) (trouble_of why)
     flush_refused refusals.NoTxn h = absurd h
     flush_refused refusals.TooManyLive h = absurd h
     flush_refused (refusals.Busy holder) h = absurd h
@@ -106,8 +107,21 @@ module _ {basis : Sizes → Ground} (old new : Shown basis) where
     flush_refused (refusals.NoBands free need) h = absurd h
     flush_refused refusals.LogEnd h = absurd h
     flush_refused refusals.Memory h = absurd h
-    flush_refused refusals.DiskFault h = broken Flush (record k { held = m.held; stopped = Some stops.Disk }) h.1.0 refl h.1.1
-    flush_refused refusals.Stopped h = plain Flush k refl h.1
+    flush_refused refusals.DiskFault h = broken (OfStore upkeeps.Flush) (record k { held = m.held; stopped = Some stops.Disk }) h.1.0 refl h.1.1
+    flush_refused refusals.Stopped h = plain (OfStore upkeeps.Flush) k refl h.1
+
+    pub checkpoint_refused : (why : Refused) → ChecksFor old new k m (Err why) → CausedBy k.stopped m.stopped (OfStore upkeeps.Checkpoint) (trouble_of why)
+    checkpoint_refused refusals.NoTxn h = absurd h
+    checkpoint_refused refusals.TooManyLive h = absurd h
+    checkpoint_refused (refusals.Busy holder) h = absurd h
+    checkpoint_refused refusals.LocksFull h = absurd h
+    checkpoint_refused (refusals.Model reason) h = absurd h
+    checkpoint_refused (refusals.NoSpace free reserved need) h = absurd h
+    checkpoint_refused (refusals.NoBands free need) h = absurd h
+    checkpoint_refused refusals.LogEnd h = full (OfStore upkeeps.Checkpoint) (record k { stopped = Some stops.LogEnd }) h.1 refl h.2
+    checkpoint_refused refusals.Memory h = absurd h
+    checkpoint_refused refusals.DiskFault h = broken (OfStore upkeeps.Checkpoint) (record k { held = m.held; stopped = Some stops.Disk }) h.1.0 refl h.1.1
+    checkpoint_refused refusals.Stopped h = plain (OfStore upkeeps.Checkpoint) k refl h.1
 
     -- a line of an operation
     pub do_refused : (name : List ℕ) (op : Op) (changes : Bool) (u : ℕ) (why : Refused) → RefusesFor changes u old new k m why → CausedBy k.stopped m.stopped (Other (Of name (Do op))) (trouble_of why)
@@ -164,9 +178,9 @@ module _ {basis : Sizes → Ground} (old new : Shown basis) where
       other : Some stops.LogEnd ≡ None → ⊥
       other e = cc
 
--- a call that gives back what all was written home with doesn't stop for the log's end
-pub close_full : {basis : Sizes → Ground} (old new : Shown basis) (k m : Core) (done : Result (Unit {0}) Refused) → FlushesFor old new k m done → stop_behind k.stopped done ≡ Some stops.LogEnd → k.stopped ≡ Some stops.LogEnd
-close_full old new k m (Ok done) h e = e
+-- a store that is closed stops for the log's end only there
+pub close_full : {basis : Sizes → Ground} (old new : Shown basis) (k m : Core) (done : Result (Unit {0}) Refused) → ClosesFor old new k m done → stop_behind k.stopped done ≡ Some stops.LogEnd → (k.stopped ≡ Some stops.LogEnd) ⊎ IsAtEnd new.tail
+close_full old new k m (Ok done) h e = inl e
 close_full old new k m (Err refusals.NoTxn) h e = absurd h
 close_full old new k m (Err refusals.TooManyLive) h e = absurd h
 close_full old new k m (Err (refusals.Busy holder)) h e = absurd h
@@ -174,10 +188,10 @@ close_full old new k m (Err refusals.LocksFull) h e = absurd h
 close_full old new k m (Err (refusals.Model reason)) h e = absurd h
 close_full old new k m (Err (refusals.NoSpace free reserved need)) h e = absurd h
 close_full old new k m (Err (refusals.NoBands free need)) h e = absurd h
-close_full old new k m (Err refusals.LogEnd) h e = absurd h
+close_full old new k m (Err refusals.LogEnd) h e = inr h.1
 close_full old new k m (Err refusals.Memory) h e = absurd h
 close_full old new k m (Err refusals.DiskFault) h e = absurd (other e)
   where
     other : Some stops.Disk ≡ Some stops.LogEnd → ⊥
     other e = cc
-close_full old new k m (Err refusals.Stopped) h e = e
+close_full old new k m (Err refusals.Stopped) h e = inl e

@@ -18,16 +18,18 @@ use Rattle.sg_words.specs.Answers.{Answer}
 use Rattle.sg_words.specs.Requests.{Request}
 use Rattle.sg_words.specs.Requests.Asked.{Blank, Wrong, Of}
 use Rattle.sg_words.specs.Requests.Request.{Begin, Commit, Abort, Do}
+use Rattle.sg_words.specs.declared.upkeep.Upkeep.{Upkeep}
+use Rattle.sg_words.specs.declared.upkeep.Upkeep.TheVariants as upkeeps
 use Rattle.sg_run.specs.Run.{Run, Event, live_named, began, committed, aborted, did, with_locks, stop, committed_objects, objects_after}
-use Rattle.sg_run.specs.Numbers.{Refusal, Begins, Does, Commits, Aborts, Flushes, stopped_in, at_log_end}
+use Rattle.sg_run.specs.Numbers.{Refusal, Begins, Does, Commits, Aborts, Flushes, Checkpoints, stopped_in, at_log_end}
 use Rattle.sg_run.specs.Numbers.Refusal.{Stopped, NoTransaction, TooManyLive, Busy, LocksFull, Because, NoSpace, NoBands, LogEnd, Memory, Disk}
 use Rattle.sg_run.specs.Stocked.{Around}
 use Rattle.sg_run.proofs.Serial.{find_live}
 use Rattle.sg_store.specs.Ground.{Ground}
 use Rattle.sg_store.specs.Engine.{View}
 use Rattle.sg_store.specs.Stands.{StandsFor, StandsForFirst}
-use Rattle.sg_session.specs.Lines.{Line, LineBy, RequestBy, UnlessStopped, BeginsAs, CommitsAs, AbortsAs, DoesAs}
-use Rattle.sg_session.specs.Lines.Line.{Flush, Other}
+use Rattle.sg_session.specs.Lines.{Line, LineBy, KeepsUp, RequestBy, UnlessStopped, BeginsAs, CommitsAs, AbortsAs, DoesAs}
+use Rattle.sg_session.specs.Lines.Line.{OfStore, Other}
 use Rattle.sg_session.specs.Shows.{Core, Shows}
 use Rattle.sg_session.specs.Goes.{Goes}
 use Rattle.sg_session.specs.OneLine.{with_commit_of, with_its_commit, OneLine}
@@ -81,6 +83,24 @@ flush_keeps before now x y (Err (NoBands free need)) h = absurd h
 flush_keeps before now x y (Err LogEnd) h = absurd h
 flush_keeps before now x y (Err Memory) h = absurd h
 flush_keeps before now x y (Err Disk) h = same x y (stop stops.Disk x) refl refl refl h.1.after
+
+pub checkpoint_keeps : (tail before now : ℕ) (x y : Run) (r : Result (Unit {0}) Refusal) → Checkpoints tail before now x r y → AddsNone x y
+checkpoint_keeps tail before now x y (Ok done) h = same x y x refl refl refl h.1
+checkpoint_keeps tail before now x y (Err Stopped) h = same x y x refl refl refl h.1
+checkpoint_keeps tail before now x y (Err NoTransaction) h = absurd h
+checkpoint_keeps tail before now x y (Err TooManyLive) h = absurd h
+checkpoint_keeps tail before now x y (Err (Busy holder)) h = absurd h
+checkpoint_keeps tail before now x y (Err LocksFull) h = absurd h
+checkpoint_keeps tail before now x y (Err (Because reason)) h = absurd h
+checkpoint_keeps tail before now x y (Err (NoSpace free reserved need)) h = absurd h
+checkpoint_keeps tail before now x y (Err (NoBands free need)) h = absurd h
+checkpoint_keeps tail before now x y (Err LogEnd) h = same x y (stop stops.LogEnd x) refl refl refl h.1
+checkpoint_keeps tail before now x y (Err Memory) h = absurd h
+checkpoint_keeps tail before now x y (Err Disk) h = same x y (stop stops.Disk x) refl refl refl h.1.after
+
+pub upkeep_keeps : (a : Around) (upkeep : Upkeep) (x y : Run) (r : Result (Unit {0}) Refusal) → KeepsUp a upkeep x r y → AddsNone x y
+upkeep_keeps a upkeeps.Flush x y r h = flush_keeps a.before a.now x y r h
+upkeep_keeps a upkeeps.Checkpoint x y r h = checkpoint_keeps a.begin a.before a.now x y r h
 
 pub does_keep : (t : Operations) (begin tail before now u : ℕ) (op : Op) (x y : Run) (r : Result Reply Refusal) → Does t begin tail before now u op x r y → AddsNone x y
 does_keep t begin tail before now u op x y (Ok reply) h = same x y (did t x u op) refl refl refl h.4
@@ -170,7 +190,7 @@ module _ (t : Operations) (a : Around) (x : Run) (going : x.stopped ≡ None) (y
   by_request name (Do op) h = kept x y (Other (Of name (Do op))) refl (by_do op (live_named x.so_far.live name) h)
 
   pub adds_its_own : (line : Line) → LineBy t a x line answer y → AddsItsOwn x line y
-  adds_its_own Flush h = kept x y Flush refl (flush_keeps a.before a.now x y h.0 h.2)
+  adds_its_own (OfStore upkeep) h = kept x y (OfStore upkeep) refl (upkeep_keeps a upkeep x y h.0 h.2)
   adds_its_own (Other Blank) h = kept x y (Other Blank) refl (keeps_self x y h.1)
   adds_its_own (Other Wrong) h = kept x y (Other Wrong) refl (keeps_self x y h.1)
   adds_its_own (Other (Of name request)) h = by_request name request (subst (λ (s : Option Stop). UnlessStopped t a name s x request answer y) going h)
@@ -180,7 +200,7 @@ first_with x None = refl
 first_with x (Some l) = refl
 
 first_with_its : (x : Run) (line : Line) → (with_its_commit x line).so_far.first ≡ x.so_far.first
-first_with_its x Flush = refl
+first_with_its x (OfStore upkeep) = refl
 first_with_its x (Other Blank) = refl
 first_with_its x (Other Wrong) = refl
 first_with_its x (Other (Of name Begin)) = refl
@@ -200,7 +220,7 @@ more_with x None = none_more x x refl
 more_with x (Some l) = (filter (is_own l.transaction) x.so_far.history ∷ [], refl, omega arith)
 
 pub more_with_its : (x : Run) (line : Line) → More x (with_its_commit x line)
-more_with_its x Flush = none_more x x refl
+more_with_its x (OfStore upkeep) = none_more x x refl
 more_with_its x (Other Blank) = none_more x x refl
 more_with_its x (Other Wrong) = none_more x x refl
 more_with_its x (Other (Of name Begin)) = none_more x x refl

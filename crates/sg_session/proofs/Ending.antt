@@ -1,4 +1,4 @@
--- The live transactions abort at the end, one after another, and then all is written home.
+-- The live transactions abort at the end, one after another, and then a checkpoint is made and all is written home.
 use Rattle.std.proofs.Common.{◌≡◌, inl, inr, ℕ, suc, ◌<◌, ◌≤◌, Bool, true, false, cond, not, List, [], ◌∷◌, length, Option, Some, None, refl, sym, ap, ◌∙◌, subst, arith}
 use Rattle.std.specs.Prelude.{◌==◌, ◌||◌, Result, Ok, Err, take, IsSome, is_some}
 use Rattle.std.proofs.lemmas.Bool.{eq-eqb}
@@ -19,16 +19,16 @@ use Rattle.sg_store.specs.declared.fault.Refused.TheVariants as refusals
 use Rattle.sg_store.specs.Refusals.{said_done, said_refusal}
 use Rattle.sg_store.specs.Stops.{stop_behind}
 use Rattle.sg_store.specs.Ground.{Ground, IsLawful}
-use Rattle.sg_store.proofs.Maintaining.{keeps_stopped}
+use Rattle.sg_store.proofs.Maintaining.{marks_stopped}
 use Rattle.sg_store.specs.Engine.{View}
 use Rattle.sg_store.specs.Stands.{StandsFor, StandsForFirst}
-use Rattle.sg_store.specs.Calls.{Goes, Aborts, Flushes}
+use Rattle.sg_store.specs.Calls.{Goes, Aborts, Checkpoints}
 use Rattle.sg_store.specs.Store as stores
 use Rattle.sg_session.specs.Names.{first_live}
 use Rattle.sg_session.specs.Shows.{Core, Shows}
 use Rattle.sg_session.specs.Ending.{AbortsAll, AddsNone, HasAborted, AreAborting, IsClosed, IsEnded}
 use Rattle.sg_session.specs.Ending.AbortInOrder.{none, and_first}
-use Rattle.sg_session.proofs.Commits.{abort_keeps, flush_keeps, after_all, same_objects}
+use Rattle.sg_session.proofs.Commits.{abort_keeps, checkpoint_keeps, after_all, same_objects}
 use Rattle.sg_session.proofs.Named.{aborted_live, abort_live}
 
 -- fewer are live without the first
@@ -197,58 +197,62 @@ module _ (t : Operations) (g : Ground) where
   down None some e = cc
   down (Some why) some e = cc
 
-  -- how the last flush leaves why a store has stopped
-  stop_then : (before now : ℕ) (s : Option Stop) (x y : Run) (r : Result (Unit {0}) Refused) → s ≡ x.stopped → Flushes before now x r y → stop_behind s r ≡ y.stopped
-  stop_then before now s x y (Ok done) is h = is ∙ sym (ap (λ (z : Run). z.stopped) h.1)
-  stop_then before now s x y (Err refusals.NoTxn) is h = absurd h
-  stop_then before now s x y (Err refusals.TooManyLive) is h = absurd h
-  stop_then before now s x y (Err (refusals.Busy holder)) is h = absurd h
-  stop_then before now s x y (Err refusals.LocksFull) is h = absurd h
-  stop_then before now s x y (Err (refusals.Model reason)) is h = absurd h
-  stop_then before now s x y (Err (refusals.NoSpace free reserved need)) is h = absurd h
-  stop_then before now s x y (Err (refusals.NoBands free need)) is h = absurd h
-  stop_then before now s x y (Err refusals.LogEnd) is h = absurd h
-  stop_then before now s x y (Err refusals.Memory) is h = absurd h
-  stop_then before now s x y (Err refusals.DiskFault) is h = sym (ap (λ (z : Run). z.stopped) h.1.after)
-  stop_then before now s x y (Err refusals.Stopped) is h = is ∙ sym (ap (λ (z : Run). z.stopped) h.1)
+  -- how the last checkpoint leaves why a store has stopped
+  stop_then : (tail before now : ℕ) (s : Option Stop) (x y : Run) (r : Result (Unit {0}) Refused) → s ≡ x.stopped → Checkpoints tail before now x r y → stop_behind s r ≡ y.stopped
+  stop_then tail before now s x y (Ok done) is h = is ∙ sym (ap (λ (z : Run). z.stopped) h.1)
+  stop_then tail before now s x y (Err refusals.NoTxn) is h = absurd h
+  stop_then tail before now s x y (Err refusals.TooManyLive) is h = absurd h
+  stop_then tail before now s x y (Err (refusals.Busy holder)) is h = absurd h
+  stop_then tail before now s x y (Err refusals.LocksFull) is h = absurd h
+  stop_then tail before now s x y (Err (refusals.Model reason)) is h = absurd h
+  stop_then tail before now s x y (Err (refusals.NoSpace free reserved need)) is h = absurd h
+  stop_then tail before now s x y (Err (refusals.NoBands free need)) is h = absurd h
+  stop_then tail before now s x y (Err refusals.LogEnd) is h = sym (ap (λ (z : Run). z.stopped) h.1)
+  stop_then tail before now s x y (Err refusals.Memory) is h = absurd h
+  stop_then tail before now s x y (Err refusals.DiskFault) is h = sym (ap (λ (z : Run). z.stopped) h.1.after)
+  stop_then tail before now s x y (Err refusals.Stopped) is h = is ∙ sym (ap (λ (z : Run). z.stopped) h.1)
 
-  -- a run that hasn't stopped behind a flush is as it was
-  flushed_same : (before now : ℕ) (x y : Run) (r : Result (Unit {0}) Refused) → Flushes before now x r y → y.stopped ≡ None → y ≡ x
-  flushed_same before now x y (Ok done) h e = h.1
-  flushed_same before now x y (Err refusals.NoTxn) h e = absurd h
-  flushed_same before now x y (Err refusals.TooManyLive) h e = absurd h
-  flushed_same before now x y (Err (refusals.Busy holder)) h e = absurd h
-  flushed_same before now x y (Err refusals.LocksFull) h e = absurd h
-  flushed_same before now x y (Err (refusals.Model reason)) h e = absurd h
-  flushed_same before now x y (Err (refusals.NoSpace free reserved need)) h e = absurd h
-  flushed_same before now x y (Err (refusals.NoBands free need)) h e = absurd h
-  flushed_same before now x y (Err refusals.LogEnd) h e = absurd h
-  flushed_same before now x y (Err refusals.Memory) h e = absurd h
-  flushed_same before now x y (Err refusals.DiskFault) h e = absurd (never (sym (ap (λ (z : Run). z.stopped) h.1.after) ∙ e))
+  -- a run that hasn't stopped behind a checkpoint is as it was
+  settled_same : (tail before now : ℕ) (x y : Run) (r : Result (Unit {0}) Refused) → Checkpoints tail before now x r y → y.stopped ≡ None → y ≡ x
+  settled_same tail before now x y (Ok done) h e = h.1
+  settled_same tail before now x y (Err refusals.NoTxn) h e = absurd h
+  settled_same tail before now x y (Err refusals.TooManyLive) h e = absurd h
+  settled_same tail before now x y (Err (refusals.Busy holder)) h e = absurd h
+  settled_same tail before now x y (Err refusals.LocksFull) h e = absurd h
+  settled_same tail before now x y (Err (refusals.Model reason)) h e = absurd h
+  settled_same tail before now x y (Err (refusals.NoSpace free reserved need)) h e = absurd h
+  settled_same tail before now x y (Err (refusals.NoBands free need)) h e = absurd h
+  settled_same tail before now x y (Err refusals.LogEnd) h e = absurd (never (sym (ap (λ (z : Run). z.stopped) h.1) ∙ e))
+    where
+      never : Some stops.LogEnd ≡ None → ⊥
+      never q = cc
+  settled_same tail before now x y (Err refusals.Memory) h e = absurd h
+  settled_same tail before now x y (Err refusals.DiskFault) h e = absurd (never (sym (ap (λ (z : Run). z.stopped) h.1.after) ∙ e))
     where
       never : Some stops.Disk ≡ None → ⊥
       never q = cc
-  flushed_same before now x y (Err refusals.Stopped) h e = h.1
+  settled_same tail before now x y (Err refusals.Stopped) h e = h.1
 
   module _ (v w u : View g) (x : Run) (k : stores.Core) (y : Run) (shows : stores.Shows t g w k y) (adds : AddsNone x y) (none_live : y.stopped ≡ None → y.so_far.live ≡ [])
       (moments : LeavesOnly v.disk w.disk (StandsForFirst t g x.so_far.answered x)) (aborts : x.stopped ≡ None → AbortsAll x y) (left : IsSome x.stopped → y ≡ x)
-      (r : Result (Unit {0}) Refused) (n : stores.Core) (goes : Goes t g w y (Flushes w.faults u.faults y r) u n) where
+      (r : Result (Unit {0}) Refused) (n : stores.Core) (goes : Goes t g w y (Checkpoints u.tail w.faults u.faults y r) u n) where
     pub ended : IsEnded t g v x (stop_behind k.stopped r) u
     ended =
-        let a = flush_keeps w.faults u.faults y goes.after (said_done r) goes.goes in
-        let stop = stop_then w.faults u.faults k.stopped y goes.after r shows.stopped goes.goes in
+        let a = checkpoint_keeps u.tail w.faults u.faults y goes.after (said_done r) goes.goes in
+        let stop = stop_then u.tail w.faults u.faults k.stopped y goes.after r shows.stopped goes.goes in
         record {
           aborted = y;
           aborts = aborts;
           left = left;
           after = goes.after;
           outcome = said_done r;
+          tail = u.tail;
           before = w.faults;
           now = u.faults;
           written = goes.goes;
           adds_none = adds_then x y goes.after adds a;
           stopped_is = stop;
-          none_live = λ e. (let same = flushed_same w.faults u.faults y goes.after r goes.goes (sym stop ∙ e) in ap (λ (z : Run). z.so_far.live) same ∙ none_live (ap (λ (z : Run). z.stopped) (sym same) ∙ (sym stop ∙ e)));
+          none_live = λ e. (let same = settled_same u.tail w.faults u.faults y goes.after r goes.goes (sym stop ∙ e) in ap (λ (z : Run). z.so_far.live) same ∙ none_live (ap (λ (z : Run). z.stopped) (sym same) ∙ (sym stop ∙ e)));
           moments = joined moments (weaker goes.moments (λ c s. stands_before x goes.after x.so_far.answered (adds_then x y goes.after adds a) c (subst (λ (i : ℕ). StandsForFirst t g i goes.after c) adds.answered s)));
           kept = λ e c leaves.
               (let going = sym stop ∙ e in
@@ -287,5 +291,5 @@ module _ (t : Operations) (g : Ground) where
           outcome = Err refusals.Stopped;
           store = m.store;
           is_behind = p.1;
-          goes = keeps_stopped t g lawful u m.store h.after u.faults h.shows.store (ap is_some is);
+          goes = marks_stopped t g lawful u m.store h.after u.faults h.shows.store (ap is_some is);
         }))

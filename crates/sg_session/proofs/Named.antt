@@ -14,7 +14,7 @@ use Rattle.sg_run.specs.Run.{Run, live_objects, holder_of}
 use Rattle.sg_run.specs.Serial.{IsSound}
 use Rattle.sg_store.specs.declared.fault.Refused.{Refused}
 use Rattle.sg_store.specs.declared.fault.Refused.TheVariants as refusals
-use Rattle.sg_store.specs.Calls.{Begins, Commits, Aborts, Flushes, Does}
+use Rattle.sg_store.specs.Calls.{Begins, Commits, Aborts, Flushes, Checkpoints, Does}
 use Rattle.sg_session.specs.Names.{live_numbered, IsNamed}
 
 none_of_map : {A B : Type 0} (f : A → B) (o : Option A) → option_map f o ≡ None → o ≡ None
@@ -102,6 +102,19 @@ flush_named before now live x refusals.Memory y h = tt
 flush_named before now live x refusals.DiskFault y h = tt
 flush_named before now live x refusals.Stopped y h = tt
 
+pub checkpoint_named : (tail before now : ℕ) (live : List Live) (x : Run) (why : Refused) (y : Run) → Checkpoints tail before now x (Err why) y → IsNamed live why
+checkpoint_named tail before now live x refusals.NoTxn y h = tt
+checkpoint_named tail before now live x refusals.TooManyLive y h = tt
+checkpoint_named tail before now live x (refusals.Busy holder) y h = absurd h
+checkpoint_named tail before now live x refusals.LocksFull y h = tt
+checkpoint_named tail before now live x (refusals.Model reason) y h = tt
+checkpoint_named tail before now live x (refusals.NoSpace free reserved need) y h = tt
+checkpoint_named tail before now live x (refusals.NoBands free need) y h = tt
+checkpoint_named tail before now live x refusals.LogEnd y h = tt
+checkpoint_named tail before now live x refusals.Memory y h = tt
+checkpoint_named tail before now live x refusals.DiskFault y h = tt
+checkpoint_named tail before now live x refusals.Stopped y h = tt
+
 -- WHICH TRANSACTIONS ARE LIVE behind a call
 
 same_live : (x y z : Run) → z.so_far.live ≡ x.so_far.live → y ≡ z → y.so_far.live ≡ x.so_far.live
@@ -168,6 +181,20 @@ flush_live before now x y (Err refusals.LogEnd) h = absurd h
 flush_live before now x y (Err refusals.Memory) h = absurd h
 flush_live before now x y (Err refusals.DiskFault) h = same_live x y _ refl h.1.after
 flush_live before now x y (Err refusals.Stopped) h = same_live x y x refl h.1
+
+pub checkpoint_live : (tail before now : ℕ) (x y : Run) (r : Result (Unit {0}) Refused) → Checkpoints tail before now x r y → y.so_far.live ≡ x.so_far.live
+checkpoint_live tail before now x y (Ok done) h = same_live x y x refl h.1
+checkpoint_live tail before now x y (Err refusals.NoTxn) h = absurd h
+checkpoint_live tail before now x y (Err refusals.TooManyLive) h = absurd h
+checkpoint_live tail before now x y (Err (refusals.Busy holder)) h = absurd h
+checkpoint_live tail before now x y (Err refusals.LocksFull) h = absurd h
+checkpoint_live tail before now x y (Err (refusals.Model reason)) h = absurd h
+checkpoint_live tail before now x y (Err (refusals.NoSpace free reserved need)) h = absurd h
+checkpoint_live tail before now x y (Err (refusals.NoBands free need)) h = absurd h
+checkpoint_live tail before now x y (Err refusals.LogEnd) h = same_live x y _ refl h.1
+checkpoint_live tail before now x y (Err refusals.Memory) h = absurd h
+checkpoint_live tail before now x y (Err refusals.DiskFault) h = same_live x y _ refl h.1.after
+checkpoint_live tail before now x y (Err refusals.Stopped) h = same_live x y x refl h.1
 
 pub does_live : (t : Operations) (begin tail before now u : ℕ) (op : Op) (x y : Run) (into : List ℕ) (r : Result code_reply.Reply Refused) → Does t begin tail before now u op x into r y → y.so_far.live ≡ x.so_far.live
 does_live t begin tail before now u op x y into (Ok reply) h = same_live x y _ refl h.4

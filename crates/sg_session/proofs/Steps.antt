@@ -17,6 +17,8 @@ use Rattle.sg_words.specs.Answers.Answer.{Silent, BadSyntax, Stopped, NoTransact
 use Rattle.sg_words.specs.Requests.{Request}
 use Rattle.sg_words.specs.Requests.Asked.{Blank, Wrong, Of}
 use Rattle.sg_words.specs.Requests.Request.{Begin, Commit, Abort, Do}
+use Rattle.sg_words.specs.declared.upkeep.Upkeep.{Upkeep}
+use Rattle.sg_words.specs.declared.upkeep.Upkeep.TheVariants as upkeeps
 use Rattle.sg_run.specs.Run.{Run, live_named}
 use Rattle.sg_run.specs.Numbers.Refusal.{TooManyLive as AreTooMany, Stopped as HasStopped}
 use Rattle.sg_run.specs.Named.{answer_to}
@@ -29,7 +31,7 @@ use Rattle.sg_store.specs.Stands.{StandsForFirst}
 use Rattle.sg_store.specs.Calls as calls
 use Rattle.sg_store.specs.Store as stores
 use Rattle.sg_session.specs.Lines.{Line, LineBy, RequestBy, UnlessStopped, BeginsAs, CommitsAs, AbortsAs, DoesAs}
-use Rattle.sg_session.specs.Lines.Line.{Flush, Other}
+use Rattle.sg_session.specs.Lines.Line.{OfStore, Other}
 use Rattle.sg_session.specs.declared.names.Named as code_named
 use Rattle.sg_session.specs.Names.{live_of, IsNamed}
 use Rattle.sg_session.specs.Shows.{Core, Shows}
@@ -75,8 +77,9 @@ module _ (t : Operations) (g : Ground) (v : View g) (x : Run) where
     pub has_stopped : (name : List ℕ) (request : Request) → is_some k.store.stopped ≡ true → Goes t g v x (Other (Of name request)) Stopped v k
     has_stopped name request e = same (Other (Of name request)) Stopped (by_stop (around v v) name request x.stopped (ap is_some (sym shows.store.stopped) ∙ e))
 
-    pub flush_stopped : is_some k.store.stopped ≡ true → Goes t g v x Flush Stopped v k
-    flush_stopped e = same Flush Stopped (Err HasStopped, refl, (some_of x.stopped (ap is_some (sym shows.store.stopped) ∙ e), refl))
+    pub upkeep_stopped : (upkeep : Upkeep) → is_some k.store.stopped ≡ true → Goes t g v x (OfStore upkeep) Stopped v k
+    upkeep_stopped upkeeps.Flush e = same (OfStore upkeeps.Flush) Stopped (Err HasStopped, refl, (some_of x.stopped (ap is_some (sym shows.store.stopped) ∙ e), refl))
+    upkeep_stopped upkeeps.Checkpoint e = same (OfStore upkeeps.Checkpoint) Stopped (Err HasStopped, refl, (some_of x.stopped (ap is_some (sym shows.store.stopped) ∙ e), refl))
 
     module _ (running : k.store.stopped ≡ None) where
       pub going : x.stopped ≡ None
@@ -168,16 +171,28 @@ module _ (t : Operations) (g : Ground) (v : View g) (x : Run) where
           (λ y b. names ∙ sym (named.abort_live w.tail v.faults w.faults l.transaction x y why b))
 
       -- FLUSH
-      pub flush_done : (w : View g) (m : stores.Core) → calls.Goes t g v x (calls.Flushes v.faults w.faults x (Ok tt)) w m → Goes t g v x Flush (Said Done) w (record { store = m; names = k.names })
+      pub flush_done : (w : View g) (m : stores.Core) → calls.Goes t g v x (calls.Flushes v.faults w.faults x (Ok tt)) w m → Goes t g v x (OfStore upkeeps.Flush) (Said Done) w (record { store = m; names = k.names })
       flush_done w m h =
-          from_store w m k.names Flush (Said Done) (calls.Flushes v.faults w.faults x (Ok tt)) h (λ y b. (Ok tt, refl, b)) (λ y b. names ∙ sym (named.flush_live v.faults w.faults x y (Ok tt) b))
+          from_store w m k.names (OfStore upkeeps.Flush) (Said Done) (calls.Flushes v.faults w.faults x (Ok tt)) h (λ y b. (Ok tt, refl, b)) (λ y b. names ∙ sym (named.flush_live v.faults w.faults x y (Ok tt) b))
 
       pub flush_refused : (w : View g) (m : stores.Core) (answer : Answer) (why : Refused) → (IsNamed k.names why → answer ≡ answer_to k.names (said_refusal why))
-          → calls.Goes t g v x (calls.Flushes v.faults w.faults x (Err why)) w m → Goes t g v x Flush answer w (record { store = m; names = k.names })
+          → calls.Goes t g v x (calls.Flushes v.faults w.faults x (Err why)) w m → Goes t g v x (OfStore upkeeps.Flush) answer w (record { store = m; names = k.names })
       flush_refused w m answer why says h =
-          from_store w m k.names Flush answer (calls.Flushes v.faults w.faults x (Err why)) h
+          from_store w m k.names (OfStore upkeeps.Flush) answer (calls.Flushes v.faults w.faults x (Err why)) h
           (λ y b. (Err (said_refusal why), words_for answer why says (named.flush_named v.faults w.faults x.so_far.live x why y b), b))
           (λ y b. names ∙ sym (named.flush_live v.faults w.faults x y (Err why) b))
+
+      -- CHECKPOINT
+      pub checkpoint_done : (w : View g) (m : stores.Core) → calls.Goes t g v x (calls.Checkpoints v.tail v.faults w.faults x (Ok tt)) w m → Goes t g v x (OfStore upkeeps.Checkpoint) (Said Done) w (record { store = m; names = k.names })
+      checkpoint_done w m h =
+          from_store w m k.names (OfStore upkeeps.Checkpoint) (Said Done) (calls.Checkpoints v.tail v.faults w.faults x (Ok tt)) h (λ y b. (Ok tt, refl, b)) (λ y b. names ∙ sym (named.checkpoint_live v.tail v.faults w.faults x y (Ok tt) b))
+
+      pub checkpoint_refused : (w : View g) (m : stores.Core) (answer : Answer) (why : Refused) → (IsNamed k.names why → answer ≡ answer_to k.names (said_refusal why))
+          → calls.Goes t g v x (calls.Checkpoints v.tail v.faults w.faults x (Err why)) w m → Goes t g v x (OfStore upkeeps.Checkpoint) answer w (record { store = m; names = k.names })
+      checkpoint_refused w m answer why says h =
+          from_store w m k.names (OfStore upkeeps.Checkpoint) answer (calls.Checkpoints v.tail v.faults w.faults x (Err why)) h
+          (λ y b. (Err (said_refusal why), words_for answer why says (named.checkpoint_named v.tail v.faults w.faults x.so_far.live x why y b), b))
+          (λ y b. names ∙ sym (named.checkpoint_live v.tail v.faults w.faults x y (Err why) b))
 
       -- AN OPERATION
       pub do_none : (name : List ℕ) (op : Op) → None ≡ live_named k.names name → Goes t g v x (Other (Of name (Do op))) NoTransaction v k

@@ -5,7 +5,7 @@ use Rattle.sg_ops.specs.Table.{Table as Operations}
 use Rattle.sg_serial.specs.Runs.{Live}
 use Rattle.sg_model.specs.declared.stop.Stop.{Stop}
 use Rattle.sg_run.specs.Run.{Run, committed_objects}
-use Rattle.sg_run.specs.Numbers.{Refusal, Aborts, Flushes}
+use Rattle.sg_run.specs.Numbers.{Refusal, Aborts, Checkpoints}
 use Rattle.sg_store.specs.declared.fault.Refused.{Refused}
 use Rattle.sg_store.specs.Stops.{stop_behind}
 use Rattle.sg_store.specs.Calls as calls
@@ -62,15 +62,15 @@ pub record AreAborting (t : Operations) (g : Ground) (v : View g) (x : Run) (w :
   pub shows : Shows t g w m mid
   pub moments : disk.LeavesOnly v.disk w.disk (StandsForFirst t g x.so_far.answered x)
 
--- all was written home, unless the store had stopped
+-- a checkpoint was made and all was written home, unless the store had stopped
 pub record IsClosed (t : Operations) (g : Ground) (v : View g) (k : Core) (x : Run) (stopped : Option Stop) (w : View g) : Type 0 where
   pub outcome : Result (Unit {0}) Refused
   pub store : stores.Core
   pub is_behind : stopped ≡ stop_behind k.store.stopped outcome
-  pub goes : calls.Goes t g v x (calls.Flushes v.faults w.faults x outcome) w store
+  pub goes : calls.Goes t g v x (calls.Checkpoints w.tail v.faults w.faults x outcome) w store
 
 -- THE END OF A RUN. Unless it had stopped, its live transactions have aborted in order of begin, up to the first whose abort
--- failed; then all was written home, unless it has stopped. No commit was added: each image of each moment stands for the first
+-- failed; then a checkpoint was made and all was written home, unless it has stopped. No commit was added: each image of each moment stands for the first
 -- commits of the run, all that were answered among them. Where the store hasn't stopped, no transaction is live, and each image
 -- that is left stands for the committed objects
 pub record IsEnded (t : Operations) (g : Ground) (v : View g) (x : Run) (stopped : Option Stop) (w : View g) : Type 0 where
@@ -79,9 +79,10 @@ pub record IsEnded (t : Operations) (g : Ground) (v : View g) (x : Run) (stopped
   pub left : IsSome x.stopped → aborted ≡ x
   pub after : Run
   pub outcome : Result (Unit {0}) Refusal
+  pub tail : ℕ
   pub before : ℕ
   pub now : ℕ
-  pub written : Flushes before now aborted outcome after
+  pub written : Checkpoints tail before now aborted outcome after
   pub adds_none : AddsNone x after
   pub stopped_is : stopped ≡ after.stopped
   pub none_live : stopped ≡ None → after.so_far.live ≡ []

@@ -13,7 +13,7 @@ use Rattle.sg_store.specs.Ground.{Ground, IsLawful}
 use Rattle.sg_store.specs.Engine.{View, AsMeantBy, pages_of}
 use Rattle.sg_store.specs.Stands.{StandsForFirst}
 use Rattle.sg_session.specs.Lines.{Line, LineBy}
-use Rattle.sg_session.specs.Lines.Line.{Flush, Other}
+use Rattle.sg_session.specs.Lines.Line.{OfStore, Other}
 use Rattle.sg_session.specs.Causes.{Caused}
 use Rattle.sg_session.specs.Shows.{Core, Shows}
 
@@ -38,7 +38,7 @@ pub record Answers (t : Operations) (g : Ground) (v : View g) (x : Run) (line : 
 
 -- what a line is answered by a session that has stopped
 abbrev pub when_stopped : Line → Answer
-when_stopped Flush = Stopped
+when_stopped (OfStore upkeep) = Stopped
 when_stopped (Other Blank) = Silent
 when_stopped (Other Wrong) = BadSyntax
 when_stopped (Other (Of name request)) = Stopped

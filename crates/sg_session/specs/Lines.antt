@@ -1,32 +1,35 @@
 -- What a line of a script asks of a store over pages, what it may be answered, and the run behind it. A line names its transaction,
 -- and who is in its way is named; the store knows them by their numbers.
-use Rattle.std.specs.Prelude.{◌≡◌, ℕ, Bool, true, List, Option, Some, None, Result}
+use Rattle.std.specs.Prelude.{◌≡◌, ℕ, List, Option, Some, None, Result}
 use Rattle.sg_ops.specs.Table.{Table as Operations}
 use Rattle.sg_serial.specs.Runs.{Live}
 use Rattle.sg_model.specs.declared.stop.Stop.{Stop}
 use Rattle.sg_model.specs.Verb.{Op, Reply}
 use Rattle.sg_words.specs.Answers.{Answer}
 use Rattle.sg_words.specs.Answers.Answer.{Silent, BadSyntax, Stopped, NoTransaction, IsLive}
-use Rattle.sg_words.specs.Requests.{Asked, Request, asked, is_flush}
+use Rattle.sg_words.specs.Requests.{Asked, Request, asked}
 use Rattle.sg_words.specs.Requests.Asked.{Blank, Wrong, Of}
 use Rattle.sg_words.specs.Requests.Request.{Begin, Commit, Abort, Do}
+use Rattle.sg_words.specs.Upkeep.{upkeep_of}
+use Rattle.sg_words.specs.declared.upkeep.Upkeep.{Upkeep}
+use Rattle.sg_words.specs.declared.upkeep.Upkeep.TheVariants as upkeeps
 use Rattle.sg_run.specs.Run.{Run, live_named}
-use Rattle.sg_run.specs.Numbers.{Refusal, Begins, Does, Commits, Aborts, Flushes}
+use Rattle.sg_run.specs.Numbers.{Refusal, Begins, Does, Commits, Aborts, Flushes, Checkpoints}
 use Rattle.sg_run.specs.Named.{answer_done, answer_reply}
 use Rattle.sg_run.specs.Stocked.{Around}
 
--- what a line asks for: that all that was done is written home, or what a line of one transaction asks for
+-- what a line asks for: a flush or a checkpoint of the store as a whole, or what a line of one transaction asks for
 pub data Line : Type 0 where
-  Flush : Line
+  OfStore : (upkeep : Upkeep) → Line
   Other : (line : Asked) → Line
 
--- a line that is no request of a transaction, by whether it is the word `flush`
-abbrev pub line_by : Asked → Bool → Line
-line_by Wrong true = Flush
-line_by line alone = Other line
+-- a line that is no request of a transaction, by what it asks of the store as a whole
+abbrev pub line_by : Asked → Option Upkeep → Line
+line_by Wrong (Some upkeep) = OfStore upkeep
+line_by line upkeep = Other line
 
 abbrev pub line_of : List ℕ → Line
-line_of text = line_by (asked text) (is_flush text)
+line_of text = line_by (asked text) (upkeep_of text)
 
 -- A line of a name, by the live transaction with this name if there is one
 
@@ -58,12 +61,17 @@ abbrev pub UnlessStopped : Operations → Around → List ℕ → Option Stop �
 UnlessStopped t a name (Some why) x request answer y = (answer ≡ Stopped) × (y ≡ x)
 UnlessStopped t a name None x request answer y = RequestBy t a name x request answer y
 
-abbrev pub FlushBy : Around → Run → Answer → Run → Type 0
-FlushBy a x answer y = (r : Result (Unit {0}) Refusal) × (answer ≡ answer_done x.so_far.live r) × Flushes a.before a.now x r y
+-- the store as a whole is flushed, or makes a checkpoint
+abbrev pub KeepsUp : Around → Upkeep → Run → Result (Unit {0}) Refusal → Run → Type 0
+KeepsUp a upkeeps.Flush x r y = Flushes a.before a.now x r y
+KeepsUp a upkeeps.Checkpoint x r y = Checkpoints a.begin a.before a.now x r y
+
+abbrev pub UpkeepBy : Around → Upkeep → Run → Answer → Run → Type 0
+UpkeepBy a upkeep x answer y = (r : Result (Unit {0}) Refusal) × (answer ≡ answer_done x.so_far.live r) × KeepsUp a upkeep x r y
 
 -- HOW A LINE MAY GO, in what is told of the store around it
 abbrev pub LineBy : Operations → Around → Run → Line → Answer → Run → Type 0
-LineBy t a x Flush answer y = FlushBy a x answer y
+LineBy t a x (OfStore upkeep) answer y = UpkeepBy a upkeep x answer y
 LineBy t a x (Other Blank) answer y = (answer ≡ Silent) × (y ≡ x)
 LineBy t a x (Other Wrong) answer y = (answer ≡ BadSyntax) × (y ≡ x)
 LineBy t a x (Other (Of name request)) answer y = UnlessStopped t a name x.stopped x request answer y

@@ -17,7 +17,7 @@ use sg_base::{Failed, Name, OutOfMemory, Sink};
 use sg_model::{Op, Reply, Stop};
 use sg_ops::Ops;
 use sg_store::{Lists, Objects, Refused, Store};
-use sg_words::{Answer, Asked, Request, is_flush, parse_request};
+use sg_words::{Answer, Asked, Request, Upkeep, parse_request, parse_upkeep};
 use std::alloc::Global;
 
 // Why a store has stopped behind a call, if it has.
@@ -45,7 +45,7 @@ impl<E: Objects> Session<E> {
     ghost use Rattle.sg_store.specs.Ground.{IsLawful};
     ghost use Rattle.sg_store.specs.Engine.{Keeps, KeepsBy, AsMeant, AsMeantBy};
     ghost use Rattle.sg_store.specs.Seen as stores;
-    ghost use Rattle.sg_session.specs.Lines.Line.{Flush, Other};
+    ghost use Rattle.sg_session.specs.Lines.Line.{OfStore, Other};
     ghost use Rattle.sg_session.specs.Names.{all_live};
     ghost use Rattle.sg_session.specs.Shows.{Shows};
     ghost use Rattle.sg_store.specs.Heeds.{Heeds};
@@ -169,17 +169,53 @@ impl<E: Objects> Session<E> {
     fn flush(&mut self) -> Answer
         requires running { self.old.store.stop ≡ None }
         requires serves { IsServed self.old }
-        ensures caused { (into : List ℕ) → Caused (E.view self.old.store.engine) (E.view self.new.store.engine) self.old.store.stop self.new.store.stop Flush (shown_answer into result) }
+        ensures caused { (into : List ℕ) → Caused (E.view self.old.store.engine) (E.view self.new.store.engine) self.old.store.stop self.new.store.stop (OfStore Upkeep.Flush) (shown_answer into result) }
         ensures told { (E.view self.new.store.engine).Told → (E.view self.old.store.engine).Told }
         ensures heeds { Heeds self.old.store.stop self.new.store.stop (E.view self.old.store.engine) (E.view self.new.store.engine) }
         ensures means { Keeps (E.view self.old.store.engine) (E.view self.new.store.engine) }
         ensures goes { (into : List ℕ) → AsMeant (E.view self.old.store.engine) (E.view self.new.store.engine) (λ t g v w.
             (x : Run) → IsLawful t g → Shows t g v (session_core self.old) x
-            → Goes t g v x Flush (shown_answer into result) w (session_core self.new)) }
+            → Goes t g v x (OfStore Upkeep.Flush) (shown_answer into result) w (session_core self.new)) }
     {
         match self.store.flush() {
             Ok(()) => Answer::Said(Reply::Done),
             Err(why) => self.names.answer_to(why),
+        }
+    }
+
+    // The log is made durable, with a record of where its redo has to begin.
+    fn checkpoint(&mut self) -> Answer
+        requires running { self.old.store.stop ≡ None }
+        requires serves { IsServed self.old }
+        ensures caused { (into : List ℕ) → Caused (E.view self.old.store.engine) (E.view self.new.store.engine) self.old.store.stop self.new.store.stop (OfStore Upkeep.Checkpoint) (shown_answer into result) }
+        ensures told { (E.view self.new.store.engine).Told → (E.view self.old.store.engine).Told }
+        ensures heeds { Heeds self.old.store.stop self.new.store.stop (E.view self.old.store.engine) (E.view self.new.store.engine) }
+        ensures means { Keeps (E.view self.old.store.engine) (E.view self.new.store.engine) }
+        ensures goes { (into : List ℕ) → AsMeant (E.view self.old.store.engine) (E.view self.new.store.engine) (λ t g v w.
+            (x : Run) → IsLawful t g → Shows t g v (session_core self.old) x
+            → Goes t g v x (OfStore Upkeep.Checkpoint) (shown_answer into result) w (session_core self.new)) }
+    {
+        match self.store.checkpoint() {
+            Ok(()) => Answer::Said(Reply::Done),
+            Err(why) => self.names.answer_to(why),
+        }
+    }
+
+    // What is asked of the store as a whole is done.
+    fn keep_up(&mut self, upkeep: Upkeep) -> Answer
+        requires running { self.old.store.stop ≡ None }
+        requires serves { IsServed self.old }
+        ensures caused { (into : List ℕ) → Caused (E.view self.old.store.engine) (E.view self.new.store.engine) self.old.store.stop self.new.store.stop (OfStore upkeep) (shown_answer into result) }
+        ensures told { (E.view self.new.store.engine).Told → (E.view self.old.store.engine).Told }
+        ensures heeds { Heeds self.old.store.stop self.new.store.stop (E.view self.old.store.engine) (E.view self.new.store.engine) }
+        ensures means { Keeps (E.view self.old.store.engine) (E.view self.new.store.engine) }
+        ensures goes { (into : List ℕ) → AsMeant (E.view self.old.store.engine) (E.view self.new.store.engine) (λ t g v w.
+            (x : Run) → IsLawful t g → Shows t g v (session_core self.old) x
+            → Goes t g v x (OfStore upkeep) (shown_answer into result) w (session_core self.new)) }
+    {
+        match upkeep {
+            Upkeep::Flush => self.flush(),
+            Upkeep::Checkpoint => self.checkpoint(),
         }
     }
 
@@ -231,14 +267,15 @@ impl<E: Objects> Session<E> {
         }
     }
 
-    // Writes all that was done home, unless the store has stopped, and hands back the engine, with why the
-    // store has stopped, if it has.
+    // Makes a checkpoint and writes all that was done home, unless the store has stopped, and hands back the
+    // engine, with why the store has stopped, if it has.
     fn close(self) -> (Option<Stop>, E)
         requires serves { IsServed self }
         ensures means { Keeps (E.view (session_engine self)) (E.view result.1) }
         // a session that has stopped makes no call of its engine
         ensures stopped { IsSome self.store.stop → (result.1 ≡ session_engine self) × (result.0 ≡ self.store.stop) }
-        ensures full { result.0 ≡ Some Stop.LogEnd → self.store.stop ≡ Some Stop.LogEnd }
+        // it stops for the log's end only where a record might pass that
+        ensures full { result.0 ≡ Some Stop.LogEnd → (self.store.stop ≡ Some Stop.LogEnd) ⊎ IsAtEnd (E.view result.1).tail }
         ensures heeds { Heeds self.store.stop result.0 (E.view (session_engine self)) (E.view result.1) }
         ensures closes { AsMeant (E.view (session_engine self)) (E.view result.1) (λ t g v w.
             (x : Run) → IsLawful t g → Shows t g v (session_core self) x → IsClosed t g v (session_core self) x result.0 w) }
@@ -250,8 +287,9 @@ impl<E: Objects> Session<E> {
         (stopped_by(stop, done), engine)
     }
 
-    /// Ends the session. Unless the store has stopped, the live transactions abort in order of begin, and
-    /// all that was done is written home. Hands back the engine, with why the store has stopped, if it has.
+    /// Ends the session. Unless the store has stopped, the live transactions abort in order of begin, a
+    /// checkpoint is made, and all that was done is written home. Hands back the engine, with why the store
+    /// has stopped, if it has.
     pub fn finish(self, ops: &Ops) -> (Option<Stop>, E)
         requires serves { Serves (table_of record_meaning range_meaning ops.now) self }
         ensures means { KeepsBy (table_of record_meaning range_meaning ops.now) (E.view (session_engine self)) (E.view result.1) }
@@ -355,13 +393,13 @@ impl<E: Lists> Session<E> {
         match parse_request(text, values, &mut request) {
             Asked::Blank => Answered::Line(Answer::Silent),
             Asked::Wrong => {
-                if !is_flush(text) {
+                let Some(upkeep) = parse_upkeep(text) else {
                     return Answered::Line(Answer::BadSyntax);
-                }
+                };
                 if self.store.stop().is_some() {
                     return Answered::Line(Answer::Stopped);
                 }
-                Answered::Line(self.flush())
+                Answered::Line(self.keep_up(upkeep))
             }
             Asked::Of { name, words: _ } => {
                 if self.store.stop().is_some() {

@@ -4,3 +4,4 @@ pub mod Spared
 pub mod Holding
 pub mod Calls
 pub mod Places
+pub mod Leaving

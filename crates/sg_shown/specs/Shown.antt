@@ -148,7 +148,8 @@ abbrev pub shown : {E : Type 0} {g : Ghosts E} → (s : Acts E g) → Shown (bas
 shown {g = g} s = shown_of g.recovers (over s)
 
 -- WHO ACTS AND THE ROWS of a space over an engine that an opening found, by its log, of which nothing was cut away since: nothing is taken, and
--- nothing freed; each transaction that goes on has one row, and no other has one; and where an action has no end, who acts is whose it is, and else nobody acts
+-- nothing freed; each transaction that goes on has one row, and no other has one; where an action has no end, who acts is whose it is, with its last record, and else
+-- nobody acts; and no action was begun, so that no change is logged
 pub record AsFound (a : Over) : Type 0 where
   pub based : a.engine.base ≤ a.engine.tail
   pub start : a.engine.base ≡ a.start
@@ -158,9 +159,10 @@ pub record AsFound (a : Over) : Type 0 where
   pub low : (u : ℕ) → a.engine.tail ≤ u → last_in a.rows u ≡ None
   pub apart : AreApart a.rows
   pub known : (u last : ℕ) → u ≢ 0 → last_in a.rows u ≡ Some last → is_in u (tally a.engine.steps).live ≡ true
-  pub rest : a.begun ≡ false → (a.actor ≡ at_rest)
+  pub quiet : a.begun ≡ false
+  pub rest : a.actor.last ≡ 0 → (a.actor ≡ at_rest)
       × ((u : ℕ) → (u ≡ 0) ⊎ (is_in u (tally a.engine.steps).live ≡ true) → last_of u a.engine.steps ≡ border_of u a.engine.steps)
-  pub acts : a.begun ≡ true → IsUnfinished a.engine.steps a.actor.txn.0 × (a.actor.last ≡ last_of a.actor.txn.0 a.engine.steps)
+  pub acts : a.actor.last ≢ 0 → IsUnfinished a.engine.steps a.actor.txn.0 × (a.actor.last ≡ last_of a.actor.txn.0 a.engine.steps)
 
 -- flags of so many pages and bands are lent
 pub record HasRoom (room : Option Maps) (pages bands : ℕ) : Type 0 where

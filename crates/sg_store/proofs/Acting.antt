@@ -25,6 +25,8 @@ use Rattle.sg_store.specs.Calls.{Stays, HasRoom}
 use Rattle.sg_store.proofs.Lines.{reads}
 use Rattle.sg_store.proofs.Actions.{reads_now}
 use Rattle.sg_store.proofs.Performing as performing
+use Rattle.sg_store.proofs.Stocked.{stock_moves}
+use Rattle.sg_store.specs.Room.{LeadsStock}
 use Rattle.sg_recovery.proofs.Basic.{some_one}
 
 -- the view of an engine in which this action has begun
@@ -85,7 +87,14 @@ module _ (t : Operations) (g : Ground) (lawful : IsLawful t g) (v : View g) (txn
     pub stays_on : (w z : View g) → w ≡ z → Stays t g v w x → Stays t g v z x
     stays_on w z e h = subst (λ y. Stays t g v y x) e h
 
+    -- what leads the stock on from there leads it on from the begin
+    from_begin : (w : View g) → LeadsStock t g v1 w (live_objects t x) u op → LeadsStock t g v w (live_objects t x) u op
+    from_begin w h r shown = h r (stock_moves t g v v1 r (ap (λ (z : View g). z.log) began.1) (ap (λ (z : View g). z.first) began.1) shown)
+
     module _ (w : View g) (c : Changes t g begun v1 w) where
+      pub looked_stock : Changed t g begun v1 w c.made → LeftAlone t g v1 w room_then.reading op → LeadsStock t g v w (live_objects t x) u op
+      looked_stock changed l = from_begin w (performing.looked_stock t g lawful v1 txns x u op needs room_then granted begun refl begin_so w c changed l)
+
       -- whatever it came to
       pub perform_stays : Stays t g v w x
       perform_stays = subst (λ (z : disk.View). LeavesOnly z w.disk (λ i. StandsFor t g i (committed_objects t x))) (ap (λ (z : View g). z.disk) began.1)
@@ -114,6 +123,9 @@ module _ (t : Operations) (g : Ground) (lawful : IsLawful t g) (v : View g) (txn
       module _ (changed : Changed t g begun v1 w c.made) (note : List ℕ) (n : IsNotedBy t g begun w room_then.reading op note) (w2 : View g) (l p i : ℕ) (ends : Appends t g w w2 (record { lsn = l; is = Rattle.sg_recovery.specs.Log.Record.TopEnd u p i (g.note note) })) where
         pub end_stays : Stays t g v w2 x
         end_stays = joined perform_stays (performing.ends_stay t g lawful v1 txns x u op needs room_then granted begun refl begin_so w c changed note n w2 l p i ends)
+
+        pub end_stock : Appended t g w w2 (record { lsn = l; is = Rattle.sg_recovery.specs.Log.Record.TopEnd u p i (g.note note) }) → LeadsStock t g v w2 (live_objects t x) u op
+        end_stock d = from_begin w2 (performing.done_stock t g lawful v1 txns x u op needs room_then granted begun refl begin_so w c changed note n w2 l p i ends d)
 
         pub end_kept : (after : List Txn) → ((0 < needs.reserve) × (after ≡ reserving u (marked_by op u txns))) ⊎ ((needs.reserve ≡ 0) × (after ≡ marked_by op u txns)) → Appended t g w w2 (record { lsn = l; is = Rattle.sg_recovery.specs.Log.Record.TopEnd u p i (g.note note) }) → IsKept t g w2 after (did t x u op)
         end_kept after (inl (some, is)) d = subst (λ ks. IsKept t g w2 ks (did t x u op)) (sym is) (performing.done_reserved t g lawful v1 txns x u op needs room_then granted begun refl begin_so w c changed note n w2 l p i ends d some)

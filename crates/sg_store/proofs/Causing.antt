@@ -1,6 +1,6 @@
 -- Why calls were answered so, put together from their parts.
 use Rattle.std.proofs.Common.{◌≡◌, ℕ, ◌≤◌, Bool, true, false, List, map, Option, Some, None, refl, sym, ap, ◌∙◌, subst, arith}
-use Rattle.std.specs.Prelude.{◌<◌, ◌+◌, ◌^◌, length, sum_by, is_some, Result, Ok, Err, IfErr}
+use Rattle.std.specs.Prelude.{◌<◌, ◌+◌, ◌^◌, length, sum_by, is_some, IsSome, Result, Ok, Err, IfErr}
 use Rattle.sg_base.specs.Ends.{HasRisen}
 use Rattle.sg_serial.specs.Locks.{Touch, first_holder, hold_all}
 use Rattle.sg_model.specs.declared.stop.Stop.{Stop}
@@ -20,8 +20,9 @@ use Rattle.sg_store.specs.Engine.{Sizes, Shown, IsDiskFault}
 use Rattle.sg_store.specs.Refusals.{said_lock}
 use Rattle.sg_store.specs.Stops.{refused_at, stop_at}
 use Rattle.sg_store.specs.Store.{Core}
-use Rattle.sg_store.specs.Causes.{AsksNothing, BreaksFor, FlushesFor, ChecksFor, EndsFor, OnlyHolds, HoldsFor, LacksPages, RoomsFor, FailsFor, ActsFor, RefusesFor, DoesFor, UnlistedFor}
+use Rattle.sg_store.specs.Causes.{AsksNothing, BreaksFor, FlushesFor, ChecksFor, ClosesFor, EndsFor, OnlyHolds, HoldsFor, LacksPages, RoomsFor, FailsFor, ActsFor, RefusesFor, DoesFor, UnlistedFor}
 use Rattle.sg_store.proofs.Ending.{IsNear}
+use Rattle.sg_store.proofs.Heeding.{risen_on}
 use Rattle.sg_store.proofs.Holding.{busy_holder}
 use Rattle.sg_store.proofs.Holders.{all_hold, holder_is}
 
@@ -202,3 +203,34 @@ holds_from old mid new k m u le (Err (refusals.NoBands f n)) h = absurd h
 holds_from old mid new k m u le (Err refusals.LogEnd) h = absurd h
 holds_from old mid new k m u le (Err refusals.Memory) h = absurd h
 holds_from old mid new k m u le (Err refusals.Stopped) h = absurd h
+
+-- a flush behind a checkpoint
+module _ {basis : Sizes → Ground} (old mid new : Shown basis) (k l m : Core) (f : ChecksFor old mid k l (Ok tt)) (first : old.faults ≤ mid.faults) (then_ : mid.faults ≤ new.faults) where
+  pub closes_for : (r : Result (Unit {0}) Refused) → FlushesFor mid new l m r → ClosesFor old new k m r
+  closes_for (Ok done) h = (f.0, h.1 ∙ f.1)
+  closes_for (Err refusals.NoTxn) h = absurd h
+  closes_for (Err refusals.TooManyLive) h = absurd h
+  closes_for (Err (refusals.Busy holder)) h = absurd h
+  closes_for (Err refusals.LocksFull) h = absurd h
+  closes_for (Err (refusals.Model reason)) h = absurd h
+  closes_for (Err (refusals.NoSpace free reserved need)) h = absurd h
+  closes_for (Err (refusals.NoBands free need)) h = absurd h
+  closes_for (Err refusals.LogEnd) h = absurd h
+  closes_for (Err refusals.Memory) h = absurd h
+  closes_for (Err refusals.DiskFault) h =
+      (f.0, (risen_on old.faults mid.faults new.faults new.faults first then_ (omega arith) h.1.0, h.1.1 ∙ ap (λ (c : Core). record c { held = m.held; stopped = Some stops.Disk }) f.1))
+  closes_for (Err refusals.Stopped) h = (subst (λ (c : Core). IsSome c.stopped) f.1 h.0, h.1 ∙ f.1)
+
+-- and behind one that failed there is none
+pub closes_not : {basis : Sizes → Ground} (old new : Shown basis) (k m : Core) (why : Refused) → old.tail ≤ new.tail → ChecksFor old new k m (Err why) → ClosesFor old new k m (Err why)
+closes_not old new k m refusals.NoTxn further h = absurd h
+closes_not old new k m refusals.TooManyLive further h = absurd h
+closes_not old new k m (refusals.Busy holder) further h = absurd h
+closes_not old new k m refusals.LocksFull further h = absurd h
+closes_not old new k m (refusals.Model reason) further h = absurd h
+closes_not old new k m (refusals.NoSpace free reserved need) further h = absurd h
+closes_not old new k m (refusals.NoBands free need) further h = absurd h
+closes_not old new k m refusals.LogEnd further h = (let at = h.1 in (h.0, omega (arith, further, at), h.2))
+closes_not old new k m refusals.Memory further h = absurd h
+closes_not old new k m refusals.DiskFault further h = h
+closes_not old new k m refusals.Stopped further h = h

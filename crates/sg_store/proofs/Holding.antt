@@ -169,6 +169,8 @@ names_touched o = refl
 pub rested_same : (t : Operations) (g : Ground) (v w : View g) → Rested t g v w → SameRoom t g v w
 rested_same t g v w r = record {
   reads = λ o e. subst (λ p. g.reading (made (setting t g) p w.log) ≡ Some o) (sym r.goes_on.first) (subst (λ (l : List (Numbered g.C g.N)). g.reading (made (setting t g) v.first l) ≡ Some o) (sym r.log) e);
+  first = r.goes_on.first;
+  log = r.log;
   pages = r.pages;
   bands = r.bands;
 }

@@ -1,5 +1,5 @@
 -- Behind a commit: what the transaction dropped is freed, and it ends.
-use Rattle.std.proofs.Common.{◌≡◌, ◌⊎◌, inl, inr, ℕ, ◌+◌, ◌<◌, ◌≤◌, Bool, true, false, not, cond, List, [], ◌∷◌, ◌++◌, Option, Some, refl, sym, ap, ◌∙◌, subst, arith}
+use Rattle.std.proofs.Common.{◌≡◌, ◌⊎◌, inl, inr, ℕ, ◌+◌, ◌<◌, ◌≤◌, Bool, true, false, not, cond, List, [], ◌∷◌, ◌++◌, map, Option, Some, refl, sym, ap, ◌∙◌, subst, arith}
 use Rattle.std.specs.Prelude.{◌==◌, ◌&&◌, ◌||◌}
 use Rattle.sg_disk.proofs.Moments.{started, weaker, joined}
 use Rattle.sg_ops.specs.Table.{Table as Operations}
@@ -39,6 +39,9 @@ use Rattle.sg_store.proofs.Live.{each_bare}
 use Rattle.sg_store.proofs.Actions.{changes_live, changes_notes, changes_next, changes_keep, reads_now, settles}
 use Rattle.sg_store.proofs.Calls.{moved, call_stands}
 use Rattle.sg_store.proofs.Marking.{marks_fewer, marks_without, none_unmarked}
+use Rattle.sg_room.specs.Marks.{freed}
+use Rattle.sg_store.specs.Room.{step_of, FreesStock}
+use Rattle.sg_store.proofs.Stocked.{frees_then, frees_nothing}
 use Rattle.sg_store.proofs.Owning.{Inside, grown, fewer, owned_ended, next_after, differs}
 
 clashing : {A : Type 0} (b : Bool) → b ≡ true → b ≡ false → A
@@ -253,6 +256,26 @@ module _ (t : Operations) (g : Ground) (lawful : IsLawful t g) (v : View g) (txn
               let a2 : next_lsn w.log ≡ next_lsn (c.made ++ v.log) = ap (λ (ls : List (Numbered g.C g.N)). next_lsn ls) f.changed.log in
               let a3 : next_lsn w.log ≤ next_lsn w2.log = next_after t g w w2 end d in omega (arith, a1, a2, a3)
 
+      -- of the stock it took what the transaction's commit takes
+      pub freed_stock : Appended t g w w2 end → FreesStock t g v w2 u
+      freed_stock d r shown = (
+        record { marks = g.marks f.now; steps = r.steps },
+        subst (λ i. freed i (g.marks f.now) ≡ freed i r.marks) f.of (f.stock ∙ ap (freed f.dropper) (shown.marks o reads_o)),
+        refl,
+        record {
+          marks = λ b e. ap (λ z. g.marks z) (sym (some_one f.now b (sym f.reads.reading
+              ∙ subst (λ (ls : List (Numbered g.C g.N)). g.reading (made (setting t g) w.first ls) ≡ Some b) d.log
+              (subst (λ q. g.reading (made (setting t g) q w2.log) ≡ Some b) d.goes_on.first e))));
+          steps = ap (λ (ls : List (Numbered g.C g.N)). map (step_of g) (tally ls).notes) d.log
+              ∙ (ap (λ (ls : List (Numbered g.C g.N)). map (step_of g) (tally (end ∷ ls)).notes) f.changed.log
+              ∙ (ap (λ b. map (step_of g) (cond b (system_note ∷ (tally (c.made ++ v.log)).notes) (tally (c.made ++ v.log)).notes)) system
+              ∙ (ap (λ ns. map (step_of g) ns) notes ∙ shown.steps)));
+        },
+      )
+        where
+          system_note : Top g.C g.N
+          system_note = record { lsn = l; transaction = 0; undo_next = i; note = note; changes = log.changes_of (log.open_of 0 (tally (c.made ++ v.log)).opened) }
+
       pub freed_higher : Appended t g w w2 end → v.tail < w2.tail
       freed_higher d = let a : v.tail ≤ w.tail = f.changed.goes_on.tail in let b : w.tail ≤ l = ends.above in let e : l < w2.tail = d.tail in omega (arith, a, b, e)
 
@@ -390,6 +413,7 @@ module _ (t : Operations) (g : Ground) (lawful : Type 0) (v w z : View g) (befor
   since_more more after same later tail adds stays goes = record {
     stays = λ x l k. joined (s.stays x l k) (stays x l (here x (s.leaving x l k)));
     leaving = λ x l k. subst (λ (c : Core). IsLeaving t g z c.live x u) s.same (goes x l (here x (s.leaving x l k))).0;
+    stock = λ x l k. frees_then t g v w z u (s.stock x l k) (goes x l (here x (s.leaving x l k))).2;
     later = (let a : v.faults ≤ w.faults = s.later in omega (arith, a, later));
     tail = (let a : v.tail ≤ w.tail = s.tail in omega (arith, a, tail));
     sum = adds;
@@ -407,6 +431,9 @@ module _ (t : Operations) (g : Ground) (lawful : Type 0) (v w z : View g) (befor
       let h = goes (subst (λ (c : Core). IsLeaving t g w c.live x u) (sym s.same) (s.leaving x l k)) in
       (subst (λ (c : Core). IsLeaving t g z c.live x u) s.same h.0, h.1)
 
+  pub since_stock : (x : Run) → lawful → IsLeaving t g v before.live x u → (IsLeaving t g w now.live x u → Frees t g w z now.live x u false) → FreesStock t g v z u
+  since_stock x l k goes = frees_then t g v w z u (s.stock x l k) (goes (subst (λ (c : Core). IsLeaving t g w c.live x u) (sym s.same) (s.leaving x l k))).2
+
   -- the log grew with what was freed
   pub since_rises : (after : ℕ) → after + z.tail ≡ MOST → left ≤ after → (x : Run) → lawful → IsLeaving t g v before.live x u → (IsLeaving t g w now.live x u → Frees t g w z now.live x u true) → ⊥
   since_rises after sum high x l k goes =
@@ -422,6 +449,7 @@ pub since_none : (t : Operations) (g : Ground) (lawful : Type 0) (v : View g) (k
 since_none t g lawful v k u left adds = record {
   stays = λ x l h. started v.disk (λ c. StandsFor t g c (committed_objects t (committed x u))) (λ c i. image_stands t g v (committed_objects t (committed x u)) v.log h.logs.keeps.fronts c (h.engine.images c i));
   leaving = λ x l h. h;
+  stock = λ x l h. frees_nothing t g v v u refl refl;
   later = omega arith;
   tail = omega arith;
   sum = adds;
@@ -430,3 +458,7 @@ since_none t g lawful v k u left adds = record {
 
 pub none_along : (t : Operations) (g : Ground) (lawful : IsLawful t g) (w z : View g) (u : ℕ) → w ≡ z → HasNone t g w u → HasNone t g z u
 none_along t g lawful w z u e h = subst (λ (i : View g). HasNone t g i u) e h
+
+-- the same from the begin of the action on
+pub frees_from : (t : Operations) (g : Ground) (v v1 w : View g) (u : ℕ) (a : Option (Action g)) → v1 ≡ record v { action = a } → FreesStock t g v1 w u → FreesStock t g v w u
+frees_from t g v v1 w u a e h = frees_then t g v v1 w u (frees_nothing t g v v1 u (ap (λ (i : View g). i.log) e) (ap (λ (i : View g). i.first) e)) h

@@ -19,6 +19,7 @@ pub mod Holding
 pub mod Holders
 pub mod Causing
 pub mod Rooming
+pub mod Stocked
 pub mod Performing
 pub mod Acting
 pub mod Noting

@@ -9,7 +9,6 @@ use Rattle.sg_serial.specs.Locks.{Touch}
 use Rattle.sg_model.specs.Touches.{Resource}
 use Rattle.sg_model.specs.Verb.{Op}
 use Rattle.sg_core.specs.Live.{Txn, is_of, is_live, without, begun, reserving, one_more, has_dropped, dropping, a_dropper}
-use Rattle.sg_recovery.specs.Laws.{Each}
 use Rattle.sg_recovery.specs.Log.{Top}
 use Rattle.sg_recovery.specs.Setting.{Setting}
 use Rattle.sg_recovery.proofs.Basic.{each_more, each_append, each_filter, number_is}

@@ -39,8 +39,8 @@ unroomed_numbers t g lawful b bs v w k m x op e s refusals.DiskFault h = tt
 unroomed_numbers t g lawful b bs v w k m x op e s refusals.NoTxn h = tt
 unroomed_numbers t g lawful b bs v w k m x op e s refusals.TooManyLive h = tt
 unroomed_numbers t g lawful b bs v w k m x op e s (refusals.Model reason) h = tt
-unroomed_numbers t g lawful b bs v w k m x op e s (refusals.NoSpace f r n) h = subst (λ z. ArePages t g b z op f r n) e (record { is_free = h.5.is_free ∙ s.pages; are_reserved = h.5.are_reserved; is_needed = λ o i. h.5.is_needed o (s.reads o i) })
-unroomed_numbers t g lawful b bs v w k m x op e s (refusals.NoBands f n) h = (subst (λ z. HadPages t g b z op) e (before_pages t g b v k.live op s h.4.0), record { is_free = h.4.1.is_free ∙ s.bands; is_needed = λ o i. h.4.1.is_needed o (s.reads o i) })
+unroomed_numbers t g lawful b bs v w k m x op e s (refusals.NoSpace f r n) h = subst (λ z. ArePages t g b z op f r n) e (record { is_free = h.5.is_free ∙ s.pages; is_left = λ o i. h.5.is_left o (s.reads o i); are_reserved = h.5.are_reserved; is_needed = λ o i. h.5.is_needed o (s.reads o i) })
+unroomed_numbers t g lawful b bs v w k m x op e s (refusals.NoBands f n) h = (subst (λ z. HadPages t g b z op) e (before_pages t g b v k.live op s h.4.0), record { is_free = h.4.1.is_free ∙ s.bands; is_left = λ o i. h.4.1.is_left o (s.reads o i); is_needed = λ o i. h.4.1.is_needed o (s.reads o i) })
 unroomed_numbers t g lawful b bs v w k m x op e s refusals.LogEnd h = record { pages = subst (λ z. HadPages t g b z op) e (before_pages t g b v k.live op s h.5.pages); bands = λ o i. subst (λ n. (g.needs t o op).bands ≤ n) s.bands (h.5.bands o (s.reads o i)) }
 unroomed_numbers t g lawful b bs v w k m x op e s refusals.Memory h = tt
 unroomed_numbers t g lawful b bs v w k m x op e s refusals.Stopped h = tt

@@ -34,6 +34,9 @@ use Rattle.sg_store.proofs.Actions.{changes_live, changes_notes, changes_next, t
 use Rattle.sg_store.proofs.Lines.{reads}
 use Rattle.sg_store.proofs.Live.{wanted_sum, wanted_one, each_bare, same_live, reserved_note, reserved_none, numbers_reserving}
 use Rattle.sg_store.proofs.Calls.{moved, call_stands}
+use Rattle.sg_store.proofs.Stocked.{stock_moves}
+use Rattle.sg_store.specs.Room.{AcceptsOp, LeadsStock, step_at, step_of}
+use Rattle.sg_room.specs.Steps.{RunStock}
 
 module _ (t : Operations) (g : Ground) (lawful : IsLawful t g) (v : View g) (txns : List Txn) (x : Run) (u : ℕ) (op : Op) (needs : Needed) (room : HasRoom t g v txns x op needs) (granted : IsGranted t x u op)
     (a : Action g) (own : a.transaction ≡ u) (begin : a.pages ≡ pages_of t g v) (w : View g) (c : Changes t g a v w) where
@@ -60,6 +63,9 @@ module _ (t : Operations) (g : Ground) (lawful : IsLawful t g) (v : View g) (txn
     o_is : before.keeps.running.reading ≡ o
     o_is = some_one before.keeps.running.reading o (sym (reads_now t g lawful v.first w.durable v.log x before kept.idle) ∙ room.reads.reading)
 
+    objects_are : g.objects o ≡ live_objects t x
+    objects_are = sym (ap (λ z. g.objects z) o_is) ∙ reads t g lawful v.first w.durable v.log x before
+
     -- an operation that left things as they were
     pub looked_kept : LeftAlone t g v w o op → IsKept t g w txns (did t x u op)
     looked_kept l =
@@ -77,6 +83,14 @@ module _ (t : Operations) (g : Ground) (lawful : IsLawful t g) (v : View g) (txn
               (kept.buried b (subst (λ (ls : List (Numbered g.C g.N)). g.reading (made (setting t g) v.first ls) ≡ Some b) l.log (subst (λ q. g.reading (made (setting t g) q w.log) ≡ Some b) changed.goes_on.first e))));
           marked = λ b e. kept.marked b (subst (λ (ls : List (Numbered g.C g.N)). g.reading (made (setting t g) v.first ls) ≡ Some b) l.log (subst (λ q. g.reading (made (setting t g) q w.log) ≡ Some b) changed.goes_on.first e));
         }
+
+    -- and may leave the stock
+    pub looked_stock : LeftAlone t g v w o op → LeadsStock t g v w (live_objects t x) u op
+    looked_stock l r shown = (
+      r,
+      subst (λ m. AcceptsOp t m r u op r) objects_are (l.stock u r),
+      stock_moves t g v w r l.log changed.goes_on.first shown,
+    )
 
     module _ (note : List ℕ) (n : IsNotedBy t g a w o op note) (w2 : View g) (l p i : ℕ) (ends : Appends t g w w2 (record { lsn = l; is = TopEnd u p i (g.note note) })) where
       abbrev top : Top g.C g.N
@@ -174,6 +188,33 @@ module _ (t : Operations) (g : Ground) (lawful : IsLawful t g) (v : View g) (txn
                 → AreReserved (setting t g) after (tally (record { lsn = l; is = TopEnd u p i (g.note note) } ∷ (c.made ++ v.log))).notes
             notes_are live h = subst (AreReserved (setting t g) after) (sym (ap (λ b. cond b (top ∷ (tally (c.made ++ v.log)).notes) (tally (c.made ++ v.log)).notes) live
                 ∙ ap (λ ns. top ∷ ns) (changes_notes t g lawful v.first v.durable a c.made v.log c.are))) h
+
+        -- the stock goes on as the operation's line lets it
+        pub done_stock : LeadsStock t g v w2 (live_objects t x) u op
+        done_stock r shown = (
+          record { marks = g.marks n.now; steps = step_at g u l (g.note note) ∷ r.steps },
+          subst (λ m. AcceptsOp t m r u op (after_it u)) objects_are (subst (λ z. AcceptsOp t (g.objects o) r z op (after_it z)) own
+              (subst (λ ms. AcceptsOp t (g.objects o) (record { marks = ms; steps = r.steps }) a.transaction op (after_it a.transaction))
+              (shown.marks o room.reads.reading) (n.stock l r.steps))),
+          record {
+            marks = λ b e. ap (λ z. g.marks z) (sym (some_one n.now b (sym n.reads.reading
+                ∙ subst (λ (ls : List (Numbered g.C g.N)). g.reading (made (setting t g) w.first ls) ≡ Some b) did_end.log
+                (subst (λ q. g.reading (made (setting t g) q w2.log) ≡ Some b) did_end.goes_on.first e))));
+            steps = ap (λ ns. map (step_of g) ns) notes_now ∙ ap (λ ss. step_at g u l (g.note note) ∷ ss) shown.steps;
+          },
+        )
+          where
+            after_it : ℕ → RunStock
+            after_it z = record { marks = g.marks n.now; steps = step_at g z l (g.note note) ∷ r.steps }
+
+            in_live : is_in u (tally (c.made ++ v.log)).live ≡ true
+            in_live = ap (λ ls. is_in u ls) (changes_live t g lawful v.first v.durable a c.made v.log c.are) ∙ (kept.logs.same.lives u ∙ granted.live)
+
+            notes_now : (tally w2.log).notes ≡ top ∷ (tally v.log).notes
+            notes_now = ap (λ (ls : List (Numbered g.C g.N)). (tally ls).notes) did_end.log
+                ∙ (ap (λ (ls : List (Numbered g.C g.N)). (tally (record { lsn = l; is = TopEnd u p i (g.note note) } ∷ ls)).notes) changed.log
+                ∙ (ap (λ b. cond b (top ∷ (tally (c.made ++ v.log)).notes) (tally (c.made ++ v.log)).notes) in_live
+                ∙ ap (λ ns. top ∷ ns) (changes_notes t g lawful v.first v.durable a c.made v.log c.are)))
 
         -- the transaction is marked where it has dropped something
         marks_now : AreMarked g (marked_by op u txns) n.now

@@ -19,6 +19,8 @@ use Rattle.sg_store.specs.Engine.{View, Rested, pages_of}
 use Rattle.sg_store.specs.Verbs.{Reads, HasNeed, HasNeeds}
 use Rattle.sg_store.specs.Store.{Core, IsKept}
 use Rattle.sg_store.specs.Calls.{Rooms, Stays, HadPages}
+use Rattle.sg_store.specs.Room.{stock_of, ArePagesLeft, AreBandsLeft, LeavesRoom}
+use Rattle.sg_room.specs.Bounds.{page_sum, band_sum}
 use Rattle.sg_store.proofs.Holding.{reading, reads_so, objects_so, rested_kept}
 
 both : (a b : Bool) → (a && b) ≡ true → (a ≡ true) × (b ≡ true)
@@ -84,11 +86,17 @@ module _ (t : Operations) (g : Ground) (lawful : IsLawful t g) (v : View g) (x :
       go n is f (inl z) = inl (is ∙ z)
       go n is f (inr le) = inr (omega (arith, is, f, le))
 
-  pub rooms_space : (needs : Needed) (free reserved need : ℕ) → need ≡ needs.pages → free ≡ w.free_pages → reserved ≡ sum_by (λ (i : Txn). i.reserved) k.live → Rested t g v w → HasNeed t g (reading t g lawful v x k.live kept) op needs → (0 < need) × (free < reserved + need) → Rooms t g v w k k x op (Err (refusals.NoSpace free reserved need))
-  rooms_space needs free reserved need is f s r h p = (now r, replies needs h, p.0, p.1, refl, record { is_free = f ∙ r.pages; are_reserved = s; is_needed = λ o e. is ∙ (h.pages ∙ ap (λ z. (g.needs t z op).pages) (there o e)) })
+  pages_left : LeavesRoom t g v → (free : ℕ) → free ≡ v.free_pages → ArePagesLeft t g v free
+  pages_left leaves free is o e = subst (λ n. g.sizes.pages ≤ n + page_sum (stock_of g o)) (sym is) (leaves o e).pages
 
-  pub rooms_bands : (needs : Needed) (free need : ℕ) → need ≡ needs.bands → free ≡ w.free_bands → Rested t g v w → HasNeed t g (reading t g lawful v x k.live kept) op needs → (needs.pages ≡ 0) ⊎ (sum_by (λ (i : Txn). i.reserved) k.live + needs.pages ≤ w.free_pages) → free < need → Rooms t g v w k k x op (Err (refusals.NoBands free need))
-  rooms_bands needs free need is f r h enough p = (now r, replies needs h, p, refl, (had_pages needs r h enough, record { is_free = f ∙ r.bands; is_needed = λ o e. is ∙ (h.bands ∙ ap (λ z. (g.needs t z op).bands) (there o e)) }))
+  bands_left : LeavesRoom t g v → (free : ℕ) → free ≡ v.free_bands → AreBandsLeft t g v free
+  bands_left leaves free is o e = ap (λ n. n + (g.sizes.map + band_sum (stock_of g o))) is ∙ (leaves o e).bands
+
+  pub rooms_space : LeavesRoom t g v → (needs : Needed) (free reserved need : ℕ) → need ≡ needs.pages → free ≡ w.free_pages → reserved ≡ sum_by (λ (i : Txn). i.reserved) k.live → Rested t g v w → HasNeed t g (reading t g lawful v x k.live kept) op needs → (0 < need) × (free < reserved + need) → Rooms t g v w k k x op (Err (refusals.NoSpace free reserved need))
+  rooms_space leaves needs free reserved need is f s r h p = (now r, replies needs h, p.0, p.1, refl, record { is_free = f ∙ r.pages; is_left = pages_left leaves free (f ∙ r.pages); are_reserved = s; is_needed = λ o e. is ∙ (h.pages ∙ ap (λ z. (g.needs t z op).pages) (there o e)) })
+
+  pub rooms_bands : LeavesRoom t g v → (needs : Needed) (free need : ℕ) → need ≡ needs.bands → free ≡ w.free_bands → Rested t g v w → HasNeed t g (reading t g lawful v x k.live kept) op needs → (needs.pages ≡ 0) ⊎ (sum_by (λ (i : Txn). i.reserved) k.live + needs.pages ≤ w.free_pages) → free < need → Rooms t g v w k k x op (Err (refusals.NoBands free need))
+  rooms_bands leaves needs free need is f r h enough p = (now r, replies needs h, p, refl, (had_pages needs r h enough, record { is_free = f ∙ r.bands; is_left = bands_left leaves free (f ∙ r.bands); is_needed = λ o e. is ∙ (h.bands ∙ ap (λ z. (g.needs t z op).bands) (there o e)) }))
 
   pub rooms_end : (needs : Needed) → Rested t g v w → HasNeed t g (reading t g lawful v x k.live kept) op needs → (needs.pages ≡ 0) ⊎ (sum_by (λ (i : Txn). i.reserved) k.live + needs.pages ≤ w.free_pages) → needs.bands ≤ w.free_bands → IsTrue (is_changing op) × (2 ^ 62 < w.tail) → Rooms t g v w k k x op (Err refusals.LogEnd)
   rooms_end needs r h enough some p = (

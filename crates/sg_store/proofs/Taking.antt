@@ -8,6 +8,7 @@ use Rattle.sg_recovery.specs.Log.Record.{CompEnd}
 use Rattle.sg_run.specs.Run.{Run}
 use Rattle.sg_store.specs.Ground.{Ground, IsLawful}
 use Rattle.sg_store.specs.Engine.{View, Action, IsEngine, IsIdle, pages_of, Changes, Changed, Appends, Appended, ActsBack}
+use Rattle.sg_store.specs.Room.{BacksStock}
 use Rattle.sg_store.specs.Verbs.{CanReverse, CanTakeBack, Reversed}
 use Rattle.sg_store.specs.Store.{IsUndoing}
 use Rattle.sg_store.specs.Calls.{Stays}
@@ -61,7 +62,9 @@ module _ (t : Operations) (g : Ground) (lawful : IsLawful t g) (v : View g) (txn
           undone.end_undo_stays t g lawful v txns x u at k live b.1.0 b.1.1 b.1.2 w1 b.0 b.1.7 b.1.6 b.1.5 w2 r.0 r.1.0 r.1.1 w3 e.0 e.1 after b.1.3 e.2
 
       pub ended_undid : ((a : Action g) → IsEngine t g w2 → w2.action ≡ Some a → a.transaction ≡ u → (n : Top g.C g.N) (ns : List (Top g.C g.N)) → notes_of u (tally w2.log).notes ≡ n ∷ ns → n.undo_next ≡ after
-          → (lsn : ℕ) × (previous : ℕ) × Appends t g w2 w3 (record { lsn = lsn; is = CompEnd u previous after }) × Appended t g w2 w3 (record { lsn = lsn; is = CompEnd u previous after })) → IsUndoing t g w3 txns x u after
+          → (lsn : ℕ) × (previous : ℕ) × Appends t g w2 w3 (record { lsn = lsn; is = CompEnd u previous after }) × Appended t g w2 w3 (record { lsn = lsn; is = CompEnd u previous after })) → IsUndoing t g w3 txns x u after × BacksStock t g v w3 u
       ended_undid ends =
-          let e = ends begun r.1.0.goes_on.engine r.1.0.action refl b.1.0 b.1.1 still b.1.3 in
-          undone.undid_one t g lawful v txns x u at k live b.1.0 b.1.1 b.1.2 w1 b.0 b.1.7 b.1.6 b.1.5 w2 r.0 r.1.0 r.1.1 w3 e.0 e.1 after b.1.3 e.2 e.3
+          let e = ends begun r.1.0.goes_on.engine r.1.0.action refl b.1.0 b.1.1 still b.1.3 in (
+            undone.undid_one t g lawful v txns x u at k live b.1.0 b.1.1 b.1.2 w1 b.0 b.1.7 b.1.6 b.1.5 w2 r.0 r.1.0 r.1.1 w3 e.0 e.1 after b.1.3 e.2 e.3,
+            undone.undid_stock t g lawful v txns x u at k live b.1.0 b.1.1 b.1.2 w1 b.0 b.1.7 b.1.6 b.1.5 w2 r.0 r.1.0 r.1.1 w3 e.0 e.1 after b.1.3 e.2 e.3,
+          )

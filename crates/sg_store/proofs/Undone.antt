@@ -38,6 +38,15 @@ use Rattle.sg_store.specs.Stands.{StandsFor}
 use Rattle.sg_store.proofs.Images.{image_stands}
 use Rattle.sg_store.proofs.Actions.{changes_keep, changes_notes, changes_next, reads_at}
 use Rattle.sg_store.proofs.Aborting.{undoes_one}
+use Rattle.std.proofs.lemmas.List.{map-append}
+use Rattle.sg_recovery.specs.Shows.{Pairs}
+use Rattle.sg_recovery.proofs.Basic.{same_number}
+use Rattle.sg_room.specs.Lines.{UndoesEach}
+use Rattle.sg_room.specs.Lines.UndoesEach.{and_one}
+use Rattle.sg_room.specs.Marks.{undone}
+use Rattle.sg_room.specs.Steps.{Step, RunStock}
+use Rattle.sg_store.specs.Room.{step_of, is_of, BacksStock}
+use Rattle.sg_store.proofs.Stocked.{backs_then, steps_left, up_to, Chained, chained_bare, chained_back}
 
 -- the last note of a transaction has what each note has
 own_last : {C N : Type 0} (P : Top C N → Type 0) (ns : List (Top C N)) (u : ℕ) (n : Top C N) (own : List (Top C N)) → notes_of u ns ≡ n ∷ own → Each P ns → P n × (n.transaction ≡ u)
@@ -208,6 +217,53 @@ module _ (t : Operations) (g : Ground) (lawful : IsLawful t g) (v : View g) (txn
           pub end_undo_stays : Stays t g v w3 x
           end_undo_stays = joined reverse_stays (weaker ends.moments (λ i h. image_stands t g w2 (committed_objects t x) (record { lsn = l; is = CompEnd u p after } ∷ w2.log) then_now.keeps.fronts i h))
 
+          -- of the stock it undid what the note's undoing takes
+          pub undid_stock : Appended t g w2 w3 (record { lsn = l; is = CompEnd u p after }) → BacksStock t g v w3 u
+          undid_stock d r shown = (
+            less_it,
+            (λ z e. subst (λ ss. UndoesEach (is_of u) (record { marks = r.marks; steps = ss }) z) (sym steps_are)
+                (and_one r.marks ls rs (step_of g n) z (steps_left t g u last.later last.others) (ap (λ b. b == u) last.own ∙ same_number u) e)),
+            record {
+              marks = λ b e. ap (λ z. g.marks z) (sym (some_one rev.now b (sym rev.reads.reading
+                  ∙ subst (λ (ls : List (Numbered g.C g.N)). g.reading (made (setting t g) w2.first ls) ≡ Some b) d.log
+                  (subst (λ q. g.reading (made (setting t g) q w3.log) ≡ Some b) d.goes_on.first e))))
+                  ∙ (rev.stock ∙ ap (λ ms. undone (g.kind n.note) (g.named n.note) ms) (shown.marks o reads_o));
+              steps = ap (λ (ks : List (Numbered g.C g.N)). map (step_of g) (tally ks).notes) d.log
+                  ∙ (ap (λ (ks : List (Numbered g.C g.N)). map (step_of g) (notes_up_to u after (tally ks).notes)) all_log
+                  ∙ (ap (λ ns. map (step_of g) (notes_up_to u after ns)) (changes_notes t g lawful v.first v.durable begun both v.log are ∙ last.all)
+                  ∙ (ap (λ ns. map (step_of g) ns) less ∙ map-append (step_of g) last.later last.rest)));
+            },
+          )
+            where
+              last : IsLast (tally v.log).notes u n
+              last = last_of_own (tally v.log).notes u n own stands
+
+              ls : List Step
+              ls = map (step_of g) last.later
+
+              rs : List Step
+              rs = map (step_of g) last.rest
+
+              steps_are : r.steps ≡ ls ++ step_of g n ∷ rs
+              steps_are = sym shown.steps ∙ (ap (λ ns. map (step_of g) ns) last.all ∙ map-append (step_of g) last.later (n ∷ last.rest))
+
+              less_it : RunStock
+              less_it = record { marks = undone (g.kind n.note) (g.named n.note) r.marks; steps = ls ++ rs }
+
+              before_it : n.undo_next < n.lsn
+              before_it = (own_last (λ m. IsNote (tally v.log).live (next_lsn v.log) m.transaction m.lsn m.undo_next) (tally v.log).notes u n own stands
+                  (each_bared (setting t g) (λ m. IsNote (tally v.log).live (next_lsn v.log) m.transaction m.lsn m.undo_next)
+                  k.undoes.keeps.running.placed (tally v.log).notes k.undoes.keeps.running.are k.undoes.keeps.running.notes)).0.before
+
+              chained : Each (Chained n) last.rest
+              chained = chained_back last.later n last.rest (subst (Pairs Chained) (k.undoes.keeps.running.are ∙ last.all)
+                  (chained_bare (setting t g) k.undoes.keeps.running.placed k.undoes.keeps.running.ranks))
+
+              less : notes_up_to u after (last.later ++ n ∷ last.rest) ≡ last.later ++ last.rest
+              less = up_to u after last.later n last.rest last.others last.own (subst (λ z. z < n.lsn) next before_it)
+                  (each_more (Chained n) (λ m. m.transaction ≡ u → m.lsn ≤ after) last.rest
+                  (λ m z e. subst (λ i. m.lsn ≤ i) next (z (e ∙ sym last.own))) chained)
+
           pub undid_one : Appended t g w2 w3 (record { lsn = l; is = CompEnd u p after }) → IsUndoing t g w3 txns x u after
           undid_one d = record {
             live = k.live;
@@ -253,11 +309,13 @@ kept_undoing t g v txns x u k = record {
 -- and one more has been
 module _ (t : Operations) (g : Ground) (lawful : Type 0) (v w z : View g) (before now : Core) (u at : ℕ) (s : IsUndoingSince t g lawful v w before now u at) where
   pub since_more : (more : Core) (after : ℕ) → more ≡ now → w.faults ≤ z.faults → w.tail ≤ z.tail
-      → ((x : Run) → lawful → IsUndoing t g w now.live x u at → is_live x.so_far.live u ≡ true → Stays t g w z x) → ((x : Run) → lawful → IsUndoing t g w now.live x u at → is_live x.so_far.live u ≡ true → IsUndoing t g z now.live x u after)
+      → ((x : Run) → lawful → IsUndoing t g w now.live x u at → is_live x.so_far.live u ≡ true → Stays t g w z x)
+      → ((x : Run) → lawful → IsUndoing t g w now.live x u at → is_live x.so_far.live u ≡ true → IsUndoing t g z now.live x u after × BacksStock t g w z u)
       → IsUndoingSince t g lawful v z before more u after
   since_more more after same later tail stays goes = record {
     stays = λ x l k live. joined (s.stays x l k live) (stays x l (here x (s.undoing x l k live)) live);
-    undoing = λ x l k live. subst (λ (c : Core). IsUndoing t g z c.live x u after) s.same (goes x l (here x (s.undoing x l k live)) live);
+    undoing = λ x l k live. subst (λ (c : Core). IsUndoing t g z c.live x u after) s.same (goes x l (here x (s.undoing x l k live)) live).0;
+    stock = λ x l k live. backs_then t g v w z u (s.stock x l k live) (goes x l (here x (s.undoing x l k live)) live).1;
     later = (let a : v.faults ≤ w.faults = s.later in omega (arith, a, later));
     tail = (let a : v.tail ≤ w.tail = s.tail in omega (arith, a, tail));
     same = same ∙ s.same;
@@ -269,7 +327,13 @@ module _ (t : Operations) (g : Ground) (lawful : Type 0) (v w z : View g) (befor
   pub since_stays : (x : Run) → lawful → IsKept t g v before.live x → is_live x.so_far.live u ≡ true → (IsUndoing t g w now.live x u at → Stays t g w z x) → Stays t g v z x
   since_stays x l k live stays = joined (s.stays x l k live) (stays (subst (λ (c : Core). IsUndoing t g w c.live x u at) (sym s.same) (s.undoing x l k live)))
 
-  pub since_done : (x : Run) → lawful → IsKept t g v before.live x → is_live x.so_far.live u ≡ true → (IsUndoing t g w now.live x u at → IsUndoing t g z now.live x u at × (notes_of u (tally z.log).notes ≡ [])) → IsUndone t g z before.live x u
+  pub since_stock : (x : Run) → lawful → IsKept t g v before.live x → is_live x.so_far.live u ≡ true
+      → (IsUndoing t g w now.live x u at → IsUndoing t g z now.live x u at × (notes_of u (tally z.log).notes ≡ []) × BacksStock t g w z u) → BacksStock t g v z u
+  since_stock x l k live goes = backs_then t g v w z u (s.stock x l k live)
+      (goes (subst (λ (c : Core). IsUndoing t g w c.live x u at) (sym s.same) (s.undoing x l k live))).2
+
+  pub since_done : (x : Run) → lawful → IsKept t g v before.live x → is_live x.so_far.live u ≡ true
+      → (IsUndoing t g w now.live x u at → IsUndoing t g z now.live x u at × (notes_of u (tally z.log).notes ≡ []) × BacksStock t g w z u) → IsUndone t g z before.live x u
   since_done x l k live goes =
       let h = goes (subst (λ (c : Core). IsUndoing t g w c.live x u at) (sym s.same) (s.undoing x l k live)) in
       record { at = at; undoing = subst (λ (c : Core). IsUndoing t g z c.live x u at) s.same h.0; none = h.1 }
@@ -278,6 +342,7 @@ pub since_none : (t : Operations) (g : Ground) (lawful : Type 0) (v : View g) (k
 since_none t g lawful v k u at e = record {
   stays = λ x l h live. started v.disk (λ c. StandsFor t g c (committed_objects t x)) (λ c i. image_stands t g v (committed_objects t x) v.log h.logs.keeps.fronts c (h.engine.images c i));
   undoing = λ x l h live. subst (λ n. IsUndoing t g v k.live x u n) (sym e) (kept_undoing t g v k.live x u h);
+  stock = λ x l h live r shown. (r, (λ after e. e), shown);
   later = omega arith;
   tail = omega arith;
   same = refl;

@@ -23,6 +23,7 @@ use Rattle.sg_core.specs.Live.{Txn}
 use Rattle.sg_store.specs.Verbs.{Reads, HasNeed}
 use Rattle.sg_store.specs.Ground.{Ground}
 use Rattle.sg_store.specs.Engine.{View, Sizes, Shown, KeepsBy, AsMeantBy, pages_of}
+use Rattle.sg_store.specs.Room.{ArePagesLeft, AreBandsLeft, LeadsStock, BacksStock, FreesStock}
 use Rattle.sg_store.specs.Accounting.{Unfailed}
 use Rattle.sg_store.specs.Stands.{StandsFor, StandsForFirst}
 use Rattle.sg_store.specs.Store.{Core, IsKept, IsUndoing, IsLeaving, HasNone, Shows}
@@ -90,19 +91,24 @@ pub record HasRoom (t : Operations) (g : Ground) (w : View g) (txns : List Txn) 
   pub pages : (needs.pages ≡ 0) ⊎ (sum_by (λ k. k.reserved) txns + needs.pages ≤ w.free_pages)
   pub bands : needs.bands ≤ w.free_bands
 
--- The numbers of a refusal for want of room: what is free, what the live transactions have reserved, and what the operation needs here
+-- The numbers of a refusal for want of room: what is free, which is what the objects leave; what the live transactions have reserved; and what the
+-- operation needs here
 pub record ArePages (t : Operations) (g : Ground) (v : View g) (txns : List Txn) (op : Op) (free reserved need : ℕ) : Type 0 where
   pub is_free : free ≡ v.free_pages
+  pub is_left : ArePagesLeft t g v free
   pub are_reserved : reserved ≡ sum_by (λ k. k.reserved) txns
   pub is_needed : (o : g.O) → g.reading (pages_of t g v) ≡ Some o → need ≡ (g.needs t o op).pages
 
 pub record AreBands (t : Operations) (g : Ground) (v : View g) (op : Op) (free need : ℕ) : Type 0 where
   pub is_free : free ≡ v.free_bands
+  pub is_left : AreBandsLeft t g v free
   pub is_needed : (o : g.O) → g.reading (pages_of t g v) ≡ Some o → need ≡ (g.needs t o op).bands
 
--- from one call of the engine to the next the pages read the same, and as much is free
+-- from one call of the engine to the next the log and the pages are the same, and as much is free
 pub record SameRoom (t : Operations) (g : Ground) (v w : View g) : Type 0 where
   pub reads : (o : g.O) → g.reading (pages_of t g v) ≡ Some o → g.reading (pages_of t g w) ≡ Some o
+  pub first : w.first ≡ v.first
+  pub log : w.log ≡ v.log
   pub pages : w.free_pages ≡ v.free_pages
   pub bands : w.free_bands ≡ v.free_bands
 
@@ -141,14 +147,15 @@ abbrev pub Acts : (t : Operations) (g : Ground) → (v w : View g) → (k m : Co
     → Result code_reply.Reply Refused → Type 0
 Acts t g v w k m x u op into (Ok reply) = IsKept t g w m.live (did t x u op)
     × ((step t (live_objects t x) op).0 ≡ Ok (said_reply into reply)) × (m ≡ record k { live = m.live })
+    × LeadsStock t g v w (live_objects t x) u op
 Acts t g v w k m x u op into (Err refusals.DiskFault) = Broke v w k m
 Acts t g v w k m x u op into (Err refusals.LogEnd) = m ≡ record k { stopped = Some stops.LogEnd }
 Acts t g v w k m x u op into (Err other) = ⊥
 
 -- the last action of a transaction that stood was undone, or none stood
 abbrev pub Undid : (t : Operations) (g : Ground) → (v w : View g) → List Txn → Run → (u at : ℕ) → Result (Option ℕ) SpaceFault → Type 0
-Undid t g v w txns x u at (Ok None) = IsUndoing t g w txns x u at × (notes_of u (tally w.log).notes ≡ [])
-Undid t g v w txns x u at (Ok (Some after)) = IsUndoing t g w txns x u after
+Undid t g v w txns x u at (Ok None) = IsUndoing t g w txns x u at × (notes_of u (tally w.log).notes ≡ []) × BacksStock t g v w u
+Undid t g v w txns x u at (Ok (Some after)) = IsUndoing t g w txns x u after × BacksStock t g v w u
 Undid t g v w txns x u at (Err fault) = Unit {0}
 
 -- nothing that a transaction did stands any more
@@ -161,14 +168,15 @@ pub record IsUndone (t : Operations) (g : Ground) (w : View g) (txns : List Txn)
 pub record IsUndoingSince (t : Operations) (g : Ground) (lawful : Type 0) (v w : View g) (before now : Core) (u at : ℕ) : Type 0 where
   pub stays : (x : Run) → lawful → IsKept t g v before.live x → is_live x.so_far.live u ≡ true → Stays t g v w x
   pub undoing : (x : Run) → lawful → IsKept t g v before.live x → is_live x.so_far.live u ≡ true → IsUndoing t g w before.live x u at
+  pub stock : (x : Run) → lawful → IsKept t g v before.live x → is_live x.so_far.live u ≡ true → BacksStock t g v w u
   pub later : v.faults ≤ w.faults
   pub tail : v.tail ≤ w.tail
   pub same : now ≡ before
 
 -- something that a transaction dropped which has committed was freed, and the log grew; or nothing was left
 abbrev pub Frees : (t : Operations) (g : Ground) → (v w : View g) → List Txn → Run → ℕ → Bool → Type 0
-Frees t g v w txns x u true = IsLeaving t g w txns x u × (v.tail < w.tail)
-Frees t g v w txns x u false = IsLeaving t g w txns x u × HasNone t g w u
+Frees t g v w txns x u true = IsLeaving t g w txns x u × (v.tail < w.tail) × FreesStock t g v w u
+Frees t g v w txns x u false = IsLeaving t g w txns x u × HasNone t g w u × FreesStock t g v w u
 
 -- the greatest number of 64 bits
 abbrev pub MOST : ℕ
@@ -178,6 +186,7 @@ MOST = 18446744073709551615
 pub record IsLeavingSince (t : Operations) (g : Ground) (lawful : Type 0) (v w : View g) (before now : Core) (u left : ℕ) : Type 0 where
   pub stays : (x : Run) → lawful → IsLeaving t g v before.live x u → Stays t g v w (committed x u)
   pub leaving : (x : Run) → lawful → IsLeaving t g v before.live x u → IsLeaving t g w before.live x u
+  pub stock : (x : Run) → lawful → IsLeaving t g v before.live x u → FreesStock t g v w u
   pub later : v.faults ≤ w.faults
   pub tail : v.tail ≤ w.tail
   pub sum : left + w.tail ≡ MOST

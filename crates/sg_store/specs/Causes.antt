@@ -59,6 +59,14 @@ ChecksFor old new k m (Err refusals.DiskFault) = (k.stopped ≡ None) × BreaksF
 ChecksFor old new k m (Err refusals.LogEnd) = (k.stopped ≡ None) × IsAtEnd old.tail × (m ≡ record k { stopped = Some stops.LogEnd })
 ChecksFor old new k m (Err other) = ⊥
 
+-- a close, which appends a record and flushes
+abbrev pub ClosesFor : {basis : Sizes → Ground} → (old new : Shown basis) → (k m : Core) → Result (Unit {0}) Refused → Type 0
+ClosesFor old new k m (Ok done) = (k.stopped ≡ None) × (m ≡ k)
+ClosesFor old new k m (Err refusals.Stopped) = IsSome k.stopped × (m ≡ k)
+ClosesFor old new k m (Err refusals.DiskFault) = (k.stopped ≡ None) × BreaksFor old new k m
+ClosesFor old new k m (Err refusals.LogEnd) = (k.stopped ≡ None) × IsAtEnd new.tail × (m ≡ record k { stopped = Some stops.LogEnd })
+ClosesFor old new k m (Err other) = ⊥
+
 -- another transaction, which is live
 abbrev pub IsOther : (u holder : ℕ) → Core → Type 0
 IsOther u holder k = (is_live k.live holder ≡ true) × (holder ≡ u → ⊥)

@@ -100,6 +100,10 @@ led {basis = basis} t z from e = record {
 abbrev pub Keeps : {basis : Sizes → Ground} → (old new : Shown basis) → Type 0
 Keeps {basis = basis} old new = (t : Operations) (z : Sizes) (from : (basis z).X) → old.means t z from → new.means t z from
 
+-- WHAT HOLDS OF AN ENGINE that tells, whatever its records mean
+abbrev pub IfMeant : {basis : Sizes → Ground} → Shown basis → ((t : Operations) (g : Ground) → View g → Type 0) → Type 0
+IfMeant {basis = basis} e P = (t : Operations) (z : Sizes) (from : (basis z).X) → e.means t z from → e.Told → P t (basis z) (led t z from e)
+
 -- A call that is given operations keeps that its records are of these
 abbrev pub KeepsBy : {basis : Sizes → Ground} → Operations → (old new : Shown basis) → Type 0
 KeepsBy {basis = basis} t old new = (z : Sizes) (from : (basis z).X) → old.means t z from → new.means t z from

@@ -11,6 +11,8 @@ use Rattle.sg_model.specs.Touches.{Cell, Resource, covers, touches}
 use Rattle.sg_recovery.specs.Setting.{Setting}
 use Rattle.sg_recovery.specs.Log.{Numbered, Open}
 use Rattle.sg_recovery.specs.Laws.{Laws}
+use Rattle.sg_room.specs.Bounds.{Sizes}
+use Rattle.sg_room.specs.Marks.{Marks, Kind, freed}
 
 -- what an operation needs: free pages and bands, and how many pages it reserves of those
 pub record Needs : Type 0 where
@@ -37,6 +39,13 @@ pub record Ground : Type 1 where
   pub Buried : O → ℕ → List (Touch Resource) → Type 0
   pub wants : N → Bool
   pub objects : O → Objects
+  -- how many pages and bands there are, and how many of the bands hold their map
+  pub sizes : Sizes
+  -- the root and the peak of each object, what is buried, and the most rows that the catalogue had
+  pub marks : O → Marks
+  -- the name that a note is of, and what its undoing takes, as far as a stock sees it
+  pub named : N → List ℕ
+  pub kind : N → Kind
   -- the operation of a verb, and what it touched
   pub op : V → Op
   pub touched : V → List (Touch Resource)
@@ -105,6 +114,8 @@ pub record IsLawful (t : Operations) (g : Ground) : Type 0 where
   pub reserves_needed : (o : g.O) (op : Op) → (g.needs t o op).reserve ≤ (g.needs t o op).pages
   -- where no thing is buried nobody has dropped one
   pub none_buried : (o : g.O) → g.buried o ≡ 0 → (u : ℕ) (f : List (Touch Resource)) → g.Buried o u f → ⊥
+  -- and where nothing that a transaction dropped is buried, its commit takes none of the marks of what pages read as
+  pub none_freed : (x : g.X) (o : g.O) → g.reading x ≡ Some o → (u : ℕ) → ((f : List (Touch Resource)) → g.Buried o u f → ⊥) → freed u (g.marks o) ≡ g.marks o
   -- pages that can't be told apart from some that read as objects read as these
   pub reads_alike : (x y : g.X) (o : g.O) → g.reading x ≡ Some o → g.Alike y x → g.reading y ≡ Some o
   pub alike_same : (x : g.X) → g.Alike x x

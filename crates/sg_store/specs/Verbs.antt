@@ -25,6 +25,9 @@ use Rattle.sg_recovery.specs.Runs.{note_of, DoesVerb, DoesFree}
 use Rattle.sg_store.specs.Drops.{drops}
 use Rattle.sg_store.specs.Ground.{Ground, setting, are_written}
 use Rattle.sg_store.specs.Engine.{View, Action, IsEngine, pages_of, IsIdle, IsAtRest, ActsFor, Changed, Rested}
+use Rattle.sg_store.specs.Room.{AcceptsOp, step_at}
+use Rattle.sg_room.specs.Marks.{undone as undone_in, freed as freed_in}
+use Rattle.sg_room.specs.Steps.{Step, RunStock}
 
 -- the engine's pages read so, and each page is free that this doesn't reach
 pub record Reads (t : Operations) (g : Ground) (v : View g) (o : g.O) : Type 0 where
@@ -57,6 +60,8 @@ pub record LeftAlone (t : Operations) (g : Ground) (old new : View g) (o : g.O) 
   pub log : new.log ≡ old.log
   pub pages : new.free_pages ≡ old.free_pages
   pub same : (step t (g.objects o) op).1 ≡ g.objects o
+  -- and it may leave any stock as it is
+  pub stock : (transaction : ℕ) (r : RunStock) → AcceptsOp t (g.objects o) r transaction op r
 
 -- its action is done, and this note undoes it
 pub record IsNotedBy (t : Operations) (g : Ground) (a : Action g) (new : View g) (o : g.O) (op : Op) (note : List ℕ) : Type 0 where
@@ -68,6 +73,9 @@ pub record IsNotedBy (t : Operations) (g : Ground) (a : Action g) (new : View g)
       → DoesVerb (setting t g) verb (note_of (setting t g) lsn a.transaction undo_next (g.note note) (tally new.log).opened (g.touched verb)) (pages_of t g new) o
   -- it took no more pages than it needed, and a note that wants a page has reserved it
   pub took : g.free o + (g.needs t o op).reserve ≤ g.free now + (g.needs t o op).pages
+  -- it made of the stock what its line may make of it, whatever took the undoing of others
+  pub stock : (at : ℕ) (steps : List Step) → AcceptsOp t (g.objects o) (record { marks = g.marks o; steps = steps }) a.transaction op
+      (record { marks = g.marks now; steps = step_at g a.transaction at (g.note note) ∷ steps })
   -- what is buried now was buried, or the verb, which drops things, has dropped it, of which it wrote the place
   pub buried : (d : ℕ) (f : List (Touch Resource)) → g.Buried now d f → g.Buried o d f ⊎ ((d ≡ a.transaction) × ((c : Cell)
       → are_written f c ≡ true → are_written (g.touched verb) c ≡ true) × (drops op ≡ true))
@@ -117,6 +125,8 @@ pub record Reversed (t : Operations) (g : Ground) (new : View g) (o : g.O) (n : 
   pub now : g.O
   pub reads : Reads t g new now
   pub took : g.free o ≤ g.free now + wants_one (setting t g) n
+  -- of the stock it undid what the note's undoing takes
+  pub stock : g.marks now ≡ undone_in (g.kind n.note) (g.named n.note) (g.marks o)
   -- nothing is buried that wasn't
   pub buried : (d : ℕ) (f : List (Touch Resource)) → g.Buried now d f → g.Buried o d f
 
@@ -180,6 +190,8 @@ pub record IsFreed (t : Operations) (g : Ground) (a : Action g) (by : Option Txn
   pub reads : Reads t g new now
   pub freed : DoesFree (setting t g) place (pages_of t g new) o
   pub took : g.free o ≤ g.free now
+  -- of the marks it took one that the dropper's commit takes
+  pub stock : freed_in dropper (g.marks now) ≡ freed_in dropper (g.marks o)
   pub fewer : g.buried now < g.buried o
   pub left : (d : ℕ) (f : List (Touch Resource)) → g.Buried now d f → g.Buried o d f
 

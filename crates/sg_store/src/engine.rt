@@ -10,7 +10,8 @@ ghost use Rattle.sg_model.specs.Verb.Verb.{Keys};
 ghost use Rattle.sg_recovery.specs.Log.{Top, tally, notes_of};
 ghost use Rattle.sg_recovery.specs.Log.Record.{Begin, TopEnd, CompEnd, Commit};
 ghost use Rattle.sg_store.specs.Ground.{Ground};
-ghost use Rattle.sg_store.specs.Engine.{Sizes, Shown, Keeps, KeepsBy, AsMeant, AsMeantBy, Asked, AskedBy, IsOldest, Action, IsEngine, IsIdle, pages_of, Appends, Appended, Changes, Changed, Rests, Rested, EndsOne, Counts, IsNearEnd, IsVerbEnd, VERB_BYTES, IsDiskFault, IsObjDisk, IsReadFault, IsRefusedQuietly, IsListDisk, IsListRead, IsNextUndo, IsAtRest, HasPlace, IsAt, MayAct, MayEnd, ActsFor, ActsBack, IsFirst};
+ghost use Rattle.sg_store.specs.Engine.{Sizes, Shown, Keeps, KeepsBy, AsMeant, AsMeantBy, IfMeant, Asked, AskedBy, IsOldest, Action, IsEngine, IsIdle, pages_of, Appends, Appended, Changes, Changed, Rests, Rested, EndsOne, Counts, IsNearEnd, IsVerbEnd, VERB_BYTES, IsDiskFault, IsObjDisk, IsReadFault, IsRefusedQuietly, IsListDisk, IsListRead, IsNextUndo, IsAtRest, HasPlace, IsAt, MayAct, MayEnd, ActsFor, ActsBack, IsFirst};
+ghost use Rattle.sg_store.specs.Room.{LeavesRoom};
 ghost use Rattle.sg_store.specs.Verbs.{Reads, CanLook, CanPerform, CanDo, CanReverse, CanTakeBack, CanFree, Reversed, HasPerformed, HasNeeds, HasKeys, HasNames, FreesNext};
 
 use crate::fault::{Needed, ObjFault};
@@ -47,6 +48,9 @@ pub trait Engine {
 
     /// What waits at the log's end to be durable is a frame at most, with its head.
     ghost waits: { (s : Self) → (view s).tail ≤ (view s).gate + 65541 };
+
+    /// What is free is what the objects leave, and what is buried.
+    ghost leaves: { (s : Self) → IfMeant (view s) LeavesRoom };
 
     /// The number of the log's next byte.
     fn tail(&self) -> Lsn

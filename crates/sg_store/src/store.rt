@@ -90,11 +90,11 @@ fn mark(txns: &mut Txns, txn: TxnId, op: &Op<'_>)
 
 impl<E: Objects> Store<E> {
     ghost use Rattle.sg_ops.specs.Table.{Table as Operations, table_of};
-    ghost use Rattle.sg_run.specs.Run.{Run, committed};
+    ghost use Rattle.sg_run.specs.Run.{Run, committed, live_objects};
     ghost use Rattle.sg_store.specs.Accounting.{AccountsFor};
     ghost use Rattle.sg_store.specs.Ground.{IsLawful};
     ghost use Rattle.sg_store.specs.Store.{Core, Shows, IsKept, IsUndoing, IsLeaving, HasNone};
-    ghost use Rattle.sg_store.specs.Engine.{Keeps, KeepsBy, AsMeant, AsMeantBy, Asked, AskedBy, IsDiskFault, IsNearEnd};
+    ghost use Rattle.sg_store.specs.Engine.{Keeps, KeepsBy, AsMeant, AsMeantBy, IfMeant, Asked, AskedBy, IsDiskFault, IsNearEnd};
     ghost use Rattle.sg_store.specs.Asks.{IsRunning, IsFreeing, HasBegun, IsTakingBack};
     ghost use Rattle.sg_store.specs.Rests.{Has, HasDone, HasCommitted, HasAborted};
     ghost use Rattle.sg_model.specs.Objects.{Objects as Model};
@@ -107,11 +107,14 @@ impl<E: Objects> Store<E> {
     ghost use Rattle.sg_serial.specs.Locks.{released};
     ghost use Rattle.sg_core.specs.Live.{without, has_dropped};
     ghost use Rattle.sg_store.specs.Drops.{MarksOnly};
+    ghost use Rattle.sg_store.specs.Room.{ArePagesLeft, AreBandsLeft, ShowsStock, LeadsStock, BacksStock, FreesStock, is_of};
+    ghost use Rattle.sg_room.specs.Lines as stock;
+    ghost use Rattle.sg_room.specs.Steps.{RunStock, backed};
     ghost use Rattle.sg_store.specs.Seen.{core_of, Serves, IsServed};
     ghost use Rattle.sg_store.specs.Stops.{refused_at, stop_at, stop_behind};
     ghost use Rattle.sg_store.specs.Heeds.{Heeds};
     ghost use Rattle.sg_store.specs.Refusals.{said_lock};
-    ghost use Rattle.sg_store.specs.Causes.{AsksNothing, BeginsFor, EndsFor, FlushesFor, ChecksFor, HoldsFor, RoomsFor, ActsFor, DoesFor};
+    ghost use Rattle.sg_store.specs.Causes.{AsksNothing, BeginsFor, EndsFor, FlushesFor, ChecksFor, ClosesFor, HoldsFor, RoomsFor, ActsFor, DoesFor};
     ghost use Rattle.sg_model.specs.TouchList.{shown_touches};
     ghost use Rattle.sg_locks.specs.Answers.{lock_answer, locks_after};
 
@@ -142,16 +145,20 @@ impl<E: Objects> Store<E> {
         self.txns.count()
     }
 
-    /// How many pages are free.
+    /// How many pages are free: as many as the objects leave, and what is buried. No more are taken than what
+    /// the greatest sizes of these allow.
     pub fn free_pages(&self) -> u32
-        ensures { result ≡ (E.view self.now.engine).free_pages }
+        ensures free { result ≡ (E.view self.now.engine).free_pages }
+        ensures left { IfMeant (E.view self.now.engine) (λ t g v. ArePagesLeft t g v result) }
     {
         self.engine.free_pages()
     }
 
-    /// How many bands are free.
+    /// How many bands are free: exactly as many as blobs leave, buried ones too, by the greatest length that each
+    /// has had, and the bands of the map.
     pub fn free_bands(&self) -> u32
-        ensures { result ≡ (E.view self.now.engine).free_bands }
+        ensures free { result ≡ (E.view self.now.engine).free_bands }
+        ensures left { IfMeant (E.view self.now.engine) (λ t g v. AreBandsLeft t g v result) }
     {
         self.engine.free_bands()
     }
@@ -288,6 +295,9 @@ impl<E: Objects> Store<E> {
             OnOk result (AsMeantBy t (E.view self.old.engine) (E.view self.new.engine) (λ g v w.
             (x : Run) → IsLawful t g → IsLeaving t g v self.old.txns x txn.0
             → IsLeaving t g w self.old.txns x txn.0 × HasNone t g w txn.0)) }
+        ensures stock { let t = table_of record_meaning range_meaning ops.now in
+            OnOk result (AsMeantBy t (E.view self.old.engine) (E.view self.new.engine) (λ g v w.
+            (x : Run) → IsLawful t g → IsLeaving t g v self.old.txns x txn.0 → FreesStock t g v w txn.0)) }
         ensures failed { IfErr result (λ e. IsDiskFault e
             → HasRisen (E.view self.old.engine).faults (E.view self.new.engine).faults) }
         ensures log_end { IfErr result (IsNearEnd (E.view self.new.engine).tail) }
@@ -330,6 +340,9 @@ impl<E: Objects> Store<E> {
             OnOk result (AsMeantBy t (E.view self.old.engine) (E.view self.new.engine) (λ g v w.
             (x : Run) → IsLawful t g → IsLeaving t g v self.old.txns x txn.0
             → IsLeaving t g w self.old.txns x txn.0 × HasNone t g w txn.0)) }
+        ensures stock { let t = table_of record_meaning range_meaning ops.now in
+            OnOk result (AsMeantBy t (E.view self.old.engine) (E.view self.new.engine) (λ g v w.
+            (x : Run) → IsLawful t g → IsLeaving t g v self.old.txns x txn.0 → FreesStock t g v w txn.0)) }
         ensures failed { IfErr result (λ e. IsDiskFault e
             → HasRisen (E.view self.old.engine).faults (E.view self.new.engine).faults) }
         ensures log_end { IfErr result (IsNearEnd (E.view self.new.engine).tail) }
@@ -363,6 +376,11 @@ impl<E: Objects> Store<E> {
         ensures freed { let t = table_of record_meaning range_meaning ops.now in
             OnOk result (AsMeantBy t (E.view self.old.engine) (E.view self.new.engine) (λ g v w.
             (x : Run) → IsLawful t g → Shows t g v (core_of self.old) x → HasNone t g w txn.0)) }
+        // what the transaction dropped is no part of the stock any more, and the undoing of nothing that it did is
+        ensures stock { let t = table_of record_meaning range_meaning ops.now in
+            OnOk result (AsMeantBy t (E.view self.old.engine) (E.view self.new.engine) (λ g v w.
+            (x : Run) → IsLawful t g → Shows t g v (core_of self.old) x
+            → (r : RunStock) → ShowsStock t g v r → ShowsStock t g w (stock.committed txn.0 r))) }
         // on any engine
         ensures causes { EndsFor txn.0 (E.view self.old.engine) (E.view self.new.engine) (core_of self.old) (core_of self.new) result }
         ensures asks { IfErr result (λ e. AsksNothing e → self.new ≡ self.old) }
@@ -435,6 +453,9 @@ impl<E: Objects> Store<E> {
         // on any engine
         ensures causes { ChecksFor (E.view self.old.engine) (E.view self.new.engine) (core_of self.old) (core_of self.new) result }
         ensures asks { IfErr result (λ e. AsksNothing e → self.new ≡ self.old) }
+        ensures stop { self.new.stop ≡ stop_behind self.old.stop result }
+        // a store that has stopped makes no call of its engine
+        ensures stopped { IsSome self.old.stop → (self.new ≡ self.old) × (result ≡ Err Refused.Stopped) }
         ensures heeds { Heeds self.old.stop self.new.stop (E.view self.old.engine) (E.view self.new.engine) }
     {
         if self.stop.is_some() {
@@ -624,6 +645,11 @@ impl<E: Objects> Store<E> {
             AsMeantBy t (E.view self.old.engine) (E.view self.new.engine) (λ g v w.
             (x : Run) → IsLawful t g → Shows t g v (core_of self.old) x
             → Numbers t g v self.old.txns (said_op op.now) result) }
+        // where it is accepted the stock goes on as its line lets it
+        ensures stock { let t = table_of record_meaning range_meaning ops.now in
+            AsMeantBy t (E.view self.old.engine) (E.view self.new.engine) (λ g v w.
+            (x : Run) → IsLawful t g → Shows t g v (core_of self.old) x
+            → IfOk result (λ reply. LeadsStock t g v w (live_objects t x) txn.0 (said_op op.now))) }
         // on any engine
         ensures causes { DoesFor (is_changing (said_op op.now)) txn.0 (E.view self.old.engine) (E.view self.new.engine) (core_of self.old) (core_of self.new) result }
         ensures asks { IfErr result (λ e. AsksNothing e → self.new ≡ self.old) }
@@ -709,6 +735,10 @@ impl<E: Objects> Store<E> {
             OnOk result (AsMeantBy t (E.view self.old.engine) (E.view self.new.engine) (λ g v w.
             (x : Run) → IsLawful t g → IsKept t g v self.old.txns x
             → serial.is_live x.so_far.live txn.0 ≡ true → IsUndone t g w self.old.txns x txn.0)) }
+        ensures stock { let t = table_of record_meaning range_meaning ops.now in
+            OnOk result (AsMeantBy t (E.view self.old.engine) (E.view self.new.engine) (λ g v w.
+            (x : Run) → IsLawful t g → IsKept t g v self.old.txns x
+            → serial.is_live x.so_far.live txn.0 ≡ true → BacksStock t g v w txn.0)) }
         ensures failed { IfErr result (λ e. IsDiskFault e
             → HasRisen (E.view self.old.engine).faults (E.view self.new.engine).faults) }
         ensures log_end { IfErr result (IsNearEnd (E.view self.new.engine).tail) }
@@ -742,6 +772,11 @@ impl<E: Objects> Store<E> {
             AsMeantBy t (E.view self.old.engine) (E.view self.new.engine) (λ g v w.
             (x : Run) → IsLawful t g → Shows t g v (core_of self.old) x
             → Goes t g v x (Aborts w.tail v.faults w.faults txn.0 x result) w (core_of self.new)) }
+        // all that the transaction did to the stock is undone, but for the greatest sizes
+        ensures stock { let t = table_of record_meaning range_meaning ops.now in
+            OnOk result (AsMeantBy t (E.view self.old.engine) (E.view self.new.engine) (λ g v w.
+            (x : Run) → IsLawful t g → Shows t g v (core_of self.old) x
+            → (r : RunStock) → ShowsStock t g v r → ShowsStock t g w (backed (is_of txn.0) r))) }
         // on any engine
         ensures causes { EndsFor txn.0 (E.view self.old.engine) (E.view self.new.engine) (core_of self.old) (core_of self.new) result }
         ensures asks { IfErr result (λ e. AsksNothing e → self.new ≡ self.old) }
@@ -766,22 +801,42 @@ impl<E: Objects> Store<E> {
         }
     }
 
-    /// Writes all that was done home, and hands the engine back, with why that failed if it did. What live
-    /// transactions did is undone where the store is opened again.
+    // Makes the log durable with a record of where its redo has to begin, and writes all that was done home.
+    fn settle(&mut self) -> Result<(), Refused>
+        requires serves { IsServed self.old }
+        ensures means { Keeps (E.view self.old.engine) (E.view self.new.engine) }
+        ensures closes { AsMeant (E.view self.old.engine) (E.view self.new.engine) (λ t g v w.
+            (x : Run) → IsLawful t g → Shows t g v (core_of self.old) x
+            → Goes t g v x (Checkpoints w.tail v.faults w.faults x result) w (core_of self.new)) }
+        // on any engine
+        ensures causes { ClosesFor (E.view self.old.engine) (E.view self.new.engine) (core_of self.old) (core_of self.new) result }
+        ensures stop { self.new.stop ≡ stop_behind self.old.stop result }
+        ensures stopped { IsSome self.old.stop → (self.new ≡ self.old) × (result ≡ Err Refused.Stopped) }
+        ensures heeds { Heeds self.old.stop self.new.stop (E.view self.old.engine) (E.view self.new.engine) }
+    {
+        match self.checkpoint() {
+            Ok(()) => self.flush(),
+            Err(why) => Err(why),
+        }
+    }
+
+    /// Makes the log durable with a record of where its redo has to begin, writes all that was done home, and
+    /// hands the engine back, with why one of these failed if it did. What live transactions did is undone
+    /// where the store is opened again.
     pub fn close(self) -> (Result<(), Refused>, E)
         requires serves { IsServed self }
         ensures means { Keeps (E.view self.engine) (E.view result.1) }
         ensures closes { AsMeant (E.view self.engine) (E.view result.1) (λ t g v w.
             (x : Run) → IsLawful t g → Shows t g v (core_of self) x
-            → (m : Core) × Goes t g v x (Flushes v.faults w.faults x result.0) w m) }
+            → (m : Core) × Goes t g v x (Checkpoints w.tail v.faults w.faults x result.0) w m) }
         // on any engine
-        ensures causes { (m : Core) × FlushesFor (E.view self.engine) (E.view result.1) (core_of self) m result.0 }
+        ensures causes { (m : Core) × ClosesFor (E.view self.engine) (E.view result.1) (core_of self) m result.0 }
         ensures fault { IfErr result.0 (λ e. e ≡ Refused.DiskFault → HasRisen (E.view self.engine).faults (E.view result.1).faults) }
         ensures stopped { IsSome self.stop → (result.1 ≡ self.engine) × (result.0 ≡ Err Refused.Stopped) }
         ensures heeds { Heeds self.stop (stop_behind self.stop result.0) (E.view self.engine) (E.view result.1) }
     {
         let mut store = self;
-        let done = store.flush();
+        let done = store.settle();
         let Store {
             engine,
             locks,

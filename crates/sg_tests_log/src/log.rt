@@ -4,10 +4,10 @@ ghost use Rattle.sg_log.specs.Frames.{LOG_END};
 ghost use Rattle.sg_record.specs.Ranges.{IsRecord};
 ghost use Rattle.sg_record.specs.Shown.{shown};
 
-use sg_base::{Lsn, PageNo, TxnId};
+use sg_base::{BandNo, Lsn, PageNo, TxnId};
 use sg_disk::{Area, CallKind, Disk, Fuse, MemDisk};
 use sg_log::{Log, LogFault, Place};
-use sg_record::{PageChange, Rec};
+use sg_record::{BandBytes, PageChange, Rec, is_record};
 use std::alloc::{AllocError, Global};
 use std::test::Fail;
 
@@ -27,9 +27,9 @@ const FRAME: [u8; 48] = [
     0, 5, 0, 0, 0, 0, 0, 0, 0, 5, 0, 0, 0, 0, 0, 0, 0, 0,
 ];
 
-// A frame of a line of transaction 7, whose record before it is 5, with the words "xy".
-const LINE_FRAME: [u8; 28] = [
-    1, 23, 0, 0, 0, 13, 23, 0, 0, 0, 7, 0, 0, 0, 0, 0, 0, 0, 5, 0, 0, 0, 0, 0, 0, 0, b'x', b'y',
+// A frame of mark 2 of transaction 7, whose record before it is 5.
+const MARK_FRAME: [u8; 28] = [
+    1, 23, 0, 0, 0, 9, 23, 0, 0, 0, 7, 0, 0, 0, 0, 0, 0, 0, 5, 0, 0, 0, 0, 0, 0, 0, 2, 0,
 ];
 
 // A change of slot 2 of page 7 from one byte to another, by transaction 5.
@@ -61,12 +61,12 @@ const ACTION: [u8; 68] = [
     0, 0, 0, 0, 0, 1, 0, 0,
 ];
 
-// What a test has a log do: append a begin, a commit or a line of 32,700 letters, or force.
+// What a test has a log do: append a begin, a commit or a write of so many bytes of a band, or force.
 #[derive(Clone, Copy)]
 enum Step {
     Begin,
     Commit,
-    Line,
+    Write(u32),
     Force,
 }
 
@@ -117,7 +117,7 @@ impl Trial {
         match step {
             Step::Begin => self.append(&BEGIN),
             Step::Commit => self.append(&COMMIT),
-            Step::Line => self.append_line(),
+            Step::Write(count) => self.append_write(count),
             Step::Force => self.force(),
         }
     }
@@ -140,13 +140,24 @@ impl Trial {
         Ok(Some(lsn))
     }
 
-    fn append_line(&mut self) -> Result<Option<Lsn>, LogFault> {
-        let words = letters(self.alloc, 32_700)?;
-        self.append(&Rec::Line {
+    // A write has 33 bytes, those before it and those after. One that is no record isn't appended.
+    fn append_write(&mut self, count: u32) -> Result<Option<Lsn>, LogFault> {
+        let bytes = letters(self.alloc, count as usize)?;
+        let write = Rec::SegWrite {
             txn: TxnId(5),
             prev: 5,
-            words: &words,
-        })
+            change: BandBytes {
+                band: BandNo(3),
+                at: 0,
+                count,
+                before: &bytes,
+                after: &bytes,
+            },
+        };
+        if !is_record(&write) {
+            return Ok(None);
+        }
+        self.append(&write)
     }
 
     fn force(&mut self) -> Result<Option<Lsn>, LogFault> {
@@ -205,7 +216,7 @@ impl Trial {
 
     // The record at this number, as bytes, and none where `read` answers `Disk`.
     fn read(&mut self, at: Lsn) -> Result<Vec<u8>, LogFault> {
-        let mut into = letters(self.alloc, 32_789)?;
+        let mut into = letters(self.alloc, 16_417)?;
         let size = match self.log.read(&mut self.disk, at, &mut into) {
             Ok(size) => size,
             Err(LogFault::Disk) => 0,
@@ -423,9 +434,9 @@ fn a_stopped_force_leaves_the_frame_or_none(rt: HostRuntime) -> Result<(), Fail>
 fn reads_the_frames(trial: &mut Trial) -> Result<bool, LogFault> {
     let begin = trial.reads(1005, &FRAME[5..26])?;
     let commit = trial.reads(1026, &FRAME[26..47])?;
-    let line = trial.reads(1052, &LINE_FRAME[5..])?;
+    let mark = trial.reads(1052, &MARK_FRAME[5..])?;
     let none = trial.reads(1047, &[])? && trial.reads(1080, &[])?;
-    Ok(begin && commit && line && none)
+    Ok(begin && commit && mark && none)
 }
 
 // Whether a commit that waits behind them is found and read.
@@ -438,7 +449,7 @@ fn reads_a_waiting_commit(trial: &mut Trial) -> Result<bool, LogFault> {
 
 // A log at base 1000 over two frames, a closed gate, and bytes that no gate stands before.
 fn over_two_frames(alloc: Global) -> Result<Trial, Fail> {
-    let mut log0 = behind_a_frame(alloc, &LINE_FRAME)?;
+    let mut log0 = behind_a_frame(alloc, &MARK_FRAME)?;
     log0.extend_from_slice(&[0, 1, 21, 0, 0, 0])?;
     Ok(Trial::attach(alloc, disk_of(alloc, log0), Area::Log0, 1000)?)
 }
@@ -484,25 +495,26 @@ fn a_walk_goes_through_the_buffer(rt: HostRuntime) -> Result<(), Fail> {
     Ok(())
 }
 
-// The line's frame, which begins at offset 47, with another byte at an offset: each time it isn't formed.
-const SPOILT: [[u8; 2]; 8] = [
+// The mark's frame, which begins at offset 47, with another byte at an offset: each time it isn't formed.
+const SPOILT: [[u8; 2]; 9] = [
     // no length
     [48, 0],
     // a kind that isn't, or whose fields these aren't, and a record's length that its kind hasn't or that leads behind the body
-    [52, 14],
+    [52, 13],
     [52, 2],
     [52, 10],
     [53, 20],
+    [53, 22],
     [53, 24],
     // a record that leaves a byte of the body, and a body that ends in its record
-    [53, 22],
+    [48, 24],
     [48, 22],
 ];
 
 // The place of the first of these with which no damage is found at the frame.
 fn found_elsewhere(alloc: Global, spoilt: &[[u8; 2]]) -> Result<Option<usize>, Fail> {
     for (i, [at, byte]) in spoilt.iter().enumerate() {
-        let mut log0 = behind_a_frame(alloc, &LINE_FRAME)?;
+        let mut log0 = behind_a_frame(alloc, &MARK_FRAME)?;
         spoil(&mut log0, usize::from(*at), *byte);
         if damage(alloc, log0, 0)? != Some(47) {
             return Ok(Some(i));
@@ -517,19 +529,19 @@ fn long_damage(alloc: Global) -> Result<Option<u64>, Fail> {
     Ok(damage(alloc, log0, 0)?)
 }
 
-// Where a damage is found in an area with this base that has the line's frame, if it is.
-fn line_damage(alloc: Global, base: Lsn) -> Result<Option<u64>, Fail>
+// Where a damage is found in an area with this base that has the mark's frame, if it is.
+fn mark_damage(alloc: Global, base: Lsn) -> Result<Option<u64>, Fail>
     requires { base ≤ LOG_END }
 {
-    let log0 = behind_a_frame(alloc, &LINE_FRAME)?;
+    let log0 = behind_a_frame(alloc, &MARK_FRAME)?;
     Ok(damage(alloc, log0, base)?)
 }
 
 // The same with base 0, with one at which the frame ends at 2^63, and with one at which it ends behind that.
-fn line_damages(alloc: Global) -> Result<(Option<u64>, Option<u64>, Option<u64>), Fail> {
-    let low = line_damage(alloc, 0)?;
-    let last = line_damage(alloc, (1 << 63) - 75)?;
-    let behind = line_damage(alloc, (1 << 63) - 74)?;
+fn mark_damages(alloc: Global) -> Result<(Option<u64>, Option<u64>, Option<u64>), Fail> {
+    let low = mark_damage(alloc, 0)?;
+    let last = mark_damage(alloc, (1 << 63) - 75)?;
+    let behind = mark_damage(alloc, (1 << 63) - 74)?;
     Ok((low, last, behind))
 }
 
@@ -539,13 +551,13 @@ fn a_frame_that_is_not_formed_is_a_damage(rt: HostRuntime) -> Result<(), Fail> {
     assert!(rt; long_damage(alloc)? == Some(47));
     assert!(rt; found_elsewhere(alloc, &SPOILT)?.is_none());
     // the frame as it is
-    assert!(rt; line_damages(alloc)? == (None, None, Some(47)));
+    assert!(rt; mark_damages(alloc)? == (None, None, Some(47)));
     Ok(())
 }
 
 // The log over a frame and what this gate makes of a second one.
 fn with_gate(alloc: Global, gate: u8) -> Result<Trial, Fail> {
-    let mut log0 = behind_a_frame(alloc, &LINE_FRAME)?;
+    let mut log0 = behind_a_frame(alloc, &MARK_FRAME)?;
     spoil(&mut log0, 47, gate);
     Ok(Trial::attach(alloc, disk_of(alloc, log0), Area::Log0, 0)?)
 }
@@ -577,17 +589,24 @@ fn a_closed_gate_ends_the_log(rt: HostRuntime) -> Result<(), Fail> {
     Ok(())
 }
 
-// Whether a record that doesn't fit the buffer has it forced, and begins another frame.
+// Whether records fill the buffer up, and one that doesn't fit it has it forced and begins another frame. The greatest
+// record is read again.
 fn begins_another_frame(alloc: Global) -> Result<bool, LogFault> {
     let mut trial = Trial::new(alloc)?;
     let other = trial.other(&[
         (Step::Begin, Some(5), 26, 1),
-        (Step::Line, Some(26), 32_747, 1),
-        (Step::Line, Some(32_747), 65_468, 1),
-        (Step::Line, Some(65_473), 98_194, 5),
+        (Step::Write(8_192), Some(26), 16_443, 1),
+        (Step::Write(8_192), Some(16_443), 32_860, 1),
+        (Step::Write(8_192), Some(32_860), 49_277, 1),
+        (Step::Commit, Some(49_277), 49_298, 1),
+        (Step::Write(8_105), Some(49_298), 65_541, 1),
+        (Step::Write(8_192), Some(65_546), 81_963, 5),
     ])?;
+    let durable = trial.read(16_443)?.len();
+    let waiting = trial.read(65_546)?.len();
     let bytes = trial.log0();
-    Ok(other.is_none() && bytes.len() == 65_469 && bytes.starts_with(&[1, 0xb7, 0xff, 0, 0]))
+    let framed = bytes.len() == 65_542 && bytes.starts_with(&[1, 0, 0, 1, 0]);
+    Ok(other.is_none() && framed && durable == 16_417 && waiting == 16_417)
 }
 
 #[test]

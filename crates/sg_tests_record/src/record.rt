@@ -1,8 +1,7 @@
-use sg_base::TxnId;
-use sg_record::{Rec, RecError, decode, encode, plain, size};
+use sg_record::{Rec, RecError, decode, encode, size};
 
 // One record of each kind, one behind another.
-const RECORDS: [u8; 569] = [
+const RECORDS: [u8; 536] = [
     // A transaction begins.
     1, 21, 0, 0, 0, 5, 0, 0, 0, 0, 0, 0, 0, 0, 0, 0, 0, 0, 0, 0, 0,
     // Slot 2 of page 7 is set from `ab` to `xyz`.
@@ -37,14 +36,11 @@ const RECORDS: [u8; 569] = [
     9, 23, 0, 0, 0, 5, 0, 0, 0, 0, 0, 0, 0, 26, 0, 0, 0, 0, 0, 0, 0, 16, 0,
     // A transaction is committed.
     10, 21, 0, 0, 0, 5, 0, 0, 0, 0, 0, 0, 0, 47, 0, 0, 0, 0, 0, 0, 0,
-    // It has ended.
-    11, 21, 0, 0, 0, 5, 0, 0, 0, 0, 0, 0, 0, 68, 0, 0, 0, 0, 0, 0, 0,
+    // Another one has ended, with a number of 8 bytes.
+    11, 21, 0, 0, 0, 8, 7, 6, 5, 4, 3, 2, 1, 0, 1, 0, 0, 0, 0, 0, 0,
     // Transaction 5 is live, and its last record is 26.
     12, 47, 0, 0, 0, 0, 0, 0, 0, 0, 0, 0, 0, 0, 0, 0, 0, 0, 0, 0, 0, 5, 0, 0, 0, 0, 0, 0, 0, 1, 0,
     5, 0, 0, 0, 0, 0, 0, 0, 26, 0, 0, 0, 0, 0, 0, 0,
-    // The words `push a xyzzy`.
-    13, 33, 0, 0, 0, 8, 7, 6, 5, 4, 3, 2, 1, 0, 1, 0, 0, 0, 0, 0, 0, b'p', b'u', b's', b'h', b' ',
-    b'a', b' ', b'x', b'y', b'z', b'z', b'y',
 ];
 
 // Their numbers.
@@ -78,10 +74,8 @@ const END: u32 = 13;
 
 const CHECKPOINT: u32 = 14;
 
-const LINE: u32 = 15;
-
 // Where each of them begins and ends.
-const PLACES: [(usize, usize); 16] = [
+const PLACES: [(usize, usize); 15] = [
     (0, 21),
     (21, 60),
     (60, 97),
@@ -97,7 +91,6 @@ const PLACES: [(usize, usize); 16] = [
     (447, 468),
     (468, 489),
     (489, 536),
-    (536, 569),
 ];
 
 // The bytes of one of them.
@@ -182,7 +175,7 @@ fn numbers(bytes: &[u8]) -> Option<[u64; 5]> {
 }
 
 // Those of each record.
-const FIELDS: [[u64; 5]; 16] = [
+const FIELDS: [[u64; 5]; 15] = [
     [5, 0, 0, 0, 0],
     [5, 7, 4, 2, 3],
     [5, 3, 100, 2, 2],
@@ -196,9 +189,8 @@ const FIELDS: [[u64; 5]; 16] = [
     [5, 26, 0, 0, 0],
     [5, 26, 16, 0, 0],
     [5, 47, 0, 0, 0],
-    [5, 68, 0, 0, 0],
-    [0, 0, 5, 16, 0],
     [0x0102_0304_0506_0708, 256, 0, 0, 0],
+    [0, 0, 5, 16, 0],
 ];
 
 // Which record has other numbers.
@@ -253,7 +245,7 @@ fn patch(bytes: &mut [u8], changes: &[Patch]) {
 
 // What is told of the first bytes, so many, of a record with some bytes changed and zeros behind it.
 fn told_of(number: u32, changes: &[Patch], count: u32) -> Option<Told> {
-    let mut bytes = [0u8; 33_000];
+    let mut bytes = [0u8; 16_500];
     let Some(record) = record(number as usize) else {
         return None;
     };
@@ -269,13 +261,13 @@ fn told_of(number: u32, changes: &[Patch], count: u32) -> Option<Told> {
 }
 
 // A record, the bytes of it that are changed, how many bytes are read, and what is told of them.
-const HOSTILE: [(u32, [Patch; 2], u32, u32, u32); 37] = [
+const HOSTILE: [(u32, [Patch; 2], u32, u32, u32); 35] = [
     // The order of the faults.
     (BEGIN, [SAME, SAME], 0, SHORT, 0),
     (BEGIN, [SAME, SAME], 20, SHORT, 0),
     (BEGIN, [[0, 0], SAME], 20, SHORT, 0),
     (BEGIN, [[0, 0], SAME], 21, BAD_KIND, 0),
-    (BEGIN, [[0, 14], SAME], 21, BAD_KIND, 14),
+    (BEGIN, [[0, 13], SAME], 21, BAD_KIND, 13),
     (BEGIN, [[0, 255], [1, 99]], 21, BAD_KIND, 255),
     (BEGIN, [[1, 22], SAME], 21, SHORT, 0),
     (BEGIN, [[4, 1], SAME], 21, SHORT, 0),
@@ -289,9 +281,6 @@ const HOSTILE: [(u32, [Patch; 2], u32, u32, u32); 37] = [
     (TOP_END, [[29, 2], SAME], 32, BAD_FIELD, 1),
     (CHECKPOINT, [[29, 2], SAME], 47, BAD_FIELD, 1),
     (COMP_PAGE, [[1, 29], SAME], 44, BAD_FIELD, 1),
-    // 16,418 bytes, and 32,768 and 32,769 of words.
-    (LINE, [[1, 0x15], [2, 0x80]], 33_000, GOOD, 0),
-    (LINE, [[1, 0x16], [2, 0x80]], 33_000, BAD_FIELD, 1),
     // A page's number, the operation and both lengths.
     (PAGE, [[23, 16], SAME], 39, BAD_FIELD, 21),
     (PAGE, [[25, 0], SAME], 39, BAD_FIELD, 25),
@@ -318,7 +307,7 @@ const HOSTILE: [(u32, [Patch; 2], u32, u32, u32); 37] = [
 ];
 
 // The same with more bytes changed.
-const LONGER: [(u32, [Patch; 6], u32, u32, u32); 10] = [
+const LONGER: [(u32, [Patch; 6], u32, u32, u32); 12] = [
     // The length of the whole record.
     (
         PAGE,
@@ -327,7 +316,21 @@ const LONGER: [(u32, [Patch; 6], u32, u32, u32); 10] = [
         BAD_FIELD,
         1,
     ),
-    // 16,418 bytes, and 32,768 and 32,769 of words.
+    // 16,417 bytes of a band's 8,192 and of a page, and 16,418.
+    (
+        SEG_WRITE,
+        [[1, 0x21], [2, 0x40], [29, 0], [30, 0x20], SAME, SAME],
+        16_417,
+        GOOD,
+        0,
+    ),
+    (
+        PAGE,
+        [[1, 0x21], [2, 0x40], [30, 0], [32, 0xff], [33, 0x3f], SAME],
+        16_417,
+        GOOD,
+        0,
+    ),
     (
         PAGE,
         [[1, 0x22], [2, 0x40], [30, 0], [32, 0], [33, 0x40], SAME],
@@ -419,58 +422,4 @@ fn first_longer_told_wrong() -> Option<usize> {
 fn hostile_records(rt: HostRuntime) {
     assert_eq!(rt; first_told_wrong(), None);
     assert_eq!(rt; first_longer_told_wrong(), None);
-}
-
-// A record, how many bytes of it are read, and what is told of them: the plain store has three of the
-// kinds.
-const PLAIN: [(u32, u32, u32, u32); 6] = [
-    (BEGIN, 21, GOOD, 0),
-    (COMMIT, 21, GOOD, 0),
-    (LINE, 33, GOOD, 0),
-    (PAGE, 39, BAD_KIND, 2),
-    (CHECKPOINT, 47, BAD_KIND, 12),
-    (COMMIT, 20, SHORT, 0),
-];
-
-fn plain_told(number: u32, count: u32) -> Option<Told> {
-    let Some(record) = record(number as usize) else {
-        return None;
-    };
-    let Some(read) = record.get(..count as usize) else {
-        return None;
-    };
-    Some(told(plain::decode(read).err()))
-}
-
-// Of which record the plain store tells something else.
-fn first_plain_told_wrong() -> Option<usize> {
-    for (row, (number, count, fault, what)) in PLAIN.iter().enumerate() {
-        if plain_told(*number, *count) != Some((*fault, *what)) {
-            return Some(row);
-        }
-    }
-    None
-}
-
-#[test]
-fn the_plain_store_reads_its_kinds(rt: HostRuntime) {
-    assert_eq!(rt; first_plain_told_wrong(), None);
-}
-
-// Whether a line of the plain store is written as its header and its words, and no more.
-fn plain_line_is_written() -> bool {
-    let mut into = [9u8; 30];
-    let line = plain::Rec::Line {
-        txn: TxnId(5),
-        prev: 26,
-        words: b"push a x",
-    };
-    plain::size(&line) == 29
-        && plain::encode(&line, &mut into) == 29
-        && into.get(21..) == Some(b"push a x\x09".as_slice())
-}
-
-#[test]
-fn the_plain_store_writes_its_kinds(rt: HostRuntime) {
-    assert!(rt; plain_line_is_written());
 }

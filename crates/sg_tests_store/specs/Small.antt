@@ -1,5 +1,7 @@
 -- What an engine shows that tells nothing: its counts alone.
 use Rattle.std.specs.Prelude.{ℕ, [], false, None}
+use Rattle.std.specs.FinMap.{empty}
+use Rattle.sg_room.specs.Marks.Kind.{Stays}
 use Rattle.sg_disk.specs.Memory.{image_of, memory_view}
 use Rattle.sg_model.specs.Objects.{Objects}
 use Rattle.sg_model.specs.Verb.Op.{Names}
@@ -24,6 +26,10 @@ nothing = record {
   Buried = λ o d ts. ⊥;
   wants = λ n. false;
   objects = λ o. o;
+  sizes = record { pages = 0; bands = 0; map = 0 };
+  marks = λ o. record { live = empty; graves = empty; rows = 0 };
+  named = λ n. [];
+  kind = λ n. Stays;
   op = λ v. Names;
   touched = λ v. [];
   Below = λ o p. ⊥;

@@ -143,6 +143,8 @@ impl Engine for Small {
 
     ghost waits = { λ s. le-add_right s.measures.tail 65541 };
 
+    ghost leaves = { λ s t z from means told. absurd told };
+
     fn tail(&self) -> Lsn {
         self.measures.tail
     }

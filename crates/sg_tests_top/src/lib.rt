@@ -2,6 +2,12 @@
 #![tactic(auto)]
 
 #[cfg(test)]
+mod checkpoints;
+#[cfg(test)]
+mod geometry;
+#[cfg(test)]
+mod listing;
+#[cfg(test)]
 mod quiet;
 #[cfg(test)]
 mod reopen;

@@ -109,8 +109,8 @@ impl<D: Presumed, E: Opens<D>> SessionOver<D, E> {
         }
     }
 
-    /// Ends the session. Unless the store has stopped, the live transactions abort in order of begin, and all that
-    /// was done is written home. Answers the status of the first fault of its lines and of this, which is `Done`,
+    /// Ends the session. Unless the store has stopped, the live transactions abort in order of begin, a checkpoint
+    /// is made, and all that was done is written home. Answers the status of the first fault of its lines and of this, which is `Done`,
     /// `Disk`, `Write` or `LogEnd`, and the disk.
     pub fn finish(self, ops: &Ops) -> (Status, D)
         requires serves { Serves (table_of record_meaning range_meaning ops.now) self.inner }

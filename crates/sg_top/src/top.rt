@@ -3,10 +3,12 @@ ghost use Rattle.sg_disk.specs.Disk.{Spent};
 ghost use Rattle.sg_ops.specs.Table.{table_of};
 ghost use Rattle.sg_commands.specs.Drawing.{Draws, sunk};
 ghost use Rattle.sg_commands.specs.Images.{IsOfStore, IsPresumed};
-ghost use Rattle.sg_commands.specs.Making.{Makes, SaysMade};
+ghost use Rattle.sg_commands.specs.Logged.{ListsLog};
+ghost use Rattle.sg_commands.specs.Making.{SaysMade};
+ghost use Rattle.sg_commands.specs.Sized.{Makes};
 ghost use Rattle.sg_commands.specs.Stores.{grounds, says};
 ghost use Rattle.sg_commands.specs.Top.{outside, Account};
-ghost use Rattle.sg_commands.specs.Words.{are_run, are_init, are_served, drawn, stop_after};
+ghost use Rattle.sg_commands.specs.Words.{are_run, are_init, are_log, are_served, call_disk, with_file, drawn, stop_after};
 
 use sg_base::{Sink, Source};
 use sg_commands::{Finish, Status, serve};
@@ -33,12 +35,14 @@ fn serve_pages<D: Disk, S: Source, K: Sink, O: Origin + Presumes>(
     requires presumed { IsPresumed grounds says (table_of record_meaning range_meaning ops) D.told O.presumed (D.view disk) }
     ensures usage { result.status ≡ Status.Usage → are_served words.now ≡ false }
     ensures unused { are_served words.now ≡ false → ((result.status ≡ Status.Usage) ⊎ (result.status ≡ Status.Memory)) × (out.new ≡ out.old) }
-    ensures apart { are_run words.now ≡ false → script.new ≡ script.old }
-    ensures beside { are_run words.now ≡ false → are_init words.now ≡ false → (result.disk ≡ disk) × (result.refused ≡ 0) }
+    ensures apart { are_run words.now ≡ false → with_file words.now ≡ false → script.new ≡ script.old }
+    ensures beside { call_disk words.now ≡ false → (result.disk ≡ disk) × (result.refused ≡ 0) }
     ensures run { are_run words.now ≡ true → Account grounds says (table_of record_meaning range_meaning ops) D.told O.presumed (outside (D.view disk) (S.left script.old) (S.faults script.old) (K.taken out.old) (K.faults out.old))
         (outside (D.view result.disk) (S.left script.new) (S.faults script.new) (K.taken out.new) (K.faults out.new)) result.refused result.status }
-    ensures made { are_init words.now ≡ true → Makes grounds says result.status D.told (D.view disk) (D.view result.disk) result.refused }
+    ensures made { are_init words.now ≡ true → Makes grounds says result.status (with_file words.now) D.told (outside (D.view disk) (S.left script.old) (S.faults script.old) (K.taken out.old) (K.faults out.old))
+        (outside (D.view result.disk) (S.left script.new) (S.faults script.new) (K.taken out.new) (K.faults out.new)) result.refused }
     ensures said { are_init words.now ≡ true → SaysMade result.status (sunk (K.taken out.old) (K.faults out.old)) (sunk (K.taken out.new) (K.faults out.new)) }
+    ensures listed { are_log words.now ≡ true → ListsLog result.status D.told (D.view disk) (D.view result.disk) (sunk (K.taken out.old) (K.faults out.old)) (sunk (K.taken out.new) (K.faults out.new)) }
     ensures drawn { IfSome (drawn words.now) (λ d. Draws result.status d (sunk (K.taken out.old) (K.faults out.old)) (sunk (K.taken out.new) (K.faults out.new))) }
     ensures heeded { (result.status ≡ Status.Disk → ⊥) → ((D.view result.disk).faults ≡ (D.view disk).faults) × (result.refused ≡ 0) }
     ensures spent { Spent (stop_after words.now) (D.view disk).calls (D.view result.disk).calls result.refused }
@@ -50,8 +54,10 @@ fn serve_pages<D: Disk, S: Source, K: Sink, O: Origin + Presumes>(
 /// which names the disk, runs the script with these operations over the store that the disk has, up to 64
 /// of whose transactions are live at a time. The replies go to the sink. With `--stop-after` and a number
 /// beside these the disk makes so many more calls at most: each later one fails, and doesn't touch
-/// it. `init` and a folder make a store there of the sizes that one has where none are given, write
-/// `ok`, and read no script. `gen`, a seed and a count write a workload to the sink, and make no call of the
+/// it. `init` and a folder make a store there of the usual sizes, write `ok`, and read no script. With `--geometry`
+/// and a file beside these the source gives the text that says its sizes; where it says none that are fit the disk
+/// isn't called. `log` and a folder write the listing of the log of the store that the disk has, which isn't opened for
+/// that, and nothing to the disk. `gen`, a seed and a count write a workload to the sink, and make no call of the
 /// disk or the source. Other words are `Status::Usage`, and touch nothing; words take memory to be read. A run
 /// ends with its first fault, but for one of the disk: behind that each line is still answered.
 ///
@@ -67,8 +73,8 @@ pub fn stasis<D: Disk, S: Source, K: Sink>(
 ) -> Finish<D>
     ensures usage { result.status ≡ Status.Usage → are_served words.now ≡ false }
     ensures unused { are_served words.now ≡ false → ((result.status ≡ Status.Usage) ⊎ (result.status ≡ Status.Memory)) × (out.new ≡ out.old) }
-    ensures apart { are_run words.now ≡ false → script.new ≡ script.old }
-    ensures beside { are_run words.now ≡ false → are_init words.now ≡ false → (result.disk ≡ disk) × (result.refused ≡ 0) }
+    ensures apart { are_run words.now ≡ false → with_file words.now ≡ false → script.new ≡ script.old }
+    ensures beside { call_disk words.now ≡ false → (result.disk ≡ disk) × (result.refused ≡ 0) }
 
     // The headline: one course of the run, its replies, what a crash leaves of it, the cause of its status, and that it is
     // done where nothing hinders it.
@@ -76,9 +82,14 @@ pub fn stasis<D: Disk, S: Source, K: Sink>(
         (outside (D.view disk) (S.left script.old) (S.faults script.old) (K.taken out.old) (K.faults out.old))
         (outside (D.view result.disk) (S.left script.new) (S.faults script.new) (K.taken out.new) (K.faults out.new)) result.refused result.status }
 
-    // A new store: what its status tells, what a crash leaves at each moment of making it, and what is written.
-    ensures made { are_init words.now ≡ true → Makes grounds says result.status D.told (D.view disk) (D.view result.disk) result.refused }
+    // A new store: which sizes it has, what its status tells, what a crash leaves at each moment of making it, and what is
+    // written.
+    ensures made { are_init words.now ≡ true → Makes grounds says result.status (with_file words.now) D.told (outside (D.view disk) (S.left script.old) (S.faults script.old) (K.taken out.old) (K.faults out.old))
+        (outside (D.view result.disk) (S.left script.new) (S.faults script.new) (K.taken out.new) (K.faults out.new)) result.refused }
     ensures said { are_init words.now ≡ true → SaysMade result.status (sunk (K.taken out.old) (K.faults out.old)) (sunk (K.taken out.new) (K.faults out.new)) }
+
+    // The listing of a log: what the sink took of it, why it isn't done, and that the disk is as it was.
+    ensures listed { are_log words.now ≡ true → ListsLog result.status D.told (D.view disk) (D.view result.disk) (sunk (K.taken out.old) (K.faults out.old)) (sunk (K.taken out.new) (K.faults out.new)) }
 
     // A workload: what the sink took of it, by its status.
     ensures drawn { IfSome (drawn words.now) (λ d. Draws result.status d (sunk (K.taken out.old) (K.faults out.old)) (sunk (K.taken out.new) (K.faults out.new))) }

@@ -45,6 +45,7 @@ module _ (recovers : Recovering) (t : Table) (z : Sizes) (v w : View (basis reco
         now = reading s';
         reads = contents_read (basis_at recovers z) t w new s' shows' d.contents counted';
         freed = k.freed;
+        stock = k.stock;
         took = (let y : z.pages - (reading s).pages ≤ z.pages - (reading s').pages = omega (arith, p, p', q, q', n, more, count) in y);
         fewer = (let f = k.fewer in omega (arith, f));
         left = k.left;

@@ -5,10 +5,12 @@ use Rattle.sg_base.specs.Ends.{HasRisen}
 use Rattle.sg_ops.specs.Table.{Table}
 use Rattle.sg_recovery.specs.Log.{tally}
 use Rattle.sg_action.specs.States.{State}
+use Rattle.sg_actions.specs.Acting.{CanChange}
 use Rattle.sg_actions.specs.Later.{Went}
 use Rattle.sg_actions.specs.Steps.{Steps, repeated, ended}
 use Rattle.sg_actions.specs.View.{Since}
 use Rattle.sg_actions.specs.declared.acts.Acts.{Acts}
+use Rattle.sg_actions.proofs.GoingOn.{may_of}
 use Rattle.sg_actions.specs.declared.engine.Engine.{Ghosts}
 use Rattle.sg_contents.specs.Standing.{Contents, IsContents}
 use Rattle.sg_model.specs.Step.{is_changing_verb}
@@ -231,6 +233,15 @@ module _ (recovers : Recovering) (a b : Over) (t : Table) where
       let w : Went (recovers t) t (a.limits x.0.pages x.0.bands) (at_in x.1 (paused a)) (at_in x.1 b) = went recovers (paused a) b t x.0 x.1 m.pages m.bands k l (paused_since a t x.1 m.since) told in
       let same : b.engine.steps ≡ a.engine.steps = (w.gone (whole told')).steps ∙ ap (λ (ms : Steps). ms ++ a.engine.steps) (w.rests refl) in
       subst (λ (rs : Steps). ended rs ≡ rs) (sym same) (idle_ended a.engine.steps k.chain.closed x.3)
+
+  -- who acts may go on, where that could before
+  pub goes_back : LaterOn recovers t (paused a) b → (b.engine.Told → b.engine.failed ≡ false) → (a.engine.Told → (z : Sizes) × (from : State) × Means a t z from) → (was : Bool) → CanChange b.engine was b.actor
+  goes_back l whole asked was opens told' =
+      let told = l.told told' in
+      let x = asked told in
+      let m = x.2 in
+      let w : Went (recovers t) t (a.limits x.0.pages x.0.bands) (at_in x.1 (paused a)) (at_in x.1 b) = went recovers (paused a) b t x.0 x.1 m.pages m.bands (m.keeps told).kept l (paused_since a t x.1 m.since) told in
+      ∣ may_of (w.gone (whole told')).kept.chain ∣₁
 
   -- and how it accounts for the disk
   pub passes_back : (changes : Bool) → IsSane a → IsSane b → LaterOn recovers t (held changes a) b → a.engine.faults + a.breaks ≤ (released changes a.begun b).engine.faults + (released changes a.begun b).breaks → Passes changes a (released changes a.begun b)

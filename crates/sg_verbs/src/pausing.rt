@@ -1,6 +1,7 @@
 // What is done round calls on the objects: in a look no change is logged, and behind calls that failed nothing more is asked of
 // the engine.
 ghost use Rattle.std.specs.Prelude.{◌≡◌, Bool, true, false, OnOk, IfErr, IfNone, IfSome};
+ghost use Rattle.sg_actions.specs.Acting.{CanChange};
 ghost use Rattle.sg_shown.specs.Shown.{over};
 ghost use Rattle.sg_verbs.specs.Looks.{IsSound, HasPaused, HasGoneOn, HasHeld, HasReleased, IsHeld, HasLost, IsGivenUp};
 
@@ -68,6 +69,7 @@ pub fn pause<E: Engine>(acts: &mut Acts<E>) -> bool
 /// Whoever acted goes on, or nothing more is asked of the engine: behind a look that failed, or where the engine
 /// has failed for the disk.
 pub fn go_on<E: Engine>(acts: &mut Acts<E>, was: bool, failed: bool) -> Result<(), SpaceFault>
+    requires on { CanChange (E.view acts.old.engine) was acts.old.actor }
     ensures sound { IsSound acts.old }
     ensures on { OnOk result (HasGoneOn was acts.old acts.new) }
     ensures held { OnOk result (IsHeld (E.view acts.old.engine)) }
@@ -99,6 +101,7 @@ pub fn hold<E: Engine>(acts: &mut Acts<E>, changes: bool) -> bool
 
 /// Whoever paused for this goes on.
 pub fn release<E: Engine>(acts: &mut Acts<E>, changes: bool, was: bool)
+    requires on { changes ≡ false → CanChange (E.view acts.old.engine) was acts.old.actor }
     ensures sound { IsSound acts.old }
     ensures released { HasReleased changes was acts.old acts.new }
 {

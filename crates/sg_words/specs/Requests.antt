@@ -1,5 +1,5 @@
 -- What a line of a script asks for, with every verb.
-use Rattle.std.specs.Prelude.{ℕ, Bool, false, ◌||◌, ◌&&◌, ◌==◌, nat_lt, nat_le, if◌then◌else◌, List, [], ◌∷◌, length, Option, Some, None, codes, slice_index}
+use Rattle.std.specs.Prelude.{ℕ, Bool, ◌||◌, ◌==◌, nat_lt, if◌then◌else◌, List, [], ◌∷◌, length, Option, Some, None, codes, slice_index}
 use Rattle.std.specs.Str.{bytes_eq}
 use Rattle.std.specs.Str.Lines.{strip_carriage_return}
 use Rattle.sg_base.specs.Spelling.{is_name}
@@ -187,13 +187,3 @@ unfoldable pub asked : List ℕ → Asked
 asked line =
     if nat_lt most_line_bytes (length line) then Wrong
     else (if slice_index line 0 == 35 then Blank else asked_by (words_of (strip_carriage_return line)))
-
--- these words are this one alone
-abbrev pub are_alone : List ℕ → List (List ℕ) → Bool
-are_alone word [] = false
-are_alone word (first ∷ []) = bytes_eq first word
-are_alone word (first ∷ second ∷ rest) = false
-
--- A line that is the word `flush` alone is no request of a transaction
-unfoldable pub is_flush : List ℕ → Bool
-is_flush line = nat_le (length line) most_line_bytes && are_alone (codes "flush") (words_of (strip_carriage_return line))

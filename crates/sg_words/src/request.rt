@@ -4,13 +4,13 @@ ghost use Rattle.sg_model.specs.Verb.Op.{On};
 ghost use Rattle.sg_words.specs.Parse.{words_of};
 ghost use Rattle.sg_words.specs.Requested.{shown, shown_option, shown_asked, HasWords};
 ghost use Rattle.sg_words.specs.Spoken.{IsJoined};
-ghost use Rattle.sg_words.specs.Requests.{put_of, make_of, plain_request, valued_request, either, request_of, asked, is_flush};
+ghost use Rattle.sg_words.specs.Requests.{put_of, make_of, plain_request, valued_request, either, request_of, asked};
 ghost use Rattle.sg_words.specs.Requests.Request.{Do};
 ghost use Rattle.sg_words.specs.Verbs.{of_alone, of_named, of_numbered, verb_on, verb_with};
 
 use crate::arguments::{number_if, numbers, one_value};
 use crate::kept::Words;
-use crate::split::{is_next, next_word, one_word, without_return};
+use crate::split::{is_next, next_word, without_return};
 use crate::transaction::transaction;
 use crate::value;
 use crate::verb::{Alone, Named, Numbered, Plain, Valued, making_verb, plain_verb, valued_verb};
@@ -18,7 +18,7 @@ use sg_base::Name;
 use sg_model::Op;
 
 /// The longest line in bytes, without its LF.
-const MOST_LINE_BYTES: usize = 32768;
+pub(crate) const MOST_LINE_BYTES: usize = 32768;
 
 /// What is asked of a transaction.
 #[derive(Clone, Copy)]
@@ -286,17 +286,6 @@ pub fn parse_request<'a>(
         };
     }
     Asked::Wrong
-}
-
-/// Whether a line without its LF is the word `flush` alone, which is no request of a transaction.
-#[tactic(auto, unfolding(crate::specs::Requests::is_flush))]
-pub fn is_flush(text: &[u8]) -> bool
-    ensures { result ≡ is_flush text.now }
-{
-    match one_word(without_return(text)) {
-        Some(word) => text.len() <= MOST_LINE_BYTES && word == b"flush".as_slice(),
-        None => false,
-    }
 }
 
 /// What the words kept of a line ask for, with every verb: a verb and its arguments. `scratch` takes

@@ -12,6 +12,7 @@ use Rattle.sg_find.specs.Synced.{reads}
 use Rattle.sg_pages.specs.Parts.{seen}
 use Rattle.sg_attach.specs.Attached.{unfinished_of}
 use Rattle.sg_attach.proofs.Ending.{end_shown}
+use Rattle.sg_attach.proofs.Known.{attach_known}
 use Rattle.sg_attach.proofs.Undamaged.{attach_undamaged}
 use Rattle.sg_attach.proofs.Analysed.{log_formed, log_losers, log_unfinished}
 use Rattle.sg_attach.proofs.Attached.{attach_some, attach_stands, attach_steps, attach_durable, attach_base, attach_based, attach_below, attach_pages, attach_bands, attach_moments, attach_refused, below_prop, nat_set, waits_empty}
@@ -150,8 +151,11 @@ returns-in-Err-clause-refused g c from durable log is m =
     attach_refused g.D.Disk.told _ from durable log (g.D.Disk.view c.args.disk) (g.D.Disk.view c.open.new.disk) c.in-Err.fault m (λ q tail ds does opens. c.in-Err.ensures.refused q tail ds is does opens)
 
 pub returns-in-Err-clause-undamaged : goal.returns-in-Err-clause-undamaged
-returns-in-Err-clause-undamaged g c rs x is r formed area at =
-    attach_undamaged g.D.Disk.told _ (g.D.Disk.view c.args.disk) (g.D.Disk.view c.open.new.disk) c.in-Err.fault rs x r formed (λ q tail ds does opens. c.in-Err.ensures.refused q tail ds is does opens) area at
+returns-in-Err-clause-undamaged g c rs x is r area at =
+    attach_undamaged g.D.Disk.told _ (g.D.Disk.view c.args.disk) (g.D.Disk.view c.open.new.disk) c.in-Err.fault rs x r (λ q tail ds does opens. c.in-Err.ensures.refused q tail ds is does opens) area at
+
+pub returns-in-Err-clause-known : goal.returns-in-Err-clause-known
+returns-in-Err-clause-known g c rs x is r code = attach_known _ (reads (g.D.Disk.view c.args.disk)) c.in-Err.fault rs x r (c.in-Err.ensures.cause is) code
 
 pub returns-in-Err-clause-failed : goal.returns-in-Err-clause-failed
 returns-in-Err-clause-failed g c is =

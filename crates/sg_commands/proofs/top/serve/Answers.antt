@@ -1,7 +1,9 @@
 use Rattle.std.proofs.Common.{ap}
 use Rattle.sg_commands.specs.Top.{outside}
 use Rattle.sg_commands.proofs.Endings.{account_of, never_usage}
-use Rattle.sg_commands.proofs.Making.{makes_none, said_none}
+use Rattle.sg_commands.proofs.Making.{said_none}
+use Rattle.sg_commands.proofs.Logged.{lists_none}
+use Rattle.sg_commands.proofs.Sized.{makes_none}
 use Rattle.sg_commands.proofs.Wanting.{not_begun, not_drawn, not_spent}
 use Rattle.sg_commands.proofs.top.serve.Goals as goal
 
@@ -34,7 +36,15 @@ returns-clause-spent g c =
 pub returns-clause-made : goal.returns-clause-made
 returns-clause-made g c are_init =
     let it = c.ended_beside-in-Err-Memory.ensures in
-    makes_none g.E.Engine.basis g.E.Opens.says g.D.Disk.told (g.D.Disk.view c.args.disk) _ _ g.met.E.Opens.bare _ it.0 (ap (λ d. g.D.Disk.view d) it.1) it.2
+    makes_none g.E.Engine.basis g.E.Opens.says g.D.Disk.told _
+    (outside (g.D.Disk.view c.args.disk) (g.S.Source.left c.args.script.now) (g.S.Source.faults c.args.script.now) (g.K.Sink.taken c.args.out.now)
+    (g.K.Sink.faults c.args.out.now))
+    _ _ _ g.met.E.Opens.bare it.0 (ap (λ d. g.D.Disk.view d) it.1) it.2
 
 pub returns-clause-said : goal.returns-clause-said
 returns-clause-said g c are_init = said_none _ _ c.ended_beside-in-Err-Memory.ensures.0
+
+pub returns-clause-listed : goal.returns-clause-listed
+returns-clause-listed g c are_log =
+    let it = c.ended_beside-in-Err-Memory.ensures in
+    lists_none g.D.Disk.told (g.D.Disk.view c.args.disk) _ _ _ it.0 (ap (λ d. g.D.Disk.view d) it.1)

@@ -37,7 +37,7 @@ returns-clause-refused g c =
     let v = g.D.Disk.view c.args.disk in
     let w = g.D.Disk.view c.in-Err.field-0.disk in
     subst (λ (f : MountFault). IsHandedBack t g.D.Disk.told g.D.Presumed.presumed v w f) (sym c.of_opening.ensures)
-    (opening_back g.D.Disk.told t g.D.Presumed.presumed v w c.in-Err.field-0.fault c.requires.stands (λ is. c.in-Err.ensures.cause is)
+    (opening_back g.D.Disk.told t g.D.Presumed.presumed v w c.in-Err.field-0.fault c.requires.stands (λ is. c.in-Err.ensures.cause is) (λ is log x r area at. c.in-Err.ensures.undamaged log x is r area at)
     (λ from durable log is m. c.in-Err.ensures.refused from durable log is m) (λ is. c.in-Err.ensures.not_a_store is) (λ is. c.in-Err.ensures.failed is) c.in-Err.ensures.unwritten c.in-Err.ensures.heeded_so)
 
 pub returns-clause-shut : goal.returns-clause-shut

@@ -9,8 +9,8 @@ use Rattle.sg_paged.proofs.actions.act.Goals as goal
 pub quiet-requires : goal.quiet-requires
 quiet-requires g c = record { idle = λ told. (c.requires.can.can told).rest.idle }
 
-pub act-requires : goal.act-requires
-act-requires g c = λ told1.
+pub act-requires-clause-can : goal.act-requires-clause-can
+act-requires-clause-can g c = λ told1.
     let can = c.requires.can in
     let told = subst (λ y. (g.E.Engine.view y).Told) c.quiet.ensures.engine told1 in
     let mm = c.quiet.ensures.means can.by can.sizes (can.from told) (can.means told) in
@@ -50,3 +50,10 @@ returns-clause-acts g c = λ t z from m told e idle.
       engine_is g.E.Engine.recovers new t z from means w (record { law = g.met.E.Engine.lawful _ t from means.since.stands; first = g.met.E.Engine.durable_first _ w; images = g.met.E.Engine.images _ t from means.since.stands w }),
       view_acts g.E.Engine.recovers (over c.args.acts.now) new t z from c.args.txn.0 (ap g.E.Engine.view all) (room_then c.quiet.ensures.room (room_same mid new k.maps k.unfreed)) (k.breaks ∙ c.quiet.ensures.breaks) k.begun (now.is told1) idle,
     )
+
+pub act-requires-clause-chain : goal.act-requires-clause-chain
+act-requires-clause-chain g c = λ told1.
+    let can = c.requires.can in
+    let told = subst (λ y. (g.E.Engine.view y).Told) c.quiet.ensures.engine told1 in
+    let mm = c.quiet.ensures.means can.by can.sizes (can.from told) (can.means told) in
+    ∣ (mm.keeps told1).kept.chain ∣₁

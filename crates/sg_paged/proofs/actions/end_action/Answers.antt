@@ -8,8 +8,8 @@ use Rattle.sg_paged.proofs.Behind.{done_appended, on_ok3, on_err, untold, acts_t
 use Rattle.sg_paged.proofs.Recorded.{action_means}
 use Rattle.sg_paged.proofs.actions.end_action.Goals as goal
 
-pub end_action-requires : goal.end_action-requires
-end_action-requires g c = λ told.
+pub end_action-requires-clause-can : goal.end_action-requires-clause-can
+end_action-requires-clause-can g c = λ told.
     let can = c.requires.can in
     let at = can.can told in
     (acts_txn can.by (basis g.E.Engine.recovers can.sizes) (can.from told) (g.E.Engine.view c.args.acts.now.engine).steps c.args.acts.now.begun c.args.acts.now.actor.txn.0 at.action at.acting).1 ∙ at.own
@@ -49,3 +49,6 @@ returns-clause-ends g c = λ t z from m told action e acts own.
       })) k.counts.tells k.begun did,
     ) in
     (lsn, actor.last, actor.before, both.0, both.1)
+
+pub end_action-requires-clause-chain : goal.end_action-requires-clause-chain
+end_action-requires-clause-chain g c = λ told. ∣ ((c.requires.can.means told).keeps told).kept.chain ∣₁

@@ -19,6 +19,7 @@ checkpoint-requires g c = record {
       let told = subst (λ y. (g.E.Engine.view y).Told) c.quiet.ensures.engine told1 in
       let mm = c.quiet.ensures.means can.by can.sizes (can.from told) (can.means told) in
       (mm.keeps told1).rest c.quiet.ensures.begun;
+  quiet = λ told1. c.quiet.ensures.begun;
 }
 
 pub again-requires-clause-can : goal.again-requires-clause-can
@@ -89,3 +90,16 @@ returns-in-Err-clause-rests g c = λ t z from m told e idle.
     let mm = c.quiet.ensures.means t z from m in
     let told1 = subst (λ y. (g.E.Engine.view y).Told) (sym c.quiet.ensures.engine) told in
     (rests_of g.E.Engine.recovers (over c.args.acts.now) (over c.checkpoint.new.self) t z from (g.E.Engine.view c.quiet.new.acts.engine) (ap g.E.Engine.view c.quiet.ensures.engine) mm.size (c.checkpoint.ensures.moments t from mm.since.stands told1), tt)
+
+pub again-requires-clause-chain : goal.again-requires-clause-chain
+again-requires-clause-chain g c = λ told2.
+    let can = c.requires.can in
+    let k = c.checkpoint.ensures in
+    let told1 = k.counts.told told2 in
+    let told = subst (λ y. (g.E.Engine.view y).Told) c.quiet.ensures.engine told1 in
+    let t = can.by in
+    let z = can.sizes in
+    let from = can.from told in
+    let mm = c.quiet.ensures.means t z from (can.means told) in
+    let means = stay_means (over c.quiet.new.acts) (over c.checkpoint.new.self) t z from c.checkpoint.result mm (record { maps = k.maps; unfreed = k.unfreed; rows = k.rows; actor = k.actor; begun = k.begun; begin = λ o. absurd (let x : true ≡ false = sym o ∙ (k.begun ∙ c.quiet.ensures.begun) in cc); limits = refl }) (k.means t from mm.since.stands) k.counts.told k.counts.silent (k.stays t from mm.since.stands) (k.kept (g.E.Engine.limits z.pages z.bands) t from mm.since.stands) in
+    ∣ (means.keeps told2).kept.chain ∣₁

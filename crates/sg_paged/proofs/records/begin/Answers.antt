@@ -12,8 +12,8 @@ pub quiet-requires : goal.quiet-requires
 quiet-requires g c = record { idle = λ told. (c.requires.can.can told).rest.idle }
 
 -- fewer go on than there are rows, so one is vacant
-pub begin-requires : goal.begin-requires
-begin-requires g c = λ told1.
+pub begin-requires-clause-can : goal.begin-requires-clause-can
+begin-requires-clause-can g c = λ told1.
     let can = c.requires.can in
     let told = subst (λ y. (g.E.Engine.view y).Told) c.quiet.ensures.engine told1 in
     let mm = c.quiet.ensures.means can.by can.sizes (can.from told) (can.means told) in
@@ -47,3 +47,10 @@ returns-clause-begins g c = λ t z from m told e idle.
     k.counts (λ w. g.met.E.Engine.told_whole _ w) did in
     begun_begins g.E.Engine.recovers (over c.args.acts.now) mid new t z from c.begin.result (ap g.E.Engine.view c.quiet.ensures.engine) (room_then c.quiet.ensures.room (room_stays mid new s)) s.begun told1 k.counts (k.appends (g.E.Engine.limits z.pages z.bands) t from mm.since.stands told1 (mm.keeps told1).kept) did means
     (λ w. record { law = g.met.E.Engine.lawful _ t from stands; first = g.met.E.Engine.durable_first _ w; images = g.met.E.Engine.images _ t from stands w })
+
+pub begin-requires-clause-chain : goal.begin-requires-clause-chain
+begin-requires-clause-chain g c = λ told1.
+    let can = c.requires.can in
+    let told = subst (λ y. (g.E.Engine.view y).Told) c.quiet.ensures.engine told1 in
+    let mm = c.quiet.ensures.means can.by can.sizes (can.from told) (can.means told) in
+    ∣ (mm.keeps told1).kept.chain ∣₁

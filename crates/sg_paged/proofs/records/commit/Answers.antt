@@ -11,8 +11,8 @@ use Rattle.sg_paged.proofs.records.commit.Goals as goal
 pub quiet-requires : goal.quiet-requires
 quiet-requires g c = record { idle = λ told. (c.requires.can.can told).rest.idle }
 
-pub commit-requires : goal.commit-requires
-commit-requires g c = λ told1.
+pub commit-requires-clause-can : goal.commit-requires-clause-can
+commit-requires-clause-can g c = λ told1.
     let can = c.requires.can in
     let told = subst (λ y. (g.E.Engine.view y).Told) c.quiet.ensures.engine told1 in
     let mm = c.quiet.ensures.means can.by can.sizes (can.from told) (can.means told) in
@@ -95,3 +95,10 @@ returns-in-Err-clause-commits g c = λ t z from m told e idle.
 
 pub returns-in-Err-clause-hands : goal.returns-in-Err-clause-hands
 returns-in-Err-clause-hands g c = subst (λ y. (g.E.Engine.view c.commit.new.self.engine).disk.handed ≤ (g.E.Engine.view y).disk.handed + g.E.Engine.waiting y + 33) c.quiet.ensures.engine c.in-Err.ensures.hands
+
+pub commit-requires-clause-chain : goal.commit-requires-clause-chain
+commit-requires-clause-chain g c = λ told1.
+    let can = c.requires.can in
+    let told = subst (λ y. (g.E.Engine.view y).Told) c.quiet.ensures.engine told1 in
+    let mm = c.quiet.ensures.means can.by can.sizes (can.from told) (can.means told) in
+    ∣ (mm.keeps told1).kept.chain ∣₁

@@ -18,8 +18,8 @@ returns-then-not-has_row-clause-ends g c = λ t z from m told e idle.
     let none = c.has_row.ensures.no c.if-not-has_row.true in
     inr (ended_none g.E.Engine.recovers (over c.args.acts.now) t z from c.args.txn.0 m told e none)
 
-pub end-requires : goal.end-requires
-end-requires g c = λ told1.
+pub end-requires-clause-can : goal.end-requires-clause-can
+end-requires-clause-can g c = λ told1.
     let can = c.requires.can in
     let told = subst (λ y. (g.E.Engine.view y).Told) c.quiet.ensures.engine told1 in
     let mm = c.quiet.ensures.means can.by can.sizes (can.from told) (can.means told) in
@@ -65,3 +65,10 @@ returns-clause-ends g c = λ t z from m told e idle.
 
 pub returns-clause-hands : goal.returns-clause-hands
 returns-clause-hands g c = subst (λ y. (g.E.Engine.view c.end.new.self.engine).disk.handed ≤ (g.E.Engine.view y).disk.handed + g.E.Engine.waiting y + 6) c.quiet.ensures.engine c.end.ensures.hands
+
+pub end-requires-clause-chain : goal.end-requires-clause-chain
+end-requires-clause-chain g c = λ told1.
+    let can = c.requires.can in
+    let told = subst (λ y. (g.E.Engine.view y).Told) c.quiet.ensures.engine told1 in
+    let mm = c.quiet.ensures.means can.by can.sizes (can.from told) (can.means told) in
+    ∣ (mm.keeps told1).kept.chain ∣₁

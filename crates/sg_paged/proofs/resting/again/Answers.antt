@@ -6,8 +6,8 @@ use Rattle.sg_shown.specs.Shown.{over, acting}
 use Rattle.sg_paged.proofs.Behind.{act_means}
 use Rattle.sg_paged.proofs.resting.again.Goals as goal
 
-pub act-requires : goal.act-requires
-act-requires g c = λ told. let a = c.args.acts.now in
+pub act-requires-clause-can : goal.act-requires-clause-can
+act-requires-clause-can g c = λ told. let a = c.args.acts.now in
     subst (λ (o : Option TxnId). IfSome o (λ u. IsActable (g.E.Engine.view a.engine).steps a.unfreed a.rows.items a.actor u.0)) c.in-Some.is (c.requires.can told)
 
 pub returns-clause-means : goal.returns-clause-means

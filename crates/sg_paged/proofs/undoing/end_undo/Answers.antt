@@ -8,8 +8,8 @@ use Rattle.sg_paged.proofs.Behind.{done_appended, on_ok3, on_err, untold, acts_t
 use Rattle.sg_paged.proofs.Recorded.{undo_means}
 use Rattle.sg_paged.proofs.undoing.end_undo.Goals as goal
 
-pub end_undo-requires : goal.end_undo-requires
-end_undo-requires g c = λ told.
+pub end_undo-requires-clause-can : goal.end_undo-requires-clause-can
+end_undo-requires-clause-can g c = λ told.
     let can = c.requires.can in
     let at = can.can told in
     record {
@@ -55,3 +55,6 @@ returns-clause-ends g c = λ t z from m told action e acts own n ns notes next.
       })) k.counts.tells k.begun did,
     ) in
     (lsn, actor.last, both.0, both.1)
+
+pub end_undo-requires-clause-chain : goal.end_undo-requires-clause-chain
+end_undo-requires-clause-chain g c = λ told. ∣ ((c.requires.can.means told).keeps told).kept.chain ∣₁

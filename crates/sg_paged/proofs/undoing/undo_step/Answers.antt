@@ -132,3 +132,22 @@ returns-in-Err-clause-some g c = λ t z from m told act e idle is.
     let told1 = subst (λ y. (g.E.Engine.view y).Told) (sym c.quiet.ensures.engine) told in
     let u = undo_changes g.E.Engine.recovers (over c.args.acts.now) (over c.quiet.new.acts) (over c.undo_step.new.self) t z from c.args.txn.0 act (ap g.E.Engine.view c.quiet.ensures.engine) mm c.quiet.ensures.begun told1 (c.undo_step.ensures.undoes (g.E.Engine.limits z.pages z.bands) t from mm.since.stands told1 (mm.keeps told1).kept) is in
     (u.0, tt)
+
+pub again-requires-clause-chain : goal.again-requires-clause-chain
+again-requires-clause-chain g c = λ told2.
+    let can = c.requires.can in
+    let k = c.in-Ok-None.ensures in
+    let told1 = k.counts.told told2 in
+    let told = subst (λ y. (g.E.Engine.view y).Told) c.quiet.ensures.engine told1 in
+    let t = can.by in
+    let z = can.sizes in
+    let from = can.from told in
+    let mm = c.quiet.ensures.means t z from (can.means told) in
+    let mid = over c.quiet.new.acts in
+    let one = over c.undo_step.new.self in
+    let left = subst (λ (o : Option ℕ). UndoStepped (map_bands_of (length mid.maps.pages) (length mid.maps.bands)) t (led from mid.engine) (led from one.engine) mid.rows mid.actor one.actor c.args.txn.0 c.args.txn.0 c.undo_step.new.into o) c.in-Ok-None.field-0-is (k.did t from mm.since.stands) in
+    let begun = k.begun ∙ (ap (λ (o : Option ℕ). is_some o || mid.begun) c.in-Ok-None.field-0-is ∙ c.quiet.ensures.begun) in
+    let same : Same mid one = record { maps = k.maps; unfreed = k.unfreed; rows = k.rows; actor = left.actor_is; begun = begun ∙ sym c.quiet.ensures.begun; begin = λ o. absurd (let x : true ≡ false = sym o ∙ begun in cc); limits = refl } in
+    let stands = k.means t from mm.since.stands in
+    let means1 : Means one t z from = stay_means {T = Option ℕ} mid one t z from (Ok None) mm same stands k.counts.told tt left.stays (λ w kept. subst (λ (x : Maps). IsKept t (g.E.Engine.limits z.pages z.bands) (led from one.engine) x one.rows one.actor) (sym k.maps) ((k.undoes (g.E.Engine.limits z.pages z.bands) t from mm.since.stands w kept).gone (left.stays.told w)).kept) in
+    ∣ (means1.keeps told2).kept.chain ∣₁

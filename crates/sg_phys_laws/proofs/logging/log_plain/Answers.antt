@@ -32,6 +32,7 @@ pub returns-clause-runs : goal.returns-clause-runs
 returns-clause-runs g c own given o ds ps told a = record {
   moments = inl (λ k early. c.append.ensures.moments o ds ps k told a.phys.engine early);
   allowed = each_ok _ _ c.append.result (λ k early. c.append.ensures.allowed o ds ps k told a.phys.engine early);
+  registered = a.registered;
 }
 
 pub returns-clause-grown : goal.returns-clause-grown

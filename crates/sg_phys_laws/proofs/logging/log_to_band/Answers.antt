@@ -20,6 +20,7 @@ pub returns-then-b-bands-clause-runs : goal.returns-then-b-bands-clause-runs
 returns-then-b-bands-clause-runs g c own o ds ps told a = record {
   moments = inl (none_stood o (g.D.Disk.view c.args.engine.now.disk) c.args.engine.now.log ds ps c.args.engine.now.pool a.phys.engine);
   allowed = tt;
+  registered = a.registered;
 }
 
 pub returns-clause-number : goal.returns-clause-number

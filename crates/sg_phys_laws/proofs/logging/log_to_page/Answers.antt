@@ -29,12 +29,14 @@ pub returns-then-p-pages-clause-runs : goal.returns-then-p-pages-clause-runs
 returns-then-p-pages-clause-runs g c own o ds ps told a = record {
   moments = inl (none_stood o (g.D.Disk.view c.args.engine.now.disk) c.args.engine.now.log ds ps c.args.engine.now.pool a.phys.engine);
   allowed = tt;
+  registered = a.registered;
 }
 
 pub returns-in-Err-clause-runs : goal.returns-in-Err-clause-runs
 returns-in-Err-clause-runs g c own o ds ps told a = record {
   moments = inl (λ k early. c.load_page.ensures.moments o ds ps k told a.phys.engine early);
   allowed = tt;
+  registered = a.registered;
 }
 
 pub returns-clause-logs : goal.returns-clause-logs
@@ -57,7 +59,7 @@ returns-clause-runs g c own o ds ps told a =
     let lt : c.args.p.0 < (sizes c.load_page.new.self.pool).pages = subst (λ (n : Geometry). c.args.p.0 < n.pages) (sym c.load_page.ensures.size) (omega (arith, c.if-p-pages.false, c.pages.ensures)) in
     let go = may_go own _ o _ m c.args.engine.now.log c.load_page.new.self.log ds ps c.args.engine.now.pool c.load_page.new.self.pool (shown c.args.r.now) c.args.p.0 (op_of c.args.op.now) c.page.result.now a h c.requires.range c.requires.says
     c.brings_bytes.ensures c.links_fit.ensures c.are_bytes.ensures c.page.ensures.size (c.page.ensures.bytes o h.durable h.waiting h.engine ∙ ap (λ (l : List Numbered). (homes_of o l).page c.args.p.0) h.is_all) lt in
-    page_run own o v m w c.args.engine.now.log c.load_page.new.self.log c.change_page.new.self.log ds ps c.args.engine.now.pool c.load_page.new.self.pool c.change_page.new.self.pool (shown c.args.r.now) c.place-2.result c.change_page.result h c.place-2.ensures go.agrees
+    page_run own o v m w c.args.engine.now.log c.load_page.new.self.log c.change_page.new.self.log ds ps c.args.engine.now.pool c.load_page.new.self.pool c.change_page.new.self.pool (shown c.args.r.now) c.place-2.result c.change_page.result h c.place-2.ensures a.registered go.agrees
     (λ k early. c.load_page.ensures.moments o ds ps k told a.phys.engine early)
     (λ k early. c.in-Ok.ensures.allowed o ds ps k told a.phys.engine early)
     (λ k early. c.change_page.ensures.moments o h.durable h.waiting k told h.engine early go.may)

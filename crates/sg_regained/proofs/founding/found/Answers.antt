@@ -1,4 +1,4 @@
-use Rattle.std.proofs.Common.{◌≡◌, List, Bool, length, sym, ap, subst, ◌∙◌, arith}
+use Rattle.std.proofs.Common.{◌≡◌, List, Bool, length, sym, ap, subst, ◌∙◌, arith, true, false}
 use Rattle.std.specs.Prelude.{IfSome}
 use Rattle.sg_space.proofs.Firsts.{length-free}
 use Rattle.sg_actions.specs.declared.rows.Actor.{Actor}
@@ -37,4 +37,7 @@ returns-clause-made g c = λ told.
     (subst (λ (rows : List Row). AreRowsOf losers rows) (sym (ap (λ v. v.items) o.rows)) c.in-Ok-rows_of.ensures)
     (subst (λ (a : Actor). IfSome un (λ p. (a.txn ≡ p.0) × (a.last ≡ p.1))) (sym o.actor) c.actor_of.ensures.some)
     (λ e. o.actor ∙ c.actor_of.ensures.none e)
-    (o.begun ∙ c.is_some.ensures)
+    o.begun
+
+pub of_parts-acts-requires-clause-goes_on : goal.of_parts-acts-requires-clause-goes_on
+of_parts-acts-requires-clause-goes_on g c = λ opens. absurd (let bad : false ≡ true = opens in cc)

@@ -36,10 +36,6 @@ returns-clause-rests g c = λ from m.
     on_ok_then o.off (λ h yes. rests_spared g.E.Engine.view o.acts.engine s.engine o.acts.rows.items s.rows.items o.acts.actor s.actor 65 k.engine (k.rows (both.second yes)) k.actor (h (both.first yes)))
     (c.off_open-acts.ensures.rests from m)
 
-pub returns-clause-begun : goal.returns-clause-begun
-returns-clause-begun g c =
-    on_ok_then c.off_open-acts.result.off (λ h yes. c.with_spare-acts.ensures.begun ∙ h (c.both-goes_on.ensures.first yes)) c.off_open-acts.ensures.begun
-
 pub returns-clause-spare : goal.returns-clause-spare
 returns-clause-spare g c = λ yes.
     vacant_end c.with_spare-acts.result.acts.rows.items c.off_open-acts.result.acts.rows.items (c.with_spare-acts.ensures.rows (c.both-goes_on.ensures.second yes))

@@ -1,4 +1,4 @@
-use Rattle.std.proofs.Common.{length, Ok, Err, sym, subst, ◌∙◌, refl, arith}
+use Rattle.std.proofs.Common.{◌≡◌, length, true, false, Ok, Err, sym, subst, ◌∙◌, refl, arith}
 use Rattle.sg_alloc.specs.declared.maps.Maps.{Maps}
 use Rattle.sg_actions.specs.Engine.{Extent}
 use Rattle.sg_actions.specs.Taken.{IsWithin}
@@ -112,3 +112,9 @@ returns-in-Err-clause-failed g c =
     let same = i.breaks in
     counts_at g.E.Engine.view r.engine c.of_parts-acts.result.engine c.more_breaks-breaks.result c.of_parts-acts.result.breaks (Err c.in-Err.why) c.of_parts-acts.ensures.engine c.of_parts-acts.ensures.breaks
     (over_sum_err {U = Maps} c.in-Err.why c.args.acts.breaks c.more_breaks-breaks.result (h.stopped no_table).faults (let l = m.later in omega (arith, l, same)) (λ few. (let e = m.exact few in omega (arith, e, same))) h.counts)
+
+pub of_parts-requires-clause-goes_on : goal.of_parts-requires-clause-goes_on
+of_parts-requires-clause-goes_on g c = λ opens. absurd (let bad : false ≡ true = opens in cc)
+
+pub of_parts-acts-requires-clause-goes_on : goal.of_parts-acts-requires-clause-goes_on
+of_parts-acts-requires-clause-goes_on g c = λ opens. absurd (let bad : false ≡ true = opens in cc)

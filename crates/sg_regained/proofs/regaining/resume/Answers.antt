@@ -128,7 +128,7 @@ returns-in-Ok-reach_all-clause-means g c = λ z from f.
     let m2 = (o.looks t).means from m1 in
     let long = long_same a b k.unfreed c.args.acts.page_flags c.end_open-acts.result.acts.page_flags in
     let wide = wide_same a b k.unfreed c.args.acts.band_flags c.end_open-acts.result.acts.band_flags in
-    means_now a d t z from f m2 refl (o.begun ∙ on_ok_at c.end_open-acts.result.off tt c.in-Ok.is k.begun c.if-not-goes_on.false) (o.pages ∙ long) (o.bands ∙ wide) (λ told2.
+    means_now a d t z from f m2 refl o.begun (o.pages ∙ long) (o.bands ∙ wide) (λ told2.
     let told1 = (o.looks t).told told2 in
     let told = k.counts.told told1 in
     regained_by {recovers = g.E.Engine.recovers} {b = b} {c = d} {t = t} z {from = from} (long ∙ f.pages) (wide ∙ f.bands) told2 (record {
@@ -188,7 +188,7 @@ returns-in-Ok-reach_all-clause-takes g c = λ z from f told found.
     let l = leads_off g.E.Engine.recovers a t s.sizes (s.from told) from (s.can told) (g.met.E.Engine.now_is _ t (s.from told) (s.means told).stands told) (g.met.E.Engine.now_is _ t from f.stands told) in (
       takes_off g.E.Engine.recovers a d t z from c.args.acts.actor.txn.0 w f.size,
       taken_off g.E.Engine.recovers a d t z from c.args.acts.actor.txn.0 w h told2 (g.met.E.Engine.told_whole _ told2) l (returns-in-Ok-reach_all-clause-means g c z from f)
-          (record { law = g.met.E.Engine.lawful _ t from m2; first = g.met.E.Engine.durable_first _ told2; images = g.met.E.Engine.images _ t from m2 told2 }) (o.begun ∙ on_ok_at c.end_open-acts.result.off tt c.in-Ok.is k.begun c.if-not-goes_on.false),
+          (record { law = g.met.E.Engine.lawful _ t from m2; first = g.met.E.Engine.durable_first _ told2; images = g.met.E.Engine.images _ t from m2 told2 }) o.begun,
     )
 
 pub returns-in-Ok-reach_all-clause-reads : goal.returns-in-Ok-reach_all-clause-reads

@@ -1,5 +1,5 @@
 use mathlib.Core.Logic.{∥∥₁_elim, ∥∥₁_prop}
-use Rattle.std.proofs.Common.{ℕ, Ok, sym, subst, ap, ◌∙◌}
+use Rattle.std.proofs.Common.{ℕ, Ok, sym, subst, ap, ◌∙◌, ◌≡◌, true, false}
 use Rattle.sg_ops.specs.Table.{table_of}
 use Rattle.sg_actions.specs.Engine.{led}
 use Rattle.sg_actions.proofs.Finishing.{on_ok}
@@ -9,7 +9,6 @@ use Rattle.sg_alloc.specs.declared.maps.Maps.{Maps}
 use Rattle.sg_actions.specs.Engine.{Extent}
 use Rattle.sg_actions.specs.Taken.{IsWithin}
 use Rattle.sg_actions.specs.WentOff.{OffCounts}
-use Rattle.sg_actions.specs.declared.rows.Actor.{Actor}
 use Rattle.sg_resumed.proofs.Counted.{no_table}
 use Rattle.sg_resumed.proofs.resuming.take_off.Given as given
 use Rattle.sg_resumed.proofs.resuming.take_off.Goals as goal
@@ -101,3 +100,6 @@ returns-else-not-within-clause-counts g c =
     (subst (λ (k : ℕ). OffCounts {T = ℕ} (g.E.Engine.view p.engine) (g.E.Engine.view f.engine) k f.breaks (Ok c.in-Ok.at)) c.into_parts-engine.ensures.breaks c.in-Ok.ensures.counts))
     (subst (λ e. OffCounts (g.E.Engine.view e) (g.E.Engine.view n.engine) f.breaks n.breaks c.resume-off.result) c.of_parts-acts.ensures.engine
     (subst (λ (k : ℕ). OffCounts (g.E.Engine.view a.engine) (g.E.Engine.view n.engine) k n.breaks c.resume-off.result) c.of_parts-acts.ensures.breaks c.resume-off.ensures.counts))
+
+pub of_parts-acts-requires-clause-goes_on : goal.of_parts-acts-requires-clause-goes_on
+of_parts-acts-requires-clause-goes_on g c = λ opens. absurd (let bad : false ≡ true = opens in cc)

@@ -1,8 +1,7 @@
-use Rattle.std.proofs.Common.{◌≡◌, true, false, sym, ap, ◌∙◌, subst}
+use Rattle.std.proofs.Common.{sym, ap, ◌∙◌, subst}
 use Rattle.std.specs.Prelude.{if◌then◌else◌, sum_by, IsTrue}
 use Rattle.sg_core.specs.Live.{Txn, is_live, dropping}
 use Rattle.sg_model.specs.SaidOps.{said_op}
-use Rattle.sg_store.specs.Drops.{drops, marked_by}
 use Rattle.sg_store.proofs.Marking.{live_marked, sum_marked}
 use Rattle.sg_store.proofs.store.mark.Goals as goal
 

@@ -1,9 +1,11 @@
 use Rattle.std.proofs.Common.{Bool, false, sym, ◌∙◌, subst}
-use Rattle.sg_shown.specs.Shown.{over}
+use Rattle.sg_shown.specs.Shown.{over, Over}
 use Rattle.sg_verbs.proofs.Looking.{asked_there}
-use Rattle.sg_verbs.proofs.Looked.{asked_look, contents_there, went_on}
+use Rattle.sg_verbs.proofs.Looked.{asked_look, contents_there, went_on, paused_is}
 use Rattle.sg_verbs.specs.Looks.{IsGivenUp}
 use Rattle.sg_verbs.proofs.Listed.{names_listed, Lists, list_kept, list_fails, list_counts, list_memory, list_quiet, list_reads, list_given_up}
+use Rattle.sg_verbs.proofs.Moving.{LaterOn}
+use Rattle.sg_verbs.proofs.Paused.{goes_back}
 use Rattle.sg_verbs.proofs.listing.list.Goals as goal
 
 pub list-listed-requires : goal.list-listed-requires
@@ -53,4 +55,15 @@ returns-in-Err g c =
       memory = h.memory;
       quiet = h.quiet;
       reads = h.reads;
+    }
+
+pub go_on-requires : goal.go_on-requires
+go_on-requires g c =
+    let a = c.args.acts.now in
+    let b = c.list-listed.new.space in
+    let can = c.requires.can in
+    let t = can.by in
+    record {
+      on = goes_back g.E.Engine.recovers (over a) (over b) t (subst (λ (o : Over). LaterOn g.E.Engine.recovers t o (over b)) (paused_is a c.pause-was.new.acts c.pause-was.ensures.paused) (c.list-listed.ensures.later t)) (λ w. g.met.E.Engine.told_whole _ w)
+          (λ told. (can.sizes, can.from told, can.means told)) c.pause-was.result;
     }

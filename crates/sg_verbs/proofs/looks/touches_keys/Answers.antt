@@ -3,10 +3,12 @@ use Rattle.sg_verbs.specs.Looks.{IsGivenUp}
 use Rattle.sg_model.specs.Verb.Op.{On}
 use Rattle.sg_model.specs.Verb.Verb.{Keys}
 use Rattle.sg_model.specs.TouchList.{shown_touches}
-use Rattle.sg_shown.specs.Shown.{over}
+use Rattle.sg_shown.specs.Shown.{over, Over}
 use Rattle.sg_verbs.proofs.Looking.{asked_there}
-use Rattle.sg_verbs.proofs.Looked.{asked_look, contents_there, went_on, failed, looked, looked_fails, looked_counts, looked_reads, counts_failed, touched}
+use Rattle.sg_verbs.proofs.Looked.{asked_look, contents_there, went_on, failed, looked, looked_fails, looked_counts, looked_reads, counts_failed, touched, paused_is}
 use Rattle.sg_verbs.proofs.Settled.{read_up}
+use Rattle.sg_verbs.proofs.Moving.{LaterOn}
+use Rattle.sg_verbs.proofs.Paused.{goes_back}
 use Rattle.sg_verbs.proofs.looks.touches_keys.Goals as goal
 
 pub touches_keys-done-requires : goal.touches_keys-done-requires
@@ -50,4 +52,15 @@ returns-in-Err g c =
       tail = h.tail;
       touches = λ t z from m told o engine can. (h.rests t z from m told, tt);
       reads = read_up (over b) (over d) f up;
+    }
+
+pub go_on-requires : goal.go_on-requires
+go_on-requires g c =
+    let a = c.args.acts.now in
+    let b = c.touches_keys-done.new.space in
+    let can = c.requires.can in
+    let t = can.by in
+    record {
+      on = goes_back g.E.Engine.recovers (over a) (over b) t (subst (λ (o : Over). LaterOn g.E.Engine.recovers t o (over b)) (paused_is a c.pause-was.new.acts c.pause-was.ensures.paused) (c.touches_keys-done.ensures.later t)) (λ w. g.met.E.Engine.told_whole _ w)
+          (λ told. (can.sizes, can.from told, can.means told)) c.pause-was.result;
     }

@@ -2,10 +2,12 @@ use Rattle.std.proofs.Common.{Bool, false, sym, ◌∙◌, subst}
 use Rattle.sg_verbs.specs.Looks.{IsGivenUp}
 use Rattle.sg_ops.specs.Table.{table_of}
 use Rattle.sg_model.specs.SaidOps.{name_of, verb_of}
-use Rattle.sg_shown.specs.Shown.{over}
+use Rattle.sg_shown.specs.Shown.{over, Over}
 use Rattle.sg_verbs.proofs.Looking.{asked_by_there}
-use Rattle.sg_verbs.proofs.Looked.{asked_look_by, contents_there, went_on, failed}
+use Rattle.sg_verbs.proofs.Looked.{asked_look_by, contents_there, went_on, failed, paused_is}
 use Rattle.sg_verbs.proofs.Needed.{Finds, Says, need_kept, need_says, need_up}
+use Rattle.sg_verbs.proofs.Moving.{LaterOn}
+use Rattle.sg_verbs.proofs.Paused.{goes_back}
 use Rattle.sg_verbs.proofs.needing.needs.Given as given
 use Rattle.sg_verbs.proofs.needing.needs.Goals as goal
 
@@ -66,4 +68,15 @@ returns-in-Err g c =
       tail = h.tail;
       needs = says.needs;
       reads = says.reads;
+    }
+
+pub go_on-requires : goal.go_on-requires
+go_on-requires g c =
+    let a = c.args.acts.now in
+    let b = c.needs_of-found.new.space in
+    let can = c.requires.can in
+    let t = table_of (λ y. (given.RecordOp-dyn g y).record_meaning y.1) (λ y. (given.RangeOp-dyn g y).range_meaning y.1) c.args.ops.now in
+    record {
+      on = goes_back g.E.Engine.recovers (over a) (over b) t (subst (λ (o : Over). LaterOn g.E.Engine.recovers t o (over b)) (paused_is a c.pause-was.new.acts c.pause-was.ensures.paused) (c.needs_of-found.ensures.later t)) (λ w. g.met.E.Engine.told_whole _ w)
+          (λ told. (can.sizes, can.from told, can.means told)) c.pause-was.result;
     }

@@ -24,7 +24,7 @@ use Rattle.sg_verbs.proofs.Held.{space_in}
 use Rattle.sg_verbs.proofs.Moving.{LaterOn, view_in, means_off}
 use Rattle.sg_verbs.proofs.Settled.{Passes, IsBroken, accounts_on, counts_up, counts_never, given_as, none_fails, verb_up}
 use Rattle.sg_verbs.proofs.Looked.{sane}
-use Rattle.sg_verbs.proofs.Paused.{Acted, ActedOn, told_held, tail_held, tail_released, held, released, held_is, released_is, since_held, there_held, fresh_held, acted_back, later_back, idle_back, passes_back}
+use Rattle.sg_verbs.proofs.Paused.{Acted, ActedOn, told_held, tail_held, tail_released, held, released, held_is, released_is, since_held, there_held, fresh_held, acted_back, later_back, idle_back, passes_back, goes_back}
 use Rattle.sg_verbs.specs.Looks.{IsHeld}
 use Rattle.sg_verbs.proofs.Story.{seen, begun_by}
 use Rattle.sg_verbs.proofs.Looking.{look_there}
@@ -800,3 +800,16 @@ returns-then-end-start-gt-MOST_BYTES-clause-performs g c z from m told o act eng
     let k = c.report.ensures in
     let same : e.engine ≡ (over c.stop.new.self).engine = ap g.E.Engine.view k.engine in
     (do_changes g.E.Engine.recovers a d t z from m l told e (ap (λ x. x.disk) same ∙ s.disk) act shows, tt)
+
+pub release-requires : goal.release-requires
+release-requires g c = record {
+  on = λ e.
+      let a : Over = over c.args.acts.now in
+      let changes = c.is_changing-changes.result in
+      let t = table_of (λ y. (given.RecordOp-dyn g y).record_meaning y.1) (λ y. (given.RangeOp-dyn g y).range_meaning y.1) c.args.ops.now in
+      let b : Over = over c.perform-done.new.space in
+      let heldp = held_is changes c.hold-was.result c.args.acts.now c.hold-was.new.acts c.hold-was.ensures.held in
+      let l1 : LaterOn g.E.Engine.recovers t (held changes a) b = subst (λ (o : Over). LaterOn g.E.Engine.recovers t o b) heldp c.perform-done.ensures.later in
+      goes_back g.E.Engine.recovers a b t (subst (λ (x : Bool). LaterOn g.E.Engine.recovers t (held x a) b) e l1) (λ w. g.met.E.Engine.told_whole _ w)
+      (λ told. (c.requires.can.sizes, c.requires.can.from told, c.requires.can.means told)) c.hold-was.result;
+}

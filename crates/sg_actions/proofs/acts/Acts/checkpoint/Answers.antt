@@ -10,6 +10,7 @@ use Rattle.sg_actions.proofs.Counting.{looked_break, looked_none, stayed_then, k
 use Rattle.sg_actions.proofs.Led.{look_call}
 use Rattle.sg_actions.proofs.Pointing.{mark_stays, said_mark}
 use Rattle.sg_actions.proofs.Rowed.{rows_sized, spelled_is, rows_fit, take_short}
+use Rattle.sg_actions.proofs.GoingOn.{can_rest_told}
 use Rattle.sg_actions.proofs.acts.Acts.checkpoint.Goals as goal
 
 pub checkpoint-requires-clause-rows : goal.checkpoint-requires-clause-rows
@@ -62,3 +63,6 @@ returns-clause-kept g c = λ limits t from m.
     let s = mark_stays from _ k.grows (k.looks t from m) in
     let f = (look_call from c.force.ensures.rests (c.force.ensures.looks t from (k.means t from m))).stays in
     on_ok2 c.force.result (λ h h' told kept. kept_looked t limits e e2 c.args.self.now.maps _ c.args.self.now.rows.items _ c.args.self.now.actor _ (stayed_then s h) refl refl refl told kept) f f
+
+pub invariant_of-self-2-clause-goes_on : goal.invariant_of-self-2-clause-goes_on
+invariant_of-self-2-clause-goes_on g c = can_rest_told (g.E.Engine.view c.args.self.now.engine) (g.E.Engine.view c.force.new.self) _ _ (λ told. c.checkpoint.ensures.grows.counts.told (c.force.ensures.rests.counts.told told)) c.requires.quiet

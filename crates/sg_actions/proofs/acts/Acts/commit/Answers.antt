@@ -13,6 +13,7 @@ use Rattle.sg_actions.specs.Engine.{led}
 use Rattle.sg_actions.proofs.Led.{log_call, look_call}
 use Rattle.sg_actions.proofs.Calling.{said_log_any}
 use Rattle.sg_actions.proofs.Calling.{said_any}
+use Rattle.sg_actions.proofs.GoingOn.{formed_commit, can_rest_told}
 use Rattle.sg_actions.proofs.acts.Acts.commit.Goals as goal
 
 pub log-requires-clause-range : goal.log-requires-clause-range
@@ -24,19 +25,19 @@ returns-clause-did g c = λ limits t from m. let txn = c.args.txn in
     let long : length c.place.new.rows ≡ c.args.self.now.rows.len = ap length c.place.ensures ∙ (length-placed c.as_mut_slice.result.now txn.0 row ∙ c.as_mut_slice.ensures.len) in
     let rows = front_is c.args.self.now.rows.len c.place.new.rows _ long ∙ (c.place.ensures ∙ ap (λ (rs : List Row). placed rs txn.0 row) c.as_mut_slice.ensures.value) in
     let was = sym (ap (λ (rs : List Row). last_in rs c.args.txn.0) c.as_slice.ensures.value) ∙ (sym c.last_in.ensures ∙ c.in-Some.is) in
-    on_ok2 c.force.result (λ s d. committed t limits (led from (g.E.Engine.view c.args.self.now.engine)) (led from (g.E.Engine.view c.log.new.self)) (led from (g.E.Engine.view c.force.new.self)) c.args.self.now.maps c.args.self.now.unfreed c.args.self.now.rows.items _ c.args.self.now.actor txn c.in-Some.prev c.in_ok-lsn.lsn c.requires was (log_call from c.in_ok-lsn.ensures.grows (c.in_ok-lsn.ensures.logs t from m)).did s d rows) (look_call from c.force.ensures.rests (c.force.ensures.looks t from (c.in_ok-lsn.ensures.means t from m))).stays (c.force.ensures.forced t from (c.in_ok-lsn.ensures.means t from m))
+    on_ok2 c.force.result (λ s d. committed t limits (led from (g.E.Engine.view c.args.self.now.engine)) (led from (g.E.Engine.view c.log.new.self)) (led from (g.E.Engine.view c.force.new.self)) c.args.self.now.maps c.args.self.now.unfreed c.args.self.now.rows.items _ c.args.self.now.actor txn c.in-Some.prev c.in_ok-lsn.lsn c.requires.can was (log_call from c.in_ok-lsn.ensures.grows (c.in_ok-lsn.ensures.logs t from m)).did s d rows) (look_call from c.force.ensures.rests (c.force.ensures.looks t from (c.in_ok-lsn.ensures.means t from m))).stays (c.force.ensures.forced t from (c.in_ok-lsn.ensures.means t from m))
 
 pub returns-clause-appends : goal.returns-clause-appends
 returns-clause-appends g c = λ limits t from m. let was = sym (ap (λ (rs : List Row). last_in rs c.args.txn.0) c.as_slice.ensures.value) ∙ (sym c.last_in.ensures ∙ c.in-Some.is) in
     let l = (log_call from c.in_ok-lsn.ensures.grows (c.in_ok-lsn.ensures.logs t from m)) in
     λ told k. appends_look (g.E.Engine.recovers t) t (led from (g.E.Engine.view c.args.self.now.engine)) (led from (g.E.Engine.view c.log.new.self)) (led from (g.E.Engine.view c.force.new.self)) c.args.self.now.rows.items c.args.txn.0 _ c.force.result (look_call from c.force.ensures.rests (c.force.ensures.looks t from (c.in_ok-lsn.ensures.means t from m))) (l.did.told told) (l.did.logged told).first (l.did.logged told).durable
     (stays_of (led from (g.E.Engine.view c.log.new.self)) (led from (g.E.Engine.view c.force.new.self)) c.force.result (look_call from c.force.ensures.rests (c.force.ensures.looks t from (c.in_ok-lsn.ensures.means t from m))) (λ z. g.met.E.Engine.told_whole _ z) (l.did.told told))
-    (commit_appends (g.E.Engine.recovers t) t limits (led from (g.E.Engine.view c.args.self.now.engine)) (led from (g.E.Engine.view c.log.new.self)) c.args.self.now.maps c.args.self.now.unfreed c.args.self.now.rows.items c.args.self.now.actor c.args.txn.0 c.in-Some.prev _ c.requires was l
+    (commit_appends (g.E.Engine.recovers t) t limits (led from (g.E.Engine.view c.args.self.now.engine)) (led from (g.E.Engine.view c.log.new.self)) c.args.self.now.maps c.args.self.now.unfreed c.args.self.now.rows.items c.args.self.now.actor c.args.txn.0 c.in-Some.prev _ c.requires.can was l
     (has_gone (led from (g.E.Engine.view c.args.self.now.engine)) (led from (g.E.Engine.view c.log.new.self)) (by c.args.txn.0 c.in-Some.prev SaysCommit) (Commit c.args.txn.0 c.in-Some.prev) c.in_ok-lsn.lsn refl l.did l.counts.told) told k)
 
 pub returns-in_err-lsn-clause-appends : goal.returns-in_err-lsn-clause-appends
 returns-in_err-lsn-clause-appends g c = λ limits t from m. let was = sym (ap (λ (rs : List Row). last_in rs c.args.txn.0) c.as_slice.ensures.value) ∙ (sym c.last_in.ensures ∙ c.in-Some.is) in
-    commit_appends (g.E.Engine.recovers t) t limits (led from (g.E.Engine.view c.args.self.now.engine)) (led from (g.E.Engine.view c.log.new.self)) c.args.self.now.maps c.args.self.now.unfreed c.args.self.now.rows.items c.args.self.now.actor c.args.txn.0 c.in-Some.prev _ c.requires was (log_call from c.in_err-lsn.ensures.grows (c.in_err-lsn.ensures.logs t from m))
+    commit_appends (g.E.Engine.recovers t) t limits (led from (g.E.Engine.view c.args.self.now.engine)) (led from (g.E.Engine.view c.log.new.self)) c.args.self.now.maps c.args.self.now.unfreed c.args.self.now.rows.items c.args.self.now.actor c.args.txn.0 c.in-Some.prev _ c.requires.can was (log_call from c.in_err-lsn.ensures.grows (c.in_err-lsn.ensures.logs t from m))
     (λ told. fails (led from (g.E.Engine.view c.log.new.self)) (λ z. g.met.E.Engine.told_whole _ z) (log_call from c.in_err-lsn.ensures.grows (c.in_err-lsn.ensures.logs t from m)).counts.failed told)
 
 pub invariant_of-self-2-clause-pages_said : goal.invariant_of-self-2-clause-pages_said
@@ -56,3 +57,9 @@ returns-clause-hands g c = commit_hands _ _ _ _ _ _ _ (long_commit c.args.txn.0 
 
 pub returns-clause-none_waits : goal.returns-clause-none_waits
 returns-clause-none_waits g c = c.force.ensures.none_waits
+
+pub log-requires-clause-can : goal.log-requires-clause-can
+log-requires-clause-can g c = λ t from m told. record { there = tt; fits = tt; known = tt; formed = formed_commit (g.E.Engine.view c.args.self.now.engine) c.args.self.now.unfreed c.args.self.now.rows.items c.args.self.now.actor c.args.txn.0 c.in-Some.prev c.requires.can (sym (ap (λ (rs : List Row). last_in rs c.args.txn.0) c.as_slice.ensures.value) ∙ (sym c.last_in.ensures ∙ c.in-Some.is)) c.requires.chain told; means = λ u. u }
+
+pub invariant_of-self-2-clause-goes_on : goal.invariant_of-self-2-clause-goes_on
+invariant_of-self-2-clause-goes_on g c = can_rest_told (g.E.Engine.view c.args.self.now.engine) (g.E.Engine.view c.force.new.self) _ _ (λ told. c.log.ensures.grows.counts.told (c.force.ensures.rests.counts.told told)) c.requires.quiet

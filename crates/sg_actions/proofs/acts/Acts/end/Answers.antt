@@ -12,6 +12,7 @@ use Rattle.sg_recovery.specs.Log.Record.{End}
 use Rattle.sg_actions.specs.Engine.{led}
 use Rattle.sg_actions.proofs.Led.{log_call}
 use Rattle.sg_actions.proofs.Calling.{said_log_any}
+use Rattle.sg_actions.proofs.GoingOn.{formed_done, can_rest_told}
 use Rattle.sg_actions.proofs.acts.Acts.end.Goals as goal
 
 pub log-requires-clause-range : goal.log-requires-clause-range
@@ -23,16 +24,16 @@ returns-clause-did g c = λ limits t from m. let txn = c.args.txn in
     let long : length c.place.new.rows ≡ c.args.self.now.rows.len = ap length c.place.ensures ∙ (length-placed c.as_mut_slice.result.now txn.0 row ∙ c.as_mut_slice.ensures.len) in
     let rows = front_is c.args.self.now.rows.len c.place.new.rows _ long ∙ (c.place.ensures ∙ ap (λ (rs : List Row). placed rs txn.0 row) c.as_mut_slice.ensures.value) in
     let was = sym (ap (λ (rs : List Row). last_in rs c.args.txn.0) c.as_slice.ensures.value) ∙ (sym c.last_in.ensures ∙ c.in-Some.is) in
-    closed t limits (led from (g.E.Engine.view c.args.self.now.engine)) (led from (g.E.Engine.view c.log.new.self)) c.args.self.now.maps c.args.self.now.unfreed c.args.self.now.rows.items _ c.args.self.now.actor txn c.in-Some.prev c.in_ok-log.field-0 c.requires was (log_call from c.in_ok-log.ensures.grows (c.in_ok-log.ensures.logs t from m)).did rows
+    closed t limits (led from (g.E.Engine.view c.args.self.now.engine)) (led from (g.E.Engine.view c.log.new.self)) c.args.self.now.maps c.args.self.now.unfreed c.args.self.now.rows.items _ c.args.self.now.actor txn c.in-Some.prev c.in_ok-log.field-0 c.requires.can was (log_call from c.in_ok-log.ensures.grows (c.in_ok-log.ensures.logs t from m)).did rows
 
 pub returns-clause-appends : goal.returns-clause-appends
 returns-clause-appends g c = λ limits t from m. let was = sym (ap (λ (rs : List Row). last_in rs c.args.txn.0) c.as_slice.ensures.value) ∙ (sym c.last_in.ensures ∙ c.in-Some.is) in
-    done_appends (g.E.Engine.recovers t) t limits (led from (g.E.Engine.view c.args.self.now.engine)) (led from (g.E.Engine.view c.log.new.self)) c.args.self.now.maps c.args.self.now.unfreed c.args.self.now.rows.items c.args.self.now.actor c.args.txn.0 c.in-Some.prev _ c.requires was (log_call from c.in_ok-log.ensures.grows (c.in_ok-log.ensures.logs t from m))
+    done_appends (g.E.Engine.recovers t) t limits (led from (g.E.Engine.view c.args.self.now.engine)) (led from (g.E.Engine.view c.log.new.self)) c.args.self.now.maps c.args.self.now.unfreed c.args.self.now.rows.items c.args.self.now.actor c.args.txn.0 c.in-Some.prev _ c.requires.can was (log_call from c.in_ok-log.ensures.grows (c.in_ok-log.ensures.logs t from m))
     (has_gone (led from (g.E.Engine.view c.args.self.now.engine)) (led from (g.E.Engine.view c.log.new.self)) (by c.args.txn.0 c.in-Some.prev SaysEnd) (End c.args.txn.0 c.in-Some.prev) c.in_ok-log.field-0 refl (log_call from c.in_ok-log.ensures.grows (c.in_ok-log.ensures.logs t from m)).did (log_call from c.in_ok-log.ensures.grows (c.in_ok-log.ensures.logs t from m)).counts.told)
 
 pub returns-in_err-log-clause-appends : goal.returns-in_err-log-clause-appends
 returns-in_err-log-clause-appends g c = λ limits t from m. let was = sym (ap (λ (rs : List Row). last_in rs c.args.txn.0) c.as_slice.ensures.value) ∙ (sym c.last_in.ensures ∙ c.in-Some.is) in
-    done_appends (g.E.Engine.recovers t) t limits (led from (g.E.Engine.view c.args.self.now.engine)) (led from (g.E.Engine.view c.log.new.self)) c.args.self.now.maps c.args.self.now.unfreed c.args.self.now.rows.items c.args.self.now.actor c.args.txn.0 c.in-Some.prev _ c.requires was (log_call from c.in_err-log.ensures.grows (c.in_err-log.ensures.logs t from m))
+    done_appends (g.E.Engine.recovers t) t limits (led from (g.E.Engine.view c.args.self.now.engine)) (led from (g.E.Engine.view c.log.new.self)) c.args.self.now.maps c.args.self.now.unfreed c.args.self.now.rows.items c.args.self.now.actor c.args.txn.0 c.in-Some.prev _ c.requires.can was (log_call from c.in_err-log.ensures.grows (c.in_err-log.ensures.logs t from m))
     (λ told. fails (led from (g.E.Engine.view c.log.new.self)) (λ z. g.met.E.Engine.told_whole _ z) (log_call from c.in_err-log.ensures.grows (c.in_err-log.ensures.logs t from m)).counts.failed told)
 
 pub invariant_of-self-2-clause-pages_said : goal.invariant_of-self-2-clause-pages_said
@@ -49,3 +50,9 @@ returns-in_err-log-clause-hands g c = (c.in_err-log.ensures.hands refl).most
 
 pub returns-clause-hands : goal.returns-clause-hands
 returns-clause-hands g c = (c.in_ok-log.ensures.hands refl).most
+
+pub log-requires-clause-can : goal.log-requires-clause-can
+log-requires-clause-can g c = λ t from m told. record { there = tt; fits = tt; known = tt; formed = formed_done (g.E.Engine.view c.args.self.now.engine) c.args.self.now.unfreed c.args.self.now.rows.items c.args.self.now.actor c.args.txn.0 c.in-Some.prev c.requires.can (sym (ap (λ (rs : List Row). last_in rs c.args.txn.0) c.as_slice.ensures.value) ∙ (sym c.last_in.ensures ∙ c.in-Some.is)) c.requires.chain told; means = λ u. u }
+
+pub invariant_of-self-2-clause-goes_on : goal.invariant_of-self-2-clause-goes_on
+invariant_of-self-2-clause-goes_on g c = can_rest_told (g.E.Engine.view c.args.self.now.engine) (g.E.Engine.view c.log.new.self) _ _ c.log.ensures.grows.counts.told c.requires.quiet

@@ -10,6 +10,7 @@ use Rattle.sg_actions.specs.Engine.{led}
 use Rattle.sg_actions.proofs.Led.{log_call}
 use Rattle.sg_actions.proofs.Calling.{said_log_any}
 use Rattle.sg_actions.proofs.Settled.{said_settled}
+use Rattle.sg_actions.proofs.GoingOn.{formed_top}
 use Rattle.sg_actions.proofs.acts.Acts.end_action.Goals as goal
 
 pub returns-clause-did : goal.returns-clause-did
@@ -41,3 +42,6 @@ invariant_of-self-2-clause-pages_said g c = λ told. said_settled c.args.self.no
 
 pub invariant_of-self-2-clause-unbroken : goal.invariant_of-self-2-clause-unbroken
 invariant_of-self-2-clause-unbroken g c = λ told. c.args.self.now.unbroken (c.log.ensures.grows.counts.told told)
+
+pub log-requires-clause-can : goal.log-requires-clause-can
+log-requires-clause-can g c = λ t from m told. record { there = tt; fits = tt; known = tt; formed = formed_top (g.E.Engine.view c.args.self.now.engine) c.args.self.now.rows.items c.args.self.now.actor _ c.requires.chain told; means = λ u. u }

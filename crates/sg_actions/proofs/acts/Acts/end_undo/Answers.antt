@@ -7,6 +7,7 @@ use Rattle.sg_actions.specs.Engine.{led}
 use Rattle.sg_actions.proofs.Led.{log_call}
 use Rattle.sg_actions.proofs.Calling.{said_log_any}
 use Rattle.sg_actions.proofs.Settled.{said_settled}
+use Rattle.sg_actions.proofs.GoingOn.{formed_undone}
 use Rattle.sg_actions.proofs.acts.Acts.end_undo.Goals as goal
 
 pub returns-clause-did : goal.returns-clause-did
@@ -20,13 +21,13 @@ returns-clause-did g c = λ limits t from m. let e = led from (g.E.Engine.view c
     let bands = subst (λ (xs : List Bool). AreSettled xs unfreed.bands c.settle_bands.new.maps.bands c.settle_bands.new.unfreed.bands) c.settle_pages.ensures.bands
     (subst (λ (ys : List Bool). AreSettled c.settle_pages.new.maps.bands ys c.settle_bands.new.maps.bands c.settle_bands.new.unfreed.bands) c.settle_pages.ensures.unfreed c.settle_bands.ensures.bands) in
     undo_ended t limits e e' maps c.settle_bands.new.maps unfreed c.settle_bands.new.unfreed c.args.self.now.rows.items _ actor c.args.txn.0 c.args.after c.in_ok-lsn.lsn
-    c.requires (log_call from c.in_ok-lsn.ensures.grows (c.in_ok-lsn.ensures.logs t from m)).did c.keep_row.ensures pages bands
+    c.requires.can (log_call from c.in_ok-lsn.ensures.grows (c.in_ok-lsn.ensures.logs t from m)).did c.keep_row.ensures pages bands
 
 pub returns-clause-appends : goal.returns-clause-appends
-returns-clause-appends g c = λ limits t from m. undo_end_appends (g.E.Engine.recovers t) t limits (led from (g.E.Engine.view c.args.self.now.engine)) (led from (g.E.Engine.view c.log.new.self)) c.args.self.now.maps c.args.self.now.rows.items c.args.self.now.actor c.args.txn.0 c.args.after _ c.requires (log_call from c.in_ok-lsn.ensures.grows (c.in_ok-lsn.ensures.logs t from m)) (λ z. g.met.E.Engine.told_whole _ z)
+returns-clause-appends g c = λ limits t from m. undo_end_appends (g.E.Engine.recovers t) t limits (led from (g.E.Engine.view c.args.self.now.engine)) (led from (g.E.Engine.view c.log.new.self)) c.args.self.now.maps c.args.self.now.rows.items c.args.self.now.actor c.args.txn.0 c.args.after _ c.requires.can (log_call from c.in_ok-lsn.ensures.grows (c.in_ok-lsn.ensures.logs t from m)) (λ z. g.met.E.Engine.told_whole _ z)
 
 pub returns-in_err-lsn-clause-appends : goal.returns-in_err-lsn-clause-appends
-returns-in_err-lsn-clause-appends g c = λ limits t from m. undo_end_appends (g.E.Engine.recovers t) t limits (led from (g.E.Engine.view c.args.self.now.engine)) (led from (g.E.Engine.view c.log.new.self)) c.args.self.now.maps c.args.self.now.rows.items c.args.self.now.actor c.args.txn.0 c.args.after _ c.requires (log_call from c.in_err-lsn.ensures.grows (c.in_err-lsn.ensures.logs t from m)) (λ z. g.met.E.Engine.told_whole _ z)
+returns-in_err-lsn-clause-appends g c = λ limits t from m. undo_end_appends (g.E.Engine.recovers t) t limits (led from (g.E.Engine.view c.args.self.now.engine)) (led from (g.E.Engine.view c.log.new.self)) c.args.self.now.maps c.args.self.now.rows.items c.args.self.now.actor c.args.txn.0 c.args.after _ c.requires.can (log_call from c.in_err-lsn.ensures.grows (c.in_err-lsn.ensures.logs t from m)) (λ z. g.met.E.Engine.told_whole _ z)
 
 pub log-requires-clause-range : goal.log-requires-clause-range
 log-requires-clause-range g c = comp_end_in _ _ _ c.is_number.ensures c.is_number-2.ensures c.is_number-3.ensures
@@ -37,3 +38,6 @@ invariant_of-self-2-clause-pages_said g c = λ told. said_settled c.args.self.no
 
 pub invariant_of-self-2-clause-unbroken : goal.invariant_of-self-2-clause-unbroken
 invariant_of-self-2-clause-unbroken g c = λ told. c.args.self.now.unbroken (c.log.ensures.grows.counts.told told)
+
+pub log-requires-clause-can : goal.log-requires-clause-can
+log-requires-clause-can g c = λ t from m told. record { there = tt; fits = tt; known = tt; formed = formed_undone (g.E.Engine.view c.args.self.now.engine) c.args.self.now.rows.items c.args.self.now.actor c.args.txn.0 c.args.after c.requires.can c.requires.chain told; means = λ u. u }

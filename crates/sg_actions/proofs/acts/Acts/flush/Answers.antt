@@ -5,6 +5,7 @@ use Rattle.sg_actions.proofs.Beginning.{rest_kept}
 use Rattle.sg_actions.proofs.Calling.{said_any}
 use Rattle.sg_actions.proofs.Led.{look_call}
 use Rattle.sg_actions.proofs.Sets.{steps_set}
+use Rattle.sg_actions.proofs.GoingOn.{can_look}
 use Rattle.sg_actions.proofs.acts.Acts.flush.Goals as goal
 
 pub returns-clause-kept : goal.returns-clause-kept
@@ -21,3 +22,6 @@ invariant_of-self-clause-within g c = within_by c.flush.ensures.rests.counts c.a
 
 pub invariant_of-self-clause-unbroken : goal.invariant_of-self-clause-unbroken
 invariant_of-self-clause-unbroken g c = λ told. c.args.self.now.unbroken (c.flush.ensures.rests.counts.told told)
+
+pub invariant_of-self-clause-goes_on : goal.invariant_of-self-clause-goes_on
+invariant_of-self-clause-goes_on g c = can_look c.args.self.now.begun c.args.self.now.actor (g.met.E.Engine.some c.args.self.now.engine) (λ t. (record { rests = c.flush.ensures.rests; keeps = λ from m. c.flush.ensures.means t from m; looks = λ from m. c.flush.ensures.looks t from m; whole = g.met.E.Engine.told_whole _; full = g.met.E.Engine.full_failed _; now = λ from m. g.met.E.Engine.now_is _ t from m; now' = λ from m. g.met.E.Engine.now_is _ t from m })) c.args.self.now.goes_on

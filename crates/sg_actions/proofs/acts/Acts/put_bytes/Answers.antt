@@ -14,6 +14,7 @@ use Rattle.sg_actions.proofs.InRange.{write_in}
 use Rattle.sg_actions.proofs.Led.{log_call, look_call, logged_after}
 use Rattle.sg_actions.proofs.PuttingBack.{put_bytes, stood_long}
 use Rattle.sg_actions.proofs.Writing.{write_on}
+use Rattle.sg_actions.proofs.GoingOn.{can_look, formed_change, can_change}
 use Rattle.sg_actions.proofs.acts.Acts.put_bytes.Goals as goal
 
 clash : false ≡ true → ⊥
@@ -88,5 +89,9 @@ log-requires-clause-can g c = λ t from m told1.
       there = let e = ap (λ (x : BandBytes). x.band) c.spell_bytes.ensures in let b = c.requires.there (k.told told1) in let x = ap (λ (y : Extent). y.bands) k.extent in omega (arith, e, b, x);
       fits = refl;
       known = tt;
+      formed = formed_change (g.E.Engine.view c.load_band.new.self) c.args.self.now.begun c.args.self.now.actor _ c.requires.begun (can_look c.args.self.now.begun c.args.self.now.actor (g.met.E.Engine.some c.args.self.now.engine) (λ t. (record { rests = c.load_band.ensures.rests; keeps = λ from m. c.load_band.ensures.means t from m; looks = λ from m. c.load_band.ensures.looks t from m; whole = g.met.E.Engine.told_whole _; full = g.met.E.Engine.full_failed _; now = λ from m. g.met.E.Engine.now_is _ t from m; now' = λ from m. g.met.E.Engine.now_is _ t from m })) c.args.self.now.goes_on) told1;
       means = λ u. u;
     }
+
+pub invariant_of-self-2-clause-goes_on : goal.invariant_of-self-2-clause-goes_on
+invariant_of-self-2-clause-goes_on g c = can_change g.E.Engine.recovers (g.E.Engine.means c.load_band.new.self) (g.E.Engine.means c.log.new.self) c.args.self.now.begun c.args.self.now.actor _ _ (g.met.E.Engine.some c.load_band.new.self) (λ t. (record { grows = c.in_ok-self.ensures.grows; keeps = λ from m. c.in_ok-self.ensures.means t from m; logs = λ from m. c.in_ok-self.ensures.logs t from m; whole = g.met.E.Engine.told_whole _; full = g.met.E.Engine.full_failed _; now = λ from m. g.met.E.Engine.now_is _ t from m; now' = λ from m. g.met.E.Engine.now_is _ t from m; law = λ from m. g.met.E.Engine.lawful _ t from m })) refl refl (can_look c.args.self.now.begun c.args.self.now.actor (g.met.E.Engine.some c.args.self.now.engine) (λ t. (record { rests = c.load_band.ensures.rests; keeps = λ from m. c.load_band.ensures.means t from m; looks = λ from m. c.load_band.ensures.looks t from m; whole = g.met.E.Engine.told_whole _; full = g.met.E.Engine.full_failed _; now = λ from m. g.met.E.Engine.now_is _ t from m; now' = λ from m. g.met.E.Engine.now_is _ t from m })) c.args.self.now.goes_on)

@@ -15,6 +15,7 @@ use Rattle.sg_actions.proofs.PuttingBack.{put_one, put_some, put_none, goes_same
 use Rattle.sg_actions.proofs.Counting.{looked_break, looked_engine, never_any}
 use Rattle.sg_actions.proofs.Untold.{part_on, on_at}
 use Rattle.std.proofs.Props.{props}
+use Rattle.sg_actions.proofs.GoingOn.{can_look}
 use Rattle.sg_actions.proofs.acts.Acts.put_one_back.Goals as goal
 
 pub read-requires-clause-there : goal.read-requires-clause-there
@@ -124,3 +125,15 @@ put_bytes-requires-clause-there g c = λ told1.
     (λ s is. on_at (g.E.Engine.view c.args.self.now.engine).extent (g.E.Engine.view c.args.self.now.engine).steps c.args.at s (g.met.E.Engine.changes_on _ told) (read.step ∙ (ap step_of (sym (shown_is _ _ _ _ _ c.in-Ok.ensures.exact read.is)) ∙ is)))
     c.in-Some.ensures c.in-Some-part_of.ensures) in
     omega (arith, x, below)
+
+pub invariant_of-self-in_default-clause-goes_on : goal.invariant_of-self-in_default-clause-goes_on
+invariant_of-self-in_default-clause-goes_on g c = can_look c.args.self.now.begun c.args.self.now.actor (g.met.E.Engine.some c.args.self.now.engine) (λ t. (record { rests = c.read.ensures.rests; keeps = λ from m. c.read.ensures.means t from m; looks = λ from m. c.read.ensures.looks t from m; whole = g.met.E.Engine.told_whole _; full = g.met.E.Engine.full_failed _; now = λ from m. g.met.E.Engine.now_is _ t from m; now' = λ from m. g.met.E.Engine.now_is _ t from m })) c.args.self.now.goes_on
+
+pub invariant_of-self-in_default-hop_at-clause-goes_on : goal.invariant_of-self-in_default-hop_at-clause-goes_on
+invariant_of-self-in_default-hop_at-clause-goes_on g c = can_look c.args.self.now.begun c.args.self.now.actor (g.met.E.Engine.some c.args.self.now.engine) (λ t. (record { rests = c.read.ensures.rests; keeps = λ from m. c.read.ensures.means t from m; looks = λ from m. c.read.ensures.looks t from m; whole = g.met.E.Engine.told_whole _; full = g.met.E.Engine.full_failed _; now = λ from m. g.met.E.Engine.now_is _ t from m; now' = λ from m. g.met.E.Engine.now_is _ t from m })) c.args.self.now.goes_on
+
+pub invariant_of-self-then-next-at-clause-goes_on : goal.invariant_of-self-then-next-at-clause-goes_on
+invariant_of-self-then-next-at-clause-goes_on g c = can_look c.args.self.now.begun c.args.self.now.actor (g.met.E.Engine.some c.args.self.now.engine) (λ t. (record { rests = c.read.ensures.rests; keeps = λ from m. c.read.ensures.means t from m; looks = λ from m. c.read.ensures.looks t from m; whole = g.met.E.Engine.told_whole _; full = g.met.E.Engine.full_failed _; now = λ from m. g.met.E.Engine.now_is _ t from m; now' = λ from m. g.met.E.Engine.now_is _ t from m })) c.args.self.now.goes_on
+
+pub invariant_of-self-else-next-at-clause-goes_on : goal.invariant_of-self-else-next-at-clause-goes_on
+invariant_of-self-else-next-at-clause-goes_on g c = can_look c.args.self.now.begun c.args.self.now.actor (g.met.E.Engine.some c.args.self.now.engine) (λ t. (record { rests = c.read.ensures.rests; keeps = λ from m. c.read.ensures.means t from m; looks = λ from m. c.read.ensures.looks t from m; whole = g.met.E.Engine.told_whole _; full = g.met.E.Engine.full_failed _; now = λ from m. g.met.E.Engine.now_is _ t from m; now' = λ from m. g.met.E.Engine.now_is _ t from m })) c.args.self.now.goes_on

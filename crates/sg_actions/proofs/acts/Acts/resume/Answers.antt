@@ -26,6 +26,7 @@ changes-preserved g c =
       means = λ start m. k.means start (i.means start m);
       looked = counts_more i.looked k.counts;
       who = ap (λ (u : TxnId). u.0) k.who ∙ i.who;
+      begun = k.begun;
       unfreed = k.unfreed ∙ i.unfreed;
       goes = λ from m told kept b h.
           off_then (led from (g.E.Engine.view c.args.self.now.engine)) (led from (g.E.Engine.view c.changes.self.engine)) (led from (g.E.Engine.view c.take_one_off.new.self.engine)) (i.goes from m told kept b h) k.counts.stops
@@ -74,6 +75,7 @@ changes-init g c = record {
   told = λ t. t;
   looked = looked_none (g.E.Engine.view c.args.self.now.engine) c.args.self.now.breaks;
   who = refl;
+  begun = refl;
   unfreed = refl;
   goes = λ from m told kept b h. off_none c.args.self.now.actor.txn.0 (led from (g.E.Engine.view c.args.self.now.engine)) h.taking.running.log (moments_same (led from (g.E.Engine.view c.args.self.now.engine)) (g.met.E.Engine.images c.args.self.now.engine _ from m told)) told;
   means = λ from m. m;
@@ -109,3 +111,15 @@ returns-clause-goes g c = λ from m told kept b r.
 
 pub returns-clause-unfreed : goal.returns-clause-unfreed
 returns-clause-unfreed g c = c.void.ensures.unfreed ∙ c.changes.invariant.unfreed
+
+pub take_one_off-requires-clause-begun : goal.take_one_off-requires-clause-begun
+take_one_off-requires-clause-begun g c = c.changes.invariant.begun
+
+pub void-requires : goal.void-requires
+void-requires g c = record {
+  over = λ told1.
+      let i = c.changes.invariant in
+      ∥∥₁_elim (c.requires.off (i.told told1)) ∥∥₁_prop (λ x.
+      let off = i.going x.0 x.1 x.2.kept x.2.begin x.2.going told1 in
+      ∣ record { running = off.taking.running; none = none_left (g.E.Engine.view c.changes.self.engine).steps c.changes.self.actor c.changes.at off.taking.running.linked off.at_is c.changes-test.false } ∣₁);
+}

@@ -11,6 +11,7 @@ use Rattle.sg_recovery.specs.Log.Record.{Save}
 use Rattle.sg_actions.specs.Engine.{led}
 use Rattle.sg_actions.proofs.Led.{log_call}
 use Rattle.sg_actions.proofs.Calling.{said_log_any}
+use Rattle.sg_actions.proofs.GoingOn.{formed_save, can_rest_told}
 use Rattle.sg_actions.proofs.acts.Acts.save.Goals as goal
 
 pub log-requires-clause-range : goal.log-requires-clause-range
@@ -42,3 +43,9 @@ invariant_of-self-2-clause-within g c = within_by c.log.ensures.grows.counts c.a
 
 pub invariant_of-self-2-clause-unbroken : goal.invariant_of-self-2-clause-unbroken
 invariant_of-self-2-clause-unbroken g c = λ told. c.args.self.now.unbroken (c.log.ensures.grows.counts.told told)
+
+pub log-requires-clause-can : goal.log-requires-clause-can
+log-requires-clause-can g c = λ t from m told. record { there = tt; fits = tt; known = tt; formed = formed_save (g.E.Engine.view c.args.self.now.engine) c.args.self.now.unfreed c.args.self.now.rows.items c.args.self.now.actor c.args.txn.0 c.in-Some.prev c.args.mark c.requires.can (sym (ap (λ (rs : List Row). last_in rs c.args.txn.0) c.as_slice.ensures.value) ∙ (sym c.last_in.ensures ∙ c.in-Some.is)) c.requires.chain told; means = λ u. u }
+
+pub invariant_of-self-2-clause-goes_on : goal.invariant_of-self-2-clause-goes_on
+invariant_of-self-2-clause-goes_on g c = can_rest_told (g.E.Engine.view c.args.self.now.engine) (g.E.Engine.view c.log.new.self) _ _ c.log.ensures.grows.counts.told c.requires.quiet

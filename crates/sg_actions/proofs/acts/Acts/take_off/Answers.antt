@@ -6,7 +6,7 @@ use Rattle.sg_actions.specs.Engine.{ArePagesFit, led}
 use Rattle.sg_actions.specs.Offed.{kept_in}
 use Rattle.sg_actions.specs.Steps.{begin_of}
 use Rattle.sg_actions.proofs.Offing.{going_of}
-use Rattle.sg_actions.proofs.Finishing.{off_begins, taken_off, off_same, taken_same, on_ok}
+use Rattle.sg_actions.proofs.Finishing.{none_left, off_begins, taken_off, off_same, taken_same, on_ok}
 use Rattle.sg_actions.proofs.acts.Acts.take_off.Goals as goal
 
 pub changes-init : goal.changes-init
@@ -14,6 +14,7 @@ changes-init g c = record {
   told = λ t. t;
   means = λ from m. m;
   who = refl;
+  begun = refl;
   whole = ap free_of c.forget_bands.ensures.pages ∙ c.forget_pages.ensures.pages.none;
   bands = c.forget_bands.ensures.bands.none;
   off = λ limits from m t can u. off_begins _ limits (led from (g.E.Engine.view c.args.self.now.engine)) c.args.self.now.maps c.forget_bands.new.unfreed c.args.self.now.rows.items c.args.self.now.actor (ap free_of c.forget_bands.ensures.pages ∙ c.forget_pages.ensures.pages.none) c.forget_bands.ensures.bands.none can;
@@ -45,6 +46,7 @@ changes-preserved g c =
       told = λ t. i.told (k.told t);
       means = λ from m. k.means from (i.means from m);
       who = k.who ∙ i.who;
+      begun = k.begun;
       whole = ap (λ (m : Maps). free_of m.pages) k.unfreed ∙ i.whole;
       bands = ap (λ (m : Maps). free_of m.bands) k.unfreed ∙ i.bands;
       off = λ limits from m told can u.
@@ -73,3 +75,16 @@ returns-clause-told g c = λ told. c.changes.invariant.told (c.void.ensures.coun
 
 pub returns-in_err-at-clause-means : goal.returns-in_err-at-clause-means
 returns-in_err-at-clause-means g c = λ from m. c.in_err-at.ensures.means from (c.changes.invariant.means from m)
+
+pub take_one_off-requires-clause-begun : goal.take_one_off-requires-clause-begun
+take_one_off-requires-clause-begun g c = c.changes.invariant.begun
+
+pub void-requires : goal.void-requires
+void-requires g c = record {
+  over = λ told1.
+      let i = c.changes.invariant in
+      let told = i.told told1 in
+      ∥∥₁_elim (c.requires.well told) ∥∥₁_prop (λ x.
+      let off = going_of (i.off x.0 x.1 x.2 told x.3 told1) in
+      ∣ record { running = off.taking.running; none = none_left (g.E.Engine.view c.changes.self.engine).steps c.changes.self.actor c.changes.at off.taking.running.linked off.at_is c.changes-test.false } ∣₁);
+}

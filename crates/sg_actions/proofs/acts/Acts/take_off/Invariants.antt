@@ -1,4 +1,4 @@
-use Rattle.std.proofs.Common.{◌≡◌, ℕ}
+use Rattle.std.proofs.Common.{◌≡◌, false, ℕ}
 use Rattle.sg_alloc.specs.Flags.{free_of}
 use Rattle.sg_action.specs.States.{State}
 use Rattle.sg_ops.specs.Table.{table_of}
@@ -14,6 +14,7 @@ invariant-changes g l = record {
   told : (g.E.Engine.view l.self.engine).Told → (g.E.Engine.view l.fn.self.engine).Told;
   means : (from : State) → (g.E.Engine.means l.fn.self.engine) (table_of (λ p. (goal.RecordOp-dyn g p).record_meaning p.1) (λ p. (goal.RangeOp-dyn g p).range_meaning p.1) l.fn.ops) from → (g.E.Engine.means l.self.engine) (table_of (λ p. (goal.RecordOp-dyn g p).record_meaning p.1) (λ p. (goal.RangeOp-dyn g p).range_meaning p.1) l.fn.ops) from;
   who : l.self.actor.txn ≡ l.fn.self.actor.txn;
+  begun : l.self.begun ≡ false;
   whole : free_of l.self.unfreed.pages ≡ 0;
   bands : free_of l.self.unfreed.bands ≡ 0;
   off : (limits : State → ℕ → ℕ) (from : State) → (g.E.Engine.means l.fn.self.engine) (table_of (λ p. (goal.RecordOp-dyn g p).record_meaning p.1) (λ p. (goal.RangeOp-dyn g p).range_meaning p.1) l.fn.ops) from → (g.E.Engine.view l.fn.self.engine).Told → CanTakeOff (table_of (λ p. (goal.RecordOp-dyn g p).record_meaning p.1) (λ p. (goal.RangeOp-dyn g p).range_meaning p.1) l.fn.ops) limits (led from (g.E.Engine.view l.fn.self.engine)) l.fn.self.maps l.fn.self.rows.items l.fn.self.actor → (g.E.Engine.view l.self.engine).Told

@@ -10,13 +10,14 @@ use Rattle.sg_actions.proofs.Calling.{said_any, said_log}
 use Rattle.sg_actions.proofs.Flags.{some_is}
 use Rattle.sg_actions.proofs.Led.{log_call, look_call}
 use Rattle.sg_actions.proofs.Counting.{looked_engine}
-use Rattle.sg_actions.proofs.GoneOff.{off_look, off_then, off_one, counts_err, counts_break}
+use Rattle.sg_actions.proofs.GoneOff.{off_formed, off_look, off_then, off_one, counts_err, counts_break}
 use Rattle.sg_actions.proofs.Offing.{next_one, going_stays, read_is, off_fits, off_known, known_off_prop, said_less, shown_is, took_off, next_low}
 use Rattle.sg_actions.proofs.Untold.{on_prop, comp_on, on_at, no_change}
 use Rattle.sg_actions.proofs.PuttingBack.{no_fault}
 use Rattle.sg_actions.proofs.Ranged.{comp_in, brief_off}
 use Rattle.sg_record.specs.Changes.{Change as Changing}
 use Rattle.sg_actions.specs.Changes.{comp_of}
+use Rattle.sg_actions.proofs.GoingOn.{can_rest}
 use Rattle.sg_actions.proofs.acts.Acts.take_one_off.Goals as goal
 
 pub read-requires-clause-there : goal.read-requires-clause-there
@@ -52,6 +53,13 @@ log_by-requires-clause-can g c = λ told.
           let next = next_one _ x.2.kept x.2.begin (led x.0 (g.E.Engine.view c.read.new.self)) c.args.self.now.rows.items c.args.self.now.actor c.args.at x.2.more off in
           let r = read_is (g.E.Engine.view c.read.new.self).steps c.args.at read.what (shown c.in-Ok.r) (shown_change c.in-Some.change) c.in-Some.prev _ next.d (ap (λ rs. step_at rs c.args.at) stays.steps ∙ read.step) (shown_is _ _ _ _ _ c.in-Ok.ensures.exact read.is) c.in-Some.ensures.is next.step in
           off_known _ x.2.kept x.2.begin x.0 (g.E.Engine.view c.read.new.self) c.args.self.now.rows.items c.args.self.now.actor c.args.at c.in-Some.prev (shown_change c.in-Some.change) (shown_change c.comp_of.result) next r c.comp_of.ensures off);
+      formed = ∥∥₁_elim (c.requires.off told0) ∥∥₁_prop (λ x.
+          let stays = (look_call x.0 k.rests (k.looks _ x.0 x.1)).stays.stays told0 in
+          let read = k.read _ x.0 x.1 told0 in
+          let off = going_stays stays x.2.going in
+          let next = next_one _ x.2.kept x.2.begin (led x.0 (g.E.Engine.view c.read.new.self)) c.args.self.now.rows.items c.args.self.now.actor c.args.at x.2.more off in
+          let r = read_is (g.E.Engine.view c.read.new.self).steps c.args.at read.what (shown c.in-Ok.r) (shown_change c.in-Some.change) c.in-Some.prev _ next.d (ap (λ rs. step_at rs c.args.at) stays.steps ∙ read.step) (shown_is _ _ _ _ _ c.in-Ok.ensures.exact read.is) c.in-Some.ensures.is next.step in
+          ∣ off_formed x.2.kept x.2.begin (led x.0 (g.E.Engine.view c.read.new.self)) c.args.self.now.rows.items c.args.self.now.actor c.args.at c.in-Some.prev (shown_change c.in-Some.change) (shown_change c.comp_of.result) off next r c.comp_of.ensures ∣₁);
       means = λ u. tt;
     }
 
@@ -66,6 +74,7 @@ invariant_of-self-2 g c =
       band_flags = c.untake.ensures.bands.flags;
       within = λ told. within_as (sym flags.long ∙ c.args.self.now.page_flags.long) (sym c.untake.ensures.bands.flags.long ∙ c.args.self.now.band_flags.long) (within_by c.log_by.ensures.grows.counts (within_by c.read.ensures.rests.counts c.args.self.now.within) told);
       unbroken = λ told. c.args.self.now.unbroken (c.read.ensures.rests.counts.told (c.log_by.ensures.grows.counts.told told));
+      goes_on = can_rest (g.E.Engine.view c.log_by.new.self) _ _ c.requires.begun;
       pages_said = λ told. said_less c.args.self.now.maps.pages c.untake.new.maps.pages (g.E.Engine.view c.log_by.new.self).now.pages c.untake.ensures.pages.less
           (said_log g.E.Engine.recovers (g.E.Engine.means c.read.new.self) (g.E.Engine.means c.log_by.new.self) c.args.self.now.maps.pages (λ told. ∥∥₁_elim (c.requires.by (c.in_ok-size.ensures.rests.counts.told told)) ∥∥₁_prop (λ x. ∣ (x.0, c.in_ok-size.ensures.means _ x.0 x.1) ∣₁)) (record { grows = c.in_ok-self.ensures.grows; keeps = c.in_ok-self.ensures.means; logs = c.in_ok-self.ensures.logs; whole = g.met.E.Engine.told_whole _; full = g.met.E.Engine.full_failed _; now = g.met.E.Engine.now_is _ _; now' = g.met.E.Engine.now_is _ _; law = g.met.E.Engine.lawful _ _ }) refl (said_any c.args.self.now.maps.pages (g.met.E.Engine.some c.args.self.now.engine) (λ t. (record { rests = c.read.ensures.rests; keeps = λ from m. c.read.ensures.means t from m; looks = λ from m. c.read.ensures.looks t from m; whole = g.met.E.Engine.told_whole _; full = g.met.E.Engine.full_failed _; now = λ from m. g.met.E.Engine.now_is _ t from m; now' = λ from m. g.met.E.Engine.now_is _ t from m })) c.read.ensures.rests.counts.told c.args.self.now.pages_said) told);
     }
@@ -251,3 +260,15 @@ invariant_of-self-then-not-is_brief-clause-within g c = within_by c.read.ensures
 
 pub invariant_of-self-then-not-is_brief-clause-pages_said : goal.invariant_of-self-then-not-is_brief-clause-pages_said
 invariant_of-self-then-not-is_brief-clause-pages_said g c = said_any c.args.self.now.maps.pages (g.met.E.Engine.some c.args.self.now.engine) (λ t. (record { rests = c.read.ensures.rests; keeps = λ from m. c.read.ensures.means t from m; looks = λ from m. c.read.ensures.looks t from m; whole = g.met.E.Engine.told_whole _; full = g.met.E.Engine.full_failed _; now = λ from m. g.met.E.Engine.now_is _ t from m; now' = λ from m. g.met.E.Engine.now_is _ t from m })) c.read.ensures.rests.counts.told c.args.self.now.pages_said
+
+pub invariant_of-self-in_default-clause-goes_on : goal.invariant_of-self-in_default-clause-goes_on
+invariant_of-self-in_default-clause-goes_on g c = can_rest (g.E.Engine.view c.read.new.self) _ _ c.requires.begun
+
+pub invariant_of-self-in_default-change_in-clause-goes_on : goal.invariant_of-self-in_default-change_in-clause-goes_on
+invariant_of-self-in_default-change_in-clause-goes_on g c = can_rest (g.E.Engine.view c.read.new.self) _ _ c.requires.begun
+
+pub invariant_of-self-then-prev-at-clause-goes_on : goal.invariant_of-self-then-prev-at-clause-goes_on
+invariant_of-self-then-prev-at-clause-goes_on g c = can_rest (g.E.Engine.view c.read.new.self) _ _ c.requires.begun
+
+pub invariant_of-self-then-not-is_brief-clause-goes_on : goal.invariant_of-self-then-not-is_brief-clause-goes_on
+invariant_of-self-then-not-is_brief-clause-goes_on g c = can_rest (g.E.Engine.view c.read.new.self) _ _ c.requires.begun

@@ -10,10 +10,11 @@ use Rattle.sg_actions.specs.Later.{acts_at}
 use Rattle.sg_actions.specs.Onward.{later_same}
 use Rattle.sg_actions.proofs.PuttingBack.{acts_at as acting_at, all_at, can_put, begun_those, begun_no, found_is, run_by, run_then, run_ok, run_err, err_is, counts_from, counts_at, undone_none, undone_run, can_act, actable_at}
 use Rattle.sg_actions.proofs.Sets.{steps_set}
+use Rattle.sg_actions.proofs.GoingOn.{chain_look}
 use Rattle.sg_actions.proofs.acts.Acts.undo_step.Goals as goal
 
-pub act-requires : goal.act-requires
-act-requires g c = λ told1.
+pub act-requires-clause-can : goal.act-requires-clause-can
+act-requires-clause-can g c = λ told1.
     let k = c.in_ok-found.ensures in
     let told = k.counts.told told1 in
     let steps = ∥∥₁_elim (g.met.E.Engine.some c.args.self.now.engine told) (steps_set (g.E.Engine.view c.find_note.new.self.engine).steps (g.E.Engine.view c.args.self.now.engine).steps) (λ x. ((k.stays x.0 x.1 x.2).stays told).steps) in
@@ -101,3 +102,9 @@ returns-in_ok-put_back-clause-since g c = λ t from m some. (c.in_ok-put_back.en
 
 pub returns-else-is_of_bytes-clause-since : goal.returns-else-is_of_bytes-clause-since
 returns-else-is_of_bytes-clause-since g c = λ t from m some. (c.act.ensures.since t from (c.in_ok-found.ensures.means t from m))
+
+pub act-requires-clause-chain : goal.act-requires-clause-chain
+act-requires-clause-chain g c =
+    let k = c.in_ok-found.ensures in
+    chain_look (g.E.Engine.view c.args.self.now.engine) (g.E.Engine.view c.find_note.new.self.engine) c.args.self.now.rows.items c.find_note.new.self.rows.items c.args.self.now.actor c.find_note.new.self.actor k.counts.told
+    (λ told. ∥∥₁_elim (g.met.E.Engine.some c.args.self.now.engine told) ∥∥₁_prop (λ x. ∣ (x.0, x.1, k.stays x.0 x.1 x.2) ∣₁)) k.rows k.actor (λ told. ∣ (c.requires told).chain ∣₁)

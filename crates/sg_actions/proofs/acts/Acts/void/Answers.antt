@@ -5,6 +5,7 @@ use Rattle.sg_actions.specs.Engine.{led}
 use Rattle.sg_actions.proofs.Led.{log_call}
 use Rattle.sg_actions.proofs.GoneOff.{off_void}
 use Rattle.sg_actions.proofs.Calling.{said_log_any}
+use Rattle.sg_actions.proofs.GoingOn.{formed_void}
 use Rattle.sg_actions.proofs.acts.Acts.void.Goals as goal
 
 pub log-requires-clause-range : goal.log-requires-clause-range
@@ -26,3 +27,6 @@ returns-in_err-lsn-clause-goes g c = λ t from m told kept begin h none.
 pub returns-clause-goes : goal.returns-clause-goes
 returns-clause-goes g c = λ t from m told kept begin h none.
     off_void kept begin (led from (g.E.Engine.view c.args.self.now.engine)) (led from (g.E.Engine.view c.log.new.self)) c.args.self.now.rows.items c.args.self.now.actor _ h none (log_call from c.in_ok-lsn.ensures.grows (c.in_ok-lsn.ensures.logs t from m)) told
+
+pub log-requires-clause-can : goal.log-requires-clause-can
+log-requires-clause-can g c = λ t from m told. record { there = tt; fits = tt; known = tt; formed = formed_void (g.E.Engine.view c.args.self.now.engine) c.args.self.now.actor c.requires.over told; means = λ u. u }

@@ -7,6 +7,7 @@ use Rattle.sg_actions.proofs.Flags.{at_there}
 use Rattle.sg_actions.proofs.Led.{by_later}
 use Rattle.sg_actions.proofs.Looking.{looks_ok, looks_err_is, none_looked}
 use Rattle.sg_actions.proofs.Untold.{none_there}
+use Rattle.sg_actions.proofs.GoingOn.{can_look}
 use Rattle.sg_actions.proofs.acts.ActsPageSpace.band.Goals as goal
 
 pub invariant_of-self-2-clause-pages_said : goal.invariant_of-self-2-clause-pages_said
@@ -46,3 +47,6 @@ returns-in_err-load_band g c =
 
 pub invariant_of-self-clause-unbroken : goal.invariant_of-self-clause-unbroken
 invariant_of-self-clause-unbroken g c = λ told. absurd (none_there c.args.self.now.maps.bands c.args.self.now.unfreed.bands (λ n. Some ((g.E.Engine.view c.args.self.now.engine).now.bands n)) c.args.b.0 (sym c.if-not-has_band.ensures) (c.requires told))
+
+pub invariant_of-self-2-clause-goes_on : goal.invariant_of-self-2-clause-goes_on
+invariant_of-self-2-clause-goes_on g c = can_look c.args.self.now.begun c.args.self.now.actor (g.met.E.Engine.some c.args.self.now.engine) (λ t. (record { rests = c.load_band.ensures.rests; keeps = λ from m. c.load_band.ensures.means t from m; looks = λ from m. c.load_band.ensures.looks t from m; whole = g.met.E.Engine.told_whole _; full = g.met.E.Engine.full_failed _; now = λ from m. g.met.E.Engine.now_is _ t from m; now' = λ from m. g.met.E.Engine.now_is _ t from m })) c.args.self.now.goes_on

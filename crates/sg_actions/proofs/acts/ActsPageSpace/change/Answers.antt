@@ -14,6 +14,7 @@ use Rattle.sg_actions.proofs.Counting.{never_any}
 use Rattle.sg_actions.proofs.Flags.{and_left}
 use Rattle.sg_actions.proofs.Ranged.{page_in, take_le}
 use Rattle.sg_space.specs.declared.space.SpaceFault.TheVariants.{Disk, LogEnd}
+use Rattle.sg_actions.proofs.GoingOn.{can_look, formed_change, can_change_by}
 use Rattle.sg_actions.proofs.acts.ActsPageSpace.change.Goals as goal
 
 pub log_by-requires-clause-by : goal.log_by-requires-clause-by
@@ -34,6 +35,7 @@ log_by-requires-clause-can g c = λ told1.
     let r = ready _ (g.E.Engine.limits (length c.args.self.now.maps.pages) (length c.args.self.now.maps.bands)) e (g.E.Engine.view c.args.self.now.begun_at.value).now s.breaks s.maps s.unfreed c.args.p.0 _ _ _ (ap (λ x. x.pages c.args.p.0) (sym same.now) ∙ c.page.ensures) back c.brings_bytes.ensures (c.requires.can told) in
     loggable _ e1 _ _ c.args.p.0 _ _ said (ready_same same r)
     (let below = there_below c.args.self.now.maps.pages c.args.self.now.unfreed.pages c.args.p.0 (sym c.if-not-has_page.ensures) in let w = (within_by c.in_ok-load.ensures.rests.counts c.args.self.now.within told1).pages in omega (arith, below, w))
+    (formed_change e1 c.args.self.now.begun c.args.self.now.actor _ c.if-not-self.false (can_look c.args.self.now.begun c.args.self.now.actor (g.met.E.Engine.some c.args.self.now.engine) (λ t. (record { rests = c.load.ensures.rests; keeps = λ from m. c.load.ensures.means t from m; looks = λ from m. c.load.ensures.looks t from m; whole = g.met.E.Engine.told_whole _; full = g.met.E.Engine.full_failed _; now = λ from m. g.met.E.Engine.now_is _ t from m; now' = λ from m. g.met.E.Engine.now_is _ t from m })) c.args.self.now.goes_on) told1)
 
 pub invariant_of-self-2-clause-pages_said : goal.invariant_of-self-2-clause-pages_said
 invariant_of-self-2-clause-pages_said g c =
@@ -170,3 +172,9 @@ returns-then-not-is_short-clause-later g c = later_same {strict = true} g.E.Engi
 
 pub returns-then-not-self-clause-counts : goal.returns-then-not-self-clause-counts
 returns-then-not-self-clause-counts g c = record { told = λ t. t; later = omega arith; quiet = tt; disk = λ d. absurd (let e : LogEnd ≡ Disk = d in cc); log_end = λ z. inr c.if-not-self.true }
+
+pub invariant_of-self-in_default-clause-goes_on : goal.invariant_of-self-in_default-clause-goes_on
+invariant_of-self-in_default-clause-goes_on g c = can_look c.args.self.now.begun c.args.self.now.actor (g.met.E.Engine.some c.args.self.now.engine) (λ t. (record { rests = c.load.ensures.rests; keeps = λ from m. c.load.ensures.means t from m; looks = λ from m. c.load.ensures.looks t from m; whole = g.met.E.Engine.told_whole _; full = g.met.E.Engine.full_failed _; now = λ from m. g.met.E.Engine.now_is _ t from m; now' = λ from m. g.met.E.Engine.now_is _ t from m })) c.args.self.now.goes_on
+
+pub invariant_of-self-2-clause-goes_on : goal.invariant_of-self-2-clause-goes_on
+invariant_of-self-2-clause-goes_on g c = can_change_by g.E.Engine.recovers (g.E.Engine.means c.load.new.self) (g.E.Engine.means c.log_by.new.self) c.args.self.now.begun c.args.self.now.actor _ _ (λ told. ∥∥₁_elim (c.requires.means (c.in_ok-load.ensures.rests.counts.told told)) ∥∥₁_prop (λ x. ∣ (x.0, c.in_ok-load.ensures.means _ x.0 x.1.stands) ∣₁)) (record { grows = c.in_ok-self.ensures.grows; keeps = c.in_ok-self.ensures.means; logs = c.in_ok-self.ensures.logs; whole = g.met.E.Engine.told_whole _; full = g.met.E.Engine.full_failed _; now = g.met.E.Engine.now_is _ _; now' = g.met.E.Engine.now_is _ _; law = g.met.E.Engine.lawful _ _ }) refl refl (can_look c.args.self.now.begun c.args.self.now.actor (g.met.E.Engine.some c.args.self.now.engine) (λ t. (record { rests = c.load.ensures.rests; keeps = λ from m. c.load.ensures.means t from m; looks = λ from m. c.load.ensures.looks t from m; whole = g.met.E.Engine.told_whole _; full = g.met.E.Engine.full_failed _; now = λ from m. g.met.E.Engine.now_is _ t from m; now' = λ from m. g.met.E.Engine.now_is _ t from m })) c.args.self.now.goes_on)

@@ -7,6 +7,7 @@ use Rattle.sg_actions.proofs.Flags.{at_there, and_left}
 use Rattle.sg_actions.proofs.Led.{by_later}
 use Rattle.sg_actions.proofs.Looking.{looks_ok, looks_err_is, none_looked}
 use Rattle.sg_actions.proofs.Untold.{none_there}
+use Rattle.sg_actions.proofs.GoingOn.{can_look}
 use Rattle.sg_actions.proofs.acts.ActsPageSpace.page.Goals as goal
 
 pub invariant_of-self-2-clause-pages_said : goal.invariant_of-self-2-clause-pages_said
@@ -60,3 +61,6 @@ load-requires g c = record { there = λ told. c.args.self.now.pages_said told c.
 
 pub invariant_of-self-clause-unbroken : goal.invariant_of-self-clause-unbroken
 invariant_of-self-clause-unbroken g c = λ told. absurd (none_there c.args.self.now.maps.pages c.args.self.now.unfreed.pages (g.E.Engine.view c.args.self.now.engine).now.pages c.args.p.0 (sym c.if-not-has_page.ensures) (c.requires told))
+
+pub invariant_of-self-2-clause-goes_on : goal.invariant_of-self-2-clause-goes_on
+invariant_of-self-2-clause-goes_on g c = can_look c.args.self.now.begun c.args.self.now.actor (g.met.E.Engine.some c.args.self.now.engine) (λ t. (record { rests = c.load.ensures.rests; keeps = λ from m. c.load.ensures.means t from m; looks = λ from m. c.load.ensures.looks t from m; whole = g.met.E.Engine.told_whole _; full = g.met.E.Engine.full_failed _; now = λ from m. g.met.E.Engine.now_is _ t from m; now' = λ from m. g.met.E.Engine.now_is _ t from m })) c.args.self.now.goes_on

@@ -18,6 +18,7 @@ use Rattle.sg_actions.proofs.Untold.{none_there, there_below, band_few}
 use Rattle.sg_actions.proofs.Ranged.{paint_in}
 use Rattle.sg_actions.proofs.PuttingBack.{stood_long}
 use Rattle.sg_space.specs.declared.space.SpaceFault.TheVariants.{Disk, LogEnd}
+use Rattle.sg_actions.proofs.GoingOn.{can_look, formed_change, can_change_by}
 use Rattle.sg_actions.proofs.acts.ActsPageSpace.paint_band.Goals as goal
 
 pub log_by-requires-clause-by : goal.log_by-requires-clause-by
@@ -27,7 +28,7 @@ pub log_by-requires-clause-can : goal.log_by-requires-clause-can
 log_by-requires-clause-can g c = λ told. let told0 = c.in_ok-load_band.ensures.rests.counts.told told in
     let below = there_below c.args.self.now.maps.bands c.args.self.now.unfreed.bands c.args.b.0 (sym c.if-not-has_band.ensures) in
     let w = (within_by c.in_ok-load_band.ensures.rests.counts c.args.self.now.within told).bands in
-    record { there = let e = ap (λ (x : BandOp). x.band) c.spell_op.ensures in omega (arith, e, below, w); fits = refl; known = known_by _ _ _ c.spell_op.ensures (c.requires.can told0).known; means = λ u. tt }
+    record { there = let e = ap (λ (x : BandOp). x.band) c.spell_op.ensures in omega (arith, e, below, w); fits = refl; known = known_by _ _ _ c.spell_op.ensures (c.requires.can told0).known; formed = formed_change (g.E.Engine.view c.load_band.new.self) c.args.self.now.begun c.args.self.now.actor _ c.if-not-self.false (can_look c.args.self.now.begun c.args.self.now.actor (g.met.E.Engine.some c.args.self.now.engine) (λ t. (record { rests = c.load_band.ensures.rests; keeps = λ from m. c.load_band.ensures.means t from m; looks = λ from m. c.load_band.ensures.looks t from m; whole = g.met.E.Engine.told_whole _; full = g.met.E.Engine.full_failed _; now = λ from m. g.met.E.Engine.now_is _ t from m; now' = λ from m. g.met.E.Engine.now_is _ t from m })) c.args.self.now.goes_on) told; means = λ u. tt }
 
 pub invariant_of-self-2-clause-pages_said : goal.invariant_of-self-2-clause-pages_said
 invariant_of-self-2-clause-pages_said g c = said_log g.E.Engine.recovers (g.E.Engine.means c.load_band.new.self) (g.E.Engine.means c.log_by.new.self) c.args.self.now.maps.pages (λ told. ∥∥₁_elim (c.requires.means (c.load_band.ensures.rests.counts.told told)) ∥∥₁_prop (λ x. ∣ (x.0, c.in_ok-load_band.ensures.means _ x.0 x.1.stands) ∣₁)) (record { grows = c.log_by.ensures.grows; keeps = c.log_by.ensures.means; logs = c.log_by.ensures.logs; whole = g.met.E.Engine.told_whole _; full = g.met.E.Engine.full_failed _; now = g.met.E.Engine.now_is _ _; now' = g.met.E.Engine.now_is _ _; law = g.met.E.Engine.lawful _ _ }) refl (said_any c.args.self.now.maps.pages (g.met.E.Engine.some c.args.self.now.engine) (λ t. (record { rests = c.load_band.ensures.rests; keeps = λ from m. c.load_band.ensures.means t from m; looks = λ from m. c.load_band.ensures.looks t from m; whole = g.met.E.Engine.told_whole _; full = g.met.E.Engine.full_failed _; now = λ from m. g.met.E.Engine.now_is _ t from m; now' = λ from m. g.met.E.Engine.now_is _ t from m })) c.load_band.ensures.rests.counts.told c.args.self.now.pages_said)
@@ -146,3 +147,6 @@ returns-then-not-is_paint-clause-later g c = later_same {strict = true} g.E.Engi
 
 pub returns-then-not-self-clause-counts : goal.returns-then-not-self-clause-counts
 returns-then-not-self-clause-counts g c = record { told = λ t. t; later = omega arith; quiet = tt; disk = λ d. absurd (let e : LogEnd ≡ Disk = d in cc); log_end = λ z. inr c.if-not-self.true }
+
+pub invariant_of-self-2-clause-goes_on : goal.invariant_of-self-2-clause-goes_on
+invariant_of-self-2-clause-goes_on g c = can_change_by g.E.Engine.recovers (g.E.Engine.means c.load_band.new.self) (g.E.Engine.means c.log_by.new.self) c.args.self.now.begun c.args.self.now.actor _ _ (λ told. ∥∥₁_elim (c.requires.means (c.in_ok-load_band.ensures.rests.counts.told told)) ∥∥₁_prop (λ x. ∣ (x.0, c.in_ok-load_band.ensures.means _ x.0 x.1.stands) ∣₁)) (record { grows = c.in_ok-self.ensures.grows; keeps = c.in_ok-self.ensures.means; logs = c.in_ok-self.ensures.logs; whole = g.met.E.Engine.told_whole _; full = g.met.E.Engine.full_failed _; now = g.met.E.Engine.now_is _ _; now' = g.met.E.Engine.now_is _ _; law = g.met.E.Engine.lawful _ _ }) refl refl (can_look c.args.self.now.begun c.args.self.now.actor (g.met.E.Engine.some c.args.self.now.engine) (λ t. (record { rests = c.load_band.ensures.rests; keeps = λ from m. c.load_band.ensures.means t from m; looks = λ from m. c.load_band.ensures.looks t from m; whole = g.met.E.Engine.told_whole _; full = g.met.E.Engine.full_failed _; now = λ from m. g.met.E.Engine.now_is _ t from m; now' = λ from m. g.met.E.Engine.now_is _ t from m })) c.args.self.now.goes_on)

@@ -156,3 +156,9 @@ invariant_of-self-then-is_some-clause-unbroken g c = λ told. absurd (none_behin
 
 pub returns-then-not-self-clause-counts : goal.returns-then-not-self-clause-counts
 returns-then-not-self-clause-counts g c = record { told = λ t. t; later = omega arith; quiet = tt; disk = λ d. absurd (let e : LogEnd ≡ Disk = d in cc); log_end = λ z. inr c.if-not-self.true }
+
+pub fill-requires-clause-begun : goal.fill-requires-clause-begun
+fill-requires-clause-begun g c = c.if-not-self.false
+
+pub fill-requires-in-fills-clause-begun : goal.fill-requires-in-fills-clause-begun
+fill-requires-in-fills-clause-begun g c = c.fills.invariant.begun ∙ c.if-not-self.false

@@ -14,11 +14,13 @@ use Rattle.sg_actions.proofs.Led.{by_later, by_some}
 use Rattle.sg_actions.proofs.Taking.{shows_take, take_on, take_same, took_by, took_prop, said_take, format_loggable}
 use Rattle.sg_actions.proofs.Accounting.{within_by, within_as}
 use Rattle.sg_space.specs.declared.space.SpaceFault.TheVariants.{Disk, LogEnd}
+use Rattle.sg_actions.proofs.GoingOn.{formed_change, can_change}
 use Rattle.sg_actions.proofs.acts.ActsPageSpace.take_page.Goals as goal
 
 pub log-requires-clause-can : goal.log-requires-clause-can
 log-requires-clause-can g c = λ t from m told. format_loggable t (g.E.Engine.view c.args.self.now.engine) _ _ c.take_page-p.result.0 c.args.kind _ (record { page_is = ap (λ x. x.page) c.spell.ensures; said = ap op_said c.spell.ensures })
     (let below = slice_get_within c.args.self.now.maps.pages c.take_page-p.result.0 false c.take_page-p.ensures.least.free in let w = (c.args.self.now.within told).pages in omega (arith, below, w))
+    (formed_change (g.E.Engine.view c.args.self.now.engine) c.args.self.now.begun c.args.self.now.actor _ c.if-not-self.false c.args.self.now.goes_on told)
 
 pub invariant_of-self-2-clause-pages_said : goal.invariant_of-self-2-clause-pages_said
 invariant_of-self-2-clause-pages_said g c =
@@ -87,3 +89,6 @@ invariant_of-self-2-clause-within g c = λ told. within_as (ap length c.take_pag
 
 pub returns-then-not-self-clause-counts : goal.returns-then-not-self-clause-counts
 returns-then-not-self-clause-counts g c = record { told = λ t. t; later = omega arith; quiet = tt; disk = λ d. absurd (let e : LogEnd ≡ Disk = d in cc); log_end = λ z. inr c.if-not-self.true }
+
+pub invariant_of-self-2-clause-goes_on : goal.invariant_of-self-2-clause-goes_on
+invariant_of-self-2-clause-goes_on g c = can_change g.E.Engine.recovers (g.E.Engine.means c.args.self.now.engine) (g.E.Engine.means c.log.new.self) c.args.self.now.begun c.args.self.now.actor _ _ (g.met.E.Engine.some c.args.self.now.engine) (λ t. (record { grows = c.in_ok-self.ensures.grows; keeps = λ from m. c.in_ok-self.ensures.means t from m; logs = λ from m. c.in_ok-self.ensures.logs t from m; whole = g.met.E.Engine.told_whole _; full = g.met.E.Engine.full_failed _; now = λ from m. g.met.E.Engine.now_is _ t from m; now' = λ from m. g.met.E.Engine.now_is _ t from m; law = λ from m. g.met.E.Engine.lawful _ t from m })) refl refl c.args.self.now.goes_on

@@ -6,5 +6,5 @@ returns-in-Ok-clause-opens g c = is_opened _ g.D.Disk.told g.D.Presumed.presumed
 
 pub returns-in-Err-clause-refused : goal.returns-in-Err-clause-refused
 returns-in-Err-clause-refused g c =
-    stays_shut _ g.D.Disk.told g.D.Presumed.presumed _ _ c.requires.presumed c.in-Err.field-0.fault _ c.refused-why.ensures
+    stays_shut _ g.D.Disk.told g.D.Presumed.presumed _ _ c.in-Err.field-0.fault _ c.refused-why.ensures
     c.in-Err.ensures.refused

@@ -3,8 +3,10 @@ use Rattle.sg_ops.specs.Table.{shipped_table}
 use Rattle.sg_commands.specs.Images.{IsOfStore}
 use Rattle.sg_commands.specs.Stores.{grounds, says}
 use Rattle.sg_commands.specs.Top.{Outside, outside}
-use Rattle.sg_commands.proofs.Making.{makes_none, said_none}
+use Rattle.sg_commands.proofs.Logged.{lists_none}
+use Rattle.sg_commands.proofs.Making.{said_none}
 use Rattle.sg_commands.proofs.OverPages.{none_where_blank}
+use Rattle.sg_commands.proofs.Sized.{makes_none}
 use Rattle.sg_commands.proofs.Wanting.{not_begun, not_drawn, not_spent}
 use Rattle.sg_main.proofs.ended.Ended.of_run.Goals as goal
 
@@ -22,8 +24,13 @@ returns-in-Err-clause-spent g c = not_spent _ _ _ _ (ap (λ f. (g.D.Disk.view f.
 
 pub returns-in-Err-clause-made : goal.returns-in-Err-clause-made
 returns-in-Err-clause-made g c are_init =
-    makes_none grounds says g.D.Disk.told (g.D.Disk.view c.args.disk) _ _ none_where_blank _ (ap (λ f. f.status) c.beside.ensures.left)
+    let old : Outside = outside (g.D.Disk.view c.args.disk) (g.S.Source.left c.args.script.now) (g.S.Source.faults c.args.script.now) (g.K.Sink.taken c.args.out.now) (g.K.Sink.faults c.args.out.now) in
+    makes_none grounds says g.D.Disk.told _ old _ _ _ none_where_blank (ap (λ f. f.status) c.beside.ensures.left)
     (ap (λ f. g.D.Disk.view f.disk) c.beside.ensures.left) (ap (λ f. f.refused) c.beside.ensures.left)
 
 pub returns-in-Err-clause-said : goal.returns-in-Err-clause-said
 returns-in-Err-clause-said g c are_init = said_none _ _ (ap (λ f. f.status) c.beside.ensures.left)
+
+pub returns-in-Err-clause-listed : goal.returns-in-Err-clause-listed
+returns-in-Err-clause-listed g c are_log =
+    lists_none g.D.Disk.told (g.D.Disk.view c.args.disk) _ _ _ (ap (λ f. f.status) c.beside.ensures.left) (ap (λ f. g.D.Disk.view f.disk) c.beside.ensures.left)

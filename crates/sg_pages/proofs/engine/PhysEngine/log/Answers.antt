@@ -7,7 +7,7 @@ use Rattle.std.proofs.Common.{rules, ◌<◌, ◌+◌, ℕ, true, refl, sym, ap,
 use Rattle.sg_pages.specs.Parts.{parts}
 use Rattle.sg_log.specs.Frames.{LOG_END}
 use Rattle.sg_log.specs.Held.{place_of}
-use Rattle.sg_phys.proofs.Asked.{asked}
+use Rattle.sg_phys.proofs.Asked.{asked, formed_by}
 use Rattle.sg_phys.proofs.Seen.{grows_err, grows_ok, grows_stopped, hands_none, keeps_broken, keeps_record, logs_err, logs_ok, logs_refused, logs_stopped, no_change, none_made, some_broken, some_kept}
 use Rattle.sg_phys_laws.proofs.Numbers.{place_by, place_late}
 use Rattle.sg_record.specs.Shown.{by, shown}
@@ -42,13 +42,13 @@ pub invariant_of-self-in-Ok-clause-ends : goal.invariant_of-self-in-Ok-clause-en
 invariant_of-self-in-Ok-clause-ends g c = λ whole. c.max-self.ensures ∙ ap (λ (n : ℕ). max n 1) c.tail.ensures
 
 pub returns-in-Ok-clause-means : goal.returns-in-Ok-clause-means
-returns-in-Ok-clause-means g c = λ t from m. keeps_record (IsGiven g.D.Disk.told g.D.Presumed.presumed) (parts g.D.Disk.view c.args.self.now) (g.D.Disk.view c.log_without.new.engine.disk) c.log_without.new.engine.log c.log_without.new.engine.pool t from m (shown c.args.r.now) c.log_without.new.tried c.in-Ok.lsn (sym c.is_no_step.ensures ∙ c.if-is_no_step.false) (λ tells p. c.in-Ok.ensures.runs _ _ _ _ tells.0 (λ given. asked (IsGiven g.D.Disk.told g.D.Presumed.presumed) (parts g.D.Disk.view c.args.self.now) t given from ⊥ (shown c.args.r.now) c.if-self.false (λ no. absurd no) (c.requires.can t from m) m tells p)) (λ tells p. c.in-Ok.ensures.logs _ _ _ _ tells.0 (λ given. asked (IsGiven g.D.Disk.told g.D.Presumed.presumed) (parts g.D.Disk.view c.args.self.now) t given from ⊥ (shown c.args.r.now) c.if-self.false (λ no. absurd no) (c.requires.can t from m) m tells p))
+returns-in-Ok-clause-means g c = λ t from m. keeps_record (IsGiven g.D.Disk.told g.D.Presumed.presumed) (parts g.D.Disk.view c.args.self.now) (g.D.Disk.view c.log_without.new.engine.disk) c.log_without.new.engine.log c.log_without.new.engine.pool t from m (shown c.args.r.now) c.log_without.new.tried c.in-Ok.lsn (sym c.is_no_step.ensures ∙ c.if-is_no_step.false) (formed_by (IsGiven g.D.Disk.told g.D.Presumed.presumed) (parts g.D.Disk.view c.args.self.now) t ⊥ (shown c.args.r.now) c.log_without.new.tried c.if-self.false (c.requires.can t from m) (let e = c.args.self.now.ends c.if-self.false in let a = c.log_without.ensures.above in omega (arith, e, a)) (λ e. c.log_without.ensures.place (ap changed_by e) ∙ (place_by c.args.self.now.engine.log (shown c.args.r.now) ∙ ap (λ s. place_of c.args.self.now.engine.log (by 0 0 s)) e))) (λ tells p. c.in-Ok.ensures.runs _ _ _ _ tells.0 (λ given. asked (IsGiven g.D.Disk.told g.D.Presumed.presumed) (parts g.D.Disk.view c.args.self.now) t given from ⊥ (shown c.args.r.now) c.if-self.false (λ no. absurd no) (c.requires.can t from m) m tells p)) (λ tells p. c.in-Ok.ensures.logs _ _ _ _ tells.0 (λ given. asked (IsGiven g.D.Disk.told g.D.Presumed.presumed) (parts g.D.Disk.view c.args.self.now) t given from ⊥ (shown c.args.r.now) c.if-self.false (λ no. absurd no) (c.requires.can t from m) m tells p))
 
 pub invariant_of-self-in-Ok-clause-some : goal.invariant_of-self-in-Ok-clause-some
-invariant_of-self-in-Ok-clause-some g c = some_kept (IsGiven g.D.Disk.told g.D.Presumed.presumed) c.args.self.now.failed (g.D.Disk.view c.args.self.now.found.value) (g.D.Disk.view c.args.self.now.engine.disk) (g.D.Disk.view c.log_without.new.engine.disk) c.args.self.now.engine.log c.log_without.new.engine.log c.args.self.now.engine.pool c.log_without.new.engine.pool (λ t from m. keeps_record (IsGiven g.D.Disk.told g.D.Presumed.presumed) (parts g.D.Disk.view c.args.self.now) (g.D.Disk.view c.log_without.new.engine.disk) c.log_without.new.engine.log c.log_without.new.engine.pool t from m (shown c.args.r.now) c.log_without.new.tried c.in-Ok.lsn (sym c.is_no_step.ensures ∙ c.if-is_no_step.false) (λ tells p. c.in-Ok.ensures.runs _ _ _ _ tells.0 (λ given. asked (IsGiven g.D.Disk.told g.D.Presumed.presumed) (parts g.D.Disk.view c.args.self.now) t given from ⊥ (shown c.args.r.now) c.if-self.false (λ no. absurd no) (c.requires.can t from m) m tells p)) (λ tells p. c.in-Ok.ensures.logs _ _ _ _ tells.0 (λ given. asked (IsGiven g.D.Disk.told g.D.Presumed.presumed) (parts g.D.Disk.view c.args.self.now) t given from ⊥ (shown c.args.r.now) c.if-self.false (λ no. absurd no) (c.requires.can t from m) m tells p))) c.args.self.now.some
+invariant_of-self-in-Ok-clause-some g c = some_kept (IsGiven g.D.Disk.told g.D.Presumed.presumed) c.args.self.now.failed (g.D.Disk.view c.args.self.now.found.value) (g.D.Disk.view c.args.self.now.engine.disk) (g.D.Disk.view c.log_without.new.engine.disk) c.args.self.now.engine.log c.log_without.new.engine.log c.args.self.now.engine.pool c.log_without.new.engine.pool (λ t from m. keeps_record (IsGiven g.D.Disk.told g.D.Presumed.presumed) (parts g.D.Disk.view c.args.self.now) (g.D.Disk.view c.log_without.new.engine.disk) c.log_without.new.engine.log c.log_without.new.engine.pool t from m (shown c.args.r.now) c.log_without.new.tried c.in-Ok.lsn (sym c.is_no_step.ensures ∙ c.if-is_no_step.false) (formed_by (IsGiven g.D.Disk.told g.D.Presumed.presumed) (parts g.D.Disk.view c.args.self.now) t ⊥ (shown c.args.r.now) c.log_without.new.tried c.if-self.false (c.requires.can t from m) (let e = c.args.self.now.ends c.if-self.false in let a = c.log_without.ensures.above in omega (arith, e, a)) (λ e. c.log_without.ensures.place (ap changed_by e) ∙ (place_by c.args.self.now.engine.log (shown c.args.r.now) ∙ ap (λ s. place_of c.args.self.now.engine.log (by 0 0 s)) e))) (λ tells p. c.in-Ok.ensures.runs _ _ _ _ tells.0 (λ given. asked (IsGiven g.D.Disk.told g.D.Presumed.presumed) (parts g.D.Disk.view c.args.self.now) t given from ⊥ (shown c.args.r.now) c.if-self.false (λ no. absurd no) (c.requires.can t from m) m tells p)) (λ tells p. c.in-Ok.ensures.logs _ _ _ _ tells.0 (λ given. asked (IsGiven g.D.Disk.told g.D.Presumed.presumed) (parts g.D.Disk.view c.args.self.now) t given from ⊥ (shown c.args.r.now) c.if-self.false (λ no. absurd no) (c.requires.can t from m) m tells p))) c.args.self.now.some
 
 pub returns-in-Ok-clause-logs : goal.returns-in-Ok-clause-logs
-returns-in-Ok-clause-logs g c = λ t from m. logs_ok (IsGiven g.D.Disk.told g.D.Presumed.presumed) (parts g.D.Disk.view c.args.self.now) (g.D.Disk.view c.log_without.new.engine.disk) c.log_without.new.engine.log c.log_without.new.engine.pool t from m (shown c.args.r.now) c.log_without.new.tried c.in-Ok.lsn c.max-self.result _ _ c.in-Ok.ensures.number (let e = c.args.self.now.ends c.if-self.false in let a = c.log_without.ensures.above in omega (arith, e, a)) (sym c.is_no_step.ensures ∙ c.if-is_no_step.false) (λ tells p. c.in-Ok.ensures.runs _ _ _ _ tells.0 (λ given. asked (IsGiven g.D.Disk.told g.D.Presumed.presumed) (parts g.D.Disk.view c.args.self.now) t given from ⊥ (shown c.args.r.now) c.if-self.false (λ no. absurd no) (c.requires.can t from m) m tells p)) (λ tells p. c.in-Ok.ensures.logs _ _ _ _ tells.0 (λ given. asked (IsGiven g.D.Disk.told g.D.Presumed.presumed) (parts g.D.Disk.view c.args.self.now) t given from ⊥ (shown c.args.r.now) c.if-self.false (λ no. absurd no) (c.requires.can t from m) m tells p))
+returns-in-Ok-clause-logs g c = λ t from m. logs_ok (IsGiven g.D.Disk.told g.D.Presumed.presumed) (parts g.D.Disk.view c.args.self.now) (g.D.Disk.view c.log_without.new.engine.disk) c.log_without.new.engine.log c.log_without.new.engine.pool t from m (shown c.args.r.now) c.log_without.new.tried c.in-Ok.lsn c.max-self.result _ _ c.in-Ok.ensures.number (let e = c.args.self.now.ends c.if-self.false in let a = c.log_without.ensures.above in omega (arith, e, a)) (sym c.is_no_step.ensures ∙ c.if-is_no_step.false) (formed_by (IsGiven g.D.Disk.told g.D.Presumed.presumed) (parts g.D.Disk.view c.args.self.now) t ⊥ (shown c.args.r.now) c.log_without.new.tried c.if-self.false (c.requires.can t from m) (let e = c.args.self.now.ends c.if-self.false in let a = c.log_without.ensures.above in omega (arith, e, a)) (λ e. c.log_without.ensures.place (ap changed_by e) ∙ (place_by c.args.self.now.engine.log (shown c.args.r.now) ∙ ap (λ s. place_of c.args.self.now.engine.log (by 0 0 s)) e))) (λ tells p. c.in-Ok.ensures.runs _ _ _ _ tells.0 (λ given. asked (IsGiven g.D.Disk.told g.D.Presumed.presumed) (parts g.D.Disk.view c.args.self.now) t given from ⊥ (shown c.args.r.now) c.if-self.false (λ no. absurd no) (c.requires.can t from m) m tells p)) (λ tells p. c.in-Ok.ensures.logs _ _ _ _ tells.0 (λ given. asked (IsGiven g.D.Disk.told g.D.Presumed.presumed) (parts g.D.Disk.view c.args.self.now) t given from ⊥ (shown c.args.r.now) c.if-self.false (λ no. absurd no) (c.requires.can t from m) m tells p))
 
 pub returns-in-Ok-clause-grows : goal.returns-in-Ok-clause-grows
 returns-in-Ok-clause-grows g c = grows_ok (IsGiven g.D.Disk.told g.D.Presumed.presumed) (parts g.D.Disk.view c.args.self.now) (g.D.Disk.view c.log_without.new.engine.disk) c.log_without.new.engine.log c.log_without.new.engine.pool c.in-Ok.lsn (shown c.args.r.now) c.in-Ok.lsn c.max-self.result _ c.log_without.new.tried _ (c.args.self.now.gates c.if-self.false) c.durable-self.ensures c.in-Ok.ensures.counts c.if-self.false c.in-Ok.ensures.number (let e = c.args.self.now.ends c.if-self.false in let a = c.log_without.ensures.above in omega (arith, e, a)) (let b = c.in-Ok.ensures.below in let n = c.max-self.ensures ∙ ap (λ (k : ℕ). max k 1) c.tail.ensures in omega (arith, b, n)) (let e = c.args.self.now.ends c.if-self.false in let n = c.max-self.ensures ∙ ap (λ (k : ℕ). max k 1) c.tail.ensures in let h = c.in-Ok.ensures.grown in omega (arith, e, n, h)) refl c.in-Ok.ensures.within
@@ -57,7 +57,7 @@ pub returns-in-Err-clause-grows : goal.returns-in-Err-clause-grows
 returns-in-Err-clause-grows g c = grows_err (IsGiven g.D.Disk.told g.D.Presumed.presumed) (parts g.D.Disk.view c.args.self.now) (g.D.Disk.view c.log_without.new.engine.disk) c.log_without.new.engine.log c.log_without.new.engine.pool (shown c.args.r.now) c.in-Err.fault _ c.log_without.new.tried _ _ c.space_fault.ensures c.is_log_end-self.ensures (not_full c.args.self.now.full c.args.self.now.failed c.args.self.now.ended c.if-self.false) c.if-self.false (let b = c.saturating_add-self-in-Err.ensures in search rules) (let b = c.saturating_add-self-in-Err.ensures in search rules) (λ e. let n = c.args.self.now.ends c.if-self.false in let k = c.log_without.ensures.near (c.in-Err.is ∙ ap Err e) in omega (arith, n, k)) (λ e. c.log_without.ensures.past (c.in-Err.is ∙ ap Err e)) c.in-Err.ensures.counts (λ e tell. failed_for (IsGiven g.D.Disk.told g.D.Presumed.presumed) (parts g.D.Disk.view c.args.self.now) c.args.self.now.some g.D.Disk.told (g.D.Disk.view c.log_without.new.engine.disk) (shown c.args.r.now) c.log_without.result (λ given. given.0) c.log_without.ensures.failed (λ t from m. can_lie (IsGiven g.D.Disk.told g.D.Presumed.presumed) (parts g.D.Disk.view c.args.self.now) t ⊥ (shown c.args.r.now) (c.requires.can t from m) tell) (c.in-Err.is ∙ ap Err e) tell)
 
 pub returns-in-Err-clause-logs : goal.returns-in-Err-clause-logs
-returns-in-Err-clause-logs g c = λ t from m. logs_err (IsGiven g.D.Disk.told g.D.Presumed.presumed) (parts g.D.Disk.view c.args.self.now) (g.D.Disk.view c.log_without.new.engine.disk) c.log_without.new.engine.log c.log_without.new.engine.pool t from m (shown c.args.r.now) c.log_without.new.tried _ c.log_without.result _ _ (let e = c.args.self.now.ends c.if-self.false in let a = c.log_without.ensures.above in omega (arith, e, a)) (sym c.is_no_step.ensures ∙ c.if-is_no_step.false) (λ tells p. c.log_without.ensures.runs _ _ _ _ tells.0 (λ given. asked (IsGiven g.D.Disk.told g.D.Presumed.presumed) (parts g.D.Disk.view c.args.self.now) t given from ⊥ (shown c.args.r.now) c.if-self.false (λ no. absurd no) (c.requires.can t from m) m tells p))
+returns-in-Err-clause-logs g c = λ t from m. logs_err (IsGiven g.D.Disk.told g.D.Presumed.presumed) (parts g.D.Disk.view c.args.self.now) (g.D.Disk.view c.log_without.new.engine.disk) c.log_without.new.engine.log c.log_without.new.engine.pool t from m (shown c.args.r.now) c.log_without.new.tried _ c.log_without.result _ _ (let e = c.args.self.now.ends c.if-self.false in let a = c.log_without.ensures.above in omega (arith, e, a)) (sym c.is_no_step.ensures ∙ c.if-is_no_step.false) (formed_by (IsGiven g.D.Disk.told g.D.Presumed.presumed) (parts g.D.Disk.view c.args.self.now) t ⊥ (shown c.args.r.now) c.log_without.new.tried c.if-self.false (c.requires.can t from m) (let e = c.args.self.now.ends c.if-self.false in let a = c.log_without.ensures.above in omega (arith, e, a)) (λ e. c.log_without.ensures.place (ap changed_by e) ∙ (place_by c.args.self.now.engine.log (shown c.args.r.now) ∙ ap (λ s. place_of c.args.self.now.engine.log (by 0 0 s)) e))) (λ tells p. c.log_without.ensures.runs _ _ _ _ tells.0 (λ given. asked (IsGiven g.D.Disk.told g.D.Presumed.presumed) (parts g.D.Disk.view c.args.self.now) t given from ⊥ (shown c.args.r.now) c.if-self.false (λ no. absurd no) (c.requires.can t from m) m tells p))
 
 pub returns-in-Err-clause-means : goal.returns-in-Err-clause-means
 returns-in-Err-clause-means g c = λ t from m. keeps_broken (IsGiven g.D.Disk.told g.D.Presumed.presumed) (parts g.D.Disk.view c.args.self.now) (g.D.Disk.view c.log_without.new.engine.disk) c.log_without.new.engine.log c.log_without.new.engine.pool t from m

@@ -14,7 +14,7 @@ use Rattle.sg_store.proofs.Heeding as heeding
 use Rattle.sg_session.proofs.Steps as steps
 use Rattle.sg_session.proofs.Answering as answering
 use Rattle.sg_session.specs.Lines.{line_of}
-use Rattle.sg_session.specs.Lines.Line.{Flush, Other}
+use Rattle.sg_session.specs.Lines.Line.{OfStore, Other}
 use Rattle.sg_session.proofs.Causing as causing
 use Rattle.sg_session.proofs.session.Session.execute.Goals as goal
 
@@ -23,20 +23,20 @@ returns-in-Blank-clause-goes g c z from m told x lawful shows =
     answering.goes_line _ (g.E.Engine.basis z) lawful (led _ z from (g.E.Engine.view c.args.self.now.store.engine)) x _ _ _ _ _ (answering.is_blank c.args.text.now (sym c.in-Blank.ensures.asked))
     (steps.silent _ (g.E.Engine.basis z) (led _ z from (g.E.Engine.view c.args.self.now.store.engine)) x (session_core c.args.self.now) shows)
 
-pub returns-then-not-is_flush-clause-goes : goal.returns-then-not-is_flush-clause-goes
-returns-then-not-is_flush-clause-goes g c z from m told x lawful shows =
-    answering.goes_line _ (g.E.Engine.basis z) lawful (led _ z from (g.E.Engine.view c.args.self.now.store.engine)) x _ _ _ _ _ (answering.line_is c.args.text.now Wrong _ (sym c.in-Wrong.ensures.asked) (sym c.is_flush.ensures ∙ c.if-not-is_flush.true))
+pub returns-in_default-clause-goes : goal.returns-in_default-clause-goes
+returns-in_default-clause-goes g c z from m told x lawful shows =
+    answering.goes_line _ (g.E.Engine.basis z) lawful (led _ z from (g.E.Engine.view c.args.self.now.store.engine)) x _ _ _ _ _ (answering.line_is c.args.text.now Wrong _ (sym c.in-Wrong.ensures.asked) (sym c.in_default.ensures))
     (steps.bad_syntax _ (g.E.Engine.basis z) (led _ z from (g.E.Engine.view c.args.self.now.store.engine)) x (session_core c.args.self.now) shows)
 
 pub returns-then-is_some-clause-goes : goal.returns-then-is_some-clause-goes
 returns-then-is_some-clause-goes g c z from m told x lawful shows =
-    answering.goes_line _ (g.E.Engine.basis z) lawful (led _ z from (g.E.Engine.view c.args.self.now.store.engine)) x _ _ _ _ _ (answering.line_is c.args.text.now Wrong _ (sym c.in-Wrong.ensures.asked) (sym c.is_flush.ensures ∙ c.if-not-is_flush.false))
-    (steps.flush_stopped _ (g.E.Engine.basis z) (led _ z from (g.E.Engine.view c.args.self.now.store.engine)) x (session_core c.args.self.now) shows (ap is_some (sym c.stop.ensures) ∙ (sym c.is_some.ensures ∙ c.if-is_some.true)))
+    answering.goes_line _ (g.E.Engine.basis z) lawful (led _ z from (g.E.Engine.view c.args.self.now.store.engine)) x _ _ _ _ _ (answering.line_is c.args.text.now Wrong _ (sym c.in-Wrong.ensures.asked) (sym c.in-Some.ensures))
+    (steps.upkeep_stopped _ (g.E.Engine.basis z) (led _ z from (g.E.Engine.view c.args.self.now.store.engine)) x (session_core c.args.self.now) shows c.in-Some.upkeep (ap is_some (sym c.stop.ensures) ∙ (sym c.is_some.ensures ∙ c.if-is_some.true)))
 
 pub returns-else-is_some-clause-goes : goal.returns-else-is_some-clause-goes
 returns-else-is_some-clause-goes g c z from m told x lawful shows =
-    answering.goes_line _ (g.E.Engine.basis z) lawful (led _ z from (g.E.Engine.view c.args.self.now.store.engine)) x _ _ _ _ _ (answering.line_is c.args.text.now Wrong _ (sym c.in-Wrong.ensures.asked) (sym c.is_flush.ensures ∙ c.if-not-is_flush.false))
-    (c.flush.ensures.goes c.args.into.now _ z from m told x lawful shows)
+    answering.goes_line _ (g.E.Engine.basis z) lawful (led _ z from (g.E.Engine.view c.args.self.now.store.engine)) x _ _ _ _ _ (answering.line_is c.args.text.now Wrong _ (sym c.in-Wrong.ensures.asked) (sym c.in-Some.ensures))
+    (c.keep_up.ensures.goes c.args.into.now _ z from m told x lawful shows)
 
 pub returns-then-is_some-2-clause-goes : goal.returns-then-is_some-2-clause-goes
 returns-then-is_some-2-clause-goes g c z from m told x lawful shows =
@@ -76,11 +76,11 @@ returns-in-List-clause-goes g c z from m told x lawful shows =
 pub returns-in-Blank-clause-still : goal.returns-in-Blank-clause-still
 returns-in-Blank-clause-still g c some = ap when_stopped (answering.is_blank c.args.text.now (sym c.in-Blank.ensures.asked))
 
-pub returns-then-not-is_flush-clause-still : goal.returns-then-not-is_flush-clause-still
-returns-then-not-is_flush-clause-still g c some = ap when_stopped (answering.line_is c.args.text.now Wrong _ (sym c.in-Wrong.ensures.asked) (sym c.is_flush.ensures ∙ c.if-not-is_flush.true))
+pub returns-in_default-clause-still : goal.returns-in_default-clause-still
+returns-in_default-clause-still g c some = ap when_stopped (answering.line_is c.args.text.now Wrong _ (sym c.in-Wrong.ensures.asked) (sym c.in_default.ensures))
 
 pub returns-then-is_some-clause-still : goal.returns-then-is_some-clause-still
-returns-then-is_some-clause-still g c some = ap when_stopped (answering.line_is c.args.text.now Wrong _ (sym c.in-Wrong.ensures.asked) (sym c.is_flush.ensures ∙ c.if-not-is_flush.false))
+returns-then-is_some-clause-still g c some = ap when_stopped (answering.line_is c.args.text.now Wrong _ (sym c.in-Wrong.ensures.asked) (sym c.in-Some.ensures))
 
 pub returns-then-is_some-2-clause-still : goal.returns-then-is_some-2-clause-still
 returns-then-is_some-2-clause-still g c some = ap when_stopped (answering.is_of c.args.text.now c.in-Of.name _ (sym c.in-Of.ensures.asked))
@@ -110,17 +110,17 @@ pub returns-in-Blank-clause-caused : goal.returns-in-Blank-clause-caused
 returns-in-Blank-clause-caused g c = causing.at_line _ _ c.args.self.now.store.stop _ (Other Blank) (line_of c.args.text.now) _ (answering.is_blank c.args.text.now (sym c.in-Blank.ensures.asked))
     (causing.well _ _ c.args.self.now.store.stop _ (Other Blank) _ refl refl)
 
-pub returns-then-not-is_flush-clause-caused : goal.returns-then-not-is_flush-clause-caused
-returns-then-not-is_flush-clause-caused g c = causing.at_line _ _ c.args.self.now.store.stop _ (Other Wrong) (line_of c.args.text.now) _ (answering.line_is c.args.text.now Wrong _ (sym c.in-Wrong.ensures.asked) (sym c.is_flush.ensures ∙ c.if-not-is_flush.true))
+pub returns-in_default-clause-caused : goal.returns-in_default-clause-caused
+returns-in_default-clause-caused g c = causing.at_line _ _ c.args.self.now.store.stop _ (Other Wrong) (line_of c.args.text.now) _ (answering.line_is c.args.text.now Wrong _ (sym c.in-Wrong.ensures.asked) (sym c.in_default.ensures))
     (causing.well _ _ c.args.self.now.store.stop _ (Other Wrong) _ refl refl)
 
 pub returns-then-is_some-clause-caused : goal.returns-then-is_some-clause-caused
-returns-then-is_some-clause-caused g c = causing.at_line _ _ c.args.self.now.store.stop _ Flush (line_of c.args.text.now) _ (answering.line_is c.args.text.now Wrong _ (sym c.in-Wrong.ensures.asked) (sym c.is_flush.ensures ∙ c.if-not-is_flush.false))
-    (causing.well _ _ c.args.self.now.store.stop _ Flush _ refl refl)
+returns-then-is_some-clause-caused g c = causing.at_line _ _ c.args.self.now.store.stop _ (OfStore c.in-Some.upkeep) (line_of c.args.text.now) _ (answering.line_is c.args.text.now Wrong _ (sym c.in-Wrong.ensures.asked) (sym c.in-Some.ensures))
+    (causing.well _ _ c.args.self.now.store.stop _ (OfStore c.in-Some.upkeep) _ refl refl)
 
 pub returns-else-is_some-clause-caused : goal.returns-else-is_some-clause-caused
-returns-else-is_some-clause-caused g c = causing.at_line _ _ c.args.self.now.store.stop _ Flush (line_of c.args.text.now) _ (answering.line_is c.args.text.now Wrong _ (sym c.in-Wrong.ensures.asked) (sym c.is_flush.ensures ∙ c.if-not-is_flush.false))
-    (c.flush.ensures.caused c.args.into.now)
+returns-else-is_some-clause-caused g c = causing.at_line _ _ c.args.self.now.store.stop _ (OfStore c.in-Some.upkeep) (line_of c.args.text.now) _ (answering.line_is c.args.text.now Wrong _ (sym c.in-Wrong.ensures.asked) (sym c.in-Some.ensures))
+    (c.keep_up.ensures.caused c.args.into.now)
 
 pub returns-then-is_some-2-clause-caused : goal.returns-then-is_some-2-clause-caused
 returns-then-is_some-2-clause-caused g c =

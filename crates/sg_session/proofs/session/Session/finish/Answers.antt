@@ -1,4 +1,4 @@
-use Rattle.std.proofs.Common.{inl, inr, sym, ap, ◌∙◌, refl, arith}
+use Rattle.std.proofs.Common.{inr, ⊎_elim, sym, ap, ◌∙◌, refl, arith}
 use Rattle.std.specs.Prelude.{is_some}
 use Rattle.sg_store.specs.Engine.{led}
 use Rattle.sg_store.proofs.Heeding as heeding
@@ -38,9 +38,8 @@ pub returns-clause-stopped : goal.returns-clause-stopped
 returns-clause-stopped g c some = heeding.not_stopped c.args.self.store.stop (ap is_some (sym c.stop.ensures) ∙ (sym c.is_some.ensures ∙ c.if-is_some.false)) some
 
 pub returns-then-is_some-clause-full : goal.returns-then-is_some-clause-full
-returns-then-is_some-clause-full g c e = inl (c.close.ensures.full e)
+returns-then-is_some-clause-full g c e = c.close.ensures.full e
 
 pub returns-clause-full : goal.returns-clause-full
 returns-clause-full g c e =
-    let at_end = c.abort_all.ensures.full (c.close-2.ensures.full e) in
-    inr (omega (arith, at_end, c.close-2.ensures.heeds.tail))
+    inr (⊎_elim (λ was. (let at_end = c.abort_all.ensures.full was in omega (arith, at_end, c.close-2.ensures.heeds.tail))) (λ at_end. at_end) (c.close-2.ensures.full e))

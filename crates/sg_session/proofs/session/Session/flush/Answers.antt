@@ -5,7 +5,8 @@ use Rattle.sg_session.proofs.Serves.{store_serves}
 use Rattle.sg_words.specs.Answered.{shown_answer}
 use Rattle.sg_store.specs.Seen.{core_of}
 use Rattle.sg_store.specs.Store.{Core}
-use Rattle.sg_session.specs.Lines.Line.{Flush}
+use Rattle.sg_session.specs.Lines.Line.{OfStore}
+use Rattle.sg_words.specs.declared.upkeep.Upkeep.TheVariants as upkeeps
 use Rattle.sg_session.specs.Causes.{trouble_of}
 use Rattle.sg_session.proofs.Causing as causing
 use Rattle.std.proofs.Common.{refl, ap}
@@ -25,9 +26,9 @@ pub flush-requires : goal.flush-requires
 flush-requires g c = let s = c.requires.serves in record { serves = (s.0, store_serves s.0 (g.E.Engine.view c.args.self.now.store.engine) (session_core c.args.self.now) s.1) }
 
 pub returns-in-Ok-clause-caused : goal.returns-in-Ok-clause-caused
-returns-in-Ok-clause-caused g c into = causing.well _ _ c.args.self.now.store.stop _ Flush _ refl (ap (λ (k : Core). k.stopped) c.in-Ok.ensures.causes.1)
+returns-in-Ok-clause-caused g c into = causing.well _ _ c.args.self.now.store.stop _ (OfStore upkeeps.Flush) _ refl (ap (λ (k : Core). k.stopped) c.in-Ok.ensures.causes.1)
 
 pub returns-in-Err-clause-caused : goal.returns-in-Err-clause-caused
 returns-in-Err-clause-caused g c into =
-    causing.by_trouble (g.E.Engine.view c.args.self.now.store.engine) (g.E.Engine.view c.flush.new.self.engine) c.args.self.now.store.stop c.flush.new.self.stop Flush (shown_answer into c.answer_to.result) (trouble_of c.in-Err.why) (c.answer_to.ensures.trouble into) c.requires.running c.flush.ensures.heeds
+    causing.by_trouble (g.E.Engine.view c.args.self.now.store.engine) (g.E.Engine.view c.flush.new.self.engine) c.args.self.now.store.stop c.flush.new.self.stop (OfStore upkeeps.Flush) (shown_answer into c.answer_to.result) (trouble_of c.in-Err.why) (c.answer_to.ensures.trouble into) c.requires.running c.flush.ensures.heeds
     (causing.flush_refused (g.E.Engine.view c.args.self.now.store.engine) (g.E.Engine.view c.flush.new.self.engine) (core_of c.args.self.now.store) (core_of c.flush.new.self) c.in-Err.why c.in-Err.ensures.causes)

@@ -22,6 +22,9 @@ use Rattle.sg_store.proofs.Causing as causing
 use Rattle.sg_base.specs.Ends.{HasRisen}
 use Rattle.sg_store.proofs.Heeding as heeding
 use Rattle.sg_store.proofs.Accounting as accounting
+use Rattle.sg_room.specs.Steps.{backed}
+use Rattle.sg_store.specs.Room.{is_of, ShowsStock}
+use Rattle.sg_store.proofs.Stocked.{end_stock}
 use Rattle.sg_store.proofs.store.Store.abort.Goals as goal
 
 pub returns-then-is_some-clause-aborts : goal.returns-then-is_some-clause-aborts
@@ -57,6 +60,21 @@ returns-in-Ok-end-clause-aborts g c z from m told x lawful shows =
     (c.in-Ok-end.ensures.ends t z from (c.undo_all.ensures.means z from m) (c.in-Ok.ensures.tells told) done.undoing.engine done.undoing.idle) in
     aborts.along_done _ (g.E.Engine.basis z) lawful (led t z from (g.E.Engine.view c.args.self.now.engine)) (core_of c.args.self.now) x c.args.txn.0 shows (sym c.is_some.ensures ∙ c.if-is_some.false) (sym c.is_live.ensures ∙ c.if-not-is_live.false) (led t z from (g.E.Engine.view c.undo_all.new.self.engine)) done stays (led t z from (g.E.Engine.view c.end.new.self)) (led t z from (g.E.Engine.view c.forget.new.self.engine)) (ap (λ e. led t z from (g.E.Engine.view e)) (sym c.forget.ensures.engine)) b.0 b.1 b.2 b.3 (core_of c.forget.new.self)
     (c.forget.ensures.core ∙ ap (λ (k : Core). record k { live = without c.args.txn.0 k.live; held = released c.args.txn.0 k.held }) c.undo_all.ensures.core))
+
+pub returns-in-Ok-end-clause-stock : goal.returns-in-Ok-end-clause-stock
+returns-in-Ok-end-clause-stock g c z from m told x lawful shows r shown =
+    let t = table_of (λ y. (given.RecordOp-dyn g y).record_meaning y.1) (λ y. (given.RangeOp-dyn g y).range_meaning y.1) c.args.ops.now in
+    let kept = (aborts.runs _ (g.E.Engine.basis z) lawful (led t z from (g.E.Engine.view c.args.self.now.engine)) (core_of c.args.self.now) x c.args.txn.0 shows (sym c.is_some.ensures ∙ c.if-is_some.false)).is_kept in
+    let live = aborts.live _ (g.E.Engine.basis z) lawful (led t z from (g.E.Engine.view c.args.self.now.engine)) (core_of c.args.self.now) x c.args.txn.0 shows (sym c.is_some.ensures ∙ c.if-is_some.false) (sym c.is_live.ensures ∙ c.if-not-is_live.false) in
+    let done = c.in-Ok.ensures.undone z from m told x lawful kept live in
+    let y = led t z from (g.E.Engine.view c.undo_all.new.self.engine) in
+    let w = led t z from (g.E.Engine.view c.end.new.self) in
+    let u = c.args.txn.0 in
+    let b = ends_live t (g.E.Engine.basis z) y w u (λ l p. Appended t (g.E.Engine.basis z) y w (record { lsn = l; is = End u p })) (Rested t (g.E.Engine.basis z) y w) (done.undoing.undoes.same.lives u ∙ live)
+    (c.in-Ok-end.ensures.ends t z from (c.undo_all.ensures.means z from m) (c.in-Ok.ensures.tells told) done.undoing.engine done.undoing.idle) in
+    subst (λ y. ShowsStock t (g.E.Engine.basis z) y (backed (is_of u) r)) (ap (λ e. led t z from (g.E.Engine.view e)) (sym c.forget.ensures.engine))
+    (end_stock t (g.E.Engine.basis z) (led t z from (g.E.Engine.view c.args.self.now.engine)) y w u b.0 b.1
+    (c.in-Ok.ensures.stock z from m told x lawful kept live) done.none b.3 r shown)
 
 pub returns-in-Err-end-clause-aborts : goal.returns-in-Err-end-clause-aborts
 returns-in-Err-end-clause-aborts g c z from m told x lawful shows =

@@ -81,6 +81,7 @@ returns-then-is_empty-clause-acts g c z from m told x lawful room granted =
           (acting.noted_none _ (g.E.Engine.basis z) (acting.begun _ (g.E.Engine.basis z) lawful (led t z from (g.E.Engine.view c.args.self.now.engine)) c.args.self.now.txns x c.args.txn.0 (said_op c.args.op.now) c.args.needs room granted) (led t z from (g.E.Engine.view c.act.new.self)) (led t z from (g.E.Engine.view c.perform.new.self)) (acting.room_then _ (g.E.Engine.basis z) lawful (led t z from (g.E.Engine.view c.args.self.now.engine)) c.args.self.now.txns x c.args.txn.0 (said_op c.args.op.now) c.args.needs room granted (led t z from (g.E.Engine.view c.act.new.self)) p).reading (said_op c.args.op.now) c.perform.new.note (nil_of (sym (ap (λ n. length n == 0) c.bytes.ensures) ∙ (sym c.is_empty.ensures ∙ c.if-is_empty.true))) b.1.1.noted),
       acting.said_so _ (g.E.Engine.basis z) lawful (led t z from (g.E.Engine.view c.args.self.now.engine)) c.args.self.now.txns x c.args.txn.0 (said_op c.args.op.now) c.args.needs room granted (led t z from (g.E.Engine.view c.act.new.self)) p (led t z from (g.E.Engine.view c.perform.new.self)) b.0 _ b.1.1.said,
       refl,
+      acting.looked_stock _ (g.E.Engine.basis z) lawful (led t z from (g.E.Engine.view c.args.self.now.engine)) c.args.self.now.txns x c.args.txn.0 (said_op c.args.op.now) c.args.needs room granted (led t z from (g.E.Engine.view c.act.new.self)) p (led t z from (g.E.Engine.view c.perform.new.self)) b.0 b.1.0 (acting.noted_none _ (g.E.Engine.basis z) (acting.begun _ (g.E.Engine.basis z) lawful (led t z from (g.E.Engine.view c.args.self.now.engine)) c.args.self.now.txns x c.args.txn.0 (said_op c.args.op.now) c.args.needs room granted) (led t z from (g.E.Engine.view c.act.new.self)) (led t z from (g.E.Engine.view c.perform.new.self)) (acting.room_then _ (g.E.Engine.basis z) lawful (led t z from (g.E.Engine.view c.args.self.now.engine)) c.args.self.now.txns x c.args.txn.0 (said_op c.args.op.now) c.args.needs room granted (led t z from (g.E.Engine.view c.act.new.self)) p).reading (said_op c.args.op.now) c.perform.new.note (nil_of (sym (ap (λ n. length n == 0) c.bytes.ensures) ∙ (sym c.is_empty.ensures ∙ c.if-is_empty.true))) b.1.1.noted),
     )
 
 pub returns-in-Err-clause-stays : goal.returns-in-Err-clause-stays
@@ -124,6 +125,7 @@ returns-then-reserves-clause-acts g c z from m told x lawful room granted =
       acting.end_kept _ (g.E.Engine.basis z) lawful (led t z from (g.E.Engine.view c.args.self.now.engine)) c.args.self.now.txns x c.args.txn.0 (said_op c.args.op.now) c.args.needs room granted (led t z from (g.E.Engine.view c.act.new.self)) p (led t z from (g.E.Engine.view c.perform.new.self)) b.0 b.1.0 c.perform.new.note n (led t z from (g.E.Engine.view c.end_action.new.self)) e.0 e.1 e.2 e.3 c.reserve.new.self (inl ((both_of (sym c.reserves.ensures ∙ c.if-reserves.true)).0, c.reserve.ensures ∙ ap (reserving c.args.txn.0) c.mark.ensures.txns)) e.4,
       acting.said_so _ (g.E.Engine.basis z) lawful (led t z from (g.E.Engine.view c.args.self.now.engine)) c.args.self.now.txns x c.args.txn.0 (said_op c.args.op.now) c.args.needs room granted (led t z from (g.E.Engine.view c.act.new.self)) p (led t z from (g.E.Engine.view c.perform.new.self)) b.0 _ b.1.1.said,
       refl,
+      acting.end_stock _ (g.E.Engine.basis z) lawful (led t z from (g.E.Engine.view c.args.self.now.engine)) c.args.self.now.txns x c.args.txn.0 (said_op c.args.op.now) c.args.needs room granted (led t z from (g.E.Engine.view c.act.new.self)) p (led t z from (g.E.Engine.view c.perform.new.self)) b.0 b.1.0 c.perform.new.note n (led t z from (g.E.Engine.view c.end_action.new.self)) e.0 e.1 e.2 e.3 e.4,
     )
 
 pub returns-else-reserves-clause-acts : goal.returns-else-reserves-clause-acts
@@ -137,6 +139,7 @@ returns-else-reserves-clause-acts g c z from m told x lawful room granted =
       acting.end_kept _ (g.E.Engine.basis z) lawful (led t z from (g.E.Engine.view c.args.self.now.engine)) c.args.self.now.txns x c.args.txn.0 (said_op c.args.op.now) c.args.needs room granted (led t z from (g.E.Engine.view c.act.new.self)) p (led t z from (g.E.Engine.view c.perform.new.self)) b.0 b.1.0 c.perform.new.note n (led t z from (g.E.Engine.view c.end_action.new.self)) e.0 e.1 e.2 e.3 c.mark.new.txns (inr (none_of c.args.needs.reserve c.args.needs.pages least (sym c.reserves.ensures ∙ c.if-reserves.false), c.mark.ensures.txns)) e.4,
       acting.said_so _ (g.E.Engine.basis z) lawful (led t z from (g.E.Engine.view c.args.self.now.engine)) c.args.self.now.txns x c.args.txn.0 (said_op c.args.op.now) c.args.needs room granted (led t z from (g.E.Engine.view c.act.new.self)) p (led t z from (g.E.Engine.view c.perform.new.self)) b.0 _ b.1.1.said,
       refl,
+      acting.end_stock _ (g.E.Engine.basis z) lawful (led t z from (g.E.Engine.view c.args.self.now.engine)) c.args.self.now.txns x c.args.txn.0 (said_op c.args.op.now) c.args.needs room granted (led t z from (g.E.Engine.view c.act.new.self)) p (led t z from (g.E.Engine.view c.perform.new.self)) b.0 b.1.0 c.perform.new.note n (led t z from (g.E.Engine.view c.end_action.new.self)) e.0 e.1 e.2 e.3 e.4,
     )
 
 pub invariant_of-self-then-reserves : goal.invariant_of-self-then-reserves

@@ -13,6 +13,9 @@ use Rattle.sg_store.proofs.Causing as causing
 use Rattle.sg_base.specs.Ends.{HasRisen}
 use Rattle.sg_store.proofs.Ending.{near_at}
 use Rattle.sg_store.proofs.Heeding as heeding
+use Rattle.sg_store.proofs.Heeding.{stop_at_behind}
+use Rattle.sg_store.specs.declared.fault.Refused.{Refused}
+use Rattle.sg_store.specs.Stops.{stop_behind}
 use Rattle.sg_store.proofs.Accounting as accounting
 use Rattle.sg_store.proofs.store.Store.checkpoint.Goals as goal
 
@@ -101,3 +104,15 @@ pub returns-in-Err-clause-heeds : goal.returns-in-Err-clause-heeds
 returns-in-Err-clause-heeds g c =
     heeding.heeds_halt (g.E.Engine.view) c.args.self.now.stop c.halt.new.self.stop c.in-Err.fault (g.E.Engine.view c.args.self.now.engine) c.checkpoint.new.self c.halt.new.self.engine c.halt.ensures.engine (ap (λ (k : Core). k.stopped) c.halt.ensures.core) (causing.none_of _ (sym c.is_some.ensures ∙ c.if-is_some.false))
     c.checkpoint.ensures.counts.later c.checkpoint.ensures.counts.tail c.in-Err.ensures.counts.failed c.in-Err.ensures.counts.accounts
+
+pub returns-in-Err-clause-stop : goal.returns-in-Err-clause-stop
+returns-in-Err-clause-stop g c = ap (λ (k : Core). k.stopped) c.halt.ensures.core ∙ (stop_at_behind c.args.self.now.stop c.in-Err.fault ∙ ap (λ (r : Refused). stop_behind c.args.self.now.stop (Err r)) (sym c.halt.ensures.answer))
+
+pub returns-then-is_some-clause-stopped : goal.returns-then-is_some-clause-stopped
+returns-then-is_some-clause-stopped g c some = (refl, refl)
+
+pub returns-in-Ok-clause-stopped : goal.returns-in-Ok-clause-stopped
+returns-in-Ok-clause-stopped g c some = heeding.not_stopped c.args.self.now.stop (sym c.is_some.ensures ∙ c.if-is_some.false) some
+
+pub returns-in-Err-clause-stopped : goal.returns-in-Err-clause-stopped
+returns-in-Err-clause-stopped g c some = heeding.not_stopped c.args.self.now.stop (sym c.is_some.ensures ∙ c.if-is_some.false) some

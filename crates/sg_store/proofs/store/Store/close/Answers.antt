@@ -2,7 +2,7 @@ use Rattle.sg_store.specs.Seen.{core_of}
 use Rattle.sg_store.proofs.store.Store.close.Goals as goal
 
 pub returns-clause-closes : goal.returns-clause-closes
-returns-clause-closes g c t z from m told x lawful shows = (core_of c.flush-done.new.self, c.flush-done.ensures.flushes t z from m told x lawful shows)
+returns-clause-closes g c t z from m told x lawful shows = (core_of c.settle-done.new.self, c.settle-done.ensures.closes t z from m told x lawful shows)
 
 pub returns-clause-causes : goal.returns-clause-causes
-returns-clause-causes g c = (core_of c.flush-done.new.self, c.flush-done.ensures.causes)
+returns-clause-causes g c = (core_of c.settle-done.new.self, c.settle-done.ensures.causes)

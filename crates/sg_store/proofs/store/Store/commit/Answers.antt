@@ -22,6 +22,9 @@ use Rattle.sg_store.proofs.Causing as causing
 use Rattle.sg_base.specs.Ends.{HasRisen}
 use Rattle.sg_store.proofs.Heeding as heeding
 use Rattle.sg_store.proofs.Accounting as accounting
+use Rattle.sg_room.specs.Lines.{committed}
+use Rattle.sg_store.specs.Room.{ShowsStock}
+use Rattle.sg_store.proofs.Stocked.{commit_stock}
 use Rattle.sg_store.proofs.store.Store.commit.Goals as goal
 
 pub returns-then-is_some-clause-commits : goal.returns-then-is_some-clause-commits
@@ -129,6 +132,28 @@ returns-in-Ok-end-clause-freed g c z from m told x lawful shows =
     let w3 = led t z from (g.E.Engine.view c.end.new.self) in
     let d = c.in-Ok-end.ensures.ends t z from (c.free_dropped.ensures.means z from (c.commit.ensures.means t z from m)) (c.in-Ok-free_dropped.ensures.tells (c.in-Ok.ensures.counts.tells told)) freed.0.engine freed.0.idle in
     leaving.none_along _ (g.E.Engine.basis z) lawful w3 (led t z from (g.E.Engine.view c.forget.new.self.engine)) u (ap (λ e. led t z from (g.E.Engine.view e)) (sym c.forget.ensures.engine)) (leaving.ends_none _ (g.E.Engine.basis z) lawful y c.args.self.now.txns x u freed.0 w3 d freed.1)
+
+pub returns-in-Ok-end-clause-stock : goal.returns-in-Ok-end-clause-stock
+returns-in-Ok-end-clause-stock g c z from m told x lawful shows r shown =
+    let t = table_of (λ y. (given.RecordOp-dyn g y).record_meaning y.1) (λ y. (given.RangeOp-dyn g y).range_meaning y.1) c.args.ops.now in
+    let v = led t z from (g.E.Engine.view c.args.self.now.engine) in
+    let w = led t z from (g.E.Engine.view c.commit.new.self) in
+    let k : Core = core_of c.args.self.now in
+    let u = c.args.txn.0 in
+    let stop = sym c.is_some.ensures ∙ c.if-is_some.false in
+    let live = sym c.is_live.ensures ∙ c.if-not-is_live.false in
+    let runs = committing.runs _ (g.E.Engine.basis z) lawful v k x u v.faults shows stop in
+    let b = c.in-Ok.ensures.commits t z from m told runs.is_kept.engine runs.is_kept.idle in
+    let leaves = committing.leaving _ (g.E.Engine.basis z) lawful v k x u v.faults shows stop live w b.0 b.1 b.2 b.3.0 b.3.1 in
+    let y = led t z from (g.E.Engine.view c.free_dropped.new.self.engine) in
+    let freed = c.in-Ok-free_dropped.ensures.freed z from (c.commit.ensures.means t z from m) (c.in-Ok.ensures.counts.tells told) x lawful leaves in
+    let w3 = led t z from (g.E.Engine.view c.end.new.self) in
+    let d = c.in-Ok-end.ensures.ends t z from (c.free_dropped.ensures.means z from (c.commit.ensures.means t z from m)) (c.in-Ok-free_dropped.ensures.tells (c.in-Ok.ensures.counts.tells told)) freed.0.engine freed.0.idle in
+    let frees = c.in-Ok-free_dropped.ensures.stock z from (c.commit.ensures.means t z from m) (c.in-Ok.ensures.counts.tells told) x lawful leaves in
+    subst (λ i. ShowsStock t (g.E.Engine.basis z) i (committed u r)) (ap (λ e. led t z from (g.E.Engine.view e)) (sym c.forget.ensures.engine))
+    (commit_stock t (g.E.Engine.basis z) lawful v w y w3 u b.0 b.1 b.3.0 frees freed.1
+    (leaving.o _ (g.E.Engine.basis z) lawful y c.args.self.now.txns x u freed.0)
+    (leaving.reads_so _ (g.E.Engine.basis z) lawful y c.args.self.now.txns x u freed.0).reading d r shown)
 
 pub returns-in-Err-clause-serves : goal.returns-in-Err-clause-serves
 returns-in-Err-clause-serves g c =

@@ -58,6 +58,13 @@ returns-in-Ok-false-clause-freed g c z from m told x lawful k =
     let frees = rw c.in-Ok-false.field-0-test at c.in-Ok-false.ensures.frees in
     leaving.since_done _ (g.E.Engine.basis z) _ (led t z from (g.E.Engine.view c.args.self.now.engine)) (led t z from (g.E.Engine.view c.dropped.self.engine)) (led t z from (g.E.Engine.view c.free_one.new.self.engine)) (core_of c.args.self.now) (core_of c.dropped.self) c.args.txn.0 c.dropped.left (i.done z from m told) x lawful k (λ h. frees z from (i.means z from m) (i.tells told) x lawful h)
 
+pub returns-in-Ok-false-clause-stock : goal.returns-in-Ok-false-clause-stock
+returns-in-Ok-false-clause-stock g c z from m told x lawful k =
+    let t = table_of (λ y. (given.RecordOp-dyn g y).record_meaning y.1) (λ y. (given.RangeOp-dyn g y).range_meaning y.1) c.args.ops.now in
+    let i = c.dropped.invariant in
+    let frees = rw c.in-Ok-false.field-0-test at c.in-Ok-false.ensures.frees in
+    leaving.since_stock _ (g.E.Engine.basis z) _ (led t z from (g.E.Engine.view c.args.self.now.engine)) (led t z from (g.E.Engine.view c.dropped.self.engine)) (led t z from (g.E.Engine.view c.free_one.new.self.engine)) (core_of c.args.self.now) (core_of c.dropped.self) c.args.txn.0 c.dropped.left (i.done z from m told) x lawful k (λ h. frees z from (i.means z from m) (i.tells told) x lawful h)
+
 pub returns-then-now-left-clause-stays : goal.returns-then-now-left-clause-stays
 returns-then-now-left-clause-stays g c z from m told x lawful k =
     let t = table_of (λ y. (given.RecordOp-dyn g y).record_meaning y.1) (λ y. (given.RangeOp-dyn g y).range_meaning y.1) c.args.ops.now in

@@ -7,6 +7,7 @@ use Rattle.sg_store.proofs.store.Store.free_one.Given as given
 use Rattle.sg_store.proofs.Serving as serving
 use Rattle.sg_store.specs.Asks.{IsFreeing}
 use Rattle.sg_store.proofs.Accounting as accounting
+use Rattle.sg_store.proofs.Stocked.{frees_nothing}
 use Rattle.sg_store.proofs.store.Store.free_one.Goals as goal
 
 pub returns-in-Err-clause-stays : goal.returns-in-Err-clause-stays
@@ -46,8 +47,11 @@ returns-in-Ok-false-clause-frees g c z from m told x lawful k =
     let acts = c.act.ensures.acts t z from m told k.engine k.idle in
     let k1 = leaving.acted_leaving _ (g.E.Engine.basis z) v w ts x u (Some _) acts.0 acts.1 k in
     let frees = rw c.in-Ok-false.field-0-test at c.in-Ok-false.ensures.frees in
-    let f = frees z from (c.act.ensures.means t z from m) (c.act.ensures.tells told) (leaving.o _ (g.E.Engine.basis z) lawful w ts x u k1) (leaving.begun _ (g.E.Engine.basis z) lawful w ts x u k1) acts.0 k1.idle (leaving.action_is _ (g.E.Engine.basis z) v w acts.1) refl (leaving.reads_so _ (g.E.Engine.basis z) lawful w ts x u k1) in
-    (leaving.rested_leaving _ (g.E.Engine.basis z) lawful w ts x u k1 y f.1.0, leaving.none_left _ (g.E.Engine.basis z) lawful w ts x u k1 y f.1.0 f.1.1)
+    let f = frees z from (c.act.ensures.means t z from m) (c.act.ensures.tells told) (leaving.o _ (g.E.Engine.basis z) lawful w ts x u k1) (leaving.begun _ (g.E.Engine.basis z) lawful w ts x u k1) acts.0 k1.idle (leaving.action_is _ (g.E.Engine.basis z) v w acts.1) refl (leaving.reads_so _ (g.E.Engine.basis z) lawful w ts x u k1) in (
+      leaving.rested_leaving _ (g.E.Engine.basis z) lawful w ts x u k1 y f.1.0,
+      leaving.none_left _ (g.E.Engine.basis z) lawful w ts x u k1 y f.1.0 f.1.1,
+      leaving.frees_from _ (g.E.Engine.basis z) v w y u (Some _) acts.1 (frees_nothing _ (g.E.Engine.basis z) w y u f.1.0.log f.1.0.goes_on.first),
+    )
 
 pub returns-in-Ok-clause-stays : goal.returns-in-Ok-clause-stays
 returns-in-Ok-clause-stays g c z from m told x lawful k =
@@ -94,8 +98,11 @@ returns-in-Ok-clause-frees g c z from m told x lawful k =
     let frees = rw c.in-Ok-true.field-0-test at c.in-Ok-true.ensures.frees in
     let f = frees z from (c.act.ensures.means t z from m) (c.act.ensures.tells told) (leaving.o _ (g.E.Engine.basis z) lawful w ts x u k1) (leaving.begun _ (g.E.Engine.basis z) lawful w ts x u k1) acts.0 k1.idle (leaving.action_is _ (g.E.Engine.basis z) v w acts.1) refl (leaving.reads_so _ (g.E.Engine.basis z) lawful w ts x u k1) in
     let last = led t z from (g.E.Engine.view c.end_action.new.self) in
-    let e = c.in-Ok.ensures.ends t z from (c.free_next.ensures.means z from (c.act.ensures.means t z from m)) (c.in-Ok-true.ensures.counts.tells (c.act.ensures.tells told)) (leaving.begun _ (g.E.Engine.basis z) lawful w ts x u k1) f.1.changed.goes_on.engine f.1.changed.action refl in
-    (leaving.freed_leaving _ (g.E.Engine.basis z) lawful w ts x u k1 y f.0 f.1 last e.0 e.1 e.2 _ e.3 e.4, leaving.tail_from v w last (Some _) acts.1 (leaving.freed_higher _ (g.E.Engine.basis z) lawful w ts x u k1 y f.0 f.1 last e.0 e.1 e.2 _ e.3 e.4))
+    let e = c.in-Ok.ensures.ends t z from (c.free_next.ensures.means z from (c.act.ensures.means t z from m)) (c.in-Ok-true.ensures.counts.tells (c.act.ensures.tells told)) (leaving.begun _ (g.E.Engine.basis z) lawful w ts x u k1) f.1.changed.goes_on.engine f.1.changed.action refl in (
+      leaving.freed_leaving _ (g.E.Engine.basis z) lawful w ts x u k1 y f.0 f.1 last e.0 e.1 e.2 _ e.3 e.4,
+      leaving.tail_from v w last (Some _) acts.1 (leaving.freed_higher _ (g.E.Engine.basis z) lawful w ts x u k1 y f.0 f.1 last e.0 e.1 e.2 _ e.3 e.4),
+      leaving.frees_from _ (g.E.Engine.basis z) v w last u (Some _) acts.1 (leaving.freed_stock _ (g.E.Engine.basis z) lawful w ts x u k1 y f.0 f.1 last e.0 e.1 e.2 _ e.3 e.4),
+    )
 
 pub act-requires : goal.act-requires
 act-requires g c =

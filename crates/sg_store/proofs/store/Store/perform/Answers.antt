@@ -5,6 +5,7 @@ use Rattle.sg_store.proofs.Marking.{marks_same}
 use Rattle.sg_model.specs.SaidOps.{said_op}
 use Rattle.sg_store.specs.Seen.{core_of}
 use Rattle.sg_store.proofs.Doing as doing
+use Rattle.sg_store.proofs.Stocked.{acted_stock}
 use Rattle.sg_store.proofs.Numbering.{unheld_numbers, unroomed_numbers, acted_numbers, had_room}
 use Rattle.sg_ops.specs.Table.{table_of}
 use Rattle.sg_store.specs.Engine.{led}
@@ -87,6 +88,22 @@ returns-clause-numbers g c z from m told x lawful shows =
     let free = doing.room_along _ (g.E.Engine.basis z) lawful (led t z from (g.E.Engine.view c.args.self.now.engine)) (core_of c.args.self.now) x c.args.txn.0 (said_op c.args.op.now) shows c.args.into.now (led t z from (g.E.Engine.view c.room_for.new.self.engine)) c.in-Ok-room_for.needs c.hold.new.self.txns c.room_for.new.self.txns c.room_for.ensures.live room.0 in
     let had = had_room _ (g.E.Engine.basis z) lawful (led t z from (g.E.Engine.view c.args.self.now.engine)) (led t z from (g.E.Engine.view c.hold.new.self.engine)) (led t z from (g.E.Engine.view c.room_for.new.self.engine)) c.args.self.now.txns c.hold.new.self.txns x (said_op c.args.op.now) c.in-Ok-room_for.needs c.hold.ensures.live (c.in-Ok.ensures.same t z from m told x lawful kept) (c.in-Ok-room_for.ensures.same z from (c.hold.ensures.means t z from m) (c.in-Ok.ensures.tells told) x lawful kept1) room.0 in
     acted_numbers _ (g.E.Engine.basis z) lawful (led t z from (g.E.Engine.view c.args.self.now.engine)) c.args.self.now.txns (led t z from (g.E.Engine.view c.room_for.new.self.engine)) (led t z from (g.E.Engine.view c.act.new.self.engine)) (core_of c.room_for.new.self) (core_of c.act.new.self) x c.args.txn.0 (said_op c.args.op.now) c.act.new.into had c.act.result (c.act.ensures.acts z from (c.room_for.ensures.means z from (c.hold.ensures.means t z from m)) (c.in-Ok-room_for.ensures.tells (c.in-Ok.ensures.tells told)) x lawful free (c.in-Ok.ensures.holds t z from m told x lawful kept held live).1)
+
+pub returns-clause-stock : goal.returns-clause-stock
+returns-clause-stock g c z from m told x lawful shows =
+    let t = table_of (λ y. (given.RecordOp-dyn g y).record_meaning y.1) (λ y. (given.RangeOp-dyn g y).range_meaning y.1) c.args.ops.now in
+    let kept = (doing.runs _ (g.E.Engine.basis z) lawful (led t z from (g.E.Engine.view c.args.self.now.engine)) (core_of c.args.self.now) x c.args.txn.0 (said_op c.args.op.now) shows c.args.into.now (sym c.is_some.ensures ∙ c.if-is_some.false)).is_kept in
+    let held = (doing.runs _ (g.E.Engine.basis z) lawful (led t z from (g.E.Engine.view c.args.self.now.engine)) (core_of c.args.self.now) x c.args.txn.0 (said_op c.args.op.now) shows c.args.into.now (sym c.is_some.ensures ∙ c.if-is_some.false)).held in
+    let live = doing.live _ (g.E.Engine.basis z) lawful (led t z from (g.E.Engine.view c.args.self.now.engine)) (core_of c.args.self.now) x c.args.txn.0 (said_op c.args.op.now) shows c.args.into.now (sym c.is_some.ensures ∙ c.if-is_some.false) (sym c.is_live.ensures ∙ c.if-not-is_live.false) in
+    let kept1 = doing.kept_along _ (g.E.Engine.basis z) lawful (led t z from (g.E.Engine.view c.args.self.now.engine)) (core_of c.args.self.now) x c.args.txn.0 (said_op c.args.op.now) shows c.args.into.now (led t z from (g.E.Engine.view c.hold.new.self.engine)) c.args.self.now.txns c.hold.new.self.txns c.hold.ensures.live (c.in-Ok.ensures.holds t z from m told x lawful kept held live).0 in
+    let room = c.in-Ok-room_for.ensures.rooms z from (c.hold.ensures.means t z from m) (c.in-Ok.ensures.tells told) x lawful kept1 in
+    let free = doing.room_along _ (g.E.Engine.basis z) lawful (led t z from (g.E.Engine.view c.args.self.now.engine)) (core_of c.args.self.now) x c.args.txn.0 (said_op c.args.op.now) shows c.args.into.now (led t z from (g.E.Engine.view c.room_for.new.self.engine)) c.in-Ok-room_for.needs c.hold.new.self.txns c.room_for.new.self.txns c.room_for.ensures.live room.0 in
+    acted_stock _ (g.E.Engine.basis z) (led t z from (g.E.Engine.view c.args.self.now.engine)) (led t z from (g.E.Engine.view c.hold.new.self.engine)) (led t z from (g.E.Engine.view c.room_for.new.self.engine)) (led t z from (g.E.Engine.view c.act.new.self.engine))
+    (core_of c.room_for.new.self) (core_of c.act.new.self) x c.args.txn.0 (said_op c.args.op.now) c.act.new.into
+    (c.in-Ok.ensures.same t z from m told x lawful kept)
+    (c.in-Ok-room_for.ensures.same z from (c.hold.ensures.means t z from m) (c.in-Ok.ensures.tells told) x lawful kept1) c.act.result
+    (c.act.ensures.acts z from (c.room_for.ensures.means z from (c.hold.ensures.means t z from m)) (c.in-Ok-room_for.ensures.tells (c.in-Ok.ensures.tells told))
+    x lawful free (c.in-Ok.ensures.holds t z from m told x lawful kept held live).1)
 
 pub returns-in-Err-clause-serves : goal.returns-in-Err-clause-serves
 returns-in-Err-clause-serves g c =

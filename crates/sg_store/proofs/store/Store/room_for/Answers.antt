@@ -69,7 +69,7 @@ returns-then-lacks-clause-rooms g c z from m told x lawful kept =
     let o = holding.reading _ (g.E.Engine.basis z) lawful (led t z from (g.E.Engine.view c.args.self.now.engine)) x c.args.self.now.txns kept in
     let b = c.in-Ok.ensures.needs z from m told o kept.engine (holding.reads_so _ (g.E.Engine.basis z) lawful (led t z from (g.E.Engine.view c.args.self.now.engine)) x c.args.self.now.txns kept) in
     let h = b.1 in
-    rooming.rooms_space _ (g.E.Engine.basis z) lawful (led t z from (g.E.Engine.view c.args.self.now.engine)) x (core_of c.args.self.now) kept (led t z from (g.E.Engine.view c.needs.new.self)) (said_op c.args.op.now) c.in-Ok.needs c.free_pages-free.result c.reserved-reserved.result c.in-Ok.needs.pages refl c.free_pages-free.ensures c.reserved-reserved.ensures h.0 h.1 (rooming.lacking c.free_pages-free.result c.reserved-reserved.result c.in-Ok.needs.pages (sym c.lacks.ensures ∙ c.if-lacks.true))
+    rooming.rooms_space _ (g.E.Engine.basis z) lawful (led t z from (g.E.Engine.view c.args.self.now.engine)) x (core_of c.args.self.now) kept (led t z from (g.E.Engine.view c.needs.new.self)) (said_op c.args.op.now) (g.E.Engine.leaves c.args.self.now.engine t z from m told) c.in-Ok.needs c.free_pages-free.result c.reserved-reserved.result c.in-Ok.needs.pages refl c.free_pages-free.ensures c.reserved-reserved.ensures h.0 h.1 (rooming.lacking c.free_pages-free.result c.reserved-reserved.result c.in-Ok.needs.pages (sym c.lacks.ensures ∙ c.if-lacks.true))
 
 pub returns-then-bands-needs-clause-rooms : goal.returns-then-bands-needs-clause-rooms
 returns-then-bands-needs-clause-rooms g c z from m told x lawful kept =
@@ -77,7 +77,7 @@ returns-then-bands-needs-clause-rooms g c z from m told x lawful kept =
     let o = holding.reading _ (g.E.Engine.basis z) lawful (led t z from (g.E.Engine.view c.args.self.now.engine)) x c.args.self.now.txns kept in
     let b = c.in-Ok.ensures.needs z from m told o kept.engine (holding.reads_so _ (g.E.Engine.basis z) lawful (led t z from (g.E.Engine.view c.args.self.now.engine)) x c.args.self.now.txns kept) in
     let h = b.1 in
-    rooming.rooms_bands _ (g.E.Engine.basis z) lawful (led t z from (g.E.Engine.view c.args.self.now.engine)) x (core_of c.args.self.now) kept (led t z from (g.E.Engine.view c.needs.new.self)) (said_op c.args.op.now) c.in-Ok.needs c.free_bands-bands.result c.in-Ok.needs.bands refl c.free_bands-bands.ensures h.0 h.1
+    rooming.rooms_bands _ (g.E.Engine.basis z) lawful (led t z from (g.E.Engine.view c.args.self.now.engine)) x (core_of c.args.self.now) kept (led t z from (g.E.Engine.view c.needs.new.self)) (said_op c.args.op.now) (g.E.Engine.leaves c.args.self.now.engine t z from m told) c.in-Ok.needs c.free_bands-bands.result c.in-Ok.needs.bands refl c.free_bands-bands.ensures h.0 h.1
     (subst (λ n. (c.in-Ok.needs.pages ≡ 0) ⊎ (n + c.in-Ok.needs.pages ≤ (led t z from (g.E.Engine.view c.needs.new.self)).free_pages)) c.reserved-reserved.ensures (subst (λ n. (c.in-Ok.needs.pages ≡ 0) ⊎ (c.reserved-reserved.result + c.in-Ok.needs.pages ≤ n)) c.free_pages-free.ensures (rooming.enough c.free_pages-free.result c.reserved-reserved.result c.in-Ok.needs.pages (sym c.lacks.ensures ∙ c.if-lacks.false)))) c.if-bands-needs.true
 
 pub returns-then-is_over-clause-rooms : goal.returns-then-is_over-clause-rooms

@@ -58,6 +58,13 @@ returns-in-Ok-None-clause-undone g c z from m told x lawful k live =
     let undid = rw c.in-Ok-None.field-0-is at c.in-Ok-None.ensures.undid in
     undone.since_done _ (g.E.Engine.basis z) _ (led t z from (g.E.Engine.view c.args.self.now.engine)) (led t z from (g.E.Engine.view c.notes.self.engine)) (led t z from (g.E.Engine.view c.undo_one.new.self.engine)) (core_of c.args.self.now) (core_of c.notes.self) c.args.txn.0 c.notes.at (i.done z from m told) x lawful k live (λ h. undid z from (i.means z from m) (i.tells told) x lawful h live)
 
+pub returns-in-Ok-None-clause-stock : goal.returns-in-Ok-None-clause-stock
+returns-in-Ok-None-clause-stock g c z from m told x lawful k live =
+    let t = table_of (λ y. (given.RecordOp-dyn g y).record_meaning y.1) (λ y. (given.RangeOp-dyn g y).range_meaning y.1) c.args.ops.now in
+    let i = c.notes.invariant in
+    let undid = rw c.in-Ok-None.field-0-is at c.in-Ok-None.ensures.undid in
+    undone.since_stock _ (g.E.Engine.basis z) _ (led t z from (g.E.Engine.view c.args.self.now.engine)) (led t z from (g.E.Engine.view c.notes.self.engine)) (led t z from (g.E.Engine.view c.undo_one.new.self.engine)) (core_of c.args.self.now) (core_of c.notes.self) c.args.txn.0 c.notes.at (i.done z from m told) x lawful k live (λ h. undid z from (i.means z from m) (i.tells told) x lawful h live)
+
 pub undo_one-requires : goal.undo_one-requires
 undo_one-requires g c =
     record { can = serving.taking_since _ (g.E.Engine.view c.args.self.now.engine) (g.E.Engine.view c.notes.self.engine) (core_of c.args.self.now) (core_of c.notes.self) c.args.txn.0 c.notes.at c.requires.live c.notes.invariant c.requires.can }

@@ -7,6 +7,7 @@ use Rattle.sg_store.proofs.Taking as taking
 use Rattle.sg_store.proofs.Undone as undone
 use Rattle.sg_store.proofs.store.Store.undo_one.Given as given
 use Rattle.sg_store.proofs.Accounting as accounting
+use Rattle.sg_store.proofs.Stocked.{backs_none}
 use Rattle.sg_store.proofs.store.Store.undo_one.Goals as goal
 
 pub returns-in-Ok-None-clause-stays : goal.returns-in-Ok-None-clause-stays
@@ -23,8 +24,11 @@ pub returns-in-Ok-None-clause-undid : goal.returns-in-Ok-None-clause-undid
 returns-in-Ok-None-clause-undid g c z from m told x lawful k live =
     let t = table_of (λ y. (given.RecordOp-dyn g y).record_meaning y.1) (λ y. (given.RangeOp-dyn g y).range_meaning y.1) c.args.ops.now in
     let none = rw c.in-Ok-None.field-0-is at c.in-Ok-None.ensures.none in
-    let b = none t z from m told k.engine k.idle refl in
-    (undone.undid_none t (g.E.Engine.basis z) lawful (led t z from (g.E.Engine.view c.args.self.now.engine)) c.args.self.now.txns x c.args.txn.0 c.args.at k live (led t z from (g.E.Engine.view c.undo_step.new.self)) b.1, undone.none_still t (g.E.Engine.basis z) lawful (led t z from (g.E.Engine.view c.args.self.now.engine)) c.args.self.now.txns x c.args.txn.0 c.args.at k live (led t z from (g.E.Engine.view c.undo_step.new.self)) b.1 b.0)
+    let b = none t z from m told k.engine k.idle refl in (
+      undone.undid_none t (g.E.Engine.basis z) lawful (led t z from (g.E.Engine.view c.args.self.now.engine)) c.args.self.now.txns x c.args.txn.0 c.args.at k live (led t z from (g.E.Engine.view c.undo_step.new.self)) b.1,
+      undone.none_still t (g.E.Engine.basis z) lawful (led t z from (g.E.Engine.view c.args.self.now.engine)) c.args.self.now.txns x c.args.txn.0 c.args.at k live (led t z from (g.E.Engine.view c.undo_step.new.self)) b.1 b.0,
+      backs_none t (g.E.Engine.basis z) (led t z from (g.E.Engine.view c.args.self.now.engine)) (led t z from (g.E.Engine.view c.undo_step.new.self)) c.args.txn.0 b.1,
+    )
 
 pub returns-then-after-at-clause-stays : goal.returns-then-after-at-clause-stays
 returns-then-after-at-clause-stays g c z from m told x lawful k live =

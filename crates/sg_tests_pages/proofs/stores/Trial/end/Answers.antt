@@ -1,5 +1,11 @@
 use Rattle.sg_tests_pages.proofs.Silent.{untold}
 use Rattle.sg_tests_pages.proofs.stores.Trial.end.Goals as goal
 
-pub end-requires : goal.end-requires
-end-requires g c = λ told. absurd (untold told)
+pub end-requires-clause-can : goal.end-requires-clause-can
+end-requires-clause-can g c = λ told. absurd (untold told)
+
+pub end-requires-clause-chain : goal.end-requires-clause-chain
+end-requires-clause-chain g c = λ told. absurd (untold told)
+
+pub end-requires-clause-quiet : goal.end-requires-clause-quiet
+end-requires-clause-quiet g c = λ told. absurd (untold told)

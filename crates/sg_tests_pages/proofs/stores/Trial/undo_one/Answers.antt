@@ -13,5 +13,8 @@ reverse-requires-clause-there g c = λ told. absurd (untold told)
 pub reverse-requires-clause-fresh : goal.reverse-requires-clause-fresh
 reverse-requires-clause-fresh g c = λ told. absurd (untold told)
 
-pub end_undo-requires : goal.end_undo-requires
-end_undo-requires g c = λ told. absurd (untold told)
+pub end_undo-requires-clause-can : goal.end_undo-requires-clause-can
+end_undo-requires-clause-can g c = λ told. absurd (untold told)
+
+pub end_undo-requires-clause-chain : goal.end_undo-requires-clause-chain
+end_undo-requires-clause-chain g c = λ told. absurd (untold told)

@@ -1,0 +1,12 @@
+//! Tests of whole runs that a stop of the disk ends at any call, and that a crash follows: what is there when the store is opened again, and when that
+//! opening was stopped too.
+#![tactic(auto)]
+
+#[cfg(test)]
+mod objects;
+#[cfg(test)]
+mod rounds;
+#[cfg(test)]
+mod trial;
+#[cfg(test)]
+mod wide;

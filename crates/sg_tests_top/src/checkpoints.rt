@@ -1,0 +1,181 @@
+// Checkpoints: what a script leaves of its log, and what is shown where its end is cut off.
+use crate::trial::{copy_of, done, new_store, run, run_stopped};
+use sg_base::MemSink;
+use sg_disk::MemDisk;
+use sg_inspect::write_log;
+use sg_top::Status;
+use std::alloc::Global;
+
+// Scripts over a new store, what they are answered, and the listing of the log that they leave: its area, its first byte and
+// its last one, and each record's number, kind, transaction, previous record and length.
+const ROWS: [(&str, &str, &str); 5] = [
+    // the end of a run makes a checkpoint
+    ("", "", "log 0 0 36\n5 checkpoint 0 0 31\n"),
+    // in the frame of the records that waited
+    (
+        "t begin\nt commit",
+        "ok\nok\n",
+        "log 0 0 104\n5 begin 5 0 21\n26 commit 5 5 21\n52 end 5 26 21\n73 checkpoint 0 0 31\n",
+    ),
+    // behind the live transactions' ends
+    (
+        "t begin",
+        "ok\n",
+        "log 0 0 78\n5 begin 5 0 21\n26 end 5 5 21\n47 checkpoint 0 0 31\n",
+    ),
+    // one that is asked for is in the log at once, with who is live
+    (
+        "t begin\nflush\ncheckpoint\nt abort",
+        "ok\nok\nok\nok\n",
+        "log 0 0 135\n5 begin 5 0 21\n31 checkpoint 0 0 47\n83 end 5 5 21\n104 checkpoint 0 0 31\n",
+    ),
+    // by the word alone
+    (
+        "checkpoint\n  checkpoint \r\ncheckpoint now\nCheckpoint\ncheckpoints",
+        "ok\nok\nerror syntax\nerror syntax\nerror syntax\n",
+        "log 0 0 108\n5 checkpoint 0 0 31\n41 checkpoint 0 0 31\n77 checkpoint 0 0 31\n",
+    ),
+];
+
+// Whether the log of a store is listed so.
+fn lists(alloc: Global, disk: MemDisk, listing: &str) -> bool {
+    let mut disk = disk;
+    let mut sink = MemSink::new(alloc, None);
+    write_log(alloc, &mut disk, &mut sink).is_ok() && sink.text() == listing.as_bytes()
+}
+
+// Whether a script over a new store is answered so, and leaves that log.
+fn leaves(alloc: Global, script: &str, replies: &str, listing: &str) -> bool {
+    match new_store(alloc).and_then(|disk| done(
+        alloc,
+        disk,
+        script.as_bytes(),
+        replies.as_bytes(),
+    )) {
+        Some(disk) => lists(alloc, disk, listing),
+        None => false,
+    }
+}
+
+// The number of the first row that goes otherwise.
+fn first_wrong(alloc: Global) -> Option<usize> {
+    for (number, (script, replies, listing)) in ROWS.iter().enumerate() {
+        if !leaves(alloc, script, replies, listing) {
+            return Some(number);
+        }
+    }
+    None
+}
+
+#[test]
+fn logs_end_with_a_checkpoint(rt: HostRuntime) {
+    assert_eq!(rt; first_wrong(rt.alloc()), None);
+}
+
+// The bytes of a log that has a checkpoint alone, up to the closed gate behind it: the gate and the length of the frame, and the
+// record's kind, length, transaction, previous record, the number from which redo begins, which is its own, and how many are live.
+const ALONE: [u8; 37] = [
+    1, 31, 0, 0, 0, 12, 31, 0, 0, 0, 0, 0, 0, 0, 0, 0, 0, 0, 0, 0, 0, 0, 0, 0, 0, 0, 5, 0, 0, 0, 0,
+    0, 0, 0, 0, 0, 0,
+];
+
+// Whether the log of a run without a line begins with these.
+fn alone_goes(alloc: Global) -> Option<bool> {
+    let disk = done(alloc, new_store(alloc)?, b"", b"")?;
+    Some(disk.log0().starts_with(&ALONE))
+}
+
+#[test]
+fn redo_begins_at_a_checkpoint_with_nothing_to_write_home(rt: HostRuntime) {
+    assert_eq!(rt; alone_goes(rt.alloc()), Some(true));
+}
+
+// A transaction that has turned an item twice before a checkpoint and once behind it, and isn't over.
+const TURNED: &[u8] = b"p begin\np make array a 3\np push a abc\np commit\nt begin\n\
+    t apply a 0 3 x:01\nt apply a 0 3 x:01\ncheckpoint\nt apply a 0 3 x:01\nflush";
+
+const TURNED_REPLIES: &[u8] = b"ok\nok\nok 0\nok\nok\nok\nok\nok\nok\nok\n";
+
+// How many calls of the disk a whole run of a script over a copy of this disk makes.
+fn calls_of(alloc: Global, disk: &MemDisk, script: &[u8]) -> Option<u64> {
+    let left = run(alloc, copy_of(alloc, disk)?, script)?;
+    Some(left.disk.call_count())
+}
+
+// How many of them the lines make, without the end of the run: the least number that gets all replies.
+fn calls_of_lines(alloc: Global, store: &MemDisk) -> Option<u64> {
+    let mut calls = calls_of(alloc, store, TURNED)?;
+    for _ in 0..100u32 {
+        let fewer = calls.saturating_sub(1);
+        let left = run_stopped(alloc, copy_of(alloc, store)?, TURNED, fewer)?;
+        if left.replies() != TURNED_REPLIES {
+            return Some(calls);
+        }
+        calls = fewer;
+    }
+    None
+}
+
+// The disk of a run that is stopped before its end.
+fn cut_off(alloc: Global) -> Option<MemDisk> {
+    let store = new_store(alloc)?;
+    let calls = calls_of_lines(alloc, &store)?;
+    let left = run_stopped(alloc, copy_of(alloc, &store)?, TURNED, calls)?;
+    Some(left.disk.crash(0))
+}
+
+const LOOK: &[u8] = b"u begin\nu get a 0";
+
+// What is left of a copy of a disk whose opening is stopped after so many calls.
+fn stopped(alloc: Global, disk: &MemDisk, calls: u64, pick: u64) -> Option<MemDisk> {
+    let left = run_stopped(alloc, copy_of(alloc, disk)?, LOOK, calls)?;
+    Some(left.disk.crash(pick))
+}
+
+// Whether a run over a disk shows the item as it was.
+fn shows(alloc: Global, disk: MemDisk) -> bool {
+    match run(alloc, disk, LOOK) {
+        Some(left) => left.is(Status::Done, b"ok\nok abc\n"),
+        None => false,
+    }
+}
+
+// Whether what is shown is right where an opening is stopped after so many calls, and another one is.
+fn stops_go(alloc: Global, disk: &MemDisk, calls: u64) -> bool {
+    match stopped(alloc, disk, calls, calls).and_then(|first| stopped(
+        alloc,
+        &first,
+        calls,
+        calls.saturating_mul(0x9e37_79b9),
+    )) {
+        Some(second) => shows(alloc, second),
+        None => false,
+    }
+}
+
+// The first number of calls that goes otherwise, of each second one up to the number that a whole run makes.
+fn first_wrong_of_stops(alloc: Global) -> Option<u64> {
+    let disk = cut_off(alloc)?;
+    let calls = calls_of(alloc, &disk, LOOK)?;
+    for n in 0..calls.min(300) {
+        if n % 2 == 0 && !stops_go(alloc, &disk, n) {
+            return Some(n);
+        }
+    }
+    None
+}
+
+// Whether a run was cut off, and shows the item as it was.
+fn cut_off_shows(alloc: Global) -> bool {
+    match cut_off(alloc) {
+        Some(disk) => shows(alloc, disk),
+        None => false,
+    }
+}
+
+#[test]
+fn a_loser_is_taken_back_from_a_checkpoint_on(rt: HostRuntime) {
+    let alloc = rt.alloc();
+    assert!(rt; cut_off_shows(alloc));
+    assert_eq!(rt; first_wrong_of_stops(alloc), None);
+}
