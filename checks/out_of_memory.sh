@@ -5,11 +5,12 @@
 # tables, the program ends with status 3 and its text, and answers no line. Where it is one of a line, which only a list of
 # keys or names makes, this line is answered `error memory`, the later ones as ever, and the status is 0. Where it is one for the
 # path of the folder or of a file, a call of the disk has failed: this is a disk fault, status 4, in the opening too. In each case the store is there
-# afterwards, with what was committed.
+# afterwards, with what was committed. checks/each_request.sh refuses every request of a run, where a C compiler is there.
 #
-# It prints a line for each case, and ends with 0 only where all went as they should. The requests' numbers are
-# the program's own, found by trying each number in turn: where a change of the program moves them, a case fails,
-# and its number is to be found again.
+# It prints a line for each case, and ends with 0 only where all went as they should. The numbers of the requests for the words and for the
+# path are the program's own: where a change of the reading of the words moves them, a case fails, and its number is to be found again. Opening makes
+# some hundreds of requests behind these. The last case has a script with a thousand lists more, which ask for memory one behind another, so that its number
+# is one of theirs however many opening makes: one of the lists is refused, and the case finds which.
 set -u
 top="$(cd "$(dirname "$(readlink -f "${BASH_SOURCE[0]}")")/.." && pwd)"
 program="$top/crates/sg_main/out/sg_main"
@@ -17,19 +18,22 @@ if ! [ -x "$program" ]; then
     echo "out of memory: FAILED: $program isn't built"
     exit 1
 fi
-script="$top/examples/third.txt"
 work="$(mktemp -d)"
 trap 'rm -rf "$work"' EXIT
 failures=0
+lists=1000
+cp "$top/examples/third.txt" "$work/script"
+cp "$top/examples/third.txt" "$work/script-of-lists"
+for _ in $(seq "$lists"); do echo "v keys h"; done >>"$work/script-of-lists"
 "$program" init "$work/store" >"$work/made" </dev/null || exit 1
 "$program" run "$work/store" <"$top/examples/first.txt" >"$work/made" || exit 1
 
-# Runs the program with this request refused, and leaves what it gave in $work: replies-N, said-N and the folder
+# Runs the program on this script with this request refused, and leaves what it gave in $work: replies-N, said-N and the folder
 # store-N. Standard error has the program's text, and then how `rt try` saw the run end.
 run_refusing() {
-    local request="$1"
+    local script="$1" request="$2"
     cp -r "$work/store" "$work/store-$request"
-    (cd "$top/crates/sg_main" && rt try --fail-alloc "$request" -- run "$work/store-$request" <"$script") \
+    (cd "$top/crates/sg_main" && rt try --fail-alloc "$request" -- run "$work/store-$request" <"$work/$script") \
         >"$work/replies-$request" 2>"$work/said-$request"
 }
 
@@ -67,28 +71,35 @@ error out-of-range" || verdict=FAILED
     echo "out of memory, $name (request $request): $verdict"
 }
 
+# What the lines of the third example are answered, with the names behind the last one, and then so many lists of keys.
+replies_of() {
+    printf '%s\n' ok ok ok "busy t" ok "ok new" ok "ok xyz" ok ok "ok 1 k" "ok 2 a h"
+    for _ in $(seq "$1"); do echo "ok 1 k"; done
+}
+
+# Puts in the place of the one list behind the example's lines that was refused what such a list answers. Fails where none was.
+put_back_list() {
+    local refused
+    refused="$(grep -nx "error memory" "$work/replies-$1" | cut -d : -f 1)"
+    [[ "$refused" =~ ^[0-9]+$ ]] && [ "$refused" -gt 12 ] && sed -i "${refused}s/.*/ok 1 k/" "$work/replies-$1"
+}
+
 # The first two are requests for the words and for reading them, the third that for the folder's path, the fourth one of the opening,
-# and the last one that for the list of keys.
-words=2 reading=60 path=115 opening=300 keys=444
-for request in $words $reading $path $opening $keys; do
-    run_refusing "$request" &
+# and the last one is in the midst of the lists.
+words=2 reading=60 path=115 opening=300 list=1200
+for request in $words $reading $path $opening; do
+    run_refusing script "$request" &
 done
+run_refusing script-of-lists $list &
 wait
+put_back_list $list || {
+    echo "  no list is answered error memory, or two are"
+    failures=$((failures + 1))
+}
 
 judge "at the words" $words 3 "stasis: out of memory" ""
 judge "at the reading of the words" $reading 3 "stasis: out of memory" ""
 judge "at the folder's path" $path 4 "stasis: disk fault" ""
 judge "in the opening" $opening 3 "stasis: out of memory" ""
-judge "in the line that lists keys" $keys 0 "" "ok
-ok
-ok
-busy t
-ok
-ok new
-ok
-ok xyz
-ok
-ok
-error memory
-ok 2 a h"
+judge "in a line that lists keys" $list 0 "" "$(replies_of "$lists")"
 [ "$failures" -eq 0 ]
