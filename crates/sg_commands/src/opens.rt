@@ -26,7 +26,7 @@ use std::alloc::Global;
 pub enum OpenRefused {
     /// A call of the disk failed.
     DiskFault,
-    /// There was not enough memory.
+    /// There was not enough memory. Or the log begins within an action of the system that has no end, which no store leaves.
     Memory,
     /// What stands at this offset of the area isn't a store's.
     Damaged { area: Area, at: u64 },
