@@ -4,6 +4,7 @@ pub mod Names
 pub mod Causes
 pub mod Shows
 pub mod Goes
+pub mod KeptUp
 pub mod Seen
 pub mod OneLine
 pub mod Ending

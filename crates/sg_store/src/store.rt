@@ -89,6 +89,7 @@ fn mark(txns: &mut Txns, txn: TxnId, op: &Op<'_>)
 }
 
 impl<E: Objects> Store<E> {
+    ghost use Rattle.sg_checkpoints.specs.Checkpoints.{HasMarked, StaysMarked};
     ghost use Rattle.sg_ops.specs.Table.{Table as Operations, table_of};
     ghost use Rattle.sg_run.specs.Run.{Run, committed, live_objects};
     ghost use Rattle.sg_store.specs.Accounting.{AccountsFor};
@@ -422,6 +423,8 @@ impl<E: Objects> Store<E> {
         ensures flushes { AsMeant (E.view self.old.engine) (E.view self.new.engine) (λ t g v w.
             (x : Run) → IsLawful t g → Shows t g v (core_of self.old) x
             → Goes t g v x (Flushes v.faults w.faults x result) w (core_of self.new)) }
+        ensures written { OnOk result ((lsn : ℕ) → E.unwritten self.new.engine lsn → ⊥) }
+        ensures marked { OnOk result ((E.view self.old.engine).Told → StaysMarked (E.marked self.old.engine) (E.marked self.new.engine) E.ends_at (E.view self.new.engine).disk.now) }
         // on any engine
         ensures causes { FlushesFor (E.view self.old.engine) (E.view self.new.engine) (core_of self.old) (core_of self.new) result }
         ensures asks { IfErr result (λ e. AsksNothing e → self.new ≡ self.old) }
@@ -450,6 +453,10 @@ impl<E: Objects> Store<E> {
         ensures marks { AsMeant (E.view self.old.engine) (E.view self.new.engine) (λ t g v w.
             (x : Run) → IsLawful t g → Shows t g v (core_of self.old) x
             → Goes t g v x (Checkpoints v.tail v.faults w.faults x result) w (core_of self.new)) }
+        // the last record of each image that a crash leaves now is the checkpoint
+        ensures ends { OnOk result ((E.view self.old.engine).Told → HasMarked (E.view self.old.engine).tail (E.unwritten self.old.engine) (E.marked self.new.engine) E.ends_at (E.view self.new.engine).disk.now) }
+        // only what waits of the log is handed over, and 1,200 bytes at most
+        ensures hands { (E.view self.new.engine).disk.handed ≤ (E.view self.old.engine).disk.handed + E.waiting self.old.engine + 1200 }
         // on any engine
         ensures causes { ChecksFor (E.view self.old.engine) (E.view self.new.engine) (core_of self.old) (core_of self.new) result }
         ensures asks { IfErr result (λ e. AsksNothing e → self.new ≡ self.old) }
@@ -808,6 +815,8 @@ impl<E: Objects> Store<E> {
         ensures closes { AsMeant (E.view self.old.engine) (E.view self.new.engine) (λ t g v w.
             (x : Run) → IsLawful t g → Shows t g v (core_of self.old) x
             → Goes t g v x (Checkpoints w.tail v.faults w.faults x result) w (core_of self.new)) }
+        ensures written { OnOk result ((lsn : ℕ) → E.unwritten self.new.engine lsn → ⊥) }
+        ensures ends { OnOk result ((E.view self.old.engine).Told → HasMarked (E.view self.old.engine).tail (E.unwritten self.old.engine) (E.marked self.new.engine) E.ends_at (E.view self.new.engine).disk.now) }
         // on any engine
         ensures causes { ClosesFor (E.view self.old.engine) (E.view self.new.engine) (core_of self.old) (core_of self.new) result }
         ensures stop { self.new.stop ≡ stop_behind self.old.stop result }
@@ -829,6 +838,9 @@ impl<E: Objects> Store<E> {
         ensures closes { AsMeant (E.view self.engine) (E.view result.1) (λ t g v w.
             (x : Run) → IsLawful t g → Shows t g v (core_of self) x
             → (m : Core) × Goes t g v x (Checkpoints w.tail v.faults w.faults x result.0) w m) }
+        ensures written { OnOk result.0 ((lsn : ℕ) → E.unwritten result.1 lsn → ⊥) }
+        // the last record of each image that a crash leaves now is the checkpoint
+        ensures ends { OnOk result.0 ((E.view self.engine).Told → HasMarked (E.view self.engine).tail (E.unwritten self.engine) (E.marked result.1) E.ends_at (E.view result.1).disk.now) }
         // on any engine
         ensures causes { (m : Core) × ClosesFor (E.view self.engine) (E.view result.1) (core_of self) m result.0 }
         ensures fault { IfErr result.0 (λ e. e ≡ Refused.DiskFault → HasRisen (E.view self.engine).faults (E.view result.1).faults) }

@@ -32,3 +32,9 @@ pub returns-in-Err-clause-caused : goal.returns-in-Err-clause-caused
 returns-in-Err-clause-caused g c into =
     causing.by_trouble (g.E.Engine.view c.args.self.now.store.engine) (g.E.Engine.view c.flush.new.self.engine) c.args.self.now.store.stop c.flush.new.self.stop (OfStore upkeeps.Flush) (shown_answer into c.answer_to.result) (trouble_of c.in-Err.why) (c.answer_to.ensures.trouble into) c.requires.running c.flush.ensures.heeds
     (causing.flush_refused (g.E.Engine.view c.args.self.now.store.engine) (g.E.Engine.view c.flush.new.self.engine) (core_of c.args.self.now.store) (core_of c.flush.new.self) c.in-Err.why c.in-Err.ensures.causes)
+
+pub returns-in-Ok-clause-kept_up : goal.returns-in-Ok-clause-kept_up
+returns-in-Ok-clause-kept_up g c none = record { written = c.in-Ok.ensures.written; marked = c.in-Ok.ensures.marked }
+
+pub returns-in-Err-clause-kept_up : goal.returns-in-Err-clause-kept_up
+returns-in-Err-clause-kept_up g c none = absurd (causing.flush_stops (g.E.Engine.view c.args.self.now.store.engine) (g.E.Engine.view c.flush.new.self.engine) (core_of c.args.self.now.store) (core_of c.flush.new.self) c.in-Err.why c.in-Err.ensures.causes none)

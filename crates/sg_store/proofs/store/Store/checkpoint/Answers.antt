@@ -1,4 +1,4 @@
-use Rattle.std.proofs.Common.{sym, ◌∙◌, subst, Err, refl, arith, ap}
+use Rattle.std.proofs.Common.{◌≤◌, ◌+◌, sym, ◌∙◌, subst, Err, refl, arith, ap}
 use Rattle.sg_store.specs.Calls.{Goes, Checkpoints}
 use Rattle.sg_store.specs.Seen.{core_of}
 use Rattle.sg_store.specs.Store.{Core}
@@ -116,3 +116,14 @@ returns-in-Ok-clause-stopped g c some = heeding.not_stopped c.args.self.now.stop
 
 pub returns-in-Err-clause-stopped : goal.returns-in-Err-clause-stopped
 returns-in-Err-clause-stopped g c some = heeding.not_stopped c.args.self.now.stop (sym c.is_some.ensures ∙ c.if-is_some.false) some
+
+pub returns-in-Ok-clause-hands : goal.returns-in-Ok-clause-hands
+returns-in-Ok-clause-hands g c = let h = c.checkpoint.ensures.hands in omega (arith, h)
+
+pub returns-in-Err-clause-hands : goal.returns-in-Err-clause-hands
+returns-in-Err-clause-hands g c =
+    let h = c.checkpoint.ensures.hands in
+    subst (λ e. (g.E.Engine.view e).disk.handed ≤ (g.E.Engine.view c.args.self.now.engine).disk.handed + g.E.Engine.waiting c.args.self.now.engine + 1200) (sym c.halt.ensures.engine) (omega (arith, h))
+
+pub returns-in-Ok-clause-ends : goal.returns-in-Ok-clause-ends
+returns-in-Ok-clause-ends g c = c.in-Ok.ensures.marks

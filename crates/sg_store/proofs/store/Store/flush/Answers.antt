@@ -115,3 +115,9 @@ returns-in-Ok-clause-stopped g c some = heeding.not_stopped c.args.self.now.stop
 
 pub returns-in-Err-clause-stopped : goal.returns-in-Err-clause-stopped
 returns-in-Err-clause-stopped g c some = heeding.not_stopped c.args.self.now.stop (sym c.is_some.ensures ∙ c.if-is_some.false) some
+
+pub returns-in-Ok-clause-written : goal.returns-in-Ok-clause-written
+returns-in-Ok-clause-written g c = c.in-Ok.ensures.written
+
+pub returns-in-Ok-clause-marked : goal.returns-in-Ok-clause-marked
+returns-in-Ok-clause-marked g c = c.in-Ok.ensures.marked
