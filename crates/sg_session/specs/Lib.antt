@@ -1,4 +1,5 @@
 pub mod Lines
+pub mod Stocked
 pub mod Answered
 pub mod Names
 pub mod Causes

@@ -16,11 +16,13 @@ pub returns-in-Ok-clause-goes : goal.returns-in-Ok-clause-goes
 returns-in-Ok-clause-goes g c into t z from m told x lawful shows =
     steps.checkpoint_done t (g.E.Engine.basis z) (led t z from (g.E.Engine.view c.args.self.now.store.engine)) x (session_core c.args.self.now) shows c.requires.running
     (led t z from (g.E.Engine.view c.checkpoint.new.self.engine)) _ (c.in-Ok.ensures.marks t z from m told x lawful shows.store)
+    (λ none. c.checkpoint.ensures.stock none t z from m told x lawful shows.store)
 
 pub returns-in-Err-clause-goes : goal.returns-in-Err-clause-goes
 returns-in-Err-clause-goes g c into t z from m told x lawful shows =
     steps.checkpoint_refused t (g.E.Engine.basis z) (led t z from (g.E.Engine.view c.args.self.now.store.engine)) x (session_core c.args.self.now) shows c.requires.running
     (led t z from (g.E.Engine.view c.checkpoint.new.self.engine)) _ _ c.in-Err.why (λ is. c.answer_to.ensures.says is into) (c.in-Err.ensures.marks t z from m told x lawful shows.store)
+    (λ none. c.checkpoint.ensures.stock none t z from m told x lawful shows.store)
 
 pub checkpoint-requires : goal.checkpoint-requires
 checkpoint-requires g c = let s = c.requires.serves in record { serves = (s.0, store_serves s.0 (g.E.Engine.view c.args.self.now.store.engine) (session_core c.args.self.now) s.1) }

@@ -49,3 +49,10 @@ pub returns-in-Ok-clause-heeds : goal.returns-in-Ok-clause-heeds
 returns-in-Ok-clause-heeds g c =
     heeding.heeds_then c.args.self.now.stop c.checkpoint.new.self.stop c.flush.new.self.stop (g.E.Engine.view c.args.self.now.engine) (g.E.Engine.view c.checkpoint.new.self.engine) (g.E.Engine.view c.flush.new.self.engine)
     c.checkpoint.ensures.heeds c.flush.ensures.heeds
+
+pub returns-in-Ok-clause-stock : goal.returns-in-Ok-clause-stock
+returns-in-Ok-clause-stock g c none t z from m told x lawful shows r shown =
+    let on = (c.flush.ensures.heeds.quiet none).0 in
+    let h = c.in-Ok.ensures.marks t z from m told x lawful shows in
+    c.flush.ensures.stock none t z from (c.checkpoint.ensures.means t z from m) (c.checkpoint.ensures.heeds.tells on told) h.after lawful h.shows r
+    (c.checkpoint.ensures.stock on t z from m told x lawful shows r shown)
