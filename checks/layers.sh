@@ -9,7 +9,7 @@
 set -u
 top="${1:-$(cd "$(dirname "$(readlink -f "${BASH_SOURCE[0]}")")/.." && pwd)}"
 
-awk -v layers="Ground,Disk and log,Pages,Spaces,Structures,Objects and transactions,Store,Program,Tests" '
+awk -v layers="Ground,Disk and log,Pages,Spaces,Structures,Objects and transactions,Store,Library,Program,Tests" '
     function wrong(what) {
         print "layers: FAILED: " what
         failures++

@@ -39,7 +39,8 @@ fn spell_rows(rows: &[Row], into: &mut [u8]) -> Option<usize>
 }
 
 impl<E: Engine> Acts<E> {
-    ghost use Rattle.std.specs.Prelude.{◌≡◌, ◌≤◌, ℕ, false, OnOk, IfErr, length};
+    ghost use Rattle.std.specs.Prelude.{◌≡◌, ◌≤◌, ◌+◌, ℕ, false, OnOk, IfErr, length};
+    ghost use Rattle.sg_checkpoints.specs.Checkpoints.{HasMarked};
     ghost use Rattle.sg_ops.specs.Table.{Table};
     ghost use Rattle.sg_action.specs.States.{State};
     ghost use Rattle.sg_actions.specs.Calls.{IsAtRest};
@@ -57,6 +58,10 @@ impl<E: Engine> Acts<E> {
         requires quiet { (E.view self.old.engine).Told → self.old.begun ≡ false }
         ensures counts { ActsCounts (E.view self.old.engine) (E.view self.new.engine) self.old.breaks self.new.breaks result }
         ensures log_end { IfErr result (λ f. f ≡ LogEnd → IsNearEnd (E.view self.old.engine)) }
+        // what waits, the record's 1,055 bytes at most, and twice what a frame has beside its records
+        ensures hands { (E.view self.new.engine).disk.handed ≤ (E.view self.old.engine).disk.handed + E.waiting self.old.engine + 1067 }
+        ensures none_waits { OnOk result (E.waiting self.new.engine ≡ 0) }
+        ensures marks { OnOk result ((E.view self.old.engine).Told → HasMarked (E.view self.old.engine).tail (E.unwritten self.old.engine) (E.marked self.new.engine) E.ends_at (E.view self.new.engine).disk.now) }
         ensures means { Keeps (E.means self.old.engine) (E.means self.new.engine) }
         ensures stays { (t : Table) (from : State) → E.means self.old.engine t from → OnOk result (HasStayed (led from (E.view self.old.engine)) (led from (E.view self.new.engine))) }
         ensures forced { (t : Table) (from : State) → E.means self.old.engine t from → OnOk result (IsForced (E.view self.new.engine)) }

@@ -1,5 +1,7 @@
 ghost use Rattle.std.specs.Prelude.{◌≡◌, ◌≤◌, ◌+◌, ◌*◌, ◌/◌, ℕ, ⊤, true, false, is_some, IfOk, OnOk, length, take};
 ghost use Rattle.sg_base.specs.Sheet.{sheet_of};
+ghost use Rattle.sg_disk.specs.Disk.{Image};
+ghost use Rattle.sg_checkpoints.specs.Checkpoints.{Marks, StaysMarked};
 ghost use Rattle.sg_ops.specs.Laws.{IsLawful};
 ghost use Rattle.sg_ops.specs.Table.{Table, table_of};
 ghost use Rattle.sg_record.specs.Ranges.{IsRecord};
@@ -51,6 +53,12 @@ pub trait Engine {
     /// How many bytes wait at the log's end to be handed to the disk: records, and the head of their frame.
     ghost waiting: { Self → ℕ };
 
+    /// The log's last record, durable or not, is the checkpoint with this number, which has redo begin at this estimate.
+    ghost marked: { Self → (lsn estimate : ℕ) → Type 0 };
+
+    /// So is the last record of an image's log.
+    ghost ends_at: { Image → (lsn estimate : ℕ) → Type 0 };
+
     /// No record from now on has a number below this.
     fn tail(&self) -> Lsn
         ensures { result ≡ (view self.now).tail };
@@ -97,6 +105,7 @@ pub trait Engine {
         ensures rests { EngineRests (view self.old) (view self.new) result }
         ensures hands { HandsOver 0 (view self.old).disk.handed (waiting self.old) (view self.new).disk.handed (waiting self.new) result }
         ensures none_waits { OnOk result (waiting self.new ≡ 0) }
+        ensures marked { OnOk result ((view self.old).Told → StaysMarked (marked self.old) (marked self.new) ends_at (view self.new).disk.now) }
         ensures means { Keeps (means self.old) (means self.new) }
         ensures looks { (t : Table) (from : State) → means self.old t from → EngineLooks (recovers t) t (led from (view self.old)) (led from (view self.new)) result }
         ensures forced { (t : Table) (from : State) → means self.old t from → OnOk result (IsForced (view self.new)) };
@@ -104,6 +113,7 @@ pub trait Engine {
     /// Makes all records durable, and writes each changed page and band home.
     fn flush(&mut self) -> Result<(), SpaceFault>
         ensures written { OnOk result ((lsn : ℕ) → unwritten self.new lsn → ⊥) }
+        ensures marked { OnOk result ((view self.old).Told → StaysMarked (marked self.old) (marked self.new) ends_at (view self.new).disk.now) }
         ensures rests { EngineRests (view self.old) (view self.new) result }
         ensures means { Keeps (means self.old) (means self.new) }
         ensures looks { (t : Table) (from : State) → means self.old t from → EngineLooks (recovers t) t (led from (view self.old)) (led from (view self.new)) result }
@@ -129,6 +139,8 @@ pub trait Engine {
         requires most { length live.now ≤ 1024 }
         requires rows { length live.now ≡ 16 * (length live.now / 16) }
         ensures grows { EngineGrows (view self.old) (view self.new) (by 0 0 (Checkpoint 0 live.now)) result }
+        ensures hands { HandsOver (length (spelled (by 0 0 (Checkpoint 0 live.now)))) (view self.old).disk.handed (waiting self.old) (view self.new).disk.handed (waiting self.new) result }
+        ensures marks { IfOk result (λ lsn. (view self.old).Told → Marks (unwritten self.old) (marked self.new) lsn) }
         ensures means { Keeps (means self.old) (means self.new) }
         ensures looks { (t : Table) (from : State) → means self.old t from → EngineLooks (recovers t) t (led from (view self.old)) (led from (view self.new)) result };
 

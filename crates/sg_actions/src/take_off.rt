@@ -118,6 +118,11 @@ impl<E: Engine> Acts<E> {
         ensures told { (E.view self.new.engine).Told → (E.view self.old.engine).Told }
         ensures did { let t = table_of record_meaning range_meaning ops.now in (limits : State → ℕ → ℕ) (from : State) → E.means self.old.engine t from →
             ((E.view self.old.engine).Told → CanTakeOff t limits (led from (E.view self.old.engine)) self.old.maps self.old.rows.items self.old.actor) → OnOk result (TakenOff t limits (led from (E.view self.old.engine)) (led from (E.view self.new.engine)) self.old.maps self.new.maps self.new.unfreed self.new.rows.items self.old.actor self.new.actor) }
+        ensures counts { OffCounts (E.view self.old.engine) (E.view self.new.engine) self.old.breaks self.new.breaks result }
+        // also of a call that fails
+        ensures goes { let t = table_of record_meaning range_meaning ops.now in (limits : State → ℕ → ℕ) (from : State) → E.means self.old.engine t from → (E.view self.old.engine).Told →
+            CanTakeOff t limits (led from (E.view self.old.engine)) self.old.maps self.old.rows.items self.old.actor →
+            WentOff (E.recovers t) t self.old.actor.txn.0 (led from (E.view self.old.engine)) (led from (E.view self.new.engine)) }
     {
         // No change is logged from now on.
         self.begun = false;

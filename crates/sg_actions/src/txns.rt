@@ -12,6 +12,7 @@ use std::snapshot::Snapshot;
 
 impl<E: Engine> Acts<E> {
     ghost use Rattle.std.specs.Prelude.{◌≡◌, ◌≤◌, ◌<◌, ℕ, true, false, length, IfOk, OnOk};
+    ghost use Rattle.sg_checkpoints.specs.Checkpoints.{StaysMarked};
     ghost use Rattle.sg_ops.specs.Table.{Table};
     ghost use Rattle.sg_action.specs.States.{State};
     ghost use Rattle.sg_actions.specs.Acting.{HasChain};
@@ -37,6 +38,8 @@ impl<E: Engine> Acts<E> {
     /// Makes the log durable, and writes each changed page and band home.
     pub fn flush(&mut self) -> Result<(), SpaceFault>
         ensures rests { EngineRests (E.view self.old.engine) (E.view self.new.engine) result }
+        ensures written { OnOk result ((lsn : ℕ) → E.unwritten self.new.engine lsn → ⊥) }
+        ensures marked { OnOk result ((E.view self.old.engine).Told → StaysMarked (E.marked self.old.engine) (E.marked self.new.engine) E.ends_at (E.view self.new.engine).disk.now) }
         ensures means { Keeps (E.means self.old.engine) (E.means self.new.engine) }
         ensures looks { (t : Table) (from : State) → E.means self.old.engine t from → EngineLooks (E.recovers t) t (led from (E.view self.old.engine)) (led from (E.view self.new.engine)) result }
         ensures forced { OnOk result (IsForced (E.view self.new.engine)) }

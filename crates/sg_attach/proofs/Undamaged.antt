@@ -4,7 +4,7 @@ use mathlib.Core.Logic.{∥∥₁_elim}
 use Rattle.sg_base.specs.declared.area.Area.{Area}
 use Rattle.sg_base.specs.declared.area.Area.TheVariants.{Home}
 use Rattle.sg_disk.specs.Disk.{Image, View}
-use Rattle.sg_log.specs.Frames.{Numbered, numbered_in}
+use Rattle.sg_log.specs.Frames.{Numbered}
 use Rattle.sg_log.specs.Formed as log
 use Rattle.sg_log.proofs.Chain as chain
 use Rattle.sg_log.proofs.Unique.{Frames-one}
@@ -29,6 +29,7 @@ use Rattle.sg_opening.specs.Opening.{AreThere}
 use Rattle.sg_open.specs.Found.{Opens}
 use Rattle.sg_open.specs.Refusals.{StoreRefused, IsCause, IsBadLog}
 use Rattle.sg_open.proofs.Refusing.{none_out}
+use Rattle.sg_places.specs.Asked.{first_outside}
 use Rattle.sg_actions.specs.Steps.{Steps}
 use Rattle.sg_phys_laws.specs.Points.{IsMarked, AreMarked}
 use Rattle.sg_phys_laws.specs.Recovers.{origin_of, records_in, point_in, super_in, IsSoundImage, RecoversBy}
@@ -65,19 +66,19 @@ module _ (t : Table) (c : Image) (s : IsSoundImage (origin_of t c) (point_in (or
   abbrev ns : List Numbered
   ns = records_in o c
 
-  is_page_log : IsPageLog o.super.base ns
+  pub is_page_log : IsPageLog o.super.base ns
   is_page_log = record { steps = subst (IsLog o.super.base) (sym (steps_same [] ns)) formed; plausible = plausible_all ns s.low }
 
   pub log_whole : (at : ℕ) → log.IsDamagedAt (c (log_area o.super)) o.super.base at ⊎ analysis.IsDamagedAt (c (log_area o.super)) o.super.base at → ⊥
   log_whole at h = ⊎_elim (λ d. chain.undamaged s.held d) (λ d. undamaged s.held is_page_log d) h
 
   -- nor has it a record of a page or a band that the store doesn't have
+  pub none_outside : first_outside o.super.pages o.super.bands 0 s.held.frames ≡ None
+  none_outside = none_out o.super.pages o.super.bands 0 o.super.base s.held.frames (subst (AreThere o.super.pages o.super.bands) (sym s.held.all) (sound_there t c s))
+
   not_bad : (at : ℕ) → IsBadLog o.super (c (log_area o.super)) at → ⊥
   not_bad at h = ⊎_elim (λ d. log_whole at d) (λ out.
-      some_none at _ (none_out o.super.pages o.super.bands 0 o.super.base out.0
-      (subst (AreThere o.super.pages o.super.bands)
-      (sym (ap (numbered_in o.super.base) (Frames-one (c (log_area o.super)) 0 out.0 s.held.frames out.1 s.held.stand) ∙ s.held.all))
-      (sound_there t c s))) out.2) h
+      some_none at _ (ap (first_outside o.super.pages o.super.bands 0) (Frames-one (c (log_area o.super)) 0 out.0 s.held.frames out.1 s.held.stand) ∙ none_outside) out.2) h
 
   same_super : (x : Super) → superblock (c Home) ≡ Ok x → x ≡ o.super
   same_super x e = same (sym e ∙ s.super)
@@ -95,7 +96,7 @@ module _ (t : Table) (c : Image) (s : IsSoundImage (origin_of t c) (point_in (or
       clash {a} {e} k = cc
 
 -- so are those of an image of a store
-log_of : (t : Table) (c : Image) (rs : Steps) (x : State) → RecoversBy t c rs x → ∥ IsLog (super_in c).base (steps_of (records_in (origin_of t c) c)) ∥₁
+pub log_of : (t : Table) (c : Image) (rs : Steps) (x : State) → RecoversBy t c rs x → ∥ IsLog (super_in c).base (steps_of (records_in (origin_of t c) c)) ∥₁
 log_of t c rs x r = subst (λ (log : Steps). ∥ IsLog (super_in c).base log ∥₁) r.holds.records r.holds.formed
 
 -- SO IT IS REFUSED FOR NO DAMAGE,

@@ -79,7 +79,8 @@ pub fn attach<D: Presumed, L: Ledger>(
     ensures unfinished { IsTrue D.told → D.presumed → IfOk result (λ made. option_map (λ p. (p.0.0, p.1)) made.analysis.unfinished ≡ unfinished_of (seen D.told D.presumed D.view made.pages).steps) }
     // There are as many pages and bands as its superblock says.
     ensures extent { IsTrue D.told → D.presumed → IfOk result (λ made. IsExtentOf made.geometry (seen D.told D.presumed D.view made.pages).extent) }
-    // Such an image is refused only where the disk fails, for want of memory, or where a code isn't registered.
+    // Such an image is refused only where the disk fails or for want of memory. The other two causes that this clause lets be, damage of its
+    // log and an operation that isn't registered, are excluded by `undamaged` and `known`.
     ensures refused { let t = table_of record_meaning range_meaning ops.now in (from : State) (durable log : Log) → IsTrue D.told → IsStoreImage t from durable log (reads (D.view disk)) →
         IfErr result (λ not. ∥ StoreRefused D.told t (origin_of t (reads (D.view disk))) (records_in (origin_of t (reads (D.view disk))) (reads (D.view disk))) (D.view disk) (D.view not.disk) not.fault ∥₁) }
     // It is never refused as damaged.

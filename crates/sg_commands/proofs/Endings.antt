@@ -172,8 +172,9 @@ module _ (basis : Sizes → Ground) (says : Says) (t : Operations)
       (first : Objects) → StandsFor basis says t (reads_of old.disk) first → ((s : Objects) → StandsFor basis says t (reads_of old.disk) s → s ≡ first)
       → courses.Course t (basis z) v (start first) run.lines run.answers run.heard by_then run.stopped w → ((why : Stop) → by_then ≡ Some why → run.stopped ≡ Some why)
       → SplitsAt synced (at_first old) v.disk (λ i. StandsFor basis says t i first) → w.disk ≡ at_end new refused
-      → ((a : _) (i : ℕ) → (new.disk.now a).seen i < 256) → status ≡ status_of run.end run.stopped → Did basis says t old new refused status run
-  did_of old new refused status run synced by_then z v w first stands only c stays opening same bytes status_is =
+      → ((a : _) (i : ℕ) → (new.disk.now a).seen i < 256) → status ≡ status_of run.end run.stopped
+      → (run.stopped ≡ None → (i : disk.Image) → disk.Leaves w.disk.now i → says.checkpointed i) → Did basis says t old new refused status run
+  did_of old new refused status run synced by_then z v w first stands only c stays opening same bytes status_is checkpointed =
       let back : (i : disk.Image) → disk.Leaves new.disk.now i → disk.Leaves w.disk.now i = λ i leaves. subst (λ (u : disk.View). disk.Leaves u.now i)
       (sym same) leaves in
       record {
@@ -196,6 +197,7 @@ module _ (basis : Sizes → Ground) (says : Says) (t : Operations)
             record {
               answered = c.answered (none_first by_then run.stopped stays d.1);
               reads = its_own z (reads_of new.disk) (committed_objects t c.after) (c.done d.1 (reads_of new.disk) here);
+              checkpointed = λ i leaves. checkpointed d.1 i (back i leaves);
             });
         serial = c.serial;
         stays = λ why e. stays why (c.was ∙ e);
@@ -271,7 +273,8 @@ module _ {E : Type 0} (ghosts : Ghosts E) (says : Says) (t : Operations) (told :
   module _ (sized : (z : Sizes) (c : disk.Image) (m : Objects) → stores.StandsFor t (ghosts.basis z) c m → says.sizes c ≡ z)
       (one : (m other : Objects) → StandsFor ghosts.basis says t (reads_of old.disk) m → StandsFor ghosts.basis says t (reads_of old.disk) other → m ≡ other)
       (given : IsPresumed ghosts.basis says t told presumed old.disk) (bytes : IsTrue told → (a : _) (i : ℕ) → (new.disk.now a).seen i < 256)
-      (status_is : status ≡ status_of end stopped) where
+      (status_is : status ≡ status_of end stopped)
+      (checkpointed : stopped ≡ None → (ghosts.view e).Told → (c : disk.Image) → disk.Leaves (ghosts.view f).disk.now c → says.checkpointed c) where
     did : IsTrue told → presumed → Did ghosts.basis says t old new refused status the_run
     did is held =
         let m : IsOfStore ghosts.basis says t old.disk = given is held in
@@ -283,7 +286,7 @@ module _ {E : Type 0} (ghosts : Ghosts E) (says : Says) (t : Operations) (told :
         let opening : (synced : disk.View) × KeepsAll ghosts.basis says t presumed synced (at_first old) (ghosts.view e).disk = opened.moments is in
         did_of ghosts.basis says t sized old new refused status the_run opening.0 by_then z v w m.0 m.1 (λ s stands. one s m.0 stands m.1)
         (ran.course z st.from st.means (opened.tells is held) (start m.0) st.lawful shows) stays
-        (record { until = opening.1.until; behind = opening.1.behind held m.0 m.1 }) same (bytes is) status_is
+        (record { until = opening.1.until; behind = opening.1.behind held m.0 m.1 }) same (bytes is) status_is (λ going c leaves. checkpointed going (opened.tells is held) c leaves)
 
     pub ran_of : HasCause end old.source_faults new.source_faults old.sink_faults new.sink_faults → Ran ghosts.basis says t told presumed old new refused status
     ran_of cause = record {

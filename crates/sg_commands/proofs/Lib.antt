@@ -5,3 +5,4 @@ pub mod Wanting
 pub mod AllDone
 pub mod OverPages
 pub mod Logged
+pub mod Stored

@@ -1,6 +1,7 @@
 -- How the log of a disk's store is listed.
 use Rattle.std.proofs.Common.{◌≡◌, ◌≢◌, ◌⊎◌, inl, inr, ℕ, Bool, IsTrue, List, Option, Some, None, Result, Ok, Err, refl, sym, ap, subst, arith}
 use Rattle.std.specs.Prelude.{OnOk, OnErr, IfErr}
+use mathlib.Core.Logic.{∥∥₁_elim}
 use Rattle.sg_base.specs.Ends.{HasRisen, Takes}
 use Rattle.sg_disk.specs.Disk as disk
 use Rattle.sg_disk.specs.Disk.{Spent}
@@ -72,11 +73,15 @@ module _ (told : Bool) (v w : disk.View) (old new : Sunk) where
   for_none (faults.Damaged area at) (inl e) = absurd (cc)
   for_none (faults.Damaged area at) (inr e) = absurd (cc)
 
+  -- a log of a store is no reason
+  refuted : (e : InspectFault) → Goes (Err e) → IsLogUnhindered told v w old new → (IsNotOfStore e → ⊥) → ⊥
+  refuted e h u none = ∥∥₁_elim u.has (λ a b. absurd a) (λ log. none (h.sound u.is_told log))
+
   completes : (e : InspectFault) → Goes (Err e) → IsLogUnhindered told v w old new → (status_of_inspection e ≡ statuses.Done) ⊎ (status_of_inspection e ≡ statuses.Memory)
   completes faults.Disk h u = absurd (u.disk (h.cause u.is_told))
   completes faults.Sink h u = absurd (u.sink h.cause)
-  completes faults.NotAStore h u = absurd (h.sound u.is_told u.has)
-  completes (faults.Damaged area at) h u = absurd (h.sound u.is_told u.has)
+  completes faults.NotAStore h u = absurd (refuted faults.NotAStore h u (λ not. not))
+  completes (faults.Damaged area at) h u = absurd (refuted (faults.Damaged area at) h u (λ not. not))
   completes faults.Memory h u = inr refl
 
   pub lists_err : (e : InspectFault) (status : code_status.Status) → status ≡ status_of_inspection e → Goes (Err e) → ListsLog status told v w old new

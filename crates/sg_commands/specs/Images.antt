@@ -18,7 +18,7 @@ reads_of v a = (v.now a).seen
 
 -- WHAT AN IMAGE SAYS of the store that it is of: how many pages and bands that has, all of the sizes that it was made with, and where its log ends;
 -- when an operation that it needs isn't registered, with the code that is; when what begins at a byte of an area isn't a store's; when there is
--- no store in it, and when one of these sizes can be made
+-- no store in it, and when one of these sizes can be made; and that the last record of its log is a checkpoint
 pub record Says : Type 1 where
   pub sizes : Image → Sizes
   pub geometry : Image → Geometry
@@ -27,6 +27,7 @@ pub record Says : Type 1 where
   pub damaged : Operations → Image → Area → ℕ → Type 0
   pub no_store : Image → Type 0
   pub blank : Geometry → Image → Type 0
+  pub checkpointed : Image → Type 0
 
 module _ (basis : Sizes → Ground) (says : Says) where
   -- AN IMAGE STANDS FOR THESE OBJECTS, as a store of the sizes that it says itself

@@ -57,10 +57,11 @@ IsForNone statuses.Disk = Unit {0}
 IsForNone statuses.Memory = Unit {0}
 IsForNone other = ⊥
 
--- nothing hinders a listing: the disk tells, its bytes have the log of a store, and no count of faults can have risen
+-- nothing hinders a listing: the disk tells, its bytes have the log of a store, as those of each image that stands for objects do, and no count of
+-- faults can have risen
 pub record IsLogUnhindered (told : Bool) (v w : disk.View) (old new : Sunk) : Type 0 where
   pub is_told : IsTrue told
-  pub has : HasLog v.now
+  pub has : ∥ HasLog v.now ∥₁
   pub disk : HasRisen v.faults w.faults → ⊥
   pub sink : HasRisen old.faults new.faults → ⊥
 

@@ -17,6 +17,7 @@ use Rattle.sg_mount.specs.Making.{ground_of_sizes}
 use Rattle.sg_mount.specs.Opening.{IsInHome, sizes_in}
 use Rattle.sg_mount.specs.declared.fault.MountFault.{MountFault}
 use Rattle.sg_mount.specs.declared.fault.MountFault.TheVariants as faults
+use Rattle.sg_pages.specs.Marks.{EndsWithCheckpoint}
 use Rattle.sg_attach.specs.Ended.{end_in}
 use Rattle.sg_commands.specs.declared.opens.InitRefused.{InitRefused}
 use Rattle.sg_commands.specs.declared.opens.InitRefused.TheVariants as inits
@@ -39,7 +40,7 @@ geometry_in c = geometry_of (super_in c)
 -- registered, of those that opening needs. Where it is damaged: the first field of the superblock that is out of its range, the first frame of the
 -- log that isn't formed, or whose records may not follow or are of a page or a band that the store doesn't have, or else a page in home, or the
 -- first field out of its range in the header of a batch of pages. That neither slot of the superblock is open; and that what isn't written
--- by making a store of these sizes is 0 there
+-- by making a store of these sizes is 0 there. And that the last record of the log is a checkpoint
 abbrev pub says : Says
 says = record {
   sizes = sizes_in;
@@ -49,6 +50,7 @@ says = record {
   damaged = λ t c area at. IsCause t c (Damaged area at) ⊎ IsInHome c area at;
   no_store = IsNoStore;
   blank = λ g c. IsBlank (super_of g) c;
+  checkpointed = EndsWithCheckpoint;
 }
 
 -- why a store isn't opened, in the program's words

@@ -107,10 +107,12 @@ module _ (basis : Sizes → Ground) (says : Says) where
     pub images : (c : disk.Image) → disk.Leaves new.disk.now c → StandsForFirst basis says t to.after.so_far.answered to.after c
     pub one_more : length to.after.so_far.commits ≤ acknowledged run.lines run.heard + 1
 
-  -- With status Done all commits were answered, so that each image stands for the objects after all of them, and so does what reads give
+  -- With status Done all commits were answered, so that each image stands for the objects after all of them, and so does what reads give; and
+  -- the last record of each image that a crash leaves at the return is a checkpoint
   pub record IsDone (t : Operations) (new : Outside) (to : Outcome) : Type 0 where
     pub answered : to.after.so_far.answered ≡ length to.after.so_far.commits
     pub reads : StandsFor basis says t (reads_of new.disk) (committed_objects t to.after)
+    pub checkpointed : (c : disk.Image) → disk.Leaves new.disk.now c → says.checkpointed c
 
   -- WHAT A RUN DID where what the disk holds is known: it begins with the objects for which the image read at entry stands, and those alone, and
   -- each line is answered by what a line may be answered; what a crash leaves at the return, and what one leaves at each moment; what status

@@ -17,7 +17,7 @@ mod status;
 mod stores;
 mod top;
 
-pub use law::done_tells_all;
+pub use law::{done_tells_all, stores_have_logs};
 pub use opens::{InitRefused, OpenRefused, Opens, Unopened};
 pub use status::Status;
 pub use top::{Finish, serve};

@@ -1,5 +1,5 @@
 // What the program asks of an engine's opening.
-ghost use Rattle.std.specs.Prelude.{◌≡◌, ◌≤◌, Some, Ok, Err, IsTrue, IfOk, IfErr, OnOk};
+ghost use Rattle.std.specs.Prelude.{◌≡◌, ◌≤◌, ℕ, Some, Ok, Err, IsTrue, IfOk, IfErr, OnOk};
 ghost use Rattle.sg_base.specs.Ends.{HasRisen};
 ghost use Rattle.sg_disk.specs.Disk.{Image, LeavesOnly};
 ghost use Rattle.sg_gate.specs.Reads.{OnlyReads};
@@ -26,7 +26,7 @@ use std::alloc::Global;
 pub enum OpenRefused {
     /// A call of the disk failed.
     DiskFault,
-    /// There was not enough memory.
+    /// There was not enough memory. Or the log begins within an action of the system that has no end, which no store leaves.
     Memory,
     /// What stands at this offset of the area isn't a store's.
     Damaged { area: Area, at: u64 },
@@ -88,6 +88,9 @@ pub trait Opens<D: Presumed>: Lists {
 
     /// An image that stands for objects as a store of so many pages and bands says so itself.
     ghost sized: { (t : Operations) (z : Sizes) (c : Image) (m : Model) → stores.StandsFor t (Self.basis z) c m → (says).sizes c ≡ z };
+
+    /// An image whose last record is a checkpoint says so itself.
+    ghost checkpointed: { (c : Image) (lsn estimate : ℕ) → Self.ends_at c lsn estimate → (says).checkpointed c };
 
     /// An image stands for at most one collection of objects.
     ghost one: { (t : Operations) (c : Image) (m other : Model) → StandsFor Self.basis says t c m → StandsFor Self.basis says t c other → m ≡ other };

@@ -91,6 +91,8 @@ impl<D: Presumed> Opens<D> for Paged<Phys<D>> {
 
     ghost sized = { λ t z c m h. has_sizes t z c h.log h.pages h.recovers };
 
+    ghost checkpointed = { λ c lsn estimate ends. (lsn, estimate, ends) };
+
     ghost one = { λ t c m other h k. one_collection (basis_at RecoversBy (sizes_in c)) (one_log_sized (sizes_in c)) t c m other h k };
 
     fn open(alloc: Global, ops: &Ops, disk: D) -> Result<Store<Self>, Unopened<D>> {

@@ -1,4 +1,5 @@
 pub mod Lawful
+mod Wants
 pub mod Collections
 pub mod Done
 pub mod Notes

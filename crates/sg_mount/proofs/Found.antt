@@ -1,5 +1,5 @@
 -- What a store that was found shows, and why one is refused.
-use Rattle.std.proofs.Common.{◌≡◌, ◌⊎◌, ⊎_elim, ◌≤◌, ℕ, Bool, IsTrue, List, [], ◌∷◌, ◌++◌, map, inl, inr, refl, sym, ap, ◌∙◌, subst}
+use Rattle.std.proofs.Common.{◌≡◌, ◌⊎◌, ⊎_elim, ◌≤◌, ℕ, Bool, IsTrue, List, [], ◌∷◌, ◌++◌, map, Some, inl, inr, refl, sym, ap, ◌∙◌, subst}
 use Rattle.std.specs.Bool.{OnFalse}
 use Rattle.std.proofs.Props.{props}
 use mathlib.Core.Logic.{∥∥₁_elim}
@@ -29,6 +29,8 @@ use Rattle.sg_reader.proofs.Decide.{reader}
 use Rattle.sg_recovery.specs.Chains.{next_lsn}
 use Rattle.sg_recovery.specs.Formed.{IsLog}
 use Rattle.sg_recovery.specs.Log.{tally}
+use Rattle.sg_recovery.specs.Setting.{Setting}
+use Rattle.sg_recovery.specs.Stands.{settled}
 use Rattle.sg_shown.specs.Shown.{Over, Finds, RecoversSized, basis, extent_of, opened_of}
 use Rattle.sg_space.specs.declared.space.SpaceFault.TheVariants as spaces
 use Rattle.sg_starting.specs.Starting.{IfBroken, IsOpenedWith, IsStartDisk, oldest_first}
@@ -37,12 +39,13 @@ use Rattle.sg_starting.specs.declared.opening.StartFault.TheVariants as starts
 use Rattle.sg_starting.proofs.Finding.{losers_cover, losers_live, losers_apart}
 use Rattle.sg_store.proofs.Counting.{live_distinct}
 use Rattle.sg_store.specs.Engine.{AskedBy, Shown, Sizes}
+use Rattle.sg_store.specs.Ground.{setting}
 use Rattle.sg_store.specs.Stands.{StandsFor}
 use Rattle.sg_mount.specs.Making.{ground_of_sizes}
 use Rattle.sg_attach.specs.Ended.{end_in}
 use Rattle.sg_mount.specs.Opening.{AreShut, StandsAsPresumed, HasFound, IsFoundOn, IsHandedBack, ImageStandsFor, IsMountCause, IsStoreOf, IsUnwritten, KeepsStanding, of_opening, of_start, sizes_in}
 use Rattle.sg_mount.specs.declared.fault.MountFault.TheVariants as mounts
-use Rattle.sg_mount.proofs.Standing.{found, from, from_sized, image, image_stands, log_stands, opened, standing_is, stands_own}
+use Rattle.sg_mount.proofs.Standing.{found, from, from_sized, image, image_stands, log_same, log_stands, one_log, opened, pages_same, standing_is, stands_own}
 
 -- THE LOSERS that an analysis names are the transactions that go on, in the order of their begins
 orders_same : (live : List ℕ) → analysis.oldest_first live ≡ oldest_first live
@@ -93,6 +96,14 @@ module _ (t : Table) (c : Image) (m : Objects) (h : ImageStandsFor t c m) where
           apart = losers_apart live losers (live_distinct a.engine.steps formed.chained) are;
         };
         stands = log_stands t z c q a steps durable m h;
+        reads = λ log o i.
+            (let same = one_log t c log q.log i.pages q.pages i.recovers.image q.recovers.image in
+            let log_is : log ≡ a.engine.steps = same.0 ∙ log_same t z c q a steps durable in
+            let own : Setting = setting t (ground_of_sizes z) in (
+              sym log_is,
+              subst (λ (x : State). settled own (tally a.engine.steps).opened x ≡ Some o) (same.1 ∙ pages_same t z c q a steps durable)
+                  (subst (λ (l : Steps). settled own (tally l).opened i.pages ≡ Some o) log_is i.reads),
+            ));
       }
 
   -- each image of the moments behind the syncs stands for the same

@@ -7,6 +7,7 @@ use Rattle.sg_disk.specs.Disk.{View as DiskView}
 use Rattle.sg_disk.proofs.Moments.{joined, weaker}
 use Rattle.sg_find.specs.Synced.{SplitsAtSync, reads}
 use Rattle.sg_ops.specs.Table.{Table}
+use Rattle.sg_actions.specs.Steps.{Steps}
 use Rattle.sg_model.specs.Objects.{Objects}
 use Rattle.sg_phys_laws.specs.Recovers.{RecoversBy}
 use Rattle.sg_recovery.specs.Log.{tally}
@@ -14,7 +15,7 @@ use Rattle.sg_recovery.specs.Stands.{StandsFor as LogStands}
 use Rattle.sg_run.specs.Run.{start}
 use Rattle.sg_shown.specs.Shown.{basis}
 use Rattle.sg_space.specs.declared.space.SpaceFault.TheVariants as spaces
-use Rattle.sg_starting.specs.Starting.{AllStandFor, AreBuried, AreLosers, IfBroken, IsFound, IsStartDisk, IsStartEnd, IsUnread}
+use Rattle.sg_starting.specs.Starting.{AllStandFor, AreBuried, AreLosers, BeginsStock, IfBroken, IsFound, IsRead, IsStartDisk, IsStartEnd, IsUnread}
 use Rattle.sg_starting.specs.declared.opening.StartFault.{StartFault}
 use Rattle.sg_starting.specs.declared.opening.StartFault.TheVariants as starts
 use Rattle.sg_store.specs.Accounting.{AccountsFor, Unfailed}
@@ -69,8 +70,9 @@ module _ (t : Table) (told : Bool) (presumed : Type 0) (v : DiskView) (losers : 
 
   -- A STORE HAS STARTED
   pub has_started : (k : Core) → KeepsBy t e w → Ran t losers (λ g v w m. HasObjects [] m m k t g w) e w → Ran t losers (λ g v w m. Shows t g w k (start m) × AreBuried t g w 0) e w
-      → IsTrue told → presumed → (m : Objects) → ImageStandsFor t (reads v) m → HasStarted t (sizes_in (reads v)) m k w
-  has_started k means has shows is p m h =
+      → Ran t losers (λ g v w m. (o : g.O) → IsRead t g v o → BeginsStock t g o (tally v.log).notes w) e w
+      → IsTrue told → presumed → (m : Objects) → ImageStandsFor t (reads v) m → HasStarted t (reads v) m k w
+  has_started k means has shows stock is p m h =
       let found = f.has is p m h in
       let s = ran (λ g v w m. Shows t g w k (start m) × AreBuried t g w 0) shows is p m h found in
       record {
@@ -79,15 +81,20 @@ module _ (t : Table) (told : Bool) (presumed : Type 0) (v : DiskView) (losers : 
         has = ran (λ g v w m. HasObjects [] m m k t g w) has is p m h found;
         shows = s.0;
         buried = s.1;
+        stock = λ log o i.
+            (let r = found.reads log o i in
+            subst (λ (l : Steps). BeginsStock t (ground_of_sizes (sizes_in (reads v))) o (tally l).notes (led t (sizes_in (reads v)) found.from w)) r.0
+            (ran (λ g v w m. (o : g.O) → IsRead t g v o → BeginsStock t g o (tally v.log).notes w) stock is p m h found o r.1));
       }
 
   pub has_opened : (k : Core) → k ≡ record { live = []; held = []; stopped = None } → KeepsBy t e w → (e.Told → w.Told) → Unfailed e w
-      → Ran t losers (λ g v w m. HasObjects [] m m k t g w) e w → Ran t losers (λ g v w m. Shows t g w k (start m) × AreBuried t g w 0) e w → Ran t losers (λ g v w m. AllStandFor t g v w m) e w
+      → Ran t losers (λ g v w m. HasObjects [] m m k t g w) e w → Ran t losers (λ g v w m. Shows t g w k (start m) × AreBuried t g w 0) e w
+      → Ran t losers (λ g v w m. (o : g.O) → IsRead t g v o → BeginsStock t g o (tally v.log).notes w) e w → Ran t losers (λ g v w m. AllStandFor t g v w m) e w
       → HasOpenedOn t told presumed v k w
-  has_opened k core means tells same has shows stands = record {
+  has_opened k core means tells same has shows stock stands = record {
     core = core;
     tells = λ is p. tells (f.tells is p);
-    has = has_started k means has shows;
+    has = has_started k means has shows stock;
     moments = keeps_standing stands;
     heeded = same.faults ∙ f.heeded;
     shown = λ is. shown_then v e.disk w.disk (end_in (reads v)) e.gate w.gate same.handed (f.shown is) same.shown;

@@ -110,10 +110,10 @@ module _ (t : Table) (z : Sizes) (c : Image) (q : IsStoreOf t z c) where
     abbrev pub v : View g
     v = led t z from (opened_of RecoversBy a)
 
-    log_same : q.log ≡ a.engine.steps
+    pub log_same : q.log ≡ a.engine.steps
     log_same = log_is ∙ sym steps_are
 
-    pages_same : q.pages ≡ made s from a.engine.steps
+    pub pages_same : q.pages ≡ made s from a.engine.steps
     pages_same = pages_are ∙ ap (made s from) log_same
 
     pub found : IsLog a.engine.base a.engine.steps → next_lsn a.engine.steps ≤ a.engine.tail → StandsNow (RecoversBy t) t (led_engine from a.engine) → IsFound t g v

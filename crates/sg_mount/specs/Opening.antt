@@ -15,7 +15,7 @@ use Rattle.sg_find.specs.declared.fault.OpenFault.TheVariants as opens
 use Rattle.sg_space.specs.declared.space.SpaceFault.TheVariants as spaces
 use Rattle.sg_find.specs.Synced.{IsUnsynced, SplitsAtSync, reads}
 use Rattle.sg_run.specs.Run.{start}
-use Rattle.sg_starting.specs.Starting.{AreBuried, IsOpenedWith}
+use Rattle.sg_starting.specs.Starting.{AreBuried, BeginsStock, IsOpenedWith, IsRead}
 use Rattle.sg_starting.specs.declared.opening.StartFault.{StartFault}
 use Rattle.sg_starting.specs.declared.opening.StartFault.TheVariants as starts
 use Rattle.sg_attach.specs.Ended.{end_in}
@@ -75,6 +75,12 @@ pub record IsStoreOf (t : Table) (z : Sizes) (c : Image) : Type 0 where
 abbrev pub KeepsStanding : Table → (presumed : Type 0) → (old new mid : disk.View) → Type 0
 KeepsStanding t presumed old new mid = presumed → (m : Objects) → ImageStandsFor t (reads old) m → LeavesOnly mid new (λ c. ImageStandsFor t c m)
 
+-- WHAT AN IMAGE READS AS, with its log: history is repeated, and what an action did that has no end is taken off
+pub record ImageReads (t : Table) (c : Image) (log : Steps) (o : Reading) : Type 0 where
+  pub pages : State
+  pub recovers : RecoversSized RecoversBy (sizes_in c) t c log pages
+  pub reads : settled (setting t (ground_of_sizes (sizes_in c))) (tally log).opened pages ≡ Some o
+
 -- THE STORE OF AN IMAGE WAS FOUND that stands for these objects: its engine has the sizes of that, may be started with these losers, and its log
 -- stands for them
 pub record HasFound (t : Table) (c : Image) (m : Objects) (losers : List TxnId) (e : Shown (basis RecoversBy)) : Type 0 where
@@ -82,6 +88,7 @@ pub record HasFound (t : Table) (c : Image) (m : Objects) (losers : List TxnId) 
   pub means : e.means t (sizes_in c) from
   pub opened : IsOpenedWith losers t (ground_of_sizes (sizes_in c)) (led t (sizes_in c) from e)
   pub stands : LogStands (setting t (ground_of_sizes (sizes_in c))) from (e.records (sizes_in c)).log m
+  pub reads : (log : Steps) (o : Reading) → ImageReads t c log o → ((e.records (sizes_in c)).log ≡ log) × IsRead t (ground_of_sizes (sizes_in c)) (led t (sizes_in c) from e) o
 
 -- A STORE WAS FOUND on a disk. On any disk it may be started. Where the disk tells and what is presumed of it holds, its engine tells, and it is the
 -- store of the image that was read; each image of each moment, once all areas had been synced, stands for what that stood for
@@ -95,21 +102,22 @@ pub record IsFoundOn (t : Table) (told : Bool) (presumed : Type 0) (v : disk.Vie
   pub handed : v.handed ≤ e.disk.handed
   pub shown : IsTrue told → IsShownEnd v e.disk (end_in (reads v)) e.gate
 
--- A STORE HAS STARTED with these objects, as one of so many pages and bands: it shows a run that begins with them, no transaction is live, and
--- nothing is buried
-pub record HasStarted (t : Table) (z : Sizes) (m : Objects) (k : Core) (e : Shown (basis RecoversBy)) : Type 0 where
+-- A STORE HAS STARTED with these objects, of an image: it shows a run that begins with them, no transaction is live, and nothing is buried; and its
+-- stock is that of the image, with what the transactions did undone that went on
+pub record HasStarted (t : Table) (c : Image) (m : Objects) (k : Core) (e : Shown (basis RecoversBy)) : Type 0 where
   pub from : State
-  pub means : e.means t z from
-  pub has : HasObjects [] m m k t (ground_of_sizes z) (led t z from e)
-  pub shows : Shows t (ground_of_sizes z) (led t z from e) k (start m)
-  pub buried : AreBuried t (ground_of_sizes z) (led t z from e) 0
+  pub means : e.means t (sizes_in c) from
+  pub has : HasObjects [] m m k t (ground_of_sizes (sizes_in c)) (led t (sizes_in c) from e)
+  pub shows : Shows t (ground_of_sizes (sizes_in c)) (led t (sizes_in c) from e) k (start m)
+  pub buried : AreBuried t (ground_of_sizes (sizes_in c)) (led t (sizes_in c) from e) 0
+  pub stock : (log : Steps) (o : Reading) → ImageReads t c log o → BeginsStock t (ground_of_sizes (sizes_in c)) o (tally log).notes (led t (sizes_in c) from e)
 
 -- A STORE HAS OPENED on a disk. Where the disk tells and what is presumed of it holds, its engine tells, and it has the objects for which the image
 -- stands that was read. Once all areas had been synced each image of each moment stands for them
 pub record HasOpenedOn (t : Table) (told : Bool) (presumed : Type 0) (v : disk.View) (k : Core) (e : Shown (basis RecoversBy)) : Type 0 where
   pub core : k ≡ record { live = []; held = []; stopped = None }
   pub tells : IsTrue told → presumed → e.Told
-  pub has : IsTrue told → presumed → (m : Objects) → ImageStandsFor t (reads v) m → HasStarted t (sizes_in (reads v)) m k e
+  pub has : IsTrue told → presumed → (m : Objects) → ImageStandsFor t (reads v) m → HasStarted t (reads v) m k e
   pub moments : IsTrue told → SplitsAtSync v (KeepsStanding t presumed v e.disk)
   pub heeded : e.disk.faults ≡ v.faults
   pub shown : IsTrue told → IsShownEnd v e.disk (end_in (reads v)) e.gate

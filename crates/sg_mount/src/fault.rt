@@ -6,7 +6,7 @@ use sg_disk::Disk;
 pub enum MountFault {
     /// A call of the disk failed.
     Disk,
-    /// There was not enough memory.
+    /// There was not enough memory. Or the log begins within an action of the system that has no end, which no store leaves.
     Memory,
     /// A record might pass the end of the log.
     LogEnd,

@@ -90,7 +90,7 @@ pub possible_whole : {t : Operations} {v : View} (bytes : List ℕ) → IsPossib
 possible_whole {t} bytes p = said_whole t bytes p.found p.th p.there p.possible
 
 -- others say their name
-said_name : {bytes name rest : List ℕ} {code : ℕ} → is_whole bytes ≡ true → IsRead bytes code name rest → (note_said bytes).name ≡ name
+pub said_name : {bytes name rest : List ℕ} {code : ℕ} → is_whole bytes ≡ true → IsRead bytes code name rest → (note_said bytes).name ≡ name
 said_name {bytes} whole r = ap (λ (b : Bool). if b then take (byte_at bytes 1) (drop 2 bytes) else []) whole ∙ r.name
 
 -- and have it and their further fields

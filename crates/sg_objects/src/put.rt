@@ -10,6 +10,7 @@ ghost use Rattle.sg_objects.specs.Found.{PutChecked};
 ghost use Rattle.sg_objects.specs.Undone.{CanUndo, Undoes};
 ghost use Rattle.sg_reading.specs.Back.Undoing.{WasOver};
 ghost use Rattle.sg_objects.specs.Shaped.{Shapes};
+ghost use Rattle.sg_objects.specs.Reshaped.{Reshapes};
 ghost use Rattle.sg_space.specs.Pages.{WritesNone};
 ghost use Rattle.sg_objects.specs.Quiet.{IsQuiet, most_records};
 
@@ -105,6 +106,7 @@ pub fn undo_over<P: PageSpace>(
     requires page { (P.view space.old).Told → 1 ≤ (P.view space.old).space.pages.free }
     ensures counts { Counts (P.view space.old) (P.view space.new) result }
     ensures did { OnOk result (Undoes (P.view space.old) (P.view space.new) (table_of record_meaning range_meaning ops.now) (WasOver key.now value.now) name) }
+    ensures splits { OnOk result (Reshapes (P.view space.old) (P.view space.new) (WasOver key.now value.now) name) }
     ensures later { P.later (table_of record_meaning range_meaning ops.now) space.old space.new }
     ensures means { P.means space.new (table_of record_meaning range_meaning ops.now) }
     ensures few { (P.view space.new).records ≤ (P.view space.old).records + 8 }

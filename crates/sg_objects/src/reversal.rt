@@ -4,9 +4,10 @@ ghost use Rattle.sg_ops.specs.Table.{table_of};
 ghost use Rattle.sg_space.specs.View.{Counts};
 ghost use Rattle.sg_contents.specs.Standing.{HasContents};
 ghost use Rattle.sg_objects.specs.Done.{IsFresh};
-ghost use Rattle.sg_objects.specs.Notes.{byte_at, undoing_said};
+ghost use Rattle.sg_objects.specs.Notes.{byte_at, undoing_said, note_said};
 ghost use Rattle.sg_objects.specs.Reversing.{CanReverseBy, HasNote, Reverses};
 ghost use Rattle.sg_objects.specs.Undone.{Undoes};
+ghost use Rattle.sg_objects.specs.Reshaped.{Reshapes};
 ghost use Rattle.sg_objects.specs.Quiet.{most_freed};
 
 use crate::back::{undo_apply, undo_drop, undo_pop, undo_push, undo_set};
@@ -30,6 +31,7 @@ fn reverse_over<P: PageSpace>(
     requires fresh { (P.view space.old).Told → IsFresh (P.view space.old) }
     ensures counts { Counts (P.view space.old) (P.view space.new) result }
     ensures did { OnOk result (Undoes (P.view space.old) (P.view space.new) (table_of record_meaning range_meaning ops.now) (undoing_said 8 rest.now) name) }
+    ensures splits { OnOk result (Reshapes (P.view space.old) (P.view space.new) (undoing_said 8 rest.now) name) }
     ensures later { P.later (table_of record_meaning range_meaning ops.now) space.old space.new }
     ensures means { P.means space.new (table_of record_meaning range_meaning ops.now) }
     ensures few { (P.view space.new).records ≤ (P.view space.old).records + 8 }
@@ -66,6 +68,7 @@ fn reverse_by<P: PageSpace>(
     requires fresh { (P.view space.old).Told → IsFresh (P.view space.old) }
     ensures counts { Counts (P.view space.old) (P.view space.new) result }
     ensures did { OnOk result (Undoes (P.view space.old) (P.view space.new) (table_of record_meaning range_meaning ops.now) (undoing_said code rest.now) name) }
+    ensures splits { OnOk result (Reshapes (P.view space.old) (P.view space.new) (undoing_said code rest.now) name) }
     ensures later { P.later (table_of record_meaning range_meaning ops.now) space.old space.new }
     ensures means { P.means space.new (table_of record_meaning range_meaning ops.now) }
     ensures few { (P.view space.old).Told → (P.view space.new).records ≤ (P.view space.old).records + most_freed }
@@ -119,6 +122,7 @@ pub fn reverse<P: PageSpace>(space: &mut P, ops: &Ops, note: &UndoNote) -> Resul
     requires fresh { (P.view space.old).Told → (byte_at note.now 0 ≡ 9 → ⊥) → IsFresh (P.view space.old) }
     ensures counts { Counts (P.view space.old) (P.view space.new) result }
     ensures did { OnOk result (Reverses (P.view space.old) (P.view space.new) (table_of record_meaning range_meaning ops.now) note.now) }
+    ensures splits { OnOk result (Reshapes (P.view space.old) (P.view space.new) (note_said note.now).undoes (note_said note.now).name) }
     ensures later { P.later (table_of record_meaning range_meaning ops.now) space.old space.new }
     ensures means { P.means space.new (table_of record_meaning range_meaning ops.now) }
     ensures few { (P.view space.old).Told → (P.view space.new).records ≤ (P.view space.old).records + most_freed }

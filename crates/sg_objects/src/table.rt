@@ -10,6 +10,7 @@ ghost use Rattle.sg_objects.specs.Found.{KeyChecked};
 ghost use Rattle.sg_objects.specs.Undone.{CanUndo, Undoes};
 ghost use Rattle.sg_reading.specs.Back.Undoing.{WasPut};
 ghost use Rattle.sg_objects.specs.Shaped.{Shapes};
+ghost use Rattle.sg_objects.specs.Reshaped.{Reshapes};
 ghost use Rattle.sg_space.specs.Pages.{WritesNone};
 ghost use Rattle.sg_objects.specs.Quiet.{IsQuiet, LooksAlone};
 
@@ -131,6 +132,7 @@ pub fn undo_put<P: PageSpace>(
     requires there { HasContents (P.view space.old) (CanUndo (table_of record_meaning range_meaning ops.now) (WasPut key.now) name) }
     ensures counts { Counts (P.view space.old) (P.view space.new) result }
     ensures did { OnOk result (Undoes (P.view space.old) (P.view space.new) (table_of record_meaning range_meaning ops.now) (WasPut key.now) name) }
+    ensures splits { OnOk result (Reshapes (P.view space.old) (P.view space.new) (WasPut key.now) name) }
     ensures later { P.later (table_of record_meaning range_meaning ops.now) space.old space.new }
     ensures means { P.means space.new (table_of record_meaning range_meaning ops.now) }
     ensures few { (P.view space.new).records ≤ (P.view space.old).records + 4 }

@@ -1,5 +1,6 @@
 // Calls that append no record of a transaction.
-ghost use Rattle.std.specs.Prelude.{◌≡◌, IfErr, OnOk};
+ghost use Rattle.std.specs.Prelude.{◌≡◌, ◌≤◌, ◌+◌, ℕ, IfErr, OnOk};
+ghost use Rattle.sg_checkpoints.specs.Checkpoints.{HasMarked, StaysMarked};
 ghost use Rattle.sg_store.specs.Engine.{Keeps, AsMeant, Asked, IsEngine, IsIdle, IsAtRest, Rests, Rested, Counts, IsDiskFault, IsNearEnd};
 ghost use Rattle.sg_shown.specs.Shown.{shown};
 
@@ -12,6 +13,8 @@ pub fn flush<E: Engine>(acts: &mut Acts<E>) -> Result<(), SpaceFault>
     requires can { Asked (shown acts.old) IsAtRest }
     ensures counts { Counts IsDiskFault (shown acts.old) (shown acts.new) result }
     ensures means { Keeps (shown acts.old) (shown acts.new) }
+    ensures written { OnOk result ((lsn : ℕ) → E.unwritten acts.new.engine lsn → ⊥) }
+    ensures marked { OnOk result ((shown acts.old).Told → StaysMarked (E.marked acts.old.engine) (E.marked acts.new.engine) E.ends_at (shown acts.new).disk.now) }
     ensures reads { IfErr result IsDiskFault }
     ensures rests { AsMeant (shown acts.old) (shown acts.new) (λ t g v w. IsEngine t g v
         → IsIdle v → Rests t g v w × OnOk result (Rested t g v w × (w.durable ≡ w.log))) }
@@ -24,6 +27,9 @@ pub fn checkpoint<E: Engine>(acts: &mut Acts<E>) -> Result<(), SpaceFault>
     requires can { Asked (shown acts.old) IsAtRest }
     ensures counts { Counts IsDiskFault (shown acts.old) (shown acts.new) result }
     ensures means { Keeps (shown acts.old) (shown acts.new) }
+    // what waits, the record's 1,055 bytes at most, and twice what a frame has beside its records
+    ensures hands { (shown acts.new).disk.handed ≤ (shown acts.old).disk.handed + E.waiting acts.old.engine + 1067 }
+    ensures marks { OnOk result ((shown acts.old).Told → HasMarked (shown acts.old).tail (E.unwritten acts.old.engine) (E.marked acts.new.engine) E.ends_at (shown acts.new).disk.now) }
     ensures log_end { IfErr result (IsNearEnd (shown acts.old).tail) }
     ensures rests { AsMeant (shown acts.old) (shown acts.new) (λ t g v w. IsEngine t g v
         → IsIdle v → Rests t g v w × OnOk result (Rested t g v w × (w.durable ≡ w.log))) }

@@ -49,6 +49,12 @@ impl<E: Engine> sg_store::Engine for Paged<E> {
 
     ghost waiting = { λ s. E.waiting s.acts.engine };
 
+    ghost unwritten = { λ s. E.unwritten s.acts.engine };
+
+    ghost marked = { λ s. E.marked s.acts.engine };
+
+    ghost ends_at = { E.ends_at };
+
     ghost opened = { λ s. opened s.acts s.room };
 
     ghost waits = { λ s. s.waits };

@@ -21,7 +21,7 @@ use Rattle.sg_engine.specs.Engine.{Origin, IsStanding, log_area}
 use Rattle.sg_engine.specs.Running.{IsEngine, IsAllowed, HasGoneOn}
 use Rattle.sg_engine.specs.declared.fault.EngineFault.{EngineFault}
 use Rattle.sg_engine.proofs.Pools.{point_allowed, unwritten_low}
-use Rattle.sg_actions.specs.Checkpoints.{Estimates, StillMarked}
+use Rattle.sg_checkpoints.specs.Checkpoints.{Estimates, StaysMarked}
 use Rattle.sg_actions.specs.Engine.{EngineLooks, led}
 use Rattle.sg_actions.specs.Images.{Grows}
 use Rattle.sg_actions.specs.Steps.{Steps}
@@ -123,8 +123,8 @@ module _ (o : Origin) (w : View) (log : Tail) (ns : List Numbered) (pool : Pool)
 pub forced_ends : (Given : Type 0) (p : Parts) (w : View) (log : Tail) (pool : Pool) (some : StandsForSome Given p.failed p.found p.disk p.log p.pool)
     → ((o : Origin) (ds ps : List Numbered) → Given → IsEngine o p.disk p.log ds ps p.pool → IsEngine o w log (ds ++ ps) [] pool)
     → ((o : Origin) (ds ps : List Numbered) (k : ℕ) → Given → IsEngine o p.disk p.log ds ps p.pool → IsAllowed o p.disk p.log p.pool k → IsAllowed o w log pool k)
-    → (lsn estimate : ℕ) → LogEnds p.disk p.log lsn estimate → Tells Given p.failed → StillMarked (LogEnds w log) ImageEnds w.now lsn estimate
-forced_ends Given p w log pool some forced allowed lsn estimate ends tell = record {
+    → Tells Given p.failed → StaysMarked (LogEnds p.disk p.log) (LogEnds w log) ImageEnds w.now
+forced_ends Given p w log pool some forced allowed tell lsn estimate ends = record {
   last = by_poised Given p some ∥∥₁_prop
       (λ t from m q. (let o = origin_of t (seen_of p.found) in
       let e = forced o (durable_in p.disk p.log) (waiting_in p.log) tell.tells q.now.engine in

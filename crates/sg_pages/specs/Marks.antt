@@ -23,3 +23,7 @@ LogEnds v log lsn estimate = ∥ EndsWith (durable_in v log ++ waiting_in log) l
 -- THE LAST RECORD OF AN IMAGE'S LOG is one, as its bytes have it
 abbrev pub ImageEnds : Image → (lsn estimate : ℕ) → Type 0
 ImageEnds c lsn estimate = ∥ EndsWith (frames_read LOG_END (c (log_area (super_in c))) (super_in c).base 0) lsn estimate ∥₁
+
+-- it is one, whatever its number and its estimate
+abbrev pub EndsWithCheckpoint : Image → Type 0
+EndsWithCheckpoint c = (lsn : ℕ) × (estimate : ℕ) × ImageEnds c lsn estimate

@@ -7,7 +7,7 @@ ghost use Rattle.sg_pool.specs.Pooled.{IsUnwritten};
 ghost use Rattle.sg_record.specs.Records.{spelled};
 ghost use Rattle.sg_record.specs.Records.Says.{Checkpoint};
 ghost use Rattle.sg_record.specs.Shown.{by};
-ghost use Rattle.sg_actions.specs.Checkpoints.{Estimates, Marks};
+ghost use Rattle.sg_checkpoints.specs.Checkpoints.{Estimates, Marks};
 ghost use Rattle.sg_actions.specs.Engine.{EngineGrows, EngineLooks, Keeps, led};
 ghost use Rattle.sg_actions.specs.Handing.{HandsOver};
 ghost use Rattle.sg_engine.specs.Calls.{WaitsFrame};

@@ -23,6 +23,7 @@ impl<D: Presumed> Engine for Phys<D> {
     ghost use Rattle.sg_phys_laws.specs.Waiting.{waiting_of};
     ghost use Rattle.sg_reader.specs.Reader.{limits};
     ghost use Rattle.sg_reader.proofs.Decide.{reader};
+    ghost use Rattle.sg_pages.specs.Marks.{LogEnds, ImageEnds};
     ghost use Rattle.sg_pages.specs.Parts.{parts, seen, stands};
 
     ghost limits = { λ pages bands. limits (reader pages bands) };
@@ -42,6 +43,10 @@ impl<D: Presumed> Engine for Phys<D> {
     ghost first_byte = { λ s. s.engine.log.base };
 
     ghost waiting = { λ s. waiting_of s.engine.log };
+
+    ghost marked = { λ s. LogEnds (D.view s.engine.disk) s.engine.log };
+
+    ghost ends_at = { ImageEnds };
 
     ghost told_whole = { λ s told. told.whole };
 

@@ -11,4 +11,3 @@ pub mod Ready
 pub mod Pasts
 pub mod Holding
 pub mod Texts
-pub mod Summing

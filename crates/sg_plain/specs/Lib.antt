@@ -9,5 +9,3 @@ pub mod Changed
 pub mod Ready
 pub mod Back
 pub mod Hand
-pub mod Text
-pub mod Summed

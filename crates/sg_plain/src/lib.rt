@@ -1,7 +1,7 @@
 //! Objects under names in memory, and what every verb does to them: arrays of items of one size,
 //! tables of values under keys, and blobs of bytes.
 //!
-//! It stands on `sg_base`, `sg_ops` and `sg_model`, and for the text of objects on `sg_text` and `sg_words`. It promises that `Objects::apply` answers and
+//! It stands on `sg_base`, `sg_ops` and `sg_model`, and for the text of objects on `sg_words` and `sg_lines`, whose summary it hands on. It promises that `Objects::apply` answers and
 //! changes exactly as the definition of a step says, with the operations that are handed to it, that
 //! a refused operation changes nothing, and that memory runs out only where an operation that takes
 //! memory for what it leaves would have been done. `Objects::change` does the same and notes what
@@ -15,7 +15,6 @@ mod blob;
 mod changes;
 mod front;
 mod hand;
-mod line;
 mod notes;
 mod object;
 mod objects;
@@ -32,7 +31,7 @@ pub use blob::Blob;
 pub use changes::Changes;
 pub use object::Object;
 pub use objects::Objects;
-pub use summary::Summary;
+pub use sg_lines::Summary;
 pub use table::Table;
 pub use text::TextFault;
 pub use undo::{Past, Undo};

@@ -6,13 +6,13 @@ ghost use Rattle.std.specs.Ordering.{nat_cmp};
 ghost use Rattle.sg_words.specs.Writing.{Writes};
 ghost use Rattle.sg_plain.specs.Hand.{present_in};
 ghost use Rattle.sg_plain.specs.Shown.{shown};
-ghost use Rattle.sg_plain.specs.Text.{item_line, item_lines, piece_lines, text_of_object, texts_of};
+ghost use Rattle.sg_lines.specs.Text.{item_line, item_lines, piece_lines, text_of_object, texts_of};
 
 use crate::array::Array;
 use crate::hand::present;
-use crate::line::{write_heading, write_item, write_piece};
 use crate::object::Object;
 use sg_base::{Failed, Name, Sink};
+use sg_lines::{write_heading, write_item, write_piece};
 use std::collections::BTreeMap;
 
 /// Why objects aren't written.

@@ -40,7 +40,7 @@ use Rattle.sg_starting.specs.declared.opening.StartFault.{StartFault}
 use Rattle.sg_starting.specs.declared.opening.StartFault.TheVariants.{Space, Broken, Memory}
 use Rattle.sg_regained.specs.Regained.{TookOff, RestsAt, EndVacant, CanGoOver}
 use Rattle.sg_regained.proofs.Spared.{spare_of}
-use Rattle.sg_regained.proofs.Taking.{offs_live}
+use Rattle.sg_regained.proofs.Taking.{offs_live, offs_notes}
 use Rattle.sg_regained.proofs.Flagged.{well_now, walked_taken, walked_counted, walked_map}
 
 -- WHAT CAN BE TAKEN OFF of pages that one run of steps makes can be of those that another makes, where both are what is held
@@ -164,6 +164,8 @@ module _ (recovers : Recovering) (a c : Over) (t : Table) (z : Sizes) (from : St
       durable = grows_is (w.went.gone whole).durable;
       idle = none_open h;
       live = ap (λ (rs : Steps). (tally rs).live) steps ∙ offs_live txn w.went.made a.engine.steps w.went.are;
+      notes = ap (λ (rs : Steps). (tally rs).notes) steps ∙ offs_notes txn w.went.made a.engine.steps w.went.are;
+      reads = λ o is. ap (basis recovers z).reading pages_now ∙ (sym settled_is ∙ is);
       free = λ o e.
           let f = walks_free (basis_at recovers z) c.engine.now c.maps h.walked o (ap (basis recovers z).reading (sym pages_now) ∙ e) in
           let none = h.freed.pages in omega (arith, f, none);

@@ -105,3 +105,12 @@ offs_live txn (r ∷ made) log h = one_lives txn (made ++ log) r.lsn r.is h.0 �
 pub both_ok : {T E : Type 0} {P Q R : Type 0} (r : Result T E) → OnOk r P → OnOk r Q → (P → Q → R) → OnOk r R
 both_ok (Ok x) p q f = f p q
 both_ok (Err e) p q f = tt
+
+-- and which notes stand
+one_notes : (txn : ℕ) (log : Steps) (lsn : ℕ) (x : Step) → TakesLast log txn x ⊎ IsOver log txn x → (tally (stepped log lsn x)).notes ≡ (tally log).notes
+one_notes txn log lsn x (inl h) = ap (λ (y : Step). (tally (stepped log lsn y)).notes) h.is
+one_notes txn log lsn x (inr h) = ap (λ (y : Step). (tally (stepped log lsn y)).notes) h.is
+
+pub offs_notes : (txn : ℕ) (made log : Steps) → AreOffSteps txn made log → (tally (made ++ log)).notes ≡ (tally log).notes
+offs_notes txn [] log h = refl
+offs_notes txn (r ∷ made) log h = one_notes txn (made ++ log) r.lsn r.is h.0 ∙ offs_notes txn made log h.1

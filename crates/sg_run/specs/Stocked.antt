@@ -33,10 +33,13 @@ reserved x = reserved_in x.stock.steps
 abbrev pub stock_now : Operations → Stocked → Stock
 stock_now t x = stock_with (live_objects t x.run) x.stock.marks
 
--- what an operation needs, by what stands under its name
+-- what an operation needs, by what stands under its name and by the greatest size that this had
+abbrev pub needed_by : Objects → Marks → Op → Needed
+needed_by s m (On name verb) = needed verb (get s name) (peak_of (get m.live name))
+needed_by s m Names = no_needs
+
 abbrev pub needs : Operations → Stocked → Op → Needed
-needs t x (On name verb) = needed verb (get (live_objects t x.run) name) (peak_of (get x.stock.marks.live name))
-needs t x Names = no_needs
+needs t x op = needed_by (live_objects t x.run) x.stock.marks op
 
 -- What is told of a store at a call: how many pages and bands are free at its begin; where the log's tail is then, and at the
 -- call's return; and the counts of faults then

@@ -1,4 +1,5 @@
-ghost use Rattle.std.specs.Prelude.{◌≡◌, ◌⊎◌, ◌≤◌, ◌<◌, length, Some};
+ghost use Rattle.std.specs.Prelude.{◌≡◌, ◌⊎◌, ◌≤◌, ◌<◌, ℕ, length, Some, None};
+ghost use Rattle.sg_checkpoints.specs.Checkpoints.{EndsMarked};
 ghost use Rattle.sg_model.specs.declared.stop.Stop.{Stop as StopWhy};
 ghost use Rattle.sg_ops.specs.Table.{table_of};
 ghost use Rattle.sg_run.specs.Numbers.{IsAtEnd};
@@ -52,6 +53,9 @@ pub fn run<E: Lists, S: Source, K: Sink>(
     // and else it stops for the log's end only where a record might pass that
     ensures full { result.stop ≡ Some Stop.LogEnd → (result.by_then ≡ Some Stop.LogEnd) ⊎ IsAtEnd (E.view result.engine).tail }
     ensures heeds { Heeds session.store.stop result.stop (E.view (session_engine session)) (E.view result.engine) }
+    // where it hasn't stopped all is home, and the last record of each image that a crash leaves now is a checkpoint
+    ensures written { result.stop ≡ None → (lsn : ℕ) → E.unwritten result.engine lsn → ⊥ }
+    ensures marked { result.stop ≡ None → (E.view (session_engine session)).Told → EndsMarked (E.view (session_engine session)).tail (E.marked result.engine) E.ends_at (E.view result.engine).disk.now }
 {
     let mut session = session;
     let end = run_script(alloc, ops, &mut session, room, script, out, piece);

@@ -11,9 +11,11 @@ use Rattle.sg_run.specs.Run.{Run}
 use Rattle.sg_run.proofs.Serial.{serial_run}
 use Rattle.sg_recovery.proofs.Basic.{some_one}
 use Rattle.sg_store.specs.Ground.{Ground, IsLawful}
+use Rattle.sg_store.specs.declared.engine.Engine.{Ghosts}
 use Rattle.sg_store.specs.Engine.{View}
 use Rattle.sg_store.specs.Store as stores
 use Rattle.sg_store.proofs.Holding as holding
+use Rattle.sg_session.specs.KeptUp.{IsKeptUp}
 use Rattle.sg_session.specs.Lines.{Line, line_by, line_of}
 use Rattle.sg_session.specs.Lines.Line.{Other}
 use Rattle.sg_session.specs.Shows.{Core}
@@ -28,6 +30,10 @@ is_blank text e = sym (ap (λ (k : Asked). line_by k (upkeep_of text)) e)
 
 pub is_of : (text name : List ℕ) (request : Request) → asked text ≡ Of name request → Other (Of name request) ≡ line_of text
 is_of text name request e = sym (ap (λ (k : Asked). line_by k (upkeep_of text)) e)
+
+-- of a line that asks for no flush and no checkpoint nothing is said of these
+pub other_kept : {E : Type 0} (ghosts : Ghosts E) (line : Asked) (l : Line) (e f : E) → Other line ≡ l → IsKeptUp ghosts l e f
+other_kept ghosts line l e f is = subst (λ (k : Line). IsKeptUp ghosts k e f) is tt
 
 module _ (t : Operations) (g : Ground) (lawful : IsLawful t g) (v : View g) (x : Run) where
   pub goes_line : (line other : Line) (answer : Answer) (w : View g) (m : Core) → line ≡ other → Goes t g v x line answer w m → Goes t g v x other answer w m

@@ -1,6 +1,6 @@
 -- The cause of each line's answer, by why the store answered so.
-use Rattle.std.proofs.Common.{◌≡◌, ◌⊎◌, inl, inr, ⊎_elim, ℕ, Bool, List, Option, Some, None, Result, refl, sym, ap, ◌∙◌, subst}
-use Rattle.std.specs.Prelude.{Ok, Err}
+use Rattle.std.proofs.Common.{◌≡◌, ◌⊎◌, inl, inr, ⊎_elim, ℕ, Bool, false, List, Option, Some, None, Result, refl, sym, ap, ◌∙◌, subst}
+use Rattle.std.specs.Prelude.{Ok, Err, OnOk, IsSome, is_some}
 use Rattle.sg_model.specs.declared.stop.Stop.{Stop}
 use Rattle.sg_model.specs.declared.stop.Stop.TheVariants as stops
 use Rattle.sg_model.specs.Verb.{Op}
@@ -21,6 +21,12 @@ use Rattle.sg_session.specs.Lines.{Line}
 use Rattle.sg_session.specs.Lines.Line.{OfStore, Other}
 use Rattle.sg_session.specs.Causes.{Trouble, trouble_in, trouble_of, IsFullFor, IsCaused, stop_at_end, stop_by, Caused}
 use Rattle.sg_session.specs.Causes.Trouble.{NoTrouble, OfDisk, OfLog, OfMemory}
+
+was_stopped : (s : Option Stop) (why : Stop) → s ≡ Some why → s ≡ None → ⊥
+was_stopped s why e going = cc
+
+is_going : (s : Option Stop) → IsSome s → s ≡ None → ⊥
+is_going s some going = let none : is_some s ≡ false = ap is_some going in cc
 
 module _ {basis : Sizes → Ground} (old new : Shown basis) where
   -- the same by what went wrong
@@ -123,6 +129,33 @@ module _ {basis : Sizes → Ground} (old new : Shown basis) where
     checkpoint_refused refusals.DiskFault h = broken (OfStore upkeeps.Checkpoint) (record k { held = m.held; stopped = Some stops.Disk }) h.1.0 refl h.1.1
     checkpoint_refused refusals.Stopped h = plain (OfStore upkeeps.Checkpoint) k refl h.1
 
+    -- a flush and a checkpoint that fail leave a store that has stopped
+    pub flush_stops : (why : Refused) → FlushesFor old new k m (Err why) → m.stopped ≡ None → ⊥
+    flush_stops refusals.NoTxn h going = absurd h
+    flush_stops refusals.TooManyLive h going = absurd h
+    flush_stops (refusals.Busy holder) h going = absurd h
+    flush_stops refusals.LocksFull h going = absurd h
+    flush_stops (refusals.Model reason) h going = absurd h
+    flush_stops (refusals.NoSpace free reserved need) h going = absurd h
+    flush_stops (refusals.NoBands free need) h going = absurd h
+    flush_stops refusals.LogEnd h going = absurd h
+    flush_stops refusals.Memory h going = absurd h
+    flush_stops refusals.DiskFault h going = was_stopped m.stopped stops.Disk (ap (λ (c : Core). c.stopped) h.1.1) going
+    flush_stops refusals.Stopped h going = is_going k.stopped h.0 (sym (ap (λ (c : Core). c.stopped) h.1) ∙ going)
+
+    pub checkpoint_stops : (why : Refused) → ChecksFor old new k m (Err why) → m.stopped ≡ None → ⊥
+    checkpoint_stops refusals.NoTxn h going = absurd h
+    checkpoint_stops refusals.TooManyLive h going = absurd h
+    checkpoint_stops (refusals.Busy holder) h going = absurd h
+    checkpoint_stops refusals.LocksFull h going = absurd h
+    checkpoint_stops (refusals.Model reason) h going = absurd h
+    checkpoint_stops (refusals.NoSpace free reserved need) h going = absurd h
+    checkpoint_stops (refusals.NoBands free need) h going = absurd h
+    checkpoint_stops refusals.LogEnd h going = was_stopped m.stopped stops.LogEnd (ap (λ (c : Core). c.stopped) h.2) going
+    checkpoint_stops refusals.Memory h going = absurd h
+    checkpoint_stops refusals.DiskFault h going = was_stopped m.stopped stops.Disk (ap (λ (c : Core). c.stopped) h.1.1) going
+    checkpoint_stops refusals.Stopped h going = is_going k.stopped h.0 (sym (ap (λ (c : Core). c.stopped) h.1) ∙ going)
+
     -- a line of an operation
     pub do_refused : (name : List ℕ) (op : Op) (changes : Bool) (u : ℕ) (why : Refused) → RefusesFor changes u old new k m why → CausedBy k.stopped m.stopped (Other (Of name (Do op))) (trouble_of why)
     do_refused name op changes u refusals.NoTxn h = plain (Other (Of name (Do op))) k refl h.2
@@ -195,3 +228,18 @@ close_full old new k m (Err refusals.DiskFault) h e = absurd (other e)
     other : Some stops.Disk ≡ Some stops.LogEnd → ⊥
     other e = cc
 close_full old new k m (Err refusals.Stopped) h e = inl e
+
+-- one that hasn't stopped was closed well
+pub close_well : {basis : Sizes → Ground} (old new : Shown basis) (k m : Core) (done : Result (Unit {0}) Refused) {P : Type 0} → ClosesFor old new k m done → stop_behind k.stopped done ≡ None → OnOk done P → P
+close_well old new k m (Ok done) h going is = is
+close_well old new k m (Err refusals.NoTxn) h going is = absurd h
+close_well old new k m (Err refusals.TooManyLive) h going is = absurd h
+close_well old new k m (Err (refusals.Busy holder)) h going is = absurd h
+close_well old new k m (Err refusals.LocksFull) h going is = absurd h
+close_well old new k m (Err (refusals.Model reason)) h going is = absurd h
+close_well old new k m (Err (refusals.NoSpace free reserved need)) h going is = absurd h
+close_well old new k m (Err (refusals.NoBands free need)) h going is = absurd h
+close_well old new k m (Err refusals.LogEnd) h going is = absurd (was_stopped (Some stops.LogEnd) stops.LogEnd refl going)
+close_well old new k m (Err refusals.Memory) h going is = absurd h
+close_well old new k m (Err refusals.DiskFault) h going is = absurd (was_stopped (Some stops.Disk) stops.Disk refl going)
+close_well old new k m (Err refusals.Stopped) h going is = absurd (is_going k.stopped h.0 going)

@@ -1,6 +1,7 @@
 pub mod Finding
 pub mod Named
 pub mod Causing
+pub mod Stocking
 pub mod Steps
 pub mod Commits
 pub mod Serves

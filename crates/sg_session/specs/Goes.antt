@@ -5,6 +5,7 @@ use Rattle.sg_ops.specs.Table.{Table as Operations}
 use Rattle.sg_words.specs.Answers.{Answer}
 use Rattle.sg_words.specs.Answers.Answer.{Silent, BadSyntax, Stopped}
 use Rattle.sg_words.specs.Requests.Asked.{Blank, Wrong, Of}
+use Rattle.sg_room.specs.Steps.{RunStock}
 use Rattle.sg_run.specs.Run.{Run, live_objects}
 use Rattle.sg_run.specs.Serial.{IsSerial}
 use Rattle.sg_run.specs.Stocked.{Around}
@@ -12,7 +13,10 @@ use Rattle.sg_store.specs.declared.engine.Engine.{Ghosts}
 use Rattle.sg_store.specs.Ground.{Ground, IsLawful}
 use Rattle.sg_store.specs.Engine.{View, AsMeantBy, pages_of}
 use Rattle.sg_store.specs.Stands.{StandsForFirst}
+use Rattle.sg_store.specs.Room.{ShowsStock}
+use Rattle.sg_store.specs.Stock.{NeedsByStock}
 use Rattle.sg_session.specs.Lines.{Line, LineBy}
+use Rattle.sg_session.specs.Stocked.{LeadsOn}
 use Rattle.sg_session.specs.Lines.Line.{OfStore, Other}
 use Rattle.sg_session.specs.Causes.{Caused}
 use Rattle.sg_session.specs.Shows.{Core, Shows}
@@ -21,11 +25,13 @@ use Rattle.sg_session.specs.Shows.{Core, Shows}
 abbrev pub around : {g : Ground} → (v w : View g) → Around
 around v w = record { pages = v.free_pages; bands = v.free_bands; begin = v.tail; tail = w.tail; before = v.faults; now = w.faults }
 
--- A session that shows x answers a line, and then shows a run that goes on so. In the line and after it a crash leaves what
--- stands for the commits from before it, or with its own
+-- A session that shows x answers a line, and then shows a run that goes on so; and each stock that it showed of x is led on with it, from
+-- which the numbers of a refusal for want of room follow. In the line and after it a crash leaves what stands for the commits from
+-- before it, or with its own
 pub record Goes (t : Operations) (g : Ground) (v : View g) (x : Run) (line : Line) (answer : Answer) (w : View g) (m : Core) : Type 0 where
   pub after : Run
   pub line_goes : LineBy t (around v w) x line answer after
+  pub stocked : NeedsByStock t g → (r : RunStock) → ShowsStock t g v r → LeadsOn t g (around v w) x line answer after w m.store.stopped r
   pub shows : Shows t g w m after
   pub moments : LeavesOnly v.disk w.disk (StandsForFirst t g x.so_far.answered after)
 

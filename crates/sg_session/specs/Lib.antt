@@ -1,9 +1,11 @@
 pub mod Lines
+pub mod Stocked
 pub mod Answered
 pub mod Names
 pub mod Causes
 pub mod Shows
 pub mod Goes
+pub mod KeptUp
 pub mod Seen
 pub mod OneLine
 pub mod Ending

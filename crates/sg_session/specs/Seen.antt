@@ -1,4 +1,5 @@
 -- What a session is seen as, and what is asked of one.
+use Rattle.std.specs.Prelude.{◌≡◌, None}
 use Rattle.sg_ops.specs.Table.{Table as Operations}
 use Rattle.sg_store.specs.declared.engine.Engine.{Ghosts}
 use Rattle.sg_store.specs.Engine.{AskedBy}
@@ -8,6 +9,7 @@ use Rattle.sg_words.specs.Answers.{Answer}
 use Rattle.sg_session.specs.Names.{all_live}
 use Rattle.sg_session.specs.Lines.{Line}
 use Rattle.sg_session.specs.Goes.{IsAnswered}
+use Rattle.sg_session.specs.KeptUp.{IsKeptUp}
 use Rattle.sg_session.specs.Shows.{Core, ShowsSome}
 
 abbrev pub session_core : {E : Type 0} {ghosts : Ghosts E} → code_session.Session E ghosts → Core
@@ -28,3 +30,7 @@ IsServed s = (t : Operations) × Serves t s
 -- A LINE WAS ANSWERED by a session, of which a sink takes what Took says
 abbrev pub HasAnswered : {E : Type 0} {ghosts : Ghosts E} → Operations → (old new : code_session.Session E ghosts) → Line → (Answer → Type 0) → Type 0
 HasAnswered {ghosts = ghosts} t old new line Took = IsAnswered ghosts t (session_engine old) (session_core old) line Took (session_engine new) (session_core new)
+
+-- A LINE THAT ASKS FOR A FLUSH OR A CHECKPOINT, and doesn't stop the session, has made it
+abbrev pub HasKeptUp : {E : Type 0} {ghosts : Ghosts E} → Line → (old new : code_session.Session E ghosts) → Type 0
+HasKeptUp {ghosts = ghosts} line old new = new.store.stop ≡ None → IsKeptUp ghosts line old.store.engine new.store.engine

@@ -52,7 +52,8 @@ impl<E: Objects> Session<E> {
     ghost use Rattle.sg_session.specs.Causes.{Caused};
     ghost use Rattle.sg_session.specs.Goes.{Goes};
     ghost use Rattle.sg_session.specs.Ending.{HasAborted, IsClosed, IsEnded};
-    ghost use Rattle.sg_session.specs.Seen.{session_core, session_engine, Serves, IsServed};
+    ghost use Rattle.sg_checkpoints.specs.Checkpoints.{EndsMarked};
+    ghost use Rattle.sg_session.specs.Seen.{session_core, session_engine, Serves, IsServed, HasKeptUp};
 
     /// A session over a store that has no live transaction. Where memory is refused the store is handed
     /// back; no other call takes any.
@@ -170,6 +171,7 @@ impl<E: Objects> Session<E> {
         requires running { self.old.store.stop ≡ None }
         requires serves { IsServed self.old }
         ensures caused { (into : List ℕ) → Caused (E.view self.old.store.engine) (E.view self.new.store.engine) self.old.store.stop self.new.store.stop (OfStore Upkeep.Flush) (shown_answer into result) }
+        ensures kept_up { HasKeptUp (OfStore Upkeep.Flush) self.old self.new }
         ensures told { (E.view self.new.store.engine).Told → (E.view self.old.store.engine).Told }
         ensures heeds { Heeds self.old.store.stop self.new.store.stop (E.view self.old.store.engine) (E.view self.new.store.engine) }
         ensures means { Keeps (E.view self.old.store.engine) (E.view self.new.store.engine) }
@@ -188,6 +190,7 @@ impl<E: Objects> Session<E> {
         requires running { self.old.store.stop ≡ None }
         requires serves { IsServed self.old }
         ensures caused { (into : List ℕ) → Caused (E.view self.old.store.engine) (E.view self.new.store.engine) self.old.store.stop self.new.store.stop (OfStore Upkeep.Checkpoint) (shown_answer into result) }
+        ensures kept_up { HasKeptUp (OfStore Upkeep.Checkpoint) self.old self.new }
         ensures told { (E.view self.new.store.engine).Told → (E.view self.old.store.engine).Told }
         ensures heeds { Heeds self.old.store.stop self.new.store.stop (E.view self.old.store.engine) (E.view self.new.store.engine) }
         ensures means { Keeps (E.view self.old.store.engine) (E.view self.new.store.engine) }
@@ -206,6 +209,7 @@ impl<E: Objects> Session<E> {
         requires running { self.old.store.stop ≡ None }
         requires serves { IsServed self.old }
         ensures caused { (into : List ℕ) → Caused (E.view self.old.store.engine) (E.view self.new.store.engine) self.old.store.stop self.new.store.stop (OfStore upkeep) (shown_answer into result) }
+        ensures kept_up { HasKeptUp (OfStore upkeep) self.old self.new }
         ensures told { (E.view self.new.store.engine).Told → (E.view self.old.store.engine).Told }
         ensures heeds { Heeds self.old.store.stop self.new.store.stop (E.view self.old.store.engine) (E.view self.new.store.engine) }
         ensures means { Keeps (E.view self.old.store.engine) (E.view self.new.store.engine) }
@@ -277,6 +281,9 @@ impl<E: Objects> Session<E> {
         // it stops for the log's end only where a record might pass that
         ensures full { result.0 ≡ Some Stop.LogEnd → (self.store.stop ≡ Some Stop.LogEnd) ⊎ IsAtEnd (E.view result.1).tail }
         ensures heeds { Heeds self.store.stop result.0 (E.view (session_engine self)) (E.view result.1) }
+        // where it hasn't stopped all is home, and the last record of each image that a crash leaves now is a checkpoint
+        ensures written { result.0 ≡ None → (lsn : ℕ) → E.unwritten result.1 lsn → ⊥ }
+        ensures marked { result.0 ≡ None → (E.view (session_engine self)).Told → EndsMarked (E.view (session_engine self)).tail (E.marked result.1) E.ends_at (E.view result.1).disk.now }
         ensures closes { AsMeant (E.view (session_engine self)) (E.view result.1) (λ t g v w.
             (x : Run) → IsLawful t g → Shows t g v (session_core self) x → IsClosed t g v (session_core self) x result.0 w) }
     {
@@ -298,6 +305,9 @@ impl<E: Objects> Session<E> {
         // it stops for the log's end only where a record might pass that
         ensures full { result.0 ≡ Some Stop.LogEnd → (self.store.stop ≡ Some Stop.LogEnd) ⊎ IsAtEnd (E.view result.1).tail }
         ensures heeds { Heeds self.store.stop result.0 (E.view (session_engine self)) (E.view result.1) }
+        // where it hasn't stopped all is home, and the last record of each image that a crash leaves now is a checkpoint
+        ensures written { result.0 ≡ None → (lsn : ℕ) → E.unwritten result.1 lsn → ⊥ }
+        ensures marked { result.0 ≡ None → (E.view (session_engine self)).Told → EndsMarked (E.view (session_engine self)).tail (E.marked result.1) E.ends_at (E.view result.1).disk.now }
         ensures ends { let t = table_of record_meaning range_meaning ops.now in
             AsMeantBy t (E.view (session_engine self)) (E.view result.1) (λ g v w.
             (x : Run) → IsLawful t g → Shows t g v (session_core self) x → IsEnded t g v x result.0 w) }
@@ -322,7 +332,7 @@ impl<E: Lists> Session<E> {
     ghost use Rattle.sg_session.specs.Causes.{Caused};
     ghost use Rattle.sg_session.specs.Goes.{Goes, Answers, when_stopped};
     ghost use Rattle.sg_session.specs.OneLine.{OneLine};
-    ghost use Rattle.sg_session.specs.Seen.{session_core, Serves, IsServed, HasAnswered};
+    ghost use Rattle.sg_session.specs.Seen.{session_core, Serves, IsServed, HasAnswered, HasKeptUp};
 
     // The keys of a table, asked by the transaction with this name.
     fn keys(&mut self, alloc: Global, name: Name, table: Name) -> Answered
@@ -381,6 +391,7 @@ impl<E: Lists> Session<E> {
         ensures stopped { IsSome self.old.store.stop → self.new ≡ self.old }
         ensures still { IsSome self.old.store.stop → shown into.new result ≡ when_stopped (line_of text.now) }
         ensures caused { Caused (E.view self.old.store.engine) (E.view self.new.store.engine) self.old.store.stop self.new.store.stop (line_of text.now) (shown into.new result) }
+        ensures kept_up { HasKeptUp (line_of text.now) self.old self.new }
         ensures told { (E.view self.new.store.engine).Told → (E.view self.old.store.engine).Told }
         ensures heeds { Heeds self.old.store.stop self.new.store.stop (E.view self.old.store.engine) (E.view self.new.store.engine) }
         ensures means { KeepsBy (table_of record_meaning range_meaning ops.now) (E.view self.old.store.engine) (E.view self.new.store.engine) }
@@ -438,6 +449,7 @@ impl<E: Lists> Session<E> {
         ensures still { IsSome self.old.store.stop → shown into.new result ≡ when_stopped (line_of text.now) }
         // the answer has its cause, and the session has stopped for what it says
         ensures caused { Caused (E.view self.old.store.engine) (E.view self.new.store.engine) self.old.store.stop self.new.store.stop (line_of text.now) (shown into.new result) }
+        ensures kept_up { HasKeptUp (line_of text.now) self.old self.new }
         ensures heeds { Heeds self.old.store.stop self.new.store.stop (E.view self.old.store.engine) (E.view self.new.store.engine) }
         ensures told { (E.view self.new.store.engine).Told → (E.view self.old.store.engine).Told }
         ensures means { KeepsBy (table_of record_meaning range_meaning ops.now) (E.view self.old.store.engine) (E.view self.new.store.engine) }
@@ -486,6 +498,8 @@ impl<E: Lists> Session<E> {
             self.old.store.stop ≡ None → AsMeantBy t (E.view self.old.store.engine) (E.view self.new.store.engine) (λ g v w.
             (x : Run) → IsLawful t g → Shows t g v (session_core self.old) x
             → OneLine t g v x (line_of text.now) w self.new.store.stop) }
+        // a flush and a checkpoint that don't stop the session are made
+        ensures kept_up { HasKeptUp (line_of text.now) self.old self.new }
         ensures quiet { OnOk result (K.faults out.new ≡ K.faults out.old) }
         ensures failed { OnErr result (HasRisen (K.faults out.old) (K.faults out.new)) }
     {

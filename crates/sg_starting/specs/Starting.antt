@@ -1,5 +1,6 @@
 -- OPENING'S LAST STEPS: what a store's log and pages stand for while its losers are undone and ended.
-use Rattle.std.specs.Prelude.{nat_lt, if◌then◌else◌, ◌≡◌, ◌⊎◌, ◌≤◌, ◌<◌, ℕ, Bool, true, false, List, [], ◌∷◌, ◌++◌, Option, Some, None}
+use Rattle.std.specs.Prelude.{nat_lt, if◌then◌else◌, ◌≡◌, ◌⊎◌, ◌≤◌, ◌<◌, ℕ, Bool, true, false, List, [], ◌∷◌, ◌++◌, map, Option, Some, None}
+use Rattle.std.specs.FinMap.{get}
 use Rattle.sg_disk.specs.Disk.{Image, Leaves, LeavesOnly}
 use Rattle.sg_ops.specs.Table.{Table as Operations}
 use Rattle.sg_base.specs.declared.numbers.TxnId.{TxnId}
@@ -7,14 +8,17 @@ use Rattle.sg_model.specs.Objects.{Objects}
 use Rattle.sg_recovery.specs.Setting.{Setting}
 use Rattle.sg_recovery.specs.Log.{Top, Numbered, tally, notes_of, is_in}
 use Rattle.sg_recovery.specs.Laws.{Each}
-use Rattle.sg_recovery.specs.Stands.{all_off, settled, StandsFor as LogStands}
+use Rattle.sg_recovery.specs.Stands.{all_off, made, settled, StandsFor as LogStands}
 use Rattle.sg_recovery.specs.Opens.{AreOpening}
 use Rattle.sg_recovery.specs.Claims.{Log}
 use Rattle.sg_recovery.specs.Chains.{next_lsn, last_of, border_of}
 use Rattle.sg_recovery.specs.Formed.{IsLog}
 use Rattle.sg_join.specs.Join.{Grows}
+use Rattle.sg_room.specs.Marks.{Marks}
+use Rattle.sg_room.specs.Steps.{undone_all}
 use Rattle.sg_store.specs.Ground.{Ground, IsLawful, setting}
 use Rattle.sg_store.specs.Engine.{View, IsEngine, IsIdle, pages_of, IsImageOf, IsDiskFault, IsNearEnd}
+use Rattle.sg_store.specs.Room.{step_of, ShowsStock}
 use Rattle.sg_starting.specs.declared.losers.Greatest.{Greatest}
 use Rattle.sg_starting.specs.declared.opening.StartFault.{StartFault}
 use Rattle.sg_starting.specs.declared.opening.StartFault.TheVariants.{Space, Broken, Memory}
@@ -26,6 +30,20 @@ pub record OpensTo (s : Setting) (pages : s.X) (down log : Log s) : Type 0 where
   pub all : log ≡ more ++ down
   pub steps : AreOpening s pages more down
 
+-- what is left of marks once these notes are undone, the first of them first
+abbrev pub marks_left : (g : Ground) → List (Top g.C g.N) → Marks → Marks
+marks_left g notes m = undone_all (map (step_of g) notes) m
+
+-- the marks of the objects are these, and the most rows that the catalogue had
+pub record AreKept (now before : Marks) : Type 0 where
+  pub live : now.live ≡ before.live
+  pub rows : now.rows ≡ before.rows
+
+-- The undoing of what stands leaves of the pages' marks what the undoing of the notes that were found leaves of the marks found, but for what is buried
+abbrev pub KeepsMarks : (t : Operations) (g : Ground) → View g → (down : Log (setting t g)) → Type 0
+KeepsMarks t g v down = (o p : g.O) → settled (setting t g) (tally down).opened (made (setting t g) v.first down) ≡ Some o → g.reading (pages_of t g v) ≡ Some p
+    → AreKept (marks_left g (tally v.log).notes (g.marks p)) (marks_left g (tally down).notes (g.marks o))
+
 -- A STORE BEING OPENED, between actions: the log that was found, with its pages, stood for these objects, and is durable; and it went on by
 -- steps of an opening. Each page is free that the reading doesn't reach
 pub record IsStarting (t : Operations) (g : Ground) (v : View g) (down : Log (setting t g)) (m : Objects) : Type 0 where
@@ -35,6 +53,7 @@ pub record IsStarting (t : Operations) (g : Ground) (v : View g) (down : Log (se
   pub found : Grows down v.durable
   pub stood : LogStands (setting t g) v.first down m
   pub free : (o : g.O) → g.reading (pages_of t g v) ≡ Some o → v.free_pages ≡ g.free o
+  pub marks : KeepsMarks t g v down
 
 -- EACH IMAGE OF EACH MOMENT of a call stands for these objects
 abbrev pub AllStandFor : (t : Operations) (g : Ground) → (old new : View g) → Objects → Type 0
@@ -94,7 +113,7 @@ pub record TakesOff (t : Operations) (g : Ground) (old new : View g) : Type 0 wh
   pub moments : LeavesOnly old.disk new.disk (IsImageOf t g old (made ++ old.log))
   pub owed : AreEnded old.log → made ≡ []
 
--- and it was. Each page is free then that the reading doesn't reach
+-- and it was: the pages read as they do without it, and the same notes stand. Each page is free then that the reading doesn't reach
 pub record TakenOff (t : Operations) (g : Ground) (old new : View g) (made : Log (setting t g)) : Type 0 where
   pub engine : IsEngine t g new
   pub first : new.first ≡ old.first
@@ -102,6 +121,8 @@ pub record TakenOff (t : Operations) (g : Ground) (old new : View g) (made : Log
   pub durable : Grows old.durable new.durable
   pub idle : IsIdle new
   pub live : (tally new.log).live ≡ (tally old.log).live
+  pub notes : (tally new.log).notes ≡ (tally old.log).notes
+  pub reads : (o : g.O) → IsRead t g old o → g.reading (pages_of t g new) ≡ Some o
   pub free : (o : g.O) → g.reading (pages_of t g new) ≡ Some o → new.free_pages ≡ g.free o
 
 -- something was freed, of which the log has a record, or nothing is buried
@@ -112,6 +133,15 @@ HasFreed t g old new false = (p : g.O) → g.reading (pages_of t g new) ≡ Some
 -- at most so many are buried
 abbrev pub AreBuried : (t : Operations) (g : Ground) → View g → ℕ → Type 0
 AreBuried t g v most = (o : g.O) → g.reading (pages_of t g v) ≡ Some o → g.buried o ≤ most
+
+-- THE STOCK THAT AN OPENED STORE BEGINS WITH, of pages that read as this once the unfinished action is taken off: of each object it has the
+-- greatest size that this had then, as an object or buried, and the most rows of the catalogue, as the undoing of the notes leaves them. Nothing is
+-- buried, and nothing is kept for undoing
+pub record BeginsStock (t : Operations) (g : Ground) (found : g.O) (notes : List (Top g.C g.N)) (w : View g) : Type 0 where
+  pub marks : Marks
+  pub shows : ShowsStock t g w (record { marks = marks; steps = [] })
+  pub kept : AreKept marks (marks_left g notes (g.marks found))
+  pub none : (key : List ℕ) → get marks.graves key ≡ None
 
 -- no transaction goes on, and nothing is left to undo
 pub record IsSettled {g : Ground} (v : View g) : Type 0 where

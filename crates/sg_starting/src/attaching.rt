@@ -12,7 +12,7 @@ ghost use Rattle.sg_store.specs.Rests.{HasObjects};
 ghost use Rattle.sg_store.specs.Seen.{core_of, Serves};
 ghost use Rattle.sg_store.specs.Store.{Shows};
 ghost use Rattle.sg_base.specs.Ends.{HasRisen};
-ghost use Rattle.sg_starting.specs.Starting.{AllStandFor, AreBuried, AreLosers, IsFound, IsOpenedWith, IsRead, IsUnread, AreEnded, AppendsNothing, ComesToOne, StandsForNone, IsStartDisk, IsStartEnd, IfBroken};
+ghost use Rattle.sg_starting.specs.Starting.{AllStandFor, AreBuried, AreLosers, IsFound, IsOpenedWith, IsRead, BeginsStock, IsUnread, AreEnded, AppendsNothing, ComesToOne, StandsForNone, IsStartDisk, IsStartEnd, IfBroken};
 
 use crate::opening::{Reopens, StartFault, Unstarted, start_store};
 use sg_base::TxnId;
@@ -48,6 +48,11 @@ pub fn attach<E: Reopens>(
         IfOk result (λ s. AsMeantBy t (E.opened engine) (E.view s.engine) (λ g v w. (m : Model)
         → IsLawful t g → IsFound t g v → LogStands (setting t g) v.first v.log m
         → AreLosers (tally v.log).live losers.now → Shows t g w (core_of s) (start m) × AreBuried t g w 0)) }
+    // Its stock is what the image has, with what the losers did undone.
+    ensures stock { let t = table_of record_meaning range_meaning ops.now in
+        IfOk result (λ s. AsMeantBy t (E.opened engine) (E.view s.engine) (λ g v w. (m : Model)
+        → IsLawful t g → IsFound t g v → LogStands (setting t g) v.first v.log m
+        → AreLosers (tally v.log).live losers.now → (o : g.O) → IsRead t g v o → BeginsStock t g o (tally v.log).notes w)) }
     ensures stands { let t = table_of record_meaning range_meaning ops.now in
         IfOk result (λ s. AsMeantBy t (E.opened engine) (E.view s.engine) (λ g v w. (m : Model)
         → IsLawful t g → IsFound t g v → LogStands (setting t g) v.first v.log m

@@ -5,12 +5,13 @@ ghost use Rattle.sg_ops.specs.Table.{table_of};
 ghost use Rattle.sg_model.specs.Objects.{Objects as Model};
 ghost use Rattle.sg_recovery.specs.Log.{tally};
 ghost use Rattle.sg_recovery.specs.Claims.{Log};
+ghost use Rattle.sg_recovery.specs.Stands.{made, settled};
 ghost use Rattle.sg_run.specs.Run.{start};
 ghost use Rattle.sg_store.specs.Ground.{IsLawful, setting};
 ghost use Rattle.sg_store.specs.Accounting.{AccountsFor};
 ghost use Rattle.sg_store.specs.Engine.{KeepsBy, AsMeantBy, AskedBy, Counts, IsDiskFault, IsNearEnd};
 ghost use Rattle.sg_store.specs.Store.{Shows};
-ghost use Rattle.sg_starting.specs.Starting.{IsStarting, AllStandFor, AreLosers, IsSettled, IsFound, CanResume, IsRead, TakesOff, TakenOff, HasFreed, AreBuried, OpeningWith, OpeningSettled, IsStartDisk, IsStartEnd, IfBroken};
+ghost use Rattle.sg_starting.specs.Starting.{IsStarting, AllStandFor, AreLosers, IsSettled, IsFound, CanResume, IsRead, TakesOff, TakenOff, HasFreed, AreBuried, BeginsStock, OpeningWith, OpeningSettled, IsStartDisk, IsStartEnd, IfBroken};
 
 use crate::losers::settle_losers;
 use sg_base::{PageNo, TxnId};
@@ -154,6 +155,12 @@ pub fn start_store<E: Reopens>(
         → IsLawful t g → IsStarting t g v down m → AreLosers (tally v.log).live losers.now
         → OnOk result (Shows t g w (record { live = []; held = []; stopped = None }) (start m)
         × AreBuried t g w 0)) }
+    // The stock that it shows is what the undoing leaves of the one that was found.
+    ensures stock { let t = table_of record_meaning range_meaning ops.now in
+        AsMeantBy t (E.view engine.old) (E.view engine.new) (λ g v w. (down : Log (setting t g)) (m : Model) (o : g.O)
+        → IsLawful t g → IsStarting t g v down m → AreLosers (tally v.log).live losers.now
+        → settled (setting t g) (tally down).opened (made (setting t g) v.first down) ≡ Some o
+        → OnOk result (BeginsStock t g o (tally down).notes w)) }
     ensures failed { IfErr result (λ e. IsDiskFault e
         → HasRisen (E.view engine.old).faults (E.view engine.new).faults) }
     ensures log_end { IfErr result (IsNearEnd (E.view engine.new).tail) }

@@ -14,12 +14,14 @@ pub mod Counting
 pub mod Serving
 pub mod Resting
 pub mod Live
+pub mod Reserved
 pub mod Committing
 pub mod Holding
 pub mod Holders
 pub mod Causing
 pub mod Rooming
 pub mod Stocked
+pub mod Still
 pub mod Performing
 pub mod Acting
 pub mod Noting

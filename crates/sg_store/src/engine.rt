@@ -1,5 +1,7 @@
 ghost use Rattle.std.specs.Prelude.{◌≡◌, ◌≤◌, ◌<◌, ◌+◌, ℕ, List, false, [], ◌∷◌, Option, Some, None, Ok, OnOk, IfOk, IfErr, IfSome, length};
 ghost use Rattle.sg_base.specs.Ends.{HasRisen};
+ghost use Rattle.sg_disk.specs.Disk.{Image};
+ghost use Rattle.sg_checkpoints.specs.Checkpoints.{HasMarked, StaysMarked};
 ghost use Rattle.sg_ops.specs.Table.{table_of};
 ghost use Rattle.sg_model.specs.SaidOps.{said_op};
 ghost use Rattle.sg_model.specs.TouchList.{shown_touches};
@@ -41,6 +43,15 @@ pub trait Engine {
 
     /// How many bytes wait at the log's end to be handed to the disk: records, and the head of their frame.
     ghost waiting: { Self → ℕ };
+
+    /// A change of a page or a band by the record with this number isn't at its place on the disk yet.
+    ghost unwritten: { Self → ℕ → Type 0 };
+
+    /// The log's last record, durable or not, is the checkpoint with this number, which has redo begin at this estimate.
+    ghost marked: { Self → (lsn estimate : ℕ) → Type 0 };
+
+    /// So is the last record of an image's log.
+    ghost ends_at: { Image → (lsn estimate : ℕ) → Type 0 };
 
     /// The same while it is being opened: an action may be without its end, and what is free isn't known yet. No call
     /// of these is asked of it then.
@@ -191,6 +202,8 @@ pub trait Engine {
     fn flush(&mut self) -> Result<(), SpaceFault>
         requires can { Asked (view self.old) IsAtRest }
         ensures counts { Counts IsDiskFault (view self.old) (view self.new) result }
+        ensures written { OnOk result ((lsn : ℕ) → unwritten self.new lsn → ⊥) }
+        ensures marked { OnOk result ((view self.old).Told → StaysMarked (marked self.old) (marked self.new) ends_at (view self.new).disk.now) }
         ensures means { Keeps (view self.old) (view self.new) }
         ensures reads { IfErr result IsDiskFault }
         ensures rests { AsMeant (view self.old) (view self.new) (λ t g v w. IsEngine t g v
@@ -200,6 +213,9 @@ pub trait Engine {
     fn checkpoint(&mut self) -> Result<(), SpaceFault>
         requires can { Asked (view self.old) IsAtRest }
         ensures counts { Counts IsDiskFault (view self.old) (view self.new) result }
+        // what waits, the record's 1,055 bytes at most, and twice what a frame has beside its records
+        ensures hands { (view self.new).disk.handed ≤ (view self.old).disk.handed + waiting self.old + 1067 }
+        ensures marks { OnOk result ((view self.old).Told → HasMarked (view self.old).tail (unwritten self.old) (marked self.new) ends_at (view self.new).disk.now) }
         ensures means { Keeps (view self.old) (view self.new) }
         ensures log_end { IfErr result (IsNearEnd (view self.old).tail) }
         ensures rests { AsMeant (view self.old) (view self.new) (λ t g v w. IsEngine t g v

@@ -10,10 +10,11 @@ ghost use Rattle.sg_run.specs.Run.{Run};
 ghost use Rattle.sg_serial.specs.Runs as serial;
 ghost use Rattle.sg_store.specs.Asks.{IsRunning};
 ghost use Rattle.sg_store.specs.Causes.{AsksNothing, HoldsFor, ListsFor};
-ghost use Rattle.sg_store.specs.Calls.{Goes, Holds, Lists as Listing, Stays};
+ghost use Rattle.sg_store.specs.Calls.{Goes, Holds, Lists as Listing, SameRoom, Stays};
 ghost use Rattle.sg_store.specs.Engine.{Keeps, AsMeant, Asked, AskedBy};
 ghost use Rattle.sg_store.specs.Ground.{IsLawful};
 ghost use Rattle.sg_store.specs.Rests.{Has, HasDone};
+ghost use Rattle.sg_store.specs.Stock.{LeavesStock};
 ghost use Rattle.sg_store.specs.Store.{Shows, IsKept};
 
 use crate::engine::Lists;
@@ -43,6 +44,8 @@ impl<E: Lists> Store<E> {
             (x : Run) → IsLawful t g → IsKept t g v self.old.txns x
             → self.old.locks ≡ x.so_far.held → serial.is_live x.so_far.live txn.0 ≡ true
             → Holds t g v w (core_of self.old) (core_of self.new) x txn.0 (On name Keys) result) }
+        ensures same { self.new.stop ≡ None → AsMeant (E.view self.old.engine) (E.view self.new.engine) (λ t g v w.
+            (x : Run) → IsLawful t g → IsKept t g v self.old.txns x → SameRoom t g v w) }
         ensures later { (E.view self.old.engine).faults ≤ (E.view self.new.engine).faults }
         ensures live { self.new.txns ≡ self.old.txns }
         ensures causes { HoldsFor txn.0 (E.view self.old.engine) (E.view self.new.engine) (core_of self.old) (core_of self.new) result }
@@ -66,6 +69,8 @@ impl<E: Lists> Store<E> {
             (x : Run) → IsLawful t g → IsKept t g v self.old.txns x
             → self.old.locks ≡ x.so_far.held → serial.is_live x.so_far.live txn.0 ≡ true
             → Holds t g v w (core_of self.old) (core_of self.new) x txn.0 Names result) }
+        ensures same { self.new.stop ≡ None → AsMeant (E.view self.old.engine) (E.view self.new.engine) (λ t g v w.
+            (x : Run) → IsLawful t g → IsKept t g v self.old.txns x → SameRoom t g v w) }
         ensures later { (E.view self.old.engine).faults ≤ (E.view self.new.engine).faults }
         ensures live { self.new.txns ≡ self.old.txns }
         ensures causes { HoldsFor txn.0 (E.view self.old.engine) (E.view self.new.engine) (core_of self.old) (core_of self.new) result }
@@ -93,6 +98,8 @@ impl<E: Lists> Store<E> {
         ensures lists { AsMeant (E.view self.old.engine) (E.view self.new.engine) (λ t g v w.
             (x : Run) → IsLawful t g → Shows t g v (core_of self.old) x
             → Goes t g v x (Listing t v.tail w.tail v.faults w.faults txn.0 (On name Keys) x result) w (core_of self.new)) }
+        ensures stock { self.new.stop ≡ None → AsMeant (E.view self.old.engine) (E.view self.new.engine) (λ t g v w.
+            (x : Run) → IsLawful t g → Shows t g v (core_of self.old) x → LeavesStock t g v w) }
         // on any engine
         ensures causes { ListsFor txn.0 (E.view self.old.engine) (E.view self.new.engine) (core_of self.old) (core_of self.new) result }
         ensures asks { IfErr result (λ e. AsksNothing e → self.new ≡ self.old) }
@@ -130,6 +137,8 @@ impl<E: Lists> Store<E> {
         ensures lists { AsMeant (E.view self.old.engine) (E.view self.new.engine) (λ t g v w.
             (x : Run) → IsLawful t g → Shows t g v (core_of self.old) x
             → Goes t g v x (Listing t v.tail w.tail v.faults w.faults txn.0 Names x result) w (core_of self.new)) }
+        ensures stock { self.new.stop ≡ None → AsMeant (E.view self.old.engine) (E.view self.new.engine) (λ t g v w.
+            (x : Run) → IsLawful t g → Shows t g v (core_of self.old) x → LeavesStock t g v w) }
         // on any engine
         ensures causes { ListsFor txn.0 (E.view self.old.engine) (E.view self.new.engine) (core_of self.old) (core_of self.new) result }
         ensures asks { IfErr result (λ e. AsksNothing e → self.new ≡ self.old) }

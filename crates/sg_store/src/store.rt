@@ -89,6 +89,7 @@ fn mark(txns: &mut Txns, txn: TxnId, op: &Op<'_>)
 }
 
 impl<E: Objects> Store<E> {
+    ghost use Rattle.sg_checkpoints.specs.Checkpoints.{HasMarked, StaysMarked};
     ghost use Rattle.sg_ops.specs.Table.{Table as Operations, table_of};
     ghost use Rattle.sg_run.specs.Run.{Run, committed, live_objects};
     ghost use Rattle.sg_store.specs.Accounting.{AccountsFor};
@@ -102,12 +103,13 @@ impl<E: Objects> Store<E> {
     ghost use Rattle.sg_base.specs.Ends.{HasRisen};
     ghost use Rattle.sg_run.specs.Numbers.{IsGranted};
     ghost use Rattle.sg_store.specs.Calls.{Goes, Begins, Commits, Flushes, Checkpoints, Stays, Holds, Rooms, HasRoom, Acts, Does, Undid, IsUndone, Aborts, Frees, Numbers, SameRoom};
-    ghost use Rattle.std.specs.Prelude.{Some, Err, true, false, ◌≤◌, ◌⊎◌, ◌-◌, ◌∷◌, ◌++◌, None, IfErr, IfSome, OnOk, sum_by, length, IsTrue, IsSome};
+    ghost use Rattle.std.specs.Prelude.{Some, Err, true, false, ◌≤◌, ◌⊎◌, ◌-◌, ◌∷◌, ◌++◌, None, IfErr, IfSome, OnOk, OnErr, sum_by, length, IsTrue, IsSome};
     ghost use Rattle.sg_serial.specs.Runs as serial;
     ghost use Rattle.sg_serial.specs.Locks.{released};
     ghost use Rattle.sg_core.specs.Live.{without, has_dropped};
     ghost use Rattle.sg_store.specs.Drops.{MarksOnly};
     ghost use Rattle.sg_store.specs.Room.{ArePagesLeft, AreBandsLeft, ShowsStock, LeadsStock, BacksStock, FreesStock, is_of};
+    ghost use Rattle.sg_store.specs.Stock.{LeavesStock};
     ghost use Rattle.sg_room.specs.Lines as stock;
     ghost use Rattle.sg_room.specs.Steps.{RunStock, backed};
     ghost use Rattle.sg_store.specs.Seen.{core_of, Serves, IsServed};
@@ -191,6 +193,9 @@ impl<E: Objects> Store<E> {
         ensures begins { AsMeant (E.view self.old.engine) (E.view self.new.engine) (λ t g v w.
             (x : Run) (name : List ℕ) → IsLawful t g → Shows t g v (core_of self.old) x
             → Goes t g v x (Begins v.tail v.faults w.faults name x result) w (core_of self.new)) }
+        // unless the store has stopped, the stock is left alone
+        ensures stock { self.new.stop ≡ None → AsMeant (E.view self.old.engine) (E.view self.new.engine) (λ t g v w.
+            (x : Run) → IsLawful t g → Shows t g v (core_of self.old) x → LeavesStock t g v w) }
         // on any engine
         ensures causes { BeginsFor (E.view self.old.engine) (E.view self.new.engine) (core_of self.old) (core_of self.new) result }
         ensures asks { IfErr result (λ e. (e ≡ Refused.DiskFault → ⊥) → self.new ≡ self.old) }
@@ -381,6 +386,10 @@ impl<E: Objects> Store<E> {
             OnOk result (AsMeantBy t (E.view self.old.engine) (E.view self.new.engine) (λ g v w.
             (x : Run) → IsLawful t g → Shows t g v (core_of self.old) x
             → (r : RunStock) → ShowsStock t g v r → ShowsStock t g w (stock.committed txn.0 r))) }
+        // where it is refused, and the store hasn't stopped, it is left alone
+        ensures stock_left { let t = table_of record_meaning range_meaning ops.now in
+            self.new.stop ≡ None → OnErr result (AsMeantBy t (E.view self.old.engine) (E.view self.new.engine) (λ g v w.
+            (x : Run) → IsLawful t g → Shows t g v (core_of self.old) x → LeavesStock t g v w)) }
         // on any engine
         ensures causes { EndsFor txn.0 (E.view self.old.engine) (E.view self.new.engine) (core_of self.old) (core_of self.new) result }
         ensures asks { IfErr result (λ e. AsksNothing e → self.new ≡ self.old) }
@@ -422,6 +431,10 @@ impl<E: Objects> Store<E> {
         ensures flushes { AsMeant (E.view self.old.engine) (E.view self.new.engine) (λ t g v w.
             (x : Run) → IsLawful t g → Shows t g v (core_of self.old) x
             → Goes t g v x (Flushes v.faults w.faults x result) w (core_of self.new)) }
+        ensures written { OnOk result ((lsn : ℕ) → E.unwritten self.new.engine lsn → ⊥) }
+        ensures marked { OnOk result ((E.view self.old.engine).Told → StaysMarked (E.marked self.old.engine) (E.marked self.new.engine) E.ends_at (E.view self.new.engine).disk.now) }
+        ensures stock { self.new.stop ≡ None → AsMeant (E.view self.old.engine) (E.view self.new.engine) (λ t g v w.
+            (x : Run) → IsLawful t g → Shows t g v (core_of self.old) x → LeavesStock t g v w) }
         // on any engine
         ensures causes { FlushesFor (E.view self.old.engine) (E.view self.new.engine) (core_of self.old) (core_of self.new) result }
         ensures asks { IfErr result (λ e. AsksNothing e → self.new ≡ self.old) }
@@ -450,6 +463,12 @@ impl<E: Objects> Store<E> {
         ensures marks { AsMeant (E.view self.old.engine) (E.view self.new.engine) (λ t g v w.
             (x : Run) → IsLawful t g → Shows t g v (core_of self.old) x
             → Goes t g v x (Checkpoints v.tail v.faults w.faults x result) w (core_of self.new)) }
+        // the last record of each image that a crash leaves now is the checkpoint
+        ensures ends { OnOk result ((E.view self.old.engine).Told → HasMarked (E.view self.old.engine).tail (E.unwritten self.old.engine) (E.marked self.new.engine) E.ends_at (E.view self.new.engine).disk.now) }
+        // only what waits of the log is handed over, and 1,200 bytes at most
+        ensures hands { (E.view self.new.engine).disk.handed ≤ (E.view self.old.engine).disk.handed + E.waiting self.old.engine + 1200 }
+        ensures stock { self.new.stop ≡ None → AsMeant (E.view self.old.engine) (E.view self.new.engine) (λ t g v w.
+            (x : Run) → IsLawful t g → Shows t g v (core_of self.old) x → LeavesStock t g v w) }
         // on any engine
         ensures causes { ChecksFor (E.view self.old.engine) (E.view self.new.engine) (core_of self.old) (core_of self.new) result }
         ensures asks { IfErr result (λ e. AsksNothing e → self.new ≡ self.old) }
@@ -498,8 +517,8 @@ impl<E: Objects> Store<E> {
             (x : Run) → IsLawful t g → IsKept t g v self.old.txns x
             → self.old.locks ≡ x.so_far.held → serial.is_live x.so_far.live txn.0 ≡ true
             → Holds t g v w (core_of self.old) (core_of self.new) x txn.0 (said_op op.now) result) }
-        ensures same { OnOk result (AsMeant (E.view self.old.engine) (E.view self.new.engine) (λ t g v w.
-            (x : Run) → IsLawful t g → IsKept t g v self.old.txns x → SameRoom t g v w)) }
+        ensures same { self.new.stop ≡ None → AsMeant (E.view self.old.engine) (E.view self.new.engine) (λ t g v w.
+            (x : Run) → IsLawful t g → IsKept t g v self.old.txns x → SameRoom t g v w) }
         ensures later { (E.view self.old.engine).faults ≤ (E.view self.new.engine).faults }
         ensures tail { (E.view self.new.engine).tail ≡ (E.view self.old.engine).tail }
         ensures live { self.new.txns ≡ self.old.txns }
@@ -527,8 +546,8 @@ impl<E: Objects> Store<E> {
             (x : Run) → IsLawful t g → IsKept t g v self.old.txns x
             → Rooms t g v w (core_of self.old) (core_of self.new) x (said_op op.now) result) }
         ensures same { let t = table_of record_meaning range_meaning ops.now in
-            OnOk result (AsMeantBy t (E.view self.old.engine) (E.view self.new.engine) (λ g v w.
-            (x : Run) → IsLawful t g → IsKept t g v self.old.txns x → SameRoom t g v w)) }
+            self.new.stop ≡ None → AsMeantBy t (E.view self.old.engine) (E.view self.new.engine) (λ g v w.
+            (x : Run) → IsLawful t g → IsKept t g v self.old.txns x → SameRoom t g v w) }
         ensures tested { OnOk result (is_changing (said_op op.now) ≡ true → (E.view self.new.engine).tail ≤ 2 ^ 62) }
         // so one more can be reserved
         ensures fits { IfOk result (λ n. (n.pages ≡ 0) ⊎ (sum_by (λ k. k.reserved) self.new.txns + n.pages < 2 ^ 32)) }
@@ -650,6 +669,10 @@ impl<E: Objects> Store<E> {
             AsMeantBy t (E.view self.old.engine) (E.view self.new.engine) (λ g v w.
             (x : Run) → IsLawful t g → Shows t g v (core_of self.old) x
             → IfOk result (λ reply. LeadsStock t g v w (live_objects t x) txn.0 (said_op op.now))) }
+        // where it is refused, and the store hasn't stopped, the stock is left alone
+        ensures stock_left { let t = table_of record_meaning range_meaning ops.now in
+            self.new.stop ≡ None → OnErr result (AsMeantBy t (E.view self.old.engine) (E.view self.new.engine) (λ g v w.
+            (x : Run) → IsLawful t g → Shows t g v (core_of self.old) x → LeavesStock t g v w)) }
         // on any engine
         ensures causes { DoesFor (is_changing (said_op op.now)) txn.0 (E.view self.old.engine) (E.view self.new.engine) (core_of self.old) (core_of self.new) result }
         ensures asks { IfErr result (λ e. AsksNothing e → self.new ≡ self.old) }
@@ -777,6 +800,10 @@ impl<E: Objects> Store<E> {
             OnOk result (AsMeantBy t (E.view self.old.engine) (E.view self.new.engine) (λ g v w.
             (x : Run) → IsLawful t g → Shows t g v (core_of self.old) x
             → (r : RunStock) → ShowsStock t g v r → ShowsStock t g w (backed (is_of txn.0) r))) }
+        // where it is refused, and the store hasn't stopped, it is left alone
+        ensures stock_left { let t = table_of record_meaning range_meaning ops.now in
+            self.new.stop ≡ None → OnErr result (AsMeantBy t (E.view self.old.engine) (E.view self.new.engine) (λ g v w.
+            (x : Run) → IsLawful t g → Shows t g v (core_of self.old) x → LeavesStock t g v w)) }
         // on any engine
         ensures causes { EndsFor txn.0 (E.view self.old.engine) (E.view self.new.engine) (core_of self.old) (core_of self.new) result }
         ensures asks { IfErr result (λ e. AsksNothing e → self.new ≡ self.old) }
@@ -808,6 +835,10 @@ impl<E: Objects> Store<E> {
         ensures closes { AsMeant (E.view self.old.engine) (E.view self.new.engine) (λ t g v w.
             (x : Run) → IsLawful t g → Shows t g v (core_of self.old) x
             → Goes t g v x (Checkpoints w.tail v.faults w.faults x result) w (core_of self.new)) }
+        ensures written { OnOk result ((lsn : ℕ) → E.unwritten self.new.engine lsn → ⊥) }
+        ensures ends { OnOk result ((E.view self.old.engine).Told → HasMarked (E.view self.old.engine).tail (E.unwritten self.old.engine) (E.marked self.new.engine) E.ends_at (E.view self.new.engine).disk.now) }
+        ensures stock { self.new.stop ≡ None → AsMeant (E.view self.old.engine) (E.view self.new.engine) (λ t g v w.
+            (x : Run) → IsLawful t g → Shows t g v (core_of self.old) x → LeavesStock t g v w) }
         // on any engine
         ensures causes { ClosesFor (E.view self.old.engine) (E.view self.new.engine) (core_of self.old) (core_of self.new) result }
         ensures stop { self.new.stop ≡ stop_behind self.old.stop result }
@@ -829,6 +860,11 @@ impl<E: Objects> Store<E> {
         ensures closes { AsMeant (E.view self.engine) (E.view result.1) (λ t g v w.
             (x : Run) → IsLawful t g → Shows t g v (core_of self) x
             → (m : Core) × Goes t g v x (Checkpoints w.tail v.faults w.faults x result.0) w m) }
+        ensures written { OnOk result.0 ((lsn : ℕ) → E.unwritten result.1 lsn → ⊥) }
+        // the last record of each image that a crash leaves now is the checkpoint
+        ensures ends { OnOk result.0 ((E.view self.engine).Told → HasMarked (E.view self.engine).tail (E.unwritten self.engine) (E.marked result.1) E.ends_at (E.view result.1).disk.now) }
+        ensures stock { OnOk result.0 (AsMeant (E.view self.engine) (E.view result.1) (λ t g v w.
+            (x : Run) → IsLawful t g → Shows t g v (core_of self) x → LeavesStock t g v w)) }
         // on any engine
         ensures causes { (m : Core) × ClosesFor (E.view self.engine) (E.view result.1) (core_of self) m result.0 }
         ensures fault { IfErr result.0 (λ e. e ≡ Refused.DiskFault → HasRisen (E.view self.engine).faults (E.view result.1).faults) }
@@ -852,7 +888,7 @@ impl<E: Objects> Store<E> {
 }
 
 impl<E: Truncates> Store<E> {
-    ghost use Rattle.std.specs.Prelude.{OnOk, IfErr};
+    ghost use Rattle.std.specs.Prelude.{OnOk, IfErr, None};
     ghost use Rattle.sg_store.specs.Causes.{AsksNothing, FlushesFor};
     ghost use Rattle.sg_ops.specs.Table.{Table as Operations};
     ghost use Rattle.sg_run.specs.Run.{Run};
@@ -862,6 +898,7 @@ impl<E: Truncates> Store<E> {
     ghost use Rattle.sg_store.specs.Engine.{Keeps, AsMeant};
     ghost use Rattle.sg_store.specs.Rests.{Has};
     ghost use Rattle.sg_store.specs.Calls.{Goes, Flushes};
+    ghost use Rattle.sg_store.specs.Stock.{LeavesStock};
     ghost use Rattle.sg_store.specs.Seen.{core_of, Serves, IsServed};
     ghost use Rattle.sg_store.specs.Heeds.{Heeds};
 
@@ -876,6 +913,8 @@ impl<E: Truncates> Store<E> {
         ensures truncates { AsMeant (E.view self.old.engine) (E.view self.new.engine) (λ t g v w.
             (x : Run) → IsLawful t g → Shows t g v (core_of self.old) x
             → Goes t g v x (Flushes v.faults w.faults x result) w (core_of self.new)) }
+        ensures stock { self.new.stop ≡ None → AsMeant (E.view self.old.engine) (E.view self.new.engine) (λ t g v w.
+            (x : Run) → IsLawful t g → Shows t g v (core_of self.old) x → LeavesStock t g v w) }
         // on any engine
         ensures causes { FlushesFor (E.view self.old.engine) (E.view self.new.engine) (core_of self.old) (core_of self.new) result }
         ensures asks { IfErr result (λ e. AsksNothing e → self.new ≡ self.old) }

@@ -16,8 +16,9 @@ struct Trial {
 
 impl Trial {
     // 64 or 700 pages, of which the catalogue has one.
-    fn new(alloc: Global, ops: Ops, large: bool, size: u16) -> Result<Trial, Fail> {
+    fn new(alloc: Global, large: bool, size: u16) -> Result<Trial, Fail> {
         let pages = if large { 700 } else { 64 };
+        let ops = Ops::shipped(alloc)?;
         let mut space = Guarded::new(MemSpace::new(alloc, pages, 2)?);
         let root = make(&mut space, &ops, size.clamp(1, 256))?;
         Ok(Trial { space, ops, root })
@@ -82,92 +83,165 @@ impl Trial {
     }
 }
 
+// A call, and what it is to answer. An item is read into a buffer of eight times 7, whose front it takes.
+#[derive(Clone, Copy)]
+enum Step {
+    Push(&'static [u8]),
+    Set(u32, &'static [u8]),
+    Get(u32, [u8; 8]),
+    Apply(u32, u16, &'static [u8]),
+    ApplyBack(u32, u16, &'static [u8]),
+    // The same that isn't done.
+    Declines(u32, u16, &'static [u8]),
+}
+
+impl Trial {
+    // An item, and what is behind it in the buffer.
+    fn item(&mut self, i: u32) -> Result<[u8; 8], SpaceFault> {
+        let mut into = [7; 8];
+        self.get(i, &mut into)?;
+        Ok(into)
+    }
+
+    // Whether a call answers what it is to.
+    fn does(&mut self, step: &Step) -> bool {
+        match *step {
+            Step::Push(item) => self.push(item).is_ok(),
+            Step::Set(i, item) => self.set(i, item).is_ok(),
+            Step::Get(i, item) => self.item(i) == Ok(item),
+            Step::Apply(i, code, arg) => self.apply(i, code, arg).is_ok(),
+            Step::ApplyBack(i, code, arg) => self.apply_back(i, code, arg).is_ok(),
+            Step::Declines(i, code, arg) => self.apply(i, code, arg).is_err(),
+        }
+    }
+}
+
+// The place of the first of these calls that answers something else, the calls made one after another on an array of items
+// of this size.
+fn first_wrong(alloc: Global, size: u16, steps: &[Step]) -> Result<Option<usize>, Fail> {
+    let mut array = Trial::new(alloc, false, size)?;
+    for (i, step) in steps.iter().enumerate() {
+        if !array.does(step) {
+            return Ok(Some(i));
+        }
+    }
+    Ok(None)
+}
+
+const SET: [Step; 7] = [
+    Step::Push(b"aa"),
+    Step::Push(b"bb"),
+    Step::Set(0, b"cc"),
+    Step::Set(1, b"dd"),
+    Step::Set(0, b"aa"),
+    Step::Get(0, *b"aa\x07\x07\x07\x07\x07\x07"),
+    Step::Get(1, *b"dd\x07\x07\x07\x07\x07\x07"),
+];
+
 // An item is set by two, and one takes its own back: the other's stays.
 #[test]
 fn an_undone_set_leaves_the_others(rt: HostRuntime) -> Result<(), Fail> {
-    let mut array = Trial::new(rt.alloc(), Ops::shipped(rt.alloc())?, false, 2)?;
-    let mut first = [0; 2];
-    let mut second = [0; 2];
-    array.push(b"aa")?;
-    array.push(b"bb")?;
-    array.set(0, b"cc")?;
-    array.set(1, b"dd")?;
-    array.set(0, b"aa")?;
-    array.get(0, &mut first)?;
-    array.get(1, &mut second)?;
-    assert_eq!(rt; first, *b"aa");
-    assert_eq!(rt; second, *b"dd");
+    assert_eq!(rt; first_wrong(rt.alloc(), 2, &SET)?, None);
     Ok(())
 }
 
-// An addition and a rotation, undone; one that isn't accepted, and a code that isn't registered.
+const ADDED: [Step; 7] = [
+    Step::Push(&[0xff; 8]),
+    Step::Apply(0, 1, &[1, 0, 0, 0, 0, 0, 0, 0]),
+    Step::Get(0, [0; 8]),
+    Step::ApplyBack(0, 1, &[1, 0, 0, 0, 0, 0, 0, 0]),
+    Step::Get(0, [0xff; 8]),
+    Step::Declines(0, 2, &[1]),
+    Step::Declines(0, 9, &[1]),
+];
+
+// An addition, undone; an operation that isn't accepted, and a code that isn't registered.
 #[test]
 fn operations_are_undone(rt: HostRuntime) -> Result<(), Fail> {
-    let mut array = Trial::new(rt.alloc(), Ops::shipped(rt.alloc())?, false, 8)?;
-    let mut item = [7; 8];
-    array.push(&[0xff; 8])?;
-    array.apply(0, 1, &[1, 0, 0, 0, 0, 0, 0, 0])?;
-    array.get(0, &mut item)?;
-    assert_eq!(rt; item, [0; 8]);
-    array.apply_back(0, 1, &[1, 0, 0, 0, 0, 0, 0, 0])?;
-    array.get(0, &mut item)?;
-    assert_eq!(rt; item, [0xff; 8]);
-    assert!(rt; array.apply(0, 2, &[1]).is_err());
-    assert!(rt; array.apply(0, 9, &[1]).is_err());
+    assert_eq!(rt; first_wrong(rt.alloc(), 8, &ADDED)?, None);
     Ok(())
 }
+
+const ROTATED: [Step; 5] = [
+    Step::Push(b"abc"),
+    Step::Apply(0, 3, &[1]),
+    Step::Get(0, *b"bca\x07\x07\x07\x07\x07"),
+    Step::ApplyBack(0, 3, &[1]),
+    Step::Get(0, *b"abc\x07\x07\x07\x07\x07"),
+];
 
 #[test]
 fn an_item_is_rotated_and_back(rt: HostRuntime) -> Result<(), Fail> {
-    let mut array = Trial::new(rt.alloc(), Ops::shipped(rt.alloc())?, false, 3)?;
-    let mut item = [7; 5];
-    array.push(b"abc")?;
-    array.apply(0, 3, &[1])?;
-    array.get(0, &mut item)?;
-    assert_eq!(rt; item, *b"bca\x07\x07");
-    array.apply_back(0, 3, &[1])?;
-    array.get(0, &mut item)?;
-    assert_eq!(rt; item, *b"abc\x07\x07");
+    assert_eq!(rt; first_wrong(rt.alloc(), 3, &ROTATED)?, None);
     Ok(())
 }
 
-// Pushes so many items, each of one byte again and again, and pops as many.
-fn push_and_pop(array: &mut Trial, count: u32, back: u32) -> Result<u32, SpaceFault> {
-    let mut into = [0; 256];
+// Pushes so many items, each of one byte again and again.
+fn push_all(array: &mut Trial, count: u32) -> Result<(), SpaceFault> {
     for i in 0..count {
         array.push(&[(i % 251) as u8; 256])?;
     }
-    for _ in 0..back {
+    Ok(())
+}
+
+fn pop_all(array: &mut Trial, count: u32) -> Result<(), SpaceFault> {
+    let mut into = [0; 256];
+    for _ in 0..count {
         array.pop(&mut into)?;
     }
-    array.pages()
+    Ok(())
+}
+
+// Pushes so many items and pops so many: how many pages the array has then, and how many are free.
+fn push_and_pop(array: &mut Trial, count: u32, back: u32) -> Result<(u32, u32), SpaceFault> {
+    push_all(array, count)?;
+    pop_all(array, back)?;
+    let used = array.pages()?;
+    Ok((used, array.free_pages()))
+}
+
+// The same of 16 items that are pushed, popped, and pushed again and popped but for 13.
+fn sixteen(array: &mut Trial) -> Result<[(u32, u32); 3], SpaceFault> {
+    let pushed = push_and_pop(array, 16, 0)?;
+    let popped = push_and_pop(array, 0, 16)?;
+    let again = push_and_pop(array, 16, 3)?;
+    Ok([pushed, popped, again])
+}
+
+// How many pages are free at first and at last, and how many faults were counted.
+fn sixteen_freed(alloc: Global) -> Result<([(u32, u32); 3], [u32; 2], u64), Fail> {
+    let mut array = Trial::new(alloc, false, 256)?;
+    let first = array.free_pages();
+    let pages = sixteen(&mut array)?;
+    array.free_all()?;
+    Ok((pages, [first, array.free_pages()], array.faults()))
 }
 
 // 16 items of 256 bytes have 4 pages: a root, an index page and two pages of 15. They stay as items are popped, and
 // are free once the array is.
 #[test]
 fn pages_stay_until_the_array_is_freed(rt: HostRuntime) -> Result<(), Fail> {
-    let mut array = Trial::new(rt.alloc(), Ops::shipped(rt.alloc())?, false, 256)?;
-    assert_eq!(rt; array.free_pages(), 62);
-    let sixteen = push_and_pop(&mut array, 16, 0)?;
-    assert_eq!(rt; (sixteen, array.free_pages()), (4, 59));
-    let popped = push_and_pop(&mut array, 0, 16)?;
-    assert_eq!(rt; (popped, array.free_pages()), (4, 59));
-    let again = push_and_pop(&mut array, 16, 3)?;
-    assert_eq!(rt; (again, array.free_pages()), (4, 59));
-    array.free_all()?;
-    assert_eq!(rt; array.free_pages(), 63);
-    assert_eq!(rt; array.faults(), 0);
+    assert_eq!(rt; sixteen_freed(rt.alloc())?, ([(4, 59); 3], [62, 63], 0));
     Ok(())
+}
+
+// An item of 256 bytes that are all the same one; none where they aren't.
+fn byte_of(array: &mut Trial, i: u32) -> Result<Option<u8>, SpaceFault> {
+    let mut into = [0; 256];
+    array.get(i, &mut into)?;
+    let byte = into[0];
+    Ok(if into == [byte; 256] {
+        Some(byte)
+    } else {
+        None
+    })
 }
 
 // Whether each 255th item is the one that was pushed.
 fn reads_back(array: &mut Trial) -> Result<bool, SpaceFault> {
-    let mut into = [0; 256];
     for k in 0..30u32 {
         let i = k * 255 + 14;
-        array.get(i, &mut into)?;
-        if into != [(i % 251) as u8; 256] {
+        if byte_of(array, i)? != Some((i % 251) as u8) {
             return Ok(false);
         }
     }
@@ -182,19 +256,27 @@ fn free_others(array: &mut Trial) -> Result<(), SpaceFault> {
     Ok(())
 }
 
+// The last item where the others are gone, and whether the first isn't read then.
+fn last_alone(array: &mut Trial) -> Result<(Option<u8>, bool), SpaceFault> {
+    free_others(array)?;
+    let last = byte_of(array, 7_649)?;
+    let first = byte_of(array, 0);
+    Ok((last, first.is_err()))
+}
+
+// How many pages 7,650 items have, whether they are read back, and what is read of them where the others are gone.
+fn long_array(alloc: Global) -> Result<(u32, bool, (Option<u8>, bool)), Fail> {
+    let mut array = Trial::new(alloc, true, 256)?;
+    let (used, _free) = push_and_pop(&mut array, 7_650, 0)?;
+    let back = reads_back(&mut array)?;
+    Ok((used, back, last_alone(&mut array)?))
+}
+
 // 7,650 items of 256 bytes have 510 item pages, which want a second index page. A get looks at three pages alone: the
 // root, an index page and an item page. The others can be gone.
 #[test]
 fn a_get_looks_at_three_pages(rt: HostRuntime) -> Result<(), Fail> {
-    let mut array = Trial::new(rt.alloc(), Ops::shipped(rt.alloc())?, true, 256)?;
-    let mut into = [0; 256];
-    let used = push_and_pop(&mut array, 7_650, 0)?;
-    assert_eq!(rt; used, 513);
-    assert!(rt; reads_back(&mut array)?);
-    free_others(&mut array)?;
-    array.get(7_649, &mut into)?;
-    assert_eq!(rt; into, [119; 256]);
-    assert!(rt; array.get(0, &mut into).is_err());
+    assert_eq!(rt; long_array(rt.alloc())?, (513, true, (Some(119), true)));
     Ok(())
 }
 
@@ -259,18 +341,28 @@ fn call(array: &mut Trial, which: usize, i: u32) -> Result<(), SpaceFault> {
     }
 }
 
-// Whether a call on such an array failed, as `Disk` with one fault counted.
-fn fails(alloc: Global, root: u32, i: u32, row: &Row, which: usize) -> Result<bool, Fail> {
+// Writes a cell over, or takes it out where there are no bytes.
+fn write_over(array: &mut Trial, page: u32, slot: u16, cell: &[u8]) -> Result<(), SpaceFault> {
+    if cell.is_empty() {
+        array.spoil(page, &PageOp::Remove { slot })
+    } else {
+        array.spoil(page, &PageOp::Set { slot, bytes: cell })
+    }
+}
+
+// The array, with a row's cell in place of its own.
+fn spoilt(alloc: Global, row: &Row) -> Result<Trial, Fail> {
     let (page, slot, cell, _) = *row;
-    let mut array = Trial::new(alloc, Ops::shipped(alloc)?, false, 4)?;
+    let mut array = Trial::new(alloc, false, 4)?;
     array.push(b"aaaa")?;
     array.push(b"bbbb")?;
-    let op = if cell.is_empty() {
-        PageOp::Remove { slot }
-    } else {
-        PageOp::Set { slot, bytes: cell }
-    };
-    array.spoil(page, &op)?;
+    write_over(&mut array, page, slot, cell)?;
+    Ok(array)
+}
+
+// Whether a call on such an array failed, as `Disk` with one fault counted.
+fn fails(alloc: Global, root: u32, i: u32, row: &Row, which: usize) -> Result<bool, Fail> {
+    let mut array = spoilt(alloc, row)?;
     array.root = PageNo(root);
     let answer = call(&mut array, which, i);
     Ok(answer == Err(SpaceFault::Disk) && array.faults() == 1)
@@ -278,34 +370,53 @@ fn fails(alloc: Global, root: u32, i: u32, row: &Row, which: usize) -> Result<bo
 
 // Whether those calls fail that are to, on this root and item.
 fn row_is_met(alloc: Global, root: u32, i: u32, row: &Row) -> Result<bool, Fail> {
-    let mut met = true;
     for (which, wanted) in row.3.iter().enumerate() {
-        met = met && fails(alloc, root, i, row, which)? == *wanted;
+        if fails(alloc, root, i, row, which)? != *wanted {
+            return Ok(false);
+        }
     }
-    Ok(met)
+    Ok(true)
+}
+
+// The place of the first row that isn't met.
+fn first_unmet(alloc: Global, rows: &[Row]) -> Result<Option<usize>, Fail> {
+    for (place, row) in rows.iter().enumerate() {
+        if !row_is_met(alloc, 1, 1, row)? {
+            return Ok(Some(place));
+        }
+    }
+    Ok(None)
 }
 
 #[test]
 fn broken_contents_are_faults(rt: HostRuntime) -> Result<(), Fail> {
-    let mut wrong = 0u32;
-    for row in ROWS.iter() {
-        if !row_is_met(rt.alloc(), 1, 1, row)? {
-            wrong = wrong.saturating_add(1);
-        }
-    }
-    assert_eq!(rt; wrong, 0);
+    assert_eq!(rt; first_unmet(rt.alloc(), &ROWS)?, None);
     Ok(())
 }
 
-// A length that has more items than there are, and pages of other kinds as the root.
+// A length that has more items than there are.
+const LONGER: Row = (1, 0, &[4, 0, 3, 0, 0, 0, 3, 0, 0, 0], BUT_FREE);
+
+// What is no damage, for pages of other kinds as the root.
+const OTHER: Row = (3, 1, b"cccc", ALL);
+
+// Pages that are no root.
+const NO_ROOTS: [u32; 3] = [2, 3, 9];
+
+// The first page of these on which a call does as on a root.
+fn first_root(alloc: Global, roots: &[u32]) -> Result<Option<u32>, Fail> {
+    for root in roots {
+        if !row_is_met(alloc, *root, 1, &OTHER)? {
+            return Ok(Some(*root));
+        }
+    }
+    Ok(None)
+}
+
 #[test]
 fn what_is_no_root_is_a_fault(rt: HostRuntime) -> Result<(), Fail> {
-    let longer: Row = (1, 0, &[4, 0, 3, 0, 0, 0, 3, 0, 0, 0], BUT_FREE);
-    let other: Row = (3, 1, b"cccc", ALL);
-    assert!(rt; row_is_met(rt.alloc(), 1, 2, &longer)?);
-    assert!(rt; row_is_met(rt.alloc(), 2, 1, &other)?);
-    assert!(rt; row_is_met(rt.alloc(), 3, 1, &other)?);
-    assert!(rt; row_is_met(rt.alloc(), 9, 1, &other)?);
+    assert!(rt; row_is_met(rt.alloc(), 1, 2, &LONGER)?);
+    assert_eq!(rt; first_root(rt.alloc(), &NO_ROOTS)?, None);
     Ok(())
 }
 
@@ -324,6 +435,16 @@ fn parts(n: usize, each: usize) -> usize {
 }
 
 impl Side {
+    // One without items.
+    fn new(alloc: Global, root: PageNo, size: usize) -> Side {
+        Side {
+            root,
+            size,
+            bytes: Vec::new(alloc),
+            longest: 0,
+        }
+    }
+
     fn long(&self) -> u32 {
         let items = self.bytes.len().checked_div(self.size).unwrap_or(0);
         u32::try_from(items).unwrap_or(u32::MAX)
@@ -418,63 +539,81 @@ impl Pair {
     }
 
     // Whether an item that is got is that of the list.
-    fn reads_alike(&mut self, side: &mut Side, i: u32) -> Result<bool, Fail> {
+    fn reads_alike(&mut self, side: &Side, i: u32) -> Result<bool, Fail> {
         self.trial.get(i, &mut self.piece)?;
         Ok(self.piece.get(..side.size) == side.item(i as usize))
+    }
+
+    // One call on one of the arrays, which is drawn. A pop is right where it takes what the list ends with.
+    fn change(&mut self, side: &mut Side) -> Result<bool, Fail> {
+        let long = side.long();
+        let i = self.draw(long);
+        match self.draw(8) {
+            _ if long == 0 => self.push(side)?,
+            0 | 1 | 2 => self.push(side)?,
+            3 | 4 => return self.pop(side),
+            5 => self.set(side, i)?,
+            6 => self.apply(side, i, false)?,
+            _ => self.apply(side, i, true)?,
+        }
+        Ok(true)
+    }
+
+    // Whether an item that is drawn is that of the list, where there is one.
+    fn gets_alike(&mut self, side: &Side) -> Result<bool, Fail> {
+        let long = side.long();
+        if long == 0 {
+            return Ok(true);
+        }
+        let i = self.draw(long);
+        self.reads_alike(side, i)
+    }
+
+    // Whether the length and the pages are those of the list.
+    fn is_alike(&mut self, side: &Side) -> Result<bool, Fail> {
+        let pages = self.trial.pages()? as usize;
+        let long = self.trial.len()?;
+        Ok(long == side.long() && pages == side.pages())
     }
 
     // One call on one of the arrays, and whether what is got then, the length and the pages are right.
     fn call(&mut self, side: &mut Side) -> Result<bool, Fail> {
         self.trial.root = side.root;
-        let long = side.long();
-        let i = self.draw(long);
-        let mut right = true;
-        match self.draw(8) {
-            _ if long == 0 => self.push(side)?,
-            0 | 1 | 2 => self.push(side)?,
-            3 | 4 => right = self.pop(side)?,
-            5 => self.set(side, i)?,
-            6 => self.apply(side, i, false)?,
-            _ => self.apply(side, i, true)?,
-        }
-        let now = side.long();
-        if now > 0 {
-            let j = self.draw(now);
-            right = right && self.reads_alike(side, j)?;
-        }
-        let pages = self.trial.pages()? as usize;
-        Ok(right && self.trial.len()? == now && pages == side.pages())
+        let right = self.change(side)?;
+        let got = self.gets_alike(side)?;
+        let alike = self.is_alike(side)?;
+        Ok(right && got && alike)
     }
 }
 
-#[test]
-fn arrays_side_by_side_are_lists(rt: HostRuntime) -> Result<(), Fail> {
-    let mut trial = Trial::new(rt.alloc(), Ops::shipped(rt.alloc())?, true, 256)?;
-    let root = trial.make_other(3)?;
-    let mut one = Side {
-        root: trial.root,
-        size: 256,
-        bytes: Vec::new(rt.alloc()),
-        longest: 0,
-    };
-    let mut two = Side {
-        root,
-        size: 3,
-        bytes: Vec::new(rt.alloc()),
-        longest: 0,
-    };
+impl Pair {
+    // Whether so many calls on each of two arrays, by turns, are right.
+    fn turns(&mut self, one: &mut Side, two: &mut Side, count: u32) -> Result<bool, Fail> {
+        for _ in 0..count {
+            if !self.call(one)? || !self.call(two)? {
+                return Ok(false);
+            }
+        }
+        Ok(true)
+    }
+}
+
+// The same of two new ones in one space, of items of 256 bytes and of 3, and how many faults were counted.
+fn side_by_side(alloc: Global, count: u32) -> Result<(bool, u64), Fail> {
+    let mut trial = Trial::new(alloc, true, 256)?;
+    let mut two = Side::new(alloc, trial.make_other(3)?, 3);
+    let mut one = Side::new(alloc, trial.root, 256);
     let mut pair = Pair {
         trial,
         seed: 54,
         piece: [0; 256],
     };
-    let mut wrong = 0;
-    for _ in 0..5_000 {
-        if !pair.call(&mut one)? || !pair.call(&mut two)? {
-            wrong = 1;
-        }
-    }
-    assert_eq!(rt; wrong, 0);
-    assert_eq!(rt; pair.trial.faults(), 0);
+    let right = pair.turns(&mut one, &mut two, count)?;
+    Ok((right, pair.trial.faults()))
+}
+
+#[test]
+fn arrays_side_by_side_are_lists(rt: HostRuntime) -> Result<(), Fail> {
+    assert_eq!(rt; side_by_side(rt.alloc(), 5_000)?, (true, 0));
     Ok(())
 }

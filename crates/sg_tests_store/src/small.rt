@@ -139,6 +139,12 @@ impl Engine for Small {
 
     ghost waiting = { λ s. 0 };
 
+    ghost unwritten = { λ s lsn. ⊥ };
+
+    ghost marked = { λ s lsn estimate. ⊥ };
+
+    ghost ends_at = { λ c lsn estimate. ⊥ };
+
     ghost opened = { λ s. shown s.measures.tail s.measures.pages s.measures.bands s.faults };
 
     ghost waits = { λ s. le-add_right s.measures.tail 65541 };

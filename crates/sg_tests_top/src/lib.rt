@@ -2,12 +2,6 @@
 #![tactic(auto)]
 
 #[cfg(test)]
-mod checkpoints;
-#[cfg(test)]
-mod geometry;
-#[cfg(test)]
-mod listing;
-#[cfg(test)]
 mod quiet;
 #[cfg(test)]
 mod reopen;

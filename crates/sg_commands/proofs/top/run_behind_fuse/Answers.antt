@@ -51,7 +51,8 @@ returns-clause-run g c =
     (g.met.E.Opens.sized t) (g.met.E.Opens.one t _) c.requires.presumed (λ is. g.met.D.Disk.reads c.finished-2.result.disk is)
     (c.finished-2.ensures.status ∙ (c.first_fault-status.ensures ∙ (ap (λ
     (a : code_status.Status). first_fault a c.status_of_end.result) c.status_of_stop-first.ensures ∙ ap
-    (λ (a : code_status.Status). first_fault (status_of_stop c.run-end.result.stop) a) c.status_of_end.ensures))) c.run-end.ensures.cause)
+    (λ (a : code_status.Status). first_fault (status_of_stop c.run-end.result.stop) a) c.status_of_end.ensures)))
+    (λ none tells i leaves. (let m = c.run-end.ensures.marked none tells in g.met.E.Opens.checkpointed i m.lsn m.estimate (m.still.ends i leaves))) c.run-end.ensures.cause)
 
 pub returns-clause-heeded : goal.returns-clause-heeded
 returns-clause-heeded g c =

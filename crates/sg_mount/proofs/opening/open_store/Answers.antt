@@ -25,7 +25,7 @@ returns-in-Ok-attach-clause-opened g c =
     let losers : List TxnId = c.deref.result.now in
     let found = found_with t g.D.Disk.told g.D.Presumed.presumed (g.D.Disk.view c.args.disk) (opened_by c.in-Ok.found.engine) c.in-Ok.found.losers.items losers c.deref.ensures.value c.in-Ok.ensures.found in
     has_opened t g.D.Disk.told g.D.Presumed.presumed (g.D.Disk.view c.args.disk) losers (opened_by c.in-Ok.found.engine) (shown_by c.in-Ok-attach.store) found
-    (core_of c.in-Ok-attach.store) a.core a.means a.tells a.unfailed a.has a.shows a.stands
+    (core_of c.in-Ok-attach.store) a.core a.means a.tells a.unfailed a.has a.shows a.stock a.stands
 
 pub returns-clause-refused : goal.returns-clause-refused
 returns-clause-refused g c =

@@ -12,6 +12,8 @@ use Rattle.sg_objects.proofs.Fresh.{still_fresh}
 use Rattle.sg_objects.proofs.Tables.{table_there}
 use Rattle.sg_objects.proofs.Forgetting.{no_table}
 use Rattle.sg_objects.proofs.Putting.{can_put_back, undo_over_done}
+use Rattle.sg_objects.proofs.Shaping.{del_shapes}
+use Rattle.sg_objects.proofs.Reshaping.{put_back_shape}
 use Rattle.sg_objects.proofs.put.undo_over.Goals as goal
 
 pub broken-requires : goal.broken-requires
@@ -58,3 +60,15 @@ returns-in-Err-clause-later g c = let then = g.met.P.PageSpace.later_then _ in t
 
 pub returns-in_ok-put-in-Ok-clause-later : goal.returns-in_ok-put-in-Ok-clause-later
 returns-in_ok-put-in-Ok-clause-later g c = let then = g.met.P.PageSpace.later_then _ in then _ _ _ (c.root_of.ensures.later _) c.put.ensures.later
+
+pub returns-in_ok-put-in-Ok-clause-splits : goal.returns-in_ok-put-in-Ok-clause-splits
+returns-in_ok-put-in-Ok-clause-splits g c = record {
+  shaped = λ told s h.
+      let k = c.in_ok-root_of.ensures.kept in
+      let shows = g.met.P.PageSpace.told_shows _ told in
+      let f = subst (λ (r : Result PageNo Reason). IsLocated kinds.Table c.args.name s r) c.in-Ok.is (c.in_ok-root_of.ensures.read shows s h) in
+      let now = still_contents k shows h in
+      let t = table_there now f in
+      let one = (c.in_ok-put-in-Ok.ensures.did).turns (k.keeps.told told) t.0 (t.2).table (can_put_back c.args.key.now now f t.1 (t.2).table (still_fresh k shows (c.requires.fresh told)) (still (λ (x : Space). 1 ≤ x.pages.free) k shows (c.requires.page told))) in
+      del_shapes f t.1 (one.1).table (put_back_shape one.2);
+}

@@ -1,6 +1,7 @@
 use Rattle.std.proofs.Common.{◌∙◌, ℕ, List, ap}
 use Rattle.sg_objects.specs.Notes.{byte_at}
 use Rattle.sg_objects.proofs.Reversing.{read_from, can_by, did_by, can_bytes, did_bytes, never_short, never_cut, never_unnamed, never_bare}
+use Rattle.sg_objects.proofs.Reshaping.{reshapes_by, bytes_unshaped}
 use Rattle.sg_objects.proofs.reversal.reverse.Goals as goal
 
 pub reverse_by-requires-clause-there : goal.reverse_by-requires-clause-there
@@ -30,3 +31,10 @@ broken-requires-in_default g c = never_unnamed _ _ c.bytes-bytes.result.now c.ar
 pub broken-requires-then-rest-lt4 : goal.broken-requires-then-rest-lt4
 broken-requires-then-rest-lt4 g c = never_bare _ _ c.args.note.now _ _ _ c.if-code-eq9.true c.if-rest-lt4.true
     (read_from c.bytes-bytes.result.now c.args.note.now c.in-Some.name _ c.bytes-bytes.ensures c.new.ensures c.in-Some.is) c.requires.there
+
+-- as far grown as before
+pub returns-clause-splits : goal.returns-clause-splits
+returns-clause-splits g c = reshapes_by _ _ _ c.args.note.now _ _ _ _ c.requires.there (read_from c.bytes-bytes.result.now c.args.note.now c.in-Some.name _ c.bytes-bytes.ensures c.new.ensures c.in-Some.is) c.reverse_by.ensures.splits
+
+pub returns-then-code-eq9-clause-splits : goal.returns-then-code-eq9-clause-splits
+returns-then-code-eq9-clause-splits g c = bytes_unshaped _ _ c.args.note.now _ _ _ _ c.if-code-eq9.true (read_from c.bytes-bytes.result.now c.args.note.now c.in-Some.name _ c.bytes-bytes.ensures c.new.ensures c.in-Some.is)

@@ -9,6 +9,7 @@ use Rattle.sg_objects.proofs.Located.{still_contents}
 use Rattle.sg_objects.proofs.Tables.{table_there}
 use Rattle.sg_objects.proofs.Forgetting.{no_table, undo_put_done}
 use Rattle.sg_objects.proofs.Bodies.{undone_from}
+use Rattle.sg_objects.proofs.Shaping.{del_shapes}
 use Rattle.sg_objects.proofs.table.undo_put.Goals as goal
 
 pub broken-requires : goal.broken-requires
@@ -53,3 +54,14 @@ returns-in-Err-clause-later g c = let then = g.met.P.PageSpace.later_then _ in t
 
 pub returns-in_ok-del-in-Ok-clause-later : goal.returns-in_ok-del-in-Ok-clause-later
 returns-in_ok-del-in-Ok-clause-later g c = let then = g.met.P.PageSpace.later_then _ in then _ _ _ (c.root_of.ensures.later _) c.del.ensures.later
+
+pub returns-in_ok-del-in-Ok-clause-splits : goal.returns-in_ok-del-in-Ok-clause-splits
+returns-in_ok-del-in-Ok-clause-splits g c = record {
+  shaped = λ told s h.
+      let k = c.in_ok-root_of.ensures.kept in
+      let shows = g.met.P.PageSpace.told_shows _ told in
+      let f = subst (λ (r : Result PageNo Reason). IsLocated kinds.Table c.args.name s r) c.in-Ok.is (c.in_ok-root_of.ensures.read shows s h) in
+      let t = table_there (still_contents k shows h) f in
+      let one = (c.in_ok-del-in-Ok.ensures.did).turns (k.keeps.told told) t.0 (t.2).table tt in
+      del_shapes f t.1 (one.1).table (one.2).shape;
+}

@@ -1,4 +1,5 @@
-use Rattle.std.proofs.Common.{◌≡◌, ℕ, Result, ◌+◌, ◌<◌, true, false, Ok, Err, sym, ap, subst, ◌∙◌, refl}
+use Rattle.std.proofs.Common.{◌≡◌, ℕ, Result, ◌+◌, ◌<◌, ◌≤◌, true, false, Ok, Err, sym, ap, subst, ◌∙◌, refl}
+use Rattle.sg_checkpoints.specs.Checkpoints.{HasMarked}
 use Rattle.sg_actions.specs.Counts.{ActsCounts}
 use Rattle.sg_actions.specs.Engine.{Moments, led, LOG_END}
 use Rattle.sg_actions.specs.Led.{Stayed}
@@ -103,3 +104,16 @@ again-requires-clause-chain g c = λ told2.
     let mm = c.quiet.ensures.means t z from (can.means told) in
     let means = stay_means (over c.quiet.new.acts) (over c.checkpoint.new.self) t z from c.checkpoint.result mm (record { maps = k.maps; unfreed = k.unfreed; rows = k.rows; actor = k.actor; begun = k.begun; begin = λ o. absurd (let x : true ≡ false = sym o ∙ (k.begun ∙ c.quiet.ensures.begun) in cc); limits = refl }) (k.means t from mm.since.stands) k.counts.told k.counts.silent (k.stays t from mm.since.stands) (k.kept (g.E.Engine.limits z.pages z.bands) t from mm.since.stands) in
     ∣ (means.keeps told2).kept.chain ∣₁
+
+pub returns-in-Ok-clause-hands : goal.returns-in-Ok-clause-hands
+returns-in-Ok-clause-hands g c =
+    subst (λ y. (g.E.Engine.view y).disk.handed ≤ (g.E.Engine.view c.args.acts.now.engine).disk.handed + g.E.Engine.waiting c.args.acts.now.engine + 1067) (sym c.again.ensures.engine)
+    (subst (λ y. (g.E.Engine.view c.checkpoint.new.self.engine).disk.handed ≤ (g.E.Engine.view y).disk.handed + g.E.Engine.waiting y + 1067) c.quiet.ensures.engine c.in-Ok.ensures.hands)
+
+pub returns-in-Err-clause-hands : goal.returns-in-Err-clause-hands
+returns-in-Err-clause-hands g c = subst (λ y. (g.E.Engine.view c.checkpoint.new.self.engine).disk.handed ≤ (g.E.Engine.view y).disk.handed + g.E.Engine.waiting y + 1067) c.quiet.ensures.engine c.in-Err.ensures.hands
+
+pub returns-in-Ok-clause-marks : goal.returns-in-Ok-clause-marks
+returns-in-Ok-clause-marks g c =
+    subst (λ y. (g.E.Engine.view c.args.acts.now.engine).Told → HasMarked (g.E.Engine.view c.args.acts.now.engine).tail (g.E.Engine.unwritten c.args.acts.now.engine) (g.E.Engine.marked y) g.E.Engine.ends_at (g.E.Engine.view y).disk.now) (sym c.again.ensures.engine)
+    (subst (λ y. (g.E.Engine.view y).Told → HasMarked (g.E.Engine.view y).tail (g.E.Engine.unwritten y) (g.E.Engine.marked c.checkpoint.new.self.engine) g.E.Engine.ends_at (g.E.Engine.view c.checkpoint.new.self.engine).disk.now) c.quiet.ensures.engine c.in-Ok.ensures.marks)

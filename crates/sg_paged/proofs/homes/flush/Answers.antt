@@ -33,3 +33,9 @@ returns-clause-rests g c = λ t z from m told e idle.
         f w,
       )) stays k.forced,
     )
+
+pub returns-clause-written : goal.returns-clause-written
+returns-clause-written g c = c.flush.ensures.written
+
+pub returns-clause-marked : goal.returns-clause-marked
+returns-clause-marked g c = c.flush.ensures.marked

@@ -5,9 +5,9 @@ use Rattle.sg_model.specs.Objects.{Object}
 use Rattle.sg_plain.specs.declared.object.Object as code
 use Rattle.sg_plain.specs.Shown.{shown}
 use Rattle.sg_plain.specs.Hand.{present_in}
-use Rattle.sg_plain.specs.Summed.{both, summary_of_all}
+use Rattle.sg_lines.specs.Summed.{both, summary_of_all}
 use Rattle.sg_plain.proofs.Texts.{present_some, present_skip}
-use Rattle.sg_plain.proofs.Summing.{summary_both}
+use Rattle.sg_lines.proofs.Summing.{summary_both}
 use Rattle.sg_plain.proofs.objects.summarize.Goals as goal
 
 pub places-init : goal.places-init

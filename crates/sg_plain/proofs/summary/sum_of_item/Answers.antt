@@ -1,5 +1,5 @@
 use Rattle.std.proofs.Common.{◌%◌, ◌^◌, sum, List, ℕ, sym, ap}
-use Rattle.sg_plain.proofs.Texts.{item_none}
+use Rattle.sg_lines.proofs.Written.{item_none}
 use Rattle.sg_plain.proofs.summary.sum_of_item.Goals as goal
 
 pub returns-in-None : goal.returns-in-None

@@ -1,7 +1,7 @@
 use Rattle.std.proofs.Common.{List, ℕ, sym, subst}
 use Rattle.sg_words.specs.Writing.{Writes}
-use Rattle.sg_plain.specs.Text.{item_line}
-use Rattle.sg_plain.proofs.Texts.{item_at, item_there}
+use Rattle.sg_lines.specs.Text.{item_line}
+use Rattle.sg_lines.proofs.Written.{item_at, item_there}
 use Rattle.sg_plain.proofs.text.write_item_at.Goals as goal
 
 pub returns-in-Some : goal.returns-in-Some

@@ -1,6 +1,6 @@
 use Rattle.std.proofs.Common.{List, ℕ, ◌<◌, length, sym, subst}
-use Rattle.sg_plain.specs.Text.{item_lines}
-use Rattle.sg_plain.proofs.Texts.{IsWritten, none_written, one_written, cut_written, item_lines-none, item_lines-more, item_lines-rest}
+use Rattle.sg_lines.specs.Text.{item_lines}
+use Rattle.sg_lines.proofs.Written.{IsWritten, none_written, one_written, cut_written, item_lines-none, item_lines-more, item_lines-rest}
 use Rattle.sg_plain.proofs.text.write_items.Goals as goal
 
 pub items-init : goal.items-init

@@ -5,8 +5,8 @@ use Rattle.sg_base.specs.declared.ends.Failed.{Failed}
 use Rattle.sg_words.specs.Writing.{Writes}
 use Rattle.sg_plain.specs.Places.{there}
 use Rattle.sg_plain.specs.Shown.{shown}
-use Rattle.sg_plain.specs.Text.{heading, item_lines, entry_line, piece_lines, text_of_object}
-use Rattle.sg_plain.proofs.Texts.{then_written, first_failed}
+use Rattle.sg_lines.specs.Text.{heading, item_lines, entry_line, piece_lines, text_of_object}
+use Rattle.sg_lines.proofs.Written.{then_written, first_failed}
 use Rattle.sg_plain.proofs.text.write_object.Goals as goal
 
 pub returns-in-Ok : goal.returns-in-Ok

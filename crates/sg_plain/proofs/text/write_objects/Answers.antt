@@ -5,8 +5,9 @@ use Rattle.std.proofs.lemmas.Map.Iter.{rest_more}
 use Rattle.sg_model.specs.Objects.{Object}
 use Rattle.sg_plain.specs.Shown.{shown}
 use Rattle.sg_plain.specs.Hand.{present_in}
-use Rattle.sg_plain.specs.Text.{text_of_object, texts_of}
-use Rattle.sg_plain.proofs.Texts.{none_written, one_written, cut_written, present_some}
+use Rattle.sg_lines.specs.Text.{text_of_object, texts_of}
+use Rattle.sg_lines.proofs.Written.{none_written, one_written, cut_written}
+use Rattle.sg_plain.proofs.Texts.{present_some}
 use Rattle.sg_plain.proofs.text.write_objects.Goals as goal
 
 pub places-init : goal.places-init

@@ -1,8 +1,8 @@
 use Rattle.std.proofs.Common.{◌≡◌, ◌+◌, ◌≤◌, ◌++◌, ℕ, List, length}
 use Rattle.std.specs.BTreeMap.{btree_map_len}
 use Rattle.sg_plain.specs.Hand.{present_in}
-use Rattle.sg_plain.specs.Text.{texts_of}
-use Rattle.sg_plain.proofs.Texts.{IsWritten}
+use Rattle.sg_lines.specs.Text.{texts_of}
+use Rattle.sg_lines.proofs.Written.{IsWritten}
 use Rattle.sg_plain.proofs.text.write_objects.Given as goal
 
 abbrev pub invariant-places : goal.invariant-places

@@ -1,7 +1,7 @@
 use Rattle.std.proofs.Common.{List, ℕ, ◌*◌, ◌+◌, ◌/◌, ◌++◌, take, drop, length, sym, ap, ◌∙◌, subst}
 use Rattle.sg_words.specs.Writing.{Writes}
-use Rattle.sg_plain.specs.Text.{piece_line, piece_lines}
-use Rattle.sg_plain.proofs.Texts.{IsWritten, none_written, one_written, cut_written, piece_is, piece_lines-none, piece_lines-more, piece_lines-rest}
+use Rattle.sg_lines.specs.Text.{piece_line, piece_lines}
+use Rattle.sg_lines.proofs.Written.{IsWritten, none_written, one_written, cut_written, piece_is, piece_lines-none, piece_lines-more, piece_lines-rest}
 use Rattle.sg_plain.proofs.text.write_pieces.Goals as goal
 
 pub pieces-init : goal.pieces-init

@@ -1,5 +1,5 @@
-use Rattle.sg_plain.specs.Text.{piece_lines}
-use Rattle.sg_plain.proofs.Texts.{IsWritten}
+use Rattle.sg_lines.specs.Text.{piece_lines}
+use Rattle.sg_lines.proofs.Written.{IsWritten}
 use Rattle.sg_plain.proofs.text.write_pieces.Given as goal
 
 abbrev pub invariant-pieces : goal.invariant-pieces

@@ -1,4 +1,4 @@
-use Rattle.std.proofs.Common.{inl, inr, ⊎_elim, sym, ap, ◌∙◌}
+use Rattle.std.proofs.Common.{inl, inr, ⊎_elim, sym, ap, ◌∙◌, arith}
 use Rattle.std.specs.Prelude.{is_some}
 use Rattle.sg_store.proofs.Heeding.{heeds_then}
 use Rattle.sg_session.specs.Seen.{session_core, session_engine}
@@ -24,3 +24,14 @@ returns-clause-stays g c why e =
 
 pub returns-clause-full : goal.returns-clause-full
 returns-clause-full g c e = ⊎_elim (λ was. inl (c.stop-by_then.ensures ∙ was)) (λ at_end. inr at_end) (c.finish-stop.ensures.full e)
+
+pub returns-clause-written : goal.returns-clause-written
+returns-clause-written g c none = c.finish-stop.ensures.written none
+
+pub returns-clause-marked : goal.returns-clause-marked
+returns-clause-marked g c none told =
+    let on = (c.finish-stop.ensures.heeds.quiet none).0 in
+    let e = c.finish-stop.ensures.marked none (c.run_script-end.ensures.heeds.tells on told) in
+    let low = e.appended in
+    let later = c.run_script-end.ensures.heeds.tail in
+    record { lsn = e.lsn; estimate = e.estimate; appended = omega (arith, low, later); still = e.still }

@@ -8,7 +8,8 @@ use Rattle.sg_run.specs.Run.{start}
 use Rattle.sg_store.specs.Rests.{HasObjects}
 use Rattle.sg_store.specs.Store.{Core, Shows}
 use Rattle.sg_store.specs.Seen.{core_of}
-use Rattle.sg_starting.specs.Starting.{AllStandFor, AreBuried, AreLosers, CanResume, IsOpenedWith, IsStartDisk}
+use Rattle.sg_recovery.specs.Log.{tally}
+use Rattle.sg_starting.specs.Starting.{AllStandFor, AreBuried, BeginsStock, AreLosers, CanResume, IsOpenedWith, IsStartDisk}
 use Rattle.sg_starting.specs.declared.opening.StartFault.TheVariants.{Memory}
 use Rattle.sg_starting.proofs.Asking as asking
 use Rattle.sg_starting.proofs.Attached as attaching
@@ -79,6 +80,19 @@ returns-in-Ok-new-clause-shows g c z from l told m lawful found stood all =
     subst (λ e. Shows t (g.E.Engine.basis z) (led t z from (g.E.Engine.view e)) (core_of c.in-Ok-new.store) (start m) × AreBuried t (g.E.Engine.basis z) (led t z from (g.E.Engine.view e)) 0) (sym c.in-Ok-new.ensures.engine)
     (subst (λ (o : Core). Shows t (g.E.Engine.basis z) (led t z from (g.E.Engine.view c.start_store.new.engine)) o (start m) × AreBuried t (g.E.Engine.basis z) (led t z from (g.E.Engine.view c.start_store.new.engine)) 0)
     (sym c.in-Ok-new.ensures.core) (c.in-Ok-start_store.ensures.shows z from means tells v.log m lawful k losers))
+
+pub returns-in-Ok-new-clause-stock : goal.returns-in-Ok-new-clause-stock
+returns-in-Ok-new-clause-stock g c z from l told m lawful found stood all o read =
+    let t = table_of (λ y. (given.RecordOp-dyn g y).record_meaning y.1) (λ y. (given.RangeOp-dyn g y).range_meaning y.1) c.args.ops.now in
+    let v = led t z from (g.E.Engine.opened c.args.engine) in
+    let w = led t z from (g.E.Engine.view c.in-Ok.engine) in
+    let taken = c.in-Ok.ensures.takes z from l told found in
+    let k = taken_starts _ (g.E.Engine.basis z) lawful v w m found stood taken.0 taken.1 in
+    let losers = subst (λ (ls : List ℕ). AreLosers ls c.args.losers.now) (sym taken.1.live) all in
+    let means = c.in-Ok.ensures.means z from l in
+    let tells = c.in-Ok.ensures.done.tells told in
+    subst (λ e. BeginsStock t (g.E.Engine.basis z) o (tally v.log).notes (led t z from (g.E.Engine.view e))) (sym c.in-Ok-new.ensures.engine)
+    (c.in-Ok-start_store.ensures.stock z from means tells v.log m o lawful k losers read)
 
 pub returns-in-Ok-new-clause-stands : goal.returns-in-Ok-new-clause-stands
 returns-in-Ok-new-clause-stands g c z from l told m lawful found stood all =

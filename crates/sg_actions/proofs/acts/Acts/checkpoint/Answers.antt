@@ -1,4 +1,5 @@
 use Rattle.sg_actions.specs.Growing.{moments_same, grows_same, moments_then}
+use Rattle.std.proofs.lemmas.Result.{on_ok_weaker}
 use Rattle.std.proofs.Common.{◌≡◌, ◌*◌, refl, ap, subst, ◌∙◌, length, take, arith}
 use Rattle.sg_actions.specs.Checkpoints.{rows_bytes}
 use Rattle.sg_actions.specs.Engine.{Moments, led}
@@ -6,10 +7,11 @@ use Rattle.sg_actions.specs.Steps.{Steps}
 use Rattle.sg_actions.proofs.Accounting.{within_by}
 use Rattle.sg_actions.proofs.Calling.{said_any}
 use Rattle.sg_actions.proofs.Closing.{on_ok2}
+use Rattle.sg_actions.proofs.Handing.{forced_hands, long_checkpoint}
 use Rattle.sg_actions.proofs.Counting.{looked_break, looked_none, stayed_then, kept_looked}
 use Rattle.sg_actions.proofs.Led.{look_call}
 use Rattle.sg_actions.proofs.Pointing.{mark_stays, said_mark}
-use Rattle.sg_actions.proofs.Rowed.{rows_sized, spelled_is, rows_fit, take_short}
+use Rattle.sg_actions.proofs.Rowed.{length_taken, rows_sized, spelled_is, rows_fit, take_short}
 use Rattle.sg_actions.proofs.GoingOn.{can_rest_told}
 use Rattle.sg_actions.proofs.acts.Acts.checkpoint.Goals as goal
 
@@ -66,3 +68,24 @@ returns-clause-kept g c = λ limits t from m.
 
 pub invariant_of-self-2-clause-goes_on : goal.invariant_of-self-2-clause-goes_on
 invariant_of-self-2-clause-goes_on g c = can_rest_told (g.E.Engine.view c.args.self.now.engine) (g.E.Engine.view c.force.new.self) _ _ (λ told. c.checkpoint.ensures.grows.counts.told (c.force.ensures.rests.counts.told told)) c.requires.quiet
+
+pub returns-in_err-checkpoint-clause-hands : goal.returns-in_err-checkpoint-clause-hands
+returns-in_err-checkpoint-clause-hands g c = let h = c.in_err-checkpoint.ensures.hands.most in omega (arith, h)
+
+pub returns-clause-hands : goal.returns-clause-hands
+returns-clause-hands g c =
+    let text = take c.in-Some.size c.spell_rows.new.into in
+    let short = length_taken c.in-Some.size c.spell_rows.new.into c.spell_rows.ensures.long in
+    let long = long_checkpoint 0 text in
+    forced_hands 1055 _ _ _ _ _ _ _ (omega (arith, short, long)) c.in_ok-checkpoint.ensures.hands c.force.ensures.hands
+
+pub returns-clause-none_waits : goal.returns-clause-none_waits
+returns-clause-none_waits g c = c.force.ensures.none_waits
+
+pub returns-clause-marks : goal.returns-clause-marks
+returns-clause-marks g c =
+    let k = c.in_ok-checkpoint.ensures in
+    on_ok_weaker c.force.result (λ stays told. (let m = k.marks told in record {
+      ends = record { lsn = c.in_ok-checkpoint.field-0; estimate = m.estimate; appended = k.grows.placed.above; still = stays (k.grows.counts.tells told) c.in_ok-checkpoint.field-0 m.estimate m.last };
+      estimates = m.estimates;
+    })) c.force.ensures.marked

@@ -1,6 +1,6 @@
 use Rattle.std.proofs.Common.{◌≡◌, sym, ap, ◌∙◌, List, length, refl, arith}
 use Rattle.sg_actions.proofs.Accounting.{within_by}
-use Rattle.sg_actions.proofs.Handing.{commit_hands, long_commit}
+use Rattle.sg_actions.proofs.Handing.{forced_hands, long_commit}
 use Rattle.sg_actions.proofs.Closing.{committed, commit_appends, has_gone, fails, appends_look, stays_of, on_ok2}
 use Rattle.sg_actions.proofs.InRange.{commit_in}
 use Rattle.sg_actions.proofs.Placing.{front_is, length-placed}
@@ -53,7 +53,7 @@ pub returns-in_err-lsn-clause-hands : goal.returns-in_err-lsn-clause-hands
 returns-in_err-lsn-clause-hands g c = let h = (c.in_err-lsn.ensures.hands refl).most in omega (arith, h)
 
 pub returns-clause-hands : goal.returns-clause-hands
-returns-clause-hands g c = commit_hands _ _ _ _ _ _ _ (long_commit c.args.txn.0 c.in-Some.prev) (c.in_ok-lsn.ensures.hands refl) c.force.ensures.hands
+returns-clause-hands g c = forced_hands 21 _ _ _ _ _ _ _ (let long = long_commit c.args.txn.0 c.in-Some.prev in omega (arith, long)) (c.in_ok-lsn.ensures.hands refl) c.force.ensures.hands
 
 pub returns-clause-none_waits : goal.returns-clause-none_waits
 returns-clause-none_waits g c = c.force.ensures.none_waits

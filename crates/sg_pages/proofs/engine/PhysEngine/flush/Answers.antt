@@ -12,6 +12,7 @@ use Rattle.sg_log.specs.Held.{tail_of}
 use Rattle.sg_phys.proofs.Seen.{forced_then, keeps_broken, keeps_look, looks_err, looks_ok, looks_stopped, rests_err, rests_ok, rests_stopped, some_broken, some_kept}
 use Rattle.sg_phys.specs.Phys.{looked}
 use Rattle.sg_phys_laws.proofs.Poised.{rested_forced}
+use Rattle.sg_pages.proofs.Marking.{forced_ends}
 use Rattle.sg_pages.proofs.engine.PhysEngine.flush.Goals as goal
 
 pub returns-then-self-clause-rests : goal.returns-then-self-clause-rests
@@ -52,3 +53,7 @@ returns-in-Err-clause-means g c = λ t from m. keeps_broken (IsGiven g.D.Disk.to
 
 pub invariant_of-self-in-Err-clause-some : goal.invariant_of-self-in-Err-clause-some
 invariant_of-self-in-Err-clause-some g c = some_broken (IsGiven g.D.Disk.told g.D.Presumed.presumed) (g.D.Disk.view c.args.self.now.found.value) (g.D.Disk.view c.flush.new.self.disk) c.flush.new.self.log c.flush.new.self.pool
+
+pub returns-in-Ok-clause-marked : goal.returns-in-Ok-clause-marked
+returns-in-Ok-clause-marked g c = forced_ends (IsGiven g.D.Disk.told g.D.Presumed.presumed) (parts g.D.Disk.view c.args.self.now) (g.D.Disk.view c.flush.new.self.disk) c.flush.new.self.log c.flush.new.self.pool c.args.self.now.some
+    (λ o ds ps given e. c.in-Ok.ensures.goes_on o ds ps given.0 e) (λ o ds ps k given e early. c.in-Ok.ensures.allowed o ds ps k given.0 e early)

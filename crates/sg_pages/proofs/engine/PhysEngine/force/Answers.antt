@@ -15,6 +15,7 @@ use Rattle.sg_phys.proofs.Seen.{forced_then, hands_none, keeps_broken, keeps_loo
 use Rattle.sg_phys.specs.Phys.{looked}
 use Rattle.sg_phys_laws.proofs.Handing.{hands_forced, none_waits}
 use Rattle.sg_phys_laws.proofs.Poised.{rested_forced}
+use Rattle.sg_pages.proofs.Marking.{forced_ends}
 use Rattle.sg_pages.proofs.engine.PhysEngine.force.Goals as goal
 
 pub returns-then-self-clause-rests : goal.returns-then-self-clause-rests
@@ -67,3 +68,7 @@ returns-in-Ok-clause-none_waits g c = none_waits {T = Unit {0}} {E = SpaceFault}
 
 pub returns-in-Err-clause-hands : goal.returns-in-Err-clause-hands
 returns-in-Err-clause-hands g c = record { most = (hands_forced {T = Unit {0}} {E = SpaceFault} c.args.self.now.engine.log c.force.new.self.log (g.D.Disk.view c.args.self.now.engine.disk).handed (g.D.Disk.view c.force.new.self.disk).handed (Err Disk) c.force.ensures.handed tt).most; all = tt }
+
+pub returns-in-Ok-clause-marked : goal.returns-in-Ok-clause-marked
+returns-in-Ok-clause-marked g c = forced_ends (IsGiven g.D.Disk.told g.D.Presumed.presumed) (parts g.D.Disk.view c.args.self.now) (g.D.Disk.view c.force.new.self.disk) c.force.new.self.log c.force.new.self.pool c.args.self.now.some
+    (λ o ds ps given e. c.in-Ok.ensures.goes_on o ds ps given.0 e) (λ o ds ps k given e early. c.in-Ok.ensures.allowed o ds ps k given.0 e early)

@@ -9,7 +9,7 @@ use Rattle.sg_ops.specs.Table.{Table}
 use Rattle.sg_action.specs.States.{State}
 use Rattle.sg_pool.specs.Pooled.{IsUnwritten}
 use Rattle.sg_record.specs.Records.{spelled}
-use Rattle.sg_actions.specs.Checkpoints.{Estimates}
+use Rattle.sg_checkpoints.specs.Checkpoints.{Estimates}
 use Rattle.sg_actions.specs.Handing.{HandsOver}
 use Rattle.sg_phys_laws.specs.Waiting.{waiting_of}
 use Rattle.sg_pages.specs.Marks.{LogEnds}

@@ -1,5 +1,5 @@
 use Rattle.std.proofs.Common.{sym, ap, ◌∙◌}
-use Rattle.sg_plain.specs.Summed.{summary_of_all}
+use Rattle.sg_lines.specs.Summed.{summary_of_all}
 use Rattle.sg_plain.proofs.Texts.{entries_present}
 use Rattle.sg_plain.proofs.objects.Objects.summary.Goals as goal
 

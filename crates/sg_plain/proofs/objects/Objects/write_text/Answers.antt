@@ -4,8 +4,9 @@ use Rattle.sg_words.specs.Writing.{Writes}
 use Rattle.sg_plain.specs.declared.text.TextFault.{TextFault}
 use Rattle.sg_plain.specs.declared.text.TextFault.TheVariants.{Sink}
 use Rattle.sg_plain.specs.Hand.{present_in}
-use Rattle.sg_plain.specs.Text.{heading, texts_of, text_of}
-use Rattle.sg_plain.proofs.Texts.{entries_present, then_text, then_failed, first_failed}
+use Rattle.sg_lines.specs.Text.{heading, texts_of, text_of}
+use Rattle.sg_lines.proofs.Written.{then_text, then_failed, first_failed}
+use Rattle.sg_plain.proofs.Texts.{entries_present}
 use Rattle.sg_plain.proofs.objects.Objects.write_text.Goals as goal
 
 pub returns-in_default-clause-text : goal.returns-in_default-clause-text

@@ -1,7 +1,7 @@
 use Rattle.std.proofs.Common.{◌%◌, ◌^◌, List, ℕ, sym, ap, ◌∙◌}
 use Rattle.std.specs.List.{sum_by}
 use Rattle.sg_plain.specs.Places.{there}
-use Rattle.sg_plain.specs.Summed.{sum_of_entry}
+use Rattle.sg_lines.specs.Summed.{sum_of_entry}
 use Rattle.sg_plain.specs.Tables.{shown_value}
 use Rattle.sg_plain.proofs.Sorted.{entries_there}
 use Rattle.sg_plain.proofs.table.Table.sum.Goals as goal

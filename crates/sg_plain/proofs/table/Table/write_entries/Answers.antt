@@ -5,9 +5,10 @@ use Rattle.std.proofs.lemmas.List.Concat.{flat_map-cons}
 use Rattle.std.proofs.lemmas.Map.Iter.{rest_more}
 use Rattle.sg_plain.specs.Places.{filled_one, filled}
 use Rattle.sg_plain.specs.Tables.{shown_value}
-use Rattle.sg_plain.specs.Text.{entry_line}
+use Rattle.sg_lines.specs.Text.{entry_line}
 use Rattle.sg_plain.specs.declared.table.Entry.{Entry}
-use Rattle.sg_plain.proofs.Texts.{one_written, cut_written, line_more}
+use Rattle.sg_lines.proofs.Written.{one_written, cut_written}
+use Rattle.sg_plain.proofs.Texts.{line_more}
 use Rattle.sg_plain.proofs.table.Table.write_entries.Goals as goal
 
 pub places-preserved-in-Ok : goal.places-preserved-in-Ok

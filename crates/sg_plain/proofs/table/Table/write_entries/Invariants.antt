@@ -2,8 +2,8 @@ use Rattle.std.proofs.Common.{◌≡◌, ◌++◌, ℕ, List}
 use Rattle.std.specs.List.{flat_map}
 use Rattle.sg_plain.specs.Places.{filled}
 use Rattle.sg_plain.specs.Tables.{shown_value}
-use Rattle.sg_plain.specs.Text.{entry_line}
-use Rattle.sg_plain.proofs.Texts.{IsWritten}
+use Rattle.sg_lines.specs.Text.{entry_line}
+use Rattle.sg_lines.proofs.Written.{IsWritten}
 use Rattle.sg_plain.proofs.table.Table.write_entries.Given as goal
 
 abbrev pub invariant-places : goal.invariant-places

@@ -3,7 +3,7 @@ use Rattle.std.specs.List.{flat_map}
 use Rattle.sg_words.specs.Writing.{Writes}
 use Rattle.sg_plain.specs.Places.{there}
 use Rattle.sg_plain.specs.Tables.{shown_value}
-use Rattle.sg_plain.specs.Text.{entry_line}
+use Rattle.sg_lines.specs.Text.{entry_line}
 use Rattle.sg_plain.proofs.Sorted.{entries_there}
 use Rattle.sg_plain.proofs.table.Table.write_lines.Goals as goal
 

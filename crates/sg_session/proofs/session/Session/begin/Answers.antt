@@ -29,12 +29,14 @@ returns-in-Ok-clause-goes g c into t z from m told x lawful shows =
     let none = steps.by_none c.named.result _ (sym c.is_some.ensures ∙ c.if-is_some.false) c.named.ensures in
     steps.begin_done t (g.E.Engine.basis z) (led t z from (g.E.Engine.view c.args.self.now.store.engine)) x (session_core c.args.self.now) shows c.requires.running c.args.name
     (led t z from (g.E.Engine.view c.begin.new.self.engine)) _ _ c.in-Ok.txn none c.add.ensures (c.in-Ok.ensures.begins t z from m told x c.args.name lawful shows.store)
+    (λ none. c.begin.ensures.stock none t z from m told x lawful shows.store)
 
 pub returns-in-Err-clause-goes : goal.returns-in-Err-clause-goes
 returns-in-Err-clause-goes g c into t z from m told x lawful shows =
     let none = steps.by_none c.named.result _ (sym c.is_some.ensures ∙ c.if-is_some.false) c.named.ensures in
     steps.begin_refused t (g.E.Engine.basis z) (led t z from (g.E.Engine.view c.args.self.now.store.engine)) x (session_core c.args.self.now) shows c.requires.running c.args.name
     (led t z from (g.E.Engine.view c.begin.new.self.engine)) _ _ c.in-Err.why none (λ is. c.answer_to.ensures.says is into) (c.in-Err.ensures.begins t z from m told x c.args.name lawful shows.store)
+    (λ none. c.begin.ensures.stock none t z from m told x lawful shows.store)
 
 pub begin-requires : goal.begin-requires
 begin-requires g c = let s = c.requires.serves in record { serves = (s.0, store_serves s.0 (g.E.Engine.view c.args.self.now.store.engine) (session_core c.args.self.now) s.1) }

@@ -29,3 +29,15 @@ returns-clause-full g c e =
     let p = c.close-done.ensures.causes in
     causing.close_full (g.E.Engine.view (session_engine c.args.self)) (g.E.Engine.view c.close-done.result.1) (core_of c.args.self.store) p.0 c.close-done.result.0 p.1
     (sym (c.stopped_by.ensures ∙ ap (λ s. stop_behind s c.close-done.result.0) c.stop-stop.ensures) ∙ e)
+
+pub returns-clause-written : goal.returns-clause-written
+returns-clause-written g c none =
+    let p = c.close-done.ensures.causes in
+    causing.close_well (g.E.Engine.view (session_engine c.args.self)) (g.E.Engine.view c.close-done.result.1) (core_of c.args.self.store) p.0 c.close-done.result.0 p.1
+    (sym (c.stopped_by.ensures ∙ ap (λ s. stop_behind s c.close-done.result.0) c.stop-stop.ensures) ∙ none) c.close-done.ensures.written
+
+pub returns-clause-marked : goal.returns-clause-marked
+returns-clause-marked g c none told =
+    let p = c.close-done.ensures.causes in
+    (causing.close_well (g.E.Engine.view (session_engine c.args.self)) (g.E.Engine.view c.close-done.result.1) (core_of c.args.self.store) p.0 c.close-done.result.0 p.1
+    (sym (c.stopped_by.ensures ∙ ap (λ s. stop_behind s c.close-done.result.0) c.stop-stop.ensures) ∙ none) c.close-done.ensures.ends told).ends

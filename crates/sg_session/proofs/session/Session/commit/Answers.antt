@@ -22,11 +22,13 @@ pub returns-in-Ok-clause-goes : goal.returns-in-Ok-clause-goes
 returns-in-Ok-clause-goes g c into z from m told x lawful shows =
     steps.commit_done _ (g.E.Engine.basis z) (led _ z from (g.E.Engine.view c.args.self.now.store.engine)) x (session_core c.args.self.now) shows c.requires.running c.args.name
     _ (led _ z from (g.E.Engine.view c.commit.new.self.engine)) _ _ c.in-Some.ensures c.remove.ensures (c.in-Ok.ensures.commits z from m told x lawful shows.store)
+    (c.in-Ok.ensures.stock z from m told x lawful shows.store)
 
 pub returns-in-Err-clause-goes : goal.returns-in-Err-clause-goes
 returns-in-Err-clause-goes g c into z from m told x lawful shows =
     steps.commit_refused _ (g.E.Engine.basis z) (led _ z from (g.E.Engine.view c.args.self.now.store.engine)) x (session_core c.args.self.now) shows c.requires.running c.args.name
     _ (led _ z from (g.E.Engine.view c.commit.new.self.engine)) _ _ c.in-Err.why c.in-Some.ensures (λ is. c.answer_to.ensures.says is into) (c.in-Err.ensures.commits z from m told x lawful shows.store)
+    (λ none. c.in-Err.ensures.stock_left none z from m told x lawful shows.store)
 
 pub commit-requires : goal.commit-requires
 commit-requires g c = record { serves = store_serves _ (g.E.Engine.view c.args.self.now.store.engine) (session_core c.args.self.now) c.requires.serves }

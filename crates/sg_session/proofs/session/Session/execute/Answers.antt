@@ -1,4 +1,4 @@
-use Rattle.std.proofs.Common.{refl, sym, ap, ◌∙◌}
+use Rattle.std.proofs.Common.{refl, sym, ap, subst, ◌∙◌}
 use Rattle.std.specs.Prelude.{is_some}
 use Rattle.sg_model.specs.SaidOps.{said_op}
 use Rattle.sg_model.specs.Verb.Op.{On, Names}
@@ -13,7 +13,8 @@ use Rattle.sg_session.specs.Goes.{when_stopped}
 use Rattle.sg_store.proofs.Heeding as heeding
 use Rattle.sg_session.proofs.Steps as steps
 use Rattle.sg_session.proofs.Answering as answering
-use Rattle.sg_session.specs.Lines.{line_of}
+use Rattle.sg_session.specs.KeptUp.{IsKeptUp}
+use Rattle.sg_session.specs.Lines.{Line, line_of}
 use Rattle.sg_session.specs.Lines.Line.{OfStore, Other}
 use Rattle.sg_session.proofs.Causing as causing
 use Rattle.sg_session.proofs.session.Session.execute.Goals as goal
@@ -149,3 +150,36 @@ returns-in-Keys-clause-caused g c = causing.at_line _ _ c.args.self.now.store.st
 pub returns-in-List-clause-caused : goal.returns-in-List-clause-caused
 returns-in-List-clause-caused g c = causing.at_line _ _ c.args.self.now.store.stop _ (Other (Of c.in-Of.name (Do Names))) (line_of c.args.text.now) _ (answering.is_of c.args.text.now c.in-Of.name (Do Names) (sym c.in-Of.ensures.asked ∙ ap (λ (r : code_request.Request). Of c.in-Of.name (shown r)) c.in-List.is))
     (c.list.ensures.caused c.args.into.now)
+
+pub returns-in-Blank-clause-kept_up : goal.returns-in-Blank-clause-kept_up
+returns-in-Blank-clause-kept_up g c none = answering.other_kept g.E.Engine _ _ _ _ (answering.is_blank c.args.text.now (sym c.in-Blank.ensures.asked))
+
+pub returns-in_default-clause-kept_up : goal.returns-in_default-clause-kept_up
+returns-in_default-clause-kept_up g c none = answering.other_kept g.E.Engine _ _ _ _ (answering.line_is c.args.text.now Wrong _ (sym c.in-Wrong.ensures.asked) (sym c.in_default.ensures))
+
+pub returns-then-is_some-2-clause-kept_up : goal.returns-then-is_some-2-clause-kept_up
+returns-then-is_some-2-clause-kept_up g c none = answering.other_kept g.E.Engine _ _ _ _ (answering.is_of c.args.text.now c.in-Of.name _ (sym c.in-Of.ensures.asked))
+
+pub returns-in-Begin-clause-kept_up : goal.returns-in-Begin-clause-kept_up
+returns-in-Begin-clause-kept_up g c none = answering.other_kept g.E.Engine _ _ _ _ (answering.is_of c.args.text.now c.in-Of.name Begin (sym c.in-Of.ensures.asked ∙ ap (λ (r : code_request.Request). Of c.in-Of.name (shown r)) c.in-Begin.is))
+
+pub returns-in-Commit-clause-kept_up : goal.returns-in-Commit-clause-kept_up
+returns-in-Commit-clause-kept_up g c none = answering.other_kept g.E.Engine _ _ _ _ (answering.is_of c.args.text.now c.in-Of.name Commit (sym c.in-Of.ensures.asked ∙ ap (λ (r : code_request.Request). Of c.in-Of.name (shown r)) c.in-Commit.is))
+
+pub returns-in-Abort-clause-kept_up : goal.returns-in-Abort-clause-kept_up
+returns-in-Abort-clause-kept_up g c none = answering.other_kept g.E.Engine _ _ _ _ (answering.is_of c.args.text.now c.in-Of.name Abort (sym c.in-Of.ensures.asked ∙ ap (λ (r : code_request.Request). Of c.in-Of.name (shown r)) c.in-Abort.is))
+
+pub returns-in-Do-clause-kept_up : goal.returns-in-Do-clause-kept_up
+returns-in-Do-clause-kept_up g c none = answering.other_kept g.E.Engine _ _ _ _ (answering.is_of c.args.text.now c.in-Of.name (Do (said_op c.in-Do.op)) (sym c.in-Of.ensures.asked ∙ ap (λ (r : code_request.Request). Of c.in-Of.name (shown r)) c.in-Do.is))
+
+pub returns-in-Keys-clause-kept_up : goal.returns-in-Keys-clause-kept_up
+returns-in-Keys-clause-kept_up g c none = answering.other_kept g.E.Engine _ _ _ _ (answering.is_of c.args.text.now c.in-Of.name (Do (On c.in-Keys.table Keys)) (sym c.in-Of.ensures.asked ∙ ap (λ (r : code_request.Request). Of c.in-Of.name (shown r)) c.in-Keys.is))
+
+pub returns-in-List-clause-kept_up : goal.returns-in-List-clause-kept_up
+returns-in-List-clause-kept_up g c none = answering.other_kept g.E.Engine _ _ _ _ (answering.is_of c.args.text.now c.in-Of.name (Do Names) (sym c.in-Of.ensures.asked ∙ ap (λ (r : code_request.Request). Of c.in-Of.name (shown r)) c.in-List.is))
+
+pub returns-then-is_some-clause-kept_up : goal.returns-then-is_some-clause-kept_up
+returns-then-is_some-clause-kept_up g c none = heeding.not_stopped c.args.self.now.store.stop (ap is_some none) (ap is_some (sym c.stop.ensures) ∙ (sym c.is_some.ensures ∙ c.if-is_some.true))
+
+pub returns-else-is_some-clause-kept_up : goal.returns-else-is_some-clause-kept_up
+returns-else-is_some-clause-kept_up g c none = subst (λ (l : Line). IsKeptUp g.E.Engine l c.args.self.now.store.engine c.keep_up.new.self.store.engine) (answering.line_is c.args.text.now Wrong _ (sym c.in-Wrong.ensures.asked) (sym c.in-Some.ensures)) (c.keep_up.ensures.kept_up none)

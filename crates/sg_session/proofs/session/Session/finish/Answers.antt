@@ -43,3 +43,20 @@ returns-then-is_some-clause-full g c e = c.close.ensures.full e
 pub returns-clause-full : goal.returns-clause-full
 returns-clause-full g c e =
     inr (⊎_elim (λ was. (let at_end = c.abort_all.ensures.full was in omega (arith, at_end, c.close-2.ensures.heeds.tail))) (λ at_end. at_end) (c.close-2.ensures.full e))
+
+pub returns-then-is_some-clause-written : goal.returns-then-is_some-clause-written
+returns-then-is_some-clause-written g c none = c.close.ensures.written none
+
+pub returns-then-is_some-clause-marked : goal.returns-then-is_some-clause-marked
+returns-then-is_some-clause-marked g c none told = c.close.ensures.marked none told
+
+pub returns-clause-written : goal.returns-clause-written
+returns-clause-written g c none = c.close-2.ensures.written none
+
+pub returns-clause-marked : goal.returns-clause-marked
+returns-clause-marked g c none told =
+    let on = (c.close-2.ensures.heeds.quiet none).0 in
+    let e = c.close-2.ensures.marked none (c.abort_all.ensures.heeds.tells on told) in
+    let low = e.appended in
+    let later = c.abort_all.ensures.heeds.tail in
+    record { lsn = e.lsn; estimate = e.estimate; appended = omega (arith, low, later); still = e.still }

@@ -16,11 +16,13 @@ pub returns-in-Ok-clause-goes : goal.returns-in-Ok-clause-goes
 returns-in-Ok-clause-goes g c into t z from m told x lawful shows =
     steps.flush_done t (g.E.Engine.basis z) (led t z from (g.E.Engine.view c.args.self.now.store.engine)) x (session_core c.args.self.now) shows c.requires.running
     (led t z from (g.E.Engine.view c.flush.new.self.engine)) _ (c.in-Ok.ensures.flushes t z from m told x lawful shows.store)
+    (λ none. c.flush.ensures.stock none t z from m told x lawful shows.store)
 
 pub returns-in-Err-clause-goes : goal.returns-in-Err-clause-goes
 returns-in-Err-clause-goes g c into t z from m told x lawful shows =
     steps.flush_refused t (g.E.Engine.basis z) (led t z from (g.E.Engine.view c.args.self.now.store.engine)) x (session_core c.args.self.now) shows c.requires.running
     (led t z from (g.E.Engine.view c.flush.new.self.engine)) _ _ c.in-Err.why (λ is. c.answer_to.ensures.says is into) (c.in-Err.ensures.flushes t z from m told x lawful shows.store)
+    (λ none. c.flush.ensures.stock none t z from m told x lawful shows.store)
 
 pub flush-requires : goal.flush-requires
 flush-requires g c = let s = c.requires.serves in record { serves = (s.0, store_serves s.0 (g.E.Engine.view c.args.self.now.store.engine) (session_core c.args.self.now) s.1) }
@@ -32,3 +34,9 @@ pub returns-in-Err-clause-caused : goal.returns-in-Err-clause-caused
 returns-in-Err-clause-caused g c into =
     causing.by_trouble (g.E.Engine.view c.args.self.now.store.engine) (g.E.Engine.view c.flush.new.self.engine) c.args.self.now.store.stop c.flush.new.self.stop (OfStore upkeeps.Flush) (shown_answer into c.answer_to.result) (trouble_of c.in-Err.why) (c.answer_to.ensures.trouble into) c.requires.running c.flush.ensures.heeds
     (causing.flush_refused (g.E.Engine.view c.args.self.now.store.engine) (g.E.Engine.view c.flush.new.self.engine) (core_of c.args.self.now.store) (core_of c.flush.new.self) c.in-Err.why c.in-Err.ensures.causes)
+
+pub returns-in-Ok-clause-kept_up : goal.returns-in-Ok-clause-kept_up
+returns-in-Ok-clause-kept_up g c none = record { written = c.in-Ok.ensures.written; marked = c.in-Ok.ensures.marked }
+
+pub returns-in-Err-clause-kept_up : goal.returns-in-Err-clause-kept_up
+returns-in-Err-clause-kept_up g c none = absurd (causing.flush_stops (g.E.Engine.view c.args.self.now.store.engine) (g.E.Engine.view c.flush.new.self.engine) (core_of c.args.self.now.store) (core_of c.flush.new.self) c.in-Err.why c.in-Err.ensures.causes none)

@@ -4,6 +4,9 @@ use Rattle.sg_store.specs.Engine.{led}
 use Rattle.sg_session.specs.Seen.{session_core}
 use Rattle.sg_store.proofs.Heeding as heeding
 use Rattle.sg_session.proofs.Steps as steps
+use Rattle.sg_session.proofs.Stocking as stocking
+use Rattle.sg_session.proofs.Stocking.{with_stock}
+use Rattle.sg_session.specs.Goes.{around}
 use Rattle.sg_session.proofs.Serves.{store_serves}
 use Rattle.sg_words.specs.Answered.{shown_answer}
 use Rattle.sg_words.specs.Requests.Asked.{Of}
@@ -24,11 +27,15 @@ pub returns-in-Ok-clause-goes : goal.returns-in-Ok-clause-goes
 returns-in-Ok-clause-goes g c into t z from m told x lawful shows =
     steps.list_done t (g.E.Engine.basis z) (led t z from (g.E.Engine.view c.args.self.now.store.engine)) x (session_core c.args.self.now) shows c.requires.running c.args.name
     _ (On c.args.table Keys) (led t z from (g.E.Engine.view c.keys.new.self.engine)) _ c.in-Ok.keys c.in-Some.ensures (c.in-Ok.ensures.lists t z from m told x lawful shows.store)
+    lawful (g.E.Engine.leaves c.args.self.now.store.engine t z from m told) tt (λ none. c.keys.ensures.stock none t z from m told x lawful shows.store)
 
 pub returns-in-Err-clause-goes : goal.returns-in-Err-clause-goes
 returns-in-Err-clause-goes g c into t z from m told x lawful shows =
     steps.do_refused t (g.E.Engine.basis z) (led t z from (g.E.Engine.view c.args.self.now.store.engine)) x (session_core c.args.self.now) shows c.requires.running c.args.name
     _ (On c.args.table Keys) (led t z from (g.E.Engine.view c.keys.new.self.engine)) _ into _ c.in-Err.why c.in-Some.ensures (λ is. c.answer_to.ensures.says is into) (c.in-Err.ensures.lists t z from m told x lawful shows.store)
+    lawful (g.E.Engine.leaves c.args.self.now.store.engine t z from m told)
+    (λ by_stock r shown. stocking.list_numbers t (around (led t z from (g.E.Engine.view c.args.self.now.store.engine)) (led t z from (g.E.Engine.view c.keys.new.self.engine))) (with_stock x r) (On c.args.table Keys) c.in-Some.named.txn.0 (g.E.Engine.view c.args.self.now.store.engine) (g.E.Engine.view c.keys.new.self.engine) (core_of c.args.self.now.store) (core_of c.keys.new.self) c.in-Err.why c.in-Err.ensures.causes)
+    (λ none. c.keys.ensures.stock none t z from m told x lawful shows.store)
 
 pub keys-requires : goal.keys-requires
 keys-requires g c = let s = c.requires.serves in record { serves = (s.0, store_serves s.0 (g.E.Engine.view c.args.self.now.store.engine) (session_core c.args.self.now) s.1) }

@@ -25,6 +25,7 @@ use Rattle.sg_store.proofs.Accounting as accounting
 use Rattle.sg_room.specs.Steps.{backed}
 use Rattle.sg_store.specs.Room.{is_of, ShowsStock}
 use Rattle.sg_store.proofs.Stocked.{end_stock}
+use Rattle.sg_store.proofs.Still.{not_halted}
 use Rattle.sg_store.proofs.store.Store.abort.Goals as goal
 
 pub returns-then-is_some-clause-aborts : goal.returns-then-is_some-clause-aborts
@@ -234,3 +235,15 @@ returns-in-Ok-end-clause-heeds g c =
     heeding.heeds_kept (g.E.Engine.view) c.args.self.now.stop c.forget.new.self.stop (g.E.Engine.view c.args.self.now.engine) c.end.new.self c.forget.new.self.engine c.forget.ensures.engine (ap (λ (k : Core). k.stopped) c.forget.ensures.core ∙ ap (λ (k : Core). k.stopped) c.undo_all.ensures.core)
     (c.in-Ok-end.ensures.counts.quiet ∙ c.in-Ok.ensures.quiet) (omega (arith, c.undo_all.ensures.tail, c.end.ensures.counts.tail)) (λ h. c.in-Ok-end.ensures.counts.tells (c.in-Ok.ensures.tells h))
     (accounting.unfailed_both (g.E.Engine.view c.args.self.now.engine) (g.E.Engine.view c.undo_all.new.self.engine) (g.E.Engine.view c.end.new.self) (accounting.unfailed_done (g.E.Engine.view c.args.self.now.engine) (g.E.Engine.view c.undo_all.new.self.engine) _ c.in-Ok.ensures.accounts) (accounting.unfailed_done (g.E.Engine.view c.undo_all.new.self.engine) (g.E.Engine.view c.end.new.self) _ c.in-Ok-end.ensures.counts.accounts))
+
+pub returns-then-is_some-clause-stock_left : goal.returns-then-is_some-clause-stock_left
+returns-then-is_some-clause-stock_left g c none z from m told x lawful shows r shown = shown
+
+pub returns-then-not-is_live-clause-stock_left : goal.returns-then-not-is_live-clause-stock_left
+returns-then-not-is_live-clause-stock_left g c none z from m told x lawful shows r shown = shown
+
+pub returns-in-Err-clause-stock_left : goal.returns-in-Err-clause-stock_left
+returns-in-Err-clause-stock_left g c none z from m told x lawful shows = not_halted (ap (λ (k : Core). k.stopped) c.halt.ensures.core) none
+
+pub returns-in-Err-end-clause-stock_left : goal.returns-in-Err-end-clause-stock_left
+returns-in-Err-end-clause-stock_left g c none z from m told x lawful shows = not_halted (ap (λ (k : Core). k.stopped) c.halt-in-Err-end.ensures.core) none

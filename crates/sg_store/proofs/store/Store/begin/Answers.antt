@@ -14,6 +14,8 @@ use Rattle.sg_space.specs.declared.space.SpaceFault.TheVariants as spaces
 use Rattle.sg_store.proofs.Accounting as accounting
 use Rattle.sg_store.specs.Accounting.{AccountsFor}
 use Rattle.sg_base.specs.declared.numbers.TxnId.{TxnId}
+use Rattle.sg_store.proofs.Still.{left_begun, not_halted}
+use Rattle.sg_model.specs.declared.stop.Stop.TheVariants as stops
 use Rattle.sg_store.proofs.store.Store.begin.Goals as goal
 
 pub returns-then-is_some-clause-begins : goal.returns-then-is_some-clause-begins
@@ -138,3 +140,23 @@ pub returns-in-Err-clause-heeds : goal.returns-in-Err-clause-heeds
 returns-in-Err-clause-heeds g c =
     heeding.heeds_fault c.args.self.now.stop spaces.Disk (g.E.Engine.view c.args.self.now.engine) (g.E.Engine.view c.begin.new.self) (causing.none_of _ (sym c.is_some.ensures ∙ c.if-is_some.false)) c.begin.ensures.counts.later c.begin.ensures.counts.tail (λ is. calls.risen_for _ _ _ c.in-Err.field-0 (omega (arith, c.tail.ensures, c.if-tail-gt-NEW_WORK_END.false)) c.in-Err.ensures.log_end c.in-Err.ensures.counts.failed)
     (subst (λ f. AccountsFor {T = TxnId} IsDiskFault (g.E.Engine.view c.args.self.now.engine) (g.E.Engine.view c.begin.new.self) (Err f)) (calls.disk_only _ c.in-Err.field-0 (omega (arith, c.tail.ensures, c.if-tail-gt-NEW_WORK_END.false)) c.in-Err.ensures.log_end) c.in-Err.ensures.counts.accounts)
+
+pub returns-then-is_some-clause-stock : goal.returns-then-is_some-clause-stock
+returns-then-is_some-clause-stock g c none t z from m told x lawful shows r shown = shown
+
+pub returns-then-count-ge-MOST_LIVE-clause-stock : goal.returns-then-count-ge-MOST_LIVE-clause-stock
+returns-then-count-ge-MOST_LIVE-clause-stock g c none t z from m told x lawful shows r shown = shown
+
+pub returns-then-tail-gt-NEW_WORK_END-clause-stock : goal.returns-then-tail-gt-NEW_WORK_END-clause-stock
+returns-then-tail-gt-NEW_WORK_END-clause-stock g c none t z from m told x lawful shows r shown = shown
+
+pub returns-in-Ok-clause-stock : goal.returns-in-Ok-clause-stock
+returns-in-Ok-clause-stock g c none t z from m told x lawful shows =
+    let old = led t z from (g.E.Engine.view c.args.self.now.engine) in
+    let new = led t z from (g.E.Engine.view c.begin.new.self) in
+    let runs = shows.runs (sym shows.stopped ∙ calls.no_stop t (g.E.Engine.basis z) c.args.self.now.stop (sym c.is_some.ensures ∙ c.if-is_some.false)) in
+    let b = c.in-Ok.ensures.begins t z from m told runs.is_kept.engine runs.is_kept.idle in
+    left_begun t (g.E.Engine.basis z) old new b.0 b.2.1
+
+pub returns-in-Err-clause-stock : goal.returns-in-Err-clause-stock
+returns-in-Err-clause-stock g c none t z from m told x lawful shows = not_halted {why = stops.Disk} refl none

@@ -25,6 +25,7 @@ use Rattle.sg_store.proofs.Accounting as accounting
 use Rattle.sg_room.specs.Lines.{committed}
 use Rattle.sg_store.specs.Room.{ShowsStock}
 use Rattle.sg_store.proofs.Stocked.{commit_stock}
+use Rattle.sg_store.proofs.Still.{not_halted}
 use Rattle.sg_store.proofs.store.Store.commit.Goals as goal
 
 pub returns-then-is_some-clause-commits : goal.returns-then-is_some-clause-commits
@@ -383,3 +384,18 @@ returns-in-Ok-end-clause-hands g c none =
     let a : (g.E.Engine.view c.free_dropped.new.self.engine).disk.handed ≡ (g.E.Engine.view c.commit.new.self).disk.handed = ap (λ d. (g.E.Engine.view d).disk.handed) same in
     let w : g.E.Engine.waiting c.free_dropped.new.self.engine ≡ 0 = ap g.E.Engine.waiting same ∙ c.in-Ok.ensures.none_waits in
     subst (λ e. (g.E.Engine.view e).disk.handed ≤ (g.E.Engine.view c.args.self.now.engine).disk.handed + g.E.Engine.waiting c.args.self.now.engine + 64) (sym c.forget.ensures.engine) (omega (arith, a, w, h, e))
+
+pub returns-then-is_some-clause-stock_left : goal.returns-then-is_some-clause-stock_left
+returns-then-is_some-clause-stock_left g c none z from m told x lawful shows r shown = shown
+
+pub returns-then-not-is_live-clause-stock_left : goal.returns-then-not-is_live-clause-stock_left
+returns-then-not-is_live-clause-stock_left g c none z from m told x lawful shows r shown = shown
+
+pub returns-in-Err-clause-stock_left : goal.returns-in-Err-clause-stock_left
+returns-in-Err-clause-stock_left g c none z from m told x lawful shows = not_halted (ap (λ (k : Core). k.stopped) c.halt.ensures.core) none
+
+pub returns-in-Err-free_dropped-clause-stock_left : goal.returns-in-Err-free_dropped-clause-stock_left
+returns-in-Err-free_dropped-clause-stock_left g c none z from m told x lawful shows = not_halted (ap (λ (k : Core). k.stopped) c.halt-in-Err-free_dropped.ensures.core) none
+
+pub returns-in-Err-end-clause-stock_left : goal.returns-in-Err-end-clause-stock_left
+returns-in-Err-end-clause-stock_left g c none z from m told x lawful shows = not_halted (ap (λ (k : Core). k.stopped) c.halt-in-Err-end.ensures.core) none

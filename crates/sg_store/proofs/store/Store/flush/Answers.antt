@@ -16,6 +16,7 @@ use Rattle.sg_store.proofs.Heeding.{stop_at_behind}
 use Rattle.sg_store.specs.declared.fault.Refused.{Refused}
 use Rattle.sg_store.specs.Stops.{stop_behind}
 use Rattle.sg_store.proofs.Accounting as accounting
+use Rattle.sg_store.proofs.Still.{left_rested, not_halted}
 use Rattle.sg_store.proofs.store.Store.flush.Goals as goal
 
 pub returns-then-is_some-clause-flushes : goal.returns-then-is_some-clause-flushes
@@ -115,3 +116,21 @@ returns-in-Ok-clause-stopped g c some = heeding.not_stopped c.args.self.now.stop
 
 pub returns-in-Err-clause-stopped : goal.returns-in-Err-clause-stopped
 returns-in-Err-clause-stopped g c some = heeding.not_stopped c.args.self.now.stop (sym c.is_some.ensures ∙ c.if-is_some.false) some
+
+pub returns-in-Ok-clause-written : goal.returns-in-Ok-clause-written
+returns-in-Ok-clause-written g c = c.in-Ok.ensures.written
+
+pub returns-in-Ok-clause-marked : goal.returns-in-Ok-clause-marked
+returns-in-Ok-clause-marked g c = c.in-Ok.ensures.marked
+
+pub returns-then-is_some-clause-stock : goal.returns-then-is_some-clause-stock
+returns-then-is_some-clause-stock g c none t z from m told x lawful shows r shown = shown
+
+pub returns-in-Ok-clause-stock : goal.returns-in-Ok-clause-stock
+returns-in-Ok-clause-stock g c none t z from m told x lawful shows =
+    let runs = shows.runs (sym shows.stopped ∙ no_stop t (g.E.Engine.basis z) c.args.self.now.stop (sym c.is_some.ensures ∙ c.if-is_some.false)) in
+    let b = c.in-Ok.ensures.rests t z from m told runs.is_kept.engine runs.is_kept.idle in
+    left_rested t (g.E.Engine.basis z) (led t z from (g.E.Engine.view c.args.self.now.engine)) (led t z from (g.E.Engine.view c.flush.new.self)) b.1.0
+
+pub returns-in-Err-clause-stock : goal.returns-in-Err-clause-stock
+returns-in-Err-clause-stock g c none t z from m told x lawful shows = not_halted (ap (λ (k : Core). k.stopped) c.halt.ensures.core) none

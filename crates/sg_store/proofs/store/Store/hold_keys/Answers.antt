@@ -3,7 +3,7 @@ use Rattle.sg_model.specs.Verb.Op.{On}
 use Rattle.sg_model.specs.Verb.Verb.{Keys}
 use Rattle.sg_model.specs.TouchList.{shown_touches}
 use Rattle.sg_store.specs.Seen.{core_of}
-use Rattle.sg_store.specs.Calls.{Stays, Holds}
+use Rattle.sg_store.specs.Calls.{SameRoom, Stays, Holds}
 use Rattle.sg_base.specs.Ends.{HasRisen}
 use Rattle.sg_store.proofs.Causing as causing
 use Rattle.sg_store.proofs.Holding as holding
@@ -12,7 +12,21 @@ use Rattle.sg_store.proofs.Serving as serving
 use Rattle.sg_store.proofs.Heeding as heeding
 use Rattle.sg_store.specs.Store.{Core}
 use Rattle.sg_store.proofs.Accounting as accounting
+use Rattle.sg_store.proofs.Still.{not_halted}
 use Rattle.sg_store.proofs.store.Store.hold_keys.Goals as goal
+
+pub returns-in-Ok-clause-same : goal.returns-in-Ok-clause-same
+returns-in-Ok-clause-same g c none t z from m told x lawful kept =
+    let b = g.E.Engine.basis z in
+    let old = led t z from (g.E.Engine.view c.args.self.now.engine) in
+    let txns = c.args.self.now.txns in
+    let o = holding.reading t b lawful old x txns kept in
+    let r = c.in-Ok.ensures.touches t z from m told o kept.engine (holding.reads_so t b lawful old x txns kept) in
+    subst (λ e. SameRoom t b old (led t z from (g.E.Engine.view e))) (sym c.grant.ensures.engine)
+    (holding.rested_same t b old (led t z from (g.E.Engine.view c.touches_keys.new.self)) r.1.0)
+
+pub returns-in-Err-clause-same : goal.returns-in-Err-clause-same
+returns-in-Err-clause-same g c none t z from m told x lawful kept = not_halted (ap (λ (k : Core). k.stopped) c.halt.ensures.core) none
 
 pub returns-in-Err-clause-stays : goal.returns-in-Err-clause-stays
 returns-in-Err-clause-stays g c t z from m told x lawful kept =

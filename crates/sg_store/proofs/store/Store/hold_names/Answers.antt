@@ -5,7 +5,7 @@ use Rattle.sg_model.specs.TouchList.{shown_touches}
 use Rattle.sg_model.specs.Verb.Op.{Names}
 use Rattle.sg_model.specs.Touches.Resource.{Names as AllNames}
 use Rattle.sg_store.specs.Seen.{core_of}
-use Rattle.sg_store.specs.Calls.{Holds, Stays}
+use Rattle.sg_store.specs.Calls.{Holds, SameRoom, Stays}
 use Rattle.sg_store.proofs.Holding as holding
 use Rattle.sg_store.specs.Engine.{led}
 use Rattle.sg_store.proofs.store.Store.hold_names.Goals as goal
@@ -35,3 +35,10 @@ returns-clause-stays g c t z from m told x lawful kept =
     let old = led t z from (g.E.Engine.view c.args.self.now.engine) in
     let txns = c.args.self.now.txns in
     subst (λ e. Stays t b old (led t z from (g.E.Engine.view e)) x) (sym c.grant.ensures.engine) (holding.rests_stays t b lawful old x txns kept old (holding.rests_still t b lawful old x txns kept))
+
+pub returns-clause-same : goal.returns-clause-same
+returns-clause-same g c none t z from m told x lawful kept =
+    let b = g.E.Engine.basis z in
+    let old = led t z from (g.E.Engine.view c.args.self.now.engine) in
+    let txns = c.args.self.now.txns in
+    subst (λ e. SameRoom t b old (led t z from (g.E.Engine.view e))) (sym c.grant.ensures.engine) (holding.rested_same t b old old (holding.rested_still t b lawful old x txns kept))

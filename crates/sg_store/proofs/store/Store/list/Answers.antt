@@ -13,6 +13,7 @@ use Rattle.sg_store.proofs.Causing as causing
 use Rattle.sg_store.proofs.Heeding as heeding
 use Rattle.sg_store.specs.Store.{Core}
 use Rattle.sg_store.proofs.Accounting as accounting
+use Rattle.sg_store.proofs.Still.{left_same, left_rested, not_halted}
 use Rattle.sg_store.proofs.store.Store.list.Goals as goal
 
 pub returns-then-is_some-clause-lists : goal.returns-then-is_some-clause-lists
@@ -229,3 +230,59 @@ returns-in-Err-Space-clause-heeds g c =
     (heeding.heeds_halt (g.E.Engine.view) c.hold_names.new.self.stop c.halt.new.self.stop c.in-Err-Space.fault (g.E.Engine.view c.hold_names.new.self.engine) c.list.new.self c.halt.new.self.engine c.halt.ensures.engine (ap (λ (k : Core). k.stopped) c.halt.ensures.core) (ap (λ (k : Core). k.stopped) c.in-Ok.ensures.causes ∙ (causing.none_of _ (sym c.is_some.ensures ∙ c.if-is_some.false)))
     c.list.ensures.counts.later c.list.ensures.counts.tail failed
     (accounting.accounts_failed {B = Unit {0}} (g.E.Engine.view c.hold_names.new.self.engine) (g.E.Engine.view c.hold_names.new.self.engine) (g.E.Engine.view c.list.new.self) _ c.in-Err-Space.fault (λ is. is) (λ is. is) (accounting.unfailed_none (g.E.Engine.view c.hold_names.new.self.engine)) (λ h. h) acc))
+
+pub returns-then-is_some-clause-stock : goal.returns-then-is_some-clause-stock
+returns-then-is_some-clause-stock g c none t z from m told x lawful shows r shown = shown
+
+pub returns-then-not-is_live-clause-stock : goal.returns-then-not-is_live-clause-stock
+returns-then-not-is_live-clause-stock g c none t z from m told x lawful shows r shown = shown
+
+pub returns-in-Err-clause-stock : goal.returns-in-Err-clause-stock
+returns-in-Err-clause-stock g c none t z from m told x lawful shows =
+    let b = g.E.Engine.basis z in
+    let old = led t z from (g.E.Engine.view c.args.self.now.engine) in
+    let k = core_of c.args.self.now in
+    let u = c.args.txn.0 in
+    let stop = sym c.is_some.ensures ∙ c.if-is_some.false in
+    let is = sym c.is_live.ensures ∙ c.if-not-is_live.false in
+    let runs = doing.runs t b lawful old k x u Names shows [] stop in
+    left_same t b old (led t z from (g.E.Engine.view c.hold_names.new.self.engine)) (c.hold_names.ensures.same none t z from m told x lawful runs.is_kept)
+
+pub returns-in-Ok-list-clause-stock : goal.returns-in-Ok-list-clause-stock
+returns-in-Ok-list-clause-stock g c none t z from m told x lawful shows r shown =
+    let b = g.E.Engine.basis z in
+    let old = led t z from (g.E.Engine.view c.args.self.now.engine) in
+    let k = core_of c.args.self.now in
+    let u = c.args.txn.0 in
+    let stop = sym c.is_some.ensures ∙ c.if-is_some.false in
+    let is = sym c.is_live.ensures ∙ c.if-not-is_live.false in
+    let runs = doing.runs t b lawful old k x u Names shows [] stop in
+    let live = doing.live t b lawful old k x u Names shows [] stop is in
+    let stays = c.hold_names.ensures.stays t z from m told x lawful runs.is_kept in
+    let held = c.in-Ok.ensures.holds t z from m told x lawful runs.is_kept runs.held live in
+    let mid = led t z from (g.E.Engine.view c.hold_names.new.self.engine) in
+    let new = led t z from (g.E.Engine.view c.list.new.self) in
+    let o = listing.listed t b lawful old k x u Names shows stop is mid (core_of c.hold_names.new.self) stays c.hold_names.ensures.later held in
+    let h = c.in-Ok-list.ensures.lists t z from (c.hold_names.ensures.means t z from m) (c.in-Ok.ensures.tells told) o held.0.engine (listing.reads_listed t b lawful old k x u Names shows stop is mid (core_of c.hold_names.new.self) stays c.hold_names.ensures.later held) in
+    left_rested t b mid new h.1.rested r (left_same t b old mid (c.hold_names.ensures.same none t z from m told x lawful runs.is_kept) r shown)
+
+pub returns-in-Err-Memory-clause-stock : goal.returns-in-Err-Memory-clause-stock
+returns-in-Err-Memory-clause-stock g c none t z from m told x lawful shows r shown =
+    let b = g.E.Engine.basis z in
+    let old = led t z from (g.E.Engine.view c.args.self.now.engine) in
+    let k = core_of c.args.self.now in
+    let u = c.args.txn.0 in
+    let stop = sym c.is_some.ensures ∙ c.if-is_some.false in
+    let is = sym c.is_live.ensures ∙ c.if-not-is_live.false in
+    let runs = doing.runs t b lawful old k x u Names shows [] stop in
+    let live = doing.live t b lawful old k x u Names shows [] stop is in
+    let stays = c.hold_names.ensures.stays t z from m told x lawful runs.is_kept in
+    let held = c.in-Ok.ensures.holds t z from m told x lawful runs.is_kept runs.held live in
+    let mid = led t z from (g.E.Engine.view c.hold_names.new.self.engine) in
+    let new = led t z from (g.E.Engine.view c.list.new.self) in
+    let o = listing.listed t b lawful old k x u Names shows stop is mid (core_of c.hold_names.new.self) stays c.hold_names.ensures.later held in
+    let h = c.in-Err-Memory.ensures.lists t z from (c.hold_names.ensures.means t z from m) (c.in-Ok.ensures.tells told) o held.0.engine (listing.reads_listed t b lawful old k x u Names shows stop is mid (core_of c.hold_names.new.self) stays c.hold_names.ensures.later held) in
+    left_rested t b mid new (subst (IsUnlisted t b mid new o Names) c.in-Err-Memory.field-0-is h.1).rested r (left_same t b old mid (c.hold_names.ensures.same none t z from m told x lawful runs.is_kept) r shown)
+
+pub returns-in-Err-Space-clause-stock : goal.returns-in-Err-Space-clause-stock
+returns-in-Err-Space-clause-stock g c none t z from m told x lawful shows = not_halted (ap (λ (k : Core). k.stopped) c.halt.ensures.core) none

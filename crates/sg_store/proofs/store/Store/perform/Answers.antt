@@ -6,6 +6,7 @@ use Rattle.sg_model.specs.SaidOps.{said_op}
 use Rattle.sg_store.specs.Seen.{core_of}
 use Rattle.sg_store.proofs.Doing as doing
 use Rattle.sg_store.proofs.Stocked.{acted_stock}
+use Rattle.sg_store.proofs.Still.{left_same, on_refusal, unacted}
 use Rattle.sg_store.proofs.Numbering.{unheld_numbers, unroomed_numbers, acted_numbers, had_room}
 use Rattle.sg_ops.specs.Table.{table_of}
 use Rattle.sg_store.specs.Engine.{led}
@@ -13,6 +14,7 @@ use Rattle.sg_store.proofs.store.Store.perform.Given as given
 use Rattle.sg_store.proofs.Serving.{serves_on}
 use Rattle.sg_store.proofs.Serving as serving
 use Rattle.sg_store.specs.Asks.{ShowsSome, IsRunning}
+use Rattle.sg_store.specs.Calls.{Acts}
 use Rattle.sg_store.specs.Store.{Core}
 use Rattle.sg_store.proofs.Resting as resting
 use Rattle.sg_store.proofs.Causing as causing
@@ -75,7 +77,7 @@ returns-in-Err-room_for-clause-numbers g c z from m told x lawful shows =
     let held = (doing.runs _ (g.E.Engine.basis z) lawful (led t z from (g.E.Engine.view c.args.self.now.engine)) (core_of c.args.self.now) x c.args.txn.0 (said_op c.args.op.now) shows c.args.into.now (sym c.is_some.ensures ∙ c.if-is_some.false)).held in
     let live = doing.live _ (g.E.Engine.basis z) lawful (led t z from (g.E.Engine.view c.args.self.now.engine)) (core_of c.args.self.now) x c.args.txn.0 (said_op c.args.op.now) shows c.args.into.now (sym c.is_some.ensures ∙ c.if-is_some.false) (sym c.is_live.ensures ∙ c.if-not-is_live.false) in
     let kept1 = doing.kept_along _ (g.E.Engine.basis z) lawful (led t z from (g.E.Engine.view c.args.self.now.engine)) (core_of c.args.self.now) x c.args.txn.0 (said_op c.args.op.now) shows c.args.into.now (led t z from (g.E.Engine.view c.hold.new.self.engine)) c.args.self.now.txns c.hold.new.self.txns c.hold.ensures.live (c.in-Ok.ensures.holds t z from m told x lawful kept held live).0 in
-    unroomed_numbers _ (g.E.Engine.basis z) lawful (led t z from (g.E.Engine.view c.args.self.now.engine)) c.args.self.now.txns (led t z from (g.E.Engine.view c.hold.new.self.engine)) (led t z from (g.E.Engine.view c.room_for.new.self.engine)) (core_of c.hold.new.self) (core_of c.room_for.new.self) x (said_op c.args.op.now) c.hold.ensures.live (c.in-Ok.ensures.same t z from m told x lawful kept) c.in-Err-room_for.why (c.in-Err-room_for.ensures.rooms z from (c.hold.ensures.means t z from m) (c.in-Ok.ensures.tells told) x lawful kept1)
+    unroomed_numbers _ (g.E.Engine.basis z) lawful (led t z from (g.E.Engine.view c.args.self.now.engine)) c.args.self.now.txns (led t z from (g.E.Engine.view c.hold.new.self.engine)) (led t z from (g.E.Engine.view c.room_for.new.self.engine)) (core_of c.hold.new.self) (core_of c.room_for.new.self) x (said_op c.args.op.now) c.hold.ensures.live (c.hold.ensures.same (ap (λ (k : Core). k.stopped) c.in-Ok.ensures.causes ∙ (causing.none_of _ (sym c.is_some.ensures ∙ c.if-is_some.false))) t z from m told x lawful kept) c.in-Err-room_for.why (c.in-Err-room_for.ensures.rooms z from (c.hold.ensures.means t z from m) (c.in-Ok.ensures.tells told) x lawful kept1)
 
 pub returns-clause-numbers : goal.returns-clause-numbers
 returns-clause-numbers g c z from m told x lawful shows =
@@ -86,7 +88,7 @@ returns-clause-numbers g c z from m told x lawful shows =
     let kept1 = doing.kept_along _ (g.E.Engine.basis z) lawful (led t z from (g.E.Engine.view c.args.self.now.engine)) (core_of c.args.self.now) x c.args.txn.0 (said_op c.args.op.now) shows c.args.into.now (led t z from (g.E.Engine.view c.hold.new.self.engine)) c.args.self.now.txns c.hold.new.self.txns c.hold.ensures.live (c.in-Ok.ensures.holds t z from m told x lawful kept held live).0 in
     let room = c.in-Ok-room_for.ensures.rooms z from (c.hold.ensures.means t z from m) (c.in-Ok.ensures.tells told) x lawful kept1 in
     let free = doing.room_along _ (g.E.Engine.basis z) lawful (led t z from (g.E.Engine.view c.args.self.now.engine)) (core_of c.args.self.now) x c.args.txn.0 (said_op c.args.op.now) shows c.args.into.now (led t z from (g.E.Engine.view c.room_for.new.self.engine)) c.in-Ok-room_for.needs c.hold.new.self.txns c.room_for.new.self.txns c.room_for.ensures.live room.0 in
-    let had = had_room _ (g.E.Engine.basis z) lawful (led t z from (g.E.Engine.view c.args.self.now.engine)) (led t z from (g.E.Engine.view c.hold.new.self.engine)) (led t z from (g.E.Engine.view c.room_for.new.self.engine)) c.args.self.now.txns c.hold.new.self.txns x (said_op c.args.op.now) c.in-Ok-room_for.needs c.hold.ensures.live (c.in-Ok.ensures.same t z from m told x lawful kept) (c.in-Ok-room_for.ensures.same z from (c.hold.ensures.means t z from m) (c.in-Ok.ensures.tells told) x lawful kept1) room.0 in
+    let had = had_room _ (g.E.Engine.basis z) lawful (led t z from (g.E.Engine.view c.args.self.now.engine)) (led t z from (g.E.Engine.view c.hold.new.self.engine)) (led t z from (g.E.Engine.view c.room_for.new.self.engine)) c.args.self.now.txns c.hold.new.self.txns x (said_op c.args.op.now) c.in-Ok-room_for.needs c.hold.ensures.live (c.hold.ensures.same (ap (λ (k : Core). k.stopped) c.in-Ok.ensures.causes ∙ (causing.none_of _ (sym c.is_some.ensures ∙ c.if-is_some.false))) t z from m told x lawful kept) (c.room_for.ensures.same (ap (λ (k : Core). k.stopped) c.in-Ok-room_for.ensures.causes ∙ (ap (λ (k : Core). k.stopped) c.in-Ok.ensures.causes ∙ (causing.none_of _ (sym c.is_some.ensures ∙ c.if-is_some.false)))) z from (c.hold.ensures.means t z from m) (c.in-Ok.ensures.tells told) x lawful kept1) room.0 in
     acted_numbers _ (g.E.Engine.basis z) lawful (led t z from (g.E.Engine.view c.args.self.now.engine)) c.args.self.now.txns (led t z from (g.E.Engine.view c.room_for.new.self.engine)) (led t z from (g.E.Engine.view c.act.new.self.engine)) (core_of c.room_for.new.self) (core_of c.act.new.self) x c.args.txn.0 (said_op c.args.op.now) c.act.new.into had c.act.result (c.act.ensures.acts z from (c.room_for.ensures.means z from (c.hold.ensures.means t z from m)) (c.in-Ok-room_for.ensures.tells (c.in-Ok.ensures.tells told)) x lawful free (c.in-Ok.ensures.holds t z from m told x lawful kept held live).1)
 
 pub returns-clause-stock : goal.returns-clause-stock
@@ -100,8 +102,8 @@ returns-clause-stock g c z from m told x lawful shows =
     let free = doing.room_along _ (g.E.Engine.basis z) lawful (led t z from (g.E.Engine.view c.args.self.now.engine)) (core_of c.args.self.now) x c.args.txn.0 (said_op c.args.op.now) shows c.args.into.now (led t z from (g.E.Engine.view c.room_for.new.self.engine)) c.in-Ok-room_for.needs c.hold.new.self.txns c.room_for.new.self.txns c.room_for.ensures.live room.0 in
     acted_stock _ (g.E.Engine.basis z) (led t z from (g.E.Engine.view c.args.self.now.engine)) (led t z from (g.E.Engine.view c.hold.new.self.engine)) (led t z from (g.E.Engine.view c.room_for.new.self.engine)) (led t z from (g.E.Engine.view c.act.new.self.engine))
     (core_of c.room_for.new.self) (core_of c.act.new.self) x c.args.txn.0 (said_op c.args.op.now) c.act.new.into
-    (c.in-Ok.ensures.same t z from m told x lawful kept)
-    (c.in-Ok-room_for.ensures.same z from (c.hold.ensures.means t z from m) (c.in-Ok.ensures.tells told) x lawful kept1) c.act.result
+    (c.hold.ensures.same (ap (λ (k : Core). k.stopped) c.in-Ok.ensures.causes ∙ (causing.none_of _ (sym c.is_some.ensures ∙ c.if-is_some.false))) t z from m told x lawful kept)
+    (c.room_for.ensures.same (ap (λ (k : Core). k.stopped) c.in-Ok-room_for.ensures.causes ∙ (ap (λ (k : Core). k.stopped) c.in-Ok.ensures.causes ∙ (causing.none_of _ (sym c.is_some.ensures ∙ c.if-is_some.false)))) z from (c.hold.ensures.means t z from m) (c.in-Ok.ensures.tells told) x lawful kept1) c.act.result
     (c.act.ensures.acts z from (c.room_for.ensures.means z from (c.hold.ensures.means t z from m)) (c.in-Ok-room_for.ensures.tells (c.in-Ok.ensures.tells told))
     x lawful free (c.in-Ok.ensures.holds t z from m told x lawful kept held live).1)
 
@@ -277,3 +279,36 @@ returns-in-Err-room_for-clause-marks g c = marks_same (said_op c.args.op.now) c.
 
 pub returns-clause-marks : goal.returns-clause-marks
 returns-clause-marks g c = subst (λ (ks : List Txn). MarksOnly c.args.txn.0 (said_op c.args.op.now) ks c.act.new.self.txns) (c.room_for.ensures.live ∙ c.hold.ensures.live) c.act.ensures.marks
+
+pub returns-then-is_some-clause-stock_left : goal.returns-then-is_some-clause-stock_left
+returns-then-is_some-clause-stock_left g c none z from m told x lawful shows r shown = shown
+
+pub returns-then-not-is_live-clause-stock_left : goal.returns-then-not-is_live-clause-stock_left
+returns-then-not-is_live-clause-stock_left g c none z from m told x lawful shows r shown = shown
+
+pub returns-in-Err-clause-stock_left : goal.returns-in-Err-clause-stock_left
+returns-in-Err-clause-stock_left g c none z from m told x lawful shows =
+    let t = table_of (λ y. (given.RecordOp-dyn g y).record_meaning y.1) (λ y. (given.RangeOp-dyn g y).range_meaning y.1) c.args.ops.now in
+    let runs = doing.runs _ (g.E.Engine.basis z) lawful (led t z from (g.E.Engine.view c.args.self.now.engine)) (core_of c.args.self.now) x c.args.txn.0 (said_op c.args.op.now) shows c.args.into.now (sym c.is_some.ensures ∙ c.if-is_some.false) in
+    left_same _ (g.E.Engine.basis z) (led t z from (g.E.Engine.view c.args.self.now.engine)) (led t z from (g.E.Engine.view c.hold.new.self.engine)) (c.hold.ensures.same none t z from m told x lawful runs.is_kept)
+
+pub returns-in-Err-room_for-clause-stock_left : goal.returns-in-Err-room_for-clause-stock_left
+returns-in-Err-room_for-clause-stock_left g c none z from m told x lawful shows r shown =
+    let t = table_of (λ y. (given.RecordOp-dyn g y).record_meaning y.1) (λ y. (given.RangeOp-dyn g y).range_meaning y.1) c.args.ops.now in
+    let runs = doing.runs _ (g.E.Engine.basis z) lawful (led t z from (g.E.Engine.view c.args.self.now.engine)) (core_of c.args.self.now) x c.args.txn.0 (said_op c.args.op.now) shows c.args.into.now (sym c.is_some.ensures ∙ c.if-is_some.false) in
+    let live = doing.live _ (g.E.Engine.basis z) lawful (led t z from (g.E.Engine.view c.args.self.now.engine)) (core_of c.args.self.now) x c.args.txn.0 (said_op c.args.op.now) shows c.args.into.now (sym c.is_some.ensures ∙ c.if-is_some.false) (sym c.is_live.ensures ∙ c.if-not-is_live.false) in
+    let kept1 = doing.kept_along _ (g.E.Engine.basis z) lawful (led t z from (g.E.Engine.view c.args.self.now.engine)) (core_of c.args.self.now) x c.args.txn.0 (said_op c.args.op.now) shows c.args.into.now (led t z from (g.E.Engine.view c.hold.new.self.engine)) c.args.self.now.txns c.hold.new.self.txns c.hold.ensures.live (c.in-Ok.ensures.holds t z from m told x lawful runs.is_kept runs.held live).0 in
+    left_same _ (g.E.Engine.basis z) (led t z from (g.E.Engine.view c.hold.new.self.engine)) (led t z from (g.E.Engine.view c.room_for.new.self.engine)) (c.room_for.ensures.same none z from (c.hold.ensures.means t z from m) (c.in-Ok.ensures.tells told) x lawful kept1) r
+    (left_same _ (g.E.Engine.basis z) (led t z from (g.E.Engine.view c.args.self.now.engine)) (led t z from (g.E.Engine.view c.hold.new.self.engine)) (c.hold.ensures.same (ap (λ (k : Core). k.stopped) c.in-Ok.ensures.causes ∙ (causing.none_of _ (sym c.is_some.ensures ∙ c.if-is_some.false))) t z from m told x lawful runs.is_kept) r shown)
+
+pub returns-clause-stock_left : goal.returns-clause-stock_left
+returns-clause-stock_left g c none = on_refusal c.act.result (λ why is z from m told x lawful shows.
+    let t = table_of (λ y. (given.RecordOp-dyn g y).record_meaning y.1) (λ y. (given.RangeOp-dyn g y).range_meaning y.1) c.args.ops.now in
+    let runs = doing.runs _ (g.E.Engine.basis z) lawful (led t z from (g.E.Engine.view c.args.self.now.engine)) (core_of c.args.self.now) x c.args.txn.0 (said_op c.args.op.now) shows c.args.into.now (sym c.is_some.ensures ∙ c.if-is_some.false) in
+    let live = doing.live _ (g.E.Engine.basis z) lawful (led t z from (g.E.Engine.view c.args.self.now.engine)) (core_of c.args.self.now) x c.args.txn.0 (said_op c.args.op.now) shows c.args.into.now (sym c.is_some.ensures ∙ c.if-is_some.false) (sym c.is_live.ensures ∙ c.if-not-is_live.false) in
+    let kept1 = doing.kept_along _ (g.E.Engine.basis z) lawful (led t z from (g.E.Engine.view c.args.self.now.engine)) (core_of c.args.self.now) x c.args.txn.0 (said_op c.args.op.now) shows c.args.into.now (led t z from (g.E.Engine.view c.hold.new.self.engine)) c.args.self.now.txns c.hold.new.self.txns c.hold.ensures.live (c.in-Ok.ensures.holds t z from m told x lawful runs.is_kept runs.held live).0 in
+    let room = c.in-Ok-room_for.ensures.rooms z from (c.hold.ensures.means t z from m) (c.in-Ok.ensures.tells told) x lawful kept1 in
+    let free = doing.room_along _ (g.E.Engine.basis z) lawful (led t z from (g.E.Engine.view c.args.self.now.engine)) (core_of c.args.self.now) x c.args.txn.0 (said_op c.args.op.now) shows c.args.into.now (led t z from (g.E.Engine.view c.room_for.new.self.engine)) c.in-Ok-room_for.needs c.hold.new.self.txns c.room_for.new.self.txns c.room_for.ensures.live room.0 in
+    unacted t (g.E.Engine.basis z) (led t z from (g.E.Engine.view c.room_for.new.self.engine)) (led t z from (g.E.Engine.view c.act.new.self.engine)) (core_of c.room_for.new.self) (core_of c.act.new.self) x c.args.txn.0 (said_op c.args.op.now) c.act.new.into why
+    (subst (λ r. Acts t (g.E.Engine.basis z) (led t z from (g.E.Engine.view c.room_for.new.self.engine)) (led t z from (g.E.Engine.view c.act.new.self.engine)) (core_of c.room_for.new.self) (core_of c.act.new.self) x c.args.txn.0 (said_op c.args.op.now) c.act.new.into r) is
+    (c.act.ensures.acts z from (c.room_for.ensures.means z from (c.hold.ensures.means t z from m)) (c.in-Ok-room_for.ensures.tells (c.in-Ok.ensures.tells told)) x lawful free (c.in-Ok.ensures.holds t z from m told x lawful runs.is_kept runs.held live).1)) none)

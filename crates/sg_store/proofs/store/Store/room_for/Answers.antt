@@ -12,6 +12,7 @@ use Rattle.sg_store.proofs.Serving as serving
 use Rattle.sg_store.proofs.Heeding as heeding
 use Rattle.sg_store.specs.Store.{Core}
 use Rattle.sg_store.proofs.Accounting as accounting
+use Rattle.sg_store.proofs.Still.{not_halted, same_refused}
 use Rattle.sg_store.proofs.store.Store.room_for.Goals as goal
 
 pub returns-in-Err-Model-clause-stays : goal.returns-in-Err-Model-clause-stays
@@ -104,12 +105,43 @@ pub returns-clause-tested : goal.returns-clause-tested
 returns-clause-tested g c =
     rooming.not_over (said_op c.args.op.now) (g.E.Engine.view c.needs.new.self).tail (ap (λ n. is_changing (said_op c.args.op.now) && nat_lt (2 ^ 62) n) (sym c.tail.ensures) ∙ (sym c.is_over.ensures ∙ c.if-is_over.false))
 
-pub returns-clause-same : goal.returns-clause-same
-returns-clause-same g c z from m told x lawful kept =
+pub returns-then-lacks-clause-same : goal.returns-then-lacks-clause-same
+returns-then-lacks-clause-same g c none z from m told x lawful kept =
     let t = table_of (λ y. (given.RecordOp-dyn g y).record_meaning y.1) (λ y. (given.RangeOp-dyn g y).range_meaning y.1) c.args.ops.now in
     let o = holding.reading _ (g.E.Engine.basis z) lawful (led t z from (g.E.Engine.view c.args.self.now.engine)) x c.args.self.now.txns kept in
     let b = c.in-Ok.ensures.needs z from m told o kept.engine (holding.reads_so _ (g.E.Engine.basis z) lawful (led t z from (g.E.Engine.view c.args.self.now.engine)) x c.args.self.now.txns kept) in
     holding.rested_same _ (g.E.Engine.basis z) (led t z from (g.E.Engine.view c.args.self.now.engine)) (led t z from (g.E.Engine.view c.needs.new.self)) b.1.0
+
+pub returns-then-bands-needs-clause-same : goal.returns-then-bands-needs-clause-same
+returns-then-bands-needs-clause-same g c none z from m told x lawful kept =
+    let t = table_of (λ y. (given.RecordOp-dyn g y).record_meaning y.1) (λ y. (given.RangeOp-dyn g y).range_meaning y.1) c.args.ops.now in
+    let o = holding.reading _ (g.E.Engine.basis z) lawful (led t z from (g.E.Engine.view c.args.self.now.engine)) x c.args.self.now.txns kept in
+    let b = c.in-Ok.ensures.needs z from m told o kept.engine (holding.reads_so _ (g.E.Engine.basis z) lawful (led t z from (g.E.Engine.view c.args.self.now.engine)) x c.args.self.now.txns kept) in
+    holding.rested_same _ (g.E.Engine.basis z) (led t z from (g.E.Engine.view c.args.self.now.engine)) (led t z from (g.E.Engine.view c.needs.new.self)) b.1.0
+
+pub returns-then-is_over-clause-same : goal.returns-then-is_over-clause-same
+returns-then-is_over-clause-same g c none z from m told x lawful kept =
+    let t = table_of (λ y. (given.RecordOp-dyn g y).record_meaning y.1) (λ y. (given.RangeOp-dyn g y).range_meaning y.1) c.args.ops.now in
+    let o = holding.reading _ (g.E.Engine.basis z) lawful (led t z from (g.E.Engine.view c.args.self.now.engine)) x c.args.self.now.txns kept in
+    let b = c.in-Ok.ensures.needs z from m told o kept.engine (holding.reads_so _ (g.E.Engine.basis z) lawful (led t z from (g.E.Engine.view c.args.self.now.engine)) x c.args.self.now.txns kept) in
+    holding.rested_same _ (g.E.Engine.basis z) (led t z from (g.E.Engine.view c.args.self.now.engine)) (led t z from (g.E.Engine.view c.needs.new.self)) b.1.0
+
+pub returns-clause-same : goal.returns-clause-same
+returns-clause-same g c none z from m told x lawful kept =
+    let t = table_of (λ y. (given.RecordOp-dyn g y).record_meaning y.1) (λ y. (given.RangeOp-dyn g y).range_meaning y.1) c.args.ops.now in
+    let o = holding.reading _ (g.E.Engine.basis z) lawful (led t z from (g.E.Engine.view c.args.self.now.engine)) x c.args.self.now.txns kept in
+    let b = c.in-Ok.ensures.needs z from m told o kept.engine (holding.reads_so _ (g.E.Engine.basis z) lawful (led t z from (g.E.Engine.view c.args.self.now.engine)) x c.args.self.now.txns kept) in
+    holding.rested_same _ (g.E.Engine.basis z) (led t z from (g.E.Engine.view c.args.self.now.engine)) (led t z from (g.E.Engine.view c.needs.new.self)) b.1.0
+
+pub returns-in-Err-Model-clause-same : goal.returns-in-Err-Model-clause-same
+returns-in-Err-Model-clause-same g c none z from m told x lawful kept =
+    let t = table_of (λ y. (given.RecordOp-dyn g y).record_meaning y.1) (λ y. (given.RangeOp-dyn g y).range_meaning y.1) c.args.ops.now in
+    let o = holding.reading _ (g.E.Engine.basis z) lawful (led t z from (g.E.Engine.view c.args.self.now.engine)) x c.args.self.now.txns kept in
+    let b = c.in-Err-Model.ensures.needs z from m told o kept.engine (holding.reads_so _ (g.E.Engine.basis z) lawful (led t z from (g.E.Engine.view c.args.self.now.engine)) x c.args.self.now.txns kept) in
+    same_refused _ (g.E.Engine.basis z) (led t z from (g.E.Engine.view c.args.self.now.engine)) (led t z from (g.E.Engine.view c.needs.new.self)) o (said_op c.args.op.now) c.in-Err-Model.reason c.in-Err-Model.field-0 c.in-Err-Model.field-0-is b.1
+
+pub returns-in-Err-Space-clause-same : goal.returns-in-Err-Space-clause-same
+returns-in-Err-Space-clause-same g c none z from m told x lawful kept = not_halted (ap (λ (k : Core). k.stopped) c.halt.ensures.core) none
 
 pub needs-requires : goal.needs-requires
 needs-requires g c =

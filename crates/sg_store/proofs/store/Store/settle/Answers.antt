@@ -1,3 +1,4 @@
+use Rattle.std.proofs.lemmas.Result.{on_ok_weaker}
 use Rattle.std.proofs.Common.{ap, ◌∙◌, Option}
 use Rattle.sg_model.specs.declared.stop.Stop.{Stop}
 use Rattle.sg_run.specs.Run.{Run}
@@ -49,3 +50,21 @@ pub returns-in-Ok-clause-heeds : goal.returns-in-Ok-clause-heeds
 returns-in-Ok-clause-heeds g c =
     heeding.heeds_then c.args.self.now.stop c.checkpoint.new.self.stop c.flush.new.self.stop (g.E.Engine.view c.args.self.now.engine) (g.E.Engine.view c.checkpoint.new.self.engine) (g.E.Engine.view c.flush.new.self.engine)
     c.checkpoint.ensures.heeds c.flush.ensures.heeds
+
+pub returns-in-Ok-clause-written : goal.returns-in-Ok-clause-written
+returns-in-Ok-clause-written g c = c.flush.ensures.written
+
+pub returns-in-Ok-clause-ends : goal.returns-in-Ok-clause-ends
+returns-in-Ok-clause-ends g c =
+    let on = c.in-Ok.ensures.stop ∙ c.in-Ok.ensures.causes.0 in
+    on_ok_weaker c.flush.result (λ stays told. (let m = c.in-Ok.ensures.ends told in let e = m.ends in record {
+      ends = record { lsn = e.lsn; estimate = e.estimate; appended = e.appended; still = stays (c.checkpoint.ensures.heeds.tells on told) e.lsn e.estimate e.still.last };
+      estimates = m.estimates;
+    })) c.flush.ensures.marked
+
+pub returns-in-Ok-clause-stock : goal.returns-in-Ok-clause-stock
+returns-in-Ok-clause-stock g c none t z from m told x lawful shows r shown =
+    let on = (c.flush.ensures.heeds.quiet none).0 in
+    let h = c.in-Ok.ensures.marks t z from m told x lawful shows in
+    c.flush.ensures.stock none t z from (c.checkpoint.ensures.means t z from m) (c.checkpoint.ensures.heeds.tells on told) h.after lawful h.shows r
+    (c.checkpoint.ensures.stock on t z from m told x lawful shows r shown)

@@ -15,6 +15,7 @@ use Rattle.sg_store.proofs.Causing as causing
 use Rattle.sg_base.specs.Ends.{HasRisen}
 use Rattle.sg_store.proofs.Heeding as heeding
 use Rattle.sg_store.proofs.Accounting as accounting
+use Rattle.sg_store.proofs.Still.{left_rested, not_halted}
 use Rattle.sg_store.proofs.store.Store.truncate.Goals as goal
 
 pub returns-then-is_some-clause-truncates : goal.returns-then-is_some-clause-truncates
@@ -107,3 +108,15 @@ pub returns-in-Err-clause-heeds : goal.returns-in-Err-clause-heeds
 returns-in-Err-clause-heeds g c =
     heeding.heeds_halt (g.E.Engine.view) c.args.self.now.stop c.halt.new.self.stop c.in-Err.fault (g.E.Engine.view c.args.self.now.engine) c.truncate.new.self c.halt.new.self.engine c.halt.ensures.engine (ap (λ (k : Core). k.stopped) c.halt.ensures.core) (causing.none_of _ (sym c.is_some.ensures ∙ c.if-is_some.false))
     c.truncate.ensures.counts.later c.truncate.ensures.counts.tail c.in-Err.ensures.counts.failed c.in-Err.ensures.counts.accounts
+
+pub returns-then-is_some-clause-stock : goal.returns-then-is_some-clause-stock
+returns-then-is_some-clause-stock g c none t z from m told x lawful shows r shown = shown
+
+pub returns-in-Ok-clause-stock : goal.returns-in-Ok-clause-stock
+returns-in-Ok-clause-stock g c none t z from m told x lawful shows =
+    let runs = shows.runs (sym shows.stopped ∙ no_stop t (g.E.Engine.basis z) c.args.self.now.stop (sym c.is_some.ensures ∙ c.if-is_some.false)) in
+    let b = c.in-Ok.ensures.rests t z from m told runs.is_kept.engine runs.is_kept.idle (subst (λ (o : Option TxnId). IsOldest o (tally (led t z from (g.E.Engine.view c.args.self.now.engine)).log).live) (sym c.oldest-first.ensures) (maintaining.oldest_is t (g.E.Engine.basis z) (led t z from (g.E.Engine.view c.args.self.now.engine)) (core_of c.args.self.now) x runs)) in
+    left_rested t (g.E.Engine.basis z) (led t z from (g.E.Engine.view c.args.self.now.engine)) (led t z from (g.E.Engine.view c.truncate.new.self)) b.1.0
+
+pub returns-in-Err-clause-stock : goal.returns-in-Err-clause-stock
+returns-in-Err-clause-stock g c none t z from m told x lawful shows = not_halted (ap (λ (k : Core). k.stopped) c.halt.ensures.core) none

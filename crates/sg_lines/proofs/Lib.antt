@@ -1,0 +1,5 @@
+pub mod Growing
+pub mod Written
+pub mod Summing
+pub mod Parting
+pub mod Writing

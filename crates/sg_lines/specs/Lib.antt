@@ -1,0 +1,5 @@
+pub mod Text
+pub mod Summed
+pub mod Parts
+pub mod Heard
+pub mod Claims

@@ -1,0 +1,25 @@
+-- What a line that asks for a flush or a checkpoint leaves of the log and the disk.
+use Rattle.std.specs.Prelude.{◌≤◌, ◌+◌, ℕ, ⊤}
+use Rattle.sg_checkpoints.specs.Checkpoints.{HasMarked, StaysMarked}
+use Rattle.sg_words.specs.declared.upkeep.Upkeep.TheVariants as upkeeps
+use Rattle.sg_store.specs.declared.engine.Engine.{Ghosts}
+use Rattle.sg_session.specs.Lines.{Line}
+use Rattle.sg_session.specs.Lines.Line.{OfStore, Other}
+
+module _ {E : Type 0} (ghosts : Ghosts E) where
+  -- ALL IS HOME, and a log that ended with a checkpoint still does, in each image that a crash leaves now too
+  pub record IsHome (e f : E) : Type 0 where
+    pub written : (lsn : ℕ) → ghosts.unwritten f lsn → ⊥
+    pub marked : (ghosts.view e).Told → StaysMarked (ghosts.marked e) (ghosts.marked f) ghosts.ends_at (ghosts.view f).disk.now
+
+  -- A CHECKPOINT WAS MADE, with which the log ends, and each of these images: only what waited of the log was handed to the disk, and 1,200 bytes at
+  -- most
+  pub record IsCheckpointed (e f : E) : Type 0 where
+    pub marks : (ghosts.view e).Told → HasMarked (ghosts.view e).tail (ghosts.unwritten e) (ghosts.marked f) ghosts.ends_at (ghosts.view f).disk.now
+    pub hands : (ghosts.view f).disk.handed ≤ (ghosts.view e).disk.handed + ghosts.waiting e + 1200
+
+  -- behind a line that asks for one of these
+  abbrev pub IsKeptUp : Line → (e f : E) → Type 0
+  IsKeptUp (OfStore upkeeps.Flush) e f = IsHome e f
+  IsKeptUp (OfStore upkeeps.Checkpoint) e f = IsCheckpointed e f
+  IsKeptUp (Other line) e f = ⊤

@@ -1,0 +1,18 @@
+//! Tests of whole runs of the program's words: stores made of the sizes of a text, logs that are listed, and checkpoints; and runs that a stop of the disk
+//! ends at any call, and that a crash follows: what is there when the store is opened again, and when that opening was stopped too.
+#![tactic(auto)]
+
+#[cfg(test)]
+mod checkpoints;
+#[cfg(test)]
+mod geometry;
+#[cfg(test)]
+mod listing;
+#[cfg(test)]
+mod objects;
+#[cfg(test)]
+mod rounds;
+#[cfg(test)]
+mod trial;
+#[cfg(test)]
+mod wide;
